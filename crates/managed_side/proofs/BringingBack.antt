@@ -1,17 +1,18 @@
 -- Candidates are brought back one after another: what is marked then is what was marked before, and what those so far reach.
-use Rattle.std.proofs.Common.{◌≡◌, ℕ, ◌+◌, ◌≤◌, ◌↔◌, ◌⊎◌, inl, inr, Bool, true, false, List, length, Option, Some, None, option_map, refl, sym, ap, subst, ◌∙◌, arith}
-use Rattle.std.specs.Prelude.{slice_get}
+use Rattle.std.proofs.Common.{◌≡◌, ℕ, ◌+◌, ◌≤◌, ◌↔◌, ◌⊎◌, inl, inr, Bool, true, List, length, Option, Some, None, option_map, refl, sym, ap, subst, ◌∙◌, arith}
+use Rattle.std.specs.Prelude.{is_some, slice_get}
 use Rattle.std.proofs.lemmas.Option.{slice_get-map, slice_get_within}
+use Rattle.joint_model.specs.declared.names.HNum.{HNum}
 use Rattle.joint_model.specs.Cycles.{IsAnsweredAlive}
 use Rattle.joint_model.specs.Listed.{answer_of, answers_of}
-use Rattle.joint_model.specs.Told.{said_alive}
+use Rattle.joint_model.specs.Told.{IsKeptAt, said_alive}
 use Rattle.joint_model.specs.Walks.{Reached}
 use Rattle.joint_model.proofs.Deciding.{some-same}
 use Rattle.joint_model.proofs.Members.{last-or}
 use Rattle.reachability.specs.Marks.{HasMark}
 use Rattle.row_heap.specs.Marks.{EdgeOf}
 use Rattle.row_heap.specs.Rows.{HeapRows}
-use Rattle.managed_side.specs.Resolving.{IsAliveBelow}
+use Rattle.managed_side.specs.Resolving.{IsAliveAt, IsAliveBelow}
 
 -- what either start reaches
 pub Reached-either : (P Q R : ℕ → Type 0) (edge : ℕ → ℕ → Type 0) → ((z : ℕ) → R z ↔ (P z ⊎ Q z)) → (k : ℕ) → Reached R edge k ↔ (Reached P edge k ⊎ Reached Q edge k)
@@ -41,16 +42,21 @@ marks-either old mid new P Q R edge h f g k = (
   ],
 )
 
+-- a value shows a handle where the test says so
+handle-shown : (b : Option HNum) → is_some b ≡ true → (h : HNum) × (b ≡ Some h)
+handle-shown None e = (let f : ⊥ = cc in absurd f)
+handle-shown (Some h) e = (h, refl)
+
 -- one answer more
-alive-next : (cs : List ℕ) (alive : List Bool) (i c : ℕ) (b : Bool) → slice_get cs i ≡ Some c → slice_get alive i ≡ Some b → (z : ℕ) → IsAliveBelow (i + 1) cs alive z ↔ (IsAliveBelow i cs alive z ⊎ ((b ≡ true) × (c ≡ z)))
+alive-next : (cs : List ℕ) (alive : List (Option HNum)) (i c : ℕ) (b : Option HNum) → slice_get cs i ≡ Some c → slice_get alive i ≡ Some b → (z : ℕ) → IsAliveBelow (i + 1) cs alive z ↔ (IsAliveBelow i cs alive z ⊎ ((is_some b ≡ true) × (c ≡ z)))
 alive-next cs alive i c b at said z = (
   λ a. elim (last-or a.0 i a.1) [
     | inl l ↦ inl (a.0, l, a.2, a.3)
-    | inr e ↦ inr (some-same b true (sym said ∙ subst (λ j. slice_get alive j ≡ Some true) e a.3), some-same c z (sym at ∙ subst (λ j. slice_get cs j ≡ Some z) e a.2))
+    | inr e ↦ inr (ap is_some (some-same b (Some a.3.0) (sym said ∙ subst (λ j. slice_get alive j ≡ Some (Some a.3.0)) e a.3.1)), some-same c z (sym at ∙ subst (λ j. slice_get cs j ≡ Some z) e a.2))
   ],
   elim [
     | inl a ↦ (a.0, omega (arith, a.1), a.2, a.3)
-    | inr e ↦ (i, omega arith, at ∙ ap Some e.1, said ∙ ap Some e.0)
+    | inr e ↦ (i, omega arith, at ∙ ap Some e.1, (let w = handle-shown b e.0 in (w.0, said ∙ ap Some w.1)))
   ],
 )
 
@@ -61,36 +67,39 @@ edges-kept v w x y e h = subst (λ (u : HeapRows). EdgeOf u x y) e h
 pub edges-same : (v w : HeapRows) (x y : ℕ) → w ≡ record v { marks = w.marks; links = w.links } → EdgeOf v x y → EdgeOf w x y
 edges-same v w x y e h = subst (λ (u : HeapRows). EdgeOf u x y) (sym e) h
 
-pub bring-none : (v : HeapRows) (cs : List ℕ) (alive : List Bool) (k : ℕ) → HasMark v.marks k ↔ (HasMark v.marks k ⊎ Reached (IsAliveBelow 0 cs alive) (EdgeOf v) k)
+pub bring-none : (v : HeapRows) (cs : List ℕ) (alive : List (Option HNum)) (k : ℕ) → HasMark v.marks k ↔ (HasMark v.marks k ⊎ Reached (IsAliveBelow 0 cs alive) (EdgeOf v) k)
 bring-none v cs alive k = (λ m. inl m, elim [ inl m ↦ m | inr r ↦ absurd (omega (arith, r.starts.1)) ])
 
-pub bring-next : (v w u : HeapRows) (cs : List ℕ) (alive : List Bool) (i c : ℕ) (b : Bool) → w ≡ record v { marks = w.marks; links = w.links } → slice_get cs i ≡ Some c → slice_get alive i ≡ Some b
+pub bring-next : (v w u : HeapRows) (cs : List ℕ) (alive : List (Option HNum)) (i c : ℕ) (b : Option HNum) → w ≡ record v { marks = w.marks; links = w.links } → slice_get cs i ≡ Some c → slice_get alive i ≡ Some b
     → ((k : ℕ) → HasMark w.marks k ↔ (HasMark v.marks k ⊎ Reached (IsAliveBelow i cs alive) (EdgeOf v) k))
-    → ((k : ℕ) → HasMark u.marks k ↔ (HasMark w.marks k ⊎ Reached (λ z. (b ≡ true) × (c ≡ z)) (EdgeOf w) k))
+    → ((k : ℕ) → HasMark u.marks k ↔ (HasMark w.marks k ⊎ Reached (λ z. (is_some b ≡ true) × (c ≡ z)) (EdgeOf w) k))
     → (k : ℕ) → HasMark u.marks k ↔ (HasMark v.marks k ⊎ Reached (IsAliveBelow (i + 1) cs alive) (EdgeOf v) k)
 bring-next v w u cs alive i c b e at said f g =
-    marks-either v.marks w.marks u.marks (IsAliveBelow i cs alive) (λ z. (b ≡ true) × (c ≡ z)) (IsAliveBelow (i + 1) cs alive) (EdgeOf v) (alive-next cs alive i c b at said) f
-    (subst (λ (t : HeapRows). (k : ℕ) → HasMark u.marks k ↔ (HasMark w.marks k ⊎ Reached (λ z. (b ≡ true) × (c ≡ z)) (EdgeOf t) k)) e g)
+    marks-either v.marks w.marks u.marks (IsAliveBelow i cs alive) (λ z. (is_some b ≡ true) × (c ≡ z)) (IsAliveBelow (i + 1) cs alive) (EdgeOf v) (alive-next cs alive i c b at said) f
+    (subst (λ (t : HeapRows). (k : ℕ) → HasMark u.marks k ↔ (HasMark w.marks k ⊎ Reached (λ z. (is_some b ≡ true) × (c ≡ z)) (EdgeOf t) k)) e g)
 
--- an answer keeps its candidate exactly where its truth value says so
-alive-kept : (o : Option Bool) → o ≡ Some true → option_map answer_of o ≡ Some said_alive
-alive-kept o e = ap (option_map answer_of) e
+-- an answer keeps its candidate exactly where its value has a handle
+alive-kept : (alive : List (Option HNum)) (i : ℕ) → IsAliveAt alive i → IsKeptAt (answers_of alive) i
+alive-kept alive i a = (a.0.0, slice_get-map answer_of alive i ∙ ap (option_map answer_of) a.1)
 
-kept-alive : (o : Option Bool) → option_map answer_of o ≡ Some said_alive → o ≡ Some true
-kept-alive None e = cc
-kept-alive (Some true) e = refl
-kept-alive (Some false) e = cc
+kept-alive : (alive : List (Option HNum)) (i : ℕ) → IsKeptAt (answers_of alive) i → IsAliveAt alive i
+kept-alive alive i k = by (slice_get alive i) refl (sym (slice_get-map answer_of alive i) ∙ k.1)
+  where
+    by : (o : Option (Option HNum)) → slice_get alive i ≡ o → option_map answer_of o ≡ Some (said_alive k.0) → IsAliveAt alive i
+    by None e f = (let g : ⊥ = cc in absurd g)
+    by (Some None) e f = (let g : ⊥ = cc in absurd g)
+    by (Some (Some h)) e f = (h, e)
 
-alive-all : (cs : List ℕ) (alive : List Bool) (i : ℕ) → length alive ≤ i → (z : ℕ) → IsAliveBelow i cs alive z ↔ IsAnsweredAlive cs (answers_of alive) z
+alive-all : (cs : List ℕ) (alive : List (Option HNum)) (i : ℕ) → length alive ≤ i → (z : ℕ) → IsAliveBelow i cs alive z ↔ IsAnsweredAlive cs (answers_of alive) z
 alive-all cs alive i l z = (
-  λ a. (a.0, a.2, slice_get-map answer_of alive a.0 ∙ alive-kept (slice_get alive a.0) a.3),
+  λ a. (a.0, a.2, alive-kept alive a.0 a.3),
   λ a. (
-      let said : slice_get alive a.0 ≡ Some true = kept-alive (slice_get alive a.0) (sym (slice_get-map answer_of alive a.0) ∙ a.2) in
-      (a.0, omega (arith, slice_get_within alive a.0 true said), a.1, said)
+      let said = kept-alive alive a.0 a.2 in
+      (a.0, omega (arith, slice_get_within alive a.0 (Some said.0) said.1), a.1, said)
       ),
 )
 
-pub bring-all : (v w : HeapRows) (cs : List ℕ) (alive : List Bool) (i : ℕ) → length alive ≤ i
+pub bring-all : (v w : HeapRows) (cs : List ℕ) (alive : List (Option HNum)) (i : ℕ) → length alive ≤ i
     → ((k : ℕ) → HasMark w.marks k ↔ (HasMark v.marks k ⊎ Reached (IsAliveBelow i cs alive) (EdgeOf v) k))
     → (k : ℕ) → HasMark w.marks k ↔ (HasMark v.marks k ⊎ Reached (IsAnsweredAlive cs (answers_of alive)) (EdgeOf v) k)
 bring-all v w cs alive i l f k = (

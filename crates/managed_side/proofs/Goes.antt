@@ -1,6 +1,6 @@
 -- An event that was answered as the replay answers it may come next, and the state is the one after it: its caller and its words are those of
--- an event of the managed side, and all that it asks for is that its handle, if it adopts one, is a new one. The handles that were adopted
--- are read off the entries, of which there is one more.
+-- an event of the managed side, and all that it asks for is that its handle, if it adopts one, is a new one. The handles that rows ever took stand
+-- beside the entries, and are as many more as the event gives.
 use Rattle.std.proofs.Common.{◌≡◌, ℕ, ◌+◌, ◌<◌, ◌≤◌, Bool, true, false, List, [], ◌∷◌, ◌++◌, length, Option, Some, None, refl, sym, ap, subst, ◌∙◌, arith, append-nil, length-append}
 use Rattle.std.proofs.lemmas.Grind.{flat_map-append}
 use Rattle.std.proofs.lemmas.List.Elements.{All-weaker}
@@ -33,7 +33,8 @@ use Rattle.known_laws.proofs.Bared.{plain_pins, plain_told}
 use Rattle.known_laws.proofs.Unpinned.{answers_same}
 use Rattle.managed_side.specs.Rows.{AreKept, with_adopted}
 use Rattle.managed_side.specs.Sides.{HasRoom, IsSideKept, owed_by, state_of}
-use Rattle.managed_side.specs.Steps.{IsStepBy, IsLineBy, IsManagedStep, IsFresh, step_made, take_op, weak_op, adopted_by, adopted_in}
+use Rattle.managed_side.specs.Steps.{IsStepBy, IsLineBy, IsManagedStep, IsFresh, step_made, take_op, weak_op, adopted_by}
+use Rattle.managed_side.specs.Takings.{taken_in}
 use Rattle.managed_side.proofs.Kept.{few-next, kept-next, no-pins}
 
 by-peer : (n : ℕ) (a : Act) → IsLineBy (P n) a → ⊥
@@ -124,32 +125,38 @@ goes-answered s next m told none bare of allowed is =
       state = ap (λ a. a.state) (sym is) ∙ (ap (λ a. a.state) emptied ∙ ap (λ a. with_pins a.state no_pins) (sym same));
     }
 
-pub adopted_in-push : (es : List Entry) (k : ℕ) (m : Made) → adopted_in (es ++ numbered k m ∷ []) ≡ adopted_in es ++ adopted_by m.op m.reply
-adopted_in-push es k m = flat_map-append (λ (e : Entry). adopted_by e.made.op e.made.reply) es (numbered k m ∷ []) ∙ ap (λ z. adopted_in es ++ z) (append-nil (adopted_by m.op m.reply))
+-- what was given last stands last
+pub taken_in-push : (taken : List (List ℕ)) (hs : List ℕ) → taken_in (taken ++ hs ∷ []) ≡ taken_in taken ++ hs
+taken_in-push taken hs = flat_map-append (λ (x : List ℕ). x) taken (hs ∷ []) ∙ ap (λ z. taken_in taken ++ z) (append-nil hs)
 
--- from a side to the side with one entry more
-pub side-goes : (es es' : List Entry) (rows next : ManagedReplay) (k : ℕ) (m : Made) (told : Told) → IsReplayed managed_rules es (state_of es rows) → AsksNoPins m.op told → IsOfSide false m → ManagedAllows (state_of es rows) m.op told → es' ≡ es ++ numbered k m ∷ []
-    → ((hs : List ℕ) → managed_answer (with_adopted rows hs) m.caller m.op told ≡ answer m.reply (with_adopted next (hs ++ adopted_by m.op m.reply)))
-    → GoesOn managed_rules (state_of es rows) m told (state_of es' next)
-side-goes es es' rows next k m told r bare of allowed added answers =
-    goes-answered (state_of es rows) (state_of es' next) m told (no-pins es (state_of es rows) r) bare of allowed
-    (answers (adopted_in es) ∙ ap (λ z. answer m.reply (with_adopted next z)) (sym (ap adopted_in added ∙ adopted_in-push es k m)))
+-- from a side to the side with one entry more, which gave these handles to rows
+pub side-gives : (es : List Entry) (taken after : List (List ℕ)) (rows next : ManagedReplay) (given : List ℕ) (m : Made) (told : Told) → IsReplayed managed_rules es (state_of taken rows) → AsksNoPins m.op told → IsOfSide false m → ManagedAllows (state_of taken rows) m.op told
+    → after ≡ taken ++ given ∷ [] → ((hs : List ℕ) → managed_answer (with_adopted rows hs) m.caller m.op told ≡ answer m.reply (with_adopted next (hs ++ given))) → GoesOn managed_rules (state_of taken rows) m told (state_of after next)
+side-gives es taken after rows next given m told r bare of allowed added answers =
+    goes-answered (state_of taken rows) (state_of after next) m told (no-pins es (state_of taken rows) r) bare of allowed
+    (answers (taken_in taken) ∙ ap (λ z. answer m.reply (with_adopted next z)) (sym (ap taken_in added ∙ taken_in-push taken given)))
+
+-- the same where it gave none
+pub side-goes : (es : List Entry) (taken : List (List ℕ)) (rows next : ManagedReplay) (m : Made) (told : Told) → IsReplayed managed_rules es (state_of taken rows) → AsksNoPins m.op told → IsOfSide false m → ManagedAllows (state_of taken rows) m.op told
+    → ((hs : List ℕ) → managed_answer (with_adopted rows hs) m.caller m.op told ≡ answer m.reply (with_adopted next (hs ++ []))) → GoesOn managed_rules (state_of taken rows) m told (state_of taken next)
+side-goes es taken rows next m told r bare of allowed answers =
+    goes-answered (state_of taken rows) (state_of taken next) m told (no-pins es (state_of taken rows) r) bare of allowed
+    (answers (taken_in taken) ∙ ap (λ z. answer m.reply (with_adopted next z)) (append-nil (taken_in taken)))
 
 -- a state without pins
 bare-state : (s : ManagedReplay) → s.managed.pins ≡ no_pins → s ≡ with_pins s no_pins
 bare-state s none = ap (λ z. with_pins s z) none
 
 -- the same with pins that are given
-pub goes-pinned : (es es' : List Entry) (rows next after : ManagedReplay) (k : ℕ) (m : Made) (pins : List (Option ℕ)) (told : Told) → IsReplayed managed_rules es (state_of es rows) → es' ≡ es ++ numbered k m ∷ [] → adopted_by m.op m.reply ≡ []
-    → IsOfSide false m → is_read m.op ≡ false → is_pinned m.op ≡ true → ManagedLawful (with_pins (state_of es rows) pins) m told → next ≡ after → after.managed.pins ≡ rows.managed.pins
-    → with_pins (with_adopted after (adopted_in es)) no_pins ≡ with_pins (managed_answer (with_pins (state_of es rows) pins) m.caller m.op told).state no_pins
-    → GoesOn managed_rules (state_of es rows) m (kept_pins pins told) (state_of es' next)
-goes-pinned es es' rows next after k m pins told r added none of read pinned lawful is same answers =
-    let hs : adopted_in es' ≡ adopted_in es = ap adopted_in added ∙ (adopted_in-push es k m ∙ (ap (λ z. adopted_in es ++ z) none ∙ append-nil (adopted_in es))) in
-    let bare : with_adopted after (adopted_in es) ≡ with_pins (with_adopted after (adopted_in es)) no_pins = bare-state (with_adopted after (adopted_in es)) (same ∙ no-pins es (state_of es rows) r) in
+pub goes-pinned : (es : List Entry) (taken : List (List ℕ)) (rows next after : ManagedReplay) (m : Made) (pins : List (Option ℕ)) (told : Told) → IsReplayed managed_rules es (state_of taken rows)
+    → IsOfSide false m → is_read m.op ≡ false → is_pinned m.op ≡ true → ManagedLawful (with_pins (state_of taken rows) pins) m told → next ≡ after → after.managed.pins ≡ rows.managed.pins
+    → with_pins (with_adopted after (taken_in taken)) no_pins ≡ with_pins (managed_answer (with_pins (state_of taken rows) pins) m.caller m.op told).state no_pins
+    → GoesOn managed_rules (state_of taken rows) m (kept_pins pins told) (state_of taken next)
+goes-pinned es taken rows next after m pins told r of read pinned lawful is same answers =
+    let bare : with_adopted after (taken_in taken) ≡ with_pins (with_adopted after (taken_in taken)) no_pins = bare-state (with_adopted after (taken_in taken)) (same ∙ no-pins es (state_of taken rows) r) in
     record {
       lawful = (of, record { own = read; tells = sym pinned; lawful = lawful });
-      state = ap (λ z. with_adopted next z) hs ∙ (ap (λ z. with_adopted z (adopted_in es)) is ∙ (bare ∙ answers));
+      state = ap (λ z. with_adopted z (taken_in taken)) is ∙ (bare ∙ answers);
     }
 
 -- a number that isn't below the floor lies above each number of the list
@@ -157,27 +164,39 @@ above-all : (es : List Entry) (floor k : ℕ) → AllBelow es floor → floor �
 above-all es floor k b l = All-weaker (λ e. e.number < floor) (λ e. e.number < k) (λ e h. omega (arith, h, l)) es b
 
 -- the side with one entry more is the replay of its entries
-pub side-replayed : (es es' : List Entry) (rows next : ManagedReplay) (k floor : ℕ) (m : Made) (told : Told) → AllBelow es floor → floor ≤ k → es' ≡ es ++ numbered k m ∷ []
-    → GoesOn managed_rules (state_of es rows) m told (state_of es' next) → IsReplayed managed_rules es (state_of es rows) → IsReplayed managed_rules es' (state_of es' next)
-side-replayed es es' rows next k floor m told below above added goes r = IsReplayed-push managed_rules es es' (state_of es rows) (state_of es' next) k m told (above-all es floor k below above) added goes r
+pub side-replayed : (es es' : List Entry) (taken after : List (List ℕ)) (rows next : ManagedReplay) (k floor : ℕ) (m : Made) (told : Told) → AllBelow es floor → floor ≤ k → es' ≡ es ++ numbered k m ∷ []
+    → GoesOn managed_rules (state_of taken rows) m told (state_of after next) → IsReplayed managed_rules es (state_of taken rows) → IsReplayed managed_rules es' (state_of after next)
+side-replayed es es' taken after rows next k floor m told below above added goes r = IsReplayed-push managed_rules es es' (state_of taken rows) (state_of after next) k m told (above-all es floor k below above) added goes r
 
 -- and keeps what every side keeps, if the pins stand that are told with the entry
-pub side-kept : (es es' : List Entry) (rows next : ManagedReplay) (k : ℕ) (m : Made) (told : Told) → PinsStand rows.managed (pins_told told) → es' ≡ es ++ numbered k m ∷ []
-    → GoesOn managed_rules (state_of es rows) m told (state_of es' next) → IsSideKept es (state_of es rows) → IsSideKept es' (state_of es' next)
-side-kept es es' rows next k m told st added goes k' =
-    let s = state_of es rows in
+pub side-kept : (es es' : List Entry) (taken after : List (List ℕ)) (rows next : ManagedReplay) (k : ℕ) (m : Made) (told : Told) → PinsStand rows.managed (pins_told told) → es' ≡ es ++ numbered k m ∷ []
+    → GoesOn managed_rules (state_of taken rows) m told (state_of after next) → IsSideKept es (state_of taken rows) → IsSideKept es' (state_of after next)
+side-kept es es' taken after rows next k m told st added goes k' =
+    let s = state_of taken rows in
     let stand : PinsStand s.managed (pins_told told) = st in
     let longer : length es' ≡ length es + 1 = ap length added ∙ length-append es (numbered k m ∷ []) in
     let few : (managed_rules.next s m told).managed.cycles ≤ s.managed.cycles + 1 = few-next s m told stand goes.lawful k'.kept in
-    let same : (state_of es' next).managed.cycles ≡ (managed_rules.next s m told).managed.cycles = ap (λ (z : ManagedReplay). z.managed.cycles) goes.state in
+    let same : (state_of after next).managed.cycles ≡ (managed_rules.next s m told).managed.cycles = ap (λ (z : ManagedReplay). z.managed.cycles) goes.state in
     record {
       kept = subst IsReplayKept (sym goes.state) (kept-next s m told stand goes.lawful k'.kept);
       few = omega (arith, longer, few, same, k'.few);
     }
 
 -- the rows of a side keep what every side keeps
-pub kept-rows : (es : List Entry) (rows : ManagedReplay) → IsSideKept es (state_of es rows) → AreKept rows
-kept-rows es rows k = (adopted_in es, k.kept)
+pub kept-rows : (es : List Entry) (taken : List (List ℕ)) (rows : ManagedReplay) → IsSideKept es (state_of taken rows) → AreKept rows
+kept-rows es taken rows k = (taken_in taken, k.kept)
+
+-- each of the things that gave handles to rows has an entry
+pub takings-more : (es es' : List Entry) (taken after : List (List ℕ)) (given : List ℕ) (k : ℕ) (m : Made) → after ≡ taken ++ given ∷ [] → es' ≡ es ++ numbered k m ∷ [] → length taken ≤ length es → length after ≤ length es'
+takings-more es es' taken after given k m more added few = omega (arith, ap length more, ap length added, length-append taken (given ∷ []), length-append es (numbered k m ∷ []), few)
+
+pub takings-few : (es es' : List Entry) (taken : List (List ℕ)) (k : ℕ) (m : Made) → es' ≡ es ++ numbered k m ∷ [] → length taken ≤ length es → length taken ≤ length es'
+takings-few es es' taken k m added few = omega (arith, ap length added, length-append es (numbered k m ∷ []), few)
+
+-- an open cycle owes one entry at least
+pub owed-some : (b : Bool) → 1 ≤ owed_by b
+owed-some true = omega arith
+owed-some false = omega arith
 
 -- two places are as many as an open cycle owes
 pub HasRoom-two : (s : ManagedReplay) (spare : ℕ) → 2 ≤ spare → HasRoom s spare

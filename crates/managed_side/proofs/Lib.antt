@@ -6,6 +6,7 @@ pub mod Peers
 pub mod Given
 pub mod Lists
 pub mod BringingBack
+pub mod Renewals
 pub mod Forgetting
 pub mod Resolutions
 pub mod FreedCandidates

@@ -8,6 +8,7 @@ use Rattle.std.proofs.lemmas.Bool.{eqb-true}
 use Rattle.std.proofs.lemmas.Cmp.{nat_eq_equiv}
 use Rattle.std.proofs.lemmas.List.Elements.{All-nil, All-cons, All-head, All-tail, All-weaker}
 use Rattle.std.proofs.lemmas.Map.Views.{list_any-from_Contains, Contains-from_any}
+use Rattle.joint_model.specs.declared.names.HNum.{HNum}
 use Rattle.joint_model.specs.declared.names.MNum.{MNum}
 use Rattle.joint_model.specs.declared.names.PNum.{PNum}
 use Rattle.joint_model.specs.Components.{Rises}
@@ -15,8 +16,9 @@ use Rattle.joint_model.specs.Cycles.{IsResolution, IsAnsweredAlive}
 use Rattle.joint_model.specs.Heaps.{Heap, IsLive, HasField, InSlot, fields_of, numbered_at, with_freed}
 use Rattle.joint_model.specs.Histories.{managed_numbers}
 use Rattle.joint_model.specs.Listed.{answers_of}
-use Rattle.joint_model.specs.Managed.{Managed, OpenCycle, ManagedEdge, handle_of, holds_handle, resolved}
+use Rattle.joint_model.specs.Managed.{Managed, OpenCycle, ManagedEdge, candidates_of, handle_of, holds_handle, renewed, resolved}
 use Rattle.joint_model.specs.ManagedReplay.{without_twins}
+use Rattle.joint_model.specs.Told.{Answer}
 use Rattle.joint_model.specs.Walks.{Reached}
 use Rattle.joint_model.proofs.Deciding.{true_false, handle-there}
 use Rattle.joint_model.proofs.HeapLemmas.{is_freed-live}
@@ -72,7 +74,7 @@ can-free v w s c freed eh ew rise cut shut is =
     }
 
 -- and it is the resolution
-pub resolution-is : (v w : HeapRows) (spare : ℕ) (s : Managed) (c : OpenCycle) (alive : List Bool) (freed : List ℕ) → v.heap ≡ s.heap → v.follows ≡ false → HasDue v spare c
+pub resolution-is : (v w : HeapRows) (spare : ℕ) (s : Managed) (c : OpenCycle) (alive : List (Option HNum)) (freed : List ℕ) → v.heap ≡ s.heap → v.follows ≡ false → HasDue v spare c
     → ((k : ℕ) → HasMark w.marks k ↔ (HasMark v.marks k ⊎ Reached (IsAnsweredAlive c.candidates (answers_of alive)) (EdgeOf v) k)) → freed ≡ unmarked_of w.marks c.dead
     → IsResolution s c.dead (IsAnsweredAlive c.candidates (answers_of alive)) freed
 resolution-is v w spare s c alive freed eh ef d marks is =
@@ -133,11 +135,11 @@ pub filter-live : (s : Managed) (xs : List ℕ) → ((x : ℕ) → Contains xs x
 filter-live s xs l = filter-agree (has_handle s.held) (holds_handle s) xs (λ x c. sym (holds_handle-live s x (l x c)))
 
 -- the state after a resolution, from its parts
-pub resolved-is : (h k : Heap) (infos others : List Held) (ps qs : List (PNum × MNum)) (cells pins : List (Option ℕ)) (q p : Queue) (cycle : Option OpenCycle) (n : ℕ) (b : Bool) (freed : List ℕ)
-    → k ≡ with_freed h freed → map (λ (i : Held). i.kind) others ≡ map (λ (i : Held). i.kind) infos → map (λ (i : Held). i.handle) others ≡ map (λ (i : Held). i.handle) infos → pairs_of qs ≡ without_twins (pairs_of ps) freed
+pub resolved-is : (h k : Heap) (infos others : List Held) (ps qs : List (PNum × MNum)) (cells pins : List (Option ℕ)) (q p : Queue) (cycle : Option OpenCycle) (n : ℕ) (b : Bool) (answers : List Answer) (freed : List ℕ)
+    → k ≡ with_freed h freed → map (λ (i : Held). i.kind) others ≡ map (λ (i : Held). i.kind) infos → map (λ (i : Held). i.handle) others ≡ renewed (map (λ (i : Held). i.handle) infos) (candidates_of (rows_of h infos ps cells pins q cycle n b).managed) answers → pairs_of qs ≡ without_twins (pairs_of ps) freed
     → managed_numbers p.queued ≡ managed_numbers q.queued ++ filter (holds_handle (rows_of h infos ps cells pins q cycle n b).managed) freed → p.taken ≡ q.taken
-    → rows_of k others qs cells pins p None n b ≡ record (rows_of h infos ps cells pins q cycle n b) { managed = resolved (rows_of h infos ps cells pins q cycle n b).managed freed; registry = without_twins (pairs_of ps) freed }
-resolved-is h k infos others ps qs cells pins q p cycle n b freed e kinds held pairs queued taken = rw (e, kinds, held, pairs, queued, taken) refl
+    → rows_of k others qs cells pins p None n b ≡ record (rows_of h infos ps cells pins q cycle n b) { managed = resolved (rows_of h infos ps cells pins q cycle n b).managed answers freed; registry = without_twins (pairs_of ps) freed }
+resolved-is h k infos others ps qs cells pins q p cycle n b answers freed e kinds held pairs queued taken = rw (e, kinds, held, pairs, queued, taken) refl
 
 -- a rising list of numbers from `low` on and below n has few
 pub rises-few_from : (xs : List ℕ) (low n : ℕ) → Rises xs → All (λ y. low ≤ y) xs → All (λ y. y < n) xs → low ≤ n → low + length xs ≤ n

@@ -1,8 +1,7 @@
 -- The driver's entry of a snapshot: it is answered as the replay answers it, so the list goes on by it.
-use Rattle.std.proofs.Common.{◌≡◌, ℕ, List, [], ◌∷◌, ◌++◌, Option, false, refl, subst}
+use Rattle.std.proofs.Common.{ℕ, List, Option, false, refl, subst}
 use Rattle.joint_model.specs.declared.events.Entry.{Entry}
 use Rattle.joint_model.specs.Cycles.{IsSnapshot}
-use Rattle.joint_model.specs.Draws.{numbered}
 use Rattle.joint_model.specs.Managed.{with_snapshot}
 use Rattle.joint_model.specs.ManagedReplay.{ManagedReplay}
 use Rattle.joint_model.specs.Readers.{with_pins}
@@ -14,10 +13,9 @@ use Rattle.managed_side.specs.Sides.{state_of}
 use Rattle.managed_side.specs.Snapping.{TakesSnapshot}
 use Rattle.managed_side.proofs.Goes.{goes-pinned}
 
-pub snap-goes : (es es' : List Entry) (rows next : ManagedReplay) (pins : List (Option ℕ)) (n index number first count : ℕ) (freed : List ℕ) (graph : Part) → IsReplayed managed_rules es (state_of es rows) → (t : TakesSnapshot rows next pins freed number first count graph)
-    → es' ≡ es ++ numbered n (snap_made rows.managed index freed t.candidates) ∷ []
-    → GoesOn managed_rules (state_of es rows) (snap_made rows.managed index freed t.candidates) (kept_pins pins (snap_of freed t.candidates t.dead)) (state_of es' next)
-snap-goes es es' rows next pins n index number first count freed graph r t added =
-    goes-pinned es es' rows next (record rows { managed = with_snapshot rows.managed freed t.candidates t.dead; contracted = false }) n (snap_made rows.managed index freed t.candidates) pins (snap_of freed t.candidates t.dead) r added refl
+pub snap-goes : (es : List Entry) (taken : List (List ℕ)) (rows next : ManagedReplay) (pins : List (Option ℕ)) (index number first count : ℕ) (freed : List ℕ) (graph : Part) → IsReplayed managed_rules es (state_of taken rows) → (t : TakesSnapshot rows next pins freed number first count graph)
+    → GoesOn managed_rules (state_of taken rows) (snap_made rows.managed index freed t.candidates) (kept_pins pins (snap_of freed t.candidates t.dead)) (state_of taken next)
+snap-goes es taken rows next pins index number first count freed graph r t =
+    goes-pinned es taken rows next (record rows { managed = with_snapshot rows.managed freed t.candidates t.dead; contracted = false }) (snap_made rows.managed index freed t.candidates) pins (snap_of freed t.candidates t.dead) r
     (record { event = tt; side = refl }) refl refl
     (record { allowed = subst (λ k. IsSnapshot (with_pins rows pins).managed k freed t.candidates t.dead) t.snapshot.next t.snapshot; replies = refl }) t.state refl refl

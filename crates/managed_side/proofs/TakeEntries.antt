@@ -1,5 +1,5 @@
 -- A `take` with the pin that is given: it is answered as the replay answers it in the state with that pin, so the list goes on by its entry.
-use Rattle.std.proofs.Common.{◌≡◌, ℕ, ◌<◌, List, [], ◌∷◌, ◌++◌, Option, Some, None, refl, sym, ap, subst, ◌∙◌, arith}
+use Rattle.std.proofs.Common.{◌≡◌, ℕ, ◌<◌, List, Option, Some, None, refl, sym, ap, subst, ◌∙◌, arith}
 use Rattle.std.specs.Prelude.{Contains, IfSome, slice_set}
 use Rattle.joint_model.specs.declared.names.MNum.{MNum}
 use Rattle.joint_model.specs.declared.names.Thread.{Thread}
@@ -7,7 +7,6 @@ use Rattle.joint_model.specs.declared.names.Thread.TheVariants.{M, P, C}
 use Rattle.joint_model.specs.declared.names.Var.{Var}
 use Rattle.joint_model.specs.declared.events.Entry.{Entry}
 use Rattle.joint_model.specs.declared.events.Reply.TheVariants as says
-use Rattle.joint_model.specs.Draws.{numbered}
 use Rattle.joint_model.specs.Heaps.{Answered, IsLive, answer, place, slot, with_var}
 use Rattle.joint_model.specs.Lines.{IsManagedThread, IsVar}
 use Rattle.joint_model.specs.Managed.{Managed, managed_name, pin_taken}
@@ -20,7 +19,8 @@ use Rattle.known_laws.specs.Known.{PinsStand}
 use Rattle.managed_side.specs.Pinned.{pin_given, pin_reply, with_taken}
 use Rattle.managed_side.specs.Rows.{number_or_none, with_adopted}
 use Rattle.managed_side.specs.Sides.{state_of}
-use Rattle.managed_side.specs.Steps.{adopted_in, step_made, take_op}
+use Rattle.managed_side.specs.Steps.{step_made, take_op}
+use Rattle.managed_side.specs.Takings.{taken_in}
 use Rattle.managed_side.proofs.Goes.{goes-pinned, take-of}
 use Rattle.managed_side.proofs.GivenPins.{pin-held, pin-slot}
 
@@ -35,9 +35,9 @@ abbrev taken_by : Managed → ℕ → ℕ → Option MNum → Answered Managed
 taken_by s t v None = answer says.Empty s
 taken_by s t v (Some m) = answer (managed_name m.0) (record s { heap = with_var s.heap v (Some m.0); pins = slice_set s.pins t None })
 
-taken : (s : Managed) (t v : ℕ) (pin : Option MNum) → slot s.pins t ≡ number_or_none pin → pin_taken s t v ≡ taken_by s t v pin
-taken s t v None e = ap (λ o. elim o [ None ↦ answer says.Empty s | Some x ↦ answer (managed_name x) (record s { heap = with_var s.heap v (Some x); pins = slice_set s.pins t None }) ]) e
-taken s t v (Some m) e = ap (λ o. elim o [ None ↦ answer says.Empty s | Some x ↦ answer (managed_name x) (record s { heap = with_var s.heap v (Some x); pins = slice_set s.pins t None }) ]) e
+taken-by : (s : Managed) (t v : ℕ) (pin : Option MNum) → slot s.pins t ≡ number_or_none pin → pin_taken s t v ≡ taken_by s t v pin
+taken-by s t v None e = ap (λ o. elim o [ None ↦ answer says.Empty s | Some x ↦ answer (managed_name x) (record s { heap = with_var s.heap v (Some x); pins = slice_set s.pins t None }) ]) e
+taken-by s t v (Some m) e = ap (λ o. elim o [ None ↦ answer says.Empty s | Some x ↦ answer (managed_name x) (record s { heap = with_var s.heap v (Some x); pins = slice_set s.pins t None }) ]) e
 
 replies : (s : Managed) (t v : ℕ) (pin : Option MNum) → pin_reply pin ≡ (taken_by s t v pin).reply
 replies s t v None = refl
@@ -52,17 +52,17 @@ after : (s : ManagedReplay) (hs : List ℕ) (pins : List (Option ℕ)) (t v : �
 after s hs pins t v None = refl
 after s hs pins t v (Some m) = refl
 
-pub take-goes : (es es' : List Entry) (rows next : ManagedReplay) (n : ℕ) (t : Thread) (index : ℕ) (v : Var) (pin : Option MNum) → IsReplayed managed_rules es (state_of es rows) → IsManagedThread t → IsVar v
-    → es' ≡ es ++ numbered n (step_made t index (take_op v) (pin_reply pin) None) ∷ [] → next ≡ with_taken rows (place (thread_number t) v.0) pin
-    → GoesOn managed_rules (state_of es rows) (step_made t index (take_op v) (pin_reply pin) None) (kept_pins (pin_given (thread_number t) pin) nothing) (state_of es' next)
-take-goes es es' rows next n t index v pin r thread in_range added is =
+pub take-goes : (es : List Entry) (taken : List (List ℕ)) (rows next : ManagedReplay) (t : Thread) (index : ℕ) (v : Var) (pin : Option MNum) → IsReplayed managed_rules es (state_of taken rows) → IsManagedThread t → IsVar v
+    → next ≡ with_taken rows (place (thread_number t) v.0) pin
+    → GoesOn managed_rules (state_of taken rows) (step_made t index (take_op v) (pin_reply pin) None) (kept_pins (pin_given (thread_number t) pin) nothing) (state_of taken next)
+take-goes es taken rows next t index v pin r thread in_range is =
     let i = thread_number t in
     let p = place i v.0 in
     let pins = pin_given i pin in
-    let is-taken : pin_taken (with_pins rows pins).managed i p ≡ taken_by (with_pins rows pins).managed i p pin = taken (with_pins rows pins).managed i p pin (pin-slot i pin (number-low t thread)) in
-    goes-pinned es es' rows next (with_taken rows p pin) n (step_made t index (take_op v) (pin_reply pin) None) pins nothing r added refl (take-of t index v (pin_reply pin) thread in_range) refl refl
+    let is-taken : pin_taken (with_pins rows pins).managed i p ≡ taken_by (with_pins rows pins).managed i p pin = taken-by (with_pins rows pins).managed i p pin (pin-slot i pin (number-low t thread)) in
+    goes-pinned es taken rows next (with_taken rows p pin) (step_made t index (take_op v) (pin_reply pin) None) pins nothing r (take-of t index v (pin_reply pin) thread in_range) refl refl
     (record { allowed = tt; replies = replies (with_pins rows pins).managed i p pin ∙ ap (λ (z : Answered Managed). z.reply) (sym is-taken) }) is (same-pins rows p pin)
-    (after rows (adopted_in es) pins i p pin ∙ ap (λ (z : Answered Managed). with_pins (plainly (with_pins (state_of es rows) pins) z).state no_pins) (sym is-taken))
+    (after rows (taken_in taken) pins i p pin ∙ ap (λ (z : Answered Managed). with_pins (plainly (with_pins (state_of taken rows) pins) z).state no_pins) (sym is-taken))
 
 -- what a pin holds that stands is live
 pub pin-live : (s : Managed) (t : Thread) (pin : Option MNum) → IsManagedThread t → PinsStand s (pin_given (thread_number t) pin) → IfSome pin (λ m. IsLive s.heap m.0)

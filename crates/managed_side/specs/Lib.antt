@@ -7,6 +7,7 @@ pub mod Rows
 pub mod Pinned
 pub mod Snapping
 pub mod Steps
+pub mod Takings
 pub mod Sides
 pub mod TwinEvents
 pub mod Calls

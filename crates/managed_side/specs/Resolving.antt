@@ -1,16 +1,21 @@
 -- What a resolution does to the rows of a side.
-use Rattle.std.specs.Prelude.{◌≡◌, ℕ, ◌<◌, ◌↔◌, Bool, true, List, Contains, length, count_by, Option, Some, None, is_some, slice_get}
-use Rattle.joint_model.specs.Told.{Answer}
+use Rattle.std.specs.Prelude.{◌≡◌, ℕ, ◌<◌, ◌↔◌, Bool, List, Contains, length, count_by, Option, Some, None, is_some, slice_get}
+use Rattle.joint_model.specs.declared.names.HNum.{HNum}
 use Rattle.joint_model.specs.Cycles.{IsResolution, IsAnsweredAlive}
 use Rattle.joint_model.specs.Heaps.{numbered_at}
 use Rattle.joint_model.specs.Listed.{answers_of}
 use Rattle.joint_model.specs.Managed.{IsBridge, Managed, ManagedEdge, OpenCycle, resolved}
-use Rattle.joint_model.specs.ManagedReplay.{ManagedReplay, without_twins}
+use Rattle.joint_model.specs.ManagedReplay.{AreNew, ManagedReplay, without_twins}
+use Rattle.joint_model.specs.Told.{Answer, handles_given}
 use Rattle.joint_model.specs.Walks.{Reaches}
 
+-- the value at that place has a handle: its restore answered alive
+abbrev pub IsAliveAt : List (Option HNum) → ℕ → Type 0
+IsAliveAt alive i = (h : HNum) × (slice_get alive i ≡ Some (Some h))
+
 -- the answer at one of the places below n is alive, for this candidate
-abbrev pub IsAliveBelow : ℕ → List ℕ → List Bool → ℕ → Type 0
-IsAliveBelow n candidates alive m = (i : ℕ) × (i < n) × (slice_get candidates i ≡ Some m) × (slice_get alive i ≡ Some true)
+abbrev pub IsAliveBelow : ℕ → List ℕ → List (Option HNum) → ℕ → Type 0
+IsAliveBelow n candidates alive m = (i : ℕ) × (i < n) × (slice_get candidates i ≡ Some m) × IsAliveAt alive i
 
 -- whether there is a handle at the row's place of a list of held handles
 abbrev pub has_handle : List (Option ℕ) → ℕ → Bool
@@ -33,17 +38,24 @@ abbrev pub FreesUnanswered : Managed → List ℕ → List Answer → List ℕ �
 FreesUnanswered s candidates alive freed = (m : ℕ) → (Contains freed m × IsBridge s m) ↔ (Contains candidates m × (IsAnsweredAlive candidates alive m → ⊥))
 
 -- a cycle is open, and there is one answer for each candidate
-pub record MayClose (s : ManagedReplay) (alive : List Bool) : Type 0 where
+pub record HasAnswers (s : ManagedReplay) (alive : List (Option HNum)) : Type 0 where
   pub cycle : OpenCycle
   pub opened : s.managed.cycle ≡ Some cycle
   pub one_each : length alive ≡ length cycle.candidates
 
+-- so it is, and the handles of the answers are all different and were taken by no row
+pub record MayClose (s : ManagedReplay) (alive : List (Option HNum)) : Type 0 where
+  pub cycle : OpenCycle
+  pub opened : s.managed.cycle ≡ Some cycle
+  pub one_each : length alive ≡ length cycle.candidates
+  pub new : AreNew s.adopted (handles_given (answers_of alive))
+
 -- the resolution of the open cycle, the state after it, and what the caller is told
-pub record TakesResolution (s next : ManagedReplay) (alive : List Bool) (freed : List ℕ) (number first kept : ℕ) : Type 0 where
+pub record TakesResolution (s next : ManagedReplay) (alive : List (Option HNum)) (freed : List ℕ) (number first kept : ℕ) : Type 0 where
   pub cycle : OpenCycle
   pub opened : s.managed.cycle ≡ Some cycle
   pub resolution : IsResolution s.managed cycle.dead (IsAnsweredAlive cycle.candidates (answers_of alive)) freed
-  pub state : next ≡ record s { managed = resolved s.managed freed; registry = without_twins s.registry freed }
+  pub state : next ≡ record s { managed = resolved s.managed (answers_of alive) freed; registry = without_twins s.registry freed }
   pub numbered : number ≡ cycle.number
   pub before : first ≡ length s.managed.heap.freed
-  pub counted : kept ≡ count_by (λ b. b) alive
+  pub counted : kept ≡ count_by is_some alive

@@ -19,7 +19,7 @@ abbrev pub number_or_none : Option MNum → Option ℕ
 number_or_none None = None
 number_or_none (Some m) = Some m.0
 
--- the state of the rows, without the handles that were ever adopted, which the entries tell
+-- the state of the rows, without the handles that they ever took
 abbrev pub rows_of : Heap → List Held → List (PNum × MNum) → List (Option ℕ) → List (Option ℕ) → Queue → Option OpenCycle → ℕ → Bool → ManagedReplay
 rows_of heap infos pairs cells pins queue cycle cycles contracted = record {
   managed = record { heap = heap; kinds = map (λ i. i.kind) infos; held = map (λ i. i.handle) infos; pins = pins; cells = cells; notices = managed_numbers queue.queued; taken = queue.taken; cycle = cycle; cycles = cycles };
@@ -28,7 +28,7 @@ rows_of heap infos pairs cells pins queue cycle cycles contracted = record {
   contracted = contracted;
 }
 
--- the state with the handles that were ever adopted
+-- the state with the handles that rows ever took
 abbrev pub with_adopted : ManagedReplay → List ℕ → ManagedReplay
 with_adopted s hs = record s { adopted = hs }
 

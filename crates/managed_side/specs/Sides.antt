@@ -8,15 +8,15 @@ use Rattle.joint_laws.specs.ManagedInvariants.{IsReplayKept}
 use Rattle.managed_side.specs.declared.side.TwinAnswer.{TwinAnswer}
 use Rattle.managed_side.specs.declared.side.TwinAnswer.TheVariants as twins
 use Rattle.managed_side.specs.Rows.{with_adopted}
-use Rattle.managed_side.specs.Steps.{adopted_in}
+use Rattle.managed_side.specs.Takings.{taken_in}
 
--- the state that the entries and the rows show
-abbrev pub state_of : List Entry → ManagedReplay → ManagedReplay
-state_of entries rows = with_adopted rows (adopted_in entries)
+-- the state that the rows show, with the handles that were given to them
+abbrev pub state_of : List (List ℕ) → ManagedReplay → ManagedReplay
+state_of takings rows = with_adopted rows (taken_in takings)
 
--- a side for so many managed threads, by its entries and its rows
-abbrev pub side_of : ℕ → List Entry → ManagedReplay → Side ManagedReplay
-side_of threads entries rows = record { threads = threads; entries = entries; state = state_of entries rows }
+-- a side for so many managed threads, by its entries, the handles that were given to rows, and its rows
+abbrev pub side_of : ℕ → List Entry → List (List ℕ) → ManagedReplay → Side ManagedReplay
+side_of threads entries takings rows = record { threads = threads; entries = entries; state = state_of takings rows }
 
 -- how many entries an open cycle owes at most: the contraction's, unless it was made, and the one that closes the cycle
 abbrev pub owed_by : Bool → ℕ

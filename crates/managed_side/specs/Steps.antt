@@ -1,12 +1,11 @@
 -- The events that a step of a managed side makes, and what its entries tell.
-use Rattle.std.specs.Prelude.{◌≡◌, ℕ, List, [], ◌∷◌, flat_map, Contains, IsSome, Option, None}
+use Rattle.std.specs.Prelude.{◌≡◌, ℕ, List, [], ◌∷◌, Contains, IsSome, Option, None}
 use Rattle.joint_model.specs.declared.names.Cell.{Cell}
 use Rattle.joint_model.specs.declared.names.HNum.{HNum}
 use Rattle.joint_model.specs.declared.names.Thread.{Thread}
 use Rattle.joint_model.specs.declared.names.Var.{Var}
 use Rattle.joint_model.specs.declared.lines.Act.{Act}
 use Rattle.joint_model.specs.declared.lines.Act.TheVariants as act
-use Rattle.joint_model.specs.declared.events.Entry.{Entry}
 use Rattle.joint_model.specs.declared.events.Made.{Made}
 use Rattle.joint_model.specs.declared.events.Op.{Op}
 use Rattle.joint_model.specs.declared.events.Op.TheVariants as op
@@ -30,10 +29,6 @@ abbrev pub adopted_by : Op → Reply → List ℕ
 adopted_by (op.Adopt v kind n p h) r = by_adopt h r
 adopted_by (op.Meet v sort n p h) r = by_meet h r
 adopted_by o r = []
-
--- the handles that the entries adopt
-abbrev pub adopted_in : List Entry → List ℕ
-adopted_in entries = flat_map (λ e. adopted_by e.made.op e.made.reply) entries
 
 -- a managed thread's line that a step makes; `weak` and `take` are calls of their own, and reads are none of the side's
 abbrev pub IsStepAct : Act → Type 0
@@ -65,7 +60,7 @@ IsStepBy t _ = ⊥
 abbrev pub IsManagedStep : Thread → Op → Type 0
 IsManagedStep t o = IsEvent t o × IsStepBy t o
 
--- the handle that an `adopt` or a `meet` names was adopted by no entry
+-- no row ever took the handle that an `adopt` or a `meet` names
 abbrev pub IsFresh : ManagedReplay → Op → Type 0
 IsFresh s (op.Adopt v kind n p h) = Contains s.adopted h.0 → ⊥
 IsFresh s (op.Meet v sort n p h) = Contains s.adopted h.0 → ⊥

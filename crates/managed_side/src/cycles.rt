@@ -1,6 +1,6 @@
 // The calls that carry an open cycle on and close it. Each makes one entry of the driver, and none takes memory.
 
-ghost use Rattle.std.specs.Prelude.{◌≡◌, ℕ, Some, IsSome};
+ghost use Rattle.std.specs.Prelude.{◌≡◌, ℕ, List, Some, IsSome};
 ghost use Rattle.joint_model.specs.declared.names.Thread.TheVariants.{C};
 ghost use Rattle.joint_model.specs.Managed.{OpenCycle};
 ghost use Rattle.joint_model.specs.Sides.{MayDraw, managed_rules};
@@ -18,8 +18,9 @@ pub struct ResolveOut {
 }
 
 impl ManagedSide {
-    /// The open cycle's contraction is made, with so many components and cross-references. One entry is drawn and put last. It takes no memory.
-    pub fn contracted<D: Draw>(&mut self, draw: &mut D, index: u16, sccs: u32, xrefs: u32)
+    /// The open cycle's contraction is made, with so many components, heavy classes counted in, and cross-references. One entry is drawn and put last.
+    /// It takes no memory.
+    pub fn contracted<D: Draw>(&mut self, draw: &mut D, index: u32, sccs: u32, xrefs: u32)
         requires contracted { MayContractWith self.old.state sccs xrefs }
         requires may { (c : OpenCycle) → self.old.state.managed.cycle ≡ Some c → MayDraw managed_rules (record { floor = D.floor; left = D.left; may = D.may; drew = D.drew }) draw.old self.old C (contract_op c) }
         ensures contracts { (c : OpenCycle) → self.old.state.managed.cycle ≡ Some c → Contracts (record { floor = D.floor; left = D.left; may = D.may; drew = D.drew }) draw.old draw.new self.old self.new index sccs xrefs c }
@@ -36,15 +37,16 @@ impl ManagedSide {
     }
 
     /// Resolves the open cycle: frees the rows of the dead part that no candidate reaches that was answered alive, queues a notice for each of
-    /// them that holds a handle, in rising number, takes their pairs out of the registry, and closes the cycle. `alive` has one value for each
-    /// candidate, in rising number. One entry is drawn and put last; it cites `cites`. It takes no memory.
+    /// them that holds a handle, in rising number, takes their pairs out of the registry, gives each kept candidate the handle that its restore gave,
+    /// and closes the cycle. `alive` has one value for each candidate, in rising number; its handles are all different, and no row ever took one of
+    /// them. One entry is drawn and put last; it cites `cites`. It takes no memory.
     ///
     /// Where no candidate that was answered alive leads to one that wasn't, the freed rows that hold a handle are exactly the candidates that weren't
     /// answered alive.
     pub fn resolve<D: Draw>(
         &mut self,
         draw: &mut D,
-        index: u16,
+        index: u32,
         cites: u64,
         alive: &Alive,
     ) -> ResolveOut
@@ -53,6 +55,8 @@ impl ManagedSide {
         ensures resolves { Resolves (record { floor = D.floor; left = D.left; may = D.may; drew = D.drew }) draw.old draw.new self.old self.new index cites alive.now.values result }
     {
         let resolution = self.rows.resolve(alive);
+        let _spare = self.entries.spare();
+        self.takings.push_answers(alive);
         let span = Span {
             first: resolution.first,
             count: resolution.freed.len() as u32,
@@ -74,7 +78,7 @@ impl ManagedSide {
     }
 
     /// Closes the open cycle; nothing is freed. One entry is drawn and put last. It takes no memory.
-    pub fn abandon<D: Draw>(&mut self, draw: &mut D, index: u16)
+    pub fn abandon<D: Draw>(&mut self, draw: &mut D, index: u32)
         requires open { IsSome self.old.state.managed.cycle }
         requires may { (c : OpenCycle) → self.old.state.managed.cycle ≡ Some c → MayDraw managed_rules (record { floor = D.floor; left = D.left; may = D.may; drew = D.drew }) draw.old self.old C (abandon_op c) }
         ensures abandons { (c : OpenCycle) → self.old.state.managed.cycle ≡ Some c → Abandons (record { floor = D.floor; left = D.left; may = D.may; drew = D.drew }) draw.old draw.new self.old self.new index c }

@@ -14,10 +14,11 @@
 // `weak` sets a cell, by the cell's word; `take` brings the object of a thread's pin, which it is given, into a variable. Reads are none of the side's:
 // readers make them by themselves, so the side keeps no pin, and what it keeps of cells takes no bytes and is seen by proofs alone.
 //
-// A side is seen as its entries and the state of their replay: what holds at any time is that a lawful list has these entries and leads to
-// this state. Each call that makes an entry promises that it drew this entry and put it last, that the entry may come next by the definition
-// of the managed list, and that the state is the one after it. The pins that a snapshot and a `take` are given are told with their entries, and between
-// entries the state has none. After a refusal for want of memory the side and the draw are as before.
+// A side is seen as its entries and the state of their replay: what holds at any time is that a lawful list has these entries and leads to this
+// state. The handles that rows ever took stand there too, seen by proofs alone. Each call that makes an entry promises that it drew this entry and
+// put it last, that the entry may come next by the definition of the managed list, and that the state is the one after it. The pins that a snapshot
+// and a `take` are given are told with their entries, and between entries the state has none. After a refusal for want of memory the side and the
+// draw are as before.
 //
 // A side is no thread's own and has no lock: whoever has it in hand, by `&mut`, makes its next entry, so nobody else changes it during a call.
 // `joint_history` puts it under one. Between two calls others may have made entries here, and the peer side goes on all the time.
@@ -44,6 +45,7 @@ mod rows;
 mod side;
 mod snapping;
 mod snapshots;
+mod takings;
 mod targets;
 mod twins;
 mod weak;

@@ -54,7 +54,7 @@ impl ManagedSide {
     /// It takes all memory first, and then closes the gate: from then on nothing fails, so each closing of the gate has its entry. Answers `CycleOpen`
     /// exactly where a cycle is open, `OutOfMemory` where there is no memory, or no room for the entries that the cycle owes, and `NotClosed` where the
     /// gate wasn't closed; the side is then as before, and but for `NotClosed` so is `gate`. From here on closing the cycle takes no memory.
-    pub fn snap<G: Draw + Closes>(&mut self, gate: &mut G, index: u16) -> Result<Opened, SnapFault>
+    pub fn snap<G: Draw + Closes>(&mut self, gate: &mut G, index: u32) -> Result<Opened, SnapFault>
         requires close { self.old.state.managed.cycle ≡ None → G.may_close gate.old (self.old.state.managed.cycles + 1) }
         requires stand { (pins : List (Option MNum)) (g : G) → G.closed gate.old (self.old.state.managed.cycles + 1) pins g → PinsStand self.old.state.managed (pins_given pins) }
         requires may { (pins : List (Option MNum)) (g : G) → G.closed gate.old (self.old.state.managed.cycles + 1) pins g → MayDraw managed_rules (record { floor = G.floor; left = G.left; may = G.may; drew = G.drew }) g self.old C (snap_op self.old.state.managed) }
@@ -77,7 +77,7 @@ impl ManagedSide {
     fn snap_closed<G: Draw + Closes>(
         &mut self,
         gate: &mut G,
-        index: u16,
+        index: u32,
     ) -> Result<Opened, NotSnapped>
         requires closed { self.old.state.managed.cycle ≡ None }
         requires close { G.may_close gate.old (self.old.state.managed.cycles + 1) }

@@ -4,17 +4,17 @@
 // is made since has its mark from the start. So a marking that goes on from the kept candidates stays within the dead part, and all that it
 // leaves out of it goes.
 
-ghost use Rattle.std.specs.Prelude.{◌≡◌, ℕ, ◌+◌, ◌<◌, ◌≤◌, ◌↔◌, ◌⊎◌, ◌∷◌, [], ◌++◌, Bool, true, false, not, Some, IsSome, Contains, All, IsTrue, length, map, filter, count_by, slice_get};
+ghost use Rattle.std.specs.Prelude.{◌≡◌, ℕ, ◌+◌, ◌<◌, ◌≤◌, ◌↔◌, ◌⊎◌, ◌∷◌, [], ◌++◌, Bool, true, false, not, Some, IsSome, is_some, Contains, All, IsTrue, length, map, filter, count_by, slice_get};
 ghost use Rattle.joint_model.specs.Cycles.{IsAnsweredAlive};
 ghost use Rattle.joint_model.specs.Heaps.{IsLive};
 ghost use Rattle.joint_model.specs.Histories.{managed_numbers};
-ghost use Rattle.joint_model.specs.Listed.{answers_of};
-ghost use Rattle.joint_model.specs.Managed.{OpenCycle, abandoned};
+ghost use Rattle.joint_model.specs.Listed.{answer_of, answers_of};
+ghost use Rattle.joint_model.specs.Managed.{OpenCycle, abandoned, renewed};
 ghost use Rattle.joint_model.specs.ManagedReplay.{without_twins};
 ghost use Rattle.joint_model.specs.Walks.{Reached};
 ghost use Rattle.reachability.specs.Marks.{IsClosed, HasMark};
 ghost use Rattle.row_heap.specs.Marks.{EdgeOf};
-ghost use Rattle.managed_side.specs.Resolving.{AreCleared, MayClose, TakesResolution, has_handle, has_peer};
+ghost use Rattle.managed_side.specs.Resolving.{AreCleared, HasAnswers, TakesResolution, has_handle, has_peer};
 ghost use Rattle.reachability.specs.Marks.{marked, unmarked_of};
 ghost use Rattle.managed_side.specs.Rows.{AreKept, ArePeers, pairs_of};
 
@@ -22,7 +22,7 @@ use crate::open::OpenParts;
 use crate::rows::{Held, ManagedRows};
 use finaliser_queue::Notices;
 use instance_registry::Registry;
-use joint_model::{Alive, MNum};
+use joint_model::{Alive, HNum, MNum};
 use row_heap::RowHeap;
 
 /// What a resolution tells its caller: the number of the cycle that it closed, the rows that it freed, where they stand in the list of freed
@@ -69,11 +69,11 @@ impl ManagedRows {
     }
 
     /// A resolution: frees the rows of the dead part that no candidate reaches that was answered alive, queues a notice for each of them that
-    /// holds a handle, takes their pairs out of the registry, and closes the cycle. It takes no memory. Its time goes by the dead part, and by
-    /// the registry's pairs, over which it passes once, where a freed row has one.
+    /// holds a handle, takes their pairs out of the registry, gives each candidate that was answered alive its new handle, and closes the cycle. It
+    /// takes no memory. Its time goes by the dead part, and by the registry's pairs, over which it passes once, where a freed row has one.
     pub(crate) fn resolve(&mut self, alive: &Alive) -> Resolution
         requires kept { AreKept self.old }
-        requires open { MayClose self.old alive.now.values }
+        requires open { HasAnswers self.old alive.now.values }
         ensures resolution { TakesResolution self.old self.new alive.now.values (managed_numbers result.freed.items) result.cycle result.first result.kept }
         ensures few { length result.freed.items ≤ 65535 }
     {
@@ -82,10 +82,11 @@ impl ManagedRows {
             unreachable!()
         };
         let cycle = open.number();
-        let freed = settle(open, &mut self.heap, alive);
+        let (candidates, freed) = settle(open, &mut self.heap, alive);
         self.heap.free(&freed);
         notify(&freed, &self.infos, &mut self.notices);
         forget_pairs(&freed, &mut self.infos, &mut self.registry);
+        renew(&candidates, alive, &mut self.infos);
         Resolution {
             cycle,
             freed,
@@ -109,20 +110,20 @@ fn bring_back_if(heap: &mut RowHeap<MNum>, x: u32, kept: bool)
 }
 
 // The answer at place `i`.
-fn answer_at(alive: &Alive, i: u32) -> bool
+fn answer_at(alive: &Alive, i: u32) -> Option<HNum>
     requires { i < length alive.now.values }
     ensures { slice_get alive.now.values i ≡ Some result }
 {
-    alive.at(i).unwrap_or(false)
+    alive.at(i).unwrap_or(None)
 }
 
 // How many answers are alive.
 fn count_alive(alive: &Alive) -> u32
-    ensures { result ≡ count_by (λ b. b) alive.now.values }
+    ensures { result ≡ count_by is_some alive.now.values }
 {
     let mut count = 0;
     for i in 0..alive.len() {
-        if answer_at(alive, i) {
+        if answer_at(alive, i).is_some() {
             count += 1;
         }
     }
@@ -139,7 +140,8 @@ fn bring_back_kept(heap: &mut RowHeap<MNum>, candidates: &[u32], alive: &Alive)
     ensures rest { heap.new ≡ record heap.old { marks = heap.new.marks; links = heap.new.links } }
 {
     for i in 0..alive.len() {
-        bring_back_if(heap, candidates[i as usize], answer_at(alive, i));
+        let kept = answer_at(alive, i).is_some();
+        bring_back_if(heap, candidates[i as usize], kept);
     }
 }
 
@@ -157,12 +159,14 @@ pub(crate) fn keep_unmarked(heap: &RowHeap<MNum>, rows: &mut Vec<MNum>)
     rows.retain(|m| !has_mark(heap, *m));
 }
 
-// Finds the rows of the dead part that no candidate reaches that was answered alive: those that have no mark afterwards. It takes no memory.
-fn settle(cycle: OpenParts, heap: &mut RowHeap<MNum>, alive: &Alive) -> Vec<MNum>
+// Finds the rows of the dead part that no candidate reaches that was answered alive: those that have no mark afterwards. Answers the candidates and
+// these rows. It takes no memory.
+fn settle(cycle: OpenParts, heap: &mut RowHeap<MNum>, alive: &Alive) -> (Vec<u32>, Vec<MNum>)
     requires live { (m : ℕ) → Contains cycle.candidates m → IsLive heap.old.heap m }
     requires shut { IsClosed (EdgeOf heap.old) heap.old.marks }
     requires answers { length alive.now.values ≡ length cycle.candidates }
-    ensures freed { managed_numbers result.items ≡ unmarked_of heap.new.marks cycle.dead }
+    ensures candidates { result.0.items ≡ cycle.candidates }
+    ensures freed { managed_numbers result.1.items ≡ unmarked_of heap.new.marks cycle.dead }
     ensures marks { (k : ℕ) → HasMark heap.new.marks k ↔ (HasMark heap.old.marks k ⊎ Reached (IsAnsweredAlive cycle.candidates (answers_of alive.now.values)) (EdgeOf heap.old) k) }
     ensures shut { IsClosed (EdgeOf heap.old) heap.new.marks }
     ensures rest { heap.new ≡ record heap.old { marks = heap.new.marks; links = heap.new.links } }
@@ -174,7 +178,7 @@ fn settle(cycle: OpenParts, heap: &mut RowHeap<MNum>, alive: &Alive) -> Vec<MNum
     } = cycle;
     bring_back_kept(heap, &candidates, alive);
     keep_unmarked(heap, &mut dead);
-    dead
+    (candidates, dead)
 }
 
 /// Whether there is a handle beside the row.
@@ -257,5 +261,31 @@ fn forget_pairs(rows: &[MNum], infos: &mut Vec<Held>, registry: &mut Registry)
     if clear_peers(rows, infos) {
         let left: &[Held] = infos;
         registry.retain(|_, m| has_peer(left, m));
+    }
+}
+
+// A candidate holds the handle that its restore gave, if it gave one.
+fn renew_row(m: u32, back: Option<HNum>, infos: &mut Vec<Held>)
+    requires row { (1 ≤ m) × (m ≤ length infos.old.items) }
+    ensures handles { map (λ i. i.handle) infos.new.items ≡ renewed (map (λ i. i.handle) infos.old.items) (m ∷ []) (answer_of back ∷ []) }
+    ensures kinds { map (λ i. i.kind) infos.new.items ≡ map (λ i. i.kind) infos.old.items }
+    ensures peers { map (λ i. i.peer) infos.new.items ≡ map (λ i. i.peer) infos.old.items }
+    ensures len { length infos.new.items ≡ length infos.old.items }
+{
+    if let Some(h) = back {
+        infos[m as usize - 1].handle = Some(h.0);
+    }
+}
+
+// Each candidate that was answered alive holds the handle that its restore gave. It takes no memory.
+fn renew(candidates: &[u32], alive: &Alive, infos: &mut Vec<Held>)
+    requires rows { All (λ m. (1 ≤ m) × (m ≤ length infos.old.items)) candidates.now }
+    requires answers { length alive.now.values ≡ length candidates.now }
+    ensures handles { map (λ i. i.handle) infos.new.items ≡ renewed (map (λ i. i.handle) infos.old.items) candidates.now (answers_of alive.now.values) }
+    ensures kinds { map (λ i. i.kind) infos.new.items ≡ map (λ i. i.kind) infos.old.items }
+    ensures peers { map (λ i. i.peer) infos.new.items ≡ map (λ i. i.peer) infos.old.items }
+{
+    for i in 0..alive.len() {
+        renew_row(candidates[i as usize], answer_at(alive, i), infos);
     }
 }

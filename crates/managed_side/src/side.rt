@@ -20,6 +20,7 @@ ghost use Rattle.managed_side.specs.Steps.{CitesRightly, IsFresh, IsManagedStep,
 
 use crate::lines::place;
 use crate::rows::ManagedRows;
+use crate::takings::Takings;
 use joint_model::{
     Act, Cell, Cycle, Draw, Entries, Holding, MNum, Made, Op, PNum, Phase, PhaseWord, Reply,
     Thread, Var, enter,
@@ -34,19 +35,21 @@ use std::marker::Model;
 pub struct ManagedSide {
     threads: u8,
     pub(crate) rows: ManagedRows,
+    pub(crate) takings: Takings,
     pub(crate) entries: Entries,
 }
 
 impl Model for ManagedSide {
+    ghost use Rattle.std.specs.Prelude.{◌≤◌, length};
     ghost use Rattle.joint_model.specs.ManagedReplay.{ManagedReplay};
     ghost use Rattle.joint_model.specs.Sides.{Side, AreTaken, IsReplayed, managed_rules};
     ghost use Rattle.managed_side.specs.Sides.{side_of, state_of, HasRoom, IsSideKept};
 
     ghost Value = { Side ManagedReplay };
 
-    ghost view = { λ s. side_of s.threads s.entries.entries s.rows };
+    ghost view = { λ s. side_of s.threads s.entries.entries s.takings s.rows };
 
-    ghost invariant = { λ s. IsReplayed managed_rules s.entries.entries (state_of s.entries.entries s.rows) × HasRoom s.rows s.entries.spare × AreTaken managed_rules s.threads s.entries.entries × IsSideKept s.entries.entries (state_of s.entries.entries s.rows) };
+    ghost invariant = { λ s. IsReplayed managed_rules s.entries.entries (state_of s.takings s.rows) × HasRoom s.rows s.entries.spare × AreTaken managed_rules s.threads s.entries.entries × IsSideKept s.entries.entries (state_of s.takings s.rows) × (length s.takings ≤ length s.entries.entries) };
 }
 
 /// The lists that a side ends with: its entries, its freed objects and its notices.
@@ -80,6 +83,7 @@ impl ManagedSide {
         Ok(ManagedSide {
             threads,
             rows: ManagedRows::new(alloc)?,
+            takings: Takings::new(alloc)?,
             entries: Entries::new(alloc, holding),
         })
     }
@@ -96,14 +100,14 @@ impl ManagedSide {
 
     /// Makes one event: of a managed thread a line that is one event, but for `weak`, `take` and reads, or `adopt`, `lend`, `meet` or `give`; or
     /// `finalise` of the driver.
-    /// `cites` is given exactly for `adopt` and `meet`, and the handle that one of these names was adopted by no entry. One entry is drawn and put
+    /// `cites` is given exactly for `adopt` and `meet`, and no row ever took the handle that one of these names. One entry is drawn and put
     /// last. Answers `AllocError` where there is no memory, or where the entries would pass their limit; the side and `draw` are then as before.
     #[inline(always)]
     pub fn step<D: Draw>(
         &mut self,
         draw: &mut D,
         caller: Thread,
-        index: u16,
+        index: u32,
         op: &Op,
         cites: Option<u64>,
     ) -> Result<Reply, AllocError>
@@ -123,6 +127,7 @@ impl ManagedSide {
             reply,
             cites,
         };
+        self.takings.push_event(op, reply);
         enter(&mut self.entries, draw, made, None, &[]);
         Ok(reply)
     }
@@ -134,7 +139,7 @@ impl ManagedSide {
         &mut self,
         draw: &mut D,
         caller: Thread,
-        index: u16,
+        index: u32,
         k: Cell,
         v: Var,
         word: u64,
@@ -168,7 +173,7 @@ impl ManagedSide {
         &mut self,
         draw: &mut D,
         caller: Thread,
-        index: u16,
+        index: u32,
         v: Var,
         pin: Option<MNum>,
     ) -> Result<Reply, AllocError>
@@ -197,7 +202,7 @@ impl ManagedSide {
     pub fn refused<D: Draw>(
         &mut self,
         draw: &mut D,
-        index: u16,
+        index: u32,
         word: PhaseWord,
         phase: Phase,
     ) -> Result<Reply, AllocError>

@@ -5,9 +5,10 @@ use Rattle.joint_laws.proofs.Adopting.{IsReplayKept-opening}
 use Rattle.managed_side.proofs.side.ManagedSide.new.Goals as goal
 
 pub invariant_of-result : goal.invariant_of-result
-invariant_of-result c = rw (c.new-2.ensures.entries, c.in_ok-new.ensures) (
+invariant_of-result c = rw (c.new-3.ensures.entries, c.in_ok-new.ensures, c.in_ok-new-2.ensures) (
   record { rise = tt; noted = []; same = refl; leads = refl },
   λ e o. (let f : ⊥ = cc in absurd f),
   All-nil _,
   record { kept = IsReplayKept-opening; few = omega (arith) },
+  omega arith,
 )

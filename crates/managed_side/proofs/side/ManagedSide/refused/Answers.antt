@@ -11,7 +11,7 @@ use Rattle.known_laws.proofs.Pinned.{none_stand}
 use Rattle.managed_side.specs.Steps.{step_made}
 use Rattle.std.proofs.lemmas.Result.{IfOk-from_err}
 use Rattle.managed_side.proofs.Driving.{adds-lawful}
-use Rattle.managed_side.proofs.Goes.{side-goes, side-kept, side-replayed, same-answers, HasRoom-two}
+use Rattle.managed_side.proofs.Goes.{side-goes, side-kept, side-replayed, same-answers, HasRoom-two, takings-few}
 use Rattle.managed_side.proofs.side.ManagedSide.refused.Goals as goal
 
 pub invariant_of-self-2 : goal.invariant_of-self-2
@@ -21,13 +21,14 @@ invariant_of-self-2 g c =
     let may = rw (← c.self.view_is) at c.requires.may in
     let refused = rw (← c.self.view_is) at c.requires.refused in
     let draws = rw c.in_ok-reserve.ensures.entries at c.enter.ensures.draws in
-    let goes = side-goes i.entries.entries c.enter.new.entries.entries i.rows i.rows draws.adds.number made (phase_of c.args.phase) c.self.invariant.0 (refl, refl, refl) record { event = tt; side = refl } refused draws.adds.added
+    let goes = side-goes i.entries.entries i.takings i.rows i.rows made (phase_of c.args.phase) c.self.invariant.0 (refl, refl, refl) record { event = tt; side = refl } refused
     (λ hs. same-answers i.rows c.refusal-reply.result (refusal_to i.rows.managed c.args.phase c.args.word) hs (sym c.refusal-reply.ensures)) in
     let room : 2 ≤ c.enter.new.entries.spare = omega (arith, c.in_ok-reserve.ensures.room, c.enter.ensures.spare) in (
-      side-replayed i.entries.entries c.enter.new.entries.entries i.rows i.rows draws.adds.number (g.D.Draw.floor c.args.draw.now) made (phase_of c.args.phase) may.below draws.above draws.adds.added goes c.self.invariant.0,
+      side-replayed i.entries.entries c.enter.new.entries.entries i.takings i.takings i.rows i.rows draws.adds.number (g.D.Draw.floor c.args.draw.now) made (phase_of c.args.phase) may.below draws.above draws.adds.added goes c.self.invariant.0,
       HasRoom-two i.rows c.enter.new.entries.spare room,
       AreTaken-push managed_rules i.threads i.entries.entries c.enter.new.entries.entries draws.adds.number made tt draws.adds.added c.self.invariant.2,
-      side-kept i.entries.entries c.enter.new.entries.entries i.rows i.rows draws.adds.number made (phase_of c.args.phase) (none_stand i.rows.managed) draws.adds.added goes c.self.invariant.3,
+      side-kept i.entries.entries c.enter.new.entries.entries i.takings i.takings i.rows i.rows draws.adds.number made (phase_of c.args.phase) (none_stand i.rows.managed) draws.adds.added goes c.self.invariant.3,
+      takings-few i.entries.entries c.enter.new.entries.entries i.takings draws.adds.number made draws.adds.added c.self.invariant.4,
     )
 
 pub returns-clause-adds : goal.returns-clause-adds
@@ -36,8 +37,8 @@ returns-clause-adds g c =
     let made : Made = step_made C c.args.index (op.Refused c.args.word) c.refusal-reply.result None in
     let refused = rw (← c.self.view_is) at c.requires.refused in
     let draws = rw c.in_ok-reserve.ensures.entries at c.enter.ensures.draws in
-    rw (← c.self.view_is) (adds-lawful (record { floor = g.D.Draw.floor; left = g.D.Draw.left; may = g.D.Draw.may; drew = g.D.Draw.drew }) c.args.draw.now c.enter.new.draw i.threads i.entries.entries c.enter.new.entries.entries i.rows i.rows made (phase_of c.args.phase) [] draws refl refl
-    (side-goes i.entries.entries c.enter.new.entries.entries i.rows i.rows draws.adds.number made (phase_of c.args.phase) c.self.invariant.0 (refl, refl, refl) record { event = tt; side = refl } refused draws.adds.added
+    rw (← c.self.view_is) (adds-lawful (record { floor = g.D.Draw.floor; left = g.D.Draw.left; may = g.D.Draw.may; drew = g.D.Draw.drew }) c.args.draw.now c.enter.new.draw i.threads i.entries.entries c.enter.new.entries.entries i.takings i.takings i.rows i.rows made (phase_of c.args.phase) [] draws refl refl
+    (side-goes i.entries.entries i.takings i.rows i.rows made (phase_of c.args.phase) c.self.invariant.0 (refl, refl, refl) record { event = tt; side = refl } refused
     (λ hs. same-answers i.rows c.refusal-reply.result (refusal_to i.rows.managed c.args.phase c.args.word) hs (sym c.refusal-reply.ensures))))
 
 pub returns-in_err-reserve-clause-adds : goal.returns-in_err-reserve-clause-adds

@@ -10,7 +10,7 @@ use Rattle.joint_model.specs.Listed.{answers_of}
 use Rattle.joint_model.specs.Managed.{OpenCycle}
 use Rattle.joint_model.specs.ManagedReplay.{ManagedReplay}
 use Rattle.joint_model.specs.Sides.{managed_rules}
-use Rattle.joint_model.specs.Told.{resolution_of}
+use Rattle.joint_model.specs.Told.{handles_given, resolution_of}
 use Rattle.joint_model.proofs.Deciding.{none_some}
 use Rattle.joint_model.proofs.SideLists.{AreTaken-push}
 use Rattle.known_laws.proofs.Pinned.{none_stand}
@@ -18,11 +18,22 @@ use Rattle.managed_side.specs.Calls.{resolve_made}
 use Rattle.managed_side.specs.Steps.{step_made}
 use Rattle.managed_side.proofs.FreedCandidates.{frees-unanswered}
 use Rattle.managed_side.proofs.Driving.{resolve-goes, adds-lawful, objects-numbers}
-use Rattle.managed_side.proofs.Goes.{side-kept, side-replayed, kept-rows}
+use Rattle.managed_side.proofs.Goes.{owed-some, side-kept, side-replayed, kept-rows, takings-more}
 use Rattle.managed_side.proofs.side.ManagedSide.resolve.Goals as goal
 
 pub resolve-resolution-requires-clause-kept : goal.resolve-resolution-requires-clause-kept
-resolve-resolution-requires-clause-kept g c = kept-rows c.self.inside.entries.entries c.self.inside.rows c.self.invariant.3
+resolve-resolution-requires-clause-kept g c = kept-rows c.self.inside.entries.entries c.self.inside.takings c.self.inside.rows c.self.invariant.3
+
+pub resolve-resolution-requires-clause-open : goal.resolve-resolution-requires-clause-open
+resolve-resolution-requires-clause-open g c =
+    let k = rw (← c.self.view_is) at c.requires.close in
+    record { cycle = k.cycle; opened = k.opened; one_each = k.one_each }
+
+pub push_answers-requires : goal.push_answers-requires
+push_answers-requires g c =
+    let k = rw (← c.self.view_is) at c.requires.close in
+    let owed = c.self.invariant.1 k.cycle k.opened in
+    omega (arith, c.self.invariant.4, c.spare-spare.ensures.limit, c.spare-spare.ensures.spare, owed-some c.self.inside.rows.contracted, owed)
 
 pub enter-requires-clause-below : goal.enter-requires-clause-below
 enter-requires-clause-below g c =
@@ -49,11 +60,12 @@ invariant_of-self g c =
     let draws = rw made-is at c.enter.ensures.draws in
     let same : k.cycle ≡ t.cycle = same_Some k.cycle t.cycle (sym k.opened ∙ t.opened) in
     let one_each : length c.args.alive.now.values ≡ length t.cycle.candidates = k.one_each ∙ ap (λ (z : OpenCycle). length z.candidates) same in
-    let goes = resolve-goes i.entries.entries c.enter.new.entries.entries i.rows c.resolve-resolution.new.self draws.adds.number c.args.index c.args.cites _ _ _ c.args.alive.now.values freed c.self.invariant.0 t one_each draws.adds.added in (
-      side-replayed i.entries.entries c.enter.new.entries.entries i.rows c.resolve-resolution.new.self draws.adds.number (g.D.Draw.floor c.args.draw.now) (resolve_made i.rows.managed t.cycle c.args.index freed c.args.cites) (resolution_of (answers_of c.args.alive.now.values) freed) (may k.cycle k.opened).below draws.above draws.adds.added goes c.self.invariant.0,
+    let goes = resolve-goes i.entries.entries i.takings c.push_answers.new.self i.rows c.resolve-resolution.new.self c.args.index c.args.cites _ _ _ c.args.alive.now.values freed c.self.invariant.0 t one_each k.new c.push_answers.ensures in (
+      side-replayed i.entries.entries c.enter.new.entries.entries i.takings c.push_answers.new.self i.rows c.resolve-resolution.new.self draws.adds.number (g.D.Draw.floor c.args.draw.now) (resolve_made i.rows.managed t.cycle c.args.index freed c.args.cites) (resolution_of (answers_of c.args.alive.now.values) freed) (may k.cycle k.opened).below draws.above draws.adds.added goes c.self.invariant.0,
       λ e o. absurd (none_some e (sym (ap (λ (z : ManagedReplay). z.managed.cycle) t.state) ∙ o)),
       AreTaken-push managed_rules i.threads i.entries.entries c.enter.new.entries.entries draws.adds.number (resolve_made i.rows.managed t.cycle c.args.index freed c.args.cites) tt draws.adds.added c.self.invariant.2,
-      side-kept i.entries.entries c.enter.new.entries.entries i.rows c.resolve-resolution.new.self draws.adds.number (resolve_made i.rows.managed t.cycle c.args.index freed c.args.cites) (resolution_of (answers_of c.args.alive.now.values) freed) (none_stand i.rows.managed) draws.adds.added goes c.self.invariant.3,
+      side-kept i.entries.entries c.enter.new.entries.entries i.takings c.push_answers.new.self i.rows c.resolve-resolution.new.self draws.adds.number (resolve_made i.rows.managed t.cycle c.args.index freed c.args.cites) (resolution_of (answers_of c.args.alive.now.values) freed) (none_stand i.rows.managed) draws.adds.added goes c.self.invariant.3,
+      takings-more i.entries.entries c.enter.new.entries.entries i.takings c.push_answers.new.self (handles_given (answers_of c.args.alive.now.values)) draws.adds.number (resolve_made i.rows.managed t.cycle c.args.index freed c.args.cites) c.push_answers.ensures draws.adds.added c.self.invariant.4,
     )
 
 pub returns : goal.returns
@@ -73,8 +85,8 @@ returns g c =
         cycle = t.cycle;
         opened = t.opened;
         freed = freed;
-        adds = adds-lawful (record { floor = g.D.Draw.floor; left = g.D.Draw.left; may = g.D.Draw.may; drew = g.D.Draw.drew }) c.args.draw.now c.enter.new.draw i.threads i.entries.entries c.enter.new.entries.entries i.rows c.resolve-resolution.new.self (resolve_made i.rows.managed t.cycle c.args.index freed c.args.cites) (resolution_of (answers_of c.args.alive.now.values) freed) c.deref.result.now draws refl (objects-numbers ms ∙ sym c.deref.ensures.value)
-            (resolve-goes i.entries.entries c.enter.new.entries.entries i.rows c.resolve-resolution.new.self draws.adds.number c.args.index c.args.cites _ _ _ c.args.alive.now.values freed c.self.invariant.0 t one_each draws.adds.added);
+        adds = adds-lawful (record { floor = g.D.Draw.floor; left = g.D.Draw.left; may = g.D.Draw.may; drew = g.D.Draw.drew }) c.args.draw.now c.enter.new.draw i.threads i.entries.entries c.enter.new.entries.entries i.takings c.push_answers.new.self i.rows c.resolve-resolution.new.self (resolve_made i.rows.managed t.cycle c.args.index freed c.args.cites) (resolution_of (answers_of c.args.alive.now.values) freed) c.deref.result.now draws refl (objects-numbers ms ∙ sym c.deref.ensures.value)
+            (resolve-goes i.entries.entries i.takings c.push_answers.new.self i.rows c.resolve-resolution.new.self c.args.index c.args.cites _ _ _ c.args.alive.now.values freed c.self.invariant.0 t one_each k.new c.push_answers.ensures);
         exact = frees-unanswered i.rows.managed t.cycle (answers_of c.args.alive.now.values) freed (c.self.invariant.3.kept.managed.dead t.cycle t.opened) t.resolution;
         span = rw (t.before, many) refl;
         kept = t.counted;

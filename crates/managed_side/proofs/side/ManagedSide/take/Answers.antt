@@ -8,7 +8,7 @@ use Rattle.joint_model.proofs.SideLists.{AreTaken-push}
 use Rattle.managed_side.specs.Pinned.{pin_given, pin_reply, with_taken}
 use Rattle.managed_side.specs.Steps.{step_made, take_op}
 use Rattle.std.proofs.lemmas.Result.{IfOk-from_err}
-use Rattle.managed_side.proofs.Goes.{side-replayed, side-kept, HasRoom-two}
+use Rattle.managed_side.proofs.Goes.{side-replayed, side-kept, HasRoom-two, takings-few}
 use Rattle.managed_side.proofs.TakeEntries.{take-goes, pin-live}
 use Rattle.managed_side.proofs.side.ManagedSide.take.Goals as goal
 
@@ -23,20 +23,21 @@ invariant_of-self-2 g c =
     let may = rw (← c.self.view_is) at c.requires.may in
     let stands = rw (← c.self.view_is) at c.requires.stands in
     let draws = rw (c.in_ok-reserve.ensures.entries, c.take-reply.ensures.reply) at c.enter.ensures.draws in
-    let goes = take-goes i.entries.entries c.enter.new.entries.entries i.rows c.take-reply.new.self draws.adds.number c.args.caller c.args.index c.args.v c.args.pin c.self.invariant.0 c.requires.thread c.requires.var draws.adds.added
+    let goes = take-goes i.entries.entries i.takings i.rows c.take-reply.new.self c.args.caller c.args.index c.args.v c.args.pin c.self.invariant.0 c.requires.thread c.requires.var
     (c.take-reply.ensures.state ∙ ap (λ z. with_taken i.rows z c.args.pin) c.place.ensures.at) in
     let room : 2 ≤ c.enter.new.entries.spare = omega (arith, c.in_ok-reserve.ensures.room, c.enter.ensures.spare) in (
-      side-replayed i.entries.entries c.enter.new.entries.entries i.rows c.take-reply.new.self draws.adds.number (g.D.Draw.floor c.args.draw.now) made told may.below draws.above draws.adds.added goes c.self.invariant.0,
+      side-replayed i.entries.entries c.enter.new.entries.entries i.takings i.takings i.rows c.take-reply.new.self draws.adds.number (g.D.Draw.floor c.args.draw.now) made told may.below draws.above draws.adds.added goes c.self.invariant.0,
       HasRoom-two c.take-reply.new.self c.enter.new.entries.spare room,
       AreTaken-push managed_rules i.threads i.entries.entries c.enter.new.entries.entries draws.adds.number made may.takes draws.adds.added c.self.invariant.2,
-      side-kept i.entries.entries c.enter.new.entries.entries i.rows c.take-reply.new.self draws.adds.number made told stands draws.adds.added goes c.self.invariant.3,
+      side-kept i.entries.entries c.enter.new.entries.entries i.takings i.takings i.rows c.take-reply.new.self draws.adds.number made told stands draws.adds.added goes c.self.invariant.3,
+      takings-few i.entries.entries c.enter.new.entries.entries i.takings draws.adds.number made draws.adds.added c.self.invariant.4,
     )
 
 pub returns-clause-adds : goal.returns-clause-adds
 returns-clause-adds g c =
     let i = c.self.inside in
     let draws = rw (c.in_ok-reserve.ensures.entries, c.take-reply.ensures.reply) at c.enter.ensures.draws in
-    let goes = take-goes i.entries.entries c.enter.new.entries.entries i.rows c.take-reply.new.self draws.adds.number c.args.caller c.args.index c.args.v c.args.pin c.self.invariant.0 c.requires.thread c.requires.var draws.adds.added
+    let goes = take-goes i.entries.entries i.takings i.rows c.take-reply.new.self c.args.caller c.args.index c.args.v c.args.pin c.self.invariant.0 c.requires.thread c.requires.var
     (c.take-reply.ensures.state ∙ ap (λ z. with_taken i.rows z c.args.pin) c.place.ensures.at) in
     rw (← c.self.view_is, c.take-reply.ensures.reply) (record { draws = draws; goes = goes; threads = refl })
 
