@@ -38,7 +38,7 @@ module _ (f : Fields) (index : ℕ) (h : KnowsItsStand f) (l : line_of f.progres
       record { stand = snapped (opened_of s.cycle.snapshot); cycle = s.cycle; stands = stands_on f index (snapped (opened_of s.cycle.snapshot)) h l s.stands; unmirrored = refl }
   before (inr e) =
       let s = stands_in f at.Contracted h e in
-      let stand = contracted (opened_of s.cycle.snapshot) (numbered_comps s.cycle.snapshot.graph s.listing.comps) s.listing.pairs in
+      let stand = contracted (opened_of s.cycle.snapshot) (numbered_comps s.cycle.snapshot.graph s.listing.comps) s.heavy s.listing.pairs in
       record { stand = stand; cycle = s.cycle; stands = stands_on f index stand h l s.stands; unmirrored = refl }
 
   pub may_abandon : (f.progress.phase ≡ at.Snapped) ⊎ (f.progress.phase ≡ at.Contracted) → MayAbandonCycle f.progress.view index

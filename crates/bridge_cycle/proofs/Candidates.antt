@@ -5,8 +5,7 @@ use Rattle.std.specs.Option.{option_to_list}
 use Rattle.std.proofs.lemmas.List.Elements.{All-contains}
 use Rattle.joint_model.specs.declared.names.HNum.{HNum}
 use Rattle.joint_model.specs.Components.{Rises}
-use Rattle.joint_model.specs.Control.{candidates_of}
-use Rattle.joint_model.specs.Managed.{Managed, OpenCycle, handle_of}
+use Rattle.joint_model.specs.Managed.{Managed, OpenCycle, handle_of, candidates_of}
 use Rattle.joint_model.specs.Managed.{IsBridge as IsBridgeRow}
 use Rattle.joint_model.proofs.HeapLemmas.{candidates_of-open}
 use Rattle.joint_model.proofs.Members.{All-members, Contains-at, Contains-cons_cases, Contains-flat_map, Contains-flat_map_cases, Contains-here, Contains-map, Contains-nil, Contains-there, Rises-one, at-Contains}

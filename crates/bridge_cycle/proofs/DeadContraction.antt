@@ -93,4 +93,4 @@ module _ (s : Managed) (dead : List ℕ) (g : Part) (k : IsManagedKept s) (p : I
   }
 
 pub a_graphs_contraction : GraphsContractionIsDeadParts
-a_graphs_contraction s dead g comps pairs k p d c = contraction_renumbered _ _ _ _ _ _ (renumbered s dead g k p d) comps pairs c
+a_graphs_contraction s dead g comps heavy pairs k p d c = contraction_renumbered _ _ _ _ _ _ (renumbered s dead g k p d) comps heavy pairs c

@@ -10,9 +10,9 @@ use Rattle.joint_model.specs.declared.names.PhaseWord.TheVariants as word
 use Rattle.joint_model.specs.declared.events.Entry.{Entry}
 use Rattle.joint_model.specs.declared.events.Op.TheVariants as op
 use Rattle.joint_model.specs.declared.events.Reply.TheVariants as says
-use Rattle.joint_model.specs.Control.{OpenSnap, idle, weakening, marked, restoring, restored, candidates_of}
+use Rattle.joint_model.specs.Control.{OpenSnap, idle, weakening, marked, restoring, restored}
 use Rattle.joint_model.specs.Listed.{Answers as Stock, answers_of}
-use Rattle.joint_model.specs.Managed.{Managed}
+use Rattle.joint_model.specs.Managed.{Managed, candidates_of}
 use Rattle.joint_model.specs.Phases.{ArePhase, candidates_after, next_phase}
 use Rattle.joint_model.specs.Told.{nothing, resolution_of, sweep_of}
 use Rattle.peer_side.specs.declared.side.Swept.{Swept}

@@ -30,23 +30,23 @@ module _ (f : Fields) (index : ℕ) (h : KnowsItsStand f) (e : f.progress.phase 
   same_listing : s.listing ≡ listing
   same_listing = same_Some _ _ (sym s.listed ∙ listed)
 
-  stands : DriverStands f.progress.view index (contracted (opened_of out) (numbered_comps out.graph listing.comps) listing.pairs) h.seen
-  stands = stands_on f index (contracted (opened_of out) (numbered_comps out.graph listing.comps) listing.pairs) h l
-      (s.stands ∙ (ap (λ (o : Snapshot). contracted (opened_of o) (numbered_comps o.graph s.listing.comps) s.listing.pairs) same ∙ ap (λ (z : Listing). contracted (opened_of out) (numbered_comps out.graph z.comps) z.pairs) same_listing))
+  stands : DriverStands f.progress.view index (contracted (opened_of out) (numbered_comps out.graph listing.comps) s.heavy listing.pairs) h.seen
+  stands = stands_on f index (contracted (opened_of out) (numbered_comps out.graph listing.comps) s.heavy listing.pairs) h l
+      (s.stands ∙ (ap (λ (o : Snapshot). contracted (opened_of o) (numbered_comps o.graph s.listing.comps) s.heavy s.listing.pairs) same ∙ ap (λ (z : Listing). contracted (opened_of out) (numbered_comps out.graph z.comps) s.heavy z.pairs) same_listing))
 
-  by_listing : IsListedBy out.graph listing h.seen (numbered_comps out.graph listing.comps) listing.pairs
-  by_listing = record { cycle = s.cycle.cycle; opened = s.cycle.opened; graph = subst (λ (o : Snapshot). IsDeadGraph h.seen s.cycle.cycle.dead o.graph) same s.cycle.graph; comps_same = refl; pairs_same = refl }
+  by_listing : IsListedBy out.graph listing h.seen (numbered_comps out.graph listing.comps) s.heavy listing.pairs
+  by_listing = record { cycle = s.cycle.cycle; opened = s.cycle.opened; graph = subst (λ (o : Snapshot). IsDeadGraph h.seen s.cycle.cycle.dead o.graph) same s.cycle.graph; comps_same = refl; heavy_same = s.heavy_count ∙ ap (λ (z : Listing). z.heavy) same_listing; pairs_same = refl }
 
   is_cycle : (opened_of out).cycle ≡ f.progress.cycle.0
   is_cycle = ap (λ (o : Snapshot). o.cycle.0) (sym same) ∙ ap (λ (k : Cycle). k.0) s.cycle.same
 
   pub may_mirror : MayMirrorCycle f.progress.view index f.progress.cycle.0 out.number out.graph listing
-  may_mirror = record { opened = opened_of out; comps = numbered_comps out.graph listing.comps; pairs = listing.pairs; seen = h.seen; stands = stands; listed = by_listing; same_cycle = is_cycle; same_snap = refl }
+  may_mirror = record { opened = opened_of out; comps = numbered_comps out.graph listing.comps; heavy = s.heavy; pairs = listing.pairs; seen = h.seen; stands = stands; listed = by_listing; same_cycle = is_cycle; same_snap = refl }
 
   pub mirrored_now : (new : View) (refs n : ℕ) → MakesMirror f.progress.view new index f.progress.cycle out.number out.graph listing refs n
       → Steps f.progress (record f { progress = record f.progress { view = new; phase = at.Mirrored } }) index (word.Mirror ∷ []) (says.Refs refs)
   mirrored_now new refs n makes =
-      let w = makes (opened_of out) (numbered_comps out.graph listing.comps) listing.pairs h.seen stands by_listing is_cycle refl in
+      let w = makes (opened_of out) (numbered_comps out.graph listing.comps) s.heavy listing.pairs h.seen stands by_listing is_cycle refl in
       let next : Fields = record f { progress = record f.progress { view = new; phase = at.Mirrored } } in
       let stood : DriverStands new index (weakening (opened_of s.cycle.snapshot) 0 false false) h.seen = subst (λ (o : Snapshot). DriverStands new index (weakening (opened_of o) 0 false false) h.seen) (sym same) w.stands in
       record {
@@ -58,6 +58,6 @@ module _ (f : Fields) (index : ℕ) (h : KnowsItsStand f) (e : f.progress.phase 
         };
         line = line_below new index (weakening (opened_of s.cycle.snapshot) 0 false false) h.seen stood;
         answers = ran_one f.progress (record f.progress { view = new; phase = at.Mirrored }) index word.Mirror (driver_entry n index (op.Mirror f.progress.cycle) (says.Refs refs) (Some out.number))
-            (makes_one f.progress.view new (contracted (opened_of out) (numbered_comps out.graph listing.comps) listing.pairs) h.seen _ (references_of w.told) w.makes) refl refl refl refl (record { each = (tt, tt); count = refl })
+            (makes_one f.progress.view new (contracted (opened_of out) (numbered_comps out.graph listing.comps) s.heavy listing.pairs) h.seen _ (references_of w.told) w.makes) refl refl refl refl (record { each = (tt, tt); count = refl })
             (at.Mirrored, ap (λ p. next_phase p word.Mirror) e, refl);
       }

@@ -1,5 +1,5 @@
 -- The snapshot and the contraction: what they ask for is what the driver keeps, and what they leave it keeps again.
-use Rattle.std.proofs.Common.{◌≡◌, ℕ, ◌≤◌, [], ◌∷◌, length, Some, None, refl, sym, ap, ◌∙◌, subst}
+use Rattle.std.proofs.Common.{◌≡◌, ℕ, ◌+◌, ◌≤◌, List, [], ◌∷◌, length, map, Some, None, refl, sym, ap, ◌∙◌, subst}
 use Rattle.std.proofs.lemmas.List.{length-map}
 use Rattle.std.proofs.lemmas.Option.{same_Some}
 use Rattle.joint_model.specs.declared.names.Phase.TheVariants as at
@@ -20,7 +20,7 @@ use Rattle.managed_side.specs.declared.opening.Opened.{Opened as Snapshot}
 use Rattle.order_table.specs.declared.views.View.{View}
 use Rattle.joint_history.specs.Driven.{DriverRests, HasContraction, MakesContraction, MayContractCycle, driver_entry}
 use Rattle.joint_history.specs.DriverSnaps.{MakesSnapshot}
-use Rattle.joint_history.specs.DriverMirrors.{numbered_comps}
+use Rattle.joint_history.specs.DriverMirrors.{number_at, numbered_comps}
 use Rattle.bridge_cycle.specs.Held.{Fields, HasCycle, KnowsItsStand, IsCycleSnapped, opened_of}
 use Rattle.bridge_cycle.specs.Progress.{line_of}
 use Rattle.bridge_cycle.proofs.Candidates.{are_candidates}
@@ -71,18 +71,24 @@ pub the_snapshot : (f : Fields) (seen : Managed) (c : HasCycle f seen) (out : Sn
 the_snapshot f seen c out e = same_Some _ _ (sym c.there ∙ e)
 
 module _ (f : Fields) (index : ℕ) (h : KnowsItsStand f) (e : f.progress.phase ≡ at.Snapped) (l : line_of f.progress ≤ index) (out : Snapshot) (there : f.snapshot ≡ Some out) (listing : Listing)
-    (exact : IsContraction (IsBridgeNode out.graph.nodes) (NodeLeads out.graph.edges) listing.comps listing.pairs) (sccs xrefs : ℕ) (components : sccs ≡ length listing.comps) (references : xrefs ≡ length listing.pairs) where
+    (exact : (heavy : List ℕ) × (length heavy ≡ listing.heavy) × IsContraction (IsBridgeNode out.graph.nodes) (NodeLeads out.graph.edges) listing.comps heavy listing.pairs) (sccs xrefs : ℕ) (components : sccs ≡ length listing.comps + listing.heavy) (references : xrefs ≡ length listing.pairs) where
   s : IsCycleSnapped f h.stand h.seen
   s = stands_in f at.Snapped h e
 
-  contraction_is : HasContraction h.seen sccs xrefs (numbered_comps s.cycle.snapshot.graph listing.comps) listing.pairs
+  abbrev heavy : List ℕ
+  heavy = map (number_at s.cycle.snapshot.graph) exact.0
+
+  heavy_count : length heavy ≡ listing.heavy
+  heavy_count = length-map exact.0 (number_at s.cycle.snapshot.graph) ∙ exact.1
+
+  contraction_is : HasContraction h.seen sccs xrefs (numbered_comps s.cycle.snapshot.graph listing.comps) heavy listing.pairs
   contraction_is = record {
     exact = λ c q.
         let same : s.cycle.cycle ≡ c = same_Some _ _ (sym s.cycle.opened ∙ q) in
-        let found = subst (λ (o : Snapshot). IsContraction (IsBridgeNode o.graph.nodes) (NodeLeads o.graph.edges) listing.comps listing.pairs) (sym (the_snapshot f h.seen s.cycle out there)) exact in
-        subst (λ (k : OpenCycle). IsDeadContraction h.seen k.dead (numbered_comps s.cycle.snapshot.graph listing.comps) listing.pairs) same
-        (a_graphs_contraction h.seen s.cycle.cycle.dead s.cycle.snapshot.graph listing.comps listing.pairs s.cycle.kept s.cycle.part s.cycle.graph found);
-    components = components ∙ sym (length-map listing.comps _);
+        let found = subst (λ (o : Snapshot). IsContraction (IsBridgeNode o.graph.nodes) (NodeLeads o.graph.edges) listing.comps exact.0 listing.pairs) (sym (the_snapshot f h.seen s.cycle out there)) exact.2 in
+        subst (λ (k : OpenCycle). IsDeadContraction h.seen k.dead (numbered_comps s.cycle.snapshot.graph listing.comps) heavy listing.pairs) same
+        (a_graphs_contraction h.seen s.cycle.cycle.dead s.cycle.snapshot.graph listing.comps exact.0 listing.pairs s.cycle.kept s.cycle.part s.cycle.graph found);
+    components = components ∙ (ap (λ n. n + listing.heavy) (sym (length-map listing.comps _)) ∙ ap (λ n. length (numbered_comps s.cycle.snapshot.graph listing.comps) + n) (sym heavy_count));
     references = references;
   }
 
@@ -91,6 +97,7 @@ module _ (f : Fields) (index : ℕ) (h : KnowsItsStand f) (e : f.progress.phase 
     opened = opened_of s.cycle.snapshot;
     seen = h.seen;
     comps = numbered_comps s.cycle.snapshot.graph listing.comps;
+    heavy = heavy;
     pairs = listing.pairs;
     stands = stands_on f index (snapped (opened_of s.cycle.snapshot)) h l s.stands;
     contraction = contraction_is;
@@ -101,23 +108,25 @@ module _ (f : Fields) (index : ℕ) (h : KnowsItsStand f) (e : f.progress.phase 
   contracted_now new stock n none room makes =
       let o = opened_of s.cycle.snapshot in
       let comps = numbered_comps s.cycle.snapshot.graph listing.comps in
-      let w = makes o h.seen comps listing.pairs (stands_on f index (snapped o) h l s.stands) contraction_is in
+      let w = makes o h.seen comps heavy listing.pairs (stands_on f index (snapped o) h l s.stands) contraction_is in
       let next : Fields = record f { progress = record f.progress { view = new; phase = at.Contracted }; listing = Some listing; alive = Some stock } in
       record {
         held = record {
-          stand = contracted o comps listing.pairs;
+          stand = contracted o comps heavy listing.pairs;
           seen = h.seen;
-          stands = at_own_line new index (contracted o comps listing.pairs) h.seen w.1;
+          stands = at_own_line new index (contracted o comps heavy listing.pairs) h.seen w.1;
           at = record {
             cycle = cycle_on f next h.seen refl refl refl s.cycle;
             room = record { answers = stock; there = refl; none = none; room = room };
             listing = listing;
             listed = refl;
+            heavy = heavy;
+            heavy_count = heavy_count;
             stands = refl;
           };
         };
-        line = line_below new index (contracted o comps listing.pairs) h.seen w.1;
+        line = line_below new index (contracted o comps heavy listing.pairs) h.seen w.1;
         answers = ran_one f.progress (record f.progress { view = new; phase = at.Contracted }) index word.Contract (driver_entry n index (op.Contract record { 0 = o.cycle }) (says.Sccs sccs xrefs) None)
-            (makes_one f.progress.view new (snapped o) h.seen _ (contraction_of comps listing.pairs) w.0) refl refl refl refl (record { each = (tt, tt); count = refl })
+            (makes_one f.progress.view new (snapped o) h.seen _ (contraction_of comps heavy listing.pairs) w.0) refl refl refl refl (record { each = (tt, tt); count = refl })
             (at.Contracted, ap (λ p. next_phase p word.Contract) e, refl);
       }

@@ -14,11 +14,11 @@ use Rattle.joint_model.specs.declared.lines.Act.TheVariants as act
 use Rattle.joint_model.specs.declared.events.Entry.{Entry}
 use Rattle.joint_model.specs.declared.events.Op.TheVariants as op
 use Rattle.joint_model.specs.declared.events.Reply.{Reply}
-use Rattle.joint_model.specs.Control.{Stand, idle, snapped, contracted, weakening, marked, restoring, restored, candidates_of, IsAtRest, IsPhaseOf}
+use Rattle.joint_model.specs.Control.{Stand, idle, snapped, contracted, weakening, marked, restoring, restored, IsAtRest, IsPhaseOf}
 use Rattle.joint_model.specs.Control.{last_line as control_line}
 use Rattle.joint_model.specs.Lines.{IsDriver}
 use Rattle.joint_model.specs.Listed.{answers_of}
-use Rattle.joint_model.specs.Managed.{Managed, OpenCycle}
+use Rattle.joint_model.specs.Managed.{Managed, OpenCycle, candidates_of}
 use Rattle.joint_model.specs.ManagedReplay.{IsRefusedIn, refusal_to, open_reply}
 use Rattle.joint_model.specs.Phases.{AreRefusal, NamesCycle, NamesPhase, next_phase, told_by}
 use Rattle.joint_model.specs.Told.{nothing, phase_of}
@@ -67,7 +67,7 @@ rest_at at.Restored f stand seen a = subst (λ (s : Stand). IsAtRest s (length (
 on_at : (p : Phase) (f : Fields) (new : View) (stand : Stand) (seen : Managed) → IsAt p f stand seen → IsAt p (knowing f new) stand seen
 on_at at.Idle f new stand seen a = a
 on_at at.Snapped f new stand seen a = record { cycle = cycle_on f (knowing f new) seen refl refl refl a.cycle; stands = a.stands }
-on_at at.Contracted f new stand seen a = record { cycle = cycle_on f (knowing f new) seen refl refl refl a.cycle; room = room_on f (knowing f new) refl refl a.room; listing = a.listing; listed = a.listed; stands = a.stands }
+on_at at.Contracted f new stand seen a = record { cycle = cycle_on f (knowing f new) seen refl refl refl a.cycle; room = room_on f (knowing f new) refl refl a.room; listing = a.listing; listed = a.listed; heavy = a.heavy; heavy_count = a.heavy_count; stands = a.stands }
 on_at at.Mirrored f new stand seen a = record { cycle = cycle_on f (knowing f new) seen refl refl refl a.cycle; room = room_on f (knowing f new) refl refl a.room; stands = a.stands }
 on_at at.Weakened f new stand seen a = record { cycle = cycle_on f (knowing f new) seen refl refl refl a.cycle; room = room_on f (knowing f new) refl refl a.room; weakened = a.weakened; stands = a.stands }
 on_at at.Marked f new stand seen a = record { cycle = cycle_on f (knowing f new) seen refl refl refl a.cycle; room = room_on f (knowing f new) refl refl a.room; stands = a.stands }
@@ -84,8 +84,8 @@ still_at at.Snapped f new stand next seen a still =
     let is : next ≡ snapped (opened_of a.cycle.snapshot) = subst (λ (s : Stand). IsStillAt s at.Snapped next) a.stands still in
     record { cycle = cycle_on f (knowing f new) seen refl refl refl a.cycle; stands = is }
 still_at at.Contracted f new stand next seen a still =
-    let is : next ≡ contracted (opened_of a.cycle.snapshot) (numbered_comps a.cycle.snapshot.graph a.listing.comps) a.listing.pairs = subst (λ (s : Stand). IsStillAt s at.Contracted next) a.stands still in
-    record { cycle = cycle_on f (knowing f new) seen refl refl refl a.cycle; room = room_on f (knowing f new) refl refl a.room; listing = a.listing; listed = a.listed; stands = is }
+    let is : next ≡ contracted (opened_of a.cycle.snapshot) (numbered_comps a.cycle.snapshot.graph a.listing.comps) a.heavy a.listing.pairs = subst (λ (s : Stand). IsStillAt s at.Contracted next) a.stands still in
+    record { cycle = cycle_on f (knowing f new) seen refl refl refl a.cycle; room = room_on f (knowing f new) refl refl a.room; listing = a.listing; listed = a.listed; heavy = a.heavy; heavy_count = a.heavy_count; stands = is }
 still_at at.Mirrored f new stand next seen a still =
     let is : next ≡ weakening (opened_of a.cycle.snapshot) 0 false false = subst (λ (s : Stand). IsStillAt s at.Mirrored next) a.stands still in
     record { cycle = cycle_on f (knowing f new) seen refl refl refl a.cycle; room = room_on f (knowing f new) refl refl a.room; stands = is }

@@ -1,15 +1,15 @@
 -- A graph whose nodes are renumbered, each by a number of its own that rises with it, has the same contraction under the new numbers. Walks go over node
--- by node in both directions: an edge leads only between nodes, and each edge of the renumbered graph is that of two nodes.
-use Rattle.std.proofs.Common.{◌≡◌, ◌↔◌, ⊎_elim, ℕ, zero, suc, ◌<◌, ◌≤◌, List, [], ◌∷◌, ◌++◌, length, map, Some, refl, sym, ap, ◌∙◌, subst, arith}
+-- by node in both directions: an edge leads only between nodes, and each edge of the renumbered graph is that of two nodes. So the components that meet in a
+-- class are the same, and a class is heavy under the new numbers where it is under the old ones.
+use Rattle.std.proofs.Common.{◌≡◌, ◌↔◌, ⊎_elim, ℕ, zero, suc, ◌+◌, ◌*◌, ◌<◌, ◌≤◌, length-append, List, [], ◌∷◌, ◌++◌, length, map, Some, refl, sym, ap, ◌∙◌, subst, arith}
 use Rattle.std.specs.Prelude.{All, Contains, slice_get, slice_index}
 use Rattle.std.proofs.lemmas.Bool.{cases_lt}
-use Rattle.std.proofs.lemmas.List.{length-map}
-use Rattle.std.proofs.lemmas.List.Elements.{All-contains, All-head, All-tail}
-use Rattle.std.proofs.lemmas.Option.{same_Some}
+use Rattle.std.proofs.lemmas.List.{length-map, map-append}
+use Rattle.std.proofs.lemmas.List.Elements.{All-contains, All-head, All-tail, Contains-append_cases}
+use Rattle.std.proofs.lemmas.Option.{same_Some, slice_get-get_or}
 use Rattle.joint_model.specs.Walks.{Walks, Reaches, Mutual}
-use Rattle.joint_model.specs.Components.{IsContraction, IsCanonical, IsCrossReference, IsMember, IsPlainClass, Rises, first_at, first_of}
-use Rattle.joint_model.proofs.Members.{All-members, Contains-cons_cases, Contains-here, Contains-map, Contains-map_cases, Contains-nil, Contains-there}
-use Rattle.joint_laws.proofs.Circles.{first-there}
+use Rattle.joint_model.specs.Components.{IsContraction, IsCanonical, IsCrossReference, IsFirst, IsHeavy, IsLeast, IsMember, IsPlainClass, IsUnreported, Leads, LeadsIn, LeadsOut, Rises, first_of, stand_at}
+use Rattle.joint_model.proofs.Members.{All-members, Contains-at, Contains-cons_cases, Contains-here, Contains-map, Contains-map_cases, Contains-nil, Contains-there}
 
 pub get_map : {A B : Type 0} (v : A → B) (xs : List A) (i : ℕ) (x : A) → slice_get xs i ≡ Some x → slice_get (map v xs) i ≡ Some (v x)
 get_map v [] i x e = absurd (cc)
@@ -122,42 +122,113 @@ module _ (node bridge bridge' : ℕ → Type 0) (edge edge' : ℕ → ℕ → Ty
       (λ d. Contains-there z x (xs ++ y ∷ []) (in_front xs y z d))
       (Contains-cons_cases x xs z c)
 
-  cross_on : (a b : ℕ) → node a → node b → IsCrossReference bridge edge a b → IsCrossReference bridge' edge' (f a) (f b)
-  cross_on a b i j c =
+  -- walks between classes past rows that may be passed
+  leads_on : (P Q : ℕ → Type 0) → ((z : ℕ) → node z → P z → Q (f z)) → (a b : ℕ) → node a → node b → Leads edge P a b → Leads edge' Q (f a) (f b)
+  leads_on P Q on a b i j c =
       let from_in = walk_end a c.leaves.there.rows c.from i c.leaves.there.walk in
       let to_in = walk_end b c.arrives.there.rows c.to j c.arrives.there.walk in
       record {
-        apart = λ m. c.apart (mutual_back a b i j m);
         from = f c.from;
         between = map f c.between;
         to = f c.to;
         leaves = mutual_on a c.from i from_in c.leaves;
         arrives = mutual_on b c.to j to_in c.arrives;
         walk = subst (λ (zs : List ℕ). Walks edge' (f c.from) zs (f c.to)) (snoc_map f c.between c.to) (walk_on c.from (c.between ++ c.to ∷ []) c.to from_in c.walk);
-        plain = All-members (IsPlainClass bridge' edge') (map f c.between) (λ y is.
+        plain = All-members Q (map f c.between) (λ y is.
             let t = Contains-map_cases f c.between y is in
             let there = walk_in c.from (c.between ++ c.to ∷ []) c.to from_in c.walk t.0 (in_front c.between c.to t.0 t.1) in
-            subst (IsPlainClass bridge' edge') t.2 (plain_on t.0 there (All-contains (IsPlainClass bridge edge) c.between t.0 c.plain t.1)));
+            subst Q t.2 (on t.0 there (All-contains P c.between t.0 c.plain t.1)));
       }
 
-  cross_back : (a b : ℕ) → node a → node b → IsCrossReference bridge' edge' (f a) (f b) → IsCrossReference bridge edge a b
-  cross_back a b i j c =
+  leads_back : (P Q : ℕ → Type 0) → ((z : ℕ) → node z → Q (f z) → P z) → (a b : ℕ) → node a → node b → Leads edge' Q (f a) (f b) → Leads edge P a b
+  leads_back P Q back a b i j c =
       let u = walk_back a c.leaves.there.rows c.from i c.leaves.there.walk in
       let v = walk_back b c.arrives.there.rows c.to j c.arrives.there.walk in
       let p = path_back u.0 c.between c.to c.to u.1 (subst (λ (z : ℕ). Walks edge' z (c.between ++ c.to ∷ []) c.to) (sym u.2) c.walk) in
-      let last : p.1 ≡ v.0 = one p.1 v.0 p.2 v.1 (p.3 ∙ sym v.2) in
       record {
-        apart = λ m. c.apart (mutual_on a b i j m);
         from = u.0;
         between = p.0;
         to = p.1;
         leaves = mutual_back a u.0 i u.1 (subst (λ (z : ℕ). Mutual edge' (f a) z) (sym u.2) c.leaves);
         arrives = mutual_back b p.1 j p.2 (subst (λ (z : ℕ). Mutual edge' (f b) z) (sym p.3) c.arrives);
         walk = p.5;
-        plain = All-members (IsPlainClass bridge edge) p.0 (λ z is.
+        plain = All-members P p.0 (λ z is.
             let there = walk_in u.0 (p.0 ++ p.1 ∷ []) p.1 u.1 p.5 z (in_front p.0 p.1 z is) in
-            plain_back z there (All-contains (IsPlainClass bridge' edge') c.between (f z) c.plain (subst (λ (zs : List ℕ). Contains zs (f z)) p.4 (Contains-map f p.0 z is))));
+            back z there (All-contains Q c.between (f z) c.plain (subst (λ (zs : List ℕ). Contains zs (f z)) p.4 (Contains-map f p.0 z is))));
       }
+
+  -- where a walk from a node's class leads is a node
+  led_in : (P : ℕ → Type 0) (a b : ℕ) → node a → Leads edge P a b → node b
+  led_in P a b i c =
+      let from_in = walk_end a c.leaves.there.rows c.from i c.leaves.there.walk in
+      let to_in = walk_end c.from (c.between ++ c.to ∷ []) c.to from_in c.walk in
+      walk_end c.to c.arrives.back.rows b to_in c.arrives.back.walk
+
+  led_from : (Q : ℕ → Type 0) (a b : ℕ) → node a → Leads edge' Q (f a) b → (x : ℕ) × node x × (f x ≡ b)
+  led_from Q a b i c =
+      let u = walk_back a c.leaves.there.rows c.from i c.leaves.there.walk in
+      let v = walk_back u.0 (c.between ++ c.to ∷ []) c.to u.1 (subst (λ (z : ℕ). Walks edge' z (c.between ++ c.to ∷ []) c.to) (sym u.2) c.walk) in
+      let w = walk_back v.0 c.arrives.back.rows b v.1 (subst (λ (z : ℕ). Walks edge' z c.arrives.back.rows b) (sym v.2) c.arrives.back.walk) in
+      (w.0, w.1, w.2)
+
+  -- the order is kept
+  more_on : (x y : ℕ) → node x → node y → x ≤ y → f x ≤ f y
+  more_on x y i j l = ⊎_elim
+      (λ (k : x < y). let w = r.rising x y i j k in omega (arith, w))
+      (λ (h : y ≤ x). (let e : x ≡ y = omega (arith, l, h) in let q = ap f e in omega (arith, q)))
+      (cases_lt x y)
+
+  more_back : (x y : ℕ) → node x → node y → f x ≤ f y → x ≤ y
+  more_back x y i j l = ⊎_elim
+      (λ (k : y < x). let w = r.rising y x j i k in absurd (omega (arith, w, l)))
+      (λ (h : x ≤ y). h)
+      (cases_lt y x)
+
+  least_on : (x : ℕ) → node x → IsLeast edge x → IsLeast edge' (f x)
+  least_on x i l y m =
+      let t = walk_back x m.there.rows y i m.there.walk in
+      subst (λ (z : ℕ). f x ≤ z) t.2 (more_on x t.0 i t.1 (l t.0 (mutual_back x t.0 i t.1 (subst (λ (z : ℕ). Mutual edge' (f x) z) (sym t.2) m))))
+
+  least_back : (x : ℕ) → node x → IsLeast edge' (f x) → IsLeast edge x
+  least_back x i l y m =
+      let j = walk_end x m.there.rows y i m.there.walk in
+      more_back x y i j (l (f y) (mutual_on x y i j m))
+
+  first_on : (b : ℕ) → IsFirst bridge edge b → IsFirst bridge' edge' (f b)
+  first_on b q = record {
+    member = r.bridge_on b q.member;
+    least = λ y is m.
+        let t = r.bridge_from y is in
+        let i = r.bridge_in b q.member in
+        subst (λ (z : ℕ). f b ≤ z) t.2
+        (more_on b t.0 i t.1 (q.least t.0 (r.bridge_back t.0 t.1 (subst bridge' (sym t.2) is)) (mutual_back b t.0 i t.1 (subst (λ (z : ℕ). Mutual edge' (f b) z) (sym t.2) m))));
+  }
+
+  first_back : (b : ℕ) → node b → IsFirst bridge' edge' (f b) → IsFirst bridge edge b
+  first_back b i q = record {
+    member = r.bridge_back b i q.member;
+    least = λ y is m. (let j = r.bridge_in y is in more_back b y i j (q.least (f y) (r.bridge_on y is) (mutual_on b y i j m)));
+  }
+
+  rise_back : (xs : List ℕ) → ((x : ℕ) → Contains xs x → node x) → Rises (map f xs) → Rises xs
+  rise_back [] i s = tt
+  rise_back (x ∷ xs) i s = (
+    All-members (λ z. x < z) xs (λ z c.
+        let l = All-contains (λ z. f x < z) (map f xs) (f z) s.0 (Contains-map f xs z c) in
+        ⊎_elim (λ (k : x < z). k) (λ (h : z ≤ x). let w = more_on z x (i z (Contains-there z x xs c)) (i x (Contains-here x xs)) h in absurd (omega (arith, w, l))) (cases_lt x z)),
+    rise_back xs (λ z c. i z (Contains-there z x xs c)) s.1,
+  )
+
+  -- bridge nodes under the new numbers are those of some
+  bridges_back : (ys : List ℕ) → All bridge' ys → (xs : List ℕ) × ((x : ℕ) → Contains xs x → node x) × (map f xs ≡ ys)
+  bridges_back [] a = ([], (λ x c. absurd (Contains-nil x c)), refl)
+  bridges_back (y ∷ ys) a =
+      let t = r.bridge_from y (All-head bridge' y ys a) in
+      let rest = bridges_back ys (All-tail bridge' y ys a) in (
+        t.0 ∷ rest.0,
+        (λ x c. ⊎_elim (λ (e : t.0 ≡ x). subst node e t.1) (λ d. rest.1 x d) (Contains-cons_cases t.0 rest.0 x c)),
+        ap (λ z. z ∷ map f rest.0) t.2 ∙ ap (λ zs. y ∷ zs) rest.2,
+      )
 
   -- lists
   rise_on : (xs : List ℕ) → ((x : ℕ) → Contains xs x → node x) → Rises xs → Rises (map f xs)
@@ -169,7 +240,81 @@ module _ (node bridge bridge' : ℕ → Type 0) (edge edge' : ℕ → ℕ → Ty
     rise_on xs (λ z c. i z (Contains-there z x xs c)) s.1,
   )
 
-  module _ (comps : List (List ℕ)) (pairs : List (ℕ × ℕ)) (k : IsContraction bridge edge comps pairs) where
+  -- heavy classes
+  heavy_node : (x : ℕ) → IsHeavy bridge edge x → node x
+  heavy_node x h = by h.ins h.lead_in h.some_in
+    where
+      by : (bs : List ℕ) → All (LeadsIn bridge edge x) bs → 3 ≤ length bs → node x
+      by [] a l = absurd (omega (arith, l))
+      by (b ∷ bs) a l = (let w = All-head (LeadsIn bridge edge x) b bs a in led_in (IsPlainClass bridge edge) b x (r.bridge_in b w.0.member) w.1)
+
+  heavy_from : (y : ℕ) → IsHeavy bridge' edge' y → (x : ℕ) × node x × (f x ≡ y)
+  heavy_from y h = by h.ins h.lead_in h.some_in
+    where
+      by : (bs : List ℕ) → All (LeadsIn bridge' edge' y) bs → 3 ≤ length bs → (x : ℕ) × node x × (f x ≡ y)
+      by [] a l = absurd (omega (arith, l))
+      by (b ∷ bs) a l =
+          let w = All-head (LeadsIn bridge' edge' y) b bs a in
+          let t = r.bridge_from b w.0.member in
+          led_from (IsPlainClass bridge' edge') t.0 y t.1 (subst (λ (z : ℕ). Leads edge' (IsPlainClass bridge' edge') z y) (sym t.2) w.1)
+
+  heavy_on : (x : ℕ) → node x → IsHeavy bridge edge x → IsHeavy bridge' edge' (f x)
+  heavy_on x i h = record {
+    plain = plain_on x i h.plain;
+    ins = map f h.ins;
+    outs = map f h.outs;
+    ins_rise = rise_on h.ins (λ b c. r.bridge_in b (All-contains (LeadsIn bridge edge x) h.ins b h.lead_in c).0.member) h.ins_rise;
+    outs_rise = rise_on h.outs (λ b c. r.bridge_in b (All-contains (LeadsOut bridge edge x) h.outs b h.lead_out c).0.member) h.outs_rise;
+    lead_in = All-members (LeadsIn bridge' edge' (f x)) (map f h.ins) (λ y c.
+        let t = Contains-map_cases f h.ins y c in
+        let w = All-contains (LeadsIn bridge edge x) h.ins t.0 h.lead_in t.1 in
+        subst (LeadsIn bridge' edge' (f x)) t.2 (first_on t.0 w.0, leads_on (IsPlainClass bridge edge) (IsPlainClass bridge' edge') plain_on t.0 x (r.bridge_in t.0 w.0.member) i w.1));
+    lead_out = All-members (LeadsOut bridge' edge' (f x)) (map f h.outs) (λ y c.
+        let t = Contains-map_cases f h.outs y c in
+        let w = All-contains (LeadsOut bridge edge x) h.outs t.0 h.lead_out t.1 in
+        subst (LeadsOut bridge' edge' (f x)) t.2 (first_on t.0 w.0, leads_on (IsPlainClass bridge edge) (IsPlainClass bridge' edge') plain_on x t.0 i (r.bridge_in t.0 w.0.member) w.1));
+    some_in = (let e = length-map h.ins f in let l = h.some_in in omega (arith, e, l));
+    some_out = (let e = length-map h.outs f in let l = h.some_out in omega (arith, e, l));
+    many = subst (λ (n : ℕ). 60 ≤ n * length (map f h.outs)) (sym (length-map h.ins f)) (subst (λ (n : ℕ). 60 ≤ length h.ins * n) (sym (length-map h.outs f)) h.many);
+  }
+
+  heavy_back : (x : ℕ) → node x → IsHeavy bridge' edge' (f x) → IsHeavy bridge edge x
+  heavy_back x i h =
+      let ins = bridges_back h.ins (All-members bridge' h.ins (λ b c. (All-contains (LeadsIn bridge' edge' (f x)) h.ins b h.lead_in c).0.member)) in
+      let outs = bridges_back h.outs (All-members bridge' h.outs (λ b c. (All-contains (LeadsOut bridge' edge' (f x)) h.outs b h.lead_out c).0.member)) in
+      let in_count : length h.ins ≡ length ins.0 = sym (ap length ins.2) ∙ length-map ins.0 f in
+      let out_count : length h.outs ≡ length outs.0 = sym (ap length outs.2) ∙ length-map outs.0 f in
+      record {
+        plain = plain_back x i h.plain;
+        ins = ins.0;
+        outs = outs.0;
+        ins_rise = rise_back ins.0 ins.1 (subst Rises (sym ins.2) h.ins_rise);
+        outs_rise = rise_back outs.0 outs.1 (subst Rises (sym outs.2) h.outs_rise);
+        lead_in = All-members (LeadsIn bridge edge x) ins.0 (λ b c.
+            let w = All-contains (LeadsIn bridge' edge' (f x)) h.ins (f b) h.lead_in (subst (λ (zs : List ℕ). Contains zs (f b)) ins.2 (Contains-map f ins.0 b c)) in
+            (first_back b (ins.1 b c) w.0, leads_back (IsPlainClass bridge edge) (IsPlainClass bridge' edge') plain_back b x (ins.1 b c) i w.1));
+        lead_out = All-members (LeadsOut bridge edge x) outs.0 (λ b c.
+            let w = All-contains (LeadsOut bridge' edge' (f x)) h.outs (f b) h.lead_out (subst (λ (zs : List ℕ). Contains zs (f b)) outs.2 (Contains-map f outs.0 b c)) in
+            (first_back b (outs.1 b c) w.0, leads_back (IsPlainClass bridge edge) (IsPlainClass bridge' edge') plain_back x b i (outs.1 b c) w.1));
+        some_in = (let l = h.some_in in omega (arith, in_count, l));
+        some_out = (let l = h.some_out in omega (arith, out_count, l));
+        many = subst (λ (n : ℕ). 60 ≤ n * length outs.0) in_count (subst (λ (n : ℕ). 60 ≤ length h.ins * n) out_count h.many);
+      }
+
+  -- cross-references lead past classes that aren't reported
+  unreported_on : (z : ℕ) → node z → IsUnreported bridge edge z → IsUnreported bridge' edge' (f z)
+  unreported_on z i u = record { plain = plain_on z i u.plain; light = λ h. u.light (heavy_back z i h) }
+
+  unreported_back : (z : ℕ) → node z → IsUnreported bridge' edge' (f z) → IsUnreported bridge edge z
+  unreported_back z i u = record { plain = plain_back z i u.plain; light = λ h. u.light (heavy_on z i h) }
+
+  cross_on : (a b : ℕ) → node a → node b → IsCrossReference bridge edge a b → IsCrossReference bridge' edge' (f a) (f b)
+  cross_on a b i j c = record { apart = λ m. c.apart (mutual_back a b i j m); leads = leads_on (IsUnreported bridge edge) (IsUnreported bridge' edge') unreported_on a b i j c.leads }
+
+  cross_back : (a b : ℕ) → node a → node b → IsCrossReference bridge' edge' (f a) (f b) → IsCrossReference bridge edge a b
+  cross_back a b i j c = record { apart = λ m. c.apart (mutual_on a b i j m); leads = leads_back (IsUnreported bridge edge) (IsUnreported bridge' edge') unreported_back a b i j c.leads }
+
+  module _ (comps : List (List ℕ)) (heavy : List ℕ) (pairs : List (ℕ × ℕ)) (k : IsContraction bridge edge comps heavy pairs) where
     member_in : (i x : ℕ) → IsMember comps i x → node x
     member_in i x m = r.bridge_in x ((k.members x).0 (i, m))
 
@@ -194,14 +339,11 @@ module _ (node bridge bridge' : ℕ → Type 0) (edge edge' : ℕ → ℕ → Ty
         let u = Contains-map_cases f t.0 y (subst (λ (zs : List ℕ). Contains zs y) (sym t.2) m.2) in
         (u.0, (t.0, t.1, u.1), u.2)
 
-    count : length (map (map f) comps) ≡ length comps
-    count = length-map comps (map f)
+    count : length (map (map f) comps) + length (map f heavy) ≡ length comps + length heavy
+    count = (let a = length-map comps (map f) in let b = length-map heavy f in omega (arith, a, b))
 
-    first_is : (i : ℕ) → i < length comps → first_at (map (map f) comps) i ≡ f (first_at comps i)
-    first_is i l = ap (λ zs. slice_index zs i) (map_firsts f comps k.canonical.some) ∙ index_map f (map first_of comps) i (let e = length-map comps first_of in omega (arith, e, l))
-
-    first_in : (i : ℕ) → i < length comps → node (first_at comps i)
-    first_in i l = member_in i (first_at comps i) (first-there comps i k.canonical.some l)
+    heavy_in : (x : ℕ) → Contains heavy x → node x
+    heavy_in x c = heavy_node x ((k.heavies x).0 c).0
 
     firsts_in : (x : ℕ) → Contains (map first_of comps) x → node x
     firsts_in x c =
@@ -211,6 +353,34 @@ module _ (node bridge bridge' : ℕ → Type 0) (edge edge' : ℕ → ℕ → Ty
         head : (m : List ℕ) → 0 < length m → Contains m (first_of m)
         head [] l = absurd (omega arith)
         head (x ∷ m) l = Contains-here x m
+
+    -- what stands for what is reported
+    within_stands : (i : ℕ) → i < length comps + length heavy → i < length (map first_of comps ++ heavy)
+    within_stands i l = (let a = length-append (map first_of comps) heavy in let b = length-map comps first_of in omega (arith, a, b, l))
+
+    stand_is : (i : ℕ) → i < length comps + length heavy → stand_at (map (map f) comps) (map f heavy) i ≡ f (stand_at comps heavy i)
+    stand_is i l =
+        ap (λ (zs : List ℕ). slice_index (zs ++ map f heavy) i) (map_firsts f comps k.canonical.some)
+        ∙ (ap (λ (zs : List ℕ). slice_index zs i) (sym (map-append f (map first_of comps) heavy)) ∙ index_map f (map first_of comps ++ heavy) i (within_stands i l))
+
+    stand_in : (i : ℕ) → i < length comps + length heavy → node (stand_at comps heavy i)
+    stand_in i l = ⊎_elim
+        (λ c. firsts_in (stand_at comps heavy i) c)
+        (λ c. heavy_in (stand_at comps heavy i) c)
+        (Contains-append_cases (map first_of comps) heavy (stand_at comps heavy i) (Contains-at (map first_of comps ++ heavy) i (stand_at comps heavy i) (slice_get-get_or (map first_of comps ++ heavy) i 0 (within_stands i l))))
+
+    heavies_on : (y : ℕ) → Contains (map f heavy) y ↔ (IsHeavy bridge' edge' y × IsLeast edge' y)
+    heavies_on y = (
+      (λ c.
+          let t = Contains-map_cases f heavy y c in
+          let w = (k.heavies t.0).0 t.1 in
+          let i = heavy_node t.0 w.0 in
+          (subst (IsHeavy bridge' edge') t.2 (heavy_on t.0 i w.0), subst (IsLeast edge') t.2 (least_on t.0 i w.1))),
+      (λ w.
+          let t = heavy_from y w.0 in
+          subst (Contains (map f heavy)) t.2
+          (Contains-map f heavy t.0 ((k.heavies t.0).1 (heavy_back t.0 t.1 (subst (IsHeavy bridge' edge') (sym t.2) w.0), least_back t.0 t.1 (subst (IsLeast edge') (sym t.2) w.1))))),
+    )
 
     canonical_on : IsCanonical (map (map f) comps) pairs
     canonical_on = record {
@@ -237,26 +407,29 @@ module _ (node bridge bridge' : ℕ → Type 0) (edge edge' : ℕ → ℕ → Ty
         )
 
     references_on : (i j : ℕ) → Contains pairs (i, j)
-        ↔ ((i < length (map (map f) comps)) × (j < length (map (map f) comps)) × IsCrossReference bridge' edge' (first_at (map (map f) comps) i) (first_at (map (map f) comps) j))
+        ↔ ((i < length (map (map f) comps) + length (map f heavy)) × (j < length (map (map f) comps) + length (map f heavy))
+        × IsCrossReference bridge' edge' (stand_at (map (map f) comps) (map f heavy) i) (stand_at (map (map f) comps) (map f heavy) j))
     references_on i j = (
       (λ c.
           let w = (k.references i j).0 c in
           let a = w.0 in
           let b = w.1 in
-          let q = cross_on (first_at comps i) (first_at comps j) (first_in i a) (first_in j b) w.2 in (
+          let q = cross_on (stand_at comps heavy i) (stand_at comps heavy j) (stand_in i a) (stand_in j b) w.2 in (
             omega (arith, count, a),
             omega (arith, count, b),
-            subst (λ (z : ℕ). IsCrossReference bridge' edge' z (first_at (map (map f) comps) j)) (sym (first_is i a)) (subst (λ (z : ℕ). IsCrossReference bridge' edge' (f (first_at comps i)) z) (sym (first_is j b)) q),
+            subst (λ (z : ℕ). IsCrossReference bridge' edge' z (stand_at (map (map f) comps) (map f heavy) j)) (sym (stand_is i a)) (subst (λ (z : ℕ). IsCrossReference bridge' edge' (f (stand_at comps heavy i)) z) (sym (stand_is j b)) q),
           )),
       (λ w.
-          let a : i < length comps = (let l = w.0 in omega (arith, count, l)) in
-          let b : j < length comps = (let l = w.1 in omega (arith, count, l)) in
-          let q = subst (λ (z : ℕ). IsCrossReference bridge' edge' (f (first_at comps i)) z) (first_is j b) (subst (λ (z : ℕ). IsCrossReference bridge' edge' z (first_at (map (map f) comps) j)) (first_is i a) w.2) in
-          (k.references i j).1 (a, b, cross_back (first_at comps i) (first_at comps j) (first_in i a) (first_in j b) q)),
+          let a : i < length comps + length heavy = (let l = w.0 in omega (arith, count, l)) in
+          let b : j < length comps + length heavy = (let l = w.1 in omega (arith, count, l)) in
+          let q = subst (λ (z : ℕ). IsCrossReference bridge' edge' (f (stand_at comps heavy i)) z) (stand_is j b) (subst (λ (z : ℕ). IsCrossReference bridge' edge' z (stand_at (map (map f) comps) (map f heavy) j)) (stand_is i a) w.2) in
+          (k.references i j).1 (a, b, cross_back (stand_at comps heavy i) (stand_at comps heavy j) (stand_in i a) (stand_in j b) q)),
     )
 
-    pub contraction_renumbered : IsContraction bridge' edge' (map (map f) comps) pairs
+    pub contraction_renumbered : IsContraction bridge' edge' (map (map f) comps) (map f heavy) pairs
     contraction_renumbered = record {
+      heavy_rise = rise_on heavy heavy_in k.heavy_rise;
+      heavies = heavies_on;
       canonical = canonical_on;
       members = λ y. (
         (λ m. (let t = member_back m.0 y m.1 in subst bridge' t.2 (r.bridge_on t.0 ((k.members t.0).0 (m.0, t.1))))),

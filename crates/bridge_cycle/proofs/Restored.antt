@@ -1,13 +1,15 @@
 -- Restoring: what it asks for is what the driver keeps, and what it leaves the driver keeps again.
-use Rattle.std.proofs.Common.{◌≡◌, ℕ, ◌≤◌, Bool, List, [], ◌∷◌, ◌++◌, length, Some, None, refl, sym, ap, ◌∙◌, subst}
+use Rattle.std.proofs.Common.{◌≡◌, ℕ, ◌≤◌, List, [], ◌∷◌, ◌++◌, length, Option, Some, None, refl, sym, ap, ◌∙◌, subst}
 use Rattle.std.proofs.lemmas.Option.{same_Some}
 use Rattle.joint_model.specs.declared.names.Cycle.{Cycle}
+use Rattle.joint_model.specs.declared.names.HNum.{HNum}
 use Rattle.joint_model.specs.declared.names.Phase.TheVariants as at
 use Rattle.joint_model.specs.declared.names.PhaseWord.TheVariants as word
 use Rattle.joint_model.specs.declared.events.Entry.{Entry}
 use Rattle.joint_model.specs.declared.events.Op.TheVariants as op
 use Rattle.joint_model.specs.declared.events.Reply.TheVariants as says
-use Rattle.joint_model.specs.Control.{restoring, restored, candidates_of}
+use Rattle.joint_model.specs.Control.{restoring, restored}
+use Rattle.joint_model.specs.Managed.{candidates_of}
 use Rattle.joint_model.specs.Listed.{Answers as Stock, answers_of}
 use Rattle.joint_model.specs.Phases.{AreTimes, next_phase}
 use Rattle.joint_model.specs.Told.{nothing}
@@ -53,7 +55,7 @@ module _ (f : Fields) (index : ℕ) (h : KnowsItsStand f) (e : f.progress.phase 
     pub room_for_all : stock.room ≡ length (handles_of out.graph.nodes)
     room_for_all = ap (λ (a : Stock). a.room) (sym held_stock) ∙ (s.room.room ∙ sym count)
 
-  module _ (mid : View) (values : List Bool) (done : RestoresAll f.progress.view mid index out.graph.nodes (handles_of out.graph.nodes) values) where
+  module _ (mid : View) (values : List (Option HNum)) (done : RestoresAll f.progress.view mid index out.graph.nodes (handles_of out.graph.nodes) values) where
     w : Restores f.progress.view mid index (length (handles_of out.graph.nodes)) values (opened_of out) h.seen
     w = done (opened_of out) h.seen stands are
 
@@ -72,7 +74,7 @@ module _ (f : Fields) (index : ℕ) (h : KnowsItsStand f) (e : f.progress.phase 
         let v = makes (opened_of out) (answers_of values) h.seen w.stands all is_cycle in
         let clear : Entry = driver_entry n index (op.Clear f.progress.cycle) says.Ok None in
         let stood : DriverStands new index (restored (opened_of s.cycle.snapshot) (answers_of stock.values) n) h.seen =
-        subst (λ (bs : List Bool). DriverStands new index (restored (opened_of s.cycle.snapshot) (answers_of bs) n) h.seen) (sym is)
+        subst (λ (bs : List (Option HNum)). DriverStands new index (restored (opened_of s.cycle.snapshot) (answers_of bs) n) h.seen) (sym is)
         (subst (λ (o : Snapshot). DriverStands new index (restored (opened_of o) (answers_of values) n) h.seen) (sym same) v.1) in
         record {
           held = record {

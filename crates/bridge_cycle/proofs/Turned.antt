@@ -1,6 +1,6 @@
 -- Handles that are weakened or restored one after another: the next bridge node's handle is that of the next candidate, and one more entry comes after those
 -- before it.
-use Rattle.std.proofs.Common.{◌≡◌, ℕ, suc, ◌+◌, ◌≤◌, Bool, true, false, List, [], ◌∷◌, ◌++◌, length, take, drop, Some, None, refl, sym, ap, ◌∙◌, subst, arith, length-append}
+use Rattle.std.proofs.Common.{◌≡◌, ℕ, suc, ◌+◌, ◌≤◌, true, false, List, [], ◌∷◌, ◌++◌, length, take, drop, Option, Some, None, refl, sym, ap, ◌∙◌, subst, arith, length-append}
 use Rattle.std.specs.Prelude.{slice_get}
 use Rattle.std.specs.Option.{option_to_list}
 use Rattle.std.proofs.lemmas.Grind.{flat_map-append}
@@ -24,7 +24,7 @@ use Rattle.bridge_graph.specs.Handles.{handles_of}
 use Rattle.bridge_graph.specs.Parts.{HasNode}
 use Rattle.global_handles.specs.declared.Back.{Back}
 use Rattle.global_handles.specs.declared.Back.TheVariants.{Alive, Cleared}
-use Rattle.global_handles.specs.Rows.{is_alive}
+use Rattle.global_handles.specs.Rows.{back_of}
 use Rattle.handle_weaken.proofs.Turns.{done-none, done-some, left-none, left-some}
 use Rattle.order_table.specs.declared.views.View.{View}
 use Rattle.order_table.specs.Views.{known}
@@ -120,23 +120,23 @@ pub weakens_last : (old new : View) (index snap : ℕ) (nodes : List Node) (n : 
 weakens_last old new index snap nodes n e done = subst (λ (ns : List Node). WeakensAll old new index snap nodes (handles_of ns)) (take_all n nodes e) done
 
 -- restoring
-answer_back : (back : Back) (b : Bool) → b ≡ is_alive back → answer_in (reply_of back) ≡ answer_of b
-answer_back Alive b e = ap answer_of (sym e)
-answer_back Cleared b e = ap answer_of (sym e)
+answer_back : (back : Back) (b : Option HNum) → back_of b ≡ back → answer_in (reply_of back) ≡ answer_of b
+answer_back back (Some h) e = ap (λ (z : Back). answer_in (reply_of z)) (sym e)
+answer_back back None e = ap (λ (z : Back). answer_in (reply_of z)) (sym e)
 
 restore_tells : (back : Back) (c : ℕ) → told_by c (reply_of back) ≡ c
-restore_tells Alive c = refl
+restore_tells (Alive h) c = refl
 restore_tells Cleared c = refl
 
-answers_more : (values : List Bool) (b : Bool) → answers_of (values ++ b ∷ []) ≡ answers_of values ++ answer_of b ∷ []
+answers_more : (values : List (Option HNum)) (b : Option HNum) → answers_of (values ++ b ∷ []) ≡ answers_of values ++ answer_of b ∷ []
 answers_more [] b = refl
 answers_more (v ∷ values) b = ap (λ bs. answer_of v ∷ bs) (answers_more values b)
 
-pub answers_count : (values : List Bool) → length (answers_of values) ≡ length values
+pub answers_count : (values : List (Option HNum)) → length (answers_of values) ≡ length values
 answers_count [] = refl
 answers_count (v ∷ values) = ap suc (answers_count values)
 
-module _ (old mid : View) (index : ℕ) (nodes : List Node) (i : ℕ) (values : List Bool) where
+module _ (old mid : View) (index : ℕ) (nodes : List Node) (i : ℕ) (values : List (Option HNum)) where
   pub may_restore_next : (h : HNum) → HasNode nodes i (λ n. n.handle ≡ Some h) → MayRestoreAll old index nodes → RestoresAll old mid index nodes (handles_of (take i nodes)) values → MayRestoreHandle mid index h.0
   may_restore_next h at may done =
       let w = done may.opened may.seen may.stands may.candidates in
@@ -149,7 +149,7 @@ module _ (old mid : View) (index : ℕ) (nodes : List Node) (i : ℕ) (values : 
         next = may.candidates.each (length (answers_of values)) h (subst (λ (k : ℕ). slice_get (handles_of nodes) k ≡ Some h) (sym place) (next_place nodes i h at));
       }
 
-  pub restores_next : (new : View) (h : HNum) (back : Back) (b : Bool) (n : ℕ) → HasNode nodes i (λ n. n.handle ≡ Some h) → b ≡ is_alive back → RestoresAll old mid index nodes (handles_of (take i nodes)) values → MakesRestore mid new index h back n
+  pub restores_next : (new : View) (h : HNum) (back : Back) (b : Option HNum) (n : ℕ) → HasNode nodes i (λ n. n.handle ≡ Some h) → back_of b ≡ back → RestoresAll old mid index nodes (handles_of (take i nodes)) values → MakesRestore mid new index h back n
       → RestoresAll old new index nodes (handles_of (take (i + 1) nodes)) (values ++ b ∷ [])
   restores_next new h back b n at is done makes = λ o m stands are.
       let w = done o m stands are in
@@ -169,10 +169,10 @@ module _ (old mid : View) (index : ℕ) (nodes : List Node) (i : ℕ) (values : 
   pub restores_past : HasNode nodes i (λ n. n.handle ≡ None) → RestoresAll old mid index nodes (handles_of (take i nodes)) values → RestoresAll old mid index nodes (handles_of (take (i + 1) nodes)) values
   restores_past at done = subst (λ (hs : List HNum). RestoresAll old mid index nodes hs values) (sym (done-none nodes i at)) done
 
-pub restores_first : (v : View) (index : ℕ) (nodes : List Node) (values : List Bool) → values ≡ [] → RestoresAll v v index nodes (handles_of (take 0 nodes)) values
-restores_first v index nodes values none = subst (λ (bs : List Bool). RestoresAll v v index nodes (handles_of (take 0 nodes)) bs) (sym none) (λ o m stands are. record { entries = []; makes = times_none v index word.Restore; count = refl; stands = stands })
+pub restores_first : (v : View) (index : ℕ) (nodes : List Node) (values : List (Option HNum)) → values ≡ [] → RestoresAll v v index nodes (handles_of (take 0 nodes)) values
+restores_first v index nodes values none = subst (λ (bs : List (Option HNum)). RestoresAll v v index nodes (handles_of (take 0 nodes)) bs) (sym none) (λ o m stands are. record { entries = []; makes = times_none v index word.Restore; count = refl; stands = stands })
 
-pub restores_last : (old new : View) (index : ℕ) (nodes : List Node) (values : List Bool) (n : ℕ) → length nodes ≤ n → RestoresAll old new index nodes (handles_of (take n nodes)) values → RestoresAll old new index nodes (handles_of nodes) values
+pub restores_last : (old new : View) (index : ℕ) (nodes : List Node) (values : List (Option HNum)) (n : ℕ) → length nodes ≤ n → RestoresAll old new index nodes (handles_of (take n nodes)) values → RestoresAll old new index nodes (handles_of nodes) values
 restores_last old new index nodes values n e done = subst (λ (ns : List Node). RestoresAll old new index nodes (handles_of ns) values) (take_all n nodes e) done
 
 -- there is room for an answer of each handle that is left

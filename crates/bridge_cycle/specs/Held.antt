@@ -1,12 +1,12 @@
 -- What the driver keeps of its open cycle by its phase: where it stands by what it knows, and that the values are those of the cycle. What it has
 -- seen of the managed objects at the snapshot is the same until the cycle ends, since the dead part is frozen; and so are the graph, the candidates
 -- and the components.
-use Rattle.std.specs.Prelude.{◌≡◌, ℕ, Bool, false, [], length, Option, Some}
+use Rattle.std.specs.Prelude.{◌≡◌, ℕ, Bool, false, List, [], length, Option, Some}
 use Rattle.joint_model.specs.declared.names.Phase.{Phase}
 use Rattle.joint_model.specs.declared.names.Phase.TheVariants as at
-use Rattle.joint_model.specs.Control.{OpenSnap, Stand, idle, snapped, contracted, weakening, marked, restoring, restored, candidates_of}
+use Rattle.joint_model.specs.Control.{OpenSnap, Stand, idle, snapped, contracted, weakening, marked, restoring, restored}
 use Rattle.joint_model.specs.Listed.{Answers, answers_of}
-use Rattle.joint_model.specs.Managed.{Managed, OpenCycle}
+use Rattle.joint_model.specs.Managed.{Managed, OpenCycle, candidates_of}
 use Rattle.joint_laws.specs.ManagedInvariants.{IsManagedKept}
 use Rattle.bridge_graph.specs.Parts.{IsPart}
 use Rattle.xref_list.specs.Listing.{Listing}
@@ -60,7 +60,9 @@ pub record IsCycleContracted (f : Fields) (stand : Stand) (seen : Managed) : Typ
   pub room : HasRoomForAnswers f
   pub listing : Listing
   pub listed : f.listing ≡ Some listing
-  pub stands : stand ≡ contracted (opened_of cycle.snapshot) (numbered_comps cycle.snapshot.graph listing.comps) listing.pairs
+  pub heavy : List ℕ
+  pub heavy_count : length heavy ≡ listing.heavy
+  pub stands : stand ≡ contracted (opened_of cycle.snapshot) (numbered_comps cycle.snapshot.graph listing.comps) heavy listing.pairs
 
 -- the cycle is mirrored
 pub record IsCycleMirrored (f : Fields) (stand : Stand) (seen : Managed) : Type 0 where

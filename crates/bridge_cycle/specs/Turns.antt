@@ -1,5 +1,5 @@
 -- The handles of a graph's bridge nodes, weakened or restored one after another: an entry of the driver for each, under a hold of the peer lock of its own.
-use Rattle.std.specs.Prelude.{◌≡◌, ℕ, Bool, false, List, [], length}
+use Rattle.std.specs.Prelude.{◌≡◌, ℕ, Bool, false, List, [], Option, length}
 use Rattle.joint_model.specs.declared.names.Cycle.{Cycle}
 use Rattle.joint_model.specs.declared.names.HNum.{HNum}
 use Rattle.joint_model.specs.declared.names.PhaseWord.{PhaseWord}
@@ -54,11 +54,11 @@ pub record MayRestoreAll (v : View) (index : ℕ) (nodes : List Node) : Type 0 w
   pub candidates : AreCandidates seen nodes
 
 -- so many handles are restored, with these answers
-pub record Restores (old new : View) (index n : ℕ) (values : List Bool) (o : OpenSnap) (m : Managed) : Type 0 where
+pub record Restores (old new : View) (index n : ℕ) (values : List (Option HNum)) (o : OpenSnap) (m : Managed) : Type 0 where
   pub entries : List Entry
   pub makes : MakesTimes old new index word.Restore n entries
   pub count : length values ≡ n
   pub stands : DriverStands new index (restoring o (answers_of values)) m
 
-abbrev pub RestoresAll : View → View → ℕ → List Node → List HNum → List Bool → Type 0
+abbrev pub RestoresAll : View → View → ℕ → List Node → List HNum → List (Option HNum) → Type 0
 RestoresAll old new index nodes hs values = (o : OpenSnap) (m : Managed) → DriverStands old index (restoring o []) m → AreCandidates m nodes → Restores old new index (length hs) values o m

@@ -18,7 +18,7 @@ impl<N: OrderName> Driver<N> {
         &mut self,
         rt: &impl Wait,
         shared: &Shared<N, K>,
-        index: u16,
+        index: u32,
     ) -> Reply
         requires phase { self.old.phase ≡ at.Weakened }
         requires index { line_of self.old ≤ index }
@@ -35,7 +35,7 @@ impl<N: OrderName> Driver<N> {
         &mut self,
         rt: &impl Wait,
         shared: &Shared<N, K>,
-        index: u16,
+        index: u32,
     ) -> Reply
         requires phase { self.old.phase ≡ at.Marked }
         requires index { line_of self.old ≤ index }
@@ -52,7 +52,7 @@ impl<N: OrderName> Driver<N> {
         &mut self,
         rt: &impl Wait,
         shared: &Shared<N, K>,
-        index: u16,
+        index: u32,
     ) -> Reply
         requires phase { self.old.phase ≡ at.Restored }
         requires index { line_of self.old ≤ index }
@@ -77,7 +77,7 @@ impl<N: OrderName> Driver<N> {
         rt: &impl Wait,
         alloc: Global,
         shared: &Shared<N, K>,
-        index: u16,
+        index: u32,
     ) -> Result<(), DriverFault>
         requires index { line_of self.old ≤ index }
         ensures index { line_of self.new ≤ index }
@@ -100,7 +100,7 @@ impl<N: OrderName> Driver<N> {
         rt: &impl Wait,
         alloc: Global,
         shared: &Shared<N, K>,
-        index: u16,
+        index: u32,
     ) -> Result<(), DriverFault>
         requires index { line_of self.old ≤ index }
         ensures index { line_of self.new ≤ index }
@@ -123,7 +123,7 @@ impl<N: OrderName> Driver<N> {
         rt: &impl Wait,
         alloc: Global,
         shared: &Shared<N, K>,
-        index: u16,
+        index: u32,
     ) -> Result<(), DriverFault>
         requires index { line_of self.old ≤ index }
         ensures index { line_of self.new ≤ index }

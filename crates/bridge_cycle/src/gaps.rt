@@ -35,7 +35,7 @@ pub fn run_gap<N: OrderName, K: Keeps<N>, G: Gap<N, K>>(
     alloc: Global,
     driver: &mut Driver<N>,
     shared: &Shared<N, K>,
-    index: u16,
+    index: u32,
     between: &mut G,
 ) -> Result<(), DriverFault>
     requires none { G.count between.old ≡ 0 }

@@ -22,7 +22,7 @@ fn weaken_all<N: OrderName, K: Keeps<N>>(
     rt: &impl Wait,
     shared: &Shared<N, K>,
     driver: &mut Caller<N>,
-    index: u16,
+    index: u32,
     snap: u64,
     graph: &DeadGraph,
 )
@@ -38,12 +38,12 @@ fn weaken_all<N: OrderName, K: Keeps<N>>(
     }
 }
 
-// Restores the handle of each bridge node, in the same order, and puts the answers last in `alive`.
+// Restores the handle of each bridge node, in the same order, and puts the handles that the restores gave last in `alive`.
 fn restore_all<N: OrderName, K: Keeps<N>>(
     rt: &impl Wait,
     shared: &Shared<N, K>,
     driver: &mut Caller<N>,
-    index: u16,
+    index: u32,
     graph: &DeadGraph,
     alive: &mut Alive,
 )
@@ -57,7 +57,7 @@ fn restore_all<N: OrderName, K: Keeps<N>>(
     for i in 0..graph.nodes() {
         if let Some(h) = graph.handle(i) {
             let (_, back) = shared.restore(rt, driver, index, h);
-            alive.push(back.is_alive());
+            alive.push(back.given());
         }
     }
 }
@@ -68,7 +68,7 @@ impl<N: OrderName> Driver<N> {
         &mut self,
         rt: &impl Wait,
         shared: &Shared<N, K>,
-        index: u16,
+        index: u32,
     ) -> Reply
         requires phase { self.old.phase ≡ at.Mirrored }
         requires index { line_of self.old ≤ index }
@@ -95,7 +95,7 @@ impl<N: OrderName> Driver<N> {
         &mut self,
         rt: &impl Wait,
         shared: &Shared<N, K>,
-        index: u16,
+        index: u32,
     ) -> Reply
         requires phase { self.old.phase ≡ at.Swept }
         requires index { line_of self.old ≤ index }
@@ -120,7 +120,7 @@ impl<N: OrderName> Driver<N> {
         rt: &impl Wait,
         alloc: Global,
         shared: &Shared<N, K>,
-        index: u16,
+        index: u32,
     ) -> Result<(), DriverFault>
         requires index { line_of self.old ≤ index }
         ensures index { line_of self.new ≤ index }
@@ -144,7 +144,7 @@ impl<N: OrderName> Driver<N> {
         rt: &impl Wait,
         alloc: Global,
         shared: &Shared<N, K>,
-        index: u16,
+        index: u32,
     ) -> Result<(), DriverFault>
         requires index { line_of self.old ≤ index }
         ensures index { line_of self.new ≤ index }

@@ -1,6 +1,6 @@
 // The phases that take memory: the snapshot, the contraction and the mirror.
 
-ghost use Rattle.std.specs.Prelude.{◌≡◌, ◌⊎◌, ◌≤◌, [], ◌∷◌, Err, IfErr, IfOk, OnErr, OnOk};
+ghost use Rattle.std.specs.Prelude.{◌≡◌, ℕ, ◌⊎◌, ◌≤◌, List, [], ◌∷◌, length, Err, IfErr, IfOk, OnErr, OnOk};
 ghost use Rattle.joint_model.specs.declared.names.Phase.TheVariants as at;
 ghost use Rattle.joint_model.specs.declared.names.PhaseWord.TheVariants as word;
 ghost use Rattle.joint_model.specs.Components.{IsContraction};
@@ -31,7 +31,7 @@ fn components_of(
     graph: &DeadGraph,
     candidates: u32,
 ) -> Result<(Components, Alive), AllocError>
-    ensures comps { IfOk result (λ found. IsContraction (IsBridgeNode graph.now.nodes) (NodeLeads graph.now.edges) found.0.comps found.0.pairs) }
+    ensures comps { IfOk result (λ found. (heavy : List ℕ) × (length heavy ≡ found.0.heavy) × IsContraction (IsBridgeNode graph.now.nodes) (NodeLeads graph.now.edges) found.0.comps heavy found.0.pairs) }
     ensures room { IfOk result (λ found. (found.1.values ≡ []) × (found.1.room ≡ candidates)) }
 {
     let comps = contract(alloc, graph)?;
@@ -45,7 +45,7 @@ impl<N: OrderName> Driver<N> {
         &mut self,
         rt: &impl Wait,
         shared: &Shared<N, K>,
-        index: u16,
+        index: u32,
     ) -> Result<Reply, AllocError>
         requires phase { self.old.phase ≡ at.Idle }
         requires index { line_of self.old ≤ index }
@@ -66,7 +66,7 @@ impl<N: OrderName> Driver<N> {
     }
 
     // Abandons the open cycle, which isn't mirrored yet: its dead part is left as it is, for a later cycle to find, and the driver is idle.
-    fn give_up<K: Keeps<N>>(&mut self, rt: &impl Wait, shared: &Shared<N, K>, index: u16)
+    fn give_up<K: Keeps<N>>(&mut self, rt: &impl Wait, shared: &Shared<N, K>, index: u32)
         requires phase { (self.old.phase ≡ at.Snapped) ⊎ (self.old.phase ≡ at.Contracted) }
         requires index { line_of self.old ≤ index }
         ensures index { line_of self.new ≤ index }
@@ -86,7 +86,7 @@ impl<N: OrderName> Driver<N> {
         rt: &impl Wait,
         alloc: Global,
         shared: &Shared<N, K>,
-        index: u16,
+        index: u32,
     ) -> Result<Reply, AllocError>
         requires phase { self.old.phase ≡ at.Snapped }
         requires index { line_of self.old ≤ index }
@@ -115,7 +115,7 @@ impl<N: OrderName> Driver<N> {
         &mut self,
         rt: &impl Wait,
         shared: &Shared<N, K>,
-        index: u16,
+        index: u32,
     ) -> Result<Reply, AllocError>
         requires phase { self.old.phase ≡ at.Contracted }
         requires index { line_of self.old ≤ index }
@@ -135,7 +135,7 @@ impl<N: OrderName> Driver<N> {
         &mut self,
         rt: &impl Wait,
         shared: &Shared<N, K>,
-        index: u16,
+        index: u32,
     ) -> Result<Reply, AllocError>
         requires phase { self.old.phase ≡ at.Contracted }
         requires index { line_of self.old ≤ index }
@@ -169,7 +169,7 @@ impl<N: OrderName> Driver<N> {
         rt: &impl Wait,
         alloc: Global,
         shared: &Shared<N, K>,
-        index: u16,
+        index: u32,
     ) -> Result<(), DriverFault>
         requires index { line_of self.old ≤ index }
         ensures index { line_of self.new ≤ index }
@@ -195,7 +195,7 @@ impl<N: OrderName> Driver<N> {
         rt: &impl Wait,
         alloc: Global,
         shared: &Shared<N, K>,
-        index: u16,
+        index: u32,
     ) -> Result<(), DriverFault>
         requires index { line_of self.old ≤ index }
         ensures index { line_of self.new ≤ index }
@@ -220,7 +220,7 @@ impl<N: OrderName> Driver<N> {
         rt: &impl Wait,
         alloc: Global,
         shared: &Shared<N, K>,
-        index: u16,
+        index: u32,
     ) -> Result<(), DriverFault>
         requires index { line_of self.old ≤ index }
         ensures index { line_of self.new ≤ index }

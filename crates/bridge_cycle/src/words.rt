@@ -58,7 +58,7 @@ impl<N: OrderName> Driver<N> {
         rt: &impl Wait,
         alloc: Global,
         shared: &Shared<N, K>,
-        index: u16,
+        index: u32,
         word: PhaseWord,
     ) -> Result<Reply, AllocError>
         requires one { IsOnePhase word }
@@ -87,7 +87,7 @@ impl<N: OrderName> Driver<N> {
         rt: &impl Wait,
         alloc: Global,
         shared: &Shared<N, K>,
-        index: u16,
+        index: u32,
     ) -> Result<(), AllocError>
         requires busy { ¬ (self.old.phase ≡ at.Idle) }
         requires index { line_of self.old ≤ index }
@@ -109,7 +109,7 @@ impl<N: OrderName> Driver<N> {
         rt: &impl Wait,
         alloc: Global,
         shared: &Shared<N, K>,
-        index: u16,
+        index: u32,
     ) -> Result<Reply, AllocError>
         requires busy { ¬ (self.old.phase ≡ at.Idle) }
         requires index { line_of self.old ≤ index }
@@ -127,7 +127,7 @@ impl<N: OrderName> Driver<N> {
         rt: &impl Wait,
         alloc: Global,
         shared: &Shared<N, K>,
-        index: u16,
+        index: u32,
     ) -> Result<Reply, AllocError>
         requires phase { self.old.phase ≡ at.Idle }
         requires index { line_of self.old ≤ index }
@@ -144,7 +144,7 @@ impl<N: OrderName> Driver<N> {
         &mut self,
         rt: &impl Wait,
         shared: &Shared<N, K>,
-        index: u16,
+        index: u32,
         word: PhaseWord,
     ) -> Result<Reply, AllocError>
         requires refused { next_phase self.old.phase word ≡ None }
@@ -162,7 +162,7 @@ impl<N: OrderName> Driver<N> {
         &mut self,
         rt: &impl Wait,
         shared: &Shared<N, K>,
-        index: u16,
+        index: u32,
         count: u32,
     ) -> Result<Reply, AllocError>
         requires count { (1 ≤ count) × (count ≤ 65535) }
@@ -181,7 +181,7 @@ impl<N: OrderName> Driver<N> {
         rt: &impl Wait,
         alloc: Global,
         shared: &Shared<N, K>,
-        index: u16,
+        index: u32,
         word: PhaseWord,
     ) -> Result<Reply, AllocError>
         requires index { line_of self.old ≤ index }
@@ -206,7 +206,7 @@ impl<N: OrderName> Driver<N> {
         rt: &impl Wait,
         alloc: Global,
         shared: &Shared<N, K>,
-        index: u16,
+        index: u32,
     ) -> Result<(), DriverFault>
         requires index { line_of self.old ≤ index }
         ensures index { line_of self.new ≤ index }
@@ -232,7 +232,7 @@ impl<N: OrderName> Driver<N> {
         rt: &impl Wait,
         alloc: Global,
         shared: &Shared<N, K>,
-        index: u16,
+        index: u32,
         act: &Act,
     ) -> Result<Reply, AllocError>
         requires act { IsLine C act.now }
@@ -255,7 +255,7 @@ impl<N: OrderName> Driver<N> {
         rt: &impl Wait,
         alloc: Global,
         shared: &Shared<N, K>,
-        index: u16,
+        index: u32,
     ) -> Result<(), AllocError>
         requires index { line_of self.old ≤ index }
         ensures index { line_of self.new ≤ index }

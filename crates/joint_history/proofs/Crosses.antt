@@ -17,6 +17,7 @@ use Rattle.row_heap.specs.contracts.places.Rows as Rows
 use Rattle.managed_side.proofs.rows.Held.TheSendSync.{the_send as held}
 use Rattle.managed_side.specs.contracts.rows.ManagedRows as ManagedRows
 use Rattle.managed_side.specs.contracts.side.ManagedSide as ManagedSide
+use Rattle.managed_side.specs.contracts.takings.Takings as Takings
 use Rattle.peer_side.proofs.mirroring.Mirroring.TheSendSync.{the_send as mirroring}
 use Rattle.peer_side.specs.contracts.rows.PeerRows as PeerRows
 use Rattle.peer_side.specs.contracts.side.OpenMarking as OpenMarking
@@ -38,8 +39,11 @@ heap_rows = search (sendable, crosses) depth 40 fits 100000
 managed_rows : IsSend ManagedRows.the_row
 managed_rows = search (sendable, crosses, heap_rows, notices, registry, held) depth 100 fits 100000
 
+takings : IsSend Takings.the_row
+takings = search (sendable, crosses) depth 60 fits 100000
+
 managed_side : IsSend ManagedSide.the_row
-managed_side = search (sendable, crosses, managed_rows, entries) depth 40 fits 100000
+managed_side = search (sendable, crosses, managed_rows, takings, entries) depth 40 fits 100000
 
 peer_rows : IsSend PeerRows.the_row
 peer_rows = search (sendable, crosses, heap_rows, table) depth 100 fits 100000

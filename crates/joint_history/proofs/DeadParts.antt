@@ -1,8 +1,8 @@
 -- The dead part of an open cycle, as it is seen in managed objects: it is that of later ones, as long as the cycle is open.
 use Rattle.std.proofs.Common.{◌≡◌, ℕ, List, [], length, Option, Some, None, refl, sym, ap, ◌∙◌, subst}
 use Rattle.std.specs.Prelude.{slice_get}
-use Rattle.joint_model.specs.Control.{candidates_of, IsCandidateHandle}
-use Rattle.joint_model.specs.Managed.{Managed, OpenCycle}
+use Rattle.joint_model.specs.Control.{IsCandidateHandle}
+use Rattle.joint_model.specs.Managed.{Managed, OpenCycle, candidates_of}
 use Rattle.joint_model.specs.ManagedReplay.{ManagedReplay}
 use Rattle.joint_model.specs.Readers.{with_pins}
 use Rattle.joint_model.proofs.Deciding.{none_some}
@@ -13,18 +13,18 @@ use Rattle.known_laws.specs.Pasts.{HasSameDeadPart}
 use Rattle.known_laws.proofs.Pinned.{contraction_to}
 
 pub dead_part_self : (s : Managed) → HasSameDeadPart s s
-dead_part_self s = record { cycle = refl; handles = λ c e m w. refl; fields = λ c e m w. refl; contraction = λ c e comps xrefs d. d }
+dead_part_self s = record { cycle = refl; handles = λ c e m w. refl; fields = λ c e m w. refl; contraction = λ c e comps heavy xrefs d. d }
 
 -- pins are no part of it
 pub dead_part_pinned : (r : ManagedReplay) (pins : List (Option ℕ)) → HasSameDeadPart r.managed (with_pins r pins).managed
-dead_part_pinned r pins = record { cycle = refl; handles = λ c e m w. refl; fields = λ c e m w. refl; contraction = λ c e comps xrefs d. contraction_to r pins c.dead comps xrefs d }
+dead_part_pinned r pins = record { cycle = refl; handles = λ c e m w. refl; fields = λ c e m w. refl; contraction = λ c e comps heavy xrefs d. contraction_to r pins c.dead comps heavy xrefs d }
 
 pub dead_part_on : (s t u : Managed) → HasSameDeadPart s t → HasSameDeadPart t u → HasSameDeadPart s u
 dead_part_on s t u p q = record {
   cycle = p.cycle ∙ q.cycle;
   handles = λ c e m w. p.handles c e m w ∙ q.handles c (sym p.cycle ∙ e) m w;
   fields = λ c e m w. p.fields c e m w ∙ q.fields c (sym p.cycle ∙ e) m w;
-  contraction = λ c e comps xrefs d. q.contraction c (sym p.cycle ∙ e) comps xrefs (p.contraction c e comps xrefs d);
+  contraction = λ c e comps heavy xrefs d. q.contraction c (sym p.cycle ∙ e) comps heavy xrefs (p.contraction c e comps heavy xrefs d);
 }
 
 -- the candidates are the same

@@ -6,6 +6,7 @@ use mathlib.Core.List.{IsPrefix}
 use Rattle.std.proofs.lemmas.List.{length-map}
 use Rattle.std.proofs.lemmas.Option.{same_Some}
 use Rattle.joint_model.specs.declared.names.Cycle.{Cycle}
+use Rattle.joint_model.specs.declared.names.HNum.{HNum}
 use Rattle.joint_model.specs.declared.names.Phase.{Phase}
 use Rattle.joint_model.specs.declared.names.Phase.TheVariants as at
 use Rattle.joint_model.specs.declared.names.PhaseWord.{PhaseWord}
@@ -17,23 +18,23 @@ use Rattle.joint_model.specs.declared.events.Entry.{Entry}
 use Rattle.joint_model.specs.declared.events.Op.TheVariants as op
 use Rattle.joint_model.specs.declared.events.Reply.{Reply}
 use Rattle.joint_model.specs.declared.events.Reply.TheVariants as says
-use Rattle.joint_model.specs.Control.{OpenSnap, Stand, idle, snapped, contracted, weakening, marked, restoring, restored, candidates_of, IsPhaseOf, IsAtRest, MayAbandonNow, seen_weakened, stand_after}
+use Rattle.joint_model.specs.Control.{OpenSnap, Stand, idle, snapped, contracted, weakening, marked, restoring, restored, IsPhaseOf, IsAtRest, MayAbandonNow, seen_weakened, stand_after}
 use Rattle.joint_model.specs.Cycles.{IsOpen}
 use Rattle.joint_model.specs.Linked.{Linkage}
 use Rattle.joint_model.specs.Listed.{answer_of, answers_of}
-use Rattle.joint_model.specs.Managed.{Managed, OpenCycle}
-use Rattle.joint_model.specs.ManagedReplay.{ManagedReplay, MayContract, MayRefuse, managed_answer, open_reply, refusal_to}
+use Rattle.joint_model.specs.Managed.{Managed, OpenCycle, candidates_of}
+use Rattle.joint_model.specs.ManagedReplay.{AreNew, ManagedReplay, MayContract, MayRefuse, managed_answer, open_reply, refusal_to}
 use Rattle.joint_model.specs.Run.{thread_number}
 use Rattle.joint_model.specs.Sides.{Side, managed_rules}
 use Rattle.joint_model.specs.Readers.{with_pins}
-use Rattle.joint_model.specs.Told.{Told, nothing, contraction_of, resolution_of, phase_of, bare_told, no_pins}
+use Rattle.joint_model.specs.Told.{Told, nothing, contraction_of, handles_given, resolution_of, phase_of, bare_told, no_pins}
 use Rattle.joint_laws.specs.ManagedInvariants.{IsReplayKept}
 use Rattle.joint_laws.proofs.ManagedMoves.{managed_line-goes_on}
 use Rattle.known_laws.specs.Conditions.{IsOpenHere}
 use Rattle.known_laws.specs.Driving.{IsPastKept}
 use Rattle.known_laws.specs.Known.{TellsPlainly}
 use Rattle.known_laws.specs.Pasts.{HasSameDeadPart, end_of}
-use Rattle.known_laws.proofs.Conditions.{snapped_may_be_contracted, unmirrored_may_be_abandoned, restored_may_be_resolved, refused_may_be_told}
+use Rattle.known_laws.proofs.Conditions.{snapped_may_be_contracted, unmirrored_may_be_abandoned, restored_are_new, restored_may_be_resolved, refused_may_be_told}
 use Rattle.known_laws.proofs.FrozenPasts.{Alike, alike_meet, alike_on, alike_pinned, alike_self, dead_part-alike}
 use Rattle.known_laws.proofs.KnownPasts.{known_past_is_kept}
 use Rattle.known_laws.proofs.Pinned.{managed_to, none_stand}
@@ -77,24 +78,25 @@ dead_here : (side : ManagedReplay) (stand : Stand) (seen : Managed) (u : IsUnder
 dead_here side stand seen u = subst (λ (r : ManagedReplay). HasSameDeadPart seen r.managed) u.managed u.dead
 
 -- the contraction of the dead part that the driver has seen is that of the open cycle
-contraction_may : (side : ManagedReplay) (o : OpenSnap) (seen : Managed) (sccs xrefs : ℕ) (comps : List (List ℕ)) (pairs : List (ℕ × ℕ)) → IsUnderLock side (snapped o) seen → HasContraction seen sccs xrefs comps pairs → MayContract side o.cycle comps pairs
-contraction_may side o seen sccs xrefs comps pairs u h =
-    subst (λ (r : ManagedReplay). MayContract r o.cycle comps pairs) u.managed
-    (snapped_may_be_contracted u.state u.kept o u.stood comps pairs (λ c e. u.dead.contraction c (u.dead.cycle ∙ e) comps pairs (h.exact c (u.dead.cycle ∙ e))))
+contraction_may : (side : ManagedReplay) (o : OpenSnap) (seen : Managed) (sccs xrefs : ℕ) (comps : List (List ℕ)) (heavy : List ℕ) (pairs : List (ℕ × ℕ)) → IsUnderLock side (snapped o) seen → HasContraction seen sccs xrefs comps heavy pairs → MayContract side o.cycle comps heavy pairs
+contraction_may side o seen sccs xrefs comps heavy pairs u h =
+    subst (λ (r : ManagedReplay). MayContract r o.cycle comps heavy pairs) u.managed
+    (snapped_may_be_contracted u.state u.kept o u.stood comps heavy pairs (λ c e. u.dead.contraction c (u.dead.cycle ∙ e) comps heavy pairs (h.exact c (u.dead.cycle ∙ e))))
 
-contracted_by : (side : ManagedReplay) (k : ℕ) (c : OpenCycle) (seen : Managed) (sccs xrefs : ℕ) (comps : List (List ℕ)) (pairs : List (ℕ × ℕ)) → c.number ≡ k → MayContract side k comps pairs → HasContraction seen sccs xrefs comps pairs → IsContractedBy side c sccs xrefs comps pairs
-contracted_by side k c seen sccs xrefs comps pairs e may h = record { may = subst (λ (n : ℕ). MayContract side n comps pairs) (sym e) may; components = h.components; references = h.references }
+contracted_by : (side : ManagedReplay) (k : ℕ) (c : OpenCycle) (seen : Managed) (sccs xrefs : ℕ) (comps : List (List ℕ)) (heavy : List ℕ) (pairs : List (ℕ × ℕ)) → c.number ≡ k → MayContract side k comps heavy pairs → HasContraction seen sccs xrefs comps heavy pairs → IsContractedBy side c sccs xrefs comps heavy pairs
+contracted_by side k c seen sccs xrefs comps heavy pairs e may h = record { may = subst (λ (n : ℕ). MayContract side n comps heavy pairs) (sym e) may; components = h.components; references = h.references }
 
 -- `contracted`
 pub may_contract_with : (side : ManagedReplay) (v : View) (index sccs xrefs : ℕ) (w : MayContractCycle v index sccs xrefs) → IsUnderLock side (snapped w.opened) w.seen → MayContractWith side sccs xrefs
 may_contract_with side v index sccs xrefs w u =
-    let may = contraction_may side w.opened w.seen sccs xrefs w.comps w.pairs u w.contraction in
+    let may = contraction_may side w.opened w.seen sccs xrefs w.comps w.heavy w.pairs u w.contraction in
     record {
       cycle = may.cycle;
       opened = may.open_cycle.0;
       comps = w.comps;
+      heavy = w.heavy;
       pairs = w.pairs;
-      contracted = contracted_by side w.opened.cycle may.cycle w.seen sccs xrefs w.comps w.pairs may.open_cycle.1 may w.contraction;
+      contracted = contracted_by side w.opened.cycle may.cycle w.seen sccs xrefs w.comps w.heavy w.pairs may.open_cycle.1 may w.contraction;
     }
 
 -- the open cycle is one
@@ -119,7 +121,7 @@ same_objects s t e = subst (λ (m : Managed). HasSameDeadPart s.managed m) (sym 
 -- an unmirrored cycle is open
 abandon_open : (u : Linkage) → IsPastKept u → (stand : Stand) (o : OpenSnap) → u.control.stand ≡ stand → IsUnmirrored stand o → IsOpenHere u o
 abandon_open u k (snapped p) o e i = (unmirrored_may_be_abandoned u k o).0 (e ∙ ap snapped i)
-abandon_open u k (contracted p comps pairs) o e i = (unmirrored_may_be_abandoned u k o).1 comps pairs (e ∙ ap (λ (z : OpenSnap). contracted z comps pairs) i)
+abandon_open u k (contracted p comps heavy pairs) o e i = (unmirrored_may_be_abandoned u k o).1 comps heavy pairs (e ∙ ap (λ (z : OpenSnap). contracted z comps heavy pairs) i)
 abandon_open u k idle o e i = absurd i
 abandon_open u k (weakening p count weakened swept) o e i = absurd i
 abandon_open u k (marked p) o e i = absurd i
@@ -128,7 +130,7 @@ abandon_open u k (restored p answers clear) o e i = absurd i
 
 abandon_allowed : (stand : Stand) (o : OpenSnap) → IsUnmirrored stand o → MayAbandonNow stand o.cycle None
 abandon_allowed (snapped p) o i = (ap (λ (z : OpenSnap). z.cycle) i, refl)
-abandon_allowed (contracted p comps pairs) o i = (ap (λ (z : OpenSnap). z.cycle) i, refl)
+abandon_allowed (contracted p comps heavy pairs) o i = (ap (λ (z : OpenSnap). z.cycle) i, refl)
 abandon_allowed idle o i = absurd i
 abandon_allowed (weakening p count weakened swept) o i = absurd i
 abandon_allowed (marked p) o i = absurd i
@@ -137,7 +139,7 @@ abandon_allowed (restored p answers clear) o i = absurd i
 
 abandon_idle : (stand : Stand) (o : OpenSnap) (n : ℕ) (k : Cycle) (reply : Reply) (told : Told) → IsUnmirrored stand o → stand_after stand n (op.Abandon k) reply told ≡ idle
 abandon_idle (snapped p) o n k reply told i = refl
-abandon_idle (contracted p comps pairs) o n k reply told i = refl
+abandon_idle (contracted p comps heavy pairs) o n k reply told i = refl
 abandon_idle idle o n k reply told i = absurd i
 abandon_idle (weakening p count weakened swept) o n k reply told i = absurd i
 abandon_idle (marked p) o n k reply told i = absurd i
@@ -154,10 +156,15 @@ may_abandon side v index w u =
     subst (λ (r : ManagedReplay). IsSome r.managed.cycle) u.managed (some_cycle u.state.managed.managed.cycle o.0 o.1.0)
 
 -- `resolve`
-pub may_close : (side : ManagedReplay) (v : View) (index clear : ℕ) (alive : List Bool) (w : MayResolveCycle v index clear (answers_of alive)) → IsUnderLock side (restored w.opened (answers_of alive) clear) w.seen → MayClose side alive
+pub may_close : (side : ManagedReplay) (v : View) (index clear : ℕ) (alive : List (Option HNum)) (w : MayResolveCycle v index clear (answers_of alive)) → IsUnderLock side (restored w.opened (answers_of alive) clear) w.seen → MayClose side alive
 may_close side v index clear alive w u =
     let r = restored_may_be_resolved u.state u.kept w.opened (answers_of alive) clear u.stood in
-    record { cycle = r.cycle; opened = subst (λ (z : ManagedReplay). z.managed.cycle ≡ Some r.cycle) u.managed r.open_cycle.0; one_each = sym (length-map alive answer_of) ∙ r.one_each }
+    record {
+      cycle = r.cycle;
+      opened = subst (λ (z : ManagedReplay). z.managed.cycle ≡ Some r.cycle) u.managed r.open_cycle.0;
+      one_each = sym (length-map alive answer_of) ∙ r.one_each;
+      new = subst (λ (z : ManagedReplay). AreNew z.adopted (handles_given (answers_of alive))) u.managed (restored_are_new u.state u.kept w.opened (answers_of alive) clear u.stood);
+    }
 
 -- `refused`
 pub may_refuse : (side : ManagedReplay) (v : View) (index : ℕ) (asked : PhaseWord) (phase : Phase) (w : MayRefuseWord v index asked phase) → IsUnderLock side w.stand w.seen → MayRefuse side asked phase
@@ -196,7 +203,7 @@ refusal_next (weakening o count weakened swept) n asked phase reply now plain = 
     (other_or phase)
 refusal_next idle n asked phase reply now plain = refl
 refusal_next (snapped o) n asked phase reply now plain = refl
-refusal_next (contracted o comps pairs) n asked phase reply now plain = refl
+refusal_next (contracted o comps heavy pairs) n asked phase reply now plain = refl
 refusal_next (marked o) n asked phase reply now plain = refl
 refusal_next (restoring o answers) n asked phase reply now plain = refl
 refusal_next (restored o answers clear) n asked phase reply now plain = refl
@@ -231,27 +238,27 @@ module _ (locked mine mine1 locked2 mine2 : View) (order : OrderId) (seat seat' 
   under stand seen s = under_lock locked mine seat.view mine1 old index stand seen pass owns ks s l
 
   -- the contraction
-  with_contraction : (sccs xrefs n : ℕ) → DrawsContraction order seat seat' old new index sccs xrefs n → (o : OpenSnap) (seen : Managed) (comps : List (List ℕ)) (pairs : List (ℕ × ℕ)) → DriverStands mine index (snapped o) seen → HasContraction seen sccs xrefs comps pairs
-      → DrivenUnder mine locked2 mine2 old new index (snapped o) seen (driver_entry n index (op.Contract record { 0 = o.cycle }) (says.Sccs sccs xrefs) None) (contraction_of comps pairs)
-  with_contraction sccs xrefs n d o seen comps pairs s h =
-      let may = contraction_may old.state o seen sccs xrefs comps pairs (under (snapped o) seen s) h in
+  with_contraction : (sccs xrefs n : ℕ) → DrawsContraction order seat seat' old new index sccs xrefs n → (o : OpenSnap) (seen : Managed) (comps : List (List ℕ)) (heavy : List ℕ) (pairs : List (ℕ × ℕ)) → DriverStands mine index (snapped o) seen → HasContraction seen sccs xrefs comps heavy pairs
+      → DrivenUnder mine locked2 mine2 old new index (snapped o) seen (driver_entry n index (op.Contract record { 0 = o.cycle }) (says.Sccs sccs xrefs) None) (contraction_of comps heavy pairs)
+  with_contraction sccs xrefs n d o seen comps heavy pairs s h =
+      let may = contraction_may old.state o seen sccs xrefs comps heavy pairs (under (snapped o) seen s) h in
       let same = one_cycle old.state.managed o.cycle d.cycle may.cycle d.opened may.open_cycle in
-      let drew = subst (λ (k : ℕ). Drew managed_rules 0 order seat seat' old new (driver_entry n index (op.Contract record { 0 = k }) (says.Sccs sccs xrefs) None) (contraction_of comps pairs)) same
-      (d.drew comps pairs (contracted_by old.state o.cycle d.cycle seen sccs xrefs comps pairs same may h)) in
-      driven locked mine mine1 locked2 mine2 order seat seat' old new index (snapped o) seen (driver_entry n index (op.Contract record { 0 = o.cycle }) (says.Sccs sccs xrefs) None) (contraction_of comps pairs) pass owns refl refl short ks s (λ issued. (refl, refl)) (none_stand old.state.managed) l drew b
+      let drew = subst (λ (k : ℕ). Drew managed_rules 0 order seat seat' old new (driver_entry n index (op.Contract record { 0 = k }) (says.Sccs sccs xrefs) None) (contraction_of comps heavy pairs)) same
+      (d.drew comps heavy pairs (contracted_by old.state o.cycle d.cycle seen sccs xrefs comps heavy pairs same may h)) in
+      driven locked mine mine1 locked2 mine2 order seat seat' old new index (snapped o) seen (driver_entry n index (op.Contract record { 0 = o.cycle }) (says.Sccs sccs xrefs) None) (contraction_of comps heavy pairs) pass owns refl refl short ks s (λ issued. (refl, refl)) (none_stand old.state.managed) l drew b
 
   pub contraction_made : (sccs xrefs n : ℕ) → DrawsContraction order seat seat' old new index sccs xrefs n → MakesContraction mine mine2 index sccs xrefs n
-  contraction_made sccs xrefs n d o seen comps pairs s h =
+  contraction_made sccs xrefs n d o seen comps heavy pairs s h =
       let e = driver_entry n index (op.Contract record { 0 = o.cycle }) (says.Sccs sccs xrefs) None in
-      let w = (with_contraction sccs xrefs n d o seen comps pairs s h).driven in (
+      let w = (with_contraction sccs xrefs n d o seen comps heavy pairs s h).driven in (
         w.makes,
-        driver_still mine mine2 old new index (snapped o) (contracted o comps pairs) seen e (contraction_of comps pairs) w
-            (same_objects old.state new.state (ap (λ (r : ManagedReplay). r.managed) (d.drew d.comps d.pairs d.contracted).goes.state))
+        driver_still mine mine2 old new index (snapped o) (contracted o comps heavy pairs) seen e (contraction_of comps heavy pairs) w
+            (same_objects old.state new.state (ap (λ (r : ManagedReplay). r.managed) (d.drew d.comps d.heavy d.pairs d.contracted).goes.state))
             (ap (λ (t : Told). stand_after (snapped o) n (op.Contract record { 0 = o.cycle }) (says.Sccs sccs xrefs) (bare_told t)) (w.plain tt)),
       )
 
   pub contraction_knows : (sccs xrefs n : ℕ) → DrawsContraction order seat seat' old new index sccs xrefs n → MayContractCycle mine index sccs xrefs → ManagedKnows locked2 new
-  contraction_knows sccs xrefs n d w = (with_contraction sccs xrefs n d w.opened w.seen w.comps w.pairs w.stands w.contraction).knows
+  contraction_knows sccs xrefs n d w = (with_contraction sccs xrefs n d w.opened w.seen w.comps w.heavy w.pairs w.stands w.contraction).knows
 
   -- the abandoning
   with_abandon : (n : ℕ) → DrawsAbandon order seat seat' old new index n → (o : OpenSnap) (stand : Stand) (seen : Managed) → DriverStands mine index stand seen → IsUnmirrored stand o
@@ -272,7 +279,7 @@ module _ (locked mine mine1 locked2 mine2 : View) (order : OrderId) (seat seat' 
   abandon_knows n d w = (with_abandon n d w.opened w.stand w.seen w.stands w.unmirrored).knows
 
   -- the resolution
-  with_resolution : (clear n : ℕ) (alive : List Bool) (out : ResolveOut) (d : DrawsResolution order seat seat' old new index clear n alive out) (o : OpenSnap) (seen : Managed) → DriverStands mine index (restored o (answers_of alive) clear) seen
+  with_resolution : (clear n : ℕ) (alive : List (Option HNum)) (out : ResolveOut) (d : DrawsResolution order seat seat' old new index clear n alive out) (o : OpenSnap) (seen : Managed) → DriverStands mine index (restored o (answers_of alive) clear) seen
       → DrivenUnder mine locked2 mine2 old new index (restored o (answers_of alive) clear) seen (driver_entry n index (op.Resolve record { 0 = o.cycle }) (says.Freed out.freed) (Some clear)) (resolution_of (answers_of alive) d.freed)
   with_resolution clear n alive out d o seen s =
       let u = under (restored o (answers_of alive) clear) seen s in
@@ -283,7 +290,7 @@ module _ (locked mine mine1 locked2 mine2 : View) (order : OrderId) (seat seat' 
       driven locked mine mine1 locked2 mine2 order seat seat' old new index (restored o (answers_of alive) clear) seen (driver_entry n index (op.Resolve record { 0 = o.cycle }) (says.Freed out.freed) (Some clear)) (resolution_of (answers_of alive) d.freed)
       pass owns refl refl short ks s (λ issued. (refl, refl, refl)) (none_stand old.state.managed) l drew b
 
-  pub resolution_made : (clear n : ℕ) (alive : List Bool) (out : ResolveOut) → DrawsResolution order seat seat' old new index clear n alive out → MakesResolution mine mine2 index clear n (answers_of alive) out.freed
+  pub resolution_made : (clear n : ℕ) (alive : List (Option HNum)) (out : ResolveOut) → DrawsResolution order seat seat' old new index clear n alive out → MakesResolution mine mine2 index clear n (answers_of alive) out.freed
   resolution_made clear n alive out d o seen s =
       let w = (with_resolution clear n alive out d o seen s).driven in
       record {
@@ -293,7 +300,7 @@ module _ (locked mine mine1 locked2 mine2 : View) (order : OrderId) (seat seat' 
         rests = rests_after mine mine2 old new index (restored o (answers_of alive) clear) seen (driver_entry n index (op.Resolve record { 0 = o.cycle }) (says.Freed out.freed) (Some clear)) (resolution_of (answers_of alive) d.freed) w refl;
       }
 
-  pub resolution_knows : (clear n : ℕ) (alive : List Bool) (out : ResolveOut) → DrawsResolution order seat seat' old new index clear n alive out → MayResolveCycle mine index clear (answers_of alive) → ManagedKnows locked2 new
+  pub resolution_knows : (clear n : ℕ) (alive : List (Option HNum)) (out : ResolveOut) → DrawsResolution order seat seat' old new index clear n alive out → MayResolveCycle mine index clear (answers_of alive) → ManagedKnows locked2 new
   resolution_knows clear n alive out d w = (with_resolution clear n alive out d w.opened w.seen w.stands).knows
 
   -- a refusal

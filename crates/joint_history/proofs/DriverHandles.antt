@@ -8,17 +8,17 @@ use Rattle.joint_model.specs.declared.names.HNum.{HNum}
 use Rattle.joint_model.specs.declared.names.Thread.TheVariants.{C}
 use Rattle.joint_model.specs.declared.events.Op.TheVariants as op
 use Rattle.joint_model.specs.declared.events.Reply.TheVariants as says
-use Rattle.joint_model.specs.Control.{OpenSnap, weakening, restoring, candidates_of, IsCandidateHandle, MayClearNow, MayRestoreNow, MayWeakenNow}
+use Rattle.joint_model.specs.Control.{OpenSnap, weakening, restoring, IsCandidateHandle, MayClearNow, MayRestoreNow, MayWeakenNow}
 use Rattle.joint_model.specs.Heaps.{numbered_at}
 use Rattle.joint_model.specs.Linked.{Linkage}
-use Rattle.joint_model.specs.Managed.{Managed}
+use Rattle.joint_model.specs.Managed.{Managed, candidates_of}
 use Rattle.joint_model.specs.PeerReplay.{PeerReplay, TableRow, Mirror, row_of, MayClear, MayRestore, MayWeaken}
 use Rattle.joint_model.specs.Peers.{strong}
 use Rattle.joint_model.specs.Sides.{Side, peer_rules}
 use Rattle.joint_model.specs.Told.{Answer, said_alive, nothing}
 use Rattle.joint_laws.specs.LinkedInvariants.{HasStrength}
 use Rattle.joint_laws.proofs.PeerEntries.{peer_of-issued}
-use Rattle.known_laws.specs.Driving.{IsMirrorOf, MirrorFits, IsPastKept}
+use Rattle.known_laws.specs.Driving.{IsPastKept}
 use Rattle.known_laws.proofs.Conditions.{all_may_be_cleared, next_may_be_restored, next_may_be_weakened, targets_are_strong}
 use Rattle.global_handles.specs.declared.Back.{Back}
 use Rattle.peer_side.specs.Cycles.{reply_of}
@@ -69,16 +69,15 @@ row_there s h k st =
     tabled : (r : PeerReplay) (row : TableRow) → numbered_at r.table h ≡ Some (Some row) → row_of r h ≡ Some row
     tabled r row e = ap (λ (o : Option (Option TableRow)). elim o [ None ↦ None | Some x ↦ x ]) e
 
--- each unfreed peer that a reference leads to is restored strong, as the side asks
+-- each unfreed peer that references lead to is restored strong, as the side asks
 targets_here : (s : Linkage) → IsPastKept s → (o : OpenSnap) (answers : List Answer) → s.control.stand ≡ restoring o answers → length answers ≡ length (candidates_of s.managed.managed) → AreTargetsRestored s.peer
 targets_here s k o answers e all m is p q r =
-    let w : IsMirrorOf s.managed s.peer o (length (candidates_of s.managed.managed)) (length answers) = subst (MirrorFits s.managed s.peer) e k.mirror in
     let t = targets_are_strong s k o answers e all p q r.reference r.there in
     record {
-      handle = t.handle;
-      restored = subst (λ (z : Mirror). Contains z.restored t.handle) (same_Some w.mirror m (sym w.stands ∙ is)) ((w.back t.handle).1 (t.place, slice_get_within answers t.place said_alive t.alive, t.candidate));
-      strong_now = row_there s t.handle k t.strong_one;
-      peer = peer_of-issued s.peer.peers.issued t.handle t.row t.is_issued ∙ ap Some t.leads;
+      handle = t.given;
+      given = t.told m is;
+      strong_now = row_there s t.given k t.strong_one;
+      peer = peer_of-issued s.peer.peers.issued t.given t.row t.is_issued ∙ ap Some t.leads;
     }
 
 pub targets_restored : (side : PeerReplay) (o : OpenSnap) (answers : List Answer) (seen : Managed) → IsUnderPeers side (restoring o answers) seen → length answers ≡ length (candidates_of seen) → AreTargetsRestored side

@@ -10,9 +10,9 @@ use Rattle.joint_model.specs.declared.events.Entry.{Entry}
 use Rattle.joint_model.specs.declared.events.Op.TheVariants as op
 use Rattle.joint_model.specs.declared.events.Reply.{Reply}
 use Rattle.joint_model.specs.declared.events.Reply.TheVariants as says
-use Rattle.joint_model.specs.Control.{OpenSnap, Stand, idle, snapped, contracted, weakening, marked, restoring, restored, candidates_of, MaySweepNow, stand_after}
+use Rattle.joint_model.specs.Control.{OpenSnap, Stand, idle, snapped, contracted, weakening, marked, restoring, restored, MaySweepNow, stand_after}
 use Rattle.joint_model.specs.Lines.{IsDriver}
-use Rattle.joint_model.specs.Managed.{Managed}
+use Rattle.joint_model.specs.Managed.{Managed, candidates_of}
 use Rattle.joint_model.specs.PeerReplay.{PeerReplay, Marking, swept}
 use Rattle.joint_model.specs.Sides.{Side, peer_rules}
 use Rattle.joint_model.specs.Told.{Told, nothing, sweep_of}
@@ -56,7 +56,7 @@ is_open locked mine lent mine1 side index pass owns ks l w = ⊎_elim
 sweep_next : (stand : Stand) (n : ℕ) (reply : Reply) (told : Told) → stand_after stand n op.Sweep reply told ≡ after_sweep stand
 sweep_next idle n reply told = refl
 sweep_next (snapped o) n reply told = refl
-sweep_next (contracted o comps pairs) n reply told = refl
+sweep_next (contracted o comps heavy pairs) n reply told = refl
 sweep_next (weakening o count weakened swept) n reply told = refl
 sweep_next (marked o) n reply told = refl
 sweep_next (restoring o answers) n reply told = refl

@@ -18,7 +18,8 @@ use Rattle.joint_model.specs.declared.events.Entry.{Entry}
 use Rattle.joint_model.specs.declared.events.Op.{Op}
 use Rattle.joint_model.specs.declared.events.Op.TheVariants as op
 use Rattle.joint_model.specs.declared.events.Reply.{Reply}
-use Rattle.joint_model.specs.Control.{Control, Doing, free, doing_at, doing_after, control_after, candidates_of, IsDone, IsAtRest}
+use Rattle.joint_model.specs.Control.{Control, Doing, free, doing_at, doing_after, control_after, IsDone, IsAtRest}
+use Rattle.joint_model.specs.Managed.{candidates_of}
 use Rattle.joint_model.specs.Histories.{Finished, IsJoinable, IsShuffle, managed_numbers, peer_numbers}
 use Rattle.joint_model.specs.HistoryLines.{caller_line}
 use Rattle.joint_model.specs.Lines.{IsThread, IsEvent, IsManagedThread}

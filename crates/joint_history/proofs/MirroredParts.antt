@@ -1,17 +1,18 @@
--- The mirror edges of a contraction, read through the nodes of the dead part's graph: they lead between the same peers, each handle of the graph is a
--- candidate's, and there are as many of these as candidates.
+-- The mirror edges of a contraction, read through the nodes of the dead part's graph: they lead between the same peers and temporaries, each handle of
+-- the graph is a candidate's, and there are as many of these as candidates.
 use Rattle.std.proofs.Common.{◌≡◌, inl, inr, ℕ, ◌+◌, ◌<◌, ◌≤◌, zero, suc, Bool, true, false, List, [], ◌∷◌, ◌++◌, length, length-append, map, get_or, Option, Some, None, refl, sym, ap, ◌∙◌, subst, arith, if◌then◌else◌}
-use Rattle.std.specs.Prelude.{All, Contains, IsSome, flat_map, slice_get}
+use Rattle.std.proofs.lemmas.Bool.{ltb-true}
+use Rattle.std.specs.Prelude.{◌-◌, nat_lt, All, Contains, IsSome, flat_map, slice_get}
 use Rattle.std.specs.Option.{option_and_then, option_map, option_to_list}
 use Rattle.std.proofs.lemmas.List.{length-map, map-append}
 use Rattle.std.proofs.lemmas.List.Elements.{All-contains, All-head, All-tail}
 use Rattle.std.proofs.lemmas.Option.{get_or_from_slice_get, same_Some, slice_get-map}
 use Rattle.joint_model.specs.declared.names.HNum.{HNum}
-use Rattle.joint_model.specs.Components.{Rises, circle, circle_from, first_at, mirror_edges}
-use Rattle.joint_model.specs.Control.{IsCandidateHandle, candidates_of, carried_edges, peer_of_row}
+use Rattle.joint_model.specs.Components.{End, Rises, between_nodes, circle, circle_from, end_at, first_at, mirror_edges, node, temporary}
+use Rattle.joint_model.specs.Control.{IsCandidateHandle, carried_edges, carried_end, peer_of_row}
 use Rattle.joint_model.specs.Cycles.{IsDeadContraction}
 use Rattle.joint_model.specs.Heaps.{is_freed}
-use Rattle.joint_model.specs.Managed.{Managed, OpenCycle, handle_of}
+use Rattle.joint_model.specs.Managed.{Managed, OpenCycle, handle_of, candidates_of}
 use Rattle.joint_model.specs.Peers.{Issued, peer_of}
 use Rattle.joint_model.specs.PeerReplay.{PeerReplay, row_of}
 use Rattle.joint_model.proofs.Deciding.{none_some}
@@ -25,14 +26,26 @@ use Rattle.bridge_graph.specs.Handles.{handles_of}
 use Rattle.bridge_graph.specs.Parts.{IsBridgeNode, IsPart, Part, numbers_of}
 use Rattle.managed_side.specs.Graphs.{IsDeadGraph, handle_number}
 use Rattle.peer_side.specs.Mirroring.{strong_row}
-use Rattle.xref_list.specs.Listing.{IsBetween, IsListing, Listing}
-use Rattle.peer_mirror.specs.Carried.{AreBridgeNodes, AreHandlesStrong, carried_to_peers, peer_of_node}
+use Rattle.xref_list.specs.Listing.{IsListing, Listing}
+use Rattle.peer_mirror.specs.Carried.{AreBridgeNodes, AreHandlesStrong, carried_end as node_end, carried_to_peers, peer_of_node}
 use Rattle.joint_history.specs.DriverMirrors.{number_at, numbered_comps}
 
 -- mirror edges of components whose members are read through something are the mirror edges, read so
 module _ (f : ℕ → ℕ) where
   abbrev both : ℕ × ℕ → ℕ × ℕ
   both e = (f e.0, f e.1)
+
+  -- an end read so; a temporary stays
+  abbrev through : End → End
+  through (node x) = node (f x)
+  through (temporary t) = temporary t
+
+  abbrev through-both : End × End → End × End
+  through-both e = (through e.0, through e.1)
+
+  between-map : (edges : List (ℕ × ℕ)) → map between_nodes (map both edges) ≡ map through-both (map between_nodes edges)
+  between-map [] = refl
+  between-map (e ∷ edges) = ap (λ l. (node (f e.0), node (f e.1)) ∷ l) (between-map edges)
 
   circle_from-map : (first x : ℕ) (ys : List ℕ) → circle_from (f first) (f x) (map f ys) ≡ map both (circle_from first x ys)
   circle_from-map first x [] = refl
@@ -55,28 +68,36 @@ module _ (f : ℕ → ℕ) where
   first_at-map ((x ∷ xs) ∷ comps) zero some l = refl
   first_at-map (c ∷ comps) (suc i) some l = first_at-map comps i (All-tail (λ members. 0 < length members) c comps some) (omega arith)
 
-  pairs-map : (comps : List (List ℕ)) (pairs : List (ℕ × ℕ)) → All (λ members. 0 < length members) comps → All (IsBetween (length comps)) pairs
-      → map (λ p. (first_at (map (map f) comps) p.0, first_at (map (map f) comps) p.1)) pairs ≡ map both (map (λ p. (first_at comps p.0, first_at comps p.1)) pairs)
-  pairs-map comps [] some ends = refl
-  pairs-map comps (p ∷ pairs) some ends =
-      let e : IsBetween (length comps) p = All-head (IsBetween (length comps)) p pairs ends in
-      let rest = pairs-map comps pairs some (All-tail (IsBetween (length comps)) p pairs ends) in
-      let firsts : ℕ × ℕ → ℕ × ℕ = λ q. (first_at (map (map f) comps) q.0, first_at (map (map f) comps) q.1) in
-      ap (λ (x : ℕ). (x, first_at (map (map f) comps) p.1) ∷ map firsts pairs) (first_at-map comps p.0 some e.source)
-      ∙ (ap (λ (y : ℕ). (f (first_at comps p.0), y) ∷ map firsts pairs) (first_at-map comps p.1 some e.destination)
-      ∙ ap (λ l. (f (first_at comps p.0), f (first_at comps p.1)) ∷ l) rest)
+  -- the end of what is reported at an index
+  end_at-map : (comps : List (List ℕ)) (i : ℕ) → All (λ members. 0 < length members) comps → end_at (map (map f) comps) i ≡ through (end_at comps i)
+  end_at-map comps i some = ap (λ n. if nat_lt i n then node (first_at (map (map f) comps) i) else temporary (i - n)) (length-map comps (map f)) ∙ by (nat_lt i (length comps)) (λ t. first_at-map comps i some (ltb-true i (length comps) t))
+    where
+      by : (b : Bool) → (b ≡ true → first_at (map (map f) comps) i ≡ f (first_at comps i))
+          → (if b then node (first_at (map (map f) comps) i) else temporary (i - length comps)) ≡ through (if b then node (first_at comps i) else temporary (i - length comps))
+      by true h = ap node (h refl)
+      by false h = refl
 
-  pub edges-map : (comps : List (List ℕ)) (pairs : List (ℕ × ℕ)) → IsListing comps pairs → mirror_edges (map (map f) comps) pairs ≡ map both (mirror_edges comps pairs)
-  edges-map comps pairs l =
-      let crosses : List (ℕ × ℕ) = map (λ p. (first_at comps p.0, first_at comps p.1)) pairs in
-      let other : List (ℕ × ℕ) = map (λ p. (first_at (map (map f) comps) p.0, first_at (map (map f) comps) p.1)) pairs in
-      ap (λ z. z ++ other) (circles-map comps)
-      ∙ (ap (λ z. map both (flat_map circle comps) ++ z) (pairs-map comps pairs l.canonical.some l.ends)
-      ∙ sym (map-append both (flat_map circle comps) crosses))
+  pairs-map : (comps : List (List ℕ)) (pairs : List (ℕ × ℕ)) → All (λ members. 0 < length members) comps
+      → map (λ p. (end_at (map (map f) comps) p.0, end_at (map (map f) comps) p.1)) pairs ≡ map through-both (map (λ p. (end_at comps p.0, end_at comps p.1)) pairs)
+  pairs-map comps [] some = refl
+  pairs-map comps (p ∷ pairs) some =
+      let ends : ℕ × ℕ → End × End = λ q. (end_at (map (map f) comps) q.0, end_at (map (map f) comps) q.1) in
+      ap (λ (x : End). (x, end_at (map (map f) comps) p.1) ∷ map ends pairs) (end_at-map comps p.0 some)
+      ∙ (ap (λ (y : End). (through (end_at comps p.0), y) ∷ map ends pairs) (end_at-map comps p.1 some)
+      ∙ ap (λ l. (through (end_at comps p.0), through (end_at comps p.1)) ∷ l) (pairs-map comps pairs some))
+
+  pub edges-map : (comps : List (List ℕ)) (heavy : ℕ) (pairs : List (ℕ × ℕ)) → IsListing comps heavy pairs → mirror_edges (map (map f) comps) pairs ≡ map through-both (mirror_edges comps pairs)
+  edges-map comps heavy pairs l =
+      let crosses : List (End × End) = map (λ p. (end_at comps p.0, end_at comps p.1)) pairs in
+      let other : List (End × End) = map (λ p. (end_at (map (map f) comps) p.0, end_at (map (map f) comps) p.1)) pairs in
+      ap (λ z. map between_nodes z ++ other) (circles-map comps)
+      ∙ (ap (λ z. z ++ other) (between-map (flat_map circle comps))
+      ∙ (ap (λ z. map through-both (map between_nodes (flat_map circle comps)) ++ z) (pairs-map comps pairs l.canonical.some)
+      ∙ sym (map-append through-both (map between_nodes (flat_map circle comps)) crosses)))
 
 -- so there are as many of them
-pub edges-count : (l : Listing) (g : Part) → IsListing l.comps l.pairs → length (mirror_edges (numbered_comps g l.comps) l.pairs) ≡ length (mirror_edges l.comps l.pairs)
-edges-count l g listing = ap length (edges-map (number_at g) l.comps l.pairs listing) ∙ length-map (mirror_edges l.comps l.pairs) (both (number_at g))
+pub edges-count : (l : Listing) (g : Part) → IsListing l.comps l.heavy l.pairs → length (mirror_edges (numbered_comps g l.comps) l.pairs) ≡ length (mirror_edges l.comps l.pairs)
+edges-count l g listing = ap length (edges-map (number_at g) l.comps l.heavy l.pairs listing) ∙ length-map (mirror_edges l.comps l.pairs) (through-both (number_at g))
 
 -- no managed object has the number 0, so nothing there holds a handle
 no-row : (t : Managed) → handle_of t 0 ≡ None
@@ -137,15 +158,19 @@ module _ (t : Managed) (g : Part) (shows : ShowsHandles t g) where
           ap (λ m. peer_of_row t issued m) (number-is g i n e) ∙ (ap (peer-of-held issued) (shows i n e) ∙ (peer-by issued n.handle ∙ sym (ap (λ o. peer-of-handle issued (option_and_then (λ (m : Node). m.handle) o)) e)))
 
   -- so edges between nodes are carried where those between their rows are
-  carried-same : (issued : List Issued) (edges : List (ℕ × ℕ)) → carried_to_peers issued g.nodes edges ≡ carried_edges t issued (map (both (number_at g)) edges)
+  end-same : (issued : List Issued) (e : End) → node_end issued g.nodes e ≡ carried_end t issued (through (number_at g) e)
+  end-same issued (node i) = ap node (sym (peer-same issued i))
+  end-same issued (temporary c) = refl
+
+  carried-same : (issued : List Issued) (edges : List (End × End)) → carried_to_peers issued g.nodes edges ≡ carried_edges t issued (map (through-both (number_at g)) edges)
   carried-same issued [] = refl
   carried-same issued (e ∷ edges) =
-      ap (λ (x : ℕ). (x, peer_of_node issued g.nodes e.1) ∷ carried_to_peers issued g.nodes edges) (sym (peer-same issued e.0))
-      ∙ (ap (λ (y : ℕ). (peer_of_row t issued (number_at g e.0), y) ∷ carried_to_peers issued g.nodes edges) (sym (peer-same issued e.1))
-      ∙ ap (λ l. (peer_of_row t issued (number_at g e.0), peer_of_row t issued (number_at g e.1)) ∷ l) (carried-same issued edges))
+      ap (λ (x : End). (x, node_end issued g.nodes e.1) ∷ carried_to_peers issued g.nodes edges) (end-same issued e.0)
+      ∙ (ap (λ (y : End). (carried_end t issued (through (number_at g) e.0), y) ∷ carried_to_peers issued g.nodes edges) (end-same issued e.1)
+      ∙ ap (λ l. (carried_end t issued (through (number_at g) e.0), carried_end t issued (through (number_at g) e.1)) ∷ l) (carried-same issued edges))
 
-  pub carried-is : (issued : List Issued) (l : Listing) → IsListing l.comps l.pairs → carried_to_peers issued g.nodes (mirror_edges l.comps l.pairs) ≡ carried_edges t issued (mirror_edges (numbered_comps g l.comps) l.pairs)
-  carried-is issued l listing = carried-same issued (mirror_edges l.comps l.pairs) ∙ ap (carried_edges t issued) (sym (edges-map (number_at g) l.comps l.pairs listing))
+  pub carried-is : (issued : List Issued) (l : Listing) → IsListing l.comps l.heavy l.pairs → carried_to_peers issued g.nodes (mirror_edges l.comps l.pairs) ≡ carried_edges t issued (mirror_edges (numbered_comps g l.comps) l.pairs)
+  carried-is issued l listing = carried-same issued (mirror_edges l.comps l.pairs) ∙ ap (carried_edges t issued) (sym (edges-map (number_at g) l.comps l.heavy l.pairs listing))
 
   -- a node whose row is a bridge row is a bridge node
   some-handle : (o : Option HNum) (h : ℕ) → handle_number o ≡ Some h → IsSome o
@@ -160,8 +185,8 @@ module _ (t : Managed) (g : Part) (shows : ShowsHandles t g) where
       by (Some n) at = record { node = n; there = at; held = some-handle n.handle h (sym (shows i n at) ∙ (ap (handle_of t) (sym (number-is g i n at)) ∙ e)) }
 
   -- members of components are bridge nodes
-  pub members-bridge : (dead : List ℕ) (comps : List (List ℕ)) (pairs : List (ℕ × ℕ)) → IsDeadContraction t dead (numbered_comps g comps) pairs → AreBridgeNodes g.nodes comps
-  members-bridge dead comps pairs k = λ i x m.
+  pub members-bridge : (dead : List ℕ) (comps : List (List ℕ)) (heavy : List ℕ) (pairs : List (ℕ × ℕ)) → IsDeadContraction t dead (numbered_comps g comps) heavy pairs → AreBridgeNodes g.nodes comps
+  members-bridge dead comps heavy pairs k = λ i x m.
       let at : slice_get (numbered_comps g comps) i ≡ Some (map (number_at g) m.0) = slice_get-map (map (number_at g)) comps i ∙ ap (λ o. option_map (map (number_at g)) o) m.1 in
       let b = (k.members (number_at g x)).0 (i, (map (number_at g) m.0, at, Contains-map (number_at g) m.0 x m.2)) in
       bridge-node x b.1.0 (Holds-handle_of t (number_at g x) b.1.0 b.1.1)

@@ -16,12 +16,13 @@ use Rattle.joint_model.specs.declared.events.Op.{Op}
 use Rattle.joint_model.specs.declared.events.Op.TheVariants as op
 use Rattle.joint_model.specs.declared.events.Reply.{Reply}
 use Rattle.joint_model.specs.declared.events.Reply.TheVariants as says
+use Rattle.joint_model.specs.Components.{End}
 use Rattle.joint_model.specs.Control.{Doing, gripped, doing_after, doing_at, control_after}
 use Rattle.joint_model.specs.Heaps.{Heap, Answered, answer, slot, numbered_at, numbered_set, next_number, is_full, fields_of, with_var, with_field, with_object, copied, field_stored, field_set, read_into, field_got, stored}
 use Rattle.joint_model.specs.Lines.{IsEvent, IsLine, is_peer_event}
 use Rattle.joint_model.specs.Linked.{Linkage, MayCome, SideLawful, peer_after, linkage_after, opening_linkage}
 use Rattle.joint_model.specs.Peers.{Peers, Strength, peer_line, peer_made, pair_made, peer_gripped, landed, name_given, globalised, name_freed, peer_read, name_read, peer_name, handle_name, next_handle, handles_full, with_peer, with_handle, sort_of, peer_of, held, raw, strong}
-use Rattle.joint_model.specs.PeerReplay.{PeerReplay, Marking, TableRow, peer_answer, peer_thread_line, bring_by, sliced, begun, swept, swept_of, is_thread, restored_by, row_of, mirrored, table_target, with_restored, brought_handle}
+use Rattle.joint_model.specs.PeerReplay.{PeerReplay, Marking, TableRow, peer_answer, peer_thread_line, bring_by, sliced, begun, swept, swept_of, is_thread, restored_by, row_of, mirrored, table_target, renewed_on, withdrawn}
 use Rattle.joint_model.specs.Run.{thread_number}
 use Rattle.joint_model.specs.Told.{Told, Noted, references_of, slice_of, sweep_of}
 use Rattle.joint_model.proofs.Deciding.{none_some}
@@ -232,12 +233,15 @@ restored_narrow : (s : PeerReplay) (h : ℕ) (o : Option TableRow) → AreNarrow
 restored_narrow s h None k = k
 restored_narrow s h (Some row) k = by row.cleared
   where
-    by : (b : Bool) → AreNarrow (if b then answer says.Cleared (record s { table = numbered_set s.table h None; mirror = with_restored s.mirror h })
-        else answer says.Alive (record s { table = numbered_set s.table h (Some (record row { strength = strong })); mirror = with_restored s.mirror h; marking = brought_handle s.marking (peer_of s.peers.issued h) })).state.peers.heap
-    by true = k
-    by false = k
+    given : (p : Option ℕ) → AreNarrow (renewed_on s h p).state.peers.heap
+    given None = k
+    given (Some p) = k
 
-mirrored_narrow : (s : PeerReplay) (c : ℕ) (cites : Option ℕ) (refs : List (ℕ × ℕ)) → AreNarrow s.peers.heap → AreNarrow (mirrored s c cites refs).peers.heap
+    by : (b : Bool) → AreNarrow (if b then answer says.Cleared (withdrawn s h) else renewed_on s h (peer_of s.peers.issued h)).state.peers.heap
+    by true = k
+    by false = given (peer_of s.peers.issued h)
+
+mirrored_narrow : (s : PeerReplay) (c : ℕ) (cites : Option ℕ) (refs : List (End × End)) → AreNarrow s.peers.heap → AreNarrow (mirrored s c cites refs).peers.heap
 mirrored_narrow s c None refs k = k
 mirrored_narrow s c (Some snap) refs k = k
 

@@ -20,18 +20,19 @@ use Rattle.joint_model.specs.Draws.{numbered}
 use Rattle.joint_model.specs.HistoryLines.{stands_in}
 use Rattle.joint_model.specs.Lines.{is_peer_event}
 use Rattle.joint_model.specs.Managed.{Managed}
-use Rattle.joint_model.specs.Peers.{Issued}
-use Rattle.joint_model.specs.PeerReplay.{PeerReplay, Mirror, MayRestore, row_of, with_restored, with_weakened}
+use Rattle.joint_model.specs.Peers.{Issued, next_handle}
+use Rattle.joint_model.specs.PeerReplay.{PeerReplay, Mirror, TableRow, restored_by, row_of, with_given, with_restored, with_weakened}
 use Rattle.joint_model.specs.Sides.{peer_rules}
 use Rattle.joint_model.specs.Told.{Told, Noted, bare_told, nothing, contraction_of}
 use Rattle.joint_model.proofs.Deciding.{none_some}
+use Rattle.joint_laws.proofs.Restores.{restored-any}
 use Rattle.known_laws.specs.Driving.{IsMirrorOf, MirrorFits}
 use Rattle.known_laws.specs.Growing.{entries}
 use Rattle.known_laws.specs.Pasts.{Lawful, end_of, is_in, line}
 use Rattle.known_laws.proofs.Conditions.{fewer_are_weakened}
 use Rattle.known_laws.proofs.Growing.{entries_append}
 use Rattle.known_laws.proofs.KnownPasts.{known_past_is_kept}
-use Rattle.known_laws.proofs.PeerKeeps.{IsNoMirror, IsUnmirroring, restored-mirror, same_mirror_after, unmirroring}
+use Rattle.known_laws.proofs.PeerKeeps.{IsNoMirror, IsUnmirroring, same_mirror_after, unmirroring}
 use Rattle.known_laws.proofs.SnapTold.{mirrored_candidates_stay}
 use Rattle.peer_side.specs.Cycles.{reserve_left, reserve_over}
 use Rattle.peer_side.specs.Sides.{PeerModel, Reserve, is_own, opening_side, reserve_begun, seen}
@@ -100,8 +101,8 @@ was_to_mark idle num (op.Snap k) reply told n w = absurd w
 was_to_mark (marked p) num (op.Snap k) reply told n w = absurd w
 was_to_mark (restoring p answers) num (op.Snap k) reply told n w = absurd w
 was_to_mark (restored p answers clear) num (op.Snap k) reply told n w = absurd w
-was_to_mark (snapped p) num (op.Contract k) reply (contraction_of comps pairs) n w = absurd w
-was_to_mark (contracted p comps pairs) num (op.Mirror k) reply told n w = absurd n
+was_to_mark (snapped p) num (op.Contract k) reply (contraction_of comps heavy pairs) n w = absurd w
+was_to_mark (contracted p comps heavy pairs) num (op.Mirror k) reply told n w = absurd n
 was_to_mark st num o reply told n w = absurd w
 
 own_due : (st : Stand) (m : Managed) (i : List Issued) (num : ℕ) (o : Op) (reply : Reply) (cites : Option ℕ) (told : Told) (due : Bool) → DriverAllows st m i o reply cites told → (IsToMark st → due ≡ true) → IsToMark (stand_after st num o reply told) → due_after C o due ≡ true
@@ -210,6 +211,15 @@ restored_on : (o : Option Mirror) (h : ℕ) (n : Mirror) → with_restored o h �
 restored_on None h n e = absurd (none_some n e)
 restored_on (Some m) h n e = (m, refl, ap (λ (z : Mirror). z.snap) (same_Some _ n e), ap (λ (z : Mirror). length z.weakened) (same_Some _ n e))
 
+renewed_on : (o : Option Mirror) (h g : ℕ) (n : Mirror) → with_given (with_restored o h) g ≡ Some n → (m : Mirror) × (o ≡ Some m) × (m.snap ≡ n.snap) × (length m.weakened ≡ length n.weakened)
+renewed_on None h g n e = absurd (none_some n e)
+renewed_on (Some m) h g n e = (m, refl, ap (λ (z : Mirror). z.snap) (same_Some _ n e), ap (λ (z : Mirror). length z.weakened) (same_Some _ n e))
+
+restored_keeps : (s : PeerReplay) (h : ℕ) (o : Option TableRow) (n : Mirror) → (restored_by s h o).state.mirror ≡ Some n → (m : Mirror) × (s.mirror ≡ Some m) × (m.snap ≡ n.snap) × (length m.weakened ≡ length n.weakened)
+restored_keeps s h o n e =
+    restored-any (λ a. a.state.mirror ≡ Some n → (m : Mirror) × (s.mirror ≡ Some m) × (m.snap ≡ n.snap) × (length m.weakened ≡ length n.weakened)) s h o
+    (λ f. (n, f, refl, refl)) (λ f. restored_on s.mirror h n f) (λ p f. renewed_on s.mirror h (next_handle s.peers) n f) e
+
 -- after a draw of the driver
 module _ (order : OrderId) (seat seat' : Shown) (old new : PeerModel) (n index : ℕ) where
   pub weaken_kept : (h : HNum) (snap : ℕ) → Drew peer_rules 1 order seat seat' (seen old) (seen new) (driver_entry n index (op.Weaken h) says.Ok (Some snap)) nothing → new.reserve ≡ reserve_left old.reserve → 1 ≤ old.reserve.left → KeepsReserve old new
@@ -224,11 +234,9 @@ module _ (order : OrderId) (seat seat' : Shown) (old new : PeerModel) (n index :
   pub restore_kept : (h : HNum) (reply : Reply) → Drew peer_rules 1 order seat seat' (seen old) (seen new) (driver_entry n index (op.Restore h) reply None) nothing → new.reserve ≡ old.reserve → KeepsReserve old new
   restore_kept h reply d r =
       let left : new.reserve.left ≡ old.reserve.left = ap (λ (x : Reserve). x.left) r in
-      let may : MayRestore old.state h.0 = d.goes.lawful.1.allowed in
-      let mirror : new.state.mirror ≡ with_restored old.state.mirror h.0 = ap (λ (s : PeerReplay). s.mirror) d.goes.state ∙ restored-mirror old.state h.0 (row_of old.state h.0) may.row may.tabled in
       record {
         waiting = ap (λ (x : Reserve). x.waiting) r;
-        room = λ m f. (let x = restored_on old.state.mirror h.0 m (sym mirror ∙ f) in let same = x.3 in (x.0, x.1, x.2, omega (arith, same, left)));
+        room = λ m f. (let x = restored_keeps old.state h.0 (row_of old.state h.0) m (sym (ap (λ (s : PeerReplay). s.mirror) d.goes.state) ∙ f) in let same = x.3 in (x.0, x.1, x.2, omega (arith, same, left)));
         marking = λ q. ap (λ (x : Reserve). x.marking) r ∙ (q ∙ sym (due_new order seat seat' old new (driver_entry n index (op.Restore h) reply None) nothing d));
       }
 
@@ -302,7 +310,7 @@ weakening_has_room locked mine lent mine1 side index o count h weakened swept m 
     let kept = known_past_is_kept past j.joined.known.lawful in
     let lent_r : PeerReserves lent side = reserves_on locked lent side side ks (lent_on C locked mine lent mine1 l) (nothing_kept side side refl refl) r in
     let room : HasRoomToWeaken (end_of past) side.reserve.left = lent_r.room j.joined (j.peer_first (l.whole 1 owns) ∙ ks.state) in
-    let w : IsMirrorOf (end_of past).managed (end_of past).peer o count 0 = subst (MirrorFits (end_of past).managed (end_of past).peer) at.come kept.mirror in
+    let w : IsMirrorOf (end_of past).managed (end_of past).peer o count [] = subst (MirrorFits (end_of past).managed (end_of past).peer) at.come kept.mirror in
     let few = fewer_are_weakened (end_of past) kept o count h weakened swept at.come (candidate_handle_on m (end_of past).managed.managed at.dead kept.kept.managed.managed count h cand) w.mirror w.stands in
     let enough = room w.mirror w.stands in
     omega (arith, few, enough)

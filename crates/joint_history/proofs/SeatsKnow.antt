@@ -29,13 +29,13 @@ use Rattle.known_laws.proofs.Facts.{none_leads_to_cleared, none_leads_to_freed, 
 use Rattle.known_laws.proofs.KnownPasts.{known_past_is_kept}
 use Rattle.known_laws.proofs.Leaving.{handles_leave_so}
 use Rattle.known_laws.proofs.PastLines.{in-line, line-in}
-use Rattle.known_laws.proofs.Restoring.{resolves_free_cleared}
+use Rattle.known_laws.proofs.Restoring.{resolves_free_cleared, restored_hold_the_new}
 use Rattle.order_table.specs.declared.views.View.{View}
 use Rattle.joint_history.specs.Knowing.{line_known}
 use Rattle.view_laws.specs.Knowing.{IsDrawnView}
 use Rattle.joint_history.specs.Locked.{ManagedKnows, PeerKnows}
 use Rattle.joint_history.proofs.KnownViews.{line_of_past}
-use Rattle.joint_history.specs.SeatFacts.{CitesKnown, CitesManaged, CitesPeers, HandlesLeft, ManagedListCites, NoneLeadsToClearedIn, NoneLeadsToFreedIn, PeerListCites, ResolvesFreed, WeakIsWaitingIn}
+use Rattle.joint_history.specs.SeatFacts.{CitesKnown, CitesManaged, CitesPeers, HandlesLeft, ManagedListCites, NoneLeadsToClearedIn, NoneLeadsToFreedIn, PeerListCites, ResolvesFreed, ResolvesRenewed, WeakIsWaitingIn}
 
 -- an entry of a past stands in the lines that it is in, and what stands in a line is one of the past
 to_line : (ns : List Noted) (x : Noted) → InPast ns x → Contains (entries ns) x.entry
@@ -148,7 +148,7 @@ kept_end v a = known_past_is_kept a.known.past a.known.lawful
 takes_peer : (e : Entry) (h : ℕ) → TakesHandle e.made h → is_peer_event e.made.caller e.made.op ≡ true
 takes_peer e h w = ⊎_elim
     (λ (q : e.made.op ≡ op.Release record { 0 = h }). ap (λ (o : Op). is_peer_event e.made.caller o) q)
-    (λ q. ap (λ (o : Op). is_peer_event e.made.caller o) q.0)
+    (λ (q : e.made.op ≡ op.Restore record { 0 = h }). ap (λ (o : Op). is_peer_event e.made.caller o) q)
     w
 
 pub handles_left : (v : View) (s : Side PeerReplay) → PeerKnows v s → HandlesLeft s
@@ -168,3 +168,6 @@ none_to_cleared v a o answers e p q r alive k x y = none_leads_to_cleared (end_o
 
 pub resolves_freed : (v : View) → ResolvesFreed v
 resolves_freed v a x w = let s = each_stands_behind a.known.past a.known.lawful x w in (s, λ k. resolves_free_cleared x s.back s.lawful k)
+
+pub resolves_renewed : (v : View) → ResolvesRenewed v
+resolves_renewed v a x w = let s = each_stands_behind a.known.past a.known.lawful x w in (s, λ k. restored_hold_the_new x s.back s.lawful k)

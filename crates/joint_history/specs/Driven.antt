@@ -1,6 +1,6 @@
 -- What the driver's seat knows, and what the driver's calls under the managed lock do: each makes one entry, after which the driver stands where the
 -- definition puts it.
-use Rattle.std.specs.Prelude.{◌≡◌, ℕ, ◌≤◌, Bool, List, [], ◌∷◌, ◌++◌, length, Option, Some, None}
+use Rattle.std.specs.Prelude.{◌≡◌, ℕ, ◌+◌, ◌≤◌, Bool, List, [], ◌∷◌, ◌++◌, length, Option, Some, None}
 use mathlib.Core.List.{IsPrefix}
 use Rattle.joint_model.specs.declared.names.Thread.TheVariants.{C}
 use Rattle.joint_model.specs.declared.names.Phase.{Phase}
@@ -13,12 +13,12 @@ use Rattle.joint_model.specs.declared.events.Op.{Op}
 use Rattle.joint_model.specs.declared.events.Op.TheVariants as op
 use Rattle.joint_model.specs.declared.events.Reply.{Reply}
 use Rattle.joint_model.specs.declared.events.Reply.TheVariants as says
-use Rattle.joint_model.specs.Control.{OpenSnap, Stand, idle, snapped, contracted, weakening, restored, candidates_of, last_line, IsPhaseOf, IsAtRest}
+use Rattle.joint_model.specs.Control.{OpenSnap, Stand, idle, snapped, contracted, weakening, restored, last_line, IsPhaseOf, IsAtRest}
 use Rattle.joint_model.specs.Cycles.{IsDeadContraction}
 use Rattle.joint_model.specs.Draws.{numbered}
 use Rattle.joint_model.specs.HistoryLines.{caller_line}
 use Rattle.joint_model.specs.Linked.{Linkage}
-use Rattle.joint_model.specs.Managed.{Managed, OpenCycle}
+use Rattle.joint_model.specs.Managed.{Managed, OpenCycle, candidates_of}
 use Rattle.joint_model.specs.ManagedReplay.{IsRefusedIn, refusal_to}
 use Rattle.joint_model.specs.Told.{Told, Noted, Answer, nothing, contraction_of, resolution_of, phase_of}
 use Rattle.known_laws.specs.Driving.{IsPastKept}
@@ -74,30 +74,31 @@ pub record DriverMakesNone (old new : View) : Type 0 where
 abbrev pub driver_entry : ℕ → ℕ → Op → Reply → Option ℕ → Entry
 driver_entry n index o reply cites = numbered n (made_by C index o reply cites)
 
--- these are the components and cross-references of the dead part's contraction, and their numbers
-pub record HasContraction (seen : Managed) (sccs xrefs : ℕ) (comps : List (List ℕ)) (pairs : List (ℕ × ℕ)) : Type 0 where
-  pub exact : (c : OpenCycle) → seen.cycle ≡ Some c → IsDeadContraction seen c.dead comps pairs
-  pub components : sccs ≡ length comps
+-- these are the components, heavy classes and cross-references of the dead part's contraction, and their numbers; heavy classes count as components
+pub record HasContraction (seen : Managed) (sccs xrefs : ℕ) (comps : List (List ℕ)) (heavy : List ℕ) (pairs : List (ℕ × ℕ)) : Type 0 where
+  pub exact : (c : OpenCycle) → seen.cycle ≡ Some c → IsDeadContraction seen c.dead comps heavy pairs
+  pub components : sccs ≡ length comps + length heavy
   pub references : xrefs ≡ length pairs
 
--- the driver has taken the snapshot, and these are the numbers of its dead part's components and cross-references
+-- the driver has taken the snapshot, and these are the numbers of its dead part's components, heavy classes counted in, and cross-references
 pub record MayContractCycle (v : View) (index sccs xrefs : ℕ) : Type 0 where
   pub opened : OpenSnap
   pub seen : Managed
   pub comps : List (List ℕ)
+  pub heavy : List ℕ
   pub pairs : List (ℕ × ℕ)
   pub stands : DriverStands v index (snapped opened) seen
-  pub contraction : HasContraction seen sccs xrefs comps pairs
+  pub contraction : HasContraction seen sccs xrefs comps heavy pairs
 
 -- the driver made the contraction of its cycle, and stands there with the same dead part
 abbrev pub MakesContraction : View → View → ℕ → ℕ → ℕ → ℕ → Type 0
-MakesContraction old new index sccs xrefs n = (o : OpenSnap) (m : Managed) (comps : List (List ℕ)) (pairs : List (ℕ × ℕ)) → DriverStands old index (snapped o) m → HasContraction m sccs xrefs comps pairs
-    → DriverMakes old new (snapped o) m (driver_entry n index (op.Contract record { 0 = o.cycle }) (says.Sccs sccs xrefs) None) (contraction_of comps pairs) × DriverStands new index (contracted o comps pairs) m
+MakesContraction old new index sccs xrefs n = (o : OpenSnap) (m : Managed) (comps : List (List ℕ)) (heavy : List ℕ) (pairs : List (ℕ × ℕ)) → DriverStands old index (snapped o) m → HasContraction m sccs xrefs comps heavy pairs
+    → DriverMakes old new (snapped o) m (driver_entry n index (op.Contract record { 0 = o.cycle }) (says.Sccs sccs xrefs) None) (contraction_of comps heavy pairs) × DriverStands new index (contracted o comps heavy pairs) m
 
 -- the driver's cycle is open, and not yet mirrored
 abbrev pub IsUnmirrored : Stand → OpenSnap → Type 0
 IsUnmirrored (snapped o) p = o ≡ p
-IsUnmirrored (contracted o comps pairs) p = o ≡ p
+IsUnmirrored (contracted o comps heavy pairs) p = o ≡ p
 IsUnmirrored _ p = ⊥
 
 -- so it is by what the driver's seat knows

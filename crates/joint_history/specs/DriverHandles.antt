@@ -5,8 +5,8 @@ use Rattle.joint_model.specs.declared.names.Cycle.{Cycle}
 use Rattle.joint_model.specs.declared.names.HNum.{HNum}
 use Rattle.joint_model.specs.declared.events.Op.TheVariants as op
 use Rattle.joint_model.specs.declared.events.Reply.TheVariants as says
-use Rattle.joint_model.specs.Control.{OpenSnap, weakening, restoring, restored, answer_in, candidates_of, IsCandidateHandle}
-use Rattle.joint_model.specs.Managed.{Managed}
+use Rattle.joint_model.specs.Control.{OpenSnap, weakening, restoring, restored, answer_in, IsCandidateHandle}
+use Rattle.joint_model.specs.Managed.{Managed, candidates_of}
 use Rattle.joint_model.specs.Told.{Answer, nothing}
 use Rattle.global_handles.specs.declared.Back.{Back}
 use Rattle.peer_side.specs.Cycles.{reply_of}

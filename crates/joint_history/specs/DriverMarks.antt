@@ -4,8 +4,8 @@ use Rattle.std.specs.Prelude.{◌≡◌, ℕ, Bool, true, false, List, [], lengt
 use Rattle.joint_model.specs.declared.names.Marking.{Marking}
 use Rattle.joint_model.specs.declared.events.Op.TheVariants as op
 use Rattle.joint_model.specs.declared.events.Reply.TheVariants as says
-use Rattle.joint_model.specs.Control.{OpenSnap, Stand, weakening, marked, restoring, candidates_of, MaySweepNow}
-use Rattle.joint_model.specs.Managed.{Managed}
+use Rattle.joint_model.specs.Control.{OpenSnap, Stand, weakening, marked, restoring, MaySweepNow}
+use Rattle.joint_model.specs.Managed.{Managed, candidates_of}
 use Rattle.joint_model.specs.PeerReplay.{PeerReplay}
 use Rattle.joint_model.specs.Sides.{Side, peer_rules}
 use Rattle.joint_model.specs.Told.{nothing, sweep_of}

@@ -4,7 +4,7 @@ use Rattle.std.specs.Prelude.{◌≡◌, ℕ, false, List, length, map, slice_in
 use Rattle.joint_model.specs.declared.names.Cycle.{Cycle}
 use Rattle.joint_model.specs.declared.events.Op.TheVariants as op
 use Rattle.joint_model.specs.declared.events.Reply.TheVariants as says
-use Rattle.joint_model.specs.Components.{mirror_edges}
+use Rattle.joint_model.specs.Components.{End, mirror_edges}
 use Rattle.joint_model.specs.Control.{OpenSnap, contracted, weakening, carried_edges}
 use Rattle.joint_model.specs.Managed.{Managed, OpenCycle}
 use Rattle.joint_model.specs.PeerReplay.{PeerReplay}
@@ -27,15 +27,17 @@ number_at g i = slice_index (numbers_of g.nodes) i
 abbrev pub numbered_comps : Part → List (List ℕ) → List (List ℕ)
 numbered_comps g comps = map (map (number_at g)) comps
 
--- the graph is that of the open cycle's dead part, and these components and cross-references are those that the listing has of its nodes
-pub record IsListedBy (g : Part) (l : Listing) (seen : Managed) (comps : List (List ℕ)) (pairs : List (ℕ × ℕ)) : Type 0 where
+-- the graph is that of the open cycle's dead part, and these components and cross-references are those that the listing has of its nodes, with as many
+-- heavy classes
+pub record IsListedBy (g : Part) (l : Listing) (seen : Managed) (comps : List (List ℕ)) (heavy : List ℕ) (pairs : List (ℕ × ℕ)) : Type 0 where
   pub cycle : OpenCycle
   pub opened : seen.cycle ≡ Some cycle
   pub graph : IsDeadGraph seen cycle.dead g
   pub comps_same : comps ≡ numbered_comps g l.comps
+  pub heavy_same : length heavy ≡ l.heavy
   pub pairs_same : pairs ≡ l.pairs
 
--- the side drew the cycle's mirror: one entry, with the mirror edges of the graph's components, carried to the peers of its handles
+-- the side drew the cycle's mirror: one entry, with the mirror edges of the graph's components, carried to the peers of its handles and to temporaries
 pub record DrawsMirror (order : OrderId) (seat seat' : Shown) (side side' : Side PeerReplay) (index : ℕ) (k : Cycle) (snap : ℕ) (g : Part) (l : Listing) (n refs : ℕ) : Type 0 where
   pub drew : Drew peer_rules 1 order seat seat' side side' (driver_entry n index (op.Mirror k) (says.Refs refs) (Some snap)) (references_of (carried_to_peers side.state.peers.issued g.nodes (mirror_edges l.comps l.pairs)))
   pub count : refs ≡ length (mirror_edges l.comps l.pairs)
@@ -44,22 +46,23 @@ pub record DrawsMirror (order : OrderId) (seat seat' : Shown) (side side' : Side
 pub record MayMirrorCycle (v : View) (index k snap : ℕ) (g : Part) (l : Listing) : Type 0 where
   pub opened : OpenSnap
   pub comps : List (List ℕ)
+  pub heavy : List ℕ
   pub pairs : List (ℕ × ℕ)
   pub seen : Managed
-  pub stands : DriverStands v index (contracted opened comps pairs) seen
-  pub listed : IsListedBy g l seen comps pairs
+  pub stands : DriverStands v index (contracted opened comps heavy pairs) seen
+  pub listed : IsListedBy g l seen comps heavy pairs
   pub same_cycle : opened.cycle ≡ k
   pub same_snap : opened.snap ≡ snap
 
 -- the driver mirrored its cycle, with so many references: they are the mirror edges, carried to the peers of the handles as both stood before the entry
-pub record MirrorsCycle (old new : View) (index n refs : ℕ) (k : Cycle) (o : OpenSnap) (comps : List (List ℕ)) (pairs : List (ℕ × ℕ)) (m : Managed) : Type 0 where
-  pub told : List (ℕ × ℕ)
-  pub makes : DriverMakes old new (contracted o comps pairs) m (driver_entry n index (op.Mirror k) (says.Refs refs) (Some o.snap)) (references_of told)
+pub record MirrorsCycle (old new : View) (index n refs : ℕ) (k : Cycle) (o : OpenSnap) (comps : List (List ℕ)) (heavy : List ℕ) (pairs : List (ℕ × ℕ)) (m : Managed) : Type 0 where
+  pub told : List (End × End)
+  pub makes : DriverMakes old new (contracted o comps heavy pairs) m (driver_entry n index (op.Mirror k) (says.Refs refs) (Some o.snap)) (references_of told)
   pub carried : told ≡ carried_edges makes.state.managed.managed makes.state.peer.peers.issued (mirror_edges comps pairs)
   pub count : refs ≡ length (mirror_edges comps pairs)
   pub stands : DriverStands new index (weakening o 0 false false) m
 
 -- so it is from wherever the driver might mirror it
 abbrev pub MakesMirror : View → View → ℕ → Cycle → ℕ → Part → Listing → ℕ → ℕ → Type 0
-MakesMirror old new index k snap g l refs n = (o : OpenSnap) (comps : List (List ℕ)) (pairs : List (ℕ × ℕ)) (m : Managed) → DriverStands old index (contracted o comps pairs) m → IsListedBy g l m comps pairs → o.cycle ≡ k.0 → o.snap ≡ snap
-    → MirrorsCycle old new index n refs k o comps pairs m
+MakesMirror old new index k snap g l refs n = (o : OpenSnap) (comps : List (List ℕ)) (heavy : List ℕ) (pairs : List (ℕ × ℕ)) (m : Managed) → DriverStands old index (contracted o comps heavy pairs) m → IsListedBy g l m comps heavy pairs → o.cycle ≡ k.0 → o.snap ≡ snap
+    → MirrorsCycle old new index n refs k o comps heavy pairs m

@@ -146,7 +146,7 @@ pub record AreNumbersOf (e : RunEnd) (l : ManagedReplay) (r : PeerReplay) : Type
   pub managed_left : e.managed.left + length l.managed.heap.freed ≡ length l.managed.heap.fields
   pub peers : e.peers.all ≡ length r.peers.heap.fields
   pub peers_left : e.peers.left + length r.peers.heap.freed ≡ length r.peers.heap.fields
-  pub handles : e.handles.all ≡ length r.peers.issued
+  pub handles : e.handles.all ≡ r.peers.made
   pub handles_left : e.handles.left ≡ count_by is_some r.table
 
 -- a history is finished by notes after which both sides' states have these numbers

@@ -10,8 +10,9 @@ use Rattle.joint_model.specs.declared.events.Made.{Made}
 use Rattle.joint_model.specs.declared.events.Op.{Op}
 use Rattle.joint_model.specs.declared.events.Op.TheVariants as op
 use Rattle.joint_model.specs.declared.events.Reply.{Reply}
-use Rattle.joint_model.specs.Control.{Control, Doing, candidates_of, free, doing_at, doing_after, last_line, ThreadAllows}
+use Rattle.joint_model.specs.Control.{Control, Doing, free, doing_at, doing_after, last_line, ThreadAllows}
 use Rattle.joint_model.specs.Draws.{numbered}
+use Rattle.joint_model.specs.Managed.{candidates_of}
 use Rattle.joint_model.specs.HistoryLines.{caller_line}
 use Rattle.joint_model.specs.Lines.{is_read}
 use Rattle.joint_model.specs.Linked.{Linkage}

@@ -1,17 +1,18 @@
 -- What holds under each side's lock and of each caller, fact by fact: what its seat knows, which entries of the other side its list cites, and
 -- what that says of handles, references and resolutions. Each is kept with no lock on the other side.
-use Rattle.std.specs.Prelude.{◌≡◌, ◌⊎◌, ℕ, ◌↔◌, List, Contains, Some, slice_get}
+use Rattle.std.specs.Prelude.{◌≡◌, ◌⊎◌, ◌∷◌, ℕ, ◌↔◌, List, Contains, Some, slice_get}
 use Rattle.joint_model.specs.declared.names.Cycle.{Cycle}
 use Rattle.joint_model.specs.declared.events.Entry.{Entry}
 use Rattle.joint_model.specs.declared.events.Made.{Made}
 use Rattle.joint_model.specs.declared.events.Op.{Op}
 use Rattle.joint_model.specs.declared.events.Op.TheVariants as op
-use Rattle.joint_model.specs.Control.{OpenSnap, candidates_of, restoring}
+use Rattle.joint_model.specs.Control.{OpenSnap, restoring}
+use Rattle.joint_model.specs.Managed.{Holds, candidates_of}
 use Rattle.joint_model.specs.Heaps.{IsLive, fields_of}
 use Rattle.joint_model.specs.Peers.{weak}
 use Rattle.joint_model.specs.PeerReplay.{Mirror, PeerReplay, Refers, TableRow}
 use Rattle.joint_model.specs.Sides.{Side}
-use Rattle.joint_model.specs.Told.{Answer, IsKept, Noted, bare_told, resolution_of, said_cleared}
+use Rattle.joint_model.specs.Told.{Answer, IsKept, Noted, bare_told, resolution_of, said_alive, said_cleared}
 use Rattle.joint_laws.specs.LinkedInvariants.{HasStrength, IsHeldOne}
 use Rattle.joint_laws.specs.PeerInvariants.{IsTabled}
 use Rattle.known_laws.specs.Citations.{IsClearOf, IsGiveOf, IsGripOf, IsLendOf, IsMakeOf, IsMeetOf, IsSnapOf, StandsBehind, restores_in}
@@ -52,7 +53,7 @@ PeerListCites v es = (e : Entry) → Contains es e → CitesManaged v e e.made.o
 abbrev pub ManagedListCites : View → List Entry → Type 0
 ManagedListCites v es = (e : Entry) → Contains es e → CitesPeers v e e.made.op
 
--- a held handle left the table only by a release or by a restore that answered cleared
+-- a held handle left the table only by a release or by a restore
 abbrev pub HandlesLeft : Side PeerReplay → Type 0
 HandlesLeft s = (h : ℕ) → IsHeldOne s.state h → ((row : TableRow) → IsTabled s.state.table h row → ⊥) → (e : Entry) × Contains s.entries e × TakesHandle e.made h
 
@@ -77,3 +78,11 @@ ResolveFreed x h = (k : Cycle) → x.entry.made.op ≡ op.Resolve k → (answers
 -- so did each resolve that the seat knows
 abbrev pub ResolvesFreed : View → Type 0
 ResolvesFreed v = (a : IsDrawnView v) (x : Noted) → InPast a.known.past x → (b : StandsBehind a.known.past x) × ResolveFreed x b.back
+
+-- the latest entry of a past, where it is a resolve, gave each of its candidates whose restore answered alive the handle that this restore gave
+abbrev pub ResolveRenewed : Noted → List Noted → Type 0
+ResolveRenewed x h = (k : Cycle) → x.entry.made.op ≡ op.Resolve k → (i g m n : ℕ) → slice_get (restores_in h) i ≡ Some (g, said_alive n) → slice_get (candidates_of (end_of h).managed.managed) i ≡ Some m → Holds (end_of (x ∷ h)).managed.managed m n
+
+-- so did each resolve that the seat knows
+abbrev pub ResolvesRenewed : View → Type 0
+ResolvesRenewed v = (a : IsDrawnView v) (x : Noted) → InPast a.known.past x → (b : StandsBehind a.known.past x) × ResolveRenewed x b.back

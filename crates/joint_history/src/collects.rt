@@ -25,7 +25,7 @@ fn collect_by(
     side: &mut PeerSide,
     drawing: &mut SeatDrawing<'_>,
     caller: Thread,
-    index: u16,
+    index: u32,
 ) -> Result<Receipt, AllocError>
     requires role { drawing.old.role ≡ Role.Peer }
     requires first { drawing.old.first ≡ None }
@@ -59,7 +59,7 @@ fn draw_collect(
     order: &Order,
     seat: &mut Seat,
     caller: Thread,
-    index: u16,
+    index: u32,
 ) -> Result<Receipt, AllocError>
     requires thread { IsPeerThread caller }
     requires takes { TakesPeer side.old.threads caller }
@@ -92,7 +92,7 @@ impl<N: OrderName> LockedPeer<N> {
         order: &Order,
         mine: &mut Seat,
         caller: Thread,
-        index: u16,
+        index: u32,
     ) -> Result<Receipt, AllocError>
         requires order { (order.now ≡ N.order) × (mine.old.order ≡ N.order) }
         requires settled { Settled mine.old.view }

@@ -1,6 +1,6 @@
 // The driver's calls under the managed lock. Each lends the driver's lines to the locked seat, lets the side draw by it, and hands them back.
 
-ghost use Rattle.std.specs.Prelude.{◌≡◌, ◌≤◌, ℕ, ◌+◌, Bool, Some, None, IsSome, IfOk, OnErr, count_by};
+ghost use Rattle.std.specs.Prelude.{◌≡◌, ◌≤◌, ℕ, ◌+◌, Bool, Some, None, IsSome, IfOk, OnErr, count_by, is_some};
 ghost use Rattle.joint_model.specs.declared.names.Thread.TheVariants.{C};
 ghost use Rattle.joint_model.specs.declared.lines.Act.TheVariants as act;
 ghost use Rattle.joint_model.specs.declared.events.Op.{Op};
@@ -34,7 +34,7 @@ fn draw_contraction(
     side: &mut ManagedSide,
     order: &Order,
     seat: &mut Seat,
-    index: u16,
+    index: u32,
     sccs: u32,
     xrefs: u32,
 ) -> u64
@@ -57,7 +57,7 @@ fn draw_contraction(
 }
 
 // The side draws by the seat the entry that abandons its cycle, and the gate is opened. The entry's number is answered.
-fn draw_abandon(side: &mut ManagedSide, order: &Order, seat: &mut Seat, index: u16) -> u64
+fn draw_abandon(side: &mut ManagedSide, order: &Order, seat: &mut Seat, index: u32) -> u64
     requires open { IsSome side.old.state.managed.cycle }
     requires order { seat.old.order ≡ order.now }
     requires owner { Owns seat.old.view 0 × Owns seat.old.view (caller_line C) }
@@ -85,7 +85,7 @@ fn draw_resolution(
     side: &mut ManagedSide,
     order: &Order,
     seat: &mut Seat,
-    index: u16,
+    index: u32,
     cites: u64,
     alive: &Alive,
 ) -> (u64, ResolveOut)
@@ -115,7 +115,7 @@ fn draw_refusal(
     side: &mut ManagedSide,
     order: &Order,
     seat: &mut Seat,
-    index: u16,
+    index: u32,
     word: PhaseWord,
     phase: Phase,
 ) -> Result<(u64, Reply), AllocError>
@@ -146,7 +146,7 @@ impl<N: OrderName> LockedManaged<N> {
         &mut self,
         order: &Order,
         mine: &mut Seat,
-        index: u16,
+        index: u32,
         sccs: u32,
         xrefs: u32,
     ) -> u64
@@ -167,7 +167,7 @@ impl<N: OrderName> LockedManaged<N> {
 
     /// Abandons the open cycle, which isn't mirrored yet: nothing is freed. Answers the entry's number. `mine` is the driver's seat, which knows the
     /// entry then. It takes no memory.
-    pub(crate) fn abandon(&mut self, order: &Order, mine: &mut Seat, index: u16) -> u64
+    pub(crate) fn abandon(&mut self, order: &Order, mine: &mut Seat, index: u32) -> u64
         requires order { (order.now ≡ N.order) × (mine.old.order ≡ N.order) }
         requires settled { Settled mine.old.view }
         requires pass { HoldsPass C mine.old.view }
@@ -190,7 +190,7 @@ impl<N: OrderName> LockedManaged<N> {
         &mut self,
         order: &Order,
         mine: &mut Seat,
-        index: u16,
+        index: u32,
         clear: u64,
         alive: &Alive,
     ) -> (u64, ResolveOut)
@@ -202,7 +202,7 @@ impl<N: OrderName> LockedManaged<N> {
         ensures settled { Settled mine.new.view }
         ensures pass { HoldsPass C mine.new.view }
         ensures makes { MakesResolution mine.old.view mine.new.view index clear result.0 (answers_of alive.now.values) result.1.freed }
-        ensures kept { result.1.kept ≡ count_by (λ b. b) alive.now.values }
+        ensures kept { result.1.kept ≡ count_by is_some alive.now.values }
     {
         lend(order, &mut self.seat, mine, Thread::C);
         let out = draw_resolution(&mut self.side, order, &mut self.seat, index, clear, alive);
@@ -216,7 +216,7 @@ impl<N: OrderName> LockedManaged<N> {
         &mut self,
         order: &Order,
         mine: &mut Seat,
-        index: u16,
+        index: u32,
         word: PhaseWord,
         phase: Phase,
     ) -> Result<(u64, Reply), AllocError>
@@ -242,7 +242,7 @@ impl<N: OrderName> LockedManaged<N> {
         &mut self,
         order: &Order,
         mine: &mut Seat,
-        index: u16,
+        index: u32,
         count: u32,
     ) -> Result<(u64, Reply), AllocError>
         requires order { (order.now ≡ N.order) × (mine.old.order ≡ N.order) }

@@ -1,7 +1,7 @@
 // The driver's calls on a shared bridge: each takes one lock, makes the driver's entries in one hold of it, and gives it back. What the driver knows goes
 // with its caller, so a call is asked for where the driver stands, and answers where it stands then.
 
-ghost use Rattle.std.specs.Prelude.{◌≡◌, ◌⊎◌, ◌≤◌, IfErr, IfOk, OnErr, count_by};
+ghost use Rattle.std.specs.Prelude.{◌≡◌, ◌⊎◌, ◌≤◌, IfErr, IfOk, OnErr, count_by, is_some};
 ghost use Rattle.joint_model.specs.Lines.{IsDriver};
 ghost use Rattle.joint_model.specs.Listed.{answers_of};
 ghost use Rattle.joint_history.specs.Driven.{DriverMakesNone, DriverRests, MakesAbandon, MakesContraction, MakesFinalise, MakesRefusal, MakesResolution, MayAbandonCycle, MayContractCycle, MayFinalise, MayRefuseWord, MayResolveCycle};
@@ -29,7 +29,7 @@ impl<N: OrderName, K: Keeps<N>> Shared<N, K> {
         &self,
         rt: &impl Wait,
         driver: &mut Caller<N>,
-        index: u16,
+        index: u32,
         sccs: u32,
         xrefs: u32,
     ) -> u64
@@ -45,7 +45,7 @@ impl<N: OrderName, K: Keeps<N>> Shared<N, K> {
     }
 
     /// The driver abandons its open cycle, which isn't mirrored yet: nothing is freed. Answers the entry's number. It takes no memory.
-    pub fn abandon(&self, rt: &impl Wait, driver: &mut Caller<N>, index: u16) -> u64
+    pub fn abandon(&self, rt: &impl Wait, driver: &mut Caller<N>, index: u32) -> u64
         requires driver { IsDriver driver.old.thread }
         requires may { MayAbandonCycle driver.old.view index }
         ensures thread { driver.new.thread ≡ driver.old.thread }
@@ -63,7 +63,7 @@ impl<N: OrderName, K: Keeps<N>> Shared<N, K> {
         &self,
         rt: &impl Wait,
         driver: &mut Caller<N>,
-        index: u16,
+        index: u32,
         clear: u64,
         alive: &Alive,
     ) -> (u64, ResolveOut)
@@ -71,7 +71,7 @@ impl<N: OrderName, K: Keeps<N>> Shared<N, K> {
         requires may { MayResolveCycle driver.old.view index clear (answers_of alive.now.values) }
         ensures thread { driver.new.thread ≡ driver.old.thread }
         ensures makes { MakesResolution driver.old.view driver.new.view index clear result.0 (answers_of alive.now.values) result.1.freed }
-        ensures kept { result.1.kept ≡ count_by (λ b. b) alive.now.values }
+        ensures kept { result.1.kept ≡ count_by is_some alive.now.values }
     {
         self.managed
             .hold(rt)
@@ -85,7 +85,7 @@ impl<N: OrderName, K: Keeps<N>> Shared<N, K> {
         &self,
         rt: &impl Wait,
         driver: &mut Caller<N>,
-        index: u16,
+        index: u32,
         word: PhaseWord,
         phase: Phase,
     ) -> Result<(u64, Reply), AllocError>
@@ -107,7 +107,7 @@ impl<N: OrderName, K: Keeps<N>> Shared<N, K> {
         &self,
         rt: &impl Wait,
         driver: &mut Caller<N>,
-        index: u16,
+        index: u32,
         count: u32,
     ) -> Result<(u64, Reply), AllocError>
         requires driver { IsDriver driver.old.thread }
@@ -128,7 +128,7 @@ impl<N: OrderName, K: Keeps<N>> Shared<N, K> {
         &self,
         rt: &impl Wait,
         driver: &mut Caller<N>,
-        index: u16,
+        index: u32,
     ) -> Result<Opened, SnapFault>
         requires driver { IsDriver driver.old.thread }
         requires may { DriverRests driver.old.view index }
@@ -150,7 +150,7 @@ impl<N: OrderName, K: Keeps<N>> Shared<N, K> {
         &self,
         rt: &impl Wait,
         driver: &mut Caller<N>,
-        index: u16,
+        index: u32,
     ) -> Result<Opened, SnapFault>
         requires driver { IsDriver driver.old.thread }
         requires may { DriverRests driver.old.view index }
@@ -174,7 +174,7 @@ impl<N: OrderName, K: Keeps<N>> Shared<N, K> {
         &self,
         rt: &impl Wait,
         driver: &mut Caller<N>,
-        index: u16,
+        index: u32,
         snap: u64,
         h: HNum,
     ) -> u64
@@ -191,7 +191,7 @@ impl<N: OrderName, K: Keeps<N>> Shared<N, K> {
 
     /// The driver, which has weakened all handles of its cycle, begins the cycle's own marking; one that a peer thread left open is ended first, in the
     /// same hold of the peer lock, so the begin always gives a number. Answers that number and those of the entries. It takes no memory.
-    pub fn mark(&self, rt: &impl Wait, driver: &mut Caller<N>, index: u16) -> Begun
+    pub fn mark(&self, rt: &impl Wait, driver: &mut Caller<N>, index: u32) -> Begun
         requires driver { IsDriver driver.old.thread }
         requires may { MayMarkCycle driver.old.view index }
         ensures thread { driver.new.thread ≡ driver.old.thread }
@@ -205,7 +205,7 @@ impl<N: OrderName, K: Keeps<N>> Shared<N, K> {
 
     /// The driver ends its cycle's own marking: the peers that it doesn't reach are freed. Answers the entry's number, the marking, and where the freed
     /// peers stand among all that were freed. It takes no memory.
-    pub fn sweep(&self, rt: &impl Wait, driver: &mut Caller<N>, index: u16) -> (u64, Swept)
+    pub fn sweep(&self, rt: &impl Wait, driver: &mut Caller<N>, index: u32) -> (u64, Swept)
         requires driver { IsDriver driver.old.thread }
         requires may { HasBegunMarking driver.old.view index }
         ensures thread { driver.new.thread ≡ driver.old.thread }
@@ -217,13 +217,13 @@ impl<N: OrderName, K: Keeps<N>> Shared<N, K> {
             .sweep(&self.order, &mut driver.seat, index)
     }
 
-    /// The driver restores the handle of the next candidate of its cycle: it is strong again, or it left the table since its peer was freed. Answers
-    /// the entry's number and which. It takes no memory.
+    /// The driver restores the handle of the next candidate of its cycle: it leaves the table, and a new strong one on its peer comes for it unless that
+    /// was freed. Answers the entry's number and which. It takes no memory.
     pub fn restore(
         &self,
         rt: &impl Wait,
         driver: &mut Caller<N>,
-        index: u16,
+        index: u32,
         h: HNum,
     ) -> (u64, Back)
         requires driver { IsDriver driver.old.thread }
@@ -239,7 +239,7 @@ impl<N: OrderName, K: Keeps<N>> Shared<N, K> {
 
     /// The driver clears the references of its cycle, all of whose handles are restored: no reference is mirrored any more. Answers the entry's
     /// number, which the cycle's resolve cites. It takes no memory.
-    pub fn clear(&self, rt: &impl Wait, driver: &mut Caller<N>, index: u16, cycle: Cycle) -> u64
+    pub fn clear(&self, rt: &impl Wait, driver: &mut Caller<N>, index: u32, cycle: Cycle) -> u64
         requires driver { IsDriver driver.old.thread }
         requires may { MayClearCycle driver.old.view index cycle.0 }
         ensures thread { driver.new.thread ≡ driver.old.thread }

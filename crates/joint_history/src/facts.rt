@@ -5,7 +5,7 @@ ghost use Rattle.std.specs.Prelude.{◌≡◌};
 ghost use Rattle.peer_side.specs.Sides.{seen};
 ghost use Rattle.joint_history.specs.Callers.{CallerKnows, IsOfRun, reads_of};
 ghost use Rattle.joint_history.specs.Locked.{ManagedKnows, PeerKnows, PeerReserves};
-ghost use Rattle.joint_history.specs.SeatFacts.{HandlesLeft, ManagedListCites, NoneLeadsToClearedIn, NoneLeadsToFreedIn, PeerListCites, ResolvesFreed, WeakIsWaitingIn};
+ghost use Rattle.joint_history.specs.SeatFacts.{HandlesLeft, ManagedListCites, NoneLeadsToClearedIn, NoneLeadsToFreedIn, PeerListCites, ResolvesFreed, ResolvesRenewed, WeakIsWaitingIn};
 
 use crate::callers::Caller;
 use crate::managed::LockedManaged;
@@ -15,12 +15,13 @@ use order_table::OrderName;
 impl<N: OrderName> LockedManaged<N> {
     /// The managed side is for the run's managed threads. Its seat knows a lawful past, of which the side's list is the managed line and whose end
     /// has the side's state. Each adopt, meet and resolve of the list cites a peer entry that the seat knows, and each resolve freed of its
-    /// candidates exactly those whose restore answered cleared.
+    /// candidates exactly those whose restore answered cleared, and gave each other one the handle that its restore gave.
     pub fn facts(&self)
         ensures knows { ManagedKnows self.now.view self.now.side }
         ensures threads { self.now.side.threads ≡ N.managed }
         ensures cites { ManagedListCites self.now.view self.now.side.entries }
         ensures resolved { ResolvesFreed self.now.view }
+        ensures renewed { ResolvesRenewed self.now.view }
     {
         let _ = &self.seat;
     }
@@ -29,7 +30,7 @@ impl<N: OrderName> LockedManaged<N> {
 impl<N: OrderName> LockedPeer<N> {
     /// The peer side is for the run's peer threads. Its seat knows a lawful past, of which the side's list is the peer line and whose end has the
     /// side's state. No reference waits, and a mirrored cycle has room for its handles and its marking. Each land and release of the list cites a
-    /// managed entry that the seat knows, each mirror and weaken a snap. A held handle left the table by a release or a cleared restore, and is weak
+    /// managed entry that the seat knows, each mirror and weaken a snap. A held handle left the table by a release or a restore, and is weak
     /// only while it waits in the mirrored cycle. Nothing leads to a freed peer, and no mirrored reference from a peer restored alive to one whose
     /// restore answered cleared.
     pub fn facts(&self)

@@ -31,7 +31,7 @@ fn draw_weaken(
     side: &mut PeerSide,
     order: &Order,
     seat: &mut Seat,
-    index: u16,
+    index: u32,
     snap: u64,
     h: HNum,
 ) -> u64
@@ -61,7 +61,7 @@ fn draw_restore(
     side: &mut PeerSide,
     order: &Order,
     seat: &mut Seat,
-    index: u16,
+    index: u32,
     h: HNum,
 ) -> (u64, Back)
     requires restores { MayRestore side.old.state h.0 }
@@ -85,7 +85,7 @@ fn draw_restore(
 }
 
 // The side draws the clear of the mirrored references by the seat.
-fn draw_clear(side: &mut PeerSide, order: &Order, seat: &mut Seat, index: u16, cycle: Cycle) -> u64
+fn draw_clear(side: &mut PeerSide, order: &Order, seat: &mut Seat, index: u32, cycle: Cycle) -> u64
     requires clears { MayClear side.old.state cycle.0 }
     requires targets { AreTargetsRestored side.old.state }
     requires may { MayAppend order.now seat.old 1 C (op.Clear cycle) None }
@@ -114,7 +114,7 @@ impl<N: OrderName> LockedPeer<N> {
         &mut self,
         order: &Order,
         mine: &mut Seat,
-        index: u16,
+        index: u32,
         snap: u64,
         h: HNum,
     ) -> u64
@@ -133,13 +133,13 @@ impl<N: OrderName> LockedPeer<N> {
         made
     }
 
-    /// Restores the handle of the next candidate of the driver's cycle: it is strong again, or it left the table since its peer was freed. Answers
-    /// the entry's number and which. `mine` is the driver's seat, which knows the entry then. It takes no memory.
+    /// Restores the handle of the next candidate of the driver's cycle: it leaves the table, and a new strong one on its peer comes for it unless that
+    /// was freed. Answers the entry's number and which. `mine` is the driver's seat, which knows the entry then. It takes no memory.
     pub(crate) fn restore(
         &mut self,
         order: &Order,
         mine: &mut Seat,
-        index: u16,
+        index: u32,
         h: HNum,
     ) -> (u64, Back)
         requires order { (order.now ≡ N.order) × (mine.old.order ≡ N.order) }
@@ -159,7 +159,7 @@ impl<N: OrderName> LockedPeer<N> {
 
     /// Clears the references of the driver's cycle, all of whose handles are restored. Answers the entry's number. `mine` is the driver's seat, which
     /// knows the entry then. It takes no memory.
-    pub(crate) fn clear(&mut self, order: &Order, mine: &mut Seat, index: u16, cycle: Cycle) -> u64
+    pub(crate) fn clear(&mut self, order: &Order, mine: &mut Seat, index: u32, cycle: Cycle) -> u64
         requires order { (order.now ≡ N.order) × (mine.old.order ≡ N.order) }
         requires settled { Settled mine.old.view }
         requires pass { HoldsPass C mine.old.view }

@@ -72,7 +72,7 @@ pub(crate) fn draw_step(
     order: &Order,
     seat: &mut Seat,
     caller: Thread,
-    index: u16,
+    index: u32,
     op: &Op,
     cites: Option<u64>,
 ) -> Result<(u64, Reply), AllocError>
@@ -105,7 +105,7 @@ fn draw_weak(
     order: &Order,
     seat: &mut Seat,
     caller: Thread,
-    index: u16,
+    index: u32,
     k: Cell,
     v: Var,
 ) -> Result<(u64, Reply), AllocError>
@@ -154,7 +154,7 @@ fn draw_take(
     order: &Order,
     seat: &mut Seat,
     caller: Thread,
-    index: u16,
+    index: u32,
     v: Var,
 ) -> Result<(u64, Reply), AllocError>
     requires thread { IsManagedThread caller }
@@ -222,7 +222,7 @@ impl<N: OrderName> LockedManaged<N> {
         order: &Order,
         mine: &mut Seat,
         caller: Thread,
-        index: u16,
+        index: u32,
         op: &Op,
         cites: Option<u64>,
     ) -> Result<(u64, Reply), AllocError>
@@ -260,7 +260,7 @@ impl<N: OrderName> LockedManaged<N> {
         order: &Order,
         mine: &mut Seat,
         caller: Thread,
-        index: u16,
+        index: u32,
         v: Var,
     ) -> Result<(u64, Reply), AllocError>
         requires order { (order.now ≡ N.order) × (mine.old.order ≡ N.order) }
@@ -289,7 +289,7 @@ impl<N: OrderName> LockedManaged<N> {
         order: &Order,
         mine: &mut Seat,
         caller: Thread,
-        index: u16,
+        index: u32,
         k: Cell,
         v: Var,
     ) -> Result<(u64, Reply), AllocError>
@@ -321,7 +321,7 @@ impl<N: OrderName> LockedManaged<N> {
         mine: &mut Seat,
         reads: &mut Entries,
         caller: Thread,
-        index: u16,
+        index: u32,
         act: &Act,
     ) -> (u64, Reply)
         requires order { (order.now ≡ N.order) × (mine.old.order ≡ N.order) }

@@ -31,7 +31,7 @@ pub struct Begun {
 }
 
 // The side draws the sweep of its open marking by the seat. It takes no memory.
-fn draw_sweep(side: &mut PeerSide, order: &Order, seat: &mut Seat, index: u16) -> (u64, Swept)
+fn draw_sweep(side: &mut PeerSide, order: &Order, seat: &mut Seat, index: u32) -> (u64, Swept)
     requires open { IsSome side.old.state.marking }
     requires may { MayAppend order.now seat.old 1 C op.Sweep None }
     requires settled { Settled seat.old.view }
@@ -55,7 +55,7 @@ fn draw_sweep(side: &mut PeerSide, order: &Order, seat: &mut Seat, index: u16) -
 }
 
 // The side draws a begin by the seat. No marking is open, and the room for the mirrored cycle's own is reserved: so it takes no memory.
-fn draw_begin(side: &mut PeerSide, order: &Order, seat: &mut Seat, index: u16) -> (u64, Marking)
+fn draw_begin(side: &mut PeerSide, order: &Order, seat: &mut Seat, index: u32) -> (u64, Marking)
     requires closed { side.old.state.marking ≡ None }
     requires reserved { side.old.reserve.marking ≡ true }
     requires may { MayAppend order.now seat.old 1 C op.Begin None }
@@ -82,7 +82,7 @@ fn draw_begin(side: &mut PeerSide, order: &Order, seat: &mut Seat, index: u16) -
 impl<N: OrderName> LockedPeer<N> {
     /// Ends the open marking, which is the cycle's own or one that a peer thread left open, and answers the entry's number, the marking, and where the
     /// peers that it freed stand among all that were freed. `mine` is the driver's seat, which knows the entry then. It takes no memory.
-    pub(crate) fn sweep(&mut self, order: &Order, mine: &mut Seat, index: u16) -> (u64, Swept)
+    pub(crate) fn sweep(&mut self, order: &Order, mine: &mut Seat, index: u32) -> (u64, Swept)
         requires order { (order.now ≡ N.order) × (mine.old.order ≡ N.order) }
         requires settled { Settled mine.old.view }
         requires pass { HoldsPass C mine.old.view }
@@ -101,7 +101,7 @@ impl<N: OrderName> LockedPeer<N> {
     }
 
     // Begins the cycle's own marking, where none is open. It takes no memory.
-    fn begin(&mut self, order: &Order, mine: &mut Seat, index: u16) -> (u64, Marking)
+    fn begin(&mut self, order: &Order, mine: &mut Seat, index: u32) -> (u64, Marking)
         requires order { (order.now ≡ N.order) × (mine.old.order ≡ N.order) }
         requires settled { Settled mine.old.view }
         requires pass { HoldsPass C mine.old.view }
@@ -119,7 +119,7 @@ impl<N: OrderName> LockedPeer<N> {
     }
 
     // Ends the open marking, if there is one.
-    fn end_open(&mut self, order: &Order, mine: &mut Seat, index: u16) -> Option<(u64, Swept)>
+    fn end_open(&mut self, order: &Order, mine: &mut Seat, index: u32) -> Option<(u64, Swept)>
         requires order { (order.now ≡ N.order) × (mine.old.order ≡ N.order) }
         requires settled { Settled mine.old.view }
         requires pass { HoldsPass C mine.old.view }
@@ -138,7 +138,7 @@ impl<N: OrderName> LockedPeer<N> {
 
     /// Begins the driver's own marking, after it has ended one that a peer thread left open; so the begin always gives a number. `mine` is the driver's
     /// seat, which knows the entries then. It takes no memory.
-    pub(crate) fn mark(&mut self, order: &Order, mine: &mut Seat, index: u16) -> Begun
+    pub(crate) fn mark(&mut self, order: &Order, mine: &mut Seat, index: u32) -> Begun
         requires order { (order.now ≡ N.order) × (mine.old.order ≡ N.order) }
         requires settled { Settled mine.old.view }
         requires pass { HoldsPass C mine.old.view }

@@ -26,7 +26,7 @@ impl<N: OrderName, K: Keeps<N>> Shared<N, K> {
         &self,
         rt: &impl Wait,
         driver: &mut Caller<N>,
-        index: u16,
+        index: u32,
         cycle: Cycle,
         snap: u64,
         graph: &DeadGraph,

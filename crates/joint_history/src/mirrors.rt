@@ -34,7 +34,7 @@ fn draw_mirror(
     side: &mut PeerSide,
     order: &Order,
     seat: &mut Seat,
-    index: u16,
+    index: u32,
     cycle: Cycle,
     snap: u64,
     graph: &DeadGraph,
@@ -51,7 +51,7 @@ fn draw_mirror(
     ensures drew { IfOk result (λ r. DrawsMirror order.now seat.old seat.new (seen side.old) (seen side.new) index cycle snap graph.now comps.now r.0 r.1) }
     ensures reserve { OnOk result (side.new.reserve ≡ reserve_installed (length (handles_of graph.now.nodes))) }
     ensures part { IsPart graph.now.nodes graph.now.edges }
-    ensures listing { IsListing comps.now.comps comps.now.pairs }
+    ensures listing { IsListing comps.now.comps comps.now.heavy comps.now.pairs }
     ensures threads { side.new.threads ≡ side.old.threads }
     ensures err { OnErr result (StaysSeated seat.old seat.new × (side.new ≡ side.old)) }
 {
@@ -75,7 +75,7 @@ impl<N: OrderName> LockedPeer<N> {
         &mut self,
         order: &Order,
         mine: &mut Seat,
-        index: u16,
+        index: u32,
         cycle: Cycle,
         snap: u64,
         graph: &DeadGraph,

@@ -151,7 +151,7 @@ impl<N: OrderName, K: Keeps<N>> Shared<N, K> {
         mine: &mut Seat,
         reads: &mut Entries,
         t: Thread,
-        index: u16,
+        index: u32,
         op: &Op,
         cites: Option<u64>,
     ) -> Result<(u64, Reply), AllocError>
@@ -206,7 +206,7 @@ impl<N: OrderName, K: Keeps<N>> Shared<N, K> {
         mine: &mut Seat,
         reads: &mut Entries,
         t: Thread,
-        index: u16,
+        index: u32,
         op: &Op,
         cites: Option<u64>,
     ) -> Result<(u64, Reply), AllocError>
@@ -244,7 +244,7 @@ impl<N: OrderName, K: Keeps<N>> Shared<N, K> {
         mine: &mut Seat,
         reads: &mut Entries,
         t: Thread,
-        index: u16,
+        index: u32,
         act: &Act,
     ) -> Result<Receipt, AllocError>
         requires order { mine.old.order ≡ N.order }
@@ -297,7 +297,7 @@ impl<N: OrderName, K: Keeps<N>> Shared<N, K> {
         &self,
         rt: &impl Wait,
         caller: &mut Caller<N>,
-        index: u16,
+        index: u32,
         act: &Act,
     ) -> Result<Receipt, AllocError>
         requires act { IsManagedThread caller.old.thread × IsLine caller.old.thread act.now }
@@ -326,7 +326,7 @@ impl<N: OrderName, K: Keeps<N>> Shared<N, K> {
         &self,
         rt: &impl Wait,
         caller: &mut Caller<N>,
-        index: u16,
+        index: u32,
         act: &Act,
     ) -> Result<Receipt, AllocError>
         requires act { IsPeerThread caller.old.thread × IsLine caller.old.thread act.now × IsPeerOperation act.now }

@@ -52,7 +52,7 @@ fn draw_step(
     order: &Order,
     seat: &mut Seat,
     caller: Thread,
-    index: u16,
+    index: u32,
     op: &Op,
     cites: Option<u64>,
 ) -> Result<(u64, Reply), AllocError>
@@ -119,7 +119,7 @@ impl<N: OrderName> LockedPeer<N> {
         order: &Order,
         mine: &mut Seat,
         caller: Thread,
-        index: u16,
+        index: u32,
         op: &Op,
         cites: Option<u64>,
     ) -> Result<(u64, Reply), AllocError>

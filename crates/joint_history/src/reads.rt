@@ -24,7 +24,7 @@ impl<N: OrderName, K: Keeps<N>> Shared<N, K> {
     /// `PinHeld` exactly where the thread's pin still holds an object; else `Pending` only where a cycle held the gate, and never for one that the caller
     /// knows as ended, and `Unset` never where the caller knows the cell as set.
     #[inline(always)]
-    pub fn read_now(&self, caller: &mut Caller<N>, index: u16, act: &Act) -> Got
+    pub fn read_now(&self, caller: &mut Caller<N>, index: u32, act: &Act) -> Got
         requires act { IsManagedThread caller.old.thread × IsRead act.now }
         requires index { last_index (own caller.old) ≤ index }
         requires spare { 1 ≤ caller.old.reads.spare }
@@ -47,7 +47,7 @@ impl<N: OrderName, K: Keeps<N>> Shared<N, K> {
 
     /// Reads a weak cell as [`Shared::read_now`] does, but tries again while a cycle holds the gate, and never answers `Pending`. It takes no lock and no
     /// memory. That it ever ends is not promised.
-    pub fn read_wait(&self, rt: &impl Wait, caller: &mut Caller<N>, index: u16, act: &Act) -> Got
+    pub fn read_wait(&self, rt: &impl Wait, caller: &mut Caller<N>, index: u32, act: &Act) -> Got
         requires act { IsManagedThread caller.old.thread × IsRead act.now }
         requires index { last_index (own caller.old) ≤ index }
         requires spare { 1 ≤ caller.old.reads.spare }

@@ -213,7 +213,7 @@ impl<N: OrderName, K: Keeps<N>> Shared<N, K> {
             left: right.live(),
         };
         let handles = Made {
-            all: right.issued(),
+            all: right.handles_made(),
             left: right.tabled(),
         };
         RunEnd {

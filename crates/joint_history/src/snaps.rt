@@ -102,7 +102,7 @@ fn draw_snap(
     side: &mut ManagedSide,
     order: &Order,
     seat: &mut Seat,
-    index: u16,
+    index: u32,
 ) -> Result<Opened, SnapFault>
     requires closed { side.old.state.managed.cycle ≡ None }
     requires order { seat.old.order ≡ order.now }
@@ -129,7 +129,7 @@ impl<N: OrderName> LockedManaged<N> {
         &mut self,
         order: &Order,
         mine: &mut Seat,
-        index: u16,
+        index: u32,
     ) -> Result<Opened, SnapFault>
         requires order { (order.now ≡ N.order) × (mine.old.order ≡ N.order) }
         requires settled { Settled mine.old.view }

@@ -17,7 +17,7 @@ pub loop-i-preserved : goal.loop-i-preserved
 loop-i-preserved g c = elim c.match-handle.branch [
   | in-Some w ↦ rw (w.driver-is, w.alive-is, w.push.ensures.values) (
     w.restore-back.ensures.thread ∙ c.loop-i.invariant.0,
-    restores_next c.args.driver.now.view c.loop-i.driver.view c.args.index c.args.graph.now.nodes c.loop-i.i c.loop-i.alive.values w.restore-back.new.driver.view w.in-Some.h w.restore-back.result.1 w.is_alive.result w.restore-back.result.0 w.in-Some.ensures w.is_alive.ensures c.loop-i.invariant.1 w.restore-back.ensures.makes,
+    restores_next c.args.driver.now.view c.loop-i.driver.view c.args.index c.args.graph.now.nodes c.loop-i.i c.loop-i.alive.values w.restore-back.new.driver.view w.in-Some.h w.restore-back.result.1 w.given.result w.restore-back.result.0 w.in-Some.ensures w.given.ensures c.loop-i.invariant.1 w.restore-back.ensures.makes,
     (let r = room_next c.args.graph.now.nodes c.loop-i.i c.loop-i.alive.room w.in-Some.h w.in-Some.ensures c.loop-i.invariant.2 in let p = w.push.ensures.room in omega (arith, r, p)),
   )
   | in_default w ↦ rw (w.driver-is, w.alive-is) (

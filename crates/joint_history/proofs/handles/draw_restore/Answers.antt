@@ -1,4 +1,8 @@
+use Rattle.std.proofs.Common.{rules}
+use Rattle.joint_model.specs.Told.{nothing}
+use Rattle.peer_side.specs.Cycles.{restores}
 use Rattle.seat_calls.proofs.Floors.{below_floor, room_left}
+use Rattle.joint_history.proofs.SeatDraws.{peer_settled}
 use Rattle.joint_history.proofs.handles.draw_restore.Goals as goal
 
 pub restore-back-requires-clause-may : goal.restore-back-requires-clause-may
@@ -9,3 +13,9 @@ restore-back-requires-clause-may c = record {
   bare = c.requires.may;
   targets = λ m x. absurd x;
 }
+
+pub returns-clause-settled : goal.returns-clause-settled
+returns-clause-settled c =
+    let a = c.restore-back.ensures.adds in
+    let s = peer_settled _ _ c.args.seat.now _ c.args.side.now.state (restores c.args.index c.args.h c.restore-back.result) nothing a.draws.adds.number a.draws.adds.drawn.3 a.goes.lawful c.requires.settled in
+    search rules

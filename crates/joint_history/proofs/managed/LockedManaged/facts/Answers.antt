@@ -1,7 +1,7 @@
 use Rattle.std.proofs.Common.{subst}
 use Rattle.joint_history.specs.Locked.{UnderManaged}
 use Rattle.joint_history.specs.SeatFacts.{ManagedListCites}
-use Rattle.joint_history.proofs.SeatsKnow.{managed_list_cites, resolves_freed}
+use Rattle.joint_history.proofs.SeatsKnow.{managed_list_cites, resolves_freed, resolves_renewed}
 use Rattle.joint_history.proofs.managed.LockedManaged.facts.Goals as goal
 
 pub returns-clause-cites : goal.returns-clause-cites
@@ -9,3 +9,6 @@ returns-clause-cites g c = subst (λ (u : UnderManaged). ManagedListCites u.view
 
 pub returns-clause-resolved : goal.returns-clause-resolved
 returns-clause-resolved g c = resolves_freed c.args.self.now.view
+
+pub returns-clause-renewed : goal.returns-clause-renewed
+returns-clause-renewed g c = resolves_renewed c.args.self.now.view

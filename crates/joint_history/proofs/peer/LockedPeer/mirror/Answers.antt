@@ -10,14 +10,14 @@ use Rattle.joint_history.proofs.peer.LockedPeer.mirror.Goals as goal
 pub draw_mirror-made-requires-clause-members : goal.draw_mirror-made-requires-clause-members
 draw_mirror-made-requires-clause-members g c =
     let w = c.requires.may in
-    are_bridges c.self.inside.side.state w.opened w.comps w.pairs w.seen c.args.graph.now c.args.comps.now
-    (under_peers c.self.inside.seat.view c.args.mine.now.view c.lend.new.locked.view c.lend.new.mine.view (seen c.self.inside.side) c.args.index (contracted w.opened w.comps w.pairs) w.seen c.requires.pass c.self.invariant.1 c.self.invariant.2 w.stands c.lend.ensures.lent) w.listed
+    are_bridges c.self.inside.side.state w.opened w.comps w.heavy w.pairs w.seen c.args.graph.now c.args.comps.now
+    (under_peers c.self.inside.seat.view c.args.mine.now.view c.lend.new.locked.view c.lend.new.mine.view (seen c.self.inside.side) c.args.index (contracted w.opened w.comps w.heavy w.pairs) w.seen c.requires.pass c.self.invariant.1 c.self.invariant.2 w.stands c.lend.ensures.lent) w.listed
 
 pub draw_mirror-made-requires-clause-strong_ones : goal.draw_mirror-made-requires-clause-strong_ones
 draw_mirror-made-requires-clause-strong_ones g c =
     let w = c.requires.may in
-    are_strong c.self.inside.side.state w.opened w.comps w.pairs w.seen c.args.graph.now c.args.comps.now
-    (under_peers c.self.inside.seat.view c.args.mine.now.view c.lend.new.locked.view c.lend.new.mine.view (seen c.self.inside.side) c.args.index (contracted w.opened w.comps w.pairs) w.seen c.requires.pass c.self.invariant.1 c.self.invariant.2 w.stands c.lend.ensures.lent) w.listed
+    are_strong c.self.inside.side.state w.opened w.comps w.heavy w.pairs w.seen c.args.graph.now c.args.comps.now
+    (under_peers c.self.inside.seat.view c.args.mine.now.view c.lend.new.locked.view c.lend.new.mine.view (seen c.self.inside.side) c.args.index (contracted w.opened w.comps w.heavy w.pairs) w.seen c.requires.pass c.self.invariant.1 c.self.invariant.2 w.stands c.lend.ensures.lent) w.listed
 
 pub draw_mirror-made-requires-clause-none_waits : goal.draw_mirror-made-requires-clause-none_waits
 draw_mirror-made-requires-clause-none_waits g c = c.self.invariant.3.none_waits
@@ -25,8 +25,8 @@ draw_mirror-made-requires-clause-none_waits g c = c.self.invariant.3.none_waits
 pub draw_mirror-made-requires-clause-mirrors : goal.draw_mirror-made-requires-clause-mirrors
 draw_mirror-made-requires-clause-mirrors g c =
     let w = c.requires.may in
-    may_mirror c.self.inside.side.state w.opened w.comps w.pairs w.seen c.args.graph.now c.args.comps.now
-    (under_peers c.self.inside.seat.view c.args.mine.now.view c.lend.new.locked.view c.lend.new.mine.view (seen c.self.inside.side) c.args.index (contracted w.opened w.comps w.pairs) w.seen c.requires.pass c.self.invariant.1 c.self.invariant.2 w.stands c.lend.ensures.lent) w.listed c.args.cycle.0 c.args.snap
+    may_mirror c.self.inside.side.state w.opened w.comps w.heavy w.pairs w.seen c.args.graph.now c.args.comps.now
+    (under_peers c.self.inside.seat.view c.args.mine.now.view c.lend.new.locked.view c.lend.new.mine.view (seen c.self.inside.side) c.args.index (contracted w.opened w.comps w.heavy w.pairs) w.seen c.requires.pass c.self.invariant.1 c.self.invariant.2 w.stands c.lend.ensures.lent) w.listed c.args.cycle.0 c.args.snap
     w.same_cycle w.same_snap
 
 pub give_back-requires-clause-order : goal.give_back-requires-clause-order

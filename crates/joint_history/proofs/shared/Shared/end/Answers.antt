@@ -30,6 +30,6 @@ returns-clause-counted g c = numbered _ _ _ (run_ends _ _ _ c.args.desk c.args.c
   managed_left = c.live.ensures;
   peers = c.made-2.ensures;
   peers_left = c.live-2.ensures;
-  handles = c.issued.ensures;
+  handles = c.handles_made.ensures;
   handles_left = c.tabled.ensures;
 }
