@@ -140,7 +140,7 @@ module _ (seed size : ℕ) (h : Finished) (small : size ≤ 2800) (w : IsGenerat
       let last : linked_end w.noted ≡ replayed ended_threads parts.1 = (exact seed size h w).ends ∙ ap (replayed opening_linkage) parts.2 ∙ replayed-both parts.0 parts.1 opening_linkage in
       let count : filled_ones inv.groups ≡ filled_statics seed size = filled-statics seed size inv.groups inv.shown.spots filled-so in
       ap (λ (t : Tally). t.left) (tallies_of_linked h w.noted w.linked ∙ ap tally_in last)
-      ∙ (state-left inv.minds inv.fills inv.groups (replayed ended_threads parts.1) ended.settled ended.kept ended.closed ended.rows ended.peers
+      ∙ (state-left inv.minds inv.fills inv.groups (replayed ended_threads parts.1) ended.settled ended.kept ended.rests ended.closed ended.rows ended.peers
       ∙ (λ i. record { managed = 2 * count i; peers = count i; handles = count i }))
 
   alike : tally_of h.entries ≡ generated_tally seed size

@@ -1,33 +1,33 @@
 -- A cycle that runs when all threads have ended leaves what is kept and nothing else: phase by phase, what is known of the rows that are left.
 use Rattle.std.proofs.Common.{◌≡◌, ℕ, suc, inl, inr, List, [], ◌∷◌, Option, Some, None, refl, sym, ap, subst, ◌∙◌, arith}
 use Rattle.std.specs.Prelude.{Contains, slice_get, if◌then◌else◌}
-use Rattle.std.proofs.lemmas.Option.{same_Some, slice_get_within}
+use Rattle.std.proofs.lemmas.Option.{same_Some}
 use Rattle.joint_model.specs.Control.{Stand, OpenSnap, idle, snapped, contracted, weakening, marked, restoring, restored}
 use Rattle.joint_model.specs.Cycles.{IsSnapshot, IsAnsweredAlive}
 use Rattle.joint_model.specs.Heaps.{IsLive, InSlot, with_freed, fields_of}
 use Rattle.joint_model.specs.Linked.{Linkage}
 use Rattle.joint_model.specs.Managed.{Managed, OpenCycle, Holds, IsManagedRoot, ManagedEdge, IsManagedReached}
 use Rattle.joint_model.specs.ManagedReplay.{MayResolve}
-use Rattle.joint_model.specs.Peers.{Peers, Issued, Strength, strong, weak, is_strong, peer_of}
+use Rattle.joint_model.specs.Peers.{Peers, Issued, Strength, strong, weak, is_strong}
 use Rattle.joint_model.specs.PeerReplay.{PeerReplay, TableRow, Marking, IsMarkingRoot, MarkingEdge, IsMarked, Refers, strong_peers}
-use Rattle.joint_model.specs.Told.{Answer, said_alive, said_cleared}
+use Rattle.joint_model.specs.Told.{Answer, handles_given}
 use Rattle.joint_model.specs.Walks.{Reaches}
 use Rattle.joint_model.proofs.Deciding.{none_some, some-same}
 use Rattle.joint_model.proofs.HeapLemmas.{IsLive-before, IsLive-spared}
 use Rattle.joint_model.proofs.Members.{Contains-nil, Contains-cons_cases, Contains-at, at-Contains, Contains-decided}
 use Rattle.joint_model.proofs.Numbered.{numbered-within}
 use Rattle.joint_model.proofs.WalkLemmas.{Reached-keeps, Reaches-keeps}
-use Rattle.joint_laws.specs.LinkedInvariants.{IsDriverKept, IsInMarking, IsRowOf, HasStrength}
+use Rattle.joint_laws.specs.LinkedInvariants.{IsDriverKept, IsInMarking, IsRowOf, given_at}
 use Rattle.joint_laws.specs.PeerInvariants.{IsIssued, IsTabled}
 use Rattle.joint_laws.proofs.DeadMirrors.{mirror_edge-managed}
-use Rattle.joint_laws.proofs.DriverSteps.{strength-one}
+use Rattle.joint_laws.proofs.DriverSteps.{replaced, strength-one}
 use Rattle.joint_laws.proofs.LinkedEntries.{Of}
 use Rattle.joint_laws.proofs.PeerEntries.{peer_of-issued}
-use Rattle.joint_laws.proofs.SparedWalks.{peer_of-row}
+use Rattle.joint_laws.proofs.Renewing.{IsGivenTo}
 use Rattle.generated_laws.proofs.Pictures.{Mind}
 use Rattle.generated_laws.proofs.Showing.{Group, Names}
 use Rattle.generated_laws.proofs.PeerShowing.{Filled}
-use Rattle.generated_laws.proofs.Kept.{rows_of, peers_of, stands-row, peer-stands, stands-peer, stable, IsSettled, root-kept, peer_slot-kept, edge-kept, names-on, kept-bridge, only-row}
+use Rattle.generated_laws.proofs.Kept.{rows_of, peers_of, stands-row, peer-stands, stands-peer, stable, IsSettled, root-kept, peer_slot-kept, edge-kept, names-on, kept-bridge, row-of_group, only-row}
 
 -- which strong handle a root is of
 record IsListed (issued : List Issued) (table : List (Option TableRow)) (p : ℕ) : Type 0 where
@@ -62,11 +62,11 @@ module _ (minds : ℕ → Mind) (fills : ℕ → Filled) (groups : List (Option 
 
   -- what the own marking marks is kept
   pub record OnlyMarks (p : PeerReplay) : Type 0 where
-    pub only : (mk : Marking) → p.marking ≡ Some mk → (q : ℕ) → IsMarked mk q → Contains (peers_of p.peers.issued groups) q
+    pub only : (mk : Marking) → p.marking ≡ Some mk → (q : ℕ) → IsMarked mk q → Contains (peers_of groups) q
     pub old : (mk : Marking) → p.marking ≡ Some mk → (q : ℕ) → IsLive p.peers.heap q → IsLive mk.heap q
 
   abbrev pub PeersLeft : Peers → Type 0
-  PeersLeft p = (q : ℕ) → IsLive p.heap q → Contains (peers_of p.issued groups) q
+  PeersLeft p = (q : ℕ) → IsLive p.heap q → Contains (peers_of groups) q
 
   abbrev pub RowsLeft : Managed → Type 0
   RowsLeft m = (x : ℕ) → IsLive m.heap x → Contains (rows_of groups) x
@@ -74,7 +74,7 @@ module _ (minds : ℕ → Mind) (fills : ℕ → Filled) (groups : List (Option 
   abbrev pub Known : Managed → PeerReplay → Stand → Type 0
   Known m p idle = RowsLeft m × PeersLeft p.peers
   Known m p (snapped o) = Rest m
-  Known m p (contracted o comps xrefs) = Rest m
+  Known m p (contracted o comps heavy xrefs) = Rest m
   Known m p (weakening o count seen swept_one) = Rest m
   Known m p (marked o) = Rest m × OnlyMarks p
   Known m p (restoring o answers) = Rest m × PeersLeft p.peers
@@ -95,12 +95,12 @@ module _ (minds : ℕ → Mind) (fills : ℕ → Filled) (groups : List (Option 
     snap-rest c freed candidates dead a x l n = stable (rows_of groups) x (λ out. n ((a.leaves x).1 (IsLive-before sm.heap freed x l, (λ r. out (reached-kept x r)), IsLive-spared sm.heap freed x l)))
 
     -- a strong handle is a kept bridge's
-    strong-kept : (o : OpenSnap) (d : IsInMarking s.managed s.peer o) → Rest sm → (h : ℕ) (row : TableRow) (i : Issued) → IsTabled s.peer.table h row → row.strength ≡ strong → IsIssued sp.issued h i → Contains (peers_of sp.issued groups) i.peer
-    strong-kept o d rest h row i t st e =
-        let within = numbered-within sp.issued h i e in
+    strong-kept : (o : OpenSnap) (d : IsInMarking s.managed s.peer o) → ((h : ℕ) → Contains (handles_given (given_at s.control.stand)) h → ⊥) → Rest sm → (h : ℕ) (row : TableRow) (i : Issued) → IsTabled s.peer.table h row → row.strength ≡ strong → IsIssued sp.issued h i → Contains (peers_of groups) i.peer
+    strong-kept o d none rest h row i t st e =
         let live = k.peer.handles.uncleared h row i t e (k.peer.handles.sure h row t st) in
-        elim (w.are_held.owned h within.0 within.1) [
-          | inr hand ↦ absurd (none_some h (sym (w.hands hand.0) ∙ hand.1))
+        elim (w.are_held.owned h row t) [
+          | inr (inl hand) ↦ absurd (none_some h (sym (w.hands hand.0) ∙ hand.1))
+          | inr (inr given) ↦ absurd (none h given)
           | inl x ↦ (
               let b = numbered-within sm.held x.0 (Some h) x.1 in
               let c = w.shown.places in
@@ -116,33 +116,33 @@ module _ (minds : ℕ → Mind) (fills : ℕ → Filled) (groups : List (Option 
               let cut = k.managed.managed.dead d.cycle d.opened.cycle in
               let kept = rest d.cycle d.opened.cycle x.0 holds.live (λ f. no_candidate ((cut.candidates x.0).1 (f, (h, holds)))) in
               let g = kept-bridge minds fills groups s w k x.0 h holds kept in
-              stands-peer sp.issued groups g.spot g.group i.peer g.there (ap (peer_of sp.issued) (sym g.has.1) ∙ leads))
+              subst (Contains (peers_of groups)) (some-same g.group.peer i.peer (sym g.has.1 ∙ leads)) (stands-peer groups g.spot g.group g.there))
         ]
 
     -- along the edges of a marking that has just begun
-    edge-marked : (o : OpenSnap) (d : IsInMarking s.managed s.peer o) (mk : Marking) → mk.heap ≡ sp.heap → mk.refs ≡ s.peer.refs → (p q : ℕ) → MarkingEdge mk p q → Contains (peers_of sp.issued groups) p → Contains (peers_of sp.issued groups) q
+    edge-marked : (o : OpenSnap) (d : IsInMarking s.managed s.peer o) (mk : Marking) → mk.heap ≡ sp.heap → mk.refs ≡ s.peer.refs → (p q : ℕ) → MarkingEdge mk p q → Contains (peers_of groups) p → Contains (peers_of groups) q
     edge-marked o d mk heap refs p q (inl f) c =
-        let g = peer-stands sp.issued groups p c in
-        let i = peer_of-row sp.issued g.group.handle p g.has in
-        absurd (w.peers.bare g.group.handle i.0 q i.1 (subst (λ z. Contains (fields_of sp.heap z) (Some q)) (sym i.2) (subst (λ z. Contains (fields_of z p) (Some q)) heap f.field)))
+        let g = peer-stands groups p c in
+        let i = row-of_group minds fills groups s w k g.spot g.group g.there in
+        absurd (w.peers.bare i.handle i.row q i.is_issued (subst (λ z. Contains (fields_of sp.heap z) (Some q)) (sym (i.leads ∙ g.has)) (subst (λ z. Contains (fields_of z p) (Some q)) heap f.field)))
     edge-marked o d mk heap refs p q (inr f) c =
-        let g = peer-stands sp.issued groups p c in
+        let g = peer-stands groups p c in
         let e = (d.mirror.exact p q).0 (subst (λ l. Refers l p q) refs f.reference) in
         let same = only-row minds fills groups s w k e.0 g.spot g.group p g.there g.has e.3 in
         let cut = k.managed.managed.dead d.cycle d.opened.cycle in
-        let walk = mirror_edge-managed sm d.cycle cut d.mirror.comps d.mirror.xrefs d.mirror.contraction e.0 e.1 e.2 in
+        let walk = mirror_edge-managed sm d.cycle cut d.mirror.comps d.mirror.heavy d.mirror.xrefs d.mirror.contraction e.0 e.1 e.2 in
         let named : Names g.group e.1 = Reaches-keeps (ManagedEdge sm) (Names g.group) (λ x y a b. names-on minds fills groups s w k g.spot g.group g.there x y a b) e.0 e.1 walk (inl same) in
         let b = kept-bridge minds fills groups s w k e.1 e.4.handle e.4.holds (stands-row groups g.spot g.group e.1 g.there named) in
-        stands-peer sp.issued groups b.spot b.group q b.there (ap (peer_of sp.issued) (sym b.has.1) ∙ (peer_of-issued sp.issued e.4.handle e.4.row e.4.is_issued ∙ ap Some e.4.leads))
+        subst (Contains (peers_of groups)) (some-same b.group.peer q (sym b.has.1 ∙ (peer_of-issued sp.issued e.4.handle e.4.row e.4.is_issued ∙ ap Some e.4.leads))) (stands-peer groups b.spot b.group b.there)
 
     -- so all that it marks
-    pub begun-marks : (o : OpenSnap) (d : IsInMarking s.managed s.peer o) → Rest sm → (mk : Marking) → mk.heap ≡ sp.heap → mk.refs ≡ s.peer.refs → mk.strong_peers ≡ strong_peers sp.issued s.peer.table → mk.brought ≡ []
-        → (q : ℕ) → IsMarked mk q → Contains (peers_of sp.issued groups) q
-    begun-marks o d rest mk heap refs roots none q m = Reached-keeps (IsMarkingRoot mk) (MarkingEdge mk) (λ z. Contains (peers_of sp.issued groups) z) start (λ a b e c. edge-marked o d mk heap refs a b e c) q m.reached
+    pub begun-marks : (o : OpenSnap) (d : IsInMarking s.managed s.peer o) → ((h : ℕ) → Contains (handles_given (given_at s.control.stand)) h → ⊥) → Rest sm → (mk : Marking) → mk.heap ≡ sp.heap → mk.refs ≡ s.peer.refs → mk.strong_peers ≡ strong_peers sp.issued s.peer.table → mk.brought ≡ []
+        → (q : ℕ) → IsMarked mk q → Contains (peers_of groups) q
+    begun-marks o d unasked rest mk heap refs roots none q m = Reached-keeps (IsMarkingRoot mk) (MarkingEdge mk) (λ z. Contains (peers_of groups) z) start (λ a b e c. edge-marked o d mk heap refs a b e c) q m.reached
       where
-        start : (z : ℕ) → IsMarkingRoot mk z → Contains (peers_of sp.issued groups) z
+        start : (z : ℕ) → IsMarkingRoot mk z → Contains (peers_of groups) z
         start z (inl a) = peer_slot-kept minds fills groups s w k z (subst (λ h. InSlot h z) heap a)
-        start z (inr (inl a)) = (let l = listed sp.issued s.peer.table z (subst (λ l. Contains l z) roots a) in subst (λ y. Contains (peers_of sp.issued groups) y) l.leads (strong-kept o d rest (suc l.place) l.row l.is l.tabled l.is_strong_one l.is_issued))
+        start z (inr (inl a)) = (let l = listed sp.issued s.peer.table z (subst (λ l. Contains l z) roots a) in subst (λ y. Contains (peers_of groups) y) l.leads (strong-kept o d unasked rest (suc l.place) l.row l.is l.tabled l.is_strong_one l.is_issued))
         start z (inr (inr a)) = absurd (Contains-nil z (subst (λ l. Contains l z) none a))
 
     -- behind the resolution
@@ -162,16 +162,10 @@ module _ (minds : ℕ → Mind) (fills : ℕ → Filled) (groups : List (Option 
             let cut = k.managed.managed.dead d.cycle d.opened.cycle in
             let bridge = ((cut.candidates y).0 (Contains-at d.cycle.candidates alive.0 y there)).1 in
             let h = bridge.0 in
-            let i = k.owners.held_ones y h bridge.1 in
-            let strong_one : HasStrength s.peer h strong = elim (d.handles alive.0 y h there bridge.1) [
-              | inl t ↦ t.1
-              | inr t ↦ elim t [
-                | inl u ↦ absurd (let f : Some said_alive ≡ Some said_cleared = sym alive.2 ∙ u.0 in cc)
-                | inr u ↦ absurd (let b = slice_get_within answers alive.0 said_alive alive.2 in let q = u.0 in omega (arith, b, q))
-              ]
-            ] in
-            let live = k.peer.handles.uncleared h strong_one.0 i.0 strong_one.1 i.1 (k.peer.handles.sure h strong_one.0 strong_one.1 strong_one.2) in
-            let g = peer-stands sp.issued groups i.0.peer (left i.0.peer live) in
-            let row : IsRowOf sm sp.issued y i.0.peer = record { handle = h; holds = bridge.1; row = i.0; is_issued = i.1; leads = refl } in
-            let is = only-row minds fills groups s w k y g.spot g.group i.0.peer g.there g.has row in
+            let in_list : IsGivenTo d.cycle.candidates answers y alive.2.0 = record { place = alive.0; candidate = there; answer = alive.2.1 } in
+            let new = replaced s.managed s.peer o answers k.managed k.peer k.owners d y alive.2.0 h in_list bridge.1 in
+            let live : IsLive sp.heap new.new.peer = k.peer.handles.uncleared alive.2.0 new.strong_one.0 new.new new.strong_one.1 new.is (k.peer.handles.sure alive.2.0 new.strong_one.0 new.strong_one.1 new.strong_one.2) in
+            let g = peer-stands groups new.old.peer (left new.old.peer (subst (IsLive sp.heap) new.same live)) in
+            let row : IsRowOf sm sp.issued y new.old.peer = record { handle = h; holds = bridge.1; row = new.old; is_issued = new.was; leads = refl } in
+            let is = only-row minds fills groups s w k y g.spot g.group new.old.peer g.there g.has row in
             stands-row groups g.spot g.group x g.there (Reaches-keeps (ManagedEdge sm) (Names g.group) (λ b c e n. names-on minds fills groups s w k g.spot g.group g.there b c e n) y x walk (inl is))

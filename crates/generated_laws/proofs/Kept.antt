@@ -7,11 +7,11 @@ use Rattle.std.proofs.lemmas.Bool.{cases_lt}
 use Rattle.joint_model.specs.Heaps.{IsLive, HasField, InSlot, slot, place, numbered_at, fields_of}
 use Rattle.joint_model.specs.Linked.{Linkage}
 use Rattle.joint_model.specs.Managed.{Managed, Holds, IsManagedRoot, ManagedEdge}
-use Rattle.joint_model.specs.Peers.{Peers, Issued, peer_of}
+use Rattle.joint_model.specs.Peers.{Peers, peer_of}
 use Rattle.joint_model.proofs.Deciding.{some-same}
 use Rattle.joint_model.proofs.Members.{Contains-here, Contains-there, Contains-nil, Contains-cons_cases, at-Contains, Contains-decided}
 use Rattle.joint_model.proofs.Numbered.{numbered-within, slot-named, slot-Contains}
-use Rattle.joint_laws.specs.LinkedInvariants.{IsRowOf}
+use Rattle.joint_laws.specs.LinkedInvariants.{IsRowOf, given_at}
 use Rattle.joint_laws.proofs.LinkedEntries.{Of}
 use Rattle.joint_laws.proofs.SparedWalks.{peer_of-row}
 use Rattle.generated_laws.proofs.Pictures.{Mind, at}
@@ -25,14 +25,10 @@ rows_of [] = []
 rows_of (None ∷ gs) = rows_of gs
 rows_of (Some g ∷ gs) = g.bridge ∷ g.plain ∷ rows_of gs
 
-abbrev pub with_peer_of : Option ℕ → List ℕ → List ℕ
-with_peer_of None ps = ps
-with_peer_of (Some q) ps = q ∷ ps
-
-abbrev pub peers_of : List Issued → List (Option Group) → List ℕ
-peers_of issued [] = []
-peers_of issued (None ∷ gs) = peers_of issued gs
-peers_of issued (Some g ∷ gs) = with_peer_of (peer_of issued g.handle) (peers_of issued gs)
+abbrev pub peers_of : List (Option Group) → List ℕ
+peers_of [] = []
+peers_of (None ∷ gs) = peers_of gs
+peers_of (Some g ∷ gs) = g.peer ∷ peers_of gs
 
 -- a group that stands at a place
 pub record StandsIn (groups : List (Option Group)) (Q : Group → Type 0) : Type 0 where
@@ -64,30 +60,20 @@ stands-row (Some k ∷ gs) zero g z e (inr n) =
     subst (λ y. Contains (k.bridge ∷ k.plain ∷ rows_of gs) y) (ap (λ (y : Group). y.plain) (some-same k g e) ∙ sym n) (Contains-there k.plain k.bridge (k.plain ∷ rows_of gs) (Contains-here k.plain (rows_of gs)))
 stands-row (Some k ∷ gs) (suc i) g z e n = Contains-there z k.bridge (k.plain ∷ rows_of gs) (Contains-there z k.plain (rows_of gs) (stands-row gs i g z e n))
 
-pub peer-stands : (issued : List Issued) (groups : List (Option Group)) (q : ℕ) → Contains (peers_of issued groups) q → StandsIn groups (λ g. peer_of issued g.handle ≡ Some q)
-peer-stands issued [] q c = absurd (Contains-nil q c)
-peer-stands issued (None ∷ gs) q c = further None gs _ (peer-stands issued gs q c)
-peer-stands issued (Some g ∷ gs) q c = by (peer_of issued g.handle) refl c (peer-stands issued gs q)
-  where
-    by : (o : Option ℕ) → peer_of issued g.handle ≡ o → Contains (with_peer_of o (peers_of issued gs)) q → (Contains (peers_of issued gs) q → StandsIn gs (λ g. peer_of issued g.handle ≡ Some q)) → StandsIn (Some g ∷ gs) (λ g. peer_of issued g.handle ≡ Some q)
-    by None e d f = further (Some g) gs _ (f d)
-    by (Some r) e d f = elim (Contains-cons_cases r (peers_of issued gs) q d) [
-      | inl s ↦ record { spot = 0; group = g; there = refl; has = e ∙ ap Some s }
-      | inr d' ↦ further (Some g) gs _ (f d')
-    ]
+pub peer-stands : (groups : List (Option Group)) (q : ℕ) → Contains (peers_of groups) q → StandsIn groups (λ g. g.peer ≡ q)
+peer-stands [] q c = absurd (Contains-nil q c)
+peer-stands (None ∷ gs) q c = further None gs _ (peer-stands gs q c)
+peer-stands (Some g ∷ gs) q c = elim (Contains-cons_cases g.peer (peers_of gs) q c) [
+  | inl e ↦ record { spot = 0; group = g; there = refl; has = e }
+  | inr d ↦ further (Some g) gs _ (peer-stands gs q d)
+]
 
-pub stands-peer : (issued : List Issued) (groups : List (Option Group)) (i : ℕ) (g : Group) (q : ℕ) → slot groups i ≡ Some g → peer_of issued g.handle ≡ Some q → Contains (peers_of issued groups) q
-stands-peer issued [] i g q e n = absurd (cc)
-stands-peer issued (None ∷ gs) zero g q e n = absurd (cc)
-stands-peer issued (None ∷ gs) (suc i) g q e n = stands-peer issued gs i g q e n
-stands-peer issued (Some k ∷ gs) zero g q e n =
-    let f : peer_of issued k.handle ≡ Some q = ap (λ (y : Group). peer_of issued y.handle) (some-same k g e) ∙ n in
-    subst (λ o. Contains (with_peer_of o (peers_of issued gs)) q) (sym f) (Contains-here q (peers_of issued gs))
-stands-peer issued (Some k ∷ gs) (suc i) g q e n = by (peer_of issued k.handle) (stands-peer issued gs i g q e n)
-  where
-    by : (o : Option ℕ) → Contains (peers_of issued gs) q → Contains (with_peer_of o (peers_of issued gs)) q
-    by None c = c
-    by (Some r) c = Contains-there q r (peers_of issued gs) c
+pub stands-peer : (groups : List (Option Group)) (i : ℕ) (g : Group) → slot groups i ≡ Some g → Contains (peers_of groups) g.peer
+stands-peer [] i g e = absurd (cc)
+stands-peer (None ∷ gs) zero g e = absurd (cc)
+stands-peer (None ∷ gs) (suc i) g e = stands-peer gs i g e
+stands-peer (Some k ∷ gs) zero g e = subst (λ (y : Group). Contains (k.peer ∷ peers_of gs) y.peer) (some-same k g e) (Contains-here k.peer (peers_of gs))
+stands-peer (Some k ∷ gs) (suc i) g e = Contains-there g.peer k.peer (peers_of gs) (stands-peer gs i g e)
 
 -- what isn't impossible of a list of numbers is so
 pub stable : (xs : List ℕ) (x : ℕ) → ((Contains xs x → ⊥) → ⊥) → Contains xs x
@@ -97,7 +83,7 @@ stable xs x n = elim (Contains-decided xs x) [ inl c ↦ c | inr f ↦ absurd (n
 pub record IsSettled (minds : ℕ → Mind) (fills : ℕ → Filled) (groups : List (Option Group)) (s : Linkage) : Type 0 where
   pub shown : IsShown s.managed.managed minds groups
   pub peers : ArePeersShown s.peer.peers fills groups
-  pub are_held : AreHeld s.managed.managed s.peer.peers minds
+  pub are_held : AreHeld s.managed.managed s.peer (given_at s.control.stand) minds groups
   pub empty : (t v : ℕ) → at (minds t).slots v ≡ None
   pub hands : (t : ℕ) → (minds t).hand ≡ None
   pub unfilled : (t v : ℕ) → filled (fills t) v ≡ false
@@ -140,10 +126,10 @@ module _ (minds : ℕ → Mind) (fills : ℕ → Filled) (groups : List (Option 
       by None f n = absurd n
       by (Some g) f n = (g, f, n.0)
 
-  peer_static-group : (y q : ℕ) → y < 16 → slot sp.heap.statics y ≡ Some q → (g : Group) × (slot groups (16 + y) ≡ Some g) × (peer_of sp.issued g.handle ≡ Some q)
-  peer_static-group y q l e = by (slot groups (16 + y)) refl (subst (λ o. PeerStaticIs sp.issued o (slot groups (16 + y))) e (w.peers.statics y l))
+  peer_static-group : (y q : ℕ) → y < 16 → slot sp.heap.statics y ≡ Some q → (g : Group) × (slot groups (16 + y) ≡ Some g) × (g.peer ≡ q)
+  peer_static-group y q l e = by (slot groups (16 + y)) refl (subst (λ o. PeerStaticIs o (slot groups (16 + y))) e (w.peers.statics y l))
     where
-      by : (o : Option Group) → slot groups (16 + y) ≡ o → PeerStaticIs sp.issued (Some q) o → (g : Group) × (slot groups (16 + y) ≡ Some g) × (peer_of sp.issued g.handle ≡ Some q)
+      by : (o : Option Group) → slot groups (16 + y) ≡ o → PeerStaticIs (Some q) o → (g : Group) × (slot groups (16 + y) ≡ Some g) × (g.peer ≡ q)
       by None f n = absurd n
       by (Some g) f n = (g, f, n.0)
 
@@ -158,14 +144,14 @@ module _ (minds : ℕ → Mind) (fills : ℕ → Filled) (groups : List (Option 
       let g = static-group a.0 z (omega (arith, l, m)) a.2 in
       stands-row groups a.0 g.0 z g.1 (inr g.2)
 
-  pub peer_slot-kept : (q : ℕ) → InSlot sp.heap q → Contains (peers_of sp.issued groups) q
+  pub peer_slot-kept : (q : ℕ) → InSlot sp.heap q → Contains (peers_of groups) q
   peer_slot-kept q (inl c) = absurd (no-peer_variable q c)
   peer_slot-kept q (inr c) =
       let a = in-slot sp.heap.statics q c in
       let l = w.peers.shelf in
       let m = a.1 in
       let g = peer_static-group a.0 q (omega (arith, l, m)) a.2 in
-      stands-peer sp.issued groups (16 + a.0) g.0 q g.1 g.2
+      subst (Contains (peers_of groups)) g.2 (stands-peer groups (16 + a.0) g.0 g.1)
 
   -- one row of a group leads to the other alone
   names-edge : (i : ℕ) (g : Group) (x y : ℕ) → slot groups i ≡ Some g → Names g x → HasField sm.heap x y → Names g y
@@ -215,34 +201,39 @@ module _ (minds : ℕ → Mind) (fills : ℕ → Filled) (groups : List (Option 
           (from-plain i g e plain n.1, plain)
 
       second : (y : ℕ) → 16 + y ≡ i → y < 16 → IsLive sm.heap g.bridge × IsLive sm.heap g.plain
-      second y q l = by (slot sp.heap.statics y) refl (subst (PeerStaticIs sp.issued (slot sp.heap.statics y)) (ap (slot groups) q ∙ e) (w.peers.statics y l))
+      second y q l = by (slot sp.heap.statics y) refl (subst (PeerStaticIs (slot sp.heap.statics y)) (ap (slot groups) q ∙ e) (w.peers.statics y l))
         where
-          by : (o : Option ℕ) → slot sp.heap.statics y ≡ o → PeerStaticIs sp.issued o (Some g) → IsLive sm.heap g.bridge × IsLive sm.heap g.plain
+          by : (o : Option ℕ) → slot sp.heap.statics y ≡ o → PeerStaticIs o (Some g) → IsLive sm.heap g.bridge × IsLive sm.heap g.plain
           by None f n = absurd n
           by (Some p) f n =
               let live = k.peer.heap.slots p (inr (slot-Contains sp.heap.statics y p f)) in
-              let b = numbered-within sm.held g.bridge (Some g.handle) (w.shown.groups_are i g e).holds in
+              let h = (w.shown.groups_are i g e).holds in
+              let b = numbered-within sm.held g.bridge (Some h.0) h.1 in
               let c = w.shown.places in
               let bridge : IsLive sm.heap g.bridge = record {
                 made = (b.0, omega (arith, b.1, c));
-                kept = λ d. (let o = w.are_held.freed g.bridge g.handle (w.shown.groups_are i g e).holds d in live.kept (subst (λ z. Contains sp.heap.freed z) (some-same o.0 p (sym o.1 ∙ n.0)) o.2));
+                kept = λ d. (let o = w.are_held.freed g.bridge h.0 h.1 d in live.kept (subst (λ z. Contains sp.heap.freed z) (some-same o.0 g.peer (sym o.1 ∙ w.are_held.leads i g h.0 e h.1) ∙ n.0) o.2));
               } in
               (bridge, from-bridge i g e bridge n.1)
 
-  pub group-holds : (i : ℕ) (g : Group) → slot groups i ≡ Some g → Holds sm g.bridge g.handle
-  group-holds i g e = record { live = (group-live i g e).0; held = (w.shown.groups_are i g e).holds }
+  -- the handle that a group's bridge holds
+  pub group-holds : (i : ℕ) (g : Group) → slot groups i ≡ Some g → (h : ℕ) × Holds sm g.bridge h
+  group-holds i g e = (let h = (w.shown.groups_are i g e).holds in (h.0, record { live = (group-live i g e).0; held = h.1 }))
 
-  -- a row that holds a handle and is kept is a group's bridge, with its handle
-  pub kept-bridge : (x n : ℕ) → Holds sm x n → Contains (rows_of groups) x → StandsIn groups (λ g. (x ≡ g.bridge) × (n ≡ g.handle))
+  -- a row that holds a handle and is kept is a group's bridge, and the handle leads to the group's peer
+  pub kept-bridge : (x n : ℕ) → Holds sm x n → Contains (rows_of groups) x → StandsIn groups (λ g. (x ≡ g.bridge) × (peer_of sp.issued n ≡ Some g.peer))
   kept-bridge x n h c = (let g = row-stands groups x c in record { spot = g.spot; group = g.group; there = g.there; has = by g.spot g.group g.there g.has })
     where
-      by : (i : ℕ) (g : Group) → slot groups i ≡ Some g → Names g x → (x ≡ g.bridge) × (n ≡ g.handle)
-      by i g e (inl q) = (q, (let f : Some (Some n) ≡ Some (Some g.handle) = sym h.held ∙ (ap (numbered_at sm.held) q ∙ (w.shown.groups_are i g e).holds) in cc))
+      by : (i : ℕ) (g : Group) → slot groups i ≡ Some g → Names g x → (x ≡ g.bridge) × (peer_of sp.issued n ≡ Some g.peer)
+      by i g e (inl q) = (q, w.are_held.leads i g n e (ap (numbered_at sm.held) (sym q) ∙ h.held))
       by i g e (inr q) = absurd (let f : Some (Some n) ≡ Some None = sym h.held ∙ (ap (numbered_at sm.held) q ∙ (w.shown.groups_are i g e).none) in cc)
 
-  -- the row of a kept peer is a group's bridge
-  pub row-of_group : (i : ℕ) (g : Group) (q : ℕ) → slot groups i ≡ Some g → peer_of sp.issued g.handle ≡ Some q → IsRowOf sm sp.issued g.bridge q
-  row-of_group i g q e f = (let r = peer_of-row sp.issued g.handle q f in record { handle = g.handle; holds = group-holds i g e; row = r.0; is_issued = r.1; leads = r.2 })
+  -- the row of a group's peer is the group's bridge
+  pub row-of_group : (i : ℕ) (g : Group) → slot groups i ≡ Some g → IsRowOf sm sp.issued g.bridge g.peer
+  row-of_group i g e =
+      let h = group-holds i g e in
+      let r = peer_of-row sp.issued h.0 g.peer (w.are_held.leads i g h.0 e h.1.held) in
+      record { handle = h.0; holds = h.1; row = r.0; is_issued = r.1; leads = r.2 }
 
-  pub only-row : (x i : ℕ) (g : Group) (q : ℕ) → slot groups i ≡ Some g → peer_of sp.issued g.handle ≡ Some q → IsRowOf sm sp.issued x q → x ≡ g.bridge
-  only-row x i g q e f r = k.managed.one_row q x g.bridge (k.owners.registered x q r) (k.owners.registered g.bridge q (row-of_group i g q e f))
+  pub only-row : (x i : ℕ) (g : Group) (q : ℕ) → slot groups i ≡ Some g → g.peer ≡ q → IsRowOf sm sp.issued x q → x ≡ g.bridge
+  only-row x i g q e f r = k.managed.one_row q x g.bridge (k.owners.registered x q r) (k.owners.registered g.bridge q (subst (IsRowOf sm sp.issued g.bridge) f (row-of_group i g e)))

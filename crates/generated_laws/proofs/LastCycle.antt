@@ -1,5 +1,5 @@
 -- Through the entries of a cycle that runs when all threads have ended, from its snapshot to its resolution.
-use Rattle.std.proofs.Common.{◌≡◌, ℕ, ◌+◌, ◌≤◌, inl, inr, false, List, [], ◌∷◌, ◌++◌, length, Option, Some, None, refl, sym, ap, subst, ◌∙◌, arith, append_assoc}
+use Rattle.std.proofs.Common.{◌≡◌, ℕ, ◌+◌, false, List, [], ◌∷◌, ◌++◌, Option, Some, None, refl, sym, ap, subst, ◌∙◌, arith, append_assoc}
 use Rattle.std.specs.Prelude.{Contains}
 use Rattle.std.proofs.lemmas.List.{append-nil}
 use Rattle.joint_model.specs.declared.names.Thread.TheVariants.{M, P, C}
@@ -16,28 +16,29 @@ use Rattle.joint_model.specs.declared.events.Reply.{Reply}
 use Rattle.joint_model.specs.declared.events.Reply.TheVariants as says
 use Rattle.joint_model.specs.declared.events.Entry.{Entry}
 use Rattle.joint_model.specs.Control.{control_after, Stand, OpenSnap, idle, snapped, contracted, weakening, marked, restoring, restored, DriverAllows, stand_after}
-use Rattle.joint_model.specs.Heaps.{IsLive, Answered, numbered_at}
+use Rattle.joint_model.specs.Heaps.{Heap, IsLive, Answered}
 use Rattle.joint_model.specs.Linked.{Linkage, MayCome, AllMayCome, SideLawful, linkage_after, managed_after, replayed}
 use Rattle.joint_model.specs.Lines.{is_peer_event}
 use Rattle.joint_model.specs.Managed.{OpenCycle}
 use Rattle.joint_model.specs.ManagedReplay.{MayResolve}
 use Rattle.joint_model.specs.Peers.{peer_of}
-use Rattle.joint_model.specs.PeerReplay.{PeerReplay, TableRow, Marking, SweepAllows, IsSweep, strong_peers, restored_by, row_of, begun, swept}
+use Rattle.joint_model.specs.PeerReplay.{PeerReplay, TableRow, Marking, SweepAllows, IsSweep, strong_peers, renewed_on, restored_by, row_of, begun, swept}
 use Rattle.joint_model.specs.Phases.{IsEventOf, ArePhase, ArePhases, AreTimes, next_phase, phases_of, candidates_after}
-use Rattle.joint_model.specs.Told.{Told, Noted, snap_of, contraction_of, sweep_of, resolution_of}
+use Rattle.joint_model.specs.Told.{Told, Noted, handles_given, snap_of, contraction_of, sweep_of, resolution_of}
 use Rattle.joint_model.proofs.Deciding.{some-same, test-cases}
 use Rattle.joint_model.proofs.HeapLemmas.{IsLive-before, IsLive-spared}
-use Rattle.joint_laws.specs.LinkedInvariants.{IsDriverKept}
+use Rattle.joint_model.proofs.Members.{Contains-nil}
+use Rattle.joint_laws.specs.LinkedInvariants.{IsDriverKept, given_at}
 use Rattle.joint_laws.proofs.LinkedEntries.{Of, entry, AreKept-entry}
 use Rattle.known_laws.specs.Growing.{entries}
 use Rattle.script_laws.specs.Holding.{Standing, AreEvents, AreWord, AreOnLine, AreLine}
 use Rattle.generated_laws.proofs.Totals.{Each}
 use Rattle.generated_laws.proofs.Own.{IsLater, IsLaterEntry, IsCycleOf, whole_cycle}
 use Rattle.generated_laws.proofs.Pictures.{Mind}
-use Rattle.generated_laws.proofs.Showing.{Group, still-shown}
-use Rattle.generated_laws.proofs.PeerShowing.{Filled, still-peers}
-use Rattle.generated_laws.proofs.Quiet.{IsOfCycle, objects-stay, peers-stay}
-use Rattle.generated_laws.proofs.Running.{still-freed}
+use Rattle.generated_laws.proofs.Showing.{Group}
+use Rattle.generated_laws.proofs.PeerShowing.{Filled}
+use Rattle.generated_laws.proofs.Quiet.{IsOfCycle}
+use Rattle.generated_laws.proofs.Driven.{driver-shown}
 use Rattle.generated_laws.proofs.Kept.{IsSettled, stable, peers_of}
 use Rattle.generated_laws.proofs.Cycling.{Rest, OnlyMarks, PeersLeft, RowsLeft, Known, snap-rest, begun-marks, resolved-left}
 
@@ -51,19 +52,8 @@ module _ (minds : ℕ → Mind) (fills : ℕ → Filled) (groups : List (Option 
 
     settled-step : (o : Op) (told : Told) → IsOfCycle o → MayCome s (the o told) → IsSettled minds fills groups (after o told)
     settled-step o told c may =
-        let m = objects-stay s line r cites o told c in
-        let p = peers-stay s line r cites o told c in
-        record {
-          shown = still-shown s.managed.managed (after o told).managed.managed minds minds groups w.shown m.fields m.vars m.statics m.held m.pins (λ u. refl) (λ u. refl);
-          peers = still-peers s.peer.peers fills groups w.peers (after o told).peer.peers p.fields p.vars p.statics p.issued;
-          are_held = record {
-            owned = λ a x y. elim (w.are_held.owned a x (subst (λ l. a ≤ length l) p.issued y)) [ inl z ↦ inl (z.0, ap (λ l. numbered_at l z.0) m.held ∙ z.1) | inr z ↦ inr z ];
-            freed = λ x a d f. (let q = still-freed s (the o told) may k minds w.are_held x a (ap (λ l. numbered_at l x) (sym m.held) ∙ d) f in (q.0, ap (λ l. peer_of l a) p.issued ∙ q.1, q.2));
-          };
-          empty = w.empty;
-          hands = w.hands;
-          unfilled = w.unfilled;
-        }
+        let n = driver-shown minds fills groups s k w.shown w.peers w.are_held number line r cites o told c may in
+        record { shown = n.shown; peers = n.peers; are_held = n.are_held; empty = w.empty; hands = w.hands; unfilled = w.unfilled }
 
     abbrev Was : Stand → Type 0
     Was d = Known minds fills groups s.managed.managed s.peer d
@@ -72,9 +62,9 @@ module _ (minds : ℕ → Mind) (fills : ℕ → Filled) (groups : List (Option 
     Is o told d = Known minds fills groups (after o told).managed.managed (after o told).peer (stand_after d number o r told)
 
     -- the begin of the own marking
-    begin-marks : (told : Told) (d : Stand) (j : ℕ) (q : OpenSnap) → r ≡ (begun s.peer s.peer.marking C).reply → r ≡ says.Mark record { 0 = j } → IsSettled minds fills groups (after op.Begin told) → Of (after op.Begin told)
+    begin-marks : (told : Told) (d : Stand) (j : ℕ) (q : OpenSnap) → ((h : ℕ) → Contains (handles_given (given_at (after op.Begin told).control.stand)) h → ⊥) → r ≡ (begun s.peer s.peer.marking C).reply → r ≡ says.Mark record { 0 = j } → IsSettled minds fills groups (after op.Begin told) → Of (after op.Begin told)
         → IsDriverKept (after op.Begin told).managed (after op.Begin told).peer (marked q) → Rest minds fills groups s.managed.managed → OnlyMarks minds fills groups (after op.Begin told).peer
-    begin-marks told d j q e f w' k' d' rest = by s.peer.marking refl
+    begin-marks told d j q unasked e f w' k' d' rest = by s.peer.marking refl
       where
         by : (o : Option Marking) → s.peer.marking ≡ o → OnlyMarks minds fills groups (after op.Begin told).peer
         by (Some mk) g = absurd (let h : says.Mark record { 0 = j } ≡ says.MarkOpen record { 0 = mk.number } = sym f ∙ (e ∙ ap (λ z. (begun s.peer z C).reply) g) in cc)
@@ -84,7 +74,7 @@ module _ (minds : ℕ → Mind) (fills : ℕ → Filled) (groups : List (Option 
             let is : (mk : Marking) → (after op.Begin told).peer.marking ≡ Some mk → mk ≡ new = λ mk h. some-same mk new (sym h ∙ ap (λ (z : PeerReplay). z.marking) now) in
             record {
               only = λ mk h p m.
-                  begun-marks minds fills groups (after op.Begin told) w' k' q d' rest mk
+                  begun-marks minds fills groups (after op.Begin told) w' k' q d' unasked rest mk
                   (ap (λ (z : Marking). z.heap) (is mk h) ∙ sym (ap (λ (z : PeerReplay). z.peers.heap) now))
                   (ap (λ (z : Marking). z.refs) (is mk h) ∙ sym (ap (λ (z : PeerReplay). z.refs) now))
                   (ap (λ (z : Marking). z.strong_peers) (is mk h) ∙ sym (ap (λ (z : PeerReplay). strong_peers z.peers.issued z.table) now))
@@ -92,10 +82,14 @@ module _ (minds : ℕ → Mind) (fills : ℕ → Filled) (groups : List (Option 
               old = λ mk h p l. subst (λ z. IsLive z p) (ap (λ (z : PeerReplay). z.peers.heap) now ∙ sym (ap (λ (z : Marking). z.heap) (is mk h))) l;
             }
 
-    begin-known : (told : Told) (d : Stand) → r ≡ (begun s.peer s.peer.marking C).reply → DriverAllows d s.managed.managed s.peer.peers.issued op.Begin r cites told → IsSettled minds fills groups (after op.Begin told) → Of (after op.Begin told)
+    begin-known : (told : Told) (d : Stand) → s.control.stand ≡ d → r ≡ (begun s.peer s.peer.marking C).reply → DriverAllows d s.managed.managed s.peer.peers.issued op.Begin r cites told → IsSettled minds fills groups (after op.Begin told) → Of (after op.Begin told)
         → IsDriverKept (after op.Begin told).managed (after op.Begin told).peer (stand_after d number op.Begin r told) → Was d → Is op.Begin told d
-    begin-known told (weakening q count seen sw) e al w' k' d' kn = (kn, begin-marks told (weakening q count seen sw) (number_in r al) q e (mark-in r al) w' k' d' kn)
+    begin-known told (weakening q count seen sw) now e al w' k' d' kn = (kn, begin-marks told (weakening q count seen sw) (number_in r al) q unasked e (mark-in r al) w' k' d' kn)
       where
+        -- no restore of the cycle was asked yet
+        unasked : (h : ℕ) → Contains (handles_given (given_at (after op.Begin told).control.stand)) h → ⊥
+        unasked h c = Contains-nil h (subst (λ (z : Stand). Contains (handles_given (given_at (stand_after z number op.Begin r told))) h) now c)
+
         number_in : (x : Reply) → DriverAllows (weakening q count seen sw) s.managed.managed s.peer.peers.issued op.Begin x cites told → ℕ
         number_in (says.Mark j) a = j.0
         number_in _ a = absurd a
@@ -103,7 +97,7 @@ module _ (minds : ℕ → Mind) (fills : ℕ → Filled) (groups : List (Option 
         mark-in : (x : Reply) (a : DriverAllows (weakening q count seen sw) s.managed.managed s.peer.peers.issued op.Begin x cites told) → x ≡ says.Mark record { 0 = number_in x a }
         mark-in (says.Mark j) a = refl
         mark-in _ a = absurd a
-    begin-known told _ e al w' k' d' kn = absurd al
+    begin-known told _ now e al w' k' d' kn = absurd al
 
     -- its sweep
     swept-left : (freed : List ℕ) (q : OpenSnap) → SweepAllows s.peer s.peer.marking C (sweep_of freed) → IsDriverKept s.managed s.peer (marked q) → OnlyMarks minds fills groups s.peer → PeersLeft minds fills groups (swept s.peer s.peer.marking C freed).state.peers
@@ -111,7 +105,7 @@ module _ (minds : ℕ → Mind) (fills : ℕ → Filled) (groups : List (Option 
         let e = d.own in
         let is : IsSweep s.peer d.marking freed = (subst (λ z. SweepAllows s.peer z C (sweep_of freed)) e al).1 in
         subst (λ z. PeersLeft minds fills groups (swept s.peer z C freed).state.peers) (sym e)
-        (λ p l. stable (peers_of s.peer.peers.issued groups) p (λ out.
+        (λ p l. stable (peers_of groups) p (λ out.
         IsLive-spared s.peer.peers.heap freed p l ((is.exact p).1 (IsLive-before s.peer.peers.heap freed p l, only.old d.marking e p (IsLive-before s.peer.peers.heap freed p l), λ m. out (only.only d.marking e p m)))))
 
     sweep-known : (told : Told) (d : Stand) → SweepAllows s.peer s.peer.marking C told → DriverAllows d s.managed.managed s.peer.peers.issued op.Sweep r cites told → IsDriverKept s.managed s.peer d → Was d → Is op.Sweep told d
@@ -120,9 +114,13 @@ module _ (minds : ℕ → Mind) (fills : ℕ → Filled) (groups : List (Option 
     sweep-known other (marked q) al da dk kn = absurd (subst (λ z. SweepAllows s.peer z C other) dk.own al)
     sweep-known told _ al da dk kn = absurd da
 
-    restored-peers : (h : ℕ) (o : Option TableRow) → (restored_by s.peer h o).state.peers ≡ s.peer.peers
-    restored-peers h None = refl
-    restored-peers h (Some row) = test-cases (λ (a : Answered PeerReplay). a.state.peers ≡ s.peer.peers) row.cleared _ _ refl refl
+    restored-heap : (h : ℕ) (o : Option TableRow) → (restored_by s.peer h o).state.peers.heap ≡ s.peer.peers.heap
+    restored-heap h None = refl
+    restored-heap h (Some row) = test-cases (λ (a : Answered PeerReplay). a.state.peers.heap ≡ s.peer.peers.heap) row.cleared _ _ refl (by (peer_of s.peer.peers.issued h))
+      where
+        by : (p : Option ℕ) → (renewed_on s.peer h p).state.peers.heap ≡ s.peer.peers.heap
+        by None = refl
+        by (Some p) = refl
 
     resolve-known : (c : Cycle) (told : Told) (d : Stand) → SideLawful false s (entry C line (op.Resolve c) r cites) told → DriverAllows d s.managed.managed s.peer.peers.issued (op.Resolve c) r cites told → IsDriverKept s.managed s.peer d → Was d → Is (op.Resolve c) told d
     resolve-known c (resolution_of said freed) (restored q answers clear) l da dk kn =
@@ -130,23 +128,23 @@ module _ (minds : ℕ → Mind) (fills : ℕ → Filled) (groups : List (Option 
     resolve-known c told (restored q answers clear) l da dk kn = absurd da
     resolve-known c told _ l da dk kn = absurd da
 
-    later-known : (o : Op) (told : Told) (d : Stand) → IsLater o → SideLawful (is_peer_event C o) s (entry C line o r cites) told → DriverAllows d s.managed.managed s.peer.peers.issued o r cites told → IsDriverKept s.managed s.peer d
+    later-known : (o : Op) (told : Told) (d : Stand) → s.control.stand ≡ d → IsLater o → SideLawful (is_peer_event C o) s (entry C line o r cites) told → DriverAllows d s.managed.managed s.peer.peers.issued o r cites told → IsDriverKept s.managed s.peer d
         → IsSettled minds fills groups (after o told) → Of (after o told) → IsDriverKept (after o told).managed (after o told).peer (stand_after d number o r told) → Was d → Is o told d
-    later-known (op.Contract c) (contraction_of a b) (snapped q) i l al dk w' k' d' kn = kn
-    later-known (op.Contract c) (contraction_of a b) _ i l al dk w' k' d' kn = absurd al
-    later-known (op.Contract c) _ d i l al dk w' k' d' kn = absurd l.allowed
-    later-known (op.Mirror c) told (contracted q a b) i l al dk w' k' d' kn = kn
-    later-known (op.Mirror c) told _ i l al dk w' k' d' kn = absurd al
-    later-known (op.Weaken h) told (weakening q a b c) i l al dk w' k' d' kn = kn
-    later-known (op.Weaken h) told _ i l al dk w' k' d' kn = absurd al
-    later-known op.Begin told d i l al dk w' k' d' kn = begin-known told d l.replies al w' k' d' kn
-    later-known op.Sweep told d i l al dk w' k' d' kn = sweep-known told d l.allowed al dk kn
-    later-known (op.Restore h) told (restoring q a) i l al dk w' k' d' kn = (kn.0, subst (PeersLeft minds fills groups) (sym (restored-peers h.0 (row_of s.peer h.0))) kn.1)
-    later-known (op.Restore h) told _ i l al dk w' k' d' kn = absurd al
-    later-known (op.Clear c) told (restoring q a) i l al dk w' k' d' kn = kn
-    later-known (op.Clear c) told _ i l al dk w' k' d' kn = absurd al
-    later-known (op.Resolve c) told d i l al dk w' k' d' kn = resolve-known c told d l al dk kn
-    later-known _ told d i l al dk w' k' d' kn = absurd i
+    later-known (op.Contract c) (contraction_of a b d) (snapped q) now i l al dk w' k' d' kn = kn
+    later-known (op.Contract c) (contraction_of a b d) _ now i l al dk w' k' d' kn = absurd al
+    later-known (op.Contract c) _ d now i l al dk w' k' d' kn = absurd l.allowed
+    later-known (op.Mirror c) told (contracted q a b d) now i l al dk w' k' d' kn = kn
+    later-known (op.Mirror c) told _ now i l al dk w' k' d' kn = absurd al
+    later-known (op.Weaken h) told (weakening q a b c) now i l al dk w' k' d' kn = kn
+    later-known (op.Weaken h) told _ now i l al dk w' k' d' kn = absurd al
+    later-known op.Begin told d now i l al dk w' k' d' kn = begin-known told d now l.replies al w' k' d' kn
+    later-known op.Sweep told d now i l al dk w' k' d' kn = sweep-known told d l.allowed al dk kn
+    later-known (op.Restore h) told (restoring q a) now i l al dk w' k' d' kn = (kn.0, λ p l. kn.1 p (subst (λ (z : Heap). IsLive z p) (restored-heap h.0 (row_of s.peer h.0)) l))
+    later-known (op.Restore h) told _ now i l al dk w' k' d' kn = absurd al
+    later-known (op.Clear c) told (restoring q a) now i l al dk w' k' d' kn = kn
+    later-known (op.Clear c) told _ now i l al dk w' k' d' kn = absurd al
+    later-known (op.Resolve c) told d now i l al dk w' k' d' kn = resolve-known c told d l al dk kn
+    later-known _ told d now i l al dk w' k' d' kn = absurd i
 
   -- one entry behind the snapshot
   pub record IsLastly (s : Linkage) : Type 0 where
@@ -162,7 +160,7 @@ module _ (minds : ℕ → Mind) (fills : ℕ → Filled) (groups : List (Option 
       record {
         settled = w';
         kept = k';
-        known = later-known s w.settled w.kept number line r cites o told s.control.stand i may.lawful may.order w.kept.driver w' k' k'.driver w.known;
+        known = later-known s w.settled w.kept number line r cites o told s.control.stand refl i may.lawful may.order w.kept.driver w' k' k'.driver w.known;
       }
     where
       of-cycle : (o : Op) → IsLater o → IsOfCycle o
@@ -252,7 +250,7 @@ replayed-both (n ∷ ps) bs s = replayed-both ps bs (linkage_after s n)
 resolve-idle : (d : Stand) (n : ℕ) (c : Cycle) (r : Reply) (told : Told) → stand_after d n (op.Resolve c) r told ≡ idle
 resolve-idle idle n c r told = refl
 resolve-idle (snapped o) n c r told = refl
-resolve-idle (contracted o a b) n c r told = refl
+resolve-idle (contracted o a b d) n c r told = refl
 resolve-idle (weakening o a b d) n c r told = refl
 resolve-idle (marked o) n c r told = refl
 resolve-idle (restoring o a) n c r told = refl
@@ -277,6 +275,7 @@ last-idle ns s front last c e by f =
 pub record IsEnded (minds : ℕ → Mind) (fills : ℕ → Filled) (groups : List (Option Group)) (s : Linkage) : Type 0 where
   pub settled : IsSettled minds fills groups s
   pub kept : Of s
+  pub rests : s.control.stand ≡ idle
   pub closed : s.managed.managed.cycle ≡ None
   pub rows : RowsLeft minds fills groups s.managed.managed
   pub peers : PeersLeft minds fills groups s.peer.peers
@@ -314,7 +313,7 @@ cycle-leaves minds fills groups s ns standing number w k a i l = by ns refl a
         let at_end : (replayed s ns).control.stand ≡ idle = last-idle ns s ends.front ends.last ends.cycle ends.all last_caller ends.resolves in
         let known = subst (Known minds fills groups (replayed s ns).managed.managed (replayed s ns).peer) at_end v.known in
         let driver = subst (IsDriverKept (replayed s ns).managed (replayed s ns).peer) at_end v.kept.driver in
-        record { settled = v.settled; kept = v.kept; closed = driver.closed; rows = known.0; peers = known.1 }
+        record { settled = v.settled; kept = v.kept; rests = at_end; closed = driver.closed; rows = known.0; peers = known.1 }
 
     by : (ms : List Noted) → ns ≡ ms → AllMayCome s ms → IsEnded minds fills groups (replayed s ns)
     by [] e a' = absurd (let f : [] ≡ whole.snap ∷ whole.later = sym (ap entries e) ∙ whole.all in cc)

@@ -1,20 +1,22 @@
 -- How many objects and handles are left where just what is kept is left: two rows, a peer and a handle for each filled static.
-use Rattle.std.proofs.Common.{◌≡◌, ℕ, zero, suc, ◌+◌, ◌*◌, ◌≤◌, inl, inr, true, not, List, [], ◌∷◌, ◌++◌, length, Option, Some, None, refl, sym, ap, subst, ◌∙◌, arith}
+use Rattle.std.proofs.Common.{◌≡◌, ℕ, zero, suc, ◌*◌, ◌≤◌, inl, inr, true, not, List, [], ◌∷◌, ◌++◌, length, Option, Some, None, refl, sym, ap, subst, ◌∙◌, arith}
 use Rattle.std.specs.Prelude.{Contains, is_some}
 use Rattle.std.proofs.lemmas.List.Elements.{Contains-append_cases, Contains-append_left, Contains-append_right}
 use Rattle.std.proofs.lemmas.List.Sums.{sum_by-cons}
 use Rattle.std.proofs.lemmas.Bool.{cases_eq}
-use Rattle.joint_model.specs.Control.{candidates_of}
 use Rattle.joint_model.specs.Heaps.{Heap, IsLive, slot, numbered_at, numbered_set}
+use Rattle.joint_model.specs.Control.{Stand, idle}
 use Rattle.joint_model.specs.Linked.{Linkage}
-use Rattle.joint_model.specs.Managed.{Managed, OpenCycle, Holds}
-use Rattle.joint_model.specs.Peers.{Peers, Issued, Strength, strong, weak, peer_of}
+use Rattle.joint_model.specs.Managed.{Managed, OpenCycle, Holds, candidates_of}
+use Rattle.joint_model.specs.Peers.{Peers, Issued, Strength, strong, weak}
 use Rattle.joint_model.specs.PeerReplay.{TableRow}
+use Rattle.joint_model.specs.Told.{handles_given}
 use Rattle.joint_model.proofs.Deciding.{none_some, some-same}
 use Rattle.joint_model.proofs.HeapLemmas.{Contains-is_freed}
 use Rattle.joint_model.proofs.Members.{Contains-here, Contains-there, Contains-nil, Contains-cons_cases, Contains-decided}
 use Rattle.joint_model.proofs.Numbered.{numbered-within, numbered-made, numbered_set-same, numbered_set-other}
-use Rattle.joint_laws.specs.PeerInvariants.{IsIssued, IsTabled}
+use Rattle.joint_laws.specs.LinkedInvariants.{given_at}
+use Rattle.joint_laws.specs.PeerInvariants.{IsTabled}
 use Rattle.joint_laws.proofs.LinkedEntries.{Of}
 use Rattle.joint_laws.proofs.PeerEntries.{peer_of-issued}
 use Rattle.run_summary.specs.Tallies.{one}
@@ -25,7 +27,7 @@ use Rattle.generated_laws.proofs.Totals.{total}
 use Rattle.generated_laws.proofs.Pictures.{Mind}
 use Rattle.generated_laws.proofs.Showing.{Group, Names}
 use Rattle.generated_laws.proofs.PeerShowing.{Filled}
-use Rattle.generated_laws.proofs.Kept.{rows_of, peers_of, with_peer_of, StandsIn, row-stands, peer-stands, IsSettled, group-live, group-holds, kept-bridge, only-row, row-of_group}
+use Rattle.generated_laws.proofs.Kept.{rows_of, peers_of, StandsIn, row-stands, peer-stands, IsSettled, group-live, group-holds, kept-bridge, only-row, row-of_group}
 use Rattle.generated_laws.proofs.Cycling.{RowsLeft, PeersLeft}
 
 -- no number stands twice
@@ -101,25 +103,29 @@ table-count (h ∷ hs) table d f all =
 abbrev pub filled_ones : List (Option Group) → ℕ
 filled_ones groups = total (λ o. one (is_some o)) groups
 
-abbrev handles_of : List (Option Group) → List ℕ
-handles_of [] = []
-handles_of (None ∷ gs) = handles_of gs
-handles_of (Some g ∷ gs) = g.handle ∷ handles_of gs
+-- the handle that an object holds; 0 where it holds none
+abbrev handle_at : List (Option ℕ) → ℕ → ℕ
+handle_at held x = elim (numbered_at held x) [ None ↦ 0 | Some o ↦ elim o [ None ↦ 0 | Some h ↦ h ] ]
 
-handle-stands : (groups : List (Option Group)) (h : ℕ) → Contains (handles_of groups) h → StandsIn groups (λ g. g.handle ≡ h)
-handle-stands [] h c = absurd (Contains-nil h c)
-handle-stands (None ∷ gs) h c = (let w = handle-stands gs h c in record { spot = suc w.spot; group = w.group; there = w.there; has = w.has })
-handle-stands (Some g ∷ gs) h c = elim (Contains-cons_cases g.handle (handles_of gs) h c) [
+abbrev handles_in : List (Option ℕ) → List (Option Group) → List ℕ
+handles_in held [] = []
+handles_in held (None ∷ gs) = handles_in held gs
+handles_in held (Some g ∷ gs) = handle_at held g.bridge ∷ handles_in held gs
+
+handle-stands : (held : List (Option ℕ)) (groups : List (Option Group)) (h : ℕ) → Contains (handles_in held groups) h → StandsIn groups (λ g. handle_at held g.bridge ≡ h)
+handle-stands held [] h c = absurd (Contains-nil h c)
+handle-stands held (None ∷ gs) h c = (let w = handle-stands held gs h c in record { spot = suc w.spot; group = w.group; there = w.there; has = w.has })
+handle-stands held (Some g ∷ gs) h c = elim (Contains-cons_cases (handle_at held g.bridge) (handles_in held gs) h c) [
   | inl e ↦ record { spot = 0; group = g; there = refl; has = e }
-  | inr d ↦ (let w = handle-stands gs h d in record { spot = suc w.spot; group = w.group; there = w.there; has = w.has })
+  | inr d ↦ (let w = handle-stands held gs h d in record { spot = suc w.spot; group = w.group; there = w.there; has = w.has })
 ]
 
-stands-handle : (groups : List (Option Group)) (i : ℕ) (g : Group) → slot groups i ≡ Some g → Contains (handles_of groups) g.handle
-stands-handle [] i g e = absurd (cc)
-stands-handle (None ∷ gs) zero g e = absurd (cc)
-stands-handle (None ∷ gs) (suc i) g e = stands-handle gs i g e
-stands-handle (Some k ∷ gs) zero g e = (let f : k ≡ g = cc in subst (λ (y : Group). Contains (k.handle ∷ handles_of gs) y.handle) f (Contains-here k.handle (handles_of gs)))
-stands-handle (Some k ∷ gs) (suc i) g e = Contains-there g.handle k.handle (handles_of gs) (stands-handle gs i g e)
+stands-handle : (held : List (Option ℕ)) (groups : List (Option Group)) (i : ℕ) (g : Group) → slot groups i ≡ Some g → Contains (handles_in held groups) (handle_at held g.bridge)
+stands-handle held [] i g e = absurd (cc)
+stands-handle held (None ∷ gs) zero g e = absurd (cc)
+stands-handle held (None ∷ gs) (suc i) g e = stands-handle held gs i g e
+stands-handle held (Some k ∷ gs) zero g e = (let f : k ≡ g = cc in subst (λ (y : Group). Contains (handle_at held k.bridge ∷ handles_in held gs) (handle_at held y.bridge)) f (Contains-here (handle_at held k.bridge) (handles_in held gs)))
+stands-handle held (Some k ∷ gs) (suc i) g e = Contains-there (handle_at held g.bridge) (handle_at held k.bridge) (handles_in held gs) (stands-handle held gs i g e)
 
 -- lengths
 rows-length : (groups : List (Option Group)) → length (rows_of groups) ≡ 2 * filled_ones groups
@@ -127,23 +133,15 @@ rows-length [] = omega arith
 rows-length (None ∷ gs) = (let r = rows-length gs in omega (arith, r))
 rows-length (Some g ∷ gs) = (let r = rows-length gs in omega (arith, r))
 
-handles-length : (groups : List (Option Group)) → length (handles_of groups) ≡ filled_ones groups
-handles-length [] = omega arith
-handles-length (None ∷ gs) = (let r = handles-length gs in omega (arith, r))
-handles-length (Some g ∷ gs) = (let r = handles-length gs in omega (arith, r))
+handles-length : (held : List (Option ℕ)) (groups : List (Option Group)) → length (handles_in held groups) ≡ filled_ones groups
+handles-length held [] = omega arith
+handles-length held (None ∷ gs) = (let r = handles-length held gs in omega (arith, r))
+handles-length held (Some g ∷ gs) = (let r = handles-length held gs in omega (arith, r))
 
-peers-length : (issued : List Issued) (groups : List (Option Group)) → ((i : ℕ) (g : Group) → slot groups i ≡ Some g → (q : ℕ) × (peer_of issued g.handle ≡ Some q)) → length (peers_of issued groups) ≡ filled_ones groups
-peers-length issued [] f = omega arith
-peers-length issued (None ∷ gs) f = (let r = peers-length issued gs (λ i g e. f (suc i) g e) in omega (arith, r))
-peers-length issued (Some g ∷ gs) f =
-    let r = peers-length issued gs (λ i k e. f (suc i) k e) in
-    let q = f 0 g refl in
-    let c = ap (λ (o : Option ℕ). length (elim o as (λ z. List ℕ) [ None ↦ peers_of issued gs | Some p ↦ p ∷ peers_of issued gs ])) q.1 in
-    listing (peer_of issued g.handle) c r
-  where
-    listing : (o : Option ℕ) → length (elim o as (λ z. List ℕ) [ None ↦ peers_of issued gs | Some p ↦ p ∷ peers_of issued gs ]) ≡ suc (length (peers_of issued gs)) → length (peers_of issued gs) ≡ filled_ones gs → length (with_peer_of o (peers_of issued gs)) ≡ 1 + filled_ones gs
-    listing None c r = omega (arith, c, r)
-    listing (Some p) c r = omega (arith, r)
+peers-length : (groups : List (Option Group)) → length (peers_of groups) ≡ filled_ones groups
+peers-length [] = omega arith
+peers-length (None ∷ gs) = (let r = peers-length gs in omega (arith, r))
+peers-length (Some g ∷ gs) = (let r = peers-length gs in omega (arith, r))
 
 -- nothing stands twice
 rows-distinct : (groups : List (Option Group)) → ((i j : ℕ) (g k : Group) (z : ℕ) → slot groups i ≡ Some g → slot groups j ≡ Some k → Names g z → Names k z → i ≡ j) → ((i : ℕ) (g : Group) → slot groups i ≡ Some g → g.bridge ≡ g.plain → ⊥) → AreDistinct (rows_of groups)
@@ -157,25 +155,24 @@ rows-distinct (Some g ∷ gs) f two = (
     away : (z : ℕ) → Names g z → Contains (rows_of gs) z → ⊥
     away z n c = (let w = row-stands gs z c in let e = f 0 (suc w.spot) g w.group z refl w.there n w.has in omega (arith, e))
 
-handles-distinct : (groups : List (Option Group)) → ((i j : ℕ) (g k : Group) → slot groups i ≡ Some g → slot groups j ≡ Some k → g.handle ≡ k.handle → i ≡ j) → AreDistinct (handles_of groups)
-handles-distinct [] f = tt
-handles-distinct (None ∷ gs) f = handles-distinct gs (λ i j g k a b c. (let e = f (suc i) (suc j) g k a b c in omega (arith, e)))
-handles-distinct (Some g ∷ gs) f = (
-  λ c. (let w = handle-stands gs g.handle c in let e = f 0 (suc w.spot) g w.group refl w.there (sym w.has) in omega (arith, e)),
-  handles-distinct gs (λ i j k l a b c. (let e = f (suc i) (suc j) k l a b c in omega (arith, e))),
+handles-distinct : (held : List (Option ℕ)) (groups : List (Option Group)) → ((i j : ℕ) (g k : Group) → slot groups i ≡ Some g → slot groups j ≡ Some k → handle_at held g.bridge ≡ handle_at held k.bridge → i ≡ j) → AreDistinct (handles_in held groups)
+handles-distinct held [] f = tt
+handles-distinct held (None ∷ gs) f = handles-distinct held gs (λ i j g k a b c. (let e = f (suc i) (suc j) g k a b c in omega (arith, e)))
+handles-distinct held (Some g ∷ gs) f = (
+  λ c. (let w = handle-stands held gs (handle_at held g.bridge) c in let e = f 0 (suc w.spot) g w.group refl w.there (sym w.has) in omega (arith, e)),
+  handles-distinct held gs (λ i j k l a b c. (let e = f (suc i) (suc j) k l a b c in omega (arith, e))),
 )
 
-peers-distinct : (issued : List Issued) (groups : List (Option Group)) → ((i j : ℕ) (g k : Group) (q : ℕ) → slot groups i ≡ Some g → slot groups j ≡ Some k → peer_of issued g.handle ≡ Some q → peer_of issued k.handle ≡ Some q → i ≡ j) → AreDistinct (peers_of issued groups)
-peers-distinct issued [] f = tt
-peers-distinct issued (None ∷ gs) f = peers-distinct issued gs (λ i j g k q a b c d. (let e = f (suc i) (suc j) g k q a b c d in omega (arith, e)))
-peers-distinct issued (Some g ∷ gs) f = by (peer_of issued g.handle) refl (peers-distinct issued gs (λ i j k l q a b c d. (let e = f (suc i) (suc j) k l q a b c d in omega (arith, e))))
-  where
-    by : (o : Option ℕ) → peer_of issued g.handle ≡ o → AreDistinct (peers_of issued gs) → AreDistinct (with_peer_of o (peers_of issued gs))
-    by None e d = d
-    by (Some q) e d = (λ c. (let w = peer-stands issued gs q c in let n = f 0 (suc w.spot) g w.group q refl w.there e w.has in omega (arith, n)), d)
+peers-distinct : (groups : List (Option Group)) → ((i j : ℕ) (g k : Group) → slot groups i ≡ Some g → slot groups j ≡ Some k → g.peer ≡ k.peer → i ≡ j) → AreDistinct (peers_of groups)
+peers-distinct [] f = tt
+peers-distinct (None ∷ gs) f = peers-distinct gs (λ i j g k a b c. (let e = f (suc i) (suc j) g k a b c in omega (arith, e)))
+peers-distinct (Some g ∷ gs) f = (
+  λ c. (let w = peer-stands gs g.peer c in let e = f 0 (suc w.spot) g w.group refl w.there (sym w.has) in omega (arith, e)),
+  peers-distinct gs (λ i j k l a b c. (let e = f (suc i) (suc j) k l a b c in omega (arith, e))),
+)
 
 -- so the state has these numbers
-module _ (minds : ℕ → Mind) (fills : ℕ → Filled) (groups : List (Option Group)) (s : Linkage) (w : IsSettled minds fills groups s) (k : Of s) (closed : s.managed.managed.cycle ≡ None) (some_rows : RowsLeft minds fills groups s.managed.managed) (some_peers : PeersLeft minds fills groups s.peer.peers) where
+module _ (minds : ℕ → Mind) (fills : ℕ → Filled) (groups : List (Option Group)) (s : Linkage) (w : IsSettled minds fills groups s) (k : Of s) (rests : s.control.stand ≡ idle) (closed : s.managed.managed.cycle ≡ None) (some_rows : RowsLeft minds fills groups s.managed.managed) (some_peers : PeersLeft minds fills groups s.peer.peers) where
   abbrev sm : Managed
   sm = s.managed.managed
 
@@ -185,24 +182,26 @@ module _ (minds : ℕ → Mind) (fills : ℕ → Filled) (groups : List (Option 
   no-candidates : (x : ℕ) → Contains (candidates_of sm) x → ⊥
   no-candidates x c = Contains-nil x (subst (λ l. Contains l x) (ap (λ (z : Option OpenCycle). elim z as (λ y. List ℕ) [ None ↦ [] | Some y ↦ y.candidates ]) closed) c)
 
-  strong-one : (i : ℕ) (g : Group) → slot groups i ≡ Some g → (row : TableRow) × IsTabled s.peer.table g.handle row × (row.strength ≡ strong)
-  strong-one i g e = k.owners.strong_ones g.bridge g.handle (group-holds minds fills groups s w k i g e) (no-candidates g.bridge)
+  -- the handle of a group's bridge
+  is-handle : (i : ℕ) (g : Group) (h : ℕ) → numbered_at sm.held g.bridge ≡ Some (Some h) → handle_at sm.held g.bridge ≡ h
+  is-handle i g h e = ap (λ (o : Option (Option ℕ)). elim o as (λ z. ℕ) [ None ↦ 0 | Some x ↦ elim x [ None ↦ 0 | Some y ↦ y ] ]) e
 
-  issued-one : (i : ℕ) (g : Group) → slot groups i ≡ Some g → (j : Issued) × IsIssued sp.issued g.handle j
-  issued-one i g e = (let a = k.owners.held_ones g.bridge g.handle (group-holds minds fills groups s w k i g e) in (a.0, a.1))
+  holds-one : (i : ℕ) (g : Group) → slot groups i ≡ Some g → Holds sm g.bridge (handle_at sm.held g.bridge)
+  holds-one i g e = (let h = group-holds minds fills groups s w k i g e in subst (Holds sm g.bridge) (sym (is-handle i g h.0 h.1.held)) h.1)
 
-  leads : (i : ℕ) (g : Group) → slot groups i ≡ Some g → (q : ℕ) × (peer_of sp.issued g.handle ≡ Some q)
-  leads i g e = (let j = issued-one i g e in (j.0.peer, peer_of-issued sp.issued g.handle j.0 j.1))
+  strong-one : (i : ℕ) (g : Group) → slot groups i ≡ Some g → (row : TableRow) × IsTabled s.peer.table (handle_at sm.held g.bridge) row × (row.strength ≡ strong)
+  strong-one i g e = k.owners.strong_ones g.bridge (handle_at sm.held g.bridge) (holds-one i g e) (no-candidates g.bridge)
 
-  group-peer_live : (i : ℕ) (g : Group) (q : ℕ) → slot groups i ≡ Some g → peer_of sp.issued g.handle ≡ Some q → IsLive sp.heap q
-  group-peer_live i g q e f =
+  group-peer_live : (i : ℕ) (g : Group) → slot groups i ≡ Some g → IsLive sp.heap g.peer
+  group-peer_live i g e =
+      let h = handle_at sm.held g.bridge in
       let a = strong-one i g e in
-      let j = issued-one i g e in
-      let live = k.peer.handles.uncleared g.handle a.0 j.0 a.1 j.1 (k.peer.handles.sure g.handle a.0 a.1 a.2) in
-      subst (IsLive sp.heap) (some-same j.0.peer q (sym (peer_of-issued sp.issued g.handle j.0 j.1) ∙ f)) live
+      let j = k.owners.held_ones g.bridge h (holds-one i g e) in
+      let live = k.peer.handles.uncleared h a.0 j.0 a.1 j.1 (k.peer.handles.sure h a.0 a.1 a.2) in
+      subst (IsLive sp.heap) (some-same j.0.peer g.peer (sym (peer_of-issued sp.issued h j.0 j.1) ∙ w.are_held.leads i g h e (holds-one i g e).held)) live
 
   bridge-apart : (i : ℕ) (g : Group) → slot groups i ≡ Some g → g.bridge ≡ g.plain → ⊥
-  bridge-apart i g e q = (let b = w.shown.groups_are i g e in let f : Some (Some g.handle) ≡ Some None = sym b.holds ∙ (ap (numbered_at sm.held) q ∙ b.none) in some_none g.handle f)
+  bridge-apart i g e q = (let b = w.shown.groups_are i g e in let f : Some (Some b.holds.0) ≡ Some None = sym b.holds.1 ∙ (ap (numbered_at sm.held) q ∙ b.none) in some_none b.holds.0 f)
     where
       some_none : (h : ℕ) → Some (Some h) ≡ Some None → ⊥
       some_none h f = cc
@@ -219,13 +218,13 @@ module _ (minds : ℕ → Mind) (fills : ℕ → Filled) (groups : List (Option 
 
   pub peers-left : unfreed sp.heap ≡ filled_ones groups
   peers-left =
-      left-count sp.heap (peers_of sp.issued groups)
-      (peers-distinct sp.issued groups (λ i j g l q a b c d. by-bridges i j g l a b (only-row minds fills groups s w k g.bridge j l q b d (row-of_group minds fills groups s w k i g q a c))))
-      (λ q c. (let g = peer-stands sp.issued groups q c in group-peer_live g.spot g.group q g.there g.has))
+      left-count sp.heap (peers_of groups)
+      (peers-distinct groups (λ i j g l a b e. by-bridges i j g l a b (only-row minds fills groups s w k g.bridge j l g.peer b (sym e) (row-of_group minds fills groups s w k i g a))))
+      (λ q c. (let g = peer-stands groups q c in subst (IsLive sp.heap) g.has (group-peer_live g.spot g.group g.there)))
       some_peers
-      ∙ peers-length sp.issued groups leads
+      ∙ peers-length groups
 
-  tabled-kept : (h : ℕ) (row : TableRow) → IsTabled s.peer.table h row → Contains (handles_of groups) h
+  tabled-kept : (h : ℕ) (row : TableRow) → IsTabled s.peer.table h row → Contains (handles_in sm.held groups) h
   tabled-kept h row t = by row.strength refl
     where
       in-range : (1 ≤ h) × (h ≤ length sp.issued)
@@ -234,12 +233,13 @@ module _ (minds : ℕ → Mind) (fills : ℕ → Filled) (groups : List (Option 
       is : (i : Issued) × (numbered_at sp.issued h ≡ Some i)
       is = numbered-made sp.issued h in-range.0 in-range.1
 
-      by : (x : Strength) → row.strength ≡ x → Contains (handles_of groups) h
+      by : (x : Strength) → row.strength ≡ x → Contains (handles_in sm.held groups) h
       by weak e = (let a = k.owners.weak_ones h (row, t, e) (is.0, is.1, w.peers.holds h is.0 is.1) in absurd (no-candidates a.0 a.2))
       by strong e =
           let live = k.peer.handles.uncleared h row is.0 t is.1 (k.peer.handles.sure h row t e) in
-          elim (w.are_held.owned h in-range.0 in-range.1) [
-            | inr hand ↦ absurd (none_some h (sym (w.hands hand.0) ∙ hand.1))
+          elim (w.are_held.owned h row t) [
+            | inr (inl hand) ↦ absurd (none_some h (sym (w.hands hand.0) ∙ hand.1))
+            | inr (inr given) ↦ absurd (Contains-nil h (subst (λ (z : Stand). Contains (handles_given (given_at z)) h) rests given))
             | inl x ↦ (
                 let b = numbered-within sm.held x.0 (Some h) x.1 in
                 let c = w.shown.places in
@@ -251,17 +251,17 @@ module _ (minds : ℕ → Mind) (fills : ℕ → Filled) (groups : List (Option 
                   held = x.1;
                 } in
                 let g = kept-bridge minds fills groups s w k x.0 h holds (some_rows x.0 holds.live) in
-                subst (Contains (handles_of groups)) (sym g.has.1) (stands-handle groups g.spot g.group g.there))
+                subst (Contains (handles_in sm.held groups)) (is-handle g.spot g.group h (ap (numbered_at sm.held) (sym g.has.0) ∙ x.1)) (stands-handle sm.held groups g.spot g.group g.there))
           ]
 
   pub handles-left : rows s.peer.table ≡ filled_ones groups
   handles-left =
-      table-count (handles_of groups) s.peer.table
-      (handles-distinct groups (λ i j g l a b e. by-bridges i j g l a b
-      (k.managed.alone g.bridge l.bridge g.handle (group-holds minds fills groups s w k i g a) (subst (Holds sm l.bridge) (sym e) (group-holds minds fills groups s w k j l b)))))
-      (λ h c. (let g = handle-stands groups h c in let a = strong-one g.spot g.group g.there in subst (λ z. (row : TableRow) × IsTabled s.peer.table z row) g.has (a.0, a.1)))
+      table-count (handles_in sm.held groups) s.peer.table
+      (handles-distinct sm.held groups (λ i j g l a b e. by-bridges i j g l a b
+      (k.managed.alone g.bridge l.bridge (handle_at sm.held g.bridge) (holds-one i g a) (subst (Holds sm l.bridge) (sym e) (holds-one j l b)))))
+      (λ h c. (let g = handle-stands sm.held groups h c in let a = strong-one g.spot g.group g.there in subst (λ z. (row : TableRow) × IsTabled s.peer.table z row) g.has (a.0, a.1)))
       tabled-kept
-      ∙ handles-length groups
+      ∙ handles-length sm.held groups
 
   pub state-left : left_in s ≡ record { managed = 2 * filled_ones groups; peers = filled_ones groups; handles = filled_ones groups }
   state-left = λ i. record { managed = rows-left i; peers = peers-left i; handles = handles-left i }

@@ -10,6 +10,7 @@ pub mod Showing
 pub mod PeerShowing
 pub mod Moves
 pub mod Quiet
+pub mod Driven
 pub mod Running
 pub mod Kept
 pub mod Cycling

@@ -1,5 +1,5 @@
 -- The events of the managed threads of a generated script, one by one: what is shown of both sides is shown of them afterwards, by what the thread has then.
-use Rattle.std.proofs.Common.{◌≡◌, ◌≢◌, ℕ, ◌+◌, ◌<◌, ◌≤◌, ◌⊎◌, ◌||◌, inl, inr, Bool, true, false, List, [], ◌∷◌, length, Option, Some, None, set, replicate, nat_le, nat_eq, refl, sym, ap, subst, ◌∙◌, arith, eq-eqb, length-append}
+use Rattle.std.proofs.Common.{◌≡◌, ◌≢◌, ℕ, ◌+◌, ◌<◌, ◌≤◌, ◌⊎◌, ◌||◌, inl, inr, Bool, true, false, List, [], ◌∷◌, ◌++◌, length, map, Option, Some, None, set, replicate, nat_le, nat_eq, refl, sym, ap, subst, ◌∙◌, arith, eq-eqb}
 use Rattle.std.specs.Prelude.{Contains, if◌then◌else◌, is_some}
 use Rattle.std.proofs.Math.ListN.{length-set}
 use Rattle.std.proofs.lemmas.Bool.{cases_eq}
@@ -20,16 +20,18 @@ use Rattle.joint_model.specs.declared.events.Entry.{Entry}
 use Rattle.joint_model.specs.Heaps.{Heap, IsLive, Answered, answer, slot, place, numbered_at, fields_of, field_set, field_stored, stored, with_field, with_var, with_static, is_full, next_number}
 use Rattle.joint_model.specs.Lines.{is_peer_event}
 use Rattle.joint_model.specs.Linked.{Linkage, SideLawful, managed_after, peer_after}
-use Rattle.joint_model.specs.Control.{candidates_of}
-use Rattle.joint_model.specs.Managed.{Managed, OpenCycle, IsManagedRoot, Holds, managed_name, with_row, made_new, adopted, handle_of, handle_reply}
-use Rattle.joint_model.specs.Peers.{Peers, Issued, held, strong, peer_of, with_peer, with_handle, next_handle, handles_full, landed, pair_made}
-use Rattle.joint_model.specs.PeerReplay.{TableRow, on_table, brings, row_of, table_target}
-use Rattle.joint_model.specs.Told.{Told}
-use Rattle.joint_model.proofs.Deciding.{none_some, neq-eqb}
+use Rattle.joint_model.specs.Managed.{Managed, OpenCycle, IsManagedRoot, Holds, managed_name, with_row, made_new, adopted, handle_of, handle_reply, candidates_of}
+use Rattle.joint_model.specs.Peers.{Peers, Issued, held, strong, peer_of, with_peer, with_handle, next_handle, handles_full, issued_since, landed, pair_made}
+use Rattle.joint_model.specs.PeerReplay.{PeerReplay, TableRow, on_table, brings, brought_to, fresh_row, row_of, table_target}
+use Rattle.joint_model.specs.Told.{Answer, Told, handles_given}
+use Rattle.joint_model.proofs.Deciding.{none_some, neq-eqb, some-same}
 use Rattle.joint_model.proofs.HeapLemmas.{adopt_by-managed, adopt_by-reply, candidates_of-open, Holds-handle_of}
 use Rattle.joint_model.proofs.Members.{Contains-nil}
 use Rattle.joint_model.proofs.Numbered.{numbered-within, numbered-push_cases, numbered-push_old, numbered-push_new, slot-Contains}
+use Rattle.joint_laws.specs.LinkedInvariants.{given_at}
+use Rattle.joint_laws.specs.PeerInvariants.{IsTabled}
 use Rattle.joint_laws.proofs.LinkedEntries.{Of, entry}
+use Rattle.joint_laws.proofs.PeerQuiet.{table-issued, table-still}
 use Rattle.run_summary.specs.Tallies.{is_h}
 use Rattle.generated_laws.proofs.Pictures.{Seen, seen, at, put, Mind, Step, at-small}
 use Rattle.generated_laws.proofs.Showing.{Group, IsGroup, IsShown, StaticIs, number_of, row-shown, drop-shown, write-shown, grouped, still-shown, slot-set_here, slot-set_other}
@@ -52,10 +54,12 @@ part-same f minds u m e k = elim (cases_eq k u) [
   | inr n ↦ ap f (mind-other minds u m k n)
 ]
 
--- each handle that was issued is held by a row, or in some thread's hand; and a freed row's peer is freed
-pub record AreHeld (m : Managed) (p : Peers) (minds : ℕ → Mind) : Type 0 where
-  pub owned : (n : ℕ) → 1 ≤ n → n ≤ length p.issued → ((x : ℕ) × (numbered_at m.held x ≡ Some (Some n))) ⊎ ((t : ℕ) × ((minds t).hand ≡ Some n))
-  pub freed : (x n : ℕ) → numbered_at m.held x ≡ Some (Some n) → Contains m.heap.freed x → (q : ℕ) × (peer_of p.issued n ≡ Some q) × Contains p.heap.freed q
+-- each handle of the table is held by a row, or in some thread's hand, or a restore gave it and no row took it yet; a freed row's peer is freed; and a
+-- group's bridge holds a handle on the group's peer
+pub record AreHeld (m : Managed) (p : PeerReplay) (answers : List Answer) (minds : ℕ → Mind) (groups : List (Option Group)) : Type 0 where
+  pub owned : (n : ℕ) (row : TableRow) → IsTabled p.table n row → ((x : ℕ) × (numbered_at m.held x ≡ Some (Some n))) ⊎ (((t : ℕ) × ((minds t).hand ≡ Some n)) ⊎ Contains (handles_given answers) n)
+  pub freed : (x n : ℕ) → numbered_at m.held x ≡ Some (Some n) → Contains m.heap.freed x → (q : ℕ) × (peer_of p.peers.issued n ≡ Some q) × Contains p.peers.heap.freed q
+  pub leads : (i : ℕ) (g : Group) (n : ℕ) → slot groups i ≡ Some g → numbered_at m.held g.bridge ≡ Some (Some n) → peer_of p.peers.issued n ≡ Some g.peer
 
 -- the place whose static an event fills
 abbrev pub Fills : ℕ → Op → Type 0
@@ -69,12 +73,12 @@ SaysHandle (op.Lend v x) r = is_h r ≡ true
 SaysHandle o r = Unit {0}
 
 -- what an entry of a managed thread leads to
-pub record HasMoved (m : Managed) (p : Peers) (u : ℕ) (o : Op) (minds : ℕ → Mind) (fills : ℕ → Filled) (groups : List (Option Group)) (go : Mind → Type 0) : Type 0 where
+pub record HasMoved (m : Managed) (p : PeerReplay) (answers : List Answer) (u : ℕ) (o : Op) (minds : ℕ → Mind) (fills : ℕ → Filled) (groups : List (Option Group)) (go : Mind → Type 0) : Type 0 where
   pub mind : Mind
   pub more : List (Option Group)
   pub shown : IsShown m (with_mind minds u mind) more
-  pub peers : ArePeersShown p fills more
-  pub are_held : AreHeld m p (with_mind minds u mind)
+  pub peers : ArePeersShown p.peers fills more
+  pub are_held : AreHeld m p answers (with_mind minds u mind) more
   pub goes : go mind
   pub from : (i : ℕ) → is_some (slot more i) ≡ true → (is_some (slot groups i) ≡ true) ⊎ Fills i o
   pub to : (i : ℕ) → i < 32 → (is_some (slot groups i) ≡ true) ⊎ Fills i o → is_some (slot more i) ≡ true
@@ -99,12 +103,16 @@ stored-is : (h : Heap) (s v x : ℕ) → slot h.vars v ≡ Some x → (elim (slo
 stored-is h s v x e = ap (λ o. (elim o as (λ z. Answered Heap) [ None ↦ answer says.Empty h | Some z ↦ answer says.Ok (with_static h s (Some z)) ]).state) e
 
 module _ (s : Linkage) (k : Of s) (minds : ℕ → Mind) (fills : ℕ → Filled) (groups : List (Option Group)) (w : IsShown s.managed.managed minds groups) (p : ArePeersShown s.peer.peers fills groups)
-    (h : AreHeld s.managed.managed s.peer.peers minds) (u : ℕ) (few : u ≤ 8) (go : Mind → Type 0) where
+    (h : AreHeld s.managed.managed s.peer (given_at s.control.stand) minds groups) (u : ℕ) (few : u ≤ 8) (go : Mind → Type 0) where
   abbrev sm : Managed
   sm = s.managed.managed
 
   abbrev sp : Peers
   sp = s.peer.peers
+
+  -- what the driver's restores have answered, which no thread's entry changes
+  abbrev said : List Answer
+  said = given_at s.control.stand
 
   filled-from : (o : Op) (i : ℕ) → is_some (slot groups i) ≡ true → (is_some (slot groups i) ≡ true) ⊎ Fills i o
   filled-from o i e = inl e
@@ -119,7 +127,7 @@ module _ (s : Linkage) (k : Of s) (minds : ℕ → Mind) (fills : ℕ → Filled
   -- a further row, by its handle or none
   row-moved : (v : ℕ) (kind : Kind) (n : ℕ) (o : Option ℕ) (mind : Mind) (e : Op) → v < 3 → mind.slots ≡ put (minds u).slots v (Some (seen (next_number sm.heap) (replicate n None) o)) → mind.stored ≡ (minds u).stored
       → ((z : ℕ) → (minds u).hand ≡ Some z → (o ≡ Some z) ⊎ (mind.hand ≡ Some z)) → ((i : ℕ) → Fills i e → ⊥) → go mind
-      → HasMoved (with_row sm (place u v) kind n o) sp u e minds fills groups go
+      → HasMoved (with_row sm (place u v) kind n o) s.peer said u e minds fills groups go
   row-moved v kind n o mind e small slots stored hands none g =
       let next = with_mind minds u mind in
       record {
@@ -128,13 +136,14 @@ module _ (s : Linkage) (k : Of s) (minds : ℕ → Mind) (fills : ℕ → Filled
         shown = row-shown sm minds next groups w u v kind n o few small (mind-other minds u mind) (ap (λ (z : Mind). z.slots) (mind-here minds u mind) ∙ slots) (ap (λ (z : Mind). z.stored) (mind-here minds u mind) ∙ stored);
         peers = p;
         are_held = record {
-          owned = λ a b c. elim (h.owned a b c) [
+          owned = λ a row c. elim (h.owned a row c) [
             | inl x ↦ inl (x.0, numbered-push_old sm.held o x.0 (numbered-within sm.held x.0 (Some a) x.1).1 ∙ x.1)
-            | inr t ↦ elim (cases_eq t.0 u) [
-              | inr q ↦ inr (t.0, ap (λ (z : Mind). z.hand) (mind-other minds u mind t.0 q) ∙ t.1)
+            | inr (inr g) ↦ inr (inr g)
+            | inr (inl t) ↦ elim (cases_eq t.0 u) [
+              | inr q ↦ inr (inl (t.0, ap (λ (z : Mind). z.hand) (mind-other minds u mind t.0 q) ∙ t.1))
               | inl q ↦ elim (hands a (ap (λ z. (minds z).hand) (sym q) ∙ t.1)) [
                 | inl y ↦ inl (length sm.held + 1, numbered-push_new sm.held o ∙ ap Some y)
-                | inr y ↦ inr (u, ap (λ (z : Mind). z.hand) (mind-here minds u mind) ∙ y)
+                | inr y ↦ inr (inl (u, ap (λ (z : Mind). z.hand) (mind-here minds u mind) ∙ y))
               ]
             ]
           ];
@@ -142,53 +151,61 @@ module _ (s : Linkage) (k : Of s) (minds : ℕ → Mind) (fills : ℕ → Filled
             | inl y ↦ h.freed x a y f
             | inr y ↦ (let l = k.managed.managed.freed x f in let q = w.places in let r = y.0 in absurd (omega (arith, l.1, q, r)))
           ];
+          leads = λ i g a e d. elim (numbered-push_cases sm.held o g.bridge (Some a) d) [
+            | inl y ↦ h.leads i g a e y
+            | inr y ↦ (let b = (w.groups_are i g e).holds in let l = numbered-within sm.held g.bridge (Some b.0) b.1 in let r = y.0 in absurd (omega (arith, l.1, r)))
+          ];
         };
         goes = g;
         from = λ i c. inl c;
         to = λ i l c. elim c [ inl d ↦ d | inr d ↦ absurd (none i d) ];
       }
 
+  -- what is in hand, where the handles of the table and what rows hold stay
+  hands-still : (m : Managed) (q : PeerReplay) (mind : Mind) (more : List (Option Group)) → m.held ≡ sm.held → m.heap.freed ≡ sm.heap.freed → q.peers.issued ≡ sp.issued → q.table ≡ s.peer.table → q.peers.heap.freed ≡ sp.heap.freed → mind.hand ≡ (minds u).hand
+      → ((i : ℕ) (g : Group) (n : ℕ) → slot more i ≡ Some g → numbered_at sm.held g.bridge ≡ Some (Some n) → peer_of sp.issued n ≡ Some g.peer) → AreHeld m q said (with_mind minds u mind) more
+  hands-still m q mind more holding freed issued table gone hand leads = record {
+    owned = λ a row c. elim (h.owned a row (subst (λ l. IsTabled l a row) table c)) [
+      | inl x ↦ inl (x.0, ap (λ l. numbered_at l x.0) holding ∙ x.1)
+      | inr (inl t) ↦ inr (inl (t.0, part-same (λ (z : Mind). z.hand) minds u mind hand t.0 ∙ t.1))
+      | inr (inr g) ↦ inr (inr g)
+    ];
+    freed = λ x a d f. (let o = h.freed x a (ap (λ l. numbered_at l x) (sym holding) ∙ d) (subst (λ l. Contains l x) freed f) in (o.0, ap (λ l. peer_of l a) issued ∙ o.1, subst (λ l. Contains l o.0) (sym gone) o.2));
+    leads = λ i g n e d. ap (λ l. peer_of l n) issued ∙ leads i g n e (ap (λ l. numbered_at l g.bridge) (sym holding) ∙ d);
+  }
+
   -- an event that changes neither heap's lists but what is shown
-  kept-moved : (m : Managed) (q : Peers) (mind : Mind) (e : Op) → IsShown m (with_mind minds u mind) groups → m.held ≡ sm.held → m.heap.freed ≡ sm.heap.freed → q ≡ sp → mind.hand ≡ (minds u).hand → ((i : ℕ) → Fills i e → ⊥) → go mind
-      → HasMoved m q u e minds fills groups go
-  kept-moved m q mind e shown holding freed same hand none g = record {
+  kept-moved : (m : Managed) (mind : Mind) (e : Op) → IsShown m (with_mind minds u mind) groups → m.held ≡ sm.held → m.heap.freed ≡ sm.heap.freed → mind.hand ≡ (minds u).hand → ((i : ℕ) → Fills i e → ⊥) → go mind
+      → HasMoved m s.peer said u e minds fills groups go
+  kept-moved m mind e shown holding freed hand none g = record {
     mind = mind;
     more = groups;
     shown = shown;
-    peers = subst (λ z. ArePeersShown z fills groups) (sym same) p;
-    are_held = subst (λ z. AreHeld m z (with_mind minds u mind)) (sym same) (held-still m mind holding freed hand);
+    peers = p;
+    are_held = hands-still m s.peer mind groups holding freed refl refl refl hand h.leads;
     goes = g;
     from = λ i c. inl c;
     to = λ i l c. elim c [ inl d ↦ d | inr d ↦ absurd (none i d) ];
   }
-    where
-      held-still : (m : Managed) (mind : Mind) → m.held ≡ sm.held → m.heap.freed ≡ sm.heap.freed → mind.hand ≡ (minds u).hand → AreHeld m sp (with_mind minds u mind)
-      held-still m mind holding freed hand = record {
-        owned = λ a b c. elim (h.owned a b c) [
-          | inl x ↦ inl (x.0, ap (λ l. numbered_at l x.0) holding ∙ x.1)
-          | inr t ↦ inr (t.0, part-same (λ (z : Mind). z.hand) minds u mind hand t.0 ∙ t.1)
-        ];
-        freed = λ x a d f. h.freed x a (ap (λ l. numbered_at l x) (sym holding) ∙ d) (subst (λ l. Contains l x) freed f);
-      }
 
   new-moved : (v : Var) (kind : Kind) (n : ℕ) (z : MNum) → says.M z ≡ (made_new sm (place u v.0) kind n).reply → Step (minds u) (op.Line (act.New v kind n)) (says.M z) go
-      → HasMoved (made_new sm (place u v.0) kind n).state sp u (op.Line (act.New v kind n)) minds fills groups go
+      → HasMoved (made_new sm (place u v.0) kind n).state s.peer said u (op.Line (act.New v kind n)) minds fills groups go
   new-moved v kind n z e st =
       let c = row-case (is_full sm.heap.fields) sm (with_row sm (place u v.0) kind n None) z (next_number sm.heap) e in
-      subst (λ m. HasMoved m sp u (op.Line (act.New v kind n)) minds fills groups go) (sym c.1)
+      subst (λ m. HasMoved m s.peer said u (op.Line (act.New v kind n)) minds fills groups go) (sym c.1)
       (row-moved v.0 kind n None (record (minds u) { slots = put (minds u).slots v.0 (Some (seen z.0 (replicate n None) None)) }) (op.Line (act.New v kind n)) st.0
       (ap (λ x. put (minds u).slots v.0 (Some (seen x (replicate n None) None))) c.0) refl (λ y d. inr d) (λ i f. f) st.1)
 
   adopt-moved : (v : Var) (kind : Kind) (n : ℕ) (q : PNum) (g : HNum) (z : MNum) → says.M z ≡ (adopted sm (place u v.0) kind n g.0).reply → Step (minds u) (op.Adopt v kind n q g) (says.M z) go
-      → HasMoved (adopted sm (place u v.0) kind n g.0).state sp u (op.Adopt v kind n q g) minds fills groups go
+      → HasMoved (adopted sm (place u v.0) kind n g.0).state s.peer said u (op.Adopt v kind n q g) minds fills groups go
   adopt-moved v kind n q g z e st =
       let c = row-case (is_full sm.heap.fields) sm (with_row sm (place u v.0) kind n (Some g.0)) z (next_number sm.heap) e in
-      subst (λ m. HasMoved m sp u (op.Adopt v kind n q g) minds fills groups go) (sym c.1)
+      subst (λ m. HasMoved m s.peer said u (op.Adopt v kind n q g) minds fills groups go) (sym c.1)
       (row-moved v.0 kind n (Some g.0) (record (minds u) { slots = put (minds u).slots v.0 (Some (seen z.0 (replicate n None) (Some g.0))); hand = None }) (op.Adopt v kind n q g) st.1
       (ap (λ x. put (minds u).slots v.0 (Some (seen x (replicate n None) (Some g.0)))) c.0) refl (λ y d. inl (sym st.0 ∙ d)) (λ i f. f) st.2)
 
   set-moved : (v x : Var) (i : ℕ) (r : Reply) → Step (minds u) (op.Line (act.Set v i (Some x))) r go
-      → HasMoved (record sm { heap = (field_set sm.heap (place u v.0) i (Some (place u x.0))).state }) sp u (op.Line (act.Set v i (Some x))) minds fills groups go
+      → HasMoved (record sm { heap = (field_set sm.heap (place u v.0) i (Some (place u x.0))).state }) s.peer said u (op.Line (act.Set v i (Some x))) minds fills groups go
   set-moved v x i r st =
       let b = st.0 in
       let mind : Mind = record (minds u) { slots = put (minds u).slots v.0 (Some (seen b.target.number (Some b.value.number ∷ []) b.target.handle)) } in
@@ -196,21 +213,21 @@ module _ (s : Linkage) (k : Of s) (minds : ℕ → Mind) (fills : ℕ → Filled
       let same : (field_set sm.heap (place u v.0) i (Some (place u x.0))).state ≡ with_field sm.heap b.target.number 0 (Some b.value.number) =
       ap (λ j. (field_set sm.heap (place u v.0) j (Some (place u x.0))).state) b.first
       ∙ set-is sm.heap (place u v.0) (place u x.0) b.target.number b.value.number (named v.0 b.target b.here) (named x.0 b.value b.there) ((w.objects u v.0 b.target b.here).0 ∙ b.bare) in
-      subst (λ hp. HasMoved (record sm { heap = hp }) sp u (op.Line (act.Set v i (Some x))) minds fills groups go) (sym same)
-      (kept-moved (record sm { heap = with_field sm.heap b.target.number 0 (Some b.value.number) }) sp mind (op.Line (act.Set v i (Some x)))
+      subst (λ hp. HasMoved (record sm { heap = hp }) s.peer said u (op.Line (act.Set v i (Some x))) minds fills groups go) (sym same)
+      (kept-moved (record sm { heap = with_field sm.heap b.target.number 0 (Some b.value.number) }) mind (op.Line (act.Set v i (Some x)))
       (write-shown sm minds next groups w u v.0 b.target b.value.number few b.v_small b.here b.bare (mind-other minds u mind) (ap (λ (z : Mind). z.slots) (mind-here minds u mind)) (ap (λ (z : Mind). z.stored) (mind-here minds u mind)))
-      refl refl refl refl (λ j f. f) st.1)
+      refl refl refl (λ j f. f) st.1)
 
-  drop-moved : (v : Var) (r : Reply) → Step (minds u) (op.Line (act.Drop v)) r go → HasMoved (record sm { heap = with_var sm.heap (place u v.0) None }) sp u (op.Line (act.Drop v)) minds fills groups go
+  drop-moved : (v : Var) (r : Reply) → Step (minds u) (op.Line (act.Drop v)) r go → HasMoved (record sm { heap = with_var sm.heap (place u v.0) None }) s.peer said u (op.Line (act.Drop v)) minds fills groups go
   drop-moved v r st =
       let mind : Mind = record (minds u) { slots = put (minds u).slots v.0 None; stored = st.1 } in
       let next = with_mind minds u mind in
       let how : ((next u).stored ≡ (minds u).stored) ⊎ ((x : ℕ) → at (put (minds u).slots v.0 None) x ≡ None) = elim st.2 [ inl a ↦ inl (ap (λ (z : Mind). z.stored) (mind-here minds u mind) ∙ a) | inr a ↦ inr a ] in
-      kept-moved (record sm { heap = with_var sm.heap (place u v.0) None }) sp mind (op.Line (act.Drop v))
+      kept-moved (record sm { heap = with_var sm.heap (place u v.0) None }) mind (op.Line (act.Drop v))
       (drop-shown sm minds next groups w u v.0 few st.0 (mind-other minds u mind) (ap (λ (z : Mind). z.slots) (mind-here minds u mind)) how)
-      refl refl refl refl (λ j f. f) st.3
+      refl refl refl (λ j f. f) st.3
 
-  lend-moved : (v : Var) (x : StaticNo) (r : Reply) → r ≡ handle_reply sm (place u v.0) → Step (minds u) (op.Lend v x) r go → HasMoved sm sp u (op.Lend v x) minds fills groups go
+  lend-moved : (v : Var) (x : StaticNo) (r : Reply) → r ≡ handle_reply sm (place u v.0) → Step (minds u) (op.Lend v x) r go → HasMoved sm s.peer said u (op.Lend v x) minds fills groups go
   lend-moved v x r e st =
       let o = st.2 in
       let n = st.1 in
@@ -219,9 +236,9 @@ module _ (s : Linkage) (k : Of s) (minds : ℕ → Mind) (fills : ℕ → Filled
       let says_it : handle_reply sm (place u v.0) ≡ says.H record { 0 = n } =
       ap (λ z. elim z as (λ y. Reply) [ None ↦ says.Empty | Some y ↦ elim (handle_of sm y) [ None ↦ says.Plain | Some g ↦ says.H record { 0 = g } ] ]) (named v.0 o.outer o.here)
       ∙ ap (λ z. elim z as (λ y. Reply) [ None ↦ says.Plain | Some g ↦ says.H record { 0 = g } ]) (Holds-handle_of sm o.outer.number n holds) in
-      kept-moved sm sp (minds u) (op.Lend v x)
+      kept-moved sm (minds u) (op.Lend v x)
       (still-shown sm sm minds (with_mind minds u (minds u)) groups w refl refl refl refl refl (part-same (λ (z : Mind). z.slots) minds u (minds u) refl) (part-same (λ (z : Mind). z.stored) minds u (minds u) refl))
-      refl refl refl refl (λ j f. f) (st.3 record { 0 = n } (e ∙ says_it) refl)
+      refl refl refl (λ j f. f) (st.3 record { 0 = n } (e ∙ says_it) refl)
 
   -- and what a lend says
   lend-says : (v : Var) (x : StaticNo) (r : Reply) → r ≡ handle_reply sm (place u v.0) → Step (minds u) (op.Lend v x) r go → is_h r ≡ true
@@ -232,90 +249,43 @@ module _ (s : Linkage) (k : Of s) (minds : ℕ → Mind) (fills : ℕ → Filled
       ap is_h (e ∙ (ap (λ z. elim z as (λ y. Reply) [ None ↦ says.Empty | Some y ↦ elim (handle_of sm y) [ None ↦ says.Plain | Some g ↦ says.H record { 0 = g } ] ]) (named v.0 o.outer o.here)
       ∙ ap (λ z. elim z as (λ y. Reply) [ None ↦ says.Plain | Some g ↦ says.H record { 0 = g } ]) (Holds-handle_of sm o.outer.number n holds)))
 
-  make-moved : (sort : Sort) (n : ℕ) (q : PNum) (g : HNum) → says.Made q g ≡ (pair_made sp sort n).reply → Step (minds u) (op.Make sort n) (says.Made q g) go → HasMoved sm (pair_made sp sort n).state u (op.Make sort n) minds fills groups go
+  -- the side with a further peer and its handle
+  abbrev paired : Sort → ℕ → PeerReplay
+  paired sort n =
+      let new : Issued = record { peer = next_number sp.heap; hold = held; strength = strong } in
+      record s.peer { peers = with_handle (with_peer sp sort n) (next_number sp.heap) held strong; table = s.peer.table ++ fresh_row new ∷ [] }
+
+  make-moved : (sort : Sort) (n : ℕ) (q : PNum) (g : HNum) → says.Made q g ≡ (pair_made sp sort n).reply → Step (minds u) (op.Make sort n) (says.Made q g) go
+      → HasMoved sm (on_table s.peer (pair_made sp sort n)).state said u (op.Make sort n) minds fills groups go
   make-moved sort n q g e st =
       let c = pair-case (is_full sp.heap.fields || handles_full sp) sp (with_handle (with_peer sp sort n) (next_number sp.heap) held strong) q g (next_number sp.heap) (next_handle sp) e in
       let mind : Mind = record (minds u) { hand = Some g.0 } in
       let new : Issued = record { peer = next_number sp.heap; hold = held; strength = strong } in
-      subst (λ z. HasMoved sm z u (op.Make sort n) minds fills groups go) (sym c.1)
+      let grown : Peers = with_handle (with_peer sp sort n) (next_number sp.heap) held strong in
+      let same : (on_table s.peer (pair_made sp sort n)).state ≡ paired sort n =
+      ap (λ (z : Peers). record s.peer { peers = z; table = s.peer.table ++ map fresh_row (issued_since sp z) }) c.1
+      ∙ ap (λ l. record s.peer { peers = grown; table = l }) (table-issued s.peer grown new refl) in
+      subst (λ (z : PeerReplay). HasMoved sm z said u (op.Make sort n) minds fills groups go) (sym same)
       (record {
         mind = mind;
         more = groups;
         shown = still-shown sm sm minds (with_mind minds u mind) groups w refl refl refl refl refl (part-same (λ (z : Mind). z.slots) minds u mind refl) (part-same (λ (z : Mind). z.stored) minds u mind refl);
         peers = pair-shown sp fills groups p sort n (λ v z f. (k.peer.heap.slots z (inl (slot-Contains sp.heap.vars v z f))).made.1);
         are_held = record {
-          owned = λ a b l. elim (cases_eq a (next_handle sp)) [
-            | inl r ↦ inr (u, ap (λ (z : Mind). z.hand) (mind-here minds u mind) ∙ ap Some (c.0 ∙ sym r))
-            | inr r ↦ (let len = length-append sp.issued (new ∷ []) in elim (h.owned a b (at-most a len l r)) [
+          owned = λ a row t. elim (numbered-push_cases s.peer.table (fresh_row new) a (Some row) t) [
+            | inr r ↦ inr (inl (u, ap (λ (z : Mind). z.hand) (mind-here minds u mind) ∙ ap Some (c.0 ∙ sym (r.0 ∙ ap (λ n. n + 1) k.peer.handles.places))))
+            | inl old ↦ elim (h.owned a row old) [
               | inl x ↦ inl x
-              | inr t ↦ inr (t.0, ap (λ (z : Mind). z.hand) (mind-other minds u mind t.0 (λ y. none_some a (sym st.0 ∙ (ap (λ z. (minds z).hand) (sym y) ∙ t.1)))) ∙ t.1)
-            ])
+              | inr (inl y) ↦ inr (inl (y.0, ap (λ (z : Mind). z.hand) (mind-other minds u mind y.0 (λ z. none_some a (sym st.0 ∙ (ap (λ i. (minds i).hand) (sym z) ∙ y.1)))) ∙ y.1))
+              | inr (inr y) ↦ inr (inr y)
+            ]
           ];
           freed = λ x a d f. (let o = h.freed x a d f in (o.0, peer_of-grows sp.issued new a o.0 o.1, o.2));
+          leads = λ i l a d f. peer_of-grows sp.issued new a l.peer (h.leads i l a d f);
         };
         goes = st.1;
         from = λ i f. inl f;
         to = λ i l f. elim f [ inl d ↦ d | inr d ↦ absurd d ];
-      })
-    where
-      at-most : (a : ℕ) {m : ℕ} → m ≡ length sp.issued + 1 → a ≤ m → a ≢ length sp.issued + 1 → a ≤ length sp.issued
-      at-most a e l n = by (cases_eq a (length sp.issued + 1))
-        where
-          by : (a ≡ length sp.issued + 1) ⊎ (a ≢ length sp.issued + 1) → a ≤ length sp.issued
-          by (inl q) = absurd (n q)
-          by (inr q) = omega (arith, e, l, q)
-
-  -- a group comes to stand at a place
-  set-from : (i j : ℕ) (g : Group) (o : Op) → length groups ≡ 32 → ((l : ℕ) → l ≡ i → Fills l o) → is_some (slot (set groups i (Some g)) j) ≡ true → (is_some (slot groups j) ≡ true) ⊎ Fills j o
-  set-from i j g o len f e = elim (cases_eq j i) [ inl q ↦ inr (f j q) | inr n ↦ inl (sym (ap is_some (slot-set_other groups i j (Some g) n)) ∙ e) ]
-
-  set-to : (i j : ℕ) (g : Group) (o : Op) → i < 32 → length groups ≡ 32 → ((l : ℕ) → Fills l o → l ≡ i) → (is_some (slot groups j) ≡ true) ⊎ Fills j o → is_some (slot (set groups i (Some g)) j) ≡ true
-  set-to i j g o small len f e = elim (cases_eq j i) [
-    | inl q ↦ ap (λ z. is_some (slot (set groups i (Some g)) z)) q ∙ ap is_some (slot-set_here groups i (Some g) (omega (arith, small, len)))
-    | inr n ↦ elim e [ inl d ↦ ap is_some (slot-set_other groups i j (Some g) n) ∙ d | inr d ↦ absurd (n (f j d)) ]
-  ]
-
-  hands-still : (m : Managed) (q : Peers) (mind : Mind) → m.held ≡ sm.held → m.heap.freed ≡ sm.heap.freed → q.issued ≡ sp.issued → q.heap.freed ≡ sp.heap.freed → mind.hand ≡ (minds u).hand → AreHeld m q (with_mind minds u mind)
-  hands-still m q mind holding freed issued gone hand = record {
-    owned = λ a b c. elim (h.owned a b (subst (λ l. a ≤ length l) issued c)) [
-      | inl x ↦ inl (x.0, ap (λ l. numbered_at l x.0) holding ∙ x.1)
-      | inr t ↦ inr (t.0, part-same (λ (z : Mind). z.hand) minds u mind hand t.0 ∙ t.1)
-    ];
-    freed = λ x a d f. (let o = h.freed x a (ap (λ l. numbered_at l x) (sym holding) ∙ d) (subst (λ l. Contains l x) freed f) in (o.0, ap (λ l. peer_of l a) issued ∙ o.1, subst (λ l. Contains l o.0) (sym gone) o.2));
-  }
-
-  store-moved : (x : StaticNo) (v : Var) (r : Reply) → Step (minds u) (op.Line (act.Store x (Some v))) r go
-      → HasMoved (record sm { heap = (stored sm.heap x.0 (Some (place u v.0))).state }) sp u (op.Line (act.Store x (Some v))) minds fills groups go
-  store-moved x v r st =
-      let o = st.3 in
-      let mind : Mind = record (minds u) { stored = true } in
-      let next = with_mind minds u mind in
-      let g : Group = record { bridge = o.inner.number; plain = o.outer.number; handle = st.2; turned = false } in
-      let outer = w.objects u v.0 o.outer o.here in
-      let inner = w.objects u o.other o.inner o.there in
-      let is : IsGroup sm g = record { holds = inner.1 ∙ ap Some o.under_handle; none = outer.1 ∙ ap Some o.over_handle; joined = (outer.0 ∙ o.over_fields, inner.0 ∙ o.under_fields) } in
-      let same = stored-is sm.heap x.0 (place u v.0) o.outer.number (named v.0 o.outer o.here) in
-      let after : Managed = record sm { heap = with_static sm.heap x.0 (Some o.outer.number) } in
-      let statics : (c : ℕ) → c < 16 → StaticIs (slot (set sm.heap.statics x.0 (Some o.outer.number)) c) (slot (set groups x.0 (Some g)) c) =
-      λ c l. elim (cases_eq c x.0) [
-        | inl q ↦ subst (λ z. StaticIs (slot (set sm.heap.statics x.0 (Some o.outer.number)) z) (slot (set groups x.0 (Some g)) z)) (sym q)
-            (subst (λ z. StaticIs z (slot (set groups x.0 (Some g)) x.0)) (sym (slot-set_here sm.heap.statics x.0 (Some o.outer.number) (let a = w.shelf in let b = st.0 in omega (arith, a, b))))
-            (subst (StaticIs (Some o.outer.number)) (sym (slot-set_here groups x.0 (Some g) (let a = w.spots in let b = st.0 in omega (arith, a, b)))) (refl, refl)))
-        | inr n ↦ subst (λ z. StaticIs z (slot (set groups x.0 (Some g)) c)) (sym (slot-set_other sm.heap.statics x.0 c (Some o.outer.number) n))
-            (subst (StaticIs (slot sm.heap.statics c)) (sym (slot-set_other groups x.0 c (Some g) n)) (w.statics c l))
-      ] in
-      subst (λ hp. HasMoved (record sm { heap = hp }) sp u (op.Line (act.Store x (Some v))) minds fills groups go) (sym same)
-      (record {
-        mind = mind;
-        more = set groups x.0 (Some g);
-        shown = grouped sm minds next groups w u x.0 g (let b = st.0 in omega (arith, b)) is v.0 o.other o.outer o.inner o.here o.there (λ z n. elim n [ inl e ↦ inr e | inr e ↦ inl e ]) st.4
-            (mind-other minds u mind) (part-same (λ (z : Mind). z.slots) minds u mind refl) (ap (λ (z : Mind). z.stored) (mind-here minds u mind))
-            after refl refl refl refl (length-set sm.heap.statics x.0 (Some o.outer.number) ∙ w.shelf) statics;
-        peers = regrouped sp fills groups p x.0 g st.0;
-        are_held = hands-still after sp mind refl refl refl refl refl;
-        goes = st.5;
-        from = λ j e. set-from x.0 j g (op.Line (act.Store x (Some v))) w.spots (λ l q. q) e;
-        to = λ j l e. set-to x.0 j g (op.Line (act.Store x (Some v))) (let b = st.0 in omega (arith, b)) w.spots (λ c q. q) e;
       })
 
   -- a handle that a row in a variable holds leads to its peer
@@ -343,21 +313,81 @@ module _ (s : Linkage) (k : Of s) (minds : ℕ → Mind) (fills : ℕ → Filled
       ∙ ap (λ b. if b then None else peer_of sp.issued n) uncleared in
       (i.0.peer, target ∙ leads, leads)
 
+  -- so each group's bridge holds a handle on its peer, where one comes to stand at a place
+  set-leads : (i : ℕ) (g : Group) (x : ℕ) → i < 32 → numbered_at sm.held g.bridge ≡ Some (Some x) → peer_of sp.issued x ≡ Some g.peer
+      → (j : ℕ) (l : Group) (n : ℕ) → slot (set groups i (Some g)) j ≡ Some l → numbered_at sm.held l.bridge ≡ Some (Some n) → peer_of sp.issued n ≡ Some l.peer
+  set-leads i g x small holds leads j l n e d = elim (cases_eq j i) [
+    | inr ne ↦ h.leads j l n (sym (slot-set_other groups i j (Some g) ne) ∙ e) d
+    | inl q ↦ (
+        let same : g ≡ l = some-same g l (sym (slot-set_here groups i (Some g) (let a = w.spots in omega (arith, small, a))) ∙ (ap (λ z. slot (set groups i (Some g)) z) (sym q) ∙ e)) in
+        let there : numbered_at sm.held g.bridge ≡ Some (Some n) = ap (λ (z : Group). numbered_at sm.held z.bridge) same ∙ d in
+        let is : x ≡ n = some-same x n (some-same (Some x) (Some n) (sym holds ∙ there)) in
+        ap (peer_of sp.issued) (sym is) ∙ (leads ∙ ap (λ (z : Group). Some z.peer) same))
+  ]
+
+  -- a group comes to stand at a place
+  set-from : (i j : ℕ) (g : Group) (o : Op) → length groups ≡ 32 → ((l : ℕ) → l ≡ i → Fills l o) → is_some (slot (set groups i (Some g)) j) ≡ true → (is_some (slot groups j) ≡ true) ⊎ Fills j o
+  set-from i j g o len f e = elim (cases_eq j i) [ inl q ↦ inr (f j q) | inr n ↦ inl (sym (ap is_some (slot-set_other groups i j (Some g) n)) ∙ e) ]
+
+  set-to : (i j : ℕ) (g : Group) (o : Op) → i < 32 → length groups ≡ 32 → ((l : ℕ) → Fills l o → l ≡ i) → (is_some (slot groups j) ≡ true) ⊎ Fills j o → is_some (slot (set groups i (Some g)) j) ≡ true
+  set-to i j g o small len f e = elim (cases_eq j i) [
+    | inl q ↦ ap (λ z. is_some (slot (set groups i (Some g)) z)) q ∙ ap is_some (slot-set_here groups i (Some g) (omega (arith, small, len)))
+    | inr n ↦ elim e [ inl d ↦ ap is_some (slot-set_other groups i j (Some g) n) ∙ d | inr d ↦ absurd (n (f j d)) ]
+  ]
+
+  store-moved : (x : StaticNo) (v : Var) (r : Reply) → Step (minds u) (op.Line (act.Store x (Some v))) r go
+      → HasMoved (record sm { heap = (stored sm.heap x.0 (Some (place u v.0))).state }) s.peer said u (op.Line (act.Store x (Some v))) minds fills groups go
+  store-moved x v r st =
+      let o = st.3 in
+      let mind : Mind = record (minds u) { stored = true } in
+      let next = with_mind minds u mind in
+      let target = leads-on o.other o.inner st.2 o.there o.under_handle in
+      let g : Group = record { bridge = o.inner.number; plain = o.outer.number; peer = target.0; turned = false } in
+      let outer = w.objects u v.0 o.outer o.here in
+      let inner = w.objects u o.other o.inner o.there in
+      let is : IsGroup sm g = record { holds = (st.2, inner.1 ∙ ap Some o.under_handle); none = outer.1 ∙ ap Some o.over_handle; joined = (outer.0 ∙ o.over_fields, inner.0 ∙ o.under_fields) } in
+      let same = stored-is sm.heap x.0 (place u v.0) o.outer.number (named v.0 o.outer o.here) in
+      let after : Managed = record sm { heap = with_static sm.heap x.0 (Some o.outer.number) } in
+      let statics : (c : ℕ) → c < 16 → StaticIs (slot (set sm.heap.statics x.0 (Some o.outer.number)) c) (slot (set groups x.0 (Some g)) c) =
+      λ c l. elim (cases_eq c x.0) [
+        | inl q ↦ subst (λ z. StaticIs (slot (set sm.heap.statics x.0 (Some o.outer.number)) z) (slot (set groups x.0 (Some g)) z)) (sym q)
+            (subst (λ z. StaticIs z (slot (set groups x.0 (Some g)) x.0)) (sym (slot-set_here sm.heap.statics x.0 (Some o.outer.number) (let a = w.shelf in let b = st.0 in omega (arith, a, b))))
+            (subst (StaticIs (Some o.outer.number)) (sym (slot-set_here groups x.0 (Some g) (let a = w.spots in let b = st.0 in omega (arith, a, b)))) (refl, refl)))
+        | inr n ↦ subst (λ z. StaticIs z (slot (set groups x.0 (Some g)) c)) (sym (slot-set_other sm.heap.statics x.0 c (Some o.outer.number) n))
+            (subst (StaticIs (slot sm.heap.statics c)) (sym (slot-set_other groups x.0 c (Some g) n)) (w.statics c l))
+      ] in
+      subst (λ hp. HasMoved (record sm { heap = hp }) s.peer said u (op.Line (act.Store x (Some v))) minds fills groups go) (sym same)
+      (record {
+        mind = mind;
+        more = set groups x.0 (Some g);
+        shown = grouped sm minds next groups w u x.0 g (let b = st.0 in omega (arith, b)) is v.0 o.other o.outer o.inner o.here o.there (λ z n. elim n [ inl e ↦ inr e | inr e ↦ inl e ]) st.4
+            (mind-other minds u mind) (part-same (λ (z : Mind). z.slots) minds u mind refl) (ap (λ (z : Mind). z.stored) (mind-here minds u mind))
+            after refl refl refl refl (length-set sm.heap.statics x.0 (Some o.outer.number) ∙ w.shelf) statics;
+        peers = regrouped sp fills groups p x.0 g st.0;
+        are_held = hands-still after s.peer mind (set groups x.0 (Some g)) refl refl refl refl refl refl (set-leads x.0 g st.2 (let b = st.0 in omega (arith, b)) is.holds.1 target.2);
+        goes = st.5;
+        from = λ j e. set-from x.0 j g (op.Line (act.Store x (Some v))) w.spots (λ l q. q) e;
+        to = λ j l e. set-to x.0 j g (op.Line (act.Store x (Some v))) (let b = st.0 in omega (arith, b)) w.spots (λ c q. q) e;
+      })
+
   land-moved : (g : HNum) (x : StaticNo) (r : Reply) → Step (minds u) (op.Land g x) r go
-      → HasMoved sm (brings (on_table s.peer (landed sp x.0 (table_target s.peer g.0)))).state.peers u (op.Land g x) minds fills groups go
+      → HasMoved sm (brings (on_table s.peer (landed sp x.0 (table_target s.peer g.0)))).state said u (op.Land g x) minds fills groups go
   land-moved g x r st =
       let o = st.2 in
       let mind : Mind = record (minds u) { stored = true } in
       let next = with_mind minds u mind in
       let target = leads-on st.1 o.outer g.0 o.here o.over_handle in
-      let y : Group = record { bridge = o.outer.number; plain = o.inner.number; handle = g.0; turned = true } in
+      let y : Group = record { bridge = o.outer.number; plain = o.inner.number; peer = target.0; turned = true } in
       let outer = w.objects u st.1 o.outer o.here in
       let inner = w.objects u o.other o.inner o.there in
-      let is : IsGroup sm y = record { holds = outer.1 ∙ ap Some o.over_handle; none = inner.1 ∙ ap Some o.under_handle; joined = (outer.0 ∙ o.over_fields, inner.0 ∙ o.under_fields) } in
+      let is : IsGroup sm y = record { holds = (g.0, outer.1 ∙ ap Some o.over_handle); none = inner.1 ∙ ap Some o.under_handle; joined = (outer.0 ∙ o.over_fields, inner.0 ∙ o.under_fields) } in
       let after : Peers = record sp { heap = with_static sp.heap x.0 (Some target.0) } in
-      let same : (brings (on_table s.peer (landed sp x.0 (table_target s.peer g.0)))).state.peers ≡ after = ap (λ z. (brings (on_table s.peer (landed sp x.0 z))).state.peers) target.1 in
+      let landing : PeerReplay = record s.peer { peers = after; marking = brought_to s.peer.marking target.0 } in
+      let same : (brings (on_table s.peer (landed sp x.0 (table_target s.peer g.0)))).state ≡ landing =
+      ap (λ z. (brings (on_table s.peer (landed sp x.0 z))).state) target.1
+      ∙ ap (λ l. record s.peer { peers = after; table = l; marking = brought_to s.peer.marking target.0 }) (table-still s.peer after refl) in
       let small = st.0 in
-      subst (λ z. HasMoved sm z u (op.Land g x) minds fills groups go) (sym same)
+      subst (λ (z : PeerReplay). HasMoved sm z said u (op.Land g x) minds fills groups go) (sym same)
       (record {
         mind = mind;
         more = set groups (16 + x.0) (Some y);
@@ -365,8 +395,8 @@ module _ (s : Linkage) (k : Of s) (minds : ℕ → Mind) (fills : ℕ → Filled
             (mind-other minds u mind) (part-same (λ (z : Mind). z.slots) minds u mind refl) (ap (λ (z : Mind). z.stored) (mind-here minds u mind))
             sm refl refl refl refl w.shelf
             (λ c l. subst (StaticIs (slot sm.heap.statics c)) (sym (slot-set_other groups (16 + x.0) c (Some y) (λ e. omega (arith, e, l)))) (w.statics c l));
-        peers = land-shown sp fills groups p x.0 target.0 y small w.spots target.2 refl;
-        are_held = hands-still sm after mind refl refl refl refl refl;
+        peers = land-shown sp fills groups p x.0 target.0 y small w.spots refl refl;
+        are_held = hands-still sm landing mind (set groups (16 + x.0) (Some y)) refl refl refl refl refl refl (set-leads (16 + x.0) y g.0 (omega (arith, small)) is.holds.1 target.2);
         goes = st.4;
         from = λ j e. set-from (16 + x.0) j y (op.Land g x) w.spots (λ l q. q) e;
         to = λ j l e. set-to (16 + x.0) j y (op.Land g x) (omega (arith, small)) w.spots (λ c q. q) e;
@@ -375,7 +405,7 @@ module _ (s : Linkage) (k : Of s) (minds : ℕ → Mind) (fills : ℕ → Filled
   -- any entry of a managed thread
   module _ (es : List Entry) (line : ℕ) (cites : Option ℕ) where
     abbrev Moves : Op → Reply → Told → Type 0
-    Moves o r told = HasMoved (managed_after s.managed (entry (M u) line o r cites) told (is_peer_event (M u) o)).managed (peer_after s.peer (entry (M u) line o r cites) told (is_peer_event (M u) o)).peers u o minds fills groups go
+    Moves o r told = HasMoved (managed_after s.managed (entry (M u) line o r cites) told (is_peer_event (M u) o)).managed (peer_after s.peer (entry (M u) line o r cites) told (is_peer_event (M u) o)) said u o minds fills groups go
 
     pub moves : (o : Op) (r : Reply) (told : Told) → SideLawful (is_peer_event (M u) o) s (entry (M u) line o r cites) told → Step (minds u) o r go → Moves o r told
     moves (op.Line (act.New v kind n)) (says.M z) told l st = new-moved v kind n z l.replies st
@@ -385,7 +415,7 @@ module _ (s : Linkage) (k : Of s) (minds : ℕ → Mind) (fills : ℕ → Filled
     moves (op.Make sort n) (says.Made q g) told l st = make-moved sort n q g l.replies st
     moves (op.Adopt v kind n q g) (says.M z) told l st =
         let a = adopted sm (place u v.0) kind n g.0 in
-        subst (λ m. HasMoved m sp u (op.Adopt v kind n q g) minds fills groups go) (sym (adopt_by-managed s.managed q.0 g.0 a.state a.reply))
+        subst (λ m. HasMoved m s.peer said u (op.Adopt v kind n q g) minds fills groups go) (sym (adopt_by-managed s.managed q.0 g.0 a.state a.reply))
         (adopt-moved v kind n q g z (l.replies ∙ adopt_by-reply s.managed q.0 g.0 a.state a.reply) st)
     moves (op.Lend v x) r told l st = lend-moved v x r l.replies st
     moves (op.Land g x) r told l st = land-moved g x r st

@@ -7,6 +7,7 @@ use Rattle.joint_model.specs.Heaps.{slot, place}
 use Rattle.joint_model.specs.Linked.{opening_linkage}
 use Rattle.joint_model.specs.Managed.{opening_managed}
 use Rattle.joint_model.specs.Peers.{opening_peers}
+use Rattle.joint_model.specs.PeerReplay.{opening_peer_replay}
 use Rattle.joint_model.proofs.Deciding.{none_some}
 use Rattle.joint_model.proofs.Members.{Contains-nil}
 use Rattle.joint_model.proofs.Numbered.{replicate-none, numbered-within}
@@ -74,13 +75,14 @@ opening-peers_shown = record {
   bare = λ n i q e c. absurd (let b = numbered-within [] n i e in omega (arith, b.0, b.1));
   made = λ n i e. absurd (let b = numbered-within [] n i e in omega (arith, b.0, b.1));
   holds = λ n i e. absurd (let b = numbered-within [] n i e in omega (arith, b.0, b.1));
-  statics = λ y l. subst (λ o. PeerStaticIs [] o (slot no_groups (16 + y))) (sym (no-slot 16 y)) (subst (PeerStaticIs [] None) (sym (no-slot 32 (16 + y))) tt);
+  statics = λ y l. subst (λ o. PeerStaticIs o (slot no_groups (16 + y))) (sym (no-slot 16 y)) (subst (PeerStaticIs None) (sym (no-slot 32 (16 + y))) tt);
 }
 
-opening-held : AreHeld opening_managed opening_peers no_minds
+opening-held : AreHeld opening_managed opening_peer_replay [] no_minds no_groups
 opening-held = record {
-  owned = λ n a b. absurd (omega (arith, a, b));
+  owned = λ n row t. absurd (let b = numbered-within [] n (Some row) t in omega (arith, b.0, b.1));
   freed = λ x n e c. absurd (Contains-nil x c);
+  leads = λ i g n e d. no-group i g e;
 }
 
 pub inv-opening : (keep : ℕ → Bool) (rest : List Entry) → ((t : ℕ) → Going (entries_by (M t) rest) empty_mind) → ((t : ℕ) → PeerGoing (entries_by (P t) rest) none_filled) → Each IsCycleEntry (entries_by C rest)

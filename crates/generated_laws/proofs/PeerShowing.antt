@@ -1,5 +1,5 @@
 -- The peers, as the threads that made them know them: which variables are empty; that the peer of a handle stands in no variable and has nothing in a
--- field; and that each filled static has the peer of its group's handle.
+-- field; and that each filled static has its group's peer.
 use Rattle.std.proofs.Common.{◌≡◌, ◌≢◌, ℕ, zero, suc, ◌+◌, ◌<◌, ◌≤◌, ◌⊎◌, inl, inr, Bool, true, false, List, [], ◌∷◌, ◌++◌, length, Option, Some, None, set, replicate, nat_le, refl, sym, ap, subst, ◌∙◌, arith, length-append}
 use Rattle.std.specs.Prelude.{Contains, if◌then◌else◌}
 use Rattle.std.proofs.Math.ListN.{length-set}
@@ -48,10 +48,10 @@ PeerGoing [] f = (v : ℕ) → filled f v ≡ false
 PeerGoing (e ∷ es) f = PeerStep f e.made.op (PeerGoing es)
 
 -- a static of the peer heap, and its group
-abbrev pub PeerStaticIs : List Issued → Option ℕ → Option Group → Type 0
-PeerStaticIs issued None None = Unit {0}
-PeerStaticIs issued (Some q) (Some g) = (peer_of issued g.handle ≡ Some q) × (g.turned ≡ true)
-PeerStaticIs issued _ _ = ⊥
+abbrev pub PeerStaticIs : Option ℕ → Option Group → Type 0
+PeerStaticIs None None = Unit {0}
+PeerStaticIs (Some q) (Some g) = (g.peer ≡ q) × (g.turned ≡ true)
+PeerStaticIs _ _ = ⊥
 
 pub record ArePeersShown (p : Peers) (fills : ℕ → Filled) (groups : List (Option Group)) : Type 0 where
   pub size : length p.heap.vars ≡ 72
@@ -61,7 +61,7 @@ pub record ArePeersShown (p : Peers) (fills : ℕ → Filled) (groups : List (Op
   pub bare : (n : ℕ) (i : Issued) (q : ℕ) → IsIssued p.issued n i → Contains (fields_of p.heap i.peer) (Some q) → ⊥
   pub made : (n : ℕ) (i : Issued) → IsIssued p.issued n i → i.peer ≤ length p.heap.fields
   pub holds : (n : ℕ) (i : Issued) → IsIssued p.issued n i → i.hold ≡ held
-  pub statics : (y : ℕ) → y < 16 → PeerStaticIs p.issued (slot p.heap.statics y) (slot groups (16 + y))
+  pub statics : (y : ℕ) → y < 16 → PeerStaticIs (slot p.heap.statics y) (slot groups (16 + y))
 
 fill-same : (f : Filled) (v : ℕ) (x : Bool) → v < 2 → filled (fill f v x) v ≡ x
 fill-same f zero x l = refl
@@ -181,11 +181,35 @@ peer_of-grows issued new h q e = by (numbered_at issued h) refl
     by None f = absurd (none_some q (sym (ap (λ z. elim z [ None ↦ None | Some i ↦ Some i.peer ]) f) ∙ e))
     by (Some i) f = ap (λ z. elim z [ None ↦ None | Some j ↦ Some j.peer ]) (numbered-push_old issued new h (numbered-within issued h i f).1) ∙ e
 
-static-grows : (issued : List Issued) (new : Issued) (a : Option ℕ) (b : Option Group) → PeerStaticIs issued a b → PeerStaticIs (issued ++ new ∷ []) a b
-static-grows issued new None None s = tt
-static-grows issued new (Some q) (Some g) s = (peer_of-grows issued new g.handle q s.0, s.1)
-static-grows issued new None (Some g) s = absurd s
-static-grows issued new (Some q) None s = absurd s
+-- a further handle on a peer on which one was issued before
+pub record IsReissued (old new : List Issued) : Type 0 where
+  pub place : ℕ
+  pub was : Issued
+  pub is_issued : IsIssued old place was
+  pub grown : new ≡ old ++ record { peer = was.peer; hold = held; strength = strong } ∷ []
+
+-- no handle was issued, or one on such a peer
+abbrev pub IsIssuedOn : List Issued → List Issued → Type 0
+IsIssuedOn old new = (new ≡ old) ⊎ IsReissued old new
+
+pub peer_of-on : (old new : List Issued) (h q : ℕ) → IsIssuedOn old new → peer_of old h ≡ Some q → peer_of new h ≡ Some q
+peer_of-on old new h q (inl e) f = ap (λ l. peer_of l h) e ∙ f
+peer_of-on old new h q (inr w) f = ap (λ l. peer_of l h) w.grown ∙ peer_of-grows old (record { peer = w.was.peer; hold = held; strength = strong }) h q f
+
+-- each handle has its peer from one that was issued before, and is held if that is
+record IsBefore (old : List Issued) (i : Issued) : Type 0 where
+  pub place : ℕ
+  pub was : Issued
+  pub is_issued : IsIssued old place was
+  pub same : was.peer ≡ i.peer
+  pub holds : was.hold ≡ held → i.hold ≡ held
+
+before-on : (old new : List Issued) (n : ℕ) (i : Issued) → IsIssuedOn old new → IsIssued new n i → IsBefore old i
+before-on old new n i (inl e) f = record { place = n; was = i; is_issued = subst (λ l. IsIssued l n i) e f; same = refl; holds = λ h. h }
+before-on old new n i (inr w) f = elim (numbered-push_cases old (record { peer = w.was.peer; hold = held; strength = strong }) n i (subst (λ l. IsIssued l n i) w.grown f)) [
+  | inl c ↦ record { place = n; was = i; is_issued = c; same = refl; holds = λ h. h }
+  | inr c ↦ record { place = w.place; was = w.was; is_issued = w.is_issued; same = ap (λ (z : Issued). z.peer) c.1; holds = λ h. ap (λ (z : Issued). z.hold) (sym c.1) }
+]
 
 module _ (p : Peers) (fills : ℕ → Filled) (groups : List (Option Group)) (w : ArePeersShown p fills groups) where
   pub set-shown : (v i : ℕ) (u : Option ℕ) → ArePeersShown (record p { heap = (field_set p.heap v i u).state }) fills groups
@@ -199,7 +223,7 @@ module _ (p : Peers) (fills : ℕ → Filled) (groups : List (Option Group)) (w 
         bare = λ n j q e c. w.bare n j q e (subst (λ fs. Contains fs (Some q)) (k.fields j.peer (w.unnamed n j e v)) c);
         made = λ n j e. (let l = w.made n j e in let g = k.made in omega (arith, l, g));
         holds = w.holds;
-        statics = λ y l. subst (λ z. PeerStaticIs p.issued (slot z y) (slot groups (16 + y))) (sym k.statics) (w.statics y l);
+        statics = λ y l. subst (λ z. PeerStaticIs (slot z y) (slot groups (16 + y))) (sym k.statics) (w.statics y l);
       }
 
   -- a further peer with a handle
@@ -221,11 +245,11 @@ module _ (p : Peers) (fills : ℕ → Filled) (groups : List (Option Group)) (w 
       | inr c ↦ (let q = ap (λ (z : Issued). z.peer) c.1 in omega (arith, q, g))
     ]);
     holds = λ m i e. elim (issued-cases p (next_number p.heap) m i e) [ inl c ↦ w.holds m i c | inr c ↦ ap (λ (z : Issued). z.hold) (sym c.1) ];
-    statics = λ y l. static-grows p.issued _ (slot p.heap.statics y) (slot groups (16 + y)) (w.statics y l);
+    statics = w.statics;
   }
 
-  -- a static comes to hold the peer of a group's handle
-  pub land-shown : (y q : ℕ) (g : Group) → y < 16 → length groups ≡ 32 → peer_of p.issued g.handle ≡ Some q → g.turned ≡ true → ArePeersShown (record p { heap = with_static p.heap y (Some q) }) fills (set groups (16 + y) (Some g))
+  -- a static comes to hold a group's peer
+  pub land-shown : (y q : ℕ) (g : Group) → y < 16 → length groups ≡ 32 → g.peer ≡ q → g.turned ≡ true → ArePeersShown (record p { heap = with_static p.heap y (Some q) }) fills (set groups (16 + y) (Some g))
   land-shown y q g small spots leads turned = record {
     size = w.size;
     shelf = length-set p.heap.statics y (Some q) ∙ w.shelf;
@@ -236,12 +260,12 @@ module _ (p : Peers) (fills : ℕ → Filled) (groups : List (Option Group)) (w 
     holds = w.holds;
     statics = λ c l. elim (cases_eq c y) [
       | inl e ↦
-          subst (λ z. PeerStaticIs p.issued (slot (set p.heap.statics y (Some q)) z) (slot (set groups (16 + y) (Some g)) (16 + z))) (sym e)
-          (subst (λ z. PeerStaticIs p.issued z (slot (set groups (16 + y) (Some g)) (16 + y))) (sym (slot-set_here p.heap.statics y (Some q) (let s = w.shelf in omega (arith, small, s))))
-          (subst (PeerStaticIs p.issued (Some q)) (sym (slot-set_here groups (16 + y) (Some g) (omega (arith, small, spots)))) (leads, turned)))
+          subst (λ z. PeerStaticIs (slot (set p.heap.statics y (Some q)) z) (slot (set groups (16 + y) (Some g)) (16 + z))) (sym e)
+          (subst (λ z. PeerStaticIs z (slot (set groups (16 + y) (Some g)) (16 + y))) (sym (slot-set_here p.heap.statics y (Some q) (let s = w.shelf in omega (arith, small, s))))
+          (subst (PeerStaticIs (Some q)) (sym (slot-set_here groups (16 + y) (Some g) (omega (arith, small, spots)))) (leads, turned)))
       | inr n ↦
-          subst (λ z. PeerStaticIs p.issued z (slot (set groups (16 + y) (Some g)) (16 + c))) (sym (slot-set_other p.heap.statics y c (Some q) n))
-          (subst (PeerStaticIs p.issued (slot p.heap.statics c)) (sym (slot-set_other groups (16 + y) (16 + c) (Some g) (λ e. n (omega (arith, e))))) (w.statics c l))
+          subst (λ z. PeerStaticIs z (slot (set groups (16 + y) (Some g)) (16 + c))) (sym (slot-set_other p.heap.statics y c (Some q) n))
+          (subst (PeerStaticIs (slot p.heap.statics c)) (sym (slot-set_other groups (16 + y) (16 + c) (Some g) (λ e. n (omega (arith, e))))) (w.statics c l))
     ];
   }
 
@@ -255,20 +279,22 @@ module _ (p : Peers) (fills : ℕ → Filled) (groups : List (Option Group)) (w 
     bare = w.bare;
     made = w.made;
     holds = w.holds;
-    statics = λ c l. subst (PeerStaticIs p.issued (slot p.heap.statics c)) (sym (slot-set_other groups i (16 + c) (Some g) (λ e. omega (arith, e, small)))) (w.statics c l);
+    statics = λ c l. subst (PeerStaticIs (slot p.heap.statics c)) (sym (slot-set_other groups i (16 + c) (Some g) (λ e. omega (arith, e, small)))) (w.statics c l);
   }
 
-  -- nothing that is shown changed
-  pub still-peers : (k : Peers) → k.heap.fields ≡ p.heap.fields → k.heap.vars ≡ p.heap.vars → k.heap.statics ≡ p.heap.statics → k.issued ≡ p.issued → ArePeersShown k fills groups
+  -- nothing that is shown changed, but that a handle may have been issued on a peer that has one
+  pub still-peers : (k : Peers) → k.heap.fields ≡ p.heap.fields → k.heap.vars ≡ p.heap.vars → k.heap.statics ≡ p.heap.statics → IsIssuedOn p.issued k.issued → ArePeersShown k fills groups
   still-peers k f v c i =
-      let old : (n : ℕ) (j : Issued) → IsIssued k.issued n j → IsIssued p.issued n j = λ n j e. subst (λ l. IsIssued l n j) i e in
+      let old : (n : ℕ) (j : Issued) → IsIssued k.issued n j → IsBefore p.issued j = λ n j e. before-on p.issued k.issued n j i e in
       record {
         size = ap length v ∙ w.size;
         shelf = ap length c ∙ w.shelf;
         vars = λ t x l e. ap (λ z. slot z (place t x)) v ∙ w.vars t x l e;
-        unnamed = λ n j e x q. w.unnamed n j (old n j e) x (ap (λ z. slot z x) (sym v) ∙ q);
-        bare = λ n j q e d. w.bare n j q (old n j e) (subst (λ fs. Contains fs (Some q)) (ap (λ (fs : List (List (Option ℕ))). elim (numbered_at fs j.peer) [ None ↦ [] | Some gs ↦ gs ]) f) d);
-        made = λ n j e. (let l = w.made n j (old n j e) in let g = ap length f in omega (arith, l, g));
-        holds = λ n j e. w.holds n j (old n j e);
-        statics = λ y l. subst (λ z. PeerStaticIs z (slot k.heap.statics y) (slot groups (16 + y))) (sym i) (subst (λ z. PeerStaticIs p.issued (slot z y) (slot groups (16 + y))) (sym c) (w.statics y l));
+        unnamed = λ n j e x q. (let b = old n j e in w.unnamed b.place b.was b.is_issued x (ap (λ z. slot z x) (sym v) ∙ (q ∙ ap Some (sym b.same))));
+        bare = λ n j q e d. (
+            let b = old n j e in
+            w.bare b.place b.was q b.is_issued (subst (λ z. Contains (fields_of p.heap z) (Some q)) (sym b.same) (subst (λ fs. Contains fs (Some q)) (ap (λ (fs : List (List (Option ℕ))). elim (numbered_at fs j.peer) [ None ↦ [] | Some gs ↦ gs ]) f) d)));
+        made = λ n j e. (let b = old n j e in let l = w.made b.place b.was b.is_issued in let s = b.same in let g = ap length f in omega (arith, l, s, g));
+        holds = λ n j e. (let b = old n j e in b.holds (w.holds b.place b.was b.is_issued));
+        statics = λ y l. subst (λ z. PeerStaticIs (slot z y) (slot groups (16 + y))) (sym c) (w.statics y l);
       }

@@ -1,6 +1,6 @@
 -- Through a run of a generated script, entry by entry: what is shown of both sides stays shown, while each thread's entries go on.
-use Rattle.std.proofs.Common.{◌≡◌, ℕ, ◌<◌, ◌≤◌, ◌⊎◌, inl, inr, Bool, true, false, List, [], ◌∷◌, ◌++◌, length, Option, Some, None, refl, sym, ap, subst, ◌∙◌, arith, eq-eqb}
-use Rattle.std.specs.Prelude.{Contains, if◌then◌else◌, is_some}
+use Rattle.std.proofs.Common.{◌≡◌, ℕ, ◌<◌, ◌≤◌, ◌⊎◌, inl, inr, Bool, true, false, List, [], ◌∷◌, ◌++◌, Some, refl, sym, ap, subst, ◌∙◌, eq-eqb}
+use Rattle.std.specs.Prelude.{Contains, if◌then◌else◌, is_some, Option}
 use Rattle.std.proofs.lemmas.Bool.{cases_eq}
 use Rattle.joint_model.specs.declared.names.Thread.{Thread}
 use Rattle.joint_model.specs.declared.names.Thread.TheVariants.{M, P, C}
@@ -9,29 +9,27 @@ use Rattle.joint_model.specs.declared.events.Op.{Op}
 use Rattle.joint_model.specs.declared.events.Op.TheVariants as op
 use Rattle.joint_model.specs.declared.events.Reply.{Reply}
 use Rattle.joint_model.specs.declared.events.Entry.{Entry}
-use Rattle.joint_model.specs.Heaps.{slot, numbered_at}
+use Rattle.joint_model.specs.Heaps.{slot}
 use Rattle.joint_model.specs.Lines.{is_peer_event}
 use Rattle.joint_model.specs.Linked.{Linkage, MayCome, AllMayCome, linkage_after, managed_after, peer_after, replayed}
-use Rattle.joint_model.specs.Managed.{Holds}
-use Rattle.joint_model.specs.Peers.{Issued, peer_of}
 use Rattle.joint_model.specs.ManagedReplay.{ManagedReplay}
+use Rattle.joint_model.specs.Peers.{peer_of}
 use Rattle.joint_model.specs.PeerReplay.{PeerReplay, is_thread}
 use Rattle.joint_model.specs.Told.{Told, Noted}
 use Rattle.joint_model.proofs.Deciding.{neq-eqb}
-use Rattle.joint_model.proofs.Members.{Contains-decided}
-use Rattle.joint_model.proofs.Numbered.{numbered-within}
-use Rattle.joint_laws.proofs.FreedLists.{grows-Contains, peers-grow}
-use Rattle.joint_laws.proofs.FreedRows.{freed-peer}
+use Rattle.joint_laws.specs.LinkedInvariants.{given_at}
+use Rattle.joint_laws.specs.PeerInvariants.{IsTabled}
 use Rattle.joint_laws.proofs.LinkedEntries.{Of, entry, AreKept-entry}
 use Rattle.known_laws.specs.Growing.{entries}
 use Rattle.known_laws.proofs.Lists.{event-thread}
 use Rattle.script_laws.specs.Holding.{entries_by}
 use Rattle.generated_laws.proofs.Totals.{Each}
 use Rattle.generated_laws.proofs.Pictures.{Mind, Going}
-use Rattle.generated_laws.proofs.Showing.{Group, IsShown, still-shown}
-use Rattle.generated_laws.proofs.PeerShowing.{ArePeersShown, Filled, PeerStep, PeerGoing, still-peers}
+use Rattle.generated_laws.proofs.Showing.{Group, IsShown}
+use Rattle.generated_laws.proofs.PeerShowing.{ArePeersShown, Filled, PeerStep, PeerGoing}
 use Rattle.generated_laws.proofs.Moves.{AreHeld, Fills, SaysHandle, moves, lends, with_mind, mind-here, mind-other}
-use Rattle.generated_laws.proofs.Quiet.{IsOfCycle, with_fill, fill-here, fill-other, peer_moves, objects-stay, peers-stay}
+use Rattle.generated_laws.proofs.Quiet.{IsOfCycle, with_fill, fill-here, fill-other, peer_moves}
+use Rattle.generated_laws.proofs.Driven.{driver-shown}
 
 -- some entry fills the static of that place
 abbrev pub FilledIn : ℕ → List Entry → Type 0
@@ -47,7 +45,7 @@ pub record Inv (keep : ℕ → Bool) (s : Linkage) (rest : List Entry) : Type 0 
   pub groups : List (Option Group)
   pub shown : IsShown s.managed.managed minds groups
   pub peers : ArePeersShown s.peer.peers fills groups
-  pub are_held : AreHeld s.managed.managed s.peer.peers minds
+  pub are_held : AreHeld s.managed.managed s.peer (given_at s.control.stand) minds groups
   pub going : (t : ℕ) → Going (entries_by (M t) rest) (minds t)
   pub peer_going : (t : ℕ) → PeerGoing (entries_by (P t) rest) (fills t)
   pub driven : Each IsCycleEntry (entries_by C rest)
@@ -82,20 +80,6 @@ peer-fills : (i : ℕ) (f : Filled) (go : Filled → Type 0) (o : Op) → PeerSt
 peer-fills i f go (op.Line (act.Store x (Some v))) st w = st
 peer-fills i f go (op.Land h x) st w = st
 peer-fills i f go _ st w = w
-
--- a row that was freed in an entry held a handle on a freed peer
-module _ (s : Linkage) (n : Noted) (may : MayCome s n) (k : Of s) (minds : ℕ → Mind) (h : AreHeld s.managed.managed s.peer.peers minds) where
-  pub still-freed : (x a : ℕ) → numbered_at s.managed.managed.held x ≡ Some (Some a) → Contains (linkage_after s n).managed.managed.heap.freed x → (q : ℕ) × (peer_of s.peer.peers.issued a ≡ Some q) × Contains (linkage_after s n).peer.peers.heap.freed q
-  still-freed x a d f = elim (Contains-decided s.managed.managed.heap.freed x) [
-    | inl old ↦ (let o = h.freed x a d old in (o.0, o.1, grows-Contains s.peer.peers.heap.freed (linkage_after s n).peer.peers.heap.freed o.0 (peers-grow s n k.peer) o.2))
-    | inr new ↦ (
-        let l = numbered-within s.managed.managed.held x (Some a) d in
-        let p = k.managed.managed.places in
-        let holds : Holds s.managed.managed x a = record { live = record { made = (l.0, omega (arith, l.1, p)); kept = new }; held = d } in
-        let i = k.owners.held_ones x a holds in
-        let leads : peer_of s.peer.peers.issued a ≡ Some i.0.peer = ap (λ (z : Option Issued). elim z as (λ y. Option ℕ) [ None ↦ None | Some y ↦ Some y.peer ]) i.1 in
-        (i.0.peer, leads, grows-Contains s.peer.peers.heap.freed (linkage_after s n).peer.peers.heap.freed i.0.peer (peers-grow s n k.peer) (freed-peer s n may k x a i.0.peer holds leads f)))
-  ]
 
 module _ (keep : ℕ → Bool) (s : Linkage) (number line : ℕ) (r : Reply) (cites : Option ℕ) (told : Told) (es : List Entry) (k : Of s) where
   abbrev the : Thread → Op → Noted
@@ -145,11 +129,12 @@ module _ (keep : ℕ → Bool) (s : Linkage) (number line : ℕ) (r : Reply) (ci
         groups = w.groups;
         shown = subst (λ (z : ManagedReplay). IsShown z.managed w.minds w.groups) (sym managed) w.shown;
         peers = subst (λ (z : PeerReplay). ArePeersShown z.peers (with_fill w.fills u m.fill_now) w.groups) (sym peer) m.shown;
-        are_held = subst (λ (z : ManagedReplay). AreHeld z.managed (peer_after s.peer (entry (P u) line o r cites) told (is_peer_event (P u) o)).peers w.minds) (sym managed)
-            (subst (λ (z : PeerReplay). AreHeld s.managed.managed z.peers w.minds) (sym peer)
+        are_held = subst (λ (z : ManagedReplay). AreHeld z.managed (peer_after s.peer (entry (P u) line o r cites) told (is_peer_event (P u) o)) (given_at s.control.stand) w.minds w.groups) (sym managed)
+            (subst (λ (z : PeerReplay). AreHeld s.managed.managed z (given_at s.control.stand) w.minds w.groups) (sym peer)
             (record {
-              owned = λ a x y. w.are_held.owned a x (subst (λ l. a ≤ length l) m.issued y);
+              owned = λ a row t. w.are_held.owned a row (subst (λ l. IsTabled l a row) both.2 t);
               freed = λ x a d f. (let q = w.are_held.freed x a d f in (q.0, ap (λ l. peer_of l a) m.issued ∙ q.1, subst (λ l. Contains l q.0) (sym m.freed) q.2));
+              leads = λ i g a f d. ap (λ l. peer_of l a) m.issued ∙ w.are_held.leads i g a f d;
             }));
         going = λ t. subst (λ l. Going l (w.minds t)) (others (M t) e es refl) (w.going t);
         peer_going = λ t. elim (cases_eq t u) [
@@ -166,18 +151,14 @@ module _ (keep : ℕ → Bool) (s : Linkage) (number line : ℕ) (r : Reply) (ci
   driver-step o may w =
       let e = (the C o).entry in
       let rest = subst (Each IsCycleEntry) (mine C e es refl) w.driven in
-      let m = objects-stay s line r cites o told rest.0 in
-      let p = peers-stay s line r cites o told rest.0 in
+      let n = driver-shown w.minds w.fills w.groups s k w.shown w.peers w.are_held number line r cites o told rest.0 may in
       record {
         minds = w.minds;
         fills = w.fills;
         groups = w.groups;
-        shown = still-shown s.managed.managed (linkage_after s (the C o)).managed.managed w.minds w.minds w.groups w.shown m.fields m.vars m.statics m.held m.pins (λ u. refl) (λ u. refl);
-        peers = still-peers s.peer.peers w.fills w.groups w.peers (linkage_after s (the C o)).peer.peers p.fields p.vars p.statics p.issued;
-        are_held = record {
-          owned = λ a x y. elim (w.are_held.owned a x (subst (λ l. a ≤ length l) p.issued y)) [ inl z ↦ inl (z.0, ap (λ l. numbered_at l z.0) m.held ∙ z.1) | inr z ↦ inr z ];
-          freed = λ x a d f. (let q = still-freed s (the C o) may k w.minds w.are_held x a (ap (λ l. numbered_at l x) (sym m.held) ∙ d) f in (q.0, ap (λ l. peer_of l a) p.issued ∙ q.1, q.2));
-        };
+        shown = n.shown;
+        peers = n.peers;
+        are_held = n.are_held;
         going = λ t. subst (λ l. Going l (w.minds t)) (others (M t) e es refl) (w.going t);
         peer_going = λ t. subst (λ l. PeerGoing l (w.fills t)) (others (P t) e es refl) (w.peer_going t);
         driven = rest.1;

@@ -16,11 +16,11 @@ abbrev pub number_of : Option Seen → Option ℕ
 number_of None = None
 number_of (Some x) = Some x.number
 
--- two objects of which one has the other in its only field, and one holds a handle; it is turned where that is the one with the field
+-- two objects of which one has the other in its only field, and one holds a handle on that peer; it is turned where that is the one with the field
 pub record Group : Type 0 where
   pub bridge : ℕ
   pub plain : ℕ
-  pub handle : ℕ
+  pub peer : ℕ
   pub turned : Bool
 
 abbrev pub Joined : Managed → ℕ → ℕ → Bool → Type 0
@@ -28,7 +28,7 @@ Joined m bridge plain false = (fields_of m.heap plain ≡ Some bridge ∷ []) ×
 Joined m bridge plain true = (fields_of m.heap bridge ≡ Some plain ∷ []) × (fields_of m.heap plain ≡ [])
 
 pub record IsGroup (m : Managed) (g : Group) : Type 0 where
-  pub holds : numbered_at m.held g.bridge ≡ Some (Some g.handle)
+  pub holds : (h : ℕ) × (numbered_at m.held g.bridge ≡ Some (Some h))
   pub none : numbered_at m.held g.plain ≡ Some None
   pub joined : Joined m g.bridge g.plain g.turned
 
@@ -68,13 +68,13 @@ slot-set_other xs i k o n = ap (λ z. elim z [ None ↦ None | Some y ↦ y ]) (
 
 -- what is named by a group was made
 group-held : (m : Managed) (g : Group) (z : ℕ) → IsGroup m g → Names g z → (o : Option ℕ) × (numbered_at m.held z ≡ Some o)
-group-held m g z w (inl e) = (Some g.handle, ap (numbered_at m.held) e ∙ w.holds)
+group-held m g z w (inl e) = (Some w.holds.0, ap (numbered_at m.held) e ∙ w.holds.1)
 group-held m g z w (inr e) = (None, ap (numbered_at m.held) e ∙ w.none)
 
 -- a group stays one where its two objects keep their fields and handles
 group-stays : (m k : Managed) (g : Group) → IsGroup m g → ((z : ℕ) → Names g z → fields_of k.heap z ≡ fields_of m.heap z) → ((z : ℕ) → Names g z → numbered_at k.held z ≡ numbered_at m.held z) → IsGroup k g
 group-stays m k g w f h = record {
-  holds = h g.bridge (inl refl) ∙ w.holds;
+  holds = (w.holds.0, h g.bridge (inl refl) ∙ w.holds.1);
   none = h g.plain (inr refl) ∙ w.none;
   joined = by g.turned w.joined;
 }
@@ -401,3 +401,32 @@ still-shown m k minds next groups w f v c h p slots stored =
       disjoint = w.disjoint;
       fresh = λ u a z i g e e' s n. w.fresh u a z i g (sym (stored u) ∙ e) (old u a z e') s n;
     }
+
+-- kept candidates came to hold other handles, and nothing else that is shown changed: what variables name and what holds none are no such candidates
+pub renewed-shown : (m k : Managed) (minds : ℕ → Mind) (groups : List (Option Group)) → IsShown m minds groups → k.heap.fields ≡ m.heap.fields → k.heap.vars ≡ m.heap.vars → k.heap.statics ≡ m.heap.statics → k.pins ≡ m.pins → length k.held ≡ length m.held
+    → ((t v : ℕ) (x : Seen) → at (minds t).slots v ≡ Some x → numbered_at k.held x.number ≡ numbered_at m.held x.number)
+    → ((i : ℕ) (g : Group) → slot groups i ≡ Some g → ((h : ℕ) × (numbered_at k.held g.bridge ≡ Some (Some h))) × (numbered_at k.held g.plain ≡ Some None)) → IsShown k minds groups
+renewed-shown m k minds groups w f v c p l named grouped_ones =
+    let fields : (z : ℕ) → fields_of k.heap z ≡ fields_of m.heap z = λ z. ap (λ (fs : List (List (Option ℕ))). elim (numbered_at fs z) [ None ↦ [] | Some gs ↦ gs ]) f in
+    record {
+      places = l ∙ (w.places ∙ ap length (sym f));
+      size = ap length v ∙ w.size;
+      shelf = ap length c ∙ w.shelf;
+      spots = w.spots;
+      vars = λ u a q. ap (λ z. slot z (place u a)) v ∙ w.vars u a q;
+      objects = λ u a z e. (let o = w.objects u a z e in (fields z.number ∙ o.0, named u a z e ∙ o.1));
+      apart = w.apart;
+      unpinned = λ z d. w.unpinned z (subst (λ l. Contains l (Some z)) p d);
+      groups_are = λ i g s. record {
+        holds = (grouped_ones i g s).0;
+        none = (grouped_ones i g s).1;
+        joined = by g g.turned (λ z. fields z) (w.groups_are i g s).joined;
+      };
+      statics = λ y l. subst (λ z. StaticIs (slot z y) (slot groups y)) (sym c) (w.statics y l);
+      disjoint = w.disjoint;
+      fresh = w.fresh;
+    }
+  where
+    by : (g : Group) (b : Bool) → ((z : ℕ) → fields_of k.heap z ≡ fields_of m.heap z) → Joined m g.bridge g.plain b → Joined k g.bridge g.plain b
+    by g false fs j = (fs g.plain ∙ j.0, fs g.bridge ∙ j.1)
+    by g true fs j = (fs g.bridge ∙ j.0, fs g.plain ∙ j.1)

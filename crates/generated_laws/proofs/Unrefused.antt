@@ -1,6 +1,6 @@
 -- In a run of a generated script nothing is refused for want of numbers: what was made is never more than the events that ask for it, and each line has two
 -- of these at most.
-use Rattle.std.proofs.Common.{◌≡◌, ℕ, ◌+◌, ◌≤◌, ◌<◌, Bool, true, false, ◌||◌, List, [], ◌∷◌, ◌++◌, length, refl, sym, ap, subst, ◌∙◌, arith, append_assoc, if◌then◌else◌, Option, Some, None}
+use Rattle.std.proofs.Common.{◌≡◌, ℕ, ◌+◌, ◌≤◌, ◌<◌, nat_le, Bool, true, false, ◌||◌, List, [], ◌∷◌, ◌++◌, length, refl, sym, ap, subst, ◌∙◌, arith, append_assoc, if◌then◌else◌, Option, Some, None}
 use Rattle.std.proofs.lemmas.Bool.Decides.{nat_tests}
 use Rattle.joint_model.specs.declared.names.Var.{Var}
 use Rattle.joint_model.specs.declared.names.StaticNo.{StaticNo}
@@ -147,7 +147,10 @@ own-asks s _ own i w q e = absurd w
 room : {A : Type 0} (xs : List A) → length xs < 65535 → is_full xs ≡ false
 room xs l = grind (arith, nat_tests)
 
-module _ (s : Linkage) (managed : length s.managed.managed.heap.fields < 65535) (peers : length s.peer.peers.heap.fields < 65535) (handles : length s.peer.peers.issued < 65535) where
+few_made : (n : ℕ) → n < 65535 → nat_le 65535 n ≡ false
+few_made n l = grind (arith, nat_tests)
+
+module _ (s : Linkage) (managed : length s.managed.managed.heap.fields < 65535) (peers : length s.peer.peers.heap.fields < 65535) (handles : s.peer.peers.made < 65535) where
   no-managed : is_full s.managed.managed.heap.fields ≡ false
   no-managed = room s.managed.managed.heap.fields managed
 
@@ -155,7 +158,7 @@ module _ (s : Linkage) (managed : length s.managed.managed.heap.fields < 65535) 
   no-peers = room s.peer.peers.heap.fields peers
 
   neither : (is_full s.peer.peers.heap.fields || handles_full s.peer.peers) ≡ false
-  neither = ap (λ b. b || handles_full s.peer.peers) no-peers ∙ room s.peer.peers.issued handles
+  neither = ap (λ b. b || handles_full s.peer.peers) no-peers ∙ few_made s.peer.peers.made handles
 
   now : (t : Thread) (o : Op) (told : Told) (line : ℕ) (r : Reply) (cites : Option ℕ) → IsEvent t o → SideLawful (is_peer_event t o) s (entry t line o r cites) told → Answers o r
   now (M u) (op.Line (act.New v k n)) told line r cites e w =

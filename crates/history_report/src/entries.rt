@@ -12,7 +12,9 @@ use bridge_script::{
     add_with_number, add_with_var,
 };
 use byte_streams::{Count, Line};
-use joint_model::{Entry, HNum, Kind, MNum, Op, PNum, Reply, Sort, Span, StaticNo, Thread, Var};
+use joint_model::{
+    HNum, Kind, MNum, Op, PNum, PackedEntry, Reply, Sort, Span, StaticNo, Thread, Var,
+};
 
 // A word and a handle.
 #[inline(always)]
@@ -192,7 +194,10 @@ pub fn add_reply(line: &mut Line, reply: &Reply)
         Reply::NoMark => line.word(*b"nomark"),
         Reply::More => line.word(*b"more"),
         Reply::Done => line.word(*b"done"),
-        Reply::Alive => line.word(*b"alive"),
+        Reply::Renewed(h) => {
+            line.word(*b"alive");
+            add_handle(line, h);
+        }
         Reply::Cleared => line.word(*b"cleared"),
         Reply::M(m) => add_managed(line, m),
         Reply::P(p) => add_peer(line, p),
@@ -258,21 +263,21 @@ impl Counts {
 
 /// The line of an entry up to its list: its number, who made it on which line, its event and its reply.
 #[inline(always)]
-pub fn add_head(line: &mut Line, entry: &Entry, counts: &mut Counts)
+pub fn add_head(line: &mut Line, entry: &PackedEntry, counts: &mut Counts)
     requires { 300 ≤ line.old.room }
     ensures { AddsText line.old line.new (head_text entry.now) 300 }
 {
-    counts.number.go_to(entry.number);
+    counts.number.go_to(entry.number());
     line.count(&counts.number);
-    add_place(line, entry.made.caller, entry.made.index, &mut counts.index);
-    add_event(line, entry.made.caller, &entry.made.op);
+    add_place(line, entry.caller(), entry.index(), &mut counts.index);
+    add_event(line, entry.caller(), entry.op());
     line.word(*b"=");
-    add_reply(line, &entry.made.reply);
+    add_reply(line, entry.reply());
 }
 
 // Who made an entry, and on which line of the script.
 #[inline(always)]
-fn add_place(line: &mut Line, thread: Thread, index: u16, count: &mut Count)
+fn add_place(line: &mut Line, thread: Thread, index: u32, count: &mut Count)
     requires { 60 ≤ line.old.room }
     ensures { AddsWords line.old line.new (place_text thread index ∷ []) 50 }
 {

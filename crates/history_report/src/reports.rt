@@ -12,7 +12,7 @@ ghost use Rattle.history_report.specs.Report.{entry_text, entries_text, end_text
 use crate::entries::{Counts, add_head, add_tail, list_of};
 use crate::lists::Numbers;
 use byte_streams::{Failed, Line, Sink};
-use joint_model::{Entry, History, Span, Step};
+use joint_model::{History, PackedEntry, Span, Step};
 
 // Writes the numbers that a span names, each with a space and its letter before it.
 fn write_numbers<K: Sink>(
@@ -82,7 +82,7 @@ fn write_listed<K: Sink>(
 #[inline(always)]
 pub fn write_entry<K: Sink>(
     h: &History,
-    entry: &Entry,
+    entry: &PackedEntry,
     counts: &mut Counts,
     line: &mut Line,
     out: &mut K,
@@ -91,18 +91,10 @@ pub fn write_entry<K: Sink>(
 {
     line.make_room(out)?;
     add_head(line, entry, counts);
-    match list_of(&entry.made.reply) {
-        Some((numbers, span)) => write_listed(
-            h,
-            numbers,
-            span,
-            entry.made.cites,
-            counts,
-            line,
-            out,
-        ),
+    match list_of(entry.reply()) {
+        Some((numbers, span)) => write_listed(h, numbers, span, entry.cites(), counts, line, out),
         None => {
-            add_tail(line, entry.made.cites, counts);
+            add_tail(line, entry.cites(), counts);
             Ok(())
         }
     }
@@ -112,7 +104,7 @@ pub fn write_entry<K: Sink>(
 #[inline(never)]
 fn write_spelled<K: Sink>(
     h: &History,
-    entry: &Entry,
+    entry: &PackedEntry,
     counts: &mut Counts,
     line: &mut Line,
     out: &mut K,

@@ -216,7 +216,7 @@ word-one w v e = sym (word-read w) ∙ (ap word_of e ∙ word-read v)
 
 abandon-one : (stand : Stand) (k k' : ℕ) (c c' : Option ℕ) → MayAbandonNow stand k c → MayAbandonNow stand k' c' → k ≡ k'
 abandon-one (snapped o) k k' c c' a b = sym a.0 ∙ b.0
-abandon-one (contracted o comps xrefs) k k' c c' a b = sym a.0 ∙ b.0
+abandon-one (contracted o comps heavy xrefs) k k' c c' a b = sym a.0 ∙ b.0
 abandon-one stand k k' c c' a b = absurd a
 
 -- the driver's own events

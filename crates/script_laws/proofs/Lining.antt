@@ -16,7 +16,8 @@ use Rattle.joint_model.specs.declared.events.Op.TheVariants as op
 use Rattle.joint_model.specs.declared.events.Reply.{Reply}
 use Rattle.joint_model.specs.declared.events.Reply.TheVariants as says
 use Rattle.joint_model.specs.declared.events.Entry.{Entry}
-use Rattle.joint_model.specs.Control.{Stand, weakening, candidates_of, MayBeginNow}
+use Rattle.joint_model.specs.Control.{Stand, weakening, MayBeginNow}
+use Rattle.joint_model.specs.Managed.{candidates_of}
 use Rattle.joint_model.specs.Draws.{NumberedFrom}
 use Rattle.joint_model.specs.Lines.{IsLine}
 use Rattle.joint_model.specs.Linked.{Linkage, replayed}

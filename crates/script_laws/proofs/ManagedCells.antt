@@ -139,7 +139,7 @@ gone_after s t (op.Snap k) told w = absurd w
 gone_after s t (op.Resolve k) (resolution_of alive freed) w = record { cycle = refl; cells = λ c n e. e }
 gone_after s t (op.Resolve k) told w = absurd w
 gone_after s t (op.Abandon k) told w = record { cycle = refl; cells = λ c n e. e }
-gone_after s t (op.Contract k) (contraction_of comps xrefs) w = record { cycle = refl; cells = λ c n e. e }
+gone_after s t (op.Contract k) (contraction_of comps heavy xrefs) w = record { cycle = refl; cells = λ c n e. e }
 gone_after s t (op.Contract k) told w = record { cycle = refl; cells = λ c n e. e }
 gone_after s t (op.Refused x) (phase_of phase) w = record { cycle = refl; cells = λ c n e. e }
 gone_after s t (op.Refused x) told w = record { cycle = refl; cells = λ c n e. e }

@@ -12,10 +12,11 @@ use Rattle.joint_model.specs.declared.events.Op.{Op}
 use Rattle.joint_model.specs.declared.events.Op.TheVariants as op
 use Rattle.joint_model.specs.declared.events.Reply.{Reply}
 use Rattle.joint_model.specs.declared.events.Reply.TheVariants as says
-use Rattle.joint_model.specs.Control.{Doing, free, made, lent, gripped, given, met, Stand, idle, snapped, contracted, weakening, marked, restoring, restored, doing_at, candidates_of, MayStart, MayAdopt, MayLand, MayMeet, MayRelease, ThreadAllows, MaySnap, MayContractNow, MayMirrorNow, MayWeakenNow, MayBeginNow, MaySweepNow, MayRestoreNow, MayClearNow, MayResolveNow, MayAbandonNow, MayRefuseNow, DriverAllows, CallerAllows, IsPhaseOf}
+use Rattle.joint_model.specs.Components.{End}
+use Rattle.joint_model.specs.Control.{Doing, free, made, lent, gripped, given, met, Stand, idle, snapped, contracted, weakening, marked, restoring, restored, doing_at, MayStart, MayAdopt, MayLand, MayMeet, MayRelease, ThreadAllows, MaySnap, MayContractNow, MayMirrorNow, MayWeakenNow, MayBeginNow, MaySweepNow, MayRestoreNow, MayClearNow, MayResolveNow, MayAbandonNow, MayRefuseNow, DriverAllows, CallerAllows, IsPhaseOf}
 use Rattle.joint_model.specs.Lines.{IsEvent, is_peer_event}
 use Rattle.joint_model.specs.Linked.{Linkage, SideLawful}
-use Rattle.joint_model.specs.Managed.{Managed}
+use Rattle.joint_model.specs.Managed.{Managed, candidates_of}
 use Rattle.joint_model.specs.ManagedReplay.{ManagedReplay, managed_answer, refusal_to}
 use Rattle.joint_model.specs.PeerReplay.{peer_answer}
 use Rattle.joint_model.specs.Peers.{Issued}
@@ -64,7 +65,7 @@ snap-cites stand c c' a b = absurd a
 
 abandon-cites : (stand : Stand) (k : ℕ) (c c' : Option ℕ) → MayAbandonNow stand k c → MayAbandonNow stand k c' → c ≡ c'
 abandon-cites (snapped o) k c c' a b = a.1 ∙ sym b.1
-abandon-cites (contracted o comps xrefs) k c c' a b = a.1 ∙ sym b.1
+abandon-cites (contracted o comps heavy xrefs) k c c' a b = a.1 ∙ sym b.1
 abandon-cites stand k c c' a b = absurd a
 
 contract-cites : (stand : Stand) (k k' : ℕ) (c c' : Option ℕ) → MayContractNow stand k c → MayContractNow stand k' c' → c ≡ c'
@@ -72,8 +73,8 @@ contract-cites (snapped o) k k' c c' a b = a.1 ∙ sym b.1
 contract-cites stand k k' c c' a b = absurd a
 
 mirror-cites : (stand : Stand) (s : Managed) (i : List Issued) (k : ℕ) (c c' : Option ℕ) (x y : Told) → MayMirrorNow stand s i k c x → MayMirrorNow stand s i k c' y → c ≡ c'
-mirror-cites (contracted o comps xrefs) s i k c c' (references_of x) (references_of y) a b = a.1 ∙ sym b.1
-mirror-cites (contracted o comps xrefs) s i k c c' (references_of x) y a b = absurd b
+mirror-cites (contracted o comps heavy xrefs) s i k c c' (references_of x) (references_of y) a b = a.1 ∙ sym b.1
+mirror-cites (contracted o comps heavy xrefs) s i k c c' (references_of x) y a b = absurd b
 mirror-cites stand s i k c c' x y a b = absurd a
 
 weaken-cites : (stand : Stand) (s : Managed) (h : ℕ) (c c' : Option ℕ) → MayWeakenNow stand s h c → MayWeakenNow stand s h c' → c ≡ c'
@@ -151,7 +152,7 @@ refusals-one s stand n word.Sweep r r' p q a b e f x y g = g p q e f
 refusals-one s stand n word.Restore r r' p q a b e f x y g = g p q e f
 refusals-one s stand n word.Resolve r r' p q a b e f x y g = g p q e f
 
-mirror-told : (s : Linkage) (t : Thread) (l : ℕ) (k : Cycle) (r r' : Reply) (c : Option ℕ) (xs ys : List (ℕ × ℕ)) → IsEvent t (op.Mirror k) → Allowed s t l (op.Mirror k) r c (references_of xs) → Allowed s t l (op.Mirror k) r' c (references_of ys) → xs ≡ ys
+mirror-told : (s : Linkage) (t : Thread) (l : ℕ) (k : Cycle) (r r' : Reply) (c : Option ℕ) (xs ys : List (End × End)) → IsEvent t (op.Mirror k) → Allowed s t l (op.Mirror k) r c (references_of xs) → Allowed s t l (op.Mirror k) r' c (references_of ys) → xs ≡ ys
 mirror-told s C l k r r' c xs ys v w x = mirrors s.control.stand s.managed.managed s.peer.peers.issued k.0 c xs ys w x
 mirror-told s (M z) l k r r' c xs ys v w x = absurd v
 mirror-told s (P z) l k r r' c xs ys v w x = absurd v

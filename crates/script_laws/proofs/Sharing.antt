@@ -15,11 +15,11 @@ use Rattle.joint_model.specs.declared.events.Op.TheVariants as op
 use Rattle.joint_model.specs.declared.events.Reply.{Reply}
 use Rattle.joint_model.specs.declared.events.Reply.TheVariants as says
 use Rattle.joint_model.specs.declared.events.Entry.{Entry}
-use Rattle.joint_model.specs.Control.{Stand, snapped, contracted, weakening, restoring, restored, candidates_of, MayContractNow, MayMirrorNow, MayWeakenNow, MayRestoreNow, MayClearNow, MayResolveNow, IsCandidateHandle}
+use Rattle.joint_model.specs.Control.{Stand, snapped, contracted, weakening, restoring, restored, MayContractNow, MayMirrorNow, MayWeakenNow, MayRestoreNow, MayClearNow, MayResolveNow, IsCandidateHandle}
 use Rattle.joint_model.specs.Draws.{NumberedFrom}
 use Rattle.joint_model.specs.Lines.{is_peer_event}
 use Rattle.joint_model.specs.Linked.{Linkage, linkage_after, replayed, SideLawful}
-use Rattle.joint_model.specs.Managed.{Managed, handle_of}
+use Rattle.joint_model.specs.Managed.{Managed, handle_of, candidates_of}
 use Rattle.joint_model.specs.ManagedReplay.{ManagedReplay, ManagedAllows}
 use Rattle.joint_model.specs.PeerReplay.{swept}
 use Rattle.joint_model.specs.Peers.{Issued}
@@ -47,8 +47,8 @@ contract-one (snapped o) k k' c c' a b = sym a.0 ∙ b.0
 contract-one stand k k' c c' a b = absurd a
 
 mirror-one : (stand : Stand) (m : Managed) (i : List Issued) (k k' : ℕ) (c c' : Option ℕ) (x y : Told) → MayMirrorNow stand m i k c x → MayMirrorNow stand m i k' c' y → k ≡ k'
-mirror-one (contracted o comps xrefs) m i k k' c c' (references_of x) (references_of y) a b = sym a.0 ∙ b.0
-mirror-one (contracted o comps xrefs) m i k k' c c' (references_of x) y a b = absurd b
+mirror-one (contracted o comps heavy xrefs) m i k k' c c' (references_of x) (references_of y) a b = sym a.0 ∙ b.0
+mirror-one (contracted o comps heavy xrefs) m i k k' c c' (references_of x) y a b = absurd b
 mirror-one stand m i k k' c c' x y a b = absurd a
 
 handle-one : (m : Managed) (i h h' : ℕ) → IsCandidateHandle m i h → IsCandidateHandle m i h' → h ≡ h'

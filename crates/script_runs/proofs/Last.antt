@@ -225,7 +225,7 @@ some_ran script jobs callers r first = by jobs callers r first.all
     by (j ∷ js) (q ∷ ps) r e = omega arith
 
 -- a script with a cycle behind it can be run where the script can
-pub can_run_cycle : (script lines : List (Thread × Act)) → lines ≡ script ++ cycle_line ∷ [] → CanRun script → length script < 65535 → CanRun lines
+pub can_run_cycle : (script lines : List (Thread × Act)) → lines ≡ script ++ cycle_line ∷ [] → CanRun script → length script < 4294967295 → CanRun lines
 can_run_cycle script lines is can room = record {
   each = subst (All IsRunnable) (sym is) (All-push IsRunnable script cycle_line can.each (record { lawful = tt; peer = λ p. absurd p }));
   count = let n = ap length is ∙ length-append script (cycle_line ∷ []) in omega (arith, n, room);

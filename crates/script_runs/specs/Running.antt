@@ -30,10 +30,10 @@ pub record IsRunnable (line : Thread × Act) : Type 0 where
   pub lawful : IsLine line.0 line.1
   pub peer : IsPeerThread line.0 → IsPeerOperation line.1
 
--- the lines can be run: each of them can, and their numbers are of 16 bits
+-- the lines can be run: each of them can, and their numbers are of 32 bits
 pub record CanRun (script : List (Thread × Act)) : Type 0 where
   pub each : All IsRunnable script
-  pub count : length script ≤ 65535
+  pub count : length script ≤ 4294967295
 
 -- a caller made the entries of a line, and the driver stands where it stood
 pub record MakesLine (t : Thread) (old new : View) (index : ℕ) (a : Act) : Type 0 where

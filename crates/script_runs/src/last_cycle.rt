@@ -50,7 +50,7 @@ fn cycle_last<N: OrderName>(
     rt: &impl Wait,
     alloc: Global,
     shared: &Shared<N, Locks>,
-    number: u16,
+    number: u32,
     driver: Caller<N>,
     others: &mut Vec<Caller<N>>,
 ) -> Result<Caller<N>, AllocError>
@@ -79,7 +79,7 @@ fn run_by_desk<N: OrderName + Send + Sync, R: Threads + Wait + Sync, T: Turnstil
     requires all { HasAll desk.old [] }
     requires counts { (desk.old.managed ≡ 8) × (desk.old.peers ≡ 8) }
     requires lines { CanRun script.now }
-    requires room { length script.now < 65535 }
+    requires room { length script.now < 4294967295 }
     ensures all { IfOk result (λ v. HasAll desk.new v.items) }
     ensures idle { IfOk result (λ v. All HasIdleDriver v.items) }
     ensures ran { IfOk result (λ v. (h : Finished) → IsFinished h → length h.entries < 2 ^ 64 → All (HasOwn h.entries) v.items → ((t : Thread) → IsThread t → StillWaits desk.new t → made_by t h.entries ≡ []) → IsRunThenCycle script.now h) }
@@ -88,7 +88,7 @@ fn run_by_desk<N: OrderName + Send + Sync, R: Threads + Wait + Sync, T: Turnstil
     let ended = run_jobs(rt, alloc, shared, script, turn, jobs)?;
     let mut callers = all_ended(alloc, ended)?;
     let driver = callers.remove(0);
-    let number = script.len() as u16 + 1;
+    let number = script.len() as u32 + 1;
     let driver = cycle_last(rt, alloc, shared, number, driver, &mut callers)?;
     callers.push(driver)?;
     Ok(callers)
@@ -107,7 +107,7 @@ fn run_named<N: OrderName + Send + Sync, R: Threads + Wait + Sync, T: Turnstile 
     requires run { (N.managed ≡ 8) × (N.peers ≡ 8) }
     requires seat { (seat.order ≡ N.order) × OwnsAll seat.view × KnowsNothing seat.view × Settled seat.view }
     requires lines { CanRun script.now }
-    requires room { length script.now < 65535 }
+    requires room { length script.now < 4294967295 }
     ensures history { IfOk result (λ e. IsRunThenCycle script.now e.history) }
     ensures counted { IfOk result HasEndNumbers }
 {
@@ -131,7 +131,7 @@ pub fn run_threads_then_cycle<R: Threads + Wait + Sync, T: Turnstile + Sync>(
     turn: &T,
 ) -> Result<RunEnd, AllocError>
     requires lines { CanRun script.now }
-    requires room { length script.now < 65535 }
+    requires room { length script.now < 4294967295 }
     ensures history { IfOk result (λ e. IsRunThenCycle script.now e.history) }
     ensures counted { IfOk result HasEndNumbers }
 {
@@ -149,7 +149,7 @@ pub fn run_serial_then_cycle(
 ) -> Result<RunEnd, AllocError>
     requires lines { CanRun script.items }
     requires cycles { DrivesCycles script.items }
-    requires room { length script.items < 65535 }
+    requires room { length script.items < 4294967295 }
     ensures in_order { IfOk result (λ e. IsRunInOrder (script.items ++ cycle_line ∷ []) e.history) }
     ensures history { IfOk result (λ e. IsRunThenCycle script.items e.history) }
     ensures counted { IfOk result HasEndNumbers }

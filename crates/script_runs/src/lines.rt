@@ -43,7 +43,7 @@ pub(crate) fn run_line_alone<N: OrderName>(
     rt: &impl Wait,
     shared: &Shared<N, Alone>,
     caller: &mut Caller<N>,
-    index: u16,
+    index: u32,
     act: &Act,
 ) -> Result<(), AllocError>
     requires act { IsOperationOf caller.old.thread act.now }
@@ -64,7 +64,7 @@ pub(crate) fn run_line_alone<N: OrderName>(
 fn read_at_once<N: OrderName>(
     shared: &Shared<N, Locks>,
     caller: &mut Caller<N>,
-    index: u16,
+    index: u32,
     act: &Act,
 ) -> Result<(), AllocError>
     requires act { IsManagedThread caller.old.thread × IsRead act.now × IsOperationOf caller.old.thread act.now }
@@ -84,7 +84,7 @@ fn read_in_time<N: OrderName>(
     rt: &impl Wait,
     shared: &Shared<N, Locks>,
     caller: &mut Caller<N>,
-    index: u16,
+    index: u32,
     act: &Act,
 ) -> Result<(), AllocError>
     requires act { IsManagedThread caller.old.thread × IsRead act.now × IsOperationOf caller.old.thread act.now }
@@ -105,7 +105,7 @@ pub(crate) fn run_line_beside<N: OrderName>(
     rt: &impl Wait,
     shared: &Shared<N, Locks>,
     caller: &mut Caller<N>,
-    index: u16,
+    index: u32,
     act: &Act,
 ) -> Result<(), AllocError>
     requires act { IsOperationOf caller.old.thread act.now }
@@ -132,7 +132,7 @@ pub(crate) fn drive_line<N: OrderName, K: Keeps<N>>(
     alloc: Global,
     shared: &Shared<N, K>,
     driver: &mut Driver<N>,
-    index: u16,
+    index: u32,
     act: &Act,
 ) -> Result<(), AllocError>
     requires act { IsLine C act.now }
@@ -151,7 +151,7 @@ pub(crate) fn drive_left<N: OrderName, K: Keeps<N>>(
     alloc: Global,
     shared: &Shared<N, K>,
     driver: &mut Driver<N>,
-    last: u16,
+    last: u32,
 ) -> Result<(), AllocError>
     requires index { line_of driver.old ≤ last }
     ensures index { line_of driver.new ≤ last }

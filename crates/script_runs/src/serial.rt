@@ -31,7 +31,7 @@ fn run_told<N: OrderName>(
     shared: &Shared<N, Alone>,
     driver: &mut Driver<N>,
     caller: &mut Caller<N>,
-    index: u16,
+    index: u32,
     act: &Act,
 ) -> Result<(), AllocError>
     requires act { IsOperationOf caller.old.thread act.now }
@@ -73,10 +73,10 @@ fn run_next<N: OrderName>(
     shared: &Shared<N, Alone>,
     driver: &mut Driver<N>,
     others: &mut Vec<Caller<N>>,
-    last: u16,
-    number: u16,
+    last: u32,
+    number: u32,
     line: &(Thread, Act),
-) -> Result<u16, AllocError>
+) -> Result<u32, AllocError>
     requires line { IsRunnable line.now }
     requires others { AreOthers others.old.items }
     requires up_to { AreUpTo number others.old.items }
@@ -111,7 +111,7 @@ fn run_all<N: OrderName>(
     driver: &mut Driver<N>,
     others: &mut Vec<Caller<N>>,
     script: &[(Thread, Act)],
-) -> Result<u16, AllocError>
+) -> Result<u32, AllocError>
     requires lines { CanRun script.now }
     requires others { AreOthers others.old.items }
     requires up_to { AreUpTo 0 others.old.items }

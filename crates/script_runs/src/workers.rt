@@ -83,7 +83,7 @@ pub(crate) fn run_own<N: OrderName, T: Turnstile>(
     for (t, act) in script {
         number += 1;
         if is_thread(thread, *t) {
-            turn.pass(thread, number as u32);
+            turn.pass(thread, number);
             run_line_beside(rt, shared, &mut caller, number, act)?;
         }
     }
@@ -111,7 +111,7 @@ fn drive_all<N: OrderName, T: Turnstile>(
     for (t, act) in script {
         number += 1;
         if is_thread(Thread::C, *t) {
-            turn.pass(Thread::C, number as u32);
+            turn.pass(Thread::C, number);
             match drive_line(rt, alloc, shared, driver, number, act) {
                 Ok(()) => last = number,
                 Err(error) => {

@@ -79,7 +79,7 @@ module _ (s : Linkage) (m : Made) (told : Told) (k : Of s) (named : Named s.peer
           cycles = omega (arith, f);
           managed = omega (arith, e);
           peers = omega (arith, c.heap.made);
-          handles = omega (arith, c.issued);
+          handles = omega (arith, c.made);
           managed_left = omega (arith, e, none);
           peers_left = omega (arith, c.heap.left);
           handles_left = omega (arith, c.tabled);

@@ -155,7 +155,7 @@ answer-counts s t (op.Give v) told k w =
     let x = slot s.managed.heap.vars u in
     through s.managed (given_up s.managed u).state _ (op.Give v) (given_up s.managed u).reply _ (give_by-managed s x (given_up s.managed u)) (give_by-reply s x (given_up s.managed u)) (by_same s.managed (op.Give v) _ _ (given-same s.managed k.managed.freed x) refl refl (handle-plain s.managed u))
 answer-counts s t (op.Snap n) (snap_of freed candidates dead) k w = record { heap = counts-freed s.managed.heap _ freed refl refl w.freed_rise (λ x c. ((w.frees x).0 c).0); cycles = refl }
-answer-counts s t (op.Contract n) (contraction_of comps xrefs) k w = by_same s.managed (op.Contract n) s.managed _ (same-stay s.managed) refl refl tt
+answer-counts s t (op.Contract n) (contraction_of comps heavy xrefs) k w = by_same s.managed (op.Contract n) s.managed _ (same-stay s.managed) refl refl tt
 answer-counts s t (op.Resolve n) (resolution_of alive freed) k w = record {
   heap = counts-freed s.managed.heap _ freed refl refl w.resolution.rise (λ x c. (k.managed.dead w.cycle w.open_cycle.0).live x ((w.resolution.frees x).0 c).0);
   cycles = omega arith;

@@ -15,8 +15,9 @@ use Rattle.joint_model.specs.declared.events.Reply.TheVariants as says
 use Rattle.joint_model.specs.Components.{Rises}
 use Rattle.joint_model.specs.Heaps.{Heap, IsLive, Answered, answer, slot, place, is_full, numbered_set}
 use Rattle.joint_model.specs.Managed.{place_or_none}
-use Rattle.joint_model.specs.Peers.{Peers, Issued, Strength, strong, weak, held, raw, peer_name, pair_made, peer_gripped, landed, name_given, peer_read, name_read, on_peer_heap, peer_line, issued_since, handles_full}
-use Rattle.joint_model.specs.PeerReplay.{PeerReplay, TableRow, Marking, row_of, fresh_row, table_target, on_table, bring_by, untabled, peer_thread_line, is_thread, sliced, begun, swept, restored_by, mirrored, peer_answer, PeerAllows, SweepAllows, IsHeld}
+use Rattle.joint_model.specs.Components.{End}
+use Rattle.joint_model.specs.Peers.{with_renewed, peer_of, Peers, Issued, Strength, strong, weak, held, raw, peer_name, pair_made, peer_gripped, landed, name_given, peer_read, name_read, on_peer_heap, peer_line, issued_since, handles_full}
+use Rattle.joint_model.specs.PeerReplay.{PeerReplay, TableRow, Marking, row_of, fresh_row, table_target, on_table, bring_by, untabled, peer_thread_line, is_thread, sliced, begun, swept, restored_by, renewed_on, mirrored, peer_answer, PeerAllows, SweepAllows, IsHeld}
 use Rattle.joint_model.specs.Run.{thread_number}
 use Rattle.joint_model.specs.Told.{Told, nothing, references_of, slice_of, sweep_of}
 use Rattle.joint_model.proofs.Deciding.{none_some, option-cases, test-cases}
@@ -37,7 +38,7 @@ use Rattle.summary_laws.proofs.TableRows.{rows, rows-put, rows-set, rows-swept}
 -- the peers' numbers between two states, by an event and its reply
 pub record PeerCounts (s : PeerReplay) (p : Peers) (table : List (Option TableRow)) (o : Op) (r : Reply) : Type 0 where
   pub heap : HeapCounts s.peers.heap p.heap (one (makes_peer o r)) (freed_peers r)
-  pub issued : length p.issued ≡ length s.peers.issued + one (makes_handle o r)
+  pub made : p.made ≡ s.peers.made + one (makes_handle o r)
   pub tabled : rows table + one (removes_handle o r) ≡ rows s.table + one (makes_handle o r)
   pub names : AreNamesKept p.names table
 
@@ -56,10 +57,10 @@ module _ (s : PeerReplay) (k : IsPeerKept s) (names : AreNamesKept s.peers.names
     takes : removes_handle o r ≡ removed
     none : freed_peers r ≡ 0
 
-  counted : (p : Peers) (table : List (Option TableRow)) (o : Op) (r : Reply) (x y z : Bool) → Says o r x y z → HeapCounts s.peers.heap p.heap (one x) 0 → length p.issued ≡ length s.peers.issued + one y → rows table + one z ≡ rows s.table + one y → AreNamesKept p.names table → PeerCounts s p table o r
-  counted p table o r x y z w heap issued count kept = record {
+  counted : (p : Peers) (table : List (Option TableRow)) (o : Op) (r : Reply) (x y z : Bool) → Says o r x y z → HeapCounts s.peers.heap p.heap (one x) 0 → p.made ≡ s.peers.made + one y → rows table + one z ≡ rows s.table + one y → AreNamesKept p.names table → PeerCounts s p table o r
+  counted p table o r x y z w heap made count kept = record {
     heap = subst (λ b. HeapCounts s.peers.heap p.heap (one b) (freed_peers r)) (sym w.makes) (subst (λ n. HeapCounts s.peers.heap p.heap (one x) n) (sym w.none) heap);
-    issued = subst (λ b. length p.issued ≡ length s.peers.issued + one b) (sym w.gives) issued;
+    made = subst (λ b. p.made ≡ s.peers.made + one b) (sym w.gives) made;
     tabled = subst (λ b. rows table + one (removes_handle o r) ≡ rows s.table + one b) (sym w.gives) (subst (λ b. rows table + one b ≡ rows s.table + one y) (sym w.takes) count);
     names = kept;
   }
@@ -68,34 +69,31 @@ module _ (s : PeerReplay) (k : IsPeerKept s) (names : AreNamesKept s.peers.names
   OnTable o a = PeerCounts s a.state (s.table ++ map fresh_row (issued_since s.peers a.state)) o a.reply
 
   -- no handle is issued
-  still : (o : Op) (a : Answered Peers) (x : Bool) → Says o a.reply x false false → HeapCounts s.peers.heap a.state.heap (one x) 0 → a.state.issued ≡ s.peers.issued → a.state.names ≡ s.peers.names → OnTable o a
-  still o a x w heap e n =
+  still : (o : Op) (a : Answered Peers) (x : Bool) → Says o a.reply x false false → HeapCounts s.peers.heap a.state.heap (one x) 0 → a.state.issued ≡ s.peers.issued → a.state.made ≡ s.peers.made → a.state.names ≡ s.peers.names → OnTable o a
+  still o a x w heap e l n =
       let same = table-still s a.state e in
-      let l = ap length e in
       counted a.state _ o a.reply x false false w heap (omega (arith, l)) (let q = ap rows same in omega (arith, q)) (subst (λ z. AreNamesKept z (s.table ++ map fresh_row (issued_since s.peers a.state))) (sym n) (subst (λ z. AreNamesKept s.peers.names z) (sym same) names))
 
   stays : (o : Op) (r : Reply) → Says o r false false false → OnTable o (answer r s.peers)
-  stays o r w = still o (answer r s.peers) false w (counts-stay s.peers.heap) refl refl
+  stays o r w = still o (answer r s.peers) false w (counts-stay s.peers.heap) refl refl refl
 
   -- one is issued
-  issues : (o : Op) (a : Answered Peers) (x : Bool) (new : Issued) → Says o a.reply x true false → HeapCounts s.peers.heap a.state.heap (one x) 0 → a.state.issued ≡ s.peers.issued ++ new ∷ [] → AreNamesKept a.state.names (s.table ++ fresh_row new ∷ []) → OnTable o a
-  issues o a x new w heap e kept =
+  issues : (o : Op) (a : Answered Peers) (x : Bool) (new : Issued) → Says o a.reply x true false → HeapCounts s.peers.heap a.state.heap (one x) 0 → a.state.issued ≡ s.peers.issued ++ new ∷ [] → a.state.made ≡ s.peers.made + 1 → AreNamesKept a.state.names (s.table ++ fresh_row new ∷ []) → OnTable o a
+  issues o a x new w heap e l kept =
       let same = table-issued s a.state new e in
-      let l = ap length e in
-      let m = length-append s.peers.issued (new ∷ []) in
-      counted a.state _ o a.reply x true false w heap (omega (arith, l, m)) (let q = ap rows same in let put = rows-put s.table (record { strength = new.strength; cleared = false }) in omega (arith, q, put)) (subst (λ z. AreNamesKept a.state.names z) (sym same) kept)
+      counted a.state _ o a.reply x true false w heap (omega (arith, l)) (let q = ap rows same in let put = rows-put s.table (record { strength = new.strength; cleared = false }) in omega (arith, q, put)) (subst (λ z. AreNamesKept a.state.names z) (sym same) kept)
 
   -- the peer and its handle
   pair-counts : (sort : Sort) (n : ℕ) → OnTable (op.Make sort n) (pair_made s.peers sort n)
   pair-counts sort n = test-cases (OnTable (op.Make sort n)) (is_full s.peers.heap.fields || handles_full s.peers) _ _
       (stays (op.Make sort n) says.Full (record { makes = refl; gives = refl; takes = refl; none = refl }))
-      (issues (op.Make sort n) _ true _ (record { makes = refl; gives = refl; takes = refl; none = refl }) (counts-object s.peers.heap _ (with_object-length s.peers.heap n) refl k.heap.freed) refl (names-grown s.peers.names s.table names _))
+      (issues (op.Make sort n) _ true _ (record { makes = refl; gives = refl; takes = refl; none = refl }) (counts-object s.peers.heap _ (with_object-length s.peers.heap n) refl k.heap.freed) refl refl (names-grown s.peers.names s.table names _))
 
   grip-counts : (x : Op) (o : Option ℕ) → ((r : Reply) → makes_peer x r ≡ false) → makes_handle x says.Null ≡ false → makes_handle x says.Full ≡ false → ((r : Reply) → removes_handle x r ≡ false) → ((p h : ℕ) (sort : Sort) (n : ℕ) → makes_handle x (says.Gripped record { 0 = p } record { 0 = h } sort n) ≡ true) → OnTable x (peer_gripped s.peers o)
   grip-counts x None p n f t g = stays x says.Null (record { makes = p _; gives = n; takes = t _; none = refl })
   grip-counts x (Some q) p n f t g = test-cases (OnTable x) (handles_full s.peers) _ _
       (stays x says.Full (record { makes = p _; gives = f; takes = t _; none = refl }))
-      (issues x _ false _ (record { makes = p _; gives = g _ _ _ _; takes = t _; none = refl }) (counts-stay s.peers.heap) refl (names-grown s.peers.names s.table names _))
+      (issues x _ false _ (record { makes = p _; gives = g _ _ _ _; takes = t _; none = refl }) (counts-stay s.peers.heap) refl refl (names-grown s.peers.names s.table names _))
 
   -- a global name
   module _ (x : Op) (p : (r : Reply) → makes_peer x r ≡ false) (g : (r : Reply) → makes_handle x r ≡ is_h r) (t : (r : Reply) → removes_handle x r ≡ false) where
@@ -103,7 +101,7 @@ module _ (s : PeerReplay) (k : IsPeerKept s) (names : AreNamesKept s.peers.names
     given-counts name q strength (Some h) = stays x says.Taken (record { makes = p _; gives = g _; takes = t _; none = refl })
     given-counts name q strength None = test-cases (OnTable x) (handles_full s.peers) _ _
         (stays x says.Full (record { makes = p _; gives = g _; takes = t _; none = refl }))
-        (issues x _ false (record { peer = q; hold = raw; strength = strength }) (record { makes = p _; gives = g _; takes = t _; none = refl }) (counts-stay s.peers.heap) refl (names-given s.peers.names s.table names name _ _ (let l = k.handles.places in omega (arith, l))))
+        (issues x _ false (record { peer = q; hold = raw; strength = strength }) (record { makes = p _; gives = g _; takes = t _; none = refl }) (counts-stay s.peers.heap) refl refl (names-given s.peers.names s.table names name _ _ (let l = k.handles.places in omega (arith, l))))
 
     global-counts : (name v : ℕ) (strength : Strength) → OnTable x (elim (slot s.peers.heap.vars v) [ None ↦ answer says.Empty s.peers | Some q ↦ name_given s.peers name q strength (slot s.peers.names name) ])
     global-counts name v strength = option-cases (OnTable x) _ _ (slot s.peers.heap.vars v) (stays x says.Empty (record { makes = p _; gives = g _; takes = t _; none = refl })) (λ q. given-counts name q strength (slot s.peers.names name))
@@ -132,23 +130,23 @@ module _ (s : PeerReplay) (k : IsPeerKept s) (names : AreNamesKept s.peers.names
 
     read-counts : (v : ℕ) (o : Option ℕ) → OnTable x (peer_read s.peers v o)
     read-counts v None = stays x says.Gone (plainly says.Gone tt)
-    read-counts v (Some q) = still x _ false (plainly _ tt) (counts-alike _ _ refl refl) refl refl
+    read-counts v (Some q) = still x _ false (plainly _ tt) (counts-alike _ _ refl refl) refl refl refl
 
     wread-counts : (v name : ℕ) → OnTable x (name_read (table_target s) s.peers v name)
     wread-counts v name = option-cases (OnTable x) _ _ (slot s.peers.names name) (stays x says.Unset (plainly says.Unset tt)) (λ h. read-counts v (table_target s h))
 
     land-counts : (j : ℕ) (o : Option ℕ) → OnTable x (landed s.peers j o)
     land-counts j None = stays x says.Gone (plainly says.Gone tt)
-    land-counts j (Some q) = still x _ false (plainly _ tt) (counts-alike _ _ refl refl) refl refl
+    land-counts j (Some q) = still x _ false (plainly _ tt) (counts-alike _ _ refl refl) refl refl refl
 
     moved-counts : (a : Answered Heap) → HasMoved s.peers.heap a.state → IsPlain a.reply → OnTable x (on_peer_heap s.peers a)
-    moved-counts a m h = still x (on_peer_heap s.peers a) false (plainly a.reply h) (counts-moved s.peers.heap a.state m) refl refl
+    moved-counts a m h = still x (on_peer_heap s.peers a) false (plainly a.reply h) (counts-moved s.peers.heap a.state m) refl refl refl
 
   -- the lines of a peer thread
   line-counts : (t : ℕ) (a : Act) → PeerCounts s (peer_thread_line s t a).state.peers (peer_thread_line s t a).state.table (op.Line a) (peer_thread_line s t a).reply
   line-counts t (act.NewPeer v n) = test-cases (OnTable (op.Line (act.NewPeer v n))) (is_full s.peers.heap.fields) _ _
       (stays (op.Line (act.NewPeer v n)) says.Full (record { makes = refl; gives = refl; takes = refl; none = refl }))
-      (still (op.Line (act.NewPeer v n)) _ true (record { makes = refl; gives = refl; takes = refl; none = refl }) (counts-object s.peers.heap _ (with_object-length s.peers.heap n) refl k.heap.freed) refl refl)
+      (still (op.Line (act.NewPeer v n)) _ true (record { makes = refl; gives = refl; takes = refl; none = refl }) (counts-object s.peers.heap _ (with_object-length s.peers.heap n) refl k.heap.freed) refl refl refl)
   line-counts t (act.Copy v w) = moved-counts (op.Line (act.Copy v w)) (λ r. refl) (λ r. refl) (λ r. refl) _ (copied-moved peer_name s.peers.heap (place t v.0) (place t w.0)) (peer_line-plain s.peers (table_target s) t (act.Copy v w))
   line-counts t (act.Set v i w) = moved-counts (op.Line (act.Set v i w)) (λ r. refl) (λ r. refl) (λ r. refl) _ (field_set-moved s.peers.heap (place t v.0) i (place_or_none t w)) (peer_line-plain s.peers (table_target s) t (act.Set v i w))
   line-counts t (act.Get v w i) = moved-counts (op.Line (act.Get v w i)) (λ r. refl) (λ r. refl) (λ r. refl) _ (field_got-moved peer_name s.peers.heap (place t v.0) (place t w.0) i) (peer_line-plain s.peers (table_target s) t (act.Get v w i))
@@ -189,7 +187,7 @@ module _ (s : PeerReplay) (k : IsPeerKept s) (names : AreNamesKept s.peers.names
   swept-counts (Some mk) t freed up live = test-cases (λ (a : Answered PeerReplay). PeerCounts s a.state.peers a.state.table op.Sweep a.reply) (is_thread t C || is_thread t mk.by) _ _
       (record {
         heap = counts-freed s.peers.heap _ freed refl refl up live;
-        issued = omega arith;
+        made = omega arith;
         tabled = (let count = rows-swept freed s.peers.issued s.table k.handles.places in omega (arith, count));
         names = names-swept s.peers.names s.table names freed s.peers.issued k.handles.places;
       })
@@ -223,13 +221,22 @@ module _ (s : PeerReplay) (k : IsPeerKept s) (names : AreNamesKept s.peers.names
       let count = rows-set s.table h row (Some now) e in
       counted s.peers _ o r false false false w (counts-stay s.peers.heap) (omega arith) (omega (arith, count)) (names-reset s.peers.names s.table names h row now e)
 
+  -- the handle goes, and one comes on its peer
+  renewed-counts : (n : HNum) (row : TableRow) → IsTabled s.table n.0 row → IsHeld s n.0 → (x : Option ℕ) → PeerCounts s (renewed_on s n.0 x).state.peers (renewed_on s n.0 x).state.table (op.Restore n) (renewed_on s n.0 x).reply
+  renewed-counts n row e w None = removed-counts (op.Restore n) says.Cleared n.0 row refl refl refl refl e w
+  renewed-counts n row e w (Some p) =
+      let gone = rows-set s.table n.0 row None e in
+      let put = rows-put (numbered_set s.table n.0 None) (record { strength = strong; cleared = false }) in
+      counted (with_renewed s.peers p) _ (op.Restore n) _ false false false (record { makes = refl; gives = refl; takes = refl; none = refl }) (counts-alike _ _ refl refl) (omega arith) (omega (arith, gone, put))
+      (names-grown s.peers.names (numbered_set s.table n.0 None) (names-gone s.peers.names s.table names n.0 (not-named n.0 w)) _)
+
   restored-counts : (n : HNum) (x : Option TableRow) → row_of s n.0 ≡ x → IsHeld s n.0 → (row : TableRow) → row_of s n.0 ≡ Some row → PeerCounts s (restored_by s n.0 x).state.peers (restored_by s n.0 x).state.table (op.Restore n) (restored_by s n.0 x).reply
   restored-counts n None e w row q = absurd (none_some row (sym e ∙ q))
   restored-counts n (Some old) e w row q = test-cases (λ (a : Answered PeerReplay). PeerCounts s a.state.peers a.state.table (op.Restore n) a.reply) old.cleared _ _
       (removed-counts (op.Restore n) says.Cleared n.0 old refl refl refl refl (tabled_row s n.0 old e) w)
-      (reset-counts (op.Restore n) says.Alive n.0 old _ (record { makes = refl; gives = refl; takes = refl; none = refl }) (tabled_row s n.0 old e))
+      (renewed-counts n old (tabled_row s n.0 old e) w (peer_of s.peers.issued n.0))
 
-  mirrored-counts : (n : ℕ) (cites : Option ℕ) (refs : List (ℕ × ℕ)) (o : Op) (r : Reply) → Says o r false false false → PeerCounts s (mirrored s n cites refs).peers (mirrored s n cites refs).table o r
+  mirrored-counts : (n : ℕ) (cites : Option ℕ) (refs : List (End × End)) (o : Op) (r : Reply) → Says o r false false false → PeerCounts s (mirrored s n cites refs).peers (mirrored s n cites refs).table o r
   mirrored-counts n None refs o r w = here o r w
   mirrored-counts n (Some snap) refs o r w = here o r w
 

@@ -27,9 +27,9 @@ unfreed h = others_up_to h.freed (length h.fields)
 abbrev pub AddsUp : Heap → Type 0
 AddsUp h = unfreed h + length h.freed ≡ length h.fields
 
--- what was made up to a state: the objects of both heaps, and the handles
+-- what was made up to a state: the objects of both heaps, and the handles, without those that restores gave
 abbrev pub made_in : Linkage → Objects
-made_in s = record { managed = length s.managed.managed.heap.fields; peers = length s.peer.peers.heap.fields; handles = length s.peer.peers.issued }
+made_in s = record { managed = length s.managed.managed.heap.fields; peers = length s.peer.peers.heap.fields; handles = s.peer.peers.made }
 
 -- what is left: the objects that aren't freed, and the handles in the table
 abbrev pub left_in : Linkage → Objects

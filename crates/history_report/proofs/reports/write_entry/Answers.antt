@@ -18,9 +18,10 @@ returns-in-Some g c =
     let list = after_spaces (list_words c.args.h.now c.in-Some.numbers c.in-Some.span) in
     let w = c.in_ok-make_room.ensures.sent in
     let held = BuffersText-put (g.K.Sink.held c.args.out.now) (g.K.Sink.held c.make_room.new.out) c.args.line.now.text c.make_room.new.self.text c.add_head.new.line.text [] head w.whole c.add_head.ensures.added in
-    rw (← c.in-Some.ensures)
+    let is = rw c.reply.ensures at c.in-Some.ensures in
+    rw (← is)
     (Sends-after (g.K.Sink.held c.args.out.now) (g.K.Sink.held c.make_room.new.out) (g.K.Sink.held c.write_listed.new.out) c.args.line.now.text c.add_head.new.line.text c.write_listed.new.line.text (g.K.Sink.faults c.args.out.now) (g.K.Sink.faults c.make_room.new.out) (g.K.Sink.faults c.write_listed.new.out) c.write_listed.result
-    head (list ++ tail) held w.cause.later c.write_listed.ensures)
+    head (list ++ tail) held w.cause.later (rw c.cites.ensures at c.write_listed.ensures))
 
 pub returns-in-None : goal.returns-in-None
 returns-in-None g c =
@@ -28,6 +29,7 @@ returns-in-None g c =
     let tail = tail_text c.args.entry.now.made.cites in
     let w = c.in_ok-make_room.ensures.sent in
     let o = c.make_room.new.self.text in
-    let piece : c.add_tail.new.line.text ≡ o ++ (head ++ tail) = c.add_tail.ensures.added ∙ (ap (λ t. t ++ tail) c.add_head.ensures.added ∙ append_assoc o head tail) in
-    rw (← c.in-None.ensures)
+    let piece : c.add_tail.new.line.text ≡ o ++ (head ++ tail) = (rw c.cites-in-None.ensures at c.add_tail.ensures.added) ∙ (ap (λ t. t ++ tail) c.add_head.ensures.added ∙ append_assoc o head tail) in
+    let is = rw c.reply.ensures at c.in-None.ensures in
+    rw (← is)
     (Sends-put (g.K.Sink.held c.args.out.now) (g.K.Sink.held c.make_room.new.out) c.args.line.now.text o c.add_tail.new.line.text (g.K.Sink.faults c.args.out.now) (g.K.Sink.faults c.make_room.new.out) _ [] (head ++ tail) w.whole w.cause.later piece)
