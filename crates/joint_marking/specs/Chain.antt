@@ -22,6 +22,6 @@ chain_handle p = record { peer = p; hold = held; strength = strong }
 abbrev pub chain : Graph
 chain = record {
   managed = record { heap = chain_objects; kinds = []; held = Some 1 ∷ Some 2 ∷ Some 3 ∷ []; pins = []; cells = []; notices = []; taken = 0; cycle = None; cycles = 0 };
-  peers = record { heap = chain_peers; sorts = []; names = []; issued = chain_handle 1 ∷ chain_handle 2 ∷ chain_handle 3 ∷ [] };
+  peers = record { heap = chain_peers; sorts = []; names = []; issued = chain_handle 1 ∷ chain_handle 2 ∷ chain_handle 3 ∷ []; made = 3 };
   removed = false ∷ false ∷ false ∷ [];
 }

@@ -12,3 +12,5 @@ mod Snapshots
 mod Twinning
 pub mod Lifting
 pub mod Growing
+pub mod Answering
+pub mod Restoring

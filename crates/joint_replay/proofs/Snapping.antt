@@ -1,6 +1,6 @@
 -- Snapshots and resolutions from what was found. Both are exact and rising lists, so there is only one of each: a reply
 -- that names other rows is no step.
-use Rattle.std.proofs.Common.{◌≡◌, ℕ, ◌+◌, ◌<◌, ◌≤◌, ◌↔◌, inl, inr, Bool, true, false, not, List, length, Option, Some, None, refl, sym, ap, subst, ◌∙◌, arith, if◌then◌else◌}
+use Rattle.std.proofs.Common.{replicate, ◌≡◌, ℕ, ◌+◌, ◌<◌, ◌≤◌, ◌↔◌, inl, inr, Bool, true, false, not, List, length, Option, Some, None, refl, sym, ap, subst, ◌∙◌, arith, if◌then◌else◌}
 use Rattle.std.specs.Prelude.{Contains, All, filter}
 use Rattle.std.proofs.lemmas.List.Elements.{All-contains}
 use Rattle.joint_model.specs.declared.names.Span.{Span}
@@ -11,18 +11,23 @@ use Rattle.joint_model.specs.Cycles.{IsSnapshot, snap_reply, IsResolution, resol
 use Rattle.joint_model.specs.Heaps.{Heap, IsMade, numbered_at, is_freed}
 use Rattle.joint_model.specs.Histories.{Finished}
 use Rattle.joint_model.specs.Joint.{Joint, with_managed}
-use Rattle.joint_model.specs.Managed.{Managed, OpenCycle, Holds, IsBridgeReached, handle_of, with_snapshot}
+use Rattle.joint_model.specs.Managed.{Managed, OpenCycle, Holds, IsBridgeReached, handle_of, candidates_of, with_snapshot}
 use Rattle.joint_model.specs.Peers.{Peers, peer_of}
+use Rattle.joint_model.specs.Told.{Answer}
 use Rattle.joint_model.specs.Run.{IsKept, JointResolve}
 use Rattle.joint_model.proofs.Members.{All-members, Contains-filter_from, Contains-filter_to, Rises-one, Rises-filter}
 use Rattle.joint_model.proofs.Deciding.{true-false, not-from, some-same}
 use Rattle.joint_model.proofs.HeapLemmas.{Holds-handle_of}
 use Rattle.joint_replay.proofs.Snapshots.{handle-reached, bridge-row, row-bridge}
 use Rattle.reachability.specs.Marks.{HasMark, unmarked_of}
-use Rattle.joint_replay.specs.Judging.{named_objects}
+use Rattle.joint_replay.specs.declared.state.Verdict.{Verdict}
+use Rattle.joint_replay.specs.declared.state.Verdict.TheVariants.{Lawful, Unlawful}
+use Rattle.joint_replay.specs.Answers.{AreAnswered, given_in, Awaits}
+use Rattle.joint_replay.specs.Judging.{named_objects, Decides}
 use Rattle.joint_replay.specs.Found.{IsHandleReached}
 use Rattle.joint_replay.specs.Finding.{FindsRows}
 use Rattle.joint_replay.specs.Snaps.{SnapsManaged, SaysSnap, SaysFreed, OwesDead, IsKeptReached, closed, keeps, Settles, SnapsJoint}
+use Rattle.joint_replay.proofs.Answering.{all-answered}
 use Rattle.joint_replay.proofs.Finding.{marks-open}
 use Rattle.joint_replay.proofs.Flags.{is_freed-exact}
 use Rattle.reachability.proofs.Marking.{unmarked_of-exact}
@@ -183,14 +188,25 @@ freed-said s h (says.Freed span) freed w = (w.named, ap says.Freed (span-is span
 freed-said s h _ freed w = absurd w
 
 -- a reply that says so is the resolution's
-pub resolve-yes : (j : Joint) (h : Finished) (reply : Reply) (k : ℕ) (freed : List ℕ) → Settles j k freed → SaysFreed j.graph.managed.heap h reply freed → JointResolve j k (named_objects h reply) reply (closed j freed)
-resolve-yes j h reply k freed x w =
+pub resolve-yes : (j : Joint) (h : Finished) (reply : Reply) (k : ℕ) (freed : List ℕ) → AreAnswered j → Settles j k freed → SaysFreed j.graph.managed.heap h reply freed → JointResolve j k (named_objects h reply) reply (closed j freed)
+resolve-yes j h reply k freed answered x w =
     let r = freed-said j.graph.managed h reply freed w in
-    subst (λ f. JointResolve j k f reply (closed j freed)) (sym r.0) (record { cycle = x.cycle; open_cycle = x.open_cycle; resolution = x.resolution; replies = r.1; state = refl })
+    subst (λ f. JointResolve j k f reply (closed j freed)) (sym r.0)
+    (record { cycle = x.cycle; open_cycle = x.open_cycle; answers = given_in j.answers; all_answered = all-answered j answered; resolution = x.resolution; replies = r.1; state = refl })
 
--- the managed snapshot is the joint one
-pub snap-joint : (j : Joint) (k : ℕ) (freed : List ℕ) (reply : Reply) (m : Managed) → SnapsManaged j.graph.managed k freed reply m → SnapsJoint j k freed reply (with_managed j m)
-snap-joint j k freed reply m x = record { candidates = x.candidates; dead = x.dead; snap = record { snapshot = x.snapshot; replies = x.replies; state = ap (λ (z : Managed). with_managed j z) x.state } }
-
-pub joint-snap : (j : Joint) (k : ℕ) (freed : List ℕ) (reply : Reply) (n : Joint) → SnapsJoint j k freed reply n → (m : Managed) × SnapsManaged j.graph.managed k freed reply m
-joint-snap j k freed reply n x = (with_snapshot j.graph.managed freed x.candidates x.dead, record { candidates = x.candidates; dead = x.dead; snapshot = x.snap.snapshot; replies = x.snap.replies; state = refl })
+-- a verdict on the managed snapshot is one on the joint one
+pub snap-decided : (j : Joint) (k : ℕ) (named : List ℕ) (reply : Reply) (d : Verdict) (m : Managed) (answers : List (Option Answer)) → Decides (SnapsManaged j.graph.managed k named reply) d j.graph.managed m → Awaits d (candidates_of m) j.answers answers
+    → Decides (SnapsJoint j k named reply) d j (record (with_managed j m) { answers = answers })
+snap-decided j k named reply Lawful m answers x w = record {
+  candidates = x.candidates;
+  dead = x.dead;
+  snap = record {
+    snapshot = x.snapshot;
+    replies = x.replies;
+    state = ap (λ (z : List (Option Answer)). record (with_managed j m) { answers = z }) w ∙ ap (λ (z : Managed). record (with_managed j z) { answers = replicate (length (candidates_of z)) None }) x.state;
+  };
+}
+snap-decided j k named reply Unlawful m answers x w = (
+  λ n s. x.0 (with_snapshot j.graph.managed named s.candidates s.dead) (record { candidates = s.candidates; dead = s.dead; snapshot = s.snap.snapshot; replies = s.snap.replies; state = refl }),
+  ap (λ (z : List (Option Answer)). record (with_managed j m) { answers = z }) w ∙ ap (λ (z : Managed). with_managed j z) x.1,
+)

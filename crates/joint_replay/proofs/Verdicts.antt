@@ -21,7 +21,7 @@ use Rattle.joint_model.specs.Joint.{Joint, JointMarking, with_managed}
 use Rattle.joint_model.specs.Lines.{IsEvent, is_read}
 use Rattle.joint_model.specs.Linked.{is_joint}
 use Rattle.joint_model.specs.Managed.{Managed}
-use Rattle.joint_model.specs.Run.{JointEvent, JointComputed, JointAbandon, JointSnap, JointBegin, JointSweep, JointResolve, IsComputed, joint_answer, joint_line}
+use Rattle.joint_model.specs.Run.{JointEvent, JointComputed, JointAbandon, JointSnap, JointBegin, JointSweep, JointRestore, JointResolve, IsComputed, joint_answer, joint_line}
 use Rattle.joint_model.specs.Readers.{is_set_aside}
 use Rattle.joint_model.specs.Told.{Told, nothing, snap_of, contraction_of, references_of, begin_of, slice_of, sweep_of, resolution_of, phase_of, kept_pins}
 use Rattle.joint_replay.specs.declared.state.Verdict.{Verdict}
@@ -101,6 +101,10 @@ judged-objects h e j (inr (inl w)) event d new x = judged-computed h e j (op.Len
 judged-objects h e j (inr (inr (inl w))) event d new x = judged-computed h e j (op.Meet w.0 w.1 w.2 w.3 w.4) tt (λ told n s. s) (λ n s. s) w.5 event d new (subst (λ o. Decides (Gives (joint_answer j e.made.caller o) e.made.reply) d j new) w.5 x)
 judged-objects h e j (inr (inr (inr w))) event d new x = judged-computed h e j (op.Give w.0) tt (λ told n s. s) (λ n s. s) w.1 event d new (subst (λ o. Decides (Gives (joint_answer j e.made.caller o) e.made.reply) d j new) w.1 x)
 
+pub judged-restore : (h : Finished) (e : Entry) (j : Joint) (g : HNum) → e.made.op ≡ op.Restore g → IsEvent e.made.caller e.made.op → (d : Verdict) (new : Joint)
+    → Decides (JointRestore j g.0 e.made.reply) d j new → JudgesStep h e d j new
+judged-restore h e j g same event = judged h e j (op.Restore g) _ same event (λ n s. s.step) (λ n s. record { told = nothing; named = tt; step = s })
+
 pub judged-abandon : (h : Finished) (e : Entry) (j : Joint) (k : Cycle) → e.made.op ≡ op.Abandon k → IsEvent e.made.caller e.made.op → (d : Verdict) (new : Joint)
     → Decides (JointAbandon j k.0 e.made.reply) d j new → JudgesStep h e d j new
 judged-abandon h e j k same event = judged h e j (op.Abandon k) _ same event (λ n s. s.step) (λ n s. record { told = nothing; named = tt; step = s })
@@ -110,7 +114,7 @@ snap-from : (h : Finished) (e : Entry) (j next : Joint) (k : Cycle) (told : Told
 snap-from h e j next k (snap_of freed candidates dead) named s = record { candidates = candidates; dead = dead; snap = subst (λ l. JointSnap j k.0 l candidates dead e.made.reply next) named s }
 snap-from h e j next k (kept_pins pins told) named s = absurd s
 snap-from h e j next k nothing named s = absurd s
-snap-from h e j next k (contraction_of comps xrefs) named s = absurd s
+snap-from h e j next k (contraction_of comps heavy xrefs) named s = absurd s
 snap-from h e j next k (references_of refs) named s = absurd s
 snap-from h e j next k (begin_of unreached) named s = absurd s
 snap-from h e j next k (slice_of closure) named s = absurd s
@@ -129,7 +133,7 @@ resolve-from : (h : Finished) (e : Entry) (j next : Joint) (k : Cycle) (told : T
 resolve-from h e j next k (resolution_of alive freed) named s = subst (λ l. JointResolve j k.0 l e.made.reply next) named s
 resolve-from h e j next k (kept_pins pins told) named s = absurd s
 resolve-from h e j next k nothing named s = absurd s
-resolve-from h e j next k (contraction_of comps xrefs) named s = absurd s
+resolve-from h e j next k (contraction_of comps heavy xrefs) named s = absurd s
 resolve-from h e j next k (references_of refs) named s = absurd s
 resolve-from h e j next k (begin_of unreached) named s = absurd s
 resolve-from h e j next k (slice_of closure) named s = absurd s
@@ -154,7 +158,7 @@ sweep-from h t reply j next None told named s = s
 sweep-from h t reply j next (Some m) (sweep_of freed) named s = subst (λ l. JointSweep j (Some m) t reply (sweep_of l) next) named s
 sweep-from h t reply j next (Some m) (kept_pins pins told) named s = inr s
 sweep-from h t reply j next (Some m) nothing named s = inr s
-sweep-from h t reply j next (Some m) (contraction_of comps xrefs) named s = inr s
+sweep-from h t reply j next (Some m) (contraction_of comps heavy xrefs) named s = inr s
 sweep-from h t reply j next (Some m) (references_of refs) named s = inr s
 sweep-from h t reply j next (Some m) (begin_of unreached) named s = inr s
 sweep-from h t reply j next (Some m) (slice_of closure) named s = inr s

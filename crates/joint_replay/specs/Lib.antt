@@ -6,3 +6,4 @@ pub mod Snaps
 pub mod Graphs
 pub mod Found
 pub mod Operations
+pub mod Answers

@@ -1,6 +1,6 @@
 -- Snapshots, resolutions and sweeps, with the freed rows that are told. (The definitions are the joint model's; only
 -- their result is named here.)
-use Rattle.std.specs.Prelude.{◌≡◌, ℕ, ◌+◌, ◌≤◌, ◌⊎◌, Bool, false, not, List, Option, Some, None, All, Contains, filter, filter_map, length}
+use Rattle.std.specs.Prelude.{◌≡◌, ℕ, ◌+◌, ◌≤◌, ◌⊎◌, Bool, false, not, List, [], Option, Some, None, All, Contains, filter, length}
 use Rattle.joint_model.specs.declared.names.Span.{Span}
 use Rattle.joint_model.specs.declared.names.Thread.{Thread}
 use Rattle.joint_model.specs.declared.names.Thread.TheVariants.{C}
@@ -8,15 +8,16 @@ use Rattle.joint_model.specs.declared.events.Reply.TheVariants as says
 use Rattle.joint_model.specs.declared.events.Reply.{Reply}
 use Rattle.joint_model.specs.Components.{Rises}
 use Rattle.joint_model.specs.Cycles.{IsSnapshot, snap_reply, IsResolution, IsOpen}
-use Rattle.joint_model.specs.Heaps.{Heap, IsMade, is_freed}
+use Rattle.joint_model.specs.Heaps.{Heap, IsMade, is_freed, numbered_at}
 use Rattle.joint_model.specs.Histories.{Finished, managed_numbers, peer_numbers, stretch}
-use Rattle.joint_model.specs.Joint.{Joint, JointMarking, IsReached, peer}
-use Rattle.joint_model.specs.Managed.{Managed, OpenCycle, with_snapshot, resolved, handle_of}
+use Rattle.joint_model.specs.Joint.{Joint, JointMarking, IsReached, peer, with_managed}
+use Rattle.joint_model.specs.Managed.{Managed, OpenCycle, with_snapshot, resolved, handle_of, Holds}
 use Rattle.joint_model.specs.Peers.{Peers, peer_of}
-use Rattle.joint_model.specs.Run.{IsKept, JointSnap, IsStored, EndsMarking, removed_all}
+use Rattle.joint_model.specs.Run.{IsKept, JointSnap, IsStored, EndsMarking}
 use Rattle.joint_model.specs.Walks.{Reached}
 use Rattle.heap_rules.specs.Tidy.{live_fields}
 use Rattle.reachability.specs.Marks.{Leads}
+use Rattle.joint_replay.specs.Answers.{given_in}
 use Rattle.joint_replay.specs.Plain.{cleaned}
 
 -- a snapshot that frees these rows
@@ -72,9 +73,19 @@ pub record Settles (j : Joint) (k : ℕ) (freed : List ℕ) : Type 0 where
   pub resolution : IsResolution j.graph.managed cycle.dead (IsKept j cycle) freed
   pub made : All (IsMade j.graph.managed.heap) freed
 
--- the open cycle is closed, these rows are freed, and the handles that they hold are removed
+-- the open cycle is closed, these rows are freed, and each kept candidate holds the handle that its restore gave
 abbrev pub closed : Joint → List ℕ → Joint
-closed j freed = record j { graph = record j.graph { managed = resolved j.graph.managed freed; removed = removed_all j.graph.removed (filter_map (handle_of j.graph.managed) freed) } }
+closed j freed = record (with_managed j (resolved j.graph.managed (given_in j.answers) freed)) { answers = [] }
+
+-- a candidate of the open cycle holds the handle
+abbrev pub HasCandidate : Managed → ℕ → Type 0
+HasCandidate s h = (c : OpenCycle) × (s.cycle ≡ Some c) × ((m : ℕ) × Contains c.candidates m × Holds s m h)
+
+-- a handle may be restored, on that peer
+pub record MayRestore (j : Joint) (h p : ℕ) : Type 0 where
+  pub candidate : HasCandidate j.graph.managed h
+  pub kept : numbered_at j.graph.removed h ≡ Some false
+  pub leads : peer_of j.graph.peers.issued h ≡ Some p
 
 -- the reply is that of a sweep of marking n, and its span stands where the next freed peers come
 abbrev pub SaysSwept : Heap → Finished → Reply → ℕ → Type 0

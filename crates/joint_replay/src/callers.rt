@@ -19,9 +19,10 @@ pub(crate) fn can_make(caller: Thread, op: &Op) -> bool
 {
     match op {
         Op::Line(act) => is_line(caller, act),
-        Op::Snap { cycle: _ } | Op::Resolve { cycle: _ } | Op::Abandon { cycle: _ } => {
-            matches!(caller, Thread::C)
-        }
+        Op::Snap { cycle: _ }
+        | Op::Restore { h: _ }
+        | Op::Resolve { cycle: _ }
+        | Op::Abandon { cycle: _ } => { matches!(caller, Thread::C) }
         Op::Begin | Op::Sweep => is_peer(caller) || matches!(caller, Thread::C),
         _ => is_managed(caller) && is_bridge_event(op),
     }

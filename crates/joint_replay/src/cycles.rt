@@ -4,15 +4,16 @@ ghost use Rattle.std.specs.Prelude.{◌≡◌, ℕ, ◌<◌, ◌↔◌, IsTrue, 
 ghost use Rattle.joint_model.specs.Heaps.{IsMade};
 ghost use Rattle.joint_model.specs.Joint.{Joint};
 ghost use Rattle.joint_model.specs.Run.{JointAbandon, JointResolve};
+ghost use Rattle.joint_replay.specs.Answers.{AreAnswered};
 ghost use Rattle.joint_replay.specs.Plain.{HasOpen};
 ghost use Rattle.joint_replay.specs.Snaps.{SnapsJoint, Settles, SaysFreed, IsKeptReached, closed, keeps};
 ghost use Rattle.reachability.specs.Marks.{HasMark, unmarked_of};
 ghost use Rattle.joint_replay.specs.Judging.{Decides, named_objects};
 
+use crate::answers::{are_given, are_missing};
 use crate::managed::ManagedPart;
 use crate::marking::is_marked;
 use crate::peers::PeerPart;
-use crate::removed::remove_all;
 use crate::replies::says_ok;
 use crate::state::{JointState, Verdict};
 use joint_model::{Cycle, History, Reply};
@@ -30,7 +31,9 @@ impl JointState {
         ensures ok { IfOk result (λ d. Decides (SnapsJoint self.old k.0 (named_objects h.now reply.now) reply.now) d self.old self.new) }
         ensures err { OnErr result (self.new ≡ self.old) }
     {
-        let verdict = self.managed.snap(self.alloc, h, k, reply)?;
+        let verdict = self
+            .managed
+            .snap(self.alloc, h, k, reply, &mut self.answers)?;
         Ok(verdict)
     }
 
@@ -58,8 +61,11 @@ impl JointState {
         k: Cycle,
         reply: &Reply,
     ) -> Result<Option<Vec<u32>>, AllocError>
-        ensures { IfOk result (λ o. MatchOption o ((next : Joint) → JointResolve self.now k.0 (named_objects h.now reply.now) reply.now next → ⊥) (λ v. JointResolve self.now k.0 (named_objects h.now reply.now) reply.now (closed self.now v.items) × All (IsMade self.now.graph.managed.heap) v.items)) }
+        ensures { IfOk result (λ o. MatchOption o ((next : Joint) → JointResolve self.now k.0 (named_objects h.now reply.now) reply.now next → ⊥) (λ v. JointResolve self.now k.0 (named_objects h.now reply.now) reply.now (closed self.now v.items) × All (IsMade self.now.graph.managed.heap) v.items × AreAnswered self.now)) }
     {
+        if !self.is_answered() {
+            return Ok(None);
+        }
         let Some(freed) = self.settled(k)? else {
             return Ok(None);
         };
@@ -70,16 +76,30 @@ impl JointState {
         Ok(Some(freed))
     }
 
+    // Whether each candidate has had its restore.
+    fn is_answered(&self) -> bool
+        ensures { IsTrue result ↔ AreAnswered self.now }
+    {
+        are_given(&self.answers)
+    }
+
+    // Whether none has.
+    fn is_unanswered(&self) -> bool
+        ensures { IsTrue result ↔ All (λ a. a ≡ None) self.now.answers }
+    {
+        are_missing(&self.answers)
+    }
+
     // The open cycle is closed, and these rows are freed. Answers `AllocError` where there is no memory; the state is
     // then as before.
     fn close(&mut self, freed: &[u32]) -> Result<(), AllocError>
-        requires { All (IsMade self.old.graph.managed.heap) freed.now }
+        requires made { All (IsMade self.old.graph.managed.heap) freed.now }
+        requires given { AreAnswered self.old }
         ensures ok { OnOk result (self.new ≡ closed self.old freed.now) }
         ensures err { OnErr result (self.new ≡ self.old) }
     {
-        let handles = self.managed.handles_of(self.alloc, freed)?;
-        self.managed.close(self.alloc, freed)?;
-        remove_all(&handles, &mut self.removed);
+        self.managed.close(self.alloc, &self.answers, freed)?;
+        self.answers = Vec::new(self.alloc);
         Ok(())
     }
 
@@ -109,10 +129,11 @@ impl JointState {
     pub(crate) fn abandon(&mut self, k: Cycle, reply: &Reply) -> Verdict
         ensures { Decides (JointAbandon self.old k.0 reply.now) result self.old self.new }
     {
-        if !self.managed.is_open(k) || !says_ok(reply) {
+        if !self.managed.is_open(k) || !self.is_unanswered() || !says_ok(reply) {
             return Verdict::Unlawful;
         }
         self.managed.abandon();
+        self.answers = Vec::new(self.alloc);
         Verdict::Lawful
     }
 }

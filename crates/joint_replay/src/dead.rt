@@ -60,7 +60,6 @@ fn owned_handles(
     managed: &ManagedPart,
     handles: u32,
 ) -> Result<Vec<bool>, AllocError>
-    requires { handles ≤ MOST }
     ensures len { IfOk result (λ v. length v.items ≡ handles + 1) }
     ensures exact { IfOk result (λ v. (h : ℕ) → HasMark v.items h ↔ IsOwned managed.now (handles + 1) h) }
 {
@@ -97,8 +96,8 @@ fn push_rooted(
     requires { length owned.now ≡ length peers.now.issued + 1 }
     ensures { OnOk result (Gains (IsRootedIn peers.now removed.now owned.now) roots.old.items roots.new.items) }
 {
-    for h in 1..peers.handles() + 1 {
-        if let Some(p) = rooted_peer(peers, removed, owned, h) {
+    for h in 1..peers.handles() as usize + 1 {
+        if let Some(p) = rooted_peer(peers, removed, owned, h as u32) {
             roots.push(p)?;
         }
     }
@@ -136,8 +135,8 @@ fn is_root(row: Handle, owned: &[bool], h: u32) -> bool
     }
 }
 
-// Whether the handle isn't removed.
-fn is_kept(removed: &[bool], h: u32) -> bool
+/// Whether the handle isn't removed.
+pub(crate) fn is_kept(removed: &[bool], h: u32) -> bool
     ensures { IsTrue result ↔ (numbered_at removed.now h ≡ Some false) }
 {
     if h == 0 || h as usize > removed.len() {

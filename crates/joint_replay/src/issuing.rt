@@ -1,6 +1,6 @@
 // The events of the peers that issue a handle. Each handle has a flag in the list of those that were removed.
 
-ghost use Rattle.std.specs.Prelude.{◌≡◌, ◌<◌, ◌++◌, ◌∷◌, [], ◌||◌, IfOk, OnErr, OnOk, Some, None, true, false};
+ghost use Rattle.std.specs.Prelude.{◌≡◌, ◌<◌, ◌++◌, ◌∷◌, [], ◌||◌, IfOk, OnErr, OnOk, Some, None, true, false, length};
 ghost use Rattle.joint_model.specs.Heaps.{is_full, next_number};
 ghost use Rattle.joint_model.specs.Peers.{handles_full, with_handle, with_peer, held, strong, pair_made, gripped, globalised};
 ghost use Rattle.joint_replay.specs.Judging.{Decides, Flags, Gives};
@@ -103,7 +103,8 @@ impl PeerPart {
         strength: IssuedStrength,
         removed: &mut Vec<bool>,
     ) -> Result<(), AllocError>
-        requires { handles_full self.old ≡ false }
+        requires full { handles_full self.old ≡ false }
+        requires room { length self.old.issued < 4294967295 }
         ensures ok { OnOk result ((self.new ≡ with_handle self.old peer (hold_as hold) (strength_as strength)) × (removed.new.items ≡ removed.old.items ++ false ∷ [])) }
         ensures err { OnErr result ((self.new ≡ self.old) × (removed.new.items ≡ removed.old.items)) }
     {

@@ -7,7 +7,8 @@
 //         match state.replay_step(&history, i)? { Verdict::Lawful => .., Verdict::Unlawful => .. }
 //     }
 //
-// A [`JointState`] is the machine's state: the managed objects, the peers, and of each handle whether it was removed.
+// A [`JointState`] is the machine's state: the managed objects, the peers, of each handle whether it was removed, and of each
+// candidate of the open cycle what its restore answered.
 // It begins as the opening state. [`JointState::replay_step`] takes an entry of a history and says whether it is a step
 // of the machine from there; if it is, the state is the one after it. What an entry's line doesn't have in full, the
 // rows that a snapshot, a sweep or a resolution frees, is read from the history's own lists. [`JointState::judge`] does
@@ -17,7 +18,7 @@
 // such a mark, and be unreached still; the state makes a second marking for that.
 //
 // Every event is judged. What a cycle does between its snapshot and its end is no step of this machine, but for the
-// marking: the contraction, the references between peers, the weakening and restoring of handles, what clears a cycle,
+// marking and the restores: the contraction, the references between peers, the weakening of handles, what clears a cycle,
 // a refused phase, and a slice of a marking. An entry of such an event is unlawful, as is one that its caller can't make.
 // So is a read that is pending or finds its cell unset: readers take no lock, so such a read says what its reader could know, not what the machine has.
 //
@@ -28,6 +29,7 @@
 // step of the joint machine, and the state is then the one after it; else, and without memory, the state is as before.
 #![tactic(auto)]
 
+mod answers;
 mod both;
 mod callers;
 mod cycles;
@@ -47,6 +49,7 @@ mod peers;
 mod pins;
 mod removed;
 mod replies;
+mod restores;
 mod roots;
 mod state;
 mod sweeps;

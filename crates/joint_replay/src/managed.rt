@@ -1,11 +1,11 @@
 // The managed part of the joint state.
 
-ghost use Rattle.std.specs.Prelude.{◌≡◌, ℕ, ◌<◌, ◌≤◌, ◌↔◌, false, IsTrue, IfOk, OnErr, None, Contains, filter_map, length};
+ghost use Rattle.std.specs.Prelude.{◌≡◌, ℕ, ◌<◌, ◌≤◌, ◌↔◌, false, IsTrue, IfOk, OnErr, None, Contains, length};
 ghost use Rattle.joint_model.specs.Heaps.{IsLive, MOST};
 ghost use Rattle.joint_model.specs.Histories.{managed_numbers};
 ghost use Rattle.joint_model.specs.Lines.{IsManagedAct, IsManagedThread, IsOneEvent};
 ghost use Rattle.joint_model.specs.Managed.{opening_managed, on_heap, managed_name, managed_line, handle_of, IsManagedRoot};
-ghost use Rattle.joint_model.specs.Run.{thread_number};
+ghost use Rattle.joint_model.specs.Run.{thread_number, is_that_handle};
 ghost use Rattle.joint_replay.specs.Operations.{IsPlainAct, plain_line};
 ghost use Rattle.joint_replay.specs.Judging.{Decides, Gives};
 ghost use Rattle.joint_replay.specs.Snaps.{OwesDead};
@@ -138,11 +138,14 @@ impl ManagedPart {
         }
     }
 
-    /// The handles that the objects of a list hold. Answers `AllocError` where there is no memory.
-    pub(crate) fn handles_of(&self, alloc: Global, rows: &[u32]) -> Result<Vec<u32>, AllocError>
-        ensures { IfOk result (λ v. v.items ≡ filter_map (handle_of self.now) rows.now) }
+    /// Whether object `m` holds handle `h`; a freed one holds none.
+    pub(crate) fn gives(&self, m: u32, h: u32) -> bool
+        ensures { result ≡ is_that_handle (handle_of self.now m) h }
     {
-        rows.iter().filter_map(|m| self.handle(*m)).collect(alloc)
+        match self.handle(m) {
+            None => false,
+            Some(g) => g == h,
+        }
     }
 }
 

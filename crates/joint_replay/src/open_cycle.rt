@@ -1,14 +1,17 @@
 // The open cycle of the managed part, and the notices that its end queues.
 
-ghost use Rattle.std.specs.Prelude.{◌≡◌, ◌+◌, ◌<◌, ◌↔◌, false, IsTrue, IfOk, OnErr, OnOk, Some, None, MatchOption, All, filter, length};
+ghost use Rattle.std.specs.Prelude.{◌≡◌, ◌++◌, ◌+◌, ◌<◌, ◌↔◌, false, IsTrue, IfOk, OnErr, OnOk, Some, None, MatchOption, All, filter, length, map};
 ghost use Rattle.joint_model.specs.Cycles.{IsOpen};
-ghost use Rattle.joint_model.specs.Heaps.{IsMade};
-ghost use Rattle.joint_model.specs.Managed.{abandoned, holds_handle, notices_taken, with_snapshot, resolved};
+ghost use Rattle.joint_model.specs.Heaps.{IsMade, with_freed};
+ghost use Rattle.joint_model.specs.Managed.{abandoned, candidates_of, handle_of, holds_handle, notices_taken, with_snapshot, resolved};
+ghost use Rattle.joint_model.specs.Run.{answered_for, is_that_handle};
+ghost use Rattle.joint_replay.specs.Answers.{said_as, answers_as, given_in, renewed_by, Awaits};
 ghost use Rattle.joint_replay.specs.Plain.{HasOpen};
 ghost use Rattle.joint_replay.specs.Judging.{Decides, Gives, named_objects};
 ghost use Rattle.joint_replay.specs.Finding.{FindsRows};
-ghost use Rattle.joint_replay.specs.Snaps.{SnapsManaged, OwesDead, NamesFreed, SaysSnap};
+ghost use Rattle.joint_replay.specs.Snaps.{SnapsManaged, HasCandidate, OwesDead, NamesFreed, SaysSnap};
 
+use crate::answers::{Said, answer_each, renew_each, waiting};
 use crate::callers::number;
 use crate::found::{SnapshotRows, find};
 use crate::heap::put_all;
@@ -104,17 +107,20 @@ impl ManagedPart {
         }
     }
 
-    /// `snap`: cycle `k` is opened, with what the history says that it frees. Answers `AllocError` where there is no
-    /// memory; the part is then as before.
+    /// `snap`: cycle `k` is opened, with what the history says that it frees, and no candidate has an answer yet. Answers `AllocError`
+    /// where there is no memory; the part and the answers are then as before.
     pub(crate) fn snap(
         &mut self,
         alloc: Global,
         h: &History,
         k: Cycle,
         reply: &Reply,
+        answers: &mut Vec<Option<Said>>,
     ) -> Result<Verdict, AllocError>
         ensures ok { IfOk result (λ d. Decides (SnapsManaged self.old k.0 (named_objects h.now reply.now) reply.now) d self.old self.new) }
+        ensures answers { IfOk result (λ d. Awaits d (candidates_of self.new) (answers_as answers.old.items) (answers_as answers.new.items)) }
         ensures err { OnErr result (self.new ≡ self.old) }
+        ensures kept { OnErr result (answers.new.items ≡ answers.old.items) }
     {
         if !self.is_next(k) {
             return Ok(Verdict::Unlawful);
@@ -124,7 +130,9 @@ impl ManagedPart {
         if !lawful {
             return Ok(Verdict::Unlawful);
         }
+        let none = waiting(alloc, found.candidates.len())?;
         self.open(k, found)?;
+        *answers = none;
         Ok(Verdict::Lawful)
     }
 
@@ -179,19 +187,80 @@ impl ManagedPart {
         Ok(())
     }
 
-    /// Closes the open cycle and frees these rows, with a notice for each that holds a handle. Answers `AllocError` where
-    /// there is no memory; the part is then as before.
-    pub(crate) fn close(&mut self, alloc: Global, freed: &[u32]) -> Result<(), AllocError>
+    /// Closes the open cycle and frees these rows, with a notice for each that holds a handle; each candidate that was answered
+    /// alive then holds the handle that its restore gave. Answers `AllocError` where there is no memory; the part is then as
+    /// before.
+    pub(crate) fn close(
+        &mut self,
+        alloc: Global,
+        answers: &[Option<Said>],
+        freed: &[u32],
+    ) -> Result<(), AllocError>
+        requires made { All (IsMade self.old.heap) freed.now }
+        requires given { answers_as answers.now ≡ map Some (given_in (answers_as answers.now)) }
+        ensures ok { OnOk result (self.new ≡ resolved self.old (given_in (answers_as answers.now)) freed.now) }
+        ensures err { OnErr result (self.new ≡ self.old) }
+    {
+        self.free(alloc, freed)?;
+        self.end(answers);
+        Ok(())
+    }
+
+    // Frees these rows, with a notice for each that holds a handle. Answers `AllocError` where there is no memory; the part is
+    // then as before.
+    fn free(&mut self, alloc: Global, freed: &[u32]) -> Result<(), AllocError>
         requires { All (IsMade self.old.heap) freed.now }
-        ensures ok { OnOk result (self.new ≡ resolved self.old freed.now) }
+        ensures ok { OnOk result (self.new ≡ record self.old { heap = with_freed self.old.heap freed.now; notices = self.old.notices ++ filter (holds_handle self.old) freed.now }) }
         ensures err { OnErr result (self.new ≡ self.old) }
     {
         let queued = self.holders(alloc, freed)?;
         self.notices.reserve(queued.len())?;
         self.heap.free(freed)?;
         put_all(&queued, &mut self.notices);
-        self.cycle = None;
         Ok(())
+    }
+
+    // The open cycle is closed; each candidate that was answered alive holds the handle that its restore gave.
+    fn end(&mut self, answers: &[Option<Said>])
+        ensures { self.new ≡ record self.old { held = renewed_by self.old.held (candidates_of self.old) (answers_as answers.now); cycle = None } }
+    {
+        self.renew(answers);
+        self.cycle = None;
+    }
+
+    // Each candidate that was answered alive holds the handle that its restore gave.
+    fn renew(&mut self, answers: &[Option<Said>])
+        ensures { self.new ≡ record self.old { held = renewed_by self.old.held (candidates_of self.old) (answers_as answers.now) } }
+    {
+        if let Some(open) = &self.cycle {
+            renew_each(open.candidates(), answers, &mut self.held);
+        }
+    }
+
+    /// Whether a candidate of the open cycle holds handle `h`.
+    pub(crate) fn has_candidate(&self, h: u32) -> bool
+        ensures { IsTrue result ↔ HasCandidate self.now h }
+    {
+        match &self.cycle {
+            None => false,
+            Some(open) => !self.none_gives(open.candidates(), h),
+        }
+    }
+
+    // Whether no object of a list holds handle `h`.
+    fn none_gives(&self, rows: &[u32], h: u32) -> bool
+        ensures { IsTrue result ↔ All (λ m. is_that_handle (handle_of self.now m) h ≡ false) rows.now }
+    {
+        rows.iter().all(|m| !self.gives(*m, h))
+    }
+
+    /// Each candidate of the open cycle that holds handle `h` has had that answer.
+    pub(crate) fn answer(&self, h: u32, said: Said, answers: &mut Vec<Option<Said>>)
+        ensures { answers_as answers.new.items ≡ answered_for self.now h (said_as said) (candidates_of self.now) (answers_as answers.old.items) }
+    {
+        if let Some(open) = &self.cycle {
+            answer_each(self, open.candidates(), h, said, answers);
+        }
     }
 
     /// Closes the open cycle, and frees nothing.

@@ -1,10 +1,10 @@
 // The peers of the joint state, with the global names and the handles as they were issued.
 
-ghost use Rattle.std.specs.Prelude.{◌≡◌, ◌<◌, ◌≤◌, ◌↔◌, ◌||◌, IsTrue, IfOk, OnErr, OnOk, All, length, slice_set, false};
+ghost use Rattle.std.specs.Prelude.{◌≡◌, ◌<◌, ◌≤◌, ◌↔◌, ◌||◌, IsTrue, IfOk, OnErr, OnOk, MatchOption, All, length, slice_set, false};
 ghost use Rattle.std.specs.Option.{option_map};
-ghost use Rattle.joint_model.specs.Heaps.{MOST, IsMade, is_full, next_number, numbered_at, slot, with_static, fields_of, with_freed};
+ghost use Rattle.joint_model.specs.Heaps.{IsMade, is_full, next_number, numbered_at, slot, with_static, fields_of, with_freed};
 ghost use Rattle.joint_model.specs.Lines.{IsPeerThread};
-ghost use Rattle.joint_model.specs.Peers.{opening_peers, handles_full, with_handle, with_peer, held, strong, next_handle, peer_of, sort_of, on_peer_heap, peer_made, peer_name, peer_read, handle_name, landed};
+ghost use Rattle.joint_model.specs.Peers.{opening_peers, handles_full, with_handle, with_renewed, with_peer, held, strong, next_handle, peer_of, sort_of, on_peer_heap, peer_made, peer_name, peer_read, handle_name, landed};
 ghost use Rattle.joint_model.specs.Run.{thread_number};
 ghost use Rattle.joint_replay.specs.Judging.{Decides, Gives};
 ghost use Rattle.joint_replay.specs.Operations.{IsPlainAct, plain_line};
@@ -50,19 +50,19 @@ pub(crate) struct PeerPart {
     sorts: Vec<Sort>,
     names: [Option<u32>; NAMES],
     handles: Vec<Handle>,
+    made: usize,
 }
 
 impl Model for PeerPart {
     ghost use Rattle.std.specs.Prelude.{◌≡◌, ◌≤◌, map, length};
-    ghost use Rattle.joint_model.specs.Heaps.{MOST};
     ghost use Rattle.joint_model.specs.Peers.{Peers};
     ghost use Rattle.joint_replay.specs.Plain.{issued_as};
 
     ghost Value = { Peers };
 
-    ghost view = { λ s. record { heap = s.heap; sorts = s.sorts.items; names = s.names; issued = map issued_as s.handles.items } };
+    ghost view = { λ s. record { heap = s.heap; sorts = s.sorts.items; names = s.names; issued = map issued_as s.handles.items; made = s.made } };
 
-    ghost invariant = { λ s. (length s.handles.items ≤ MOST) × (length s.names ≡ 64) };
+    ghost invariant = { λ s. (length s.handles.items ≤ 4294967295) × (length s.names ≡ 64) };
 }
 
 impl PeerPart {
@@ -75,6 +75,7 @@ impl PeerPart {
             sorts: Vec::new(alloc),
             names: [None; NAMES],
             handles: Vec::new(alloc),
+            made: 0,
         }
     }
 
@@ -87,8 +88,7 @@ impl PeerPart {
 
     /// How many handles were issued: the number of the last one.
     pub(crate) fn handles(&self) -> u32
-        ensures issued { result ≡ length self.now.issued }
-        ensures most { result ≤ MOST }
+        ensures { result ≡ length self.now.issued }
     {
         self.handles.len() as u32
     }
@@ -148,23 +148,25 @@ impl PeerPart {
         self.sorts[p as usize - 1]
     }
 
-    /// Whether all handles are given out.
+    /// Whether all handles are made; those that restores gave don't count.
     pub(crate) fn are_handles_full(&self) -> bool
         ensures { result ≡ handles_full self.now }
     {
-        self.handles.len() >= MOST_HANDLES
+        self.made >= MOST_HANDLES
     }
 
     /// Whether the number is the next handle's.
     pub(crate) fn is_next_handle(&self, h: u32) -> bool
-        ensures { IsTrue result ↔ (h ≡ next_handle self.now) }
+        ensures room { IsTrue result → length self.now.issued < 4294967295 }
+        ensures next { IsTrue result ↔ (h ≡ next_handle self.now) }
     {
         h as usize == self.handles.len() + 1
     }
 
     /// Whether the reply names peer `p`, the next handle, and the peer's sort and number of fields.
     pub(crate) fn names_gripped(&self, p: u32, reply: &Reply) -> bool
-        ensures { IsTrue result ↔ (reply.now ≡ Reply.Gripped record { 0 = p } record { 0 = next_handle self.now } (sort_of self.now p) (length (fields_of self.now.heap p))) }
+        ensures room { IsTrue result → length self.now.issued < 4294967295 }
+        ensures says { IsTrue result ↔ (reply.now ≡ Reply.Gripped record { 0 = p } record { 0 = next_handle self.now } (sort_of self.now p) (length (fields_of self.now.heap p))) }
     {
         match reply {
             Reply::Gripped(peer, h, sort, fields) => {
@@ -179,7 +181,8 @@ impl PeerPart {
 
     /// Whether the reply names the next handle.
     pub(crate) fn names_handle(&self, reply: &Reply) -> bool
-        ensures { IsTrue result ↔ (reply.now ≡ handle_name (next_handle self.now)) }
+        ensures room { IsTrue result → length self.now.issued < 4294967295 }
+        ensures says { IsTrue result ↔ (reply.now ≡ handle_name (next_handle self.now)) }
     {
         match reply {
             Reply::H(h) => self.is_next_handle(h.0),
@@ -194,7 +197,8 @@ impl PeerPart {
         hold: IssuedHold,
         strength: IssuedStrength,
     ) -> Result<(), AllocError>
-        requires { handles_full self.old ≡ false }
+        requires full { handles_full self.old ≡ false }
+        requires room { length self.old.issued < 4294967295 }
         ensures ok { OnOk result (self.new ≡ with_handle self.old peer (hold_as hold) (strength_as strength)) }
         ensures err { OnErr result (self.new ≡ self.old) }
     {
@@ -203,6 +207,7 @@ impl PeerPart {
             hold,
             strength,
         })?;
+        self.made += 1;
         Ok(())
     }
 
@@ -278,12 +283,13 @@ impl PeerPart {
     pub(crate) fn is_full(&self) -> bool
         ensures { result ≡ (is_full self.now.heap.fields || handles_full self.now) }
     {
-        self.heap.is_full() || self.handles.len() >= MOST_HANDLES
+        self.heap.is_full() || self.made >= MOST_HANDLES
     }
 
     /// Whether the reply names the next peer and the next handle.
     pub(crate) fn names_next(&self, reply: &Reply) -> bool
-        ensures { IsTrue result ↔ (reply.now ≡ Reply.Made record { 0 = next_number self.now.heap } record { 0 = next_handle self.now }) }
+        ensures room { IsTrue result → length self.now.issued < 4294967295 }
+        ensures says { IsTrue result ↔ (reply.now ≡ Reply.Made record { 0 = next_number self.now.heap } record { 0 = next_handle self.now }) }
     {
         match reply {
             Reply::Made(p, h) => {
@@ -296,7 +302,8 @@ impl PeerPart {
     /// A further peer and a held strong handle on it. Answers `AllocError` where there is no memory; the part is then as
     /// before.
     pub(crate) fn add_pair(&mut self, sort: Sort, fields: u8) -> Result<(), AllocError>
-        requires { (is_full self.old.heap.fields || handles_full self.old) ≡ false }
+        requires full { (is_full self.old.heap.fields || handles_full self.old) ≡ false }
+        requires room { length self.old.issued < 4294967295 }
         ensures ok { OnOk result (self.new ≡ with_handle (with_peer self.old sort fields) (next_number self.old.heap) held strong) }
         ensures err { OnErr result (self.new ≡ self.old) }
     {
@@ -310,6 +317,38 @@ impl PeerPart {
             hold: IssuedHold::Held,
             strength: IssuedStrength::Strong,
         });
+        self.made += 1;
+        Ok(())
+    }
+
+    /// The handle that the reply of a restore names, where that is the next one.
+    pub(crate) fn renewal(&self, reply: &Reply) -> Option<u32>
+        ensures { MatchOption result (reply.now ≡ Reply.Renewed record { 0 = next_handle self.now } → ⊥) (λ h. (h ≡ next_handle self.now) × (reply.now ≡ Reply.Renewed record { 0 = h }) × (length self.now.issued < 4294967295)) }
+    {
+        match reply {
+            Reply::Renewed(h) => {
+                if self.is_next_handle(h.0) {
+                    Some(h.0)
+                } else {
+                    None
+                }
+            }
+            _ => None,
+        }
+    }
+
+    /// A held strong handle on a peer, in place of one that a restore removes. Answers `AllocError` where there is no memory;
+    /// the part is then as before.
+    pub(crate) fn renew(&mut self, peer: u32) -> Result<(), AllocError>
+        requires { length self.old.issued < 4294967295 }
+        ensures ok { OnOk result (self.new ≡ with_renewed self.old peer) }
+        ensures err { OnErr result (self.new ≡ self.old) }
+    {
+        self.handles.push(Handle {
+            peer,
+            hold: IssuedHold::Held,
+            strength: IssuedStrength::Strong,
+        })?;
         Ok(())
     }
 }

@@ -9,6 +9,7 @@ ghost use Rattle.joint_model.specs.Lines.{is_read};
 ghost use Rattle.joint_model.specs.Readers.{is_set_aside};
 ghost use Rattle.joint_replay.specs.Judging.{Judges, JudgesStep, IsEntry};
 
+use crate::answers::Said;
 use crate::callers::can_make;
 use crate::managed::ManagedPart;
 use crate::marking::BegunMarking;
@@ -44,17 +45,19 @@ pub struct JointState {
     pub(crate) managed: ManagedPart,
     pub(crate) peers: PeerPart,
     pub(crate) removed: Vec<bool>,
+    pub(crate) answers: Vec<Option<Said>>,
     pub(crate) marking: Option<BegunMarking>,
     pub(crate) markings: u32,
 }
 
 impl Model for JointState {
     ghost use Rattle.joint_model.specs.Joint.{Joint};
+    ghost use Rattle.joint_replay.specs.Answers.{answers_as};
     ghost use Rattle.joint_replay.specs.Graphs.{KeepsStored};
 
     ghost Value = { Joint };
 
-    ghost view = { λ s. record { graph = record { managed = s.managed; peers = s.peers; removed = s.removed.items }; marking = s.marking; markings = s.markings } };
+    ghost view = { λ s. record { graph = record { managed = s.managed; peers = s.peers; removed = s.removed.items }; answers = answers_as s.answers.items; marking = s.marking; markings = s.markings } };
 
     ghost invariant = { λ s. KeepsStored s.peers s.marking };
 }
@@ -69,6 +72,7 @@ impl JointState {
             managed: ManagedPart::new(alloc),
             peers: PeerPart::new(alloc),
             removed: Vec::new(alloc),
+            answers: Vec::new(alloc),
             marking: None,
             markings: 0,
         })
@@ -123,6 +127,7 @@ impl JointState {
             Op::Snap { cycle } => self.snap(h, cycle, &made.reply),
             Op::Begin => self.begin(made.caller, &made.reply),
             Op::Sweep => self.sweep(h, made.caller, &made.reply),
+            Op::Restore { h } => self.restore(h.0, &made.reply),
             Op::Resolve { cycle } => self.resolve(h, cycle, &made.reply),
             Op::Abandon { cycle } => Ok(self.abandon(cycle, &made.reply)),
             _ => unreachable!(),

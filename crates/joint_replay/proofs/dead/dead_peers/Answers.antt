@@ -12,7 +12,7 @@ unreached_peers-requires-clause-objects c =
 pub unreached_peers-requires-clause-peers : goal.unreached_peers-requires-clause-peers
 unreached_peers-requires-clause-peers c =
     rw (c.deref-4.ensures.value, c.in_ok-roots-2.ensures, c.deref-2.ensures.value) (peer-roots c.args.managed.now c.args.peers.now c.args.removed.now c.in_ok-owned.owned.items c.in_ok-roots.roots.items c.push_rooted.new.roots.items
-    (rw c.handles.ensures.issued at c.in_ok-owned.ensures.exact) (rw c.heap.ensures at c.in_ok-roots.ensures) (rw c.deref.ensures.value at c.in_ok-push_rooted.ensures))
+    (rw c.handles.ensures at c.in_ok-owned.ensures.exact) (rw c.heap.ensures at c.in_ok-roots.ensures) (rw c.deref.ensures.value at c.in_ok-push_rooted.ensures))
 
 pub marks_of-requires-clause-within : goal.marks_of-requires-clause-within
 marks_of-requires-clause-within c =

@@ -22,4 +22,4 @@ loop-h-preserved c =
 
 pub returns : goal.returns
 returns c = gains-all (IsRooted c.args.peers.now c.args.removed.now c.args.owned.now) c.loop-h.h c.args.roots.now.items c.loop-h.roots.items
-    (λ i k l. rooted-below c.args.peers.now c.args.removed.now c.args.owned.now i k c.loop-h.h (omega (arith, c.loop-h-test.false, c.handles-h-end.ensures.issued)) l) c.loop-h.invariant
+    (λ i k l. rooted-below c.args.peers.now c.args.removed.now c.args.owned.now i k c.loop-h.h (omega (arith, c.loop-h-test.false, c.handles.ensures)) l) c.loop-h.invariant

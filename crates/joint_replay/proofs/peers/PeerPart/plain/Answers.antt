@@ -12,7 +12,7 @@ use Rattle.joint_replay.proofs.peers.PeerPart.plain.Goals as goal
 pub returns-clause-verdict : goal.returns-clause-verdict
 returns-clause-verdict c =
     let s = c.self.inside in
-    let i : Peers = record { heap = s.heap; sorts = s.sorts.items; names = s.names; issued = map issued_as s.handles.items } in
+    let i : Peers = record { heap = s.heap; sorts = s.sorts.items; names = s.names; issued = map issued_as s.handles.items; made = s.made } in
     let t = thread_number c.args.caller in
     let act = c.args.act.now in
     subst (λ (z : Peers). Decides (Gives (on_peer_heap z (plain_line peer_name z.heap t act)) c.args.reply.now) c.line.result z (record i { heap = c.line.new.self })) c.self.view_is

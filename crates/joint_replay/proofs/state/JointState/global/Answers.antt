@@ -4,6 +4,7 @@ use Rattle.std.specs.Prelude.{IfOk, OnErr}
 use Rattle.joint_model.specs.Joint.{Joint}
 use Rattle.joint_model.specs.Peers.{globalised}
 use Rattle.joint_model.specs.Run.{on_peers}
+use Rattle.joint_replay.specs.Answers.{answers_as}
 use Rattle.joint_replay.specs.Judging.{Decides, Gives}
 use Rattle.joint_replay.specs.Plain.{strength_as}
 use Rattle.joint_replay.proofs.Growing.{Grows-globalised, err-peers, on-peers, stored-after, with_peers}
@@ -13,7 +14,7 @@ use Rattle.joint_replay.proofs.state.JointState.global.Goals as goal
 pub returns-clause-ok : goal.returns-clause-ok
 returns-clause-ok c =
     let s = c.self.inside in
-    let i : Joint = record { graph = record { managed = s.managed; peers = s.peers; removed = s.removed.items }; marking = s.marking; markings = s.markings } in
+    let i : Joint = record { graph = record { managed = s.managed; peers = s.peers; removed = s.removed.items }; answers = answers_as s.answers.items; marking = s.marking; markings = s.markings } in
     let reply = c.args.reply.now in
     subst (λ (z : Joint). IfOk c.globalise.result (λ d. Decides (Gives (on_peers z (globalised z.graph.peers c.args.g c.args.v (strength_as c.args.strength))) reply) d z (with_peers i c.globalise.new.self c.globalise.new.removed.items))) c.self.view_is
     (IfOk-weaker c.globalise.result _ _ (λ d w. on-peers i (globalised i.graph.peers c.args.g c.args.v (strength_as c.args.strength)) reply c.globalise.new.self c.globalise.new.removed.items d c.globalise.ensures.flags w) c.globalise.ensures.ok)
@@ -21,7 +22,7 @@ returns-clause-ok c =
 pub returns-clause-err : goal.returns-clause-err
 returns-clause-err c =
     let s = c.self.inside in
-    let i : Joint = record { graph = record { managed = s.managed; peers = s.peers; removed = s.removed.items }; marking = s.marking; markings = s.markings } in
+    let i : Joint = record { graph = record { managed = s.managed; peers = s.peers; removed = s.removed.items }; answers = answers_as s.answers.items; marking = s.marking; markings = s.markings } in
     subst (λ (z : Joint). OnErr c.globalise.result (with_peers i c.globalise.new.self c.globalise.new.removed.items ≡ z)) c.self.view_is (err-peers i c.globalise.new.self c.globalise.new.removed.items c.globalise.result c.globalise.ensures.flags c.globalise.ensures.err)
 
 pub invariant_of-self : goal.invariant_of-self

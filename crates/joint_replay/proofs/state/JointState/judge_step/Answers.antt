@@ -1,6 +1,6 @@
 -- Each event's verdict is the entry's.
 use Rattle.std.proofs.lemmas.Result.{IfOk-weaker}
-use Rattle.joint_replay.proofs.Verdicts.{judged-handles, judged-objects, judged-line, judged-abandon, judged-snap, judged-resolve, judged-begin, judged-sweep, judged-ok}
+use Rattle.joint_replay.proofs.Verdicts.{judged-handles, judged-objects, judged-line, judged-abandon, judged-restore, judged-snap, judged-resolve, judged-begin, judged-sweep, judged-ok}
 use Rattle.joint_replay.proofs.state.JointState.judge_step.Goals as goal
 
 pub returns-in-Line-clause-verdict : goal.returns-in-Line-clause-verdict
@@ -10,6 +10,10 @@ returns-in-Line-clause-verdict c =
 pub returns-in-Abandon-clause-verdict : goal.returns-in-Abandon-clause-verdict
 returns-in-Abandon-clause-verdict c =
     judged-abandon c.args.h.now c.args.entry.now c.args.self.now c.in-Abandon.cycle c.in-Abandon.is (c.can_make.ensures.0 c.if-not-can_make.false).0 c.abandon.result c.abandon.new.self c.abandon.ensures
+
+pub returns-in-Restore-clause-verdict : goal.returns-in-Restore-clause-verdict
+returns-in-Restore-clause-verdict c =
+    judged-ok c.args.h.now c.args.entry.now c.args.self.now _ _ (λ v. judged-restore c.args.h.now c.args.entry.now c.args.self.now c.in-Restore.h c.in-Restore.is (c.can_make.ensures.0 c.if-not-can_make.false).0 v _) c.restore.result c.restore.ensures.ok
 
 pub returns-in-Snap-clause-verdict : goal.returns-in-Snap-clause-verdict
 returns-in-Snap-clause-verdict c =

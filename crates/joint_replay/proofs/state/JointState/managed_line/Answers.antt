@@ -3,13 +3,14 @@ use Rattle.std.proofs.Common.{subst}
 use Rattle.joint_model.specs.Joint.{Joint, with_managed}
 use Rattle.joint_model.specs.Managed.{Managed, managed_line}
 use Rattle.joint_model.specs.Run.{on_managed, thread_number}
+use Rattle.joint_replay.specs.Answers.{answers_as}
 use Rattle.joint_replay.specs.Judging.{Decides, Gives}
 use Rattle.joint_replay.proofs.Lifting.{Gives-on}
 use Rattle.joint_replay.proofs.state.JointState.managed_line.Goals as goal
 
 pub returns-clause-ok : goal.returns-clause-ok
 returns-clause-ok c =
-    let i : Joint = record { graph = record { managed = c.self.inside.managed; peers = c.self.inside.peers; removed = c.self.inside.removed.items }; marking = c.self.inside.marking; markings = c.self.inside.markings } in
+    let i : Joint = record { graph = record { managed = c.self.inside.managed; peers = c.self.inside.peers; removed = c.self.inside.removed.items }; answers = answers_as c.self.inside.answers.items; marking = c.self.inside.marking; markings = c.self.inside.markings } in
     let t = thread_number c.args.caller in
     let act = c.args.act.now in
     let reply = c.args.reply.now in

@@ -3,6 +3,7 @@ use Rattle.std.proofs.Common.{arith, refl, subst}
 use Rattle.joint_model.specs.Joint.{Joint}
 use Rattle.joint_model.specs.Peers.{on_peer_heap, peer_name}
 use Rattle.joint_model.specs.Run.{on_peers, thread_number}
+use Rattle.joint_replay.specs.Answers.{answers_as}
 use Rattle.joint_replay.specs.Judging.{Decides, Gives}
 use Rattle.joint_replay.specs.Operations.{plain_line}
 use Rattle.joint_replay.proofs.Growing.{on-peers-same, stored-kept, with_peers}
@@ -11,7 +12,7 @@ use Rattle.joint_replay.proofs.state.JointState.plain_peer.Goals as goal
 pub returns : goal.returns
 returns c =
     let s = c.self.inside in
-    let i : Joint = record { graph = record { managed = s.managed; peers = s.peers; removed = s.removed.items }; marking = s.marking; markings = s.markings } in
+    let i : Joint = record { graph = record { managed = s.managed; peers = s.peers; removed = s.removed.items }; answers = answers_as s.answers.items; marking = s.marking; markings = s.markings } in
     let t = thread_number c.args.caller in
     let act = c.args.act.now in
     subst (λ (z : Joint). Decides (Gives (on_peers z (on_peer_heap z.graph.peers (plain_line peer_name z.graph.peers.heap t act))) c.args.reply.now) c.plain.result z (with_peers i c.plain.new.self s.removed.items)) c.self.view_is

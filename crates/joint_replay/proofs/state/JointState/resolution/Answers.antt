@@ -1,5 +1,6 @@
 -- There is one resolution, and the reply is its, or isn't.
 use Rattle.std.proofs.Common.{sym, ◌≡◌, ◌∙◌, true, false}
+use Rattle.joint_replay.specs.Answers.{AreAnswered}
 use Rattle.joint_replay.specs.Snaps.{Settles}
 use Rattle.joint_replay.proofs.Snapping.{resolve-no, resolve-yes}
 use Rattle.joint_replay.proofs.state.JointState.resolution.Goals as goal
@@ -15,4 +16,5 @@ pub returns : goal.returns
 returns c =
     let freed = c.in-Some.freed.items in
     let settles : Settles c.args.self.now c.args.k.0 freed = rw c.in-Some.is at c.in_ok-freed.ensures in
-    (resolve-yes c.args.self.now c.args.h.now c.args.reply.now c.args.k.0 freed settles (rw c.deref.ensures.value at (c.in_ok-lawful.ensures.0 c.if-not-lawful.false)), settles.made)
+    let answered : AreAnswered c.args.self.now = c.is_answered.ensures.0 c.if-not-is_answered.false in
+    (resolve-yes c.args.self.now c.args.h.now c.args.reply.now c.args.k.0 freed answered settles (rw c.deref.ensures.value at (c.in_ok-lawful.ensures.0 c.if-not-lawful.false)), settles.made, answered)

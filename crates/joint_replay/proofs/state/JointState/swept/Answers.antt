@@ -6,6 +6,7 @@ use Rattle.joint_model.specs.Joint.{Joint}
 use Rattle.joint_model.specs.Run.{IsStored}
 use Rattle.joint_model.proofs.Deciding.{test-false}
 use Rattle.reachability.specs.Marks.{HasMark}
+use Rattle.joint_replay.specs.Answers.{answers_as}
 use Rattle.joint_replay.specs.Judging.{named_peers}
 use Rattle.joint_replay.specs.Snaps.{MaySweep, SaysSwept}
 use Rattle.joint_replay.proofs.Sweeping.{may-sweep, sweep-dead, sweep-stored}
@@ -15,7 +16,7 @@ use Rattle.joint_replay.proofs.state.JointState.swept.Goals.{else-rises-via-then
 pub returns-then-all_marked : goal.returns-then-all_marked
 returns-then-all_marked c =
     let s = c.self.inside in
-    let i : Joint = record { graph = record { managed = s.managed; peers = s.peers; removed = s.removed.items }; marking = s.marking; markings = s.markings } in
+    let i : Joint = record { graph = record { managed = s.managed; peers = s.peers; removed = s.removed.items }; answers = answers_as s.answers.items; marking = s.marking; markings = s.markings } in
     let m = c.in-Some.marking in
     let h = c.args.h.now in
     let reply = c.args.reply.now in
@@ -30,7 +31,7 @@ returns-then-all_marked c =
 pub returns-else-rises : goal.returns-else-rises
 returns-else-rises c = λ w.
     let s = c.self.inside in
-    let i : Joint = record { graph = record { managed = s.managed; peers = s.peers; removed = s.removed.items }; marking = s.marking; markings = s.markings } in
+    let i : Joint = record { graph = record { managed = s.managed; peers = s.peers; removed = s.removed.items }; answers = answers_as s.answers.items; marking = s.marking; markings = s.markings } in
     let m = c.in-Some.marking in
     let reply = c.args.reply.now in
     let freed = c.in-Some-2.freed.items in
