@@ -12,15 +12,17 @@ use Rattle.joint_model.specs.declared.events.Op.TheVariants as op
 use Rattle.joint_model.specs.declared.events.Reply.{Reply}
 use Rattle.joint_model.specs.declared.events.Reply.TheVariants as says
 use Rattle.joint_model.specs.Components.{mirror_edges}
-use Rattle.joint_model.specs.Control.{Doing, free, made, lent, gripped, given, met, Stand, idle, snapped, contracted, weakening, marked, restoring, restored, Control, doing_at, candidates_of, carried_edges, MayStart, MayAdopt, MayLand, MayMeet, MayRelease, ThreadAllows, IsCandidateHandle, IsAtRest, IsPhaseOf, MaySnap, MayContractNow, MayMirrorNow, MayWeakenNow, MayBeginNow, MaySweepNow, MayRestoreNow, MayClearNow, MayResolveNow, MayAbandonNow, MayRefuseNow, DriverAllows, CallerAllows, IsDone}
-use Rattle.joint_model.specs.Managed.{Managed, handle_of}
+use Rattle.joint_model.specs.Control.{Doing, free, made, lent, gripped, given, met, Stand, idle, snapped, contracted, weakening, marked, restoring, restored, Control, doing_at, carried_edges, MayStart, MayAdopt, MayLand, MayMeet, MayRelease, ThreadAllows, IsCandidateHandle, IsAtRest, IsPhaseOf, MaySnap, MayContractNow, MayMirrorNow, MayWeakenNow, MayBeginNow, MaySweepNow, MayRestoreNow, MayClearNow, MayResolveNow, MayAbandonNow, MayRefuseNow, DriverAllows, CallerAllows, IsDone}
+use Rattle.joint_model.specs.Managed.{Managed, handle_of, candidates_of}
 use Rattle.joint_model.specs.Peers.{Issued}
 use Rattle.joint_model.specs.Told.{Told, references_of, resolution_of, phase_of}
-use Rattle.history_tests.specs.Lists.{pair_eq, same_number}
+use Rattle.history_tests.specs.Lists.{same_number}
+use Rattle.history_tests.specs.Markings.{ends_eq}
 use Rattle.history_tests.specs.Replies.{same_answer}
 use Rattle.history_tests.specs.Callers.{may_start, may_adopt, may_land, may_meet, may_release, thread_allows, is_candidate_handle, is_at_rest, is_phase_of, may_snap, may_contract_now, may_mirror_now, may_weaken_now, may_begin_now, may_sweep_now, may_restore_now, may_clear_now, may_resolve_now, may_abandon_now, may_refuse_now, driver_allows, caller_allows, is_done}
-use Rattle.history_tests.proofs.Telling.{Tells, always, never, like, and2, and3, and4, and5, and6, or2, same, same_pair, same_numbers, same_lists, empty, that, is_false}
+use Rattle.history_tests.proofs.Telling.{Tells, always, never, like, and2, and3, and4, and5, and6, or2, same, same_numbers, same_lists, empty, that, is_false}
 use Rattle.history_tests.proofs.LineTests.{tells_line}
+use Rattle.history_tests.proofs.MarkingTests.{both_ends}
 use Rattle.history_tests.proofs.ReplyTests.{sorts, answers, phases}
 
 starts : (d : Doing) (cites : Option ℕ) → Tells (may_start d cites) (MayStart d cites)
@@ -66,7 +68,7 @@ at_rest _ c = always tt
 phase : (d : Stand) (c : ℕ) (p : Phase) → Tells (is_phase_of d c p) (IsPhaseOf d c p)
 phase idle c p = phases p at.Idle
 phase (snapped o) c p = phases p at.Snapped
-phase (contracted o comps xrefs) c p = phases p at.Contracted
+phase (contracted o comps heavy xrefs) c p = phases p at.Contracted
 phase (weakening o count weakened swept) c p = and2 (is_false swept) (or2 (and3 (phases p at.Mirrored) (same count 0) (is_false weakened)) (and2 (phases p at.Weakened) (same count c)))
 phase (marked o) c p = phases p at.Marked
 phase (restoring o said) c p = and2 (same_lists same_answer answers said []) (phases p at.Swept)
@@ -81,7 +83,7 @@ contracts (snapped o) k cites = and2 (same o.cycle k) (empty cites)
 contracts _ k cites = never (λ z. z)
 
 mirrors : (d : Stand) (s : Managed) (issued : List Issued) (k : ℕ) (cites : Option ℕ) (told : Told) → Tells (may_mirror_now d s issued k cites told) (MayMirrorNow d s issued k cites told)
-mirrors (contracted o comps xrefs) s issued k cites (references_of refs) = and3 (same o.cycle k) (same_numbers cites (Some o.snap)) (same_lists pair_eq same_pair refs (carried_edges s issued (mirror_edges comps xrefs)))
+mirrors (contracted o comps heavy xrefs) s issued k cites (references_of refs) = and3 (same o.cycle k) (same_numbers cites (Some o.snap)) (same_lists ends_eq both_ends refs (carried_edges s issued (mirror_edges comps xrefs)))
 mirrors _ s issued k cites told = never (λ z. z)
 
 weakens : (d : Stand) (s : Managed) (h : ℕ) (cites : Option ℕ) → Tells (may_weaken_now d s h cites) (MayWeakenNow d s h cites)
@@ -111,7 +113,7 @@ resolves _ k cites told = never (λ z. z)
 
 pub abandons : (d : Stand) (k : ℕ) (cites : Option ℕ) → Tells (may_abandon_now d k cites) (MayAbandonNow d k cites)
 abandons (snapped o) k cites = and2 (same o.cycle k) (empty cites)
-abandons (contracted o comps xrefs) k cites = and2 (same o.cycle k) (empty cites)
+abandons (contracted o comps heavy xrefs) k cites = and2 (same o.cycle k) (empty cites)
 abandons _ k cites = never (λ z. z)
 
 refuses : (d : Stand) (c : ℕ) (cites : Option ℕ) (told : Told) → Tells (may_refuse_now d c cites told) (MayRefuseNow d c cites told)

@@ -109,7 +109,7 @@ holds_raw : (x : Hold) → Tells (not (is_held x)) (x ≡ raw)
 holds_raw held = never (λ e. cc)
 holds_raw raw = always refl
 
-handle_here : (o : Option (Option ℕ)) (h : ℕ) → Tells (is_handle_here o h) (o ≡ Some (Some h))
+pub handle_here : (o : Option (Option ℕ)) (h : ℕ) → Tells (is_handle_here o h) (o ≡ Some (Some h))
 handle_here None h = never (λ e. cc)
 handle_here (Some None) h = never (λ e. cc)
 handle_here (Some (Some g)) h = like (λ e. ap (λ z. Some (Some z)) e) (λ e. sym (inside_handle g h e)) (same g h)

@@ -2,7 +2,8 @@
 use Rattle.std.proofs.Common.{◌≡◌, ℕ, ◌+◌, ◌^◌, Bool, true, false, List, [], ◌∷◌, length, map, refl, ap}
 use Rattle.joint_model.specs.declared.events.Entry.{Entry}
 use Rattle.joint_model.specs.declared.events.Made.{Made}
-use Rattle.joint_model.specs.Control.{last_line, candidates_of}
+use Rattle.joint_model.specs.Control.{last_line}
+use Rattle.joint_model.specs.Managed.{candidates_of}
 use Rattle.joint_model.specs.Draws.{NumberedFrom}
 use Rattle.joint_model.specs.Histories.{managed_numbers, peer_numbers}
 use Rattle.joint_model.specs.Lines.{is_peer_event}

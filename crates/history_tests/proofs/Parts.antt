@@ -17,7 +17,7 @@ pub resolution_tested : ResolutionIsTested
 resolution_tested s dead candidates given freed = tested (resolution s dead (IsAnsweredAlive candidates given) (answered_alive candidates given) freed (answered candidates given))
 
 pub contraction_tested : ContractionIsTested
-contraction_tested s dead comps xrefs = tested (dead_contraction s dead comps xrefs)
+contraction_tested s dead comps heavy xrefs = tested (dead_contraction s dead comps heavy xrefs)
 
 pub closure_tested : ClosureIsTested
 closure_tested mk rows = tested (closure mk rows)

@@ -25,12 +25,12 @@ pub sorts : (a b : Sort) → Tells (same_sort a b) (a ≡ b)
 sorts a b = equal same_sort a b (sort_found a b) (sort_itself a)
 
 answer_found : (a b : Answer) → same_answer a b ≡ true → a ≡ b
-answer_found said_alive said_alive e = refl
+answer_found (said_alive h) (said_alive h') e = λ i. said_alive (((same h h').holds e) i)
 answer_found said_cleared said_cleared e = refl
 answer_found _ _ e = absurd (false≢true e)
 
 answer_itself : (a : Answer) → same_answer a a ≡ true
-answer_itself said_alive = refl
+answer_itself (said_alive h) = (same h h).passes refl
 answer_itself said_cleared = refl
 
 pub answers : (a b : Answer) → Tells (same_answer a b) (a ≡ b)
@@ -77,11 +77,11 @@ reply_found says.Plain says.Plain e = refl
 reply_found says.NoMark says.NoMark e = refl
 reply_found says.More says.More e = refl
 reply_found says.Done says.Done e = refl
-reply_found says.Alive says.Alive e = refl
 reply_found says.Cleared says.Cleared e = refl
 reply_found (says.M m) (says.M m') e = λ i. says.M (record { 0 = ((same m.0 m'.0).holds e) i })
 reply_found (says.P p) (says.P p') e = λ i. says.P (record { 0 = ((same p.0 p'.0).holds e) i })
 reply_found (says.H h) (says.H h') e = λ i. says.H (record { 0 = ((same h.0 h'.0).holds e) i })
+reply_found (says.Renewed h) (says.Renewed h') e = λ i. says.Renewed (record { 0 = ((same h.0 h'.0).holds e) i })
 reply_found (says.New m) (says.New m') e = λ i. says.New (record { 0 = ((same m.0 m'.0).holds e) i })
 reply_found (says.Twin m) (says.Twin m') e = λ i. says.Twin (record { 0 = ((same m.0 m'.0).holds e) i })
 reply_found (says.Made p h) (says.Made p' h') e = let r = (and2 (same p.0 p'.0) (same h.0 h'.0)).holds e in λ i. says.Made (record { 0 = r.0 i }) (record { 0 = r.1 i })
@@ -113,11 +113,11 @@ reply_itself says.Plain = refl
 reply_itself says.NoMark = refl
 reply_itself says.More = refl
 reply_itself says.Done = refl
-reply_itself says.Alive = refl
 reply_itself says.Cleared = refl
 reply_itself (says.M m) = (same m.0 m.0).passes refl
 reply_itself (says.P p) = (same p.0 p.0).passes refl
 reply_itself (says.H h) = (same h.0 h.0).passes refl
+reply_itself (says.Renewed h) = (same h.0 h.0).passes refl
 reply_itself (says.New m) = (same m.0 m.0).passes refl
 reply_itself (says.Twin m) = (same m.0 m.0).passes refl
 reply_itself (says.Made p h) = (and2 (same p.0 p.0) (same h.0 h.0)).passes (refl, refl)

@@ -88,22 +88,22 @@ resolution s dead kept rows freed from = like
     (λ m p. (member nat_eq same dead m).passes p.0))
 
 -- the candidates that were answered alive
-answered_there : (cs : List ℕ) (answers : List Answer) (m i : ℕ) → slice_get cs i ≡ Some m → slice_get answers i ≡ Some said_alive → mem nat_eq (answered_alive cs answers) m ≡ true
-answered_there [] answers m i p q = cc
-answered_there (c ∷ cs) [] m i p q = cc
-answered_there (c ∷ cs) (said_alive ∷ answers) m zero p q = let e : m ≡ c = cc in (or2 (same m c) (member nat_eq same (answered_alive cs answers) m)).passes (inl e)
-answered_there (c ∷ cs) (said_cleared ∷ answers) m zero p q = cc
-answered_there (c ∷ cs) (said_alive ∷ answers) m (suc i) p q = (or2 (same m c) (member nat_eq same (answered_alive cs answers) m)).passes (inr ((member nat_eq same (answered_alive cs answers) m).holds (answered_there cs answers m i p q)))
-answered_there (c ∷ cs) (said_cleared ∷ answers) m (suc i) p q = answered_there cs answers m i p q
+answered_there : (cs : List ℕ) (answers : List Answer) (m i h : ℕ) → slice_get cs i ≡ Some m → slice_get answers i ≡ Some (said_alive h) → mem nat_eq (answered_alive cs answers) m ≡ true
+answered_there [] answers m i h p q = cc
+answered_there (c ∷ cs) [] m i h p q = cc
+answered_there (c ∷ cs) (said_alive g ∷ answers) m zero h p q = let e : m ≡ c = cc in (or2 (same m c) (member nat_eq same (answered_alive cs answers) m)).passes (inl e)
+answered_there (c ∷ cs) (said_cleared ∷ answers) m zero h p q = cc
+answered_there (c ∷ cs) (said_alive g ∷ answers) m (suc i) h p q = (or2 (same m c) (member nat_eq same (answered_alive cs answers) m)).passes (inr ((member nat_eq same (answered_alive cs answers) m).holds (answered_there cs answers m i h p q)))
+answered_there (c ∷ cs) (said_cleared ∷ answers) m (suc i) h p q = answered_there cs answers m i h p q
 
 answered_from : (cs : List ℕ) (answers : List Answer) (m : ℕ) → mem nat_eq (answered_alive cs answers) m ≡ true → IsAnsweredAlive cs answers m
 answered_from [] answers m h = absurd ((never {P = ⊥} (λ e. e)).holds h)
 answered_from (c ∷ cs) [] m h = absurd ((never {P = ⊥} (λ e. e)).holds h)
-answered_from (c ∷ cs) (said_alive ∷ answers) m h = ⊎_elim
-    (λ e. (0, ap (λ z. Some z) (sym e), refl))
+answered_from (c ∷ cs) (said_alive g ∷ answers) m h = ⊎_elim
+    (λ e. (0, ap (λ z. Some z) (sym e), (g, refl)))
     (λ d. let r = answered_from cs answers m ((member nat_eq same (answered_alive cs answers) m).passes d) in (suc r.0, r.1, r.2))
     ((or2 (same m c) (member nat_eq same (answered_alive cs answers) m)).holds h)
 answered_from (c ∷ cs) (said_cleared ∷ answers) m h = let r = answered_from cs answers m h in (suc r.0, r.1, r.2)
 
 pub answered : (cs : List ℕ) (answers : List Answer) (m : ℕ) → Tells (mem nat_eq (answered_alive cs answers) m) (IsAnsweredAlive cs answers m)
-answered cs answers m = record { holds = answered_from cs answers m; passes = λ a. answered_there cs answers m a.0 a.1 a.2 }
+answered cs answers m = record { holds = answered_from cs answers m; passes = λ a. answered_there cs answers m a.0 a.2.0 a.1 a.2.1 }

@@ -1,5 +1,5 @@
 -- The tests of what an event asks of its own side tell what the definitions say, case by case.
-use Rattle.std.proofs.Common.{◌≡◌, ℕ, Bool, true, false, not, ◌&&◌, nat_eq, List, length, Option, Some, None, refl}
+use Rattle.std.proofs.Common.{◌≡◌, ℕ, Bool, true, false, not, ◌&&◌, nat_eq, List, [], ◌∷◌, ◌++◌, length, Option, Some, None, refl}
 use Rattle.std.specs.List.{All, Contains, list_all}
 use Rattle.joint_model.specs.declared.names.Thread.{Thread}
 use Rattle.joint_model.specs.declared.names.Thread.TheVariants.{P, C}
@@ -12,16 +12,16 @@ use Rattle.joint_model.specs.declared.events.Op.TheVariants as op
 use Rattle.joint_model.specs.Cycles.{IsOpen, IsDeadContraction, IsResolution, IsAnsweredAlive}
 use Rattle.joint_model.specs.Heaps.{numbered_at}
 use Rattle.joint_model.specs.Managed.{Managed, OpenCycle}
-use Rattle.joint_model.specs.ManagedReplay.{ManagedReplay, MayContract, MayResolve, MayRefuse, ManagedAllows}
+use Rattle.joint_model.specs.ManagedReplay.{ManagedReplay, MayContract, AreNew, MayResolve, MayRefuse, ManagedAllows}
 use Rattle.joint_model.specs.PeerReplay.{PeerReplay, Marking, TableRow, row_of, is_thread, IsHeld, MayMirror, MayWeaken, MayRestore, MayClear, MayRelease, SliceAllows, SweepAllows, PeerAllows}
 use Rattle.joint_model.specs.Peers.{Hold, Strength, held, raw, strong, weak, is_held, is_strong}
 use Rattle.joint_model.specs.Phases.{next_phase}
-use Rattle.joint_model.specs.Told.{Told, nothing, snap_of, contraction_of, references_of, slice_of, sweep_of, resolution_of, phase_of, Answer}
+use Rattle.joint_model.specs.Told.{Told, nothing, snap_of, contraction_of, references_of, slice_of, sweep_of, resolution_of, phase_of, Answer, handles_given}
 use Rattle.history_tests.specs.Contractions.{is_contraction, dead_graph}
 use Rattle.history_tests.specs.Lists.{has, same_number, is_empty}
 use Rattle.history_tests.specs.Replies.{same_phase}
 use Rattle.history_tests.specs.Rows.{is_resolution, answered_alive}
-use Rattle.history_tests.specs.Sides.{is_open, may_contract, may_resolve, may_refuse, managed_allows, is_held_handle, may_mirror, may_weaken, may_restore, may_clear, may_release_held, slice_allows, sweep_allows, peer_allows}
+use Rattle.history_tests.specs.Sides.{is_open, may_contract, are_new, may_resolve, may_refuse, managed_allows, is_held_handle, may_mirror, may_weaken, may_restore, may_clear, may_release_held, slice_allows, sweep_allows, peer_allows}
 use Rattle.history_tests.proofs.Telling.{Tells, always, never, like, isn't, and2, and3, or2, same, same_numbers, empty, that, is_false, all}
 use Rattle.history_tests.proofs.Reaching.{member}
 use Rattle.history_tests.proofs.ReplyTests.{phases}
@@ -34,15 +34,19 @@ pub opened : (s : Managed) (k : ℕ) (test : OpenCycle → Bool) (Q : OpenCycle 
 opened s k test Q t = like (λ p. (p.0, (p.1, p.2.0), p.2.1)) (λ p. (p.0, p.1.0, (p.1.1, p.2)))
     (that s.cycle (λ c. nat_eq c.number k && test c) (λ c. (c.number ≡ k) × Q c) (λ c. and2 (same c.number k) (t c)))
 
-contracts : (s : ManagedReplay) (k : ℕ) (comps : List (List ℕ)) (xrefs : List (ℕ × ℕ)) → Tells (may_contract s k comps xrefs) (MayContract s k comps xrefs)
-contracts s k comps xrefs = like (λ p. record { cycle = p.0.0; open_cycle = p.0.1; once = p.1; exact = p.0.2 }) (λ r. ((r.cycle, r.open_cycle, r.exact), r.once))
-    (and2 (opened s.managed k (λ c. is_contraction (dead_graph s.managed c.dead) comps xrefs) (λ c. IsDeadContraction s.managed c.dead comps xrefs) (λ c. dead_contraction s.managed c.dead comps xrefs)) (is_false s.contracted))
+contracts : (s : ManagedReplay) (k : ℕ) (comps : List (List ℕ)) (heavy : List ℕ) (xrefs : List (ℕ × ℕ)) → Tells (may_contract s k comps heavy xrefs) (MayContract s k comps heavy xrefs)
+contracts s k comps heavy xrefs = like (λ p. record { cycle = p.0.0; open_cycle = p.0.1; once = p.1; exact = p.0.2 }) (λ r. ((r.cycle, r.open_cycle, r.exact), r.once))
+    (and2 (opened s.managed k (λ c. is_contraction (dead_graph s.managed c.dead) comps heavy xrefs) (λ c. IsDeadContraction s.managed c.dead comps heavy xrefs) (λ c. dead_contraction s.managed c.dead comps heavy xrefs)) (is_false s.contracted))
+
+news : (taken hs : List ℕ) → Tells (are_new taken hs) (AreNew taken hs)
+news taken [] = always tt
+news taken (h ∷ hs) = and2 (isn't (member nat_eq same taken h)) (news (taken ++ h ∷ []) hs)
 
 resolves : (s : ManagedReplay) (k : ℕ) (given : List Answer) (freed : List ℕ) → Tells (may_resolve s k given freed) (MayResolve s k given freed)
-resolves s k given freed = like (λ p. record { cycle = p.0; open_cycle = p.1; answers = p.2.0; resolution = p.2.1 }) (λ r. (r.cycle, r.open_cycle, (r.answers, r.resolution)))
-    (opened s.managed k (λ c. nat_eq (length given) (length c.candidates) && is_resolution s.managed c.dead (answered_alive c.candidates given) freed)
-    (λ c. (length given ≡ length c.candidates) × IsResolution s.managed c.dead (IsAnsweredAlive c.candidates given) freed)
-    (λ c. and2 (same (length given) (length c.candidates)) (resolution s.managed c.dead (IsAnsweredAlive c.candidates given) (answered_alive c.candidates given) freed (answered c.candidates given))))
+resolves s k given freed = like (λ p. record { cycle = p.0; open_cycle = p.1; answers = p.2.0; new = p.2.1; resolution = p.2.2 }) (λ r. (r.cycle, r.open_cycle, (r.answers, r.new, r.resolution)))
+    (opened s.managed k (λ c. nat_eq (length given) (length c.candidates) && are_new s.adopted (handles_given given) && is_resolution s.managed c.dead (answered_alive c.candidates given) freed)
+    (λ c. (length given ≡ length c.candidates) × AreNew s.adopted (handles_given given) × IsResolution s.managed c.dead (IsAnsweredAlive c.candidates given) freed)
+    (λ c. and3 (same (length given) (length c.candidates)) (news s.adopted (handles_given given)) (resolution s.managed c.dead (IsAnsweredAlive c.candidates given) (answered_alive c.candidates given) freed (answered c.candidates given))))
 
 refuses : (s : ManagedReplay) (w : PhaseWord) (phase : Phase) → Tells (may_refuse s w phase) (MayRefuse s w phase)
 refuses s w phase = like (λ p. record { refused = p.0; idle = p.1 }) (λ r. (r.refused, r.idle))
@@ -55,7 +59,7 @@ managed s (op.Lend v x) nothing = always tt
 managed s (op.Meet v sort n p h) nothing = isn't (member nat_eq same s.adopted h.0)
 managed s (op.Give v) nothing = always tt
 managed s (op.Snap k) (snap_of freed candidates dead) = snapshot s.managed k.0 freed candidates dead
-managed s (op.Contract k) (contraction_of comps xrefs) = contracts s k.0 comps xrefs
+managed s (op.Contract k) (contraction_of comps heavy xrefs) = contracts s k.0 comps heavy xrefs
 managed s (op.Resolve k) (resolution_of given freed) = resolves s k.0 given freed
 managed s (op.Abandon k) nothing = like {P = (c : OpenCycle) × IsOpen s.managed k.0 c × Unit {0}} (λ p. (p.0, p.1)) (λ p. (p.0, p.1, tt)) (opened s.managed k.0 (λ c. true) (λ c. Unit {0}) (λ c. always tt))
 managed s (op.Refused w) (phase_of phase) = refuses s w phase

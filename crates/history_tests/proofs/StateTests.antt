@@ -8,10 +8,10 @@ use Rattle.joint_model.specs.Joint.{Graph, Joint, JointMarking}
 use Rattle.joint_model.specs.Managed.{Managed, OpenCycle}
 use Rattle.joint_model.specs.Peers.{Peers, Issued, Hold, held, raw, Strength, strong, weak}
 use Rattle.history_tests.specs.Lists.{same_list, same_number}
-use Rattle.history_tests.specs.Replies.{same_sort}
+use Rattle.history_tests.specs.Replies.{same_sort, same_answer}
 use Rattle.history_tests.specs.States.{same_option, same_truth, same_kind, same_hold, same_strength, same_heap, same_cycle, same_managed, same_issued, same_peers, same_graph, same_marking, same_joint, StatesAreTested}
-use Rattle.history_tests.proofs.Telling.{Tells, tested, always, never, like, and2, and3, and4, equal, same, same_numbers, same_lists}
-use Rattle.history_tests.proofs.ReplyTests.{sorts}
+use Rattle.history_tests.proofs.Telling.{Tells, tested, always, never, like, and2, and3, and4, and5, equal, same, same_numbers, same_lists}
+use Rattle.history_tests.proofs.ReplyTests.{sorts, answers}
 use Rattle.history_tests.proofs.SideTests.{threads}
 
 options : {A : Type 0} (eq : A → A → Bool) → ((a b : A) → Tells (eq a b) (a ≡ b)) → (a b : Option A) → Tells (same_option eq a b) (a ≡ b)
@@ -82,10 +82,10 @@ issueds a b = like {P = (a.peer ≡ b.peer) × (a.hold ≡ b.hold) × (a.strengt
     (and3 (same a.peer b.peer) (holds a.hold b.hold) (strengths a.strength b.strength))
 
 peerss : (a b : Peers) → Tells (same_peers a b) (a ≡ b)
-peerss a b = like {P = (a.heap ≡ b.heap) × (a.sorts ≡ b.sorts) × (a.names ≡ b.names) × (a.issued ≡ b.issued)}
-    (λ e i. record { heap = e.0 i; sorts = e.1 i; names = e.2 i; issued = e.3 i })
-    (λ e. (ap (λ (x : Peers). x.heap) e, ap (λ (x : Peers). x.sorts) e, ap (λ (x : Peers). x.names) e, ap (λ (x : Peers). x.issued) e))
-    (and4 (heaps a.heap b.heap) (same_lists same_sort sorts a.sorts b.sorts) (same_lists same_number same_numbers a.names b.names) (same_lists same_issued issueds a.issued b.issued))
+peerss a b = like {P = (a.heap ≡ b.heap) × (a.sorts ≡ b.sorts) × (a.names ≡ b.names) × (a.issued ≡ b.issued) × (a.made ≡ b.made)}
+    (λ e i. record { heap = e.0 i; sorts = e.1 i; names = e.2 i; issued = e.3 i; made = e.4 i })
+    (λ e. (ap (λ (x : Peers). x.heap) e, ap (λ (x : Peers). x.sorts) e, ap (λ (x : Peers). x.names) e, ap (λ (x : Peers). x.issued) e, ap (λ (x : Peers). x.made) e))
+    (and5 (heaps a.heap b.heap) (same_lists same_sort sorts a.sorts b.sorts) (same_lists same_number same_numbers a.names b.names) (same_lists same_issued issueds a.issued b.issued) (same a.made b.made))
 
 graphs : (a b : Graph) → Tells (same_graph a b) (a ≡ b)
 graphs a b = like {P = (a.managed ≡ b.managed) × (a.peers ≡ b.peers) × (a.removed ≡ b.removed)}
@@ -100,10 +100,10 @@ markings a b = like {P = (a.number ≡ b.number) × (a.by ≡ b.by) × (a.begun 
     (and3 (same a.number b.number) (threads a.by b.by) (graphs a.begun b.begun))
 
 pub joints : (a b : Joint) → Tells (same_joint a b) (a ≡ b)
-joints a b = like {P = (a.graph ≡ b.graph) × (a.marking ≡ b.marking) × (a.markings ≡ b.markings)}
-    (λ e i. record { graph = e.0 i; marking = e.1 i; markings = e.2 i })
-    (λ e. (ap (λ (x : Joint). x.graph) e, ap (λ (x : Joint). x.marking) e, ap (λ (x : Joint). x.markings) e))
-    (and3 (graphs a.graph b.graph) (options same_marking markings a.marking b.marking) (same a.markings b.markings))
+joints a b = like {P = (a.graph ≡ b.graph) × (a.answers ≡ b.answers) × (a.marking ≡ b.marking) × (a.markings ≡ b.markings)}
+    (λ e i. record { graph = e.0 i; answers = e.1 i; marking = e.2 i; markings = e.3 i })
+    (λ e. (ap (λ (x : Joint). x.graph) e, ap (λ (x : Joint). x.answers) e, ap (λ (x : Joint). x.marking) e, ap (λ (x : Joint). x.markings) e))
+    (and4 (graphs a.graph b.graph) (same_lists (same_option same_answer) (options same_answer answers) a.answers b.answers) (options same_marking markings a.marking b.marking) (same a.markings b.markings))
 
 -- as the contract states it
 pub states_tested : StatesAreTested

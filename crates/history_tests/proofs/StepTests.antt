@@ -1,7 +1,7 @@
 -- An entry that passes its test is a step of the joint machine to the state that is computed, event by event; so the moments of a
 -- list of entries that passes are a run.
-use Rattle.std.proofs.Common.{◌≡◌, ℕ, inl, true, not, ◌&&◌, nat_eq, List, [], ◌∷◌, map, refl, ap, subst, Option, Some, None}
-use Rattle.std.specs.List.{All, Contains}
+use Rattle.std.proofs.Common.{◌≡◌, ℕ, inl, true, false, not, ◌&&◌, nat_eq, List, [], ◌∷◌, map, refl, ap, subst, ◌∙◌, Option, Some, None}
+use Rattle.std.specs.List.{All, Contains, list_all}
 use Rattle.std.proofs.lemmas.Bool.{false≢true}
 use Rattle.joint_model.specs.declared.names.Thread.{Thread}
 use Rattle.joint_model.specs.declared.names.Thread.TheVariants.{C}
@@ -13,21 +13,22 @@ use Rattle.joint_model.specs.Components.{Rises}
 use Rattle.joint_model.specs.Cycles.{IsResolution}
 use Rattle.joint_model.specs.Heaps.{IsLive, numbered_at}
 use Rattle.joint_model.specs.Joint.{Joint, Graph, JointMarking, opening, peer, IsReached}
-use Rattle.joint_model.specs.Managed.{OpenCycle}
+use Rattle.joint_model.specs.Managed.{OpenCycle, Holds}
 use Rattle.joint_model.specs.Peers.{peer_of}
-use Rattle.joint_model.specs.Run.{IsComputed, JointBegin, JointSweep, IsStored, IsKept, JointEvent, IsRunFrom}
-use Rattle.joint_model.specs.Told.{Told, snap_of, sweep_of, resolution_of, Noted}
-use Rattle.history_tests.specs.Graphs.{joint_reach, is_reached}
-use Rattle.history_tests.specs.Lists.{mem}
+use Rattle.joint_model.specs.Run.{IsComputed, JointBegin, JointSweep, JointRestore, IsStored, IsKept, JointEvent, IsRunFrom}
+use Rattle.joint_model.specs.Told.{Told, Answer, snap_of, sweep_of, resolution_of, Noted}
+use Rattle.history_tests.specs.Graphs.{joint_reach, is_reached, is_handle_here}
+use Rattle.history_tests.specs.Lists.{mem, is_empty, somes}
 use Rattle.history_tests.specs.Rows.{is_live, is_resolution}
-use Rattle.history_tests.specs.Steps.{is_unfreed, holds_unfreed, kept_rows, joint_begun, joint_swept, joint_stepped, may_free, may_sweep, is_computed, joint_allows, joint_after, may_step, all_may_step, joint_moments, StepsAreTested, RunsAreTested}
-use Rattle.history_tests.proofs.Telling.{Tells, always, never, like, isn't, and2, and3, or2, same, all, is_true}
-use Rattle.history_tests.proofs.Reaching.{member, filtered, rising}
+use Rattle.history_tests.specs.Steps.{is_unfreed, holds_unfreed, kept_rows, joint_begun, joint_swept, restored_on, joint_stepped, may_free, may_sweep, is_candidates, may_renew, is_answered, is_computed, joint_allows, joint_after, may_step, all_may_step, joint_moments, StepsAreTested, RunsAreTested}
+use Rattle.history_tests.specs.Sides.{is_open}
+use Rattle.history_tests.proofs.Telling.{Tells, always, never, like, isn't, and2, and3, or2, same, all, is_true, is_false, that, empty}
+use Rattle.history_tests.proofs.Reaching.{any_in, member, filtered, rising}
 use Rattle.history_tests.proofs.ReplyTests.{replies}
 use Rattle.history_tests.proofs.LineTests.{tells_event, tells_peer_thread}
 use Rattle.history_tests.proofs.RowTests.{live, snapshot, resolution}
 use Rattle.history_tests.proofs.SideTests.{opened, threads}
-use Rattle.history_tests.proofs.GraphTests.{joint_reached, inside_handle}
+use Rattle.history_tests.proofs.GraphTests.{joint_reached, inside_handle, handle_here}
 
 -- the kept candidates
 inside : (a b : ℕ) → Some a ≡ Some b → b ≡ a
@@ -69,6 +70,34 @@ sweeps j (Some m) t reply (sweep_of freed) e r = let p = (and2 (or2 (threads t C
     inl (record { allowed = p.0; rise = p.1.0; stored = p.1.1; unreached = p.1.2; replies = r; state = refl })
 sweeps j (Some m) t reply _ e r = let p = (and2 (tells_peer_thread t) (isn't (threads t m.by))).holds e in record { thread = p.0; other = p.1; replies = r; state = refl }
 
+-- a restore
+candidate : (j : Joint) (h : ℕ) (c : OpenCycle) → Tells (is_candidates j h c) ((m : ℕ) × Contains c.candidates m × Holds j.graph.managed m h)
+candidate j h c = any_in c.candidates (λ m. is_live j.graph.managed.heap m && is_handle_here (numbered_at j.graph.managed.held m) h) (λ m. Holds j.graph.managed m h)
+    (λ m. like (λ p. record { live = p.0; held = p.1 }) (λ r. (r.live, r.held)) (and2 (live j.graph.managed.heap m) (handle_here (numbered_at j.graph.managed.held m) h)))
+
+renews : (j : Joint) (h : ℕ) (reply : Reply) → may_renew j h ≡ true → reply ≡ (restored_on j h (peer_of j.graph.peers.issued h)).reply → JointRestore j h reply (restored_on j h (peer_of j.graph.peers.issued h)).state
+renews j h reply e r =
+    let p = (and3 (that j.graph.managed.cycle (is_candidates j h) (λ c. (m : ℕ) × Contains c.candidates m × Holds j.graph.managed m h) (candidate j h))
+    (that (numbered_at j.graph.removed h) not (λ gone. gone ≡ false) is_false) (that (peer_of j.graph.peers.issued h) (λ p. true) (λ p. Unit {0}) (λ p. always tt))).holds e in
+    record {
+      cycle = p.0.0;
+      open_cycle = p.0.1;
+      row = p.0.2.0;
+      candidate = p.0.2.1;
+      holds = p.0.2.2;
+      kept = p.1.1 ∙ ap (λ z. Some z) p.1.2;
+      peer = p.2.0;
+      leads = p.2.1;
+      replies = r ∙ ap (λ o. (restored_on j h o).reply) p.2.1;
+      state = ap (λ o. (restored_on j h o).state) p.2.1;
+    }
+
+-- each candidate has had its restore
+all_given : (xs : List (Option Answer)) → list_all (λ a. not (is_empty a)) xs ≡ true → xs ≡ map (λ a. Some a) (somes xs)
+all_given [] e = refl
+all_given (None ∷ xs) e = absurd (false≢true e)
+all_given (Some a ∷ xs) e = ap (λ zs. Some a ∷ zs) (all_given xs e)
+
 -- an event that is computed
 computed : (o : Op) → Tells (is_computed o) (IsComputed o)
 computed (op.Line (act.Slice n)) = never (λ z. z)
@@ -89,20 +118,21 @@ steps_by : (j : Joint) (t : Thread) (o : Op) (reply : Reply) (told : Told) → j
 steps_by j t (op.Snap k) reply (snap_of freed candidates dead) e r = record { snapshot = (snapshot j.graph.managed k.0 freed candidates dead).holds e; replies = r; state = refl }
 steps_by j t op.Begin reply told e r = begins j j.marking t reply r
 steps_by j t op.Sweep reply told e r = sweeps j j.marking t reply told e r
-steps_by j t (op.Resolve k) reply (resolution_of given freed) e r =
+steps_by j t (op.Restore h) reply told e r = renews j h.0 reply e r
+steps_by j t (op.Resolve k) reply (resolution_of alive freed) e r =
+    let q = (and2 (is_true (is_answered j)) (is_true (is_open j.graph.managed k.0 (λ c. is_resolution j.graph.managed c.dead (kept_rows j.graph c) freed)))).holds e in
     let p = (opened j.graph.managed k.0 (λ c. is_resolution j.graph.managed c.dead (kept_rows j.graph c) freed) (λ c. IsResolution j.graph.managed c.dead (IsKept j c) freed)
-    (λ c. resolution j.graph.managed c.dead (IsKept j c) (kept_rows j.graph c) freed (kept j c))).holds e in
-    record { cycle = p.0; open_cycle = p.1; resolution = p.2; replies = r; state = refl }
+    (λ c. resolution j.graph.managed c.dead (IsKept j c) (kept_rows j.graph c) freed (kept j c))).holds q.1 in
+    record { cycle = p.0; open_cycle = p.1; answers = somes j.answers; all_answered = all_given j.answers q.0; resolution = p.2; replies = r; state = refl }
 steps_by j t (op.Abandon k) reply told e r =
-    let p = (opened j.graph.managed k.0 (λ c. true) (λ c. Unit {0}) (λ c. always tt)).holds e in
-    record { cycle = p.0; open_cycle = p.1; replies = r; state = refl }
+    let p = (and2 (all j.answers is_empty (λ a. a ≡ None) empty) (opened j.graph.managed k.0 (λ c. true) (λ c. Unit {0}) (λ c. always tt))).holds e in
+    record { cycle = p.1.0; open_cycle = p.1.1; none_answered = p.0; replies = r; state = refl }
 steps_by j t (op.Snap k) reply _ e r = absurd (false≢true e)
 steps_by j t (op.Resolve k) reply _ e r = absurd (false≢true e)
 steps_by j t (op.Line (act.Slice n)) reply told e r = absurd (false≢true e)
 steps_by j t (op.Contract k) reply told e r = absurd (false≢true e)
 steps_by j t (op.Mirror k) reply told e r = absurd (false≢true e)
 steps_by j t (op.Weaken h) reply told e r = absurd (false≢true e)
-steps_by j t (op.Restore h) reply told e r = absurd (false≢true e)
 steps_by j t (op.Clear k) reply told e r = absurd (false≢true e)
 steps_by j t (op.Refused w) reply told e r = absurd (false≢true e)
 steps_by j t _ reply told e r = record { computed = tt; replies = r; state = refl }

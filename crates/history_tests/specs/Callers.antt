@@ -10,12 +10,13 @@ use Rattle.joint_model.specs.declared.events.Op.TheVariants as op
 use Rattle.joint_model.specs.declared.events.Reply.{Reply}
 use Rattle.joint_model.specs.declared.events.Reply.TheVariants as says
 use Rattle.joint_model.specs.Components.{mirror_edges}
-use Rattle.joint_model.specs.Control.{Doing, free, made, lent, gripped, given, met, Stand, idle, snapped, contracted, weakening, marked, restoring, restored, Control, doing_at, candidates_of, carried_edges}
-use Rattle.joint_model.specs.Managed.{Managed, handle_of}
+use Rattle.joint_model.specs.Control.{Doing, free, made, lent, gripped, given, met, Stand, idle, snapped, contracted, weakening, marked, restoring, restored, Control, doing_at, carried_edges}
+use Rattle.joint_model.specs.Managed.{Managed, handle_of, candidates_of}
 use Rattle.joint_model.specs.Peers.{Issued}
 use Rattle.joint_model.specs.Told.{Told, references_of, resolution_of, phase_of}
-use Rattle.history_tests.specs.Lists.{pair_eq, same_list, has_that, is_empty, same_number}
+use Rattle.history_tests.specs.Lists.{same_list, has_that, is_empty, same_number}
 use Rattle.history_tests.specs.Lines.{is_line}
+use Rattle.history_tests.specs.Markings.{ends_eq}
 use Rattle.history_tests.specs.Replies.{same_sort, same_answer, same_phase}
 
 -- the first event of an operation
@@ -67,7 +68,7 @@ is_at_rest _ c = true
 abbrev pub is_phase_of : Stand → ℕ → Phase → Bool
 is_phase_of idle c p = same_phase p at.Idle
 is_phase_of (snapped o) c p = same_phase p at.Snapped
-is_phase_of (contracted o comps xrefs) c p = same_phase p at.Contracted
+is_phase_of (contracted o comps heavy xrefs) c p = same_phase p at.Contracted
 is_phase_of (weakening o count weakened swept) c p =
     not swept && ((same_phase p at.Mirrored && nat_eq count 0 && not weakened) || (same_phase p at.Weakened && nat_eq count c))
 is_phase_of (marked o) c p = same_phase p at.Marked
@@ -84,8 +85,8 @@ may_contract_now (snapped o) k cites = nat_eq o.cycle k && is_empty cites
 may_contract_now _ k cites = false
 
 abbrev pub may_mirror_now : Stand → Managed → List Issued → ℕ → Option ℕ → Told → Bool
-may_mirror_now (contracted o comps xrefs) s issued k cites (references_of refs) =
-    nat_eq o.cycle k && same_number cites (Some o.snap) && same_list pair_eq refs (carried_edges s issued (mirror_edges comps xrefs))
+may_mirror_now (contracted o comps heavy xrefs) s issued k cites (references_of refs) =
+    nat_eq o.cycle k && same_number cites (Some o.snap) && same_list ends_eq refs (carried_edges s issued (mirror_edges comps xrefs))
 may_mirror_now _ s issued k cites told = false
 
 abbrev pub may_weaken_now : Stand → Managed → ℕ → Option ℕ → Bool
@@ -115,7 +116,7 @@ may_resolve_now _ k cites told = false
 
 abbrev pub may_abandon_now : Stand → ℕ → Option ℕ → Bool
 may_abandon_now (snapped o) k cites = nat_eq o.cycle k && is_empty cites
-may_abandon_now (contracted o comps xrefs) k cites = nat_eq o.cycle k && is_empty cites
+may_abandon_now (contracted o comps heavy xrefs) k cites = nat_eq o.cycle k && is_empty cites
 may_abandon_now _ k cites = false
 
 abbrev pub may_refuse_now : Stand → ℕ → Option ℕ → Told → Bool

@@ -27,7 +27,7 @@ ResolutionIsTested = (s : Managed) (dead candidates : List ℕ) (answers : List 
     → IsTrue (is_resolution s dead (answered_alive candidates answers) freed) ↔ IsResolution s dead (IsAnsweredAlive candidates answers) freed
 
 abbrev pub ContractionIsTested : Type 0
-ContractionIsTested = (s : Managed) (dead : List ℕ) (comps : List (List ℕ)) (xrefs : List (ℕ × ℕ)) → IsTrue (is_contraction (dead_graph s dead) comps xrefs) ↔ IsDeadContraction s dead comps xrefs
+ContractionIsTested = (s : Managed) (dead : List ℕ) (comps : List (List ℕ)) (heavy : List ℕ) (xrefs : List (ℕ × ℕ)) → IsTrue (is_contraction (dead_graph s dead) comps heavy xrefs) ↔ IsDeadContraction s dead comps heavy xrefs
 
 -- a slice's closure, and what a sweep frees
 abbrev pub ClosureIsTested : Type 0

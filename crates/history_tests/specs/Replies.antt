@@ -15,7 +15,7 @@ same_sort Framework Framework = true
 same_sort _ _ = false
 
 abbrev pub same_answer : Answer → Answer → Bool
-same_answer said_alive said_alive = true
+same_answer (said_alive h) (said_alive h') = nat_eq h h'
 same_answer said_cleared said_cleared = true
 same_answer _ _ = false
 
@@ -46,11 +46,11 @@ same_reply says.Plain says.Plain = true
 same_reply says.NoMark says.NoMark = true
 same_reply says.More says.More = true
 same_reply says.Done says.Done = true
-same_reply says.Alive says.Alive = true
 same_reply says.Cleared says.Cleared = true
 same_reply (says.M m) (says.M m') = nat_eq m.0 m'.0
 same_reply (says.P p) (says.P p') = nat_eq p.0 p'.0
 same_reply (says.H h) (says.H h') = nat_eq h.0 h'.0
+same_reply (says.Renewed h) (says.Renewed h') = nat_eq h.0 h'.0
 same_reply (says.New m) (says.New m') = nat_eq m.0 m'.0
 same_reply (says.Twin m) (says.Twin m') = nat_eq m.0 m'.0
 same_reply (says.Made p h) (says.Made p' h') = nat_eq p.0 p'.0 && nat_eq h.0 h'.0

@@ -73,5 +73,5 @@ is_resolution s dead kept freed = is_left_by dead (field_reach s.heap kept) free
 abbrev pub answered_alive : List ℕ → List Answer → List ℕ
 answered_alive [] answers = []
 answered_alive (c ∷ cs) [] = []
-answered_alive (c ∷ cs) (said_alive ∷ answers) = c ∷ answered_alive cs answers
+answered_alive (c ∷ cs) (said_alive h ∷ answers) = c ∷ answered_alive cs answers
 answered_alive (c ∷ cs) (said_cleared ∷ answers) = answered_alive cs answers

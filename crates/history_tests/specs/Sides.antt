@@ -1,5 +1,5 @@
 -- Whether an event has what its own side asks for, beside its reply.
-use Rattle.std.specs.Prelude.{ℕ, Bool, true, false, not, ◌&&◌, ◌||◌, nat_eq, List, length, Option, Some, None}
+use Rattle.std.specs.Prelude.{ℕ, Bool, true, false, not, ◌&&◌, ◌||◌, nat_eq, List, [], ◌∷◌, ◌++◌, length, Option, Some, None}
 use Rattle.std.specs.List.{list_all}
 use Rattle.joint_model.specs.declared.names.Thread.{Thread}
 use Rattle.joint_model.specs.declared.names.Thread.TheVariants.{P, C}
@@ -15,7 +15,7 @@ use Rattle.joint_model.specs.ManagedReplay.{ManagedReplay}
 use Rattle.joint_model.specs.PeerReplay.{PeerReplay, Marking, row_of, is_thread}
 use Rattle.joint_model.specs.Peers.{is_held, is_strong}
 use Rattle.joint_model.specs.Phases.{next_phase}
-use Rattle.joint_model.specs.Told.{Told, nothing, snap_of, contraction_of, references_of, slice_of, sweep_of, resolution_of, phase_of, Answer}
+use Rattle.joint_model.specs.Told.{Told, nothing, snap_of, contraction_of, references_of, slice_of, sweep_of, resolution_of, phase_of, Answer, handles_given}
 use Rattle.history_tests.specs.Contractions.{is_contraction, dead_graph, agrees}
 use Rattle.history_tests.specs.Lists.{has, has_that, is_empty, same_number}
 use Rattle.history_tests.specs.Markings.{is_closure, is_sweep}
@@ -26,11 +26,16 @@ use Rattle.history_tests.specs.Rows.{is_snapshot, is_resolution, answered_alive}
 abbrev pub is_open : Managed → ℕ → (OpenCycle → Bool) → Bool
 is_open s k test = has_that (λ c. nat_eq c.number k && test c) s.cycle
 
-abbrev pub may_contract : ManagedReplay → ℕ → List (List ℕ) → List (ℕ × ℕ) → Bool
-may_contract s k comps xrefs = is_open s.managed k (λ c. is_contraction (dead_graph s.managed c.dead) comps xrefs) && not s.contracted
+abbrev pub may_contract : ManagedReplay → ℕ → List (List ℕ) → List ℕ → List (ℕ × ℕ) → Bool
+may_contract s k comps heavy xrefs = is_open s.managed k (λ c. is_contraction (dead_graph s.managed c.dead) comps heavy xrefs) && not s.contracted
+
+-- whether handles are all different, and no row took one of them
+abbrev pub are_new : List ℕ → List ℕ → Bool
+are_new taken [] = true
+are_new taken (h ∷ hs) = not (has taken h) && are_new (taken ++ h ∷ []) hs
 
 abbrev pub may_resolve : ManagedReplay → ℕ → List Answer → List ℕ → Bool
-may_resolve s k answers freed = is_open s.managed k (λ c. nat_eq (length answers) (length c.candidates) && is_resolution s.managed c.dead (answered_alive c.candidates answers) freed)
+may_resolve s k answers freed = is_open s.managed k (λ c. nat_eq (length answers) (length c.candidates) && are_new s.adopted (handles_given answers) && is_resolution s.managed c.dead (answered_alive c.candidates answers) freed)
 
 abbrev pub may_refuse : ManagedReplay → PhaseWord → Phase → Bool
 may_refuse s w phase = is_empty (next_phase phase w) && agrees (same_phase phase at.Idle) (is_empty s.managed.cycle)
@@ -43,7 +48,7 @@ managed_allows s (op.Lend v x) nothing = true
 managed_allows s (op.Meet v sort n p h) nothing = not (has s.adopted h.0)
 managed_allows s (op.Give v) nothing = true
 managed_allows s (op.Snap k) (snap_of freed candidates dead) = is_snapshot s.managed k.0 freed candidates dead
-managed_allows s (op.Contract k) (contraction_of comps xrefs) = may_contract s k.0 comps xrefs
+managed_allows s (op.Contract k) (contraction_of comps heavy xrefs) = may_contract s k.0 comps heavy xrefs
 managed_allows s (op.Resolve k) (resolution_of answers freed) = may_resolve s k.0 answers freed
 managed_allows s (op.Abandon k) nothing = is_open s.managed k.0 (λ c. true)
 managed_allows s (op.Refused w) (phase_of phase) = may_refuse s w phase

@@ -8,7 +8,7 @@ use Rattle.joint_model.specs.Managed.{Managed, OpenCycle}
 use Rattle.joint_model.specs.PeerReplay.{is_thread}
 use Rattle.joint_model.specs.Peers.{Peers, Issued, Hold, held, raw, Strength, strong, weak}
 use Rattle.history_tests.specs.Lists.{same_list, same_number}
-use Rattle.history_tests.specs.Replies.{same_sort}
+use Rattle.history_tests.specs.Replies.{same_sort, same_answer}
 
 -- two places, by a test of what stands in them
 abbrev pub same_option : {A : Type 0} → (A → A → Bool) → Option A → Option A → Bool
@@ -62,7 +62,7 @@ abbrev pub same_issued : Issued → Issued → Bool
 same_issued a b = nat_eq a.peer b.peer && same_hold a.hold b.hold && same_strength a.strength b.strength
 
 abbrev pub same_peers : Peers → Peers → Bool
-same_peers a b = same_heap a.heap b.heap && same_list same_sort a.sorts b.sorts && same_list same_number a.names b.names && same_list same_issued a.issued b.issued
+same_peers a b = same_heap a.heap b.heap && same_list same_sort a.sorts b.sorts && same_list same_number a.names b.names && same_list same_issued a.issued b.issued && nat_eq a.made b.made
 
 abbrev pub same_graph : Graph → Graph → Bool
 same_graph a b = same_managed a.managed b.managed && same_peers a.peers b.peers && same_list same_truth a.removed b.removed
@@ -71,7 +71,7 @@ abbrev pub same_marking : JointMarking → JointMarking → Bool
 same_marking a b = nat_eq a.number b.number && is_thread a.by b.by && same_graph a.begun b.begun
 
 abbrev pub same_joint : Joint → Joint → Bool
-same_joint a b = same_graph a.graph b.graph && same_option same_marking a.marking b.marking && nat_eq a.markings b.markings
+same_joint a b = same_graph a.graph b.graph && same_list (same_option same_answer) a.answers b.answers && same_option same_marking a.marking b.marking && nat_eq a.markings b.markings
 
 -- the test tells exactly that two states are the same
 abbrev pub StatesAreTested : Type 0

@@ -1,6 +1,6 @@
 -- Steps of the joint machine, by computing: what an entry answers, the state after it, and whether it is a step.
-use Rattle.std.specs.Prelude.{ℕ, ◌+◌, Bool, true, false, not, ◌&&◌, ◌||◌, IsTrue, List, [], ◌∷◌, length, filter, filter_map, Option, Some, None}
-use Rattle.std.specs.List.{list_all}
+use Rattle.std.specs.Prelude.{ℕ, ◌+◌, Bool, true, false, not, ◌&&◌, ◌||◌, IsTrue, List, [], ◌∷◌, length, filter, replicate, Option, Some, None}
+use Rattle.std.specs.List.{list_any, list_all}
 use Rattle.joint_model.specs.declared.names.Thread.{Thread}
 use Rattle.joint_model.specs.declared.names.Thread.TheVariants.{C}
 use Rattle.joint_model.specs.declared.lines.Act.TheVariants as act
@@ -10,14 +10,14 @@ use Rattle.joint_model.specs.declared.events.Reply.TheVariants as says
 use Rattle.joint_model.specs.Cycles.{snap_reply, resolve_reply}
 use Rattle.joint_model.specs.Heaps.{Answered, answer, with_freed, is_freed, numbered_at}
 use Rattle.joint_model.specs.Joint.{Joint, Graph, JointMarking, opening, Row, peer, with_managed}
-use Rattle.joint_model.specs.Managed.{OpenCycle, with_snapshot, resolved, abandoned, handle_of}
+use Rattle.joint_model.specs.Managed.{OpenCycle, with_snapshot, resolved, abandoned}
 use Rattle.joint_model.specs.PeerReplay.{is_thread}
 use Rattle.joint_model.specs.Peers.{peer_of}
-use Rattle.joint_model.specs.Run.{joint_answer, removed_all, Moment, IsRun, JointStep}
+use Rattle.joint_model.specs.Run.{joint_answer, joint_restored, Moment, IsRun, JointStep}
 use Rattle.joint_model.specs.Told.{Told, snap_of, sweep_of, resolution_of, Noted}
-use Rattle.history_tests.specs.Graphs.{row_eq, joint_reach}
+use Rattle.history_tests.specs.Graphs.{row_eq, joint_reach, is_handle_here}
 use Rattle.history_tests.specs.Lines.{is_event, is_peer_thread}
-use Rattle.history_tests.specs.Lists.{mem, rises}
+use Rattle.history_tests.specs.Lists.{mem, rises, has_that, is_empty, somes}
 use Rattle.history_tests.specs.Replies.{same_reply}
 use Rattle.history_tests.specs.Rows.{is_live, is_snapshot, is_resolution}
 use Rattle.history_tests.specs.Sides.{is_open}
@@ -48,14 +48,19 @@ joint_swept j (Some m) (sweep_of freed) = answer (says.Swept record { 0 = m.numb
     (record j { graph = record j.graph { peers = record j.graph.peers { heap = with_freed j.graph.peers.heap freed } }; marking = None })
 joint_swept j (Some m) _ = answer (says.MarkOpen record { 0 = m.number }) j
 
+-- the answer to a restore of a handle, given its peer
+abbrev pub restored_on : Joint → ℕ → Option ℕ → Answered Joint
+restored_on j h None = answer says.Cleared j
+restored_on j h (Some p) = joint_restored j h p
+
 -- the answer to an event, and the state after it
 abbrev pub joint_stepped : Joint → Thread → Op → Told → Answered Joint
-joint_stepped j t (op.Snap k) (snap_of freed candidates dead) = answer (snap_reply j.graph.managed freed candidates) (with_managed j (with_snapshot j.graph.managed freed candidates dead))
+joint_stepped j t (op.Snap k) (snap_of freed candidates dead) = answer (snap_reply j.graph.managed freed candidates) (record (with_managed j (with_snapshot j.graph.managed freed candidates dead)) { answers = replicate (length candidates) None })
 joint_stepped j t op.Begin told = joint_begun j j.marking t
 joint_stepped j t op.Sweep told = joint_swept j j.marking told
-joint_stepped j t (op.Resolve k) (resolution_of answers freed) = answer (resolve_reply j.graph.managed freed)
-    (record j { graph = record j.graph { managed = resolved j.graph.managed freed; removed = removed_all j.graph.removed (filter_map (handle_of j.graph.managed) freed) } })
-joint_stepped j t (op.Abandon k) told = answer says.Ok (with_managed j (abandoned j.graph.managed))
+joint_stepped j t (op.Restore h) told = restored_on j h.0 (peer_of j.graph.peers.issued h.0)
+joint_stepped j t (op.Resolve k) (resolution_of alive freed) = answer (resolve_reply j.graph.managed freed) (record (with_managed j (resolved j.graph.managed (somes j.answers) freed)) { answers = [] })
+joint_stepped j t (op.Abandon k) told = answer says.Ok (record (with_managed j (abandoned j.graph.managed)) { answers = [] })
 joint_stepped j t o told = joint_answer j t o
 
 -- whether a sweep may free these peers, given what was reached at the begin and what is reached now
@@ -69,6 +74,17 @@ abbrev pub may_sweep : Joint → Option JointMarking → Thread → Told → Boo
 may_sweep j None t told = is_peer_thread t
 may_sweep j (Some m) t (sweep_of freed) = (is_thread t C || is_thread t m.by) && may_free m (joint_reach m.begun) (joint_reach j.graph) freed
 may_sweep j (Some m) t _ = is_peer_thread t && not (is_thread t m.by)
+
+-- what a restore asks for: a candidate of the open cycle holds the handle, and it isn't removed
+abbrev pub is_candidates : Joint → ℕ → OpenCycle → Bool
+is_candidates j h c = list_any (λ m. is_live j.graph.managed.heap m && is_handle_here (numbered_at j.graph.managed.held m) h) c.candidates
+
+abbrev pub may_renew : Joint → ℕ → Bool
+may_renew j h = has_that (is_candidates j h) j.graph.managed.cycle && has_that not (numbered_at j.graph.removed h) && has_that (λ p. true) (peer_of j.graph.peers.issued h)
+
+-- whether each candidate has had its restore
+abbrev pub is_answered : Joint → Bool
+is_answered j = list_all (λ a. not (is_empty a)) j.answers
 
 -- whether the event is computed
 abbrev pub is_computed : Op → Bool
@@ -91,8 +107,9 @@ abbrev pub joint_allows : Joint → Thread → Op → Told → Bool
 joint_allows j t (op.Snap k) (snap_of freed candidates dead) = is_snapshot j.graph.managed k.0 freed candidates dead
 joint_allows j t op.Begin told = true
 joint_allows j t op.Sweep told = may_sweep j j.marking t told
-joint_allows j t (op.Resolve k) (resolution_of answers freed) = is_open j.graph.managed k.0 (λ c. is_resolution j.graph.managed c.dead (kept_rows j.graph c) freed)
-joint_allows j t (op.Abandon k) told = is_open j.graph.managed k.0 (λ c. true)
+joint_allows j t (op.Restore h) told = may_renew j h.0
+joint_allows j t (op.Resolve k) (resolution_of alive freed) = is_answered j && is_open j.graph.managed k.0 (λ c. is_resolution j.graph.managed c.dead (kept_rows j.graph c) freed)
+joint_allows j t (op.Abandon k) told = list_all is_empty j.answers && is_open j.graph.managed k.0 (λ c. true)
 joint_allows j t o told = is_computed o
 
 -- the state after an entry, and whether the entry is a step to it

@@ -1,5 +1,5 @@
 -- The worked histories, each by computing.
-use Rattle.std.proofs.Common.{refl, [], ◌∷◌}
+use Rattle.std.proofs.Common.{refl, ◌+◌, map, [], ◌∷◌}
 use Rattle.joint_model.specs.Linked.{AllMayCome, opening_linkage}
 use Rattle.joint_model.specs.LinkedHistories.{linked_end}
 use Rattle.history_tests.proofs.HistoryTests.{numbered, whole}
@@ -9,6 +9,7 @@ use Rattle.worked_histories.specs.Abandoned.{abandoned, AbandonedHolds}
 use Rattle.worked_histories.specs.EndedMarking.{ended_marking, EndedMarkingHolds}
 use Rattle.worked_histories.specs.GlobalNames.{global_names, GlobalNamesHold}
 use Rattle.worked_histories.specs.HeldPeer.{held_peer, HeldPeerHolds}
+use Rattle.worked_histories.specs.Meeting.{meeting_history, seven, MeetingHolds}
 use Rattle.worked_histories.specs.MovedPeer.{moved_peer, MovedPeerHolds}
 use Rattle.worked_histories.specs.OneObject.{one_object, OneObjectHolds}
 use Rattle.worked_histories.specs.PeerMarking.{peer_marking, PeerMarkingHolds}
@@ -17,6 +18,7 @@ use Rattle.worked_histories.specs.PlainBetween.{plain_between, PlainBetweenHolds
 use Rattle.worked_histories.specs.PlainObject.{plain_object, PlainObjectHolds}
 use Rattle.worked_histories.specs.RareAnswers.{answers_while_open, framework_twin, begun_before_restore, RareAnswersHold}
 use Rattle.worked_histories.specs.Refusals.{refusals, RefusalsHold}
+use Rattle.worked_histories.specs.RenewedHandle.{renewed_handle, RenewedHandleHolds}
 use Rattle.worked_histories.specs.Resurrected.{resurrected, ResurrectedHolds}
 use Rattle.worked_histories.specs.TwoMarkings.{two_markings, TwoMarkingsHold}
 use Rattle.worked_histories.specs.Phases.{two_phased}
@@ -37,6 +39,9 @@ global_names-holds = worked global_names ([] ∷ (1 ∷ []) ∷ []) refl
 
 pub held_peer-holds : HeldPeerHolds
 held_peer-holds = worked held_peer ([] ∷ []) refl
+
+pub meeting-holds : MeetingHolds
+meeting-holds = worked meeting_history (map (λ i. i + 1) seven ∷ []) refl
 
 pub moved_peer-holds : MovedPeerHolds
 moved_peer-holds = worked moved_peer ([] ∷ []) refl
@@ -65,6 +70,9 @@ rare_answers-hold = record {
 
 pub refusals-holds : RefusalsHold
 refusals-holds = worked refusals ([] ∷ []) refl
+
+pub renewed_handle-holds : RenewedHandleHolds
+renewed_handle-holds = worked renewed_handle ([] ∷ []) refl
 
 pub resurrected-holds : ResurrectedHolds
 resurrected-holds = worked resurrected ([] ∷ []) refl

@@ -64,9 +64,9 @@ peer_was = record { at_begin = unreached_at 4 (moment_at 4) (peer 1) refl refl; 
 pub one : (x : ℕ) → Contains (1 ∷ []) x → x ≡ 1
 one x c = ⊎_elim (λ e. sym e) (λ d. absurd (Contains-nil x d)) (Contains-cons_cases 1 [] x c)
 
-pub freed_one : IsFreedWithPeer one_run 6 1
+pub freed_one : IsFreedWithPeer one_run 7 1
 freed_one = record {
-  moment = moment_at 6;
+  moment = moment_at 7;
   there = refl;
   handle = 1;
   holds = record { live = record { made = omega arith; kept = refuted (member nat_eq is_same [] 1) refl }; held = refl };
@@ -88,10 +88,10 @@ freed_one = record {
 }
 
 -- the place and the data of a resolution, a sweep and a snapshot
-pub resolved_there : (i k : ℕ) (freed : List ℕ) → ResolvesAt one_run i k freed → (i ≡ 6) × (k ≡ 1) × (freed ≡ 1 ∷ [])
+pub resolved_there : (i k : ℕ) (freed : List ℕ) → ResolvesAt one_run i k freed → (i ≡ 7) × (k ≡ 1) × (freed ≡ 1 ∷ [])
 resolved_there i k freed r =
-    let at = place (λ (m : Moment). is_resolve m.noted.entry.made.op) 6 one_run i r.moment refl r.there (subst (λ o. is_resolve o ≡ true) (sym r.event) refl) in
-    let same = same_place one_run i 6 r.moment (moment_at 6) r.there at refl in
+    let at = place (λ (m : Moment). is_resolve m.noted.entry.made.op) 7 one_run i r.moment refl r.there (subst (λ o. is_resolve o ≡ true) (sym r.event) refl) in
+    let same = same_place one_run i 7 r.moment (moment_at 7) r.there at refl in
     let event : op.Resolve record { 0 = 1 } ≡ op.Resolve record { 0 = k } = subst (λ (m : Moment). m.noted.entry.made.op ≡ op.Resolve record { 0 = k }) (sym same) r.event in
     let told : resolution_of (said_cleared ∷ []) (1 ∷ []) ≡ resolution_of r.alive freed = subst (λ (m : Moment). m.noted.told ≡ resolution_of r.alive freed) (sym same) r.frees in
     (at, cycle_from k event, told_from r.alive freed told)
@@ -125,7 +125,7 @@ snapped_there i k freed candidates r =
 pub one_sound : IsSoundRun one_run
 one_sound = record {
   candidates = λ i k m freed r c b. let t = resolved_there i k freed r in let which = one m (subst (λ l. Contains l m) t.2 c) in
-      subst (λ a. IsFreedWithPeer one_run a m) (sym t.0) (subst (IsFreedWithPeer one_run 6) (sym which) freed_one);
+      subst (λ a. IsFreedWithPeer one_run a m) (sym t.0) (subst (IsFreedWithPeer one_run 7) (sym which) freed_one);
   peers = λ i j p freed r c. let t = swept_there i j freed r in let which = one p (subst (λ l. Contains l p) t.2 c) in (
     4,
     sooner i t.0,
@@ -134,13 +134,13 @@ one_sound = record {
   );
   snapped = λ i k m freed candidates r c. absurd (Contains-nil m (subst (λ l. Contains l m) (snapped_there i k freed candidates r) c));
   resolved = λ i k m freed r c. let t = resolved_there i k freed r in let which = one m (subst (λ l. Contains l m) t.2 c) in
-      subst (λ a. IsUnreachedBefore one_run a (object m)) (sym t.0) (subst (λ q. IsUnreachedBefore one_run 6 (object q)) (sym which) (unreached_before 6 (moment_at 6) (object 1) refl refl));
+      subst (λ a. IsUnreachedBefore one_run a (object m)) (sym t.0) (subst (λ q. IsUnreachedBefore one_run 7 (object q)) (sym which) (unreached_before 7 (moment_at 7) (object 1) refl refl));
 }
   where
     sooner : (i : ℕ) → i ≡ 5 → 4 < i
     sooner i e = omega arith
 
-pub cycle_complete : IsCompleteCycle one_run 6 1 (1 ∷ [])
+pub cycle_complete : IsCompleteCycle one_run 7 1 (1 ∷ [])
 cycle_complete = record {
   snap = 3;
   begin = 4;
@@ -166,7 +166,7 @@ cycle_complete = record {
 
 pub one_complete : IsCompleteRun one_run
 one_complete i k freed r = let t = resolved_there i k freed r in
-    subst (λ a. IsCompleteCycle one_run a k freed) (sym t.0) (subst (λ a. IsCompleteCycle one_run 6 a freed) (sym t.1) (subst (IsCompleteCycle one_run 6 1) (sym t.2) cycle_complete))
+    subst (λ a. IsCompleteCycle one_run a k freed) (sym t.0) (subst (λ a. IsCompleteCycle one_run 7 a freed) (sym t.1) (subst (IsCompleteCycle one_run 7 1) (sym t.2) cycle_complete))
 
 pub one_object-freed : FreesOneObject
 one_object-freed = record { sound = one_sound; complete = one_complete }

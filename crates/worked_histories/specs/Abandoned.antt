@@ -19,7 +19,7 @@ abandoned =
     ∷ note 3 C 3 (op.Snap (cycle_no 1)) (says.Snapped 1 (span 0 0)) None (snap_of [] (1 ∷ []) (1 ∷ []))
     ∷ note 4 C 4 (op.Abandon (cycle_no 1)) says.Ok None nothing
     ∷ note 5 C 5 (op.Snap (cycle_no 2)) (says.Snapped 1 (span 0 0)) None (snap_of [] (1 ∷ []) (1 ∷ []))
-    ∷ note 6 C 5 (op.Contract (cycle_no 2)) (says.Sccs 1 0) None (contraction_of ((1 ∷ []) ∷ []) [])
+    ∷ note 6 C 5 (op.Contract (cycle_no 2)) (says.Sccs 1 0) None (contraction_of ((1 ∷ []) ∷ []) [] [])
     ∷ note 7 C 5 (op.Abandon (cycle_no 2)) says.Ok None nothing
     ∷ []
 

@@ -54,7 +54,7 @@ weakly_named =
     ∷ note 7 (P 1) 6 (op.Line (act.Store (static_no 0) None)) says.Ok None nothing
     ∷ note 8 (M 1) 7 (op.Line (act.Drop (var 0))) says.Ok None nothing
     ∷ note 9 C 8 (op.Snap (cycle_no 1)) (says.Snapped 1 (span 0 0)) None (snap_of [] (1 ∷ []) (1 ∷ []))
-    ∷ note 10 C 9 (op.Contract (cycle_no 1)) (says.Sccs 1 0) None (contraction_of ((1 ∷ []) ∷ []) [])
+    ∷ note 10 C 9 (op.Contract (cycle_no 1)) (says.Sccs 1 0) None (contraction_of ((1 ∷ []) ∷ []) [] [])
     ∷ note 11 C 10 (op.Mirror (cycle_no 1)) (says.Refs 0) (Some 9) (references_of [])
     ∷ note 12 C 11 (op.Weaken (handle_no 1)) says.Ok (Some 9) nothing
     ∷ note 13 C 12 op.Begin (says.Mark (marking_no 1)) None nothing

@@ -8,8 +8,8 @@ use Rattle.joint_model.specs.declared.lines.Act.TheVariants as act
 use Rattle.joint_model.specs.declared.events.Op.TheVariants as op
 use Rattle.joint_model.specs.declared.events.Reply.TheVariants as says
 use Rattle.joint_model.specs.Linked.{Linkage, opening_linkage, replayed}
-use Rattle.joint_model.specs.Told.{nothing, snap_of, contraction_of, references_of, sweep_of, resolution_of, Noted, said_cleared}
-use Rattle.worked_histories.specs.Notes.{note, var, static_no, object_no, peer_no, handle_no, cycle_no, marking_no, span}
+use Rattle.joint_model.specs.Told.{nothing, snap_of, contraction_of, sweep_of, resolution_of, Noted, said_cleared}
+use Rattle.worked_histories.specs.Notes.{linking, note, var, static_no, object_no, peer_no, handle_no, cycle_no, marking_no, span}
 
 -- both objects are made and linked, and passed to two statics of the peer heap
 abbrev pub passed_on : List Noted
@@ -43,8 +43,8 @@ let_go =
 abbrev pub collected : List Noted
 collected =
     note 18 C 15 (op.Snap (cycle_no 1)) (says.Snapped 2 (span 0 0)) None (snap_of [] (1 ∷ 2 ∷ []) (1 ∷ 2 ∷ []))
-    ∷ note 19 C 15 (op.Contract (cycle_no 1)) (says.Sccs 2 1) None (contraction_of ((1 ∷ []) ∷ (2 ∷ []) ∷ []) ((0, 1) ∷ []))
-    ∷ note 20 C 15 (op.Mirror (cycle_no 1)) (says.Refs 1) (Some 18) (references_of ((1, 2) ∷ []))
+    ∷ note 19 C 15 (op.Contract (cycle_no 1)) (says.Sccs 2 1) None (contraction_of ((1 ∷ []) ∷ (2 ∷ []) ∷ []) [] ((0, 1) ∷ []))
+    ∷ note 20 C 15 (op.Mirror (cycle_no 1)) (says.Refs 1) (Some 18) (linking ((1, 2) ∷ []))
     ∷ note 21 C 15 (op.Weaken (handle_no 1)) says.Ok (Some 18) nothing
     ∷ note 22 C 15 (op.Weaken (handle_no 2)) says.Ok (Some 18) nothing
     ∷ note 23 C 15 op.Begin (says.Mark (marking_no 1)) None nothing

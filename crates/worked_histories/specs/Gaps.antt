@@ -8,10 +8,10 @@ use Rattle.joint_model.specs.declared.lines.Act.TheVariants as act
 use Rattle.joint_model.specs.declared.events.Op.TheVariants as op
 use Rattle.joint_model.specs.declared.events.Reply.{Reply}
 use Rattle.joint_model.specs.declared.events.Reply.TheVariants as says
-use Rattle.joint_model.specs.Told.{snap_of, contraction_of, references_of, sweep_of, resolution_of, Noted, said_alive, said_cleared, Answer}
+use Rattle.joint_model.specs.Told.{snap_of, contraction_of, sweep_of, resolution_of, Noted, said_alive, said_cleared, Answer}
 use Rattle.worked_histories.specs.Lines.{Move, move, telling, citing, citing_telling, Came, came, notes_of}
 use Rattle.worked_histories.specs.Moments.{IsWorked}
-use Rattle.worked_histories.specs.Notes.{var, static_no, name_no, cell_no, object_no, peer_no, handle_no, cycle_no, marking_no, span}
+use Rattle.worked_histories.specs.Notes.{linking, var, static_no, name_no, cell_no, object_no, peer_no, handle_no, cycle_no, marking_no, span}
 
 -- two bridge objects, of which the first has the second in a field; a weak cell has the second, and a weak name the first's peer;
 -- then no slot holds either
@@ -31,13 +31,13 @@ set_up =
     ∷ []
 
 -- what the cycle comes to: what `mark` sweeps before its begin, the number of its own marking, what that one's sweep frees, the
--- answer to both restores, the number of the clear entry, what the resolution frees, and the last read's reply
+-- answers to both restores, the number of the clear entry, what the resolution frees, and the last read's reply
 pub record Outcome : Type 0 where
   pub first : List Move
   pub marking : ℕ
   pub sweep : Move
-  pub restored : Reply
-  pub answer : Answer
+  pub back : Answer
+  pub second : Answer
   pub clear : ℕ
   pub freed : List ℕ
   pub last : Reply
@@ -51,23 +51,28 @@ frees_none j before = telling op.Sweep (says.Swept (marking_no j) (span before 0
 
 -- both are freed: what `mark` sweeps first, the own marking and its sweep, and the number of the clear entry
 abbrev pub freed_by : List Move → ℕ → Move → ℕ → Outcome
-freed_by first j sweep clear = record { first = first; marking = j; sweep = sweep; restored = says.Cleared; answer = said_cleared; clear = clear; freed = 1 ∷ 2 ∷ []; last = says.Gone }
+freed_by first j sweep clear = record { first = first; marking = j; sweep = sweep; back = said_cleared; second = said_cleared; clear = clear; freed = 1 ∷ 2 ∷ []; last = says.Gone }
 
 -- both are kept, by the first marking
 abbrev pub kept_with : ℕ → Outcome
-kept_with clear = record { first = []; marking = 1; sweep = frees_none 1 0; restored = says.Alive; answer = said_alive; clear = clear; freed = []; last = says.M (object_no 2) }
+kept_with clear = record { first = []; marking = 1; sweep = frees_none 1 0; back = said_alive 4; second = said_alive 5; clear = clear; freed = []; last = says.M (object_no 2) }
+
+-- how a restore says an answer
+abbrev pub restoring : Answer → Reply
+restoring (said_alive h) = says.Renewed (handle_no h)
+restoring said_cleared = says.Cleared
 
 -- the eight phases, a line each; the snap has number 14
 abbrev pub phase_lines : Outcome → List Came
 phase_lines o =
     came C (telling (op.Snap (cycle_no 1)) (says.Snapped 2 (span 0 0)) (snap_of [] (1 ∷ 2 ∷ []) (1 ∷ 2 ∷ [])) ∷ [])
-    ∷ came C (telling (op.Contract (cycle_no 1)) (says.Sccs 2 1) (contraction_of ((1 ∷ []) ∷ (2 ∷ []) ∷ []) ((0, 1) ∷ [])) ∷ [])
-    ∷ came C (citing_telling (op.Mirror (cycle_no 1)) (says.Refs 1) 14 (references_of ((1, 2) ∷ [])) ∷ [])
+    ∷ came C (telling (op.Contract (cycle_no 1)) (says.Sccs 2 1) (contraction_of ((1 ∷ []) ∷ (2 ∷ []) ∷ []) [] ((0, 1) ∷ [])) ∷ [])
+    ∷ came C (citing_telling (op.Mirror (cycle_no 1)) (says.Refs 1) 14 (linking ((1, 2) ∷ [])) ∷ [])
     ∷ came C (citing (op.Weaken (handle_no 1)) says.Ok 14 ∷ citing (op.Weaken (handle_no 2)) says.Ok 14 ∷ [])
     ∷ came C (o.first ++ move op.Begin (says.Mark (marking_no o.marking)) ∷ [])
     ∷ came C (o.sweep ∷ [])
-    ∷ came C (move (op.Restore (handle_no 1)) o.restored ∷ move (op.Restore (handle_no 2)) o.restored ∷ move (op.Clear (cycle_no 1)) says.Ok ∷ [])
-    ∷ came C (citing_telling (op.Resolve (cycle_no 1)) (says.Freed (span 0 (length o.freed))) o.clear (resolution_of (o.answer ∷ o.answer ∷ []) o.freed) ∷ [])
+    ∷ came C (move (op.Restore (handle_no 1)) (restoring o.back) ∷ move (op.Restore (handle_no 2)) (restoring o.second) ∷ move (op.Clear (cycle_no 1)) says.Ok ∷ [])
+    ∷ came C (citing_telling (op.Resolve (cycle_no 1)) (says.Freed (span 0 (length o.freed))) o.clear (resolution_of (o.back ∷ o.second ∷ []) o.freed) ∷ [])
     ∷ []
 
 -- the lines put in after so many phases, and at the end a read of the weak cell

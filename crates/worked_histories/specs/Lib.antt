@@ -13,10 +13,12 @@ pub mod PendingRead
 pub mod PeerMarking
 pub mod GlobalNames
 pub mod Resurrected
+pub mod RenewedHandle
 pub mod MovedPeer
 pub mod EndedMarking
 pub mod PlainBetween
 pub mod HeldPeer
+pub mod Meeting
 pub mod Abandoned
 pub mod OneObject
 pub mod SideLists

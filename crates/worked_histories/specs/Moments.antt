@@ -1,11 +1,12 @@
 -- A linked history as moments of the joint machine: each entry that is a step, with the joint states before and after it.
-use Rattle.std.specs.Prelude.{ℕ, Bool, true, false, if◌then◌else◌, List, [], ◌∷◌}
+use Rattle.std.specs.Prelude.{ℕ, Bool, true, false, if◌then◌else◌, List, [], ◌∷◌, length}
 use Rattle.joint_model.specs.declared.events.Reply.{Reply}
 use Rattle.joint_model.specs.declared.events.Reply.TheVariants as says
-use Rattle.joint_model.specs.Joined.{joint_since, graph_at}
+use Rattle.joint_model.specs.Joined.{joint_since, answers_at, graph_at}
 use Rattle.joint_model.specs.Joint.{Joint, Graph, opening, AreUnreached}
 use Rattle.joint_model.specs.Linked.{Linkage, opening_linkage, is_joint}
 use Rattle.joint_model.specs.LinkedHistories.{joint_projection, IsLinkedBy}
+use Rattle.joint_model.specs.Managed.{candidates_of}
 use Rattle.joint_model.specs.Readers.{is_aside, entry_after}
 use Rattle.joint_model.specs.Run.{Moment, IsRun}
 use Rattle.joint_model.specs.Told.{Noted}
@@ -17,7 +18,7 @@ is_step n = if is_aside n then false else is_joint n.entry.made.op
 
 -- the joint state of a linked history, with the graph that stood at the begin of the open marking
 abbrev pub linked_joint : Linkage → Graph → Joint
-linked_joint s begun = joint_since s.managed.managed s.peer begun
+linked_joint s begun = joint_since s.managed.managed s.peer (answers_at s.control.stand (length (candidates_of s.managed.managed))) begun
 
 -- the graph of now
 abbrev pub linked_graph : Linkage → Graph

@@ -24,7 +24,7 @@ moved_peer =
     ∷ note 8 (P 1) 7 (op.Line (act.Store (static_no 0) None)) says.Ok None nothing
     ∷ note 9 (M 1) 8 (op.Line (act.Drop (var 0))) says.Ok None nothing
     ∷ note 10 C 9 (op.Snap (cycle_no 1)) (says.Snapped 1 (span 0 0)) None (snap_of [] (1 ∷ []) (1 ∷ []))
-    ∷ note 11 C 10 (op.Contract (cycle_no 1)) (says.Sccs 1 0) None (contraction_of ((1 ∷ []) ∷ []) [])
+    ∷ note 11 C 10 (op.Contract (cycle_no 1)) (says.Sccs 1 0) None (contraction_of ((1 ∷ []) ∷ []) [] [])
     ∷ note 12 (P 1) 11 (op.Line (act.Get (var 2) (var 1) 0)) (says.P (peer_no 1)) None nothing
     ∷ note 13 (P 1) 12 (op.Line (act.Store (static_no 1) (Some (var 2)))) says.Ok None nothing
     ∷ note 14 (P 1) 13 (op.Line (act.Set (var 1) 0 None)) says.Ok None nothing
@@ -33,9 +33,9 @@ moved_peer =
     ∷ note 17 C 15 (op.Weaken (handle_no 1)) says.Ok (Some 10) nothing
     ∷ note 18 C 15 op.Begin (says.Mark (marking_no 1)) None nothing
     ∷ note 19 C 15 op.Sweep (says.Swept (marking_no 1) (span 0 0)) None (sweep_of [])
-    ∷ note 20 C 15 (op.Restore (handle_no 1)) says.Alive None nothing
+    ∷ note 20 C 15 (op.Restore (handle_no 1)) (says.Renewed (handle_no 2)) None nothing
     ∷ note 21 C 15 (op.Clear (cycle_no 1)) says.Ok None nothing
-    ∷ note 22 C 15 (op.Resolve (cycle_no 1)) (says.Freed (span 0 0)) (Some 21) (resolution_of (said_alive ∷ []) [])
+    ∷ note 22 C 15 (op.Resolve (cycle_no 1)) (says.Freed (span 0 0)) (Some 21) (resolution_of ((said_alive 2) ∷ []) [])
     ∷ []
 
 -- the notes make a linked history, and the entries that are steps of the joint machine are a run

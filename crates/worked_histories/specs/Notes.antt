@@ -1,5 +1,5 @@
 -- Short words for writing a history down.
-use Rattle.std.specs.Prelude.{ℕ, Option}
+use Rattle.std.specs.Prelude.{ℕ, List, map, Option}
 use Rattle.joint_model.specs.declared.names.Var.{Var}
 use Rattle.joint_model.specs.declared.names.MNum.{MNum}
 use Rattle.joint_model.specs.declared.names.PNum.{PNum}
@@ -13,11 +13,16 @@ use Rattle.joint_model.specs.declared.names.Span.{Span}
 use Rattle.joint_model.specs.declared.names.Thread.{Thread}
 use Rattle.joint_model.specs.declared.events.Op.{Op}
 use Rattle.joint_model.specs.declared.events.Reply.{Reply}
-use Rattle.joint_model.specs.Told.{Told, Noted}
+use Rattle.joint_model.specs.Components.{between_nodes}
+use Rattle.joint_model.specs.Told.{Told, references_of, Noted}
 
 -- the entry with that number, by that caller on that line, with its event, its reply, what it cites and what is told
 abbrev pub note : ℕ → Thread → ℕ → Op → Reply → Option ℕ → Told → Noted
 note number caller line o reply cites told = record { entry = record { number = number; made = record { caller = caller; index = line; op = o; reply = reply; cites = cites } }; told = told }
+
+-- a mirror is told references between peers alone
+abbrev pub linking : List (ℕ × ℕ) → Told
+linking pairs = references_of (map between_nodes pairs)
 
 -- a variable, a static, a global name and a cell by their places
 abbrev pub var : ℕ → Var

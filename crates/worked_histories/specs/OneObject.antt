@@ -17,7 +17,7 @@ one_object =
     ∷ note 1 (M 1) 1 (op.Adopt (var 0) kind.Bridge 0 (peer_no 1) (handle_no 1)) (says.M (object_no 1)) (Some 0) nothing
     ∷ note 2 (M 1) 2 (op.Line (act.Drop (var 0))) says.Ok None nothing
     ∷ note 3 C 3 (op.Snap (cycle_no 1)) (says.Snapped 1 (span 0 0)) None (snap_of [] (1 ∷ []) (1 ∷ []))
-    ∷ note 4 C 3 (op.Contract (cycle_no 1)) (says.Sccs 1 0) None (contraction_of ((1 ∷ []) ∷ []) [])
+    ∷ note 4 C 3 (op.Contract (cycle_no 1)) (says.Sccs 1 0) None (contraction_of ((1 ∷ []) ∷ []) [] [])
     ∷ note 5 C 3 (op.Mirror (cycle_no 1)) (says.Refs 0) (Some 3) (references_of [])
     ∷ note 6 C 3 (op.Weaken (handle_no 1)) says.Ok (Some 3) nothing
     ∷ note 7 C 3 op.Begin (says.Mark (marking_no 1)) None nothing

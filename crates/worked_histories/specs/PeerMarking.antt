@@ -6,9 +6,9 @@ use Rattle.joint_model.specs.declared.names.Kind.TheVariants as kind
 use Rattle.joint_model.specs.declared.lines.Act.TheVariants as act
 use Rattle.joint_model.specs.declared.events.Op.TheVariants as op
 use Rattle.joint_model.specs.declared.events.Reply.TheVariants as says
-use Rattle.joint_model.specs.Told.{nothing, snap_of, contraction_of, references_of, sweep_of, resolution_of, Noted, said_cleared}
+use Rattle.joint_model.specs.Told.{nothing, snap_of, contraction_of, sweep_of, resolution_of, Noted, said_cleared}
 use Rattle.worked_histories.specs.Moments.{IsWorked}
-use Rattle.worked_histories.specs.Notes.{note, var, object_no, peer_no, handle_no, cycle_no, marking_no, span}
+use Rattle.worked_histories.specs.Notes.{linking, note, var, object_no, peer_no, handle_no, cycle_no, marking_no, span}
 
 -- the whole history
 abbrev pub peer_marking : List Noted
@@ -22,8 +22,8 @@ peer_marking =
     ∷ note 6 (M 1) 5 (op.Line (act.Drop (var 0))) says.Ok None nothing
     ∷ note 7 (M 1) 6 (op.Line (act.Drop (var 1))) says.Ok None nothing
     ∷ note 8 C 7 (op.Snap (cycle_no 1)) (says.Snapped 2 (span 0 0)) None (snap_of [] (1 ∷ 2 ∷ []) (1 ∷ 2 ∷ []))
-    ∷ note 9 C 8 (op.Contract (cycle_no 1)) (says.Sccs 1 0) None (contraction_of ((1 ∷ 2 ∷ []) ∷ []) [])
-    ∷ note 10 C 9 (op.Mirror (cycle_no 1)) (says.Refs 2) (Some 8) (references_of ((1, 2) ∷ (2, 1) ∷ []))
+    ∷ note 9 C 8 (op.Contract (cycle_no 1)) (says.Sccs 1 0) None (contraction_of ((1 ∷ 2 ∷ []) ∷ []) [] [])
+    ∷ note 10 C 9 (op.Mirror (cycle_no 1)) (says.Refs 2) (Some 8) (linking ((1, 2) ∷ (2, 1) ∷ []))
     ∷ note 11 C 10 (op.Weaken (handle_no 1)) says.Ok (Some 8) nothing
     ∷ note 12 C 10 (op.Weaken (handle_no 2)) says.Ok (Some 8) nothing
     ∷ note 13 (P 1) 11 op.Begin (says.Mark (marking_no 1)) None nothing

@@ -19,7 +19,7 @@ pending_read =
     ∷ note 3 (M 1) 3 (op.Line (act.Drop (var 0))) says.Ok None nothing
     ∷ note 4 C 4 (op.Snap (cycle_no 1)) (says.Snapped 1 (span 0 0)) None (snap_of [] (1 ∷ []) (1 ∷ []))
     ∷ note 5 (M 1) 5 (op.Line (act.Read (cell_no 0))) (says.Pending (cycle_no 1)) None nothing
-    ∷ note 6 C 6 (op.Contract (cycle_no 1)) (says.Sccs 1 0) None (contraction_of ((1 ∷ []) ∷ []) [])
+    ∷ note 6 C 6 (op.Contract (cycle_no 1)) (says.Sccs 1 0) None (contraction_of ((1 ∷ []) ∷ []) [] [])
     ∷ note 7 C 7 (op.Mirror (cycle_no 1)) (says.Refs 0) (Some 4) (references_of [])
     ∷ note 8 C 8 (op.Weaken (handle_no 1)) says.Ok (Some 4) nothing
     ∷ note 9 C 9 op.Begin (says.Mark (marking_no 1)) None nothing

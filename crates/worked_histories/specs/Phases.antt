@@ -1,6 +1,6 @@
 -- Two bridge objects, of which the first has the second in a field, with cycles of eight phases: the first cycle finds both
 -- reached, and the second frees both with their peers.
-use Rattle.std.specs.Prelude.{◌≡◌, ℕ, List, [], ◌∷◌, ◌++◌, take, Contains, Some, None}
+use Rattle.std.specs.Prelude.{◌≡◌, ℕ, List, [], ◌∷◌, ◌++◌, take, map, Contains, Some, None}
 use Rattle.joint_model.specs.declared.names.Thread.TheVariants.{M, C}
 use Rattle.joint_model.specs.declared.names.Sort.TheVariants.{User}
 use Rattle.joint_model.specs.declared.names.Kind.TheVariants as kind
@@ -8,9 +8,10 @@ use Rattle.joint_model.specs.declared.lines.Act.TheVariants as act
 use Rattle.joint_model.specs.declared.events.Op.TheVariants as op
 use Rattle.joint_model.specs.declared.events.Reply.{Reply}
 use Rattle.joint_model.specs.declared.events.Reply.TheVariants as says
+use Rattle.joint_model.specs.Components.{End, between_nodes}
 use Rattle.joint_model.specs.Linked.{Linkage, opening_linkage, replayed, MayCome}
 use Rattle.joint_model.specs.Told.{nothing, snap_of, contraction_of, references_of, sweep_of, resolution_of, Noted, said_cleared, Answer}
-use Rattle.worked_histories.specs.Notes.{note, var, object_no, peer_no, handle_no, cycle_no, marking_no, span}
+use Rattle.worked_histories.specs.Notes.{linking, note, var, object_no, peer_no, handle_no, cycle_no, marking_no, span}
 
 -- both objects are made, the first gets the second into its field, and the second's variable is emptied
 abbrev pub two_made : List Noted
@@ -27,7 +28,7 @@ two_made =
 abbrev pub reached_cycle : List Noted
 reached_cycle =
     note 6 C 5 (op.Snap (cycle_no 1)) (says.Snapped 0 (span 0 0)) None (snap_of [] [] [])
-    ∷ note 7 C 5 (op.Contract (cycle_no 1)) (says.Sccs 0 0) None (contraction_of [] [])
+    ∷ note 7 C 5 (op.Contract (cycle_no 1)) (says.Sccs 0 0) None (contraction_of [] [] [])
     ∷ note 8 C 5 (op.Mirror (cycle_no 1)) (says.Refs 0) (Some 6) (references_of [])
     ∷ note 9 C 5 op.Begin (says.Mark (marking_no 1)) None nothing
     ∷ note 10 C 5 op.Sweep (says.Swept (marking_no 1) (span 0 0)) None (sweep_of [])
@@ -40,13 +41,13 @@ abbrev pub dead_snap : List Noted
 dead_snap =
     note 13 (M 1) 6 (op.Line (act.Drop (var 0))) says.Ok None nothing
     ∷ note 14 C 7 (op.Snap (cycle_no 2)) (says.Snapped 2 (span 0 0)) None (snap_of [] (1 ∷ 2 ∷ []) (1 ∷ 2 ∷ []))
-    ∷ note 15 C 7 (op.Contract (cycle_no 2)) (says.Sccs 2 1) None (contraction_of ((1 ∷ []) ∷ (2 ∷ []) ∷ []) ((0, 1) ∷ []))
+    ∷ note 15 C 7 (op.Contract (cycle_no 2)) (says.Sccs 2 1) None (contraction_of ((1 ∷ []) ∷ (2 ∷ []) ∷ []) [] ((0, 1) ∷ []))
     ∷ []
 
 -- both handles are weakened, and the marking has begun
 abbrev pub weakened_both : List Noted
 weakened_both =
-    note 16 C 7 (op.Mirror (cycle_no 2)) (says.Refs 1) (Some 14) (references_of ((1, 2) ∷ []))
+    note 16 C 7 (op.Mirror (cycle_no 2)) (says.Refs 1) (Some 14) (linking ((1, 2) ∷ []))
     ∷ note 17 C 7 (op.Weaken (handle_no 1)) says.Ok (Some 14) nothing
     ∷ note 18 C 7 (op.Weaken (handle_no 2)) says.Ok (Some 14) nothing
     ∷ note 19 C 7 op.Begin (says.Mark (marking_no 2)) None nothing
@@ -105,7 +106,7 @@ KeepsReached = (freed candidates dead : List ℕ) (reply : Reply) → Contains f
 
 -- a mirror that may come there adds the one reference, and no other list
 abbrev pub MirrorsBoth : Type 0
-MirrorsBoth = (refs : List (ℕ × ℕ)) (reply : Reply) → MayCome before_mirror (note 16 C 7 (op.Mirror (cycle_no 2)) reply (Some 14) (references_of refs)) → refs ≡ (1, 2) ∷ []
+MirrorsBoth = (refs : List (End × End)) (reply : Reply) → MayCome before_mirror (note 16 C 7 (op.Mirror (cycle_no 2)) reply (Some 14) (references_of refs)) → refs ≡ map between_nodes ((1, 2) ∷ [])
 
 -- a resolution that may come there keeps neither candidate, and frees both
 abbrev pub ResolvesBoth : Type 0

@@ -30,7 +30,7 @@ pinned_twice = note 6 (M 1) 6 (op.Line (act.Read (cell_no 5))) (says.Pinned (obj
 abbrev pub pinned_cycle : List Noted
 pinned_cycle =
     note 7 C 7 (op.Snap (cycle_no 1)) (says.Snapped 0 (span 0 0)) None (snap_of [] [] [])
-    ∷ note 8 C 7 (op.Contract (cycle_no 1)) (says.Sccs 0 0) None (contraction_of [] [])
+    ∷ note 8 C 7 (op.Contract (cycle_no 1)) (says.Sccs 0 0) None (contraction_of [] [] [])
     ∷ note 9 C 7 (op.Mirror (cycle_no 1)) (says.Refs 0) (Some 7) (references_of [])
     ∷ note 10 C 7 op.Begin (says.Mark (marking_no 1)) None nothing
     ∷ note 11 C 7 op.Sweep (says.Swept (marking_no 1) (span 0 0)) None (sweep_of [])

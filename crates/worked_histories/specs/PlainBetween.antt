@@ -1,5 +1,5 @@
 -- Two bridge objects with two plain ones between them, of which the first one has a peer in a static.
-use Rattle.std.specs.Prelude.{◌≡◌, ℕ, List, [], ◌∷◌, ◌++◌, Contains, Some, None}
+use Rattle.std.specs.Prelude.{◌≡◌, ℕ, List, [], ◌∷◌, ◌++◌, map, Contains, Some, None}
 use Rattle.joint_model.specs.declared.names.Thread.TheVariants.{M, C}
 use Rattle.joint_model.specs.declared.names.Sort.TheVariants.{User, Framework}
 use Rattle.joint_model.specs.declared.names.Kind.TheVariants as kind
@@ -7,11 +7,12 @@ use Rattle.joint_model.specs.declared.lines.Act.TheVariants as act
 use Rattle.joint_model.specs.declared.events.Op.TheVariants as op
 use Rattle.joint_model.specs.declared.events.Reply.{Reply}
 use Rattle.joint_model.specs.declared.events.Reply.TheVariants as says
+use Rattle.joint_model.specs.Components.{End, between_nodes}
 use Rattle.joint_model.specs.Linked.{Linkage, opening_linkage, replayed, AllMayCome, MayCome}
 use Rattle.joint_model.specs.PeerReplay.{SweepAllows}
 use Rattle.joint_model.specs.Told.{nothing, snap_of, contraction_of, references_of, sweep_of, resolution_of, Noted, said_alive}
 use Rattle.worked_histories.specs.Moments.{IsWorked}
-use Rattle.worked_histories.specs.Notes.{note, var, static_no, object_no, peer_no, handle_no, cycle_no, marking_no, span}
+use Rattle.worked_histories.specs.Notes.{linking, note, var, static_no, object_no, peer_no, handle_no, cycle_no, marking_no, span}
 
 -- all objects are made and linked, the first peer comes into the static, no variable holds them any more, and the cycle has
 -- found its candidates
@@ -33,12 +34,12 @@ plain_contracted =
     ∷ note 13 (M 1) 11 (op.Line (act.Drop (var 2))) says.Ok None nothing
     ∷ note 14 (M 1) 12 (op.Line (act.Drop (var 3))) says.Ok None nothing
     ∷ note 15 C 13 (op.Snap (cycle_no 1)) (says.Snapped 2 (span 0 0)) None (snap_of [] (1 ∷ 4 ∷ []) (1 ∷ 2 ∷ 3 ∷ 4 ∷ []))
-    ∷ note 16 C 13 (op.Contract (cycle_no 1)) (says.Sccs 2 1) None (contraction_of ((1 ∷ []) ∷ (4 ∷ []) ∷ []) ((0, 1) ∷ []))
+    ∷ note 16 C 13 (op.Contract (cycle_no 1)) (says.Sccs 2 1) None (contraction_of ((1 ∷ []) ∷ (4 ∷ []) ∷ []) [] ((0, 1) ∷ []))
     ∷ []
 
 -- the mirror adds the one reference
 abbrev pub plain_mirrored : Noted
-plain_mirrored = note 17 C 13 (op.Mirror (cycle_no 1)) (says.Refs 1) (Some 15) (references_of ((1, 2) ∷ []))
+plain_mirrored = note 17 C 13 (op.Mirror (cycle_no 1)) (says.Refs 1) (Some 15) (linking ((1, 2) ∷ []))
 
 -- both handles are weakened, and the marking has begun
 abbrev pub plain_weakened : List Noted
@@ -52,10 +53,10 @@ plain_weakened =
 abbrev pub plain_kept : List Noted
 plain_kept =
     note 21 C 13 op.Sweep (says.Swept (marking_no 1) (span 0 0)) None (sweep_of [])
-    ∷ note 22 C 13 (op.Restore (handle_no 1)) says.Alive None nothing
-    ∷ note 23 C 13 (op.Restore (handle_no 2)) says.Alive None nothing
+    ∷ note 22 C 13 (op.Restore (handle_no 1)) (says.Renewed (handle_no 3)) None nothing
+    ∷ note 23 C 13 (op.Restore (handle_no 2)) (says.Renewed (handle_no 4)) None nothing
     ∷ note 24 C 13 (op.Clear (cycle_no 1)) says.Ok None nothing
-    ∷ note 25 C 13 (op.Resolve (cycle_no 1)) (says.Freed (span 0 0)) (Some 24) (resolution_of (said_alive ∷ said_alive ∷ []) [])
+    ∷ note 25 C 13 (op.Resolve (cycle_no 1)) (says.Freed (span 0 0)) (Some 24) (resolution_of ((said_alive 3) ∷ (said_alive 4) ∷ []) [])
     ∷ []
 
 -- the whole history
@@ -81,6 +82,6 @@ before_bare_sweep = replayed before_plain_mirror (note 17 C 13 (op.Mirror (cycle
 -- reference the peers' own list asks for exactly that sweep
 pub record MirrorHoldsSecond : Type 0 where
   pub lawful : AllMayCome opening_linkage (plain_contracted ++ (plain_mirrored ∷ plain_weakened))
-  pub mirrored : (refs : List (ℕ × ℕ)) (reply : Reply) → MayCome before_plain_mirror (note 17 C 13 (op.Mirror (cycle_no 1)) reply (Some 15) (references_of refs)) → refs ≡ (1, 2) ∷ []
+  pub mirrored : (refs : List (End × End)) (reply : Reply) → MayCome before_plain_mirror (note 17 C 13 (op.Mirror (cycle_no 1)) reply (Some 15) (references_of refs)) → refs ≡ map between_nodes ((1, 2) ∷ [])
   pub kept : (freed : List ℕ) (reply : Reply) → Contains freed 2 → MayCome before_plain_sweep (note 21 C 13 op.Sweep reply None (sweep_of freed)) → ⊥
   pub freed_without : SweepAllows before_bare_sweep.peer before_bare_sweep.peer.marking C (sweep_of (2 ∷ []))

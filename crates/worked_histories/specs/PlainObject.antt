@@ -15,7 +15,7 @@ plain_object =
     note 0 (M 1) 1 (op.Line (act.New (var 0) kind.Plain 0)) (says.M (object_no 1)) None nothing
     ∷ note 1 (M 1) 2 (op.Line (act.Drop (var 0))) says.Ok None nothing
     ∷ note 2 C 3 (op.Snap (cycle_no 1)) (says.Snapped 0 (span 0 1)) None (snap_of (1 ∷ []) [] [])
-    ∷ note 3 C 3 (op.Contract (cycle_no 1)) (says.Sccs 0 0) None (contraction_of [] [])
+    ∷ note 3 C 3 (op.Contract (cycle_no 1)) (says.Sccs 0 0) None (contraction_of [] [] [])
     ∷ note 4 C 3 (op.Mirror (cycle_no 1)) (says.Refs 0) (Some 2) (references_of [])
     ∷ note 5 C 3 op.Begin (says.Mark (marking_no 1)) None nothing
     ∷ note 6 C 3 op.Sweep (says.Swept (marking_no 1) (span 0 0)) None (sweep_of [])

@@ -26,7 +26,7 @@ answers_while_open =
     ∷ note 8 C 8 (op.Snap (cycle_no 1)) (says.Snapped 0 (span 0 1)) None (snap_of (2 ∷ []) [] [])
     ∷ note 9 (M 1) 9 (op.Line (act.Read (cell_no 0))) (says.Pinned (object_no 1)) None nothing
     ∷ note 10 (M 2) 10 (op.Line (act.Read (cell_no 1))) (says.Pending (cycle_no 1)) None nothing
-    ∷ note 11 C 11 (op.Contract (cycle_no 1)) (says.Sccs 0 0) None (contraction_of [] [])
+    ∷ note 11 C 11 (op.Contract (cycle_no 1)) (says.Sccs 0 0) None (contraction_of [] [] [])
     ∷ note 12 C 12 (op.Mirror (cycle_no 1)) (says.Refs 0) (Some 8) (references_of [])
     ∷ note 13 C 13 op.Begin (says.Mark (marking_no 1)) None nothing
     ∷ note 14 C 14 op.Sweep (says.Swept (marking_no 1) (span 0 0)) None (sweep_of [])
@@ -57,7 +57,7 @@ begun_before_restore =
     ∷ note 1 (M 1) 1 (op.Adopt (var 0) kind.Bridge 0 (peer_no 1) (handle_no 1)) (says.M (object_no 1)) (Some 0) nothing
     ∷ note 2 (M 1) 2 (op.Line (act.Drop (var 0))) says.Ok None nothing
     ∷ note 3 C 3 (op.Snap (cycle_no 1)) (says.Snapped 1 (span 0 0)) None (snap_of [] (1 ∷ []) (1 ∷ []))
-    ∷ note 4 C 4 (op.Contract (cycle_no 1)) (says.Sccs 1 0) None (contraction_of ((1 ∷ []) ∷ []) [])
+    ∷ note 4 C 4 (op.Contract (cycle_no 1)) (says.Sccs 1 0) None (contraction_of ((1 ∷ []) ∷ []) [] [])
     ∷ note 5 C 5 (op.Mirror (cycle_no 1)) (says.Refs 0) (Some 3) (references_of [])
     ∷ note 6 C 6 (op.Weaken (handle_no 1)) says.Ok (Some 3) nothing
     ∷ note 7 C 7 op.Begin (says.Mark (marking_no 1)) None nothing

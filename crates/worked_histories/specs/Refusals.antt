@@ -16,7 +16,7 @@ refusals =
     ∷ note 1 C 2 (op.Snap (cycle_no 1)) (says.Snapped 0 (span 0 0)) None (snap_of [] [] [])
     ∷ note 2 C 3 (op.Refused word.Snap) (says.CycleOpen (cycle_no 1)) None (phase_of at.Snapped)
     ∷ note 3 C 4 (op.Refused word.Mirror) (says.At at.Snapped) None (phase_of at.Snapped)
-    ∷ note 4 C 4 (op.Contract (cycle_no 1)) (says.Sccs 0 0) None (contraction_of [] [])
+    ∷ note 4 C 4 (op.Contract (cycle_no 1)) (says.Sccs 0 0) None (contraction_of [] [] [])
     ∷ note 5 C 4 (op.Mirror (cycle_no 1)) (says.Refs 0) (Some 1) (references_of [])
     ∷ note 6 C 4 op.Begin (says.Mark (marking_no 1)) None nothing
     ∷ note 7 C 4 op.Sweep (says.Swept (marking_no 1) (span 0 0)) None (sweep_of [])

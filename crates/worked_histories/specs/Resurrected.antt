@@ -24,14 +24,14 @@ resurrected =
     ∷ note 8 (M 1) 7 (op.Line (act.Drop (var 0))) says.Ok None nothing
     ∷ note 9 C 8 (op.Snap (cycle_no 1)) (says.Snapped 1 (span 0 0)) None (snap_of [] (1 ∷ []) (1 ∷ []))
     ∷ note 10 (P 1) 9 (op.Line (act.WRead (var 1) (name_no 0))) (says.P (peer_no 1)) None nothing
-    ∷ note 11 C 10 (op.Contract (cycle_no 1)) (says.Sccs 1 0) None (contraction_of ((1 ∷ []) ∷ []) [])
+    ∷ note 11 C 10 (op.Contract (cycle_no 1)) (says.Sccs 1 0) None (contraction_of ((1 ∷ []) ∷ []) [] [])
     ∷ note 12 C 10 (op.Mirror (cycle_no 1)) (says.Refs 0) (Some 9) (references_of [])
     ∷ note 13 C 10 (op.Weaken (handle_no 1)) says.Ok (Some 9) nothing
     ∷ note 14 C 10 op.Begin (says.Mark (marking_no 1)) None nothing
     ∷ note 15 C 10 op.Sweep (says.Swept (marking_no 1) (span 0 0)) None (sweep_of [])
-    ∷ note 16 C 10 (op.Restore (handle_no 1)) says.Alive None nothing
+    ∷ note 16 C 10 (op.Restore (handle_no 1)) (says.Renewed (handle_no 3)) None nothing
     ∷ note 17 C 10 (op.Clear (cycle_no 1)) says.Ok None nothing
-    ∷ note 18 C 10 (op.Resolve (cycle_no 1)) (says.Freed (span 0 0)) (Some 17) (resolution_of (said_alive ∷ []) [])
+    ∷ note 18 C 10 (op.Resolve (cycle_no 1)) (says.Freed (span 0 0)) (Some 17) (resolution_of ((said_alive 3) ∷ []) [])
     ∷ []
 
 -- the notes make a linked history, and the entries that are steps of the joint machine are a run

@@ -21,7 +21,7 @@ two_markings =
     ∷ note 5 (M 1) 4 (op.Grip (static_no 0)) (says.Gripped (peer_no 1) (handle_no 2) User 0) None nothing
     ∷ note 6 (M 1) 4 (op.Meet (var 1) User 0 (peer_no 1) (handle_no 2)) (says.Pending (cycle_no 1)) (Some 5) nothing
     ∷ note 7 (M 1) 4 (op.Release (handle_no 2)) says.Ok (Some 6) nothing
-    ∷ note 8 C 5 (op.Contract (cycle_no 1)) (says.Sccs 0 0) None (contraction_of [] [])
+    ∷ note 8 C 5 (op.Contract (cycle_no 1)) (says.Sccs 0 0) None (contraction_of [] [] [])
     ∷ note 9 C 6 (op.Mirror (cycle_no 1)) (says.Refs 0) (Some 4) (references_of [])
     ∷ note 10 (P 1) 7 op.Begin (says.Mark (marking_no 1)) None nothing
     ∷ note 11 (P 2) 8 op.Begin (says.MarkOpen (marking_no 1)) None nothing

@@ -25,6 +25,7 @@ state_of m p cycle = record {
     peers = record opening_peers { heap = heap_naming p };
     removed = [];
   };
+  answers = [];
   marking = None;
   markings = 0;
 }

@@ -1,6 +1,7 @@
 // What no lawful history has.
 
 ghost use Rattle.worked_histories.specs.Broken.{SweepsUnderWeak, ClearsLast, KeepsPromoted};
+ghost use Rattle.worked_histories.specs.Meeting.{TemporaryHolds};
 ghost use Rattle.worked_histories.specs.PlainBetween.{MirrorHoldsSecond};
 
 /// The own sweep of a cycle frees both peers that only weak handles and one another lead to: a sweep that takes a weak
@@ -24,4 +25,9 @@ pub fn mirror_holds_the_second_peer()
 /// A peer that a weak name gave back during a marking isn't freed by its sweep, also where no slot keeps it.
 pub fn promoted_peer_is_kept()
     ensures { KeepsPromoted }
+{}
+
+/// A peer that only a temporary peer leads to isn't freed: a sweep by a marking that doesn't go on through temporaries isn't lawful.
+pub fn temporary_holds_what_it_leads_to()
+    ensures { TemporaryHolds }
 {}

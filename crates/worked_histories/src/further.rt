@@ -5,6 +5,7 @@ ghost use Rattle.worked_histories.specs.EndedMarking.{EndedMarkingHolds};
 ghost use Rattle.worked_histories.specs.Freeing.{FreesOneObject};
 ghost use Rattle.worked_histories.specs.GlobalNames.{GlobalNamesHold};
 ghost use Rattle.worked_histories.specs.HeldPeer.{HeldPeerHolds};
+ghost use Rattle.worked_histories.specs.Meeting.{MeetingHolds};
 ghost use Rattle.worked_histories.specs.MovedPeer.{MovedPeerHolds};
 ghost use Rattle.worked_histories.specs.OneObject.{OneObjectHolds};
 ghost use Rattle.worked_histories.specs.PeerMarking.{PeerMarkingHolds};
@@ -13,6 +14,7 @@ ghost use Rattle.worked_histories.specs.PlainBetween.{PlainBetweenHolds};
 ghost use Rattle.worked_histories.specs.PlainObject.{PlainObjectHolds};
 ghost use Rattle.worked_histories.specs.RareAnswers.{RareAnswersHold};
 ghost use Rattle.worked_histories.specs.Refusals.{RefusalsHold};
+ghost use Rattle.worked_histories.specs.RenewedHandle.{ReadsRenewed, RenewedHandleHolds};
 ghost use Rattle.worked_histories.specs.Resurrected.{ResurrectedHolds};
 ghost use Rattle.worked_histories.specs.SideLists.{OneObjectSidesHold};
 ghost use Rattle.worked_histories.specs.TwoMarkings.{TwoMarkingsHold};
@@ -47,6 +49,16 @@ pub fn resurrected_is_lawful()
     ensures { ResurrectedHolds }
 {}
 
+/// An object that a cycle keeps with a new handle.
+pub fn renewed_handle_is_lawful()
+    ensures { RenewedHandleHolds }
+{}
+
+/// Its handle afterwards is the new one: an answer with the old one isn't lawful.
+pub fn kept_object_has_its_new_handle()
+    ensures { ReadsRenewed }
+{}
+
 /// A peer that moves between two phases.
 pub fn moved_peer_is_lawful()
     ensures { MovedPeerHolds }
@@ -65,6 +77,11 @@ pub fn plain_between_is_lawful()
 /// A cycle across both heaps that a static holds.
 pub fn held_peer_is_lawful()
     ensures { HeldPeerHolds }
+{}
+
+/// A cycle that keeps objects whose peers are reached through a temporary peer alone.
+pub fn meeting_is_lawful()
+    ensures { MeetingHolds }
 {}
 
 /// Two cycles that are abandoned.

@@ -1,6 +1,6 @@
-// The components of two small graphs.
+// The components of small graphs.
 
-ghost use Rattle.worked_histories.specs.Graphs.{DiamondIsContracted, DiamondHasNoDetour, CircleIsContracted};
+ghost use Rattle.worked_histories.specs.Graphs.{DiamondIsContracted, DiamondHasNoDetour, CircleIsContracted, MeetingIsContracted, LightMeetingIsContracted};
 
 /// Two plain nodes between the bridge nodes 0 and 3, and the bridge node 4 after 3: three components of one node each, with
 /// a cross-reference from each to the next, and one mirror edge for each of the two.
@@ -17,4 +17,14 @@ pub fn components_without_detours()
 /// Three bridge nodes in a circle are one component without cross-references, and its mirror edges are the circle.
 pub fn components_of_a_circle()
     ensures { CircleIsContracted }
+{}
+
+/// A class without a bridge node that eight components lead into and that leads to eight others is reported, without members.
+pub fn components_of_a_meeting()
+    ensures { MeetingIsContracted }
+{}
+
+/// Where seven lead into it and it leads to eight, it isn't: every one of the seven refers to every one of the eight.
+pub fn components_of_a_light_meeting()
+    ensures { LightMeetingIsContracted }
 {}

@@ -17,20 +17,24 @@ mod runs;
 
 pub use broken::{
     mirror_holds_the_second_peer, mirror_outlasts_the_restores, promoted_peer_is_kept,
-    weak_handle_is_no_root,
+    temporary_holds_what_it_leads_to, weak_handle_is_no_root,
 };
 pub use further::{
     abandoned_is_lawful, ended_marking_is_lawful, global_names_is_lawful, held_peer_is_lawful,
-    moved_peer_is_lawful, one_object_has_two_lists, one_object_is_freed_in_time,
-    one_object_is_lawful, peer_marking_is_lawful, pending_read_is_lawful, plain_between_is_lawful,
-    plain_object_is_lawful, rare_answers_are_lawful, refusals_is_lawful, resurrected_is_lawful,
-    two_markings_is_lawful,
+    kept_object_has_its_new_handle, meeting_is_lawful, moved_peer_is_lawful,
+    one_object_has_two_lists, one_object_is_freed_in_time, one_object_is_lawful,
+    peer_marking_is_lawful, pending_read_is_lawful, plain_between_is_lawful,
+    plain_object_is_lawful, rare_answers_are_lawful, refusals_is_lawful, renewed_handle_is_lawful,
+    resurrected_is_lawful, two_markings_is_lawful,
 };
 pub use gaps::{
     begins_in_gaps, collections_in_gaps, drops_in_gaps, reads_in_gaps, stores_in_gaps,
     waits_in_gaps,
 };
-pub use graphs::{components_of_a_circle, components_of_a_diamond, components_without_detours};
+pub use graphs::{
+    components_of_a_circle, components_of_a_diamond, components_of_a_light_meeting,
+    components_of_a_meeting, components_without_detours,
+};
 pub use histories::{
     cycle_across_both_heaps, deleted_reference_holds, disposed_and_surfaced_object,
     field_emptied_in_a_marking, filled_pin_is_told, finished_histories_are_linked,

@@ -5,4 +5,4 @@ use Rattle.worked_histories.proofs.PairGraphs.{pair_contraction}
 use Rattle.worked_histories.proofs.graphs.components_without_detours.Goals as goal
 
 pub returns : goal.returns
-returns c = refuted (pair_contraction diamond (0 ∷ 1 ∷ 2 ∷ 3 ∷ 4 ∷ []) diamond_bridges refl diamond_components ((0, 1) ∷ (0, 2) ∷ (1, 2) ∷ [])) refl
+returns c = refuted (pair_contraction diamond (0 ∷ 1 ∷ 2 ∷ 3 ∷ 4 ∷ []) diamond_bridges refl diamond_components [] ((0, 1) ∷ (0, 2) ∷ (1, 2) ∷ [])) refl
