@@ -19,10 +19,10 @@ use std::sync::Wait;
 use std::test::Fail;
 
 // How many operations are tried.
-const TRIES: u16 = 80;
+const TRIES: u32 = 80;
 
 // The operation of a line: a bridge, a pass of its object, and a surface of that.
-fn act_at(line: u16) -> Act
+fn act_at(line: u32) -> Act
     ensures { IsLine (M 1) result }
 {
     let (v, x) = (Var(0), StaticNo(0));

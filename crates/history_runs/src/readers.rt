@@ -25,18 +25,18 @@ use std::thread;
 use std::thread::Threads;
 
 // How many lines a thread has, and for how many of them it is at one of its cells.
-const LINES: u16 = 1_600;
+const LINES: u32 = 1_600;
 
-const STAY: u16 = 200;
+const STAY: u32 = 200;
 
 // How many cycles the driver runs.
-const CYCLES: u16 = 100;
+const CYCLES: u32 = 100;
 
 // How many such runs are made.
 const RUNS: u32 = 50;
 
 // What managed thread `n` does at a place of its stay at a cell. It reads the cells that all threads are at, each at once and then by waiting.
-fn act_at(n: u8, cell: u8, place: u16) -> Act
+fn act_at(n: u8, cell: u8, place: u32) -> Act
     requires { (1 ≤ n) × (n ≤ 8) × (cell < 8) }
     ensures { IsManagedAct result }
 {
@@ -67,7 +67,7 @@ fn make_line<N: OrderName>(
     rt: &impl Wait,
     shared: &Shared<N, Locks>,
     caller: &mut Caller<N>,
-    index: u16,
+    index: u32,
     act: &Act,
 ) -> Result<(), AllocError>
     requires thread { IsManagedThread caller.old.thread }
@@ -295,7 +295,7 @@ fn seen_read(seen: SeenOfReader, k: Cell, waits: bool, reply: Reply) -> SeenOfRe
         }
         Reply::Unset => seen.set & bit_of(k) == 0,
         Reply::Pending(cycle) => {
-            let rises = seen.cycle <= cycle.0 && 1 <= cycle.0 && cycle.0 <= CYCLES as u32;
+            let rises = seen.cycle <= cycle.0 && 1 <= cycle.0 && cycle.0 <= CYCLES;
             seen.cycle = cycle.0;
             rises && !waits
         }
@@ -343,14 +343,13 @@ fn seen_of(history: &History, t: Thread) -> SeenOfReader {
 }
 
 // Whether an entry is a step of the joint machine: a read that is pending or finds its cell unset is none, and what a cycle does between its snapshot and
-// its end is none but for the marking.
+// its end is none but for the marking and the restores.
 fn is_step(entry: &Entry) -> bool {
     match entry.made.op {
         Op::Line(Act::Read { .. } | Act::Await { .. }) => {
             !matches!(entry.made.reply, Reply::Pending(_) | Reply::Unset)
         }
-        Op::Contract { .. } | Op::Mirror { .. } | Op::Weaken { .. } => false,
-        Op::Restore { .. } | Op::Clear { .. } => false,
+        Op::Contract { .. } | Op::Mirror { .. } | Op::Weaken { .. } | Op::Clear { .. } => false,
         _ => true,
     }
 }

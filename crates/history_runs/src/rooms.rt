@@ -17,7 +17,7 @@ use std::sync::Wait;
 use std::test::Fail;
 
 // How many reads are made, after two lines that make an object and set the cell to it.
-const READS: u16 = 4;
+const READS: u32 = 4;
 
 // Makes the reads of m1, and answers how many of its requests for too much room were refused and left the room that there was.
 fn read_all<N: OrderName>(shared: &Shared<N, Alone>, one: &mut Caller<N>) -> Result<u32, AllocError>

@@ -20,14 +20,14 @@ use std::sync::Wait;
 use std::test::Fail;
 
 // How many lines both threads have.
-const LINES: u16 = 33;
+const LINES: u32 = 33;
 
 /// What m1 does, a line after that of its last entry.
 pub(crate) fn managed<N: OrderName>(
     rt: &impl Wait,
     shared: &Shared<N, Alone>,
     caller: &mut Caller<N>,
-    index: u16,
+    index: u32,
     act: &Act,
 ) -> Result<Reply, AllocError>
     requires thread { caller.old.thread ≡ M 1 }
@@ -44,7 +44,7 @@ fn peer<N: OrderName>(
     rt: &impl Wait,
     shared: &Shared<N, Alone>,
     caller: &mut Caller<N>,
-    index: u16,
+    index: u32,
     act: &Act,
 ) -> Result<Reply, AllocError>
     requires thread { caller.old.thread ≡ P 1 }
@@ -57,7 +57,7 @@ fn peer<N: OrderName>(
 }
 
 // What p1 does on a line; None where the line is m1's.
-fn peer_act(line: u16) -> Option<Act>
+fn peer_act(line: u32) -> Option<Act>
     ensures { IfSome result (λ a. IsLine (P 1) a × IsStepLine a) }
 {
     let (a, b, c, d) = (Var(0), Var(1), Var(2), Var(3));
@@ -87,7 +87,7 @@ fn peer_act(line: u16) -> Option<Act>
 // What m1 does on a line that isn't p1's. It makes an object with a peer, sets its field to itself and drops it. A further object's peer goes to the
 // peer heap, where p1 loads it; m1 meets its own object there, and the handle of the meeting is released. It disposes of the object, which has no
 // peer then, and meets its peer anew, as another object. The other lines are those of one thread.
-fn managed_act(line: u16) -> Act
+fn managed_act(line: u32) -> Act
     ensures { IsLine (M 1) result }
 {
     let (a, b, c, d) = (Var(0), Var(1), Var(2), Var(3));
@@ -142,7 +142,7 @@ fn run_line<N: OrderName>(
     shared: &Shared<N, Alone>,
     one: &mut Caller<N>,
     two: &mut Caller<N>,
-    line: u16,
+    line: u32,
 ) -> Result<Reply, AllocError>
     requires threads { (one.old.thread ≡ M 1) × (two.old.thread ≡ P 1) }
     requires indices { (last_index (own one.old) ≤ line) × (last_index (own two.old) ≤ line) }

@@ -25,10 +25,10 @@ use std::thread;
 use std::thread::Threads;
 
 // After how many operations a thread's table begins anew.
-const ROUND: u16 = 20;
+const ROUND: u32 = 20;
 
 // What managed thread `n` does at a place of its table.
-fn managed_act(n: u8, place: u16) -> Act
+fn managed_act(n: u8, place: u32) -> Act
     requires { n ≤ 8 }
     ensures { IsManagedAct result }
 {
@@ -73,7 +73,7 @@ fn managed_act(n: u8, place: u16) -> Act
 }
 
 // What peer thread `n` does at a place of its table.
-fn peer_act(n: u8, place: u16) -> Act
+fn peer_act(n: u8, place: u32) -> Act
     requires { n ≤ 8 }
     ensures peer { IsPeerAct result }
     ensures built { IsPeerOperation result }
@@ -113,7 +113,7 @@ fn make_line<N: OrderName>(
     rt: &impl Wait,
     shared: &Shared<N, Locks>,
     caller: &mut Caller<N>,
-    index: u16,
+    index: u32,
 )
     requires thread { IsOwnThread caller.old.thread }
     requires index { last_index (own caller.old) ≤ index }
@@ -132,7 +132,7 @@ fn make_lines<N: OrderName>(
     rt: &impl Wait,
     shared: &Shared<N, Locks>,
     caller: Caller<N>,
-    lines: u16,
+    lines: u32,
 ) -> Caller<N>
     requires { IsStarting caller }
     ensures { result.thread ≡ caller.thread }
@@ -149,7 +149,7 @@ fn make_all<N: OrderName + Send + Sync, R: Threads + Wait + Sync>(
     rt: &R,
     shared: &Shared<N, Locks>,
     callers: Vec<Caller<N>>,
-    lines: u16,
+    lines: u32,
 ) -> Result<Vec<Caller<N>>, AllocError>
     requires { All IsStarting callers.items }
     ensures len { IfOk result (λ v. vec_len v ≡ vec_len callers) }
@@ -199,7 +199,7 @@ fn play<N: OrderName + Send + Sync, R: Threads + Wait + Sync>(
     alloc: Global,
     shared: &Shared<N, Locks>,
     desk: &mut Desk<N>,
-    lines: u16,
+    lines: u32,
 ) -> Result<Vec<Caller<N>>, AllocError>
     requires { HasAll desk.old [] }
     ensures all { IfOk result (λ v. HasAll desk.new v.items) }
@@ -216,7 +216,7 @@ fn run<N: OrderName + Send + Sync, R: Threads + Wait + Sync>(
     alloc: Global,
     order: Order,
     seat: Seat,
-    lines: u16,
+    lines: u32,
 ) -> Result<History, AllocError>
     requires order { order ≡ N.order }
     requires run { (N.managed ≡ 2) × (N.peers ≡ 2) }
@@ -236,7 +236,7 @@ fn run<N: OrderName + Send + Sync, R: Threads + Wait + Sync>(
 #[derive(Clone, Copy)]
 struct SeenOfThread {
     entries: u32,
-    line: u16,
+    line: u32,
     in_order: bool,
 }
 

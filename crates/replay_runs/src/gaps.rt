@@ -421,8 +421,8 @@ const HELD_ROWS: [Row; 2] = [
 ];
 
 // How many lines there are.
-fn lines_of(text: &[u8]) -> u16 {
-    let mut lines = 0u16;
+fn lines_of(text: &[u8]) -> u32 {
+    let mut lines = 0u32;
     for byte in text {
         if *byte == b'\n' {
             lines = lines.wrapping_add(1);
@@ -476,7 +476,7 @@ fn put_line(text: &mut Vec<u8>, line: &[u8]) -> Result<(), AllocError> {
 }
 
 // Whether an entry tells what comes of a cycle: its sweep, its resolution, or one of a line behind it.
-fn is_rest(entry: &Entry, last: u16) -> bool {
+fn is_rest(entry: &Entry, last: u32) -> bool {
     match entry.made.op {
         Op::Sweep => entry.made.caller == Thread::C,
         Op::Resolve { .. } => true,
@@ -488,8 +488,8 @@ fn is_rest(entry: &Entry, last: u16) -> bool {
 fn seen_of(
     alloc: Global,
     h: &History,
-    first: u16,
-    last: u16,
+    first: u32,
+    last: u32,
 ) -> Result<(Vec<u8>, Vec<u8>), AllocError> {
     let mut out = ByteSink::new(alloc, 4096, Vec::new(alloc));
     if write_report(h, &mut out).is_err() {

@@ -5,16 +5,15 @@ use joint_replay::{JointState, Verdict};
 use std::alloc::{AllocError, Global};
 use std::process::Abort;
 
-// Whether the entry is a step of the joint machine. What a cycle does between its snapshot and its end is none, but for the marking; nor is a read that is
-// pending or finds its cell unset.
+// Whether the entry is a step of the joint machine. What a cycle does between its snapshot and its end is none, but for the marking and the restores; nor is a
+// read that is pending or finds its cell unset.
 fn is_step(entry: &Entry) -> bool {
     match entry.made.op {
         Op::Line(Act::Read { .. } | Act::Await { .. }) => {
             !matches!(entry.made.reply, Reply::Pending(_) | Reply::Unset)
         }
         Op::Line(Act::Slice { .. }) | Op::Refused { .. } => false,
-        Op::Contract { .. } | Op::Mirror { .. } | Op::Weaken { .. } => false,
-        Op::Restore { .. } | Op::Clear { .. } => false,
+        Op::Contract { .. } | Op::Mirror { .. } | Op::Weaken { .. } | Op::Clear { .. } => false,
         _ => true,
     }
 }

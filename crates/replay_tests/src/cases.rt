@@ -81,6 +81,10 @@ const RESOLVE_1: Op = Op::Resolve { cycle: Cycle(1) };
 
 const RESOLVE_2: Op = Op::Resolve { cycle: Cycle(2) };
 
+const RESTORE_1: Op = Op::Restore { h: HNum(1) };
+
+const RESTORE_2: Op = Op::Restore { h: HNum(2) };
+
 const ABANDON_1: Op = Op::Abandon { cycle: Cycle(1) };
 
 const NEW_A: Op = Op::Line(Act::New {
@@ -162,7 +166,7 @@ const LINKED_OTHERWISE: [(Said, Verdict); 10] = [
 ];
 
 // The example's two cycles with the drop between them, some steps after other replies.
-const CYCLES: [(Said, Verdict); 20] = [
+const CYCLES: [(Said, Verdict); 27] = [
     ((C, SNAP_1, Reply::Snapped(1, NONE)), U),
     ((C, SNAP_1, Reply::Snapped(0, BOTH)), U),
     ((C, SNAP_1, Reply::Snapped(0, NONE)), L),
@@ -180,12 +184,20 @@ const CYCLES: [(Said, Verdict); 20] = [
     ((C, Op::Begin, Reply::Mark(Marking(2))), L),
     ((C, Op::Sweep, Reply::Swept(Marking(1), BOTH)), U),
     ((C, Op::Sweep, Reply::Swept(Marking(2), BOTH)), L),
+    ((C, RESTORE_1, Reply::Renewed(HNum(3))), U),
+    ((C, RESTORE_1, Reply::Cleared), L),
+    ((C, RESTORE_1, Reply::Cleared), U),
+    ((C, RESOLVE_2, Reply::Freed(BOTH)), U),
+    ((C, Op::Abandon { cycle: Cycle(2) }, Reply::Ok), U),
+    ((M1, RESTORE_2, Reply::Cleared), U),
+    ((C, RESTORE_2, Reply::Cleared), L),
     ((C, RESOLVE_2, Reply::Freed(NONE)), U),
     ((C, RESOLVE_2, Reply::Freed(ONE)), U),
     ((C, RESOLVE_2, Reply::Freed(BOTH)), L),
 ];
 
-// Only an open cycle is closed, by the driver alone; what a cycle does with handles is no step of the joint machine.
+// Only an open cycle is closed, by the driver alone; of what a cycle does with handles the restores of its candidates alone are
+// steps of the joint machine.
 const CLOSING: [(Said, Verdict); 11] = [
     ((C, RESOLVE_1, Reply::Freed(NONE)), U),
     ((C, ABANDON_1, Reply::Ok), U),
@@ -194,27 +206,38 @@ const CLOSING: [(Said, Verdict); 11] = [
     ((C, Op::Contract { cycle: Cycle(1) }, Reply::Ok), U),
     ((C, Op::Mirror { cycle: Cycle(1) }, Reply::Ok), U),
     ((C, Op::Weaken { h: HNum(1) }, Reply::Ok), U),
-    ((C, Op::Restore { h: HNum(1) }, Reply::Ok), U),
+    ((C, RESTORE_1, Reply::Cleared), U),
     ((M1, ABANDON_1, Reply::Ok), U),
     ((C, ABANDON_1, Reply::Ok), L),
     ((C, SNAP_2, Reply::Snapped(0, NONE)), L),
 ];
 
-// A resolution keeps what has a live peer.
-const KEEPING: [(Said, Verdict); 4] = [
+// A resolution keeps what has a live peer, which gets a new handle from its restore.
+const KEEPING: [(Said, Verdict); 12] = [
     ((M1, DROP_A, Reply::Ok), L),
     ((C, SNAP_1, Reply::Snapped(2, NONE)), L),
+    ((C, RESOLVE_1, Reply::Freed(NONE)), U),
+    ((C, RESTORE_1, Reply::Cleared), U),
+    ((C, RESTORE_1, Reply::Renewed(HNum(2))), U),
+    ((C, RESTORE_1, Reply::Renewed(HNum(3))), L),
+    ((C, RESTORE_1, Reply::Renewed(HNum(4))), U),
+    ((C, ABANDON_1, Reply::Ok), U),
+    ((C, RESTORE_2, Reply::Renewed(HNum(4))), L),
+    ((C, Op::Restore { h: HNum(3) }, Reply::Renewed(HNum(5))), U),
     ((C, RESOLVE_1, Reply::Freed(BOTH)), U),
     ((C, RESOLVE_1, Reply::Freed(NONE)), L),
 ];
 
-// It frees a row without a peer.
-const WITHOUT_PEER: [(Said, Verdict); 5] = [
+// A handle that was never made has no restore, so a cycle with its object can't be resolved.
+const WITHOUT_PEER: [(Said, Verdict); 8] = [
     ((M1, ADOPT_A, OBJECT_1), L),
     ((M1, DROP_A, Reply::Ok), L),
     ((C, SNAP_1, Reply::Snapped(1, NONE)), L),
+    ((C, RESTORE_1, Reply::Cleared), U),
+    ((C, RESTORE_1, Reply::Renewed(HNum(1))), U),
     ((C, RESOLVE_1, Reply::Freed(NONE)), U),
-    ((C, RESOLVE_1, Reply::Freed(ONE)), L),
+    ((C, RESOLVE_1, Reply::Freed(ONE)), U),
+    ((C, ABANDON_1, Reply::Ok), L),
 ];
 
 // A sweep frees nothing that was reached at the begin.
@@ -326,9 +349,10 @@ const ONE_TWIN: [(Said, Verdict); 19] = [
     ((M1, MEET, Reply::New(MNum(2))), L),
 ];
 
-// What a pin holds is a root; a notice is taken once. A read that is pending or finds its cell unset is no step.
-const PINNED: [(Said, Verdict); 21] = [
+// What a pin holds is a root; a read that is pending, or finds its cell unset, is no step; a notice is taken once.
+const PINNED: [(Said, Verdict); 25] = [
     ((M1, READ, Reply::Unset), U),
+    ((M1, MAKE, Reply::Made(PNum(1), HNum(1))), L),
     ((M1, ADOPT_A, OBJECT_1), L),
     ((M1, WEAK, Reply::Ok), L),
     ((M1, WEAK, Reply::Taken), L),
@@ -344,6 +368,9 @@ const PINNED: [(Said, Verdict); 21] = [
     ((C, FINALISE, Reply::Took(NONE)), L),
     ((C, SNAP_2, Reply::Snapped(1, NONE)), L),
     ((M1, READ, Reply::Pending(Cycle(2))), U),
+    ((C, Op::Begin, Reply::Mark(Marking(1))), L),
+    ((C, Op::Sweep, Reply::Swept(Marking(1), ONE)), L),
+    ((C, RESTORE_1, Reply::Cleared), L),
     ((C, RESOLVE_2, Reply::Freed(ONE)), L),
     ((M1, READ, Reply::Gone), L),
     ((C, FINALISE, Reply::Took(NONE)), U),

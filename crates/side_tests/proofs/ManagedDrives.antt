@@ -27,7 +27,7 @@ use Rattle.managed_side.specs.Steps.{IsFresh, IsLineBy, IsManagedStep, IsStepBy}
 use Rattle.side_tests.specs.Drives.{IsDriven, NamesNext}
 use Rattle.side_tests.proofs.Counting.{counting, counted-once}
 
--- each handle that was adopted was so before, or has this number
+-- each handle that a row took was taken before, or has this number
 abbrev pub AdoptsNext : ManagedReplay → ManagedReplay → ℕ → Type 0
 AdoptsNext old new n = (h : ℕ) → Contains new.adopted h → Contains old.adopted h ⊎ (h ≡ n)
 
@@ -35,22 +35,26 @@ AdoptsNext old new n = (h : ℕ) → Contains new.adopted h → Contains old.ado
 abbrev pub HasWaiting : Option OpenCycle → ℕ → Type 0
 HasWaiting cycle waiting = (c : OpenCycle) → cycle ≡ Some c → length c.candidates ≡ waiting
 
--- a call that adopts no handle but the one with the number of the entries so far, and leaves so many candidates
-pub driven-on : (old new : Side ManagedReplay) (before after waiting waits : ℕ) (m : Made) (told : Told) → AddsLawful managed_rules counting before after old new m told
-    → AdoptsNext old.state (managed_rules.next old.state m told) (length old.entries) → HasWaiting (managed_rules.next old.state m told).managed.cycle waits → IsDriven old before waiting → IsDriven new after waits
-driven-on old new before after waiting waits m told a named left d =
+-- a call after which each handle that a row took is below the next one, and which leaves so many candidates
+pub driven-below : (old new : Side ManagedReplay) (before after waiting waits answered answers : ℕ) (m : Made) (told : Told) → AddsLawful managed_rules counting before after old new m told
+    → ((h : ℕ) → Contains (managed_rules.next old.state m told).adopted h → h < length old.entries + 1 + answers) → HasWaiting (managed_rules.next old.state m told).managed.cycle waits → IsDriven old before waiting answered → IsDriven new after waits answers
+driven-below old new before after waiting waits answered answers m told a below left d =
     let longer : length new.entries ≡ length old.entries + 1 = ap length a.draws.adds.added ∙ length-append old.entries (numbered a.draws.adds.number m ∷ []) in record {
       counted = counted-once managed_rules old new before after m told a d.counted;
-      adopts = λ h c. elim (named h (subst (λ (z : ManagedReplay). Contains z.adopted h) a.goes.state c)) [
-        | inl o ↦ (let l = d.adopts h o in omega (arith, l, longer))
-        | inr e ↦ omega (arith, e, longer)
-      ];
+      adopts = λ h c. (let l = below h (subst (λ (z : ManagedReplay). Contains z.adopted h) a.goes.state c) in omega (arith, l, longer));
       waits = subst (λ (z : ManagedReplay). HasWaiting z.managed.cycle waits) (sym a.goes.state) left;
     }
 
+-- a call that adopts no handle but the next one, and leaves so many candidates
+pub driven-on : (old new : Side ManagedReplay) (before after waiting waits answered : ℕ) (m : Made) (told : Told) → AddsLawful managed_rules counting before after old new m told
+    → AdoptsNext old.state (managed_rules.next old.state m told) (length old.entries + answered) → HasWaiting (managed_rules.next old.state m told).managed.cycle waits → IsDriven old before waiting answered → IsDriven new after waits answered
+driven-on old new before after waiting waits answered m told a named left d =
+    driven-below old new before after waiting waits answered answered m told a
+    (λ h c. elim (named h c) [ inl o ↦ (let l = d.adopts h o in omega (arith, l)) | inr e ↦ omega (arith, e) ]) left d
+
 -- a refusal changes nothing
-pub driven-same : (old new : Side ManagedReplay) (before after waiting : ℕ) → (new ≡ old) × (after ≡ before) → IsDriven old before waiting → IsDriven new after waiting
-driven-same old new before after waiting e d = subst (λ n. IsDriven new n waiting) (sym e.1) (subst (λ z. IsDriven z before waiting) (sym e.0) d)
+pub driven-same : (old new : Side ManagedReplay) (before after waiting answered : ℕ) → (new ≡ old) × (after ≡ before) → IsDriven old before waiting answered → IsDriven new after waiting answered
+driven-same old new before after waiting answered e d = subst (λ n. IsDriven new n waiting answered) (sym e.1) (subst (λ z. IsDriven z before waiting answered) (sym e.0) d)
 
 meet-named : (s : ManagedReplay) (p h : ℕ) (after : Managed) (r : Reply) → AdoptsNext s (meet_by s p h after r).state h
 meet-named s p h after (says.New m) x c = elim (Contains-push_cases s.adopted h x c) [ inl o ↦ inl o | inr e ↦ inr (sym e) ]
@@ -97,9 +101,9 @@ step-cycle s t (op.Adopt v kind n p h) k b =
 step-cycle s t _ k b = absurd b
 
 -- a call that leaves an open cycle as it is
-pub driven-still : (old new : Side ManagedReplay) (before after waiting : ℕ) (m : Made) (told : Told) → AddsLawful managed_rules counting before after old new m told
-    → AdoptsNext old.state (managed_rules.next old.state m told) (length old.entries) → (managed_rules.next old.state m told).managed.cycle ≡ old.state.managed.cycle → IsDriven old before waiting → IsDriven new after waiting
-driven-still old new before after waiting m told a named same d = driven-on old new before after waiting waiting m told a named (λ c o. d.waits c (sym same ∙ o)) d
+pub driven-still : (old new : Side ManagedReplay) (before after waiting answered : ℕ) (m : Made) (told : Told) → AddsLawful managed_rules counting before after old new m told
+    → AdoptsNext old.state (managed_rules.next old.state m told) (length old.entries + answered) → (managed_rules.next old.state m told).managed.cycle ≡ old.state.managed.cycle → IsDriven old before waiting answered → IsDriven new after waiting answered
+driven-still old new before after waiting answered m told a named same d = driven-on old new before after waiting waiting answered m told a named (λ c o. d.waits c (sym same ∙ o)) d
 
 -- a side for all eight threads takes each step
 pub thread-taken : (t : Thread) → IsManagedThread t → TakesManaged 8 t

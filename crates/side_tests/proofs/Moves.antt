@@ -1,5 +1,5 @@
 -- What steps, a weakening and a restore do to a mirrored cycle.
-use Rattle.std.proofs.Common.{◌≡◌, ℕ, Bool, true, false, if◌then◌else◌, ◌||◌, List, [], ◌∷◌, Option, Some, None, refl, sym, ap, ◌∙◌, subst, arith}
+use Rattle.std.proofs.Common.{◌≡◌, ◌⊎◌, inl, inr, ℕ, Bool, true, false, if◌then◌else◌, ◌||◌, List, [], ◌∷◌, Option, Some, None, refl, sym, ap, ◌∙◌, subst, arith}
 use Rattle.joint_model.specs.declared.names.HNum.{HNum}
 use Rattle.joint_model.specs.declared.names.Thread.{Thread}
 use Rattle.joint_model.specs.declared.names.Thread.TheVariants.{P, C}
@@ -8,10 +8,11 @@ use Rattle.joint_model.specs.declared.events.Op.{Op}
 use Rattle.joint_model.specs.declared.events.Op.TheVariants as op
 use Rattle.joint_model.specs.declared.events.Reply.{Reply}
 use Rattle.joint_model.specs.declared.events.Reply.TheVariants as says
-use Rattle.joint_model.specs.Heaps.{answer}
+use Rattle.joint_model.specs.Heaps.{Answered, answer}
 use Rattle.joint_model.specs.Lines.{IsPeerThread}
-use Rattle.joint_model.specs.Peers.{landed}
-use Rattle.joint_model.specs.PeerReplay.{PeerReplay, Marking, TableRow, MayRestore, peer_answer, on_table, brings, begun, swept, swept_of, is_thread, restored_by, with_restored, row_of, table_target}
+use Rattle.joint_model.specs.Peers.{landed, next_handle, peer_of}
+use Rattle.joint_model.specs.PeerReplay.{PeerReplay, Marking, TableRow, MayRestore, peer_answer, on_table, brings, begun, given_anew, renewed_on, swept, swept_of, is_thread, restored_by, row_of, table_target, withdrawn}
+use Rattle.joint_model.proofs.Deciding.{test-cases}
 use Rattle.joint_model.specs.declared.events.Made.{Made}
 use Rattle.joint_model.specs.Sides.{Side, Making, AddsInTurn, AddsLawful, peer_rules}
 use Rattle.joint_model.specs.Told.{Told, nothing, sweep_of}
@@ -135,16 +136,17 @@ plain-state before after old new t index (op.Line (act.Store x v)) r gone k a = 
 plain-state before after old new t index (op.Line (act.Drop v)) r gone k a = ap (λ (z : Side PeerReplay). z.state) a.3.1 ∙ a.2.goes.state
 plain-state before after old new t index _ r gone k a = absurd k
 
--- a restore of a handle of the table: the cycle has one more restored
-pub record Restored (s t : PeerReplay) (h : ℕ) : Type 0 where
-  pub issued : t.peers.issued ≡ s.peers.issued
-  pub mirror : t.mirror ≡ with_restored s.mirror h
-  pub mirrors : t.mirrors ≡ s.mirrors
-  pub refs : t.refs ≡ s.refs
+-- a restore of a handle of the table: it is removed, and where that is all the answer says so; else its peer gets a handle with the next number
+abbrev pub RestoredTo : PeerReplay → Reply → PeerReplay → ℕ → Type 0
+RestoredTo s r t h = ((r ≡ says.Cleared) × (t ≡ withdrawn s h))
+    ⊎ ((p : ℕ) × (peer_of s.peers.issued h ≡ Some p) × (r ≡ says.Renewed record { 0 = next_handle s.peers }) × (t ≡ given_anew (withdrawn s h) p))
 
-restored-by : (s : PeerReplay) (h : ℕ) (row : TableRow) (b : Bool) → row.cleared ≡ b → Restored s (restored_by s h (Some row)).state h
-restored-by s h row true e = rw e (record { issued = refl; mirror = refl; mirrors = refl; refs = refl })
-restored-by s h row false e = rw e (record { issued = refl; mirror = refl; mirrors = refl; refs = refl })
+restored-by : (s : PeerReplay) (h : ℕ) (row : TableRow) → RestoredTo s (restored_by s h (Some row)).reply (restored_by s h (Some row)).state h
+restored-by s h row = test-cases (λ (a : Answered PeerReplay). RestoredTo s a.reply a.state h) row.cleared _ _ (inl (refl, refl)) (by (peer_of s.peers.issued h) refl)
+  where
+    by : (o : Option ℕ) → peer_of s.peers.issued h ≡ o → RestoredTo s (renewed_on s h o).reply (renewed_on s h o).state h
+    by None e = inl (refl, refl)
+    by (Some p) e = inr (p, e, refl, refl)
 
-pub restored : (s : PeerReplay) (h : ℕ) → MayRestore s h → Restored s (restored_by s h (row_of s h)).state h
-restored s h may = subst (λ o. Restored s (restored_by s h o).state h) (sym may.tabled) (restored-by s h may.row may.row.cleared refl)
+pub restored : (s : PeerReplay) (h : ℕ) → MayRestore s h → RestoredTo s (restored_by s h (row_of s h)).reply (restored_by s h (row_of s h)).state h
+restored s h may = subst (λ o. RestoredTo s (restored_by s h o).reply (restored_by s h o).state h) (sym may.tabled) (restored-by s h may.row)

@@ -7,6 +7,7 @@ use Rattle.joint_model.specs.declared.names.Thread.TheVariants.{M, P}
 use Rattle.joint_model.specs.declared.lines.Act.TheVariants as act
 use Rattle.joint_model.specs.declared.events.Op.{Op}
 use Rattle.joint_model.specs.declared.events.Op.TheVariants as op
+use Rattle.joint_model.specs.Components.{End, node}
 use Rattle.joint_model.specs.Peers.{Issued, held, strong}
 use Rattle.joint_model.specs.PeerReplay.{PeerReplay, Mirror, peer_answer}
 use Rattle.joint_model.specs.Told.{nothing}
@@ -36,34 +37,53 @@ circle = (0 ∷ 1 ∷ []) ∷ []
 abbrev pub two_issued : List Issued
 two_issued = record { peer = 1; hold = held; strength = strong } ∷ record { peer = 2; hold = held; strength = strong } ∷ []
 
+-- the handles that the first so many restores gave, where each gave one: each on the peer of the handle in whose place it came; and their numbers
+abbrev pub given_ones : ℕ → List Issued
+given_ones zero = []
+given_ones (suc n) = given_ones n ++ record { peer = suc n; hold = held; strength = strong } ∷ []
+
+abbrev pub given_handles : ℕ → List ℕ
+given_handles zero = []
+given_handles (suc n) = given_handles n ++ suc (suc (suc n)) ∷ []
+
+-- the answer of a restore gave a handle
+abbrev pub is_given : Option (Option HNum) → Bool
+is_given (Some (Some h)) = true
+is_given (Some None) = false
+is_given None = false
+
 -- the first so many handles
 abbrev pub up_to : ℕ → List ℕ
 up_to zero = []
 up_to (suc n) = up_to n ++ suc n ∷ []
 
--- what there is of the cycle: itself, where it stands, with the handles that it has weakened and restored; the cycles that were ever mirrored; its
--- references; and for how many more handles there is room
-abbrev pub mirror_at : Bool → ℕ → ℕ → Option Mirror
-mirror_at false weak back = None
-mirror_at true weak back = Some record { cycle = 1; snap = 0; weakened = up_to weak; restored = up_to back }
+-- what there is of the cycle: itself, where it stands, with the handles that it has weakened and restored, and those that restores gave; the cycles that
+-- were ever mirrored; its references; and for how many more handles there is room
+abbrev pub mirror_at : Bool → ℕ → ℕ → List ℕ → Option Mirror
+mirror_at false weak back given = None
+mirror_at true weak back given = Some record { cycle = 1; snap = 0; weakened = up_to weak; restored = up_to back; renewed = given }
 
 abbrev pub mirrors_at : Bool → List ℕ
 mirrors_at false = []
 mirrors_at true = 1 ∷ []
 
-abbrev pub refs_at : Bool → List (ℕ × ℕ)
+abbrev pub refs_at : Bool → List (End × End)
 refs_at false = []
-refs_at true = (1, 2) ∷ (2, 1) ∷ []
+refs_at true = (node 1, node 2) ∷ (node 2, node 1) ∷ []
 
 abbrev pub left_at : Bool → ℕ → ℕ
 left_at false weak = 0
 left_at true weak = 2 - weak
 
--- the cycle was mirrored or not, and stands or not, and so many handles were weakened and restored
-pub record IsCircle (m : PeerModel) (count : ℕ) (mirrored standing : Bool) (weak back : ℕ) : Type 0 where
+-- the cycle was mirrored or not, and stands or not, each restore so far gave a handle or not, and so many handles were weakened and restored
+pub record IsCircle (m : PeerModel) (count : ℕ) (mirrored standing kept : Bool) (weak back : ℕ) : Type 0 where
   pub counted : IsCounted (seen m) count
-  pub issued : m.state.peers.issued ≡ two_issued
-  pub mirror : m.state.mirror ≡ mirror_at standing weak back
+  pub later : List Issued
+  pub issued : m.state.peers.issued ≡ two_issued ++ later
+  pub given : List ℕ
+  pub mirror : m.state.mirror ≡ mirror_at standing weak back given
+  pub all : kept ≡ true → (later ≡ given_ones back) × (given ≡ given_handles back)
+  pub fresh : mirrored ≡ false → later ≡ []
   pub mirrors : m.state.mirrors ≡ mirrors_at mirrored
   pub refs : m.state.refs ≡ refs_at standing
   pub waiting : m.reserve.waiting ≡ []

@@ -1,5 +1,6 @@
 -- What the tests keep of a side that a plain count drives.
-use Rattle.std.specs.Prelude.{◌≡◌, ℕ, ◌+◌, ◌-◌, ◌^◌, ◌<◌, ◌≤◌, Contains, length, Some}
+use Rattle.std.specs.Prelude.{◌≡◌, ℕ, ◌+◌, ◌-◌, ◌^◌, ◌<◌, ◌≤◌, Contains, List, [], ◌∷◌, length, Option, Some, None}
+use Rattle.joint_model.specs.declared.names.HNum.{HNum}
 use Rattle.joint_model.specs.declared.events.Op.{Op}
 use Rattle.joint_model.specs.declared.events.Op.TheVariants as op
 use Rattle.joint_model.specs.Draws.{AllBelow}
@@ -11,11 +12,18 @@ use Rattle.joint_model.specs.Sides.{Side}
 abbrev pub IsCounted : {S : Type 0} → Side S → ℕ → Type 0
 IsCounted s count = AllBelow s.entries count × (4294967295 ≤ 2 ^ 63 - count + length s.entries) × (s.threads ≡ 8)
 
--- beside it each handle that the managed side adopted is below the number of its entries, and an open cycle has so many candidates
-pub record IsDriven (s : Side ManagedReplay) (count waiting : ℕ) : Type 0 where
+-- beside it each handle that a row of the managed side took is below the number of its entries and of the candidates that were answered, and an open
+-- cycle has so many candidates
+pub record IsDriven (s : Side ManagedReplay) (count waiting answered : ℕ) : Type 0 where
   pub counted : IsCounted s count
-  pub adopts : (h : ℕ) → Contains s.state.adopted h → h < length s.entries
+  pub adopts : (h : ℕ) → Contains s.state.adopted h → h < length s.entries + answered
   pub waits : (c : OpenCycle) → s.state.managed.cycle ≡ Some c → length c.candidates ≡ waiting
+
+-- the answers from that number on: each handle has its place's
+abbrev pub AreFrom : ℕ → List (Option HNum) → Type 0
+AreFrom n [] = Unit {0}
+AreFrom n (None ∷ backs) = AreFrom (n + 1) backs
+AreFrom n (Some h ∷ backs) = (h.0 ≡ n) × AreFrom (n + 1) backs
 
 -- the handle that an `adopt` or a `meet` names has this number
 abbrev pub NamesNext : Op → ℕ → Type 0

@@ -1,6 +1,7 @@
 // A managed side that is driven call by call.
 
-ghost use Rattle.std.specs.Prelude.{◌≡◌, IfOk, length};
+ghost use Rattle.std.specs.Prelude.{◌≡◌, ◌+◌, ◌≤◌, IfOk, IfSome, length};
+ghost use Rattle.side_tests.specs.Drives.{AreFrom};
 ghost use Rattle.managed_side.specs.Calls.{MayContractWith};
 
 use crate::callers::is_managed;
@@ -40,7 +41,7 @@ pub(crate) enum Call {
     Finalise(u32),
     Lend(u8, u8),
     Give(u8),
-    // a bridge with so many fields on a peer; its handle has the number of the entries so far
+    // a bridge with so many fields on a peer; its handle has the number of the entries so far, and of the candidates that were answered
     Adopt(u8, u8, u32),
     // a peer of this sort with so many fields; the handle as above
     Meet(u8, u32, Sort, u8),
@@ -53,11 +54,12 @@ pub(crate) enum Call {
     SnapWith(u32),
     // a snapshot of a side with nothing dead, and its contraction
     SnapAndContract,
-    // the candidate in place i was answered alive where bit i is set; this tells how many were kept, and what was freed
+    // the candidate in place i was answered alive where bit i is set, with the handle i above the next one; this tells how many were kept, and what was
+    // freed
     Resolve(u32),
     Abandon,
     Refuse(PhaseWord, Phase),
-    // looks: a peer's twin, whether an object is live, the open cycle, and the number of nodes of the last snapshot's graph
+    // looks: a peer's twin, an object by its number if it is live, the open cycle, and the number of nodes of the last snapshot's graph
     TwinFor(u32),
     Live(u32),
     Open,
@@ -140,13 +142,14 @@ impl Call {
     }
 }
 
-/// A side with the count that numbers its entries, how many candidates an open cycle has, and how many nodes the last snapshot's graph had. Each
-/// handle that was adopted is below the number of the entries.
+/// A side with the count that numbers its entries, how many candidates an open cycle has, how many candidates were answered so far, and how many nodes the
+/// last snapshot's graph had. Each handle that a row took is below the number of the entries and of these answers.
 #[derive(Drop)]
 pub(crate) struct Driven {
     pub(crate) side: ManagedSide,
     gate: Given,
     waiting: u32,
+    answered: u32,
     nodes: u32,
 }
 
@@ -158,13 +161,15 @@ impl Model for Driven {
 
     ghost view = { λ s. s.side.state };
 
-    ghost invariant = { λ s. IsDriven s.side s.gate.count s.waiting };
+    ghost invariant = { λ s. IsDriven s.side s.gate.count s.waiting s.answered };
 }
 
 impl Driven {
     // The answer to an event of a step; None where it is none that this caller may make.
     fn does(&mut self, caller: Thread, op: Op) -> Result<Option<Reply>, AllocError> {
-        let next = self.side.entries().len();
+        let Some(next) = next_handle(&self.side, self.answered) else {
+            return Ok(None);
+        };
         if !is_step(caller, &op) || !names_next(&op, next) {
             return Ok(None);
         }
@@ -176,8 +181,10 @@ impl Driven {
 
     // The answer to a call that is an event of a step.
     fn steps(&mut self, caller: Thread, call: Call) -> Result<Option<Reply>, AllocError> {
-        let h = HNum(self.side.entries().len());
-        match call.op(h) {
+        let Some(next) = next_handle(&self.side, self.answered) else {
+            return Ok(None);
+        };
+        match call.op(HNum(next)) {
             None => Ok(None),
             Some(op) => self.does(caller, op),
         }
@@ -260,8 +267,15 @@ impl Driven {
         let Some(_) = self.side.open_cycle() else {
             return Ok(None);
         };
-        let answers = answers_of(alloc, alive, self.waiting)?;
+        let Some(next) = next_handle(&self.side, self.answered) else {
+            return Ok(None);
+        };
+        if next > u32::MAX - self.waiting {
+            return Ok(None);
+        }
+        let answers = answers_of(alloc, alive, self.waiting, next)?;
         let out = self.side.resolve(&mut self.gate.count, 4, 0, &answers);
+        self.answered += self.waiting;
         Ok(Some(Snapped(out.kept, out.freed)))
     }
 
@@ -288,7 +302,7 @@ impl Driven {
         match call {
             Call::TwinFor(p) => Some(self.twin_for(p)),
             Call::Live(m) => Some(if self.side.is_live(MNum(m)) {
-                Reply::Alive
+                Reply::M(MNum(m))
             } else {
                 Gone
             }),
@@ -356,6 +370,7 @@ pub(crate) fn start(alloc: Global) -> Result<Driven, AllocError> {
             pins: Pins { at: [None; 8] },
         },
         waiting: 0,
+        answered: 0,
         nodes: 0,
     })
 }
@@ -372,15 +387,32 @@ fn pin_of(m: u32) -> Option<MNum> {
     if m == 0 { None } else { Some(MNum(m)) }
 }
 
-// So many answers, of which the one in place i is alive where bit i is set.
-fn answers_of(alloc: Global, alive: u32, count: u32) -> Result<Alive, AllocError>
-    ensures { IfOk result (λ a. length a.values ≡ count) }
+// The next handle: the number of the entries so far, and of the candidates that were answered.
+fn next_handle(side: &ManagedSide, answered: u32) -> Option<u32>
+    ensures { IfSome result (λ n. n ≡ length side.now.entries + answered) }
+{
+    side.entries().len().checked_add(answered)
+}
+
+// So many answers, of which the one in place i is alive where bit i is set, with the handle i above the first.
+fn answers_of(alloc: Global, alive: u32, count: u32, first: u32) -> Result<Alive, AllocError>
+    requires { first + count ≤ 4294967295 }
+    ensures count { IfOk result (λ a. length a.values ≡ count) }
+    ensures from { IfOk result (λ a. AreFrom first a.values) }
 {
     let mut answers = Alive::new(alloc, count)?;
     let mut rest = alive;
     'answers: while answers.len() < count {
-        answers.push(rest % 2 == 1);
+        let h = HNum(first + answers.len());
+        answers.push(given_if(rest % 2 == 1, h));
         rest /= 2;
     }
     Ok(answers)
+}
+
+// The handle, if the restore gave it.
+fn given_if(alive: bool, h: HNum) -> Option<HNum>
+    ensures { IfSome result (λ g. g ≡ h) }
+{
+    if alive { Some(h) } else { None }
 }

@@ -111,9 +111,9 @@ const SNAPSHOTS: [Row; 25] = [
     ),
     (C, Call::Nodes, Refs(0)),
     (C, Call::Live(1), Gone),
-    (C, Call::Live(2), Reply::Alive),
-    (C, Call::Live(3), Reply::Alive),
-    (C, Call::Live(4), Reply::Alive),
+    (C, Call::Live(2), M(MNum(2))),
+    (C, Call::Live(3), M(MNum(3))),
+    (C, Call::Live(4), M(MNum(4))),
     (C, Call::Live(5), Gone),
     (C, Call::Abandon, Reply::Ok),
     (M1, Call::Load(0, 0), M(MNum(2))),
@@ -171,8 +171,8 @@ const CYCLES: [Row; 22] = [
     (C, Call::Open, Reply::At(Phase::Idle)),
 ];
 
-// A peer has one twin, until that gives its handle up or is resolved.
-const TWINS: [Row; 42] = [
+// A peer has one twin, until that gives its handle up or is resolved. One that a cycle keeps has another handle then.
+const TWINS: [Row; 43] = [
     (M1, Call::Give(0), Empty),
     (M1, Call::Lend(0, 15), Empty),
     (M1, Call::New(0, 0), M(MNum(1))),
@@ -213,6 +213,7 @@ const TWINS: [Row; 42] = [
     (C, Call::Resolve(1), Snapped(1, Span { first: 2, count: 0 })),
     (C, Call::TwinFor(1), Twin(MNum(3))),
     (M1, Call::Meet(0, 1, Sort::User, 2), Twin(MNum(3))),
+    (M1, Call::Handle(0), H(HNum(26))),
     (M1, Call::Drop(0), Reply::Ok),
     (C, Call::Snap, Snapped(1, Span { first: 2, count: 0 })),
     (C, Call::Resolve(0), Snapped(0, Span { first: 2, count: 1 })),
@@ -270,9 +271,9 @@ const KEPT: [Row; 28] = [
         Snapped(1, Span { first: 0, count: 2 }),
     ),
     (C, Call::Live(1), Gone),
-    (C, Call::Live(2), Reply::Alive),
+    (C, Call::Live(2), M(MNum(2))),
     (C, Call::Live(3), Gone),
-    (C, Call::Live(4), Reply::Alive),
+    (C, Call::Live(4), M(MNum(4))),
     (C, Call::TwinFor(2), Twin(MNum(2))),
     (C, Call::Snap, Snapped(2, Span { first: 2, count: 0 })),
     (C, Call::Nodes, Refs(2)),
@@ -294,7 +295,7 @@ const LAST_OBJECT: [Row; 14] = [
     (M1, Call::Copy(0, 0), M(MNum(65535))),
     (M1, Call::Get(1, 0, 0), Null),
     (C, Call::TwinFor(1), Null),
-    (C, Call::Live(65535), Reply::Alive),
+    (C, Call::Live(65535), M(MNum(65535))),
     (
         C,
         Call::Snap,

@@ -2,7 +2,7 @@
 
 use crate::mirrors::{Call, Row, play};
 use joint_model::Reply::{self, Cleared, Mark, MarkOpen, NoMark, P, Refs, Swept};
-use joint_model::{Marking, PNum, Span};
+use joint_model::{HNum, Marking, PNum, Span};
 use std::test::Fail;
 
 // No peers, in the list of freed ones.
@@ -21,10 +21,10 @@ const CIRCLE: [Row; 19] = [
     (Call::MarkBegin, MarkOpen(Marking(2))),
     (Call::MarkSweep, Swept(Marking(2), NONE)),
     (Call::MarkSweep, NoMark),
-    (Call::Restore, Reply::Alive),
+    (Call::Restore, Reply::Renewed(HNum(3))),
     (Call::Empty, Reply::Ok),
     (Call::Collect, Swept(Marking(3), NONE)),
-    (Call::Restore, Reply::Alive),
+    (Call::Restore, Reply::Renewed(HNum(4))),
     (Call::References, Refs(2)),
     (Call::Clear, Reply::Ok),
     (Call::References, Refs(0)),
@@ -39,7 +39,7 @@ const AT_ONCE: [Row; 9] = [
     (Call::Land, P(PNum(1))),
     (Call::Empty, Reply::Ok),
     (Call::MarkSweep, Swept(Marking(1), NONE)),
-    (Call::RestoreAll, Reply::Alive),
+    (Call::RestoreAll, Reply::Renewed(HNum(4))),
     (Call::Clear, Reply::Ok),
     (Call::References, Refs(0)),
 ];

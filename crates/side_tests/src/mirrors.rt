@@ -1,12 +1,13 @@
 // Plays a mirrored cycle on a peer side, by its calls: two peers, each under a handle of m1's making, whose managed objects lead to one another.
 
-ghost use Rattle.std.specs.Prelude.{◌≡◌, [], ◌∷◌, IfOk, IsTrue, None, OnOk, Some};
+ghost use Rattle.std.specs.Prelude.{◌≡◌, ◌&&◌, [], ◌∷◌, IfOk, IsTrue, None, OnOk, Some};
 ghost use Rattle.joint_model.specs.PeerReplay.{TableRow, peer_answer, row_of};
 ghost use Rattle.joint_model.specs.Told.{nothing};
 ghost use Rattle.peer_side.specs.Makings.{IsSideStep};
 ghost use Rattle.peer_side.specs.Mirroring.{strong_row};
 ghost use Rattle.peer_side.specs.Sides.{opening_side, seen};
-ghost use Rattle.side_tests.specs.Circles.{circle, nodes, with_pair, IsPlainOp, IsStillOp};
+ghost use Rattle.global_handles.specs.Rows.{is_alive};
+ghost use Rattle.side_tests.specs.Circles.{circle, is_given, nodes, with_pair, IsPlainOp, IsStillOp};
 ghost use Rattle.side_tests.specs.Drives.{IsCounted};
 
 use crate::peers::{Played, ends_with};
@@ -61,14 +62,15 @@ impl Call {
     }
 }
 
-// A side with the count that numbers its entries; whether its cycle was mirrored, and whether its references stand; and how many of its handles it
-// has weakened, and restored.
+// A side with the count that numbers its entries; whether its cycle was mirrored, whether its references stand, and whether each restore so far gave a
+// handle; and how many of its handles it has weakened, and restored.
 #[derive(Drop)]
 struct Driven {
     side: PeerSide,
     draw: Counter,
     mirrored: bool,
     standing: bool,
+    kept: bool,
     weak: u32,
     back: u32,
 }
@@ -81,7 +83,7 @@ impl Model for Driven {
 
     ghost view = { λ s. s.side.state };
 
-    ghost invariant = { λ s. IsCircle s.side s.draw s.mirrored s.standing s.weak s.back };
+    ghost invariant = { λ s. IsCircle s.side s.draw s.mirrored s.standing s.kept s.weak s.back };
 }
 
 impl Driven {
@@ -103,6 +105,7 @@ impl Driven {
         )?;
         self.mirrored = true;
         self.standing = true;
+        self.kept = true;
         self.weak = 0;
         self.back = 0;
         Ok(Some(Refs(refs)))
@@ -141,13 +144,14 @@ impl Driven {
         }
         let back = restore_one(&mut self.side, &mut self.draw, 4, HNum(h));
         self.back = h;
+        self.kept = keeps(self.kept, back);
         Some(match back {
-            Back::Alive => Reply::Alive,
+            Back::Alive { h } => Reply::Renewed(h),
             Back::Cleared => Cleared,
         })
     }
 
-    // Both handles are restored, with one answer; None where it isn't their turn, one isn't in the table, or their answers differ.
+    // Both handles are restored, and the second answer is told; None where it isn't their turn, one isn't in the table, or one answer alone gave a handle.
     fn restores_all(&mut self, alloc: Global) -> Result<Option<Reply>, AllocError> {
         if !self.standing || self.weak != 2 || self.back != 0 {
             return Ok(None);
@@ -158,16 +162,18 @@ impl Driven {
         let graph = two_nodes(alloc)?;
         let mut alive = Alive::new(alloc, 2)?;
         restore_all(&mut self.side, &mut self.draw, 4, &graph, &mut alive);
+        let (first, second) = (alive.at(0), alive.at(1));
         self.back = 2;
-        Ok(both(alive.at(0), alive.at(1)))
+        self.kept = keeps_both(self.kept, first, second);
+        Ok(both(first, second))
     }
 
-    // The references go; None where it isn't their turn, or a handle isn't strong.
+    // The references go; None where it isn't their turn, or a handle that a restore gave isn't strong.
     fn clears(&mut self) -> Option<Reply> {
-        if !self.standing || self.back != 2 {
+        if !self.standing || self.back != 2 || !self.kept {
             return None;
         }
-        if !is_strong(&self.side, 1) || !is_strong(&self.side, 2) {
+        if !is_strong(&self.side, 3) || !is_strong(&self.side, 4) {
             return None;
         }
         clear(&mut self.side, &mut self.draw, 4, Cycle(1));
@@ -237,12 +243,37 @@ impl Driven {
     }
 }
 
-// The one answer of two restores; None where they differ.
-fn both(first: Option<bool>, second: Option<bool>) -> Option<Reply> {
+// What the second of two restores answered; None where one of them alone gave a handle.
+fn both(first: Option<Option<HNum>>, second: Option<Option<HNum>>) -> Option<Reply> {
     match (first, second) {
-        (Some(true), Some(true)) => Some(Reply::Alive),
-        (Some(false), Some(false)) => Some(Cleared),
+        (Some(Some(_)), Some(Some(h))) => Some(Reply::Renewed(h)),
+        (Some(None), Some(None)) => Some(Cleared),
         _ => None,
+    }
+}
+
+// Whether each restore gave a handle, with one more.
+fn keeps(kept: bool, back: Back) -> bool
+    ensures { result ≡ (kept && is_alive back) }
+{
+    kept && back.is_alive()
+}
+
+// Whether each restore gave a handle, with two more.
+fn keeps_both(kept: bool, first: Option<Option<HNum>>, second: Option<Option<HNum>>) -> bool
+    ensures { result ≡ (kept && (is_given first && is_given second)) }
+{
+    kept && (is_given(first) && is_given(second))
+}
+
+// Whether a restore was answered, and gave a handle.
+fn is_given(back: Option<Option<HNum>>) -> bool
+    ensures { result ≡ is_given back }
+{
+    match back {
+        Some(Some(_)) => true,
+        Some(None) => false,
+        None => false,
     }
 }
 
@@ -357,6 +388,7 @@ fn play_on(
                 draw,
                 mirrored: false,
                 standing: false,
+                kept: true,
                 weak: 0,
                 back: 0,
             };

@@ -4,22 +4,30 @@ ghost use Rattle.std.specs.Prelude.{◌≡◌, []};
 
 use std::alloc::AllocError;
 use std::test::Fail;
-use xref_list::{Added, Components, ComponentsBuilder};
+use xref_list::{Added, Components, ComponentsBuilder, End};
 
 // The pairs of the circles, in order.
 const PAIRS: [(u32, u32); 4] = [(0, 1), (0, 2), (1, 0), (2, 1)];
 
 // The mirror edges of the circles: each circle's own, and then one for each pair.
-const EDGES: [(u32, u32); 9] = [
-    (0, 2),
-    (2, 5),
-    (5, 0),
-    (3, 4),
-    (4, 3),
-    (0, 1),
-    (0, 3),
-    (1, 0),
-    (3, 1),
+const EDGES: [(End, End); 9] = [
+    (End::Node(0), End::Node(2)),
+    (End::Node(2), End::Node(5)),
+    (End::Node(5), End::Node(0)),
+    (End::Node(3), End::Node(4)),
+    (End::Node(4), End::Node(3)),
+    (End::Node(0), End::Node(1)),
+    (End::Node(0), End::Node(3)),
+    (End::Node(1), End::Node(0)),
+    (End::Node(3), End::Node(1)),
+];
+
+// The mirror edges of one component with two members and one without, which refer to each other.
+const OVER_TEMPORARY: [(End, End); 4] = [
+    (End::Node(4), End::Node(7)),
+    (End::Node(7), End::Node(4)),
+    (End::Node(4), End::Temp(1)),
+    (End::Temp(1), End::Node(4)),
 ];
 
 // Whether the pair may be added, and the call answers so.
@@ -46,7 +54,7 @@ fn has_pairs(components: &Components, pairs: &[(u32, u32)]) -> bool {
 }
 
 // Whether the mirror edges stand just there, in that order.
-fn has_edges(components: &Components, edges: &[(u32, u32)]) -> bool {
+fn has_edges(components: &Components, edges: &[(End, End)]) -> bool {
     for i in 0..components.refs() {
         if edges.get(i as usize) != Some(&components.mirror_edge(i)) {
             return false;
@@ -62,7 +70,8 @@ fn has_members(components: &Components, c: u32, members: &[u32]) -> bool {
 
 // Adds two components of one member each, and a pair twice. Answers whether each call answers as it should.
 fn add_single(builder: &mut ComponentsBuilder) -> Result<bool, AllocError>
-    requires { builder.old.comps ≡ [] }
+    requires comps { builder.old.comps ≡ [] }
+    requires heavy { builder.old.heavy ≡ 0 }
 {
     let first = builder.component(&[0])?;
     let second = builder.component(&[3])?;
@@ -85,6 +94,7 @@ fn add_pairs(builder: &mut ComponentsBuilder) -> Result<bool, AllocError> {
 // Adds three components and their pairs. Answers whether each call answers as it should.
 fn add_circles(builder: &mut ComponentsBuilder) -> Result<bool, AllocError>
     requires comps { builder.old.comps ≡ [] }
+    requires heavy { builder.old.heavy ≡ 0 }
     requires pairs { builder.old.pairs ≡ [] }
 {
     let first = builder.component(&[0, 2, 5])?;
@@ -92,6 +102,20 @@ fn add_circles(builder: &mut ComponentsBuilder) -> Result<bool, AllocError>
     let third = builder.component(&[3, 4])?;
     builder.add_all(0, &[1, 2])?;
     Ok((first, second, third) == (0, 1, 2) && add_pairs(builder)?)
+}
+
+// Adds a component with two members and one without, and the pairs between them. Answers whether each call answers as it should.
+fn add_bridgeless(builder: &mut ComponentsBuilder) -> Result<bool, AllocError>
+    requires comps { builder.old.comps ≡ [] }
+    requires heavy { builder.old.heavy ≡ 0 }
+{
+    let first = builder.component(&[4, 7])?;
+    let second = builder.bridgeless()?;
+    Ok(
+        (first, second) == (0, 1)
+            && adds(builder, 0, 1, Added::New)?
+            && adds(builder, 1, 0, Added::New)?,
+    )
 }
 
 // Whether the list is that of the circles.
@@ -108,7 +132,7 @@ fn one_pair(rt: HostRuntime) -> Result<(), Fail> {
     let mut builder = ComponentsBuilder::new(rt.alloc());
     let added = add_single(&mut builder)?;
     let components = builder.finish()?;
-    assert!(rt; added && has_edges(&components, &[(0, 3)]));
+    assert!(rt; added && has_edges(&components, &[(End::Node(0), End::Node(3))]));
     Ok(())
 }
 
@@ -119,5 +143,17 @@ fn circles_and_pairs(rt: HostRuntime) -> Result<(), Fail> {
     let added = add_circles(&mut builder)?;
     let components = builder.finish()?;
     assert!(rt; added && are_circles(&components));
+    Ok(())
+}
+
+// A component without members stands behind the others, and a temporary stands for it.
+#[test]
+fn one_without_members(rt: HostRuntime) -> Result<(), Fail> {
+    let mut builder = ComponentsBuilder::new(rt.alloc());
+    let added = add_bridgeless(&mut builder)?;
+    let components = builder.finish()?;
+    assert_eq!(rt; (components.len(), components.heavy()), (2, 1));
+    assert!(rt; added && has_members(&components, 1, &[]));
+    assert!(rt; has_edges(&components, OVER_TEMPORARY.as_slice()));
     Ok(())
 }

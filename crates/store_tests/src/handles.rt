@@ -1,16 +1,16 @@
-// Tables of calls of a table of handles, with what each answers: how rows are made, cleared, restored and removed, at the last number and with
-// many handles of a peer.
+// Tables of calls of a table of handles, with what each answers: how rows are made, cleared, restored and removed, at the last place, with
+// many handles of a peer and with many restores.
 
-ghost use Rattle.std.specs.Prelude.{All, IfSome};
+ghost use Rattle.std.specs.Prelude.{◌≡◌, All};
 ghost use Rattle.std.specs.Bool.{OnTrue};
-ghost use Rattle.global_handles.specs.Rows.{IsWeakFor, row_in};
+ghost use Rattle.global_handles.specs.Rows.{IsWeakFor};
 
 use global_handles::Hold::{Held, Raw};
 use global_handles::Strength::{Strong, Weak};
 use global_handles::{Back, HandleFault, HandleRow, HandleTable, Hold, NotLive, Strength};
 use joint_model::{HNum, PNum};
 
-// A call, with what it answers. `Count` is of the rows that are in the table, and of the handles that were ever made.
+// A call, with what it answers. `Count` is of the rows that are in the table, of the handles that were made by `make`, and the greatest number given.
 #[derive(Clone, Copy)]
 enum Call {
     Reserve(u32),
@@ -21,7 +21,8 @@ enum Call {
     Release(HNum, Result<HandleRow, NotLive>),
     Row(HNum, Option<HandleRow>),
     Target(HNum, Option<PNum>),
-    Count(u32, u32),
+    Nth(u32, HandleRow),
+    Count(u32, u32, u32),
 }
 
 // The second handle's row, once its peer is freed.
@@ -42,12 +43,12 @@ const CLEARS: [Call; 9] = [
     Call::Restore(HNum(1), Back::Cleared),
     Call::Release(HNum(1), Err(NotLive { h: HNum(1) })),
     Call::Release(HNum(2), Ok(SECOND)),
-    Call::Count(0, 2),
+    Call::Count(0, 2, 2),
 ];
 
 const IS_FULL: [Call; 2] = [
     Call::Make(PNum(1), Held, Strong, Err(HandleFault::HandlesFull)),
-    Call::Count(65_535, 65_535),
+    Call::Count(65_535, 65_535, 65_535),
 ];
 
 const ALL_PEERS: [Call; 9] = [
@@ -62,15 +63,57 @@ const ALL_PEERS: [Call; 9] = [
     Call::Target(HNum(3), Some(PNum(300))),
 ];
 
-const RESTORES: [Call; 8] = [
+// What the first handle's row is once it is restored.
+const RENEWED: HandleRow = HandleRow {
+    number: HNum(3),
+    peer: PNum(4),
+    hold: Held,
+    strength: Strong,
+    cleared: false,
+};
+
+const RESTORES: [Call; 13] = [
     Call::Make(PNum(4), Held, Strong, Ok(HNum(1))),
     Call::Make(PNum(5), Held, Strong, Ok(HNum(2))),
     Call::Weaken(HNum(1)),
     Call::Clear(PNum(6)),
-    Call::Restore(HNum(1), Back::Alive),
-    Call::Target(HNum(1), Some(PNum(4))),
+    Call::Restore(HNum(1), Back::Alive { h: HNum(3) }),
+    Call::Target(HNum(1), None),
     Call::Target(HNum(2), Some(PNum(5))),
-    Call::Count(2, 2),
+    Call::Row(HNum(3), Some(RENEWED)),
+    Call::Nth(1, RENEWED),
+    Call::Count(2, 2, 3),
+    Call::Make(PNum(4), Held, Strong, Ok(HNum(4))),
+    Call::Release(HNum(3), Ok(RENEWED)),
+    Call::Count(2, 3, 4),
+];
+
+// Handles that are made before many restores of the second, and what is there after a million.
+const BEFORE_RESTORES: [Call; 3] = [
+    Call::Make(PNum(1), Raw, Weak, Ok(HNum(1))),
+    Call::Make(PNum(2), Held, Strong, Ok(HNum(2))),
+    Call::Make(PNum(2), Raw, Weak, Ok(HNum(3))),
+];
+
+const LAST_OF_MANY: HandleRow = HandleRow {
+    number: HNum(1_000_003),
+    peer: PNum(2),
+    hold: Held,
+    strength: Strong,
+    cleared: false,
+};
+
+const AFTER_RESTORES: [Call; 10] = [
+    Call::Count(3, 3, 1_000_003),
+    Call::Row(HNum(2), None),
+    Call::Row(HNum(1_000_002), None),
+    Call::Row(HNum(1_000_003), Some(LAST_OF_MANY)),
+    Call::Nth(2, LAST_OF_MANY),
+    Call::Weaken(HNum(1_000_003)),
+    Call::Clear(PNum(2)),
+    Call::Target(HNum(3), None),
+    Call::Restore(HNum(1_000_003), Back::Cleared),
+    Call::Count(2, 3, 1_000_003),
 ];
 
 // Handles that are made before the many.
@@ -109,7 +152,7 @@ const AFTER_MANY: [Call; 11] = [
     Call::Target(HNum(40_004), None),
     Call::Target(HNum(40_005), None),
     Call::Target(HNum(2), Some(PNum(8))),
-    Call::Count(4, 40_005),
+    Call::Count(4, 40_005, 40_005),
 ];
 
 // Makes a strong row weak. Answers whether there is one.
@@ -126,31 +169,34 @@ fn weaken(table: &mut HandleTable, h: HNum) -> bool {
 // What a weak row comes back as, or None where there is none.
 fn restore(table: &mut HandleTable, h: HNum) -> Option<Back> {
     match table.row(h) {
-        Some(row) if row.strength == Weak => Some(table.restore(h)),
+        Some(row) if row.strength == Weak && table.last() < u32::MAX => Some(table.restore(h)),
         _ => None,
     }
 }
 
-// Whether a handle has no strong row of a peer.
-fn is_weak_at(table: &HandleTable, h: HNum, p: PNum) -> bool
-    ensures { OnTrue result (IfSome (row_in table.now.rows h) (λ r. IsWeakFor p r)) }
-{
-    match table.row(h) {
-        Some(row) => row.peer != p || matches!(row.strength, Weak),
-        None => true,
-    }
-}
-
 // Whether a peer has no strong row.
-fn is_weak(table: &HandleTable, p: PNum) -> bool
-    ensures { OnTrue result (All (IsWeakFor p) table.now.rows) }
+fn is_weak(table: &mut HandleTable, p: PNum) -> bool
+    ensures weak { OnTrue result (All (IsWeakFor p) table.new.rows) }
+    ensures rows { table.new.rows ≡ table.old.rows }
 {
-    for n in 0..table.made() {
-        if !is_weak_at(table, HNum(n + 1), p) {
+    table.settle();
+    for i in 0..table.len() {
+        let row = table.nth(i);
+        if row.peer == p && row.strength != Weak {
             return false;
         }
     }
     true
+}
+
+// The row at a place of all rows in rising number.
+fn nth(table: &mut HandleTable, i: u32) -> Option<HandleRow> {
+    table.settle();
+    if i < table.len() {
+        Some(table.nth(i))
+    } else {
+        None
+    }
 }
 
 // Clears the rows of a peer. Answers whether all were weak.
@@ -167,7 +213,7 @@ fn answers(table: &mut HandleTable, call: &Call) -> bool {
     match *call {
         Call::Reserve(additional) => table.reserve(additional).is_ok(),
         Call::Make(p, hold, strength, wanted) => {
-            p.0 <= 65_535 && table.make(p, hold, strength) == wanted
+            p.0 <= 65_535 && table.last() < u32::MAX && table.make(p, hold, strength) == wanted
         }
         Call::Weaken(h) => weaken(table, h),
         Call::Clear(p) => clear(table, p),
@@ -175,7 +221,10 @@ fn answers(table: &mut HandleTable, call: &Call) -> bool {
         Call::Release(h, wanted) => table.release(h) == wanted,
         Call::Row(h, wanted) => table.row(h) == wanted,
         Call::Target(h, wanted) => table.target(h) == wanted,
-        Call::Count(len, made) => table.len() == len && table.made() == made,
+        Call::Nth(i, wanted) => nth(table, i) == Some(wanted),
+        Call::Count(len, made, last) => {
+            table.len() == len && table.made() == made && table.last() == last
+        }
     }
 }
 
@@ -192,25 +241,49 @@ fn miss(table: &mut HandleTable, calls: &[Call]) -> Option<usize> {
 // Makes all handles. Answers whether each has the next number.
 fn make_all(table: &mut HandleTable) -> bool {
     for n in 0..65_535u32 {
-        if table.make(PNum(n / 7), Held, Strong) != Ok(HNum(n + 1)) {
+        if table.last() == u32::MAX || table.make(PNum(n / 7), Held, Strong) != Ok(HNum(n + 1)) {
             return false;
         }
     }
     true
 }
 
+// Makes a handle on the peer that has many, if there is a number for it.
+fn make_one(table: &mut HandleTable) -> Option<HNum> {
+    if table.last() == u32::MAX {
+        return None;
+    }
+    table.make(PNum(9), Raw, Weak).ok()
+}
+
 // Makes two handles on a peer and releases both, many times. Answers whether they are made and released.
 fn make_and_release(table: &mut HandleTable) -> bool {
     for _ in 0..20_000u32 {
-        let Ok(middle) = table.make(PNum(9), Raw, Weak) else {
+        let Some(middle) = make_one(table) else {
             return false;
         };
-        let Ok(last) = table.make(PNum(9), Raw, Weak) else {
+        let Some(last) = make_one(table) else {
             return false;
         };
         if table.release(middle).is_err() || table.release(last).is_err() {
             return false;
         }
+    }
+    true
+}
+
+// Restores the second handle a million times. Answers whether each has the next number.
+fn restore_many(table: &mut HandleTable) -> bool {
+    let mut h = HNum(2);
+    for n in 0..1_000_000u32 {
+        if !weaken(table, h) {
+            return false;
+        }
+        let next = HNum(n + 4);
+        if restore(table, h) != Some(Back::Alive { h: next }) {
+            return false;
+        }
+        h = next;
     }
     true
 }
@@ -222,7 +295,7 @@ fn clears_and_removes_the_rows_of_a_peer(rt: HostRuntime) {
 }
 
 #[test]
-fn is_full_once_all_numbers_were_given(rt: HostRuntime) {
+fn is_full_once_all_were_made(rt: HostRuntime) {
     let mut table = HandleTable::new(rt.alloc());
     assert!(rt; make_all(&mut table));
     assert_eq!(rt; miss(&mut table, IS_FULL.as_slice()), None);
@@ -238,6 +311,14 @@ fn makes_handles_on_the_peers_of_all_numbers(rt: HostRuntime) {
 fn restores_a_row_that_was_not_cleared(rt: HostRuntime) {
     let mut table = HandleTable::new(rt.alloc());
     assert_eq!(rt; miss(&mut table, RESTORES.as_slice()), None);
+}
+
+#[test]
+fn restores_a_million_times(rt: HostRuntime) {
+    let mut table = HandleTable::new(rt.alloc());
+    assert_eq!(rt; miss(&mut table, BEFORE_RESTORES.as_slice()), None);
+    assert!(rt; restore_many(&mut table));
+    assert_eq!(rt; miss(&mut table, AFTER_RESTORES.as_slice()), None);
 }
 
 #[test]

@@ -103,9 +103,10 @@ fn each_entry_of_both_calls_is_found_by_its_place(rt: HostRuntime) -> Result<(),
 fn alive_has_a_value_for_each_push(rt: HostRuntime) -> Result<(), Fail> {
     let mut alive = Alive::new(rt.alloc(), 2)?;
     assert!(rt; alive.is_empty());
-    alive.push(true);
-    alive.push(false);
-    assert!(rt; alive.at(1) == Some(false) && alive.at(2).is_none() && alive.len() == 2);
+    alive.push(Some(HNum(9)));
+    alive.push(None);
+    assert!(rt; alive.at(0) == Some(Some(HNum(9))) && alive.at(1) == Some(None));
+    assert!(rt; alive.at(2).is_none() && alive.len() == 2);
     Ok(())
 }
 

@@ -1,6 +1,7 @@
-// A marking of five rows: the xth leads to the one at x % 3 + 3 by its first field, and the first to the second by a reference.
+// A marking of five rows: the xth leads to the one at x % 3 + 3, and the first to the second too.
 
-ghost use Rattle.std.specs.Prelude.{◌≡◌, ◌+◌, ◌<◌, ◌%◌, [], ◌∷◌, Some, None, false, replicate};
+ghost use Rattle.std.specs.Prelude.{◌≡◌, ◌+◌, ◌≤◌, ◌<◌, ◌%◌, ◌⊎◌, false, replicate};
+ghost use Rattle.row_marking.specs.Traces.{Greyed};
 
 use row_marking::{Traced, mark_from, visit};
 use std::test::Fail;
@@ -16,21 +17,13 @@ impl Traced for Five {
 
     ghost kept = { λ f. tt };
 
-    ghost shape = { λ f. record { fields = λ x. Some (x % 3 + 3) ∷ None ∷ []; refs = (1, 2) ∷ [] } };
+    ghost leads = { λ f x y. (y ≡ x % 3 + 3) ⊎ ((x ≡ 1) × (y ≡ 2)) };
 
     ghost is_row = { λ f x. x < 6 };
 
     ghost marks = { λ f. f.marks };
 
     ghost links = { λ f. f.links };
-
-    fn first_reference(&self, x: usize) -> u32 {
-        if x == 1 { 1 } else { 0 }
-    }
-
-    fn reference(&self, _x: usize, _r: u32) -> (u32, u32) {
-        (2, 0)
-    }
 
     fn is_marked(&self, x: usize) -> bool {
         self.marks[x]
@@ -40,17 +33,29 @@ impl Traced for Five {
         self.links[x]
     }
 
-    fn mark_fields(&mut self, x: usize, grey: &mut u32) {
-        let y = x % 3 + 3;
+    fn mark(&mut self, x: usize, link: u32) {
+        self.marks[x] = true;
+        self.links[x] = link;
+    }
+
+    fn scan(&mut self, x: usize, grey: &mut u32) {
+        self.see(x % 3 + 3, grey);
+        if x == 1 {
+            self.see(2, grey);
+        }
+    }
+}
+
+impl Five {
+    // Marks row `y`, which comes first in the list of grey rows if it wasn't marked.
+    fn see(&mut self, y: usize, grey: &mut u32)
+        requires { (1 ≤ y) × (y < 6) }
+        ensures { Greyed (λ z. z ≡ y) self.old.marks self.old.links grey.old self.new.marks self.new.links grey.new }
+    {
         if !self.is_marked(y) {
             self.mark(y, *grey);
             *grey = y as u32;
         }
-    }
-
-    fn mark(&mut self, x: usize, link: u32) {
-        self.marks[x] = true;
-        self.links[x] = link;
     }
 }
 

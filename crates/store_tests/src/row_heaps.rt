@@ -1,8 +1,11 @@
 // A table of a small heap's operations, with what each answers; references, and a sweep.
 
+ghost use Rattle.std.specs.Prelude.{◌≡◌, OnOk};
+ghost use Rattle.joint_model.specs.Heaps.{IsLive};
+
 use heap_rules::Done::{self, Empty, Null, Object, Range};
 use joint_model::PNum;
-use row_heap::RowHeap;
+use row_heap::{End, RowHeap};
 use std::alloc::AllocError;
 
 // An operation, by places of variables, fields and statics. `Add` makes an object with so many fields, which the variable then names.
@@ -85,13 +88,25 @@ fn operations_answer_as_the_table_says(rt: HostRuntime) -> Result<(), AllocError
     Ok(())
 }
 
+// A reference of the first object over a temporary to the second.
+fn refer_over(heap: &mut RowHeap<PNum>, first: u32, second: u32) -> Result<(), AllocError>
+    requires first { IsLive heap.old.heap first }
+    requires second { IsLive heap.old.heap second }
+    ensures { OnOk result (heap.new.heap ≡ heap.old.heap) }
+{
+    heap.reserve_references(2, 1)?;
+    let over = End::Temporary(0);
+    heap.add_references(&[(End::Object(first), over), (over, End::Object(second))]);
+    Ok(())
+}
+
 #[test]
 fn takes_references(rt: HostRuntime) -> Result<(), AllocError> {
     let mut heap: RowHeap<PNum> = RowHeap::new(rt.alloc());
     let first = heap.add_object(0)?;
-    heap.reserve_references(1)?;
-    heap.push_reference(first, first);
-    assert_eq!(rt; heap.references_len(), 1);
+    let second = heap.add_object(0)?;
+    refer_over(&mut heap, first, second)?;
+    assert_eq!(rt; heap.references_len(), 2);
     heap.clear_references();
     assert_eq!(rt; heap.references_len(), 0);
     Ok(())

@@ -11,7 +11,7 @@ use std::alloc::AllocError;
 use std::sync::Wait;
 
 /// The line on which all entries stand: a history orders them by their numbers, and needs no more.
-pub(crate) const LINE: u16 = 1;
+pub(crate) const LINE: u32 = 1;
 
 /// A cell whose object was collected.
 pub(crate) const GONE: Cell = Cell(0);

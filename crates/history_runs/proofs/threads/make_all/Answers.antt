@@ -1,4 +1,4 @@
-use mir.Syntax.{named, w16}
+use mir.Syntax.{named, w32}
 use denote.Param.{param}
 use denote.Param.Send.{IsSync, sendable, shr_sync}
 use denote.Plain.{UInt}
@@ -8,7 +8,7 @@ use Rattle.order_table.proofs.seats.Seat.TheSendSync.{the_send as seat}
 use Rattle.joint_history.proofs.Crosses.{entries, shared}
 use Rattle.history_runs.proofs.threads.make_all.Goals as goal
 
-count : IsSync (UInt w16)
+count : IsSync (UInt w32)
 count = search sendable
 
 -- the closure holds the runtime, the shared bridge and the number of lines, each by a reference

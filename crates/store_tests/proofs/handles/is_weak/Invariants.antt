@@ -1,8 +1,8 @@
-use Rattle.std.proofs.Common.{◌<◌, ◌≤◌}
-use Rattle.std.specs.Prelude.{IfSome}
-use Rattle.joint_model.specs.declared.names.HNum.{HNum}
-use Rattle.global_handles.specs.Rows.{IsWeakFor, row_in}
+-- The rows so far are weak for the peer.
+use Rattle.std.proofs.Common.{◌≡◌, ◌<◌, ℕ, Some, slice_get}
+use Rattle.global_handles.specs.declared.HandleRow.{HandleRow}
+use Rattle.global_handles.specs.Rows.{IsWeakFor}
 use Rattle.store_tests.proofs.handles.is_weak.Given as goal
 
-abbrev pub invariant-loop-n : goal.invariant-loop-n
-invariant-loop-n l = (h : HNum) → 0 < h.0 → h.0 ≤ l.n → IfSome (row_in l.table.rows h) (λ r. IsWeakFor l.p r)
+abbrev pub invariant-loop-i : goal.invariant-loop-i
+invariant-loop-i l = (k : ℕ) (r : HandleRow) → k < l.i → slice_get l.table.rows k ≡ Some r → IsWeakFor l.fn.p r

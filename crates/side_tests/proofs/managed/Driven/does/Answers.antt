@@ -1,5 +1,5 @@
--- The handle that an event names has the number of the entries so far, which none of those that were adopted has.
-use Rattle.std.proofs.Common.{◌≡◌, length, ap, ◌∙◌, subst, refl}
+-- The handle that an event names is the next one, which none of those that rows took is.
+use Rattle.std.proofs.Common.{◌+◌, length, subst, refl}
 use Rattle.joint_model.specs.Sides.{managed_rules}
 use Rattle.joint_model.specs.Told.{nothing, no_pins}
 use Rattle.joint_model.specs.Readers.{with_pins}
@@ -12,20 +12,20 @@ use Rattle.side_tests.proofs.managed.Driven.does.Goals as goal
 
 pub step-requires-clause-fresh : goal.step-requires-clause-fresh
 step-requires-clause-fresh c =
-    let next : c.len-next.result ≡ length c.self.inside.side.entries = c.len-next.ensures ∙ ap length c.entries.ensures in
-    fresh-next c.self.inside.side.state c.args.op (length c.self.inside.side.entries) (subst (λ n. NamesNext c.args.op n) next (c.if-not-names_next.ensures refl)) c.self.invariant.adopts
+    let i = c.self.inside in
+    fresh-next i.side.state c.args.op (length i.side.entries + i.answered) (subst (λ n. NamesNext c.args.op n) c.in-Some.ensures (c.if-not-names_next.ensures refl)) c.self.invariant.adopts
 
 pub step-requires-clause-may : goal.step-requires-clause-may
 step-requires-clause-may c = counted-may managed_rules c.self.inside.side c.self.inside.gate.count c.args.caller c.args.op (managed-taken c.args.caller c.args.op (c.if-not-is_step.ensures refl)) c.self.invariant.counted
 
 pub invariant_of-self : goal.invariant_of-self
-invariant_of-self c = driven-same c.self.inside.side c.step.new.self c.self.inside.gate.count c.step.new.draw c.self.inside.waiting c.in_err-reply.ensures.err c.self.invariant
+invariant_of-self c = driven-same c.self.inside.side c.step.new.self c.self.inside.gate.count c.step.new.draw c.self.inside.waiting c.self.inside.answered c.in_err-reply.ensures.err c.self.invariant
 
 pub invariant_of-self-2 : goal.invariant_of-self-2
 invariant_of-self-2 c =
-    let next : c.len-next.result ≡ length c.self.inside.side.entries = c.len-next.ensures ∙ ap length c.entries.ensures in
+    let i = c.self.inside in
     let s = with_pins c.self.inside.side.state no_pins in
     let by = (c.if-not-is_step.ensures refl).1 in
-    driven-still c.self.inside.side c.step.new.self c.self.inside.gate.count c.step.new.draw c.self.inside.waiting _ nothing c.in_ok-reply.ensures.adds
-    (step-named s c.args.caller c.args.op (length c.self.inside.side.entries) by (subst (λ n. NamesNext c.args.op n) next (c.if-not-names_next.ensures refl)))
+    driven-still c.self.inside.side c.step.new.self c.self.inside.gate.count c.step.new.draw c.self.inside.waiting c.self.inside.answered _ nothing c.in_ok-reply.ensures.adds
+    (step-named s c.args.caller c.args.op (length i.side.entries + i.answered) by (subst (λ n. NamesNext c.args.op n) c.in-Some.ensures (c.if-not-names_next.ensures refl)))
     (step-cycle s c.args.caller c.args.op (kept-pinned c.self.inside.side.state no_pins (none_stand c.self.inside.side.state.managed) c.replays.ensures.kept) by) c.self.invariant

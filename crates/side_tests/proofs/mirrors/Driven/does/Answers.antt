@@ -21,14 +21,14 @@ step-requires-clause-may c = counted-may-step (seen c.self.inside.side) c.self.i
 pub invariant_of-self : goal.invariant_of-self
 invariant_of-self c =
     let i = c.self.inside in
-    circle-same i.side c.step.new.self i.draw c.step.new.draw i.mirrored i.standing i.weak i.back c.in_err-reply.ensures.err c.self.invariant
+    circle-same i.side c.step.new.self i.draw c.step.new.draw i.mirrored i.standing i.kept i.weak i.back c.in_err-reply.ensures.err c.self.invariant
 
 pub invariant_of-self-2 : goal.invariant_of-self-2
 invariant_of-self-2 c =
     let i = c.self.inside in
     let adds = c.in_ok-reply.ensures.adds in
     let reserve = c.in_ok-reply.ensures.reserve in
-    circle-stays i.side c.step.new.self i.draw c.step.new.draw i.mirrored i.standing i.weak i.back
+    circle-stays i.side c.step.new.self i.draw c.step.new.draw i.mirrored i.standing i.kept i.weak i.back
     (still-in-turn i.draw c.step.new.draw (seen i.side) (seen c.step.new.self) _ adds (makings-still c.args.caller 1 c.args.op _ _ _ (c.if-not-is_still.ensures refl)))
     (counted-in-turn peer_rules _ (seen i.side) (seen c.step.new.self) i.draw c.step.new.draw adds c.self.invariant.counted)
     (ap (λ (z : Reserve). z.waiting) reserve) (ap (λ (z : Reserve). z.left) reserve) c.self.invariant

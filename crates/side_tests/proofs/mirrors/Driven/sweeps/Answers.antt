@@ -17,9 +17,9 @@ invariant_of-self c =
     let i = c.self.inside in
     let reserve = c.sweep.ensures.reserve in
     elim c.match-sweep.branch [
-      | in-Ok w ↦ circle-stays i.side c.sweep.new.self i.draw c.sweep.new.draw i.mirrored i.standing i.weak i.back
+      | in-Ok w ↦ circle-stays i.side c.sweep.new.self i.draw c.sweep.new.draw i.mirrored i.standing i.kept i.weak i.back
           (still-once i.draw c.sweep.new.draw (seen i.side) (seen c.sweep.new.self) _ _ w.in-Ok.ensures.swept tt)
           (counted-once peer_rules (seen i.side) (seen c.sweep.new.self) i.draw c.sweep.new.draw _ _ w.in-Ok.ensures.swept c.self.invariant.counted)
           (ap (λ (z : Reserve). z.waiting) reserve) (ap (λ (z : Reserve). z.left) reserve) c.self.invariant
-      | in-Err w ↦ (let same = w.in-Err.ensures.err in circle-same i.side c.sweep.new.self i.draw c.sweep.new.draw i.mirrored i.standing i.weak i.back (same.1, same.2) c.self.invariant)
+      | in-Err w ↦ (let same = w.in-Err.ensures.err in circle-same i.side c.sweep.new.self i.draw c.sweep.new.draw i.mirrored i.standing i.kept i.weak i.back (same.1, same.2) c.self.invariant)
     ]
