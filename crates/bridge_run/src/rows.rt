@@ -41,6 +41,8 @@ fn expect_rows<R: Threads + Wait + Sync + Abort>(
 ) -> Result<(), AllocError> {
     for row in rows.split(|b| *b == b'#') {
         let Some((wanted, script, written)) = parts_of(row) else {
+            // a worked script that isn't read as one is a failure, and isn't passed over
+            assert!(rt; row.is_empty());
             continue;
         };
         let mut out = ByteSink::new(alloc, 4096, Vec::new(alloc));

@@ -88,8 +88,8 @@ c cycle
 21 c.14 weaken h2 = ok @17
 22 c.14 begin = 1
 23 c.14 sweep = 1 freed -
-24 c.14 restore h1 = alive
-25 c.14 restore h2 = alive
+24 c.14 restore h1 = alive h3
+25 c.14 restore h2 = alive h4
 26 c.14 clear 1 = ok
 27 c.14 resolve 1 = freed - @26
 end 28
@@ -130,8 +130,8 @@ c cycle
 19 c.13 weaken h2 = ok @15
 20 c.13 begin = 1
 21 c.13 sweep = 1 freed -
-22 c.13 restore h1 = alive
-23 c.13 restore h2 = alive
+22 c.13 restore h1 = alive h3
+23 c.13 restore h2 = alive h4
 24 c.13 clear 1 = ok
 25 c.13 resolve 1 = freed - @24
 end 26
@@ -235,7 +235,7 @@ c contract
 13 c.10 weaken h1 = ok @9
 14 c.10 begin = 1
 15 c.10 sweep = 1 freed -
-16 c.10 restore h1 = alive
+16 c.10 restore h1 = alive h3
 17 c.10 clear 1 = ok
 18 c.10 resolve 1 = freed - @17
 end 19
@@ -276,10 +276,41 @@ c mirror
 17 c.15 weaken h1 = ok @10
 18 c.15 begin = 1
 19 c.15 sweep = 1 freed -
-20 c.15 restore h1 = alive
+20 c.15 restore h1 = alive h2
 21 c.15 clear 1 = ok
 22 c.15 resolve 1 = freed - @21
 end 23
+# 0
+m1 bridge a bridge 0 user 0
+m1 pass a s0
+m1 handle a
+m1 weak k0 a
+m1 drop a
+c cycle
+m1 read k0
+m1 take a
+m1 handle a
+=
+0 m1.1 make user 0 = p1 h1
+1 m1.1 adopt a bridge 0 p1 h1 = m1 @0
+2 m1.2 lend a s0 = h1
+3 m1.2 land h1 s0 = p1 @2
+4 m1.3 handle a = h1
+5 m1.4 weak k0 a = ok
+6 m1.5 drop a = ok
+7 c.6 snap 1 = 1 freed -
+8 c.6 contract 1 = 1 sccs 0 xrefs
+9 c.6 mirror 1 = 0 refs @7
+10 c.6 weaken h1 = ok @7
+11 c.6 begin = 1
+12 c.6 sweep = 1 freed -
+13 c.6 restore h1 = alive h2
+14 c.6 clear 1 = ok
+15 c.6 resolve 1 = freed - @14
+16 m1.7 read k0 = m1
+17 m1.8 take a = m1
+18 m1.9 handle a = h2
+end 19
 # 0
 m1 bridge a bridge 1 user 2
 m1 pass a s0

@@ -1,4 +1,5 @@
-// A worked script: a circle of two plain objects that leads to many bridge objects.
+// A worked script: three bridge objects lead to a circle of two plain objects, which leads to many others. The circle is a heavy class, for which a
+// temporary stands.
 
 /// Rows behind one another, as `rows.rt` reads them.
 pub const MANY_LEAVES: &[u8] = b"# 0
@@ -134,8 +135,8 @@ c cycle
 74 m1.52 drop b = ok
 75 m1.53 drop c = ok
 76 c.54 snap 1 = 23 freed -
-77 c.54 contract 1 = 23 sccs 60 xrefs
-78 c.54 mirror 1 = 60 refs @76
+77 c.54 contract 1 = 24 sccs 23 xrefs
+78 c.54 mirror 1 = 23 refs @76
 79 c.54 weaken h1 = ok @76
 80 c.54 weaken h2 = ok @76
 81 c.54 weaken h3 = ok @76

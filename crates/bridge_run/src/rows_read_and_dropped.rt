@@ -260,8 +260,8 @@ m1 read k0
 20 p1.17 wread b G0 = p1
 21 p1.18 drop b = ok
 22 c.19 sweep = 1 freed -
-23 c.20 restore h1 = alive
-24 c.20 restore h2 = alive
+23 c.20 restore h1 = alive h4
+24 c.20 restore h2 = alive h5
 25 c.20 clear 1 = ok
 26 c.21 resolve 1 = freed - @25
 27 m1.22 read k0 = m2

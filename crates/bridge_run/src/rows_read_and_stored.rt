@@ -50,8 +50,8 @@ m1 read k0
 21 c.18 weaken h2 = ok @14
 22 c.19 begin = 1
 23 c.20 sweep = 1 freed -
-24 c.21 restore h1 = alive
-25 c.21 restore h2 = alive
+24 c.21 restore h1 = alive h4
+25 c.21 restore h2 = alive h5
 26 c.21 clear 1 = ok
 27 c.22 resolve 1 = freed - @26
 28 m1.23 read k0 = m2
@@ -105,8 +105,8 @@ m1 read k0
 21 c.18 weaken h2 = ok @14
 22 c.19 begin = 1
 23 c.20 sweep = 1 freed -
-24 c.21 restore h1 = alive
-25 c.21 restore h2 = alive
+24 c.21 restore h1 = alive h4
+25 c.21 restore h2 = alive h5
 26 c.21 clear 1 = ok
 27 c.22 resolve 1 = freed - @26
 28 m1.23 read k0 = m2
@@ -160,8 +160,8 @@ m1 read k0
 21 c.18 weaken h2 = ok @14
 22 c.19 begin = 1
 23 c.20 sweep = 1 freed -
-24 c.21 restore h1 = alive
-25 c.21 restore h2 = alive
+24 c.21 restore h1 = alive h4
+25 c.21 restore h2 = alive h5
 26 c.21 clear 1 = ok
 27 c.22 resolve 1 = freed - @26
 28 m1.23 read k0 = m2
@@ -215,8 +215,8 @@ m1 read k0
 21 p1.18 drop b = ok
 22 c.19 begin = 1
 23 c.20 sweep = 1 freed -
-24 c.21 restore h1 = alive
-25 c.21 restore h2 = alive
+24 c.21 restore h1 = alive h4
+25 c.21 restore h2 = alive h5
 26 c.21 clear 1 = ok
 27 c.22 resolve 1 = freed - @26
 28 m1.23 read k0 = m2
@@ -270,8 +270,8 @@ m1 read k0
 21 p1.18 store s3 b = ok
 22 p1.19 drop b = ok
 23 c.20 sweep = 1 freed -
-24 c.21 restore h1 = alive
-25 c.21 restore h2 = alive
+24 c.21 restore h1 = alive h4
+25 c.21 restore h2 = alive h5
 26 c.21 clear 1 = ok
 27 c.22 resolve 1 = freed - @26
 28 m1.23 read k0 = m2

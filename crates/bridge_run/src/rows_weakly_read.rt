@@ -46,8 +46,8 @@ m1 read k0
 19 c.16 weaken h2 = ok @14
 20 c.17 begin = 1
 21 c.18 sweep = 1 freed -
-22 c.19 restore h1 = alive
-23 c.19 restore h2 = alive
+22 c.19 restore h1 = alive h4
+23 c.19 restore h2 = alive h5
 24 c.19 clear 1 = ok
 25 c.20 resolve 1 = freed - @24
 26 m1.21 read k0 = m2
@@ -97,8 +97,8 @@ m1 read k0
 19 c.16 weaken h2 = ok @14
 20 c.17 begin = 1
 21 c.18 sweep = 1 freed -
-22 c.19 restore h1 = alive
-23 c.19 restore h2 = alive
+22 c.19 restore h1 = alive h4
+23 c.19 restore h2 = alive h5
 24 c.19 clear 1 = ok
 25 c.20 resolve 1 = freed - @24
 26 m1.21 read k0 = m2
@@ -148,8 +148,8 @@ m1 read k0
 19 c.16 weaken h2 = ok @14
 20 c.17 begin = 1
 21 c.18 sweep = 1 freed -
-22 c.19 restore h1 = alive
-23 c.19 restore h2 = alive
+22 c.19 restore h1 = alive h4
+23 c.19 restore h2 = alive h5
 24 c.19 clear 1 = ok
 25 c.20 resolve 1 = freed - @24
 26 m1.21 read k0 = m2
@@ -199,8 +199,8 @@ m1 read k0
 19 p1.16 wread b G0 = p1
 20 c.17 begin = 1
 21 c.18 sweep = 1 freed -
-22 c.19 restore h1 = alive
-23 c.19 restore h2 = alive
+22 c.19 restore h1 = alive h4
+23 c.19 restore h2 = alive h5
 24 c.19 clear 1 = ok
 25 c.20 resolve 1 = freed - @24
 26 m1.21 read k0 = m2
@@ -250,8 +250,8 @@ m1 read k0
 19 c.16 begin = 1
 20 p1.17 wread b G0 = p1
 21 c.18 sweep = 1 freed -
-22 c.19 restore h1 = alive
-23 c.19 restore h2 = alive
+22 c.19 restore h1 = alive h4
+23 c.19 restore h2 = alive h5
 24 c.19 clear 1 = ok
 25 c.20 resolve 1 = freed - @24
 26 m1.21 read k0 = m2
