@@ -11,6 +11,8 @@
 #[cfg(test)]
 mod desks;
 #[cfg(test)]
+mod gates;
+#[cfg(test)]
 mod memory;
 #[cfg(test)]
 mod readers;
@@ -20,3 +22,5 @@ mod rooms;
 mod runs;
 #[cfg(test)]
 mod threads;
+#[cfg(test)]
+mod told;

@@ -1,8 +1,8 @@
-// Runs of eight managed threads that read weak cells without a lock while the driver's cycles go on. Each thread sets eight cells, one after another, lets
-// the object of each go while it is read by all, and takes what its reads pin. So how many reads it makes is the same whatever the schedule.
+// Runs of eight managed threads that read weak cells without a lock while the driver's cycles go on. What each thread does is a function of its line, so how
+// many reads it makes is the same whatever the schedule.
 
 ghost use Rattle.std.specs.Prelude.{◌≡◌, ◌≤◌, ◌<◌, ℕ, map, [], All, IfOk, Ok, slice_index_or, vec_len};
-ghost use Rattle.joint_model.specs.Lines.{IsDriver, IsManagedAct, IsManagedThread, IsThread};
+ghost use Rattle.joint_model.specs.Lines.{IsDriver, IsManagedAct, IsManagedThread, IsThread, IsVar};
 ghost use Rattle.order_table.specs.Allowed.{Settled};
 ghost use Rattle.order_table.specs.Views.{OwnsAll};
 ghost use Rattle.joint_history.specs.Callers.{KnowsNothing, last_index, own};
@@ -13,7 +13,7 @@ ghost use Rattle.history_runs.specs.Starts.{EndsIdle, IsWaiting};
 use bridge_cycle::Driver;
 use joint_history::{Caller, Desk, Locks, Shared};
 use joint_model::{
-    Act, Cell, Entry, History, Holding, Kind, Op, Phase, PhaseWord, Reply, Sort, Thread, Var,
+    Act, Cell, Entry, History, Holding, Kind, Op, Phase, PhaseWord, Reply, Sort, Span, Thread, Var,
 };
 use joint_replay::{JointState, Verdict};
 use order_table::{Order, OrderName, Seat};
@@ -24,32 +24,39 @@ use std::test::Fail;
 use std::thread;
 use std::thread::Threads;
 
-// How many lines a thread has, and for how many of them it is at one of its cells.
-const LINES: u32 = 1_600;
+// A managed object with a peer, which a variable names.
+fn bridge(v: Var) -> Act
+    requires { IsVar v }
+    ensures { IsManagedAct result }
+{
+    Act::Bridge {
+        v,
+        kind: Kind::LeafBridge,
+        fields: 0,
+        sort: Sort::User,
+        peer_fields: 0,
+    }
+}
 
+// For how many of its lines a thread is at one of its cells, and how many cycles the driver runs meanwhile.
 const STAY: u32 = 200;
 
-// How many cycles the driver runs.
-const CYCLES: u32 = 100;
+const CYCLES: u32 = 400;
 
-// How many such runs are made.
-const RUNS: u32 = 50;
+// How many runs of each plan are made.
+const STAYS: u32 = 6;
+
+const HOLDS: u32 = 2_000;
 
 // What managed thread `n` does at a place of its stay at a cell. It reads the cells that all threads are at, each at once and then by waiting.
-fn act_at(n: u8, cell: u8, place: u32) -> Act
+fn stay_at(n: u8, cell: u8, place: u32) -> Act
     requires { (1 ≤ n) × (n ≤ 8) × (cell < 8) }
     ensures { IsManagedAct result }
 {
     let (a, b) = (Var(0), Var(1));
     let k = Cell((place / 4 % 8) as u8 * 8 + cell);
     match (place, place % 4) {
-        (0, _) => Act::Bridge {
-            v: a,
-            kind: Kind::LeafBridge,
-            fields: 0,
-            sort: Sort::User,
-            peer_fields: 0,
-        },
+        (0, _) => bridge(a),
         (1, _) => Act::Weak {
             k: Cell((n - 1) * 8 + cell),
             v: a,
@@ -59,6 +66,63 @@ fn act_at(n: u8, cell: u8, place: u32) -> Act
         (_, 1) => Act::Await { k },
         (_, 2) => Act::Take { v: b },
         _ => Act::Drop { v: b },
+    }
+}
+
+// What managed thread `n` does on a line where it holds its object by its pin alone until line 60.
+fn hold_at(n: u8, line: u32) -> Act
+    requires { (1 ≤ n) × (n ≤ 8) }
+    ensures { IsManagedAct result }
+{
+    let (a, b) = (Var(0), Var(1));
+    let own = Cell(n - 1);
+    let other = Cell(((n as u32 + line / 4) % 8) as u8);
+    match (line, line % 4) {
+        (0, _) => bridge(a),
+        (1, _) => Act::Weak { k: own, v: a },
+        (2, _) => Act::Await { k: own },
+        (3, _) => Act::Drop { v: a },
+        (_, 0) if line >= 60 => Act::Take { v: b },
+        (_, 1) if line >= 60 => Act::Drop { v: b },
+        (_, 2) if line >= 60 => Act::Await { k: other },
+        _ => Act::Read { k: other },
+    }
+}
+
+// What the managed threads of a run do, and how many cycles the driver runs meanwhile.
+#[derive(Clone, Copy)]
+enum Plan {
+    // Each thread sets eight cells, one after another, lets the object of each go while it is read by all, and takes what its reads pin.
+    Stays,
+    // Each thread sets a cell, reads it, and lets the object go. When it has taken and dropped it, it reads the cells of the others.
+    Holds,
+}
+
+impl Plan {
+    // How many lines each managed thread has.
+    fn lines(self) -> u32 {
+        match self {
+            Plan::Stays => 8 * STAY,
+            Plan::Holds => 96,
+        }
+    }
+
+    fn cycles(self) -> u32 {
+        match self {
+            Plan::Stays => CYCLES,
+            Plan::Holds => 20,
+        }
+    }
+
+    // What managed thread `n` does on a line, from 0 on.
+    fn act_at(self, n: u8, line: u32) -> Act
+        requires { (1 ≤ n) × (n ≤ 8) }
+        ensures { IsManagedAct result }
+    {
+        match self {
+            Plan::Stays => stay_at(n, (line / STAY % 8) as u8, line % STAY),
+            Plan::Holds => hold_at(n, line),
+        }
     }
 }
 
@@ -97,14 +161,15 @@ fn make_lines<N: OrderName>(
     shared: &Shared<N, Locks>,
     caller: Caller<N>,
     n: u8,
+    plan: Plan,
 ) -> Result<Caller<N>, AllocError>
     requires thread { IsManagedThread caller.thread × (1 ≤ n) × (n ≤ 8) }
     requires new { KnowsNothing caller.view }
     ensures { IfOk result (λ p. p.thread ≡ caller.thread) }
 {
     let mut caller = caller;
-    for line in 0..LINES {
-        let act = act_at(n, (line / STAY) as u8, line % STAY);
+    for line in 0..plan.lines() {
+        let act = plan.act_at(n, line);
         make_line(rt, shared, &mut caller, line + 1, &act)?;
     }
     Ok(caller)
@@ -116,14 +181,15 @@ fn make_cycles<N: OrderName>(
     alloc: Global,
     shared: &Shared<N, Locks>,
     driver: &mut Driver<N>,
+    cycles: u32,
 ) -> Result<(), AllocError>
     requires { line_of driver.old ≤ 0 }
-    ensures { line_of driver.new ≤ 100 }
+    ensures { line_of driver.new ≤ cycles }
 {
     let act = Act::PhaseLine {
         word: PhaseWord::Cycle,
     };
-    for line in 0..CYCLES {
+    for line in 0..cycles {
         driver.line(rt, alloc, shared, line + 1, &act)?;
     }
     Ok(())
@@ -135,14 +201,15 @@ fn drive<N: OrderName>(
     alloc: Global,
     shared: &Shared<N, Locks>,
     caller: Caller<N>,
+    cycles: u32,
 ) -> Result<Caller<N>, AllocError>
     requires thread { IsDriver caller.thread }
     requires new { KnowsNothing caller.view }
     ensures { EndsIdle caller result }
 {
     let mut driver = Driver::new(caller);
-    let made = make_cycles(rt, alloc, shared, &mut driver);
-    driver.end(rt, alloc, shared, CYCLES)?;
+    let made = make_cycles(rt, alloc, shared, &mut driver, cycles);
+    driver.end(rt, alloc, shared, cycles)?;
     made?;
     if driver.phase() != Phase::Idle {
         return Err(AllocError);
@@ -156,14 +223,15 @@ fn make_job<N: OrderName>(
     alloc: Global,
     shared: &Shared<N, Locks>,
     caller: Caller<N>,
+    plan: Plan,
 ) -> Result<Caller<N>, AllocError>
     requires { IsWaiting caller }
     ensures { EndsIdle caller result }
 {
     match caller.thread() {
-        Thread::M(n) => make_lines(rt, shared, caller, n),
+        Thread::M(n) => make_lines(rt, shared, caller, n, plan),
         Thread::P(_) => Ok(caller),
-        Thread::C => drive(rt, alloc, shared, caller),
+        Thread::C => drive(rt, alloc, shared, caller, plan.cycles()),
     }
 }
 
@@ -173,6 +241,7 @@ fn make_jobs<N: OrderName + Send + Sync, R: Threads + Wait + Sync>(
     alloc: Global,
     shared: &Shared<N, Locks>,
     jobs: Vec<Caller<N>>,
+    plan: Plan,
 ) -> Result<Vec<Result<Caller<N>, AllocError>>, AllocError>
     requires { All IsWaiting jobs.items }
     ensures len { IfOk result (λ v. vec_len v ≡ vec_len jobs) }
@@ -184,7 +253,7 @@ fn make_jobs<N: OrderName + Send + Sync, R: Threads + Wait + Sync>(
         &|caller: Caller<N>| -> Result<Caller<N>, AllocError>
             requires { IsWaiting caller }
             ensures { EndsIdle caller result }
-        { make_job(rt, alloc, shared, caller) },
+        { make_job(rt, alloc, shared, caller, plan) },
     )
 }
 
@@ -234,13 +303,14 @@ fn play<N: OrderName + Send + Sync, R: Threads + Wait + Sync>(
     alloc: Global,
     shared: &Shared<N, Locks>,
     desk: &mut Desk<N>,
+    plan: Plan,
 ) -> Result<Vec<Caller<N>>, AllocError>
     requires { HasAll desk.old [] }
     ensures all { IfOk result (λ v. HasAll desk.new v.items) }
     ensures idle { IfOk result (λ v. All HasIdleDriver v.items) }
 {
     let jobs = callers_at(alloc, desk)?;
-    let ended = make_jobs(rt, alloc, shared, jobs)?;
+    let ended = make_jobs(rt, alloc, shared, jobs, plan)?;
     let callers = all_ended(alloc, ended)?;
     Ok(callers)
 }
@@ -251,13 +321,14 @@ fn run<N: OrderName + Send + Sync, R: Threads + Wait + Sync>(
     alloc: Global,
     order: Order,
     seat: Seat,
+    plan: Plan,
 ) -> Result<History, AllocError>
     requires order { order ≡ N.order }
     requires run { (N.managed ≡ 8) × (N.peers ≡ 0) }
     requires seat { (seat.order ≡ N.order) × OwnsAll seat.view × KnowsNothing seat.view × Settled seat.view }
 {
     let (shared, mut desk) = Shared::<N, Locks>::new(alloc, order, seat, 8, 0, Holding::Every)?;
-    match play(rt, alloc, &shared, &mut desk) {
+    match play(rt, alloc, &shared, &mut desk, plan) {
         Ok(callers) => shared.finish(desk, callers).map_err(|_| AllocError),
         Err(fault) => {
             drop(shared);
@@ -384,15 +455,104 @@ fn ends_in(history: &History) -> u32 {
 // has two. The joint machine has an object that a pin holds among its roots: so an object that was read isn't freed before it is taken.
 #[test]
 fn eight_threads_read_at_once_while_cycles_go_on(rt: HostRuntime) -> Result<(), Fail> {
-    for _ in 0..RUNS {
+    for _ in 0..STAYS {
         let (order, seat) = Order::new(rt.alloc(), 8)?;
-        let history = run::<Brand, _>(&rt, rt.alloc(), order, seat)?;
+        let history = run::<Brand, _>(&rt, rt.alloc(), order, seat, Plan::Stays)?;
         for n in 1..9u8 {
             let seen = seen_of(&history, Thread::M(n));
             assert!(rt; seen.entries == 1_608 && seen.reads == 776 && seen.wrong == 0);
         }
-        assert_eq!(rt; ends_in(&history), 100);
+        assert_eq!(rt; ends_in(&history), 400);
         assert_eq!(rt; first_unlawful(rt.alloc(), &history)?, None);
     }
+    Ok(())
+}
+
+// The objects in the pins of m1 to m8, by the thread's number; 0 where a pin is empty.
+type Pins = [u32; 9];
+
+// With one entry more.
+fn pins_after(pins: Pins, entry: &Entry) -> Pins {
+    let Thread::M(n) = entry.made.caller else {
+        return pins;
+    };
+    let mut pins = pins;
+    match (entry.made.op, entry.made.reply) {
+        (Op::Line(Act::Read { .. } | Act::Await { .. }), Reply::M(m)) => {
+            pins[(n % 9) as usize] = m.0;
+        }
+        (Op::Line(Act::Take { .. }), _) => pins[(n % 9) as usize] = 0,
+        _ => {}
+    }
+    pins
+}
+
+// Which of the freed managed objects an entry freed.
+fn freed_by(entry: &Entry) -> Span {
+    match (entry.made.op, entry.made.reply) {
+        (Op::Snap { .. }, Reply::Snapped(_, span)) => span,
+        (Op::Resolve { .. }, Reply::Freed(span)) => span,
+        _ => Span { first: 0, count: 0 },
+    }
+}
+
+// How many pins hold that object.
+fn holding(pins: &Pins, object: u32) -> u32 {
+    let mut count = 0u32;
+    for pin in pins {
+        if *pin == object {
+            count = count.wrapping_add(1);
+        }
+    }
+    count
+}
+
+// How many of the objects that an entry freed a pin held then.
+fn freed_of(history: &History, pins: &Pins, entry: &Entry) -> u32 {
+    let span = freed_by(entry);
+    let mut count = 0u32;
+    for i in 0..span.count {
+        if let Some(object) = history.freed_managed(span.first.wrapping_add(i)) {
+            count = count.wrapping_add(holding(pins, object.0));
+        }
+    }
+    count
+}
+
+// What is seen of pins in a history: how many objects were freed while a pin held them, and how many pins held one over a snapshot.
+#[derive(Clone, Copy)]
+struct SeenOfPins {
+    freed: u32,
+    held: u32,
+}
+
+fn seen_of_pins(history: &History) -> SeenOfPins {
+    let mut seen = SeenOfPins { freed: 0, held: 0 };
+    let mut pins: Pins = [0; 9];
+    for i in 0..history.len() {
+        if let Some(entry) = history.entry(i) {
+            seen.freed = seen.freed.wrapping_add(freed_of(history, &pins, &entry));
+            if matches!(entry.made.op, Op::Snap { .. }) {
+                seen.held = seen.held.wrapping_add(9u32.wrapping_sub(holding(&pins, 0)));
+            }
+            pins = pins_after(pins, &entry);
+        }
+    }
+    seen
+}
+
+// No entry frees an object from the read that gave it up to its thread's next `take`, whatever the schedule: the machine isn't asked. Snapshots have to have
+// come in between, as often as runs are made.
+#[test]
+fn what_a_pin_holds_is_never_freed(rt: HostRuntime) -> Result<(), Fail> {
+    let mut held = 0u32;
+    for _ in 0..HOLDS {
+        let (order, seat) = Order::new(rt.alloc(), 8)?;
+        let history = run::<Brand, _>(&rt, rt.alloc(), order, seat, Plan::Holds)?;
+        let seen = seen_of_pins(&history);
+        assert_eq!(rt; seen.freed, 0);
+        held = held.wrapping_add(seen.held);
+    }
+    assert!(rt; held >= HOLDS);
     Ok(())
 }
