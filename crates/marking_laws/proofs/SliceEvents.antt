@@ -233,7 +233,7 @@ going-all s mk follows marks m p w = Reached-keeps (IsMarkingRoot mk) (MarkingEd
     (λ a b e before l. elim (m.ahead a b e) [ inl u ↦ u | inr n ↦ absurd (Contains-nil a (n.0 (before (edge-existed mk a b e).0))) ]) p w.reached w.existed
 
 -- a spared peer that is unfreed has a mark then
-spared-going : (s : PeerReplay) (mk : Marking) (follows : Bool) (marks : List Bool) → AreMarksGoing s mk follows marks [] → (p : ℕ) → IsLive s.peers.heap p → IsSpared mk p → HasMark marks p
+pub spared-going : (s : PeerReplay) (mk : Marking) (follows : Bool) (marks : List Bool) → AreMarksGoing s mk follows marks [] → (p : ℕ) → IsLive s.peers.heap p → IsSpared mk p → HasMark marks p
 spared-going s mk follows marks m p l k = elim (existed-or s mk m.older p l) [
   | inl e ↦ elim (marked-or marks p) [ inl u ↦ u | inr n ↦ absurd (k e (λ w. n (going-all s mk follows marks m p w))) ]
   | inr n ↦ m.fresh p l n

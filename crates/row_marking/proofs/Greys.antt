@@ -6,14 +6,13 @@
 -- A loop that takes the first grey row and visits what that leads to keeps `Greying`: what is marked was marked before or is reached, and a
 -- marked row is grey or all that it leads to is marked. Once the list is empty the marks are closed, so each reached row is marked. A turn
 -- takes one row from the list, and what joins it wasn't marked: twice the unmarked rows, with the grey ones, become fewer.
-use Rattle.std.proofs.Common.{◌≡◌, ℕ, zero, suc, ◌+◌, ◌-◌, ◌*◌, ◌<◌, ◌≤◌, ◌⊎◌, ◌↔◌, inl, inr, Bool, true, false, List, [], ◌∷◌, ◌++◌, length, Option, Some, None, set, refl, sym, ap, subst, ◌∙◌, arith}
+use Rattle.std.proofs.Common.{◌≡◌, ℕ, zero, suc, ◌+◌, ◌*◌, ◌<◌, ◌≤◌, ◌⊎◌, ◌↔◌, inl, inr, Bool, true, false, List, [], ◌∷◌, ◌++◌, length, Option, Some, None, set, refl, sym, ap, subst, ◌∙◌, arith}
 use Rattle.std.specs.Prelude.{Contains, slice_get}
 use Rattle.std.proofs.Math.ListN.{length-set}
 use Rattle.std.proofs.lemmas.Option.{slice_get_within}
 use Rattle.std.proofs.lemmas.List.Elements.{Contains-push, Contains-push_cases, Contains-append_left}
 use Rattle.joint_model.specs.Walks.{Reached}
 use Rattle.joint_model.proofs.WalkLemmas.{Reached-keeps, Reached-start, Reached-then}
-use Rattle.std.proofs.lemmas.Bool.{cases_lt}
 use Rattle.joint_model.proofs.Numbered.{set-at_here, set-at_other}
 use Rattle.joint_model.proofs.Members.{Contains-nil, Contains-here, Contains-there, Contains-cons_cases}
 use Rattle.reachability.specs.Marks.{HasMark, IsClosed, unmarked}
@@ -211,6 +210,29 @@ blackens-goes edge n m0 g0 m l x next m' l' h' one at i y =
       chained = g.chained;
       steps = subst (λ k. Blackens edge k m0 g0 m' g.waits) more (m, x, r.1, subst (Blackens edge n m0 g0 m) (r.2 ∙ ap (λ z. z ∷ r.1) (sym r.3)) i.steps, record { grey = grey-head m l x one (i.waits, i.chained); once = chain-once l x next r.1 one at r.4.chain; scans = g.scans; anew = g.anew });
     }
+
+-- the unmarked rows and the grey ones are one fewer with each
+pub blackens-count : (edge : ℕ → ℕ → Type 0) (n : ℕ) (m m' : List Bool) (g g' : List ℕ) → Blackens edge n m g m' g' → n + (unmarked m' + length g') ≡ unmarked m + length g
+blackens-count edge zero m m' g g' (a, b) = omega (arith, ap unmarked a, ap length b)
+blackens-count edge (suc n) m m' g g' (mid, x, rest, before, step) =
+    let one : n + (unmarked mid + suc (length rest)) ≡ unmarked m + length g = blackens-count edge n m mid g (x ∷ rest) before in
+    omega (arith, one, step.scans.same)
+
+-- a mark is taken down
+unmarked-down : (m : List Bool) (i : ℕ) → HasMark m i → unmarked (set m i false) ≡ unmarked m + 1
+unmarked-down [] i e = cc
+unmarked-down (true ∷ m) zero e = refl
+unmarked-down (false ∷ m) zero e = cc
+unmarked-down (true ∷ m) (suc i) e = unmarked-down m i e
+unmarked-down (false ∷ m) (suc i) e = omega (arith, unmarked-down m i e)
+
+-- grey rows have marks, each its own, so there are no more of them
+pub greys-short : (m : List Bool) (l : List ℕ) (h : ℕ) (xs : List ℕ) → GreyChain l h xs → ((k : ℕ) → Contains xs k → HasMark m k) → unmarked m + length xs ≤ length m
+greys-short m l h [] c marked = omega (arith, unmarked-le m)
+greys-short m l h (x ∷ rest) (e, one, (next, at, tail)) marked =
+    let out : Contains rest x → ⊥ = chain-once l x next rest one at tail in
+    let down : (k : ℕ) → Contains rest k → HasMark (set m x false) k = λ k w. set-at_other m x k false (λ q. out (subst (Contains rest) q w)) ∙ marked k (Contains-there k x rest w) in
+    omega (arith, greys-short (set m x false) l next rest tail down, unmarked-down m x (marked x (Contains-here x rest)), length-set m x false)
 
 -- each turn makes the measure smaller
 pub Greying-smaller : (roots : List ℕ) (edge : ℕ → ℕ → Type 0) (before m : List Bool) (l : List ℕ) (x next : ℕ) (m' : List Bool) (l' : List ℕ) (h' : ℕ)

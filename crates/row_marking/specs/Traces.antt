@@ -1,5 +1,5 @@
 -- Rows that can be marked, and the list of grey rows that runs through them. (Textbook: tri-colour marking.)
-use Rattle.std.specs.Prelude.{◌≡◌, ℕ, ◌-◌, ◌≤◌, ◌<◌, ◌⊎◌, ◌+◌, zero, suc, Bool, List, [], ◌∷◌, Option, Some, None, Contains, length, slice_get}
+use Rattle.std.specs.Prelude.{◌≡◌, ℕ, ◌≤◌, ◌⊎◌, ◌+◌, zero, suc, Bool, List, [], ◌∷◌, Some, None, Contains, length, slice_get}
 use Rattle.reachability.specs.Marks.{HasMark, IsClosed, unmarked}
 use Rattle.reachability.specs.Scans.{Scans}
 use Rattle.joint_model.specs.Walks.{Reached}

@@ -97,12 +97,13 @@ pub fn finish<G: Traced>(g: &mut G, grey: u32)
 }
 
 /// Scans at most so many grey rows, and answers where the list of grey rows begins then, and how many were scanned; where these are fewer, none
-/// is grey. What black rows lead to need not be marked, so the rows may have changed since the marking began. It takes no memory.
+/// is grey. No row is scanned twice. What black rows lead to need not be marked, so the rows may have changed since the marking began. It takes no memory.
 pub fn scan_some<G: Traced>(g: &mut G, grey: u32, most: u32) -> (u32, u32)
     requires { IsGreyList (G.marks g.old) (G.links g.old) grey }
     ensures kept { G.kept g.new ≡ G.kept g.old }
     ensures steps { (greys : List ℕ) → Chained (G.marks g.old) (G.links g.old) grey greys → BlackensTo (G.leads (G.kept g.old)) result.1 (G.marks g.old) greys (G.marks g.new) (G.links g.new) result.0 }
     ensures most { result.1 ≤ most }
+    ensures few { result.1 ≤ length (G.marks g.old) }
     ensures end { result.1 < most → result.0 ≡ 0 }
 {
     let mut head = grey;

@@ -1,6 +1,6 @@
 -- One more grey row is scanned in each turn.
 use Rattle.std.proofs.Common.{◌∙◌, ◌≤◌, refl, arith}
-use Rattle.row_marking.proofs.Greys.{grey-head, grey-goes, blackens-goes}
+use Rattle.row_marking.proofs.Greys.{blackens-count, grey-head, grey-goes, greys-short, blackens-goes}
 use Rattle.row_marking.proofs.scan_some.Goals as goal
 
 pub loop-head-init : goal.loop-head-init
@@ -40,3 +40,13 @@ returns-after-loop-head-clause-steps g c = c.loop-head.invariant.steps
 
 pub returns-after-loop-head-clause-most : goal.returns-after-loop-head-clause-most
 returns-after-loop-head-clause-most g c = c.loop-head.invariant.most
+
+pub returns-else-scanned-most-clause-few : goal.returns-else-scanned-most-clause-few
+returns-else-scanned-most-clause-few g c =
+    let s = c.loop-head.invariant.steps c.requires.0 c.requires.1 in
+    omega (arith, blackens-count _ c.loop-head.scanned _ _ _ s.waits s.steps, greys-short _ _ _ c.requires.0 c.requires.1.chain c.requires.1.marked)
+
+pub returns-after-loop-head-clause-few : goal.returns-after-loop-head-clause-few
+returns-after-loop-head-clause-few g c =
+    let s = c.loop-head.invariant.steps c.requires.0 c.requires.1 in
+    omega (arith, blackens-count _ c.loop-head.scanned _ _ _ s.waits s.steps, greys-short _ _ _ c.requires.0 c.requires.1.chain c.requires.1.marked)
