@@ -1,10 +1,11 @@
 -- What the operations on fields and statics say, case by case.
-use Rattle.std.proofs.Common.{◌≡◌, ℕ, ◌<◌, ◌≤◌, Option, Some, None, length, sym, ap, ◌∙◌, nat_le}
+use Rattle.std.proofs.Common.{◌≡◌, ℕ, ◌<◌, ◌≤◌, true, false, Option, Some, None, length, sym, ap, ◌∙◌, nat_le}
 use Rattle.std.specs.Prelude.{if◌then◌else◌}
 use borrow.Author.Tests.{le-leb, lt-leb}
 use Rattle.joint_model.specs.declared.events.Reply.{Reply}
 use Rattle.joint_model.specs.declared.events.Reply.TheVariants as says
 use Rattle.joint_model.specs.Heaps.{Heap, answer, field_got, field_set, field_stored, fields_of, read_into, slot, stored, with_field, with_static}
+use Rattle.row_heap.specs.Marks.{is_given, overwritten}
 use Rattle.row_heap.specs.Rows.{HeapRows}
 
 pub got-none : (name : ℕ → Reply) (h : Heap) (v w i : ℕ) → slot h.vars w ≡ None → field_got name h v w i ≡ answer says.Empty h
@@ -55,6 +56,26 @@ pub static-some : (old new : HeapRows) (s : ℕ) (w : Option ℕ) (p y : ℕ) �
 static-some old new s w p y e at is =
     ap (stored old.heap s) e
     ∙ (ap (λ o. elim o [ None ↦ answer says.Empty old.heap | Some y ↦ answer says.Ok (with_static old.heap s (Some y)) ]) at ∙ ap (λ (v : HeapRows). answer says.Ok v.heap) (sym is))
+
+-- what a write takes out of its field
+pub over-none : (h : Heap) (v i : ℕ) (w : Option ℕ) → slot h.vars v ≡ None → overwritten h v i w ≡ None
+over-none h v i w e = ap (λ o. elim o [ None ↦ None | Some x ↦ if nat_le (length (fields_of h x)) i then None else if is_given h w then slot (fields_of h x) i else None ]) e
+
+pub over-range : (h : Heap) (v i : ℕ) (w : Option ℕ) (x : ℕ) → slot h.vars v ≡ Some x → length (fields_of h x) ≤ i → overwritten h v i w ≡ None
+over-range h v i w x e l =
+    ap (λ o. elim o [ None ↦ None | Some x ↦ if nat_le (length (fields_of h x)) i then None else if is_given h w then slot (fields_of h x) i else None ]) e
+    ∙ ap (λ b. if b then None else if is_given h w then slot (fields_of h x) i else None) (le-leb (length (fields_of h x)) i l)
+
+over-within : (h : Heap) (v i : ℕ) (w : Option ℕ) (x : ℕ) → slot h.vars v ≡ Some x → i < length (fields_of h x) → overwritten h v i w ≡ (if is_given h w then slot (fields_of h x) i else None)
+over-within h v i w x e l =
+    ap (λ o. elim o [ None ↦ None | Some x ↦ if nat_le (length (fields_of h x)) i then None else if is_given h w then slot (fields_of h x) i else None ]) e
+    ∙ ap (λ b. if b then None else if is_given h w then slot (fields_of h x) i else None) (lt-leb (length (fields_of h x)) i l)
+
+pub over-given : (h : Heap) (v i : ℕ) (w : Option ℕ) (x : ℕ) → slot h.vars v ≡ Some x → i < length (fields_of h x) → is_given h w ≡ true → overwritten h v i w ≡ slot (fields_of h x) i
+over-given h v i w x e l up = over-within h v i w x e l ∙ ap (λ b. if b then slot (fields_of h x) i else None) up
+
+pub over-empty : (h : Heap) (v i : ℕ) (w : Option ℕ) (x : ℕ) → slot h.vars v ≡ Some x → i < length (fields_of h x) → is_given h w ≡ false → overwritten h v i w ≡ None
+over-empty h v i w x e l down = over-within h v i w x e l ∙ ap (λ b. if b then slot (fields_of h x) i else None) down
 
 -- all but the heap stays
 pub rest-stays : (old new : HeapRows) (h : Heap) → new ≡ record old { heap = h } → new ≡ record old { heap = new.heap }

@@ -10,7 +10,8 @@ use Rattle.joint_model.specs.Walks.{Reached}
 use Rattle.joint_model.proofs.WalkLemmas.{Reached-keeps, Reached-start, Reached-then, Reached-mono}
 use Rattle.heap_rules.specs.Tidy.{IsTidy}
 use Rattle.reachability.specs.Marks.{IsClosed, HasMark}
-use Rattle.row_marking.specs.Traces.{Greying}
+use Rattle.reachability.specs.Scans.{Scans}
+use Rattle.row_marking.specs.Traces.{Blackened, Blackens, Greying}
 use Rattle.heap_rules.specs.Flags.{IsSound}
 use Rattle.row_heap.specs.Places.{Seen, row_at, unmarked_row}
 use Rattle.row_heap.specs.Ends.{Linked}
@@ -60,6 +61,33 @@ greying-leads v roots before marks links head tidy ends live i = record {
   closed = λ k m. elim (i.closed k m) [ inl w ↦ inl w | inr w ↦ inr (λ y e. w y (leads-edge v k y tidy ends (live k m) e)) ];
   room = i.room;
 }
+
+-- one grey row after the other was scanned
+scans-as : (p row : ℕ → Type 0) (a b : List Bool) (g h : List ℕ) → ((k : ℕ) → row k → p k) → ((k : ℕ) → p k → row k) → Scans p a g b h → Scans row a g b h
+scans-as p row a b g h there back s = record {
+  len = s.len;
+  kept = s.kept;
+  done = λ k r. s.done k (there k r);
+  fresh = λ k m. elim (s.fresh k m) [ inl w ↦ inl w | inr w ↦ inr (back k w.0, w.1) ];
+  stays = s.stays;
+  within = s.within;
+  fewer = s.fewer;
+  same = s.same;
+}
+
+blackened-edges : (v : HeapRows) (x : ℕ) (a b : List Bool) (g h : List ℕ) → IsTidy v.heap → (IsTrue v.follows → AreEndsLive v) → IsLive v.heap x → Blackened (LeadsTo v x) a x g b h → Blackened (EdgeOf v x) a x g b h
+blackened-edges v x a b g h tidy ends l s = record {
+  grey = s.grey;
+  once = s.once;
+  scans = scans-as (LeadsTo v x) (EdgeOf v x) a b g h (λ k e. edge-leads v x k e) (λ k e. leads-edge v x k tidy ends l e) s.scans;
+  anew = λ k w. elim (s.anew k w) [ inl u ↦ inl u | inr u ↦ inr (u.0, leads-edge v x k tidy ends l u.1) ];
+}
+
+pub blackens-edges : (v : HeapRows) (n : ℕ) (a b : List Bool) (g h : List ℕ) → IsTidy v.heap → (IsTrue v.follows → AreEndsLive v) → ((x : ℕ) → HasMark b x → IsLive v.heap x) → Blackens (LeadsTo v) n a g b h → Blackens (EdgeOf v) n a g b h
+blackens-edges v zero a b g h tidy ends live s = s
+blackens-edges v (suc n) a b g h tidy ends live (mid, x, rest, before, step) =
+    let was : (z : ℕ) → HasMark mid z → IsLive v.heap z = λ z m. live z (step.scans.kept z m) in
+    (mid, x, rest, blackens-edges v n a mid g (x ∷ rest) tidy ends was before, blackened-edges v x mid b rest h tidy ends (was x step.grey) step)
 
 -- what kept says of two heaps of rows
 pub rest-kept : (v w : HeapRows) → unmarked_rows w ≡ unmarked_rows v → w ≡ record v { marks = w.marks; links = w.links }

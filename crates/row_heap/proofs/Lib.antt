@@ -5,7 +5,9 @@ pub mod Freed
 pub mod Walked
 pub mod Edges
 pub mod Linked
+mod Packs
 pub mod Crossing
+pub mod Sources
 pub mod Followed
 pub mod Swept
 pub mod Marked

@@ -1,15 +1,14 @@
 -- References of each end as a linked list. A further reference stands last, and the one of its end before it is the one that the end said: between
 -- them stands none of the end's. The lists of other ends go on as they were, since each speaks of the places below one of its own.
 use Rattle.std.proofs.Common.{◌≡◌, ◌≢◌, ℕ, zero, suc, ◌+◌, ◌-◌, ◌≤◌, ◌⊎◌, inl, inr, Bool, false, List, [], ◌∷◌, ◌++◌, map, length, replicate, take, Option, Some, None, refl, sym, ap, subst, ◌∙◌, arith, length-append}
-use Rattle.std.specs.Prelude.{All, Contains, slice_get, slice_index_or}
-use Rattle.std.specs.Option.{option_map}
+use Rattle.std.specs.Prelude.{Contains, slice_get, slice_index_or}
 use Rattle.std.proofs.lemmas.Bool.{cases_eq, cases_lt}
 use Rattle.std.proofs.lemmas.List.{get_or-replicate, get_or_past, length-map, length-replicate, map-append, take_all}
 use Rattle.std.proofs.lemmas.List.Elements.{Contains-push_cases}
-use Rattle.std.proofs.lemmas.Option.{slice_get-map, slice_get_within}
+use Rattle.std.proofs.lemmas.Option.{slice_get_within}
 use Rattle.joint_model.specs.Components as exact
 use Rattle.joint_model.proofs.Numbered.{push-at_cases, push-at_old, push-at_new}
-use Rattle.joint_model.proofs.Members.{All-members, Contains-nil, Contains-here, Contains-there, at-Contains}
+use Rattle.joint_model.proofs.Members.{Contains-nil, Contains-here, Contains-there}
 use Rattle.row_marking.specs.Traces.{Greyed}
 use Rattle.row_heap.specs.declared.references.Reference.{Reference}
 use Rattle.row_heap.specs.Ends.{AreLinked, FirstsCleared, HasPlace, IsEnd, IsLastBelow, Linked, end_of, first_in, linked_of, pairs_in}
@@ -30,9 +29,6 @@ pair-from a b c d e = ap (λ (o : Option (exact.End × exact.End)). elim o [ Non
 
 pub pair-to : (a b c d : exact.End) → ◌≡◌ {A = Option (exact.End × exact.End)} (Some (a, b)) (Some (c, d)) → b ≡ d
 pair-to a b c d e = ap (λ (o : Option (exact.End × exact.End)). elim o [ None ↦ b | Some p ↦ p.1 ]) e
-
-pub pair-at : (list : List Reference) (i : ℕ) (r : Reference) → slice_get list i ≡ Some r → slice_get (pairs_in list) i ≡ Some (end_of r.from, end_of r.to)
-pair-at list i r at = slice_get-map pair_of list i ∙ ap (option_map pair_of) at
 
 pub pairs-len : (list : List Reference) → length (pairs_in list) ≡ length list
 pairs-len list = length-map list pair_of
@@ -167,7 +163,7 @@ firsts-filled old new n m le is x = rw (is, take_all) (by old x)
 -- more room, for references and temporaries
 pub AreLinked-roomy : (list after : List Reference) (objects reaching temporaries others : List ℕ) (seen flags : List Bool) (links chains : List ℕ) (room more capacity space : ℕ) → AreLinked list objects temporaries seen links room capacity → after ≡ list
     → ((x : ℕ) → slice_index_or reaching x 0 ≡ slice_index_or objects x 0) → length objects ≤ length reaching → ((t : ℕ) → slice_index_or others t 0 ≡ slice_index_or temporaries t 0) → length temporaries ≤ length others
-    → length flags ≡ length others → length chains ≡ length others → length others ≤ 4294967295 → (1 ≤ more → 65536 ≤ length reaching) → length list + more ≤ space → length list + more ≤ 4294967295 → AreLinked after reaching others flags chains more space
+    → length flags ≡ length others → length chains ≡ length others → length others ≤ 4294901760 → (1 ≤ more → 65536 ≤ length reaching) → length list + more ≤ space → length list + more ≤ 4294967295 → AreLinked after reaching others flags chains more space
 AreLinked-roomy list after objects reaching temporaries others seen flags links chains room more capacity space a is reached longer kept more_temps fs cs few reach fits most = subst (λ l. AreLinked l reaching others flags chains more space) (sym is) record {
   firsts = λ e. subst (λ n. IsLastBelow (pairs_in list) e (length list) n) (sym (same e)) (a.firsts e);
   nexts = a.nexts;
@@ -184,11 +180,6 @@ AreLinked-roomy list after objects reaching temporaries others seen flags links 
     same : (e : exact.End) → first_in reaching others e ≡ first_in objects temporaries e
     same (exact.node x) = reached x
     same (exact.temporary t) = kept t
-
--- other flags and links
-pub AreLinked-seen : (list : List Reference) (objects temporaries : List ℕ) (seen flags : List Bool) (links chains : List ℕ) (room capacity : ℕ) → AreLinked list objects temporaries seen links room capacity → length flags ≡ length seen → length chains ≡ length links
-    → AreLinked list objects temporaries flags chains room capacity
-AreLinked-seen list objects temporaries seen flags links chains room capacity a f c = record { firsts = a.firsts; nexts = a.nexts; from = a.from; to = a.to; flags = f ∙ a.flags; chains = c ∙ a.chains; few = a.few; reach = a.reach; space = a.space; most = a.most }
 
 -- no end was cleared
 pub FirstsCleared-none : (old : exact.End → ℕ) → FirstsCleared [] old old
@@ -237,10 +228,6 @@ AreLinked-cleared list after objects reaching temporaries others seen links room
         | inl some ↦ (let w = (a.firsts e).there (omega (arith, some)) in c.cleared e (from-Contains list (first_in objects temporaries e - 1) e w.0 w.1))
       ]
     ]
-
--- each reference leads from an end that has a place
-pub sources-placed : (list : List Reference) (objects temporaries : List ℕ) (seen : List Bool) (links : List ℕ) (room capacity : ℕ) → AreLinked list objects temporaries seen links room capacity → All (λ (r : Reference). HasPlace (length objects) (length temporaries) (end_of r.from)) list
-sources-placed list objects temporaries seen links room capacity a = All-members (λ (r : Reference). HasPlace (length objects) (length temporaries) (end_of r.from)) list (λ r c. (let w = at-Contains list r c in a.from w.0 r w.1))
 
 -- a step of a marking, over equal lists
 pub Greyed-same : (row : ℕ → Type 0) (a c : List Bool) (k n : List ℕ) (h : ℕ) (b d : List Bool) (l o : List ℕ) (i : ℕ) → a ≡ c → k ≡ n → b ≡ d → l ≡ o → Greyed row a k h b l i → Greyed row c n h d o i

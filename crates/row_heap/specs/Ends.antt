@@ -69,7 +69,7 @@ pub record AreLinked (list : List Reference) (objects temporaries : List ℕ) (s
   pub to : (i : ℕ) (r : Reference) → slice_get list i ≡ Some r → IsEnd (length temporaries) (end_of r.to)
   pub flags : length seen ≡ length temporaries
   pub chains : length links ≡ length temporaries
-  pub few : length temporaries ≤ 4294967295
+  pub few : length temporaries ≤ 4294901760
   pub reach : 1 ≤ room → 65536 ≤ length objects
   pub space : length list + room ≤ capacity
   pub most : length list + room ≤ 4294967295

@@ -6,7 +6,7 @@ use Rattle.joint_model.specs.PeerReplay.{LeadsOver, Refers}
 use Rattle.joint_model.specs.Heaps.{Heap, IsLive, opening_heap}
 use Rattle.heap_rules.specs.Flags.{IsSound, TakesDown}
 use Rattle.reachability.specs.Marks.{HasMark}
-use Rattle.row_heap.specs.Ends.{Linked}
+use Rattle.row_heap.specs.Ends.{IsLastBelow, Linked}
 use Rattle.row_heap.specs.Places.{Seen, row_at, is_white}
 
 -- the heap; the references from an end to an end, in the order in which they came, and whether a marking follows them; for how
@@ -47,6 +47,14 @@ rows_of rows freed vars statics refs follows = record {
 -- what a temporary that the marking has seen leads to has a mark, directly or through others
 abbrev pub AreSightsMarked : Linked → List Seen → Type 0
 AreSightsMarked refs rows = (t : ℕ) (through : List ℕ) (y : ℕ) → HasMark refs.seen (suc t) → LeadsOver refs.refs (temporary t) through y → (row_at rows y).stands ≡ true → (row_at rows y).marked ≡ true
+
+-- the references of a row that stands lead to that one, directly or over temporaries
+abbrev pub IsLedTo : List (End × End) → List Seen → ℕ → Type 0
+IsLedTo refs rows q = (p : ℕ) × ((row_at rows p).stands ≡ true) × Refers refs p q
+
+-- and the row is that end, and its last reference stands at place r, counted from 1
+abbrev pub IsLedFrom : List (End × End) → List Seen → End → ℕ → ℕ → Type 0
+IsLedFrom refs rows e r q = (p : ℕ) × (e ≡ node p) × IsLastBelow refs (node p) (length refs) r × ((row_at rows p).stands ≡ true) × Refers refs p q
 
 -- references lead from rows that were made; where a marking follows them, what a standing row's reference leads to stands, and what
 -- a temporary leads to that the marking has seen is marked

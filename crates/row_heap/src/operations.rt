@@ -1,9 +1,10 @@
 // The operations of a script that both heaps have, each of which is the definition's own.
 
-ghost use Rattle.std.specs.Prelude.{◌≡◌, ◌<◌, length};
+ghost use Rattle.std.specs.Prelude.{◌≡◌, ◌<◌, IfSome, length};
 ghost use Rattle.std.specs.Option.{ForSome};
 ghost use Rattle.joint_model.specs.Heaps.{IsLive, fields_of, copied, field_set, field_stored, field_got, read_into, dropped, loaded, stored};
 ghost use Rattle.heap_rules.specs.Done.{Did};
+ghost use Rattle.row_heap.specs.Marks.{is_given, overwritten};
 
 use crate::heap::RowHeap;
 use heap_rules::{Done, Number};
@@ -41,6 +42,38 @@ impl<N: Number> RowHeap<N> {
                     self.store_field(x, i, w)
                 }
             }
+        }
+    }
+
+    /// What `set V I W` would take out of its field: nothing where it writes no field, or where the field is empty.
+    pub fn overwritten(&self, v: usize, i: usize, w: Option<usize>) -> Option<u32>
+        requires v { v < 72 }
+        requires w { ForSome w (λ place. place < 72) }
+        ensures value { result ≡ overwritten self.now.heap v i w }
+        ensures live { IfSome result (IsLive self.now.heap) }
+    {
+        match self.var(v) {
+            None => None,
+            Some(x) => {
+                if self.fields_len(x) <= i {
+                    None
+                } else if self.is_given(w) {
+                    self.field(x, i)
+                } else {
+                    None
+                }
+            }
+        }
+    }
+
+    // Whether a variable names an object; where no variable is given nothing is asked.
+    fn is_given(&self, w: Option<usize>) -> bool
+        requires { ForSome w (λ place. place < 72) }
+        ensures { result ≡ is_given self.now.heap w }
+    {
+        match w {
+            None => true,
+            Some(place) => self.var(place).is_some(),
         }
     }
 

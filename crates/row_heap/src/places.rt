@@ -6,7 +6,7 @@
 // that is freed gives its memory back, and the index keeps its fields for proofs alone, in no bytes: so the heap of the definition, which never
 // forgets the fields of a freed object, is still what contracts see.
 
-ghost use Rattle.std.specs.Prelude.{All, take, replicate, ◌≡◌, ℕ, ◌≤◌, ◌<◌, ◌⊎◌, ◌++◌, [], ◌∷◌, Some, None, Contains, true, false, length, map, slice_set, vec_len, vec_capacity, OnOk, OnErr};
+ghost use Rattle.std.specs.Prelude.{All, take, replicate, ◌≡◌, ℕ, ◌≤◌, ◌<◌, ◌⊎◌, ◌++◌, [], ◌∷◌, Some, None, Contains, MatchBool, true, false, length, map, slice_set, vec_len, vec_capacity, OnOk, OnErr};
 ghost use Rattle.joint_model.specs.Heaps.{numbered_set};
 ghost use Rattle.reachability.specs.Marks.{HasMark};
 ghost use Rattle.row_marking.specs.Traces.{Greyed};
@@ -88,6 +88,24 @@ impl Rows {
             RowPlace::At(_) => true,
             RowPlace::Gone(_) => false,
         }
+    }
+
+    /// Whether there is a row `x`, and it stands.
+    pub(crate) fn is_standing(&self, x: u32) -> bool
+        ensures { result ≡ (row_at self.now x).stands }
+    {
+        if self.has(x) {
+            self.stands(x as usize)
+        } else {
+            false
+        }
+    }
+
+    // Whether there is a row `x`.
+    fn has(&self, x: u32) -> bool
+        ensures { MatchBool result ((1 ≤ x) × (x ≤ length self.now)) (¬ ((1 ≤ x) × (x ≤ length self.now))) }
+    {
+        x != 0 && x as usize <= self.made()
     }
 
     /// Whether row `x` stands without a mark.

@@ -7,10 +7,11 @@
 // stands. So a push is one step, and no end's references are looked for. A marking goes through a temporary once: it keeps a flag for each that
 // it has seen, and a link in the list of those that it still has to go through.
 
-ghost use Rattle.std.specs.Prelude.{◌≡◌, ◌≢◌, ℕ, ◌+◌, ◌-◌, ◌≤◌, ◌<◌, ◌++◌, [], ◌∷◌, List, Option, Some, OnOk, OnErr, All, length, map, max, slice_get, slice_index_or, vec_capacity};
+ghost use Rattle.std.specs.Prelude.{◌≡◌, ◌≢◌, ℕ, ◌+◌, ◌-◌, ◌≤◌, ◌<◌, ◌++◌, [], ◌∷◌, List, Option, Some, Contains, false, OnOk, OnErr, All, nat_le, length, map, max, slice_get, slice_index_or, vec_capacity};
 ghost use Rattle.joint_model.specs.Components as exact;
 ghost use Rattle.reachability.specs.Marks.{HasMark};
 ghost use Rattle.row_marking.specs.Traces.{Greyed};
+ghost use Rattle.row_heap.specs.Packed.{IsSmall, unpacked};
 ghost use Rattle.row_heap.specs.Ends.{FirstsCleared, HasPlace, IsEnd, IsLastBelow, end_of, first_in, no_references};
 
 use crate::places::{lower, visit_row};
@@ -19,6 +20,9 @@ use std::marker::Model;
 
 // How many numbers an object may have, from 0 on.
 const PLACES: usize = 65_536;
+
+// How many temporaries there may be, so that the numbers of objects and temporaries together fit four bytes.
+const MOST_TEMPORARIES: u32 = 4_294_901_760;
 
 /// An end of a reference: an object, or a temporary.
 #[derive(Clone, Copy, PartialEq, Eq, Debug)]
@@ -35,10 +39,91 @@ pub(crate) struct Reference {
     pub(crate) next: u32,
 }
 
+/// A reference in fewer bytes, as the list keeps it: an end is one number, below 65,536 an object's, and from there on a temporary's.
+#[derive(Drop)]
+pub(crate) struct PackedReference {
+    from: u32,
+    to: u32,
+    next: u32,
+}
+
+const _: () = prove!(size_of::<PackedReference>() <= 12);
+
+impl Model for PackedReference {
+    ghost use Rattle.row_heap.specs.declared.references.Reference.{Reference};
+    ghost use Rattle.row_heap.specs.Packed.{unpacked};
+
+    ghost Value = { Reference };
+
+    ghost view = { λ p. record { from = unpacked p.from; to = unpacked p.to; next = p.next } };
+}
+
+impl PackedReference {
+    /// The reference in fewer bytes.
+    #[inline(always)]
+    pub(crate) fn pack(reference: Reference) -> PackedReference
+        requires from { IsSmall reference.from }
+        requires to { IsSmall reference.to }
+        ensures { result ≡ reference }
+    {
+        let from = pack_end(reference.from);
+        let to = pack_end(reference.to);
+        PackedReference {
+            from,
+            to,
+            next: reference.next,
+        }
+    }
+
+    /// The reference itself.
+    #[inline(always)]
+    pub(crate) fn unpack(&self) -> Reference
+        ensures { result ≡ self.now }
+    {
+        Reference {
+            from: unpack_end(self.from),
+            to: unpack_end(self.to),
+            next: self.next,
+        }
+    }
+}
+
+// An end as one number.
+#[inline(always)]
+fn pack_end(e: End) -> u32
+    requires { IsSmall e }
+    ensures { unpacked result ≡ e }
+{
+    match e {
+        End::Object(x) => x,
+        End::Temporary(t) => t + 65_536,
+    }
+}
+
+// The end of a number.
+#[inline(always)]
+fn unpack_end(n: u32) -> End
+    ensures { result ≡ unpacked n }
+{
+    if is_temporary(n) {
+        End::Temporary(n - 65_536)
+    } else {
+        End::Object(n)
+    }
+}
+
+// Whether a number is that of a temporary.
+#[inline(always)]
+fn is_temporary(n: u32) -> bool
+    ensures { result ≡ nat_le 65536 n }
+{
+    n >= 65_536
+}
+
 /// References, and which temporaries a marking has seen.
 #[derive(Drop)]
 pub(crate) struct References {
-    list: Vec<Reference>,
+    list: Vec<PackedReference>,
     // Where the references from an object begin, and those from a temporary: the place of the last one, counted from 1; 0 where there is none.
     objects: Vec<u32>,
     temporaries: Vec<u32>,
@@ -75,13 +160,14 @@ impl References {
 
     /// How many references there are.
     pub(crate) fn len(&self) -> usize
-        ensures { result ≡ length self.now.refs }
+        ensures len { result ≡ length self.now.refs }
+        ensures most { result ≤ 4294967295 }
     {
         self.list.len()
     }
 
     /// Takes room for so many more references, and for so many temporaries, if there is room for fewer. Answers `AllocError`, with nothing
-    /// changed, where there is no memory, or where the list would pass 4,294,967,295.
+    /// changed, where there is no memory, where the list would pass 4,294,967,295, or for more than 4,294,901,760 temporaries.
     pub(crate) fn reserve(&mut self, additional: u32, temps: u32) -> Result<(), AllocError>
         ensures refs { self.new.refs ≡ self.old.refs }
         ensures temps { OnOk result (self.new.temps ≡ max self.old.temps temps) }
@@ -113,7 +199,8 @@ impl References {
         ensures { self.new ≡ record self.old { refs = self.old.refs ++ (end_of from, end_of to) ∷ []; room = self.old.room - 1 } }
     {
         let next = self.first(from);
-        self.list.push_reserved(Reference { from, to, next });
+        let packed = PackedReference::pack(Reference { from, to, next });
+        self.list.push_reserved(packed);
         let first = self.list.len() as u32;
         set_first(&mut self.objects, &mut self.temporaries, from, first);
         self.ready -= 1;
@@ -141,6 +228,24 @@ impl References {
         }
     }
 
+    /// The references of an end have a last one, or there are none, for the proofs of callers. It does nothing.
+    pub(crate) fn lasts(&self)
+        ensures { (e : exact.End) → (r : ℕ) × IsLastBelow self.now.refs e (length self.now.refs) r }
+    {
+        let _ = &self.list;
+    }
+
+    /// Whether an object has references.
+    #[inline(always)]
+    pub(crate) fn lead_from(&self, x: u32) -> bool
+        ensures { result ≡ false → (f : exact.End) → Contains self.now.refs (exact.node x, f) → ⊥ }
+    {
+        if self.list.is_empty() {
+            return false;
+        }
+        self.first(End::Object(x)) != 0
+    }
+
     /// The reference at a place, counted from 1.
     pub(crate) fn at(&self, r: u32) -> Reference
         requires { (1 ≤ r) × (r ≤ length self.now.refs) }
@@ -148,7 +253,7 @@ impl References {
         ensures next { IsLastBelow self.now.refs (end_of result.from) (r - 1) result.next }
         ensures to { IsEnd self.now.temps (end_of result.to) }
     {
-        self.list[r as usize - 1]
+        self.list[r as usize - 1].unpack()
     }
 
     /// A marking sees a temporary, which comes first in the list of those that it has to go through, if it hadn't seen it.
@@ -204,11 +309,15 @@ fn make_temporaries(
     ensures chains { length links.new.items ≡ length temporaries.new.items }
     ensures firsts { (t : ℕ) → slice_index_or temporaries.new.items t 0 ≡ slice_index_or temporaries.old.items t 0 }
     ensures seen { (k : ℕ) → HasMark seen.new.items k → HasMark seen.old.items k }
+    ensures few { length temporaries.old.items ≤ 4294901760 → length temporaries.new.items ≤ 4294901760 }
     ensures err { OnErr result ((temporaries.new.items ≡ temporaries.old.items) × (seen.new.items ≡ seen.old.items) × (links.new.items ≡ links.old.items)) }
 {
     let len = temporaries.len();
     if temps as usize <= len {
         return Ok(());
+    }
+    if temps > MOST_TEMPORARIES {
+        return Err(AllocError);
     }
     let temps = temps as usize;
     seen.reserve(temps - len)?;
@@ -243,12 +352,13 @@ fn set_first(objects: &mut Vec<u32>, temporaries: &mut Vec<u32>, e: End, first: 
 }
 
 // The ends that references lead from have none.
-fn clear_firsts(list: &[Reference], objects: &mut Vec<u32>, temporaries: &mut Vec<u32>)
+fn clear_firsts(list: &[PackedReference], objects: &mut Vec<u32>, temporaries: &mut Vec<u32>)
     requires { All (λ r. HasPlace (length objects.old.items) (length temporaries.old.items) (end_of r.from)) list.now }
     ensures len { (length objects.new.items ≡ length objects.old.items) × (length temporaries.new.items ≡ length temporaries.old.items) }
     ensures cleared { FirstsCleared (map (λ r. end_of r.from) list.now) (first_in objects.old.items temporaries.old.items) (first_in objects.new.items temporaries.new.items) }
 {
-    for reference in list {
+    for packed in list {
+        let reference = packed.unpack();
         set_first(objects, temporaries, reference.from, 0);
     }
 }

@@ -13,7 +13,7 @@ use std::alloc::AllocError;
 
 impl<N: Number> RowHeap<N> {
     /// Takes room for so many more references, and for so many temporaries, if there is room for fewer. Answers `AllocError`, with nothing
-    /// changed, where there is no memory, or where the list of references would pass 4,294,967,295.
+    /// changed, where there is no memory, where the list of references would pass 4,294,967,295, or for more than 4,294,901,760 temporaries.
     pub fn reserve_references(&mut self, additional: u32, temps: u32) -> Result<(), AllocError>
         ensures ok { OnOk result (self.new ≡ record self.old { room = additional; temps = max self.old.temps temps }) }
         ensures err { OnErr result (self.new ≡ self.old) }

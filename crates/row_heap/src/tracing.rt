@@ -3,14 +3,14 @@
 // What a row's references lead to is marked before its scan ends: the peers at once, and the temporaries go into a list of their own, which is
 // gone through until it is empty. So no temporary is ever grey, and each is gone through once in a marking.
 
-ghost use Rattle.std.specs.Prelude.{◌≡◌, ℕ, ◌+◌, ◌≤◌, ◌<◌, Contains, map, true};
+ghost use Rattle.std.specs.Prelude.{◌≡◌, ℕ, ◌+◌, ◌≤◌, ◌<◌, Contains, IsTrue, length, map, true, false};
 ghost use Rattle.joint_model.specs.Components as exact;
 ghost use Rattle.joint_model.specs.PeerReplay.{Refers};
 ghost use Rattle.reachability.specs.Marks.{HasMark};
 ghost use Rattle.row_marking.specs.Traces.{Greyed};
-ghost use Rattle.row_heap.specs.Ends.{IsEnd, IsTemporary, Raises, Sees, end_of};
+ghost use Rattle.row_heap.specs.Ends.{IsEnd, IsLastBelow, IsTemporary, Raises, Sees, end_of};
 ghost use Rattle.row_heap.specs.Places.{bare, links_in, marks_in, row_at};
-ghost use Rattle.row_heap.specs.Rows.{AreSightsMarked};
+ghost use Rattle.row_heap.specs.Rows.{AreSightsMarked, IsLedFrom, IsLedTo};
 
 use crate::heap::RowHeap;
 use crate::places::Rows;
@@ -51,8 +51,71 @@ impl<N: Number> Traced for RowHeap<N> {
     fn scan(&mut self, x: usize, grey: &mut u32) {
         self.rows.mark_fields(x, grey);
         if self.follows {
-            mark_references(&mut self.references, &mut self.rows, x as u32, grey);
+            mark_led(&mut self.references, &mut self.rows, x as u32, grey);
         }
+    }
+}
+
+/// Marks what the references of all rows that stand lead to, directly and over temporaries.
+pub(crate) fn mark_sources(references: &mut References, rows: &mut Rows, grey: &mut u32)
+    requires ends { (x y : ℕ) → Refers references.old.refs x y → (row_at rows.old x).stands ≡ true → (row_at rows.old y).stands ≡ true }
+    requires sights { AreSightsMarked references.old rows.old }
+    ensures kept { map bare rows.new ≡ map bare rows.old }
+    ensures rest { references.new ≡ record references.old { seen = references.new.seen; links = references.new.links } }
+    ensures sights { AreSightsMarked references.new rows.new }
+    ensures greyed { Greyed (IsLedTo references.old.refs rows.old) (marks_in rows.old) (links_in rows.old) grey.old (marks_in rows.new) (links_in rows.new) grey.new }
+{
+    references.lasts();
+    for i in 0..references.len() {
+        let r = i as u32 + 1;
+        let reference = references.at(r);
+        mark_source(references, rows, reference.from, r, grey);
+    }
+}
+
+// Marks what the references of a row lead to, if the row stands and its last reference is that of the place.
+fn mark_source(references: &mut References, rows: &mut Rows, from: End, r: u32, grey: &mut u32)
+    requires ends { (x y : ℕ) → Refers references.old.refs x y → (row_at rows.old x).stands ≡ true → (row_at rows.old y).stands ≡ true }
+    requires sights { AreSightsMarked references.old rows.old }
+    ensures kept { map bare rows.new ≡ map bare rows.old }
+    ensures rest { references.new ≡ record references.old { seen = references.new.seen; links = references.new.links } }
+    ensures sights { AreSightsMarked references.new rows.new }
+    ensures greyed { Greyed (IsLedFrom references.old.refs rows.old (end_of from) r) (marks_in rows.old) (links_in rows.old) grey.old (marks_in rows.new) (links_in rows.new) grey.new }
+{
+    match from {
+        End::Temporary(_) => {}
+        End::Object(x) => {
+            if is_source(references, rows, x, r) {
+                mark_references(references, rows, x, grey);
+            }
+        }
+    }
+}
+
+// Whether a row stands, and its last reference is that of the place.
+fn is_source(references: &References, rows: &Rows, x: u32, r: u32) -> bool
+    ensures source { IsTrue result → IsLastBelow references.now.refs (exact.node x) (length references.now.refs) r × ((row_at rows.now x).stands ≡ true) }
+    ensures other { result ≡ false → IsLastBelow references.now.refs (exact.node x) (length references.now.refs) r → (row_at rows.now x).stands ≡ true → ⊥ }
+{
+    if references.first(End::Object(x)) == r {
+        rows.is_standing(x)
+    } else {
+        false
+    }
+}
+
+// Marks what the references of row `x` lead to; where it has none, that is seen without a call.
+#[inline(always)]
+fn mark_led(references: &mut References, rows: &mut Rows, x: u32, grey: &mut u32)
+    requires ends { (y : ℕ) → Refers references.old.refs x y → (row_at rows.old y).stands ≡ true }
+    requires sights { AreSightsMarked references.old rows.old }
+    ensures kept { map bare rows.new ≡ map bare rows.old }
+    ensures rest { references.new ≡ record references.old { seen = references.new.seen; links = references.new.links } }
+    ensures sights { AreSightsMarked references.new rows.new }
+    ensures greyed { Greyed (Refers references.old.refs x) (marks_in rows.old) (links_in rows.old) grey.old (marks_in rows.new) (links_in rows.new) grey.new }
+{
+    if references.lead_from(x) {
+        mark_references(references, rows, x, grey);
     }
 }
 

@@ -4,8 +4,8 @@ use Rattle.row_heap.specs.declared.references.Reference.{Reference}
 use Rattle.row_heap.specs.Ends.{FirstsCleared, end_of, first_in}
 use Rattle.row_heap.proofs.references.clear_firsts.Given as goal
 
-abbrev pub invariant-loop-reference : goal.invariant-loop-reference
-invariant-loop-reference l = record {
+abbrev pub invariant-loop-packed : goal.invariant-loop-packed
+invariant-loop-packed l = record {
   len : (length l.objects.items ≡ length l.fn.objects.items) × (length l.temporaries.items ≡ length l.fn.temporaries.items);
-  cleared : FirstsCleared (map (λ (r : Reference). end_of r.from) (take l.reference-index l.list)) (first_in l.fn.objects.items l.fn.temporaries.items) (first_in l.objects.items l.temporaries.items);
+  cleared : FirstsCleared (map (λ (r : Reference). end_of r.from) (take l.packed-index l.list)) (first_in l.fn.objects.items l.fn.temporaries.items) (first_in l.objects.items l.temporaries.items);
 }

@@ -22,4 +22,4 @@ invariant_of-self-2 c =
     let list = c.self.inside.list in
     let count : length c.make_temporaries.new.temporaries.items ≡ max (length c.self.inside.temporaries.items) c.args.temps = c.in_ok-make_temporaries.ensures.count in
     AreLinked-roomy _ _ _ _ _ _ _ _ _ _ _ _ _ _ a c.reserve.ensures.items c.reach.ensures.firsts c.reach.ensures.longer c.make_temporaries.ensures.firsts (omega (arith, count)) c.make_temporaries.ensures.flags c.make_temporaries.ensures.chains
-    (omega (arith, a.few, count, c.ranges.temps.fits)) (λ w. c.in_ok-reach.ensures.reach) (omega (arith, c.in_ok-reserve.ensures.ok, c.reserve.ensures.len, list.ok)) (omega (arith, c.if-additional-len.false, c.len-len.ensures, list.ok, a.most))
+    (c.make_temporaries.ensures.few a.few) (λ w. c.in_ok-reach.ensures.reach) (omega (arith, c.in_ok-reserve.ensures.ok, c.reserve.ensures.len, list.ok)) (omega (arith, c.if-additional-len.false, c.len-len.ensures, list.ok, a.most))
