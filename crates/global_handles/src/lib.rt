@@ -22,7 +22,7 @@
 // So numbers grow up to the last of their type, by one for each `make` and for each row that `restore` gives, while a row more
 // comes by `make` alone. A row stands in a place, one for each `make`, which are at most 65,535; a restored row stays in its place
 // and takes the new number. The list of names leads from a number to its place. It only grows at its end, so it stays
-// sorted, and a look-up goes by halves: in one step where no number was left out, and in 17 at most. A name whose place has no
+// sorted, and a look-up is one step where no number was left out, and goes by halves else, in 17 steps at most. A name whose place has no
 // row of its number is a hole. The list has at most two names for each place: where it is full, `restore` first drops its
 // holes, which are then at least half of it. So what that reads is owed to the names that came since, and on average
 // a restore takes the same time however many there were before.
@@ -159,6 +159,7 @@ impl Slot {
     ghost use Rattle.global_handles.specs.Slots.{row_of, cleared_kept, is_open};
 
     // The slot's row, if it has one of this number.
+    #[inline(always)]
     fn row(self, number: u32) -> Option<HandleRow>
         ensures { result ≡ row_of number self }
     {
@@ -311,6 +312,7 @@ impl HandleTable {
     }
 
     /// The peer that `h` leads to; None exactly where `h` isn't in the table or is cleared.
+    #[inline(always)]
     pub fn target(&self, h: HNum) -> Option<PNum>
         ensures { result ≡ target_in self.now.rows h }
     {
@@ -319,6 +321,7 @@ impl HandleTable {
     }
 
     /// The row of `h`; None exactly where `h` isn't in the table.
+    #[inline(always)]
     pub fn row(&self, h: HNum) -> Option<HandleRow>
         ensures row { result ≡ row_in self.now.rows h }
         ensures rising { IsRising self.now }
@@ -486,6 +489,7 @@ impl HandleTable {
 }
 
 // The name and the row of a number, if it is in the table.
+#[inline(always)]
 fn look_up(names: &[Name], slots: &[Slot], h: HNum) -> Option<(Name, HandleRow)>
     requires { (high : ℕ) × NamesRise 0 high names.now }
     ensures some { (e : Name) (r : HandleRow) → result ≡ Some (e, r) → (name_in names.now h ≡ Some e) × (row_in (rows_of slots.now names.now) h ≡ Some r) }
@@ -496,8 +500,37 @@ fn look_up(names: &[Name], slots: &[Slot], h: HNum) -> Option<(Name, HandleRow)>
     Some((name, row))
 }
 
-// The name of a number, if it is among these, which are sorted by number. It goes by halves, from the span where the number can stand.
+// The name of a number, if it is among these, which are sorted by number.
+#[inline(always)]
 fn find(names: &[Name], h: HNum) -> Option<Name>
+    requires { (high : ℕ) × NamesRise 0 high names.now }
+    ensures { result ≡ name_in names.now h }
+{
+    match straight(names, h) {
+        Some(name) => Some(name),
+        None => search(names, h),
+    }
+}
+
+// The name of a number that stands as far behind the first as its number is greater: there it is where no number is left out before it.
+#[inline(always)]
+fn straight(names: &[Name], h: HNum) -> Option<Name>
+    requires { (high : ℕ) × NamesRise 0 high names.now }
+    ensures { (e : Name) → result ≡ Some e → name_in names.now h ≡ Some e }
+{
+    let first = names.first()?;
+    let behind = h.0.checked_sub(first.number)?;
+    let name = names.get(behind as usize)?;
+    if name.number == h.0 {
+        Some(*name)
+    } else {
+        None
+    }
+}
+
+// The name of a number, if it is among these, which are sorted by number. It goes by halves, from the span where the number can stand.
+#[inline(never)]
+fn search(names: &[Name], h: HNum) -> Option<Name>
     requires { (high : ℕ) × NamesRise 0 high names.now }
     ensures { result ≡ name_in names.now h }
 {
@@ -547,6 +580,7 @@ fn span(names: &[Name], h: HNum) -> (usize, usize)
 }
 
 // The row that a name leads to.
+#[inline(always)]
 fn named(slots: &[Slot], name: Name) -> Option<HandleRow>
     ensures { result ≡ named_row slots.now name }
 {

@@ -3,7 +3,7 @@ use Rattle.std.proofs.lemmas.Bool.{cases_lt}
 use Rattle.std.proofs.lemmas.Option.{slice_get-get_or}
 use Rattle.global_handles.specs.declared.Name.{Name}
 use Rattle.global_handles.proofs.Slots.{above-middle, below-middle, name_in-here, name_in-none}
-use Rattle.global_handles.proofs.find.Goals as goal
+use Rattle.global_handles.proofs.search.Goals as goal
 
 pub returns-then-name-h : goal.returns-then-name-h
 returns-then-name-h c =

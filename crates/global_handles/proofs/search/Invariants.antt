@@ -1,7 +1,7 @@
 -- The names before the span have smaller numbers, those behind it greater ones.
 use Rattle.std.proofs.Common.{◌≡◌, ◌-◌, ◌<◌, ◌≤◌, ℕ, Some, length, slice_get}
 use Rattle.global_handles.specs.declared.Name.{Name}
-use Rattle.global_handles.proofs.find.Given as goal
+use Rattle.global_handles.proofs.search.Given as goal
 
 abbrev pub invariant-loop-low : goal.invariant-loop-low
 invariant-loop-low l = record {
