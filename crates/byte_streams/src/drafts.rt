@@ -136,20 +136,30 @@ impl Line {
         self.pair(n);
     }
 
-    // Puts a number of three or four digits behind it.
+    // Puts a number of one or two digits behind it.
+    #[inline(always)]
+    fn two_at_most(&mut self, n: u64)
+        requires digits { n < 100 }
+        requires room { 2 ≤ self.old.room }
+        ensures { AddsText self.old self.new (decimal n) 2 }
+    {
+        if n < 10 {
+            self.digit(n);
+        } else {
+            self.two_digits(n);
+        }
+    }
+
+    // Puts a number of three or four digits behind it. The last two are what its hundredth part leaves, so that one division does, here and below.
     #[inline(always)]
     fn four_digits(&mut self, n: u64)
         requires digits { (100 ≤ n) × (n < 10000) }
         requires room { 4 ≤ self.old.room }
         ensures { AddsText self.old self.new (decimal n) 4 }
     {
-        if n < 1000 {
-            self.digit(n / 100);
-            self.pair(n % 100);
-        } else {
-            self.two_digits(n / 100);
-            self.pair(n % 100);
-        }
+        let high = n / 100;
+        self.two_at_most(high);
+        self.pair(n - high * 100);
     }
 
     // Puts a number of five or six digits behind it.
@@ -159,8 +169,21 @@ impl Line {
         requires room { 6 ≤ self.old.room }
         ensures { AddsText self.old self.new (decimal n) 6 }
     {
-        self.four_digits(n / 100);
-        self.pair(n % 100);
+        let high = n / 100;
+        self.four_digits(high);
+        self.pair(n - high * 100);
+    }
+
+    // Puts a number of seven or eight digits behind it.
+    #[inline(always)]
+    fn eight_digits(&mut self, n: u64)
+        requires digits { (1000000 ≤ n) × (n < 100000000) }
+        requires room { 8 ≤ self.old.room }
+        ensures { AddsText self.old self.new (decimal n) 8 }
+    {
+        let high = n / 100;
+        self.six_digits(high);
+        self.pair(n - high * 100);
     }
 
     /// Puts a text behind it.
@@ -213,9 +236,20 @@ impl Line {
     {
         if n < 1_000_000 {
             self.six_digits(n);
+        } else if n < 100_000_000 {
+            self.eight_digits(n);
         } else {
-            self.text(Buffer::new().format(n).as_bytes());
+            self.any_number(n);
         }
+    }
+
+    // Puts a number behind it, in decimal, by a buffer of its own. It is a call, so that those of fewer digits need no room for that buffer.
+    #[inline(never)]
+    fn any_number(&mut self, n: u64)
+        requires { 20 ≤ self.old.room }
+        ensures { AddsText self.old self.new (decimal n) 20 }
+    {
+        self.text(Buffer::new().format(n).as_bytes());
     }
 
     /// Puts a number behind it whose decimal text is at hand. All 32 bytes of the count's buffer are copied at once, so it asks for room for these.
