@@ -6,7 +6,7 @@ use Rattle.std.proofs.lemmas.List.Elements.{All-contains}
 use Rattle.std.specs.List.{All, Contains}
 use Rattle.joint_model.specs.Components.{Rises, IsPlainClass, IsHeavy, LeadsIn, LeadsOut}
 use Rattle.joint_model.proofs.Members.{Contains-cons_cases, Contains-nil}
-use Rattle.component_pass.specs.Counting.{IsCount}
+use Rattle.component_pass.specs.Counting.{IsCount, cap}
 
 -- rising numbers that all stand in another rising list are at most as many
 pub rises_within : (xs ys : List ℕ) → Rises xs → Rises ys → ((z : ℕ) → Contains xs z → Contains ys z) → length xs ≤ length ys
@@ -38,7 +38,7 @@ count_least P many n xs c lt r a =
     omega (arith, c.most lt, rises_within xs c.named r c.rise (λ z h. c.whole lt z (All-contains P xs z a h)))
 
 module _ (bridge : ℕ → Type 0) (edge : ℕ → ℕ → Type 0) (x ins outs : ℕ)
-    (i : IsCount (LeadsIn bridge edge x) 20 ins) (o : IsCount (LeadsOut bridge edge x) 20 outs) where
+    (i : IsCount (LeadsIn bridge edge x) cap ins) (o : IsCount (LeadsOut bridge edge x) cap outs) where
   pub heavy_of : IsPlainClass bridge edge x → 3 ≤ ins → 3 ≤ outs → 60 ≤ ins * outs → IsHeavy bridge edge x
   heavy_of p a b m = record {
     plain = p;
@@ -55,21 +55,21 @@ module _ (bridge : ℕ → Type 0) (edge : ℕ → ℕ → Type 0) (x ins outs :
 
   pub light_of : (3 ≤ ins → 3 ≤ outs → 60 ≤ ins * outs → ⊥) → IsHeavy bridge edge x → ⊥
   light_of few h =
-      elim (cases_lt ins 20) [
+      elim (cases_lt ins cap) [
         | inl few_in ↦
-            let a = count_least (LeadsIn bridge edge x) 20 ins h.ins i few_in h.ins_rise h.lead_in in
-            elim (cases_lt outs 20) [
+            let a = count_least (LeadsIn bridge edge x) cap ins h.ins i few_in h.ins_rise h.lead_in in
+            elim (cases_lt outs cap) [
               | inl few_out ↦
-                  let b = count_least (LeadsOut bridge edge x) 20 outs h.outs o few_out h.outs_rise h.lead_out in
+                  let b = count_least (LeadsOut bridge edge x) cap outs h.outs o few_out h.outs_rise h.lead_out in
                   few (omega (arith, a, h.some_in)) (omega (arith, b, h.some_out)) (omega (arith, h.many, mul-le-mul a b))
               | inr many_out ↦
                   let three : 3 ≤ ins = omega (arith, a, h.some_in) in
                   few three (omega (arith, many_out)) (omega (arith, mul-le-mul three many_out))
             ]
         | inr many_in ↦
-            elim (cases_lt outs 20) [
+            elim (cases_lt outs cap) [
               | inl few_out ↦
-                  let b = count_least (LeadsOut bridge edge x) 20 outs h.outs o few_out h.outs_rise h.lead_out in
+                  let b = count_least (LeadsOut bridge edge x) cap outs h.outs o few_out h.outs_rise h.lead_out in
                   let three : 3 ≤ outs = omega (arith, b, h.some_out) in
                   few (omega (arith, many_in)) three (omega (arith, mul-le-mul many_in three))
               | inr many_out ↦ few (omega (arith, many_in)) (omega (arith, many_out)) (omega (arith, mul-le-mul many_in many_out))

@@ -14,7 +14,7 @@ use Rattle.bridge_graph.specs.declared.graph.Node.{Node}
 use Rattle.bridge_graph.specs.declared.packing.Link.{Link}
 use Rattle.bridge_graph.specs.Parts.{IsBridgeNode, IsPart, NodeLeads}
 use Rattle.component_pass.specs.Classes.{AreClasses, AreInOrder}
-use Rattle.component_pass.specs.Counting.{IsCount, IsWide, ComesIn}
+use Rattle.component_pass.specs.Counting.{IsCount, IsWide, ComesIn, cap}
 use Rattle.component_pass.specs.Grouping.{AreListed, group, links_of}
 use Rattle.component_pass.specs.Reporting.{AreReported, AreHeavyBelow, AreLight, AreMany}
 use Rattle.component_pass.specs.Sharing.{index_at, IsOpen, AreNumbered, Leaves, ComesOut}
@@ -234,8 +234,8 @@ module _ (nodes : List Node) (edges : List (List ℕ)) (labels : List ℕ) (link
       )
 
   module _ (outs ins : List ℕ) (after heavy : List ℕ)
-      (led_to : (l : ℕ) → l < rows → IsCount (Leaves edges (length nodes) labels indexes l) 20 (get_or outs l 0))
-      (lead_in : (x : ℕ) → x < length nodes → IsWide labels indexes outs x → IsCount (ComesIn edges labels indexes x) 20 (get_or ins (get_or labels x 0) 0))
+      (led_to : (l : ℕ) → l < rows → IsCount (Leaves edges (length nodes) labels indexes l) cap (get_or outs l 0))
+      (lead_in : (x : ℕ) → x < length nodes → IsWide labels indexes outs x → IsCount (ComesIn edges labels indexes x) cap (get_or ins (get_or labels x 0) 0))
       (h : AreHeavyBelow labels indexes outs ins (length comps) (length nodes) after heavy) where
     abbrev K : ℕ
     K = length comps + length heavy
@@ -243,10 +243,10 @@ module _ (nodes : List Node) (edges : List (List ℕ)) (labels : List ℕ) (link
     abbrev at : ℕ → ℕ
     at x = get_or labels x 0
 
-    count_of : (x : ℕ) → x < length nodes → IsOpen labels indexes x → IsCount (LeadsOut B E x) 20 (get_or outs (at x) 0)
+    count_of : (x : ℕ) → x < length nodes → IsOpen labels indexes x → IsCount (LeadsOut B E x) cap (get_or outs (at x) 0)
     count_of x lt o =
         let c = led_to (at x) (labelled x lt) in
-        count_out nodes edges labels indexes (length comps) (first_at comps) s.part s.classes firsts 20 (get_or outs (at x) 0) x lt o record {
+        count_out nodes edges labels indexes (length comps) (first_at comps) s.part s.classes firsts cap (get_or outs (at x) 0) x lt o record {
           named = c.named;
           rise = c.rise;
           hold = All-members (ComesOut edges labels indexes x) c.named (λ j d. (open_leaves nodes edges labels indexes s.part s.classes x j lt o).1 (All-contains (Leaves edges (length nodes) labels indexes (at x)) c.named j c.hold d));
@@ -259,17 +259,17 @@ module _ (nodes : List Node) (edges : List (List ℕ)) (labels : List ℕ) (link
     is_heavy : (x : ℕ) → x < length nodes → IsOpen labels indexes x → AreMany (get_or ins (at x) 0) (get_or outs (at x) 0) → IsHeavy B E x
     is_heavy x lt o m =
         heavy_of B E x (get_or ins (at x) 0) (get_or outs (at x) 0)
-        (count_in nodes edges labels indexes (length comps) (first_at comps) s.part s.classes firsts 20 (get_or ins (at x) 0) x lt o (lead_in x lt (o, m.1)))
+        (count_in nodes edges labels indexes (length comps) (first_at comps) s.part s.classes firsts cap (get_or ins (at x) 0) x lt o (lead_in x lt (o, m.1)))
         (count_of x lt o) ((firsts.plain x lt).0 o) m.0 m.1 m.2
 
     not_heavy : (x : ℕ) → x < length nodes → IsOpen labels indexes x → (AreMany (get_or ins (at x) 0) (get_or outs (at x) 0) → ⊥) → IsHeavy B E x → ⊥
     not_heavy x lt o few_of hv = elim (cases_lt (get_or outs (at x) 0) 3) [
       | inl less ↦
           let c = count_of x lt o in
-          omega (arith, less, hv.some_out, count_least (LeadsOut B E x) 20 (get_or outs (at x) 0) hv.outs c (omega (arith, less)) hv.outs_rise hv.lead_out)
+          omega (arith, less, hv.some_out, count_least (LeadsOut B E x) cap (get_or outs (at x) 0) hv.outs c (omega (arith, less)) hv.outs_rise hv.lead_out)
       | inr ge ↦
           light_of B E x (get_or ins (at x) 0) (get_or outs (at x) 0)
-          (count_in nodes edges labels indexes (length comps) (first_at comps) s.part s.classes firsts 20 (get_or ins (at x) 0) x lt o (lead_in x lt (o, ge)))
+          (count_in nodes edges labels indexes (length comps) (first_at comps) s.part s.classes firsts cap (get_or ins (at x) 0) x lt o (lead_in x lt (o, ge)))
           (count_of x lt o) (λ a b m. few_of (a, b, m)) hv
     ]
 
@@ -415,8 +415,8 @@ module _ (nodes : List Node) (edges : List (List ℕ)) (labels : List ℕ) (rows
       let n = room_for nodes edges labels (links_of nodes labels) comps indexes setting (length rows) f.order.labelled f.few f.plain heavy r (λ k d lt. (omega (arith, (a k d lt).0, f.classes.whole), (a k d lt).1)) in
       omega (arith, n, f.part.few)
 
-  pub heavy_reported : (outs ins after heavy : List ℕ) → ((l : ℕ) → l < length rows → IsCount (Leaves edges (length nodes) labels indexes l) 20 (get_or outs l 0))
-      → ((x : ℕ) → x < length nodes → IsWide labels indexes outs x → IsCount (ComesIn edges labels indexes x) 20 (get_or ins (get_or labels x 0) 0))
+  pub heavy_reported : (outs ins after heavy : List ℕ) → ((l : ℕ) → l < length rows → IsCount (Leaves edges (length nodes) labels indexes l) cap (get_or outs l 0))
+      → ((x : ℕ) → x < length nodes → IsWide labels indexes outs x → IsCount (ComesIn edges labels indexes x) cap (get_or ins (get_or labels x 0) 0))
       → AreHeavyBelow labels indexes outs ins (length comps) (length labels) after heavy
       → AreReported nodes edges labels (length rows) after comps heavy × AreListed nodes labels (links_of nodes labels) (length nodes) comps after
   heavy_reported outs ins after heavy led_to lead_in h =
@@ -426,8 +426,8 @@ module _ (nodes : List Node) (edges : List (List ℕ)) (labels : List ℕ) (rows
       )
 
   -- where no class has so many on either side, there are the components alone
-  pub none_reported : (outs ins : List ℕ) → ((l : ℕ) → l < length rows → IsCount (Leaves edges (length nodes) labels indexes l) 20 (get_or outs l 0))
-      → ((x : ℕ) → x < length nodes → IsWide labels indexes outs x → IsCount (ComesIn edges labels indexes x) 20 (get_or ins (get_or labels x 0) 0))
+  pub none_reported : (outs ins : List ℕ) → ((l : ℕ) → l < length rows → IsCount (Leaves edges (length nodes) labels indexes l) cap (get_or outs l 0))
+      → ((x : ℕ) → x < length nodes → IsWide labels indexes outs x → IsCount (ComesIn edges labels indexes x) cap (get_or ins (get_or labels x 0) 0))
       → length indexes ≡ length rows → AreLight indexes outs ins → AreReported nodes edges labels (length rows) indexes comps []
   none_reported outs ins led_to lead_in size light =
       (heavy_reported outs ins indexes [] led_to lead_in (heavy-light labels indexes outs ins (length comps) (length labels)

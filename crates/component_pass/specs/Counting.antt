@@ -15,6 +15,11 @@ pub record IsCount (P : ℕ → Type 0) (many n : ℕ) : Type 0 where
   pub most : n < many → length named ≤ n
   pub whole : n < many → (b : ℕ) → P b → Contains named b
 
+-- from how many on components aren't counted: below it a count is exact, and a class with so many on one side has at least three on
+-- the other if it is heavy, which make the product sixty
+abbrev pub cap : ℕ
+cap = 20
+
 -- what has the index j leads by an edge to a node from which one comes to x through classes without an index
 abbrev pub ComesIn : List (List ℕ) → List ℕ → List ℕ → ℕ → ℕ → Type 0
 ComesIn edges labels indexes x j =
@@ -24,14 +29,14 @@ ComesIn edges labels indexes x j =
 abbrev pub IsWide : List ℕ → List ℕ → List ℕ → ℕ → Type 0
 IsWide labels indexes counts x = IsOpen labels indexes x × (3 ≤ slice_index counts (slice_index labels x))
 
--- for each class the count of what leaves it, up to twenty
+-- for each class the count of what leaves it, up to the cap
 abbrev pub CountsOut : List (List ℕ) → ℕ → List ℕ → List ℕ → ℕ → List ℕ → Type 0
-CountsOut edges nodes labels indexes rows outs = (l : ℕ) → l < rows → IsCount (Leaves edges nodes labels indexes l) 20 (slice_index outs l)
+CountsOut edges nodes labels indexes rows outs = (l : ℕ) → l < rows → IsCount (Leaves edges nodes labels indexes l) cap (slice_index outs l)
 
--- for each class without an index that leads to at least three components the count of what comes in, up to twenty
+-- for each class without an index that leads to at least three components the count of what comes in, up to the cap
 abbrev pub CountsIn : List (List ℕ) → ℕ → List ℕ → List ℕ → List ℕ → List ℕ → Type 0
 CountsIn edges nodes labels indexes outs ins =
-    (x : ℕ) → x < nodes → IsWide labels indexes outs x → IsCount (ComesIn edges labels indexes x) 20 (slice_index ins (slice_index labels x))
+    (x : ℕ) → x < nodes → IsWide labels indexes outs x → IsCount (ComesIn edges labels indexes x) cap (slice_index ins (slice_index labels x))
 
 -- the second list has all that the first has, or so many that no more are counted
 abbrev pub Covers : ℕ → List ℕ → List ℕ → Type 0

@@ -1,16 +1,17 @@
 // How many components the edges of each class lead to, counted as far as it matters, and which they are.
 //
 // The sets of components are found and shared as those of the references are. Where there are no large sets, or few, that
-// is all: what each component refers to is known, and the sets have the classes' counts. But the elements of large sets may
-// be read again and again. So there is a number of elements that may be read in all, and once they are spent a class that
-// leads to a set of twenty components or more takes that set for its own and looks at no other. From then on each
-// edge has at most nineteen elements read, and a set of fewer than twenty is exact.
+// is all: what each component refers to is known, and the sets have the classes' counts. But unions of large sets may be made
+// again and again. So the elements of the unions are counted, at most 32 for each node in all (and not what is read for them,
+// which is more where sets are alike), and once these are spent a class that leads to a set of twenty components or more takes
+// that set for its own and looks at no other. From then on each edge has at most nineteen elements read, and a set of
+// fewer than twenty is exact.
 
 ghost use Rattle.std.specs.Prelude.{◌≡◌, ◌≢◌, ◌↔◌, ◌⊎◌, ℕ, ◌+◌, ◌<◌, ◌≤◌, [], ◌∷◌, length, min, All, Contains, IfOk, OnOk, IfSome, IfNone, true, slice_index, slice_set};
 ghost use Rattle.joint_model.specs.Components.{Rises};
 ghost use Rattle.bridge_graph.specs.Parts.{IsPart};
 ghost use Rattle.component_pass.specs.Classes.{AreClasses, AreInOrder};
-ghost use Rattle.component_pass.specs.Counting.{CountsOut};
+ghost use Rattle.component_pass.specs.Counting.{CountsOut, cap};
 ghost use Rattle.component_pass.specs.Gathering.{Aims, AimsFrom, AreSets, Gathers, HasNoMarks, set_at};
 ghost use Rattle.component_pass.specs.Sharing.{AreNumbered, AreReferred, IsFound};
 
@@ -25,7 +26,7 @@ use std::alloc::{AllocError, Global};
 /// That many are not told from more: a class with at least three on its other side is heavy then, and 3 * 20 is 60.
 pub(crate) const MANY: usize = 20;
 
-// How many elements of sets may be read for each node.
+// How many elements the unions may have for each node, in all.
 const READS: u64 = 32;
 
 /// What the edges of the classes lead to: for each class the number of components, where 20 says that there are at least
@@ -139,7 +140,7 @@ fn handed_on(index: u32, number: u32, refs: &mut [u32]) -> u32
     index
 }
 
-// The number of the set of a class: the union of all that edges lead to, or once no elements are left to be read one of
+// The number of the set of a class: the union of all that edges lead to, or once no elements are left for unions one of
 // twenty or more.
 #[inline(always)]
 fn count_in(
@@ -159,8 +160,8 @@ fn count_in(
     requires few { length work.old.known.items < 4294967295 }
     requires clear { HasNoMarks work.old }
     ensures found { IfOk result (λ s. IsFound sets.now lists.old lists.new count (length work.new.known.items) s) }
-    ensures exact { IfOk result (λ s. (Aims graph.now.edges sets.now members.now s × (20 ≤ length (set_at count lists.new s)) × (lists.new ≡ lists.old) × (left.new ≡ 0))
-        ⊎ (((k : ℕ) → Aims graph.now.edges sets.now members.now k → (length (set_at count lists.old k) < 20) ⊎ (0 < left.old))
+    ensures exact { IfOk result (λ s. (Aims graph.now.edges sets.now members.now s × (cap ≤ length (set_at count lists.new s)) × (lists.new ≡ lists.old) × (left.new ≡ 0))
+        ⊎ (((k : ℕ) → Aims graph.now.edges sets.now members.now k → (length (set_at count lists.old k) < cap) ⊎ (0 < left.old))
         × ((j : ℕ) → Contains (set_at count lists.new s) j ↔ Gathers graph.now.edges sets.now lists.old count members.now j))) }
     ensures marks { OnOk result (length work.new.marks.items ≡ count) }
     ensures clear { OnOk result (HasNoMarks work.new) }
@@ -188,8 +189,8 @@ fn full_among(
     requires members { All (λ x. x < length graph.now.nodes) members.now }
     requires whole { length sets.now ≡ length graph.now.nodes }
     requires sets { All (λ s. s < count + length lists.now) sets.now }
-    ensures some { IfSome result (λ s. Aims graph.now.edges sets.now members.now s × (20 ≤ length (set_at count lists.now s))) }
-    ensures none { IfNone result ((s : ℕ) → Aims graph.now.edges sets.now members.now s → length (set_at count lists.now s) < 20) }
+    ensures some { IfSome result (λ s. Aims graph.now.edges sets.now members.now s × (cap ≤ length (set_at count lists.now s))) }
+    ensures none { IfNone result ((s : ℕ) → Aims graph.now.edges sets.now members.now s → length (set_at count lists.now s) < cap) }
 {
     for x in members {
         if let Some(number) = full_in(graph.row(*x), sets, count, lists) {
@@ -203,8 +204,8 @@ fn full_among(
 fn full_in(row: &[u32], sets: &[u32], count: u32, lists: &Lists) -> Option<u32>
     requires in_range { All (λ y. y < length sets.now) row.now }
     requires sets { All (λ s. s < count + length lists.now) sets.now }
-    ensures some { IfSome result (λ s. AimsFrom row.now sets.now s × (20 ≤ length (set_at count lists.now s))) }
-    ensures none { IfNone result ((s : ℕ) → AimsFrom row.now sets.now s → length (set_at count lists.now s) < 20) }
+    ensures some { IfSome result (λ s. AimsFrom row.now sets.now s × (cap ≤ length (set_at count lists.now s))) }
+    ensures none { IfNone result ((s : ℕ) → AimsFrom row.now sets.now s → length (set_at count lists.now s) < cap) }
 {
     for y in row {
         let number = sets[*y as usize];

@@ -1,11 +1,13 @@
 // Which classes without a bridge node are heavy, and which are thin.
 //
 // A class is heavy where at least three components lead in, at least three are led to, and the product of the two
-// counts is at least 60. Heavy classes are reported as components without members, behind the others, by their least nodes.
+// counts is at least 60. Heavy classes are reported as components without members, behind the others, by their least nodes,
+// and get an index of their own there.
 //
 // A class that leads to three components or more, isn't heavy and that fewer than three components lead into is thin.
 // Nothing that is promised rests on it: it says where a set of what is led to would be longer than it is worth. What
-// leads into a thin class is one or two components alone, so these go through it themselves.
+// leads into a thin class are two components at most, so these go through it themselves; and no heavy class, since the
+// three or more that lead into that one would lead on.
 
 ghost use Rattle.std.specs.Prelude.{◌≡◌, ◌↔◌, ◌≤◌, ◌<◌, ◌+◌, ◌*◌, ℕ, List, length, IfOk, OnOk, IfSome, IfNone, IsTrue, MatchBool, All, slice_index, false};
 ghost use Rattle.joint_model.specs.Components.{IsHeavy, LeadsIn, Rises};

@@ -9,7 +9,7 @@
 ghost use Rattle.std.specs.Prelude.{◌≡◌, ◌≢◌, ◌↔◌, ◌⊎◌, ℕ, ◌+◌, ◌<◌, ◌≤◌, [], ◌∷◌, length, min, All, Contains, IfOk, OnOk, MatchBool, false, slice_index, slice_set};
 ghost use Rattle.bridge_graph.specs.Parts.{IsPart, row_at};
 ghost use Rattle.component_pass.specs.Classes.{AreClasses, AreInOrder};
-ghost use Rattle.component_pass.specs.Counting.{AreLed, CountsIn, CountsOut, Joins, Pushes};
+ghost use Rattle.component_pass.specs.Counting.{AreLed, CountsIn, CountsOut, Joins, Pushes, cap};
 ghost use Rattle.component_pass.specs.Gathering.{AreSets, set_at};
 ghost use Rattle.component_pass.specs.Sharing.{AreNumbered, IsFound};
 
@@ -77,7 +77,7 @@ fn put_sizes(lists: &Lists, count: u32, counts: &[u8], ins: &mut [u32])
     requires counts { length counts.now ≡ length ins.old }
     ensures len { length ins.new ≡ length ins.old }
     ensures sizes { (l : ℕ) → l < length ins.old → 3 ≤ slice_index counts.now l
-        → slice_index ins.new l ≡ min (length (set_at count lists.now (slice_index ins.old l))) 20 }
+        → slice_index ins.new l ≡ min (length (set_at count lists.now (slice_index ins.old l))) cap }
 {
     for l in 0..ins.len() {
         if counts[l] >= LEAST {
@@ -110,7 +110,7 @@ fn lead_all(
     requires lists { lists.old ≡ [] ∷ [] }
     requires marks { length work.old.marks.items ≡ count }
     requires clear { All (λ m. m ≡ false) work.old.marks.items }
-    ensures { OnOk result (AreLed graph.now.edges (length graph.now.nodes) found.now.labels.items indexes.now counts.now 20 count 0 ins.new lists.new) }
+    ensures { OnOk result (AreLed graph.now.edges (length graph.now.nodes) found.now.labels.items indexes.now counts.now cap count 0 ins.new lists.new) }
 {
     let mut c = found.rows.len();
     while c > 0 {
@@ -158,7 +158,7 @@ fn lead_class(
     requires count { count ≤ 65535 }
     requires marks { length work.old.marks.items ≡ count }
     requires clear { All (λ m. m ≡ false) work.old.marks.items }
-    ensures pushes { OnOk result (Pushes found.now.labels.items indexes.now counts.now 20 count own number
+    ensures pushes { OnOk result (Pushes found.now.labels.items indexes.now counts.now cap count own number
         (λ v. (u : ℕ) × Contains (row_at found.now.rows own) u × Contains (row_at graph.now.edges u) v) ins.old lists.old ins.new lists.new) }
     ensures marks { OnOk result (length work.new.marks.items ≡ count) }
     ensures clear { OnOk result (All (λ m. m ≡ false) work.new.marks.items) }
@@ -203,7 +203,7 @@ fn lead_row(
     requires count { count ≤ 65535 }
     requires marks { length work.old.marks.items ≡ count }
     requires clear { All (λ m. m ≡ false) work.old.marks.items }
-    ensures pushes { OnOk result (Pushes labels.now indexes.now counts.now 20 count own number (Contains row.now) ins.old lists.old ins.new lists.new) }
+    ensures pushes { OnOk result (Pushes labels.now indexes.now counts.now cap count own number (Contains row.now) ins.old lists.old ins.new lists.new) }
     ensures marks { OnOk result (length work.new.marks.items ≡ count) }
     ensures clear { OnOk result (All (λ m. m ≡ false) work.new.marks.items) }
 {
@@ -239,7 +239,7 @@ fn join(
     requires marks { length work.old.marks.items ≡ count }
     requires clear { All (λ m. m ≡ false) work.old.marks.items }
     ensures found { IfOk result (λ s. IsFound ins.now lists.old lists.new count (count + length lists.new) s) }
-    ensures joins { IfOk result (λ s. Joins 20 (set_at count lists.old (slice_index ins.now at)) (set_at count lists.old number) (set_at count lists.new s)) }
+    ensures joins { IfOk result (λ s. Joins cap (set_at count lists.old (slice_index ins.now at)) (set_at count lists.old number) (set_at count lists.new s)) }
     ensures marks { OnOk result (length work.new.marks.items ≡ count) }
     ensures clear { OnOk result (All (λ m. m ≡ false) work.new.marks.items) }
 {

@@ -1,6 +1,6 @@
-// The exact components of a dead part: which bridge nodes are strongly connected, and which components
-// refer to which through nodes that are no bridge nodes. `contract` reads a `DeadGraph` and gives its
-// `Components`; it keeps nothing.
+// The exact components of a dead part: which bridge nodes are strongly connected, which classes without a bridge node
+// are heavy, since many components meet in them, and which of all these refer to which through classes that are
+// neither. `contract` reads a `DeadGraph` and gives its `Components`; it keeps nothing.
 //
 // Two steps. First Tarjan's algorithm finds the strongly connected classes. On this graph,
 //
@@ -34,7 +34,7 @@
 // component are the union for its own class: here C and D for both A and B. `sharing` says what it costs.
 //
 // The size of its set is how many components a class leads to. For each class without a bridge node that leads to three or more
-// it is counted how many lead into it, up to twenty: where both counts are at least three and their product is at least 60
+// it is counted how many lead into it, up to a cap of twenty: where both counts are at least three and their product is at least 60
 // the class is heavy. Mostly there is none, and then the sets give the cross-references. Where some are heavy, these are
 // listed as components without members, by their least nodes, and the sets are made again with their indexes; so they are
 // where the unions of large sets would take too long, since the first sets were cut then.

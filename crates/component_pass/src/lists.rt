@@ -7,7 +7,8 @@ ghost use Rattle.bridge_graph.specs.Parts.{row_at};
 use std::alloc::{AllocError, Global};
 use std::marker::Model;
 
-// The most elements that stand before a list. No caller comes to it: there are at most 65,536 lists of at most 65,535 elements each.
+// The most elements that stand before a list. No caller comes to it: sets that are referred to have at most 65,536 lists of at most 65,535 elements each,
+// and what leads in has at most 20 lists of at most 38 elements for each of 65,535 classes.
 const MOST_ELEMENTS: usize = 4_294_967_295;
 
 /// A list of lists, each of which is put last and is then only read.

@@ -1,12 +1,12 @@
-// The cross-references of each component, from sets of components that classes share.
+// The cross-references of each component and each heavy class, from sets of indexes that classes share.
 //
 // The classes are gone through in the order in which they were completed, so that edges lead only to nodes
 // of the class itself, whose sets are still empty, and to those whose sets are there. What a class refers to
 // is the union of the sets that its edges lead to: where that is one of them, as along a chain, it shares it,
-// and nothing is copied. A class without a bridge node hands that on. One with a bridge node hands on its own
-// component alone, and the union is that component's references, which are listed in the end.
+// and nothing is copied. A class without an index hands that on. One with an index, be it a component's or a
+// heavy class's, hands on itself alone, and the union is its references, which are listed in the end.
 //
-// A thin class has one or two components that lead into it, and at most these go through it. A class that isn't
+// A thin class has at most two components that lead into it, and at most these go through it. A class that isn't
 // thin and has no index leads to fewer than twenty components, so its set is small but for heavy ones. So the time is that
 // of nodes, edges and pairs, and of one more thing: where a class leads to several sets of many heavy ones, the elements of
 // each are read once for that class.

@@ -1,5 +1,6 @@
 -- One class more: its set has only what leaves it, and all of it where it is small or something was left to be read; what has an
 -- index keeps that set and hands on itself.
+use Rattle.component_pass.specs.Counting.{cap}
 use Rattle.std.proofs.Common.{◌≡◌, ◌⊎◌, ℕ, ◌+◌, ◌<◌, ◌≤◌, List, [], ◌∷◌, length, min, get_or, sym, subst, ◌∙◌, arith, inl, inr}
 use Rattle.std.proofs.lemmas.List.{length-set}
 use Rattle.std.proofs.lemmas.List.Elements.{Contains-get_or}
@@ -13,7 +14,7 @@ use Rattle.component_pass.proofs.counting.count_all.Goals as goal
 
 pub loop-c-init : goal.loop-c-init
 loop-c-init c = rw (c.requires.lists, c.requires.known) record {
-  counted = counted-none c.args.graph.now.edges (length c.args.graph.now.nodes) c.args.found.now.labels.items c.args.indexes.now 20 c.args.left.now c.args.count c.args.sets.now ([] ∷ []) c.requires.whole c.requires.empty;
+  counted = counted-none c.args.graph.now.edges (length c.args.graph.now.nodes) c.args.found.now.labels.items c.args.indexes.now cap c.args.left.now c.args.count c.args.sets.now ([] ∷ []) c.requires.whole c.requires.empty;
   counts = λ k lt. absurd (omega (arith, lt));
   referred = λ left. referred-none c.args.graph.now.nodes c.args.graph.now.edges c.args.found.now.labels.items c.args.indexes.now c.args.found.now.rows c.args.count 0 c.requires.order _ c.args.refs.now ([] ∷ []) c.requires.refs;
   valid = sets-none c.args.count c.args.sets.now c.requires.empty;
@@ -69,21 +70,21 @@ loop-c-preserved c =
       others = rw c.row-class.ensures at c.put.ensures.others;
     } in
     let exact = rw c.row-class.ensures at c.in_ok-number.ensures.exact in
-    let parts : ((j : ℕ) → Contains S j → Leaves edges (length nodes) labels indexes own j) × ((j : ℕ) → (length S < 20) ⊎ (0 < next) → Leaves edges (length nodes) labels indexes own j → Contains S j) =
+    let parts : ((j : ℕ) → Contains S j → Leaves edges (length nodes) labels indexes own j) × ((j : ℕ) → (length S < cap) ⊎ (0 < next) → Leaves edges (length nodes) labels indexes own j → Contains S j) =
     elim exact [
       | inl a ↦
-          let s = full-leaves nodes edges labels indexes rows count own o 20 left number sets lists part cl i.counted i.valid.none a.0 in
+          let s = full-leaves nodes edges labels indexes rows count own o cap left number sets lists part cl i.counted i.valid.none a.0 in
           ((λ j h. s j (subst (λ (l : List (List ℕ)). Contains (set_at count l number) j) a.2 h)), (λ j few t. absurd (elim few [ inl g ↦ omega (arith, g, a.1) | inr g ↦ omega (arith, g, a.3) ])))
       | inr b ↦
-          let e = union-leaves nodes edges labels indexes rows count own o 20 left sets lists S part cl i.counted i.valid.none b.0 b.1 in
+          let e = union-leaves nodes edges labels indexes rows count own o cap left sets lists S part cl i.counted i.valid.none b.0 b.1 in
           ((λ j. (e j).0), (λ j few. (e j).1))
     ] in
-    let size : c.min.result ≡ min (length S) 20 = omega (arith, c.size_of.ensures) in
+    let size : c.min.result ≡ min (length S) cap = omega (arith, c.size_of.ensures) in
     let ol : own < length rows = omega (arith, c.loop-c-test.true) in
     let at : ℕ = get_or indexes own 0 in
     let known : number < count + length more = omega (arith, f.known, f.valid.all) in
     let out : (to < numbers) × ((x j : ℕ) → x < length nodes → get_or labels x 0 ≡ own → Contains (set_at count more to) j → ComesOut edges labels indexes x j)
-    × ((x j : ℕ) → x < length nodes → get_or labels x 0 ≡ own → (length (set_at count more to) < 20) ⊎ (0 < next) → ComesOut edges labels indexes x j → Contains (set_at count more to) j)
+    × ((x j : ℕ) → x < length nodes → get_or labels x 0 ≡ own → (length (set_at count more to) < cap) ⊎ (0 < next) → ComesOut edges labels indexes x j → Contains (set_at count more to) j)
     × (0 < next → AreReferred (length nodes) edges labels indexes count (own + 1) (count + length more) c.handed_on.new.refs more) × (length c.handed_on.new.refs ≡ count) =
     elim (cases_eq at 4294967295) [
       | inl bare ↦
@@ -99,7 +100,7 @@ loop-c-preserved c =
       | inr ne ↦
           let h = c.handed_on.ensures.own ne in
           let below : at < count = c.requires.numbered.below own ol ne in
-          let e = own-counted nodes edges labels indexes rows count own o 20 more part cl below c.requires.count in
+          let e = own-counted nodes edges labels indexes rows count own o cap more part cl below c.requires.count in
           rw (h.0, h.1) (
             omega (arith, below, f.valid.all),
             (λ x j lt is. (e x j lt is).0),
@@ -111,9 +112,9 @@ loop-c-preserved c =
           )
     ] in
     record {
-      counted = counted-more nodes edges labels indexes rows count own o 20 left next numbers number to sets after lists more less i.counted valid f puts out.1 out.2;
-      counts = rw size (counts-more nodes edges labels indexes rows count own o 20 (min (length S) 20) c.loop-c.counts (omega (arith, ol, i.size))
-          (leaves-count nodes edges labels indexes rows count own o 20 next number more f.valid.rising known parts.0 parts.1) i.counts);
+      counted = counted-more nodes edges labels indexes rows count own o cap left next numbers number to sets after lists more less i.counted valid f puts out.1 out.2;
+      counts = rw size (counts-more nodes edges labels indexes rows count own o cap (min (length S) cap) c.loop-c.counts (omega (arith, ol, i.size))
+          (leaves-count nodes edges labels indexes rows count own o cap next number more f.valid.rising known parts.0 parts.1) i.counts);
       referred = out.3;
       valid = sets-more nodes edges labels indexes rows count own o numbers number to sets after lists more i.counted.size f puts out.0;
       size = length-set c.loop-c.counts own c.min.result ∙ i.size;

@@ -1,4 +1,5 @@
 -- The rows of the first members, and one more.
+use Rattle.component_pass.specs.Counting.{cap}
 use Rattle.std.proofs.Common.{◌<◌, ℕ, List, [], ◌∷◌, ◌++◌, length, get_or, sym, subst, arith, inl, inr}
 use Rattle.std.proofs.lemmas.List.{take_more, take_all}
 use Rattle.std.proofs.lemmas.List.Elements.{Contains-push_cases}
@@ -6,8 +7,8 @@ use Rattle.bridge_graph.specs.Parts.{row_at}
 use Rattle.component_pass.specs.Gathering.{Aims, AimsFrom, set_at}
 use Rattle.component_pass.proofs.counting.full_among.Goals as goal
 
-none_more : (edges : List (List ℕ)) (members sets : List ℕ) (x count : ℕ) (lists : List (List ℕ)) → ((s : ℕ) → AimsFrom (row_at edges x) sets s → length (set_at count lists s) < 20)
-    → ((s : ℕ) → Aims edges sets members s → length (set_at count lists s) < 20) → (s : ℕ) → Aims edges sets (members ++ x ∷ []) s → length (set_at count lists s) < 20
+none_more : (edges : List (List ℕ)) (members sets : List ℕ) (x count : ℕ) (lists : List (List ℕ)) → ((s : ℕ) → AimsFrom (row_at edges x) sets s → length (set_at count lists s) < cap)
+    → ((s : ℕ) → Aims edges sets members s → length (set_at count lists s) < cap) → (s : ℕ) → Aims edges sets (members ++ x ∷ []) s → length (set_at count lists s) < cap
 none_more edges members sets x count lists few h s a = elim (Contains-push_cases members x a.0 a.1) [
   | inl c ↦ h s (a.0, c, a.2)
   | inr e ↦ few s (subst (λ (z : ℕ). AimsFrom (row_at edges z) sets s) (sym e) a.2)

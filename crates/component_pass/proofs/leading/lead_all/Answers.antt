@@ -1,12 +1,12 @@
 -- One class more hands on its set, or leads to too few for any class behind it.
 use Rattle.std.proofs.Common.{◌≡◌, ◌<◌, ◌+◌, ◌-◌, ℕ, length, subst, arith}
-use Rattle.component_pass.specs.Counting.{AreLed}
+use Rattle.component_pass.specs.Counting.{AreLed, cap}
 use Rattle.component_pass.proofs.Led.{led-none, led-skip, led-push}
 use Rattle.component_pass.proofs.leading.lead_all.Goals as goal
 
 pub loop-c-init : goal.loop-c-init
 loop-c-init c = rw (c.requires.lists, c.len-c.ensures) record {
-  led = led-none c.args.graph.now.nodes c.args.graph.now.edges c.args.found.now.labels.items c.args.indexes.now c.args.counts.now c.args.found.now.rows 20 c.args.count
+  led = led-none c.args.graph.now.nodes c.args.graph.now.edges c.args.found.now.labels.items c.args.indexes.now c.args.counts.now c.args.found.now.rows cap c.args.count
       c.requires.part c.requires.classes c.requires.order c.requires.numbered c.requires.indexes (omega arith) c.requires.counts c.args.ins.now c.requires.ins c.requires.empty;
   within = omega arith;
   marks = c.requires.marks;
@@ -25,10 +25,10 @@ loop-c-preserved-in_ok-lead_class c =
     let count : ℕ = c.args.count in
     let own : ℕ = c.loop-c.c - 1 in
     let ol : own < length rows = omega (arith, i.within, c.loop-c-test.true) in
-    let led = subst (λ (k : ℕ). AreLed edges (length nodes) labels indexes counts 20 count k c.loop-c.ins c.loop-c.lists) (let e : c.loop-c.c ≡ own + 1 = omega (arith, c.loop-c-test.true) in e) i.led in
+    let led = subst (λ (k : ℕ). AreLed edges (length nodes) labels indexes counts cap count k c.loop-c.ins c.loop-c.lists) (let e : c.loop-c.c ≡ own + 1 = omega (arith, c.loop-c-test.true) in e) i.led in
     let n = c.handed-number.ensures in
     record {
-      led = led-push nodes edges labels indexes counts rows 20 count c.requires.part c.requires.classes c.requires.order c.requires.numbered c.requires.indexes (omega arith) c.requires.counts
+      led = led-push nodes edges labels indexes counts rows cap count c.requires.part c.requires.classes c.requires.order c.requires.numbered c.requires.indexes (omega arith) c.requires.counts
           own c.handed-number.result c.loop-c.ins c.lead_class.new.ins c.loop-c.lists c.lead_class.new.lists ol n.bare n.own c.in_ok-lead_class.ensures.pushes led;
       within = omega (arith, ol);
       marks = c.in_ok-lead_class.ensures.marks;
@@ -47,9 +47,9 @@ loop-c-preserved c =
     let count : ℕ = c.args.count in
     let own : ℕ = c.loop-c.c - 1 in
     let ol : own < length rows = omega (arith, i.within, c.loop-c-test.true) in
-    let led = subst (λ (k : ℕ). AreLed edges (length nodes) labels indexes counts 20 count k c.loop-c.ins c.loop-c.lists) (let e : c.loop-c.c ≡ own + 1 = omega (arith, c.loop-c-test.true) in e) i.led in
+    let led = subst (λ (k : ℕ). AreLed edges (length nodes) labels indexes counts cap count k c.loop-c.ins c.loop-c.lists) (let e : c.loop-c.c ≡ own + 1 = omega (arith, c.loop-c-test.true) in e) i.led in
     record {
-      led = led-skip nodes edges labels indexes counts rows 20 count c.requires.part c.requires.classes c.requires.order c.requires.numbered c.requires.indexes (omega arith) c.requires.counts
+      led = led-skip nodes edges labels indexes counts rows cap count c.requires.part c.requires.classes c.requires.order c.requires.numbered c.requires.indexes (omega arith) c.requires.counts
           own c.loop-c.ins c.loop-c.lists (omega (arith, c.if-counts-own-ge-LEAST.false)) led;
       within = omega (arith, ol);
       marks = i.marks;
@@ -59,4 +59,4 @@ loop-c-preserved c =
 pub returns : goal.returns
 returns c =
     let nodes = c.args.graph.now.nodes in
-    subst (λ (k : ℕ). AreLed c.args.graph.now.edges (length nodes) c.args.found.now.labels.items c.args.indexes.now c.args.counts.now 20 c.args.count k c.loop-c.ins c.loop-c.lists) (let e : c.loop-c.c ≡ 0 = omega arith in e) c.loop-c.invariant.led
+    subst (λ (k : ℕ). AreLed c.args.graph.now.edges (length nodes) c.args.found.now.labels.items c.args.indexes.now c.args.counts.now cap c.args.count k c.loop-c.ins c.loop-c.lists) (let e : c.loop-c.c ≡ 0 = omega arith in e) c.loop-c.invariant.led

@@ -1,4 +1,5 @@
 -- The targets of one member more.
+use Rattle.component_pass.specs.Counting.{cap}
 use Rattle.std.proofs.Common.{◌↔◌, ◌⊎◌, ◌++◌, ◌∷◌, [], ℕ, List, length, take, get_or, sym, ap, subst, arith, inl, inr}
 use Rattle.std.proofs.lemmas.List.{take_more, take_all, get_or_default}
 use Rattle.std.proofs.lemmas.List.Elements.{Contains-push_cases, Contains-append_left, Contains-push, Contains-get_or}
@@ -15,7 +16,7 @@ one_more edges xs x v = (
 
 pub loop-x-init : goal.loop-x-init
 loop-x-init c = record {
-  pushes = pushes-none c.args.found.now.labels.items c.args.indexes.now c.args.counts.now 20 c.args.count c.args.own c.args.number (λ v. (u : ℕ) × Contains [] u × Contains (row_at c.args.graph.now.edges u) v) c.args.ins.now c.args.lists.now c.requires.sets (λ v t h. omega (arith, t.1.1));
+  pushes = pushes-none c.args.found.now.labels.items c.args.indexes.now c.args.counts.now cap c.args.count c.args.own c.args.number (λ v. (u : ℕ) × Contains [] u × Contains (row_at c.args.graph.now.edges u) v) c.args.ins.now c.args.lists.now c.requires.sets (λ v t h. omega (arith, t.1.1));
   marks = c.requires.marks;
   clear = c.requires.clear;
 }
@@ -37,8 +38,8 @@ loop-x-preserved c =
     let p = rw (c.deref.ensures.value, c.row.ensures.row, c.row-members.ensures) at c.in_ok-lead_row.ensures.pushes in
     let T : List ℕ → ℕ → Type 0 = λ xs v. (u : ℕ) × Contains xs u × Contains (row_at edges u) v in
     rw (take_more members at 0 (omega (arith, c.loop-x-test.true, ap length c.row-members.ensures))) record {
-      pushes = pushes-as labels indexes counts 20 count own number (λ v. T front v ⊎ Contains (row_at edges x) v) (T (front ++ x ∷ [])) c.args.ins.now c.lead_row.new.ins c.args.lists.now c.lead_row.new.lists (one_more edges front x)
-          (pushes-then labels indexes counts 20 count own number (T front) (Contains (row_at edges x)) c.args.ins.now c.loop-x.ins c.lead_row.new.ins c.args.lists.now c.loop-x.lists c.lead_row.new.lists c.requires.number i.pushes p);
+      pushes = pushes-as labels indexes counts cap count own number (λ v. T front v ⊎ Contains (row_at edges x) v) (T (front ++ x ∷ [])) c.args.ins.now c.lead_row.new.ins c.args.lists.now c.lead_row.new.lists (one_more edges front x)
+          (pushes-then labels indexes counts cap count own number (T front) (Contains (row_at edges x)) c.args.ins.now c.loop-x.ins c.lead_row.new.ins c.args.lists.now c.loop-x.lists c.lead_row.new.lists c.requires.number i.pushes p);
       marks = c.in_ok-lead_row.ensures.marks;
       clear = c.in_ok-lead_row.ensures.clear;
     }

@@ -1,4 +1,5 @@
 -- One set's size more.
+use Rattle.component_pass.specs.Counting.{cap}
 use Rattle.std.proofs.Common.{◌≡◌, ◌<◌, ◌≤◌, ◌+◌, ℕ, List, length, min, get_or, set, sym, ◌∙◌, ap, arith, inl, inr}
 use Rattle.std.proofs.lemmas.List.{length-set, get_or-set_same, get_or-set_other}
 use Rattle.std.proofs.lemmas.Bool.{cases_eq}
@@ -23,7 +24,7 @@ loop-l-preserved c =
     let i = c.loop-l.invariant in
     let l : ℕ = c.loop-l.l in
     let counts = c.args.counts.now in
-    let size : ℕ → ℕ = λ k. min (length (set_at c.args.count c.args.lists.now (get_or c.args.ins.now k 0))) 20 in
+    let size : ℕ → ℕ = λ k. min (length (set_at c.args.count c.args.lists.now (get_or c.args.ins.now k 0))) cap in
     elim c.if-counts-l-ge-LEAST.branch [
       | then-counts-l-ge-LEAST w ↦
           let n : w.min.result ≡ size l = omega (arith, w.size_of.ensures, ap (λ (s : ℕ). length (set_at c.args.count c.args.lists.now s)) (i.rest l (omega arith))) in

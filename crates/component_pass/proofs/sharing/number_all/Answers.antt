@@ -1,5 +1,6 @@
 -- One class more: with an index it has the set of that alone, and its references are kept; without one it hands on the
 -- union, or the empty set where it is thin.
+use Rattle.component_pass.specs.Counting.{cap}
 use Rattle.std.proofs.Common.{◌≡◌, ◌↔◌, ℕ, ◌+◌, ◌<◌, List, [], ◌∷◌, true, false, length, get_or, refl, sym, subst, ◌∙◌, ap, arith}
 use Rattle.std.proofs.lemmas.List.Elements.{All-replicate, Contains-get_or}
 use Rattle.std.specs.List.{All, Contains}
@@ -94,7 +95,7 @@ loop-c-preserved c =
           ((λ t. l.0 ((e j).0 t)), (λ t. (e j).1 (l.1 t))) in
           rw (w.sets-is, w.refs-is, w.lists-is, w.work-is, w.marks-is) record {
             shared = shared-more nodes edges labels indexes rows count own o thin numbers found at sets w.put.new.sets lists more i.shared valid f puts
-                (own-counted nodes edges labels indexes rows count own o 20 more part cl below c.requires.count) (λ x lt is t. closed x is (th.bare x lt t));
+                (own-counted nodes edges labels indexes rows count own o cap more part cl below c.requires.count) (λ x lt is t. closed x is (th.bare x lt t));
             referred = referred-more nodes edges labels indexes rows count own o c.loop-c.refs lists more found below
                 (λ x lt cx at. sym (c.requires.numbered.apart own (get_or labels x 0) (omega arith) (o.labelled x lt) w.if-indexes-c.true (sym at)))
                 f.longer f.kept (omega (arith, f.known, f.valid.all)) exact i.referred;
