@@ -17,8 +17,8 @@ use joint_model::{Alive, Draw, HNum, Op, Thread};
 use peer_side::PeerSide;
 
 /// Restores a handle that was weakened in the mirrored cycle: it leaves the table. Exactly where it is cleared that is all, which is `Cleared`; else a held
-/// strong handle on its peer comes in its place, under the next number, and the peer is brought back: while a marking is open it is marked, with all that
-/// it reaches. One entry is drawn and put last. It takes no memory, and changes no peer.
+/// strong handle on its peer comes in its place, under the next number, and the peer is brought back: while a marking is open it is shaded. One entry is
+/// drawn and put last. It takes no memory, and changes no peer.
 pub fn restore_one<D: Draw>(side: &mut PeerSide, draw: &mut D, index: u32, h: HNum) -> Back
     requires restores { MayRestore side.old.state h.0 }
     requires may { MayDraw peer_rules (record { floor = D.floor; left = D.left; may = D.may; drew = D.drew }) draw.old (seen side.old) Thread.C (Op.Restore h) }

@@ -13,8 +13,9 @@ ghost use Rattle.peer_side.specs.Sides.{seen};
 use joint_model::{Cycle, Draw, Op, Thread};
 use peer_side::PeerSide;
 
-/// Ends the mirrored cycle, whose handles are all restored: no reference stands from then on. One entry is drawn and put last, and its number is
-/// answered. Each unfreed peer that a reference leads to has to be restored strong. It takes no memory, and changes no peer.
+/// Ends the mirrored cycle, whose handles are all restored: no reference stands from then on, and no temporary. One entry is drawn and put last, and
+/// its number is answered. Each unfreed peer that a reference leads to, directly or over temporaries, has to be under the strong handle that its restore
+/// gave. It takes no memory, and changes no peer.
 ///
 /// No reference led from a peer that is restored strong to a freed one: so none led to one whose restore answered `Cleared`.
 pub fn clear<D: Draw>(side: &mut PeerSide, draw: &mut D, index: u32, cycle: Cycle) -> u64

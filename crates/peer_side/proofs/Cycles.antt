@@ -1,5 +1,5 @@
 -- The calls for a mirrored cycle: what their entries tell comes last, the replay's answer is what the parts show, and the side stays one.
-use Rattle.std.proofs.Common.{◌≡◌, ℕ, ◌+◌, ◌*◌, ◌≤◌, ◌<◌, ◌-◌, ◌⊎◌, inl, inr, get_or, true, false, List, [], ◌∷◌, ◌++◌, length, Option, Some, None, refl, sym, ap, subst, ◌∙◌, arith}
+use Rattle.std.proofs.Common.{◌≡◌, ℕ, ◌+◌, ◌*◌, ◌≤◌, ◌<◌, ◌-◌, ◌⊎◌, inl, inr, get_or, true, List, [], ◌∷◌, ◌++◌, length, Option, Some, None, refl, sym, ap, subst, ◌∙◌, arith}
 use Rattle.std.specs.Prelude.{All, Contains}
 use Rattle.std.proofs.lemmas.List.{append-nil, drop_all, length_push}
 use Rattle.std.specs.Prelude.{flat_map}
@@ -14,29 +14,28 @@ use Rattle.joint_model.specs.Components.{End, node, temporary}
 use Rattle.joint_model.specs.Heaps.{Answered, answer}
 use Rattle.joint_model.specs.Listed.{Stock}
 use Rattle.joint_model.specs.Peers.{Issued}
-use Rattle.joint_model.specs.PeerReplay.{LeadsOver, PeerReplay, Marking, Mirror, Refers, brought_to, mirrored, peer_answer}
+use Rattle.joint_model.specs.PeerReplay.{LeadsOver, PeerReplay, Marking, Mirror, Refers, brought_to, peer_answer}
 use Rattle.joint_model.specs.Sides.{GoesOn, peer_rules}
 use Rattle.joint_model.specs.Told.{references_of}
 use Rattle.joint_model.proofs.Deciding.{none_some}
 use Rattle.joint_model.proofs.Members.{Contains-cons_cases, Contains-nil}
 use Rattle.joint_laws.proofs.PeerEntries.{MirrorsSafely}
-use Rattle.marking_laws.specs.Marks.{AreMarksExact}
 use Rattle.peer_side.specs.declared.mirroring.OpenMirror.{OpenMirror}
 use Rattle.peer_side.specs.declared.side.OpenMarking.{OpenMarking}
 use Rattle.peer_side.specs.Cycles.{mirrors}
-use Rattle.peer_side.specs.Marks.{IsExact}
+use Rattle.peer_side.specs.Marks.{IsGoing}
 use Rattle.peer_side.specs.Mirroring.{with_stood}
 use Rattle.peer_side.specs.MirrorLaws.{HasFurther, fresh_mirror, state_of}
 use Rattle.peer_side.specs.Mirrors.{Mirrors, AreEndsStrong, HasEnd, MayStand, IsDue, given_at, given_since, mirror_as, mirror_in, mirrors_in, mirrored_at, weakened_at, restored_at, owed_by, owed_next, told_since}
 use Rattle.peer_side.specs.Rows.{Rows}
-use Rattle.peer_side.specs.Sides.{IsSide, IsFrom, IsKnown, brought_at, brought_since, marking_as, marking_in, owed, state_with}
+use Rattle.peer_side.specs.Sides.{AreGoing, IsSide, IsFrom, IsKnown, brought_at, brought_since, marking_as, marking_in, owed, state_with}
 use Rattle.peer_side.proofs.Dues.{IsDue-none, mirror-next, told-push}
-use Rattle.marking_laws.proofs.MarkEvents.{marks-stood}
+use Rattle.row_marking.specs.Traces.{IsGreyList}
 use Rattle.row_heap.proofs.Sound.{refers-from}
 use Rattle.row_heap.specs.Rows.{MayRefer, MayReferBoth}
 use Rattle.std.proofs.lemmas.List.Elements.{Contains-append_cases, Contains-get_or}
 use Rattle.peer_side.proofs.Ends.{IsSide-told}
-use Rattle.peer_side.proofs.Mirrored.{stood-answer, stood-refs}
+use Rattle.peer_side.proofs.Mirrored.{stood-answer, stood-going, stood-refs}
 use Rattle.peer_side.proofs.Quiet.{known-push, not-grown}
 use Rattle.peer_side.proofs.Sides.{from-more, marking-push}
 use Rattle.peer_side.proofs.Steps.{goes-told}
@@ -106,7 +105,6 @@ IsSide-pushed rows o n m mm stock from to side some a b is = rw is (record {
   few = side.few;
   issued = side.issued;
   from = side.from;
-  exact = side.exact;
   mirrored = side.mirrored;
   known = side.known;
   bare = side.bare;
@@ -170,15 +168,16 @@ module _ (old w : Rows) (o : Option OpenMarking) (n : ℕ) (m : Mirrors) (stock 
       goes-told (state_with stock.entries old o n m) (state_with after w o n (stood_mirrors m cycle snap (length after) handles)) (mirrors index cycle (length m.waiting) snap) (references_of m.waiting)
       (record { event = tt; side = refl }) (record { none_stands = closed; once = once; snap = snap; cited = refl }) told
 
-  -- the marks stay exact
-  stood-marks : (mk : Marking) → marking_in w.issued after o ≡ Some mk → IsExact (state_with after w o n (stood_mirrors m cycle snap (length after) handles)) mk w.rows
-  stood-marks mk q =
-      let s = state_with stock.entries old o n m in
-      let t = state_with after w o n (stood_mirrors m cycle snap (length after) handles) in
-      let was = side.exact mk (sym marking-stays ∙ q) in
-      let there : AreMarksExact (mirrored s cycle.0 (Some snap) m.waiting) mk false old.rows.marks = marks-stood s mk old.rows.follows old.rows.marks cycle.0 snap m.waiting no-refs was in
-      let moved : AreMarksExact t mk false old.rows.marks = subst (λ z. AreMarksExact z mk false old.rows.marks) (ap (λ (a : Answered PeerReplay). a.state) told) there in
-      subst (λ (v : Rows). AreMarksExact t mk v.rows.follows v.rows.marks) (sym put) moved
+  -- an open marking goes on, and doesn't follow them
+  pub stood-marking : (head : ℕ) → AreGoing old o head n m stock.entries → AreGoing w o head n (stood_mirrors m cycle snap (length after) handles) after
+  stood-marking head going = record { list = subst (λ (v : Rows). IsGreyList v.rows.marks v.rows.links head) (sym put) going.list; going = goes-on }
+    where
+      goes-on : (mk : Marking) → marking_in w.issued after o ≡ Some mk → IsGoing (state_with after w o n (stood_mirrors m cycle snap (length after) handles)) mk w.rows head
+      goes-on mk q =
+          let es = stock.entries in
+          let was = going.going mk (sym marking-stays ∙ q) in
+          let there = stood-going old w (mirror_in es m.mirror) (mirrors_in es) mk (marking_in old.issued es o) n head cycle.0 snap m.waiting no-refs put was in
+          subst (λ z. IsGoing z mk w.rows head) (ap (λ (a : Answered PeerReplay). a.state) told) there
 
   -- what is under a strong handle is live, and spared
   stood-safe : AreEndsStrong (state_with stock.entries old o n m) m.waiting → MirrorsSafely (state_with stock.entries old o n m) (op.Mirror cycle) (references_of m.waiting)
@@ -206,7 +205,6 @@ IsSide-stood old w o n m stock later k floor index cycle snap handles side added
     room
     (omega (arith, side.limit, spare, ap length added, grows)) (omega arith)
     (from-more o (length stock.entries) (length later.entries) (omega (arith, ap length added, grows)) side.from)
-    (stood-marks old w o n m stock later.entries k index cycle snap handles side added put closed)
     (record { from = omega arith; due = subst (λ z. IsDue z 0) (sym (fresh old w o n m stock later.entries k index cycle snap handles side added put closed)) (IsDue-none cycle.0 snap) })
     (subst (λ is. All (IsKnown is) later.entries) (sym (ap (λ (z : Rows). z.issued) put)) (known-push old.issued stock.entries later.entries e added (λ h c. absurd (Contains-nil h c)) side.known))
     (omega (arith, ap (λ (z : Rows). length z.issued) put))

@@ -1,7 +1,8 @@
 -- The end of a mirrored cycle: the references go. What an unfreed peer's reference led to is under a strong handle, so an open marking spares it
--- still.
-use Rattle.std.proofs.Common.{◌≡◌, ℕ, ◌+◌, ◌≤◌, List, [], ◌∷◌, ◌++◌, length, Option, Some, None, refl, sym, ap, subst, ◌∙◌, arith}
+-- still, and it is shaded.
+use Rattle.std.proofs.Common.{◌≡◌, ℕ, ◌+◌, ◌≤◌, true, List, [], ◌∷◌, ◌++◌, length, Option, Some, None, refl, sym, ap, subst, ◌∙◌, arith}
 use Rattle.std.specs.Prelude.{All}
+use Rattle.std.specs.Option.{is_some}
 use Rattle.std.proofs.lemmas.List.{append-nil, length_push}
 use Rattle.std.proofs.lemmas.Option.{same_Some}
 use Rattle.joint_model.specs.declared.names.Cycle.{Cycle}
@@ -10,7 +11,7 @@ use Rattle.joint_model.specs.declared.events.Entry.{Entry}
 use Rattle.joint_model.specs.declared.events.Op.TheVariants as op
 use Rattle.joint_model.specs.declared.events.Reply.TheVariants as says
 use Rattle.joint_model.specs.Draws.{AllBelow, numbered}
-use Rattle.joint_model.specs.Heaps.{Answered, IsLive, answer, numbered_at}
+use Rattle.joint_model.specs.Heaps.{IsLive, answer, numbered_at}
 use Rattle.joint_model.specs.Listed.{Stock}
 use Rattle.joint_model.specs.Peers.{Issued}
 use Rattle.joint_model.specs.PeerReplay.{PeerReplay, HasReference, Marking, MayClear, Mirror, Refers, peer_answer}
@@ -19,18 +20,21 @@ use Rattle.joint_model.specs.Told.{nothing}
 use Rattle.joint_model.proofs.Deciding.{none_some}
 use Rattle.joint_model.proofs.Members.{Contains-nil}
 use Rattle.joint_laws.specs.PeerInvariants.{IsPeerKept, IsSpared}
-use Rattle.marking_laws.specs.Marks.{AreMarksExact}
-use Rattle.marking_laws.proofs.MarkEvents.{marks-cleared}
+use Rattle.marking_laws.specs.Slices.{AreMarksGoing}
+use Rattle.marking_laws.proofs.SliceEvents.{going-cleared, going-same}
+use Rattle.row_heap.specs.Marks.{IsReferred}
+use Rattle.row_marking.specs.Traces.{Greyed}
 use Rattle.peer_side.specs.declared.mirroring.OpenMirror.{OpenMirror}
 use Rattle.peer_side.specs.declared.side.OpenMarking.{OpenMarking}
 use Rattle.peer_side.specs.Cycles.{clears}
-use Rattle.peer_side.specs.Marks.{IsExact}
-use Rattle.peer_side.specs.Mirroring.{strong_row}
+use Rattle.peer_side.specs.Marks.{IsGoing}
+use Rattle.peer_side.specs.Mirroring.{strong_row, with_cleared}
 use Rattle.peer_side.specs.MirrorLaws.{state_of}
 use Rattle.peer_side.specs.Mirrors.{Mirrors, AreTargetsRestored, AreWithin, HasRestoredHandle, mirror_as, mirror_in, mirrors_in, owed_by, owed_next}
 use Rattle.peer_side.specs.Rows.{Rows}
-use Rattle.peer_side.specs.Sides.{IsSide, IsKnown, marking_in, owed, state_with}
+use Rattle.peer_side.specs.Sides.{AreGoing, IsSide, IsKnown, marking_in, owed, state_with}
 use Rattle.peer_side.proofs.Cycles.{cycles-next, marking-same, state-eq}
+use Rattle.peer_side.proofs.Going.{greyed-list, open-shades}
 use Rattle.peer_side.proofs.Ends.{IsSide-told}
 use Rattle.peer_side.proofs.Mirrored.{gone-answer}
 use Rattle.peer_side.proofs.Quiet.{known-push}
@@ -67,13 +71,18 @@ pub some-mirror : (es : List Entry) (o : Option OpenMirror) (z : Mirror) → mir
 some-mirror es None z e = absurd (none_some z e)
 some-mirror es (Some x) z e = (x, refl)
 
+-- a marking is open
+some-open : (issued : List Issued) (es : List Entry) (o : Option OpenMarking) (mk : Marking) → marking_in issued es o ≡ Some mk → is_some o ≡ true
+some-open issued es None mk e = absurd (none_some mk e)
+some-open issued es (Some o) mk e = refl
+
 -- no cycle is mirrored
 abbrev pub over : Mirrors → Mirrors
 over m = record m { mirror = None }
 
 -- the references go
 module _ (old w : Rows) (o : Option OpenMarking) (n : ℕ) (m : Mirrors) (x : OpenMirror) (stock : Stock) (after : List Entry) (k index : ℕ) (cycle : Cycle) (side : IsSide old o n m stock)
-    (added : after ≡ stock.entries ++ numbered k (clears index cycle) ∷ []) (put : w ≡ record old { rows = record old.rows { refs = [] } }) (here : m.mirror ≡ Some x) where
+    (added : after ≡ stock.entries ++ numbered k (clears index cycle) ∷ []) (put : w ≡ with_cleared old w.rows) (here : m.mirror ≡ Some x) where
   marking-stays : marking_in w.issued after o ≡ marking_in old.issued stock.entries o
   marking-stays = ap (λ is. marking_in is after o) (ap (λ (z : Rows). z.issued) put) ∙ marking-same stock.entries after (numbered k (clears index cycle)) added old.issued o side.known side.from refl
 
@@ -88,18 +97,24 @@ module _ (old w : Rows) (o : Option OpenMarking) (n : ℕ) (m : Mirrors) (x : Op
   pub clear-goes : MayClear (state_with stock.entries old o n m) cycle.0 → GoesOn peer_rules (state_with stock.entries old o n m) (clears index cycle) nothing (state_with after w o n (over m))
   clear-goes may = goes-told (state_with stock.entries old o n m) (state_with after w o n (over m)) (clears index cycle) nothing (record { event = tt; side = refl }) may told
 
-  clear-marks : AreTargetsRestored (state_with stock.entries old o n m) → (mk : Marking) → marking_in w.issued after o ≡ Some mk → IsExact (state_with after w o n (over m)) mk w.rows
-  clear-marks targets mk q =
-      let s = state_with stock.entries old o n m in
-      let t = state_with after w o n (over m) in
-      let open' = sym marking-stays ∙ q in
-      let spared : (a b : ℕ) → HasReference s.peers.heap s.refs a b → IsSpared mk b = λ a b r. (let z = mirror_as stock.entries x in restored-spared s z b mk side.kept open' (targets z (ap (mirror_in stock.entries) here) a b r)) in
-      let gone = marks-cleared s mk old.rows.follows old.rows.marks spared (side.exact mk open') in
-      let moved : AreMarksExact t mk old.rows.follows old.rows.marks = subst (λ z. AreMarksExact z mk old.rows.follows old.rows.marks) (ap (λ (a : Answered PeerReplay). a.state) told) gone in
-      subst (λ (v : Rows). AreMarksExact t mk v.rows.follows v.rows.marks) (sym put) moved
+  pub clear-going : (head next : ℕ) → Greyed (λ k. (is_some o ≡ true) × IsReferred old.rows k) old.rows.marks old.rows.links head w.rows.marks w.rows.links next → AreTargetsRestored (state_with stock.entries old o n m) → AreGoing old o head n m stock.entries → AreGoing w o next n (over m) after
+  clear-going head next shaded targets going = record { list = greyed-list (λ k. (is_some o ≡ true) × IsReferred old.rows k) old.rows.marks old.rows.links head w.rows.marks w.rows.links next shaded going.list; going = goes-on }
+    where
+      goes-on : (mk : Marking) → marking_in w.issued after o ≡ Some mk → IsGoing (state_with after w o n (over m)) mk w.rows next
+      goes-on mk q =
+          let s = state_with stock.entries old o n m in
+          let t = state_with after w o n (over m) in
+          let open' = sym marking-stays ∙ q in
+          let g = going.going mk open' in
+          let y = open-shades (is_some o) (IsReferred old.rows) old.rows.marks old.rows.links head w.rows.marks w.rows.links next (some-open old.issued stock.entries o mk open') shaded g.greys g.chained in
+          let spared : (a b : ℕ) → HasReference s.peers.heap s.refs a b → IsSpared mk b = λ a b r. (let z = mirror_as stock.entries x in restored-spared s z b mk side.kept open' (targets z (ap (mirror_in stock.entries) here) a b r)) in
+          let gone = going-cleared s mk old.rows.follows old.rows.marks w.rows.marks g.greys y.waits spared g.right y.shades in
+          let moved : AreMarksGoing t mk old.rows.follows w.rows.marks y.waits =
+          going-same (record s { refs = []; mirror = None }) t mk old.rows.follows w.rows.marks y.waits (ap (λ (z : Rows). z.rows.heap.fields) put) (ap (λ (z : Rows). z.rows.heap.freed) put) (ap (λ (z : Rows). z.rows.refs) put) gone in
+          record { greys = y.waits; chained = y.chained; right = subst (λ f. AreMarksGoing t mk f w.rows.marks y.waits) (sym (ap (λ (z : Rows). z.rows.follows) put)) moved }
 
 pub IsSide-cleared : (old w : Rows) (o : Option OpenMarking) (n : ℕ) (m : Mirrors) (x : OpenMirror) (stock later : Stock) (k floor index : ℕ) (cycle : Cycle) → IsSide old o n m stock → later.entries ≡ stock.entries ++ numbered k (clears index cycle) ∷ [] → AllBelow stock.entries floor → floor ≤ k
-    → w ≡ record old { rows = record old.rows { refs = [] } } → m.mirror ≡ Some x → MayClear (state_with stock.entries old o n m) cycle.0 → AreTargetsRestored (state_with stock.entries old o n m) → later.spare + 1 ≡ stock.spare → IsSide w o n (over m) later
+    → w ≡ with_cleared old w.rows → m.mirror ≡ Some x → MayClear (state_with stock.entries old o n m) cycle.0 → AreTargetsRestored (state_with stock.entries old o n m) → later.spare + 1 ≡ stock.spare → IsSide w o n (over m) later
 IsSide-cleared old w o n m x stock later k floor index cycle side added below above put here may targets spare =
     let made = clears index cycle in
     let e : Entry = numbered k made in
@@ -112,7 +127,6 @@ IsSide-cleared old w o n m x stock later k floor index cycle side added below ab
     room
     (omega (arith, side.limit, spare, ap length added, grows)) (omega arith)
     (from-more o (length stock.entries) (length later.entries) (omega (arith, ap length added, grows)) side.from)
-    (clear-marks old w o n m x stock later.entries k index cycle side added put here targets)
     tt
     (subst (λ is. All (IsKnown is) later.entries) (sym (ap (λ (z : Rows). z.issued) put)) (known-push old.issued stock.entries later.entries e added (λ g c. absurd (Contains-nil g c)) side.known))
     (omega (arith, ap (λ (z : Rows). length z.issued) put))

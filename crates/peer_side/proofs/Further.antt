@@ -69,7 +69,7 @@ pub further-marked : (v : Rows) (old mid new : HeapRows) (h : Heap) (sorts : Lis
 further-marked v old mid new h sorts names issued table x n view number len made named =
     subst (λ (z : Rows). IsMarkedToo z.rows new x) view
     (marked-too old new x number len (ap (λ (z : HeapRows). z.refs) named ∙ ap (λ (z : HeapRows). z.refs) made) (ap (λ (z : HeapRows). z.follows) named ∙ ap (λ (z : HeapRows). z.follows) made) (ap (λ (z : HeapRows). z.room) named ∙ ap (λ (z : HeapRows). z.room) made) (ap (λ (z : HeapRows). z.temps) named ∙ ap (λ (z : HeapRows). z.temps) made)
-    (ap (λ (z : HeapRows). z.marks) named ∙ ap (λ (z : HeapRows). z.marks) made))
+    (ap (λ (z : HeapRows). z.marks) named ∙ ap (λ (z : HeapRows). z.marks) made) (ap (λ (z : HeapRows). z.links) named ∙ ap (λ (z : HeapRows). z.links) made))
 
 -- the replay makes the peer, which the variable names
 pub peer-answers : (v : Rows) (old mid new : HeapRows) (sorts after : List Sort) (names : List (Option ℕ)) (issued : List Issue) (table : Table) (p : PNum) (at n : ℕ) → rows_with old sorts names issued table ≡ v → is_full old.heap.fields ≡ false → p.0 ≡ next_number old.heap

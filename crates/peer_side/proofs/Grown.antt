@@ -119,13 +119,14 @@ room-new old (says.P p) new m = (m.room, m.temps)
 room-new old (says.Made p h) new m = (m.room, m.temps)
 room-new old _ new m = (ap (λ (v : HeapRows). v.room) m, ap (λ (v : HeapRows). v.temps) m)
 
-room-brought : (b : Bool) (old : HeapRows) (r : Reply) (new : HeapRows) → MarksBrought b old r new → (new.room ≡ old.room) × (new.temps ≡ old.temps)
-room-brought b old (says.P p) new m = (m.room, m.temps)
-room-brought b old _ new m = (ap (λ (v : HeapRows). v.room) m, ap (λ (v : HeapRows). v.temps) m)
+room-brought : (b : Bool) (old : HeapRows) (before : ℕ) (r : Reply) (new : HeapRows) (after : ℕ) → MarksBrought b old before r new after → (new.room ≡ old.room) × (new.temps ≡ old.temps)
+room-brought b old before (says.P p) new after m = (m.room, m.temps)
+room-brought b old before _ new after m = (ap (λ (v : HeapRows). v.room) m.0, ap (λ (v : HeapRows). v.temps) m.0)
 
-pub room-after : (b : Bool) (old : HeapRows) (o : Op) (r : Reply) (new : HeapRows) → MarksAfter b old o r new → (new.room ≡ old.room) × (new.temps ≡ old.temps)
-room-after b old (op.Line (act.NewPeer v n)) r new m = room-new old r new m
-room-after b old (op.Make sort n) r new m = room-new old r new m
-room-after b old (op.Line (act.WRead v g)) r new m = room-brought b old r new m
-room-after b old (op.Land h x) r new m = room-brought b old r new m
-room-after b old _ r new m = (ap (λ (v : HeapRows). v.room) m, ap (λ (v : HeapRows). v.temps) m)
+pub room-after : (b : Bool) (t : Thread) (old : HeapRows) (before : ℕ) (o : Op) (r : Reply) (new : HeapRows) (after : ℕ) → MarksAfter b t old before o r new after → (new.room ≡ old.room) × (new.temps ≡ old.temps)
+room-after b t old before (op.Line (act.NewPeer v n)) r new after m = room-new old r new m.0
+room-after b t old before (op.Make sort n) r new after m = room-new old r new m.0
+room-after b t old before (op.Line (act.Set v i w)) r new after m = (m.room, m.temps)
+room-after b t old before (op.Line (act.WRead v g)) r new after m = room-brought b old before r new after m
+room-after b t old before (op.Land h x) r new after m = room-brought b old before r new after m
+room-after b t old before _ r new after m = (ap (λ (v : HeapRows). v.room) m.0, ap (λ (v : HeapRows). v.temps) m.0)

@@ -11,7 +11,6 @@ use Rattle.std.proofs.lemmas.Option.{same_Some, slice_get-map}
 use Rattle.joint_model.specs.declared.names.HNum.{HNum}
 use Rattle.joint_model.specs.declared.names.PNum.{PNum}
 use Rattle.joint_model.specs.declared.names.Sort.{Sort}
-use Rattle.std.proofs.lemmas.Bool.Decides.{nat_tests}
 use Rattle.joint_model.proofs.Deciding.{none_some}
 use Rattle.joint_model.proofs.Numbered.{numbered-push_cases, numbered-push_old, numbered-push_new, numbered-past, numbered-within}
 use Rattle.joint_model.specs.Heaps.{numbered_at, numbered_set}
@@ -22,7 +21,7 @@ use Rattle.global_handles.specs.declared.Hold.TheVariants.{Held}
 use Rattle.global_handles.specs.declared.Strength.TheVariants.{Strong}
 use Rattle.global_handles.specs.Rows.{Table, row_in, target_in, without, fresh_row, renewed, renewed_rows, RisesBetween, IsRising}
 use Rattle.global_handles.proofs.Lookups.{row_in-push_other, row_in-push_new, row_in-above, row_in-without_same, row_in-without_other}
-use Rattle.global_handles.proofs.Rows.{RisesBetween-without, row_in-below, without-below}
+use Rattle.global_handles.proofs.Rows.{RisesBetween-without, row_in-below}
 use Rattle.row_heap.specs.Rows.{HeapRows}
 use Rattle.peer_side.specs.declared.issues.Issue.{Issue}
 use Rattle.peer_side.specs.Rows.{table_to, row_as, rows_with, with_rows, issued_as, issued_to, number_of, AreRowsIssued}
@@ -109,21 +108,7 @@ shown-is rows (suc i) (suc n) row r at found = elim (numbered-push_cases (table_
       same_Some (row_as r) row (ap (option_map row_as) (sym (ap (λ k. row_in rows record { 0 = k }) (sym same) ∙ found)) ∙ w.1)
 ]
 
--- one row goes with a number that has one
-pub length-without : (low high : ℕ) (rows : List HandleRow) (h : HNum) (r : HandleRow) → RisesBetween low high rows → row_in rows h ≡ Some r → length (without h rows) + 1 ≡ length rows
-length-without low high [] h r rises at = absurd (none_some r at)
-length-without low high (x ∷ rs) h r rises at = by (eqb h.0 x.number.0) refl (length-without x.number.0 high rs h r rises.1)
-  where
-    by : (b : Bool) → eqb h.0 x.number.0 ≡ b → (row_in rs h ≡ Some r → length (without h rs) + 1 ≡ length rs) → length (without h (x ∷ rs)) + 1 ≡ length (x ∷ rs)
-    by true e rest =
-        let same : h.0 ≡ x.number.0 = grind (arith, nat_tests) in
-        let all : without h rs ≡ rs = without-below x.number.0 high rs h (omega arith) rises.1 in
-        rw (e, all) (omega arith)
-    by false e rest =
-        let left : row_in rs h ≡ Some r = rw e at at in
-        rw e (omega (arith, rest left))
-
--- and none is added
+-- no row is added where one may go
 pub length-without_le : (rows : List HandleRow) (h : HNum) → length (without h rows) ≤ length rows
 length-without_le [] h = omega arith
 length-without_le (x ∷ rs) h = by (eqb h.0 x.number.0) refl (length-without_le rs h)

@@ -2,9 +2,13 @@ pub mod Handles
 pub mod Lengths
 pub mod Events
 pub mod Steps
+pub mod Going
 pub mod Marks
 pub mod Quiet
 pub mod Sides
+pub mod Counted
+pub mod Closures
+pub mod Slicing
 pub mod Roots
 pub mod Clearing
 pub mod Whole

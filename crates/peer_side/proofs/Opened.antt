@@ -1,17 +1,15 @@
--- A begin and an end of a marking, as the replay has them. The begin keeps the peers and handles of its moment; a marking from their roots over
--- their edges is exact. At the end the marks are exact still, so the peers without one are those that the definition's sweep frees.
-use Rattle.std.proofs.Common.{◌≡◌, ℕ, ◌+◌, ◌↔◌, true, [], length, drop, Option, Some, None, refl, sym, ap, subst, ◌∙◌}
+-- A begin and an end of a marking, as the replay has them. The begin keeps the peers and handles of its moment, and its roots are grey. At the end
+-- none is grey, so the peers without a mark are those that the definition's sweep frees.
+use Rattle.std.proofs.Common.{◌≡◌, ℕ, ◌+◌, true, List, [], length, drop, Option, Some, None, refl, sym, ap, subst, ◌∙◌}
 use Rattle.joint_model.specs.declared.names.Thread.{Thread}
-use Rattle.joint_model.specs.Heaps.{with_freed}
+use Rattle.joint_model.specs.Heaps.{IsLive, with_freed}
 use Rattle.joint_model.specs.PeerReplay.{PeerReplay, Marking, IsSweep, begun, cleared_rows, strong_peers, swept_of}
-use Rattle.joint_model.specs.Walks.{Reached}
-use Rattle.reachability.specs.Marks.{HasMark}
-use Rattle.row_heap.specs.Marks.{AreWhite, EdgeOf}
+use Rattle.row_heap.specs.Marks.{AreWhite}
 use Rattle.row_heap.specs.Rows.{HeapRows}
-use Rattle.marking_laws.specs.Marks.{AreMarksExact, IsMarkedSide}
-use Rattle.marking_laws.proofs.MarkEvents.{marks-begun}
-use Rattle.marking_laws.proofs.MarkSweeps.{marks-sweep}
-use Rattle.peer_side.specs.Marking.{AreMarksKept, IsRoot, with_marking}
+use Rattle.marking_laws.specs.Slices.{AreMarksGoing}
+use Rattle.marking_laws.proofs.SliceEvents.{going-begun, going-sweep}
+use Rattle.peer_side.specs.Marking.{AreRootsGrey, IsRoot, with_marking}
+use Rattle.peer_side.specs.Marks.{IsGoing}
 use Rattle.peer_side.specs.Rows.{Rows}
 
 -- the marking of a begin at which the peers and handles were these
@@ -27,14 +25,13 @@ opened-state s v w kept n by same rest =
     let here : (begun (with_marking s v None n) None by).state ≡ with_marking s (with_begun v w.rows) (Some (begun_with (n + 1) by v)) (n + 1) = refl in
     here ∙ (ap (λ z. with_marking s z (Some (begun_with (n + 1) by v)) (n + 1)) (sym rest) ∙ ap (λ z. with_marking s w (Some (begun_with (n + 1) by z)) (n + 1)) (sym same))
 
-pub opened-marks : (s : PeerReplay) (v w : Rows) (n : ℕ) (by : Thread) → w ≡ with_begun v w.rows → ((p : ℕ) → HasMark w.rows.marks p ↔ Reached (IsRoot v.rows.heap (strong_peers v.issued v.table)) (EdgeOf w.rows) p)
-    → AreMarksKept (begun (with_marking s v None n) None by).state w.rows.follows w.rows.marks
-opened-marks s v w n by rest marks = λ mk e.
-    let rows : w.rows ≡ record v.rows { follows = true; marks = w.rows.marks; links = w.rows.links } = ap (λ (z : Rows). z.rows) rest in
-    let follows : w.rows.follows ≡ true = ap (λ (z : HeapRows). z.follows) rows in
-    let over : (p : ℕ) → HasMark w.rows.marks p ↔ Reached (IsRoot v.rows.heap (strong_peers v.issued v.table)) (EdgeOf (record v.rows { follows = true; marks = w.rows.marks; links = w.rows.links })) p =
-    λ p. subst (λ (h : HeapRows). HasMark w.rows.marks p ↔ Reached (IsRoot v.rows.heap (strong_peers v.issued v.table)) (EdgeOf h) p) rows (marks p) in
-    subst (λ f. AreMarksExact (begun (with_marking s v None n) None by).state mk f w.rows.marks) (sym follows) (marks-begun (with_marking s v None n) by mk w.rows.marks e over)
+pub opened-going : (s : PeerReplay) (v w : Rows) (n head : ℕ) (by : Thread) (mk : Marking) → w ≡ with_begun v w.rows → AreRootsGrey (IsRoot v.rows.heap (strong_peers v.issued v.table)) w.rows.marks w.rows.links head → ((p : ℕ) → IsRoot v.rows.heap (strong_peers v.issued v.table) p → IsLive v.rows.heap p)
+    → (begun (with_marking s v None n) None by).state.marking ≡ Some mk → IsGoing (begun (with_marking s v None n) None by).state mk w.rows head
+opened-going s v w n head by mk rest roots live e =
+    let t = with_marking s v None n in
+    let follows : w.rows.follows ≡ true = ap (λ (z : Rows). z.rows.follows) rest in
+    let right = going-begun t by mk w.rows.marks roots.greys e (λ p. ((λ u. (let r = (roots.marked p).0 u in (live p r, r))), (λ r. (roots.marked p).1 r.1))) roots.grey in
+    record { greys = roots.greys; chained = roots.chained; right = subst (λ f. AreMarksGoing (begun t None by).state mk f w.rows.marks roots.greys) (sym follows) right }
 
 -- the rows after a sweep
 abbrev pub with_swept : Rows → HeapRows → Rows
@@ -45,5 +42,5 @@ closed-state s v w o n mk rest =
     let here : (swept_of (with_marking s v o n) mk (drop (length v.rows.heap.freed) w.rows.heap.freed)).state ≡ with_marking s (with_swept v w.rows) None n = refl in
     here ∙ ap (λ z. with_marking s z None n) (sym rest)
 
-pub closed-sweep : (s : PeerReplay) (v : Rows) (o : Option Marking) (n : ℕ) (mk : Marking) (freed : _) → IsMarkedSide (with_marking s v o n) mk v.rows.follows v.rows.marks → AreWhite v.rows freed → IsSweep (with_marking s v o n) mk freed
-closed-sweep s v o n mk freed side white = marks-sweep (with_marking s v o n) mk v.rows.follows v.rows.marks freed side.right white.rises white.exact
+pub closed-sweep : (s : PeerReplay) (v : Rows) (o : Option Marking) (n : ℕ) (mk : Marking) (freed : List ℕ) → AreMarksGoing (with_marking s v o n) mk v.rows.follows v.rows.marks [] → AreWhite v.rows freed → IsSweep (with_marking s v o n) mk freed
+closed-sweep s v o n mk freed right white = going-sweep (with_marking s v o n) mk v.rows.follows v.rows.marks freed right white.rises white.exact

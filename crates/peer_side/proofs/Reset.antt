@@ -1,7 +1,7 @@
 -- The row of one handle changes, and the table shows at its number what the definition has there.
-use Rattle.std.proofs.Common.{◌≡◌, ◌≢◌, ◌↔◌, ◌⊎◌, ◌+◌, ℕ, inl, inr, Bool, true, false, eqb, List, [], ◌∷◌, ◌++◌, length, length-append, map, Option, Some, None, refl, sym, ap, subst, ◌∙◌, arith}
+use Rattle.std.proofs.Common.{◌≡◌, ◌≢◌, ◌↔◌, ◌+◌, ℕ, inl, inr, Bool, true, false, eqb, List, [], ◌∷◌, ◌++◌, length, length-append, map, Option, Some, None, refl, sym, ap, subst, ◌∙◌, arith}
 use Rattle.std.specs.Option.{option_and_then, option_map}
-use Rattle.std.specs.Prelude.{if◌then◌else◌, ◌==◌, Contains}
+use Rattle.std.specs.Prelude.{if◌then◌else◌, ◌==◌}
 use Rattle.std.proofs.lemmas.Bool.{cases_eq, eqb-true}
 use Rattle.std.proofs.lemmas.List.{length-map}
 use Rattle.std.proofs.lemmas.Option.{none-some, same_Some}
@@ -11,7 +11,6 @@ use Rattle.joint_model.specs.declared.names.Sort.{Sort}
 use Rattle.joint_model.specs.Heaps.{numbered_at, numbered_set}
 use Rattle.joint_model.specs.Peers.{held, peer_of, strong, weak}
 use Rattle.joint_model.specs.PeerReplay.{TableRow, opening_peer_replay, table_target}
-use Rattle.joint_model.specs.Walks.{Reached}
 use Rattle.joint_model.proofs.Deciding.{true_false}
 use Rattle.global_handles.specs.declared.Back.{Back}
 use Rattle.global_handles.specs.declared.Back.TheVariants.{Alive, Cleared}
@@ -21,13 +20,14 @@ use Rattle.global_handles.specs.declared.Strength.{Strength}
 use Rattle.global_handles.specs.declared.Strength.TheVariants.{Strong, Weak}
 use Rattle.global_handles.specs.Rows.{Table, IsRising, changed, cleared_in, fresh_row, renewed, renewed_rows, row_in, strength_in, target_in, with_strength, without}
 use Rattle.global_handles.proofs.Lookups.{row_in-changed_same, row_in-changed_other}
-use Rattle.reachability.specs.Marks.{HasMark}
-use Rattle.row_heap.specs.Marks.{EdgeOf}
+use Rattle.row_marking.specs.Traces.{Greyed}
 use Rattle.row_heap.specs.Rows.{HeapRows}
 use Rattle.peer_side.specs.declared.issues.Issue.{Issue}
+use Rattle.peer_side.specs.Marks.{IsShaded}
 use Rattle.peer_side.specs.Mirroring.{IsRemoved, IsRenewed, RestoresHandle, RestoresRow, row_at, strong_row, weak_row, with_row}
 use Rattle.peer_side.specs.Rows.{AreRowsIssued, Rows, issued_as, row_as, rows_with, strength_as, table_to, with_rows}
-use Rattle.peer_side.proofs.Handles.{length-without, peer_of-issued, row-shown, rows-removed, rows-renewed, table_to-set}
+use Rattle.global_handles.proofs.Rows.{length-without}
+use Rattle.peer_side.proofs.Handles.{peer_of-issued, row-shown, rows-removed, rows-renewed, table_to-set}
 
 -- what the replay shows of a handle is its row
 module _ (rows : HeapRows) (sorts : List Sort) (names : List (Option ℕ)) (issued : List Issue) (table : Table) (h : HNum) (rises : IsRising table) where
@@ -188,7 +188,7 @@ removed-row rows sorts names issued old new h r rises at cleared left made last 
 
 -- another one is removed, and one on its peer comes in its place
 pub renewed-row : (rows : HeapRows) (sorts : List Sort) (names : List (Option ℕ)) (issued after : List Issue) (old new : Table) (h g : HNum) (r : HandleRow) → IsRising old → AreRowsIssued old.rows issued → old.last ≡ length issued → row_in old.rows h ≡ Some r → r.cleared ≡ false
-    → after ≡ issued ++ record { peer = r.peer; hold = Held; strength = Strong } ∷ [] → new.rows ≡ renewed h g old.rows → g.0 ≡ old.last + 1 → new.made ≡ old.made → new.last ≡ old.last + 1 → IsRenewed false (rows_with rows sorts names issued old) h.0 g (rows_with rows sorts names after new)
+    → after ≡ issued ++ record { peer = r.peer; hold = Held; strength = Strong } ∷ [] → new.rows ≡ renewed h g old.rows → g.0 ≡ old.last + 1 → new.made ≡ old.made → new.last ≡ old.last + 1 → IsRenewed (rows_with rows sorts names issued old) h.0 g (rows_with rows sorts names after new)
 renewed-row rows sorts names issued after old new h g r rises own places at kept e put number made last =
     let found = own h r at in
     let leads : target_in old.rows h ≡ Some r.peer = ap (option_and_then led-by) at ∙ ap (λ (b : Bool). (let o : Option PNum = if b then None else Some r.peer in o)) kept in
@@ -202,26 +202,26 @@ renewed-row rows sorts names issued after old new h g r rises own places at kept
       issued = peer_of-issued issued h.0 found.0 found.1 ∙ ap (λ (q : PNum). Some q.0) found.2;
       number = omega (arith, number, places, length-map issued issued_as);
       rest = rows-renewed rows sorts names issued after old new h g r.peer e leads number put made last rises count;
-      marks = λ up. (let f : ⊥ = cc in absurd f);
     }
 
 -- a handle that leads nowhere is cleared, so it is removed
-pub restored-none : (b : Bool) (old new : Rows) (h : ℕ) (back : Back) → table_target (with_rows opening_peer_replay old) h ≡ None → RestoresRow old h back new → RestoresHandle b old h back new
-restored-none b old new h Cleared none r = r
-restored-none b old new h (Alive g) none r = absurd (true_false (sym (target-none old h r.0.peer r.0.row r.0.tabled r.0.issued none) ∙ r.0.kept))
+pub restored-none : (b : Bool) (old new : Rows) (head h : ℕ) (back : Back) → table_target (with_rows opening_peer_replay old) h ≡ None → RestoresRow old h back new → RestoresHandle b old head h back new head
+restored-none b old new head h Cleared none r = (r, refl)
+restored-none b old new head h (Alive g) none r = absurd (true_false (sym (target-none old h r.0.peer r.0.row r.0.tabled r.0.issued none) ∙ r.0.kept))
 
--- one that leads somewhere isn't, and its peer was brought back before
-pub restored-some : (b : Bool) (old mid new : Rows) (h p : ℕ) (back : Back) → table_target (with_rows opening_peer_replay old) h ≡ Some p → mid ≡ record old { rows = record old.rows { marks = mid.rows.marks; links = mid.rows.links } }
-    → (b ≡ true → (k : ℕ) → (HasMark mid.rows.marks k ↔ (HasMark old.rows.marks k ⊎ Reached (Contains (p ∷ [])) (EdgeOf old.rows) k))) → RestoresRow mid h back new → RestoresHandle b old h back new
-restored-some b old mid new h p Cleared leads is marks r =
+-- one that leads somewhere isn't, and its peer was shaded before
+pub restored-some : (b : Bool) (old mid new : Rows) (before after h p : ℕ) (back : Back) → table_target (with_rows opening_peer_replay old) h ≡ Some p → mid ≡ record old { rows = record old.rows { marks = mid.rows.marks; links = mid.rows.links } }
+    → Greyed (λ k. (b ≡ true) × (k ≡ p)) old.rows.marks old.rows.links before mid.rows.marks mid.rows.links after → RestoresRow mid h back new → RestoresHandle b old before h back new after
+restored-some b old mid new before after h p Cleared leads is shaded r =
     let there : row_at old h ≡ Some r.row = sym (ap (λ (z : Rows). row_at z h) is) ∙ r.tabled in
     absurd (true_false (sym r.cleared ∙ (target-some old h p r.row there leads).0))
-restored-some b old mid new h p (Alive g) leads is marks r =
+restored-some b old mid new before after h p (Alive g) leads is shaded r =
     let was = r.0 in
     let there : row_at old h ≡ Some was.row = sym (ap (λ (z : Rows). row_at z h) is) ∙ was.tabled in
     let own : peer_of old.issued h ≡ Some was.peer = sym (ap (λ (z : Rows). peer_of z.issued h) is) ∙ was.issued in
     let same : p ≡ was.peer = same_Some p was.peer (sym (target-some old h p was.row there leads).1 ∙ own) in
-    record {
+    let rows = ap (λ (z : Rows). z.rows) is in
+    let renewed-one : IsRenewed old h g new = record {
       row = was.row;
       tabled = there;
       kept = was.kept;
@@ -230,6 +230,12 @@ restored-some b old mid new h p (Alive g) leads is marks r =
       number = was.number ∙ ap (λ (z : Rows). length z.issued + 1) is;
       rest = was.rest
           ∙ ap (λ (z : Rows). record z { rows = record z.rows { marks = new.rows.marks; links = new.rows.links }; issued = z.issued ++ record { peer = was.peer; hold = held; strength = strong } ∷ []; table = numbered_set z.table h None ++ Some strong_row ∷ [] }) is;
-      marks = λ up k. subst (λ (q : ℕ). HasMark new.rows.marks k ↔ (HasMark old.rows.marks k ⊎ Reached (Contains (q ∷ [])) (EdgeOf old.rows) k)) same
-          (subst (λ (v : HeapRows). HasMark v.marks k ↔ (HasMark old.rows.marks k ⊎ Reached (Contains (p ∷ [])) (EdgeOf old.rows) k)) (sym r.1) (marks up k));
-    }
+    } in
+    let seen : IsShaded b (λ k. k ≡ was.peer) old.rows before new.rows after = subst (λ (v : HeapRows). IsShaded b (λ k. k ≡ was.peer) old.rows before v after) (sym r.1) record {
+      refs = ap (λ (v : HeapRows). v.refs) rows;
+      follows = ap (λ (v : HeapRows). v.follows) rows;
+      room = ap (λ (v : HeapRows). v.room) rows;
+      temps = ap (λ (v : HeapRows). v.temps) rows;
+      shaded = subst (λ q. Greyed (λ k. (b ≡ true) × (k ≡ q)) old.rows.marks old.rows.links before mid.rows.marks mid.rows.links after) same shaded;
+    } in
+    (renewed-one, seen)

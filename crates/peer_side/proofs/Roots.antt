@@ -1,24 +1,22 @@
--- What strong handles name, gathered one handle after another, and the roots of a marking as one list.
-use Rattle.std.proofs.Common.{◌≡◌, ℕ, zero, suc, ◌+◌, ◌≤◌, ◌⊎◌, ◌↔◌, inl, inr, Bool, true, List, [], ◌∷◌, ◌++◌, length, take, Option, Some, None, refl, sym, ap, subst, ◌∙◌, arith, length-append, append_assoc}
-use Rattle.std.specs.Option.{option_map, option_to_list}
+-- What strong handles name, gathered one handle after another, and the roots of a marking, which are grey at its begin.
+use Rattle.std.proofs.Common.{◌≡◌, ℕ, zero, suc, ◌+◌, ◌≤◌, ◌⊎◌, inl, inr, Bool, true, List, [], ◌∷◌, ◌++◌, length, take, Option, Some, refl, sym, ap, subst, ◌∙◌, arith, length-append, append_assoc}
+use Rattle.std.specs.Option.{option_map}
 use Rattle.std.specs.Prelude.{Contains, slice_get}
 use Rattle.std.proofs.lemmas.List.Elements.{Contains-append_cases, Contains-append_left, Contains-append_right}
 use Rattle.std.proofs.lemmas.Option.{none-some, same_Some}
 use Rattle.joint_model.specs.Heaps.{Heap, InSlot, numbered_at}
 use Rattle.joint_model.specs.PeerReplay.{TableRow}
-use Rattle.joint_model.specs.Walks.{Reached}
-use Rattle.joint_model.proofs.Members.{Contains-cons_cases, Contains-here, Contains-nil, Contains-there, take-next}
+use Rattle.joint_model.proofs.Members.{Contains-cons_cases, Contains-here, Contains-nil, take-next}
 use Rattle.joint_model.proofs.Numbered.{numbered-push_old, numbered-push_new}
-use Rattle.joint_model.proofs.WalkLemmas.{Reached-mono}
 use Rattle.global_handles.specs.declared.HandleRow.{HandleRow}
 use Rattle.global_handles.specs.declared.Strength.{Strength}
 use Rattle.global_handles.specs.declared.Strength.TheVariants.{Strong, Weak}
 use Rattle.global_handles.specs.Rows.{row_in}
 use Rattle.reachability.specs.Marks.{HasMark}
 use Rattle.row_heap.specs.Rows.{HeapRows}
-use Rattle.row_marking.specs.Traces.{Greyed, Greying}
-use Rattle.row_marking.proofs.Greys.{Greyed-as, Greyed-none, Greyed-then, Greying-begins}
-use Rattle.peer_side.specs.Marking.{IsRoot, strong_in, strong_on}
+use Rattle.row_marking.specs.Traces.{Greyed}
+use Rattle.row_marking.proofs.Greys.{Greyed-as, Greyed-none, Greyed-then}
+use Rattle.peer_side.specs.Marking.{AreRootsGrey, IsRoot, strong_in, strong_on}
 use Rattle.peer_side.specs.Rows.{row_as, table_to}
 
 -- the row of a number, as the replay has it
@@ -98,69 +96,30 @@ strong-in (x ∷ rows) zero r at e =
     Contains-append_left (strong_on x.strength x.peer.0) (strong_in rows) r.peer.0 (subst (λ (q : HandleRow). Contains (strong_on q.strength q.peer.0) r.peer.0) (sym here) (subst (λ z. Contains (strong_on z r.peer.0) r.peer.0) (sym e) (Contains-here r.peer.0 [])))
 strong-in (x ∷ rows) (suc k) r at e = Contains-append_right (strong_on x.strength x.peer.0) (strong_in rows) r.peer.0 (strong-in rows k r at e)
 
--- what slots name, as a list
-abbrev pub somes : List (Option ℕ) → List ℕ
-somes [] = []
-somes (o ∷ os) = option_to_list o ++ somes os
+-- once slots and strong handles are visited, just these have marks, and all of them are grey
+pub begins-grey : (h : Heap) (named : List ℕ) (a : List Bool) (k : List ℕ) (b : List Bool) (l : List ℕ) (i : ℕ) (c : List Bool) (n : List ℕ) (j : ℕ) → ((x : ℕ) → HasMark a x → ⊥)
+    → Greyed (InSlot h) a k 0 b l i → Greyed (Contains named) b l i c n j → AreRootsGrey (IsRoot h named) c n j
+begins-grey h named a k b l i c n j none slots handles =
+    let all = Greyed-then (InSlot h) (Contains named) (IsRoot h named) a k 0 b l i c n j (λ x r. r) (λ x r. inl r) (λ x r. inr r) slots handles in
+    let g = all [] record { chain = refl; marked = λ x w. absurd (Contains-nil x w) } in
+    let fresh : (x : ℕ) → HasMark c x → IsRoot h named x × Contains g.waits x = λ x u. elim (g.scans.fresh x u) [ inl w ↦ absurd (none x w) | inr w ↦ w ] in
+    record {
+      greys = g.waits;
+      chained = g.chained;
+      marked = λ x. ((λ u. (fresh x u).0), (λ r. g.scans.done x r));
+      grey = λ x. ((λ w. g.chained.marked x w), (λ u. (fresh x u).1));
+    }
 
-somes-in : (os : List (Option ℕ)) (x : ℕ) → Contains (somes os) x ↔ Contains os (Some x)
-somes-in [] x = ((λ c. absurd (Contains-nil x c)), (λ c. absurd (Contains-nil (Some x) c)))
-somes-in (None ∷ os) x = (
-  (λ c. Contains-there (Some x) None os ((somes-in os x).0 c)),
-  (λ c. elim (Contains-cons_cases None os (Some x) c) [ inl e ↦ absurd (none-some x e) | inr w ↦ (somes-in os x).1 w ]),
-)
-somes-in (Some y ∷ os) x = (
-  (λ c. elim (Contains-cons_cases y (somes os) x c) [ inl e ↦ subst (λ z. Contains (Some y ∷ os) (Some z)) e (Contains-here (Some y) os) | inr w ↦ Contains-there (Some x) (Some y) os ((somes-in os x).0 w) ]),
-  (λ c. elim (Contains-cons_cases (Some y) os (Some x) c) [
-    | inl e ↦ (let same : y ≡ x = cc in subst (Contains (y ∷ somes os)) same (Contains-here y (somes os)))
-    | inr w ↦ Contains-there x y (somes os) ((somes-in os x).1 w)
-  ]),
-)
+-- roots that are the same are grey as well
+pub roots-as : (p q : ℕ → Type 0) (m : List Bool) (l : List ℕ) (h : ℕ) → ((x : ℕ) → p x → q x) → ((x : ℕ) → q x → p x) → AreRootsGrey p m l h → AreRootsGrey q m l h
+roots-as p q m l h to back g = record { greys = g.greys; chained = g.chained; marked = λ x. ((λ u. to x ((g.marked x).0 u)), (λ r. (g.marked x).1 (back x r))); grey = g.grey }
 
--- what slots and a list name
-abbrev pub root_list : Heap → List ℕ → List ℕ
-root_list h named = somes h.vars ++ (somes h.statics ++ named)
-
-pub root-list : (h : Heap) (named : List ℕ) (x : ℕ) → Contains (root_list h named) x ↔ (InSlot h x ⊎ Contains named x)
-root-list h named x = (
-  (λ c. elim (Contains-append_cases (somes h.vars) (somes h.statics ++ named) x c) [
-    | inl v ↦ inl (inl ((somes-in h.vars x).0 v))
-    | inr w ↦ elim (Contains-append_cases (somes h.statics) named x w) [ inl s ↦ inl (inr ((somes-in h.statics x).0 s)) | inr t ↦ inr t ]
-  ]),
-  (λ c. elim c [
-    | inl i ↦ elim i [
-      | inl v ↦ Contains-append_left (somes h.vars) (somes h.statics ++ named) x ((somes-in h.vars x).1 v)
-      | inr s ↦ Contains-append_right (somes h.vars) (somes h.statics ++ named) x (Contains-append_left (somes h.statics) named x ((somes-in h.statics x).1 s))
-    ]
-    | inr t ↦ Contains-append_right (somes h.vars) (somes h.statics ++ named) x (Contains-append_right (somes h.statics) named x t)
-  ]),
-)
-
--- once slots and strong handles are visited, a marking from the roots is on its way
-pub begins-greying : (h : Heap) (named : List ℕ) (edge : ℕ → ℕ → Type 0) (a : List Bool) (k : List ℕ) (b : List Bool) (l : List ℕ) (i : ℕ) (c : List Bool) (n : List ℕ) (j : ℕ) → ((x : ℕ) → HasMark a x → ⊥)
-    → Greyed (InSlot h) a k 0 b l i → Greyed (Contains named) b l i c n j → Greying (root_list h named) edge a c n j
-begins-greying h named edge a k b l i c n j none slots handles = Greying-begins (root_list h named) edge a k c n j (λ x y e m. absurd (none x m))
-    (Greyed-then (InSlot h) (Contains named) (Contains (root_list h named)) a k 0 b l i c n j (λ x r. (root-list h named x).0 r) (λ x r. (root-list h named x).1 (inl r)) (λ x r. (root-list h named x).1 (inr r)) slots handles)
-
--- so just what the roots reach is marked
-pub begun-marks : (h : Heap) (named : List ℕ) (edge : ℕ → ℕ → Type 0) (before after : List Bool) (x : ℕ) → ((y : ℕ) → HasMark before y → ⊥) → HasMark after x ↔ (HasMark before x ⊎ Reached (Contains (root_list h named)) edge x)
-    → HasMark after x ↔ Reached (λ p. InSlot h p ⊎ Contains named p) edge x
-begun-marks h named edge before after x none m = (
-  (λ u. elim (m.0 u) [ inl w ↦ absurd (none x w) | inr w ↦ Reached-mono (Contains (root_list h named)) (λ p. InSlot h p ⊎ Contains named p) edge edge (λ y r. (root-list h named y).0 r) (λ y z e. e) x w ]),
-  (λ w. m.1 (inr (Reached-mono (λ p. InSlot h p ⊎ Contains named p) (Contains (root_list h named)) edge edge (λ y r. (root-list h named y).1 r) (λ y z e. e) x w))),
-)
-
--- roots that are the same reach the same
-pub named-marks : (h : Heap) (edge : ℕ → ℕ → Type 0) (ps qs : List ℕ) (m : List Bool) (p : ℕ) → ((x : ℕ) → Contains ps x → Contains qs x) → ((x : ℕ) → Contains qs x → Contains ps x) → HasMark m p ↔ Reached (IsRoot h ps) edge p → HasMark m p ↔ Reached (IsRoot h qs) edge p
-named-marks h edge ps qs m p to back w = (
-  (λ u. Reached-mono (IsRoot h ps) (IsRoot h qs) edge edge (turned ps qs to) (λ y z e. e) p (w.0 u)),
-  (λ r. w.1 (Reached-mono (IsRoot h qs) (IsRoot h ps) edge edge (turned qs ps back) (λ y z e. e) p r)),
-)
+pub named-roots : (h : Heap) (ps qs : List ℕ) (m : List Bool) (l : List ℕ) (k : ℕ) → ((x : ℕ) → Contains ps x → Contains qs x) → ((x : ℕ) → Contains qs x → Contains ps x) → AreRootsGrey (IsRoot h ps) m l k → AreRootsGrey (IsRoot h qs) m l k
+named-roots h ps qs m l k to back g = roots-as (IsRoot h ps) (IsRoot h qs) m l k (λ x r. turned ps qs to x r) (λ x r. turned qs ps back x r) g
   where
     turned : (xs ys : List ℕ) → ((x : ℕ) → Contains xs x → Contains ys x) → (x : ℕ) → IsRoot h xs x → IsRoot h ys x
     turned xs ys f x r = elim r [ inl i ↦ inl i | inr c ↦ inr (f x c) ]
 
 -- what the calls of a begin leave of the rows
-pub rest-begun : (v a b c d : HeapRows) → a ≡ record v { follows = true; marks = a.marks } → b ≡ record a { marks = b.marks; links = b.links } → c ≡ record b { marks = c.marks; links = c.links } → d ≡ record c { marks = d.marks; links = d.links }
-    → d ≡ record v { follows = true; marks = d.marks; links = d.links }
-rest-begun v a b c d p q r s = s ∙ ap (λ (w : HeapRows). record w { marks = d.marks; links = d.links }) (r ∙ ap (λ (w : HeapRows). record w { marks = c.marks; links = c.links }) (q ∙ ap (λ (w : HeapRows). record w { marks = b.marks; links = b.links }) p))
+pub rest-begun : (v a b c : HeapRows) → a ≡ record v { follows = true; marks = a.marks } → b ≡ record a { marks = b.marks; links = b.links } → c ≡ record b { marks = c.marks; links = c.links } → c ≡ record v { follows = true; marks = c.marks; links = c.links }
+rest-begun v a b c p q r = r ∙ ap (λ (w : HeapRows). record w { marks = c.marks; links = c.links }) (q ∙ ap (λ (w : HeapRows). record w { marks = b.marks; links = b.links }) p)

@@ -1,5 +1,5 @@
--- A side stays one over each event of a step: the list goes on by its entry, the state is the one after it and stays kept, and the marks of
--- an open marking stay exact.
+-- A side stays one over each event of a step: the list goes on by its entry, the state is the one after it and stays kept, and an open marking
+-- goes on.
 use Rattle.std.proofs.Common.{◌≡◌, ℕ, ◌+◌, ◌≤◌, ◌⊎◌, inl, inr, Bool, true, List, [], ◌∷◌, ◌++◌, length, drop, Option, Some, None, refl, sym, ap, subst, ◌∙◌, arith, length-append}
 use Rattle.std.specs.Option.{is_some}
 use Rattle.std.specs.Prelude.{flat_map, All, Contains}
@@ -16,29 +16,31 @@ use Rattle.joint_model.specs.declared.events.Reply.{Reply}
 use Rattle.joint_model.specs.declared.events.Reply.TheVariants as says
 use Rattle.joint_model.specs.Draws.{AllBelow, numbered}
 use Rattle.joint_model.specs.Components.{temporary}
-use Rattle.joint_model.specs.Heaps.{Answered, answer}
+use Rattle.joint_model.specs.declared.names.Thread.{Thread}
+use Rattle.joint_model.specs.Heaps.{Heap, Answered, answer, place}
+use Rattle.joint_model.specs.Managed.{place_or_none}
+use Rattle.joint_model.specs.Run.{thread_number}
 use Rattle.joint_model.specs.Peers.{Issued}
 use Rattle.joint_model.specs.Listed.{Stock}
 use Rattle.joint_model.specs.PeerReplay.{PeerReplay, Marking, PeerAllows, peer_answer}
 use Rattle.joint_model.specs.Sides.{GoesOn, peer_rules}
 use Rattle.joint_model.specs.Told.{nothing}
-use Rattle.joint_model.proofs.Deciding.{none_some, true_false}
+use Rattle.joint_model.proofs.Deciding.{none_some}
 use Rattle.joint_model.proofs.Members.{Contains-nil}
 use Rattle.joint_laws.proofs.OneRun.{cons-nil}
 use Rattle.joint_laws.proofs.PeerEvents.{target-live}
 use Rattle.joint_laws.proofs.PeerMoves.{IsPeerKept-opening}
-use Rattle.marking_laws.specs.Marks.{IsMarkedSide}
-use Rattle.marking_laws.proofs.MarkSweeps.{marks-shut}
-use Rattle.reachability.specs.Marks.{IsClosed}
-use Rattle.row_heap.specs.Marks.{EdgeOf}
+use Rattle.row_heap.specs.Marks.{overwritten}
+use Rattle.row_marking.specs.Traces.{IsGreyList}
 use Rattle.row_heap.specs.Rows.{HeapRows}
 use Rattle.peer_side.specs.declared.side.OpenMarking.{OpenMarking}
-use Rattle.peer_side.specs.Marks.{MarksNew, MarksBrought, MarksAfter, IsExact, mark_by, mark_after}
+use Rattle.peer_side.specs.Marks.{IsGoing, IsShaded, MarksNew, MarksBrought, MarksAfter, mark_by, mark_after}
 use Rattle.peer_side.specs.MirrorLaws.{HasFurther}
 use Rattle.peer_side.specs.Mirrors.{AreWithin, Mirrors, no_mirrors, owes}
 use Rattle.peer_side.specs.Rows.{Rows, AreTargetsLive, GoesBy, no_rows, with_rows, marking_by, marking_after}
-use Rattle.peer_side.specs.Sides.{IsSide, IsFrom, IsKnown, named_in, brought_at, brought_since, marking_as, marking_in, mirror_state, state_with, owed}
+use Rattle.peer_side.specs.Sides.{AreGoing, IsSide, IsFrom, IsKnown, named_in, brought_at, brought_since, marking_as, marking_in, mirror_state, state_with, owed}
 use Rattle.peer_side.specs.Steps.{IsPeerStep}
+use Rattle.peer_side.proofs.Going.{going-still, greyed-list}
 use Rattle.peer_side.proofs.Grown.{issued-grows, room-after}
 use Rattle.peer_side.proofs.Marks.{marks-step}
 use Rattle.peer_side.proofs.Quiet.{IsQuiet, brought-more, known-next, mirrored-still, state-still, step-quiet}
@@ -53,7 +55,6 @@ IsSide-opening rows m stock none still empty few = rw (none, still) (record {
   limit = rw empty (omega arith);
   few = omega arith;
   from = tt;
-  exact = λ mk e. absurd (none_some mk e);
   mirrored = tt;
   known = rw empty (All-nil (IsKnown []));
   issued = omega arith;
@@ -64,21 +65,25 @@ IsSide-opening rows m stock none still empty few = rw (none, still) (record {
   few_refs = omega arith;
 })
 
+-- a new side has no grey peer
+pub AreGoing-opening : (rows : Rows) (m : Mirrors) (es : List Entry) → AreGoing rows None 0 0 m es
+AreGoing-opening rows m es = record { list = ([], record { chain = refl; marked = λ k c. absurd (Contains-nil k c) }); going = λ mk e. absurd (none_some mk e) }
+
 -- what the state shows of an open marking
-pub opened : (rows : Rows) (o : OpenMarking) (n : ℕ) (m : Mirrors) (stock : Stock) → IsSide rows (Some o) n m stock → IsMarkedSide (state_with stock.entries rows (Some o) n m) (marking_as rows.issued stock.entries o) rows.rows.follows rows.rows.marks
-opened rows o n m stock side = record { kept = side.kept; opened = refl; right = side.exact (marking_as rows.issued stock.entries o) refl }
+pub opened : (rows : Rows) (o : OpenMarking) (head n : ℕ) (m : Mirrors) (stock : Stock) → AreGoing rows (Some o) head n m stock.entries → IsGoing (state_with stock.entries rows (Some o) n m) (marking_as rows.issued stock.entries o) rows.rows head
+opened rows o head n m stock going = going.going (marking_as rows.issued stock.entries o) refl
+
+-- room for references and entries, and what else doesn't stand in the state, leaves a marking as it is
+pub AreGoing-same : (rows w : Rows) (o : Option OpenMarking) (head n : ℕ) (m mm : Mirrors) (es after : List Entry) → w.rows.heap ≡ rows.rows.heap → w.rows.refs ≡ rows.rows.refs → w.rows.marks ≡ rows.rows.marks → w.rows.links ≡ rows.rows.links → w.rows.follows ≡ rows.rows.follows
+    → marking_in w.issued after o ≡ marking_in rows.issued es o → AreGoing rows o head n m es → AreGoing w o head n mm after
+AreGoing-same rows w o head n m mm es after heap refs marks links follows marking going = record {
+  list = subst (λ l. IsGreyList w.rows.marks l head) (sym links) (subst (λ z. IsGreyList z rows.rows.links head) (sym marks) going.list);
+  going = λ mk q. going-still (state_with es rows o n m) (state_with after w o n mm) mk rows.rows w.rows head (ap (λ (h : Heap). h.fields) heap) (ap (λ (h : Heap). h.freed) heap) refs marks links follows (going.going mk (sym marking ∙ q));
+}
 
 -- what a handle of the table leads to is live
 pub targets-live : (rows : Rows) (o : Option OpenMarking) (n : ℕ) (m : Mirrors) (stock : Stock) → IsSide rows o n m stock → AreTargetsLive rows
 targets-live rows o n m stock side = λ h p e. target-live (state_with stock.entries rows o n m) h p side.kept e
-
--- what a marked peer leads to has a mark, while a marking is open
-pub marks-closed : (rows : Rows) (o : Option OpenMarking) (n : ℕ) (m : Mirrors) (stock : Stock) → IsSide rows o n m stock → is_some o ≡ true → IsClosed (EdgeOf rows.rows) rows.rows.marks
-marks-closed rows None n m stock side open' = absurd (true_false (sym open'))
-marks-closed rows (Some o) n m stock side open' = λ x y e c.
-    let s = state_with stock.entries rows (Some o) n m in
-    let closed = marks-shut s (marking_as rows.issued stock.entries o) rows.rows.follows rows.rows.marks (opened rows o n m stock side) in
-    closed x y e c
 
 -- what an entry brings back comes last
 pub since-push : (issued : List Issued) (n : ℕ) (es : List Entry) (e : Entry) → n ≤ length es → brought_since issued n (es ++ e ∷ []) ≡ brought_since issued n es ++ brought_at issued e.made.op e.made.reply
@@ -123,20 +128,21 @@ refs-new old (says.P p) new m = m.refs
 refs-new old (says.Made p h) new m = m.refs
 refs-new old _ new m = ap (λ (v : HeapRows). v.refs) m
 
-refs-brought : (b : Bool) (old : HeapRows) (r : Reply) (new : HeapRows) → MarksBrought b old r new → new.refs ≡ old.refs
-refs-brought b old (says.P p) new m = m.refs
-refs-brought b old _ new m = ap (λ (v : HeapRows). v.refs) m
+refs-brought : (b : Bool) (old : HeapRows) (before : ℕ) (r : Reply) (new : HeapRows) (after : ℕ) → MarksBrought b old before r new after → new.refs ≡ old.refs
+refs-brought b old before (says.P p) new after m = m.refs
+refs-brought b old before _ new after m = ap (λ (v : HeapRows). v.refs) m.0
 
-pub refs-after : (b : Bool) (old : HeapRows) (o : Op) (r : Reply) (new : HeapRows) → MarksAfter b old o r new → new.refs ≡ old.refs
-refs-after b old (op.Line (act.NewPeer v n)) r new m = refs-new old r new m
-refs-after b old (op.Make sort n) r new m = refs-new old r new m
-refs-after b old (op.Line (act.WRead v g)) r new m = refs-brought b old r new m
-refs-after b old (op.Land h x) r new m = refs-brought b old r new m
-refs-after b old _ r new m = ap (λ (v : HeapRows). v.refs) m
+pub refs-after : (b : Bool) (t : Thread) (old : HeapRows) (before : ℕ) (o : Op) (r : Reply) (new : HeapRows) (after : ℕ) → MarksAfter b t old before o r new after → new.refs ≡ old.refs
+refs-after b t old before (op.Line (act.NewPeer v n)) r new after m = refs-new old r new m.0
+refs-after b t old before (op.Make sort n) r new after m = refs-new old r new m.0
+refs-after b t old before (op.Line (act.Set v i w)) r new after m = m.refs
+refs-after b t old before (op.Line (act.WRead v g)) r new after m = refs-brought b old before r new after m
+refs-after b t old before (op.Land h x) r new after m = refs-brought b old before r new after m
+refs-after b t old before _ r new after m = ap (λ (v : HeapRows). v.refs) m.0
 
 -- the marking and the mirrored cycle after the entry of a step, where the rows did its event
 module _ (old new : Rows) (o : Option OpenMarking) (n : ℕ) (m : Mirrors) (stock : Stock) (after : List Entry) (e : Entry) (side : IsSide old o n m stock) (added : after ≡ stock.entries ++ e ∷ []) (step : IsPeerStep e.made.caller e.made.op)
-    (goes : GoesBy old e.made.caller e.made.op e.made.reply new) (marks : MarksAfter (is_some o) old.rows e.made.op e.made.reply new.rows) where
+    (goes : GoesBy old e.made.caller e.made.op e.made.reply new) (head next : ℕ) (marks : MarksAfter (is_some o) e.made.caller old.rows head e.made.op e.made.reply new.rows next) where
   quiet : IsQuiet e.made.op
   quiet = step-quiet e.made.caller e.made.op step
 
@@ -157,29 +163,57 @@ module _ (old new : Rows) (o : Option OpenMarking) (n : ℕ) (m : Mirrors) (stoc
       let s = state_with stock.entries old o n m in
       goes s e.made.cites
       ∙ (ap (λ k. answer e.made.reply (record (with_rows s new) { marking = k })) (sym later-marking)
-      ∙ (ap (λ l. answer e.made.reply (record (with_rows (mirror_state stock.entries m) new) { refs = l; marking = marking_in new.issued after o; markings = n })) (sym (refs-after (is_some o) old.rows e.made.op e.made.reply new.rows marks))
+      ∙ (ap (λ l. answer e.made.reply (record (with_rows (mirror_state stock.entries m) new) { refs = l; marking = marking_in new.issued after o; markings = n })) (sym (refs-after (is_some o) e.made.caller old.rows head e.made.op e.made.reply new.rows next marks))
       ∙ ap (λ z. answer e.made.reply (record (with_rows z new) { refs = new.rows.refs; marking = marking_in new.issued after o; markings = n })) (sym later-state)))
 
   pub step-goes : PeerAllows (state_with stock.entries old o n m) e.made.caller e.made.op e.made.cites nothing → GoesOn peer_rules (state_with stock.entries old o n m) e.made nothing (state_with after new o n m)
   step-goes allowed = goes-step (state_with stock.entries old o n m) (state_with after new o n m) e.made (step-side e.made e.made.caller e.made.op refl refl step) allowed side-answers
 
 pub side-goes : (old new : Rows) (o : Option OpenMarking) (n : ℕ) (m : Mirrors) (stock : Stock) (after : List Entry) (k : ℕ) (made : Made) → IsSide old o n m stock → after ≡ stock.entries ++ numbered k made ∷ [] → IsPeerStep made.caller made.op → GoesBy old made.caller made.op made.reply new
-    → MarksAfter (is_some o) old.rows made.op made.reply new.rows → PeerAllows (state_with stock.entries old o n m) made.caller made.op made.cites nothing → GoesOn peer_rules (state_with stock.entries old o n m) made nothing (state_with after new o n m)
-side-goes old new o n m stock after k made side added step goes marks allowed = step-goes old new o n m stock after (numbered k made) side added step goes marks allowed
+    → (head next : ℕ) → MarksAfter (is_some o) made.caller old.rows head made.op made.reply new.rows next → PeerAllows (state_with stock.entries old o n m) made.caller made.op made.cites nothing → GoesOn peer_rules (state_with stock.entries old o n m) made nothing (state_with after new o n m)
+side-goes old new o n m stock after k made side added step goes head next marks allowed = step-goes old new o n m stock after (numbered k made) side added step goes head next marks allowed
 
--- the marks of an open marking stay exact
-exact-step : (old new : Rows) (o : Option OpenMarking) (n : ℕ) (m : Mirrors) (stock : Stock) (after : List Entry) (e : Entry) → IsSide old o n m stock → after ≡ stock.entries ++ e ∷ [] → IsPeerStep e.made.caller e.made.op → GoesBy old e.made.caller e.made.op e.made.reply new
-    → MarksAfter (is_some o) old.rows e.made.op e.made.reply new.rows → (mk : Marking) → marking_in new.issued after o ≡ Some mk → IsExact (state_with after new o n m) mk new.rows
-exact-step old new None n m stock after e side added step goes marks mk q = absurd (none_some mk q)
-exact-step old new (Some o) n m stock after e side added step goes marks mk q =
-    let s = state_with stock.entries old (Some o) n m in
-    let before = marking_as old.issued stock.entries o in
-    let told = side-answers old new (Some o) n m stock after e side added step goes marks in
-    let exact : MarksAfter true old.rows e.made.op e.made.reply new.rows → IsExact (state_with after new (Some o) n m) (mark_after before e.made.op e.made.reply) new.rows =
-    subst (λ (a : Answered PeerReplay). MarksAfter true old.rows e.made.op a.reply new.rows → IsExact a.state (mark_after before e.made.op a.reply) new.rows) told
-    (marks-step s before old.rows new.rows e.made.caller e.made.op e.made.cites step refl (λ f. refl) (opened old o n m stock side)) in
-    let later : Some (mark_after before e.made.op e.made.reply) ≡ Some mk = sym (after-some before e.made.op e.made.reply) ∙ (sym (later-marking old new (Some o) n m stock after e side added step goes marks) ∙ q) in
-    subst (λ z. IsExact (state_with after new (Some o) n m) z new.rows) (same_Some (mark_after before e.made.op e.made.reply) mk later) (exact marks)
+-- an open marking goes on
+pub AreGoing-step : (old new : Rows) (o : Option OpenMarking) (head next n : ℕ) (m : Mirrors) (stock : Stock) (after : List Entry) (k : ℕ) (made : Made) → IsSide old o n m stock → after ≡ stock.entries ++ numbered k made ∷ [] → IsPeerStep made.caller made.op → GoesBy old made.caller made.op made.reply new
+    → MarksAfter (is_some o) made.caller old.rows head made.op made.reply new.rows next → IsGreyList new.rows.marks new.rows.links next → AreGoing old o head n m stock.entries → AreGoing new o next n m after
+AreGoing-step old new None head next n m stock after k made side added step goes marks list going = record { list = list; going = λ mk q. absurd (none_some mk q) }
+AreGoing-step old new (Some o) head next n m stock after k made side added step goes marks list going = record { list = list; going = goes-on }
+  where
+    goes-on : (mk : Marking) → marking_in new.issued after (Some o) ≡ Some mk → IsGoing (state_with after new (Some o) n m) mk new.rows next
+    goes-on mk q =
+        let s = state_with stock.entries old (Some o) n m in
+        let e : Entry = numbered k made in
+        let before = marking_as old.issued stock.entries o in
+        let told = side-answers old new (Some o) n m stock after e side added step goes head next marks in
+        let on : MarksAfter true made.caller old.rows head made.op made.reply new.rows next → IsGoing (state_with after new (Some o) n m) (mark_after before made.op made.reply) new.rows next =
+        subst (λ (a : Answered PeerReplay). MarksAfter true made.caller old.rows head made.op a.reply new.rows next → IsGoing a.state (mark_after before made.op a.reply) new.rows next) told
+        (marks-step s before old.rows new.rows head next made.caller made.op made.cites step refl side.kept refl (opened old o head n m stock going)) in
+        let later : Some (mark_after before made.op made.reply) ≡ Some mk = sym (after-some before made.op made.reply) ∙ (sym (later-marking old new (Some o) n m stock after e side added step goes head next marks) ∙ q) in
+        subst (λ z. IsGoing (state_with after new (Some o) n m) z new.rows next) (same_Some (mark_after before made.op made.reply) mk later) (on marks)
+
+-- the list of grey peers is one after an event: what it shaded came into it
+shaded-list : (b : Bool) (these : ℕ → Type 0) (old : HeapRows) (before : ℕ) (new : HeapRows) (after : ℕ) → IsShaded b these old before new after → IsGreyList old.marks old.links before → IsGreyList new.marks new.links after
+shaded-list b these old before new after sh list = greyed-list (λ k. (b ≡ true) × these k) old.marks old.links before new.marks new.links after sh.shaded list
+
+same-list : (old : HeapRows) (before : ℕ) (new : HeapRows) (after : ℕ) → new ≡ record old { heap = new.heap } → after ≡ before → IsGreyList old.marks old.links before → IsGreyList new.marks new.links after
+same-list old before new after is at list = subst (λ (v : HeapRows). IsGreyList v.marks v.links after) (sym is) (subst (λ k. IsGreyList old.marks old.links k) (sym at) list)
+
+new-list : (old : HeapRows) (before : ℕ) (r : Reply) (new : HeapRows) (after : ℕ) → MarksNew old r new → after ≡ before → IsGreyList old.marks old.links before → IsGreyList new.marks new.links after
+new-list old before (says.P p) new after m at list = subst (λ k. IsGreyList new.marks new.links k) (sym at) (list.0, m.chained before list.0 list.1)
+new-list old before (says.Made p h) new after m at list = subst (λ k. IsGreyList new.marks new.links k) (sym at) (list.0, m.chained before list.0 list.1)
+new-list old before _ new after m at list = same-list old before new after m at list
+
+brought-list : (b : Bool) (old : HeapRows) (before : ℕ) (r : Reply) (new : HeapRows) (after : ℕ) → MarksBrought b old before r new after → IsGreyList old.marks old.links before → IsGreyList new.marks new.links after
+brought-list b old before (says.P p) new after m list = shaded-list b (λ k. k ≡ p.0) old before new after m list
+brought-list b old before _ new after m list = same-list old before new after m.0 m.1 list
+
+pub list-after : (b : Bool) (t : Thread) (old : HeapRows) (before : ℕ) (o : Op) (r : Reply) (new : HeapRows) (after : ℕ) → MarksAfter b t old before o r new after → IsGreyList old.marks old.links before → IsGreyList new.marks new.links after
+list-after b t old before (op.Line (act.NewPeer v n)) r new after m list = new-list old before r new after m.0 m.1 list
+list-after b t old before (op.Make sort n) r new after m list = new-list old before r new after m.0 m.1 list
+list-after b t old before (op.Line (act.Set v i w)) r new after m list = shaded-list b (λ k. overwritten old.heap (place (thread_number t) v.0) i (place_or_none (thread_number t) w) ≡ Some k) old before new after m list
+list-after b t old before (op.Line (act.WRead v g)) r new after m list = brought-list b old before r new after m list
+list-after b t old before (op.Land h x) r new after m list = brought-list b old before r new after m list
+list-after b t old before _ r new after m list = same-list old before new after m.0 m.1 list
 
 pub from-more : (o : Option OpenMarking) (a b : ℕ) → a ≤ b → IsFrom o a → IsFrom o b
 from-more None a b le from = tt
@@ -187,14 +221,14 @@ from-more (Some m) a b le from = omega (arith, le, from)
 
 -- the side after an event of a step
 pub IsSide-step : (old new : Rows) (o : Option OpenMarking) (n : ℕ) (m : Mirrors) (stock later : Stock) (k floor : ℕ) (made : Made) → later.entries ≡ stock.entries ++ numbered k made ∷ [] → AllBelow stock.entries floor → floor ≤ k → IsPeerStep made.caller made.op
-    → PeerAllows (state_with stock.entries old o n m) made.caller made.op made.cites nothing → GoesBy old made.caller made.op made.reply new → MarksAfter (is_some o) old.rows made.op made.reply new.rows → new.tabled + owed o + owes m ≤ later.spare → length later.entries + later.spare ≤ 4294967295
+    → PeerAllows (state_with stock.entries old o n m) made.caller made.op made.cites nothing → GoesBy old made.caller made.op made.reply new → (head next : ℕ) → MarksAfter (is_some o) made.caller old.rows head made.op made.reply new.rows next → new.tabled + owed o + owes m ≤ later.spare → length later.entries + later.spare ≤ 4294967295
     → IsSide old o n m stock → IsSide new o n m later
-IsSide-step old new o n m stock later k floor made added below above step allowed goes marks spare limit side =
+IsSide-step old new o n m stock later k floor made added below above step allowed goes head next marks spare limit side =
     let e : Entry = numbered k made in
-    let on = side-goes old new o n m stock later.entries k made side added step goes marks allowed in
+    let on = side-goes old new o n m stock later.entries k made side added step goes head next marks allowed in
     let still = step-quiet made.caller made.op step in
-    let more = grown old new o n m stock later.entries e side added step goes marks in
-    let room = room-after (is_some o) old.rows made.op made.reply new.rows marks in
+    let more = grown old new o n m stock later.entries e side added step goes head next marks in
+    let room = room-after (is_some o) made.caller old.rows head made.op made.reply new.rows next marks in
     record {
       replayed = replayed-told stock.entries later.entries (state_with stock.entries old o n m) (state_with later.entries new o n m) k floor made nothing below above added on side.replayed;
       kept = kept-step (state_with stock.entries old o n m) (state_with later.entries new o n m) made on side.kept;
@@ -202,16 +236,27 @@ IsSide-step old new o n m stock later k floor made added below above step allowe
       limit = limit;
       few = omega (arith, side.few, ap length added, length_push stock.entries e);
       from = from-more o (length stock.entries) (length later.entries) (omega (arith, ap length added, length_push stock.entries e)) side.from;
-      exact = exact-step old new o n m stock later.entries e side added step goes marks;
       mirrored = mirrored-still stock.entries later.entries e m.mirror added side.mirrored still;
       known = known-next old.issued new.issued stock.entries later.entries e added more still side.known;
       issued = omega (arith, side.issued, ap length more.1, length-append old.issued more.0, more.2, ap length added, length_push stock.entries e);
-      bare = λ e. refs-after (is_some o) old.rows made.op made.reply new.rows marks ∙ side.bare e;
+      bare = λ e. refs-after (is_some o) made.caller old.rows head made.op made.reply new.rows next marks ∙ side.bare e;
       refs_room = omega (arith, side.refs_room, room.0);
       temps_room = omega (arith, side.temps_room, room.1);
       temps_within = subst (λ n. AreWithin n m.waiting) (sym room.1) side.temps_within;
-      few_refs = omega (arith, side.few_refs, ap length (refs-after (is_some o) old.rows made.op made.reply new.rows marks));
+      few_refs = omega (arith, side.few_refs, ap length (refs-after (is_some o) made.caller old.rows head made.op made.reply new.rows next marks));
     }
+
+-- an open marking goes on over the event, and without one no list matters
+pub going-next : (old new : Rows) (o : Option OpenMarking) (head next n : ℕ) (m : Mirrors) (stock : Stock) (after : List Entry) (k : ℕ) (made : Made) → IsSide old o n m stock → after ≡ stock.entries ++ numbered k made ∷ [] → IsPeerStep made.caller made.op → GoesBy old made.caller made.op made.reply new
+    → MarksAfter (is_some o) made.caller old.rows head made.op made.reply new.rows next → AreGoing old o head n m stock.entries → AreGoing new o next n m after
+going-next old new o head next n m stock after k made side added step goes marks going =
+    AreGoing-step old new o head next n m stock after k made side added step goes marks (list-after (is_some o) made.caller old.rows head made.op made.reply new.rows next marks going.list) going
+
+pub roomy-going : (rows w : Rows) (o : Option OpenMarking) (head n : ℕ) (m mm : Mirrors) (es after : List Entry) (all temps : ℕ) → w ≡ record rows { rows = record rows.rows { room = all; temps = temps } } → after ≡ es → AreGoing rows o head n m es → AreGoing w o head n mm after
+roomy-going rows w o head n m mm es after all temps roomy same going =
+    let v = ap (λ (z : Rows). z.rows) roomy in
+    AreGoing-same rows w o head n m mm es after (ap (λ (z : HeapRows). z.heap) v) (ap (λ (z : HeapRows). z.refs) v) (ap (λ (z : HeapRows). z.marks) v) (ap (λ (z : HeapRows). z.links) v) (ap (λ (z : HeapRows). z.follows) v)
+    (ap (λ (z : Rows). marking_in z.issued after o) roomy ∙ ap (λ l. marking_in rows.issued l o) same) going
 
 -- room for references and temporaries, and for entries, doesn't stand in the state
 pub IsSide-roomy : (rows w : Rows) (o : Option OpenMarking) (n : ℕ) (m mm : Mirrors) (stock later : Stock) (all temps : ℕ) → w ≡ record rows { rows = record rows.rows { room = all; temps = temps } } → mm.mirror ≡ m.mirror → later.entries ≡ stock.entries
@@ -224,7 +269,6 @@ IsSide-roomy rows w o n m mm stock later all temps roomy same entries room limit
   few = side.few;
   issued = side.issued;
   from = side.from;
-  exact = rw same side.exact;
   mirrored = rw same side.mirrored;
   known = side.known;
   bare = λ e. side.bare (sym same ∙ e);

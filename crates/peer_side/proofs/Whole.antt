@@ -1,4 +1,4 @@
--- A marking that is exact is at its end: what slots and strong handles name is spared by the definition, and a mark tells that. What it then
+-- A marking without a grey peer is at its end: what slots and strong handles name is spared by the definition, and a mark tells that. What it then
 -- frees is what the definition's sweep frees, and no strong handle leads there.
 use Rattle.std.proofs.Common.{◌≡◌, ◌≢◌, ℕ, zero, suc, ◌≤◌, ◌<◌, inl, inr, Bool, true, List, [], ◌∷◌, map, length, get_or, Option, Some, None, eqb, if◌then◌else◌, refl, sym, ap, subst, ◌∙◌, arith}
 use Rattle.std.specs.Option.{option_map}
@@ -23,9 +23,8 @@ use Rattle.global_handles.specs.Rows.{IsWeakFor, RisesBetween, row_in}
 use Rattle.reachability.specs.Marks.{HasMark}
 use Rattle.peer_side.specs.declared.issues.Issue.{Issue}
 use Rattle.peer_side.specs.Marking.{IsWholeMarking, strong_in, with_marking}
-use Rattle.marking_laws.specs.Marks.{IsMarkedSide}
-use Rattle.marking_laws.proofs.MarkFacts.{spared-marked}
-use Rattle.marking_laws.proofs.MarkSweeps.{marks-shut}
+use Rattle.marking_laws.specs.Slices.{IsGoingSide}
+use Rattle.marking_laws.proofs.SliceEvents.{going-shut, spared-going}
 use Rattle.peer_side.specs.Rows.{AreRowsIssued, Rows, issued_as, row_as, strength_as, table_to}
 use Rattle.peer_side.proofs.Roots.{numbered-table, strong-in, strong-of}
 use Rattle.global_handles.proofs.Lookups.{RisesBetween-within, row_in-place}
@@ -141,18 +140,18 @@ strong-safe s k p c = λ mk e.
     let w = strong-at s.peers.issued s.table p c in
     subst (IsSpared mk) w.peer ((k.marking mk e).strong_ones (suc w.place) w.row w.issue w.tabled w.sure w.made)
 
--- and has a mark
-pub strong-marked : (s : PeerReplay) (mk : Marking) (follows : Bool) (marks : List Bool) → IsMarkedSide s mk follows marks → (p : ℕ) → Contains (strong_peers s.peers.issued s.table) p → HasMark marks p
+-- and has a mark once none is grey
+pub strong-marked : (s : PeerReplay) (mk : Marking) (follows : Bool) (marks : List Bool) → IsGoingSide s mk follows marks [] → (p : ℕ) → Contains (strong_peers s.peers.issued s.table) p → HasMark marks p
 strong-marked s mk follows marks side p c =
     let w = strong-at s.peers.issued s.table p c in
     let spared = (side.kept.marking mk side.opened).strong_ones (suc w.place) w.row w.issue w.tabled w.sure w.made in
-    subst (HasMark marks) w.peer (spared-marked s mk follows marks side.right w.issue.peer (subst (IsLive s.peers.heap) (sym w.peer) (strong-live s side.kept p c)) spared)
+    subst (HasMark marks) w.peer (spared-going s mk follows marks side.right w.issue.peer (subst (IsLive s.peers.heap) (sym w.peer) (strong-live s side.kept p c)) spared)
 
-pub whole-side : (s : PeerReplay) (v : Rows) (m : Option Marking) (n : ℕ) (mk : Marking) → IsMarkedSide (with_marking s v m n) mk v.rows.follows v.rows.marks → IsWholeMarking v
+pub whole-side : (s : PeerReplay) (v : Rows) (m : Option Marking) (n : ℕ) (mk : Marking) → IsGoingSide (with_marking s v m n) mk v.rows.follows v.rows.marks [] → IsWholeMarking v
 whole-side s v m n mk side =
     let st : PeerReplay = with_marking s v m n in
     record {
-      slots = λ p i. spared-marked st mk v.rows.follows v.rows.marks side.right p (side.kept.heap.slots p i) ((side.kept.marking mk side.opened).slots p i);
+      slots = λ p i. spared-going st mk v.rows.follows v.rows.marks side.right p (side.kept.heap.slots p i) ((side.kept.marking mk side.opened).slots p i);
       strong_ones = strong-marked st mk v.rows.follows v.rows.marks side;
-      shut = marks-shut st mk v.rows.follows v.rows.marks side;
+      shut = going-shut st mk v.rows.follows v.rows.marks side;
     }

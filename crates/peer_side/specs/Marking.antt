@@ -1,16 +1,16 @@
 -- What a marking and a sweep do to the handles: strong ones are roots, and those on a freed peer are cleared. (The Xamarin.Android
 -- documentation: a strong global reference keeps its peer alive, and a weak one is cleared when its peer is collected.)
-use Rattle.std.specs.Prelude.{ℕ, ◌⊎◌, ◌≡◌, Bool, List, [], ◌∷◌, ◌++◌, Contains, Option, Some, if◌then◌else◌, nat_eq}
+use Rattle.std.specs.Prelude.{ℕ, ◌⊎◌, ◌↔◌, Bool, List, [], ◌∷◌, ◌++◌, Contains, Option, if◌then◌else◌, nat_eq}
 use Rattle.std.specs.List.{list_any}
 use Rattle.joint_model.specs.Heaps.{Heap, InSlot}
 use Rattle.joint_model.specs.PeerReplay.{PeerReplay, Marking, strong_peers}
 use Rattle.reachability.specs.Marks.{IsClosed, HasMark}
-use Rattle.marking_laws.specs.Marks.{AreMarksExact}
 use Rattle.global_handles.specs.declared.HandleRow.{HandleRow}
 use Rattle.global_handles.specs.declared.Strength.{Strength}
 use Rattle.global_handles.specs.declared.Strength.TheVariants.{Strong, Weak}
 use Rattle.global_handles.specs.Rows.{cleared_row}
 use Rattle.row_heap.specs.Marks.{EdgeOf}
+use Rattle.row_marking.specs.Traces.{Chained}
 use Rattle.peer_side.specs.Rows.{Rows, peers_in}
 
 -- the peer, where its handle is strong
@@ -27,6 +27,13 @@ strong_in (r ∷ rows) = strong_on r.strength r.peer.0 ++ strong_in rows
 abbrev pub IsRoot : Heap → List ℕ → ℕ → Type 0
 IsRoot h strong_ones p = InSlot h p ⊎ Contains strong_ones p
 
+-- just the roots have marks, and all of them are grey, in the list that begins there
+pub record AreRootsGrey (root : ℕ → Type 0) (marks : List Bool) (links : List ℕ) (head : ℕ) : Type 0 where
+  pub greys : List ℕ
+  pub chained : Chained marks links head greys
+  pub marked : (p : ℕ) → HasMark marks p ↔ root p
+  pub grey : (p : ℕ) → Contains greys p ↔ HasMark marks p
+
 -- a marking at its end: each root has a mark, and what a peer with a mark leads to has one
 pub record IsWholeMarking (v : Rows) : Type 0 where
   pub slots : (p : ℕ) → InSlot v.rows.heap p → HasMark v.rows.marks p
@@ -40,7 +47,3 @@ cleared_on freed r = if list_any (nat_eq r.peer.0) freed then cleared_row r else
 -- a state of the replay with these peers and handles, with the references of the rows, and with this marking
 abbrev pub with_marking : PeerReplay → Rows → Option Marking → ℕ → PeerReplay
 with_marking s v marking markings = record s { peers = peers_in v; table = v.table; refs = v.rows.refs; marking = marking; markings = markings }
-
--- the marks are exact, where a marking is open
-abbrev pub AreMarksKept : PeerReplay → Bool → List Bool → Type 0
-AreMarksKept s follows marks = (mk : Marking) → s.marking ≡ Some mk → AreMarksExact s mk follows marks

@@ -1,6 +1,6 @@
--- The laws of a mirrored cycle: what the rows do is what the replay does, the marks of an open marking stay exact, and each restore is owed.
+-- The laws of a mirrored cycle: what the rows do is what the replay does, an open marking goes on, and each restore is owed.
 -- (This project's own.)
-use Rattle.std.specs.Prelude.{◌≡◌, ℕ, ◌+◌, ◌-◌, ◌≤◌, Bool, true, false, List, [], ◌∷◌, ◌++◌, length, Contains, Option, Some, None}
+use Rattle.std.specs.Prelude.{◌≡◌, ℕ, ◌+◌, ◌-◌, ◌≤◌, Bool, true, List, [], ◌∷◌, ◌++◌, length, Contains, Option, Some, None}
 use Rattle.joint_model.specs.declared.names.Cycle.{Cycle}
 use Rattle.joint_model.specs.declared.names.HNum.{HNum}
 use Rattle.joint_model.specs.declared.names.Thread.{Thread}
@@ -10,14 +10,14 @@ use Rattle.joint_model.specs.declared.events.Op.TheVariants as op
 use Rattle.joint_model.specs.declared.events.Reply.{Reply}
 use Rattle.joint_model.specs.declared.events.Reply.TheVariants as says
 use Rattle.joint_model.specs.Components.{End}
-use Rattle.joint_model.specs.Heaps.{answer}
+use Rattle.joint_model.specs.Heaps.{IsLive, answer}
 use Rattle.joint_model.specs.Peers.{Issued}
 use Rattle.joint_model.specs.PeerReplay.{PeerReplay, Marking, Mirror, brought_to, mirrored, peer_answer}
 use Rattle.joint_model.specs.Told.{nothing, references_of}
-use Rattle.marking_laws.specs.Marks.{AreMarksExact, IsMarkedSide}
+use Rattle.joint_laws.specs.PeerInvariants.{IsPeerKept}
 use Rattle.row_heap.specs.Rows.{HeapRows}
-use Rattle.peer_side.specs.Marks.{MarksAfter}
-use Rattle.peer_side.specs.Mirroring.{IsRemoved, IsRenewed, weak_row, with_row, with_stood}
+use Rattle.peer_side.specs.Marks.{IsGoing, IsShaded, MarksAfter}
+use Rattle.peer_side.specs.Mirroring.{IsRemoved, IsRenewed, weak_row, with_cleared, with_row, with_stood}
 use Rattle.peer_side.specs.Mirrors.{IsDue, given_at, mirrored_at, weakened_at, restored_at}
 use Rattle.peer_side.specs.Rows.{Rows, peers_in}
 use Rattle.peer_side.specs.Steps.{IsPeerStep}
@@ -47,16 +47,16 @@ pub record MirroredRowsGoOn : Type 0 where
       → peer_answer (state_of v (Some m) ms mk n) C (op.Weaken h) cites nothing ≡ answer says.Ok (state_of w (Some (weakened_more m h.0)) ms mk n)
   pub removes : (v w : Rows) (m : Mirror) (ms : List ℕ) (mk : Option Marking) (n : ℕ) (h : HNum) (cites : Option ℕ) → IsRemoved v h.0 w
       → peer_answer (state_of v (Some m) ms mk n) C (op.Restore h) cites nothing ≡ answer says.Cleared (state_of w (Some (restored_more m h.0)) ms mk n)
-  pub restores : (b : Bool) (v w : Rows) (m : Mirror) (ms : List ℕ) (mk : Option Marking) (n : ℕ) (h g : HNum) (cites : Option ℕ) (r : IsRenewed b v h.0 g w)
+  pub restores : (v w : Rows) (m : Mirror) (ms : List ℕ) (mk : Option Marking) (n : ℕ) (h g : HNum) (cites : Option ℕ) (r : IsRenewed v h.0 g w)
       → peer_answer (state_of v (Some m) ms mk n) C (op.Restore h) cites nothing ≡ answer (says.Renewed g) (state_of w (Some (renewed_more m h.0 g.0)) ms (brought_to mk r.peer) n)
-  pub clears : (v w : Rows) (m : Mirror) (ms : List ℕ) (mk : Option Marking) (n : ℕ) (k : Cycle) (cites : Option ℕ) → w ≡ record v { rows = record v.rows { refs = [] } }
+  pub clears : (v w : Rows) (m : Mirror) (ms : List ℕ) (mk : Option Marking) (n : ℕ) (k : Cycle) (cites : Option ℕ) → w ≡ with_cleared v w.rows
       → peer_answer (state_of v (Some m) ms mk n) C (op.Clear k) cites nothing ≡ answer says.Ok (state_of w None ms mk n)
 
--- marks that are exact stay so: where references come to stand, none of which the marking follows; and where a restored peer is brought back
-pub record MirrorsKeepMarks : Type 0 where
-  pub standing : (s : PeerReplay) (mk : Marking) (follows : Bool) (marks : List Bool) (k snap : ℕ) (refs : List (End × End)) → s.refs ≡ [] → AreMarksExact s mk follows marks → AreMarksExact (mirrored s k (Some snap) refs) mk false marks
-  pub restoring : (v w : Rows) (m later : Option Mirror) (ms : List ℕ) (mk : Marking) (n h : ℕ) (g : HNum) (r : IsRenewed true v h g w) → IsMarkedSide (state_of v m ms (Some mk) n) mk v.rows.follows v.rows.marks
-      → AreMarksExact (state_of w later ms (brought_to (Some mk) r.peer) n) (record mk { brought = mk.brought ++ r.peer ∷ [] }) w.rows.follows w.rows.marks
+-- a marking goes on: where references come to stand, none of which it follows; and where a restored peer is shaded
+pub record MirrorsGoOn : Type 0 where
+  pub standing : (v w : Rows) (m : Option Mirror) (ms : List ℕ) (mk : Marking) (o : Option Marking) (n head k snap : ℕ) (refs : List (End × End)) → v.rows.refs ≡ [] → w ≡ with_stood v refs → IsGoing (state_of v m ms o n) mk v.rows head → IsGoing (mirrored (state_of v m ms o n) k (Some snap) refs) mk w.rows head
+  pub restoring : (v w : Rows) (m later : Option Mirror) (ms : List ℕ) (mk : Marking) (n before after h : ℕ) (g : HNum) (r : IsRenewed v h g w) → IsShaded true (λ k. k ≡ r.peer) v.rows before w.rows after → IsLive v.rows.heap r.peer → IsPeerKept (state_of v m ms (Some mk) n) → IsGoing (state_of v m ms (Some mk) n) mk v.rows before
+      → IsGoing (state_of w later ms (brought_to (Some mk) r.peer) n) (record mk { brought = mk.brought ++ r.peer ∷ [] }) w.rows after
 
 -- a mirrored cycle owes no restore at first, one more after a weaken, and one less after a restore, where one is owed
 pub record RestoresAreOwed : Type 0 where
@@ -73,7 +73,7 @@ HasFurther old new = (more : List Issued) × (new ≡ old ++ more) × (length mo
 -- entry mirrors no cycle, and weakens and restores no handle
 pub record StepsLeaveMirrors : Type 0 where
   pub issued : (s : PeerReplay) (t : Thread) (o : Op) (cites : Option ℕ) → IsPeerStep t o → HasFurther s.peers.issued (peer_answer s t o cites nothing).state.peers.issued
-  pub room : (b : Bool) (old : HeapRows) (o : Op) (r : Reply) (new : HeapRows) → MarksAfter b old o r new → (new.room ≡ old.room) × (new.temps ≡ old.temps)
+  pub room : (b : Bool) (t : Thread) (old : HeapRows) (before : ℕ) (o : Op) (r : Reply) (new : HeapRows) (after : ℕ) → MarksAfter b t old before o r new after → (new.room ≡ old.room) × (new.temps ≡ old.temps)
   pub mirrors : (t : Thread) (o : Op) → IsPeerStep t o → mirrored_at o ≡ []
   pub weakens : (t : Thread) (o : Op) → IsPeerStep t o → weakened_at o ≡ []
   pub restores : (t : Thread) (o : Op) → IsPeerStep t o → restored_at o ≡ []

@@ -1,19 +1,18 @@
 -- What a mirrored cycle does to the peer rows: references come to stand and go, handles are made weak, and those on peers that are left are
 -- replaced by strong ones. (The Xamarin.Android documentation: a bridge collection adds references between peers, makes the global references
 -- weak, collects, and makes global references to those that are left.)
-use Rattle.std.specs.Prelude.{◌≡◌, ℕ, ◌+◌, ◌-◌, ◌⊎◌, ◌↔◌, ◌++◌, ◌∷◌, [], Bool, true, false, List, Contains, Option, Some, None, length}
+use Rattle.std.specs.Prelude.{◌≡◌, ℕ, ◌+◌, ◌-◌, ◌++◌, ◌∷◌, [], Bool, true, false, List, Option, Some, None, length}
 use Rattle.joint_model.specs.declared.names.HNum.{HNum}
 use Rattle.joint_model.specs.Components.{End, node, temporary}
 use Rattle.joint_model.specs.Heaps.{numbered_set}
 use Rattle.joint_model.specs.Peers.{held, peer_of, strong, weak}
 use Rattle.joint_model.specs.PeerReplay.{TableRow, opening_peer_replay, row_of}
-use Rattle.joint_model.specs.Walks.{Reached}
 use Rattle.global_handles.specs.declared.Back.{Back}
 use Rattle.global_handles.specs.declared.Back.TheVariants.{Alive, Cleared}
-use Rattle.reachability.specs.Marks.{HasMark}
-use Rattle.row_heap.specs.Marks.{EdgeOf}
+use Rattle.row_heap.specs.Rows.{HeapRows}
 use Rattle.peer_side.specs.declared.mirroring.RefEnd.{RefEnd}
 use Rattle.peer_side.specs.declared.mirroring.RefEnd.TheVariants.{Peer, Temp}
+use Rattle.peer_side.specs.Marks.{IsShaded}
 use Rattle.peer_side.specs.Rows.{Rows, with_rows}
 
 -- the row of a handle
@@ -48,9 +47,8 @@ pub record IsRemoved (old : Rows) (h : ℕ) (new : Rows) : Type 0 where
   pub rest : new ≡ record old { table = numbered_set old.table h None; tabled = new.tabled }
   pub fewer : new.tabled + 1 ≡ old.tabled
 
--- a restored handle left the table, and a held strong one on its peer came in its place, under the next number; the peer is brought back, if a
--- marking is open
-pub record IsRenewed (is_open : Bool) (old : Rows) (h : ℕ) (given : HNum) (new : Rows) : Type 0 where
+-- a restored handle left the table, and a held strong one on its peer came in its place, under the next number
+pub record IsRenewed (old : Rows) (h : ℕ) (given : HNum) (new : Rows) : Type 0 where
   pub row : TableRow
   pub tabled : row_at old h ≡ Some row
   pub kept : row.cleared ≡ false
@@ -62,14 +60,17 @@ pub record IsRenewed (is_open : Bool) (old : Rows) (h : ℕ) (given : HNum) (new
     issued = old.issued ++ record { peer = peer; hold = held; strength = strong } ∷ [];
     table = numbered_set old.table h None ++ Some strong_row ∷ [];
   }
-  pub marks : is_open ≡ true → (k : ℕ) → (HasMark new.rows.marks k ↔ (HasMark old.rows.marks k ⊎ Reached (Contains (peer ∷ [])) (EdgeOf old.rows) k))
 
 -- what a restore does to the rows before the peer is brought back
 abbrev pub RestoresRow : Rows → ℕ → Back → Rows → Type 0
 RestoresRow old h Cleared new = IsRemoved old h new
-RestoresRow old h (Alive given) new = IsRenewed false old h given new × (new.rows ≡ old.rows)
+RestoresRow old h (Alive given) new = IsRenewed old h given new × (new.rows ≡ old.rows)
 
--- what a restore does to the rows
-abbrev pub RestoresHandle : Bool → Rows → ℕ → Back → Rows → Type 0
-RestoresHandle is_open old h Cleared new = IsRemoved old h new
-RestoresHandle is_open old h (Alive given) new = IsRenewed is_open old h given new
+-- what a restore does to the rows: the peer of a new handle is shaded, if a marking is open
+abbrev pub RestoresHandle : Bool → Rows → ℕ → ℕ → Back → Rows → ℕ → Type 0
+RestoresHandle is_open old before h Cleared new after = IsRemoved old h new × (after ≡ before)
+RestoresHandle is_open old before h (Alive given) new after = (r : IsRenewed old h given new) × IsShaded is_open (λ k. k ≡ r.peer) old.rows before new.rows after
+
+-- the references go
+abbrev pub with_cleared : Rows → HeapRows → Rows
+with_cleared v w = record v { rows = record v.rows { refs = []; marks = w.marks; links = w.links } }

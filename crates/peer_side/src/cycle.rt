@@ -28,8 +28,8 @@ impl PeerSide {
     /// room that a mirrored cycle has still. Each call counts anew: what an earlier one took for references that do not wait yet, for temporaries
     /// and for the next cycle, counts no more.
     ///
-    /// Answers `AllocError`, with the side as before, where there is no memory, for more than 1,073,741,824 handles, or where a list would pass
-    /// 4,294,967,295.
+    /// Answers `AllocError`, with the side as before, where there is no memory, for more than 1,073,741,824 handles or 4,294,901,760 temporaries, or where a
+    /// list would pass 4,294,967,295.
     pub fn reserve_refs(&mut self, refs: u32, temps: u32, handles: u32) -> Result<(), AllocError>
         ensures ok { OnOk result (self.new ≡ record self.old { reserve = reserve_more self.old.reserve refs temps handles }) }
         ensures err { OnErr result (self.new ≡ self.old) }
@@ -112,7 +112,7 @@ impl PeerSide {
 
     /// Restores a handle that was weakened in the mirrored cycle: it leaves the table. Exactly where it is cleared that is all, which is `Cleared`; else
     /// a held strong handle on its peer comes in its place, under the next number, which is `Alive` with the new handle, and the peer is brought
-    /// back: while a marking is open it is marked, with all that it reaches. One entry is drawn and put last. It takes no memory.
+    /// back: while a marking is open it is shaded. One entry is drawn and put last. It takes no memory.
     pub fn restore<D: Draw>(&mut self, draw: &mut D, index: u32, h: HNum) -> Back
         requires restores { MayRestore self.old.state h.0 }
         requires may { MayDraw peer_rules (record { floor = D.floor; left = D.left; may = D.may; drew = D.drew }) draw.old (seen self.old) Thread.C (Op.Restore h) }
@@ -122,7 +122,7 @@ impl PeerSide {
         ensures reserve { self.new.reserve ≡ self.old.reserve }
     {
         let is_open = self.marking.is_some();
-        let back = self.rows.restore(h, is_open);
+        let back = self.rows.restore(h, is_open, &mut self.grey);
         let Some(mirror) = self.mirroring.mirror() else {
             unreachable!();
         };
@@ -139,8 +139,8 @@ impl PeerSide {
     }
 
     /// Ends the mirrored cycle: no reference stands from then on, and no temporary. One entry is drawn and put last, and its number is answered. Each
-    /// unfreed peer that a reference leads to, directly or over temporaries, has to be restored strong, so that an open marking that follows the
-    /// references misses nothing. It takes no memory.
+    /// unfreed peer that a reference leads to, directly or over temporaries, has to be restored strong, and is shaded while a marking is open: so
+    /// that misses nothing. It takes no memory.
     ///
     /// No reference led from a peer that is restored strong to a freed one: so none led to one whose restore answered `Cleared`.
     pub fn clear_refs<D: Draw>(&mut self, draw: &mut D, index: u32, cycle: Cycle) -> u64
@@ -153,7 +153,8 @@ impl PeerSide {
         ensures kept { (m : Mirror) (p q : ℕ) → self.old.state.mirror ≡ Some m → Refers self.old.state.refs p q → HasRestoredHandle self.old.state m p → IsLive self.old.state.peers.heap q }
         ensures reserve { self.new.reserve ≡ reserve_over self.old.reserve }
     {
-        self.rows.clear_refs();
+        let is_open = self.marking.is_some();
+        self.rows.clear_refs(is_open, &mut self.grey);
         self.mirroring.set_mirror(None);
         note(
             &mut self.entries,

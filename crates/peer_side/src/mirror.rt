@@ -1,16 +1,16 @@
-// What a mirrored cycle does to the peers and their handles: references come to stand and go, and handles are made weak and strong again.
+// What a mirrored cycle does to the peers and their handles: references come to stand and go, and handles are made weak and then restored.
 //
 // Each call is one event of the definition, without its entry. Room for references is taken before; nothing else here takes memory.
 
-ghost use Rattle.std.specs.Prelude.{◌≡◌, ℕ, ◌≤◌, ◌<◌, Some, All, OnErr, OnOk, IsTrue, length, map, max, []};
+ghost use Rattle.std.specs.Prelude.{◌≡◌, ℕ, ◌≤◌, ◌<◌, Some, All, OnErr, OnOk, IsTrue, length, map, max};
 ghost use Rattle.joint_model.specs.Peers.{peer_of};
 ghost use Rattle.joint_model.specs.PeerReplay.{TableRow};
 ghost use Rattle.global_handles.specs.Rows.{IsRising, row_in, with_strength, without};
-ghost use Rattle.reachability.specs.Marks.{IsClosed};
-ghost use Rattle.row_heap.specs.Marks.{EdgeOf};
+ghost use Rattle.row_marking.specs.Traces.{Greyed};
+ghost use Rattle.row_heap.specs.Marks.{AreEndsLive, IsReferred};
 ghost use Rattle.row_heap.specs.Ends.{ends_of};
 ghost use Rattle.row_heap.specs.Rows.{MayReferBoth};
-ghost use Rattle.peer_side.specs.Mirroring.{RestoresHandle, RestoresRow, row_at, strong_row, weak_row, with_row, with_stood};
+ghost use Rattle.peer_side.specs.Mirroring.{RestoresHandle, RestoresRow, row_at, strong_row, weak_row, with_cleared, with_row, with_stood};
 ghost use Rattle.peer_side.specs.Rows.{AreTargetsLive, with_rows};
 
 use crate::issues::Issue;
@@ -47,11 +47,26 @@ impl PeerRows {
         self.heap.add_references(refs);
     }
 
-    /// No reference stands from then on. It takes no memory.
-    pub(crate) fn clear_refs(&mut self)
-        ensures { self.new ≡ record self.old { rows = record self.old.rows { refs = [] } } }
+    /// No reference stands from then on. If a marking is open, what they led to is shaded before. It takes no memory.
+    pub(crate) fn clear_refs(&mut self, is_open: bool, grey: &mut u32)
+        requires { AreEndsLive self.old.rows }
+        ensures rest { self.new ≡ with_cleared self.old self.new.rows }
+        ensures shaded { Greyed (λ k. IsTrue is_open × IsReferred self.old.rows k) self.old.rows.marks self.old.rows.links grey.old self.new.rows.marks self.new.rows.links grey.new }
     {
+        self.shade_refs(is_open, grey);
         self.heap.clear_references();
+    }
+
+    // Shades what the references of live peers lead to, if a marking is open.
+    fn shade_refs(&mut self, is_open: bool, grey: &mut u32)
+        requires { AreEndsLive self.old.rows }
+        ensures rest { self.new ≡ record self.old { rows = record self.old.rows { marks = self.new.rows.marks; links = self.new.rows.links } } }
+        ensures shaded { Greyed (λ k. IsTrue is_open × IsReferred self.old.rows k) self.old.rows.marks self.old.rows.links grey.old self.new.rows.marks self.new.rows.links grey.new }
+    {
+        if !is_open {
+            return;
+        }
+        self.heap.shade_references(grey);
     }
 
     /// Makes a strong handle weak. It takes no memory.
@@ -63,19 +78,18 @@ impl PeerRows {
     }
 
     /// Removes a handle of the table, and answers `Cleared` where it is cleared; else a held strong handle on its peer comes in its place, which is
-    /// `Alive`. While a marking is open, the peer is then marked, with all that it reaches. It takes no memory.
-    pub(crate) fn restore(&mut self, h: HNum, is_open: bool) -> Back
+    /// `Alive`. While a marking is open, the peer is then shaded. It takes no memory.
+    pub(crate) fn restore(&mut self, h: HNum, is_open: bool, grey: &mut u32) -> Back
         requires tabled { (row : TableRow) × (row_at self.old h.0 ≡ Some row) }
         requires live { AreTargetsLive self.old }
         requires last { length self.old.issued < 4294967295 }
-        requires shut { IsTrue is_open → IsClosed (EdgeOf self.old.rows) self.old.rows.marks }
-        ensures { RestoresHandle is_open self.old h.0 result self.new }
+        ensures { RestoresHandle is_open self.old grey.old h.0 result self.new grey.new }
     {
         self.issued_rows();
         match self.target(h) {
             None => self.renew(h),
             Some(p) => {
-                self.bring_back(p, is_open);
+                self.bring_back(p, is_open, grey);
                 self.renew(h)
             }
         }

@@ -1,15 +1,15 @@
 // The laws of a mirrored cycle: what the rows do is what the replay does, and what that keeps.
 
-ghost use Rattle.peer_side.specs.MirrorLaws.{MirroredRowsGoOn, MirrorsKeepMarks, RestoresAreOwed, StepsLeaveMirrors};
+ghost use Rattle.peer_side.specs.MirrorLaws.{MirroredRowsGoOn, MirrorsGoOn, RestoresAreOwed, StepsLeaveMirrors};
 
 /// What the rows do in a mirrored cycle is what the replay does: references come to stand and go, and handles are weakened and restored.
 pub fn mirrored_rows_go_on()
     ensures { MirroredRowsGoOn }
 {}
 
-/// The marks of an open marking stay exact where references come to stand, and where a restored peer is brought back.
-pub fn mirrors_keep_marks()
-    ensures { MirrorsKeepMarks }
+/// An open marking goes on where references come to stand, and where a restored peer is shaded.
+pub fn mirrors_go_on()
+    ensures { MirrorsGoOn }
 {}
 
 /// A mirrored cycle owes a restore for each handle that is weakened and not restored.

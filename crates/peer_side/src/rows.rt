@@ -1,6 +1,6 @@
 // The peers with their sorts, slots and names, and the handles on them. Each call here is one event of the definition, without its entry.
 
-ghost use Rattle.std.specs.Prelude.{◌≡◌, ℕ, ◌+◌, ◌<◌, ◌≤◌, Some, None, IfOk, IsOk, OnErr, OnOk, length, count_by, is_some, ◌⊎◌, ◌↔◌, ◌||◌, ◌++◌, [], ◌∷◌, Contains, IsTrue, true, false};
+ghost use Rattle.std.specs.Prelude.{◌≡◌, ℕ, ◌+◌, ◌<◌, ◌≤◌, Some, None, IfOk, IsOk, OnErr, OnOk, length, count_by, is_some, ◌⊎◌, ◌↔◌, ◌||◌, ◌++◌, [], ◌∷◌, IsTrue, true, false};
 ghost use Rattle.std.specs.Option.{ForSome, option_map};
 ghost use Rattle.joint_model.specs.Heaps.{IsLive, answer, is_full, next_number, slot, with_object, numbered_at, numbered_set, copied, field_set, field_got, dropped, loaded, stored, place};
 ghost use Rattle.joint_model.specs.Histories.{peer_numbers};
@@ -9,10 +9,9 @@ ghost use Rattle.joint_model.specs.Managed.{place_or_none};
 ghost use Rattle.joint_model.specs.Peers.{peer_name, on_peer_heap, peer_made, handles_full, pair_made, gripped, landed, globalised, name_given, name_freed, name_read, peer_read};
 ghost use Rattle.joint_model.specs.PeerReplay.{PeerReplay, TableRow, opening_peer_replay, on_table, untabled, row_of, table_target};
 ghost use Rattle.joint_model.specs.Run.{thread_number};
-ghost use Rattle.joint_model.specs.Walks.{Reached};
-ghost use Rattle.reachability.specs.Marks.{IsClosed, HasMark};
-ghost use Rattle.row_heap.specs.Marks.{EdgeOf};
-ghost use Rattle.peer_side.specs.Marks.{AreMarksSame, MarksNew, MarksBrought, MarksAfter};
+ghost use Rattle.row_marking.specs.Traces.{Greyed};
+ghost use Rattle.row_heap.specs.Marks.{overwritten};
+ghost use Rattle.peer_side.specs.Marks.{AreMarksSame, MarksNew, MarksBrought, MarksAfter, MarksWritten};
 ghost use Rattle.global_handles.specs.Rows.{IsRising, fresh_row, row_in, target_in};
 ghost use Rattle.heap_rules.specs.Done.{say};
 ghost use Rattle.peer_side.specs.Rows.{PeersAnswer, AreTargetsLive, GoesBy, issued_to, number_of, row_as, strength_as, no_rows, peers_in, with_rows};
@@ -23,6 +22,7 @@ use global_handles::{HandleTable, Hold, MOST_HANDLES, Strength};
 use heap_rules::Done;
 use joint_model::{Act, HNum, NAMES, Op, PNum, Reply, Sort, Thread, Var, list_with_room};
 use row_heap::{MOST_OBJECTS, RowHeap};
+use row_marking::visit;
 use std::alloc::{AllocError, Global};
 use std::marker::Model;
 
@@ -67,13 +67,6 @@ impl PeerRows {
         ensures most { result ≤ 65535 }
     {
         self.table.len()
-    }
-
-    /// How many handles were issued, those that restores gave too: the number of the last one.
-    pub(crate) fn issued(&self) -> u32
-        ensures { result ≡ length self.now.issued }
-    {
-        self.table.last()
     }
 
     /// How many handles were issued otherwise than by a restore.
@@ -131,16 +124,34 @@ impl PeerRows {
         reply_of(done)
     }
 
-    // `set V I W`.
-    fn set(&mut self, v: usize, i: usize, w: Option<usize>) -> Reply
+    // `set V I W`. What it takes out of the field is shaded before.
+    fn set(&mut self, v: usize, i: usize, w: Option<usize>, is_open: bool, grey: &mut u32) -> Reply
         requires v { v < 72 }
         requires w { ForSome w (λ place. place < 72) }
         ensures answers { PeersAnswer self.old (on_peer_heap (peers_in self.old) (field_set self.old.rows.heap v i w)) result self.new }
-        ensures marks { AreMarksSame self.old.rows self.new.rows }
+        ensures marks { MarksWritten is_open self.old.rows grey.old (overwritten self.old.rows.heap v i w) self.new.rows grey.new }
         ensures tabled { self.new.tabled ≡ self.old.tabled }
     {
+        self.shade_field(v, i, w, is_open, grey);
         let done = self.heap.set(v, i, w);
         reply_of(done)
+    }
+
+    // Shades what `set V I W` is to take out of its field, if a marking is open.
+    #[inline(always)]
+    fn shade_field(&mut self, v: usize, i: usize, w: Option<usize>, is_open: bool, grey: &mut u32)
+        requires v { v < 72 }
+        requires w { ForSome w (λ place. place < 72) }
+        ensures rest { self.new ≡ record self.old { rows = record self.old.rows { marks = self.new.rows.marks; links = self.new.rows.links } } }
+        ensures shaded { Greyed (λ k. IsTrue is_open × (overwritten self.old.rows.heap v i w ≡ Some k)) self.old.rows.marks self.old.rows.links grey.old self.new.rows.marks self.new.rows.links grey.new }
+    {
+        if !is_open {
+            return;
+        }
+        match self.heap.overwritten(v, i, w) {
+            None => {}
+            Some(y) => visit(&mut self.heap, y, grey),
+        }
     }
 
     // `get V W I`.
@@ -345,49 +356,46 @@ impl PeerRows {
         self.table.target(h)
     }
 
-    /// Brings a peer back, if a marking is open: it has a mark from now on, with all that it reaches.
+    /// Brings a peer back, if a marking is open: it is shaded, which is to say that it has a mark from now on, and is grey where it had none.
     #[inline(always)]
-    pub(crate) fn bring_back(&mut self, p: PNum, is_open: bool)
+    pub(crate) fn bring_back(&mut self, p: PNum, is_open: bool, grey: &mut u32)
         requires live { IsLive self.old.rows.heap p.0 }
-        requires shut { IsTrue is_open → IsClosed (EdgeOf self.old.rows) self.old.rows.marks }
         ensures rest { self.new ≡ record self.old { rows = record self.old.rows { marks = self.new.rows.marks; links = self.new.rows.links } } }
-        ensures marks { IsTrue is_open → (k : ℕ) → (HasMark self.new.rows.marks k ↔ (HasMark self.old.rows.marks k ⊎ Reached (Contains (p.0 ∷ [])) (EdgeOf self.old.rows) k)) }
+        ensures shaded { Greyed (λ k. IsTrue is_open × (k ≡ p.0)) self.old.rows.marks self.old.rows.links grey.old self.new.rows.marks self.new.rows.links grey.new }
     {
         if !is_open {
             return;
         }
-        self.heap.bring_back(p.0);
+        visit(&mut self.heap, p.0, grey);
     }
 
     // `wread V G` of a peer thread: V names the peer that G's handle leads to.
-    fn read_name(&mut self, v: usize, g: usize, is_open: bool) -> Reply
+    fn read_name(&mut self, v: usize, g: usize, is_open: bool, grey: &mut u32) -> Reply
         requires v { v < 72 }
         requires g { g < 64 }
         requires live { AreTargetsLive self.old }
-        requires shut { IsTrue is_open → IsClosed (EdgeOf self.old.rows) self.old.rows.marks }
         ensures answers { PeersAnswer self.old (name_read (table_target (with_rows opening_peer_replay self.old)) (peers_in self.old) v g) result self.new }
-        ensures marks { MarksBrought is_open self.old.rows result self.new.rows }
+        ensures marks { MarksBrought is_open self.old.rows grey.old result self.new.rows grey.new }
         ensures tabled { self.new.tabled ≡ self.old.tabled }
     {
         match self.name(g) {
             None => Reply::Unset,
-            Some(h) => self.read_handle(v, HNum(h), is_open),
+            Some(h) => self.read_handle(v, HNum(h), is_open, grey),
         }
     }
 
     // A variable names the peer that a handle leads to.
-    fn read_handle(&mut self, v: usize, h: HNum, is_open: bool) -> Reply
+    fn read_handle(&mut self, v: usize, h: HNum, is_open: bool, grey: &mut u32) -> Reply
         requires v { v < 72 }
         requires live { AreTargetsLive self.old }
-        requires shut { IsTrue is_open → IsClosed (EdgeOf self.old.rows) self.old.rows.marks }
         ensures answers { PeersAnswer self.old (peer_read (peers_in self.old) v (table_target (with_rows opening_peer_replay self.old) h.0)) result self.new }
-        ensures marks { MarksBrought is_open self.old.rows result self.new.rows }
+        ensures marks { MarksBrought is_open self.old.rows grey.old result self.new.rows grey.new }
         ensures tabled { self.new.tabled ≡ self.old.tabled }
     {
         match self.target(h) {
             None => Reply::Gone,
             Some(p) => {
-                self.bring_back(p, is_open);
+                self.bring_back(p, is_open, grey);
                 self.heap.set_var(v, Some(p.0));
                 Reply::P(p)
             }
@@ -395,18 +403,17 @@ impl PeerRows {
     }
 
     // `land h x` of a managed thread: the static holds the peer that the handle leads to.
-    fn land(&mut self, h: HNum, x: usize, is_open: bool) -> Reply
+    fn land(&mut self, h: HNum, x: usize, is_open: bool, grey: &mut u32) -> Reply
         requires x { x < 16 }
         requires live { AreTargetsLive self.old }
-        requires shut { IsTrue is_open → IsClosed (EdgeOf self.old.rows) self.old.rows.marks }
         ensures answers { PeersAnswer self.old (landed (peers_in self.old) x (table_target (with_rows opening_peer_replay self.old) h.0)) result self.new }
-        ensures marks { MarksBrought is_open self.old.rows result self.new.rows }
+        ensures marks { MarksBrought is_open self.old.rows grey.old result self.new.rows grey.new }
         ensures tabled { self.new.tabled ≡ self.old.tabled }
     {
         match self.target(h) {
             None => Reply::Gone,
             Some(p) => {
-                self.bring_back(p, is_open);
+                self.bring_back(p, is_open, grey);
                 self.heap.set_static(x, Some(p.0));
                 Reply::P(p)
             }
@@ -440,29 +447,30 @@ impl PeerRows {
     }
 
     /// Makes one event of the definition: its reply and its change, without its entry. Answers `AllocError`, with nothing changed, where there
-    /// is no memory; a release takes none. While a marking is open, what a name or a handle gave is marked, with all that it reaches.
+    /// is no memory; a release takes none. While a marking is open, what a name or a handle gave is shaded, and what a write takes out of a field.
+    #[inline(always)]
     pub(crate) fn event(
         &mut self,
         caller: Thread,
         op: &Op,
         is_open: bool,
+        grey: &mut u32,
     ) -> Result<Reply, AllocError>
         requires step { IsPeerStep caller op.now }
         requires tabled { ReleasesTabled self.old.table op.now }
         requires live { AreTargetsLive self.old }
         requires last { (IsRelease op.now → ⊥) → length self.old.issued < 4294967295 }
-        requires shut { IsTrue is_open → IsClosed (EdgeOf self.old.rows) self.old.rows.marks }
         ensures goes { IfOk result (λ r. GoesBy self.old caller op.now r self.new) }
-        ensures marks { IfOk result (λ r. MarksAfter is_open self.old.rows op.now r self.new.rows) }
+        ensures marks { IfOk result (λ r. MarksAfter is_open caller self.old.rows grey.old op.now r self.new.rows grey.new) }
         ensures room { OnOk result (self.new.tabled + 1 ≤ room_for op.now self.old.tabled) }
         ensures release { IsRelease op.now → IsOk result }
-        ensures err { OnErr result (self.new ≡ self.old) }
+        ensures err { OnErr result ((self.new ≡ self.old) × (grey.new ≡ grey.old)) }
     {
         match op {
-            Op::Line(act) => self.line(caller, act, is_open),
+            Op::Line(act) => self.line(caller, act, is_open, grey),
             Op::Make { sort, fields } => self.make_pair(*sort, *fields),
             Op::Grip { x } => self.grip(x.0 as usize),
-            Op::Land { h, x } => Ok(self.land(*h, x.0 as usize, is_open)),
+            Op::Land { h, x } => Ok(self.land(*h, x.0 as usize, is_open, grey)),
             Op::Release { h } => {
                 self.remove(*h);
                 Ok(Reply::Ok)
@@ -472,21 +480,27 @@ impl PeerRows {
     }
 
     // Makes the event of a peer thread's line.
-    fn line(&mut self, caller: Thread, act: &Act, is_open: bool) -> Result<Reply, AllocError>
+    fn line(
+        &mut self,
+        caller: Thread,
+        act: &Act,
+        is_open: bool,
+        grey: &mut u32,
+    ) -> Result<Reply, AllocError>
         requires step { IsPeerStep caller (Op.Line act.now) }
         requires live { AreTargetsLive self.old }
         requires last { length self.old.issued < 4294967295 }
-        requires shut { IsTrue is_open → IsClosed (EdgeOf self.old.rows) self.old.rows.marks }
         ensures goes { IfOk result (λ r. GoesBy self.old caller (Op.Line act.now) r self.new) }
-        ensures marks { IfOk result (λ r. MarksAfter is_open self.old.rows (Op.Line act.now) r self.new.rows) }
+        ensures marks { IfOk result (λ r. MarksAfter is_open caller self.old.rows grey.old (Op.Line act.now) r self.new.rows grey.new) }
         ensures tabled { self.new.tabled ≤ self.old.tabled + 1 }
-        ensures err { OnErr result (self.new ≡ self.old) }
+        ensures err { OnErr result ((self.new ≡ self.old) × (grey.new ≡ grey.old)) }
     {
         match act {
             Act::NewPeer { v, fields } => self.make_peer(place(caller, *v), *fields),
             Act::Copy { v, w } => Ok(self.copy(place(caller, *v), place(caller, *w))),
             Act::Set { v, i, w } => {
-                Ok(self.set(place(caller, *v), *i as usize, place_or_none(caller, *w)))
+                let w = place_or_none(caller, *w);
+                Ok(self.set(place(caller, *v), *i as usize, w, is_open, grey))
             }
             Act::Get { v, w, i } => {
                 Ok(self.get(place(caller, *v), place(caller, *w), *i as usize))
@@ -501,7 +515,9 @@ impl PeerRows {
                 self.give_name(g.0 as usize, place(caller, *v), Strength::Weak)
             }
             Act::UnGlobal { g } => Ok(self.free_name(g.0 as usize)),
-            Act::WRead { v, g } => Ok(self.read_name(place(caller, *v), g.0 as usize, is_open)),
+            Act::WRead { v, g } => {
+                Ok(self.read_name(place(caller, *v), g.0 as usize, is_open, grey))
+            }
             _ => unreachable!(),
         }
     }

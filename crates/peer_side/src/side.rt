@@ -1,19 +1,21 @@
 // The peer side: its peers and handles, with the entries of what was done.
 
-ghost use Rattle.std.specs.Prelude.{◌≡◌, ℕ, ◌+◌, ◌≤◌, ◌^◌, ◌⊎◌, None, IsSome, MatchBool, map, length, count_by, is_some, drop, true, IfErr, IfOk, IsOk, OnErr, OnOk};
+ghost use Rattle.std.specs.Prelude.{◌≡◌, ◌≢◌, ℕ, ◌+◌, ◌≤◌, ◌^◌, ◌⊎◌, ◌↔◌, None, Some, IsSome, MatchBool, map, length, count_by, is_some, drop, true, IfErr, IfOk, IsOk, OnErr, OnOk};
 ghost use Rattle.std.specs.Option.{option_map};
 ghost use Rattle.joint_model.specs.declared.names.HNum.{HNum};
 ghost use Rattle.joint_model.specs.Draws.{AllBelow};
 ghost use Rattle.joint_model.specs.Histories.{peer_numbers};
 ghost use Rattle.joint_model.specs.Lines.{IsDriver, IsPeerThread};
-ghost use Rattle.joint_model.specs.PeerReplay.{PeerAllows, row_of, table_target};
+ghost use Rattle.joint_model.specs.PeerReplay.{Marking as MarkingState, PeerAllows, row_of, table_target};
 ghost use Rattle.joint_model.specs.Sides.{peer_rules, MayDraw, AddsInTurn, AddsLawful, AreTaken, IsReplayed};
-ghost use Rattle.joint_model.specs.Told.{nothing, sweep_of};
+ghost use Rattle.joint_model.specs.Told.{Told, nothing, sweep_of};
 ghost use Rattle.joint_laws.specs.PeerInvariants.{IsPeerKept};
 ghost use Rattle.global_handles.specs.Rows.{row_in, target_in};
 ghost use Rattle.peer_side.specs.Rows.{number_of, row_as};
-ghost use Rattle.peer_side.specs.Makings.{IsSideStep, MayDrawStep, MayStep, RefusesMarking, collect_makings, gone_since, step_makings};
-ghost use Rattle.peer_side.specs.Sides.{begins, ends, is_own, is_to_mark, opening_side, owed, reserve_begun, seen, MarkingIsEnded, IsFaultAt, IsMarkingOf, MayEnd};
+ghost use Rattle.peer_side.specs.Makings.{IsSideStep, MayDrawStep, MayStep, RefusesMarking, collect_makings, gone_since, step_makings, IsMarkEvent};
+ghost use Rattle.marking_laws.specs.Slices.{AreMarksGoing};
+ghost use Rattle.peer_side.specs.Sides.{begins, ends, is_own, is_to_mark, opening_side, owed, reserve_begun, seen, MarkingIsEnded, IsDrivers, IsEndOf, IsFaultAt, IsMarkingOf, IsSliced, MayEnd, SlicesMarking, SlicesOpen};
+ghost use Rattle.row_marking.specs.Traces.{IsGreyList};
 ghost use Rattle.peer_side.specs.Mirrors.{mirrors_begun, owes};
 ghost use Rattle.peer_side.specs.Steps.{IsPeerStep, IsRelease, room_for};
 
@@ -45,6 +47,13 @@ pub enum BeginFault {
 #[derive(Drop)]
 pub struct NoMark;
 
+/// Whether a slice left no grey peer, or some.
+#[derive(Clone, Copy, PartialEq, Eq, Debug)]
+pub enum SliceEnd {
+    Done,
+    More,
+}
+
 /// A marking that was ended, and where the peers that it freed stand in the list of freed ones.
 #[derive(Drop)]
 pub struct Swept {
@@ -52,13 +61,15 @@ pub struct Swept {
     pub freed: Span,
 }
 
-/// An open marking: its number and thread, how many entries there were after its begin, and the rows as they stood then, for proofs.
+/// An open marking: its number and thread, how many entries there were after its begin, the rows as they stood then, for proofs, and how many peers slices of
+/// its thread have made black.
 #[derive(Drop)]
 pub(crate) struct OpenMarking {
     pub(crate) number: Marking,
     pub(crate) by: Thread,
     pub(crate) from: u32,
     pub(crate) begin: Snapshot<PeerRows>,
+    pub(crate) blackened: u32,
 }
 
 /// The peers, their slots and names, the handles on them, the open marking, and the entries of what was done, each for the driver, for a managed
@@ -68,6 +79,8 @@ pub struct PeerSide {
     threads: u8,
     pub(crate) rows: PeerRows,
     pub(crate) marking: Option<OpenMarking>,
+    // Where the list of grey peers begins, which runs through the rows; 0 where none is grey.
+    pub(crate) grey: u32,
     markings: u32,
     pub(crate) mirroring: Mirroring,
     pub(crate) entries: Entries,
@@ -75,13 +88,13 @@ pub struct PeerSide {
 
 impl Model for PeerSide {
     ghost use Rattle.joint_model.specs.Sides.{AreTaken, peer_rules};
-    ghost use Rattle.peer_side.specs.Sides.{PeerModel, model_with, IsSide};
+    ghost use Rattle.peer_side.specs.Sides.{AreCounted, AreGoing, PeerModel, colours_of, model_with, IsSide};
 
     ghost Value = { PeerModel };
 
-    ghost view = { λ s. model_with s.threads s.entries.entries s.rows s.marking s.markings s.mirroring };
+    ghost view = { λ s. model_with s.threads s.entries.entries s.rows s.marking s.grey s.markings s.mirroring };
 
-    ghost invariant = { λ s. IsSide s.rows s.marking s.markings s.mirroring s.entries × AreTaken peer_rules s.threads s.entries.entries };
+    ghost invariant = { λ s. IsSide s.rows s.marking s.markings s.mirroring s.entries × AreTaken peer_rules s.threads s.entries.entries × AreGoing s.rows s.marking s.grey s.markings s.mirroring s.entries.entries × AreCounted s.marking (colours_of s.rows.rows s.grey) };
 }
 
 impl PeerSide {
@@ -95,6 +108,7 @@ impl PeerSide {
             threads,
             rows: PeerRows::new(alloc)?,
             marking: None,
+            grey: 0,
             markings: 0,
             mirroring: Mirroring::new(alloc),
             entries: Entries::new(alloc, holding),
@@ -148,6 +162,31 @@ impl PeerSide {
         }
     }
 
+    /// Makes a begin or a sweep, as [`PeerSide::step`] does.
+    ///
+    /// Answers `AllocError`, with the side and the draw as before, where there is no memory.
+    pub fn mark_step<D: Draw>(
+        &mut self,
+        draw: &mut D,
+        caller: Thread,
+        index: u32,
+        op: &Op,
+    ) -> Result<Reply, AllocError>
+        requires mark { IsMarkEvent op.now }
+        requires step { IsSideStep caller op.now }
+        requires allowed { MayStep self.old.state caller op.now None }
+        requires may { MayDrawStep (record { floor = D.floor; left = D.left; may = D.may; drew = D.drew }) draw.old (seen self.old) caller op.now }
+        ensures adds { IfOk result (λ r. AddsInTurn peer_rules (record { floor = D.floor; left = D.left; may = D.may; drew = D.drew }) draw.old draw.new (seen self.old) (seen self.new) (step_makings caller index op.now None r (gone_since self.old.state self.new.state))) }
+        ensures err { OnErr result ((self.new ≡ self.old) × (draw.new ≡ draw.old)) }
+        ensures reserve { self.new.reserve ≡ self.old.reserve }
+    {
+        match op {
+            Op::Begin => self.begin(draw, caller, index),
+            Op::Sweep => self.end(draw, caller, index),
+            _ => unreachable!(),
+        }
+    }
+
     // Makes what a line of a peer thread stands for.
     fn line<D: Draw>(
         &mut self,
@@ -194,7 +233,7 @@ impl PeerSide {
         let kept = kept(&self.rows, &self.marking, &self.mirroring);
         make_room(&mut self.entries, kept, op)?;
         let is_open = self.marking.is_some();
-        let reply = self.rows.event(caller, op, is_open)?;
+        let reply = self.rows.event(caller, op, is_open, &mut self.grey)?;
         let made = Made {
             caller,
             index,
@@ -315,8 +354,8 @@ impl PeerSide {
         Ok(reply)
     }
 
-    /// Begins a marking: what slots and strong handles name is marked, with all that it reaches. One entry is drawn and put last, and the
-    /// marking's number is answered.
+    /// Begins a marking: what slots and strong handles name is grey, and nothing else has a mark. One entry is drawn and put last, and the
+    /// marking's number is answered. From then on `mark_slice` makes grey peers black, and `sweep` those that are left.
     ///
     /// Answers `MarkOpen` exactly where a marking is open, and `OutOfMemory` where there is no memory; the side and the draw are then as
     /// before. The driver's begin of a mirrored cycle's own marking takes no memory: `reserve_refs` took it.
@@ -376,7 +415,7 @@ impl PeerSide {
         let kept = kept(&self.rows, &self.marking, &self.mirroring);
         room_to_mark(&mut self.entries, &mut self.mirroring, kept, own)?;
         let begin = Snapshot::of(&self.rows);
-        self.rows.mark();
+        self.grey = self.rows.mark();
         self.markings += 1;
         let number = Marking(self.markings);
         let made = Made {
@@ -393,12 +432,86 @@ impl PeerSide {
             by: caller,
             from,
             begin,
+            blackened: 0,
         });
         Ok(number)
     }
 
-    /// Ends the open marking: the peers that existed at its begin and have no mark are freed, in rising order, and the handles on them are
-    /// cleared. One entry is drawn and put last. It takes no memory.
+    /// Makes at most `n` grey peers of the open marking black: what each leads to is shaded. Answers `Done` exactly where none is grey then. Others may
+    /// change the peers between two slices: what they might hide from the marking is shaded as they do it. It makes no entry and takes no memory. The
+    /// open marking has to be the driver's.
+    ///
+    /// Answers `NoMark` exactly where no marking is open.
+    pub fn mark_slice(&mut self, n: u32) -> Result<SliceEnd, NoMark>
+        requires { IsDrivers self.old.state.marking }
+        ensures open { IsOk result ↔ IsSome self.old.state.marking }
+        ensures end { IfOk result (λ end. IsEndOf end self.new.colours.greys) }
+        ensures sliced { OnOk result (IsSliced n self.old.state self.old.colours self.new.colours) }
+        ensures rest { self.new ≡ record self.old { colours = self.new.colours } }
+        ensures err { OnErr result (self.new ≡ self.old) }
+    {
+        match self.marking() {
+            None => Err(NoMark),
+            Some(_) => {
+                let end = self.slice(n);
+                Ok(end)
+            }
+        }
+    }
+
+    // Makes at most so many grey peers black, and answers whether any is grey still.
+    fn slice(&mut self, n: u32) -> SliceEnd
+        requires { IsDrivers self.old.state.marking }
+        ensures end { IsEndOf result self.new.colours.greys }
+        ensures sliced { IsSliced n self.old.state self.old.colours self.new.colours }
+        ensures rest { self.new ≡ record self.old { colours = self.new.colours } }
+    {
+        let _ = self.rows.blacken(&mut self.grey, n);
+        end_of(self.grey)
+    }
+
+    /// Makes a slice of a peer thread's own marking: at most `n` grey peers are made black. Answers `done` exactly where all that the marking reaches so far are
+    /// black then, else `more`; `nomark` where no marking is open, and which one where another thread's is. One entry is drawn and put last, with the peers that
+    /// the marking reaches so far told beside it.
+    ///
+    /// Answers `AllocError`, with the side and the draw as before, where there is no memory for the entry.
+    pub fn thread_slice<D: Draw>(
+        &mut self,
+        draw: &mut D,
+        caller: Thread,
+        index: u32,
+        n: u32,
+    ) -> Result<Reply, AllocError>
+        requires caller { IsPeerThread caller }
+        requires count { (1 ≤ n) × (n ≤ 65535) }
+        requires may { MayDraw peer_rules (record { floor = D.floor; left = D.left; may = D.may; drew = D.drew }) draw.old (seen self.old) caller (Op.Line (Act.Slice n)) }
+        ensures adds { IfOk result (λ r. (told : Told) × AddsLawful peer_rules (record { floor = D.floor; left = D.left; may = D.may; drew = D.drew }) draw.old draw.new (seen self.old) (seen self.new) (record { caller = caller; index = index; op = Op.Line (Act.Slice n); reply = r; cites = None }) told) }
+        ensures err { OnErr result ((self.new ≡ self.old) × (draw.new ≡ draw.old)) }
+        ensures reserve { self.new.reserve ≡ self.old.reserve }
+    {
+        let kept = kept(&self.rows, &self.marking, &self.mirroring);
+        take_room(&mut self.entries, kept, 1)?;
+        let reply = slice_open(&mut self.rows, &mut self.grey, &mut self.marking, caller, n);
+        let made = Made {
+            caller,
+            index,
+            op: Op::Line(Act::Slice { n }),
+            reply,
+            cites: None,
+        };
+        enter(&mut self.entries, draw, made, None, &[]);
+        Ok(reply)
+    }
+
+    /// What holds of an open marking, for the proofs of callers: its marks and grey peers are those of a marking that goes on. It does nothing.
+    pub fn goes(&self)
+        ensures { (mk : MarkingState) → self.now.state.marking ≡ Some mk → AreMarksGoing self.now.state mk self.now.colours.follows self.now.colours.marks self.now.colours.greys }
+    {
+        let _ = &self.rows;
+    }
+
+    /// Ends the open marking: the grey peers that are left are made black, the peers that existed at its begin and have no mark are freed, in rising
+    /// order, and the handles on them are cleared. One entry is drawn and put last. It takes no memory.
     ///
     /// Answers `NoMark` exactly where no marking is open; the side and the draw are then as before.
     pub fn sweep<D: Draw>(
@@ -440,6 +553,7 @@ impl PeerSide {
         ensures swept { AddsLawful peer_rules (record { floor = D.floor; left = D.left; may = D.may; drew = D.drew }) draw.old draw.new (seen self.old) (seen self.new) (ends caller index marking result) (sweep_of (drop (length self.old.state.peers.heap.freed) self.new.state.peers.heap.freed)) }
         ensures reserve { self.new.reserve ≡ self.old.reserve }
     {
+        let _ = self.rows.blacken(&mut self.grey, u32::MAX);
         let first = self.rows.freed();
         self.rows.sweep();
         let count = self.rows.freed() - first;
@@ -475,13 +589,6 @@ impl PeerSide {
         ensures { result + length self.now.state.peers.heap.freed ≡ length self.now.state.peers.heap.fields }
     {
         self.rows.live()
-    }
-
-    /// How many handles were issued, those that restores gave too: the number of the last one.
-    pub fn issued(&self) -> u32
-        ensures { result ≡ length self.now.state.peers.issued }
-    {
-        self.rows.issued()
     }
 
     /// How many handles were made: those that restores gave don't count.
@@ -526,6 +633,62 @@ impl PeerSide {
             freed: self.rows.into_freed(),
         }
     }
+}
+
+// Whether the list of grey peers that begins there has any.
+fn end_of(grey: u32) -> SliceEnd
+    ensures done { grey ≡ 0 → result ≡ SliceEnd.Done }
+    ensures more { grey ≢ 0 → result ≡ SliceEnd.More }
+{
+    if grey == 0 {
+        SliceEnd::Done
+    } else {
+        SliceEnd::More
+    }
+}
+
+// What a slice of a thread answers, where a marking may be open.
+fn slice_open(
+    rows: &mut PeerRows,
+    grey: &mut u32,
+    marking: &mut Option<OpenMarking>,
+    caller: Thread,
+    n: u32,
+) -> Reply
+    requires { IsGreyList rows.old.rows.marks rows.old.rows.links grey.old }
+    ensures { SlicesOpen n caller rows.old grey.old marking.old rows.new grey.new marking.new result }
+{
+    match marking {
+        None => Reply::NoMark,
+        Some(opened) => sliced(rows, grey, opened, caller, n),
+    }
+}
+
+// What it answers by the open one: where that is its own, at most so many grey peers are made black and counted.
+fn sliced(
+    rows: &mut PeerRows,
+    grey: &mut u32,
+    opened: &mut OpenMarking,
+    caller: Thread,
+    n: u32,
+) -> Reply
+    requires { IsGreyList rows.old.rows.marks rows.old.rows.links grey.old }
+    ensures { SlicesMarking n caller rows.old grey.old opened.old rows.new grey.new opened.new result }
+{
+    if opened.by != caller {
+        return Reply::MarkOpen(opened.number);
+    }
+    let black = rows.blacken(grey, n);
+    opened.blackened = opened.blackened.wrapping_add(black);
+    end_of_slice(*grey)
+}
+
+// What a slice answers where the list of grey peers begins there.
+fn end_of_slice(grey: u32) -> Reply
+    ensures done { grey ≡ 0 → result ≡ Reply.Done }
+    ensures more { grey ≢ 0 → result ≡ Reply.More }
+{
+    if grey == 0 { Reply::Done } else { Reply::More }
 }
 
 // Whether a thread may end a marking: the driver, and the thread that began it.

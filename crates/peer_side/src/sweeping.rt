@@ -16,7 +16,7 @@ use joint_model::PNum;
 
 impl PeerRows {
     /// Frees the live peers without a mark, which come last in the list of freed ones, in rising order, and clears the handles on them. It takes
-    /// no memory.
+    /// no memory. The marking has to be at its end.
     pub(crate) fn sweep(&mut self)
         requires { IsWholeMarking self.old }
         ensures white { AreWhite self.old.rows (drop (length self.old.rows.heap.freed) self.new.rows.heap.freed) }

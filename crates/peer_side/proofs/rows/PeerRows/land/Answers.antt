@@ -1,5 +1,5 @@
--- The static holds the peer that the handle leads to, if it leads to one; the peer is brought back before.
-use Rattle.std.proofs.Common.{Some, sym, ap, subst, ◌∙◌}
+-- The static holds the peer that the handle leads to, if it leads to one; the peer is shaded before.
+use Rattle.std.proofs.Common.{◌≡◌, Some, sym, ap, subst, ◌∙◌}
 use Rattle.joint_model.specs.declared.events.Reply.TheVariants as says
 use Rattle.joint_model.specs.Heaps.{with_static}
 use Rattle.joint_model.specs.Peers.{landed}
@@ -7,7 +7,7 @@ use Rattle.joint_model.specs.PeerReplay.{opening_peer_replay, table_target}
 use Rattle.row_heap.specs.Rows.{HeapRows}
 use Rattle.peer_side.specs.Rows.{Rows, PeersAnswer, peers_in, with_rows}
 use Rattle.peer_side.proofs.Events.{answers-no_land, answers-landed}
-use Rattle.peer_side.proofs.Marks.{brought-back}
+use Rattle.peer_side.proofs.Marks.{shaded-before}
 use Rattle.peer_side.proofs.rows.PeerRows.land.Goals as goal
 
 pub returns-in-None-clause-answers : goal.returns-in-None-clause-answers
@@ -28,4 +28,4 @@ returns-in-Some-clause-marks c =
     let p = c.in-Some.p in
     let mid = c.bring_back.new.self in
     let slotted = c.set_static.ensures ∙ ap (λ (z : Rows). record z.rows { heap = with_static c.self.inside.heap.heap c.args.x (Some p.0) }) c.self.view_is in
-    brought-back c.args.is_open c.args.self.now.rows mid.rows c.set_static.new.self (with_static c.self.inside.heap.heap c.args.x (Some p.0)) p.0 slotted (ap (λ (z : Rows). z.rows) c.bring_back.ensures.rest) c.bring_back.ensures.marks
+    shaded-before c.args.is_open c.args.self.now.rows mid.rows c.set_static.new.self c.args.grey.now c.bring_back.new.grey (with_static c.self.inside.heap.heap c.args.x (Some p.0)) (λ k. k ≡ p.0) slotted (ap (λ (z : Rows). z.rows) c.bring_back.ensures.rest) c.bring_back.ensures.shaded

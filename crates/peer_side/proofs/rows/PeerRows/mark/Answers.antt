@@ -1,13 +1,12 @@
 -- Only marks and links change, so the parts fit as before; and what the strong rows name is what strong handles name.
 use Rattle.std.proofs.Common.{map, ap, refl}
-use Rattle.row_heap.specs.Marks.{EdgeOf}
 use Rattle.row_heap.specs.Rows.{HeapRows}
 use Rattle.joint_model.specs.PeerReplay.{strong_peers}
 use Rattle.peer_side.specs.Marking.{strong_in}
 use Rattle.global_handles.specs.Rows.{Table}
 use Rattle.peer_side.specs.Rows.{ArePeerRows, issued_as, rows_with, table_to}
 use Rattle.peer_side.proofs.Fitting.{ArePeerRows-marked}
-use Rattle.peer_side.proofs.Roots.{named-marks}
+use Rattle.peer_side.proofs.Roots.{named-roots}
 use Rattle.peer_side.proofs.Whole.{strong-listed_too, strong-named}
 use Rattle.peer_side.proofs.rows.PeerRows.mark.Goals as goal
 
@@ -32,14 +31,14 @@ invariant_of-self c =
     let fits : ArePeerRows i.heap i.sorts.items i.issued settled = record { rising = kept.rising; places = kept.places; rows_issued = kept.rows_issued; sorted = kept.sorted; short = kept.short } in
     rw c.settle.ensures (ArePeerRows-marked i.heap c.mark_roots.new.heap i.sorts.items i.issued settled (ap (λ (v : HeapRows). v.heap.fields) c.mark_roots.ensures.rest) fits)
 
-pub returns-clause-marks : goal.returns-clause-marks
-returns-clause-marks c =
+pub returns-clause-grey : goal.returns-clause-grey
+returns-clause-grey c =
     let i = c.self.inside in
     let t = i.table in
     let kept = c.self.invariant in
-    let marks = rw c.settle.ensures at c.mark_roots.ensures.marks in
-    rw (← c.self.view_is) (λ p. named-marks i.heap.heap (EdgeOf c.mark_roots.new.heap) (strong_in t.rows) (strong_peers (map issued_as i.issued) (table_to t.rows t.last)) c.mark_roots.new.heap.marks p
-    (λ x n. strong-listed_too t.rows i.issued t.last x kept.rising kept.places kept.rows_issued n) (λ x n. strong-named t.rows i.issued t.last x kept.rows_issued n) (marks p))
+    let grey = rw c.settle.ensures at c.mark_roots.ensures.grey in
+    rw (← c.self.view_is) (named-roots i.heap.heap (strong_in t.rows) (strong_peers (map issued_as i.issued) (table_to t.rows t.last)) c.mark_roots.new.heap.marks c.mark_roots.new.heap.links c.mark_roots.result
+    (λ x n. strong-listed_too t.rows i.issued t.last x kept.rising kept.places kept.rows_issued n) (λ x n. strong-named t.rows i.issued t.last x kept.rows_issued n) grey)
 
 pub returns-clause-rest : goal.returns-clause-rest
 returns-clause-rest c = rw (c.settle.ensures, ← c.self.view_is) (ap (λ (w : HeapRows). rows_with w c.self.inside.sorts.items c.self.inside.names c.self.inside.issued c.self.inside.table) c.mark_roots.ensures.rest)

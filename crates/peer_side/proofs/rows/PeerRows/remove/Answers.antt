@@ -2,7 +2,8 @@
 use Rattle.std.proofs.Common.{◌≡◌, None, sym, subst, ◌∙◌, length}
 use Rattle.joint_model.specs.Heaps.{numbered_set}
 use Rattle.peer_side.specs.Rows.{Rows, rows_with}
-use Rattle.peer_side.proofs.Handles.{rows-removed, length-without, length-without_le, row_in-shown, AreRowsIssued-removed}
+use Rattle.global_handles.proofs.Rows.{length-without}
+use Rattle.peer_side.proofs.Handles.{rows-removed, length-without_le, row_in-shown, AreRowsIssued-removed}
 use Rattle.peer_side.proofs.rows.PeerRows.remove.Goals as goal
 
 pub returns-clause-rows : goal.returns-clause-rows

@@ -1,5 +1,5 @@
 -- The row is made weak, and the table restores it: it goes, or one on its peer comes in its place.
-use Rattle.std.proofs.Common.{◌≡◌, ◌+◌, ◌∷◌, [], false, length, Some, refl, sym, ap, subst, ◌∙◌, arith, length-append}
+use Rattle.std.proofs.Common.{◌≡◌, ◌+◌, ◌∷◌, [], length, Some, refl, sym, ap, subst, ◌∙◌, arith, length-append}
 use Rattle.std.specs.Option.{option_map}
 use Rattle.std.proofs.lemmas.List.{length-map}
 use Rattle.std.proofs.lemmas.Option.{none-some}
@@ -101,7 +101,7 @@ returns-in-Alive c =
     let anew = c.in-Alive.ensures.anew c.in-Alive.given refl in
     let put = anew.0 ∙ renewed-loosened i.table.rows c.loosen.new.table.rows c.args.h c.in-Alive.given row at loose others in
     let last = anew.2 ∙ ap (λ k. k + 1) c.loosen.ensures.last in
-    subst (λ (z : Rows). IsRenewed false z c.args.h.0 c.in-Alive.given (rows_with i.heap i.sorts.items i.names c.push.new.self c.restore.new.self) × (i.heap ≡ z.rows)) c.self.view_is (
+    subst (λ (z : Rows). IsRenewed z c.args.h.0 c.in-Alive.given (rows_with i.heap i.sorts.items i.names c.push.new.self c.restore.new.self) × (i.heap ≡ z.rows)) c.self.view_is (
       renewed-row i.heap i.sorts.items i.names i.issued c.push.new.self i.table c.restore.new.self c.args.h c.in-Alive.given row c.self.invariant.rising c.self.invariant.rows_issued c.self.invariant.places at uncleared c.push.ensures put
           (anew.1 ∙ ap (λ k. k + 1) c.loosen.ensures.last) (c.in-Alive.ensures.made ∙ c.loosen.ensures.made) last,
       refl,

@@ -1,4 +1,4 @@
--- A handle that leads nowhere is cleared, and is removed; another one is renewed, and its peer is brought back before.
+-- A handle that leads nowhere is cleared, and is removed; another one is renewed, and its peer is shaded before.
 use Rattle.std.proofs.Common.{◌≡◌, Some, length, sym, ap, subst, arith}
 use Rattle.peer_side.specs.Mirroring.{row_at}
 use Rattle.peer_side.specs.Rows.{Rows}
@@ -12,7 +12,7 @@ pub renew-requires-in-Some-clause-last : goal.renew-requires-in-Some-clause-last
 renew-requires-in-Some-clause-last c = omega (arith, c.requires.last, ap (λ (z : Rows). length z.issued) c.bring_back.ensures.rest)
 
 pub returns-in-None : goal.returns-in-None
-returns-in-None c = restored-none c.args.is_open c.args.self.now c.renew.new.self c.args.h.0 c.renew.result c.in-None.ensures c.renew.ensures
+returns-in-None c = restored-none c.args.is_open c.args.self.now c.renew.new.self c.args.grey.now c.args.h.0 c.renew.result c.in-None.ensures c.renew.ensures
 
 pub returns-in-Some : goal.returns-in-Some
-returns-in-Some c = restored-some c.args.is_open c.args.self.now c.bring_back.new.self c.renew-in-Some.new.self c.args.h.0 c.in-Some.p.0 c.renew-in-Some.result c.in-Some.ensures c.bring_back.ensures.rest (λ up k. c.bring_back.ensures.marks up k) c.renew-in-Some.ensures
+returns-in-Some c = restored-some c.args.is_open c.args.self.now c.bring_back.new.self c.renew-in-Some.new.self c.args.grey.now c.bring_back.new.grey c.args.h.0 c.in-Some.p.0 c.renew-in-Some.result c.in-Some.ensures c.bring_back.ensures.rest c.bring_back.ensures.shaded c.renew-in-Some.ensures

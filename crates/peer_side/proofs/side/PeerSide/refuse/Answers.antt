@@ -5,7 +5,7 @@ use Rattle.joint_model.specs.declared.events.Made.{Made}
 use Rattle.joint_model.specs.Draws.{numbered}
 use Rattle.joint_model.specs.Sides.{peer_rules}
 use Rattle.joint_model.proofs.SideLists.{AreTaken-push}
-use Rattle.peer_side.proofs.Ends.{IsSide-pass, pass-goes}
+use Rattle.peer_side.proofs.Ends.{IsSide-pass, pass-goes, pass-going}
 use Rattle.std.proofs.lemmas.Result.{IfOk-from_err}
 use Rattle.peer_side.proofs.side.PeerSide.refuse.Goals as goal
 
@@ -21,6 +21,8 @@ invariant_of-self-2 g c =
           (omega (arith, c.in_ok-take_room.ensures.room, c.kept-kept.ensures.kept, c.enter.ensures.spare))
           (omega (arith, c.in_ok-take_room.ensures.limit, c.enter.ensures.spare, ap length draws.adds.added, length_push i.entries.entries (numbered draws.adds.number made), ap length c.in_ok-take_room.ensures.entries)),
       taken,
+      pass-going i.rows i.marking i.markings i.mirroring i.entries c.enter.new.entries.entries draws.adds.number made c.self.invariant.0 draws.adds.added passes i.grey c.self.invariant.2,
+      c.self.invariant.3,
     )
 
 pub returns-clause-adds : goal.returns-clause-adds

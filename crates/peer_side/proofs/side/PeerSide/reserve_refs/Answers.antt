@@ -5,7 +5,8 @@ use Rattle.joint_model.specs.Sides.{AreTaken, peer_rules}
 use Rattle.peer_side.specs.Mirrors.{Mirrors}
 use Rattle.peer_side.specs.Sides.{IsSide}
 use Rattle.std.proofs.lemmas.Result.{IfOk-from_err}
-use Rattle.peer_side.proofs.Sides.{IsSide-roomy}
+use Rattle.peer_side.proofs.Sides.{IsSide-roomy, roomy-going}
+use Rattle.peer_side.proofs.Counted.{roomy-counted}
 use Rattle.peer_side.proofs.side.PeerSide.reserve_refs.Goals as goal
 
 pub invariant_of-self-in_err-all : goal.invariant_of-self-in_err-all
@@ -16,6 +17,8 @@ invariant_of-self-in_err-all c =
       IsSide-roomy i.rows i.rows i.marking i.markings i.mirroring i.mirroring i.entries c.take_cycle.new.entries i.rows.rows.room i.rows.rows.temps refl refl room.entries
           (omega (arith, side.room, room.kept)) room.limit side.refs_room (omega arith) side.temps_room refl side,
       subst (AreTaken peer_rules i.threads) (sym room.entries) c.self.invariant.1,
+      roomy-going i.rows i.rows i.marking i.grey i.markings i.mirroring i.mirroring i.entries.entries c.take_cycle.new.entries.entries i.rows.rows.room i.rows.rows.temps refl room.entries c.self.invariant.2,
+      c.self.invariant.3,
     )
 
 pub invariant_of-self-in_err-reserve_refs : goal.invariant_of-self-in_err-reserve_refs
@@ -26,6 +29,8 @@ invariant_of-self-in_err-reserve_refs c =
       IsSide-roomy i.rows c.reserve_refs.new.self i.marking i.markings i.mirroring i.mirroring i.entries c.take_cycle.new.entries i.rows.rows.room i.rows.rows.temps c.in_err-reserve_refs.ensures.err refl room.entries
           (omega (arith, side.room, room.kept)) room.limit side.refs_room (omega arith) side.temps_room refl side,
       subst (AreTaken peer_rules i.threads) (sym room.entries) c.self.invariant.1,
+      roomy-going i.rows c.reserve_refs.new.self i.marking i.grey i.markings i.mirroring i.mirroring i.entries.entries c.take_cycle.new.entries.entries i.rows.rows.room i.rows.rows.temps c.in_err-reserve_refs.ensures.err room.entries c.self.invariant.2,
+      roomy-counted i.rows c.reserve_refs.new.self i.marking i.grey i.rows.rows.room i.rows.rows.temps c.in_err-reserve_refs.ensures.err c.self.invariant.3,
     )
 
 pub invariant_of-self-in_err-reserve : goal.invariant_of-self-in_err-reserve
@@ -38,6 +43,8 @@ invariant_of-self-in_err-reserve c =
           (IsSide-roomy i.rows c.reserve_refs.new.self i.marking i.markings i.mirroring i.mirroring i.entries c.take_cycle.new.entries c.in_ok-all.all (max i.rows.rows.temps c.args.temps) c.in_ok-reserve_refs.ensures.ok refl room.entries
           (omega (arith, side.room, room.kept)) room.limit c.in_ok-all.ensures.now more (omega (arith, side.temps_room, more)) refl side),
       subst (AreTaken peer_rules i.threads) (sym room.entries) c.self.invariant.1,
+      roomy-going i.rows c.reserve_refs.new.self i.marking i.grey i.markings i.mirroring c.reserve.new.self i.entries.entries c.take_cycle.new.entries.entries c.in_ok-all.all (max i.rows.rows.temps c.args.temps) c.in_ok-reserve_refs.ensures.ok room.entries c.self.invariant.2,
+      roomy-counted i.rows c.reserve_refs.new.self i.marking i.grey c.in_ok-all.all (max i.rows.rows.temps c.args.temps) c.in_ok-reserve_refs.ensures.ok c.self.invariant.3,
     )
 
 pub invariant_of-self-2 : goal.invariant_of-self-2
@@ -49,6 +56,8 @@ invariant_of-self-2 c =
           (IsSide-roomy i.rows c.reserve_refs.new.self i.marking i.markings i.mirroring more i.entries c.take_cycle.new.entries c.in_ok-all.all (max i.rows.rows.temps c.args.temps) c.in_ok-reserve_refs.ensures.ok refl room.entries
           (omega (arith, room.room, c.kept-kept.ensures.kept)) room.limit c.in_ok-all.ensures.more (le-max_left i.rows.rows.temps c.args.temps) (le-max_right i.rows.rows.temps c.args.temps) refl c.self.invariant.0),
       subst (AreTaken peer_rules i.threads) (sym room.entries) c.self.invariant.1,
+      roomy-going i.rows c.reserve_refs.new.self i.marking i.grey i.markings i.mirroring c.reserve.new.self i.entries.entries c.take_cycle.new.entries.entries c.in_ok-all.all (max i.rows.rows.temps c.args.temps) c.in_ok-reserve_refs.ensures.ok room.entries c.self.invariant.2,
+      roomy-counted i.rows c.reserve_refs.new.self i.marking i.grey c.in_ok-all.all (max i.rows.rows.temps c.args.temps) c.in_ok-reserve_refs.ensures.ok c.self.invariant.3,
     )
 
 pub returns-in_err-take_cycle-clause-ok : goal.returns-in_err-take_cycle-clause-ok

@@ -12,8 +12,10 @@ use Rattle.joint_model.proofs.SideLists.{AreTaken-push}
 use Rattle.peer_side.specs.Cycles.{mirrors}
 use Rattle.peer_side.specs.Mirroring.{with_stood}
 use Rattle.peer_side.specs.Mirrors.{Mirrors}
-use Rattle.peer_side.specs.Sides.{IsSide, state_with}
-use Rattle.peer_side.proofs.Cycles.{IsSide-stood, stood-goes, stood_mirrors, waiting-refer}
+use Rattle.peer_side.specs.Sides.{AreGoing, IsSide, state_with}
+use Rattle.peer_side.proofs.Cycles.{IsSide-stood, stood-goes, stood-marking, stood_mirrors, waiting-refer}
+use Rattle.peer_side.proofs.Counted.{counted-same}
+use Rattle.peer_side.specs.Rows.{Rows}
 use Rattle.peer_side.proofs.side.PeerSide.stand.Goals as goal
 
 counted : (refs : List (End × End)) (waiting : List (exact.End × exact.End)) → map ends_of refs ≡ waiting → length refs ≡ length waiting
@@ -48,6 +50,9 @@ invariant_of-self g c =
           (IsSide-stood i.rows c.stand.new.self i.marking i.markings i.mirroring i.entries c.note.new.entries draws.adds.number _ c.args.index c.args.cycle c.args.cites c.in-Some.handles c.self.invariant.0 draws.adds.added below draws.above put closed (sym c.in-Some.ensures) once ends
           (omega (arith, c.waiting-waiting.ensures.most, count)) c.note.ensures.spare),
       taken,
+      subst (λ z. AreGoing c.stand.new.self i.marking i.grey i.markings z c.note.new.entries.entries) (sym (c.stand-2.ensures ∙ ap stood c.len-from.ensures))
+          (stood-marking i.rows c.stand.new.self i.marking i.markings i.mirroring i.entries c.note.new.entries.entries draws.adds.number c.args.index c.args.cycle c.args.cites c.in-Some.handles c.self.invariant.0 draws.adds.added put closed i.grey c.self.invariant.2),
+      counted-same i.marking i.rows.rows c.stand.new.self.rows i.grey (ap (λ (z : Rows). z.rows.marks) put) (ap (λ (z : Rows). z.rows.links) put) c.self.invariant.3,
     )
 
 pub returns-clause-adds : goal.returns-clause-adds

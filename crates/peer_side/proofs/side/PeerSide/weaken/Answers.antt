@@ -4,8 +4,10 @@ use Rattle.joint_model.specs.Sides.{peer_rules}
 use Rattle.joint_model.proofs.SideLists.{AreTaken-push}
 use Rattle.peer_side.specs.Cycles.{weakens}
 use Rattle.peer_side.specs.declared.mirroring.OpenMirror.{OpenMirror}
-use Rattle.peer_side.specs.Sides.{IsSide, left_of}
-use Rattle.peer_side.proofs.Restoring.{IsSide-weakened, on_mirror}
+use Rattle.peer_side.specs.Sides.{AreGoing, IsSide, left_of}
+use Rattle.peer_side.proofs.Restoring.{IsSide-weakened, on_mirror, weaken-going}
+use Rattle.peer_side.proofs.Counted.{counted-same}
+use Rattle.peer_side.specs.Rows.{Rows}
 use Rattle.peer_side.proofs.side.PeerSide.weaken.Goals as goal
 
 pub weaken-requires : goal.weaken-requires
@@ -24,4 +26,7 @@ invariant_of-self g c =
       subst (λ z. IsSide c.weaken.new.self i.marking i.markings z c.note.new.entries) (sym (◌∙◌ {b = on_mirror i.mirroring c.weakened.result} c.set_mirror.ensures (ap (on_mirror i.mirroring) c.weakened.ensures)))
           (IsSide-weakened i.rows c.weaken.new.self i.marking i.markings i.mirroring x i.entries c.note.new.entries draws.adds.number _ c.args.index c.args.h c.args.cites c.self.invariant.0 draws.adds.added below draws.above c.weaken.ensures here left may c.note.ensures.spare),
       taken,
+      subst (λ z. AreGoing c.weaken.new.self i.marking i.grey i.markings z c.note.new.entries.entries) (sym (◌∙◌ {b = on_mirror i.mirroring c.weakened.result} c.set_mirror.ensures (ap (on_mirror i.mirroring) c.weakened.ensures)))
+          (weaken-going i.rows c.weaken.new.self i.marking i.markings i.mirroring x i.entries c.note.new.entries.entries draws.adds.number c.args.index c.args.h c.args.cites c.self.invariant.0 draws.adds.added c.weaken.ensures here i.grey c.self.invariant.2),
+      counted-same i.marking i.rows.rows c.weaken.new.self.rows i.grey (ap (λ (z : Rows). z.rows.marks) c.weaken.ensures) (ap (λ (z : Rows). z.rows.links) c.weaken.ensures) c.self.invariant.3,
     )
