@@ -11,7 +11,8 @@
 // per candidate.
 //
 // The life of a queue: `Notices::new`, with nothing waiting and no room. `reserve` makes room, at a time when
-// want of memory can still be answered. `push` puts a notice last and uses one place of the room. `take` gives
+// want of memory can still be answered; `widen` makes it in a list that was taken at such a time, and takes none itself.
+// `push` puts a notice last and uses one place of the room. `take` gives
 // the oldest notice that waits: first in, first out. Notices that were given out stay in the list, so `take`
 // moves nothing, `at` and `into_all` can tell every notice that there ever was, and `queued` is the list's
 // length.
@@ -20,7 +21,7 @@
 // is never refused, since it needs room beforehand.
 #![tactic(auto)]
 
-ghost use Rattle.std.specs.Prelude.{◌≡◌, ◌+◌, ◌≤◌, ◌==◌, [], ◌∷◌, ◌++◌, length, slice_get, MatchOption, is_some, if◌then◌else◌, IfOk, IsOk, OnErr};
+ghost use Rattle.std.specs.Prelude.{◌≡◌, ◌+◌, ◌≤◌, ◌==◌, [], ◌∷◌, ◌++◌, length, slice_get, MatchOption, is_some, if◌then◌else◌, IfOk, IsOk, OnErr, vec_capacity};
 ghost use Rattle.finaliser_queue.specs.Queue.{waiting_in};
 
 use joint_model::MNum;
@@ -47,6 +48,19 @@ impl Model for Notices {
     ghost view = { λ s. record { queued = s.list.items; taken = s.taken; spare = min (vec_capacity s.list) 4294967295 - vec_len s.list } };
 
     ghost invariant = { λ s. (s.taken ≤ vec_len s.list) × (vec_len s.list ≤ 4294967295) };
+}
+
+// The notices in a list that has room for them.
+fn copied(notices: &[MNum], mut list: Vec<MNum>) -> Vec<MNum>
+    requires empty { list.items ≡ [] }
+    requires room { length notices.now ≤ vec_capacity list }
+    ensures items { result.items ≡ notices.now }
+    ensures capacity { vec_capacity result ≡ vec_capacity list }
+{
+    for m in notices {
+        list.push_reserved(*m);
+    }
+    list
 }
 
 impl Notices {
@@ -79,6 +93,22 @@ impl Notices {
             return Err(AllocError);
         }
         self.list.reserve(n as usize)
+    }
+
+    /// Makes room without taking memory: afterwards `spare` is at least `n`. Where there was less, the notices move into `list`, which is empty and has
+    /// room for all that were queued and `n` more; else `list` goes unused. The notices stay.
+    pub fn widen(&mut self, n: u32, list: Vec<MNum>)
+        requires empty { list.items ≡ [] }
+        requires wide { length self.old.queued + n ≤ vec_capacity list }
+        requires most { length self.old.queued + n ≤ 4294967295 }
+        ensures room { n ≤ self.new.spare }
+        ensures queued { self.new.queued ≡ self.old.queued }
+        ensures taken { self.new.taken ≡ self.old.taken }
+    {
+        if n <= self.spare() {
+            return;
+        }
+        self.list = copied(&self.list, list);
     }
 
     /// Puts a notice last. It takes no memory: it uses one place of the room that `reserve` made.

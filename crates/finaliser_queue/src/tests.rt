@@ -6,6 +6,7 @@ use super::*;
 #[derive(Clone, Copy)]
 enum Call {
     Reserve(u32),
+    Widen(u32),
     Push(MNum),
     Take(Option<MNum>),
     Waiting(u32),
@@ -15,7 +16,7 @@ enum Call {
     IsEmpty(bool),
 }
 
-const CALLS: [Call; 21] = [
+const CALLS: [Call; 23] = [
     Call::IsEmpty(true),
     Call::Reserve(2),
     Call::Push(MNum(5)),
@@ -33,6 +34,9 @@ const CALLS: [Call; 21] = [
     Call::Push(MNum(2)),
     Call::Push(MNum(9)),
     Call::Take(Some(MNum(2))),
+    // a move into another list loses none
+    Call::Widen(4),
+    Call::Widen(1000),
     Call::Waiting(1),
     Call::Taken(4),
     Call::Queued(5),
@@ -41,9 +45,23 @@ const CALLS: [Call; 21] = [
     Call::At(5, None),
 ];
 
+// Makes room in a further list; whether there is as much then.
+fn widens(alloc: Global, notices: &mut Notices, n: u32) -> bool {
+    let queued = notices.queued();
+    if n > u32::MAX - queued {
+        return false;
+    }
+    let Ok(list) = Vec::with_capacity(alloc, (queued + n) as usize) else {
+        return false;
+    };
+    notices.widen(n, list);
+    notices.spare() >= n
+}
+
 // Whether the call may be made, and answers so.
-fn answers(notices: &mut Notices, call: &Call) -> bool {
+fn answers(alloc: Global, notices: &mut Notices, call: &Call) -> bool {
     match *call {
+        Call::Widen(n) => widens(alloc, notices, n),
         Call::Reserve(n) => notices.reserve(n).is_ok() && notices.spare() >= n,
         Call::Push(m) => {
             let may = notices.spare() >= 1;
@@ -62,9 +80,9 @@ fn answers(notices: &mut Notices, call: &Call) -> bool {
 }
 
 // The place of the first call that answers otherwise.
-fn miss(notices: &mut Notices) -> Option<usize> {
+fn miss(alloc: Global, notices: &mut Notices) -> Option<usize> {
     for (i, call) in CALLS.as_slice().iter().enumerate() {
-        if !answers(notices, call) {
+        if !answers(alloc, notices, call) {
             return Some(i);
         }
     }
@@ -74,7 +92,7 @@ fn miss(notices: &mut Notices) -> Option<usize> {
 #[test]
 fn calls_answer_as_the_table_says(rt: HostRuntime) {
     let mut notices = Notices::new(rt.alloc());
-    assert_eq!(rt; miss(&mut notices), None);
+    assert_eq!(rt; miss(rt.alloc(), &mut notices), None);
     let all = notices.into_all();
     assert!(rt; all.as_slice() == [MNum(5), MNum(3), MNum(7), MNum(2), MNum(9)].as_slice());
 }

@@ -1,6 +1,7 @@
 pub mod Kept
 pub mod GivenPins
 pub mod FieldRoom
+pub mod Ready
 pub mod Goes
 pub mod Peers
 pub mod Given

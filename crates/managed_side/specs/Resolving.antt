@@ -45,9 +45,7 @@ pub record HasAnswers (s : ManagedReplay) (alive : List (Option HNum)) : Type 0 
 
 -- so it is, and the handles of the answers are all different and were taken by no row
 pub record MayClose (s : ManagedReplay) (alive : List (Option HNum)) : Type 0 where
-  pub cycle : OpenCycle
-  pub opened : s.managed.cycle ≡ Some cycle
-  pub one_each : length alive ≡ length cycle.candidates
+  pub answers : HasAnswers s alive
   pub new : AreNew s.adopted (handles_given (answers_of alive))
 
 -- the resolution of the open cycle, the state after it, and what the caller is told

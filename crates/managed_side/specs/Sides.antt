@@ -1,10 +1,13 @@
 -- What contracts see of a managed side.
-use Rattle.std.specs.Prelude.{◌≡◌, ℕ, ◌≤◌, Bool, true, false, List, length, Option, Some, None}
+use Rattle.std.specs.Prelude.{◌≡◌, ℕ, ◌≤◌, Bool, true, false, List, length, Option, Some, None, Result, Ok, Err}
 use Rattle.joint_model.specs.declared.events.Entry.{Entry}
 use Rattle.joint_model.specs.Managed.{OpenCycle}
 use Rattle.joint_model.specs.ManagedReplay.{ManagedReplay}
 use Rattle.joint_model.specs.Sides.{Side}
 use Rattle.joint_laws.specs.ManagedInvariants.{IsReplayKept}
+use Rattle.managed_side.specs.declared.opening.Opened.{Opened}
+use Rattle.managed_side.specs.declared.opening.SnapFault.{SnapFault}
+use Rattle.managed_side.specs.declared.opening.SnapFault.TheVariants as fault
 use Rattle.managed_side.specs.declared.side.TwinAnswer.{TwinAnswer}
 use Rattle.managed_side.specs.declared.side.TwinAnswer.TheVariants as twins
 use Rattle.managed_side.specs.Rows.{with_adopted}
@@ -14,7 +17,29 @@ use Rattle.managed_side.specs.Takings.{taken_in}
 abbrev pub state_of : List (List ℕ) → ManagedReplay → ManagedReplay
 state_of takings rows = with_adopted rows (taken_in takings)
 
--- a side for so many managed threads, by its entries, the handles that were given to rows, and its rows
+-- what is seen of the managed side: for how many managed threads it is, its entries, the state of their replay, and beside these whether it is ready: all
+-- memory that a snapshot needs is taken
+pub record ManagedModel : Type 0 where
+  pub threads : ℕ
+  pub entries : List Entry
+  pub state : ManagedReplay
+  pub ready : Bool
+
+-- what both sides show
+abbrev pub as_side : ManagedModel → Side ManagedReplay
+as_side m = record { threads = m.threads; entries = m.entries; state = m.state }
+
+-- whether a side is ready after a snapshot was asked for: one that was taken used the room up, and one for which the gate wasn't closed left it
+abbrev pub ready_after : Result Opened SnapFault → Bool → Bool
+ready_after (Ok out) ready = false
+ready_after (Err fault.NotClosed) ready = true
+ready_after (Err fault.OutOfMemory) ready = ready
+ready_after (Err (fault.CycleOpen c)) ready = ready
+
+-- a side for so many managed threads, by its entries, the handles that were given to rows, and its rows; and with whether it is ready
+abbrev pub model_of : ℕ → List Entry → List (List ℕ) → ManagedReplay → Bool → ManagedModel
+model_of threads entries takings rows ready = record { threads = threads; entries = entries; state = state_of takings rows; ready = ready }
+
 abbrev pub side_of : ℕ → List Entry → List (List ℕ) → ManagedReplay → Side ManagedReplay
 side_of threads entries takings rows = record { threads = threads; entries = entries; state = state_of takings rows }
 

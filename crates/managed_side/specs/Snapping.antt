@@ -5,14 +5,7 @@ use Rattle.joint_model.specs.Managed.{with_snapshot}
 use Rattle.joint_model.specs.ManagedReplay.{ManagedReplay}
 use Rattle.joint_model.specs.Readers.{with_pins}
 use Rattle.bridge_graph.specs.Parts.{Part}
-use Rattle.managed_side.specs.declared.snapping.NotSnapped.{NotSnapped}
-use Rattle.managed_side.specs.declared.snapping.NotSnapped.TheVariants as not_snapped
 use Rattle.managed_side.specs.Graphs.{IsDeadGraph}
-
--- by why a snapshot wasn't taken: for want of memory, or since the gate wasn't closed
-abbrev pub ByFault : NotSnapped → Type 0 → Type 0 → Type 0
-ByFault not_snapped.OutOfMemory m r = m
-ByFault not_snapped.NotClosed m r = r
 
 -- the snapshot that opens the next cycle, with the pins that are given, the state after it, and what the caller is told
 pub record TakesSnapshot (s next : ManagedReplay) (pins : List (Option ℕ)) (freed : List ℕ) (number first count : ℕ) (graph : Part) : Type 0 where

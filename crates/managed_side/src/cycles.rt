@@ -1,12 +1,14 @@
 // The calls that carry an open cycle on and close it. Each makes one entry of the driver, and none takes memory.
 
-ghost use Rattle.std.specs.Prelude.{◌≡◌, ℕ, List, Some, IsSome};
+ghost use Rattle.std.specs.Prelude.{◌≡◌, ℕ, List, Some, IsSome, false};
 ghost use Rattle.joint_model.specs.declared.names.Thread.TheVariants.{C};
 ghost use Rattle.joint_model.specs.Managed.{OpenCycle};
 ghost use Rattle.joint_model.specs.Sides.{MayDraw, managed_rules};
 ghost use Rattle.managed_side.specs.Calls.{Abandons, Contracts, MayContractWith, Resolves, abandon_op, contract_op, resolve_op};
 ghost use Rattle.managed_side.specs.Resolving.{MayClose};
+ghost use Rattle.managed_side.specs.Sides.{as_side};
 
+use crate::rooms::give_back;
 use crate::side::ManagedSide;
 use joint_model::{Alive, Cycle, Draw, Made, Op, Reply, Span, Thread, enter};
 
@@ -22,8 +24,9 @@ impl ManagedSide {
     /// It takes no memory.
     pub fn contracted<D: Draw>(&mut self, draw: &mut D, index: u32, sccs: u32, xrefs: u32)
         requires contracted { MayContractWith self.old.state sccs xrefs }
-        requires may { (c : OpenCycle) → self.old.state.managed.cycle ≡ Some c → MayDraw managed_rules (record { floor = D.floor; left = D.left; may = D.may; drew = D.drew }) draw.old self.old C (contract_op c) }
-        ensures contracts { (c : OpenCycle) → self.old.state.managed.cycle ≡ Some c → Contracts (record { floor = D.floor; left = D.left; may = D.may; drew = D.drew }) draw.old draw.new self.old self.new index sccs xrefs c }
+        requires may { (c : OpenCycle) → self.old.state.managed.cycle ≡ Some c → MayDraw managed_rules (record { floor = D.floor; left = D.left; may = D.may; drew = D.drew }) draw.old (as_side self.old) C (contract_op c) }
+        ensures contracts { (c : OpenCycle) → self.old.state.managed.cycle ≡ Some c → Contracts (record { floor = D.floor; left = D.left; may = D.may; drew = D.drew }) draw.old draw.new (as_side self.old) (as_side self.new) index sccs xrefs c }
+        ensures used { self.new.ready ≡ false }
     {
         let cycle = Cycle(self.rows.contract());
         let made = Made {
@@ -34,6 +37,7 @@ impl ManagedSide {
             cites: None,
         };
         enter(&mut self.entries, draw, made, None, &[]);
+        give_back(&mut self.room);
     }
 
     /// Resolves the open cycle: frees the rows of the dead part that no candidate reaches that was answered alive, queues a notice for each of
@@ -51,8 +55,9 @@ impl ManagedSide {
         alive: &Alive,
     ) -> ResolveOut
         requires close { MayClose self.old.state alive.now.values }
-        requires may { (c : OpenCycle) → self.old.state.managed.cycle ≡ Some c → MayDraw managed_rules (record { floor = D.floor; left = D.left; may = D.may; drew = D.drew }) draw.old self.old C (resolve_op c) }
-        ensures resolves { Resolves (record { floor = D.floor; left = D.left; may = D.may; drew = D.drew }) draw.old draw.new self.old self.new index cites alive.now.values result }
+        requires may { (c : OpenCycle) → self.old.state.managed.cycle ≡ Some c → MayDraw managed_rules (record { floor = D.floor; left = D.left; may = D.may; drew = D.drew }) draw.old (as_side self.old) C (resolve_op c) }
+        ensures resolves { Resolves (record { floor = D.floor; left = D.left; may = D.may; drew = D.drew }) draw.old draw.new (as_side self.old) (as_side self.new) index cites alive.now.values result }
+        ensures used { self.new.ready ≡ false }
     {
         let resolution = self.rows.resolve(alive);
         let _spare = self.entries.spare();
@@ -71,6 +76,7 @@ impl ManagedSide {
             cites: Some(cites),
         };
         enter(&mut self.entries, draw, made, None, &resolution.freed);
+        give_back(&mut self.room);
         ResolveOut {
             freed: span,
             kept: resolution.kept,
@@ -80,8 +86,9 @@ impl ManagedSide {
     /// Closes the open cycle; nothing is freed. One entry is drawn and put last. It takes no memory.
     pub fn abandon<D: Draw>(&mut self, draw: &mut D, index: u32)
         requires open { IsSome self.old.state.managed.cycle }
-        requires may { (c : OpenCycle) → self.old.state.managed.cycle ≡ Some c → MayDraw managed_rules (record { floor = D.floor; left = D.left; may = D.may; drew = D.drew }) draw.old self.old C (abandon_op c) }
-        ensures abandons { (c : OpenCycle) → self.old.state.managed.cycle ≡ Some c → Abandons (record { floor = D.floor; left = D.left; may = D.may; drew = D.drew }) draw.old draw.new self.old self.new index c }
+        requires may { (c : OpenCycle) → self.old.state.managed.cycle ≡ Some c → MayDraw managed_rules (record { floor = D.floor; left = D.left; may = D.may; drew = D.drew }) draw.old (as_side self.old) C (abandon_op c) }
+        ensures abandons { (c : OpenCycle) → self.old.state.managed.cycle ≡ Some c → Abandons (record { floor = D.floor; left = D.left; may = D.may; drew = D.drew }) draw.old draw.new (as_side self.old) (as_side self.new) index c }
+        ensures used { self.new.ready ≡ false }
     {
         let cycle = Cycle(self.rows.abandon());
         let made = Made {
@@ -92,5 +99,6 @@ impl ManagedSide {
             cites: None,
         };
         enter(&mut self.entries, draw, made, None, &[]);
+        give_back(&mut self.room);
     }
 }

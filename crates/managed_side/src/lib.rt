@@ -14,20 +14,20 @@
 // `weak` sets a cell, by the cell's word; `take` brings the object of a thread's pin, which it is given, into a variable. Reads are none of the side's:
 // readers make them by themselves, so the side keeps no pin, and what it keeps of cells takes no bytes and is seen by proofs alone.
 //
-// A side is seen as its entries and the state of their replay: what holds at any time is that a lawful list has these entries and leads to this
-// state. The handles that rows ever took stand there too, seen by proofs alone. Each call that makes an entry promises that it drew this entry and
-// put it last, that the entry may come next by the definition of the managed list, and that the state is the one after it. The pins that a snapshot
-// and a `take` are given are told with their entries, and between entries the state has none. After a refusal for want of memory the side and the
-// draw are as before.
+// A side is seen as its entries, the state of their replay, and whether it is ready for a snapshot. What holds at any time is that a lawful list has these
+// entries and leads to this state. The handles that rows ever took stand there too, seen by proofs alone. Each call that makes an entry promises that it
+// drew this entry and put it last, that the entry may come next by the definition of the managed list, that the state is the one after it, and that the
+// side isn't ready. The pins that a snapshot and a `take` are given are told with their entries, and between entries the state has none. After a refusal
+// for want of memory the side and the draw are as before.
 //
 // A side is no thread's own and has no lock: whoever has it in hand, by `&mut`, makes its next entry, so nobody else changes it during a call.
 // `joint_history` puts it under one. Between two calls others may have made entries here, and the peer side goes on all the time.
 //
 // `snap` takes its memory, closes the gate, which gives it the readers' pins, frees what nothing holds, opens a cycle and answers its dead part as a
-// graph. Once the gate is closed nothing fails, so each closing has its entry. While a cycle is open `contracted` makes the entry of its
-// contraction, and `resolve` or `abandon` closes it. There is room for the entries that it still owes and for a notice per candidate, and the rows
-// of its dead part are exactly the live rows without a mark, so that a resolution marks within the dead part alone. None of these three calls
-// takes memory.
+// graph. Once the gate is closed nothing fails, so each closing has its entry. `reserve_snap` takes that memory beforehand: the side is ready then, until
+// a call makes an entry, and a snapshot of it never wants memory. While a cycle is open `contracted` makes the entry of its contraction, and `resolve` or
+// `abandon` closes it. There is room for the entries that it still owes and for a notice per candidate, and the rows of its dead part are exactly the
+// live rows without a mark, so that a resolution marks within the dead part alone. None of these three calls takes memory.
 //
 // At the end `into_lists` gives the entries, the freed objects and all notices. The other calls only look.
 #![tactic(auto)]

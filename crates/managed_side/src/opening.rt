@@ -1,21 +1,21 @@
-// A snapshot, which closes the gate, opens a cycle and makes one entry of the driver.
+// A snapshot, which closes the gate, opens a cycle and makes one entry of the driver, and the call that takes its memory.
 
-ghost use Rattle.std.specs.Prelude.{◌≡◌, ℕ, ◌+◌, List, Option, Some, None, Err, IfOk, IfErr, OnErr};
+ghost use Rattle.std.specs.Prelude.{◌≡◌, ℕ, ◌+◌, List, Option, Some, None, Err, IfOk, IfErr, IfSome, IsOk, OnErr, OnOk, true, false};
+ghost use Rattle.std.specs.Option.{IfNone};
 ghost use Rattle.joint_model.specs.declared.names.MNum.{MNum};
 ghost use Rattle.joint_model.specs.declared.names.Thread.TheVariants.{C};
 ghost use Rattle.joint_model.specs.Managed.{OpenCycle};
 ghost use Rattle.joint_model.specs.Sides.{MayDraw, managed_rules};
 ghost use Rattle.known_laws.specs.Known.{PinsStand};
-ghost use Rattle.managed_side.specs.declared.snapping.NotSnapped.TheVariants as not_snapped;
 ghost use Rattle.managed_side.specs.Openings.{OpensByClosing, BySnapFault, snap_op};
 ghost use Rattle.managed_side.specs.Pinned.{pins_given};
-ghost use Rattle.managed_side.specs.Snapping.{ByFault};
+ghost use Rattle.managed_side.specs.Sides.{as_side, ready_after};
 
 use crate::gates::Closes;
 use crate::side::ManagedSide;
-use crate::snapping::NotSnapped;
 use bridge_graph::DeadGraph;
 use joint_model::{Cycle, Draw, MNum, Made, Op, Reply, Span, Thread, enter};
+use std::alloc::AllocError;
 
 /// The objects that the pins of threads `m1` to `m8` hold, in that order.
 #[derive(Clone, Copy, PartialEq, Eq, Debug)]
@@ -46,51 +46,75 @@ pub enum SnapFault {
 }
 
 impl ManagedSide {
+    /// Takes all memory that a snapshot of the present rows needs, whatever its pins are: for its entry, its lists and its graph, and for the entries and
+    /// notices that its cycle owes. Nothing else changes. The side is ready then, until a call makes an entry: the next snapshot takes no memory. Answers
+    /// `AllocError` where there is no memory, or where the entries would pass their limit; the side is then as before.
+    pub fn reserve_snap(&mut self) -> Result<(), AllocError>
+        ensures ok { OnOk result (self.new ≡ record self.old { ready = true }) }
+        ensures sure { self.old.ready ≡ true → IsOk result }
+        ensures err { OnErr result (self.new ≡ self.old) }
+    {
+        if self.room.is_some() {
+            return Ok(());
+        }
+        self.entries.reserve(3)?;
+        let room = self.rows.snap_room()?;
+        self.room = Some(room);
+        Ok(())
+    }
+
     /// Takes a snapshot and opens the next cycle: frees the rows that neither a slot nor a row with a handle reaches. The candidates are the rows
     /// with a handle that no slot reaches; they and what they reach are the dead part, which is answered as a graph. The pins that `gate` gives count as
     /// slots and are told with the entry. One entry is drawn from it and put last. Its time goes by the objects that were made and the fields of the
     /// live ones.
     ///
-    /// It takes all memory first, and then closes the gate: from then on nothing fails, so each closing of the gate has its entry. Answers `CycleOpen`
-    /// exactly where a cycle is open, `OutOfMemory` where there is no memory, or no room for the entries that the cycle owes, and `NotClosed` where the
-    /// gate wasn't closed; the side is then as before, and but for `NotClosed` so is `gate`. From here on closing the cycle takes no memory.
+    /// It takes all memory first, as `reserve_snap` does, and then closes the gate: from then on nothing fails, so each closing of the gate has its entry.
+    /// Answers `CycleOpen` exactly where a cycle is open, `OutOfMemory` where the side isn't ready and there is no memory, or no room for the entries that
+    /// the cycle owes, and `NotClosed` where the gate wasn't closed, which leaves the side ready. The side is else as before, and but for `NotClosed` so is
+    /// `gate`. From here on closing the cycle takes no memory.
     pub fn snap<G: Draw + Closes>(&mut self, gate: &mut G, index: u32) -> Result<Opened, SnapFault>
         requires close { self.old.state.managed.cycle ≡ None → G.may_close gate.old (self.old.state.managed.cycles + 1) }
         requires stand { (pins : List (Option MNum)) (g : G) → G.closed gate.old (self.old.state.managed.cycles + 1) pins g → PinsStand self.old.state.managed (pins_given pins) }
-        requires may { (pins : List (Option MNum)) (g : G) → G.closed gate.old (self.old.state.managed.cycles + 1) pins g → MayDraw managed_rules (record { floor = G.floor; left = G.left; may = G.may; drew = G.drew }) g self.old C (snap_op self.old.state.managed) }
-        ensures snaps { IfOk result (λ o. OpensByClosing G.closed (record { floor = G.floor; left = G.left; may = G.may; drew = G.drew }) gate.old gate.new self.old self.new index o) }
+        requires may { (pins : List (Option MNum)) (g : G) → G.closed gate.old (self.old.state.managed.cycles + 1) pins g → MayDraw managed_rules (record { floor = G.floor; left = G.left; may = G.may; drew = G.drew }) g (as_side self.old) C (snap_op self.old.state.managed) }
+        ensures snaps { IfOk result (λ o. OpensByClosing G.closed (record { floor = G.floor; left = G.left; may = G.may; drew = G.drew }) gate.old gate.new (as_side self.old) (as_side self.new) index o) }
         ensures busy { (c : OpenCycle) → self.old.state.managed.cycle ≡ Some c → result ≡ Err (SnapFault.CycleOpen record { 0 = c.number }) }
         ensures fault { IfErr result (λ e. BySnapFault e self.old.state.managed.cycle (gate.new ≡ gate.old) (G.refused gate.old gate.new)) }
-        ensures err { OnErr result (self.new ≡ self.old) }
+        ensures never { self.old.ready ≡ true → result ≡ Err SnapFault.OutOfMemory → ⊥ }
+        ensures ready { self.new.ready ≡ ready_after result self.old.ready }
+        ensures err { OnErr result (as_side self.new ≡ as_side self.old) }
     {
-        if let Some(cycle) = self.rows.open_cycle() {
+        if let Some(cycle) = self.open_cycle() {
             return Err(SnapFault::CycleOpen { cycle });
         }
-        match self.snap_closed(gate, index) {
-            Ok(opened) => Ok(opened),
-            Err(NotSnapped::OutOfMemory) => Err(SnapFault::OutOfMemory),
-            Err(NotSnapped::NotClosed) => Err(SnapFault::NotClosed),
+        match self.reserve_snap() {
+            Err(_) => Err(SnapFault::OutOfMemory),
+            Ok(()) => match self.snap_closed(gate, index) {
+                None => Err(SnapFault::NotClosed),
+                Some(opened) => Ok(opened),
+            },
         }
     }
 
-    // A snapshot while no cycle is open.
-    fn snap_closed<G: Draw + Closes>(
-        &mut self,
-        gate: &mut G,
-        index: u32,
-    ) -> Result<Opened, NotSnapped>
+    // A snapshot of a side that is ready, while no cycle is open. None where the gate wasn't closed.
+    fn snap_closed<G: Draw + Closes>(&mut self, gate: &mut G, index: u32) -> Option<Opened>
+        requires ready { self.old.ready ≡ true }
         requires closed { self.old.state.managed.cycle ≡ None }
         requires close { G.may_close gate.old (self.old.state.managed.cycles + 1) }
         requires stand { (pins : List (Option MNum)) (g : G) → G.closed gate.old (self.old.state.managed.cycles + 1) pins g → PinsStand self.old.state.managed (pins_given pins) }
-        requires may { (pins : List (Option MNum)) (g : G) → G.closed gate.old (self.old.state.managed.cycles + 1) pins g → MayDraw managed_rules (record { floor = G.floor; left = G.left; may = G.may; drew = G.drew }) g self.old C (snap_op self.old.state.managed) }
-        ensures snaps { IfOk result (λ o. OpensByClosing G.closed (record { floor = G.floor; left = G.left; may = G.may; drew = G.drew }) gate.old gate.new self.old self.new index o) }
-        ensures fault { IfErr result (λ e. ByFault e (gate.new ≡ gate.old) (G.refused gate.old gate.new)) }
-        ensures err { OnErr result (self.new ≡ self.old) }
+        requires may { (pins : List (Option MNum)) (g : G) → G.closed gate.old (self.old.state.managed.cycles + 1) pins g → MayDraw managed_rules (record { floor = G.floor; left = G.left; may = G.may; drew = G.drew }) g (as_side self.old) C (snap_op self.old.state.managed) }
+        ensures snaps { IfSome result (λ o. OpensByClosing G.closed (record { floor = G.floor; left = G.left; may = G.may; drew = G.drew }) gate.old gate.new (as_side self.old) (as_side self.new) index o) }
+        ensures used { IfSome result (λ o. self.new.ready ≡ false) }
+        ensures refused { IfNone result ((self.new ≡ self.old) × G.refused gate.old gate.new) }
     {
-        let Ok(()) = self.entries.reserve(3) else {
-            return Err(NotSnapped::OutOfMemory);
+        // what the list holds and has room for is within its limit
+        let _spare = self.entries.spare();
+        let Some(pins) = gate.close(Cycle(self.rows.next_cycle())) else {
+            return None;
         };
-        let snap = self.rows.snap(gate)?;
+        let Some(room) = self.room.take() else {
+            unreachable!()
+        };
+        let snap = self.rows.snap(&pins, room);
         let cycle = Cycle(snap.cycle);
         let span = Span {
             first: snap.first,
@@ -104,7 +128,7 @@ impl ManagedSide {
             cites: None,
         };
         let number = enter(&mut self.entries, gate, made, None, &snap.freed);
-        Ok(Opened {
+        Some(Opened {
             cycle,
             number,
             candidates: snap.candidates,

@@ -1,6 +1,6 @@
 // The managed side: its rows with the entries that it has made.
 
-ghost use Rattle.std.specs.Prelude.{◌≡◌, ℕ, ◌+◌, ◌<◌, ◌≤◌, ◌↔◌, [], Some, None, IfOk, OnErr, IsTrue, MatchOption, length};
+ghost use Rattle.std.specs.Prelude.{◌≡◌, ℕ, ◌+◌, ◌<◌, ◌≤◌, ◌↔◌, [], Some, None, IfOk, OnErr, IsTrue, MatchOption, length, false};
 ghost use Rattle.joint_model.specs.declared.names.Thread.TheVariants.{C};
 ghost use Rattle.joint_model.specs.declared.events.Op.TheVariants as op;
 ghost use Rattle.joint_model.specs.Heaps.{IsLive, slot};
@@ -15,10 +15,11 @@ ghost use Rattle.joint_laws.specs.ManagedInvariants.{IsReplayKept};
 ghost use Rattle.known_laws.specs.Known.{PinsStand};
 ghost use Rattle.managed_side.specs.Pinned.{pin_given};
 ghost use Rattle.managed_side.specs.Rows.{number_or_none};
-ghost use Rattle.managed_side.specs.Sides.{twin_answer};
+ghost use Rattle.managed_side.specs.Sides.{as_side, twin_answer};
 ghost use Rattle.managed_side.specs.Steps.{CitesRightly, IsFresh, IsManagedStep, step_made, take_op, weak_op};
 
 use crate::lines::place;
+use crate::rooms::{SnapRoom, give_back};
 use crate::rows::ManagedRows;
 use crate::takings::Takings;
 use joint_model::{
@@ -30,26 +31,28 @@ use std::marker::Model;
 
 /// The managed objects with the handles that they hold, the registry, the targets of the cells, the notices, and the entries that the side has made,
 /// each for the driver or for one of the managed threads for which the side is. While a cycle is open there is room for the entries that it still
-/// owes. Pins are the readers': a snapshot and a `take` are given them, and between entries the state has none.
+/// owes. Pins are the readers': a snapshot and a `take` are given them, and between entries the state has none. It is ready where all memory was taken that
+/// a snapshot of the present rows needs; each call that makes an entry uses that up or gives it back.
 #[derive(Drop)]
 pub struct ManagedSide {
     threads: u8,
     pub(crate) rows: ManagedRows,
     pub(crate) takings: Takings,
     pub(crate) entries: Entries,
+    pub(crate) room: Option<SnapRoom>,
 }
 
 impl Model for ManagedSide {
-    ghost use Rattle.std.specs.Prelude.{◌≤◌, length};
-    ghost use Rattle.joint_model.specs.ManagedReplay.{ManagedReplay};
-    ghost use Rattle.joint_model.specs.Sides.{Side, AreTaken, IsReplayed, managed_rules};
-    ghost use Rattle.managed_side.specs.Sides.{side_of, state_of, HasRoom, IsSideKept};
+    ghost use Rattle.std.specs.Prelude.{◌≤◌, is_some, length};
+    ghost use Rattle.joint_model.specs.Sides.{AreTaken, IsReplayed, managed_rules};
+    ghost use Rattle.managed_side.specs.Rooms.{HasThree, IsEnough};
+    ghost use Rattle.managed_side.specs.Sides.{ManagedModel, model_of, state_of, HasRoom, IsSideKept};
 
-    ghost Value = { Side ManagedReplay };
+    ghost Value = { ManagedModel };
 
-    ghost view = { λ s. side_of s.threads s.entries.entries s.takings s.rows };
+    ghost view = { λ s. model_of s.threads s.entries.entries s.takings s.rows (is_some s.room) };
 
-    ghost invariant = { λ s. IsReplayed managed_rules s.entries.entries (state_of s.takings s.rows) × HasRoom s.rows s.entries.spare × AreTaken managed_rules s.threads s.entries.entries × IsSideKept s.entries.entries (state_of s.takings s.rows) × (length s.takings ≤ length s.entries.entries) };
+    ghost invariant = { λ s. IsReplayed managed_rules s.entries.entries (state_of s.takings s.rows) × HasRoom s.rows s.entries.spare × AreTaken managed_rules s.threads s.entries.entries × IsSideKept s.entries.entries (state_of s.takings s.rows) × (length s.takings ≤ length s.entries.entries) × HasThree s.room s.entries.spare × IsEnough s.room s.rows.managed };
 }
 
 /// The lists that a side ends with: its entries, its freed objects and its notices.
@@ -79,12 +82,14 @@ impl ManagedSide {
         ensures threads { IfOk result (λ s. s.threads ≡ threads) }
         ensures entries { IfOk result (λ s. s.entries ≡ []) }
         ensures state { IfOk result (λ s. s.state ≡ opening_replay) }
+        ensures ready { IfOk result (λ s. s.ready ≡ false) }
     {
         Ok(ManagedSide {
             threads,
             rows: ManagedRows::new(alloc)?,
             takings: Takings::new(alloc)?,
             entries: Entries::new(alloc, holding),
+            room: None,
         })
     }
 
@@ -114,8 +119,9 @@ impl ManagedSide {
         requires event { IsManagedStep caller op.now }
         requires fresh { IsFresh self.old.state op.now }
         requires cites { CitesRightly op.now cites }
-        requires may { MayDraw managed_rules (record { floor = D.floor; left = D.left; may = D.may; drew = D.drew }) draw.old self.old caller op.now }
-        ensures adds { IfOk result (λ r. AddsLawful managed_rules (record { floor = D.floor; left = D.left; may = D.may; drew = D.drew }) draw.old draw.new self.old self.new (step_made caller index op.now r cites) nothing) }
+        requires may { MayDraw managed_rules (record { floor = D.floor; left = D.left; may = D.may; drew = D.drew }) draw.old (as_side self.old) caller op.now }
+        ensures adds { IfOk result (λ r. AddsLawful managed_rules (record { floor = D.floor; left = D.left; may = D.may; drew = D.drew }) draw.old draw.new (as_side self.old) (as_side self.new) (step_made caller index op.now r cites) nothing) }
+        ensures used { IfOk result (λ r. self.new.ready ≡ false) }
         ensures err { OnErr result ((self.new ≡ self.old) × (draw.new ≡ draw.old)) }
     {
         self.entries.reserve(3)?;
@@ -129,6 +135,7 @@ impl ManagedSide {
         };
         self.takings.push_event(op, reply);
         enter(&mut self.entries, draw, made, None, &[]);
+        give_back(&mut self.room);
         Ok(reply)
     }
 
@@ -148,8 +155,9 @@ impl ManagedSide {
         requires cell { k.0 < 64 }
         requires var { IsVar v }
         requires word { (word ≡ 0) ↔ (slot self.old.state.managed.cells k.0 ≡ None) }
-        requires may { MayDraw managed_rules (record { floor = D.floor; left = D.left; may = D.may; drew = D.drew }) draw.old self.old caller (weak_op k v) }
-        ensures adds { IfOk result (λ r. AddsLawful managed_rules (record { floor = D.floor; left = D.left; may = D.may; drew = D.drew }) draw.old draw.new self.old self.new (step_made caller index (weak_op k v) r None) nothing) }
+        requires may { MayDraw managed_rules (record { floor = D.floor; left = D.left; may = D.may; drew = D.drew }) draw.old (as_side self.old) caller (weak_op k v) }
+        ensures adds { IfOk result (λ r. AddsLawful managed_rules (record { floor = D.floor; left = D.left; may = D.may; drew = D.drew }) draw.old draw.new (as_side self.old) (as_side self.new) (step_made caller index (weak_op k v) r None) nothing) }
+        ensures used { IfOk result (λ r. self.new.ready ≡ false) }
         ensures err { OnErr result ((self.new ≡ self.old) × (draw.new ≡ draw.old)) }
     {
         self.entries.reserve(3)?;
@@ -163,6 +171,7 @@ impl ManagedSide {
             cites: None,
         };
         enter(&mut self.entries, draw, made, target, &[]);
+        give_back(&mut self.room);
         Ok(reply)
     }
 
@@ -180,8 +189,9 @@ impl ManagedSide {
         requires thread { IsManagedThread caller }
         requires var { IsVar v }
         requires stands { PinsStand self.old.state.managed (pin_given (thread_number caller) pin) }
-        requires may { MayDraw managed_rules (record { floor = D.floor; left = D.left; may = D.may; drew = D.drew }) draw.old self.old caller (take_op v) }
-        ensures adds { IfOk result (λ r. AddsLawful managed_rules (record { floor = D.floor; left = D.left; may = D.may; drew = D.drew }) draw.old draw.new self.old self.new (step_made caller index (take_op v) r None) (kept_pins (pin_given (thread_number caller) pin) nothing)) }
+        requires may { MayDraw managed_rules (record { floor = D.floor; left = D.left; may = D.may; drew = D.drew }) draw.old (as_side self.old) caller (take_op v) }
+        ensures adds { IfOk result (λ r. AddsLawful managed_rules (record { floor = D.floor; left = D.left; may = D.may; drew = D.drew }) draw.old draw.new (as_side self.old) (as_side self.new) (step_made caller index (take_op v) r None) (kept_pins (pin_given (thread_number caller) pin) nothing)) }
+        ensures used { IfOk result (λ r. self.new.ready ≡ false) }
         ensures err { OnErr result ((self.new ≡ self.old) × (draw.new ≡ draw.old)) }
     {
         self.entries.reserve(3)?;
@@ -194,6 +204,7 @@ impl ManagedSide {
             cites: None,
         };
         enter(&mut self.entries, draw, made, None, &[]);
+        give_back(&mut self.room);
         Ok(reply)
     }
 
@@ -207,8 +218,9 @@ impl ManagedSide {
         phase: Phase,
     ) -> Result<Reply, AllocError>
         requires refused { MayRefuse self.old.state word phase }
-        requires may { MayDraw managed_rules (record { floor = D.floor; left = D.left; may = D.may; drew = D.drew }) draw.old self.old C (op.Refused word) }
-        ensures adds { IfOk result (λ r. AddsLawful managed_rules (record { floor = D.floor; left = D.left; may = D.may; drew = D.drew }) draw.old draw.new self.old self.new (step_made C index (op.Refused word) r None) (phase_of phase)) }
+        requires may { MayDraw managed_rules (record { floor = D.floor; left = D.left; may = D.may; drew = D.drew }) draw.old (as_side self.old) C (op.Refused word) }
+        ensures adds { IfOk result (λ r. AddsLawful managed_rules (record { floor = D.floor; left = D.left; may = D.may; drew = D.drew }) draw.old draw.new (as_side self.old) (as_side self.new) (step_made C index (op.Refused word) r None) (phase_of phase)) }
+        ensures used { IfOk result (λ r. self.new.ready ≡ false) }
         ensures err { OnErr result ((self.new ≡ self.old) × (draw.new ≡ draw.old)) }
     {
         self.entries.reserve(3)?;
@@ -221,7 +233,15 @@ impl ManagedSide {
             cites: None,
         };
         enter(&mut self.entries, draw, made, None, &[]);
+        give_back(&mut self.room);
         Ok(reply)
+    }
+
+    /// Whether the side is ready: a snapshot of it takes no memory.
+    pub fn is_ready(&self) -> bool
+        ensures { result ≡ self.now.ready }
+    {
+        self.room.is_some()
     }
 
     /// For how many managed threads the side is: the first so many.

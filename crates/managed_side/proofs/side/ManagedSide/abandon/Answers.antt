@@ -40,15 +40,15 @@ invariant_of-self g c =
       AreTaken-push managed_rules i.threads i.entries.entries c.enter.new.entries.entries draws.adds.number (abandon_made k.0 c.args.index) tt draws.adds.added c.self.invariant.2,
       side-kept i.entries.entries c.enter.new.entries.entries i.takings i.takings i.rows c.abandon.new.self draws.adds.number (abandon_made k.0 c.args.index) nothing (none_stand i.rows.managed) draws.adds.added goes c.self.invariant.3,
       takings-few i.entries.entries c.enter.new.entries.entries i.takings draws.adds.number (abandon_made k.0 c.args.index) draws.adds.added c.self.invariant.4,
+      λ r e. absurd (none_some r (sym c.give_back.ensures ∙ e)),
+      λ r e. absurd (none_some r (sym c.give_back.ensures ∙ e)),
     )
 
-pub returns : goal.returns
-returns g c =
+pub returns-clause-abandons : goal.returns-clause-abandons
+returns-clause-abandons g c =
     let i = c.self.inside in
-    record {
-      abandons = rw (← c.self.view_is) (λ k o. (
-          let made-is : step_made C c.args.index (op.Abandon record { 0 = c.abandon.result }) says.Ok None ≡ abandon_made k c.args.index = ap (λ n. step_made C c.args.index (op.Abandon record { 0 = n }) says.Ok None) (c.abandon.ensures.number k o) in
-          let draws = rw made-is at c.enter.ensures.draws in
-          adds-lawful (record { floor = g.D.Draw.floor; left = g.D.Draw.left; may = g.D.Draw.may; drew = g.D.Draw.drew }) c.args.draw.now c.enter.new.draw i.threads i.entries.entries c.enter.new.entries.entries i.takings i.takings i.rows c.abandon.new.self (abandon_made k c.args.index) nothing [] draws refl refl
-          (abandon-goes i.entries.entries i.takings i.rows c.abandon.new.self k c.args.index c.self.invariant.0 o c.abandon.ensures.state)));
-    }
+    rw (← c.self.view_is) (λ k o. (
+    let made-is : step_made C c.args.index (op.Abandon record { 0 = c.abandon.result }) says.Ok None ≡ abandon_made k c.args.index = ap (λ n. step_made C c.args.index (op.Abandon record { 0 = n }) says.Ok None) (c.abandon.ensures.number k o) in
+    let draws = rw made-is at c.enter.ensures.draws in
+    adds-lawful (record { floor = g.D.Draw.floor; left = g.D.Draw.left; may = g.D.Draw.may; drew = g.D.Draw.drew }) c.args.draw.now c.enter.new.draw i.threads i.entries.entries c.enter.new.entries.entries i.takings i.takings i.rows c.abandon.new.self (abandon_made k c.args.index) nothing [] draws refl refl
+    (abandon-goes i.entries.entries i.takings i.rows c.abandon.new.self k c.args.index c.self.invariant.0 o c.abandon.ensures.state)))

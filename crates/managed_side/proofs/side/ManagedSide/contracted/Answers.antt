@@ -1,5 +1,5 @@
 -- The list goes on by the contraction.
-use Rattle.std.proofs.Common.{◌≡◌, ◌≤◌, [], None, refl, sym, ap, subst, arith}
+use Rattle.std.proofs.Common.{◌≡◌, ◌≤◌, [], None, refl, sym, ap, subst, arith, ◌∙◌}
 use Rattle.joint_model.specs.declared.names.Thread.TheVariants.{C}
 use Rattle.joint_model.specs.declared.events.Op.TheVariants as op
 use Rattle.joint_model.specs.declared.events.Reply.TheVariants as says
@@ -13,6 +13,7 @@ use Rattle.managed_side.specs.Sides.{owed_by}
 use Rattle.managed_side.specs.Steps.{step_made}
 use Rattle.managed_side.proofs.Driving.{contract-goes, adds-lawful}
 use Rattle.managed_side.proofs.Goes.{side-kept, side-replayed, takings-few}
+use Rattle.joint_model.proofs.Deciding.{none_some}
 use Rattle.managed_side.proofs.side.ManagedSide.contracted.Goals as goal
 
 pub enter-requires-clause-below : goal.enter-requires-clause-below
@@ -42,17 +43,17 @@ invariant_of-self g c =
       AreTaken-push managed_rules i.threads i.entries.entries c.enter.new.entries.entries draws.adds.number (contract_made k.cycle c.args.index c.args.sccs c.args.xrefs) tt draws.adds.added c.self.invariant.2,
       side-kept i.entries.entries c.enter.new.entries.entries i.takings i.takings i.rows c.contract.new.self draws.adds.number (contract_made k.cycle c.args.index c.args.sccs c.args.xrefs) (contraction_of k.comps k.heavy k.pairs) (none_stand i.rows.managed) draws.adds.added goes c.self.invariant.3,
       takings-few i.entries.entries c.enter.new.entries.entries i.takings draws.adds.number (contract_made k.cycle c.args.index c.args.sccs c.args.xrefs) draws.adds.added c.self.invariant.4,
+      λ r e. absurd (none_some r (sym c.give_back.ensures ∙ e)),
+      λ r e. absurd (none_some r (sym c.give_back.ensures ∙ e)),
     )
 
-pub returns : goal.returns
-returns g c =
+pub returns-clause-contracts : goal.returns-clause-contracts
+returns-clause-contracts g c =
     let i = c.self.inside in
-    record {
-      contracts = rw (← c.self.view_is) (λ k o. record {
-        adds = λ comps heavy pairs by. (
-            let made-is : step_made C c.args.index (op.Contract record { 0 = c.contract.result }) (says.Sccs c.args.sccs c.args.xrefs) None ≡ contract_made k c.args.index c.args.sccs c.args.xrefs = ap (λ n. step_made C c.args.index (op.Contract record { 0 = n }) (says.Sccs c.args.sccs c.args.xrefs) None) (c.contract.ensures.number k o) in
-            let draws = rw made-is at c.enter.ensures.draws in
-            adds-lawful (record { floor = g.D.Draw.floor; left = g.D.Draw.left; may = g.D.Draw.may; drew = g.D.Draw.drew }) c.args.draw.now c.enter.new.draw i.threads i.entries.entries c.enter.new.entries.entries i.takings i.takings i.rows c.contract.new.self (contract_made k c.args.index c.args.sccs c.args.xrefs) (contraction_of comps heavy pairs) [] draws refl refl
-            (contract-goes i.entries.entries i.takings i.rows c.contract.new.self k c.args.index c.args.sccs c.args.xrefs comps heavy pairs c.self.invariant.0 by c.contract.ensures.state));
-      });
-    }
+    rw (← c.self.view_is) (λ k o. record {
+      adds = λ comps heavy pairs by. (
+          let made-is : step_made C c.args.index (op.Contract record { 0 = c.contract.result }) (says.Sccs c.args.sccs c.args.xrefs) None ≡ contract_made k c.args.index c.args.sccs c.args.xrefs = ap (λ n. step_made C c.args.index (op.Contract record { 0 = n }) (says.Sccs c.args.sccs c.args.xrefs) None) (c.contract.ensures.number k o) in
+          let draws = rw made-is at c.enter.ensures.draws in
+          adds-lawful (record { floor = g.D.Draw.floor; left = g.D.Draw.left; may = g.D.Draw.may; drew = g.D.Draw.drew }) c.args.draw.now c.enter.new.draw i.threads i.entries.entries c.enter.new.entries.entries i.takings i.takings i.rows c.contract.new.self (contract_made k c.args.index c.args.sccs c.args.xrefs) (contraction_of comps heavy pairs) [] draws refl refl
+          (contract-goes i.entries.entries i.takings i.rows c.contract.new.self k c.args.index c.args.sccs c.args.xrefs comps heavy pairs c.self.invariant.0 by c.contract.ensures.state));
+    })

@@ -2,6 +2,7 @@
 use Rattle.std.proofs.Common.{[], refl, arith}
 use Rattle.std.proofs.lemmas.List.Elements.{All-nil}
 use Rattle.joint_laws.proofs.Adopting.{IsReplayKept-opening}
+use Rattle.joint_model.proofs.Deciding.{none_some}
 use Rattle.managed_side.proofs.side.ManagedSide.new.Goals as goal
 
 pub invariant_of-result : goal.invariant_of-result
@@ -11,4 +12,6 @@ invariant_of-result c = rw (c.new-3.ensures.entries, c.in_ok-new.ensures, c.in_o
   All-nil _,
   record { kept = IsReplayKept-opening; few = omega (arith) },
   omega arith,
+  λ r e. absurd (none_some r e),
+  λ r e. absurd (none_some r e),
 )

@@ -1,5 +1,5 @@
 -- The list goes on by a refusal, which changes nothing.
-use Rattle.std.proofs.Common.{◌≤◌, [], None, refl, sym, arith}
+use Rattle.std.proofs.Common.{◌≤◌, [], None, refl, sym, arith, ◌∙◌}
 use Rattle.joint_model.specs.declared.names.Thread.TheVariants.{C}
 use Rattle.joint_model.specs.declared.events.Made.{Made}
 use Rattle.joint_model.specs.declared.events.Op.TheVariants as op
@@ -12,6 +12,7 @@ use Rattle.managed_side.specs.Steps.{step_made}
 use Rattle.std.proofs.lemmas.Result.{IfOk-from_err}
 use Rattle.managed_side.proofs.Driving.{adds-lawful}
 use Rattle.managed_side.proofs.Goes.{side-goes, side-kept, side-replayed, same-answers, HasRoom-two, takings-few}
+use Rattle.joint_model.proofs.Deciding.{none_some}
 use Rattle.managed_side.proofs.side.ManagedSide.refused.Goals as goal
 
 pub invariant_of-self-2 : goal.invariant_of-self-2
@@ -29,6 +30,8 @@ invariant_of-self-2 g c =
       AreTaken-push managed_rules i.threads i.entries.entries c.enter.new.entries.entries draws.adds.number made tt draws.adds.added c.self.invariant.2,
       side-kept i.entries.entries c.enter.new.entries.entries i.takings i.takings i.rows i.rows draws.adds.number made (phase_of c.args.phase) (none_stand i.rows.managed) draws.adds.added goes c.self.invariant.3,
       takings-few i.entries.entries c.enter.new.entries.entries i.takings draws.adds.number made draws.adds.added c.self.invariant.4,
+      λ r e. absurd (none_some r (sym c.give_back.ensures ∙ e)),
+      λ r e. absurd (none_some r (sym c.give_back.ensures ∙ e)),
     )
 
 pub returns-clause-adds : goal.returns-clause-adds
@@ -43,3 +46,6 @@ returns-clause-adds g c =
 
 pub returns-in_err-reserve-clause-adds : goal.returns-in_err-reserve-clause-adds
 returns-in_err-reserve-clause-adds g c = IfOk-from_err c.from_residual.result _ c.from_residual.ensures.0
+
+pub returns-in_err-reserve-clause-used : goal.returns-in_err-reserve-clause-used
+returns-in_err-reserve-clause-used g c = IfOk-from_err c.from_residual.result _ c.from_residual.ensures.0

@@ -1,5 +1,5 @@
 -- The rows answer the event as the replay answers it, so the list goes on by its entry. No event of a step asks for pins or sets a cell.
-use Rattle.std.proofs.Common.{◌≤◌, [], length, refl, ap, arith}
+use Rattle.std.proofs.Common.{◌≤◌, [], length, refl, ap, arith, sym, ◌∙◌}
 use Rattle.joint_model.specs.declared.events.Made.{Made}
 use Rattle.joint_model.specs.Sides.{managed_rules}
 use Rattle.joint_model.specs.Told.{nothing}
@@ -10,6 +10,7 @@ use Rattle.managed_side.specs.Steps.{adopted_by, step_made}
 use Rattle.std.proofs.lemmas.Result.{IfOk-from_err}
 use Rattle.managed_side.proofs.Driving.{adds-lawful}
 use Rattle.managed_side.proofs.Goes.{side-gives, side-kept, side-replayed, step-of, step-bare, step-target, step-allowed, kept-rows, HasRoom-two, takings-more}
+use Rattle.joint_model.proofs.Deciding.{none_some}
 use Rattle.managed_side.proofs.side.ManagedSide.step.Goals as goal
 
 pub step-requires-clause-kept : goal.step-requires-clause-kept
@@ -33,6 +34,8 @@ invariant_of-self-2 g c =
       AreTaken-push managed_rules i.threads i.entries.entries c.enter.new.entries.entries draws.adds.number made may.takes draws.adds.added c.self.invariant.2,
       side-kept i.entries.entries c.enter.new.entries.entries i.takings c.push_event.new.self i.rows c.step.new.self draws.adds.number made nothing (none_stand i.rows.managed) draws.adds.added goes c.self.invariant.3,
       takings-more i.entries.entries c.enter.new.entries.entries i.takings c.push_event.new.self (adopted_by c.args.op.now c.in_ok-reply.reply) draws.adds.number made c.push_event.ensures draws.adds.added c.self.invariant.4,
+      λ r e. absurd (none_some r (sym c.give_back.ensures ∙ e)),
+      λ r e. absurd (none_some r (sym c.give_back.ensures ∙ e)),
     )
 
 pub returns-clause-adds : goal.returns-clause-adds
@@ -52,3 +55,9 @@ returns-in_err-reserve-clause-adds g c = IfOk-from_err c.from_residual.result _ 
 
 pub returns-in_err-reply-clause-adds : goal.returns-in_err-reply-clause-adds
 returns-in_err-reply-clause-adds g c = IfOk-from_err c.from_residual-in_err-reply.result _ c.from_residual-in_err-reply.ensures.0
+
+pub returns-in_err-reserve-clause-used : goal.returns-in_err-reserve-clause-used
+returns-in_err-reserve-clause-used g c = IfOk-from_err c.from_residual.result _ c.from_residual.ensures.0
+
+pub returns-in_err-reply-clause-used : goal.returns-in_err-reply-clause-used
+returns-in_err-reply-clause-used g c = IfOk-from_err c.from_residual-in_err-reply.result _ c.from_residual-in_err-reply.ensures.0

@@ -1,5 +1,5 @@
 -- The list goes on by a `take`, which is answered as the replay answers it with the pin that is given.
-use Rattle.std.proofs.Common.{◌≤◌, ◌∙◌, None, refl, ap, arith}
+use Rattle.std.proofs.Common.{◌≤◌, ◌∙◌, None, refl, ap, arith, sym}
 use Rattle.joint_model.specs.declared.events.Made.{Made}
 use Rattle.joint_model.specs.Run.{thread_number}
 use Rattle.joint_model.specs.Sides.{managed_rules}
@@ -10,6 +10,7 @@ use Rattle.managed_side.specs.Steps.{step_made, take_op}
 use Rattle.std.proofs.lemmas.Result.{IfOk-from_err}
 use Rattle.managed_side.proofs.Goes.{side-replayed, side-kept, HasRoom-two, takings-few}
 use Rattle.managed_side.proofs.TakeEntries.{take-goes, pin-live}
+use Rattle.joint_model.proofs.Deciding.{none_some}
 use Rattle.managed_side.proofs.side.ManagedSide.take.Goals as goal
 
 pub take-reply-requires-clause-live : goal.take-reply-requires-clause-live
@@ -31,6 +32,8 @@ invariant_of-self-2 g c =
       AreTaken-push managed_rules i.threads i.entries.entries c.enter.new.entries.entries draws.adds.number made may.takes draws.adds.added c.self.invariant.2,
       side-kept i.entries.entries c.enter.new.entries.entries i.takings i.takings i.rows c.take-reply.new.self draws.adds.number made told stands draws.adds.added goes c.self.invariant.3,
       takings-few i.entries.entries c.enter.new.entries.entries i.takings draws.adds.number made draws.adds.added c.self.invariant.4,
+      λ r e. absurd (none_some r (sym c.give_back.ensures ∙ e)),
+      λ r e. absurd (none_some r (sym c.give_back.ensures ∙ e)),
     )
 
 pub returns-clause-adds : goal.returns-clause-adds
@@ -43,3 +46,6 @@ returns-clause-adds g c =
 
 pub returns-in_err-reserve-clause-adds : goal.returns-in_err-reserve-clause-adds
 returns-in_err-reserve-clause-adds g c = IfOk-from_err c.from_residual.result _ c.from_residual.ensures.0
+
+pub returns-in_err-reserve-clause-used : goal.returns-in_err-reserve-clause-used
+returns-in_err-reserve-clause-used g c = IfOk-from_err c.from_residual.result _ c.from_residual.ensures.0

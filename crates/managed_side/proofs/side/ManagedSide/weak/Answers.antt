@@ -15,6 +15,7 @@ use Rattle.managed_side.specs.Steps.{step_made, weak_op}
 use Rattle.std.proofs.lemmas.Result.{IfOk-from_err}
 use Rattle.managed_side.proofs.Goes.{side-goes, side-kept, side-replayed, line-answers, weak-of, may-target, HasRoom-two, takings-few}
 use Rattle.managed_side.proofs.WeakEntries.{target-is, target-may}
+use Rattle.joint_model.proofs.Deciding.{none_some}
 use Rattle.managed_side.proofs.side.ManagedSide.weak.Goals as goal
 
 pub enter-requires-clause-may : goal.enter-requires-clause-may
@@ -39,6 +40,8 @@ invariant_of-self-2 g c =
       AreTaken-push managed_rules i.threads i.entries.entries c.enter.new.entries.entries draws.adds.number made may.takes draws.adds.added c.self.invariant.2,
       side-kept i.entries.entries c.enter.new.entries.entries i.takings i.takings i.rows c.weak-reply.new.self draws.adds.number made nothing (none_stand i.rows.managed) draws.adds.added goes c.self.invariant.3,
       takings-few i.entries.entries c.enter.new.entries.entries i.takings draws.adds.number made draws.adds.added c.self.invariant.4,
+      λ r e. absurd (none_some r (sym c.give_back.ensures ∙ e)),
+      λ r e. absurd (none_some r (sym c.give_back.ensures ∙ e)),
     )
 
 pub returns-clause-adds : goal.returns-clause-adds
@@ -56,3 +59,6 @@ returns-clause-adds g c =
 
 pub returns-in_err-reserve-clause-adds : goal.returns-in_err-reserve-clause-adds
 returns-in_err-reserve-clause-adds g c = IfOk-from_err c.from_residual.result _ c.from_residual.ensures.0
+
+pub returns-in_err-reserve-clause-used : goal.returns-in_err-reserve-clause-used
+returns-in_err-reserve-clause-used g c = IfOk-from_err c.from_residual.result _ c.from_residual.ensures.0
