@@ -1,6 +1,6 @@
 -- The words of a line that a script can have, have no cause. And what the words behind an operation say is the line, or
 -- its first cause: that of the places, which comes before that of a kind beside what it doesn't allow.
-use Rattle.std.proofs.Common.{◌≡◌, ℕ, ◌≤◌, true, List, [], ◌∷◌, Some, sym, ◌∙◌, ap, subst, inl, inr, lit≤}
+use Rattle.std.proofs.Common.{◌≡◌, ℕ, ◌≤◌, List, [], ◌∷◌, Some, sym, ◌∙◌, ap, subst, inl, inr, lit≤}
 use Rattle.std.proofs.lemmas.List.Splits.{join_with_byte-slice_split}
 use Rattle.joint_model.specs.declared.names.Thread.{Thread}
 use Rattle.joint_model.specs.declared.names.Thread.TheVariants.{M, P, C}
@@ -14,10 +14,10 @@ use Rattle.bridge_script.specs.declared.grammar.Place.{Place}
 use Rattle.bridge_script.specs.declared.operands.Operand.{Operand}
 use Rattle.bridge_script.specs.Causes.{cause_number}
 use Rattle.bridge_script.specs.Words.{thread_text, act_words, line_words, line_text, spaced}
-use Rattle.bridge_script.specs.Grammar.{operation_text, operation_of, form_of, is_built}
+use Rattle.bridge_script.specs.Grammar.{operation_text, operation_of, form_of}
 use Rattle.bridge_script.specs.Faults.{HasAt, HasAtSome, PlacesHave, Reads, WordsHave, IsFirst, words_of}
 use Rattle.bridge_script.specs.Operands.{texts, StandAll, act_at, IsPossible, HasAtPlaces}
-use Rattle.bridge_script.specs.Scripts.{IsBuilt}
+use Rattle.bridge_script.specs.Scripts.{IsScriptLine}
 use Rattle.bridge_script.proofs.Readings.{has_behind}
 use Rattle.bridge_script.proofs.Standing.{all_fit, as_many}
 use Rattle.bridge_script.proofs.Table.{fits_table}
@@ -28,15 +28,15 @@ lawful_thread (M n) a l = l.0
 lawful_thread (P n) a l = l.0
 lawful_thread C a l = tt
 
--- the words of a line that is built have no cause
-pub none_of_built : (line : Thread × Act) → IsBuilt line → (c : Cause) → WordsHave (line_words line) c → ⊥
-none_of_built line b c h =
-    let f = fits_table line.0 line.1 b.lawful in
-    let reads : Reads (line_words line) line.0 (operation_of line.1) f.places f.rest = record { thread = lawful_thread line.0 line.1 b.lawful; form = f.form; built = b.built; begins = ap (λ ws. thread_text line.0 ∷ ws) f.words } in
+-- the words of a line have no cause
+pub none_of_line : (line : Thread × Act) → IsScriptLine line → (c : Cause) → WordsHave (line_words line) c → ⊥
+none_of_line line b c h =
+    let f = fits_table line.0 line.1 b in
+    let reads : Reads (line_words line) line.0 (operation_of line.1) f.places f.rest = record { thread = lawful_thread line.0 line.1 b; form = f.form; begins = ap (λ ws. thread_text line.0 ∷ ws) f.words } in
     f.none c (has_behind (line_words line) line.0 (operation_of line.1) f.places f.rest reads c h)
 
 -- the act that the words behind a thread ask for makes the line of the text
-pub line_read : (text : List ℕ) (t : Thread) (ws : List (List ℕ)) (a : Act) → words_of text ≡ thread_text t ∷ ws → IsBuilt (t, a) → act_words t a ≡ ws → IsBuilt (t, a) × (line_text (t, a) ≡ text)
+pub line_read : (text : List ℕ) (t : Thread) (ws : List (List ℕ)) (a : Act) → words_of text ≡ thread_text t ∷ ws → IsScriptLine (t, a) → act_words t a ≡ ws → IsScriptLine (t, a) × (line_text (t, a) ≡ text)
 line_read text t ws a e b w = (b, ap spaced (ap (λ x. thread_text t ∷ x) w ∙ sym e) ∙ join_with_byte-slice_split 32 text)
 
 -- no word has a cause that no place has
@@ -85,12 +85,11 @@ kind_first t o ps xs ws f s e none =
     subst F e record { here = inr (a.clash (none a.act a.is)); first = after_places o ps xs s }
 
 -- and where they make one that may be, it makes the line of the text
-pub line_asked : (text : List ℕ) (t : Thread) (o : Operation) (ps : List Place) (ws : List (List ℕ)) (xs : List Operand) (a : Act) → Reads (words_of text) t o ps ws → StandAll ps xs → texts xs ≡ ws → act_at o xs ≡ Some a → IsPossible a → IsBuilt (t, a) × (line_text (t, a) ≡ text)
+pub line_asked : (text : List ℕ) (t : Thread) (o : Operation) (ps : List Place) (ws : List (List ℕ)) (xs : List Operand) (a : Act) → Reads (words_of text) t o ps ws → StandAll ps xs → texts xs ≡ ws → act_at o xs ≡ Some a → IsPossible a → IsScriptLine (t, a) × (line_text (t, a) ≡ text)
 line_asked text t o ps ws xs a r s e i p =
     let k = asked_of t o ps xs r.form s in
     let same : k.act ≡ a = some-same k.act a (sym k.is ∙ i) in
-    let L : Act → Type 0 = λ x. IsBuilt (t, x) × (line_text (t, x) ≡ text) in
+    let L : Act → Type 0 = λ x. IsScriptLine (t, x) × (line_text (t, x) ≡ text) in
     let possible : IsPossible k.act = (let I : Act → Type 0 = λ x. IsPossible x in subst I (sym same) p) in
-    let built : is_built t (operation_of k.act) ≡ true = ap (is_built t) k.operation ∙ r.built in
     let words : act_words t k.act ≡ operation_text o ∷ ws = k.words ∙ ap (λ w. operation_text o ∷ w) e in
-    subst L same (line_read text t (operation_text o ∷ ws) k.act r.begins record { lawful = k.lawful r.thread possible; built = built } words)
+    subst L same (line_read text t (operation_text o ∷ ws) k.act r.begins (k.lawful r.thread possible) words)

@@ -43,7 +43,7 @@ append_same (k ∷ x) (j ∷ y) u v e l =
 -- the lines before one fault don't reach past the line of another
 not_past : (bytes : List ℕ) (f g : ScriptFault) (a : IsFault bytes f) (b : IsFault bytes g) → length (script_text_of a.before) < length (script_text_of b.before) → ⊥
 not_past bytes f g a b l =
-    let n = goes_on b.before a.before (b.line ++ 10 ∷ b.rest) a.line a.rest b.lawful.built a.lawful.built a.whole (sym b.stands ∙ a.stands) l in
+    let n = goes_on b.before a.before (b.line ++ 10 ∷ b.rest) a.line a.rest b.lawful.each a.lawful.each a.whole (sym b.stands ∙ a.stands) l in
     let t = ap script_text_of n.whole ∙ (text_append (a.before ++ n.next ∷ []) n.more ∙ ap (λ x. x ++ script_text_of n.more) (text_push a.before n.next)) in
     let end : end_of bytes (script_text_of a.before) a.line ≤ 8388608 = omega (
       arith,
@@ -70,7 +70,7 @@ one_fault bytes f g a b =
       ]
     ] in
     let parts = append_same (script_text_of a.before) (script_text_of b.before) (a.line ++ 10 ∷ a.rest) (b.line ++ 10 ∷ b.rest) (sym a.stands ∙ b.stands) size in
-    let before = same_lines a.before b.before a.lawful.built b.lawful.built parts.0 in
+    let before = same_lines a.before b.before a.lawful.each b.lawful.each parts.0 in
     let line = (cut_once 10 a.line b.line a.rest b.rest a.whole b.whole parts.1).0 in
     let F : List (Thread × Act) → Type 0 = λ x. IsFirst (Has (standing bytes x a.line)) f.cause in
     let G : List ℕ → Type 0 = λ x. IsFirst (Has (standing bytes b.before x)) f.cause in

@@ -16,24 +16,24 @@ use Rattle.bridge_script.specs.declared.grammar.Operation.TheVariants as operati
 use Rattle.bridge_script.specs.Words.{thread_text, act_words, line_text, spaced}
 use Rattle.bridge_script.specs.Grammar.{operation_text, operation_of}
 use Rattle.byte_streams.specs.Drafts.{after_spaces}
-use Rattle.bridge_script.specs.Scripts.{IsBuilt, IsScript, IsText, script_text_of}
+use Rattle.bridge_script.specs.Scripts.{IsScriptLine, IsScript, IsText, script_text_of}
 use Rattle.bridge_script.proofs.Standing.{sizes, short_small, all_short}
 use Rattle.bridge_script.proofs.Table.{has_row}
 use Rattle.bridge_script.proofs.Readings.{few_places}
 use Rattle.bridge_script.proofs.Fitting.{lawful_thread}
-use Rattle.bridge_script.proofs.Built.{line_ascii}
+use Rattle.bridge_script.proofs.LineWords.{line_ascii}
 
 pub spaced_after : (w : List ℕ) (ws : List (List ℕ)) → spaced (w ∷ ws) ≡ w ++ after_spaces ws
 spaced_after w [] = sym (append-nil w)
 spaced_after w (x ∷ ws) = ap (λ t. w ++ (32 ∷ t)) (spaced_after x ws)
 
-script_ascii : (script : List (Thread × Act)) → All IsBuilt script → All (λ b. b < 128) (script_text_of script)
+script_ascii : (script : List (Thread × Act)) → All IsScriptLine script → All (λ b. b < 128) (script_text_of script)
 script_ascii [] h = All-nil (λ b. b < 128)
-script_ascii (x ∷ script) h = All-append (λ b. b < 128) (line_text x) (10 ∷ script_text_of script) (line_ascii x (All-head IsBuilt x script h)) (All-cons (λ b. b < 128) 10 (script_text_of script) (omega arith) (script_ascii script (All-tail IsBuilt x script h)))
+script_ascii (x ∷ script) h = All-append (λ b. b < 128) (line_text x) (10 ∷ script_text_of script) (line_ascii x (All-head IsScriptLine x script h)) (All-cons (λ b. b < 128) 10 (script_text_of script) (omega arith) (script_ascii script (All-tail IsScriptLine x script h)))
 
 -- the text of a script is text
 pub script_utf8 : (script : List (Thread × Act)) → IsScript script → IsUtf8 (script_text_of script)
-script_utf8 script s = IsUtf8-from_ascii (script_text_of script) (IsAscii-from_all (script_text_of script) (script_ascii script s.built))
+script_utf8 script s = IsUtf8-from_ascii (script_text_of script) (IsAscii-from_all (script_text_of script) (script_ascii script s.each))
 
 length_after : (ws : List (List ℕ)) → length (after_spaces ws) ≡ sizes ws
 length_after [] = refl
@@ -48,25 +48,25 @@ short_thread (M n) l = omega (arith, short_small n (omega arith))
 short_thread (P n) l = omega (arith, short_small n (omega arith))
 short_thread C l = lit≤ tt
 
-short_line : (line : Thread × Act) → IsBuilt line → length (line_text line) ≤ 117
+short_line : (line : Thread × Act) → IsScriptLine line → length (line_text line) ≤ 117
 short_line line h =
-    let r = has_row line.0 line.1 h.lawful in
+    let r = has_row line.0 line.1 h in
     omega (
       arith,
       ap length (spaced_after (thread_text line.0) (act_words line.0 line.1)),
       length-append (thread_text line.0) (after_spaces (act_words line.0 line.1)),
       length_after (act_words line.0 line.1),
       ap sizes r.words,
-      short_thread line.0 (lawful_thread line.0 line.1 h.lawful),
+      short_thread line.0 (lawful_thread line.0 line.1 h),
       short_operation (operation_of line.1),
       all_short r.places r.operands r.stand,
       few_places line.0 (operation_of line.1) r.places r.form,
     )
 
-short_lines : (script : List (Thread × Act)) → All IsBuilt script → length (script_text_of script) ≤ 118 * length script
+short_lines : (script : List (Thread × Act)) → All IsScriptLine script → length (script_text_of script) ≤ 118 * length script
 short_lines [] h = lit≤ tt
-short_lines (x ∷ script) h = omega (arith, short_line x (All-head IsBuilt x script h), short_lines script (All-tail IsBuilt x script h), length-append (line_text x) (10 ∷ script_text_of script))
+short_lines (x ∷ script) h = omega (arith, short_line x (All-head IsScriptLine x script h), short_lines script (All-tail IsScriptLine x script h), length-append (line_text x) (10 ∷ script_text_of script))
 
 -- a script has its text, each line with its newline
 pub full_text : (script : List (Thread × Act)) → IsScript script → IsText (script_text_of script) script
-full_text script s = record { lawful = s; text = inl refl; size = omega (arith, short_lines script s.built, s.lines) }
+full_text script s = record { lawful = s; text = inl refl; size = omega (arith, short_lines script s.each, s.lines) }

@@ -17,7 +17,7 @@ use Rattle.bridge_script.specs.declared.grammar.Operation.TheVariants as operati
 use Rattle.bridge_script.specs.declared.grammar.Place.{Place}
 use Rattle.bridge_script.specs.Words.{thread_text}
 use Rattle.bridge_script.specs.Causes.{cause_number}
-use Rattle.bridge_script.specs.Grammar.{operation_text, managed_form, peer_form, driver_form, form_of, is_built}
+use Rattle.bridge_script.specs.Grammar.{operation_text, managed_form, peer_form, driver_form, form_of}
 use Rattle.bridge_script.specs.Faults.{PlacesHave, Reads, ReadsWith, WordsHave, IsFirst}
 
 pub same_thread : (s t : Thread) → IsThread s → IsThread t → thread_text s ≡ thread_text t → s ≡ t
@@ -149,7 +149,7 @@ least_number : (c : Cause) → 1 ≤ cause_number c
 least_number cause.Unknown = lit≤ tt
 least_number c = lit≤ tt
 
--- where words begin with no thread and operation that are built, this is their first cause
+-- where words begin with no thread and operation of it, this is their first cause
 pub unknown_first : (words : List (List ℕ)) → ((t : Thread) (o : Operation) (ps : List Place) (ws : List (List ℕ)) → Reads words t o ps ws → ⊥) → IsFirst (WordsHave words) cause.Unknown
 unknown_first words none = record { here = none; first = λ d h. least_number d }
 
@@ -174,15 +174,14 @@ has_behind words t o ps ws r c h = has_there words t o ps ws r c h
 pub first_behind : (words : List (List ℕ)) (t : Thread) (o : Operation) (ps : List Place) (ws : List (List ℕ)) → Reads words t o ps ws → (c : Cause) → IsFirst (PlacesHave o ps ws) c → IsFirst (WordsHave words) c
 first_behind words t o ps ws r c f = record { here = has_here words t o ps ws r c f.here; first = λ d h. f.first d (has_behind words t o ps ws r d h) }
 
--- words that begin with a thread, and go on with no operation of it that is built
-pub unknown_behind : (t : Thread) (ws : List (List ℕ)) → IsThread t → ((o : Operation) (ps : List Place) (rest : List (List ℕ)) → form_of t o ≡ Some ps → is_built t o ≡ true → ws ≢ operation_text o ∷ rest)
+-- words that begin with a thread, and go on with no operation of it
+pub unknown_behind : (t : Thread) (ws : List (List ℕ)) → IsThread t → ((o : Operation) (ps : List Place) (rest : List (List ℕ)) → form_of t o ≡ Some ps → ws ≢ operation_text o ∷ rest)
     → (s : Thread) (o : Operation) (ps : List Place) (rest : List (List ℕ)) → Reads (thread_text t ∷ ws) s o ps rest → ⊥
 unknown_behind t ws l none s o ps rest r =
     let e : t ≡ s = same_thread t s l r.thread (ap (λ w. get_or w 0 []) r.begins) in
     let F : Thread → Type 0 = λ x. form_of x o ≡ Some ps in
-    let B : Thread → Type 0 = λ x. is_built x o ≡ true in
-    none o ps rest (subst F (sym e) r.form) (subst B (sym e) r.built) (let b = r.begins in cc)
+    none o ps rest (subst F (sym e) r.form) (let b = r.begins in cc)
 
 -- so this is their first cause
-pub unknown_here : (words : List (List ℕ)) (t : Thread) (ws : List (List ℕ)) → words ≡ thread_text t ∷ ws → IsThread t → ((o : Operation) (ps : List Place) (rest : List (List ℕ)) → form_of t o ≡ Some ps → is_built t o ≡ true → ws ≢ operation_text o ∷ rest) → IsFirst (WordsHave words) cause.Unknown
+pub unknown_here : (words : List (List ℕ)) (t : Thread) (ws : List (List ℕ)) → words ≡ thread_text t ∷ ws → IsThread t → ((o : Operation) (ps : List Place) (rest : List (List ℕ)) → form_of t o ≡ Some ps → ws ≢ operation_text o ∷ rest) → IsFirst (WordsHave words) cause.Unknown
 unknown_here words t ws e l none = unknown_first words (λ s o ps rest r. unknown_behind t ws l none s o ps rest (let F : List (List ℕ) → Type 0 = λ w. Reads w s o ps rest in subst F e r))

@@ -1,5 +1,5 @@
 -- What is wrong with a line: its causes, and which of them is the first.
-use Rattle.std.specs.Prelude.{◌≡◌, ◌≢◌, ℕ, ◌<◌, ◌≤◌, ◌^◌, ◌==◌, ◌⊎◌, true, List, [], ◌∷◌, length, Option, Some, codes, decimal}
+use Rattle.std.specs.Prelude.{◌≡◌, ◌≢◌, ℕ, ◌<◌, ◌≤◌, ◌^◌, ◌==◌, ◌⊎◌, List, [], ◌∷◌, length, Option, Some, codes, decimal}
 use Rattle.std.specs.List.{slice_split}
 use Rattle.joint_model.specs.declared.names.Var.{Var}
 use Rattle.joint_model.specs.declared.names.StaticNo.{StaticNo}
@@ -14,7 +14,7 @@ use Rattle.bridge_script.specs.declared.grammar.Operation.TheVariants as operati
 use Rattle.bridge_script.specs.declared.grammar.Place.{Place}
 use Rattle.bridge_script.specs.declared.grammar.Place.TheVariants as place
 use Rattle.bridge_script.specs.Words.{thread_text, var_text, optional_text, managed_static, peer_static, global_text, cell_text}
-use Rattle.bridge_script.specs.Grammar.{operation_text, form_of, is_built}
+use Rattle.bridge_script.specs.Grammar.{operation_text, form_of}
 use Rattle.bridge_script.specs.Causes.{cause_number}
 
 -- the words of a line: it is cut at each single space
@@ -61,11 +61,10 @@ PlacesHave o places words cause.Limit = HasAtSome cause.Limit places words
 PlacesHave o places words cause.Kind = HasAtSome cause.Kind places words ⊎ Clashes o words
 PlacesHave o places words _ = ⊥
 
--- the words begin with a thread and an operation of it that is built; these are its places, and the rest follows
+-- the words begin with a thread and an operation of it; these are its places, and the rest follows
 pub record Reads (words : List (List ℕ)) (t : Thread) (o : Operation) (places : List Place) (rest : List (List ℕ)) : Type 0 where
   pub thread : IsThread t
   pub form : form_of t o ≡ Some places
-  pub built : is_built t o ≡ true
   pub begins : words ≡ thread_text t ∷ operation_text o ∷ rest
 
 -- the words begin with a thread and an operation, and what follows has the cause

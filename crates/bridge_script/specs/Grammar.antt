@@ -1,6 +1,6 @@
--- The grammar of a script's lines: the word of each operation, which thread has it, what stands at its places
--- in turn, and which operations are built. docs/SCRIPT.md has the same table.
-use Rattle.std.specs.Prelude.{ℕ, Bool, true, false, List, [], ◌∷◌, Option, Some, None, codes}
+-- The grammar of a script's lines: the word of each operation, which thread has it, and what stands at its places
+-- in turn. docs/SCRIPT.md has the same table.
+use Rattle.std.specs.Prelude.{ℕ, List, [], ◌∷◌, Option, Some, None, codes}
 use Rattle.joint_model.specs.declared.names.Thread.{Thread}
 use Rattle.joint_model.specs.declared.names.Thread.TheVariants.{M, P, C}
 use Rattle.joint_model.specs.declared.lines.Act.{Act}
@@ -131,16 +131,3 @@ abbrev pub form_of : Thread → Operation → Option (List Place)
 form_of (M n) o = managed_form o
 form_of (P n) o = peer_form o
 form_of C o = driver_form o
-
--- the operations that are built: the one part of the grammar that grows. All are, but for a peer thread's marking in slices
-abbrev pub is_built_peer : Operation → Bool
-is_built_peer operation.BeginMark = false
-is_built_peer operation.Slice = false
-is_built_peer operation.SweepMark = false
-is_built_peer _ = true
-
--- whether a thread's operation is built
-abbrev pub is_built : Thread → Operation → Bool
-is_built (M n) o = true
-is_built (P n) o = is_built_peer o
-is_built C o = true

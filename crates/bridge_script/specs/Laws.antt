@@ -45,6 +45,6 @@ pub record FitsTable (t : Thread) (a : Act) : Type 0 where
   pub words : act_words t a ≡ operation_text (operation_of a) ∷ rest
   pub none : (c : Cause) → PlacesHave (operation_of a) places rest c → ⊥
 
--- each line that a script can ever have, built or not, fits the table
+-- each line that a script can have fits the table
 abbrev pub LinesFitTable : Type 0
 LinesFitTable = (t : Thread) (a : Act) → IsLine t a → FitsTable t a

@@ -10,13 +10,11 @@ use Rattle.bridge_script.specs.declared.faults.ScriptError.{ScriptError}
 use Rattle.bridge_script.specs.declared.faults.ScriptError.TheVariants.{OutOfMemory, ReadFault, Refused}
 use Rattle.joint_model.specs.Lines.{IsLine}
 use Rattle.bridge_script.specs.Words.{line_text}
-use Rattle.bridge_script.specs.Grammar.{operation_of, is_built}
 use Rattle.bridge_script.specs.Faults.{PlacedLine, IsFirst, Has, words_of}
 
--- the line is one of those that are built
-pub record IsBuilt (line : Thread × Act) : Type 0 where
-  pub lawful : IsLine line.0 line.1
-  pub built : is_built line.0 (operation_of line.1) ≡ true
+-- the thread has the line's operation, and each of its places is within its limits
+abbrev pub IsScriptLine : Thread × Act → Type 0
+IsScriptLine line = IsLine line.0 line.1
 
 -- whether a line is `c cycle` or `c snap`
 abbrev pub is_cycle : Thread × Act → Bool
@@ -33,10 +31,10 @@ abbrev pub script_text_of : List (Thread × Act) → List ℕ
 script_text_of [] = []
 script_text_of (line ∷ lines) = line_text line ++ (10 ∷ script_text_of lines)
 
--- the lines are lines of a script: each is built, at most 20,000, of which at most 256 are `c cycle` or
+-- the lines are lines of a script: each may be one, they are at most 20,000, and of these at most 256 are `c cycle` or
 -- `c snap`
 pub record IsScript (script : List (Thread × Act)) : Type 0 where
-  pub built : All IsBuilt script
+  pub each : All IsScriptLine script
   pub lines : length script ≤ 20000
   pub cycles : cycles_of script ≤ 256
 

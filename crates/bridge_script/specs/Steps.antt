@@ -8,11 +8,11 @@ use Rattle.bridge_script.specs.declared.faults.ScriptError.{ScriptError}
 use Rattle.bridge_script.specs.declared.faults.ScriptError.TheVariants.{OutOfMemory, ReadFault, Refused}
 use Rattle.bridge_script.specs.Words.{line_text}
 use Rattle.bridge_script.specs.Faults.{WordsHave, PlacedLine, IsFirst, Has, words_of}
-use Rattle.bridge_script.specs.Scripts.{IsBuilt, IsScript, cycles_of}
+use Rattle.bridge_script.specs.Scripts.{IsScriptLine, IsScript, cycles_of}
 
 -- what a reader of a line's text answers: the line that has the text, or its words' first cause
 abbrev pub ReadsLine : List ℕ → Result (Thread × Act) Cause → Type 0
-ReadsLine text result = MatchResult result (λ line. IsBuilt line × (line_text line ≡ text)) (λ c. IsFirst (WordsHave (words_of text)) c)
+ReadsLine text result = MatchResult result (λ line. IsScriptLine line × (line_text line ≡ text)) (λ c. IsFirst (WordsHave (words_of text)) c)
 
 -- a list of lines grew by one line, which has that text and ends at a byte within the limit
 pub record GainsLine (old new : List (Thread × Act)) (text : List ℕ) (end : ℕ) : Type 0 where

@@ -9,7 +9,7 @@ use std::alloc::AllocError;
 /// which are printed. A line with the cause `Bytes` has no other, and one with `Lines` has none but `Bytes`.
 #[derive(Clone, Copy, PartialEq, Eq, Debug)]
 pub enum Cause {
-    /// The first word is no thread, or the second is no operation of that thread that is built.
+    /// The first word is no thread, or the second is no operation of that thread.
     Unknown,
     /// The operation has more places than there are words, or fewer.
     Arity,

@@ -1,10 +1,9 @@
-// The grammar of a script's lines: the table of operations, with the word and the places of each, and which of
-// them are built.
+// The grammar of a script's lines: the table of operations, with the word and the places of each.
 
 ghost use Rattle.std.specs.Prelude.{◌≡◌, ◌≢◌, MatchOption, List, Some};
 ghost use Rattle.bridge_script.specs.declared.grammar.Operation.{Operation};
 ghost use Rattle.bridge_script.specs.declared.grammar.Place.{Place};
-ghost use Rattle.bridge_script.specs.Grammar.{operation_text, managed_form, peer_form, driver_form, form_of, is_built};
+ghost use Rattle.bridge_script.specs.Grammar.{operation_text, managed_form, peer_form, driver_form, form_of};
 
 use crate::words::is_same;
 use joint_model::{PhaseWord, Thread};
@@ -240,14 +239,4 @@ fn driver_form(word: &[u8]) -> Option<Form>
         return Some((Operation::Finalise, &[COUNT]));
     }
     None
-}
-
-/// Whether a thread's operation is built: a script has no line with one that isn't.
-pub fn is_built(thread: Thread, operation: Operation) -> bool
-    ensures { result ≡ is_built thread operation }
-{
-    match (thread, operation) {
-        (Thread::P(_), Operation::BeginMark | Operation::Slice | Operation::SweepMark) => false,
-        _ => true,
-    }
 }

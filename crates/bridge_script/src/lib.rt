@@ -27,7 +27,7 @@
 //
 // `specs/Scripts.antt` says which bytes are a script's text and which line is the first faulty one, by the texts
 // that `specs/Words.antt` gives lines, and not by how they are read. `specs/Grammar.antt` has the table of all
-// operations and which of them are built, `specs/Faults.antt` the nine causes.
+// operations, `specs/Faults.antt` the nine causes.
 #![tactic(auto)]
 
 mod acts;

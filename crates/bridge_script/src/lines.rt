@@ -6,12 +6,12 @@ ghost use Rattle.joint_model.specs.declared.lines.Act.{Act};
 ghost use Rattle.bridge_script.specs.declared.grammar.Operation.{Operation};
 ghost use Rattle.bridge_script.specs.declared.grammar.Place.{Place};
 ghost use Rattle.bridge_script.specs.Words.{act_words};
-ghost use Rattle.bridge_script.specs.Grammar.{operation_text, form_of, is_built};
+ghost use Rattle.bridge_script.specs.Grammar.{operation_text, form_of};
 ghost use Rattle.bridge_script.specs.Operands.{IsPossible, act_at, act_alone, static_of, act_of_one, act_of_two, act_of_three, act_of_five};
 ghost use Rattle.bridge_script.specs.Steps.{ReadsLine};
 
 use crate::faults::Cause;
-use crate::grammar::{Form, Operation, form_of, is_built};
+use crate::grammar::{Form, Operation, form_of};
 use crate::operands::{Operand, read_operands, take_operands};
 use crate::stretches::Stretch;
 use crate::words::Words;
@@ -26,7 +26,7 @@ pub fn read_line(text: Stretch) -> Result<(Thread, Act), Cause>
     let Some(thread) = words.take_thread() else {
         return Err(Cause::Unknown);
     };
-    let Some((operation, places)) = take_operation(thread, &mut words) else {
+    let Some((operation, places)) = take_row(thread, &mut words) else {
         return Err(Cause::Unknown);
     };
     let operands = match read_operands(places, &mut words) {
@@ -39,8 +39,7 @@ pub fn read_line(text: Stretch) -> Result<(Thread, Act), Cause>
     }
 }
 
-/// Takes what a line of the thread asks for: the words behind its thread, of an operation that is built or of one that isn't. None where the words that
-/// are left don't begin with those of such a line.
+/// Takes what a line of the thread asks for: the words behind its thread. None where the words that are left don't begin with those of such a line.
 pub fn take_act(thread: Thread, words: &mut Words) -> Option<Act>
     requires { IsThread thread }
     ensures sound { IfSome result (λ a. IsLine thread a × (words.old ≡ act_words thread a ++ words.new)) }
@@ -56,19 +55,6 @@ fn take_row(thread: Thread, words: &mut Words) -> Option<Form>
     ensures { MatchOption result ((o : Operation) (places : List Place) (rest : List (List ℕ)) → form_of thread o ≡ Some places → words.old ≢ operation_text o ∷ rest) (λ row. (form_of thread row.0 ≡ Some row.1.now) × (words.old ≡ operation_text row.0 ∷ words.new) × (length row.1.now ≤ 5)) }
 {
     form_of(thread, words.next()?)
-}
-
-// Takes the word of an operation of a thread that is built, and answers its row of the table. None where the next
-// word asks for none.
-fn take_operation(thread: Thread, words: &mut Words) -> Option<Form>
-    ensures { MatchOption result ((o : Operation) (places : List Place) (rest : List (List ℕ)) → form_of thread o ≡ Some places → is_built thread o ≡ true → words.old ≢ operation_text o ∷ rest) (λ row. (form_of thread row.0 ≡ Some row.1.now) × (is_built thread row.0 ≡ true) × (words.old ≡ operation_text row.0 ∷ words.new) × (length row.1.now ≤ 5)) }
-{
-    let row = take_row(thread, words)?;
-    if is_built(thread, row.0) {
-        Some(row)
-    } else {
-        None
-    }
 }
 
 // The act of an operation with these operands at its places. None where they can't stand there, or not beside each

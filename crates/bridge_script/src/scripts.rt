@@ -3,7 +3,7 @@
 ghost use Rattle.std.specs.Prelude.{◌≡◌, ◌+◌, ◌≤◌, ◌<◌, ◌==◌, [], cond, slice_get, length, IfOk, IfErr, IfSome, MatchResult};
 ghost use Rattle.joint_model.specs.Lines.{IsLine};
 ghost use Rattle.bridge_script.specs.declared.faults.ScriptError.{ScriptError};
-ghost use Rattle.bridge_script.specs.Scripts.{IsBuilt, IsScript, IsText, IsRefusal, cycles_of, is_cycle, line_at};
+ghost use Rattle.bridge_script.specs.Scripts.{IsScript, IsText, IsRefusal, cycles_of, is_cycle, line_at};
 ghost use Rattle.bridge_script.specs.Steps.{GainsLine, Stops, EndsLine};
 
 use crate::faults::{Cause, ScriptError, ScriptFault};
@@ -23,8 +23,8 @@ pub const MOST_LINES: usize = 20_000;
 // The most lines `c cycle` and `c snap` of a script.
 const MOST_CYCLES: usize = 256;
 
-/// A script: a list of at most 20,000 lines, each a thread and what it is to do. Each line is one that is
-/// built, with each of its places within its limits, and at most 256 lines are `c cycle` or `c snap`.
+/// A script: a list of at most 20,000 lines, each a thread and what it is to do. Each line is an operation of its
+/// thread, with each of its places within its limits, and at most 256 lines are `c cycle` or `c snap`.
 #[derive(Drop)]
 pub struct Script {
     lines: Vec<(Thread, Act)>,
@@ -72,7 +72,6 @@ impl Script {
     /// no such line.
     pub fn line(&self, i: u32) -> Option<(Thread, Act)>
         ensures line { result ≡ line_at self.now i }
-        ensures built { IfSome result IsBuilt }
         ensures lawful { IfSome result (λ line. IsLine line.0 line.1) }
     {
         if i == 0 {

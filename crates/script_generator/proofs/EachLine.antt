@@ -1,5 +1,5 @@
 -- What holds of each line of a generated script: its thread has such a line, and writes a static only that no other thread writes.
-use Rattle.std.proofs.Common.{◌≡◌, ℕ, zero, suc, ◌+◌, ◌%◌, ◌<◌, ◌≤◌, [], ◌++◌, subst, sym, refl, arith}
+use Rattle.std.proofs.Common.{◌≡◌, ℕ, zero, suc, ◌+◌, ◌%◌, ◌<◌, ◌≤◌, [], ◌++◌, subst, sym, arith}
 use Rattle.std.specs.Prelude.{All}
 use Rattle.std.proofs.lemmas.List.Elements.{All-nil, All-cons, All-append, All-from_recursion}
 use Rattle.joint_model.specs.declared.names.StaticNo.{StaticNo}
@@ -8,7 +8,7 @@ use Rattle.joint_model.specs.declared.names.Thread.TheVariants.{C}
 use Rattle.joint_model.specs.declared.names.PhaseWord.TheVariants.{Cycle}
 use Rattle.joint_model.specs.declared.lines.Act.{Act}
 use Rattle.joint_model.specs.declared.lines.Act.TheVariants.{PhaseLine}
-use Rattle.bridge_script.specs.Scripts.{IsBuilt, IsScript}
+use Rattle.bridge_script.specs.Scripts.{IsScriptLine, IsScript}
 use Rattle.script_generator.specs.Families.{family_of}
 use Rattle.script_generator.specs.Generated.{shape_of, thread_of, static_of, family, cycle_after, generated}
 use Rattle.script_generator.specs.Laws.{WritesOwnStatic}
@@ -24,14 +24,14 @@ whole P c f seed (suc i) =
     ] in
     All-append P (generated seed i ++ family seed i) (cycle_after i) (All-append P (generated seed i) (family seed i) (whole P c f seed i) (f seed i)) last
 
-built_family : (k t : ℕ) (x : StaticNo) → 1 ≤ t → t ≤ 8 → x.0 < 16 → All IsBuilt (family_of k t x)
-built_family zero t x a b s = All-from_recursion IsBuilt (family_of 0 t x) (search arith)
-built_family (suc zero) t x a b s = All-from_recursion IsBuilt (family_of 1 t x) (search arith)
-built_family (suc (suc zero)) t x a b s = All-from_recursion IsBuilt (family_of 2 t x) (search arith)
-built_family (suc (suc (suc n))) t x a b s = All-from_recursion IsBuilt (family_of 3 t x) (search arith)
+line_family : (k t : ℕ) (x : StaticNo) → 1 ≤ t → t ≤ 8 → x.0 < 16 → All IsScriptLine (family_of k t x)
+line_family zero t x a b s = All-from_recursion IsScriptLine (family_of 0 t x) (search arith)
+line_family (suc zero) t x a b s = All-from_recursion IsScriptLine (family_of 1 t x) (search arith)
+line_family (suc (suc zero)) t x a b s = All-from_recursion IsScriptLine (family_of 2 t x) (search arith)
+line_family (suc (suc (suc n))) t x a b s = All-from_recursion IsScriptLine (family_of 3 t x) (search arith)
 
-pub built : (seed size : ℕ) → All IsBuilt (generated seed size)
-built = whole IsBuilt record { lawful = tt; built = refl } (λ seed i. built_family (shape_of seed i) (thread_of i) (static_of i) (omega arith) (omega arith) (omega arith))
+pub each : (seed size : ℕ) → All IsScriptLine (generated seed size)
+each = whole IsScriptLine tt (λ seed i. line_family (shape_of seed i) (thread_of i) (static_of i) (omega arith) (omega arith) (omega arith))
 
 own_family : (k t : ℕ) (x : StaticNo) → t ≡ 1 + x.0 % 4 → All WritesOwnStatic (family_of k t x)
 own_family zero t x e = All-from_recursion WritesOwnStatic (family_of 0 t x) (search arith)
@@ -44,7 +44,7 @@ own = whole WritesOwnStatic tt (λ seed i. own_family (shape_of seed i) (thread_
 
 pub is_script : (seed size : ℕ) → size ≤ 2800 → IsScript (generated seed size)
 is_script seed size h = record {
-  built = built seed size;
+  each = each seed size;
   lines = rw (generated_length seed size) (most_lines seed size h);
   cycles = rw (generated_cycles seed size) (omega arith);
 }

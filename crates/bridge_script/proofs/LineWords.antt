@@ -17,7 +17,7 @@ use Rattle.bridge_script.specs.declared.grammar.Place.{Place}
 use Rattle.bridge_script.specs.Words.{thread_text, act_words, line_words, line_text, spaced}
 use Rattle.bridge_script.specs.Grammar.{operation_text, operation_of, form_of}
 use Rattle.bridge_script.specs.Operands.{texts, StandAll, act_at}
-use Rattle.bridge_script.specs.Scripts.{IsBuilt}
+use Rattle.bridge_script.specs.Scripts.{IsScriptLine}
 use Rattle.bridge_script.proofs.Cuts.{split-join}
 use Rattle.bridge_script.proofs.Standing.{IsPrinted, Printed, printed_code, printed_lettered, all_printed, same_operands}
 use Rattle.bridge_script.proofs.Readings.{same_thread, same_operation}
@@ -33,15 +33,15 @@ printed_operation : (o : Operation) → Printed (operation_text o)
 printed_operation (operation.Phase phase.Cycle) = printed_code (codes "cycle") refl
 printed_operation o = printed_code (operation_text o) refl
 
-pub printed_line : (line : Thread × Act) → IsBuilt line → AllByRecursion Printed (line_words line)
+pub printed_line : (line : Thread × Act) → IsScriptLine line → AllByRecursion Printed (line_words line)
 printed_line line h =
-    let r = has_row line.0 line.1 h.lawful in
+    let r = has_row line.0 line.1 h in
     let F : List (List ℕ) → Type 0 = λ ws. AllByRecursion Printed ws in
-    (printed_thread line.0 (lawful_thread line.0 line.1 h.lawful), subst F (sym r.words) (printed_operation (operation_of line.1), all_printed r.places r.operands r.stand))
+    (printed_thread line.0 (lawful_thread line.0 line.1 h), subst F (sym r.words) (printed_operation (operation_of line.1), all_printed r.places r.operands r.stand))
 
 -- the words of a line's text are its words
-pub words_of_built : (line : Thread × Act) → IsBuilt line → slice_split (λ b. eqb b 32) (line_text line) ≡ line_words line
-words_of_built line h = split-join 32 (line_words line) (omega arith) (All-weaker Printed (All (λ b. b ≢ 32)) (λ w a. All-weaker IsPrinted (λ b. b ≢ 32) (λ b l e. omega (arith, l.0)) w a) (line_words line) (All-from_recursion Printed (line_words line) (printed_line line h)))
+pub words_of_line : (line : Thread × Act) → IsScriptLine line → slice_split (λ b. eqb b 32) (line_text line) ≡ line_words line
+words_of_line line h = split-join 32 (line_words line) (omega arith) (All-weaker Printed (All (λ b. b ≢ 32)) (λ w a. All-weaker IsPrinted (λ b. b ≢ 32) (λ b l e. omega (arith, l.0)) w a) (line_words line) (All-from_recursion Printed (line_words line) (printed_line line h)))
 
 same_act : (t : Thread) (a b : Act) → IsLine t a → IsLine t b → act_words t a ≡ act_words t b → a ≡ b
 same_act t a b l m e =
@@ -67,8 +67,8 @@ pub same_words : (a b : Thread × Act) → IsLine a.0 a.1 → IsLine b.0 b.1 →
 same_words a b l m e = same_in_words a.0 b.0 a.1 b.1 l m e
 
 -- a text is the text of one line
-pub same_line : (a b : Thread × Act) → IsBuilt a → IsBuilt b → line_text a ≡ line_text b → a ≡ b
-same_line a b p q e = same_words a b p.lawful q.lawful (sym (words_of_built a p) ∙ (ap (slice_split (λ x. eqb x 32)) e ∙ words_of_built b q))
+pub same_line : (a b : Thread × Act) → IsScriptLine a → IsScriptLine b → line_text a ≡ line_text b → a ≡ b
+same_line a b p q e = same_words a b p q (sym (words_of_line a p) ∙ (ap (slice_split (λ x. eqb x 32)) e ∙ words_of_line b q))
 
 abbrev IsShown : ℕ → Type 0
 IsShown b = (31 < b) × (b < 128)
@@ -82,10 +82,10 @@ spaced_printed [] h = All-nil IsShown
 spaced_printed (w ∷ []) h = shown w h.0
 spaced_printed (w ∷ x ∷ ws) h = All-append IsShown w (32 ∷ spaced (x ∷ ws)) (shown w h.0) (All-cons IsShown 32 (spaced (x ∷ ws)) (lit< tt, lit< tt) (spaced_printed (x ∷ ws) h.1))
 
-pub line_free : (line : Thread × Act) → IsBuilt line → All (λ b. b ≢ 10) (line_text line)
+pub line_free : (line : Thread × Act) → IsScriptLine line → All (λ b. b ≢ 10) (line_text line)
 line_free line h = All-weaker IsShown (λ b. b ≢ 10) (λ b l e. omega (arith, l.0)) (line_text line) (spaced_printed (line_words line) (printed_line line h))
 
-pub line_ascii : (line : Thread × Act) → IsBuilt line → All (λ b. b < 128) (line_text line)
+pub line_ascii : (line : Thread × Act) → IsScriptLine line → All (λ b. b < 128) (line_text line)
 line_ascii line h = All-weaker IsShown (λ b. b < 128) (λ b l. l.1) (line_text line) (spaced_printed (line_words line) (printed_line line h))
 
 spaced_some : (w : List ℕ) (ws : List (List ℕ)) → 0 < length w → 0 < length (spaced (w ∷ ws))
@@ -98,17 +98,11 @@ thread_some (P n) = omega arith
 thread_some C = lit< tt
 
 -- the text of a line isn't empty
-pub line_some : (line : Thread × Act) → IsBuilt line → 0 < length (line_text line)
+pub line_some : (line : Thread × Act) → IsScriptLine line → 0 < length (line_text line)
 line_some line h = spaced_some (thread_text line.0) (act_words line.0 line.1) (thread_some line.0)
 
-pub built_in_script : (lines : List (Thread × Act)) (i : ℕ) → All IsBuilt lines → IfSome (slice_get lines i) IsBuilt
-built_in_script lines i h = elim (slice_get_cases lines i).1 [
-  | inl p ↦ rw (p.2) (rw (p.3) at (h i p.0 p.1))
-  | inr p ↦ rw (p.1) tt
-]
-
-pub lawful_in_script : (lines : List (Thread × Act)) (i : ℕ) → All IsBuilt lines → IfSome (slice_get lines i) (λ line. IsLine line.0 line.1)
+pub lawful_in_script : (lines : List (Thread × Act)) (i : ℕ) → All IsScriptLine lines → IfSome (slice_get lines i) (λ line. IsLine line.0 line.1)
 lawful_in_script lines i h = elim (slice_get_cases lines i).1 [
-  | inl p ↦ rw (p.2) (rw (p.3) at (h i p.0 p.1)).lawful
+  | inl p ↦ rw (p.2) (rw (p.3) at (h i p.0 p.1))
   | inr p ↦ rw (p.1) tt
 ]
