@@ -1,9 +1,5 @@
-pub mod Cutting
-pub mod Digits
-pub mod Plain
 pub mod Reading
 pub mod Known
-pub mod TextLines
 pub mod OneNote
 pub mod Sharing
 pub mod Lining

@@ -23,7 +23,7 @@ use Rattle.joint_model.specs.Run.{thread_number}
 use Rattle.joint_model.specs.Told.{Noted}
 use Rattle.byte_streams.specs.Drafts.{after_spaces}
 use Rattle.history_report.specs.Report.{event_words, reply_words, entries_text, end_text}
-use Rattle.script_laws.proofs.Cutting.{cut-first, words-one}
+use Rattle.history_report.proofs.Cutting.{cut-first, words-one}
 use Rattle.script_laws.proofs.Reading.{is_word}
 use Rattle.script_laws.specs.Laws.{HasOneText}
 use Rattle.script_laws.proofs.OneNote.{Agree, Allowed, caller-cites, one-note}
@@ -31,7 +31,7 @@ use Rattle.known_laws.specs.Growing.{entries}
 use Rattle.known_laws.proofs.Retelling.{PlainComes, noting}
 use Rattle.script_laws.proofs.Sharing.{comes-of}
 use Rattle.script_laws.proofs.Finishing.{ends-tell}
-use Rattle.script_laws.proofs.TextLines.{rest_words, whole_words, line_of, line-first, words-lack, line-whole, no-entry, place-one, words-tell}
+use Rattle.history_report.proofs.TextLines.{rest_words, whole_words, line_of, line-first, words-lack, line-whole, no-entry, place-one, words-tell}
 use Rattle.script_laws.proofs.Events.{words-same}
 use Rattle.script_laws.proofs.ReadTelling.{Answered, ReadComes, PlainEntry, AllPlainEntries, ToldPlainly, told_plainly}
 use Rattle.script_laws.proofs.ReadWords.{answers-one}

@@ -17,9 +17,9 @@ use Rattle.bridge_script.specs.Words.{thread_text}
 use Rattle.byte_streams.specs.Drafts.{after_spaces}
 use Rattle.history_report.specs.Lists.{list_words}
 use Rattle.history_report.specs.Report.{event_words, reply_words, list_of, shown, cite_words, place_text, head_words, entry_text, entries_text}
-use Rattle.script_laws.proofs.Cutting.{Lacks, every-append, cut-first}
-use Rattle.script_laws.proofs.Digits.{IsDigit, decimal-digits, decimal-one}
-use Rattle.script_laws.proofs.Plain.{AllPlain, plain-listed, plain-event, plain-reply, plain-cites, plain-place, plain-decimal, no-byte, no-bytes, no-equals}
+use Rattle.history_report.proofs.Cutting.{Lacks, every-append, cut-first}
+use Rattle.history_report.proofs.Digits.{IsDigit, decimal-digits, decimal-one}
+use Rattle.history_report.proofs.Plain.{AllPlain, plain-listed, plain-event, plain-reply, plain-cites, plain-place, plain-decimal, no-byte, no-bytes, no-equals}
 
 -- the words of an entry's line, and the line without its newline
 abbrev pub rest_words : Finished → Entry → List (List ℕ)
@@ -70,7 +70,7 @@ words-lack c l h e =
     let behind = every-append Q event (codes "=" ∷ reply) (no-bytes c l event (plain-event e.made.caller e.made.op)) (equals, no-bytes c l reply (plain-reply e.made.reply)) in
     every-append Q (head_words e) (rest_words h e) (no-byte c l (place_text e.made.caller e.made.index) (plain-place e.made.caller e.made.index), behind) rest
 
-after-lack : (c : ℕ) → c < 32 → (ws : List (List ℕ)) → AllByRecursion (Lacks c) ws → Lacks c (after_spaces ws)
+pub after-lack : (c : ℕ) → c < 32 → (ws : List (List ℕ)) → AllByRecursion (Lacks c) ws → Lacks c (after_spaces ws)
 after-lack c l [] h = tt
 after-lack c l (w ∷ ws) h = (λ q. omega (arith, l, q), every-append (λ (x : ℕ). (x ≡ c) → ⊥) w (after_spaces ws) h.0 (after-lack c l ws h.1))
 
@@ -81,7 +81,7 @@ line-whole h e = every-append (λ (x : ℕ). (x ≡ 10) → ⊥) (decimal e.numb
 abbrev first_byte : List ℕ → ℕ
 first_byte t = get_or t 0 0
 
-not-end : (ds x y : List ℕ) → All IsDigit ds → ds ++ (32 ∷ x) ≡ 101 ∷ y → ⊥
+pub not-end : (ds x y : List ℕ) → All IsDigit ds → ds ++ (32 ∷ x) ≡ 101 ∷ y → ⊥
 not-end [] x y h e = omega (arith, ap first_byte e)
 not-end (d ∷ ds) x y h e = (let k = All-head IsDigit d ds h in let q : d ≡ 101 = ap first_byte e in omega (arith, k, q))
 
@@ -95,7 +95,7 @@ no-dot : (ds : List ℕ) → All IsDigit ds → Lacks 46 ds
 no-dot [] h = tt
 no-dot (d ∷ ds) h = (λ q. (let k = All-head IsDigit d ds h in omega (arith, k, q)), no-dot ds (All-tail IsDigit d ds h))
 
-thread-whole : (t : Thread) → Lacks 46 (thread_text t)
+pub thread-whole : (t : Thread) → Lacks 46 (thread_text t)
 thread-whole (M n) = (λ q. omega (arith, q), no-dot (decimal n) (decimal-digits n))
 thread-whole (P n) = (λ q. omega (arith, q), no-dot (decimal n) (decimal-digits n))
 thread-whole C = (λ q. omega (arith, q), tt)

@@ -26,8 +26,8 @@ use Rattle.joint_model.specs.declared.events.Reply.TheVariants as says
 use Rattle.bridge_script.specs.Words.{thread_text, var_text, optional_text, own_static, kind_text, sort_text, phase_word_text, act_words}
 use Rattle.history_report.specs.Report.{phase_text, event_words, reply_words, cite_words, place_text}
 use Rattle.history_report.specs.Lists.{lettered, listed}
-use Rattle.script_laws.proofs.Cutting.{Lacks, every-append}
-use Rattle.script_laws.proofs.Digits.{IsDigit, decimal-digits}
+use Rattle.history_report.proofs.Cutting.{Lacks, every-append}
+use Rattle.history_report.proofs.Digits.{IsDigit, decimal-digits}
 
 -- a byte above the space that isn't the equals sign
 abbrev IsPlainByte : ℕ → Type 0
