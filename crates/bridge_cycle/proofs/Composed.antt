@@ -101,34 +101,27 @@ partway_more old mid new index w reply p n is a =
       g.less,
     )
 
--- a phase that found no memory
-pub partway_lacks : (old mid new : Progress) (index : ℕ) (w : PhaseWord) → IsPartway old mid index → w ≡ next_word mid.phase → Lacks mid new index w → StopsForMemory old new index (phases_left old.phase)
-partway_lacks old mid new index w p is lacks =
-    let left = left_some mid.phase p.busy in
-    record {
-      run = p.run;
-      failed = w;
-      left = left.0;
-      all = p.all ∙ ap (λ ws. p.run ++ ws) (left.1 ∙ ap (λ v. v ∷ left.0) (sym is));
-      takes = lacks.takes;
-      before = mid;
-      runs = p.runs;
-      gives_up = lacks.gives_up;
-      idle = lacks.idle;
-    }
-
-pub first_lacks : (old new : Progress) (index : ℕ) (w : PhaseWord) (left : List PhaseWord) → Lacks old new index w → StopsForMemory old new index (w ∷ left)
-first_lacks old new index w left lacks = record {
-  run = [];
+-- phases were run, and the next one found no memory
+abbrev pub stops_at : (old mid new : Progress) (index : ℕ) (run : List PhaseWord) (w : PhaseWord) (left ws : List PhaseWord) → RunsWords old mid index run → ws ≡ run ++ w ∷ left → Lacks mid new index w → StopsForMemory old new index ws
+stops_at old mid new index run w left ws runs all lacks = record {
+  run = run;
   failed = w;
   left = left;
-  all = refl;
+  all = all;
   takes = lacks.takes;
-  before = old;
-  runs = runs_nothing old index;
+  before = mid;
+  runs = runs;
   gives_up = lacks.gives_up;
   idle = lacks.idle;
 }
+
+pub partway_lacks : (old mid new : Progress) (index : ℕ) (w : PhaseWord) → IsPartway old mid index → w ≡ next_word mid.phase → Lacks mid new index w → StopsForMemory old new index (phases_left old.phase)
+partway_lacks old mid new index w p is lacks =
+    let left = left_some mid.phase p.busy in
+    stops_at old mid new index p.run w left.0 (phases_left old.phase) p.runs (p.all ∙ ap (λ ws. p.run ++ ws) (left.1 ∙ ap (λ v. v ∷ left.0) (sym is))) lacks
+
+first_lacks : (old new : Progress) (index : ℕ) (w : PhaseWord) (left : List PhaseWord) → Lacks old new index w → StopsForMemory old new index (w ∷ left)
+first_lacks old new index w left lacks = stops_at old old new index [] w left (w ∷ left) (runs_nothing old index) refl lacks
 
 -- a line with that word, which isn't refused
 pub line_lacks : (old new : Progress) (index : ℕ) (w : PhaseWord) (next : Option Phase) → (next ≡ None → ⊥) → Lacks old new index w → BreaksWord old new index w next

@@ -10,7 +10,7 @@ use Rattle.joint_model.specs.Phases.{phases_left, phases_of}
 use Rattle.bridge_cycle.specs.Gaps.{IsInGap, StopsInGaps}
 use Rattle.bridge_cycle.specs.Progress.{EndsWithReply, LeadTo, Progress, RunsWords}
 use Rattle.bridge_cycle.specs.Words.{Lacks, next_word}
-use Rattle.bridge_cycle.proofs.Composed.{leads_one, runs_nothing, runs_on}
+use Rattle.bridge_cycle.proofs.Composed.{leads_one, runs_nothing, runs_on, stops_at}
 
 -- the phases of a cycle that are to come
 abbrev pub to_come : Phase → List PhaseWord
@@ -107,17 +107,7 @@ pub gaps_stop : (old mid new : Progress) (index gaps : ℕ) (w : PhaseWord) → 
 gaps_stop old mid new index gaps w m is lacks =
     let left = next_comes mid.phase in
     record {
-      stops = record {
-        run = m.run;
-        failed = w;
-        left = left.0;
-        all = m.all ∙ ap (λ ws. m.run ++ ws) (left.1 ∙ ap (λ v. v ∷ left.0) (sym is));
-        takes = lacks.takes;
-        before = mid;
-        runs = m.runs;
-        gives_up = lacks.gives_up;
-        idle = lacks.idle;
-      };
+      stops = stops_at old mid new index m.run w left.0 (phases_of word.Cycle) m.runs (m.all ∙ ap (λ ws. m.run ++ ws) (left.1 ∙ ap (λ v. v ∷ left.0) (sym is))) lacks;
       each = m.each;
     }
 

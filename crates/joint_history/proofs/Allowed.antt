@@ -1,5 +1,5 @@
 -- What a step of the peer side asks for holds in its thread's turn: a release names a handle that the thread gave up, or met and didn't take.
-use Rattle.std.proofs.Common.{◌≡◌, ℕ, Option, sym, ap, ◌∙◌, subst}
+use Rattle.std.proofs.Common.{◌≡◌, ℕ, Option, None, sym, ap, ◌∙◌, subst}
 use Rattle.joint_model.specs.declared.names.Thread.{Thread}
 use Rattle.joint_model.specs.declared.names.Thread.TheVariants.{M, P, C}
 use Rattle.joint_model.specs.declared.names.HNum.{HNum}
@@ -8,6 +8,7 @@ use Rattle.joint_model.specs.declared.lines.Act.TheVariants as act
 use Rattle.joint_model.specs.declared.events.Op.{Op}
 use Rattle.joint_model.specs.declared.events.Op.TheVariants as op
 use Rattle.joint_model.specs.Control.{Doing, free, made, lent, gripped, given, met, doing_at, ThreadAllows}
+use Rattle.joint_model.specs.Lines.{IsPeerThread}
 use Rattle.joint_model.specs.Linked.{Linkage}
 use Rattle.joint_model.specs.PeerReplay.{PeerReplay, PeerAllows, MayRelease}
 use Rattle.joint_model.specs.Sides.{Side}
@@ -22,6 +23,7 @@ use Rattle.order_table.specs.Views.{Owns}
 use Rattle.peer_side.specs.Steps.{IsPeerStep, IsStepLine}
 use Rattle.joint_history.specs.Callers.{HoldsPass}
 use Rattle.joint_history.specs.Locked.{PeerKnows, MayMake, IsTurn, doing_of}
+use Rattle.joint_history.specs.PeerCalls.{AllowsCall, IsPeerCall}
 use Rattle.seat_calls.specs.Passing.{Lends}
 use Rattle.joint_history.proofs.LockedSteps.{lent_joined, own_told, doing_told}
 
@@ -42,7 +44,7 @@ release_of (M n) s kept line d h cites is e w = release_allowed s kept n line d 
 release_of (P n) s kept line d h cites is e w = absurd is
 release_of C s kept line d h cites is e w = absurd is
 
-pub step_allowed : (t : Thread) (s : Linkage) → IsPastKept s → (line : ℕ) (d : Doing) (o : Op) (cites : Option ℕ) → IsPeerStep t o → doing_of t s.control ≡ d → IsTurn t d line o cites → PeerAllows s.peer t o cites nothing
+step_allowed : (t : Thread) (s : Linkage) → IsPastKept s → (line : ℕ) (d : Doing) (o : Op) (cites : Option ℕ) → IsPeerStep t o → doing_of t s.control ≡ d → IsTurn t d line o cites → PeerAllows s.peer t o cites nothing
 step_allowed t s kept line d (op.Line a) cites is e w = line_allowed s.peer t a cites is.2
 step_allowed t s kept line d (op.Make sort n) cites is e w = tt
 step_allowed t s kept line d (op.Land h x) cites is e w = tt
@@ -50,10 +52,22 @@ step_allowed t s kept line d (op.Grip x) cites is e w = tt
 step_allowed t s kept line d (op.Release h) cites is e w = release_of t s kept line d h cites is e w
 step_allowed t s kept line d o cites is e w = absurd is
 
+-- what a call of the peer side asks for, too: a thread's own marking cites nothing
+bare_turn : (t : Thread) (d : Doing) (line : ℕ) (o : Op) (cites : Option ℕ) → IsPeerThread t → IsTurn t d line o cites → cites ≡ None
+bare_turn (M n) d line o cites is w = absurd is
+bare_turn (P n) d line o cites is w = w
+bare_turn C d line o cites is w = absurd is
+
+call_allowed : (t : Thread) (s : Linkage) → IsPastKept s → (line : ℕ) (d : Doing) (o : Op) (cites : Option ℕ) → IsPeerCall t o → doing_of t s.control ≡ d → IsTurn t d line o cites → AllowsCall s.peer t o cites
+call_allowed t s kept line d op.Begin cites is e w = bare_turn t d line op.Begin cites is w
+call_allowed t s kept line d op.Sweep cites is e w = bare_turn t d line op.Sweep cites is w
+call_allowed t s kept line d (op.Line (act.Slice n)) cites is e w = bare_turn t d line (op.Line (act.Slice n)) cites is.0 w
+call_allowed t s kept line d o cites is e w = step_allowed t s kept line d o cites is e w
+
 -- so it is under the peer lock, once the caller's lines were handed over
-pub turn_is_allowed : (t : Thread) (locked mine handed mine1 : View) (side : Side PeerReplay) (index : ℕ) (o : Op) (cites : Option ℕ) → IsPeerStep t o → HoldsPass t mine → Owns locked 1 → PeerKnows locked side → MayMake t mine index o cites → Lends t locked mine handed mine1 → PeerAllows side.state t o cites nothing
+pub turn_is_allowed : (t : Thread) (locked mine handed mine1 : View) (side : Side PeerReplay) (index : ℕ) (o : Op) (cites : Option ℕ) → IsPeerCall t o → HoldsPass t mine → Owns locked 1 → PeerKnows locked side → MayMake t mine index o cites → Lends t locked mine handed mine1 → AllowsCall side.state t o cites
 turn_is_allowed t locked mine handed mine1 side index o cites is pass owns ks may l =
     let j = lent_joined t locked mine handed mine1 l ks.known may.stands.known in
     let state = j.peer_first (l.whole 1 owns) ∙ ks.state in
-    subst (λ s. PeerAllows s t o cites nothing) state (step_allowed t (end_of j.joined.known.past) (known_past_is_kept j.joined.known.past j.joined.known.lawful) index may.doing o cites is
+    subst (λ s. AllowsCall s t o cites) state (call_allowed t (end_of j.joined.known.past) (known_past_is_kept j.joined.known.past j.joined.known.lawful) index may.doing o cites is
     (doing_told t j.joined.known.past may.stands.known.known.past (own_told t locked mine handed mine1 l ks.known may.stands.known pass) ∙ may.stands.doing) may.turn)

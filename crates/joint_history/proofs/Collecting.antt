@@ -31,15 +31,16 @@ use Rattle.order_table.specs.declared.views.View.{View}
 use Rattle.order_table.specs.Facts.{line_entries}
 use Rattle.order_table.specs.Rule.{IsBelow}
 use Rattle.order_table.specs.Views.{OrderId, Shown, known, kept, Owns, role_line}
-use Rattle.peer_side.specs.Makings.{collect_makings}
+use Rattle.peer_side.specs.Makings.{collect_makings, step_makings, told_at, IsMarkEvent}
 use Rattle.peer_side.specs.Sides.{PeerModel, seen}
 use Rattle.joint_history.specs.declared.callers.Receipt.{Receipt}
 use Rattle.seat_calls.specs.declared.seats.SeatDrawing.{SeatDrawing}
 use Rattle.joint_history.specs.Callers.{HoldsPass}
 use Rattle.joint_history.specs.Collecting.{Collects, DrawsCollect, DrawsRefusal, DrawsWhole, began_at, refused_at, swept_at}
 use Rattle.joint_history.specs.Knowing.{line_known, note_of}
-use Rattle.joint_history.specs.Locked.{StaysSeated, Drew, MakesNone, PeerKnows, PeerReserves}
+use Rattle.joint_history.specs.Locked.{StaysSeated, Drew, MakesNone, PeerKnows, PeerReserves, made_by}
 use Rattle.joint_history.specs.Operations.{MakesAll, MayBegin, Runs, entry_by}
+use Rattle.joint_history.specs.PeerCalls.{DrawsEvent}
 use Rattle.seat_calls.specs.Passing.{Appends, Lends, Returns}
 use Rattle.joint_history.proofs.KnownCallers.{own_line}
 use Rattle.joint_history.proofs.KnownViews.{entries_snoc, same_view}
@@ -104,6 +105,33 @@ module _ (d : Drawing SeatDrawing) (reads : (a b : SeatDrawing) (e : Entry) (m :
         last = x.2;
         first = x.4;
       }
+
+  -- one event, whatever is told beside it
+  pub record EventDrew (a b : SeatDrawing) (old new : Side PeerReplay) (m : Made) : Type 0 where
+    pub drew : DrawsEvent order a.seat.now b.seat.now old new (numbered b.last m)
+    pub settled : Settled a.seat.now.view → Settled b.seat.now.view
+    pub threads : new.threads ≡ old.threads
+
+  pub event_drew : (a b : SeatDrawing) (old new : Side PeerReplay) (m : Made) (told : Told) → a.order.now ≡ order → a.role ≡ role.Peer → AddsLawful peer_rules d a b old new m told → EventDrew a b old new m
+  event_drew a b old new m told o r w =
+      let one = drew_one a b old new m told o r w in
+      record {
+        drew = record { told = told; drew = subst (λ n. Drew peer_rules 1 order a.seat.now b.seat.now old new (numbered n m) told) (sym one.last) one.drew };
+        settled = one.settled;
+        threads = w.threads;
+      }
+
+  one_drew : (a b : SeatDrawing) (old new : Side PeerReplay) (m : Made) (told : Told) → a.order.now ≡ order → a.role ≡ role.Peer → AddsInTurn peer_rules d a b old new (record { made = m; told = told } ∷ []) → EventDrew a b old new m
+  one_drew a b old new m told o r w =
+      let is = w.3 in
+      subst (λ (s : Side PeerReplay). EventDrew a b old s m) (sym is.1) (subst (λ (x : SeatDrawing). EventDrew a x old w.1 m) (sym is.0) (event_drew a w.0 old w.1 m told o r w.2))
+
+  -- a begin or a sweep alone
+  pub mark_drew : (a b : SeatDrawing) (old new : Side PeerReplay) (t : Thread) (index : ℕ) (q : Op) (reply : Reply) (gone : List ℕ) → IsMarkEvent q → a.order.now ≡ order → a.role ≡ role.Peer
+      → AddsInTurn peer_rules d a b old new (step_makings t index q None reply gone) → EventDrew a b old new (made_by t index q reply None)
+  mark_drew a b old new t index op.Begin reply gone is o r w = one_drew a b old new (made_by t index op.Begin reply None) (told_at op.Begin reply gone) o r w
+  mark_drew a b old new t index op.Sweep reply gone is o r w = one_drew a b old new (made_by t index op.Sweep reply None) (told_at op.Sweep reply gone) o r w
+  mark_drew a b old new t index q reply gone is o r w = absurd is
 
   pub record CollectDrew (a b : SeatDrawing) (old new : Side PeerReplay) (t : Thread) (index : ℕ) (reply : Reply) : Type 0 where
     pub first : ℕ
@@ -339,7 +367,7 @@ keeps_then a b c k l = record {
 whole_reserves : (n : ℕ) (index : ℕ) (order : OrderId) (locked mine mine1 locked2 mine2 : View) (seat seat' : Shown) (old new : PeerModel) (r : Receipt) → PeerKnows locked (seen old) → PeerReserves locked old → Lends (P n) locked mine seat.view mine1
     → DrawsWhole order seat seat' (seen old) (seen new) (P n) index r → new.reserve ≡ old.reserve → Returns (P n) seat'.view mine1 locked2 mine2 → PeerReserves locked2 new
 whole_reserves n index order locked mine mine1 locked2 mine2 seat seat' old new r ks rs l d same b =
-    let mid : PeerModel = record { threads = d.begun.threads; entries = d.begun.entries; state = d.begun.state; reserve = old.reserve } in
+    let mid : PeerModel = record { threads = d.begun.threads; entries = d.begun.entries; state = d.begun.state; reserve = old.reserve; colours = old.colours } in
     let began = began_at (P n) index r.first d.marking in
     let ended = swept_at (P n) index r.last d.marking d.freed in
     let on = drew_on (P n) locked mine mine1 order seat d.between old mid began nothing l d.begins in

@@ -10,11 +10,14 @@ use Rattle.joint_model.specs.contracts.lists.Entries as Entries
 use Rattle.order_table.proofs.orders.Order.TheSendSync.{the_sync as order}
 use Rattle.order_table.proofs.seats.Seat.TheSendSync.{the_send as seat}
 use Rattle.order_table.specs.declared.seats.OrderName.{Ghosts}
+use Rattle.bridge_graph.proofs.builder.GraphBuilder.TheSendSync.{the_send as builder}
 use Rattle.finaliser_queue.proofs.Notices.TheSendSync.{the_send as notices}
 use Rattle.instance_registry.proofs.Registry.TheSendSync.{the_send as registry}
 use Rattle.global_handles.proofs.HandleTable.TheSendSync.{the_send as table}
 use Rattle.row_heap.specs.contracts.places.Rows as Rows
 use Rattle.managed_side.proofs.rows.Held.TheSendSync.{the_send as held}
+use Rattle.managed_side.specs.contracts.rooms.Room as Room
+use Rattle.managed_side.specs.contracts.rooms.SnapRoom as SnapRoom
 use Rattle.managed_side.specs.contracts.rows.ManagedRows as ManagedRows
 use Rattle.managed_side.specs.contracts.side.ManagedSide as ManagedSide
 use Rattle.managed_side.specs.contracts.takings.Takings as Takings
@@ -42,8 +45,14 @@ managed_rows = search (sendable, crosses, heap_rows, notices, registry, held) de
 takings : IsSend Takings.the_row
 takings = search (sendable, crosses) depth 60 fits 100000
 
+rows_room : IsSend Room.the_row
+rows_room = search (sendable, crosses, builder) depth 60 fits 100000
+
+snap_room : IsSend SnapRoom.the_row
+snap_room = search (sendable, crosses, rows_room) depth 60 fits 100000
+
 managed_side : IsSend ManagedSide.the_row
-managed_side = search (sendable, crosses, managed_rows, takings, entries) depth 40 fits 100000
+managed_side = search (sendable, crosses, managed_rows, takings, entries, snap_room) depth 40 fits 100000
 
 peer_rows : IsSend PeerRows.the_row
 peer_rows = search (sendable, crosses, heap_rows, table) depth 100 fits 100000

@@ -160,9 +160,11 @@ pub may_close : (side : ManagedReplay) (v : View) (index clear : ℕ) (alive : L
 may_close side v index clear alive w u =
     let r = restored_may_be_resolved u.state u.kept w.opened (answers_of alive) clear u.stood in
     record {
-      cycle = r.cycle;
-      opened = subst (λ (z : ManagedReplay). z.managed.cycle ≡ Some r.cycle) u.managed r.open_cycle.0;
-      one_each = sym (length-map alive answer_of) ∙ r.one_each;
+      answers = record {
+        cycle = r.cycle;
+        opened = subst (λ (z : ManagedReplay). z.managed.cycle ≡ Some r.cycle) u.managed r.open_cycle.0;
+        one_each = sym (length-map alive answer_of) ∙ r.one_each;
+      };
       new = subst (λ (z : ManagedReplay). AreNew z.adopted (handles_given (answers_of alive))) u.managed (restored_are_new u.state u.kept w.opened (answers_of alive) clear u.stood);
     }
 

@@ -1,4 +1,5 @@
--- The driver's marking under the peer lock: after its sweep no marking is open, so its begin gives a number; and in its marked phase its own is open.
+-- The driver's marking under the peer lock: after its sweep no marking is open, so its begin gives a number; and in its marked phase its own is open,
+-- whatever slices it has made.
 use Rattle.std.proofs.Common.{◌≡◌, ◌⊎◌, inl, ⊎_elim, ℕ, ◌<◌, ◌^◌, Bool, true, false, List, length, Option, Some, None, refl, sym, ap, ◌∙◌, subst}
 use Rattle.std.specs.Prelude.{IsSome}
 use mathlib.Core.List.{IsPrefix}
@@ -18,18 +19,19 @@ use Rattle.joint_model.specs.Sides.{Side, peer_rules}
 use Rattle.joint_model.specs.Told.{Told, nothing, sweep_of}
 use Rattle.known_laws.proofs.Conditions.{marked_is_the_drivers, sweep_leaves_none}
 use Rattle.peer_side.specs.declared.side.Swept.{Swept}
-use Rattle.peer_side.specs.Sides.{MayEnd}
+use Rattle.peer_side.specs.Sides.{IsDrivers, MayEnd}
 use Rattle.order_table.specs.declared.views.View.{View}
 use Rattle.order_table.specs.Views.{OrderId, Shown, known, Owns}
 use Rattle.joint_history.specs.declared.marks.Begun.{Begun}
 use Rattle.joint_history.specs.Callers.{CallerKnows, HoldsPass}
-use Rattle.joint_history.specs.Driven.{DriverStands, driver_entry}
+use Rattle.joint_history.specs.Driven.{DriverMakesNone, DriverStands, driver_entry}
 use Rattle.joint_history.specs.DriverMarks.{DrawsSweep, EndsFirst, HasBegunMarking, MakesBegin, MakesMark, MakesSweep, MayBeginMarking, MayEndMarking, MayMarkCycle, after_sweep}
 use Rattle.joint_history.specs.Locked.{Drew, PeerKnows}
 use Rattle.seat_calls.specs.Passing.{Lends, Returns}
 use Rattle.joint_history.proofs.DeadParts.{count_same}
 use Rattle.joint_history.proofs.DriverHears.{driver_knows}
 use Rattle.joint_history.proofs.DriverPeerSteps.{DrivenUnderPeers, IsUnderPeers, driven_peers, under_peers}
+use Rattle.joint_history.proofs.DriverSnaps.{none_then_makes}
 use Rattle.joint_history.proofs.LockedSteps.{grows_more, owns_on}
 
 -- the driver may end any marking
@@ -51,6 +53,15 @@ is_open locked mine lent mine1 side index pass owns ks l w = ⊎_elim
     (λ (i : IsSome side.state.marking). i)
     (λ (m : HasBegunMarking mine index). marked_open side.state m.opened m.seen (under_peers locked mine lent mine1 side index (marked m.opened) m.seen pass owns ks m.stands l))
     w
+
+-- and the driver began it
+marked_own : (side : PeerReplay) (o : OpenSnap) (seen : Managed) → IsUnderPeers side (marked o) seen → IsDrivers side.marking
+marked_own side o seen u =
+    let w = marked_is_the_drivers u.state u.kept o u.stood in
+    subst IsDrivers (sym (sym (ap (λ (s : PeerReplay). s.marking) u.peer) ∙ w.1)) w.2
+
+pub is_own_marking : (locked mine lent mine1 : View) (side : Side PeerReplay) (index : ℕ) → HoldsPass C mine → Owns locked 1 → PeerKnows locked side → Lends C locked mine lent mine1 → HasBegunMarking mine index → IsDrivers side.state.marking
+is_own_marking locked mine lent mine1 side index pass owns ks l m = marked_own side.state m.opened m.seen (under_peers locked mine lent mine1 side index (marked m.opened) m.seen pass owns ks m.stands l)
 
 -- where the driver stands after it has ended a marking
 sweep_next : (stand : Stand) (n : ℕ) (reply : Reply) (told : Told) → stand_after stand n op.Sweep reply told ≡ after_sweep stand
@@ -126,6 +137,20 @@ may_begin old between index None e w = record { opened = w.opened; count = w.cou
 may_begin old between index (Some r) e w =
     let d = e (weakening w.opened w.count w.weakened false) w.seen w.stands (w.all, refl, refl) in
     record { opened = w.opened; count = w.count; weakened = true; swept = true; seen = w.seen; stands = d.stands; all = w.all }
+
+-- where no entry was made it is still begun, and may be ended
+pub none_begun : (u v : View) (index : ℕ) → DriverMakesNone u v → HasBegunMarking u index → HasBegunMarking v index
+none_begun u v index a w = record { opened = w.opened; seen = w.seen; stands = a.stands index (marked w.opened) w.seen w.stands }
+
+pub none_then_sweep : (u v w : View) (index n : ℕ) (out : Swept) → DriverMakesNone u v → MakesSweep v w index n out → MakesSweep u w index n out
+none_then_sweep u v w index n out a t stand m s now =
+    let d = t stand m (a.stands index stand m s) now in
+    record {
+      freed = d.freed;
+      count = d.count;
+      makes = none_then_makes u v w stand m (driver_entry n index op.Sweep (says.Swept out.marking out.freed) None) (sweep_of d.freed) a d.makes;
+      stands = d.stands;
+    }
 
 -- the driver's caller knows a past after it
 pub mark_knows : (t : Thread) (old new : View) (index : ℕ) (out : Begun) → IsDriver t → MayMarkCycle old index → MakesMark old new index out → CallerKnows t new

@@ -6,15 +6,16 @@ use mathlib.Core.List.{IsPrefix}
 use base.Growing.{prefix_refl, prefix_trans}
 use Rattle.joint_model.specs.declared.names.Thread.TheVariants.{C}
 use Rattle.joint_model.specs.declared.names.Span.{Span}
+use Rattle.joint_model.specs.declared.events.Entry.{Entry}
 use Rattle.joint_model.specs.declared.events.Op.TheVariants as op
 use Rattle.joint_model.specs.declared.events.Reply.{Reply}
 use Rattle.joint_model.specs.declared.events.Reply.TheVariants as says
-use Rattle.joint_model.specs.Control.{idle, snapped}
+use Rattle.joint_model.specs.Control.{Stand, idle, snapped}
 use Rattle.joint_model.specs.Cycles.{snap_reply}
 use Rattle.joint_model.specs.Managed.{Managed, OpenCycle}
 use Rattle.joint_model.specs.ManagedReplay.{ManagedReplay}
 use Rattle.joint_model.specs.Sides.{Side, managed_rules}
-use Rattle.joint_model.specs.Told.{kept_pins, snap_of}
+use Rattle.joint_model.specs.Told.{Told, kept_pins, snap_of}
 use Rattle.joint_laws.specs.ManagedInvariants.{IsManagedKept}
 use Rattle.known_laws.proofs.Conditions.{idle_is_closed}
 use Rattle.known_laws.proofs.KnownPasts.{known_past_is_kept}
@@ -93,6 +94,18 @@ none_then_none u v w a b = record {
   stands = λ index stand seen s. b.stands index stand seen (a.stands index stand seen s);
 }
 
+pub none_then_makes : (u v w : View) (stand : Stand) (seen : Managed) (e : Entry) (told : Told) → DriverMakesNone u v → DriverMakes v w stand seen e told → DriverMakes u w stand seen e told
+none_then_makes u v w stand seen e told a m = record {
+  own = m.own ∙ ap (λ es. es ++ e ∷ []) a.own;
+  more = λ i. prefix_trans (known u i) (known v i) (known w i) (a.more i) (m.more i);
+  above = λ i. below_begins e.number (known u i) (known v i) (a.more i) (m.above i);
+  state = m.state;
+  comes = m.comes;
+  kept = m.kept;
+  stood = m.stood;
+  dead = m.dead;
+}
+
 pub none_rests : (u v : View) (index : ℕ) → DriverMakesNone u v → DriverRests u index → DriverRests v index
 none_rests u v index a r = record { seen = r.seen; stands = a.stands index idle r.seen r.stands }
 
@@ -106,16 +119,7 @@ none_then_snap u v w index out a t m s =
       counted = o.counted;
       count = o.count;
       pins = o.pins;
-      makes = record {
-        own = o.makes.own ∙ ap (λ es. es ++ driver_entry out.number index (op.Snap out.cycle) (says.Snapped out.candidates out.freed) None ∷ []) a.own;
-        more = λ i. prefix_trans (known u i) (known v i) (known w i) (a.more i) (o.makes.more i);
-        above = λ i. below_begins out.number (known u i) (known v i) (a.more i) (o.makes.above i);
-        state = o.makes.state;
-        comes = o.makes.comes;
-        kept = o.makes.kept;
-        stood = o.makes.stood;
-        dead = o.makes.dead;
-      };
+      makes = none_then_makes u v w idle m (driver_entry out.number index (op.Snap out.cycle) (says.Snapped out.candidates out.freed) None) (kept_pins o.pins (snap_of o.freed o.candidates o.dead)) a o.makes;
       seen = o.seen;
       kept = o.kept;
       opened = o.opened;

@@ -32,6 +32,7 @@ pub mod DriverHears
 pub mod Ended
 pub mod Yielding
 pub mod Allowed
+pub mod PeerCalls
 pub mod Joined
 pub mod Narrow
 pub mod Giving

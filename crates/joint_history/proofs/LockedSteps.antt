@@ -42,6 +42,7 @@ use Rattle.view_laws.proofs.DrawnViews.{drawn_views_grow}
 use Rattle.joint_history.specs.Callers.{HoldsPass, KeepsReads, KnowsNothing, ReadsStay}
 use Rattle.joint_history.specs.Knowing.{line_known, note_of}
 use Rattle.joint_history.specs.Locked.{Drew, StaysSeated, made_by, ManagedKnows, PeerKnows, Stands, MayMake, IsTurn, Makes, MakesNone, doing_of, doing_from}
+use Rattle.joint_history.specs.PeerCalls.{DrawsEvent}
 use Rattle.joint_history.proofs.KnownCallers.{own_line}
 use Rattle.joint_history.proofs.KnownViews.{JoinedViews, entries_snoc, lines_join, same_view, no_view}
 use Rattle.joint_history.proofs.Standing.{last_of_own, doing_of_own}
@@ -382,16 +383,16 @@ pub record CalledPeer {E : Type 0} (t : Thread) (mine locked2 mine2 : View) (sid
   pub reads : ReadsStay t mine mine2
   pub err : OnErr result (MakesNone t mine mine2)
 
-pub called_peer : {E : Type 0} (t : Thread) (index : ℕ) (o : Op) (cites : Option ℕ) (told : Told) (order : OrderId) (locked mine mine1 locked2 mine2 : View) (seat seat' : Shown) (old new : Side PeerReplay) (result : Result (ℕ × Reply) E)
+pub called_peer : {E : Type 0} (t : Thread) (index : ℕ) (o : Op) (cites : Option ℕ) (order : OrderId) (locked mine mine1 locked2 mine2 : View) (seat seat' : Shown) (old new : Side PeerReplay) (result : Result (ℕ × Reply) E)
     → IsThread t → HoldsPass t mine → Owns locked 1 → index < 2 ^ 32 → PeerKnows locked old → MayMake t mine index o cites → Lends t locked mine seat.view mine1
-    → IfOk result (λ x. Drew peer_rules 1 order seat seat' old new (numbered x.0 (made_by t index o x.1 cites)) told) → OnErr result (StaysSeated seat seat' × (new ≡ old)) → Returns t seat'.view mine1 locked2 mine2
+    → IfOk result (λ x. DrawsEvent order seat seat' old new (numbered x.0 (made_by t index o x.1 cites))) → OnErr result (StaysSeated seat seat' × (new ≡ old)) → Returns t seat'.view mine1 locked2 mine2
     → CalledPeer t mine locked2 mine2 new result (λ x. numbered x.0 (made_by t index o x.1 cites))
-called_peer t index o cites told order locked mine mine1 locked2 mine2 seat seat' old new (Ok x) is pass owns short ks may l d e b =
+called_peer t index o cites order locked mine mine1 locked2 mine2 seat seat' old new (Ok x) is pass owns short ks may l d e b =
     let j = lent_joined t locked mine seat.view mine1 l ks.known may.stands.known in
-    let now = thread_may t j.joined.known.past mine (made_by t index o x.1 cites) told may (own_told t locked mine seat.view mine1 l ks.known may.stands.known pass) in
-    let w = did_peer_by t locked mine mine1 locked2 mine2 order seat seat' old new (numbered x.0 (made_by t index o x.1 cites)) told may.stands.known is pass owns refl short ks l now d b in
-    record { knows = w.knows; ok = subst (Makes t mine mine2) d.entry w.makes; reads = w.reads; err = tt }
-called_peer t index o cites told order locked mine mine1 locked2 mine2 seat seat' old new (Err x) is pass owns short ks may l d e b =
+    let now = thread_may t j.joined.known.past mine (made_by t index o x.1 cites) d.told may (own_told t locked mine seat.view mine1 l ks.known may.stands.known pass) in
+    let w = did_peer_by t locked mine mine1 locked2 mine2 order seat seat' old new (numbered x.0 (made_by t index o x.1 cites)) d.told may.stands.known is pass owns refl short ks l now d.drew b in
+    record { knows = w.knows; ok = subst (Makes t mine mine2) d.drew.entry w.makes; reads = w.reads; err = tt }
+called_peer t index o cites order locked mine mine1 locked2 mine2 seat seat' old new (Err x) is pass owns short ks may l d e b =
     let back = returns_seated t seat seat' mine1 locked2 mine2 e.0 b in
     record {
       knows = subst (PeerKnows locked2) (sym e.1) (knows_peers_still t locked mine seat.view mine1 locked2 mine2 old owns ks may.stands.known l back);
@@ -399,6 +400,20 @@ called_peer t index o cites told order locked mine mine1 locked2 mine2 seat seat
       reads = reads_rest t locked mine seat.view mine1 locked2 mine2 pass l back;
       err = makes_none t locked mine seat.view mine1 locked2 mine2 ks.known pass l back;
     }
+
+-- what the seat knew and owned after an event of the peer side
+module _ {E : Type 0} (order : OrderId) (seat seat' : Shown) (old new : Side PeerReplay) (make : ℕ × Reply → Entry) where
+  pub event_more : (result : Result (ℕ × Reply) E) → IfOk result (λ x. DrawsEvent order seat seat' old new (make x)) → OnErr result (StaysSeated seat seat' × (new ≡ old)) → (i : ℕ) → IsPrefix (known seat.view i) (known seat'.view i)
+  event_more (Ok x) d e i = grows_more seat.view seat'.view 1 d.drew.kept d.drew.appends.grows i
+  event_more (Err x) d e i = subst (IsPrefix (known seat.view i)) (sym (ap (λ ks. at [] ks i) e.0.known)) (prefix_refl (known seat.view i))
+
+  pub event_owns : (result : Result (ℕ × Reply) E) → IfOk result (λ x. DrawsEvent order seat seat' old new (make x)) → OnErr result (StaysSeated seat seat' × (new ≡ old)) → (i : ℕ) → Owns seat.view i → Owns seat'.view i
+  event_owns (Ok x) d e i o = owns_on seat.view seat'.view 1 d.drew.kept d.drew.appends.grows i o
+  event_owns (Err x) d e i o = ap (λ os. at false os i) e.0.owns ∙ o
+
+  pub event_order : (result : Result (ℕ × Reply) E) → IfOk result (λ x. DrawsEvent order seat seat' old new (make x)) → OnErr result (StaysSeated seat seat' × (new ≡ old)) → seat'.order ≡ seat.order
+  event_order (Ok x) d e = d.drew.appends.same
+  event_order (Err x) d e = e.0.order
 
 -- a side at its opening, with a seat that knows nothing
 pub opening_managed_knows : (v : View) (s : Side ManagedReplay) → KnowsNothing v → s.entries ≡ [] → s.state ≡ opening_replay → ManagedKnows v s

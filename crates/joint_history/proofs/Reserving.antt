@@ -12,6 +12,7 @@ use Rattle.joint_model.specs.declared.names.Thread.{Thread}
 use Rattle.joint_model.specs.declared.names.Thread.TheVariants.{M, P, C}
 use Rattle.joint_model.specs.declared.events.Entry.{Entry}
 use Rattle.joint_model.specs.declared.events.Op.{Op}
+use Rattle.joint_model.specs.declared.lines.Act.TheVariants as act
 use Rattle.joint_model.specs.declared.events.Op.TheVariants as op
 use Rattle.joint_model.specs.declared.events.Reply.{Reply}
 use Rattle.joint_model.specs.declared.events.Reply.TheVariants as says
@@ -36,7 +37,6 @@ use Rattle.known_laws.proofs.PeerKeeps.{IsNoMirror, IsUnmirroring, same_mirror_a
 use Rattle.known_laws.proofs.SnapTold.{mirrored_candidates_stay}
 use Rattle.peer_side.specs.Cycles.{reserve_left, reserve_over}
 use Rattle.peer_side.specs.Sides.{PeerModel, Reserve, is_own, opening_side, reserve_begun, seen}
-use Rattle.peer_side.specs.Steps.{IsPeerStep}
 use Rattle.order_table.specs.declared.views.View.{View}
 use Rattle.order_table.specs.Facts.{line_entries}
 use Rattle.order_table.specs.Rows.{at}
@@ -50,6 +50,7 @@ use Rattle.view_laws.specs.Knowing.{IsDrawnView, drawn_lines}
 use Rattle.known_laws.specs.Drawn.{of_drawn}
 use Rattle.known_laws.proofs.Coming.{turn_of}
 use Rattle.joint_history.specs.Locked.{Drew, HasRoomToWeaken, PeerKnows, PeerReserves, StaysSeated, due_after, due_from, is_marking_due, made_by}
+use Rattle.joint_history.specs.PeerCalls.{DrawsEvent, IsPeerCall}
 use Rattle.seat_calls.specs.Passing.{Lends, Returns}
 use Rattle.joint_history.proofs.DeadParts.{candidate_handle_on}
 use Rattle.joint_history.proofs.DriverSteps.{driver_joined}
@@ -265,7 +266,10 @@ drew_reserves t locked mine mine1 locked2 mine2 order seat seat' old new e told 
     reserves_on locked locked2 old new ks (back_on t locked seat'.view mine1 locked2 mine2 (drew_on t locked mine mine1 order seat seat' old new e told l d) b) k r
 
 -- a step of a thread
-no_driver : (o : Op) → IsPeerStep C o → ⊥
+no_driver : (o : Op) → IsPeerCall C o → ⊥
+no_driver op.Begin is = is
+no_driver op.Sweep is = is
+no_driver (op.Line (act.Slice k)) is = is.0
 no_driver (op.Line a) is = is.0
 no_driver (op.Make sort n) is = is.0
 no_driver (op.Land h x) is = is.0
@@ -273,21 +277,21 @@ no_driver (op.Grip x) is = is.0
 no_driver (op.Release h) is = is
 no_driver o is = is
 
-not_driver : (t : Thread) (o : Op) → IsPeerStep t o → t ≡ C → ⊥
-not_driver t o is e = no_driver o (subst (λ (u : Thread). IsPeerStep u o) e is)
+not_driver : (t : Thread) (o : Op) → IsPeerCall t o → t ≡ C → ⊥
+not_driver t o is e = no_driver o (subst (λ (u : Thread). IsPeerCall u o) e is)
 
 pub quiet_thread : (t : Thread) (o : Op) (due : Bool) → (t ≡ C → ⊥) → due_after t o due ≡ due
 quiet_thread (M n) o due x = refl
 quiet_thread (P n) o due x = refl
 quiet_thread C o due x = absurd (x refl)
 
-pub step_reserves : {E : Type 0} (t : Thread) (index : ℕ) (o : Op) (cites : Option ℕ) (order : OrderId) (locked mine mine1 locked2 mine2 : View) (seat seat' : Shown) (old new : PeerModel) (result : Result (ℕ × Reply) E) → IsPeerStep t o → PeerKnows locked (seen old) → PeerReserves locked old
-    → Lends t locked mine seat.view mine1 → IfOk result (λ x. Drew peer_rules 1 order seat seat' (seen old) (seen new) (numbered x.0 (made_by t index o x.1 cites)) nothing) → OnErr result (StaysSeated seat seat' × (seen new ≡ seen old)) → new.reserve ≡ old.reserve
+pub step_reserves : {E : Type 0} (t : Thread) (index : ℕ) (o : Op) (cites : Option ℕ) (order : OrderId) (locked mine mine1 locked2 mine2 : View) (seat seat' : Shown) (old new : PeerModel) (result : Result (ℕ × Reply) E) → IsPeerCall t o → PeerKnows locked (seen old) → PeerReserves locked old
+    → Lends t locked mine seat.view mine1 → IfOk result (λ x. DrawsEvent order seat seat' (seen old) (seen new) (numbered x.0 (made_by t index o x.1 cites))) → OnErr result (StaysSeated seat seat' × (seen new ≡ seen old)) → new.reserve ≡ old.reserve
     → Returns t seat'.view mine1 locked2 mine2 → PeerReserves locked2 new
 step_reserves t index o cites order locked mine mine1 locked2 mine2 seat seat' old new (Ok x) is ks r l d e same b =
     let made = numbered x.0 (made_by t index o x.1 cites) in
-    drew_reserves t locked mine mine1 locked2 mine2 order seat seat' old new made nothing ks r l d b
-    (quiet_kept order seat seat' old new made nothing d same (unmirroring t o (not_driver t o is) d.goes.lawful.0.event) (λ due. quiet_thread t o due (not_driver t o is)))
+    drew_reserves t locked mine mine1 locked2 mine2 order seat seat' old new made d.told ks r l d.drew b
+    (quiet_kept order seat seat' old new made d.told d.drew same (unmirroring t o (not_driver t o is) d.drew.goes.lawful.0.event) (λ due. quiet_thread t o due (not_driver t o is)))
 step_reserves t index o cites order locked mine mine1 locked2 mine2 seat seat' old new (Err x) is ks r l d e same b =
     reserves_on locked locked2 old new ks (back_on t locked seat'.view mine1 locked2 mine2 (seated_on locked seat seat' e.0 (lent_on t locked mine seat.view mine1 l)) b) (nothing_kept old new e.1 same) r
 

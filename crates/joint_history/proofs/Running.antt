@@ -26,11 +26,11 @@ use Rattle.order_table.specs.declared.views.View.{View}
 use Rattle.order_table.specs.Rule.{IsBelow}
 use Rattle.order_table.specs.Views.{known}
 use Rattle.order_table.proofs.Lines.{below_begins}
-use Rattle.peer_side.specs.Steps.{IsRelease, IsStepLine}
+use Rattle.peer_side.specs.Steps.{IsRelease}
 use Rattle.joint_history.specs.Callers.{CallerKnows, KeepsReads, last_index}
 use Rattle.joint_history.specs.Knowing.{line_known}
 use Rattle.joint_history.specs.Locked.{Makes, MakesNone, MayMake, doing_from, made_by}
-use Rattle.joint_history.specs.Operations.{AreAbove, StopsWithoutMemory, OpensOperation, IsMadeByEvents, IsOwnThread, IsPeerOperation, IsSideEvent, MakesAll, MayBegin, ReadsExactly, Runs, answer_of, cited_by, entry_by, first_of, second_of, third_of}
+use Rattle.joint_history.specs.Operations.{AreAbove, StopsWithoutMemory, OpensOperation, IsEventLine, IsMadeByEvents, IsOwnThread, IsSideEvent, MakesAll, MayBegin, ReadsExactly, Runs, answer_of, cited_by, entry_by, first_of, second_of, third_of}
 use Rattle.joint_history.proofs.LastLines.{last_line_is}
 use Rattle.joint_history.proofs.Narrow.{GripsFew, past_grips_few}
 use Rattle.joint_history.proofs.Turning.{first_may, met_then_release, stands_knows, then_adopt, then_land, then_meet, then_release}
@@ -104,19 +104,23 @@ managed_first n (act.PhaseLine w) is = absurd is.1
 managed_first n (act.Finalise k) is = absurd is.1
 managed_first n a is = record { peer = λ z. never_peer _ z; managed = λ z. ((is, tt), (is.0, tt)) }
 
-peer_first : (n : ℕ) (a : Act) → IsLine (P n) a → IsStepLine a → IsSideEvent (P n) (first_of a)
-peer_first n (act.NewPeer v k) is b = record { peer = λ z. (is.0, is.1, b); managed = λ z. never_managed _ z }
-peer_first n (act.Copy v w) is b = record { peer = λ z. (is.0, is.1, b); managed = λ z. never_managed _ z }
-peer_first n (act.Set v i w) is b = record { peer = λ z. (is.0, is.1, b); managed = λ z. never_managed _ z }
-peer_first n (act.Get v w i) is b = record { peer = λ z. (is.0, is.1, b); managed = λ z. never_managed _ z }
-peer_first n (act.Drop v) is b = record { peer = λ z. (is.0, is.1, b); managed = λ z. never_managed _ z }
-peer_first n (act.Load v x) is b = record { peer = λ z. (is.0, is.1, b); managed = λ z. never_managed _ z }
-peer_first n (act.Store x v) is b = record { peer = λ z. (is.0, is.1, b); managed = λ z. never_managed _ z }
-peer_first n (act.Global g v) is b = record { peer = λ z. (is.0, is.1, b); managed = λ z. never_managed _ z }
-peer_first n (act.WGlobal g v) is b = record { peer = λ z. (is.0, is.1, b); managed = λ z. never_managed _ z }
-peer_first n (act.UnGlobal g) is b = record { peer = λ z. (is.0, is.1, b); managed = λ z. never_managed _ z }
-peer_first n (act.WRead v g) is b = record { peer = λ z. (is.0, is.1, b); managed = λ z. never_managed _ z }
-peer_first n a is b = absurd b
+peer_first : (n : ℕ) (a : Act) → IsLine (P n) a → IsEventLine a → IsSideEvent (P n) (first_of a)
+peer_first n (act.NewPeer v k) is b = record { peer = λ z. (is.0, is.1, tt); managed = λ z. never_managed _ z }
+peer_first n (act.Copy v w) is b = record { peer = λ z. (is.0, is.1, tt); managed = λ z. never_managed _ z }
+peer_first n (act.Set v i w) is b = record { peer = λ z. (is.0, is.1, tt); managed = λ z. never_managed _ z }
+peer_first n (act.Get v w i) is b = record { peer = λ z. (is.0, is.1, tt); managed = λ z. never_managed _ z }
+peer_first n (act.Drop v) is b = record { peer = λ z. (is.0, is.1, tt); managed = λ z. never_managed _ z }
+peer_first n (act.Load v x) is b = record { peer = λ z. (is.0, is.1, tt); managed = λ z. never_managed _ z }
+peer_first n (act.Store x v) is b = record { peer = λ z. (is.0, is.1, tt); managed = λ z. never_managed _ z }
+peer_first n (act.Global g v) is b = record { peer = λ z. (is.0, is.1, tt); managed = λ z. never_managed _ z }
+peer_first n (act.WGlobal g v) is b = record { peer = λ z. (is.0, is.1, tt); managed = λ z. never_managed _ z }
+peer_first n (act.UnGlobal g) is b = record { peer = λ z. (is.0, is.1, tt); managed = λ z. never_managed _ z }
+peer_first n (act.WRead v g) is b = record { peer = λ z. (is.0, is.1, tt); managed = λ z. never_managed _ z }
+peer_first n act.BeginMark is b = record { peer = λ z. is.0; managed = λ z. never_managed _ z }
+peer_first n (act.Slice k) is b = record { peer = λ z. (is.0, is.1); managed = λ z. never_managed _ z }
+peer_first n act.SweepMark is b = record { peer = λ z. is.0; managed = λ z. never_managed _ z }
+peer_first n act.Collect is b = absurd b
+peer_first n a is b = absurd is.1
 
 pub first_is_made : (t : Thread) (a : Act) → IsMadeByEvents t a → IsSideEvent t (first_of a)
 first_is_made (M n) a is = managed_first n a is
@@ -153,17 +157,17 @@ second_follows n old new k index act.Collect answered o is m e = absurd is.1
 second_follows n old new k index a answered o is m e = absurd (none_some o e)
 
 -- a peer thread's line of one event has no second one
-peers_have_none : (n : ℕ) (a : Act) (answered : Reply) (o : Op) → IsStepLine a → second_of a answered ≡ Some o → ⊥
-peers_have_none n (act.Bridge v kind b sort f) answered o is e = is
-peers_have_none n (act.Pass v x) answered o is e = is
-peers_have_none n (act.Surface v x) answered o is e = is
-peers_have_none n (act.Dispose v) answered o is e = is
-peers_have_none n act.Collect answered o is e = is
-peers_have_none n a answered o is e = none_some o e
+peers_have_none : (n : ℕ) (a : Act) (answered : Reply) (o : Op) → IsLine (P n) a → IsEventLine a → second_of a answered ≡ Some o → ⊥
+peers_have_none n (act.Bridge v kind b sort f) answered o is one e = is.1
+peers_have_none n (act.Pass v x) answered o is one e = is.1
+peers_have_none n (act.Surface v x) answered o is one e = is.1
+peers_have_none n (act.Dispose v) answered o is one e = is.1
+peers_have_none n act.Collect answered o is one e = one
+peers_have_none n a answered o is one e = none_some o e
 
 pub second_comes : (t : Thread) (old new : View) (k index : ℕ) (a : Act) (answered : Reply) (o : Op) → IsMadeByEvents t a → Makes t old new (entry_by t index k (first_of a) answered None) → second_of a answered ≡ Some o → Follows t new index k o
 second_comes (M n) old new k index a answered o is m e = second_follows n old new k index a answered o is m e
-second_comes (P n) old new k index a answered o is m e = absurd (peers_have_none n a answered o is.1 e)
+second_comes (P n) old new k index a answered o is m e = absurd (peers_have_none n a answered o is.0 is.1 e)
 second_comes C old new k index a answered o is m e = absurd is
 
 -- only a meet has a third event after it
@@ -182,7 +186,7 @@ third_follows n old new j k index second reply third is m e = absurd (none_some 
 
 pub third_comes : (t : Thread) (old new : View) (j k index : ℕ) (a : Act) (answered : Reply) (second : Op) (reply : Reply) (third : Op) → IsMadeByEvents t a → second_of a answered ≡ Some second → Makes t old new (entry_by t index k second reply (Some j)) → third_of second reply ≡ Some third → Follows t new index k third
 third_comes (M n) old new j k index a answered second reply third is f m e = third_follows n old new j k index second reply third is.0 m e
-third_comes (P n) old new j k index a answered second reply third is f m e = absurd (peers_have_none n a answered second is.1 f)
+third_comes (P n) old new j k index a answered second reply third is f m e = absurd (peers_have_none n a answered second is.0 is.1 f)
 third_comes C old new j k index a answered second reply third is f m e = absurd is
 
 -- the third event is a release, which takes no memory
@@ -258,7 +262,7 @@ managed_cites n a answered second first is e = absurd (none_some second e)
 
 cites_first : (t : Thread) (a : Act) (answered : Reply) (second : Op) (first : ℕ) → IsMadeByEvents t a → second_of a answered ≡ Some second → cited_by second first ≡ Some first
 cites_first (M n) a answered second first is e = managed_cites n a answered second first is e
-cites_first (P n) a answered second first is e = absurd (peers_have_none n a answered second is.1 e)
+cites_first (P n) a answered second first is e = absurd (peers_have_none n a answered second is.0 is.1 e)
 cites_first C a answered second first is e = absurd is
 
 -- the ends of an operation, at the numbers and replies of its events
@@ -345,21 +349,21 @@ managed_operation (M n) a is line = line
 managed_operation (P n) a is line = absurd is
 managed_operation C a is line = absurd is
 
-step_line : (a : Act) → IsPeerOperation a → (a ≡ act.Collect → ⊥) → IsStepLine a
-step_line act.Collect is other = absurd (other refl)
-step_line a is other = is
+event_line : (a : Act) → (a ≡ act.Collect → ⊥) → IsEventLine a
+event_line act.Collect other = other refl
+event_line a other = tt
 
-pub peer_operation : (t : Thread) (a : Act) → IsPeerThread t → IsLine t a → IsPeerOperation a → (a ≡ act.Collect → ⊥) → IsMadeByEvents t a
-peer_operation (M n) a is line step other = absurd is
-peer_operation (P n) a is line step other = (line, step_line a step other)
-peer_operation C a is line step other = absurd is
+pub peer_operation : (t : Thread) (a : Act) → IsPeerThread t → IsLine t a → (a ≡ act.Collect → ⊥) → IsMadeByEvents t a
+peer_operation (M n) a is line other = absurd is
+peer_operation (P n) a is line other = (line, event_line a other)
+peer_operation C a is line other = absurd is
 
 -- a peer thread's line of one event that found no memory made nothing
 pub peer_makes_none : (t : Thread) (old new : View) (index : ℕ) (a : Act) → IsPeerThread t → IsMadeByEvents t a → StopsWithoutMemory t old new index a → MakesAll t old new []
 peer_makes_none (M n) old new index a is line b = absurd is
 peer_makes_none (P n) old new index a is line b = ⊎_elim
     (λ e. subst (MakesAll (P n) old new) e b.made)
-    (λ f. absurd (peers_have_none n a f.answered f.second line.1 f.follows))
+    (λ f. absurd (peers_have_none n a f.answered f.second line.0 line.1 f.follows))
     b.begun
 peer_makes_none C old new index a is line b = absurd is
 

@@ -21,13 +21,14 @@ use Rattle.order_table.specs.Views.{known}
 use Rattle.weak_wait.specs.declared.reads.Got.{Got}
 use Rattle.weak_wait.specs.Reads.{IsExact, IsRead, Reads, cell_of, reply_of}
 use Rattle.managed_side.specs.Steps.{IsManagedStep, take_op, weak_op}
-use Rattle.peer_side.specs.Steps.{IsPeerStep, IsRelease, IsStepLine}
+use Rattle.peer_side.specs.Steps.{IsRelease}
 use Rattle.joint_history.specs.declared.callers.Receipt.{Receipt}
 use Rattle.joint_history.specs.declared.operations.ManagedCall.{ManagedCall}
 use Rattle.joint_history.specs.declared.operations.ManagedCall.TheVariants as call
 use Rattle.joint_history.specs.Callers.{Pass}
 use Rattle.joint_history.specs.Knowing.{line_known}
 use Rattle.joint_history.specs.Locked.{Stands, made_by}
+use Rattle.joint_history.specs.PeerCalls.{IsPeerCall}
 
 -- a thread that isn't the driver
 abbrev pub IsOwnThread : Thread → Type 0
@@ -49,21 +50,21 @@ pub record MayBegin (t : Thread) (v : View) (index : ℕ) : Type 0 where
   pub stands : Stands t v index doing
   pub done : IsDone doing
 
--- a peer thread's operation: a line that is one event, or a collect
-abbrev pub IsPeerOperation : Act → Type 0
-IsPeerOperation act.Collect = Unit {0}
-IsPeerOperation a = IsStepLine a
+-- a peer thread's line that is one event: all but a collect, whose begin and sweep are made in one hold of the lock
+abbrev pub IsEventLine : Act → Type 0
+IsEventLine act.Collect = ⊥
+IsEventLine a = Unit {0}
 
 -- an operation of a managed thread, or one of a peer thread
 abbrev pub IsOperationOf : Thread → Act → Type 0
 IsOperationOf (M n) a = IsLine (M n) a
-IsOperationOf (P n) a = IsLine (P n) a × IsPeerOperation a
+IsOperationOf (P n) a = IsLine (P n) a
 IsOperationOf C a = ⊥
 
 -- each event of the operation is made in a hold of its own side's lock; of a collect both are made in one
 abbrev pub IsMadeByEvents : Thread → Act → Type 0
 IsMadeByEvents (M n) a = IsLine (M n) a
-IsMadeByEvents (P n) a = IsLine (P n) a × IsStepLine a
+IsMadeByEvents (P n) a = IsLine (P n) a × IsEventLine a
 IsMadeByEvents C a = ⊥
 
 -- the first event of an operation
@@ -73,6 +74,8 @@ first_of (act.Pass v x) = op.Lend v x
 first_of (act.Surface v x) = op.Grip x
 first_of (act.Dispose v) = op.Give v
 first_of act.Collect = op.Begin
+first_of act.BeginMark = op.Begin
+first_of act.SweepMark = op.Sweep
 first_of a = op.Line a
 
 -- the second event, by the reply to the first one; none where the operation ends with its first
@@ -117,7 +120,7 @@ IsCallBy t o call.Step = IsManagedStep t o
 
 -- an event that a call of one of the sides makes, and by whom
 pub record IsSideEvent (t : Thread) (o : Op) : Type 0 where
-  pub peer : is_peer_event t o ≡ true → IsPeerStep t o
+  pub peer : is_peer_event t o ≡ true → IsPeerCall t o
   pub managed : is_peer_event t o ≡ false → IsCallBy t o (call_of o)
 
 -- the answer to a read of a managed thread is what the managed list gives that the thread knows now, and the thread's own pin

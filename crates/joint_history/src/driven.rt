@@ -15,6 +15,7 @@ ghost use Rattle.order_table.specs.Allowed.{Settled};
 ghost use Rattle.order_table.specs.Views.{Owns};
 ghost use Rattle.managed_side.specs.Calls.{MayContractWith, contract_op};
 ghost use Rattle.managed_side.specs.Resolving.{MayClose};
+ghost use Rattle.managed_side.specs.Sides.{as_side};
 ghost use Rattle.joint_history.specs.Callers.{HoldsPass};
 ghost use Rattle.joint_history.specs.Driven.{DriverMakesNone, MakesAbandon, MakesContraction, MakesFinalise, MakesRefusal, MakesResolution, MayAbandonCycle, MayContractCycle, MayFinalise, MayRefuseWord, MayResolveCycle, driver_entry};
 ghost use Rattle.joint_history.specs.DriverDraws.{DrawsAbandon, DrawsContraction, DrawsResolution};
@@ -43,7 +44,7 @@ fn draw_contraction(
     requires settled { Settled seat.old.view }
     requires entries { line_known seat.old.view 0 ≡ side.old.entries }
     ensures settled { Settled seat.new.view }
-    ensures drew { DrawsContraction order.now seat.old seat.new side.old side.new index sccs xrefs result }
+    ensures drew { DrawsContraction order.now seat.old seat.new (as_side side.old) (as_side side.new) index sccs xrefs result }
 {
     let mut drawing = SeatDrawing {
         order,
@@ -62,9 +63,9 @@ fn draw_abandon(side: &mut ManagedSide, order: &Order, seat: &mut Seat, index: u
     requires order { seat.old.order ≡ order.now }
     requires owner { Owns seat.old.view 0 × Owns seat.old.view (caller_line C) }
     requires settled { Settled seat.old.view }
-    requires knows { ManagedKnows seat.old.view side.old }
+    requires knows { ManagedKnows seat.old.view (as_side side.old) }
     ensures settled { Settled seat.new.view }
-    ensures drew { DrawsAbandon order.now seat.old seat.new side.old side.new index result }
+    ensures drew { DrawsAbandon order.now seat.old seat.new (as_side side.old) (as_side side.new) index result }
 {
     let mut drawing = SeatDrawing {
         order,
@@ -93,9 +94,9 @@ fn draw_resolution(
     requires order { seat.old.order ≡ order.now }
     requires owner { Owns seat.old.view 0 × Owns seat.old.view (caller_line C) }
     requires settled { Settled seat.old.view }
-    requires knows { ManagedKnows seat.old.view side.old }
+    requires knows { ManagedKnows seat.old.view (as_side side.old) }
     ensures settled { Settled seat.new.view }
-    ensures drew { DrawsResolution order.now seat.old seat.new side.old side.new index cites result.0 alive.now.values result.1 }
+    ensures drew { DrawsResolution order.now seat.old seat.new (as_side side.old) (as_side side.new) index cites result.0 alive.now.values result.1 }
 {
     let mut drawing = SeatDrawing {
         order,
@@ -124,9 +125,9 @@ fn draw_refusal(
     requires settled { Settled seat.old.view }
     requires entries { line_known seat.old.view 0 ≡ side.old.entries }
     ensures settled { Settled seat.new.view }
-    ensures drew { IfOk result (λ r. Drew managed_rules 0 order.now seat.old seat.new side.old side.new (driver_entry r.0 index (op.Refused word) r.1 None) (phase_of phase)) }
+    ensures drew { IfOk result (λ r. Drew managed_rules 0 order.now seat.old seat.new (as_side side.old) (as_side side.new) (driver_entry r.0 index (op.Refused word) r.1 None) (phase_of phase)) }
     ensures threads { side.new.threads ≡ side.old.threads }
-    ensures err { OnErr result (StaysSeated seat.old seat.new × (side.new ≡ side.old)) }
+    ensures err { OnErr result (StaysSeated seat.old seat.new × (as_side side.new ≡ as_side side.old)) }
 {
     let mut drawing = SeatDrawing {
         order,

@@ -1,7 +1,7 @@
 // The driver's calls on a shared bridge: each takes one lock, makes the driver's entries in one hold of it, and gives it back. What the driver knows goes
 // with its caller, so a call is asked for where the driver stands, and answers where it stands then.
 
-ghost use Rattle.std.specs.Prelude.{◌≡◌, ◌⊎◌, ◌≤◌, IfErr, IfOk, OnErr, count_by, is_some};
+ghost use Rattle.std.specs.Prelude.{◌≡◌, ◌⊎◌, ◌≤◌, ℕ, IfErr, IfOk, OnErr, count_by, is_some};
 ghost use Rattle.joint_model.specs.Lines.{IsDriver};
 ghost use Rattle.joint_model.specs.Listed.{answers_of};
 ghost use Rattle.joint_history.specs.Driven.{DriverMakesNone, DriverRests, MakesAbandon, MakesContraction, MakesFinalise, MakesRefusal, MakesResolution, MayAbandonCycle, MayContractCycle, MayFinalise, MayRefuseWord, MayResolveCycle};
@@ -203,9 +203,37 @@ impl<N: OrderName, K: Keeps<N>> Shared<N, K> {
             .mark(&self.order, &mut driver.seat, index)
     }
 
-    /// The driver ends its cycle's own marking: the peers that it doesn't reach are freed. Answers the entry's number, the marking, and where the freed
-    /// peers stand among all that were freed. It takes no memory.
-    pub fn sweep(&self, rt: &impl Wait, driver: &mut Caller<N>, index: u32) -> (u64, Swept)
+    // A slice of the driver's own marking, in one hold of the peer lock. Answers whether nothing is left to blacken.
+    fn slice(&self, rt: &impl Wait, driver: &mut Caller<N>) -> bool
+        requires driver { IsDriver driver.old.thread }
+        requires may { (index : ℕ) × HasBegunMarking driver.old.view index }
+        ensures thread { driver.new.thread ≡ driver.old.thread }
+        ensures none { DriverMakesNone driver.old.view driver.new.view }
+    {
+        self.peers
+            .hold(rt)
+            .value()
+            .slice(&self.order, &mut driver.seat)
+    }
+
+    // The driver's own marking goes on to its end, with the lock given back after each slice.
+    fn mark_on(&self, rt: &impl Wait, driver: &mut Caller<N>)
+        requires driver { IsDriver driver.old.thread }
+        requires may { (index : ℕ) × HasBegunMarking driver.old.view index }
+        ensures thread { driver.new.thread ≡ driver.old.thread }
+        ensures none { DriverMakesNone driver.old.view driver.new.view }
+    {
+        for _ in rt.forever() {
+            if self.slice(rt, driver) {
+                return;
+            }
+            yield_now();
+        }
+        unreachable!()
+    }
+
+    // The driver ends its cycle's own marking, whatever of it is left, in one hold of the peer lock.
+    fn end_own(&self, rt: &impl Wait, driver: &mut Caller<N>, index: u32) -> (u64, Swept)
         requires driver { IsDriver driver.old.thread }
         requires may { HasBegunMarking driver.old.view index }
         ensures thread { driver.new.thread ≡ driver.old.thread }
@@ -215,6 +243,19 @@ impl<N: OrderName, K: Keeps<N>> Shared<N, K> {
             .hold(rt)
             .value()
             .sweep(&self.order, &mut driver.seat, index)
+    }
+
+    /// The driver ends its cycle's own marking: the peers that it doesn't reach are freed. Most of it is marked in slices, with the peer lock given back
+    /// after each, so no other thread waits for a whole marking. Answers the entry's number, the marking, and where the freed peers stand among all that
+    /// were freed. It takes no memory.
+    pub fn sweep(&self, rt: &impl Wait, driver: &mut Caller<N>, index: u32) -> (u64, Swept)
+        requires driver { IsDriver driver.old.thread }
+        requires may { HasBegunMarking driver.old.view index }
+        ensures thread { driver.new.thread ≡ driver.old.thread }
+        ensures makes { MakesSweep driver.old.view driver.new.view index result.0 result.1 }
+    {
+        self.mark_on(rt, driver);
+        self.end_own(rt, driver, index)
     }
 
     /// The driver restores the handle of the next candidate of its cycle: it leaves the table, and a new strong one on its peer comes for it unless that

@@ -31,8 +31,8 @@
 // lawful past keeps holds under each lock and for each caller, although no lock covers both sides, and nothing has to be proved of threads. That this
 // stays so as seats go on is said by the laws of `view_laws`. Every seat that is kept between calls is settled: it owes no store of a word.
 //
-// `specs/` read alone tells what is true: Knowing first, then Callers, Locked, SeatFacts and Desks, then Operations, Collecting and
-// Driven with the other files of the driver, and last Ending; and of `view_laws` Knowing, of `seat_calls` Passing, of `weak_wait` Reads.
+// `specs/` read alone tells what is true: Knowing first, then Callers, Locked, SeatFacts and Desks, then PeerCalls, Operations,
+// Collecting and Driven with the other files of the driver, and last Ending; and of `view_laws` Knowing, of `seat_calls` Passing, of `weak_wait` Reads.
 #![tactic(auto)]
 
 mod callers;
@@ -51,6 +51,7 @@ mod mirroring;
 mod mirrors;
 mod operations;
 mod peer;
+mod peer_marks;
 mod reads;
 mod shared;
 mod snaps;

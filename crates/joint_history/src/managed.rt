@@ -13,6 +13,7 @@ ghost use Rattle.order_table.specs.Allowed.{Settled};
 ghost use Rattle.order_table.specs.Views.{Owns};
 ghost use Rattle.seat_calls.specs.Passing.{MayAppend};
 ghost use Rattle.weak_wait.specs.Reads.{IsRead};
+ghost use Rattle.managed_side.specs.Sides.{as_side};
 ghost use Rattle.managed_side.specs.Steps.{CitesRightly, IsFresh, IsManagedStep, take_op, weak_op};
 ghost use Rattle.joint_history.specs.Callers.{HoldsPass, KeepsReads, KnowsNothing, ReadsStay};
 ghost use Rattle.joint_history.specs.Knowing.{line_known};
@@ -40,13 +41,14 @@ impl<N: OrderName> Model for LockedManaged<N> {
     ghost use Rattle.std.specs.Prelude.{◌≡◌};
     ghost use Rattle.order_table.specs.Allowed.{Settled};
     ghost use Rattle.order_table.specs.Views.{Owns};
+    ghost use Rattle.managed_side.specs.Sides.{as_side};
     ghost use Rattle.joint_history.specs.Locked.{ManagedKnows, UnderManaged};
 
     ghost Value = { UnderManaged };
 
-    ghost view = { λ l. record { side = l.side; view = l.seat.view } };
+    ghost view = { λ l. record { side = as_side l.side; view = l.seat.view } };
 
-    ghost invariant = { λ l. (l.seat.order ≡ N.order) × Owns l.seat.view 0 × ManagedKnows l.seat.view l.side × (l.side.threads ≡ N.managed) × Settled l.seat.view };
+    ghost invariant = { λ l. (l.seat.order ≡ N.order) × Owns l.seat.view 0 × ManagedKnows l.seat.view (as_side l.side) × (l.side.threads ≡ N.managed) × Settled l.seat.view };
 }
 
 /// Which managed objects are live.
@@ -84,9 +86,9 @@ pub(crate) fn draw_step(
     requires settled { Settled seat.old.view }
     requires entries { line_known seat.old.view 0 ≡ side.old.entries }
     ensures settled { Settled seat.new.view }
-    ensures drew { IfOk result (λ r. Drew managed_rules 0 order.now seat.old seat.new side.old side.new (numbered r.0 (made_by caller index op.now r.1 cites)) nothing) }
+    ensures drew { IfOk result (λ r. Drew managed_rules 0 order.now seat.old seat.new (as_side side.old) (as_side side.new) (numbered r.0 (made_by caller index op.now r.1 cites)) nothing) }
     ensures threads { side.new.threads ≡ side.old.threads }
-    ensures err { OnErr result (StaysSeated seat.old seat.new × (side.new ≡ side.old)) }
+    ensures err { OnErr result (StaysSeated seat.old seat.new × (as_side side.new ≡ as_side side.old)) }
 {
     let mut drawing = SeatDrawing {
         order,
@@ -116,11 +118,11 @@ fn draw_weak(
     requires order { seat.old.order ≡ order.now }
     requires owner { Owns seat.old.view 0 × Owns seat.old.view (caller_line caller) }
     requires settled { Settled seat.old.view }
-    requires knows { ManagedKnows seat.old.view side.old }
-    ensures drew { IfOk result (λ r. Drew managed_rules 0 order.now seat.old seat.new side.old side.new (numbered r.0 (made_by caller index (weak_op k v) r.1 None)) nothing) }
+    requires knows { ManagedKnows seat.old.view (as_side side.old) }
+    ensures drew { IfOk result (λ r. Drew managed_rules 0 order.now seat.old seat.new (as_side side.old) (as_side side.new) (numbered r.0 (made_by caller index (weak_op k v) r.1 None)) nothing) }
     ensures settled { Settled seat.new.view }
     ensures threads { side.new.threads ≡ side.old.threads }
-    ensures err { OnErr result (StaysSeated seat.old seat.new × (side.new ≡ side.old)) }
+    ensures err { OnErr result (StaysSeated seat.old seat.new × (as_side side.new ≡ as_side side.old)) }
 {
     // no object's number is above 65,535
     let _ = side.made();
@@ -163,11 +165,11 @@ fn draw_take(
     requires order { seat.old.order ≡ order.now }
     requires owner { Owns seat.old.view 0 × Owns seat.old.view (caller_line caller) }
     requires settled { Settled seat.old.view }
-    requires knows { ManagedKnows seat.old.view side.old }
-    ensures drew { IfOk result (λ r. TakesPin order.now seat.old seat.new side.old side.new caller index v r) }
+    requires knows { ManagedKnows seat.old.view (as_side side.old) }
+    ensures drew { IfOk result (λ r. TakesPin order.now seat.old seat.new (as_side side.old) (as_side side.new) caller index v r) }
     ensures settled { Settled seat.new.view }
     ensures threads { side.new.threads ≡ side.old.threads }
-    ensures err { OnErr result (StaysSeated seat.old seat.new × (side.new ≡ side.old)) }
+    ensures err { OnErr result (StaysSeated seat.old seat.new × (as_side side.new ≡ as_side side.old)) }
 {
     let reader = reader_of(caller);
     let pin = own_pin(order, seat, reader);
@@ -207,9 +209,9 @@ impl<N: OrderName> LockedManaged<N> {
 
     /// The side and its seat.
     pub(crate) fn into_parts(self) -> (ManagedSide, Seat)
-        ensures side { result.0 ≡ self.side }
+        ensures side { as_side result.0 ≡ self.side }
         ensures seat { (result.1.order ≡ N.order) × (result.1.view ≡ self.view) × Owns result.1.view 0 × Settled result.1.view }
-        ensures knows { ManagedKnows result.1.view result.0 }
+        ensures knows { ManagedKnows result.1.view (as_side result.0) }
     {
         let LockedManaged { side, seat, of: _ } = self;
         (side, seat)

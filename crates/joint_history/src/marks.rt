@@ -1,16 +1,16 @@
 // The driver's marking under the peer lock. A begin of the driver always gives a number: whatever marking a peer thread left open is ended in the same
-// hold of the lock, and the memory was reserved before the cycle was mirrored.
+// hold of the lock, and the memory was reserved before the cycle was mirrored. Its own marking goes on in slices, one in each hold.
 
-ghost use Rattle.std.specs.Prelude.{◌≡◌, ◌⊎◌, IsSome, None, true};
+ghost use Rattle.std.specs.Prelude.{◌≡◌, ◌⊎◌, ℕ, IsSome, None, true};
 ghost use Rattle.joint_model.specs.declared.names.Thread.TheVariants.{C};
 ghost use Rattle.joint_model.specs.declared.events.Op.TheVariants as op;
 ghost use Rattle.joint_model.specs.declared.events.Reply.TheVariants as says;
 ghost use Rattle.joint_model.specs.Sides.{peer_rules};
 ghost use Rattle.joint_model.specs.Told.{nothing};
 ghost use Rattle.order_table.specs.Allowed.{Settled};
-ghost use Rattle.peer_side.specs.Sides.{is_own, reserve_begun, seen};
+ghost use Rattle.peer_side.specs.Sides.{IsDrivers, is_own, reserve_begun, seen};
 ghost use Rattle.joint_history.specs.Callers.{HoldsPass};
-ghost use Rattle.joint_history.specs.Driven.{driver_entry};
+ghost use Rattle.joint_history.specs.Driven.{DriverMakesNone, driver_entry};
 ghost use Rattle.joint_history.specs.DriverMarks.{DrawsSweep, EndsFirst, HasBegunMarking, MakesBegin, MakesMark, MakesSweep, MayBeginMarking, MayEndMarking, MayMarkCycle};
 ghost use Rattle.joint_history.specs.Knowing.{line_known};
 ghost use Rattle.joint_history.specs.Locked.{Drew};
@@ -19,8 +19,11 @@ ghost use Rattle.seat_calls.specs.Passing.{MayAppend};
 use crate::peer::LockedPeer;
 use joint_model::{Marking, Thread};
 use order_table::{Order, OrderName, Role, Seat};
-use peer_side::{PeerSide, Swept};
+use peer_side::{PeerSide, SliceEnd, Swept};
 use seat_calls::{SeatDrawing, give_back, lend};
+
+// How many peers the driver blackens in one hold of the peer lock.
+const SLICE: u32 = 64;
 
 /// A marking that the driver began, with its entry's number; and the marking that was open before and was ended, with the number of that entry.
 #[derive(Drop)]
@@ -28,6 +31,19 @@ pub struct Begun {
     pub ended: Option<(u64, Swept)>,
     pub number: u64,
     pub marking: Marking,
+}
+
+// The side blackens the next peers of its open marking, which the driver began. Answers whether none is left. It makes no entry and takes no memory.
+fn blacken(side: &mut PeerSide) -> bool
+    requires open { IsSome side.old.state.marking }
+    requires own { IsDrivers side.old.state.marking }
+    ensures rest { side.new ≡ record side.old { colours = side.new.colours } }
+{
+    match side.mark_slice(SLICE) {
+        Ok(SliceEnd::Done) => true,
+        Ok(SliceEnd::More) => false,
+        Err(_) => unreachable!(),
+    }
 }
 
 // The side draws the sweep of its open marking by the seat. It takes no memory.
@@ -98,6 +114,23 @@ impl<N: OrderName> LockedPeer<N> {
         let out = draw_sweep(&mut self.side, order, &mut self.seat, index);
         give_back(order, &mut self.seat, mine, Thread::C);
         out
+    }
+
+    /// Blackens the next peers of the cycle's own marking, at most 64, and answers whether none is left. It makes no entry and takes no memory.
+    pub(crate) fn slice(&mut self, order: &Order, mine: &mut Seat) -> bool
+        requires order { (order.now ≡ N.order) × (mine.old.order ≡ N.order) }
+        requires settled { Settled mine.old.view }
+        requires pass { HoldsPass C mine.old.view }
+        requires may { (index : ℕ) × HasBegunMarking mine.old.view index }
+        ensures order { mine.new.order ≡ N.order }
+        ensures settled { Settled mine.new.view }
+        ensures pass { HoldsPass C mine.new.view }
+        ensures none { DriverMakesNone mine.old.view mine.new.view }
+    {
+        lend(order, &mut self.seat, mine, Thread::C);
+        let done = blacken(&mut self.side);
+        give_back(order, &mut self.seat, mine, Thread::C);
+        done
     }
 
     // Begins the cycle's own marking, where none is open. It takes no memory.

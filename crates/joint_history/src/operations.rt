@@ -10,7 +10,7 @@ ghost use Rattle.peer_side.specs.Steps.{IsRelease};
 ghost use Rattle.joint_history.specs.Callers.{HoldsPass, IsOfRun, KeepsReads, last_index, own};
 ghost use Rattle.joint_history.specs.Collecting.{Collects};
 ghost use Rattle.joint_history.specs.Locked.{MayMake, Makes, MakesNone};
-ghost use Rattle.joint_history.specs.Operations.{StopsWithoutMemory, IsMadeByEvents, IsOwnThread, IsPeerOperation, IsCallBy, IsSideEvent, MakesAll, MayBegin, ReadsExactly, Runs, answer_of, call_of, entry_by, first_of, second_of, third_of};
+ghost use Rattle.joint_history.specs.Operations.{StopsWithoutMemory, IsMadeByEvents, IsOwnThread, IsCallBy, IsSideEvent, MakesAll, MayBegin, ReadsExactly, Runs, answer_of, call_of, entry_by, first_of, second_of, third_of};
 
 use crate::callers::{Caller, Receipt};
 use crate::keeping::{Keep, Keeps};
@@ -38,7 +38,8 @@ fn first_of(act: &Act) -> Op
         Act::Pass { v, x } => Op::Lend { v, x },
         Act::Surface { v: _, x } => Op::Grip { x },
         Act::Dispose { v } => Op::Give { v },
-        Act::Collect => Op::Begin,
+        Act::Collect | Act::BeginMark => Op::Begin,
+        Act::SweepMark => Op::Sweep,
         _ => Op::Line(*act),
     }
 }
@@ -320,7 +321,7 @@ impl<N: OrderName, K: Keeps<N>> Shared<N, K> {
 
     /// Runs an operation of a peer thread, on a script line that isn't below that of the caller's last entry. The caller knows its entries
     /// afterwards. An operation is one event, but a `collect` is a begin and, if that gave a number, the sweep of that marking, made in one hold
-    /// of the peer lock. Answers `AllocError` where there is no memory, and no entry is made then.
+    /// of the peer lock. A marking that a `begin` opens stays open until its thread's `sweep`, or until the driver ends it. Answers `AllocError` where there is no memory, and no entry is made then.
     #[inline(always)]
     pub fn peer(
         &self,
@@ -329,7 +330,7 @@ impl<N: OrderName, K: Keeps<N>> Shared<N, K> {
         index: u32,
         act: &Act,
     ) -> Result<Receipt, AllocError>
-        requires act { IsPeerThread caller.old.thread × IsLine caller.old.thread act.now × IsPeerOperation act.now }
+        requires act { IsPeerThread caller.old.thread × IsLine caller.old.thread act.now }
         requires index { last_index (own caller.old) ≤ index }
         ensures thread { caller.new.thread ≡ caller.old.thread }
         ensures index { last_index (own caller.new) ≤ index }

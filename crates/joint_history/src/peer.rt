@@ -13,8 +13,10 @@ ghost use Rattle.peer_side.specs.Steps.{IsPeerStep, IsRelease};
 ghost use Rattle.joint_history.specs.Callers.{HoldsPass, KnowsNothing, ReadsStay};
 ghost use Rattle.joint_history.specs.Knowing.{line_known};
 ghost use Rattle.joint_history.specs.Locked.{Drew, Makes, MakesNone, MayMake, PeerKnows, StaysSeated, made_by};
+ghost use Rattle.joint_history.specs.PeerCalls.{AllowsCall, DrawsEvent, IsPeerCall};
 ghost use Rattle.seat_calls.specs.Passing.{MayAppend};
 
+use crate::peer_marks::{draw_mark, draw_slice, is_mark, slice_count};
 use joint_model::{Holding, Op, Reply, Thread};
 use order_table::{Order, OrderName, Role, Seat};
 use peer_side::PeerSide;
@@ -80,6 +82,39 @@ fn draw_step(
     Ok((drawing.last, reply))
 }
 
+// The side draws one event of a thread by the seat: a slice, a begin or a sweep of its own marking, or a step.
+#[inline(always)]
+fn draw_event(
+    side: &mut PeerSide,
+    order: &Order,
+    seat: &mut Seat,
+    caller: Thread,
+    index: u32,
+    op: &Op,
+    cites: Option<u64>,
+) -> Result<(u64, Reply), AllocError>
+    requires call { IsPeerCall caller op.now }
+    requires allowed { AllowsCall side.old.state caller op.now cites }
+    requires takes { TakesPeer side.old.threads caller }
+    requires may { MayAppend order.now seat.old 1 caller op.now None }
+    requires settled { Settled seat.old.view }
+    requires entries { line_known seat.old.view 1 ≡ side.old.entries }
+    ensures settled { Settled seat.new.view }
+    ensures drew { IfOk result (λ r. DrawsEvent order.now seat.old seat.new (seen side.old) (seen side.new) (numbered r.0 (made_by caller index op.now r.1 cites))) }
+    ensures release { IsRelease op.now → IsOk result }
+    ensures err { OnErr result (StaysSeated seat.old seat.new × (seen side.new ≡ seen side.old)) }
+    ensures reserve { side.new.reserve ≡ side.old.reserve }
+    ensures threads { side.new.threads ≡ side.old.threads }
+{
+    if let Some(n) = slice_count(op) {
+        return draw_slice(side, order, seat, caller, index, n);
+    }
+    if is_mark(op) {
+        return draw_mark(side, order, seat, caller, index, op);
+    }
+    draw_step(side, order, seat, caller, index, op, cites)
+}
+
 impl<N: OrderName> LockedPeer<N> {
     /// The side on which nothing was made, for the run's peer threads, with a seat that owns its role and knows no entry.
     pub(crate) fn new(
@@ -127,7 +162,7 @@ impl<N: OrderName> LockedPeer<N> {
         requires settled { Settled mine.old.view }
         requires pass { IsThread caller × HoldsPass caller mine.old.view }
         requires takes { TakesPeer N.peers caller }
-        requires event { IsPeerStep caller op.now }
+        requires event { IsPeerCall caller op.now }
         requires may { MayMake caller mine.old.view index op.now cites }
         ensures order { mine.new.order ≡ N.order }
         ensures settled { Settled mine.new.view }
@@ -138,7 +173,7 @@ impl<N: OrderName> LockedPeer<N> {
         ensures err { OnErr result (MakesNone caller mine.old.view mine.new.view) }
     {
         lend(order, &mut self.seat, mine, caller);
-        let made = draw_step(
+        let made = draw_event(
             &mut self.side,
             order,
             &mut self.seat,

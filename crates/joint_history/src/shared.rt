@@ -5,6 +5,7 @@ ghost use Rattle.joint_model.specs.Histories.{IsJoinable, IsShuffle, entry_lists
 ghost use Rattle.joint_model.specs.Lines.{IsDriver, IsThread};
 ghost use Rattle.joint_model.specs.LinkedHistories.{IsLinked};
 ghost use Rattle.known_laws.specs.Lists.{made_by};
+ghost use Rattle.managed_side.specs.Sides.{as_side};
 ghost use Rattle.peer_side.specs.Sides.{seen};
 ghost use Rattle.order_table.specs.Allowed.{Settled};
 ghost use Rattle.order_table.specs.Views.{Owns, OwnsAll};
@@ -154,7 +155,7 @@ impl<N: OrderName, K: Keeps<N>> Shared<N, K> {
     ) -> (ManagedSide, PeerSide, [Entries; 10])
         requires all { HasAll desk callers.items }
         requires idle { All HasIdleDriver callers.items }
-        ensures { AllTaken result.0 (seen result.1) (entry_lists result.2) desk callers.items }
+        ensures { AllTaken (as_side result.0) (seen result.1) (entry_lists result.2) desk callers.items }
     {
         let Shared {
             alloc,

@@ -9,6 +9,7 @@ ghost use Rattle.order_table.specs.Views.{Owns};
 ghost use Rattle.view_laws.specs.Knowing.{pins_of};
 ghost use Rattle.managed_side.specs.Pinned.{pins_given};
 ghost use Rattle.managed_side.specs.Rows.{number_or_none};
+ghost use Rattle.managed_side.specs.Sides.{as_side};
 ghost use Rattle.joint_history.specs.Callers.{HoldsPass};
 ghost use Rattle.joint_history.specs.Driven.{DriverMakesNone, DriverRests};
 ghost use Rattle.joint_history.specs.DriverSnaps.{DrawsSnapshot, MakesSnapshot};
@@ -108,12 +109,12 @@ fn draw_snap(
     requires order { seat.old.order ≡ order.now }
     requires owner { Owns seat.old.view 0 × Owns seat.old.view (caller_line C) }
     requires settled { Settled seat.old.view }
-    requires knows { ManagedKnows seat.old.view side.old }
-    ensures drew { IfOk result (λ o. DrawsSnapshot order.now seat.old seat.new side.old side.new index o) }
+    requires knows { ManagedKnows seat.old.view (as_side side.old) }
+    ensures drew { IfOk result (λ o. DrawsSnapshot order.now seat.old seat.new (as_side side.old) (as_side side.new) index o) }
     ensures settled { Settled seat.new.view }
     ensures fault { IfErr result (λ e. (e ≡ SnapFault.OutOfMemory) ⊎ (e ≡ SnapFault.NotClosed)) }
     ensures threads { side.new.threads ≡ side.old.threads }
-    ensures err { OnErr result (StaysSeated seat.old seat.new × (side.new ≡ side.old)) }
+    ensures err { OnErr result (StaysSeated seat.old seat.new × (as_side side.new ≡ as_side side.old)) }
 {
     let mut gate = SeatGate { order, seat };
     let opened = side.snap(&mut gate, index)?;

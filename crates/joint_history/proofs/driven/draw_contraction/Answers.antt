@@ -2,6 +2,7 @@ use Rattle.std.proofs.Common.{[], None, refl, rules}
 use Rattle.joint_model.specs.Told.{contraction_of}
 use Rattle.managed_side.specs.Calls.{contract_made}
 use Rattle.seat_calls.proofs.Floors.{below_floor, room_left}
+use Rattle.managed_side.specs.Sides.{as_side}
 use Rattle.joint_history.proofs.SeatDraws.{drew_managed, plain_event_settled}
 use Rattle.joint_history.proofs.driven.draw_contraction.Goals as goal
 
@@ -34,6 +35,6 @@ returns-clause-drew c =
       threads = (w.adds d.comps d.heavy d.pairs d.contracted).threads;
       drew = λ cs hs xs w2. (
           let a = w.adds cs hs xs w2 in
-          let m = drew_managed _ _ c.args.seat.now c.contracted.new.draw.seat.now c.args.side.now c.contracted.new.self (contract_made d.cycle c.args.index c.args.sccs c.args.xrefs) (contraction_of cs hs xs) a.draws.adds.number a.draws.adds.drawn.3 a.goes a.draws.adds.added refl _ a.draws.adds.drawn.2 in
+          let m = drew_managed _ _ c.args.seat.now c.contracted.new.draw.seat.now (as_side c.args.side.now) (as_side c.contracted.new.self) (contract_made d.cycle c.args.index c.args.sccs c.args.xrefs) (contraction_of cs hs xs) a.draws.adds.number a.draws.adds.drawn.3 a.goes a.draws.adds.added refl _ a.draws.adds.drawn.2 in
           search rules);
     }

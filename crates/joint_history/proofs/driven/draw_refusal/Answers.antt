@@ -4,6 +4,7 @@ use Rattle.joint_model.specs.declared.events.Op.TheVariants as op
 use Rattle.joint_model.specs.Told.{phase_of}
 use Rattle.managed_side.specs.Steps.{step_made}
 use Rattle.seat_calls.proofs.Floors.{below_floor, room_left}
+use Rattle.managed_side.specs.Sides.{as_side}
 use Rattle.joint_history.proofs.SeatDraws.{drew_managed, plain_event_settled}
 use Rattle.joint_history.proofs.driven.draw_refusal.Goals as goal
 
@@ -25,5 +26,5 @@ returns-clause-settled c =
 pub returns-clause-drew : goal.returns-clause-drew
 returns-clause-drew c =
     let a = c.in_ok-reply.ensures.adds in
-    let d = drew_managed _ _ c.args.seat.now c.refused.new.draw.seat.now c.args.side.now c.refused.new.self (step_made C c.args.index (op.Refused c.args.word) c.in_ok-reply.reply None) (phase_of c.args.phase) a.draws.adds.number a.draws.adds.drawn.3 a.goes a.draws.adds.added refl _ a.draws.adds.drawn.2 in
+    let d = drew_managed _ _ c.args.seat.now c.refused.new.draw.seat.now (as_side c.args.side.now) (as_side c.refused.new.self) (step_made C c.args.index (op.Refused c.args.word) c.in_ok-reply.reply None) (phase_of c.args.phase) a.draws.adds.number a.draws.adds.drawn.3 a.goes a.draws.adds.added refl _ a.draws.adds.drawn.2 in
     search rules

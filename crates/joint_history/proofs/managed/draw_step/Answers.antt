@@ -4,6 +4,7 @@ use Rattle.joint_model.specs.Told.{nothing}
 use Rattle.managed_side.specs.Steps.{step_made}
 use Rattle.seat_calls.proofs.Floors.{below_floor, room_left}
 use Rattle.view_laws.specs.Knowing.{pins_of}
+use Rattle.managed_side.specs.Sides.{as_side}
 use Rattle.joint_history.proofs.SeatDraws.{drew_managed, plain_event_settled, step_is_plain, step_sets_none}
 use Rattle.joint_history.proofs.managed.draw_step.Goals as goal
 
@@ -25,6 +26,6 @@ returns-clause-settled c =
 pub returns-clause-drew : goal.returns-clause-drew
 returns-clause-drew c =
     let a = c.in_ok-reply.ensures.adds in
-    let d = drew_managed _ _ c.args.seat.now c.step.new.draw.seat.now c.args.side.now c.step.new.self (step_made c.args.caller c.args.index c.args.op.now c.in_ok-reply.reply c.args.cites) nothing a.draws.adds.number a.draws.adds.drawn.3 a.goes a.draws.adds.added
+    let d = drew_managed _ _ c.args.seat.now c.step.new.draw.seat.now (as_side c.args.side.now) (as_side c.step.new.self) (step_made c.args.caller c.args.index c.args.op.now c.in_ok-reply.reply c.args.cites) nothing a.draws.adds.number a.draws.adds.drawn.3 a.goes a.draws.adds.added
     (ap pins_of ((step_is_plain c.args.caller c.args.op.now c.in_ok-reply.reply c.requires.event).pins c.args.seat.now)) _ a.draws.adds.drawn.2 in
     search rules

@@ -11,21 +11,22 @@ use Rattle.seat_calls.specs.Passing.{MayAppend}
 use Rattle.joint_model.specs.Told.{nothing}
 use Rattle.managed_side.specs.Steps.{step_made, weak_op}
 use Rattle.seat_calls.proofs.Floors.{below_floor, room_left}
+use Rattle.managed_side.specs.Sides.{as_side}
 use Rattle.joint_history.proofs.Looking.{knows_looked, settled_looked}
 use Rattle.joint_history.proofs.SeatDraws.{plain_event_settled}
 use Rattle.joint_history.proofs.SetCells.{unset_word, weak_is_plain, weak_may}
 use Rattle.joint_history.proofs.managed.draw_weak.Goals as goal
 
 pub weak-requires-clause-word : goal.weak-requires-clause-word
-weak-requires-clause-word c = unset_word c.args.seat.now.view c.args.side.now c.args.k.0 c.load_cell-word.result c.requires.knows (c.load_cell-word.ensures.says c.requires.owner.0 c.requires.settled.paid)
+weak-requires-clause-word c = unset_word c.args.seat.now.view (as_side c.args.side.now) c.args.k.0 c.load_cell-word.result c.requires.knows (c.load_cell-word.ensures.says c.requires.owner.0 c.requires.settled.paid)
 
 pub weak-requires-clause-may : goal.weak-requires-clause-may
 weak-requires-clause-may c =
     let seat = c.load_cell-word.new.seat in
     let stays = c.load_cell-word.ensures.stays in
-    let ks = knows_looked c.args.seat.now.view seat.view c.args.side.now stays c.requires.knows in
+    let ks = knows_looked c.args.seat.now.view seat.view (as_side c.args.side.now) stays c.requires.knows in
     let may : (aim : Option MNum) → ((m : MNum) → aim ≡ Some m → MaySetCell c.args.side.now.state (weak_op c.args.k c.args.v) m) → MayAppend c.args.order.now seat 0 c.args.caller (weak_op c.args.k c.args.v) aim =
-    λ aim. weak_may c.args.order.now seat c.args.side.now c.args.caller c.args.k c.args.v aim c.requires.thread c.requires.cell (c.load_cell-word.ensures.seat.0 ∙ c.requires.order)
+    λ aim. weak_may c.args.order.now seat (as_side c.args.side.now) c.args.caller c.args.k c.args.v aim c.requires.thread c.requires.cell (c.load_cell-word.ensures.seat.0 ∙ c.requires.order)
     (ap (λ os. at false os 0) stays.owns ∙ c.requires.owner.0) (ap (λ os. at false os (caller_line c.args.caller)) stays.owns ∙ c.requires.owner.1) (settled_looked c.args.seat.now.view seat.view stays c.requires.settled) ks (omega (arith)) in
     record {
       takes = c.requires.takes;

@@ -44,7 +44,7 @@ pub run-requires-clause-begins : goal.run-requires-clause-begins
 run-requires-clause-begins g c = caller_begins c.caller.inside.thread c.caller.inside.seat.view c.args.index c.caller.invariant.0.0 c.caller.invariant.3 (subst (λ (p : Pass). last_index (own p) ≤ c.args.index) (sym c.caller.view_is) c.requires.index)
 
 pub run-requires-clause-act : goal.run-requires-clause-act
-run-requires-clause-act g c = peer_operation c.caller.inside.thread c.args.act.now (subst (λ (p : Pass). IsPeerThread p.thread) (sym c.caller.view_is) c.requires.act.0) (subst (λ (p : Pass). IsLine p.thread c.args.act.now) (sym c.caller.view_is) c.requires.act.1) c.requires.act.2 c.in_default.not-Collect
+run-requires-clause-act g c = peer_operation c.caller.inside.thread c.args.act.now (subst (λ (p : Pass). IsPeerThread p.thread) (sym c.caller.view_is) c.requires.act.0) (subst (λ (p : Pass). IsLine p.thread c.args.act.now) (sym c.caller.view_is) c.requires.act.1) c.in_default.not-Collect
 
 pub invariant_of-caller-2 : goal.invariant_of-caller-2
 invariant_of-caller-2 g c = (c.caller.invariant.0, c.run.ensures.order, c.run.ensures.pass, beginner_knows c.caller.inside.thread c.run.new.mine.view c.args.index c.run.ensures.begins, c.run.ensures.settled, c.run.ensures.reads)
@@ -60,4 +60,4 @@ returns-clause-ok g c = subst (λ (p : Pass). IfOk c.run.result (λ r. Runs p.th
 
 pub returns-clause-err : goal.returns-clause-err
 returns-clause-err g c = subst (λ (p : Pass). OnErr c.run.result (MakesAll p.thread p.view c.run.new.mine.view [])) c.caller.view_is (breaks_none c.caller.inside.thread c.caller.inside.seat.view c.run.new.mine.view c.args.index c.args.act.now c.run.result (subst (λ (p : Pass). IsPeerThread p.thread) (sym c.caller.view_is) c.requires.act.0)
-    (peer_operation c.caller.inside.thread c.args.act.now (subst (λ (p : Pass). IsPeerThread p.thread) (sym c.caller.view_is) c.requires.act.0) (subst (λ (p : Pass). IsLine p.thread c.args.act.now) (sym c.caller.view_is) c.requires.act.1) c.requires.act.2 c.in_default.not-Collect) c.run.ensures.err)
+    (peer_operation c.caller.inside.thread c.args.act.now (subst (λ (p : Pass). IsPeerThread p.thread) (sym c.caller.view_is) c.requires.act.0) (subst (λ (p : Pass). IsLine p.thread c.args.act.now) (sym c.caller.view_is) c.requires.act.1) c.in_default.not-Collect) c.run.ensures.err)

@@ -1,26 +1,17 @@
-use Rattle.std.proofs.Common.{[], inr, refl, sym, subst}
-use Rattle.joint_model.specs.Control.{marked, restoring}
+-- The slices make no entry, and then the sweep makes its own.
+use Rattle.std.proofs.Common.{sym, subst}
 use Rattle.joint_model.specs.Lines.{IsDriver}
-use Rattle.joint_history.specs.Callers.{Pass}
-use Rattle.joint_history.specs.DriverMarks.{HasBegunMarking, MakesSweep}
-use Rattle.joint_history.proofs.DriverHears.{driver_knows, driver_pass, driver_pass_back, driver_reads}
-use Rattle.joint_history.proofs.DriverMarks.{may_end_own}
+use Rattle.joint_history.proofs.DriverMarks.{none_begun, none_then_sweep}
 use Rattle.joint_history.proofs.shared.Shared.sweep.Goals as goal
 
-pub sweep-requires-clause-pass : goal.sweep-requires-clause-pass
-sweep-requires-clause-pass g c = driver_pass c.driver.inside.thread c.driver.inside.seat.view (subst (λ (p : Pass). IsDriver p.thread) (sym c.driver.view_is) c.requires.driver) c.driver.invariant.2
+pub mark_on-requires-clause-may : goal.mark_on-requires-clause-may
+mark_on-requires-clause-may g c = (c.args.index, c.requires.may)
 
-pub sweep-requires-clause-open : goal.sweep-requires-clause-open
-sweep-requires-clause-open g c = inr (subst (λ (p : Pass). HasBegunMarking p.view c.args.index) (sym c.driver.view_is) c.requires.may)
+pub end_own-requires-clause-driver : goal.end_own-requires-clause-driver
+end_own-requires-clause-driver g c = subst IsDriver (sym c.mark_on.ensures.thread) c.requires.driver
 
-pub sweep-requires-clause-may : goal.sweep-requires-clause-may
-sweep-requires-clause-may g c = may_end_own c.driver.inside.seat.view c.args.index (subst (λ (p : Pass). HasBegunMarking p.view c.args.index) (sym c.driver.view_is) c.requires.may)
-
-pub invariant_of-driver : goal.invariant_of-driver
-invariant_of-driver g c =
-    let driver = subst (λ (p : Pass). IsDriver p.thread) (sym c.driver.view_is) c.requires.driver in
-    let may = subst (λ (p : Pass). HasBegunMarking p.view c.args.index) (sym c.driver.view_is) c.requires.may in
-    (c.driver.invariant.0, c.sweep.ensures.order, driver_pass_back c.driver.inside.thread c.sweep.new.mine.view driver c.sweep.ensures.pass, driver_knows c.driver.inside.thread c.sweep.new.mine.view c.args.index (restoring may.opened []) may.seen driver (c.sweep.ensures.makes (marked may.opened) may.seen may.stands refl).stands, c.sweep.ensures.settled, driver_reads c.driver.inside.thread c.driver.inside.seat.view c.sweep.new.mine.view c.driver.inside.reads.entries driver c.driver.invariant.5)
+pub end_own-requires-clause-may : goal.end_own-requires-clause-may
+end_own-requires-clause-may g c = none_begun c.args.driver.now.view c.mark_on.new.driver.view c.args.index c.mark_on.ensures.none c.requires.may
 
 pub returns-clause-makes : goal.returns-clause-makes
-returns-clause-makes g c = subst (λ (p : Pass). MakesSweep p.view c.sweep.new.mine.view c.args.index c.sweep.result.0 c.sweep.result.1) c.driver.view_is c.sweep.ensures.makes
+returns-clause-makes g c = none_then_sweep c.args.driver.now.view c.mark_on.new.driver.view c.end_own.new.driver.view c.args.index c.end_own.result.0 c.end_own.result.1 c.mark_on.ensures.none c.end_own.ensures.makes

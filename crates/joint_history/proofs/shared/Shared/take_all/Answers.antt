@@ -1,6 +1,7 @@
 -- All seats are in one, so it owns every line and knows the whole.
 use Rattle.std.proofs.Common.{subst}
 use Rattle.joint_model.specs.Histories.{entry_lists}
+use Rattle.managed_side.specs.Sides.{as_side}
 use Rattle.peer_side.specs.Sides.{seen}
 use Rattle.order_table.specs.Rule.{AreLinesOfOneHistory as AllKnown}
 use Rattle.joint_history.proofs.Joined.{owns_every}
@@ -8,13 +9,13 @@ use Rattle.joint_history.proofs.shared.Shared.take_all.Goals as goal
 
 pub finish-requires-clause-all : goal.finish-requires-clause-all
 finish-requires-clause-all g c =
-    let l = c.into_parts-managed_side.result.0 in
+    let l = as_side c.into_parts-managed_side.result.0 in
     let r = seen c.into_parts-peer_side.result.0 in
     owns_every c.gather_all.new.seat.view l r (entry_lists c.gather_all.new.lists) (c.gather_all.ensures.gathers l r c.into_parts-managed_side.ensures.knows c.into_parts-peer_side.ensures.knows c.into_parts-managed_side.ensures.seat.2 c.into_parts-peer_side.ensures.seat.2)
 
 pub returns : goal.returns
 returns g c =
-    let l = c.into_parts-managed_side.result.0 in
+    let l = as_side c.into_parts-managed_side.result.0 in
     let r = seen c.into_parts-peer_side.result.0 in
     record {
       before = c.into_parts-managed_side.result.1.view;
