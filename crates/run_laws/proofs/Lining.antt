@@ -19,35 +19,25 @@ use Rattle.joint_model.proofs.Deciding.{none_some}
 
 -- acts whose first event follows from the act alone, and whose others follow from its replies
 abbrev IsPlain : Act → Type 0
-IsPlain act.BeginMark = ⊥
-IsPlain act.SweepMark = ⊥
 IsPlain (act.PhaseLine w) = ⊥
 IsPlain (act.Finalise n) = ⊥
 IsPlain _ = Unit {0}
 
 operation-plain : (t : Thread) (a : Act) → IsOperationOf t a → IsPlain a
 operation-plain C a o = absurd o
-operation-plain (M n) act.BeginMark o = o.1
-operation-plain (M n) act.SweepMark o = o.1
 operation-plain (M n) (act.PhaseLine w) o = o.1
 operation-plain (M n) (act.Finalise k) o = o.1
 operation-plain (M n) a o = tt
-operation-plain (P n) act.BeginMark o = o.1
-operation-plain (P n) act.SweepMark o = o.1
 operation-plain (P n) (act.PhaseLine w) o = o.1
 operation-plain (P n) (act.Finalise k) o = o.1
 operation-plain (P n) a o = tt
 
 first-is : (a : Act) → IsPlain a → next_event a [] ≡ Some (first_of a)
-first-is act.BeginMark p = absurd p
-first-is act.SweepMark p = absurd p
 first-is (act.PhaseLine w) p = absurd p
 first-is (act.Finalise n) p = absurd p
 first-is a p = refl
 
 second-is : (a : Act) (r : Reply) → IsPlain a → next_event a (r ∷ []) ≡ second_of a r
-second-is act.BeginMark r p = absurd p
-second-is act.SweepMark r p = absurd p
 second-is (act.PhaseLine w) r p = absurd p
 second-is (act.Finalise n) r p = absurd p
 second-is (act.Bridge v kind n sort f) (says.Made q h) p = refl
@@ -67,8 +57,6 @@ by-second : (o second : Op) (r : Reply) (next : Option Op) → Some o ≡ Some s
 by-second o second r next e f = let same : o ≡ second = cc in subst (λ z. next ≡ third_of z r) same f
 
 third-is : (a : Act) (r r' : Reply) (second : Op) → IsPlain a → second_of a r ≡ Some second → next_event a (r ∷ r' ∷ []) ≡ third_of second r'
-third-is act.BeginMark r r' second p e = absurd p
-third-is act.SweepMark r r' second p e = absurd p
 third-is (act.PhaseLine w) r r' second p e = absurd p
 third-is (act.Finalise n) r r' second p e = absurd p
 third-is (act.Bridge v kind n sort f) (says.Made q h) r' second p e = by-second (op.Adopt v kind n q h) second r' None e refl
@@ -81,8 +69,6 @@ third-is a r r' second p e = absurd (none_some second e)
 
 -- and nothing follows the third
 none-after : (a : Act) (r r' r'' : Reply) → IsPlain a → next_event a (r ∷ r' ∷ r'' ∷ []) ≡ None
-none-after act.BeginMark r r' r'' p = absurd p
-none-after act.SweepMark r r' r'' p = absurd p
 none-after (act.PhaseLine w) r r' r'' p = absurd p
 none-after (act.Finalise n) r r' r'' p = absurd p
 none-after (act.Surface v x) (says.Gripped q h sort f) (says.New m) r'' p = refl
@@ -120,7 +106,7 @@ module _ (t : Thread) (index : ℕ) (a : Act) (answered : Reply) (rest : List En
 
 own-line : (t : Thread) (a : Act) → IsOperationOf t a → IsLine t a
 own-line (M n) a o = o
-own-line (P n) a o = o.0
+own-line (P n) a o = o
 own-line C a o = absurd o
 
 pub operations_are_lines : OperationsAreLines

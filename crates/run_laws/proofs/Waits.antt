@@ -30,6 +30,8 @@ waits-first (act.Pass v x) k e = absurd (cc)
 waits-first (act.Surface v x) k e = absurd (cc)
 waits-first (act.Dispose v) k e = absurd (cc)
 waits-first act.Collect k e = absurd (cc)
+waits-first act.BeginMark k e = absurd (cc)
+waits-first act.SweepMark k e = absurd (cc)
 waits-first a k e = ap (λ (o : Op). elim-line o) (sym e)
   where
     elim-line : Op → Act

@@ -32,7 +32,8 @@ use Rattle.run_laws.specs.LastCycle.{cycle_line, DrivesCycles, EndsWithCycle, Ha
 use Rattle.run_laws.specs.Threads.{HoldsItsLines, NoneIsLeft, thread_lines}
 use Rattle.run_laws.proofs.InOrder.{prefix-map, prefix-then}
 use Rattle.run_laws.proofs.LastCycle.{cycle_lines_end_runs, cycles_end_runs}
-use Rattle.script_runs.specs.Running.{AreSame, CanRun, DriverIsFirst, DrivesLine, HasRunLines, HearsAll, IsRunnable, IsSame, StandsAs}
+use Rattle.bridge_script.specs.Scripts.{IsScriptLine}
+use Rattle.script_runs.specs.Running.{AreSame, CanRun, DriverIsFirst, DrivesLine, HasRunLines, HearsAll, IsSame, StandsAs}
 use Rattle.script_runs.proofs.Desked.{has_all_last}
 use Rattle.script_runs.proofs.Ran.{AllRan, ran_all}
 use Rattle.joint_history.proofs.Giving.{has_all_same}
@@ -208,7 +209,7 @@ module _ (script : List (Thread × Act)) (d : Waiting) (jobs callers rest : List
     pub runs_then_cycle : (h : Finished) → CanRun script → NoneIsLeft script d → EndsWithCycle (length script + 1) p after others
         → IsFinished h → length h.entries < 2 ^ 64 → All (HasOwn h.entries) (others ++ after ∷ []) → ((t : Thread) → IsThread t → StillWaits d t → made_by t h.entries ≡ []) → IsRunThenCycle script h
     runs_then_cycle h can left ends finished few owns none =
-        cycles_end_runs script h d others p after finished few (λ line c. (All-contains IsRunnable script line can.each c).lawful) has_all_then owns none left all_hold driver_ran.holds ends
+        cycles_end_runs script h d others p after finished few (λ line c. All-contains IsScriptLine script line can.each c) has_all_then owns none left all_hold driver_ran.holds ends
 
 -- the first of a list, and the others
 pub first_and_rest : (xs rest : List Pass) (p : Pass) → 0 < length xs → p ≡ slice_index_or xs 0 p → rest ≡ take 0 xs ++ drop 1 xs → xs ≡ p ∷ rest
@@ -227,7 +228,7 @@ some_ran script jobs callers r first = by jobs callers r first.all
 -- a script with a cycle behind it can be run where the script can
 pub can_run_cycle : (script lines : List (Thread × Act)) → lines ≡ script ++ cycle_line ∷ [] → CanRun script → length script < 4294967295 → CanRun lines
 can_run_cycle script lines is can room = record {
-  each = subst (All IsRunnable) (sym is) (All-push IsRunnable script cycle_line can.each (record { lawful = tt; peer = λ p. absurd p }));
+  each = subst (All IsScriptLine) (sym is) (All-push IsScriptLine script cycle_line can.each tt);
   count = let n = ap length is ∙ length-append script (cycle_line ∷ []) in omega (arith, n, room);
 }
 

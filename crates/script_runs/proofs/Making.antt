@@ -7,7 +7,7 @@ use Rattle.joint_model.specs.declared.names.Thread.TheVariants.{M, P, C}
 use Rattle.joint_model.specs.declared.lines.Act.{Act}
 use Rattle.joint_model.specs.declared.lines.Act.TheVariants as act
 use Rattle.joint_model.specs.declared.events.Reply.TheVariants as says
-use Rattle.joint_model.specs.Lines.{IsManagedThread}
+use Rattle.joint_model.specs.Lines.{IsLine, IsManagedThread}
 use Rattle.order_table.specs.declared.views.View.{View}
 use Rattle.joint_history.specs.declared.callers.Receipt.{Receipt}
 use Rattle.joint_history.specs.Operations.{IsOperationOf, IsOwnThread, ReadsExactly, Runs}
@@ -18,7 +18,7 @@ use Rattle.weak_wait.specs.declared.reads.Got.{Got}
 use Rattle.weak_wait.specs.declared.reads.Got.TheVariants as got
 use Rattle.weak_wait.specs.Reads.{reply_of}
 use Rattle.script_runs.specs.declared.lines.ReadCall.TheVariants as reads
-use Rattle.script_runs.specs.Running.{AnswersLine, IsRunnable, MakesLine, WaitsLine, read_call}
+use Rattle.script_runs.specs.Running.{AnswersLine, MakesLine, WaitsLine, read_call}
 
 abbrev pub runs_line : (t : Thread) (old new : View) (index : ℕ) (a : Act) (r : Receipt) → IsOperationOf t a → Runs t old new index a r → MakesLine t old new index a
 runs_line t old new index a r o k = record {
@@ -64,8 +64,8 @@ not_pending got.Gone c n e = absurd (cc)
 not_pending got.Unset c n e = absurd (cc)
 not_pending (got.PinHeld m) c n e = absurd (cc)
 
--- a line that can be run is an operation of its thread
-pub runnable_operation : (t : Thread) (a : Act) → IsOwnThread t → IsRunnable (t, a) → IsOperationOf t a
-runnable_operation (M n) a o r = r.lawful
-runnable_operation (P n) a o r = (r.lawful, r.peer o)
-runnable_operation C a o r = o
+-- a line is an operation of its thread
+pub line_operation : (t : Thread) (a : Act) → IsOwnThread t → IsLine t a → IsOperationOf t a
+line_operation (M n) a o l = l
+line_operation (P n) a o l = l
+line_operation C a o l = absurd o

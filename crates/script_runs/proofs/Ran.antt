@@ -18,7 +18,8 @@ use Rattle.run_laws.specs.Threads.{HoldsItsLines, NoneIsLeft, WaitsEnd}
 use Rattle.run_laws.proofs.ByThreads.{threads_hold_script}
 use Rattle.run_laws.proofs.Finals.{held_by_threads_is_run}
 use Rattle.run_laws.proofs.Waits.{callers_waits_end}
-use Rattle.script_runs.specs.Running.{CanRun, EndsSo, HasRunLines, IsRunnable}
+use Rattle.bridge_script.specs.Scripts.{IsScriptLine}
+use Rattle.script_runs.specs.Running.{CanRun, EndsSo, HasRunLines}
 
 -- each caller has run the lines of its job's thread
 abbrev pub AllRan : List (Thread × Act) → List Pass → List Pass → Type 0
@@ -72,7 +73,7 @@ pub threads_end : (script : List (Thread × Act)) (h : Finished) (d : Waiting) (
     → All (HasOwn h.entries) callers → ((t : Thread) → IsThread t → StillWaits d t → made_by t h.entries ≡ []) → IsRunByThreads script h
 threads_end script h d jobs callers can linked finished few r all left owns none =
     held_by_threads_is_run script h finished few
-    (threads_hold_script script h d callers linked (λ line c. (All-contains IsRunnable script line can.each c).lawful) (ran_all script d jobs callers r all) owns none (ran-holds script jobs callers r) left)
+    (threads_hold_script script h d callers linked (λ line c. All-contains IsScriptLine script line can.each c) (ran_all script d jobs callers r all) owns none (ran-holds script jobs callers r) left)
     (callers_waits_end h d callers linked (ran_all script d jobs callers r all) owns none (ran-waits script jobs callers r))
 
 -- what is so of each such history is so of the one that `finish` answers

@@ -13,7 +13,8 @@ use Rattle.joint_model.specs.PeerReplay.{is_thread}
 use Rattle.joint_model.proofs.Members.{Contains-at}
 use Rattle.run_laws.specs.Threads.{thread_lines}
 use Rattle.run_laws.proofs.ByThreads.{lines-next}
-use Rattle.script_runs.specs.Running.{CanRun, IsRunnable}
+use Rattle.bridge_script.specs.Scripts.{IsScriptLine}
+use Rattle.script_runs.specs.Running.{CanRun}
 
 -- what a loop reads past the end
 abbrev pub no_line : Thread × Act
@@ -25,8 +26,8 @@ line_of script i = get_or script i no_line
 pub there : (script : List (Thread × Act)) (i : ℕ) → i < length script → slice_get script i ≡ Some (line_of script i)
 there script i l = slice_get-get_or script i no_line l
 
-pub runnable : (script : List (Thread × Act)) (i : ℕ) → i < length script → CanRun script → IsRunnable (line_of script i)
-runnable script i l can = All-contains IsRunnable script (line_of script i) can.each (Contains-at script i (line_of script i) (there script i l))
+pub runnable : (script : List (Thread × Act)) (i : ℕ) → i < length script → CanRun script → IsScriptLine (line_of script i)
+runnable script i l can = All-contains IsScriptLine script (line_of script i) can.each (Contains-at script i (line_of script i) (there script i l))
 
 pub none_so_far : (script : List (Thread × Act)) (i : ℕ) (t : Thread) → i < length script → is_thread t (line_of script i).0 ≡ false → thread_lines t (take i script) ≡ [] → thread_lines t (take (i + 1) script) ≡ []
 none_so_far script i t l other none =

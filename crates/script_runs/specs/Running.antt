@@ -9,14 +9,15 @@ use Rattle.joint_model.specs.declared.lines.Act.TheVariants as act
 use Rattle.joint_model.specs.declared.events.Entry.{Entry}
 use Rattle.joint_model.specs.Components.{Rises}
 use Rattle.joint_model.specs.Control.{caller_place}
-use Rattle.joint_model.specs.Lines.{IsDriver, IsLine, IsManagedThread, IsPeerThread}
+use Rattle.joint_model.specs.Lines.{IsDriver, IsManagedThread}
 use Rattle.joint_model.specs.PeerReplay.{is_thread}
 use Rattle.order_table.specs.declared.views.View.{View}
 use Rattle.order_table.specs.Views.{known}
 use Rattle.joint_history.specs.Callers.{KnowsNothing, Pass, last_index, own}
 use Rattle.joint_history.specs.Ending.{HasIdleDriver}
-use Rattle.joint_history.specs.Operations.{IsPeerOperation, MakesAll}
+use Rattle.joint_history.specs.Operations.{MakesAll}
 use Rattle.bridge_cycle.specs.Progress.{Progress, pass_of, line_of}
+use Rattle.bridge_script.specs.Scripts.{IsScriptLine}
 use Rattle.script_laws.specs.Holding.{Standing, standing_after, AreLine, AreLeft, numbered_from}
 use Rattle.run_laws.specs.LastCycle.{HasHeardOf}
 use Rattle.run_laws.specs.Serial.{CallerAdds, AreOthers, IsRunSoFar, ReadsAreAnswered}
@@ -25,14 +26,9 @@ use Rattle.view_laws.specs.Knowing.{IsDrawnView}
 use Rattle.script_runs.specs.declared.lines.ReadCall.{ReadCall}
 use Rattle.script_runs.specs.declared.lines.ReadCall.TheVariants as reads
 
--- a line of a script that can be run: one of a peer thread is one event or a collect
-pub record IsRunnable (line : Thread × Act) : Type 0 where
-  pub lawful : IsLine line.0 line.1
-  pub peer : IsPeerThread line.0 → IsPeerOperation line.1
-
--- the lines can be run: each of them can, and their numbers are of 32 bits
+-- the lines can be run: each is one that a script can have, and their numbers are of 32 bits
 pub record CanRun (script : List (Thread × Act)) : Type 0 where
-  pub each : All IsRunnable script
+  pub each : All IsScriptLine script
   pub count : length script ≤ 4294967295
 
 -- a caller made the entries of a line, and the driver stands where it stood

@@ -12,7 +12,8 @@ ghost use Rattle.joint_history.specs.Operations.{IsOperationOf};
 ghost use Rattle.bridge_cycle.specs.Progress.{line_of};
 ghost use Rattle.run_laws.specs.Final.{IsRunInOrder};
 ghost use Rattle.run_laws.specs.Serial.{AreOthers};
-ghost use Rattle.script_runs.specs.Running.{AreUpTo, CanRun, HasCome, HasComeThrough, IsRunnable, RunsOn, TellsLine, last_after};
+ghost use Rattle.bridge_script.specs.Scripts.{IsScriptLine};
+ghost use Rattle.script_runs.specs.Running.{AreUpTo, CanRun, HasCome, HasComeThrough, RunsOn, TellsLine, last_after};
 
 use crate::lines::{drive_left, drive_line, run_line_alone};
 use crate::places::{is_thread, place_among, thread_at};
@@ -77,7 +78,7 @@ fn run_next<N: OrderName>(
     number: u32,
     line: &(Thread, Act),
 ) -> Result<u32, AllocError>
-    requires line { IsRunnable line.now }
+    requires line { IsScriptLine line.now }
     requires others { AreOthers others.old.items }
     requires up_to { AreUpTo number others.old.items }
     requires driven { (line_of driver.old ≤ last) × (last ≤ number) }

@@ -4,7 +4,7 @@ use Rattle.joint_model.specs.declared.names.Thread.TheVariants.{C}
 use Rattle.joint_model.specs.PeerReplay.{is_thread}
 use Rattle.joint_history.specs.Operations.{IsOperationOf}
 use Rattle.script_runs.proofs.Told.{driver_on, other_on, placed_thread, own_thread, still_others, still_up_to}
-use Rattle.script_runs.proofs.Making.{runnable_operation}
+use Rattle.script_runs.proofs.Making.{line_operation}
 use Rattle.joint_model.proofs.HeapLemmas.{same_thread}
 use Rattle.script_runs.proofs.serial.run_next.Goals as goal
 
@@ -13,16 +13,16 @@ returns-then-is_thread-clause-runs g c =
     driver_on c.args.number c.args.line.now.1 c.args.line.now.0 c.args.driver.now c.drive_line.new.driver c.args.others.now.items (sym (same_thread C c.args.line.now.0 (sym c.is_thread.ensures ∙ c.if-is_thread.true))) c.requires.others c.in_ok-drive_line.ensures.ok
 
 pub place_among-requires : goal.place_among-requires
-place_among-requires g c = own_thread c.args.line.now.0 c.args.line.now.1 c.requires.line.lawful (λ e. true≢false (sym (ap (is_thread C) e) ∙ (sym c.is_thread.ensures ∙ c.if-is_thread.false)))
+place_among-requires g c = own_thread c.args.line.now.0 c.args.line.now.1 c.requires.line (λ e. true≢false (sym (ap (is_thread C) e) ∙ (sym c.is_thread.ensures ∙ c.if-is_thread.false)))
 
 pub run_told-requires-clause-act : goal.run_told-requires-clause-act
 run_told-requires-clause-act g c =
     let few : c.place_among.result < length c.args.others.now.items = (let n = c.requires.others.count in let m = c.place_among.ensures.few in omega (arith, n, m)) in
     let at = slice_get_read c.args.others.now.items (length c.args.others.now.items) c.place_among.result c.index_mut.result.now refl few c.index_mut.ensures.value in
     let t = c.args.line.now.0 in
-    let is = own_thread t c.args.line.now.1 c.requires.line.lawful (λ e. true≢false (sym (ap (is_thread C) e) ∙ (sym c.is_thread.ensures ∙ c.if-is_thread.false))) in
+    let is = own_thread t c.args.line.now.1 c.requires.line (λ e. true≢false (sym (ap (is_thread C) e) ∙ (sym c.is_thread.ensures ∙ c.if-is_thread.false))) in
     let thread = placed_thread c.args.others.now.items c.place_among.result c.index_mut.result.now t c.requires.others at is c.place_among.ensures.place in
-    subst (λ u. IsOperationOf u c.args.line.now.1) (sym thread) (runnable_operation t c.args.line.now.1 is c.requires.line)
+    subst (λ u. IsOperationOf u c.args.line.now.1) (sym thread) (line_operation t c.args.line.now.1 is c.requires.line)
 
 pub run_told-requires-clause-index : goal.run_told-requires-clause-index
 run_told-requires-clause-index g c =
@@ -46,6 +46,6 @@ returns-clause-runs g c =
     let few : c.place_among.result < length c.args.others.now.items = (let n = c.requires.others.count in let m = c.place_among.ensures.few in omega (arith, n, m)) in
     let at = slice_get_read c.args.others.now.items (length c.args.others.now.items) c.place_among.result c.index_mut.result.now refl few c.index_mut.ensures.value in
     let t = c.args.line.now.0 in
-    let is = own_thread t c.args.line.now.1 c.requires.line.lawful (λ e. true≢false (sym (ap (is_thread C) e) ∙ (sym c.is_thread.ensures ∙ c.if-is_thread.false))) in
+    let is = own_thread t c.args.line.now.1 c.requires.line (λ e. true≢false (sym (ap (is_thread C) e) ∙ (sym c.is_thread.ensures ∙ c.if-is_thread.false))) in
     let thread = placed_thread c.args.others.now.items c.place_among.result c.index_mut.result.now t c.requires.others at is c.place_among.ensures.place in
     other_on c.args.others.now.items c.place_among.result c.index_mut.result.now c.run_told.new.caller at c.args.number c.args.line.now.1 t c.args.driver.now c.run_told.new.driver c.requires.others thread c.run_told.ensures.thread c.in_ok-run_told.ensures.ok
