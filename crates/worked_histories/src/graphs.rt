@@ -19,7 +19,8 @@ pub fn components_of_a_circle()
     ensures { CircleIsContracted }
 {}
 
-/// A class without a bridge node that eight components lead into and that leads to eight others is reported, without members.
+/// A class without a bridge node that eight components lead into and that leads to eight others is reported, without members: a list without
+/// it isn't the graph's.
 pub fn components_of_a_meeting()
     ensures { MeetingIsContracted }
 {}
