@@ -1,5 +1,6 @@
 -- What a step of a peer side asks of a state and of a plain count.
-use Rattle.std.proofs.Common.{ℕ, ◌≤◌, Option, Some, None, inl, inr, refl}
+use Rattle.std.proofs.Common.{◌≡◌, ℕ, ◌≤◌, Option, Some, None, inl, inr, refl, sym, ◌∙◌}
+use Rattle.joint_model.specs.declared.names.Marking.{Marking as Number}
 use Rattle.joint_model.specs.declared.names.Thread.{Thread}
 use Rattle.joint_model.specs.declared.names.Thread.TheVariants.{M, P, C}
 use Rattle.joint_model.specs.declared.lines.Act.{Act}
@@ -9,7 +10,7 @@ use Rattle.joint_model.specs.declared.events.Op.TheVariants as op
 use Rattle.joint_model.specs.PeerReplay.{PeerReplay, Marking}
 use Rattle.joint_model.specs.Sides.{Side, TakesPeer, peer_rules}
 use Rattle.peer_side.specs.Makings.{IsSideStep, MayDrawStep}
-use Rattle.peer_side.specs.Sides.{MayEnd}
+use Rattle.peer_side.specs.Sides.{IsDrivers, IsMarkingOf, MayEnd}
 use Rattle.side_tests.specs.Drives.{IsCounted}
 use Rattle.side_tests.proofs.Counting.{counting, counted-may}
 
@@ -40,3 +41,12 @@ counted-may-step s count t o takes k = counted-may peer_rules s count t o takes 
 pub driver-ends : (o : Option Marking) → MayEnd o C
 driver-ends None = tt
 driver-ends (Some mk) = inl refl
+
+-- what a look at the open marking answers tells whose it is
+pub drivers-none : (o : Option Marking) → IsMarkingOf None o → IsDrivers o
+drivers-none None m = tt
+drivers-none (Some mk) m = absurd m
+
+pub drivers-some : (j : Number) (by : Thread) (o : Option Marking) → IsMarkingOf (Some (j, by)) o → by ≡ C → IsDrivers o
+drivers-some j by None m e = absurd m
+drivers-some j by (Some mk) m e = sym m.1 ∙ e

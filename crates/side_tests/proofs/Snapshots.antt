@@ -125,7 +125,7 @@ abandoned-on before after waiting answered old new index c a d = driven-on old n
 
 -- so many answers may close the open cycle
 pub may-close : (s : Side ManagedReplay) (count waiting answered : ℕ) (c : OpenCycle) (alive : List (Option HNum)) → IsDriven s count waiting answered → s.state.managed.cycle ≡ Some c → length alive ≡ waiting → AreFrom (length s.entries + answered) alive → MayClose s.state alive
-may-close s count waiting answered c alive d o l from = record { cycle = c; opened = o; one_each = l ∙ sym (d.waits c o); new = new-from (length s.entries + answered) s.state.adopted alive from d.adopts }
+may-close s count waiting answered c alive d o l from = record { answers = record { cycle = c; opened = o; one_each = l ∙ sym (d.waits c o) }; new = new-from (length s.entries + answered) s.state.adopted alive from d.adopts }
 
 nothing-at : (i : ℕ) (xs : List ℕ) (comps : List (List ℕ)) → comps ≡ [] → slice_get comps i ≡ Some xs → ⊥
 nothing-at i xs comps e q = let f : length comps ≡ 0 = ap (λ (l : List (List ℕ)). length l) e in let l = slice_get_within comps i xs q in absurd (omega (arith, f, l))

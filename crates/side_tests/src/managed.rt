@@ -49,6 +49,8 @@ pub(crate) enum Call {
     Take(u8, u32),
     // makes so many objects without fields, each in V
     Fill(u8, u32),
+    // takes the room of a snapshot
+    Reserve,
     Snap,
     // a snapshot where m1's pin holds this object
     SnapWith(u32),
@@ -59,11 +61,13 @@ pub(crate) enum Call {
     Resolve(u32),
     Abandon,
     Refuse(PhaseWord, Phase),
-    // looks: a peer's twin, an object by its number if it is live, the open cycle, and the number of nodes of the last snapshot's graph
+    // looks: a peer's twin, an object by its number if it is live, the open cycle, the number of nodes of the last snapshot's graph, and whether the side is
+    // ready, as 1 or 0
     TwinFor(u32),
     Live(u32),
     Open,
     Nodes,
+    Ready,
 }
 
 impl Call {
@@ -155,13 +159,14 @@ pub(crate) struct Driven {
 
 impl Model for Driven {
     ghost use Rattle.joint_model.specs.ManagedReplay.{ManagedReplay};
+    ghost use Rattle.managed_side.specs.Sides.{as_side};
     ghost use Rattle.side_tests.specs.Drives.{IsDriven};
 
     ghost Value = { ManagedReplay };
 
     ghost view = { λ s. s.side.state };
 
-    ghost invariant = { λ s. IsDriven s.side s.gate.count s.waiting s.answered };
+    ghost invariant = { λ s. IsDriven (as_side s.side) s.gate.count s.waiting s.answered };
 }
 
 impl Driven {
@@ -214,6 +219,12 @@ impl Driven {
             last = self.steps(caller, Call::New(v, 0))?;
         }
         Ok(last)
+    }
+
+    // Takes the room of a snapshot.
+    fn reserves(&mut self) -> Result<Option<Reply>, AllocError> {
+        self.side.reserve_snap()?;
+        Ok(Some(Reply::Ok))
     }
 
     // Opens a cycle by a snapshot: what its entry says, and how many nodes the dead part's graph has. It may be contracted at once where it has none.
@@ -311,6 +322,7 @@ impl Driven {
                 Some(cycle) => Some(CycleOpen(cycle)),
             },
             Call::Nodes => Some(Refs(self.nodes)),
+            Call::Ready => Some(Refs(if self.side.is_ready() { 1 } else { 0 })),
             _ => None,
         }
     }
@@ -334,13 +346,16 @@ impl Driven {
         match call {
             Call::Take(v, m) => self.takes(caller, v, pin_of(m)),
             Call::Fill(v, times) => self.fills(caller, v, times),
+            Call::Reserve => self.reserves(),
             Call::Snap => self.snaps(None),
             Call::SnapWith(m) => self.snaps(pin_of(m)),
             Call::SnapAndContract => Ok(self.snaps_and_contracts()),
             Call::Resolve(alive) => self.resolves(alloc, alive),
             Call::Abandon => Ok(self.abandons()),
             Call::Refuse(word, phase) => self.refuses(word, phase),
-            Call::TwinFor(_) | Call::Live(_) | Call::Open | Call::Nodes => Ok(self.looks(call)),
+            Call::TwinFor(_) | Call::Live(_) | Call::Open | Call::Nodes | Call::Ready => Ok(
+                self.looks(call),
+            ),
             _ => self.steps(caller, call),
         }
     }

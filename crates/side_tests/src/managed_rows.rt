@@ -171,6 +171,32 @@ const CYCLES: [Row; 22] = [
     (C, Call::Open, Reply::At(Phase::Idle)),
 ];
 
+// A side is ready from when room is taken until an entry is made, and a snapshot uses the room up, also where objects and notices came meanwhile.
+const READY: [Row; 22] = [
+    (C, Call::Ready, Refs(0)),
+    (C, Call::Reserve, Reply::Ok),
+    (C, Call::Ready, Refs(1)),
+    (C, Call::Reserve, Reply::Ok),
+    (C, Call::Ready, Refs(1)),
+    (M1, Call::New(0, 1), M(MNum(1))),
+    (C, Call::Ready, Refs(0)),
+    (M1, Call::Adopt(1, 1, 1), M(MNum(2))),
+    (M1, Call::Set(1, 0, 1), Reply::Ok),
+    (M1, Call::Drop(1), Reply::Ok),
+    (C, Call::Reserve, Reply::Ok),
+    (C, Call::Ready, Refs(1)),
+    (C, Call::Snap, Snapped(1, Span { first: 0, count: 0 })),
+    (C, Call::Ready, Refs(0)),
+    (C, Call::Nodes, Refs(1)),
+    (C, Call::Reserve, Reply::Ok),
+    (C, Call::Snap, CycleOpen(Cycle(1))),
+    (C, Call::Ready, Refs(1)),
+    (C, Call::Resolve(0), Snapped(0, Span { first: 0, count: 1 })),
+    (C, Call::Ready, Refs(0)),
+    (C, Call::Reserve, Reply::Ok),
+    (C, Call::Snap, Snapped(0, Span { first: 1, count: 0 })),
+];
+
 // A peer has one twin, until that gives its handle up or is resolved. One that a cycle keeps has another handle then.
 const TWINS: [Row; 43] = [
     (M1, Call::Give(0), Empty),
@@ -341,6 +367,17 @@ fn a_snapshot_frees_what_nothing_holds(rt: HostRuntime) -> Result<(), Fail> {
 fn a_cycle_is_opened_once_and_closed_once(rt: HostRuntime) -> Result<(), Fail> {
     let played = play(rt.alloc(), CYCLES.as_slice(), &[], &[])?;
     assert_eq!(rt; (played.miss, played.entries), (None, 15));
+    Ok(())
+}
+
+#[test]
+fn a_side_is_ready_until_an_entry_is_made(rt: HostRuntime) -> Result<(), Fail> {
+    let played = play(rt.alloc(), READY.as_slice(), &[MNum(2)], &[MNum(2)])?;
+    assert!(rt; played.lists);
+    assert_eq!(rt;
+        (played.miss, played.made, played.live, played.entries),
+        (None, 2, 1, 7)
+    );
     Ok(())
 }
 

@@ -243,10 +243,10 @@ impl Driven {
     }
 }
 
-// What the second of two restores answered; None where one of them alone gave a handle.
+// What the second of two restores answered; None where one of them alone gave a handle, or where the first one gave another than handle 3.
 fn both(first: Option<Option<HNum>>, second: Option<Option<HNum>>) -> Option<Reply> {
     match (first, second) {
-        (Some(Some(_)), Some(Some(h))) => Some(Reply::Renewed(h)),
+        (Some(Some(HNum(3))), Some(Some(h))) => Some(Reply::Renewed(h)),
         (Some(None), Some(None)) => Some(Cleared),
         _ => None,
     }

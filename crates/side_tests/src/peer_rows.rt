@@ -2,8 +2,8 @@
 
 use crate::peers::{C, Call, M1, NONE, P1, P2, Row, play};
 use joint_model::Reply::{
-    self, Empty, Full, Gone, Gripped, H, Made, Mark, MarkOpen, NoMark, Null, P, Range, Swept,
-    Taken, Unset,
+    self, Done, Empty, Full, Gone, Gripped, H, Made, Mark, MarkOpen, More, NoMark, Null, P, Range,
+    Swept, Taken, Unset,
 };
 use joint_model::{HNum, Marking, PNum, Sort, Span};
 use std::test::Fail;
@@ -93,6 +93,43 @@ const MARKINGS: [Row; 16] = [
     (P2, Call::Begin, Mark(Marking(3))),
     (C, Call::MarkSweep, Swept(Marking(3), NONE)),
     (P2, Call::Sweep, NoMark),
+];
+
+// The driver's marking in slices, where there is nothing to mark.
+const NO_PEERS: [Row; 6] = [
+    (C, Call::MarkSlice(1), NoMark),
+    (C, Call::MarkBegin, Mark(Marking(1))),
+    (C, Call::MarkBegin, MarkOpen(Marking(1))),
+    (C, Call::MarkSlice(1), Done),
+    (C, Call::MarkSweep, Swept(Marking(1), NONE)),
+    (C, Call::MarkSweep, NoMark),
+];
+
+// The only field that leads to p2 is emptied before the marking has come to it, and so is the variable that had it from there; p2 existed at the begin and was
+// reached then. A peer that is made meanwhile, p4, is kept, and so is what a weak name gives, p3. The next marking frees all three.
+const HIDDEN: [Row; 18] = [
+    (P1, Call::New(0, 1), P(PNum(1))),
+    (P1, Call::New(1, 0), P(PNum(2))),
+    (P1, Call::Set(0, 0, 1), Reply::Ok),
+    (P1, Call::New(1, 0), P(PNum(3))),
+    (P1, Call::WGlobal(0, 1), H(HNum(1))),
+    (P1, Call::Drop(1), Reply::Ok),
+    (C, Call::MarkBegin, Mark(Marking(1))),
+    (P1, Call::Get(2, 0, 0), P(PNum(2))),
+    (P1, Call::Unset(0, 0), Reply::Ok),
+    (P1, Call::Drop(2), Reply::Ok),
+    (C, Call::MarkSlice(1), More),
+    (P1, Call::WRead(1, 0), P(PNum(3))),
+    (P1, Call::Drop(1), Reply::Ok),
+    (P1, Call::New(3, 0), P(PNum(4))),
+    (P1, Call::Drop(3), Reply::Ok),
+    (C, Call::MarkSlice(2), Done),
+    (C, Call::MarkSweep, Swept(Marking(1), NONE)),
+    (
+        P1,
+        Call::Collect,
+        Swept(Marking(2), Span { first: 0, count: 3 }),
+    ),
 ];
 
 // A sweep spares what was made or read by a weak name since its begin, with all that this led to at the begin.
@@ -233,6 +270,21 @@ fn managed_threads_make_land_and_grip_by_handles(rt: HostRuntime) -> Result<(), 
 #[test]
 fn a_marking_is_ended_by_its_own_thread_or_the_driver(rt: HostRuntime) -> Result<(), Fail> {
     let played = play(rt.alloc(), MARKINGS.as_slice(), &[])?;
+    assert_eq!(rt; (played.miss, played.freed), (None, true));
+    Ok(())
+}
+
+#[test]
+fn a_marking_without_peers_is_done_at_once(rt: HostRuntime) -> Result<(), Fail> {
+    let played = play(rt.alloc(), NO_PEERS.as_slice(), &[])?;
+    assert_eq!(rt; (played.miss, played.freed), (None, true));
+    Ok(())
+}
+
+#[test]
+fn a_write_hides_nothing_from_a_marking_in_slices(rt: HostRuntime) -> Result<(), Fail> {
+    let freed = [PNum(2), PNum(3), PNum(4)];
+    let played = play(rt.alloc(), HIDDEN.as_slice(), freed.as_slice())?;
     assert_eq!(rt; (played.miss, played.freed), (None, true));
     Ok(())
 }

@@ -1,17 +1,18 @@
 // A peer side that is driven by a table of calls.
 
-ghost use Rattle.std.specs.Prelude.{◌≡◌, IsTrue, None};
+ghost use Rattle.std.specs.Prelude.{◌≡◌, IsTrue, None, Option};
 ghost use Rattle.joint_model.specs.Lines.{IsPeerAct, IsPeerThread};
-ghost use Rattle.joint_model.specs.PeerReplay.{PeerReplay};
+ghost use Rattle.joint_model.specs.PeerReplay.{Marking as Open, PeerReplay};
 ghost use Rattle.peer_side.specs.Makings.{IsSideStep, MayStep};
+ghost use Rattle.peer_side.specs.Sides.{IsDrivers, IsMarkingOf};
 ghost use Rattle.peer_side.specs.Steps.{IsStepLine};
 
 use crate::callers::{is_managed, is_var_or_none};
-use joint_model::Reply::{self, Gone, Mark, MarkOpen, NoMark, P, Swept, Unset};
+use joint_model::Reply::{self, Done, Gone, Mark, MarkOpen, More, NoMark, P, Swept, Unset};
 use joint_model::{
-    Act, Counter, GName, HNum, Holding, Op, PNum, Sort, Span, StaticNo, Thread, Var,
+    Act, Counter, GName, HNum, Holding, Marking, Op, PNum, Sort, Span, StaticNo, Thread, Var,
 };
-use peer_side::{BeginFault, PeerSide};
+use peer_side::{BeginFault, PeerSide, SliceEnd};
 use std::alloc::{AllocError, Global};
 use std::marker::Model;
 
@@ -51,8 +52,9 @@ pub(crate) enum Call {
     Make(Sort, u8),
     Land(u32, u8),
     Grip(u8),
-    // the driver's begin and sweep, each by its own call
+    // the driver's begin, slice and sweep, each by its own call
     MarkBegin,
+    MarkSlice(u32),
     MarkSweep,
     // makes so many peers without fields, each in V
     Fill(u8, u32),
@@ -173,6 +175,18 @@ impl Driven {
         }
     }
 
+    // The driver's slice: whether peers are left to go through, or that no marking is open. None where another thread's is.
+    fn slices(&mut self, n: u32) -> Option<Reply> {
+        if !is_drivers(self.side.marking()) {
+            return None;
+        }
+        match self.side.mark_slice(n) {
+            Ok(SliceEnd::Done) => Some(Done),
+            Ok(SliceEnd::More) => Some(More),
+            Err(_) => Some(NoMark),
+        }
+    }
+
     // The driver's sweep: the marking that it ended, with what it freed, or that none is open.
     fn sweeps(&mut self) -> Reply {
         match self.side.sweep(&mut self.draw, Thread::C, 2) {
@@ -212,6 +226,7 @@ impl Driven {
     fn answer(&mut self, caller: Thread, call: Call) -> Result<Option<Reply>, AllocError> {
         match call {
             Call::MarkBegin => Ok(Some(self.begins()?)),
+            Call::MarkSlice(n) => Ok(self.slices(n)),
             Call::MarkSweep => Ok(Some(self.sweeps())),
             Call::Fill(v, times) => self.fills(caller, v, times),
             Call::Rename(v, times) => self.renames(caller, v, times),
@@ -265,6 +280,23 @@ pub(crate) fn play(alloc: Global, rows: &[Row], freed: &[PNum]) -> Result<Played
         entries,
         freed,
     })
+}
+
+// Whether this is the driver.
+fn is_driver(t: Thread) -> bool
+    ensures { IsTrue result → t ≡ Thread.C }
+{
+    matches!(t, Thread::C)
+}
+
+// Whether a marking that is open is the driver's.
+fn is_drivers(marking: Option<(Marking, Thread)>) -> bool
+    ensures { (o : Option Open) → IsMarkingOf marking o → IsTrue result → IsDrivers o }
+{
+    match marking {
+        None => true,
+        Some((_, by)) => is_driver(by),
+    }
 }
 
 // Whether this is one of the threads p1 to p8.

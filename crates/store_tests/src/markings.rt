@@ -3,7 +3,7 @@
 ghost use Rattle.std.specs.Prelude.{◌≡◌, ◌+◌, ◌≤◌, ◌<◌, ◌%◌, ◌⊎◌, false, replicate};
 ghost use Rattle.row_marking.specs.Traces.{Greyed};
 
-use row_marking::{Traced, mark_from, visit};
+use row_marking::{Traced, mark_from, scan_some, visit};
 use std::test::Fail;
 
 #[derive(Drop)]
@@ -86,5 +86,20 @@ fn marks_in_steps(rt: HostRuntime) -> Result<(), Fail> {
     visit(&mut rows, 2, &mut grey);
     assert_eq!(rt; rows.marks, [false, false, true, false, false, false]);
     assert_eq!(rt; grey, 2);
+    Ok(())
+}
+
+// Of the grey rows the one that became grey last is scanned first, and what it leads to then.
+#[test]
+fn marks_in_slices(rt: HostRuntime) -> Result<(), Fail> {
+    let mut rows = unmarked_rows();
+    let mut grey = 0;
+    visit(&mut rows, 1, &mut grey);
+    let (grey, scanned) = scan_some(&mut rows, grey, 1);
+    assert_eq!(rt; (grey, scanned), (2, 1));
+    assert_eq!(rt; rows.marks, [false, true, true, false, true, false]);
+    let (grey, scanned) = scan_some(&mut rows, grey, 64);
+    assert_eq!(rt; (grey, scanned), (0, 3));
+    assert_eq!(rt; rows.marks, [false, true, true, false, true, true]);
     Ok(())
 }

@@ -1,11 +1,13 @@
 // A table of a small heap's operations, with what each answers; references, and a sweep.
 
-ghost use Rattle.std.specs.Prelude.{◌≡◌, OnOk};
+ghost use Rattle.std.specs.Prelude.{◌≡◌, [], OnOk};
 ghost use Rattle.joint_model.specs.Heaps.{IsLive};
+ghost use Rattle.row_heap.specs.Marks.{AreEndsLive};
 
 use heap_rules::Done::{self, Empty, Null, Object, Range};
 use joint_model::PNum;
 use row_heap::{End, RowHeap};
+use row_marking::visit;
 use std::alloc::AllocError;
 
 // An operation, by places of variables, fields and statics. `Add` makes an object with so many fields, which the variable then names.
@@ -88,11 +90,13 @@ fn operations_answer_as_the_table_says(rt: HostRuntime) -> Result<(), AllocError
     Ok(())
 }
 
-// A reference of the first object over a temporary to the second.
+// A reference of the first object over a temporary to the second; there was none before.
 fn refer_over(heap: &mut RowHeap<PNum>, first: u32, second: u32) -> Result<(), AllocError>
+    requires none { heap.old.refs ≡ [] }
     requires first { IsLive heap.old.heap first }
     requires second { IsLive heap.old.heap second }
-    ensures { OnOk result (heap.new.heap ≡ heap.old.heap) }
+    ensures heap { OnOk result (heap.new.heap ≡ heap.old.heap) }
+    ensures ends { OnOk result (AreEndsLive heap.new) }
 {
     heap.reserve_references(2, 1)?;
     let over = End::Temporary(0);
@@ -109,6 +113,39 @@ fn takes_references(rt: HostRuntime) -> Result<(), AllocError> {
     assert_eq!(rt; heap.references_len(), 2);
     heap.clear_references();
     assert_eq!(rt; heap.references_len(), 0);
+    Ok(())
+}
+
+// A scan of the object that refers to a temporary makes the one grey that the temporary leads to, and no other.
+#[test]
+fn marks_over_a_temporary(rt: HostRuntime) -> Result<(), AllocError> {
+    let mut heap: RowHeap<PNum> = RowHeap::new(rt.alloc());
+    let first = heap.add_object(0)?;
+    let second = heap.add_object(0)?;
+    let third = heap.add_object(0)?;
+    refer_over(&mut heap, first, second)?;
+    heap.begin_marking(true);
+    let mut grey = 0;
+    visit(&mut heap, first, &mut grey);
+    assert_eq!(rt; (grey, heap.is_marked(second)), (first, false));
+    assert_eq!(rt; heap.mark_some(&mut grey, 1), 1);
+    assert_eq!(rt; (grey, heap.is_marked(second)), (second, true));
+    assert_eq!(rt; heap.is_marked(third), false);
+    Ok(())
+}
+
+// What references lead to is shaded though the object that they lead from has no mark, and the marking follows none.
+#[test]
+fn shades_references(rt: HostRuntime) -> Result<(), AllocError> {
+    let mut heap: RowHeap<PNum> = RowHeap::new(rt.alloc());
+    let first = heap.add_object(0)?;
+    let second = heap.add_object(0)?;
+    refer_over(&mut heap, first, second)?;
+    heap.begin_marking(false);
+    let mut grey = 0;
+    heap.shade_references(&mut grey);
+    assert_eq!(rt; (grey, heap.is_marked(second)), (second, true));
+    assert_eq!(rt; heap.is_marked(first), false);
     Ok(())
 }
 
