@@ -6,7 +6,6 @@ ghost use Rattle.joint_model.specs.declared.names.Thread.TheVariants.{M, P};
 ghost use Rattle.order_table.specs.Allowed.{Settled};
 ghost use Rattle.order_table.specs.Views.{OwnsAll};
 ghost use Rattle.joint_history.specs.Callers.{KnowsNothing, last_index, own};
-ghost use Rattle.joint_history.specs.Operations.{IsPeerOperation};
 ghost use Rattle.bridge_cycle.specs.Progress.{line_of};
 
 use crate::runs::{DrivenBridge, start};
@@ -57,7 +56,7 @@ impl<'a, N: OrderName, R: Wait> Gap<N, Alone> for CollectsBehind<'a, N, R> {
 
 // What p1 does at a place; None where the place is m1's. It gives the first object's peer a weak name, and lets it go.
 fn peer_act(place: u8) -> Option<Act>
-    ensures { IfSome result (λ a. IsLine (P 1) a × IsPeerOperation a) }
+    ensures { IfSome result (λ a. IsLine (P 1) a) }
 {
     let (v, x) = (Var(0), StaticNo(0));
     match place {

@@ -21,6 +21,8 @@ mod rooms;
 #[cfg(test)]
 mod runs;
 #[cfg(test)]
+mod slices;
+#[cfg(test)]
 mod threads;
 #[cfg(test)]
 mod told;

@@ -541,8 +541,8 @@ fn seen_of_pins(history: &History) -> SeenOfPins {
     seen
 }
 
-// No entry frees an object from the read that gave it up to its thread's next `take`, whatever the schedule: the machine isn't asked. Snapshots have to have
-// come in between, as often as runs are made.
+// Each run's finished history is gone through entry by entry, without the joint machine: none frees an object that a pin holds then, from the read that gave
+// it up to its thread's next `take`. Over all runs together snapshots have to have found at least as many filled pins as there are runs.
 #[test]
 fn what_a_pin_holds_is_never_freed(rt: HostRuntime) -> Result<(), Fail> {
     let mut held = 0u32;

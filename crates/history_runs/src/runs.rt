@@ -5,7 +5,6 @@ ghost use Rattle.joint_model.specs.Lines.{IsLine};
 ghost use Rattle.joint_model.specs.declared.names.Thread.TheVariants.{M, P};
 ghost use Rattle.order_table.specs.Allowed.{Settled};
 ghost use Rattle.order_table.specs.Views.{OwnsAll};
-ghost use Rattle.peer_side.specs.Steps.{IsStepLine};
 ghost use Rattle.joint_history.specs.Callers.{KnowsNothing, last_index, own};
 ghost use Rattle.joint_history.specs.Ending.{HasAll, HasIdleDriver};
 
@@ -48,7 +47,7 @@ fn peer<N: OrderName>(
     act: &Act,
 ) -> Result<Reply, AllocError>
     requires thread { caller.old.thread ≡ P 1 }
-    requires act { IsLine (P 1) act.now × IsStepLine act.now }
+    requires act { IsLine (P 1) act.now }
     requires index { last_index (own caller.old) ≤ index }
     ensures thread { caller.new.thread ≡ P 1 }
     ensures index { last_index (own caller.new) ≤ index }
@@ -58,7 +57,7 @@ fn peer<N: OrderName>(
 
 // What p1 does on a line; None where the line is m1's.
 fn peer_act(line: u32) -> Option<Act>
-    ensures { IfSome result (λ a. IsLine (P 1) a × IsStepLine a) }
+    ensures { IfSome result (λ a. IsLine (P 1) a) }
 {
     let (a, b, c, d) = (Var(0), Var(1), Var(2), Var(3));
     let (g, h, x) = (GName(0), GName(1), StaticNo(0));

@@ -7,7 +7,7 @@ ghost use Rattle.order_table.specs.Allowed.{Settled};
 ghost use Rattle.order_table.specs.Views.{OwnsAll};
 ghost use Rattle.joint_history.specs.Callers.{KnowsNothing, Pass, last_index, own};
 ghost use Rattle.joint_history.specs.Ending.{HasAll, HasIdleDriver};
-ghost use Rattle.joint_history.specs.Operations.{IsOwnThread, IsPeerOperation};
+ghost use Rattle.joint_history.specs.Operations.{IsOwnThread};
 ghost use Rattle.history_runs.specs.Starts.{IsStarting};
 
 use joint_history::{Caller, Desk, Locks, Shared};
@@ -75,8 +75,7 @@ fn managed_act(n: u8, place: u32) -> Act
 // What peer thread `n` does at a place of its table.
 fn peer_act(n: u8, place: u32) -> Act
     requires { n ≤ 8 }
-    ensures peer { IsPeerAct result }
-    ensures built { IsPeerOperation result }
+    ensures { IsPeerAct result }
 {
     let (a, b, c, d) = (Var(0), Var(1), Var(2), Var(3));
     let (x, g, h) = (StaticNo(7 + n), GName(n), GName(16 + n));

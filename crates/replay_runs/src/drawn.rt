@@ -52,7 +52,7 @@ const MANAGED: [&[u8]; 26] = [
 ];
 
 // What a peer thread does.
-const PEER: [&[u8]; 18] = [
+const PEER: [&[u8]; 21] = [
     b"new ? #",
     b"new ? 2",
     b"new ? 2",
@@ -71,6 +71,9 @@ const PEER: [&[u8]; 18] = [
     b"unglobal G#",
     b"wread ? G#",
     b"collect",
+    b"begin",
+    b"slice 1#",
+    b"sweep",
 ];
 
 // What the driver does: the phases of a cycle in their order, and what else there is.
@@ -158,7 +161,7 @@ fn put_line(
         let form = draws.below(26) as usize;
         return put_form(text, draws, MANAGED[form]);
     }
-    let form = draws.below(18) as usize;
+    let form = draws.below(21) as usize;
     put_form(text, draws, PEER[form])
 }
 

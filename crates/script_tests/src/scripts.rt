@@ -38,6 +38,10 @@ const CAUSES: &[u8] = b"0 m8 drop h
 0 p1 global G0 a
 0 p1 wread a G63
 0 p1 collect
+0 p1 begin
+0 p1 slice 1
+0 p8 slice 65535
+0 p1 sweep
 0 c finalise 65535
 1 m1
 1 m1\x20
@@ -53,9 +57,9 @@ const CAUSES: &[u8] = b"0 m8 drop h
 1 m1 global G0 a
 1 m1 collect
 1 m1 finalise 1
-1 p1 begin
-1 p1 slice 1
-1 p1 sweep
+1 m1 begin
+1 m1 slice 1
+1 c slice 1
 1 p1 bridge a bridge 1 user 0
 1 p1 handle a
 1 c begin
@@ -71,6 +75,9 @@ const CAUSES: &[u8] = b"0 m8 drop h
 2 m1 new a plain
 2 p1 new a plain 0
 2 p1 collect a
+2 p1 begin 1
+2 p1 slice
+2 p1 sweep 1
 3 m1 drop\x20
 3 m1 drop i
 3 m1 drop -
@@ -104,6 +111,7 @@ const CAUSES: &[u8] = b"0 m8 drop h
 4 m1 new a plain 007
 4 p1 new a x
 4 c finalise 065535
+4 p1 slice 01
 5 m1 set a 256 b
 5 m1 set a 18446744073709551615 b
 5 m1 bridge a bridge 16 user 17
@@ -114,6 +122,8 @@ const CAUSES: &[u8] = b"0 m8 drop h
 5 p1 get a b 256
 5 c finalise 0
 5 c finalise 65536
+5 p1 slice 0
+5 p1 slice 65536
 6 m1 bridge a plain 0 user 0
 6 m1 bridge a  0 user 0
 6 m1 bridge a bridge 0 users 0
@@ -184,7 +194,7 @@ const SCRIPTS: [&[u8]; 4] = [
     b"",
     LINKED,
     b"m8 bridge h leafbridge 0 framework 16\nm2 set a 255 -\nc cycle\nm3 bridge a leafbridge 0 user 0\n",
-    b"m1 new a plain 16\nm2 new b leaf 0\nm3 bridge c bridge 1 user 2\nm4 copy d e\nm5 set f 3 g\nm6 get h a 255\nm7 drop b\nm8 load c g15\nm1 store g0 -\nm1 store g1 d\nm2 weak k0 e\nm3 read k63\nm4 wait k1\nm5 take f\nm6 pass g s2\nm7 surface h s3\nm8 dispose a\nm1 handle b\np1 new a 16\np2 set b 0 -\np3 get c d 1\np4 copy e f\np5 drop g\np6 load h s15\np7 store s0 a\np8 global G0 b\np1 wglobal G63 c\np2 unglobal G1\np3 wread d G2\np4 collect\nc cycle\nc snap\nc contract\nc mirror\nc weaken\nc mark\nc sweep\nc restore\nc resolve\nc finalise 65535\n",
+    b"m1 new a plain 16\nm2 new b leaf 0\nm3 bridge c bridge 1 user 2\nm4 copy d e\nm5 set f 3 g\nm6 get h a 255\nm7 drop b\nm8 load c g15\nm1 store g0 -\nm1 store g1 d\nm2 weak k0 e\nm3 read k63\nm4 wait k1\nm5 take f\nm6 pass g s2\nm7 surface h s3\nm8 dispose a\nm1 handle b\np1 new a 16\np2 set b 0 -\np3 get c d 1\np4 copy e f\np5 drop g\np6 load h s15\np7 store s0 a\np8 global G0 b\np1 wglobal G63 c\np2 unglobal G1\np3 wread d G2\np4 collect\np5 begin\np6 slice 1\np7 slice 65535\np5 sweep\nc cycle\nc snap\nc contract\nc mirror\nc weaken\nc mark\nc sweep\nc restore\nc resolve\nc finalise 65535\n",
 ];
 
 #[test]
