@@ -49,6 +49,8 @@ mod rows_read_and_dropped;
 #[cfg(test)]
 mod rows_read_and_stored;
 #[cfg(test)]
+mod rows_sliced;
+#[cfg(test)]
 mod rows_weakly_read;
 #[cfg(test)]
 mod runs;

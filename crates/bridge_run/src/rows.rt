@@ -9,6 +9,7 @@ use crate::rows_lines::{ACTIVITY, LINES};
 use crate::rows_many_leaves::MANY_LEAVES;
 use crate::rows_read_and_dropped::READ_AND_DROPPED;
 use crate::rows_read_and_stored::READ_AND_STORED;
+use crate::rows_sliced::{BEGUN, SLICED};
 use crate::rows_weakly_read::WEAKLY_READ;
 use byte_streams::ByteSink;
 use std::alloc::{AllocError, Global};
@@ -61,6 +62,8 @@ fn worked_scripts_are_run(rt: HostRuntime) -> Result<(), Fail> {
     expect_rows(&rt, alloc, CYCLE_LIMIT)?;
     expect_rows(&rt, alloc, MANY_LEAVES)?;
     expect_rows(&rt, alloc, COLLECTED)?;
+    expect_rows(&rt, alloc, SLICED)?;
+    expect_rows(&rt, alloc, BEGUN)?;
     expect_rows(&rt, alloc, WEAKLY_READ)?;
     expect_rows(&rt, alloc, READ_AND_DROPPED)?;
     expect_rows(&rt, alloc, READ_AND_STORED)?;
