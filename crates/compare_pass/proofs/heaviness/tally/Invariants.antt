@@ -1,0 +1,10 @@
+use Rattle.std.proofs.Common.{◌≡◌, ◌+◌, ◌<◌, ℕ, true, false, length, get_or}
+use Rattle.compare_pass.specs.Counting.{bit}
+use Rattle.compare_pass.proofs.heaviness.tally.Given as goal
+
+abbrev pub invariant-loop-y : goal.invariant-loop-y
+invariant-loop-y l = record {
+  done : (k : ℕ) → k < l.y-index → get_or l.marks (get_or l.found k 0) false ≡ false;
+  only : (z : ℕ) → get_or l.marks z false ≡ true → get_or l.initial.marks z false ≡ true;
+  exact : (z : ℕ) → z < length l.initial.counts → get_or l.counts z 0 + bit (get_or l.marks z false) ≡ get_or l.initial.counts z 0 + bit (get_or l.initial.marks z false);
+}

@@ -1,0 +1,9 @@
+pub mod Searches
+pub mod Turned
+pub mod Classes
+pub mod Tables
+pub mod Labelling
+pub mod Searching
+pub mod Listing
+pub mod Counting
+pub mod Referring
