@@ -13,9 +13,10 @@ use Rattle.bridge_script.specs.declared.grammar.Operation.{Operation}
 use Rattle.bridge_script.specs.declared.grammar.Place.{Place}
 use Rattle.bridge_script.specs.declared.operands.Operand.{Operand}
 use Rattle.bridge_script.specs.Causes.{cause_number}
-use Rattle.bridge_script.specs.Words.{thread_text, act_words, line_words, line_text, spaced}
+use Rattle.text_words.specs.Words.{spaced, words_of}
+use Rattle.bridge_script.specs.Words.{thread_text, act_words, line_words, line_text}
 use Rattle.bridge_script.specs.Grammar.{operation_text, operation_of, form_of}
-use Rattle.bridge_script.specs.Faults.{HasAt, HasAtSome, PlacesHave, Reads, WordsHave, IsFirst, words_of}
+use Rattle.bridge_script.specs.Faults.{HasAt, HasAtSome, PlacesHave, Reads, WordsHave, IsFirst}
 use Rattle.bridge_script.specs.Operands.{texts, StandAll, act_at, IsPossible, HasAtPlaces}
 use Rattle.bridge_script.specs.Scripts.{IsScriptLine}
 use Rattle.bridge_script.proofs.Readings.{has_behind}

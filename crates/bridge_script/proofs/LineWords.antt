@@ -14,11 +14,12 @@ use Rattle.joint_model.proofs.Deciding.{some-same}
 use Rattle.bridge_script.specs.declared.grammar.Operation.{Operation}
 use Rattle.bridge_script.specs.declared.grammar.Operation.TheVariants as operation
 use Rattle.bridge_script.specs.declared.grammar.Place.{Place}
-use Rattle.bridge_script.specs.Words.{thread_text, act_words, line_words, line_text, spaced}
+use Rattle.text_words.specs.Words.{spaced}
+use Rattle.bridge_script.specs.Words.{thread_text, act_words, line_words, line_text}
 use Rattle.bridge_script.specs.Grammar.{operation_text, operation_of, form_of}
 use Rattle.bridge_script.specs.Operands.{texts, StandAll, act_at}
 use Rattle.bridge_script.specs.Scripts.{IsScriptLine}
-use Rattle.bridge_script.proofs.Cuts.{split-join}
+use Rattle.text_words.proofs.Cuts.{split-join}
 use Rattle.bridge_script.proofs.Standing.{IsPrinted, Printed, printed_code, printed_lettered, all_printed, same_operands}
 use Rattle.bridge_script.proofs.Readings.{same_thread, same_operation}
 use Rattle.bridge_script.proofs.Table.{has_row}

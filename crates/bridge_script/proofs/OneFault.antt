@@ -13,7 +13,8 @@ use Rattle.bridge_script.specs.Words.{line_text}
 use Rattle.bridge_script.specs.Faults.{Has, IsFirst}
 use Rattle.bridge_script.specs.Scripts.{IsFault, script_text_of, end_of, standing}
 use Rattle.bridge_script.specs.Steps.{behind}
-use Rattle.bridge_script.proofs.Texts.{goes_on, none_in_script, script_part, cut_once, same_lines, text_append, text_push}
+use Rattle.text_words.proofs.Cuts.{cut_once}
+use Rattle.bridge_script.proofs.Texts.{goes_on, none_in_script, script_part, same_lines, text_append, text_push}
 
 -- a cause is known by its number
 same_cause : (c d : Cause) → cause_number c ≡ cause_number d → c ≡ d

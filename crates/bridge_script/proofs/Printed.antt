@@ -13,7 +13,8 @@ use Rattle.joint_model.specs.declared.lines.Act.{Act}
 use Rattle.joint_model.specs.Lines.{IsThread}
 use Rattle.bridge_script.specs.declared.grammar.Operation.{Operation}
 use Rattle.bridge_script.specs.declared.grammar.Operation.TheVariants as operation
-use Rattle.bridge_script.specs.Words.{thread_text, act_words, line_text, spaced}
+use Rattle.text_words.specs.Words.{spaced}
+use Rattle.bridge_script.specs.Words.{thread_text, act_words, line_text}
 use Rattle.bridge_script.specs.Grammar.{operation_text, operation_of}
 use Rattle.byte_streams.specs.Drafts.{after_spaces}
 use Rattle.bridge_script.specs.Scripts.{IsScriptLine, IsScript, IsText, script_text_of}

@@ -7,7 +7,7 @@ use Rattle.std.proofs.lemmas.List.{get_or-drop, drop-append-le, take-append-le, 
 use Rattle.std.proofs.lemmas.Bool.{cases_lt}
 use Rattle.std.proofs.Math.ListN.{get_or-append}
 use Rattle.byte_streams.proofs.Bytes.{rest_of}
-use Rattle.bridge_script.proofs.Cuts.{cut_at, free_before}
+use Rattle.text_words.proofs.Cuts.{cut_at, cut_once, free_before}
 use Rattle.std.proofs.lemmas.List.Elements.{All-head, All-tail, All-take, All-get_or, All-push}
 use Rattle.std.proofs.lemmas.List.Sums.{sum_by-append, sum_by_push}
 use Rattle.std.proofs.Math.Seq.{take-add, take-append_seam, get_or-append_seam}
@@ -25,18 +25,6 @@ use Rattle.bridge_script.specs.Scripts.{line_at, IsScriptLine, IsScript, IsText,
 use Rattle.bridge_script.specs.Steps.{EndsLine, behind}
 use Rattle.bridge_script.proofs.LineWords.{same_words, same_line, line_free, line_some, words_of_line}
 use Rattle.bridge_script.proofs.Fitting.{none_of_line}
-
--- what stands before the first c, and what stands behind it
-pub cut_once : (c : ℕ) (a b x y : List ℕ) → All (λ k. k ≢ c) a → All (λ k. k ≢ c) b → a ++ (c ∷ x) ≡ b ++ (c ∷ y) → (a ≡ b) × (x ≡ y)
-cut_once c [] [] x y p q e = (refl, cc)
-cut_once c [] (k ∷ b) x y p q e = absurd (All-head (λ z. z ≢ c) k b q (sym cc))
-cut_once c (k ∷ a) [] x y p q e = absurd (All-head (λ z. z ≢ c) k a p (cc))
-cut_once c (k ∷ a) (j ∷ b) x y p q e =
-    let h : k ≡ j = cc in
-    let t : a ++ (c ∷ x) ≡ b ++ (c ∷ y) = cc in
-    let r = cut_once c a b x y (All-tail (λ z. z ≢ c) k a p) (All-tail (λ z. z ≢ c) j b q) t in
-    let u = r.0 in
-    (cc, r.1)
 
 pub text_push : (script : List (Thread × Act)) (line : Thread × Act) → script_text_of (script ++ line ∷ []) ≡ script_text_of script ++ (line_text line ++ 10 ∷ [])
 text_push [] line = refl

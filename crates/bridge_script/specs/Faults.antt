@@ -1,6 +1,5 @@
 -- What is wrong with a line: its causes, and which of them is the first.
-use Rattle.std.specs.Prelude.{◌≡◌, ◌≢◌, ℕ, ◌<◌, ◌≤◌, ◌^◌, ◌==◌, ◌⊎◌, List, [], ◌∷◌, length, Option, Some, codes, decimal}
-use Rattle.std.specs.List.{slice_split}
+use Rattle.std.specs.Prelude.{◌≡◌, ◌≢◌, ℕ, ◌<◌, ◌≤◌, ◌^◌, ◌⊎◌, List, [], ◌∷◌, length, Option, Some, codes, decimal}
 use Rattle.joint_model.specs.declared.names.Var.{Var}
 use Rattle.joint_model.specs.declared.names.StaticNo.{StaticNo}
 use Rattle.joint_model.specs.declared.names.GName.{GName}
@@ -16,10 +15,6 @@ use Rattle.bridge_script.specs.declared.grammar.Place.TheVariants as place
 use Rattle.bridge_script.specs.Words.{thread_text, var_text, optional_text, managed_static, peer_static, global_text, cell_text}
 use Rattle.bridge_script.specs.Grammar.{operation_text, form_of}
 use Rattle.bridge_script.specs.Causes.{cause_number}
-
--- the words of a line: it is cut at each single space
-abbrev pub words_of : List ℕ → List (List ℕ)
-words_of text = slice_split (λ b. b == 32) text
 
 -- a word has a cause at a place: it is no such name, no number, a number out of its range, or neither of two kinds
 abbrev pub HasAt : Cause → Place → List ℕ → Type 0

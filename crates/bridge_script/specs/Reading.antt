@@ -1,5 +1,5 @@
 -- What reading a script from a source does to it, and what the answer rests on.
-use Rattle.std.specs.Prelude.{◌≡◌, ℕ, ◌≤◌, ◌⊎◌, List, length, Option}
+use Rattle.std.specs.Prelude.{ℕ, List, Option}
 use Rattle.std.specs.Io.KnownBytes.{Consumes, IsAtEnd}
 use Rattle.joint_model.specs.declared.names.Thread.{Thread}
 use Rattle.joint_model.specs.declared.lines.Act.{Act}
@@ -7,13 +7,8 @@ use Rattle.bridge_script.specs.declared.faults.ScriptFault.{ScriptFault}
 use Rattle.bridge_script.specs.declared.faults.ScriptError.{ScriptError}
 use Rattle.bridge_script.specs.declared.faults.ScriptError.TheVariants.{OutOfMemory, ReadFault, Refused}
 use Rattle.byte_streams.specs.Streams.{Rose}
+use Rattle.byte_streams.specs.Reading.{Took}
 use Rattle.bridge_script.specs.Scripts.{IsText, IsFault, IsNoText}
-
--- these bytes were taken from a source: to its end, or up to one byte past the limit
-pub record Took (left rest : Option (List ℕ)) (input : List ℕ) : Type 0 where
-  pub taken : Consumes left rest input
-  pub stopped : IsAtEnd rest ⊎ (length input ≡ 8388609)
-  pub size : length input ≤ 8388609
 
 -- the source was read to its end, and what was taken is a text of the script
 pub record TookScript (left rest : Option (List ℕ)) (script : List (Thread × Act)) : Type 0 where
@@ -26,15 +21,9 @@ pub record TookScript (left rest : Option (List ℕ)) (script : List (Thread × 
 -- script: the fault names its first faulty line
 pub record TookFault (left rest : Option (List ℕ)) (fault : ScriptFault) : Type 0 where
   pub input : List ℕ
-  pub took : Took left rest input
+  pub took : Took 8388608 left rest input
   pub faulty : IsFault input fault
   pub none : IsNoText input
-
--- why a source gave no bytes: no memory, or its count of faults rose
-abbrev pub IsReadError : ℕ → ℕ → ScriptError → Type 0
-IsReadError before now OutOfMemory = Unit {0}
-IsReadError before now ReadFault = Rose before now
-IsReadError before now (Refused fault) = ⊥
 
 -- why a source gave no script: no memory, or its count of faults rose, or what it gave is none
 abbrev pub IsNoScript : Option (List ℕ) → Option (List ℕ) → ℕ → ℕ → ScriptError → Type 0

@@ -9,8 +9,9 @@ use Rattle.bridge_script.specs.declared.faults.ScriptFault.{ScriptFault}
 use Rattle.bridge_script.specs.declared.faults.ScriptError.{ScriptError}
 use Rattle.bridge_script.specs.declared.faults.ScriptError.TheVariants.{OutOfMemory, ReadFault, Refused}
 use Rattle.joint_model.specs.Lines.{IsLine}
+use Rattle.text_words.specs.Words.{words_of}
 use Rattle.bridge_script.specs.Words.{line_text}
-use Rattle.bridge_script.specs.Faults.{PlacedLine, IsFirst, Has, words_of}
+use Rattle.bridge_script.specs.Faults.{PlacedLine, IsFirst, Has}
 
 -- the thread has the line's operation, and each of its places is within its limits
 abbrev pub IsScriptLine : Thread × Act → Type 0

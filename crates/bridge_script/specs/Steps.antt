@@ -6,8 +6,9 @@ use Rattle.joint_model.specs.declared.lines.Act.{Act}
 use Rattle.bridge_script.specs.declared.faults.Cause.{Cause}
 use Rattle.bridge_script.specs.declared.faults.ScriptError.{ScriptError}
 use Rattle.bridge_script.specs.declared.faults.ScriptError.TheVariants.{OutOfMemory, ReadFault, Refused}
+use Rattle.text_words.specs.Words.{words_of}
 use Rattle.bridge_script.specs.Words.{line_text}
-use Rattle.bridge_script.specs.Faults.{WordsHave, PlacedLine, IsFirst, Has, words_of}
+use Rattle.bridge_script.specs.Faults.{WordsHave, PlacedLine, IsFirst, Has}
 use Rattle.bridge_script.specs.Scripts.{IsScriptLine, IsScript, cycles_of}
 
 -- what a reader of a line's text answers: the line that has the text, or its words' first cause

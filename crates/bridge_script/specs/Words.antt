@@ -1,6 +1,6 @@
 -- The words of a script's lines, and what text a line has.
 use Rattle.std.specs.Prelude.{ℕ, min, ◌+◌, List, [], ◌∷◌, ◌++◌, Option, Some, None, codes, decimal}
-use Rattle.std.specs.List.{join_with_byte}
+use Rattle.text_words.specs.Words.{spaced}
 use Rattle.joint_model.specs.declared.names.Var.{Var}
 use Rattle.joint_model.specs.declared.names.StaticNo.{StaticNo}
 use Rattle.joint_model.specs.declared.names.GName.{GName}
@@ -106,10 +106,6 @@ act_words t (act.Slice n) = codes "slice" ∷ decimal n ∷ []
 act_words t act.SweepMark = codes "sweep" ∷ []
 act_words t (act.PhaseLine word) = phase_word_text word ∷ []
 act_words t (act.Finalise n) = codes "finalise" ∷ decimal n ∷ []
-
--- words with one space between each two
-abbrev pub spaced : List (List ℕ) → List ℕ
-spaced words = join_with_byte 32 words
 
 -- the words of a line
 abbrev pub line_words : Thread × Act → List (List ℕ)

@@ -5,8 +5,8 @@ ghost use Rattle.bridge_script.specs.declared.grammar.Operation.{Operation};
 ghost use Rattle.bridge_script.specs.declared.grammar.Place.{Place};
 ghost use Rattle.bridge_script.specs.Grammar.{operation_text, managed_form, peer_form, driver_form, form_of};
 
-use crate::words::is_same;
 use joint_model::{PhaseWord, Thread};
+use text_words::is_same;
 
 /// What a line asks for, without its places. `New` makes a managed object and `NewPeer` a peer.
 #[derive(Clone, Copy)]

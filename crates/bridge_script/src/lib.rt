@@ -14,7 +14,7 @@
 //    prints a script back, and `write_refusal` writes the line that names a fault.
 // 2. `Script::line` gives the lines, counted from 1, to whoever runs them: each is a thread and an `Act` of
 //    `joint_model`, and lawful there. A worker calls `Turnstile::pass` before each.
-// 3. `take_act`, `var`, `number` and their like read such words back, from the `Words` of a line that is a `Stretch` of its text.
+// 3. `take_act`, `var` and their like read such words back, from the `Words` of a line (`text_words`).
 // 4. `add_act`, `add_var` and their like put the words of a line behind a `Line` of `byte_streams`, for a report that has the same words.
 //
 // A `Script` is made by `parse` or of lines that are one, never changes afterwards, and is dropped by the program when it ends.
@@ -41,7 +41,6 @@ mod printing;
 mod reading;
 mod refusals;
 mod scripts;
-mod stretches;
 mod turnstiles;
 mod words;
 
@@ -54,8 +53,5 @@ pub use printing::script_text;
 pub use reading::read_script;
 pub use refusals::write_refusal;
 pub use scripts::{MOST_LINES, Script, parse};
-pub use stretches::Stretch;
 pub use turnstiles::{FreeTurn, Turnstile};
-pub use words::{
-    Words, first_place, first_place_far, is_same, lettered, number, peer_static, thread, var,
-};
+pub use words::{peer_static, thread, var};

@@ -13,9 +13,9 @@ ghost use Rattle.bridge_script.specs.Steps.{ReadsLine};
 use crate::faults::Cause;
 use crate::grammar::{Form, Operation, form_of};
 use crate::operands::{Operand, read_operands, take_operands};
-use crate::stretches::Stretch;
-use crate::words::Words;
+use crate::words::take_thread;
 use joint_model::{Act, Kind, Sort, StaticNo, Thread};
+use text_words::{Stretch, Words};
 
 /// The line that has this text, which is without its newline. Where there is no such line, the first of the causes
 /// that its words have: `Unknown`, `Arity`, `Name`, `Number`, `Limit` or `Kind`.
@@ -23,7 +23,7 @@ pub fn read_line(text: Stretch) -> Result<(Thread, Act), Cause>
     ensures { ReadsLine text.entry result }
 {
     let mut words = Words::of(text);
-    let Some(thread) = words.take_thread() else {
+    let Some(thread) = take_thread(&mut words) else {
         return Err(Cause::Unknown);
     };
     let Some((operation, places)) = take_row(thread, &mut words) else {

@@ -6,11 +6,10 @@ ghost use Rattle.bridge_script.specs.Operands.{ReadsAt, ReadsPlaces, Notes, Stan
 
 use crate::faults::Cause;
 use crate::grammar::Place;
-use crate::words::{
-    Words, cell, global, is_same, managed_static, number, optional, peer_static, var,
-};
+use crate::words::{cell, global, managed_static, optional, peer_static, var};
 use joint_model::{Cell, GName, Kind, Sort, StaticNo, Var};
 use std::marker::Model;
+use text_words::{Words, is_same, number};
 
 /// What a word stands for at its place.
 #[derive(Clone, Copy)]

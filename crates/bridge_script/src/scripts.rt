@@ -8,11 +8,10 @@ ghost use Rattle.bridge_script.specs.Steps.{GainsLine, Stops, EndsLine};
 
 use crate::faults::{Cause, ScriptError, ScriptFault};
 use crate::lines::read_line;
-use crate::stretches::Stretch;
-use crate::words::first_place_far;
 use joint_model::{Act, PhaseWord, Thread, list_with_room};
 use std::alloc::{AllocError, Global};
 use std::marker::Model;
+use text_words::{Stretch, first_place_far};
 
 /// The most bytes of a script.
 pub const MOST_BYTES: usize = 8_388_608;

@@ -17,21 +17,25 @@
 // the sink what was put together, where there is little room left, and `flush` at the end the rest. Numbers that are mostly counted up
 // come from a `Count`, which keeps the decimal text of the last one. `write_text` writes a text that is at hand.
 //
+// `read_up_to` takes all that a source has, but no more than one byte past a limit.
+//
 // Who runs meanwhile: a source is read and a sink written by one thread, and a line is one thread's own.
 //
 // What is promised: a text stands at the sink as a whole, in whatever portions it takes them, or the sink's count of faults rose, and a beginning of
 // the text stands there. Where a source or a sink tells its bytes the clauses say which they are. A line takes no memory from the heap.
 //
-// `specs/Streams.antt` says what a source and a sink are seen to do, `specs/Drafts.antt` what a line holds and has room for, and
-// `specs/Sending.antt` what of a text that is written piece by piece a sink has.
+// `specs/Streams.antt` says what a source and a sink are seen to do, `specs/Reading.antt` what was taken of a source, `specs/Drafts.antt` what a line
+// holds and has room for, and `specs/Sending.antt` what of a text that is written piece by piece a sink has.
 #![tactic(auto)]
 
 mod counts;
 mod drafts;
 mod memory;
+mod reading;
 mod streams;
 
 pub use counts::Count;
 pub use drafts::Line;
 pub use memory::{ByteSink, ByteSource, CountSink, PlainSource};
+pub use reading::{ReadError, read_up_to};
 pub use streams::{Failed, Sink, Source, write_text};

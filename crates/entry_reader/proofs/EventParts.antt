@@ -10,8 +10,9 @@ use Rattle.joint_model.specs.Lines.{IsLine, IsOneEvent, IsThread}
 use Rattle.joint_model.proofs.Deciding.{some-same}
 use Rattle.bridge_script.specs.Words.{act_words}
 use Rattle.history_report.specs.Report.{event_words}
-use Rattle.history_report.proofs.Cutting.{cut-first}
-use Rattle.history_report.proofs.Plain.{plain-event, no-equals}
+use Rattle.text_words.proofs.Cutting.{cut-first}
+use Rattle.text_words.proofs.PlainWords.{no-equals}
+use Rattle.history_report.proofs.Plain.{plain-event}
 use Rattle.entry_reader.specs.declared.events.EventWord.{EventWord}
 use Rattle.entry_reader.specs.declared.events.EventWord.TheVariants as word
 use Rattle.entry_reader.specs.Taking.{Takes}

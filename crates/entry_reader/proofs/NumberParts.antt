@@ -7,8 +7,8 @@ use Rattle.std.proofs.lemmas.List.{map-append}
 use Rattle.std.proofs.lemmas.List.Elements.{recursion_from_All, All-cons, All-head, All-nil, All-push, All-tail, All-weaker}
 use Rattle.joint_model.specs.declared.names.Thread.{Thread}
 use Rattle.bridge_script.specs.Words.{thread_text}
-use Rattle.bridge_script.proofs.Cuts.{cut_at, free_before}
-use Rattle.history_report.proofs.Cutting.{cut-first}
+use Rattle.text_words.proofs.Cuts.{cut_at, free_before}
+use Rattle.text_words.proofs.Cutting.{cut-first}
 use Rattle.history_report.proofs.TextLines.{thread-whole}
 use Rattle.joint_model.proofs.Members.{Rises-push}
 use Rattle.history_report.specs.Lists.{lettered}

@@ -13,13 +13,14 @@ use Rattle.joint_model.specs.Lines.{IsLine, IsNamed, IsThread}
 use Rattle.joint_model.specs.declared.names.Thread.TheVariants.{M, P, C}
 use Rattle.joint_model.specs.declared.lines.Act.{Act}
 use Rattle.joint_model.specs.declared.events.Op.TheVariants as op
-use Rattle.bridge_script.specs.Words.{spaced}
-use Rattle.bridge_script.proofs.Cuts.{split-join}
+use Rattle.text_words.specs.Words.{spaced}
+use Rattle.text_words.proofs.Cuts.{split-join}
 use Rattle.history_report.specs.Report.{event_words, cite_words, place_text, reply_words, list_of}
 use Rattle.history_report.specs.declared.lists.Numbers.{Numbers}
 use Rattle.history_report.specs.declared.lists.Numbers.TheVariants.{Freed, FreedPeers, Notices}
-use Rattle.history_report.proofs.Cutting.{Lacks, every-append}
-use Rattle.history_report.proofs.Plain.{plain-event, plain-reply, plain-listed, plain-cites, plain-place, plain-decimal, no-byte, no-bytes}
+use Rattle.text_words.proofs.Cutting.{Lacks, every-append}
+use Rattle.text_words.proofs.PlainWords.{plain-decimal, no-byte, no-bytes}
+use Rattle.history_report.proofs.Plain.{plain-event, plain-reply, plain-listed, plain-cites, plain-place}
 use Rattle.history_report.proofs.TextLines.{place-one}
 use Rattle.joint_model.specs.declared.names.Span.{Span}
 use Rattle.entry_reader.specs.Fitting.{Short}

@@ -6,7 +6,7 @@ use Rattle.joint_model.specs.declared.events.Reply.TheVariants as reply
 use Rattle.joint_model.specs.declared.events.Entry.{Entry}
 use Rattle.joint_model.specs.Components.{Rises}
 use Rattle.joint_model.specs.Lines.{IsNamed}
-use Rattle.bridge_script.specs.Words.{spaced}
+use Rattle.text_words.specs.Words.{spaced}
 use Rattle.history_report.specs.declared.lists.Numbers.{Numbers}
 use Rattle.history_report.specs.Lists.{listed, letter_of}
 use Rattle.history_report.specs.Report.{event_words, reply_words, list_of, cite_words, place_text}

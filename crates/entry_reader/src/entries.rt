@@ -14,9 +14,9 @@ use crate::events::take_event;
 use crate::lists::NamedLists;
 use crate::numbers::place;
 use crate::tails::read_tail;
-use bridge_script::{Stretch, Words, number};
 use joint_model::{Entry, Made, Op, Thread};
 use std::alloc::AllocError;
+use text_words::{Stretch, Words, number};
 
 // Takes the number of an entry.
 fn take_count(count: u64, words: &mut Words) -> Option<()>

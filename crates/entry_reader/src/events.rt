@@ -18,8 +18,9 @@ ghost use Rattle.entry_reader.specs.declared.events.EventWord.{EventWord};
 ghost use Rattle.entry_reader.specs.Events.{IsEventOf, IsLineEvent, IsOfCycle, IsOfHandle, IsReadable, IsStep, others, step_words, with_cycle, with_handle, word_text};
 
 use crate::numbers::{handle, peer, short};
-use bridge_script::{Words, is_same, number, peer_static, take_act, var};
+use bridge_script::{peer_static, take_act, var};
 use joint_model::{Act, Cycle, HNum, Kind, Op, PNum, PhaseWord, Sort, StaticNo, Thread, Var};
+use text_words::{Words, is_same, number};
 
 /// The sort that a word names.
 pub fn sort(word: &[u8]) -> Option<Sort>

@@ -6,10 +6,10 @@ ghost use Rattle.entry_reader.specs.Meaning.{as_managed, as_peers};
 ghost use Rattle.entry_reader.specs.Listing.{TakesNumber, Puts, TakesList, EndsList};
 
 use crate::replies::read_cites;
-use bridge_script::{Words, is_same, lettered};
 use joint_model::{MNum, PNum, Span};
 use std::alloc::{AllocError, Global};
 use std::marker::Model;
+use text_words::{Words, is_same, lettered};
 
 // Numbers of objects are below this one.
 const SHORT: u64 = 1 << 32;

@@ -9,8 +9,9 @@ ghost use Rattle.joint_model.specs.declared.names.Thread.{Thread};
 ghost use Rattle.history_report.specs.Report.{managed_text, peer_text, handle_text, place_text};
 ghost use Rattle.entry_reader.specs.Fitting.{Short};
 
-use bridge_script::{first_place, lettered, number, thread};
+use bridge_script::thread;
 use joint_model::{HNum, MNum, PNum, Thread};
+use text_words::{first_place, lettered, number};
 
 // Numbers of objects, lines and the like are below this one.
 const SHORT: u64 = 1 << 32;

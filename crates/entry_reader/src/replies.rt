@@ -9,8 +9,8 @@ ghost use Rattle.entry_reader.specs.Replies.{IsPlain, IsManaged, IsPeer, IsHandl
 
 use crate::events::sort;
 use crate::numbers::{handle, managed, peer, short};
-use bridge_script::{Words, is_same, number};
 use joint_model::{Cycle, MNum, Marking, PNum, Phase, Reply};
+use text_words::{Words, is_same, number};
 
 /// A reply, and the entry that its line cites.
 pub type Tail = (Reply, Option<u64>);

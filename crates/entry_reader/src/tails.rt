@@ -11,9 +11,9 @@ use crate::numbers::short;
 use crate::replies::{
     Tail, count_tail, handle_tail, keyed_tail, managed_tail, peer_tail, plain_tail,
 };
-use bridge_script::{Words, is_same};
 use joint_model::{Act, Marking, Op, Reply};
 use std::alloc::AllocError;
+use text_words::{Words, is_same};
 
 // Whether the event takes notices.
 fn takes_notices(op: &Op) -> bool

@@ -1,10 +1,6 @@
 -- The words of an entry before and behind its equals sign are plain: each byte is above the space and isn't the equals
 -- sign. So none has a space or a newline, and none is the equals sign.
-use Rattle.std.proofs.Common.{◌≡◌, ◌≢◌, ℕ, ◌<◌, ◌≤◌, Bool, true, false, cond, not, ◌&&◌, List, [], ◌∷◌, ◌++◌, Option, Some, None, codes, decimal, refl, arith, All}
-use Rattle.std.specs.List.{AllByRecursion, list_all}
-use Rattle.std.proofs.Math.Dec.{eqb, ltb}
-use Rattle.std.proofs.lemmas.Bool.Decides.{nat_tests}
-use Rattle.std.proofs.lemmas.List.Elements.{All-head, All-tail}
+use Rattle.std.proofs.Common.{◌≡◌, ℕ, true, List, [], ◌∷◌, ◌++◌, Option, Some, None, codes, decimal, refl, arith}
 use Rattle.joint_model.specs.declared.names.Var.{Var}
 use Rattle.joint_model.specs.declared.names.StaticNo.{StaticNo}
 use Rattle.joint_model.specs.declared.names.Thread.{Thread}
@@ -26,39 +22,8 @@ use Rattle.joint_model.specs.declared.events.Reply.TheVariants as says
 use Rattle.bridge_script.specs.Words.{thread_text, var_text, optional_text, own_static, kind_text, sort_text, phase_word_text, act_words}
 use Rattle.history_report.specs.Report.{phase_text, event_words, reply_words, cite_words, place_text}
 use Rattle.history_report.specs.Lists.{lettered, listed}
-use Rattle.history_report.proofs.Cutting.{Lacks, every-append}
-use Rattle.history_report.proofs.Digits.{IsDigit, decimal-digits}
-
--- a byte above the space that isn't the equals sign
-abbrev IsPlainByte : ℕ → Type 0
-IsPlainByte b = (32 < b) × (b ≢ 61)
-
-abbrev pub Plain : List ℕ → Type 0
-Plain w = AllByRecursion IsPlainByte w
-
-abbrev pub AllPlain : List (List ℕ) → Type 0
-AllPlain ws = AllByRecursion Plain ws
-
-plain-digits : (ds : List ℕ) → All IsDigit ds → Plain ds
-plain-digits [] h = tt
-plain-digits (d ∷ ds) h = (let k = All-head IsDigit d ds h in (omega (arith, k), λ e. omega (arith, k, e)), plain-digits ds (All-tail IsDigit d ds h))
-
-pub plain-decimal : (n : ℕ) → Plain (decimal n)
-plain-decimal n = plain-digits (decimal n) (decimal-digits n)
-
-abbrev pub is_plain : ℕ → Bool
-is_plain b = cond (ltb 32 b) (not (eqb b 61)) false
-
-plain-byte : (b : ℕ) → is_plain b ≡ true → IsPlainByte b
-plain-byte b e = (grind (arith, nat_tests), grind (arith, nat_tests))
-
-plain-code : (w : List ℕ) → list_all is_plain w ≡ true → Plain w
-plain-code [] e = tt
-plain-code (b ∷ w) e = by (is_plain b) refl e (plain-code w)
-  where
-    by : (t : Bool) → is_plain b ≡ t → (t && list_all is_plain w) ≡ true → (list_all is_plain w ≡ true → Plain w) → Plain (b ∷ w)
-    by true i h more = (plain-byte b i, more h)
-    by false i h more = (let g : ⊥ = cc in absurd g)
+use Rattle.text_words.proofs.Cutting.{every-append}
+use Rattle.text_words.proofs.PlainWords.{IsPlainByte, Plain, AllPlain, is_plain, plain-decimal, plain-code, plain-lettered}
 
 plain-var : (v : Var) → Plain (var_text v)
 plain-var v = ((omega arith, λ e. omega (arith, e)), tt)
@@ -66,10 +31,6 @@ plain-var v = ((omega arith, λ e. omega (arith, e)), tt)
 plain-optional : (v : Option Var) → Plain (optional_text v)
 plain-optional None = plain-code (codes "-") refl
 plain-optional (Some v) = plain-var v
-
--- a letter and a number
-plain-lettered : (b n : ℕ) → is_plain b ≡ true → Plain (b ∷ decimal n)
-plain-lettered b n e = (plain-byte b e, plain-decimal n)
 
 plain-own : (t : Thread) (x : StaticNo) → Plain (own_static t x)
 plain-own (M n) x = plain-lettered 103 x.0 refl
@@ -213,20 +174,3 @@ plain-thread C = plain-code (codes "c") refl
 
 pub plain-place : (t : Thread) (line : ℕ) → Plain (place_text t line)
 plain-place t line = every-append IsPlainByte (thread_text t) (codes "." ++ decimal line) (plain-thread t) (plain-lettered 46 line refl)
-
--- plain words have no space and no newline, and none is the equals sign
-pub no-byte : (c : ℕ) → c ≤ 32 → (w : List ℕ) → Plain w → Lacks c w
-no-byte c l [] h = tt
-no-byte c l (b ∷ w) h = (λ e. omega (arith, l, h.0.0, e), no-byte c l w h.1)
-
-pub no-bytes : (c : ℕ) → c ≤ 32 → (ws : List (List ℕ)) → AllPlain ws → AllByRecursion (Lacks c) ws
-no-bytes c l [] h = tt
-no-bytes c l (w ∷ ws) h = (no-byte c l w h.0, no-bytes c l ws h.1)
-
-not-equals : (w : List ℕ) → Plain w → w ≢ codes "="
-not-equals [] h e = cc
-not-equals (b ∷ w) h e = h.0.1 cc
-
-pub no-equals : (ws : List (List ℕ)) → AllPlain ws → Lacks (codes "=") ws
-no-equals [] h = tt
-no-equals (w ∷ ws) h = (not-equals w h.0, no-equals ws h.1)

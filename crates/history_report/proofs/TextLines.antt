@@ -17,9 +17,10 @@ use Rattle.bridge_script.specs.Words.{thread_text}
 use Rattle.byte_streams.specs.Drafts.{after_spaces}
 use Rattle.history_report.specs.Lists.{list_words}
 use Rattle.history_report.specs.Report.{event_words, reply_words, list_of, shown, cite_words, place_text, head_words, entry_text, entries_text}
-use Rattle.history_report.proofs.Cutting.{Lacks, every-append, cut-first}
-use Rattle.history_report.proofs.Digits.{IsDigit, decimal-digits, decimal-one}
-use Rattle.history_report.proofs.Plain.{AllPlain, plain-listed, plain-event, plain-reply, plain-cites, plain-place, plain-decimal, no-byte, no-bytes, no-equals}
+use Rattle.text_words.proofs.Cutting.{Lacks, every-append, cut-first}
+use Rattle.text_words.proofs.Decimals.{IsDigit, decimal-digits, decimal-one}
+use Rattle.text_words.proofs.PlainWords.{AllPlain, plain-decimal, no-byte, no-bytes, no-equals}
+use Rattle.history_report.proofs.Plain.{plain-listed, plain-event, plain-reply, plain-cites, plain-place}
 
 -- the words of an entry's line, and the line without its newline
 abbrev pub rest_words : Finished → Entry → List (List ℕ)

@@ -24,7 +24,7 @@ use Rattle.joint_model.specs.Linked.{Linkage}
 use Rattle.joint_model.specs.Told.{Told}
 use Rattle.bridge_script.specs.Words.{phase_word_text}
 use Rattle.history_report.specs.Report.{event_words}
-use Rattle.history_report.proofs.Digits.{decimal-one}
+use Rattle.text_words.proofs.Decimals.{decimal-one}
 use Rattle.script_laws.proofs.Reading.{Names, is_word, code}
 use Rattle.script_laws.proofs.Known.{IsBounded, IsKnown, same-event}
 use Rattle.script_laws.proofs.OneNote.{Allowed}

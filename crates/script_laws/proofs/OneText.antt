@@ -23,7 +23,7 @@ use Rattle.joint_model.specs.Run.{thread_number}
 use Rattle.joint_model.specs.Told.{Noted}
 use Rattle.byte_streams.specs.Drafts.{after_spaces}
 use Rattle.history_report.specs.Report.{event_words, reply_words, entries_text, end_text}
-use Rattle.history_report.proofs.Cutting.{cut-first, words-one}
+use Rattle.text_words.proofs.Cutting.{cut-first, words-one}
 use Rattle.script_laws.proofs.Reading.{is_word}
 use Rattle.script_laws.specs.Laws.{HasOneText}
 use Rattle.script_laws.proofs.OneNote.{Agree, Allowed, caller-cites, one-note}

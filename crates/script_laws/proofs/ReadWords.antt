@@ -10,7 +10,7 @@ use Rattle.joint_model.specs.Managed.{Managed, OpenCycle, target_read, cell_read
 use Rattle.joint_model.specs.Readers.{is_set_aside}
 use Rattle.joint_model.proofs.Deciding.{option-cases, test-cases}
 use Rattle.history_report.specs.Report.{reply_words}
-use Rattle.history_report.proofs.Digits.{decimal-one}
+use Rattle.text_words.proofs.Decimals.{decimal-one}
 use Rattle.script_laws.proofs.ReadTelling.{Answered}
 
 -- the answers of a managed state

@@ -1,13 +1,14 @@
 use Rattle.std.proofs.Common.{◌∷◌, sym, ◌∙◌, ap}
 use Rattle.bridge_script.specs.Words.{thread_text}
-use Rattle.bridge_script.specs.Faults.{words_of, Reads}
+use Rattle.text_words.specs.Words.{words_of}
+use Rattle.bridge_script.specs.Faults.{Reads}
 use Rattle.bridge_script.proofs.Readings.{unknown_here, first_behind}
 use Rattle.bridge_script.proofs.Fitting.{places_first, kind_first, line_asked}
 use Rattle.bridge_script.proofs.lines.read_line.Goals as goal
 use Rattle.bridge_script.proofs.lines.read_line.Goals.{After-read_operands}
 
 pub returns-in_default-take_row : goal.returns-in_default-take_row
-returns-in_default-take_row c = unknown_here (words_of c.args.text) c.in-Some.thread c.take_thread.new.self (sym c.of-words.ensures ∙ c.in-Some.ensures.1) c.in-Some.ensures.0 c.in_default-take_row.ensures
+returns-in_default-take_row c = unknown_here (words_of c.args.text) c.in-Some.thread c.take_thread.new.words (sym c.of-words.ensures ∙ c.in-Some.ensures.1) c.in-Some.ensures.0 c.in_default-take_row.ensures
 
 -- how the words of the text begin
 begins : (c : After-read_operands) → Reads (words_of c.args.text) c.in-Some.thread c.in-Some-take_row.operation c.in-Some-take_row.places.now c.take_row.new.words

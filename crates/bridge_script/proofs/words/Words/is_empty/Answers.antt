@@ -1,5 +1,0 @@
-use Rattle.bridge_script.proofs.Cuts.{words_of_done}
-use Rattle.bridge_script.proofs.words.Words.is_empty.Goals as goal
-
-pub returns : goal.returns
-returns c = words_of_done c.self.inside.done c.self.inside.left c.args.self.now c.self.view_is
