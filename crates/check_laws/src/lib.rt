@@ -1,0 +1,37 @@
+// Laws of the order in which a checker of reports tests entries, over the definitions alone.
+#![tactic(auto)]
+
+ghost use Rattle.check_laws.specs.Known.{KnownIsCounted, PendingIsOwed, UnknownIsTested};
+ghost use Rattle.check_laws.specs.Laws.{OrderIsTested, RepliesAreOne};
+ghost use Rattle.check_laws.specs.Worked.{HasTwoReplies};
+
+/// The three tests of an entry, that it is its caller's turn, that it cites what it has to, and that its reply is right, are together the
+/// one test of linked histories.
+pub fn order_is_tested()
+    ensures { OrderIsTested }
+{}
+
+/// But for a refusal, a reply is a function of what came before, and so is what is told of its entry.
+pub fn replies_are_one()
+    ensures { RepliesAreOne }
+{}
+
+/// What a caller knows of later managed entries is told by two counts.
+pub fn known_is_counted()
+    ensures { KnownIsCounted }
+{}
+
+/// What the rules of `pending` and `unset` ask of a whole history is told by two counts of what stands before the read.
+pub fn unknown_is_tested()
+    ensures { UnknownIsTested }
+{}
+
+/// A `pending` of a cycle that isn't snapped yet is right exactly where the next managed entry is that snap.
+pub fn pending_is_owed()
+    ensures { PendingIsOwed }
+{}
+
+/// After the mirror of a cycle without candidates a word may be refused with either of two replies.
+pub fn refusals_have_two_replies()
+    ensures { HasTwoReplies }
+{}
