@@ -1,9 +1,15 @@
 // Laws of the order in which a checker of reports tests entries, over the definitions alone.
 #![tactic(auto)]
 
+mod findings;
+
+ghost use Rattle.check_laws.specs.Found.{HistoryHasOneFinding, LegalIsLinked, LinkedRuns, NamesAreLists};
 ghost use Rattle.check_laws.specs.Known.{KnownIsCounted, PendingIsOwed, UnknownIsTested};
 ghost use Rattle.check_laws.specs.Laws.{OrderIsTested, RepliesAreOne};
+ghost use Rattle.check_laws.specs.Reads.{ReaderOrderIsTested, ReadersAreTested};
 ghost use Rattle.check_laws.specs.Worked.{HasTwoReplies};
+
+pub use findings::{Finding, Why};
 
 /// The three tests of an entry, that it is its caller's turn, that it cites what it has to, and that its reply is right, are together the
 /// one test of linked histories.
@@ -34,4 +40,27 @@ pub fn pending_is_owed()
 /// After the mirror of a cycle without candidates a word may be refused with either of two replies.
 pub fn refusals_have_two_replies()
     ensures { HasTwoReplies }
+{}
+
+/// What a reader's entry may answer over a whole history is told by what stands before it, and by the snap that it waits for. Its turn and what it cites
+/// are tested as those of any other entry.
+pub fn readers_are_tested()
+    ensures order { ReaderOrderIsTested }
+    ensures replies { ReadersAreTested }
+{}
+
+/// A history has one finding.
+pub fn a_history_has_one_finding()
+    ensures { HistoryHasOneFinding }
+{}
+
+/// Where all entries are in order, what the replies name of the history's lists is what was freed and taken.
+pub fn names_are_lists()
+    ensures { NamesAreLists }
+{}
+
+/// A history is legal exactly where it is linked, as far as its replies name its freed lists; and its joint projection is then a run, sound and complete.
+pub fn legal_is_linked()
+    ensures linked { LegalIsLinked }
+    ensures runs { LinkedRuns }
 {}
