@@ -1,0 +1,14 @@
+pub mod Texts
+pub mod Places
+pub mod Lines
+pub mod Named
+pub mod Canonical
+pub mod Sizes
+pub mod Judging
+pub mod Replies
+pub mod Events
+pub mod Once
+pub mod Back
+pub mod Each
+pub mod Finishing
+pub mod Reaching

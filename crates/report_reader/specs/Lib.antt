@@ -1,0 +1,5 @@
+pub mod Causes
+pub mod Reading
+pub mod Faults
+pub mod Laws
+pub mod Steps

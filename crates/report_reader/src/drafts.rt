@@ -1,0 +1,98 @@
+// What was read so far: the entries of the lines, and the lists that they name.
+
+ghost use Rattle.std.specs.Prelude.{◌≡◌, ◌≢◌, ◌+◌, ◌<◌, ◌≤◌, ◌++◌, [], ◌∷◌, All, length, slice_index, IfOk, IfErr, MatchOption};
+ghost use Rattle.joint_model.specs.Histories.{IsHistory};
+ghost use Rattle.report_reader.specs.Steps.{ReadsLine, IsLineError, history_of, no_lists};
+
+use crate::faults::{ReportCause, ReportError, refusal};
+use entry_reader::{NamedLists, read_entry};
+use joint_model::{Entries, History, Holding};
+use std::alloc::{AllocError, Global};
+use std::marker::Model;
+use text_words::{Stretch, first_place_far};
+
+/// The entries that were read, and the numbers that they name.
+#[derive(Drop)]
+pub(crate) struct Draft {
+    entries: Entries,
+    lists: NamedLists,
+}
+
+impl Model for Draft {
+    ghost use Rattle.std.specs.Prelude.{◌≡◌};
+    ghost use Rattle.joint_model.specs.declared.lists.Holding.TheVariants.{Every};
+    ghost use Rattle.report_reader.specs.Steps.{Read};
+
+    ghost Value = { Read };
+
+    ghost view = { λ d. record { entries = d.entries.entries; lists = d.lists } };
+
+    ghost invariant = { λ d. d.entries.holding ≡ Every };
+}
+
+/// The first line without its newline, and what stands behind it; None where there is no newline.
+#[inline(always)]
+pub(crate) fn cut_line<'a>(bytes: &'a [u8]) -> Option<(Stretch<'a>, &'a [u8])>
+    ensures { MatchOption result (All (λ b. b ≢ 10) bytes.now) (λ cut. All (λ b. b ≢ 10) cut.0 × (bytes.now ≡ cut.0 ++ (10 ∷ cut.1.now))) }
+{
+    let len = first_place_far(bytes, b'\n');
+    if len == bytes.len() {
+        return None;
+    }
+    Some((Stretch::of(bytes, len), &bytes[len + 1..]))
+}
+
+impl Draft {
+    /// Nothing yet.
+    pub(crate) fn new(alloc: Global) -> Draft
+        ensures { result ≡ record { entries = []; lists = no_lists } }
+    {
+        Draft {
+            entries: Entries::new(alloc, Holding::Every),
+            lists: NamedLists::new(alloc),
+        }
+    }
+
+    /// How many entries were read.
+    pub(crate) fn len(&self) -> u32
+        ensures { result ≡ length self.now.entries }
+    {
+        self.entries.len()
+    }
+
+    /// Reads the first line as that of the next entry, and answers what stands behind it. The line doesn't begin as a last line does. Where it is no
+    /// entry's, or for want of memory, the draft is of no more use.
+    pub(crate) fn read_line<'a>(&mut self, bytes: &'a [u8]) -> Result<&'a [u8], ReportError>
+        requires some { 0 < length bytes.now }
+        requires not_last { slice_index bytes.now 0 ≢ 101 }
+        requires few { length self.old.entries < 4294967295 }
+        ensures ok { IfOk result (λ left. ReadsLine self.old self.new bytes.now left.now) }
+        ensures err { IfErr result (λ error. IsLineError (length self.old.entries) bytes.now error) }
+    {
+        let before = self.entries.len();
+        let Some((text, left)) = cut_line(bytes) else {
+            return Err(refusal(before, ReportCause::Form));
+        };
+        let Some(entry) = read_entry(text, before as u64, &mut self.lists)? else {
+            return Err(refusal(before, ReportCause::Form));
+        };
+        self.entries.reserve(1)?;
+        self.entries.push_handle(entry);
+        Ok(left)
+    }
+
+    /// The history of what was read. It takes memory for one list's place alone.
+    pub(crate) fn finish(self, alloc: Global) -> Result<History, AllocError>
+        requires { IsHistory (history_of self) }
+        ensures { IfOk result (λ h. h ≡ history_of self) }
+    {
+        let Draft { entries, lists } = self;
+        let (freed_managed, freed_peers, notices) = lists.into_parts();
+        let mut all = Vec::new(alloc);
+        all.push(entries)?;
+        match History::join(alloc, all, freed_managed, freed_peers, notices) {
+            Ok(history) => Ok(history),
+            Err(_) => Err(AllocError),
+        }
+    }
+}
