@@ -1,0 +1,14 @@
+use Rattle.std.proofs.Common.{◌≡◌, ◌++◌, ◌∷◌, [], decimal, ◌∙◌, arith}
+use Rattle.log_text.specs.Text.{mark_text, line_text}
+use Rattle.log_text.proofs.LinesWritten.{line-joined}
+use Rattle.log_text.proofs.writing.add_line.Goals as goal
+
+pub returns : goal.returns
+returns c =
+    let o = c.args.line.now.text in
+    let l = c.args.entry.now in
+    let text : c.text-2.new.self.text ≡ o ++ (line_text l ++ 10 ∷ []) =
+    c.text-2.ensures.added
+    ∙ rw (c.lettered-3.ensures.added, c.decimal-2.ensures.added, c.word-2.ensures.added, c.decimal.ensures.added, c.word.ensures.added, c.lettered-2.ensures.added, c.lettered.ensures.added, c.text.ensures.added, c.text_of.ensures)
+    (line-joined o (mark_text l.mark) (decimal l.h.0) (decimal l.p.0) (decimal l.grefc) (decimal l.gwrefc) (decimal l.entry)) in
+    record { added = text; left = omega (arith, c.text_of.ensures) }

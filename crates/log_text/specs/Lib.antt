@@ -1,0 +1,6 @@
+pub mod Behind
+pub mod Text
+pub mod Faults
+pub mod Live
+pub mod Taking
+pub mod Laws
