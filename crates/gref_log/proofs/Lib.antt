@@ -1,0 +1,4 @@
+pub mod TableSteps
+pub mod Going
+pub mod PeerLines
+pub mod Counting
