@@ -1,8 +1,9 @@
 -- What the managed side keeps along a past whose entries come and whose reads, where they aren't set aside, answer as the managed state does; and what
 -- each entry does to cells, freed objects and cycles: a cell once set keeps its target, which was live when it was set; what was freed stays so; and a
 -- snapshot, a resolution and an abandonment are of a cycle that was counted by then.
-use Rattle.std.proofs.Common.{◌≡◌, ◌⊎◌, inl, inr, ℕ, zero, suc, ◌+◌, ◌≤◌, Bool, true, false, List, [], ◌∷◌, ◌++◌, Option, Some, None, refl, sym, ap, ◌∙◌, subst, arith}
+use Rattle.std.proofs.Common.{◌≡◌, ◌⊎◌, inl, inr, ℕ, zero, suc, ◌+◌, ◌≤◌, Bool, true, false, List, [], ◌∷◌, ◌++◌, length, Option, Some, None, refl, sym, ap, ◌∙◌, subst, arith}
 use Rattle.std.specs.Prelude.{Contains, if◌then◌else◌, slice_set}
+use Rattle.std.proofs.Math.ListN.{length-set}
 use Rattle.std.proofs.lemmas.List.Elements.{Contains-append_left, Contains-append_right}
 use Rattle.joint_model.specs.declared.names.Thread.{Thread}
 use Rattle.joint_model.specs.declared.names.Thread.TheVariants.{M, P, C}
@@ -97,10 +98,10 @@ kept (n ∷ past) w r = kept-on (state_of past) n w.0 r.0 (kept past w.1 r.1)
 
 -- what an event does to the cells
 abbrev pub SetsOne : Managed → List (Option ℕ) → Type 0
-SetsOne s cells = (c : ℕ) → (slot cells c ≡ slot s.cells c) ⊎ ((x : ℕ) × (slot s.cells c ≡ None) × (slot cells c ≡ Some x) × IsManagedRoot s x)
+SetsOne s cells = (length cells ≡ length s.cells) × ((c : ℕ) → (slot cells c ≡ slot s.cells c) ⊎ ((x : ℕ) × (slot s.cells c ≡ None) × (slot cells c ≡ Some x) × IsManagedRoot s x))
 
 same-cells : (s : Managed) (cells : List (Option ℕ)) → cells ≡ s.cells → SetsOne s cells
-same-cells s cells e c = inl (ap (λ z. slot z c) e)
+same-cells s cells e = (ap length e, λ c. inl (ap (λ z. slot z c) e))
 
 set-slot : (cells : List (Option ℕ)) (k c x : ℕ) → (slot (slice_set cells k (Some x)) c ≡ slot cells c) ⊎ ((k ≡ c) × (slot (slice_set cells k (Some x)) c ≡ Some x))
 set-slot [] k c x = inl refl
@@ -111,8 +112,8 @@ set-slot (y ∷ ys) (suc k) (suc c) x = elim (set-slot ys k c x) [ inl e ↦ inl
 
 module _ (s : Managed) where
   one-set : (k x : ℕ) (o : Option ℕ) → slot s.cells k ≡ o → IsManagedRoot s x → SetsOne s (cell_set s k x o).state.cells
-  one-set k x None e r c = elim (set-slot s.cells k c x) [ inl q ↦ inl q | inr q ↦ inr (x, ap (λ z. slot s.cells z) (sym q.0) ∙ e, q.1, r) ]
-  one-set k x (Some y) e r c = inl refl
+  one-set k x None e r = (length-set s.cells k (Some x), λ c. elim (set-slot s.cells k c x) [ inl q ↦ inl q | inr q ↦ inr (x, ap (λ z. slot s.cells z) (sym q.0) ∙ e, q.1, r) ])
+  one-set k x (Some y) e r = (refl, λ c. inl refl)
 
   weak-set : (k v : ℕ) → SetsOne s (weakened_to s k v).state.cells
   weak-set k v = by (slot s.heap.vars v) refl
@@ -189,9 +190,10 @@ pub record Since (s t : Managed) : Type 0 where
   pub was_live : (c x : ℕ) → slot t.cells c ≡ Some x → (slot s.cells c ≡ Some x) ⊎ (Contains s.heap.freed x → ⊥)
   pub freed : (x : ℕ) → Contains s.heap.freed x → Contains t.heap.freed x
   pub cycles : s.cycles ≤ t.cycles
+  pub long : length t.cells ≡ length s.cells
 
 pub since-same : (s : Managed) → Since s s
-since-same s = record { stay = λ c x e. e; was_live = λ c x e. inl e; freed = λ x c. c; cycles = omega arith }
+since-same s = record { stay = λ c x e. e; was_live = λ c x e. inl e; freed = λ x c. c; cycles = omega arith; long = refl }
 
 pub since-then : (s t u : Managed) → Since s t → Since t u → Since s u
 since-then s t u a b = record {
@@ -199,6 +201,7 @@ since-then s t u a b = record {
   was_live = λ c x e. elim (b.was_live c x e) [ inl q ↦ a.was_live c x q | inr q ↦ inr (λ f. q (a.freed x f)) ];
   freed = λ x f. b.freed x (a.freed x f);
   cycles = (let p = a.cycles in let q = b.cycles in omega (arith, p, q));
+  long = b.long ∙ a.long;
 }
 
 grows : (s t : Managed) → ManagedStep s t → ((x : ℕ) → Contains s.heap.freed x → Contains t.heap.freed x) × (s.cycles ≤ t.cycles)
@@ -209,10 +212,11 @@ grows s t (abandoning p) = (λ x f. subst (λ (z : Managed). Contains z.heap.fre
 
 pub since-entry : (s : Linkage) (n : Noted) → MayCome s n → IsReplayKept s.managed → Since s.managed.managed (linkage_after s n).managed.managed
 since-entry s n w k = record {
-  stay = λ c x e. elim (sets c) [ inl q ↦ q ∙ e | inr q ↦ absurd (let f = sym q.1 ∙ e in cc) ];
-  was_live = λ c x e. elim (sets c) [ inl q ↦ inl (sym q ∙ e) | inr q ↦ inr (λ f. (k.managed.roots q.0 q.3).kept (subst (λ z. Contains s.managed.managed.heap.freed z) (one x q.0 (sym e ∙ q.2)) f)) ];
+  stay = λ c x e. elim (sets.1 c) [ inl q ↦ q ∙ e | inr q ↦ absurd (let f = sym q.1 ∙ e in cc) ];
+  was_live = λ c x e. elim (sets.1 c) [ inl q ↦ inl (sym q ∙ e) | inr q ↦ inr (λ f. (k.managed.roots q.0 q.3).kept (subst (λ z. Contains s.managed.managed.heap.freed z) (one x q.0 (sym e ∙ q.2)) f)) ];
   freed = g.0;
   cycles = g.1;
+  long = sets.0;
 }
   where
     sets : SetsOne s.managed.managed (linkage_after s n).managed.managed.cells
@@ -228,7 +232,7 @@ pub since-on : (s : Linkage) (n : Noted) → ComesBehind (is_read n.entry.made.o
 since-on s n w k = by (is_read n.entry.made.op) refl w
   where
     by : (b : Bool) → is_read n.entry.made.op ≡ b → ComesBehind b s n → Since s.managed.managed (entry_after s n).managed.managed
-    by true e w = subst (λ (z : Linkage). Since s.managed.managed z.managed.managed) (sym (after-read s n e)) (record { stay = λ c x q. q; was_live = λ c x q. inl q; freed = λ x c. c; cycles = omega arith })
+    by true e w = subst (λ (z : Linkage). Since s.managed.managed z.managed.managed) (sym (after-read s n e)) (record { stay = λ c x q. q; was_live = λ c x q. inl q; freed = λ x c. c; cycles = omega arith; long = refl })
     by false e w = subst (λ (z : Linkage). Since s.managed.managed z.managed.managed) (sym (after-other s n e)) (since-entry s n w k)
 
 -- the end of a past
@@ -294,7 +298,7 @@ freed-in (m ∷ past) w r n x (inl e) f = frees-on (state_of past) m x w.0 (subs
 freed-in (m ∷ past) w r n x (inr i) f = (since-on (state_of past) m w.0 (kept past w.1 r.1)).freed x (freed-in past w.1 r.1 n x i f)
 
 -- an entry of a kind that no read is comes as any does
-comes-other : (s : Linkage) (n : Noted) (o : Op) → n.entry.made.op ≡ o → is_read o ≡ false → ComesBehind (is_read n.entry.made.op) s n → MayCome s n
+pub comes-other : (s : Linkage) (n : Noted) (o : Op) → n.entry.made.op ≡ o → is_read o ≡ false → ComesBehind (is_read n.entry.made.op) s n → MayCome s n
 comes-other s n o e f w = subst (λ b. ComesBehind b s n) (ap is_read e ∙ f) w
 
 -- a snapshot opens the next cycle, where none is open
@@ -326,21 +330,21 @@ snap-counted (m ∷ past) w r n k (inr i) e = (let l = snap-counted past w.1 r.1
 abbrev pub Ends : Op → ℕ → Type 0
 Ends o k = (o ≡ op.Resolve record { 0 = k }) ⊎ (o ≡ op.Abandon record { 0 = k })
 
-resolve-open : (s : Linkage) (m : Made) (told : Told) (o : Op) (k : ℕ) → m.op ≡ o → o ≡ op.Resolve record { 0 = k } → SideLawful (is_peer_event m.caller m.op) s m told → (c : OpenCycle) × (s.managed.managed.cycle ≡ Some c) × (c.number ≡ k)
+pub resolve-open : (s : Linkage) (m : Made) (told : Told) (o : Op) (k : ℕ) → m.op ≡ o → o ≡ op.Resolve record { 0 = k } → SideLawful (is_peer_event m.caller m.op) s m told → (c : OpenCycle) × (s.managed.managed.cycle ≡ Some c) × (c.number ≡ k)
 resolve-open s m told o k e f l = by told (subst (λ z. SideLawful (is_peer_event m.caller z) s (record m { op = z }) told) (e ∙ f) l)
   where
     by : (told : Told) → ManagedLawful s.managed (record m { op = op.Resolve record { 0 = k } }) told → (c : OpenCycle) × (s.managed.managed.cycle ≡ Some c) × (c.number ≡ k)
     by (resolution_of alive freed) w = (w.allowed.cycle, w.allowed.open_cycle.0, w.allowed.open_cycle.1)
     by _ w = absurd w.allowed
 
-abandon-open : (s : Linkage) (m : Made) (told : Told) (o : Op) (k : ℕ) → m.op ≡ o → o ≡ op.Abandon record { 0 = k } → SideLawful (is_peer_event m.caller m.op) s m told → (c : OpenCycle) × (s.managed.managed.cycle ≡ Some c) × (c.number ≡ k)
+pub abandon-open : (s : Linkage) (m : Made) (told : Told) (o : Op) (k : ℕ) → m.op ≡ o → o ≡ op.Abandon record { 0 = k } → SideLawful (is_peer_event m.caller m.op) s m told → (c : OpenCycle) × (s.managed.managed.cycle ≡ Some c) × (c.number ≡ k)
 abandon-open s m told o k e f l = by told (subst (λ z. SideLawful (is_peer_event m.caller z) s (record m { op = z }) told) (e ∙ f) l)
   where
     by : (told : Told) → ManagedLawful s.managed (record m { op = op.Abandon record { 0 = k } }) told → (c : OpenCycle) × (s.managed.managed.cycle ≡ Some c) × (c.number ≡ k)
     by nothing w = (w.allowed.0, w.allowed.1.0, w.allowed.1.1)
     by _ w = absurd w.allowed
 
-end-is : (s : Linkage) (n : Noted) (k : ℕ) → ComesBehind (is_read n.entry.made.op) s n → IsReplayKept s.managed → Ends n.entry.made.op k → k ≡ s.managed.managed.cycles
+pub end-is : (s : Linkage) (n : Noted) (k : ℕ) → ComesBehind (is_read n.entry.made.op) s n → IsReplayKept s.managed → Ends n.entry.made.op k → k ≡ s.managed.managed.cycles
 end-is s n k w p (inl e) = (let c = resolve-open s n.entry.made n.told n.entry.made.op k refl e (comes-other s n _ e refl w).lawful in let l = (p.managed.dead c.0 c.1).latest in sym c.2 ∙ l)
 end-is s n k w p (inr e) = (let c = abandon-open s n.entry.made n.told n.entry.made.op k refl e (comes-other s n _ e refl w).lawful in let l = (p.managed.dead c.0 c.1).latest in sym c.2 ∙ l)
 

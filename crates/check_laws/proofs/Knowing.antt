@@ -32,10 +32,10 @@ seen-all (n ∷ h) t = by (seen-all h t) (is_thread n.entry.made.caller t)
     by l false = omega (arith, l)
 
 -- one step of both counts
-below-past : (n : Noted) (h : List Noted) (w : ℕ) → length h < w → count_below (n ∷ h) w ≡ managed_count (n ∷ h)
+pub below-past : (n : Noted) (h : List Noted) (w : ℕ) → length h < w → count_below (n ∷ h) w ≡ managed_count (n ∷ h)
 below-past n h w l = let e : nat_lt (length h) w ≡ true = grind (arith, nat_tests) in ap (λ b. if b then managed_count (n ∷ h) else count_below h w) e
 
-below-same : (n : Noted) (h : List Noted) (w : ℕ) → w ≤ length h → count_below (n ∷ h) w ≡ count_below h w
+pub below-same : (n : Noted) (h : List Noted) (w : ℕ) → w ≤ length h → count_below (n ∷ h) w ≡ count_below h w
 below-same n h w l = let e : nat_lt (length h) w ≡ false = grind (arith, nat_tests) in ap (λ b. if b then managed_count (n ∷ h) else count_below h w) e
 
 pub split : (a b : ℕ) → (a < b) ⊎ (b ≤ a)

@@ -94,7 +94,7 @@ goes-on s t list n count w a = by a.named
         }
 
 -- what is told of an entry that frees no object, or no peer
-abbrev NoObjects : Told → Type 0
+abbrev pub NoObjects : Told → Type 0
 NoObjects (snap_of freed candidates dead) = ⊥
 NoObjects (resolution_of answers freed) = ⊥
 NoObjects _ = Unit {0}
@@ -144,7 +144,7 @@ managed-peers s (op.Line x) (sweep_of f) a = a
 managed-peers s o (sweep_of f) a = a
 managed-peers s o _ a = tt
 
-managed-none : (s : ManagedReplay) (t : Thread) (o : Op) (told : Told) → NoObjects told → IsReplayKept s → (managed_answer s t o told).state.managed.heap.freed ≡ s.managed.heap.freed
+pub managed-none : (s : ManagedReplay) (t : Thread) (o : Op) (told : Told) → NoObjects told → IsReplayKept s → (managed_answer s t o told).state.managed.heap.freed ≡ s.managed.heap.freed
 managed-none s t (op.Line a) told w k = (managed_line-goes_on s.managed (thread_number t) a k.managed.places k.managed.cells).freed
 managed-none s t (op.Adopt v kind n p h) told w k =
     let a = adopted s.managed (place (thread_number t) v.0) kind n h.0 in

@@ -1,8 +1,23 @@
-// Laws of the order in which a checker of reports tests entries, over the definitions alone.
+// Laws for a checker of histories, over the definitions alone: what a history is found to be, and that this is what linked histories ask.
+//
+// A history may come from anywhere. Of each entry three tests are made, in this order: is it its caller's turn, does it cite what it has to, and does it answer,
+// free and take what it may. The first entry that fails one is what the history is found to be illegal by; where none fails, and nothing has to follow, it is
+// legal, and else unfinished.
+//
+// `specs/` read alone tells what is true: Order has the three tests in a state, Behind of an entry behind a past, and Found what a history is found to be. Laws,
+// Reads, Known and Counts have the laws on the way:
+//
+// - the three tests are nothing else than "may come next", and but for refusals what an entry answers is one;
+// - what a read may answer over a whole history is told by what stands before it and by the snap that a `pending` waits for, and that by a few counts of
+//   managed entries: at a caller's last entry, at a cycle's end, at the setting of a cell;
+// - a history has one finding, and it is legal exactly where it is linked, as far as its replies name its freed lists.
+//
+// No value is made but a finding, and nothing runs.
 #![tactic(auto)]
 
 mod findings;
 
+ghost use Rattle.check_laws.specs.Counts.{ReadsAreCounted};
 ghost use Rattle.check_laws.specs.Found.{HistoryHasOneFinding, LegalIsLinked, LinkedRuns, NamesAreLists};
 ghost use Rattle.check_laws.specs.Known.{KnownIsCounted, PendingIsOwed, UnknownIsTested};
 ghost use Rattle.check_laws.specs.Laws.{OrderIsTested, RepliesAreOne};
@@ -47,6 +62,12 @@ pub fn refusals_have_two_replies()
 pub fn readers_are_tested()
     ensures order { ReaderOrderIsTested }
     ensures replies { ReadersAreTested }
+{}
+
+/// What a read may answer that is set aside is told by counts: how many managed entries there were at its caller's last entry, with the end of each cycle, and
+/// with the setting of each cell.
+pub fn reads_are_counted()
+    ensures { ReadsAreCounted }
 {}
 
 /// A history has one finding.
