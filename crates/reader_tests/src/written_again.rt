@@ -47,3 +47,37 @@ fn worked_reports_are_written_again(rt: HostRuntime) -> Result<(), Fail> {
     expect_each(&rt, alloc, GAP_REPORTS)?;
     Ok(())
 }
+
+// The report of so many cycles over nothing.
+fn cycles(alloc: Global, count: u64) -> Result<String, AllocError>
+    requires { count ≤ 256 }
+{
+    let mut text = String::new(alloc);
+    for i in 0..count {
+        let (n, k) = (i * 7, i + 1);
+        let lines = format!(in alloc;
+            "{n} c.{k} snap {k} = 0 freed -\n{} c.{k} contract {k} = 0 sccs 0 xrefs\n{} c.{k} mirror {k} = 0 refs @{n}\n{} c.{k} begin = {k}\n{} c.{k} sweep = {k} freed -\n{} c.{k} clear {k} = ok\n{} c.{k} resolve {k} = freed - @{}\n",
+            n + 1,
+            n + 2,
+            n + 3,
+            n + 4,
+            n + 5,
+            n + 6,
+            n + 5
+        )?;
+        text.push_str(lines.as_str())?;
+    }
+    let end = format!(in alloc; "end {}\n", count * 7)?;
+    text.push_str(end.as_str())?;
+    Ok(text)
+}
+
+#[test]
+fn a_report_of_many_cycles_is_written_again(rt: HostRuntime) -> Result<(), Fail> {
+    let text = cycles(rt.alloc(), 256)?;
+    let bytes = text.as_str().as_bytes();
+    // so long is the report of the script that has 256 lines of a cycle each
+    assert_eq!(&rt; bytes.len(), 55_693);
+    expect_again(&rt, rt.alloc(), bytes)?;
+    Ok(())
+}
