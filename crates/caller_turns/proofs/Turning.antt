@@ -1,7 +1,8 @@
 -- The tests over what is kept are the first two of an entry, case by case; and what is kept goes on as the control does.
 use Rattle.std.proofs.Common.{◌≡◌, ℕ, zero, suc, ◌+◌, Bool, true, false, List, [], ◌∷◌, ◌++◌, length, map, Option, Some, None, refl, sym, ap, ◌∙◌, subst, arith, length-append}
 use Rattle.std.proofs.lemmas.List.{map-set}
-use Rattle.std.specs.Prelude.{◌↔◌, slice_get, slice_set, is_some}
+use Rattle.std.proofs.lemmas.List.Elements.{All-contains}
+use Rattle.std.specs.Prelude.{◌↔◌, slice_get, slice_set, is_some, All}
 use Rattle.joint_model.specs.declared.names.HNum.{HNum}
 use Rattle.joint_model.specs.declared.names.Phase.{Phase}
 use Rattle.joint_model.specs.declared.names.Phase.TheVariants as at
@@ -18,11 +19,12 @@ use Rattle.joint_model.specs.Linked.{Linkage}
 use Rattle.joint_model.specs.Managed.{Managed, candidates_of}
 use Rattle.joint_model.specs.PeerReplay.{Marking}
 use Rattle.joint_model.specs.Told.{Told, Answer, contraction_of, phase_of}
+use Rattle.joint_model.proofs.Members.{All-members, Contains-at, at-Contains, Contains-map, Contains-map_cases}
 use Rattle.check_laws.specs.Order as order
 use Rattle.check_laws.specs.Order.{IsTurn}
 use Rattle.caller_turns.specs.declared.stands.Part.{Part}
 use Rattle.caller_turns.specs.declared.stands.Stand.TheVariants as stand
-use Rattle.caller_turns.specs.Shapes.{hand_of, open_of, stand_of, callers_of, next_place, IsPartOf, TurnsAreTested, TellsPhase, CallersGoOn}
+use Rattle.caller_turns.specs.Shapes.{hand_of, open_of, stand_of, callers_of, next_place, IsPartOf, TurnsAreTested, TellsPhase, CallersGoOn, WholeIsTested}
 use Rattle.caller_turns.specs.Turns.{MayBegin, HandTurn, IsResting, DriverTurn, CallersTurn, hand_after, seen_after, stand_after}
 
 -- the half of an operation
@@ -164,3 +166,34 @@ callers_on k n (M u) l o reply told phase t = λ i. record {
 }
 callers_on k n (P u) l o reply told phase t = refl
 callers_on k n C l o reply told phase t = λ i. record { hands = map hand_of k.doing; lines = slice_set k.lines 0 l; stand = stand-on k.stand n o reply told phase t i }
+
+-- nothing has to follow
+done-tested : (d : control.Doing) → MayBegin (hand_of d) ↔ control.IsDone d
+done-tested control.free = (λ z. z, λ z. z)
+done-tested (control.made n line p h sort f) = (λ z. z, λ z. z)
+done-tested (control.lent n line h x) = (λ z. z, λ z. z)
+done-tested (control.gripped n line p h sort f) = (λ z. z, λ z. z)
+done-tested (control.given n line h) = (λ z. z, λ z. z)
+done-tested (control.met n line h) = (λ z. z, λ z. z)
+
+abbrev DoneAt : List control.Doing → ℕ → Type 0
+DoneAt ds t = control.IsDone (elim (slice_get ds t) [ None ↦ control.free | Some d ↦ d ])
+
+all-done : (ds : List control.Doing) → All MayBegin (map hand_of ds) → (t : ℕ) → DoneAt ds t
+all-done ds a t = by (slice_get ds t) refl
+  where
+    by : (o : Option control.Doing) → slice_get ds t ≡ o → control.IsDone (elim o [ None ↦ control.free | Some d ↦ d ])
+    by None e = tt
+    by (Some d) e = (done-tested d).0 (All-contains MayBegin (map hand_of ds) (hand_of d) a (Contains-map hand_of ds d (Contains-at ds t d e)))
+
+done-all : (ds : List control.Doing) → ((t : ℕ) → DoneAt ds t) → All MayBegin (map hand_of ds)
+done-all ds a = All-members MayBegin (map hand_of ds) (λ x c.
+    let m = Contains-map_cases hand_of ds x c in
+    let i = at-Contains ds m.0 m.1 in
+    subst MayBegin m.2 ((done-tested m.0).1 (subst (λ (o : Option control.Doing). control.IsDone (elim o [ None ↦ control.free | Some d ↦ d ])) i.1 (a i.0))))
+
+pub whole_tested : WholeIsTested
+whole_tested s candidates e = (
+  λ z. record { threads = all-done s.control.doing z.hands; driver = (subst (λ c. IsResting (stand_of s.control.stand) candidates ↔ IsAtRest s.control.stand c) e (rest-tested s.control.stand candidates)).0 z.driver },
+  λ w. record { hands = done-all s.control.doing w.threads; driver = (subst (λ c. IsResting (stand_of s.control.stand) candidates ↔ IsAtRest s.control.stand c) e (rest-tested s.control.stand candidates)).1 w.driver },
+)

@@ -9,7 +9,7 @@ use Rattle.joint_model.specs.declared.events.Op.TheVariants as op
 use Rattle.joint_model.specs.declared.events.Reply.{Reply}
 use Rattle.joint_model.specs.Control as control
 use Rattle.joint_model.specs.Control.{Control, control_after, IsCandidateHandle}
-use Rattle.joint_model.specs.Linked.{Linkage}
+use Rattle.joint_model.specs.Linked.{Linkage, IsWhole}
 use Rattle.joint_model.specs.Managed.{candidates_of}
 use Rattle.joint_model.specs.Told.{Told, contraction_of, phase_of}
 use Rattle.check_laws.specs.Order.{IsTurn, CitesSo}
@@ -19,7 +19,7 @@ use Rattle.caller_turns.specs.declared.stands.OpenSnap.{OpenSnap}
 use Rattle.caller_turns.specs.declared.stands.Part.{Part}
 use Rattle.caller_turns.specs.declared.stands.Stand.{Stand}
 use Rattle.caller_turns.specs.declared.stands.Stand.TheVariants as stand
-use Rattle.caller_turns.specs.Turns.{Callers, IsTheirTurn, CitesIn, callers_after}
+use Rattle.caller_turns.specs.Turns.{Callers, IsTheirTurn, CitesIn, AreDone, callers_after}
 
 -- the half of an operation as it is kept
 abbrev pub hand_of : control.Doing → Doing
@@ -76,3 +76,7 @@ TellsPhase _ told phase = Unit {0}
 abbrev pub CallersGoOn : Type 0
 CallersGoOn = (k : Control) (n : ℕ) (t : Thread) (l : ℕ) (o : Op) (reply : Reply) (told : Told) (phase : Phase) → TellsPhase o told phase
     → callers_after (callers_of k) n t l o reply phase ≡ callers_of (control_after k t n l o reply told)
+
+-- nothing has to follow by what is kept exactly where nothing has to in the state
+abbrev pub WholeIsTested : Type 0
+WholeIsTested = (s : Linkage) (candidates : ℕ) → candidates ≡ length (candidates_of s.managed.managed) → AreDone (callers_of s.control) candidates ↔ IsWhole s

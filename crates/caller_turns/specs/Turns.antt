@@ -1,5 +1,5 @@
 -- Whose turn it is and what an entry cites, over what is kept of callers.
-use Rattle.std.specs.Prelude.{◌≡◌, ℕ, ◌+◌, ◌<◌, ◌≤◌, ◌⊎◌, Bool, true, false, List, slice_set, slice_index, slice_get, Option, Some, None}
+use Rattle.std.specs.Prelude.{◌≡◌, ℕ, ◌+◌, ◌<◌, ◌≤◌, ◌⊎◌, Bool, true, false, List, All, slice_set, slice_index, slice_get, Option, Some, None}
 use Rattle.joint_model.specs.declared.names.HNum.{HNum}
 use Rattle.joint_model.specs.declared.names.Kind.{Kind}
 use Rattle.joint_model.specs.declared.names.Phase.{Phase}
@@ -225,3 +225,8 @@ abbrev pub HasCount : Stand → Type 0
 HasCount (stand.Weakening o count weakened swept) = count < 4294967295
 HasCount (stand.Restoring o count) = count < 4294967295
 HasCount _ = Unit {0}
+
+-- nothing has to follow: no handle of a thread waits for its release, and no phase is half done
+pub record AreDone (c : Callers) (candidates : ℕ) : Type 0 where
+  pub hands : All MayBegin c.hands
+  pub driver : IsResting c.stand candidates

@@ -7,8 +7,8 @@ use crate::hands::cites_entry;
 use crate::stands::{OpenSnap, Part, Stand};
 use joint_model::{Cycle, HNum, Op, Phase};
 
-// Whether no phase is half done.
-fn is_resting(stand: &Stand, candidates: u32) -> bool
+/// Whether no phase is half done, with so many candidates.
+pub(crate) fn is_resting(stand: &Stand, candidates: u32) -> bool
     ensures { IsTrue result ↔ IsResting stand.now candidates }
 {
     match *stand {

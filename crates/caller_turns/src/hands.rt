@@ -17,8 +17,8 @@ pub(crate) fn cites_entry(cites: Option<u64>, number: u64) -> bool
     }
 }
 
-// Whether an operation may begin.
-fn may_begin(doing: &Doing) -> bool
+/// Whether an operation may begin: no handle waits for its release.
+pub(crate) fn may_begin(doing: &Doing) -> bool
     ensures { IsTrue result ↔ MayBegin doing.now }
 {
     !matches!(doing, Doing::Given { .. } | Doing::Met { .. })

@@ -25,6 +25,6 @@ mod roles;
 mod stands;
 mod turns;
 
-pub use laws::{callers_go_on, cites_are_tested, turns_are_tested};
+pub use laws::{callers_go_on, cites_are_tested, turns_are_tested, whole_is_tested};
 pub use stands::{Doing, OpenSnap, Part, Stand};
 pub use turns::Turns;

@@ -4,10 +4,10 @@ ghost use Rattle.std.specs.Prelude.{◌≡◌, ◌<◌, ◌≤◌, ◌↔◌, Is
 ghost use Rattle.joint_model.specs.Control.{caller_place, opening_control};
 ghost use Rattle.joint_model.specs.Lines.{IsNamed, IsThread};
 ghost use Rattle.caller_turns.specs.Shapes.{callers_of};
-ghost use Rattle.caller_turns.specs.Turns.{CallersTurn, CitesIn, HasCount, IsTheirTurn, callers_after, hand_at};
+ghost use Rattle.caller_turns.specs.Turns.{AreDone, CallersTurn, CitesIn, HasCount, IsTheirTurn, callers_after, hand_at};
 
-use crate::driver::{after, driver_cites, driver_turn};
-use crate::hands::{after as hand_after, hand_cites, hand_turn};
+use crate::driver::{after, driver_cites, driver_turn, is_resting};
+use crate::hands::{after as hand_after, hand_cites, hand_turn, may_begin};
 use crate::roles::is_event;
 use crate::stands::{Doing, Part, Stand};
 use joint_model::{Entry, Op, Phase, Thread};
@@ -103,6 +103,13 @@ impl Turns {
             Thread::P(_) => cites.is_none(),
             Thread::C => driver_cites(&self.stand, op, cites),
         }
+    }
+
+    /// Whether nothing has to follow: no handle of a managed thread waits for its release, and no phase is half done, with so many candidates.
+    pub fn is_done(&self, candidates: u32) -> bool
+        ensures { IsTrue result ↔ AreDone self.now candidates }
+    {
+        self.hands.iter().all(|hand| may_begin(hand)) && is_resting(&self.stand, candidates)
     }
 
     /// Keeps what the entry changes. A word that was refused was so in that phase.
