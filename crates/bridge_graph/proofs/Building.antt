@@ -60,7 +60,7 @@ joins_more nodes node l j = record {
 }
 
 pub building-node : (nodes : List Node) (heads : List ℕ) (links : List Link) (follows targets : List ℕ) (space : ℕ) (node : Node)
-    → IsBuilding nodes heads links follows targets space → All (λ n. n.number.0 < node.number.0) nodes → length nodes < 65535
+    → IsBuilding nodes heads links follows targets space → All (λ n. n.number.0 < node.number.0) nodes → length nodes < 4294967294
     → IsBuilding (nodes ++ node ∷ []) (heads ++ 4294967295 ∷ []) links follows targets space
 building-node nodes heads links follows targets space node b r f = record {
   rising = rw (map_push (λ (n : Node). n.number.0) nodes node)

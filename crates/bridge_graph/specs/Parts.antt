@@ -39,13 +39,13 @@ pub record IsBridgeNode (nodes : List Node) (x : ℕ) : Type 0 where
   pub held : IsSome node.handle
 
 -- what every part keeps: a row for each node, edges to nodes of the part, rising numbers, opaque nodes
--- without an edge, and fewer than 65,536 nodes
+-- without an edge, and fewer than 4,294,967,295 nodes
 pub record IsPart (nodes : List Node) (edges : List (List ℕ)) : Type 0 where
   pub rows : length edges ≡ length nodes
   pub in_range : (x y : ℕ) → NodeLeads edges x y → y < length nodes
   pub rising : Rises (numbers_of nodes)
   pub opaque_rows : (x : ℕ) → opaque_at nodes x ≡ true → row_at edges x ≡ []
-  pub few : length nodes < 65536
+  pub few : length nodes < 4294967295
 
 -- there is a node with that index, and P holds of it
 abbrev pub HasNode : List Node → ℕ → (Node → Type 0) → Type 0

@@ -90,7 +90,7 @@ impl GraphBuilder {
         opaque: bool,
     ) -> Result<u32, AllocError>
         requires rising { All (λ n. n.number.0 < number.0) self.old.nodes }
-        requires few { length self.old.nodes < 65535 }
+        requires few { length self.old.nodes < 4294967294 }
         ensures index { IfOk result (λ i. i ≡ length self.old.nodes) }
         ensures nodes { OnOk result (self.new.nodes ≡ self.old.nodes ++ record { number = number; handle = handle; opaque = opaque } ∷ []) }
         ensures edges { OnOk result (self.new.edges ≡ self.old.edges ++ [] ∷ []) }
@@ -148,12 +148,12 @@ impl GraphBuilder {
     /// Whether a node with that number may be added: there is room for its index, and its number is greater
     /// than those before.
     pub fn next_is(&self, number: MNum) -> bool
-        ensures few { OnTrue result (length self.now.nodes < 65535) }
+        ensures few { OnTrue result (length self.now.nodes < 4294967294) }
         ensures rising { OnTrue result (All (λ n. n.number.0 < number.0) self.now.nodes) }
-        ensures refused { OnFalse result ((length self.now.nodes < 65535) × All (λ n. n.number.0 < number.0) self.now.nodes → ⊥) }
+        ensures refused { OnFalse result ((length self.now.nodes < 4294967294) × All (λ n. n.number.0 < number.0) self.now.nodes → ⊥) }
     {
         let count = self.nodes.len();
-        count < 65535 && (count == 0 || self.nodes[count - 1].number.0 < number.0)
+        count < 4_294_967_294 && (count == 0 || self.nodes[count - 1].number.0 < number.0)
     }
 
     /// Whether an edge may be added between two indexes: both are nodes, and the first is not opaque.

@@ -1,6 +1,8 @@
 // The finished part, which is only read.
 
 ghost use Rattle.std.specs.Prelude.{◌≡◌, ℕ, ◌<◌, length, slice_get, slice_index, slice_index_or, IfSome, Some, map, All, MatchBool};
+ghost use Rattle.bridge_graph.specs.Packed.{IsPackedPart};
+ghost use Rattle.bridge_graph.specs.Packing.{packed_rows};
 ghost use Rattle.bridge_graph.specs.Parts.{Part, IsPart, IsBridgeNode, row_at, opaque_at, HasNode};
 
 use crate::packing::packed_row;
@@ -16,7 +18,7 @@ pub struct Node {
     pub opaque: bool,
 }
 
-/// The dead part of the managed heap: at most 65,535 nodes with rising managed numbers, and for each the
+/// The dead part of the managed heap: at most 4,294,967,294 nodes with rising managed numbers, and for each the
 /// indexes of the nodes that its references lead to.
 ///
 /// Edges are in range, and opaque nodes have none. The same edge may stand more than once. A node is a
@@ -43,6 +45,20 @@ impl Model for DeadGraph {
 }
 
 impl DeadGraph {
+    /// The part of nodes and rows that lie together already: the edges of node `i` lead to the targets from place `starts[i]` on, up to
+    /// where the next node's begin, or to the end. It takes no memory.
+    pub fn of_rows(nodes: Vec<Node>, starts: Vec<u32>, targets: Vec<u32>) -> DeadGraph
+        requires { IsPackedPart nodes.items starts.items targets.items }
+        ensures nodes { result.nodes ≡ nodes.items }
+        ensures edges { result.edges ≡ packed_rows starts.items targets.items (length nodes.items) }
+    {
+        DeadGraph {
+            nodes,
+            starts,
+            targets,
+        }
+    }
+
     /// The number of nodes.
     pub fn nodes(&self) -> u32
         ensures count { result ≡ length self.now.nodes }

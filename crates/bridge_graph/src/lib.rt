@@ -16,7 +16,7 @@
 //
 // Nodes and edges lie in flat lists. While the part is being built the edges stand in the order in which
 // they were added; `finish` brings the edges of each node together, in that same order, so that `degree`,
-// `edge` and `row` each take one step.
+// `edge` and `row` each take one step. Where edges lie in rows already `DeadGraph::of_rows` takes them as they are.
 //
 // A graph is its maker's own, and nobody changes it while it is read. What is promised: a finished graph has exactly the nodes and edges that were
 // put in, in their order, and a call for which there is room isn't refused.
