@@ -1,5 +1,5 @@
 -- One component more: the flat lists stay cut into components, and the components stay in their order and
--- apart. There are never more than 65,535, because first members rise and are below that.
+-- apart. There are never more than 4,294,967,294, because first members rise and are below that.
 use Rattle.std.proofs.Common.{◌≡◌, ◌≢◌, ◌⊎◌, ℕ, suc, ◌+◌, ◌-◌, ◌<◌, ◌≤◌, Bool, List, [], ◌∷◌, ◌++◌, length, map, get_or, Some, Result, Ok, Err, IfOk, OnOk, OnErr, refl, sym, subst, drop, append_assoc, drop-cons, add-one, ◌∙◌, ap, arith, inl, inr}
 use Rattle.std.proofs.lemmas.Bool.{lt-ltb, le-ltb}
 use Rattle.std.proofs.lemmas.List.{append-nil, drop_all, get_or_append_left, get_or-append_right, get_or-map, length_push, length-append, length-map, map_push, flat_map_more}
@@ -14,7 +14,6 @@ use Rattle.joint_model.specs.Components as exact
 use Rattle.joint_model.proofs.Members.{Rises-push}
 use Rattle.bridge_graph.specs.Packing.{packed_row, packed_rows}
 use Rattle.bridge_graph.proofs.Packs.{packed_rows-more, cut-more}
-use Rattle.std.specs.declared.alloc.AllocError.{AllocError}
 use Rattle.xref_list.specs.declared.pairs.Added.{Added}
 use Rattle.xref_list.specs.declared.pairs.Added.TheVariants.{New, Old}
 use Rattle.xref_list.specs.Adding.{AddsPair}
@@ -37,20 +36,20 @@ first_below : (xs : List ℕ) (n : ℕ) → 0 < length xs → All (λ x. x < n) 
 first_below [] n s h = absurd (omega arith)
 first_below (x ∷ xs) n s h = All-head (λ y. y < n) x xs h
 
-firsts_below : (comps : List (List ℕ)) → All (λ m. 0 < length m) comps → All (λ m. All (λ x. x < 65535) m) comps → All (λ x. x < 65535) (map first_of comps)
-firsts_below comps s b = All-map (λ x. x < 65535) first_of comps (λ k d lt. first_below (get_or comps k d) 65535 (s k d lt) (b k d lt))
+firsts_below : (comps : List (List ℕ)) → All (λ m. 0 < length m) comps → All (λ m. All (λ x. x < 4294967294) m) comps → All (λ x. x < 4294967294) (map first_of comps)
+firsts_below comps s b = All-map (λ x. x < 4294967294) first_of comps (λ k d lt. first_below (get_or comps k d) 4294967294 (s k d lt) (b k d lt))
 
-pub few_components : (comps : List (List ℕ)) → AreComponents comps → length comps ≤ 65535
+pub few_components : (comps : List (List ℕ)) → AreComponents comps → length comps ≤ 4294967294
 few_components comps a =
-    omega (arith, few_rising (map first_of comps) 0 65535 a.order (λ k d lt. omega arith) (firsts_below comps a.some a.below), length-map comps first_of)
+    omega (arith, few_rising (map first_of comps) 0 4294967294 a.order (λ k d lt. omega arith) (firsts_below comps a.some a.below), length-map comps first_of)
 
-pub components_more : (comps : List (List ℕ)) (objs : List ℕ) → AreComponents comps → 0 < length objs → Rises objs → All (λ x. x < 65535) objs
+pub components_more : (comps : List (List ℕ)) (objs : List ℕ) → AreComponents comps → 0 < length objs → Rises objs → All (λ x. x < 4294967294) objs
     → All (λ members. AreDisjoint members objs) comps → All (λ members. first_of members < first_of objs) comps → AreComponents (comps ++ objs ∷ [])
 components_more comps objs a s r b d f = record {
   members = All-push Rises comps objs a.members r;
   some = All-push (λ m. 0 < length m) comps objs a.some s;
   order = rw (map_push first_of comps objs) (Rises-push (map first_of comps) (first_of objs) a.order (All-map (λ x. x < first_of objs) first_of comps f));
-  below = All-push (λ m. All (λ x. x < 65535) m) comps objs a.below b;
+  below = All-push (λ m. All (λ x. x < 4294967294) m) comps objs a.below b;
   apart = all_pairs_push AreDisjoint comps objs a.apart d;
 }
 
@@ -63,8 +62,8 @@ length-circle [] = omega arith
 length-circle (x ∷ []) = omega arith
 length-circle (x ∷ y ∷ xs) = omega (arith, length-circle_from x x (y ∷ xs))
 
-pub flat_more : (members starts : List ℕ) (circles : List (ℕ × ℕ)) (objs : List ℕ) → AreFlat members starts circles → length starts < 65535
-    → length members + length objs ≤ 65535 → AreFlat (members ++ objs) (starts ++ length members ∷ []) (circles ++ circle objs)
+pub flat_more : (members starts : List ℕ) (circles : List (ℕ × ℕ)) (objs : List ℕ) → AreFlat members starts circles → length starts < 4294967294
+    → length members + length objs ≤ 4294967295 → AreFlat (members ++ objs) (starts ++ length members ∷ []) (circles ++ circle objs)
 flat_more members starts circles objs a few most = record {
   cut = cut-more starts members objs a.cut;
   circle = rw (length_push starts (length members), packed_rows-more starts members objs (length starts) refl a.cut)
@@ -78,7 +77,7 @@ pub between_wider : (n m : ℕ) (pairs : List (ℕ × ℕ)) → n ≤ m → All 
 between_wider n m pairs le h = All-weaker (IsBetween n) (IsBetween m) (λ p b. record { source = omega (arith, b.source); destination = omega (arith, b.destination); apart = b.apart }) pairs h
 
 pub building_more : (members starts : List ℕ) (circles pairs : List (ℕ × ℕ)) (heavy : ℕ) (sorted : Bool) (objs : List ℕ) → heavy ≡ 0 → IsListingBegun members starts circles heavy pairs sorted
-    → length members + length objs ≤ 65535 → 0 < length objs → Rises objs → All (λ x. x < 65535) objs
+    → length members + length objs + length pairs ≤ 4294967295 → 0 < length objs → Rises objs → All (λ x. x < 4294967294) objs
     → All (λ m. AreDisjoint m objs) (packed_rows starts members (length starts)) → All (λ m. first_of m < first_of objs) (packed_rows starts members (length starts))
     → IsListingBegun (members ++ objs) (starts ++ length members ∷ []) (circles ++ circle objs) heavy pairs sorted
 building_more members starts circles pairs heavy sorted objs none b most s r l d f =
@@ -86,19 +85,19 @@ building_more members starts circles pairs heavy sorted objs none b most s r l d
     let more = components_more comps objs b.components s r l d f in
     let few = few_components (comps ++ objs ∷ []) more in
     record {
-      flat = flat_more members starts circles objs b.flat (omega (arith, few, length_push comps objs, length-packed starts members (length starts))) most;
+      flat = flat_more members starts circles objs b.flat (omega (arith, few, length_push comps objs, length-packed starts members (length starts))) (omega (arith, most));
       components = rw (length_push starts (length members), packed_rows-more starts members objs (length starts) refl b.flat.cut) more;
       ends = between_wider (length starts + heavy) (length (starts ++ length members ∷ []) + heavy) pairs (omega (arith, length_push starts (length members))) b.ends;
       room = omega (arith, few, length_push comps objs, length-packed starts members (length starts), length_push starts (length members));
       rising = b.rising;
-      count = b.count;
+      count = omega (arith, most, length-append members objs);
     }
 
 pub between_push : (n : ℕ) (pairs : List (ℕ × ℕ)) (p : ℕ × ℕ) → All (IsBetween n) pairs → p.0 < n → p.1 < n → p.0 ≢ p.1 → All (IsBetween n) (pairs ++ p ∷ [])
 between_push n pairs p h a b c = All-push (IsBetween n) pairs p h (record { source = a; destination = b; apart = c })
 
 pub listing_of : (comps : List (List ℕ)) (heavy : ℕ) (pairs : List (ℕ × ℕ)) → AreComponents comps → PairsRise pairs → All (IsBetween (length comps + heavy)) pairs
-    → length comps + heavy ≤ 65535 → IsListing comps heavy pairs
+    → length comps + heavy ≤ 4294967294 → IsListing comps heavy pairs
 listing_of comps heavy pairs a r e f = record {
   canonical = record { members = a.members; some = a.some; order = a.order; rising = r };
   components = a;
@@ -107,14 +106,14 @@ listing_of comps heavy pairs a r e f = record {
 }
 
 -- what adding one pair left: the pairs as they were, or with the new one
-pub one_added : (r : Result Added AllocError) (before after : List (ℕ × ℕ)) (p : ℕ × ℕ) → IfOk r (λ a. AddsPair a before after p) → OnErr r (after ≡ before)
+pub one_added : {E : Type 0} (r : Result Added E) (before after : List (ℕ × ℕ)) (p : ℕ × ℕ) → IfOk r (λ a. AddsPair a before after p) → OnErr r (after ≡ before)
     → (after ≡ before) ⊎ (after ≡ before ++ p ∷ [])
 one_added (Ok New) before after p a e = inr a.1
 one_added (Ok Old) before after p a e = inl a.1
 one_added (Err x) before after p a e = inl e
 
 -- what adding many left
-pub many_added : {T : Type 0} (r : Result T AllocError) (before after more : List (ℕ × ℕ)) → OnOk r (after ≡ more) → OnErr r (after ≡ before)
+pub many_added : {T E : Type 0} (r : Result T E) (before after more : List (ℕ × ℕ)) → OnOk r (after ≡ more) → OnErr r (after ≡ before)
     → (after ≡ before) ⊎ (after ≡ more)
 many_added (Ok x) before after more a e = inr a
 many_added (Err x) before after more a e = inl e

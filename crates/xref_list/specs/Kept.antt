@@ -8,8 +8,8 @@ use Rattle.xref_list.specs.Listing.{AreComponents, IsBetween, IsListing}
 pub record AreFlat (members starts : List ℕ) (circles : List (ℕ × ℕ)) : Type 0 where
   pub cut : IsCut starts members
   pub circle : circles ≡ flat_map circle (packed_rows starts members (length starts))
-  pub few : length starts ≤ 65535
-  pub most : length members ≤ 65535
+  pub few : length starts ≤ 4294967294
+  pub most : length members ≤ 4294967295
   pub edges : length circles ≤ length members
 
 -- flat lists of components with pairs between them, which rise where that is known
@@ -17,12 +17,12 @@ pub record IsListingBegun (members starts : List ℕ) (circles : List (ℕ × �
   pub flat : AreFlat members starts circles
   pub components : AreComponents (packed_rows starts members (length starts))
   pub ends : All (IsBetween (length starts + heavy)) pairs
-  pub room : length starts + heavy ≤ 65535
+  pub room : length starts + heavy ≤ 4294967294
   pub rising : sorted ≡ true → PairsRise pairs
-  pub count : length pairs ≤ 4294901760
+  pub count : length members + length pairs ≤ 4294967295
 
 -- flat lists of a whole listing
 pub record IsWholeListing (members starts : List ℕ) (circles : List (ℕ × ℕ)) (heavy : ℕ) (pairs : List (ℕ × ℕ)) : Type 0 where
   pub flat : AreFlat members starts circles
   pub listing : IsListing (packed_rows starts members (length starts)) heavy pairs
-  pub count : length pairs ≤ 4294901760
+  pub count : length members + length pairs ≤ 4294967295

@@ -18,19 +18,19 @@ pub record IsBetween (count : ℕ) (p : ℕ × ℕ) : Type 0 where
   pub destination : p.1 < count
   pub apart : p.0 ≢ p.1
 
--- components in their order: members rise and are below 65,535, there is at least one, first members rise,
+-- components in their order: members rise and are below 4,294,967,294, there is at least one, first members rise,
 -- and no node is in two components
 pub record AreComponents (comps : List (List ℕ)) : Type 0 where
   pub members : All Rises comps
   pub some : All (λ members. 0 < length members) comps
   pub order : Rises (map first_of comps)
-  pub below : All (λ members. All (λ x. x < 65535) members) comps
+  pub below : All (λ members. All (λ x. x < 4294967294) members) comps
   pub apart : AllPairs AreDisjoint comps
 
 -- what every list of components and cross-references keeps: both in canonical order, no node in two
--- components, each pair between two different components, and at most 65,535 components
+-- components, each pair between two different components, and at most 4,294,967,294 components
 pub record IsListing (comps : List (List ℕ)) (heavy : ℕ) (pairs : List (ℕ × ℕ)) : Type 0 where
   pub canonical : IsCanonical comps pairs
   pub components : AreComponents comps
   pub ends : All (IsBetween (length comps + heavy)) pairs
-  pub few : length comps + heavy ≤ 65535
+  pub few : length comps + heavy ≤ 4294967294

@@ -7,16 +7,14 @@ ghost use Rattle.xref_list.specs.Ends.{end_of, ends_of};
 ghost use Rattle.xref_list.specs.Listing.{AreDisjoint, AreComponents, IsListing};
 
 use crate::circles::push_circle;
+use crate::faults::ListingFault;
 use crate::pairs::{Added, PairList};
 use bridge_graph::packed_row;
 use std::alloc::{AllocError, Global};
 use std::marker::Model;
 
-// The most members of all components together: nodes are numbered below 65,535, and none is in two.
-const MOST_MEMBERS: usize = 65_535;
-
-// More pairs than 65,535 components can have between them, and few enough to count the mirror edges.
-const MOST_PAIRS: usize = 4_294_901_760;
+// The most members of all components and pairs together: so the mirror edges, of which a member and a pair have one each at most, can be counted.
+const MOST: usize = 4_294_967_295;
 
 /// An end of a mirror edge: a node, or the temporary of the component with that index, which has no members.
 #[derive(Clone, Copy, PartialEq, Eq, Debug)]
@@ -88,7 +86,7 @@ impl ComponentsBuilder {
     pub fn len(&self) -> u32
         ensures count { result ≡ length self.now.comps + self.now.heavy }
         ensures components { AreComponents self.now.comps }
-        ensures few { length self.now.comps + self.now.heavy ≤ 65535 }
+        ensures few { length self.now.comps + self.now.heavy ≤ 4294967294 }
     {
         self.starts.len() as u32 + self.heavy
     }
@@ -96,7 +94,7 @@ impl ComponentsBuilder {
     /// Lists a component without members, and answers its index. It takes no memory that it hasn't, and so
     /// never answers `AllocError`.
     pub fn bridgeless(&mut self) -> Result<u32, AllocError>
-        requires few { length self.old.comps + self.old.heavy < 65535 }
+        requires few { length self.old.comps + self.old.heavy < 4294967294 }
         ensures index { IfOk result (λ i. i ≡ length self.old.comps + self.old.heavy) }
         ensures heavy { OnOk result (self.new.heavy ≡ self.old.heavy + 1) }
         ensures comps { self.new.comps ≡ self.old.comps }
@@ -109,12 +107,13 @@ impl ComponentsBuilder {
     }
 
     /// Lists a component, whose members are node indexes, and answers its index. None without members was listed
-    /// before. Answers `AllocError` where there is no memory; the components are then as before.
-    pub fn component(&mut self, objs: &[u32]) -> Result<u32, AllocError>
+    /// before. Answers `Memory` where there is no memory, and `TooMany` where all members and pairs would be more than
+    /// 4,294,967,295 together; the components are then as before.
+    pub fn component(&mut self, objs: &[u32]) -> Result<u32, ListingFault>
         requires none { self.old.heavy ≡ 0 }
         requires some { 0 < length objs.now }
         requires rises { Rises objs.now }
-        requires below { All (λ x. x < 65535) objs.now }
+        requires below { All (λ x. x < 4294967294) objs.now }
         requires apart { All (λ members. AreDisjoint members objs.now) self.old.comps }
         requires after { All (λ members. first_of members < first_of objs.now) self.old.comps }
         ensures index { IfOk result (λ i. i ≡ length self.old.comps) }
@@ -123,8 +122,8 @@ impl ComponentsBuilder {
         ensures pairs { self.new.pairs ≡ self.old.pairs }
         ensures err { OnErr result (self.new.comps ≡ self.old.comps) }
     {
-        if objs.len() > MOST_MEMBERS - self.members.len() {
-            return Err(AllocError);
+        if objs.len() > MOST - self.members.len() - self.pairs.len() {
+            return Err(ListingFault::TooMany);
         }
         let index = self.starts.len() as u32;
         let start = self.members.len() as u32;
@@ -142,8 +141,9 @@ impl ComponentsBuilder {
     }
 
     /// Lists a cross-reference between two components, and answers whether it is new: where it is listed
-    /// already nothing changes. Answers `AllocError` where there is no memory; the pairs are then as before.
-    pub fn add(&mut self, src: u32, dst: u32) -> Result<Added, AllocError>
+    /// already nothing changes. Answers `Memory` where there is no memory, and `TooMany` where members and pairs are
+    /// 4,294,967,295 together; the pairs are then as before.
+    pub fn add(&mut self, src: u32, dst: u32) -> Result<Added, ListingFault>
         requires source { src < length self.old.comps + self.old.heavy }
         requires destination { dst < length self.old.comps + self.old.heavy }
         requires apart { src ≢ dst }
@@ -152,17 +152,17 @@ impl ComponentsBuilder {
         ensures heavy { self.new.heavy ≡ self.old.heavy }
         ensures err { OnErr result (self.new.pairs ≡ self.old.pairs) }
     {
-        if self.pairs.len() >= MOST_PAIRS {
-            return Err(AllocError);
+        if self.pairs.len() >= MOST - self.members.len() {
+            return Err(ListingFault::TooMany);
         }
         self.sorted = false;
-        self.pairs.add((src, dst))
+        Ok(self.pairs.add((src, dst))?)
     }
 
     /// Lists the cross-references from one component to many. Its index is greater than the source of every
-    /// pair so far, so no pair needs to be looked for. Answers `AllocError` where there is no memory; the
-    /// pairs are then as before.
-    pub fn add_all(&mut self, src: u32, dsts: &[u32]) -> Result<(), AllocError>
+    /// pair so far, so no pair needs to be looked for. Answers `Memory` where there is no memory, and
+    /// `TooMany` where members and pairs would be more than 4,294,967,295 together; the pairs are then as before.
+    pub fn add_all(&mut self, src: u32, dsts: &[u32]) -> Result<(), ListingFault>
         requires source { src < length self.old.comps + self.old.heavy }
         requires rises { Rises dsts.now }
         requires destinations { All (λ d. d < length self.old.comps + self.old.heavy) dsts.now }
@@ -173,15 +173,15 @@ impl ComponentsBuilder {
         ensures heavy { self.new.heavy ≡ self.old.heavy }
         ensures err { OnErr result (self.new.pairs ≡ self.old.pairs) }
     {
-        if dsts.len() > MOST_PAIRS - self.pairs.len() {
-            return Err(AllocError);
+        if dsts.len() > MOST - self.members.len() - self.pairs.len() {
+            return Err(ListingFault::TooMany);
         }
-        self.pairs.add_all(src, dsts)
+        Ok(self.pairs.add_all(src, dsts)?)
     }
 
-    /// The components with their cross-references in order. Answers `AllocError` where the sort has no
+    /// The components with their cross-references in order. Answers `Memory` where the sort has no
     /// memory; it took the builder, and gives nothing back then.
-    pub fn finish(self) -> Result<Components, AllocError>
+    pub fn finish(self) -> Result<Components, ListingFault>
         ensures comps { IfOk result (λ c. c.comps ≡ self.comps) }
         ensures heavy { IfOk result (λ c. c.heavy ≡ self.heavy) }
         ensures pairs { IfOk result (λ c. IsPermutation self.pairs c.pairs) }

@@ -24,7 +24,9 @@
 
 mod circles;
 mod components;
+mod faults;
 mod pairs;
 
 pub use components::{Components, ComponentsBuilder, End};
+pub use faults::ListingFault;
 pub use pairs::Added;

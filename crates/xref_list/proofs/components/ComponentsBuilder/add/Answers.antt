@@ -4,8 +4,8 @@ use Rattle.std.proofs.lemmas.List.{length_push}
 use Rattle.xref_list.proofs.Comps.{one_added, between_push, length-packed}
 use Rattle.xref_list.proofs.components.ComponentsBuilder.add.Goals as goal
 
-pub invariant_of-self : goal.invariant_of-self
-invariant_of-self c =
+pub invariant_of-self-2 : goal.invariant_of-self-2
+invariant_of-self-2 c =
     let i = c.self.invariant in
     let r = rw (← c.self.view_is, length-packed c.self.inside.starts.items c.self.inside.members.items (length c.self.inside.starts.items)) at c.requires in
     let p : ℕ × ℕ = (c.args.src, c.args.dst) in

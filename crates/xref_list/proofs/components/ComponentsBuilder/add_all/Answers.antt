@@ -6,8 +6,8 @@ use Rattle.xref_list.proofs.Rising.{rise-group}
 use Rattle.xref_list.proofs.Comps.{many_added, ends_group, length-packed}
 use Rattle.xref_list.proofs.components.ComponentsBuilder.add_all.Goals as goal
 
-pub invariant_of-self : goal.invariant_of-self
-invariant_of-self c =
+pub invariant_of-self-2 : goal.invariant_of-self-2
+invariant_of-self-2 c =
     let i = c.self.invariant in
     let r = rw (← c.self.view_is, length-packed c.self.inside.starts.items c.self.inside.members.items (length c.self.inside.starts.items)) at c.requires in
     let group = map (λ (d : ℕ). let q : ℕ × ℕ = (c.args.src, d) in q) c.args.dsts.now in

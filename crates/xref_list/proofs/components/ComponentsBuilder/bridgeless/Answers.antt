@@ -7,7 +7,7 @@ pub invariant_of-self : goal.invariant_of-self
 invariant_of-self c =
     let i = c.self.invariant in
     let s = c.self.inside in
-    let r : length s.starts.items + s.heavy < 65535 = rw (← c.self.view_is, length-packed s.starts.items s.members.items (length s.starts.items)) at c.requires.few in
+    let r : length s.starts.items + s.heavy < 4294967294 = rw (← c.self.view_is, length-packed s.starts.items s.members.items (length s.starts.items)) at c.requires.few in
     record {
       flat = i.flat;
       components = i.components;

@@ -11,7 +11,7 @@ invariant_of-self-2 c =
     let i = c.self.invariant in
     let r = rw (← c.self.view_is) at c.requires in
     let start : c.len-start.result ≡ length c.self.inside.members.items = omega arith in
-    let most : length c.self.inside.members.items + length c.args.objs.now ≤ 65535 = omega arith in
+    let most : length c.self.inside.members.items + length c.args.objs.now + length c.self.inside.pairs ≤ 4294967295 = omega arith in
     rw (c.append.ensures, c.take_room.ensures.kept.2, c.push_reserved.ensures.items, c.take_room.ensures.kept.0, start, c.push_circle.ensures, c.take_room.ensures.kept.1)
     (building_more c.self.inside.members.items c.self.inside.starts.items c.self.inside.circles.items c.self.inside.pairs c.self.inside.heavy c.self.inside.sorted c.args.objs.now
     r.none i most r.some r.rises r.below r.apart r.after)
