@@ -106,7 +106,7 @@ module _ (nodes : List Node) (edges : List (List ℕ)) (labels : List ℕ) (link
   first_of_group b bb = let k = index_of b bb in first_is (get_or indexes (get_or labels b 0) 0) k.0 ∙ ap first_of k.1
 
   -- while only components have an index
-  pub firsts_are : (rows : ℕ) → ((x : ℕ) → x < length nodes → get_or labels x 0 < rows) → length comps ≤ 65535
+  pub firsts_are : (rows : ℕ) → ((x : ℕ) → x < length nodes → get_or labels x 0 < rows) → length comps ≤ 4294967294
       → ((l : ℕ) → l < rows → length (group links l) ≡ 0 → get_or indexes l 0 ≡ 4294967295) → AreFirsts nodes edges labels indexes (length comps) (first_at comps)
   firsts_are rows labelled few none = record {
     rise = λ i j il jl lt. rises_at (map first_of comps) i j s.listed.order lt (omega (arith, jl, length-map comps first_of));
@@ -157,7 +157,7 @@ module _ (nodes : List Node) (edges : List (List ℕ)) (labels : List ℕ) (link
 
   -- the listed components and heavy classes with all their cross-references are the contraction
   pub contraction_of : (rows : ℕ) (heavy : List ℕ) (pairs ordered : List (ℕ × ℕ)) → AreReported nodes edges labels rows indexes comps heavy
-      → AreReferences edges (length nodes) labels indexes (length comps + length heavy) pairs → length comps + length heavy ≤ 65535
+      → AreReferences edges (length nodes) labels indexes (length comps + length heavy) pairs → length comps + length heavy ≤ 4294967294
       → ((x : ℕ) → x < length nodes → get_or labels x 0 < rows) → IsPermutation pairs ordered
       → IsCanonical comps ordered → IsContraction (IsBridgeNode nodes) E comps heavy ordered
   contraction_of rows heavy pairs ordered rp rf few labelled perm canon =

@@ -177,7 +177,7 @@ module _ (labels before outs ins : List ℕ) (count : ℕ) where
 
 module _ (nodes : List Node) (edges : List (List ℕ)) (labels : List ℕ) (links : List Link) (comps : List (List ℕ)) (indexes : List ℕ)
     (s : Setting nodes edges labels links comps indexes) (rows : ℕ) (labelled : (x : ℕ) → x < length nodes → get_or labels x 0 < rows)
-    (few : length comps ≤ 65535) (none : (l : ℕ) → l < rows → length (group links l) ≡ 0 → get_or indexes l 0 ≡ 4294967295) where
+    (few : length comps ≤ 4294967294) (none : (l : ℕ) → l < rows → length (group links l) ≡ 0 → get_or indexes l 0 ≡ 4294967295) where
   abbrev B : ℕ → Type 0
   B = IsBridgeNode nodes
 
@@ -401,7 +401,7 @@ pub record AreFound (nodes : List Node) (edges : List (List ℕ)) (labels : List
   pub order : AreInOrder edges (length nodes) labels rows
   pub listed : AreListed nodes labels (links_of nodes labels) (length nodes) comps indexes
   pub plain : (l : ℕ) → l < length rows → length (group (links_of nodes labels) l) ≡ 0 → get_or indexes l 0 ≡ 4294967295
-  pub few : length comps ≤ 65535
+  pub few : length comps ≤ 4294967294
 
 module _ (nodes : List Node) (edges : List (List ℕ)) (labels : List ℕ) (rows : List (List ℕ)) (comps : List (List ℕ)) (indexes : List ℕ) (f : AreFound nodes edges labels rows comps indexes) where
   setting : Setting nodes edges labels (links_of nodes labels) comps indexes
@@ -410,7 +410,7 @@ module _ (nodes : List Node) (edges : List (List ℕ)) (labels : List ℕ) (rows
   pub components_numbered : AreNumbered (length nodes) labels (length rows) indexes (length comps)
   components_numbered = numbered_first nodes edges labels (links_of nodes labels) comps indexes setting (length rows) f.order.labelled f.few f.plain
 
-  pub heavy_room : (heavy : List ℕ) → Rises heavy → All (λ h. (h < length labels) × (get_or indexes (get_or labels h 0) 0 ≡ 4294967295)) heavy → length comps + length heavy ≤ 65535
+  pub heavy_room : (heavy : List ℕ) → Rises heavy → All (λ h. (h < length labels) × (get_or indexes (get_or labels h 0) 0 ≡ 4294967295)) heavy → length comps + length heavy ≤ 4294967294
   heavy_room heavy r a =
       let n = room_for nodes edges labels (links_of nodes labels) comps indexes setting (length rows) f.order.labelled f.few f.plain heavy r (λ k d lt. (omega (arith, (a k d lt).0, f.classes.whole), (a k d lt).1)) in
       omega (arith, n, f.part.few)

@@ -55,7 +55,7 @@ listed-fresh set n pairs h = λ k d lt. let p : ℕ × ℕ = get_or pairs k d in
 
 module _ (nodes : List Node) (edges : List (List ℕ)) (labels indexes : List ℕ) (rows : List (List ℕ)) (count : ℕ) (refs : List ℕ) (lists : List (List ℕ))
     (part : IsPart nodes edges) (cl : AreClasses edges (length nodes) labels) (o : AreInOrder edges (length nodes) labels rows)
-    (few : count ≤ 65535) (num : AreNumbered (length nodes) labels (length rows) indexes count)
+    (few : count ≤ 4294967294) (num : AreNumbered (length nodes) labels (length rows) indexes count)
     (r : AreReferred (length nodes) edges labels indexes count (length rows) (count + length lists) refs lists) where
   abbrev set_for : ℕ → List ℕ
   set_for i = set_at count lists (get_or refs i 0)

@@ -58,7 +58,7 @@ first-least (x ∷ xs) y r c = elim (Contains-cons_cases x xs y c) [
 abbrev pub AreUnset : List Link → ℕ → List ℕ → Type 0
 AreUnset links x indexes = (l : ℕ) → l < length indexes → (0 < length (group links l) → x ≤ first_of (group links l)) → get_or indexes l 0 ≡ 4294967295
 
-module _ (nodes : List Node) (edges : List (List ℕ)) (labels : List ℕ) (rows : List (List ℕ)) (few : length nodes < 65536)
+module _ (nodes : List Node) (edges : List (List ℕ)) (labels : List ℕ) (rows : List (List ℕ)) (few : length nodes < 4294967295)
     (o : AreInOrder edges (length nodes) labels rows) where
   abbrev links : List Link
   links = links_of nodes labels

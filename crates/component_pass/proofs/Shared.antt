@@ -86,7 +86,7 @@ module _ (nodes : List Node) (edges : List (List ℕ)) (labels indexes : List �
       }
 
   -- a class with an index has the set of that alone
-  pub own-counted : (many : ℕ) (lists : List (List ℕ)) → IsPart nodes edges → AreClasses edges (length nodes) labels → get_or indexes own 0 < count → count ≤ 65535
+  pub own-counted : (many : ℕ) (lists : List (List ℕ)) → IsPart nodes edges → AreClasses edges (length nodes) labels → get_or indexes own 0 < count → count ≤ 4294967294
       → ((x j : ℕ) → x < length nodes → get_or labels x 0 ≡ own → Contains (set_at count lists (get_or indexes own 0)) j ↔ ComesOut edges labels indexes x j)
   own-counted many lists part cl below few x j lt is =
       let at : index_at labels indexes x ≡ get_or indexes own 0 = ap (λ (l : ℕ). get_or indexes l 0) is in

@@ -51,7 +51,7 @@ from_drop xs at x c =
     let lt : at + c.0 < length xs = omega (arith, c.1, length-drop at xs) in
     (at + c.0, omega arith, lt, get_or_default xs (at + c.0) 0 x lt ∙ sym (get_or-drop at xs c.0 x) ∙ c.2)
 
-module _ (edges : List (List ℕ)) (count : ℕ) (in_range : (x y : ℕ) → NodeLeads edges x y → y < count) (few : count < 65536) where
+module _ (edges : List (List ℕ)) (count : ℕ) (in_range : (x y : ℕ) → NodeLeads edges x y → y < count) (few : count < 4294967295) where
   abbrev E : ℕ → ℕ → Type 0
   E = NodeLeads edges
 

@@ -14,16 +14,17 @@ use crate::listing::{NO_COMPONENT, list_rows};
 use crate::sharing::{list_sets, share_references};
 use crate::tarjan::{StrongClasses, classes};
 use bridge_graph::DeadGraph;
-use std::alloc::{AllocError, Global};
-use xref_list::{Components, ComponentsBuilder};
+use std::alloc::Global;
+use xref_list::{Components, ComponentsBuilder, ListingFault};
 
 /// The components of a dead part and the cross-references between them.
 ///
 /// Two bridge nodes are in one component exactly where each reaches the other. Behind these components come the heavy
 /// classes, without members, by their least nodes. A pair of different ones is listed exactly where some walk leads from
 /// the class of the first to the class of the second whose nodes between lie in classes that aren't reported. Answers
-/// `AllocError` only where there is no memory.
-pub fn contract(alloc: Global, graph: &DeadGraph) -> Result<Components, AllocError>
+/// `Memory` only where there is no memory, and `TooMany` only where there would be more than 4,294,967,295 bridge nodes and pairs
+/// together, or sets of components to work with, or elements of these. The dead parts of the heaps are too small for that.
+pub fn contract(alloc: Global, graph: &DeadGraph) -> Result<Components, ListingFault>
     ensures { IfOk result (λ c. (heavy : List ℕ) × (length heavy ≡ c.heavy) × IsContraction (IsBridgeNode graph.now.nodes) (NodeLeads graph.now.edges) c.comps heavy c.pairs) }
 {
     let found = classes(alloc, graph)?;
@@ -35,7 +36,7 @@ fn from_rows(
     alloc: Global,
     graph: &DeadGraph,
     found: StrongClasses,
-) -> Result<Components, AllocError>
+) -> Result<Components, ListingFault>
     requires classes { AreClasses graph.now.edges (length graph.now.nodes) found.labels.items }
     requires order { AreInOrder graph.now.edges (length graph.now.nodes) found.labels.items found.rows }
     ensures { IfOk result (λ c. (heavy : List ℕ) × (length heavy ≡ c.heavy) × IsContraction (IsBridgeNode graph.now.nodes) (NodeLeads graph.now.edges) c.comps heavy c.pairs) }
@@ -63,7 +64,7 @@ fn list_others(
     found: StrongClasses,
     indexes: &mut [u32],
     builder: &mut ComponentsBuilder,
-) -> Result<(), AllocError>
+) -> Result<(), ListingFault>
     requires classes { AreClasses graph.now.edges (length graph.now.nodes) found.labels.items }
     requires order { AreInOrder graph.now.edges (length graph.now.nodes) found.labels.items found.rows }
     requires part { IsPart graph.now.nodes graph.now.edges }
@@ -100,7 +101,7 @@ fn list_heavy(
     ins: &[u32],
     indexes: &mut [u32],
     builder: &mut ComponentsBuilder,
-) -> Result<(), AllocError>
+) -> Result<(), ListingFault>
     requires classes { AreClasses graph.now.edges (length graph.now.nodes) found.labels.items }
     requires order { AreInOrder graph.now.edges (length graph.now.nodes) found.labels.items found.rows }
     requires part { IsPart graph.now.nodes graph.now.edges }
@@ -109,7 +110,7 @@ fn list_heavy(
     requires empty { builder.old.pairs ≡ [] }
     requires listed { AreListed graph.now.nodes found.labels.items (links_of graph.now.nodes found.labels.items) (length graph.now.nodes) builder.old.comps indexes.old }
     requires plain { (l : ℕ) → l < length found.rows → length (group (links_of graph.now.nodes found.labels.items) l) ≡ 0 → slice_index indexes.old l ≡ 4294967295 }
-    requires few { length builder.old.comps ≤ 65535 }
+    requires few { length builder.old.comps ≤ 4294967294 }
     requires outs { length outs.now ≡ length found.rows }
     requires ins { length ins.now ≡ length found.rows }
     requires led_to { CountsOut graph.now.edges (length graph.now.nodes) found.labels.items indexes.old (length found.rows) outs.now }

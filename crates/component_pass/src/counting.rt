@@ -21,7 +21,8 @@ use crate::lists::Lists;
 use crate::sharing::{put, share};
 use crate::tarjan::StrongClasses;
 use bridge_graph::DeadGraph;
-use std::alloc::{AllocError, Global};
+use std::alloc::Global;
+use xref_list::ListingFault;
 
 /// That many are not told from more: a class with at least three on its other side is heavy then, and 3 * 20 is 60.
 pub(crate) const MANY: usize = 20;
@@ -46,12 +47,12 @@ pub(crate) fn count_reached(
     found: &StrongClasses,
     indexes: &[u32],
     count: u32,
-) -> Result<Reached, AllocError>
+) -> Result<Reached, ListingFault>
     requires classes { AreClasses graph.now.edges (length graph.now.nodes) found.now.labels.items }
     requires order { AreInOrder graph.now.edges (length graph.now.nodes) found.now.labels.items found.now.rows }
     requires indexes { length indexes.now ≡ length found.now.rows }
     requires numbered { AreNumbered (length graph.now.nodes) found.now.labels.items (length found.now.rows) indexes.now count }
-    requires count { count ≤ 65535 }
+    requires count { count ≤ 4294967294 }
     requires part { IsPart graph.now.nodes graph.now.edges }
     ensures len { IfOk result (λ r. length r.counts.items ≡ length found.now.rows) }
     ensures counts { IfOk result (λ r. CountsOut graph.now.edges (length graph.now.nodes) found.now.labels.items indexes.now (length found.now.rows) r.counts.items) }
@@ -98,12 +99,12 @@ fn count_all(
     lists: &mut Lists,
     work: &mut Work,
     left: &mut u64,
-) -> Result<(), AllocError>
+) -> Result<(), ListingFault>
     requires classes { AreClasses graph.now.edges (length graph.now.nodes) found.now.labels.items }
     requires order { AreInOrder graph.now.edges (length graph.now.nodes) found.now.labels.items found.now.rows }
     requires indexes { length indexes.now ≡ length found.now.rows }
     requires numbered { AreNumbered (length graph.now.nodes) found.now.labels.items (length found.now.rows) indexes.now count }
-    requires count { count ≤ 65535 }
+    requires count { count ≤ 4294967294 }
     requires part { IsPart graph.now.nodes graph.now.edges }
     requires whole { length sets.old ≡ length graph.now.nodes }
     requires empty { All (λ s. s ≡ count) sets.old }
@@ -151,13 +152,12 @@ fn count_in(
     lists: &mut Lists,
     work: &mut Work,
     left: &mut u64,
-) -> Result<u32, AllocError>
+) -> Result<u32, ListingFault>
     requires members { All (λ x. x < length graph.now.nodes) members.now }
     requires whole { length sets.now ≡ length graph.now.nodes }
     requires part { IsPart graph.now.nodes graph.now.edges }
     requires sets { AreSets sets.now lists.old count (length work.old.known.items) }
     requires count { length work.old.marks.items ≡ count }
-    requires few { length work.old.known.items < 4294967295 }
     requires clear { HasNoMarks work.old }
     ensures found { IfOk result (λ s. IsFound sets.now lists.old lists.new count (length work.new.known.items) s) }
     ensures exact { IfOk result (λ s. (Aims graph.now.edges sets.now members.now s × (cap ≤ length (set_at count lists.new s)) × (lists.new ≡ lists.old) × (left.new ≡ 0))

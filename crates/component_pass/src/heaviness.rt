@@ -22,7 +22,7 @@ use crate::listing::NO_COMPONENT;
 use crate::tarjan::StrongClasses;
 use bridge_graph::DeadGraph;
 use std::alloc::{AllocError, Global};
-use xref_list::ComponentsBuilder;
+use xref_list::{ComponentsBuilder, ListingFault};
 
 // The least product of the counts of a heavy class.
 const PRODUCT: u64 = 60;
@@ -36,12 +36,12 @@ pub(crate) fn count_heavy(
     counts: &[u8],
     count: u32,
     in_any_case: bool,
-) -> Result<Option<Vec<u32>>, AllocError>
+) -> Result<Option<Vec<u32>>, ListingFault>
     requires classes { AreClasses graph.now.edges (length graph.now.nodes) found.now.labels.items }
     requires order { AreInOrder graph.now.edges (length graph.now.nodes) found.now.labels.items found.now.rows }
     requires indexes { length indexes.now ≡ length found.now.rows }
     requires numbered { AreNumbered (length graph.now.nodes) found.now.labels.items (length found.now.rows) indexes.now count }
-    requires count { count ≤ 65535 }
+    requires count { count ≤ 4294967294 }
     requires part { IsPart graph.now.nodes graph.now.edges }
     requires len { length counts.now ≡ length found.now.rows }
     requires counts { CountsOut graph.now.edges (length graph.now.nodes) found.now.labels.items indexes.now (length found.now.rows) counts.now }
@@ -102,7 +102,7 @@ pub(crate) fn number_heavy(
     requires ins { length ins.now ≡ length indexes.old }
     requires none { builder.old.heavy ≡ 0 }
     requires room { (heavy : List ℕ) → Rises heavy → All (λ h. (h < length labels.now) × (slice_index indexes.old (slice_index labels.now h) ≡ 4294967295)) heavy
-        → length builder.old.comps + length heavy ≤ 65535 }
+        → length builder.old.comps + length heavy ≤ 4294967294 }
     ensures heavy { OnOk result ((heavy : List ℕ) × (length heavy ≡ builder.new.heavy)
         × AreHeavyBelow labels.now indexes.old outs.now ins.now (length builder.old.comps) (length labels.now) indexes.new heavy) }
     ensures comps { builder.new.comps ≡ builder.old.comps }

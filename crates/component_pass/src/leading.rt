@@ -14,13 +14,14 @@ ghost use Rattle.component_pass.specs.Gathering.{AreSets, set_at};
 ghost use Rattle.component_pass.specs.Sharing.{AreNumbered, IsFound};
 
 use crate::counting::{MANY, size_of};
-use crate::gathering::unite;
+use crate::gathering::{MOST_SETS, unite};
 use crate::listing::NO_COMPONENT;
 use crate::lists::Lists;
 use crate::sharing::same_set;
 use crate::tarjan::StrongClasses;
 use bridge_graph::DeadGraph;
-use std::alloc::{AllocError, Global};
+use std::alloc::Global;
+use xref_list::ListingFault;
 
 /// The least count on either side of a heavy class.
 pub(crate) const LEAST: u8 = 3;
@@ -32,10 +33,6 @@ struct Joining {
     marks: Vec<bool>,
 }
 
-// No caller comes to so many lists: a set gets a new list only where it has fewer than twenty components, and has more
-// then, so there are at most twenty lists for each of 65,535 classes.
-const MOST_LISTS: usize = 2_147_483_647;
-
 /// For each class without an index that leads to three components or more how many components walks through such classes
 /// lead to it from, where 20 says that there are at least so many.
 pub(crate) fn count_leading(
@@ -45,12 +42,12 @@ pub(crate) fn count_leading(
     indexes: &[u32],
     counts: &[u8],
     count: u32,
-) -> Result<Vec<u32>, AllocError>
+) -> Result<Vec<u32>, ListingFault>
     requires classes { AreClasses graph.now.edges (length graph.now.nodes) found.now.labels.items }
     requires order { AreInOrder graph.now.edges (length graph.now.nodes) found.now.labels.items found.now.rows }
     requires indexes { length indexes.now ≡ length found.now.rows }
     requires numbered { AreNumbered (length graph.now.nodes) found.now.labels.items (length found.now.rows) indexes.now count }
-    requires count { count ≤ 65535 }
+    requires count { count ≤ 4294967294 }
     requires part { IsPart graph.now.nodes graph.now.edges }
     requires len { length counts.now ≡ length found.now.rows }
     requires counts { CountsOut graph.now.edges (length graph.now.nodes) found.now.labels.items indexes.now (length found.now.rows) counts.now }
@@ -96,12 +93,12 @@ fn lead_all(
     ins: &mut [u32],
     lists: &mut Lists,
     work: &mut Joining,
-) -> Result<(), AllocError>
+) -> Result<(), ListingFault>
     requires classes { AreClasses graph.now.edges (length graph.now.nodes) found.now.labels.items }
     requires order { AreInOrder graph.now.edges (length graph.now.nodes) found.now.labels.items found.now.rows }
     requires indexes { length indexes.now ≡ length found.now.rows }
     requires numbered { AreNumbered (length graph.now.nodes) found.now.labels.items (length found.now.rows) indexes.now count }
-    requires count { count ≤ 65535 }
+    requires count { count ≤ 4294967294 }
     requires part { IsPart graph.now.nodes graph.now.edges }
     requires len { length counts.now ≡ length found.now.rows }
     requires counts { CountsOut graph.now.edges (length graph.now.nodes) found.now.labels.items indexes.now (length found.now.rows) counts.now }
@@ -146,7 +143,7 @@ fn lead_class(
     ins: &mut [u32],
     lists: &mut Lists,
     work: &mut Joining,
-) -> Result<(), AllocError>
+) -> Result<(), ListingFault>
     requires own { own < length found.now.rows }
     requires order { AreInOrder graph.now.edges (length graph.now.nodes) found.now.labels.items found.now.rows }
     requires labels { length found.now.labels.items ≡ length graph.now.nodes }
@@ -155,7 +152,7 @@ fn lead_class(
     requires ins { length ins.old ≡ length found.now.rows }
     requires sets { AreSets ins.old lists.old count (count + length lists.old) }
     requires number { number < count + length lists.old }
-    requires count { count ≤ 65535 }
+    requires count { count ≤ 4294967294 }
     requires marks { length work.old.marks.items ≡ count }
     requires clear { All (λ m. m ≡ false) work.old.marks.items }
     ensures pushes { OnOk result (Pushes found.now.labels.items indexes.now counts.now cap count own number
@@ -193,14 +190,14 @@ fn lead_row(
     ins: &mut [u32],
     lists: &mut Lists,
     work: &mut Joining,
-) -> Result<(), AllocError>
+) -> Result<(), ListingFault>
     requires row { All (λ y. y < length labels.now) row.now }
     requires labels { All (λ l. l < length ins.old) labels.now }
     requires indexes { length indexes.now ≡ length ins.old }
     requires counts { length counts.now ≡ length ins.old }
     requires sets { AreSets ins.old lists.old count (count + length lists.old) }
     requires number { number < count + length lists.old }
-    requires count { count ≤ 65535 }
+    requires count { count ≤ 4294967294 }
     requires marks { length work.old.marks.items ≡ count }
     requires clear { All (λ m. m ≡ false) work.old.marks.items }
     ensures pushes { OnOk result (Pushes labels.now indexes.now counts.now cap count own number (Contains row.now) ins.old lists.old ins.new lists.new) }
@@ -231,11 +228,11 @@ fn join(
     count: u32,
     lists: &mut Lists,
     work: &mut Joining,
-) -> Result<u32, AllocError>
+) -> Result<u32, ListingFault>
     requires at { at < length ins.now }
     requires number { number < count + length lists.old }
     requires sets { AreSets ins.now lists.old count (count + length lists.old) }
-    requires count { count ≤ 65535 }
+    requires count { count ≤ 4294967294 }
     requires marks { length work.old.marks.items ≡ count }
     requires clear { All (λ m. m ≡ false) work.old.marks.items }
     ensures found { IfOk result (λ s. IsFound ins.now lists.old lists.new count (count + length lists.new) s) }
@@ -261,11 +258,11 @@ fn join_both(
     count: u32,
     lists: &mut Lists,
     work: &mut Joining,
-) -> Result<u32, AllocError>
+) -> Result<u32, ListingFault>
     requires one { one < count + length lists.old }
     requires other { other < count + length lists.old }
     requires sets { AreSets ins.now lists.old count (count + length lists.old) }
-    requires count { count ≤ 65535 }
+    requires count { count ≤ 4294967294 }
     requires marks { length work.old.marks.items ≡ count }
     requires clear { All (λ m. m ≡ false) work.old.marks.items }
     ensures found { IfOk result (λ s. IsFound ins.now lists.old lists.new count (count + length lists.new) s) }
@@ -280,8 +277,8 @@ fn join_both(
     if let Some(number) = same_set(lists, count, &pair, &work.union) {
         return Ok(number);
     }
-    if lists.len() >= MOST_LISTS {
-        return Err(AllocError);
+    if lists.len() >= MOST_SETS - count as usize {
+        return Err(ListingFault::TooMany);
     }
     let number = count + lists.len() as u32;
     lists.push(&work.union)?;

@@ -12,7 +12,7 @@ use crate::gathering::{are_components_in_order, unite};
 use crate::lists::Lists;
 use bridge_graph::DeadGraph;
 use std::alloc::{AllocError, Global};
-use xref_list::ComponentsBuilder;
+use xref_list::{ComponentsBuilder, ListingFault};
 
 /// Stands at the label of a class in place of its component's index, where it has none.
 pub(crate) const NO_COMPONENT: u32 = u32::MAX;
@@ -25,7 +25,7 @@ pub(crate) fn list_rows(
     rows: &Lists,
     indexes: &mut [u32],
     builder: &mut ComponentsBuilder,
-) -> Result<(), AllocError>
+) -> Result<(), ListingFault>
     requires classes { AreClasses graph.now.edges (length graph.now.nodes) labels.now }
     requires order { AreInOrder graph.now.edges (length graph.now.nodes) labels.now rows.now }
     requires indexes { length indexes.old ≡ length rows.now }
@@ -62,7 +62,7 @@ fn list_all(
     ordered: &mut Vec<u32>,
     marks: &mut [bool],
     builder: &mut ComponentsBuilder,
-) -> Result<(), AllocError>
+) -> Result<(), ListingFault>
     requires classes { AreClasses graph.now.edges (length graph.now.nodes) labels.now }
     requires order { AreInOrder graph.now.edges (length graph.now.nodes) labels.now rows.now }
     requires indexes { length indexes.old ≡ length rows.now }
@@ -133,10 +133,10 @@ fn list_members(
     marks: &mut [bool],
     ordered: &mut Vec<u32>,
     builder: &mut ComponentsBuilder,
-) -> Result<u32, AllocError>
+) -> Result<u32, ListingFault>
     requires some { 0 < length members.now }
     requires below { All (λ x. x < count) members.now }
-    requires few { count ≤ 65535 }
+    requires few { count ≤ 4294967294 }
     requires rows { All (All (λ j. j < count)) rows.now }
     requires marks { length marks.old ≡ count }
     requires clear { All (λ m. m ≡ false) marks.old }

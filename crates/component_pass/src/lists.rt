@@ -6,9 +6,9 @@ ghost use Rattle.bridge_graph.specs.Parts.{row_at};
 
 use std::alloc::{AllocError, Global};
 use std::marker::Model;
+use xref_list::ListingFault;
 
-// The most elements that stand before a list. No caller comes to it: sets that are referred to have at most 65,536 lists of at most 65,535 elements each,
-// and what leads in has at most 20 lists of at most 38 elements for each of 65,535 classes.
+// The most elements that stand before a list.
 const MOST_ELEMENTS: usize = 4_294_967_295;
 
 /// A list of lists, each of which is put last and is then only read.
@@ -66,9 +66,9 @@ impl Lists {
         cut_row(&self.starts, &self.items, i)
     }
 
-    /// Puts a list last.
+    /// Puts a list last. Answers `TooMany` where more than 4,294,967,295 elements stand before it.
     #[inline(always)]
-    pub fn push(&mut self, row: &[u32]) -> Result<(), AllocError>
+    pub fn push(&mut self, row: &[u32]) -> Result<(), ListingFault>
         ensures lists { OnOk result (self.new ≡ self.old ++ row.now ∷ []) }
         ensures err { OnErr result (self.new ≡ self.old) }
     {
@@ -76,7 +76,7 @@ impl Lists {
         self.items.reserve(row.len())?;
         let start = self.items.len();
         if start > MOST_ELEMENTS {
-            return Err(AllocError);
+            return Err(ListingFault::TooMany);
         }
         append(&mut self.items, row);
         self.starts.push_reserved(start as u32);

@@ -18,12 +18,12 @@ ghost use Rattle.component_pass.specs.Classes.{AreClasses, AreInOrder};
 ghost use Rattle.component_pass.specs.Gathering.{AreSets, Gathers, HasNoMarks, set_at};
 ghost use Rattle.component_pass.specs.Sharing.{AreListedBelow, AreNumbered, AreReferences, AreReferred, AreThin, GathersNear, IsFound, IsNear, VisitsThin};
 
-use crate::gathering::{Work, gather, new_work, set_of};
+use crate::gathering::{MOST_SETS, Work, gather, new_work, set_of};
 use crate::listing::NO_COMPONENT;
 use crate::lists::Lists;
 use bridge_graph::DeadGraph;
 use std::alloc::{AllocError, Global};
-use xref_list::ComponentsBuilder;
+use xref_list::{ComponentsBuilder, ListingFault};
 
 /// Lists the cross-references of all that is reported. The labels are spent: each node's set takes the place of its
 /// class's number.
@@ -35,7 +35,7 @@ pub(crate) fn share_references(
     indexes: &[u32],
     thin: &[bool],
     builder: &mut ComponentsBuilder,
-) -> Result<(), AllocError>
+) -> Result<(), ListingFault>
     requires classes { AreClasses graph.now.edges (length graph.now.nodes) labels.old }
     requires order { AreInOrder graph.now.edges (length graph.now.nodes) labels.old rows.now }
     requires indexes { length indexes.now ≡ length rows.now }
@@ -74,7 +74,7 @@ fn share_all(
     near: &mut Vec<u32>,
     marks: &mut [bool],
     builder: &mut ComponentsBuilder,
-) -> Result<(), AllocError>
+) -> Result<(), ListingFault>
     requires classes { AreClasses graph.now.edges (length graph.now.nodes) labels.old }
     requires order { AreInOrder graph.now.edges (length graph.now.nodes) labels.old rows.now }
     requires indexes { length indexes.now ≡ length rows.now }
@@ -83,7 +83,7 @@ fn share_all(
     requires part { IsPart graph.now.nodes graph.now.edges }
     requires empty { builder.old.pairs ≡ [] }
     requires count { count ≡ length builder.old.comps + builder.old.heavy }
-    requires few { count ≤ 65535 }
+    requires few { count ≤ 4294967294 }
     requires refs { length refs.old ≡ count }
     requires lists { lists.old ≡ [] ∷ [] }
     requires known { length work.old.known.items ≡ count + 1 }
@@ -107,7 +107,7 @@ pub(crate) fn list_sets(
     refs: &[u32],
     lists: &Lists,
     builder: &mut ComponentsBuilder,
-) -> Result<(), AllocError>
+) -> Result<(), ListingFault>
     requires count { count ≡ length builder.old.comps + builder.old.heavy }
     requires refs { length refs.now ≡ count }
     requires known { (i : ℕ) → i < count → slice_index refs.now i < count + length lists.now }
@@ -139,13 +139,13 @@ fn number_all(
     work: &mut Work,
     near: &mut Vec<u32>,
     marks: &mut [bool],
-) -> Result<(), AllocError>
+) -> Result<(), ListingFault>
     requires classes { AreClasses graph.now.edges (length graph.now.nodes) sets.old }
     requires order { AreInOrder graph.now.edges (length graph.now.nodes) sets.old rows.now }
     requires indexes { length indexes.now ≡ length rows.now }
     requires thin { AreThin (length graph.now.nodes) sets.old indexes.now thin.now }
     requires numbered { AreNumbered (length graph.now.nodes) sets.old (length rows.now) indexes.now count }
-    requires count { count ≤ 65535 }
+    requires count { count ≤ 4294967294 }
     requires part { IsPart graph.now.nodes graph.now.edges }
     requires refs { length refs.old ≡ count }
     requires lists { lists.old ≡ [] ∷ [] }
@@ -192,14 +192,13 @@ fn share_through(
     work: &mut Work,
     near: &mut Vec<u32>,
     marks: &mut [bool],
-) -> Result<u32, AllocError>
+) -> Result<u32, ListingFault>
     requires members { All (λ x. x < length graph.now.nodes) members.now }
     requires whole { length sets.now ≡ length graph.now.nodes }
     requires thin { length thin.now ≡ length graph.now.nodes }
     requires part { IsPart graph.now.nodes graph.now.edges }
     requires sets { AreSets sets.now lists.old count (length work.old.known.items) }
     requires count { length work.old.marks.items ≡ count }
-    requires few { length work.old.known.items < 4294967295 }
     requires clear { HasNoMarks work.old }
     requires marks { length marks.old ≡ length graph.now.nodes }
     requires unmarked { All (λ m. m ≡ false) marks.old }
@@ -317,7 +316,7 @@ pub(crate) fn put(class: &[u32], number: u32, sets: &mut [u32])
 }
 
 /// The number of the union of the sets that edges from the members lead to: of one of these, where that has
-/// all of it, or a new one.
+/// all of it, or a new one. Answers `TooMany` where there are too many sets to number one more.
 #[inline(always)]
 pub(crate) fn share(
     graph: &DeadGraph,
@@ -326,13 +325,12 @@ pub(crate) fn share(
     count: u32,
     lists: &mut Lists,
     work: &mut Work,
-) -> Result<u32, AllocError>
+) -> Result<u32, ListingFault>
     requires members { All (λ x. x < length graph.now.nodes) members.now }
     requires whole { length sets.now ≡ length graph.now.nodes }
     requires part { IsPart graph.now.nodes graph.now.edges }
     requires sets { AreSets sets.now lists.old count (length work.old.known.items) }
     requires count { length work.old.marks.items ≡ count }
-    requires few { length work.old.known.items < 4294967295 }
     requires clear { HasNoMarks work.old }
     ensures found { IfOk result (λ s. IsFound sets.now lists.old lists.new count (length work.new.known.items) s) }
     ensures exact { IfOk result (λ s. (j : ℕ) → Contains (set_at count lists.new s) j ↔ Gathers graph.now.edges sets.now lists.old count members.now j) }
@@ -344,6 +342,9 @@ pub(crate) fn share(
     }
     if let Some(number) = same_set(lists, count, &work.numbers, &work.union) {
         return Ok(number);
+    }
+    if lists.len() >= MOST_SETS - count as usize {
+        return Err(ListingFault::TooMany);
     }
     let number = count + lists.len() as u32;
     work.known.push(false)?;

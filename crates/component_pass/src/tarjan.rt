@@ -8,6 +8,7 @@ ghost use Rattle.component_pass.specs.Tarjan.{IsGoing, ScansRow, unseen, with_cu
 use crate::lists::Lists;
 use bridge_graph::DeadGraph;
 use std::alloc::{AllocError, Global};
+use xref_list::ListingFault;
 
 /// A node that the search is in: its place on the stack, the next of its edges, and the lowest place that
 /// an edge from it or from a node finished under it leads to.
@@ -40,7 +41,7 @@ pub(crate) struct StrongClasses {
 }
 
 /// The classes of a graph. Edges lead from a class to itself and to those before it.
-pub(crate) fn classes(alloc: Global, graph: &DeadGraph) -> Result<StrongClasses, AllocError>
+pub(crate) fn classes(alloc: Global, graph: &DeadGraph) -> Result<StrongClasses, ListingFault>
     ensures classes { IfOk result (λ c. AreClasses graph.now.edges (length graph.now.nodes) c.labels.items) }
     ensures order { IfOk result (λ c. AreInOrder graph.now.edges (length graph.now.nodes) c.labels.items c.rows) }
 {
@@ -69,7 +70,7 @@ fn visit_all(
     rows: &mut Lists,
     stack: &mut Vec<u32>,
     frames: &mut Vec<Frame>,
-) -> Result<(), AllocError>
+) -> Result<(), ListingFault>
     requires marks { length marks.old ≡ length graph.now.nodes }
     requires labels { length labels.old ≡ length graph.now.nodes }
     requires unseen { All (λ m. m ≡ 0) marks.old }
@@ -96,7 +97,7 @@ fn walk(
     rows: &mut Lists,
     stack: &mut Vec<u32>,
     frames: &mut Vec<Frame>,
-) -> Result<(), AllocError>
+) -> Result<(), ListingFault>
     requires part { IsPart graph.now.nodes graph.now.edges }
     requires root { root < length graph.now.nodes }
     requires fresh { slice_index marks.old root ≡ 0 }
@@ -117,7 +118,7 @@ fn walk(
 // Puts an unseen node on the stack, and answers its frame.
 fn enter(node: u32, marks: &mut [u32], stack: &mut Vec<u32>) -> Result<Frame, AllocError>
     requires node { node < length marks.old }
-    requires few { length stack.old.items < 65536 }
+    requires few { length stack.old.items < 4294967295 }
     ensures marks { OnOk result (marks.new ≡ slice_set marks.old node (length stack.old.items + 1)) }
     ensures stack { OnOk result (stack.new.items ≡ stack.old.items ++ node ∷ []) }
     ensures frame { IfOk result (λ f. f ≡ record { node = node; at = length stack.old.items; next = 0; low = length stack.old.items }) }
@@ -143,7 +144,7 @@ fn advance(
     rows: &mut Lists,
     stack: &mut Vec<u32>,
     frames: &mut Vec<Frame>,
-) -> Result<Option<Frame>, AllocError>
+) -> Result<Option<Frame>, ListingFault>
     requires going { IsGoing graph.now.edges (length graph.now.nodes) stack.old.items marks.old labels.old rows.old (frame ∷ reverse frames.old.items) }
     ensures going { IfOk result (λ f. IsGoing graph.now.edges (length graph.now.nodes) stack.new.items marks.new labels.new rows.new (with_current f (reverse frames.new.items))) }
     ensures none { IfOk result (λ f. IfNone f (frames.new.items ≡ [])) }
@@ -209,11 +210,11 @@ fn close(
     labels: &mut [u32],
     rows: &mut Lists,
     stack: &mut Vec<u32>,
-) -> Result<(), AllocError>
+) -> Result<(), ListingFault>
     requires at { at ≤ length stack.old.items }
     requires marks { All (λ x. x < length marks.old) stack.old.items }
     requires labels { All (λ x. x < length labels.old) stack.old.items }
-    requires few { length rows.old < 65536 }
+    requires few { length rows.old < 4294967295 }
     requires placed { (k : ℕ) → k < length stack.old.items → slice_index marks.old (slice_index stack.old.items k) ≡ k + 1 }
     ensures stack { OnOk result (stack.new.items ≡ take at stack.old.items) }
     ensures rows { OnOk result (rows.new ≡ rows.old ++ drop at stack.old.items ∷ []) }

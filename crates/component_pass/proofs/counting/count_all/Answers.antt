@@ -20,7 +20,6 @@ loop-c-init c = rw (c.requires.lists, c.requires.known) record {
   valid = sets-none c.args.count c.args.sets.now c.requires.empty;
   size = c.requires.counts;
   refs = c.requires.refs;
-  few = omega arith;
   marks = c.requires.marks;
   clear = c.requires.clear;
 }
@@ -119,7 +118,6 @@ loop-c-preserved c =
       valid = sets-more nodes edges labels indexes rows count own o numbers number to sets after lists more i.counted.size f puts out.0;
       size = length-set c.loop-c.counts own c.min.result ∙ i.size;
       refs = out.4;
-      few = omega (arith, i.few, f.one);
       marks = c.in_ok-number.ensures.marks;
       clear = c.in_ok-number.ensures.clear;
     }

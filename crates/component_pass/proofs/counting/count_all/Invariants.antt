@@ -12,7 +12,6 @@ invariant-loop-c l = record {
   valid : AreSets l.sets l.lists l.count (length l.work.known.items);
   size : length l.counts ≡ length l.found.rows;
   refs : length l.refs ≡ l.count;
-  few : length l.lists ≤ l.c + 1;
   marks : length l.work.marks.items ≡ l.count;
   clear : HasNoMarks l.work;
 }

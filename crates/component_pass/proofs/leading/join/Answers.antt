@@ -1,12 +1,11 @@
 -- The union covers both.
 use Rattle.std.proofs.Common.{◌↔◌, ◌⊎◌, ℕ, List, Result, Ok, Err, IfOk, get_or, inl, inr}
-use Rattle.std.specs.declared.alloc.AllocError.{AllocError}
 use Rattle.std.specs.List.{Contains}
 use Rattle.component_pass.specs.Counting.{Joins, cap}
 use Rattle.component_pass.specs.Gathering.{set_at}
 use Rattle.component_pass.proofs.leading.join.Goals as goal
 
-joined : (r : Result ℕ AllocError) (one other : List ℕ) (both : ℕ → List ℕ) → IfOk r (λ s. (j : ℕ) → Contains (both s) j ↔ (Contains one j ⊎ Contains other j)) → IfOk r (λ s. Joins cap one other (both s))
+joined : {E : Type 0} (r : Result ℕ E) (one other : List ℕ) (both : ℕ → List ℕ) → IfOk r (λ s. (j : ℕ) → Contains (both s) j ↔ (Contains one j ⊎ Contains other j)) → IfOk r (λ s. Joins cap one other (both s))
 joined (Ok s) one other both e = record { first = inr (λ j c. (e j).1 (inl c)); second = inr (λ j c. (e j).1 (inr c)); sound = λ j c. (e j).0 c }
 joined (Err x) one other both e = tt
 

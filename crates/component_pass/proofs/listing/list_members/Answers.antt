@@ -1,6 +1,5 @@
 -- Each node stands for itself, so the union of the members' sets are the members.
 use Rattle.std.proofs.Common.{◌≡◌, ◌↔◌, ◌<◌, ◌++◌, ◌∷◌, [], ℕ, List, Result, Ok, Err, OnOk, sym, subst, refl, arith}
-use Rattle.std.specs.declared.alloc.AllocError.{AllocError}
 use Rattle.std.proofs.lemmas.List.Elements.{All-contains}
 use Rattle.std.proofs.lemmas.Result.{on_ok_weaker}
 use Rattle.std.specs.List.{All, Contains}
@@ -24,7 +23,7 @@ selves count lists members union below u j = (
       (u j).1 (j, c, subst (λ (xs : List ℕ). Contains xs j) (sym (set-one count lists j lt)) ((one_is j j).1 refl))),
 )
 
-added : (r : Result ℕ AllocError) (before after : List (List ℕ)) (objs members : List ℕ) → OnOk r (after ≡ before ++ objs ∷ []) → Rises objs
+added : {E : Type 0} (r : Result ℕ E) (before after : List (List ℕ)) (objs members : List ℕ) → OnOk r (after ≡ before ++ objs ∷ []) → Rises objs
     → ((j : ℕ) → Contains objs j ↔ Contains members j) → OnOk r (AddsOne before after members)
 added (Ok i) before after objs members e rises same = record { objs = objs; added = e; rises = rises; same = same }
 added (Err e) before after objs members h rises same = tt

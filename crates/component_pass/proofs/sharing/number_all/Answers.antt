@@ -19,7 +19,6 @@ loop-c-init c =
       shared = shared-none c.args.graph.now.edges (length c.args.graph.now.nodes) c.args.sets.now c.args.indexes.now c.args.thin.now c.args.count c.fill.new.self ([] ∷ []) (c.fill.ensures.len ∙ c.requires.classes.whole) all;
       referred = referred-none c.args.graph.now.nodes c.args.graph.now.edges c.args.sets.now c.args.indexes.now c.args.rows.now c.args.count 0 c.requires.order _ c.args.refs.now ([] ∷ []) c.requires.refs;
       valid = sets-none c.args.count c.fill.new.self all;
-      few = omega arith;
       work_marks = c.requires.work_marks;
       clear = c.requires.clear;
       size = c.requires.marks;
@@ -100,7 +99,6 @@ loop-c-preserved c =
                 (λ x lt cx at. sym (c.requires.numbered.apart own (get_or labels x 0) (omega arith) (o.labelled x lt) w.if-indexes-c.true (sym at)))
                 f.longer f.kept (omega (arith, f.known, f.valid.all)) exact i.referred;
             valid = sets-more nodes edges labels indexes rows count own o numbers found at sets w.put.new.sets lists more i.shared.size f puts (omega (arith, below, f.valid.all));
-            few = omega (arith, i.few, f.one);
             work_marks = w.in_ok-refs.ensures.marks;
             clear = w.in_ok-refs.ensures.clear;
             size = omega (arith, w.share_through.ensures.size, i.size);
@@ -129,7 +127,6 @@ loop-c-preserved c =
                 (union-shared nodes edges labels indexes rows count own o thin sets lists (set_at count more found) part cl th bare i.shared i.valid.none exact) none_thin;
             referred = referred-bare nodes edges labels indexes rows count own o c.loop-c.refs lists more bare f.longer f.kept i.referred;
             valid = sets-more nodes edges labels indexes rows count own o numbers found found sets w.put-then-not-is_thin.new.sets lists more i.shared.size f puts f.known;
-            few = omega (arith, i.few, f.one);
             work_marks = w.in_ok-found.ensures.marks;
             clear = w.in_ok-found.ensures.clear;
             size = omega (arith, w.share_through-then-not-is_thin.ensures.size, i.size);
@@ -142,7 +139,6 @@ loop-c-preserved c =
             shared = shared-thin nodes edges labels indexes rows count own o thin sets lists i.shared (λ x lt is. thin_as x lt is ∙ all.1);
             referred = referred-bare nodes edges labels indexes rows count own o c.loop-c.refs lists lists bare (omega arith) (λ k lt. refl) i.referred;
             valid = i.valid;
-            few = omega (arith, i.few);
             work_marks = i.work_marks;
             clear = i.clear;
             size = i.size;

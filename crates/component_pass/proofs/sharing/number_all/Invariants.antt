@@ -9,7 +9,6 @@ invariant-loop-c l = record {
   shared : AreShared l.graph.edges (length l.graph.nodes) l.fn.sets l.indexes l.thin l.count l.c l.sets l.lists;
   referred : AreReferred (length l.graph.nodes) l.graph.edges l.fn.sets l.indexes l.count l.c (l.count + length l.lists) l.refs l.lists;
   valid : AreSets l.sets l.lists l.count (length l.work.known.items);
-  few : length l.lists ≤ l.c + 1;
   work_marks : length l.work.marks.items ≡ l.count;
   clear : HasNoMarks l.work;
   size : length l.marks ≡ length l.graph.nodes;

@@ -15,13 +15,13 @@ returns-clause-found c =
     let rises = rw c.in_default.is at c.in_ok-number.ensures.rises in
     let below = rw c.in_default.is at c.in_ok-number.ensures.below in
     let known : length c.push.new.self.items ≡ length c.args.work.now.known.items + 1 = omega (arith, ap length c.in_ok-push.ensures.items, length_push c.gather.new.work.known.items false) in
-    rw (c.in_ok-push-2.ensures.lists, c.deref-3.ensures.value, known, c.len.ensures)
+    rw (c.in_ok-push-2.ensures.lists, c.deref-3.ensures.value, known, c.len-2.ensures)
     (found-new c.args.sets.now c.args.lists.now c.args.count (length c.args.work.now.known.items) c.gather.new.work.union.items c.requires.sets rises below)
 
 pub returns-clause-exact : goal.returns-clause-exact
 returns-clause-exact c =
     let many = rw c.in_default.is at c.in_ok-number.ensures.several in
-    rw (c.in_ok-push-2.ensures.lists, c.deref-3.ensures.value, c.len.ensures, set-last c.args.count c.args.lists.now c.gather.new.work.union.items) many
+    rw (c.in_ok-push-2.ensures.lists, c.deref-3.ensures.value, c.len-2.ensures, set-last c.args.count c.args.lists.now c.gather.new.work.union.items) many
 
 pub gather-requires-clause-sets : goal.gather-requires-clause-sets
 gather-requires-clause-sets c = c.requires.sets
@@ -56,12 +56,6 @@ returns-in-Some-same_set-clause-marks c = c.in_ok-number.ensures.marks ∙ c.req
 
 pub returns-in-Some-same_set-clause-clear : goal.returns-in-Some-same_set-clause-clear
 returns-in-Some-same_set-clause-clear c = c.in_ok-number.ensures.clear
-
-pub overflow_cast-number : goal.overflow_cast-number
-overflow_cast-number c = omega (arith, c.len.ensures, c.requires.sets.all, c.requires.few)
-
-pub overflow_add-number : goal.overflow_add-number
-overflow_add-number c = omega (arith, c.len.ensures, c.requires.sets.all, c.requires.few)
 
 pub returns-clause-marks : goal.returns-clause-marks
 returns-clause-marks c = c.in_ok-number.ensures.marks ∙ c.requires.count
