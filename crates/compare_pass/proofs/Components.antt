@@ -49,7 +49,7 @@ listed-skip nodes labels x comps indexes stands none a = record {
   ];
 }
 
-module _ (nodes : List Node) (labels : List ℕ) (x : ℕ) (comps : List (List ℕ)) (indexes stands members : List ℕ) (few : length nodes < 65536) (within : x < length nodes)
+module _ (nodes : List Node) (labels : List ℕ) (x : ℕ) (comps : List (List ℕ)) (indexes stands members : List ℕ) (few : length nodes < 4294967295) (within : x < length nodes)
     (small : get_or labels x 0 < length nodes) (g : IsGroup nodes labels (get_or labels x 0) members) (bridge : IsBridgeNode nodes x) (none : index_at labels indexes x ≡ 4294967295)
     (a : AreListed nodes labels x comps indexes stands) where
   counts : length comps ≡ length stands
@@ -71,10 +71,10 @@ module _ (nodes : List Node) (labels : List ℕ) (x : ℕ) (comps : List (List �
         | inr ge ↦ omega (arith, ge, first-least members x g.rises has-x)
       ]
 
-  pub group-below : All (λ y. y < 65535) members
-  group-below = All-members (λ y. y < 65535) members (λ y c. let l = bridge-below nodes y ((g.exact y).0 c).0 in omega (arith, l, few))
+  pub group-below : All (λ y. y < 4294967294) members
+  group-below = All-members (λ y. y < 4294967294) members (λ y c. let l = bridge-below nodes y ((g.exact y).0 c).0 in omega (arith, l, few))
 
-  pub stands-few : length stands < 65536
+  pub stands-few : length stands < 4294967295
   stands-few = omega (arith, rising-few stands 0 x a.rise (λ k d l. omega arith) a.below (omega arith), within, few)
 
   pub group-apart : All (λ m. AreDisjoint m members) comps
@@ -122,11 +122,11 @@ module _ (nodes : List Node) (labels : List ℕ) (x : ℕ) (comps : List (List �
       }
 
 -- fewer stand than there are nodes
-pub listed-few : (nodes : List Node) (labels : List ℕ) (comps : List (List ℕ)) (indexes stands : List ℕ) → length nodes < 65536 → AreListed nodes labels (length nodes) comps indexes stands → length stands ≤ 65535
+pub listed-few : (nodes : List Node) (labels : List ℕ) (comps : List (List ℕ)) (indexes stands : List ℕ) → length nodes < 4294967295 → AreListed nodes labels (length nodes) comps indexes stands → length stands ≤ 4294967294
 listed-few nodes labels comps indexes stands few a = omega (arith, rising-few stands 0 (length nodes) a.rise (λ k d l. omega arith) a.below (omega arith), few)
 
 -- once all nodes are gone through
-module _ (nodes : List Node) (edges : List (List ℕ)) (labels : List ℕ) (comps : List (List ℕ)) (indexes stands : List ℕ) (few : length stands ≤ 65535)
+module _ (nodes : List Node) (edges : List (List ℕ)) (labels : List ℕ) (comps : List (List ℕ)) (indexes stands : List ℕ) (few : length stands ≤ 4294967294)
     (classes : AreClasses edges (length nodes) labels) (a : AreListed nodes labels (length nodes) comps indexes stands) where
   sizes : length comps ≡ length stands
   sizes = sym (length-map comps first_of) ∙ ap length a.firsts

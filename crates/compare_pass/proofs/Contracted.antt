@@ -30,7 +30,7 @@ heavy-below B E count within x h =
     Reaches-keeps E (λ v. v < count) (λ u v e q. within u v e) l.to x l.arrives.back (last-below E count within l.from l.between l.to l.walk)
 
 module _ (nodes : List Node) (edges : List (List ℕ)) (labels : List ℕ) (comps : List (List ℕ)) (before firsts after heavy : List ℕ) (pairs ordered : List (ℕ × ℕ))
-    (few : length comps + length heavy ≤ 65535) (part : IsPart nodes edges) (classes : AreClasses edges (length nodes) labels)
+    (few : length comps + length heavy ≤ 4294967294) (part : IsPart nodes edges) (classes : AreClasses edges (length nodes) labels)
     (listed : AreListed nodes labels (length nodes) comps before firsts) (h : AreHeavyBelow (IsBridgeNode nodes) (NodeLeads edges) (length nodes) labels before firsts (length nodes) after heavy)
     (refs : AreReferencesBelow edges labels after (firsts ++ heavy) (length (firsts ++ heavy)) pairs) where
   abbrev B : ℕ → Type 0

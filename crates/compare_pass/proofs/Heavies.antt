@@ -91,7 +91,7 @@ turned-classes edges turned count size labels t c = record {
   );
 }
 
-module _ (nodes : List Node) (edges : List (List ℕ)) (labels : List ℕ) (comps : List (List ℕ)) (indexes stands : List ℕ) (few : length stands ≤ 65535)
+module _ (nodes : List Node) (edges : List (List ℕ)) (labels : List ℕ) (comps : List (List ℕ)) (indexes stands : List ℕ) (few : length stands ≤ 4294967294)
     (part : IsPart nodes edges) (classes : AreClasses edges (length nodes) labels) (a : AreListed nodes labels (length nodes) comps indexes stands) where
   abbrev B : ℕ → Type 0
   B = IsBridgeNode nodes

@@ -66,7 +66,7 @@ numbered-few count labels indexes stands a =
     pigeonhole (length stands) count (λ i. get_or stands i 0) (λ i l. (a.stand i l).0) (λ i j il jl e. sym (a.stand i il).1 ∙ ap (λ s. index_at labels indexes s) e ∙ (a.stand j jl).1)
 
 -- and fewer where a node's class has none
-pub numbered-room : (count : ℕ) (labels indexes stands : List ℕ) (x : ℕ) → x < count → get_or labels x 0 < count → index_at labels indexes x ≡ 4294967295 → count < 65536
+pub numbered-room : (count : ℕ) (labels indexes stands : List ℕ) (x : ℕ) → x < count → get_or labels x 0 < count → index_at labels indexes x ≡ 4294967295 → count < 4294967295
     → AreNumbered count labels indexes stands → length stands < count
 numbered-room count labels indexes stands x lt small none few a =
     let more = numbered-more count labels indexes stands x lt small none (omega (arith, numbered-few count labels indexes stands a, few)) a in

@@ -14,7 +14,7 @@ use Rattle.compare_pass.specs.Referring.{AreDestinations, AreReferencesBelow, Co
 use Rattle.compare_pass.specs.Searching.{Goes, index_at, no_index}
 use Rattle.compare_pass.proofs.Crossing.{leads-comes, comes-leads, comes-below, in_range}
 
-module _ (B : ℕ → Type 0) (edges : List (List ℕ)) (count : ℕ) (labels indexes stands : List ℕ) (few : length stands < 65536) (within : (u v : ℕ) → NodeLeads edges u v → v < count)
+module _ (B : ℕ → Type 0) (edges : List (List ℕ)) (count : ℕ) (labels indexes stands : List ℕ) (few : length stands < 4294967295) (within : (u v : ℕ) → NodeLeads edges u v → v < count)
     (classes : AreClasses edges count labels) (a : AreNumbered count labels indexes stands)
     (bare : (x : ℕ) → x < count → (index_at labels indexes x ≡ no_index) ↔ IsUnreported B (NodeLeads edges) x) where
   abbrev E : ℕ → ℕ → Type 0

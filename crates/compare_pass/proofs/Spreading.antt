@@ -146,7 +146,7 @@ spread-row edges root x row before labels waiting after more apart r l s =
       ];
     }
 
-module _ (edges : List (List ℕ)) (count : ℕ) (order : List ℕ) (at root : ℕ) (before labels : List ℕ) (few : count < 65536) (o : IsFinishingOrder edges count order)
+module _ (edges : List (List ℕ)) (count : ℕ) (order : List ℕ) (at root : ℕ) (before labels : List ℕ) (few : count < 4294967295) (o : IsFinishingOrder edges count order)
     (lt : at < length order) (is : get_or order at 0 ≡ root) (b : IsBare before root) (a : AreLabelled edges count order (at + 1) before) (s : IsSpreading edges root before labels []) where
   abbrev E : ℕ → ℕ → Type 0
   E = NodeLeads edges

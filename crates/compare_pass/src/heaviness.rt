@@ -30,7 +30,7 @@ pub(crate) fn count_from(
     requires small { All (λ l. l < length indexes.now) labels.now }
     requires stands { All (λ s. s < length graph.now.nodes) stands.now }
     requires rise { Rises stands.now }
-    requires few { length stands.now ≤ 65535 }
+    requires few { length stands.now ≤ 4294967294 }
     ensures { IfOk result (λ v. AreCounts graph.now.edges (length graph.now.nodes) labels.now indexes.now stands.now (length stands.now) v.items) }
 {
     let n = graph.nodes() as usize;
@@ -63,7 +63,7 @@ fn count_all(
     requires small { All (λ l. l < length indexes.now) labels.now }
     requires stands { All (λ s. s < length graph.now.nodes) stands.now }
     requires rise { Rises stands.now }
-    requires few { length stands.now ≤ 65535 }
+    requires few { length stands.now ≤ 4294967294 }
     requires marks { length marks.old ≡ length graph.now.nodes }
     requires clear { All (λ m. m ≡ false) marks.old }
     requires found { found.old.items ≡ [] }

@@ -17,16 +17,16 @@ use crate::references::list_references;
 use crate::search::NO_INDEX;
 use crate::turning::turned;
 use bridge_graph::{DeadGraph, PackedRows};
-use std::alloc::{AllocError, Global};
-use xref_list::{Components, ComponentsBuilder};
+use std::alloc::Global;
+use xref_list::{Components, ComponentsBuilder, ListingFault};
 
 /// The components of a dead part and the cross-references between them.
 ///
 /// Two bridge nodes are in one component exactly where each reaches the other. Behind these components come the heavy
 /// classes, without members, by their least nodes. A pair of different ones is listed exactly where some walk leads from
 /// the class of the first to the class of the second whose nodes between lie in classes that aren't reported. Answers
-/// `AllocError` only where there is no memory.
-pub fn second_pass(alloc: Global, graph: &DeadGraph) -> Result<Components, AllocError>
+/// `Memory` only where there is no memory, and `TooMany` only where there are more than 4,294,967,295 bridge nodes and pairs together.
+pub fn second_pass(alloc: Global, graph: &DeadGraph) -> Result<Components, ListingFault>
     ensures { IfOk result (λ c. (heavy : List ℕ) × (length heavy ≡ c.heavy) × IsContraction (IsBridgeNode graph.now.nodes) (NodeLeads graph.now.edges) c.comps heavy c.pairs) }
 {
     let order = finishing_order(alloc, graph)?;
@@ -41,7 +41,7 @@ fn contraction(
     graph: &DeadGraph,
     back: &DeadGraph,
     labels: &[u32],
-) -> Result<Components, AllocError>
+) -> Result<Components, ListingFault>
     requires back { IsTurned (length graph.now.nodes) graph.now.edges (length back.now.nodes) back.now.edges }
     requires classes { AreClasses graph.now.edges (length graph.now.nodes) labels.now }
     ensures { IfOk result (λ c. (heavy : List ℕ) × (length heavy ≡ c.heavy) × IsContraction (IsBridgeNode graph.now.nodes) (NodeLeads graph.now.edges) c.comps heavy c.pairs) }
@@ -73,7 +73,7 @@ fn list_all(
     indexes: &mut [u32],
     stands: &mut Vec<u32>,
     builder: &mut ComponentsBuilder,
-) -> Result<(), AllocError>
+) -> Result<(), ListingFault>
     requires part { IsPart graph.now.nodes graph.now.edges }
     requires back { IsTurned (length graph.now.nodes) graph.now.edges (length back.now.nodes) back.now.edges }
     requires classes { AreClasses graph.now.edges (length graph.now.nodes) labels.now }

@@ -10,7 +10,7 @@ ghost use Rattle.compare_pass.specs.Searching.{Opens, index_at};
 use crate::search::{clear, opens, search};
 use bridge_graph::DeadGraph;
 use std::alloc::{AllocError, Global};
-use xref_list::ComponentsBuilder;
+use xref_list::{ComponentsBuilder, ListingFault};
 
 /// Lists the cross-references of all reported classes.
 pub(crate) fn list_references(
@@ -20,7 +20,7 @@ pub(crate) fn list_references(
     indexes: &[u32],
     stands: &[u32],
     builder: &mut ComponentsBuilder,
-) -> Result<(), AllocError>
+) -> Result<(), ListingFault>
     requires part { IsPart graph.now.nodes graph.now.edges }
     requires labels { length labels.now ≡ length graph.now.nodes }
     requires small { All (λ l. l < length graph.now.nodes) labels.now }
@@ -49,7 +49,7 @@ fn refer_all(
     found: &mut Vec<u32>,
     outs: &mut Vec<u32>,
     builder: &mut ComponentsBuilder,
-) -> Result<(), AllocError>
+) -> Result<(), ListingFault>
     requires part { IsPart graph.now.nodes graph.now.edges }
     requires labels { length labels.now ≡ length graph.now.nodes }
     requires small { All (λ l. l < length graph.now.nodes) labels.now }
