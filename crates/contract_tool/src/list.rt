@@ -19,7 +19,7 @@ pub enum ListFault {
     Edge,
     /// An edge names no node.
     Node,
-    /// There are more than 65,535 nodes.
+    /// There are more than 4,294,967,294 nodes.
     Nodes,
     /// The list ends too early.
     End,
@@ -46,7 +46,7 @@ pub fn what(cause: ListFault) -> &'static str {
         ListFault::Kind => "a node's line is neither b nor p",
         ListFault::Edge => "an edge's line is not two numbers",
         ListFault::Node => "an edge names no node",
-        ListFault::Nodes => "there are more than 65535 nodes",
+        ListFault::Nodes => "there are more than 4294967294 nodes",
         ListFault::End => "the list ends too early",
         ListFault::More => "a line stands behind the last edge",
         ListFault::Memory => "there is no memory",

@@ -1,7 +1,8 @@
 // Measures the component analysis over an edge list from standard input. With the word `time` it prints the
 // numbers of components and pairs, and the milliseconds of the analysis alone; with the word `dump` a line
 // `scc LIST` for each component and a line `xref A B` for each pair, in their order. Any other words are
-// answered by the usage line and status 1, a bad edge list by what is wrong with it and status 2.
+// answered by the usage line and status 1, a bad edge list by what is wrong with it and status 2, and a graph of which
+// too much would have to be numbered by status 3.
 //
 //     contract_tool dump < examples/crossed_cycle.graph
 //
@@ -19,11 +20,12 @@ mod tests;
 
 use component_pass::contract;
 use list::{read_list, what};
+use std::alloc::AllocError;
 use std::env;
 use std::io::{self, BufWriter, Write};
 use std::process::ExitCode;
 use std::time::Instant;
-use xref_list::Components;
+use xref_list::{Components, ListingFault};
 
 // What is asked for.
 #[derive(Clone, Copy)]
@@ -51,7 +53,14 @@ fn main(rt: HostRuntime) -> io::Result<ExitCode> {
         }
     };
     let start = Instant::now(&rt)?;
-    let components = contract(rt.alloc(), &graph)?;
+    let components = match contract(rt.alloc(), &graph) {
+        Ok(components) => components,
+        Err(ListingFault::Memory) => return Err(io::Error::from(AllocError)),
+        Err(ListingFault::TooMany) => {
+            eprintln!(rt; "too much to be numbered in 32 bits")?;
+            return Ok(ExitCode::from(3));
+        }
+    };
     let spent = start.elapsed(&rt)?;
     match mode {
         OutputKind::Dump => write_all(BufWriter::new(rt.alloc(), io::writer(&rt))?, &components)?,
