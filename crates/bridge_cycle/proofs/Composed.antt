@@ -13,6 +13,7 @@ use Rattle.joint_model.specs.Phases.{next_phase, phases_left, phases_of}
 use Rattle.joint_model.proofs.Deciding.{some-same}
 use Rattle.order_table.specs.Views.{known}
 use Rattle.joint_history.specs.Knowing.{line_known}
+use Rattle.bridge_cycle.specs.Composing.{PhasesMakeACycle, RestMakesACycle}
 use Rattle.bridge_cycle.specs.Progress.{BreaksWord, EndsWithReply, StopsForMemory, LeadTo, Progress, RunsWords, RunsPhases, last_reply}
 use Rattle.bridge_cycle.specs.Words.{Closes, IsPartway, Lacks, next_word}
 use Rattle.bridge_cycle.proofs.Making.{append_nil, runs_more}
@@ -190,3 +191,20 @@ cycle_breaks old mid new index first idle a b =
       gives_up = b.gives_up;
       idle = b.idle;
     }
+
+-- eight phases, one by one
+pub eight_phases : PhasesMakeACycle
+eight_phases a b c d e f g h i index p q r s t u v w =
+    let two = runs_on a b c index (word.Snap ∷ []) (word.Contract ∷ []) p q in
+    let three = runs_on a c d index (word.Snap ∷ word.Contract ∷ []) (word.Mirror ∷ []) two r in
+    let four = runs_on a d e index (word.Snap ∷ word.Contract ∷ word.Mirror ∷ []) (word.Weaken ∷ []) three s in
+    let five = runs_on a e f index (word.Snap ∷ word.Contract ∷ word.Mirror ∷ word.Weaken ∷ []) (word.Mark ∷ []) four t in
+    let six = runs_on a f g index (word.Snap ∷ word.Contract ∷ word.Mirror ∷ word.Weaken ∷ word.Mark ∷ []) (word.Sweep ∷ []) five u in
+    let seven = runs_on a g h index (word.Snap ∷ word.Contract ∷ word.Mirror ∷ word.Weaken ∷ word.Mark ∷ word.Sweep ∷ []) (word.Restore ∷ []) six v in
+    runs_on a h i index (word.Snap ∷ word.Contract ∷ word.Mirror ∷ word.Weaken ∷ word.Mark ∷ word.Sweep ∷ word.Restore ∷ []) (word.Resolve ∷ []) seven w
+
+-- a snap, and the phases that are left
+pub rest_makes_a_cycle : RestMakesACycle
+rest_makes_a_cycle old mid new index idle a b =
+    let at_snapped = snapped_now old.phase mid.phase idle a.1.leads in
+    runs_on old mid new index (word.Snap ∷ []) (phases_left at.Snapped) a (subst (λ (p : Phase). RunsWords mid new index (phases_left p)) at_snapped b)

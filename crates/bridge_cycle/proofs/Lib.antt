@@ -12,3 +12,4 @@ pub mod Refusals
 pub mod Abandoned
 pub mod Composed
 pub mod Gapped
+pub mod OpenParts

@@ -5,3 +5,5 @@ pub mod Handles
 pub mod Held
 pub mod Turns
 pub mod Words
+pub mod Composing
+pub mod OpenParts

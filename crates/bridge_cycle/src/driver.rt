@@ -1,12 +1,14 @@
 // The driver and what it keeps.
 
-ghost use Rattle.std.specs.Prelude.{◌≡◌};
+ghost use Rattle.std.specs.Prelude.{◌≡◌, ◌↔◌, IfSome, IsNone};
 ghost use Rattle.joint_model.specs.Lines.{IsDriver};
 ghost use Rattle.joint_model.specs.declared.names.Phase.TheVariants.{Idle};
 ghost use Rattle.joint_history.specs.Callers.{Hears, Tells};
 ghost use Rattle.joint_history.specs.Ending.{HasIdleDriver};
+ghost use Rattle.bridge_cycle.specs.OpenParts.{IsOpenPart};
 ghost use Rattle.bridge_cycle.specs.Progress.{Progress, pass_of};
 
+use bridge_graph::DeadGraph;
 use joint_history::{Caller, Keeps, Shared};
 use joint_model::{Alive, Cycle, Phase};
 use managed_side::Opened;
@@ -75,6 +77,27 @@ impl<N: OrderName> Driver<N> {
         ensures { result ≡ self.now.phase }
     {
         self.phase
+    }
+
+    /// The graph of the open cycle's dead part, as the snapshot took it: the dead part is frozen until the cycle ends. None exactly where no cycle is open.
+    pub fn graph(&self) -> Option<&DeadGraph>
+        ensures idle { IsNone result ↔ (self.now.phase ≡ Idle) }
+        ensures graph { IfSome result (λ g. IsOpenPart self.now.view self.now.cycle g.now) }
+    {
+        if self.phase == Phase::Idle {
+            return None;
+        }
+        let Some(opened) = &self.opened else {
+            unreachable!()
+        };
+        Some(&opened.graph)
+    }
+
+    /// The number of the cycle that the driver opened last, or 0.
+    pub fn cycle_number(&self) -> Cycle
+        ensures { result ≡ self.now.cycle }
+    {
+        self.cycle
     }
 
     /// The driver's caller again. The driver is idle.

@@ -15,6 +15,7 @@
 //       run_gap                                      all eight, and between two of them somebody else has a turn
 //       line                                         a script line of `c`: a phase word, which makes an entry also where it is refused, or `finalise`
 //       end                                          what is left of an open cycle
+//       graph                                        the open cycle's dead part
 //       hear, tell                                   what other callers know, and what they are told
 //     retire                                         the caller again, which is idle
 //
@@ -24,7 +25,7 @@
 // Why it holds: the driver keeps where it stands by what its caller knows, and that its values are those of the open cycle. The dead part is frozen while
 // the cycle is open, so what was seen at the snapshot stays what the driver goes by.
 //
-// `specs/` read alone tells what is true: Progress first, then Contracting, Handles and Held.
+// `specs/` read alone tells what is true: Progress first, then Contracting, Composing, Handles, OpenParts and Held.
 #![tactic(auto)]
 
 mod driver;
@@ -37,4 +38,4 @@ mod words;
 
 pub use driver::{Driver, DriverFault};
 pub use gaps::{Gap, run_gap};
-pub use laws::a_graphs_contraction_is_its_dead_parts;
+pub use laws::{a_graphs_contraction_is_its_dead_parts, phases_make_a_cycle};

@@ -1,5 +1,4 @@
 -- The driver stands before the mirror, on the line of its own last entry or a later one; so its cycle may be abandoned, and it is idle then.
-use Rattle.joint_model.specs.declared.names.Phase.TheVariants as at
 use Rattle.bridge_cycle.proofs.Abandoned.{abandoned_now, abandons_seen, before_mirror, may_abandon}
 use Rattle.bridge_cycle.proofs.Making.{driver_seen, line_seen}
 use Rattle.bridge_cycle.proofs.driver.Driver.give_up.Goals as goal
