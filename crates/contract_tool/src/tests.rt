@@ -2,6 +2,7 @@
 
 use crate::list::read_list;
 use crate::write_all;
+use compare_pass::second_pass;
 use component_pass::contract;
 use std::alloc::Global;
 use std::io;
@@ -71,6 +72,8 @@ fn worked_graphs(rt: HostRuntime) -> Result<(), Fail> {
     for (list, wanted) in &CASES {
         let graph = read_list(alloc, list)?;
         let found = printed(alloc, &contract(alloc, &graph)?)?;
+        assert!(rt; found.as_slice() == wanted.as_bytes());
+        let found = printed(alloc, &second_pass(alloc, &graph)?)?;
         assert!(rt; found.as_slice() == wanted.as_bytes());
     }
     Ok(())
