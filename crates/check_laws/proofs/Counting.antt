@@ -90,9 +90,30 @@ later-open (m ∷ past) w r n k (inr i) e c q = by (later-open past w.1 r.1 n k 
     by h false f v = step-open (state_of past).managed.managed (linkage_after (state_of past) m).managed.managed k (ManagedStep-entry (state_of past) m v (kept past w.1 r.1)) (end-counted past w.1 r.1 n k i e) h c
         (ap (λ (z : Linkage). z.managed.managed.cycle) (sym (after-other (state_of past) m f)) ∙ q)
 
-end-open : (s : Linkage) (n : Noted) (k : ℕ) → ComesBehind (is_read n.entry.made.op) s n → Ends n.entry.made.op k → (c : OpenCycle) × (s.managed.managed.cycle ≡ Some c) × (c.number ≡ k)
+pub end-open : (s : Linkage) (n : Noted) (k : ℕ) → ComesBehind (is_read n.entry.made.op) s n → Ends n.entry.made.op k → (c : OpenCycle) × (s.managed.managed.cycle ≡ Some c) × (c.number ≡ k)
 end-open s n k w (inl e) = resolve-open s n.entry.made n.told n.entry.made.op k refl e (comes-other s n _ e refl w).lawful
 end-open s n k w (inr e) = abandon-open s n.entry.made n.told n.entry.made.op k refl e (comes-other s n _ e refl w).lawful
+
+-- a cycle that is open was counted
+step-counted : (s t : Managed) → ManagedStep s t → ((c : OpenCycle) → s.cycle ≡ Some c → 1 ≤ s.cycles) → (c : OpenCycle) → t.cycle ≡ Some c → 1 ≤ t.cycles
+step-counted s t (going_on g) h c e = (let l = h c (sym g.cycle ∙ e) in let f = g.cycles in omega (arith, l, f))
+step-counted s t (snapping p) h c e = (let f = ap (λ (z : Managed). z.cycles) p.is in omega (arith, f))
+step-counted s t (resolving p) h c e = absurd (none_some c (sym (ap (λ (z : Managed). z.cycle) p.is) ∙ e))
+step-counted s t (abandoning p) h c e = absurd (none_some c (sym (ap (λ (z : Managed). z.cycle) p.is) ∙ e))
+
+pub open-counted : (past : List Noted) → AllComeBehind past → AllStand past → (c : OpenCycle) → (state_of past).managed.managed.cycle ≡ Some c → 1 ≤ (state_of past).managed.managed.cycles
+open-counted [] w r c q = absurd (none_some c q)
+open-counted (m ∷ past) w r c q = by (open-counted past w.1 r.1) (is_read m.entry.made.op) refl w.0
+  where
+    by : ((c : OpenCycle) → (state_of past).managed.managed.cycle ≡ Some c → 1 ≤ (state_of past).managed.managed.cycles) → (b : Bool) → is_read m.entry.made.op ≡ b → ComesBehind b (state_of past) m → 1 ≤ (state_of (m ∷ past)).managed.managed.cycles
+    by h true f v = (
+        let l = h c (ap (λ (z : Linkage). z.managed.managed.cycle) (sym (after-read (state_of past) m f)) ∙ q) in
+        let e = ap (λ (z : Linkage). z.managed.managed.cycles) (after-read (state_of past) m f) in
+        omega (arith, l, e))
+    by h false f v = (
+        let l = step-counted (state_of past).managed.managed (linkage_after (state_of past) m).managed.managed (ManagedStep-entry (state_of past) m v (kept past w.1 r.1)) h c (ap (λ (z : Linkage). z.managed.managed.cycle) (sym (after-other (state_of past) m f)) ∙ q) in
+        let e = ap (λ (z : Linkage). z.managed.managed.cycles) (after-other (state_of past) m f) in
+        omega (arith, l, e))
 
 -- an entry in a place, with what stands before it, and another in a lower place
 record Pair (i j : ℕ) (n m : Noted) : Type 0 where
@@ -161,7 +182,7 @@ ended-none (x ∷ past) k e n i f = by (ends_cycle x.entry.made.op k) refl e (en
     ]
 
 -- each cycle that was counted has its snap
-abbrev IsSnap : Op → Type 0
+abbrev pub IsSnap : Op → Type 0
 IsSnap (op.Snap k) = Unit {0}
 IsSnap _ = ⊥
 
@@ -209,6 +230,21 @@ snap-here s n w p k l = by (is_read n.entry.made.op) refl
     by : (b : Bool) → is_read n.entry.made.op ≡ b → (k ≤ s.managed.managed.cycles) ⊎ (n.entry.made.op ≡ op.Snap record { 0 = k })
     by true f = inl (let e = ap (λ (z : Linkage). z.managed.managed.cycles) (after-read s n f) in omega (arith, l, e))
     by false f = named n.entry.made.op refl f
+
+pub cycles-on : (s : Linkage) (n : Noted) → ComesBehind (is_read n.entry.made.op) s n → IsReplayKept s.managed → (IsSnap n.entry.made.op → ⊥) → (entry_after s n).managed.managed.cycles ≡ s.managed.managed.cycles
+cycles-on s n w p q = by (is_read n.entry.made.op) refl
+  where
+    by : (b : Bool) → is_read n.entry.made.op ≡ b → (entry_after s n).managed.managed.cycles ≡ s.managed.managed.cycles
+    by true f = ap (λ (z : Linkage). z.managed.managed.cycles) (after-read s n f)
+    by false f = ap (λ (z : Linkage). z.managed.managed.cycles) (after-other s n f) ∙ side-cycles s.managed n.entry.made n.told (is_peer_event n.entry.made.caller n.entry.made.op) n.entry.made.op refl q p
+
+-- a cycle that wasn't counted hasn't ended
+pub unended : (past : List Noted) → AllComeBehind past → AllStand past → (k : ℕ) → (state_of past).managed.managed.cycles < k → ended past k ≡ None
+unended past w r k l = by (ended past k) refl
+  where
+    by : (o : Option ℕ) → ended past k ≡ o → o ≡ None
+    by None e = refl
+    by (Some m) e = absurd (let c = ended-some past k m e in let few = end-counted past w r c.entry k (at-in past c.at c.entry c.there) c.is in omega (arith, few, l))
 
 snap-of : (past : List Noted) → AllComeBehind past → AllStand past → (k : ℕ) → 1 ≤ k → k ≤ (state_of past).managed.managed.cycles → (n : Noted) × InPast past n × (n.entry.made.op ≡ op.Snap record { 0 = k })
 snap-of [] w r k a l = absurd (omega (arith, a, l))
