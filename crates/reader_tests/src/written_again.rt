@@ -1,5 +1,7 @@
 // Reports that are read and written again.
 
+ghost use Rattle.std.specs.Prelude.{◌<◌, ◌≤◌, length};
+
 use crate::comparing::expect_text;
 use crate::gap_reports::GAP_REPORTS;
 use crate::worked_reports::REPORTS;
