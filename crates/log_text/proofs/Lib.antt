@@ -4,3 +4,4 @@ pub mod Wrong
 pub mod Keys
 pub mod LinesWritten
 pub mod ReadLines
+pub mod Pieces

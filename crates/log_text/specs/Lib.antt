@@ -4,3 +4,4 @@ pub mod Faults
 pub mod Live
 pub mod Taking
 pub mod Laws
+pub mod Answers

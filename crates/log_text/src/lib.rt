@@ -24,6 +24,7 @@
 // wrong.
 #![tactic(auto)]
 
+mod answers;
 mod laws;
 mod leaks;
 mod lines;
@@ -34,6 +35,7 @@ mod reading;
 mod said;
 mod writing;
 
+pub use answers::{write_log_refusal, write_unreleased};
 pub use laws::logs_are_read;
 pub use leaks::unreleased;
 pub use lines::{LogCause, LogError, LogLine, Mark};
