@@ -11,3 +11,5 @@ pub mod Last
 pub mod Runnable
 pub mod Ordered
 pub mod Results
+pub mod Opened
+pub mod Listing

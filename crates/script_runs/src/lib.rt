@@ -12,6 +12,7 @@
 // - `run_threads` runs each thread's lines in a job of its own, the driver's in the first one, each line after its turn at the turnstile. Its history
 //   holds each thread's lines in their order, and what came between is told by the entries' numbers. Managed threads read cells without a lock, and no
 //   wait answers `pending`.
+// - `run_compared` runs a script as `run_serial` does, and writes what the second component pass finds in each cycle's dead part.
 // - `run_serial_then_cycle` and `run_threads_then_cycle` run one cycle more once all threads have ended; its entries stand behind all others.
 //
 // Every history is linked, with all notices that were queued; it is a run of the one machine whose graph joins both heaps, sound and complete, in
@@ -20,6 +21,7 @@
 // `specs/Running.antt` says which lines can be run and what each makes; what the history is then stands in `run_laws`.
 #![tactic(auto)]
 
+mod compared;
 mod last_cycle;
 mod lines;
 mod places;
@@ -27,6 +29,7 @@ mod serial;
 mod threads;
 mod workers;
 
+pub use compared::{Compared, run_compared};
 pub use last_cycle::{run_serial_then_cycle, run_threads_then_cycle};
 pub use serial::run_serial;
 pub use threads::run_threads;

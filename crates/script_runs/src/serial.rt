@@ -25,9 +25,9 @@ use std::alloc::{AllocError, Global};
 use std::marker::Brand;
 use std::sync::Wait;
 
-// Runs a line of a thread that isn't the driver's. The driver tells the thread's caller all that it knows, and hears of what the caller made.
+/// Runs a line of a thread that isn't the driver's. The driver tells the thread's caller all that it knows, and hears of what the caller made.
 #[inline(always)]
-fn run_told<N: OrderName>(
+pub(crate) fn run_told<N: OrderName>(
     rt: &impl Wait,
     shared: &Shared<N, Alone>,
     driver: &mut Driver<N>,
@@ -49,8 +49,11 @@ fn run_told<N: OrderName>(
     Ok(())
 }
 
-// The callers of all threads but the driver's.
-fn all_others<N: OrderName>(alloc: Global, desk: &mut Desk<N>) -> Result<Vec<Caller<N>>, AllocError>
+/// The callers of all threads but the driver's.
+pub(crate) fn all_others<N: OrderName>(
+    alloc: Global,
+    desk: &mut Desk<N>,
+) -> Result<Vec<Caller<N>>, AllocError>
     requires desk { (desk.old.managed ≡ 8) × (desk.old.peers ≡ 8) }
     requires all { (i : ℕ) → 1 ≤ i → i < 17 → (p : Pass) × (slice_get desk.old.callers i ≡ Some (Some p)) }
     ensures others { IfOk result (λ v. AreOthers v.items) }
