@@ -1,0 +1,6 @@
+pub mod Nodes
+pub mod Edges
+pub mod Writing
+pub mod Carried
+pub mod Passing
+pub mod Joined
