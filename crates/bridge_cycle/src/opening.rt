@@ -16,7 +16,7 @@ use joint_model::{Alive, Phase, Reply};
 use order_table::OrderName;
 use std::alloc::{AllocError, Global};
 use std::sync::Wait;
-use xref_list::Components;
+use xref_list::{Components, ListingFault};
 
 // A graph is one that a dead part can have.
 fn graph_is_part(graph: &DeadGraph)
@@ -30,7 +30,7 @@ fn components_of(
     alloc: Global,
     graph: &DeadGraph,
     candidates: u32,
-) -> Result<(Components, Alive), AllocError>
+) -> Result<(Components, Alive), ListingFault>
     ensures comps { IfOk result (λ found. (heavy : List ℕ) × (length heavy ≡ found.0.heavy) × IsContraction (IsBridgeNode graph.now.nodes) (NodeLeads graph.now.edges) found.0.comps heavy found.0.pairs) }
     ensures room { IfOk result (λ found. (found.1.values ≡ []) × (found.1.room ≡ candidates)) }
 {

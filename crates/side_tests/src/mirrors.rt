@@ -22,7 +22,7 @@ use peer_mirror::{clear, install};
 use peer_side::{BeginFault, PeerSide};
 use std::alloc::{AllocError, Global};
 use std::marker::Model;
-use xref_list::{Components, ComponentsBuilder};
+use xref_list::{Components, ComponentsBuilder, ListingFault};
 
 /// What is done, and what that answers.
 pub type Row = (Call, Reply);
@@ -351,6 +351,17 @@ fn two_nodes(alloc: Global) -> Result<DeadGraph, AllocError>
 
 // Their only component.
 fn one_component(alloc: Global) -> Result<Components, AllocError>
+    ensures comps { IfOk result (λ c. c.comps ≡ circle) }
+    ensures pairs { IfOk result (λ c. c.pairs ≡ []) }
+{
+    match listed_component(alloc) {
+        Ok(comps) => Ok(comps),
+        Err(_) => Err(AllocError),
+    }
+}
+
+// The same, with what a listing is refused for.
+fn listed_component(alloc: Global) -> Result<Components, ListingFault>
     ensures comps { IfOk result (λ c. c.comps ≡ circle) }
     ensures pairs { IfOk result (λ c. c.pairs ≡ []) }
 {

@@ -2,9 +2,8 @@
 
 ghost use Rattle.std.specs.Prelude.{◌≡◌, []};
 
-use std::alloc::AllocError;
 use std::test::Fail;
-use xref_list::{Added, Components, ComponentsBuilder, End};
+use xref_list::{Added, Components, ComponentsBuilder, End, ListingFault};
 
 // The pairs of the circles, in order.
 const PAIRS: [(u32, u32); 4] = [(0, 1), (0, 2), (1, 0), (2, 1)];
@@ -36,7 +35,7 @@ fn adds(
     src: u32,
     dst: u32,
     wanted: Added,
-) -> Result<bool, AllocError> {
+) -> Result<bool, ListingFault> {
     if src >= builder.len() || dst >= builder.len() || src == dst {
         return Ok(false);
     }
@@ -69,7 +68,7 @@ fn has_members(components: &Components, c: u32, members: &[u32]) -> bool {
 }
 
 // Adds two components of one member each, and a pair twice. Answers whether each call answers as it should.
-fn add_single(builder: &mut ComponentsBuilder) -> Result<bool, AllocError>
+fn add_single(builder: &mut ComponentsBuilder) -> Result<bool, ListingFault>
     requires comps { builder.old.comps ≡ [] }
     requires heavy { builder.old.heavy ≡ 0 }
 {
@@ -83,7 +82,7 @@ fn add_single(builder: &mut ComponentsBuilder) -> Result<bool, AllocError>
 }
 
 // Adds the pairs that end elsewhere, and one that is there. Answers whether each call answers as it should.
-fn add_pairs(builder: &mut ComponentsBuilder) -> Result<bool, AllocError> {
+fn add_pairs(builder: &mut ComponentsBuilder) -> Result<bool, ListingFault> {
     Ok(
         adds(builder, 2, 1, Added::New)?
             && adds(builder, 1, 0, Added::New)?
@@ -92,7 +91,7 @@ fn add_pairs(builder: &mut ComponentsBuilder) -> Result<bool, AllocError> {
 }
 
 // Adds three components and their pairs. Answers whether each call answers as it should.
-fn add_circles(builder: &mut ComponentsBuilder) -> Result<bool, AllocError>
+fn add_circles(builder: &mut ComponentsBuilder) -> Result<bool, ListingFault>
     requires comps { builder.old.comps ≡ [] }
     requires heavy { builder.old.heavy ≡ 0 }
     requires pairs { builder.old.pairs ≡ [] }
@@ -105,7 +104,7 @@ fn add_circles(builder: &mut ComponentsBuilder) -> Result<bool, AllocError>
 }
 
 // Adds a component with two members and one without, and the pairs between them. Answers whether each call answers as it should.
-fn add_bridgeless(builder: &mut ComponentsBuilder) -> Result<bool, AllocError>
+fn add_bridgeless(builder: &mut ComponentsBuilder) -> Result<bool, ListingFault>
     requires comps { builder.old.comps ≡ [] }
     requires heavy { builder.old.heavy ≡ 0 }
 {

@@ -3,7 +3,7 @@ use Rattle.std.proofs.Common.{◌≡◌, ℕ, List, [], length, refl, ap, ◌∙
 use Rattle.std.proofs.lemmas.List.{nil_from_length}
 use Rattle.std.proofs.lemmas.List.Sorted.{length_permutation}
 use Rattle.side_tests.specs.Circles.{circle}
-use Rattle.side_tests.proofs.mirrors.one_component.Goals as goal
+use Rattle.side_tests.proofs.mirrors.listed_component.Goals as goal
 
 pub returns-clause-comps : goal.returns-clause-comps
 unfolding circle
