@@ -1,0 +1,12 @@
+// Tests of `log_text` by its public calls: logs that are read, refused, written and searched for what was never released.
+//
+// They stand in a crate of their own since a crate with tests is proved twice, with them and without, and these are what a program is built on. Nothing
+// but tests stands here, and no other crate builds on it.
+//
+// Nothing is promised to anybody. A test makes a text or a log, makes the calls, and compares what they answer with a table; each runs alone.
+#![tactic(auto)]
+
+#[cfg(test)]
+mod comparing;
+#[cfg(test)]
+mod texts;
