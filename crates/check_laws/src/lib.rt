@@ -5,11 +5,12 @@
 // legal, and else unfinished.
 //
 // `specs/` read alone tells what is true: Order has the three tests in a state, Behind of an entry behind a past, and Found what a history is found to be. Laws,
-// Reads, Known and Counts have the laws on the way:
+// Reads, Known, Counts and Knows have the laws on the way:
 //
 // - the three tests are nothing else than "may come next", and but for refusals what an entry answers is one;
 // - what a read may answer over a whole history is told by what stands before it and by the snap that a `pending` waits for, and that by a few counts of
 //   managed entries: at a caller's last entry, at a cycle's end, at the setting of a cell;
+// - the entries so far are a past that somebody knows, so that what the calls of both sides ask for holds behind them;
 // - a history has one finding, and it is legal exactly where it is linked, as far as its replies name its freed lists.
 //
 // No value is made but a finding, and nothing runs.
@@ -19,6 +20,7 @@ mod findings;
 
 ghost use Rattle.check_laws.specs.Counts.{ReadsAreCounted};
 ghost use Rattle.check_laws.specs.Found.{HistoryHasOneFinding, LegalIsLinked, LinkedRuns, NamesAreLists};
+ghost use Rattle.check_laws.specs.Knows.{PastsInOrderAreKnown};
 ghost use Rattle.check_laws.specs.Known.{KnownIsCounted, PendingIsOwed, UnknownIsTested};
 ghost use Rattle.check_laws.specs.Laws.{OrderIsTested, RepliesAreOne};
 ghost use Rattle.check_laws.specs.Reads.{ReaderOrderIsTested, ReadersAreTested};
@@ -68,6 +70,12 @@ pub fn readers_are_tested()
 /// with the setting of each cell.
 pub fn reads_are_counted()
     ensures { ReadsAreCounted }
+{}
+
+/// The entries so far, each in order, are a past that somebody knows, with the pins of the state told; and all that every known past keeps holds of the state
+/// behind them, but for the pins. So what each call of both sides asks for follows of it, by what a thread has in hand or where the driver stands.
+pub fn checked_pasts_are_known()
+    ensures { PastsInOrderAreKnown }
 {}
 
 /// A history has one finding.

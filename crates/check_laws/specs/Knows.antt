@@ -1,0 +1,26 @@
+-- The entries so far are known to whoever checks them: they are a past of one who knows them all, with the pins of the state told at each snap and `take`.
+-- So all that every known past keeps holds of the state, but for the pins.
+use Rattle.std.specs.Prelude.{◌≡◌, List}
+use Rattle.joint_model.specs.Draws.{NumberedFrom}
+use Rattle.joint_model.specs.Histories.{Finished}
+use Rattle.joint_model.specs.Told.{Noted, no_pins}
+use Rattle.known_laws.specs.Driving.{IsPastKept}
+use Rattle.known_laws.specs.Growing.{entries}
+use Rattle.known_laws.specs.Known.{pinned}
+use Rattle.known_laws.specs.Pasts.{Lawful, end_of}
+use Rattle.check_laws.specs.Behind.{in_turn, state_of, AllInOrder}
+
+-- a past of one who knows them all
+pub record IsKnown (past : List Noted) : Type 0 where
+  pub known : List Noted
+  pub same : entries known ≡ entries past
+  pub lawful : Lawful known
+  pub ends : end_of known ≡ pinned (state_of past) no_pins
+
+-- and what it keeps
+pub record AreKnown (past : List Noted) : Type 0 where
+  pub is : IsKnown past
+  pub kept : IsPastKept (pinned (state_of past) no_pins)
+
+abbrev pub PastsInOrderAreKnown : Type 0
+PastsInOrderAreKnown = (h : Finished) (past : List Noted) → NumberedFrom 0 (entries (in_turn past)) → AllInOrder h past → AreKnown past
