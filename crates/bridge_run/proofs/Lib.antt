@@ -1,3 +1,4 @@
 pub mod NoWords
 pub mod DriversLines
 pub mod Alike
+pub mod Lacking

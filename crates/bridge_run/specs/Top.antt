@@ -1,5 +1,6 @@
 -- What the top call promises: which words are a command, and what each status tells.
 use Rattle.std.specs.Prelude.{◌≡◌, ◌⊎◌, ℕ, List, [], ◌∷◌, ◌++◌, length, Option, Some, codes}
+use Rattle.std.specs.Io.KnownBytes.{Keeps}
 use Rattle.joint_model.specs.declared.names.Thread.{Thread}
 use Rattle.joint_model.specs.declared.lines.Act.{Act}
 use Rattle.joint_model.specs.Histories.{Finished}
@@ -7,10 +8,11 @@ use Rattle.joint_model.specs.LinkedHistories.{IsLinkedBy, linked_end}
 use Rattle.joint_model.specs.Told.{Noted}
 use Rattle.bridge_script.specs.declared.faults.ScriptFault.{ScriptFault}
 use Rattle.bridge_script.specs.Causes.{fault_text}
-use Rattle.byte_streams.specs.Streams.{Rose}
+use Rattle.byte_streams.specs.Streams.{AppendsPart, Rose}
 use Rattle.bridge_script.specs.Scripts.{IsText}
 use Rattle.bridge_script.specs.Reading.{TookScript, TookFault}
 use Rattle.history_report.specs.Report.{report}
+use Rattle.graph_listing.specs.Listing.{Listed, cycles_text}
 use Rattle.command_words.specs.declared.commands.Mode.{Mode}
 use Rattle.command_words.specs.declared.commands.Mode.TheVariants as mode
 use Rattle.command_words.specs.declared.commands.Command.{Command}
@@ -19,6 +21,7 @@ use Rattle.command_words.specs.Commands.{AreWordsOf}
 use Rattle.generated_laws.specs.Counts.{generated_tally}
 use Rattle.run_laws.specs.Final.{IsRunInOrder, IsRunByThreads}
 use Rattle.run_laws.specs.LastCycle.{IsRunThenCycle, cycle_line}
+use Rattle.listing_laws.specs.Listings.{IsListingOf}
 use Rattle.run_summary.specs.Summary.{summary_text}
 use Rattle.script_generator.specs.Generated.{generated}
 use Rattle.summary_laws.specs.States.{tally_in}
@@ -27,9 +30,17 @@ use Rattle.summary_laws.specs.States.{tally_in}
 abbrev pub IsCommand : List (List ℕ) → Type 0
 IsCommand words = (c : Command) × AreWordsOf words c
 
+-- the command reads a script and runs it
+abbrev pub TakesScript : Command → Type 0
+TakesScript (command.Run m) = Unit {0}
+TakesScript command.Compare = Unit {0}
+TakesScript c = ⊥
+
 -- they are one that reads a script
-abbrev pub ReadsScript : List (List ℕ) → Type 0
-ReadsScript words = (m : Mode) × AreWordsOf words (command.Run m)
+pub record ReadsScript (words : List (List ℕ)) : Type 0 where
+  pub asked : Command
+  pub command : AreWordsOf words asked
+  pub takes : TakesScript asked
 
 -- the line that tells how the program is called
 abbrev pub usage_text : List ℕ
@@ -96,13 +107,38 @@ pub record SummaryPut (words : List (List ℕ)) (left rest : Option (List ℕ)) 
   pub run : IsGeneratedRunOf asked seed size history
   pub text : Put (summary_text seed size asked (length (generated seed size)) (generated_tally seed size))
 
--- a report or a summary was put
+-- a listing: the source was read to its end, what was taken is a text of the script, and the text is a listing of the cycles of the history of its run in order
+pub record ComparedPut (left rest : Option (List ℕ)) (Put : List ℕ → Type 0) : Type 0 where
+  pub script : List (Thread × Act)
+  pub history : Finished
+  pub took : TookScript left rest script
+  pub run : IsRunInOrder script history
+  pub listing : List ℕ
+  pub lists : IsListingOf history listing
+  pub text : Put listing
+
+-- it is due where the words ask for the components of a script's cycles
+pub record ListingPut (words : List (List ℕ)) (left rest : Option (List ℕ)) (Put : List ℕ → Type 0) : Type 0 where
+  pub command : AreWordsOf words command.Compare
+  pub put : ComparedPut left rest Put
+
+-- the text of a command was put: a report, a summary or a listing, each with its command
 abbrev pub ResultPut : List (List ℕ) → Option (List ℕ) → Option (List ℕ) → (List ℕ → Type 0) → Type 0
-ResultPut words left rest Put = ReportPut words left rest Put ⊎ SummaryPut words left rest Put
+ResultPut words left rest Put = ReportPut words left rest Put ⊎ SummaryPut words left rest Put ⊎ ListingPut words left rest Put
 
 -- one of the four texts was put
 abbrev pub TextPut : List (List ℕ) → Option (List ℕ) → Option (List ℕ) → (List ℕ → Type 0) → Type 0
 TextPut words left rest Put = UsagePut words Put ⊎ RefusalPut words left rest Put ⊎ ResultPut words left rest Put
+
+-- some cycles' lines were put, or a beginning of them
+pub record LinesPut (held after : Option (List ℕ)) : Type 0 where
+  pub cycles : List Listed
+  pub part : AppendsPart held after (cycles_text cycles)
+
+-- what stands at the sink where memory was wanting: nothing was put; but for a listing, which is written while the script runs
+pub record LacksMemory (words : List (List ℕ)) (held after : Option (List ℕ)) : Type 0 where
+  pub kept : (AreWordsOf words command.Compare → ⊥) → Keeps held after
+  pub lines : AreWordsOf words command.Compare → LinesPut held after
 
 -- the words ask for a script to be read, the source has a script's text, and neither count of faults rose
 pub record MayRun (words : List (List ℕ)) (left : Option (List ℕ)) (read_before read_now write_before write_now : ℕ) : Type 0 where

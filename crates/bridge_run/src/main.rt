@@ -2,10 +2,10 @@
 //
 // A run of the program is one top call, `bridge_main`:
 //
-//     words behind the program's name        serial, threads or gen with its three pairs, else the usage line
+//     words behind the program's name        serial, threads, compare or gen with its three pairs, else the usage line
 //       source, read to its end              a script, else the line of its first fault; `gen` makes its script and reads nothing
 //         the run, by `script_runs`          one history of all that both heaps and the driver did
-//           sink                             the report of the history, or for `gen` its summary
+//           sink                             the report of the history, for `gen` its summary, or for `compare` the listing of its cycles
 //
 // and the answer is the exit status. `main` hands the process's words and streams to `run_program`, which makes that call; `StdSource` and `StdSink` make
 // a source and a sink of any reader and writer, and each counts its errors.
@@ -18,6 +18,7 @@
 // `specs/Ends.antt` have it word by word, and docs/PROVED.md tells it promise by promise. That the program returns, or goes on, is not promised.
 #![tactic(auto)]
 
+mod compared;
 #[cfg(test)]
 mod expecting;
 #[cfg(test)]
@@ -36,6 +37,8 @@ mod rows;
 mod rows_cell_read;
 #[cfg(test)]
 mod rows_collected;
+#[cfg(test)]
+mod rows_compared;
 #[cfg(test)]
 mod rows_cycle_limit;
 #[cfg(test)]

@@ -22,6 +22,10 @@ same_mode mode.Serial mode.Threads e = absurd (modes_differ e)
 same_mode mode.Threads mode.Serial e = absurd (modes_differ (sym e))
 same_mode mode.Threads mode.Threads e = refl
 
+mode_is_no_listing : (m : Mode) → mode_text m ≡ codes "compare" → ⊥
+mode_is_no_listing mode.Serial e = other_text (codes "serial") (codes "compare") refl e
+mode_is_no_listing mode.Threads e = other_text (codes "threads") (codes "compare") refl e
+
 first_word : (a b : List ℕ) (words : List (List ℕ)) → a ∷ [] ≡ words → b ∷ [] ≡ words → a ≡ b
 first_word a b words e f = ap (λ w. word_at w 0) (e ∙ sym f)
 
@@ -34,6 +38,11 @@ apart words text e l = let short : 1 ≡ length words = ap length e in absurd (o
 pub tell : (words : List (List ℕ)) (c d : Command) → AreWordsOf words c → AreWordsOf words d → c ≡ d
 tell words (command.Run m) (command.Run n) a b = ap command.Run (same_mode m n (first_word _ _ words (one (mode_text m) words a.given) (one (mode_text n) words b.given)))
 tell words (command.Run m) (command.Generate s z n) a b = apart words (mode_text m) (one (mode_text m) words a.given) (values (decimal s) (decimal z) (mode_text n) words b.given).seven
+tell words (command.Run m) command.Compare a b = absurd (mode_is_no_listing m (first_word _ _ words (one (mode_text m) words a.given) (one (codes "compare") words b.given)))
+tell words command.Compare (command.Run n) a b = absurd (mode_is_no_listing n (first_word _ _ words (one (mode_text n) words b.given) (one (codes "compare") words a.given)))
+tell words command.Compare command.Compare a b = refl
+tell words command.Compare (command.Generate s z n) a b = apart words (codes "compare") (one (codes "compare") words a.given) (values (decimal s) (decimal z) (mode_text n) words b.given).seven
+tell words (command.Generate s z m) command.Compare a b = apart words (codes "compare") (one (codes "compare") words b.given) (values (decimal s) (decimal z) (mode_text m) words a.given).seven
 tell words (command.Generate s z m) (command.Run n) a b = apart words (mode_text n) (one (mode_text n) words b.given) (values (decimal s) (decimal z) (mode_text m) words a.given).seven
 tell words (command.Generate s z m) (command.Generate s' z' m') a b =
     let v = values (decimal s) (decimal z) (mode_text m) words a.given in

@@ -31,6 +31,7 @@ generator_words seed size m = in_any_order (seed_pair seed) (size_pair size) (mo
 -- the lists of words by which a command may be given
 abbrev pub lists_of : Command → List (List (List ℕ))
 lists_of (command.Run m) = (mode_text m ∷ []) ∷ []
+lists_of command.Compare = (codes "compare" ∷ []) ∷ []
 lists_of (command.Generate seed size m) = map (λ rest. codes "gen" ∷ rest) (generator_words seed size m)
 
 -- a seed has at most 64 bits, and a size is at most 2,800

@@ -28,6 +28,9 @@ fn one_word(words: &[String]) -> Option<Command>
     requires { length words.now ≡ 1 }
     ensures { MatchOption result ((c : TheCommand) → AreWordsOf (map string_bytes words.now) c → ⊥) (λ c. AreWordsOf (map string_bytes words.now) c) }
 {
+    if is_same(word(words, 0), "compare") {
+        return Some(Command::Compare);
+    }
     match mode_of(word(words, 0)) {
         Some(mode) => Some(Command::Run { mode }),
         None => None,

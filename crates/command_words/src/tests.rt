@@ -17,7 +17,7 @@ const LONGEST: Command = Command::Generate {
     mode: Mode::Serial,
 };
 
-const LINES: [(&str, Option<Command>); 13] = [
+const LINES: [(&str, Option<Command>); 15] = [
     ("serial", Some(Command::Run { mode: Mode::Serial })),
     (
         "threads",
@@ -25,6 +25,8 @@ const LINES: [(&str, Option<Command>); 13] = [
             mode: Mode::Threads,
         }),
     ),
+    ("compare", Some(Command::Compare)),
+    ("compare serial", None),
     ("", None),
     ("--help", None),
     ("serial x", None),
