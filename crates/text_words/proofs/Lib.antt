@@ -5,3 +5,4 @@ pub mod Decimals
 pub mod Cutting
 pub mod PlainWords
 pub mod PlainLines
+pub mod Gathering

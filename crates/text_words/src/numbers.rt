@@ -1,9 +1,12 @@
 // The number that a word writes.
 
-ghost use Rattle.std.specs.Prelude.{◌≡◌, ◌≢◌, ℕ, ◌<◌, ◌^◌, [], ◌∷◌, MatchOption, decimal};
+ghost use Rattle.std.specs.Prelude.{◌≡◌, ◌≢◌, ℕ, ◌<◌, ◌≤◌, ◌^◌, [], ◌∷◌, length, MatchOption, decimal};
 
 use crate::words::is_same;
 use itoa::Buffer;
+
+// The most digits of which each number that they write is below 2^64.
+const FEW: usize = 19;
 
 /// The number that a word writes, in decimal digits without a needless zero and below 2^64.
 #[inline(always)]
@@ -11,10 +14,12 @@ pub fn number(word: &[u8]) -> Option<u64>
     ensures { MatchOption result ((n : ℕ) → n < 2 ^ 64 → decimal n ≢ word.now) (λ n. (n < 2 ^ 64) × (decimal n ≡ word.now)) }
 {
     if word.len() == 1 {
-        digit(word[0])
-    } else {
-        long_number(word)
+        return digit(word[0]);
     }
+    if word.is_empty() || word.len() > FEW {
+        return long_number(word);
+    }
+    short_number(word)
 }
 
 // The number that a word of this one byte writes.
@@ -26,6 +31,26 @@ fn digit(byte: u8) -> Option<u64>
         return None;
     }
     Some((byte - b'0') as u64)
+}
+
+// The number that a word of two to nineteen bytes writes: a further digit makes ten times as much, and that digit.
+fn short_number(word: &[u8]) -> Option<u64>
+    requires some { 1 < length word.now }
+    requires few { length word.now ≤ 19 }
+    ensures { MatchOption result ((n : ℕ) → n < 2 ^ 64 → decimal n ≢ word.now) (λ n. (n < 2 ^ 64) × (decimal n ≡ word.now)) }
+{
+    if word[0] < b'1' || word[0] > b'9' {
+        return None;
+    }
+    let mut n = (word[0] - b'0') as u64;
+    for i in 1..word.len() {
+        let byte = word[i];
+        if byte < b'0' || byte > b'9' {
+            return None;
+        }
+        n = n * 10 + (byte - b'0') as u64;
+    }
+    Some(n)
 }
 
 // The number that a word of any length writes.
