@@ -10,8 +10,8 @@
 //     }
 //
 // A `Log` is a list of lines, each of which notes a strong or a weak handle that comes or goes, with its peer, how many there are behind it, and the
-// entry that it is of. `read_log` makes one of bytes, `Log::of_lines` of lines that are one; `write_log` writes it, `unreleased` lists the handles that
-// are live at its end. A log never changes.
+// entry that it is of. `read_log` makes one of bytes, `Log::of_lines` of lines that are one; `write_log` writes it; `write_line` and `write_end`
+// do where there is no list of lines. `unreleased` lists the handles that are live at its end. A log never changes.
 //
 // Who runs meanwhile: a log is made by one thread, and may then be read by many. A sink is written by one.
 //
@@ -42,4 +42,4 @@ pub use lines::{LogCause, LogError, LogLine, Mark};
 pub use lists::Unreleased;
 pub use logs::Log;
 pub use reading::read_log;
-pub use writing::write_log;
+pub use writing::{write_end, write_line, write_log};

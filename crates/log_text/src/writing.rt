@@ -26,8 +26,10 @@ fn add_line(line: &mut Line, entry: &LogLine)
     line.text(b"\n");
 }
 
-// Writes a line.
-fn write_line<K: Sink>(entry: &LogLine, line: &mut Line, out: &mut K) -> Result<(), Failed>
+/// Writes a line of a log, with its newline, behind what is pending in the draft. [`Failed`] only where the sink's count of faults rose; then it got a
+/// beginning of both.
+#[inline(always)]
+pub fn write_line<K: Sink>(entry: &LogLine, line: &mut Line, out: &mut K) -> Result<(), Failed>
     ensures { Sends (K.held out.old) (K.held out.new) line.old.text line.new.text (K.faults out.old) (K.faults out.new) result (line_text entry.now ++ 10 ∷ []) }
 {
     line.make_room(out)?;
@@ -45,8 +47,9 @@ fn write_lines<K: Sink>(entries: &[LogLine], line: &mut Line, out: &mut K) -> Re
     Ok(())
 }
 
-// Writes the last line, with the number of lines.
-fn write_end<K: Sink>(count: u64, line: &mut Line, out: &mut K) -> Result<(), Failed>
+/// Writes the last line of a log, with the number of lines, behind what is pending in the draft. [`Failed`] only where the sink's count of faults rose;
+/// then it got a beginning of both.
+pub fn write_end<K: Sink>(count: u64, line: &mut Line, out: &mut K) -> Result<(), Failed>
     ensures { Sends (K.held out.old) (K.held out.new) line.old.text line.new.text (K.faults out.old) (K.faults out.new) result (end_text count ++ 10 ∷ []) }
 {
     line.make_room(out)?;
