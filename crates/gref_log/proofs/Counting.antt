@@ -214,7 +214,7 @@ module _ (noted : List Noted) (w : IsLawfulReading noted) where
   all-of : WholeLog opening_linkage others
   all-of = whole others opening_linkage (reading_is_lawful noted w) AreKept-opening names-opening
 
-  same-log : log_of_notes noted ≡ log_from opening_peer_replay (behind_peers opening_peer_replay) others
+  pub same-log : log_of_notes noted ≡ log_from opening_peer_replay (behind_peers opening_peer_replay) others
   same-log = aside-log w.0 w.1 noted opening_linkage none_live w.2 ∙ ap (λ v. log_from opening_peer_replay v others) opening-behind
 
   same-peer : (replayed opening_linkage others).peer ≡ (replayed_reading opening_linkage noted).peer

@@ -2,3 +2,8 @@ pub mod TableSteps
 pub mod Going
 pub mod PeerLines
 pub mod Counting
+pub mod Tracks
+pub mod Logging
+pub mod Newlines
+pub mod Joining
+pub mod Writing

@@ -1,2 +1,4 @@
 pub mod Log
 pub mod Laws
+pub mod Tracking
+pub mod Limit
