@@ -15,6 +15,7 @@ use Rattle.joint_model.specs.ManagedReplay.{ManagedReplay}
 use Rattle.joint_model.specs.PeerReplay.{PeerReplay}
 use Rattle.joint_model.specs.Sides.{Side}
 use Rattle.joint_model.proofs.Members.{All-members, Contains-here, Contains-there, Contains-map, Contains-cons_cases, Contains-nil}
+use Rattle.known_laws.specs.Drawn.{KeptDrawn, of_drawn}
 use Rattle.known_laws.specs.Lists.{made_by}
 use Rattle.order_table.specs.declared.views.KeptEntry.{KeptEntry}
 use Rattle.order_table.specs.declared.views.View.{View}
@@ -25,9 +26,9 @@ use Rattle.order_table.specs.Tells.{TakesIn, BeginsOneHistory}
 use Rattle.order_table.specs.Views.{Owns, known}
 use Rattle.joint_history.specs.Callers.{HoldsPass, Pass, own}
 use Rattle.joint_history.specs.Desks.{Waiting, WaitsAt, flat, present, thread_of}
-use Rattle.joint_history.specs.Ending.{AllAreIn, BeginsHistory, BeginsView, GathersAll, HasAll, HasOwn, StillWaits, TakesOwn, threads_of}
+use Rattle.joint_history.specs.Ending.{AllAreIn, BeginsHistory, BeginsPast, BeginsView, GathersAll, HasAll, HasOwn, StillWaits, TakesOwn, threads_of}
 use Rattle.joint_history.specs.Knowing.{line_known}
-use Rattle.view_laws.specs.Knowing.{IsDrawnView}
+use Rattle.view_laws.specs.Knowing.{IsDrawnView, drawn_lines, of_order}
 use Rattle.view_laws.proofs.Finished.{own_lines_are_made_by_callers}
 use Rattle.joint_history.specs.Locked.{ManagedKnows, PeerKnows}
 use Rattle.joint_history.proofs.Desking.{thread_is}
@@ -161,6 +162,16 @@ begins_history v w entries e p b =
 pub all_begin_history : (v y : View) (w : AllKnown y.known) (entries : List Entry) → entries ≡ entries_of w.whole → (callers others : List Pass) → TakesOwn v y (callers ++ others) → All (BeginsHistory entries) callers
 all_begin_history v y w entries e callers others k =
     All-members (BeginsHistory entries) callers (λ p c. let m = k.each p (Contains-append_left callers others p c) in begins_history y w entries e p m.3)
+
+-- what it knows of each line, with the pins that were told, begins the line of the past that all seats know together
+begins_past : (v : View) (a : IsDrawnView v) (p : Pass) → BeginsView p.view v → BeginsPast a.known.past p
+begins_past v a p b i =
+    let lines : IsPrefix (drawn_lines p.view i) (drawn_lines v i) = prefix_map of_order (known p.view i) (known v i) (b i) in
+    subst (IsPrefix (of_drawn (drawn_lines p.view i))) (a.known.same i) (prefix_map (λ (d : KeptDrawn). record { entry = d.drawn.entry; pins = d.pins }) (drawn_lines p.view i) (drawn_lines v i) lines)
+
+pub all_begin_past : (v y : View) (a : IsDrawnView y) (callers others : List Pass) → TakesOwn v y (callers ++ others) → All (BeginsPast a.known.past) callers
+all_begin_past v y a callers others k =
+    All-members (BeginsPast a.known.past) callers (λ p c. let m = k.each p (Contains-append_left callers others p c) in begins_past y a p m.3)
 
 -- the history has no more entries than the ten lists have room for
 pub few_entries : (y : View) (w : AllKnown y.known) (entries : List Entry) → entries ≡ entries_of w.whole → length entries < 2 ^ 64

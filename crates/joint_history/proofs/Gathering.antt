@@ -130,13 +130,14 @@ finished_with h past l r is managed peer queued = record {
 }
 
 -- and the history of all lists is linked
-pub record Ends (l : Side ManagedReplay) (r : Side PeerReplay) (freed_managed : List MNum) (freed_peers : List PNum) (notices : List MNum) (w : List (List Entry)) (whole : List Entry) : Type 0 where
+pub record Ends (past : List Noted) (l : Side ManagedReplay) (r : Side PeerReplay) (freed_managed : List MNum) (freed_peers : List PNum) (notices : List MNum) (w : List (List Entry)) (whole : List Entry) : Type 0 where
   pub joinable : IsJoinable w freed_managed freed_peers notices
   pub finished : (h : Finished) → IsShuffle w h.entries → h.freed_managed ≡ freed_managed → h.freed_peers ≡ freed_peers → h.notices ≡ notices → IsFinishedWith h l.state r.state × (h.entries ≡ whole)
+  pub linked : (h : Finished) → IsShuffle w h.entries → h.freed_managed ≡ freed_managed → h.freed_peers ≡ freed_peers → h.notices ≡ notices → IsLinkedPast h past
 
 pub all_gathered : (v : View) (l : Side ManagedReplay) (r : Side PeerReplay) (lists : List (List Entry)) (ts : List Thread) (g : HasGatheredSeats v l r lists ts) → ((t : Thread) → IsThread t → Contains ts t) → (w : AllKnown v.known) → (freed_managed : List MNum) (freed_peers : List PNum) (notices : List MNum)
     → managed_numbers freed_managed ≡ l.state.managed.heap.freed → peer_numbers freed_peers ≡ r.state.peers.heap.freed → managed_numbers notices ≡ l.state.managed.notices
-    → Ends l r freed_managed freed_peers notices (all_lists l.entries r.entries lists) (entries_of w.whole)
+    → Ends g.known.known.past l r freed_managed freed_peers notices (all_lists l.entries r.entries lists) (entries_of w.whole)
 all_gathered v l r lists ts g all w freed_managed freed_peers notices fm fp ns =
     let s = end_of g.known.known.past in
     let queued : managed_numbers notices ≡ s.managed.managed.notices = ns ∙ ap (λ (m : ManagedReplay). m.managed.notices) (sym g.managed) in
@@ -151,6 +152,7 @@ all_gathered v l r lists ts g all w freed_managed freed_peers notices fm fp ns =
       joinable = j.joinable;
       finished = λ h sh a b c. let is = j.linked h sh a b c in
           (finished_with h g.known.known.past l.state r.state is.0 g.managed g.peer (ap managed_numbers c ∙ queued), is.1);
+      linked = λ h sh a b c. (j.linked h sh a b c).0;
     }
 
 -- who has gathered all threads' seats owns every line

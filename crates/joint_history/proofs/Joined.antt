@@ -19,8 +19,8 @@ use Rattle.order_table.specs.Views.{OwnsAll}
 use Rattle.joint_history.specs.Callers.{Pass}
 use Rattle.joint_history.specs.Desks.{Waiting, present}
 use Rattle.joint_history.specs.declared.ends.RunEnd.{RunEnd}
-use Rattle.joint_history.specs.Ending.{all_lists, AllAreIn, AllTaken, AreNumbersOf, BeginsHistory, HasEndNumbers, HasOwn, IsFinished, IsFinishedWith, StillWaits}
-use Rattle.joint_history.proofs.Ended.{all_begin_history, all_have_own, few_entries, made_none}
+use Rattle.joint_history.specs.Ending.{all_lists, AllAreIn, AllTaken, AreNumbersOf, BeginsHistory, HasEndNumbers, HasOwn, IsFinished, IsFinishedWith, IsKnownHistory, StillWaits}
+use Rattle.joint_history.proofs.Ended.{all_begin_history, all_begin_past, all_have_own, few_entries, made_none}
 use Rattle.joint_history.proofs.Gathering.{Ends, all_gathered, owns_all}
 
 pub owns_every : (y : View) (l : Side ManagedReplay) (r : Side PeerReplay) (lists : List (List Entry)) → AllAreIn y l r lists → OwnsAll y
@@ -35,10 +35,11 @@ pub record EndsRun (l : ManagedReplay) (r : PeerReplay) (callers : List Pass) (d
   pub none : (t : Thread) → IsThread t → StillWaits d t → made_by t h.entries ≡ []
   pub begins : All (BeginsHistory h.entries) callers
   pub few : length h.entries < 2 ^ 64
+  pub known : IsKnownHistory callers h
 
 module _ (l : Side ManagedReplay) (r : Side PeerReplay) (readers : List (List Entry)) (d : Waiting) (callers : List Pass) (all : AllTaken l r readers d callers) (left right : List Entry) (same_left : left ≡ l.entries) (same_right : right ≡ r.entries) (freed_managed : List MNum) (freed_peers : List PNum) (notices : List MNum)
     (fm : managed_numbers freed_managed ≡ l.state.managed.heap.freed) (fp : peer_numbers freed_peers ≡ r.state.peers.heap.freed) (ns : managed_numbers notices ≡ l.state.managed.notices) where
-  ends : Ends l r freed_managed freed_peers notices (all_lists left right readers) (entries_of all.whole.whole)
+  ends : Ends all.gathered.gathered.known.known.past l r freed_managed freed_peers notices (all_lists left right readers) (entries_of all.whole.whole)
   ends =
       let g = all.gathered in
       rw (same_left, same_right) (all_gathered all.seat l r readers g.threads g.gathered g.all all.whole freed_managed freed_peers notices fm fp ns)
@@ -58,6 +59,12 @@ module _ (l : Side ManagedReplay) (r : Side PeerReplay) (readers : List (List En
         none = λ t is s. made_none all.seat g.gathered.known all.whole h.entries e.1 t is (all.waiting t is s);
         begins = all_begin_history all.before all.seat all.whole h.entries e.1 callers (present d.callers) all.own;
         few = few_entries all.seat all.whole h.entries e.1;
+        known = record {
+          past = g.gathered.known.known.past;
+          lawful = g.gathered.known.known.lawful;
+          linked = (ends.linked h shuffle a b c).linked;
+          begins = all_begin_past all.before all.seat g.gathered.known callers (present d.callers) all.own;
+        };
       }
 
   pub result_ends : {E : Type 0} (result : Result Finished E) → IfOk result (λ h. IsShuffle (all_lists left right readers) h.entries) → IfOk result (λ h. h.freed_managed ≡ freed_managed) → IfOk result (λ h. h.freed_peers ≡ freed_peers) → IfOk result (λ h. h.notices ≡ notices) → IfOk result (EndsRun l.state r.state callers d)

@@ -1,5 +1,5 @@
 -- The end of a run: all seats are taken into one.
-use Rattle.std.specs.Prelude.{◌≡◌, ◌⊎◌, ℕ, ◌+◌, List, [], ◌++◌, length, map, count_by, is_some, Contains, IsSome, Option, slice_get, slice_index_or, slice_set}
+use Rattle.std.specs.Prelude.{◌≡◌, ◌⊎◌, ℕ, ◌+◌, List, [], ◌++◌, length, map, All, count_by, is_some, Contains, IsSome, Option, slice_get, slice_index_or, slice_set}
 use mathlib.Core.List.{IsPrefix}
 use Rattle.joint_model.specs.declared.names.Thread.{Thread}
 use Rattle.joint_model.specs.declared.names.Thread.TheVariants.{M, P, C}
@@ -14,8 +14,11 @@ use Rattle.joint_model.specs.PeerReplay.{PeerReplay}
 use Rattle.joint_model.specs.Readers.{with_pins}
 use Rattle.joint_model.specs.Sides.{Side}
 use Rattle.joint_model.specs.Told.{Noted}
+use Rattle.known_laws.specs.Drawn.{of_drawn}
+use Rattle.known_laws.specs.Growing.{all_shown}
 use Rattle.known_laws.specs.Lists.{made_by}
-use Rattle.known_laws.specs.Pasts.{end_of}
+use Rattle.known_laws.specs.Pasts.{Lawful, end_of, line}
+use Rattle.known_laws.specs.Wholes.{history_of}
 use Rattle.order_table.specs.declared.views.View.{View}
 use Rattle.order_table.specs.Rule.{AreLinesOfOneHistory}
 use Rattle.order_table.specs.Views.{Owns, known}
@@ -24,7 +27,7 @@ use Rattle.joint_history.specs.Callers.{HoldsPass, KeepsReads, Pass, own}
 use Rattle.joint_history.specs.declared.ends.RunEnd.{RunEnd}
 use Rattle.joint_history.specs.Desks.{Waiting, flat, present}
 use Rattle.joint_history.specs.Knowing.{line_known}
-use Rattle.view_laws.specs.Knowing.{IsDrawnView}
+use Rattle.view_laws.specs.Knowing.{IsDrawnView, drawn_lines}
 
 -- the thread has come to rest: it has nothing to release, and the driver is idle
 abbrev pub Rests : Thread → Linkage → Type 0
@@ -107,6 +110,17 @@ HasOwn entries p = made_by p.thread entries ≡ own p
 -- what the caller knows of the managed list is a beginning of the history's
 abbrev pub BeginsHistory : List Entry → Pass → Type 0
 BeginsHistory es p = IsPrefix (line_known p.view 0) (entries_in 0 es)
+
+-- what the caller knows of each line, with the pins that were told, is a beginning of this past's line
+abbrev pub BeginsPast : List Noted → Pass → Type 0
+BeginsPast past p = (i : ℕ) → IsPrefix (of_drawn (drawn_lines p.view i)) (all_shown (line i past))
+
+-- a history is linked by the notes of a lawful past, and what these callers know is a beginning of that past
+pub record IsKnownHistory (callers : List Pass) (h : Finished) : Type 0 where
+  pub past : List Noted
+  pub lawful : Lawful past
+  pub linked : IsLinkedBy h (history_of past)
+  pub begins : All (BeginsPast past) callers
 
 -- a history is linked by these notes, and its list of notices is all that was ever queued
 pub record IsFinishedBy (h : Finished) (noted : List Noted) : Type 0 where

@@ -12,7 +12,7 @@ ghost use Rattle.order_table.specs.Views.{Owns, OwnsAll};
 ghost use Rattle.joint_history.specs.Callers.{Hears, KnowsNothing, Tells};
 ghost use Rattle.joint_history.specs.Desks.{AreAll};
 ghost use Rattle.joint_history.specs.Driven.{StillStands};
-ghost use Rattle.joint_history.specs.Ending.{all_lists, AllTaken, BeginsHistory, HasAll, HasIdleDriver, HasOwn, HasEndNumbers, IsFinished, StillWaits};
+ghost use Rattle.joint_history.specs.Ending.{all_lists, AllTaken, BeginsHistory, HasAll, HasIdleDriver, HasOwn, HasEndNumbers, IsFinished, IsKnownHistory, StillWaits};
 
 use crate::callers::{Caller, tell};
 use crate::desks::Desk;
@@ -184,6 +184,7 @@ impl<N: OrderName, K: Keeps<N>> Shared<N, K> {
         ensures none { IfOk result (λ h. (t : Thread) → IsThread t → StillWaits desk t → made_by t h.entries ≡ []) }
         ensures begins { IfOk result (λ h. All (BeginsHistory h.entries) callers.items) }
         ensures few { IfOk result (λ h. length h.entries < 2 ^ 64) }
+        ensures known { IfOk result (IsKnownHistory callers.items) }
     {
         let alloc = self.alloc;
         let (left, right, readers) = self.take_all(desk, callers);

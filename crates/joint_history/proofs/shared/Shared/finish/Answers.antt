@@ -23,3 +23,6 @@ returns-clause-begins g c = IfOk-weaker c.join_lists.result (EndsRun _ _ c.args.
 
 pub returns-clause-few : goal.returns-clause-few
 returns-clause-few g c = IfOk-weaker c.join_lists.result (EndsRun _ _ c.args.callers.items c.args.desk) _ (λ h e. e.few) (result_ends _ _ _ c.args.desk c.args.callers.items c.take_all-left.ensures _ _ c.into_lists.ensures.entries c.into_lists-2.ensures.entries _ _ _ c.into_lists.ensures.freed c.into_lists-2.ensures.freed c.into_lists.ensures.notices c.join_lists.result c.join_lists.ensures.shuffle c.join_lists.ensures.managed c.join_lists.ensures.peers c.join_lists.ensures.notices)
+
+pub returns-clause-known : goal.returns-clause-known
+returns-clause-known g c = IfOk-weaker c.join_lists.result (EndsRun _ _ c.args.callers.items c.args.desk) _ (λ h e. e.known) (result_ends _ _ _ c.args.desk c.args.callers.items c.take_all-left.ensures _ _ c.into_lists.ensures.entries c.into_lists-2.ensures.entries _ _ _ c.into_lists.ensures.freed c.into_lists-2.ensures.freed c.into_lists.ensures.notices c.join_lists.result c.join_lists.ensures.shuffle c.join_lists.ensures.managed c.join_lists.ensures.peers c.join_lists.ensures.notices)
