@@ -24,7 +24,8 @@ use Rattle.known_laws.specs.Growing.{entries}
 use Rattle.known_laws.specs.Lists.{made_by}
 use Rattle.script_laws.specs.Holding.{AreEventsAfter, AreLine, AreWord, Standing}
 use Rattle.listing_laws.specs.Laws.{LeftPhasesOpenNone, LinesOpenNone, SnapsAreTheDrivers}
-use Rattle.listing_laws.specs.Listings.{OpensNone, is_snap, snaps_of}
+use Rattle.listing_laws.specs.Listings.{is_snap}
+use Rattle.listing_laws.specs.Snapshots.{OpensNone, snaps_of}
 
 pub snaps-append : (es fs : List Entry) → snaps_of (es ++ fs) ≡ snaps_of es ++ snaps_of fs
 snaps-append es fs = filter-append (λ (e : Entry). is_snap e.made.op) es fs

@@ -1,3 +1,4 @@
 pub mod Listings
+pub mod Snapshots
 pub mod Writing
 pub mod Laws

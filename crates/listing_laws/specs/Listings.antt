@@ -1,24 +1,15 @@
 -- What is listed of a history's cycles: of each snapshot, in order, the contraction of the dead part that it leaves. (SGen's bridge: the collector hands the
 -- client the strongly connected components of the dead bridge objects and their cross-references.)
-use Rattle.std.specs.Prelude.{◌≡◌, ℕ, Bool, true, false, filter, List, [], ◌∷◌, length, Some}
-use mathlib.Core.List.{IsPrefix}
-use Rattle.joint_model.specs.declared.names.Phase.{Phase}
-use Rattle.joint_model.specs.declared.names.Phase.TheVariants as at
-use Rattle.joint_model.specs.declared.names.PhaseWord.TheVariants as word
-use Rattle.joint_model.specs.declared.lines.Act.{Act}
-use Rattle.joint_model.specs.declared.lines.Act.TheVariants as act
-use Rattle.joint_model.specs.declared.events.Entry.{Entry}
+use Rattle.std.specs.Prelude.{◌≡◌, ℕ, Bool, true, false, if◌then◌else◌, List, [], ◌∷◌, length}
 use Rattle.joint_model.specs.declared.events.Op.{Op}
 use Rattle.joint_model.specs.declared.events.Op.TheVariants as op
-use Rattle.joint_model.specs.Control.{OpenSnap}
-use Rattle.joint_model.specs.Cycles.{IsDeadContraction}
+use Rattle.joint_model.specs.Cycles.{IsDeadContraction, IsOpen}
 use Rattle.joint_model.specs.Histories.{Finished}
-use Rattle.joint_model.specs.HistoryLines.{entries_in}
-use Rattle.joint_model.specs.Managed.{OpenCycle}
+use Rattle.joint_model.specs.Linked.{Linkage, opening_linkage}
+use Rattle.joint_model.specs.LinkedHistories.{IsLinked, IsLinkedBy}
+use Rattle.joint_model.specs.Managed.{Managed, OpenCycle}
+use Rattle.joint_model.specs.Readers.{entry_after}
 use Rattle.joint_model.specs.Told.{Noted}
-use Rattle.known_laws.specs.Facts.{opened_of}
-use Rattle.known_laws.specs.Growing.{entries}
-use Rattle.known_laws.specs.Pasts.{Lawful, end_of, line}
 use Rattle.graph_listing.specs.Listing.{Listed, listing_text}
 
 -- whether the event is a snapshot
@@ -26,46 +17,36 @@ abbrev pub is_snap : Op → Bool
 is_snap (op.Snap k) = true
 is_snap o = false
 
--- the snapshots among entries, in order
-abbrev pub snaps_of : List Entry → List Entry
-snaps_of es = filter (λ e. is_snap e.made.op) es
+-- the managed states that the snapshots of a list leave, in order
+abbrev pub states_after_snaps : Linkage → List Noted → List Managed
+states_after_snaps s [] = []
+states_after_snaps s (n ∷ ns) = if is_snap n.entry.made.op
+    then (entry_after s n).managed.managed ∷ states_after_snaps (entry_after s n) ns
+    else states_after_snaps (entry_after s n) ns
 
--- a line of the driver opens no cycle in that phase
-abbrev pub OpensNone : Act → Phase → Type 0
-OpensNone (act.PhaseLine word.Snap) at.Idle = ⊥
-OpensNone (act.PhaseLine word.Cycle) at.Idle = ⊥
-OpensNone a phase = Unit {0}
-
--- at the end of a past the driver has that cycle open, and what is listed is the contraction of its dead part: the components by their members, the heavy
--- classes by their number, and the cross-references
-pub record IsListedPast (past : List Noted) (c : Listed) : Type 0 where
-  pub lawful : Lawful past
-  pub opened : OpenSnap
-  pub driven : opened_of (end_of past).control.stand ≡ Some opened
-  pub number : opened.cycle ≡ c.cycle
-  pub cycle : OpenCycle
-  pub open_cycle : (end_of past).managed.managed.cycle ≡ Some cycle
+-- what is listed is the contraction of a dead part: the components by their members, the heavy classes by their number, and the cross-references
+pub record ListsDeadPart (s : Managed) (dead : List ℕ) (c : Listed) : Type 0 where
   pub heavy : List ℕ
   pub heavy_count : length heavy ≡ c.heavy
-  pub contraction : IsDeadContraction (end_of past).managed.managed cycle.dead c.comps heavy c.pairs
+  pub contraction : IsDeadContraction s dead c.comps heavy c.pairs
 
--- so it is of a snapshot: of the cycle that it opens, at the end of a past whose managed entries begin this managed list
-pub record IsListedAt (managed : List Entry) (e : Entry) (c : Listed) : Type 0 where
-  pub event : e.made.op ≡ op.Snap record { 0 = c.cycle }
-  pub past : List Noted
-  pub begins : IsPrefix (entries (line 0 past)) managed
-  pub listed : IsListedPast past c
+-- the cycle with its number is open in a state, and what is listed is the contraction of that cycle's dead part
+pub record IsListedOf (s : Managed) (c : Listed) : Type 0 where
+  pub cycle : OpenCycle
+  pub open_cycle : IsOpen s c.cycle cycle
+  pub lists : ListsDeadPart s cycle.dead c
 
--- of each of these snapshots, in order
-abbrev pub AreListed : List Entry → List Entry → List Listed → Type 0
-AreListed managed [] [] = Unit {0}
-AreListed managed [] (c ∷ cs) = ⊥
-AreListed managed (e ∷ es) [] = ⊥
-AreListed managed (e ∷ es) (c ∷ cs) = IsListedAt managed e c × AreListed managed es cs
+-- of each of these states, in order
+abbrev pub AreListed : List Managed → List Listed → Type 0
+AreListed [] [] = Unit {0}
+AreListed [] (c ∷ cs) = ⊥
+AreListed (s ∷ ss) [] = ⊥
+AreListed (s ∷ ss) (c ∷ cs) = IsListedOf s c × AreListed ss cs
 
--- the cycles of a history: of each of its snapshots, in order
-abbrev pub IsListedIn : Finished → List Listed → Type 0
-IsListedIn h cycles = AreListed (entries_in 0 h.entries) (snaps_of h.entries) cycles
+-- the cycles of a history: of each of its snapshots, in order, that of the state which it leaves, whatever notes link the history
+pub record IsListedIn (h : Finished) (cycles : List Listed) : Type 0 where
+  pub linked : IsLinked h
+  pub listed : (noted : List Noted) → IsLinkedBy h noted → AreListed (states_after_snaps opening_linkage noted) cycles
 
 -- the text is the listing of a history
 pub record IsListingOf (h : Finished) (text : List ℕ) : Type 0 where

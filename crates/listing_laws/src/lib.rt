@@ -12,4 +12,4 @@
 
 mod laws;
 
-pub use laws::{listings_grow, snapshots_are_the_drivers};
+pub use laws::{listings_grow, snapshots_are_the_drivers, what_was_seen_is_listed};

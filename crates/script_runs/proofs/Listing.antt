@@ -4,15 +4,14 @@ use Rattle.std.proofs.lemmas.List.{length-append}
 use Rattle.std.specs.Prelude.{IfOk, OnOk}
 use Rattle.byte_streams.specs.declared.streams.Failed.{Failed}
 use Rattle.graph_listing.specs.Listing.{Listed}
-use Rattle.joint_history.specs.Knowing.{line_known}
 use Rattle.bridge_cycle.specs.Progress.{Progress}
-use Rattle.listing_laws.specs.Listings.{AreListed}
+use Rattle.listing_laws.specs.Snapshots.{AreSeen}
 use Rattle.listing_laws.specs.Writing.{Wrote}
 use Rattle.byte_streams.specs.Streams.{AppendsPart}
 use Rattle.graph_listing.specs.Listing.{cycles_text}
 use Rattle.listing_laws.proofs.Written.{Writes-nothing, part_of, wrote_none, wrote_then}
 use Rattle.script_runs.specs.declared.compared.Listing.{Listing}
-use Rattle.script_runs.specs.Listed.{AreAllListed, HasNoSnap, Lists, ListsLine}
+use Rattle.script_runs.specs.Listed.{AreAllListed, HasNoSnap, Lists, ListsLine, lines_seen}
 use Rattle.script_runs.proofs.Opened.{lists_more}
 
 pub always_ok : {T E P : Type 0} (r : Result T E) → P → OnOk r P
@@ -45,7 +44,7 @@ pub record ListedSoFar (old new : Listing) (held now : Option (List ℕ)) (befor
   pub few : length cycles ≤ lines
 
 pub listed_none : (l : Listing) (held : Option (List ℕ)) (f : ℕ) (d : Progress) → HasNoSnap d → ListedSoFar l l held held f f d 0
-listed_none l held f d none = record { cycles = []; wrote = wrote_none l.cycles l.written held f; all = subst (λ es. AreListed (line_known d.view 0) es []) (sym none) tt; few = omega arith }
+listed_none l held f d none = record { cycles = []; wrote = wrote_none l.cycles l.written held f; all = subst (λ es. AreSeen (lines_seen d.view) es []) (sym none) tt; few = omega arith }
 
 pub listed_more : {T E : Type 0} (r : Result T E) (t : T) (a b c : Listing) (held mid now : Option (List ℕ)) (f g h : ℕ) (d e : Progress) (n : ℕ) → r ≡ Ok t → ListedSoFar a b held mid f g d n → Lists {T = T} {E = E} r b c mid now g h (λ t cycles. ListsLine d e cycles) → ListedSoFar a c held now f h e (n + 1)
 listed_more r t a b c held mid now f g h d e n is l m =

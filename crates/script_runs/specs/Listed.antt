@@ -1,21 +1,24 @@
 -- What a run lists as it goes on: of each snapshot that the driver makes, what the driver knows of its cycle's dead part then.
-use Rattle.std.specs.Prelude.{◌≡◌, ℕ, ◌≤◌, List, [], ◌∷◌, ◌++◌, length, Option, Result, IfOk}
-use mathlib.Core.List.{IsPrefix}
+use Rattle.std.specs.Prelude.{◌≡◌, ℕ, ◌≤◌, List, [], ◌∷◌, ◌++◌, length, Option, Some, Result, IfOk}
 use Rattle.joint_model.specs.declared.names.Phase.{Phase}
 use Rattle.joint_model.specs.declared.names.Phase.TheVariants as at
 use Rattle.joint_model.specs.declared.names.PhaseWord.TheVariants as word
 use Rattle.joint_model.specs.declared.lines.Act.{Act}
 use Rattle.joint_model.specs.declared.lines.Act.TheVariants as act
 use Rattle.joint_model.specs.declared.events.Entry.{Entry}
-use Rattle.joint_model.specs.Told.{Noted}
-use Rattle.known_laws.specs.Growing.{entries}
-use Rattle.known_laws.specs.Pasts.{line}
+use Rattle.joint_model.specs.Managed.{OpenCycle}
+use Rattle.known_laws.specs.Drawn.{of_drawn}
+use Rattle.known_laws.specs.Growing.{Kept}
+use Rattle.known_laws.specs.Pasts.{end_of}
 use Rattle.byte_streams.specs.Streams.{Writes}
 use Rattle.graph_listing.specs.Listing.{Listed, cycles_text, listing_text}
+use Rattle.order_table.specs.declared.views.View.{View}
+use Rattle.view_laws.specs.Knowing.{IsDrawnView, drawn_lines}
 use Rattle.joint_history.specs.Callers.{own}
-use Rattle.joint_history.specs.Knowing.{line_known}
+use Rattle.joint_history.specs.Ending.{BeginsView}
 use Rattle.bridge_cycle.specs.Progress.{Progress, pass_of}
-use Rattle.listing_laws.specs.Listings.{AreListed, IsListedPast, snaps_of}
+use Rattle.listing_laws.specs.Listings.{ListsDeadPart}
+use Rattle.listing_laws.specs.Snapshots.{AreSeen, snaps_of}
 use Rattle.listing_laws.specs.Writing.{Wrote}
 use Rattle.script_runs.specs.declared.compared.Listing.{Listing}
 use Rattle.script_runs.specs.declared.compared.Opening.{Opening}
@@ -33,22 +36,27 @@ pub record Lists {T E : Type 0} (result : Result T E) (old new : Listing) (held 
   pub wrote : Wrote old.cycles new.cycles old.written new.written held now before after cycles
   pub listed : IfOk result (λ r. P r cycles)
 
--- what is listed of the driver's open cycle
+-- the lines that a view knows, with the pins that were told
+abbrev pub lines_seen : View → ℕ → List Kept
+lines_seen v i = of_drawn (drawn_lines v i)
+
+-- what is listed of the driver's open cycle: the contraction of its dead part, by what the driver knows
 pub record ListsOne (d : Progress) (cycles : List Listed) : Type 0 where
   pub one : Listed
   pub only : cycles ≡ one ∷ []
   pub number : d.cycle.0 ≡ one.cycle
-  pub past : List Noted
-  pub begins : IsPrefix (entries (line 0 past)) (line_known d.view 0)
-  pub listed : IsListedPast past one
+  pub known : IsDrawnView d.view
+  pub cycle : OpenCycle
+  pub open_cycle : (end_of known.known.past).managed.managed.cycle ≡ Some cycle
+  pub lists : ListsDeadPart (end_of known.known.past).managed.managed cycle.dead one
 
 -- the driver made these snapshots more, one at most, and the cycles are theirs
 pub record ListsLine (old new : Progress) (cycles : List Listed) : Type 0 where
   pub snaps : List Entry
   pub all : snaps_of (own (pass_of new)) ≡ snaps_of (own (pass_of old)) ++ snaps
-  pub listed : AreListed (line_known new.view 0) snaps cycles
+  pub listed : AreSeen (lines_seen new.view) snaps cycles
   pub few : length cycles ≤ 1
-  pub knew : IsPrefix (line_known old.view 0) (line_known new.view 0)
+  pub knew : BeginsView old.view new.view
 
 -- the driver has made no snapshot
 abbrev pub HasNoSnap : Progress → Type 0
@@ -56,7 +64,7 @@ HasNoSnap d = snaps_of (own (pass_of d)) ≡ []
 
 -- the cycles are those of all of the driver's snapshots
 abbrev pub AreAllListed : Progress → List Listed → Type 0
-AreAllListed d cycles = AreListed (line_known d.view 0) (snaps_of (own (pass_of d))) cycles
+AreAllListed d cycles = AreSeen (lines_seen d.view) (snaps_of (own (pass_of d))) cycles
 
 -- the last line of a listing of so many cycles was written behind the lines of as many: all of it, or a beginning, or nothing where the sink had failed before
 abbrev pub EndsListing : {E : Type 0} → ℕ → Option (List ℕ) → Option (List ℕ) → ℕ → ℕ → Result (Unit {0}) E → Result (Unit {0}) E → Type 0

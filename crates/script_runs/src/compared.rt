@@ -14,7 +14,7 @@ ghost use Rattle.order_table.specs.Allowed.{Settled};
 ghost use Rattle.order_table.specs.Views.{OwnsAll};
 ghost use Rattle.joint_history.specs.Callers.{KnowsNothing};
 ghost use Rattle.joint_history.specs.Desks.{AreAll};
-ghost use Rattle.joint_history.specs.Ending.{BeginsHistory, HasAll, HasIdleDriver, HasOwn, IsFinished};
+ghost use Rattle.joint_history.specs.Ending.{BeginsHistory, HasAll, HasIdleDriver, HasOwn, IsFinished, IsKnownHistory};
 ghost use Rattle.bridge_cycle.specs.Progress.{RunsWords, line_of};
 ghost use Rattle.run_laws.specs.Final.{IsRunInOrder};
 ghost use Rattle.run_laws.specs.Serial.{AreOthers};
@@ -290,7 +290,7 @@ fn compare_by_desk<N: OrderName, O: Sink>(
     ensures all { IfOk result (λ v. HasAll desk.new v.items) }
     ensures idle { IfOk result (λ v. All HasIdleDriver v.items) }
     ensures ran { IfOk result (λ v. (h : Finished) → IsLinked h → IsFinished h → length h.entries < 2 ^ 64 → All (HasOwn h.entries) v.items → All (BeginsHistory h.entries) v.items → IsRunInOrder script.now h) }
-    ensures lists { Lists result listing.old listing.new (O.held out.old) (O.held out.new) (O.faults out.old) (O.faults out.new) (λ v cycles. (h : Finished) → IsLinked h → All (HasOwn h.entries) v.items → All (BeginsHistory h.entries) v.items → IsListedIn h cycles) }
+    ensures lists { Lists result listing.old listing.new (O.held out.old) (O.held out.new) (O.faults out.old) (O.faults out.new) (λ v cycles. (h : Finished) → IsLinked h → All (HasOwn h.entries) v.items → IsKnownHistory v.items h → IsListedIn h cycles) }
 {
     let Some(caller) = desk.caller(Thread::C) else {
         unreachable!()

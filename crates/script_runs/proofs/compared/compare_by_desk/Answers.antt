@@ -1,11 +1,11 @@
-use Rattle.listing_laws.specs.Listings.{snaps_of}
+use Rattle.listing_laws.specs.Snapshots.{snaps_of}
 use Rattle.std.proofs.Common.{[], ◌∷◌, ◌++◌, ◌≤◌, refl, sym, ◌∙◌, ap, subst, arith}
 use Rattle.std.specs.Prelude.{All}
 use Rattle.joint_model.specs.declared.names.Thread.TheVariants.{C}
 use Rattle.joint_model.specs.Lines.{IsDriver}
 use Rattle.joint_history.specs.Callers.{KnowsNothing, Pass, last_index}
 use Rattle.joint_history.specs.Desks.{Waiting}
-use Rattle.joint_history.specs.Ending.{BeginsHistory, HasAll, HasIdleDriver, HasOwn}
+use Rattle.joint_history.specs.Ending.{BeginsHistory, BeginsPast, HasAll, HasIdleDriver, HasOwn}
 use Rattle.bridge_cycle.specs.Progress.{Progress, pass_of}
 use Rattle.run_laws.proofs.InOrderEnds.{all_are_given}
 use Rattle.script_runs.proofs.Desked.{counts_stay}
@@ -77,14 +77,14 @@ returns-clause-lists g c =
     record {
       cycles = l.cycles;
       wrote = l.wrote;
-      listed = λ h linked owns begins.
+      listed = λ h linked owns a.
           let d = c.run_all_listed.new.driver in
           let others = c.run_all_listed.new.others.items in
           let p = c.retire.result in
           let last = Contains-append_right others (p ∷ []) p (Contains-here p []) in
-          listed_in_history h d c.drive_left.new.driver p c.in-Ok-run_all_listed.last l.cycles linked l.listed come.standing come.stands come.line c.in-Ok-drive_left.ensures.ok c.retire.ensures.pass
+          listed_in_history h d c.drive_left.new.driver p _ c.in-Ok-run_all_listed.last l.cycles linked l.listed come.standing come.stands come.line c.in-Ok-drive_left.ensures.ok c.retire.ensures.pass
           (All-contains (HasOwn h.entries) (others ++ p ∷ []) p (subst (λ ps. All (HasOwn h.entries) ps) c.in-Ok-push.ensures.items owns) last)
-          (All-contains (BeginsHistory h.entries) (others ++ p ∷ []) p (subst (λ ps. All (BeginsHistory h.entries) ps) c.in-Ok-push.ensures.items begins) last);
+          a (All-contains (BeginsPast a.past) (others ++ p ∷ []) p (subst (λ ps. All (BeginsPast a.past) ps) c.in-Ok-push.ensures.items a.begins) last);
     }
 
 pub returns-in_default-all_others-clause-lists : goal.returns-in_default-all_others-clause-lists

@@ -23,6 +23,6 @@ returns-clause-listing g c =
     let f = c.in-Ok-finish.ensures in
     record {
       text = listing_text l.cycles;
-      listing = record { cycles = l.cycles; listed = l.listed c.in-Ok-finish.history f.linked f.own f.begins; text_is = refl };
+      listing = record { cycles = l.cycles; listed = l.listed c.in-Ok-finish.history f.linked f.own f.known; text_is = refl };
       writes = c.write_last-written.ensures _ _ l.cycles (l.wrote.counted ∙ zero-add (length l.cycles)) (l.wrote.goes_on _ _ [] (Writes-nothing _ _ _));
     }

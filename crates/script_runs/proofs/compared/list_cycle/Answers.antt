@@ -20,5 +20,5 @@ returns g c =
     record {
       cycles = listed_of k.0 c.in-Some.graph.now c.in-Ok.comps ∷ [];
       wrote = record { goes_on = c.write_next-listing.ensures; counted = refl };
-      listed = record { one = listed_of k.0 c.in-Some.graph.now c.in-Ok.comps; only = refl; number = ap (λ (j : Cycle). j.0) (sym c.cycle_number-cycle.ensures); past = o.past; begins = o.begins; listed = o.listed };
+      listed = record { one = listed_of k.0 c.in-Some.graph.now c.in-Ok.comps; only = refl; number = ap (λ (j : Cycle). j.0) (sym c.cycle_number-cycle.ensures); known = o.known; cycle = o.cycle; open_cycle = o.open_cycle; lists = o.lists };
     }

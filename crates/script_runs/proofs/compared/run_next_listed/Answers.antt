@@ -62,5 +62,5 @@ returns-clause-lists g c =
     record {
       cycles = [];
       wrote = wrote_none c.args.listing.now.cycles c.args.listing.now.written (g.O.Sink.held c.args.out.now) (g.O.Sink.faults c.args.out.now);
-      listed = lists_told c.args.driver.now c.run_told.new.driver k.own_stay (k.adds.more 0);
+      listed = lists_told c.args.driver.now c.run_told.new.driver k.own_stay k.adds.more;
     }
