@@ -1,6 +1,6 @@
 // The managed side: its rows with the entries that it has made.
 
-ghost use Rattle.std.specs.Prelude.{◌≡◌, ℕ, ◌+◌, ◌<◌, ◌≤◌, ◌↔◌, [], Some, None, IfOk, OnErr, IsTrue, MatchOption, length, false};
+ghost use Rattle.std.specs.Prelude.{◌≡◌, ℕ, ◌+◌, ◌<◌, ◌≤◌, ◌↔◌, [], Some, None, IfOk, OnErr, IsTrue, MatchOption, length, slice_get, false};
 ghost use Rattle.joint_model.specs.declared.names.Thread.TheVariants.{C};
 ghost use Rattle.joint_model.specs.declared.events.Op.TheVariants as op;
 ghost use Rattle.joint_model.specs.Heaps.{IsLive, slot};
@@ -278,6 +278,20 @@ impl ManagedSide {
         ensures { IsTrue result ↔ IsLive self.now.state.managed.heap m.0 }
     {
         self.rows.heap.is_live(m.0)
+    }
+
+    /// The objects that were freed, in the order of freeing.
+    pub fn freed(&self) -> &[MNum]
+        ensures { managed_numbers result.now ≡ self.now.state.managed.heap.freed }
+    {
+        self.rows.heap.freed()
+    }
+
+    /// The notice at place `i`, from 0, of all that were ever queued; None exactly where `i` isn't below their number.
+    pub fn notice(&self, i: u32) -> Option<MNum>
+        ensures { number_or_none result ≡ slice_get self.now.state.managed.notices i }
+    {
+        self.rows.notices.at(i)
     }
 
     /// How many objects are live.

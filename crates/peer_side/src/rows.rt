@@ -97,6 +97,13 @@ impl PeerRows {
         self.heap.made() - self.heap.live()
     }
 
+    /// The peers that were freed, in the order of freeing.
+    pub(crate) fn freed_list(&self) -> &[PNum]
+        ensures { peer_numbers result.now ≡ self.now.rows.heap.freed }
+    {
+        self.heap.freed()
+    }
+
     /// Gives up the peers for the list of those that were freed. It takes no memory.
     pub(crate) fn into_freed(self) -> Vec<PNum>
         ensures { peer_numbers result.items ≡ self.rows.heap.freed }

@@ -591,6 +591,13 @@ impl PeerSide {
         self.rows.live()
     }
 
+    /// The peers that were freed, in the order of freeing.
+    pub fn freed(&self) -> &[PNum]
+        ensures { peer_numbers result.now ≡ self.now.state.peers.heap.freed }
+    {
+        self.rows.freed_list()
+    }
+
     /// How many handles were made: those that restores gave don't count.
     pub fn handles_made(&self) -> u32
         ensures { result ≡ self.now.state.peers.made }
