@@ -29,8 +29,8 @@ last-one refs e n r k a b = elim (cases_lt r k) [
 abbrev pub IsLedBelow : List (End × End) → List Seen → ℕ → ℕ → Type 0
 IsLedBelow refs rows n q = (p : ℕ) × (r : ℕ) × (1 ≤ r) × (r ≤ n) × IsLastBelow refs (node p) (length refs) r × ((row_at rows p).stands ≡ true) × Refers refs p q
 
-pub sources-begin : (refs : List (End × End)) (rows : List Seen) (m : List Bool) (l : List ℕ) (h : ℕ) → Greyed (IsLedBelow refs rows 0) m l h m l h
-sources-begin refs rows m l h = Greyed-none (IsLedBelow refs rows 0) m l h (λ q w. omega (arith, w.2, w.3))
+pub sources-begin : (refs : List (End × End)) (seen : List Seen) (m : List Bool) (l : List ℕ) (h : ℕ) → Greyed (IsLedBelow refs seen 0) m l h m l h
+sources-begin refs seen m l h = Greyed-none (IsLedBelow refs seen 0) m l h (λ q w. omega (arith, w.2, w.3))
 
 -- one more place has its turn
 pub sources-go : (refs : List (End × End)) (rows : List Seen) (i : ℕ) (e f : End) (m : List Bool) (l : List ℕ) (h : ℕ) (m' : List Bool) (l' : List ℕ) (h' : ℕ) (m'' : List Bool) (l'' : List ℕ) (h'' : ℕ) → slice_get refs i ≡ Some (e, f)
