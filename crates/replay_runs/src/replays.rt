@@ -2,6 +2,7 @@
 
 use joint_model::{Act, Entry, History, Op, Reply};
 use joint_replay::{JointState, Verdict};
+use run_check::{Finding, check};
 use std::alloc::{AllocError, Global};
 use std::process::Abort;
 
@@ -43,5 +44,7 @@ pub(crate) fn replay(rt: &impl Abort, alloc: Global, h: &History) -> Result<(), 
         let lawful = state.replay_step(h, i)? == Verdict::Lawful;
         assert!(rt; lawful == is_step(&entry), "entry {i}: {lawful}");
     }
+    let found = check(alloc, h)?;
+    assert!(rt; found == Finding::Legal, "{found:?}");
     Ok(())
 }

@@ -1,0 +1,23 @@
+-- The open cycle's dead part by its graph: the bridge nodes are the candidates, and the contraction of the graph is that of the dead part.
+use Rattle.std.specs.Prelude.{◌≡◌, ℕ, List, length, map, slice_get, Some}
+use Rattle.joint_model.specs.declared.names.HNum.{HNum}
+use Rattle.joint_model.specs.Components.{IsContraction}
+use Rattle.joint_model.specs.Control.{IsCandidateHandle}
+use Rattle.joint_model.specs.Cycles.{IsDeadContraction}
+use Rattle.joint_model.specs.Managed.{Managed, candidates_of}
+use Rattle.joint_laws.specs.ManagedInvariants.{IsManagedKept}
+use Rattle.bridge_graph.specs.declared.graph.Node.{Node}
+use Rattle.bridge_graph.specs.Handles.{handles_of}
+use Rattle.bridge_graph.specs.Parts.{Part, IsBridgeNode, IsPart, NodeLeads}
+use Rattle.managed_side.specs.Graphs.{IsDeadGraph}
+use Rattle.run_check.specs.Cycles.{number_at, numbered_comps}
+
+-- the bridge nodes are the candidates: there are as many, and each has the handle of the candidate in its place
+pub record AreCandidates (seen : Managed) (nodes : List Node) : Type 0 where
+  pub count : length (handles_of nodes) ≡ length (candidates_of seen)
+  pub each : (i : ℕ) (h : HNum) → slice_get (handles_of nodes) i ≡ Some h → IsCandidateHandle seen i h.0
+
+-- the contraction of a dead part's graph is, by the nodes' numbers, the contraction of the dead part
+abbrev pub GraphsContractionIsDeadParts : Type 0
+GraphsContractionIsDeadParts = (s : Managed) (dead : List ℕ) (g : Part) (comps : List (List ℕ)) (heavy : List ℕ) (pairs : List (ℕ × ℕ)) → IsManagedKept s → IsPart g.nodes g.edges → IsDeadGraph s dead g
+    → IsContraction (IsBridgeNode g.nodes) (NodeLeads g.edges) comps heavy pairs → IsDeadContraction s dead (numbered_comps g comps) (map (number_at g) heavy) pairs

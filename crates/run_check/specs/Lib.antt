@@ -1,0 +1,9 @@
+pub mod Cells
+pub mod Cycles
+pub mod Follows
+pub mod Handles
+pub mod Judging
+pub mod Lists
+pub mod Phases
+pub mod Going
+pub mod Noting
