@@ -1,0 +1,2 @@
+pub mod FromSource
+pub mod WhatIsPut
