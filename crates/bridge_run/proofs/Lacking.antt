@@ -1,9 +1,8 @@
 -- What stands at the sink where memory was wanting: nothing, or lines of a listing.
 use Rattle.std.proofs.Common.{ℕ, List, [], Option, Some, None, refl, sym, append-nil, ◌∙◌}
 use Rattle.std.specs.Io.KnownBytes.{Appends, Keeps}
-use Rattle.command_words.specs.declared.commands.Command.{Command}
 use Rattle.command_words.specs.declared.commands.Command.TheVariants as command
-use Rattle.command_words.specs.Commands.{AreWordsOf, WordsTellCommands}
+use Rattle.command_words.specs.Commands.{AreWordsOf}
 use Rattle.bridge_run.specs.Top.{LacksMemory, LinesPut}
 
 keeps-none : (a b : Option (List ℕ)) → Keeps a b → Appends a b []

@@ -15,6 +15,9 @@ no_one w c = ⊎_elim (λ (e : (w ∷ []) ≡ []). cc) (λ n. Contains-nil [] n)
 pub no_words : IsCommand [] → ⊥
 no_words (command.Run m, a) = no_one (mode_text m) a.given
 no_words (command.Compare, a) = no_one (codes "compare") a.given
+no_words (command.References, a) = no_one (codes "grefs") a.given
+no_words (command.Leaks, a) = no_one (codes "leaks") a.given
+no_words (command.Check, a) = no_one (codes "check") a.given
 no_words (command.Generate seed size m, a) = some_word (Contains-map_cases (λ rest. codes "gen" ∷ rest) (generator_words seed size m) [] a.given)
   where
     some_word : (rest : List (List ℕ)) × Contains (generator_words seed size m) rest × ((codes "gen" ∷ rest) ≡ []) → ⊥

@@ -5,7 +5,7 @@ use Rattle.std.specs.Vec.Iter.{into_iter_items}
 use Rattle.std.specs.declared.string.String.{String}
 use Rattle.std.specs.declared.vec.IntoIter.{IntoIter}
 use Rattle.byte_streams.specs.Streams.{AppendsPart, Rose}
-use Rattle.bridge_run.specs.Top.{IsCommand, LacksMemory, MayGenerate, MayRun, ReadsScript, RefusalPut, ResultPut, TextPut, UsagePut}
+use Rattle.bridge_run.specs.Top.{IsCommand, LacksMemory, MayAnswer, MayGenerate, ReadsInput, RefusalPut, ResultPut, TextPut, UsagePut}
 
 -- the words after the program's name, as bytes; none where the arguments couldn't be had as text
 abbrev pub words_told : {A Z E : Type 0} → Result (IntoIter (String A) Z) E → List (List ℕ)
@@ -18,12 +18,12 @@ pub record Ends (words : List (List ℕ)) (left rest : Option (List ℕ)) (read_
   pub printed : status ≡ 0 → ResultPut words left rest (Appends held after)
   pub usage : status ≡ 1 → UsagePut words (Appends held after)
   pub no_command : (IsCommand words → ⊥) → (status ≡ 1) ⊎ (status ≡ 4) ⊎ (status ≡ 5)
-  pub untouched : (ReadsScript words → ⊥) → (rest ≡ left) × (read_now ≡ read_before)
+  pub untouched : (ReadsInput words → ⊥) → (rest ≡ left) × (read_now ≡ read_before)
   pub read : status ≡ 2 → Rose read_before read_now × Keeps held after
   pub refused : status ≡ 3 → RefusalPut words left rest (Appends held after)
   pub write : status ≡ 4 → Rose write_before write_now
   pub part : status ≡ 4 → TextPut words left rest (AppendsPart held after)
   pub memory : status ≡ 5 → LacksMemory words held after
-  pub complete : MayRun words left read_before read_now write_before write_now → (status ≡ 0) ⊎ (status ≡ 5)
+  pub complete : MayAnswer words left read_before read_now write_before write_now → (status ≡ 0) ⊎ (status ≡ 5)
   pub generated : MayGenerate words write_before write_now → (status ≡ 0) ⊎ (status ≡ 5)
   pub known : status ≤ 5

@@ -1,2 +1,4 @@
+pub mod Logs
+pub mod Checks
 pub mod Top
 pub mod Ends

@@ -1,5 +1,5 @@
 -- What the top call promises: which words are a command, and what each status tells.
-use Rattle.std.specs.Prelude.{◌≡◌, ◌⊎◌, ℕ, List, [], ◌∷◌, ◌++◌, length, Option, Some, codes}
+use Rattle.std.specs.Prelude.{◌≡◌, ◌⊎◌, ℕ, ◌≤◌, List, [], ◌∷◌, ◌++◌, length, Option, Some, codes}
 use Rattle.std.specs.Io.KnownBytes.{Keeps}
 use Rattle.joint_model.specs.declared.names.Thread.{Thread}
 use Rattle.joint_model.specs.declared.lines.Act.{Act}
@@ -25,6 +25,10 @@ use Rattle.listing_laws.specs.Listings.{IsListingOf}
 use Rattle.run_summary.specs.Summary.{summary_text}
 use Rattle.script_generator.specs.Generated.{generated}
 use Rattle.summary_laws.specs.States.{tally_in}
+use Rattle.log_text.specs.declared.lines.LogLine.{LogLine}
+use Rattle.log_text.specs.Text.{IsLogText}
+use Rattle.bridge_run.specs.Logs.{LeftPut, LogFaultPut, LoggedPut, MOST_BYTES}
+use Rattle.bridge_run.specs.Checks.{CheckPut, MayCheck, ReportRefusalPut}
 
 -- the words, as bytes, are a command
 abbrev pub IsCommand : List (List ℕ) → Type 0
@@ -34,6 +38,7 @@ IsCommand words = (c : Command) × AreWordsOf words c
 abbrev pub TakesScript : Command → Type 0
 TakesScript (command.Run m) = Unit {0}
 TakesScript command.Compare = Unit {0}
+TakesScript command.References = Unit {0}
 TakesScript c = ⊥
 
 -- they are one that reads a script
@@ -41,6 +46,10 @@ pub record ReadsScript (words : List (List ℕ)) : Type 0 where
   pub asked : Command
   pub command : AreWordsOf words asked
   pub takes : TakesScript asked
+
+-- they are one that reads its input: a script, a log or a report
+abbrev pub ReadsInput : List (List ℕ) → Type 0
+ReadsInput words = ReadsScript words ⊎ AreWordsOf words command.Leaks ⊎ AreWordsOf words command.Check
 
 -- the line that tells how the program is called
 abbrev pub usage_text : List ℕ
@@ -77,9 +86,18 @@ pub record FaultPut (left rest : Option (List ℕ)) (Put : List ℕ → Type 0) 
   pub text : Put (fault_text fault)
 
 -- it is due where the words ask for a script to be read
-pub record RefusalPut (words : List (List ℕ)) (left rest : Option (List ℕ)) (Put : List ℕ → Type 0) : Type 0 where
+pub record ScriptRefusalPut (words : List (List ℕ)) (left rest : Option (List ℕ)) (Put : List ℕ → Type 0) : Type 0 where
   pub command : ReadsScript words
   pub put : FaultPut left rest Put
+
+-- and one of a log where they ask for a log
+pub record LogRefusalPut (words : List (List ℕ)) (left rest : Option (List ℕ)) (Put : List ℕ → Type 0) : Type 0 where
+  pub command : AreWordsOf words command.Leaks
+  pub put : LogFaultPut left rest Put
+
+-- a refusal of what the words ask for
+abbrev pub RefusalPut : List (List ℕ) → Option (List ℕ) → Option (List ℕ) → (List ℕ → Type 0) → Type 0
+RefusalPut words left rest Put = ScriptRefusalPut words left rest Put ⊎ LogRefusalPut words left rest Put ⊎ ReportRefusalPut words left rest Put
 
 -- a report: the source was read to its end, what was taken is a text of the script, and the text is the report of a history of its run in that mode
 pub record RunPut (asked : Mode) (left rest : Option (List ℕ)) (Put : List ℕ → Type 0) : Type 0 where
@@ -107,7 +125,7 @@ pub record SummaryPut (words : List (List ℕ)) (left rest : Option (List ℕ)) 
   pub run : IsGeneratedRunOf asked seed size history
   pub text : Put (summary_text seed size asked (length (generated seed size)) (generated_tally seed size))
 
--- a listing: the source was read to its end, what was taken is a text of the script, and the text is a listing of the cycles of the history of its run in order
+-- a listing: the source was read to its end, what was taken is a text of the script, and the text is the listing of the cycles of the history of its run in order
 pub record ComparedPut (left rest : Option (List ℕ)) (Put : List ℕ → Type 0) : Type 0 where
   pub script : List (Thread × Act)
   pub history : Finished
@@ -122,11 +140,22 @@ pub record ListingPut (words : List (List ℕ)) (left rest : Option (List ℕ)) 
   pub command : AreWordsOf words command.Compare
   pub put : ComparedPut left rest Put
 
--- the text of a command was put: a report, a summary or a listing, each with its command
-abbrev pub ResultPut : List (List ℕ) → Option (List ℕ) → Option (List ℕ) → (List ℕ → Type 0) → Type 0
-ResultPut words left rest Put = ReportPut words left rest Put ⊎ SummaryPut words left rest Put ⊎ ListingPut words left rest Put
+-- a log is due where the words ask for the references of a script's run
+pub record LogPut (words : List (List ℕ)) (left rest : Option (List ℕ)) (Put : List ℕ → Type 0) : Type 0 where
+  pub command : AreWordsOf words command.References
+  pub put : LoggedPut left rest Put
 
--- one of the four texts was put
+-- what a log never releases is due where they ask for that
+pub record LeaksPut (words : List (List ℕ)) (left rest : Option (List ℕ)) (Put : List ℕ → Type 0) : Type 0 where
+  pub command : AreWordsOf words command.Leaks
+  pub put : LeftPut left rest Put
+
+-- the text of a command was put: a report, a summary, a listing, a log, what one never releases or what a report is found to be, each with its command
+abbrev pub ResultPut : List (List ℕ) → Option (List ℕ) → Option (List ℕ) → (List ℕ → Type 0) → Type 0
+ResultPut words left rest Put = ReportPut words left rest Put ⊎ SummaryPut words left rest Put ⊎ ListingPut words left rest Put ⊎ LogPut words left rest Put ⊎ LeaksPut words left rest Put
+    ⊎ CheckPut words left rest Put
+
+-- one of these texts was put
 abbrev pub TextPut : List (List ℕ) → Option (List ℕ) → Option (List ℕ) → (List ℕ → Type 0) → Type 0
 TextPut words left rest Put = UsagePut words Put ⊎ RefusalPut words left rest Put ⊎ ResultPut words left rest Put
 
@@ -149,6 +178,22 @@ pub record MayRun (words : List (List ℕ)) (left : Option (List ℕ)) (read_bef
   pub text : IsText input script
   pub read : Rose read_before read_now → ⊥
   pub written : Rose write_before write_now → ⊥
+
+-- the words ask for a log to be read, the source has a log's text within the limit, and neither count of faults rose
+pub record MayJudge (words : List (List ℕ)) (left : Option (List ℕ)) (read_before read_now write_before write_now : ℕ) : Type 0 where
+  pub command : AreWordsOf words command.Leaks
+  pub lines : List LogLine
+  pub input : List ℕ
+  pub gives : left ≡ Some input
+  pub text : IsLogText input lines
+  pub short : length input ≤ MOST_BYTES
+  pub read : Rose read_before read_now → ⊥
+  pub written : Rose write_before write_now → ⊥
+
+-- the source has what the words ask for
+abbrev pub MayAnswer : List (List ℕ) → Option (List ℕ) → ℕ → ℕ → ℕ → ℕ → Type 0
+MayAnswer words left read_before read_now write_before write_now = MayRun words left read_before read_now write_before write_now ⊎ MayJudge words left read_before read_now write_before write_now
+    ⊎ MayCheck words left read_before read_now write_before write_now
 
 -- the words ask for a script to be made, and the sink's count of faults didn't rise
 pub record MayGenerate (words : List (List ℕ)) (write_before write_now : ℕ) : Type 0 where

@@ -2,10 +2,12 @@
 //
 // A run of the program is one top call, `bridge_main`:
 //
-//     words behind the program's name        serial, threads, compare or gen with its three pairs, else the usage line
-//       source, read to its end              a script, else the line of its first fault; `gen` makes its script and reads nothing
+//     words behind the program's name        serial, threads, compare, grefs, leaks, check or gen with its three pairs, else the usage line
+//       source, read to its end              a script, else the line of its first fault; `gen` makes its script and reads nothing, `leaks` reads a log and
+//                                                `check` a report
 //         the run, by `script_runs`          one history of all that both heaps and the driver did
-//           sink                             the report of the history, for `gen` its summary, or for `compare` the listing of its cycles
+//           sink                             the report of the history, for `gen` its summary, for `compare` the listing of its cycles, for `grefs` its
+//                                                reference log; or for `leaks` what the log that was read never releases, for `check` what the report is
 //
 // and the answer is the exit status. `main` hands the process's words and streams to `run_program`, which makes that call; `StdSource` and `StdSink` make
 // a source and a sink of any reader and writer, and each counts its errors.
@@ -18,6 +20,7 @@
 // `specs/Ends.antt` have it word by word, and docs/PROVED.md tells it promise by promise. That the program returns, or goes on, is not promised.
 #![tactic(auto)]
 
+mod checked;
 mod compared;
 #[cfg(test)]
 mod expecting;
@@ -26,6 +29,8 @@ mod failing_ends;
 mod generated;
 #[cfg(test)]
 mod large_runs;
+mod leaks;
+mod logged;
 #[cfg(test)]
 mod meetings;
 #[cfg(test)]
@@ -36,6 +41,8 @@ mod rows;
 #[cfg(test)]
 mod rows_cell_read;
 #[cfg(test)]
+mod rows_checked;
+#[cfg(test)]
 mod rows_collected;
 #[cfg(test)]
 mod rows_compared;
@@ -45,6 +52,8 @@ mod rows_cycle_limit;
 mod rows_cycles;
 #[cfg(test)]
 mod rows_lines;
+#[cfg(test)]
+mod rows_logged;
 #[cfg(test)]
 mod rows_many_leaves;
 #[cfg(test)]

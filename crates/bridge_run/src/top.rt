@@ -8,10 +8,13 @@ ghost use Rattle.std.specs.Io.KnownBytes.{Appends, Keeps};
 ghost use Rattle.byte_streams.specs.Streams.{Rose, AppendsPart};
 ghost use Rattle.history_report.specs.Report.{report};
 ghost use Rattle.joint_model.specs.Histories.{Finished};
-ghost use Rattle.bridge_run.specs.Top.{FaultPut, IsCommand, IsRunIn, LacksMemory, MayGenerate, MayRun, ReadsScript, RefusalPut, ResultPut, RunPut, TextPut, UsagePut, usage_text};
+ghost use Rattle.bridge_run.specs.Top.{FaultPut, IsCommand, IsRunIn, LacksMemory, MayAnswer, MayGenerate, ReadsInput, RefusalPut, ResultPut, RunPut, TextPut, UsagePut, usage_text};
 
+use crate::checked::print_checked;
 use crate::compared::print_compared;
 use crate::generated::print_generated;
+use crate::leaks::print_leaks;
+use crate::logged::print_logged;
 use crate::statuses::{DONE, NO_MEMORY, READ_FAULT, REFUSED, USAGE, WRITE_FAULT};
 use bridge_script::{Script, ScriptError, Turnstile, read_script, write_refusal};
 use byte_streams::{Sink, Source, write_text};
@@ -28,7 +31,10 @@ use std::thread::Threads;
 /// `serial` and `threads` read a script from `src` to its end, or to one byte past the limit, run its lines in order on one thread, or
 /// each script thread's lines in a thread of its own, which passes the turnstile before each of them, and write the report of the run's history
 /// to `out`. The order is words, reading, script, run, writing. `compare` reads a script and runs it as `serial` does, and writes a listing of its cycles in
-/// place of the report, while the script runs: the components, heavy classes and cross-references of each. `gen` reads nothing: it makes the script of a seed and a size, runs it in its mode and one
+/// place of the report, while the script runs: the components, heavy classes and cross-references of each. `grefs` reads a script and runs it as `serial`
+/// does, and writes the reference log of its history. `leaks` reads such a log from `src`, to its end or to one byte past 268,435,456, and writes which
+/// handles it never releases. `check` reads a report from `src`, with the same limit, and writes whether it is that of a lawful run, or which entry is the
+/// first that isn't, and why. `gen` reads nothing: it makes the script of a seed and a size, runs it in its mode and one
 /// cycle more once all threads have ended, and writes the summary of that run.
 pub fn bridge_main<R: Threads + Wait + Sync, S: Source, K: Sink, T: Turnstile + Sync>(
     rt: &R,
@@ -41,13 +47,13 @@ pub fn bridge_main<R: Threads + Wait + Sync, S: Source, K: Sink, T: Turnstile + 
     ensures printed { result ≡ 0 → ResultPut (map string_bytes words.now.items) (S.left src.old) (S.left src.new) (Appends (K.held out.old) (K.held out.new)) }
     ensures usage { result ≡ 1 → UsagePut (map string_bytes words.now.items) (Appends (K.held out.old) (K.held out.new)) }
     ensures no_command { (IsCommand (map string_bytes words.now.items) → ⊥) → (result ≡ 1) ⊎ (result ≡ 4) }
-    ensures untouched { (ReadsScript (map string_bytes words.now.items) → ⊥) → (S.left src.new ≡ S.left src.old) × (S.faults src.new ≡ S.faults src.old) }
+    ensures untouched { (ReadsInput (map string_bytes words.now.items) → ⊥) → (S.left src.new ≡ S.left src.old) × (S.faults src.new ≡ S.faults src.old) }
     ensures read { result ≡ 2 → Rose (S.faults src.old) (S.faults src.new) × Keeps (K.held out.old) (K.held out.new) }
     ensures refused { result ≡ 3 → RefusalPut (map string_bytes words.now.items) (S.left src.old) (S.left src.new) (Appends (K.held out.old) (K.held out.new)) }
     ensures write { result ≡ 4 → Rose (K.faults out.old) (K.faults out.new) }
     ensures part { result ≡ 4 → TextPut (map string_bytes words.now.items) (S.left src.old) (S.left src.new) (AppendsPart (K.held out.old) (K.held out.new)) }
     ensures memory { result ≡ 5 → LacksMemory (map string_bytes words.now.items) (K.held out.old) (K.held out.new) }
-    ensures complete { MayRun (map string_bytes words.now.items) (S.left src.old) (S.faults src.old) (S.faults src.new) (K.faults out.old) (K.faults out.new) → (result ≡ 0) ⊎ (result ≡ 5) }
+    ensures complete { MayAnswer (map string_bytes words.now.items) (S.left src.old) (S.faults src.old) (S.faults src.new) (K.faults out.old) (K.faults out.new) → (result ≡ 0) ⊎ (result ≡ 5) }
     ensures generated { MayGenerate (map string_bytes words.now.items) (K.faults out.old) (K.faults out.new) → (result ≡ 0) ⊎ (result ≡ 5) }
     ensures status { result ≤ 5 }
 {
@@ -55,6 +61,9 @@ pub fn bridge_main<R: Threads + Wait + Sync, S: Source, K: Sink, T: Turnstile + 
     match command_of(words) {
         Some(Command::Run { mode }) => print_script(rt, alloc, mode, src, out, turn),
         Some(Command::Compare) => print_compared(rt, alloc, src, out),
+        Some(Command::References) => print_logged(rt, alloc, src, out),
+        Some(Command::Leaks) => print_leaks(alloc, src, out),
+        Some(Command::Check) => print_checked(alloc, src, out),
         Some(Command::Generate { seed, size, mode }) => {
             print_generated(rt, alloc, seed, size, mode, out, turn)
         }

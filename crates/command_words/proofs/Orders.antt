@@ -108,14 +108,20 @@ of_one [] w l e = absurd (omega arith)
 of_one (v ∷ []) w l e = let few : 0 < 1 = omega arith in (0, few, ap (λ u. u ∷ []) (sym e))
 of_one (v ∷ u ∷ words) w l e = absurd (omega arith)
 
--- of one word, none that is a mode's and not the one of a listing
-pub not_one : (words : List (List ℕ)) → length words ≡ 1 → (word_at words 0 ≢ codes "compare") → ((m : Mode) → mode_text m ≢ word_at words 0) → (c : Command) → AreWordsOf words c → ⊥
-not_one words l other none (command.Run m) a = none m (ap (λ w. word_at w 0) (one (mode_text m) words a.given))
-not_one words l other none command.Compare a = other (sym (ap (λ w. word_at w 0) (one (codes "compare") words a.given)))
-not_one words l other none (command.Generate seed size m) a = let seven = (values (decimal seed) (decimal size) (mode_text m) words a.given).seven in absurd (omega (arith, seven, l))
+-- of one word, none that is a mode's and none of the others
+pub not_one : (words : List (List ℕ)) → length words ≡ 1 → (word_at words 0 ≢ codes "compare") → (word_at words 0 ≢ codes "grefs") → (word_at words 0 ≢ codes "leaks") → (word_at words 0 ≢ codes "check") → ((m : Mode) → mode_text m ≢ word_at words 0) → (c : Command) → AreWordsOf words c → ⊥
+not_one words l listing log leaks check none (command.Run m) a = none m (ap (λ w. word_at w 0) (one (mode_text m) words a.given))
+not_one words l listing log leaks check none command.Compare a = listing (sym (ap (λ w. word_at w 0) (one (codes "compare") words a.given)))
+not_one words l listing log leaks check none command.References a = log (sym (ap (λ w. word_at w 0) (one (codes "grefs") words a.given)))
+not_one words l listing log leaks check none command.Leaks a = leaks (sym (ap (λ w. word_at w 0) (one (codes "leaks") words a.given)))
+not_one words l listing log leaks check none command.Check a = check (sym (ap (λ w. word_at w 0) (one (codes "check") words a.given)))
+not_one words l listing log leaks check none (command.Generate seed size m) a = let seven = (values (decimal seed) (decimal size) (mode_text m) words a.given).seven in absurd (omega (arith, seven, l))
 
 -- of seven words, none that are the generator's
 pub not_seven : (words : List (List ℕ)) → length words ≡ 7 → ((seed size : ℕ) (m : Mode) → seed < 2 ^ 64 → size ≤ 2800 → Values words (decimal seed) (decimal size) (mode_text m) → ⊥) → (c : Command) → AreWordsOf words c → ⊥
 not_seven words l none (command.Run m) a = let single = sym (ap length (one (mode_text m) words a.given)) in absurd (omega (arith, single, l))
 not_seven words l none command.Compare a = let single = sym (ap length (one (codes "compare") words a.given)) in absurd (omega (arith, single, l))
+not_seven words l none command.References a = let single = sym (ap length (one (codes "grefs") words a.given)) in absurd (omega (arith, single, l))
+not_seven words l none command.Leaks a = let single = sym (ap length (one (codes "leaks") words a.given)) in absurd (omega (arith, single, l))
+not_seven words l none command.Check a = let single = sym (ap length (one (codes "check") words a.given)) in absurd (omega (arith, single, l))
 not_seven words l none (command.Generate seed size m) a = none seed size m a.allowed.0 a.allowed.1 (values (decimal seed) (decimal size) (mode_text m) words a.given)

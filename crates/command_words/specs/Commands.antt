@@ -32,6 +32,9 @@ generator_words seed size m = in_any_order (seed_pair seed) (size_pair size) (mo
 abbrev pub lists_of : Command → List (List (List ℕ))
 lists_of (command.Run m) = (mode_text m ∷ []) ∷ []
 lists_of command.Compare = (codes "compare" ∷ []) ∷ []
+lists_of command.References = (codes "grefs" ∷ []) ∷ []
+lists_of command.Leaks = (codes "leaks" ∷ []) ∷ []
+lists_of command.Check = (codes "check" ∷ []) ∷ []
 lists_of (command.Generate seed size m) = map (λ rest. codes "gen" ∷ rest) (generator_words seed size m)
 
 -- a seed has at most 64 bits, and a size is at most 2,800

@@ -4,6 +4,8 @@
 // the words:
 //
 //     serial                                     Command::Run { mode: Mode::Serial }
+//     leaks                                      Command::Leaks
+//     check                                      Command::Check
 //     gen --size 8 --mode threads --seed 7       Command::Generate { seed: 7, size: 8, mode: Mode::Threads }
 //     serial serial                              no command
 //

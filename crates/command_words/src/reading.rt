@@ -31,6 +31,15 @@ fn one_word(words: &[String]) -> Option<Command>
     if is_same(word(words, 0), "compare") {
         return Some(Command::Compare);
     }
+    if is_same(word(words, 0), "grefs") {
+        return Some(Command::References);
+    }
+    if is_same(word(words, 0), "leaks") {
+        return Some(Command::Leaks);
+    }
+    if is_same(word(words, 0), "check") {
+        return Some(Command::Check);
+    }
     match mode_of(word(words, 0)) {
         Some(mode) => Some(Command::Run { mode }),
         None => None,

@@ -17,7 +17,7 @@ const LONGEST: Command = Command::Generate {
     mode: Mode::Serial,
 };
 
-const LINES: [(&str, Option<Command>); 15] = [
+const LINES: [(&str, Option<Command>); 22] = [
     ("serial", Some(Command::Run { mode: Mode::Serial })),
     (
         "threads",
@@ -27,6 +27,13 @@ const LINES: [(&str, Option<Command>); 15] = [
     ),
     ("compare", Some(Command::Compare)),
     ("compare serial", None),
+    ("grefs", Some(Command::References)),
+    ("grefs leaks", None),
+    ("leaks", Some(Command::Leaks)),
+    ("leaks --all", None),
+    ("check", Some(Command::Check)),
+    ("check check", None),
+    ("checks", None),
     ("", None),
     ("--help", None),
     ("serial x", None),
