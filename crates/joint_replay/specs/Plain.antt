@@ -1,5 +1,5 @@
 -- A heap in plain lists, which nothing is asked of but its flags: a field may hold a freed object. (This project's own.)
-use Rattle.std.specs.Prelude.{◌≡◌, ℕ, ◌≤◌, ◌⊎◌, Bool, true, false, ◌&&◌, not, nat_le, if◌then◌else◌, List, map, Contains, Option, Some, None, length}
+use Rattle.std.specs.Prelude.{◌≡◌, ℕ, ◌≤◌, ◌⊎◌, Bool, true, false, ◌&&◌, not, nat_le, if◌then◌else◌, List, [], map, Contains, Option, Some, None, length}
 use Rattle.joint_model.specs.declared.events.Reply.{Reply}
 use Rattle.joint_model.specs.declared.events.Reply.TheVariants as says
 use Rattle.joint_model.specs.Heaps.{Heap, MOST, IsMade, is_freed, numbered_at}
@@ -72,3 +72,7 @@ pub record Lowers (xs : List ℕ) (old new : List Bool) : Type 0 where
   pub len : length new ≡ length old
   pub up : (x : ℕ) → numbered_at new x ≡ Some true → (numbered_at old x ≡ Some true) × (Contains xs x → ⊥)
   pub down : (x : ℕ) → numbered_at new x ≡ Some false → (numbered_at old x ≡ Some false) ⊎ Contains xs x
+
+-- the dead part of the open cycle; none where no cycle is open
+abbrev pub dead_of : Managed → List ℕ
+dead_of s = elim s.cycle [ None ↦ [] | Some c ↦ c.dead ]

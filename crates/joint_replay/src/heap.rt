@@ -26,7 +26,7 @@ pub(crate) struct FieldWrite {
 /// The objects of one heap with their fields and a flag that is up while they aren't freed, the variables and statics,
 /// and the freed objects in the order of freeing. A field may hold a freed object.
 #[derive(Drop)]
-pub(crate) struct PlainHeap {
+pub struct PlainHeap {
     alloc: Global,
     fields: Vec<Vec<Option<u32>>>,
     flags: Vec<bool>,
@@ -63,7 +63,7 @@ impl PlainHeap {
     }
 
     /// How many objects were made: the number of the last one.
-    pub(crate) fn made(&self) -> u32
+    pub fn made(&self) -> u32
         ensures made { result ≡ length self.now.fields }
         ensures most { result ≤ MOST }
     {
@@ -89,7 +89,7 @@ impl PlainHeap {
     }
 
     /// Whether object `x` was made and isn't freed.
-    pub(crate) fn is_live(&self, x: u32) -> bool
+    pub fn is_live(&self, x: u32) -> bool
         ensures live { IsTrue result ↔ IsLive self.now x }
         ensures test { result ≡ is_live self.now x }
     {
@@ -107,21 +107,23 @@ impl PlainHeap {
     }
 
     /// The variables.
-    pub(crate) fn vars(&self) -> &[Option<u32>]
-        ensures { result.now ≡ self.now.vars }
+    pub fn vars(&self) -> &[Option<u32>]
+        ensures slots { result.now ≡ self.now.vars }
+        ensures count { length result.now ≡ 72 }
     {
         &self.vars
     }
 
     /// The statics.
-    pub(crate) fn statics(&self) -> &[Option<u32>]
-        ensures { result.now ≡ self.now.statics }
+    pub fn statics(&self) -> &[Option<u32>]
+        ensures slots { result.now ≡ self.now.statics }
+        ensures count { length result.now ≡ 16 }
     {
         &self.statics
     }
 
     /// What field `i` of object `x` holds.
-    pub(crate) fn field(&self, x: u32, i: usize) -> Option<u32>
+    pub fn field(&self, x: u32, i: usize) -> Option<u32>
         requires { i < length (fields_of self.now x) }
         ensures { slot (fields_of self.now x) i ≡ result }
     {
@@ -129,7 +131,7 @@ impl PlainHeap {
     }
 
     /// What field `i` of object `x` leads to: the object that it holds, where that is live.
-    pub(crate) fn open_field(&self, x: u32, i: usize) -> Option<u32>
+    pub fn open_field(&self, x: u32, i: usize) -> Option<u32>
         requires { i < length (fields_of self.now x) }
         ensures target { result ≡ kept_target self.now (slot (fields_of self.now x) i) }
         ensures live { IfSome result (IsLive self.now) }
@@ -200,7 +202,7 @@ impl PlainHeap {
     }
 
     /// How many fields object `x` has; none where there is no such object.
-    pub(crate) fn fields_len(&self, x: u32) -> usize
+    pub fn fields_len(&self, x: u32) -> usize
         ensures { result ≡ length (fields_of self.now x) }
     {
         if x == 0 || x as usize > self.fields.len() {

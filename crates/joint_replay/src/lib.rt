@@ -47,6 +47,7 @@ mod open_cycle;
 mod operations;
 mod peers;
 mod pins;
+mod reading;
 mod removed;
 mod replies;
 mod restores;
@@ -55,4 +56,6 @@ mod state;
 mod sweeps;
 mod twins;
 
+pub use heap::PlainHeap;
+pub use peers::{Handle, IssuedHold, IssuedStrength};
 pub use state::{JointState, Verdict};

@@ -23,24 +23,24 @@ const MOST_HANDLES: usize = 65_535;
 
 /// Who a handle was made for: a managed object holds it, or a peer thread has it by a global name.
 #[derive(Clone, Copy, PartialEq, Eq, Debug)]
-pub(crate) enum IssuedHold {
+pub enum IssuedHold {
     Held,
     Raw,
 }
 
 /// Whether a handle was made as one that keeps its peer alive.
 #[derive(Clone, Copy, PartialEq, Eq, Debug)]
-pub(crate) enum IssuedStrength {
+pub enum IssuedStrength {
     Strong,
     Weak,
 }
 
 /// A handle as it was issued.
 #[derive(Clone, Copy)]
-pub(crate) struct Handle {
-    pub(crate) peer: u32,
-    pub(crate) hold: IssuedHold,
-    pub(crate) strength: IssuedStrength,
+pub struct Handle {
+    pub peer: u32,
+    pub hold: IssuedHold,
+    pub strength: IssuedStrength,
 }
 
 /// The peers with their sorts, the handle that each global name has, and the handles.
@@ -120,6 +120,14 @@ impl PeerPart {
             None => None,
             Some(row) => Some(row.peer),
         }
+    }
+
+    /// The handle of each global name.
+    pub(crate) fn names(&self) -> &[Option<u32>]
+        ensures handles { result.now ≡ self.now.names }
+        ensures count { length result.now ≡ 64 }
+    {
+        &self.names
     }
 
     /// The handle that global name `g` has.
