@@ -1,8 +1,9 @@
 // What is read of a joint state, for those that show it.
 
-ghost use Rattle.std.specs.Prelude.{◌≡◌, length};
+ghost use Rattle.std.specs.Prelude.{◌≡◌, All, length};
 ghost use Rattle.std.specs.Option.{option_map};
-ghost use Rattle.joint_model.specs.Heaps.{numbered_at};
+ghost use Rattle.joint_model.specs.Components.{Rises};
+ghost use Rattle.joint_model.specs.Heaps.{IsMade, numbered_at};
 ghost use Rattle.joint_model.specs.Managed.{candidates_of, handle_of};
 ghost use Rattle.joint_model.specs.Peers.{sort_of};
 ghost use Rattle.joint_replay.specs.Plain.{dead_of, issued_as};
@@ -102,9 +103,11 @@ impl JointState {
         }
     }
 
-    /// The dead part of the open cycle; none where no cycle is open.
+    /// The dead part of the open cycle, by rising number; none where no cycle is open.
     pub fn dead(&self) -> &[u32]
-        ensures { result.now ≡ dead_of self.now.graph.managed }
+        ensures rows { result.now ≡ dead_of self.now.graph.managed }
+        ensures rise { Rises result.now }
+        ensures made { All (IsMade self.now.graph.managed.heap) result.now }
     {
         match &self.managed.cycle {
             None => &[],
