@@ -1,0 +1,5 @@
+use Rattle.picture_text.proofs.Chains.{c3}
+use Rattle.picture_text.proofs.spots.put_spot.Goals as goal
+
+pub returns : goal.returns
+returns c = c3 _ _ _ _ _ _ _ c.in_ok-put_byte.ensures c.in_ok-put_name.ensures c.in_ok-put_byte-2.ensures

@@ -1,0 +1,5 @@
+use Rattle.picture_text.proofs.Chains.{c3}
+use Rattle.picture_text.proofs.texts.put_mark.Goals as goal
+
+pub returns : goal.returns
+returns c = c3 _ _ _ _ _ _ _ c.in_ok-put.ensures c.in_ok-put_named.ensures c.in_ok-put-2.ensures
