@@ -1,0 +1,4 @@
+mod Nodes
+mod Sound
+mod Full
+mod Tell
