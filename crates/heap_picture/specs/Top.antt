@@ -1,0 +1,66 @@
+-- What the top call does.
+use Rattle.std.specs.Prelude.{◌≡◌, ℕ, ◌<◌, ◌≤◌, ◌^◌, List, [], ◌∷◌, Option, Result, Ok, Err, codes, decimal, drop, map, string_bytes}
+use Rattle.std.specs.Io.KnownBytes.{Appends, Keeps}
+use Rattle.std.specs.Vec.Iter.{into_iter_items}
+use Rattle.std.specs.declared.string.String.{String}
+use Rattle.std.specs.declared.vec.IntoIter.{IntoIter}
+use Rattle.byte_streams.specs.Reading.{Took}
+use Rattle.byte_streams.specs.Streams.{Rose}
+use Rattle.heap_picture.specs.declared.drawing.Refusal.{Refusal}
+use Rattle.heap_picture.specs.Drawn.{IsPicture, IsRefused, refusal_line}
+
+-- the words are the number of an entry
+pub record NamesEntry (words : List (List ℕ)) (n : ℕ) : Type 0 where
+  pub short : n < 2 ^ 64
+  pub given : words ≡ decimal n ∷ []
+
+-- the line that tells how the program is called
+abbrev pub usage_text : List ℕ
+usage_text = codes "usage: heap_picture N\n"
+
+-- the text is the picture after an entry of the bytes; or it is the line that says why there is none
+pub record PictureOf (input : List ℕ) (n : ℕ) (Put : List ℕ → Type 0) : Type 0 where
+  pub text : List ℕ
+  pub drawn : IsPicture input n text
+  pub put : Put text
+
+pub record RefusalOf (most : ℕ) (input : List ℕ) (n : ℕ) (Put : List ℕ → Type 0) : Type 0 where
+  pub refusal : Refusal
+  pub refused : IsRefused most input n refusal
+  pub put : Put (refusal_line refusal)
+
+-- the words name an entry, the source was read, and the picture after that entry of what was taken was put
+pub record PicturePut (most : ℕ) (words : List (List ℕ)) (left rest : Option (List ℕ)) (Put : List ℕ → Type 0) : Type 0 where
+  pub entry : ℕ
+  pub named : NamesEntry words entry
+  pub input : List ℕ
+  pub took : Took most left rest input
+  pub picture : PictureOf input entry Put
+
+-- the same, and why there is none was put
+pub record RefusalPut (most : ℕ) (words : List (List ℕ)) (left rest : Option (List ℕ)) (Put : List ℕ → Type 0) : Type 0 where
+  pub entry : ℕ
+  pub named : NamesEntry words entry
+  pub input : List ℕ
+  pub took : Took most left rest input
+  pub refusal : RefusalOf most input entry Put
+
+-- the words name no entry, and the text is the usage line
+pub record UsagePut (words : List (List ℕ)) (Put : List ℕ → Type 0) : Type 0 where
+  pub no_entry : (n : ℕ) → NamesEntry words n → ⊥
+  pub put : Put usage_text
+
+-- the words after the program's name, as bytes; none where the arguments couldn't be had as text
+abbrev pub words_told : {A Z E : Type 0} → Result (IntoIter (String A) Z) E → List (List ℕ)
+words_told (Ok given) = map string_bytes (drop 1 (into_iter_items given))
+words_told (Err e) = []
+
+-- how the program ends that was asked by these words: with the status, the bytes and the counts of faults that the top call promises
+pub record Ends (words : List (List ℕ)) (left rest : Option (List ℕ)) (read_before read_now : ℕ) (held after : Option (List ℕ)) (write_before write_now status : ℕ) : Type 0 where
+  pub printed : status ≡ 0 → PicturePut 268435456 words left rest (Appends held after)
+  pub usage : status ≡ 1 → UsagePut words (Appends held after)
+  pub read : status ≡ 2 → Rose read_before read_now × Keeps held after
+  pub refused : status ≡ 3 → RefusalPut 268435456 words left rest (Appends held after)
+  pub write : status ≡ 4 → Rose write_before write_now
+  pub memory : status ≡ 5 → Keeps held after
+  pub known : status ≤ 5

@@ -1,0 +1,23 @@
+// The program `heap_picture`: a picture of both heaps at an entry of a report.
+#![tactic(auto)]
+
+mod drawing;
+mod lines;
+mod program;
+mod statuses;
+mod top;
+mod words;
+
+use program::run_program;
+use std::process::ExitCode;
+use std_streams::{StdSink, StdSource};
+
+// No clause may stand here, so this only puts the real objects together: what happens with them, and the exit code, are `run_program`'s.
+fn main(rt: HostRuntime) -> ExitCode {
+    run_program(
+        rt.alloc(),
+        std::env::args(&rt),
+        &mut StdSource::new(rt.reader()),
+        &mut StdSink::new(std::io::writer(&rt)),
+    )
+}

@@ -1,0 +1,115 @@
+// The top call.
+
+ghost use Rattle.std.specs.Prelude.{◌≡◌, ◌≤◌, ◌<◌, ◌⊎◌, map, string_bytes, length};
+ghost use Rattle.std.specs.Io.KnownBytes.{Appends, Keeps};
+ghost use Rattle.byte_streams.specs.Streams.{Rose};
+ghost use Rattle.heap_picture.specs.Drawn.{refusal_line};
+ghost use Rattle.heap_picture.specs.Top.{NamesEntry, PictureOf, PicturePut, RefusalOf, RefusalPut, UsagePut, usage_text};
+
+use crate::drawing::{Drawn, Refusal, draw};
+use crate::statuses::{DONE, NO_MEMORY, READ_FAULT, REFUSED, USAGE, WRITE_FAULT};
+use crate::words::entry_of;
+use byte_streams::{ReadError, Sink, Source, read_up_to, write_text};
+use std::alloc::Global;
+
+// The most bytes of a report.
+const MOST_BYTES: usize = 268_435_456;
+
+/// Reads a report from `src`, to its end or to one byte past 268,435,456, and writes to `out` the picture of both heaps after the entry that the words name.
+/// Answers the program's exit status: 0 where the picture was written, 1 where the words name no entry, 2 where the source failed, 3 where the input is no
+/// report, or is found illegal at that entry or before it, or has no such entry, 4 where the sink failed, 5 where there was no memory.
+pub fn picture_main<S: Source, K: Sink>(
+    alloc: Global,
+    words: &Vec<String>,
+    src: &mut S,
+    out: &mut K,
+) -> u8
+    ensures printed { result ≡ 0 → PicturePut 268435456 (map string_bytes words.now.items) (S.left src.old) (S.left src.new) (Appends (K.held out.old) (K.held out.new)) }
+    ensures usage { result ≡ 1 → UsagePut (map string_bytes words.now.items) (Appends (K.held out.old) (K.held out.new)) }
+    ensures read { result ≡ 2 → Rose (S.faults src.old) (S.faults src.new) × Keeps (K.held out.old) (K.held out.new) }
+    ensures refused { result ≡ 3 → RefusalPut 268435456 (map string_bytes words.now.items) (S.left src.old) (S.left src.new) (Appends (K.held out.old) (K.held out.new)) }
+    ensures write { result ≡ 4 → Rose (K.faults out.old) (K.faults out.new) }
+    ensures memory { result ≡ 5 → Keeps (K.held out.old) (K.held out.new) }
+    ensures status { result ≤ 5 }
+{
+    match entry_of(words) {
+        Some(n) => print_picture(alloc, words, n, src, out),
+        None => print_usage(out),
+    }
+}
+
+// Writes the line that tells how the program is called.
+fn print_usage<K: Sink>(out: &mut K) -> u8
+    ensures usage { result ≡ 1 → Appends (K.held out.old) (K.held out.new) usage_text }
+    ensures write { result ≡ 4 → Rose (K.faults out.old) (K.faults out.new) }
+    ensures status { (result ≡ 1) ⊎ (result ≡ 4) }
+{
+    match write_text(out, b"usage: heap_picture N\n") {
+        Ok(()) => USAGE,
+        Err(_) => WRITE_FAULT,
+    }
+}
+
+// Reads a report and writes the picture.
+fn print_picture<S: Source, K: Sink>(
+    alloc: Global,
+    words: &Vec<String>,
+    n: u64,
+    src: &mut S,
+    out: &mut K,
+) -> u8
+    requires { NamesEntry (map string_bytes words.now.items) n }
+    ensures printed { result ≡ 0 → PicturePut 268435456 (map string_bytes words.now.items) (S.left src.old) (S.left src.new) (Appends (K.held out.old) (K.held out.new)) }
+    ensures read { result ≡ 2 → Rose (S.faults src.old) (S.faults src.new) × Keeps (K.held out.old) (K.held out.new) }
+    ensures refused { result ≡ 3 → RefusalPut 268435456 (map string_bytes words.now.items) (S.left src.old) (S.left src.new) (Appends (K.held out.old) (K.held out.new)) }
+    ensures write { result ≡ 4 → Rose (K.faults out.old) (K.faults out.new) }
+    ensures memory { result ≡ 5 → Keeps (K.held out.old) (K.held out.new) }
+    ensures status { (result ≡ 0) ⊎ ((2 ≤ result) × (result ≤ 5)) }
+{
+    let _words = words;
+    match read_up_to(alloc, src, MOST_BYTES) {
+        Ok(bytes) => print_drawn(alloc, &bytes, n, out),
+        Err(ReadError::OutOfMemory) => NO_MEMORY,
+        Err(ReadError::Failed) => READ_FAULT,
+    }
+}
+
+// Writes the picture of a report, or why there is none.
+fn print_drawn<K: Sink>(alloc: Global, bytes: &[u8], n: u64, out: &mut K) -> u8
+    requires { length bytes.now < 4294967295 }
+    ensures printed { result ≡ 0 → PictureOf bytes.now n (Appends (K.held out.old) (K.held out.new)) }
+    ensures refused { result ≡ 3 → RefusalOf 268435456 bytes.now n (Appends (K.held out.old) (K.held out.new)) }
+    ensures write { result ≡ 4 → Rose (K.faults out.old) (K.faults out.new) }
+    ensures memory { result ≡ 5 → Keeps (K.held out.old) (K.held out.new) }
+    ensures status { (result ≡ 0) ⊎ ((3 ≤ result) × (result ≤ 5)) }
+{
+    match draw(alloc, bytes, MOST_BYTES, n) {
+        Ok(Drawn::Picture(text)) => print_text(text.as_slice(), out),
+        Ok(Drawn::None(refusal)) => print_refusal(refusal, out),
+        Err(_) => NO_MEMORY,
+    }
+}
+
+// Writes a text.
+fn print_text<K: Sink>(text: &[u8], out: &mut K) -> u8
+    ensures printed { result ≡ 0 → Appends (K.held out.old) (K.held out.new) text.now }
+    ensures write { result ≡ 4 → Rose (K.faults out.old) (K.faults out.new) }
+    ensures status { (result ≡ 0) ⊎ (result ≡ 4) }
+{
+    match write_text(out, text) {
+        Ok(()) => DONE,
+        Err(_) => WRITE_FAULT,
+    }
+}
+
+// Writes why there is no picture.
+fn print_refusal<K: Sink>(refusal: Refusal, out: &mut K) -> u8
+    ensures refused { result ≡ 3 → Appends (K.held out.old) (K.held out.new) (refusal_line refusal) }
+    ensures write { result ≡ 4 → Rose (K.faults out.old) (K.faults out.new) }
+    ensures status { (result ≡ 3) ⊎ (result ≡ 4) }
+{
+    match refusal.write(out) {
+        Ok(()) => REFUSED,
+        Err(_) => WRITE_FAULT,
+    }
+}
