@@ -18,7 +18,7 @@ ghost use Rattle.gref_log.specs.Tracking.{behind_lines, change_of, counted, list
 use crate::tracked::{Move, Moves, Tracker};
 use byte_streams::{Failed, Line, Sink};
 use joint_model::{HNum, History, PNum, PackedEntry, Step};
-use log_text::{Log, LogLine, Mark, write_end, write_line};
+use log_text::{LastNumbers, Log, LogLine, Mark, write_end, write_line};
 use std::alloc::{AllocError, Global};
 use std::marker::Model;
 
@@ -85,15 +85,20 @@ impl Lines {
     }
 
     // Writes them.
-    fn write<K: Sink>(&self, line: &mut Line, out: &mut K) -> Result<(), Failed>
+    fn write<K: Sink>(
+        &self,
+        last: &mut LastNumbers,
+        line: &mut Line,
+        out: &mut K,
+    ) -> Result<(), Failed>
         ensures { Sends (K.held out.old) (K.held out.new) line.old.text line.new.text (K.faults out.old) (K.faults out.new) result (lines_text (made_lines self.now)) }
     {
         match self {
             Lines::None => Ok(()),
-            Lines::One(one) => write_line(one, line, out),
+            Lines::One(one) => write_line(one, last, line, out),
             Lines::Two(first, second) => {
-                write_line(first, line, out)?;
-                write_line(second, line, out)
+                write_line(first, last, line, out)?;
+                write_line(second, last, line, out)
             }
         }
     }
@@ -103,13 +108,14 @@ impl Lines {
     fn write_after<K: Sink>(
         &self,
         before: Result<(), Failed>,
+        last: &mut LastNumbers,
         line: &mut Line,
         out: &mut K,
     ) -> Result<(), Failed>
         ensures { (held : Option (List ℕ)) (pending text : List ℕ) (faults : ℕ) → Sends held (K.held out.old) pending line.old.text faults (K.faults out.old) before text → Sends held (K.held out.new) pending line.new.text faults (K.faults out.new) result (text ++ lines_text (made_lines self.now)) }
     {
         before?;
-        self.write(line, out)
+        self.write(last, line, out)
     }
 }
 
@@ -222,6 +228,7 @@ impl Making {
 fn write_entries<K: Sink>(
     making: &mut Making,
     h: &History,
+    last: &mut LastNumbers,
     line: &mut Line,
     out: &mut K,
 ) -> (u64, Result<(), Failed>)
@@ -239,7 +246,7 @@ fn write_entries<K: Sink>(
     while let Some(step) = walk.next() {
         let lines = making.take_step(step);
         count += lines.len();
-        sent = lines.write_after(sent, line, out);
+        sent = lines.write_after(sent, last, line, out);
     }
     making.numbers_fit();
     (count, sent)
@@ -254,8 +261,9 @@ fn write_made<K: Sink>(making: &mut Making, h: &History, out: &mut K) -> Result<
     ensures handles { length (logged_all nothing_logged h.now.entries).tracked.given ≤ 4294967295 }
     ensures written { Writes (K.held out.old) (K.held out.new) (K.faults out.old) (K.faults out.new) result (text_of_log (logged_all nothing_logged h.now.entries).lines) }
 {
+    let mut last = LastNumbers::new();
     let mut line = Line::new();
-    let (count, sent) = write_entries(making, h, &mut line, out);
+    let (count, sent) = write_entries(making, h, &mut last, &mut line, out);
     sent?;
     write_end(count, &mut line, out)?;
     line.flush(out)

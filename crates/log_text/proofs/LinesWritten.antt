@@ -6,13 +6,13 @@ use Rattle.log_text.specs.declared.lines.LogLine.{LogLine}
 use Rattle.log_text.specs.Text.{line_text, lines_text, end_text}
 
 -- pieces that are put one behind another
-pieces-joined : (o m a b c d e f g n : List ℕ) → ((((((((o ++ m) ++ a) ++ b) ++ c) ++ d) ++ e) ++ f) ++ g) ++ n ≡ o ++ ((m ++ (a ++ (b ++ (c ++ (d ++ (e ++ (f ++ g))))))) ++ n)
-pieces-joined o m a b c d e f g n = simp (append_assoc)
+pieces-joined : (o m a h p b g d w e i k : List ℕ) → ((((((((((o ++ (m ++ a)) ++ h) ++ b) ++ p) ++ d) ++ g) ++ e) ++ w) ++ i) ++ k) ++ 10 ∷ [] ≡ o ++ ((m ++ (a ++ (h ++ (b ++ (p ++ (d ++ (g ++ (e ++ (w ++ (i ++ k)))))))))) ++ 10 ∷ [])
+pieces-joined o m a h p b g d w e i k = simp (append_assoc)
 
 -- a line, as it is put together
-pub line-joined : (o m h p g w e : List ℕ) → ((((((((o ++ m) ++ 32 ∷ 104 ∷ h) ++ 32 ∷ 112 ∷ p) ++ 32 ∷ codes "grefc") ++ 32 ∷ g) ++ 32 ∷ codes "gwrefc") ++ 32 ∷ w) ++ 32 ∷ 64 ∷ e) ++ 10 ∷ []
+pub line-joined : (o m h p g w e : List ℕ) → ((((((((((o ++ (m ++ 32 ∷ 104 ∷ [])) ++ h) ++ codes " p") ++ p) ++ codes " grefc ") ++ g) ++ codes " gwrefc ") ++ w) ++ codes " @") ++ e) ++ 10 ∷ []
     ≡ o ++ ((m ++ 32 ∷ 104 ∷ (h ++ 32 ∷ 112 ∷ (p ++ 32 ∷ 103 ∷ 114 ∷ 101 ∷ 102 ∷ 99 ∷ 32 ∷ (g ++ 32 ∷ 103 ∷ 119 ∷ 114 ∷ 101 ∷ 102 ∷ 99 ∷ 32 ∷ (w ++ 32 ∷ 64 ∷ e))))) ++ 10 ∷ [])
-line-joined o m h p g w e = pieces-joined o m (32 ∷ 104 ∷ h) (32 ∷ 112 ∷ p) (32 ∷ codes "grefc") (32 ∷ g) (32 ∷ codes "gwrefc") (32 ∷ w) (32 ∷ 64 ∷ e) (10 ∷ [])
+line-joined o m h p g w e = pieces-joined o m (32 ∷ 104 ∷ []) h p (codes " p") g (codes " grefc ") w (codes " gwrefc ") (codes " @") e
 
 -- the last line, as it is put together
 pub end-joined : (o : List ℕ) (n : ℕ) → ((o ++ codes "end") ++ 32 ∷ decimal n) ++ 10 ∷ [] ≡ o ++ (end_text n ++ 10 ∷ [])

@@ -42,4 +42,4 @@ pub use lines::{LogCause, LogError, LogLine, Mark};
 pub use lists::Unreleased;
 pub use logs::Log;
 pub use reading::read_log;
-pub use writing::{write_end, write_line, write_log};
+pub use writing::{LastNumbers, write_end, write_line, write_log};

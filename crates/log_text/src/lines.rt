@@ -1,6 +1,6 @@
 // The lines of a log, and why bytes give no log.
 
-ghost use Rattle.std.specs.Prelude.{◌≡◌, codes};
+ghost use Rattle.std.specs.Prelude.{◌≡◌, ◌++◌, ◌∷◌, [], codes};
 ghost use Rattle.log_text.specs.Text.{mark_text};
 
 use joint_model::{HNum, PNum};
@@ -60,15 +60,15 @@ impl From<std::alloc::AllocError> for LogError {
     }
 }
 
-// What a mark is written as.
+// What a mark is written as, with the space and the letter behind it.
 #[inline(always)]
-pub fn text_of(mark: Mark) -> [u8; 3]
-    ensures { result ≡ mark_text mark }
+pub fn head_of(mark: Mark) -> [u8; 5]
+    ensures { result ≡ mark_text mark ++ 32 ∷ 104 ∷ [] }
 {
     match mark {
-        Mark::GPlus => *b"+g+",
-        Mark::GMinus => *b"-g-",
-        Mark::WPlus => *b"+w+",
-        Mark::WMinus => *b"-w-",
+        Mark::GPlus => *b"+g+ h",
+        Mark::GMinus => *b"-g- h",
+        Mark::WPlus => *b"+w+ h",
+        Mark::WMinus => *b"-w- h",
     }
 }
