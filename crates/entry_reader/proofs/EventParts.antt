@@ -3,6 +3,7 @@
 use Rattle.std.proofs.Common.{◌≡◌, ◌≢◌, ℕ, ◌⊎◌, inl, inr, cond, List, [], ◌∷◌, ◌++◌, Option, Some, None, codes, refl, sym, ap, ◌∙◌, subst, append_assoc}
 use Rattle.std.specs.Prelude.{bytes_eq}
 use Rattle.joint_model.specs.declared.names.Thread.{Thread}
+use Rattle.joint_model.specs.declared.names.Thread.TheVariants.{C}
 use Rattle.joint_model.specs.declared.lines.Act.{Act}
 use Rattle.joint_model.specs.declared.events.Op.{Op}
 use Rattle.joint_model.specs.declared.events.Op.TheVariants as op
@@ -301,3 +302,11 @@ event_by_step t old new p h k =
 pub event_rest : (t : Thread) (old mid new : List (List ℕ)) (r : Option Op) → IsThread t → Takes (IsLineEvent t) (ends (event_words t)) old mid None → Takes IsStep (ends step_words) old new r → Takes (IsReadable t) (ends (event_words t)) old new r
 event_rest t old mid new None h a b = event_none t old mid new a b
 event_rest t old mid new (Some p) h a b = event_by_step t old new p h b
+
+-- thread c tries a step first, and then a line
+pub driver_by_step : (old new : List (List ℕ)) (p : Op) → Takes IsStep (ends step_words) old new (Some p) → Takes (IsReadable C) (ends (event_words C)) old new (Some p)
+driver_by_step old new p k = event_by_step C old new p tt k
+
+pub driver_rest : (old mid new : List (List ℕ)) (r : Option Op) → Takes IsStep (ends step_words) old mid None → Takes (IsLineEvent C) (ends (event_words C)) old new r → Takes (IsReadable C) (ends (event_words C)) old new r
+driver_rest old mid new None b a = record { sound = tt; complete = λ o rest g e. absurd (elim (line_or_step C o g) [ inl h ↦ (a.complete o rest h e).0 | inr h ↦ (b.complete o rest h (as_step C o old rest h e)).0 ]) }
+driver_rest old mid new (Some p) b a = event_by_line C old new p a

@@ -12,7 +12,7 @@ ghost use Rattle.entry_reader.specs.Saying.{IsLineOf, ReadsEntry};
 
 use crate::events::take_event;
 use crate::lists::NamedLists;
-use crate::numbers::place;
+use crate::places::LastPlace;
 use crate::tails::read_tail;
 use joint_model::{Entry, Made, Op, Thread};
 use std::alloc::AllocError;
@@ -27,33 +27,34 @@ fn take_count(count: u64, words: &mut Words) -> Option<()>
 }
 
 // Takes a thread and a line.
-fn take_place(words: &mut Words) -> Option<(Thread, u32)>
+fn take_place(last: &mut LastPlace, words: &mut Words) -> Option<(Thread, u32)>
     ensures { Takes (λ (p : Thread × ℕ). IsThread p.0 × Short p.1) (λ p. place_text p.0 p.1 ∷ []) words.old words.new result }
 {
-    place(words.next()?)
+    last.read(words.next()?)
 }
 
 // Takes the words up to the reply: the number, the place, the event and the equals sign.
-fn take_head(count: u64, words: &mut Words) -> Option<(Thread, u32, Op)>
+fn take_head(count: u64, last: &mut LastPlace, words: &mut Words) -> Option<(Thread, u32, Op)>
     ensures { Takes IsHead (λ h. decimal count ∷ place_text h.0 h.1 ∷ (event_words h.0 h.2 ++ codes "=" ∷ [])) words.old words.new result }
 {
     take_count(count, words)?;
-    let (caller, index) = take_place(words)?;
+    let (caller, index) = take_place(last, words)?;
     let op = take_event(caller, words)?;
     Some((caller, index, op))
 }
 
 /// The entry with that number whose line has this text, which is without its newline. None where there is none. The list that it names is put behind
-/// those before.
+/// those before. The place of the last line that was read may be that of any.
 pub fn read_entry(
     text: Stretch,
     number: u64,
     lists: &mut NamedLists,
+    last: &mut LastPlace,
 ) -> Result<Option<Entry>, AllocError>
     ensures { IfOk result (λ found. MatchOption found ((e : Entry) (ns : List ℕ) → e.number ≡ number → IsLineOf text.entry e ns → ⊥) (ReadsEntry text.entry number lists.old lists.new)) }
 {
     let mut words = Words::of(text);
-    let Some((caller, index, op)) = take_head(number, &mut words) else {
+    let Some((caller, index, op)) = take_head(number, last, &mut words) else {
         return Ok(None);
     };
     let Some((reply, cites)) = read_tail(&op, &words, lists)? else {

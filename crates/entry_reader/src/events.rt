@@ -457,11 +457,26 @@ fn take_step(words: &mut Words) -> Option<Op>
     Some(op)
 }
 
+// Takes an event that thread `c` can name, and the equals sign. Nearly all of its events are no line's, so these are tried first.
+fn take_driver_event(words: &mut Words) -> Option<Op>
+    ensures { Takes (IsReadable Thread.C) (λ o. event_words Thread.C o ++ codes "=" ∷ []) words.old words.new result }
+{
+    let mut ahead = words.fork();
+    if let Some(op) = take_step(&mut ahead) {
+        *words = ahead;
+        return Some(op);
+    }
+    take_line(Thread::C, words)
+}
+
 /// Takes an event that the thread can name, and the equals sign behind it; None where the words that are left don't begin with these.
 pub fn take_event(thread: Thread, words: &mut Words) -> Option<Op>
     requires { IsThread thread }
     ensures { Takes (IsReadable thread) (λ o. event_words thread o ++ codes "=" ∷ []) words.old words.new result }
 {
+    if let Thread::C = thread {
+        return take_driver_event(words);
+    }
     let mut ahead = words.fork();
     if let Some(op) = take_line(thread, &mut ahead) {
         *words = ahead;

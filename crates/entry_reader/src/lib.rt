@@ -1,8 +1,8 @@
 // The line of an entry in a report, read back.
 //
-// Who reads a report keeps one `NamedLists`, empty at first, and calls for each line in turn
+// Who reads a report keeps one `NamedLists`, empty at first, and a `LastPlace`, and calls for each line in turn
 //
-//     let Some(entry) = read_entry(text, number, &mut lists)? else { .. };
+//     let Some(entry) = read_entry(text, number, &mut lists, &mut last)? else { .. };
 //
 // A line is cut into its words at each single space. The event stands before the first word `=`, since no event has that word: it is tried as a line's own
 // words, then as one of the other events. The reply stands behind it, and what it cites is the last word, where that begins with `@`. A reply is tried
@@ -20,8 +20,10 @@ mod entries;
 mod events;
 mod lists;
 mod numbers;
+mod places;
 mod replies;
 mod tails;
 
 pub use entries::read_entry;
 pub use lists::NamedLists;
+pub use places::LastPlace;

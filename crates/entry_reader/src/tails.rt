@@ -96,10 +96,23 @@ fn freed_tail(words: &Words, lists: &mut NamedLists) -> Result<Option<Tail>, All
     }
 }
 
-// The words that are left as a reply without a list.
+// Whether the first word that is left is that of a handle that was replaced by a new one, as nearly every other line of a cycle has it.
+fn begins_alive(words: &Words) -> bool {
+    match words.fork().next() {
+        Some(word) => is_same(word, b"alive"),
+        None => false,
+    }
+}
+
+// The words that are left as a reply without a list. Which kind is tried first is of no matter.
 fn short_tail(words: &Words) -> Option<Tail>
     ensures { Ends IsUnlisted words.now result }
 {
+    if begins_alive(words) {
+        if let Some(tail) = keyed_tail(words) {
+            return Some(tail);
+        }
+    }
     if let Some(tail) = plain_tail(words) {
         return Some(tail);
     }

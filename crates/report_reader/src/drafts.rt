@@ -1,11 +1,11 @@
 // What was read so far: the entries of the lines, and the lists that they name.
 
-ghost use Rattle.std.specs.Prelude.{◌≡◌, ◌≢◌, ◌+◌, ◌<◌, ◌≤◌, ◌++◌, [], ◌∷◌, All, length, slice_index, IfOk, IfErr, MatchOption};
+ghost use Rattle.std.specs.Prelude.{◌≡◌, ◌≢◌, ◌+◌, ◌<◌, ◌≤◌, ◌++◌, ℕ, [], ◌∷◌, All, length, slice_index, IfOk, IfErr, MatchOption};
 ghost use Rattle.joint_model.specs.Histories.{IsHistory};
 ghost use Rattle.report_reader.specs.Steps.{ReadsLine, IsLineError, history_of, no_lists};
 
 use crate::faults::{ReportCause, ReportError, refusal};
-use entry_reader::{NamedLists, read_entry};
+use entry_reader::{LastPlace, NamedLists, read_entry};
 use joint_model::{Entries, History, Holding};
 use std::alloc::{AllocError, Global};
 use std::marker::Model;
@@ -16,6 +16,7 @@ use text_words::{Stretch, first_place_far};
 pub(crate) struct Draft {
     entries: Entries,
     lists: NamedLists,
+    last: LastPlace,
 }
 
 impl Model for Draft {
@@ -30,12 +31,32 @@ impl Model for Draft {
     ghost invariant = { λ d. d.entries.holding ≡ Every };
 }
 
+// How many bytes are looked at at once for a line's end.
+const LANES: usize = 32;
+
+// The place of the first newline, or the length where there is none. Most lines of a report have more than 32 bytes and fewer than 64.
+#[inline(always)]
+fn line_end(bytes: &[u8]) -> usize
+    ensures within { result ≤ length bytes.now }
+    ensures before { (k : ℕ) → k < result → slice_index bytes.now k ≢ 10 }
+    ensures found { result < length bytes.now → slice_index bytes.now result ≡ 10 }
+{
+    if bytes.len() < LANES {
+        return first_place_far(bytes, b'\n');
+    }
+    let first = first_place_far(&bytes[..LANES], b'\n');
+    if first < LANES {
+        return first;
+    }
+    LANES + first_place_far(&bytes[LANES..], b'\n')
+}
+
 /// The first line without its newline, and what stands behind it; None where there is no newline.
 #[inline(always)]
 pub(crate) fn cut_line<'a>(bytes: &'a [u8]) -> Option<(Stretch<'a>, &'a [u8])>
     ensures { MatchOption result (All (λ b. b ≢ 10) bytes.now) (λ cut. All (λ b. b ≢ 10) cut.0 × (bytes.now ≡ cut.0 ++ (10 ∷ cut.1.now))) }
 {
-    let len = first_place_far(bytes, b'\n');
+    let len = line_end(bytes);
     if len == bytes.len() {
         return None;
     }
@@ -50,6 +71,7 @@ impl Draft {
         Draft {
             entries: Entries::new(alloc, Holding::Every),
             lists: NamedLists::new(alloc),
+            last: LastPlace::new(),
         }
     }
 
@@ -73,7 +95,7 @@ impl Draft {
         let Some((text, left)) = cut_line(bytes) else {
             return Err(refusal(before, ReportCause::Form));
         };
-        let Some(entry) = read_entry(text, before as u64, &mut self.lists)? else {
+        let Some(entry) = read_entry(text, before as u64, &mut self.lists, &mut self.last)? else {
             return Err(refusal(before, ReportCause::Form));
         };
         self.entries.reserve(1)?;
@@ -86,7 +108,7 @@ impl Draft {
         requires { IsHistory (history_of self) }
         ensures { IfOk result (λ h. h ≡ history_of self) }
     {
-        let Draft { entries, lists } = self;
+        let Draft { entries, lists, .. } = self;
         let (freed_managed, freed_peers, notices) = lists.into_parts();
         let mut all = Vec::new(alloc);
         all.push(entries)?;
