@@ -461,11 +461,11 @@ fn take_step(words: &mut Words) -> Option<Op>
 fn take_driver_event(words: &mut Words) -> Option<Op>
     ensures { Takes (IsReadable Thread.C) (λ o. event_words Thread.C o ++ codes "=" ∷ []) words.old words.new result }
 {
-    let mut ahead = words.fork();
-    if let Some(op) = take_step(&mut ahead) {
-        *words = ahead;
+    let all = words.fork();
+    if let Some(op) = take_step(words) {
         return Some(op);
     }
+    *words = all;
     take_line(Thread::C, words)
 }
 
