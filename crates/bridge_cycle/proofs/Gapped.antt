@@ -1,46 +1,25 @@
 -- A cycle with gaps: each phase that was run but the last of all had its gap, so how many gaps there were tells the driver's phase, and the other way round.
-use Rattle.std.proofs.Common.{◌≡◌, ℕ, suc, ◌+◌, ◌<◌, ◌≤◌, List, [], ◌∷◌, ◌++◌, length, refl, sym, ap, ◌∙◌, subst, append_assoc, arith}
+use Rattle.std.proofs.Common.{◌≡◌, ℕ, ◌+◌, ◌<◌, ◌≤◌, List, [], ◌∷◌, ◌++◌, length, refl, sym, ap, ◌∙◌, subst, arith}
 use Rattle.std.proofs.lemmas.List.{length-append}
 use Rattle.joint_model.specs.declared.names.Phase.{Phase}
 use Rattle.joint_model.specs.declared.names.Phase.TheVariants as at
 use Rattle.joint_model.specs.declared.names.PhaseWord.{PhaseWord}
 use Rattle.joint_model.specs.declared.names.PhaseWord.TheVariants as word
 use Rattle.joint_model.specs.declared.events.Reply.{Reply}
-use Rattle.joint_model.specs.Phases.{phases_left, phases_of}
+use Rattle.joint_model.specs.Phases.{phases_of}
 use Rattle.bridge_cycle.specs.Gaps.{IsInGap, StopsInGaps}
-use Rattle.bridge_cycle.specs.Progress.{EndsWithReply, LeadTo, Progress, RunsWords}
-use Rattle.bridge_cycle.specs.Words.{Lacks, next_word}
-use Rattle.bridge_cycle.proofs.Composed.{leads_one, runs_nothing, runs_on, stops_at}
-
--- the phases of a cycle that are to come
-abbrev pub to_come : Phase → List PhaseWord
-to_come at.Idle = phases_of word.Cycle
-to_come p = phases_left p
+use Rattle.bridge_cycle.specs.Progress.{EndsWithReply, Progress, RunsWords}
+use Rattle.bridge_cycle.specs.Words.{IsPartway, Lacks, next_word, to_come}
+use Rattle.bridge_cycle.proofs.Composed.{closes_now, one_less, partway_lacks, partway_more, partway_none}
 
 -- the first phases of a cycle were run, each with its gap
 pub record IsMidCycle (old now : Progress) (index gaps : ℕ) : Type 0 where
-  pub run : List PhaseWord
-  pub all : phases_of word.Cycle ≡ run ++ to_come now.phase
-  pub runs : RunsWords old now index run
-  pub each : gaps ≡ length run
+  pub idle : old.phase ≡ at.Idle
+  pub part : IsPartway old now index
+  pub each : gaps ≡ length part.run
 
 pub mid_none : (d : Progress) (index gaps : ℕ) → d.phase ≡ at.Idle → gaps ≡ 0 → IsMidCycle d d index gaps
-mid_none d index gaps idle none = record { run = []; all = sym (ap to_come idle); runs = runs_nothing d index; each = none }
-
--- a phase more, and what is to come then
-record Goes (p q : Phase) : Type 0 where
-  left : to_come p ≡ next_word p ∷ to_come q
-  busy : q ≡ at.Idle → ⊥
-
-goes_on : (p q : Phase) → (p ≡ at.Restored → ⊥) → LeadTo p (next_word p ∷ []) q → Goes p q
-goes_on at.Idle q n l = subst (λ (z : Phase). Goes at.Idle z) (sym (leads_one at.Idle q word.Snap at.Snapped refl l)) (record { left = refl; busy = λ i. cc })
-goes_on at.Snapped q n l = subst (λ (z : Phase). Goes at.Snapped z) (sym (leads_one at.Snapped q word.Contract at.Contracted refl l)) (record { left = refl; busy = λ i. cc })
-goes_on at.Contracted q n l = subst (λ (z : Phase). Goes at.Contracted z) (sym (leads_one at.Contracted q word.Mirror at.Mirrored refl l)) (record { left = refl; busy = λ i. cc })
-goes_on at.Mirrored q n l = subst (λ (z : Phase). Goes at.Mirrored z) (sym (leads_one at.Mirrored q word.Weaken at.Weakened refl l)) (record { left = refl; busy = λ i. cc })
-goes_on at.Weakened q n l = subst (λ (z : Phase). Goes at.Weakened z) (sym (leads_one at.Weakened q word.Mark at.Marked refl l)) (record { left = refl; busy = λ i. cc })
-goes_on at.Marked q n l = subst (λ (z : Phase). Goes at.Marked z) (sym (leads_one at.Marked q word.Sweep at.Swept refl l)) (record { left = refl; busy = λ i. cc })
-goes_on at.Swept q n l = subst (λ (z : Phase). Goes at.Swept z) (sym (leads_one at.Swept q word.Restore at.Restored refl l)) (record { left = refl; busy = λ i. cc })
-goes_on at.Restored q n l = absurd (n refl)
+mid_none d index gaps idle none = record { idle = idle; part = partway_none d index; each = none }
 
 -- the gap that comes behind a phase
 in_gap : (p : Phase) (n : ℕ) → (p ≡ at.Idle → ⊥) → n + 1 + length (to_come p) ≡ 8 → IsInGap n p
@@ -64,8 +43,8 @@ some_left at.Swept = omega arith
 some_left at.Restored = omega arith
 
 -- how many phases there are
-counted : (run ws : List PhaseWord) → phases_of word.Cycle ≡ run ++ ws → length run + length ws ≡ 8
-counted run ws all = sym (length-append run ws) ∙ sym (ap length all)
+counted : (p : Phase) (run ws : List PhaseWord) → p ≡ at.Idle → to_come p ≡ run ++ ws → length run + length ws ≡ 8
+counted p run ws idle all = sym (length-append run ws) ∙ (sym (ap length all) ∙ ap (λ z. length (to_come z)) idle)
 
 -- a phase was run, and its gap is due
 pub record GapIsDue (old mid new : Progress) (index gaps : ℕ) : Type 0 where
@@ -74,48 +53,30 @@ pub record GapIsDue (old mid new : Progress) (index gaps : ℕ) : Type 0 where
   pub less : length (to_come new.phase) < length (to_come mid.phase)
   pub next : IsMidCycle old new index (gaps + 1)
 
-pub gap_due : (old mid new : Progress) (index gaps : ℕ) (w : PhaseWord) (reply : Reply) → IsMidCycle old mid index gaps → (mid.phase ≡ at.Restored → ⊥) → w ≡ next_word mid.phase → EndsWithReply mid new index (w ∷ []) reply → GapIsDue old mid new index gaps
-gap_due old mid new index gaps w reply m n is a =
-    let g = goes_on mid.phase new.phase n (subst (λ (v : PhaseWord). LeadTo mid.phase (v ∷ []) new.phase) is a.runs.leads) in
-    let one : length (to_come mid.phase) ≡ length (to_come new.phase) + 1 = ap length g.left ∙ (let e : suc (length (to_come new.phase)) ≡ length (to_come new.phase) + 1 = omega arith in e) in
-    let sum = counted m.run (to_come mid.phase) m.all in
+pub gap_due : (old mid new : Progress) (index gaps : ℕ) (reply : Reply) → IsMidCycle old mid index gaps → (mid.phase ≡ at.Restored → ⊥) → EndsWithReply mid new index (next_word mid.phase ∷ []) reply → GapIsDue old mid new index gaps
+gap_due old mid new index gaps reply m n a =
+    let f = partway_more old mid new index reply m.part n a in
+    let one = one_less mid.phase new.phase f.goes in
+    let sum = counted old.phase m.part.run (to_come mid.phase) m.idle m.part.all in
     let last = some_left new.phase in
     record {
-      due = in_gap new.phase gaps g.busy (let e = m.each in omega (arith, e, one, sum));
+      due = in_gap new.phase gaps f.goes.busy (let e = m.each in omega (arith, e, one, sum));
       few = (let e = m.each in omega (arith, e, one, sum, last));
       less = omega (arith, one);
-      next = record {
-        run = m.run ++ w ∷ [];
-        all = m.all ∙ (ap (λ ws. m.run ++ ws) (g.left ∙ ap (λ v. v ∷ to_come new.phase) (sym is)) ∙ sym (append_assoc m.run (w ∷ []) (to_come new.phase)));
-        runs = runs_on old mid new index m.run (w ∷ []) m.runs (a.entries, a.runs);
-        each = ap (λ k. k + 1) m.each ∙ sym (length-append m.run (w ∷ []));
-      };
+      next = record { idle = m.idle; part = f.now; each = ap (λ k. k + 1) m.each ∙ (sym (length-append m.part.run (next_word mid.phase ∷ [])) ∙ ap length (sym f.longer)) };
     }
 
 -- a phase that found no memory
-next_comes : (p : Phase) → (ws : List PhaseWord) × (to_come p ≡ next_word p ∷ ws)
-next_comes at.Idle = (to_come at.Snapped, refl)
-next_comes at.Snapped = (to_come at.Contracted, refl)
-next_comes at.Contracted = (to_come at.Mirrored, refl)
-next_comes at.Mirrored = (to_come at.Weakened, refl)
-next_comes at.Weakened = (to_come at.Marked, refl)
-next_comes at.Marked = (to_come at.Swept, refl)
-next_comes at.Swept = (to_come at.Restored, refl)
-next_comes at.Restored = ([], refl)
-
-pub gaps_stop : (old mid new : Progress) (index gaps : ℕ) (w : PhaseWord) → IsMidCycle old mid index gaps → w ≡ next_word mid.phase → Lacks mid new index w → StopsInGaps old new index (phases_of word.Cycle) gaps
-gaps_stop old mid new index gaps w m is lacks =
-    let left = next_comes mid.phase in
-    record {
-      stops = stops_at old mid new index m.run w left.0 (phases_of word.Cycle) m.runs (m.all ∙ ap (λ ws. m.run ++ ws) (left.1 ∙ ap (λ v. v ∷ left.0) (sym is))) lacks;
-      each = m.each;
-    }
+pub gaps_stop : (old mid new : Progress) (index gaps : ℕ) → IsMidCycle old mid index gaps → Lacks mid new index (next_word mid.phase) → StopsInGaps old new index (phases_of word.Cycle) gaps
+gaps_stop old mid new index gaps m lacks =
+    subst (λ (ws : List PhaseWord). StopsInGaps old new index ws gaps) (ap to_come m.idle) (record { stops = partway_lacks old mid new index m.part lacks; each = m.each })
 
 -- the last phase, which has no gap
-pub cycle_ends : (old mid new : Progress) (index gaps : ℕ) (reply : Reply) → IsMidCycle old mid index gaps → mid.phase ≡ at.Restored → EndsWithReply mid new index (word.Resolve ∷ []) reply → RunsWords old new index (phases_of word.Cycle) × (gaps ≡ 7)
+pub cycle_ends : (old mid new : Progress) (index gaps : ℕ) (reply : Reply) → IsMidCycle old mid index gaps → mid.phase ≡ at.Restored → EndsWithReply mid new index (next_word mid.phase ∷ []) reply → RunsWords old new index (phases_of word.Cycle) × (gaps ≡ 7)
 cycle_ends old mid new index gaps reply m e a =
-    let all : phases_of word.Cycle ≡ m.run ++ word.Resolve ∷ [] = m.all ∙ ap (λ q. m.run ++ to_come q) e in
-    let sum = counted m.run (word.Resolve ∷ []) all in (
-      subst (λ (ws : List PhaseWord). RunsWords old new index ws) (sym all) (runs_on old mid new index m.run (word.Resolve ∷ []) m.runs (a.entries, a.runs)),
-      (let e = m.each in omega (arith, e, sum)),
+    let c = closes_now old mid new index reply m.part e a in
+    let sum = counted old.phase m.part.run (to_come mid.phase) m.idle m.part.all in
+    let one : length (to_come mid.phase) ≡ 1 = ap (λ z. length (to_come z)) e in (
+      subst (λ (ws : List PhaseWord). RunsWords old new index ws) (ap to_come m.idle) (c.entries, c.runs),
+      (let e = m.each in omega (arith, e, sum, one)),
     )

@@ -1,5 +1,5 @@
 -- One entry of the driver, as a call of the driver's; and where the driver stands after it, by the line of its own last entry.
-use Rattle.std.proofs.Common.{◌≡◌, ℕ, ◌≤◌, List, [], ◌∷◌, ◌++◌, refl, sym, ap, ◌∙◌, subst, append_assoc, arith}
+use Rattle.std.proofs.Common.{◌≡◌, ℕ, ◌≤◌, List, [], ◌∷◌, ◌++◌, IfSome, refl, sym, ap, ◌∙◌, subst, append_assoc, arith}
 use mathlib.Core.List.{IsPrefix}
 use base.Growing.{prefix_trans}
 use Rattle.joint_model.specs.declared.names.Cycle.{Cycle}
@@ -25,8 +25,10 @@ use Rattle.joint_history.specs.Knowing.{line_known}
 use Rattle.joint_history.specs.Operations.{AreAbove, MakesAll}
 use Rattle.joint_history.proofs.LastLines.{last_line_is}
 use Rattle.joint_history.proofs.DriverHears.{driver_later}
-use Rattle.bridge_cycle.specs.Held.{Fields, HasCycle, HasRoomForAnswers, IsAt, KnowsItsStand}
+use Rattle.bridge_cycle.specs.declared.stages.Stage.{Stage}
+use Rattle.bridge_cycle.specs.Held.{Fields, IsAt, IsOfCycle, KnowsItsStand, shown, snapshot_in}
 use Rattle.bridge_cycle.specs.Progress.{AreDriversOnLine, EndsWithReply, Enters, LeadTo, Progress, RunsWords, RunsPhases, cycle_after, line_of, opened_by}
+use Rattle.bridge_cycle.specs.Words.{Lacks, next_word}
 
 -- the line of the driver's last entry
 own_line_is : (v : View) (index : ℕ) (stand : Stand) (seen : Managed) (s : DriverStands v index stand seen) → control_line (end_of s.known.known.past).control C ≡ last_index (line_known v (caller_line C))
@@ -38,55 +40,56 @@ line_below v index stand seen s = let e = own_line_is v index stand seen s in le
 pub at_own_line : (v : View) (index : ℕ) (stand : Stand) (seen : Managed) → DriverStands v index stand seen → DriverStands v (last_index (line_known v (caller_line C))) stand seen
 at_own_line v index stand seen s = record { known = s.known; stands = record { last = (let e = own_line_is v index stand seen s in omega (arith, e)); come = s.stands.come; dead = s.stands.dead } }
 
--- a driver in that phase stands as the phase says, on that line
-pub stands_in : (f : Fields) (phase : Phase) (h : KnowsItsStand f) → f.progress.phase ≡ phase → IsAt phase f h.stand h.seen
-stands_in f phase h e = subst (λ (p : Phase). IsAt p f h.stand h.seen) e h.at
+-- what the driver keeps in a stage
+abbrev pub kept : View → Stage → Cycle → ℕ → Fields
+kept v s k n = record { view = v; stage = s; cycle = k; candidates = n }
 
-pub stands_on : (f : Fields) (index : ℕ) (stand : Stand) (h : KnowsItsStand f) → line_of f.progress ≤ index → h.stand ≡ stand → DriverStands f.progress.view index stand h.seen
-stands_on f index stand h l e = subst (λ (s : Stand). DriverStands f.progress.view index s h.seen) e (driver_later f.progress.view (line_of f.progress) index h.stand h.seen l h.stands)
+-- the driver keeps these fields, of which contracts see that, and the line of its last entry isn't above this one
+pub record Keeps (q : Progress) (f : Fields) (index : ℕ) : Type 0 where
+  pub held : KnowsItsStand f
+  pub line : line_of (shown f) ≤ index
+  pub seen : shown f ≡ q
 
--- what the driver keeps of its open cycle is the same for fields that have it
-abbrev pub cycle_on : (f next : Fields) (seen : Managed) → next.snapshot ≡ f.snapshot → next.progress.cycle ≡ f.progress.cycle → next.progress.candidates ≡ f.progress.candidates → HasCycle f seen → HasCycle next seen
-cycle_on f next seen s k n c = record {
-  snapshot = c.snapshot;
-  there = s ∙ c.there;
-  same = c.same ∙ sym k;
-  cycle = c.cycle;
-  opened = c.opened;
-  kept = c.kept;
-  graph = c.graph;
-  part = c.part;
-  count = c.count ∙ sym n;
-  candidates = c.candidates;
-}
+pub keeps : (f : Fields) (q : Progress) (index : ℕ) → KnowsItsStand f → shown f ≡ q → line_of q ≤ index → Keeps q f index
+keeps f q index h e l = record { held = h; line = subst (λ (d : Progress). line_of d ≤ index) (sym e) l; seen = e }
 
-abbrev pub room_on : (f next : Fields) → next.alive ≡ f.alive → next.progress.candidates ≡ f.progress.candidates → HasRoomForAnswers f → HasRoomForAnswers next
-room_on f next a n r = record { answers = r.answers; there = a ∙ r.there; none = r.none; room = r.room ∙ sym n }
+-- so it is in the stage that is at hand
+pub keeps_in : (f : Fields) (s : Stage) (q : Progress) (index : ℕ) → s ≡ f.stage → KnowsItsStand f → shown f ≡ q → line_of q ≤ index → Keeps q (kept f.view s f.cycle f.candidates) index
+keeps_in f s q index is h e l = subst (λ (z : Stage). Keeps q (kept f.view z f.cycle f.candidates) index) (sym is) (keeps f q index h e l)
 
--- what the driver keeps after phases
-pub record Steps (old : Progress) (next : Fields) (index : ℕ) (ws : List PhaseWord) (reply : Reply) : Type 0 where
+pub stands_on : (q : Progress) (f : Fields) (index : ℕ) (i : Keeps q f index) (stand : Stand) → i.held.stand ≡ stand → DriverStands f.view index stand i.held.seen
+stands_on q f index i stand e = subst (λ (s : Stand). DriverStands f.view index s i.held.seen) e (driver_later f.view (line_of (shown f)) index i.held.stand i.held.seen i.line i.held.stands)
+
+-- what the driver keeps where it stands
+pub held_there : (f : Fields) (index : ℕ) (stand : Stand) (seen : Managed) → DriverStands f.view index stand seen → IfSome (snapshot_in f.stage) (λ o. IsOfCycle f.cycle f.candidates seen o) → IsAt f.stage f.candidates stand → KnowsItsStand f
+held_there f index stand seen stands cycle at = record { stand = stand; seen = seen; stands = at_own_line f.view index stand seen stands; cycle = cycle; at = at }
+
+-- what it keeps after the next phase
+pub record Steps (old : Progress) (next : Fields) (index : ℕ) (reply : Reply) : Type 0 where
   pub held : KnowsItsStand next
-  pub line : line_of next.progress ≤ index
-  pub answers : EndsWithReply old next.progress index ws reply
+  pub line : line_of (shown next) ≤ index
+  pub answers : EndsWithReply old (shown next) index (next_word old.phase ∷ []) reply
 
--- and where it found no memory
+pub steps : (q : Progress) (f next : Fields) (index : ℕ) (reply : Reply) (stand : Stand) (seen : Managed) → Keeps q f index → DriverStands next.view index stand seen → IfSome (snapshot_in next.stage) (λ o. IsOfCycle next.cycle next.candidates seen o) → IsAt next.stage next.candidates stand
+    → EndsWithReply (shown f) (shown next) index (next_word (shown f).phase ∷ []) reply → Steps q next index reply
+steps q f next index reply stand seen i stands cycle at answers = subst (λ (d : Progress). Steps d next index reply) i.seen
+    (record { held = held_there next index stand seen stands cycle at; line = line_below next.view index stand seen stands; answers = answers })
+
+-- in the stage that has come
+pub steps_in : {q : Progress} {v : View} {k : Cycle} {n index : ℕ} {reply : Reply} {s t : Stage} → t ≡ s → Steps q (kept v s k n) index reply → Steps q (kept v t k n) index reply
+steps_in {q} {v} {k} {n} {index} {reply} {s} {t} e w = subst (λ (z : Stage). Steps q (kept v z k n) index reply) (sym e) w
+
+-- and where that one found no memory
+pub record Fails (old : Progress) (next : Fields) (index : ℕ) : Type 0 where
+  pub held : KnowsItsStand next
+  pub line : line_of (shown next) ≤ index
+  pub lacks : Lacks old (shown next) index (next_word old.phase)
+
+-- after nothing
 pub record Stays (old : Progress) (next : Fields) (index : ℕ) : Type 0 where
   pub held : KnowsItsStand next
-  pub line : line_of next.progress ≤ index
-  pub runs : RunsWords old next.progress index []
-
--- what contracts see of the driver is what it keeps
-pub phase_seen : {p q : Progress} (phase : Phase) → p ≡ q → q.phase ≡ phase → p.phase ≡ phase
-phase_seen phase e w = ap (λ (d : Progress). d.phase) e ∙ w
-
-pub line_seen : {p q : Progress} {index : ℕ} → p ≡ q → line_of q ≤ index → line_of p ≤ index
-line_seen {p = p} {q = q} {index = index} e w = subst (λ (d : Progress). line_of d ≤ index) (sym e) w
-
-pub steps_seen : {p q : Progress} {next : Fields} {index : ℕ} {ws : List PhaseWord} {reply : Reply} → p ≡ q → Steps p next index ws reply → Steps q next index ws reply
-steps_seen {next = next} {index = index} {ws = ws} {reply = reply} e w = subst (λ (d : Progress). Steps d next index ws reply) e w
-
-pub stays_seen : {p q : Progress} {next : Fields} {index : ℕ} → p ≡ q → Stays p next index → Stays q next index
-stays_seen {next = next} {index = index} e w = subst (λ (d : Progress). Stays d next index) e w
+  pub line : line_of (shown next) ≤ index
+  pub runs : RunsWords old (shown next) index []
 
 pub driver_seen : {t u : Thread} → u ≡ t → IsDriver t → IsDriver u
 driver_seen e is = subst IsDriver (sym e) is

@@ -1,6 +1,6 @@
--- What every phase of the driver has in common: it is the phase of the stand, no phase is half done, and a cycle is open but in the idle one. So a
--- word may be refused, and notices taken, and the driver keeps what it kept.
-use Rattle.std.proofs.Common.{◌≡◌, ◌⊎◌, inl, inr, ℕ, ◌≤◌, Bool, false, [], ◌∷◌, length, Option, Some, None, refl, sym, ap, ◌∙◌, subst, arith}
+-- What every stage of the driver has in common: its phase is that of the stand, and a cycle is open but in the idle one. So a word may be refused, and notices
+-- taken, and the driver keeps what it kept.
+use Rattle.std.proofs.Common.{◌≡◌, ◌⊎◌, inl, inr, ℕ, ◌≤◌, [], ◌∷◌, length, Option, Some, None, IfSome, refl, sym, ap, ◌∙◌, subst, arith}
 use mathlib.Core.List.{IsPrefix}
 use Rattle.joint_model.specs.declared.names.Cycle.{Cycle}
 use Rattle.joint_model.specs.declared.names.Thread.{Thread}
@@ -14,120 +14,90 @@ use Rattle.joint_model.specs.declared.lines.Act.TheVariants as act
 use Rattle.joint_model.specs.declared.events.Entry.{Entry}
 use Rattle.joint_model.specs.declared.events.Op.TheVariants as op
 use Rattle.joint_model.specs.declared.events.Reply.{Reply}
-use Rattle.joint_model.specs.Control.{Stand, idle, snapped, contracted, weakening, marked, restoring, restored, IsAtRest, IsPhaseOf}
+use Rattle.joint_model.specs.Control.{Stand, idle, IsAtRest, IsPhaseOf}
 use Rattle.joint_model.specs.Control.{last_line as control_line}
 use Rattle.joint_model.specs.Lines.{IsDriver}
-use Rattle.joint_model.specs.Listed.{answers_of}
 use Rattle.joint_model.specs.Managed.{Managed, OpenCycle, candidates_of}
 use Rattle.joint_model.specs.ManagedReplay.{IsRefusedIn, refusal_to, open_reply}
 use Rattle.joint_model.specs.Phases.{AreRefusal, NamesCycle, NamesPhase, next_phase, told_by}
-use Rattle.joint_model.specs.Told.{nothing, phase_of}
+use Rattle.joint_model.specs.Told.{nothing, phase_of as told_phase}
 use Rattle.joint_model.proofs.Deciding.{none_some}
 use Rattle.known_laws.specs.Pasts.{end_of}
+use Rattle.known_laws.proofs.Conditions.{phase_is_at_rest}
+use Rattle.managed_side.specs.declared.opening.Opened.{Opened as Snapshot}
 use Rattle.order_table.specs.declared.views.View.{View}
 use Rattle.order_table.specs.Views.{known}
 use Rattle.joint_history.specs.Callers.{Hears, KnowsNothing, Pass, last_index, reads_of}
-use Rattle.joint_history.specs.Driven.{DriverMakesNone, DriverStands, IsStillAt, MakesFinalise, MakesRefusal, MayFinalise, MayRefuseWord, driver_entry}
+use Rattle.joint_history.specs.Driven.{DriverMakesNone, DriverStands, IsStillAt, MakesFinalise, MakesRefusal, MayFinalise, MayRefuseWord, StillStands, driver_entry}
 use Rattle.joint_history.specs.Ending.{HasIdleDriver}
 use Rattle.view_laws.specs.Knowing.{IsDrawnView}
 use Rattle.joint_history.proofs.DeadParts.{dead_part_self}
-use Rattle.joint_history.proofs.DriverHears.{driver_first, driver_later}
-use Rattle.joint_history.specs.DriverMirrors.{numbered_comps}
-use Rattle.bridge_cycle.specs.Held.{Fields, HasCycle, IsAt, KnowsItsStand, opened_of}
+use Rattle.joint_history.proofs.DriverHears.{driver_first}
+use Rattle.bridge_cycle.specs.declared.stages.Stage.{Stage}
+use Rattle.bridge_cycle.specs.declared.stages.Stage.TheVariants as stage
+use Rattle.bridge_cycle.specs.Held.{Fields, IsAt, IsOfCycle, KnowsItsStand, phase_of, shown, snapshot_in}
 use Rattle.bridge_cycle.specs.Progress.{MakesOne, Progress, RunsLine, RunsWord, line_of, pass_of}
-use Rattle.bridge_cycle.proofs.Making.{Stays, at_own_line, cycle_on, line_below, makes_one, ran_none, room_on}
+use Rattle.bridge_cycle.proofs.Making.{Keeps, Stays, held_there, kept, line_below, makes_one, ran_none, stands_on}
 
 -- the same fields, but that the driver knows more
 abbrev pub knowing : Fields → View → Fields
-knowing f new = record f { progress = record f.progress { view = new } }
+knowing f new = record f { view = new }
 
--- the phase of a stand
-phase_at : (p : Phase) (f : Fields) (stand : Stand) (seen : Managed) → IsAt p f stand seen → IsPhaseOf stand (length (candidates_of seen)) p
-phase_at at.Idle f stand seen a = subst (λ (s : Stand). IsPhaseOf s (length (candidates_of seen)) at.Idle) (sym a) refl
-phase_at at.Snapped f stand seen a = subst (λ (s : Stand). IsPhaseOf s (length (candidates_of seen)) at.Snapped) (sym a.stands) refl
-phase_at at.Contracted f stand seen a = subst (λ (s : Stand). IsPhaseOf s (length (candidates_of seen)) at.Contracted) (sym a.stands) refl
-phase_at at.Mirrored f stand seen a = subst (λ (s : Stand). IsPhaseOf s (length (candidates_of seen)) at.Mirrored) (sym a.stands) (refl, inl (refl, refl, refl))
-phase_at at.Weakened f stand seen a = subst (λ (s : Stand). IsPhaseOf s (length (candidates_of seen)) at.Weakened) (sym a.stands) (refl, inr (refl, sym a.cycle.count))
-phase_at at.Marked f stand seen a = subst (λ (s : Stand). IsPhaseOf s (length (candidates_of seen)) at.Marked) (sym a.stands) refl
-phase_at at.Swept f stand seen a = subst (λ (s : Stand). IsPhaseOf s (length (candidates_of seen)) at.Swept) (sym a.stands) (refl, refl)
-phase_at at.Restored f stand seen a = subst (λ (s : Stand). IsPhaseOf s (length (candidates_of seen)) at.Restored) (sym a.stands) refl
+-- the stand has the stage's phase
+phase_at : (s : Stage) (k : Cycle) (n : ℕ) (stand : Stand) (seen : Managed) → IfSome (snapshot_in s) (λ o. IsOfCycle k n seen o) → IsAt s n stand → IsPhaseOf stand (length (candidates_of seen)) (phase_of s)
+phase_at stage.Idle k n stand seen c a = subst (λ (s : Stand). IsPhaseOf s (length (candidates_of seen)) at.Idle) (sym a) refl
+phase_at (stage.Snapped o) k n stand seen c a = subst (λ (s : Stand). IsPhaseOf s (length (candidates_of seen)) at.Snapped) (sym a) refl
+phase_at (stage.Contracted o l r) k n stand seen c a = subst (λ (s : Stand). IsPhaseOf s (length (candidates_of seen)) at.Contracted) (sym a.1.2) refl
+phase_at (stage.Mirrored o r) k n stand seen c a = subst (λ (s : Stand). IsPhaseOf s (length (candidates_of seen)) at.Mirrored) (sym a.1) (refl, inl (refl, refl, refl))
+phase_at (stage.Weakened o r) k n stand seen c a = subst (λ (s : Stand). IsPhaseOf s (length (candidates_of seen)) at.Weakened) (sym a.1.1) (refl, inr (refl, sym c.count))
+phase_at (stage.Marked o r) k n stand seen c a = subst (λ (s : Stand). IsPhaseOf s (length (candidates_of seen)) at.Marked) (sym a.1) refl
+phase_at (stage.Swept o r) k n stand seen c a = subst (λ (s : Stand). IsPhaseOf s (length (candidates_of seen)) at.Swept) (sym a.1) (refl, refl)
+phase_at (stage.Restored o r clear) k n stand seen c a = subst (λ (s : Stand). IsPhaseOf s (length (candidates_of seen)) at.Restored) (sym a) refl
 
--- no phase is half done
-rest_at : (p : Phase) (f : Fields) (stand : Stand) (seen : Managed) → IsAt p f stand seen → IsAtRest stand (length (candidates_of seen))
-rest_at at.Idle f stand seen a = subst (λ (s : Stand). IsAtRest s (length (candidates_of seen))) (sym a) tt
-rest_at at.Snapped f stand seen a = subst (λ (s : Stand). IsAtRest s (length (candidates_of seen))) (sym a.stands) tt
-rest_at at.Contracted f stand seen a = subst (λ (s : Stand). IsAtRest s (length (candidates_of seen))) (sym a.stands) tt
-rest_at at.Mirrored f stand seen a = subst (λ (s : Stand). IsAtRest s (length (candidates_of seen))) (sym a.stands) (inl refl, refl)
-rest_at at.Weakened f stand seen a = subst (λ (s : Stand). IsAtRest s (length (candidates_of seen))) (sym a.stands) (inr (sym a.cycle.count), refl)
-rest_at at.Marked f stand seen a = subst (λ (s : Stand). IsAtRest s (length (candidates_of seen))) (sym a.stands) tt
-rest_at at.Swept f stand seen a = subst (λ (s : Stand). IsAtRest s (length (candidates_of seen))) (sym a.stands) refl
-rest_at at.Restored f stand seen a = subst (λ (s : Stand). IsAtRest s (length (candidates_of seen))) (sym a.stands) tt
+pub phase_stands : (f : Fields) (h : KnowsItsStand f) → IsPhaseOf h.stand (length (candidates_of h.seen)) (phase_of f.stage)
+phase_stands f h = phase_at f.stage f.cycle f.candidates h.stand h.seen h.cycle h.at
 
--- who knows more is in the same phase
-on_at : (p : Phase) (f : Fields) (new : View) (stand : Stand) (seen : Managed) → IsAt p f stand seen → IsAt p (knowing f new) stand seen
-on_at at.Idle f new stand seen a = a
-on_at at.Snapped f new stand seen a = record { cycle = cycle_on f (knowing f new) seen refl refl refl a.cycle; stands = a.stands }
-on_at at.Contracted f new stand seen a = record { cycle = cycle_on f (knowing f new) seen refl refl refl a.cycle; room = room_on f (knowing f new) refl refl a.room; listing = a.listing; listed = a.listed; heavy = a.heavy; heavy_count = a.heavy_count; stands = a.stands }
-on_at at.Mirrored f new stand seen a = record { cycle = cycle_on f (knowing f new) seen refl refl refl a.cycle; room = room_on f (knowing f new) refl refl a.room; stands = a.stands }
-on_at at.Weakened f new stand seen a = record { cycle = cycle_on f (knowing f new) seen refl refl refl a.cycle; room = room_on f (knowing f new) refl refl a.room; weakened = a.weakened; stands = a.stands }
-on_at at.Marked f new stand seen a = record { cycle = cycle_on f (knowing f new) seen refl refl refl a.cycle; room = room_on f (knowing f new) refl refl a.room; stands = a.stands }
-on_at at.Swept f new stand seen a = record { cycle = cycle_on f (knowing f new) seen refl refl refl a.cycle; room = room_on f (knowing f new) refl refl a.room; stands = a.stands }
-on_at at.Restored f new stand seen a = record { cycle = cycle_on f (knowing f new) seen refl refl refl a.cycle; answers = a.answers; there = a.there; stands = a.stands }
+-- after a refusal the driver is in its stage
+still_at : (s : Stage) (n : ℕ) (stand next : Stand) → IsAt s n stand → IsStillAt stand (phase_of s) next → IsAt s n next
+still_at stage.Idle n stand next a still = subst (λ (s : Stand). IsStillAt s at.Idle next) a still
+still_at (stage.Snapped o) n stand next a still = subst (λ (s : Stand). IsStillAt s at.Snapped next) a still
+still_at (stage.Contracted o l r) n stand next a still = (a.0, (a.1.0, a.1.1, subst (λ (s : Stand). IsStillAt s at.Contracted next) a.1.2 still))
+still_at (stage.Mirrored o r) n stand next a still = (a.0, subst (λ (s : Stand). IsStillAt s at.Mirrored next) a.1 still)
+still_at (stage.Weakened o r) n stand next a still = (a.0, subst (λ (s : Stand). IsStillAt s at.Weakened next) a.1.1 still)
+still_at (stage.Marked o r) n stand next a still = (a.0, subst (λ (s : Stand). IsStillAt s at.Marked next) a.1 still)
+still_at (stage.Swept o r) n stand next a still = (a.0, subst (λ (s : Stand). IsStillAt s at.Swept next) a.1 still)
+still_at (stage.Restored o r clear) n stand next a still = subst (λ (s : Stand). IsStillAt s at.Restored next) a still
 
-pub held_on : (f : Fields) (new : View) → ((index : ℕ) (stand : Stand) (seen : Managed) → DriverStands f.progress.view index stand seen → DriverStands new index stand seen) → KnowsItsStand f → KnowsItsStand (knowing f new)
-held_on f new on h = record { stand = h.stand; seen = h.seen; stands = at_own_line new (line_of f.progress) h.stand h.seen (on (line_of f.progress) h.stand h.seen h.stands); at = on_at f.progress.phase f new h.stand h.seen h.at }
+-- a cycle is open, but in the idle stage
+is_open : (s : Stage) (k : Cycle) (n : ℕ) (seen : Managed) → (phase_of s ≡ at.Idle → ⊥) → IfSome (snapshot_in s) (λ o. IsOfCycle k n seen o) → (o : Snapshot) × IsOfCycle k n seen o
+is_open stage.Idle k n seen busy c = absurd (busy refl)
+is_open (stage.Snapped o) k n seen busy c = (o, c)
+is_open (stage.Contracted o l r) k n seen busy c = (o, c)
+is_open (stage.Mirrored o r) k n seen busy c = (o, c)
+is_open (stage.Weakened o r) k n seen busy c = (o, c)
+is_open (stage.Marked o r) k n seen busy c = (o, c)
+is_open (stage.Swept o r) k n seen busy c = (o, c)
+is_open (stage.Restored o r clear) k n seen busy c = (o, c)
 
--- after a refusal the driver is in its phase
-still_at : (p : Phase) (f : Fields) (new : View) (stand next : Stand) (seen : Managed) → IsAt p f stand seen → IsStillAt stand p next → IsAt p (knowing f new) next seen
-still_at at.Idle f new stand next seen a still = subst (λ (s : Stand). IsStillAt s at.Idle next) a still ∙ refl
-still_at at.Snapped f new stand next seen a still =
-    let is : next ≡ snapped (opened_of a.cycle.snapshot) = subst (λ (s : Stand). IsStillAt s at.Snapped next) a.stands still in
-    record { cycle = cycle_on f (knowing f new) seen refl refl refl a.cycle; stands = is }
-still_at at.Contracted f new stand next seen a still =
-    let is : next ≡ contracted (opened_of a.cycle.snapshot) (numbered_comps a.cycle.snapshot.graph a.listing.comps) a.heavy a.listing.pairs = subst (λ (s : Stand). IsStillAt s at.Contracted next) a.stands still in
-    record { cycle = cycle_on f (knowing f new) seen refl refl refl a.cycle; room = room_on f (knowing f new) refl refl a.room; listing = a.listing; listed = a.listed; heavy = a.heavy; heavy_count = a.heavy_count; stands = is }
-still_at at.Mirrored f new stand next seen a still =
-    let is : next ≡ weakening (opened_of a.cycle.snapshot) 0 false false = subst (λ (s : Stand). IsStillAt s at.Mirrored next) a.stands still in
-    record { cycle = cycle_on f (knowing f new) seen refl refl refl a.cycle; room = room_on f (knowing f new) refl refl a.room; stands = is }
-still_at at.Weakened f new stand next seen a still =
-    let is : (w : Bool) × (next ≡ weakening (opened_of a.cycle.snapshot) f.progress.candidates w false) = subst (λ (s : Stand). IsStillAt s at.Weakened next) a.stands still in
-    record { cycle = cycle_on f (knowing f new) seen refl refl refl a.cycle; room = room_on f (knowing f new) refl refl a.room; weakened = is.0; stands = is.1 }
-still_at at.Marked f new stand next seen a still =
-    let is : next ≡ marked (opened_of a.cycle.snapshot) = subst (λ (s : Stand). IsStillAt s at.Marked next) a.stands still in
-    record { cycle = cycle_on f (knowing f new) seen refl refl refl a.cycle; room = room_on f (knowing f new) refl refl a.room; stands = is }
-still_at at.Swept f new stand next seen a still =
-    let is : next ≡ restoring (opened_of a.cycle.snapshot) [] = subst (λ (s : Stand). IsStillAt s at.Swept next) a.stands still in
-    record { cycle = cycle_on f (knowing f new) seen refl refl refl a.cycle; room = room_on f (knowing f new) refl refl a.room; stands = is }
-still_at at.Restored f new stand next seen a still =
-    let is : next ≡ restored (opened_of a.cycle.snapshot) (answers_of a.answers.values) f.clear = subst (λ (s : Stand). IsStillAt s at.Restored next) a.stands still in
-    record { cycle = cycle_on f (knowing f new) seen refl refl refl a.cycle; answers = a.answers; there = a.there; stands = is }
-
--- a cycle is open, but in the idle phase
-pub is_open : (p : Phase) (f : Fields) (stand : Stand) (seen : Managed) → (p ≡ at.Idle → ⊥) → IsAt p f stand seen → HasCycle f seen
-is_open at.Idle f stand seen n a = absurd (n refl)
-is_open at.Snapped f stand seen n a = a.cycle
-is_open at.Contracted f stand seen n a = a.cycle
-is_open at.Mirrored f stand seen n a = a.cycle
-is_open at.Weakened f stand seen n a = a.cycle
-is_open at.Marked f stand seen n a = a.cycle
-is_open at.Swept f stand seen n a = a.cycle
-is_open at.Restored f stand seen n a = a.cycle
+-- who knows more is in the same stage
+pub held_on : (f : Fields) (new : View) → StillStands f.view new → KnowsItsStand f → KnowsItsStand (knowing f new)
+held_on f new on h = held_there (knowing f new) (line_of (shown f)) h.stand h.seen (on (line_of (shown f)) h.stand h.seen h.stands) h.cycle h.at
 
 -- the reply of a refusal
-names : (w : PhaseWord) (p : Phase) (f : Fields) (stand : Stand) (seen : Managed) → IsAt p f stand seen → IsRefusedIn w p → NamesPhase w p (refusal_to seen p w)
-names word.Cycle p f stand seen a r =
-    let c = is_open p f stand seen (λ e. none_some at.Idle (sym r ∙ ap (λ q. next_phase q word.Cycle) e)) a in
-    subst (λ (o : Option OpenCycle). NamesCycle (open_reply o)) (sym c.opened) tt
-names word.Snap p f stand seen a r =
-    let c = is_open p f stand seen (λ e. none_some at.Snapped (sym r ∙ ap (λ q. next_phase q word.Snap) e)) a in
-    subst (λ (o : Option OpenCycle). NamesCycle (open_reply o)) (sym c.opened) tt
-names word.Contract p f stand seen a r = refl
-names word.Mirror p f stand seen a r = refl
-names word.Weaken p f stand seen a r = refl
-names word.Mark p f stand seen a r = refl
-names word.Sweep p f stand seen a r = refl
-names word.Restore p f stand seen a r = refl
-names word.Resolve p f stand seen a r = refl
+names : (w : PhaseWord) (f : Fields) (h : KnowsItsStand f) → IsRefusedIn w (phase_of f.stage) → NamesPhase w (phase_of f.stage) (refusal_to h.seen (phase_of f.stage) w)
+names word.Cycle f h r =
+    let c = is_open f.stage f.cycle f.candidates h.seen (λ e. none_some at.Idle (sym r ∙ ap (λ p. next_phase p word.Cycle) e)) h.cycle in
+    subst (λ (o : Option OpenCycle). NamesCycle (open_reply o)) (sym c.1.opened) tt
+names word.Snap f h r =
+    let c = is_open f.stage f.cycle f.candidates h.seen (λ e. none_some at.Snapped (sym r ∙ ap (λ p. next_phase p word.Snap) e)) h.cycle in
+    subst (λ (o : Option OpenCycle). NamesCycle (open_reply o)) (sym c.1.opened) tt
+names word.Contract f h r = refl
+names word.Mirror f h r = refl
+names word.Weaken f h r = refl
+names word.Mark f h r = refl
+names word.Sweep f h r = refl
+names word.Restore f h r = refl
+names word.Resolve f h r = refl
 
 -- a refusal tells no number of candidates
 refusal_tells : (w : PhaseWord) (p : Phase) (seen : Managed) (n : ℕ) → told_by n (refusal_to seen p w) ≡ n
@@ -152,82 +122,96 @@ refusal_tells word.Resolve p seen n = refl
 -- what the driver keeps after a line whose entry leaves it in its phase
 pub record StepsOne (old : Progress) (next : Fields) (index : ℕ) (a : Act) (reply : Reply) : Type 0 where
   pub held : KnowsItsStand next
-  pub line : line_of next.progress ≤ index
-  pub runs : RunsLine old next.progress index a reply
+  pub line : line_of (shown next) ≤ index
+  pub runs : RunsLine old (shown next) index a reply
 
-pub one_seen : {p q : Progress} {next : Fields} {index : ℕ} {a : Act} {reply : Reply} → p ≡ q → StepsOne p next index a reply → StepsOne q next index a reply
-one_seen {next = next} {index = index} {a = a} {reply = reply} e w = subst (λ (d : Progress). StepsOne d next index a reply) e w
+module _ (q : Progress) (f : Fields) (index : ℕ) (i : Keeps q f index) where
+  abbrev h : KnowsItsStand f
+  h = i.held
 
-module _ (f : Fields) (index : ℕ) (h : KnowsItsStand f) (l : line_of f.progress ≤ index) where
-  stands : DriverStands f.progress.view index h.stand h.seen
-  stands = driver_later f.progress.view (line_of f.progress) index h.stand h.seen l h.stands
+  stands : DriverStands f.view index h.stand h.seen
+  stands = stands_on q f index i h.stand refl
 
-  pub may_refuse : (w : PhaseWord) → next_phase f.progress.phase w ≡ None → MayRefuseWord f.progress.view index w f.progress.phase
-  may_refuse w r = record { stand = h.stand; seen = h.seen; stands = stands; in_phase = phase_at f.progress.phase f h.stand h.seen h.at; refused = r }
+  -- a line of one entry, after which the driver stands there
+  one : (new : View) (a : Act) (e : Entry) (stand : Stand) → DriverStands new index stand h.seen → IsAt f.stage f.candidates stand → RunsLine (shown f) (shown (knowing f new)) index a e.made.reply → StepsOne q (knowing f new) index a e.made.reply
+  one new a e stand s at runs = subst (λ (d : Progress). StepsOne d (knowing f new) index a e.made.reply) i.seen
+      (record { held = held_there (knowing f new) index stand h.seen s h.cycle at; line = line_below new index stand h.seen s; runs = runs })
 
-  pub refused_now : (w : PhaseWord) (new : View) (n : ℕ) (reply : Reply) → next_phase f.progress.phase w ≡ None → MakesRefusal f.progress.view new index n w f.progress.phase reply → StepsOne f.progress (knowing f new) index (act.PhaseLine w) reply
-  refused_now w new n reply r makes =
-      let v = makes h.stand h.seen stands (phase_at f.progress.phase f h.stand h.seen h.at) in
-      let e : Entry = driver_entry n index (op.Refused w) reply None in
-      let one : MakesOne f.progress (knowing f new).progress index (e ∷ []) = record {
+  refused_here : (w : PhaseWord) → next_phase q.phase w ≡ None → next_phase (phase_of f.stage) w ≡ None
+  refused_here w r = ap (λ (d : Progress). next_phase d.phase w) i.seen ∙ r
+
+  phase_here : (p : Phase) → p ≡ q.phase → p ≡ phase_of f.stage
+  phase_here p is = is ∙ sym (ap (λ (d : Progress). d.phase) i.seen)
+
+  pub may_refuse : (w : PhaseWord) (p : Phase) → p ≡ q.phase → next_phase q.phase w ≡ None → MayRefuseWord f.view index w p
+  may_refuse w p is r = subst (MayRefuseWord f.view index w) (sym (phase_here p is)) (record { stand = h.stand; seen = h.seen; stands = stands; in_phase = phase_stands f h; refused = refused_here w r })
+
+  pub refused_now : (w : PhaseWord) (p : Phase) (new : View) (m : ℕ) (reply : Reply) → p ≡ q.phase → next_phase q.phase w ≡ None → MakesRefusal f.view new index m w p reply → StepsOne q (knowing f new) index (act.PhaseLine w) reply
+  refused_now w p new m reply is r makes =
+      let v = subst (λ (z : Phase). MakesRefusal f.view new index m w z reply) (phase_here p is) makes h.stand h.seen stands (phase_stands f h) in
+      let e : Entry = driver_entry m index (op.Refused w) reply None in
+      let made : MakesOne (shown f) (shown (knowing f new)) index (e ∷ []) = record {
         enters = record {
-          made = makes_one f.progress.view new h.stand h.seen e (phase_of f.progress.phase) v.makes;
+          made = makes_one f.view new h.stand h.seen e (told_phase (phase_of f.stage)) v.makes;
           places = (refl, refl, tt);
           cycle = refl;
-          candidates = sym (ap (told_by f.progress.candidates) v.answers ∙ refusal_tells w f.progress.phase h.seen f.progress.candidates);
+          candidates = sym (ap (told_by f.candidates) v.answers ∙ refusal_tells w (phase_of f.stage) h.seen f.candidates);
         };
         phase = refl;
         same_candidates = refl;
       } in
-      let refusal : AreRefusal f.progress.phase w (e ∷ []) = record { entry = e; all = refl; refuses = refl; names = subst (λ (z : Reply). NamesPhase w f.progress.phase z) (sym v.answers) (names w f.progress.phase f h.stand h.seen h.at r) } in
-      record {
-        held = record { stand = v.next; seen = h.seen; stands = at_own_line new index v.next h.seen v.stands; at = still_at f.progress.phase f new h.stand v.next h.seen h.at v.still };
-        line = line_below new index v.next h.seen v.stands;
-        runs = record { entries = e ∷ []; runs = subst (λ (q : Option Phase). RunsWord f.progress (knowing f new).progress index w q (e ∷ [])) (sym r) (one, refusal); last = refl };
-      }
+      let refusal : AreRefusal (phase_of f.stage) w (e ∷ []) = record { entry = e; all = refl; refuses = refl; names = subst (λ (z : Reply). NamesPhase w (phase_of f.stage) z) (sym v.answers) (names w f h (refused_here w r)) } in
+      one new (act.PhaseLine w) e v.next v.stands (still_at f.stage f.candidates h.stand v.next h.at v.still)
+      (record { entries = e ∷ []; runs = subst (λ (z : Option Phase). RunsWord (shown f) (shown (knowing f new)) index w z (e ∷ [])) (sym (refused_here w r)) (made, refusal); last = refl })
 
-  pub may_finalise : MayFinalise f.progress.view index
-  may_finalise = record { stand = h.stand; seen = h.seen; stands = stands; rests = rest_at f.progress.phase f h.stand h.seen h.at }
+  rests : IsAtRest h.stand (length (candidates_of h.seen))
+  rests = phase_is_at_rest h.stand (length (candidates_of h.seen)) (phase_of f.stage) (phase_stands f h)
 
-  pub took_now : (count n : ℕ) (new : View) (reply : Reply) → MakesFinalise f.progress.view new index n count reply → StepsOne f.progress (knowing f new) index (act.Finalise count) reply
-  took_now count n new reply makes =
-      let v = makes h.stand h.seen stands (rest_at f.progress.phase f h.stand h.seen h.at) in
-      let e : Entry = driver_entry n index (op.Line (act.Finalise count)) reply None in
-      let one : MakesOne f.progress (knowing f new).progress index (e ∷ []) = record {
-        enters = record { made = makes_one f.progress.view new h.stand h.seen e nothing v.0; places = (refl, refl, tt); cycle = refl; candidates = sym (ap (told_by f.progress.candidates) v.0.comes.comes.lawful.replies) };
+  pub may_finalise : MayFinalise f.view index
+  may_finalise = record { stand = h.stand; seen = h.seen; stands = stands; rests = rests }
+
+  pub took_now : (count m : ℕ) (new : View) (reply : Reply) → MakesFinalise f.view new index m count reply → StepsOne q (knowing f new) index (act.Finalise count) reply
+  took_now count m new reply makes =
+      let v = makes h.stand h.seen stands rests in
+      let e : Entry = driver_entry m index (op.Line (act.Finalise count)) reply None in
+      let made : MakesOne (shown f) (shown (knowing f new)) index (e ∷ []) = record {
+        enters = record { made = makes_one f.view new h.stand h.seen e nothing v.0; places = (refl, refl, tt); cycle = refl; candidates = sym (ap (told_by f.candidates) v.0.comes.comes.lawful.replies) };
         phase = refl;
         same_candidates = refl;
       } in
-      record {
-        held = record { stand = h.stand; seen = h.seen; stands = at_own_line new index h.stand h.seen v.1; at = on_at f.progress.phase f new h.stand h.seen h.at };
-        line = line_below new index h.stand h.seen v.1;
-        runs = record { entries = e ∷ []; runs = (one, record { entry = e; all = refl; takes = refl }); last = refl };
-      }
+      one new (act.Finalise count) e h.stand v.1 h.at (record { entries = e ∷ []; runs = (made, record { entry = e; all = refl; takes = refl }); last = refl })
 
   -- no entry was made
-  pub stayed_now : (new : View) → DriverMakesNone f.progress.view new → Stays f.progress (knowing f new) index
-  stayed_now new none = record {
+  pub stayed_now : (new : View) → DriverMakesNone f.view new → Stays q (knowing f new) index
+  stayed_now new none = subst (λ (d : Progress). Stays d (knowing f new) index) i.seen (record {
     held = held_on f new none.stands h;
-    line = (let e = ap last_index none.own in omega (arith, e, l));
-    runs = ran_none f.progress (knowing f new).progress index none refl refl refl;
-  }
+    line = (let e = ap last_index none.own in let l = i.line in omega (arith, e, l));
+    runs = ran_none (shown f) (shown (knowing f new)) index none refl refl refl;
+  })
+
+  pub still_keeps : (new : View) → DriverMakesNone f.view new → Keeps (shown (knowing f new)) (knowing f new) index
+  still_keeps new none = let s = stayed_now new none in record { held = s.held; line = s.line; seen = refl }
 
 -- the caller of an idle driver, and an idle driver's caller
-pub held_first : (p : Pass) (cycle : Cycle) → IsDriver p.thread → HasIdleDriver p → KnowsItsStand record { progress = record { view = p.view; phase = at.Idle; cycle = cycle; candidates = 0 }; snapshot = None; listing = None; alive = None; clear = 0 }
+pub held_first : (p : Pass) (cycle : Cycle) → IsDriver p.thread → HasIdleDriver p → KnowsItsStand (kept p.view stage.Idle cycle 0)
 held_first p cycle is idle_one =
     let a = idle_one is in
     let seen = (end_of a.0.known.past).managed.managed in
-    record {
-      stand = idle;
-      seen = seen;
-      stands = at_own_line p.view (control_line (end_of a.0.known.past).control C) idle seen (record { known = a.0; stands = record { last = omega arith; come = a.1; dead = dead_part_self seen } });
-      at = refl;
-    }
+    held_there (kept p.view stage.Idle cycle 0) (control_line (end_of a.0.known.past).control C) idle seen (record { known = a.0; stands = record { last = omega arith; come = a.1; dead = dead_part_self seen } }) tt refl
 
-pub idle_again : (p : Pass) (f : Fields) → p.view ≡ f.progress.view → f.progress.phase ≡ at.Idle → KnowsItsStand f → HasIdleDriver p
+idle_at : (s : Stage) (n : ℕ) (stand : Stand) → phase_of s ≡ at.Idle → IsAt s n stand → stand ≡ idle
+idle_at stage.Idle n stand e a = a
+idle_at (stage.Snapped o) n stand e a = cc
+idle_at (stage.Contracted o l r) n stand e a = cc
+idle_at (stage.Mirrored o r) n stand e a = cc
+idle_at (stage.Weakened o r) n stand e a = cc
+idle_at (stage.Marked o r) n stand e a = cc
+idle_at (stage.Swept o r) n stand e a = cc
+idle_at (stage.Restored o r clear) n stand e a = cc
+
+pub idle_again : (p : Pass) (f : Fields) → p.view ≡ f.view → phase_of f.stage ≡ at.Idle → KnowsItsStand f → HasIdleDriver p
 idle_again p f same e h is =
-    let i : h.stand ≡ idle = subst (λ (q : Phase). IsAt q f h.stand h.seen) e h.at in
-    subst (λ (v : View). (a : IsDrawnView v) × ((end_of a.known.past).control.stand ≡ idle)) (sym same) (h.stands.known, h.stands.stands.come ∙ i)
+    subst (λ (v : View). (a : IsDrawnView v) × ((end_of a.known.past).control.stand ≡ idle)) (sym same) (h.stands.known, h.stands.stands.come ∙ idle_at f.stage f.candidates h.stand e h.at)
 
 -- what a caller heard of the driver's own
 pub heard_of : (p a b : Pass) (d : Progress) → p.view ≡ d.view → Hears p a b → Hears (pass_of d) a b

@@ -1,6 +1,5 @@
 -- Restoring: what it asks for is what the driver keeps, and what it leaves the driver keeps again.
-use Rattle.std.proofs.Common.{◌≡◌, ℕ, ◌≤◌, List, [], ◌∷◌, ◌++◌, length, Option, Some, None, refl, sym, ap, ◌∙◌, subst}
-use Rattle.std.proofs.lemmas.Option.{same_Some}
+use Rattle.std.proofs.Common.{◌≡◌, ℕ, List, [], ◌∷◌, ◌++◌, length, Option, None, refl, sym, ap, ◌∙◌, subst}
 use Rattle.joint_model.specs.declared.names.Cycle.{Cycle}
 use Rattle.joint_model.specs.declared.names.HNum.{HNum}
 use Rattle.joint_model.specs.declared.names.Phase.TheVariants as at
@@ -10,98 +9,72 @@ use Rattle.joint_model.specs.declared.events.Op.TheVariants as op
 use Rattle.joint_model.specs.declared.events.Reply.TheVariants as says
 use Rattle.joint_model.specs.Control.{restoring, restored}
 use Rattle.joint_model.specs.Managed.{candidates_of}
-use Rattle.joint_model.specs.Listed.{Answers as Stock, answers_of}
-use Rattle.joint_model.specs.Phases.{AreTimes, next_phase}
+use Rattle.joint_model.specs.Listed.{Answers, answers_of}
+use Rattle.joint_model.specs.Phases.{AreTimes}
 use Rattle.joint_model.specs.Told.{nothing}
 use Rattle.bridge_graph.specs.Handles.{handles_of}
 use Rattle.managed_side.specs.declared.opening.Opened.{Opened as Snapshot}
 use Rattle.order_table.specs.declared.views.View.{View}
 use Rattle.joint_history.specs.Driven.{DriverStands, driver_entry}
 use Rattle.joint_history.specs.DriverHandles.{MakesClear, MayClearCycle}
-use Rattle.bridge_cycle.specs.Handles.{AreCandidates}
-use Rattle.bridge_cycle.specs.Held.{Fields, KnowsItsStand, IsCycleSwept, opened_of}
-use Rattle.bridge_cycle.specs.Progress.{line_of}
+use Rattle.bridge_cycle.specs.declared.stages.Stage.TheVariants as stage
+use Rattle.bridge_cycle.specs.Held.{IsOfCycle, opened_of}
+use Rattle.bridge_cycle.specs.Progress.{Progress}
 use Rattle.bridge_cycle.specs.Turns.{MayRestoreAll, Restores, RestoresAll}
-use Rattle.bridge_cycle.proofs.Making.{Steps, append_nil, at_own_line, cycle_on, candidates_more, cycle_more, line_below, makes_more, makes_one, places_more, stands_in, stands_on}
-use Rattle.bridge_cycle.proofs.Openings.{the_snapshot}
+use Rattle.bridge_cycle.proofs.Making.{Keeps, Steps, append_nil, candidates_more, cycle_more, kept, makes_more, makes_one, places_more, stands_on, steps}
 use Rattle.bridge_cycle.proofs.Turned.{answers_count, last_snoc}
 
-module _ (f : Fields) (index : ℕ) (h : KnowsItsStand f) (e : f.progress.phase ≡ at.Swept) (l : line_of f.progress ≤ index) (out : Snapshot) (there : f.snapshot ≡ Some out) where
-  s : IsCycleSwept f h.stand h.seen
-  s = stands_in f at.Swept h e
+module _ {q : Progress} {v : View} {k : Cycle} {n index : ℕ} {o : Snapshot} {room : Answers} (i : Keeps q (kept v (stage.Swept o room) k n) index) where
+  cycle : IsOfCycle k n i.held.seen o
+  cycle = i.held.cycle
 
-  same : s.cycle.snapshot ≡ out
-  same = the_snapshot f h.seen s.cycle out there
+  stands : DriverStands v index (restoring (opened_of o) []) i.held.seen
+  stands = stands_on q (kept v (stage.Swept o room) k n) index i (restoring (opened_of o) []) i.held.at.1
 
-  stands : DriverStands f.progress.view index (restoring (opened_of out) []) h.seen
-  stands = stands_on f index (restoring (opened_of out) []) h l (s.stands ∙ ap (λ (o : Snapshot). restoring (opened_of o) []) same)
+  count : length (handles_of o.graph.nodes) ≡ n
+  count = cycle.candidates.count ∙ cycle.count
 
-  are : AreCandidates h.seen out.graph.nodes
-  are = subst (λ (o : Snapshot). AreCandidates h.seen o.graph.nodes) same s.cycle.candidates
+  pub may_restore_all : MayRestoreAll v index o.graph.nodes
+  may_restore_all = record { opened = opened_of o; seen = i.held.seen; stands = stands; candidates = cycle.candidates }
 
-  count : length (handles_of out.graph.nodes) ≡ f.progress.candidates
-  count = are.count ∙ s.cycle.count
+  pub no_answer : room.values ≡ []
+  no_answer = i.held.at.0.none
 
-  pub may_restore_all : MayRestoreAll f.progress.view index out.graph.nodes
-  may_restore_all = record { opened = opened_of out; seen = h.seen; stands = stands; candidates = are }
+  pub room_for_all : room.room ≡ length (handles_of o.graph.nodes)
+  room_for_all = i.held.at.0.room ∙ sym count
 
-  module _ (stock : Stock) (at_hand : f.alive ≡ Some stock) where
-    held_stock : s.room.answers ≡ stock
-    held_stock = same_Some _ _ (sym s.room.there ∙ at_hand)
+  module _ (mid : View) (values : List (Option HNum)) (done : RestoresAll v mid index o.graph.nodes (handles_of o.graph.nodes) values) where
+    w : Restores v mid index (length (handles_of o.graph.nodes)) values (opened_of o) i.held.seen
+    w = done (opened_of o) i.held.seen stands cycle.candidates
 
-    pub no_answer : stock.values ≡ []
-    no_answer = ap (λ (a : Stock). a.values) (sym held_stock) ∙ s.room.none
+    all : length (answers_of values) ≡ length (candidates_of i.held.seen)
+    all = answers_count values ∙ (w.count ∙ cycle.candidates.count)
 
-    pub room_for_all : stock.room ≡ length (handles_of out.graph.nodes)
-    room_for_all = ap (λ (a : Stock). a.room) (sym held_stock) ∙ (s.room.room ∙ sym count)
+    pub may_clear : MayClearCycle mid index k.0
+    may_clear = record { opened = opened_of o; answers = answers_of values; seen = i.held.seen; stands = w.stands; all = all; same = ap (λ (z : Cycle). z.0) cycle.same }
 
-  module _ (mid : View) (values : List (Option HNum)) (done : RestoresAll f.progress.view mid index out.graph.nodes (handles_of out.graph.nodes) values) where
-    w : Restores f.progress.view mid index (length (handles_of out.graph.nodes)) values (opened_of out) h.seen
-    w = done (opened_of out) h.seen stands are
-
-    all : length (answers_of values) ≡ length (candidates_of h.seen)
-    all = answers_count values ∙ (w.count ∙ are.count)
-
-    is_cycle : (opened_of out).cycle ≡ f.progress.cycle.0
-    is_cycle = ap (λ (o : Snapshot). o.cycle.0) (sym same) ∙ ap (λ (k : Cycle). k.0) s.cycle.same
-
-    pub may_clear : MayClearCycle mid index f.progress.cycle.0
-    may_clear = record { opened = opened_of out; answers = answers_of values; seen = h.seen; stands = w.stands; all = all; same = is_cycle }
-
-    pub restored_now : (new : View) (stock : Stock) (n : ℕ) → stock.values ≡ values → MakesClear mid new index f.progress.cycle n
-        → Steps f.progress (record f { progress = record f.progress { view = new; phase = at.Restored }; alive = Some stock; clear = n }) index (word.Restore ∷ []) says.Ok
-    restored_now new stock n is makes =
-        let v = makes (opened_of out) (answers_of values) h.seen w.stands all is_cycle in
-        let clear : Entry = driver_entry n index (op.Clear f.progress.cycle) says.Ok None in
-        let stood : DriverStands new index (restored (opened_of s.cycle.snapshot) (answers_of stock.values) n) h.seen =
-        subst (λ (bs : List (Option HNum)). DriverStands new index (restored (opened_of s.cycle.snapshot) (answers_of bs) n) h.seen) (sym is)
-        (subst (λ (o : Snapshot). DriverStands new index (restored (opened_of o) (answers_of values) n) h.seen) (sym same) v.1) in
-        record {
-          held = record {
-            stand = restored (opened_of s.cycle.snapshot) (answers_of stock.values) n;
-            seen = h.seen;
-            stands = at_own_line new index (restored (opened_of s.cycle.snapshot) (answers_of stock.values) n) h.seen stood;
-            at = record { cycle = cycle_on f (record f { progress = record f.progress { view = new; phase = at.Restored }; alive = Some stock; clear = n }) h.seen refl refl refl s.cycle; answers = stock; there = refl; stands = refl };
-          };
-          line = line_below new index (restored (opened_of s.cycle.snapshot) (answers_of stock.values) n) h.seen stood;
-          answers = record {
-            entries = w.entries ++ clear ∷ [];
-            runs = record {
-              enters = record {
-                made = makes_more f.progress.view mid new w.entries (clear ∷ []) w.makes.made (makes_one mid new (restoring (opened_of out) (answers_of values)) h.seen clear nothing v.0);
-                places = places_more index w.entries (clear ∷ []) w.makes.places (refl, refl, tt);
-                cycle = sym (cycle_more f.progress.cycle w.entries (clear ∷ []) ∙ w.makes.cycle f.progress.cycle);
-                candidates = sym (candidates_more f.progress.candidates w.entries (clear ∷ []) ∙ w.makes.candidates f.progress.candidates);
-              };
-              events = (
-                w.entries ++ clear ∷ [],
-                [],
-                sym (append_nil (w.entries ++ clear ∷ [])),
-                record { restores = w.entries; clear = clear; all = refl; times = subst (λ (n : ℕ). AreTimes word.Restore n w.entries) count w.makes.times; clears = tt },
-                refl,
-              );
-              leads = (at.Restored, ap (λ p. next_phase p word.Restore) e, refl);
+    pub restored_now : (new : View) (answers : Answers) (m : ℕ) → answers.values ≡ values → MakesClear mid new index k m → Steps q (kept new (stage.Restored o answers m) k n) index says.Ok
+    restored_now new answers m is makes =
+        let c = makes (opened_of o) (answers_of values) i.held.seen w.stands all (ap (λ (z : Cycle). z.0) cycle.same) in
+        let clear : Entry = driver_entry m index (op.Clear k) says.Ok None in
+        steps q (kept v (stage.Swept o room) k n) (kept new (stage.Restored o answers m) k n) index says.Ok (restored (opened_of o) (answers_of answers.values) m) i.held.seen i
+        (subst (λ (bs : List (Option HNum)). DriverStands new index (restored (opened_of o) (answers_of bs) m) i.held.seen) (sym is) c.1) i.held.cycle refl (record {
+          entries = w.entries ++ clear ∷ [];
+          runs = record {
+            enters = record {
+              made = makes_more v mid new w.entries (clear ∷ []) w.makes.made (makes_one mid new (restoring (opened_of o) (answers_of values)) i.held.seen clear nothing c.0);
+              places = places_more index w.entries (clear ∷ []) w.makes.places (refl, refl, tt);
+              cycle = sym (cycle_more k w.entries (clear ∷ []) ∙ w.makes.cycle k);
+              candidates = sym (candidates_more n w.entries (clear ∷ []) ∙ w.makes.candidates n);
             };
-            last = sym (last_snoc w.entries clear);
+            events = (
+              w.entries ++ clear ∷ [],
+              [],
+              sym (append_nil (w.entries ++ clear ∷ [])),
+              record { restores = w.entries; clear = clear; all = refl; times = subst (λ (j : ℕ). AreTimes word.Restore j w.entries) count w.makes.times; clears = tt },
+              refl,
+            );
+            leads = (at.Restored, refl, refl);
           };
-        }
+          last = sym (last_snoc w.entries clear);
+        })

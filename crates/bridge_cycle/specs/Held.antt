@@ -1,7 +1,7 @@
--- What the driver keeps of its open cycle by its phase: where it stands by what it knows, and that the values are those of the cycle. What it has
--- seen of the managed objects at the snapshot is the same until the cycle ends, since the dead part is frozen; and so are the graph, the candidates
--- and the components.
-use Rattle.std.specs.Prelude.{◌≡◌, ℕ, Bool, false, List, [], length, Option, Some}
+-- The driver's stage, and what the driver knows in it: where it stands, and that what the stage has is that of the open cycle. What it has seen of the
+-- managed objects at the snapshot is the same until the cycle ends, since the dead part is frozen; and so are the graph, the candidates and the components.
+use Rattle.std.specs.Prelude.{◌≡◌, ℕ, Bool, false, List, [], length, Option, Some, None, IfSome}
+use Rattle.joint_model.specs.declared.names.Cycle.{Cycle}
 use Rattle.joint_model.specs.declared.names.Phase.{Phase}
 use Rattle.joint_model.specs.declared.names.Phase.TheVariants as at
 use Rattle.joint_model.specs.Control.{OpenSnap, Stand, idle, snapped, contracted, weakening, marked, restoring, restored}
@@ -9,107 +9,84 @@ use Rattle.joint_model.specs.Listed.{Answers, answers_of}
 use Rattle.joint_model.specs.Managed.{Managed, OpenCycle, candidates_of}
 use Rattle.joint_laws.specs.ManagedInvariants.{IsManagedKept}
 use Rattle.bridge_graph.specs.Parts.{IsPart}
-use Rattle.xref_list.specs.Listing.{Listing}
 use Rattle.managed_side.specs.declared.opening.Opened.{Opened as Snapshot}
 use Rattle.managed_side.specs.Graphs.{IsDeadGraph}
+use Rattle.order_table.specs.declared.views.View.{View}
 use Rattle.joint_history.specs.Driven.{DriverStands}
 use Rattle.joint_history.specs.DriverMirrors.{numbered_comps}
+use Rattle.bridge_cycle.specs.declared.stages.Stage.{Stage}
+use Rattle.bridge_cycle.specs.declared.stages.Stage.TheVariants as stage
 use Rattle.bridge_cycle.specs.Handles.{AreCandidates}
 use Rattle.bridge_cycle.specs.Progress.{Progress, line_of}
 
--- what the driver keeps: how far it has come, the open cycle's snapshot, its contraction, the answers of its restores, and the number of its clear
+-- the phase of a stage
+abbrev pub phase_of : Stage → Phase
+phase_of stage.Idle = at.Idle
+phase_of (stage.Snapped o) = at.Snapped
+phase_of (stage.Contracted o l a) = at.Contracted
+phase_of (stage.Mirrored o a) = at.Mirrored
+phase_of (stage.Weakened o a) = at.Weakened
+phase_of (stage.Marked o a) = at.Marked
+phase_of (stage.Swept o a) = at.Swept
+phase_of (stage.Restored o a clear) = at.Restored
+
+-- the snapshot of a stage's cycle
+abbrev pub snapshot_in : Stage → Option Snapshot
+snapshot_in stage.Idle = None
+snapshot_in (stage.Snapped o) = Some o
+snapshot_in (stage.Contracted o l a) = Some o
+snapshot_in (stage.Mirrored o a) = Some o
+snapshot_in (stage.Weakened o a) = Some o
+snapshot_in (stage.Marked o a) = Some o
+snapshot_in (stage.Swept o a) = Some o
+snapshot_in (stage.Restored o a clear) = Some o
+
+-- what the driver keeps: what it knows, its stage, the cycle that it opened last, and how many candidates that one has
 pub record Fields : Type 0 where
-  pub progress : Progress
-  pub snapshot : Option Snapshot
-  pub listing : Option Listing
-  pub alive : Option Answers
-  pub clear : ℕ
+  pub view : View
+  pub stage : Stage
+  pub cycle : Cycle
+  pub candidates : ℕ
+
+-- what contracts see of it
+abbrev pub shown : Fields → Progress
+shown f = record { view = f.view; phase = phase_of f.stage; cycle = f.cycle; candidates = f.candidates }
 
 -- the open cycle, as the history names it
 abbrev pub opened_of : Snapshot → OpenSnap
 opened_of o = record { cycle = o.cycle.0; snap = o.number }
 
--- a cycle is open: the snapshot is that of the cycle, and its graph is the dead part's
-pub record HasCycle (f : Fields) (seen : Managed) : Type 0 where
-  pub snapshot : Snapshot
-  pub there : f.snapshot ≡ Some snapshot
-  pub same : snapshot.cycle ≡ f.progress.cycle
+-- the snapshot is that of the open cycle, which has so many candidates, and its graph is the dead part's
+pub record IsOfCycle (k : Cycle) (n : ℕ) (seen : Managed) (o : Snapshot) : Type 0 where
+  pub same : o.cycle ≡ k
   pub cycle : OpenCycle
   pub opened : seen.cycle ≡ Some cycle
   pub kept : IsManagedKept seen
-  pub graph : IsDeadGraph seen cycle.dead snapshot.graph
-  pub part : IsPart snapshot.graph.nodes snapshot.graph.edges
-  pub count : length (candidates_of seen) ≡ f.progress.candidates
-  pub candidates : AreCandidates seen snapshot.graph.nodes
+  pub graph : IsDeadGraph seen cycle.dead o.graph
+  pub part : IsPart o.graph.nodes o.graph.edges
+  pub count : length (candidates_of seen) ≡ n
+  pub candidates : AreCandidates seen o.graph.nodes
 
--- there is room for an answer of each candidate
-pub record HasRoomForAnswers (f : Fields) : Type 0 where
-  pub answers : Answers
-  pub there : f.alive ≡ Some answers
-  pub none : answers.values ≡ []
-  pub room : answers.room ≡ f.progress.candidates
+-- there is room for so many answers
+pub record HasRoom (n : ℕ) (a : Answers) : Type 0 where
+  pub none : a.values ≡ []
+  pub room : a.room ≡ n
 
--- the snapshot is taken
-pub record IsCycleSnapped (f : Fields) (stand : Stand) (seen : Managed) : Type 0 where
-  pub cycle : HasCycle f seen
-  pub stands : stand ≡ snapped (opened_of cycle.snapshot)
-
--- the contraction is made, and is the one at hand
-pub record IsCycleContracted (f : Fields) (stand : Stand) (seen : Managed) : Type 0 where
-  pub cycle : HasCycle f seen
-  pub room : HasRoomForAnswers f
-  pub listing : Listing
-  pub listed : f.listing ≡ Some listing
-  pub heavy : List ℕ
-  pub heavy_count : length heavy ≡ listing.heavy
-  pub stands : stand ≡ contracted (opened_of cycle.snapshot) (numbered_comps cycle.snapshot.graph listing.comps) heavy listing.pairs
-
--- the cycle is mirrored
-pub record IsCycleMirrored (f : Fields) (stand : Stand) (seen : Managed) : Type 0 where
-  pub cycle : HasCycle f seen
-  pub room : HasRoomForAnswers f
-  pub stands : stand ≡ weakening (opened_of cycle.snapshot) 0 false false
-
--- all handles are weakened
-pub record IsCycleWeakened (f : Fields) (stand : Stand) (seen : Managed) : Type 0 where
-  pub cycle : HasCycle f seen
-  pub room : HasRoomForAnswers f
-  pub weakened : Bool
-  pub stands : stand ≡ weakening (opened_of cycle.snapshot) f.progress.candidates weakened false
-
--- the own marking is begun
-pub record IsCycleMarked (f : Fields) (stand : Stand) (seen : Managed) : Type 0 where
-  pub cycle : HasCycle f seen
-  pub room : HasRoomForAnswers f
-  pub stands : stand ≡ marked (opened_of cycle.snapshot)
-
--- it is swept
-pub record IsCycleSwept (f : Fields) (stand : Stand) (seen : Managed) : Type 0 where
-  pub cycle : HasCycle f seen
-  pub room : HasRoomForAnswers f
-  pub stands : stand ≡ restoring (opened_of cycle.snapshot) []
-
--- all handles are restored, and the references cleared
-pub record IsCycleRestored (f : Fields) (stand : Stand) (seen : Managed) : Type 0 where
-  pub cycle : HasCycle f seen
-  pub answers : Answers
-  pub there : f.alive ≡ Some answers
-  pub stands : stand ≡ restored (opened_of cycle.snapshot) (answers_of answers.values) f.clear
-
--- where the driver stands in a phase
-abbrev pub IsAt : Phase → Fields → Stand → Managed → Type 0
-IsAt at.Idle f stand seen = stand ≡ idle
-IsAt at.Snapped f stand seen = IsCycleSnapped f stand seen
-IsAt at.Contracted f stand seen = IsCycleContracted f stand seen
-IsAt at.Mirrored f stand seen = IsCycleMirrored f stand seen
-IsAt at.Weakened f stand seen = IsCycleWeakened f stand seen
-IsAt at.Marked f stand seen = IsCycleMarked f stand seen
-IsAt at.Swept f stand seen = IsCycleSwept f stand seen
-IsAt at.Restored f stand seen = IsCycleRestored f stand seen
+-- where the driver stands in a stage, if so many candidates have their answers to come
+abbrev pub IsAt : Stage → ℕ → Stand → Type 0
+IsAt stage.Idle n stand = stand ≡ idle
+IsAt (stage.Snapped o) n stand = stand ≡ snapped (opened_of o)
+IsAt (stage.Contracted o l a) n stand = HasRoom n a × ((heavy : List ℕ) × (length heavy ≡ l.heavy) × (stand ≡ contracted (opened_of o) (numbered_comps o.graph l.comps) heavy l.pairs))
+IsAt (stage.Mirrored o a) n stand = HasRoom n a × (stand ≡ weakening (opened_of o) 0 false false)
+IsAt (stage.Weakened o a) n stand = HasRoom n a × ((weakened : Bool) × (stand ≡ weakening (opened_of o) n weakened false))
+IsAt (stage.Marked o a) n stand = HasRoom n a × (stand ≡ marked (opened_of o))
+IsAt (stage.Swept o a) n stand = HasRoom n a × (stand ≡ restoring (opened_of o) [])
+IsAt (stage.Restored o a clear) n stand = stand ≡ restored (opened_of o) (answers_of a.values) clear
 
 -- so it is by what the driver knows
 pub record KnowsItsStand (f : Fields) : Type 0 where
   pub stand : Stand
   pub seen : Managed
-  pub stands : DriverStands f.progress.view (line_of f.progress) stand seen
-  pub at : IsAt f.progress.phase f stand seen
+  pub stands : DriverStands f.view (line_of (shown f)) stand seen
+  pub cycle : IfSome (snapshot_in f.stage) (λ o. IsOfCycle f.cycle f.candidates seen o)
+  pub at : IsAt f.stage f.candidates stand

@@ -1,30 +1,11 @@
--- The phase words as the driver runs them: in which phase each is due, and what a run of several phases has done so far.
-use Rattle.std.specs.Prelude.{◌≡◌, ℕ, List, [], ◌∷◌, ◌++◌}
+-- The phase words as the driver runs them: which comes next, and what a run of several phases has done so far.
+use Rattle.std.specs.Prelude.{◌≡◌, ℕ, List, ◌++◌}
 use Rattle.joint_model.specs.declared.names.Phase.{Phase}
 use Rattle.joint_model.specs.declared.names.Phase.TheVariants as at
 use Rattle.joint_model.specs.declared.names.PhaseWord.{PhaseWord}
 use Rattle.joint_model.specs.declared.names.PhaseWord.TheVariants as word
-use Rattle.joint_model.specs.declared.events.Entry.{Entry}
-use Rattle.joint_model.specs.declared.events.Reply.{Reply}
-use Rattle.joint_model.specs.Phases.{phases_left}
-use Rattle.bridge_cycle.specs.Progress.{GivesUp, Progress, RunsWords, RunsPhases, TakesMemory}
-
--- the word asks for one phase
-abbrev pub IsOnePhase : PhaseWord → Type 0
-IsOnePhase word.Cycle = ⊥
-IsOnePhase w = Unit {0}
-
--- the phase in which the word is due
-abbrev pub due_in : PhaseWord → Phase
-due_in word.Cycle = at.Idle
-due_in word.Snap = at.Idle
-due_in word.Contract = at.Snapped
-due_in word.Mirror = at.Contracted
-due_in word.Weaken = at.Mirrored
-due_in word.Mark = at.Weakened
-due_in word.Sweep = at.Marked
-due_in word.Restore = at.Swept
-due_in word.Resolve = at.Restored
+use Rattle.joint_model.specs.Phases.{phases_left, phases_of}
+use Rattle.bridge_cycle.specs.Progress.{GivesUp, Progress, RunsWords, TakesMemory}
 
 -- the next phase's word
 abbrev pub next_word : Phase → PhaseWord
@@ -37,22 +18,19 @@ next_word at.Marked = word.Sweep
 next_word at.Swept = word.Restore
 next_word at.Restored = word.Resolve
 
+-- the phases that are to come until the driver is idle again: where it is, those of the next cycle
+abbrev pub to_come : Phase → List PhaseWord
+to_come at.Idle = phases_of word.Cycle
+to_come p = phases_left p
+
 -- a phase found no memory, which is one that takes some, and the driver is idle
 pub record Lacks (old new : Progress) (index : ℕ) (w : PhaseWord) : Type 0 where
   pub takes : TakesMemory w
   pub gives_up : GivesUp w old new index
   pub idle : new.phase ≡ at.Idle
 
--- so far the driver has run the first of the phases that were left of its open cycle; the others are left now
+-- so far the driver has run the first of the phases that were to come; the others are to come now
 pub record IsPartway (old now : Progress) (index : ℕ) : Type 0 where
-  pub busy : now.phase ≡ at.Idle → ⊥
   pub run : List PhaseWord
-  pub all : phases_left old.phase ≡ run ++ phases_left now.phase
+  pub all : to_come old.phase ≡ run ++ to_come now.phase
   pub runs : RunsWords old now index run
-
--- the driver ran phases, and made an entry last, which replied this
-pub record Closes (old new : Progress) (index : ℕ) (ws : List PhaseWord) (reply : Reply) : Type 0 where
-  pub before : List Entry
-  pub last : Entry
-  pub replies : reply ≡ last.made.reply
-  pub runs : RunsPhases old new index ws (before ++ last ∷ [])

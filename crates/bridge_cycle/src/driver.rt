@@ -8,38 +8,33 @@ ghost use Rattle.joint_history.specs.Ending.{HasIdleDriver};
 ghost use Rattle.bridge_cycle.specs.OpenParts.{IsOpenPart};
 ghost use Rattle.bridge_cycle.specs.Progress.{Progress, pass_of};
 
+use crate::stages::Stage;
 use bridge_graph::DeadGraph;
 use joint_history::{Caller, Keeps, Shared};
-use joint_model::{Alive, Cycle, Phase};
-use managed_side::Opened;
+use joint_model::{Cycle, Phase};
 use order_table::OrderName;
 use std::marker::Model;
-use xref_list::Components;
 
-/// The driver of the bridge: the caller of thread `c`, its phase, and what it keeps of the open cycle. Contracts see what it knows, its phase, and
+/// The driver of the bridge: the caller of thread `c`, and its stage, with what it keeps of the open cycle. Contracts see what it knows, its phase, and
 /// the number of the cycle that it opened last and of that cycle's candidates.
 #[derive(Drop)]
 pub struct Driver<N: OrderName> {
     pub(crate) caller: Caller<N>,
-    pub(crate) phase: Phase,
+    pub(crate) stage: Stage,
     pub(crate) cycle: Cycle,
     pub(crate) candidates: u32,
-    pub(crate) opened: Option<Opened>,
-    pub(crate) comps: Option<Components>,
-    pub(crate) alive: Option<Alive>,
-    pub(crate) clear: u64,
 }
 
 impl<N: OrderName> Model for Driver<N> {
     ghost use Rattle.joint_model.specs.Lines.{IsDriver};
-    ghost use Rattle.bridge_cycle.specs.Held.{KnowsItsStand};
+    ghost use Rattle.bridge_cycle.specs.Held.{KnowsItsStand, shown};
     ghost use Rattle.bridge_cycle.specs.Progress.{Progress};
 
     ghost Value = { Progress };
 
-    ghost view = { λ d. record { view = d.caller.view; phase = d.phase; cycle = d.cycle; candidates = d.candidates } };
+    ghost view = { λ d. shown record { view = d.caller.view; stage = d.stage; cycle = d.cycle; candidates = d.candidates } };
 
-    ghost invariant = { λ d. IsDriver d.caller.thread × KnowsItsStand record { progress = record { view = d.caller.view; phase = d.phase; cycle = d.cycle; candidates = d.candidates }; snapshot = d.opened; listing = d.comps; alive = d.alive; clear = d.clear } };
+    ghost invariant = { λ d. IsDriver d.caller.thread × KnowsItsStand record { view = d.caller.view; stage = d.stage; cycle = d.cycle; candidates = d.candidates } };
 }
 
 /// Why a call of the driver made nothing of what it was asked for.
@@ -62,13 +57,9 @@ impl<N: OrderName> Driver<N> {
     {
         Driver {
             caller,
-            phase: Phase::Idle,
+            stage: Stage::Idle,
             cycle: Cycle(0),
             candidates: 0,
-            opened: None,
-            comps: None,
-            alive: None,
-            clear: 0,
         }
     }
 
@@ -76,7 +67,7 @@ impl<N: OrderName> Driver<N> {
     pub fn phase(&self) -> Phase
         ensures { result ≡ self.now.phase }
     {
-        self.phase
+        self.stage.phase()
     }
 
     /// The graph of the open cycle's dead part, as the snapshot took it: the dead part is frozen until the cycle ends. None exactly where no cycle is open.
@@ -84,13 +75,7 @@ impl<N: OrderName> Driver<N> {
         ensures idle { IsNone result ↔ (self.now.phase ≡ Idle) }
         ensures graph { IfSome result (λ g. IsOpenPart self.now.view self.now.cycle g.now) }
     {
-        if self.phase == Phase::Idle {
-            return None;
-        }
-        let Some(opened) = &self.opened else {
-            unreachable!()
-        };
-        Some(&opened.graph)
+        Some(&self.stage.opened()?.graph)
     }
 
     /// The number of the cycle that the driver opened last, or 0.

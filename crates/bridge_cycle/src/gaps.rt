@@ -8,7 +8,6 @@ ghost use Rattle.bridge_cycle.specs.Gaps.{IsInGap, StopsInGaps};
 ghost use Rattle.bridge_cycle.specs.Progress.{RunsWords, line_of};
 
 use crate::driver::{Driver, DriverFault};
-use crate::words::next_word;
 use joint_history::{Keeps, Shared};
 use joint_model::Phase;
 use order_table::OrderName;
@@ -47,18 +46,19 @@ pub fn run_gap<N: OrderName, K: Keeps<N>, G: Gap<N, K>>(
     ensures all { OnOk result (G.count between.new ≡ 7) }
     ensures err { driver.old.phase ≡ at.Idle → OnErr result (StopsInGaps driver.old driver.new index (phases_of word.Cycle) (G.count between.new)) }
 {
-    if driver.phase != Phase::Idle {
+    if driver.phase() != Phase::Idle {
         return Err(DriverFault::CycleOpen {
             cycle: driver.cycle,
         });
     }
-    'phases: while driver.phase != Phase::Restored {
-        let word = next_word(driver.phase);
-        let Ok(_) = driver.run(rt, alloc, shared, index, word) else {
+    'phases: while driver.phase() != Phase::Restored {
+        let Ok(_) = driver.advance(rt, alloc, shared, index) else {
             return Err(DriverFault::OutOfMemory);
         };
         between.gap(driver, shared);
     }
-    driver.end_cycle(rt, shared, index);
-    Ok(())
+    match driver.advance(rt, alloc, shared, index) {
+        Ok(_) => Ok(()),
+        Err(_) => Err(DriverFault::OutOfMemory),
+    }
 }

@@ -22,18 +22,19 @@
 // What is promised of each call: which entries it makes, in order, all by `c` on the given line and with numbers above all that the driver knew; in which
 // phase it is then; and that it is refused exactly where the phase isn't the one before. From `weaken` on no phase takes memory.
 //
-// Why it holds: the driver keeps where it stands by what its caller knows, and that its values are those of the open cycle. The dead part is frozen while
-// the cycle is open, so what was seen at the snapshot stays what the driver goes by.
+// Why it holds: the driver keeps where it stands by what its caller knows, and that what its stage has is that of the open cycle. The dead part is frozen
+// while the cycle is open, so what was seen at the snapshot stays what the driver goes by.
 //
 // `specs/` read alone tells what is true: Progress first, then Contracting, Composing, Handles, OpenParts and Held.
 #![tactic(auto)]
 
+mod advance;
 mod driver;
-mod ending;
 mod gaps;
 mod handles;
 mod laws;
-mod opening;
+mod phases;
+mod stages;
 mod words;
 
 pub use driver::{Driver, DriverFault};

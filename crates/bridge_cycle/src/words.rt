@@ -8,7 +8,7 @@ ghost use Rattle.joint_model.specs.declared.names.Thread.TheVariants.{C};
 ghost use Rattle.joint_model.specs.Lines.{IsLine};
 ghost use Rattle.joint_model.specs.Phases.{next_phase, phases_left, phases_of};
 ghost use Rattle.bridge_cycle.specs.Progress.{EndsWithReply, BreaksLine, StopsForMemory, RunsWords, RunsLine, line_of};
-ghost use Rattle.bridge_cycle.specs.Words.{Closes, IsOnePhase, IsPartway, Lacks, due_in, next_word};
+ghost use Rattle.bridge_cycle.specs.Words.{next_word, to_come};
 
 use crate::driver::{Driver, DriverFault};
 use joint_history::{Keeps, Shared};
@@ -17,9 +17,10 @@ use order_table::OrderName;
 use std::alloc::{AllocError, Global};
 use std::sync::Wait;
 
-// The phase after a word; None where the word is refused.
+// The phase after a word; None where the word is refused. But for `cycle` only the next phase's word isn't.
 fn next_phase(phase: Phase, word: PhaseWord) -> Option<Phase>
-    ensures { result ≡ next_phase phase word }
+    ensures next { result ≡ next_phase phase word }
+    ensures due { ¬ (result ≡ None) → ¬ (word ≡ PhaseWord.Cycle) → word ≡ next_word phase }
 {
     match (phase, word) {
         (Phase::Idle, PhaseWord::Cycle) => Some(Phase::Idle),
@@ -35,75 +36,8 @@ fn next_phase(phase: Phase, word: PhaseWord) -> Option<Phase>
     }
 }
 
-/// The word of the next phase.
-pub(crate) fn next_word(phase: Phase) -> PhaseWord
-    ensures { result ≡ next_word phase }
-{
-    match phase {
-        Phase::Idle => PhaseWord::Snap,
-        Phase::Snapped => PhaseWord::Contract,
-        Phase::Contracted => PhaseWord::Mirror,
-        Phase::Mirrored => PhaseWord::Weaken,
-        Phase::Weakened => PhaseWord::Mark,
-        Phase::Marked => PhaseWord::Sweep,
-        Phase::Swept => PhaseWord::Restore,
-        Phase::Restored => PhaseWord::Resolve,
-    }
-}
-
 impl<N: OrderName> Driver<N> {
-    /// Runs one phase, in the phase in which its word is due.
-    pub(crate) fn run<K: Keeps<N>>(
-        &mut self,
-        rt: &impl Wait,
-        alloc: Global,
-        shared: &Shared<N, K>,
-        index: u32,
-        word: PhaseWord,
-    ) -> Result<Reply, AllocError>
-        requires one { IsOnePhase word }
-        requires due { self.old.phase ≡ due_in word }
-        requires index { line_of self.old ≤ index }
-        ensures index { line_of self.new ≤ index }
-        ensures ok { IfOk result (λ reply. EndsWithReply self.old self.new index (word ∷ []) reply) }
-        ensures err { OnErr result (Lacks self.old self.new index word) }
-    {
-        match word {
-            PhaseWord::Snap => self.take_snapshot(rt, shared, index),
-            PhaseWord::Contract => self.make_contraction(rt, alloc, shared, index),
-            PhaseWord::Mirror => self.add_references(rt, shared, index),
-            PhaseWord::Weaken => Ok(self.weaken_handles(rt, shared, index)),
-            PhaseWord::Mark => Ok(self.begin_marking(rt, shared, index)),
-            PhaseWord::Sweep => Ok(self.end_marking(rt, shared, index)),
-            PhaseWord::Restore => Ok(self.restore_handles(rt, shared, index)),
-            PhaseWord::Resolve => Ok(self.end_cycle(rt, shared, index)),
-            PhaseWord::Cycle => unreachable!(),
-        }
-    }
-
-    // Runs the phases that are left of an open cycle, but for the resolve.
-    fn run_to_restored<K: Keeps<N>>(
-        &mut self,
-        rt: &impl Wait,
-        alloc: Global,
-        shared: &Shared<N, K>,
-        index: u32,
-    ) -> Result<(), AllocError>
-        requires busy { ¬ (self.old.phase ≡ at.Idle) }
-        requires index { line_of self.old ≤ index }
-        ensures index { line_of self.new ≤ index }
-        ensures phase { OnOk result (self.new.phase ≡ at.Restored) }
-        ensures ok { OnOk result (IsPartway self.old self.new index) }
-        ensures err { OnErr result (StopsForMemory self.old self.new index (phases_left self.old.phase)) }
-    {
-        'phases: while self.phase != Phase::Restored {
-            let word = next_word(self.phase);
-            self.run(rt, alloc, shared, index, word)?;
-        }
-        Ok(())
-    }
-
-    // Runs all phases that are left of an open cycle; answers the reply of its resolve.
+    // Runs the phases that are to come until the driver is idle again: those that are left of an open cycle, and all eight where none is open.
     fn finish_cycle<K: Keeps<N>>(
         &mut self,
         rt: &impl Wait,
@@ -111,32 +45,15 @@ impl<N: OrderName> Driver<N> {
         shared: &Shared<N, K>,
         index: u32,
     ) -> Result<Reply, AllocError>
-        requires busy { ¬ (self.old.phase ≡ at.Idle) }
         requires index { line_of self.old ≤ index }
         ensures index { line_of self.new ≤ index }
-        ensures ok { IfOk result (λ reply. Closes self.old self.new index (phases_left self.old.phase) reply) }
-        ensures err { OnErr result (StopsForMemory self.old self.new index (phases_left self.old.phase)) }
+        ensures ok { IfOk result (λ reply. EndsWithReply self.old self.new index (to_come self.old.phase) reply) }
+        ensures err { OnErr result (StopsForMemory self.old self.new index (to_come self.old.phase)) }
     {
-        self.run_to_restored(rt, alloc, shared, index)?;
-        Ok(self.end_cycle(rt, shared, index))
-    }
-
-    // Runs a whole cycle; the driver is idle.
-    fn run_cycle<K: Keeps<N>>(
-        &mut self,
-        rt: &impl Wait,
-        alloc: Global,
-        shared: &Shared<N, K>,
-        index: u32,
-    ) -> Result<Reply, AllocError>
-        requires phase { self.old.phase ≡ at.Idle }
-        requires index { line_of self.old ≤ index }
-        ensures index { line_of self.new ≤ index }
-        ensures ok { IfOk result (λ reply. EndsWithReply self.old self.new index (phases_of word.Cycle) reply) }
-        ensures err { OnErr result (StopsForMemory self.old self.new index (phases_of word.Cycle)) }
-    {
-        self.take_snapshot(rt, shared, index)?;
-        self.finish_cycle(rt, alloc, shared, index)
+        'phases: while self.phase() != Phase::Restored {
+            self.advance(rt, alloc, shared, index)?;
+        }
+        self.advance(rt, alloc, shared, index)
     }
 
     // Makes the refusal of a word that is refused in the driver's phase.
@@ -153,7 +70,8 @@ impl<N: OrderName> Driver<N> {
         ensures ok { IfOk result (λ reply. RunsLine self.old self.new index (act.PhaseLine word) reply) }
         ensures err { OnErr result (RunsWords self.old self.new index []) }
     {
-        let (_, reply) = shared.refused(rt, &mut self.caller, index, word, self.phase)?;
+        let phase = self.phase();
+        let (_, reply) = shared.refused(rt, &mut self.caller, index, word, phase)?;
         Ok(reply)
     }
 
@@ -189,13 +107,13 @@ impl<N: OrderName> Driver<N> {
         ensures ok { IfOk result (λ reply. RunsLine self.old self.new index (act.PhaseLine word) reply) }
         ensures err { OnErr result (BreaksLine self.old self.new index (act.PhaseLine word)) }
     {
-        if next_phase(self.phase, word).is_none() {
+        if next_phase(self.phase(), word).is_none() {
             return self.refuse(rt, shared, index, word);
         }
         if word == PhaseWord::Cycle {
-            return self.run_cycle(rt, alloc, shared, index);
+            return self.finish_cycle(rt, alloc, shared, index);
         }
-        self.run(rt, alloc, shared, index, word)
+        self.advance(rt, alloc, shared, index)
     }
 
     /// Runs all eight phases of a cycle. Answers `CycleOpen` exactly where the phase isn't `Idle`, and `OutOfMemory` where a phase found no memory, which is
@@ -215,10 +133,10 @@ impl<N: OrderName> Driver<N> {
         ensures ok { OnOk result (RunsWords self.old self.new index (phases_of word.Cycle)) }
         ensures err { self.old.phase ≡ at.Idle → OnErr result (StopsForMemory self.old self.new index (phases_of word.Cycle)) }
     {
-        if self.phase != Phase::Idle {
+        if self.phase() != Phase::Idle {
             return Err(DriverFault::CycleOpen { cycle: self.cycle });
         }
-        match self.run_cycle(rt, alloc, shared, index) {
+        match self.finish_cycle(rt, alloc, shared, index) {
             Ok(_) => Ok(()),
             Err(_) => Err(DriverFault::OutOfMemory),
         }
@@ -262,7 +180,7 @@ impl<N: OrderName> Driver<N> {
         ensures ok { OnOk result (RunsWords self.old self.new index (phases_left self.old.phase)) }
         ensures err { OnErr result (StopsForMemory self.old self.new index (phases_left self.old.phase)) }
     {
-        if self.phase == Phase::Idle {
+        if self.phase() == Phase::Idle {
             return Ok(());
         }
         self.finish_cycle(rt, alloc, shared, index)?;

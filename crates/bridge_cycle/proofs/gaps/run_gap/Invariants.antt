@@ -1,6 +1,7 @@
 use Rattle.std.proofs.Common.{◌≤◌, length}
 use Rattle.bridge_cycle.specs.Progress.{line_of}
-use Rattle.bridge_cycle.proofs.Gapped.{IsMidCycle, to_come}
+use Rattle.bridge_cycle.specs.Words.{to_come}
+use Rattle.bridge_cycle.proofs.Gapped.{IsMidCycle}
 use Rattle.bridge_cycle.proofs.gaps.run_gap.Given as goal
 
 abbrev pub invariant-phases : goal.invariant-phases
