@@ -16,9 +16,9 @@ use Rattle.joint_history.specs.Driven.{DriverMakesNone, DriverStands, IsUnmirror
 use Rattle.joint_history.specs.DriverMirrors.{numbered_comps}
 use Rattle.bridge_cycle.specs.declared.stages.Stage.{Stage}
 use Rattle.bridge_cycle.specs.declared.stages.Stage.TheVariants as stage
-use Rattle.bridge_cycle.specs.Held.{Fields, IsOfCycle, KnowsItsStand, opened_of, shown}
+use Rattle.bridge_cycle.specs.Held.{Fields, IsOfCycle, KnowsItsStand, cycle_of, shown}
 use Rattle.bridge_cycle.specs.Progress.{AbandonsCycle, Enters, Progress, RunsWords, cycle_after, line_of}
-use Rattle.bridge_cycle.proofs.Making.{Fails, Keeps, enters_more, held_there, kept, line_below, makes_one, stands_on}
+use Rattle.bridge_cycle.proofs.Making.{Fails, DriverKeeps, enters_more, held_there, kept, line_below, makes_one, stands_on}
 use Rattle.bridge_cycle.proofs.Refusals.{stayed_now, still_keeps}
 
 -- where the driver stands before the mirror
@@ -27,11 +27,11 @@ pub record IsBefore (f : Fields) (index : ℕ) : Type 0 where
   pub stand : Stand
   pub seen : Managed
   pub stands : DriverStands f.view index stand seen
-  pub unmirrored : IsUnmirrored stand (opened_of snapshot)
+  pub unmirrored : IsUnmirrored stand (cycle_of snapshot)
   pub same : snapshot.cycle ≡ f.cycle
 
 pub may_abandon : {f : Fields} {index : ℕ} → IsBefore f index → MayAbandonCycle f.view index
-may_abandon b = record { opened = opened_of b.snapshot; stand = b.stand; seen = b.seen; stands = b.stands; unmirrored = b.unmirrored }
+may_abandon b = record { opened = cycle_of b.snapshot; stand = b.stand; seen = b.seen; stands = b.stands; unmirrored = b.unmirrored }
 
 -- what the driver keeps of an abandoned cycle
 record Abandons (f next : Fields) (index : ℕ) : Type 0 where
@@ -41,7 +41,7 @@ record Abandons (f next : Fields) (index : ℕ) : Type 0 where
 
 abandoned_now : (f : Fields) (index : ℕ) → IsBefore f index → (new : View) (m : ℕ) → MakesAbandon f.view new index m → Abandons f (kept new stage.Idle f.cycle f.candidates) index
 abandoned_now f index b new m makes =
-    let w = makes (opened_of b.snapshot) b.stand b.seen b.stands b.unmirrored in
+    let w = makes (cycle_of b.snapshot) b.stand b.seen b.stands b.unmirrored in
     let e = driver_entry m index (op.Abandon record { 0 = b.snapshot.cycle.0 }) says.Ok None in
     record {
       held = held_there (kept new stage.Idle f.cycle f.candidates) index idle w.1.seen w.1.stands tt refl;
@@ -68,22 +68,23 @@ abandons_after old mid new index r a =
     }
 
 -- it is idle then
-fails : (q : Progress) (f : Fields) (new : View) (s : Stage) (index : ℕ) → s ≡ stage.Idle → Keeps q f index → Fails (shown f) (kept new stage.Idle f.cycle f.candidates) index → Fails q (kept new s f.cycle f.candidates) index
+fails : (q : Progress) (f : Fields) (new : View) (s : Stage) (index : ℕ) → s ≡ stage.Idle → DriverKeeps q f index → Fails (shown f) (kept new stage.Idle f.cycle f.candidates) index
+    → Fails q (kept new s f.cycle f.candidates) index
 fails q f new s index is i w = subst (λ (z : Stage). Fails q (kept new z f.cycle f.candidates) index) (sym is) (subst (λ (d : Progress). Fails d (kept new stage.Idle f.cycle f.candidates) index) i.seen w)
 
 -- the snapshot found no memory
-module _ {q : Progress} {v : View} {k : Cycle} {n index : ℕ} (i : Keeps q (kept v stage.Idle k n) index) where
+module _ {q : Progress} {v : View} {k : Cycle} {n index : ℕ} (i : DriverKeeps q (kept v stage.Idle k n) index) where
   pub snap_fails : (new : View) (s : Stage) → s ≡ stage.Idle → DriverMakesNone v new → Fails q (kept new s k n) index
   snap_fails new s is none =
       let w = stayed_now (shown (kept v stage.Idle k n)) (kept v stage.Idle k n) index (record { held = i.held; line = i.line; seen = refl }) new none in
       fails q (kept v stage.Idle k n) new s index is i (record { held = w.held; line = w.line; lacks = record { takes = tt; gives_up = w.runs; idle = refl } })
 
 -- the contraction did
-module _ {q : Progress} {v : View} {k : Cycle} {n index : ℕ} {o : Snapshot} (i : Keeps q (kept v (stage.Snapped o) k n) index) where
+module _ {q : Progress} {v : View} {k : Cycle} {n index : ℕ} {o : Snapshot} (i : DriverKeeps q (kept v (stage.Snapped o) k n) index) where
   pub before_contract : IsBefore (kept v (stage.Snapped o) k n) index
   before_contract =
       let c : IsOfCycle k n i.held.seen o = i.held.cycle in
-      record { snapshot = o; stand = snapped (opened_of o); seen = i.held.seen; stands = stands_on q (kept v (stage.Snapped o) k n) index i (snapped (opened_of o)) i.held.at; unmirrored = refl; same = c.same }
+      record { snapshot = o; stand = snapped (cycle_of o); seen = i.held.seen; stands = stands_on q (kept v (stage.Snapped o) k n) index i (snapped (cycle_of o)) i.held.at; unmirrored = refl; same = c.same }
 
   pub contract_fails : (new : View) (s : Stage) (m : ℕ) → s ≡ stage.Idle → MakesAbandon v new index m → Fails q (kept new s k n) index
   contract_fails new s m is makes =
@@ -91,13 +92,20 @@ module _ {q : Progress} {v : View} {k : Cycle} {n index : ℕ} {o : Snapshot} (i
       fails q (kept v (stage.Snapped o) k n) new s index is i (record { held = a.held; line = a.line; lacks = record { takes = tt; gives_up = a.abandons; idle = refl } })
 
 -- the mirror did, and had made nothing
-module _ {q : Progress} {v : View} {k : Cycle} {n index : ℕ} {o : Snapshot} {listing : Listing} {room : Answers} (i : Keeps q (kept v (stage.Contracted o listing room) k n) index) (mid : View) (none : DriverMakesNone v mid) where
+module _ {q : Progress} {v : View} {k : Cycle} {n index : ℕ} {o : Snapshot} {listing : Listing} {room : Answers} (i : DriverKeeps q (kept v (stage.Contracted o listing room) k n) index) (mid : View) (none : DriverMakesNone v mid) where
   pub before_mirror : IsBefore (kept mid (stage.Contracted o listing room) k n) index
   before_mirror =
       let j = still_keeps q (kept v (stage.Contracted o listing room) k n) index i mid none in
       let c : IsOfCycle k n j.held.seen o = j.held.cycle in
-      let stand = contracted (opened_of o) (numbered_comps o.graph listing.comps) j.held.at.1.0 listing.pairs in
-      record { snapshot = o; stand = stand; seen = j.held.seen; stands = stands_on (shown (kept mid (stage.Contracted o listing room) k n)) (kept mid (stage.Contracted o listing room) k n) index j stand j.held.at.1.2; unmirrored = refl; same = c.same }
+      let stand = contracted (cycle_of o) (numbered_comps o.graph listing.comps) j.held.at.1.0 listing.pairs in
+      record {
+        snapshot = o;
+        stand = stand;
+        seen = j.held.seen;
+        stands = stands_on (shown (kept mid (stage.Contracted o listing room) k n)) (kept mid (stage.Contracted o listing room) k n) index j stand j.held.at.1.2;
+        unmirrored = refl;
+        same = c.same;
+      }
 
   pub mirror_fails : (new : View) (s : Stage) (m : ℕ) → s ≡ stage.Idle → MakesAbandon mid new index m → Fails q (kept new s k n) index
   mirror_fails new s m is makes =

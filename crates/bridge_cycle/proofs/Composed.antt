@@ -85,7 +85,8 @@ pub record IsOneFurther (old mid new : Progress) (index : ℕ) (p : IsPartway ol
   pub now : IsPartway old new index
   pub longer : now.run ≡ p.run ++ next_word mid.phase ∷ []
 
-pub partway_more : (old mid new : Progress) (index : ℕ) (reply : Reply) (p : IsPartway old mid index) → (mid.phase ≡ at.Restored → ⊥) → EndsWithReply mid new index (next_word mid.phase ∷ []) reply → IsOneFurther old mid new index p
+pub partway_more : (old mid new : Progress) (index : ℕ) (reply : Reply) (p : IsPartway old mid index) → (mid.phase ≡ at.Restored → ⊥)
+    → EndsWithReply mid new index (next_word mid.phase ∷ []) reply → IsOneFurther old mid new index p
 partway_more old mid new index reply p n a =
     let g = goes mid.phase new.phase n a.runs.leads in
     record {
@@ -120,7 +121,8 @@ snoc_of [] l = absurd (omega (arith, l))
 snoc_of (e ∷ []) l = (e, refl)
 snoc_of (e ∷ f ∷ es) l = absurd (omega (arith, l))
 
-pub closes_now : (old mid new : Progress) (index : ℕ) (reply : Reply) → IsPartway old mid index → mid.phase ≡ at.Restored → EndsWithReply mid new index (next_word mid.phase ∷ []) reply → EndsWithReply old new index (to_come old.phase) reply
+pub closes_now : (old mid new : Progress) (index : ℕ) (reply : Reply) → IsPartway old mid index → mid.phase ≡ at.Restored → EndsWithReply mid new index (next_word mid.phase ∷ []) reply
+    → EndsWithReply old new index (to_come old.phase) reply
 closes_now old mid new index reply p e ends =
     let a = subst (λ (z : Phase). EndsWithReply mid new index (next_word z ∷ []) reply) e ends in
     let own = a.runs.events in
@@ -161,7 +163,8 @@ cycle_due p w is n = ap phases_of is ∙ by p (subst (λ (v : PhaseWord). next_p
     by at.Restored n = absurd (n refl)
 
 -- a line with a word that isn't refused found no memory
-pub line_stops : (old new : Progress) (index : ℕ) (w : PhaseWord) (ws : List PhaseWord) → (next_phase old.phase w ≡ None → ⊥) → phases_of w ≡ ws → StopsForMemory old new index ws → BreaksLine old new index (act.PhaseLine w)
+pub line_stops : (old new : Progress) (index : ℕ) (w : PhaseWord) (ws : List PhaseWord) → (next_phase old.phase w ≡ None → ⊥) → phases_of w ≡ ws → StopsForMemory old new index ws
+    → BreaksLine old new index (act.PhaseLine w)
 line_stops old new index w ws some is a = by (next_phase old.phase w) some
   where
     by : (next : Option Phase) → (next ≡ None → ⊥) → BreaksWord old new index w next

@@ -9,11 +9,11 @@ use Rattle.joint_model.specs.declared.names.PhaseWord.TheVariants as word
 use Rattle.joint_model.specs.declared.events.Entry.{Entry}
 use Rattle.joint_model.specs.declared.events.Op.TheVariants as op
 use Rattle.joint_model.specs.declared.events.Reply.TheVariants as says
-use Rattle.joint_model.specs.Control.{OpenSnap, idle, weakening, marked, restoring, restored}
+use Rattle.joint_model.specs.Control.{OpenSnap, weakening, marked, restored}
 use Rattle.joint_model.specs.Listed.{Answers, answers_of}
 use Rattle.joint_model.specs.Managed.{Managed, candidates_of}
 use Rattle.joint_model.specs.Phases.{ArePhase, candidates_after}
-use Rattle.joint_model.specs.Told.{nothing, resolution_of, sweep_of}
+use Rattle.joint_model.specs.Told.{nothing, sweep_of}
 use Rattle.managed_side.specs.declared.opening.Opened.{Opened as Snapshot}
 use Rattle.peer_side.specs.declared.side.Swept.{Swept}
 use Rattle.order_table.specs.declared.views.View.{View}
@@ -22,9 +22,9 @@ use Rattle.joint_history.specs.Driven.{DriverStands, MakesResolution, MayResolve
 use Rattle.joint_history.specs.DriverMarks.{EndsFirst, HasBegunMarking, MakesBegin, MakesMark, MakesSweep, MayMarkCycle}
 use Rattle.joint_history.specs.Operations.{MakesAll}
 use Rattle.bridge_cycle.specs.declared.stages.Stage.TheVariants as stage
-use Rattle.bridge_cycle.specs.Held.{IsOfCycle, opened_of, shown}
+use Rattle.bridge_cycle.specs.Held.{IsOfCycle, cycle_of}
 use Rattle.bridge_cycle.specs.Progress.{AreDriversOnLine, Progress, cycle_after, last_reply}
-use Rattle.bridge_cycle.proofs.Making.{Keeps, Steps, append_nil, kept, makes_more, makes_nothing, makes_one, ran_one, stands_on, steps}
+use Rattle.bridge_cycle.proofs.Making.{DriverKeeps, Steps, append_nil, kept, makes_more, makes_nothing, makes_one, stands_on, steps, steps_one}
 
 -- the cycle's own marking was begun, after one that was open was ended, or there was none
 module _ (old between new : View) (index : ℕ) (o : OpenSnap) (count : ℕ) (weakened : Bool) (m : Managed) (stands : DriverStands old index (weakening o count weakened false) m) (all : count ≡ length (candidates_of m)) (n : ℕ) (j : Marking) (begins : MakesBegin between new index n j) where
@@ -70,23 +70,23 @@ module _ (old between new : View) (index : ℕ) (o : OpenSnap) (count : ℕ) (we
         now = w.stands;
       }
 
-module _ {q : Progress} {v : View} {k : Cycle} {n index : ℕ} {o : Snapshot} {room : Answers} (i : Keeps q (kept v (stage.Weakened o room) k n) index) where
+module _ {q : Progress} {v : View} {k : Cycle} {n index : ℕ} {o : Snapshot} {room : Answers} (i : DriverKeeps q (kept v (stage.Weakened o room) k n) index) where
   cycle : IsOfCycle k n i.held.seen o
   cycle = i.held.cycle
 
   abbrev weakened : Bool
   weakened = i.held.at.1.0
 
-  stands : DriverStands v index (weakening (opened_of o) n weakened false) i.held.seen
-  stands = stands_on q (kept v (stage.Weakened o room) k n) index i (weakening (opened_of o) n weakened false) i.held.at.1.1
+  stands : DriverStands v index (weakening (cycle_of o) n weakened false) i.held.seen
+  stands = stands_on q (kept v (stage.Weakened o room) k n) index i (weakening (cycle_of o) n weakened false) i.held.at.1.1
 
   pub may_mark : MayMarkCycle v index
-  may_mark = record { opened = opened_of o; count = n; weakened = weakened; seen = i.held.seen; stands = stands; all = sym cycle.count }
+  may_mark = record { opened = cycle_of o; count = n; weakened = weakened; seen = i.held.seen; stands = stands; all = sym cycle.count }
 
   pub marked_now : (new : View) (out : Begun) → MakesMark v new index out → Steps q (kept new (stage.Marked o room) k n) index (says.Mark out.marking)
   marked_now new out makes =
-      let w = began v makes.between new index (opened_of o) n weakened i.held.seen stands (sym cycle.count) out.number out.marking makes.begins out.ended makes.ends in
-      steps q (kept v (stage.Weakened o room) k n) (kept new (stage.Marked o room) k n) index (says.Mark out.marking) (marked (opened_of o)) i.held.seen i w.now i.held.cycle (i.held.at.0, refl) (record {
+      let w = began v makes.between new index (cycle_of o) n weakened i.held.seen stands (sym cycle.count) out.number out.marking makes.begins out.ended makes.ends in
+      steps q (kept v (stage.Weakened o room) k n) (kept new (stage.Marked o room) k n) index (says.Mark out.marking) (marked (cycle_of o)) i.held.seen i w.now i.held.cycle (i.held.at.0, refl) (record {
         entries = w.entries;
         runs = record {
           enters = record { made = w.made; places = w.places; cycle = sym (w.cycle k); candidates = sym w.candidates };
@@ -96,30 +96,28 @@ module _ {q : Progress} {v : View} {k : Cycle} {n index : ℕ} {o : Snapshot} {r
         last = sym w.last;
       })
 
-module _ {q : Progress} {v : View} {k : Cycle} {n index : ℕ} {o : Snapshot} {room : Answers} (i : Keeps q (kept v (stage.Marked o room) k n) index) where
-  stands_marked : DriverStands v index (marked (opened_of o)) i.held.seen
-  stands_marked = stands_on q (kept v (stage.Marked o room) k n) index i (marked (opened_of o)) i.held.at.1
+module _ {q : Progress} {v : View} {k : Cycle} {n index : ℕ} {o : Snapshot} {room : Answers} (i : DriverKeeps q (kept v (stage.Marked o room) k n) index) where
+  stands_marked : DriverStands v index (marked (cycle_of o)) i.held.seen
+  stands_marked = stands_on q (kept v (stage.Marked o room) k n) index i (marked (cycle_of o)) i.held.at.1
 
   pub has_begun : HasBegunMarking v index
-  has_begun = record { opened = opened_of o; seen = i.held.seen; stands = stands_marked }
+  has_begun = record { opened = cycle_of o; seen = i.held.seen; stands = stands_marked }
 
   pub swept_now : (new : View) (m : ℕ) (out : Swept) → MakesSweep v new index m out → Steps q (kept new (stage.Swept o room) k n) index (says.Swept out.marking out.freed)
   swept_now new m out makes =
-      let w = makes (marked (opened_of o)) i.held.seen stands_marked refl in
-      steps q (kept v (stage.Marked o room) k n) (kept new (stage.Swept o room) k n) index (says.Swept out.marking out.freed) (restoring (opened_of o) []) i.held.seen i w.stands i.held.cycle (i.held.at.0, refl)
-      (ran_one (shown (kept v (stage.Marked o room) k n)) (shown (kept new (stage.Swept o room) k n)) index word.Sweep (driver_entry m index op.Sweep (says.Swept out.marking out.freed) None)
-      (makes_one v new (marked (opened_of o)) i.held.seen _ (sweep_of w.freed) w.makes) refl refl refl refl (record { each = (tt, tt); count = refl }) (at.Swept, refl, refl))
+      let w = makes (marked (cycle_of o)) i.held.seen stands_marked refl in
+      steps_one _ _ (kept new (stage.Swept o room) k n) index m op.Sweep _ None _ _ _ _ _ i w.makes w.stands i.held.cycle (i.held.at.0, refl)
+      (record { each = (tt, tt); count = refl }) refl refl refl
 
-module _ {q : Progress} {v : View} {k : Cycle} {n index : ℕ} {o : Snapshot} {answers : Answers} {clear : ℕ} (i : Keeps q (kept v (stage.Restored o answers clear) k n) index) where
-  stands_restored : DriverStands v index (restored (opened_of o) (answers_of answers.values) clear) i.held.seen
-  stands_restored = stands_on q (kept v (stage.Restored o answers clear) k n) index i (restored (opened_of o) (answers_of answers.values) clear) i.held.at
+module _ {q : Progress} {v : View} {k : Cycle} {n index : ℕ} {o : Snapshot} {answers : Answers} {clear : ℕ} (i : DriverKeeps q (kept v (stage.Restored o answers clear) k n) index) where
+  stands_restored : DriverStands v index (restored (cycle_of o) (answers_of answers.values) clear) i.held.seen
+  stands_restored = stands_on q (kept v (stage.Restored o answers clear) k n) index i (restored (cycle_of o) (answers_of answers.values) clear) i.held.at
 
   pub may_resolve : MayResolveCycle v index clear (answers_of answers.values)
-  may_resolve = record { opened = opened_of o; seen = i.held.seen; stands = stands_restored }
+  may_resolve = record { opened = cycle_of o; seen = i.held.seen; stands = stands_restored }
 
   pub resolved_now : (new : View) (m : ℕ) (span : Span) → MakesResolution v new index clear m (answers_of answers.values) span → Steps q (kept new stage.Idle k n) index (says.Freed span)
   resolved_now new m span makes =
-      let w = makes (opened_of o) i.held.seen stands_restored in
-      steps q (kept v (stage.Restored o answers clear) k n) (kept new stage.Idle k n) index (says.Freed span) idle w.rests.seen i w.rests.stands tt refl
-      (ran_one (shown (kept v (stage.Restored o answers clear) k n)) (shown (kept new stage.Idle k n)) index word.Resolve (driver_entry m index (op.Resolve record { 0 = o.cycle.0 }) (says.Freed span) (Some clear))
-      (makes_one v new (restored (opened_of o) (answers_of answers.values) clear) i.held.seen _ (resolution_of (answers_of answers.values) w.freed) w.makes) refl refl refl refl (record { each = (tt, tt); count = refl }) (at.Idle, refl, refl))
+      let w = makes (cycle_of o) i.held.seen stands_restored in
+      steps_one _ _ (kept new stage.Idle k n) index m (op.Resolve record { 0 = o.cycle.0 }) _ (Some clear) _ _ _ _ _ i w.makes w.rests.stands tt refl
+      (record { each = (tt, tt); count = refl }) refl refl refl

@@ -53,7 +53,8 @@ pub record GapIsDue (old mid new : Progress) (index gaps : ℕ) : Type 0 where
   pub less : length (to_come new.phase) < length (to_come mid.phase)
   pub next : IsMidCycle old new index (gaps + 1)
 
-pub gap_due : (old mid new : Progress) (index gaps : ℕ) (reply : Reply) → IsMidCycle old mid index gaps → (mid.phase ≡ at.Restored → ⊥) → EndsWithReply mid new index (next_word mid.phase ∷ []) reply → GapIsDue old mid new index gaps
+pub gap_due : (old mid new : Progress) (index gaps : ℕ) (reply : Reply) → IsMidCycle old mid index gaps → (mid.phase ≡ at.Restored → ⊥)
+    → EndsWithReply mid new index (next_word mid.phase ∷ []) reply → GapIsDue old mid new index gaps
 gap_due old mid new index gaps reply m n a =
     let f = partway_more old mid new index reply m.part n a in
     let one = one_less mid.phase new.phase f.goes in
@@ -72,7 +73,8 @@ gaps_stop old mid new index gaps m lacks =
     subst (λ (ws : List PhaseWord). StopsInGaps old new index ws gaps) (ap to_come m.idle) (record { stops = partway_lacks old mid new index m.part lacks; each = m.each })
 
 -- the last phase, which has no gap
-pub cycle_ends : (old mid new : Progress) (index gaps : ℕ) (reply : Reply) → IsMidCycle old mid index gaps → mid.phase ≡ at.Restored → EndsWithReply mid new index (next_word mid.phase ∷ []) reply → RunsWords old new index (phases_of word.Cycle) × (gaps ≡ 7)
+pub cycle_ends : (old mid new : Progress) (index gaps : ℕ) (reply : Reply) → IsMidCycle old mid index gaps → mid.phase ≡ at.Restored → EndsWithReply mid new index (next_word mid.phase ∷ []) reply
+    → RunsWords old new index (phases_of word.Cycle) × (gaps ≡ 7)
 cycle_ends old mid new index gaps reply m e a =
     let c = closes_now old mid new index reply m.part e a in
     let sum = counted old.phase m.part.run (to_come mid.phase) m.idle m.part.all in

@@ -1,5 +1,5 @@
 -- One entry of the driver, as a call of the driver's; and where the driver stands after it, by the line of its own last entry.
-use Rattle.std.proofs.Common.{◌≡◌, ℕ, ◌≤◌, List, [], ◌∷◌, ◌++◌, IfSome, refl, sym, ap, ◌∙◌, subst, append_assoc, arith}
+use Rattle.std.proofs.Common.{◌≡◌, ℕ, ◌≤◌, List, [], ◌∷◌, ◌++◌, Option, Some, IfSome, refl, sym, ap, ◌∙◌, subst, append_assoc, arith}
 use mathlib.Core.List.{IsPrefix}
 use base.Growing.{prefix_trans}
 use Rattle.joint_model.specs.declared.names.Cycle.{Cycle}
@@ -8,30 +8,32 @@ use Rattle.joint_model.specs.declared.names.PhaseWord.{PhaseWord}
 use Rattle.joint_model.specs.declared.names.Thread.{Thread}
 use Rattle.joint_model.specs.declared.names.Thread.TheVariants.{C}
 use Rattle.joint_model.specs.declared.events.Entry.{Entry}
+use Rattle.joint_model.specs.declared.events.Op.{Op}
 use Rattle.joint_model.specs.declared.events.Reply.{Reply}
 use Rattle.joint_model.specs.Control.{Stand, last_line as control_line}
 use Rattle.joint_model.specs.HistoryLines.{caller_line}
 use Rattle.joint_model.specs.Lines.{IsDriver}
 use Rattle.joint_model.specs.Managed.{Managed}
-use Rattle.joint_model.specs.Phases.{ArePhase, ArePhases, candidates_after, told_by}
+use Rattle.joint_model.specs.Phases.{ArePhase, ArePhases, candidates_after, next_phase, told_by}
 use Rattle.joint_model.specs.Told.{Told}
 use Rattle.known_laws.specs.Pasts.{end_of}
 use Rattle.order_table.specs.declared.views.View.{View}
 use Rattle.order_table.specs.Views.{known}
 use Rattle.order_table.proofs.Lines.{below_begins}
 use Rattle.joint_history.specs.Callers.{last_index}
-use Rattle.joint_history.specs.Driven.{DriverMakes, DriverMakesNone, DriverStands}
+use Rattle.joint_history.specs.Driven.{DriverMakes, DriverMakesNone, DriverStands, driver_entry}
 use Rattle.joint_history.specs.Knowing.{line_known}
 use Rattle.joint_history.specs.Operations.{AreAbove, MakesAll}
 use Rattle.joint_history.proofs.LastLines.{last_line_is}
 use Rattle.joint_history.proofs.DriverHears.{driver_later}
 use Rattle.bridge_cycle.specs.declared.stages.Stage.{Stage}
-use Rattle.bridge_cycle.specs.Held.{Fields, IsAt, IsOfCycle, KnowsItsStand, shown, snapshot_in}
+use Rattle.bridge_cycle.specs.Held.{Fields, IsAt, IsOfCycle, KnowsItsStand, phase_of, shown, snapshot_in}
 use Rattle.bridge_cycle.specs.Progress.{AreDriversOnLine, EndsWithReply, Enters, LeadTo, Progress, RunsWords, RunsPhases, cycle_after, line_of, opened_by}
 use Rattle.bridge_cycle.specs.Words.{Lacks, next_word}
 
 -- the line of the driver's last entry
-own_line_is : (v : View) (index : ℕ) (stand : Stand) (seen : Managed) (s : DriverStands v index stand seen) → control_line (end_of s.known.known.past).control C ≡ last_index (line_known v (caller_line C))
+own_line_is : (v : View) (index : ℕ) (stand : Stand) (seen : Managed) (s : DriverStands v index stand seen)
+    → control_line (end_of s.known.known.past).control C ≡ last_index (line_known v (caller_line C))
 own_line_is v index stand seen s = last_line_is v s.known C tt
 
 pub line_below : (v : View) (index : ℕ) (stand : Stand) (seen : Managed) → DriverStands v index stand seen → last_index (line_known v (caller_line C)) ≤ index
@@ -45,23 +47,24 @@ abbrev pub kept : View → Stage → Cycle → ℕ → Fields
 kept v s k n = record { view = v; stage = s; cycle = k; candidates = n }
 
 -- the driver keeps these fields, of which contracts see that, and the line of its last entry isn't above this one
-pub record Keeps (q : Progress) (f : Fields) (index : ℕ) : Type 0 where
+pub record DriverKeeps (q : Progress) (f : Fields) (index : ℕ) : Type 0 where
   pub held : KnowsItsStand f
   pub line : line_of (shown f) ≤ index
   pub seen : shown f ≡ q
 
-pub keeps : (f : Fields) (q : Progress) (index : ℕ) → KnowsItsStand f → shown f ≡ q → line_of q ≤ index → Keeps q f index
+pub keeps : (f : Fields) (q : Progress) (index : ℕ) → KnowsItsStand f → shown f ≡ q → line_of q ≤ index → DriverKeeps q f index
 keeps f q index h e l = record { held = h; line = subst (λ (d : Progress). line_of d ≤ index) (sym e) l; seen = e }
 
 -- so it is in the stage that is at hand
-pub keeps_in : (f : Fields) (s : Stage) (q : Progress) (index : ℕ) → s ≡ f.stage → KnowsItsStand f → shown f ≡ q → line_of q ≤ index → Keeps q (kept f.view s f.cycle f.candidates) index
-keeps_in f s q index is h e l = subst (λ (z : Stage). Keeps q (kept f.view z f.cycle f.candidates) index) (sym is) (keeps f q index h e l)
+pub keeps_in : (f : Fields) (s : Stage) (q : Progress) (index : ℕ) → s ≡ f.stage → KnowsItsStand f → shown f ≡ q → line_of q ≤ index → DriverKeeps q (kept f.view s f.cycle f.candidates) index
+keeps_in f s q index is h e l = subst (λ (z : Stage). DriverKeeps q (kept f.view z f.cycle f.candidates) index) (sym is) (keeps f q index h e l)
 
-pub stands_on : (q : Progress) (f : Fields) (index : ℕ) (i : Keeps q f index) (stand : Stand) → i.held.stand ≡ stand → DriverStands f.view index stand i.held.seen
+pub stands_on : (q : Progress) (f : Fields) (index : ℕ) (i : DriverKeeps q f index) (stand : Stand) → i.held.stand ≡ stand → DriverStands f.view index stand i.held.seen
 stands_on q f index i stand e = subst (λ (s : Stand). DriverStands f.view index s i.held.seen) e (driver_later f.view (line_of (shown f)) index i.held.stand i.held.seen i.line i.held.stands)
 
 -- what the driver keeps where it stands
-pub held_there : (f : Fields) (index : ℕ) (stand : Stand) (seen : Managed) → DriverStands f.view index stand seen → IfSome (snapshot_in f.stage) (λ o. IsOfCycle f.cycle f.candidates seen o) → IsAt f.stage f.candidates stand → KnowsItsStand f
+pub held_there : (f : Fields) (index : ℕ) (stand : Stand) (seen : Managed) → DriverStands f.view index stand seen → IfSome (snapshot_in f.stage) (λ o. IsOfCycle f.cycle f.candidates seen o)
+    → IsAt f.stage f.candidates stand → KnowsItsStand f
 held_there f index stand seen stands cycle at = record { stand = stand; seen = seen; stands = at_own_line f.view index stand seen stands; cycle = cycle; at = at }
 
 -- what it keeps after the next phase
@@ -70,7 +73,8 @@ pub record Steps (old : Progress) (next : Fields) (index : ℕ) (reply : Reply) 
   pub line : line_of (shown next) ≤ index
   pub answers : EndsWithReply old (shown next) index (next_word old.phase ∷ []) reply
 
-pub steps : (q : Progress) (f next : Fields) (index : ℕ) (reply : Reply) (stand : Stand) (seen : Managed) → Keeps q f index → DriverStands next.view index stand seen → IfSome (snapshot_in next.stage) (λ o. IsOfCycle next.cycle next.candidates seen o) → IsAt next.stage next.candidates stand
+pub steps : (q : Progress) (f next : Fields) (index : ℕ) (reply : Reply) (stand : Stand) (seen : Managed) → DriverKeeps q f index → DriverStands next.view index stand seen
+    → IfSome (snapshot_in next.stage) (λ o. IsOfCycle next.cycle next.candidates seen o) → IsAt next.stage next.candidates stand
     → EndsWithReply (shown f) (shown next) index (next_word (shown f).phase ∷ []) reply → Steps q next index reply
 steps q f next index reply stand seen i stands cycle at answers = subst (λ (d : Progress). Steps d next index reply) i.seen
     (record { held = held_there next index stand seen stands cycle at; line = line_below next.view index stand seen stands; answers = answers })
@@ -98,7 +102,8 @@ pub makes_one : (old new : View) (stand : Stand) (seen : Managed) (e : Entry) (t
 makes_one old new stand seen e told d = record { own_more = d.own; more = d.more; above = (d.above, tt) }
 
 -- a phase of one entry
-pub ran_one : (old new : Progress) (index : ℕ) (w : PhaseWord) (e : Entry) → MakesAll C old.view new.view (e ∷ []) → e.made.caller ≡ C → e.made.index ≡ index → new.cycle ≡ cycle_after old.cycle (e ∷ []) → new.candidates ≡ candidates_after old.candidates (e ∷ [])
+pub ran_one : (old new : Progress) (index : ℕ) (w : PhaseWord) (e : Entry) → MakesAll C old.view new.view (e ∷ []) → e.made.caller ≡ C → e.made.index ≡ index
+    → new.cycle ≡ cycle_after old.cycle (e ∷ []) → new.candidates ≡ candidates_after old.candidates (e ∷ [])
     → ArePhase old.candidates w (e ∷ []) → LeadTo old.phase (w ∷ []) new.phase → EndsWithReply old new index (w ∷ []) e.made.reply
 ran_one old new index w e made caller line cycle candidates phase leads = record {
   entries = e ∷ [];
@@ -109,6 +114,16 @@ ran_one old new index w e made caller line cycle candidates phase leads = record
   };
   last = refl;
 }
+
+-- the driver stands in the next stage then
+pub steps_one : (q : Progress) (f next : Fields) (index n : ℕ) (o : Op) (reply : Reply) (cites : Option ℕ) (stand to : Stand) (from seen : Managed) (told : Told) → DriverKeeps q f index
+    → DriverMakes f.view next.view stand from (driver_entry n index o reply cites) told → DriverStands next.view index to seen
+    → IfSome (snapshot_in next.stage) (λ s. IsOfCycle next.cycle next.candidates seen s) → IsAt next.stage next.candidates to
+    → ArePhase f.candidates (next_word (phase_of f.stage)) (driver_entry n index o reply cites ∷ []) → next_phase (phase_of f.stage) (next_word (phase_of f.stage)) ≡ Some (phase_of next.stage)
+    → next.cycle ≡ cycle_after f.cycle (driver_entry n index o reply cites ∷ []) → next.candidates ≡ candidates_after f.candidates (driver_entry n index o reply cites ∷ []) → Steps q next index reply
+steps_one q f next index n o reply cites stand to from seen told i makes stands is at phase leads cycle candidates = steps q f next index reply to seen i stands is at
+    (ran_one (shown f) (shown next) index (next_word (phase_of f.stage)) (driver_entry n index o reply cites) (makes_one f.view next.view stand from (driver_entry n index o reply cites) told makes)
+    refl refl cycle candidates phase (phase_of next.stage, leads, refl))
 
 pub append_nil : {A : Type 0} (xs : List A) → xs ++ [] ≡ xs
 append_nil [] = refl
@@ -175,7 +190,8 @@ pub leads_more : (a b c : Phase) (ws vs : List PhaseWord) → LeadTo a ws b → 
 leads_more a b c [] vs p q = subst (λ (z : Phase). LeadTo z vs c) p q
 leads_more a b c (w ∷ ws) vs p q = (p.0, p.1, leads_more p.0 b c ws vs p.2 q)
 
-pub runs_more : (old mid new : Progress) (index : ℕ) (ws vs : List PhaseWord) (es fs : List Entry) → RunsPhases old mid index ws es → RunsPhases mid new index vs fs → RunsPhases old new index (ws ++ vs) (es ++ fs)
+pub runs_more : (old mid new : Progress) (index : ℕ) (ws vs : List PhaseWord) (es fs : List Entry) → RunsPhases old mid index ws es → RunsPhases mid new index vs fs
+    → RunsPhases old new index (ws ++ vs) (es ++ fs)
 runs_more old mid new index ws vs es fs a b = record {
   enters = enters_more old mid new index es fs a.enters b.enters;
   events = events_more old.candidates ws vs es fs a.events (subst (λ (n : ℕ). ArePhases n vs fs) a.enters.candidates b.events);

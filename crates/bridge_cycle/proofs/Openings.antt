@@ -3,37 +3,35 @@ use Rattle.std.proofs.Common.{◌≡◌, ℕ, ◌+◌, List, [], length, map, No
 use Rattle.std.proofs.lemmas.List.{length-map}
 use Rattle.std.proofs.lemmas.Option.{same_Some}
 use Rattle.joint_model.specs.declared.names.Cycle.{Cycle}
-use Rattle.joint_model.specs.declared.names.Phase.TheVariants as at
-use Rattle.joint_model.specs.declared.names.PhaseWord.TheVariants as word
 use Rattle.joint_model.specs.declared.events.Op.TheVariants as op
 use Rattle.joint_model.specs.declared.events.Reply.TheVariants as says
 use Rattle.joint_model.specs.Components.{IsContraction}
-use Rattle.joint_model.specs.Control.{idle, snapped, contracted}
+use Rattle.joint_model.specs.Control.{idle, snapped}
 use Rattle.joint_model.specs.Cycles.{IsDeadContraction}
 use Rattle.joint_model.specs.Listed.{Answers}
 use Rattle.joint_model.specs.Managed.{OpenCycle}
-use Rattle.joint_model.specs.Told.{contraction_of, kept_pins, snap_of}
 use Rattle.joint_model.proofs.HeapLemmas.{candidates_of-open}
 use Rattle.bridge_graph.specs.Parts.{IsBridgeNode, IsPart, NodeLeads}
 use Rattle.xref_list.specs.Listing.{Listing}
 use Rattle.managed_side.specs.declared.opening.Opened.{Opened as Snapshot}
 use Rattle.order_table.specs.declared.views.View.{View}
-use Rattle.joint_history.specs.Driven.{DriverRests, DriverStands, HasContraction, MakesContraction, MayContractCycle, driver_entry}
+use Rattle.joint_history.specs.Driven.{DriverRests, DriverStands, HasContraction, MakesContraction, MayContractCycle}
 use Rattle.joint_history.specs.DriverSnaps.{MakesSnapshot}
 use Rattle.joint_history.specs.DriverMirrors.{number_at, numbered_comps}
 use Rattle.bridge_cycle.specs.declared.stages.Stage.TheVariants as stage
-use Rattle.bridge_cycle.specs.Held.{IsOfCycle, opened_of, shown}
+use Rattle.bridge_cycle.specs.Held.{IsOfCycle, cycle_of}
 use Rattle.bridge_cycle.specs.Progress.{Progress}
 use Rattle.bridge_cycle.proofs.Candidates.{are_candidates}
 use Rattle.bridge_cycle.proofs.DeadContraction.{a_graphs_contraction}
-use Rattle.bridge_cycle.proofs.Making.{Keeps, Steps, kept, makes_one, ran_one, stands_on, steps}
+use Rattle.bridge_cycle.proofs.Making.{DriverKeeps, Steps, kept, stands_on, steps_one}
 
-module _ {q : Progress} {v : View} {k : Cycle} {n index : ℕ} (i : Keeps q (kept v stage.Idle k n) index) where
+module _ {q : Progress} {v : View} {k : Cycle} {n index : ℕ} (i : DriverKeeps q (kept v stage.Idle k n) index) where
   -- an idle driver rests
   pub idle_rests : DriverRests v index
   idle_rests = record { seen = i.held.seen; stands = stands_on q (kept v stage.Idle k n) index i idle i.held.at }
 
-  pub snap_taken : (new : View) (out : Snapshot) → MakesSnapshot v new index out → IsPart out.graph.nodes out.graph.edges → Steps q (kept new (stage.Snapped out) out.cycle out.candidates) index (says.Snapped out.candidates out.freed)
+  pub snap_taken : (new : View) (out : Snapshot) → MakesSnapshot v new index out → IsPart out.graph.nodes out.graph.edges
+      → Steps q (kept new (stage.Snapped out) out.cycle out.candidates) index (says.Snapped out.candidates out.freed)
   snap_taken new out makes part =
       let o = makes idle_rests.seen idle_rests.stands in
       let c : OpenCycle = record { number = out.cycle.0; candidates = o.candidates; dead = o.dead } in
@@ -47,11 +45,10 @@ module _ {q : Progress} {v : View} {k : Cycle} {n index : ℕ} (i : Keeps q (kep
         count = ap length (candidates_of-open o.seen c o.opened) ∙ sym o.counted;
         candidates = are_candidates o.seen c out.graph o.kept o.opened part o.graph;
       } in
-      steps q (kept v stage.Idle k n) (kept new (stage.Snapped out) out.cycle out.candidates) index (says.Snapped out.candidates out.freed) (snapped (opened_of out)) o.seen i o.stands cycle refl
-      (ran_one (shown (kept v stage.Idle k n)) (shown (kept new (stage.Snapped out) out.cycle out.candidates)) index word.Snap (driver_entry out.number index (op.Snap out.cycle) (says.Snapped out.candidates out.freed) None)
-      (makes_one v new idle idle_rests.seen _ (kept_pins o.pins (snap_of o.freed o.candidates o.dead)) o.makes) refl refl refl refl (record { each = (tt, tt); count = refl }) (at.Snapped, refl, refl))
+      steps_one _ _ (kept new (stage.Snapped out) out.cycle out.candidates) index out.number (op.Snap out.cycle) _ None _ _ _ _ _ i o.makes o.stands cycle refl
+      (record { each = (tt, tt); count = refl }) refl refl refl
 
-module _ {q : Progress} {v : View} {k : Cycle} {n index : ℕ} {o : Snapshot} (i : Keeps q (kept v (stage.Snapped o) k n) index) (listing : Listing)
+module _ {q : Progress} {v : View} {k : Cycle} {n index : ℕ} {o : Snapshot} (i : DriverKeeps q (kept v (stage.Snapped o) k n) index) (listing : Listing)
     (exact : (heavy : List ℕ) × (length heavy ≡ listing.heavy) × IsContraction (IsBridgeNode o.graph.nodes) (NodeLeads o.graph.edges) listing.comps heavy listing.pairs) (sccs xrefs : ℕ) (components : sccs ≡ length listing.comps + listing.heavy) (references : xrefs ≡ length listing.pairs) where
   abbrev heavy : List ℕ
   heavy = map (number_at o.graph) exact.0
@@ -59,8 +56,8 @@ module _ {q : Progress} {v : View} {k : Cycle} {n index : ℕ} {o : Snapshot} (i
   heavy_count : length heavy ≡ listing.heavy
   heavy_count = length-map exact.0 (number_at o.graph) ∙ exact.1
 
-  stands : DriverStands v index (snapped (opened_of o)) i.held.seen
-  stands = stands_on q (kept v (stage.Snapped o) k n) index i (snapped (opened_of o)) i.held.at
+  stands : DriverStands v index (snapped (cycle_of o)) i.held.seen
+  stands = stands_on q (kept v (stage.Snapped o) k n) index i (snapped (cycle_of o)) i.held.at
 
   contraction_is : HasContraction i.held.seen sccs xrefs (numbered_comps o.graph listing.comps) heavy listing.pairs
   contraction_is =
@@ -73,12 +70,12 @@ module _ {q : Progress} {v : View} {k : Cycle} {n index : ℕ} {o : Snapshot} (i
       }
 
   pub may_contract : MayContractCycle v index sccs xrefs
-  may_contract = record { opened = opened_of o; seen = i.held.seen; comps = numbered_comps o.graph listing.comps; heavy = heavy; pairs = listing.pairs; stands = stands; contraction = contraction_is }
+  may_contract = record { opened = cycle_of o; seen = i.held.seen; comps = numbered_comps o.graph listing.comps; heavy = heavy; pairs = listing.pairs; stands = stands; contraction = contraction_is }
 
-  pub contracted_now : (new : View) (room : Answers) (m : ℕ) → (room.values ≡ []) × (room.room ≡ n) → MakesContraction v new index sccs xrefs m → Steps q (kept new (stage.Contracted o listing room) k n) index (says.Sccs sccs xrefs)
+  pub contracted_now : (new : View) (room : Answers) (m : ℕ) → (room.values ≡ []) × (room.room ≡ n) → MakesContraction v new index sccs xrefs m
+      → Steps q (kept new (stage.Contracted o listing room) k n) index (says.Sccs sccs xrefs)
   contracted_now new room m has makes =
       let comps = numbered_comps o.graph listing.comps in
-      let w = makes (opened_of o) i.held.seen comps heavy listing.pairs stands contraction_is in
-      steps q (kept v (stage.Snapped o) k n) (kept new (stage.Contracted o listing room) k n) index (says.Sccs sccs xrefs) (contracted (opened_of o) comps heavy listing.pairs) i.held.seen i w.1 i.held.cycle (record { none = has.0; room = has.1 }, (heavy, heavy_count, refl))
-      (ran_one (shown (kept v (stage.Snapped o) k n)) (shown (kept new (stage.Contracted o listing room) k n)) index word.Contract (driver_entry m index (op.Contract record { 0 = o.cycle.0 }) (says.Sccs sccs xrefs) None)
-      (makes_one v new (snapped (opened_of o)) i.held.seen _ (contraction_of comps heavy listing.pairs) w.0) refl refl refl refl (record { each = (tt, tt); count = refl }) (at.Contracted, refl, refl))
+      let w = makes (cycle_of o) i.held.seen comps heavy listing.pairs stands contraction_is in
+      steps_one _ _ (kept new (stage.Contracted o listing room) k n) index m (op.Contract record { 0 = o.cycle.0 }) _ None _ _ _ _ _ i w.0 w.1 i.held.cycle
+      (record { none = has.0; room = has.1 }, (heavy, heavy_count, refl)) (record { each = (tt, tt); count = refl }) refl refl refl

@@ -37,14 +37,15 @@ use Rattle.bridge_cycle.specs.declared.stages.Stage.{Stage}
 use Rattle.bridge_cycle.specs.declared.stages.Stage.TheVariants as stage
 use Rattle.bridge_cycle.specs.Held.{Fields, IsAt, IsOfCycle, KnowsItsStand, phase_of, shown, snapshot_in}
 use Rattle.bridge_cycle.specs.Progress.{MakesOne, Progress, RunsLine, RunsWord, line_of, pass_of}
-use Rattle.bridge_cycle.proofs.Making.{Keeps, Stays, held_there, kept, line_below, makes_one, ran_none, stands_on}
+use Rattle.bridge_cycle.proofs.Making.{DriverKeeps, Stays, held_there, kept, line_below, makes_one, ran_none, stands_on}
 
 -- the same fields, but that the driver knows more
 abbrev pub knowing : Fields → View → Fields
 knowing f new = record f { view = new }
 
 -- the stand has the stage's phase
-phase_at : (s : Stage) (k : Cycle) (n : ℕ) (stand : Stand) (seen : Managed) → IfSome (snapshot_in s) (λ o. IsOfCycle k n seen o) → IsAt s n stand → IsPhaseOf stand (length (candidates_of seen)) (phase_of s)
+phase_at : (s : Stage) (k : Cycle) (n : ℕ) (stand : Stand) (seen : Managed) → IfSome (snapshot_in s) (λ o. IsOfCycle k n seen o) → IsAt s n stand
+    → IsPhaseOf stand (length (candidates_of seen)) (phase_of s)
 phase_at stage.Idle k n stand seen c a = subst (λ (s : Stand). IsPhaseOf s (length (candidates_of seen)) at.Idle) (sym a) refl
 phase_at (stage.Snapped o) k n stand seen c a = subst (λ (s : Stand). IsPhaseOf s (length (candidates_of seen)) at.Snapped) (sym a) refl
 phase_at (stage.Contracted o l r) k n stand seen c a = subst (λ (s : Stand). IsPhaseOf s (length (candidates_of seen)) at.Contracted) (sym a.1.2) refl
@@ -125,7 +126,7 @@ pub record StepsOne (old : Progress) (next : Fields) (index : ℕ) (a : Act) (re
   pub line : line_of (shown next) ≤ index
   pub runs : RunsLine old (shown next) index a reply
 
-module _ (q : Progress) (f : Fields) (index : ℕ) (i : Keeps q f index) where
+module _ (q : Progress) (f : Fields) (index : ℕ) (i : DriverKeeps q f index) where
   abbrev h : KnowsItsStand f
   h = i.held
 
@@ -133,7 +134,8 @@ module _ (q : Progress) (f : Fields) (index : ℕ) (i : Keeps q f index) where
   stands = stands_on q f index i h.stand refl
 
   -- a line of one entry, after which the driver stands there
-  one : (new : View) (a : Act) (e : Entry) (stand : Stand) → DriverStands new index stand h.seen → IsAt f.stage f.candidates stand → RunsLine (shown f) (shown (knowing f new)) index a e.made.reply → StepsOne q (knowing f new) index a e.made.reply
+  one : (new : View) (a : Act) (e : Entry) (stand : Stand) → DriverStands new index stand h.seen → IsAt f.stage f.candidates stand
+      → RunsLine (shown f) (shown (knowing f new)) index a e.made.reply → StepsOne q (knowing f new) index a e.made.reply
   one new a e stand s at runs = subst (λ (d : Progress). StepsOne d (knowing f new) index a e.made.reply) i.seen
       (record { held = held_there (knowing f new) index stand h.seen s h.cycle at; line = line_below new index stand h.seen s; runs = runs })
 
@@ -146,7 +148,8 @@ module _ (q : Progress) (f : Fields) (index : ℕ) (i : Keeps q f index) where
   pub may_refuse : (w : PhaseWord) (p : Phase) → p ≡ q.phase → next_phase q.phase w ≡ None → MayRefuseWord f.view index w p
   may_refuse w p is r = subst (MayRefuseWord f.view index w) (sym (phase_here p is)) (record { stand = h.stand; seen = h.seen; stands = stands; in_phase = phase_stands f h; refused = refused_here w r })
 
-  pub refused_now : (w : PhaseWord) (p : Phase) (new : View) (m : ℕ) (reply : Reply) → p ≡ q.phase → next_phase q.phase w ≡ None → MakesRefusal f.view new index m w p reply → StepsOne q (knowing f new) index (act.PhaseLine w) reply
+  pub refused_now : (w : PhaseWord) (p : Phase) (new : View) (m : ℕ) (reply : Reply) → p ≡ q.phase → next_phase q.phase w ≡ None → MakesRefusal f.view new index m w p reply
+      → StepsOne q (knowing f new) index (act.PhaseLine w) reply
   refused_now w p new m reply is r makes =
       let v = subst (λ (z : Phase). MakesRefusal f.view new index m w z reply) (phase_here p is) makes h.stand h.seen stands (phase_stands f h) in
       let e : Entry = driver_entry m index (op.Refused w) reply None in
@@ -160,7 +163,12 @@ module _ (q : Progress) (f : Fields) (index : ℕ) (i : Keeps q f index) where
         phase = refl;
         same_candidates = refl;
       } in
-      let refusal : AreRefusal (phase_of f.stage) w (e ∷ []) = record { entry = e; all = refl; refuses = refl; names = subst (λ (z : Reply). NamesPhase w (phase_of f.stage) z) (sym v.answers) (names w f h (refused_here w r)) } in
+      let refusal : AreRefusal (phase_of f.stage) w (e ∷ []) = record {
+        entry = e;
+        all = refl;
+        refuses = refl;
+        names = subst (λ (z : Reply). NamesPhase w (phase_of f.stage) z) (sym v.answers) (names w f h (refused_here w r));
+      } in
       one new (act.PhaseLine w) e v.next v.stands (still_at f.stage f.candidates h.stand v.next h.at v.still)
       (record { entries = e ∷ []; runs = subst (λ (z : Option Phase). RunsWord (shown f) (shown (knowing f new)) index w z (e ∷ [])) (sym (refused_here w r)) (made, refusal); last = refl })
 
@@ -189,7 +197,7 @@ module _ (q : Progress) (f : Fields) (index : ℕ) (i : Keeps q f index) where
     runs = ran_none (shown f) (shown (knowing f new)) index none refl refl refl;
   })
 
-  pub still_keeps : (new : View) → DriverMakesNone f.view new → Keeps (shown (knowing f new)) (knowing f new) index
+  pub still_keeps : (new : View) → DriverMakesNone f.view new → DriverKeeps (shown (knowing f new)) (knowing f new) index
   still_keeps new none = let s = stayed_now new none in record { held = s.held; line = s.line; seen = refl }
 
 -- the caller of an idle driver, and an idle driver's caller

@@ -18,24 +18,24 @@ use Rattle.order_table.specs.declared.views.View.{View}
 use Rattle.joint_history.specs.Driven.{DriverStands, driver_entry}
 use Rattle.joint_history.specs.DriverHandles.{MakesClear, MayClearCycle}
 use Rattle.bridge_cycle.specs.declared.stages.Stage.TheVariants as stage
-use Rattle.bridge_cycle.specs.Held.{IsOfCycle, opened_of}
+use Rattle.bridge_cycle.specs.Held.{IsOfCycle, cycle_of}
 use Rattle.bridge_cycle.specs.Progress.{Progress}
 use Rattle.bridge_cycle.specs.Turns.{MayRestoreAll, Restores, RestoresAll}
-use Rattle.bridge_cycle.proofs.Making.{Keeps, Steps, append_nil, candidates_more, cycle_more, kept, makes_more, makes_one, places_more, stands_on, steps}
+use Rattle.bridge_cycle.proofs.Making.{DriverKeeps, Steps, append_nil, candidates_more, cycle_more, kept, makes_more, makes_one, places_more, stands_on, steps}
 use Rattle.bridge_cycle.proofs.Turned.{answers_count, last_snoc}
 
-module _ {q : Progress} {v : View} {k : Cycle} {n index : ℕ} {o : Snapshot} {room : Answers} (i : Keeps q (kept v (stage.Swept o room) k n) index) where
+module _ {q : Progress} {v : View} {k : Cycle} {n index : ℕ} {o : Snapshot} {room : Answers} (i : DriverKeeps q (kept v (stage.Swept o room) k n) index) where
   cycle : IsOfCycle k n i.held.seen o
   cycle = i.held.cycle
 
-  stands : DriverStands v index (restoring (opened_of o) []) i.held.seen
-  stands = stands_on q (kept v (stage.Swept o room) k n) index i (restoring (opened_of o) []) i.held.at.1
+  stands : DriverStands v index (restoring (cycle_of o) []) i.held.seen
+  stands = stands_on q (kept v (stage.Swept o room) k n) index i (restoring (cycle_of o) []) i.held.at.1
 
   count : length (handles_of o.graph.nodes) ≡ n
   count = cycle.candidates.count ∙ cycle.count
 
   pub may_restore_all : MayRestoreAll v index o.graph.nodes
-  may_restore_all = record { opened = opened_of o; seen = i.held.seen; stands = stands; candidates = cycle.candidates }
+  may_restore_all = record { opened = cycle_of o; seen = i.held.seen; stands = stands; candidates = cycle.candidates }
 
   pub no_answer : room.values ≡ []
   no_answer = i.held.at.0.none
@@ -44,25 +44,25 @@ module _ {q : Progress} {v : View} {k : Cycle} {n index : ℕ} {o : Snapshot} {r
   room_for_all = i.held.at.0.room ∙ sym count
 
   module _ (mid : View) (values : List (Option HNum)) (done : RestoresAll v mid index o.graph.nodes (handles_of o.graph.nodes) values) where
-    w : Restores v mid index (length (handles_of o.graph.nodes)) values (opened_of o) i.held.seen
-    w = done (opened_of o) i.held.seen stands cycle.candidates
+    w : Restores v mid index (length (handles_of o.graph.nodes)) values (cycle_of o) i.held.seen
+    w = done (cycle_of o) i.held.seen stands cycle.candidates
 
     all : length (answers_of values) ≡ length (candidates_of i.held.seen)
     all = answers_count values ∙ (w.count ∙ cycle.candidates.count)
 
     pub may_clear : MayClearCycle mid index k.0
-    may_clear = record { opened = opened_of o; answers = answers_of values; seen = i.held.seen; stands = w.stands; all = all; same = ap (λ (z : Cycle). z.0) cycle.same }
+    may_clear = record { opened = cycle_of o; answers = answers_of values; seen = i.held.seen; stands = w.stands; all = all; same = ap (λ (z : Cycle). z.0) cycle.same }
 
     pub restored_now : (new : View) (answers : Answers) (m : ℕ) → answers.values ≡ values → MakesClear mid new index k m → Steps q (kept new (stage.Restored o answers m) k n) index says.Ok
     restored_now new answers m is makes =
-        let c = makes (opened_of o) (answers_of values) i.held.seen w.stands all (ap (λ (z : Cycle). z.0) cycle.same) in
+        let c = makes (cycle_of o) (answers_of values) i.held.seen w.stands all (ap (λ (z : Cycle). z.0) cycle.same) in
         let clear : Entry = driver_entry m index (op.Clear k) says.Ok None in
-        steps q (kept v (stage.Swept o room) k n) (kept new (stage.Restored o answers m) k n) index says.Ok (restored (opened_of o) (answers_of answers.values) m) i.held.seen i
-        (subst (λ (bs : List (Option HNum)). DriverStands new index (restored (opened_of o) (answers_of bs) m) i.held.seen) (sym is) c.1) i.held.cycle refl (record {
+        steps q (kept v (stage.Swept o room) k n) (kept new (stage.Restored o answers m) k n) index says.Ok (restored (cycle_of o) (answers_of answers.values) m) i.held.seen i
+        (subst (λ (bs : List (Option HNum)). DriverStands new index (restored (cycle_of o) (answers_of bs) m) i.held.seen) (sym is) c.1) i.held.cycle refl (record {
           entries = w.entries ++ clear ∷ [];
           runs = record {
             enters = record {
-              made = makes_more v mid new w.entries (clear ∷ []) w.makes.made (makes_one mid new (restoring (opened_of o) (answers_of values)) i.held.seen clear nothing c.0);
+              made = makes_more v mid new w.entries (clear ∷ []) w.makes.made (makes_one mid new (restoring (cycle_of o) (answers_of values)) i.held.seen clear nothing c.0);
               places = places_more index w.entries (clear ∷ []) w.makes.places (refl, refl, tt);
               cycle = sym (cycle_more k w.entries (clear ∷ []) ∙ w.makes.cycle k);
               candidates = sym (candidates_more n w.entries (clear ∷ []) ∙ w.makes.candidates n);

@@ -53,8 +53,8 @@ abbrev pub shown : Fields → Progress
 shown f = record { view = f.view; phase = phase_of f.stage; cycle = f.cycle; candidates = f.candidates }
 
 -- the open cycle, as the history names it
-abbrev pub opened_of : Snapshot → OpenSnap
-opened_of o = record { cycle = o.cycle.0; snap = o.number }
+abbrev pub cycle_of : Snapshot → OpenSnap
+cycle_of o = record { cycle = o.cycle.0; snap = o.number }
 
 -- the snapshot is that of the open cycle, which has so many candidates, and its graph is the dead part's
 pub record IsOfCycle (k : Cycle) (n : ℕ) (seen : Managed) (o : Snapshot) : Type 0 where
@@ -75,13 +75,13 @@ pub record HasRoom (n : ℕ) (a : Answers) : Type 0 where
 -- where the driver stands in a stage, if so many candidates have their answers to come
 abbrev pub IsAt : Stage → ℕ → Stand → Type 0
 IsAt stage.Idle n stand = stand ≡ idle
-IsAt (stage.Snapped o) n stand = stand ≡ snapped (opened_of o)
-IsAt (stage.Contracted o l a) n stand = HasRoom n a × ((heavy : List ℕ) × (length heavy ≡ l.heavy) × (stand ≡ contracted (opened_of o) (numbered_comps o.graph l.comps) heavy l.pairs))
-IsAt (stage.Mirrored o a) n stand = HasRoom n a × (stand ≡ weakening (opened_of o) 0 false false)
-IsAt (stage.Weakened o a) n stand = HasRoom n a × ((weakened : Bool) × (stand ≡ weakening (opened_of o) n weakened false))
-IsAt (stage.Marked o a) n stand = HasRoom n a × (stand ≡ marked (opened_of o))
-IsAt (stage.Swept o a) n stand = HasRoom n a × (stand ≡ restoring (opened_of o) [])
-IsAt (stage.Restored o a clear) n stand = stand ≡ restored (opened_of o) (answers_of a.values) clear
+IsAt (stage.Snapped o) n stand = stand ≡ snapped (cycle_of o)
+IsAt (stage.Contracted o l a) n stand = HasRoom n a × ((heavy : List ℕ) × (length heavy ≡ l.heavy) × (stand ≡ contracted (cycle_of o) (numbered_comps o.graph l.comps) heavy l.pairs))
+IsAt (stage.Mirrored o a) n stand = HasRoom n a × (stand ≡ weakening (cycle_of o) 0 false false)
+IsAt (stage.Weakened o a) n stand = HasRoom n a × ((weakened : Bool) × (stand ≡ weakening (cycle_of o) n weakened false))
+IsAt (stage.Marked o a) n stand = HasRoom n a × (stand ≡ marked (cycle_of o))
+IsAt (stage.Swept o a) n stand = HasRoom n a × (stand ≡ restoring (cycle_of o) [])
+IsAt (stage.Restored o a clear) n stand = stand ≡ restored (cycle_of o) (answers_of a.values) clear
 
 -- so it is by what the driver knows
 pub record KnowsItsStand (f : Fields) : Type 0 where

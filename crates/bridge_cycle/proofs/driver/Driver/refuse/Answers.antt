@@ -4,22 +4,35 @@ use Rattle.bridge_cycle.proofs.Refusals.{may_refuse, refused_now, stayed_now}
 use Rattle.bridge_cycle.proofs.driver.Driver.refuse.Goals as goal
 
 pub refused-requires-clause-may : goal.refused-requires-clause-may
-refused-requires-clause-may g c = may_refuse _ _ c.args.index (keeps _ _ _ c.self.invariant.1 c.self.view_is c.requires.index) c.args.word c.phase-phase.result c.phase-phase.ensures c.requires.refused
+refused-requires-clause-may g c =
+    may_refuse _ _ c.args.index (keeps _ _ _ c.self.invariant.1 c.self.view_is c.requires.index)
+    c.args.word c.phase-phase.result c.phase-phase.ensures c.requires.refused
 
 pub invariant_of-self : goal.invariant_of-self
-invariant_of-self g c = (driver_seen c.refused.ensures.thread c.self.invariant.0, (stayed_now _ _ c.args.index (keeps _ _ _ c.self.invariant.1 c.self.view_is c.requires.index) c.refused.new.driver.view c.in_err-reply.ensures.err).held)
+invariant_of-self g c = (
+  driver_seen c.refused.ensures.thread c.self.invariant.0,
+  (stayed_now _ _ c.args.index (keeps _ _ _ c.self.invariant.1 c.self.view_is c.requires.index)
+      c.refused.new.driver.view c.in_err-reply.ensures.err).held,
+)
 
 pub returns-in_err-reply-clause-err : goal.returns-in_err-reply-clause-err
-returns-in_err-reply-clause-err g c = at_error c.from_residual.result (stayed_now _ _ c.args.index (keeps _ _ _ c.self.invariant.1 c.self.view_is c.requires.index) c.refused.new.driver.view c.in_err-reply.ensures.err).runs
+returns-in_err-reply-clause-err g c =
+    at_error c.from_residual.result (stayed_now _ _ c.args.index (keeps _ _ _ c.self.invariant.1 c.self.view_is c.requires.index)
+    c.refused.new.driver.view c.in_err-reply.ensures.err).runs
 
 pub invariant_of-self-2 : goal.invariant_of-self-2
 invariant_of-self-2 g c = (
   driver_seen c.refused.ensures.thread c.self.invariant.0,
-  (refused_now _ _ c.args.index (keeps _ _ _ c.self.invariant.1 c.self.view_is c.requires.index) c.args.word c.phase-phase.result c.refused.new.driver.view c.in_ok-reply.field-0-0 c.in_ok-reply.reply c.phase-phase.ensures c.requires.refused c.in_ok-reply.ensures.ok).held,
+  (refused_now _ _ c.args.index (keeps _ _ _ c.self.invariant.1 c.self.view_is c.requires.index)
+      c.args.word c.phase-phase.result c.refused.new.driver.view c.in_ok-reply.field-0-0 c.in_ok-reply.reply c.phase-phase.ensures c.requires.refused c.in_ok-reply.ensures.ok).held,
 )
 
 pub returns-clause-index : goal.returns-clause-index
-returns-clause-index g c = (refused_now _ _ c.args.index (keeps _ _ _ c.self.invariant.1 c.self.view_is c.requires.index) c.args.word c.phase-phase.result c.refused.new.driver.view c.in_ok-reply.field-0-0 c.in_ok-reply.reply c.phase-phase.ensures c.requires.refused c.in_ok-reply.ensures.ok).line
+returns-clause-index g c =
+    (refused_now _ _ c.args.index (keeps _ _ _ c.self.invariant.1 c.self.view_is c.requires.index)
+    c.args.word c.phase-phase.result c.refused.new.driver.view c.in_ok-reply.field-0-0 c.in_ok-reply.reply c.phase-phase.ensures c.requires.refused c.in_ok-reply.ensures.ok).line
 
 pub returns-clause-ok : goal.returns-clause-ok
-returns-clause-ok g c = (refused_now _ _ c.args.index (keeps _ _ _ c.self.invariant.1 c.self.view_is c.requires.index) c.args.word c.phase-phase.result c.refused.new.driver.view c.in_ok-reply.field-0-0 c.in_ok-reply.reply c.phase-phase.ensures c.requires.refused c.in_ok-reply.ensures.ok).runs
+returns-clause-ok g c =
+    (refused_now _ _ c.args.index (keeps _ _ _ c.self.invariant.1 c.self.view_is c.requires.index)
+    c.args.word c.phase-phase.result c.refused.new.driver.view c.in_ok-reply.field-0-0 c.in_ok-reply.reply c.phase-phase.ensures c.requires.refused c.in_ok-reply.ensures.ok).runs
