@@ -6,3 +6,4 @@ pub mod Cutting
 pub mod PlainWords
 pub mod PlainLines
 pub mod Gathering
+pub mod Alike
