@@ -7,3 +7,4 @@ pub mod Steps
 pub mod Causes
 pub mod Reading
 pub mod Laws
+pub mod Repeats

@@ -40,6 +40,7 @@ mod operands;
 mod printing;
 mod reading;
 mod refusals;
+mod repeats;
 mod scripts;
 mod turnstiles;
 mod words;

@@ -1,17 +1,17 @@
 // A script: its lines, and which bytes are one.
 
-ghost use Rattle.std.specs.Prelude.{◌≡◌, ◌+◌, ◌≤◌, ◌<◌, ◌==◌, [], cond, slice_get, length, IfOk, IfErr, IfSome, MatchResult};
+ghost use Rattle.std.specs.Prelude.{◌≡◌, ℕ, List, ◌+◌, ◌≤◌, ◌<◌, ◌==◌, [], cond, slice_get, length, IfOk, IfErr, IfSome, MatchResult};
 ghost use Rattle.joint_model.specs.Lines.{IsLine};
 ghost use Rattle.bridge_script.specs.declared.faults.ScriptError.{ScriptError};
-ghost use Rattle.bridge_script.specs.Scripts.{IsScript, IsText, IsRefusal, cycles_of, is_cycle, line_at};
-ghost use Rattle.bridge_script.specs.Steps.{GainsLine, Stops, EndsLine};
+ghost use Rattle.bridge_script.specs.Scripts.{IsScript, IsScriptLine, IsText, IsRefusal, cycles_of, is_cycle, line_at};
+ghost use Rattle.bridge_script.specs.Steps.{GainsLine, ReadsLine, Stops, EndsLine};
 
 use crate::faults::{Cause, ScriptError, ScriptFault};
-use crate::lines::read_line;
+use crate::repeats::Repeats;
 use joint_model::{Act, PhaseWord, Thread, list_with_room};
 use std::alloc::{AllocError, Global};
 use std::marker::Model;
-use text_words::{Stretch, first_place_far};
+use text_words::first_place_far;
 
 /// The most bytes of a script.
 pub const MOST_BYTES: usize = 8_388_608;
@@ -107,10 +107,11 @@ impl Script {
         lines
     }
 
-    // Puts the line with this text last, of which `end` is the number of bytes up to its end. `Refused` where it
+    // Puts the line last that was read of a text, of which `end` is the number of bytes up to its end. `Refused` where that
     // has a cause, with the first of them.
-    fn grow(&mut self, text: Stretch, end: usize) -> Result<(), ScriptError>
-        ensures { MatchResult result (λ _. GainsLine self.old self.new text.entry end) (λ error. Stops self.old text.entry end error) }
+    fn grow(&mut self, read: Result<(Thread, Act), Cause>, end: usize) -> Result<(), ScriptError>
+        requires { IfOk read (λ line. IsScriptLine line) }
+        ensures { (text : List ℕ) → ReadsLine text read → MatchResult result (λ _. GainsLine self.old self.new text end) (λ error. Stops self.old text end error) }
     {
         if end > MOST_BYTES {
             return Err(self.refusal(Cause::Bytes));
@@ -118,7 +119,7 @@ impl Script {
         if self.lines.len() >= MOST_LINES {
             return Err(self.refusal(Cause::Lines));
         }
-        let line = match read_line(text) {
+        let line = match read {
             Ok(line) => line,
             Err(cause) => return Err(self.refusal(cause)),
         };
@@ -195,11 +196,12 @@ pub fn parse(alloc: Global, bytes: &[u8]) -> Result<Script, ScriptError>
     ensures err { IfErr result (λ error. IsRefusal bytes.now error) }
 {
     let mut script = Script::new(alloc);
+    let mut repeats = Repeats::of(bytes);
     let mut at = 0;
     while at < bytes.len() {
         let end = line_end(bytes, at);
-        let text = Stretch::of(&bytes[at..], end - at);
-        script.grow(text, (end + 1).min(bytes.len()))?;
+        let read = repeats.read(at, end - at);
+        script.grow(read, (end + 1).min(bytes.len()))?;
         at = end + 1;
     }
     Ok(script)

@@ -5,6 +5,7 @@ use Rattle.bridge_script.proofs.scripts.parse.Given as goal
 abbrev pub invariant-loop-at : goal.invariant-loop-at
 invariant-loop-at l = record {
   lawful : IsScript l.script;
+  whole : l.repeats ≡ l.bytes;
   so_far : script_text_of l.script ≡ take l.at (l.bytes ++ 10 ∷ []);
   within : l.at ≤ length l.bytes + 1;
   size : min l.at (length l.bytes) ≤ 8388608;
