@@ -26,6 +26,30 @@ fn add_with_handle<const N: usize>(line: &mut Line, word: [u8; N], h: HNum)
     add_handle(line, h);
 }
 
+// A handle whose number mostly comes in a row: those of a cycle's candidates are weakened and restored one after another. The count goes on at once to
+// the number that comes next there: so its text is long written when that comes.
+#[inline(always)]
+fn add_next_handle(line: &mut Line, h: HNum, count: &mut Count)
+    requires { 40 ≤ line.old.room }
+    ensures { AddsText line.old line.new (32 ∷ handle_text h) 22 }
+{
+    let number = h.0 as u64;
+    count.go_to(number);
+    line.word(*b"h");
+    line.count(count);
+    count.go_to(number + 1);
+}
+
+// A word and a handle whose number mostly comes in a row.
+#[inline(always)]
+fn add_with_next_handle<const N: usize>(line: &mut Line, word: [u8; N], h: HNum, count: &mut Count)
+    requires { N + 41 ≤ line.old.room }
+    ensures { AddsWords line.old line.new (word.entry ∷ handle_text h ∷ []) (N + 23) }
+{
+    line.word(word);
+    add_next_handle(line, h, count);
+}
+
 // `make SORT F`.
 fn add_make(line: &mut Line, sort: Sort, fields: u8)
     requires { 50 ≤ line.old.room }
@@ -80,9 +104,9 @@ fn add_meet(line: &mut Line, v: Var, p: PNum, h: HNum, sort: Sort, fields: u8)
     line.decimal(fields as u64);
 }
 
-/// The words of an event; an operation that is one event has its line's words behind the thread.
+// The words of an event; an operation that is one event has its line's words behind the thread.
 #[inline(always)]
-pub fn add_event(line: &mut Line, thread: Thread, op: &Op)
+fn add_event(line: &mut Line, thread: Thread, op: &Op, count: &mut Count)
     requires { 100 ≤ line.old.room }
     ensures { AddsWords line.old line.new (event_words thread op.now) 100 }
 {
@@ -111,10 +135,10 @@ pub fn add_event(line: &mut Line, thread: Thread, op: &Op)
         Op::Snap { cycle } => add_with_number(line, *b"snap", cycle.0 as u64),
         Op::Contract { cycle } => add_with_number(line, *b"contract", cycle.0 as u64),
         Op::Mirror { cycle } => add_with_number(line, *b"mirror", cycle.0 as u64),
-        Op::Weaken { h } => add_with_handle(line, *b"weaken", h),
+        Op::Weaken { h } => add_with_next_handle(line, *b"weaken", h, count),
         Op::Begin => line.word(*b"begin"),
         Op::Sweep => line.word(*b"sweep"),
-        Op::Restore { h } => add_with_handle(line, *b"restore", h),
+        Op::Restore { h } => add_with_next_handle(line, *b"restore", h, count),
         Op::Clear { cycle } => add_with_number(line, *b"clear", cycle.0 as u64),
         Op::Resolve { cycle } => add_with_number(line, *b"resolve", cycle.0 as u64),
         Op::Abandon { cycle } => add_with_number(line, *b"abandon", cycle.0 as u64),
@@ -175,9 +199,9 @@ fn add_sccs(line: &mut Line, sccs: u32, xrefs: u32)
     add_count(line, xrefs as u64, *b"xrefs");
 }
 
-/// The words of a reply before its list, which are all where it has none.
+// The words of a reply before its list, which are all where it has none.
 #[inline(always)]
-pub fn add_reply(line: &mut Line, reply: &Reply)
+fn add_reply(line: &mut Line, reply: &Reply, count: &mut Count)
     requires { 100 ≤ line.old.room }
     ensures { AddsWords line.old line.new (reply_words reply.now) 100 }
 {
@@ -196,7 +220,7 @@ pub fn add_reply(line: &mut Line, reply: &Reply)
         Reply::Done => line.word(*b"done"),
         Reply::Renewed(h) => {
             line.word(*b"alive");
-            add_handle(line, h);
+            add_next_handle(line, h, count);
         }
         Reply::Cleared => line.word(*b"cleared"),
         Reply::M(m) => add_managed(line, m),
@@ -239,14 +263,16 @@ pub fn list_of(reply: &Reply) -> Option<(Numbers, Span)>
     }
 }
 
-/// The numbers of the entry that was written last and of its line, from which those of the next one mostly follow; and the number that was cited last,
-/// whose text is kept once it is cited again.
+/// The number that mostly comes next, that of the last entry's line, from which the next one's mostly follows; the number that was cited last, whose text
+/// is kept once it is cited again; and the handles that a cycle weakens and restores in a row, and those that it gives.
 #[derive(Drop)]
 pub struct Counts {
     number: Count,
     index: Count,
     last_cited: u64,
     cited: Count,
+    handles: Count,
+    given: Count,
 }
 
 impl Counts {
@@ -257,6 +283,8 @@ impl Counts {
             index: Count::of(0),
             last_cited: 0,
             cited: Count::of(0),
+            handles: Count::of(1),
+            given: Count::of(1),
         }
     }
 }
@@ -267,12 +295,14 @@ pub fn add_head(line: &mut Line, entry: &PackedEntry, counts: &mut Counts)
     requires { 300 ≤ line.old.room }
     ensures { AddsText line.old line.new (head_text entry.now) 300 }
 {
-    counts.number.go_to(entry.number());
+    let number = entry.number();
+    counts.number.go_to(number);
     line.count(&counts.number);
+    counts.number.go_to(number.saturating_add(1));
     add_place(line, entry.caller(), entry.index(), &mut counts.index);
-    add_event(line, entry.caller(), entry.op());
+    add_event(line, entry.caller(), entry.op(), &mut counts.handles);
     line.word(*b"=");
-    add_reply(line, entry.reply());
+    add_reply(line, entry.reply(), &mut counts.given);
 }
 
 // Who made an entry, and on which line of the script.
