@@ -508,6 +508,18 @@ fn find(names: &[Name], h: HNum) -> Option<Name>
 {
     match straight(names, h) {
         Some(name) => Some(name),
+        None => far(names, h),
+    }
+}
+
+// The name of a number, if it is among these, which are sorted by number, where it isn't as far behind the first as its number is greater.
+#[inline(never)]
+fn far(names: &[Name], h: HNum) -> Option<Name>
+    requires { (high : ℕ) × NamesRise 0 high names.now }
+    ensures { result ≡ name_in names.now h }
+{
+    match straight_back(names, h) {
+        Some(name) => Some(name),
         None => search(names, h),
     }
 }
@@ -528,8 +540,24 @@ fn straight(names: &[Name], h: HNum) -> Option<Name>
     }
 }
 
+// The name of a number that stands as far before the last as its number is less: there it is where no number is left out behind it.
+#[inline(always)]
+fn straight_back(names: &[Name], h: HNum) -> Option<Name>
+    requires { (high : ℕ) × NamesRise 0 high names.now }
+    ensures { (e : Name) → result ≡ Some e → name_in names.now h ≡ Some e }
+{
+    let last = names.last()?;
+    let before = last.number.checked_sub(h.0)?;
+    let behind = (names.len() - 1).checked_sub(before as usize)?;
+    let name = names.get(behind)?;
+    if name.number == h.0 {
+        Some(*name)
+    } else {
+        None
+    }
+}
+
 // The name of a number, if it is among these, which are sorted by number. It goes by halves, from the span where the number can stand.
-#[inline(never)]
 fn search(names: &[Name], h: HNum) -> Option<Name>
     requires { (high : ℕ) × NamesRise 0 high names.now }
     ensures { result ≡ name_in names.now h }
