@@ -9,6 +9,9 @@ use Rattle.bridge_graph.specs.declared.graph.Node.{Node}
 use Rattle.bridge_graph.specs.Handles.{handle_at, handles_of}
 use Rattle.bridge_graph.specs.Parts.{IsBridgeNode}
 use Rattle.peer_side.specs.Mirroring.{strong_row}
+use Rattle.peer_side.specs.Mirrors.{MayStand}
+use Rattle.xref_list.specs.declared.components.End.{End as Answered}
+use Rattle.xref_list.specs.Ends.{end_of}
 use Rattle.peer_side.specs.Sides.{PeerModel, Reserve}
 
 -- the peer of the handle of the node with that index; 0 where there is none
@@ -28,6 +31,10 @@ carried_to_peers issued nodes edges = map (λ e. (carried_end issued nodes e.0, 
 abbrev pub IsEdgeEnd : List Node → ℕ → exact.End → Type 0
 IsEdgeEnd nodes temps (exact.node i) = IsBridgeNode nodes i
 IsEdgeEnd nodes temps (exact.temporary t) = t < temps
+
+-- the answered end of an edge is carried to that end of a reference, which may stand
+abbrev pub IsCarried : PeerModel → List Node → ℕ → Answered → exact.End → Type 0
+IsCarried side nodes members end ref = ((e : exact.End) → end ≡ end_of members e → ref ≡ carried_end side.state.peers.issued nodes e) × MayStand side.state.peers.heap side.reserve.temps ref
 
 -- each member of a component is a bridge node
 abbrev pub AreBridgeNodes : List Node → List (List ℕ) → Type 0

@@ -1,6 +1,6 @@
 // The references come to stand.
 
-ghost use Rattle.std.specs.Prelude.{◌≡◌, ℕ, ◌≤◌, [], length, IfOk, OnErr, OnOk, Some, None};
+ghost use Rattle.std.specs.Prelude.{◌≡◌, ℕ, ◌≤◌, [], length, IfOk, IfSome, OnErr, OnOk, Some, None};
 ghost use Rattle.joint_model.specs.Components as exact;
 ghost use Rattle.joint_model.specs.Components.{mirror_edges};
 ghost use Rattle.joint_model.specs.Heaps.{IsLive};
@@ -14,7 +14,7 @@ ghost use Rattle.peer_side.specs.Cycles.{mirrors};
 ghost use Rattle.peer_side.specs.Mirroring.{end_of as ref_end};
 ghost use Rattle.peer_side.specs.Mirrors.{MayStand};
 ghost use Rattle.peer_side.specs.Sides.{seen};
-ghost use Rattle.peer_mirror.specs.Carried.{IsEdgeEnd, carried_end, carried_to_peers, peer_of_node, reserve_installed, with_pushed, AreBridgeNodes, AreHandlesStrong};
+ghost use Rattle.peer_mirror.specs.Carried.{IsCarried, IsEdgeEnd, carried_end, carried_to_peers, peer_of_node, reserve_installed, with_pushed, AreBridgeNodes, AreHandlesStrong};
 
 use bridge_graph::DeadGraph;
 use joint_model::{Cycle, Draw, Op, PNum, Thread};
@@ -82,11 +82,33 @@ fn push_edges(side: &mut PeerSide, graph: &DeadGraph, comps: &Components)
     ensures { side.new ≡ with_pushed side.old (carried_to_peers side.old.state.peers.issued graph.now.nodes (mirror_edges comps.now.comps comps.now.pairs)) }
 {
     let members = comps.len() - comps.heavy();
+    let mut last = None;
     for i in 0..comps.refs() {
         let edge = comps.mirror_edge(i);
-        let from = ref_end(side, graph, edge.0, members);
+        let from = from_end(side, graph, edge.0, members, last);
         let to = ref_end(side, graph, edge.1, members);
         side.push_ref(from, to);
+        last = Some((edge.0, from));
+    }
+}
+
+// The end of a reference, which is at hand where it is that of the reference before: those from one component stand in a row.
+fn from_end(
+    side: &PeerSide,
+    graph: &DeadGraph,
+    end: End,
+    members: u32,
+    last: Option<(End, RefEnd)>,
+) -> RefEnd
+    requires end { (e : exact.End) × (end ≡ end_of members e) × IsEdgeEnd graph.now.nodes side.now.reserve.temps e }
+    requires strong_ones { AreHandlesStrong side.now.state graph.now.nodes }
+    requires last { IfSome last (λ z. IsCarried side.now graph.now.nodes members z.0 (ref_end z.1)) }
+    ensures carried { (e : exact.End) → end ≡ end_of members e → ref_end result ≡ carried_end side.now.state.peers.issued graph.now.nodes e }
+    ensures stands { MayStand side.now.state.peers.heap side.now.reserve.temps (ref_end result) }
+{
+    match last {
+        Some((before, carried)) if before == end => carried,
+        _ => ref_end(side, graph, end, members),
     }
 }
 
