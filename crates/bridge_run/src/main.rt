@@ -67,13 +67,12 @@ mod rows_weakly_read;
 #[cfg(test)]
 mod runs;
 mod statuses;
-mod streams;
 mod top;
 
 use bridge_script::FreeTurn;
 use program::run_program;
 use std::process::ExitCode;
-use streams::{StdSink, StdSource};
+use std_streams::{StdSink, StdSource};
 
 // No clause may stand here, so this only puts the real objects together: what happens with them, and the exit code,
 // are `run_program`'s.

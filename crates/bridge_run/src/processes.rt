@@ -4,7 +4,6 @@ ghost use Rattle.std.specs.Prelude.{Some};
 
 use crate::expecting::{LINKED, LINKED_REPORT, SERIAL, USAGE, expect_text, words_of};
 use crate::program::run_program;
-use crate::streams::{StdSink, StdSource};
 use crate::top::bridge_main;
 use bridge_script::FreeTurn;
 use byte_streams::{ByteSink, PlainSource};
@@ -15,6 +14,7 @@ use std::process::ExitCode;
 use std::sync::Wait;
 use std::test::Fail;
 use std::thread::Threads;
+use std_streams::{StdSink, StdSource};
 
 // A reader and writer that fails at each call.
 #[derive(Drop)]
