@@ -37,11 +37,11 @@ pub enum Lines {
     Two(LogLine, LogLine),
 }
 
-// What is tracked of the peers, and the counts.
+// What is tracked of the peers, and the counts. These stand apart: one that was just written is slow to read together with what stands beside it.
 #[derive(Drop)]
 struct Making {
-    tracker: Tracker,
     grefc: u32,
+    tracker: Tracker,
     gwrefc: u32,
 }
 
@@ -55,6 +55,7 @@ impl Model for Making {
 
 impl Lines {
     // How many there are.
+    #[inline(always)]
     fn len(&self) -> u64
         ensures length { result ≡ length (made_lines self.now) }
         ensures few { result ≤ 2 }
@@ -85,6 +86,7 @@ impl Lines {
     }
 
     // Writes them.
+    #[inline(always)]
     fn write<K: Sink>(
         &self,
         last: &mut LastNumbers,
@@ -157,6 +159,7 @@ impl Making {
     }
 
     // Counts a handle that comes or goes.
+    #[inline(always)]
     fn count(&mut self, mark: Mark)
         ensures counts { (ls : List LogLine) → behind_lines ls self.new ≡ counted (behind_lines ls self.old) mark }
         ensures room { self.new.room ≡ self.old.room }
@@ -170,6 +173,7 @@ impl Making {
     }
 
     // The line of a handle that comes or goes, which is counted.
+    #[inline(always)]
     fn line(&mut self, number: u64, one: Move) -> LogLine
         ensures line { (ls : List LogLine) → behind_lines (ls ++ result ∷ []) self.new ≡ with_line (behind_lines ls self.old) number (change_of one) }
         ensures fits { Fits result }
@@ -181,6 +185,7 @@ impl Making {
     }
 
     // The lines of the handles that come or go by an entry.
+    #[inline(always)]
     fn lines(&mut self, number: u64, moves: Moves) -> Lines
         ensures lines { (ls : List LogLine) → behind_lines (ls ++ made_lines result) self.new ≡ with_lines (behind_lines ls self.old) number (listed moves) }
         ensures fits { All Fits (made_lines result) }
@@ -197,6 +202,7 @@ impl Making {
     }
 
     // The lines of an entry. What goes by the end of a name is seen before the name is free, and what comes is on the peer that it was given on.
+    #[inline(always)]
     fn take(&mut self, entry: &PackedEntry) -> Lines
         requires { 1 ≤ self.old.room }
         ensures lines { (ls : List LogLine) → behind_lines (ls ++ made_lines result) self.new ≡ logged_after (behind_lines ls self.old) entry.now }

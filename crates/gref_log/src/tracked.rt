@@ -52,12 +52,14 @@ impl Model for Tracker {
     ghost invariant = { λ t. vec_capacity t.given ≤ 4294967295 };
 }
 
+#[inline(always)]
 fn one(mark: Mark, h: HNum) -> Moves
     ensures { listed result ≡ record { mark = mark; handle = h.0 } ∷ [] }
 {
     Moves::One(Move { mark, h })
 }
 
+#[inline(always)]
 fn two(first: Mark, h: HNum, second: Mark, g: HNum) -> Moves
     ensures { listed result ≡ record { mark = first; handle = h.0 } ∷ record { mark = second; handle = g.0 } ∷ [] }
 {
@@ -90,6 +92,7 @@ impl Tracker {
     }
 
     // The handle with that number, as it was given; None where there is none.
+    #[inline(always)]
     fn given(&self, h: u32) -> Option<Given>
         ensures { result ≡ numbered_at self.now.tracked.given h }
     {
@@ -100,6 +103,7 @@ impl Tracker {
     }
 
     /// The peer that a handle was given on; 0 where there is no such handle.
+    #[inline(always)]
     pub fn peer_of(&self, h: HNum) -> u32
         ensures { result ≡ peer_given self.now.tracked.given h.0 }
     {
@@ -124,6 +128,7 @@ impl Tracker {
     }
 
     /// The handles that come or go by an event with its reply.
+    #[inline(always)]
     pub fn moves(&self, op: &Op, reply: &Reply) -> Moves
         ensures { listed result ≡ tracked_changes self.now.tracked op.now reply.now }
     {
@@ -142,6 +147,7 @@ impl Tracker {
     }
 
     // A handle was given on a peer. It takes no memory.
+    #[inline(always)]
     fn give(&mut self, peer: u32, strong: bool)
         requires { 1 ≤ self.old.room }
         ensures given { self.new.tracked ≡ with_given self.old.tracked peer strong }
@@ -210,6 +216,7 @@ impl Tracker {
     }
 
     /// Notes an event with its reply. It takes the room of one handle at most, and no memory.
+    #[inline(always)]
     pub fn note(&mut self, caller: Thread, op: &Op, reply: &Reply)
         requires { 1 ≤ self.old.room }
         ensures event { self.new.tracked ≡ tracked_after self.old.tracked caller op.now reply.now }
