@@ -1,16 +1,16 @@
--- A cycle that isn't mirrored yet may be abandoned: the driver makes one entry, keeps nothing of the cycle, and is idle. So a phase that takes memory and finds
--- none leaves the driver idle, after the snapshot by that entry.
+-- A cycle that isn't mirrored yet may be abandoned: the driver makes one entry, keeps nothing of the cycle, and is
+-- idle. So a phase that takes memory and finds none leaves the driver idle, after the snapshot by that entry.
 use Rattle.std.proofs.Common.{◌≡◌, ℕ, ◌≤◌, List, [], ◌∷◌, ◌++◌, None, refl, sym, ap, ◌∙◌, subst}
-use Rattle.joint_model.specs.declared.names.Cycle.{Cycle}
-use Rattle.joint_model.specs.declared.events.Entry.{Entry}
-use Rattle.joint_model.specs.declared.events.Op.TheVariants as op
-use Rattle.joint_model.specs.declared.events.Reply.TheVariants as says
-use Rattle.joint_model.specs.Control.{Stand, idle, snapped, contracted}
+use Rattle.joint_machine.specs.declared.names.Cycle.{Cycle}
+use Rattle.joint_machine.specs.declared.events.Entry.{Entry}
+use Rattle.joint_machine.specs.declared.events.Op.TheVariants as op
+use Rattle.joint_machine.specs.declared.events.Reply.TheVariants as says
+use Rattle.joint_machine.specs.Control.{Stand, idle, snapped, contracted}
 use Rattle.joint_model.specs.Listed.{Answers}
-use Rattle.joint_model.specs.Managed.{Managed}
-use Rattle.joint_model.specs.Told.{nothing}
+use Rattle.joint_machine.specs.Managed.{Managed}
+use Rattle.joint_machine.specs.Told.{nothing}
 use Rattle.xref_list.specs.Listing.{Listing}
-use Rattle.managed_side.specs.declared.opening.Opened.{Opened as Snapshot}
+use Rattle.managed_heap.specs.declared.opening.Opened.{Opened as Snapshot}
 use Rattle.order_table.specs.declared.views.View.{View}
 use Rattle.joint_history.specs.Driven.{DriverMakesNone, DriverStands, IsUnmirrored, MakesAbandon, MayAbandonCycle, driver_entry}
 use Rattle.joint_history.specs.DriverMirrors.{numbered_comps}

@@ -1,23 +1,22 @@
--- The graph of a dead part is the dead part with its rows renumbered by their places: its nodes' numbers rise, its bridge nodes are the rows that hold a
--- handle, and its edges lead where the rows' fields lead inside the dead part.
+-- The graph of a dead part is the dead part with its rows renumbered by their places: its nodes' numbers rise, its
+-- bridge nodes are the rows that hold a handle, and its edges lead where the rows' fields lead inside the dead part.
 use Rattle.std.proofs.Common.{◌≡◌, ℕ, zero, suc, ◌<◌, List, [], ◌∷◌, length, Option, Some, None, refl, sym, ◌∙◌, subst, arith}
 use Rattle.std.specs.Prelude.{Contains, IsSome, slice_get, slice_index}
 use Rattle.std.proofs.lemmas.List.{length-map}
 use Rattle.std.proofs.lemmas.List.Elements.{All-contains}
 use Rattle.std.proofs.lemmas.Option.{same_Some, slice_get_within}
-use Rattle.joint_model.specs.declared.names.HNum.{HNum}
-use Rattle.joint_model.specs.Components.{Rises}
-use Rattle.joint_model.specs.Cycles.{DeadEdge}
-use Rattle.joint_model.specs.Managed.{Managed, handle_of}
-use Rattle.joint_model.specs.Managed.{IsBridge as IsBridgeRow}
-use Rattle.joint_model.proofs.Deciding.{none_some}
-use Rattle.joint_model.proofs.HeapLemmas.{Holds-handle_of}
-use Rattle.joint_model.proofs.Members.{Contains-at, at-Contains}
+use Rattle.joint_machine.specs.declared.names.HNum.{HNum}
+use Rattle.joint_machine.specs.Components.{Rises}
+use Rattle.joint_machine.specs.Cycles.{DeadEdge}
+use Rattle.joint_machine.specs.Managed.{Managed, handle_of, IsBridge as IsBridgeRow}
+use Rattle.joint_machine.proofs.Deciding.{none_some}
+use Rattle.joint_machine.proofs.HeapLemmas.{Holds-handle_of}
+use Rattle.joint_machine.proofs.Members.{Contains-at, at-Contains}
 use Rattle.joint_laws.specs.ManagedInvariants.{IsManagedKept}
 use Rattle.joint_laws.proofs.DriverPeerSteps.{holds-handle_of}
 use Rattle.bridge_graph.specs.declared.graph.Node.{Node}
 use Rattle.bridge_graph.specs.Parts.{Part, IsBridgeNode, IsPart, NodeLeads, numbers_of}
-use Rattle.managed_side.specs.Graphs.{IsDeadGraph, handle_number}
+use Rattle.managed_heap.specs.Graphs.{IsDeadGraph, handle_number}
 use Rattle.joint_history.specs.DriverMirrors.{number_at}
 use Rattle.bridge_cycle.specs.Contracting.{GraphsContractionIsDeadParts}
 use Rattle.bridge_cycle.proofs.Renumbered.{IsRenumbered, contraction_renumbered, get_back, get_map}

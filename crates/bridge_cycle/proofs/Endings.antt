@@ -1,21 +1,21 @@
 -- The cycle's own marking, and the end of the cycle.
 use Rattle.std.proofs.Common.{◌≡◌, inl, inr, ℕ, Bool, true, false, List, [], ◌∷◌, length, Option, Some, None, refl, sym}
-use Rattle.joint_model.specs.declared.names.Cycle.{Cycle}
-use Rattle.joint_model.specs.declared.names.Marking.{Marking}
-use Rattle.joint_model.specs.declared.names.Span.{Span}
-use Rattle.joint_model.specs.declared.names.Thread.TheVariants.{C}
-use Rattle.joint_model.specs.declared.names.Phase.TheVariants as at
-use Rattle.joint_model.specs.declared.names.PhaseWord.TheVariants as word
-use Rattle.joint_model.specs.declared.events.Entry.{Entry}
-use Rattle.joint_model.specs.declared.events.Op.TheVariants as op
-use Rattle.joint_model.specs.declared.events.Reply.TheVariants as says
-use Rattle.joint_model.specs.Control.{OpenSnap, weakening, marked, restored}
+use Rattle.joint_machine.specs.declared.names.Cycle.{Cycle}
+use Rattle.joint_machine.specs.declared.names.Marking.{Marking}
+use Rattle.joint_machine.specs.declared.names.Span.{Span}
+use Rattle.joint_machine.specs.declared.names.Thread.TheVariants.{C}
+use Rattle.joint_machine.specs.declared.names.Phase.TheVariants as at
+use Rattle.joint_machine.specs.declared.names.PhaseWord.TheVariants as word
+use Rattle.joint_machine.specs.declared.events.Entry.{Entry}
+use Rattle.joint_machine.specs.declared.events.Op.TheVariants as op
+use Rattle.joint_machine.specs.declared.events.Reply.TheVariants as says
+use Rattle.joint_machine.specs.Control.{OpenSnap, weakening, marked, restored}
 use Rattle.joint_model.specs.Listed.{Answers, answers_of}
-use Rattle.joint_model.specs.Managed.{Managed, candidates_of}
-use Rattle.joint_model.specs.Phases.{ArePhase, candidates_after}
-use Rattle.joint_model.specs.Told.{nothing, sweep_of}
-use Rattle.managed_side.specs.declared.opening.Opened.{Opened as Snapshot}
-use Rattle.peer_side.specs.declared.side.Swept.{Swept}
+use Rattle.joint_machine.specs.Managed.{Managed, candidates_of}
+use Rattle.joint_machine.specs.Phases.{ArePhase, candidates_after}
+use Rattle.joint_machine.specs.Told.{nothing, sweep_of}
+use Rattle.managed_heap.specs.declared.opening.Opened.{Opened as Snapshot}
+use Rattle.peer_heap.specs.declared.side.Swept.{Swept}
 use Rattle.order_table.specs.declared.views.View.{View}
 use Rattle.joint_history.specs.declared.marks.Begun.{Begun}
 use Rattle.joint_history.specs.Driven.{DriverStands, MakesResolution, MayResolveCycle, driver_entry}

@@ -1,12 +1,13 @@
--- A cycle with gaps: each phase that was run but the last of all had its gap, so how many gaps there were tells the driver's phase, and the other way round.
+-- A cycle with gaps: each phase that was run but the last of all had its gap, so how many gaps there were tells the
+-- driver's phase, and the other way round.
 use Rattle.std.proofs.Common.{◌≡◌, ℕ, ◌+◌, ◌<◌, ◌≤◌, List, [], ◌∷◌, ◌++◌, length, refl, sym, ap, ◌∙◌, subst, arith}
 use Rattle.std.proofs.lemmas.List.{length-append}
-use Rattle.joint_model.specs.declared.names.Phase.{Phase}
-use Rattle.joint_model.specs.declared.names.Phase.TheVariants as at
-use Rattle.joint_model.specs.declared.names.PhaseWord.{PhaseWord}
-use Rattle.joint_model.specs.declared.names.PhaseWord.TheVariants as word
-use Rattle.joint_model.specs.declared.events.Reply.{Reply}
-use Rattle.joint_model.specs.Phases.{phases_of}
+use Rattle.joint_machine.specs.declared.names.Phase.{Phase}
+use Rattle.joint_machine.specs.declared.names.Phase.TheVariants as at
+use Rattle.joint_machine.specs.declared.names.PhaseWord.{PhaseWord}
+use Rattle.joint_machine.specs.declared.names.PhaseWord.TheVariants as word
+use Rattle.joint_machine.specs.declared.events.Reply.{Reply}
+use Rattle.joint_machine.specs.Phases.{phases_of}
 use Rattle.bridge_cycle.specs.Gaps.{IsInGap, StopsInGaps}
 use Rattle.bridge_cycle.specs.Progress.{EndsWithReply, Progress, RunsWords}
 use Rattle.bridge_cycle.specs.Words.{IsPartway, Lacks, next_word, to_come}

@@ -1,21 +1,22 @@
--- One entry of the driver, as a call of the driver's; and where the driver stands after it, by the line of its own last entry.
+-- One entry of the driver, as a call of the driver's; and where the driver stands after it, by the line of its own last
+-- entry.
 use Rattle.std.proofs.Common.{◌≡◌, ℕ, ◌≤◌, List, [], ◌∷◌, ◌++◌, Option, Some, IfSome, refl, sym, ap, ◌∙◌, subst, append_assoc, arith}
 use mathlib.Core.List.{IsPrefix}
 use base.Growing.{prefix_trans}
-use Rattle.joint_model.specs.declared.names.Cycle.{Cycle}
-use Rattle.joint_model.specs.declared.names.Phase.{Phase}
-use Rattle.joint_model.specs.declared.names.PhaseWord.{PhaseWord}
-use Rattle.joint_model.specs.declared.names.Thread.{Thread}
-use Rattle.joint_model.specs.declared.names.Thread.TheVariants.{C}
-use Rattle.joint_model.specs.declared.events.Entry.{Entry}
-use Rattle.joint_model.specs.declared.events.Op.{Op}
-use Rattle.joint_model.specs.declared.events.Reply.{Reply}
-use Rattle.joint_model.specs.Control.{Stand, last_line as control_line}
-use Rattle.joint_model.specs.HistoryLines.{caller_line}
-use Rattle.joint_model.specs.Lines.{IsDriver}
-use Rattle.joint_model.specs.Managed.{Managed}
-use Rattle.joint_model.specs.Phases.{ArePhase, ArePhases, candidates_after, next_phase, told_by}
-use Rattle.joint_model.specs.Told.{Told}
+use Rattle.joint_machine.specs.declared.names.Cycle.{Cycle}
+use Rattle.joint_machine.specs.declared.names.Phase.{Phase}
+use Rattle.joint_machine.specs.declared.names.PhaseWord.{PhaseWord}
+use Rattle.joint_machine.specs.declared.names.Thread.{Thread}
+use Rattle.joint_machine.specs.declared.names.Thread.TheVariants.{C}
+use Rattle.joint_machine.specs.declared.events.Entry.{Entry}
+use Rattle.joint_machine.specs.declared.events.Op.{Op}
+use Rattle.joint_machine.specs.declared.events.Reply.{Reply}
+use Rattle.joint_machine.specs.Control.{Stand, last_line as control_line}
+use Rattle.joint_machine.specs.HistoryLines.{caller_line}
+use Rattle.joint_machine.specs.Lines.{IsDriver}
+use Rattle.joint_machine.specs.Managed.{Managed}
+use Rattle.joint_machine.specs.Phases.{ArePhase, ArePhases, candidates_after, next_phase, told_by}
+use Rattle.joint_machine.specs.Told.{Told}
 use Rattle.known_laws.specs.Pasts.{end_of}
 use Rattle.order_table.specs.declared.views.View.{View}
 use Rattle.order_table.specs.Views.{known}

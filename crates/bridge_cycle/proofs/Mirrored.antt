@@ -1,12 +1,12 @@
 -- The mirror: what it asks for is what the driver keeps, and what it leaves the driver keeps again.
 use Rattle.std.proofs.Common.{ℕ, List, Some, refl, ap}
-use Rattle.joint_model.specs.declared.names.Cycle.{Cycle}
-use Rattle.joint_model.specs.declared.events.Op.TheVariants as op
-use Rattle.joint_model.specs.declared.events.Reply.TheVariants as says
-use Rattle.joint_model.specs.Control.{contracted}
+use Rattle.joint_machine.specs.declared.names.Cycle.{Cycle}
+use Rattle.joint_machine.specs.declared.events.Op.TheVariants as op
+use Rattle.joint_machine.specs.declared.events.Reply.TheVariants as says
+use Rattle.joint_machine.specs.Control.{contracted}
 use Rattle.joint_model.specs.Listed.{Answers}
 use Rattle.xref_list.specs.Listing.{Listing}
-use Rattle.managed_side.specs.declared.opening.Opened.{Opened as Snapshot}
+use Rattle.managed_heap.specs.declared.opening.Opened.{Opened as Snapshot}
 use Rattle.order_table.specs.declared.views.View.{View}
 use Rattle.joint_history.specs.Driven.{DriverStands}
 use Rattle.joint_history.specs.DriverMirrors.{IsListedBy, MakesMirror, MayMirrorCycle, numbered_comps}

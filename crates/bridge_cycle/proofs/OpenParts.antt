@@ -1,9 +1,10 @@
--- A driver that isn't idle has a snapshot, whose graph is that of the open cycle's dead part; and where the driver stands names the cycle.
+-- A driver that isn't idle has a snapshot, whose graph is that of the open cycle's dead part; and where the driver
+-- stands names the cycle.
 use Rattle.std.proofs.Common.{◌≡◌, ℕ, Option, Some, IfSome, ap, ◌∙◌, subst}
-use Rattle.joint_model.specs.declared.names.Cycle.{Cycle}
-use Rattle.joint_model.specs.Control.{Stand}
+use Rattle.joint_machine.specs.declared.names.Cycle.{Cycle}
+use Rattle.joint_machine.specs.Control.{Stand}
 use Rattle.known_laws.specs.Facts as facts
-use Rattle.managed_side.specs.declared.opening.Opened.{Opened as Snapshot}
+use Rattle.managed_heap.specs.declared.opening.Opened.{Opened as Snapshot}
 use Rattle.bridge_cycle.specs.declared.stages.Stage.{Stage}
 use Rattle.bridge_cycle.specs.declared.stages.Stage.TheVariants as stage
 use Rattle.bridge_cycle.specs.Held.{Fields, IsAt, IsOfCycle, KnowsItsStand, cycle_of, shown, snapshot_in}

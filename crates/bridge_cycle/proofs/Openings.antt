@@ -2,18 +2,18 @@
 use Rattle.std.proofs.Common.{◌≡◌, ℕ, ◌+◌, List, [], length, map, None, refl, sym, ap, ◌∙◌, subst}
 use Rattle.std.proofs.lemmas.List.{length-map}
 use Rattle.std.proofs.lemmas.Option.{same_Some}
-use Rattle.joint_model.specs.declared.names.Cycle.{Cycle}
-use Rattle.joint_model.specs.declared.events.Op.TheVariants as op
-use Rattle.joint_model.specs.declared.events.Reply.TheVariants as says
-use Rattle.joint_model.specs.Components.{IsContraction}
-use Rattle.joint_model.specs.Control.{idle, snapped}
-use Rattle.joint_model.specs.Cycles.{IsDeadContraction}
+use Rattle.joint_machine.specs.declared.names.Cycle.{Cycle}
+use Rattle.joint_machine.specs.declared.events.Op.TheVariants as op
+use Rattle.joint_machine.specs.declared.events.Reply.TheVariants as says
+use Rattle.joint_machine.specs.Components.{IsContraction}
+use Rattle.joint_machine.specs.Control.{idle, snapped}
+use Rattle.joint_machine.specs.Cycles.{IsDeadContraction}
 use Rattle.joint_model.specs.Listed.{Answers}
-use Rattle.joint_model.specs.Managed.{OpenCycle}
-use Rattle.joint_model.proofs.HeapLemmas.{candidates_of-open}
+use Rattle.joint_machine.specs.Managed.{OpenCycle}
+use Rattle.joint_machine.proofs.HeapLemmas.{candidates_of-open}
 use Rattle.bridge_graph.specs.Parts.{IsBridgeNode, IsPart, NodeLeads}
 use Rattle.xref_list.specs.Listing.{Listing}
-use Rattle.managed_side.specs.declared.opening.Opened.{Opened as Snapshot}
+use Rattle.managed_heap.specs.declared.opening.Opened.{Opened as Snapshot}
 use Rattle.order_table.specs.declared.views.View.{View}
 use Rattle.joint_history.specs.Driven.{DriverRests, DriverStands, HasContraction, MakesContraction, MayContractCycle}
 use Rattle.joint_history.specs.DriverSnaps.{MakesSnapshot}

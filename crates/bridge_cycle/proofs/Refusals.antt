@@ -1,30 +1,29 @@
--- What every stage of the driver has in common: its phase is that of the stand, and a cycle is open but in the idle one. So a word may be refused, and notices
--- taken, and the driver keeps what it kept.
+-- What every stage of the driver has in common: its phase is that of the stand, and a cycle is open but in the idle
+-- one. So a word may be refused, and notices taken, and the driver keeps what it kept.
 use Rattle.std.proofs.Common.{◌≡◌, ◌⊎◌, inl, inr, ℕ, ◌≤◌, [], ◌∷◌, length, Option, Some, None, IfSome, refl, sym, ap, ◌∙◌, subst, arith}
 use mathlib.Core.List.{IsPrefix}
-use Rattle.joint_model.specs.declared.names.Cycle.{Cycle}
-use Rattle.joint_model.specs.declared.names.Thread.{Thread}
-use Rattle.joint_model.specs.declared.names.Thread.TheVariants.{M, P, C}
-use Rattle.joint_model.specs.declared.names.Phase.{Phase}
-use Rattle.joint_model.specs.declared.names.Phase.TheVariants as at
-use Rattle.joint_model.specs.declared.names.PhaseWord.{PhaseWord}
-use Rattle.joint_model.specs.declared.names.PhaseWord.TheVariants as word
-use Rattle.joint_model.specs.declared.lines.Act.{Act}
-use Rattle.joint_model.specs.declared.lines.Act.TheVariants as act
-use Rattle.joint_model.specs.declared.events.Entry.{Entry}
-use Rattle.joint_model.specs.declared.events.Op.TheVariants as op
-use Rattle.joint_model.specs.declared.events.Reply.{Reply}
-use Rattle.joint_model.specs.Control.{Stand, idle, IsAtRest, IsPhaseOf}
-use Rattle.joint_model.specs.Control.{last_line as control_line}
-use Rattle.joint_model.specs.Lines.{IsDriver}
-use Rattle.joint_model.specs.Managed.{Managed, OpenCycle, candidates_of}
-use Rattle.joint_model.specs.ManagedReplay.{IsRefusedIn, refusal_to, open_reply}
-use Rattle.joint_model.specs.Phases.{AreRefusal, NamesCycle, NamesPhase, next_phase, told_by}
-use Rattle.joint_model.specs.Told.{nothing, phase_of as told_phase}
-use Rattle.joint_model.proofs.Deciding.{none_some}
+use Rattle.joint_machine.specs.declared.names.Cycle.{Cycle}
+use Rattle.joint_machine.specs.declared.names.Thread.{Thread}
+use Rattle.joint_machine.specs.declared.names.Thread.TheVariants.{M, P, C}
+use Rattle.joint_machine.specs.declared.names.Phase.{Phase}
+use Rattle.joint_machine.specs.declared.names.Phase.TheVariants as at
+use Rattle.joint_machine.specs.declared.names.PhaseWord.{PhaseWord}
+use Rattle.joint_machine.specs.declared.names.PhaseWord.TheVariants as word
+use Rattle.joint_machine.specs.declared.lines.Act.{Act}
+use Rattle.joint_machine.specs.declared.lines.Act.TheVariants as act
+use Rattle.joint_machine.specs.declared.events.Entry.{Entry}
+use Rattle.joint_machine.specs.declared.events.Op.TheVariants as op
+use Rattle.joint_machine.specs.declared.events.Reply.{Reply}
+use Rattle.joint_machine.specs.Control.{Stand, idle, IsAtRest, IsPhaseOf, last_line as control_line}
+use Rattle.joint_machine.specs.Lines.{IsDriver}
+use Rattle.joint_machine.specs.Managed.{Managed, OpenCycle, candidates_of}
+use Rattle.joint_machine.specs.ManagedReplay.{IsRefusedIn, refusal_to, open_reply}
+use Rattle.joint_machine.specs.Phases.{AreRefusal, NamesCycle, NamesPhase, next_phase, told_by}
+use Rattle.joint_machine.specs.Told.{nothing, phase_of as told_phase}
+use Rattle.joint_machine.proofs.Deciding.{none_some}
 use Rattle.known_laws.specs.Pasts.{end_of}
 use Rattle.known_laws.proofs.Conditions.{phase_is_at_rest}
-use Rattle.managed_side.specs.declared.opening.Opened.{Opened as Snapshot}
+use Rattle.managed_heap.specs.declared.opening.Opened.{Opened as Snapshot}
 use Rattle.order_table.specs.declared.views.View.{View}
 use Rattle.order_table.specs.Views.{known}
 use Rattle.joint_history.specs.Callers.{Hears, KnowsNothing, Pass, last_index, reads_of}

@@ -1,15 +1,16 @@
--- A graph whose nodes are renumbered, each by a number of its own that rises with it, has the same contraction under the new numbers. Walks go over node
--- by node in both directions: an edge leads only between nodes, and each edge of the renumbered graph is that of two nodes. So the components that meet in a
--- class are the same, and a class is heavy under the new numbers where it is under the old ones.
+-- A graph whose nodes are renumbered, each by a number of its own that rises with it, has the same contraction under
+-- the new numbers. Walks go over node by node in both directions: an edge leads only between nodes, and each edge of
+-- the renumbered graph is that of two nodes. So the components that meet in a class are the same, and a class is heavy
+-- under the new numbers where it is under the old ones.
 use Rattle.std.proofs.Common.{◌≡◌, ◌↔◌, ⊎_elim, ℕ, zero, suc, ◌+◌, ◌*◌, ◌<◌, ◌≤◌, length-append, List, [], ◌∷◌, ◌++◌, length, map, Some, refl, sym, ap, ◌∙◌, subst, arith}
 use Rattle.std.specs.Prelude.{All, Contains, slice_get, slice_index}
 use Rattle.std.proofs.lemmas.Bool.{cases_lt}
 use Rattle.std.proofs.lemmas.List.{length-map, map-append}
 use Rattle.std.proofs.lemmas.List.Elements.{All-contains, All-head, All-tail, Contains-append_cases}
 use Rattle.std.proofs.lemmas.Option.{same_Some, slice_get-get_or}
-use Rattle.joint_model.specs.Walks.{Walks, Reaches, Mutual}
-use Rattle.joint_model.specs.Components.{IsContraction, IsCanonical, IsCrossReference, IsFirst, IsHeavy, IsLeast, IsMember, IsPlainClass, IsUnreported, Leads, LeadsIn, LeadsOut, Rises, first_of, stand_at}
-use Rattle.joint_model.proofs.Members.{All-members, Contains-at, Contains-cons_cases, Contains-here, Contains-map, Contains-map_cases, Contains-nil, Contains-there}
+use Rattle.joint_machine.specs.Walks.{Walks, Reaches, Mutual}
+use Rattle.joint_machine.specs.Components.{IsContraction, IsCanonical, IsCrossReference, IsFirst, IsHeavy, IsLeast, IsMember, IsPlainClass, IsUnreported, Leads, LeadsIn, LeadsOut, Rises, first_of, stand_at}
+use Rattle.joint_machine.proofs.Members.{All-members, Contains-at, Contains-cons_cases, Contains-here, Contains-map, Contains-map_cases, Contains-nil, Contains-there}
 
 pub get_map : {A B : Type 0} (v : A → B) (xs : List A) (i : ℕ) (x : A) → slice_get xs i ≡ Some x → slice_get (map v xs) i ≡ Some (v x)
 get_map v [] i x e = absurd (cc)

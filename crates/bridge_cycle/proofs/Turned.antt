@@ -1,24 +1,24 @@
--- Handles that are weakened or restored one after another: the next bridge node's handle is that of the next candidate, and one more entry comes after those
--- before it.
+-- Handles that are weakened or restored one after another: the next bridge node's handle is that of the next candidate,
+-- and one more entry comes after those before it.
 use Rattle.std.proofs.Common.{◌≡◌, ℕ, suc, ◌+◌, ◌≤◌, true, false, List, [], ◌∷◌, ◌++◌, length, take, drop, Option, Some, None, refl, sym, ap, ◌∙◌, subst, arith, length-append}
 use Rattle.std.specs.Prelude.{slice_get}
 use Rattle.std.specs.Option.{option_to_list}
 use Rattle.std.proofs.lemmas.Grind.{flat_map-append}
 use Rattle.std.proofs.lemmas.List.{take_all, take-append-drop}
 use base.Growing.{prefix_refl}
-use Rattle.joint_model.specs.declared.names.Cycle.{Cycle}
-use Rattle.joint_model.specs.declared.names.HNum.{HNum}
-use Rattle.joint_model.specs.declared.names.PhaseWord.{PhaseWord}
-use Rattle.joint_model.specs.declared.names.PhaseWord.TheVariants as word
-use Rattle.joint_model.specs.declared.names.Thread.TheVariants.{C}
-use Rattle.joint_model.specs.declared.events.Entry.{Entry}
-use Rattle.joint_model.specs.declared.events.Op.TheVariants as op
-use Rattle.joint_model.specs.declared.events.Reply.TheVariants as says
-use Rattle.joint_model.specs.Control.{weakening, restoring, answer_in}
-use Rattle.joint_model.specs.HistoryLines.{caller_line}
+use Rattle.joint_machine.specs.declared.names.Cycle.{Cycle}
+use Rattle.joint_machine.specs.declared.names.HNum.{HNum}
+use Rattle.joint_machine.specs.declared.names.PhaseWord.{PhaseWord}
+use Rattle.joint_machine.specs.declared.names.PhaseWord.TheVariants as word
+use Rattle.joint_machine.specs.declared.names.Thread.TheVariants.{C}
+use Rattle.joint_machine.specs.declared.events.Entry.{Entry}
+use Rattle.joint_machine.specs.declared.events.Op.TheVariants as op
+use Rattle.joint_machine.specs.declared.events.Reply.TheVariants as says
+use Rattle.joint_machine.specs.Control.{weakening, restoring, answer_in}
+use Rattle.joint_machine.specs.HistoryLines.{caller_line}
 use Rattle.joint_model.specs.Listed.{answer_of, answers_of}
-use Rattle.joint_model.specs.Phases.{AreEach, IsEventOf, candidates_after, told_by}
-use Rattle.joint_model.specs.Told.{Answer, nothing}
+use Rattle.joint_machine.specs.Phases.{AreEach, IsEventOf, candidates_after, told_by}
+use Rattle.joint_machine.specs.Told.{Answer, nothing}
 use Rattle.bridge_graph.specs.declared.graph.Node.{Node}
 use Rattle.bridge_graph.specs.Handles.{handles_of}
 use Rattle.bridge_graph.specs.Parts.{HasNode}
@@ -28,7 +28,7 @@ use Rattle.global_handles.specs.Rows.{back_of}
 use Rattle.handle_weaken.proofs.Turns.{done-none, done-some, left-none, left-some}
 use Rattle.order_table.specs.declared.views.View.{View}
 use Rattle.order_table.specs.Views.{known}
-use Rattle.peer_side.specs.Cycles.{reply_of}
+use Rattle.peer_heap.specs.Cycles.{reply_of}
 use Rattle.joint_history.specs.Driven.{DriverStands, driver_entry}
 use Rattle.joint_history.specs.DriverHandles.{MakesRestore, MakesWeaken, MayRestoreHandle, MayWeakenHandle}
 use Rattle.joint_history.specs.Knowing.{line_known}

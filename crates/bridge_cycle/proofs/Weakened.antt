@@ -1,14 +1,14 @@
 -- Weakening: what it asks for is what the driver keeps, and what it leaves the driver keeps again.
 use Rattle.std.proofs.Common.{◌≡◌, ℕ, false, [], length, refl, sym, ◌∙◌, subst}
-use Rattle.joint_model.specs.declared.names.Cycle.{Cycle}
-use Rattle.joint_model.specs.declared.names.Phase.TheVariants as at
-use Rattle.joint_model.specs.declared.names.PhaseWord.TheVariants as word
-use Rattle.joint_model.specs.declared.events.Reply.TheVariants as says
-use Rattle.joint_model.specs.Control.{weakening}
+use Rattle.joint_machine.specs.declared.names.Cycle.{Cycle}
+use Rattle.joint_machine.specs.declared.names.Phase.TheVariants as at
+use Rattle.joint_machine.specs.declared.names.PhaseWord.TheVariants as word
+use Rattle.joint_machine.specs.declared.events.Reply.TheVariants as says
+use Rattle.joint_machine.specs.Control.{weakening}
 use Rattle.joint_model.specs.Listed.{Answers}
-use Rattle.joint_model.specs.Phases.{AreTimes}
+use Rattle.joint_machine.specs.Phases.{AreTimes}
 use Rattle.bridge_graph.specs.Handles.{handles_of}
-use Rattle.managed_side.specs.declared.opening.Opened.{Opened as Snapshot}
+use Rattle.managed_heap.specs.declared.opening.Opened.{Opened as Snapshot}
 use Rattle.order_table.specs.declared.views.View.{View}
 use Rattle.joint_history.specs.Driven.{DriverStands}
 use Rattle.bridge_cycle.specs.declared.stages.Stage.TheVariants as stage

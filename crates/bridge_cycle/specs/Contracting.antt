@@ -1,12 +1,12 @@
--- The contraction of a dead part, as the driver gets it from the dead part's graph: components of node indexes and heavy classes, read through the
--- nodes' numbers.
+-- The contraction of a dead part, as the driver gets it from the dead part's graph: components of node indexes and
+-- heavy classes, read through the nodes' numbers.
 use Rattle.std.specs.Prelude.{ℕ, List, map}
-use Rattle.joint_model.specs.Components.{IsContraction}
-use Rattle.joint_model.specs.Cycles.{IsDeadContraction}
-use Rattle.joint_model.specs.Managed.{Managed}
+use Rattle.joint_machine.specs.Components.{IsContraction}
+use Rattle.joint_machine.specs.Cycles.{IsDeadContraction}
+use Rattle.joint_machine.specs.Managed.{Managed}
 use Rattle.joint_laws.specs.ManagedInvariants.{IsManagedKept}
 use Rattle.bridge_graph.specs.Parts.{Part, IsBridgeNode, IsPart, NodeLeads}
-use Rattle.managed_side.specs.Graphs.{IsDeadGraph}
+use Rattle.managed_heap.specs.Graphs.{IsDeadGraph}
 use Rattle.joint_history.specs.DriverMirrors.{number_at, numbered_comps}
 
 -- the contraction of a dead part's graph is, by the nodes' numbers, the contraction of the dead part

@@ -1,8 +1,8 @@
 -- The gaps of a cycle: there is one after each phase but the last, in which others than the driver have a turn.
 use Rattle.std.specs.Prelude.{◌≡◌, ℕ, List, [], ◌∷◌, length, slice_get, Some}
-use Rattle.joint_model.specs.declared.names.Phase.{Phase}
-use Rattle.joint_model.specs.declared.names.Phase.TheVariants as at
-use Rattle.joint_model.specs.declared.names.PhaseWord.{PhaseWord}
+use Rattle.joint_machine.specs.declared.names.Phase.{Phase}
+use Rattle.joint_machine.specs.declared.names.Phase.TheVariants as at
+use Rattle.joint_machine.specs.declared.names.PhaseWord.{PhaseWord}
 use Rattle.bridge_cycle.specs.Progress.{Progress, StopsForMemory}
 
 -- the phases behind which there is a gap, in order

@@ -1,8 +1,8 @@
 -- The candidates' handles, as the dead part's graph has them.
 use Rattle.std.specs.Prelude.{◌≡◌, ℕ, List, length, slice_get, Some}
-use Rattle.joint_model.specs.declared.names.HNum.{HNum}
-use Rattle.joint_model.specs.Control.{IsCandidateHandle}
-use Rattle.joint_model.specs.Managed.{Managed, candidates_of}
+use Rattle.joint_machine.specs.declared.names.HNum.{HNum}
+use Rattle.joint_machine.specs.Control.{IsCandidateHandle}
+use Rattle.joint_machine.specs.Managed.{Managed, candidates_of}
 use Rattle.bridge_graph.specs.declared.graph.Node.{Node}
 use Rattle.bridge_graph.specs.Handles.{handles_of}
 

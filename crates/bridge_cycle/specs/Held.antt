@@ -1,16 +1,17 @@
--- The driver's stage, and what the driver knows in it: where it stands, and that what the stage has is that of the open cycle. What it has seen of the
--- managed objects at the snapshot is the same until the cycle ends, since the dead part is frozen; and so are the graph, the candidates and the components.
+-- The driver's stage, and what the driver knows in it: where it stands, and that what the stage has is that of the open
+-- cycle. What it has seen of the managed objects at the snapshot is the same until the cycle ends, since the dead part
+-- is frozen; and so are the graph, the candidates and the components.
 use Rattle.std.specs.Prelude.{◌≡◌, ℕ, Bool, false, List, [], length, Option, Some, None, IfSome}
-use Rattle.joint_model.specs.declared.names.Cycle.{Cycle}
-use Rattle.joint_model.specs.declared.names.Phase.{Phase}
-use Rattle.joint_model.specs.declared.names.Phase.TheVariants as at
-use Rattle.joint_model.specs.Control.{OpenSnap, Stand, idle, snapped, contracted, weakening, marked, restoring, restored}
+use Rattle.joint_machine.specs.declared.names.Cycle.{Cycle}
+use Rattle.joint_machine.specs.declared.names.Phase.{Phase}
+use Rattle.joint_machine.specs.declared.names.Phase.TheVariants as at
+use Rattle.joint_machine.specs.Control.{OpenSnap, Stand, idle, snapped, contracted, weakening, marked, restoring, restored}
 use Rattle.joint_model.specs.Listed.{Answers, answers_of}
-use Rattle.joint_model.specs.Managed.{Managed, OpenCycle, candidates_of}
+use Rattle.joint_machine.specs.Managed.{Managed, OpenCycle, candidates_of}
 use Rattle.joint_laws.specs.ManagedInvariants.{IsManagedKept}
 use Rattle.bridge_graph.specs.Parts.{IsPart}
-use Rattle.managed_side.specs.declared.opening.Opened.{Opened as Snapshot}
-use Rattle.managed_side.specs.Graphs.{IsDeadGraph}
+use Rattle.managed_heap.specs.declared.opening.Opened.{Opened as Snapshot}
+use Rattle.managed_heap.specs.Graphs.{IsDeadGraph}
 use Rattle.order_table.specs.declared.views.View.{View}
 use Rattle.joint_history.specs.Driven.{DriverStands}
 use Rattle.joint_history.specs.DriverMirrors.{numbered_comps}

@@ -1,24 +1,25 @@
 -- What contracts see of the driver, and what its calls do: they make entries, which are the events of phases.
 use Rattle.std.specs.Prelude.{◌≡◌, ℕ, List, [], ◌∷◌, ◌++◌, Option, Some, None}
-use Rattle.joint_model.specs.declared.names.Cycle.{Cycle}
-use Rattle.joint_model.specs.declared.names.Phase.{Phase}
-use Rattle.joint_model.specs.declared.names.Phase.TheVariants as at
-use Rattle.joint_model.specs.declared.names.PhaseWord.{PhaseWord}
-use Rattle.joint_model.specs.declared.names.PhaseWord.TheVariants as word
-use Rattle.joint_model.specs.declared.names.Thread.TheVariants.{C}
-use Rattle.joint_model.specs.declared.lines.Act.{Act}
-use Rattle.joint_model.specs.declared.lines.Act.TheVariants as act
-use Rattle.joint_model.specs.declared.events.Entry.{Entry}
-use Rattle.joint_model.specs.declared.events.Op.{Op}
-use Rattle.joint_model.specs.declared.events.Op.TheVariants as op
-use Rattle.joint_model.specs.declared.events.Reply.{Reply}
-use Rattle.joint_model.specs.declared.events.Reply.TheVariants as says
-use Rattle.joint_model.specs.Phases.{next_phase, phases_of, ArePhases, AreRefusal, candidates_after}
+use Rattle.joint_machine.specs.declared.names.Cycle.{Cycle}
+use Rattle.joint_machine.specs.declared.names.Phase.{Phase}
+use Rattle.joint_machine.specs.declared.names.Phase.TheVariants as at
+use Rattle.joint_machine.specs.declared.names.PhaseWord.{PhaseWord}
+use Rattle.joint_machine.specs.declared.names.PhaseWord.TheVariants as word
+use Rattle.joint_machine.specs.declared.names.Thread.TheVariants.{C}
+use Rattle.joint_machine.specs.declared.lines.Act.{Act}
+use Rattle.joint_machine.specs.declared.lines.Act.TheVariants as act
+use Rattle.joint_machine.specs.declared.events.Entry.{Entry}
+use Rattle.joint_machine.specs.declared.events.Op.{Op}
+use Rattle.joint_machine.specs.declared.events.Op.TheVariants as op
+use Rattle.joint_machine.specs.declared.events.Reply.{Reply}
+use Rattle.joint_machine.specs.declared.events.Reply.TheVariants as says
+use Rattle.joint_machine.specs.Phases.{next_phase, phases_of, ArePhases, AreRefusal, candidates_after}
 use Rattle.order_table.specs.declared.views.View.{View}
 use Rattle.joint_history.specs.Callers.{Pass, last_index, no_reads, own}
 use Rattle.joint_history.specs.Operations.{MakesAll}
 
--- what the driver knows, the phase that it has come to, the cycle that it opened last, or 0, and how many candidates that one has
+-- what the driver knows, the phase that it has come to, the cycle that it opened last, or 0, and how many candidates
+-- that one has
 pub record Progress : Type 0 where
   pub view : View
   pub phase : Phase
@@ -53,7 +54,8 @@ last_reply [] = says.Ok
 last_reply (e ∷ []) = e.made.reply
 last_reply (e ∷ f ∷ es) = last_reply (f ∷ es)
 
--- the driver made these entries, on that line: they are its last ones, with numbers above all that it knew, and it knows all that it knew
+-- the driver made these entries, on that line: they are its last ones, with numbers above all that it knew, and it
+-- knows all that it knew
 pub record Enters (old new : Progress) (index : ℕ) (entries : List Entry) : Type 0 where
   pub made : MakesAll C old.view new.view entries
   pub places : AreDriversOnLine index entries
@@ -135,7 +137,8 @@ pub record RunsLine (old new : Progress) (index : ℕ) (a : Act) (reply : Reply)
   pub runs : RunsAct old new index a entries
   pub last : reply ≡ last_reply entries
 
--- a line found no memory: it made nothing, or its first phases and, where it had opened a cycle, the entry that abandons it
+-- a line found no memory: it made nothing, or its first phases and, where it had opened a cycle, the entry that
+-- abandons it
 abbrev pub BreaksWord : Progress → Progress → ℕ → PhaseWord → Option Phase → Type 0
 BreaksWord old new index w None = RunsWords old new index []
 BreaksWord old new index w (Some next) = StopsForMemory old new index (phases_of w)

@@ -1,7 +1,8 @@
-// The next phase: the stage is taken apart, its entries are made, and the driver is in the next stage, or has abandoned the cycle.
+// The next phase: the stage is taken apart, its entries are made, and the driver is in the next stage, or has abandoned
+// the cycle.
 
 ghost use Rattle.std.specs.Prelude.{◌≡◌, ℕ, ◌≤◌, List, [], ◌∷◌, length, IfOk, OnErr};
-ghost use Rattle.joint_model.specs.Components.{IsContraction};
+ghost use Rattle.joint_machine.specs.Components.{IsContraction};
 ghost use Rattle.bridge_graph.specs.Parts.{IsBridgeNode, IsPart, NodeLeads};
 ghost use Rattle.bridge_cycle.specs.Progress.{EndsWithReply, line_of};
 ghost use Rattle.bridge_cycle.specs.Words.{Lacks, next_word};
@@ -41,8 +42,9 @@ fn components_of(
 }
 
 impl<N: OrderName> Driver<N> {
-    /// Runs the next phase. Answers `AllocError` where there is no memory, which only the first three take; after the snapshot the cycle is abandoned then,
-    /// whose dead part is left as it is for a later cycle to find. The driver is idle in either case.
+    /// Runs the next phase. Answers `AllocError` where there is no memory, which only the first three take; after the
+    /// snapshot the cycle is abandoned then, whose dead part is left as it is for a later cycle to find. The driver is
+    /// idle in either case.
     pub(crate) fn advance<K: Keeps<N>>(
         &mut self,
         rt: &impl Wait,

@@ -1,8 +1,8 @@
 // The driver and what it keeps.
 
 ghost use Rattle.std.specs.Prelude.{◌≡◌, ◌↔◌, IfSome, IsNone};
-ghost use Rattle.joint_model.specs.Lines.{IsDriver};
-ghost use Rattle.joint_model.specs.declared.names.Phase.TheVariants.{Idle};
+ghost use Rattle.joint_machine.specs.Lines.{IsDriver};
+ghost use Rattle.joint_machine.specs.declared.names.Phase.TheVariants.{Idle};
 ghost use Rattle.joint_history.specs.Callers.{Hears, Tells};
 ghost use Rattle.joint_history.specs.Ending.{HasIdleDriver};
 ghost use Rattle.bridge_cycle.specs.OpenParts.{IsOpenPart};
@@ -15,8 +15,8 @@ use joint_model::{Cycle, Phase};
 use order_table::OrderName;
 use std::marker::Model;
 
-/// The driver of the bridge: the caller of thread `c`, and its stage, with what it keeps of the open cycle. Contracts see what it knows, its phase, and
-/// the number of the cycle that it opened last and of that cycle's candidates.
+/// The driver of the bridge: the caller of thread `c`, and its stage, with what it keeps of the open cycle. Contracts
+/// see what it knows, its phase, and the number of the cycle that it opened last and of that cycle's candidates.
 #[derive(Drop)]
 pub struct Driver<N: OrderName> {
     pub(crate) caller: Caller<N>,
@@ -26,7 +26,7 @@ pub struct Driver<N: OrderName> {
 }
 
 impl<N: OrderName> Model for Driver<N> {
-    ghost use Rattle.joint_model.specs.Lines.{IsDriver};
+    ghost use Rattle.joint_machine.specs.Lines.{IsDriver};
     ghost use Rattle.bridge_cycle.specs.Held.{KnowsItsStand, shown};
     ghost use Rattle.bridge_cycle.specs.Progress.{Progress};
 
@@ -70,7 +70,8 @@ impl<N: OrderName> Driver<N> {
         self.stage.phase()
     }
 
-    /// The graph of the open cycle's dead part, as the snapshot took it: the dead part is frozen until the cycle ends. None exactly where no cycle is open.
+    /// The graph of the open cycle's dead part, as the snapshot took it: the dead part is frozen until the cycle ends.
+    /// None exactly where no cycle is open.
     pub fn graph(&self) -> Option<&DeadGraph>
         ensures idle { IsNone result ↔ (self.now.phase ≡ Idle) }
         ensures graph { IfSome result (λ g. IsOpenPart self.now.view self.now.cycle g.now) }
@@ -95,7 +96,8 @@ impl<N: OrderName> Driver<N> {
         self.caller
     }
 
-    /// The driver is told all that a caller knows. It makes no entry, changes nothing else of the driver, and takes no lock and no memory.
+    /// The driver is told all that a caller knows. It makes no entry, changes nothing else of the driver, and takes no
+    /// lock and no memory.
     pub fn hear<K: Keeps<N>>(&mut self, shared: &Shared<N, K>, from: &mut Caller<N>)
         ensures from { Tells from.old from.new }
         ensures hears { Hears from.old (pass_of self.old) (pass_of self.new) }
@@ -105,7 +107,8 @@ impl<N: OrderName> Driver<N> {
         shared.tell(from, &mut self.caller);
     }
 
-    /// Tells a caller all that the driver knows. It makes no entry, changes nothing else of the driver, and takes no lock and no memory.
+    /// Tells a caller all that the driver knows. It makes no entry, changes nothing else of the driver, and takes no
+    /// lock and no memory.
     pub fn tell<K: Keeps<N>>(&mut self, shared: &Shared<N, K>, to: &mut Caller<N>)
         ensures tells { Tells (pass_of self.old) (pass_of self.new) }
         ensures to { Hears (pass_of self.old) to.old to.new }

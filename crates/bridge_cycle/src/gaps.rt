@@ -1,9 +1,10 @@
-// A cycle with gaps: between two of its phases somebody else has a turn. Other threads may come in there at any time; here they come at known places.
+// A cycle with gaps: between two of its phases somebody else has a turn. Other threads may come in there at any time;
+// here they come at known places.
 
 ghost use Rattle.std.specs.Prelude.{◌≡◌, ℕ, ◌+◌, ◌<◌, ◌≤◌, Err, IfErr, OnErr, OnOk};
-ghost use Rattle.joint_model.specs.declared.names.Phase.TheVariants as at;
-ghost use Rattle.joint_model.specs.declared.names.PhaseWord.TheVariants as word;
-ghost use Rattle.joint_model.specs.Phases.{phases_of};
+ghost use Rattle.joint_machine.specs.declared.names.Phase.TheVariants as at;
+ghost use Rattle.joint_machine.specs.declared.names.PhaseWord.TheVariants as word;
+ghost use Rattle.joint_machine.specs.Phases.{phases_of};
 ghost use Rattle.bridge_cycle.specs.Gaps.{IsInGap, StopsInGaps};
 ghost use Rattle.bridge_cycle.specs.Progress.{RunsWords, line_of};
 
@@ -14,21 +15,23 @@ use order_table::OrderName;
 use std::alloc::Global;
 use std::sync::Wait;
 
-/// What is done in the gaps of a cycle, which has one after each of its phases but the last. Its meaning is how many gaps it has had.
+/// What is done in the gaps of a cycle, which has one after each of its phases but the last. Its meaning is how many
+/// gaps it has had.
 pub trait Gap<N: OrderName, K: Keeps<N>> {
     ghost count: { Self → ℕ };
 
-    /// Does what is to be done in the next gap, by callers of its own: what entries they make is up to them. The driver is in the phase behind which the
-    /// gap comes: the first one is `Snapped`, the seventh `Restored`.
+    /// Does what is to be done in the next gap, by callers of its own: what entries they make is up to them. The driver
+    /// is in the phase behind which the gap comes: the first one is `Snapped`, the seventh `Restored`.
     fn gap(&mut self, driver: &Driver<N>, shared: &Shared<N, K>)
         requires few { count self.old < 7 }
         requires phase { IsInGap (count self.old) driver.now.phase }
         ensures count { count self.new ≡ count self.old + 1 };
 }
 
-/// Runs all eight phases of a cycle, as [`Driver::cycle`] does, and after each but the last has `between` do what it does in that gap. Answers
-/// `CycleOpen` exactly where the phase isn't `Idle`, and then no gap comes; and `OutOfMemory` where a phase found no memory, which is the snapshot, the
-/// contraction or the mirror: the phases before it stand then, each with its gap; after the snapshot's the cycle is abandoned, and the phase is `Idle`.
+/// Runs all eight phases of a cycle, as [`Driver::cycle`] does, and after each but the last has `between` do what it
+/// does in that gap. Answers `CycleOpen` exactly where the phase isn't `Idle`, and then no gap comes; and `OutOfMemory`
+/// where a phase found no memory, which is the snapshot, the contraction or the mirror: the phases before it stand
+/// then, each with its gap; after the snapshot's the cycle is abandoned, and the phase is `Idle`.
 pub fn run_gap<N: OrderName, K: Keeps<N>, G: Gap<N, K>>(
     rt: &impl Wait,
     alloc: Global,

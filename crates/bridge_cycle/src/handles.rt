@@ -1,14 +1,14 @@
-// The phases over the candidates' handles: each handle is weakened, and later restored, under a hold of the peer lock of its own, so that peer threads run
-// on between two of them. Neither phase takes memory.
+// The phases over the candidates' handles: each handle is weakened, and later restored, under a hold of the peer lock
+// of its own, so that peer threads run on between two of them. Neither phase takes memory.
 
 ghost use Rattle.std.specs.Prelude.{◌≡◌, [], length};
-ghost use Rattle.joint_model.specs.Lines.{IsDriver};
+ghost use Rattle.joint_machine.specs.Lines.{IsDriver};
 ghost use Rattle.bridge_graph.specs.Handles.{handles_of};
 ghost use Rattle.bridge_cycle.specs.Turns.{MayRestoreAll, MayWeakenAll, RestoresAll, WeakensAll};
 
 use joint_history::{Caller, Keeps, Shared};
 use joint_model::Alive;
-use managed_side::Opened;
+use managed_heap::Opened;
 use order_table::OrderName;
 use std::sync::Wait;
 
@@ -32,7 +32,8 @@ pub(crate) fn weaken_all<N: OrderName, K: Keeps<N>>(
     }
 }
 
-/// Restores the handle of each bridge node of the graph, in the same order, and puts the handles that the restores gave last in `alive`.
+/// Restores the handle of each bridge node of the graph, in the same order, and puts the handles that the restores gave
+/// last in `alive`.
 pub(crate) fn restore_all<N: OrderName, K: Keeps<N>>(
     rt: &impl Wait,
     shared: &Shared<N, K>,

@@ -1,8 +1,8 @@
 // The eight phases as calls: each runs where it is due, and elsewhere makes nothing.
 
 ghost use Rattle.std.specs.Prelude.{◌≡◌, ◌≤◌, [], ◌∷◌, Err, IfErr, IsOk, OnErr, OnOk};
-ghost use Rattle.joint_model.specs.declared.names.Phase.TheVariants as at;
-ghost use Rattle.joint_model.specs.declared.names.PhaseWord.TheVariants as word;
+ghost use Rattle.joint_machine.specs.declared.names.Phase.TheVariants as at;
+ghost use Rattle.joint_machine.specs.declared.names.PhaseWord.TheVariants as word;
 ghost use Rattle.bridge_cycle.specs.Progress.{AbandonsCycle, GivesUp, RunsWords, TakesMemory, line_of};
 ghost use Rattle.bridge_cycle.specs.Words.{next_word};
 
@@ -14,7 +14,8 @@ use std::alloc::Global;
 use std::sync::Wait;
 
 impl<N: OrderName> Driver<N> {
-    // Runs the phase that is due in this one, or answers in which one the driver is. From the mirrored phase on there is memory for it.
+    // Runs the phase that is due in this one, or answers in which one the driver is. From the mirrored phase on there
+    // is memory for it.
     fn run_due<K: Keeps<N>>(
         &mut self,
         rt: &impl Wait,
@@ -40,8 +41,8 @@ impl<N: OrderName> Driver<N> {
         }
     }
 
-    /// Takes a snapshot of the managed heap, which opens the next cycle. Answers `CycleOpen` exactly where the phase isn't `Idle`, and `OutOfMemory` where
-    /// there is no memory; no entry is made then.
+    /// Takes a snapshot of the managed heap, which opens the next cycle. Answers `CycleOpen` exactly where the phase
+    /// isn't `Idle`, and `OutOfMemory` where there is no memory; no entry is made then.
     pub fn snap<K: Keeps<N>>(
         &mut self,
         rt: &impl Wait,
@@ -65,8 +66,9 @@ impl<N: OrderName> Driver<N> {
         }
     }
 
-    /// Finds the components of the dead part, with no lock held, and makes the contraction's entry. Answers `WrongPhase` exactly where the phase isn't
-    /// `Snapped`, and makes nothing then; and `OutOfMemory` where there is no memory: the cycle is abandoned then, which frees nothing, and the phase is `Idle`.
+    /// Finds the components of the dead part, with no lock held, and makes the contraction's entry. Answers
+    /// `WrongPhase` exactly where the phase isn't `Snapped`, and makes nothing then; and `OutOfMemory` where there is
+    /// no memory: the cycle is abandoned then, which frees nothing, and the phase is `Idle`.
     pub fn contract<K: Keeps<N>>(
         &mut self,
         rt: &impl Wait,
@@ -84,8 +86,9 @@ impl<N: OrderName> Driver<N> {
         self.run_due(rt, alloc, shared, index, Phase::Snapped)
     }
 
-    /// Adds the references that the components stand for between the peers, all at once. Answers `WrongPhase` exactly where the phase isn't `Contracted`,
-    /// and makes nothing then; and `OutOfMemory` where there is no memory: the cycle is abandoned then, which frees nothing, and the phase is `Idle`.
+    /// Adds the references that the components stand for between the peers, all at once. Answers `WrongPhase` exactly
+    /// where the phase isn't `Contracted`, and makes nothing then; and `OutOfMemory` where there is no memory: the
+    /// cycle is abandoned then, which frees nothing, and the phase is `Idle`.
     pub fn mirror<K: Keeps<N>>(
         &mut self,
         rt: &impl Wait,
@@ -103,7 +106,8 @@ impl<N: OrderName> Driver<N> {
         self.run_due(rt, alloc, shared, index, Phase::Contracted)
     }
 
-    /// Weakens the handle of each candidate, in rising managed number. Answers `WrongPhase` exactly where the phase isn't `Mirrored`.
+    /// Weakens the handle of each candidate, in rising managed number. Answers `WrongPhase` exactly where the phase
+    /// isn't `Mirrored`.
     pub fn weaken<K: Keeps<N>>(
         &mut self,
         rt: &impl Wait,
@@ -121,8 +125,8 @@ impl<N: OrderName> Driver<N> {
         self.run_due(rt, alloc, shared, index, Phase::Mirrored)
     }
 
-    /// Begins the cycle's own marking of the peer heap; one that a peer thread left open is ended first. Answers `WrongPhase` exactly where the phase
-    /// isn't `Weakened`.
+    /// Begins the cycle's own marking of the peer heap; one that a peer thread left open is ended first. Answers
+    /// `WrongPhase` exactly where the phase isn't `Weakened`.
     pub fn mark<K: Keeps<N>>(
         &mut self,
         rt: &impl Wait,
@@ -140,7 +144,8 @@ impl<N: OrderName> Driver<N> {
         self.run_due(rt, alloc, shared, index, Phase::Weakened)
     }
 
-    /// Ends the cycle's own marking: the peers that nothing reaches are freed. Answers `WrongPhase` exactly where the phase isn't `Marked`.
+    /// Ends the cycle's own marking: the peers that nothing reaches are freed. Answers `WrongPhase` exactly where the
+    /// phase isn't `Marked`.
     pub fn sweep<K: Keeps<N>>(
         &mut self,
         rt: &impl Wait,
@@ -158,8 +163,8 @@ impl<N: OrderName> Driver<N> {
         self.run_due(rt, alloc, shared, index, Phase::Marked)
     }
 
-    /// Restores the handle of each candidate, in the same order, which tells whose peer is there, and clears the mirrored references. Answers
-    /// `WrongPhase` exactly where the phase isn't `Swept`.
+    /// Restores the handle of each candidate, in the same order, which tells whose peer is there, and clears the
+    /// mirrored references. Answers `WrongPhase` exactly where the phase isn't `Swept`.
     pub fn restore<K: Keeps<N>>(
         &mut self,
         rt: &impl Wait,
@@ -177,7 +182,8 @@ impl<N: OrderName> Driver<N> {
         self.run_due(rt, alloc, shared, index, Phase::Swept)
     }
 
-    /// Closes the cycle: frees what no candidate leads to that is alive. Answers `WrongPhase` exactly where the phase isn't `Restored`.
+    /// Closes the cycle: frees what no candidate leads to that is alive. Answers `WrongPhase` exactly where the phase
+    /// isn't `Restored`.
     pub fn resolve<K: Keeps<N>>(
         &mut self,
         rt: &impl Wait,

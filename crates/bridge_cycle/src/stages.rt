@@ -4,11 +4,12 @@ ghost use Rattle.std.specs.Prelude.{◌≡◌, ◌↔◌, IfSome, IsNone, Some};
 ghost use Rattle.bridge_cycle.specs.Held.{phase_of, snapshot_in};
 
 use joint_model::{Alive, Phase};
-use managed_side::Opened;
+use managed_heap::Opened;
 use xref_list::Components;
 
-/// How far the driver has come, with what belongs to it: the snapshot, from which the cycle's graph comes; its components, until they are mirrored; room
-/// for the answers of the restores, which is taken with the components, and then the answers; and the number of the clear.
+/// How far the driver has come, with what belongs to it: the snapshot, from which the cycle's graph comes; its
+/// components, until they are mirrored; room for the answers of the restores, which is taken with the components, and
+/// then the answers; and the number of the clear.
 #[derive(Drop)]
 pub enum Stage {
     Idle,
@@ -44,7 +45,8 @@ pub enum Stage {
 }
 
 impl Stage {
-    /// The next stage comes in place of this one. That is a call, so that what this one has is dropped there, and not wherever a stage is taken on.
+    /// The next stage comes in place of this one. That is a call, so that what this one has is dropped there, and not
+    /// wherever a stage is taken on.
     pub(crate) fn becomes(&mut self, next: Stage)
         ensures { self.new ≡ next }
     {

@@ -1,12 +1,12 @@
 // Several phases, and the script lines of thread `c`.
 
 ghost use Rattle.std.specs.Prelude.{◌≡◌, ◌≤◌, [], ◌∷◌, Err, IfErr, IfOk, None, OnErr, OnOk};
-ghost use Rattle.joint_model.specs.declared.lines.Act.TheVariants as act;
-ghost use Rattle.joint_model.specs.declared.names.Phase.TheVariants as at;
-ghost use Rattle.joint_model.specs.declared.names.PhaseWord.TheVariants as word;
-ghost use Rattle.joint_model.specs.declared.names.Thread.TheVariants.{C};
-ghost use Rattle.joint_model.specs.Lines.{IsLine};
-ghost use Rattle.joint_model.specs.Phases.{next_phase, phases_left, phases_of};
+ghost use Rattle.joint_machine.specs.declared.lines.Act.TheVariants as act;
+ghost use Rattle.joint_machine.specs.declared.names.Phase.TheVariants as at;
+ghost use Rattle.joint_machine.specs.declared.names.PhaseWord.TheVariants as word;
+ghost use Rattle.joint_machine.specs.declared.names.Thread.TheVariants.{C};
+ghost use Rattle.joint_machine.specs.Lines.{IsLine};
+ghost use Rattle.joint_machine.specs.Phases.{next_phase, phases_left, phases_of};
 ghost use Rattle.bridge_cycle.specs.Progress.{EndsWithReply, BreaksLine, StopsForMemory, RunsWords, RunsLine, line_of};
 ghost use Rattle.bridge_cycle.specs.Words.{next_word, to_come};
 
@@ -37,7 +37,8 @@ fn next_phase(phase: Phase, word: PhaseWord) -> Option<Phase>
 }
 
 impl<N: OrderName> Driver<N> {
-    // Runs the phases that are to come until the driver is idle again: those that are left of an open cycle, and all eight where none is open.
+    // Runs the phases that are to come until the driver is idle again: those that are left of an open cycle, and all
+    // eight where none is open.
     fn finish_cycle<K: Keeps<N>>(
         &mut self,
         rt: &impl Wait,
@@ -116,9 +117,9 @@ impl<N: OrderName> Driver<N> {
         self.advance(rt, alloc, shared, index)
     }
 
-    /// Runs all eight phases of a cycle. Answers `CycleOpen` exactly where the phase isn't `Idle`, and `OutOfMemory` where a phase found no memory, which is
-    /// the snapshot, the contraction or the mirror. The entries of the phases before it stand then; after the snapshot's the cycle is abandoned, which frees
-    /// nothing, and the phase is `Idle`.
+    /// Runs all eight phases of a cycle. Answers `CycleOpen` exactly where the phase isn't `Idle`, and `OutOfMemory`
+    /// where a phase found no memory, which is the snapshot, the contraction or the mirror. The entries of the phases
+    /// before it stand then; after the snapshot's the cycle is abandoned, which frees nothing, and the phase is `Idle`.
     pub fn cycle<K: Keeps<N>>(
         &mut self,
         rt: &impl Wait,
@@ -142,9 +143,10 @@ impl<N: OrderName> Driver<N> {
         }
     }
 
-    /// Runs a script line of thread `c`: a phase word, whose refusal is an entry too, or `finalise`. Answers the reply of the last entry that it made, or
-    /// `Reply::Ok` where it made none. Answers `AllocError` where there is no memory: then no entry was made, or those of the line's phases before the one
-    /// that found no memory; and where that one is the contraction or the mirror, the entry that abandons the cycle.
+    /// Runs a script line of thread `c`: a phase word, whose refusal is an entry too, or `finalise`. Answers the reply
+    /// of the last entry that it made, or `Reply::Ok` where it made none. Answers `AllocError` where there is no
+    /// memory: then no entry was made, or those of the line's phases before the one that found no memory; and where
+    /// that one is the contraction or the mirror, the entry that abandons the cycle.
     pub fn line<K: Keeps<N>>(
         &mut self,
         rt: &impl Wait,
@@ -166,8 +168,9 @@ impl<N: OrderName> Driver<N> {
         }
     }
 
-    /// Runs the phases that are left of an open cycle; where none is open it makes nothing. Answers `AllocError` where the contraction or the mirror found
-    /// no memory; the phases before it stand then, and the cycle is abandoned. The phase is `Idle` in either case.
+    /// Runs the phases that are left of an open cycle; where none is open it makes nothing. Answers `AllocError` where
+    /// the contraction or the mirror found no memory; the phases before it stand then, and the cycle is abandoned. The
+    /// phase is `Idle` in either case.
     pub fn end<K: Keeps<N>>(
         &mut self,
         rt: &impl Wait,

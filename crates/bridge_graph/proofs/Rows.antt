@@ -10,7 +10,7 @@ use Rattle.bridge_graph.specs.declared.packing.Link.{Link}
 use Rattle.bridge_graph.specs.Packing.{rest_of, rows_of}
 use Rattle.bridge_graph.specs.Parts.{row_at}
 use Rattle.bridge_graph.proofs.Links.{rest-push}
-use Rattle.joint_model.proofs.Deciding.{neq-eqb}
+use Rattle.joint_machine.proofs.Deciding.{neq-eqb}
 
 pub row-of_map : (f : ℕ → List ℕ) (n i : ℕ) → i < n → row_at (map f (range_with_len 0 n)) i ≡ f i
 row-of_map f n i h = get_or-map-range_with_len f 0 n i i [] h (omega arith)

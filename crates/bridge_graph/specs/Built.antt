@@ -1,6 +1,6 @@
 -- What the flat lists of a part that is being built keep.
 use Rattle.std.specs.Prelude.{◌≡◌, ℕ, ◌<◌, ◌≤◌, List, [], length, All, false}
-use Rattle.joint_model.specs.Components.{Rises}
+use Rattle.joint_machine.specs.Components.{Rises}
 use Rattle.bridge_graph.specs.declared.graph.Node.{Node}
 use Rattle.bridge_graph.specs.declared.packing.Link.{Link}
 use Rattle.bridge_graph.specs.Parts.{numbers_of, opaque_at}

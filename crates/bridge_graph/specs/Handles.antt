@@ -1,7 +1,7 @@
 -- The handles of a part's nodes.
 use Rattle.std.specs.Prelude.{ℕ, List, flat_map, Option, slice_get}
 use Rattle.std.specs.Option.{option_and_then, option_to_list}
-use Rattle.joint_model.specs.declared.names.HNum.{HNum}
+use Rattle.joint_machine.specs.declared.names.HNum.{HNum}
 use Rattle.bridge_graph.specs.declared.graph.Node.{Node}
 
 -- the handles of the bridge nodes, in the order of the nodes

@@ -6,7 +6,7 @@ ghost use Rattle.bridge_graph.specs.Parts.{Part, Building, IsPart, row_at, opaqu
 
 use crate::graph::{DeadGraph, Node};
 use crate::packing::{Link, NO_LINK, link_up, pack};
-use joint_model::{HNum, MNum};
+use joint_machine::{HNum, MNum};
 use std::alloc::{AllocError, Global};
 use std::marker::Model;
 

@@ -6,7 +6,7 @@ ghost use Rattle.bridge_graph.specs.Packing.{packed_rows};
 ghost use Rattle.bridge_graph.specs.Parts.{Part, IsPart, IsBridgeNode, row_at, opaque_at, HasNode};
 
 use crate::packing::packed_row;
-use joint_model::{HNum, MNum};
+use joint_machine::{HNum, MNum};
 use std::marker::Model;
 
 /// A node of the dead part: an object's managed number, the handle that it holds on a peer, if it is a
@@ -45,8 +45,8 @@ impl Model for DeadGraph {
 }
 
 impl DeadGraph {
-    /// The part of nodes and rows that lie together already: the edges of node `i` lead to the targets from place `starts[i]` on, up to
-    /// where the next node's begin, or to the end. It takes no memory.
+    /// The part of nodes and rows that lie together already: the edges of node `i` lead to the targets from place
+    /// `starts[i]` on, up to where the next node's begin, or to the end. It takes no memory.
     pub fn of_rows(nodes: Vec<Node>, starts: Vec<u32>, targets: Vec<u32>) -> DeadGraph
         requires { IsPackedPart nodes.items starts.items targets.items }
         ensures nodes { result.nodes ≡ nodes.items }

@@ -10,16 +10,16 @@
 //     builder.edge(b, a)?;
 //     let graph = builder.finish();
 //
-// A snapshot makes a `GraphBuilder`, asks it for room with `reserve`, adds the dead objects by rising
-// managed number with `node`, adds their references to one another with `edge`, and turns it into a
-// `DeadGraph` by `finish`, which takes no memory. From then on the graph is only read.
+// A snapshot makes a `GraphBuilder`, asks it for room with `reserve`, adds the dead objects by rising managed number
+// with `node`, adds their references to one another with `edge`, and turns it into a `DeadGraph` by `finish`, which
+// takes no memory. From then on the graph is only read.
 //
-// Nodes and edges lie in flat lists. While the part is being built the edges stand in the order in which
-// they were added; `finish` brings the edges of each node together, in that same order, so that `degree`,
-// `edge` and `row` each take one step. Where edges lie in rows already `DeadGraph::of_rows` takes them as they are.
+// Nodes and edges lie in flat lists. While the part is being built the edges stand in the order in which they were
+// added; `finish` brings the edges of each node together, in that same order, so that `degree`, `edge` and `row` each
+// take one step. Where edges lie in rows already `DeadGraph::of_rows` takes them as they are.
 //
-// A graph is its maker's own, and nobody changes it while it is read. What is promised: a finished graph has exactly the nodes and edges that were
-// put in, in their order, and a call for which there is room isn't refused.
+// A graph is its maker's own, and nobody changes it while it is read. What is promised: a finished graph has exactly
+// the nodes and edges that were put in, in their order, and a call for which there is room isn't refused.
 #![tactic(auto)]
 
 mod builder;

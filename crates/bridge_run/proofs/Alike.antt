@@ -1,24 +1,26 @@
--- The numbers of the last state of a generated script's run are a function of the seed and the size, in either mode: they are the tally of the entries, which
--- is such a function.
+-- The numbers of the last state of a generated script's run are a function of the seed and the size, in either mode:
+-- they are the tally of the entries, which is such a function.
 use Rattle.std.proofs.Common.{◌≡◌, ℕ, ◌+◌, ◌≤◌, List, Option, length, sym, subst, ◌∙◌, arith}
 use Rattle.std.specs.Io.KnownBytes.{Appends}
-use Rattle.byte_streams.specs.Streams.{AppendsPart}
-use Rattle.joint_model.specs.declared.names.Thread.{Thread}
-use Rattle.joint_model.specs.declared.lines.Act.{Act}
-use Rattle.joint_model.specs.Histories.{Finished}
+use Rattle.byte_streams.specs.Faults.{AppendsPart}
+use Rattle.joint_machine.specs.declared.names.Thread.{Thread}
+use Rattle.joint_machine.specs.declared.lines.Act.{Act}
+use Rattle.joint_machine.specs.Histories.{Finished}
 use Rattle.command_words.specs.declared.commands.Mode.{Mode}
 use Rattle.command_words.specs.declared.commands.Mode.TheVariants as mode
-use Rattle.run_laws.specs.LastCycle.{IsRunThenCycle}
+use Rattle.run_laws.specs.WithCycle.{IsRunThenCycle}
 use Rattle.script_generator.specs.Generated.{generated}
-use Rattle.generated_laws.specs.Counts.{IsGeneratedRun, generated_tally}
+use Rattle.generated_laws.specs.Counts.{generated_tally}
+use Rattle.generated_laws.specs.Laws.{IsGeneratedRun}
 use Rattle.generated_laws.proofs.Alike.{generated_runs_are_alike}
 use Rattle.joint_history.specs.declared.ends.RunEnd.{RunEnd}
 use Rattle.joint_history.specs.Ending.{HasEndNumbers}
-use Rattle.joint_model.specs.LinkedHistories.{linked_end}
+use Rattle.joint_machine.specs.LinkedHistories.{linked_end}
 use Rattle.run_summary.specs.declared.tallies.Tally.{Tally}
 use Rattle.run_summary.specs.Summary.{summary_text}
 use Rattle.run_summary.specs.Tallies.{tally_of}
-use Rattle.summary_laws.specs.States.{tally_in, HeapsOfLinked, TalliesOfLinked}
+use Rattle.summary_laws.specs.States.{tally_in}
+use Rattle.summary_laws.specs.Laws.{HeapsOfLinked, TalliesOfLinked}
 use Rattle.summary_laws.proofs.Counting.{same_tally}
 use Rattle.summary_laws.proofs.Readings.{tallies_of_linked}
 use Rattle.bridge_run.specs.Top.{IsGeneratedRunIn, IsGeneratedRunOf}

@@ -3,7 +3,7 @@ use Rattle.std.proofs.Common.{◌≡◌, ⊎_elim, ℕ, List, [], ◌∷◌, sub
 use Rattle.std.specs.Prelude.{Contains, IfErr, Result, Ok, Err, codes}
 use Rattle.std.specs.declared.string.String.{String}
 use Rattle.std.specs.declared.vec.IntoIter.{IntoIter}
-use Rattle.joint_model.proofs.Members.{Contains-cons_cases, Contains-map_cases, Contains-nil}
+use Rattle.joint_machine.proofs.Members.{Contains-cons_cases, Contains-map_cases, Contains-nil}
 use Rattle.command_words.specs.declared.commands.Command.TheVariants as command
 use Rattle.command_words.specs.Commands.{generator_words, mode_text}
 use Rattle.bridge_run.specs.Ends.{words_told}

@@ -1,12 +1,14 @@
--- What the commands on reference logs promise: the log of a script's run, and what a log never releases, or why it is refused.
+-- What the commands on reference logs promise: the log of a script's run, and what a log never releases, or why it is
+-- refused.
+-- Believed: the clauses of the program's top call rest on all that stands here.
 use Rattle.std.specs.Prelude.{◌≡◌, ◌⊎◌, ℕ, ◌+◌, ◌≤◌, List, Option, length}
 use Rattle.std.specs.Io.KnownBytes.{Consumes, IsAtEnd}
-use Rattle.joint_model.specs.declared.names.HNum.{HNum}
-use Rattle.joint_model.specs.declared.names.Thread.{Thread}
-use Rattle.joint_model.specs.declared.lines.Act.{Act}
-use Rattle.joint_model.specs.Histories.{Finished}
-use Rattle.joint_model.specs.LinkedHistories.{IsLinkedBy}
-use Rattle.joint_model.specs.Told.{Noted}
+use Rattle.joint_machine.specs.declared.names.HNum.{HNum}
+use Rattle.joint_machine.specs.declared.names.Thread.{Thread}
+use Rattle.joint_machine.specs.declared.lines.Act.{Act}
+use Rattle.joint_machine.specs.Histories.{Finished}
+use Rattle.joint_machine.specs.LinkedHistories.{IsLinkedBy}
+use Rattle.joint_machine.specs.Told.{Noted}
 use Rattle.bridge_script.specs.declared.faults.Cause.TheVariants as cause
 use Rattle.bridge_script.specs.Causes.{fault_text}
 use Rattle.bridge_script.specs.Reading.{TookScript}
@@ -17,9 +19,9 @@ use Rattle.log_text.specs.declared.lines.LogLine.{LogLine}
 use Rattle.log_text.specs.Answers.{refusal_text, unreleased_text}
 use Rattle.log_text.specs.Behind.{IsLog, behind_all, none_live}
 use Rattle.log_text.specs.Faults.{IsLogFault, IsNoLogText}
-use Rattle.log_text.specs.Taking.{AreKeys}
+use Rattle.log_text.specs.Keys.{AreKeys}
 use Rattle.log_text.specs.Text.{IsLogText, log_text}
-use Rattle.gref_log.specs.Laws.{peers_after}
+use Rattle.gref_log.specs.After.{peers_after}
 use Rattle.gref_log.specs.Limit.{IsFaultBefore, IsLongLine}
 use Rattle.gref_log.specs.Log.{IsLogOf, behind_peers}
 
@@ -35,7 +37,8 @@ pub record IsLogOfRun (h : Finished) (lines : List LogLine) : Type 0 where
 
 -- `Put` says what was done with the text that is due: all of it was appended to what the sink held, or a beginning
 
--- a log: the source was read to its end, what was taken is a text of the script, and the text is the log of the history of its run in order
+-- a log: the source was read to its end, what was taken is a text of the script, and the text is the log of the history
+-- of its run in order
 pub record LoggedPut (left rest : Option (List ℕ)) (Put : List ℕ → Type 0) : Type 0 where
   pub script : List (Thread × Act)
   pub history : Finished
@@ -70,8 +73,8 @@ pub record LeftPut (left rest : Option (List ℕ)) (Put : List ℕ → Type 0) :
   pub short : length input ≤ MOST_BYTES
   pub put : UnreleasedPut input Put
 
--- a line is wrong: of bytes within the limit the first one, or the place behind all lines, and the bytes are the text of no log; of more
--- bytes one before the limit
+-- a line is wrong: of bytes within the limit the first one, or the place behind all lines, and the bytes are the text
+-- of no log; of more bytes one before the limit
 abbrev pub IsLineWrong : List ℕ → ℕ → LogCause → Type 0
 IsLineWrong bytes number why = ((length bytes ≤ MOST_BYTES) × IsLogFault bytes number why × IsNoLogText bytes) ⊎ ((length bytes ≡ MOST_BYTES + 1) × IsFaultBefore MOST_BYTES bytes number why)
 

@@ -1,14 +1,15 @@
 -- What the top call promises: which words are a command, and what each status tells.
+-- Believed: the clauses of the program's top call rest on all that stands here.
 use Rattle.std.specs.Prelude.{◌≡◌, ◌⊎◌, ℕ, ◌≤◌, List, [], ◌∷◌, ◌++◌, length, Option, Some, codes}
 use Rattle.std.specs.Io.KnownBytes.{Keeps}
-use Rattle.joint_model.specs.declared.names.Thread.{Thread}
-use Rattle.joint_model.specs.declared.lines.Act.{Act}
-use Rattle.joint_model.specs.Histories.{Finished}
-use Rattle.joint_model.specs.LinkedHistories.{IsLinkedBy, linked_end}
-use Rattle.joint_model.specs.Told.{Noted}
+use Rattle.joint_machine.specs.declared.names.Thread.{Thread}
+use Rattle.joint_machine.specs.declared.lines.Act.{Act}
+use Rattle.joint_machine.specs.Histories.{Finished}
+use Rattle.joint_machine.specs.LinkedHistories.{IsLinkedBy, linked_end}
+use Rattle.joint_machine.specs.Told.{Noted}
 use Rattle.bridge_script.specs.declared.faults.ScriptFault.{ScriptFault}
 use Rattle.bridge_script.specs.Causes.{fault_text}
-use Rattle.byte_streams.specs.Streams.{AppendsPart, Rose}
+use Rattle.byte_streams.specs.Faults.{AppendsPart, Rose}
 use Rattle.bridge_script.specs.Scripts.{IsText}
 use Rattle.bridge_script.specs.Reading.{TookScript, TookFault}
 use Rattle.history_report.specs.Report.{report}
@@ -20,7 +21,7 @@ use Rattle.command_words.specs.declared.commands.Command.TheVariants as command
 use Rattle.command_words.specs.Commands.{AreWordsOf}
 use Rattle.generated_laws.specs.Counts.{generated_tally}
 use Rattle.run_laws.specs.Final.{IsRunInOrder, IsRunByThreads}
-use Rattle.run_laws.specs.LastCycle.{IsRunThenCycle, cycle_line}
+use Rattle.run_laws.specs.WithCycle.{IsRunThenCycle, cycle_line}
 use Rattle.listing_laws.specs.Listings.{IsListingOf}
 use Rattle.run_summary.specs.Summary.{summary_text}
 use Rattle.script_generator.specs.Generated.{generated}
@@ -60,19 +61,20 @@ abbrev pub IsRunIn : Mode → List (Thread × Act) → Finished → Type 0
 IsRunIn mode.Serial script history = IsRunInOrder script history
 IsRunIn mode.Threads script history = IsRunByThreads script history
 
--- the history of a generated script's run in a mode, with one cycle more at its end: line after line, where it is the only one, or thread by thread
+-- the history of a generated script's run in a mode, with one cycle more at its end: line after line, where it is the
+-- only one, or thread by thread
 abbrev pub IsGeneratedRunIn : Mode → List (Thread × Act) → Finished → Type 0
 IsGeneratedRunIn mode.Serial script history = IsRunInOrder (script ++ cycle_line ∷ []) history × IsRunThenCycle script history
 IsGeneratedRunIn mode.Threads script history = IsRunThenCycle script history
 
--- the history of the run of a seed's and a size's script in a mode. The numbers of the state after its last entry, what was made and what is left, are a
--- function of the seed and the size, the same in either mode
+-- the history of the run of a seed's and a size's script in a mode. The numbers of the state after its last entry, what
+-- was made and what is left, are a function of the seed and the size, the same in either mode
 pub record IsGeneratedRunOf (asked : Mode) (seed size : ℕ) (history : Finished) : Type 0 where
   pub run : IsGeneratedRunIn asked (generated seed size) history
   pub last : (noted : List Noted) → IsLinkedBy history noted → tally_in (linked_end noted) ≡ generated_tally seed size
 
--- In what follows `Put` says what was done with the text that is due: all of it was appended to what the sink held, or a beginning. Where a source or a
--- sink tells no bytes, as a process's own streams, what is said of bytes says nothing.
+-- In what follows `Put` says what was done with the text that is due: all of it was appended to what the sink held, or
+-- a beginning. Where a source or a sink tells no bytes, as a process's own streams, what is said of bytes says nothing.
 
 -- the usage line is due for words that are no command
 pub record UsagePut (words : List (List ℕ)) (Put : List ℕ → Type 0) : Type 0 where
@@ -99,7 +101,8 @@ pub record LogRefusalPut (words : List (List ℕ)) (left rest : Option (List ℕ
 abbrev pub RefusalPut : List (List ℕ) → Option (List ℕ) → Option (List ℕ) → (List ℕ → Type 0) → Type 0
 RefusalPut words left rest Put = ScriptRefusalPut words left rest Put ⊎ LogRefusalPut words left rest Put ⊎ ReportRefusalPut words left rest Put
 
--- a report: the source was read to its end, what was taken is a text of the script, and the text is the report of a history of its run in that mode
+-- a report: the source was read to its end, what was taken is a text of the script, and the text is the report of a
+-- history of its run in that mode
 pub record RunPut (asked : Mode) (left rest : Option (List ℕ)) (Put : List ℕ → Type 0) : Type 0 where
   pub script : List (Thread × Act)
   pub history : Finished
@@ -113,8 +116,8 @@ pub record ReportPut (words : List (List ℕ)) (left rest : Option (List ℕ)) (
   pub command : AreWordsOf words (command.Run asked)
   pub put : RunPut asked left rest Put
 
--- a summary is due where the words ask for a script to be made: nothing was read, and the text has the numbers of the last state of a history of its run
--- in that mode, with one cycle more
+-- a summary is due where the words ask for a script to be made: nothing was read, and the text has the numbers of the
+-- last state of a history of its run in that mode, with one cycle more
 pub record SummaryPut (words : List (List ℕ)) (left rest : Option (List ℕ)) (Put : List ℕ → Type 0) : Type 0 where
   pub seed : ℕ
   pub size : ℕ
@@ -125,7 +128,8 @@ pub record SummaryPut (words : List (List ℕ)) (left rest : Option (List ℕ)) 
   pub run : IsGeneratedRunOf asked seed size history
   pub text : Put (summary_text seed size asked (length (generated seed size)) (generated_tally seed size))
 
--- a listing: the source was read to its end, what was taken is a text of the script, and the text is the listing of the cycles of the history of its run in order
+-- a listing: the source was read to its end, what was taken is a text of the script, and the text is the listing of the
+-- cycles of the history of its run in order
 pub record ComparedPut (left rest : Option (List ℕ)) (Put : List ℕ → Type 0) : Type 0 where
   pub script : List (Thread × Act)
   pub history : Finished
@@ -150,7 +154,8 @@ pub record LeaksPut (words : List (List ℕ)) (left rest : Option (List ℕ)) (P
   pub command : AreWordsOf words command.Leaks
   pub put : LeftPut left rest Put
 
--- the text of a command was put: a report, a summary, a listing, a log, what one never releases or what a report is found to be, each with its command
+-- the text of a command was put: a report, a summary, a listing, a log, what one never releases or what a report is
+-- found to be, each with its command
 abbrev pub ResultPut : List (List ℕ) → Option (List ℕ) → Option (List ℕ) → (List ℕ → Type 0) → Type 0
 ResultPut words left rest Put = ReportPut words left rest Put ⊎ SummaryPut words left rest Put ⊎ ListingPut words left rest Put ⊎ LogPut words left rest Put ⊎ LeaksPut words left rest Put
     ⊎ CheckPut words left rest Put
@@ -164,7 +169,8 @@ pub record LinesPut (held after : Option (List ℕ)) : Type 0 where
   pub cycles : List Listed
   pub part : AppendsPart held after (cycles_text cycles)
 
--- what stands at the sink where memory was wanting: nothing was put; but for a listing, which is written while the script runs
+-- what stands at the sink where memory was wanting: nothing was put; but for a listing, which is written while the
+-- script runs
 pub record LacksMemory (words : List (List ℕ)) (held after : Option (List ℕ)) : Type 0 where
   pub kept : (AreWordsOf words command.Compare → ⊥) → Keeps held after
   pub lines : AreWordsOf words command.Compare → LinesPut held after

@@ -2,8 +2,8 @@
 
 ghost use Rattle.std.specs.Prelude.{◌≡◌, ◌≤◌, ◌⊎◌, ℕ, List, Some, length};
 ghost use Rattle.std.specs.Io.KnownBytes.{Appends, Keeps};
-ghost use Rattle.byte_streams.specs.Streams.{AppendsPart, Rose};
-ghost use Rattle.joint_model.specs.Histories.{Finished};
+ghost use Rattle.byte_streams.specs.Faults.{AppendsPart, Rose};
+ghost use Rattle.joint_machine.specs.Histories.{Finished};
 ghost use Rattle.report_reader.specs.Reading.{IsReadAs};
 ghost use Rattle.judged_reports.specs.Answering.{FindingPut, RefusalPut as NoReportPut};
 
@@ -15,7 +15,8 @@ use std::alloc::Global;
 // The most bytes of a report.
 const MOST_BYTES: usize = 268_435_456;
 
-/// Reads a report and writes what its history is found to be, or what is wrong with the report. Answers the program's exit status.
+/// Reads a report and writes what its history is found to be, or what is wrong with the report. Answers the program's
+/// exit status.
 pub fn print_checked<S: Source, K: Sink>(alloc: Global, src: &mut S, out: &mut K) -> u8
     ensures done { result ≡ 0 → FindingPut 268435456 (S.left src.old) (S.left src.new) (Appends (K.held out.old) (K.held out.new)) }
     ensures read { result ≡ 2 → Rose (S.faults src.old) (S.faults src.new) × Keeps (K.held out.old) (K.held out.new) }

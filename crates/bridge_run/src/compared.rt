@@ -2,11 +2,11 @@
 
 ghost use Rattle.std.specs.Prelude.{◌≡◌, ◌≤◌, ◌⊎◌, ℕ, List, Some};
 ghost use Rattle.bridge_script.specs.Scripts.{IsText};
-ghost use Rattle.joint_model.specs.declared.names.Thread.{Thread};
-ghost use Rattle.joint_model.specs.declared.lines.Act.{Act};
-ghost use Rattle.joint_model.specs.Histories.{Finished};
+ghost use Rattle.joint_machine.specs.declared.names.Thread.{Thread};
+ghost use Rattle.joint_machine.specs.declared.lines.Act.{Act};
+ghost use Rattle.joint_machine.specs.Histories.{Finished};
 ghost use Rattle.std.specs.Io.KnownBytes.{Appends, Keeps};
-ghost use Rattle.byte_streams.specs.Streams.{AppendsPart, Rose};
+ghost use Rattle.byte_streams.specs.Faults.{AppendsPart, Rose};
 ghost use Rattle.run_laws.specs.Final.{IsRunInOrder};
 ghost use Rattle.listing_laws.specs.Listings.{IsListingOf};
 ghost use Rattle.bridge_run.specs.Top.{ComparedPut, FaultPut, LinesPut};
@@ -18,7 +18,8 @@ use script_runs::run_compared;
 use std::alloc::Global;
 use std::sync::Wait;
 
-/// Reads a script, runs it in order and writes the listing of its cycles, or what is wrong with the script. Answers the program's exit status.
+/// Reads a script, runs it in order and writes the listing of its cycles, or what is wrong with the script. Answers the
+/// program's exit status.
 pub fn print_compared<S: Source, K: Sink>(
     rt: &impl Wait,
     alloc: Global,

@@ -1,4 +1,5 @@
-// A source that fails in the midst of a script, and a sink that fails in the midst of a report, a summary or the line of a refusal.
+// A source that fails in the midst of a script, and a sink that fails in the midst of a report, a summary or the line
+// of a refusal.
 
 ghost use Rattle.std.specs.Prelude.{Some};
 
@@ -32,8 +33,8 @@ impl Source for Hundreds {
     }
 }
 
-// The number of the source's call that fails and of the sink's, 0 for none; the status, and how many bytes of the text that is due are written, the first ones.
-// The source gives a hundred bytes a call, and the sink takes seven.
+// The number of the source's call that fails and of the sink's, 0 for none; the status, and how many bytes of the text
+// that is due are written, the first ones. The source gives a hundred bytes a call, and the sink takes seven.
 type Ending = (u32, u32, u8, usize);
 
 // All bytes that are due.

@@ -4,9 +4,9 @@ ghost use Rattle.std.specs.Prelude.{◌≡◌, ◌≤◌, ◌⊎◌, IfOk, lengt
 ghost use Rattle.std.specs.Io.KnownBytes.{Appends, Keeps};
 ghost use Rattle.generated_laws.specs.Counts.{generated_tally};
 ghost use Rattle.bridge_run.specs.Top.{IsGeneratedRunIn, IsGeneratedRunOf};
-ghost use Rattle.byte_streams.specs.Streams.{AppendsPart, Rose};
+ghost use Rattle.byte_streams.specs.Faults.{AppendsPart, Rose};
 ghost use Rattle.joint_history.specs.Ending.{HasEndNumbers};
-ghost use Rattle.joint_model.specs.Histories.{Finished};
+ghost use Rattle.joint_machine.specs.Histories.{Finished};
 ghost use Rattle.run_laws.specs.LastCycle.{DrivesCycles};
 ghost use Rattle.run_summary.specs.Summary.{summary_text};
 ghost use Rattle.run_summary.specs.Tallies.{tally_of};
@@ -25,8 +25,9 @@ use std::sync::Wait;
 use std::thread::Threads;
 use summary_laws::tallies_are_of_states;
 
-/// Makes the script of a seed and a size, runs it in that mode and one cycle more once all threads have ended, and writes the summary of that run's last state.
-/// Answers the program's exit status: 0, 4 where the sink failed, or 5 where there was no memory, and nothing is written then.
+/// Makes the script of a seed and a size, runs it in that mode and one cycle more once all threads have ended, and
+/// writes the summary of that run's last state. Answers the program's exit status: 0, 4 where the sink failed, or 5
+/// where there was no memory, and nothing is written then.
 #[tactic(auto, using(crate::proofs::Alike::all_of_last, crate::proofs::Alike::part_of_last))]
 pub fn print_generated<R: Threads + Wait + Sync, K: Sink, T: Turnstile + Sync>(
     rt: &R,

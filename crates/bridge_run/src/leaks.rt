@@ -2,7 +2,7 @@
 
 ghost use Rattle.std.specs.Prelude.{◌≡◌, ◌≤◌, ◌<◌, ◌⊎◌, ℕ, List, Some, length};
 ghost use Rattle.std.specs.Io.KnownBytes.{Appends, Keeps};
-ghost use Rattle.byte_streams.specs.Streams.{AppendsPart, Rose};
+ghost use Rattle.byte_streams.specs.Faults.{AppendsPart, Rose};
 ghost use Rattle.log_text.specs.declared.lines.LogLine.{LogLine};
 ghost use Rattle.log_text.specs.Answers.{refusal_text};
 ghost use Rattle.log_text.specs.Text.{IsLogText};

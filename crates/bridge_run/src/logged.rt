@@ -2,12 +2,12 @@
 
 ghost use Rattle.std.specs.Prelude.{◌≡◌, ◌≤◌, ◌⊎◌, ℕ, IfOk, List, Some};
 ghost use Rattle.bridge_script.specs.Scripts.{IsText};
-ghost use Rattle.joint_model.specs.declared.names.Thread.{Thread};
-ghost use Rattle.joint_model.specs.declared.lines.Act.{Act};
-ghost use Rattle.joint_model.specs.Histories.{Finished};
-ghost use Rattle.joint_model.specs.LinkedHistories.{IsLinked};
+ghost use Rattle.joint_machine.specs.declared.names.Thread.{Thread};
+ghost use Rattle.joint_machine.specs.declared.lines.Act.{Act};
+ghost use Rattle.joint_machine.specs.Histories.{Finished};
+ghost use Rattle.joint_machine.specs.LinkedHistories.{IsLinked};
 ghost use Rattle.std.specs.Io.KnownBytes.{Appends, Keeps};
-ghost use Rattle.byte_streams.specs.Streams.{AppendsPart, Rose};
+ghost use Rattle.byte_streams.specs.Faults.{AppendsPart, Rose};
 ghost use Rattle.run_laws.specs.Final.{IsRunInOrder};
 ghost use Rattle.log_text.specs.Text.{log_text as text_of_log};
 ghost use Rattle.log_text.specs.declared.lines.LogLine.{LogLine};
@@ -23,7 +23,8 @@ use script_runs::run_serial;
 use std::alloc::{AllocError, Global};
 use std::sync::Wait;
 
-/// Reads a script, runs it in order and writes the reference log of its history, or what is wrong with the script. Answers the program's exit status.
+/// Reads a script, runs it in order and writes the reference log of its history, or what is wrong with the script.
+/// Answers the program's exit status.
 pub fn print_logged<S: Source, K: Sink>(
     rt: &impl Wait,
     alloc: Global,

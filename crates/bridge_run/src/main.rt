@@ -9,15 +9,16 @@
 //           sink                             the report of the history, for `gen` its summary, for `compare` the listing of its cycles, for `grefs` its
 //                                                reference log; or for `leaks` what the log that was read never releases, for `check` what the report is
 //
-// and the answer is the exit status. `main` hands the process's words and streams to `run_program`, which makes that call; `StdSource` and `StdSink` make
-// a source and a sink of any reader and writer, and each counts its errors.
+// and the answer is the exit status. `main` hands the process's words and streams to `run_program`, which makes that
+// call; `StdSource` and `StdSink` make a source and a sink of any reader and writer, and each counts its errors.
 //
-// Who runs: with `serial` this thread alone. With `threads` each script thread has a thread of its own while the script runs; all have ended
-// before anything is written. Nobody else has the source, the sink or the heaps.
+// Who runs: with `serial` this thread alone. With `threads` each script thread has a thread of its own while the script
+// runs; all have ended before anything is written. Nobody else has the source, the sink or the heaps.
 //
-// What is promised, for every script and every schedule: the report is that of one linked history of the script's lines, which is a run of the one machine
-// whose graph joins both heaps, sound and complete; and each other status says what is wrong, and what was written then. `specs/Top.antt` and
-// `specs/Ends.antt` have it word by word, and docs/PROVED.md tells it promise by promise. That the program returns, or goes on, is not promised.
+// What is promised, for every script and every schedule: the report is that of one linked history of the script's
+// lines, which is a run of the one machine whose graph joins both heaps, sound and complete; and each other status says
+// what is wrong, and what was written then. `specs/Top.antt` and `specs/Ends.antt` have it word by word, and
+// docs/PROVED.md tells it promise by promise. That the program returns, or goes on, is not promised.
 #![tactic(auto)]
 
 mod checked;

@@ -66,7 +66,8 @@ fn two_threads_meet(rt: HostRuntime) -> Result<(), Fail> {
     Ok(())
 }
 
-// A turnstile that notes which thread came to it for which line, and whether one came for another line or out of its order.
+// A turnstile that notes which thread came to it for which line, and whether one came for another line or out of its
+// order.
 #[derive(Drop)]
 struct Passes {
     seen: AtomicU64,
@@ -112,8 +113,8 @@ fn each_line_has_its_turn(rt: HostRuntime) -> Result<(), Fail> {
     Ok(())
 }
 
-// A turnstile at which the managed thread waits for its first line until the peer thread has come to its second one, and the peer thread for its first
-// until the managed one has come; for so many turns at most.
+// A turnstile at which the managed thread waits for its first line until the peer thread has come to its second one,
+// and the peer thread for its first until the managed one has come; for so many turns at most.
 #[derive(Drop)]
 struct PeerFirst {
     managed: AtomicU64,
@@ -151,7 +152,8 @@ fn a_turn_comes_before_its_line(rt: HostRuntime) -> Result<(), Fail> {
     Ok(())
 }
 
-// A turnstile at which every thread waits until the managed thread has come to its third line, for so many turns at most.
+// A turnstile at which every thread waits until the managed thread has come to its third line, for so many turns at
+// most.
 #[derive(Drop)]
 struct AfterTwoLines {
     managed: AtomicU64,

@@ -18,8 +18,8 @@ use std::sync::Wait;
 use std::test::Fail;
 use std::thread::Threads;
 
-/// The status, the script, and what is written, of a row without its `#`: a space, the status and a newline, the script, `=` and a newline, and what is written.
-/// None where the text is no row.
+/// The status, the script, and what is written, of a row without its `#`: a space, the status and a newline, the
+/// script, `=` and a newline, and what is written. None where the text is no row.
 pub fn parts_of(row: &[u8]) -> Option<(u8, &[u8], &[u8])> {
     let at = row.iter().position(|b| *b == b'=')?;
     if at > row.len() {
@@ -34,7 +34,8 @@ pub fn parts_of(row: &[u8]) -> Option<(u8, &[u8], &[u8])> {
     Some((status.saturating_sub(b'0'), script, written))
 }
 
-// Runs the script of each row, and compares the status and what is written. The rows stand behind one another, each after its `#`.
+// Runs the script of each row, and compares the status and what is written. The rows stand behind one another, each
+// after its `#`.
 fn expect_rows<R: Threads + Wait + Sync + Abort>(
     rt: &R,
     alloc: Global,

@@ -107,8 +107,8 @@ const CUT: &[u8] = b"0 m1.1 make user 1 = p1 h1
 end 26
 ";
 
-// The words, the text, the number of the source's call that fails and of the sink's, 0 for none; and the status and what is written.
-// A sink of which a call fails takes one byte a call.
+// The words, the text, the number of the source's call that fails and of the sink's, 0 for none; and the status and
+// what is written. A sink of which a call fails takes one byte a call.
 type Run = (
     &'static [&'static str],
     &'static [u8],

@@ -165,7 +165,8 @@ xref 0 1
 end 2
 ";
 
-// The script, the number of the source's call that fails and of the sink's, 0 for none; and the status and what is written. The sink takes so many bytes a call.
+// The script, the number of the source's call that fails and of the sink's, 0 for none; and the status and what is
+// written. The sink takes so many bytes a call.
 type Listed = (&'static [u8], u32, u32, u8, &'static [u8]);
 
 const LISTED: [Listed; 8] = [

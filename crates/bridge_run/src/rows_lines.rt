@@ -163,7 +163,8 @@ c cycle
 end 25
 ";
 
-/// An activity with its listener and a list of two views, of which the one stands in a static too: a row of the same kind.
+/// An activity with its listener and a list of two views, of which the one stands in a static too: a row of the same
+/// kind.
 pub const ACTIVITY: &[u8] = b"# 0
 m1 bridge a bridge 3 user 2
 m1 pass a s0

@@ -30,8 +30,8 @@ const REPLACED_LOG: &[u8] = b"+g+ h1 p1 grefc 1 gwrefc 0 @0
 end 5
 ";
 
-// The words, the text, the number of the source's call that fails and of the sink's, 0 for none; and the status and what is written.
-// A sink of which a call fails takes one byte a call.
+// The words, the text, the number of the source's call that fails and of the sink's, 0 for none; and the status and
+// what is written. A sink of which a call fails takes one byte a call.
 type Run = (
     &'static [&'static str],
     &'static [u8],

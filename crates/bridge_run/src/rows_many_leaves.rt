@@ -1,5 +1,5 @@
-// A worked script: three bridge objects lead to a circle of two plain objects, which leads to many others. The circle is a heavy class, for which a
-// temporary stands.
+// A worked script: three bridge objects lead to a circle of two plain objects, which leads to many others. The circle
+// is a heavy class, for which a temporary stands.
 
 /// Rows behind one another, as `rows.rt` reads them.
 pub const MANY_LEAVES: &[u8] = b"# 0

@@ -1,4 +1,5 @@
-// Worked scripts: a peer is read by a weak name and dropped again between two phases of a cycle, each time between two others.
+// Worked scripts: a peer is read by a weak name and dropped again between two phases of a cycle, each time between two
+// others.
 
 /// Rows behind one another, as `rows.rt` reads them.
 pub const READ_AND_DROPPED: &[u8] = b"# 0

@@ -1,7 +1,8 @@
-// Worked scripts: a peer thread collects its heap in slices, or begins a marking between two phases of a cycle, each time between two others.
+// Worked scripts: a peer thread collects its heap in slices, or begins a marking between two phases of a cycle, each
+// time between two others.
 
-/// A thread takes away the only field that leads to an object of its open marking; another thread can't go on with a marking, nor end it; and the driver
-/// ends one that was open when its cycle began. Rows as `rows.rt` reads them.
+/// A thread takes away the only field that leads to an object of its open marking; another thread can't go on with a
+/// marking, nor end it; and the driver ends one that was open when its cycle began. Rows as `rows.rt` reads them.
 pub const SLICED: &[u8] = b"# 0
 p1 new a 1
 p1 new b 0
@@ -80,8 +81,8 @@ p1 sweep
 end 16
 ";
 
-/// A peer thread begins a marking in each gap of a cycle. Until the cycle's own one the driver ends it first; while that is open it is refused; and behind it
-/// nobody ends it.
+/// A peer thread begins a marking in each gap of a cycle. Until the cycle's own one the driver ends it first; while
+/// that is open it is refused; and behind it nobody ends it.
 pub const BEGUN: &[u8] = b"# 0
 m1 bridge a bridge 1 user 0
 m1 bridge b bridge 1 user 0

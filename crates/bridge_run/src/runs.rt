@@ -1,4 +1,5 @@
-// The top call by worked examples: printed reports, and each status. What is compared stands in a table, which one loop reads.
+// The top call by worked examples: printed reports, and each status. What is compared stands in a table, which one loop
+// reads.
 
 use crate::expecting::{LINKED, LINKED_REPORT, SERIAL, THREADS, USAGE, expect, expect_text};
 use byte_streams::ByteSink;
@@ -14,8 +15,8 @@ made managed 7 peers 6 handles 4
 live managed 4 peers 2 handles 2
 ";
 
-// The words, the text, the number of the source's call that fails and of the sink's, 0 for none; and the status and what is written.
-// A sink of which a call fails takes one byte a call.
+// The words, the text, the number of the source's call that fails and of the sink's, 0 for none; and the status and
+// what is written. A sink of which a call fails takes one byte a call.
 type Run = (
     &'static [&'static str],
     &'static [u8],

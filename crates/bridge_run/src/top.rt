@@ -2,12 +2,12 @@
 
 ghost use Rattle.std.specs.Prelude.{◌≡◌, ◌≤◌, ◌⊎◌, ℕ, List, Some, IfOk, map, string_bytes};
 ghost use Rattle.bridge_script.specs.Scripts.{IsText};
-ghost use Rattle.joint_model.specs.declared.names.Thread.{Thread};
-ghost use Rattle.joint_model.specs.declared.lines.Act.{Act};
+ghost use Rattle.joint_machine.specs.declared.names.Thread.{Thread};
+ghost use Rattle.joint_machine.specs.declared.lines.Act.{Act};
 ghost use Rattle.std.specs.Io.KnownBytes.{Appends, Keeps};
-ghost use Rattle.byte_streams.specs.Streams.{Rose, AppendsPart};
+ghost use Rattle.byte_streams.specs.Faults.{AppendsPart, Rose};
 ghost use Rattle.history_report.specs.Report.{report};
-ghost use Rattle.joint_model.specs.Histories.{Finished};
+ghost use Rattle.joint_machine.specs.Histories.{Finished};
 ghost use Rattle.bridge_run.specs.Top.{FaultPut, IsCommand, IsRunIn, LacksMemory, MayAnswer, MayGenerate, ReadsInput, RefusalPut, ResultPut, RunPut, TextPut, UsagePut, usage_text};
 
 use crate::checked::print_checked;
@@ -28,14 +28,16 @@ use std::thread::Threads;
 
 /// Does what the words after the program's name ask for, and answers the program's exit status.
 ///
-/// `serial` and `threads` read a script from `src` to its end, or to one byte past the limit, run its lines in order on one thread, or
-/// each script thread's lines in a thread of its own, which passes the turnstile before each of them, and write the report of the run's history
-/// to `out`. The order is words, reading, script, run, writing. `compare` reads a script and runs it as `serial` does, and writes a listing of its cycles in
-/// place of the report, while the script runs: the components, heavy classes and cross-references of each. `grefs` reads a script and runs it as `serial`
-/// does, and writes the reference log of its history. `leaks` reads such a log from `src`, to its end or to one byte past 268,435,456, and writes which
-/// handles it never releases. `check` reads a report from `src`, with the same limit, and writes whether it is that of a lawful run, or which entry is the
-/// first that isn't, and why. `gen` reads nothing: it makes the script of a seed and a size, runs it in its mode and one
-/// cycle more once all threads have ended, and writes the summary of that run.
+/// `serial` and `threads` read a script from `src` to its end, or to one byte past the limit, run its lines in order on
+/// one thread, or each script thread's lines in a thread of its own, which passes the turnstile before each of them,
+/// and write the report of the run's history to `out`. The order is words, reading, script, run, writing. `compare`
+/// reads a script and runs it as `serial` does, and writes a listing of its cycles in place of the report, while the
+/// script runs: the components, heavy classes and cross-references of each. `grefs` reads a script and runs it as
+/// `serial` does, and writes the reference log of its history. `leaks` reads such a log from `src`, to its end or to
+/// one byte past 268,435,456, and writes which handles it never releases. `check` reads a report from `src`, with the
+/// same limit, and writes whether it is that of a lawful run, or which entry is the first that isn't, and why. `gen`
+/// reads nothing: it makes the script of a seed and a size, runs it in its mode and one cycle more once all threads
+/// have ended, and writes the summary of that run.
 pub fn bridge_main<R: Threads + Wait + Sync, S: Source, K: Sink, T: Turnstile + Sync>(
     rt: &R,
     alloc: Global,

@@ -2,23 +2,24 @@
 -- stands beside what it doesn't allow: then the words clash. Shown operation by operation; each has one line here.
 use Rattle.std.proofs.Common.{◌≡◌, ◌≢◌, ℕ, ◌≤◌, ◌<◌, ◌^◌, List, [], ◌∷◌, Option, Some, None, codes, decimal, sym, refl, arith, subst, inl, inr}
 use Rattle.std.proofs.lemmas.Fmt.{decimal_injective}
-use Rattle.joint_model.specs.declared.names.Var.{Var}
-use Rattle.joint_model.specs.declared.names.Kind.{Kind}
-use Rattle.joint_model.specs.declared.names.Kind.TheVariants as kind
-use Rattle.joint_model.specs.declared.names.Sort.{Sort}
-use Rattle.joint_model.specs.declared.names.Sort.TheVariants as sort
-use Rattle.joint_model.specs.declared.names.Thread.{Thread}
-use Rattle.joint_model.specs.declared.names.Thread.TheVariants.{M, P, C}
-use Rattle.joint_model.specs.declared.lines.Act.{Act}
-use Rattle.joint_model.specs.declared.lines.Act.TheVariants as act
-use Rattle.joint_model.specs.Lines.{IsVar, IsThread, IsLine}
+use Rattle.joint_machine.specs.declared.names.Var.{Var}
+use Rattle.joint_machine.specs.declared.names.Kind.{Kind}
+use Rattle.joint_machine.specs.declared.names.Kind.TheVariants as kind
+use Rattle.joint_machine.specs.declared.names.Sort.{Sort}
+use Rattle.joint_machine.specs.declared.names.Sort.TheVariants as sort
+use Rattle.joint_machine.specs.declared.names.Thread.{Thread}
+use Rattle.joint_machine.specs.declared.names.Thread.TheVariants.{M, P, C}
+use Rattle.joint_machine.specs.declared.lines.Act.{Act}
+use Rattle.joint_machine.specs.declared.lines.Act.TheVariants as act
+use Rattle.joint_machine.specs.Lines.{IsVar, IsThread, IsLine}
 use Rattle.bridge_script.specs.declared.grammar.Operation.{Operation}
 use Rattle.bridge_script.specs.declared.grammar.Operation.TheVariants as operation
 use Rattle.bridge_script.specs.declared.grammar.Place.{Place}
 use Rattle.bridge_script.specs.declared.operands.Operand.{Operand}
 use Rattle.bridge_script.specs.declared.operands.Operand.TheVariants as operand
 use Rattle.bridge_script.specs.Words.{act_words}
-use Rattle.bridge_script.specs.Grammar.{operation_text, operation_of, managed_form, peer_form, driver_form, form_of}
+use Rattle.bridge_script.specs.Grammar.{operation_text, managed_form, peer_form, driver_form, form_of}
+use Rattle.bridge_script.specs.Answers.{operation_of}
 use Rattle.bridge_script.specs.Faults.{Clashes}
 use Rattle.bridge_script.specs.Operands.{texts, IsPlainKind, IsBridgeKind, StandAll, act_at, IsPossible}
 use Rattle.bridge_script.proofs.Table.{byte_is, zero_text}

@@ -2,11 +2,11 @@
 -- its first cause: that of the places, which comes before that of a kind beside what it doesn't allow.
 use Rattle.std.proofs.Common.{◌≡◌, ℕ, ◌≤◌, List, [], ◌∷◌, Some, sym, ◌∙◌, ap, subst, inl, inr, lit≤}
 use Rattle.std.proofs.lemmas.List.Splits.{join_with_byte-slice_split}
-use Rattle.joint_model.specs.declared.names.Thread.{Thread}
-use Rattle.joint_model.specs.declared.names.Thread.TheVariants.{M, P, C}
-use Rattle.joint_model.specs.declared.lines.Act.{Act}
-use Rattle.joint_model.specs.Lines.{IsThread, IsLine}
-use Rattle.joint_model.proofs.Deciding.{some-same}
+use Rattle.joint_machine.specs.declared.names.Thread.{Thread}
+use Rattle.joint_machine.specs.declared.names.Thread.TheVariants.{M, P, C}
+use Rattle.joint_machine.specs.declared.lines.Act.{Act}
+use Rattle.joint_machine.specs.Lines.{IsThread, IsLine}
+use Rattle.joint_machine.proofs.Deciding.{some-same}
 use Rattle.bridge_script.specs.declared.faults.Cause.{Cause}
 use Rattle.bridge_script.specs.declared.faults.Cause.TheVariants as cause
 use Rattle.bridge_script.specs.declared.grammar.Operation.{Operation}
@@ -15,7 +15,8 @@ use Rattle.bridge_script.specs.declared.operands.Operand.{Operand}
 use Rattle.bridge_script.specs.Causes.{cause_number}
 use Rattle.text_words.specs.Words.{spaced, words_of}
 use Rattle.bridge_script.specs.Words.{thread_text, act_words, line_words, line_text}
-use Rattle.bridge_script.specs.Grammar.{operation_text, operation_of, form_of}
+use Rattle.bridge_script.specs.Grammar.{operation_text, form_of}
+use Rattle.bridge_script.specs.Answers.{operation_of}
 use Rattle.bridge_script.specs.Faults.{HasAt, HasAtSome, PlacesHave, Reads, WordsHave, IsFirst}
 use Rattle.bridge_script.specs.Operands.{texts, StandAll, act_at, IsPossible, HasAtPlaces}
 use Rattle.bridge_script.specs.Scripts.{IsScriptLine}

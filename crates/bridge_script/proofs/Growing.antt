@@ -1,12 +1,12 @@
--- Whether a script goes on with a line is decided in the order of the causes: a line of a script has none of its words, so
--- that of cycles comes first, where there are too many.
+-- Whether a script goes on with a line is decided in the order of the causes: a line of a script has none of its words,
+-- so that of cycles comes first, where there are too many.
 use Rattle.std.proofs.Common.{◌≡◌, ℕ, ◌+◌, ◌-◌, ◌<◌, ◌≤◌, min, cond, Bool, true, false, List, [], ◌∷◌, ◌++◌, length, take, drop, slice_range, ◌∙◌, ap, refl, arith, subst, lit≤, inl, inr, length-drop}
 use Rattle.std.proofs.lemmas.List.{length-take-le}
-use Rattle.joint_model.specs.declared.names.PhaseWord.TheVariants as phase
-use Rattle.joint_model.specs.declared.names.Thread.{Thread}
-use Rattle.joint_model.specs.declared.names.Thread.TheVariants.{C}
-use Rattle.joint_model.specs.declared.lines.Act.{Act}
-use Rattle.joint_model.specs.declared.lines.Act.TheVariants as act
+use Rattle.joint_machine.specs.declared.names.PhaseWord.TheVariants as phase
+use Rattle.joint_machine.specs.declared.names.Thread.{Thread}
+use Rattle.joint_machine.specs.declared.names.Thread.TheVariants.{C}
+use Rattle.joint_machine.specs.declared.lines.Act.{Act}
+use Rattle.joint_machine.specs.declared.lines.Act.TheVariants as act
 use Rattle.bridge_script.specs.declared.faults.Cause.{Cause}
 use Rattle.bridge_script.specs.declared.faults.Cause.TheVariants as cause
 use Rattle.bridge_script.specs.declared.faults.ScriptError.{ScriptError}
@@ -14,7 +14,8 @@ use Rattle.bridge_script.specs.declared.faults.ScriptError.TheVariants.{OutOfMem
 use Rattle.bridge_script.specs.Words.{line_text, line_words}
 use Rattle.bridge_script.specs.Causes.{cause_number}
 use Rattle.bridge_script.specs.Faults.{IsFirst, Has, AskCycle}
-use Rattle.bridge_script.specs.Scripts.{IsScriptLine, IsScript, IsFault, IsRefusal, script_text_of, cycles_of, is_cycle, end_of}
+use Rattle.bridge_script.specs.Scripts.{IsScriptLine, IsScript, IsFault, script_text_of, cycles_of, is_cycle, end_of}
+use Rattle.bridge_script.specs.Answers.{IsRefusal}
 use Rattle.bridge_script.specs.Steps.{EndsLine, Stops, behind}
 use Rattle.bridge_script.proofs.LineWords.{words_of_line}
 use Rattle.bridge_script.proofs.Fitting.{none_of_line}

@@ -1,22 +1,23 @@
--- The words of a line have no space and no newline, so the line is cut into the same words again; and they tell the line:
--- the thread by the first word, the operation by the second, and what stands at each place by its own.
+-- The words of a line have no space and no newline, so the line is cut into the same words again; and they tell the
+-- line: the thread by the first word, the operation by the second, and what stands at each place by its own.
 use Rattle.std.proofs.Common.{◌≡◌, ◌≢◌, ℕ, ◌<◌, List, [], ◌∷◌, codes, sym, ◌∙◌, ap, refl, arith, subst, lit<, inl, inr, IfSome, slice_get, get_or, length, length-append}
 use Rattle.std.specs.List.{All, AllByRecursion, slice_split}
 use Rattle.std.proofs.Math.Dec.{eqb}
 use Rattle.std.proofs.lemmas.Option.{slice_get_cases}
 use Rattle.std.proofs.lemmas.List.Elements.{All-from_recursion, All-append, All-cons, All-nil, All-weaker}
-use Rattle.joint_model.specs.declared.names.PhaseWord.TheVariants as phase
-use Rattle.joint_model.specs.declared.names.Thread.{Thread}
-use Rattle.joint_model.specs.declared.names.Thread.TheVariants.{M, P, C}
-use Rattle.joint_model.specs.declared.lines.Act.{Act}
-use Rattle.joint_model.specs.Lines.{IsLine, IsThread}
-use Rattle.joint_model.proofs.Deciding.{some-same}
+use Rattle.joint_machine.specs.declared.names.PhaseWord.TheVariants as phase
+use Rattle.joint_machine.specs.declared.names.Thread.{Thread}
+use Rattle.joint_machine.specs.declared.names.Thread.TheVariants.{M, P, C}
+use Rattle.joint_machine.specs.declared.lines.Act.{Act}
+use Rattle.joint_machine.specs.Lines.{IsLine, IsThread}
+use Rattle.joint_machine.proofs.Deciding.{some-same}
 use Rattle.bridge_script.specs.declared.grammar.Operation.{Operation}
 use Rattle.bridge_script.specs.declared.grammar.Operation.TheVariants as operation
 use Rattle.bridge_script.specs.declared.grammar.Place.{Place}
 use Rattle.text_words.specs.Words.{spaced}
 use Rattle.bridge_script.specs.Words.{thread_text, act_words, line_words, line_text}
-use Rattle.bridge_script.specs.Grammar.{operation_text, operation_of, form_of}
+use Rattle.bridge_script.specs.Grammar.{operation_text, form_of}
+use Rattle.bridge_script.specs.Answers.{operation_of}
 use Rattle.bridge_script.specs.Operands.{texts, StandAll, act_at}
 use Rattle.bridge_script.specs.Scripts.{IsScriptLine}
 use Rattle.text_words.proofs.Cuts.{split-join}

@@ -3,8 +3,8 @@
 -- and so is the faulty line; and of its causes one is the first.
 use Rattle.std.proofs.Common.{◌≡◌, ℕ, ◌<◌, ◌≤◌, List, [], ◌∷◌, ◌++◌, length, sym, ◌∙◌, ap, refl, arith, subst, inl, inr, length-append}
 use Rattle.std.proofs.lemmas.Bool.{cases_lt}
-use Rattle.joint_model.specs.declared.names.Thread.{Thread}
-use Rattle.joint_model.specs.declared.lines.Act.{Act}
+use Rattle.joint_machine.specs.declared.names.Thread.{Thread}
+use Rattle.joint_machine.specs.declared.lines.Act.{Act}
 use Rattle.bridge_script.specs.declared.faults.Cause.{Cause}
 use Rattle.bridge_script.specs.declared.faults.Cause.TheVariants as cause
 use Rattle.bridge_script.specs.declared.faults.ScriptFault.{ScriptFault}

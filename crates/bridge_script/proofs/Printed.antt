@@ -6,17 +6,18 @@ use Rattle.std.specs.Str.{IsUtf8}
 use Rattle.std.proofs.lemmas.Str.{IsUtf8-from_ascii}
 use Rattle.std.proofs.lemmas.Str.Ascii.{IsAscii-from_all}
 use Rattle.std.proofs.lemmas.List.Elements.{All-append, All-cons, All-nil, All-head, All-tail}
-use Rattle.joint_model.specs.declared.names.PhaseWord.TheVariants as phase
-use Rattle.joint_model.specs.declared.names.Thread.{Thread}
-use Rattle.joint_model.specs.declared.names.Thread.TheVariants.{M, P, C}
-use Rattle.joint_model.specs.declared.lines.Act.{Act}
-use Rattle.joint_model.specs.Lines.{IsThread}
+use Rattle.joint_machine.specs.declared.names.PhaseWord.TheVariants as phase
+use Rattle.joint_machine.specs.declared.names.Thread.{Thread}
+use Rattle.joint_machine.specs.declared.names.Thread.TheVariants.{M, P, C}
+use Rattle.joint_machine.specs.declared.lines.Act.{Act}
+use Rattle.joint_machine.specs.Lines.{IsThread}
 use Rattle.bridge_script.specs.declared.grammar.Operation.{Operation}
 use Rattle.bridge_script.specs.declared.grammar.Operation.TheVariants as operation
 use Rattle.text_words.specs.Words.{spaced}
 use Rattle.bridge_script.specs.Words.{thread_text, act_words, line_text}
-use Rattle.bridge_script.specs.Grammar.{operation_text, operation_of}
-use Rattle.byte_streams.specs.Drafts.{after_spaces}
+use Rattle.bridge_script.specs.Grammar.{operation_text}
+use Rattle.bridge_script.specs.Answers.{operation_of}
+use Rattle.byte_streams.specs.Spaced.{after_spaces}
 use Rattle.bridge_script.specs.Scripts.{IsScriptLine, IsScript, IsText, script_text_of}
 use Rattle.bridge_script.proofs.Standing.{sizes, short_small, all_short}
 use Rattle.bridge_script.proofs.Table.{has_row}

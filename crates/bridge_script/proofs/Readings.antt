@@ -5,11 +5,11 @@ use Rattle.std.proofs.Common.{◌≡◌, ◌≢◌, ℕ, ◌≤◌, Bool, true, 
 use Rattle.std.proofs.Math.Dec.{leb}
 use Rattle.std.proofs.lemmas.Bool.{leb-true}
 use Rattle.std.proofs.lemmas.Fmt.{decimal_injective}
-use Rattle.joint_model.specs.declared.names.PhaseWord.TheVariants as phase
-use Rattle.joint_model.specs.declared.names.Thread.{Thread}
-use Rattle.joint_model.specs.declared.names.Thread.TheVariants.{M, P, C}
-use Rattle.joint_model.specs.Lines.{IsThread}
-use Rattle.joint_model.proofs.Deciding.{some-same}
+use Rattle.joint_machine.specs.declared.names.PhaseWord.TheVariants as phase
+use Rattle.joint_machine.specs.declared.names.Thread.{Thread}
+use Rattle.joint_machine.specs.declared.names.Thread.TheVariants.{M, P, C}
+use Rattle.joint_machine.specs.Lines.{IsThread}
+use Rattle.joint_machine.proofs.Deciding.{some-same}
 use Rattle.bridge_script.specs.declared.faults.Cause.{Cause}
 use Rattle.bridge_script.specs.declared.faults.Cause.TheVariants as cause
 use Rattle.bridge_script.specs.declared.grammar.Operation.{Operation}

@@ -3,15 +3,15 @@
 -- and the words of a line have no cause. Shown act by act; an operation has one line here.
 use Rattle.std.proofs.Common.{min, ◌≡◌, ℕ, ◌≤◌, List, [], ◌∷◌, Some, codes, decimal, ◌∙◌, ap, refl, arith, inl, inr}
 use Rattle.std.proofs.lemmas.Fmt.{decimal_digit}
-use Rattle.joint_model.specs.declared.names.Var.{Var}
-use Rattle.joint_model.specs.declared.names.Kind.{Kind}
-use Rattle.joint_model.specs.declared.names.Kind.TheVariants as kind
-use Rattle.joint_model.specs.declared.names.Sort.{Sort}
-use Rattle.joint_model.specs.declared.names.Thread.{Thread}
-use Rattle.joint_model.specs.declared.names.Thread.TheVariants.{M, P, C}
-use Rattle.joint_model.specs.declared.lines.Act.{Act}
-use Rattle.joint_model.specs.declared.lines.Act.TheVariants as act
-use Rattle.joint_model.specs.Lines.{IsLine, IsManagedAct, IsPeerAct, IsDriverAct, IsPlainObject, IsBridgeObject, IsVar}
+use Rattle.joint_machine.specs.declared.names.Var.{Var}
+use Rattle.joint_machine.specs.declared.names.Kind.{Kind}
+use Rattle.joint_machine.specs.declared.names.Kind.TheVariants as kind
+use Rattle.joint_machine.specs.declared.names.Sort.{Sort}
+use Rattle.joint_machine.specs.declared.names.Thread.{Thread}
+use Rattle.joint_machine.specs.declared.names.Thread.TheVariants.{M, P, C}
+use Rattle.joint_machine.specs.declared.lines.Act.{Act}
+use Rattle.joint_machine.specs.declared.lines.Act.TheVariants as act
+use Rattle.joint_machine.specs.Lines.{IsLine, IsManagedAct, IsPeerAct, IsDriverAct, IsPlainObject, IsBridgeObject, IsVar}
 use Rattle.bridge_script.specs.declared.faults.Cause.{Cause}
 use Rattle.bridge_script.specs.declared.faults.Cause.TheVariants as cause
 use Rattle.bridge_script.specs.declared.grammar.Operation.{Operation}
@@ -20,7 +20,8 @@ use Rattle.bridge_script.specs.declared.grammar.Place.TheVariants as place
 use Rattle.bridge_script.specs.declared.operands.Operand.{Operand}
 use Rattle.bridge_script.specs.declared.operands.Operand.TheVariants as operand
 use Rattle.bridge_script.specs.Words.{act_words, kind_text, sort_text}
-use Rattle.bridge_script.specs.Grammar.{operation_text, operation_of, form_of, fields, index, count}
+use Rattle.bridge_script.specs.Grammar.{operation_text, form_of, fields, index, count}
+use Rattle.bridge_script.specs.Answers.{operation_of}
 use Rattle.bridge_script.specs.Faults.{Clashes, ClashesAs, PlacesHave}
 use Rattle.bridge_script.specs.Operands.{texts, StandsAt, StandAll, act_at}
 use Rattle.bridge_script.specs.Laws.{FitsTable}

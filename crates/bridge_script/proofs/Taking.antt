@@ -1,20 +1,21 @@
--- What stands at places is taken from the front of words in one way: so far the operands xs were taken, and whatever operands
--- with a rest the words are, they go on from xs. So the words of a line behind its thread are taken in one way too, whatever
--- follows: its first word tells the operation, that one its places, and these the operands.
+-- What stands at places is taken from the front of words in one way: so far the operands xs were taken, and whatever
+-- operands with a rest the words are, they go on from xs. So the words of a line behind its thread are taken in one way
+-- too, whatever follows: its first word tells the operation, that one its places, and these the operands.
 use Rattle.std.proofs.Common.{◌≡◌, ℕ, ◌+◌, ◌<◌, ◌≤◌, List, [], ◌∷◌, ◌++◌, length, drop, get_or, Option, Some, None, IfSome, MatchOption, sym, ◌∙◌, ap, refl, arith, subst, append_assoc, append-nil, add-one, drop-cons, length-drop}
 use Rattle.std.proofs.lemmas.List.{nil_from_length}
-use Rattle.joint_model.specs.declared.names.Thread.{Thread}
-use Rattle.joint_model.specs.declared.names.Thread.TheVariants.{M, P, C}
-use Rattle.joint_model.specs.declared.lines.Act.{Act}
-use Rattle.joint_model.specs.declared.lines.Act.TheVariants as act
-use Rattle.joint_model.specs.Lines.{IsLine, IsThread}
-use Rattle.joint_model.proofs.Deciding.{some-same}
+use Rattle.joint_machine.specs.declared.names.Thread.{Thread}
+use Rattle.joint_machine.specs.declared.names.Thread.TheVariants.{M, P, C}
+use Rattle.joint_machine.specs.declared.lines.Act.{Act}
+use Rattle.joint_machine.specs.declared.lines.Act.TheVariants as act
+use Rattle.joint_machine.specs.Lines.{IsLine, IsThread}
+use Rattle.joint_machine.proofs.Deciding.{some-same}
 use Rattle.bridge_script.specs.declared.faults.Cause.{Cause}
 use Rattle.bridge_script.specs.declared.grammar.Operation.{Operation}
 use Rattle.bridge_script.specs.declared.grammar.Place.{Place}
 use Rattle.bridge_script.specs.declared.operands.Operand.{Operand}
 use Rattle.bridge_script.specs.Words.{act_words}
-use Rattle.bridge_script.specs.Grammar.{operation_text, operation_of, form_of}
+use Rattle.bridge_script.specs.Grammar.{operation_text, form_of}
+use Rattle.bridge_script.specs.Answers.{operation_of}
 use Rattle.bridge_script.specs.Faults.{HasAt}
 use Rattle.bridge_script.specs.Operands.{operand_text, texts, StandsAt, StandAll, act_at, IsPossible}
 use Rattle.bridge_script.proofs.Standing.{fits, same_operands}

@@ -11,17 +11,18 @@ use Rattle.text_words.proofs.Cuts.{cut_at, cut_once, free_before}
 use Rattle.std.proofs.lemmas.List.Elements.{All-head, All-tail, All-take, All-get_or, All-push}
 use Rattle.std.proofs.lemmas.List.Sums.{sum_by-append, sum_by_push}
 use Rattle.std.proofs.Math.Seq.{take-add, take-append_seam, get_or-append_seam}
-use Rattle.joint_model.specs.declared.names.PhaseWord.TheVariants as phase
-use Rattle.joint_model.specs.declared.names.Thread.{Thread}
-use Rattle.joint_model.specs.declared.names.Thread.TheVariants.{C}
-use Rattle.joint_model.specs.declared.lines.Act.{Act}
-use Rattle.joint_model.specs.declared.lines.Act.TheVariants as act
+use Rattle.joint_machine.specs.declared.names.PhaseWord.TheVariants as phase
+use Rattle.joint_machine.specs.declared.names.Thread.{Thread}
+use Rattle.joint_machine.specs.declared.names.Thread.TheVariants.{C}
+use Rattle.joint_machine.specs.declared.lines.Act.{Act}
+use Rattle.joint_machine.specs.declared.lines.Act.TheVariants as act
 use Rattle.bridge_script.specs.declared.faults.ScriptFault.{ScriptFault}
 use Rattle.bridge_script.specs.declared.faults.Cause.{Cause}
 use Rattle.bridge_script.specs.declared.faults.Cause.TheVariants as cause
 use Rattle.bridge_script.specs.Words.{line_text, line_words}
 use Rattle.bridge_script.specs.Faults.{AskCycle, WordsHave, Has}
-use Rattle.bridge_script.specs.Scripts.{line_at, IsScriptLine, IsScript, IsText, IsFault, IsNoText, script_text_of, cycles_of, is_cycle, end_of}
+use Rattle.bridge_script.specs.Scripts.{IsScriptLine, IsScript, IsText, IsFault, IsNoText, script_text_of, cycles_of, is_cycle, end_of}
+use Rattle.bridge_script.specs.Answers.{line_at}
 use Rattle.bridge_script.specs.Steps.{EndsLine, behind}
 use Rattle.bridge_script.proofs.LineWords.{same_words, same_line, line_free, line_some, words_of_line}
 use Rattle.bridge_script.proofs.Fitting.{none_of_line}

@@ -1,11 +1,12 @@
 -- What is wrong with a line: its causes, and which of them is the first.
+-- Believed: the clauses of the program's top call rest on all that stands here.
 use Rattle.std.specs.Prelude.{◌≡◌, ◌≢◌, ℕ, ◌<◌, ◌≤◌, ◌^◌, ◌⊎◌, List, [], ◌∷◌, length, Option, Some, codes, decimal}
-use Rattle.joint_model.specs.declared.names.Var.{Var}
-use Rattle.joint_model.specs.declared.names.StaticNo.{StaticNo}
-use Rattle.joint_model.specs.declared.names.GName.{GName}
-use Rattle.joint_model.specs.declared.names.Cell.{Cell}
-use Rattle.joint_model.specs.declared.names.Thread.{Thread}
-use Rattle.joint_model.specs.Lines.{IsVar, IsVarOrNone, IsThread}
+use Rattle.joint_machine.specs.declared.names.Var.{Var}
+use Rattle.joint_machine.specs.declared.names.StaticNo.{StaticNo}
+use Rattle.joint_machine.specs.declared.names.GName.{GName}
+use Rattle.joint_machine.specs.declared.names.Cell.{Cell}
+use Rattle.joint_machine.specs.declared.names.Thread.{Thread}
+use Rattle.joint_machine.specs.Lines.{IsVar, IsVarOrNone, IsThread}
 use Rattle.bridge_script.specs.declared.faults.Cause.{Cause}
 use Rattle.bridge_script.specs.declared.faults.Cause.TheVariants as cause
 use Rattle.bridge_script.specs.declared.grammar.Operation.{Operation}

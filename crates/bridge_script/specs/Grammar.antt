@@ -1,10 +1,9 @@
 -- The grammar of a script's lines: the word of each operation, which thread has it, and what stands at its places
 -- in turn. docs/SCRIPT.md has the same table.
+-- Believed: the clauses of the program's top call rest on all that stands here.
 use Rattle.std.specs.Prelude.{ℕ, List, [], ◌∷◌, Option, Some, None, codes}
-use Rattle.joint_model.specs.declared.names.Thread.{Thread}
-use Rattle.joint_model.specs.declared.names.Thread.TheVariants.{M, P, C}
-use Rattle.joint_model.specs.declared.lines.Act.{Act}
-use Rattle.joint_model.specs.declared.lines.Act.TheVariants as act
+use Rattle.joint_machine.specs.declared.names.Thread.{Thread}
+use Rattle.joint_machine.specs.declared.names.Thread.TheVariants.{M, P, C}
 use Rattle.bridge_script.specs.declared.grammar.Operation.{Operation}
 use Rattle.bridge_script.specs.declared.grammar.Operation.TheVariants as operation
 use Rattle.bridge_script.specs.declared.grammar.Place.{Place}
@@ -40,36 +39,6 @@ operation_text operation.Slice = codes "slice"
 operation_text operation.SweepMark = codes "sweep"
 operation_text (operation.Phase word) = phase_word_text word
 operation_text operation.Finalise = codes "finalise"
-
--- the operation of an act
-abbrev pub operation_of : Act → Operation
-operation_of (act.New v kind fields) = operation.New
-operation_of (act.Bridge v kind fields sort peer_fields) = operation.Bridge
-operation_of (act.Copy v w) = operation.Copy
-operation_of (act.Set v i w) = operation.Set
-operation_of (act.Get v w i) = operation.Get
-operation_of (act.Drop v) = operation.Drop
-operation_of (act.Load v x) = operation.Load
-operation_of (act.Store x v) = operation.Store
-operation_of (act.Weak k v) = operation.Weak
-operation_of (act.Read k) = operation.Read
-operation_of (act.Await k) = operation.Await
-operation_of (act.Take v) = operation.Take
-operation_of (act.Pass v x) = operation.Pass
-operation_of (act.Surface v x) = operation.Surface
-operation_of (act.Dispose v) = operation.Dispose
-operation_of (act.Handle v) = operation.Handle
-operation_of (act.NewPeer v fields) = operation.NewPeer
-operation_of (act.Global g v) = operation.Global
-operation_of (act.WGlobal g v) = operation.WGlobal
-operation_of (act.UnGlobal g) = operation.UnGlobal
-operation_of (act.WRead v g) = operation.WRead
-operation_of act.Collect = operation.Collect
-operation_of act.BeginMark = operation.BeginMark
-operation_of (act.Slice n) = operation.Slice
-operation_of act.SweepMark = operation.SweepMark
-operation_of (act.PhaseLine word) = operation.Phase word
-operation_of (act.Finalise n) = operation.Finalise
 
 -- the place of a number of fields, of a field's index, of a count
 abbrev pub fields : Place

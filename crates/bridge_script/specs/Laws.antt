@@ -1,13 +1,14 @@
 -- Laws on the texts of scripts.
 use Rattle.std.specs.Prelude.{◌≡◌, ℕ, ◌≤◌, ◌⊎◌, List, [], ◌∷◌, ◌++◌, Some}
-use Rattle.joint_model.specs.declared.names.Thread.{Thread}
-use Rattle.joint_model.specs.declared.lines.Act.{Act}
+use Rattle.joint_machine.specs.declared.names.Thread.{Thread}
+use Rattle.joint_machine.specs.declared.lines.Act.{Act}
 use Rattle.bridge_script.specs.declared.faults.Cause.{Cause}
-use Rattle.joint_model.specs.Lines.{IsLine}
+use Rattle.joint_machine.specs.Lines.{IsLine}
 use Rattle.bridge_script.specs.declared.faults.ScriptFault.{ScriptFault}
 use Rattle.bridge_script.specs.declared.grammar.Place.{Place}
 use Rattle.bridge_script.specs.Words.{act_words, line_text}
-use Rattle.bridge_script.specs.Grammar.{operation_text, operation_of, form_of}
+use Rattle.bridge_script.specs.Grammar.{operation_text, form_of}
+use Rattle.bridge_script.specs.Answers.{operation_of}
 use Rattle.bridge_script.specs.Faults.{PlacesHave, Has}
 use Rattle.bridge_script.specs.Scripts.{IsScript, IsText, IsFault, IsNoText, script_text_of, standing, end_of}
 

@@ -1,5 +1,6 @@
 pub mod Words
 pub mod Grammar
+pub mod Answers
 pub mod Faults
 pub mod Scripts
 pub mod Operands

@@ -1,12 +1,12 @@
 -- The operands that stand at the places of a line, the texts of which are the line's words, and the act that an
 -- operation with operands is. Nothing outside of this crate rests on them.
 use Rattle.std.specs.Prelude.{min, ◌≡◌, ◌≢◌, ℕ, ◌≤◌, ◌^◌, ◌<◌, ◌++◌, List, [], ◌∷◌, length, map, decimal, Option, Some, None, option_map, Result, Ok, Err, MatchResult, cond, leb}
-use Rattle.joint_model.specs.declared.names.Kind.{Kind}
-use Rattle.joint_model.specs.declared.names.Kind.TheVariants as kind
-use Rattle.joint_model.specs.declared.names.StaticNo.{StaticNo}
-use Rattle.joint_model.specs.declared.lines.Act.{Act}
-use Rattle.joint_model.specs.declared.lines.Act.TheVariants as act
-use Rattle.joint_model.specs.Lines.{IsVar, IsVarOrNone, IsPlainObject, IsBridgeObject}
+use Rattle.joint_machine.specs.declared.names.Kind.{Kind}
+use Rattle.joint_machine.specs.declared.names.Kind.TheVariants as kind
+use Rattle.joint_machine.specs.declared.names.StaticNo.{StaticNo}
+use Rattle.joint_machine.specs.declared.lines.Act.{Act}
+use Rattle.joint_machine.specs.declared.lines.Act.TheVariants as act
+use Rattle.joint_machine.specs.Lines.{IsVar, IsVarOrNone, IsPlainObject, IsBridgeObject}
 use Rattle.bridge_script.specs.declared.faults.Cause.{Cause}
 use Rattle.bridge_script.specs.declared.faults.Cause.TheVariants as cause
 use Rattle.bridge_script.specs.declared.grammar.Operation.{Operation}

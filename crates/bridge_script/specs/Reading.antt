@@ -1,12 +1,10 @@
 -- What reading a script from a source does to it, and what the answer rests on.
+-- Believed: the clauses of the program's top call rest on all that stands here.
 use Rattle.std.specs.Prelude.{ℕ, List, Option}
 use Rattle.std.specs.Io.KnownBytes.{Consumes, IsAtEnd}
-use Rattle.joint_model.specs.declared.names.Thread.{Thread}
-use Rattle.joint_model.specs.declared.lines.Act.{Act}
+use Rattle.joint_machine.specs.declared.names.Thread.{Thread}
+use Rattle.joint_machine.specs.declared.lines.Act.{Act}
 use Rattle.bridge_script.specs.declared.faults.ScriptFault.{ScriptFault}
-use Rattle.bridge_script.specs.declared.faults.ScriptError.{ScriptError}
-use Rattle.bridge_script.specs.declared.faults.ScriptError.TheVariants.{OutOfMemory, ReadFault, Refused}
-use Rattle.byte_streams.specs.Streams.{Rose}
 use Rattle.byte_streams.specs.Reading.{Took}
 use Rattle.bridge_script.specs.Scripts.{IsText, IsFault, IsNoText}
 
@@ -24,9 +22,3 @@ pub record TookFault (left rest : Option (List ℕ)) (fault : ScriptFault) : Typ
   pub took : Took 8388608 left rest input
   pub faulty : IsFault input fault
   pub none : IsNoText input
-
--- why a source gave no script: no memory, or its count of faults rose, or what it gave is none
-abbrev pub IsNoScript : Option (List ℕ) → Option (List ℕ) → ℕ → ℕ → ScriptError → Type 0
-IsNoScript left rest before now OutOfMemory = Unit {0}
-IsNoScript left rest before now ReadFault = Rose before now
-IsNoScript left rest before now (Refused fault) = TookFault left rest fault

@@ -1,14 +1,13 @@
 -- Which bytes are a script, and which of their lines is the first that is none.
-use Rattle.std.specs.Prelude.{None, zero, suc, slice_get, ◌≡◌, ◌≢◌, ℕ, ◌+◌, ◌≤◌, ◌<◌, ◌⊎◌, min, Bool, true, false, List, [], ◌∷◌, ◌++◌, length, Option, All, count_by}
-use Rattle.joint_model.specs.declared.names.Thread.{Thread}
-use Rattle.joint_model.specs.declared.names.Thread.TheVariants.{C}
-use Rattle.joint_model.specs.declared.names.PhaseWord.TheVariants as phase
-use Rattle.joint_model.specs.declared.lines.Act.{Act}
-use Rattle.joint_model.specs.declared.lines.Act.TheVariants as act
+-- Believed: the clauses of the program's top call rest on all that stands here.
+use Rattle.std.specs.Prelude.{◌≡◌, ◌≢◌, ℕ, ◌+◌, ◌≤◌, ◌<◌, ◌⊎◌, min, Bool, true, false, List, [], ◌∷◌, ◌++◌, length, All, count_by}
+use Rattle.joint_machine.specs.declared.names.Thread.{Thread}
+use Rattle.joint_machine.specs.declared.names.Thread.TheVariants.{C}
+use Rattle.joint_machine.specs.declared.names.PhaseWord.TheVariants as phase
+use Rattle.joint_machine.specs.declared.lines.Act.{Act}
+use Rattle.joint_machine.specs.declared.lines.Act.TheVariants as act
 use Rattle.bridge_script.specs.declared.faults.ScriptFault.{ScriptFault}
-use Rattle.bridge_script.specs.declared.faults.ScriptError.{ScriptError}
-use Rattle.bridge_script.specs.declared.faults.ScriptError.TheVariants.{OutOfMemory, ReadFault, Refused}
-use Rattle.joint_model.specs.Lines.{IsLine}
+use Rattle.joint_machine.specs.Lines.{IsLine}
 use Rattle.text_words.specs.Words.{words_of}
 use Rattle.bridge_script.specs.Words.{line_text}
 use Rattle.bridge_script.specs.Faults.{PlacedLine, IsFirst, Has}
@@ -72,15 +71,3 @@ pub record IsFault (bytes : List ℕ) (fault : ScriptFault) : Type 0 where
 -- no script has these bytes as its text
 abbrev pub IsNoText : List ℕ → Type 0
 IsNoText bytes = (script : List (Thread × Act)) → IsText bytes script → ⊥
-
--- what `parse` may answer in place of a script: the first faulty line where there is no script; never a read
--- fault
-abbrev pub IsRefusal : List ℕ → ScriptError → Type 0
-IsRefusal bytes OutOfMemory = Unit {0}
-IsRefusal bytes ReadFault = ⊥
-IsRefusal bytes (Refused fault) = IsFault bytes fault × IsNoText bytes
-
--- the line of that number, counted from 1
-abbrev pub line_at : List (Thread × Act) → ℕ → Option (Thread × Act)
-line_at script zero = None
-line_at script (suc i) = slice_get script i

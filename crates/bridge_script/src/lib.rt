@@ -15,19 +15,21 @@
 // 2. `Script::line` gives the lines, counted from 1, to whoever runs them: each is a thread and an `Act` of
 //    `joint_model`, and lawful there. A worker calls `Turnstile::pass` before each.
 // 3. `take_act`, `var` and their like read such words back, from the `Words` of a line (`text_words`).
-// 4. `add_act`, `add_var` and their like put the words of a line behind a `Line` of `byte_streams`, for a report that has the same words.
+// 4. `add_act`, `add_var` and their like put the words of a line behind a `Line` of `byte_streams`, for a report that
+// has the same words.
 //
-// A `Script` is made by `parse` or of lines that are one, never changes afterwards, and is dropped by the program when it ends.
+// A `Script` is made by `parse` or of lines that are one, never changes afterwards, and is dropped by the program when
+// it ends.
 //
 // Who runs meanwhile: a source is read by one thread. A `Script` is then only read, by all threads of a run at once.
 //
-// What is promised: a script is answered exactly where the bytes are a script's text, and the fault that is named is the first. `texts_tell_scripts`
-// proves that a text is of one script, that a script has at most two texts, that a line of a script has no cause, and that bytes have one first faulty
-// line with one first cause.
+// What is promised: a script is answered exactly where the bytes are a script's text, and the fault that is named is
+// the first. `texts_tell_scripts` proves that a text is of one script, that a script has at most two texts, that a line
+// of a script has no cause, and that bytes have one first faulty line with one first cause.
 //
-// `specs/Scripts.antt` says which bytes are a script's text and which line is the first faulty one, by the texts
-// that `specs/Words.antt` gives lines, and not by how they are read. `specs/Grammar.antt` has the table of all
-// operations, `specs/Faults.antt` the nine causes.
+// `specs/Scripts.antt` says which bytes are a script's text and which line is the first faulty one, by the texts that
+// `specs/Words.antt` gives lines, and not by how they are read. `specs/Grammar.antt` has the table of all operations,
+// `specs/Faults.antt` the nine causes.
 #![tactic(auto)]
 
 mod acts;

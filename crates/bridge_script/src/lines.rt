@@ -1,8 +1,8 @@
 // What a line of a script asks for, by its words, or what is wrong with them.
 
 ghost use Rattle.std.specs.Prelude.{◌≡◌, ◌≢◌, ◌∷◌, ◌++◌, ◌≤◌, ℕ, true, min, length, List, Option, Some, IfSome, MatchBool, MatchOption};
-ghost use Rattle.joint_model.specs.Lines.{IsPlainObject, IsBridgeObject, IsThread, IsLine};
-ghost use Rattle.joint_model.specs.declared.lines.Act.{Act};
+ghost use Rattle.joint_machine.specs.Lines.{IsPlainObject, IsBridgeObject, IsThread, IsLine};
+ghost use Rattle.joint_machine.specs.declared.lines.Act.{Act};
 ghost use Rattle.bridge_script.specs.declared.grammar.Operation.{Operation};
 ghost use Rattle.bridge_script.specs.declared.grammar.Place.{Place};
 ghost use Rattle.bridge_script.specs.Words.{act_words};
@@ -39,7 +39,8 @@ pub fn read_line(text: Stretch) -> Result<(Thread, Act), Cause>
     }
 }
 
-/// Takes what a line of the thread asks for: the words behind its thread. None where the words that are left don't begin with those of such a line.
+/// Takes what a line of the thread asks for: the words behind its thread. None where the words that are left don't
+/// begin with those of such a line.
 pub fn take_act(thread: Thread, words: &mut Words) -> Option<Act>
     requires { IsThread thread }
     ensures sound { IfSome result (λ a. IsLine thread a × (words.old ≡ act_words thread a ++ words.new)) }

@@ -190,7 +190,8 @@ pub fn read_operands(places: &[Place], words: &mut Words) -> Result<Operands, Ca
     }
 }
 
-/// Takes the words at these places, and answers what they stand for. None where the words that are left don't begin with such words.
+/// Takes the words at these places, and answers what they stand for. None where the words that are left don't begin
+/// with such words.
 pub fn take_operands(places: &[Place], words: &mut Words) -> Option<Operands>
     requires { length places.now ≤ 5 }
     ensures sound { IfSome result (λ xs. StandAll places.now xs × (words.old ≡ texts xs ++ words.new)) }

@@ -1,7 +1,8 @@
 // Reading a script from a source.
 
 ghost use Rattle.std.specs.Prelude.{◌≤◌, IfOk, IfErr};
-ghost use Rattle.bridge_script.specs.Reading.{TookScript, IsNoScript};
+ghost use Rattle.bridge_script.specs.Reading.{TookScript};
+ghost use Rattle.bridge_script.specs.Answers.{IsNoScript};
 
 use crate::faults::ScriptError;
 use crate::scripts::{MOST_BYTES, Script, parse};

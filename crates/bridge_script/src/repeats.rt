@@ -1,7 +1,7 @@
 // Lines that were read, by their texts.
 //
-// A script mostly has few different lines, some tens. So the lines that were read last are kept, each where its text's mark says, and a line whose text
-// is seen there is the same line: it isn't read once more.
+// A script mostly has few different lines, some tens. So the lines that were read last are kept, each where its text's
+// mark says, and a line whose text is seen there is the same line: it isn't read once more.
 
 ghost use Rattle.std.specs.Prelude.{◌≡◌, ◌+◌, ◌≤◌, ◌<◌, length, take, drop, IfSome};
 ghost use Rattle.bridge_script.specs.Scripts.{IsScriptLine};

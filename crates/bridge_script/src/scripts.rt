@@ -1,9 +1,10 @@
 // A script: its lines, and which bytes are one.
 
 ghost use Rattle.std.specs.Prelude.{◌≡◌, ℕ, List, ◌+◌, ◌≤◌, ◌<◌, ◌==◌, [], cond, slice_get, length, IfOk, IfErr, IfSome, MatchResult};
-ghost use Rattle.joint_model.specs.Lines.{IsLine};
+ghost use Rattle.joint_machine.specs.Lines.{IsLine};
 ghost use Rattle.bridge_script.specs.declared.faults.ScriptError.{ScriptError};
-ghost use Rattle.bridge_script.specs.Scripts.{IsScript, IsScriptLine, IsText, IsRefusal, cycles_of, is_cycle, line_at};
+ghost use Rattle.bridge_script.specs.Scripts.{IsScript, IsScriptLine, IsText, cycles_of, is_cycle};
+ghost use Rattle.bridge_script.specs.Answers.{IsRefusal, line_at};
 ghost use Rattle.bridge_script.specs.Steps.{GainsLine, ReadsLine, Stops, EndsLine};
 
 use crate::faults::{Cause, ScriptError, ScriptFault};
@@ -32,8 +33,8 @@ pub struct Script {
 
 impl Model for Script {
     ghost use Rattle.std.specs.Prelude.{◌≡◌, List};
-    ghost use Rattle.joint_model.specs.declared.names.Thread.{Thread};
-    ghost use Rattle.joint_model.specs.declared.lines.Act.{Act};
+    ghost use Rattle.joint_machine.specs.declared.names.Thread.{Thread};
+    ghost use Rattle.joint_machine.specs.declared.lines.Act.{Act};
     ghost use Rattle.bridge_script.specs.Scripts.{IsScript, cycles_of};
 
     ghost Value = { List (Thread × Act) };
@@ -79,8 +80,8 @@ impl Script {
         place_of(&self.lines, (i - 1) as usize)
     }
 
-    // The script of no lines. Room for all that a script may have is asked for at once, so that the list is never copied as it grows; where
-    // there isn't so much memory it grows as it needs.
+    // The script of no lines. Room for all that a script may have is asked for at once, so that the list is never
+    // copied as it grows; where there isn't so much memory it grows as it needs.
     fn new(alloc: Global) -> Script
         ensures { result ≡ [] }
     {
@@ -107,8 +108,8 @@ impl Script {
         lines
     }
 
-    // Puts the line last that was read of a text, of which `end` is the number of bytes up to its end. `Refused` where that
-    // has a cause, with the first of them.
+    // Puts the line last that was read of a text, of which `end` is the number of bytes up to its end. `Refused` where
+    // that has a cause, with the first of them.
     fn grow(&mut self, read: Result<(Thread, Act), Cause>, end: usize) -> Result<(), ScriptError>
         requires { IfOk read (λ line. IsScriptLine line) }
         ensures { (text : List ℕ) → ReadsLine text read → MatchResult result (λ _. GainsLine self.old self.new text end) (λ error. Stops self.old text end error) }

@@ -1,13 +1,13 @@
 // The words that name something: what stands at the places of a line.
 
 ghost use Rattle.std.specs.Prelude.{◌≡◌, ◌≢◌, ℕ, ◌<◌, ◌≤◌, List, ◌∷◌, Option, MatchOption, decimal};
-ghost use Rattle.joint_model.specs.Lines.{IsThread, IsVar, IsVarOrNone};
+ghost use Rattle.joint_machine.specs.Lines.{IsThread, IsVar, IsVarOrNone};
 ghost use Rattle.bridge_script.specs.Words.{thread_text, var_text, optional_text, managed_static as managed_static_text, peer_static as peer_static_text, global_text, cell_text};
-ghost use Rattle.joint_model.specs.declared.names.Thread.{Thread};
-ghost use Rattle.joint_model.specs.declared.names.Var.{Var};
-ghost use Rattle.joint_model.specs.declared.names.StaticNo.{StaticNo};
-ghost use Rattle.joint_model.specs.declared.names.GName.{GName};
-ghost use Rattle.joint_model.specs.declared.names.Cell.{Cell};
+ghost use Rattle.joint_machine.specs.declared.names.Thread.{Thread};
+ghost use Rattle.joint_machine.specs.declared.names.Var.{Var};
+ghost use Rattle.joint_machine.specs.declared.names.StaticNo.{StaticNo};
+ghost use Rattle.joint_machine.specs.declared.names.GName.{GName};
+ghost use Rattle.joint_machine.specs.declared.names.Cell.{Cell};
 
 use joint_model::{Cell, GName, StaticNo, Thread, Var};
 use text_words::{Words, is_same, lettered};

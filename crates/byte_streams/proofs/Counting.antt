@@ -1,5 +1,5 @@
--- From a number to the next the last digit goes up by one, where it isn't 9. Where it is, it becomes 0, and the number that stands before it
--- goes on by one.
+-- From a number to the next the last digit goes up by one, where it isn't 9. Where it is, it becomes 0, and the number
+-- that stands before it goes on by one.
 use Rattle.std.proofs.Common.{◌≡◌, ℕ, ◌+◌, ◌/◌, ◌%◌, ◌^◌, ◌<◌, ◌≤◌, List, [], ◌∷◌, ◌++◌, length, take, drop, set, get_or, decimal, refl, sym, ap, ◌∙◌, arith, append_assoc, inl, inr}
 use Rattle.std.proofs.lemmas.Bool.{cases_lt}
 use Rattle.std.proofs.lemmas.Fmt.{decimal_digit, decimal_step}
@@ -32,7 +32,8 @@ ends m l = elim (cases_lt m 10) [
 carried : (m : ℕ) → 10 ≤ m → m + 1 < 2 ^ 64 → m % 10 ≡ 9 → decimal (m + 1) ≡ decimal (m / 10 + 1) ++ 48 ∷ []
 carried m g l h = let t : (m + 1) / 10 ≡ m / 10 + 1 = omega (arith, h) in let o : (m + 1) % 10 ≡ 0 = omega (arith, h) in decimal_step (m + 1) (omega arith) l ∙ rw (t, o) refl
 
--- the digits from place i on are done: those before it are of a number, after which the number that comes next goes on with those that are done
+-- the digits from place i on are done: those before it are of a number, after which the number that comes next goes on
+-- with those that are done
 pub record Carry (n : ℕ) (digits : List ℕ) (i : ℕ) : Type 0 where
   pub m : ℕ
   pub small : m ≤ n

@@ -1,6 +1,7 @@
 -- What contracts see of a line that is put together: its text so far, and for how many more bytes there is
 -- room.
-use Rattle.std.specs.Prelude.{◌≡◌, ℕ, ◌+◌, ◌≤◌, List, [], ◌∷◌, ◌++◌}
+use Rattle.std.specs.Prelude.{◌≡◌, ℕ, ◌+◌, ◌≤◌, List, ◌++◌}
+use Rattle.byte_streams.specs.Spaced.{after_spaces}
 
 pub record Draft : Type 0 where
   pub text : List ℕ
@@ -10,11 +11,6 @@ pub record Draft : Type 0 where
 pub record AddsText (old new : Draft) (text : List ℕ) (most : ℕ) : Type 0 where
   pub added : new.text ≡ old.text ++ text
   pub left : old.room ≤ new.room + most
-
--- words in a row, with one space before each
-abbrev pub after_spaces : List (List ℕ) → List ℕ
-after_spaces [] = []
-after_spaces (word ∷ words) = 32 ∷ (word ++ after_spaces words)
 
 -- words were put behind a line, each with a space before it
 abbrev pub AddsWords : Draft → Draft → List (List ℕ) → ℕ → Type 0

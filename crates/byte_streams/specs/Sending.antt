@@ -1,7 +1,7 @@
 -- What is written piece by piece: a sink holds a beginning of it, and what is pending is the rest.
 use Rattle.std.specs.Prelude.{◌≡◌, ℕ, List, ◌++◌, Option, Result, OnOk, OnErr}
 use Rattle.std.specs.Io.KnownBytes.{Appends}
-use Rattle.byte_streams.specs.Streams.{AppendsPart, HasCause}
+use Rattle.byte_streams.specs.Faults.{AppendsPart, HasCause}
 
 -- of what was pending and a text behind it, a beginning went to the sink, and the rest is pending now
 pub record BuffersText (old new : Option (List ℕ)) (pending left : List ℕ) (text : List ℕ) : Type 0 where

@@ -1,22 +1,7 @@
 -- What a reader sees of a source and a writer of a sink: bytes, where they are told, and a count of faults.
-use Rattle.std.specs.Prelude.{◌≡◌, ℕ, ◌+◌, ◌-◌, ◌^◌, ◌≤◌, min, List, ◌++◌, Option, Result, OnOk, OnErr}
+use Rattle.std.specs.Prelude.{ℕ, ◌+◌, ◌-◌, ◌^◌, min, List, Option, Result, OnOk, OnErr}
 use Rattle.std.specs.Io.KnownBytes.{Appends}
-
--- a count of faults rose: it is greater than before, or stands at the end of its type
-abbrev pub Rose : ℕ → ℕ → Type 0
-Rose before now = min (before + 1) (2 ^ 64 - 1) ≤ now
-
--- the count of faults never falls, and an error comes only where it rose
-pub record HasCause {T E : Type 0} (before now : ℕ) (result : Result T E) : Type 0 where
-  pub later : before ≤ now
-  pub failed : OnErr result (Rose before now)
-
--- a beginning of the text was appended to the bytes that a sink held
-pub record AppendsPart (old new : Option (List ℕ)) (text : List ℕ) : Type 0 where
-  pub part : List ℕ
-  pub rest : List ℕ
-  pub whole : text ≡ part ++ rest
-  pub appends : Appends old new part
+use Rattle.byte_streams.specs.Faults.{AppendsPart, HasCause}
 
 -- the whole text was appended; or the sink's count of faults rose, and a beginning was
 pub record Writes {E : Type 0} (old new : Option (List ℕ)) (before now : ℕ) (result : Result (Unit {0}) E) (text : List ℕ) : Type 0 where

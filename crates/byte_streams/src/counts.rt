@@ -65,7 +65,8 @@ impl Count {
     }
 }
 
-// Writes the decimal text of a number to the front of a buffer, and answers how many bytes it has. It is a call, since it is seldom made.
+// Writes the decimal text of a number to the front of a buffer, and answers how many bytes it has. It is a call, since
+// it is seldom made.
 #[inline(never)]
 fn write_digits(n: u64, bytes: &mut [u8; 32]) -> usize
     ensures len { result ≤ 20 }
@@ -77,7 +78,8 @@ fn write_digits(n: u64, bytes: &mut [u8; 32]) -> usize
     text.len()
 }
 
-// Makes the decimal text of a number that of the number after it, where this has as many digits, and answers whether it has.
+// Makes the decimal text of a number that of the number after it, where this has as many digits, and answers whether it
+// has.
 #[inline(always)]
 fn count_up(digits: &mut [u8]) -> bool
     ensures next { IsTrue result → CountsUp digits.old digits.new }

@@ -1,4 +1,5 @@
-// A text that is put together for a sink in a fixed buffer: it takes no memory. A sink gets what was put together where there is no room for more.
+// A text that is put together for a sink in a fixed buffer: it takes no memory. A sink gets what was put together where
+// there is no room for more.
 
 ghost use Rattle.std.specs.Prelude.{◌≡◌, ◌+◌, ◌++◌, ◌/◌, ◌%◌, ◌<◌, ◌≤◌, [], ◌∷◌, length, decimal, OnOk};
 ghost use Rattle.byte_streams.specs.Streams.{Writes};
@@ -24,7 +25,8 @@ const LANES: usize = 32;
 // For so many bytes [`Line::make_room`] sees that there is room.
 const LEAST: usize = 512;
 
-/// A text that is put together: one line or many, of at most 16,384 bytes in all. A call that puts something behind it asks for the room.
+/// A text that is put together: one line or many, of at most 16,384 bytes in all. A call that puts something behind it
+/// asks for the room.
 #[derive(Drop)]
 pub struct Line {
     bytes: [u8; 16_384],
@@ -71,8 +73,8 @@ impl Line {
         self.len = 0;
     }
 
-    /// Sees that there is room for 512 bytes more: where there isn't, the sink gets the text, and the line is empty. [`Failed`] only where
-    /// the sink's count of faults rose; then it got a beginning of the text.
+    /// Sees that there is room for 512 bytes more: where there isn't, the sink gets the text, and the line is empty.
+    /// [`Failed`] only where the sink's count of faults rose; then it got a beginning of the text.
     #[inline(always)]
     pub fn make_room<K: Sink>(&mut self, out: &mut K) -> Result<(), Failed>
         ensures sent { Sends (K.held out.old) (K.held out.new) self.old.text self.new.text (K.faults out.old) (K.faults out.new) result [] }
@@ -84,7 +86,8 @@ impl Line {
         self.flush(out)
     }
 
-    /// Gives the sink the text and empties the line. [`Failed`] only where the sink's count of faults rose; then it got a beginning of the text.
+    /// Gives the sink the text and empties the line. [`Failed`] only where the sink's count of faults rose; then it got
+    /// a beginning of the text.
     pub fn flush<K: Sink>(&mut self, out: &mut K) -> Result<(), Failed>
         ensures written { Writes (K.held out.old) (K.held out.new) (K.faults out.old) (K.faults out.new) result self.old.text }
         ensures text { OnOk result (self.new.text ≡ []) }
@@ -150,7 +153,8 @@ impl Line {
         }
     }
 
-    // Puts a number of three or four digits behind it. The last two are what its hundredth part leaves, so that one division does, here and below.
+    // Puts a number of three or four digits behind it. The last two are what its hundredth part leaves, so that one
+    // division does, here and below.
     #[inline(always)]
     fn four_digits(&mut self, n: u64)
         requires digits { (100 ≤ n) × (n < 10000) }
@@ -226,8 +230,8 @@ impl Line {
         }
     }
 
-    // Puts a number of five digits or more behind it, in decimal. It is a call, so that the code for the short ones is small enough to stand
-    // at each place where a number is put.
+    // Puts a number of five digits or more behind it, in decimal. It is a call, so that the code for the short ones is
+    // small enough to stand at each place where a number is put.
     #[inline(never)]
     fn longer_number(&mut self, n: u64)
         requires long { 10000 ≤ n }
@@ -243,7 +247,8 @@ impl Line {
         }
     }
 
-    // Puts a number behind it, in decimal, by a buffer of its own. It is a call, so that those of fewer digits need no room for that buffer.
+    // Puts a number behind it, in decimal, by a buffer of its own. It is a call, so that those of fewer digits need no
+    // room for that buffer.
     #[inline(never)]
     fn any_number(&mut self, n: u64)
         requires { 20 ≤ self.old.room }
@@ -252,7 +257,8 @@ impl Line {
         self.text(Buffer::new().format(n).as_bytes());
     }
 
-    /// Puts a number behind it whose decimal text is at hand. All 32 bytes of the count's buffer are copied at once, so it asks for room for these.
+    /// Puts a number behind it whose decimal text is at hand. All 32 bytes of the count's buffer are copied at once, so
+    /// it asks for room for these.
     #[inline(always)]
     pub fn count(&mut self, count: &Count)
         requires { 32 ≤ self.old.room }
@@ -264,7 +270,8 @@ impl Line {
         self.len = at + len;
     }
 
-    /// Puts a word behind it, with a space before the word. The word is taken as an array, since its length is then known where it is put.
+    /// Puts a word behind it, with a space before the word. The word is taken as an array, since its length is then
+    /// known where it is put.
     #[inline(always)]
     pub fn word<const N: usize>(&mut self, word: [u8; N])
         requires { N + 1 ≤ self.old.room }

@@ -3,7 +3,8 @@
 ghost use Rattle.std.specs.Prelude.{◌≡◌, ℕ, ◌+◌, ◌↔◌, ◌<◌, ◌≤◌, ◌^◌, ◌-◌, [], length, min, take, Some, None, Contains, IsTrue, IsErr, IfOk};
 ghost use Rattle.std.specs.Io.{ReadsAtMost, WritesAtMost};
 ghost use Rattle.std.specs.Io.KnownBytes.{ReadConsumes, WriteAppends};
-ghost use Rattle.byte_streams.specs.Streams.{HasCause, next_count};
+ghost use Rattle.byte_streams.specs.Streams.{next_count};
+ghost use Rattle.byte_streams.specs.Faults.{HasCause};
 
 use crate::streams::{Failed, Sink, Source};
 use std::alloc::Global;

@@ -1,7 +1,8 @@
 // All that a source has, up to a limit.
 
 ghost use Rattle.std.specs.Prelude.{◌≡◌, ◌+◌, ◌^◌, ◌<◌, ◌≤◌, [], IfOk, IfErr};
-ghost use Rattle.byte_streams.specs.Reading.{Took, IsReadError};
+ghost use Rattle.byte_streams.specs.Reading.{Took};
+ghost use Rattle.byte_streams.specs.ReadErrors.{IsReadError};
 
 use crate::streams::Source;
 use std::alloc::{AllocError, Global};
@@ -39,7 +40,8 @@ fn empty(alloc: Global) -> Vec<u8>
     }
 }
 
-/// Takes bytes from a source, which may give them in whatever pieces: until its end, or until one byte more than `most` was taken, and no further.
+/// Takes bytes from a source, which may give them in whatever pieces: until its end, or until one byte more than `most`
+/// was taken, and no further.
 ///
 /// `Failed` only where the source's count of faults rose. `OutOfMemory` where there is no memory for the bytes.
 pub fn read_up_to<S: Source>(alloc: Global, src: &mut S, most: usize) -> Result<Vec<u8>, ReadError>

@@ -3,7 +3,8 @@
 ghost use Rattle.std.specs.Prelude.{◌≡◌, ℕ, ◌<◌, ◌≤◌, List, Option, length, IfOk};
 ghost use Rattle.std.specs.Io.{ReadsAtMost, WritesAtMost};
 ghost use Rattle.std.specs.Io.KnownBytes.{ReadConsumes, WriteAppends};
-ghost use Rattle.byte_streams.specs.Streams.{HasCause, Writes};
+ghost use Rattle.byte_streams.specs.Streams.{Writes};
+ghost use Rattle.byte_streams.specs.Faults.{HasCause};
 
 /// A read or a write failed: the count of faults of its source or sink rose.
 #[derive(Clone, Copy, PartialEq, Eq, Debug)]

@@ -1,25 +1,26 @@
--- The tests over what is kept are the first two of an entry, case by case; and what is kept goes on as the control does.
+-- The tests over what is kept are the first two of an entry, case by case; and what is kept goes on as the control
+-- does.
 use Rattle.std.proofs.Common.{◌≡◌, ℕ, zero, suc, ◌+◌, Bool, true, false, List, [], ◌∷◌, ◌++◌, length, map, Option, Some, None, refl, sym, ap, ◌∙◌, subst, arith, length-append}
 use Rattle.std.proofs.lemmas.List.{map-set}
 use Rattle.std.proofs.lemmas.List.Elements.{All-contains}
 use Rattle.std.specs.Prelude.{◌↔◌, slice_get, slice_set, is_some, All}
-use Rattle.joint_model.specs.declared.names.HNum.{HNum}
-use Rattle.joint_model.specs.declared.names.Phase.{Phase}
-use Rattle.joint_model.specs.declared.names.Phase.TheVariants as at
-use Rattle.joint_model.specs.declared.names.Thread.{Thread}
-use Rattle.joint_model.specs.declared.names.Thread.TheVariants.{M, P, C}
-use Rattle.joint_model.specs.declared.events.Op.{Op}
-use Rattle.joint_model.specs.declared.events.Op.TheVariants as op
-use Rattle.joint_model.specs.declared.events.Reply.{Reply}
-use Rattle.joint_model.specs.declared.events.Reply.TheVariants as says
-use Rattle.joint_model.specs.Control as control
-use Rattle.joint_model.specs.Control.{Control, doing_at, control_after, IsAtRest, IsCandidateHandle}
-use Rattle.joint_model.specs.Lines.{IsEvent}
-use Rattle.joint_model.specs.Linked.{Linkage}
-use Rattle.joint_model.specs.Managed.{Managed, candidates_of}
-use Rattle.joint_model.specs.PeerReplay.{Marking}
-use Rattle.joint_model.specs.Told.{Told, Answer, contraction_of, phase_of}
-use Rattle.joint_model.proofs.Members.{All-members, Contains-at, at-Contains, Contains-map, Contains-map_cases}
+use Rattle.joint_machine.specs.declared.names.HNum.{HNum}
+use Rattle.joint_machine.specs.declared.names.Phase.{Phase}
+use Rattle.joint_machine.specs.declared.names.Phase.TheVariants as at
+use Rattle.joint_machine.specs.declared.names.Thread.{Thread}
+use Rattle.joint_machine.specs.declared.names.Thread.TheVariants.{M, P, C}
+use Rattle.joint_machine.specs.declared.events.Op.{Op}
+use Rattle.joint_machine.specs.declared.events.Op.TheVariants as op
+use Rattle.joint_machine.specs.declared.events.Reply.{Reply}
+use Rattle.joint_machine.specs.declared.events.Reply.TheVariants as says
+use Rattle.joint_machine.specs.Control as control
+use Rattle.joint_machine.specs.Control.{Control, doing_at, control_after, IsAtRest, IsCandidateHandle}
+use Rattle.joint_machine.specs.Lines.{IsEvent}
+use Rattle.joint_machine.specs.Linked.{Linkage}
+use Rattle.joint_machine.specs.Managed.{Managed, candidates_of}
+use Rattle.joint_machine.specs.PeerReplay.{Marking}
+use Rattle.joint_machine.specs.Told.{Told, Answer, contraction_of, phase_of}
+use Rattle.joint_machine.proofs.Members.{All-members, Contains-at, at-Contains, Contains-map, Contains-map_cases}
 use Rattle.check_laws.specs.Order as order
 use Rattle.check_laws.specs.Order.{IsTurn}
 use Rattle.caller_turns.specs.declared.stands.Part.{Part}

@@ -1,17 +1,17 @@
 -- What is kept of callers is what the control of a linked history has, as far as turns and citations go.
 use Rattle.std.specs.Prelude.{◌≡◌, ℕ, ◌<◌, ◌^◌, ◌↔◌, length, map, Some, is_some}
-use Rattle.joint_model.specs.declared.names.HNum.{HNum}
-use Rattle.joint_model.specs.declared.names.Phase.{Phase}
-use Rattle.joint_model.specs.declared.names.Thread.{Thread}
-use Rattle.joint_model.specs.declared.events.Made.{Made}
-use Rattle.joint_model.specs.declared.events.Op.{Op}
-use Rattle.joint_model.specs.declared.events.Op.TheVariants as op
-use Rattle.joint_model.specs.declared.events.Reply.{Reply}
-use Rattle.joint_model.specs.Control as control
-use Rattle.joint_model.specs.Control.{Control, control_after, IsCandidateHandle}
-use Rattle.joint_model.specs.Linked.{Linkage, IsWhole}
-use Rattle.joint_model.specs.Managed.{candidates_of}
-use Rattle.joint_model.specs.Told.{Told, contraction_of, phase_of}
+use Rattle.joint_machine.specs.declared.names.HNum.{HNum}
+use Rattle.joint_machine.specs.declared.names.Phase.{Phase}
+use Rattle.joint_machine.specs.declared.names.Thread.{Thread}
+use Rattle.joint_machine.specs.declared.events.Made.{Made}
+use Rattle.joint_machine.specs.declared.events.Op.{Op}
+use Rattle.joint_machine.specs.declared.events.Op.TheVariants as op
+use Rattle.joint_machine.specs.declared.events.Reply.{Reply}
+use Rattle.joint_machine.specs.Control as control
+use Rattle.joint_machine.specs.Control.{Control, control_after, IsCandidateHandle}
+use Rattle.joint_machine.specs.Linked.{Linkage, IsWhole}
+use Rattle.joint_machine.specs.Managed.{candidates_of}
+use Rattle.joint_machine.specs.Told.{Told, contraction_of, phase_of}
 use Rattle.check_laws.specs.Order.{IsTurn, CitesSo}
 use Rattle.caller_turns.specs.declared.stands.Doing.{Doing}
 use Rattle.caller_turns.specs.declared.stands.Doing.TheVariants as doing

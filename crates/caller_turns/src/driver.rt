@@ -5,7 +5,7 @@ ghost use Rattle.caller_turns.specs.Turns.{BeginTurn, ClearTurn, DriverCites, Dr
 
 use crate::hands::cites_entry;
 use crate::stands::{OpenSnap, Part, Stand};
-use joint_model::{Cycle, HNum, Op, Phase};
+use joint_machine::{Cycle, HNum, Op, Phase};
 
 /// Whether no phase is half done, with so many candidates.
 pub(crate) fn is_resting(stand: &Stand, candidates: u32) -> bool
@@ -76,7 +76,8 @@ fn clear_turn(stand: &Stand, part: &Part) -> bool
     }
 }
 
-/// Whether the event is the next one of the phase that is half done, or the first of the phase that comes next, or one that stands between phases.
+/// Whether the event is the next one of the phase that is half done, or the first of the phase that comes next, or one
+/// that stands between phases.
 pub(crate) fn driver_turn(stand: &Stand, part: &Part, op: &Op) -> bool
     ensures { IsTrue result ↔ DriverTurn stand.now part.now op.now }
 {

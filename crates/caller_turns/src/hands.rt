@@ -5,7 +5,7 @@ ghost use Rattle.caller_turns.specs.Turns.{AdoptCites, AdoptTurn, HandCites, Han
 
 use crate::roles::is_bridge_object;
 use crate::stands::Doing;
-use joint_model::{Entry, HNum, Kind, Op, PNum, Reply};
+use joint_machine::{Entry, HNum, Kind, Op, PNum, Reply};
 
 /// Whether an entry cites the one with that number.
 pub(crate) fn cites_entry(cites: Option<u64>, number: u64) -> bool

@@ -1,4 +1,5 @@
-// The laws of turns: they are the first two tests of an entry in the state of a linked history, and go on as that state does.
+// The laws of turns: they are the first two tests of an entry in the state of a linked history, and go on as that state
+// does.
 
 ghost use Rattle.caller_turns.specs.Shapes.{CallersGoOn, CitesAreTested, TurnsAreTested, WholeIsTested};
 

@@ -1,9 +1,9 @@
 // Which events a caller can have, of those that an entry can name.
 
 ghost use Rattle.std.specs.Prelude.{◌≡◌, ◌≤◌, ◌↔◌, IsTrue};
-ghost use Rattle.joint_model.specs.Lines.{IsBridgeObject, IsDriver, IsEvent, IsManagedThread, IsNamed, IsPeerThread, IsThread, IsAdoptable};
+ghost use Rattle.joint_machine.specs.Lines.{IsBridgeObject, IsDriver, IsEvent, IsManagedThread, IsNamed, IsPeerThread, IsThread, IsAdoptable};
 
-use joint_model::{Kind, Op, Sort, Thread};
+use joint_machine::{Kind, Op, Sort, Thread};
 
 /// Whether a managed thread makes the event.
 fn is_managed(caller: Thread) -> bool

@@ -1,8 +1,9 @@
 // What a managed thread is in the midst of, and where the driver stands.
 
-use joint_model::{Cycle, HNum, PNum, Sort, StaticNo};
+use joint_machine::{Cycle, HNum, PNum, Sort, StaticNo};
 
-/// The half of an operation that a managed thread has made, with the number and the line of its entry, which the next event cites.
+/// The half of an operation that a managed thread has made, with the number and the line of its entry, which the next
+/// event cites.
 #[derive(Clone, Copy, PartialEq, Eq, Debug)]
 pub enum Doing {
     /// None.
@@ -59,8 +60,8 @@ pub enum Stand {
     Idle,
     Snapped(OpenSnap),
     Contracted(OpenSnap),
-    /// The mirror stands, and so many handles are weakened; whether it was seen that the driver has come to the weakened phase, and whether it has swept a
-    /// peer thread's marking.
+    /// The mirror stands, and so many handles are weakened; whether it was seen that the driver has come to the
+    /// weakened phase, and whether it has swept a peer thread's marking.
     Weakening {
         open: OpenSnap,
         count: u32,
@@ -80,8 +81,8 @@ pub enum Stand {
     },
 }
 
-/// What the two sides have of the open cycle: how many candidates it has, the handle of the one that is next to be weakened or restored, and whether a
-/// marking is open.
+/// What the two sides have of the open cycle: how many candidates it has, the handle of the one that is next to be
+/// weakened or restored, and whether a marking is open.
 #[derive(Clone, Copy, PartialEq, Eq, Debug)]
 pub struct Part {
     pub candidates: u32,

@@ -1,8 +1,8 @@
 // What is kept of callers, and the tests over it.
 
 ghost use Rattle.std.specs.Prelude.{◌≡◌, ◌<◌, ◌≤◌, ◌↔◌, IsTrue};
-ghost use Rattle.joint_model.specs.Control.{caller_place, opening_control};
-ghost use Rattle.joint_model.specs.Lines.{IsNamed, IsThread};
+ghost use Rattle.joint_machine.specs.Control.{caller_place, opening_control};
+ghost use Rattle.joint_machine.specs.Lines.{IsNamed, IsThread};
 ghost use Rattle.caller_turns.specs.Shapes.{callers_of};
 ghost use Rattle.caller_turns.specs.Turns.{AreDone, CallersTurn, CitesIn, HasCount, IsTheirTurn, callers_after, hand_at};
 
@@ -10,11 +10,11 @@ use crate::driver::{after, driver_cites, driver_turn, is_resting};
 use crate::hands::{after as hand_after, hand_cites, hand_turn, may_begin};
 use crate::roles::is_event;
 use crate::stands::{Doing, Part, Stand};
-use joint_model::{Entry, Op, Phase, Thread};
+use joint_machine::{Entry, Op, Phase, Thread};
 use std::marker::Model;
 
-/// What callers are in the midst of: of each managed thread the half of an operation, of each caller the line of its last entry, and where the driver
-/// stands.
+/// What callers are in the midst of: of each managed thread the half of an operation, of each caller the line of its
+/// last entry, and where the driver stands.
 #[derive(Drop)]
 pub struct Turns {
     hands: [Doing; 9],
@@ -82,8 +82,9 @@ impl Turns {
         }
     }
 
-    /// Whether it is the caller's turn to make such an event on that line: the caller may make it at all, its lines don't fall, and it is the next event of the
-    /// operation or phase that is half done, or the first of one that may begin. The entry is one that can name its event.
+    /// Whether it is the caller's turn to make such an event on that line: the caller may make it at all, its lines
+    /// don't fall, and it is the next event of the operation or phase that is half done, or the first of one that may
+    /// begin. The entry is one that can name its event.
     pub fn is_turn(&self, caller: Thread, index: u32, op: &Op, part: &Part) -> bool
         requires { IsNamed caller op.now }
         ensures { IsTrue result ↔ IsTheirTurn self.now part.now caller index op.now }
@@ -105,7 +106,8 @@ impl Turns {
         }
     }
 
-    /// Whether nothing has to follow: no handle of a managed thread waits for its release, and no phase is half done, with so many candidates.
+    /// Whether nothing has to follow: no handle of a managed thread waits for its release, and no phase is half done,
+    /// with so many candidates.
     pub fn is_done(&self, candidates: u32) -> bool
         ensures { IsTrue result ↔ AreDone self.now candidates }
     {

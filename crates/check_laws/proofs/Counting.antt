@@ -1,35 +1,35 @@
--- What a read may answer that is set aside is told by counts. A cycle has one end and a cell one setting, so each has one count; each cycle that was counted
--- has its snap; and what is freed at a state some entry before it freed.
+-- What a read may answer that is set aside is told by counts. A cycle has one end and a cell one setting, so each has
+-- one count; each cycle that was counted has its snap; and what is freed at a state some entry before it freed.
 use Rattle.std.proofs.Common.{◌≡◌, ◌⊎◌, inl, inr, ℕ, ◌+◌, ◌<◌, ◌≤◌, Bool, true, false, List, [], ◌∷◌, length, Option, Some, None, refl, sym, ap, ◌∙◌, subst, arith, eq-eqb, if◌then◌else◌}
 use Rattle.std.specs.Prelude.{Contains}
 use Rattle.std.proofs.lemmas.Bool.{eqb-true}
 use Rattle.std.proofs.lemmas.List.Elements.{Contains-append_cases}
-use Rattle.joint_model.specs.declared.names.Thread.{Thread}
-use Rattle.joint_model.specs.declared.names.Thread.TheVariants.{M, P, C}
-use Rattle.joint_model.specs.declared.lines.Act.TheVariants as act
-use Rattle.joint_model.specs.declared.events.Made.{Made}
-use Rattle.joint_model.specs.declared.events.Op.{Op}
-use Rattle.joint_model.specs.declared.events.Op.TheVariants as op
-use Rattle.joint_model.specs.declared.events.Reply.{Reply}
-use Rattle.joint_model.specs.declared.events.Reply.TheVariants as says
-use Rattle.joint_model.specs.Heaps.{slot, place}
-use Rattle.joint_model.specs.Lines.{IsEvent, is_peer_event, is_read}
-use Rattle.joint_model.specs.Linked.{Linkage, MayCome, SideLawful, ManagedLawful, linkage_after, managed_after}
-use Rattle.joint_model.specs.Managed.{Managed, OpenCycle, cell_set, weakened_to, adopted, met, given_up}
-use Rattle.joint_model.specs.ManagedReplay.{ManagedReplay, ManagedAllows, managed_answer, registered}
-use Rattle.joint_model.specs.Readers.{IsManagedAt, EndsCycleAt, SetsCell, SetsCellAt, IsCallersAt, HasKnownFrom, FreesObject, MayBeUnset, entry_after}
-use Rattle.joint_model.specs.Run.{thread_number}
-use Rattle.joint_model.specs.Told.{Told, Noted, snap_of, contraction_of, resolution_of, phase_of}
-use Rattle.joint_model.proofs.Deciding.{none_some, true-false}
-use Rattle.joint_model.proofs.HeapLemmas.{adopt_by-managed}
-use Rattle.joint_model.proofs.Joining.{slice_get-set_same}
-use Rattle.joint_model.proofs.Members.{Contains-nil}
+use Rattle.joint_machine.specs.declared.names.Thread.{Thread}
+use Rattle.joint_machine.specs.declared.names.Thread.TheVariants.{M, P, C}
+use Rattle.joint_machine.specs.declared.lines.Act.TheVariants as act
+use Rattle.joint_machine.specs.declared.events.Made.{Made}
+use Rattle.joint_machine.specs.declared.events.Op.{Op}
+use Rattle.joint_machine.specs.declared.events.Op.TheVariants as op
+use Rattle.joint_machine.specs.declared.events.Reply.{Reply}
+use Rattle.joint_machine.specs.declared.events.Reply.TheVariants as says
+use Rattle.joint_machine.specs.Heaps.{slot, place}
+use Rattle.joint_machine.specs.Lines.{IsEvent, is_peer_event, is_read}
+use Rattle.joint_machine.specs.Linked.{Linkage, MayCome, SideLawful, ManagedLawful, linkage_after, managed_after}
+use Rattle.joint_machine.specs.Managed.{Managed, OpenCycle, cell_set, weakened_to, adopted, met, given_up}
+use Rattle.joint_machine.specs.ManagedReplay.{ManagedReplay, ManagedAllows, managed_answer, registered}
+use Rattle.joint_machine.specs.Readers.{IsManagedAt, EndsCycleAt, SetsCell, SetsCellAt, IsCallersAt, HasKnownFrom, FreesObject, MayBeUnset, entry_after}
+use Rattle.joint_machine.specs.Run.{thread_number}
+use Rattle.joint_machine.specs.Told.{Told, Noted, snap_of, contraction_of, resolution_of, phase_of}
+use Rattle.joint_machine.proofs.Deciding.{none_some, true-false}
+use Rattle.joint_machine.proofs.HeapLemmas.{adopt_by-managed}
+use Rattle.joint_machine.proofs.Joining.{slice_get-set_same}
+use Rattle.joint_machine.proofs.Members.{Contains-nil}
 use Rattle.joint_laws.specs.ManagedInvariants.{IsReplayKept}
 use Rattle.joint_laws.proofs.KeptPins.{weak_by}
 use Rattle.joint_laws.proofs.ManagedEntries.{ManagedStep-entry}
 use Rattle.joint_laws.proofs.ManagedMoves.{managed_line-goes_on, adopted-goes_on, met-goes_on, given_up-goes_on}
 use Rattle.joint_laws.proofs.ManagedSteps.{ManagedStep, going_on, snapping, resolving, abandoning, meet_by-managed, give_by-managed, twin-live}
-use Rattle.known_laws.specs.Pasts.{InPast}
+use Rattle.known_laws.specs.PastEntries.{InPast}
 use Rattle.check_laws.specs.Known.{At, ManagedAt, KnownFrom, managed_count, count_below, seen}
 use Rattle.check_laws.specs.Behind.{in_turn, state_of, MayBePendingBehind}
 use Rattle.check_laws.specs.Counts.{ends_cycle, sets_cell, ended, Setting, setting, AtMost, IsPendingBy, IsUnknown, IsUnsetBy, ReadsAreCounted}

@@ -1,32 +1,33 @@
--- What the managed side keeps along a past whose entries come and whose reads, where they aren't set aside, answer as the managed state does; and what
--- each entry does to cells, freed objects and cycles: a cell once set keeps its target, which was live when it was set; what was freed stays so; and a
--- snapshot, a resolution and an abandonment are of a cycle that was counted by then.
+-- What the managed side keeps along a past whose entries come and whose reads, where they aren't set aside, answer as
+-- the managed state does; and what each entry does to cells, freed objects and cycles: a cell once set keeps its
+-- target, which was live when it was set; what was freed stays so; and a snapshot, a resolution and an abandonment are
+-- of a cycle that was counted by then.
 use Rattle.std.proofs.Common.{◌≡◌, ◌⊎◌, inl, inr, ℕ, zero, suc, ◌+◌, ◌≤◌, Bool, true, false, List, [], ◌∷◌, ◌++◌, length, Option, Some, None, refl, sym, ap, ◌∙◌, subst, arith}
 use Rattle.std.specs.Prelude.{Contains, if◌then◌else◌, slice_set}
 use Rattle.std.proofs.Math.ListN.{length-set}
 use Rattle.std.proofs.lemmas.List.Elements.{Contains-append_left, Contains-append_right}
-use Rattle.joint_model.specs.declared.names.Thread.{Thread}
-use Rattle.joint_model.specs.declared.names.Thread.TheVariants.{M, P, C}
-use Rattle.joint_model.specs.declared.names.Kind.{Kind}
-use Rattle.joint_model.specs.declared.names.Sort.{Sort}
-use Rattle.joint_model.specs.declared.lines.Act.{Act}
-use Rattle.joint_model.specs.declared.lines.Act.TheVariants as act
-use Rattle.joint_model.specs.declared.events.Op.{Op}
-use Rattle.joint_model.specs.declared.events.Op.TheVariants as op
-use Rattle.joint_model.specs.declared.events.Reply.{Reply}
-use Rattle.joint_model.specs.declared.events.Reply.TheVariants as says
-use Rattle.joint_model.specs.declared.events.Made.{Made}
-use Rattle.joint_model.specs.Heaps.{Answered, answer, slot, place, is_full}
-use Rattle.joint_model.specs.Lines.{is_peer_event, is_read}
-use Rattle.joint_model.specs.Linked.{Linkage, MayCome, SideLawful, ManagedLawful, linkage_after, managed_after}
-use Rattle.joint_model.specs.Managed.{Managed, OpenCycle, IsManagedRoot, managed_line, adopted, met, given_up, with_row, cell_set, weakened_to, read_cell, pin_taken, without_handle, twin_met, twin_kind, twin_fields}
-use Rattle.joint_model.specs.ManagedReplay.{ManagedReplay, ManagedAllows, managed_answer, registered}
-use Rattle.joint_model.specs.PeerReplay.{PeerReplay, Marking, PeerAllows, SliceAllows, SweepAllows}
-use Rattle.joint_model.specs.Readers.{ReadsCell, FreesObject, is_set_aside, pins_after, reader_after, entry_after}
-use Rattle.joint_model.specs.Run.{thread_number}
-use Rattle.joint_model.specs.Told.{Told, Noted, nothing, snap_of, contraction_of, resolution_of, phase_of}
-use Rattle.joint_model.proofs.HeapLemmas.{adopt_by-managed}
-use Rattle.joint_model.proofs.Numbered.{slot-Contains}
+use Rattle.joint_machine.specs.declared.names.Thread.{Thread}
+use Rattle.joint_machine.specs.declared.names.Thread.TheVariants.{M, P, C}
+use Rattle.joint_machine.specs.declared.names.Kind.{Kind}
+use Rattle.joint_machine.specs.declared.names.Sort.{Sort}
+use Rattle.joint_machine.specs.declared.lines.Act.{Act}
+use Rattle.joint_machine.specs.declared.lines.Act.TheVariants as act
+use Rattle.joint_machine.specs.declared.events.Op.{Op}
+use Rattle.joint_machine.specs.declared.events.Op.TheVariants as op
+use Rattle.joint_machine.specs.declared.events.Reply.{Reply}
+use Rattle.joint_machine.specs.declared.events.Reply.TheVariants as says
+use Rattle.joint_machine.specs.declared.events.Made.{Made}
+use Rattle.joint_machine.specs.Heaps.{Answered, answer, slot, place, is_full}
+use Rattle.joint_machine.specs.Lines.{is_peer_event, is_read}
+use Rattle.joint_machine.specs.Linked.{Linkage, MayCome, SideLawful, ManagedLawful, linkage_after, managed_after}
+use Rattle.joint_machine.specs.Managed.{Managed, OpenCycle, IsManagedRoot, managed_line, adopted, met, given_up, with_row, cell_set, weakened_to, read_cell, pin_taken, without_handle, twin_met, twin_kind, twin_fields}
+use Rattle.joint_machine.specs.ManagedReplay.{ManagedReplay, ManagedAllows, managed_answer, registered}
+use Rattle.joint_machine.specs.PeerReplay.{PeerReplay, Marking, PeerAllows, SliceAllows, SweepAllows}
+use Rattle.joint_machine.specs.Readers.{ReadsCell, FreesObject, is_set_aside, pins_after, reader_after, entry_after}
+use Rattle.joint_machine.specs.Run.{thread_number}
+use Rattle.joint_machine.specs.Told.{Told, Noted, nothing, snap_of, contraction_of, resolution_of, phase_of}
+use Rattle.joint_machine.proofs.HeapLemmas.{adopt_by-managed}
+use Rattle.joint_machine.proofs.Numbered.{slot-Contains}
 use Rattle.joint_laws.specs.ManagedInvariants.{IsReplayKept}
 use Rattle.joint_laws.proofs.Adopting.{IsReplayKept-opening}
 use Rattle.joint_laws.proofs.KeptPins.{weak_by, take_by}
@@ -36,7 +37,7 @@ use Rattle.joint_laws.proofs.ManagedSteps.{ManagedStep, going_on, snapping, reso
 use Rattle.joint_laws.proofs.ReadingsGoneAfter.{entry-by}
 use Rattle.joint_laws.proofs.ReadsAside.{read-filled}
 use Rattle.joint_laws.proofs.ReplayKeeping.{IsReplayKept-step}
-use Rattle.known_laws.specs.Pasts.{InPast}
+use Rattle.known_laws.specs.PastEntries.{InPast}
 use Rattle.check_laws.specs.Behind.{state_of}
 use Rattle.check_laws.specs.Reads.{ComesBehind, AllComeBehind}
 

@@ -1,12 +1,12 @@
 -- The counts tell what a caller knows.
 use Rattle.std.proofs.Common.{◌≡◌, ℕ, ◌+◌, ◌<◌, ◌≤◌, ◌⊎◌, inl, inr, Bool, true, false, List, [], ◌∷◌, length, refl, sym, ap, subst, ◌∙◌, arith, if◌then◌else◌}
 use Rattle.std.specs.Prelude.{nat_lt}
-use Rattle.joint_model.specs.declared.names.Thread.{Thread}
-use Rattle.joint_model.specs.PeerReplay.{is_thread}
-use Rattle.joint_model.specs.Readers.{is_managed_entry}
-use Rattle.joint_model.specs.Told.{Noted}
+use Rattle.joint_machine.specs.declared.names.Thread.{Thread}
+use Rattle.joint_machine.specs.PeerReplay.{is_thread}
+use Rattle.joint_machine.specs.Readers.{is_managed_entry}
+use Rattle.joint_machine.specs.Told.{Noted}
 use Rattle.std.proofs.lemmas.Bool.Decides.{nat_tests}
-use Rattle.joint_model.proofs.HeapLemmas.{thread_itself, same_thread}
+use Rattle.joint_machine.proofs.HeapLemmas.{thread_itself, same_thread}
 use Rattle.check_laws.specs.Known.{At, ManagedAt, KnownFrom, one, managed_count, count_below, seen, KnownIsCounted}
 
 -- places are below the length

@@ -1,17 +1,19 @@
--- A past in order is one that somebody knows: at each snap and `take` the pins of the state are told. They stand, since the managed side has them among
--- its roots; every other event asks for no pins.
+-- A past in order is one that somebody knows: at each snap and `take` the pins of the state are told. They stand, since
+-- the managed side has them among its roots; every other event asks for no pins.
 use Rattle.std.proofs.Common.{◌≡◌, Bool, true, false, List, [], ◌∷◌, length, refl, sym, ap, ◌∙◌, subst, arith, true≢false}
-use Rattle.joint_model.specs.Control.{control_after}
-use Rattle.joint_model.specs.Histories.{Finished}
-use Rattle.joint_model.specs.Heaps.{Answered}
-use Rattle.joint_model.specs.Lines.{is_peer_event, is_read, is_pinned}
-use Rattle.joint_model.specs.Linked.{Linkage, MayCome, SideLawful, linkage_after, managed_after, peer_after}
-use Rattle.joint_model.specs.ManagedReplay.{ManagedReplay, managed_answer}
-use Rattle.joint_model.specs.Readers.{with_pins, ReaderMayCome, entry_after}
-use Rattle.joint_model.specs.Told.{Noted, kept_pins, bare_told, pins_told, no_pins}
+use Rattle.joint_machine.specs.Control.{control_after}
+use Rattle.joint_machine.specs.Histories.{Finished}
+use Rattle.joint_machine.specs.Heaps.{Answered}
+use Rattle.joint_machine.specs.Lines.{is_peer_event, is_read}
+use Rattle.joint_machine.specs.PinsTold.{is_pinned, bare_told, no_pins, pins_told, with_pins}
+use Rattle.joint_machine.specs.Linked.{Linkage, MayCome, SideLawful, linkage_after, managed_after, peer_after}
+use Rattle.joint_machine.specs.ManagedReplay.{ManagedReplay, managed_answer}
+use Rattle.joint_machine.specs.Readers.{ReaderMayCome, entry_after}
+use Rattle.joint_machine.specs.Told.{Noted, kept_pins}
 use Rattle.joint_laws.specs.ManagedInvariants.{IsManagedKept}
 use Rattle.known_laws.specs.Driving.{IsPastKept}
-use Rattle.known_laws.specs.Known.{TellsPlainly, pinned, given, without_pins, PinsStand, Comes, managed_past, past_after}
+use Rattle.known_laws.specs.Known.{pinned, given, without_pins, PinsStand, Comes, managed_past, past_after}
+use Rattle.known_laws.specs.PastEntries.{TellsPlainly}
 use Rattle.known_laws.specs.Pasts.{next_of}
 use Rattle.known_laws.proofs.Bared.{unpinned_told, plain_told, plain_pins, plain_read}
 use Rattle.known_laws.proofs.Coming.{peer_reads_none}

@@ -1,31 +1,30 @@
--- A history is legal exactly where it is linked. The past of a legal one, turned round, is the list of notes that links it; and the notes that link one,
--- told plainly, are a past in order.
+-- A history is legal exactly where it is linked. The past of a legal one, turned round, is the list of notes that links
+-- it; and the notes that link one, told plainly, are a past in order.
 use Rattle.std.proofs.Common.{◌≡◌, inl, ℕ, zero, suc, ◌+◌, ◌≤◌, Bool, true, false, List, [], ◌∷◌, ◌++◌, length, take, drop, Option, Some, refl, sym, ap, ◌∙◌, subst, arith, append_assoc, length-take}
 use Rattle.std.specs.Prelude.{slice_get, sum_by}
 use Rattle.std.proofs.lemmas.List.{append-nil, take-map}
 use Rattle.std.proofs.Math.Seq.{take-append_seam}
-use Rattle.joint_model.specs.declared.names.MNum.{MNum}
-use Rattle.joint_model.specs.declared.names.PNum.{PNum}
-use Rattle.joint_model.specs.declared.names.Span.{Span}
-use Rattle.joint_model.specs.declared.events.Reply.{Reply}
-use Rattle.joint_model.specs.declared.events.Reply.TheVariants as says
-use Rattle.joint_model.specs.Draws.{NumberedFrom}
-use Rattle.joint_model.specs.Histories.{Finished, managed_numbers, peer_numbers}
-use Rattle.joint_model.specs.Lines.{is_read}
-use Rattle.joint_model.specs.Linked.{Linkage, IsWhole, opening_linkage}
-use Rattle.joint_model.specs.LinkedHistories.{IsLinkedBy, managed_end, linked_end}
-use Rattle.joint_model.specs.Readers.{EntryMayCome, replayed_reading, AllMayComeReading}
-use Rattle.joint_model.specs.Told.{Told, Noted}
-use Rattle.joint_laws.specs.AfterwardsLaws.{reading_at}
-use Rattle.joint_laws.specs.ToldLaws.{IsStretch, TellsNamed, TakesNamed}
+use Rattle.joint_machine.specs.declared.names.MNum.{MNum}
+use Rattle.joint_machine.specs.declared.names.PNum.{PNum}
+use Rattle.joint_machine.specs.declared.names.Span.{Span}
+use Rattle.joint_machine.specs.declared.events.Reply.{Reply}
+use Rattle.joint_machine.specs.declared.events.Reply.TheVariants as says
+use Rattle.joint_machine.specs.Histories.{Finished, managed_numbers, peer_numbers, NumberedFrom}
+use Rattle.joint_machine.specs.Lines.{is_read}
+use Rattle.joint_machine.specs.Linked.{Linkage, IsWhole, opening_linkage}
+use Rattle.joint_machine.specs.LinkedHistories.{IsLinkedBy, managed_end, linked_end}
+use Rattle.joint_machine.specs.Readers.{EntryMayCome, replayed_reading, AllMayComeReading}
+use Rattle.joint_machine.specs.Told.{Told, Noted}
+use Rattle.joint_laws.specs.Afterwards.{reading_at}
+use Rattle.joint_laws.specs.Spans.{IsStretch, TakesNamed, TellsNamed}
 use Rattle.joint_laws.proofs.ReadingsTold.{told_is_named, notices_are_named}
 use Rattle.joint_laws.proofs.ReadsAside.{linked_is_complete}
-use Rattle.known_laws.specs.Growing.{entries, turned}
-use Rattle.known_laws.specs.Known.{TellsPlainly}
+use Rattle.known_laws.specs.PastEntries.{TellsPlainly, entries, turned}
 use Rattle.known_laws.proofs.Ending.{turned_twice}
 use Rattle.check_laws.specs.declared.findings.Finding.TheVariants as finding
 use Rattle.check_laws.specs.Behind.{in_turn, state_of, NamesSo, GivesSnap, ReadsBehind, RepliesBehind, IsInOrderBehind, AllInOrder}
-use Rattle.check_laws.specs.Found.{IsAllInOrder, NothingFollows, IsFinding, objects_in, peers_in, as_named, LegalIsLinked, LinkedRuns}
+use Rattle.check_laws.specs.Found.{objects_in, peers_in, as_named, LegalIsLinked, LinkedRuns}
+use Rattle.check_laws.specs.Findings.{IsAllInOrder, IsFinding, NothingFollows}
 use Rattle.check_laws.specs.Reads.{ComesBehind, AllComeBehind, AllReadBehind, AllReadOver}
 use Rattle.check_laws.proofs.Naming.{all_over, names_lists}
 use Rattle.check_laws.proofs.OneFinding.{turned-append, turned-onto, length-turned}

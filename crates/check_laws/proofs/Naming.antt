@@ -1,40 +1,39 @@
--- What the replies of a past in order name is what was freed and taken: each freed list begins with what was freed before, and goes on with what the
--- reply's span names; and so it is with the notices that were taken.
+-- What the replies of a past in order name is what was freed and taken: each freed list begins with what was freed
+-- before, and goes on with what the reply's span names; and so it is with the notices that were taken.
 use Rattle.std.proofs.Common.{◌≡◌, ◌⊎◌, inl, inr, ℕ, ◌+◌, ◌-◌, ◌≤◌, Bool, true, false, ◌||◌, List, [], ◌∷◌, ◌++◌, length, take, drop, Option, Some, None, refl, sym, ap, ◌∙◌, subst, arith, length-append}
 use Rattle.std.specs.Prelude.{if◌then◌else◌, sum_by, min}
 use Rattle.std.proofs.lemmas.List.{append-nil, take-append-le, take-map}
 use Rattle.std.proofs.lemmas.List.Sums.{sum_by_push}
 use Rattle.std.proofs.Math.Seq.{take-add}
-use Rattle.joint_model.specs.declared.names.MNum.{MNum}
-use Rattle.joint_model.specs.declared.names.PNum.{PNum}
-use Rattle.joint_model.specs.declared.names.Kind.{Kind}
-use Rattle.joint_model.specs.declared.names.Sort.{Sort}
-use Rattle.joint_model.specs.declared.names.Span.{Span}
-use Rattle.joint_model.specs.declared.names.Thread.{Thread}
-use Rattle.joint_model.specs.declared.names.Thread.TheVariants.{M, P, C}
-use Rattle.joint_model.specs.declared.lines.Act.{Act}
-use Rattle.joint_model.specs.declared.lines.Act.TheVariants as act
-use Rattle.joint_model.specs.declared.events.Entry.{Entry}
-use Rattle.joint_model.specs.declared.events.Made.{Made}
-use Rattle.joint_model.specs.declared.events.Op.{Op}
-use Rattle.joint_model.specs.declared.events.Op.TheVariants as op
-use Rattle.joint_model.specs.declared.events.Reply.{Reply}
-use Rattle.joint_model.specs.declared.events.Reply.TheVariants as says
-use Rattle.joint_model.specs.Draws.{NumberedFrom}
-use Rattle.joint_model.specs.Heaps.{answer, slot, place, is_full}
-use Rattle.joint_model.specs.Histories.{Finished, managed_numbers, peer_numbers}
-use Rattle.joint_model.specs.Lines.{IsEvent, is_peer_event, is_read}
-use Rattle.joint_model.specs.Linked.{Linkage, MayCome, SideLawful, PeerLawful, ManagedLawful, linkage_after, managed_after, peer_after}
-use Rattle.joint_model.specs.Managed.{Managed, OpenCycle, managed_line, adopted, met, given_up, with_row, cell_set, weakened_to, read_cell, pin_taken, without_handle, twin_met, twin_kind, twin_fields}
-use Rattle.joint_model.specs.ManagedReplay.{ManagedReplay, ManagedAllows, managed_answer, registered}
-use Rattle.joint_model.specs.PeerReplay.{PeerReplay, Marking, PeerAllows, SliceAllows, SweepAllows, is_thread, swept, swept_of, peer_answer}
-use Rattle.joint_model.specs.Readers.{ReadsCell, is_set_aside, is_managed_entry}
-use Rattle.joint_model.specs.Run.{thread_number}
-use Rattle.joint_model.specs.Told.{Told, Answer, Noted, nothing, snap_of, contraction_of, sweep_of, resolution_of, phase_of}
-use Rattle.joint_model.proofs.HeapLemmas.{adopt_by-managed}
+use Rattle.joint_machine.specs.declared.names.MNum.{MNum}
+use Rattle.joint_machine.specs.declared.names.PNum.{PNum}
+use Rattle.joint_machine.specs.declared.names.Kind.{Kind}
+use Rattle.joint_machine.specs.declared.names.Sort.{Sort}
+use Rattle.joint_machine.specs.declared.names.Span.{Span}
+use Rattle.joint_machine.specs.declared.names.Thread.{Thread}
+use Rattle.joint_machine.specs.declared.names.Thread.TheVariants.{M, P, C}
+use Rattle.joint_machine.specs.declared.lines.Act.{Act}
+use Rattle.joint_machine.specs.declared.lines.Act.TheVariants as act
+use Rattle.joint_machine.specs.declared.events.Entry.{Entry}
+use Rattle.joint_machine.specs.declared.events.Made.{Made}
+use Rattle.joint_machine.specs.declared.events.Op.{Op}
+use Rattle.joint_machine.specs.declared.events.Op.TheVariants as op
+use Rattle.joint_machine.specs.declared.events.Reply.{Reply}
+use Rattle.joint_machine.specs.declared.events.Reply.TheVariants as says
+use Rattle.joint_machine.specs.Heaps.{answer, slot, place, is_full}
+use Rattle.joint_machine.specs.Histories.{Finished, managed_numbers, peer_numbers, NumberedFrom}
+use Rattle.joint_machine.specs.Lines.{IsEvent, is_peer_event, is_read}
+use Rattle.joint_machine.specs.Linked.{Linkage, MayCome, SideLawful, PeerLawful, ManagedLawful, linkage_after, managed_after, peer_after}
+use Rattle.joint_machine.specs.Managed.{Managed, OpenCycle, managed_line, adopted, met, given_up, with_row, cell_set, weakened_to, read_cell, pin_taken, without_handle, twin_met, twin_kind, twin_fields}
+use Rattle.joint_machine.specs.ManagedReplay.{ManagedReplay, ManagedAllows, managed_answer, registered}
+use Rattle.joint_machine.specs.PeerReplay.{PeerReplay, Marking, PeerAllows, SliceAllows, SweepAllows, is_thread, swept, swept_of, peer_answer}
+use Rattle.joint_machine.specs.Readers.{ReadsCell, is_set_aside, is_managed_entry}
+use Rattle.joint_machine.specs.Run.{thread_number}
+use Rattle.joint_machine.specs.Told.{Told, Answer, Noted, nothing, snap_of, contraction_of, sweep_of, resolution_of, phase_of}
+use Rattle.joint_machine.proofs.HeapLemmas.{adopt_by-managed}
 use Rattle.joint_laws.specs.ManagedInvariants.{IsReplayKept}
 use Rattle.joint_laws.specs.PeerInvariants.{IsPeerKept}
-use Rattle.joint_laws.specs.ToldLaws.{IsStretch, TellsNamed, TakesNamed}
+use Rattle.joint_laws.specs.Spans.{IsStretch, TakesNamed, TellsNamed}
 use Rattle.joint_laws.proofs.JointSteps.{may-end}
 use Rattle.joint_laws.proofs.KeptPins.{weak_by, take_by}
 use Rattle.joint_laws.proofs.ManagedMoves.{met_by, managed_line-goes_on, adopted-goes_on, met-goes_on, given_up-goes_on}
@@ -43,10 +42,11 @@ use Rattle.joint_laws.proofs.NoticesTold.{notices-go}
 use Rattle.joint_laws.proofs.PeerFreed.{entry-freed, sweep-or}
 use Rattle.joint_laws.proofs.PlainReplies.{IsPlain, line-plain}
 use Rattle.joint_laws.proofs.ReadsAside.{read-filled}
-use Rattle.known_laws.specs.Growing.{entries}
-use Rattle.joint_model.proofs.Deciding.{true-false}
+use Rattle.known_laws.specs.PastEntries.{entries}
+use Rattle.joint_machine.proofs.Deciding.{true-false}
 use Rattle.check_laws.specs.Behind.{in_turn, state_of, GivesSnap, ReadsBehind, RepliesBehind, AllInOrder}
-use Rattle.check_laws.specs.Found.{IsAllInOrder, NothingFollows, objects_in, peers_in, NamesAreLists}
+use Rattle.check_laws.specs.Found.{objects_in, peers_in, NamesAreLists}
+use Rattle.check_laws.specs.Findings.{IsAllInOrder, NothingFollows}
 use Rattle.check_laws.specs.Reads.{ComesBehind, AllComeBehind, AllReadBehind, AllReadOver}
 use Rattle.check_laws.proofs.Keeping.{Stands, AllStand, after-read, after-other, kept}
 use Rattle.check_laws.proofs.OneFinding.{turned-onto, entries-append}

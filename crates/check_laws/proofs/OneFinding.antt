@@ -1,16 +1,16 @@
--- A history has one finding: what is told of entries in order is one, so two pasts of the same entries are one; and an entry that is in order behind
--- those before it fails no test.
+-- A history has one finding: what is told of entries in order is one, so two pasts of the same entries are one; and an
+-- entry that is in order behind those before it fails no test.
 use Rattle.std.proofs.Common.{◌≡◌, inl, inr, ℕ, zero, suc, ◌+◌, ◌<◌, ◌≤◌, Bool, true, false, List, [], ◌∷◌, ◌++◌, length, take, Some, refl, sym, ap, ◌∙◌, subst, arith, append_assoc}
 use Rattle.std.specs.Prelude.{slice_get}
 use Rattle.std.proofs.lemmas.List.{append-nil, length-map}
 use Rattle.std.proofs.lemmas.Option.{same_Some}
 use Rattle.std.proofs.Math.Seq.{take-append_seam}
-use Rattle.joint_model.specs.declared.events.Entry.{Entry}
-use Rattle.joint_model.specs.Histories.{Finished}
-use Rattle.joint_model.specs.Lines.{is_read}
-use Rattle.joint_model.specs.Told.{Told, Noted}
-use Rattle.joint_model.proofs.Deciding.{none_some}
-use Rattle.known_laws.specs.Growing.{entries, turned}
+use Rattle.joint_machine.specs.declared.events.Entry.{Entry}
+use Rattle.joint_machine.specs.Histories.{Finished}
+use Rattle.joint_machine.specs.Lines.{is_read}
+use Rattle.joint_machine.specs.Told.{Told, Noted}
+use Rattle.joint_machine.proofs.Deciding.{none_some}
+use Rattle.known_laws.specs.PastEntries.{entries, turned}
 use Rattle.known_laws.specs.Telling.{MayBeTold}
 use Rattle.known_laws.proofs.Ending.{turned_twice}
 use Rattle.known_laws.proofs.Telling.{told_is_one}
@@ -18,7 +18,8 @@ use Rattle.check_laws.specs.declared.findings.Finding.TheVariants as finding
 use Rattle.check_laws.specs.declared.findings.Why.{Why}
 use Rattle.check_laws.specs.declared.findings.Why.TheVariants as why
 use Rattle.check_laws.specs.Behind.{in_turn, state_of, SideReplies, RepliesBehind, IsInOrderBehind, AllInOrder}
-use Rattle.check_laws.specs.Found.{FailsBy, IsFinding, NothingFollows, HistoryHasOneFinding}
+use Rattle.check_laws.specs.Found.{HistoryHasOneFinding}
+use Rattle.check_laws.specs.Findings.{FailsBy, IsFinding, NothingFollows}
 use Rattle.check_laws.specs.Order.{IsTurn, CitesSo}
 use Rattle.check_laws.proofs.Knowing.{split}
 use Rattle.check_laws.proofs.Ordering.{order_tested}

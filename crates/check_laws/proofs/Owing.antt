@@ -2,12 +2,12 @@
 use Rattle.std.proofs.Common.{◌≡◌, ℕ, ◌-◌, ◌<◌, ◌≤◌, inl, inr, Bool, true, false, not, ◌&&◌, List, [], ◌∷◌, ◌++◌, length, Option, Some, None, refl, sym, ap, subst, ◌∙◌, arith, length-append}
 use Rattle.std.specs.Prelude.{slice_get}
 use Rattle.std.proofs.lemmas.Option.{same_Some}
-use Rattle.joint_model.specs.declared.events.Op.TheVariants as op
-use Rattle.joint_model.specs.Lines.{is_peer_event, is_read}
-use Rattle.joint_model.specs.Readers.{is_managed_entry, IsManagedAt, SnapsCycleAt}
-use Rattle.joint_model.specs.Told.{Noted}
-use Rattle.joint_model.proofs.Deciding.{none_some, true-false}
-use Rattle.known_laws.specs.Growing.{turned}
+use Rattle.joint_machine.specs.declared.events.Op.TheVariants as op
+use Rattle.joint_machine.specs.Lines.{is_peer_event, is_read}
+use Rattle.joint_machine.specs.Readers.{is_managed_entry, IsManagedAt, SnapsCycleAt}
+use Rattle.joint_machine.specs.Told.{Noted}
+use Rattle.joint_machine.proofs.Deciding.{none_some, true-false}
+use Rattle.known_laws.specs.PastEntries.{turned}
 use Rattle.check_laws.specs.Known.{At, ManagedAt, pick, first_managed, PendingIsOwed}
 use Rattle.check_laws.proofs.Knowing.{within, split}
 use Rattle.check_laws.proofs.Wholly.{behind, at-turned, turned-at, lowered}

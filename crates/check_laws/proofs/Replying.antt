@@ -1,19 +1,19 @@
 -- A reply is one: what is told of an entry doesn't go by its reply, and the reply goes by what is told.
 use Rattle.std.proofs.Common.{◌≡◌, ℕ, Bool, true, false, List, Option, sym, ap, subst, ◌∙◌}
-use Rattle.joint_model.specs.declared.names.Thread.{Thread}
-use Rattle.joint_model.specs.declared.names.Thread.TheVariants.{M, P, C}
-use Rattle.joint_model.specs.declared.names.Cycle.{Cycle}
-use Rattle.joint_model.specs.declared.events.Op.{Op}
-use Rattle.joint_model.specs.declared.events.Op.TheVariants as op
-use Rattle.joint_model.specs.declared.events.Made.{Made}
-use Rattle.joint_model.specs.declared.events.Reply.{Reply}
-use Rattle.joint_model.specs.Components.{End}
-use Rattle.joint_model.specs.Control.{CallerAllows}
-use Rattle.joint_model.specs.Lines.{IsEvent, is_peer_event}
-use Rattle.joint_model.specs.Linked.{Linkage, MayCome, SideLawful}
-use Rattle.joint_model.specs.ManagedReplay.{managed_answer}
-use Rattle.joint_model.specs.PeerReplay.{peer_answer}
-use Rattle.joint_model.specs.Told.{Told, references_of, resolution_of, Answer}
+use Rattle.joint_machine.specs.declared.names.Thread.{Thread}
+use Rattle.joint_machine.specs.declared.names.Thread.TheVariants.{M, P, C}
+use Rattle.joint_machine.specs.declared.names.Cycle.{Cycle}
+use Rattle.joint_machine.specs.declared.events.Op.{Op}
+use Rattle.joint_machine.specs.declared.events.Op.TheVariants as op
+use Rattle.joint_machine.specs.declared.events.Made.{Made}
+use Rattle.joint_machine.specs.declared.events.Reply.{Reply}
+use Rattle.joint_machine.specs.Components.{End}
+use Rattle.joint_machine.specs.Control.{CallerAllows}
+use Rattle.joint_machine.specs.Lines.{IsEvent, is_peer_event}
+use Rattle.joint_machine.specs.Linked.{Linkage, MayCome, SideLawful}
+use Rattle.joint_machine.specs.ManagedReplay.{managed_answer}
+use Rattle.joint_machine.specs.PeerReplay.{peer_answer}
+use Rattle.joint_machine.specs.Told.{Told, references_of, resolution_of, Answer}
 use Rattle.known_laws.proofs.OneContraction.{is_one_contraction}
 use Rattle.known_laws.proofs.Telling.{IsTelling, managed_told, peer_told, mirrors, resolves_alike}
 use Rattle.check_laws.specs.Laws.{IsNoRefusal, noted}

@@ -1,29 +1,28 @@
--- The notes of a linked history may be told plainly: where the weakened phase wasn't seen, a refusal tells the mirrored one in its place. What is freed
--- is told as before, so each read answers as it may over these notes too.
+-- The notes of a linked history may be told plainly: where the weakened phase wasn't seen, a refusal tells the mirrored
+-- one in its place. What is freed is told as before, so each read answers as it may over these notes too.
 use Rattle.std.proofs.Common.{◌≡◌, ◌⊎◌, inl, inr, ℕ, zero, suc, Bool, true, false, List, [], ◌∷◌, take, Option, refl, sym, ap, ◌∙◌, subst, true≢false}
 use Rattle.std.proofs.lemmas.Option.{same_Some}
-use Rattle.joint_model.specs.declared.names.Thread.{Thread}
-use Rattle.joint_model.specs.declared.names.Thread.TheVariants.{M, P, C}
-use Rattle.joint_model.specs.declared.names.PhaseWord.{PhaseWord}
-use Rattle.joint_model.specs.declared.lines.Act.TheVariants as act
-use Rattle.joint_model.specs.declared.events.Op.{Op}
-use Rattle.joint_model.specs.declared.events.Op.TheVariants as op
-use Rattle.joint_model.specs.declared.events.Reply.{Reply}
-use Rattle.joint_model.specs.declared.events.Reply.TheVariants as says
-use Rattle.joint_model.specs.Control.{Stand, OpenSnap, weakening, stand_after, DriverAllows, IsAtRest}
-use Rattle.joint_model.specs.Histories.{Finished, managed_numbers}
-use Rattle.joint_model.specs.Lines.{is_peer_event, is_read}
-use Rattle.joint_model.specs.Linked.{Linkage, MayCome, SideLawful, IsWhole, opening_linkage, linkage_after}
-use Rattle.joint_model.specs.LinkedHistories.{IsLinkedBy, managed_end, linked_end}
-use Rattle.joint_model.specs.Managed.{Managed}
-use Rattle.joint_model.specs.ManagedReplay.{ManagedReplay, ManagedAllows}
-use Rattle.joint_model.specs.PeerReplay.{PeerReplay}
-use Rattle.joint_model.specs.Peers.{Issued}
-use Rattle.joint_model.specs.Readers.{ReadsCell, IsReadReply, IsManagedAt, SnapsCycleAt, EndsCycleAt, SetsCell, SetsCellAt, IsCallersAt, HasKnownFrom, FreesObject, FreesObjectAt, IsEntryAt, is_managed_entry, ReaderMayCome, EntryMayCome, entry_after, reader_after, replayed_reading, AllMayComeReading}
-use Rattle.joint_model.specs.Told.{Told, Noted, phase_of}
-use Rattle.joint_model.proofs.Deciding.{none_some}
-use Rattle.known_laws.specs.Known.{TellsPlainly}
-use Rattle.known_laws.specs.Growing.{entries}
+use Rattle.joint_machine.specs.declared.names.Thread.{Thread}
+use Rattle.joint_machine.specs.declared.names.Thread.TheVariants.{M, P, C}
+use Rattle.joint_machine.specs.declared.names.PhaseWord.{PhaseWord}
+use Rattle.joint_machine.specs.declared.lines.Act.TheVariants as act
+use Rattle.joint_machine.specs.declared.events.Op.{Op}
+use Rattle.joint_machine.specs.declared.events.Op.TheVariants as op
+use Rattle.joint_machine.specs.declared.events.Reply.{Reply}
+use Rattle.joint_machine.specs.declared.events.Reply.TheVariants as says
+use Rattle.joint_machine.specs.Control.{Stand, OpenSnap, weakening, stand_after, DriverAllows, IsAtRest}
+use Rattle.joint_machine.specs.Histories.{Finished, managed_numbers}
+use Rattle.joint_machine.specs.Lines.{is_peer_event, is_read}
+use Rattle.joint_machine.specs.Linked.{Linkage, MayCome, SideLawful, IsWhole, opening_linkage, linkage_after}
+use Rattle.joint_machine.specs.LinkedHistories.{IsLinkedBy, managed_end, linked_end}
+use Rattle.joint_machine.specs.Managed.{Managed}
+use Rattle.joint_machine.specs.ManagedReplay.{ManagedReplay, ManagedAllows}
+use Rattle.joint_machine.specs.PeerReplay.{PeerReplay}
+use Rattle.joint_machine.specs.Peers.{Issued}
+use Rattle.joint_machine.specs.Readers.{ReadsCell, IsReadReply, IsManagedAt, SnapsCycleAt, EndsCycleAt, SetsCell, SetsCellAt, IsCallersAt, HasKnownFrom, FreesObject, FreesObjectAt, IsEntryAt, is_managed_entry, ReaderMayCome, EntryMayCome, entry_after, reader_after, replayed_reading, AllMayComeReading}
+use Rattle.joint_machine.specs.Told.{Told, Noted, phase_of}
+use Rattle.joint_machine.proofs.Deciding.{none_some}
+use Rattle.known_laws.specs.PastEntries.{TellsPlainly, entries}
 use Rattle.known_laws.proofs.Retelling.{Near, PlainComes, plainly, with_stand, noting}
 use Rattle.known_laws.proofs.Telling.{IsTelling}
 use Rattle.check_laws.proofs.Keeping.{after-read, after-other}

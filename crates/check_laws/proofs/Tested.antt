@@ -1,23 +1,23 @@
--- What a reader's entry may answer over a whole history is told by what stands before it. A read knows nothing of what stands behind it: the rules of
--- `pending` and `unset` ask of entries before the read alone, but for the snap that a `pending` waits for, which is the next managed entry, and for the
--- cell's target, which is live where it is set.
+-- What a reader's entry may answer over a whole history is told by what stands before it. A read knows nothing of what
+-- stands behind it: the rules of `pending` and `unset` ask of entries before the read alone, but for the snap that a
+-- `pending` waits for, which is the next managed entry, and for the cell's target, which is live where it is set.
 use Rattle.std.proofs.Common.{◌≡◌, ◌⊎◌, inl, inr, ℕ, ◌+◌, ◌-◌, ◌<◌, ◌≤◌, Bool, true, false, not, ◌&&◌, List, [], ◌∷◌, ◌++◌, length, Option, None, refl, sym, ap, ◌∙◌, subst, arith, append_assoc, length-append}
 use Rattle.std.proofs.lemmas.Bool.{cases_eq}
-use Rattle.joint_model.specs.declared.names.Thread.{Thread}
-use Rattle.joint_model.specs.declared.lines.Act.TheVariants as act
-use Rattle.joint_model.specs.declared.events.Op.{Op}
-use Rattle.joint_model.specs.declared.events.Op.TheVariants as op
-use Rattle.joint_model.specs.declared.events.Reply.{Reply}
-use Rattle.joint_model.specs.declared.events.Reply.TheVariants as says
-use Rattle.joint_model.specs.Lines.{is_peer_event, is_read}
-use Rattle.joint_model.specs.Linked.{Linkage, managed_after}
-use Rattle.joint_model.specs.Managed.{Managed, read_cell}
-use Rattle.joint_model.specs.Readers.{ReadsCell, IsReadReply, is_set_aside, is_managed_entry, IsEntryAt, IsManagedAt, EndsCycleAt, SetsCellAt, IsCallersAt, HasKnownFrom, FreesObjectAt, MayBePending, MayBeUnset, entry_after}
-use Rattle.joint_model.specs.Run.{thread_number}
-use Rattle.joint_model.specs.Told.{Noted}
-use Rattle.joint_model.proofs.Deciding.{none_some, true-false}
+use Rattle.joint_machine.specs.declared.names.Thread.{Thread}
+use Rattle.joint_machine.specs.declared.lines.Act.TheVariants as act
+use Rattle.joint_machine.specs.declared.events.Op.{Op}
+use Rattle.joint_machine.specs.declared.events.Op.TheVariants as op
+use Rattle.joint_machine.specs.declared.events.Reply.{Reply}
+use Rattle.joint_machine.specs.declared.events.Reply.TheVariants as says
+use Rattle.joint_machine.specs.Lines.{is_peer_event, is_read}
+use Rattle.joint_machine.specs.Linked.{Linkage, managed_after}
+use Rattle.joint_machine.specs.Managed.{Managed, read_cell}
+use Rattle.joint_machine.specs.Readers.{ReadsCell, IsReadReply, is_set_aside, is_managed_entry, IsEntryAt, IsManagedAt, EndsCycleAt, SetsCellAt, IsCallersAt, HasKnownFrom, FreesObjectAt, MayBePending, MayBeUnset, entry_after}
+use Rattle.joint_machine.specs.Run.{thread_number}
+use Rattle.joint_machine.specs.Told.{Noted}
+use Rattle.joint_machine.proofs.Deciding.{none_some, true-false}
 use Rattle.joint_laws.proofs.ReadsAside.{standing-reply}
-use Rattle.known_laws.specs.Pasts.{InPast}
+use Rattle.known_laws.specs.PastEntries.{InPast}
 use Rattle.check_laws.specs.Known.{At}
 use Rattle.check_laws.specs.Behind.{in_turn, state_of, WaitsForSnap, GivesSnap, IsReplyBehind}
 use Rattle.check_laws.specs.Reads.{AllComeBehind, AreInPlace, AllReadBehind, AllReadOver, ReadersAreTested}
@@ -299,7 +299,8 @@ module _ (front : List Noted) (x : Noted) (h : List Noted) (w : AllComeBehind (f
     }
 
   module _ (read : is_read x.entry.made.op ≡ true) (t : Thread) (k : ℕ) where
-    -- the snap stands behind the read: it is the next managed entry, so no cycle is open here and it has the next number
+    -- the snap stands behind the read: it is the next managed entry, so no cycle is open here and it has the next
+    -- number
     pending-next : (m : MayBePending (in_turn all) x.entry.number t k) → length h < m.snap → (s.cycle ≡ None) × (k ≡ s.cycles + 1)
     pending-next m far =
         let a = get-at all m.snap m.snaps.entry m.snaps.there in

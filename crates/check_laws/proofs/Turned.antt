@@ -1,20 +1,20 @@
 -- A past in order, turned round, is a lawful list with reads, and leads to the same state.
 use Rattle.std.proofs.Common.{◌≡◌, ℕ, ◌+◌, Bool, true, false, List, [], ◌∷◌, ◌++◌, length, Option, refl, sym, ap, ◌∙◌, subst, arith}
 use Rattle.std.proofs.lemmas.List.{take_all}
-use Rattle.joint_model.specs.declared.events.Entry.{Entry}
-use Rattle.joint_model.specs.Draws.{NumberedFrom}
-use Rattle.joint_model.specs.Histories.{Finished}
-use Rattle.joint_model.specs.Lines.{is_read}
-use Rattle.joint_model.specs.Linked.{Linkage, opening_linkage, replayed}
-use Rattle.joint_model.specs.Readers.{ReadsCell, IsReadReply, EntryMayCome, replayed_reading, AllMayComeReading}
-use Rattle.joint_model.specs.Told.{Noted}
+use Rattle.joint_machine.specs.declared.events.Entry.{Entry}
+use Rattle.joint_machine.specs.Histories.{Finished, NumberedFrom}
+use Rattle.joint_machine.specs.Lines.{is_read}
+use Rattle.joint_machine.specs.Linked.{Linkage, opening_linkage}
+use Rattle.joint_machine.specs.Replaying.{replayed}
+use Rattle.joint_machine.specs.Readers.{ReadsCell, IsReadReply, EntryMayCome, replayed_reading, AllMayComeReading}
+use Rattle.joint_machine.specs.Told.{Noted}
 use Rattle.joint_laws.specs.PeerInvariants.{IsPeerKept}
 use Rattle.joint_laws.specs.ReadingLaws.{IsLawfulReading, without_aside}
 use Rattle.joint_laws.specs.States.{state_at}
 use Rattle.joint_laws.proofs.Everywhere.{everywhere}
 use Rattle.joint_laws.proofs.LinkedEntries.{Of, AreKept-entry, AreKept-opening}
 use Rattle.joint_laws.proofs.ReadsAside.{reading_is_lawful, reading_leads_to_same}
-use Rattle.known_laws.specs.Growing.{entries, turned}
+use Rattle.known_laws.specs.PastEntries.{entries, turned}
 use Rattle.check_laws.specs.Behind.{in_turn, state_of, RepliesBehind, IsInOrderBehind, AllInOrder}
 use Rattle.check_laws.specs.Reads.{ComesBehind, AllComeBehind, AreInPlace, AllReadOver}
 use Rattle.check_laws.proofs.OneFinding.{turned-onto, entries-append, entries-length}

@@ -2,10 +2,10 @@
 use Rattle.std.proofs.Common.{◌≡◌, ℕ, suc, ◌+◌, ◌<◌, ◌≤◌, inl, inr, Bool, List, [], ◌∷◌, ◌++◌, length, Some, sym, ap, ◌∙◌, arith, length-append}
 use Rattle.std.specs.Prelude.{slice_get}
 use Rattle.std.proofs.lemmas.Option.{same_Some}
-use Rattle.joint_model.specs.declared.names.Thread.{Thread}
-use Rattle.joint_model.specs.Readers.{IsEntryAt, IsManagedAt, HasKnownFrom}
-use Rattle.joint_model.specs.Told.{Noted}
-use Rattle.known_laws.specs.Growing.{turned}
+use Rattle.joint_machine.specs.declared.names.Thread.{Thread}
+use Rattle.joint_machine.specs.Readers.{IsEntryAt, IsManagedAt, HasKnownFrom}
+use Rattle.joint_machine.specs.Told.{Noted}
+use Rattle.known_laws.specs.PastEntries.{turned}
 use Rattle.check_laws.specs.Known.{At, count_below, seen, KindAt, KindIn, UnknownIsTested}
 use Rattle.check_laws.proofs.Knowing.{within, split, forth, back}
 

@@ -1,23 +1,23 @@
--- When an entry is in order behind those before it, and when all entries of a past are. Entries stand latest first. A reader's entry has the same turn
--- and cites as little as any first event; its reply is judged by what stands before it, and by the snap that a `pending` waits for.
+-- When an entry is in order behind those before it, and when all entries of a past are. Entries stand latest first. A
+-- reader's entry has the same turn and cites as little as any first event; its reply is judged by what stands before
+-- it, and by the snap that a `pending` waits for.
+-- Believed: the clauses of the program's top call rest on all that stands here.
 use Rattle.std.specs.Prelude.{◌≡◌, ℕ, ◌+◌, ◌⊎◌, Bool, true, false, List, [], ◌∷◌, None}
-use Rattle.joint_model.specs.declared.names.Span.{Span}
-use Rattle.joint_model.specs.declared.names.Thread.{Thread}
-use Rattle.joint_model.specs.declared.events.Op.TheVariants as op
-use Rattle.joint_model.specs.declared.events.Reply.{Reply}
-use Rattle.joint_model.specs.declared.events.Reply.TheVariants as says
-use Rattle.joint_model.specs.Heaps.{slot}
-use Rattle.joint_model.specs.Histories.{Finished, managed_numbers, peer_numbers}
-use Rattle.joint_model.specs.Lines.{is_read}
-use Rattle.joint_model.specs.Linked.{Linkage, opening_linkage}
-use Rattle.joint_model.specs.Managed.{Managed, read_cell}
-use Rattle.joint_model.specs.Readers.{ReadsCell, MayBePending, MayBeUnset, entry_after, is_managed_entry}
-use Rattle.joint_model.specs.Run.{thread_number}
-use Rattle.joint_model.specs.Told.{Noted, nothing}
-use Rattle.joint_laws.specs.ToldLaws.{TellsNamed, TakesNamed}
-use Rattle.known_laws.specs.Growing.{turned}
-use Rattle.known_laws.specs.Known.{TellsPlainly}
-use Rattle.known_laws.specs.Pasts.{InPast}
+use Rattle.joint_machine.specs.declared.names.Span.{Span}
+use Rattle.joint_machine.specs.declared.names.Thread.{Thread}
+use Rattle.joint_machine.specs.declared.events.Op.TheVariants as op
+use Rattle.joint_machine.specs.declared.events.Reply.{Reply}
+use Rattle.joint_machine.specs.declared.events.Reply.TheVariants as says
+use Rattle.joint_machine.specs.Heaps.{slot}
+use Rattle.joint_machine.specs.Histories.{Finished, managed_numbers, peer_numbers}
+use Rattle.joint_machine.specs.Lines.{is_read}
+use Rattle.joint_machine.specs.Linked.{Linkage, opening_linkage}
+use Rattle.joint_machine.specs.Managed.{Managed, read_cell}
+use Rattle.joint_machine.specs.Readers.{ReadsCell, MayBePending, MayBeUnset, entry_after, is_managed_entry}
+use Rattle.joint_machine.specs.Run.{thread_number}
+use Rattle.joint_machine.specs.Told.{Noted, nothing}
+use Rattle.joint_laws.specs.Spans.{TakesNamed, TellsNamed}
+use Rattle.known_laws.specs.PastEntries.{TellsPlainly, InPast, turned}
 use Rattle.check_laws.specs.Order.{IsTurn, CitesSo, RepliesSo}
 
 -- the entries of a past, earliest first, and the state after them
@@ -40,8 +40,8 @@ pub record WaitsForSnap (past : List Noted) (k : ℕ) : Type 0 where
 abbrev pub GivesSnap : List Noted → Noted → Type 0
 GivesSnap past n = is_managed_entry n ≡ true → (k : ℕ) → WaitsForSnap past k → n.entry.made.op ≡ op.Snap record { 0 = k }
 
--- an entry with that number may answer `pending k` behind a past: the snap of cycle k stands there, as the rule asks, or it is the next one, while no
--- cycle is open
+-- an entry with that number may answer `pending k` behind a past: the snap of cycle k stands there, as the rule asks,
+-- or it is the next one, while no cycle is open
 abbrev pub MayBePendingBehind : List Noted → Managed → ℕ → Thread → ℕ → Type 0
 MayBePendingBehind past s i t k = MayBePending (in_turn past) i t k ⊎ ((s.cycle ≡ None) × (k ≡ s.cycles + 1))
 
@@ -54,7 +54,8 @@ IsReplyBehind past s i t k reply = reply ≡ (read_cell s (thread_number t) k).r
 abbrev pub ReadsBehind : List Noted → Noted → Type 0
 ReadsBehind past n = (k : ℕ) → ReadsCell n.entry.made.op k → IsReplyBehind past (state_of past).managed.managed n.entry.number n.entry.made.caller k n.entry.made.reply
 
--- the stretches of the history's lists that the reply names are what the entry freed, and what it took of the waiting notices
+-- the stretches of the history's lists that the reply names are what the entry freed, and what it took of the waiting
+-- notices
 pub record NamesSo (h : Finished) (s : Managed) (n : Noted) : Type 0 where
   pub freed : TellsNamed (managed_numbers h.freed_managed) (peer_numbers h.freed_peers) n.entry.made.reply n.told
   pub taken : (span : Span) → n.entry.made.reply ≡ says.Took span → TakesNamed (managed_numbers h.notices) s span

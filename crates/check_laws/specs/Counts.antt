@@ -1,16 +1,16 @@
--- What a read may answer that is set aside is told by a few counts of managed entries: at its caller's last entry, at the end of each cycle, and at the
--- setting of each cell.
+-- What a read may answer that is set aside is told by a few counts of managed entries: at its caller's last entry, at
+-- the end of each cycle, and at the setting of each cell.
 use Rattle.std.specs.Prelude.{◌≡◌, ℕ, ◌+◌, ◌≤◌, ◌↔◌, ◌⊎◌, Bool, false, nat_eq, if◌then◌else◌, List, [], ◌∷◌, length, Contains, Option, Some, None}
-use Rattle.joint_model.specs.declared.names.Thread.{Thread}
-use Rattle.joint_model.specs.declared.lines.Act.TheVariants as act
-use Rattle.joint_model.specs.declared.events.Op.{Op}
-use Rattle.joint_model.specs.declared.events.Op.TheVariants as op
-use Rattle.joint_model.specs.declared.events.Reply.{Reply}
-use Rattle.joint_model.specs.declared.events.Reply.TheVariants as says
-use Rattle.joint_model.specs.Heaps.{slot}
-use Rattle.joint_model.specs.Managed.{Managed}
-use Rattle.joint_model.specs.Readers.{MayBeUnset}
-use Rattle.joint_model.specs.Told.{Noted}
+use Rattle.joint_machine.specs.declared.names.Thread.{Thread}
+use Rattle.joint_machine.specs.declared.lines.Act.TheVariants as act
+use Rattle.joint_machine.specs.declared.events.Op.{Op}
+use Rattle.joint_machine.specs.declared.events.Op.TheVariants as op
+use Rattle.joint_machine.specs.declared.events.Reply.{Reply}
+use Rattle.joint_machine.specs.declared.events.Reply.TheVariants as says
+use Rattle.joint_machine.specs.Heaps.{slot}
+use Rattle.joint_machine.specs.Managed.{Managed}
+use Rattle.joint_machine.specs.Readers.{MayBeUnset}
+use Rattle.joint_machine.specs.Told.{Noted}
 use Rattle.check_laws.specs.Behind.{in_turn, state_of, MayBePendingBehind}
 use Rattle.check_laws.specs.Known.{managed_count, seen}
 use Rattle.check_laws.specs.Reads.{AllComeBehind, AreInPlace, AllReadBehind}
@@ -44,12 +44,13 @@ abbrev pub AtMost : ℕ → Option ℕ → Type 0
 AtMost n None = Unit {0}
 AtMost n (Some m) = n ≤ m
 
--- a thread may answer `pending k`: the cycle is the next one, and none is open; or it was snapped, and isn't over, or the thread has seen no managed entry
--- behind its end
+-- a thread may answer `pending k`: the cycle is the next one, and none is open; or it was snapped, and isn't over, or
+-- the thread has seen no managed entry behind its end
 abbrev pub IsPendingBy : List Noted → Managed → Thread → ℕ → Type 0
 IsPendingBy past s t k = ((s.cycle ≡ None) × (k ≡ s.cycles + 1)) ⊎ ((1 ≤ k) × (k ≤ s.cycles) × AtMost (seen past t) (ended past k))
 
--- a thread knows nothing of the setting of a cell: another thread made it, and the thread has seen no managed entry behind it
+-- a thread knows nothing of the setting of a cell: another thread made it, and the thread has seen no managed entry
+-- behind it
 abbrev pub IsUnknown : Thread → ℕ → Option Setting → Type 0
 IsUnknown t n None = Unit {0}
 IsUnknown t n (Some w) = (w.caller ≡ t → ⊥) × (n ≤ w.count)

@@ -1,11 +1,11 @@
--- The entries so far are known to whoever checks them: they are a past of one who knows them all, with the pins of the state told at each snap and `take`.
--- So all that every known past keeps holds of the state, but for the pins.
+-- The entries so far are known to whoever checks them: they are a past of one who knows them all, with the pins of the
+-- state told at each snap and `take`. So all that every known past keeps holds of the state, but for the pins.
 use Rattle.std.specs.Prelude.{◌≡◌, List}
-use Rattle.joint_model.specs.Draws.{NumberedFrom}
-use Rattle.joint_model.specs.Histories.{Finished}
-use Rattle.joint_model.specs.Told.{Noted, no_pins}
+use Rattle.joint_machine.specs.Histories.{Finished, NumberedFrom}
+use Rattle.joint_machine.specs.Told.{Noted}
+use Rattle.joint_machine.specs.PinsTold.{no_pins}
 use Rattle.known_laws.specs.Driving.{IsPastKept}
-use Rattle.known_laws.specs.Growing.{entries}
+use Rattle.known_laws.specs.PastEntries.{entries}
 use Rattle.known_laws.specs.Known.{pinned}
 use Rattle.known_laws.specs.Pasts.{Lawful, end_of}
 use Rattle.check_laws.specs.Behind.{in_turn, state_of, AllInOrder}

@@ -1,22 +1,24 @@
--- Whether an entry is in order after those before it: three tests, made one after another. The first looks at the event's name and line, the second
--- at what is cited and what the cited entry gave, the third at the reply and at what is told beside it.
+-- Whether an entry is in order after those before it: three tests, made one after another. The first looks at the
+-- event's name and line, the second at what is cited and what the cited entry gave, the third at the reply and at what
+-- is told beside it.
+-- Believed: the clauses of the program's top call rest on all that stands here.
 use Rattle.std.specs.Prelude.{◌≡◌, ℕ, ◌≤◌, ◌<◌, ◌^◌, false, List, length, Option, Some, None}
-use Rattle.joint_model.specs.declared.names.Thread.{Thread}
-use Rattle.joint_model.specs.declared.names.Thread.TheVariants.{M, P, C}
-use Rattle.joint_model.specs.declared.lines.Act.TheVariants as act
-use Rattle.joint_model.specs.declared.events.Op.{Op}
-use Rattle.joint_model.specs.declared.events.Op.TheVariants as op
-use Rattle.joint_model.specs.declared.events.Made.{Made}
-use Rattle.joint_model.specs.declared.events.Reply.{Reply}
-use Rattle.joint_model.specs.declared.events.Reply.TheVariants as says
-use Rattle.joint_model.specs.Components.{mirror_edges}
-use Rattle.joint_model.specs.Control.{Doing, made, lent, gripped, given, met, Stand, idle, snapped, contracted, weakening, marked, restoring, restored, doing_at, last_line, carried_edges, IsCandidateHandle, IsAtRest, IsPhaseOf}
-use Rattle.joint_model.specs.Lines.{IsEvent, IsLine, is_peer_event}
-use Rattle.joint_model.specs.Linked.{Linkage, SideLawful}
-use Rattle.joint_model.specs.Managed.{Managed, candidates_of}
-use Rattle.joint_model.specs.PeerReplay.{Marking}
-use Rattle.joint_model.specs.Peers.{Issued}
-use Rattle.joint_model.specs.Told.{Told, references_of, resolution_of, phase_of, Noted}
+use Rattle.joint_machine.specs.declared.names.Thread.{Thread}
+use Rattle.joint_machine.specs.declared.names.Thread.TheVariants.{M, P, C}
+use Rattle.joint_machine.specs.declared.lines.Act.TheVariants as act
+use Rattle.joint_machine.specs.declared.events.Op.{Op}
+use Rattle.joint_machine.specs.declared.events.Op.TheVariants as op
+use Rattle.joint_machine.specs.declared.events.Made.{Made}
+use Rattle.joint_machine.specs.declared.events.Reply.{Reply}
+use Rattle.joint_machine.specs.declared.events.Reply.TheVariants as says
+use Rattle.joint_machine.specs.Components.{mirror_edges}
+use Rattle.joint_machine.specs.Control.{Doing, made, lent, gripped, given, met, Stand, idle, snapped, contracted, weakening, marked, restoring, restored, doing_at, last_line, carried_edges, IsCandidateHandle, IsAtRest, IsPhaseOf}
+use Rattle.joint_machine.specs.Lines.{IsEvent, IsLine, is_peer_event}
+use Rattle.joint_machine.specs.Linked.{Linkage, SideLawful}
+use Rattle.joint_machine.specs.Managed.{Managed, candidates_of}
+use Rattle.joint_machine.specs.PeerReplay.{Marking}
+use Rattle.joint_machine.specs.Peers.{Issued}
+use Rattle.joint_machine.specs.Told.{Told, references_of, resolution_of, phase_of, Noted}
 
 -- an operation may begin: nothing has to follow (a pair, a lent handle or a gripped peer may have been left behind)
 abbrev pub MayBegin : Doing → Type 0
@@ -50,8 +52,8 @@ ThreadTurn d t l (op.Meet v sort f p h) = MeetTurn d l
 ThreadTurn d t l (op.Release h) = ReleaseTurn d l
 ThreadTurn d t l _ = MayBegin d
 
--- the event is the next one of the phase that is half done, or the first of the phase that comes next, or one that stands between phases.
--- `mark` first ends a peer thread's marking, if one is open, and begins its own where none is.
+-- the event is the next one of the phase that is half done, or the first of the phase that comes next, or one that
+-- stands between phases. `mark` first ends a peer thread's marking, if one is open, and begins its own where none is.
 abbrev pub SnapTurn : Stand → Type 0
 SnapTurn idle = Unit {0}
 SnapTurn _ = ⊥
@@ -114,7 +116,8 @@ CallersTurn s (M t) l o = ThreadTurn (doing_at s.control t) (M t) l o
 CallersTurn s (P t) l o = Unit {0}
 CallersTurn s C l o = DriverTurn s.control.stand s.managed.managed s.peer.marking o
 
--- the first test: it is the caller's turn. There is such an event, lines never fall, and the order of events allows its name.
+-- the first test: it is the caller's turn. There is such an event, lines never fall, and the order of events allows its
+-- name.
 pub record IsTurn (s : Linkage) (m : Made) : Type 0 where
   pub event : IsEvent m.caller m.op
   pub line : last_line s.control m.caller ≤ m.index
@@ -146,7 +149,8 @@ ThreadCites d (op.Meet v sort f p h) cites = MeetCites d (op.Meet v sort f p h) 
 ThreadCites d (op.Release h) cites = ReleaseCites d h.0 cites
 ThreadCites d _ cites = cites ≡ None
 
--- a mirror cites the snap of its cycle, which is the open one, a weaken the snap of the open cycle, a resolve the clear of its cycle
+-- a mirror cites the snap of its cycle, which is the open one, a weaken the snap of the open cycle, a resolve the clear
+-- of its cycle
 abbrev pub MirrorCites : Stand → ℕ → Option ℕ → Type 0
 MirrorCites (contracted o comps heavy xrefs) k cites = (o.cycle ≡ k) × (cites ≡ Some o.snap)
 MirrorCites _ k cites = ⊥
@@ -174,8 +178,8 @@ CitesBy s C o cites = DriverCites s.control.stand o cites
 abbrev pub CitesSo : Linkage → Made → Type 0
 CitesSo s m = CitesBy s m.caller m.op m.cites
 
--- what the driver's stand says of the data of its events: the number of the open cycle, the references of its dead part, the answers of the
--- restores, and its phase
+-- what the driver's stand says of the data of its events: the number of the open cycle, the references of its dead
+-- part, the answers of the restores, and its phase
 abbrev pub ContractData : Stand → ℕ → Type 0
 ContractData (snapped o) k = o.cycle ≡ k
 ContractData _ k = ⊥
@@ -224,9 +228,3 @@ CallersData s C o reply told = DriverData s.control.stand s.managed.managed s.pe
 pub record RepliesSo (s : Linkage) (n : Noted) : Type 0 where
   pub lawful : SideLawful (is_peer_event n.entry.made.caller n.entry.made.op) s n.entry.made n.told
   pub driven : CallersData s n.entry.made.caller n.entry.made.op n.entry.made.reply n.told
-
--- an entry is in order
-pub record IsInOrder (s : Linkage) (n : Noted) : Type 0 where
-  pub turn : IsTurn s n.entry.made
-  pub cites : CitesSo s n.entry.made
-  pub replies : RepliesSo s n

@@ -1,9 +1,10 @@
--- What a reader's entry may answer over a whole history is told by what stands before it, and by the snap that it waits for.
+-- What a reader's entry may answer over a whole history is told by what stands before it, and by the snap that it waits
+-- for.
 use Rattle.std.specs.Prelude.{◌≡◌, ℕ, ◌↔◌, Bool, true, false, List, [], ◌∷◌, length, Option}
-use Rattle.joint_model.specs.Lines.{is_read}
-use Rattle.joint_model.specs.Linked.{Linkage, MayCome}
-use Rattle.joint_model.specs.Readers.{ReadsCell, IsReadReply, ReaderMayCome}
-use Rattle.joint_model.specs.Told.{Noted, nothing}
+use Rattle.joint_machine.specs.Lines.{is_read}
+use Rattle.joint_machine.specs.Linked.{Linkage, MayCome}
+use Rattle.joint_machine.specs.Readers.{ReadsCell, IsReadReply, ReaderMayCome}
+use Rattle.joint_machine.specs.Told.{Noted, nothing}
 use Rattle.check_laws.specs.Order.{IsTurn, CitesSo}
 use Rattle.check_laws.specs.Behind.{in_turn, state_of, WaitsForSnap, GivesSnap, ReadsBehind}
 

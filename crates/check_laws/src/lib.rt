@@ -1,14 +1,16 @@
-// Laws for a checker of histories, over the definitions alone: what a history is found to be, and that this is what linked histories ask.
+// Laws for a checker of histories, over the definitions alone: what a history is found to be, and that this is what
+// linked histories ask.
 //
-// A history may come from anywhere. Of each entry three tests are made, in this order: is it its caller's turn, does it cite what it has to, and does it answer,
-// free and take what it may. The first entry that fails one is what the history is found to be illegal by; where none fails, and nothing has to follow, it is
-// legal, and else unfinished.
+// A history may come from anywhere. Of each entry three tests are made, in this order: is it its caller's turn, does it
+// cite what it has to, and does it answer, free and take what it may. The first entry that fails one is what the
+// history is found to be illegal by; where none fails, and nothing has to follow, it is legal, and else unfinished.
 //
-// `specs/` read alone tells what is true: Order has the three tests in a state, Behind of an entry behind a past, and Found what a history is found to be. Laws,
-// Reads, Known, Counts and Knows have the laws on the way:
+// `specs/` read alone tells what is true: Order has the three tests in a state, Behind of an entry behind a past, and
+// Found what a history is found to be. Laws, Reads, Known, Counts and Knows have the laws on the way:
 //
 // - the three tests are nothing else than "may come next", and but for refusals what an entry answers is one;
-// - what a read may answer over a whole history is told by what stands before it and by the snap that a `pending` waits for, and that by a few counts of
+// - what a read may answer over a whole history is told by what stands before it and by the snap that a `pending` waits
+// for, and that by a few counts of
 //   managed entries: at a caller's last entry, at a cycle's end, at the setting of a cell;
 // - the entries so far are a past that somebody knows, so that what the calls of both sides ask for holds behind them;
 // - a history has one finding, and it is legal exactly where it is linked, as far as its replies name its freed lists.
@@ -28,8 +30,8 @@ ghost use Rattle.check_laws.specs.Worked.{HasTwoReplies};
 
 pub use findings::{Finding, Why};
 
-/// The three tests of an entry, that it is its caller's turn, that it cites what it has to, and that its reply is right, are together the
-/// one test of linked histories.
+/// The three tests of an entry, that it is its caller's turn, that it cites what it has to, and that its reply is
+/// right, are together the one test of linked histories.
 pub fn order_is_tested()
     ensures { OrderIsTested }
 {}
@@ -59,21 +61,22 @@ pub fn refusals_have_two_replies()
     ensures { HasTwoReplies }
 {}
 
-/// What a reader's entry may answer over a whole history is told by what stands before it, and by the snap that it waits for. Its turn and what it cites
-/// are tested as those of any other entry.
+/// What a reader's entry may answer over a whole history is told by what stands before it, and by the snap that it
+/// waits for. Its turn and what it cites are tested as those of any other entry.
 pub fn readers_are_tested()
     ensures order { ReaderOrderIsTested }
     ensures replies { ReadersAreTested }
 {}
 
-/// What a read may answer that is set aside is told by counts: how many managed entries there were at its caller's last entry, with the end of each cycle, and
-/// with the setting of each cell.
+/// What a read may answer that is set aside is told by counts: how many managed entries there were at its caller's last
+/// entry, with the end of each cycle, and with the setting of each cell.
 pub fn reads_are_counted()
     ensures { ReadsAreCounted }
 {}
 
-/// The entries so far, each in order, are a past that somebody knows, with the pins of the state told; and all that every known past keeps holds of the state
-/// behind them, but for the pins. So what each call of both sides asks for follows of it, by what a thread has in hand or where the driver stands.
+/// The entries so far, each in order, are a past that somebody knows, with the pins of the state told; and all that
+/// every known past keeps holds of the state behind them, but for the pins. So what each call of both sides asks for
+/// follows of it, by what a thread has in hand or where the driver stands.
 pub fn checked_pasts_are_known()
     ensures { PastsInOrderAreKnown }
 {}
@@ -88,7 +91,8 @@ pub fn names_are_lists()
     ensures { NamesAreLists }
 {}
 
-/// A history is legal exactly where it is linked, as far as its replies name its freed lists; and its joint projection is then a run, sound and complete.
+/// A history is legal exactly where it is linked, as far as its replies name its freed lists; and its joint projection
+/// is then a run, sound and complete.
 pub fn legal_is_linked()
     ensures linked { LegalIsLinked }
     ensures runs { LinkedRuns }

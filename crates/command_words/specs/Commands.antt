@@ -1,5 +1,6 @@
 -- Which words of a command line are a command.
-use Rattle.std.specs.Prelude.{◌≡◌, ℕ, ◌<◌, ◌≤◌, ◌^◌, List, [], ◌∷◌, ◌++◌, map, Contains, codes, decimal}
+-- Believed: the clauses of the program's top call rest on all that stands here.
+use Rattle.std.specs.Prelude.{ℕ, ◌<◌, ◌≤◌, ◌^◌, List, [], ◌∷◌, ◌++◌, map, Contains, codes, decimal}
 use Rattle.command_words.specs.declared.commands.Mode.{Mode}
 use Rattle.command_words.specs.declared.commands.Mode.TheVariants as mode
 use Rattle.command_words.specs.declared.commands.Command.{Command}
@@ -46,7 +47,3 @@ IsAllowed _ = Unit {0}
 pub record AreWordsOf (words : List (List ℕ)) (c : Command) : Type 0 where
   pub given : Contains (lists_of c) words
   pub allowed : IsAllowed c
-
--- words give at most one command
-abbrev pub WordsTellCommands : Type 0
-WordsTellCommands = (words : List (List ℕ)) (c d : Command) → AreWordsOf words c → AreWordsOf words d → c ≡ d

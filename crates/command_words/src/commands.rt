@@ -7,9 +7,10 @@ pub enum Mode {
     Threads,
 }
 
-/// What the words of the command line ask for: to run the script that is read, in order or in threads; to run it in order and list the components of
-/// each cycle by the second component pass; to run it in order and write its reference log; to read such a log and list what it never releases; to read
-/// the report of a run and judge whether it is one; or to make a script of a seed and a size, of at most 2,800 families, and to run that.
+/// What the words of the command line ask for: to run the script that is read, in order or in threads; to run it in
+/// order and list the components of each cycle by the second component pass; to run it in order and write its reference
+/// log; to read such a log and list what it never releases; to read the report of a run and judge whether it is one; or
+/// to make a script of a seed and a size, of at most 2,800 families, and to run that.
 #[derive(Clone, Copy, PartialEq, Eq, Debug)]
 pub enum Command {
     Run { mode: Mode },

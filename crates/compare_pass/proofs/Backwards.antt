@@ -2,9 +2,9 @@
 use Rattle.std.proofs.Common.{ℕ, List, [], ◌∷◌, ◌++◌, refl, subst}
 use Rattle.std.specs.Prelude.{All}
 use Rattle.std.proofs.lemmas.List.Elements.{All-nil, All-head, All-tail, All-push}
-use Rattle.joint_model.specs.Walks.{Walks, Reaches, Mutual}
-use Rattle.joint_model.specs.Components.{Leads}
-use Rattle.joint_model.proofs.WalkLemmas.{Walks-join, Reaches-self, Reaches-then}
+use Rattle.joint_machine.specs.Walks.{Walks, Reaches, Mutual}
+use Rattle.joint_machine.specs.Components.{Leads}
+use Rattle.joint_machine.proofs.WalkLemmas.{Walks-join, Reaches-self, Reaches-then}
 
 module _ (edge back : ℕ → ℕ → Type 0) (turn : (u v : ℕ) → back u v → edge v u) where
   walk-back : (x : ℕ) (rows : List ℕ) (y : ℕ) → Walks back x rows y → Reaches edge y x

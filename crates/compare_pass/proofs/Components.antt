@@ -1,15 +1,15 @@
--- Going through the nodes in order, a bridge node whose class has no index is the first of its class: it makes a component of
--- the whole group. In the end the components are exactly the classes of bridge nodes.
+-- Going through the nodes in order, a bridge node whose class has no index is the first of its class: it makes a
+-- component of the whole group. In the end the components are exactly the classes of bridge nodes.
 use Rattle.std.proofs.Common.{◌≡◌, ◌↔◌, ℕ, ◌+◌, ◌<◌, ◌≤◌, List, [], ◌∷◌, ◌++◌, length, get_or, set, slice_get, refl, sym, ◌∙◌, ap, subst, arith, inl, inr}
 use Rattle.std.specs.Prelude.{All, Contains}
 use Rattle.std.proofs.lemmas.Bool.{cases_lt}
 use Rattle.std.proofs.lemmas.List.{map_push, length-map, length_push, get_or-map, get_or_append_left, get_or_push}
 use Rattle.std.proofs.lemmas.List.Elements.{All-nil, All-push, All-weaker}
 use Rattle.std.proofs.lemmas.Option.{slice_get_within, same_Some, get_or_from_slice_get}
-use Rattle.joint_model.specs.Walks.{Mutual}
-use Rattle.joint_model.specs.Components.{IsMember, first_of}
-use Rattle.joint_model.proofs.Members.{Rises-push, All-members}
-use Rattle.joint_model.proofs.Numbered.{push-at_old, push-at_new}
+use Rattle.joint_machine.specs.Walks.{Mutual}
+use Rattle.joint_machine.specs.Components.{IsMember, first_of}
+use Rattle.joint_machine.proofs.Members.{Rises-push, All-members}
+use Rattle.joint_machine.proofs.Numbered.{push-at_old, push-at_new}
 use Rattle.bridge_graph.specs.declared.graph.Node.{Node}
 use Rattle.bridge_graph.specs.Parts.{IsBridgeNode, NodeLeads}
 use Rattle.xref_list.specs.Listing.{AreDisjoint}

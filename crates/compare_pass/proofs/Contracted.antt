@@ -5,9 +5,9 @@ use Rattle.std.specs.List.Sorted.{IsPermutation}
 use Rattle.std.proofs.lemmas.List.{length-append, length-map}
 use Rattle.std.proofs.lemmas.List.Elements.{All-contains}
 use Rattle.std.proofs.lemmas.List.Sorted.{Contains-permutation, IsPermutation-sym}
-use Rattle.joint_model.specs.Walks.{Walks}
-use Rattle.joint_model.specs.Components.{IsHeavy, IsPlainClass, IsUnreported, IsCanonical, IsContraction, first_of, stand_at}
-use Rattle.joint_model.proofs.WalkLemmas.{Reaches-keeps}
+use Rattle.joint_machine.specs.Walks.{Walks}
+use Rattle.joint_machine.specs.Components.{IsHeavy, IsPlainClass, IsUnreported, IsCanonical, IsContraction, first_of, stand_at}
+use Rattle.joint_machine.proofs.WalkLemmas.{Reaches-keeps}
 use Rattle.bridge_graph.specs.declared.graph.Node.{Node}
 use Rattle.bridge_graph.specs.Parts.{IsBridgeNode, IsPart, NodeLeads}
 use Rattle.compare_pass.specs.Classes.{AreClasses}

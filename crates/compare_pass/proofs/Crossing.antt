@@ -5,9 +5,9 @@ use Rattle.std.proofs.Common.{◌≡◌, ◌↔◌, ◌⊎◌, ℕ, ◌<◌, Lis
 use Rattle.std.specs.Prelude.{All}
 use Rattle.std.proofs.lemmas.Bool.{cases_eq}
 use Rattle.std.proofs.lemmas.List.Elements.{All-nil, All-head, All-tail, All-push}
-use Rattle.joint_model.specs.Walks.{Walks, Reaches, Mutual}
-use Rattle.joint_model.specs.Components.{Leads}
-use Rattle.joint_model.proofs.WalkLemmas.{Walks-join, Reaches-self, Reaches-then, Reaches-trans, Reaches-keeps, Mutual-self, Mutual-trans}
+use Rattle.joint_machine.specs.Walks.{Walks, Reaches, Mutual}
+use Rattle.joint_machine.specs.Components.{Leads}
+use Rattle.joint_machine.proofs.WalkLemmas.{Walks-join, Reaches-self, Reaches-then, Reaches-trans, Reaches-keeps, Mutual-self, Mutual-trans}
 use Rattle.bridge_graph.specs.Parts.{NodeLeads}
 use Rattle.compare_pass.specs.Classes.{AreClasses}
 use Rattle.compare_pass.specs.Searching.{Goes, Opens, index_at, no_index}

@@ -5,9 +5,9 @@ use Rattle.std.proofs.lemmas.List.{length-map, map_push, take_more, length-take,
 use Rattle.std.proofs.lemmas.List.Elements.{All-push}
 use Rattle.std.proofs.lemmas.Option.{slice_get_within, get_or_from_slice_get}
 use Rattle.indexmap.specs.IndexMap.{insert_entry}
-use Rattle.joint_model.specs.declared.names.MNum.{MNum}
-use Rattle.joint_model.specs.Components.{Rises}
-use Rattle.joint_model.proofs.Members.{All-members}
+use Rattle.joint_machine.specs.declared.names.MNum.{MNum}
+use Rattle.joint_machine.specs.Components.{Rises}
+use Rattle.joint_machine.proofs.Members.{All-members}
 use Rattle.bridge_graph.specs.declared.graph.Node.{Node}
 use Rattle.bridge_graph.specs.Parts.{numbers_of}
 use Rattle.compare_pass.proofs.Rising.{rises_at}

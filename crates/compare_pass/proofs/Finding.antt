@@ -5,8 +5,8 @@ use Rattle.std.proofs.lemmas.List.{length_push, length-append, length-set, get_o
 use Rattle.std.proofs.lemmas.List.Elements.{All-nil, All-push, All-weaker, All-contains, All-append, Contains-append_left, Contains-push}
 use Rattle.std.proofs.lemmas.Bool.{cases_lt, cases_eq, true≢false}
 use Rattle.std.specs.List.{All, Contains}
-use Rattle.joint_model.specs.Walks.{Walks, Reaches, Mutual}
-use Rattle.joint_model.proofs.WalkLemmas.{Reaches-keeps, Reaches-self, Reaches-then, Reaches-trans}
+use Rattle.joint_machine.specs.Walks.{Walks, Reaches, Mutual}
+use Rattle.joint_machine.proofs.WalkLemmas.{Reaches-keeps, Reaches-self, Reaches-then, Reaches-trans}
 use Rattle.compare_pass.specs.Searching.{unmarked, AreMarked, Visits, FindsReached}
 
 -- where each edge from a node of the class of x is a step, a walk inside the class is one by steps

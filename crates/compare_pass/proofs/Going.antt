@@ -1,12 +1,12 @@
--- The steps of the first search keep what it keeps: it comes to a node that wasn't seen, from no frame or from the top one, or it
--- finishes the node of the top frame.
+-- The steps of the first search keep what it keeps: it comes to a node that wasn't seen, from no frame or from the top
+-- one, or it finishes the node of the top frame.
 use Rattle.std.proofs.Common.{◌≡◌, ℕ, ◌+◌, ◌<◌, ◌⊎◌, inl, inr, Bool, true, false, List, [], ◌∷◌, ◌++◌, length, get_or, set, reverse, sym, ◌∙◌, ap, subst, arith, suc, zero, ◌≤◌}
 use Rattle.std.specs.Prelude.{All, Contains}
 use Rattle.std.proofs.lemmas.Bool.{cases_lt, cases_eq, true≢false}
 use Rattle.std.proofs.lemmas.List.{length-set, get_or-set_same, get_or-set_other, get_or_past, get_or_default, reverse-append}
 use Rattle.std.proofs.lemmas.List.Elements.{All-nil, All-cons, All-head, All-tail, All-weaker, Contains-append_left, Contains-push, Contains-push_cases}
-use Rattle.joint_model.proofs.Members.{Contains-nil, Contains-here, Contains-there, Contains-cons_cases, Contains-at, All-members}
-use Rattle.joint_model.proofs.Numbered.{push-at_cases}
+use Rattle.joint_machine.proofs.Members.{Contains-nil, Contains-here, Contains-there, Contains-cons_cases, Contains-at, All-members}
+use Rattle.joint_machine.proofs.Numbered.{push-at_cases}
 use Rattle.bridge_graph.specs.Parts.{NodeLeads, row_at}
 use Rattle.compare_pass.specs.declared.finishing.Frame.{Frame}
 use Rattle.compare_pass.specs.Searches.{IsSearching, IsGoing, IsFinishingOrder, AreDifferent, nodes_of, unseen}

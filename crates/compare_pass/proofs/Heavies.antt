@@ -6,10 +6,10 @@ use Rattle.std.proofs.lemmas.Nat.{mul-le}
 use Rattle.std.proofs.lemmas.List.{take_all, length-map, get_or-map, get_or_default}
 use Rattle.std.proofs.lemmas.List.Elements.{All-contains, Contains-get_or}
 use Rattle.std.proofs.lemmas.Option.{get_or_from_slice_get}
-use Rattle.joint_model.specs.Walks.{Mutual}
-use Rattle.joint_model.specs.Components.{Rises, Leads, LeadsIn, LeadsOut, IsFirst, IsHeavy, IsPlainClass, first_of}
-use Rattle.joint_model.proofs.Members.{All-members}
-use Rattle.joint_model.proofs.WalkLemmas.{Mutual-self, Mutual-sym, Mutual-trans}
+use Rattle.joint_machine.specs.Walks.{Mutual}
+use Rattle.joint_machine.specs.Components.{Rises, Leads, LeadsIn, LeadsOut, IsFirst, IsHeavy, IsPlainClass, first_of}
+use Rattle.joint_machine.proofs.Members.{All-members}
+use Rattle.joint_machine.proofs.WalkLemmas.{Mutual-self, Mutual-sym, Mutual-trans}
 use Rattle.bridge_graph.specs.declared.graph.Node.{Node}
 use Rattle.bridge_graph.specs.Parts.{IsBridgeNode, IsPart, NodeLeads}
 use Rattle.compare_pass.specs.Classes.{AreClasses}

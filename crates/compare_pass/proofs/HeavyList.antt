@@ -1,13 +1,14 @@
--- Going through the nodes in order, the first node of a heavy class is its least. In the end what has no index isn't reported.
+-- Going through the nodes in order, the first node of a heavy class is its least. In the end what has no index isn't
+-- reported.
 use Rattle.std.proofs.Common.{◌≡◌, ◌≢◌, ◌↔◌, ◌⊎◌, ℕ, ◌+◌, ◌<◌, List, [], ◌∷◌, ◌++◌, length, get_or, set, sym, ◌∙◌, ap, subst, arith, inl, inr, append-nil, append_assoc}
 use Rattle.std.specs.Prelude.{Contains}
 use Rattle.std.proofs.lemmas.Bool.{cases_lt, cases_eq}
 use Rattle.std.proofs.lemmas.List.{length-append}
 use Rattle.std.proofs.lemmas.List.Elements.{All-nil, All-push, All-weaker, All-contains, Contains-get_or, Contains-append_cases}
-use Rattle.joint_model.specs.Walks.{Mutual}
-use Rattle.joint_model.specs.Components.{IsHeavy, IsLeast, IsUnreported, IsPlainClass}
-use Rattle.joint_model.proofs.Members.{Rises-push}
-use Rattle.joint_model.proofs.WalkLemmas.{Mutual-sym}
+use Rattle.joint_machine.specs.Walks.{Mutual}
+use Rattle.joint_machine.specs.Components.{IsHeavy, IsLeast, IsUnreported, IsPlainClass}
+use Rattle.joint_machine.proofs.Members.{Rises-push}
+use Rattle.joint_machine.proofs.WalkLemmas.{Mutual-sym}
 use Rattle.compare_pass.specs.Listing.{AreHeavyBelow, AreNumbered}
 use Rattle.compare_pass.specs.Searching.{index_at, no_index}
 use Rattle.compare_pass.proofs.Heavies.{heavy-class}

@@ -1,14 +1,14 @@
 -- Over a list of edges it is decided whether one node reaches another, by an induction on the list: with a further edge
--- a node reaches what it reached before, and, if it reached the edge's source, what the edge's target reached before. The edges of a
--- part are such a list.
+-- a node reaches what it reached before, and, if it reached the edge's source, what the edge's target reached before.
+-- The edges of a part are such a list.
 use Rattle.std.proofs.Common.{◌≡◌, ℕ, zero, suc, ◌+◌, ◌<◌, ◌⊎◌, inl, inr, List, [], ◌∷◌, ◌++◌, length, map, refl, sym, subst, ap, arith}
 use Rattle.std.specs.Prelude.{Contains}
 use Rattle.std.proofs.lemmas.Bool.{cases_eq, cases_lt}
 use Rattle.std.proofs.lemmas.List.{get_or_past}
 use Rattle.std.proofs.lemmas.List.Elements.{Contains-append_left, Contains-append_right, Contains-append_cases}
-use Rattle.joint_model.specs.Walks.{Reaches}
-use Rattle.joint_model.proofs.WalkLemmas.{Reaches-self, Reaches-then, Reaches-trans, Reaches-keeps, Reaches-mono}
-use Rattle.joint_model.proofs.Members.{Contains-nil, Contains-here, Contains-there, Contains-cons_cases, Contains-map, Contains-map_cases}
+use Rattle.joint_machine.specs.Walks.{Reaches}
+use Rattle.joint_machine.proofs.WalkLemmas.{Reaches-self, Reaches-then, Reaches-trans, Reaches-keeps, Reaches-mono}
+use Rattle.joint_machine.proofs.Members.{Contains-nil, Contains-here, Contains-there, Contains-cons_cases, Contains-map, Contains-map_cases}
 use Rattle.bridge_graph.specs.Parts.{NodeLeads, row_at}
 
 -- one node leads to another over an edge of the list

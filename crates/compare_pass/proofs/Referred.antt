@@ -3,10 +3,10 @@ use Rattle.std.proofs.Common.{◌≡◌, ◌↔◌, ℕ, ◌+◌, ◌<◌, List,
 use Rattle.std.specs.Prelude.{Contains}
 use Rattle.std.proofs.lemmas.Bool.{cases_lt}
 use Rattle.std.proofs.lemmas.List.Elements.{Contains-append_left, Contains-append_right, Contains-append_cases}
-use Rattle.joint_model.specs.Walks.{Mutual}
-use Rattle.joint_model.specs.Components.{IsCrossReference, IsUnreported}
-use Rattle.joint_model.proofs.Members.{Contains-nil, Contains-map, Contains-map_cases}
-use Rattle.joint_model.proofs.WalkLemmas.{Mutual-trans, Reaches-keeps}
+use Rattle.joint_machine.specs.Walks.{Mutual}
+use Rattle.joint_machine.specs.Components.{IsCrossReference, IsUnreported}
+use Rattle.joint_machine.proofs.Members.{Contains-nil, Contains-map, Contains-map_cases}
+use Rattle.joint_machine.proofs.WalkLemmas.{Mutual-trans, Reaches-keeps}
 use Rattle.bridge_graph.specs.Parts.{NodeLeads}
 use Rattle.compare_pass.specs.Classes.{AreClasses}
 use Rattle.compare_pass.specs.Listing.{AreNumbered}

@@ -4,10 +4,10 @@ use Rattle.std.specs.Prelude.{Contains}
 use Rattle.std.proofs.lemmas.Bool.{cases_lt}
 use Rattle.std.proofs.lemmas.List.Elements.{All-contains, All-cons, All-nil, Contains-append_left, Contains-push, Contains-push_cases}
 use Rattle.std.proofs.lemmas.Option.{same_Some, slice_get_within}
-use Rattle.joint_model.specs.Walks.{Reaches, Mutual}
-use Rattle.joint_model.proofs.Members.{Contains-nil, Contains-here, Contains-there, Contains-cons_cases, at-Contains, All-members}
-use Rattle.joint_model.proofs.Numbered.{push-at_old, push-at_new}
-use Rattle.joint_model.proofs.WalkLemmas.{Reaches-self, Reaches-then, Reaches-trans, Reaches-edge, Reaches-keeps, Mutual-self, Mutual-sym, Mutual-trans}
+use Rattle.joint_machine.specs.Walks.{Reaches, Mutual}
+use Rattle.joint_machine.proofs.Members.{Contains-nil, Contains-here, Contains-there, Contains-cons_cases, at-Contains, All-members}
+use Rattle.joint_machine.proofs.Numbered.{push-at_old, push-at_new}
+use Rattle.joint_machine.proofs.WalkLemmas.{Reaches-self, Reaches-then, Reaches-trans, Reaches-edge, Reaches-keeps, Mutual-self, Mutual-sym, Mutual-trans}
 use Rattle.compare_pass.specs.Searches.{StandsBefore, IsServed, IsOpenIn, IsSearching, AreDifferent}
 
 -- whether one node reaches another is decided

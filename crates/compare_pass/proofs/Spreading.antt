@@ -1,16 +1,16 @@
--- The search against the edges labels just the class of its root, where the root was finished last among the nodes without a
--- label. What it labels reaches the root, and so is of its class, by the order of finishing; and a walk of the class to the
--- root is gone back along edge by edge.
+-- The search against the edges labels just the class of its root, where the root was finished last among the nodes
+-- without a label. What it labels reaches the root, and so is of its class, by the order of finishing; and a walk of
+-- the class to the root is gone back along edge by edge.
 use Rattle.std.proofs.Common.{◌≡◌, ◌≢◌, ◌↔◌, ◌⊎◌, ℕ, suc, zero, ◌+◌, ◌<◌, ◌≤◌, List, [], ◌∷◌, ◌++◌, Some, length, get_or, set, refl, sym, ◌∙◌, ap, subst, arith, inl, inr, eq-eqb}
 use Rattle.std.specs.Prelude.{All, Contains}
 use Rattle.std.proofs.lemmas.Bool.{cases_lt, cases_eq}
 use Rattle.std.proofs.lemmas.List.{length_push, length-set, get_or-set_same, get_or-set_other, get_or_past, get_or_default}
 use Rattle.std.proofs.lemmas.List.Elements.{Contains-append_left, Contains-push, Contains-push_cases}
 use Rattle.std.proofs.lemmas.Option.{slice_get-get_or, slice_get_within, get_or_from_slice_get}
-use Rattle.joint_model.specs.Walks.{Walks, Reaches, Mutual}
-use Rattle.joint_model.proofs.Deciding.{neq-eqb}
-use Rattle.joint_model.proofs.Members.{Contains-nil, Contains-here}
-use Rattle.joint_model.proofs.WalkLemmas.{Reaches-self, Reaches-then, Reaches-trans, Reaches-edge, Mutual-self, Mutual-sym, Mutual-trans}
+use Rattle.joint_machine.specs.Walks.{Walks, Reaches, Mutual}
+use Rattle.joint_machine.proofs.Deciding.{neq-eqb}
+use Rattle.joint_machine.proofs.Members.{Contains-nil, Contains-here}
+use Rattle.joint_machine.proofs.WalkLemmas.{Reaches-self, Reaches-then, Reaches-trans, Reaches-edge, Mutual-self, Mutual-sym, Mutual-trans}
 use Rattle.bridge_graph.specs.Parts.{NodeLeads}
 use Rattle.compare_pass.specs.Classes.{AreClasses}
 use Rattle.compare_pass.specs.Labelling.{AreLabelled, IsBare, IsSpreading, Labels, bare}

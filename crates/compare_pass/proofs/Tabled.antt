@@ -1,15 +1,15 @@
--- The entries of the table stand in the order of the nodes, whose numbers rise; so each number is found at its node, and keeps its
--- place.
+-- The entries of the table stand in the order of the nodes, whose numbers rise; so each number is found at its node,
+-- and keeps its place.
 use Rattle.std.proofs.Common.{◌≡◌, ℕ, zero, suc, ◌<◌, Bool, eqb, List, [], ◌∷◌, ◌++◌, Some, map, get_or, set, slice_get, refl, sym, ◌∙◌, ap, subst, arith, eq-eqb, Result, Ok, Err, OnOk, OnErr}
 use Rattle.std.specs.Prelude.{All}
 use Rattle.std.specs.Map.{lookup}
 use Rattle.std.proofs.lemmas.List.Elements.{All-head, All-tail, All-contains}
 use Rattle.std.proofs.lemmas.Option.{same_Some}
 use Rattle.indexmap.specs.IndexMap.{insert_entry}
-use Rattle.joint_model.specs.declared.names.MNum.{MNum}
-use Rattle.joint_model.specs.Components.{Rises}
-use Rattle.joint_model.proofs.Deciding.{neq-eqb, none_some}
-use Rattle.joint_model.proofs.Members.{Contains-at}
+use Rattle.joint_machine.specs.declared.names.MNum.{MNum}
+use Rattle.joint_machine.specs.Components.{Rises}
+use Rattle.joint_machine.proofs.Deciding.{neq-eqb, none_some}
+use Rattle.joint_machine.proofs.Members.{Contains-at}
 use Rattle.bridge_graph.specs.declared.graph.Node.{Node}
 use Rattle.bridge_graph.specs.Parts.{HasNode, numbers_of}
 

@@ -4,9 +4,9 @@ use Rattle.std.specs.Prelude.{All, Contains}
 use Rattle.std.proofs.lemmas.Bool.{cases_eq, cases_Bool, true≢false}
 use Rattle.std.proofs.lemmas.List.{length_push, get_or-set_same, get_or-set_other, get_or_default, take_more}
 use Rattle.std.proofs.lemmas.List.Elements.{All-contains, Contains-append_left, Contains-push, Contains-push_cases}
-use Rattle.joint_model.specs.Walks.{Reaches}
-use Rattle.joint_model.specs.Components.{Rises}
-use Rattle.joint_model.proofs.Members.{Contains-nil, Rises-push, All-members}
+use Rattle.joint_machine.specs.Walks.{Reaches}
+use Rattle.joint_machine.specs.Components.{Rises}
+use Rattle.joint_machine.proofs.Members.{Contains-nil, Rises-push, All-members}
 use Rattle.compare_pass.specs.Counting.{AreCounts, Comes, IsCount, Tallies, bit}
 use Rattle.compare_pass.specs.Searching.{AreMarked, FindsReached, Goes}
 use Rattle.compare_pass.proofs.Filling.{before-below}

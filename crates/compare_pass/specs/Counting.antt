@@ -1,7 +1,7 @@
 -- How many components a search comes to a node from.
 use Rattle.std.specs.Prelude.{◌≡◌, ◌↔◌, ℕ, ◌+◌, ◌*◌, ◌<◌, ◌≤◌, Bool, false, cond, List, length, All, Contains, slice_index, slice_index_or, take}
-use Rattle.joint_model.specs.Walks.{Reaches}
-use Rattle.joint_model.specs.Components.{Rises}
+use Rattle.joint_machine.specs.Walks.{Reaches}
+use Rattle.joint_machine.specs.Components.{Rises}
 use Rattle.compare_pass.specs.Searching.{Goes}
 
 -- n is the number of those of which P holds

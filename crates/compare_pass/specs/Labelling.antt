@@ -1,6 +1,6 @@
 -- What the search along the reversed edges keeps.
 use Rattle.std.specs.Prelude.{◌≡◌, ◌↔◌, ◌⊎◌, ℕ, ◌+◌, ◌<◌, ◌≤◌, ◌==◌, cond, List, [], ◌∷◌, length, Contains, slice_index}
-use Rattle.joint_model.specs.Walks.{Reaches, Mutual}
+use Rattle.joint_machine.specs.Walks.{Reaches, Mutual}
 use Rattle.bridge_graph.specs.Parts.{NodeLeads}
 
 -- stands at a node without a label
@@ -26,7 +26,8 @@ pub record AreLabelled (edges : List (List ℕ)) (count : ℕ) (order : List ℕ
   pub exact : (x y : ℕ) → x < count → y < count → ¬ IsBare labels x → ¬ IsBare labels y
       → (slice_index labels x ≡ slice_index labels y) ↔ Mutual (NodeLeads edges) x y
 
--- the search labelled only what reaches the root, through nodes that had no label; what it labelled waits, or all that leads to it is labelled
+-- the search labelled only what reaches the root, through nodes that had no label; what it labelled waits, or all that
+-- leads to it is labelled
 pub record IsSpreading (edges : List (List ℕ)) (root : ℕ) (before labels waiting : List ℕ) : Type 0 where
   pub size : length labels ≡ length before
   pub here : slice_index labels root ≡ root

@@ -1,6 +1,6 @@
 -- Classes that are reported: each has an index at its label, and one node that stands for it.
 use Rattle.std.specs.Prelude.{◌≡◌, ◌≢◌, ◌↔◌, ℕ, ◌<◌, List, ◌++◌, length, map, All, Contains, Some, slice_get, slice_index}
-use Rattle.joint_model.specs.Components.{Rises, IsHeavy, IsLeast, first_of}
+use Rattle.joint_machine.specs.Components.{Rises, IsHeavy, IsLeast, first_of}
 use Rattle.bridge_graph.specs.declared.graph.Node.{Node}
 use Rattle.bridge_graph.specs.declared.packing.Link.{Link}
 use Rattle.bridge_graph.specs.Packing.{packed_row, IsCut}

@@ -1,7 +1,7 @@
 -- The reported classes that one of them refers to.
 use Rattle.std.specs.Prelude.{◌≡◌, ◌↔◌, ℕ, ◌<◌, List, ◌++◌, length, Contains, slice_index}
-use Rattle.joint_model.specs.Walks.{Reaches}
-use Rattle.joint_model.specs.Components.{Rises}
+use Rattle.joint_machine.specs.Walks.{Reaches}
+use Rattle.joint_machine.specs.Components.{Rises}
 use Rattle.bridge_graph.specs.declared.graph.Node.{Node}
 use Rattle.bridge_graph.specs.Parts.{IsBridgeNode, NodeLeads}
 use Rattle.compare_pass.specs.Listing.{AreHeavyBelow, AreListed}

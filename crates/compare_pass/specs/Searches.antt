@@ -1,7 +1,7 @@
--- A depth first search along the edges, and what the order of finishing tells: behind all that a node reaches some node of
--- its class stands. (Kosaraju and Sharir; textbook.)
+-- A depth first search along the edges, and what the order of finishing tells: behind all that a node reaches some node
+-- of its class stands. (Kosaraju and Sharir; textbook.)
 use Rattle.std.specs.Prelude.{◌≡◌, ◌⊎◌, ◌↔◌, ℕ, ◌+◌, ◌<◌, ◌≤◌, Bool, true, false, cond, List, [], ◌∷◌, length, map, All, Contains, Some, slice_get, slice_index, slice_index_or}
-use Rattle.joint_model.specs.Walks.{Reaches, Mutual}
+use Rattle.joint_machine.specs.Walks.{Reaches, Mutual}
 use Rattle.bridge_graph.specs.Parts.{NodeLeads, row_at}
 use Rattle.compare_pass.specs.declared.finishing.Frame.{Frame}
 
@@ -53,7 +53,8 @@ abbrev pub IsOnce : List ℕ → Type 0
 IsOnce [] = Unit {0}
 IsOnce (x ∷ xs) = (Contains xs x → ⊥) × IsOnce xs
 
--- exactly the finished nodes and those of the frames are seen, each of them once; and so are the targets that a frame has gone over
+-- exactly the finished nodes and those of the frames are seen, each of them once; and so are the targets that a frame
+-- has gone over
 pub record IsGoing (edges : List (List ℕ)) (count : ℕ) (seen : List Bool) (order : List ℕ) (frames : List Frame) : Type 0 where
   pub whole : length seen ≡ count
   pub searching : IsSearching (NodeLeads edges) order (nodes_of frames)

@@ -1,6 +1,6 @@
 -- A search from one node, through its own class and through classes without an index.
 use Rattle.std.specs.Prelude.{◌≡◌, ◌⊎◌, ◌↔◌, ℕ, ◌+◌, Bool, true, false, cond, List, [], ◌∷◌, ◌++◌, length, All, Contains, slice_index, slice_index_or}
-use Rattle.joint_model.specs.Walks.{Reaches}
+use Rattle.joint_machine.specs.Walks.{Reaches}
 use Rattle.bridge_graph.specs.Parts.{NodeLeads}
 
 -- stands at the label of a class in place of an index

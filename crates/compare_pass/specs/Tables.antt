@@ -1,6 +1,6 @@
 -- A label for each node, by its managed number.
 use Rattle.std.specs.Prelude.{ℕ, List, map}
-use Rattle.joint_model.specs.declared.names.MNum.{MNum}
+use Rattle.joint_machine.specs.declared.names.MNum.{MNum}
 
 -- the numbers of the nodes and their labels, in the order of the nodes
 pub record Table : Type 0 where

@@ -1,5 +1,5 @@
-// The second search: along the reversed edges, from the nodes in the reverse order of finishing, the last finished first.
-// Each search through nodes without a label finds the whole class of its root, and nothing else.
+// The second search: along the reversed edges, from the nodes in the reverse order of finishing, the last finished
+// first. Each search through nodes without a label finds the whole class of its root, and nothing else.
 
 ghost use Rattle.std.specs.Prelude.{◌≡◌, ℕ, ◌+◌, ◌<◌, ◌≤◌, [], length, All, IfOk, OnOk, slice_index, slice_set};
 ghost use Rattle.bridge_graph.specs.Parts.{IsPart, numbers_of};
@@ -12,8 +12,8 @@ use crate::table::{NO_LABEL, NodeTable};
 use bridge_graph::DeadGraph;
 use std::alloc::{AllocError, Global};
 
-/// The classes of a graph, from the graph turned round and the order in which its nodes were finished: for each node the
-/// root of its class.
+/// The classes of a graph, from the graph turned round and the order in which its nodes were finished: for each node
+/// the root of its class.
 pub(crate) fn classes(
     alloc: Global,
     graph: &DeadGraph,

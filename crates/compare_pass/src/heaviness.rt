@@ -1,7 +1,7 @@
 // How many components lead to each node and are led to, and the heavy classes.
 
 ghost use Rattle.std.specs.Prelude.{◌≡◌, ◌≢◌, ◌↔◌, ℕ, ◌+◌, ◌*◌, ◌<◌, ◌≤◌, [], ◌++◌, List, length, map, All, IfOk, OnOk, MatchBool, false, slice_index};
-ghost use Rattle.joint_model.specs.Components.{IsHeavy, Rises, first_of};
+ghost use Rattle.joint_machine.specs.Components.{IsHeavy, Rises, first_of};
 ghost use Rattle.bridge_graph.specs.Parts.{IsBridgeNode, NodeLeads};
 ghost use Rattle.compare_pass.specs.Classes.{AreClasses};
 ghost use Rattle.compare_pass.specs.Counting.{AreCounts, AreMany, Tallies};

@@ -7,7 +7,7 @@ ghost use Rattle.compare_pass.specs.Tables.{Table};
 
 use bridge_graph::DeadGraph;
 use indexmap::IndexMap;
-use joint_model::MNum;
+use joint_machine::MNum;
 use std::alloc::{AllocError, Global};
 use std::marker::Model;
 
@@ -26,7 +26,7 @@ impl Model for NodeTable {
     ghost Value = { Table };
 
     ghost use Rattle.std.specs.Prelude.{map};
-    ghost use Rattle.joint_model.specs.Components.{Rises};
+    ghost use Rattle.joint_machine.specs.Components.{Rises};
     ghost use Rattle.compare_pass.specs.Tables.{table_of};
 
     ghost view = { λ t. table_of t.entries.entries };

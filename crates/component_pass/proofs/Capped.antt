@@ -1,11 +1,11 @@
--- Counts that are capped at twenty decide exactly which classes are heavy: both counts are at least 3, so one that
--- is at least 20 makes the product 60 whatever the other is; and where both are below 20 they are the numbers themselves.
+-- Counts that are capped at twenty decide exactly which classes are heavy: both counts are at least 3, so one that is
+-- at least 20 makes the product 60 whatever the other is; and where both are below 20 they are the numbers themselves.
 use Rattle.std.proofs.Common.{ℕ, suc, ◌*◌, ◌<◌, ◌≤◌, List, [], ◌∷◌, length, refl, arith, mul-le-mul, inl, inr}
 use Rattle.std.proofs.lemmas.Bool.{cases_lt}
 use Rattle.std.proofs.lemmas.List.Elements.{All-contains}
 use Rattle.std.specs.List.{All, Contains}
-use Rattle.joint_model.specs.Components.{Rises, IsPlainClass, IsHeavy, LeadsIn, LeadsOut}
-use Rattle.joint_model.proofs.Members.{Contains-cons_cases, Contains-nil}
+use Rattle.joint_machine.specs.Components.{Rises, IsPlainClass, IsHeavy, LeadsIn, LeadsOut}
+use Rattle.joint_machine.proofs.Members.{Contains-cons_cases, Contains-nil}
 use Rattle.component_pass.specs.Counting.{IsCount, cap}
 
 -- rising numbers that all stand in another rising list are at most as many

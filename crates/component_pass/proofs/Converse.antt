@@ -3,10 +3,10 @@ use Rattle.std.proofs.Common.{◌≡◌, ◌↔◌, ℕ, ◌<◌, List, [], ◌�
 use Rattle.std.proofs.lemmas.List.{length-map}
 use Rattle.std.proofs.lemmas.List.Elements.{All-nil, All-cons, All-head, All-tail, All-map, All-contains, Contains-get_or}
 use Rattle.std.specs.List.{All, Contains}
-use Rattle.joint_model.specs.Walks.{Walks, Reaches, Mutual}
-use Rattle.joint_model.specs.Components.{Rises, LeadsIn, LeadsOut, IsFirst, IsPlainClass}
-use Rattle.joint_model.proofs.WalkLemmas.{Mutual-self, Mutual-trans, Reaches-edge, Reaches-keeps, Reaches-trans}
-use Rattle.joint_model.proofs.Members.{Contains-map, Contains-here, Contains-there}
+use Rattle.joint_machine.specs.Walks.{Walks, Reaches, Mutual}
+use Rattle.joint_machine.specs.Components.{Rises, LeadsIn, LeadsOut, IsFirst, IsPlainClass}
+use Rattle.joint_machine.proofs.WalkLemmas.{Mutual-self, Mutual-trans, Reaches-edge, Reaches-keeps, Reaches-trans}
+use Rattle.joint_machine.proofs.Members.{Contains-map, Contains-here, Contains-there}
 use Rattle.bridge_graph.specs.declared.graph.Node.{Node}
 use Rattle.bridge_graph.specs.Parts.{IsBridgeNode, IsPart, NodeLeads}
 use Rattle.component_pass.specs.Classes.{AreClasses}

@@ -8,9 +8,9 @@ use Rattle.std.proofs.lemmas.List.Sorted.{Contains-permutation, IsPermutation-sy
 use Rattle.std.specs.List.Sorted.{IsPermutation}
 use Rattle.std.proofs.lemmas.Bool.{cases_order, cases_eq}
 use Rattle.std.specs.List.{All, Contains}
-use Rattle.joint_model.specs.Walks.{Walks, Mutual}
-use Rattle.joint_model.specs.Components.{first_of, first_at, stand_at, IsFirst, IsUnreported, IsMember, IsCanonical, IsContraction}
-use Rattle.joint_model.proofs.WalkLemmas.{Mutual-trans}
+use Rattle.joint_machine.specs.Walks.{Walks, Mutual}
+use Rattle.joint_machine.specs.Components.{first_of, first_at, stand_at, IsFirst, IsUnreported, IsMember, IsCanonical, IsContraction}
+use Rattle.joint_machine.proofs.WalkLemmas.{Mutual-trans}
 use Rattle.bridge_graph.specs.declared.graph.Node.{Node}
 use Rattle.bridge_graph.specs.declared.packing.Link.{Link}
 use Rattle.bridge_graph.specs.Parts.{IsBridgeNode, IsPart, NodeLeads}

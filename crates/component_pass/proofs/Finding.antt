@@ -4,8 +4,8 @@ use Rattle.std.proofs.lemmas.List.{length_push, length-set, get_or-set_same, get
 use Rattle.std.proofs.lemmas.List.Elements.{All-nil, All-push, All-weaker, Contains-append_left, Contains-push}
 use Rattle.std.proofs.lemmas.Bool.{cases_lt, cases_eq, true≢false}
 use Rattle.std.specs.List.{All, Contains}
-use Rattle.joint_model.specs.Walks.{Walks, Reaches, Mutual}
-use Rattle.joint_model.proofs.WalkLemmas.{Reaches-then, Reaches-trans}
+use Rattle.joint_machine.specs.Walks.{Walks, Reaches, Mutual}
+use Rattle.joint_machine.proofs.WalkLemmas.{Reaches-then, Reaches-trans}
 use Rattle.bridge_graph.specs.Parts.{NodeLeads}
 use Rattle.component_pass.specs.Searching.{unmarked, AreMarked, Visits}
 

@@ -1,14 +1,14 @@
--- Going through the nodes in order, a class is listed at the first of its nodes that is come by, which is its least; and
--- classes with many components on either side, by exact counts, are exactly the heavy ones.
+-- Going through the nodes in order, a class is listed at the first of its nodes that is come by, which is its least;
+-- and classes with many components on either side, by exact counts, are exactly the heavy ones.
 use Rattle.std.proofs.Common.{◌≡◌, ◌≢◌, ◌⊎◌, ℕ, suc, ◌+◌, ◌-◌, ◌<◌, ◌≤◌, List, [], ◌∷◌, ◌++◌, length, map, get_or, set, refl, sym, ◌∙◌, ap, subst, arith, inl, inr}
 use Rattle.std.proofs.lemmas.List.{length_push, length-map, length-set, get_or_default, get_or_append_left, get_or-append_right, get_or_push, get_or-set_same, get_or-set_other}
 use Rattle.std.proofs.lemmas.List.Elements.{All-nil, All-push, All-weaker, All-head, All-tail, All-contains, Contains-get_or, Contains-push_cases}
 use Rattle.std.proofs.lemmas.Bool.{cases_lt, cases_eq, cases_order}
 use Rattle.std.specs.List.{All, Contains}
-use Rattle.joint_model.specs.Walks.{Walks}
-use Rattle.joint_model.specs.Components.{Rises, first_of, first_at, stand_at, IsHeavy, LeadsOut}
-use Rattle.joint_model.proofs.Members.{All-members, Rises-push}
-use Rattle.joint_model.proofs.WalkLemmas.{Reaches-keeps, Mutual-sym}
+use Rattle.joint_machine.specs.Walks.{Walks}
+use Rattle.joint_machine.specs.Components.{Rises, first_of, first_at, stand_at, IsHeavy, LeadsOut}
+use Rattle.joint_machine.proofs.Members.{All-members, Rises-push}
+use Rattle.joint_machine.proofs.WalkLemmas.{Reaches-keeps, Mutual-sym}
 use Rattle.xref_list.proofs.Comps.{few_rising}
 use Rattle.bridge_graph.specs.declared.graph.Node.{Node}
 use Rattle.bridge_graph.specs.declared.packing.Link.{Link}

@@ -5,9 +5,9 @@ use Rattle.std.proofs.Common.{◌≡◌, ◌↔◌, ◌⊎◌, ℕ, ◌<◌, ◌
 use Rattle.std.proofs.lemmas.List.Elements.{All-nil, All-cons, All-head, All-tail}
 use Rattle.std.proofs.lemmas.Bool.{cases_lt, cases_eq}
 use Rattle.std.specs.List.{All, Contains}
-use Rattle.joint_model.specs.Walks.{Walks, Reaches, Mutual}
-use Rattle.joint_model.specs.Components.{Leads}
-use Rattle.joint_model.proofs.WalkLemmas.{Reaches-self, Reaches-edge, Reaches-then, Reaches-trans, Reaches-keeps, Reaches-mono, Mutual-self}
+use Rattle.joint_machine.specs.Walks.{Walks, Reaches, Mutual}
+use Rattle.joint_machine.specs.Components.{Leads}
+use Rattle.joint_machine.proofs.WalkLemmas.{Reaches-self, Reaches-edge, Reaches-then, Reaches-trans, Reaches-keeps, Reaches-mono, Mutual-self}
 use Rattle.bridge_graph.specs.declared.graph.Node.{Node}
 use Rattle.bridge_graph.specs.Parts.{IsPart, NodeLeads, row_at}
 use Rattle.component_pass.specs.Classes.{AreClasses, AreInOrder}
@@ -158,7 +158,8 @@ module _ (nodes : List Node) (edges : List (List ℕ)) (labels : List ℕ) (inde
       left_out own d.to (index_at labels indexes y) end.1 (λ e. apart ((cl.exact x y lt yl).0 (sym (same ∙ e))))
       (λ o. closed (open_of d.to y (sym same) o)) (ap (λ (l : ℕ). get_or indexes l 0) (sym same))
 
-  -- what is gathered for a class leaves it, where the sets of the classes before it have only what one comes to and those of the others are empty
+  -- what is gathered for a class leaves it, where the sets of the classes before it have only what one comes to and
+  -- those of the others are empty
   pub gathers_sound : (rows : List (List ℕ)) (sets : List ℕ) (lists : List (List ℕ)) (count own j : ℕ) → AreInOrder edges (length nodes) labels rows
       → ((x k : ℕ) → x < length nodes → get_or labels x 0 < own → Contains (set_at count lists (get_or sets x 0)) k → ComesOut edges labels indexes x k)
       → ((x : ℕ) → x < length nodes → own ≤ get_or labels x 0 → get_or sets x 0 ≡ count) → row_at lists 0 ≡ []

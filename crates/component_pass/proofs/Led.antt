@@ -1,13 +1,13 @@
--- What leads in is handed on from class to class. A set covers what was handed on to its class, or is full; and each class
--- comes after all that lead into it. So in the end a set has all that comes in, or is full.
+-- What leads in is handed on from class to class. A set covers what was handed on to its class, or is full; and each
+-- class comes after all that lead into it. So in the end a set has all that comes in, or is full.
 use Rattle.std.proofs.Common.{◌≡◌, ◌≢◌, ◌↔◌, ◌⊎◌, ℕ, ◌+◌, ◌<◌, ◌≤◌, List, [], ◌∷◌, length, min, get_or, set, refl, sym, ◌∙◌, ap, subst, arith, inl, inr}
 use Rattle.std.proofs.lemmas.List.{length-set, get_or-set_same, get_or-set_other}
 use Rattle.std.proofs.lemmas.List.Elements.{All-contains, All-set}
 use Rattle.std.proofs.lemmas.Bool.{cases_lt, cases_eq}
 use Rattle.std.specs.List.{All, Contains}
-use Rattle.joint_model.specs.Components.{Rises}
-use Rattle.joint_model.proofs.Members.{All-members}
-use Rattle.joint_model.proofs.WalkLemmas.{Reaches-then, Reaches-trans, Reaches-keeps}
+use Rattle.joint_machine.specs.Components.{Rises}
+use Rattle.joint_machine.proofs.Members.{All-members}
+use Rattle.joint_machine.proofs.WalkLemmas.{Reaches-then, Reaches-trans, Reaches-keeps}
 use Rattle.bridge_graph.specs.declared.graph.Node.{Node}
 use Rattle.bridge_graph.specs.Parts.{IsPart, NodeLeads, row_at}
 use Rattle.component_pass.specs.Classes.{AreClasses, AreInOrder}

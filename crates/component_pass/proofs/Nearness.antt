@@ -1,13 +1,13 @@
--- What is gathered through thin nodes is what leaves the class: a walk that leaves it is followed through thin nodes up to
--- the first that isn't thin, whose set has what the rest of the walk comes to.
+-- What is gathered through thin nodes is what leaves the class: a walk that leaves it is followed through thin nodes up
+-- to the first that isn't thin, whose set has what the rest of the walk comes to.
 use Rattle.std.proofs.Common.{Result, Ok, Err, IfOk, ◌≡◌, ◌↔◌, ◌⊎◌, ℕ, ◌<◌, ◌≤◌, ◌+◌, Bool, true, false, List, [], ◌∷◌, ◌++◌, length, get_or, set, refl, sym, ◌∙◌, ap, subst, arith, inl, inr}
 use Rattle.std.proofs.lemmas.List.{length_push, length-append, length-set, get_or-set_other, get_or_append_left, get_or_past, get_or_default, append-nil, append_assoc}
 use Rattle.std.proofs.lemmas.List.Elements.{All-nil, All-push, All-weaker, All-contains, All-append, Contains-append_left, Contains-push, Contains-push_cases}
 use Rattle.std.proofs.lemmas.Bool.{cases_lt, cases_eq, cases_Bool, true≢false}
 use Rattle.std.specs.List.{All, Contains}
-use Rattle.joint_model.specs.Walks.{Walks, Reaches}
-use Rattle.joint_model.proofs.WalkLemmas.{Reaches-self, Reaches-then, Reaches-keeps}
-use Rattle.joint_model.proofs.Members.{All-members, Contains-nil}
+use Rattle.joint_machine.specs.Walks.{Walks, Reaches}
+use Rattle.joint_machine.proofs.WalkLemmas.{Reaches-self, Reaches-then, Reaches-keeps}
+use Rattle.joint_machine.proofs.Members.{All-members, Contains-nil}
 use Rattle.bridge_graph.specs.declared.graph.Node.{Node}
 use Rattle.bridge_graph.specs.Parts.{IsPart, NodeLeads, row_at}
 use Rattle.component_pass.specs.Classes.{AreClasses, AreInOrder}

@@ -5,7 +5,7 @@ use Rattle.std.proofs.lemmas.List.Elements.{All-nil, Contains-push, Contains-pus
 use Rattle.std.proofs.lemmas.Bool.{cases_lt}
 use Rattle.std.proofs.lemmas.Bool.Decides.{nat_tests}
 use Rattle.std.specs.List.{All, Contains}
-use Rattle.joint_model.specs.Components.{Rises}
+use Rattle.joint_machine.specs.Components.{Rises}
 use Rattle.bridge_graph.specs.Parts.{row_at}
 use Rattle.component_pass.specs.Gathering.{set_at}
 

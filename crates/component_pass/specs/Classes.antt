@@ -1,6 +1,6 @@
 -- The strongly connected classes of a graph, as a label for each node.
 use Rattle.std.specs.Prelude.{◌≡◌, ◌↔◌, ℕ, ◌<◌, ◌≤◌, List, length, All, Contains, slice_index}
-use Rattle.joint_model.specs.Walks.{Mutual}
+use Rattle.joint_machine.specs.Walks.{Mutual}
 use Rattle.bridge_graph.specs.Parts.{NodeLeads, row_at}
 
 -- two nodes have the same label exactly where each reaches the other; labels are below the number of nodes

@@ -1,7 +1,7 @@
 -- How many components are led to and lead in, and how what leads in is handed on.
 use Rattle.std.specs.Prelude.{◌≡◌, ◌≢◌, ◌⊎◌, ℕ, ◌+◌, ◌<◌, ◌≤◌, List, [], ◌∷◌, length, All, Contains, slice_index}
-use Rattle.joint_model.specs.Walks.{Reaches}
-use Rattle.joint_model.specs.Components.{Rises}
+use Rattle.joint_machine.specs.Walks.{Reaches}
+use Rattle.joint_machine.specs.Components.{Rises}
 use Rattle.bridge_graph.specs.Parts.{NodeLeads, row_at}
 use Rattle.component_pass.specs.Gathering.{AreSets, set_at}
 use Rattle.component_pass.specs.Sharing.{index_at, IsOpen, Leaves, Passes}
@@ -15,8 +15,8 @@ pub record IsCount (P : ℕ → Type 0) (many n : ℕ) : Type 0 where
   pub most : n < many → length named ≤ n
   pub whole : n < many → (b : ℕ) → P b → Contains named b
 
--- from how many on components aren't counted: below it a count is exact, and a class with so many on one side has at least three on
--- the other if it is heavy, which make the product sixty
+-- from how many on components aren't counted: below it a count is exact, and a class with so many on one side has at
+-- least three on the other if it is heavy, which make the product sixty
 abbrev pub cap : ℕ
 cap = 20
 
@@ -48,8 +48,8 @@ pub record Joins (many : ℕ) (one other both : List ℕ) : Type 0 where
   pub second : Covers many other both
   pub sound : (j : ℕ) → Contains both j → Contains one j ⊎ Contains other j
 
--- the set with a number was handed on from a class to the classes of the wide nodes among some others: each of these covers it,
--- all cover what they had, and nothing else was added
+-- the set with a number was handed on from a class to the classes of the wide nodes among some others: each of these
+-- covers it, all cover what they had, and nothing else was added
 pub record Pushes (labels indexes counts : List ℕ) (many count own number : ℕ) (T : ℕ → Type 0)
     (before : List ℕ) (lists : List (List ℕ)) (after : List ℕ) (more : List (List ℕ)) : Type 0 where
   pub valid : AreSets after more count (count + length more)
@@ -63,7 +63,8 @@ pub record Pushes (labels indexes counts : List ℕ) (many count own number : �
   pub sound : (l j : ℕ) → l < length before → Contains (set_at count more (slice_index after l)) j
       → Contains (set_at count lists (slice_index before l)) j ⊎ ((v : ℕ) × T v × (slice_index labels v ≡ l) × (l ≢ own) × Contains (set_at count lists number) j)
 
--- the classes with a label of at least c have handed on what leads into them: each set has only what comes in, and covers what was handed on to it
+-- the classes with a label of at least c have handed on what leads into them: each set has only what comes in, and
+-- covers what was handed on to it
 pub record AreLed (edges : List (List ℕ)) (nodes : ℕ) (labels indexes counts : List ℕ) (many count c : ℕ) (ins : List ℕ) (lists : List (List ℕ)) : Type 0 where
   pub valid : AreSets ins lists count (count + length lists)
   pub size : length ins ≡ length indexes

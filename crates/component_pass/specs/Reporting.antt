@@ -1,6 +1,6 @@
 -- What is reported: components, and behind them heavy classes, each with its index at its label.
 use Rattle.std.specs.Prelude.{◌≡◌, ◌≢◌, ◌↔◌, ℕ, ◌+◌, ◌*◌, ◌<◌, ◌≤◌, List, length, All, Contains, slice_index}
-use Rattle.joint_model.specs.Components.{Rises, IsHeavy, IsLeast, IsUnreported, stand_at}
+use Rattle.joint_machine.specs.Components.{Rises, IsHeavy, IsLeast, IsUnreported, stand_at}
 use Rattle.bridge_graph.specs.declared.graph.Node.{Node}
 use Rattle.bridge_graph.specs.Parts.{IsBridgeNode, NodeLeads}
 use Rattle.component_pass.specs.Grouping.{AreListed, links_of}
@@ -22,7 +22,8 @@ AreMany ins outs = (3 ≤ ins) × (3 ≤ outs) × (60 ≤ ins * outs)
 abbrev pub AreLight : List ℕ → List ℕ → List ℕ → Type 0
 AreLight indexes outs ins = (l : ℕ) → l < length indexes → slice_index indexes l ≡ no_index → AreMany (slice_index ins l) (slice_index outs l) → ⊥
 
--- the classes with so many that had no index before and have a node below x are listed by their least nodes, and have the indexes from count on
+-- the classes with so many that had no index before and have a node below x are listed by their least nodes, and have
+-- the indexes from count on
 pub record AreHeavyBelow (labels before outs ins : List ℕ) (count x : ℕ) (indexes heavy : List ℕ) : Type 0 where
   pub size : length indexes ≡ length before
   pub kept : (l : ℕ) → slice_index before l ≢ no_index → slice_index indexes l ≡ slice_index before l

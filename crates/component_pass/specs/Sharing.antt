@@ -1,7 +1,7 @@
 -- Which components a class refers to, by edges through classes without an index, and sets that say so. What is
 -- reported has an index at its label: components, and heavy classes where they are listed.
 use Rattle.std.specs.Prelude.{◌≡◌, ◌≢◌, ◌⊎◌, ◌↔◌, ℕ, ◌+◌, ◌<◌, ◌≤◌, Bool, true, false, List, ◌++◌, length, All, Contains, slice_index, slice_index_or}
-use Rattle.joint_model.specs.Walks.{Reaches}
+use Rattle.joint_machine.specs.Walks.{Reaches}
 use Rattle.bridge_graph.specs.Parts.{NodeLeads, row_at}
 use Rattle.component_pass.specs.Searching.{unmarked}
 use Rattle.component_pass.specs.Gathering.{AimsFrom, AreSets, set_at}
@@ -32,14 +32,16 @@ abbrev pub Leaves : List (List ℕ) → ℕ → List ℕ → List ℕ → ℕ �
 Leaves edges count labels indexes own j =
     (u : ℕ) × (v : ℕ) × (u < count) × (slice_index labels u ≡ own) × NodeLeads edges u v × (slice_index labels v ≡ own → ⊥) × ComesOut edges labels indexes v j
 
--- the sets of the nodes of the first n classes have exactly what one comes to from them; those of thin nodes and of the other nodes are the empty one
+-- the sets of the nodes of the first n classes have exactly what one comes to from them; those of thin nodes and of the
+-- other nodes are the empty one
 pub record AreShared (edges : List (List ℕ)) (nodes : ℕ) (labels indexes : List ℕ) (thin : List Bool) (count n : ℕ) (sets : List ℕ) (lists : List (List ℕ)) : Type 0 where
   pub size : length sets ≡ nodes
   pub exact : (x j : ℕ) → x < nodes → slice_index labels x < n → slice_index_or thin x false ≡ false
       → Contains (set_at count lists (slice_index sets x)) j ↔ ComesOut edges labels indexes x j
   pub rest : (x : ℕ) → x < nodes → (n ≤ slice_index labels x) ⊎ (slice_index_or thin x false ≡ true) → slice_index sets x ≡ count
 
--- the sets of the nodes of the first n classes have only what one comes to from them, and all of it where they have fewer than `many` or something is left
+-- the sets of the nodes of the first n classes have only what one comes to from them, and all of it where they have
+-- fewer than `many` or something is left
 pub record AreCounted (edges : List (List ℕ)) (nodes : ℕ) (labels indexes : List ℕ) (many left count n : ℕ) (sets : List ℕ) (lists : List (List ℕ)) : Type 0 where
   pub size : length sets ≡ nodes
   pub sound : (x j : ℕ) → x < nodes → slice_index labels x < n → Contains (set_at count lists (slice_index sets x)) j → ComesOut edges labels indexes x j
@@ -47,7 +49,8 @@ pub record AreCounted (edges : List (List ℕ)) (nodes : ℕ) (labels indexes : 
       → ComesOut edges labels indexes x j → Contains (set_at count lists (slice_index sets x)) j
   pub rest : (x : ℕ) → x < nodes → n ≤ slice_index labels x → slice_index sets x ≡ count
 
--- for each of the first n classes that has an index, the set with the number in refs has exactly what the class refers to
+-- for each of the first n classes that has an index, the set with the number in refs has exactly what the class refers
+-- to
 pub record AreReferred (nodes : ℕ) (edges : List (List ℕ)) (labels indexes : List ℕ) (count n numbers : ℕ) (refs : List ℕ) (lists : List (List ℕ)) : Type 0 where
   pub size : length refs ≡ count
   pub known : (x : ℕ) → x < nodes → (IsOpen labels indexes x → ⊥) → slice_index labels x < n → slice_index refs (index_at labels indexes x) < numbers
@@ -90,7 +93,8 @@ pub record VisitsThin (row : List ℕ) (thin : List Bool) (before : List ℕ) (m
   pub size : length marked ≡ length marks
   pub count : length after + unmarked marked ≡ length before + unmarked marks
 
--- each index but none is below the count, and stands at one label alone; and each number below the count is the index of some node
+-- each index but none is below the count, and stands at one label alone; and each number below the count is the index
+-- of some node
 pub record AreNumbered (nodes : ℕ) (labels : List ℕ) (rows : ℕ) (indexes : List ℕ) (count : ℕ) : Type 0 where
   pub below : (l : ℕ) → l < rows → slice_index indexes l ≢ no_index → slice_index indexes l < count
   pub apart : (l m : ℕ) → l < rows → m < rows → slice_index indexes l ≢ no_index → slice_index indexes l ≡ slice_index indexes m → l ≡ m

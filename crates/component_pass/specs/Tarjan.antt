@@ -2,7 +2,7 @@
 -- The frames are the nodes that the search is in, the innermost first; between the place of one and the
 -- place of the next lie the nodes that were finished under it and whose class is not complete.
 use Rattle.std.specs.Prelude.{◌≡◌, ◌⊎◌, ◌↔◌, ℕ, ◌+◌, ◌-◌, ◌<◌, ◌≤◌, ◌==◌, cond, Option, Some, None, List, [], ◌∷◌, length, Contains, slice_index}
-use Rattle.joint_model.specs.Walks.{Reaches, Mutual}
+use Rattle.joint_machine.specs.Walks.{Reaches, Mutual}
 use Rattle.bridge_graph.specs.Parts.{NodeLeads, row_at}
 use Rattle.component_pass.specs.declared.tarjan.Frame.{Frame}
 

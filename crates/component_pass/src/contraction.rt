@@ -1,7 +1,7 @@
 // From classes to components and cross-references.
 
 ghost use Rattle.std.specs.Prelude.{◌≡◌, ℕ, ◌<◌, ◌≤◌, [], List, length, IfOk, OnOk, slice_index};
-ghost use Rattle.joint_model.specs.Components.{IsContraction};
+ghost use Rattle.joint_machine.specs.Components.{IsContraction};
 ghost use Rattle.bridge_graph.specs.Parts.{IsBridgeNode, IsPart, NodeLeads};
 ghost use Rattle.component_pass.specs.Classes.{AreClasses, AreInOrder};
 ghost use Rattle.component_pass.specs.Counting.{CountsIn, CountsOut};
@@ -20,10 +20,11 @@ use xref_list::{Components, ComponentsBuilder, ListingFault};
 /// The components of a dead part and the cross-references between them.
 ///
 /// Two bridge nodes are in one component exactly where each reaches the other. Behind these components come the heavy
-/// classes, without members, by their least nodes. A pair of different ones is listed exactly where some walk leads from
-/// the class of the first to the class of the second whose nodes between lie in classes that aren't reported. Answers
-/// `Memory` only where there is no memory, and `TooMany` only where there would be more than 4,294,967,295 bridge nodes and pairs
-/// together, or sets of components to work with, or elements of these. The dead parts of the heaps are too small for that.
+/// classes, without members, by their least nodes. A pair of different ones is listed exactly where some walk leads
+/// from the class of the first to the class of the second whose nodes between lie in classes that aren't reported.
+/// Answers `Memory` only where there is no memory, and `TooMany` only where there would be more than 4,294,967,295
+/// bridge nodes and pairs together, or sets of components to work with, or elements of these. The dead parts of the
+/// heaps are too small for that.
 pub fn contract(alloc: Global, graph: &DeadGraph) -> Result<Components, ListingFault>
     ensures { IfOk result (λ c. (heavy : List ℕ) × (length heavy ≡ c.heavy) × IsContraction (IsBridgeNode graph.now.nodes) (NodeLeads graph.now.edges) c.comps heavy c.pairs) }
 {

@@ -1,14 +1,14 @@
 // How many components the edges of each class lead to, counted as far as it matters, and which they are.
 //
-// The sets of components are found and shared as those of the references are. Where there are no large sets, or few, that
-// is all: what each component refers to is known, and the sets have the classes' counts. But unions of large sets may be made
-// again and again. So the elements of the unions are counted, at most 32 for each node in all (and not what is read for them,
-// which is more where sets are alike), and once these are spent a class that leads to a set of twenty components or more takes
-// that set for its own and looks at no other. From then on each edge has at most nineteen elements read, and a set of
-// fewer than twenty is exact.
+// The sets of components are found and shared as those of the references are. Where there are no large sets, or few,
+// that is all: what each component refers to is known, and the sets have the classes' counts. But unions of large sets
+// may be made again and again. So the elements of the unions are counted, at most 32 for each node in all (and not what
+// is read for them, which is more where sets are alike), and once these are spent a class that leads to a set of twenty
+// components or more takes that set for its own and looks at no other. From then on each edge has at most nineteen
+// elements read, and a set of fewer than twenty is exact.
 
 ghost use Rattle.std.specs.Prelude.{◌≡◌, ◌≢◌, ◌↔◌, ◌⊎◌, ℕ, ◌+◌, ◌<◌, ◌≤◌, [], ◌∷◌, length, min, All, Contains, IfOk, OnOk, IfSome, IfNone, true, slice_index, slice_set};
-ghost use Rattle.joint_model.specs.Components.{Rises};
+ghost use Rattle.joint_machine.specs.Components.{Rises};
 ghost use Rattle.bridge_graph.specs.Parts.{IsPart};
 ghost use Rattle.component_pass.specs.Classes.{AreClasses, AreInOrder};
 ghost use Rattle.component_pass.specs.Counting.{CountsOut, cap};
@@ -30,8 +30,9 @@ pub(crate) const MANY: usize = 20;
 // How many elements the unions may have for each node, in all.
 const READS: u64 = 32;
 
-/// What the edges of the classes lead to: for each class the number of components, where 20 says that there are at least
-/// so many; and for each component the number of the set of those that it refers to, which is right where `left` isn't 0.
+/// What the edges of the classes lead to: for each class the number of components, where 20 says that there are at
+/// least so many; and for each component the number of the set of those that it refers to, which is right where `left`
+/// isn't 0.
 #[derive(Drop)]
 pub(crate) struct Reached {
     pub counts: Vec<u8>,

@@ -1,8 +1,8 @@
 // Which classes without a bridge node are heavy, and which are thin.
 //
 // A class is heavy where at least three components lead in, at least three are led to, and the product of the two
-// counts is at least 60. Heavy classes are reported as components without members, behind the others, by their least nodes,
-// and get an index of their own there.
+// counts is at least 60. Heavy classes are reported as components without members, behind the others, by their least
+// nodes, and get an index of their own there.
 //
 // A class that leads to three components or more, isn't heavy and that fewer than three components lead into is thin.
 // Nothing that is promised rests on it: it says where a set of what is led to would be longer than it is worth. What
@@ -10,7 +10,7 @@
 // three or more that lead into that one would lead on.
 
 ghost use Rattle.std.specs.Prelude.{◌≡◌, ◌↔◌, ◌≤◌, ◌<◌, ◌+◌, ◌*◌, ℕ, List, length, IfOk, OnOk, IfSome, IfNone, IsTrue, MatchBool, All, slice_index, false};
-ghost use Rattle.joint_model.specs.Components.{IsHeavy, LeadsIn, Rises};
+ghost use Rattle.joint_machine.specs.Components.{IsHeavy, LeadsIn, Rises};
 ghost use Rattle.bridge_graph.specs.Parts.{IsBridgeNode, IsPart, NodeLeads};
 ghost use Rattle.component_pass.specs.Classes.{AreClasses, AreInOrder};
 ghost use Rattle.component_pass.specs.Counting.{CountsIn, CountsOut};
@@ -27,7 +27,8 @@ use xref_list::{ComponentsBuilder, ListingFault};
 // The least product of the counts of a heavy class.
 const PRODUCT: u64 = 60;
 
-/// For each class that may be heavy how many components lead into it; None where none is heavy and that is all that is asked for.
+/// For each class that may be heavy how many components lead into it; None where none is heavy and that is all that is
+/// asked for.
 pub(crate) fn count_heavy(
     alloc: Global,
     graph: &DeadGraph,

@@ -1,9 +1,9 @@
 // How many components lead into each class, counted as far as it matters.
 //
-// A class without an index that leads to fewer than three components is never heavy, and nothing is counted for it. What
-// leads into any other leads to three components or more itself. So the classes that lead to so many are gone through
-// the other way, each after all that lead into it: one with an index hands on itself along its edges, and one without
-// an index the set of what came to it. A set of twenty or more takes nothing more, so at most 38 elements are
+// A class without an index that leads to fewer than three components is never heavy, and nothing is counted for it.
+// What leads into any other leads to three components or more itself. So the classes that lead to so many are gone
+// through the other way, each after all that lead into it: one with an index hands on itself along its edges, and one
+// without an index the set of what came to it. A set of twenty or more takes nothing more, so at most 38 elements are
 // read for an edge.
 
 ghost use Rattle.std.specs.Prelude.{◌≡◌, ◌≢◌, ◌↔◌, ◌⊎◌, ℕ, ◌+◌, ◌<◌, ◌≤◌, [], ◌∷◌, length, min, All, Contains, IfOk, OnOk, MatchBool, false, slice_index, slice_set};
@@ -33,8 +33,8 @@ struct Joining {
     marks: Vec<bool>,
 }
 
-/// For each class without an index that leads to three components or more how many components walks through such classes
-/// lead to it from, where 20 says that there are at least so many.
+/// For each class without an index that leads to three components or more how many components walks through such
+/// classes lead to it from, where 20 says that there are at least so many.
 pub(crate) fn count_leading(
     alloc: Global,
     graph: &DeadGraph,

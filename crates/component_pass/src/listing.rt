@@ -5,7 +5,7 @@ ghost use Rattle.std.specs.Prelude.{◌≡◌, ◌↔◌, ℕ, ◌<◌, ◌≤�
 ghost use Rattle.bridge_graph.specs.Parts.{IsBridgeNode};
 ghost use Rattle.component_pass.specs.Classes.{AreClasses, AreInOrder};
 ghost use Rattle.component_pass.specs.Grouping.{AreListed, AddsOne, group, links_of};
-ghost use Rattle.joint_model.specs.Components.{first_of};
+ghost use Rattle.joint_machine.specs.Components.{first_of};
 ghost use Rattle.xref_list.specs.Listing.{AreDisjoint};
 
 use crate::gathering::{are_components_in_order, unite};

@@ -1,18 +1,18 @@
 // The cross-references of each component and each heavy class, from sets of indexes that classes share.
 //
-// The classes are gone through in the order in which they were completed, so that edges lead only to nodes
-// of the class itself, whose sets are still empty, and to those whose sets are there. What a class refers to
-// is the union of the sets that its edges lead to: where that is one of them, as along a chain, it shares it,
-// and nothing is copied. A class without an index hands that on. One with an index, be it a component's or a
-// heavy class's, hands on itself alone, and the union is its references, which are listed in the end.
+// The classes are gone through in the order in which they were completed, so that edges lead only to nodes of the class
+// itself, whose sets are still empty, and to those whose sets are there. What a class refers to is the union of the
+// sets that its edges lead to: where that is one of them, as along a chain, it shares it, and nothing is copied. A
+// class without an index hands that on. One with an index, be it a component's or a heavy class's, hands on itself
+// alone, and the union is its references, which are listed in the end.
 //
-// A thin class has at most two components that lead into it, and at most these go through it. A class that isn't
-// thin and has no index leads to fewer than twenty components, so its set is small but for heavy ones. So the time is that
-// of nodes, edges and pairs, and of one more thing: where a class leads to several sets of many heavy ones, the elements of
-// each are read once for that class.
+// A thin class has at most two components that lead into it, and at most these go through it. A class that isn't thin
+// and has no index leads to fewer than twenty components, so its set is small but for heavy ones. So the time is that
+// of nodes, edges and pairs, and of one more thing: where a class leads to several sets of many heavy ones, the
+// elements of each are read once for that class.
 
 ghost use Rattle.std.specs.Prelude.{◌≡◌, ◌≢◌, ◌↔◌, ◌⊎◌, ℕ, ◌+◌, ◌<◌, ◌≤◌, [], ◌∷◌, ◌++◌, length, All, Contains, IfOk, OnOk, IfSome, MatchBool, false, true, slice_index, slice_index_or, slice_set};
-ghost use Rattle.joint_model.specs.Components.{Rises};
+ghost use Rattle.joint_machine.specs.Components.{Rises};
 ghost use Rattle.bridge_graph.specs.Parts.{IsPart, row_at};
 ghost use Rattle.component_pass.specs.Classes.{AreClasses, AreInOrder};
 ghost use Rattle.component_pass.specs.Gathering.{AreSets, Gathers, HasNoMarks, set_at};
@@ -60,7 +60,8 @@ pub(crate) fn share_references(
     )
 }
 
-// The same with a set's number for each of them, the empty set alone in the list of sets, and what the gathering works with.
+// The same with a set's number for each of them, the empty set alone in the list of sets, and what the gathering works
+// with.
 fn share_all(
     graph: &DeadGraph,
     labels: &mut [u32],

@@ -4,7 +4,7 @@
 ghost use Rattle.std.specs.Prelude.{◌≡◌};
 
 use bridge_graph::{DeadGraph, GraphBuilder};
-use joint_model::{HNum, MNum};
+use joint_machine::{HNum, MNum};
 use std::alloc::{AllocError, Global};
 use std::str::Lines;
 

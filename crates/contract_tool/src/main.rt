@@ -1,8 +1,9 @@
-// Measures the component analysis over an edge list from standard input, by either of the two passes. With the word `time`
-// it prints the numbers of components and pairs, and the milliseconds of the analysis alone; with the word `dump` a line
-// `scc LIST` for each component and a line `xref A B` for each pair, in their order. With `second` behind it the second pass
-// does it, and `component_pass` without. Any other words are answered by the usage line and status 1, a bad edge list by
-// what is wrong with it and status 2, and a graph of which too much would have to be numbered by status 3.
+// Measures the component analysis over an edge list from standard input, by either of the two passes. With the word
+// `time` it prints the numbers of components and pairs, and the milliseconds of the analysis alone; with the word
+// `dump` a line `scc LIST` for each component and a line `xref A B` for each pair, in their order. With `second` behind
+// it the second pass does it, and `component_pass` without. Any other words are answered by the usage line and status
+// 1, a bad edge list by what is wrong with it and status 2, and a graph of which too much would have to be numbered by
+// status 3.
 //
 //     contract_tool dump < examples/crossed_cycle.graph
 //     contract_tool dump second < examples/crossed_cycle.graph
@@ -11,9 +12,9 @@
 // `compare_pass::second_pass` makes the components of that, and they are printed. All of it is done by one thread, and
 // nothing outlives the run. The passes share no code, so that two equal outputs for a graph of yours are two witnesses.
 //
-// What is promised is the passes' own, for every graph: the components and the cross-references are exactly those of the
-// definition, the same for both. What this program adds, the reading of the list and the printing, is tested alone; the
-// tests of the passes stand here too, since a crate with tests is proved twice.
+// What is promised is the passes' own, for every graph: the components and the cross-references are exactly those of
+// the definition, the same for both. What this program adds, the reading of the list and the printing, is tested alone;
+// the tests of the passes stand here too, since a crate with tests is proved twice.
 #![tactic(auto)]
 
 mod list;

@@ -1,14 +1,15 @@
--- An event and the equals sign behind it: a line's own words, or those of a step, which the first of them tells. Whatever event the words begin with, what
--- is left stands behind the first equals sign, since no word of an event is one. So it doesn't matter which of both is tried first.
+-- An event and the equals sign behind it: a line's own words, or those of a step, which the first of them tells.
+-- Whatever event the words begin with, what is left stands behind the first equals sign, since no word of an event is
+-- one. So it doesn't matter which of both is tried first.
 use Rattle.std.proofs.Common.{◌≡◌, ◌≢◌, ℕ, ◌⊎◌, inl, inr, cond, List, [], ◌∷◌, ◌++◌, Option, Some, None, codes, refl, sym, ap, ◌∙◌, subst, append_assoc}
 use Rattle.std.specs.Prelude.{bytes_eq}
-use Rattle.joint_model.specs.declared.names.Thread.{Thread}
-use Rattle.joint_model.specs.declared.names.Thread.TheVariants.{C}
-use Rattle.joint_model.specs.declared.lines.Act.{Act}
-use Rattle.joint_model.specs.declared.events.Op.{Op}
-use Rattle.joint_model.specs.declared.events.Op.TheVariants as op
-use Rattle.joint_model.specs.Lines.{IsLine, IsOneEvent, IsThread}
-use Rattle.joint_model.proofs.Deciding.{some-same}
+use Rattle.joint_machine.specs.declared.names.Thread.{Thread}
+use Rattle.joint_machine.specs.declared.names.Thread.TheVariants.{C}
+use Rattle.joint_machine.specs.declared.lines.Act.{Act}
+use Rattle.joint_machine.specs.declared.events.Op.{Op}
+use Rattle.joint_machine.specs.declared.events.Op.TheVariants as op
+use Rattle.joint_machine.specs.Lines.{IsLine, IsOneEvent, IsThread}
+use Rattle.joint_machine.proofs.Deciding.{some-same}
 use Rattle.bridge_script.specs.Words.{act_words}
 use Rattle.history_report.specs.Report.{event_words}
 use Rattle.text_words.proofs.Cutting.{cut-first}

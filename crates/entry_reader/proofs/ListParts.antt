@@ -1,10 +1,10 @@
--- A list is the word `-`, or the numbers that stand there where there is one. With what the line cites behind it, it is read exactly: the numbers that
--- were taken are all of it, and a citation can't be mistaken for one of them.
+-- A list is the word `-`, or the numbers that stand there where there is one. With what the line cites behind it, it is
+-- read exactly: the numbers that were taken are all of it, and a citation can't be mistaken for one of them.
 use Rattle.std.proofs.Common.{◌≡◌, ◌≢◌, ℕ, ◌+◌, ◌<◌, ◌≤◌, ◌^◌, Bool, List, [], ◌∷◌, ◌++◌, length, take, Option, Some, None, codes, refl, sym, ap, ◌∙◌, subst, arith, append-nil, length-append}
 use Rattle.std.proofs.Math.Seq.{take-append_seam}
 use Rattle.std.proofs.lemmas.List.{length-map}
 use Rattle.std.proofs.lemmas.List.Elements.{All-nil}
-use Rattle.joint_model.specs.declared.names.Span.{Span}
+use Rattle.joint_machine.specs.declared.names.Span.{Span}
 use Rattle.history_report.specs.Lists.{listed, lettered}
 use Rattle.history_report.specs.Report.{cite_words}
 use Rattle.entry_reader.specs.Fitting.{Short, FitsCites}

@@ -1,16 +1,17 @@
--- Numbers of a list are taken one by one. So far, whatever list with a citation the words are, what is left is the rest of that list with the citation:
--- each of its next numbers is the one that was taken, since a decimal is of one number, and where none was taken the list is at its end.
+-- Numbers of a list are taken one by one. So far, whatever list with a citation the words are, what is left is the rest
+-- of that list with the citation: each of its next numbers is the one that was taken, since a decimal is of one number,
+-- and where none was taken the list is at its end.
 use Rattle.std.proofs.Common.{◌≡◌, ◌≢◌, ℕ, ◌+◌, ◌<◌, ◌≤◌, ◌^◌, Bool, true, false, cond, List, [], ◌∷◌, ◌++◌, length, take, drop, get_or, Option, Some, None, All, decimal, refl, sym, ap, ◌∙◌, subst, arith, append_assoc, append-nil, length-append}
 use Rattle.std.proofs.lemmas.Fmt.{decimal_injective}
 use Rattle.std.proofs.Math.Seq.{get_or-append_seam}
 use Rattle.std.proofs.lemmas.List.{map-append}
 use Rattle.std.proofs.lemmas.List.Elements.{recursion_from_All, All-cons, All-head, All-nil, All-push, All-tail, All-weaker}
-use Rattle.joint_model.specs.declared.names.Thread.{Thread}
+use Rattle.joint_machine.specs.declared.names.Thread.{Thread}
 use Rattle.bridge_script.specs.Words.{thread_text}
 use Rattle.text_words.proofs.Cuts.{cut_at, free_before}
 use Rattle.text_words.proofs.Cutting.{cut-first}
 use Rattle.history_report.proofs.TextLines.{thread-whole}
-use Rattle.joint_model.proofs.Members.{Rises-push}
+use Rattle.joint_machine.proofs.Members.{Rises-push}
 use Rattle.history_report.specs.Lists.{lettered}
 use Rattle.history_report.specs.Report.{cite_words, place_text}
 use Rattle.entry_reader.specs.Fitting.{Short}
@@ -22,7 +23,8 @@ use Rattle.entry_reader.specs.Meaning.{as_managed, as_peers}
 pub other_number : (m n : ℕ) (w : List ℕ) → m < 2 ^ 64 → decimal m ≡ w → n < 2 ^ 64 → n ≢ m → decimal n ≢ w
 other_number m n w l e k d f = d (decimal_injective n m k l (f ∙ sym e))
 
--- the next word as a number of the letter: none where no word is left, where it is no such number, or where it is too low
+-- the next word as a number of the letter: none where no word is left, where it is no such number, or where it is too
+-- low
 pub number_empty : (letter least : ℕ) (old : List (List ℕ)) → old ≡ [] → TakesNumber letter least old old None
 number_empty letter least old e = record { sound = refl; complete = λ n rest s l f. absurd (let a = e in let b = f in cc) }
 

@@ -1,5 +1,5 @@
--- What a word is read as is taken as one word, exactly. And things that stand one behind another are taken as the whole: so far, whatever whole the
--- words begin with, what is left begins with the rest of it.
+-- What a word is read as is taken as one word, exactly. And things that stand one behind another are taken as the
+-- whole: so far, whatever whole the words begin with, what is left begins with the rest of it.
 use Rattle.std.proofs.Common.{◌≡◌, ◌≢◌, ℕ, List, [], ◌∷◌, ◌++◌, Option, Some, None, MatchOption, sym, ◌∙◌, ap, append_assoc}
 use Rattle.entry_reader.specs.Taking.{Reads, Takes}
 

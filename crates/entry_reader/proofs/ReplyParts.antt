@@ -1,15 +1,15 @@
--- Which replies without a list the words that are left are. Each reading looks at the words one behind another, and where it gives up no reply of its kind
--- has them: shown kind by kind, over the words that were taken.
+-- Which replies without a list the words that are left are. Each reading looks at the words one behind another, and
+-- where it gives up no reply of its kind has them: shown kind by kind, over the words that were taken.
 use Rattle.std.proofs.Common.{◌≡◌, ◌≢◌, ℕ, ◌<◌, ◌^◌, ◌⊎◌, inl, inr, List, [], ◌∷◌, ◌++◌, Option, Some, None, codes, decimal, refl, sym, ap, ◌∙◌, subst, arith}
 use Rattle.std.specs.Cmp.Lexicographic.{other_text}
 use Rattle.std.proofs.lemmas.Fmt.{decimal_injective}
-use Rattle.joint_model.specs.declared.names.MNum.{MNum}
-use Rattle.joint_model.specs.declared.names.PNum.{PNum}
-use Rattle.joint_model.specs.declared.names.HNum.{HNum}
-use Rattle.joint_model.specs.declared.names.Sort.{Sort}
-use Rattle.joint_model.specs.declared.names.Phase.{Phase}
-use Rattle.joint_model.specs.declared.events.Reply.{Reply}
-use Rattle.joint_model.specs.declared.events.Reply.TheVariants as reply
+use Rattle.joint_machine.specs.declared.names.MNum.{MNum}
+use Rattle.joint_machine.specs.declared.names.PNum.{PNum}
+use Rattle.joint_machine.specs.declared.names.HNum.{HNum}
+use Rattle.joint_machine.specs.declared.names.Sort.{Sort}
+use Rattle.joint_machine.specs.declared.names.Phase.{Phase}
+use Rattle.joint_machine.specs.declared.events.Reply.{Reply}
+use Rattle.joint_machine.specs.declared.events.Reply.TheVariants as reply
 use Rattle.bridge_script.specs.Words.{sort_text}
 use Rattle.history_report.specs.Report.{managed_text, peer_text, handle_text, phase_text, reply_words, cite_words}
 use Rattle.entry_reader.specs.Fitting.{Short, FitsReply, FitsCites}

@@ -1,23 +1,26 @@
--- The words behind the equals sign: a reply without a list, or one with a list, each kind by itself. Where two kinds have the same words, the one that is
--- meant by the event is tried first, and what is read after it isn't what the first one has.
+-- The words behind the equals sign: a reply without a list, or one with a list, each kind by itself. Where two kinds
+-- have the same words, the one that is meant by the event is tried first, and what is read after it isn't what the
+-- first one has.
 use Rattle.std.proofs.Common.{◌≡◌, ◌≢◌, ℕ, ◌⊎◌, inl, inr, true, false, List, [], ◌∷◌, ◌++◌, Option, Some, None, Result, Ok, Err, IfOk, All, length, codes, decimal, refl, sym, ap, ◌∙◌, subst, arith, append-nil}
 use Rattle.std.proofs.lemmas.List.{nil_from_length}
 use Rattle.std.proofs.lemmas.List.Elements.{All-cons, All-head, All-nil}
-use Rattle.joint_model.specs.declared.names.Marking.{Marking}
-use Rattle.joint_model.specs.declared.names.MNum.{MNum}
-use Rattle.joint_model.specs.declared.names.PNum.{PNum}
-use Rattle.joint_model.specs.declared.names.Span.{Span}
-use Rattle.joint_model.specs.declared.lines.Act.TheVariants as act
-use Rattle.joint_model.specs.declared.events.Op.{Op}
-use Rattle.joint_model.specs.declared.events.Op.TheVariants as op
-use Rattle.joint_model.specs.declared.events.Reply.{Reply}
-use Rattle.joint_model.specs.declared.events.Reply.TheVariants as reply
+use Rattle.joint_machine.specs.declared.names.Marking.{Marking}
+use Rattle.joint_machine.specs.declared.names.MNum.{MNum}
+use Rattle.joint_machine.specs.declared.names.PNum.{PNum}
+use Rattle.joint_machine.specs.declared.names.Span.{Span}
+use Rattle.joint_machine.specs.declared.lines.Act.TheVariants as act
+use Rattle.joint_machine.specs.declared.events.Op.{Op}
+use Rattle.joint_machine.specs.declared.events.Op.TheVariants as op
+use Rattle.joint_machine.specs.declared.events.Reply.{Reply}
+use Rattle.joint_machine.specs.declared.events.Reply.TheVariants as reply
 use Rattle.history_report.specs.Lists.{listed}
 use Rattle.history_report.specs.Report.{reply_words, cite_words}
 use Rattle.entry_reader.specs.Fitting.{Short}
-use Rattle.entry_reader.specs.Meaning.{BeginsAt, IsMeant, IsNot, Lists, as_managed, as_peers, grown}
+use Rattle.entry_reader.specs.Meaning.{BeginsAt, Lists, as_managed, as_peers, grown}
+use Rattle.entry_reader.specs.Meant.{IsMeant, IsNot}
 use Rattle.entry_reader.specs.Taking.{Takes}
-use Rattle.entry_reader.specs.Saying.{IsList, IsShown, IsTail, ReadsTail, Tails, said}
+use Rattle.entry_reader.specs.Saying.{IsList, IsShown, said}
+use Rattle.entry_reader.specs.Tailing.{IsTail, ReadsTail, Tails}
 use Rattle.entry_reader.specs.Listing.{EndsList}
 use Rattle.entry_reader.specs.Replies.{IsPlain, IsManaged, IsPeer, IsHandle, IsKeyed, IsCount, IsEnd, Ends, IsUnlisted, IsSnapped, IsSwept, IsFreed, IsTook, IsUnnoticed, IsMeantListed, IsMeantNumbered, IsMeantUnnoticed, IsFinalise, IsSweep, TailsListed, TailsMeant, TailsNumbered, TailsUnnoticed}
 use Rattle.entry_reader.proofs.ReplyParts.{NoEnd}

@@ -1,18 +1,18 @@
--- The words of a line up to its reply, part by part; and the text of a line, which is cut into its words at the spaces and put together of them again,
--- since no word has a space.
+-- The words of a line up to its reply, part by part; and the text of a line, which is cut into its words at the spaces
+-- and put together of them again, since no word has a space.
 use Rattle.std.proofs.Common.{◌≡◌, ◌≢◌, ℕ, ◌<◌, ◌≤◌, ◌^◌, List, [], ◌∷◌, ◌++◌, Option, Some, None, MatchOption, All, codes, decimal, refl, sym, ap, ◌∙◌, subst, arith}
 use Rattle.std.specs.List.{AllByRecursion, slice_split}
 use Rattle.std.proofs.Math.Dec.{eqb}
 use Rattle.std.proofs.lemmas.List.Elements.{All-from_recursion, All-nil, All-cons}
 use Rattle.std.proofs.lemmas.List.Splits.{join_with_byte-slice_split}
-use Rattle.joint_model.specs.declared.names.Thread.{Thread}
-use Rattle.joint_model.specs.declared.events.Op.{Op}
-use Rattle.joint_model.specs.declared.events.Reply.{Reply}
-use Rattle.joint_model.specs.declared.events.Entry.{Entry}
-use Rattle.joint_model.specs.Lines.{IsLine, IsNamed, IsThread}
-use Rattle.joint_model.specs.declared.names.Thread.TheVariants.{M, P, C}
-use Rattle.joint_model.specs.declared.lines.Act.{Act}
-use Rattle.joint_model.specs.declared.events.Op.TheVariants as op
+use Rattle.joint_machine.specs.declared.names.Thread.{Thread}
+use Rattle.joint_machine.specs.declared.events.Op.{Op}
+use Rattle.joint_machine.specs.declared.events.Reply.{Reply}
+use Rattle.joint_machine.specs.declared.events.Entry.{Entry}
+use Rattle.joint_machine.specs.Lines.{IsLine, IsNamed, IsThread}
+use Rattle.joint_machine.specs.declared.names.Thread.TheVariants.{M, P, C}
+use Rattle.joint_machine.specs.declared.lines.Act.{Act}
+use Rattle.joint_machine.specs.declared.events.Op.TheVariants as op
 use Rattle.text_words.specs.Words.{spaced}
 use Rattle.text_words.proofs.Cuts.{split-join}
 use Rattle.history_report.specs.Report.{event_words, cite_words, place_text, reply_words, list_of}
@@ -22,12 +22,14 @@ use Rattle.text_words.proofs.Cutting.{Lacks, every-append}
 use Rattle.text_words.proofs.PlainWords.{plain-decimal, no-byte, no-bytes}
 use Rattle.history_report.proofs.Plain.{plain-event, plain-reply, plain-listed, plain-cites, plain-place}
 use Rattle.history_report.proofs.TextLines.{place-one}
-use Rattle.joint_model.specs.declared.names.Span.{Span}
+use Rattle.joint_machine.specs.declared.names.Span.{Span}
 use Rattle.entry_reader.specs.Fitting.{Short}
 use Rattle.entry_reader.specs.Taking.{Takes}
 use Rattle.entry_reader.specs.Events.{IsHead, IsReadable}
-use Rattle.entry_reader.specs.Meaning.{Lists, IsMeant}
-use Rattle.entry_reader.specs.Saying.{IsLineOf, IsTail, ReadsEntry, ReadsTail, said, list_said, line_words}
+use Rattle.entry_reader.specs.Meaning.{Lists}
+use Rattle.entry_reader.specs.Meant.{IsMeant}
+use Rattle.entry_reader.specs.Saying.{IsLineOf, said, list_said, line_words}
+use Rattle.entry_reader.specs.Tailing.{IsTail, ReadsEntry, ReadsTail}
 use Rattle.entry_reader.proofs.EventParts.{ends, with_equals}
 use Rattle.entry_reader.proofs.Parts.{one_word}
 

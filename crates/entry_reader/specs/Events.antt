@@ -1,11 +1,11 @@
 -- The words of the events that are no line's: the first of them, and those behind it.
 use Rattle.std.specs.Prelude.{ℕ, ◌≤◌, ◌<◌, List, [], ◌∷◌, Option, Some, None, codes, decimal}
-use Rattle.joint_model.specs.declared.names.Thread.{Thread}
-use Rattle.joint_model.specs.declared.names.HNum.{HNum}
-use Rattle.joint_model.specs.declared.names.Cycle.{Cycle}
-use Rattle.joint_model.specs.declared.events.Op.{Op}
-use Rattle.joint_model.specs.declared.events.Op.TheVariants as op
-use Rattle.joint_model.specs.Lines.{IsVar, IsAdoptable, IsNamed, IsLine, IsOneEvent, IsThread}
+use Rattle.joint_machine.specs.declared.names.Thread.{Thread}
+use Rattle.joint_machine.specs.declared.names.HNum.{HNum}
+use Rattle.joint_machine.specs.declared.names.Cycle.{Cycle}
+use Rattle.joint_machine.specs.declared.events.Op.{Op}
+use Rattle.joint_machine.specs.declared.events.Op.TheVariants as op
+use Rattle.joint_machine.specs.Lines.{IsVar, IsAdoptable, IsNamed, IsLine, IsOneEvent, IsThread}
 use Rattle.bridge_script.specs.Words.{var_text, peer_static, kind_text, sort_text, phase_word_text}
 use Rattle.history_report.specs.Report.{peer_text, handle_text}
 use Rattle.entry_reader.specs.Fitting.{Short, FitsOp}

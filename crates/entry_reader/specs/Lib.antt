@@ -1,7 +1,9 @@
 pub mod Fitting
 pub mod Meaning
+pub mod Meant
 pub mod Taking
 pub mod Saying
+pub mod Tailing
 pub mod Listing
 pub mod Replies
 pub mod Events

@@ -1,6 +1,6 @@
 -- What taking a list of numbers from the front of a line's words promises. Nothing outside of this crate rests on it.
 use Rattle.std.specs.Prelude.{◌≡◌, ◌≢◌, ℕ, ◌≤◌, Bool, List, ◌∷◌, ◌++◌, length, Option, Some, None, MatchOption, decimal}
-use Rattle.joint_model.specs.declared.names.Span.{Span}
+use Rattle.joint_machine.specs.declared.names.Span.{Span}
 use Rattle.history_report.specs.Lists.{listed, lettered}
 use Rattle.history_report.specs.Report.{cite_words}
 use Rattle.entry_reader.specs.Fitting.{Short, ShortSpan, FitsCites}
@@ -18,7 +18,8 @@ pub record TakesNumber (letter least : ℕ) (old new : List (List ℕ)) (result 
   pub sound : Numbered letter least old new result
   pub complete : (n : ℕ) (rest : List (List ℕ)) → Short n → least ≤ n → old ≡ (letter ∷ decimal n) ∷ rest → (result ≡ Some n) × (new ≡ rest)
 
--- numbers of the letter were taken, as many as stand there: whatever numbers with a citation the words are, the citation is left
+-- numbers of the letter were taken, as many as stand there: whatever numbers with a citation the words are, the
+-- citation is left
 pub record TakesAll (rising : Bool) (letter : ℕ) (old new : List (List ℕ)) (ns : List ℕ) : Type 0 where
   pub list : IsList rising ns
   pub words : old ≡ lettered letter ns ++ new

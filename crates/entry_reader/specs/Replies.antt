@@ -1,16 +1,18 @@
--- The replies without a list, by what they begin with, and what reading the words that are left as one promises. Nothing outside of this crate rests on it.
+-- The replies without a list, by what they begin with, and what reading the words that are left as one promises.
+-- Nothing outside of this crate rests on it.
 use Rattle.std.specs.Prelude.{◌≡◌, ◌≢◌, ℕ, List, ◌++◌, ◌⊎◌, Option, MatchOption}
-use Rattle.joint_model.specs.declared.names.MNum.{MNum}
-use Rattle.joint_model.specs.declared.names.PNum.{PNum}
-use Rattle.joint_model.specs.declared.lines.Act.TheVariants as act
-use Rattle.joint_model.specs.declared.events.Op.{Op}
-use Rattle.joint_model.specs.declared.events.Op.TheVariants as op
-use Rattle.joint_model.specs.declared.events.Reply.{Reply}
-use Rattle.joint_model.specs.declared.events.Reply.TheVariants as reply
+use Rattle.joint_machine.specs.declared.names.MNum.{MNum}
+use Rattle.joint_machine.specs.declared.names.PNum.{PNum}
+use Rattle.joint_machine.specs.declared.lines.Act.TheVariants as act
+use Rattle.joint_machine.specs.declared.events.Op.{Op}
+use Rattle.joint_machine.specs.declared.events.Op.TheVariants as op
+use Rattle.joint_machine.specs.declared.events.Reply.{Reply}
+use Rattle.joint_machine.specs.declared.events.Reply.TheVariants as reply
 use Rattle.history_report.specs.Report.{reply_words, cite_words}
 use Rattle.entry_reader.specs.Fitting.{FitsReply, FitsCites}
-use Rattle.entry_reader.specs.Meaning.{IsMeant, Lists}
-use Rattle.entry_reader.specs.Saying.{IsTail, ReadsTail}
+use Rattle.entry_reader.specs.Meaning.{Lists}
+use Rattle.entry_reader.specs.Meant.{IsMeant}
+use Rattle.entry_reader.specs.Tailing.{IsTail, ReadsTail}
 
 -- one word, always the same
 abbrev pub IsPlain : Reply → Type 0

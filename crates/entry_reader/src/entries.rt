@@ -1,20 +1,21 @@
 // The line of an entry.
 
 ghost use Rattle.std.specs.Prelude.{⊤, ◌≡◌, ◌++◌, ℕ, [], ◌∷◌, List, IfOk, MatchOption, codes, decimal};
-ghost use Rattle.joint_model.specs.declared.names.Thread.{Thread};
-ghost use Rattle.joint_model.specs.declared.events.Entry.{Entry};
-ghost use Rattle.joint_model.specs.Lines.{IsThread};
+ghost use Rattle.joint_machine.specs.declared.names.Thread.{Thread};
+ghost use Rattle.joint_machine.specs.declared.events.Entry.{Entry};
+ghost use Rattle.joint_machine.specs.Lines.{IsThread};
 ghost use Rattle.history_report.specs.Report.{event_words, place_text};
 ghost use Rattle.entry_reader.specs.Fitting.{Short};
 ghost use Rattle.entry_reader.specs.Taking.{Takes};
 ghost use Rattle.entry_reader.specs.Events.{IsHead};
-ghost use Rattle.entry_reader.specs.Saying.{IsLineOf, ReadsEntry};
+ghost use Rattle.entry_reader.specs.Saying.{IsLineOf};
+ghost use Rattle.entry_reader.specs.Tailing.{ReadsEntry};
 
 use crate::events::take_event;
 use crate::lists::NamedLists;
 use crate::places::LastPlace;
 use crate::tails::read_tail;
-use joint_model::{Entry, Made, Op, Thread};
+use joint_machine::{Entry, Made, Op, Thread};
 use std::alloc::AllocError;
 use text_words::{Stretch, Words, number};
 
@@ -43,8 +44,8 @@ fn take_head(count: u64, last: &mut LastPlace, words: &mut Words) -> Option<(Thr
     Some((caller, index, op))
 }
 
-/// The entry with that number whose line has this text, which is without its newline. None where there is none. The list that it names is put behind
-/// those before. The place of the last line that was read may be that of any.
+/// The entry with that number whose line has this text, which is without its newline. None where there is none. The
+/// list that it names is put behind those before. The place of the last line that was read may be that of any.
 pub fn read_entry(
     text: Stretch,
     number: u64,

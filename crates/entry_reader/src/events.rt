@@ -1,15 +1,15 @@
 // The event of a line.
 
 ghost use Rattle.std.specs.Prelude.{⊤, ◌≡◌, ◌≢◌, ◌<◌, ◌≤◌, ℕ, ◌++◌, [], ◌∷◌, codes, List, MatchOption, MatchBool, decimal};
-ghost use Rattle.joint_model.specs.declared.lines.Act.{Act};
-ghost use Rattle.joint_model.specs.declared.names.PNum.{PNum};
-ghost use Rattle.joint_model.specs.declared.names.HNum.{HNum};
-ghost use Rattle.joint_model.specs.declared.names.Cycle.{Cycle};
-ghost use Rattle.joint_model.specs.declared.names.StaticNo.{StaticNo};
-ghost use Rattle.joint_model.specs.declared.names.Sort.{Sort};
-ghost use Rattle.joint_model.specs.declared.names.Kind.{Kind};
-ghost use Rattle.joint_model.specs.declared.names.PhaseWord.{PhaseWord};
-ghost use Rattle.joint_model.specs.Lines.{IsThread, IsVar, IsLine, IsOneEvent, IsAdoptable};
+ghost use Rattle.joint_machine.specs.declared.lines.Act.{Act};
+ghost use Rattle.joint_machine.specs.declared.names.PNum.{PNum};
+ghost use Rattle.joint_machine.specs.declared.names.HNum.{HNum};
+ghost use Rattle.joint_machine.specs.declared.names.Cycle.{Cycle};
+ghost use Rattle.joint_machine.specs.declared.names.StaticNo.{StaticNo};
+ghost use Rattle.joint_machine.specs.declared.names.Sort.{Sort};
+ghost use Rattle.joint_machine.specs.declared.names.Kind.{Kind};
+ghost use Rattle.joint_machine.specs.declared.names.PhaseWord.{PhaseWord};
+ghost use Rattle.joint_machine.specs.Lines.{IsThread, IsVar, IsLine, IsOneEvent, IsAdoptable};
 ghost use Rattle.bridge_script.specs.Words.{var_text, peer_static as peer_static_text, kind_text, sort_text, phase_word_text, act_words};
 ghost use Rattle.history_report.specs.Report.{peer_text, handle_text, event_words};
 ghost use Rattle.entry_reader.specs.Fitting.{Short};
@@ -19,7 +19,7 @@ ghost use Rattle.entry_reader.specs.Events.{IsEventOf, IsLineEvent, IsOfCycle, I
 
 use crate::numbers::{handle, peer, short};
 use bridge_script::{peer_static, take_act, var};
-use joint_model::{Act, Cycle, HNum, Kind, Op, PNum, PhaseWord, Sort, StaticNo, Thread, Var};
+use joint_machine::{Act, Cycle, HNum, Kind, Op, PNum, PhaseWord, Sort, StaticNo, Thread, Var};
 use text_words::{Words, is_same, number};
 
 /// The sort that a word names.
@@ -457,7 +457,8 @@ fn take_step(words: &mut Words) -> Option<Op>
     Some(op)
 }
 
-// Takes an event that thread `c` can name, and the equals sign. Nearly all of its events are no line's, so these are tried first.
+// Takes an event that thread `c` can name, and the equals sign. Nearly all of its events are no line's, so these are
+// tried first.
 fn take_driver_event(words: &mut Words) -> Option<Op>
     ensures { Takes (IsReadable Thread.C) (λ o. event_words Thread.C o ++ codes "=" ∷ []) words.old words.new result }
 {
@@ -469,7 +470,8 @@ fn take_driver_event(words: &mut Words) -> Option<Op>
     take_line(Thread::C, words)
 }
 
-/// Takes an event that the thread can name, and the equals sign behind it; None where the words that are left don't begin with these.
+/// Takes an event that the thread can name, and the equals sign behind it; None where the words that are left don't
+/// begin with these.
 pub fn take_event(thread: Thread, words: &mut Words) -> Option<Op>
     requires { IsThread thread }
     ensures { Takes (IsReadable thread) (λ o. event_words thread o ++ codes "=" ∷ []) words.old words.new result }

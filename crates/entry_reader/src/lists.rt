@@ -6,7 +6,7 @@ ghost use Rattle.entry_reader.specs.Meaning.{as_managed, as_peers};
 ghost use Rattle.entry_reader.specs.Listing.{TakesNumber, Puts, TakesList, EndsList};
 
 use crate::replies::read_cites;
-use joint_model::{MNum, PNum, Span};
+use joint_machine::{MNum, PNum, Span};
 use std::alloc::{AllocError, Global};
 use std::marker::Model;
 use text_words::{Words, is_same, lettered};
@@ -17,8 +17,8 @@ const SHORT: u64 = 1 << 32;
 // The most numbers of a list.
 const MOST: usize = 4_294_967_295;
 
-/// What the lines that were read have named: the managed objects and the peers that were freed, and the notices that were taken, in the order of the
-/// lines.
+/// What the lines that were read have named: the managed objects and the peers that were freed, and the notices that
+/// were taken, in the order of the lines.
 #[derive(Drop)]
 pub struct NamedLists {
     freed_managed: Vec<MNum>,
@@ -153,7 +153,8 @@ fn take_peers(words: &mut Words, list: &mut Vec<PNum>) -> Result<Option<Span>, A
     Ok(Some(Span { first, count }))
 }
 
-// The words that are left as a list of managed objects, which is put last, with what the line cites. None where they are none, and the list stays.
+// The words that are left as a list of managed objects, which is put last, with what the line cites. None where they
+// are none, and the list stays.
 fn read_managed(
     words: &mut Words,
     rising: bool,
@@ -210,8 +211,8 @@ impl NamedLists {
         }
     }
 
-    /// The words that are left as a list of managed objects that were freed, with what the line cites; its span behind those before. None where they
-    /// are none, and then the lists stay.
+    /// The words that are left as a list of managed objects that were freed, with what the line cites; its span behind
+    /// those before. None where they are none, and then the lists stay.
     pub fn read_freed(
         &mut self,
         words: &mut Words,

@@ -1,16 +1,16 @@
 // The numbers of a line: objects, handles, cycles, markings, counts, and the place of a thread's line.
 
 ghost use Rattle.std.specs.Prelude.{◌≡◌, ◌≢◌, ◌∷◌, ◌<◌, ◌^◌, ℕ, MatchOption, decimal};
-ghost use Rattle.joint_model.specs.Lines.{IsThread};
-ghost use Rattle.joint_model.specs.declared.names.MNum.{MNum};
-ghost use Rattle.joint_model.specs.declared.names.PNum.{PNum};
-ghost use Rattle.joint_model.specs.declared.names.HNum.{HNum};
-ghost use Rattle.joint_model.specs.declared.names.Thread.{Thread};
+ghost use Rattle.joint_machine.specs.Lines.{IsThread};
+ghost use Rattle.joint_machine.specs.declared.names.MNum.{MNum};
+ghost use Rattle.joint_machine.specs.declared.names.PNum.{PNum};
+ghost use Rattle.joint_machine.specs.declared.names.HNum.{HNum};
+ghost use Rattle.joint_machine.specs.declared.names.Thread.{Thread};
 ghost use Rattle.history_report.specs.Report.{managed_text, peer_text, handle_text, place_text};
 ghost use Rattle.entry_reader.specs.Fitting.{Short};
 
 use bridge_script::thread;
-use joint_model::{HNum, MNum, PNum, Thread};
+use joint_machine::{HNum, MNum, PNum, Thread};
 use text_words::{first_place, lettered, number};
 
 // Numbers of objects, lines and the like are below this one.

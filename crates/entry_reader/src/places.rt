@@ -1,13 +1,14 @@
-// The place of the line before: what is made for one line of a script stands in a row, so most lines have the place of the line before.
+// The place of the line before: what is made for one line of a script stands in a row, so most lines have the place of
+// the line before.
 
 ghost use Rattle.std.specs.Prelude.{◌≡◌, ◌≢◌, ◌≤◌, ℕ, MatchOption, length};
-ghost use Rattle.joint_model.specs.declared.names.Thread.{Thread};
-ghost use Rattle.joint_model.specs.Lines.{IsThread};
+ghost use Rattle.joint_machine.specs.declared.names.Thread.{Thread};
+ghost use Rattle.joint_machine.specs.Lines.{IsThread};
 ghost use Rattle.history_report.specs.Report.{place_text};
 ghost use Rattle.entry_reader.specs.Fitting.{Short};
 
 use crate::numbers::place;
-use joint_model::Thread;
+use joint_machine::Thread;
 use std::marker::Model;
 use text_words::is_same;
 
@@ -25,7 +26,7 @@ pub struct LastPlace {
 
 impl Model for LastPlace {
     ghost use Rattle.std.specs.Prelude.{◌≡◌, ◌≤◌, ⊤, take};
-    ghost use Rattle.joint_model.specs.Lines.{IsThread};
+    ghost use Rattle.joint_machine.specs.Lines.{IsThread};
     ghost use Rattle.history_report.specs.Report.{place_text};
 
     ghost Value = { ⊤ };

@@ -1,15 +1,15 @@
 // The replies of lines, each with what stands behind it to the end of its line.
 
 ghost use Rattle.std.specs.Prelude.{◌≡◌, ◌≢◌, ◌<◌, ◌^◌, ◌++◌, [], ◌∷◌, ℕ, Option, MatchOption, codes, decimal};
-ghost use Rattle.joint_model.specs.declared.names.Phase.{Phase};
-ghost use Rattle.joint_model.specs.declared.events.Reply.{Reply};
+ghost use Rattle.joint_machine.specs.declared.names.Phase.{Phase};
+ghost use Rattle.joint_machine.specs.declared.events.Reply.{Reply};
 ghost use Rattle.history_report.specs.Report.{managed_text, peer_text, phase_text, reply_words, cite_words};
 ghost use Rattle.entry_reader.specs.Fitting.{Short, FitsReply, FitsCites};
 ghost use Rattle.entry_reader.specs.Replies.{IsPlain, IsManaged, IsPeer, IsHandle, IsKeyed, IsCount, IsNew, IsHeld, IsComponents, IsCounted, Ends, EndsAs};
 
 use crate::events::sort;
 use crate::numbers::{handle, managed, peer, short};
-use joint_model::{Cycle, MNum, Marking, PNum, Phase, Reply};
+use joint_machine::{Cycle, MNum, Marking, PNum, Phase, Reply};
 use text_words::{Words, is_same, number};
 
 /// A reply, and the entry that its line cites.

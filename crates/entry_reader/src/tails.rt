@@ -3,7 +3,7 @@
 ghost use Rattle.std.specs.Prelude.{[], ◌∷◌, IfOk, MatchBool, codes, decimal};
 ghost use Rattle.entry_reader.specs.Fitting.{Short};
 ghost use Rattle.entry_reader.specs.Taking.{Takes};
-ghost use Rattle.entry_reader.specs.Saying.{Tails};
+ghost use Rattle.entry_reader.specs.Tailing.{Tails};
 ghost use Rattle.entry_reader.specs.Replies.{Ends, IsFinalise, IsFreed, IsSnapped, IsSweep, IsSwept, IsTook, IsUnlisted, TailsListed, TailsMeant, TailsNumbered, TailsUnnoticed};
 
 use crate::lists::NamedLists;
@@ -11,7 +11,7 @@ use crate::numbers::short;
 use crate::replies::{
     Tail, count_tail, handle_tail, keyed_tail, managed_tail, peer_tail, plain_tail,
 };
-use joint_model::{Act, Marking, Op, Reply};
+use joint_machine::{Act, Marking, Op, Reply};
 use std::alloc::AllocError;
 use text_words::{Words, is_same};
 
@@ -96,7 +96,8 @@ fn freed_tail(words: &Words, lists: &mut NamedLists) -> Result<Option<Tail>, All
     }
 }
 
-// Whether the first word that is left is that of a handle that was replaced by a new one, as nearly every other line of a cycle has it.
+// Whether the first word that is left is that of a handle that was replaced by a new one, as nearly every other line of
+// a cycle has it.
 fn begins_alive(words: &Words) -> bool {
     match words.fork().next() {
         Some(word) => is_same(word, b"alive"),
@@ -131,7 +132,8 @@ fn short_tail(words: &Words) -> Option<Tail>
     keyed_tail(words)
 }
 
-// The words that are left as a number and a list, of a sweep: as what it freed where that can be, else as what a snapshot freed.
+// The words that are left as a number and a list, of a sweep: as what it freed where that can be, else as what a
+// snapshot freed.
 fn sweep_tail(op: &Op, words: &Words, lists: &mut NamedLists) -> Result<Option<Tail>, AllocError>
     requires { IsSweep op.now }
     ensures { IfOk result (λ found. TailsNumbered op.now words.now lists.old lists.new found) }
@@ -210,8 +212,9 @@ fn other_tail(op: &Op, words: &Words, lists: &mut NamedLists) -> Result<Option<T
     }
 }
 
-/// The reply of that event, and the entry that the line cites, by the words behind the equals sign. None where no reply has these words. Where two
-/// have them, it is the one that is meant by the event. The list that it shows is put behind those before.
+/// The reply of that event, and the entry that the line cites, by the words behind the equals sign. None where no reply
+/// has these words. Where two have them, it is the one that is meant by the event. The list that it shows is put behind
+/// those before.
 pub fn read_tail(op: &Op, words: &Words, lists: &mut NamedLists) -> Result<Option<Tail>, AllocError>
     ensures { IfOk result (λ found. TailsMeant op.now words.now lists.old lists.new found) }
 {

@@ -1,6 +1,6 @@
 -- What contracts see of a queue of notices.
 use Rattle.std.specs.Prelude.{ℕ, List, drop}
-use Rattle.joint_model.specs.declared.names.MNum.{MNum}
+use Rattle.joint_machine.specs.declared.names.MNum.{MNum}
 
 -- every notice that was ever pushed, oldest first; how many of them were given out; and for how many more
 -- there is room

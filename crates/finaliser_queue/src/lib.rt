@@ -6,25 +6,23 @@
 //     notices.push(m);
 //     while let Some(m) = notices.take() { .. }
 //
-// When a bridge cycle is resolved, each bridge object that it frees owes one notice. The collector must not
-// ask for memory at that point, so room is taken beforehand: while a cycle is open there is room for a notice
-// per candidate.
+// When a bridge cycle is resolved, each bridge object that it frees owes one notice. The collector must not ask for
+// memory at that point, so room is taken beforehand: while a cycle is open there is room for a notice per candidate.
 //
-// The life of a queue: `Notices::new`, with nothing waiting and no room. `reserve` makes room, at a time when
-// want of memory can still be answered; `widen` makes it in a list that was taken at such a time, and takes none itself.
-// `push` puts a notice last and uses one place of the room. `take` gives
-// the oldest notice that waits: first in, first out. Notices that were given out stay in the list, so `take`
-// moves nothing, `at` and `into_all` can tell every notice that there ever was, and `queued` is the list's
-// length.
+// The life of a queue: `Notices::new`, with nothing waiting and no room. `reserve` makes room, at a time when want of
+// memory can still be answered; `widen` makes it in a list that was taken at such a time, and takes none itself. `push`
+// puts a notice last and uses one place of the room. `take` gives the oldest notice that waits: first in, first out.
+// Notices that were given out stay in the list, so `take` moves nothing, `at` and `into_all` can tell every notice that
+// there ever was, and `queued` is the list's length.
 //
-// The queue is a part of the managed side, which alone changes it. What is promised: first in, first out, none lost; and a push takes no memory and
-// is never refused, since it needs room beforehand.
+// The queue is a part of the managed side, which alone changes it. What is promised: first in, first out, none lost;
+// and a push takes no memory and is never refused, since it needs room beforehand.
 #![tactic(auto)]
 
 ghost use Rattle.std.specs.Prelude.{◌≡◌, ◌+◌, ◌≤◌, ◌==◌, [], ◌∷◌, ◌++◌, length, slice_get, MatchOption, is_some, if◌then◌else◌, IfOk, IsOk, OnErr, vec_capacity};
 ghost use Rattle.finaliser_queue.specs.Queue.{waiting_in};
 
-use joint_model::MNum;
+use joint_machine::MNum;
 use std::alloc::{AllocError, Global};
 use std::marker::Model;
 
@@ -78,8 +76,8 @@ impl Notices {
 
     /// Makes room: afterwards `spare` is at least `n`, and never less than it was. The notices stay.
     ///
-    /// Answers `AllocError` only where there was less room: where there is no memory, or where more than 4,294,967,295 notices would have been
-    /// queued in all; the queue is then as before.
+    /// Answers `AllocError` only where there was less room: where there is no memory, or where more than 4,294,967,295
+    /// notices would have been queued in all; the queue is then as before.
     pub fn reserve(&mut self, n: u32) -> Result<(), AllocError>
         ensures room { IfOk result (λ _. n ≤ self.new.spare) }
         ensures ready { n ≤ self.old.spare → IsOk result }
@@ -95,8 +93,9 @@ impl Notices {
         self.list.reserve(n as usize)
     }
 
-    /// Makes room without taking memory: afterwards `spare` is at least `n`. Where there was less, the notices move into `list`, which is empty and has
-    /// room for all that were queued and `n` more; else `list` goes unused. The notices stay.
+    /// Makes room without taking memory: afterwards `spare` is at least `n`. Where there was less, the notices move
+    /// into `list`, which is empty and has room for all that were queued and `n` more; else `list` goes unused. The
+    /// notices stay.
     pub fn widen(&mut self, n: u32, list: Vec<MNum>)
         requires empty { list.items ≡ [] }
         requires wide { length self.old.queued + n ≤ vec_capacity list }

@@ -4,20 +4,21 @@ use Rattle.std.specs.Prelude.{is_some}
 use Rattle.std.proofs.lemmas.Bool.{ltb-true, lt-ltb}
 use Rattle.std.proofs.lemmas.List.{append-nil}
 use Rattle.std.proofs.lemmas.List.Elements.{filter-append}
-use Rattle.joint_model.specs.declared.names.Thread.{Thread}
-use Rattle.joint_model.specs.declared.names.Thread.TheVariants.{M, P, C}
-use Rattle.joint_model.specs.declared.names.PhaseWord.TheVariants as word
-use Rattle.joint_model.specs.declared.lines.Act.{Act}
-use Rattle.joint_model.specs.declared.lines.Act.TheVariants as act
-use Rattle.joint_model.specs.declared.events.Entry.{Entry}
-use Rattle.joint_model.specs.Heaps.{slot}
-use Rattle.joint_model.specs.Histories.{Finished}
-use Rattle.joint_model.specs.Linked.{Linkage, AllMayCome, opening_linkage, replayed}
-use Rattle.joint_model.specs.LinkedHistories.{linked_end}
-use Rattle.joint_model.specs.PeerReplay.{is_thread}
-use Rattle.joint_model.specs.Told.{Noted}
+use Rattle.joint_machine.specs.declared.names.Thread.{Thread}
+use Rattle.joint_machine.specs.declared.names.Thread.TheVariants.{M, P, C}
+use Rattle.joint_machine.specs.declared.names.PhaseWord.TheVariants as word
+use Rattle.joint_machine.specs.declared.lines.Act.{Act}
+use Rattle.joint_machine.specs.declared.lines.Act.TheVariants as act
+use Rattle.joint_machine.specs.declared.events.Entry.{Entry}
+use Rattle.joint_machine.specs.Heaps.{slot}
+use Rattle.joint_machine.specs.Histories.{Finished}
+use Rattle.joint_machine.specs.Linked.{Linkage, opening_linkage}
+use Rattle.joint_machine.specs.Replaying.{AllMayCome, replayed}
+use Rattle.joint_machine.specs.LinkedHistories.{linked_end}
+use Rattle.joint_machine.specs.PeerReplay.{is_thread}
+use Rattle.joint_machine.specs.Told.{Noted}
 use Rattle.joint_laws.proofs.LinkedEntries.{Of, AreKept-opening}
-use Rattle.known_laws.specs.Growing.{entries}
+use Rattle.known_laws.specs.PastEntries.{entries}
 use Rattle.run_summary.specs.declared.tallies.Tally.{Tally}
 use Rattle.run_summary.specs.Tallies.{tally_of}
 use Rattle.script_generator.specs.Generated.{generated}
@@ -25,7 +26,8 @@ use Rattle.script_laws.specs.Holding.{opening_standing, entries_by, AreLine}
 use Rattle.script_laws.proofs.ThreadOrder.{none-by}
 use Rattle.summary_laws.specs.States.{tally_in}
 use Rattle.summary_laws.proofs.Readings.{tallies_of_linked}
-use Rattle.generated_laws.specs.Counts.{IsGeneratedRun, filled_statics, left_by_families, generated_tally, GeneratedRunsAreAlike}
+use Rattle.generated_laws.specs.Counts.{filled_statics, left_by_families, generated_tally}
+use Rattle.generated_laws.specs.Laws.{GeneratedRunsAreAlike, IsGeneratedRun}
 use Rattle.generated_laws.proofs.Totals.{Each, each-append, each-join, each-filter, total, total-append}
 use Rattle.generated_laws.proofs.Own.{HasAnswer, IsCycleOf}
 use Rattle.generated_laws.proofs.Held.{script-total}

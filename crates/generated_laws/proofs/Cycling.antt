@@ -1,22 +1,23 @@
--- A cycle that runs when all threads have ended leaves what is kept and nothing else: phase by phase, what is known of the rows that are left.
+-- A cycle that runs when all threads have ended leaves what is kept and nothing else: phase by phase, what is known of
+-- the rows that are left.
 use Rattle.std.proofs.Common.{◌≡◌, ℕ, suc, inl, inr, List, [], ◌∷◌, Option, Some, None, refl, sym, ap, subst, ◌∙◌, arith}
 use Rattle.std.specs.Prelude.{Contains, slice_get, if◌then◌else◌}
 use Rattle.std.proofs.lemmas.Option.{same_Some}
-use Rattle.joint_model.specs.Control.{Stand, OpenSnap, idle, snapped, contracted, weakening, marked, restoring, restored}
-use Rattle.joint_model.specs.Cycles.{IsSnapshot, IsAnsweredAlive}
-use Rattle.joint_model.specs.Heaps.{IsLive, InSlot, with_freed, fields_of}
-use Rattle.joint_model.specs.Linked.{Linkage}
-use Rattle.joint_model.specs.Managed.{Managed, OpenCycle, Holds, IsManagedRoot, ManagedEdge, IsManagedReached}
-use Rattle.joint_model.specs.ManagedReplay.{MayResolve}
-use Rattle.joint_model.specs.Peers.{Peers, Issued, Strength, strong, weak, is_strong}
-use Rattle.joint_model.specs.PeerReplay.{PeerReplay, TableRow, Marking, IsMarkingRoot, MarkingEdge, IsMarked, Refers, strong_peers}
-use Rattle.joint_model.specs.Told.{Answer, handles_given}
-use Rattle.joint_model.specs.Walks.{Reaches}
-use Rattle.joint_model.proofs.Deciding.{none_some, some-same}
-use Rattle.joint_model.proofs.HeapLemmas.{IsLive-before, IsLive-spared}
-use Rattle.joint_model.proofs.Members.{Contains-nil, Contains-cons_cases, Contains-at, at-Contains, Contains-decided}
-use Rattle.joint_model.proofs.Numbered.{numbered-within}
-use Rattle.joint_model.proofs.WalkLemmas.{Reached-keeps, Reaches-keeps}
+use Rattle.joint_machine.specs.Control.{Stand, OpenSnap, idle, snapped, contracted, weakening, marked, restoring, restored}
+use Rattle.joint_machine.specs.Cycles.{IsSnapshot, IsAnsweredAlive}
+use Rattle.joint_machine.specs.Heaps.{IsLive, InSlot, with_freed, fields_of}
+use Rattle.joint_machine.specs.Linked.{Linkage}
+use Rattle.joint_machine.specs.Managed.{Managed, OpenCycle, Holds, IsManagedRoot, ManagedEdge, IsManagedReached}
+use Rattle.joint_machine.specs.ManagedReplay.{MayResolve}
+use Rattle.joint_machine.specs.Peers.{Peers, Issued, Strength, strong, weak, is_strong}
+use Rattle.joint_machine.specs.PeerReplay.{PeerReplay, TableRow, Marking, IsMarkingRoot, MarkingEdge, IsMarked, Refers, strong_peers}
+use Rattle.joint_machine.specs.Told.{Answer, handles_given}
+use Rattle.joint_machine.specs.Walks.{Reaches}
+use Rattle.joint_machine.proofs.Deciding.{none_some, some-same}
+use Rattle.joint_machine.proofs.HeapLemmas.{IsLive-before, IsLive-spared}
+use Rattle.joint_machine.proofs.Members.{Contains-nil, Contains-cons_cases, Contains-at, at-Contains, Contains-decided}
+use Rattle.joint_machine.proofs.Numbered.{numbered-within}
+use Rattle.joint_machine.proofs.WalkLemmas.{Reached-keeps, Reaches-keeps}
 use Rattle.joint_laws.specs.LinkedInvariants.{IsDriverKept, IsInMarking, IsRowOf, given_at}
 use Rattle.joint_laws.specs.PeerInvariants.{IsIssued, IsTabled}
 use Rattle.joint_laws.proofs.DeadMirrors.{mirror_edge-managed}

@@ -1,27 +1,28 @@
--- The entries of a cycle: what is shown of both sides stays shown. A resolution gives the kept candidates other handles, each on the peer of the one that it
--- replaces; so each group keeps its two objects and its peer, and what variables name keeps its handle.
+-- The entries of a cycle: what is shown of both sides stays shown. A resolution gives the kept candidates other
+-- handles, each on the peer of the one that it replaces; so each group keeps its two objects and its peer, and what
+-- variables name keeps its handle.
 use Rattle.std.proofs.Common.{◌≡◌, ℕ, inl, inr, false, List, [], ◌∷◌, ◌++◌, length, Option, Some, None, refl, sym, ap, subst, ◌∙◌, arith}
 use Rattle.std.specs.Prelude.{Contains, slice_get, slice_index}
 use Rattle.std.proofs.lemmas.List.Elements.{Contains-append_cases}
 use Rattle.std.proofs.lemmas.Option.{same_Some, slice_get-get_or, slice_get_within}
-use Rattle.joint_model.specs.declared.names.Cycle.{Cycle}
-use Rattle.joint_model.specs.declared.names.Thread.TheVariants.{C}
-use Rattle.joint_model.specs.declared.events.Op.{Op}
-use Rattle.joint_model.specs.declared.events.Op.TheVariants as op
-use Rattle.joint_model.specs.declared.events.Reply.{Reply}
-use Rattle.joint_model.specs.Components.{Rises}
-use Rattle.joint_model.specs.Control.{Stand, OpenSnap, idle, snapped, contracted, weakening, marked, restoring, restored, DriverAllows, answer_in, stand_after}
-use Rattle.joint_model.specs.Heaps.{slot, place, numbered_at}
-use Rattle.joint_model.specs.Linked.{Linkage, MayCome, SideLawful, linkage_after}
-use Rattle.joint_model.specs.Managed.{Managed, OpenCycle, Holds, candidates_of, resolved}
-use Rattle.joint_model.specs.ManagedReplay.{MayResolve}
-use Rattle.joint_model.specs.Peers.{Peers, Issued, peer_of}
-use Rattle.joint_model.specs.Told.{Answer, Noted, Told, handles_given, resolution_of, said_alive, said_cleared}
-use Rattle.joint_model.proofs.Deciding.{some-same}
-use Rattle.joint_model.proofs.HeapLemmas.{candidates_of-open}
-use Rattle.joint_model.proofs.Members.{Contains-at, Contains-cons_cases, Contains-decided, Contains-here, Contains-nil, Contains-there}
-use Rattle.joint_model.proofs.Numbered.{numbered-within, slot-Contains}
-use Rattle.joint_model.proofs.WalkLemmas.{Reaches-self}
+use Rattle.joint_machine.specs.declared.names.Cycle.{Cycle}
+use Rattle.joint_machine.specs.declared.names.Thread.TheVariants.{C}
+use Rattle.joint_machine.specs.declared.events.Op.{Op}
+use Rattle.joint_machine.specs.declared.events.Op.TheVariants as op
+use Rattle.joint_machine.specs.declared.events.Reply.{Reply}
+use Rattle.joint_machine.specs.Components.{Rises}
+use Rattle.joint_machine.specs.Control.{Stand, OpenSnap, idle, snapped, contracted, weakening, marked, restoring, restored, DriverAllows, answer_in, stand_after}
+use Rattle.joint_machine.specs.Heaps.{slot, place, numbered_at}
+use Rattle.joint_machine.specs.Linked.{Linkage, MayCome, SideLawful, linkage_after}
+use Rattle.joint_machine.specs.Managed.{Managed, OpenCycle, Holds, candidates_of, resolved}
+use Rattle.joint_machine.specs.ManagedReplay.{MayResolve}
+use Rattle.joint_machine.specs.Peers.{Peers, Issued, peer_of}
+use Rattle.joint_machine.specs.Told.{Answer, Noted, Told, handles_given, resolution_of, said_alive, said_cleared}
+use Rattle.joint_machine.proofs.Deciding.{some-same}
+use Rattle.joint_machine.proofs.HeapLemmas.{candidates_of-open}
+use Rattle.joint_machine.proofs.Members.{Contains-at, Contains-cons_cases, Contains-decided, Contains-here, Contains-nil, Contains-there}
+use Rattle.joint_machine.proofs.Numbered.{numbered-within, slot-Contains}
+use Rattle.joint_machine.proofs.WalkLemmas.{Reaches-self}
 use Rattle.joint_laws.specs.LinkedInvariants.{IsDriverKept, IsReplaced, IsRestored, given_at}
 use Rattle.joint_laws.specs.ManagedInvariants.{IsCutOff}
 use Rattle.joint_laws.proofs.DriverSteps.{replaced}

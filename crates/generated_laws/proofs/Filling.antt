@@ -1,22 +1,23 @@
 -- Which statics a run of a generated script fills: those of its lines.
 use Rattle.std.proofs.Common.{◌≡◌, ℕ, ◌+◌, ◌<◌, inl, inr, Bool, true, false, List, [], ◌∷◌, Some, None, nat_eq, refl, sym, ap, subst, ◌∙◌, arith, eq-eqb}
 use Rattle.std.proofs.lemmas.Bool.{cases_Bool, eqb-true}
-use Rattle.joint_model.specs.declared.names.Var.{Var}
-use Rattle.joint_model.specs.declared.names.StaticNo.{StaticNo}
-use Rattle.joint_model.specs.declared.names.Kind.{Kind}
-use Rattle.joint_model.specs.declared.names.Sort.{Sort}
-use Rattle.joint_model.specs.declared.names.HNum.{HNum}
-use Rattle.joint_model.specs.declared.names.Phase.TheVariants as at
-use Rattle.joint_model.specs.declared.names.PhaseWord.TheVariants as word
-use Rattle.joint_model.specs.declared.lines.Act.{Act}
-use Rattle.joint_model.specs.declared.lines.Act.TheVariants as act
-use Rattle.joint_model.specs.declared.events.Op.{Op}
-use Rattle.joint_model.specs.declared.events.Op.TheVariants as op
-use Rattle.joint_model.specs.declared.events.Reply.{Reply}
-use Rattle.joint_model.specs.declared.events.Reply.TheVariants as says
-use Rattle.joint_model.specs.declared.events.Entry.{Entry}
-use Rattle.joint_model.proofs.Deciding.{none_some, some-same}
-use Rattle.run_summary.specs.Tallies.{one, is_h}
+use Rattle.joint_machine.specs.declared.names.Var.{Var}
+use Rattle.joint_machine.specs.declared.names.StaticNo.{StaticNo}
+use Rattle.joint_machine.specs.declared.names.Kind.{Kind}
+use Rattle.joint_machine.specs.declared.names.Sort.{Sort}
+use Rattle.joint_machine.specs.declared.names.HNum.{HNum}
+use Rattle.joint_machine.specs.declared.names.Phase.TheVariants as at
+use Rattle.joint_machine.specs.declared.names.PhaseWord.TheVariants as word
+use Rattle.joint_machine.specs.declared.lines.Act.{Act}
+use Rattle.joint_machine.specs.declared.lines.Act.TheVariants as act
+use Rattle.joint_machine.specs.declared.events.Op.{Op}
+use Rattle.joint_machine.specs.declared.events.Op.TheVariants as op
+use Rattle.joint_machine.specs.declared.events.Reply.{Reply}
+use Rattle.joint_machine.specs.declared.events.Reply.TheVariants as says
+use Rattle.joint_machine.specs.declared.events.Entry.{Entry}
+use Rattle.joint_machine.proofs.Deciding.{none_some, some-same}
+use Rattle.run_summary.specs.Tallies.{is_h}
+use Rattle.run_summary.specs.Lines.{one}
 use Rattle.script_laws.specs.Holding.{Standing, AreEventsAfter, AreEvents}
 use Rattle.generated_laws.proofs.Totals.{Each, total}
 use Rattle.generated_laws.proofs.Own.{IsSimple, HasAnswer, IsLater, IsLaterEntry, IsOne, single, IsPair, pair, IsCycleOf, whole_cycle}

@@ -1,15 +1,15 @@
 -- What the entries of held lines count: line by line, thread by thread, and of all threads together.
 use Rattle.std.proofs.Common.{◌≡◌, ℕ, ◌+◌, List, [], ◌∷◌, refl, sym, ap, subst, ◌∙◌}
-use Rattle.joint_model.specs.declared.names.Thread.{Thread}
-use Rattle.joint_model.specs.declared.names.Phase.{Phase}
-use Rattle.joint_model.specs.declared.names.Phase.TheVariants as at
-use Rattle.joint_model.specs.declared.names.PhaseWord.TheVariants as word
-use Rattle.joint_model.specs.declared.lines.Act.{Act}
-use Rattle.joint_model.specs.declared.lines.Act.TheVariants as act
-use Rattle.joint_model.specs.declared.events.Entry.{Entry}
-use Rattle.joint_model.specs.Lines.{IsThread}
-use Rattle.joint_model.specs.Phases.{next_phase, phases_left, ArePhases}
-use Rattle.joint_model.specs.PeerReplay.{is_thread}
+use Rattle.joint_machine.specs.declared.names.Thread.{Thread}
+use Rattle.joint_machine.specs.declared.names.Phase.{Phase}
+use Rattle.joint_machine.specs.declared.names.Phase.TheVariants as at
+use Rattle.joint_machine.specs.declared.names.PhaseWord.TheVariants as word
+use Rattle.joint_machine.specs.declared.lines.Act.{Act}
+use Rattle.joint_machine.specs.declared.lines.Act.TheVariants as act
+use Rattle.joint_machine.specs.declared.events.Entry.{Entry}
+use Rattle.joint_machine.specs.Lines.{IsThread}
+use Rattle.joint_machine.specs.Phases.{next_phase, phases_left, ArePhases}
+use Rattle.joint_machine.specs.PeerReplay.{is_thread}
 use Rattle.script_laws.specs.Holding.{Standing, opening_standing, AreEvents, standing_after, phase_after, HoldsLines, HoldsPerThread, numbered_from, lines_of, entries_by}
 use Rattle.generated_laws.proofs.Totals.{Each, each-append, each-filter, total, total-append, all_threads, by_threads}
 use Rattle.generated_laws.proofs.Own.{IsSimple}

@@ -1,16 +1,16 @@
--- What is kept in the end: the objects of the statics' groups and their peers. In a state in which all threads have ended, nothing else is reached:
--- the slots name these alone, and what they lead to are these.
+-- What is kept in the end: the objects of the statics' groups and their peers. In a state in which all threads have
+-- ended, nothing else is reached: the slots name these alone, and what they lead to are these.
 use Rattle.std.proofs.Common.{◌≡◌, ℕ, zero, suc, ◌+◌, ◌/◌, ◌%◌, ◌-◌, ◌<◌, ◌≤◌, inl, inr, Bool, true, false, List, [], ◌∷◌, length, Option, Some, None, refl, sym, ap, subst, ◌∙◌, arith}
 use Rattle.std.specs.Prelude.{Contains, slice_get}
 use Rattle.std.proofs.lemmas.Option.{slice_get_within}
 use Rattle.std.proofs.lemmas.Bool.{cases_lt}
-use Rattle.joint_model.specs.Heaps.{IsLive, HasField, InSlot, slot, place, numbered_at, fields_of}
-use Rattle.joint_model.specs.Linked.{Linkage}
-use Rattle.joint_model.specs.Managed.{Managed, Holds, IsManagedRoot, ManagedEdge}
-use Rattle.joint_model.specs.Peers.{Peers, peer_of}
-use Rattle.joint_model.proofs.Deciding.{some-same}
-use Rattle.joint_model.proofs.Members.{Contains-here, Contains-there, Contains-nil, Contains-cons_cases, at-Contains, Contains-decided}
-use Rattle.joint_model.proofs.Numbered.{numbered-within, slot-named, slot-Contains}
+use Rattle.joint_machine.specs.Heaps.{IsLive, HasField, InSlot, slot, place, numbered_at, fields_of}
+use Rattle.joint_machine.specs.Linked.{Linkage}
+use Rattle.joint_machine.specs.Managed.{Managed, Holds, IsManagedRoot, ManagedEdge}
+use Rattle.joint_machine.specs.Peers.{Peers, peer_of}
+use Rattle.joint_machine.proofs.Deciding.{some-same}
+use Rattle.joint_machine.proofs.Members.{Contains-here, Contains-there, Contains-nil, Contains-cons_cases, at-Contains, Contains-decided}
+use Rattle.joint_machine.proofs.Numbered.{numbered-within, slot-named, slot-Contains}
 use Rattle.joint_laws.specs.LinkedInvariants.{IsRowOf, given_at}
 use Rattle.joint_laws.proofs.LinkedEntries.{Of}
 use Rattle.joint_laws.proofs.SparedWalks.{peer_of-row}

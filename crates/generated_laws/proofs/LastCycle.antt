@@ -2,35 +2,36 @@
 use Rattle.std.proofs.Common.{◌≡◌, ℕ, ◌+◌, false, List, [], ◌∷◌, ◌++◌, Option, Some, None, refl, sym, ap, subst, ◌∙◌, arith, append_assoc}
 use Rattle.std.specs.Prelude.{Contains}
 use Rattle.std.proofs.lemmas.List.{append-nil}
-use Rattle.joint_model.specs.declared.names.Thread.TheVariants.{M, P, C}
-use Rattle.joint_model.specs.declared.names.Thread.{Thread}
-use Rattle.joint_model.specs.declared.names.Cycle.{Cycle}
-use Rattle.joint_model.specs.declared.names.Phase.{Phase}
-use Rattle.joint_model.specs.declared.names.Phase.TheVariants as at
-use Rattle.joint_model.specs.declared.names.PhaseWord.{PhaseWord}
-use Rattle.joint_model.specs.declared.names.PhaseWord.TheVariants as word
-use Rattle.joint_model.specs.declared.lines.Act.TheVariants as act
-use Rattle.joint_model.specs.declared.events.Op.{Op}
-use Rattle.joint_model.specs.declared.events.Op.TheVariants as op
-use Rattle.joint_model.specs.declared.events.Reply.{Reply}
-use Rattle.joint_model.specs.declared.events.Reply.TheVariants as says
-use Rattle.joint_model.specs.declared.events.Entry.{Entry}
-use Rattle.joint_model.specs.Control.{control_after, Stand, OpenSnap, idle, snapped, contracted, weakening, marked, restoring, restored, DriverAllows, stand_after}
-use Rattle.joint_model.specs.Heaps.{Heap, IsLive, Answered}
-use Rattle.joint_model.specs.Linked.{Linkage, MayCome, AllMayCome, SideLawful, linkage_after, managed_after, replayed}
-use Rattle.joint_model.specs.Lines.{is_peer_event}
-use Rattle.joint_model.specs.Managed.{OpenCycle}
-use Rattle.joint_model.specs.ManagedReplay.{MayResolve}
-use Rattle.joint_model.specs.Peers.{peer_of}
-use Rattle.joint_model.specs.PeerReplay.{PeerReplay, TableRow, Marking, SweepAllows, IsSweep, strong_peers, renewed_on, restored_by, row_of, begun, swept}
-use Rattle.joint_model.specs.Phases.{IsEventOf, ArePhase, ArePhases, AreTimes, next_phase, phases_of, candidates_after}
-use Rattle.joint_model.specs.Told.{Told, Noted, handles_given, snap_of, contraction_of, sweep_of, resolution_of}
-use Rattle.joint_model.proofs.Deciding.{some-same, test-cases}
-use Rattle.joint_model.proofs.HeapLemmas.{IsLive-before, IsLive-spared}
-use Rattle.joint_model.proofs.Members.{Contains-nil}
+use Rattle.joint_machine.specs.declared.names.Thread.TheVariants.{M, P, C}
+use Rattle.joint_machine.specs.declared.names.Thread.{Thread}
+use Rattle.joint_machine.specs.declared.names.Cycle.{Cycle}
+use Rattle.joint_machine.specs.declared.names.Phase.{Phase}
+use Rattle.joint_machine.specs.declared.names.Phase.TheVariants as at
+use Rattle.joint_machine.specs.declared.names.PhaseWord.{PhaseWord}
+use Rattle.joint_machine.specs.declared.names.PhaseWord.TheVariants as word
+use Rattle.joint_machine.specs.declared.lines.Act.TheVariants as act
+use Rattle.joint_machine.specs.declared.events.Op.{Op}
+use Rattle.joint_machine.specs.declared.events.Op.TheVariants as op
+use Rattle.joint_machine.specs.declared.events.Reply.{Reply}
+use Rattle.joint_machine.specs.declared.events.Reply.TheVariants as says
+use Rattle.joint_machine.specs.declared.events.Entry.{Entry}
+use Rattle.joint_machine.specs.Control.{control_after, Stand, OpenSnap, idle, snapped, contracted, weakening, marked, restoring, restored, DriverAllows, stand_after}
+use Rattle.joint_machine.specs.Heaps.{Heap, IsLive, Answered}
+use Rattle.joint_machine.specs.Linked.{Linkage, MayCome, SideLawful, linkage_after, managed_after}
+use Rattle.joint_machine.specs.Replaying.{AllMayCome, replayed}
+use Rattle.joint_machine.specs.Lines.{is_peer_event}
+use Rattle.joint_machine.specs.Managed.{OpenCycle}
+use Rattle.joint_machine.specs.ManagedReplay.{MayResolve}
+use Rattle.joint_machine.specs.Peers.{peer_of}
+use Rattle.joint_machine.specs.PeerReplay.{PeerReplay, TableRow, Marking, SweepAllows, IsSweep, strong_peers, renewed_on, restored_by, row_of, begun, swept}
+use Rattle.joint_machine.specs.Phases.{IsEventOf, ArePhase, ArePhases, AreTimes, next_phase, phases_of, candidates_after}
+use Rattle.joint_machine.specs.Told.{Told, Noted, handles_given, snap_of, contraction_of, sweep_of, resolution_of}
+use Rattle.joint_machine.proofs.Deciding.{some-same, test-cases}
+use Rattle.joint_machine.proofs.HeapLemmas.{IsLive-before, IsLive-spared}
+use Rattle.joint_machine.proofs.Members.{Contains-nil}
 use Rattle.joint_laws.specs.LinkedInvariants.{IsDriverKept, given_at}
 use Rattle.joint_laws.proofs.LinkedEntries.{Of, entry, AreKept-entry}
-use Rattle.known_laws.specs.Growing.{entries}
+use Rattle.known_laws.specs.PastEntries.{entries}
 use Rattle.script_laws.specs.Holding.{Standing, AreEvents, AreWord, AreOnLine, AreLine}
 use Rattle.generated_laws.proofs.Totals.{Each}
 use Rattle.generated_laws.proofs.Own.{IsLater, IsLaterEntry, IsCycleOf, whole_cycle}

@@ -1,25 +1,26 @@
--- How many objects and handles are left where just what is kept is left: two rows, a peer and a handle for each filled static.
+-- How many objects and handles are left where just what is kept is left: two rows, a peer and a handle for each filled
+-- static.
 use Rattle.std.proofs.Common.{◌≡◌, ℕ, zero, suc, ◌*◌, ◌≤◌, inl, inr, true, not, List, [], ◌∷◌, ◌++◌, length, Option, Some, None, refl, sym, ap, subst, ◌∙◌, arith}
 use Rattle.std.specs.Prelude.{Contains, is_some}
 use Rattle.std.proofs.lemmas.List.Elements.{Contains-append_cases, Contains-append_left, Contains-append_right}
 use Rattle.std.proofs.lemmas.List.Sums.{sum_by-cons}
 use Rattle.std.proofs.lemmas.Bool.{cases_eq}
-use Rattle.joint_model.specs.Heaps.{Heap, IsLive, slot, numbered_at, numbered_set}
-use Rattle.joint_model.specs.Control.{Stand, idle}
-use Rattle.joint_model.specs.Linked.{Linkage}
-use Rattle.joint_model.specs.Managed.{Managed, OpenCycle, Holds, candidates_of}
-use Rattle.joint_model.specs.Peers.{Peers, Issued, Strength, strong, weak}
-use Rattle.joint_model.specs.PeerReplay.{TableRow}
-use Rattle.joint_model.specs.Told.{handles_given}
-use Rattle.joint_model.proofs.Deciding.{none_some, some-same}
-use Rattle.joint_model.proofs.HeapLemmas.{Contains-is_freed}
-use Rattle.joint_model.proofs.Members.{Contains-here, Contains-there, Contains-nil, Contains-cons_cases, Contains-decided}
-use Rattle.joint_model.proofs.Numbered.{numbered-within, numbered-made, numbered_set-same, numbered_set-other}
+use Rattle.joint_machine.specs.Heaps.{Heap, IsLive, slot, numbered_at, numbered_set}
+use Rattle.joint_machine.specs.Control.{Stand, idle}
+use Rattle.joint_machine.specs.Linked.{Linkage}
+use Rattle.joint_machine.specs.Managed.{Managed, OpenCycle, Holds, candidates_of}
+use Rattle.joint_machine.specs.Peers.{Peers, Issued, Strength, strong, weak}
+use Rattle.joint_machine.specs.PeerReplay.{TableRow}
+use Rattle.joint_machine.specs.Told.{handles_given}
+use Rattle.joint_machine.proofs.Deciding.{none_some, some-same}
+use Rattle.joint_machine.proofs.HeapLemmas.{Contains-is_freed}
+use Rattle.joint_machine.proofs.Members.{Contains-here, Contains-there, Contains-nil, Contains-cons_cases, Contains-decided}
+use Rattle.joint_machine.proofs.Numbered.{numbered-within, numbered-made, numbered_set-same, numbered_set-other}
 use Rattle.joint_laws.specs.LinkedInvariants.{given_at}
 use Rattle.joint_laws.specs.PeerInvariants.{IsTabled}
 use Rattle.joint_laws.proofs.LinkedEntries.{Of}
 use Rattle.joint_laws.proofs.PeerEntries.{peer_of-issued}
-use Rattle.run_summary.specs.Tallies.{one}
+use Rattle.run_summary.specs.Lines.{one}
 use Rattle.summary_laws.specs.States.{stands_in, others_up_to, unfreed, left_in}
 use Rattle.summary_laws.proofs.TableRows.{rows, rows-set}
 use Rattle.summary_laws.proofs.Unfreed.{AreFresh, put-all, outside}

@@ -1,33 +1,34 @@
--- The events of the managed threads of a generated script, one by one: what is shown of both sides is shown of them afterwards, by what the thread has then.
+-- The events of the managed threads of a generated script, one by one: what is shown of both sides is shown of them
+-- afterwards, by what the thread has then.
 use Rattle.std.proofs.Common.{◌≡◌, ◌≢◌, ℕ, ◌+◌, ◌<◌, ◌≤◌, ◌⊎◌, ◌||◌, inl, inr, Bool, true, false, List, [], ◌∷◌, ◌++◌, length, map, Option, Some, None, set, replicate, nat_le, nat_eq, refl, sym, ap, subst, ◌∙◌, arith, eq-eqb}
 use Rattle.std.specs.Prelude.{Contains, if◌then◌else◌, is_some}
 use Rattle.std.proofs.Math.ListN.{length-set}
 use Rattle.std.proofs.lemmas.Bool.{cases_eq}
-use Rattle.joint_model.specs.declared.names.Var.{Var}
-use Rattle.joint_model.specs.declared.names.StaticNo.{StaticNo}
-use Rattle.joint_model.specs.declared.names.Kind.{Kind}
-use Rattle.joint_model.specs.declared.names.Sort.{Sort}
-use Rattle.joint_model.specs.declared.names.MNum.{MNum}
-use Rattle.joint_model.specs.declared.names.PNum.{PNum}
-use Rattle.joint_model.specs.declared.names.HNum.{HNum}
-use Rattle.joint_model.specs.declared.names.Thread.TheVariants.{M}
-use Rattle.joint_model.specs.declared.lines.Act.TheVariants as act
-use Rattle.joint_model.specs.declared.events.Op.{Op}
-use Rattle.joint_model.specs.declared.events.Op.TheVariants as op
-use Rattle.joint_model.specs.declared.events.Reply.{Reply}
-use Rattle.joint_model.specs.declared.events.Reply.TheVariants as says
-use Rattle.joint_model.specs.declared.events.Entry.{Entry}
-use Rattle.joint_model.specs.Heaps.{Heap, IsLive, Answered, answer, slot, place, numbered_at, fields_of, field_set, field_stored, stored, with_field, with_var, with_static, is_full, next_number}
-use Rattle.joint_model.specs.Lines.{is_peer_event}
-use Rattle.joint_model.specs.Linked.{Linkage, SideLawful, managed_after, peer_after}
-use Rattle.joint_model.specs.Managed.{Managed, OpenCycle, IsManagedRoot, Holds, managed_name, with_row, made_new, adopted, handle_of, handle_reply, candidates_of}
-use Rattle.joint_model.specs.Peers.{Peers, Issued, held, strong, peer_of, with_peer, with_handle, next_handle, handles_full, issued_since, landed, pair_made}
-use Rattle.joint_model.specs.PeerReplay.{PeerReplay, TableRow, on_table, brings, brought_to, fresh_row, row_of, table_target}
-use Rattle.joint_model.specs.Told.{Answer, Told, handles_given}
-use Rattle.joint_model.proofs.Deciding.{none_some, neq-eqb, some-same}
-use Rattle.joint_model.proofs.HeapLemmas.{adopt_by-managed, adopt_by-reply, candidates_of-open, Holds-handle_of}
-use Rattle.joint_model.proofs.Members.{Contains-nil}
-use Rattle.joint_model.proofs.Numbered.{numbered-within, numbered-push_cases, numbered-push_old, numbered-push_new, slot-Contains}
+use Rattle.joint_machine.specs.declared.names.Var.{Var}
+use Rattle.joint_machine.specs.declared.names.StaticNo.{StaticNo}
+use Rattle.joint_machine.specs.declared.names.Kind.{Kind}
+use Rattle.joint_machine.specs.declared.names.Sort.{Sort}
+use Rattle.joint_machine.specs.declared.names.MNum.{MNum}
+use Rattle.joint_machine.specs.declared.names.PNum.{PNum}
+use Rattle.joint_machine.specs.declared.names.HNum.{HNum}
+use Rattle.joint_machine.specs.declared.names.Thread.TheVariants.{M}
+use Rattle.joint_machine.specs.declared.lines.Act.TheVariants as act
+use Rattle.joint_machine.specs.declared.events.Op.{Op}
+use Rattle.joint_machine.specs.declared.events.Op.TheVariants as op
+use Rattle.joint_machine.specs.declared.events.Reply.{Reply}
+use Rattle.joint_machine.specs.declared.events.Reply.TheVariants as says
+use Rattle.joint_machine.specs.declared.events.Entry.{Entry}
+use Rattle.joint_machine.specs.Heaps.{Heap, IsLive, Answered, answer, slot, place, numbered_at, fields_of, field_set, field_stored, stored, with_field, with_var, with_static, is_full, next_number}
+use Rattle.joint_machine.specs.Lines.{is_peer_event}
+use Rattle.joint_machine.specs.Linked.{Linkage, SideLawful, managed_after, peer_after}
+use Rattle.joint_machine.specs.Managed.{Managed, OpenCycle, IsManagedRoot, Holds, managed_name, with_row, made_new, adopted, handle_of, handle_reply, candidates_of}
+use Rattle.joint_machine.specs.Peers.{Peers, Issued, held, strong, peer_of, with_peer, with_handle, next_handle, handles_full, issued_since, landed, pair_made}
+use Rattle.joint_machine.specs.PeerReplay.{PeerReplay, TableRow, on_table, brings, brought_to, fresh_row, row_of, table_target}
+use Rattle.joint_machine.specs.Told.{Answer, Told, handles_given}
+use Rattle.joint_machine.proofs.Deciding.{none_some, neq-eqb, some-same}
+use Rattle.joint_machine.proofs.HeapLemmas.{adopt_by-managed, adopt_by-reply, candidates_of-open, Holds-handle_of}
+use Rattle.joint_machine.proofs.Members.{Contains-nil}
+use Rattle.joint_machine.proofs.Numbered.{numbered-within, numbered-push_cases, numbered-push_old, numbered-push_new, slot-Contains}
 use Rattle.joint_laws.specs.LinkedInvariants.{given_at}
 use Rattle.joint_laws.specs.PeerInvariants.{IsTabled}
 use Rattle.joint_laws.proofs.LinkedEntries.{Of, entry}
@@ -54,8 +55,8 @@ part-same f minds u m e k = elim (cases_eq k u) [
   | inr n ↦ ap f (mind-other minds u m k n)
 ]
 
--- each handle of the table is held by a row, or in some thread's hand, or a restore gave it and no row took it yet; a freed row's peer is freed; and a
--- group's bridge holds a handle on the group's peer
+-- each handle of the table is held by a row, or in some thread's hand, or a restore gave it and no row took it yet; a
+-- freed row's peer is freed; and a group's bridge holds a handle on the group's peer
 pub record AreHeld (m : Managed) (p : PeerReplay) (answers : List Answer) (minds : ℕ → Mind) (groups : List (Option Group)) : Type 0 where
   pub owned : (n : ℕ) (row : TableRow) → IsTabled p.table n row → ((x : ℕ) × (numbered_at m.held x ≡ Some (Some n))) ⊎ (((t : ℕ) × ((minds t).hand ≡ Some n)) ⊎ Contains (handles_given answers) n)
   pub freed : (x n : ℕ) → numbered_at m.held x ≡ Some (Some n) → Contains m.heap.freed x → (q : ℕ) × (peer_of p.peers.issued n ≡ Some q) × Contains p.peers.heap.freed q

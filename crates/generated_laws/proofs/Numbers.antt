@@ -1,19 +1,21 @@
 -- What a run of a generated script opens and makes: the sums over its entries are those over its lines.
 use Rattle.std.proofs.Common.{◌≡◌, ℕ, ◌+◌, ◌*◌, ◌/◌, ◌≤◌, List, [], ◌∷◌, length, refl, sym, ap, subst, ◌∙◌, arith}
-use Rattle.joint_model.specs.declared.names.Thread.{Thread}
-use Rattle.joint_model.specs.declared.names.PhaseWord.TheVariants as word
-use Rattle.joint_model.specs.declared.lines.Act.{Act}
-use Rattle.joint_model.specs.declared.lines.Act.TheVariants as act
-use Rattle.joint_model.specs.declared.events.Op.{Op}
-use Rattle.joint_model.specs.declared.events.Reply.{Reply}
-use Rattle.joint_model.specs.declared.events.Entry.{Entry}
-use Rattle.joint_model.specs.Histories.{Finished}
+use Rattle.joint_machine.specs.declared.names.Thread.{Thread}
+use Rattle.joint_machine.specs.declared.names.PhaseWord.TheVariants as word
+use Rattle.joint_machine.specs.declared.lines.Act.{Act}
+use Rattle.joint_machine.specs.declared.lines.Act.TheVariants as act
+use Rattle.joint_machine.specs.declared.events.Op.{Op}
+use Rattle.joint_machine.specs.declared.events.Reply.{Reply}
+use Rattle.joint_machine.specs.declared.events.Entry.{Entry}
+use Rattle.joint_machine.specs.Histories.{Finished}
 use Rattle.run_summary.specs.declared.tallies.Objects.{Objects}
-use Rattle.run_summary.specs.Tallies.{one, makes_managed, makes_peer, makes_handle, opens_cycle, tally_of, nothing_yet}
+use Rattle.run_summary.specs.Tallies.{makes_managed, makes_peer, makes_handle, opens_cycle, tally_of, nothing_yet}
+use Rattle.run_summary.specs.Lines.{one}
 use Rattle.script_generator.specs.Generated.{generated}
 use Rattle.script_generator.proofs.Counts.{generated_length, most_lines}
 use Rattle.run_summary.specs.declared.tallies.Tally.{Tally}
-use Rattle.generated_laws.specs.Counts.{made_by_families, IsGeneratedRun}
+use Rattle.generated_laws.specs.Counts.{made_by_families}
+use Rattle.generated_laws.specs.Laws.{IsGeneratedRun}
 use Rattle.generated_laws.proofs.Totals.{Each, each-append, total, total-append}
 use Rattle.generated_laws.proofs.Readless.{callers, whole, exact}
 use Rattle.generated_laws.proofs.Own.{HasAnswer, Measures, own-total}

@@ -1,16 +1,16 @@
 -- Before the first entry nothing is there, and nothing in any thread's mind.
 use Rattle.std.proofs.Common.{◌≡◌, ℕ, zero, suc, ◌+◌, inr, Bool, true, false, List, [], Option, Some, None, replicate, refl, sym, ap, subst, ◌∙◌, arith}
 use Rattle.std.specs.Prelude.{is_some}
-use Rattle.joint_model.specs.declared.names.Thread.TheVariants.{M, P, C}
-use Rattle.joint_model.specs.declared.events.Entry.{Entry}
-use Rattle.joint_model.specs.Heaps.{slot, place}
-use Rattle.joint_model.specs.Linked.{opening_linkage}
-use Rattle.joint_model.specs.Managed.{opening_managed}
-use Rattle.joint_model.specs.Peers.{opening_peers}
-use Rattle.joint_model.specs.PeerReplay.{opening_peer_replay}
-use Rattle.joint_model.proofs.Deciding.{none_some}
-use Rattle.joint_model.proofs.Members.{Contains-nil}
-use Rattle.joint_model.proofs.Numbered.{replicate-none, numbered-within}
+use Rattle.joint_machine.specs.declared.names.Thread.TheVariants.{M, P, C}
+use Rattle.joint_machine.specs.declared.events.Entry.{Entry}
+use Rattle.joint_machine.specs.Heaps.{slot, place}
+use Rattle.joint_machine.specs.Linked.{opening_linkage}
+use Rattle.joint_machine.specs.Managed.{opening_managed}
+use Rattle.joint_machine.specs.Peers.{opening_peers}
+use Rattle.joint_machine.specs.PeerReplay.{opening_peer_replay}
+use Rattle.joint_machine.proofs.Deciding.{none_some}
+use Rattle.joint_machine.proofs.Members.{Contains-nil}
+use Rattle.joint_machine.proofs.Numbered.{replicate-none, numbered-within}
 use Rattle.script_laws.specs.Holding.{entries_by}
 use Rattle.generated_laws.proofs.Totals.{Each}
 use Rattle.generated_laws.proofs.Pictures.{Seen, at, no_slots, Mind, empty_mind, Going}

@@ -1,19 +1,19 @@
--- The peers, as the threads that made them know them: which variables are empty; that the peer of a handle stands in no variable and has nothing in a
--- field; and that each filled static has its group's peer.
+-- The peers, as the threads that made them know them: which variables are empty; that the peer of a handle stands in no
+-- variable and has nothing in a field; and that each filled static has its group's peer.
 use Rattle.std.proofs.Common.{◌≡◌, ◌≢◌, ℕ, zero, suc, ◌+◌, ◌<◌, ◌≤◌, ◌⊎◌, inl, inr, Bool, true, false, List, [], ◌∷◌, ◌++◌, length, Option, Some, None, set, replicate, nat_le, refl, sym, ap, subst, ◌∙◌, arith, length-append}
 use Rattle.std.specs.Prelude.{Contains, if◌then◌else◌}
 use Rattle.std.proofs.Math.ListN.{length-set}
 use Rattle.std.proofs.lemmas.Bool.{cases_eq}
-use Rattle.joint_model.specs.declared.names.Sort.{Sort}
-use Rattle.joint_model.specs.declared.lines.Act.TheVariants as act
-use Rattle.joint_model.specs.declared.events.Op.{Op}
-use Rattle.joint_model.specs.declared.events.Op.TheVariants as op
-use Rattle.joint_model.specs.declared.events.Entry.{Entry}
-use Rattle.joint_model.specs.declared.events.Reply.TheVariants as says
-use Rattle.joint_model.specs.Heaps.{Heap, Answered, answer, slot, place, numbered_at, fields_of, field_set, field_stored, with_field, with_var, with_static, with_object, next_number}
-use Rattle.joint_model.specs.Peers.{Peers, Issued, held, strong, peer_of, with_peer, with_handle}
-use Rattle.joint_model.proofs.Deciding.{none_some, some-same, test-cases}
-use Rattle.joint_model.proofs.Numbered.{numbered-within, numbered-push_cases, numbered-push_old}
+use Rattle.joint_machine.specs.declared.names.Sort.{Sort}
+use Rattle.joint_machine.specs.declared.lines.Act.TheVariants as act
+use Rattle.joint_machine.specs.declared.events.Op.{Op}
+use Rattle.joint_machine.specs.declared.events.Op.TheVariants as op
+use Rattle.joint_machine.specs.declared.events.Entry.{Entry}
+use Rattle.joint_machine.specs.declared.events.Reply.TheVariants as says
+use Rattle.joint_machine.specs.Heaps.{Heap, Answered, answer, slot, place, numbered_at, fields_of, field_set, field_stored, with_field, with_var, with_static, with_object, next_number}
+use Rattle.joint_machine.specs.Peers.{Peers, Issued, held, strong, peer_of, with_peer, with_handle}
+use Rattle.joint_machine.proofs.Deciding.{none_some, some-same, test-cases}
+use Rattle.joint_machine.proofs.Numbered.{numbered-within, numbered-push_cases, numbered-push_old}
 use Rattle.joint_laws.specs.PeerInvariants.{IsIssued}
 use Rattle.joint_laws.proofs.Fields.{with_field-other, with_field-length, with_object-old, with_object-new}
 use Rattle.generated_laws.proofs.Showing.{Group, slot-set_here, slot-set_other, one-place}

@@ -1,13 +1,13 @@
--- What each managed thread of a generated script has in its variables, as its own entries tell it: of each object its number, its fields and the
--- handle that it holds. Other threads change none of it.
+-- What each managed thread of a generated script has in its variables, as its own entries tell it: of each object its
+-- number, its fields and the handle that it holds. Other threads change none of it.
 use Rattle.std.proofs.Common.{◌≡◌, ◌≢◌, ℕ, zero, suc, ◌<◌, ◌⊎◌, Bool, true, false, List, [], ◌∷◌, Option, Some, None, replicate, refl, arith}
-use Rattle.joint_model.specs.declared.names.HNum.{HNum}
-use Rattle.joint_model.specs.declared.lines.Act.TheVariants as act
-use Rattle.joint_model.specs.declared.events.Op.{Op}
-use Rattle.joint_model.specs.declared.events.Op.TheVariants as op
-use Rattle.joint_model.specs.declared.events.Reply.{Reply}
-use Rattle.joint_model.specs.declared.events.Reply.TheVariants as says
-use Rattle.joint_model.specs.declared.events.Entry.{Entry}
+use Rattle.joint_machine.specs.declared.names.HNum.{HNum}
+use Rattle.joint_machine.specs.declared.lines.Act.TheVariants as act
+use Rattle.joint_machine.specs.declared.events.Op.{Op}
+use Rattle.joint_machine.specs.declared.events.Op.TheVariants as op
+use Rattle.joint_machine.specs.declared.events.Reply.{Reply}
+use Rattle.joint_machine.specs.declared.events.Reply.TheVariants as says
+use Rattle.joint_machine.specs.declared.events.Entry.{Entry}
 
 -- an object as its thread knows it
 pub record Seen : Type 0 where
@@ -36,7 +36,8 @@ put s (suc zero) x = record s { b = x }
 put s (suc (suc zero)) x = record s { c = x }
 put s (suc (suc (suc n))) x = s
 
--- what a thread has: its variables, a handle that it has made and not adopted, and whether what is in its variables stands in a static already
+-- what a thread has: its variables, a handle that it has made and not adopted, and whether what is in its variables
+-- stands in a static already
 pub record Mind : Type 0 where
   pub slots : Slots
   pub hand : Option ℕ

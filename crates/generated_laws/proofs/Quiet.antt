@@ -2,28 +2,28 @@
 use Rattle.std.proofs.Common.{◌≡◌, ◌≢◌, ℕ, zero, suc, ◌≤◌, ◌⊎◌, Bool, true, false, List, [], ◌∷◌, ◌++◌, length, Option, Some, None, nat_eq, refl, sym, ap, subst, ◌∙◌, arith, eq-eqb, inl, inr}
 use Rattle.std.specs.Prelude.{if◌then◌else◌}
 use Rattle.std.proofs.lemmas.Bool.{cases_eq}
-use Rattle.joint_model.specs.declared.names.Cycle.{Cycle}
-use Rattle.joint_model.specs.declared.names.HNum.{HNum}
-use Rattle.joint_model.specs.declared.names.Sort.TheVariants.{Framework}
-use Rattle.joint_model.specs.declared.names.Var.{Var}
-use Rattle.joint_model.specs.declared.names.Thread.TheVariants.{P, C}
-use Rattle.joint_model.specs.declared.lines.Act.TheVariants as act
-use Rattle.joint_model.specs.declared.events.Op.{Op}
-use Rattle.joint_model.specs.declared.events.Op.TheVariants as op
-use Rattle.joint_model.specs.declared.events.Reply.{Reply}
-use Rattle.joint_model.specs.declared.events.Reply.TheVariants as says
-use Rattle.joint_model.specs.Components.{End}
-use Rattle.joint_model.specs.Control.{answer_in}
-use Rattle.joint_model.specs.Heaps.{Answered, answer, numbered_at, numbered_set, place, is_full, next_number, with_var, field_set}
-use Rattle.joint_model.specs.Lines.{is_peer_event}
-use Rattle.joint_model.specs.Linked.{Linkage, SideLawful, managed_after, peer_after}
-use Rattle.joint_model.specs.Managed.{Managed, place_or_none}
-use Rattle.joint_model.specs.ManagedReplay.{ManagedReplay, managed_answer}
-use Rattle.joint_model.specs.Peers.{Peers, Issued, held, strong, weak, next_handle, peer_made, peer_name, peer_of, with_peer}
-use Rattle.joint_model.specs.PeerReplay.{PeerReplay, PeerAllows, TableRow, Marking, begun, fresh_row, swept, renewed_on, restored_by, row_of, mirrored, peer_answer, with_weakened, withdrawn}
-use Rattle.joint_model.specs.Told.{Told, nothing, said_alive, snap_of, contraction_of, references_of, sweep_of}
-use Rattle.joint_model.proofs.Deciding.{neq-eqb, none_some, test-cases}
-use Rattle.joint_model.proofs.Numbered.{numbered-push_cases, numbered_set-length, slot-named}
+use Rattle.joint_machine.specs.declared.names.Cycle.{Cycle}
+use Rattle.joint_machine.specs.declared.names.HNum.{HNum}
+use Rattle.joint_machine.specs.declared.names.Sort.TheVariants.{Framework}
+use Rattle.joint_machine.specs.declared.names.Var.{Var}
+use Rattle.joint_machine.specs.declared.names.Thread.TheVariants.{P, C}
+use Rattle.joint_machine.specs.declared.lines.Act.TheVariants as act
+use Rattle.joint_machine.specs.declared.events.Op.{Op}
+use Rattle.joint_machine.specs.declared.events.Op.TheVariants as op
+use Rattle.joint_machine.specs.declared.events.Reply.{Reply}
+use Rattle.joint_machine.specs.declared.events.Reply.TheVariants as says
+use Rattle.joint_machine.specs.Components.{End}
+use Rattle.joint_machine.specs.Control.{answer_in}
+use Rattle.joint_machine.specs.Heaps.{Answered, answer, numbered_at, numbered_set, place, is_full, next_number, with_var, field_set}
+use Rattle.joint_machine.specs.Lines.{is_peer_event}
+use Rattle.joint_machine.specs.Linked.{Linkage, SideLawful, managed_after, peer_after}
+use Rattle.joint_machine.specs.Managed.{Managed, place_or_none}
+use Rattle.joint_machine.specs.ManagedReplay.{ManagedReplay, managed_answer}
+use Rattle.joint_machine.specs.Peers.{Peers, Issued, held, strong, weak, next_handle, peer_made, peer_name, peer_of, with_peer}
+use Rattle.joint_machine.specs.PeerReplay.{PeerReplay, PeerAllows, TableRow, Marking, begun, fresh_row, swept, renewed_on, restored_by, row_of, mirrored, peer_answer, with_weakened, withdrawn}
+use Rattle.joint_machine.specs.Told.{Told, nothing, said_alive, snap_of, contraction_of, references_of, sweep_of}
+use Rattle.joint_machine.proofs.Deciding.{neq-eqb, none_some, test-cases}
+use Rattle.joint_machine.proofs.Numbered.{numbered-push_cases, numbered_set-length, slot-named}
 use Rattle.joint_laws.specs.PeerInvariants.{IsPeerKept, IsTabled}
 use Rattle.joint_laws.proofs.HandleKeeping.{tabled-set_cases, tabled-swept}
 use Rattle.joint_laws.proofs.HeapMoves.{field_set-moved}

@@ -1,32 +1,33 @@
--- A run of a generated script has no read: no line of it is one. So its history is a lawful list in which reads are events as all others are, however its threads race.
+-- A run of a generated script has no read: no line of it is one. So its history is a lawful list in which reads are
+-- events as all others are, however its threads race.
 use Rattle.std.proofs.Common.{◌≡◌, ℕ, ◌≤◌, Bool, true, false, List, [], ◌∷◌, ◌++◌, Option, Some, None, refl, ap, subst, ◌∙◌, arith}
 use Rattle.std.specs.Prelude.{All}
 use Rattle.std.proofs.lemmas.List.Elements.{All-cons, All-nil}
-use Rattle.joint_model.specs.declared.names.Thread.{Thread}
-use Rattle.joint_model.specs.declared.names.Phase.TheVariants as at
-use Rattle.joint_model.specs.declared.names.PhaseWord.TheVariants as word
-use Rattle.joint_model.specs.declared.lines.Act.{Act}
-use Rattle.joint_model.specs.declared.lines.Act.TheVariants as act
-use Rattle.joint_model.specs.declared.events.Op.{Op}
-use Rattle.joint_model.specs.declared.events.Op.TheVariants as op
-use Rattle.joint_model.specs.declared.events.Reply.{Reply}
-use Rattle.joint_model.specs.declared.events.Reply.TheVariants as says
-use Rattle.joint_model.specs.declared.events.Entry.{Entry}
-use Rattle.joint_model.specs.Histories.{Finished}
-use Rattle.joint_model.specs.Lines.{IsThread, is_read}
-use Rattle.joint_model.specs.Linked.{Linkage, opening_linkage}
-use Rattle.joint_model.specs.LinkedHistories.{managed_end}
-use Rattle.joint_model.specs.Readers.{AllMayComeReading, entry_after}
-use Rattle.joint_model.specs.Told.{Noted}
+use Rattle.joint_machine.specs.declared.names.Thread.{Thread}
+use Rattle.joint_machine.specs.declared.names.Phase.TheVariants as at
+use Rattle.joint_machine.specs.declared.names.PhaseWord.TheVariants as word
+use Rattle.joint_machine.specs.declared.lines.Act.{Act}
+use Rattle.joint_machine.specs.declared.lines.Act.TheVariants as act
+use Rattle.joint_machine.specs.declared.events.Op.{Op}
+use Rattle.joint_machine.specs.declared.events.Op.TheVariants as op
+use Rattle.joint_machine.specs.declared.events.Reply.{Reply}
+use Rattle.joint_machine.specs.declared.events.Reply.TheVariants as says
+use Rattle.joint_machine.specs.declared.events.Entry.{Entry}
+use Rattle.joint_machine.specs.Histories.{Finished}
+use Rattle.joint_machine.specs.Lines.{IsThread, is_read}
+use Rattle.joint_machine.specs.Linked.{Linkage, opening_linkage}
+use Rattle.joint_machine.specs.LinkedHistories.{managed_end}
+use Rattle.joint_machine.specs.Readers.{AllMayComeReading, entry_after}
+use Rattle.joint_machine.specs.Told.{Noted}
 use Rattle.joint_laws.specs.ReadingLaws.{IsExactList}
 use Rattle.joint_laws.proofs.ExactReads.{exact_readings_are_lawful, readless_is_exact}
 use Rattle.joint_laws.proofs.FittingLists.{event-of}
-use Rattle.known_laws.specs.Growing.{entries}
+use Rattle.known_laws.specs.PastEntries.{entries}
 use Rattle.known_laws.proofs.Lists.{event-thread}
-use Rattle.run_summary.specs.Tallies.{one}
+use Rattle.run_summary.specs.Lines.{one}
 use Rattle.script_generator.specs.Generated.{generated}
 use Rattle.script_laws.specs.Holding.{Standing, next_event, AreEventsAfter, AreEvents}
-use Rattle.generated_laws.specs.Counts.{IsGeneratedRun}
+use Rattle.generated_laws.specs.Laws.{IsGeneratedRun}
 use Rattle.generated_laws.proofs.Totals.{Each, each-append, total, total-append}
 use Rattle.generated_laws.proofs.Own.{IsSimple, IsLater, IsLaterEntry, IsCycleOf, whole_cycle}
 use Rattle.generated_laws.proofs.Held.{script-total}

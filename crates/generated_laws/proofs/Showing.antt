@@ -1,14 +1,14 @@
--- The managed objects, as the threads that made them know them: each variable names what its thread has there, no two name the same, and each filled
--- static names a group of two objects that no other static's group has.
+-- The managed objects, as the threads that made them know them: each variable names what its thread has there, no two
+-- name the same, and each filled static names a group of two objects that no other static's group has.
 use Rattle.std.proofs.Common.{◌≡◌, ◌≢◌, ℕ, ◌+◌, ◌<◌, ◌≤◌, ◌⊎◌, inl, inr, Bool, true, false, List, [], ◌∷◌, ◌++◌, length, Option, Some, None, set, replicate, refl, sym, ap, subst, ◌∙◌, arith, length-append}
 use Rattle.std.specs.Prelude.{Contains}
 use Rattle.std.proofs.Math.ListN.{length-set}
 use Rattle.std.proofs.lemmas.Bool.{cases_eq}
-use Rattle.joint_model.specs.declared.names.Kind.{Kind}
-use Rattle.joint_model.specs.Heaps.{slot, place, numbered_at, fields_of, with_field, with_var, next_number}
-use Rattle.joint_model.specs.Managed.{Managed, with_row}
-use Rattle.joint_model.proofs.Deciding.{some-same}
-use Rattle.joint_model.proofs.Numbered.{set-at_here, set-at_other, numbered-within, numbered-push_old, numbered-push_new, numbered_set-here, numbered_set-length}
+use Rattle.joint_machine.specs.declared.names.Kind.{Kind}
+use Rattle.joint_machine.specs.Heaps.{slot, place, numbered_at, fields_of, with_field, with_var, next_number}
+use Rattle.joint_machine.specs.Managed.{Managed, with_row}
+use Rattle.joint_machine.proofs.Deciding.{some-same}
+use Rattle.joint_machine.proofs.Numbered.{set-at_here, set-at_other, numbered-within, numbered-push_old, numbered-push_new, numbered_set-here, numbered_set-length}
 use Rattle.joint_laws.proofs.Fields.{with_field-other, with_object-old}
 use Rattle.generated_laws.proofs.Pictures.{Seen, seen, at, put, Mind, at-put_same, at-put_other}
 
@@ -16,7 +16,8 @@ abbrev pub number_of : Option Seen → Option ℕ
 number_of None = None
 number_of (Some x) = Some x.number
 
--- two objects of which one has the other in its only field, and one holds a handle on that peer; it is turned where that is the one with the field
+-- two objects of which one has the other in its only field, and one holds a handle on that peer; it is turned where
+-- that is the one with the field
 pub record Group : Type 0 where
   pub bridge : ℕ
   pub plain : ℕ
@@ -402,7 +403,8 @@ still-shown m k minds next groups w f v c h p slots stored =
       fresh = λ u a z i g e e' s n. w.fresh u a z i g (sym (stored u) ∙ e) (old u a z e') s n;
     }
 
--- kept candidates came to hold other handles, and nothing else that is shown changed: what variables name and what holds none are no such candidates
+-- kept candidates came to hold other handles, and nothing else that is shown changed: what variables name and what
+-- holds none are no such candidates
 pub renewed-shown : (m k : Managed) (minds : ℕ → Mind) (groups : List (Option Group)) → IsShown m minds groups → k.heap.fields ≡ m.heap.fields → k.heap.vars ≡ m.heap.vars → k.heap.statics ≡ m.heap.statics → k.pins ≡ m.pins → length k.held ≡ length m.held
     → ((t v : ℕ) (x : Seen) → at (minds t).slots v ≡ Some x → numbered_at k.held x.number ≡ numbered_at m.held x.number)
     → ((i : ℕ) (g : Group) → slot groups i ≡ Some g → ((h : ℕ) × (numbered_at k.held g.bridge ≡ Some (Some h))) × (numbered_at k.held g.plain ≡ Some None)) → IsShown k minds groups

@@ -1,10 +1,10 @@
 -- Sums over lists, and that a sum over all is the sum over the threads of what is each thread's.
 use Rattle.std.proofs.Common.{◌≡◌, ℕ, zero, suc, ◌+◌, ◌≤◌, Bool, true, false, List, [], ◌∷◌, ◌++◌, refl, arith}
 use Rattle.std.specs.Prelude.{filter, if◌then◌else◌}
-use Rattle.joint_model.specs.declared.names.Thread.{Thread}
-use Rattle.joint_model.specs.declared.names.Thread.TheVariants.{M, P, C}
-use Rattle.joint_model.specs.Lines.{IsThread}
-use Rattle.joint_model.specs.PeerReplay.{is_thread}
+use Rattle.joint_machine.specs.declared.names.Thread.{Thread}
+use Rattle.joint_machine.specs.declared.names.Thread.TheVariants.{M, P, C}
+use Rattle.joint_machine.specs.Lines.{IsThread}
+use Rattle.joint_machine.specs.PeerReplay.{is_thread}
 
 -- each of a list
 abbrev pub Each : {X : Type 0} → (X → Type 0) → List X → Type 0

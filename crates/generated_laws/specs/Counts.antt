@@ -1,25 +1,15 @@
 -- The numbers of a generated script's run, as functions of the seed and the size.
-use Rattle.std.specs.Prelude.{◌≡◌, ℕ, ◌+◌, ◌-◌, ◌*◌, ◌/◌, ◌≤◌, min, List, ◌++◌}
-use Rattle.joint_model.specs.declared.names.Phase.TheVariants as at
-use Rattle.joint_model.specs.declared.names.PhaseWord.TheVariants as word
-use Rattle.joint_model.specs.declared.names.Thread.TheVariants.{C}
-use Rattle.joint_model.specs.declared.lines.Act.TheVariants as act
-use Rattle.joint_model.specs.declared.events.Entry.{Entry}
-use Rattle.joint_model.specs.Histories.{Finished}
-use Rattle.joint_model.specs.LinkedHistories.{IsLinkedBy}
-use Rattle.joint_model.specs.Told.{Noted}
+-- Believed: the clauses of the program's top call rest on all that stands here.
+use Rattle.std.specs.Prelude.{ℕ, ◌+◌, ◌-◌, ◌*◌, ◌/◌, min}
 use Rattle.run_summary.specs.declared.tallies.Objects.{Objects}
 use Rattle.run_summary.specs.declared.tallies.Tally.{Tally}
-use Rattle.run_summary.specs.Tallies.{tally_of}
-use Rattle.script_generator.specs.Generated.{generated}
-use Rattle.script_laws.specs.Holding.{Standing, AreLine, HoldsPerThread}
 
 -- how many of so many families, from that of the seed on, have a shape
 abbrev pub families_of : ℕ → ℕ → ℕ → ℕ
 families_of shape seed size = (seed + size + 3 - shape) / 4 - (seed + 3 - shape) / 4
 
--- what the families of a script make: a circle of bridges three objects, two of them with a peer and a handle; a cached leaf and a passed bridge two
--- objects, one of them with a peer and a handle; a circle of peers two peers
+-- what the families of a script make: a circle of bridges three objects, two of them with a peer and a handle; a cached
+-- leaf and a passed bridge two objects, one of them with a peer and a handle; a circle of peers two peers
 abbrev pub made_by_families : ℕ → ℕ → Objects
 made_by_families seed size = record {
   managed = 3 * families_of 0 seed size + 2 * families_of 1 seed size + 2 * families_of 2 seed size;
@@ -27,21 +17,9 @@ made_by_families seed size = record {
   handles = 2 * families_of 0 seed size + families_of 1 seed size + families_of 2 seed size;
 }
 
--- the entries of a generated script's lines, thread by thread, and behind them those of one cycle more, which an idle driver begins
-pub record IsGeneratedRun (seed size : ℕ) (h : Finished) : Type 0 where
-  pub noted : List Noted
-  pub linked : IsLinkedBy h noted
-  pub before : List Entry
-  pub cycle : List Entry
-  pub all : h.entries ≡ before ++ cycle
-  pub lines : HoldsPerThread (generated seed size) before
-  pub standing : Standing
-  pub idle : standing.phase ≡ at.Idle
-  pub number : ℕ
-  pub line : AreLine standing number (C, act.PhaseLine word.Cycle) cycle
-
--- what is left of it: the groups of the filled statics, each two objects, a peer and a handle. The sixteen statics come in turn, so that of the first
--- sixteen families each has one of its own, and the cached leaves fill those of the managed heap, the passed bridges those of the peer heap
+-- what is left of it: the groups of the filled statics, each two objects, a peer and a handle. The sixteen statics come
+-- in turn, so that of the first sixteen families each has one of its own, and the cached leaves fill those of the
+-- managed heap, the passed bridges those of the peer heap
 abbrev pub filled_statics : ℕ → ℕ → ℕ
 filled_statics seed size = families_of 1 seed (min size 16) + families_of 2 seed (min size 16)
 
@@ -51,7 +29,3 @@ left_by_families seed size = record { managed = 2 * filled_statics seed size; pe
 -- the tally of such a run: a function of the seed and the size
 abbrev pub generated_tally : ℕ → ℕ → Tally
 generated_tally seed size = record { cycles = size / 100 + 1; made = made_by_families seed size; left = left_by_families seed size }
-
--- so it is, in whatever order threads came
-abbrev pub GeneratedRunsAreAlike : Type 0
-GeneratedRunsAreAlike = (seed size : ℕ) (h : Finished) → size ≤ 2800 → IsGeneratedRun seed size h → tally_of h.entries ≡ generated_tally seed size

@@ -4,9 +4,9 @@
 use Rattle.std.proofs.Common.{◌≡◌, ◌≢◌, ℕ, ◌<◌, ◌≤◌, eqb, Bool, true, false, List, [], ◌∷◌, ◌++◌, zero, suc, slice_get, None, Some, refl, sym, ap, ◌∙◌, eq-eqb, arith}
 use Rattle.std.proofs.lemmas.Option.{none-some, same_Some}
 use Rattle.std.proofs.lemmas.Bool.Decides.{nat_tests}
-use Rattle.joint_model.specs.declared.names.HNum.{HNum}
-use Rattle.joint_model.specs.declared.names.PNum.{PNum}
-use Rattle.joint_model.proofs.Deciding.{neq-eqb}
+use Rattle.joint_machine.specs.declared.names.HNum.{HNum}
+use Rattle.joint_machine.specs.declared.names.PNum.{PNum}
+use Rattle.joint_machine.proofs.Deciding.{neq-eqb}
 use Rattle.global_handles.specs.declared.HandleRow.{HandleRow}
 use Rattle.global_handles.specs.declared.Hold.TheVariants.{Held}
 use Rattle.global_handles.specs.declared.Strength.TheVariants.{Strong}
@@ -107,7 +107,8 @@ pub row_in-renewed_other : (rows : List HandleRow) (h g other : HNum) (p : PNum)
 row_in-renewed_other rows h g other p apart apart' target =
     rw target (row_in-push_other (without h rows) (fresh_row g p Held Strong) other apart' ∙ row_in-without_other rows h other apart)
 
--- what a pass over all rows reads at a place is found under its number, and each row that is found is read at some place
+-- what a pass over all rows reads at a place is found under its number, and each row that is found is read at some
+-- place
 RisesBetween-nth : (low high : ℕ) (rows : List HandleRow) (i : ℕ) (r : HandleRow) → RisesBetween low high rows → slice_get rows i ≡ Some r → low < r.number.0
 RisesBetween-nth low high [] i r rises at = absurd (none-some r at)
 RisesBetween-nth low high (x ∷ rs) zero r rises at = rw (← same_Some x r at) rises.0

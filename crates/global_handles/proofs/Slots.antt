@@ -1,7 +1,7 @@
--- A name leads to the row of its place while that row has its number. The numbers of the names rise, so those of the rows do; a
--- look-up by number finds one name, and reads one slot. To write the row of the place to which that name leads is to change
--- or to remove one row: the other names of the place have other numbers, and the names of the number are one. Each fact is
--- first one of a single name, and then by an induction over the names.
+-- A name leads to the row of its place while that row has its number. The numbers of the names rise, so those of the
+-- rows do; a look-up by number finds one name, and reads one slot. To write the row of the place to which that name
+-- leads is to change or to remove one row: the other names of the place have other numbers, and the names of the number
+-- are one. Each fact is first one of a single name, and then by an induction over the names.
 use Rattle.std.proofs.Common.{◌≡◌, ◌≢◌, ℕ, ◌+◌, ◌<◌, ◌≤◌, zero, suc, cond, eqb, Bool, true, false, List, [], ◌∷◌, ◌++◌, length, map, filter, slice_get, Option, None, Some, refl, sym, ap, ◌∙◌, inl, inr, eq-eqb, arith}
 use Rattle.std.specs.Prelude.{⊤}
 use Rattle.std.specs.Option.{option_map, option_and_then}
@@ -9,9 +9,9 @@ use Rattle.std.proofs.lemmas.List.{length_push}
 use Rattle.std.proofs.lemmas.Option.{none-some, same_Some, slice_get_within}
 use Rattle.std.proofs.lemmas.Bool.Decides.{nat_tests}
 use Rattle.std.proofs.lemmas.Bool.{cases_eq, cases_lt}
-use Rattle.joint_model.specs.declared.names.HNum.{HNum}
-use Rattle.joint_model.specs.declared.names.PNum.{PNum}
-use Rattle.joint_model.proofs.Deciding.{neq-eqb, true-false}
+use Rattle.joint_machine.specs.declared.names.HNum.{HNum}
+use Rattle.joint_machine.specs.declared.names.PNum.{PNum}
+use Rattle.joint_machine.proofs.Deciding.{neq-eqb, true-false}
 use Rattle.global_handles.specs.declared.HandleRow.{HandleRow}
 use Rattle.global_handles.specs.declared.Kept.{Kept}
 use Rattle.global_handles.specs.declared.Name.{Name}

@@ -1,9 +1,9 @@
--- What contracts see of a handle table: its rows in rising number, how many handles were made, the greatest number given,
--- and the room for more.
+-- What contracts see of a handle table: its rows in rising number, how many handles were made, the greatest number
+-- given, and the room for more.
 use Rattle.std.specs.Prelude.{◌≡◌, ◌==◌, ◌<◌, ◌≤◌, ℕ, Bool, true, false, List, [], ◌∷◌, ◌++◌, Option, None, Some, map, filter, not, if◌then◌else◌}
 use Rattle.std.specs.Option.{option_map, option_and_then}
-use Rattle.joint_model.specs.declared.names.HNum.{HNum}
-use Rattle.joint_model.specs.declared.names.PNum.{PNum}
+use Rattle.joint_machine.specs.declared.names.HNum.{HNum}
+use Rattle.joint_machine.specs.declared.names.PNum.{PNum}
 use Rattle.global_handles.specs.declared.Back.{Back}
 use Rattle.global_handles.specs.declared.Back.TheVariants.{Alive, Cleared}
 use Rattle.global_handles.specs.declared.Hold.{Hold}
@@ -13,8 +13,8 @@ use Rattle.global_handles.specs.declared.Strength.TheVariants.{Strong, Weak}
 use Rattle.global_handles.specs.declared.HandleRow.{HandleRow}
 use Rattle.global_handles.specs.declared.NotLive.{NotLive}
 
--- the rows in rising number, how many handles make made, the greatest number given, for how many more made there is room,
--- and how many names of removed rows a pass over the rows would meet
+-- the rows in rising number, how many handles make made, the greatest number given, for how many more made there is
+-- room, and how many names of removed rows a pass over the rows would meet
 pub record Table : Type 0 where
   pub rows : List HandleRow
   pub made : ℕ

@@ -2,8 +2,8 @@
 use Rattle.std.specs.Prelude.{◌≡◌, ◌==◌, ◌+◌, ◌*◌, ◌-◌, ◌≤◌, ◌<◌, ℕ, Bool, zero, suc, true, false, not, List, [], ◌∷◌, Option, None, Some, ⊤, is_some, length, slice_get, slice_index_or, if◌then◌else◌}
 use Rattle.std.specs.Option.{option_map, option_and_then}
 use Rattle.std.specs.Vec.{vec_capacity}
-use Rattle.joint_model.specs.declared.names.HNum.{HNum}
-use Rattle.joint_model.specs.declared.names.PNum.{PNum}
+use Rattle.joint_machine.specs.declared.names.HNum.{HNum}
+use Rattle.joint_machine.specs.declared.names.PNum.{PNum}
 use Rattle.global_handles.specs.declared.HandleRow.{HandleRow}
 use Rattle.global_handles.specs.declared.Kept.{Kept}
 use Rattle.global_handles.specs.declared.Name.{Name}
@@ -132,10 +132,10 @@ head_in heads p = slice_index_or heads p.0 0
 abbrev pub table_of : Inside → Table
 table_of t = record { rows = rows_of t.slots.items t.names.items; made = length t.slots.items; last = t.last; room = t.ready; holes = length t.names.items - length (rows_of t.slots.items t.names.items) }
 
--- what holds of a table's fields: at most 65,535 handles were made, the rows are counted and are no more than the slots, the
--- names rise up to the greatest number given and lead to slots, there are at most two for each slot, just the slots that
--- have something to clear are chained, those of each peer from its head on, and the room that is said is there: for the
--- slots, for two names for each, and for the head of any peer, whose number is at most 65,535
+-- what holds of a table's fields: at most 65,535 handles were made, the rows are counted and are no more than the
+-- slots, the names rise up to the greatest number given and lead to slots, there are at most two for each slot, just
+-- the slots that have something to clear are chained, those of each peer from its head on, and the room that is said is
+-- there: for the slots, for two names for each, and for the head of any peer, whose number is at most 65,535
 pub record IsTable (t : Inside) : Type 0 where
   pub most : length t.slots.items ≤ 65535
   pub counted : t.live ≡ length (rows_of t.slots.items t.names.items)

@@ -1,5 +1,5 @@
-// The global handles: the table through which one heap names objects of the other, as in the Java Native
-// Interface's global and weak global references.
+// The global handles: the table through which one heap names objects of the other, as in the Java Native Interface's
+// global and weak global references.
 //
 // A handle on a peer, through a cycle in which the peer is freed:
 //
@@ -8,33 +8,32 @@
 //     table.clear_target(p);
 //     match table.restore(h) { Back::Alive { h } => .., Back::Cleared => .. }
 //
-// A row has a number, the peer that it names, whether a managed object holds it or a raw global name does,
-// and whether it is strong or weak. A strong row keeps its peer alive; a weak one doesn't, and is cleared when
-// its peer is freed.
+// A row has a number, the peer that it names, whether a managed object holds it or a raw global name does, and whether
+// it is strong or weak. A strong row keeps its peer alive; a weak one doesn't, and is cleared when its peer is freed.
 //
-// The life of a row: `make` puts it into the table under the next number; numbers are never used again.
-// `target` reads the peer. While a bridge cycle asks the peer heap which objects live, `weaken` makes the
-// strong rows of the cycle weak; the peer heap marks and sweeps, and calls `clear_target` for each peer that
-// it frees; `restore` then removes the row, and where it wasn't cleared a held strong row on the same peer comes under
-// the next number. `release` removes a row. None of these but `make` takes memory, and it takes none where `reserve`
-// left room for its row: so a caller can take all memory first.
+// The life of a row: `make` puts it into the table under the next number; numbers are never used again. `target` reads
+// the peer. While a bridge cycle asks the peer heap which objects live, `weaken` makes the strong rows of the cycle
+// weak; the peer heap marks and sweeps, and calls `clear_target` for each peer that it frees; `restore` then removes
+// the row, and where it wasn't cleared a held strong row on the same peer comes under the next number. `release`
+// removes a row. None of these but `make` takes memory, and it takes none where `reserve` left room for its row: so a
+// caller can take all memory first.
 //
-// So numbers grow up to the last of their type, by one for each `make` and for each row that `restore` gives, while a row more
-// comes by `make` alone. A row stands in a place, one for each `make`, which are at most 65,535; a restored row stays in its place
-// and takes the new number. The list of names leads from a number to its place. It only grows at its end, so it stays
-// sorted, and a look-up is one step where no number was left out, and goes by halves else, in 17 steps at most. A name whose place has no
-// row of its number is a hole. The list has at most two names for each place: where it is full, `restore` first drops its
-// holes, which are then at least half of it. So what that reads is owed to the names that came since, and on average
-// a restore takes the same time however many there were before.
+// So numbers grow up to the last of their type, by one for each `make` and for each row that `restore` gives, while a
+// row more comes by `make` alone. A row stands in a place, one for each `make`, which are at most 65,535; a restored
+// row stays in its place and takes the new number. The list of names leads from a number to its place. It only grows at
+// its end, so it stays sorted, and a look-up is one step where no number was left out, and goes by halves else, in 17
+// steps at most. A name whose place has no row of its number is a hole. The list has at most two names for each place:
+// where it is full, `restore` first drops its holes, which are then at least half of it. So what that reads is owed to
+// the names that came since, and on average a restore takes the same time however many there were before.
 //
-// Else each call reads and writes a few rows, however many there are, and `clear_target` just those that it clears. A pass over all rows
-// drops the holes by `settle` and then reads the rows in turn by `nth`.
+// Else each call reads and writes a few rows, however many there are, and `clear_target` just those that it clears. A
+// pass over all rows drops the holes by `settle` and then reads the rows in turn by `nth`.
 //
 // Where the chain of a peer's handles begins is kept in a list by the peer's number, which is at most 65,535; the list
 // reaches as far as a handle was made, and room for the whole of it is taken by the first `reserve`.
 //
-// The table is a part of the peer side, which alone changes it. What is promised: the rows after each call are those of the definition; `release`
-// refuses exactly a number that isn't in the table, and `make` all after its 65,535th row.
+// The table is a part of the peer side, which alone changes it. What is promised: the rows after each call are those of
+// the definition; `release` refuses exactly a number that isn't in the table, and `make` all after its 65,535th row.
 #![tactic(auto)]
 
 ghost use Rattle.std.specs.Prelude.{◌≡◌, ◌==◌, ◌+◌, ◌*◌, ◌<◌, ◌≤◌, ◌↔◌, max, List, [], ◌∷◌, ◌++◌, true, length, map, filter, slice_get, All, ok_or, ℕ, ◌-◌, ◌≢◌, if◌then◌else◌, Ok, Err, None, Some, OnOk, OnErr, IfOk, IsOk};
@@ -233,7 +232,8 @@ impl Model for HandleTable {
 }
 
 impl HandleTable {
-    /// An empty table. It asks for room for all handles that it will ever make, and goes without where there is no memory for that.
+    /// An empty table. It asks for room for all handles that it will ever make, and goes without where there is no
+    /// memory for that.
     pub fn new(alloc: Global) -> HandleTable
         ensures rows { result.rows ≡ [] }
         ensures made { result.made ≡ 0 }
@@ -250,8 +250,8 @@ impl HandleTable {
         }
     }
 
-    /// Takes room for so many more handles, whatever peers they are made on. Answers `AllocError`, with nothing changed,
-    /// where there is no memory.
+    /// Takes room for so many more handles, whatever peers they are made on. Answers `AllocError`, with nothing
+    /// changed, where there is no memory.
     pub fn reserve(&mut self, additional: u32) -> Result<(), AllocError>
         ensures ok { OnOk result (self.new ≡ record self.old { room = additional }) }
         ensures err { OnErr result (self.new ≡ self.old) }
@@ -263,12 +263,12 @@ impl HandleTable {
         Ok(())
     }
 
-    /// Makes a handle on `p`, whose number is the greatest one given plus 1. The new row isn't cleared. The number of `p` is
-    /// at most 65,535, and the greatest number given isn't the last of its type.
+    /// Makes a handle on `p`, whose number is the greatest one given plus 1. The new row isn't cleared. The number of
+    /// `p` is at most 65,535, and the greatest number given isn't the last of its type.
     ///
-    /// Answers `HandlesFull` exactly where 65,535 were made by this call, which is tested before memory is asked
-    /// for, and `OutOfMemory` where there is no memory for the row. After either the table is as before. Where there
-    /// is room for a further handle, it takes no memory and uses the room of one.
+    /// Answers `HandlesFull` exactly where 65,535 were made by this call, which is tested before memory is asked for,
+    /// and `OutOfMemory` where there is no memory for the row. After either the table is as before. Where there is room
+    /// for a further handle, it takes no memory and uses the room of one.
     pub fn make(&mut self, p: PNum, hold: Hold, strength: Strength) -> Result<HNum, HandleFault>
         requires peer { p.0 ≤ 65535 }
         requires last { self.old.last < 4294967295 }
@@ -342,8 +342,9 @@ impl HandleTable {
         self.set_strength(h, Strength::Weak);
     }
 
-    /// Removes a weak row. Where it is cleared the answer is `Cleared`. Else a held strong row on the same peer comes under the next
-    /// number, and the answer is `Alive` with it. The greatest number given isn't the last of its type. It takes no memory.
+    /// Removes a weak row. Where it is cleared the answer is `Cleared`. Else a held strong row on the same peer comes
+    /// under the next number, and the answer is `Alive` with it. The greatest number given isn't the last of its type.
+    /// It takes no memory.
     pub fn restore(&mut self, h: HNum) -> Back
         requires weak { strength_in self.old.rows h ≡ Some Strength.Weak }
         requires last { self.old.last < 4294967295 }
@@ -450,8 +451,8 @@ impl HandleTable {
         self.live == 0
     }
 
-    /// Drops the holes from the list of names, so that [`HandleTable::nth`] may be called: in the life of a table each number is dropped
-    /// once. It takes no memory, and what it reads beside the holes is the rows.
+    /// Drops the holes from the list of names, so that [`HandleTable::nth`] may be called: in the life of a table each
+    /// number is dropped once. It takes no memory, and what it reads beside the holes is the rows.
     pub fn settle(&mut self)
         ensures { self.new ≡ record self.old { holes = 0 } }
     {
@@ -512,7 +513,8 @@ fn find(names: &[Name], h: HNum) -> Option<Name>
     }
 }
 
-// The name of a number, if it is among these, which are sorted by number, where it isn't as far behind the first as its number is greater.
+// The name of a number, if it is among these, which are sorted by number, where it isn't as far behind the first as its
+// number is greater.
 #[inline(never)]
 fn far(names: &[Name], h: HNum) -> Option<Name>
     requires { (high : ℕ) × NamesRise 0 high names.now }
@@ -524,7 +526,8 @@ fn far(names: &[Name], h: HNum) -> Option<Name>
     }
 }
 
-// The name of a number that stands as far behind the first as its number is greater: there it is where no number is left out before it.
+// The name of a number that stands as far behind the first as its number is greater: there it is where no number is
+// left out before it.
 #[inline(always)]
 fn straight(names: &[Name], h: HNum) -> Option<Name>
     requires { (high : ℕ) × NamesRise 0 high names.now }
@@ -540,7 +543,8 @@ fn straight(names: &[Name], h: HNum) -> Option<Name>
     }
 }
 
-// The name of a number that stands as far before the last as its number is less: there it is where no number is left out behind it.
+// The name of a number that stands as far before the last as its number is less: there it is where no number is left
+// out behind it.
 #[inline(always)]
 fn straight_back(names: &[Name], h: HNum) -> Option<Name>
     requires { (high : ℕ) × NamesRise 0 high names.now }
@@ -557,7 +561,8 @@ fn straight_back(names: &[Name], h: HNum) -> Option<Name>
     }
 }
 
-// The name of a number, if it is among these, which are sorted by number. It goes by halves, from the span where the number can stand.
+// The name of a number, if it is among these, which are sorted by number. It goes by halves, from the span where the
+// number can stand.
 fn search(names: &[Name], h: HNum) -> Option<Name>
     requires { (high : ℕ) × NamesRise 0 high names.now }
     ensures { result ≡ name_in names.now h }
@@ -578,9 +583,9 @@ fn search(names: &[Name], h: HNum) -> Option<Name>
     None
 }
 
-// The span where the name of a number can stand, from this place on and below that one: numbers rise by one at least from name to name,
-// so it stands neither further from the first name than its number, nor further from the last. Where no number is left out between the first and
-// the last, that is one place, and else one more for each that is.
+// The span where the name of a number can stand, from this place on and below that one: numbers rise by one at least
+// from name to name, so it stands neither further from the first name than its number, nor further from the last. Where
+// no number is left out between the first and the last, that is one place, and else one more for each that is.
 fn span(names: &[Name], h: HNum) -> (usize, usize)
     requires { (high : ℕ) × NamesRise 0 high names.now }
     ensures order { result.0 ≤ result.1 }

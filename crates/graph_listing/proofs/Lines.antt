@@ -6,14 +6,15 @@ use Rattle.std.proofs.lemmas.List.{map-append, length-take, take-append-drop}
 use Rattle.std.proofs.lemmas.Option.{slice_get-map, slice_get_within, get_or_from_slice_get}
 use Rattle.std.proofs.lemmas.Bool.{cases_lt}
 use Rattle.std.proofs.lemmas.List.Elements.{All-contains, All-nil}
-use Rattle.joint_model.proofs.Members.{Contains-at, take-next}
-use Rattle.joint_model.specs.declared.names.MNum.{MNum}
-use Rattle.byte_streams.specs.Drafts.{after_spaces}
+use Rattle.joint_machine.proofs.Members.{Contains-at, take-next}
+use Rattle.joint_machine.specs.declared.names.MNum.{MNum}
+use Rattle.byte_streams.specs.Spaced.{after_spaces}
 use Rattle.byte_streams.proofs.Written.{after_spaces-append}
 use Rattle.history_report.specs.Lists.{lettered}
 use Rattle.bridge_graph.specs.declared.graph.Node.{Node}
 use Rattle.bridge_graph.specs.Parts.{HasNode, numbers_of}
-use Rattle.graph_listing.specs.Listing.{component_text, components_text, number_in, reference_text, references_text}
+use Rattle.graph_listing.specs.Listing.{component_text, components_text, reference_text, references_text}
+use Rattle.graph_listing.specs.Numbers.{number_in}
 
 -- the number of a node
 pub number_is : (nodes : List Node) (i : ℕ) (r : MNum) → HasNode nodes i (λ n. n.number ≡ r) → number_in nodes i ≡ r.0

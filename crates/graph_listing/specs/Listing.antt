@@ -1,15 +1,14 @@
--- The listing of a run's cycles: the components, heavy classes and cross-references of each one's dead part. (SGen's Tarjan bridge hands its client the
--- strongly connected components of bridge objects and the references between them; this is their text.)
-use Rattle.std.specs.Prelude.{ℕ, ◌+◌, ◌<◌, List, [], ◌∷◌, ◌++◌, All, length, map, replicate, codes, decimal, slice_index}
-use Rattle.bridge_graph.specs.declared.graph.Node.{Node}
-use Rattle.bridge_graph.specs.Parts.{Part, numbers_of}
-use Rattle.byte_streams.specs.Drafts.{after_spaces}
+-- The listing of a run's cycles: the components, heavy classes and cross-references of each one's dead part. (SGen's
+-- Tarjan bridge hands its client the strongly connected components of bridge objects and the references between them;
+-- this is their text.)
+-- Believed: the clauses of the program's top call rest on all that stands here.
+use Rattle.std.specs.Prelude.{ℕ, ◌+◌, List, [], ◌∷◌, ◌++◌, length, replicate, codes, decimal}
+use Rattle.byte_streams.specs.Spaced.{after_spaces}
 use Rattle.history_report.specs.Lists.{listed}
 use Rattle.history_report.specs.Report.{end_text}
-use Rattle.xref_list.specs.Listing.{Listing}
 
--- what is listed of a cycle: its number, the managed numbers of each component's members, how many heavy classes come behind the components, and the
--- pairs of indexes of components and heavy classes
+-- what is listed of a cycle: its number, the managed numbers of each component's members, how many heavy classes come
+-- behind the components, and the pairs of indexes of components and heavy classes
 pub record Listed : Type 0 where
   pub cycle : ℕ
   pub comps : List (List ℕ)
@@ -58,19 +57,3 @@ cycles_text (l ∷ ls) = cycle_lines l ++ cycles_text ls
 -- the listing: the lines of each cycle, and `end` with the number of cycles
 abbrev pub listing_text : List Listed → List ℕ
 listing_text ls = cycles_text ls ++ end_text (length ls)
-
--- the managed number of the node with that index; 0 past the last node
-abbrev pub number_in : List Node → ℕ → ℕ
-number_in nodes i = slice_index (numbers_of nodes) i
-
--- components of nodes by the nodes' managed numbers
-abbrev pub numbered : List Node → List (List ℕ) → List (List ℕ)
-numbered nodes comps = map (map (number_in nodes)) comps
-
--- what is listed of a graph's components as those of a cycle
-abbrev pub listed_of : ℕ → Part → Listing → Listed
-listed_of k g l = record { cycle = k; comps = numbered g.nodes l.comps; heavy = l.heavy; pairs = l.pairs }
-
--- the members of each component are nodes
-abbrev pub AreOfNodes : List Node → List (List ℕ) → Type 0
-AreOfNodes nodes comps = All (All (λ x. x < length nodes)) comps

@@ -3,14 +3,15 @@
 ghost use Rattle.std.specs.Prelude.{◌≡◌, ◌+◌, ◌<◌, ◌≤◌, ◌∷◌, [], All, OnOk, length, map};
 ghost use Rattle.byte_streams.specs.Streams.{Writes};
 ghost use Rattle.byte_streams.specs.Sending.{Sends};
-ghost use Rattle.byte_streams.specs.Drafts.{after_spaces};
+ghost use Rattle.byte_streams.specs.Spaced.{after_spaces};
 ghost use Rattle.history_report.specs.Lists.{lettered, listed};
 ghost use Rattle.history_report.specs.Report.{end_text};
-ghost use Rattle.graph_listing.specs.Listing.{AreOfNodes, all_comps, component_text, components_text, cycle_lines, head_text, listed_of, number_in, reference_text, references_text};
+ghost use Rattle.graph_listing.specs.Listing.{all_comps, component_text, components_text, cycle_lines, head_text, reference_text, references_text};
+ghost use Rattle.graph_listing.specs.Numbers.{AreOfNodes, listed_of, number_in};
 
 use bridge_graph::DeadGraph;
 use byte_streams::{Failed, Line, Sink, write_text};
-use joint_model::Cycle;
+use joint_machine::Cycle;
 use xref_list::Components;
 
 // Writes the managed numbers of nodes, each with a space and its letter before it.
@@ -122,9 +123,9 @@ fn write_references<K: Sink>(comps: &Components, line: &mut Line, out: &mut K) -
     Ok(())
 }
 
-/// Writes the lines of a cycle: its number, the components and heavy classes that the graph of its dead part has, and the cross-references between
-/// these. The sink gets them in pieces of at most 16 KiB. It takes no memory. [`Failed`] only where the sink's count of faults rose, and then a
-/// beginning of the lines was written.
+/// Writes the lines of a cycle: its number, the components and heavy classes that the graph of its dead part has, and
+/// the cross-references between these. The sink gets them in pieces of at most 16 KiB. It takes no memory. [`Failed`]
+/// only where the sink's count of faults rose, and then a beginning of the lines was written.
 pub fn write_listing<K: Sink>(
     graph: &DeadGraph,
     comps: &Components,
@@ -143,8 +144,8 @@ pub fn write_listing<K: Sink>(
     line.flush(out)
 }
 
-/// Writes the last line of a listing of so many cycles. It takes no memory. [`Failed`] only where the sink's count of faults rose, and then a
-/// beginning of the line was written.
+/// Writes the last line of a listing of so many cycles. It takes no memory. [`Failed`] only where the sink's count of
+/// faults rose, and then a beginning of the line was written.
 pub fn write_end<K: Sink>(cycles: u64, out: &mut K) -> Result<(), Failed>
     ensures { Writes (K.held out.old) (K.held out.new) (K.faults out.old) (K.faults out.new) result (end_text cycles) }
 {

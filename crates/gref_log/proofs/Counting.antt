@@ -2,24 +2,25 @@
 use Rattle.std.proofs.Common.{◌≡◌, ℕ, zero, suc, Bool, true, false, List, [], ◌∷◌, ◌++◌, Option, Some, None, cond, length, refl, sym, ap, subst, ◌∙◌, arith, All}
 use Rattle.std.specs.Prelude.{◌&&◌, IsSome, if◌then◌else◌, is_some, not}
 use Rattle.std.proofs.lemmas.List.Elements.{All-head, All-tail}
-use Rattle.joint_model.specs.declared.names.HNum.{HNum}
-use Rattle.joint_model.specs.declared.names.Thread.{Thread}
-use Rattle.joint_model.specs.declared.names.Thread.TheVariants.{M, P, C}
-use Rattle.joint_model.specs.declared.lines.Act.{Act}
-use Rattle.joint_model.specs.declared.lines.Act.TheVariants as act
-use Rattle.joint_model.specs.declared.events.Op.{Op}
-use Rattle.joint_model.specs.declared.events.Op.TheVariants as op
-use Rattle.joint_model.specs.declared.events.Made.{Made}
-use Rattle.joint_model.specs.declared.events.Reply.{Reply}
-use Rattle.joint_model.specs.Control.{CallerAllows, doing_at}
-use Rattle.joint_model.specs.Heaps.{numbered_at}
-use Rattle.joint_model.specs.Lines.{IsEvent, is_peer_event, is_read}
-use Rattle.joint_model.specs.Linked.{Linkage, MayCome, AllMayCome, SideLawful, opening_linkage, linkage_after, peer_after, replayed}
-use Rattle.joint_model.specs.PeerReplay.{PeerReplay, TableRow, opening_peer_replay}
-use Rattle.joint_model.specs.Peers.{Issued, Strength, strong, weak}
-use Rattle.joint_model.specs.Readers.{AllMayComeReading, EntryMayCome, entry_after, is_aside, is_set_aside, replayed_reading, reader_after}
-use Rattle.joint_model.specs.Told.{Told, Noted}
-use Rattle.joint_model.proofs.Numbered.{numbered-made, numbered-within}
+use Rattle.joint_machine.specs.declared.names.HNum.{HNum}
+use Rattle.joint_machine.specs.declared.names.Thread.{Thread}
+use Rattle.joint_machine.specs.declared.names.Thread.TheVariants.{M, P, C}
+use Rattle.joint_machine.specs.declared.lines.Act.{Act}
+use Rattle.joint_machine.specs.declared.lines.Act.TheVariants as act
+use Rattle.joint_machine.specs.declared.events.Op.{Op}
+use Rattle.joint_machine.specs.declared.events.Op.TheVariants as op
+use Rattle.joint_machine.specs.declared.events.Made.{Made}
+use Rattle.joint_machine.specs.declared.events.Reply.{Reply}
+use Rattle.joint_machine.specs.Control.{CallerAllows, doing_at}
+use Rattle.joint_machine.specs.Heaps.{numbered_at}
+use Rattle.joint_machine.specs.Lines.{IsEvent, is_peer_event, is_read}
+use Rattle.joint_machine.specs.Linked.{Linkage, MayCome, SideLawful, opening_linkage, linkage_after, peer_after}
+use Rattle.joint_machine.specs.Replaying.{AllMayCome, replayed}
+use Rattle.joint_machine.specs.PeerReplay.{PeerReplay, TableRow, opening_peer_replay}
+use Rattle.joint_machine.specs.Peers.{Issued, Strength, strong, weak}
+use Rattle.joint_machine.specs.Readers.{AllMayComeReading, EntryMayCome, entry_after, is_aside, is_set_aside, replayed_reading, reader_after}
+use Rattle.joint_machine.specs.Told.{Told, Noted}
+use Rattle.joint_machine.proofs.Numbered.{numbered-made, numbered-within}
 use Rattle.joint_laws.specs.LinkedInvariants.{HasStrength, IsLinkageKept}
 use Rattle.joint_laws.specs.PeerInvariants.{IsTabled}
 use Rattle.joint_laws.specs.ReadingLaws.{IsLawfulReading, without_aside}
@@ -29,7 +30,8 @@ use Rattle.joint_laws.proofs.ReadsAside.{reading_is_lawful, reading_leads_to_sam
 use Rattle.summary_laws.proofs.Names.{AreNamesKept, names-opening}
 use Rattle.log_text.specs.declared.lines.LogLine.{LogLine}
 use Rattle.log_text.specs.Behind.{AreLawful, Behind, Fits, HasCounts, MayStand, behind, behind_all, none_live}
-use Rattle.gref_log.specs.Log.{Change, behind_peers, changed, changed_all, changes, entry_lines, is_strong_row, is_weak_row, lines_of, log_from, log_of_notes, peer_in, peer_next}
+use Rattle.gref_log.specs.Log.{Change, behind_peers, changed, changes, entry_lines, is_strong_row, is_weak_row, lines_of, log_from, log_of_notes, peer_in, peer_next}
+use Rattle.gref_log.specs.Tracking.{changed_all}
 use Rattle.gref_log.specs.Laws.{CountsAreTheTables, LiveAreTheRows, LogsAreLogs}
 use Rattle.gref_log.proofs.Going.{in-hand, waiting}
 use Rattle.gref_log.proofs.PeerLines.{Goes, peer-goes}

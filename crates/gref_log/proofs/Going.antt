@@ -2,11 +2,11 @@
 use Rattle.std.proofs.Common.{◌≡◌, ℕ, inl, inr, List, length, Option, Some, sym, subst, arith}
 use Rattle.std.proofs.lemmas.Option.{slice_get_within}
 use Rattle.std.specs.Prelude.{slice_get}
-use Rattle.joint_model.specs.Control.{Stand, idle, snapped, contracted, weakening, marked, restoring, restored, MayRestoreNow}
-use Rattle.joint_model.specs.Linked.{Linkage}
-use Rattle.joint_model.specs.Peers.{strong, weak}
-use Rattle.joint_model.specs.Told.{Answer}
-use Rattle.joint_model.proofs.HeapLemmas.{candidates_of-open}
+use Rattle.joint_machine.specs.Control.{Stand, idle, snapped, contracted, weakening, marked, restoring, restored, MayRestoreNow}
+use Rattle.joint_machine.specs.Linked.{Linkage}
+use Rattle.joint_machine.specs.Peers.{strong, weak}
+use Rattle.joint_machine.specs.Told.{Answer}
+use Rattle.joint_machine.proofs.HeapLemmas.{candidates_of-open}
 use Rattle.joint_laws.specs.LinkedInvariants.{HasStrength, IsLinkageKept, IsDriverKept, HasInHand, doing_in, given_at}
 use Rattle.joint_laws.proofs.DriverPeerSteps.{holds-handle_of}
 use Rattle.joint_laws.proofs.Hands.{shift, put-doing}

@@ -1,10 +1,11 @@
--- The first entries of a linked history have the first lines of its log, and what is left at its end is the table's rows.
+-- The first entries of a linked history have the first lines of its log, and what is left at its end is the table's
+-- rows.
 use Rattle.std.proofs.Common.{◌≡◌, ℕ, zero, suc, List, [], ◌∷◌, ◌++◌, take, Option, refl, sym, ap, subst, ◌∙◌, append_assoc}
 use Rattle.std.specs.Prelude.{IsSome}
-use Rattle.joint_model.specs.Linked.{Linkage, opening_linkage}
-use Rattle.joint_model.specs.PeerReplay.{PeerReplay, opening_peer_replay}
-use Rattle.joint_model.specs.Readers.{AllMayComeReading, entry_after}
-use Rattle.joint_model.specs.Told.{Noted}
+use Rattle.joint_machine.specs.Linked.{Linkage, opening_linkage}
+use Rattle.joint_machine.specs.PeerReplay.{PeerReplay, opening_peer_replay}
+use Rattle.joint_machine.specs.Readers.{AllMayComeReading, entry_after}
+use Rattle.joint_machine.specs.Told.{Noted}
 use Rattle.joint_laws.specs.ReadingLaws.{IsLawfulReading}
 use Rattle.log_text.specs.declared.lines.LogLine.{LogLine}
 use Rattle.log_text.specs.Behind.{Behind, behind_all, none_live}

@@ -4,26 +4,27 @@ use Rattle.std.specs.Prelude.{All}
 use Rattle.std.proofs.Math.Nat.{min-eq_left}
 use Rattle.std.proofs.lemmas.List.{append_assoc, length-map}
 use Rattle.std.proofs.lemmas.List.Sums.{count_by-le-length}
-use Rattle.joint_model.specs.declared.names.Thread.{Thread}
-use Rattle.joint_model.specs.declared.names.Thread.TheVariants.{M, P, C}
-use Rattle.joint_model.specs.declared.lines.Act.{Act}
-use Rattle.joint_model.specs.declared.lines.Act.TheVariants as act
-use Rattle.joint_model.specs.declared.events.Entry.{Entry}
-use Rattle.joint_model.specs.declared.events.Made.{Made}
-use Rattle.joint_model.specs.declared.events.Op.{Op}
-use Rattle.joint_model.specs.declared.events.Op.TheVariants as op
-use Rattle.joint_model.specs.declared.events.Reply.{Reply}
-use Rattle.joint_model.specs.declared.events.Reply.TheVariants as says
-use Rattle.joint_model.specs.Heaps.{slot, numbered_at}
-use Rattle.joint_model.specs.Histories.{Finished}
-use Rattle.joint_model.specs.Lines.{is_peer_event, is_read}
-use Rattle.joint_model.specs.Linked.{AllMayCome, Linkage, SideLawful, linkage_after, opening_linkage}
-use Rattle.joint_model.specs.LinkedHistories.{IsLinked, IsLinkedBy}
-use Rattle.joint_model.specs.PeerReplay.{PeerReplay, peer_answer}
-use Rattle.joint_model.specs.Peers.{Issued}
-use Rattle.joint_model.specs.Readers.{is_aside, is_set_aside}
-use Rattle.joint_model.specs.Told.{Noted, Told}
-use Rattle.joint_model.proofs.Deciding.{and-true, true_false}
+use Rattle.joint_machine.specs.declared.names.Thread.{Thread}
+use Rattle.joint_machine.specs.declared.names.Thread.TheVariants.{M, P, C}
+use Rattle.joint_machine.specs.declared.lines.Act.{Act}
+use Rattle.joint_machine.specs.declared.lines.Act.TheVariants as act
+use Rattle.joint_machine.specs.declared.events.Entry.{Entry}
+use Rattle.joint_machine.specs.declared.events.Made.{Made}
+use Rattle.joint_machine.specs.declared.events.Op.{Op}
+use Rattle.joint_machine.specs.declared.events.Op.TheVariants as op
+use Rattle.joint_machine.specs.declared.events.Reply.{Reply}
+use Rattle.joint_machine.specs.declared.events.Reply.TheVariants as says
+use Rattle.joint_machine.specs.Heaps.{slot, numbered_at}
+use Rattle.joint_machine.specs.Histories.{Finished}
+use Rattle.joint_machine.specs.Lines.{is_peer_event, is_read}
+use Rattle.joint_machine.specs.Linked.{Linkage, SideLawful, linkage_after, opening_linkage}
+use Rattle.joint_machine.specs.Replaying.{AllMayCome}
+use Rattle.joint_machine.specs.LinkedHistories.{IsLinked, IsLinkedBy}
+use Rattle.joint_machine.specs.PeerReplay.{PeerReplay, peer_answer}
+use Rattle.joint_machine.specs.Peers.{Issued}
+use Rattle.joint_machine.specs.Readers.{is_aside, is_set_aside}
+use Rattle.joint_machine.specs.Told.{Noted, Told}
+use Rattle.joint_machine.proofs.Deciding.{and-true, true_false}
 use Rattle.joint_laws.specs.ReadingLaws.{IsLawfulReading, without_aside}
 use Rattle.joint_laws.proofs.LinkedEntries.{Of, AreKept-entry, AreKept-opening}
 use Rattle.joint_laws.proofs.ReadsAside.{reading_is_lawful, without-cons}
@@ -33,8 +34,8 @@ use Rattle.log_text.specs.declared.lines.Mark.{Mark}
 use Rattle.log_text.specs.declared.lines.Mark.TheVariants.{GPlus, GMinus, WPlus, WMinus}
 use Rattle.log_text.specs.Behind.{Behind, Fits, IsLog, behind_all, moved, none_live}
 use Rattle.gref_log.specs.Laws.{IsWholeLog}
-use Rattle.gref_log.specs.Log.{Change, behind_peers, changed, changed_all, changes, entry_lines, is_strong_row, is_weak_row, lines_of, log_from, log_of_notes, made_on, minus, peer_next, unnamed}
-use Rattle.gref_log.specs.Tracking.{Logged, Tracked, after_line, counted, given_of, given_on, line_after, logged_after, logged_all, nothing_logged, one_more, peer_at, tracked_after, tracked_changes, tracked_of, tracked_on, with_line, with_lines}
+use Rattle.gref_log.specs.Log.{Change, behind_peers, changed, changes, entry_lines, is_strong_row, is_weak_row, lines_of, log_from, log_of_notes, made_on, minus, peer_next, unnamed}
+use Rattle.gref_log.specs.Tracking.{Logged, Tracked, after_line, counted, given_of, given_on, line_after, logged_after, logged_all, nothing_logged, one_more, peer_at, tracked_after, tracked_changes, tracked_of, tracked_on, with_line, with_lines, changed_all}
 use Rattle.gref_log.proofs.Counting.{counts_are_tables, entry-goes, logs_are_logs, same-log, step}
 use Rattle.gref_log.proofs.TableSteps.{Follows}
 use Rattle.gref_log.proofs.Tracks.{changes-tracked, entry-tracks, peer-at}

@@ -1,4 +1,5 @@
--- How many newlines there are in the text of lines, and which line of a text is wrong by the number of newlines before it.
+-- How many newlines there are in the text of lines, and which line of a text is wrong by the number of newlines before
+-- it.
 use Rattle.std.proofs.Common.{◌≡◌, ℕ, ◌+◌, ◌<◌, ◌≤◌, inl, inr, List, [], ◌∷◌, ◌++◌, length, refl, sym, ap, subst, ◌∙◌, arith, append_assoc}
 use Rattle.std.specs.Prelude.{IfErr, IfOk, MatchResult, Result, Ok, Err}
 use Rattle.log_text.specs.declared.lines.LogCause.{LogCause}
@@ -6,12 +7,14 @@ use Rattle.log_text.specs.declared.lines.LogCause.TheVariants as cause
 use Rattle.log_text.specs.declared.lines.LogError.{LogError}
 use Rattle.log_text.specs.declared.lines.LogError.TheVariants.{OutOfMemory, Refused}
 use Rattle.log_text.specs.declared.lines.LogLine.{LogLine}
-use Rattle.log_text.specs.Faults.{GoesOn, IsLogFault, IsLogRefusal, IsWrongLine, LacksEnd}
+use Rattle.log_text.specs.Faults.{GoesOn, IsLogFault, IsWrongLine, LacksEnd}
+use Rattle.log_text.specs.Taking.{IsLogRefusal}
 use Rattle.log_text.specs.Text.{IsLogText, end_text, line_text, lines_text, log_text}
 use Rattle.log_text.proofs.LineWords.{end-whole, line-whole}
 use Rattle.text_limits.specs.Limits.{AreClosed, IsFrontOf}
 use Rattle.text_limits.proofs.ClosedLines.{appended, closed-behind, closed-one, lines_in}
-use Rattle.gref_log.specs.Limit.{IsFaultBefore, IsFaultOfLine, IsLongLine, IsRefusedBefore}
+use Rattle.gref_log.specs.Limit.{IsFaultBefore, IsFaultOfLine, IsLongLine}
+use Rattle.gref_log.specs.Answers.{IsRefusedBefore}
 
 of-lines : (ls : List LogLine) → lines_in (lines_text ls) ≡ length ls
 of-lines [] = refl

@@ -1,24 +1,24 @@
 -- What each peer event does to the handle table, and what its lines do to what stands behind the log.
 use Rattle.std.proofs.Common.{◌≡◌, ℕ, ◌⊎◌, inl, inr, false, ◌||◌, List, [], ◌∷◌, ◌++◌, map, Option, Some, None, set, refl, sym, ap, subst, ◌∙◌, arith}
-use Rattle.joint_model.specs.declared.names.GName.{GName}
-use Rattle.joint_model.specs.declared.names.HNum.{HNum}
-use Rattle.joint_model.specs.declared.names.Sort.{Sort}
-use Rattle.joint_model.specs.declared.names.Thread.{Thread}
-use Rattle.joint_model.specs.declared.names.Thread.TheVariants.{C}
-use Rattle.joint_model.specs.declared.lines.Act.{Act}
-use Rattle.joint_model.specs.declared.lines.Act.TheVariants as act
-use Rattle.joint_model.specs.declared.events.Op.{Op}
-use Rattle.joint_model.specs.declared.events.Op.TheVariants as op
-use Rattle.joint_model.specs.declared.events.Reply.{Reply}
-use Rattle.joint_model.specs.declared.events.Reply.TheVariants as says
-use Rattle.joint_model.specs.Components.{End}
-use Rattle.joint_model.specs.Heaps.{Heap, Answered, answer, slot, place, is_full, numbered_at, numbered_set}
-use Rattle.joint_model.specs.Peers.{Peers, Issued, Strength, strong, weak, held, raw, pair_made, peer_gripped, landed, name_given, peer_read, name_read, on_peer_heap, peer_line, issued_since, handles_full, next_handle}
-use Rattle.joint_model.specs.PeerReplay.{PeerReplay, TableRow, Marking, row_of, fresh_row, table_target, on_table, bring_by, untabled, peer_thread_line, is_thread, sliced, begun, swept, restored_by, mirrored, peer_answer, PeerAllows, IsHeld}
-use Rattle.joint_model.specs.Run.{thread_number}
-use Rattle.joint_model.specs.Told.{Told, nothing, references_of, slice_of, sweep_of}
-use Rattle.joint_model.proofs.Deciding.{none_some, option-cases, test-cases}
-use Rattle.joint_model.proofs.Numbered.{slot-named, slot-Contains}
+use Rattle.joint_machine.specs.declared.names.GName.{GName}
+use Rattle.joint_machine.specs.declared.names.HNum.{HNum}
+use Rattle.joint_machine.specs.declared.names.Sort.{Sort}
+use Rattle.joint_machine.specs.declared.names.Thread.{Thread}
+use Rattle.joint_machine.specs.declared.names.Thread.TheVariants.{C}
+use Rattle.joint_machine.specs.declared.lines.Act.{Act}
+use Rattle.joint_machine.specs.declared.lines.Act.TheVariants as act
+use Rattle.joint_machine.specs.declared.events.Op.{Op}
+use Rattle.joint_machine.specs.declared.events.Op.TheVariants as op
+use Rattle.joint_machine.specs.declared.events.Reply.{Reply}
+use Rattle.joint_machine.specs.declared.events.Reply.TheVariants as says
+use Rattle.joint_machine.specs.Components.{End}
+use Rattle.joint_machine.specs.Heaps.{Heap, Answered, answer, slot, place, is_full, numbered_at, numbered_set}
+use Rattle.joint_machine.specs.Peers.{Peers, Issued, Strength, strong, weak, held, raw, pair_made, peer_gripped, landed, name_given, peer_read, name_read, on_peer_heap, peer_line, issued_since, handles_full, next_handle}
+use Rattle.joint_machine.specs.PeerReplay.{PeerReplay, TableRow, Marking, row_of, fresh_row, table_target, on_table, bring_by, untabled, peer_thread_line, is_thread, sliced, begun, swept, restored_by, mirrored, peer_answer, PeerAllows, IsHeld}
+use Rattle.joint_machine.specs.Run.{thread_number}
+use Rattle.joint_machine.specs.Told.{Told, nothing, references_of, slice_of, sweep_of}
+use Rattle.joint_machine.proofs.Deciding.{none_some, option-cases, test-cases}
+use Rattle.joint_machine.proofs.Numbered.{slot-named, slot-Contains}
 use Rattle.joint_laws.specs.LinkedInvariants.{HasStrength}
 use Rattle.joint_laws.specs.PeerInvariants.{IsPeerKept, IsTabled}
 use Rattle.joint_laws.proofs.HandleKeeping.{held-raw, issued-same}
@@ -29,7 +29,8 @@ use Rattle.summary_laws.proofs.Names.{AreNamesKept, names-grown, names-given, na
 use Rattle.gref_log.specs.Log.{Change, changes, unnamed, minus}
 use Rattle.gref_log.proofs.TableSteps.{Follows, comes, leaves, plus, renews, stays as stays-so, sweeps, weakens}
 
--- the lines of an event lead from what the table says to what it says then, and each name still has a handle of the table
+-- the lines of an event lead from what the table says to what it says then, and each name still has a handle of the
+-- table
 pub record Goes (s : PeerReplay) (p : Peers) (table : List (Option TableRow)) (o : Op) (r : Reply) : Type 0 where
   pub follows : Follows s.peers.issued p.issued s.table table (changes s o r)
   pub names : AreNamesKept p.names table

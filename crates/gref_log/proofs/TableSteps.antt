@@ -1,20 +1,21 @@
--- What each step of the handle table does to what stands behind the log: a handle is put last, leaves, is weakened, is replaced, or is cleared where
--- it stands. Each is shown at every handle, for rows of either kind.
+-- What each step of the handle table does to what stands behind the log: a handle is put last, leaves, is weakened, is
+-- replaced, or is cleared where it stands. Each is shown at every handle, for rows of either kind.
 use Rattle.std.proofs.Common.{◌≡◌, ◌≢◌, ℕ, zero, suc, ◌+◌, ◌<◌, ◌||◌, nat_eq, Bool, true, false, List, [], ◌∷◌, ◌++◌, length, Option, Some, None, cond, refl, sym, ap, subst, ◌∙◌, inl, inr, arith, length-append}
 use Rattle.std.specs.Prelude.{slice_get}
 use Rattle.std.specs.List.{list_any}
 use Rattle.std.proofs.lemmas.Bool.{cases_lt}
 use Rattle.std.proofs.lemmas.Bool.Decides.{eqb_tells}
-use Rattle.joint_model.specs.Heaps.{numbered_at, numbered_set}
-use Rattle.joint_model.specs.Peers.{Issued, Strength, strong, weak}
-use Rattle.joint_model.specs.PeerReplay.{TableRow, cleared_rows, fresh_row}
-use Rattle.joint_model.proofs.Numbered.{numbered-made, numbered-past, numbered-push_new, numbered-push_old, numbered-within, numbered_set-here, numbered_set-other, numbered_set-length}
+use Rattle.joint_machine.specs.Heaps.{numbered_at, numbered_set}
+use Rattle.joint_machine.specs.Peers.{Issued, Strength, strong, weak}
+use Rattle.joint_machine.specs.PeerReplay.{TableRow, cleared_rows, fresh_row}
+use Rattle.joint_machine.proofs.Numbered.{numbered-made, numbered-past, numbered-push_new, numbered-push_old, numbered-within, numbered_set-here, numbered_set-other, numbered_set-length}
 use Rattle.joint_laws.specs.PeerInvariants.{IsTabled}
 use Rattle.summary_laws.proofs.TableRows.{kinds-put, kinds-set, kinds-swept}
 use Rattle.log_text.specs.declared.lines.Mark.{Mark}
 use Rattle.log_text.specs.declared.lines.Mark.TheVariants.{GPlus, GMinus, WPlus, WMinus}
 use Rattle.log_text.specs.Behind.{Behind, MayStand, put}
-use Rattle.gref_log.specs.Log.{Change, changed, changed_all, is_strong_row, is_weak_row, made_on, minus, peer_in, table_behind}
+use Rattle.gref_log.specs.Log.{Change, changed, is_strong_row, is_weak_row, made_on, minus, peer_in, table_behind}
+use Rattle.gref_log.specs.Tracking.{changed_all}
 
 -- each change may come behind those before it
 abbrev pub AllStand : List Issued → Behind → List Change → Type 0

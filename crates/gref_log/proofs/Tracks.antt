@@ -3,30 +3,30 @@ use Rattle.std.proofs.Common.{◌≡◌, ℕ, zero, suc, Bool, true, false, ◌|
 use Rattle.std.specs.Prelude.{nat_le, option_map, slice_set}
 use Rattle.std.proofs.lemmas.List.{map-append}
 use Rattle.std.proofs.lemmas.Option.{slice_get-map}
-use Rattle.joint_model.specs.declared.names.Cycle.{Cycle}
-use Rattle.joint_model.specs.declared.names.GName.{GName}
-use Rattle.joint_model.specs.declared.names.HNum.{HNum}
-use Rattle.joint_model.specs.declared.names.Sort.{Sort}
-use Rattle.joint_model.specs.declared.names.StaticNo.{StaticNo}
-use Rattle.joint_model.specs.declared.names.Thread.{Thread}
-use Rattle.joint_model.specs.declared.names.Thread.TheVariants.{M, P, C}
-use Rattle.joint_model.specs.declared.names.Var.{Var}
-use Rattle.joint_model.specs.declared.lines.Act.{Act}
-use Rattle.joint_model.specs.declared.lines.Act.TheVariants as act
-use Rattle.joint_model.specs.declared.events.Made.{Made}
-use Rattle.joint_model.specs.declared.events.Op.{Op}
-use Rattle.joint_model.specs.declared.events.Op.TheVariants as op
-use Rattle.joint_model.specs.declared.events.Reply.{Reply}
-use Rattle.joint_model.specs.declared.events.Reply.TheVariants as says
-use Rattle.joint_model.specs.Components.{End}
-use Rattle.joint_model.specs.Heaps.{Answered, Heap, answer, field_set, field_stored, fields_of, is_full, numbered_at, place, read_into, slot, stored}
-use Rattle.joint_model.specs.Lines.{is_peer_event}
-use Rattle.joint_model.specs.Linked.{peer_after}
-use Rattle.joint_model.specs.PeerReplay.{Marking, PeerReplay, TableRow, begun, bring_by, is_thread, mirrored, on_table, peer_answer, peer_thread_line, renewed_on, restored_by, row_of, sliced, swept, table_target}
-use Rattle.joint_model.specs.Managed.{place_or_none}
-use Rattle.joint_model.specs.Peers.{Issued, Peers, Strength, handles_full, is_strong, landed, name_given, name_read, next_handle, on_peer_heap, pair_made, peer_gripped, peer_line, peer_name, peer_of, peer_read, strong, weak}
-use Rattle.joint_model.specs.Told.{Told, references_of, slice_of, sweep_of}
-use Rattle.joint_model.proofs.Deciding.{option-cases, test-cases}
+use Rattle.joint_machine.specs.declared.names.Cycle.{Cycle}
+use Rattle.joint_machine.specs.declared.names.GName.{GName}
+use Rattle.joint_machine.specs.declared.names.HNum.{HNum}
+use Rattle.joint_machine.specs.declared.names.Sort.{Sort}
+use Rattle.joint_machine.specs.declared.names.StaticNo.{StaticNo}
+use Rattle.joint_machine.specs.declared.names.Thread.{Thread}
+use Rattle.joint_machine.specs.declared.names.Thread.TheVariants.{M, P, C}
+use Rattle.joint_machine.specs.declared.names.Var.{Var}
+use Rattle.joint_machine.specs.declared.lines.Act.{Act}
+use Rattle.joint_machine.specs.declared.lines.Act.TheVariants as act
+use Rattle.joint_machine.specs.declared.events.Made.{Made}
+use Rattle.joint_machine.specs.declared.events.Op.{Op}
+use Rattle.joint_machine.specs.declared.events.Op.TheVariants as op
+use Rattle.joint_machine.specs.declared.events.Reply.{Reply}
+use Rattle.joint_machine.specs.declared.events.Reply.TheVariants as says
+use Rattle.joint_machine.specs.Components.{End}
+use Rattle.joint_machine.specs.Heaps.{Answered, Heap, answer, field_set, field_stored, fields_of, is_full, numbered_at, place, read_into, slot, stored}
+use Rattle.joint_machine.specs.Lines.{is_peer_event}
+use Rattle.joint_machine.specs.Linked.{peer_after}
+use Rattle.joint_machine.specs.PeerReplay.{Marking, PeerReplay, TableRow, begun, bring_by, is_thread, mirrored, on_table, peer_answer, peer_thread_line, renewed_on, restored_by, row_of, sliced, swept, table_target}
+use Rattle.joint_machine.specs.Managed.{place_or_none}
+use Rattle.joint_machine.specs.Peers.{Issued, Peers, Strength, handles_full, is_strong, landed, name_given, name_read, next_handle, on_peer_heap, pair_made, peer_gripped, peer_line, peer_name, peer_of, peer_read, strong, weak}
+use Rattle.joint_machine.specs.Told.{Told, references_of, slice_of, sweep_of}
+use Rattle.joint_machine.proofs.Deciding.{option-cases, test-cases}
 use Rattle.gref_log.specs.Log.{Change, changes, made_on, minus, unnamed}
 use Rattle.gref_log.specs.Tracking.{Tracked, after_line, given_of, name_leaves as name_leaves_of, peer_at, peer_or_none, tracked_after, tracked_changes, tracked_of, with_given, with_name}
 use Rattle.gref_log.specs.declared.tracked.Given.{Given}

@@ -1,10 +1,11 @@
--- The lines of a history are written while they are made: what was written are the lines of the entries before, and then those of one more.
+-- The lines of a history are written while they are made: what was written are the lines of the entries before, and
+-- then those of one more.
 use Rattle.std.proofs.Common.{◌≡◌, ℕ, ◌+◌, ◌*◌, ◌≤◌, List, [], ◌∷◌, ◌++◌, Option, Result, Ok, Err, length, refl, sym, ap, subst, ◌∙◌, arith, append_assoc, length-append}
 use Rattle.std.specs.Prelude.{All}
 use Rattle.std.proofs.lemmas.List.Elements.{All-append, All-nil}
 use Rattle.byte_streams.specs.Sending.{BuffersText, Sends}
 use Rattle.byte_streams.proofs.Written.{BuffersText-none, Sends-after, Sends-short}
-use Rattle.joint_model.specs.declared.events.Entry.{Entry}
+use Rattle.joint_machine.specs.declared.events.Entry.{Entry}
 use Rattle.log_text.specs.declared.lines.LogLine.{LogLine}
 use Rattle.log_text.specs.Behind.{Fits}
 use Rattle.log_text.specs.Text.{line_text, lines_text}

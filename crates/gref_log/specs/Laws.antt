@@ -1,27 +1,21 @@
 -- What stands behind the log of a history is its handle table, and such a log is one that is read back.
 use Rattle.std.specs.Prelude.{◌≡◌, ℕ, List, ◌++◌, All, Contains, ◌↔◌, IsSome, map, take}
-use Rattle.joint_model.specs.declared.names.HNum.{HNum}
-use Rattle.joint_model.specs.Histories.{Finished}
-use Rattle.joint_model.specs.Linked.{opening_linkage}
-use Rattle.joint_model.specs.LinkedHistories.{IsLinkedBy}
-use Rattle.joint_model.specs.PeerReplay.{PeerReplay}
-use Rattle.joint_model.specs.Peers.{strong, weak}
-use Rattle.joint_model.specs.Readers.{replayed_reading}
-use Rattle.joint_model.specs.Told.{Noted}
+use Rattle.joint_machine.specs.declared.names.HNum.{HNum}
+use Rattle.joint_machine.specs.Histories.{Finished}
+use Rattle.joint_machine.specs.LinkedHistories.{IsLinkedBy}
+use Rattle.joint_machine.specs.Peers.{strong, weak}
+use Rattle.joint_machine.specs.Told.{Noted}
 use Rattle.joint_laws.specs.LinkedInvariants.{HasStrength}
 use Rattle.joint_laws.specs.ReadingLaws.{IsLawfulReading}
 use Rattle.log_text.specs.declared.lines.LogLine.{LogLine}
 use Rattle.log_text.specs.Behind.{Fits, IsLog, behind_all, none_live}
-use Rattle.log_text.specs.Taking.{AreKeys}
+use Rattle.log_text.specs.Keys.{AreKeys}
 use Rattle.log_text.specs.Text.{log_text}
 use Rattle.gref_log.specs.Log.{IsLogOf, behind_peers, log_of_notes}
+use Rattle.gref_log.specs.After.{peers_after}
 
--- the peer side after all entries of a list
-abbrev pub peers_after : List Noted → PeerReplay
-peers_after noted = (replayed_reading opening_linkage noted).peer
-
--- behind the lines of all entries of a lawful list, what is live is what the table says; so it is behind the last line of each entry of a linked history,
--- since the entries up to there are a lawful list
+-- behind the lines of all entries of a lawful list, what is live is what the table says; so it is behind the last line
+-- of each entry of a linked history, since the entries up to there are a lawful list
 abbrev pub CountsAreTheTables : Type 0
 CountsAreTheTables = (noted : List Noted) → IsLawfulReading noted → behind_all none_live (log_of_notes noted) ≡ behind_peers (peers_after noted)
 
@@ -35,7 +29,8 @@ LiveAreTheRows = (noted : List Noted) → IsLawfulReading noted → (h : ℕ)
 abbrev pub LogsAreLogs : Type 0
 LogsAreLogs = (noted : List Noted) → IsLawfulReading noted → All Fits (log_of_notes noted) → IsLog (log_of_notes noted)
 
--- the lines of the first entries are the first lines of the log, and behind them what is live is what the table says after these entries
+-- the lines of the first entries are the first lines of the log, and behind them what is live is what the table says
+-- after these entries
 pub record StandsBehindEntries (noted : List Noted) (count : ℕ) : Type 0 where
   pub rest : List LogLine
   pub lines : log_of_notes noted ≡ log_of_notes (take count noted) ++ rest
@@ -51,7 +46,8 @@ LeftAreTheRows = (h : Finished) (noted : List Noted) (lines : List LogLine) → 
     → (hs ws : List HNum) → AreKeys (behind_all none_live lines).strong hs → AreKeys (behind_all none_live lines).weak ws → (n : ℕ)
     → (Contains (map (λ h. h.0) hs) n ↔ HasStrength (peers_after noted) n strong) × (Contains (map (λ h. h.0) ws) n ↔ HasStrength (peers_after noted) n weak)
 
--- the lines are the log of a linked history: such a log is read back, and what is live behind it is what the handle table says
+-- the lines are the log of a linked history: such a log is read back, and what is live behind it is what the handle
+-- table says
 pub record IsWholeLog (h : Finished) (ls : List LogLine) : Type 0 where
   pub log : IsLog ls
   pub log_of_history : IsLogOf h ls

@@ -1,11 +1,10 @@
--- A text that is longer than a limit: which of its lines holds the first byte behind the limit, where the lines before it are those of a log, and else
--- which line before it is wrong.
+-- A text that is longer than a limit: which of its lines holds the first byte behind the limit, where the lines before
+-- it are those of a log, and else which line before it is wrong.
+-- Believed: the clauses of the program's top call rest on all that stands here.
 use Rattle.std.specs.Prelude.{◌≡◌, ℕ, ◌+◌, ◌⊎◌, List, length}
 use Rattle.text_limits.specs.Limits.{IsFrontOf}
 use Rattle.log_text.specs.declared.lines.LogCause.{LogCause}
 use Rattle.log_text.specs.declared.lines.LogCause.TheVariants as cause
-use Rattle.log_text.specs.declared.lines.LogError.{LogError}
-use Rattle.log_text.specs.declared.lines.LogError.TheVariants.{OutOfMemory, Refused}
 use Rattle.log_text.specs.declared.lines.LogLine.{LogLine}
 use Rattle.log_text.specs.Behind.{IsLog}
 use Rattle.log_text.specs.Faults.{GoesOn, IsWrongLine}
@@ -29,8 +28,3 @@ pub record IsFaultBefore (most : ℕ) (bytes : List ℕ) (number : ℕ) (why : L
   pub front : List ℕ
   pub cut : IsFrontOf most bytes front
   pub fault : IsFaultOfLine front number why
-
--- why no line is named for its length: no memory, or a line before it is wrong
-abbrev pub IsRefusedBefore : ℕ → List ℕ → LogError → Type 0
-IsRefusedBefore most bytes OutOfMemory = Unit {0}
-IsRefusedBefore most bytes (Refused number why) = IsFaultBefore most bytes number why

@@ -1,19 +1,20 @@
--- The global reference log of a history: which lines its entries give. (The Xamarin.Android documentation: a line for each global and each weak
--- global reference that comes or goes, with the numbers of those that are there.)
+-- The global reference log of a history: which lines its entries give. (The Xamarin.Android documentation: a line for
+-- each global and each weak global reference that comes or goes, with the numbers of those that are there.)
+-- Believed: the clauses of the program's top call rest on all that stands here.
 use Rattle.std.specs.Prelude.{◌≡◌, ℕ, Bool, true, false, if◌then◌else◌, List, [], ◌∷◌, ◌++◌, Option, Some, None, count_by}
-use Rattle.joint_model.specs.declared.lines.Act.TheVariants as act
-use Rattle.joint_model.specs.declared.events.Op.{Op}
-use Rattle.joint_model.specs.declared.events.Op.TheVariants as op
-use Rattle.joint_model.specs.declared.events.Reply.{Reply}
-use Rattle.joint_model.specs.declared.events.Reply.TheVariants as says
-use Rattle.joint_model.specs.Heaps.{slot, numbered_at}
-use Rattle.joint_model.specs.Histories.{Finished}
-use Rattle.joint_model.specs.LinkedHistories.{IsLinkedBy}
-use Rattle.joint_model.specs.Lines.{is_peer_event}
-use Rattle.joint_model.specs.Linked.{peer_after}
-use Rattle.joint_model.specs.PeerReplay.{PeerReplay, TableRow, opening_peer_replay}
-use Rattle.joint_model.specs.Peers.{Issued, Strength, strong, weak, peer_of}
-use Rattle.joint_model.specs.Told.{Noted}
+use Rattle.joint_machine.specs.declared.lines.Act.TheVariants as act
+use Rattle.joint_machine.specs.declared.events.Op.{Op}
+use Rattle.joint_machine.specs.declared.events.Op.TheVariants as op
+use Rattle.joint_machine.specs.declared.events.Reply.{Reply}
+use Rattle.joint_machine.specs.declared.events.Reply.TheVariants as says
+use Rattle.joint_machine.specs.Heaps.{slot, numbered_at}
+use Rattle.joint_machine.specs.Histories.{Finished}
+use Rattle.joint_machine.specs.LinkedHistories.{IsLinkedBy}
+use Rattle.joint_machine.specs.Lines.{is_peer_event}
+use Rattle.joint_machine.specs.Linked.{peer_after}
+use Rattle.joint_machine.specs.PeerReplay.{PeerReplay, TableRow, opening_peer_replay}
+use Rattle.joint_machine.specs.Peers.{Issued, Strength, strong, weak, peer_of}
+use Rattle.joint_machine.specs.Told.{Noted}
 use Rattle.log_text.specs.declared.lines.Mark.{Mark}
 use Rattle.log_text.specs.declared.lines.Mark.TheVariants.{GPlus, GMinus, WPlus, WMinus}
 use Rattle.log_text.specs.declared.lines.LogLine.{LogLine}
@@ -34,8 +35,9 @@ abbrev pub unnamed : PeerReplay → Option ℕ → List Change
 unnamed s None = []
 unnamed s (Some h) = elim (numbered_at s.peers.issued h) [ None ↦ [] | Some i ↦ record { mark = minus i.strength; handle = h } ∷ [] ]
 
--- what an event with its reply changes, in order: a handle is made, gripped or given to a name; a candidate's handle is weakened; a restore gives its
--- peer a new strong handle and removes the weak one, or only removes it; a handle is released; a name's handle goes with the name
+-- what an event with its reply changes, in order: a handle is made, gripped or given to a name; a candidate's handle is
+-- weakened; a restore gives its peer a new strong handle and removes the weak one, or only removes it; a handle is
+-- released; a name's handle goes with the name
 abbrev pub changes : PeerReplay → Op → Reply → List Change
 changes s (op.Make sort f) (says.Made p h) = record { mark = GPlus; handle = h.0 } ∷ []
 changes s (op.Grip x) (says.Gripped p h sort f) = record { mark = GPlus; handle = h.0 } ∷ []
@@ -55,10 +57,6 @@ made_on issued h = elim (peer_of issued h) [ None ↦ 0 | Some p ↦ p ]
 -- what stands behind a change, and behind changes one after another
 abbrev pub changed : List Issued → Behind → Change → Behind
 changed issued v d = moved v d.mark d.handle (made_on issued d.handle)
-
-abbrev pub changed_all : List Issued → Behind → List Change → Behind
-changed_all issued v [] = v
-changed_all issued v (d ∷ ds) = changed_all issued (changed issued v d) ds
 
 -- the line of a change: the counts are those behind it
 abbrev pub line_of : List Issued → ℕ → Behind → Change → LogLine
@@ -111,8 +109,8 @@ peer_in kind None i = None
 peer_in kind (Some row) None = None
 peer_in kind (Some row) (Some i) = if kind row then Some i.peer else None
 
--- what stands behind a log is what the handle table says: each strong row is a live strong handle on its peer, each weak row a live weak one,
--- cleared or not, and the counts are the numbers of these rows
+-- what stands behind a log is what the handle table says: each strong row is a live strong handle on its peer, each
+-- weak row a live weak one, cleared or not, and the counts are the numbers of these rows
 abbrev pub table_behind : List Issued → List (Option TableRow) → Behind
 table_behind issued table = record {
   strong = λ h. peer_in is_strong_row (numbered_at table h) (numbered_at issued h);

@@ -1,26 +1,28 @@
--- What is tracked of the peer side while a log is made: it is computed of events and replies alone. Nothing outside of this crate rests on it.
+-- What is tracked of the peer side while a log is made: it is computed of events and replies alone. Nothing outside of
+-- this crate rests on it.
 use Rattle.std.specs.Prelude.{ℕ, ◌+◌, ◌-◌, min, Bool, true, false, if◌then◌else◌, List, [], ◌∷◌, ◌++◌, Option, Some, None, map, replicate, slice_set}
-use Rattle.joint_model.specs.declared.names.Thread.{Thread}
-use Rattle.joint_model.specs.declared.names.Thread.TheVariants.{P}
-use Rattle.joint_model.specs.declared.lines.Act.{Act}
-use Rattle.joint_model.specs.declared.lines.Act.TheVariants as act
-use Rattle.joint_model.specs.declared.events.Entry.{Entry}
-use Rattle.joint_model.specs.declared.events.Op.{Op}
-use Rattle.joint_model.specs.declared.events.Op.TheVariants as op
-use Rattle.joint_model.specs.declared.events.Reply.{Reply}
-use Rattle.joint_model.specs.declared.events.Reply.TheVariants as says
-use Rattle.joint_model.specs.Heaps.{slot, numbered_at, place}
-use Rattle.joint_model.specs.Peers.{Issued, Peers, is_strong}
+use Rattle.joint_machine.specs.declared.names.Thread.{Thread}
+use Rattle.joint_machine.specs.declared.names.Thread.TheVariants.{P}
+use Rattle.joint_machine.specs.declared.lines.Act.{Act}
+use Rattle.joint_machine.specs.declared.events.Entry.{Entry}
+use Rattle.joint_machine.specs.declared.events.Op.{Op}
+use Rattle.joint_machine.specs.declared.events.Reply.{Reply}
+use Rattle.joint_machine.specs.Heaps.{slot, numbered_at, place}
+use Rattle.joint_machine.specs.Peers.{Issued, Peers, is_strong}
 use Rattle.log_text.specs.declared.lines.LogLine.{LogLine}
 use Rattle.log_text.specs.declared.lines.Mark.{Mark}
 use Rattle.log_text.specs.declared.lines.Mark.TheVariants.{GPlus, GMinus, WPlus, WMinus}
 use Rattle.gref_log.specs.declared.making.Lines.{Lines}
-use Rattle.gref_log.specs.declared.making.Lines.TheVariants as lines
 use Rattle.gref_log.specs.declared.tracked.Given.{Given}
 use Rattle.gref_log.specs.declared.tracked.Move.{Move}
 use Rattle.gref_log.specs.declared.tracked.Moves.{Moves}
+use Rattle.gref_log.specs.Log.{Change, changed}
+use Rattle.log_text.specs.Behind.{Behind}
+use Rattle.joint_machine.specs.declared.lines.Act.TheVariants as act
+use Rattle.joint_machine.specs.declared.events.Op.TheVariants as op
+use Rattle.joint_machine.specs.declared.events.Reply.TheVariants as says
+use Rattle.gref_log.specs.declared.making.Lines.TheVariants as lines
 use Rattle.gref_log.specs.declared.tracked.Moves.TheVariants as moves
-use Rattle.gref_log.specs.Log.{Change}
 
 -- the peer of each variable, the handle of each global name, and each handle as it was given
 pub record Tracked : Type 0 where
@@ -183,3 +185,7 @@ logged_after g e = with_lines (tracked_on g e) e.number (tracked_changes g.track
 abbrev pub logged_all : Logged → List Entry → Logged
 logged_all g [] = g
 logged_all g (e ∷ es) = logged_all (logged_after g e) es
+
+abbrev pub changed_all : List Issued → Behind → List Change → Behind
+changed_all issued v [] = v
+changed_all issued v (d ∷ ds) = changed_all issued (changed issued v d) ds

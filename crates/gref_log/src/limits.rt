@@ -3,7 +3,8 @@
 ghost use Rattle.std.specs.Prelude.{◌≡◌, ℕ, ◌<◌, ◌≤◌, IfErr, IfOk, MatchResult, length};
 ghost use Rattle.log_text.specs.declared.lines.LogCause.{LogCause};
 ghost use Rattle.log_text.specs.declared.lines.LogError.TheVariants.{Refused};
-ghost use Rattle.gref_log.specs.Limit.{IsLongLine, IsRefusedBefore};
+ghost use Rattle.gref_log.specs.Limit.{IsLongLine};
+ghost use Rattle.gref_log.specs.Answers.{IsRefusedBefore};
 
 use log_text::{LogError, read_log};
 use std::alloc::Global;
@@ -24,9 +25,10 @@ fn within(count: u32, error: LogError) -> Result<u32, LogError>
     }
 }
 
-/// Of the text of a log that has more bytes than a limit, the number of the line that holds the first byte behind it, counted from 1, where no line before
-/// it is wrong. `Refused` exactly where a line before it is, with the first one and its first [`log_text::LogCause`]; `OutOfMemory` as [`read_log`] of the
-/// lines before it. Whether a last line stands before it is of no matter.
+/// Of the text of a log that has more bytes than a limit, the number of the line that holds the first byte behind it,
+/// counted from 1, where no line before it is wrong. `Refused` exactly where a line before it is, with the first one
+/// and its first [`log_text::LogCause`]; `OutOfMemory` as [`read_log`] of the lines before it. Whether a last line
+/// stands before it is of no matter.
 pub fn long_line(alloc: Global, bytes: &[u8], most: usize) -> Result<u32, LogError>
     requires few { length bytes.now < 4294967295 }
     requires long { most < length bytes.now }

@@ -3,15 +3,17 @@
 ghost use Rattle.std.specs.Prelude.{◌≡◌, ◌+◌, ◌*◌, ◌≤◌, ◌++◌, ◌∷◌, [], All, Err, IfOk, List, OnOk, Option, ℕ, length};
 ghost use Rattle.std.specs.Io.KnownBytes.{Appends, Keeps};
 ghost use Rattle.byte_streams.specs.Sending.{Sends};
-ghost use Rattle.byte_streams.specs.Streams.{AppendsPart, Rose, Writes};
+ghost use Rattle.byte_streams.specs.Streams.{Writes};
+ghost use Rattle.byte_streams.specs.Faults.{AppendsPart, Rose};
 ghost use Rattle.joint_model.specs.Leaders.{entry_of};
-ghost use Rattle.joint_model.specs.LinkedHistories.{IsLinked, IsLinkedBy};
-ghost use Rattle.joint_model.specs.Told.{Noted};
+ghost use Rattle.joint_machine.specs.LinkedHistories.{IsLinked, IsLinkedBy};
+ghost use Rattle.joint_machine.specs.Told.{Noted};
 ghost use Rattle.log_text.specs.declared.lines.LogLine.{LogLine};
 ghost use Rattle.log_text.specs.Behind.{Fits, behind_all, none_live};
 ghost use Rattle.log_text.specs.Text.{lines_text, log_text as text_of_log};
 ghost use Rattle.gref_log.specs.declared.making.WriteFault.TheVariants as fault;
-ghost use Rattle.gref_log.specs.Laws.{LogPut, peers_after};
+ghost use Rattle.gref_log.specs.Laws.{LogPut};
+ghost use Rattle.gref_log.specs.After.{peers_after};
 ghost use Rattle.gref_log.specs.Log.{IsLogOf, behind_peers};
 ghost use Rattle.gref_log.specs.Tracking.{behind_lines, change_of, counted, listed, logged_after, logged_all, made_lines, nothing_logged, with_line, with_lines};
 
@@ -37,7 +39,8 @@ pub enum Lines {
     Two(LogLine, LogLine),
 }
 
-// What is tracked of the peers, and the counts. These stand apart: one that was just written is slow to read together with what stands beside it.
+// What is tracked of the peers, and the counts. These stand apart: one that was just written is slow to read together
+// with what stands beside it.
 #[derive(Drop)]
 struct Making {
     grefc: u32,
@@ -201,7 +204,8 @@ impl Making {
         }
     }
 
-    // The lines of an entry. What goes by the end of a name is seen before the name is free, and what comes is on the peer that it was given on.
+    // The lines of an entry. What goes by the end of a name is seen before the name is free, and what comes is on the
+    // peer that it was given on.
     #[inline(always)]
     fn take(&mut self, entry: &PackedEntry) -> Lines
         requires { 1 ≤ self.old.room }
@@ -229,8 +233,8 @@ impl Making {
     }
 }
 
-// Writes the lines of all entries. Answers how many there are, also where the sink failed: then the rest is only made, so that the beginning that was
-// written is one of a log whose numbers all fit.
+// Writes the lines of all entries. Answers how many there are, also where the sink failed: then the rest is only made,
+// so that the beginning that was written is one of a log whose numbers all fit.
 fn write_entries<K: Sink>(
     making: &mut Making,
     h: &History,
@@ -275,11 +279,12 @@ fn write_made<K: Sink>(making: &mut Making, h: &History, out: &mut K) -> Result<
     line.flush(out)
 }
 
-/// Writes the text of the global reference log of a linked history: the lines of its peer entries, in order, and `end` with the number of them. It is made
-/// in one walk, in constant time for each entry, and the sink gets it in pieces of at most 16 KiB. Room for the handles is asked for before the first line,
-/// 8 bytes for each entry, of which those take memory by which a handle was given; the lines take none. `OutOfMemory` where there is no such room, or where
-/// there are more entries than 4,294,967,295: nothing was written then. `Failed` only where the sink's count of faults rose, and then a beginning of the
-/// text was written.
+/// Writes the text of the global reference log of a linked history: the lines of its peer entries, in order, and `end`
+/// with the number of them. It is made in one walk, in constant time for each entry, and the sink gets it in pieces of
+/// at most 16 KiB. Room for the handles is asked for before the first line, 8 bytes for each entry, of which those take
+/// memory by which a handle was given; the lines take none. `OutOfMemory` where there is no such room, or where there
+/// are more entries than 4,294,967,295: nothing was written then. `Failed` only where the sink's count of faults rose,
+/// and then a beginning of the text was written.
 pub fn write_log_of<K: Sink>(alloc: Global, h: &History, out: &mut K) -> Result<(), WriteFault>
     requires { IsLinked h.now }
     ensures written { IfOk result (λ _. LogPut h.now (Appends (K.held out.old) (K.held out.new))) }
@@ -313,9 +318,9 @@ fn list_entries(making: &mut Making, h: &History, list: &mut Vec<LogLine>) -> Re
     Ok(())
 }
 
-/// The global reference log of a linked history: the lines of its peer entries, in order. It is made in one walk, in constant time for each entry, with
-/// room for the handles as `write_log_of` asks for it. `AllocError` where there is no memory for them or for the lines, 32 bytes each, or where there are more
-/// entries than 4,294,967,295.
+/// The global reference log of a linked history: the lines of its peer entries, in order. It is made in one walk, in
+/// constant time for each entry, with room for the handles as `write_log_of` asks for it. `AllocError` where there is
+/// no memory for them or for the lines, 32 bytes each, or where there are more entries than 4,294,967,295.
 pub fn log_of(alloc: Global, h: &History) -> Result<Log, AllocError>
     requires { IsLinked h.now }
     ensures log { IfOk result (λ l. IsLogOf h.now l) }

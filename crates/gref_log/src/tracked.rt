@@ -1,8 +1,9 @@
-// What the peer side's entries say of variables, global names and handles, as far as a log needs it. It is computed of events and replies alone.
+// What the peer side's entries say of variables, global names and handles, as far as a log needs it. It is computed of
+// events and replies alone.
 
 ghost use Rattle.std.specs.Prelude.{◌≡◌, ◌+◌, ◌≤◌, [], ◌∷◌, Some, IfOk, length};
-ghost use Rattle.joint_model.specs.declared.events.Op.{Op};
-ghost use Rattle.joint_model.specs.Heaps.{numbered_at, place, slot};
+ghost use Rattle.joint_machine.specs.declared.events.Op.{Op};
+ghost use Rattle.joint_machine.specs.Heaps.{numbered_at, place, slot};
 ghost use Rattle.gref_log.specs.Log.{Change};
 ghost use Rattle.gref_log.specs.Tracking.{after_line, listed, name_leaves, nothing_tracked, peer_at as peer_given, peer_or_none, tracked_after, tracked_changes, with_given, with_name, with_var};
 
@@ -33,7 +34,8 @@ pub struct Given {
     pub strong: bool,
 }
 
-/// The peer that each variable of a peer thread names, the handle of each global name, and the handles that were given, with room for more of them.
+/// The peer that each variable of a peer thread names, the handle of each global name, and the handles that were given,
+/// with room for more of them.
 #[derive(Drop)]
 pub struct Tracker {
     vars: [Option<u32>; 72],
@@ -67,8 +69,9 @@ fn two(first: Mark, h: HNum, second: Mark, g: HNum) -> Moves
 }
 
 impl Tracker {
-    /// Nothing was made yet, and there is room for so many handles, which takes no memory until they are given. `AllocError` where there is no memory for
-    /// them, 8 bytes for each, or where they are more than numbers of 32 bits.
+    /// Nothing was made yet, and there is room for so many handles, which takes no memory until they are given.
+    /// `AllocError` where there is no memory for them, 8 bytes for each, or where they are more than numbers of 32
+    /// bits.
     pub fn with_room(alloc: Global, most: u64) -> Result<Tracker, AllocError>
         ensures nothing { IfOk result (λ t. t.tracked ≡ nothing_tracked) }
         ensures room { IfOk result (λ t. most ≤ t.room) }

@@ -5,23 +5,24 @@ use Rattle.std.specs.Option.{option_to_list}
 use Rattle.std.proofs.lemmas.Option.{get_or_from_slice_get, slice_get_within}
 use Rattle.std.proofs.lemmas.List.Folds.{length-flat_map-take}
 use Rattle.std.proofs.lemmas.List.Elements.{All-contains, All-head, Contains-push_cases}
-use Rattle.joint_model.specs.declared.names.HNum.{HNum}
-use Rattle.joint_model.specs.declared.names.Thread.TheVariants.{C}
-use Rattle.joint_model.specs.declared.events.Op.TheVariants as op
-use Rattle.joint_model.specs.declared.events.Reply.TheVariants as says
-use Rattle.joint_model.specs.Heaps.{Answered, answer, numbered_at, numbered_set}
-use Rattle.joint_model.specs.Peers.{Peers, held, next_handle, peer_of, strong}
-use Rattle.joint_model.specs.PeerReplay.{Mirror, PeerReplay, TableRow, MayRestore, fresh_row, given_anew, renewed_on, restored_by, row_of, with_given, with_restored, withdrawn}
-use Rattle.joint_model.specs.Sides.{Drawing, AddsInTurn, AddsLawful, MayDraw, peer_rules}
-use Rattle.joint_model.specs.Told.{nothing}
-use Rattle.joint_model.proofs.Members.{All-members, Contains-there}
-use Rattle.joint_model.proofs.Numbered.{numbered-push_old, numbered-within, numbered_set-length, numbered_set-other}
+use Rattle.joint_machine.specs.declared.names.HNum.{HNum}
+use Rattle.joint_machine.specs.declared.names.Thread.TheVariants.{C}
+use Rattle.joint_machine.specs.declared.events.Op.TheVariants as op
+use Rattle.joint_machine.specs.declared.events.Reply.TheVariants as says
+use Rattle.joint_machine.specs.Heaps.{Answered, answer, numbered_at, numbered_set}
+use Rattle.joint_machine.specs.Peers.{Peers, held, next_handle, peer_of, strong}
+use Rattle.joint_machine.specs.PeerReplay.{Mirror, PeerReplay, TableRow, MayRestore, fresh_row, given_anew, renewed_on, restored_by, row_of, with_given, with_restored, withdrawn}
+use Rattle.joint_machine.specs.Draws.{Drawing}
+use Rattle.joint_machine.specs.Sides.{AddsInTurn, AddsLawful, MayDraw, peer_rules}
+use Rattle.joint_machine.specs.Told.{nothing}
+use Rattle.joint_machine.proofs.Members.{All-members, Contains-there}
+use Rattle.joint_machine.proofs.Numbered.{numbered-push_old, numbered-within, numbered_set-length, numbered_set-other}
 use Rattle.global_handles.specs.declared.Back.{Back}
 use Rattle.global_handles.specs.Rows.{back_of}
-use Rattle.peer_side.specs.Cycles.{restores}
-use Rattle.peer_side.specs.Sides.{PeerModel, seen}
-use Rattle.peer_side.proofs.Makings.{draws-on}
-use Rattle.peer_side.proofs.Steps.{row-tabled}
+use Rattle.peer_heap.specs.Cycles.{restores}
+use Rattle.peer_heap.specs.Sides.{PeerModel, seen}
+use Rattle.peer_heap.proofs.Makings.{draws-on}
+use Rattle.peer_heap.proofs.Steps.{row-tabled}
 use Rattle.handle_weaken.specs.Entries.{RestoresInTurn, restorings}
 use Rattle.handle_weaken.proofs.Turns.{apart-first, apart-rest, done-none, done-some, left-none, left-some, turn-more}
 use Rattle.bridge_graph.specs.declared.graph.Node.{Node}

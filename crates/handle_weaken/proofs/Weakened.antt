@@ -3,19 +3,20 @@ use Rattle.std.proofs.Common.{◌≡◌, ◌≢◌, ℕ, ◌+◌, ◌-◌, ◌�
 use Rattle.std.specs.Prelude.{All, AllPairs}
 use Rattle.std.proofs.lemmas.List.{map-append}
 use Rattle.std.proofs.lemmas.List.Elements.{All-contains, All-head}
-use Rattle.joint_model.specs.declared.names.HNum.{HNum}
-use Rattle.joint_model.specs.declared.names.Thread.TheVariants.{C}
-use Rattle.joint_model.specs.declared.events.Op.TheVariants as op
-use Rattle.joint_model.specs.Heaps.{numbered_at, numbered_set}
-use Rattle.joint_model.specs.PeerReplay.{PeerReplay, TableRow, MayWeaken, row_of, with_weakened}
-use Rattle.joint_model.specs.Sides.{Drawing, Making, AddsInTurn, AddsLawful, MayDraw, peer_rules}
-use Rattle.joint_model.specs.Told.{nothing}
-use Rattle.joint_model.proofs.Members.{All-members, Contains-there}
-use Rattle.joint_model.proofs.Numbered.{numbered_set-other}
-use Rattle.peer_side.specs.Cycles.{reserve_left, weakens}
-use Rattle.peer_side.specs.Mirroring.{weak_row}
-use Rattle.peer_side.specs.Sides.{PeerModel, Reserve, seen}
-use Rattle.peer_side.proofs.Makings.{draws-on}
+use Rattle.joint_machine.specs.declared.names.HNum.{HNum}
+use Rattle.joint_machine.specs.declared.names.Thread.TheVariants.{C}
+use Rattle.joint_machine.specs.declared.events.Op.TheVariants as op
+use Rattle.joint_machine.specs.Heaps.{numbered_at, numbered_set}
+use Rattle.joint_machine.specs.PeerReplay.{PeerReplay, TableRow, MayWeaken, row_of, with_weakened}
+use Rattle.joint_machine.specs.Draws.{Drawing}
+use Rattle.joint_machine.specs.Sides.{Making, AddsInTurn, AddsLawful, MayDraw, peer_rules}
+use Rattle.joint_machine.specs.Told.{nothing}
+use Rattle.joint_machine.proofs.Members.{All-members, Contains-there}
+use Rattle.joint_machine.proofs.Numbered.{numbered_set-other}
+use Rattle.peer_heap.specs.Cycles.{reserve_left, weakens}
+use Rattle.peer_heap.specs.Mirroring.{weak_row}
+use Rattle.peer_heap.specs.Sides.{PeerModel, Reserve, seen}
+use Rattle.peer_heap.proofs.Makings.{draws-on}
 use Rattle.handle_weaken.specs.Entries.{reserve_weakened, weakenings}
 use Rattle.handle_weaken.proofs.Turns.{apart-first, apart-rest, done-none, done-some, left-none, left-some, turn-more}
 use Rattle.bridge_graph.specs.declared.graph.Node.{Node}

@@ -1,12 +1,13 @@
 -- The entries of weakening and restoring handles one after another. (This project's own.)
 use Rattle.std.specs.Prelude.{◌≡◌, ℕ, ◌-◌, ◌++◌, Option, List, [], ◌∷◌, length, map}
-use Rattle.joint_model.specs.declared.names.HNum.{HNum}
-use Rattle.joint_model.specs.PeerReplay.{PeerReplay}
-use Rattle.joint_model.specs.Sides.{Side, Drawing, Making, peer_rules, AddsInTurn}
-use Rattle.joint_model.specs.Told.{nothing}
+use Rattle.joint_machine.specs.declared.names.HNum.{HNum}
+use Rattle.joint_machine.specs.PeerReplay.{PeerReplay}
+use Rattle.joint_machine.specs.Draws.{Drawing}
+use Rattle.joint_machine.specs.Sides.{Side, Making, peer_rules, AddsInTurn}
+use Rattle.joint_machine.specs.Told.{nothing}
 use Rattle.global_handles.specs.Rows.{back_of}
-use Rattle.peer_side.specs.Cycles.{restores, weakens}
-use Rattle.peer_side.specs.Sides.{Reserve}
+use Rattle.peer_heap.specs.Cycles.{restores, weakens}
+use Rattle.peer_heap.specs.Sides.{Reserve}
 
 -- the entries that weaken these handles, each of which cites the snap
 abbrev pub weakenings : ℕ → ℕ → List HNum → List Making

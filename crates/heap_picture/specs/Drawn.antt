@@ -1,6 +1,6 @@
 -- What is drawn of the bytes of a report, or why nothing is.
 use Rattle.std.specs.Prelude.{◌≡◌, ℕ, ◌+◌, ◌<◌, ◌≤◌, List, codes, length, take}
-use Rattle.joint_model.specs.Histories.{Finished}
+use Rattle.joint_machine.specs.Histories.{Finished}
 use Rattle.bridge_script.specs.declared.faults.Cause.TheVariants.{Bytes}
 use Rattle.bridge_script.specs.Causes.{fault_text}
 use Rattle.report_reader.specs.Reading.{IsReadAs}
@@ -9,7 +9,7 @@ use Rattle.limited_reports.specs.Limits.{IsNoneWithin}
 use Rattle.report_answers.specs.Answers.{finding_text, refusal_text}
 use Rattle.check_laws.specs.declared.findings.Finding.{Finding}
 use Rattle.check_laws.specs.declared.findings.Finding.TheVariants as finding
-use Rattle.check_laws.specs.Found.{IsFinding}
+use Rattle.check_laws.specs.Findings.{IsFinding}
 use Rattle.heap_views.specs.Views.{IsStuck, Seen, View, opening_view}
 use Rattle.heap_pictures.specs.Drawing.{drawing_of}
 use Rattle.picture_text.specs.Texts.{picture_text}
@@ -30,14 +30,15 @@ abbrev pub IsIllegalBy : ℕ → Finding → Type 0
 IsIllegalBy n (finding.Illegal i why) = i ≤ n
 IsIllegalBy n _ = ⊥
 
--- what a picture tells: its nodes are the unfreed objects, each has one, and its paths lead to what the joint machine has reached
+-- what a picture tells: its nodes are the unfreed objects, each has one, and its paths lead to what the joint machine
+-- has reached
 pub record Tells (v : View) : Type 0 where
   pub nodes : NodesAreUnfreed v
   pub names : HasOneNodeEach v
   pub paths : PathsAreReached v
 
--- the text is that of the picture after entry n of the report: the bytes are read as a history, whose entries up to that one are found in order; it is the
--- picture of what is seen after them, with the entry's line as its title
+-- the text is that of the picture after entry n of the report: the bytes are read as a history, whose entries up to
+-- that one are found in order; it is the picture of what is seen after them, with the entry's line as its title
 pub record IsPicture (input : List ℕ) (n : ℕ) (text : List ℕ) : Type 0 where
   pub history : Finished
   pub reads : IsReadAs input history
@@ -58,7 +59,8 @@ pub record IsFoundIllegal (input : List ℕ) (n : ℕ) (f : Finding) (count : �
   pub illegal : IsIllegalBy n f
   pub counted : count ≡ length history.entries
 
--- the bytes are read as a history that has no such entry; or one of the entries up to it is no step of the joint machine
+-- the bytes are read as a history that has no such entry; or one of the entries up to it is no step of the joint
+-- machine
 pub record HasNoEntry (input : List ℕ) (n : ℕ) : Type 0 where
   pub history : Finished
   pub reads : IsReadAs input history

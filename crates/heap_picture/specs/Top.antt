@@ -5,7 +5,7 @@ use Rattle.std.specs.Vec.Iter.{into_iter_items}
 use Rattle.std.specs.declared.string.String.{String}
 use Rattle.std.specs.declared.vec.IntoIter.{IntoIter}
 use Rattle.byte_streams.specs.Reading.{Took}
-use Rattle.byte_streams.specs.Streams.{Rose}
+use Rattle.byte_streams.specs.Faults.{Rose}
 use Rattle.heap_picture.specs.declared.drawing.Refusal.{Refusal}
 use Rattle.heap_picture.specs.Drawn.{IsPicture, IsRefused, refusal_line}
 
@@ -55,7 +55,8 @@ abbrev pub words_told : {A Z E : Type 0} → Result (IntoIter (String A) Z) E �
 words_told (Ok given) = map string_bytes (drop 1 (into_iter_items given))
 words_told (Err e) = []
 
--- how the program ends that was asked by these words: with the status, the bytes and the counts of faults that the top call promises
+-- how the program ends that was asked by these words: with the status, the bytes and the counts of faults that the top
+-- call promises
 pub record Ends (words : List (List ℕ)) (left rest : Option (List ℕ)) (read_before read_now : ℕ) (held after : Option (List ℕ)) (write_before write_now status : ℕ) : Type 0 where
   pub printed : status ≡ 0 → PicturePut 268435456 words left rest (Appends held after)
   pub usage : status ≡ 1 → UsagePut words (Appends held after)

@@ -12,7 +12,8 @@ use program::run_program;
 use std::process::ExitCode;
 use std_streams::{StdSink, StdSource};
 
-// No clause may stand here, so this only puts the real objects together: what happens with them, and the exit code, are `run_program`'s.
+// No clause may stand here, so this only puts the real objects together: what happens with them, and the exit code, are
+// `run_program`'s.
 fn main(rt: HostRuntime) -> ExitCode {
     run_program(
         rt.alloc(),

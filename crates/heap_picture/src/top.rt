@@ -2,7 +2,7 @@
 
 ghost use Rattle.std.specs.Prelude.{◌≡◌, ◌≤◌, ◌<◌, ◌⊎◌, map, string_bytes, length};
 ghost use Rattle.std.specs.Io.KnownBytes.{Appends, Keeps};
-ghost use Rattle.byte_streams.specs.Streams.{Rose};
+ghost use Rattle.byte_streams.specs.Faults.{Rose};
 ghost use Rattle.heap_picture.specs.Drawn.{refusal_line};
 ghost use Rattle.heap_picture.specs.Top.{NamesEntry, PictureOf, PicturePut, RefusalOf, RefusalPut, UsagePut, usage_text};
 
@@ -15,9 +15,10 @@ use std::alloc::Global;
 // The most bytes of a report.
 const MOST_BYTES: usize = 268_435_456;
 
-/// Reads a report from `src`, to its end or to one byte past 268,435,456, and writes to `out` the picture of both heaps after the entry that the words name.
-/// Answers the program's exit status: 0 where the picture was written, 1 where the words name no entry, 2 where the source failed, 3 where the input is no
-/// report, or is found illegal at that entry or before it, or has no such entry, 4 where the sink failed, 5 where there was no memory.
+/// Reads a report from `src`, to its end or to one byte past 268,435,456, and writes to `out` the picture of both heaps
+/// after the entry that the words name. Answers the program's exit status: 0 where the picture was written, 1 where the
+/// words name no entry, 2 where the source failed, 3 where the input is no report, or is found illegal at that entry or
+/// before it, or has no such entry, 4 where the sink failed, 5 where there was no memory.
 pub fn picture_main<S: Source, K: Sink>(
     alloc: Global,
     words: &Vec<String>,

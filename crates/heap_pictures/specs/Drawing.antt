@@ -1,11 +1,11 @@
 -- The picture of what there is to see: a function of it. All lists stand by rising number.
 use Rattle.std.specs.Prelude.{ℕ, Bool, true, false, ◌&&◌, not, if◌then◌else◌, List, [], ◌∷◌, ◌++◌, length, filter, Option, Some, None}
 use Rattle.std.specs.List.{flat_map, range_with_len}
-use Rattle.joint_model.specs.Components.{End, node, temporary}
-use Rattle.joint_model.specs.Heaps.{Heap, slot, numbered_at, fields_of}
-use Rattle.joint_model.specs.Joint.{Joint}
-use Rattle.joint_model.specs.Managed.{candidates_of, handle_of}
-use Rattle.joint_model.specs.Peers.{Issued, is_held, is_strong, peer_of, sort_of}
+use Rattle.joint_machine.specs.Components.{End, node, temporary}
+use Rattle.joint_machine.specs.Heaps.{Heap, slot, numbered_at, fields_of}
+use Rattle.joint_machine.specs.Joint.{Joint}
+use Rattle.joint_machine.specs.Managed.{candidates_of, handle_of}
+use Rattle.joint_machine.specs.Peers.{Issued, is_held, is_strong, peer_of, sort_of}
 use Rattle.joint_replay.specs.Plain.{dead_of, is_live, kept_target}
 use Rattle.heap_views.specs.Views.{View}
 use Rattle.heap_pictures.specs.declared.pictures.Arrow.{Arrow}
@@ -66,15 +66,16 @@ field_arrows side h = flat_map (object_arrows side h) (numbers_to (length h.fiel
 abbrev pub is_tabled : Joint → ℕ → Bool
 is_tabled j h = elim (numbered_at j.graph.removed h) [ None ↦ false | Some gone ↦ not gone ]
 
--- how the handle of a managed object is drawn: one that has left the table, one that a cycle made weak, or a strong one; and where its peer is
--- freed, a cleared one
+-- how the handle of a managed object is drawn: one that has left the table, one that a cycle made weak, or a strong
+-- one; and where its peer is freed, a cleared one
 abbrev pub held_style : View → ℕ → Style
 held_style v h = if is_tabled v.joint h then (if is_in v.weakened h then style.Weak else style.Full) else style.Gone
 
 abbrev pub faded_style : Joint → ℕ → Style
 faded_style j h = if is_tabled j h then style.Cleared else style.Gone
 
--- the arrow of the handle that a managed object holds: to its peer and back, or to the bare handle where the peer is freed
+-- the arrow of the handle that a managed object holds: to its peer and back, or to the bare handle where the peer is
+-- freed
 abbrev pub held_arrow : View → ℕ → ℕ → Option ℕ → List Arrow
 held_arrow v m h None = []
 held_arrow v m h (Some p) = if is_live v.joint.graph.peers.heap p then arrow.Held m h p (held_style v h) ∷ [] else arrow.Faded m h (faded_style v.joint h) ∷ []

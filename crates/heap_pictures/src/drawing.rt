@@ -1,7 +1,7 @@
 // The picture of what there is to see.
 
 ghost use Rattle.std.specs.Prelude.{◌≡◌, ◌++◌, ◌<◌, OnOk, IfOk, length};
-ghost use Rattle.joint_model.specs.Heaps.{fields_of};
+ghost use Rattle.joint_machine.specs.Heaps.{fields_of};
 ghost use Rattle.heap_views.specs.Mirrored.{end_as, ends_as};
 ghost use Rattle.heap_pictures.specs.Drawing.{all_slots, arrows_of, boxes, drawing_of, drawn_of, field_arrow, field_arrows, object_arrows, object_node, object_nodes, peer_node, peer_nodes, ref_arrow, ref_arrows, ref_spot, row_arrows, slot_arrows, spot_of};
 

@@ -1,7 +1,7 @@
 // Arrows of handles.
 
 ghost use Rattle.std.specs.Prelude.{◌≡◌, ◌++◌, ◌+◌, ℕ, List, Some, OnOk, IfOk, length};
-ghost use Rattle.joint_model.specs.Heaps.{numbered_at};
+ghost use Rattle.joint_machine.specs.Heaps.{numbered_at};
 ghost use Rattle.joint_replay.specs.Plain.{issued_as};
 ghost use Rattle.heap_pictures.specs.Flags.{AreFlags, flag_at, is_in};
 ghost use Rattle.heap_pictures.specs.Drawing.{box_arrow, box_of, boxes, faded_style, grip_style, handle_list, held_arrow, held_style, is_box, owned, tie, ties};

@@ -2,7 +2,7 @@
 
 ghost use Rattle.std.specs.Prelude.{◌≡◌};
 
-use joint_model::{Kind, Sort};
+use joint_machine::{Kind, Sort};
 use std::marker::Model;
 
 /// One of the two heaps.
@@ -23,7 +23,8 @@ pub enum Slots {
     Names,
 }
 
-/// Where an arrow begins or ends: a node, a handle, the slot with that place in its list, or the temporary of a heavy class.
+/// Where an arrow begins or ends: a node, a handle, the slot with that place in its list, or the temporary of a heavy
+/// class.
 #[derive(Clone, Copy, PartialEq, Eq, Debug)]
 pub enum Spot {
     Object(u32),
@@ -42,9 +43,10 @@ pub enum Style {
     Gone,
 }
 
-/// An arrow. `Field`: field `i` of an object holds another. `Held`: the handle that managed object `m` holds leads to peer `p`, which belongs to it. `Faded`:
-/// the handle that `m` holds leads to no peer any more. `Names`: a slot. `Grips`: a handle that no managed object holds leads to peer `p`; `Stub`: to none any
-/// more. `Refers`: a reference that a cycle added.
+/// An arrow. `Field`: field `i` of an object holds another. `Held`: the handle that managed object `m` holds leads to
+/// peer `p`, which belongs to it. `Faded`: the handle that `m` holds leads to no peer any more. `Names`: a slot.
+/// `Grips`: a handle that no managed object holds leads to peer `p`; `Stub`: to none any more. `Refers`: a reference
+/// that a cycle added.
 #[derive(Clone, Copy, PartialEq, Eq, Debug)]
 pub enum Arrow {
     Field {

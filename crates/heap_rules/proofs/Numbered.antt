@@ -5,7 +5,7 @@ use Rattle.std.specs.Prelude.{Contains, slice_get}
 use Rattle.std.specs.Option.{option_map}
 use Rattle.std.proofs.lemmas.List.{map-set, map-append, length-map, take_more}
 use Rattle.std.proofs.lemmas.Option.{slice_get_read, slice_get-map}
-use Rattle.joint_model.specs.Heaps.{Heap, IsMade, fields_of, numbered_at, numbered_set, slot}
+use Rattle.joint_machine.specs.Heaps.{Heap, IsMade, fields_of, numbered_at, numbered_set, slot}
 
 -- an element that is read at index n - 1, of a list and of the list behind a view
 pub numbered-index : {A : Type 0} (vs : List A) (n : ℕ) (r : A) → 1 ≤ n → n ≤ length vs → r ≡ get_or vs (n - 1) r → numbered_at vs n ≡ Some r

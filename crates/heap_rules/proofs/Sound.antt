@@ -8,12 +8,12 @@ use Rattle.std.proofs.Math.ListN.{length-set}
 use Rattle.std.proofs.lemmas.List.Elements.{Contains-append_cases, Contains-append_left, Contains-append_right, Contains-push, Contains-push_cases, All-contains}
 use Rattle.std.proofs.lemmas.List.{take-map}
 use Rattle.std.proofs.lemmas.Option.{slice_get_within, same_Some}
-use Rattle.joint_model.specs.Components.{Rises}
-use Rattle.joint_model.specs.Heaps.{Heap, MOST, IsLive, InSlot, numbered_at, numbered_set, fields_of, with_object, with_var, with_static, with_field, with_freed}
-use Rattle.joint_model.proofs.Members.{Contains-cons_cases, Contains-at, Contains-decided}
-use Rattle.joint_model.proofs.Numbered.{Contains-set_cases, numbered-within, numbered-made, numbered-push_cases, numbered_set-length, replicate-none}
-use Rattle.joint_model.proofs.HeapLemmas.{IsLive-before, IsLive-left, IsLive-later}
-use Rattle.joint_model.proofs.Deciding.{true_false}
+use Rattle.joint_machine.specs.Components.{Rises}
+use Rattle.joint_machine.specs.Heaps.{Heap, MOST, IsLive, InSlot, numbered_at, numbered_set, fields_of, with_object, with_var, with_static, with_field, with_freed}
+use Rattle.joint_machine.proofs.Members.{Contains-cons_cases, Contains-at, Contains-decided}
+use Rattle.joint_machine.proofs.Numbered.{Contains-set_cases, numbered-within, numbered-made, numbered-push_cases, numbered_set-length, replicate-none}
+use Rattle.joint_machine.proofs.HeapLemmas.{IsLive-before, IsLive-left, IsLive-later}
+use Rattle.joint_machine.proofs.Deciding.{true_false}
 use Rattle.heap_rules.specs.Tidy.{IsTidy, CanFree}
 use Rattle.heap_rules.specs.Flags.{IsUp, AreLiveFlags, IsSound, TakesDown, up_count}
 use Rattle.heap_rules.proofs.Numbered.{number-at, map-take_more, numbered_set-index, row-is, row-set_cases, row-there}

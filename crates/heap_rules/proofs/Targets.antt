@@ -1,10 +1,10 @@
 -- The targets of a heap's graph: an object that isn't freed leads to what its fields hold, and all else leads nowhere.
 use Rattle.std.proofs.Common.{◌≡◌, ℕ, Bool, true, false, [], Option, cond, refl, sym, ap, ◌∙◌, arith}
 use Rattle.std.specs.Prelude.{Contains}
-use Rattle.joint_model.specs.Heaps.{Heap, IsLive, fields_of, is_freed}
-use Rattle.joint_model.proofs.Numbered.{numbered-within}
-use Rattle.joint_model.proofs.HeapLemmas.{Contains-is_freed, is_freed-live}
-use Rattle.joint_model.proofs.Deciding.{true_false}
+use Rattle.joint_machine.specs.Heaps.{Heap, IsLive, fields_of, is_freed}
+use Rattle.joint_machine.proofs.Numbered.{numbered-within}
+use Rattle.joint_machine.proofs.HeapLemmas.{Contains-is_freed, is_freed-live}
+use Rattle.joint_machine.proofs.Deciding.{true_false}
 use Rattle.heap_rules.specs.Tidy.{live_fields}
 use Rattle.heap_rules.proofs.Numbered.{row-there}
 

@@ -1,8 +1,8 @@
 -- What an operation of a heap answers, and the reply that it stands for. (This project's own.)
 use Rattle.std.specs.Prelude.{◌≡◌, ℕ}
-use Rattle.joint_model.specs.declared.events.Reply.{Reply}
-use Rattle.joint_model.specs.declared.events.Reply.TheVariants as says
-use Rattle.joint_model.specs.Heaps.{Heap, Answered, answer}
+use Rattle.joint_machine.specs.declared.events.Reply.{Reply}
+use Rattle.joint_machine.specs.declared.events.Reply.TheVariants as says
+use Rattle.joint_machine.specs.Heaps.{Heap, Answered, answer}
 use Rattle.heap_rules.specs.declared.done.Done.{Done}
 use Rattle.heap_rules.specs.declared.done.Done.TheVariants as done
 

@@ -1,7 +1,7 @@
 -- A flag for each object of a heap, true exactly for the live ones, so that one look tells. (This project's
 -- own.)
 use Rattle.std.specs.Prelude.{◌≡◌, ℕ, ◌+◌, ◌≤◌, Bool, true, false, List, [], ◌∷◌, Contains, Some, length}
-use Rattle.joint_model.specs.Heaps.{Heap, IsLive, numbered_at}
+use Rattle.joint_machine.specs.Heaps.{Heap, IsLive, numbered_at}
 use Rattle.heap_rules.specs.Tidy.{IsTidy}
 
 -- the object's flag is up

@@ -1,8 +1,8 @@
 -- What holds of every heap that operations have made: what is named, or held by a live object, is live.
 -- (Memory safety of a traced heap, as in any textbook.)
 use Rattle.std.specs.Prelude.{◌≡◌, ℕ, ◌≤◌, if◌then◌else◌, List, [], All, Contains, Option, Some, length}
-use Rattle.joint_model.specs.Components.{Rises}
-use Rattle.joint_model.specs.Heaps.{Heap, MOST, IsMade, IsLive, InSlot, fields_of, is_freed}
+use Rattle.joint_machine.specs.Components.{Rises}
+use Rattle.joint_machine.specs.Heaps.{Heap, MOST, IsMade, IsLive, InSlot, fields_of, is_freed}
 
 -- no slot and no field of a live object has a freed one, and the tables have their sizes
 pub record IsTidy (h : Heap) : Type 0 where

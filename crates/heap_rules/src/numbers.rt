@@ -2,7 +2,7 @@
 
 ghost use Rattle.std.specs.Prelude.{◌≡◌, ℕ};
 
-use joint_model::{MNum, PNum};
+use joint_machine::{MNum, PNum};
 
 /// The number of an object in the owner's own type, as [`MNum`] or [`PNum`].
 pub trait Number: Copy {

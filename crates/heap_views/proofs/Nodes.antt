@@ -2,10 +2,10 @@
 use Rattle.std.proofs.Common.{◌≡◌, ℕ, zero, suc, ◌+◌, ◌<◌, Bool, true, false, List, [], ◌∷◌, ◌++◌, length, map, take, get_or, refl, arith}
 use Rattle.std.specs.Prelude.{All, Contains, slice_index_or}
 use Rattle.std.proofs.lemmas.List.Elements.{All-nil, All-cons, All-head, All-tail, All-contains}
-use Rattle.joint_model.specs.Components.{Rises}
-use Rattle.joint_model.specs.Managed.{Managed}
+use Rattle.joint_machine.specs.Components.{Rises}
+use Rattle.joint_machine.specs.Managed.{Managed}
 use Rattle.std.proofs.lemmas.Option.{slice_get-get_or}
-use Rattle.joint_model.proofs.Members.{Contains-at}
+use Rattle.joint_machine.proofs.Members.{Contains-at}
 use Rattle.bridge_graph.specs.declared.graph.Node.{Node}
 use Rattle.heap_views.specs.Mirrored.{row_node}
 

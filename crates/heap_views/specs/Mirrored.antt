@@ -1,8 +1,8 @@
 -- The ends of references, as the program keeps them, and the nodes of the dead part.
 use Rattle.std.specs.Prelude.{ℕ, false}
 use Rattle.std.specs.Option.{option_map}
-use Rattle.joint_model.specs.Components.{End, node, temporary}
-use Rattle.joint_model.specs.Managed.{Managed, handle_of}
+use Rattle.joint_machine.specs.Components.{End, node, temporary}
+use Rattle.joint_machine.specs.Managed.{Managed, handle_of}
 use Rattle.bridge_graph.specs.declared.graph.Node.{Node}
 use Rattle.heap_views.specs.declared.mirrored.MirrorEnd.{MirrorEnd}
 use Rattle.heap_views.specs.declared.mirrored.MirrorEnd.TheVariants as ends

@@ -1,15 +1,15 @@
--- What there is to see of both heaps after some entries of a history: the joint machine's state, which handles a cycle made weak, and the
--- references that a cycle added between peers.
+-- What there is to see of both heaps after some entries of a history: the joint machine's state, which handles a cycle
+-- made weak, and the references that a cycle added between peers.
 use Rattle.std.specs.Prelude.{◌≡◌, ℕ, ◌+◌, ◌≤◌, Bool, true, false, ◌&&◌, if◌then◌else◌, List, [], ◌∷◌, ◌++◌, Some, slice_get, take}
-use Rattle.joint_model.specs.declared.events.Op.{Op}
-use Rattle.joint_model.specs.declared.events.Op.TheVariants as op
-use Rattle.joint_model.specs.declared.events.Entry.{Entry}
-use Rattle.joint_model.specs.Components.{End}
-use Rattle.joint_model.specs.Histories.{Finished}
-use Rattle.joint_model.specs.Joint.{Joint, opening}
-use Rattle.joint_model.specs.Linked.{is_joint}
-use Rattle.joint_model.specs.Lines.{is_read}
-use Rattle.joint_model.specs.Readers.{is_set_aside}
+use Rattle.joint_machine.specs.declared.events.Op.{Op}
+use Rattle.joint_machine.specs.declared.events.Op.TheVariants as op
+use Rattle.joint_machine.specs.declared.events.Entry.{Entry}
+use Rattle.joint_machine.specs.Components.{End}
+use Rattle.joint_machine.specs.Histories.{Finished}
+use Rattle.joint_machine.specs.Joint.{Joint, opening}
+use Rattle.joint_machine.specs.Linked.{is_joint}
+use Rattle.joint_machine.specs.Lines.{is_read}
+use Rattle.joint_machine.specs.Readers.{is_set_aside}
 use Rattle.joint_replay.specs.declared.state.Verdict.{Verdict}
 use Rattle.joint_replay.specs.declared.state.Verdict.TheVariants.{Lawful, Unlawful}
 use Rattle.joint_replay.specs.Judging.{IsStepOf}

@@ -1,7 +1,7 @@
 // The references that a mirror adds between the peers of the open cycle's dead part.
 
 ghost use Rattle.std.specs.Prelude.{◌≡◌, ◌<◌, [], ◌++◌, ◌∷◌, All, OnOk, false, map};
-ghost use Rattle.joint_model.specs.Control.{peer_of_row};
+ghost use Rattle.joint_machine.specs.Control.{peer_of_row};
 ghost use Rattle.joint_replay.specs.Plain.{dead_of};
 ghost use Rattle.heap_views.specs.Mirrored.{row_node};
 
@@ -153,8 +153,8 @@ fn carried(joint: &JointState, graph: &DeadGraph, comps: &Components, end: End) 
     }
 }
 
-/// The references that a mirror adds: circles in the components of the open cycle's dead part, and one for each cross-reference, between the peers of their
-/// rows and the temporaries of heavy classes.
+/// The references that a mirror adds: circles in the components of the open cycle's dead part, and one for each
+/// cross-reference, between the peers of their rows and the temporaries of heavy classes.
 pub fn mirrored_refs(
     alloc: Global,
     joint: &JointState,

@@ -1,9 +1,9 @@
 // The view, and how it goes from entry to entry.
 
 ghost use Rattle.std.specs.Prelude.{◌≡◌, ◌&&◌, ◌+◌, ◌<◌, IfOk, OnOk, MatchOption, Some, length, slice_get, take, map};
-ghost use Rattle.joint_model.specs.Linked.{is_joint};
-ghost use Rattle.joint_model.specs.Lines.{is_read};
-ghost use Rattle.joint_model.specs.Readers.{is_set_aside};
+ghost use Rattle.joint_machine.specs.Linked.{is_joint};
+ghost use Rattle.joint_machine.specs.Lines.{is_read};
+ghost use Rattle.joint_machine.specs.Readers.{is_set_aside};
 ghost use Rattle.heap_views.specs.Mirrored.{ends_as};
 ghost use Rattle.heap_views.specs.Views.{GoesOn, IsSeenOn, IsStuck, MovesOn, RefsAfter, Seen, is_lawful, is_step, opening_view, weakened_after};
 
@@ -157,8 +157,8 @@ fn go_on(view: &mut HeapView, h: &History, i: u64, entry: &Entry) -> Result<bool
     view.go(h, entry)
 }
 
-/// What there is to see after entry `n` of a history; None where one of the entries up to it is no step of the joint machine. Answers `AllocError` where
-/// there is no memory.
+/// What there is to see after entry `n` of a history; None where one of the entries up to it is no step of the joint
+/// machine. Answers `AllocError` where there is no memory.
 pub fn view_after(alloc: Global, h: &History, n: u64) -> Result<Option<HeapView>, AllocError>
     requires { n < length h.now.entries }
     ensures { IfOk result (λ found. MatchOption found (IsStuck h.now n) (λ v. Seen h.now opening_view (take (n + 1) h.now.entries) v)) }

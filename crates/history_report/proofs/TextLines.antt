@@ -1,20 +1,20 @@
--- The line of an entry, and what is read back from it. No word of a line has a space and no line a newline, so a line is cut into
--- its words by the spaces; the first word is the place, and the event's words stand before the first equals sign. The last line
--- begins with a letter, each other one with a digit.
+-- The line of an entry, and what is read back from it. No word of a line has a space and no line a newline, so a line
+-- is cut into its words by the spaces; the first word is the place, and the event's words stand before the first equals
+-- sign. The last line begins with a letter, each other one with a digit.
 use Rattle.std.proofs.Common.{◌≡◌, ℕ, ◌<◌, ◌≤◌, ◌^◌, List, [], ◌∷◌, ◌++◌, drop, get_or, Option, Some, None, codes, decimal, refl, sym, ◌∙◌, ap, arith, append_assoc, All}
 use Rattle.std.specs.List.{AllByRecursion}
 use Rattle.std.proofs.lemmas.List.Elements.{All-head, All-tail}
-use Rattle.joint_model.specs.declared.names.Span.{Span}
-use Rattle.joint_model.specs.declared.names.Thread.{Thread}
-use Rattle.joint_model.specs.declared.names.Thread.TheVariants.{M, P, C}
-use Rattle.joint_model.specs.declared.events.Entry.{Entry}
-use Rattle.joint_model.specs.Histories.{Finished}
-use Rattle.joint_model.specs.Lines.{IsThread}
+use Rattle.joint_machine.specs.declared.names.Span.{Span}
+use Rattle.joint_machine.specs.declared.names.Thread.{Thread}
+use Rattle.joint_machine.specs.declared.names.Thread.TheVariants.{M, P, C}
+use Rattle.joint_machine.specs.declared.events.Entry.{Entry}
+use Rattle.joint_machine.specs.Histories.{Finished}
+use Rattle.joint_machine.specs.Lines.{IsThread}
 use Rattle.byte_streams.proofs.Written.{after_spaces-append}
 use Rattle.history_report.specs.declared.lists.Numbers.{Numbers}
 use Rattle.history_report.specs.declared.lists.Numbers.TheVariants.{Freed, FreedPeers, Notices}
 use Rattle.bridge_script.specs.Words.{thread_text}
-use Rattle.byte_streams.specs.Drafts.{after_spaces}
+use Rattle.byte_streams.specs.Spaced.{after_spaces}
 use Rattle.history_report.specs.Lists.{list_words}
 use Rattle.history_report.specs.Report.{event_words, reply_words, list_of, shown, cite_words, place_text, head_words, entry_text, entries_text}
 use Rattle.text_words.proofs.Cutting.{Lacks, every-append, cut-first}

@@ -2,9 +2,9 @@
 use Rattle.std.proofs.Common.{◌≡◌, ℕ, ◌+◌, ◌<◌, ◌≤◌, List, [], ◌∷◌, ◌++◌, length, take, drop, get_or, Some, None, slice_get, codes, decimal, sym, ◌∙◌, ap, refl, arith, inl, inr, append_assoc, append-nil, length-drop, length-take, Option, Err}
 use Rattle.std.proofs.lemmas.List.{map-append, get_or-drop, take-take, take_more, take_all, take-append-drop, nil_from_length}
 use Rattle.std.proofs.lemmas.Option.{slice_get_cases}
-use Rattle.joint_model.specs.declared.events.Entry.{Entry}
-use Rattle.joint_model.specs.Histories.{Finished}
-use Rattle.byte_streams.specs.Drafts.{after_spaces}
+use Rattle.joint_machine.specs.declared.events.Entry.{Entry}
+use Rattle.joint_machine.specs.Histories.{Finished}
+use Rattle.byte_streams.specs.Spaced.{after_spaces}
 use Rattle.byte_streams.specs.Sending.{BuffersText, Sends}
 use Rattle.byte_streams.proofs.Written.{after_spaces-append, BuffersText-none, BuffersText-then, Sends-into}
 use Rattle.history_report.specs.Lists.{lettered, listed}

@@ -26,8 +26,8 @@ fn add_with_handle<const N: usize>(line: &mut Line, word: [u8; N], h: HNum)
     add_handle(line, h);
 }
 
-// A handle whose number mostly comes in a row: those of a cycle's candidates are weakened and restored one after another. The count goes on at once to
-// the number that comes next there: so its text is long written when that comes.
+// A handle whose number mostly comes in a row: those of a cycle's candidates are weakened and restored one after
+// another. The count goes on at once to the number that comes next there: so its text is long written when that comes.
 #[inline(always)]
 fn add_next_handle(line: &mut Line, h: HNum, count: &mut Count)
     requires { 40 ≤ line.old.room }
@@ -263,8 +263,9 @@ pub fn list_of(reply: &Reply) -> Option<(Numbers, Span)>
     }
 }
 
-/// The number that mostly comes next, that of the last entry's line, from which the next one's mostly follows; the number that was cited last, whose text
-/// is kept once it is cited again; and the handles that a cycle weakens and restores in a row, and those that it gives.
+/// The number that mostly comes next, that of the last entry's line, from which the next one's mostly follows; the
+/// number that was cited last, whose text is kept once it is cited again; and the handles that a cycle weakens and
+/// restores in a row, and those that it gives.
 #[derive(Drop)]
 pub struct Counts {
     number: Count,

@@ -1,10 +1,10 @@
 // The report of a history, which a sink gets piece by piece.
 
 ghost use Rattle.std.specs.Prelude.{◌++◌, ◌≤◌, take, length};
-ghost use Rattle.joint_model.specs.Histories.{stretch};
+ghost use Rattle.joint_machine.specs.Histories.{stretch};
 ghost use Rattle.byte_streams.specs.Streams.{Writes};
 ghost use Rattle.byte_streams.specs.Sending.{Sends};
-ghost use Rattle.byte_streams.specs.Drafts.{after_spaces};
+ghost use Rattle.byte_streams.specs.Spaced.{after_spaces};
 ghost use Rattle.joint_model.specs.Leaders.{entry_of};
 ghost use Rattle.history_report.specs.Lists.{lettered, list_words, numbers_of, letter_of};
 ghost use Rattle.history_report.specs.Report.{entry_text, entries_text, end_text, tail_text, report};
@@ -140,9 +140,9 @@ fn write_end<K: Sink>(count: u64, line: &mut Line, out: &mut K) -> Result<(), Fa
     Ok(())
 }
 
-/// Writes the report of a history: one line for each entry in rising number, and `end` with the number of
-/// entries. The sink gets it in pieces of at most 16 KiB. It takes no memory. [`Failed`] only where the sink's count of faults
-/// rose, and then a beginning of the report was written.
+/// Writes the report of a history: one line for each entry in rising number, and `end` with the number of entries. The
+/// sink gets it in pieces of at most 16 KiB. It takes no memory. [`Failed`] only where the sink's count of faults rose,
+/// and then a beginning of the report was written.
 pub fn write_report<K: Sink>(h: &History, out: &mut K) -> Result<(), Failed>
     ensures { Writes (K.held out.old) (K.held out.new) (K.faults out.old) (K.faults out.new) result (report h.now) }
 {

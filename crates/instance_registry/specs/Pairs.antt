@@ -1,8 +1,8 @@
 -- What contracts see of the registry: pairs of a peer and a managed number, in the order of their registration.
 use Rattle.std.specs.Prelude.{◌≡◌, ◌==◌, Bool, List, [], ◌∷◌, Option, None}
 use Rattle.std.specs.Map.{lookup, remove_entry}
-use Rattle.joint_model.specs.declared.names.MNum.{MNum}
-use Rattle.joint_model.specs.declared.names.PNum.{PNum}
+use Rattle.joint_machine.specs.declared.names.MNum.{MNum}
+use Rattle.joint_machine.specs.declared.names.PNum.{PNum}
 
 -- the twin of a peer: the managed number of the first pair that has the peer, or None where no pair has it
 abbrev pub twin_in : List (PNum × MNum) → PNum → Option MNum

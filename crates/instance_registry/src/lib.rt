@@ -7,27 +7,27 @@
 //         None => { registry.add(p, new)?; new }
 //     };
 //
-// A bridge object and its peer are twins: two halves of one instance, one in each heap. When a peer comes to
-// the managed side, the registry tells whether a managed object stands for it already, so that no second one
-// is made.
+// A bridge object and its peer are twins: two halves of one instance, one in each heap. When a peer comes to the
+// managed side, the registry tells whether a managed object stands for it already, so that no second one is made.
 //
-// The life of a pair: `register` puts it last, when the managed half is made; it is refused where the peer has
-// a twin. `add` does the same for who knows that the peer has none. `twin` finds the managed half by a hash of the peer's number. `forget` takes the
-// pair out, when the managed half is freed or disposed of; `retain` takes many out in one pass. `len` and `entry` walk the pairs in the order of
-// their registration. No peer ever stands in two pairs.
+// The life of a pair: `register` puts it last, when the managed half is made; it is refused where the peer has a twin.
+// `add` does the same for who knows that the peer has none. `twin` finds the managed half by a hash of the peer's
+// number. `forget` takes the pair out, when the managed half is freed or disposed of; `retain` takes many out in one
+// pass. `len` and `entry` walk the pairs in the order of their registration. No peer ever stands in two pairs.
 //
 // The registry is a part of the managed side, which alone changes it, under that side's lock. What is promised: the
 // pairs after each call are those of the definition, no peer ever stands in two pairs, a second twin is refused exactly
-// where the peer has one, and none of the calls but `register` and `add` takes memory. A call that is refused changes nothing.
+// where the peer has one, and none of the calls but `register` and `add` takes memory. A call that is refused changes
+// nothing.
 #![tactic(auto)]
 
 ghost use Rattle.std.specs.Prelude.{◌≡◌, ◌-◌, ◌==◌, ◌↔◌, [], ◌∷◌, ◌++◌, Bool, IsTrue, filter, length, slice_get, Ok, Err, None, Some, OnOk, OnErr};
 ghost use Rattle.instance_registry.specs.Pairs.{twin_in, without, IsToldBy, PeersDistinct};
-ghost use Rattle.joint_model.specs.declared.names.MNum.{MNum};
-ghost use Rattle.joint_model.specs.declared.names.PNum.{PNum};
+ghost use Rattle.joint_machine.specs.declared.names.MNum.{MNum};
+ghost use Rattle.joint_machine.specs.declared.names.PNum.{PNum};
 
 use indexmap::IndexMap;
-use joint_model::{MNum, PNum};
+use joint_machine::{MNum, PNum};
 use std::alloc::{AllocError, Global};
 use std::marker::Model;
 
@@ -52,8 +52,8 @@ pub struct Registry {
 
 impl Model for Registry {
     ghost use Rattle.std.specs.Prelude.{List, ◌≤◌, length};
-    ghost use Rattle.joint_model.specs.declared.names.MNum.{MNum};
-    ghost use Rattle.joint_model.specs.declared.names.PNum.{PNum};
+    ghost use Rattle.joint_machine.specs.declared.names.MNum.{MNum};
+    ghost use Rattle.joint_machine.specs.declared.names.PNum.{PNum};
 
     ghost Value = { List (PNum × MNum) };
 

@@ -1,18 +1,19 @@
--- What a step of the peer side asks for holds in its thread's turn: a release names a handle that the thread gave up, or met and didn't take.
+-- What a step of the peer side asks for holds in its thread's turn: a release names a handle that the thread gave up,
+-- or met and didn't take.
 use Rattle.std.proofs.Common.{◌≡◌, ℕ, Option, None, sym, ap, ◌∙◌, subst}
-use Rattle.joint_model.specs.declared.names.Thread.{Thread}
-use Rattle.joint_model.specs.declared.names.Thread.TheVariants.{M, P, C}
-use Rattle.joint_model.specs.declared.names.HNum.{HNum}
-use Rattle.joint_model.specs.declared.lines.Act.{Act}
-use Rattle.joint_model.specs.declared.lines.Act.TheVariants as act
-use Rattle.joint_model.specs.declared.events.Op.{Op}
-use Rattle.joint_model.specs.declared.events.Op.TheVariants as op
-use Rattle.joint_model.specs.Control.{Doing, free, made, lent, gripped, given, met, doing_at, ThreadAllows}
-use Rattle.joint_model.specs.Lines.{IsPeerThread}
-use Rattle.joint_model.specs.Linked.{Linkage}
-use Rattle.joint_model.specs.PeerReplay.{PeerReplay, PeerAllows, MayRelease}
-use Rattle.joint_model.specs.Sides.{Side}
-use Rattle.joint_model.specs.Told.{nothing}
+use Rattle.joint_machine.specs.declared.names.Thread.{Thread}
+use Rattle.joint_machine.specs.declared.names.Thread.TheVariants.{M, P, C}
+use Rattle.joint_machine.specs.declared.names.HNum.{HNum}
+use Rattle.joint_machine.specs.declared.lines.Act.{Act}
+use Rattle.joint_machine.specs.declared.lines.Act.TheVariants as act
+use Rattle.joint_machine.specs.declared.events.Op.{Op}
+use Rattle.joint_machine.specs.declared.events.Op.TheVariants as op
+use Rattle.joint_machine.specs.Control.{Doing, free, made, lent, gripped, given, met, doing_at, ThreadAllows}
+use Rattle.joint_machine.specs.Lines.{IsPeerThread}
+use Rattle.joint_machine.specs.Linked.{Linkage}
+use Rattle.joint_machine.specs.PeerReplay.{PeerReplay, PeerAllows, MayRelease}
+use Rattle.joint_machine.specs.Sides.{Side}
+use Rattle.joint_machine.specs.Told.{nothing}
 use Rattle.known_laws.specs.Driving.{IsPastKept}
 use Rattle.known_laws.specs.Pasts.{end_of}
 use Rattle.known_laws.proofs.Conditions.{given_may_be_released, met_may_be_released}
@@ -20,7 +21,7 @@ use Rattle.known_laws.proofs.KnownPasts.{known_past_is_kept}
 use Rattle.order_table.specs.declared.views.View.{View}
 use Rattle.order_table.specs.Facts.{line_entries}
 use Rattle.order_table.specs.Views.{Owns}
-use Rattle.peer_side.specs.Steps.{IsPeerStep, IsStepLine}
+use Rattle.peer_heap.specs.Steps.{IsPeerStep, IsStepLine}
 use Rattle.joint_history.specs.Callers.{HoldsPass}
 use Rattle.joint_history.specs.Locked.{PeerKnows, MayMake, IsTurn, doing_of}
 use Rattle.joint_history.specs.PeerCalls.{AllowsCall, IsPeerCall}

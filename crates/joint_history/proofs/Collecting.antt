@@ -1,38 +1,39 @@
--- A collect under the peer lock: what the side's call draws by a seat, and what the locked seat and the caller know after it.
+-- A collect under the peer lock: what the side's call draws by a seat, and what the locked seat and the caller know
+-- after it.
 use Rattle.std.proofs.Common.{false, ◌≡◌, inl, inr, ⊎_elim, ℕ, Bool, ◌<◌, ◌≤◌, ◌^◌, List, [], ◌∷◌, ◌++◌, length, Option, Some, None, refl, sym, ap, ◌∙◌, subst, append-nil, append_assoc, arith}
 use Rattle.std.specs.Prelude.{if◌then◌else◌, Result, Ok, Err, IfOk, OnErr}
 use Rattle.std.specs.Option.{unwrap_or}
 use mathlib.Core.List.{IsPrefix}
 use base.Growing.{prefix_refl, prefix_trans}
-use Rattle.joint_model.specs.declared.names.MNum.{MNum}
-use Rattle.joint_model.specs.declared.names.Marking.{Marking as Number}
-use Rattle.joint_model.specs.declared.names.Span.{Span}
-use Rattle.joint_model.specs.declared.names.Thread.{Thread}
-use Rattle.joint_model.specs.declared.names.Thread.TheVariants.{M, P, C}
-use Rattle.joint_model.specs.declared.lines.Act.TheVariants as act
-use Rattle.joint_model.specs.declared.events.Entry.{Entry}
-use Rattle.joint_model.specs.declared.events.Made.{Made}
-use Rattle.joint_model.specs.declared.events.Op.{Op}
-use Rattle.joint_model.specs.declared.events.Op.TheVariants as op
-use Rattle.joint_model.specs.declared.events.Reply.{Reply}
-use Rattle.joint_model.specs.declared.events.Reply.TheVariants as says
-use Rattle.joint_model.specs.Control.{free, last_line}
-use Rattle.joint_model.specs.Draws.{numbered}
-use Rattle.joint_model.specs.Heaps.{answer}
-use Rattle.joint_model.specs.HistoryLines.{caller_line}
-use Rattle.joint_model.specs.Lines.{IsPeerThread, IsThread}
-use Rattle.joint_model.specs.Linked.{peer_after}
-use Rattle.joint_model.specs.PeerReplay.{Marking, PeerReplay, SweepAllows, peer_answer, swept, swept_of}
-use Rattle.joint_model.specs.Sides.{Drawing, Making, Side, SideRules, GoesOn, AddsLawful, AddsInTurn, peer_rules}
-use Rattle.joint_model.specs.Told.{Told, nothing, sweep_of}
+use Rattle.joint_machine.specs.declared.names.MNum.{MNum}
+use Rattle.joint_machine.specs.declared.names.Marking.{Marking as Number}
+use Rattle.joint_machine.specs.declared.names.Span.{Span}
+use Rattle.joint_machine.specs.declared.names.Thread.{Thread}
+use Rattle.joint_machine.specs.declared.names.Thread.TheVariants.{M, P, C}
+use Rattle.joint_machine.specs.declared.lines.Act.TheVariants as act
+use Rattle.joint_machine.specs.declared.events.Entry.{Entry}
+use Rattle.joint_machine.specs.declared.events.Made.{Made}
+use Rattle.joint_machine.specs.declared.events.Op.{Op}
+use Rattle.joint_machine.specs.declared.events.Op.TheVariants as op
+use Rattle.joint_machine.specs.declared.events.Reply.{Reply}
+use Rattle.joint_machine.specs.declared.events.Reply.TheVariants as says
+use Rattle.joint_machine.specs.Control.{free, last_line}
+use Rattle.joint_machine.specs.Draws.{numbered, Drawing}
+use Rattle.joint_machine.specs.Heaps.{answer}
+use Rattle.joint_machine.specs.HistoryLines.{caller_line}
+use Rattle.joint_machine.specs.Lines.{IsPeerThread, IsThread}
+use Rattle.joint_machine.specs.Linked.{peer_after}
+use Rattle.joint_machine.specs.PeerReplay.{Marking, PeerReplay, SweepAllows, peer_answer, swept, swept_of}
+use Rattle.joint_machine.specs.Sides.{Making, Side, SideRules, GoesOn, AddsLawful, AddsInTurn, peer_rules}
+use Rattle.joint_machine.specs.Told.{Told, nothing, sweep_of}
 use Rattle.known_laws.specs.Pasts.{end_of}
 use Rattle.order_table.specs.declared.views.Role.TheVariants as role
 use Rattle.order_table.specs.declared.views.View.{View}
 use Rattle.order_table.specs.Facts.{line_entries}
 use Rattle.order_table.specs.Rule.{IsBelow}
 use Rattle.order_table.specs.Views.{OrderId, Shown, known, kept, Owns, role_line}
-use Rattle.peer_side.specs.Makings.{collect_makings, step_makings, told_at, IsMarkEvent}
-use Rattle.peer_side.specs.Sides.{PeerModel, seen}
+use Rattle.peer_heap.specs.Makings.{collect_makings, step_makings, told_at, IsMarkEvent}
+use Rattle.peer_heap.specs.Sides.{PeerModel, seen}
 use Rattle.joint_history.specs.declared.callers.Receipt.{Receipt}
 use Rattle.seat_calls.specs.declared.seats.SeatDrawing.{SeatDrawing}
 use Rattle.joint_history.specs.Callers.{HoldsPass}
@@ -75,7 +76,8 @@ swept_so s (Some mk) t gone w = record {
   is = ap (λ (b : Bool). (if b then swept_of s mk gone else answer (says.MarkOpen record { 0 = mk.number }) s).reply) (may-end t mk.by w.0);
 }
 
--- a draw by a seat keeps which seat it is and the role, and leaves the number of its entry, the seat with that entry and the first number drawn
+-- a draw by a seat keeps which seat it is and the role, and leaves the number of its entry, the seat with that entry
+-- and the first number drawn
 abbrev DrewBy : SeatDrawing → Entry → Option MNum → List MNum → SeatDrawing → Type 0
 DrewBy a e m freed b = (b.seat.ghost_name ≡ a.seat.ghost_name) × (b.role ≡ a.role) × (b.last ≡ e.number) × Appends a.order.now b.order.now a.seat.now b.seat.now (role_line a.role) (kept a.seat.now.view e.made m freed e.number) × (b.first ≡ Some (unwrap_or a.first e.number))
 

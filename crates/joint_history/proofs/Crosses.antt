@@ -1,5 +1,5 @@
--- What crosses threads: each side may be sent to another thread, hence what is under its lock, and so a bridge shared by locks may be seen by several
--- threads.
+-- What crosses threads: each side may be sent to another thread, hence what is under its lock, and so a bridge shared
+-- by locks may be seen by several threads.
 use denote.RattleType.{RattleType}
 use denote.Param.Send.{AllSend, AllSync, IsSend, IsSync, recorded_send, recorded_sync, sendable, struct_send, struct_sync, view_send}
 use denote.Struct.Declared as fields
@@ -15,16 +15,16 @@ use Rattle.finaliser_queue.proofs.Notices.TheSendSync.{the_send as notices}
 use Rattle.instance_registry.proofs.Registry.TheSendSync.{the_send as registry}
 use Rattle.global_handles.proofs.HandleTable.TheSendSync.{the_send as table}
 use Rattle.row_heap.specs.contracts.places.Rows as Rows
-use Rattle.managed_side.proofs.rows.Held.TheSendSync.{the_send as held}
-use Rattle.managed_side.specs.contracts.rooms.Room as Room
-use Rattle.managed_side.specs.contracts.rooms.SnapRoom as SnapRoom
-use Rattle.managed_side.specs.contracts.rows.ManagedRows as ManagedRows
-use Rattle.managed_side.specs.contracts.side.ManagedSide as ManagedSide
-use Rattle.managed_side.specs.contracts.takings.Takings as Takings
-use Rattle.peer_side.proofs.mirroring.Mirroring.TheSendSync.{the_send as mirroring}
-use Rattle.peer_side.specs.contracts.rows.PeerRows as PeerRows
-use Rattle.peer_side.specs.contracts.side.OpenMarking as OpenMarking
-use Rattle.peer_side.specs.contracts.side.PeerSide as PeerSide
+use Rattle.managed_heap.proofs.rows.Held.TheSendSync.{the_send as held}
+use Rattle.managed_heap.specs.contracts.rooms.Room as Room
+use Rattle.managed_heap.specs.contracts.rooms.SnapRoom as SnapRoom
+use Rattle.managed_heap.specs.contracts.rows.ManagedRows as ManagedRows
+use Rattle.managed_heap.specs.contracts.side.ManagedSide as ManagedSide
+use Rattle.managed_heap.specs.contracts.takings.Takings as Takings
+use Rattle.peer_heap.proofs.mirroring.Mirroring.TheSendSync.{the_send as mirroring}
+use Rattle.peer_heap.specs.contracts.rows.PeerRows as PeerRows
+use Rattle.peer_heap.specs.contracts.side.OpenMarking as OpenMarking
+use Rattle.peer_heap.specs.contracts.side.PeerSide as PeerSide
 use Rattle.joint_history.specs.contracts.keeping.Locks as Locks
 use Rattle.joint_history.specs.contracts.managed.LockedManaged as LockedManaged
 use Rattle.joint_history.specs.contracts.managed.LockedManaged.TheInside as UnderManaged

@@ -1,23 +1,24 @@
--- The entries of the driver that open or end a cycle: by what the seat knows they may be made, since its managed list says of the cycles what the side's state has;
--- and after one the seat owes just the words of the cells whose targets the entry freed, of which the side knows as much.
+-- The entries of the driver that open or end a cycle: by what the seat knows they may be made, since its managed list
+-- says of the cycles what the side's state has; and after one the seat owes just the words of the cells whose targets
+-- the entry freed, of which the side knows as much.
 use Rattle.std.proofs.Common.{◌≡◌, ℕ, ◌+◌, Bool, true, false, ◌||◌, List, [], ◌∷◌, ◌++◌, map, inl, inr, Some, None, refl, sym, ap, ◌∙◌, subst, arith, true≢false}
 use Rattle.std.specs.Prelude.{◌↔◌, Contains, nat_eq}
 use Rattle.std.proofs.lemmas.Bool.{both_ways, cases_Bool}
 use mathlib.Core.List.{IsPrefix}
-use Rattle.joint_model.specs.declared.names.MNum.{MNum}
-use Rattle.joint_model.specs.declared.names.Thread.{Thread}
-use Rattle.joint_model.specs.declared.names.Thread.TheVariants.{C}
-use Rattle.joint_model.specs.declared.events.Entry.{Entry}
-use Rattle.joint_model.specs.declared.events.Op.{Op}
-use Rattle.joint_model.specs.Heaps.{IsLive, with_freed}
-use Rattle.joint_model.specs.HistoryLines.{caller_line}
-use Rattle.joint_model.specs.Lines.{is_peer_event, is_read}
-use Rattle.joint_model.specs.Managed.{OpenCycle}
-use Rattle.joint_model.specs.ManagedReplay.{ManagedReplay}
-use Rattle.joint_model.specs.Sides.{Side, SideRules}
-use Rattle.joint_model.specs.Told.{Told, snap_of}
-use Rattle.joint_model.proofs.HeapLemmas.{IsLive-before, IsLive-left, IsLive-spared}
-use Rattle.joint_model.proofs.Members.{Contains-here, Contains-there}
+use Rattle.joint_machine.specs.declared.names.MNum.{MNum}
+use Rattle.joint_machine.specs.declared.names.Thread.{Thread}
+use Rattle.joint_machine.specs.declared.names.Thread.TheVariants.{C}
+use Rattle.joint_machine.specs.declared.events.Entry.{Entry}
+use Rattle.joint_machine.specs.declared.events.Op.{Op}
+use Rattle.joint_machine.specs.Heaps.{IsLive, with_freed}
+use Rattle.joint_machine.specs.HistoryLines.{caller_line}
+use Rattle.joint_machine.specs.Lines.{is_peer_event, is_read}
+use Rattle.joint_machine.specs.Managed.{OpenCycle}
+use Rattle.joint_machine.specs.ManagedReplay.{ManagedReplay}
+use Rattle.joint_machine.specs.Sides.{Side, SideRules}
+use Rattle.joint_machine.specs.Told.{Told, snap_of}
+use Rattle.joint_machine.proofs.HeapLemmas.{IsLive-before, IsLive-left, IsLive-spared}
+use Rattle.joint_machine.proofs.Members.{Contains-here, Contains-there}
 use Rattle.order_table.specs.declared.views.KeptEntry.{KeptEntry}
 use Rattle.order_table.specs.declared.views.View.{View}
 use Rattle.order_table.specs.Allowed.{MayDo, OwesNone, Settled}
@@ -28,7 +29,7 @@ use Rattle.order_table.specs.Rule.{of_line}
 use Rattle.order_table.specs.Stages.{IsClosed, deed, ends}
 use Rattle.order_table.specs.Views.{IsNext, IsOpen, OrderId, Owns, Shown, known}
 use Rattle.order_table.proofs.Says.{freed_more, target_more}
-use Rattle.joint_model.specs.Control.{caller_place}
+use Rattle.joint_machine.specs.Control.{caller_place}
 use Rattle.seat_calls.specs.Gating.{HasEnded, IsOutside}
 use Rattle.seat_calls.specs.Passing.{Appends, Lends, MayAppend}
 use Rattle.seat_calls.specs.Paying.{Agrees, IsPaid, OwesFreed}

@@ -1,13 +1,14 @@
--- The dead part of an open cycle, as it is seen in managed objects: it is that of later ones, as long as the cycle is open.
+-- The dead part of an open cycle, as it is seen in managed objects: it is that of later ones, as long as the cycle is
+-- open.
 use Rattle.std.proofs.Common.{◌≡◌, ℕ, List, [], length, Option, Some, None, refl, sym, ap, ◌∙◌, subst}
 use Rattle.std.specs.Prelude.{slice_get}
-use Rattle.joint_model.specs.Control.{IsCandidateHandle}
-use Rattle.joint_model.specs.Managed.{Managed, OpenCycle, candidates_of}
-use Rattle.joint_model.specs.ManagedReplay.{ManagedReplay}
-use Rattle.joint_model.specs.Readers.{with_pins}
-use Rattle.joint_model.proofs.Deciding.{none_some}
-use Rattle.joint_model.proofs.HeapLemmas.{candidates_of-open}
-use Rattle.joint_model.proofs.Members.{Contains-at}
+use Rattle.joint_machine.specs.Control.{IsCandidateHandle}
+use Rattle.joint_machine.specs.Managed.{Managed, OpenCycle, candidates_of}
+use Rattle.joint_machine.specs.ManagedReplay.{ManagedReplay}
+use Rattle.joint_machine.specs.PinsTold.{with_pins}
+use Rattle.joint_machine.proofs.Deciding.{none_some}
+use Rattle.joint_machine.proofs.HeapLemmas.{candidates_of-open}
+use Rattle.joint_machine.proofs.Members.{Contains-at}
 use Rattle.joint_laws.specs.ManagedInvariants.{IsManagedKept}
 use Rattle.known_laws.specs.Pasts.{HasSameDeadPart}
 use Rattle.known_laws.proofs.Pinned.{contraction_to}

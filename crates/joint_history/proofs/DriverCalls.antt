@@ -1,46 +1,46 @@
--- The driver's calls under the managed lock: what each asks of the side holds by where the driver stands, since what every known past keeps holds at the
--- end of what is known together; and what each leaves the driver with.
+-- The driver's calls under the managed lock: what each asks of the side holds by where the driver stands, since what
+-- every known past keeps holds at the end of what is known together; and what each leaves the driver with.
 use Rattle.std.proofs.Common.{◌≡◌, ◌⊎◌, inl, inr, ⊎_elim, ℕ, ◌<◌, ◌^◌, Bool, List, length, Option, Some, None, refl, sym, ap, ◌∙◌, subst}
 use Rattle.std.specs.Prelude.{IsSome, Result, Ok, Err, IfOk, OnErr}
 use mathlib.Core.List.{IsPrefix}
 use Rattle.std.proofs.lemmas.List.{length-map}
 use Rattle.std.proofs.lemmas.Option.{same_Some}
-use Rattle.joint_model.specs.declared.names.Cycle.{Cycle}
-use Rattle.joint_model.specs.declared.names.HNum.{HNum}
-use Rattle.joint_model.specs.declared.names.Phase.{Phase}
-use Rattle.joint_model.specs.declared.names.Phase.TheVariants as at
-use Rattle.joint_model.specs.declared.names.PhaseWord.{PhaseWord}
-use Rattle.joint_model.specs.declared.names.PhaseWord.TheVariants as word
-use Rattle.joint_model.specs.declared.names.Span.{Span}
-use Rattle.joint_model.specs.declared.names.Thread.TheVariants.{C}
-use Rattle.joint_model.specs.declared.lines.Act.TheVariants as act
-use Rattle.joint_model.specs.declared.events.Entry.{Entry}
-use Rattle.joint_model.specs.declared.events.Op.TheVariants as op
-use Rattle.joint_model.specs.declared.events.Reply.{Reply}
-use Rattle.joint_model.specs.declared.events.Reply.TheVariants as says
-use Rattle.joint_model.specs.Control.{OpenSnap, Stand, idle, snapped, contracted, weakening, marked, restoring, restored, IsPhaseOf, IsAtRest, MayAbandonNow, seen_weakened, stand_after}
-use Rattle.joint_model.specs.Cycles.{IsOpen}
-use Rattle.joint_model.specs.Linked.{Linkage}
+use Rattle.joint_machine.specs.declared.names.Cycle.{Cycle}
+use Rattle.joint_machine.specs.declared.names.HNum.{HNum}
+use Rattle.joint_machine.specs.declared.names.Phase.{Phase}
+use Rattle.joint_machine.specs.declared.names.Phase.TheVariants as at
+use Rattle.joint_machine.specs.declared.names.PhaseWord.{PhaseWord}
+use Rattle.joint_machine.specs.declared.names.PhaseWord.TheVariants as word
+use Rattle.joint_machine.specs.declared.names.Span.{Span}
+use Rattle.joint_machine.specs.declared.names.Thread.TheVariants.{C}
+use Rattle.joint_machine.specs.declared.lines.Act.TheVariants as act
+use Rattle.joint_machine.specs.declared.events.Entry.{Entry}
+use Rattle.joint_machine.specs.declared.events.Op.TheVariants as op
+use Rattle.joint_machine.specs.declared.events.Reply.{Reply}
+use Rattle.joint_machine.specs.declared.events.Reply.TheVariants as says
+use Rattle.joint_machine.specs.Control.{OpenSnap, Stand, idle, snapped, contracted, weakening, marked, restoring, restored, IsPhaseOf, IsAtRest, MayAbandonNow, seen_weakened, stand_after}
+use Rattle.joint_machine.specs.Cycles.{IsOpen}
+use Rattle.joint_machine.specs.Linked.{Linkage}
 use Rattle.joint_model.specs.Listed.{answer_of, answers_of}
-use Rattle.joint_model.specs.Managed.{Managed, OpenCycle, candidates_of}
-use Rattle.joint_model.specs.ManagedReplay.{AreNew, ManagedReplay, MayContract, MayRefuse, managed_answer, open_reply, refusal_to}
-use Rattle.joint_model.specs.Run.{thread_number}
-use Rattle.joint_model.specs.Sides.{Side, managed_rules}
-use Rattle.joint_model.specs.Readers.{with_pins}
-use Rattle.joint_model.specs.Told.{Told, nothing, contraction_of, handles_given, resolution_of, phase_of, bare_told, no_pins}
+use Rattle.joint_machine.specs.Managed.{Managed, OpenCycle, candidates_of}
+use Rattle.joint_machine.specs.ManagedReplay.{AreNew, ManagedReplay, MayContract, MayRefuse, managed_answer, open_reply, refusal_to}
+use Rattle.joint_machine.specs.Run.{thread_number}
+use Rattle.joint_machine.specs.Sides.{Side, managed_rules}
+use Rattle.joint_machine.specs.Told.{Told, nothing, contraction_of, handles_given, resolution_of, phase_of}
+use Rattle.joint_machine.specs.PinsTold.{bare_told, no_pins, with_pins}
 use Rattle.joint_laws.specs.ManagedInvariants.{IsReplayKept}
 use Rattle.joint_laws.proofs.ManagedMoves.{managed_line-goes_on}
 use Rattle.known_laws.specs.Conditions.{IsOpenHere}
 use Rattle.known_laws.specs.Driving.{IsPastKept}
-use Rattle.known_laws.specs.Known.{TellsPlainly}
+use Rattle.known_laws.specs.PastEntries.{TellsPlainly}
 use Rattle.known_laws.specs.Pasts.{HasSameDeadPart, end_of}
 use Rattle.known_laws.proofs.Conditions.{snapped_may_be_contracted, unmirrored_may_be_abandoned, restored_are_new, restored_may_be_resolved, refused_may_be_told}
 use Rattle.known_laws.proofs.FrozenPasts.{Alike, alike_meet, alike_on, alike_pinned, alike_self, dead_part-alike}
 use Rattle.known_laws.proofs.KnownPasts.{known_past_is_kept}
 use Rattle.known_laws.proofs.Pinned.{managed_to, none_stand}
-use Rattle.managed_side.specs.declared.cycles.ResolveOut.{ResolveOut}
-use Rattle.managed_side.specs.Calls.{IsContractedBy, MayContractWith}
-use Rattle.managed_side.specs.Resolving.{MayClose}
+use Rattle.managed_heap.specs.declared.cycles.ResolveOut.{ResolveOut}
+use Rattle.managed_heap.specs.Calls.{IsContractedBy, MayContractWith}
+use Rattle.managed_heap.specs.Resolving.{MayClose}
 use Rattle.order_table.specs.declared.views.View.{View}
 use Rattle.order_table.specs.Views.{OrderId, Shown, known, Owns}
 use Rattle.joint_history.specs.Callers.{HoldsPass}
@@ -53,7 +53,8 @@ use Rattle.joint_history.proofs.DeadParts.{count_same, dead_part_pinned, dead_pa
 use Rattle.joint_history.proofs.DriverSteps.{Driven, DrivenUnder, driven, driven_none, driver_joined, driver_still}
 use Rattle.joint_history.proofs.LockedSteps.{grows_more, lent_joined, owns_on, returns_seated}
 
--- what holds under the lock: the driver stands so in a state that has all that every known past keeps, and whose managed side is this one
+-- what holds under the lock: the driver stands so in a state that has all that every known past keeps, and whose
+-- managed side is this one
 pub record IsUnderLock (side : ManagedReplay) (stand : Stand) (seen : Managed) : Type 0 where
   pub state : Linkage
   pub kept : IsPastKept state

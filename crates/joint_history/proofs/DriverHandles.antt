@@ -1,29 +1,30 @@
--- The driver's calls on the handles of its mirrored cycle: what each asks of the side under the peer lock holds by where the driver stands, since the
--- candidates' handles are those that its seat has seen; and what each leaves the driver with.
+-- The driver's calls on the handles of its mirrored cycle: what each asks of the side under the peer lock holds by
+-- where the driver stands, since the candidates' handles are those that its seat has seen; and what each leaves the
+-- driver with.
 use Rattle.std.proofs.Common.{◌≡◌, ℕ, ◌<◌, ◌^◌, Bool, false, List, length, Option, Some, None, refl, sym, ap, ◌∙◌, subst}
 use Rattle.std.specs.Prelude.{Contains}
 use Rattle.std.proofs.lemmas.Option.{same_Some, slice_get_within}
-use Rattle.joint_model.specs.declared.names.Cycle.{Cycle}
-use Rattle.joint_model.specs.declared.names.HNum.{HNum}
-use Rattle.joint_model.specs.declared.names.Thread.TheVariants.{C}
-use Rattle.joint_model.specs.declared.events.Op.TheVariants as op
-use Rattle.joint_model.specs.declared.events.Reply.TheVariants as says
-use Rattle.joint_model.specs.Control.{OpenSnap, weakening, restoring, IsCandidateHandle, MayClearNow, MayRestoreNow, MayWeakenNow}
-use Rattle.joint_model.specs.Heaps.{numbered_at}
-use Rattle.joint_model.specs.Linked.{Linkage}
-use Rattle.joint_model.specs.Managed.{Managed, candidates_of}
-use Rattle.joint_model.specs.PeerReplay.{PeerReplay, TableRow, Mirror, row_of, MayClear, MayRestore, MayWeaken}
-use Rattle.joint_model.specs.Peers.{strong}
-use Rattle.joint_model.specs.Sides.{Side, peer_rules}
-use Rattle.joint_model.specs.Told.{Answer, said_alive, nothing}
+use Rattle.joint_machine.specs.declared.names.Cycle.{Cycle}
+use Rattle.joint_machine.specs.declared.names.HNum.{HNum}
+use Rattle.joint_machine.specs.declared.names.Thread.TheVariants.{C}
+use Rattle.joint_machine.specs.declared.events.Op.TheVariants as op
+use Rattle.joint_machine.specs.declared.events.Reply.TheVariants as says
+use Rattle.joint_machine.specs.Control.{OpenSnap, weakening, restoring, IsCandidateHandle, MayClearNow, MayRestoreNow, MayWeakenNow}
+use Rattle.joint_machine.specs.Heaps.{numbered_at}
+use Rattle.joint_machine.specs.Linked.{Linkage}
+use Rattle.joint_machine.specs.Managed.{Managed, candidates_of}
+use Rattle.joint_machine.specs.PeerReplay.{PeerReplay, TableRow, Mirror, row_of, MayClear, MayRestore, MayWeaken}
+use Rattle.joint_machine.specs.Peers.{strong}
+use Rattle.joint_machine.specs.Sides.{Side, peer_rules}
+use Rattle.joint_machine.specs.Told.{Answer, said_alive, nothing}
 use Rattle.joint_laws.specs.LinkedInvariants.{HasStrength}
 use Rattle.joint_laws.proofs.PeerEntries.{peer_of-issued}
 use Rattle.known_laws.specs.Driving.{IsPastKept}
 use Rattle.known_laws.proofs.Conditions.{all_may_be_cleared, next_may_be_restored, next_may_be_weakened, targets_are_strong}
 use Rattle.global_handles.specs.declared.Back.{Back}
-use Rattle.peer_side.specs.Cycles.{reply_of}
-use Rattle.peer_side.specs.Mirroring.{strong_row}
-use Rattle.peer_side.specs.Mirrors.{AreTargetsRestored}
+use Rattle.peer_heap.specs.Cycles.{reply_of}
+use Rattle.peer_heap.specs.Mirroring.{strong_row}
+use Rattle.peer_heap.specs.Mirrors.{AreTargetsRestored}
 use Rattle.order_table.specs.declared.views.View.{View}
 use Rattle.order_table.specs.Views.{OrderId, Shown, Owns}
 use Rattle.joint_history.specs.Callers.{HoldsPass}

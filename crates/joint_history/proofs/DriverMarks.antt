@@ -1,25 +1,25 @@
--- The driver's marking under the peer lock: after its sweep no marking is open, so its begin gives a number; and in its marked phase its own is open,
--- whatever slices it has made.
+-- The driver's marking under the peer lock: after its sweep no marking is open, so its begin gives a number; and in its
+-- marked phase its own is open, whatever slices it has made.
 use Rattle.std.proofs.Common.{◌≡◌, ◌⊎◌, inl, ⊎_elim, ℕ, ◌<◌, ◌^◌, Bool, true, false, List, length, Option, Some, None, refl, sym, ap, ◌∙◌, subst}
 use Rattle.std.specs.Prelude.{IsSome}
 use mathlib.Core.List.{IsPrefix}
-use Rattle.joint_model.specs.declared.names.Marking.{Marking as Number}
-use Rattle.joint_model.specs.declared.names.Span.{Span}
-use Rattle.joint_model.specs.declared.names.Thread.{Thread}
-use Rattle.joint_model.specs.declared.names.Thread.TheVariants.{C}
-use Rattle.joint_model.specs.declared.events.Entry.{Entry}
-use Rattle.joint_model.specs.declared.events.Op.TheVariants as op
-use Rattle.joint_model.specs.declared.events.Reply.{Reply}
-use Rattle.joint_model.specs.declared.events.Reply.TheVariants as says
-use Rattle.joint_model.specs.Control.{OpenSnap, Stand, idle, snapped, contracted, weakening, marked, restoring, restored, MaySweepNow, stand_after}
-use Rattle.joint_model.specs.Lines.{IsDriver}
-use Rattle.joint_model.specs.Managed.{Managed, candidates_of}
-use Rattle.joint_model.specs.PeerReplay.{PeerReplay, Marking, swept}
-use Rattle.joint_model.specs.Sides.{Side, peer_rules}
-use Rattle.joint_model.specs.Told.{Told, nothing, sweep_of}
+use Rattle.joint_machine.specs.declared.names.Marking.{Marking as Number}
+use Rattle.joint_machine.specs.declared.names.Span.{Span}
+use Rattle.joint_machine.specs.declared.names.Thread.{Thread}
+use Rattle.joint_machine.specs.declared.names.Thread.TheVariants.{C}
+use Rattle.joint_machine.specs.declared.events.Entry.{Entry}
+use Rattle.joint_machine.specs.declared.events.Op.TheVariants as op
+use Rattle.joint_machine.specs.declared.events.Reply.{Reply}
+use Rattle.joint_machine.specs.declared.events.Reply.TheVariants as says
+use Rattle.joint_machine.specs.Control.{OpenSnap, Stand, idle, snapped, contracted, weakening, marked, restoring, restored, MaySweepNow, stand_after}
+use Rattle.joint_machine.specs.Lines.{IsDriver}
+use Rattle.joint_machine.specs.Managed.{Managed, candidates_of}
+use Rattle.joint_machine.specs.PeerReplay.{PeerReplay, Marking, swept}
+use Rattle.joint_machine.specs.Sides.{Side, peer_rules}
+use Rattle.joint_machine.specs.Told.{Told, nothing, sweep_of}
 use Rattle.known_laws.proofs.Conditions.{marked_is_the_drivers, sweep_leaves_none}
-use Rattle.peer_side.specs.declared.side.Swept.{Swept}
-use Rattle.peer_side.specs.Sides.{IsDrivers, MayEnd}
+use Rattle.peer_heap.specs.declared.side.Swept.{Swept}
+use Rattle.peer_heap.specs.Sides.{IsDrivers, MayEnd}
 use Rattle.order_table.specs.declared.views.View.{View}
 use Rattle.order_table.specs.Views.{OrderId, Shown, known, Owns}
 use Rattle.joint_history.specs.declared.marks.Begun.{Begun}

@@ -1,20 +1,23 @@
--- An entry of the driver under the peer lock: the driver stands in what is known together where its own seat has it; and after the entry it stands where
--- the definition puts it, and its cycle's dead part is the same, since a peer entry leaves the managed objects alone.
+-- An entry of the driver under the peer lock: the driver stands in what is known together where its own seat has it;
+-- and after the entry it stands where the definition puts it, and its cycle's dead part is the same, since a peer entry
+-- leaves the managed objects alone.
 use Rattle.std.proofs.Common.{◌≡◌, ℕ, ◌<◌, ◌≤◌, ◌^◌, List, ◌∷◌, ◌++◌, [], sym, ap, ◌∙◌, subst, arith}
 use mathlib.Core.List.{IsPrefix}
-use Rattle.joint_model.specs.declared.names.Thread.TheVariants.{C}
-use Rattle.joint_model.specs.declared.events.Entry.{Entry}
-use Rattle.joint_model.specs.Control.{Stand, DriverAllows, last_line, stand_after}
-use Rattle.joint_model.specs.HistoryLines.{caller_line}
-use Rattle.joint_model.specs.Lines.{is_read}
-use Rattle.joint_model.specs.Linked.{Linkage}
-use Rattle.joint_model.specs.Managed.{Managed}
-use Rattle.joint_model.specs.ManagedReplay.{ManagedReplay}
-use Rattle.joint_model.specs.PeerReplay.{PeerReplay}
-use Rattle.joint_model.specs.Sides.{Side, peer_rules, GoesOn}
-use Rattle.joint_model.specs.Told.{Told, Noted, bare_told}
+use Rattle.joint_machine.specs.declared.names.Thread.TheVariants.{C}
+use Rattle.joint_machine.specs.declared.events.Entry.{Entry}
+use Rattle.joint_machine.specs.Control.{Stand, DriverAllows, last_line, stand_after}
+use Rattle.joint_machine.specs.HistoryLines.{caller_line}
+use Rattle.joint_machine.specs.Lines.{is_read}
+use Rattle.joint_machine.specs.Linked.{Linkage}
+use Rattle.joint_machine.specs.Managed.{Managed}
+use Rattle.joint_machine.specs.ManagedReplay.{ManagedReplay}
+use Rattle.joint_machine.specs.PeerReplay.{PeerReplay}
+use Rattle.joint_machine.specs.Sides.{Side, peer_rules, GoesOn}
+use Rattle.joint_machine.specs.Told.{Told, Noted}
+use Rattle.joint_machine.specs.PinsTold.{bare_told}
 use Rattle.known_laws.specs.Driving.{IsPastKept}
-use Rattle.known_laws.specs.Known.{Comes, TellsPlainly, managed_past}
+use Rattle.known_laws.specs.Known.{Comes, managed_past}
+use Rattle.known_laws.specs.PastEntries.{TellsPlainly}
 use Rattle.known_laws.proofs.Bared.{peer_unpinned, plain_told}
 use Rattle.known_laws.proofs.Coming.{peer_reads_none}
 use Rattle.known_laws.specs.Pasts.{HasSameDeadPart, end_of}
@@ -34,7 +37,8 @@ use Rattle.joint_history.proofs.KnownCallers.{own_line}
 use Rattle.joint_history.proofs.LockedSteps.{did_peer_by, lent_joined, knows_peers_still, MayNow}
 use Rattle.joint_history.proofs.Standing.{last_of_own}
 
--- what holds under the lock: the driver stands so in a state that has all that every known past keeps, and whose peer side is this one
+-- what holds under the lock: the driver stands so in a state that has all that every known past keeps, and whose peer
+-- side is this one
 pub record IsUnderPeers (side : PeerReplay) (stand : Stand) (seen : Managed) : Type 0 where
   pub state : Linkage
   pub kept : IsPastKept state

@@ -1,25 +1,25 @@
--- The driver's snapshot under the managed lock: no cycle is open while the driver is idle, and after the entry the driver has seen the side's objects as
--- they are then.
+-- The driver's snapshot under the managed lock: no cycle is open while the driver is idle, and after the entry the
+-- driver has seen the side's objects as they are then.
 use Rattle.std.proofs.Common.{◌≡◌, ℕ, ◌+◌, ◌<◌, ◌^◌, false, List, [], ◌∷◌, ◌++◌, Option, Some, None, refl, sym, ap, ◌∙◌, subst}
 use Rattle.std.specs.Prelude.{Result, Ok, Err, IfOk, OnErr}
 use mathlib.Core.List.{IsPrefix}
 use base.Growing.{prefix_refl, prefix_trans}
-use Rattle.joint_model.specs.declared.names.Thread.TheVariants.{C}
-use Rattle.joint_model.specs.declared.names.Span.{Span}
-use Rattle.joint_model.specs.declared.events.Entry.{Entry}
-use Rattle.joint_model.specs.declared.events.Op.TheVariants as op
-use Rattle.joint_model.specs.declared.events.Reply.{Reply}
-use Rattle.joint_model.specs.declared.events.Reply.TheVariants as says
-use Rattle.joint_model.specs.Control.{Stand, idle, snapped}
-use Rattle.joint_model.specs.Cycles.{snap_reply}
-use Rattle.joint_model.specs.Managed.{Managed, OpenCycle}
-use Rattle.joint_model.specs.ManagedReplay.{ManagedReplay}
-use Rattle.joint_model.specs.Sides.{Side, managed_rules}
-use Rattle.joint_model.specs.Told.{Told, kept_pins, snap_of}
+use Rattle.joint_machine.specs.declared.names.Thread.TheVariants.{C}
+use Rattle.joint_machine.specs.declared.names.Span.{Span}
+use Rattle.joint_machine.specs.declared.events.Entry.{Entry}
+use Rattle.joint_machine.specs.declared.events.Op.TheVariants as op
+use Rattle.joint_machine.specs.declared.events.Reply.{Reply}
+use Rattle.joint_machine.specs.declared.events.Reply.TheVariants as says
+use Rattle.joint_machine.specs.Control.{Stand, idle, snapped}
+use Rattle.joint_machine.specs.Cycles.{snap_reply}
+use Rattle.joint_machine.specs.Managed.{Managed, OpenCycle}
+use Rattle.joint_machine.specs.ManagedReplay.{ManagedReplay}
+use Rattle.joint_machine.specs.Sides.{Side, managed_rules}
+use Rattle.joint_machine.specs.Told.{Told, kept_pins, snap_of}
 use Rattle.joint_laws.specs.ManagedInvariants.{IsManagedKept}
 use Rattle.known_laws.proofs.Conditions.{idle_is_closed}
 use Rattle.known_laws.proofs.KnownPasts.{known_past_is_kept}
-use Rattle.managed_side.specs.declared.opening.Opened.{Opened}
+use Rattle.managed_heap.specs.declared.opening.Opened.{Opened}
 use Rattle.order_table.specs.declared.views.View.{View}
 use Rattle.order_table.specs.Rows.{at}
 use Rattle.order_table.specs.Views.{OrderId, Shown, known, Owns}

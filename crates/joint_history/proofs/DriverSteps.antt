@@ -1,22 +1,25 @@
--- An entry of the driver under the managed lock: where the driver stands in what is known together is where its own seat has it, since its line is
--- whole there and the dead part of its cycle is frozen; and after the entry it stands where the definition puts it.
+-- An entry of the driver under the managed lock: where the driver stands in what is known together is where its own
+-- seat has it, since its line is whole there and the dead part of its cycle is frozen; and after the entry it stands
+-- where the definition puts it.
 use Rattle.std.proofs.Common.{◌≡◌, ℕ, ◌<◌, ◌≤◌, ◌^◌, false, List, ◌∷◌, map, sym, ap, ◌∙◌, subst, arith}
 use mathlib.Core.List.{IsPrefix}
 use base.Growing.{prefix_refl}
-use Rattle.joint_model.specs.declared.names.Thread.{Thread}
-use Rattle.joint_model.specs.declared.names.Thread.TheVariants.{C}
-use Rattle.joint_model.specs.declared.events.Entry.{Entry}
-use Rattle.joint_model.specs.Control.{Stand, DriverAllows, control_after, last_line, stand_after}
-use Rattle.joint_model.specs.HistoryLines.{caller_line}
-use Rattle.joint_model.specs.Lines.{is_read}
-use Rattle.joint_model.specs.Linked.{Linkage}
-use Rattle.joint_model.specs.Managed.{Managed}
-use Rattle.joint_model.specs.ManagedReplay.{ManagedReplay}
-use Rattle.joint_model.specs.Peers.{Issued}
-use Rattle.joint_model.specs.Sides.{Side, managed_rules}
-use Rattle.joint_model.specs.Told.{Told, Noted, bare_told, pins_told}
+use Rattle.joint_machine.specs.declared.names.Thread.{Thread}
+use Rattle.joint_machine.specs.declared.names.Thread.TheVariants.{C}
+use Rattle.joint_machine.specs.declared.events.Entry.{Entry}
+use Rattle.joint_machine.specs.Control.{Stand, DriverAllows, control_after, last_line, stand_after}
+use Rattle.joint_machine.specs.HistoryLines.{caller_line}
+use Rattle.joint_machine.specs.Lines.{is_read}
+use Rattle.joint_machine.specs.Linked.{Linkage}
+use Rattle.joint_machine.specs.Managed.{Managed}
+use Rattle.joint_machine.specs.ManagedReplay.{ManagedReplay}
+use Rattle.joint_machine.specs.Peers.{Issued}
+use Rattle.joint_machine.specs.Sides.{Side, managed_rules}
+use Rattle.joint_machine.specs.Told.{Told, Noted}
+use Rattle.joint_machine.specs.PinsTold.{bare_told, pins_told}
 use Rattle.known_laws.specs.Drawn.{of_drawn}
-use Rattle.known_laws.specs.Known.{Comes, PinsStand, SideMayCome, TellsPlainly}
+use Rattle.known_laws.specs.Known.{Comes, PinsStand, SideMayCome}
+use Rattle.known_laws.specs.PastEntries.{TellsPlainly}
 use Rattle.known_laws.specs.Pasts.{HasSameDeadPart, end_of, line}
 use Rattle.known_laws.proofs.Growing.{dead_part_is_frozen, lines_give_parts}
 use Rattle.known_laws.proofs.KnownPasts.{known_past_is_kept}
@@ -59,8 +62,8 @@ driver_joined locked mine lent mine1 l a pass index stand seen s =
 pub stand_of_own : (h : List Noted) (x : Noted) → x.entry.made.caller ≡ C → (end_of (x ∷ h)).control.stand ≡ stand_after (end_of h).control.stand x.entry.number x.entry.made.op x.entry.made.reply (bare_told x.told)
 stand_of_own h x e = ap (λ (u : Thread). (control_after (end_of h).control u x.entry.number x.entry.made.index x.entry.made.op x.entry.made.reply (bare_told x.told)).stand) e
 
--- the driver made an entry under the managed lock: it stands where the definition puts it, by what was told if that was told plainly, and the managed
--- objects that it knows are the side's
+-- the driver made an entry under the managed lock: it stands where the definition puts it, by what was told if that was
+-- told plainly, and the managed objects that it knows are the side's
 pub record Driven (mine mine2 : View) (old new : Side ManagedReplay) (index : ℕ) (stand : Stand) (seen : Managed) (e : Entry) (told : Told) : Type 0 where
   pub makes : DriverMakes mine mine2 stand seen e told
   pub before : makes.state.managed ≡ old.state

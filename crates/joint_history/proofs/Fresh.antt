@@ -1,26 +1,27 @@
--- A handle that an `adopt` or a `meet` names was adopted by nobody, since its thread has it in hand; and these two cite, and no other step does.
+-- A handle that an `adopt` or a `meet` names was adopted by nobody, since its thread has it in hand; and these two
+-- cite, and no other step does.
 use Rattle.std.proofs.Common.{◌≡◌, ℕ, Option, ◌∙◌, subst}
 use Rattle.std.specs.Prelude.{Contains}
-use Rattle.joint_model.specs.declared.names.Thread.{Thread}
-use Rattle.joint_model.specs.declared.names.Thread.TheVariants.{M, P, C}
-use Rattle.joint_model.specs.declared.names.HNum.{HNum}
-use Rattle.joint_model.specs.declared.names.PNum.{PNum}
-use Rattle.joint_model.specs.declared.names.Sort.{Sort}
-use Rattle.joint_model.specs.declared.names.Var.{Var}
-use Rattle.joint_model.specs.declared.names.Kind.{Kind}
-use Rattle.joint_model.specs.declared.events.Op.{Op}
-use Rattle.joint_model.specs.declared.events.Op.TheVariants as op
-use Rattle.joint_model.specs.Control.{Doing, free, made, lent, gripped, given, met, doing_at, ThreadAllows}
-use Rattle.joint_model.specs.Linked.{Linkage}
+use Rattle.joint_machine.specs.declared.names.Thread.{Thread}
+use Rattle.joint_machine.specs.declared.names.Thread.TheVariants.{M, P, C}
+use Rattle.joint_machine.specs.declared.names.HNum.{HNum}
+use Rattle.joint_machine.specs.declared.names.PNum.{PNum}
+use Rattle.joint_machine.specs.declared.names.Sort.{Sort}
+use Rattle.joint_machine.specs.declared.names.Var.{Var}
+use Rattle.joint_machine.specs.declared.names.Kind.{Kind}
+use Rattle.joint_machine.specs.declared.events.Op.{Op}
+use Rattle.joint_machine.specs.declared.events.Op.TheVariants as op
+use Rattle.joint_machine.specs.Control.{Doing, free, made, lent, gripped, given, met, doing_at, ThreadAllows}
+use Rattle.joint_machine.specs.Linked.{Linkage}
 use Rattle.known_laws.specs.Driving.{IsPastKept}
 use Rattle.known_laws.proofs.Conditions.{made_is_new, gripped_is_new}
 use Rattle.known_laws.specs.Pasts.{end_of}
 use Rattle.known_laws.proofs.KnownPasts.{known_past_is_kept}
-use Rattle.joint_model.specs.ManagedReplay.{ManagedReplay}
-use Rattle.joint_model.specs.Sides.{Side}
+use Rattle.joint_machine.specs.ManagedReplay.{ManagedReplay}
+use Rattle.joint_machine.specs.Sides.{Side}
 use Rattle.order_table.specs.declared.views.View.{View}
 use Rattle.order_table.specs.Views.{Owns}
-use Rattle.managed_side.specs.Steps.{IsFresh, IsManagedStep, IsStepBy}
+use Rattle.managed_heap.specs.Steps.{IsFresh, IsManagedStep, IsStepBy}
 use Rattle.joint_history.specs.Callers.{HoldsPass}
 use Rattle.joint_history.specs.Locked.{ManagedKnows, MayMake, IsTurn, doing_of}
 use Rattle.seat_calls.specs.Passing.{Lends}

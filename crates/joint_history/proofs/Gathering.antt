@@ -1,36 +1,37 @@
--- At the end of a run all seats are taken into one, which knows all lists whole and that each thread has come to rest. So the lists are joined to a linked history, which
--- ends in both sides' states, but for the pins.
+-- At the end of a run all seats are taken into one, which knows all lists whole and that each thread has come to rest.
+-- So the lists are joined to a linked history, which ends in both sides' states, but for the pins.
 use Rattle.std.proofs.Common.{◌≡◌, ◌⊎◌, inl, inr, ⊎_elim, ℕ, ◌-◌, ◌<◌, ◌≤◌, List, [], ◌∷◌, ◌++◌, length, take, Some, None, refl, sym, ap, ◌∙◌, subst, arith}
 use Rattle.std.specs.Prelude.{Contains}
 use Rattle.std.proofs.lemmas.List.Elements.{Contains-push_cases}
 use Rattle.joint_history.specs.Ending.{all_lists, with_reads, AtRest, HasGatheredSeats, GathersAll, IsFinishedWith, HasIdleDriver, Rests}
 use Rattle.std.proofs.lemmas.List.{append-nil, append_assoc}
-use Rattle.joint_model.proofs.Members.{Contains-nil}
-use Rattle.joint_history.specs.Callers.{CallerKnows, KeepsReads}
+use Rattle.joint_machine.proofs.Members.{Contains-nil}
+use Rattle.joint_history.specs.Callers.{CallerKnows, KeepsReads, HoldsPass}
 use Rattle.joint_history.specs.Locked.{ManagedKnows, PeerKnows}
 use Rattle.std.proofs.lemmas.Bool.{cases_eq, cases_lt}
 use Rattle.std.proofs.lemmas.Option.{slice_get_past}
-use Rattle.joint_model.specs.declared.names.MNum.{MNum}
-use Rattle.joint_model.specs.declared.names.PNum.{PNum}
-use Rattle.joint_model.specs.declared.names.Thread.{Thread}
-use Rattle.joint_model.specs.declared.names.Thread.TheVariants.{M, P, C}
-use Rattle.joint_model.specs.declared.events.Entry.{Entry}
-use Rattle.joint_model.specs.declared.events.Op.{Op}
-use Rattle.joint_model.specs.declared.events.Op.TheVariants as op
-use Rattle.joint_model.specs.declared.events.Reply.{Reply}
-use Rattle.joint_model.specs.Control.{Control, Doing, free, doing_at, doing_after, control_after, IsDone, IsAtRest}
-use Rattle.joint_model.specs.Managed.{candidates_of}
-use Rattle.joint_model.specs.Histories.{Finished, IsJoinable, IsShuffle, managed_numbers, peer_numbers}
-use Rattle.joint_model.specs.HistoryLines.{caller_line}
-use Rattle.joint_model.specs.Lines.{IsThread, IsEvent, IsManagedThread}
-use Rattle.joint_model.specs.Linked.{IsWhole, Linkage}
+use Rattle.joint_machine.specs.declared.names.MNum.{MNum}
+use Rattle.joint_machine.specs.declared.names.PNum.{PNum}
+use Rattle.joint_machine.specs.declared.names.Thread.{Thread}
+use Rattle.joint_machine.specs.declared.names.Thread.TheVariants.{M, P, C}
+use Rattle.joint_machine.specs.declared.events.Entry.{Entry}
+use Rattle.joint_machine.specs.declared.events.Op.{Op}
+use Rattle.joint_machine.specs.declared.events.Op.TheVariants as op
+use Rattle.joint_machine.specs.declared.events.Reply.{Reply}
+use Rattle.joint_machine.specs.Control.{Control, Doing, free, doing_at, doing_after, control_after, IsDone, IsAtRest}
+use Rattle.joint_machine.specs.Managed.{candidates_of}
+use Rattle.joint_machine.specs.Histories.{Finished, managed_numbers, peer_numbers}
+use Rattle.joint_machine.specs.Shuffles.{IsJoinable, IsShuffle}
+use Rattle.joint_machine.specs.HistoryLines.{caller_line}
+use Rattle.joint_machine.specs.Lines.{IsThread, IsEvent, IsManagedThread}
+use Rattle.joint_machine.specs.Linked.{IsWhole, Linkage}
 use Rattle.joint_model.specs.Listed.{Stock}
-use Rattle.joint_model.specs.ManagedReplay.{ManagedReplay}
-use Rattle.joint_model.specs.PeerReplay.{PeerReplay}
-use Rattle.joint_model.specs.Readers.{with_pins}
-use Rattle.joint_model.specs.Sides.{Side}
-use Rattle.joint_model.specs.Told.{Told, Noted, bare_told}
-use Rattle.joint_model.proofs.Joining.{slice_get-set_other}
+use Rattle.joint_machine.specs.ManagedReplay.{ManagedReplay}
+use Rattle.joint_machine.specs.PeerReplay.{PeerReplay}
+use Rattle.joint_machine.specs.Sides.{Side}
+use Rattle.joint_machine.specs.Told.{Told, Noted}
+use Rattle.joint_machine.specs.PinsTold.{bare_told, with_pins}
+use Rattle.joint_machine.proofs.Joining.{slice_get-set_other}
 use Rattle.known_laws.specs.Pasts.{Lawful, end_of, line}
 use Rattle.known_laws.specs.Wholes.{history_of, HasEnded, IsLinkedPast}
 use Rattle.known_laws.proofs.Coming.{event_of}
@@ -41,7 +42,6 @@ use Rattle.order_table.specs.Rule.{AreLinesOfOneHistory as AllKnown}
 use Rattle.order_table.specs.Tells.{TakesIn, BeginsOneHistory}
 use Rattle.order_table.specs.Views.{Owns, OwnsAll}
 use Rattle.view_laws.proofs.Joined.{whole_lists_are_joined}
-use Rattle.joint_history.specs.Callers.{HoldsPass}
 use Rattle.joint_history.proofs.GatheredReads.{all_lists_known, gather_reads}
 use Rattle.joint_history.proofs.KnownCallers.{own_line}
 use Rattle.joint_history.proofs.KnownViews.{views_join}

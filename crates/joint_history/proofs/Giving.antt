@@ -1,20 +1,21 @@
--- A desk gives its callers out: who is given out is its thread's caller and knows nothing, and each thread's caller still waits or was given out.
+-- A desk gives its callers out: who is given out is its thread's caller and knows nothing, and each thread's caller
+-- still waits or was given out.
 use Rattle.std.proofs.Common.{◌≡◌, ◌⊎◌, inl, inr, ⊎_elim, ℕ, ◌≤◌, Bool, true, false, List, [], ◌∷◌, ◌++◌, length, get_or, Option, Some, None, refl, sym, ap, ◌∙◌, subst, arith}
 use Rattle.std.specs.Prelude.{Contains, IfSome, IsSome, if◌then◌else◌, nat_le, option_to_list, slice_get, slice_set}
 use Rattle.std.proofs.lemmas.Bool.{cases_eq, leb-true}
 use Rattle.std.proofs.lemmas.Option.{slice_get_read}
-use Rattle.joint_model.specs.declared.names.Thread.{Thread}
-use Rattle.joint_model.specs.declared.names.Thread.TheVariants.{M, P, C}
-use Rattle.joint_model.specs.Control.{caller_place}
-use Rattle.joint_model.specs.Lines.{IsThread}
-use Rattle.joint_model.proofs.Joining.{slice_get-set_other}
-use Rattle.joint_model.proofs.Members.{Contains-here, Contains-there}
+use Rattle.joint_machine.specs.declared.names.Thread.{Thread}
+use Rattle.joint_machine.specs.declared.names.Thread.TheVariants.{M, P, C}
+use Rattle.joint_machine.specs.Control.{caller_place}
+use Rattle.joint_machine.specs.Lines.{IsThread}
+use Rattle.joint_machine.proofs.Joining.{slice_get-set_other}
+use Rattle.joint_machine.proofs.Members.{Contains-here, Contains-there}
 use Rattle.joint_history.specs.Callers.{IsOfRun, KnowsNothing, Pass}
 use Rattle.joint_history.specs.Desks.{AreAll, IsDesk, Waiting, WaitsAt, flat, has_thread, thread_of, waits, without_caller}
 use Rattle.joint_history.specs.Ending.{HasAll, StillWaits, threads_of}
 use Rattle.joint_history.proofs.Ended.{one_at_place, thread_at_place}
 use Rattle.joint_history.proofs.LastLines.{place_small}
-use Rattle.joint_model.proofs.Deciding.{and-true}
+use Rattle.joint_machine.proofs.Deciding.{and-true}
 
 has_is_thread : (d : Waiting) (t : Thread) → d.managed ≤ 8 → d.peers ≤ 8 → has_thread d t ≡ true → IsThread t
 has_is_thread d (M n) m p e = let w = and-true (nat_le 1 n) (nat_le n d.managed) e in let a = leb-true 1 n w.0 in let b = leb-true n d.managed w.1 in (a, omega (arith, b, m))

@@ -1,17 +1,19 @@
--- The end of a run, once all seats are in: all lists can be joined, the history is linked, and each caller has just its own entries.
+-- The end of a run, once all seats are in: all lists can be joined, the history is linked, and each caller has just its
+-- own entries.
 use Rattle.std.proofs.Common.{◌≡◌, ℕ, List, [], Option, sym, subst}
 use Rattle.std.specs.Prelude.{◌<◌, ◌^◌, length, All, IfOk, Result, Ok, Err}
-use Rattle.joint_model.specs.declared.names.MNum.{MNum}
-use Rattle.joint_model.specs.declared.names.PNum.{PNum}
-use Rattle.joint_model.specs.declared.names.Thread.{Thread}
-use Rattle.joint_model.specs.declared.events.Entry.{Entry}
-use Rattle.joint_model.specs.Histories.{Finished, IsJoinable, IsShuffle, managed_numbers, peer_numbers}
-use Rattle.joint_model.specs.Lines.{IsThread}
-use Rattle.joint_model.specs.LinkedHistories.{IsLinked, linked_end}
-use Rattle.joint_model.specs.ManagedReplay.{ManagedReplay}
-use Rattle.joint_model.specs.PeerReplay.{PeerReplay}
-use Rattle.joint_model.specs.Readers.{with_pins}
-use Rattle.joint_model.specs.Sides.{Side}
+use Rattle.joint_machine.specs.declared.names.MNum.{MNum}
+use Rattle.joint_machine.specs.declared.names.PNum.{PNum}
+use Rattle.joint_machine.specs.declared.names.Thread.{Thread}
+use Rattle.joint_machine.specs.declared.events.Entry.{Entry}
+use Rattle.joint_machine.specs.Histories.{Finished, managed_numbers, peer_numbers}
+use Rattle.joint_machine.specs.Shuffles.{IsJoinable, IsShuffle}
+use Rattle.joint_machine.specs.Lines.{IsThread}
+use Rattle.joint_machine.specs.LinkedHistories.{IsLinked, linked_end}
+use Rattle.joint_machine.specs.ManagedReplay.{ManagedReplay}
+use Rattle.joint_machine.specs.PeerReplay.{PeerReplay}
+use Rattle.joint_machine.specs.PinsTold.{with_pins}
+use Rattle.joint_machine.specs.Sides.{Side}
 use Rattle.known_laws.specs.Lists.{made_by}
 use Rattle.order_table.specs.declared.views.View.{View}
 use Rattle.order_table.specs.Facts.{entries_of}

@@ -1,13 +1,13 @@
 -- What a caller knows as its seat takes others in and gives lines away.
 use Rattle.std.proofs.Common.{◌≡◌, inl, inr, ⊎_elim, ℕ, ◌+◌, List, refl, sym, ap, ◌∙◌, subst}
 use mathlib.Core.List.{IsPrefix}
-use Rattle.joint_model.specs.declared.names.Thread.{Thread}
-use Rattle.joint_model.specs.declared.names.Thread.TheVariants.{M, P, C}
-use Rattle.joint_model.specs.Control.{IsDone}
-use Rattle.joint_model.specs.HistoryLines.{caller_line}
-use Rattle.joint_model.specs.Lines.{IsDriver}
+use Rattle.joint_machine.specs.declared.names.Thread.{Thread}
+use Rattle.joint_machine.specs.declared.names.Thread.TheVariants.{M, P, C}
+use Rattle.joint_machine.specs.Control.{IsDone}
+use Rattle.joint_machine.specs.HistoryLines.{caller_line}
+use Rattle.joint_machine.specs.Lines.{IsDriver}
 use Rattle.joint_model.specs.Listed.{Stock}
-use Rattle.joint_model.specs.Told.{Noted}
+use Rattle.joint_machine.specs.Told.{Noted}
 use Rattle.known_laws.specs.Pasts.{end_of, line}
 use Rattle.known_laws.proofs.Growing.{lines_give_parts}
 use Rattle.order_table.specs.declared.views.View.{View}

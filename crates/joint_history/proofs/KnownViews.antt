@@ -1,13 +1,14 @@
--- What two seats know together is a past again, as the laws of views say; here line by line of what the seats know. Where a seat knows the same as
--- another, or nothing, its past is the same, or none.
+-- What two seats know together is a past again, as the laws of views say; here line by line of what the seats know.
+-- Where a seat knows the same as another, or nothing, its past is the same, or none.
 use Rattle.std.proofs.Common.{◌≡◌, ◌⊎◌, ℕ, List, [], ◌∷◌, ◌++◌, map, refl, sym, ap, ◌∙◌, subst}
 use Rattle.std.specs.Prelude.{Contains}
 use mathlib.Core.List.{IsPrefix}
-use Rattle.joint_model.proofs.Members.{Contains-nil}
-use Rattle.joint_model.specs.Told.{Noted}
+use Rattle.joint_machine.proofs.Members.{Contains-nil}
+use Rattle.joint_machine.specs.Told.{Noted}
 use Rattle.known_laws.specs.Drawn.{of_drawn}
-use Rattle.known_laws.specs.Growing.{all_shown, entries, entries_kept}
-use Rattle.known_laws.specs.Pasts.{InPast, end_of, line}
+use Rattle.known_laws.specs.Growing.{all_shown, entries_kept}
+use Rattle.known_laws.specs.Pasts.{end_of, line}
+use Rattle.known_laws.specs.PastEntries.{InPast, entries}
 use Rattle.order_table.specs.declared.views.KeptEntry.{KeptEntry}
 use Rattle.order_table.specs.declared.views.View.{View}
 use Rattle.order_table.specs.Facts.{line_entries}
@@ -55,8 +56,8 @@ no_view v none = record {
   told = λ i d c. absurd (Contains-nil d (subst (λ ks. Contains (map of_order ks) d) (none i) c));
 }
 
--- what two seats know together: a line that is the one's or the other's is so with what is told; each entry stays with what is told of it; and each
--- side's state is that of the longer line
+-- what two seats know together: a line that is the one's or the other's is so with what is told; each entry stays with
+-- what is told of it; and each side's state is that of the longer line
 pub record JoinedViews (v w u : View) (a : IsDrawnView v) (b : IsDrawnView w) : Type 0 where
   pub joined : IsDrawnView u
   pub first : (i : ℕ) → known u i ≡ known v i → line i joined.known.past ≡ line i a.known.past

@@ -2,16 +2,17 @@
 use Rattle.std.proofs.Common.{◌≡◌, ⊎_elim, ℕ, zero, suc, ◌+◌, ◌<◌, Bool, true, false, List, [], ◌∷◌, ◌++◌, refl, sym, ap, ◌∙◌, subst, arith}
 use Rattle.std.specs.Prelude.{if◌then◌else◌, replicate, slice_index, slice_set}
 use Rattle.std.proofs.lemmas.Bool.{cases_Bool, cases_eq}
-use Rattle.joint_model.specs.declared.names.Thread.{Thread}
-use Rattle.joint_model.specs.declared.names.Thread.TheVariants.{M, P, C}
-use Rattle.joint_model.specs.declared.events.Entry.{Entry}
-use Rattle.joint_model.specs.declared.events.Op.{Op}
-use Rattle.joint_model.specs.declared.events.Reply.{Reply}
-use Rattle.joint_model.specs.Control.{Control, caller_place, control_after, last_line}
-use Rattle.joint_model.specs.HistoryLines.{caller_line, side_line}
-use Rattle.joint_model.specs.Lines.{IsEvent, IsThread, is_peer_event, is_read, reader_line}
-use Rattle.joint_model.specs.Told.{Told, Noted, bare_told}
-use Rattle.known_laws.specs.Growing.{entries}
+use Rattle.joint_machine.specs.declared.names.Thread.{Thread}
+use Rattle.joint_machine.specs.declared.names.Thread.TheVariants.{M, P, C}
+use Rattle.joint_machine.specs.declared.events.Entry.{Entry}
+use Rattle.joint_machine.specs.declared.events.Op.{Op}
+use Rattle.joint_machine.specs.declared.events.Reply.{Reply}
+use Rattle.joint_machine.specs.Control.{Control, caller_place, control_after, last_line}
+use Rattle.joint_machine.specs.HistoryLines.{caller_line, side_line, reader_line}
+use Rattle.joint_machine.specs.Lines.{IsEvent, IsThread, is_peer_event, is_read}
+use Rattle.joint_machine.specs.Told.{Told, Noted}
+use Rattle.joint_machine.specs.PinsTold.{bare_told}
+use Rattle.known_laws.specs.PastEntries.{entries}
 use Rattle.known_laws.specs.Pasts.{Lawful, end_of, line, is_in, own_of, role_of}
 use Rattle.known_laws.proofs.PastLines.{in_own, in_which, line_in, line_out}
 use Rattle.known_laws.proofs.Growing.{entries_append}

@@ -1,9 +1,9 @@
 -- Once a caller's lines were lent, the managed seat owns them beside its own list, and knows the side as it is.
 use Rattle.std.proofs.Common.{ap, ◌∙◌}
-use Rattle.joint_model.specs.declared.names.Thread.{Thread}
-use Rattle.joint_model.specs.HistoryLines.{caller_line}
-use Rattle.joint_model.specs.ManagedReplay.{ManagedReplay}
-use Rattle.joint_model.specs.Sides.{Side}
+use Rattle.joint_machine.specs.declared.names.Thread.{Thread}
+use Rattle.joint_machine.specs.HistoryLines.{caller_line}
+use Rattle.joint_machine.specs.ManagedReplay.{ManagedReplay}
+use Rattle.joint_machine.specs.Sides.{Side}
 use Rattle.order_table.specs.declared.views.View.{View}
 use Rattle.order_table.specs.Facts.{line_entries}
 use Rattle.order_table.specs.Views.{Owns}

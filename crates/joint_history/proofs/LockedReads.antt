@@ -1,17 +1,18 @@
--- A read under the managed lock: its caller makes the entry, whose answer is what the managed list gives, and the locked seat knows the managed side as it was.
+-- A read under the managed lock: its caller makes the entry, whose answer is what the managed list gives, and the
+-- locked seat knows the managed side as it was.
 use Rattle.std.proofs.Common.{◌≡◌, inl, inr, ℕ, ◌+◌, ◌<◌, ◌^◌, List, [], ◌∷◌, ◌++◌, None, refl, sym, ap, ◌∙◌, subst, arith}
-use Rattle.joint_model.specs.declared.names.Thread.{Thread}
-use Rattle.joint_model.specs.declared.names.Thread.TheVariants.{M, P, C}
-use Rattle.joint_model.specs.declared.lines.Act.{Act}
-use Rattle.joint_model.specs.declared.events.Op.TheVariants as op
-use Rattle.joint_model.specs.declared.events.Reply.{Reply}
-use Rattle.joint_model.specs.Draws.{numbered}
-use Rattle.joint_model.specs.Lines.{IsManagedThread}
+use Rattle.joint_machine.specs.declared.names.Thread.{Thread}
+use Rattle.joint_machine.specs.declared.names.Thread.TheVariants.{M, P, C}
+use Rattle.joint_machine.specs.declared.lines.Act.{Act}
+use Rattle.joint_machine.specs.declared.events.Op.TheVariants as op
+use Rattle.joint_machine.specs.declared.events.Reply.{Reply}
+use Rattle.joint_machine.specs.Draws.{numbered}
+use Rattle.joint_machine.specs.Lines.{IsManagedThread}
 use Rattle.joint_model.specs.Listed.{Stock}
-use Rattle.joint_model.specs.ManagedReplay.{ManagedReplay}
-use Rattle.joint_model.specs.Run.{thread_number}
-use Rattle.joint_model.specs.Sides.{Side}
-use Rattle.joint_model.specs.Told.{nothing}
+use Rattle.joint_machine.specs.ManagedReplay.{ManagedReplay}
+use Rattle.joint_machine.specs.Run.{thread_number}
+use Rattle.joint_machine.specs.Sides.{Side}
+use Rattle.joint_machine.specs.Told.{nothing}
 use Rattle.order_table.specs.declared.views.KeptEntry.{KeptEntry}
 use Rattle.order_table.specs.declared.views.View.{View}
 use Rattle.order_table.specs.Facts.{line_entries}

@@ -1,25 +1,27 @@
--- One entry under a side's lock: the caller's lines are handed to the locked seat, the side draws by it, and they are handed back.
+-- One entry under a side's lock: the caller's lines are handed to the locked seat, the side draws by it, and they are
+-- handed back.
 use Rattle.std.proofs.Common.{◌≡◌, ◌⊎◌, inl, inr, ⊎_elim, ℕ, ◌+◌, ◌<◌, ◌≤◌, ◌^◌, false, true, List, [], ◌∷◌, ◌++◌, Option, None, refl, sym, ap, ◌∙◌, subst, arith}
 use Rattle.std.specs.Prelude.{if◌then◌else◌, Result, Ok, Err, IfOk, OnErr}
 use mathlib.Core.List.{IsPrefix}
 use base.Growing.{prefix_refl, prefix_trans}
 use Rattle.std.proofs.lemmas.Bool.{cases_eq}
-use Rattle.joint_model.specs.declared.names.Thread.{Thread}
-use Rattle.joint_model.specs.declared.names.Thread.TheVariants.{M, P, C}
-use Rattle.joint_model.specs.declared.events.Entry.{Entry}
-use Rattle.joint_model.specs.declared.events.Made.{Made}
-use Rattle.joint_model.specs.declared.events.Op.{Op}
-use Rattle.joint_model.specs.declared.events.Reply.{Reply}
-use Rattle.joint_model.specs.Control.{Doing, CallerAllows, ThreadAllows, last_line}
-use Rattle.joint_model.specs.Draws.{numbered}
-use Rattle.joint_model.specs.HistoryLines.{caller_line}
-use Rattle.joint_model.specs.Lines.{IsThread, is_peer_event, is_read}
-use Rattle.joint_model.specs.Linked.{Linkage, peer_after}
-use Rattle.joint_model.specs.Managed.{Managed}
-use Rattle.joint_model.specs.ManagedReplay.{ManagedReplay, opening_replay}
-use Rattle.joint_model.specs.PeerReplay.{PeerReplay, peer_answer, opening_peer_replay}
-use Rattle.joint_model.specs.Sides.{Side, SideRules, managed_rules, peer_rules, GoesOn}
-use Rattle.joint_model.specs.Told.{Told, Noted, bare_told, no_pins, pins_told}
+use Rattle.joint_machine.specs.declared.names.Thread.{Thread}
+use Rattle.joint_machine.specs.declared.names.Thread.TheVariants.{M, P, C}
+use Rattle.joint_machine.specs.declared.events.Entry.{Entry}
+use Rattle.joint_machine.specs.declared.events.Made.{Made}
+use Rattle.joint_machine.specs.declared.events.Op.{Op}
+use Rattle.joint_machine.specs.declared.events.Reply.{Reply}
+use Rattle.joint_machine.specs.Control.{Doing, CallerAllows, ThreadAllows, last_line}
+use Rattle.joint_machine.specs.Draws.{numbered}
+use Rattle.joint_machine.specs.HistoryLines.{caller_line}
+use Rattle.joint_machine.specs.Lines.{IsThread, is_peer_event, is_read}
+use Rattle.joint_machine.specs.Linked.{Linkage, peer_after}
+use Rattle.joint_machine.specs.Managed.{Managed}
+use Rattle.joint_machine.specs.ManagedReplay.{ManagedReplay, opening_replay}
+use Rattle.joint_machine.specs.PeerReplay.{PeerReplay, peer_answer, opening_peer_replay}
+use Rattle.joint_machine.specs.Sides.{Side, SideRules, managed_rules, peer_rules, GoesOn}
+use Rattle.joint_machine.specs.Told.{Told, Noted}
+use Rattle.joint_machine.specs.PinsTold.{bare_told, no_pins, pins_told}
 use Rattle.known_laws.specs.Drawn.{drawn, drawn_by}
 use Rattle.known_laws.specs.Known.{Comes, PinsStand, managed_past}
 use Rattle.known_laws.specs.Pasts.{end_of, line}
@@ -99,7 +101,8 @@ thread_may t past mine m told w same =
       allows = turn_allows t (end_of past) w.doing m.index m.op m.reply m.cites (bare_told told) doing w.turn;
     }
 
--- an entry that may come behind what the seat knows, as it is drawn there: the seat knows it then, and so the caller stands
+-- an entry that may come behind what the seat knows, as it is drawn there: the seat knows it then, and so the caller
+-- stands
 pub entered : (t : Thread) (mine lent lent2 : View) (r : ℕ) (k : KeptEntry) (told : Told) (j : IsDrawnView lent) → IsThread t → k.entry.made.caller ≡ t → GrowsByEntry lent lent2 r k → IsInRole r k.entry.made → ((i : ℕ) → IsBelow k.entry.number (known lent i))
     → pins_of k.pins ≡ pins_told told → drawn (end_of j.known.past) (note_of k.entry told) ≡ of_drawing k → Comes (is_read k.entry.made.op) (end_of j.known.past) (note_of k.entry told) → Entered t mine lent2 j.known.past k told
 entered t mine lent lent2 r k told j thread caller grows role below pins draws comes =
@@ -221,7 +224,8 @@ peer_draws s k told side target freed =
     ap (λ b. if b then drawn_by peer_rules s.peer (note_of k.entry told) else drawn_by managed_rules s.managed (note_of k.entry told)) side
     ∙ (λ i. record { entry = k.entry; target = sym target i; freed = sym freed i })
 
--- the caller's entry may come behind what is known together: its line and its turn are the caller's, the rest is the side's promise
+-- the caller's entry may come behind what is known together: its line and its turn are the caller's, the rest is the
+-- side's promise
 comes_now : (t : Thread) (s : Linkage) (k : KeptEntry) (told : Told) → k.entry.made.caller ≡ t → MayNow t s k.entry.made told → k.entry.made.index < 2 ^ 32 → PinsStand s.managed.managed (pins_told told)
     → managed_rules.lawful s.managed k.entry.made told ⊎ peer_rules.lawful s.peer k.entry.made told → Comes (is_read k.entry.made.op) s (note_of k.entry told)
 comes_now t s k told caller may short stand side = side_entry_comes s k.entry.number k.entry.made told

@@ -1,10 +1,11 @@
--- A seat that only looked at words is settled as it was, and a side's seat knows what it knew; and an entry that it makes then, it made from where it was.
+-- A seat that only looked at words is settled as it was, and a side's seat knows what it knew; and an entry that it
+-- makes then, it made from where it was.
 use Rattle.std.proofs.Common.{◌≡◌, ◌⊎◌, ℕ, ◌*◌, ◌<◌, List, [], ◌∷◌, ◌++◌, sym, ap, ◌∙◌, subst}
 use Rattle.std.specs.Prelude.{false}
-use Rattle.joint_model.specs.declared.events.Entry.{Entry}
-use Rattle.joint_model.specs.ManagedReplay.{ManagedReplay}
-use Rattle.joint_model.specs.Sides.{Side, SideRules}
-use Rattle.joint_model.specs.Told.{Told}
+use Rattle.joint_machine.specs.declared.events.Entry.{Entry}
+use Rattle.joint_machine.specs.ManagedReplay.{ManagedReplay}
+use Rattle.joint_machine.specs.Sides.{Side, SideRules}
+use Rattle.joint_machine.specs.Told.{Told}
 use Rattle.order_table.specs.declared.views.KeptEntry.{KeptEntry}
 use Rattle.order_table.specs.declared.views.View.{View}
 use Rattle.order_table.specs.Allowed.{Settled}

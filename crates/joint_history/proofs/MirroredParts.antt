@@ -1,5 +1,5 @@
--- The mirror edges of a contraction, read through the nodes of the dead part's graph: they lead between the same peers and temporaries, each handle of
--- the graph is a candidate's, and there are as many of these as candidates.
+-- The mirror edges of a contraction, read through the nodes of the dead part's graph: they lead between the same peers
+-- and temporaries, each handle of the graph is a candidate's, and there are as many of these as candidates.
 use Rattle.std.proofs.Common.{◌≡◌, inl, inr, ℕ, ◌+◌, ◌<◌, ◌≤◌, zero, suc, Bool, true, false, List, [], ◌∷◌, ◌++◌, length, length-append, map, get_or, Option, Some, None, refl, sym, ap, ◌∙◌, subst, arith, if◌then◌else◌}
 use Rattle.std.proofs.lemmas.Bool.{ltb-true}
 use Rattle.std.specs.Prelude.{◌-◌, nat_lt, All, Contains, IsSome, flat_map, slice_get}
@@ -7,25 +7,25 @@ use Rattle.std.specs.Option.{option_and_then, option_map, option_to_list}
 use Rattle.std.proofs.lemmas.List.{length-map, map-append}
 use Rattle.std.proofs.lemmas.List.Elements.{All-contains, All-head, All-tail}
 use Rattle.std.proofs.lemmas.Option.{get_or_from_slice_get, same_Some, slice_get-map}
-use Rattle.joint_model.specs.declared.names.HNum.{HNum}
-use Rattle.joint_model.specs.Components.{End, Rises, between_nodes, circle, circle_from, end_at, first_at, mirror_edges, node, temporary}
-use Rattle.joint_model.specs.Control.{IsCandidateHandle, carried_edges, carried_end, peer_of_row}
-use Rattle.joint_model.specs.Cycles.{IsDeadContraction}
-use Rattle.joint_model.specs.Heaps.{is_freed}
-use Rattle.joint_model.specs.Managed.{Managed, OpenCycle, handle_of, candidates_of}
-use Rattle.joint_model.specs.Peers.{Issued, peer_of}
-use Rattle.joint_model.specs.PeerReplay.{PeerReplay, row_of}
-use Rattle.joint_model.proofs.Deciding.{none_some}
-use Rattle.joint_model.proofs.HeapLemmas.{Holds-handle_of, candidates_of-open}
-use Rattle.joint_model.proofs.Members.{All-members, Contains-at, Contains-cons_cases, Contains-here, Contains-flat_map, Contains-flat_map_cases, Contains-map, Contains-map_cases, Contains-nil, Rises-one, at-Contains}
+use Rattle.joint_machine.specs.declared.names.HNum.{HNum}
+use Rattle.joint_machine.specs.Components.{End, Rises, between_nodes, circle, circle_from, end_at, first_at, mirror_edges, node, temporary}
+use Rattle.joint_machine.specs.Control.{IsCandidateHandle, carried_edges, carried_end, peer_of_row}
+use Rattle.joint_machine.specs.Cycles.{IsDeadContraction}
+use Rattle.joint_machine.specs.Heaps.{is_freed}
+use Rattle.joint_machine.specs.Managed.{Managed, OpenCycle, handle_of, candidates_of}
+use Rattle.joint_machine.specs.Peers.{Issued, peer_of}
+use Rattle.joint_machine.specs.PeerReplay.{PeerReplay, row_of}
+use Rattle.joint_machine.proofs.Deciding.{none_some}
+use Rattle.joint_machine.proofs.HeapLemmas.{Holds-handle_of, candidates_of-open}
+use Rattle.joint_machine.proofs.Members.{All-members, Contains-at, Contains-cons_cases, Contains-here, Contains-flat_map, Contains-flat_map_cases, Contains-map, Contains-map_cases, Contains-nil, Rises-one, at-Contains}
 use Rattle.joint_laws.specs.ManagedInvariants.{IsManagedKept}
 use Rattle.joint_laws.proofs.DriverPeerSteps.{holds-handle_of}
 use Rattle.known_laws.specs.Pasts.{HasSameDeadPart}
 use Rattle.bridge_graph.specs.declared.graph.Node.{Node}
 use Rattle.bridge_graph.specs.Handles.{handles_of}
 use Rattle.bridge_graph.specs.Parts.{IsBridgeNode, IsPart, Part, numbers_of}
-use Rattle.managed_side.specs.Graphs.{IsDeadGraph, handle_number}
-use Rattle.peer_side.specs.Mirroring.{strong_row}
+use Rattle.managed_heap.specs.Graphs.{IsDeadGraph, handle_number}
+use Rattle.peer_heap.specs.Mirroring.{strong_row}
 use Rattle.xref_list.specs.Listing.{IsListing, Listing}
 use Rattle.peer_mirror.specs.Carried.{AreBridgeNodes, AreHandlesStrong, carried_end as node_end, carried_to_peers, peer_of_node}
 use Rattle.joint_history.specs.DriverMirrors.{number_at, numbered_comps}

@@ -4,29 +4,29 @@ use Rattle.std.specs.Prelude.{◌-◌, if◌then◌else◌, min, nat_le, nat_lt,
 use Rattle.std.proofs.Math.ListN.{length-set}
 use Rattle.std.proofs.lemmas.Bool.{cases_eq, cases_lt}
 use Rattle.std.proofs.lemmas.List.{length-replicate}
-use Rattle.joint_model.specs.declared.names.Thread.{Thread}
-use Rattle.joint_model.specs.declared.names.Thread.TheVariants.{M, P, C}
-use Rattle.joint_model.specs.declared.names.Sort.{Sort}
-use Rattle.joint_model.specs.declared.names.Sort.TheVariants.{Framework}
-use Rattle.joint_model.specs.declared.names.StaticNo.{StaticNo}
-use Rattle.joint_model.specs.declared.lines.Act.{Act}
-use Rattle.joint_model.specs.declared.lines.Act.TheVariants as act
-use Rattle.joint_model.specs.declared.events.Made.{Made}
-use Rattle.joint_model.specs.declared.events.Op.{Op}
-use Rattle.joint_model.specs.declared.events.Op.TheVariants as op
-use Rattle.joint_model.specs.declared.events.Reply.{Reply}
-use Rattle.joint_model.specs.declared.events.Reply.TheVariants as says
-use Rattle.joint_model.specs.Components.{End}
-use Rattle.joint_model.specs.Control.{Doing, gripped, doing_after, doing_at, control_after}
-use Rattle.joint_model.specs.Heaps.{Heap, Answered, answer, slot, numbered_at, numbered_set, next_number, is_full, fields_of, with_var, with_field, with_object, copied, field_stored, field_set, read_into, field_got, stored}
-use Rattle.joint_model.specs.Lines.{IsEvent, IsLine, is_peer_event}
-use Rattle.joint_model.specs.Linked.{Linkage, MayCome, SideLawful, peer_after, linkage_after, opening_linkage}
-use Rattle.joint_model.specs.Peers.{Peers, Strength, peer_line, peer_made, pair_made, peer_gripped, landed, name_given, globalised, name_freed, peer_read, name_read, peer_name, handle_name, next_handle, handles_full, with_peer, with_handle, sort_of, peer_of, held, raw, strong}
-use Rattle.joint_model.specs.PeerReplay.{PeerReplay, Marking, TableRow, peer_answer, peer_thread_line, bring_by, sliced, begun, swept, swept_of, is_thread, restored_by, row_of, mirrored, table_target, renewed_on, withdrawn}
-use Rattle.joint_model.specs.Run.{thread_number}
-use Rattle.joint_model.specs.Told.{Told, Noted, references_of, slice_of, sweep_of}
-use Rattle.joint_model.proofs.Deciding.{none_some}
-use Rattle.joint_model.proofs.Numbered.{numbered-past, numbered-push_cases, numbered_set-same}
+use Rattle.joint_machine.specs.declared.names.Thread.{Thread}
+use Rattle.joint_machine.specs.declared.names.Thread.TheVariants.{M, P, C}
+use Rattle.joint_machine.specs.declared.names.Sort.{Sort}
+use Rattle.joint_machine.specs.declared.names.Sort.TheVariants.{Framework}
+use Rattle.joint_machine.specs.declared.names.StaticNo.{StaticNo}
+use Rattle.joint_machine.specs.declared.lines.Act.{Act}
+use Rattle.joint_machine.specs.declared.lines.Act.TheVariants as act
+use Rattle.joint_machine.specs.declared.events.Made.{Made}
+use Rattle.joint_machine.specs.declared.events.Op.{Op}
+use Rattle.joint_machine.specs.declared.events.Op.TheVariants as op
+use Rattle.joint_machine.specs.declared.events.Reply.{Reply}
+use Rattle.joint_machine.specs.declared.events.Reply.TheVariants as says
+use Rattle.joint_machine.specs.Components.{End}
+use Rattle.joint_machine.specs.Control.{Doing, gripped, doing_after, doing_at, control_after}
+use Rattle.joint_machine.specs.Heaps.{Heap, Answered, answer, slot, numbered_at, numbered_set, next_number, is_full, fields_of, with_var, with_field, with_object, copied, field_stored, field_set, read_into, field_got, stored}
+use Rattle.joint_machine.specs.Lines.{IsEvent, IsLine, is_peer_event}
+use Rattle.joint_machine.specs.Linked.{Linkage, MayCome, SideLawful, peer_after, linkage_after, opening_linkage}
+use Rattle.joint_machine.specs.Peers.{Peers, Strength, peer_line, peer_made, pair_made, peer_gripped, landed, name_given, globalised, name_freed, peer_read, name_read, peer_name, handle_name, next_handle, handles_full, with_peer, with_handle, sort_of, peer_of, held, raw, strong}
+use Rattle.joint_machine.specs.PeerReplay.{PeerReplay, Marking, TableRow, peer_answer, peer_thread_line, bring_by, sliced, begun, swept, swept_of, is_thread, restored_by, row_of, mirrored, table_target, renewed_on, withdrawn}
+use Rattle.joint_machine.specs.Run.{thread_number}
+use Rattle.joint_machine.specs.Told.{Told, Noted, references_of, slice_of, sweep_of}
+use Rattle.joint_machine.proofs.Deciding.{none_some}
+use Rattle.joint_machine.proofs.Numbered.{numbered-past, numbered-push_cases, numbered_set-same}
 use Rattle.joint_laws.proofs.Fields.{with_field-other, with_object-old}
 use Rattle.joint_laws.proofs.Hands.{doing-set_cases, opening-free}
 use Rattle.joint_laws.proofs.LinkedEntries.{Of}

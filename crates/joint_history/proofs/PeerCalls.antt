@@ -1,19 +1,21 @@
--- Each event that the peer side makes for a thread by the call that makes it: a slice, a begin or a sweep of the thread's own marking, or a step.
+-- Each event that the peer side makes for a thread by the call that makes it: a slice, a begin or a sweep of the
+-- thread's own marking, or a step.
 use Rattle.std.proofs.Common.{◌≡◌, ℕ, inl, Option, Some, None, refl, sym, ap}
 use Rattle.std.specs.Prelude.{IsSome}
 use Rattle.std.proofs.lemmas.Option.{same_Some}
-use Rattle.joint_model.specs.declared.names.Thread.{Thread}
-use Rattle.joint_model.specs.declared.names.Thread.TheVariants.{M, P, C}
-use Rattle.joint_model.specs.declared.lines.Act.TheVariants as act
-use Rattle.joint_model.specs.declared.events.Op.{Op}
-use Rattle.joint_model.specs.declared.events.Op.TheVariants as op
-use Rattle.joint_model.specs.Lines.{IsDriver, IsPeerThread}
-use Rattle.joint_model.specs.PeerReplay.{PeerReplay, PeerAllows}
-use Rattle.joint_model.specs.Sides.{Drawing, MayDraw, Side, peer_rules}
-use Rattle.joint_model.specs.Told.{nothing}
-use Rattle.joint_model.proofs.Deciding.{none_some}
-use Rattle.peer_side.specs.Makings.{IsSideStep, MayDrawStep, MayStep, IsMarkEvent}
-use Rattle.peer_side.specs.Steps.{IsPeerStep, IsRelease}
+use Rattle.joint_machine.specs.declared.names.Thread.{Thread}
+use Rattle.joint_machine.specs.declared.names.Thread.TheVariants.{M, P, C}
+use Rattle.joint_machine.specs.declared.lines.Act.TheVariants as act
+use Rattle.joint_machine.specs.declared.events.Op.{Op}
+use Rattle.joint_machine.specs.declared.events.Op.TheVariants as op
+use Rattle.joint_machine.specs.Lines.{IsDriver, IsPeerThread}
+use Rattle.joint_machine.specs.PeerReplay.{PeerReplay, PeerAllows}
+use Rattle.joint_machine.specs.Draws.{Drawing}
+use Rattle.joint_machine.specs.Sides.{MayDraw, Side, peer_rules}
+use Rattle.joint_machine.specs.Told.{nothing}
+use Rattle.joint_machine.proofs.Deciding.{none_some}
+use Rattle.peer_heap.specs.Makings.{IsSideStep, MayDrawStep, MayStep, IsMarkEvent}
+use Rattle.peer_heap.specs.Steps.{IsPeerStep, IsRelease}
 use Rattle.joint_history.specs.PeerCalls.{AllowsCall, IsPeerCall, slice_count}
 
 -- a slice

@@ -1,21 +1,22 @@
--- A reader's entry stands in the list of its thread's reader and among its thread's own, sets no cell, frees no object and is told with nothing. It may come
--- whenever it is its thread's turn, and both sides' states are after it what they were.
+-- A reader's entry stands in the list of its thread's reader and among its thread's own, sets no cell, frees no object
+-- and is told with nothing. It may come whenever it is its thread's turn, and both sides' states are after it what they
+-- were.
 use Rattle.std.proofs.Common.{◌≡◌, ⊎_elim, ℕ, ◌+◌, ◌<◌, ◌^◌, true, false, List, [], ◌∷◌, None, refl, sym, ap, ◌∙◌, subst, arith}
 use Rattle.std.specs.Prelude.{if◌then◌else◌, Contains}
 use Rattle.std.proofs.lemmas.Bool.{cases_Bool}
 use Rattle.std.proofs.lemmas.List.Elements.{Contains-append_left, Contains-append_right}
-use Rattle.joint_model.proofs.Members.{Contains-nil, Contains-here, Contains-cons_cases}
-use Rattle.joint_model.specs.declared.names.Thread.TheVariants.{M}
-use Rattle.joint_model.specs.declared.lines.Act.{Act}
-use Rattle.joint_model.specs.declared.lines.Act.TheVariants as act
-use Rattle.joint_model.specs.declared.events.Op.TheVariants as op
-use Rattle.joint_model.specs.declared.events.Reply.{Reply}
-use Rattle.joint_model.specs.Control.{Doing, IsDone, MayStart, free, made, lent, gripped, given, met}
-use Rattle.joint_model.specs.HistoryLines.{caller_line}
-use Rattle.joint_model.specs.Lines.{IsEvent, IsManagedThread, is_read}
-use Rattle.joint_model.specs.ManagedReplay.{ManagedReplay}
-use Rattle.joint_model.specs.Sides.{cell_target}
-use Rattle.joint_model.specs.Told.{nothing}
+use Rattle.joint_machine.proofs.Members.{Contains-nil, Contains-here, Contains-cons_cases}
+use Rattle.joint_machine.specs.declared.names.Thread.TheVariants.{M}
+use Rattle.joint_machine.specs.declared.lines.Act.{Act}
+use Rattle.joint_machine.specs.declared.lines.Act.TheVariants as act
+use Rattle.joint_machine.specs.declared.events.Op.TheVariants as op
+use Rattle.joint_machine.specs.declared.events.Reply.{Reply}
+use Rattle.joint_machine.specs.Control.{Doing, IsDone, MayStart, free, made, lent, gripped, given, met}
+use Rattle.joint_machine.specs.HistoryLines.{caller_line}
+use Rattle.joint_machine.specs.Lines.{IsEvent, IsManagedThread, is_read}
+use Rattle.joint_machine.specs.ManagedReplay.{ManagedReplay}
+use Rattle.joint_machine.specs.Sides.{cell_target}
+use Rattle.joint_machine.specs.Told.{nothing}
 use Rattle.known_laws.specs.Drawn.{drawn}
 use Rattle.known_laws.specs.Known.{Comes, managed_past}
 use Rattle.known_laws.specs.Pasts.{end_of, line}

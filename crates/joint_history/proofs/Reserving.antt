@@ -1,42 +1,44 @@
--- What is reserved on the peer side stays so, whatever more its seat gets to know: the candidates of a mirrored cycle are the same to all who know
--- its mirror, and whether the cycle's own marking is still to come stands in the side's own entries.
+-- What is reserved on the peer side stays so, whatever more its seat gets to know: the candidates of a mirrored cycle
+-- are the same to all who know its mirror, and whether the cycle's own marking is still to come stands in the side's
+-- own entries.
 use Rattle.std.proofs.Common.{◌≡◌, ℕ, ◌+◌, ◌-◌, ◌≤◌, Bool, true, false, List, [], ◌∷◌, ◌++◌, length, Option, Some, None, refl, sym, ap, ◌∙◌, subst, arith, length-append}
 use Rattle.std.specs.Prelude.{if◌then◌else◌, Result, Ok, Err, IfOk, OnErr}
 use Rattle.std.proofs.lemmas.Bool.{both_ways}
 use Rattle.std.proofs.lemmas.Option.{same_Some}
 use mathlib.Core.List.{IsPrefix}
 use base.Growing.{prefix_refl, prefix_trans}
-use Rattle.joint_model.specs.declared.names.Cycle.{Cycle}
-use Rattle.joint_model.specs.declared.names.HNum.{HNum}
-use Rattle.joint_model.specs.declared.names.Thread.{Thread}
-use Rattle.joint_model.specs.declared.names.Thread.TheVariants.{M, P, C}
-use Rattle.joint_model.specs.declared.events.Entry.{Entry}
-use Rattle.joint_model.specs.declared.events.Op.{Op}
-use Rattle.joint_model.specs.declared.lines.Act.TheVariants as act
-use Rattle.joint_model.specs.declared.events.Op.TheVariants as op
-use Rattle.joint_model.specs.declared.events.Reply.{Reply}
-use Rattle.joint_model.specs.declared.events.Reply.TheVariants as says
-use Rattle.joint_model.specs.Control.{OpenSnap, Stand, idle, snapped, contracted, weakening, marked, restoring, restored, stand_after, control_after, CallerAllows, DriverAllows, IsCandidateHandle}
-use Rattle.joint_model.specs.Draws.{numbered}
-use Rattle.joint_model.specs.HistoryLines.{stands_in}
-use Rattle.joint_model.specs.Lines.{is_peer_event}
-use Rattle.joint_model.specs.Managed.{Managed}
-use Rattle.joint_model.specs.Peers.{Issued, next_handle}
-use Rattle.joint_model.specs.PeerReplay.{PeerReplay, Mirror, TableRow, restored_by, row_of, with_given, with_restored, with_weakened}
-use Rattle.joint_model.specs.Sides.{peer_rules}
-use Rattle.joint_model.specs.Told.{Told, Noted, bare_told, nothing, contraction_of}
-use Rattle.joint_model.proofs.Deciding.{none_some}
+use Rattle.joint_machine.specs.declared.names.Cycle.{Cycle}
+use Rattle.joint_machine.specs.declared.names.HNum.{HNum}
+use Rattle.joint_machine.specs.declared.names.Thread.{Thread}
+use Rattle.joint_machine.specs.declared.names.Thread.TheVariants.{M, P, C}
+use Rattle.joint_machine.specs.declared.events.Entry.{Entry}
+use Rattle.joint_machine.specs.declared.events.Op.{Op}
+use Rattle.joint_machine.specs.declared.lines.Act.TheVariants as act
+use Rattle.joint_machine.specs.declared.events.Op.TheVariants as op
+use Rattle.joint_machine.specs.declared.events.Reply.{Reply}
+use Rattle.joint_machine.specs.declared.events.Reply.TheVariants as says
+use Rattle.joint_machine.specs.Control.{OpenSnap, Stand, idle, snapped, contracted, weakening, marked, restoring, restored, stand_after, control_after, CallerAllows, DriverAllows, IsCandidateHandle}
+use Rattle.joint_machine.specs.Draws.{numbered}
+use Rattle.joint_machine.specs.HistoryLines.{stands_in}
+use Rattle.joint_machine.specs.Lines.{is_peer_event}
+use Rattle.joint_machine.specs.Managed.{Managed}
+use Rattle.joint_machine.specs.Peers.{Issued, next_handle}
+use Rattle.joint_machine.specs.PeerReplay.{PeerReplay, Mirror, TableRow, restored_by, row_of, with_given, with_restored, with_weakened}
+use Rattle.joint_machine.specs.Sides.{peer_rules}
+use Rattle.joint_machine.specs.Told.{Told, Noted, nothing, contraction_of}
+use Rattle.joint_machine.specs.PinsTold.{bare_told}
+use Rattle.joint_machine.proofs.Deciding.{none_some}
 use Rattle.joint_laws.proofs.Restores.{restored-any}
 use Rattle.known_laws.specs.Driving.{IsMirrorOf, MirrorFits}
-use Rattle.known_laws.specs.Growing.{entries}
+use Rattle.known_laws.specs.PastEntries.{entries}
 use Rattle.known_laws.specs.Pasts.{Lawful, end_of, is_in, line}
 use Rattle.known_laws.proofs.Conditions.{fewer_are_weakened}
 use Rattle.known_laws.proofs.Growing.{entries_append}
 use Rattle.known_laws.proofs.KnownPasts.{known_past_is_kept}
 use Rattle.known_laws.proofs.PeerKeeps.{IsNoMirror, IsUnmirroring, same_mirror_after, unmirroring}
 use Rattle.known_laws.proofs.SnapTold.{mirrored_candidates_stay}
-use Rattle.peer_side.specs.Cycles.{reserve_left, reserve_over}
-use Rattle.peer_side.specs.Sides.{PeerModel, Reserve, is_own, opening_side, reserve_begun, seen}
+use Rattle.peer_heap.specs.Cycles.{reserve_left, reserve_over}
+use Rattle.peer_heap.specs.Sides.{PeerModel, Reserve, is_own, opening_side, reserve_begun, seen}
 use Rattle.order_table.specs.declared.views.View.{View}
 use Rattle.order_table.specs.Facts.{line_entries}
 use Rattle.order_table.specs.Rows.{at}

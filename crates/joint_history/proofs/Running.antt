@@ -1,32 +1,33 @@
--- An operation's events, one after another: which may be made, by which side, and what the caller has made and knows at each end.
+-- An operation's events, one after another: which may be made, by which side, and what the caller has made and knows at
+-- each end.
 use Rattle.std.proofs.Common.{◌≡◌, inl, inr, ⊎_elim, ℕ, ◌≤◌, List, [], ◌∷◌, ◌++◌, Option, Some, None, true, false, refl, sym, ap, ◌∙◌, subst, append_assoc, append-nil, arith}
 use Rattle.std.specs.Prelude.{Result, Ok, Err, OnErr}
 use mathlib.Core.List.{IsPrefix}
 use base.Growing.{prefix_trans}
-use Rattle.joint_model.specs.declared.names.Thread.{Thread}
-use Rattle.joint_model.specs.declared.names.Thread.TheVariants.{M, P, C}
-use Rattle.joint_model.specs.declared.names.Var.{Var}
-use Rattle.joint_model.specs.declared.names.Sort.{Sort}
-use Rattle.joint_model.specs.declared.names.PNum.{PNum}
-use Rattle.joint_model.specs.declared.names.HNum.{HNum}
-use Rattle.joint_model.specs.declared.names.StaticNo.{StaticNo}
-use Rattle.joint_model.specs.declared.lines.Act.{Act}
-use Rattle.joint_model.specs.declared.lines.Act.TheVariants as act
-use Rattle.joint_model.specs.declared.events.Entry.{Entry}
-use Rattle.joint_model.specs.declared.events.Op.{Op}
-use Rattle.joint_model.specs.declared.events.Op.TheVariants as op
-use Rattle.joint_model.specs.declared.events.Reply.{Reply}
-use Rattle.joint_model.specs.declared.events.Reply.TheVariants as says
-use Rattle.joint_model.specs.Control.{Doing, IsDone, MayStart, free, made, lent, gripped, given, met, doing_after}
-use Rattle.joint_model.specs.Draws.{numbered}
-use Rattle.joint_model.specs.HistoryLines.{caller_line}
-use Rattle.joint_model.specs.Lines.{IsLine, IsManagedThread, IsPeerThread, IsThread, is_peer_event}
-use Rattle.joint_model.proofs.Deciding.{none_some, some-same}
+use Rattle.joint_machine.specs.declared.names.Thread.{Thread}
+use Rattle.joint_machine.specs.declared.names.Thread.TheVariants.{M, P, C}
+use Rattle.joint_machine.specs.declared.names.Var.{Var}
+use Rattle.joint_machine.specs.declared.names.Sort.{Sort}
+use Rattle.joint_machine.specs.declared.names.PNum.{PNum}
+use Rattle.joint_machine.specs.declared.names.HNum.{HNum}
+use Rattle.joint_machine.specs.declared.names.StaticNo.{StaticNo}
+use Rattle.joint_machine.specs.declared.lines.Act.{Act}
+use Rattle.joint_machine.specs.declared.lines.Act.TheVariants as act
+use Rattle.joint_machine.specs.declared.events.Entry.{Entry}
+use Rattle.joint_machine.specs.declared.events.Op.{Op}
+use Rattle.joint_machine.specs.declared.events.Op.TheVariants as op
+use Rattle.joint_machine.specs.declared.events.Reply.{Reply}
+use Rattle.joint_machine.specs.declared.events.Reply.TheVariants as says
+use Rattle.joint_machine.specs.Control.{Doing, IsDone, MayStart, free, made, lent, gripped, given, met, doing_after}
+use Rattle.joint_machine.specs.Draws.{numbered}
+use Rattle.joint_machine.specs.HistoryLines.{caller_line}
+use Rattle.joint_machine.specs.Lines.{IsLine, IsManagedThread, IsPeerThread, IsThread, is_peer_event}
+use Rattle.joint_machine.proofs.Deciding.{none_some, some-same}
 use Rattle.order_table.specs.declared.views.View.{View}
 use Rattle.order_table.specs.Rule.{IsBelow}
 use Rattle.order_table.specs.Views.{known}
 use Rattle.order_table.proofs.Lines.{below_begins}
-use Rattle.peer_side.specs.Steps.{IsRelease}
+use Rattle.peer_heap.specs.Steps.{IsRelease}
 use Rattle.joint_history.specs.Callers.{CallerKnows, KeepsReads, last_index}
 use Rattle.joint_history.specs.Knowing.{line_known}
 use Rattle.joint_history.specs.Locked.{Makes, MakesNone, MayMake, doing_from, made_by}

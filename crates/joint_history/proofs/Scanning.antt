@@ -1,20 +1,21 @@
--- The gate that was closed for a cycle, with the pins by the words that were scanned: each of the eight was scanned, and what one holds a reader was given. So the
--- pins stand, the snapshot's entry may be drawn, and after it the seat has only to be settled.
+-- The gate that was closed for a cycle, with the pins by the words that were scanned: each of the eight was scanned,
+-- and what one holds a reader was given. So the pins stand, the snapshot's entry may be drawn, and after it the seat
+-- has only to be settled.
 use Rattle.std.proofs.Common.{◌≡◌, ℕ, zero, suc, ◌+◌, ◌<◌, ◌≤◌, ◌&&◌, false, true, List, [], ◌∷◌, ◌++◌, length, Option, Some, None, refl, sym, ap, ◌∙◌, subst, arith}
 use Rattle.std.specs.Prelude.{slice_get}
-use Rattle.joint_model.specs.declared.names.MNum.{MNum}
-use Rattle.joint_model.specs.declared.names.Thread.TheVariants.{C}
-use Rattle.joint_model.specs.declared.events.Entry.{Entry}
-use Rattle.joint_model.specs.Draws.{numbered}
-use Rattle.joint_model.specs.HistoryLines.{caller_line}
-use Rattle.joint_model.specs.ManagedReplay.{ManagedReplay}
-use Rattle.joint_model.specs.Sides.{Drawing, Side, managed_rules}
-use Rattle.joint_model.specs.Told.{Told, kept_pins, snap_of}
+use Rattle.joint_machine.specs.declared.names.MNum.{MNum}
+use Rattle.joint_machine.specs.declared.names.Thread.TheVariants.{C}
+use Rattle.joint_machine.specs.declared.events.Entry.{Entry}
+use Rattle.joint_machine.specs.Draws.{numbered, Drawing}
+use Rattle.joint_machine.specs.HistoryLines.{caller_line}
+use Rattle.joint_machine.specs.ManagedReplay.{ManagedReplay}
+use Rattle.joint_machine.specs.Sides.{Side, managed_rules}
+use Rattle.joint_machine.specs.Told.{Told, kept_pins, snap_of}
 use Rattle.known_laws.specs.Known.{PinsStand}
 use Rattle.known_laws.specs.Pasts.{end_of}
-use Rattle.managed_side.specs.declared.opening.Opened.{Opened}
-use Rattle.managed_side.specs.Openings.{OpensBySnap, snap_made, snap_op}
-use Rattle.managed_side.specs.Pinned.{pins_given}
+use Rattle.managed_heap.specs.declared.opening.Opened.{Opened}
+use Rattle.managed_heap.specs.Openings.{OpensBySnap, snap_made, snap_op}
+use Rattle.managed_heap.specs.Pinned.{pins_given}
 use Rattle.order_table.specs.declared.views.KeptEntry.{KeptEntry}
 use Rattle.order_table.specs.Allowed.{MayDo, Settled}
 use Rattle.order_table.specs.Facts.{line_entries}

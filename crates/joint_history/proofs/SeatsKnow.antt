@@ -1,28 +1,28 @@
 -- The facts of a seat's past, of the lists and the state that it is known by.
 use Rattle.std.proofs.Common.{◌≡◌, ◌⊎◌, inl, inr, ⊎_elim, ℕ, Bool, true, false, ◌==◌, ◌||◌, List, [], ◌∷◌, refl, sym, ap, subst}
 use Rattle.std.specs.Prelude.{if◌then◌else◌, Contains}
-use Rattle.joint_model.specs.declared.names.HNum.{HNum}
-use Rattle.joint_model.specs.declared.names.PNum.{PNum}
-use Rattle.joint_model.specs.declared.names.Sort.{Sort}
-use Rattle.joint_model.specs.declared.names.StaticNo.{StaticNo}
-use Rattle.joint_model.specs.declared.events.Entry.{Entry}
-use Rattle.joint_model.specs.declared.events.Made.{Made}
-use Rattle.joint_model.specs.declared.events.Op.{Op}
-use Rattle.joint_model.specs.declared.events.Op.TheVariants as op
-use Rattle.joint_model.specs.HistoryLines.{caller_line, stands_in}
-use Rattle.joint_model.specs.Lines.{is_peer_event, is_read, reader_line}
-use Rattle.joint_model.specs.ManagedReplay.{ManagedReplay}
-use Rattle.joint_model.specs.PeerReplay.{PeerReplay}
-use Rattle.joint_model.specs.Sides.{Side}
-use Rattle.joint_model.specs.Told.{Noted}
-use Rattle.joint_model.proofs.Members.{Contains-cons_cases, Contains-here, Contains-nil, Contains-there}
+use Rattle.joint_machine.specs.declared.names.HNum.{HNum}
+use Rattle.joint_machine.specs.declared.names.PNum.{PNum}
+use Rattle.joint_machine.specs.declared.names.Sort.{Sort}
+use Rattle.joint_machine.specs.declared.names.StaticNo.{StaticNo}
+use Rattle.joint_machine.specs.declared.events.Entry.{Entry}
+use Rattle.joint_machine.specs.declared.events.Made.{Made}
+use Rattle.joint_machine.specs.declared.events.Op.{Op}
+use Rattle.joint_machine.specs.declared.events.Op.TheVariants as op
+use Rattle.joint_machine.specs.HistoryLines.{caller_line, stands_in, reader_line}
+use Rattle.joint_machine.specs.Lines.{is_peer_event, is_read}
+use Rattle.joint_machine.specs.ManagedReplay.{ManagedReplay}
+use Rattle.joint_machine.specs.PeerReplay.{PeerReplay}
+use Rattle.joint_machine.specs.Sides.{Side}
+use Rattle.joint_machine.specs.Told.{Noted}
+use Rattle.joint_machine.proofs.Members.{Contains-cons_cases, Contains-here, Contains-nil, Contains-there}
 use Rattle.joint_laws.specs.LinkedInvariants.{IsHeldOne}
 use Rattle.joint_laws.specs.PeerInvariants.{IsTabled}
 use Rattle.known_laws.specs.Citations.{Cites, HasCited, IsClearOf, IsGiveOf, IsGripOf, IsLendOf, IsMakeOf, IsMeetOf, IsSnapOf}
 use Rattle.known_laws.specs.Driving.{IsPastKept}
 use Rattle.known_laws.specs.Facts.{TakesHandle}
-use Rattle.known_laws.specs.Growing.{entries}
-use Rattle.known_laws.specs.Pasts.{InPast, Lawful, end_of, line}
+use Rattle.known_laws.specs.Pasts.{Lawful, end_of, line}
+use Rattle.known_laws.specs.PastEntries.{InPast, entries}
 use Rattle.known_laws.proofs.Citing.{pasts_cite}
 use Rattle.known_laws.proofs.CitedOnce.{each_stands_behind, in_back}
 use Rattle.known_laws.proofs.Facts.{none_leads_to_cleared, none_leads_to_freed, weak_is_waiting}

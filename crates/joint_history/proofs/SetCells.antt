@@ -1,23 +1,24 @@
--- A `weak` by the managed seat: the cell's word is 0 exactly where the side's cell has no target, and to an object to which the side may set the cell the seat
--- may set it too. Its entry is plain: it does nothing to the cycles and to no pin, and frees nothing.
+-- A `weak` by the managed seat: the cell's word is 0 exactly where the side's cell has no target, and to an object to
+-- which the side may set the cell the seat may set it too. Its entry is plain: it does nothing to the cycles and to no
+-- pin, and frees nothing.
 use Rattle.std.proofs.Common.{◌≡◌, inl, inr, ⊎_elim, ℕ, ◌+◌, ◌<◌, ◌≤◌, Bool, true, false, length, Option, Some, None, refl, sym, ap, ◌∙◌, subst, arith}
 use Rattle.std.specs.Prelude.{◌↔◌, if◌then◌else◌}
 use Rattle.std.proofs.lemmas.Bool.{cases_Bool}
 use Rattle.std.proofs.lemmas.Option.{same_Some}
 use Rattle.std.proofs.lemmas.Map.Views.{Contains-from_any}
-use Rattle.joint_model.proofs.Deciding.{none_some}
-use Rattle.joint_model.specs.declared.names.Cell.{Cell}
-use Rattle.joint_model.specs.declared.names.MNum.{MNum}
-use Rattle.joint_model.specs.declared.names.Thread.{Thread}
-use Rattle.joint_model.specs.declared.names.Thread.TheVariants.{M, P, C}
-use Rattle.joint_model.specs.declared.names.Var.{Var}
-use Rattle.joint_model.specs.declared.events.Reply.{Reply}
-use Rattle.joint_model.specs.Heaps.{slot}
-use Rattle.joint_model.specs.HistoryLines.{caller_line}
-use Rattle.joint_model.specs.Lines.{IsManagedThread}
-use Rattle.joint_model.specs.ManagedReplay.{ManagedReplay}
-use Rattle.joint_model.specs.Sides.{MaySetCell, Side}
-use Rattle.managed_side.specs.Steps.{weak_op}
+use Rattle.joint_machine.proofs.Deciding.{none_some}
+use Rattle.joint_machine.specs.declared.names.Cell.{Cell}
+use Rattle.joint_machine.specs.declared.names.MNum.{MNum}
+use Rattle.joint_machine.specs.declared.names.Thread.{Thread}
+use Rattle.joint_machine.specs.declared.names.Thread.TheVariants.{M, P, C}
+use Rattle.joint_machine.specs.declared.names.Var.{Var}
+use Rattle.joint_machine.specs.declared.events.Reply.{Reply}
+use Rattle.joint_machine.specs.Heaps.{slot}
+use Rattle.joint_machine.specs.HistoryLines.{caller_line}
+use Rattle.joint_machine.specs.Lines.{IsManagedThread}
+use Rattle.joint_machine.specs.ManagedReplay.{ManagedReplay}
+use Rattle.joint_machine.specs.Sides.{MaySetCell, Side}
+use Rattle.managed_heap.specs.Steps.{weak_op}
 use Rattle.order_table.specs.declared.views.View.{View}
 use Rattle.order_table.specs.Allowed.{MaySet, Settled}
 use Rattle.order_table.specs.Owed.{is_freed, mark, says_word, target, target_told, word_by}

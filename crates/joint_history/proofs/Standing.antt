@@ -2,15 +2,16 @@
 use Rattle.std.proofs.Common.{◌≡◌, ℕ, zero, suc, ◌+◌, ◌<◌, List, [], ◌∷◌, length, refl, sym, ap, ◌∙◌, subst, arith, Some, None}
 use Rattle.std.specs.Prelude.{slice_set, slice_index}
 use Rattle.std.proofs.lemmas.List.{length-set}
-use Rattle.joint_model.proofs.Joining.{slice_get-set_same}
-use Rattle.joint_model.specs.declared.names.Thread.{Thread}
-use Rattle.joint_model.specs.declared.names.Thread.TheVariants.{M, P, C}
-use Rattle.joint_model.specs.declared.events.Entry.{Entry}
-use Rattle.joint_model.specs.declared.events.Op.{Op}
-use Rattle.joint_model.specs.declared.events.Reply.{Reply}
-use Rattle.joint_model.specs.Control.{Control, Doing, free, control_after, doing_after, last_line}
-use Rattle.joint_model.specs.Lines.{IsThread}
-use Rattle.joint_model.specs.Told.{Told, Noted, bare_told}
+use Rattle.joint_machine.proofs.Joining.{slice_get-set_same}
+use Rattle.joint_machine.specs.declared.names.Thread.{Thread}
+use Rattle.joint_machine.specs.declared.names.Thread.TheVariants.{M, P, C}
+use Rattle.joint_machine.specs.declared.events.Entry.{Entry}
+use Rattle.joint_machine.specs.declared.events.Op.{Op}
+use Rattle.joint_machine.specs.declared.events.Reply.{Reply}
+use Rattle.joint_machine.specs.Control.{Control, Doing, free, control_after, doing_after, last_line}
+use Rattle.joint_machine.specs.Lines.{IsThread}
+use Rattle.joint_machine.specs.Told.{Told, Noted}
+use Rattle.joint_machine.specs.PinsTold.{bare_told}
 use Rattle.known_laws.specs.Pasts.{end_of}
 use Rattle.joint_history.specs.Locked.{doing_of, doing_from}
 

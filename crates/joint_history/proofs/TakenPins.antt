@@ -1,26 +1,27 @@
--- A `take` by the managed seat: what its thread's pin holds stands, and it is what is told with the entry. The entry leaves the pin empty, and nothing to be done
--- but its clearing.
+-- A `take` by the managed seat: what its thread's pin holds stands, and it is what is told with the entry. The entry
+-- leaves the pin empty, and nothing to be done but its clearing.
 use Rattle.std.proofs.Common.{◌≡◌, inl, inr, ⊎_elim, ℕ, zero, suc, ◌+◌, ◌<◌, List, [], Option, Some, None, refl, sym, ap, ◌∙◌, subst, arith}
 use Rattle.std.specs.Prelude.{MatchOption, Result, Ok, Err, IfOk, slice_set}
 use Rattle.std.proofs.lemmas.Bool.{cases_eq}
-use Rattle.joint_model.specs.declared.names.MNum.{MNum}
-use Rattle.joint_model.specs.declared.names.Thread.{Thread}
-use Rattle.joint_model.specs.declared.names.Thread.TheVariants.{M, P, C}
-use Rattle.joint_model.specs.declared.names.Var.{Var}
-use Rattle.joint_model.specs.declared.events.Reply.{Reply}
-use Rattle.joint_model.specs.HistoryLines.{caller_line}
-use Rattle.joint_model.specs.Lines.{IsManagedThread}
-use Rattle.joint_model.specs.ManagedReplay.{ManagedReplay}
-use Rattle.joint_model.specs.Run.{thread_number}
-use Rattle.joint_model.specs.Draws.{numbered}
-use Rattle.joint_model.specs.Sides.{Side, managed_rules}
-use Rattle.joint_model.specs.Told.{Told, kept_pins, no_pins, nothing, pins_told}
-use Rattle.joint_model.proofs.Deciding.{none_some}
+use Rattle.joint_machine.specs.declared.names.MNum.{MNum}
+use Rattle.joint_machine.specs.declared.names.Thread.{Thread}
+use Rattle.joint_machine.specs.declared.names.Thread.TheVariants.{M, P, C}
+use Rattle.joint_machine.specs.declared.names.Var.{Var}
+use Rattle.joint_machine.specs.declared.events.Reply.{Reply}
+use Rattle.joint_machine.specs.HistoryLines.{caller_line}
+use Rattle.joint_machine.specs.Lines.{IsManagedThread}
+use Rattle.joint_machine.specs.ManagedReplay.{ManagedReplay}
+use Rattle.joint_machine.specs.Run.{thread_number}
+use Rattle.joint_machine.specs.Draws.{numbered}
+use Rattle.joint_machine.specs.Sides.{Side, managed_rules}
+use Rattle.joint_machine.specs.Told.{Told, kept_pins, nothing}
+use Rattle.joint_machine.specs.PinsTold.{no_pins, pins_told}
+use Rattle.joint_machine.proofs.Deciding.{none_some}
 use Rattle.known_laws.specs.Known.{PinsStand}
 use Rattle.known_laws.specs.Pasts.{end_of}
-use Rattle.managed_side.specs.Pinned.{pin_given}
-use Rattle.managed_side.specs.Rows.{number_or_none}
-use Rattle.managed_side.specs.Steps.{step_made, take_op}
+use Rattle.managed_heap.specs.Pinned.{pin_given}
+use Rattle.managed_heap.specs.Rows.{number_or_none}
+use Rattle.managed_heap.specs.Steps.{step_made, take_op}
 use Rattle.order_table.specs.declared.views.KeptEntry.{KeptEntry}
 use Rattle.order_table.specs.declared.views.View.{View}
 use Rattle.order_table.specs.Allowed.{Settled}

@@ -2,8 +2,8 @@
 use Rattle.std.proofs.Common.{◌≡◌, ℕ, List, [], ◌∷◌, ◌++◌, length, Option, Some, None, refl, ap, subst, arith}
 use Rattle.std.specs.Prelude.{All, Contains, slice_get}
 use Rattle.std.proofs.lemmas.List.Elements.{All-contains}
-use Rattle.joint_model.proofs.Members.{Contains-here, Contains-there}
-use Rattle.joint_model.specs.declared.events.Entry.{Entry}
+use Rattle.joint_machine.proofs.Members.{Contains-here, Contains-there}
+use Rattle.joint_machine.specs.declared.events.Entry.{Entry}
 use Rattle.order_table.specs.declared.views.View.{View}
 use Rattle.joint_history.proofs.KnownViews.{no_view}
 use Rattle.joint_history.specs.Callers.{Pass}

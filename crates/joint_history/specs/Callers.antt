@@ -1,16 +1,16 @@
 -- What a caller is seen as, and what it knows.
 use Rattle.std.specs.Prelude.{◌≡◌, ◌⊎◌, ℕ, ◌+◌, List, [], ◌∷◌}
 use mathlib.Core.List.{IsPrefix}
-use Rattle.joint_model.specs.declared.names.Thread.{Thread}
-use Rattle.joint_model.specs.declared.names.Thread.TheVariants.{M}
-use Rattle.joint_model.specs.declared.events.Entry.{Entry}
+use Rattle.joint_machine.specs.declared.names.Thread.{Thread}
+use Rattle.joint_machine.specs.declared.names.Thread.TheVariants.{M}
+use Rattle.joint_machine.specs.declared.events.Entry.{Entry}
 use Rattle.joint_model.specs.declared.lists.Holding.TheVariants.{Every}
-use Rattle.joint_model.specs.Control.{doing_at, IsDone}
-use Rattle.joint_model.specs.HistoryLines.{caller_line}
-use Rattle.joint_model.specs.Lines.{IsThread}
+use Rattle.joint_machine.specs.Control.{doing_at, IsDone}
+use Rattle.joint_machine.specs.HistoryLines.{caller_line}
+use Rattle.joint_machine.specs.Lines.{IsThread}
 use Rattle.joint_model.specs.Listed.{Stock}
-use Rattle.joint_model.specs.Linked.{Linkage}
-use Rattle.joint_model.specs.Sides.{TakesManaged, TakesPeer}
+use Rattle.joint_machine.specs.Linked.{Linkage}
+use Rattle.joint_machine.specs.Sides.{TakesManaged, TakesPeer}
 use Rattle.known_laws.specs.Pasts.{end_of}
 use Rattle.order_table.specs.declared.views.View.{View}
 use Rattle.order_table.specs.Tells.{IsOfCaller}
@@ -78,7 +78,8 @@ pub record Tells (old new : Pass) : Type 0 where
   pub reads : new.reads ≡ old.reads
   pub same : (i : ℕ) → known new.view i ≡ known old.view i
 
--- a caller was told what another knows: of each line it knows the longer list, which the other begins; its own entries are the same
+-- a caller was told what another knows: of each line it knows the longer list, which the other begins; its own entries
+-- are the same
 pub record Hears (other old new : Pass) : Type 0 where
   pub thread : new.thread ≡ old.thread
   pub reads : new.reads ≡ old.reads

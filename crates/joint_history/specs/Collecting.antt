@@ -1,15 +1,15 @@
--- A collect of a peer thread, which is made in one hold of the peer side's lock: a begin and, if that gave a number, the sweep of that marking.
--- Neither cites anything. Where a marking is open the begin stands alone, and says so.
+-- A collect of a peer thread, which is made in one hold of the peer side's lock: a begin and, if that gave a number,
+-- the sweep of that marking. Neither cites anything. Where a marking is open the begin stands alone, and says so.
 use Rattle.std.specs.Prelude.{◌≡◌, ◌⊎◌, ℕ, List, [], ◌∷◌, None}
-use Rattle.joint_model.specs.declared.names.Marking.{Marking}
-use Rattle.joint_model.specs.declared.names.Span.{Span}
-use Rattle.joint_model.specs.declared.names.Thread.{Thread}
-use Rattle.joint_model.specs.declared.events.Entry.{Entry}
-use Rattle.joint_model.specs.declared.events.Op.TheVariants as op
-use Rattle.joint_model.specs.declared.events.Reply.TheVariants as says
-use Rattle.joint_model.specs.PeerReplay.{PeerReplay}
-use Rattle.joint_model.specs.Sides.{Side, peer_rules}
-use Rattle.joint_model.specs.Told.{nothing, sweep_of}
+use Rattle.joint_machine.specs.declared.names.Marking.{Marking}
+use Rattle.joint_machine.specs.declared.names.Span.{Span}
+use Rattle.joint_machine.specs.declared.names.Thread.{Thread}
+use Rattle.joint_machine.specs.declared.events.Entry.{Entry}
+use Rattle.joint_machine.specs.declared.events.Op.TheVariants as op
+use Rattle.joint_machine.specs.declared.events.Reply.TheVariants as says
+use Rattle.joint_machine.specs.PeerReplay.{PeerReplay}
+use Rattle.joint_machine.specs.Sides.{Side, peer_rules}
+use Rattle.joint_machine.specs.Told.{nothing, sweep_of}
 use Rattle.order_table.specs.declared.views.View.{View}
 use Rattle.order_table.specs.Views.{OrderId, Shown}
 use Rattle.joint_history.specs.declared.callers.Receipt.{Receipt}
@@ -48,7 +48,8 @@ pub record DrawsRefusal (order : OrderId) (seat seat' : Shown) (side side' : Sid
 abbrev pub DrawsCollect : OrderId → Shown → Shown → Side PeerReplay → Side PeerReplay → Thread → ℕ → Receipt → Type 0
 DrawsCollect order seat seat' side side' t index r = DrawsWhole order seat seat' side side' t index r ⊎ DrawsRefusal order seat seat' side side' t index r
 
--- a caller made a whole collection: it answers which marking was ended, and where the peers that it freed stand among all that were freed
+-- a caller made a whole collection: it answers which marking was ended, and where the peers that it freed stand among
+-- all that were freed
 pub record CollectsWhole (t : Thread) (old new : View) (index : ℕ) (r : Receipt) : Type 0 where
   pub marking : Marking
   pub freed : Span

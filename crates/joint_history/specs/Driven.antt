@@ -1,26 +1,26 @@
--- What the driver's seat knows, and what the driver's calls under the managed lock do: each makes one entry, after which the driver stands where the
--- definition puts it.
+-- What the driver's seat knows, and what the driver's calls under the managed lock do: each makes one entry, after
+-- which the driver stands where the definition puts it.
 use Rattle.std.specs.Prelude.{◌≡◌, ℕ, ◌+◌, ◌≤◌, Bool, List, [], ◌∷◌, ◌++◌, length, Option, Some, None}
 use mathlib.Core.List.{IsPrefix}
-use Rattle.joint_model.specs.declared.names.Thread.TheVariants.{C}
-use Rattle.joint_model.specs.declared.names.Phase.{Phase}
-use Rattle.joint_model.specs.declared.names.Phase.TheVariants as at
-use Rattle.joint_model.specs.declared.names.PhaseWord.{PhaseWord}
-use Rattle.joint_model.specs.declared.names.Span.{Span}
-use Rattle.joint_model.specs.declared.lines.Act.TheVariants as act
-use Rattle.joint_model.specs.declared.events.Entry.{Entry}
-use Rattle.joint_model.specs.declared.events.Op.{Op}
-use Rattle.joint_model.specs.declared.events.Op.TheVariants as op
-use Rattle.joint_model.specs.declared.events.Reply.{Reply}
-use Rattle.joint_model.specs.declared.events.Reply.TheVariants as says
-use Rattle.joint_model.specs.Control.{OpenSnap, Stand, idle, snapped, contracted, weakening, restored, last_line, IsPhaseOf, IsAtRest}
-use Rattle.joint_model.specs.Cycles.{IsDeadContraction}
-use Rattle.joint_model.specs.Draws.{numbered}
-use Rattle.joint_model.specs.HistoryLines.{caller_line}
-use Rattle.joint_model.specs.Linked.{Linkage}
-use Rattle.joint_model.specs.Managed.{Managed, OpenCycle, candidates_of}
-use Rattle.joint_model.specs.ManagedReplay.{IsRefusedIn, refusal_to}
-use Rattle.joint_model.specs.Told.{Told, Noted, Answer, nothing, contraction_of, resolution_of, phase_of}
+use Rattle.joint_machine.specs.declared.names.Thread.TheVariants.{C}
+use Rattle.joint_machine.specs.declared.names.Phase.{Phase}
+use Rattle.joint_machine.specs.declared.names.Phase.TheVariants as at
+use Rattle.joint_machine.specs.declared.names.PhaseWord.{PhaseWord}
+use Rattle.joint_machine.specs.declared.names.Span.{Span}
+use Rattle.joint_machine.specs.declared.lines.Act.TheVariants as act
+use Rattle.joint_machine.specs.declared.events.Entry.{Entry}
+use Rattle.joint_machine.specs.declared.events.Op.{Op}
+use Rattle.joint_machine.specs.declared.events.Op.TheVariants as op
+use Rattle.joint_machine.specs.declared.events.Reply.{Reply}
+use Rattle.joint_machine.specs.declared.events.Reply.TheVariants as says
+use Rattle.joint_machine.specs.Control.{OpenSnap, Stand, idle, snapped, contracted, weakening, restored, last_line, IsPhaseOf, IsAtRest}
+use Rattle.joint_machine.specs.Cycles.{IsDeadContraction}
+use Rattle.joint_machine.specs.Draws.{numbered}
+use Rattle.joint_machine.specs.HistoryLines.{caller_line}
+use Rattle.joint_machine.specs.Linked.{Linkage}
+use Rattle.joint_machine.specs.Managed.{Managed, OpenCycle, candidates_of}
+use Rattle.joint_machine.specs.ManagedReplay.{IsRefusedIn, refusal_to}
+use Rattle.joint_machine.specs.Told.{Told, Noted, Answer, nothing, contraction_of, resolution_of, phase_of}
 use Rattle.known_laws.specs.Driving.{IsPastKept}
 use Rattle.known_laws.specs.Known.{SideMayCome}
 use Rattle.known_laws.specs.Pasts.{HasSameDeadPart, end_of}
@@ -31,8 +31,8 @@ use Rattle.joint_history.specs.Knowing.{line_known, note_of}
 use Rattle.view_laws.specs.Knowing.{IsDrawnView}
 use Rattle.joint_history.specs.Locked.{made_by}
 
--- at the end of a past the driver stands so: the line of its last entry isn't above this one, it has come so far, and the open cycle and its dead
--- part are those of these managed objects
+-- at the end of a past the driver stands so: the line of its last entry isn't above this one, it has come so far, and
+-- the open cycle and its dead part are those of these managed objects
 pub record IsDriverAt (past : List Noted) (index : ℕ) (stand : Stand) (seen : Managed) : Type 0 where
   pub last : last_line (end_of past).control C ≤ index
   pub come : (end_of past).control.stand ≡ stand
@@ -52,8 +52,9 @@ pub record DriverRests (v : View) (index : ℕ) : Type 0 where
   pub seen : Managed
   pub stands : DriverStands v index idle seen
 
--- the driver made an entry: its seat knows all that it knew, and that entry as its last, whose number is above all that it knew; and the entry may come
--- after a state in which the driver stood where its seat had it, with the same dead part, and which has all that every known past keeps
+-- the driver made an entry: its seat knows all that it knew, and that entry as its last, whose number is above all that
+-- it knew; and the entry may come after a state in which the driver stood where its seat had it, with the same dead
+-- part, and which has all that every known past keeps
 pub record DriverMakes (old new : View) (stand : Stand) (seen : Managed) (e : Entry) (told : Told) : Type 0 where
   pub own : line_known new (caller_line C) ≡ line_known old (caller_line C) ++ e ∷ []
   pub more : (i : ℕ) → IsPrefix (known old i) (known new i)
@@ -74,13 +75,15 @@ pub record DriverMakesNone (old new : View) : Type 0 where
 abbrev pub driver_entry : ℕ → ℕ → Op → Reply → Option ℕ → Entry
 driver_entry n index o reply cites = numbered n (made_by C index o reply cites)
 
--- these are the components, heavy classes and cross-references of the dead part's contraction, and their numbers; heavy classes count as components
+-- these are the components, heavy classes and cross-references of the dead part's contraction, and their numbers; heavy
+-- classes count as components
 pub record HasContraction (seen : Managed) (sccs xrefs : ℕ) (comps : List (List ℕ)) (heavy : List ℕ) (pairs : List (ℕ × ℕ)) : Type 0 where
   pub exact : (c : OpenCycle) → seen.cycle ≡ Some c → IsDeadContraction seen c.dead comps heavy pairs
   pub components : sccs ≡ length comps + length heavy
   pub references : xrefs ≡ length pairs
 
--- the driver has taken the snapshot, and these are the numbers of its dead part's components, heavy classes counted in, and cross-references
+-- the driver has taken the snapshot, and these are the numbers of its dead part's components, heavy classes counted in,
+-- and cross-references
 pub record MayContractCycle (v : View) (index sccs xrefs : ℕ) : Type 0 where
   pub opened : OpenSnap
   pub seen : Managed
@@ -114,7 +117,8 @@ abbrev pub MakesAbandon : View → View → ℕ → ℕ → Type 0
 MakesAbandon old new index n = (o : OpenSnap) (stand : Stand) (m : Managed) → DriverStands old index stand m → IsUnmirrored stand o
     → DriverMakes old new stand m (driver_entry n index (op.Abandon record { 0 = o.cycle }) says.Ok None) nothing × DriverRests new index
 
--- all handles of the driver's cycle are restored, with these answers, and the references cleared by the entry with that number
+-- all handles of the driver's cycle are restored, with these answers, and the references cleared by the entry with that
+-- number
 pub record MayResolveCycle (v : View) (index clear : ℕ) (answers : List Answer) : Type 0 where
   pub opened : OpenSnap
   pub seen : Managed
@@ -138,7 +142,8 @@ pub record MayRefuseWord (v : View) (index : ℕ) (w : PhaseWord) (phase : Phase
   pub in_phase : IsPhaseOf stand (length (candidates_of seen)) phase
   pub refused : IsRefusedIn w phase
 
--- where the driver stands after a refusal in that phase: where it stood, but that in the weakened phase it may be seen now that it has come to it
+-- where the driver stands after a refusal in that phase: where it stood, but that in the weakened phase it may be seen
+-- now that it has come to it
 abbrev pub IsStillAt : Stand → Phase → Stand → Type 0
 IsStillAt (weakening o count weakened swept) at.Weakened next = (seen : Bool) × (next ≡ weakening o count seen swept)
 IsStillAt stand phase next = next ≡ stand

@@ -1,14 +1,15 @@
--- What a driver's call of the managed side leaves in the side and in the seat by which it drew: one entry, which went on in its list.
+-- What a driver's call of the managed side leaves in the side and in the seat by which it drew: one entry, which went
+-- on in its list.
 use Rattle.std.specs.Prelude.{◌≡◌, ℕ, List, length, count_by, is_some, Option, Some}
-use Rattle.joint_model.specs.declared.names.HNum.{HNum}
-use Rattle.joint_model.specs.Draws.{numbered}
+use Rattle.joint_machine.specs.declared.names.HNum.{HNum}
+use Rattle.joint_machine.specs.Draws.{numbered}
 use Rattle.joint_model.specs.Listed.{answers_of}
-use Rattle.joint_model.specs.Managed.{OpenCycle}
-use Rattle.joint_model.specs.ManagedReplay.{ManagedReplay}
-use Rattle.joint_model.specs.Sides.{Side, managed_rules}
-use Rattle.joint_model.specs.Told.{nothing, contraction_of, resolution_of}
-use Rattle.managed_side.specs.declared.cycles.ResolveOut.{ResolveOut}
-use Rattle.managed_side.specs.Calls.{IsContractedBy, abandon_made, contract_made, resolve_made}
+use Rattle.joint_machine.specs.Managed.{OpenCycle}
+use Rattle.joint_machine.specs.ManagedReplay.{ManagedReplay}
+use Rattle.joint_machine.specs.Sides.{Side, managed_rules}
+use Rattle.joint_machine.specs.Told.{nothing, contraction_of, resolution_of}
+use Rattle.managed_heap.specs.declared.cycles.ResolveOut.{ResolveOut}
+use Rattle.managed_heap.specs.Calls.{IsContractedBy, abandon_made, contract_made, resolve_made}
 use Rattle.order_table.specs.Views.{OrderId, Shown}
 use Rattle.joint_history.specs.Locked.{Drew}
 

@@ -1,15 +1,15 @@
--- The driver's marking under the peer lock: a marking that a peer thread left open is ended first, and then the cycle's own begins; later the driver
--- ends that one.
+-- The driver's marking under the peer lock: a marking that a peer thread left open is ended first, and then the cycle's
+-- own begins; later the driver ends that one.
 use Rattle.std.specs.Prelude.{◌≡◌, ℕ, Bool, true, false, List, [], length, Option, Some, None}
-use Rattle.joint_model.specs.declared.names.Marking.{Marking}
-use Rattle.joint_model.specs.declared.events.Op.TheVariants as op
-use Rattle.joint_model.specs.declared.events.Reply.TheVariants as says
-use Rattle.joint_model.specs.Control.{OpenSnap, Stand, weakening, marked, restoring, MaySweepNow}
-use Rattle.joint_model.specs.Managed.{Managed, candidates_of}
-use Rattle.joint_model.specs.PeerReplay.{PeerReplay}
-use Rattle.joint_model.specs.Sides.{Side, peer_rules}
-use Rattle.joint_model.specs.Told.{nothing, sweep_of}
-use Rattle.peer_side.specs.declared.side.Swept.{Swept}
+use Rattle.joint_machine.specs.declared.names.Marking.{Marking}
+use Rattle.joint_machine.specs.declared.events.Op.TheVariants as op
+use Rattle.joint_machine.specs.declared.events.Reply.TheVariants as says
+use Rattle.joint_machine.specs.Control.{OpenSnap, Stand, weakening, marked, restoring, MaySweepNow}
+use Rattle.joint_machine.specs.Managed.{Managed, candidates_of}
+use Rattle.joint_machine.specs.PeerReplay.{PeerReplay}
+use Rattle.joint_machine.specs.Sides.{Side, peer_rules}
+use Rattle.joint_machine.specs.Told.{nothing, sweep_of}
+use Rattle.peer_heap.specs.declared.side.Swept.{Swept}
 use Rattle.order_table.specs.declared.views.View.{View}
 use Rattle.order_table.specs.Views.{OrderId, Shown}
 use Rattle.joint_history.specs.declared.marks.Begun.{Begun}

@@ -1,17 +1,17 @@
--- The driver's mirror under the peer lock: the mirror edges of its cycle's contraction come to stand as references between the peers of its dead part's
--- handles, all at once.
+-- The driver's mirror under the peer lock: the mirror edges of its cycle's contraction come to stand as references
+-- between the peers of its dead part's handles, all at once.
 use Rattle.std.specs.Prelude.{◌≡◌, ℕ, false, List, length, map, slice_index, Some}
-use Rattle.joint_model.specs.declared.names.Cycle.{Cycle}
-use Rattle.joint_model.specs.declared.events.Op.TheVariants as op
-use Rattle.joint_model.specs.declared.events.Reply.TheVariants as says
-use Rattle.joint_model.specs.Components.{End, mirror_edges}
-use Rattle.joint_model.specs.Control.{OpenSnap, contracted, weakening, carried_edges}
-use Rattle.joint_model.specs.Managed.{Managed, OpenCycle}
-use Rattle.joint_model.specs.PeerReplay.{PeerReplay}
-use Rattle.joint_model.specs.Sides.{Side, peer_rules}
-use Rattle.joint_model.specs.Told.{references_of}
+use Rattle.joint_machine.specs.declared.names.Cycle.{Cycle}
+use Rattle.joint_machine.specs.declared.events.Op.TheVariants as op
+use Rattle.joint_machine.specs.declared.events.Reply.TheVariants as says
+use Rattle.joint_machine.specs.Components.{End, mirror_edges}
+use Rattle.joint_machine.specs.Control.{OpenSnap, contracted, weakening, carried_edges}
+use Rattle.joint_machine.specs.Managed.{Managed, OpenCycle}
+use Rattle.joint_machine.specs.PeerReplay.{PeerReplay}
+use Rattle.joint_machine.specs.Sides.{Side, peer_rules}
+use Rattle.joint_machine.specs.Told.{references_of}
 use Rattle.bridge_graph.specs.Parts.{Part, numbers_of}
-use Rattle.managed_side.specs.Graphs.{IsDeadGraph}
+use Rattle.managed_heap.specs.Graphs.{IsDeadGraph}
 use Rattle.order_table.specs.declared.views.View.{View}
 use Rattle.order_table.specs.Views.{OrderId, Shown}
 use Rattle.peer_mirror.specs.Carried.{carried_to_peers}
@@ -27,8 +27,8 @@ number_at g i = slice_index (numbers_of g.nodes) i
 abbrev pub numbered_comps : Part → List (List ℕ) → List (List ℕ)
 numbered_comps g comps = map (map (number_at g)) comps
 
--- the graph is that of the open cycle's dead part, and these components and cross-references are those that the listing has of its nodes, with as many
--- heavy classes
+-- the graph is that of the open cycle's dead part, and these components and cross-references are those that the listing
+-- has of its nodes, with as many heavy classes
 pub record IsListedBy (g : Part) (l : Listing) (seen : Managed) (comps : List (List ℕ)) (heavy : List ℕ) (pairs : List (ℕ × ℕ)) : Type 0 where
   pub cycle : OpenCycle
   pub opened : seen.cycle ≡ Some cycle
@@ -37,12 +37,14 @@ pub record IsListedBy (g : Part) (l : Listing) (seen : Managed) (comps : List (L
   pub heavy_same : length heavy ≡ l.heavy
   pub pairs_same : pairs ≡ l.pairs
 
--- the side drew the cycle's mirror: one entry, with the mirror edges of the graph's components, carried to the peers of its handles and to temporaries
+-- the side drew the cycle's mirror: one entry, with the mirror edges of the graph's components, carried to the peers of
+-- its handles and to temporaries
 pub record DrawsMirror (order : OrderId) (seat seat' : Shown) (side side' : Side PeerReplay) (index : ℕ) (k : Cycle) (snap : ℕ) (g : Part) (l : Listing) (n refs : ℕ) : Type 0 where
   pub drew : Drew peer_rules 1 order seat seat' side side' (driver_entry n index (op.Mirror k) (says.Refs refs) (Some snap)) (references_of (carried_to_peers side.state.peers.issued g.nodes (mirror_edges l.comps l.pairs)))
   pub count : refs ≡ length (mirror_edges l.comps l.pairs)
 
--- the driver has contracted its cycle, which is this one and was opened by the entry with that number, to what the listing has of the graph's nodes
+-- the driver has contracted its cycle, which is this one and was opened by the entry with that number, to what the
+-- listing has of the graph's nodes
 pub record MayMirrorCycle (v : View) (index k snap : ℕ) (g : Part) (l : Listing) : Type 0 where
   pub opened : OpenSnap
   pub comps : List (List ℕ)
@@ -54,7 +56,8 @@ pub record MayMirrorCycle (v : View) (index k snap : ℕ) (g : Part) (l : Listin
   pub same_cycle : opened.cycle ≡ k
   pub same_snap : opened.snap ≡ snap
 
--- the driver mirrored its cycle, with so many references: they are the mirror edges, carried to the peers of the handles as both stood before the entry
+-- the driver mirrored its cycle, with so many references: they are the mirror edges, carried to the peers of the
+-- handles as both stood before the entry
 pub record MirrorsCycle (old new : View) (index n refs : ℕ) (k : Cycle) (o : OpenSnap) (comps : List (List ℕ)) (heavy : List ℕ) (pairs : List (ℕ × ℕ)) (m : Managed) : Type 0 where
   pub told : List (End × End)
   pub makes : DriverMakes old new (contracted o comps heavy pairs) m (driver_entry n index (op.Mirror k) (says.Refs refs) (Some o.snap)) (references_of told)

@@ -1,20 +1,20 @@
 -- The driver's snapshot under the managed lock: it opens the next cycle, and the driver has seen its dead part.
 use Rattle.std.specs.Prelude.{◌≡◌, ℕ, ◌+◌, ◌<◌, true, List, length, Option, Some, None}
-use Rattle.joint_model.specs.declared.names.MNum.{MNum}
-use Rattle.joint_model.specs.declared.events.Op.TheVariants as op
-use Rattle.joint_model.specs.declared.events.Reply.TheVariants as says
-use Rattle.joint_model.specs.Control.{idle, snapped}
-use Rattle.joint_model.specs.Draws.{numbered}
-use Rattle.joint_model.specs.Managed.{Managed}
-use Rattle.joint_model.specs.ManagedReplay.{ManagedReplay}
-use Rattle.joint_model.specs.Sides.{Side, managed_rules}
-use Rattle.joint_model.specs.Told.{kept_pins, snap_of}
+use Rattle.joint_machine.specs.declared.names.MNum.{MNum}
+use Rattle.joint_machine.specs.declared.events.Op.TheVariants as op
+use Rattle.joint_machine.specs.declared.events.Reply.TheVariants as says
+use Rattle.joint_machine.specs.Control.{idle, snapped}
+use Rattle.joint_machine.specs.Draws.{numbered}
+use Rattle.joint_machine.specs.Managed.{Managed}
+use Rattle.joint_machine.specs.ManagedReplay.{ManagedReplay}
+use Rattle.joint_machine.specs.Sides.{Side, managed_rules}
+use Rattle.joint_machine.specs.Told.{kept_pins, snap_of}
 use Rattle.joint_laws.specs.ManagedInvariants.{IsManagedKept}
 use Rattle.known_laws.specs.Known.{PinsStand}
-use Rattle.managed_side.specs.declared.opening.Opened.{Opened}
-use Rattle.managed_side.specs.Graphs.{IsDeadGraph}
-use Rattle.managed_side.specs.Openings.{snap_made}
-use Rattle.managed_side.specs.Pinned.{pins_given}
+use Rattle.managed_heap.specs.declared.opening.Opened.{Opened}
+use Rattle.managed_heap.specs.Graphs.{IsDeadGraph}
+use Rattle.managed_heap.specs.Openings.{snap_made}
+use Rattle.managed_heap.specs.Pinned.{pins_given}
 use Rattle.order_table.specs.declared.views.View.{View}
 use Rattle.order_table.specs.Owed.{all_scanned, pin_row}
 use Rattle.order_table.specs.Rows.{at}
@@ -25,7 +25,8 @@ use Rattle.view_laws.specs.Knowing.{pins_of}
 use Rattle.joint_history.specs.Driven.{DriverMakes, DriverStands, driver_entry}
 use Rattle.joint_history.specs.Locked.{Drew}
 
--- the gate was closed for the cycle, and these are the pins by the words that were scanned, each of which holds what a reader was given
+-- the gate was closed for the cycle, and these are the pins by the words that were scanned, each of which holds what a
+-- reader was given
 pub record ClosesGate (old new : Shown) (cycle : ℕ) (pins : List (Option MNum)) : Type 0 where
   pub same : new.order ≡ old.order
   pub closes : ClosesFor old.view new.view cycle
@@ -48,8 +49,8 @@ pub record DrawsSnapshot (order : OrderId) (seat seat' : Shown) (side side' : Si
   pub span : out.freed ≡ record { first = length side.state.managed.heap.freed; count = length freed }
   pub graph : IsDeadGraph side'.state.managed dead out.graph
 
--- the driver opened the next cycle, whose candidates and freed objects the entry counts: it stands at its snapshot, and the graph is that of the dead
--- part in the managed objects that it has seen then, which keep what every state keeps
+-- the driver opened the next cycle, whose candidates and freed objects the entry counts: it stands at its snapshot, and
+-- the graph is that of the dead part in the managed objects that it has seen then, which keep what every state keeps
 pub record OpensCycle (old new : View) (index : ℕ) (out : Opened) (m : Managed) : Type 0 where
   pub freed : List ℕ
   pub candidates : List ℕ

@@ -1,19 +1,19 @@
 -- The end of a run: all seats are taken into one.
 use Rattle.std.specs.Prelude.{◌≡◌, ◌⊎◌, ℕ, ◌+◌, List, [], ◌++◌, length, map, All, count_by, is_some, Contains, IsSome, Option, slice_get, slice_index_or, slice_set}
 use mathlib.Core.List.{IsPrefix}
-use Rattle.joint_model.specs.declared.names.Thread.{Thread}
-use Rattle.joint_model.specs.declared.names.Thread.TheVariants.{M, P, C}
-use Rattle.joint_model.specs.declared.events.Entry.{Entry}
-use Rattle.joint_model.specs.Histories.{Finished}
-use Rattle.joint_model.specs.Control.{idle, caller_place, doing_at, IsDone}
-use Rattle.joint_model.specs.HistoryLines.{caller_line, entries_in}
-use Rattle.joint_model.specs.Linked.{Linkage}
-use Rattle.joint_model.specs.LinkedHistories.{HasQueued, IsLinkedBy, linked_end}
-use Rattle.joint_model.specs.ManagedReplay.{ManagedReplay}
-use Rattle.joint_model.specs.PeerReplay.{PeerReplay}
-use Rattle.joint_model.specs.Readers.{with_pins}
-use Rattle.joint_model.specs.Sides.{Side}
-use Rattle.joint_model.specs.Told.{Noted}
+use Rattle.joint_machine.specs.declared.names.Thread.{Thread}
+use Rattle.joint_machine.specs.declared.names.Thread.TheVariants.{M, P, C}
+use Rattle.joint_machine.specs.declared.events.Entry.{Entry}
+use Rattle.joint_machine.specs.Histories.{Finished}
+use Rattle.joint_machine.specs.Control.{idle, caller_place, doing_at, IsDone}
+use Rattle.joint_machine.specs.HistoryLines.{caller_line, entries_in}
+use Rattle.joint_machine.specs.Linked.{Linkage}
+use Rattle.joint_machine.specs.LinkedHistories.{HasQueued, IsLinkedBy, linked_end}
+use Rattle.joint_machine.specs.ManagedReplay.{ManagedReplay}
+use Rattle.joint_machine.specs.PeerReplay.{PeerReplay}
+use Rattle.joint_machine.specs.PinsTold.{with_pins}
+use Rattle.joint_machine.specs.Sides.{Side}
+use Rattle.joint_machine.specs.Told.{Noted}
 use Rattle.known_laws.specs.Drawn.{of_drawn}
 use Rattle.known_laws.specs.Growing.{all_shown}
 use Rattle.known_laws.specs.Lists.{made_by}
@@ -22,7 +22,7 @@ use Rattle.known_laws.specs.Wholes.{history_of}
 use Rattle.order_table.specs.declared.views.View.{View}
 use Rattle.order_table.specs.Rule.{AreLinesOfOneHistory}
 use Rattle.order_table.specs.Views.{Owns, known}
-use Rattle.joint_model.specs.Lines.{IsDriver, IsThread}
+use Rattle.joint_machine.specs.Lines.{IsDriver, IsThread}
 use Rattle.joint_history.specs.Callers.{HoldsPass, KeepsReads, Pass, own}
 use Rattle.joint_history.specs.declared.ends.RunEnd.{RunEnd}
 use Rattle.joint_history.specs.Desks.{Waiting, flat, present}
@@ -88,8 +88,8 @@ threads_of ps = map (λ p. p.thread) ps
 abbrev pub BeginsView : View → View → Type 0
 BeginsView v w = (i : ℕ) → IsPrefix (known v i) (known w i)
 
--- a seat took in the seats of these callers: it owns what it owned and knows the same of it, it owns each caller's line and knows of
--- it just what the caller knew, and what it knew and what each caller knew begins what it knows
+-- a seat took in the seats of these callers: it owns what it owned and knows the same of it, it owns each caller's line
+-- and knows of it just what the caller knew, and what it knew and what each caller knew begins what it knows
 pub record TakesOwn (old new : View) (ps : List Pass) : Type 0 where
   pub kept : (i : ℕ) → Owns old i → Owns new i × (known new i ≡ known old i)
   pub knew : BeginsView old new
@@ -140,7 +140,8 @@ pub record IsFinished (h : Finished) : Type 0 where
   pub noted : List Noted
   pub finished : IsFinishedBy h noted
 
--- the seats of both sides, of the callers that were given out and of those that still wait were taken into one, which knows the whole history
+-- the seats of both sides, of the callers that were given out and of those that still wait were taken into one, which
+-- knows the whole history
 pub record AllTaken (l : Side ManagedReplay) (r : Side PeerReplay) (lists : List (List Entry)) (d : Waiting) (callers : List Pass) : Type 0 where
   pub before : View
   pub seat : View
@@ -153,7 +154,8 @@ pub record AllTaken (l : Side ManagedReplay) (r : Side PeerReplay) (lists : List
 abbrev pub all_lists : List Entry → List Entry → List (List Entry) → List (List Entry)
 all_lists left right lists = slice_set (slice_set lists 0 left) 1 right
 
--- the numbers are those of these states of both sides: how many cycles were opened, how many objects and handles were made, and how many of them are left
+-- the numbers are those of these states of both sides: how many cycles were opened, how many objects and handles were
+-- made, and how many of them are left
 pub record AreNumbersOf (e : RunEnd) (l : ManagedReplay) (r : PeerReplay) : Type 0 where
   pub cycles : e.cycles ≡ l.managed.cycles
   pub managed : e.managed.all ≡ length l.managed.heap.fields

@@ -1,8 +1,8 @@
--- The lines that a seat knows, by entries. That they are those of a past of the one run, and stay so, is said by the laws of views
--- (`Rattle.view_laws.specs.Knowing`).
+-- The lines that a seat knows, by entries. That they are those of a past of the one run, and stay so, is said by the
+-- laws of views (`Rattle.view_laws.specs.Knowing`).
 use Rattle.std.specs.Prelude.{ℕ, List}
-use Rattle.joint_model.specs.declared.events.Entry.{Entry}
-use Rattle.joint_model.specs.Told.{Told, Noted}
+use Rattle.joint_machine.specs.declared.events.Entry.{Entry}
+use Rattle.joint_machine.specs.Told.{Told, Noted}
 use Rattle.order_table.specs.declared.views.View.{View}
 use Rattle.order_table.specs.Facts.{line_entries}
 use Rattle.order_table.specs.Views.{known}

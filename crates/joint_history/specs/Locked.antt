@@ -1,31 +1,32 @@
 -- What a side's seat knows under its lock, and what a locked call does to the caller's seat.
 use Rattle.std.specs.Prelude.{◌≡◌, ℕ, ◌+◌, ◌≤◌, Bool, true, false, List, [], ◌∷◌, ◌++◌, length, Option, Some, None}
 use mathlib.Core.List.{IsPrefix}
-use Rattle.joint_model.specs.declared.names.MNum.{MNum}
-use Rattle.joint_model.specs.declared.names.Thread.{Thread}
-use Rattle.joint_model.specs.declared.names.Thread.TheVariants.{M, P, C}
-use Rattle.joint_model.specs.declared.names.Var.{Var}
-use Rattle.joint_model.specs.declared.events.Entry.{Entry}
-use Rattle.joint_model.specs.declared.events.Made.{Made}
-use Rattle.joint_model.specs.declared.events.Op.{Op}
-use Rattle.joint_model.specs.declared.events.Op.TheVariants as op
-use Rattle.joint_model.specs.declared.events.Reply.{Reply}
-use Rattle.joint_model.specs.Control.{Control, Doing, free, doing_at, doing_after, last_line, ThreadAllows}
-use Rattle.joint_model.specs.Draws.{numbered}
-use Rattle.joint_model.specs.Managed.{candidates_of}
-use Rattle.joint_model.specs.HistoryLines.{caller_line}
-use Rattle.joint_model.specs.Lines.{is_read}
-use Rattle.joint_model.specs.Linked.{Linkage}
-use Rattle.joint_model.specs.ManagedReplay.{ManagedReplay}
-use Rattle.joint_model.specs.PeerReplay.{PeerReplay, Mirror}
-use Rattle.joint_model.specs.Run.{thread_number}
-use Rattle.joint_model.specs.Sides.{Side, SideRules, GoesOn, managed_rules}
-use Rattle.joint_model.specs.Told.{Told, kept_pins, nothing, pins_told}
+use Rattle.joint_machine.specs.declared.names.MNum.{MNum}
+use Rattle.joint_machine.specs.declared.names.Thread.{Thread}
+use Rattle.joint_machine.specs.declared.names.Thread.TheVariants.{M, P, C}
+use Rattle.joint_machine.specs.declared.names.Var.{Var}
+use Rattle.joint_machine.specs.declared.events.Entry.{Entry}
+use Rattle.joint_machine.specs.declared.events.Made.{Made}
+use Rattle.joint_machine.specs.declared.events.Op.{Op}
+use Rattle.joint_machine.specs.declared.events.Op.TheVariants as op
+use Rattle.joint_machine.specs.declared.events.Reply.{Reply}
+use Rattle.joint_machine.specs.Control.{Control, Doing, free, doing_at, doing_after, last_line, ThreadAllows}
+use Rattle.joint_machine.specs.Draws.{numbered}
+use Rattle.joint_machine.specs.Managed.{candidates_of}
+use Rattle.joint_machine.specs.HistoryLines.{caller_line}
+use Rattle.joint_machine.specs.Lines.{is_read}
+use Rattle.joint_machine.specs.Linked.{Linkage}
+use Rattle.joint_machine.specs.ManagedReplay.{ManagedReplay}
+use Rattle.joint_machine.specs.PeerReplay.{PeerReplay, Mirror}
+use Rattle.joint_machine.specs.Run.{thread_number}
+use Rattle.joint_machine.specs.Sides.{Side, SideRules, GoesOn, managed_rules}
+use Rattle.joint_machine.specs.Told.{Told, kept_pins, nothing}
+use Rattle.joint_machine.specs.PinsTold.{pins_told}
 use Rattle.known_laws.specs.Known.{Comes, PinsStand}
 use Rattle.known_laws.specs.Pasts.{end_of}
-use Rattle.managed_side.specs.Pinned.{pin_given}
-use Rattle.managed_side.specs.Steps.{take_op}
-use Rattle.peer_side.specs.Sides.{PeerModel}
+use Rattle.managed_heap.specs.Pinned.{pin_given}
+use Rattle.managed_heap.specs.Steps.{take_op}
+use Rattle.peer_heap.specs.Sides.{PeerModel}
 use Rattle.order_table.specs.declared.views.KeptEntry.{KeptEntry}
 use Rattle.order_table.specs.declared.views.View.{View}
 use Rattle.order_table.specs.Rule.{IsBelow}
@@ -34,7 +35,8 @@ use Rattle.order_table.specs.Views.{OrderId, Shown, known}
 use Rattle.joint_history.specs.Knowing.{line_known, note_of}
 use Rattle.view_laws.specs.Knowing.{IsDrawnView, pins_of}
 
--- the managed side's seat knows a past: its managed line is the side's list, and at its end the managed side is as this one
+-- the managed side's seat knows a past: its managed line is the side's list, and at its end the managed side is as this
+-- one
 pub record ManagedKnows (v : View) (s : Side ManagedReplay) : Type 0 where
   pub known : IsDrawnView v
   pub entries : line_known v 0 ≡ s.entries
@@ -46,7 +48,8 @@ pub record PeerKnows (v : View) (s : Side PeerReplay) : Type 0 where
   pub entries : line_known v 1 ≡ s.entries
   pub state : (end_of known.known.past).peer ≡ s.state
 
--- the own marking of a mirrored cycle is still to come: a mirror brings that about, and the driver's begin and its clear end it
+-- the own marking of a mirrored cycle is still to come: a mirror brings that about, and the driver's begin and its
+-- clear end it
 abbrev pub due_after : Thread → Op → Bool → Bool
 due_after C (op.Mirror k) due = true
 due_after C op.Begin due = false
@@ -61,12 +64,13 @@ due_from due (e ∷ es) = due_from (due_after e.made.caller e.made.op due) es
 abbrev pub is_marking_due : List Entry → Bool
 is_marking_due es = due_from false es
 
--- while a cycle is mirrored, the handles that were weakened in it and those that may still be are together at least its candidates
+-- while a cycle is mirrored, the handles that were weakened in it and those that may still be are together at least its
+-- candidates
 abbrev pub HasRoomToWeaken : Linkage → ℕ → Type 0
 HasRoomToWeaken s left = (m : Mirror) → s.peer.mirror ≡ Some m → length (candidates_of s.managed.managed) ≤ length m.weakened + left
 
--- what is reserved on the peer side while its lock is free, by what its seat knows: no reference waits; each candidate of a mirrored cycle can be
--- weakened; and there is room for the cycle's own marking as long as that is still to come
+-- what is reserved on the peer side while its lock is free, by what its seat knows: no reference waits; each candidate
+-- of a mirrored cycle can be weakened; and there is room for the cycle's own marking as long as that is still to come
 pub record PeerReserves (v : View) (s : PeerModel) : Type 0 where
   pub none_waits : s.reserve.waiting ≡ []
   pub room : (k : IsDrawnView v) → (end_of k.known.past).peer ≡ s.state → HasRoomToWeaken (end_of k.known.past) s.reserve.left
@@ -100,8 +104,8 @@ abbrev pub doing_from : Thread → Entry → Doing
 doing_from (M n) e = doing_after e.number e.made.index e.made.op e.made.reply
 doing_from t e = free
 
--- the caller made an entry: it knows all that it knew, and that entry as its last, whose number is above all that it knew; and the entry
--- may come after a past, with what is told beside it
+-- the caller made an entry: it knows all that it knew, and that entry as its last, whose number is above all that it
+-- knew; and the entry may come after a past, with what is told beside it
 pub record Makes (t : Thread) (old new : View) (e : Entry) : Type 0 where
   pub own : line_known new (caller_line t) ≡ line_known old (caller_line t) ++ e ∷ []
   pub more : (i : ℕ) → IsPrefix (known old i) (known new i)
@@ -127,15 +131,16 @@ pub record StaysSeated (old new : Shown) : Type 0 where
   pub owns : new.view.owns ≡ old.view.owns
   pub known : new.view.known ≡ old.view.known
 
--- a seat made an entry in a side's list: its number is above all that the seat knew, and what the seat knows now is of one history
+-- a seat made an entry in a side's list: its number is above all that the seat knew, and what the seat knows now is of
+-- one history
 pub record HasAppended (order : OrderId) (old new : Shown) (r : ℕ) (k : KeptEntry) : Type 0 where
   pub same : new.order ≡ old.order
   pub grows : GrowsByEntry old.view new.view r k
   pub number : (i : ℕ) → IsBelow k.entry.number (known old.view i)
   pub one_history : BeginsOneHistory new.view
 
--- the side drew one entry by its seat, with the object to which it sets a cell, the objects that it frees and the pins that are told, and put it last:
--- the entry may come next in its list, and the side's state is the one after it
+-- the side drew one entry by its seat, with the object to which it sets a cell, the objects that it frees and the pins
+-- that are told, and put it last: the entry may come next in its list, and the side's state is the one after it
 pub record Drew {S : Type 0} (r : SideRules S) (line : ℕ) (order : OrderId) (seat seat' : Shown) (side side' : Side S) (e : Entry) (told : Told) : Type 0 where
   pub kept : KeptEntry
   pub entry : kept.entry ≡ e

@@ -1,27 +1,28 @@
--- The operations of threads: the events of each, one after another, and what a call that runs one leaves its caller with.
+-- The operations of threads: the events of each, one after another, and what a call that runs one leaves its caller
+-- with.
 use Rattle.std.specs.Prelude.{◌≡◌, ◌⊎◌, ℕ, ◌<◌, ◌≤◌, true, false, List, [], ◌∷◌, ◌++◌, Option, Some, None}
 use mathlib.Core.List.{IsPrefix}
-use Rattle.joint_model.specs.declared.names.Thread.{Thread}
-use Rattle.joint_model.specs.declared.names.Thread.TheVariants.{M, P, C}
-use Rattle.joint_model.specs.declared.lines.Act.{Act}
-use Rattle.joint_model.specs.declared.lines.Act.TheVariants as act
-use Rattle.joint_model.specs.declared.events.Entry.{Entry}
-use Rattle.joint_model.specs.declared.events.Op.{Op}
-use Rattle.joint_model.specs.declared.events.Op.TheVariants as op
-use Rattle.joint_model.specs.declared.events.Reply.{Reply}
-use Rattle.joint_model.specs.declared.events.Reply.TheVariants as says
-use Rattle.joint_model.specs.Control.{Doing, IsDone}
-use Rattle.joint_model.specs.Draws.{numbered}
-use Rattle.joint_model.specs.HistoryLines.{caller_line}
-use Rattle.joint_model.specs.Lines.{IsLine, IsManagedThread, IsVar, is_peer_event}
-use Rattle.joint_model.specs.Run.{thread_number}
+use Rattle.joint_machine.specs.declared.names.Thread.{Thread}
+use Rattle.joint_machine.specs.declared.names.Thread.TheVariants.{M, P, C}
+use Rattle.joint_machine.specs.declared.lines.Act.{Act}
+use Rattle.joint_machine.specs.declared.lines.Act.TheVariants as act
+use Rattle.joint_machine.specs.declared.events.Entry.{Entry}
+use Rattle.joint_machine.specs.declared.events.Op.{Op}
+use Rattle.joint_machine.specs.declared.events.Op.TheVariants as op
+use Rattle.joint_machine.specs.declared.events.Reply.{Reply}
+use Rattle.joint_machine.specs.declared.events.Reply.TheVariants as says
+use Rattle.joint_machine.specs.Control.{Doing, IsDone}
+use Rattle.joint_machine.specs.Draws.{numbered}
+use Rattle.joint_machine.specs.HistoryLines.{caller_line}
+use Rattle.joint_machine.specs.Lines.{IsLine, IsManagedThread, IsVar, is_peer_event}
+use Rattle.joint_machine.specs.Run.{thread_number}
 use Rattle.order_table.specs.declared.views.View.{View}
 use Rattle.order_table.specs.Rule.{IsBelow}
 use Rattle.order_table.specs.Views.{known}
 use Rattle.weak_wait.specs.declared.reads.Got.{Got}
 use Rattle.weak_wait.specs.Reads.{IsExact, IsRead, Reads, cell_of, reply_of}
-use Rattle.managed_side.specs.Steps.{IsManagedStep, take_op, weak_op}
-use Rattle.peer_side.specs.Steps.{IsRelease}
+use Rattle.managed_heap.specs.Steps.{IsManagedStep, take_op, weak_op}
+use Rattle.peer_heap.specs.Steps.{IsRelease}
 use Rattle.joint_history.specs.declared.callers.Receipt.{Receipt}
 use Rattle.joint_history.specs.declared.operations.ManagedCall.{ManagedCall}
 use Rattle.joint_history.specs.declared.operations.ManagedCall.TheVariants as call
@@ -103,7 +104,8 @@ abbrev pub answer_of : Act → Reply → Reply → Reply
 answer_of (act.Dispose v) given released = given
 answer_of a first second = second
 
--- the call of the managed side by which an event of its thread is made: reads, `weak` and `take` have calls of their own
+-- the call of the managed side by which an event of its thread is made: reads, `weak` and `take` have calls of their
+-- own
 abbrev pub call_of : Op → ManagedCall
 call_of (op.Line (act.Read k)) = call.Read (act.Read k)
 call_of (op.Line (act.Await k)) = call.Read (act.Await k)
@@ -123,7 +125,8 @@ pub record IsSideEvent (t : Thread) (o : Op) : Type 0 where
   pub peer : is_peer_event t o ≡ true → IsPeerCall t o
   pub managed : is_peer_event t o ≡ false → IsCallBy t o (call_of o)
 
--- the answer to a read of a managed thread is what the managed list gives that the thread knows now, and the thread's own pin
+-- the answer to a read of a managed thread is what the managed list gives that the thread knows now, and the thread's
+-- own pin
 pub record AnswersExactly (n : ℕ) (old new : View) (a : Act) (reply : Reply) : Type 0 where
   pub got : Got
   pub answer : reply ≡ reply_of got
@@ -142,7 +145,8 @@ abbrev pub AreAbove : View → List Entry → Type 0
 AreAbove v [] = Unit {0}
 AreAbove v (e ∷ es) = ((i : ℕ) → IsBelow e.number (known v i)) × AreAbove v es
 
--- a caller made these entries: they stand at the end of its own, with numbers above all that it knew, and it knows all that it knew
+-- a caller made these entries: they stand at the end of its own, with numbers above all that it knew, and it knows all
+-- that it knew
 pub record MakesAll (t : Thread) (old new : View) (es : List Entry) : Type 0 where
   pub own_more : line_known new (caller_line t) ≡ line_known old (caller_line t) ++ es
   pub more : (i : ℕ) → IsPrefix (known old i) (known new i)
@@ -176,7 +180,8 @@ pub record EndsWithThird (t : Thread) (index : ℕ) (a : Act) (answered : Reply)
   pub two_more : rest ≡ entry_by t index number second reply (Some r.first) ∷ entry_by t index r.last third released (Some number) ∷ []
   pub answer : r.reply ≡ reply
 
--- the entries are those of an operation, all of them in turn; the receipt has the numbers of the first and the last one and the reply
+-- the entries are those of an operation, all of them in turn; the receipt has the numbers of the first and the last one
+-- and the reply
 pub record IsOperation (t : Thread) (index : ℕ) (a : Act) (es : List Entry) (r : Receipt) : Type 0 where
   pub answered : Reply
   pub rest : List Entry
@@ -204,8 +209,8 @@ pub record StopsWithoutMemory (t : Thread) (old new : View) (index : ℕ) (a : A
   pub made : MakesAll t old new entries
   pub begun : (entries ≡ []) ⊎ IsFirstAlone t index a entries
 
--- a managed thread read a cell without a lock: it made just the read's entry, whose answer has its cause in the words that were read, and put it last in its
--- own list of reads
+-- a managed thread read a cell without a lock: it made just the read's entry, whose answer has its cause in the words
+-- that were read, and put it last in its own list of reads
 pub record ReadsBy (old new : Pass) (index : ℕ) (a : Act) (g : Got) : Type 0 where
   pub number : ℕ
   pub reads : Reads (thread_number old.thread) index a g number old.view new.view

@@ -1,7 +1,7 @@
 // A thread's pass.
 
 ghost use Rattle.std.specs.Prelude.{◌≡◌};
-ghost use Rattle.joint_model.specs.Lines.{IsDriver, IsThread};
+ghost use Rattle.joint_machine.specs.Lines.{IsDriver, IsThread};
 ghost use Rattle.order_table.specs.Allowed.{Settled};
 ghost use Rattle.joint_history.specs.Callers.{CallerKnows, HoldsPass, Hears, IsOfRun, KeepsReads, Tells, reads_of};
 ghost use Rattle.joint_history.specs.Driven.{StillStands};
@@ -10,7 +10,8 @@ use joint_model::{Entries, Reply, Thread};
 use order_table::{Order, OrderName, Seat};
 use std::marker::{Model, PhantomData};
 
-/// A pass that nobody was given, with what its seat knows and the list of its reads. Its thread needn't be one of the run's.
+/// A pass that nobody was given, with what its seat knows and the list of its reads. Its thread needn't be one of the
+/// run's.
 #[derive(Drop)]
 pub(crate) struct WaitingPass<N: OrderName> {
     pub(crate) thread: Thread,
@@ -21,7 +22,7 @@ pub(crate) struct WaitingPass<N: OrderName> {
 
 impl<N: OrderName> Model for WaitingPass<N> {
     ghost use Rattle.std.specs.Prelude.{◌≡◌};
-    ghost use Rattle.joint_model.specs.Lines.{IsThread};
+    ghost use Rattle.joint_machine.specs.Lines.{IsThread};
     ghost use Rattle.order_table.specs.Allowed.{Settled};
     ghost use Rattle.joint_history.specs.Callers.{Pass, CallerKnows, HoldsPass, KeepsReads, reads_of};
 
@@ -32,8 +33,9 @@ impl<N: OrderName> Model for WaitingPass<N> {
     ghost invariant = { λ p. IsThread p.thread × (p.seat.order ≡ N.order) × HoldsPass p.thread p.seat.view × CallerKnows p.thread p.seat.view × Settled p.seat.view × KeepsReads p.thread p.seat.view p.reads.entries };
 }
 
-/// A thread's pass, with what the thread knows, and of a managed thread the list of its reads, which it makes by itself: whoever has it makes the
-/// thread's entries. The thread is one of the run's. Contracts see which it is, what it knows and that list.
+/// A thread's pass, with what the thread knows, and of a managed thread the list of its reads, which it makes by
+/// itself: whoever has it makes the thread's entries. The thread is one of the run's. Contracts see which it is, what
+/// it knows and that list.
 #[derive(Drop)]
 pub struct Caller<N: OrderName> {
     pub(crate) thread: Thread,

@@ -1,10 +1,11 @@
-// A collect of a peer thread under the peer lock: a begin and, if that gave a number, the sweep of that marking, in one hold of the lock.
+// A collect of a peer thread under the peer lock: a begin and, if that gave a number, the sweep of that marking, in one
+// hold of the lock.
 
 ghost use Rattle.std.specs.Prelude.{◌≡◌, None, IfOk, OnErr};
-ghost use Rattle.joint_model.specs.Lines.{IsPeerThread};
-ghost use Rattle.joint_model.specs.Sides.{TakesPeer};
+ghost use Rattle.joint_machine.specs.Lines.{IsPeerThread};
+ghost use Rattle.joint_machine.specs.Sides.{TakesPeer};
 ghost use Rattle.order_table.specs.Allowed.{Settled};
-ghost use Rattle.peer_side.specs.Sides.{seen};
+ghost use Rattle.peer_heap.specs.Sides.{seen};
 ghost use Rattle.joint_history.specs.Callers.{HoldsPass};
 ghost use Rattle.joint_history.specs.Collecting.{Collects, DrawsCollect};
 ghost use Rattle.joint_history.specs.Knowing.{line_known};
@@ -16,7 +17,7 @@ use crate::callers::Receipt;
 use crate::peer::LockedPeer;
 use joint_model::{Op, Thread};
 use order_table::{Order, OrderName, Role, Seat};
-use peer_side::PeerSide;
+use peer_heap::PeerSide;
 use seat_calls::{SeatDrawing, give_back, lend};
 use std::alloc::AllocError;
 
@@ -84,9 +85,10 @@ fn draw_collect(
 }
 
 impl<N: OrderName> LockedPeer<N> {
-    /// Makes a collect of a peer thread, in this one hold of the lock: a begin and, if that gave a number, the sweep of that marking. Answers the
-    /// numbers of its first and its last entry and the reply of the last one. The caller's seat knows the entries then. Answers `AllocError`
-    /// where there is no memory, and no entry is made then: room for both is taken before the first.
+    /// Makes a collect of a peer thread, in this one hold of the lock: a begin and, if that gave a number, the sweep of
+    /// that marking. Answers the numbers of its first and its last entry and the reply of the last one. The caller's
+    /// seat knows the entries then. Answers `AllocError` where there is no memory, and no entry is made then: room for
+    /// both is taken before the first.
     pub(crate) fn collect(
         &mut self,
         order: &Order,

@@ -1,8 +1,8 @@
 // The callers that weren't given out yet.
 
 ghost use Rattle.std.specs.Prelude.{◌≡◌, ◌≤◌, ◌<◌, ℕ, ◌++◌, IfOk, IfSome, List, Option, Some, option_to_list, slice_get, true};
-ghost use Rattle.joint_model.specs.Control.{caller_place};
-ghost use Rattle.joint_model.specs.Lines.{IsThread};
+ghost use Rattle.joint_machine.specs.Control.{caller_place};
+ghost use Rattle.joint_machine.specs.Lines.{IsThread};
 ghost use Rattle.order_table.specs.Allowed.{Settled};
 ghost use Rattle.order_table.specs.Views.{Owns, OwnsAll};
 ghost use Rattle.joint_history.specs.Callers.{IsOfRun, KnowsNothing, Pass};
@@ -15,8 +15,8 @@ use order_table::{Order, OrderName, Seat};
 use std::alloc::{AllocError, Global};
 use std::marker::Model;
 
-/// The callers of a run that nobody has yet: of the driver and of so many managed and peer threads, for which both sides are. The passes of
-/// the threads that the run doesn't have wait here to its end.
+/// The callers of a run that nobody has yet: of the driver and of so many managed and peer threads, for which both
+/// sides are. The passes of the threads that the run doesn't have wait here to its end.
 #[derive(Drop)]
 pub struct Desk<N: OrderName> {
     managed: u8,
@@ -98,8 +98,8 @@ fn give_out<N: OrderName>(waiting: Option<WaitingPass<N>>) -> Option<Caller<N>>
 }
 
 impl<N: OrderName> Desk<N> {
-    /// A desk at which every caller waits, with the lines that a seat gives away which holds all of them. The callers' lists of reads hold their entries as
-    /// they are told. Answers `AllocError` where there is no memory.
+    /// A desk at which every caller waits, with the lines that a seat gives away which holds all of them. The callers'
+    /// lists of reads hold their entries as they are told. Answers `AllocError` where there is no memory.
     pub(crate) fn new(
         alloc: Global,
         order: &Order,
@@ -137,7 +137,8 @@ impl<N: OrderName> Desk<N> {
         }
     }
 
-    /// The thread's caller, which knows nothing yet; None exactly where there is no such thread or its caller was given out.
+    /// The thread's caller, which knows nothing yet; None exactly where there is no such thread or its caller was given
+    /// out.
     pub fn caller(&mut self, t: Thread) -> Option<Caller<N>>
         ensures caller { result ≡ waits self.old t }
         ensures desk { self.new ≡ without_caller self.old t }

@@ -1,21 +1,22 @@
-// The driver's calls under the managed lock. Each lends the driver's lines to the locked seat, lets the side draw by it, and hands them back.
+// The driver's calls under the managed lock. Each lends the driver's lines to the locked seat, lets the side draw by
+// it, and hands them back.
 
 ghost use Rattle.std.specs.Prelude.{◌≡◌, ◌≤◌, ℕ, ◌+◌, Bool, Some, None, IsSome, IfOk, OnErr, count_by, is_some};
-ghost use Rattle.joint_model.specs.declared.names.Thread.TheVariants.{C};
-ghost use Rattle.joint_model.specs.declared.lines.Act.TheVariants as act;
-ghost use Rattle.joint_model.specs.declared.events.Op.{Op};
-ghost use Rattle.joint_model.specs.declared.events.Op.TheVariants as op;
+ghost use Rattle.joint_machine.specs.declared.names.Thread.TheVariants.{C};
+ghost use Rattle.joint_machine.specs.declared.lines.Act.TheVariants as act;
+ghost use Rattle.joint_machine.specs.declared.events.Op.{Op};
+ghost use Rattle.joint_machine.specs.declared.events.Op.TheVariants as op;
 ghost use Rattle.joint_model.specs.Listed.{answers_of};
-ghost use Rattle.joint_model.specs.Managed.{OpenCycle};
-ghost use Rattle.joint_model.specs.ManagedReplay.{MayRefuse};
-ghost use Rattle.joint_model.specs.Sides.{managed_rules};
-ghost use Rattle.joint_model.specs.Told.{nothing, phase_of};
-ghost use Rattle.joint_model.specs.HistoryLines.{caller_line};
+ghost use Rattle.joint_machine.specs.Managed.{OpenCycle};
+ghost use Rattle.joint_machine.specs.ManagedReplay.{MayRefuse};
+ghost use Rattle.joint_machine.specs.Sides.{managed_rules};
+ghost use Rattle.joint_machine.specs.Told.{nothing, phase_of};
+ghost use Rattle.joint_machine.specs.HistoryLines.{caller_line};
 ghost use Rattle.order_table.specs.Allowed.{Settled};
 ghost use Rattle.order_table.specs.Views.{Owns};
-ghost use Rattle.managed_side.specs.Calls.{MayContractWith, contract_op};
-ghost use Rattle.managed_side.specs.Resolving.{MayClose};
-ghost use Rattle.managed_side.specs.Sides.{as_side};
+ghost use Rattle.managed_heap.specs.Calls.{MayContractWith, contract_op};
+ghost use Rattle.managed_heap.specs.Resolving.{MayClose};
+ghost use Rattle.managed_heap.specs.Sides.{as_side};
 ghost use Rattle.joint_history.specs.Callers.{HoldsPass};
 ghost use Rattle.joint_history.specs.Driven.{DriverMakesNone, MakesAbandon, MakesContraction, MakesFinalise, MakesRefusal, MakesResolution, MayAbandonCycle, MayContractCycle, MayFinalise, MayRefuseWord, MayResolveCycle, driver_entry};
 ghost use Rattle.joint_history.specs.DriverDraws.{DrawsAbandon, DrawsContraction, DrawsResolution};
@@ -25,7 +26,7 @@ ghost use Rattle.seat_calls.specs.Passing.{MayAppend};
 
 use crate::managed::{LiveObjects, LockedManaged, draw_step};
 use joint_model::{Act, Alive, Op, Phase, PhaseWord, Reply, Thread};
-use managed_side::{ManagedSide, ResolveOut};
+use managed_heap::{ManagedSide, ResolveOut};
 use order_table::{Order, OrderName, Role, Seat};
 use seat_calls::{SeatDrawing, give_back, lend, settle_ended};
 use std::alloc::AllocError;
@@ -80,8 +81,8 @@ fn draw_abandon(side: &mut ManagedSide, order: &Order, seat: &mut Seat, index: u
     number
 }
 
-// The side draws by the seat the entry that resolves its cycle; the cells of what it freed say so, and the gate is opened. The entry's number is answered,
-// and what the resolution did.
+// The side draws by the seat the entry that resolves its cycle; the cells of what it freed say so, and the gate is
+// opened. The entry's number is answered, and what the resolution did.
 fn draw_resolution(
     side: &mut ManagedSide,
     order: &Order,
@@ -141,8 +142,8 @@ fn draw_refusal(
 }
 
 impl<N: OrderName> LockedManaged<N> {
-    /// Makes the entry of the open cycle's contraction, which has so many components and cross-references, and answers its number. `mine` is the
-    /// driver's seat, which knows the entry then. It takes no memory.
+    /// Makes the entry of the open cycle's contraction, which has so many components and cross-references, and answers
+    /// its number. `mine` is the driver's seat, which knows the entry then. It takes no memory.
     pub(crate) fn contracted(
         &mut self,
         order: &Order,
@@ -166,8 +167,8 @@ impl<N: OrderName> LockedManaged<N> {
         number
     }
 
-    /// Abandons the open cycle, which isn't mirrored yet: nothing is freed. Answers the entry's number. `mine` is the driver's seat, which knows the
-    /// entry then. It takes no memory.
+    /// Abandons the open cycle, which isn't mirrored yet: nothing is freed. Answers the entry's number. `mine` is the
+    /// driver's seat, which knows the entry then. It takes no memory.
     pub(crate) fn abandon(&mut self, order: &Order, mine: &mut Seat, index: u32) -> u64
         requires order { (order.now ≡ N.order) × (mine.old.order ≡ N.order) }
         requires settled { Settled mine.old.view }
@@ -184,9 +185,9 @@ impl<N: OrderName> LockedManaged<N> {
         number
     }
 
-    /// Resolves the open cycle by the answers of its restores, one for each candidate; the entry cites that of the clear. Answers the entry's number,
-    /// where the freed objects stand among all that were freed, and how many candidates were kept. `mine` is the driver's seat, which knows the entry
-    /// then. It takes no memory.
+    /// Resolves the open cycle by the answers of its restores, one for each candidate; the entry cites that of the
+    /// clear. Answers the entry's number, where the freed objects stand among all that were freed, and how many
+    /// candidates were kept. `mine` is the driver's seat, which knows the entry then. It takes no memory.
     pub(crate) fn resolve(
         &mut self,
         order: &Order,
@@ -211,8 +212,9 @@ impl<N: OrderName> LockedManaged<N> {
         out
     }
 
-    /// The driver's phase word is refused in its phase; nothing else changes. Answers the entry's number and the reply. `mine` is the driver's seat, which
-    /// knows the entry then. Answers `AllocError` where there is no memory, or where the entries would pass their limit: no entry is made then.
+    /// The driver's phase word is refused in its phase; nothing else changes. Answers the entry's number and the reply.
+    /// `mine` is the driver's seat, which knows the entry then. Answers `AllocError` where there is no memory, or where
+    /// the entries would pass their limit: no entry is made then.
     pub(crate) fn refused(
         &mut self,
         order: &Order,
@@ -237,8 +239,9 @@ impl<N: OrderName> LockedManaged<N> {
         made
     }
 
-    /// The driver takes so many waiting notices, or all where there are fewer. Answers the entry's number and the reply. `mine` is the driver's seat,
-    /// which knows the entry then. Answers `AllocError` where there is no memory, or where the entries would pass their limit: no entry is made then.
+    /// The driver takes so many waiting notices, or all where there are fewer. Answers the entry's number and the
+    /// reply. `mine` is the driver's seat, which knows the entry then. Answers `AllocError` where there is no memory,
+    /// or where the entries would pass their limit: no entry is made then.
     pub(crate) fn finalise(
         &mut self,
         order: &Order,

@@ -1,8 +1,9 @@
-// The driver's calls on a shared bridge: each takes one lock, makes the driver's entries in one hold of it, and gives it back. What the driver knows goes
-// with its caller, so a call is asked for where the driver stands, and answers where it stands then.
+// The driver's calls on a shared bridge: each takes one lock, makes the driver's entries in one hold of it, and gives
+// it back. What the driver knows goes with its caller, so a call is asked for where the driver stands, and answers
+// where it stands then.
 
 ghost use Rattle.std.specs.Prelude.{◌≡◌, ◌⊎◌, ◌≤◌, ℕ, IfErr, IfOk, OnErr, count_by, is_some};
-ghost use Rattle.joint_model.specs.Lines.{IsDriver};
+ghost use Rattle.joint_machine.specs.Lines.{IsDriver};
 ghost use Rattle.joint_model.specs.Listed.{answers_of};
 ghost use Rattle.joint_history.specs.Driven.{DriverMakesNone, DriverRests, MakesAbandon, MakesContraction, MakesFinalise, MakesRefusal, MakesResolution, MayAbandonCycle, MayContractCycle, MayFinalise, MayRefuseWord, MayResolveCycle};
 ghost use Rattle.joint_history.specs.DriverHandles.{MakesClear, MakesRestore, MakesWeaken, MayClearCycle, MayRestoreHandle, MayWeakenHandle};
@@ -15,16 +16,16 @@ use crate::marks::Begun;
 use crate::shared::Shared;
 use global_handles::Back;
 use joint_model::{Alive, Cycle, HNum, Phase, PhaseWord, Reply};
-use managed_side::{Opened, ResolveOut, SnapFault};
+use managed_heap::{Opened, ResolveOut, SnapFault};
 use order_table::OrderName;
-use peer_side::Swept;
+use peer_heap::Swept;
 use std::alloc::AllocError;
 use std::sync::Wait;
 use std::thread::yield_now;
 
 impl<N: OrderName, K: Keeps<N>> Shared<N, K> {
-    /// The driver makes the entry of its open cycle's contraction, which has so many components and cross-references. Answers the entry's number. It
-    /// takes no memory.
+    /// The driver makes the entry of its open cycle's contraction, which has so many components and cross-references.
+    /// Answers the entry's number. It takes no memory.
     pub fn contracted(
         &self,
         rt: &impl Wait,
@@ -44,7 +45,8 @@ impl<N: OrderName, K: Keeps<N>> Shared<N, K> {
             .contracted(&self.order, &mut driver.seat, index, sccs, xrefs)
     }
 
-    /// The driver abandons its open cycle, which isn't mirrored yet: nothing is freed. Answers the entry's number. It takes no memory.
+    /// The driver abandons its open cycle, which isn't mirrored yet: nothing is freed. Answers the entry's number. It
+    /// takes no memory.
     pub fn abandon(&self, rt: &impl Wait, driver: &mut Caller<N>, index: u32) -> u64
         requires driver { IsDriver driver.old.thread }
         requires may { MayAbandonCycle driver.old.view index }
@@ -57,8 +59,9 @@ impl<N: OrderName, K: Keeps<N>> Shared<N, K> {
             .abandon(&self.order, &mut driver.seat, index)
     }
 
-    /// The driver resolves its open cycle by the answers of its restores, one for each candidate; the entry cites that of the clear. Answers the entry's
-    /// number, where the freed objects stand among all that were freed, and how many candidates were kept. It takes no memory.
+    /// The driver resolves its open cycle by the answers of its restores, one for each candidate; the entry cites that
+    /// of the clear. Answers the entry's number, where the freed objects stand among all that were freed, and how many
+    /// candidates were kept. It takes no memory.
     pub fn resolve(
         &self,
         rt: &impl Wait,
@@ -79,8 +82,9 @@ impl<N: OrderName, K: Keeps<N>> Shared<N, K> {
             .resolve(&self.order, &mut driver.seat, index, clear, alive)
     }
 
-    /// The driver's phase word is refused in its phase; nothing else changes. Answers the entry's number and the reply. Answers `AllocError` where there is
-    /// no memory, or where the entries would pass their limit: no entry is made then.
+    /// The driver's phase word is refused in its phase; nothing else changes. Answers the entry's number and the reply.
+    /// Answers `AllocError` where there is no memory, or where the entries would pass their limit: no entry is made
+    /// then.
     pub fn refused(
         &self,
         rt: &impl Wait,
@@ -101,8 +105,9 @@ impl<N: OrderName, K: Keeps<N>> Shared<N, K> {
             .refused(&self.order, &mut driver.seat, index, word, phase)
     }
 
-    /// The driver takes so many waiting notices, or all where there are fewer. Answers the entry's number and the reply. Answers `AllocError` where there is
-    /// no memory, or where the entries would pass their limit: no entry is made then.
+    /// The driver takes so many waiting notices, or all where there are fewer. Answers the entry's number and the
+    /// reply. Answers `AllocError` where there is no memory, or where the entries would pass their limit: no entry is
+    /// made then.
     pub fn finalise(
         &self,
         rt: &impl Wait,
@@ -123,7 +128,8 @@ impl<N: OrderName, K: Keeps<N>> Shared<N, K> {
             .finalise(&self.order, &mut driver.seat, index, count)
     }
 
-    // The driver tries once to take a snapshot. Answers `NotClosed` where readers are inside the gate: no entry is made then.
+    // The driver tries once to take a snapshot. Answers `NotClosed` where readers are inside the gate: no entry is made
+    // then.
     fn try_snap(
         &self,
         rt: &impl Wait,
@@ -143,9 +149,10 @@ impl<N: OrderName, K: Keeps<N>> Shared<N, K> {
             .snap(&self.order, &mut driver.seat, index)
     }
 
-    /// The driver takes a snapshot and opens the next cycle, as soon as no reader is inside the gate: where some are, the lock is given back and all is
-    /// tried again. Answers the cycle, its entry's number, and its dead part as a graph. Answers `OutOfMemory` where there is no memory, or no room for the
-    /// entries that the cycle owes: no entry is made then, and the gate is as it was. It answers nothing else.
+    /// The driver takes a snapshot and opens the next cycle, as soon as no reader is inside the gate: where some are,
+    /// the lock is given back and all is tried again. Answers the cycle, its entry's number, and its dead part as a
+    /// graph. Answers `OutOfMemory` where there is no memory, or no room for the entries that the cycle owes: no entry
+    /// is made then, and the gate is as it was. It answers nothing else.
     pub fn snap(
         &self,
         rt: &impl Wait,
@@ -168,8 +175,8 @@ impl<N: OrderName, K: Keeps<N>> Shared<N, K> {
         unreachable!()
     }
 
-    /// The driver weakens the handle of the next candidate of its cycle, whose snapshot is the entry with that number. Answers the entry's number. It
-    /// takes no memory, nor does any later call of the cycle.
+    /// The driver weakens the handle of the next candidate of its cycle, whose snapshot is the entry with that number.
+    /// Answers the entry's number. It takes no memory, nor does any later call of the cycle.
     pub fn weaken(
         &self,
         rt: &impl Wait,
@@ -189,8 +196,9 @@ impl<N: OrderName, K: Keeps<N>> Shared<N, K> {
             .weaken(&self.order, &mut driver.seat, index, snap, h)
     }
 
-    /// The driver, which has weakened all handles of its cycle, begins the cycle's own marking; one that a peer thread left open is ended first, in the
-    /// same hold of the peer lock, so the begin always gives a number. Answers that number and those of the entries. It takes no memory.
+    /// The driver, which has weakened all handles of its cycle, begins the cycle's own marking; one that a peer thread
+    /// left open is ended first, in the same hold of the peer lock, so the begin always gives a number. Answers that
+    /// number and those of the entries. It takes no memory.
     pub fn mark(&self, rt: &impl Wait, driver: &mut Caller<N>, index: u32) -> Begun
         requires driver { IsDriver driver.old.thread }
         requires may { MayMarkCycle driver.old.view index }
@@ -245,9 +253,9 @@ impl<N: OrderName, K: Keeps<N>> Shared<N, K> {
             .sweep(&self.order, &mut driver.seat, index)
     }
 
-    /// The driver ends its cycle's own marking: the peers that it doesn't reach are freed. Most of it is marked in slices, with the peer lock given back
-    /// after each, so no other thread waits for a whole marking. Answers the entry's number, the marking, and where the freed peers stand among all that
-    /// were freed. It takes no memory.
+    /// The driver ends its cycle's own marking: the peers that it doesn't reach are freed. Most of it is marked in
+    /// slices, with the peer lock given back after each, so no other thread waits for a whole marking. Answers the
+    /// entry's number, the marking, and where the freed peers stand among all that were freed. It takes no memory.
     pub fn sweep(&self, rt: &impl Wait, driver: &mut Caller<N>, index: u32) -> (u64, Swept)
         requires driver { IsDriver driver.old.thread }
         requires may { HasBegunMarking driver.old.view index }
@@ -258,8 +266,8 @@ impl<N: OrderName, K: Keeps<N>> Shared<N, K> {
         self.end_own(rt, driver, index)
     }
 
-    /// The driver restores the handle of the next candidate of its cycle: it leaves the table, and a new strong one on its peer comes for it unless that
-    /// was freed. Answers the entry's number and which. It takes no memory.
+    /// The driver restores the handle of the next candidate of its cycle: it leaves the table, and a new strong one on
+    /// its peer comes for it unless that was freed. Answers the entry's number and which. It takes no memory.
     pub fn restore(
         &self,
         rt: &impl Wait,
@@ -278,8 +286,8 @@ impl<N: OrderName, K: Keeps<N>> Shared<N, K> {
             .restore(&self.order, &mut driver.seat, index, h)
     }
 
-    /// The driver clears the references of its cycle, all of whose handles are restored: no reference is mirrored any more. Answers the entry's
-    /// number, which the cycle's resolve cites. It takes no memory.
+    /// The driver clears the references of its cycle, all of whose handles are restored: no reference is mirrored any
+    /// more. Answers the entry's number, which the cycle's resolve cites. It takes no memory.
     pub fn clear(&self, rt: &impl Wait, driver: &mut Caller<N>, index: u32, cycle: Cycle) -> u64
         requires driver { IsDriver driver.old.thread }
         requires may { MayClearCycle driver.old.view index cycle.0 }

@@ -9,8 +9,9 @@ pub struct Made {
     pub left: u32,
 }
 
-/// A finished run: its history, which is there for proofs alone, and the numbers of its last state: how many cycles were opened, how many objects of
-/// both heaps and how many handles were made, and how many of them aren't freed, or are in the table.
+/// A finished run: its history, which is there for proofs alone, and the numbers of its last state: how many cycles
+/// were opened, how many objects of both heaps and how many handles were made, and how many of them aren't freed, or
+/// are in the table.
 #[derive(Drop)]
 pub struct RunEnd {
     pub history: PastHistory,

@@ -1,12 +1,12 @@
 // At the end of a run the seats of all callers are taken into one.
 
 ghost use Rattle.std.specs.Prelude.{◌≡◌, ℕ, [], ◌∷◌, ◌++◌, length, All, Some, slice_get, Option};
-ghost use Rattle.joint_model.specs.Histories.{entry_lists};
-ghost use Rattle.joint_model.specs.HistoryLines.{caller_line};
-ghost use Rattle.joint_model.specs.Lines.{IsThread};
-ghost use Rattle.joint_model.specs.ManagedReplay.{ManagedReplay};
-ghost use Rattle.joint_model.specs.PeerReplay.{PeerReplay};
-ghost use Rattle.joint_model.specs.Sides.{Side};
+ghost use Rattle.joint_model.specs.Listed.{entry_lists};
+ghost use Rattle.joint_machine.specs.HistoryLines.{caller_line};
+ghost use Rattle.joint_machine.specs.Lines.{IsThread};
+ghost use Rattle.joint_machine.specs.ManagedReplay.{ManagedReplay};
+ghost use Rattle.joint_machine.specs.PeerReplay.{PeerReplay};
+ghost use Rattle.joint_machine.specs.Sides.{Side};
 ghost use Rattle.order_table.specs.Allowed.{Settled};
 ghost use Rattle.order_table.specs.Views.{Owns};
 ghost use Rattle.joint_history.specs.Callers.{Pass};
@@ -30,7 +30,8 @@ fn put_reads(lists: &mut [Entries; 10], thread: Thread, reads: Entries)
     }
 }
 
-// Takes in the seat of a thread that has come to rest, and puts the list of its reads at the place of its reader's line.
+// Takes in the seat of a thread that has come to rest, and puts the list of its reads at the place of its reader's
+// line.
 fn take_in<N: OrderName>(
     order: &Order,
     seat: &mut Seat,
@@ -97,7 +98,8 @@ pub(crate) fn gather_waiting<N: OrderName>(
     }
 }
 
-/// Takes in the other side's seat, the seats of the callers that were given out, and those of the callers that still wait.
+/// Takes in the other side's seat, the seats of the callers that were given out, and those of the callers that still
+/// wait.
 pub(crate) fn gather_all<N: OrderName>(
     order: &Order,
     seat: &mut Seat,

@@ -1,17 +1,17 @@
-// The driver's calls on the handles of its mirrored cycle, under the peer lock. Each makes one entry and takes no memory: what they want was reserved
-// before the cycle was mirrored.
+// The driver's calls on the handles of its mirrored cycle, under the peer lock. Each makes one entry and takes no
+// memory: what they want was reserved before the cycle was mirrored.
 
 ghost use Rattle.std.specs.Prelude.{◌≡◌, ◌≤◌, None, Some};
-ghost use Rattle.joint_model.specs.declared.names.Thread.TheVariants.{C};
-ghost use Rattle.joint_model.specs.declared.events.Op.TheVariants as op;
-ghost use Rattle.joint_model.specs.declared.events.Reply.TheVariants as says;
-ghost use Rattle.joint_model.specs.PeerReplay.{MayClear, MayRestore, MayWeaken};
-ghost use Rattle.joint_model.specs.Sides.{peer_rules};
-ghost use Rattle.joint_model.specs.Told.{nothing};
+ghost use Rattle.joint_machine.specs.declared.names.Thread.TheVariants.{C};
+ghost use Rattle.joint_machine.specs.declared.events.Op.TheVariants as op;
+ghost use Rattle.joint_machine.specs.declared.events.Reply.TheVariants as says;
+ghost use Rattle.joint_machine.specs.PeerReplay.{MayClear, MayRestore, MayWeaken};
+ghost use Rattle.joint_machine.specs.Sides.{peer_rules};
+ghost use Rattle.joint_machine.specs.Told.{nothing};
 ghost use Rattle.order_table.specs.Allowed.{Settled};
-ghost use Rattle.peer_side.specs.Cycles.{reply_of, reserve_left, reserve_over};
-ghost use Rattle.peer_side.specs.Mirrors.{AreTargetsRestored};
-ghost use Rattle.peer_side.specs.Sides.{seen};
+ghost use Rattle.peer_heap.specs.Cycles.{reply_of, reserve_left, reserve_over};
+ghost use Rattle.peer_heap.specs.Mirrors.{AreTargetsRestored};
+ghost use Rattle.peer_heap.specs.Sides.{seen};
 ghost use Rattle.joint_history.specs.Callers.{HoldsPass};
 ghost use Rattle.joint_history.specs.Driven.{driver_entry};
 ghost use Rattle.joint_history.specs.DriverHandles.{MakesClear, MakesRestore, MakesWeaken, MayClearCycle, MayRestoreHandle, MayWeakenHandle};
@@ -21,9 +21,11 @@ ghost use Rattle.seat_calls.specs.Passing.{MayAppend};
 
 use crate::peer::LockedPeer;
 use global_handles::Back;
+use handle_weaken::{restore_one, weaken_one};
 use joint_model::{Cycle, HNum, Thread};
 use order_table::{Order, OrderName, Role, Seat};
-use peer_side::PeerSide;
+use peer_heap::PeerSide;
+use peer_mirror::clear;
 use seat_calls::{SeatDrawing, give_back, lend};
 
 // The side draws the weakening of a handle by the seat.
@@ -52,7 +54,7 @@ fn draw_weaken(
         first: None,
         last: 0,
     };
-    side.weaken(&mut drawing, index, snap, h);
+    weaken_one(side, &mut drawing, index, snap, h);
     drawing.last
 }
 
@@ -80,7 +82,7 @@ fn draw_restore(
         first: None,
         last: 0,
     };
-    let back = side.restore(&mut drawing, index, h);
+    let back = restore_one(side, &mut drawing, index, h);
     (drawing.last, back)
 }
 
@@ -103,13 +105,13 @@ fn draw_clear(side: &mut PeerSide, order: &Order, seat: &mut Seat, index: u32, c
         first: None,
         last: 0,
     };
-    side.clear_refs(&mut drawing, index, cycle);
+    clear(side, &mut drawing, index, cycle);
     drawing.last
 }
 
 impl<N: OrderName> LockedPeer<N> {
-    /// Weakens the handle of the next candidate of the driver's cycle, whose snapshot is the entry with that number. Answers the entry's number.
-    /// `mine` is the driver's seat, which knows the entry then. It takes no memory.
+    /// Weakens the handle of the next candidate of the driver's cycle, whose snapshot is the entry with that number.
+    /// Answers the entry's number. `mine` is the driver's seat, which knows the entry then. It takes no memory.
     pub(crate) fn weaken(
         &mut self,
         order: &Order,
@@ -133,8 +135,9 @@ impl<N: OrderName> LockedPeer<N> {
         made
     }
 
-    /// Restores the handle of the next candidate of the driver's cycle: it leaves the table, and a new strong one on its peer comes for it unless that
-    /// was freed. Answers the entry's number and which. `mine` is the driver's seat, which knows the entry then. It takes no memory.
+    /// Restores the handle of the next candidate of the driver's cycle: it leaves the table, and a new strong one on
+    /// its peer comes for it unless that was freed. Answers the entry's number and which. `mine` is the driver's seat,
+    /// which knows the entry then. It takes no memory.
     pub(crate) fn restore(
         &mut self,
         order: &Order,
@@ -157,8 +160,8 @@ impl<N: OrderName> LockedPeer<N> {
         made
     }
 
-    /// Clears the references of the driver's cycle, all of whose handles are restored. Answers the entry's number. `mine` is the driver's seat, which
-    /// knows the entry then. It takes no memory.
+    /// Clears the references of the driver's cycle, all of whose handles are restored. Answers the entry's number.
+    /// `mine` is the driver's seat, which knows the entry then. It takes no memory.
     pub(crate) fn clear(&mut self, order: &Order, mine: &mut Seat, index: u32, cycle: Cycle) -> u64
         requires order { (order.now ≡ N.order) × (mine.old.order ≡ N.order) }
         requires settled { Settled mine.old.view }

@@ -1,35 +1,35 @@
 // The managed side under its lock.
 
 ghost use Rattle.std.specs.Prelude.{◌≡◌, ◌<◌, ◌≤◌, ◌+◌, ℕ, [], IfOk, None, OnErr};
-ghost use Rattle.joint_model.specs.declared.events.Op.TheVariants as op;
-ghost use Rattle.joint_model.specs.Draws.{numbered};
-ghost use Rattle.joint_model.specs.HistoryLines.{caller_line};
-ghost use Rattle.joint_model.specs.Lines.{IsManagedThread, IsThread, IsVar};
-ghost use Rattle.joint_model.specs.ManagedReplay.{opening_replay};
-ghost use Rattle.joint_model.specs.Run.{thread_number};
-ghost use Rattle.joint_model.specs.Sides.{TakesManaged, managed_rules};
-ghost use Rattle.joint_model.specs.Told.{nothing};
+ghost use Rattle.joint_machine.specs.declared.events.Op.TheVariants as op;
+ghost use Rattle.joint_machine.specs.Draws.{numbered};
+ghost use Rattle.joint_machine.specs.HistoryLines.{caller_line};
+ghost use Rattle.joint_machine.specs.Lines.{IsManagedThread, IsThread, IsVar};
+ghost use Rattle.joint_machine.specs.ManagedReplay.{opening_replay};
+ghost use Rattle.joint_machine.specs.Run.{thread_number};
+ghost use Rattle.joint_machine.specs.Sides.{TakesManaged, managed_rules};
+ghost use Rattle.joint_machine.specs.Told.{nothing};
 ghost use Rattle.order_table.specs.Allowed.{Settled};
 ghost use Rattle.order_table.specs.Views.{Owns};
 ghost use Rattle.seat_calls.specs.Passing.{MayAppend};
 ghost use Rattle.weak_wait.specs.Reads.{IsRead};
-ghost use Rattle.managed_side.specs.Sides.{as_side};
-ghost use Rattle.managed_side.specs.Steps.{CitesRightly, IsFresh, IsManagedStep, take_op, weak_op};
+ghost use Rattle.managed_heap.specs.Sides.{as_side};
+ghost use Rattle.managed_heap.specs.Steps.{CitesRightly, IsFresh, IsManagedStep, take_op, weak_op};
 ghost use Rattle.joint_history.specs.Callers.{HoldsPass, KeepsReads, KnowsNothing, ReadsStay};
 ghost use Rattle.joint_history.specs.Knowing.{line_known};
 ghost use Rattle.joint_history.specs.Locked.{Drew, Makes, MakesNone, ManagedKnows, MayMake, StaysSeated, TakesPin, made_by};
 ghost use Rattle.joint_history.specs.Operations.{ReadsExactly};
 
 use joint_model::{Act, Cell, Entries, Holding, MNum, Op, Reply, Thread, Var};
-use managed_side::ManagedSide;
+use managed_heap::ManagedSide;
 use order_table::{Order, OrderName, Role, Seat};
 use seat_calls::{Lives, SeatDrawing, give_back, lend, own_pin, read_locked, settle_taken};
 use std::alloc::{AllocError, Global};
 use std::marker::{Model, PhantomData};
 use weak_wait::reply_of;
 
-/// The managed side with the seat that owns its role. The side is for as many threads as the run has. The seat knows a past, whose managed
-/// entries are the side's list and at whose end the managed side is as this one.
+/// The managed side with the seat that owns its role. The side is for as many threads as the run has. The seat knows a
+/// past, whose managed entries are the side's list and at whose end the managed side is as this one.
 #[derive(Drop)]
 pub struct LockedManaged<N: OrderName> {
     pub(crate) side: ManagedSide,
@@ -41,7 +41,7 @@ impl<N: OrderName> Model for LockedManaged<N> {
     ghost use Rattle.std.specs.Prelude.{◌≡◌};
     ghost use Rattle.order_table.specs.Allowed.{Settled};
     ghost use Rattle.order_table.specs.Views.{Owns};
-    ghost use Rattle.managed_side.specs.Sides.{as_side};
+    ghost use Rattle.managed_heap.specs.Sides.{as_side};
     ghost use Rattle.joint_history.specs.Locked.{ManagedKnows, UnderManaged};
 
     ghost Value = { UnderManaged };
@@ -58,7 +58,7 @@ pub(crate) struct LiveObjects<'a> {
 }
 
 impl<'a> Lives for LiveObjects<'a> {
-    ghost use Rattle.joint_model.specs.Heaps.{IsLive};
+    ghost use Rattle.joint_machine.specs.Heaps.{IsLive};
 
     ghost live = { λ l m. IsLive l.side.now.state.managed.heap m };
 
@@ -187,7 +187,8 @@ fn draw_take(
 }
 
 impl<N: OrderName> LockedManaged<N> {
-    /// The side without objects and entries, for the run's managed threads, with a seat that owns its role and knows no entry.
+    /// The side without objects and entries, for the run's managed threads, with a seat that owns its role and knows no
+    /// entry.
     pub(crate) fn new(
         alloc: Global,
         threads: u8,
@@ -217,7 +218,8 @@ impl<N: OrderName> LockedManaged<N> {
         (side, seat)
     }
 
-    /// Makes one event of a managed thread, and answers its entry's number and the reply. The caller's seat knows the entry then.
+    /// Makes one event of a managed thread, and answers its entry's number and the reply. The caller's seat knows the
+    /// entry then.
     #[inline(always)]
     pub(crate) fn step(
         &mut self,
@@ -255,8 +257,8 @@ impl<N: OrderName> LockedManaged<N> {
         made
     }
 
-    /// Makes `take V` of a managed thread, whose pin is emptied, and answers its entry's number and the reply. The caller's seat knows the entry
-    /// then. Answers `AllocError` where there is no memory, and no entry is made then.
+    /// Makes `take V` of a managed thread, whose pin is emptied, and answers its entry's number and the reply. The
+    /// caller's seat knows the entry then. Answers `AllocError` where there is no memory, and no entry is made then.
     pub(crate) fn take(
         &mut self,
         order: &Order,
@@ -284,8 +286,9 @@ impl<N: OrderName> LockedManaged<N> {
         made
     }
 
-    /// Makes `weak K V` of a managed thread, and answers its entry's number and the reply. Where it sets the cell, the cell's word is stored in the same
-    /// hold of the lock. The caller's seat knows the entry then. Answers `AllocError` where there is no memory, and no entry is made then.
+    /// Makes `weak K V` of a managed thread, and answers its entry's number and the reply. Where it sets the cell, the
+    /// cell's word is stored in the same hold of the lock. The caller's seat knows the entry then. Answers `AllocError`
+    /// where there is no memory, and no entry is made then.
     pub(crate) fn weak(
         &mut self,
         order: &Order,
@@ -315,8 +318,9 @@ impl<N: OrderName> LockedManaged<N> {
         made
     }
 
-    /// Reads a cell for a managed thread by the locked seat, which knows the whole managed list: so the answer is what that list gives. The entry stands in
-    /// the thread's own list, which has room for it. Answers the entry's number and the reply. It takes no memory.
+    /// Reads a cell for a managed thread by the locked seat, which knows the whole managed list: so the answer is what
+    /// that list gives. The entry stands in the thread's own list, which has room for it. Answers the entry's number
+    /// and the reply. It takes no memory.
     pub(crate) fn read(
         &mut self,
         order: &Order,

@@ -1,14 +1,15 @@
-// The driver's marking under the peer lock. A begin of the driver always gives a number: whatever marking a peer thread left open is ended in the same
-// hold of the lock, and the memory was reserved before the cycle was mirrored. Its own marking goes on in slices, one in each hold.
+// The driver's marking under the peer lock. A begin of the driver always gives a number: whatever marking a peer thread
+// left open is ended in the same hold of the lock, and the memory was reserved before the cycle was mirrored. Its own
+// marking goes on in slices, one in each hold.
 
 ghost use Rattle.std.specs.Prelude.{◌≡◌, ◌⊎◌, ℕ, IsSome, None, true};
-ghost use Rattle.joint_model.specs.declared.names.Thread.TheVariants.{C};
-ghost use Rattle.joint_model.specs.declared.events.Op.TheVariants as op;
-ghost use Rattle.joint_model.specs.declared.events.Reply.TheVariants as says;
-ghost use Rattle.joint_model.specs.Sides.{peer_rules};
-ghost use Rattle.joint_model.specs.Told.{nothing};
+ghost use Rattle.joint_machine.specs.declared.names.Thread.TheVariants.{C};
+ghost use Rattle.joint_machine.specs.declared.events.Op.TheVariants as op;
+ghost use Rattle.joint_machine.specs.declared.events.Reply.TheVariants as says;
+ghost use Rattle.joint_machine.specs.Sides.{peer_rules};
+ghost use Rattle.joint_machine.specs.Told.{nothing};
 ghost use Rattle.order_table.specs.Allowed.{Settled};
-ghost use Rattle.peer_side.specs.Sides.{IsDrivers, is_own, reserve_begun, seen};
+ghost use Rattle.peer_heap.specs.Sides.{IsDrivers, is_own, reserve_begun, seen};
 ghost use Rattle.joint_history.specs.Callers.{HoldsPass};
 ghost use Rattle.joint_history.specs.Driven.{DriverMakesNone, driver_entry};
 ghost use Rattle.joint_history.specs.DriverMarks.{DrawsSweep, EndsFirst, HasBegunMarking, MakesBegin, MakesMark, MakesSweep, MayBeginMarking, MayEndMarking, MayMarkCycle};
@@ -19,13 +20,14 @@ ghost use Rattle.seat_calls.specs.Passing.{MayAppend};
 use crate::peer::LockedPeer;
 use joint_model::{Marking, Thread};
 use order_table::{Order, OrderName, Role, Seat};
-use peer_side::{PeerSide, SliceEnd, Swept};
+use peer_heap::{PeerSide, SliceEnd, Swept};
 use seat_calls::{SeatDrawing, give_back, lend};
 
 // How many peers the driver blackens in one hold of the peer lock.
 const SLICE: u32 = 64;
 
-/// A marking that the driver began, with its entry's number; and the marking that was open before and was ended, with the number of that entry.
+/// A marking that the driver began, with its entry's number; and the marking that was open before and was ended, with
+/// the number of that entry.
 #[derive(Drop)]
 pub struct Begun {
     pub ended: Option<(u64, Swept)>,
@@ -33,7 +35,8 @@ pub struct Begun {
     pub marking: Marking,
 }
 
-// The side blackens the next peers of its open marking, which the driver began. Answers whether none is left. It makes no entry and takes no memory.
+// The side blackens the next peers of its open marking, which the driver began. Answers whether none is left. It makes
+// no entry and takes no memory.
 fn blacken(side: &mut PeerSide) -> bool
     requires open { IsSome side.old.state.marking }
     requires own { IsDrivers side.old.state.marking }
@@ -70,7 +73,8 @@ fn draw_sweep(side: &mut PeerSide, order: &Order, seat: &mut Seat, index: u32) -
     }
 }
 
-// The side draws a begin by the seat. No marking is open, and the room for the mirrored cycle's own is reserved: so it takes no memory.
+// The side draws a begin by the seat. No marking is open, and the room for the mirrored cycle's own is reserved: so it
+// takes no memory.
 fn draw_begin(side: &mut PeerSide, order: &Order, seat: &mut Seat, index: u32) -> (u64, Marking)
     requires closed { side.old.state.marking ≡ None }
     requires reserved { side.old.reserve.marking ≡ true }
@@ -96,8 +100,9 @@ fn draw_begin(side: &mut PeerSide, order: &Order, seat: &mut Seat, index: u32) -
 }
 
 impl<N: OrderName> LockedPeer<N> {
-    /// Ends the open marking, which is the cycle's own or one that a peer thread left open, and answers the entry's number, the marking, and where the
-    /// peers that it freed stand among all that were freed. `mine` is the driver's seat, which knows the entry then. It takes no memory.
+    /// Ends the open marking, which is the cycle's own or one that a peer thread left open, and answers the entry's
+    /// number, the marking, and where the peers that it freed stand among all that were freed. `mine` is the driver's
+    /// seat, which knows the entry then. It takes no memory.
     pub(crate) fn sweep(&mut self, order: &Order, mine: &mut Seat, index: u32) -> (u64, Swept)
         requires order { (order.now ≡ N.order) × (mine.old.order ≡ N.order) }
         requires settled { Settled mine.old.view }
@@ -116,7 +121,8 @@ impl<N: OrderName> LockedPeer<N> {
         out
     }
 
-    /// Blackens the next peers of the cycle's own marking, at most 64, and answers whether none is left. It makes no entry and takes no memory.
+    /// Blackens the next peers of the cycle's own marking, at most 64, and answers whether none is left. It makes no
+    /// entry and takes no memory.
     pub(crate) fn slice(&mut self, order: &Order, mine: &mut Seat) -> bool
         requires order { (order.now ≡ N.order) × (mine.old.order ≡ N.order) }
         requires settled { Settled mine.old.view }
@@ -169,8 +175,8 @@ impl<N: OrderName> LockedPeer<N> {
         Some(self.sweep(order, mine, index))
     }
 
-    /// Begins the driver's own marking, after it has ended one that a peer thread left open; so the begin always gives a number. `mine` is the driver's
-    /// seat, which knows the entries then. It takes no memory.
+    /// Begins the driver's own marking, after it has ended one that a peer thread left open; so the begin always gives
+    /// a number. `mine` is the driver's seat, which knows the entries then. It takes no memory.
     pub(crate) fn mark(&mut self, order: &Order, mine: &mut Seat, index: u32) -> Begun
         requires order { (order.now ≡ N.order) × (mine.old.order ≡ N.order) }
         requires settled { Settled mine.old.view }

@@ -1,7 +1,7 @@
 // The driver's mirror on a shared bridge.
 
 ghost use Rattle.std.specs.Prelude.{◌≡◌, IfOk, OnErr};
-ghost use Rattle.joint_model.specs.Lines.{IsDriver};
+ghost use Rattle.joint_machine.specs.Lines.{IsDriver};
 ghost use Rattle.joint_history.specs.Driven.{DriverMakesNone};
 ghost use Rattle.joint_history.specs.DriverMirrors.{MakesMirror, MayMirrorCycle};
 
@@ -16,12 +16,12 @@ use std::sync::Wait;
 use xref_list::Components;
 
 impl<N: OrderName, K: Keeps<N>> Shared<N, K> {
-    /// The driver, which has contracted its cycle to these components of the graph of its dead part, mirrors it: the mirror edges come to stand as
-    /// references between the peers, all at once. The cycle's snapshot is the entry with that number. Answers the entry's number, and how many references
-    /// there are.
+    /// The driver, which has contracted its cycle to these components of the graph of its dead part, mirrors it: the
+    /// mirror edges come to stand as references between the peers, all at once. The cycle's snapshot is the entry with
+    /// that number. Answers the entry's number, and how many references there are.
     ///
-    /// All memory that the cycle wants on the peer side from here on is taken first. Answers `AllocError` where there is none: no entry is made then, and
-    /// the cycle may be mirrored again or abandoned.
+    /// All memory that the cycle wants on the peer side from here on is taken first. Answers `AllocError` where there
+    /// is none: no entry is made then, and the cycle may be mirrored again or abandoned.
     pub fn mirror(
         &self,
         rt: &impl Wait,

@@ -1,15 +1,15 @@
 // The driver's mirror under the peer lock: the references wait and come to stand in one hold of it.
 
 ghost use Rattle.std.specs.Prelude.{◌≡◌, length, [], IfOk, OnErr, OnOk, Some};
-ghost use Rattle.joint_model.specs.declared.names.Thread.TheVariants.{C};
-ghost use Rattle.joint_model.specs.declared.events.Op.TheVariants as op;
-ghost use Rattle.joint_model.specs.declared.events.Reply.TheVariants as says;
-ghost use Rattle.joint_model.specs.Components.{mirror_edges};
-ghost use Rattle.joint_model.specs.PeerReplay.{MayMirror};
+ghost use Rattle.joint_machine.specs.declared.names.Thread.TheVariants.{C};
+ghost use Rattle.joint_machine.specs.declared.events.Op.TheVariants as op;
+ghost use Rattle.joint_machine.specs.declared.events.Reply.TheVariants as says;
+ghost use Rattle.joint_machine.specs.Components.{mirror_edges};
+ghost use Rattle.joint_machine.specs.PeerReplay.{MayMirror};
 ghost use Rattle.order_table.specs.Allowed.{Settled};
 ghost use Rattle.bridge_graph.specs.Handles.{handles_of};
 ghost use Rattle.bridge_graph.specs.Parts.{IsPart};
-ghost use Rattle.peer_side.specs.Sides.{seen};
+ghost use Rattle.peer_heap.specs.Sides.{seen};
 ghost use Rattle.peer_mirror.specs.Carried.{AreBridgeNodes, AreHandlesStrong, reserve_installed};
 ghost use Rattle.xref_list.specs.Listing.{IsListing};
 ghost use Rattle.joint_history.specs.Callers.{HoldsPass};
@@ -23,8 +23,8 @@ use crate::peer::LockedPeer;
 use bridge_graph::DeadGraph;
 use joint_model::{Cycle, Thread};
 use order_table::{Order, OrderName, Role, Seat};
+use peer_heap::PeerSide;
 use peer_mirror::install;
-use peer_side::PeerSide;
 use seat_calls::{SeatDrawing, give_back, lend};
 use std::alloc::AllocError;
 use xref_list::Components;
@@ -68,9 +68,10 @@ fn draw_mirror(
 }
 
 impl<N: OrderName> LockedPeer<N> {
-    /// Mirrors the driver's cycle, which is contracted to these components of the graph of its dead part, and whose snapshot is the entry with that number.
-    /// Answers the entry's number, and how many references stand then. `mine` is the driver's seat, which knows the entry then. Answers `AllocError` where
-    /// there is no memory for what the cycle wants here from now on: no entry is made then.
+    /// Mirrors the driver's cycle, which is contracted to these components of the graph of its dead part, and whose
+    /// snapshot is the entry with that number. Answers the entry's number, and how many references stand then. `mine`
+    /// is the driver's seat, which knows the entry then. Answers `AllocError` where there is no memory for what the
+    /// cycle wants here from now on: no entry is made then.
     pub(crate) fn mirror(
         &mut self,
         order: &Order,

@@ -1,12 +1,12 @@
-// The operations of managed and peer threads: one event after another, each under its own side's lock, and each but the first cites the one
-// before it. No two locks are held together. A caller's seat is the note between them: after an event it knows the entry, and hands it to the
-// other side's seat with its pass.
+// The operations of managed and peer threads: one event after another, each under its own side's lock, and each but the
+// first cites the one before it. No two locks are held together. A caller's seat is the note between them: after an
+// event it knows the entry, and hands it to the other side's seat with its pass.
 
 ghost use Rattle.std.specs.Prelude.{◌≡◌, ◌≤◌, [], IfOk, IsOk, OnErr, false};
-ghost use Rattle.joint_model.specs.declared.lines.Act.{Act};
-ghost use Rattle.joint_model.specs.Lines.{IsLine, IsManagedThread, IsPeerThread, is_peer_event};
+ghost use Rattle.joint_machine.specs.declared.lines.Act.{Act};
+ghost use Rattle.joint_machine.specs.Lines.{IsLine, IsManagedThread, IsPeerThread, is_peer_event};
 ghost use Rattle.order_table.specs.Allowed.{Settled};
-ghost use Rattle.peer_side.specs.Steps.{IsRelease};
+ghost use Rattle.peer_heap.specs.Steps.{IsRelease};
 ghost use Rattle.joint_history.specs.Callers.{HoldsPass, IsOfRun, KeepsReads, last_index, own};
 ghost use Rattle.joint_history.specs.Collecting.{Collects};
 ghost use Rattle.joint_history.specs.Locked.{MayMake, Makes, MakesNone};
@@ -144,7 +144,8 @@ fn is_of_peers(t: Thread, op: &Op) -> bool
 }
 
 impl<N: OrderName, K: Keeps<N>> Shared<N, K> {
-    // Makes one event of the managed side's list, or a read, under the managed lock, and answers its entry's number and the reply.
+    // Makes one event of the managed side's list, or a read, under the managed lock, and answers its entry's number and
+    // the reply.
     #[inline(always)]
     fn managed_event(
         &self,
@@ -198,8 +199,8 @@ impl<N: OrderName, K: Keeps<N>> Shared<N, K> {
         }
     }
 
-    // Makes one event, the managed side's or a read under the managed lock and all others under the peer lock, and answers its entry's number and the
-    // reply.
+    // Makes one event, the managed side's or a read under the managed lock and all others under the peer lock, and
+    // answers its entry's number and the reply.
     #[inline(always)]
     fn event(
         &self,
@@ -289,10 +290,11 @@ impl<N: OrderName, K: Keeps<N>> Shared<N, K> {
         })
     }
 
-    /// Runs an operation of a managed thread, on a script line that isn't below that of the caller's last entry. Its events are made one after
-    /// another, each under its own side's lock, and the caller knows them afterwards. Answers `AllocError` where there is no memory: nothing was
-    /// made then, or the first event alone, whose entry stands (after a make or a grip the new handle stays, held by no object). Of `dispose` either
-    /// both events are made or none.
+    /// Runs an operation of a managed thread, on a script line that isn't below that of the caller's last entry. Its
+    /// events are made one after another, each under its own side's lock, and the caller knows them afterwards. Answers
+    /// `AllocError` where there is no memory: nothing was made then, or the first event alone, whose entry stands
+    /// (after a make or a grip the new handle stays, held by no object). Of `dispose` either both events are made or
+    /// none.
     #[inline(always)]
     pub fn managed(
         &self,
@@ -319,9 +321,11 @@ impl<N: OrderName, K: Keeps<N>> Shared<N, K> {
         )
     }
 
-    /// Runs an operation of a peer thread, on a script line that isn't below that of the caller's last entry. The caller knows its entries
-    /// afterwards. An operation is one event, but a `collect` is a begin and, if that gave a number, the sweep of that marking, made in one hold
-    /// of the peer lock. A marking that a `begin` opens stays open until its thread's `sweep`, or until the driver ends it. Answers `AllocError` where there is no memory, and no entry is made then.
+    /// Runs an operation of a peer thread, on a script line that isn't below that of the caller's last entry. The
+    /// caller knows its entries afterwards. An operation is one event, but a `collect` is a begin and, if that gave a
+    /// number, the sweep of that marking, made in one hold of the peer lock. A marking that a `begin` opens stays open
+    /// until its thread's `sweep`, or until the driver ends it. Answers `AllocError` where there is no memory, and no
+    /// entry is made then.
     #[inline(always)]
     pub fn peer(
         &self,

@@ -1,15 +1,15 @@
 // The peer side under its lock.
 
 ghost use Rattle.std.specs.Prelude.{◌≡◌, ◌≤◌, ℕ, IfOk, IsOk, OnErr};
-ghost use Rattle.joint_model.specs.Draws.{numbered};
-ghost use Rattle.joint_model.specs.Lines.{IsThread};
-ghost use Rattle.joint_model.specs.PeerReplay.{PeerAllows};
-ghost use Rattle.joint_model.specs.Sides.{TakesPeer, peer_rules};
-ghost use Rattle.joint_model.specs.Told.{nothing};
+ghost use Rattle.joint_machine.specs.Draws.{numbered};
+ghost use Rattle.joint_machine.specs.Lines.{IsThread};
+ghost use Rattle.joint_machine.specs.PeerReplay.{PeerAllows};
+ghost use Rattle.joint_machine.specs.Sides.{TakesPeer, peer_rules};
+ghost use Rattle.joint_machine.specs.Told.{nothing};
 ghost use Rattle.order_table.specs.Allowed.{Settled};
 ghost use Rattle.order_table.specs.Views.{Owns};
-ghost use Rattle.peer_side.specs.Sides.{opening_side, seen};
-ghost use Rattle.peer_side.specs.Steps.{IsPeerStep, IsRelease};
+ghost use Rattle.peer_heap.specs.Sides.{opening_side, seen};
+ghost use Rattle.peer_heap.specs.Steps.{IsPeerStep, IsRelease};
 ghost use Rattle.joint_history.specs.Callers.{HoldsPass, KnowsNothing, ReadsStay};
 ghost use Rattle.joint_history.specs.Knowing.{line_known};
 ghost use Rattle.joint_history.specs.Locked.{Drew, Makes, MakesNone, MayMake, PeerKnows, StaysSeated, made_by};
@@ -19,14 +19,14 @@ ghost use Rattle.seat_calls.specs.Passing.{MayAppend};
 use crate::peer_marks::{draw_mark, draw_slice, is_mark, slice_count};
 use joint_model::{Holding, Op, Reply, Thread};
 use order_table::{Order, OrderName, Role, Seat};
-use peer_side::PeerSide;
+use peer_heap::PeerSide;
 use seat_calls::{SeatDrawing, give_back, lend};
 use std::alloc::{AllocError, Global};
 use std::marker::{Model, PhantomData};
 
-/// The peer side with the seat that owns its role. The side is for as many threads as the run has. The seat knows a past, whose peer entries
-/// are the side's list and at whose end the peer side is as this one. While the lock is free no reference waits, and what the mirrored cycle will
-/// weaken and mark is reserved.
+/// The peer side with the seat that owns its role. The side is for as many threads as the run has. The seat knows a
+/// past, whose peer entries are the side's list and at whose end the peer side is as this one. While the lock is free
+/// no reference waits, and what the mirrored cycle will weaken and mark is reserved.
 #[derive(Drop)]
 pub struct LockedPeer<N: OrderName> {
     pub(crate) side: PeerSide,
@@ -39,7 +39,7 @@ impl<N: OrderName> Model for LockedPeer<N> {
     ghost use Rattle.order_table.specs.Allowed.{Settled};
     ghost use Rattle.order_table.specs.Views.{Owns};
     ghost use Rattle.joint_history.specs.Locked.{PeerKnows, PeerReserves, UnderPeer};
-    ghost use Rattle.peer_side.specs.Sides.{seen};
+    ghost use Rattle.peer_heap.specs.Sides.{seen};
 
     ghost Value = { UnderPeer };
 
@@ -116,7 +116,8 @@ fn draw_event(
 }
 
 impl<N: OrderName> LockedPeer<N> {
-    /// The side on which nothing was made, for the run's peer threads, with a seat that owns its role and knows no entry.
+    /// The side on which nothing was made, for the run's peer threads, with a seat that owns its role and knows no
+    /// entry.
     pub(crate) fn new(
         alloc: Global,
         threads: u8,
@@ -146,8 +147,8 @@ impl<N: OrderName> LockedPeer<N> {
         (side, seat)
     }
 
-    /// Makes one event of a thread, and answers its entry's number and the reply. The caller's seat knows the entry then. Answers `AllocError`
-    /// where there is no memory, and no entry is made then; a release takes none.
+    /// Makes one event of a thread, and answers its entry's number and the reply. The caller's seat knows the entry
+    /// then. Answers `AllocError` where there is no memory, and no entry is made then; a release takes none.
     #[inline(always)]
     pub(crate) fn step(
         &mut self,

@@ -1,14 +1,15 @@
-// A begin, a slice or a sweep of a peer thread, drawn by the peer side's seat: one event each, between which the thread's marking stays open.
+// A begin, a slice or a sweep of a peer thread, drawn by the peer side's seat: one event each, between which the
+// thread's marking stays open.
 
 ghost use Rattle.std.specs.Prelude.{◌≡◌, ◌≤◌, None, IfOk, MatchBool, OnErr};
-ghost use Rattle.joint_model.specs.declared.lines.Act.TheVariants as act;
-ghost use Rattle.joint_model.specs.declared.events.Op.TheVariants as op;
-ghost use Rattle.joint_model.specs.Draws.{numbered};
-ghost use Rattle.joint_model.specs.Lines.{IsPeerThread};
-ghost use Rattle.joint_model.specs.Sides.{TakesPeer};
+ghost use Rattle.joint_machine.specs.declared.lines.Act.TheVariants as act;
+ghost use Rattle.joint_machine.specs.declared.events.Op.TheVariants as op;
+ghost use Rattle.joint_machine.specs.Draws.{numbered};
+ghost use Rattle.joint_machine.specs.Lines.{IsPeerThread};
+ghost use Rattle.joint_machine.specs.Sides.{TakesPeer};
 ghost use Rattle.order_table.specs.Allowed.{Settled};
-ghost use Rattle.peer_side.specs.Makings.{IsMarkEvent};
-ghost use Rattle.peer_side.specs.Sides.{seen};
+ghost use Rattle.peer_heap.specs.Makings.{IsMarkEvent};
+ghost use Rattle.peer_heap.specs.Sides.{seen};
 ghost use Rattle.joint_history.specs.Knowing.{line_known};
 ghost use Rattle.joint_history.specs.Locked.{StaysSeated, made_by};
 ghost use Rattle.joint_history.specs.PeerCalls.{DrawsEvent, slice_count};
@@ -16,7 +17,7 @@ ghost use Rattle.seat_calls.specs.Passing.{MayAppend};
 
 use joint_model::{Act, Op, Reply, Thread};
 use order_table::{Order, Role, Seat};
-use peer_side::PeerSide;
+use peer_heap::PeerSide;
 use seat_calls::SeatDrawing;
 use std::alloc::AllocError;
 

@@ -1,12 +1,13 @@
 // Two sides beside one order.
 
 ghost use Rattle.std.specs.Prelude.{◌≡◌, ◌<◌, ◌≤◌, ◌^◌, [], length, All, IfOk};
-ghost use Rattle.joint_model.specs.Histories.{IsJoinable, IsShuffle, entry_lists};
-ghost use Rattle.joint_model.specs.Lines.{IsDriver, IsThread};
-ghost use Rattle.joint_model.specs.LinkedHistories.{IsLinked};
+ghost use Rattle.joint_machine.specs.Shuffles.{IsJoinable, IsShuffle};
+ghost use Rattle.joint_model.specs.Listed.{entry_lists};
+ghost use Rattle.joint_machine.specs.Lines.{IsDriver, IsThread};
+ghost use Rattle.joint_machine.specs.LinkedHistories.{IsLinked};
 ghost use Rattle.known_laws.specs.Lists.{made_by};
-ghost use Rattle.managed_side.specs.Sides.{as_side};
-ghost use Rattle.peer_side.specs.Sides.{seen};
+ghost use Rattle.managed_heap.specs.Sides.{as_side};
+ghost use Rattle.peer_heap.specs.Sides.{seen};
 ghost use Rattle.order_table.specs.Allowed.{Settled};
 ghost use Rattle.order_table.specs.Views.{Owns, OwnsAll};
 ghost use Rattle.joint_history.specs.Callers.{Hears, KnowsNothing, Tells};
@@ -22,13 +23,14 @@ use crate::keeping::{Keep, Keeps};
 use crate::managed::LockedManaged;
 use crate::peer::LockedPeer;
 use joint_model::{Entries, History, Holding, JoinFault, PastHistory, Thread};
-use managed_side::{ManagedLists, ManagedSide};
+use managed_heap::{ManagedLists, ManagedSide};
 use order_table::{Order, OrderName, Role, Seat};
-use peer_side::{PeerLists, PeerSide};
+use peer_heap::{PeerLists, PeerSide};
 use std::alloc::{AllocError, Global};
 
-/// Both sides, each with the seat that owns its role, and the order of all entries. No call has both sides in hand. `K` is how they are kept:
-/// [`Locks`](crate::Locks) where threads share them, [`Alone`](crate::Alone) where one thread has them alone.
+/// Both sides, each with the seat that owns its role, and the order of all entries. No call has both sides in hand. `K`
+/// is how they are kept: [`Locks`](crate::Locks) where threads share them, [`Alone`](crate::Alone) where one thread has
+/// them alone.
 #[derive(Drop)]
 pub struct Shared<N: OrderName, K: Keeps<N>> {
     pub(crate) alloc: Global,
@@ -82,8 +84,9 @@ fn join_past(left: ManagedLists, right: PeerLists, readers: [Entries; 10]) -> Pa
 }
 
 impl<N: OrderName, K: Keeps<N>> Shared<N, K> {
-    /// Both sides without objects and entries, each for the run's threads of its heap, and the desk at which their callers wait. The seat is
-    /// the one that came with the order. The lists of both sides and of the callers' reads hold their entries as they are told. Answers `AllocError` where there is no memory.
+    /// Both sides without objects and entries, each for the run's threads of its heap, and the desk at which their
+    /// callers wait. The seat is the one that came with the order. The lists of both sides and of the callers' reads
+    /// hold their entries as they are told. Answers `AllocError` where there is no memory.
     pub fn new(
         alloc: Global,
         order: Order,
@@ -137,8 +140,8 @@ impl<N: OrderName, K: Keeps<N>> Shared<N, K> {
         })
     }
 
-    /// Tells one caller all that another knows. It makes no entry, and takes no lock and no memory. Where the driver is told, it stands where
-    /// it stood.
+    /// Tells one caller all that another knows. It makes no entry, and takes no lock and no memory. Where the driver is
+    /// told, it stands where it stood.
     pub fn tell(&self, from: &mut Caller<N>, to: &mut Caller<N>)
         ensures from { Tells from.old from.new }
         ensures to { Hears from.old to.old to.new }
@@ -147,7 +150,8 @@ impl<N: OrderName, K: Keeps<N>> Shared<N, K> {
         tell(&self.order, from, to);
     }
 
-    // Takes the seats of both sides and of all callers into one, and puts the lists of reads at the places of their readers' lines.
+    // Takes the seats of both sides and of all callers into one, and puts the lists of reads at the places of their
+    // readers' lines.
     fn take_all(
         self,
         desk: Desk<N>,
@@ -171,10 +175,11 @@ impl<N: OrderName, K: Keeps<N>> Shared<N, K> {
         (managed_side, peer_side, lists)
     }
 
-    /// Ends the run: one history of all entries, which is linked, has all notices that were ever queued, and in which each caller has just the
-    /// entries that it made. Each thread's caller is still at the desk or is given back here, and the driver's is idle. Answers `OutOfMemory`
-    /// where there is no memory for the history, and `EntriesLetGo` where a list of a side or of a thread's reads let entries go, which none does
-    /// where `new` was told that lists hold every one.
+    /// Ends the run: one history of all entries, which is linked, has all notices that were ever queued, and in which
+    /// each caller has just the entries that it made. Each thread's caller is still at the desk or is given back here,
+    /// and the driver's is idle. Answers `OutOfMemory` where there is no memory for the history, and `EntriesLetGo`
+    /// where a list of a side or of a thread's reads let entries go, which none does where `new` was told that lists
+    /// hold every one.
     pub fn finish(self, desk: Desk<N>, callers: Vec<Caller<N>>) -> Result<History, JoinFault>
         requires all { HasAll desk callers.items }
         requires idle { All HasIdleDriver callers.items }
@@ -191,8 +196,8 @@ impl<N: OrderName, K: Keeps<N>> Shared<N, K> {
         join_lists(alloc, left.into_lists(), right.into_lists(), readers)
     }
 
-    /// Ends a run of which no entry is read: its history is that of `finish`, for proofs alone, and what is left of it are the numbers of its last
-    /// state. It takes no memory.
+    /// Ends a run of which no entry is read: its history is that of `finish`, for proofs alone, and what is left of it
+    /// are the numbers of its last state. It takes no memory.
     pub fn end(self, desk: Desk<N>, callers: Vec<Caller<N>>) -> RunEnd
         requires all { HasAll desk callers.items }
         requires idle { All HasIdleDriver callers.items }

@@ -1,15 +1,16 @@
-// The driver's snapshot under the managed lock. The side takes all memory that it needs, then has the gate closed, and then nothing fails.
+// The driver's snapshot under the managed lock. The side takes all memory that it needs, then has the gate closed, and
+// then nothing fails.
 
 ghost use Rattle.std.specs.Prelude.{◌≡◌, ◌⊎◌, ◌≤◌, ◌∷◌, ℕ, IfErr, IfOk, None, OnErr, Some, slice_get};
-ghost use Rattle.joint_model.specs.declared.names.Thread.TheVariants.{C};
-ghost use Rattle.joint_model.specs.HistoryLines.{caller_line};
+ghost use Rattle.joint_machine.specs.declared.names.Thread.TheVariants.{C};
+ghost use Rattle.joint_machine.specs.HistoryLines.{caller_line};
 ghost use Rattle.order_table.specs.Allowed.{Settled};
 ghost use Rattle.order_table.specs.Replies.{object_of};
 ghost use Rattle.order_table.specs.Views.{Owns};
 ghost use Rattle.view_laws.specs.Knowing.{pins_of};
-ghost use Rattle.managed_side.specs.Pinned.{pins_given};
-ghost use Rattle.managed_side.specs.Rows.{number_or_none};
-ghost use Rattle.managed_side.specs.Sides.{as_side};
+ghost use Rattle.managed_heap.specs.Pinned.{pins_given};
+ghost use Rattle.managed_heap.specs.Rows.{number_or_none};
+ghost use Rattle.managed_heap.specs.Sides.{as_side};
 ghost use Rattle.joint_history.specs.Callers.{HoldsPass};
 ghost use Rattle.joint_history.specs.Driven.{DriverMakesNone, DriverRests};
 ghost use Rattle.joint_history.specs.DriverSnaps.{DrawsSnapshot, MakesSnapshot};
@@ -17,7 +18,7 @@ ghost use Rattle.joint_history.specs.Locked.{ManagedKnows, StaysSeated};
 
 use crate::managed::{LiveObjects, LockedManaged};
 use joint_model::{Cycle, Draw, MNum, Made, Thread};
-use managed_side::{Closes, ManagedSide, Opened, Pins, SnapFault};
+use managed_heap::{Closes, ManagedSide, Opened, Pins, SnapFault};
 use order_table::{Order, OrderName, Role, Seat};
 use seat_calls::{append_paid, close_and_scan, give_back, lend, settle_opened};
 
@@ -53,7 +54,8 @@ fn pins_of(words: [u64; 8]) -> Pins
     }
 }
 
-/// The gate, for whoever has the seat that owns the managed list: it is closed for a snapshot, whose entry is drawn by the seat then.
+/// The gate, for whoever has the seat that owns the managed list: it is closed for a snapshot, whose entry is drawn by
+/// the seat then.
 #[derive(Drop)]
 pub(crate) struct SeatGate<'a> {
     order: &'a Order,
@@ -65,13 +67,12 @@ impl<'a> Draw for SeatGate<'a> {
     ghost use Rattle.order_table.specs.Views.{kept};
     ghost use Rattle.seat_calls.specs.Passing.{Appends, MayAppend, floor_of, left_in};
 
-    ghost floor = { λ g. floor_of g.seat.now.view };
-
-    ghost left = { λ g. left_in g.seat.now.view 0 };
-
-    ghost may = { λ g t o m. MayAppend g.order.now g.seat.now 0 t o m };
-
-    ghost drew = { λ g e m freed g'. (g'.seat.ghost_name ≡ g.seat.ghost_name) × Appends g.order.now g'.order.now g.seat.now g'.seat.now 0 (kept g.seat.now.view e.made m freed e.number) };
+    ghost rules = { record {
+      floor = λ g. floor_of g.seat.now.view;
+      left = λ g. left_in g.seat.now.view 0;
+      may = λ g t o m. MayAppend g.order.now g.seat.now 0 t o m;
+      drew = λ g e m freed g'. (g'.seat.ghost_name ≡ g.seat.ghost_name) × Appends g.order.now g'.order.now g.seat.now g'.seat.now 0 (kept g.seat.now.view e.made m freed e.number);
+    } };
 
     fn draw(&mut self, made: &Made, target: Option<MNum>, freed: &[MNum]) -> u64 {
         append_paid(self.order, self.seat, Role::Managed, made, target, freed)
@@ -98,7 +99,8 @@ impl<'a> Closes for SeatGate<'a> {
     }
 }
 
-// The side draws a snapshot's entry by the seat, with the gate closed for its cycle, and the cells of what it freed say so. No cycle is open.
+// The side draws a snapshot's entry by the seat, with the gate closed for its cycle, and the cells of what it freed say
+// so. No cycle is open.
 fn draw_snap(
     side: &mut ManagedSide,
     order: &Order,
@@ -123,9 +125,10 @@ fn draw_snap(
 }
 
 impl<N: OrderName> LockedManaged<N> {
-    /// Takes a snapshot and opens the next cycle, if no reader is inside the gate. Answers the cycle, its entry's number, and its dead part as a graph.
-    /// `mine` is the seat of the driver, which is idle, and knows the entry then. Answers `OutOfMemory` where there is no memory, or no room for the entries
-    /// that the cycle owes, and `NotClosed` where readers were inside: no entry is made then. It never answers `CycleOpen`.
+    /// Takes a snapshot and opens the next cycle, if no reader is inside the gate. Answers the cycle, its entry's
+    /// number, and its dead part as a graph. `mine` is the seat of the driver, which is idle, and knows the entry then.
+    /// Answers `OutOfMemory` where there is no memory, or no room for the entries that the cycle owes, and `NotClosed`
+    /// where readers were inside: no entry is made then. It never answers `CycleOpen`.
     pub(crate) fn snap(
         &mut self,
         order: &Order,

@@ -1,20 +1,20 @@
 -- The registry and the adopted handles stay kept. A handle that a new row takes was never adopted, so the row holds it
--- alone, and the row's number is new, so no pair has it. A row that gives its handle up leaves the registry with it. A row
--- that holds a handle is reached from itself, so no snapshot frees it.
+-- alone, and the row's number is new, so no pair has it. A row that gives its handle up leaves the registry with it. A
+-- row that holds a handle is reached from itself, so no snapshot frees it.
 use Rattle.std.proofs.Common.{◌≡◌, ◌≢◌, ℕ, ◌+◌, ◌⊎◌, inl, inr, Bool, true, false, List, [], ◌∷◌, ◌++◌, length, Option, Some, None, set, refl, sym, ap, subst, ◌∙◌, arith}
 use Rattle.std.specs.Prelude.{Contains, if◌then◌else◌}
 use Rattle.std.proofs.lemmas.Option.{same_Some}
 use Rattle.std.proofs.lemmas.List.Elements.{Contains-append_left, Contains-push, Contains-push_cases}
-use Rattle.joint_model.specs.declared.names.Kind.{Kind}
-use Rattle.joint_model.specs.declared.lines.Act.{Act}
-use Rattle.joint_model.specs.declared.events.Reply.TheVariants as says
-use Rattle.joint_model.specs.Heaps.{IsLive, answer, numbered_at, next_number, with_var}
-use Rattle.joint_model.specs.Managed.{Managed, Holds, IsBridge, managed_name, with_row, managed_line}
-use Rattle.joint_model.specs.ManagedReplay.{ManagedReplay, opening_replay, registered, with_twin, took_handle, adopt_by}
+use Rattle.joint_machine.specs.declared.names.Kind.{Kind}
+use Rattle.joint_machine.specs.declared.lines.Act.{Act}
+use Rattle.joint_machine.specs.declared.events.Reply.TheVariants as says
+use Rattle.joint_machine.specs.Heaps.{IsLive, answer, numbered_at, next_number, with_var}
+use Rattle.joint_machine.specs.Managed.{Managed, Holds, IsBridge, managed_name, with_row, managed_line}
+use Rattle.joint_machine.specs.ManagedReplay.{ManagedReplay, opening_replay, registered, with_twin, took_handle, adopt_by}
 use Rattle.joint_laws.specs.ManagedInvariants.{IsManagedKept, IsReplayKept}
-use Rattle.joint_model.proofs.Members.{Contains-nil}
-use Rattle.joint_model.proofs.Numbered.{numbered-within, numbered-push_cases, numbered-push_old, numbered-push_new}
-use Rattle.joint_model.proofs.Deciding.{none_some}
+use Rattle.joint_machine.proofs.Members.{Contains-nil}
+use Rattle.joint_machine.proofs.Numbered.{numbered-within, numbered-push_cases, numbered-push_old, numbered-push_new}
+use Rattle.joint_machine.proofs.Deciding.{none_some}
 use Rattle.joint_laws.proofs.Fields.{with_object-length}
 use Rattle.joint_laws.proofs.Registered.{registered-none}
 use Rattle.joint_laws.proofs.ManagedLines.{managed_line-keeps}

@@ -1,19 +1,19 @@
--- What the own sweep freed stays freed while the cycle is open, and no candidate comes to hold another handle: so what is
--- known behind the sweep is known after each further entry, whether it is a step of the joint machine or not.
+-- What the own sweep freed stays freed while the cycle is open, and no candidate comes to hold another handle: so what
+-- is known behind the sweep is known after each further entry, whether it is a step of the joint machine or not.
 use Rattle.std.proofs.Common.{◌≡◌, ℕ, inl, inr, List, [], ◌∷◌, ◌++◌, Some, sym, ap, subst, ◌∙◌}
 use Rattle.std.specs.Prelude.{Contains}
 use Rattle.std.proofs.lemmas.Option.{same_Some}
-use Rattle.joint_model.specs.Headline.{SweepsAt}
-use Rattle.joint_model.specs.Heaps.{IsMade}
-use Rattle.joint_model.specs.Linked.{Linkage, linkage_after}
-use Rattle.joint_model.specs.Managed.{OpenCycle, Holds}
-use Rattle.joint_model.specs.Peers.{Issued}
-use Rattle.joint_model.specs.Run.{Moment}
-use Rattle.joint_model.specs.Told.{Noted}
+use Rattle.joint_machine.specs.Headline.{SweepsAt}
+use Rattle.joint_machine.specs.Heaps.{IsMade}
+use Rattle.joint_machine.specs.Linked.{Linkage, linkage_after}
+use Rattle.joint_machine.specs.Managed.{OpenCycle, Holds}
+use Rattle.joint_machine.specs.Peers.{Issued}
+use Rattle.joint_machine.specs.Run.{Moment}
+use Rattle.joint_machine.specs.Told.{Noted}
 use Rattle.joint_laws.specs.LinkedInvariants.{IsRowOf}
 use Rattle.joint_laws.proofs.JointRuns.{Stands}
 use Rattle.joint_laws.proofs.JointSince.{peer-entry}
-use Rattle.joint_model.proofs.Members.{Contains-decided}
+use Rattle.joint_machine.proofs.Members.{Contains-decided}
 use Rattle.joint_laws.proofs.ManagedMoves.{GoesOn}
 use Rattle.joint_laws.proofs.MarkSteps.{IsSweptWatch, begin-more, made-front}
 use Rattle.joint_laws.proofs.PeerHeaps.{heap-entry}

@@ -1,24 +1,24 @@
--- At a resolution: a candidate that was never reached from its snapshot to the own sweep has a freed peer, so it doesn't stay;
--- so the cycle is complete.
+-- At a resolution: a candidate that was never reached from its snapshot to the own sweep has a freed peer, so it
+-- doesn't stay; so the cycle is complete.
 use Rattle.std.proofs.Common.{◌≡◌, ℕ, inl, inr, List, ◌++◌, length, sym, subst, ◌∙◌}
 use Rattle.std.specs.Prelude.{Contains}
 use Rattle.std.proofs.lemmas.Option.{same_Some, slice_get_within}
-use Rattle.joint_model.specs.Control.{OpenSnap}
-use Rattle.joint_model.specs.Cycles.{IsResolution, IsAnsweredAlive}
-use Rattle.joint_model.specs.Headline.{DriverBeginsAt, SweepsAt, IsMadeBefore, SnapsAt, IsUnreachedThroughout, IsCompleteCycle}
-use Rattle.joint_model.specs.Heaps.{IsMade}
-use Rattle.joint_model.specs.Joint.{object}
-use Rattle.joint_model.specs.Linked.{Linkage}
-use Rattle.joint_model.specs.Managed.{OpenCycle}
-use Rattle.joint_model.specs.Run.{Moment}
+use Rattle.joint_machine.specs.Control.{OpenSnap}
+use Rattle.joint_machine.specs.Cycles.{IsResolution, IsAnsweredAlive}
+use Rattle.joint_machine.specs.Headline.{DriverBeginsAt, SweepsAt, IsMadeBefore, SnapsAt, IsUnreachedThroughout, IsCompleteCycle}
+use Rattle.joint_machine.specs.Heaps.{IsMade}
+use Rattle.joint_machine.specs.Joint.{object}
+use Rattle.joint_machine.specs.Linked.{Linkage}
+use Rattle.joint_machine.specs.Managed.{OpenCycle}
+use Rattle.joint_machine.specs.Run.{Moment}
 use Rattle.joint_laws.specs.LinkedInvariants.{IsRestored}
 use Rattle.joint_laws.proofs.DriverSteps.{row_of, stays-unfreed}
 use Rattle.joint_laws.proofs.Journeys.{IsBehindSweep, snaps-more}
 use Rattle.joint_laws.proofs.JointRuns.{Stands}
-use Rattle.joint_model.proofs.Members.{Contains-decided}
+use Rattle.joint_machine.proofs.Members.{Contains-decided}
 use Rattle.joint_laws.proofs.MarkSteps.{IsSweptWatch}
 use Rattle.joint_laws.proofs.Watching.{get-front}
-use Rattle.joint_model.specs.Told.{Answer}
+use Rattle.joint_machine.specs.Told.{Answer}
 
 module _ (s : Linkage) (w : Stands s) (past more : List Moment) (o : OpenSnap) (answers : List Answer) (d : IsRestored s.managed s.peer o answers) (b : IsBehindSweep past s o)
     (resolved : List ℕ) (p : IsResolution s.managed.managed d.cycle.dead (IsAnsweredAlive d.cycle.candidates answers) resolved) where

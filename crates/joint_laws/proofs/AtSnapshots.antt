@@ -1,16 +1,16 @@
--- Just after a snapshot, where only the state after it has been seen: what was reached then leads to what was reached then;
--- and each bridge row that isn't a candidate was reached from a managed slot just before it, over rows that the snapshot
--- doesn't free, so it is reached after it.
+-- Just after a snapshot, where only the state after it has been seen: what was reached then leads to what was reached
+-- then; and each bridge row that isn't a candidate was reached from a managed slot just before it, over rows that the
+-- snapshot doesn't free, so it is reached after it.
 use Rattle.std.proofs.Common.{◌≡◌, ℕ, inl, inr, List, [], ◌∷◌, ◌++◌, length, sym, subst, arith, length-append}
 use Rattle.std.specs.Prelude.{Contains}
 use Rattle.std.proofs.lemmas.Option.{slice_get_within}
-use Rattle.joint_model.specs.Cycles.{IsSnapshot}
-use Rattle.joint_model.specs.Heaps.{IsLive}
-use Rattle.joint_model.specs.Joint.{Joint, Row, object, JointEdge, IsJointRoot, IsReached}
-use Rattle.joint_model.specs.Managed.{Managed, Holds, IsManagedRoot, ManagedEdge, IsManagedReached, with_snapshot}
-use Rattle.joint_model.specs.Run.{Moment}
-use Rattle.joint_model.proofs.WalkLemmas.{Reached-keeps, Reached-start, Reached-then}
-use Rattle.joint_model.proofs.HeapLemmas.{IsLive-before, IsLive-left}
+use Rattle.joint_machine.specs.Cycles.{IsSnapshot}
+use Rattle.joint_machine.specs.Heaps.{IsLive}
+use Rattle.joint_machine.specs.Joint.{Joint, Row, object, JointEdge, IsJointRoot, IsReached}
+use Rattle.joint_machine.specs.Managed.{Managed, Holds, IsManagedRoot, ManagedEdge, IsManagedReached, with_snapshot}
+use Rattle.joint_machine.specs.Run.{Moment}
+use Rattle.joint_machine.proofs.WalkLemmas.{Reached-keeps, Reached-start, Reached-then}
+use Rattle.joint_machine.proofs.HeapLemmas.{IsLive-before, IsLive-left}
 use Rattle.joint_laws.proofs.Watching.{IsSeen, WasSeen, IsWatched, push-cases, seen-now, last-now}
 
 -- what managed slots reach is reached

@@ -1,16 +1,16 @@
--- Just after the own sweep: it freed the peer of each candidate that was never reached since the snapshot, and each peer that
--- was made before its begin and never reached since the snapshot.
+-- Just after the own sweep: it freed the peer of each candidate that was never reached since the snapshot, and each
+-- peer that was made before its begin and never reached since the snapshot.
 use Rattle.std.proofs.Common.{◌≡◌, ℕ, ◌≤◌, List, [], ◌∷◌, ◌++◌, length, Some, sym, subst, arith}
 use Rattle.std.specs.Prelude.{Contains, slice_get}
 use Rattle.std.proofs.lemmas.Option.{slice_get_within}
-use Rattle.joint_model.specs.Headline.{SweepsAt, IsMadeBefore}
-use Rattle.joint_model.specs.Heaps.{IsMade}
-use Rattle.joint_model.specs.Joint.{Joint, object, peer, IsReached}
-use Rattle.joint_model.specs.Linked.{Linkage, linkage_after}
-use Rattle.joint_model.specs.Managed.{OpenCycle}
-use Rattle.joint_model.specs.PeerReplay.{Marking, IsSweep}
-use Rattle.joint_model.specs.Run.{Moment}
-use Rattle.joint_model.specs.Told.{Noted}
+use Rattle.joint_machine.specs.Headline.{SweepsAt, IsMadeBefore}
+use Rattle.joint_machine.specs.Heaps.{IsMade}
+use Rattle.joint_machine.specs.Joint.{Joint, object, peer, IsReached}
+use Rattle.joint_machine.specs.Linked.{Linkage, linkage_after}
+use Rattle.joint_machine.specs.Managed.{OpenCycle}
+use Rattle.joint_machine.specs.PeerReplay.{Marking, IsSweep}
+use Rattle.joint_machine.specs.Run.{Moment}
+use Rattle.joint_machine.specs.Told.{Noted}
 use Rattle.joint_laws.proofs.AfterSweeps.{candidate-before}
 use Rattle.joint_laws.proofs.JointRuns.{Stands, state_of, IsTraced}
 use Rattle.joint_laws.proofs.ManagedMoves.{GoesOn}

@@ -3,26 +3,26 @@ use Rattle.std.proofs.Common.{◌≡◌, ℕ, ◌+◌, ◌-◌, ◌<◌, ◌≤�
 use Rattle.std.specs.Prelude.{Contains, if◌then◌else◌, min, nat_lt}
 use Rattle.std.proofs.lemmas.Option.{same_Some}
 use Rattle.std.proofs.lemmas.List.Elements.{Contains-push_cases}
-use Rattle.joint_model.specs.declared.names.Thread.{Thread}
-use Rattle.joint_model.specs.declared.names.Thread.TheVariants.{M, P, C}
-use Rattle.joint_model.specs.declared.names.HNum.{HNum}
-use Rattle.joint_model.specs.declared.lines.Act.{Act}
-use Rattle.joint_model.specs.declared.lines.Act.TheVariants as act
-use Rattle.joint_model.specs.declared.events.Op.{Op}
-use Rattle.joint_model.specs.declared.events.Op.TheVariants as op
-use Rattle.joint_model.specs.declared.events.Reply.TheVariants as says
-use Rattle.joint_model.specs.declared.events.Made.{Made}
-use Rattle.joint_model.specs.Heaps.{Heap, InSlot, answer, slot, place}
-use Rattle.joint_model.specs.Lines.{IsEvent, is_peer_event}
-use Rattle.joint_model.specs.Linked.{Linkage, MayCome, linkage_after, peer_after}
-use Rattle.joint_model.specs.Peers.{landed, peer_read}
-use Rattle.joint_model.specs.PeerReplay.{PeerReplay, Marking, on_table, brings, untabled, peer_thread_line, is_thread, sliced, begun, swept_of, swept, mirrored, brought_to, peer_answer, table_target}
-use Rattle.joint_model.specs.Told.{Told, Noted, references_of, slice_of, sweep_of}
-use Rattle.joint_model.proofs.Deciding.{none_some}
+use Rattle.joint_machine.specs.declared.names.Thread.{Thread}
+use Rattle.joint_machine.specs.declared.names.Thread.TheVariants.{M, P, C}
+use Rattle.joint_machine.specs.declared.names.HNum.{HNum}
+use Rattle.joint_machine.specs.declared.lines.Act.{Act}
+use Rattle.joint_machine.specs.declared.lines.Act.TheVariants as act
+use Rattle.joint_machine.specs.declared.events.Op.{Op}
+use Rattle.joint_machine.specs.declared.events.Op.TheVariants as op
+use Rattle.joint_machine.specs.declared.events.Reply.TheVariants as says
+use Rattle.joint_machine.specs.declared.events.Made.{Made}
+use Rattle.joint_machine.specs.Heaps.{Heap, InSlot, answer, slot, place}
+use Rattle.joint_machine.specs.Lines.{IsEvent, is_peer_event}
+use Rattle.joint_machine.specs.Linked.{Linkage, MayCome, linkage_after, peer_after}
+use Rattle.joint_machine.specs.Peers.{landed, peer_read}
+use Rattle.joint_machine.specs.PeerReplay.{PeerReplay, Marking, on_table, brings, untabled, peer_thread_line, is_thread, sliced, begun, swept_of, swept, mirrored, brought_to, peer_answer, table_target}
+use Rattle.joint_machine.specs.Told.{Told, Noted, references_of, slice_of, sweep_of}
+use Rattle.joint_machine.proofs.Deciding.{none_some}
 use Rattle.joint_laws.proofs.NewRows.{Contains-set_there}
 use Rattle.joint_laws.proofs.PeerEvents.{read_by}
 use Rattle.joint_laws.proofs.Sparing.{later}
-use Rattle.joint_model.specs.Components.{End}
+use Rattle.joint_machine.specs.Components.{End}
 
 -- the marking goes on with more peers brought back, each of them in a slot
 pub record IsLater (h : Heap) (mk now : Marking) : Type 0 where

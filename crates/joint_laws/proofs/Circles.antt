@@ -2,10 +2,10 @@
 use Rattle.std.proofs.Common.{◌≡◌, ℕ, zero, suc, ◌<◌, ◌⊎◌, inl, inr, List, [], ◌∷◌, length, refl, subst, ap, arith}
 use Rattle.std.specs.Prelude.{Contains, All}
 use Rattle.std.proofs.lemmas.List.Elements.{All-head, All-tail}
-use Rattle.joint_model.specs.Walks.{Reaches}
-use Rattle.joint_model.specs.Components.{circle, circle_from, first_of, first_at, IsMember}
-use Rattle.joint_model.proofs.WalkLemmas.{Reaches-self, Reaches-edge, Reaches-trans}
-use Rattle.joint_model.proofs.Members.{Contains-nil, Contains-here, Contains-there, Contains-cons_cases}
+use Rattle.joint_machine.specs.Walks.{Reaches}
+use Rattle.joint_machine.specs.Components.{circle, circle_from, first_of, first_at, IsMember}
+use Rattle.joint_machine.proofs.WalkLemmas.{Reaches-self, Reaches-edge, Reaches-trans}
+use Rattle.joint_machine.proofs.Members.{Contains-nil, Contains-here, Contains-there, Contains-cons_cases}
 
 -- an edge of the circle joins members
 from_ends : (first x : ℕ) (ys : List ℕ) (a b : ℕ) → Contains (circle_from first x ys) (a, b) → Contains (x ∷ ys) a × (Contains (x ∷ ys) b ⊎ (first ≡ b))

@@ -1,17 +1,18 @@
--- The joint projection of a lawful list of entries is a complete run: the entries are followed one by one with the moments
--- so far, and what is known of these at the driver's stand; at each resolution that makes the cycle complete.
+-- The joint projection of a lawful list of entries is a complete run: the entries are followed one by one with the
+-- moments so far, and what is known of these at the driver's stand; at each resolution that makes the cycle complete.
 use Rattle.std.proofs.Common.{◌≡◌, ℕ, ◌≤◌, inl, inr, true, false, List, [], ◌∷◌, ◌++◌, length, Some, refl, sym, ap, subst, ◌∙◌, arith, length-append}
 use Rattle.std.specs.Prelude.{Contains, map, slice_get}
 use Rattle.std.proofs.lemmas.Bool.{cases_eq}
 use Rattle.std.proofs.lemmas.Option.{same_Some, slice_get_within}
-use Rattle.joint_model.specs.Headline.{ResolvesAt, IsCompleteCycle, IsSoundRun, IsCompleteRun}
-use Rattle.joint_model.specs.Joint.{opening}
-use Rattle.joint_model.specs.Linked.{Linkage, MayCome, AllMayCome, opening_linkage, linkage_after, is_joint, machine_entries}
-use Rattle.joint_model.specs.Run.{Moment, IsRunFrom, IsRun}
-use Rattle.joint_model.specs.Told.{Noted}
+use Rattle.joint_machine.specs.Headline.{ResolvesAt, IsCompleteCycle, IsSoundRun, IsCompleteRun}
+use Rattle.joint_machine.specs.Joint.{opening}
+use Rattle.joint_machine.specs.Linked.{Linkage, MayCome, opening_linkage, linkage_after, is_joint}
+use Rattle.joint_machine.specs.Replaying.{AllMayCome, machine_entries}
+use Rattle.joint_machine.specs.Run.{Moment, IsRunFrom, IsRun}
+use Rattle.joint_machine.specs.Told.{Noted}
 use Rattle.joint_laws.specs.RunLaws.{ProjectionIsRun, RunIsOne, ProjectionIsSound, EveryRunIsSound, ProjectionIsComplete, EveryRunIsComplete}
-use Rattle.joint_model.proofs.Members.{Contains-nil, Contains-cons_cases}
-use Rattle.joint_model.proofs.Deciding.{none_some}
+use Rattle.joint_machine.proofs.Members.{Contains-nil, Contains-cons_cases}
+use Rattle.joint_machine.proofs.Deciding.{none_some}
 use Rattle.joint_laws.proofs.JointRuns.{Stands, state_of, IsTraced, Enters, by_step, at_rest, enters, projected, Stands-opening, opening-state}
 use Rattle.joint_laws.proofs.JourneyStands.{Journey}
 use Rattle.joint_laws.proofs.JourneyTurns.{moment_of}
@@ -21,7 +22,8 @@ use Rattle.joint_laws.proofs.PeerHeaps.{heap-entry}
 use Rattle.joint_laws.proofs.SoundRuns.{is-sound}
 use Rattle.joint_laws.proofs.Watching.{get-front, get-last, push-cases}
 
--- what is known of the moments so far: each is traced, the peers' slots have their numbers, and what the driver's stand tells
+-- what is known of the moments so far: each is traced, the peers' slots have their numbers, and what the driver's stand
+-- tells
 record IsKnown (past : List Moment) (s : Linkage) (w : Stands s) : Type 0 where
   pub traced : (i : ℕ) (x : Moment) → slice_get past i ≡ Some x → IsTraced x
   pub vars : length s.peer.peers.heap.vars ≡ 72

@@ -1,12 +1,13 @@
--- A cycle's number is at most the number of entries: each entry counts one cycle at most. So a read that is pending names a number that isn't greater
--- than the history is long.
+-- A cycle's number is at most the number of entries: each entry counts one cycle at most. So a read that is pending
+-- names a number that isn't greater than the history is long.
 use Rattle.std.proofs.Common.{◌≡◌, ℕ, zero, suc, ◌+◌, ◌≤◌, Bool, true, false, not, List, [], ◌∷◌, length, take, refl, ap, arith}
 use Rattle.std.proofs.lemmas.Option.{slice_get_within}
-use Rattle.joint_model.specs.Linked.{Linkage, MayCome, AllMayCome, opening_linkage, linkage_after, replayed}
-use Rattle.joint_model.specs.Lines.{is_read}
-use Rattle.joint_model.specs.Managed.{Managed}
-use Rattle.joint_model.specs.Readers.{SnapsCycleAt, is_aside, is_set_aside}
-use Rattle.joint_model.specs.Told.{Noted}
+use Rattle.joint_machine.specs.Linked.{Linkage, MayCome, opening_linkage, linkage_after}
+use Rattle.joint_machine.specs.Replaying.{AllMayCome, replayed}
+use Rattle.joint_machine.specs.Lines.{is_read}
+use Rattle.joint_machine.specs.Managed.{Managed}
+use Rattle.joint_machine.specs.Readers.{SnapsCycleAt, is_aside, is_set_aside}
+use Rattle.joint_machine.specs.Told.{Noted}
 use Rattle.joint_laws.specs.ReadingLaws.{IsLawfulReading, without_aside}
 use Rattle.joint_laws.specs.States.{state_at}
 use Rattle.joint_laws.proofs.LinkedEntries.{Of, AreKept-entry, AreKept-opening}

@@ -1,15 +1,15 @@
--- Inside a dead part that is cut off a walk over managed fields from one of its rows to another stays inside: what leads
--- out of it never leads back. So it is a walk of the dead part's own graph, and mirror edges follow it.
+-- Inside a dead part that is cut off a walk over managed fields from one of its rows to another stays inside: what
+-- leads out of it never leads back. So it is a walk of the dead part's own graph, and mirror edges follow it.
 use Rattle.std.proofs.Common.{ℕ, ◌⊎◌, inl, inr, List}
 use Rattle.std.specs.Prelude.{Contains}
-use Rattle.joint_model.specs.Walks.{Reaches}
-use Rattle.joint_model.specs.Cycles.{DeadEdge, IsDeadContraction}
-use Rattle.joint_model.specs.Managed.{Managed, OpenCycle, IsBridge, ManagedEdge}
-use Rattle.joint_model.proofs.WalkLemmas.{Reaches-keeps, Reaches-self, Reaches-then, Reaches-mono, Reaches-trans}
+use Rattle.joint_machine.specs.Walks.{Reaches}
+use Rattle.joint_machine.specs.Cycles.{DeadEdge, IsDeadContraction}
+use Rattle.joint_machine.specs.Managed.{Managed, OpenCycle, IsBridge, ManagedEdge}
+use Rattle.joint_machine.proofs.WalkLemmas.{Reaches-keeps, Reaches-self, Reaches-then, Reaches-mono, Reaches-trans}
 use Rattle.joint_laws.specs.ManagedInvariants.{IsCutOff}
 use Rattle.joint_laws.specs.ManagedLaws.{DeadPartIsMirrored}
 use Rattle.joint_laws.specs.Mirrors.{MirrorEdge}
-use Rattle.joint_model.proofs.Members.{Contains-decided}
+use Rattle.joint_machine.proofs.Members.{Contains-decided}
 use Rattle.joint_laws.proofs.Mirrors.{mirror_edge-walk, walk-mirror_edges}
 
 module _ (s : Managed) (c : OpenCycle) (cut : IsCutOff s c) where

@@ -1,25 +1,26 @@
--- A candidate's handle is weakened or restored: the other handles keep their rows, and owners and what threads have in hand
--- stay kept. And what an entry that leaves the peers' heap and the issued handles alone does to what threads have in hand.
+-- A candidate's handle is weakened or restored: the other handles keep their rows, and owners and what threads have in
+-- hand stay kept. And what an entry that leaves the peers' heap and the issued handles alone does to what threads have
+-- in hand.
 use Rattle.std.proofs.Common.{◌≡◌, ◌≢◌, ℕ, zero, suc, ◌+◌, ◌≤◌, ◌⊎◌, inl, inr, List, [], ◌∷◌, ◌++◌, length, Option, Some, None, refl, sym, ap, subst, ◌∙◌, arith, length-append}
 use Rattle.std.specs.Prelude.{Contains, slice_get}
 use Rattle.std.proofs.lemmas.Bool.{cases_eq}
 use Rattle.std.proofs.lemmas.Option.{same_Some, slice_get_within, get_or_from_slice_get}
-use Rattle.joint_model.specs.Control.{Doing}
-use Rattle.joint_model.specs.Heaps.{InSlot, IsLive, fields_of, numbered_at, numbered_set}
-use Rattle.joint_model.specs.Managed.{OpenCycle, Holds, candidates_of}
-use Rattle.joint_model.specs.ManagedReplay.{ManagedReplay}
-use Rattle.joint_model.specs.Peers.{strong, weak}
-use Rattle.joint_model.specs.PeerReplay.{PeerReplay, TableRow, Mirror, with_weakened, with_restored, with_given, Refers}
+use Rattle.joint_machine.specs.Control.{Doing}
+use Rattle.joint_machine.specs.Heaps.{InSlot, IsLive, fields_of, numbered_at, numbered_set}
+use Rattle.joint_machine.specs.Managed.{OpenCycle, Holds, candidates_of}
+use Rattle.joint_machine.specs.ManagedReplay.{ManagedReplay}
+use Rattle.joint_machine.specs.Peers.{strong, weak}
+use Rattle.joint_machine.specs.PeerReplay.{PeerReplay, TableRow, Mirror, with_weakened, with_restored, with_given, Refers}
 use Rattle.joint_laws.specs.ManagedInvariants.{IsReplayKept}
 use Rattle.joint_laws.specs.PeerInvariants.{IsTabled, IsIssued}
 use Rattle.joint_laws.specs.LinkedInvariants.{HasStrength, AreOwnersKept, doing_in, HasInHand, AreCallersKept, ForCandidates, IsGone, IsReplaced, IsMirrored, IsWeakenedBy, IsRestoredBy}
-use Rattle.joint_model.proofs.Numbered.{numbered-within, numbered_set-here, numbered_set-same}
-use Rattle.joint_model.proofs.Deciding.{none_some}
-use Rattle.joint_model.proofs.HeapLemmas.{candidates_of-open}
+use Rattle.joint_machine.proofs.Numbered.{numbered-within, numbered_set-here, numbered_set-same}
+use Rattle.joint_machine.proofs.Deciding.{none_some}
+use Rattle.joint_machine.proofs.HeapLemmas.{candidates_of-open}
 use Rattle.joint_laws.proofs.HandlesAlike.{HandlesAlike, held-on, row_of-on, row_of-back, IsLoose-peer, IsGone-peer, IsReplaced-peer}
 use Rattle.joint_laws.proofs.DriverPeerSteps.{Only}
-use Rattle.joint_model.specs.Told.{said_alive, said_cleared, Answer}
-use Rattle.joint_model.proofs.Members.{Rises-once}
+use Rattle.joint_machine.specs.Told.{said_alive, said_cleared, Answer}
+use Rattle.joint_machine.proofs.Members.{Rises-once}
 
 -- what threads have in hand, where slots, fields and the issued handles stay
 pub callers_same : (touched : ℕ → Type 0) (r : ManagedReplay) (s t : PeerReplay) → HandlesAlike touched s t → t.peers.issued ≡ s.peers.issued → ((p : ℕ) → InSlot t.peers.heap p → InSlot s.peers.heap p) → ((x : ℕ) → IsLive t.peers.heap x → IsLive s.peers.heap x)

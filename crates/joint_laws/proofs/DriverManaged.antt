@@ -1,18 +1,18 @@
--- How far the driver has come stays so at a managed entry that goes on: the dead part is as it was, so its graph is, its
--- candidates hold the same handles, and its rows lead to each other as before.
+-- How far the driver has come stays so at a managed entry that goes on: the dead part is as it was, so its graph is,
+-- its candidates hold the same handles, and its rows lead to each other as before.
 use Rattle.std.proofs.Common.{◌≡◌, ℕ, ◌↔◌, List, Some, sym, subst, ◌∙◌}
 use Rattle.std.specs.Prelude.{Contains}
-use Rattle.joint_model.specs.Control.{OpenSnap, Stand, idle, snapped, contracted, weakening, marked, restoring, restored}
-use Rattle.joint_model.specs.Cycles.{IsDeadContraction, DeadEdge}
-use Rattle.joint_model.specs.Managed.{OpenCycle, Holds, IsBridge, ManagedEdge}
-use Rattle.joint_model.specs.ManagedReplay.{ManagedReplay}
-use Rattle.joint_model.specs.Peers.{strong, weak}
-use Rattle.joint_model.specs.PeerReplay.{PeerReplay}
-use Rattle.joint_model.specs.Walks.{Reaches}
-use Rattle.joint_model.proofs.WalkLemmas.{Reaches-mono}
+use Rattle.joint_machine.specs.Control.{OpenSnap, Stand, idle, snapped, contracted, weakening, marked, restoring, restored}
+use Rattle.joint_machine.specs.Cycles.{IsDeadContraction, DeadEdge}
+use Rattle.joint_machine.specs.Managed.{OpenCycle, Holds, IsBridge, ManagedEdge}
+use Rattle.joint_machine.specs.ManagedReplay.{ManagedReplay}
+use Rattle.joint_machine.specs.Peers.{strong, weak}
+use Rattle.joint_machine.specs.PeerReplay.{PeerReplay}
+use Rattle.joint_machine.specs.Walks.{Reaches}
+use Rattle.joint_machine.proofs.WalkLemmas.{Reaches-mono}
 use Rattle.joint_laws.specs.ManagedInvariants.{IsCutOff, IsManagedKept}
 use Rattle.joint_laws.specs.LinkedInvariants.{HasStrength, IsRowOf, IsOpenedAs, ForCandidates, IsMirrored, IsWeakenedBy, IsRestoredBy, LeadsToUnfreed, IsBeforeMirror, IsDriverKept}
-use Rattle.joint_model.proofs.Members.{Contains-at}
+use Rattle.joint_machine.proofs.Members.{Contains-at}
 use Rattle.joint_laws.proofs.ManagedMoves.{GoesOn}
 use Rattle.joint_laws.proofs.ManagedKeeping.{dead-fields, dead-held, cut_on}
 use Rattle.joint_laws.proofs.DeadMirrors.{dead-walk, managed-walk}

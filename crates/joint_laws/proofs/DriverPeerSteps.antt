@@ -1,30 +1,31 @@
--- The driver's events on the peer side. A mirror brings exactly the mirror edges, carried to the peers. A candidate's handle
--- is weakened, or restored, and the others' rows stay. A sweep frees no peer of a strong handle. And when the references go,
--- a candidate whose peer is unfreed leads only to such candidates, since the references did and freed nothing between them.
+-- The driver's events on the peer side. A mirror brings exactly the mirror edges, carried to the peers. A candidate's
+-- handle is weakened, or restored, and the others' rows stay. A sweep frees no peer of a strong handle. And when the
+-- references go, a candidate whose peer is unfreed leads only to such candidates, since the references did and freed
+-- nothing between them.
 use Rattle.std.proofs.Common.{◌≡◌, ℕ, zero, suc, ◌↔◌, inl, inr, Bool, true, false, List, [], ◌∷◌, ◌++◌, length, Option, Some, None, refl, sym, ap, subst, ◌∙◌, arith}
 use Rattle.std.specs.Prelude.{Contains, slice_get, if◌then◌else◌}
 use Rattle.std.proofs.lemmas.Map.Views.{list_any-from_Contains}
 use Rattle.std.proofs.lemmas.Cmp.{nat_eq_equiv}
 use Rattle.std.proofs.lemmas.Option.{same_Some}
 use Rattle.std.proofs.lemmas.List.Elements.{Contains-append_left}
-use Rattle.joint_model.specs.Components.{mirror_edges}
-use Rattle.joint_model.specs.Control.{OpenSnap, carried_edges, peer_of_row}
-use Rattle.joint_model.specs.Cycles.{DeadEdge}
-use Rattle.joint_model.specs.Heaps.{IsLive, numbered_at, numbered_set, is_freed}
-use Rattle.joint_model.specs.Managed.{Managed, OpenCycle, Holds, IsBridge, handle_of}
-use Rattle.joint_model.specs.ManagedReplay.{ManagedReplay}
-use Rattle.joint_model.specs.Peers.{Issued, Strength, strong, peer_of}
-use Rattle.joint_model.specs.PeerReplay.{PeerReplay, TableRow, Mirror, Marking, cleared_rows, Refers}
-use Rattle.joint_model.specs.Walks.{Reaches}
-use Rattle.joint_model.proofs.WalkLemmas.{Reaches-keeps}
+use Rattle.joint_machine.specs.Components.{mirror_edges}
+use Rattle.joint_machine.specs.Control.{OpenSnap, carried_edges, peer_of_row}
+use Rattle.joint_machine.specs.Cycles.{DeadEdge}
+use Rattle.joint_machine.specs.Heaps.{IsLive, numbered_at, numbered_set, is_freed}
+use Rattle.joint_machine.specs.Managed.{Managed, OpenCycle, Holds, IsBridge, handle_of}
+use Rattle.joint_machine.specs.ManagedReplay.{ManagedReplay}
+use Rattle.joint_machine.specs.Peers.{Issued, Strength, strong, peer_of}
+use Rattle.joint_machine.specs.PeerReplay.{PeerReplay, TableRow, Mirror, Marking, cleared_rows, Refers}
+use Rattle.joint_machine.specs.Walks.{Reaches}
+use Rattle.joint_machine.proofs.WalkLemmas.{Reaches-keeps}
 use Rattle.joint_laws.specs.ManagedInvariants.{IsCutOff, IsReplayKept}
 use Rattle.joint_laws.specs.Mirrors.{MirrorEdge}
 use Rattle.joint_laws.specs.PeerInvariants.{IsTabled, IsIssued, IsSpared, IsPeerKept}
 use Rattle.joint_laws.specs.LinkedInvariants.{HasStrength, IsHeldOne, IsRowOf, AreOwnersKept, IsMirrored, LeadsToUnfreed, IsContracted, IsWeakening}
-use Rattle.joint_model.proofs.Members.{at-Contains}
-use Rattle.joint_model.proofs.Numbered.{numbered-within, numbered_set-other}
-use Rattle.joint_model.proofs.Deciding.{none_some}
-use Rattle.joint_model.proofs.HeapLemmas.{Holds-handle_of}
+use Rattle.joint_machine.proofs.Members.{at-Contains}
+use Rattle.joint_machine.proofs.Numbered.{numbered-within, numbered_set-other}
+use Rattle.joint_machine.proofs.Deciding.{none_some}
+use Rattle.joint_machine.proofs.HeapLemmas.{Holds-handle_of}
 use Rattle.joint_laws.proofs.HandleKeeping.{tabled-swept, swept_row}
 use Rattle.joint_laws.proofs.HandlesAlike.{HandlesAlike, nothing_touched}
 use Rattle.joint_laws.proofs.DeadMirrors.{candidates-mirrored}

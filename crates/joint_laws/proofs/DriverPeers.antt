@@ -1,24 +1,24 @@
--- How far the driver has come stays so at an entry of the peer side that touches no handle of a row and leaves the mirror
--- alone. And what threads have in hand stays so at a quiet event: a peer just made is named by nothing that a slot could
--- come by.
+-- How far the driver has come stays so at an entry of the peer side that touches no handle of a row and leaves the
+-- mirror alone. And what threads have in hand stays so at a quiet event: a peer just made is named by nothing that a
+-- slot could come by.
 use Rattle.std.proofs.Common.{◌≡◌, ℕ, ◌≤◌, inl, inr, Bool, true, false, List, length, Option, Some, None, refl, sym, subst, ◌∙◌}
 use Rattle.std.specs.Prelude.{Contains, if◌then◌else◌, slice_get}
 use Rattle.std.proofs.lemmas.Bool.{cases_lt}
 use Rattle.std.proofs.lemmas.Option.{same_Some}
-use Rattle.joint_model.specs.declared.names.Thread.TheVariants.{C}
-use Rattle.joint_model.specs.Control.{Doing, free, made, lent, gripped, given, met, OpenSnap, Stand, idle, snapped, contracted, weakening, marked, restoring, restored}
-use Rattle.joint_model.specs.Heaps.{IsMade, IsLive, InSlot, numbered_at, fields_of}
-use Rattle.joint_model.specs.Managed.{OpenCycle, Holds}
-use Rattle.joint_model.specs.ManagedReplay.{ManagedReplay}
-use Rattle.joint_model.specs.Peers.{Issued, strong, weak, peer_of}
-use Rattle.joint_model.specs.PeerReplay.{PeerReplay, TableRow, Marking, row_of, table_target, Refers}
-use Rattle.joint_model.proofs.Deciding.{none_some}
+use Rattle.joint_machine.specs.declared.names.Thread.TheVariants.{C}
+use Rattle.joint_machine.specs.Control.{Doing, free, made, lent, gripped, given, met, OpenSnap, Stand, idle, snapped, contracted, weakening, marked, restoring, restored}
+use Rattle.joint_machine.specs.Heaps.{IsMade, IsLive, InSlot, numbered_at, fields_of}
+use Rattle.joint_machine.specs.Managed.{OpenCycle, Holds}
+use Rattle.joint_machine.specs.ManagedReplay.{ManagedReplay}
+use Rattle.joint_machine.specs.Peers.{Issued, strong, weak, peer_of}
+use Rattle.joint_machine.specs.PeerReplay.{PeerReplay, TableRow, Marking, row_of, table_target, Refers}
+use Rattle.joint_machine.proofs.Deciding.{none_some}
 use Rattle.joint_laws.specs.PeerInvariants.{IsIssued, IsPeerKept}
 use Rattle.joint_laws.specs.LinkedInvariants.{HasStrength, IsHeldOne, IsRowOf, AreOwnersKept, doing_in, HasInHand, HasPeer, HasMadePair, IsVirgin, AreCallersKept, ForCandidates, IsMirrored, IsWeakenedBy, IsRestoredBy, LeadsToUnfreed, IsBeforeMirror, IsDriverKept, given_at}
 use Rattle.joint_laws.proofs.Fields.{IsLive-more, fields-past}
 use Rattle.joint_laws.proofs.HandlesAlike.{HandlesAlike, nothing_touched, row_of-on, row_of-back, AreOwnersKept-peer, IsLoose-peer, weakened-peer, restored-peer}
 use Rattle.joint_laws.proofs.PeerQuiet.{IsQuiet}
-use Rattle.joint_model.specs.Told.{Answer, said_alive}
+use Rattle.joint_machine.specs.Told.{Answer, said_alive}
 
 -- the driver's own marking stays open
 abbrev pub StillOwn : PeerReplay → PeerReplay → Type 0

@@ -1,29 +1,29 @@
--- The driver's managed events: a snapshot opens a cycle whose candidates' handles are all strong; a resolution frees exactly
--- the candidates whose restore answered cleared, and what they alone lead to; an abandonment leaves all handles strong.
+-- The driver's managed events: a snapshot opens a cycle whose candidates' handles are all strong; a resolution frees
+-- exactly the candidates whose restore answered cleared, and what they alone lead to; an abandonment leaves all handles
+-- strong.
 use Rattle.std.proofs.Common.{◌≡◌, ℕ, ◌+◌, ◌≤◌, ◌⊎◌, ◌++◌, length, inl, inr, false, List, [], Option, Some, None, refl, sym, ap, subst, ◌∙◌, arith}
 use Rattle.std.specs.Prelude.{Contains, slice_get}
 use Rattle.std.proofs.lemmas.Option.{same_Some, slice_get_within, slice_get-get_or}
 use Rattle.std.proofs.lemmas.List.Elements.{Contains-append_left, Contains-append_right, Contains-append_cases}
-use Rattle.joint_model.specs.Control.{Doing, free, made, lent, gripped, given, met, OpenSnap}
-use Rattle.joint_model.specs.Cycles.{IsSnapshot, IsResolution, IsAnsweredAlive}
-use Rattle.joint_model.specs.Heaps.{IsLive}
-use Rattle.joint_model.specs.Managed.{Managed, OpenCycle, Holds, IsBridge, ManagedEdge, with_snapshot, resolved, abandoned, candidates_of}
-use Rattle.joint_model.specs.ManagedReplay.{ManagedReplay, without_twins}
-use Rattle.joint_model.specs.Peers.{strong, weak}
-use Rattle.joint_model.specs.PeerReplay.{PeerReplay, TableRow}
-use Rattle.joint_model.specs.Walks.{Reaches}
+use Rattle.joint_machine.specs.Control.{Doing, free, made, lent, gripped, given, met, OpenSnap}
+use Rattle.joint_machine.specs.Cycles.{IsSnapshot, IsResolution, IsAnsweredAlive}
+use Rattle.joint_machine.specs.Heaps.{IsLive}
+use Rattle.joint_machine.specs.Managed.{Managed, OpenCycle, Holds, IsBridge, ManagedEdge, with_snapshot, resolved, abandoned, candidates_of}
+use Rattle.joint_machine.specs.ManagedReplay.{ManagedReplay, without_twins}
+use Rattle.joint_machine.specs.Peers.{strong, weak, Issued}
+use Rattle.joint_machine.specs.PeerReplay.{PeerReplay, TableRow}
+use Rattle.joint_machine.specs.Walks.{Reaches}
 use Rattle.joint_laws.specs.ManagedInvariants.{IsCutOff, IsReplayKept}
 use Rattle.joint_laws.specs.PeerInvariants.{IsPeerKept}
 use Rattle.joint_laws.specs.LinkedInvariants.{HasStrength, IsHeldOne, IsRowOf, IsReplaced, AreOwnersKept, AreCallersKept, IsIdle, IsBeforeMirror, IsRestored, doing_in, HasInHand, HasMadePair, put_hands}
-use Rattle.joint_model.proofs.Members.{Contains-nil, Contains-at, Contains-decided, at-Contains}
-use Rattle.joint_model.proofs.Deciding.{none_some}
-use Rattle.joint_model.proofs.HeapLemmas.{IsLive-before, IsLive-left, candidates_of-open}
+use Rattle.joint_machine.proofs.Members.{Contains-nil, Contains-at, Contains-decided, at-Contains}
+use Rattle.joint_machine.proofs.Deciding.{none_some}
+use Rattle.joint_machine.proofs.HeapLemmas.{IsLive-before, IsLive-left, candidates_of-open}
 use Rattle.joint_laws.proofs.Registered.{without_twins-parts, without_twins-keeps}
 use Rattle.joint_laws.proofs.ManagedKeeping.{bridge_stays}
-use Rattle.joint_model.specs.Told.{said_alive, said_cleared, Answer, handles_given}
-use Rattle.joint_model.specs.Components.{Rises}
-use Rattle.joint_model.specs.Peers.{Issued}
-use Rattle.joint_model.proofs.Numbered.{numbered-within}
+use Rattle.joint_machine.specs.Told.{said_alive, said_cleared, Answer, handles_given}
+use Rattle.joint_machine.specs.Components.{Rises}
+use Rattle.joint_machine.proofs.Numbered.{numbered-within}
 use Rattle.joint_laws.proofs.HandlesAlike.{replaced-peer}
 use Rattle.joint_laws.proofs.Hands.{AreCallersKept-threads, given-apart}
 use Rattle.joint_laws.proofs.Renewing.{IsGivenTo, renewed-cases, renewed-given, renewed-other, given-or, given-at}

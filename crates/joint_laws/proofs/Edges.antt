@@ -1,21 +1,22 @@
--- How the joint edges change at an entry. An edge after it was there before, or leads to a row that was in a slot, or to one that is
--- reached now: a new field holds what a slot named, and a row that takes its handle is in a slot. An edge before it stands, or leads
--- to a row that was reached, or starts at a row that is freed, as long as the entry frees no peer: only a row in a slot has a field
--- or a handle changed; and a row that is freed and holds a handle has a freed peer.
+-- How the joint edges change at an entry. An edge after it was there before, or leads to a row that was in a slot, or
+-- to one that is reached now: a new field holds what a slot named, and a row that takes its handle is in a slot. An
+-- edge before it stands, or leads to a row that was reached, or starts at a row that is freed, as long as the entry
+-- frees no peer: only a row in a slot has a field or a handle changed; and a row that is freed and holds a handle has a
+-- freed peer.
 use Rattle.std.proofs.Common.{◌≡◌, ℕ, ◌≤◌, ◌⊎◌, inl, inr, List, [], ◌∷◌, length, Option, Some, None, sym, ap, subst, ◌∙◌, arith}
 use Rattle.std.specs.Prelude.{Contains, Bool}
 use Rattle.std.proofs.lemmas.Bool.{cases_lt}
 use Rattle.std.proofs.lemmas.Option.{same_Some}
-use Rattle.joint_model.specs.Heaps.{Heap, IsMade, IsLive, InSlot, fields_of}
-use Rattle.joint_model.specs.Joint.{Graph, Row, object, peer, JointEdge, IsJoined, IsJointRoot, IsReachedIn}
-use Rattle.joint_model.specs.Linked.{Linkage, MayCome, linkage_after}
-use Rattle.joint_model.specs.Managed.{Managed, IsManagedRoot}
-use Rattle.joint_model.specs.Told.{Noted}
-use Rattle.joint_model.proofs.Deciding.{none_some}
-use Rattle.joint_model.proofs.HeapLemmas.{IsLive-before}
-use Rattle.joint_model.proofs.Joining.{same_or_not}
-use Rattle.joint_model.proofs.Members.{Contains-nil, Contains-here, Contains-there, Contains-cons_cases, Contains-decided}
-use Rattle.joint_model.proofs.WalkLemmas.{Reached-start, Reached-then}
+use Rattle.joint_machine.specs.Heaps.{Heap, IsMade, IsLive, InSlot, fields_of}
+use Rattle.joint_machine.specs.Joint.{Graph, Row, object, peer, JointEdge, IsJoined, IsJointRoot, IsReachedIn}
+use Rattle.joint_machine.specs.Linked.{Linkage, MayCome, linkage_after}
+use Rattle.joint_machine.specs.Managed.{Managed, IsManagedRoot}
+use Rattle.joint_machine.specs.Told.{Noted}
+use Rattle.joint_machine.proofs.Deciding.{none_some}
+use Rattle.joint_machine.proofs.HeapLemmas.{IsLive-before}
+use Rattle.joint_machine.proofs.Joining.{same_or_not}
+use Rattle.joint_machine.proofs.Members.{Contains-nil, Contains-here, Contains-there, Contains-cons_cases, Contains-decided}
+use Rattle.joint_machine.proofs.WalkLemmas.{Reached-start, Reached-then}
 use Rattle.joint_laws.proofs.Fields.{fields-past}
 use Rattle.joint_laws.proofs.FreedRows.{freed-peer}
 use Rattle.joint_laws.proofs.LinkedEntries.{Of}

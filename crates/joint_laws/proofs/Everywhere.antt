@@ -1,8 +1,9 @@
 -- What holds before the first entry and is kept by each lawful entry holds at every state; and what two states have in
 -- common at first and each lawful entry keeps they have in common at the end.
 use Rattle.std.proofs.Common.{◌≡◌, ℕ, zero, suc, ◌+◌, List, [], ◌∷◌, take, drop, sym, ap, subst, arith}
-use Rattle.joint_model.specs.Linked.{Linkage, MayCome, opening_linkage, linkage_after, replayed, AllMayCome}
-use Rattle.joint_model.specs.Told.{Noted}
+use Rattle.joint_machine.specs.Linked.{Linkage, MayCome, opening_linkage, linkage_after}
+use Rattle.joint_machine.specs.Replaying.{AllMayCome, replayed}
+use Rattle.joint_machine.specs.Told.{Noted}
 use Rattle.joint_laws.specs.States.{state_at}
 
 pub replayed-keeps : (P : Linkage → Type 0) → ((s : Linkage) (n : Noted) → MayCome s n → P s → P (linkage_after s n)) → (ns : List Noted) (s : Linkage) → AllMayCome s ns → P s → P (replayed s ns)

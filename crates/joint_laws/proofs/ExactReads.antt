@@ -1,24 +1,26 @@
--- A read that answers as the one machine does fills the pin that the machine fills and is asked for no more than its turn. So where each read does, the list
--- is lawful with reads that are events as all others are.
+-- A read that answers as the one machine does fills the pin that the machine fills and is asked for no more than its
+-- turn. So where each read does, the list is lawful with reads that are events as all others are.
 use Rattle.std.proofs.Common.{◌≡◌, ℕ, true, false, List, [], ◌∷◌, Option, refl, sym, ap, ◌∙◌, subst, true≢false}
 use Rattle.std.specs.Prelude.{if◌then◌else◌}
 use Rattle.std.proofs.lemmas.List.Elements.{All-head, All-tail}
-use Rattle.joint_model.specs.declared.names.Thread.{Thread}
-use Rattle.joint_model.specs.declared.names.Thread.TheVariants.{M, P, C}
-use Rattle.joint_model.specs.declared.lines.Act.{Act}
-use Rattle.joint_model.specs.declared.lines.Act.TheVariants as act
-use Rattle.joint_model.specs.declared.events.Op.{Op}
-use Rattle.joint_model.specs.declared.events.Op.TheVariants as op
-use Rattle.joint_model.specs.declared.events.Reply.{Reply}
-use Rattle.joint_model.specs.Heaps.{Answered}
-use Rattle.joint_model.specs.Lines.{is_read}
-use Rattle.joint_model.specs.Linked.{Linkage, MayCome, AllMayCome, opening_linkage, linkage_after, replayed}
-use Rattle.joint_model.specs.Managed.{Managed, managed_line, read_cell}
-use Rattle.joint_model.specs.ManagedReplay.{ManagedAllows}
-use Rattle.joint_model.specs.Readers.{ReadsCell, pins_after, ReaderMayCome, EntryMayCome, AllMayComeReading, reader_after, entry_after, replayed_reading}
-use Rattle.joint_model.specs.Run.{thread_number}
-use Rattle.joint_model.specs.Told.{Told, Noted}
-use Rattle.joint_laws.specs.ReadingLaws.{AreExact, ExactReadingsAreLawful, ReadlessIsExact}
+use Rattle.joint_machine.specs.declared.names.Thread.{Thread}
+use Rattle.joint_machine.specs.declared.names.Thread.TheVariants.{M, P, C}
+use Rattle.joint_machine.specs.declared.lines.Act.{Act}
+use Rattle.joint_machine.specs.declared.lines.Act.TheVariants as act
+use Rattle.joint_machine.specs.declared.events.Op.{Op}
+use Rattle.joint_machine.specs.declared.events.Op.TheVariants as op
+use Rattle.joint_machine.specs.declared.events.Reply.{Reply}
+use Rattle.joint_machine.specs.Heaps.{Answered}
+use Rattle.joint_machine.specs.Lines.{is_read}
+use Rattle.joint_machine.specs.Linked.{Linkage, MayCome, opening_linkage, linkage_after}
+use Rattle.joint_machine.specs.Replaying.{AllMayCome, replayed}
+use Rattle.joint_machine.specs.Managed.{Managed, managed_line, read_cell}
+use Rattle.joint_machine.specs.ManagedReplay.{ManagedAllows}
+use Rattle.joint_machine.specs.Readers.{ReadsCell, pins_after, ReaderMayCome, EntryMayCome, AllMayComeReading, reader_after, entry_after, replayed_reading}
+use Rattle.joint_machine.specs.Run.{thread_number}
+use Rattle.joint_machine.specs.Told.{Told, Noted}
+use Rattle.joint_laws.specs.ReadingLaws.{ExactReadingsAreLawful, ReadlessIsExact}
+use Rattle.joint_laws.specs.Readings.{AreExact}
 use Rattle.joint_laws.proofs.ReadsAside.{read-filled}
 
 -- an entry that may come as an event of the one machine, after which the state is the same

@@ -1,9 +1,9 @@
 -- The fields of the objects of a heap after a write to one field, and after a further object is made.
 use Rattle.std.proofs.Common.{◌≡◌, ◌≢◌, ℕ, ◌+◌, ◌<◌, ◌≤◌, ◌⊎◌, List, [], ◌∷◌, length, Option, Some, None, set, replicate, refl, sym, ap, subst, arith, length-append}
 use Rattle.std.specs.Prelude.{Contains}
-use Rattle.joint_model.specs.Heaps.{Heap, IsLive, numbered_at, numbered_set, fields_of, with_field, with_object, next_number}
-use Rattle.joint_model.proofs.Numbered.{Contains-set_cases, numbered-past, numbered-push_old, numbered-push_new, numbered_set-length, numbered_set-same, numbered_set-other, replicate-none}
-use Rattle.joint_model.proofs.Members.{Contains-nil}
+use Rattle.joint_machine.specs.Heaps.{Heap, IsLive, numbered_at, numbered_set, fields_of, with_field, with_object, next_number}
+use Rattle.joint_machine.proofs.Numbered.{Contains-set_cases, numbered-past, numbered-push_old, numbered-push_new, numbered_set-length, numbered_set-same, numbered_set-other, replicate-none}
+use Rattle.joint_machine.proofs.Members.{Contains-nil}
 
 -- the row of a number, and none where there is no such number
 abbrev row_by : Option (List (Option ℕ)) → List (Option ℕ)

@@ -2,9 +2,9 @@
 -- a node reaches what it reached before, and, if it reached the edge's source, what the edge's target reached before.
 use Rattle.std.proofs.Common.{◌≡◌, ◌⊎◌, inl, inr, List, [], ◌∷◌, refl, sym, subst, ap}
 use Rattle.std.specs.Prelude.{Contains}
-use Rattle.joint_model.specs.Walks.{Reaches}
-use Rattle.joint_model.proofs.WalkLemmas.{Reaches-self, Reaches-then, Reaches-trans, Reaches-keeps, Reaches-mono}
-use Rattle.joint_model.proofs.Members.{Contains-nil, Contains-here, Contains-there, Contains-cons_cases}
+use Rattle.joint_machine.specs.Walks.{Reaches}
+use Rattle.joint_machine.proofs.WalkLemmas.{Reaches-self, Reaches-then, Reaches-trans, Reaches-keeps, Reaches-mono}
+use Rattle.joint_machine.proofs.Members.{Contains-nil, Contains-here, Contains-there, Contains-cons_cases}
 
 module _ {A : Type 0} (same : (x y : A) → (x ≡ y) ⊎ (x ≡ y → ⊥)) where
   -- one node leads to another over an edge of the list

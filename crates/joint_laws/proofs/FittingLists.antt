@@ -1,31 +1,32 @@
--- The entries of a linked history fit its lists: each was made by a caller of the script at an event that it can have, and each span in
--- a reply lies in its list and, but for notices, rises there, since it names what is told.
+-- The entries of a linked history fit its lists: each was made by a caller of the script at an event that it can have,
+-- and each span in a reply lies in its list and, but for notices, rises there, since it names what is told.
 use Rattle.std.proofs.Common.{◌≡◌, ℕ, ◌+◌, ◌≤◌, Bool, true, false, inl, inr, List, length, map, take, drop, Option, Some, refl, ap, subst, ◌∙◌, arith}
 use Rattle.std.specs.Prelude.{All, slice_get}
 use Rattle.std.proofs.lemmas.List.{take-map, drop-map, length-map}
-use Rattle.joint_model.specs.declared.names.Kind.{Kind}
-use Rattle.joint_model.specs.declared.names.Kind.TheVariants as kind
-use Rattle.joint_model.specs.declared.names.MNum.{MNum}
-use Rattle.joint_model.specs.declared.names.PNum.{PNum}
-use Rattle.joint_model.specs.declared.names.Sort.{Sort}
-use Rattle.joint_model.specs.declared.names.Span.{Span}
-use Rattle.joint_model.specs.declared.names.Thread.{Thread}
-use Rattle.joint_model.specs.declared.names.Thread.TheVariants.{M, P, C}
-use Rattle.joint_model.specs.declared.events.Entry.{Entry}
-use Rattle.joint_model.specs.declared.events.Op.{Op}
-use Rattle.joint_model.specs.declared.events.Op.TheVariants as op
-use Rattle.joint_model.specs.declared.events.Reply.{Reply}
-use Rattle.joint_model.specs.declared.events.Reply.TheVariants as says
-use Rattle.joint_model.specs.Components.{Rises}
-use Rattle.joint_model.specs.Histories.{managed_numbers, peer_numbers, stretch, HasSpans, FitsLists}
-use Rattle.joint_model.specs.Lines.{IsEvent, IsNamed, IsThread, IsManagedThread, IsDriver, IsPeerThread, IsBridgeObject, IsAdoptable, is_read}
-use Rattle.joint_model.specs.Linked.{Linkage, opening_linkage}
-use Rattle.joint_model.specs.Managed.{Managed}
-use Rattle.joint_model.specs.Readers.{EntryMayCome, replayed_reading}
-use Rattle.joint_model.specs.Told.{Told, Noted}
-use Rattle.joint_model.proofs.Members.{All-members, at-Contains, Contains-map_cases}
-use Rattle.joint_laws.specs.AfterwardsLaws.{reading_at}
-use Rattle.joint_laws.specs.ToldLaws.{IsStretch, TellsNamed, TakesNamed, LinkedIsHistory}
+use Rattle.joint_machine.specs.declared.names.Kind.{Kind}
+use Rattle.joint_machine.specs.declared.names.Kind.TheVariants as kind
+use Rattle.joint_machine.specs.declared.names.MNum.{MNum}
+use Rattle.joint_machine.specs.declared.names.PNum.{PNum}
+use Rattle.joint_machine.specs.declared.names.Sort.{Sort}
+use Rattle.joint_machine.specs.declared.names.Span.{Span}
+use Rattle.joint_machine.specs.declared.names.Thread.{Thread}
+use Rattle.joint_machine.specs.declared.names.Thread.TheVariants.{M, P, C}
+use Rattle.joint_machine.specs.declared.events.Entry.{Entry}
+use Rattle.joint_machine.specs.declared.events.Op.{Op}
+use Rattle.joint_machine.specs.declared.events.Op.TheVariants as op
+use Rattle.joint_machine.specs.declared.events.Reply.{Reply}
+use Rattle.joint_machine.specs.declared.events.Reply.TheVariants as says
+use Rattle.joint_machine.specs.Components.{Rises}
+use Rattle.joint_machine.specs.Histories.{managed_numbers, peer_numbers, stretch, HasSpans, FitsLists}
+use Rattle.joint_machine.specs.Lines.{IsEvent, IsNamed, IsThread, IsManagedThread, IsDriver, IsPeerThread, IsBridgeObject, IsAdoptable, is_read}
+use Rattle.joint_machine.specs.Linked.{Linkage, opening_linkage}
+use Rattle.joint_machine.specs.Managed.{Managed}
+use Rattle.joint_machine.specs.Readers.{EntryMayCome, replayed_reading}
+use Rattle.joint_machine.specs.Told.{Told, Noted}
+use Rattle.joint_machine.proofs.Members.{All-members, at-Contains, Contains-map_cases}
+use Rattle.joint_laws.specs.Afterwards.{reading_at}
+use Rattle.joint_laws.specs.ToldLaws.{LinkedIsHistory}
+use Rattle.joint_laws.specs.Spans.{IsStretch, TakesNamed, TellsNamed}
 use Rattle.joint_laws.proofs.ReadingsGoneAfter.{reading-comes}
 use Rattle.joint_laws.proofs.ReadingsTold.{told_is_named, notices_are_named}
 

@@ -1,21 +1,22 @@
--- What was freed is a list that only grows, on either side, and so are the notices: a snapshot, a resolution and a sweep put what
--- they free last, and no other entry changes the list.
+-- What was freed is a list that only grows, on either side, and so are the notices: a snapshot, a resolution and a
+-- sweep put what they free last, and no other entry changes the list.
 use Rattle.std.proofs.Common.{◌≡◌, ℕ, ◌+◌, inl, inr, Bool, true, false, ◌||◌, List, [], ◌++◌, Option, Some, None, refl, sym, ap, subst, ◌∙◌, append_assoc}
 use Rattle.std.specs.Prelude.{Contains, if◌then◌else◌}
 use Rattle.std.proofs.lemmas.List.{append-nil}
 use Rattle.std.proofs.lemmas.List.Elements.{Contains-append_left}
-use Rattle.joint_model.specs.declared.names.Thread.{Thread}
-use Rattle.joint_model.specs.declared.names.Thread.TheVariants.{C}
-use Rattle.joint_model.specs.declared.events.Op.TheVariants as op
-use Rattle.joint_model.specs.declared.events.Reply.TheVariants as says
-use Rattle.joint_model.specs.declared.events.Op.{Op}
-use Rattle.joint_model.specs.declared.events.Made.{Made}
-use Rattle.joint_model.specs.Heaps.{answer}
-use Rattle.joint_model.specs.Linked.{Linkage, MayCome, AllMayCome, opening_linkage, linkage_after, peer_after}
-use Rattle.joint_model.specs.Lines.{is_peer_event}
-use Rattle.joint_model.specs.Managed.{Managed}
-use Rattle.joint_model.specs.PeerReplay.{PeerReplay, Marking, is_thread, swept_of, swept, peer_answer}
-use Rattle.joint_model.specs.Told.{Told, Noted, sweep_of}
+use Rattle.joint_machine.specs.declared.names.Thread.{Thread}
+use Rattle.joint_machine.specs.declared.names.Thread.TheVariants.{C}
+use Rattle.joint_machine.specs.declared.events.Op.TheVariants as op
+use Rattle.joint_machine.specs.declared.events.Reply.TheVariants as says
+use Rattle.joint_machine.specs.declared.events.Op.{Op}
+use Rattle.joint_machine.specs.declared.events.Made.{Made}
+use Rattle.joint_machine.specs.Heaps.{answer}
+use Rattle.joint_machine.specs.Linked.{Linkage, MayCome, opening_linkage, linkage_after, peer_after}
+use Rattle.joint_machine.specs.Replaying.{AllMayCome}
+use Rattle.joint_machine.specs.Lines.{is_peer_event}
+use Rattle.joint_machine.specs.Managed.{Managed}
+use Rattle.joint_machine.specs.PeerReplay.{PeerReplay, Marking, is_thread, swept_of, swept, peer_answer}
+use Rattle.joint_machine.specs.Told.{Told, Noted, sweep_of}
 use Rattle.joint_laws.specs.PeerInvariants.{IsPeerKept}
 use Rattle.joint_laws.specs.States.{state_at}
 use Rattle.joint_laws.proofs.Everywhere.{everywhere, from_state}

@@ -1,27 +1,28 @@
--- A row that holds a handle is freed by a resolution alone, and then its peer was freed before: a snapshot frees no bridge row, as
--- that reaches itself; and a candidate that was answered alive is kept. Only a snapshot and a resolution free managed rows.
+-- A row that holds a handle is freed by a resolution alone, and then its peer was freed before: a snapshot frees no
+-- bridge row, as that reaches itself; and a candidate that was answered alive is kept. Only a snapshot and a resolution
+-- free managed rows.
 use Rattle.std.proofs.Common.{◌≡◌, ℕ, inl, inr, Bool, true, false, List, Option, Some, refl, sym, ap, subst, ◌∙◌, arith}
 use Rattle.std.specs.Prelude.{Contains, slice_get}
 use Rattle.std.proofs.lemmas.Option.{same_Some, slice_get_within}
 use Rattle.std.proofs.lemmas.List.Elements.{Contains-append_cases}
-use Rattle.joint_model.specs.declared.names.Thread.{Thread}
-use Rattle.joint_model.specs.declared.names.Thread.TheVariants.{M, P, C}
-use Rattle.joint_model.specs.declared.events.Op.{Op}
-use Rattle.joint_model.specs.declared.events.Op.TheVariants as op
-use Rattle.joint_model.specs.declared.events.Reply.{Reply}
-use Rattle.joint_model.specs.declared.events.Made.{Made}
-use Rattle.joint_model.specs.Control.{Stand, idle, snapped, contracted, weakening, marked, restoring, restored, MayResolveNow}
-use Rattle.joint_model.specs.Heaps.{place, slot}
-use Rattle.joint_model.specs.Lines.{IsEvent, is_peer_event}
-use Rattle.joint_model.specs.Linked.{Linkage, MayCome, SideLawful, linkage_after, managed_after}
-use Rattle.joint_model.specs.Managed.{Managed, OpenCycle, Holds, ManagedEdge, adopted, met, given_up}
-use Rattle.joint_model.specs.ManagedReplay.{ManagedReplay, registered, managed_answer, ManagedAllows, MayResolve}
-use Rattle.joint_model.specs.Peers.{peer_of}
-use Rattle.joint_model.specs.Run.{thread_number}
-use Rattle.joint_model.specs.Told.{Told, Answer, said_alive, snap_of, contraction_of, resolution_of, phase_of, Noted}
-use Rattle.joint_model.proofs.HeapLemmas.{adopt_by-managed}
-use Rattle.joint_model.proofs.Members.{at-Contains}
-use Rattle.joint_model.proofs.WalkLemmas.{Reached-start, Reaches-self}
+use Rattle.joint_machine.specs.declared.names.Thread.{Thread}
+use Rattle.joint_machine.specs.declared.names.Thread.TheVariants.{M, P, C}
+use Rattle.joint_machine.specs.declared.events.Op.{Op}
+use Rattle.joint_machine.specs.declared.events.Op.TheVariants as op
+use Rattle.joint_machine.specs.declared.events.Reply.{Reply}
+use Rattle.joint_machine.specs.declared.events.Made.{Made}
+use Rattle.joint_machine.specs.Control.{Stand, idle, snapped, contracted, weakening, marked, restoring, restored, MayResolveNow}
+use Rattle.joint_machine.specs.Heaps.{place, slot}
+use Rattle.joint_machine.specs.Lines.{IsEvent, is_peer_event}
+use Rattle.joint_machine.specs.Linked.{Linkage, MayCome, SideLawful, linkage_after, managed_after}
+use Rattle.joint_machine.specs.Managed.{Managed, OpenCycle, Holds, ManagedEdge, adopted, met, given_up}
+use Rattle.joint_machine.specs.ManagedReplay.{ManagedReplay, registered, managed_answer, ManagedAllows, MayResolve}
+use Rattle.joint_machine.specs.Peers.{peer_of}
+use Rattle.joint_machine.specs.Run.{thread_number}
+use Rattle.joint_machine.specs.Told.{Told, Answer, said_alive, snap_of, contraction_of, resolution_of, phase_of, Noted}
+use Rattle.joint_machine.proofs.HeapLemmas.{adopt_by-managed}
+use Rattle.joint_machine.proofs.Members.{at-Contains}
+use Rattle.joint_machine.proofs.WalkLemmas.{Reached-start, Reaches-self}
 use Rattle.joint_laws.specs.LinkedInvariants.{IsDriverKept}
 use Rattle.joint_laws.specs.ManagedInvariants.{IsReplayKept}
 use Rattle.joint_laws.proofs.LinkedEntries.{Of, Allows, entry}

@@ -1,34 +1,36 @@
--- What was freed stays freed, so reads of it answer gone: the read of a cell after its resolution, once the caller's pin is empty
--- and no cycle is open, and one that is open has a later number; a weak read of a peer, whose handle is cleared or has left the
--- table. And only a mirror adds references.
+-- What was freed stays freed, so reads of it answer gone: the read of a cell after its resolution, once the caller's
+-- pin is empty and no cycle is open, and one that is open has a later number; a weak read of a peer, whose handle is
+-- cleared or has left the table. And only a mirror adds references.
 use Rattle.std.proofs.Common.{◌≡◌, ℕ, zero, suc, ◌+◌, ◌-◌, ◌<◌, ◌≤◌, ◌⊎◌, inl, inr, Bool, true, false, List, [], length, Option, Some, None, refl, sym, ap, subst, ◌∙◌, arith}
 use Rattle.std.specs.Prelude.{Contains, if◌then◌else◌, slice_get, slice_set}
 use Rattle.std.proofs.lemmas.Option.{same_Some}
 use Rattle.std.proofs.lemmas.List.Elements.{Contains-append_right}
 use Rattle.std.proofs.lemmas.List.{take_all}
 use Rattle.std.proofs.lemmas.Bool.{cases_lt}
-use Rattle.joint_model.specs.declared.names.Thread.{Thread}
-use Rattle.joint_model.specs.declared.names.Thread.TheVariants.{M, P, C}
-use Rattle.joint_model.specs.declared.names.Cycle.{Cycle}
-use Rattle.joint_model.specs.declared.lines.Act.TheVariants as act
-use Rattle.joint_model.specs.declared.events.Op.{Op}
-use Rattle.joint_model.specs.declared.events.Op.TheVariants as op
-use Rattle.joint_model.specs.declared.events.Reply.{Reply}
-use Rattle.joint_model.specs.declared.events.Reply.TheVariants as says
-use Rattle.joint_model.specs.Heaps.{Answered, answer, slot, numbered_at, place}
-use Rattle.joint_model.specs.Lines.{IsEvent, is_peer_event, is_peer_thread}
-use Rattle.joint_model.specs.Linked.{Linkage, MayCome, AllMayCome, SideLawful, ManagedLawful, PeerLawful, opening_linkage, linkage_after, managed_after, peer_after, replayed}
-use Rattle.joint_model.specs.Managed.{Managed, OpenCycle, target_read, cell_read, read_cell, managed_name}
-use Rattle.joint_model.specs.ManagedReplay.{ManagedReplay, MayResolve}
-use Rattle.joint_model.specs.PeerReplay.{PeerReplay, TableRow, Marking, row_of, table_target, SweepAllows, swept, swept_of, on_table}
-use Rattle.joint_model.specs.Peers.{Peers, peer_of, peer_read, name_read}
-use Rattle.joint_model.specs.Readers.{ReadsCell}
-use Rattle.joint_model.specs.Run.{thread_number}
-use Rattle.joint_model.specs.Told.{Told, Noted, Answer, sweep_of, resolution_of}
-use Rattle.joint_model.proofs.Deciding.{none_some}
-use Rattle.joint_model.proofs.HeapLemmas.{Contains-is_freed}
-use Rattle.joint_model.proofs.Numbered.{slot-named, numbered-made}
-use Rattle.joint_laws.specs.AfterwardsLaws.{ResolveFrees, SweepFrees, ReadsPeer, IsGoneAfter, ReadsAreGone, WeakReadsAreGone, NoMirrorBetween, NoneIsMirrored}
+use Rattle.joint_machine.specs.declared.names.Thread.{Thread}
+use Rattle.joint_machine.specs.declared.names.Thread.TheVariants.{M, P, C}
+use Rattle.joint_machine.specs.declared.names.Cycle.{Cycle}
+use Rattle.joint_machine.specs.declared.lines.Act.TheVariants as act
+use Rattle.joint_machine.specs.declared.events.Op.{Op}
+use Rattle.joint_machine.specs.declared.events.Op.TheVariants as op
+use Rattle.joint_machine.specs.declared.events.Reply.{Reply}
+use Rattle.joint_machine.specs.declared.events.Reply.TheVariants as says
+use Rattle.joint_machine.specs.Heaps.{Answered, answer, slot, numbered_at, place}
+use Rattle.joint_machine.specs.Lines.{IsEvent, is_peer_event, is_peer_thread}
+use Rattle.joint_machine.specs.Linked.{Linkage, MayCome, SideLawful, ManagedLawful, PeerLawful, opening_linkage, linkage_after, managed_after, peer_after}
+use Rattle.joint_machine.specs.Replaying.{AllMayCome, replayed}
+use Rattle.joint_machine.specs.Managed.{Managed, OpenCycle, target_read, cell_read, read_cell, managed_name}
+use Rattle.joint_machine.specs.ManagedReplay.{ManagedReplay, MayResolve}
+use Rattle.joint_machine.specs.PeerReplay.{PeerReplay, TableRow, Marking, row_of, table_target, SweepAllows, swept, swept_of, on_table}
+use Rattle.joint_machine.specs.Peers.{Peers, peer_of, peer_read, name_read}
+use Rattle.joint_machine.specs.Readers.{ReadsCell}
+use Rattle.joint_machine.specs.Run.{thread_number}
+use Rattle.joint_machine.specs.Told.{Told, Noted, Answer, sweep_of, resolution_of}
+use Rattle.joint_machine.proofs.Deciding.{none_some}
+use Rattle.joint_machine.proofs.HeapLemmas.{Contains-is_freed}
+use Rattle.joint_machine.proofs.Numbered.{slot-named, numbered-made}
+use Rattle.joint_laws.specs.AfterwardsLaws.{ReadsAreGone, WeakReadsAreGone, NoneIsMirrored}
+use Rattle.joint_laws.specs.Afterwards.{IsGoneAfter, NoMirrorBetween, ReadsPeer, ResolveFrees, SweepFrees}
 use Rattle.joint_laws.specs.PeerInvariants.{IsPeerKept}
 use Rattle.joint_laws.specs.States.{state_at}
 use Rattle.joint_laws.proofs.Everywhere.{everywhere, from_state}

@@ -1,6 +1,6 @@
--- The table of handles stays kept: as the heap grows, when a handle on an unfreed peer is issued, when a handle leaves the
--- table, when a held one's strength changes, when a name comes to have a raw handle or none, and when the handles on swept
--- peers are cleared.
+-- The table of handles stays kept: as the heap grows, when a handle on an unfreed peer is issued, when a handle leaves
+-- the table, when a held one's strength changes, when a name comes to have a raw handle or none, and when the handles
+-- on swept peers are cleared.
 use Rattle.std.proofs.Common.{◌≡◌, ◌≢◌, ℕ, zero, suc, ◌⊎◌, inl, inr, Bool, true, false, ◌||◌, List, [], ◌∷◌, ◌++◌, length, Option, Some, None, set, replicate, refl, sym, ap, subst, ◌∙◌, arith, length-append, nat_eq}
 use Rattle.std.specs.Prelude.{Contains, slice_get}
 use Rattle.std.specs.List.{list_any}
@@ -9,12 +9,12 @@ use Rattle.std.proofs.lemmas.Option.{same_Some}
 use Rattle.std.proofs.lemmas.Map.Views.{list_any-from_Contains, Contains-from_any}
 use Rattle.std.proofs.lemmas.Cmp.{nat_eq_equiv}
 use Rattle.std.proofs.lemmas.List.Elements.{Contains-append_cases, Contains-append_left, Contains-append_right}
-use Rattle.joint_model.specs.Heaps.{Heap, IsMade, IsLive, numbered_at, numbered_set, opening_heap, with_freed}
-use Rattle.joint_model.specs.Peers.{Issued, held, raw, strong}
-use Rattle.joint_model.specs.PeerReplay.{TableRow, fresh_row, cleared_rows}
+use Rattle.joint_machine.specs.Heaps.{Heap, IsMade, IsLive, numbered_at, numbered_set, opening_heap, with_freed}
+use Rattle.joint_machine.specs.Peers.{Issued, held, raw, strong}
+use Rattle.joint_machine.specs.PeerReplay.{TableRow, fresh_row, cleared_rows}
 use Rattle.joint_laws.specs.PeerInvariants.{IsTabled, IsIssued, AreHandlesKept}
-use Rattle.joint_model.proofs.Numbered.{numbered-within, numbered-push_cases, numbered-push_old, numbered_set-length, numbered_set-same, numbered_set-other, replicate-none, Contains-set_cases}
-use Rattle.joint_model.proofs.Deciding.{none_some, or-true}
+use Rattle.joint_machine.proofs.Numbered.{numbered-within, numbered-push_cases, numbered-push_old, numbered_set-length, numbered_set-same, numbered_set-other, replicate-none, Contains-set_cases}
+use Rattle.joint_machine.proofs.Deciding.{none_some, or-true}
 
 pub held-raw : (i : Issued) → i.hold ≡ held → i.hold ≡ raw → ⊥
 held-raw i e f = (let g : held ≡ raw = sym e ∙ f in cc)

@@ -1,15 +1,16 @@
--- The strength of each held handle by the driver's stand, as the driver keeps it for the candidates of the cycle that it opened.
+-- The strength of each held handle by the driver's stand, as the driver keeps it for the candidates of the cycle that
+-- it opened.
 use Rattle.std.proofs.Common.{◌≡◌, ℕ, Some, subst}
 use Rattle.std.specs.Prelude.{slice_get}
-use Rattle.joint_model.specs.Control.{OpenSnap, Stand, idle, snapped, contracted, weakening, marked, restoring, restored}
-use Rattle.joint_model.specs.Managed.{OpenCycle, Holds, candidates_of}
-use Rattle.joint_model.specs.ManagedReplay.{ManagedReplay}
-use Rattle.joint_model.specs.PeerReplay.{PeerReplay}
+use Rattle.joint_machine.specs.Control.{OpenSnap, Stand, idle, snapped, contracted, weakening, marked, restoring, restored}
+use Rattle.joint_machine.specs.Managed.{OpenCycle, Holds, candidates_of}
+use Rattle.joint_machine.specs.ManagedReplay.{ManagedReplay}
+use Rattle.joint_machine.specs.PeerReplay.{PeerReplay}
 use Rattle.joint_laws.specs.LinkedInvariants.{IsDriverKept, IsOpenedAs, ForCandidates}
 use Rattle.joint_laws.specs.LinkedLaws.{HeldByPhase, IsByPhase}
 use Rattle.joint_laws.specs.States.{state_at}
-use Rattle.joint_model.proofs.Members.{Contains-at}
-use Rattle.joint_model.proofs.HeapLemmas.{candidates_of-open}
+use Rattle.joint_machine.proofs.Members.{Contains-at}
+use Rattle.joint_machine.proofs.HeapLemmas.{candidates_of-open}
 use Rattle.joint_laws.proofs.DriverSteps.{no_candidates}
 use Rattle.joint_laws.proofs.LinkedStates.{all_kept}
 

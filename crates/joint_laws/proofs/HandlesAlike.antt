@@ -1,16 +1,16 @@
--- What an entry of the peer side does to held handles. All but the touched ones keep their rows' strength, a fresh one is
--- strong, none is forgotten, and no freed peer comes back. So what both sides keep of owners and of what threads have in
--- hand stays, as far as no touched handle is concerned.
+-- What an entry of the peer side does to held handles. All but the touched ones keep their rows' strength, a fresh one
+-- is strong, none is forgotten, and no freed peer comes back. So what both sides keep of owners and of what threads
+-- have in hand stays, as far as no touched handle is concerned.
 use Rattle.std.proofs.Common.{◌≡◌, ℕ, ◌≤◌, ◌⊎◌, inl, inr, List, length, Some, refl, sym, ap, subst, ◌∙◌, arith}
 use Rattle.std.specs.Prelude.{Contains, slice_get}
 use Rattle.std.proofs.lemmas.Option.{same_Some}
-use Rattle.joint_model.specs.Managed.{Holds}
-use Rattle.joint_model.specs.ManagedReplay.{ManagedReplay}
-use Rattle.joint_model.specs.Peers.{Issued, Strength, strong, weak}
-use Rattle.joint_model.specs.PeerReplay.{PeerReplay}
+use Rattle.joint_machine.specs.Managed.{Holds}
+use Rattle.joint_machine.specs.ManagedReplay.{ManagedReplay}
+use Rattle.joint_machine.specs.Peers.{Issued, Strength, strong, weak}
+use Rattle.joint_machine.specs.PeerReplay.{PeerReplay}
 use Rattle.joint_laws.specs.PeerInvariants.{IsIssued}
 use Rattle.joint_laws.specs.LinkedInvariants.{HasStrength, IsHeldOne, IsRowOf, AreOwnersKept, IsLoose, IsGone, IsReplaced, IsWeakenedBy, IsRestoredBy}
-use Rattle.joint_model.specs.Told.{Answer, said_alive}
+use Rattle.joint_machine.specs.Told.{Answer, said_alive}
 
 pub record HandlesAlike (touched : ℕ → Type 0) (s t : PeerReplay) : Type 0 where
   pub issued_on : (h : ℕ) (i : Issued) → IsIssued s.peers.issued h i → IsIssued t.peers.issued h i

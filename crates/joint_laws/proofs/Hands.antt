@@ -2,14 +2,14 @@
 use Rattle.std.proofs.Common.{◌≡◌, ℕ, zero, suc, ◌+◌, ◌<◌, ◌⊎◌, inl, inr, List, [], ◌∷◌, ◌++◌, Some, set, replicate, refl, sym, ap, subst, ◌∙◌, arith}
 use Rattle.std.specs.Prelude.{Contains, slice_get}
 use Rattle.std.proofs.lemmas.Option.{same_Some}
-use Rattle.joint_model.specs.Control.{Doing, free, given}
-use Rattle.joint_model.specs.ManagedReplay.{ManagedReplay}
-use Rattle.joint_model.specs.Peers.{Issued}
-use Rattle.joint_model.specs.PeerReplay.{PeerReplay}
+use Rattle.joint_machine.specs.Control.{Doing, free, given}
+use Rattle.joint_machine.specs.ManagedReplay.{ManagedReplay}
+use Rattle.joint_machine.specs.Peers.{Issued}
+use Rattle.joint_machine.specs.PeerReplay.{PeerReplay}
 use Rattle.joint_laws.specs.PeerInvariants.{IsIssued}
 use Rattle.joint_laws.specs.LinkedInvariants.{doing_in, HasInHand, HasPeer, HasMadePair, HasLent, IsLoose, IsVirgin, AreCallersKept, put_hands}
-use Rattle.joint_model.specs.Told.{Answer, said_alive, said_cleared}
-use Rattle.joint_model.proofs.Deciding.{none_some}
+use Rattle.joint_machine.specs.Told.{Answer, said_alive, said_cleared}
+use Rattle.joint_machine.proofs.Deciding.{none_some}
 
 -- a thread's entry is the written one, or as before; and as before for the thread itself only past the end
 pub doing-set_cases : (ds : List Doing) (t : ℕ) (d : Doing) (u : ℕ) → ((u ≡ t) × (doing_in (set ds t d) u ≡ d)) ⊎ ((doing_in (set ds t d) u ≡ doing_in ds u) × (u ≡ t → doing_in ds u ≡ free))

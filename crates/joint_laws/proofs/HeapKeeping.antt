@@ -1,15 +1,15 @@
--- A heap stays kept: at an operation, when an object is made, when a slot comes to name an unfreed object, and when objects
--- are freed that no slot and no staying object names.
+-- A heap stays kept: at an operation, when an object is made, when a slot comes to name an unfreed object, and when
+-- objects are freed that no slot and no staying object names.
 use Rattle.std.proofs.Common.{ℕ, ◌≤◌, inl, inr, List, length, Some, sym, subst, arith}
 use Rattle.std.specs.Prelude.{Contains}
 use Rattle.std.proofs.lemmas.Bool.{cases_lt, cases_eq}
 use Rattle.std.proofs.lemmas.Option.{same_Some}
 use Rattle.std.proofs.lemmas.List.Elements.{Contains-append_cases, Contains-append_left, Contains-append_right}
-use Rattle.joint_model.specs.Heaps.{Heap, IsLive, InSlot, fields_of, opening_heap, next_number, with_var, with_static, with_object, with_freed}
+use Rattle.joint_machine.specs.Heaps.{Heap, IsLive, InSlot, fields_of, opening_heap, next_number, with_var, with_static, with_object, with_freed}
 use Rattle.joint_laws.specs.PeerInvariants.{IsHeapKept}
-use Rattle.joint_model.proofs.Members.{Contains-nil}
-use Rattle.joint_model.proofs.Numbered.{replicate-none, Contains-set_cases}
-use Rattle.joint_model.proofs.HeapLemmas.{IsLive-later}
+use Rattle.joint_machine.proofs.Members.{Contains-nil}
+use Rattle.joint_machine.proofs.Numbered.{replicate-none, Contains-set_cases}
+use Rattle.joint_machine.proofs.HeapLemmas.{IsLive-later}
 use Rattle.joint_laws.proofs.Fields.{IsLive-more, fields-past, with_object-old, with_object-new, with_object-length}
 use Rattle.joint_laws.proofs.HeapMoves.{HasMoved, IsInReach}
 

@@ -1,16 +1,16 @@
 -- The operations that both heaps have, by what they may change: they make and free no object; a slot comes to name only
--- what a slot or a field of an object in a slot named; only an object in a slot has a field changed, and what comes into
--- the field was in a slot.
+-- what a slot or a field of an object in a slot named; only an object in a slot has a field changed, and what comes
+-- into the field was in a slot.
 use Rattle.std.proofs.Common.{◌≡◌, ℕ, ◌⊎◌, inl, inr, true, false, length, Option, Some, None, refl, sym, subst, nat_le}
 use Rattle.std.specs.Prelude.{Contains, if◌then◌else◌}
 use Rattle.std.proofs.Math.ListN.{length-set}
 use Rattle.std.proofs.lemmas.Bool.{cases_eq}
 use Rattle.std.proofs.lemmas.Option.{same_Some}
-use Rattle.joint_model.specs.declared.events.Reply.{Reply}
-use Rattle.joint_model.specs.declared.events.Reply.TheVariants as says
-use Rattle.joint_model.specs.Heaps.{Heap, InSlot, Answered, answer, slot, fields_of, with_var, with_static, with_field, copied, field_stored, field_set, read_into, field_got, dropped, loaded, stored}
-use Rattle.joint_model.proofs.Numbered.{Contains-set_cases, slot-Contains}
-use Rattle.joint_model.proofs.Deciding.{none_some}
+use Rattle.joint_machine.specs.declared.events.Reply.{Reply}
+use Rattle.joint_machine.specs.declared.events.Reply.TheVariants as says
+use Rattle.joint_machine.specs.Heaps.{Heap, InSlot, Answered, answer, slot, fields_of, with_var, with_static, with_field, copied, field_stored, field_set, read_into, field_got, dropped, loaded, stored}
+use Rattle.joint_machine.proofs.Numbered.{Contains-set_cases, slot-Contains}
+use Rattle.joint_machine.proofs.Deciding.{none_some}
 use Rattle.joint_laws.proofs.Fields.{with_field-same, with_field-other, with_field-length}
 
 -- a slot names the object, or a field of an object in a slot does

@@ -1,32 +1,32 @@
--- Each entry that may come is a step of the joint machine, or leaves the joint state as it is. So the joint projection of a
--- lawful list of entries is a run.
+-- Each entry that may come is a step of the joint machine, or leaves the joint state as it is. So the joint projection
+-- of a lawful list of entries is a run.
 use Rattle.std.proofs.Common.{◌≡◌, ℕ, zero, suc, ◌-◌, ◌⊎◌, inl, inr, Bool, true, false, List, [], ◌++◌, length, map, replicate, Option, Some, None, refl, sym, ap, subst, ◌∙◌, arith, append-nil}
 use Rattle.std.specs.Prelude.{Contains, All}
-use Rattle.joint_model.specs.declared.names.Thread.{Thread}
-use Rattle.joint_model.specs.declared.names.Thread.TheVariants.{M, P, C}
-use Rattle.joint_model.specs.declared.names.Cycle.{Cycle}
-use Rattle.joint_model.specs.declared.names.HNum.{HNum}
-use Rattle.joint_model.specs.declared.names.PhaseWord.{PhaseWord}
-use Rattle.joint_model.specs.Joined.{answers_at, answers_so_far}
-use Rattle.joint_model.proofs.Members.{Contains-nil, Contains-cons_cases, All-members}
-use Rattle.joint_model.specs.declared.lines.Act.{Act}
-use Rattle.joint_model.specs.declared.lines.Act.TheVariants as act
-use Rattle.joint_model.specs.declared.events.Op.{Op}
-use Rattle.joint_model.specs.declared.events.Op.TheVariants as op
-use Rattle.joint_model.specs.declared.events.Reply.{Reply}
-use Rattle.joint_model.specs.Control.{Doing, Stand, idle, snapped, contracted, weakening, marked, restoring, restored, control_after, stand_after, MayContractNow, MayMirrorNow, MayWeakenNow, MayBeginNow, MaySweepNow, MayClearNow, MayRestoreNow, MayResolveNow, MayAbandonNow}
-use Rattle.joint_model.specs.Cycles.{IsResolution, IsAnsweredAlive, resolve_reply}
-use Rattle.joint_model.specs.Heaps.{Answered, place, slot}
-use Rattle.joint_model.specs.Joint.{Joint, JointMarking, twin_of}
-use Rattle.joint_model.specs.Lines.{IsEvent, is_peer_event}
-use Rattle.joint_model.specs.Linked.{Linkage, SideLawful, PeerLawful, managed_after, peer_after, is_joint}
-use Rattle.joint_model.specs.Managed.{Managed, OpenCycle, managed_line, adopted, met, given_up, candidates_of, resolved as resolved_state}
-use Rattle.joint_model.specs.ManagedReplay.{ManagedReplay, MayResolve, registered, adopt_by, meet_by, give_by}
-use Rattle.joint_model.specs.PeerReplay.{PeerReplay, row_of, restored_by, MayRestore}
-use Rattle.joint_model.specs.Run.{JointEvent, IsComputed, on_managed}
-use Rattle.joint_model.specs.Told.{Told, nothing, snap_of, contraction_of, references_of, slice_of, sweep_of, resolution_of, phase_of, Answer}
-use Rattle.joint_model.proofs.HeapLemmas.{adopt_by-managed, adopt_by-reply, candidates_of-open}
-use Rattle.joint_laws.specs.JointAgreement.{AreTold, Agrees}
+use Rattle.joint_machine.specs.declared.names.Thread.{Thread}
+use Rattle.joint_machine.specs.declared.names.Thread.TheVariants.{M, P, C}
+use Rattle.joint_machine.specs.declared.names.Cycle.{Cycle}
+use Rattle.joint_machine.specs.declared.names.HNum.{HNum}
+use Rattle.joint_machine.specs.declared.names.PhaseWord.{PhaseWord}
+use Rattle.joint_machine.specs.Joined.{answers_at, answers_so_far}
+use Rattle.joint_machine.proofs.Members.{Contains-nil, Contains-cons_cases, All-members}
+use Rattle.joint_machine.specs.declared.lines.Act.{Act}
+use Rattle.joint_machine.specs.declared.lines.Act.TheVariants as act
+use Rattle.joint_machine.specs.declared.events.Op.{Op}
+use Rattle.joint_machine.specs.declared.events.Op.TheVariants as op
+use Rattle.joint_machine.specs.declared.events.Reply.{Reply}
+use Rattle.joint_machine.specs.Control.{Doing, Stand, idle, snapped, contracted, weakening, marked, restoring, restored, control_after, stand_after, MayContractNow, MayMirrorNow, MayWeakenNow, MayBeginNow, MaySweepNow, MayClearNow, MayRestoreNow, MayResolveNow, MayAbandonNow}
+use Rattle.joint_machine.specs.Cycles.{IsResolution, IsAnsweredAlive, resolve_reply}
+use Rattle.joint_machine.specs.Heaps.{Answered, place, slot}
+use Rattle.joint_machine.specs.Joint.{Joint, JointMarking, twin_of}
+use Rattle.joint_machine.specs.Lines.{IsEvent, is_peer_event}
+use Rattle.joint_machine.specs.Linked.{Linkage, SideLawful, PeerLawful, managed_after, peer_after, is_joint}
+use Rattle.joint_machine.specs.Managed.{Managed, OpenCycle, managed_line, adopted, met, given_up, candidates_of, resolved as resolved_state}
+use Rattle.joint_machine.specs.ManagedReplay.{ManagedReplay, MayResolve, registered, adopt_by, meet_by, give_by}
+use Rattle.joint_machine.specs.PeerReplay.{PeerReplay, row_of, restored_by, MayRestore}
+use Rattle.joint_machine.specs.Run.{JointEvent, IsComputed, on_managed}
+use Rattle.joint_machine.specs.Told.{Told, nothing, snap_of, contraction_of, references_of, slice_of, sweep_of, resolution_of, phase_of, Answer}
+use Rattle.joint_machine.proofs.HeapLemmas.{adopt_by-managed, adopt_by-reply, candidates_of-open}
+use Rattle.joint_laws.specs.JointAgreement.{AreTold, Agrees, Flags, joint_as}
 use Rattle.joint_laws.specs.LinkedInvariants.{AreOwnersKept, doing_in}
 use Rattle.joint_laws.proofs.ManagedMoves.{GoesOn, GoesOn-stay, managed_line-goes_on, adopted-goes_on, met-goes_on, given_up-goes_on}
 use Rattle.joint_laws.proofs.ManagedSteps.{meet_by-managed, meet_by-reply, give_by-managed, give_by-reply, twin-live}
@@ -40,7 +40,6 @@ use Rattle.joint_laws.proofs.LinkedQuiet.{AreKept, threads-callers}
 use Rattle.joint_laws.proofs.LinkedThreads.{release-hand}
 use Rattle.joint_laws.proofs.LinkedDriver.{one_cycle}
 use Rattle.joint_laws.proofs.LinkedEntries.{Of, entry, Allows}
-use Rattle.joint_laws.specs.JointAgreement.{Flags, joint_as}
 
 -- an entry is a step of the joint machine, or leaves its state as it is
 pub data Outcome (m : Managed) (s : PeerReplay) (flags : Flags) (answers : List (Option Answer)) (jm : Option JointMarking) (t : Thread) (o : Op) (reply : Reply) (told : Told) (n : Managed) (u : PeerReplay) : Type 0 where

@@ -3,12 +3,12 @@ use Rattle.std.proofs.Common.{◌≡◌, ℕ, zero, suc, Bool, true, false, List
 use Rattle.std.specs.Prelude.{Contains, slice_get, slice_set}
 use Rattle.std.proofs.lemmas.List.Elements.{Contains-append_left}
 use Rattle.std.proofs.lemmas.Option.{same_Some}
-use Rattle.joint_model.specs.Heaps.{numbered_at, numbered_set}
-use Rattle.joint_model.specs.Joined.{is_untabled, removed_in}
-use Rattle.joint_model.specs.Joint.{JointMarking}
-use Rattle.joint_model.specs.Peers.{Peers, Issued, issued_since}
-use Rattle.joint_model.specs.PeerReplay.{PeerReplay, TableRow, Marking, fresh_row, brought_to, cleared_rows}
-use Rattle.joint_model.proofs.Deciding.{none_some}
+use Rattle.joint_machine.specs.Heaps.{numbered_at, numbered_set}
+use Rattle.joint_machine.specs.Joined.{is_untabled, removed_in}
+use Rattle.joint_machine.specs.Joint.{JointMarking}
+use Rattle.joint_machine.specs.Peers.{Peers, Issued, issued_since}
+use Rattle.joint_machine.specs.PeerReplay.{PeerReplay, TableRow, Marking, fresh_row, brought_to, cleared_rows}
+use Rattle.joint_machine.proofs.Deciding.{none_some}
 use Rattle.joint_laws.specs.JointAgreement.{Flags, AreFlags, issued_flags, gone_flags, IsSameMarking, AreSameMarkings}
 use Rattle.joint_laws.specs.PeerInvariants.{IsTabled}
 use Rattle.joint_laws.proofs.Sparing.{spared-later, later}

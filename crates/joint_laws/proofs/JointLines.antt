@@ -1,35 +1,34 @@
--- The entries of threads on the peer side are steps of the joint machine: both compute on the same peers, and where a handle
--- leads is the same.
+-- The entries of threads on the peer side are steps of the joint machine: both compute on the same peers, and where a
+-- handle leads is the same.
 use Rattle.std.proofs.Common.{◌≡◌, ℕ, ◌≤◌, ◌||◌, List, length, Option, Some, None, set, refl, sym, ap, subst, ◌∙◌, arith}
-use Rattle.joint_model.specs.declared.names.Thread.TheVariants.{M, P}
-use Rattle.joint_model.specs.declared.names.Sort.{Sort}
-use Rattle.joint_model.specs.declared.names.Var.{Var}
-use Rattle.joint_model.specs.declared.names.GName.{GName}
-use Rattle.joint_model.specs.declared.names.StaticNo.{StaticNo}
-use Rattle.joint_model.specs.declared.names.HNum.{HNum}
-use Rattle.joint_model.specs.declared.lines.Act.{Act}
-use Rattle.joint_model.specs.declared.lines.Act.TheVariants as act
-use Rattle.joint_model.specs.declared.events.Op.TheVariants as op
-use Rattle.joint_model.specs.declared.events.Reply.{Reply}
-use Rattle.joint_model.specs.declared.events.Reply.TheVariants as says
-use Rattle.joint_model.specs.Control.{Doing, Stand}
-use Rattle.joint_model.specs.Heaps.{Answered, slot, is_full}
-use Rattle.joint_model.specs.Joint.{Joint, JointMarking, joint_target}
-use Rattle.joint_model.specs.ManagedReplay.{ManagedReplay}
-use Rattle.joint_model.specs.Peers.{Peers, peer_line, pair_made, gripped, landed, issued_since, handles_full}
-use Rattle.joint_model.specs.PeerReplay.{PeerReplay, table_target, on_table, brings, untabled, peer_thread_line}
-use Rattle.joint_model.specs.Run.{on_peers, without}
-use Rattle.joint_model.specs.Told.{Told}
-use Rattle.joint_laws.specs.JointAgreement.{Agrees, issued_flags, gone_flags}
+use Rattle.joint_machine.specs.declared.names.Thread.TheVariants.{M, P}
+use Rattle.joint_machine.specs.declared.names.Sort.{Sort}
+use Rattle.joint_machine.specs.declared.names.Var.{Var}
+use Rattle.joint_machine.specs.declared.names.GName.{GName}
+use Rattle.joint_machine.specs.declared.names.StaticNo.{StaticNo}
+use Rattle.joint_machine.specs.declared.names.HNum.{HNum}
+use Rattle.joint_machine.specs.declared.lines.Act.{Act}
+use Rattle.joint_machine.specs.declared.lines.Act.TheVariants as act
+use Rattle.joint_machine.specs.declared.events.Op.TheVariants as op
+use Rattle.joint_machine.specs.declared.events.Reply.{Reply}
+use Rattle.joint_machine.specs.declared.events.Reply.TheVariants as says
+use Rattle.joint_machine.specs.Control.{Doing, Stand}
+use Rattle.joint_machine.specs.Heaps.{Answered, slot, is_full}
+use Rattle.joint_machine.specs.Joint.{Joint, JointMarking, joint_target}
+use Rattle.joint_machine.specs.ManagedReplay.{ManagedReplay}
+use Rattle.joint_machine.specs.Peers.{Peers, peer_line, pair_made, gripped, landed, issued_since, handles_full}
+use Rattle.joint_machine.specs.PeerReplay.{PeerReplay, table_target, on_table, brings, untabled, peer_thread_line}
+use Rattle.joint_machine.specs.Run.{on_peers, without}
+use Rattle.joint_machine.specs.Told.{Told}
+use Rattle.joint_laws.specs.JointAgreement.{Agrees, issued_flags, gone_flags, Flags, joint_as}
 use Rattle.joint_laws.specs.LinkedInvariants.{IsLoose}
-use Rattle.joint_model.proofs.Numbered.{slot-Contains}
+use Rattle.joint_machine.proofs.Numbered.{slot-Contains}
 use Rattle.joint_laws.proofs.PeerEvents.{freed_by}
 use Rattle.joint_laws.proofs.PeerQuietEvents.{IsRawOne, quiet-line, quiet-pair, quiet-grip, quiet-land}
 use Rattle.joint_laws.proofs.JointFlags.{AreFlags-issued}
 use Rattle.joint_laws.proofs.JointTargets.{target-same}
 use Rattle.joint_laws.proofs.JointSteps.{Steps, bring-peers, bring-reply, agrees-peers, agrees-brought, joint-brought, flags-gone}
 use Rattle.joint_laws.proofs.LinkedQuiet.{AreKept}
-use Rattle.joint_laws.specs.JointAgreement.{Flags, joint_as}
 
 module _ (r : ManagedReplay) (s : PeerReplay) (ds : List Doing) (d : Stand) (k : AreKept r s ds d) (flags : Flags) (jm : Option JointMarking) (ag : Agrees s flags jm) where
   abbrev j : Joint

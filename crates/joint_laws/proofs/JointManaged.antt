@@ -2,20 +2,20 @@
 use Rattle.std.proofs.Common.{◌≡◌, ℕ, inl, inr, List, Option, Some, None, refl, sym, ap, subst, ◌∙◌}
 use Rattle.std.specs.Prelude.{Contains}
 use Rattle.std.proofs.lemmas.Option.{same_Some}
-use Rattle.joint_model.specs.Control.{Doing, OpenSnap, restored}
-use Rattle.joint_model.specs.Cycles.{IsResolution, IsAnsweredAlive}
-use Rattle.joint_model.specs.Joint.{Joint, JointMarking}
-use Rattle.joint_model.specs.Managed.{OpenCycle}
-use Rattle.joint_model.specs.ManagedReplay.{ManagedReplay}
-use Rattle.joint_model.specs.Peers.{Issued}
-use Rattle.joint_model.specs.PeerReplay.{PeerReplay}
-use Rattle.joint_model.specs.Run.{IsKept}
+use Rattle.joint_machine.specs.Control.{Doing, OpenSnap, restored}
+use Rattle.joint_machine.specs.Cycles.{IsResolution, IsAnsweredAlive}
+use Rattle.joint_machine.specs.Joint.{Joint, JointMarking}
+use Rattle.joint_machine.specs.Managed.{OpenCycle}
+use Rattle.joint_machine.specs.ManagedReplay.{ManagedReplay}
+use Rattle.joint_machine.specs.Peers.{Issued}
+use Rattle.joint_machine.specs.PeerReplay.{PeerReplay}
+use Rattle.joint_machine.specs.Run.{IsKept}
 use Rattle.joint_laws.specs.LinkedInvariants.{IsRowOf, IsRestored}
-use Rattle.joint_model.proofs.Members.{Contains-at, at-Contains}
+use Rattle.joint_machine.proofs.Members.{Contains-at, at-Contains}
 use Rattle.joint_laws.proofs.DriverSteps.{row_of, alive-live, cleared-freed, answered}
 use Rattle.joint_laws.proofs.LinkedQuiet.{AreKept}
 use Rattle.joint_laws.specs.JointAgreement.{Flags, joint_as}
-use Rattle.joint_model.specs.Told.{Answer}
+use Rattle.joint_machine.specs.Told.{Answer}
 
 -- a resolution
 module _ (r : ManagedReplay) (s : PeerReplay) (ds : List Doing) (op : OpenSnap) (answers : List Answer) (clear : ℕ) (k : AreKept r s ds (restored op answers clear)) (flags : Flags) (jm : Option JointMarking) (freed : List ℕ) where

@@ -1,27 +1,27 @@
--- A restore of a history is a step of the joint machine: its handle is removed in both, its peer is freed in both or gets the
--- handle with the same next number, and the candidate's place has the answer.
+-- A restore of a history is a step of the joint machine: its handle is removed in both, its peer is freed in both or
+-- gets the handle with the same next number, and the candidate's place has the answer.
 use Rattle.std.proofs.Common.{◌≡◌, ℕ, zero, suc, ◌+◌, ◌-◌, Bool, true, false, List, [], ◌∷◌, ◌++◌, length, map, replicate, Option, Some, None, refl, sym, ap, subst, ◌∙◌, arith, length-append}
 use Rattle.std.specs.Prelude.{slice_get, if◌then◌else◌}
 use Rattle.std.proofs.lemmas.Bool.{eqb-true, eq-eqb}
 use Rattle.std.proofs.lemmas.Option.{same_Some, slice_get_within}
-use Rattle.joint_model.specs.declared.names.Thread.TheVariants.{C}
-use Rattle.joint_model.specs.declared.events.Op.TheVariants as op
-use Rattle.joint_model.specs.declared.events.Reply.{Reply}
-use Rattle.joint_model.specs.declared.events.Reply.TheVariants as says
-use Rattle.joint_model.specs.Control.{Doing, OpenSnap, restoring, IsCandidateHandle, answer_in}
-use Rattle.joint_model.specs.Heaps.{Answered, IsLive, answer, numbered_at, is_freed}
-use Rattle.joint_model.specs.Joined.{answers_so_far}
-use Rattle.joint_model.specs.Joint.{Joint, JointMarking}
-use Rattle.joint_model.specs.Managed.{Managed, Holds, handle_of, candidates_of}
-use Rattle.joint_model.specs.ManagedReplay.{ManagedReplay}
-use Rattle.joint_model.specs.Peers.{Issued, held, strong, peer_of, next_handle}
-use Rattle.joint_model.specs.PeerReplay.{PeerReplay, TableRow, row_of, restored_by, withdrawn, given_anew as given_to}
-use Rattle.joint_model.specs.Run.{JointRestore, joint_restored, answered, answered_for, is_that_handle, without, given_anew}
-use Rattle.joint_model.specs.Told.{nothing, Answer, said_alive, said_cleared}
-use Rattle.joint_model.proofs.Deciding.{none_some}
-use Rattle.joint_model.proofs.HeapLemmas.{Contains-is_freed, is_freed-live, Holds-handle_of, candidates_of-open}
-use Rattle.joint_model.proofs.Members.{Contains-at, Rises-once}
-use Rattle.joint_model.proofs.Numbered.{slot-named}
+use Rattle.joint_machine.specs.declared.names.Thread.TheVariants.{C}
+use Rattle.joint_machine.specs.declared.events.Op.TheVariants as op
+use Rattle.joint_machine.specs.declared.events.Reply.{Reply}
+use Rattle.joint_machine.specs.declared.events.Reply.TheVariants as says
+use Rattle.joint_machine.specs.Control.{Doing, OpenSnap, restoring, IsCandidateHandle, answer_in}
+use Rattle.joint_machine.specs.Heaps.{Answered, IsLive, answer, numbered_at, is_freed}
+use Rattle.joint_machine.specs.Joined.{answers_so_far}
+use Rattle.joint_machine.specs.Joint.{Joint, JointMarking}
+use Rattle.joint_machine.specs.Managed.{Managed, Holds, handle_of, candidates_of}
+use Rattle.joint_machine.specs.ManagedReplay.{ManagedReplay}
+use Rattle.joint_machine.specs.Peers.{Issued, held, strong, peer_of, next_handle}
+use Rattle.joint_machine.specs.PeerReplay.{PeerReplay, TableRow, row_of, restored_by, withdrawn, given_anew as given_to}
+use Rattle.joint_machine.specs.Run.{JointRestore, joint_restored, answered, answered_for, is_that_handle, without, given_anew}
+use Rattle.joint_machine.specs.Told.{nothing, Answer, said_alive, said_cleared}
+use Rattle.joint_machine.proofs.Deciding.{none_some}
+use Rattle.joint_machine.proofs.HeapLemmas.{Contains-is_freed, is_freed-live, Holds-handle_of, candidates_of-open}
+use Rattle.joint_machine.proofs.Members.{Contains-at, Rises-once}
+use Rattle.joint_machine.proofs.Numbered.{slot-named}
 use Rattle.joint_laws.specs.JointAgreement.{Flags, Agrees, joint_as, gone_flags}
 use Rattle.joint_laws.specs.LinkedInvariants.{IsRestoring}
 use Rattle.joint_laws.specs.PeerInvariants.{IsTabled, IsIssued}

@@ -1,19 +1,18 @@
--- The entries that are no steps of the joint machine leave the joint state as it is, and the flags and the marking agree
--- with what they leave: a weakened handle stays in the table.
+-- The entries that are no steps of the joint machine leave the joint state as it is, and the flags and the marking
+-- agree with what they leave: a weakened handle stays in the table.
 use Rattle.std.proofs.Common.{◌≡◌, ℕ, ◌+◌, ◌-◌, Bool, true, false, List, [], ◌∷◌, ◌++◌, length, Option, Some, None, refl, sym, subst, ◌∙◌}
 use Rattle.std.specs.Prelude.{if◌then◌else◌, min, nat_lt}
-use Rattle.joint_model.specs.declared.names.Thread.{Thread}
-use Rattle.joint_model.specs.declared.events.Reply.TheVariants as says
-use Rattle.joint_model.specs.Heaps.{answer, numbered_at, numbered_set}
-use Rattle.joint_model.specs.Joint.{JointMarking}
-use Rattle.joint_model.specs.Managed.{Managed}
-use Rattle.joint_model.specs.Peers.{strong, weak}
-use Rattle.joint_model.specs.PeerReplay.{PeerReplay, Mirror, Marking, row_of, is_thread, sliced, mirrored, with_weakened}
-use Rattle.joint_laws.specs.JointAgreement.{AreSameMarkings, Agrees}
-use Rattle.joint_model.proofs.Numbered.{slot-named}
+use Rattle.joint_machine.specs.declared.names.Thread.{Thread}
+use Rattle.joint_machine.specs.declared.events.Reply.TheVariants as says
+use Rattle.joint_machine.specs.Heaps.{answer, numbered_at, numbered_set}
+use Rattle.joint_machine.specs.Joint.{JointMarking}
+use Rattle.joint_machine.specs.Managed.{Managed}
+use Rattle.joint_machine.specs.Peers.{strong, weak}
+use Rattle.joint_machine.specs.PeerReplay.{PeerReplay, Mirror, Marking, row_of, is_thread, sliced, mirrored, with_weakened}
+use Rattle.joint_laws.specs.JointAgreement.{AreSameMarkings, Agrees, Flags, joint_as}
+use Rattle.joint_machine.proofs.Numbered.{slot-named}
 use Rattle.joint_laws.proofs.JointFlags.{removed-written, IsSameMarking-later}
-use Rattle.joint_laws.specs.JointAgreement.{Flags, joint_as}
-use Rattle.joint_model.specs.Components.{End}
+use Rattle.joint_machine.specs.Components.{End}
 
 -- the joint state is as it was, and agrees
 pub record Rests (m : Managed) (s : PeerReplay) (flags : Flags) (jm : Option JointMarking) (n : Managed) (u : PeerReplay) : Type 0 where

@@ -1,18 +1,18 @@
--- Each linked state of a lawful list of entries has a joint state that agrees with its sides; an entry leads to the next by a
--- step of the joint machine, or with the same joint state.
+-- Each linked state of a lawful list of entries has a joint state that agrees with its sides; an entry leads to the
+-- next by a step of the joint machine, or with the same joint state.
 use Rattle.std.proofs.Common.{◌≡◌, Bool, true, false, List, [], ◌∷◌, length, Option, None, refl, ap, cond}
-use Rattle.joint_model.specs.Joint.{Joint, JointMarking, opening}
-use Rattle.joint_model.specs.Linked.{Linkage, MayCome, opening_linkage, linkage_after, is_joint, machine_entries}
-use Rattle.joint_model.specs.Run.{Moment, JointStep}
-use Rattle.joint_model.specs.Told.{Noted}
-use Rattle.joint_laws.specs.JointAgreement.{AreTold, Agrees}
-use Rattle.joint_model.specs.Joined.{answers_at}
-use Rattle.joint_model.specs.Managed.{candidates_of}
+use Rattle.joint_machine.specs.Joint.{Joint, JointMarking, opening}
+use Rattle.joint_machine.specs.Linked.{Linkage, MayCome, opening_linkage, linkage_after, is_joint}
+use Rattle.joint_machine.specs.Replaying.{machine_entries}
+use Rattle.joint_machine.specs.Run.{Moment, JointStep}
+use Rattle.joint_machine.specs.Told.{Noted}
+use Rattle.joint_laws.specs.JointAgreement.{AreTold, Agrees, Flags, joint_as}
+use Rattle.joint_machine.specs.Joined.{answers_at}
+use Rattle.joint_machine.specs.Managed.{candidates_of}
 use Rattle.joint_laws.proofs.JointSince.{IsSince, since-opening, since-entry}
 use Rattle.joint_laws.proofs.RunsAreSound.{stays, marking-case}
 use Rattle.joint_laws.proofs.JointEntries.{Outcome, moves, rests, outcome}
 use Rattle.joint_laws.proofs.LinkedEntries.{Of, AreKept-entry, AreKept-opening}
-use Rattle.joint_laws.specs.JointAgreement.{Flags, joint_as}
 
 -- a linked state with the joint state that agrees with it
 pub record Stands (s : Linkage) : Type 0 where
@@ -39,7 +39,8 @@ pub record IsTraced (m : Moment) : Type 0 where
 pub outcome-of : (s : Linkage) (w : Stands s) (n : Noted) → MayCome s n → Outcome s.managed.managed s.peer w.flags (answers_at (linkage_after s n).control.stand (length (candidates_of (linkage_after s n).managed.managed))) w.marking n.entry.made.caller n.entry.made.op n.entry.made.reply n.told (linkage_after s n).managed.managed (linkage_after s n).peer
 outcome-of s w n may = outcome s w.kept w.flags w.marking w.agrees w.told n.entry.number n.entry.made.index n.entry.made.reply n.entry.made.cites n.entry.made.caller n.entry.made.op n.told may.event may.lawful may.order (AreKept-entry s n may w.kept).owners
 
--- an entry that may come leads to a linked state with its joint state, by a step of the joint machine or with the same one
+-- an entry that may come leads to a linked state with its joint state, by a step of the joint machine or with the same
+-- one
 pub data Enters (s : Linkage) (w : Stands s) (n : Noted) : Type 0 where
   by_step : is_joint n.entry.made.op ≡ true → (v : Stands (linkage_after s n)) → JointStep (state_of s w) n (state_of (linkage_after s n) v) → Enters s w n
   at_rest : is_joint n.entry.made.op ≡ false → (v : Stands (linkage_after s n)) → state_of (linkage_after s n) v ≡ state_of s w → Enters s w n

@@ -1,32 +1,31 @@
--- While a marking is open, each row that holds a handle on a peer that isn't spared held it at the begin: a row that took its
--- handle since has a strong one, so its peer is spared.
+-- While a marking is open, each row that holds a handle on a peer that isn't spared held it at the begin: a row that
+-- took its handle since has a strong one, so its peer is spared.
 use Rattle.std.proofs.Common.{◌≡◌, ℕ, ◌⊎◌, inl, inr, Bool, true, false, Option, Some, None, refl, sym, ap, subst, ◌∙◌}
 use Rattle.std.specs.Prelude.{Contains}
 use Rattle.std.proofs.lemmas.Option.{same_Some}
-use Rattle.joint_model.specs.declared.events.Op.{Op}
-use Rattle.joint_model.specs.declared.events.Reply.{Reply}
-use Rattle.joint_model.specs.declared.events.Made.{Made}
-use Rattle.joint_model.specs.Joint.{JointMarking, Graph}
-use Rattle.joint_model.specs.Lines.{is_peer_event}
-use Rattle.joint_model.specs.Linked.{Linkage, MayCome, linkage_after, peer_after}
-use Rattle.joint_model.specs.Managed.{Managed, OpenCycle, Holds, candidates_of}
-use Rattle.joint_model.specs.Peers.{Issued, strong}
-use Rattle.joint_model.specs.PeerReplay.{PeerReplay, Marking}
-use Rattle.joint_model.specs.Told.{Told, Noted}
-use Rattle.joint_laws.specs.JointAgreement.{AreSameMarkings}
+use Rattle.joint_machine.specs.declared.events.Op.{Op}
+use Rattle.joint_machine.specs.declared.events.Reply.{Reply}
+use Rattle.joint_machine.specs.declared.events.Made.{Made}
+use Rattle.joint_machine.specs.Joint.{JointMarking, Graph}
+use Rattle.joint_machine.specs.Lines.{is_peer_event}
+use Rattle.joint_machine.specs.Linked.{Linkage, MayCome, linkage_after, peer_after}
+use Rattle.joint_machine.specs.Managed.{Managed, OpenCycle, Holds, candidates_of}
+use Rattle.joint_machine.specs.Peers.{Issued, strong}
+use Rattle.joint_machine.specs.PeerReplay.{PeerReplay, Marking}
+use Rattle.joint_machine.specs.Told.{Told, Noted}
+use Rattle.joint_laws.specs.JointAgreement.{AreSameMarkings, Flags, joint_as}
 use Rattle.joint_laws.specs.LinkedInvariants.{HasStrength}
 use Rattle.joint_laws.specs.ManagedInvariants.{IsManagedKept}
 use Rattle.joint_laws.specs.PeerInvariants.{IsIssued, IsSpared}
-use Rattle.joint_model.proofs.Members.{Contains-decided}
-use Rattle.joint_model.proofs.Deciding.{none_some}
-use Rattle.joint_model.proofs.HeapLemmas.{IsLive-before, candidates_of-open}
+use Rattle.joint_machine.proofs.Members.{Contains-decided}
+use Rattle.joint_machine.proofs.Deciding.{none_some}
+use Rattle.joint_machine.proofs.HeapLemmas.{IsLive-before, candidates_of-open}
 use Rattle.joint_laws.proofs.DriverSteps.{no_candidates}
 use Rattle.joint_laws.proofs.ManagedEntries.{ManagedStep-entry}
 use Rattle.joint_laws.proofs.ManagedSteps.{ManagedStep, going_on, snapping, resolving, abandoning}
 use Rattle.joint_laws.proofs.LinkedEntries.{Of}
 use Rattle.joint_laws.proofs.PeerSince.{GoesOnSparing, stays-sparing, peer-goes_on}
 use Rattle.joint_laws.proofs.RunsAreSound.{MarkingCase, stays, ends, opens}
-use Rattle.joint_laws.specs.JointAgreement.{Flags, joint_as}
 
 abbrev pub IsSince : Managed → PeerReplay → Option JointMarking → Type 0
 IsSince m s jm = (y : JointMarking) → jm ≡ Some y → (mk : Marking) → s.marking ≡ Some mk → (x h : ℕ) (i : Issued) → Holds m x h → IsIssued s.peers.issued h i

@@ -1,15 +1,16 @@
--- Laws of the joint state at every state of a lawful list of entries. What a marking spares it goes on sparing while it is
--- open, entry by entry; so its sweep, which frees nothing that it spares, frees nothing that was reached meanwhile.
+-- Laws of the joint state at every state of a lawful list of entries. What a marking spares it goes on sparing while it
+-- is open, entry by entry; so its sweep, which frees nothing that it spares, frees nothing that was reached meanwhile.
 use Rattle.std.proofs.Common.{◌≡◌, ℕ, zero, suc, ◌+◌, List, [], ◌∷◌, take, drop, Option, Some, None, refl, sym, subst, arith}
 use Rattle.std.specs.Prelude.{Contains}
-use Rattle.joint_model.specs.declared.names.Thread.{Thread}
-use Rattle.joint_model.specs.declared.events.Op.{Op}
-use Rattle.joint_model.specs.declared.events.Op.TheVariants as op
-use Rattle.joint_model.specs.declared.events.Reply.{Reply}
-use Rattle.joint_model.specs.Linked.{Linkage, AllMayCome, opening_linkage, replayed, SideLawful}
-use Rattle.joint_model.specs.Lines.{is_peer_event}
-use Rattle.joint_model.specs.PeerReplay.{Marking, SweepAllows}
-use Rattle.joint_model.specs.Told.{Told, Noted, sweep_of}
+use Rattle.joint_machine.specs.declared.names.Thread.{Thread}
+use Rattle.joint_machine.specs.declared.events.Op.{Op}
+use Rattle.joint_machine.specs.declared.events.Op.TheVariants as op
+use Rattle.joint_machine.specs.declared.events.Reply.{Reply}
+use Rattle.joint_machine.specs.Linked.{Linkage, opening_linkage, SideLawful}
+use Rattle.joint_machine.specs.Replaying.{AllMayCome, replayed}
+use Rattle.joint_machine.specs.Lines.{is_peer_event}
+use Rattle.joint_machine.specs.PeerReplay.{Marking, SweepAllows}
+use Rattle.joint_machine.specs.Told.{Told, Noted, sweep_of}
 use Rattle.joint_laws.specs.LinkedLaws.{ReachedIsSpared, ReachedIsNotSwept, IsOpenUntil, TwinIsRegistered}
 use Rattle.joint_laws.specs.PeerInvariants.{IsSpared}
 use Rattle.joint_laws.specs.States.{state_at}

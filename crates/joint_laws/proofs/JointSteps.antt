@@ -1,35 +1,34 @@
--- The entries of a history that are steps of the joint machine are its steps, from the joint state before to the joint state
--- after; the others leave the joint state as it is.
+-- The entries of a history that are steps of the joint machine are its steps, from the joint state before to the joint
+-- state after; the others leave the joint state as it is.
 use Rattle.std.proofs.Common.{◌≡◌, ℕ, ◌+◌, ◌≤◌, ◌⊎◌, inl, inr, Bool, true, false, ◌||◌, List, [], length, Option, Some, None, get_or, refl, sym, ap, subst, ◌∙◌}
 use Rattle.std.specs.Prelude.{Contains, All, if◌then◌else◌}
 use Rattle.std.proofs.lemmas.List.Elements.{Contains-get_or}
-use Rattle.joint_model.specs.declared.names.Thread.{Thread}
-use Rattle.joint_model.specs.declared.names.Thread.TheVariants.{M, P, C}
-use Rattle.joint_model.specs.declared.events.Op.{Op}
-use Rattle.joint_model.specs.declared.events.Op.TheVariants as op
-use Rattle.joint_model.specs.declared.events.Reply.{Reply}
-use Rattle.joint_model.specs.declared.events.Reply.TheVariants as says
-use Rattle.joint_model.specs.Control.{Doing, Stand}
-use Rattle.joint_model.specs.Heaps.{IsLive, Answered, answer}
-use Rattle.joint_model.specs.Joint.{Joint, JointMarking, peer, IsReached, IsReachedIn}
-use Rattle.joint_model.specs.Lines.{IsEvent, IsPeerThread}
-use Rattle.joint_model.specs.Managed.{Managed}
-use Rattle.joint_model.specs.ManagedReplay.{ManagedReplay}
-use Rattle.joint_model.specs.Peers.{Peers, issued_since}
-use Rattle.joint_model.specs.PeerReplay.{PeerReplay, Marking, strong_peers, on_table, brings, bring_by, untabled, begun, swept, swept_of, is_thread, IsSweep, SweepAllows}
-use Rattle.joint_model.specs.Run.{JointEvent, JointBegin, JointSweep, IsStored}
-use Rattle.joint_model.specs.Told.{Told, nothing, sweep_of, Answer}
-use Rattle.joint_laws.specs.JointAgreement.{AreFlags, IsSameMarking, AreSameMarkings, Agrees, issued_flags, gone_flags}
+use Rattle.joint_machine.specs.declared.names.Thread.{Thread}
+use Rattle.joint_machine.specs.declared.names.Thread.TheVariants.{M, P, C}
+use Rattle.joint_machine.specs.declared.events.Op.{Op}
+use Rattle.joint_machine.specs.declared.events.Op.TheVariants as op
+use Rattle.joint_machine.specs.declared.events.Reply.{Reply}
+use Rattle.joint_machine.specs.declared.events.Reply.TheVariants as says
+use Rattle.joint_machine.specs.Control.{Doing, Stand}
+use Rattle.joint_machine.specs.Heaps.{IsLive, Answered, answer}
+use Rattle.joint_machine.specs.Joint.{Joint, JointMarking, peer, IsReached, IsReachedIn}
+use Rattle.joint_machine.specs.Lines.{IsEvent, IsPeerThread}
+use Rattle.joint_machine.specs.Managed.{Managed}
+use Rattle.joint_machine.specs.ManagedReplay.{ManagedReplay}
+use Rattle.joint_machine.specs.Peers.{Peers, issued_since}
+use Rattle.joint_machine.specs.PeerReplay.{PeerReplay, Marking, strong_peers, on_table, brings, bring_by, untabled, begun, swept, swept_of, is_thread, IsSweep, SweepAllows}
+use Rattle.joint_machine.specs.Run.{JointEvent, JointBegin, JointSweep, IsStored}
+use Rattle.joint_machine.specs.Told.{Told, nothing, sweep_of, Answer}
+use Rattle.joint_laws.specs.JointAgreement.{AreFlags, IsSameMarking, AreSameMarkings, Agrees, issued_flags, gone_flags, Flags, joint_as}
 use Rattle.joint_laws.specs.PeerInvariants.{IsSpared}
 use Rattle.joint_laws.proofs.PeerEntries.{swept_told, begun-kept}
 use Rattle.joint_laws.proofs.PeerQuietEvents.{quiet-begun}
 use Rattle.joint_laws.proofs.Sparing.{spared-stays}
 use Rattle.joint_laws.proofs.JointFlags.{AreFlags-gone, AreFlags-issued, removed-swept, AreSameMarkings-brought}
-use Rattle.joint_model.specs.Joined.{removed_in}
+use Rattle.joint_machine.specs.Joined.{removed_in}
 use Rattle.joint_laws.proofs.SparedWalks.{reached-spared}
 use Rattle.joint_laws.proofs.LinkedQuiet.{AreKept, kept-quiet}
-use Rattle.joint_laws.specs.JointAgreement.{Flags, joint_as}
-use Rattle.joint_model.proofs.HeapLemmas.{same_thread, thread_itself}
+use Rattle.joint_machine.proofs.HeapLemmas.{same_thread, thread_itself}
 
 -- the step of an event, with the flags and the marking after it
 pub record Steps (m : Managed) (s : PeerReplay) (flags : Flags) (answers : List (Option Answer)) (jm : Option JointMarking) (t : Thread) (o : Op) (reply : Reply) (told : Told) (n : Managed) (u : PeerReplay) : Type 0 where

@@ -1,29 +1,28 @@
--- Where a handle leads is the same in the joint machine and in the peer side's table; and the joint twin of a peer is what
--- the registry answers.
+-- Where a handle leads is the same in the joint machine and in the peer side's table; and the joint twin of a peer is
+-- what the registry answers.
 use Rattle.std.proofs.Common.{◌≡◌, ◌≢◌, ℕ, zero, suc, ◌+◌, ◌<◌, ◌≤◌, inl, inr, Bool, true, false, ◌&&◌, List, [], ◌∷◌, length, Option, Some, None, refl, sym, ap, ◌∙◌, arith, nat_eq}
 use Rattle.std.specs.Prelude.{Contains, slice_get, if◌then◌else◌}
 use Rattle.std.proofs.lemmas.Bool.{cases_eq}
 use Rattle.std.proofs.lemmas.Bool.Decides.{Decides-eqb}
 use Rattle.std.proofs.lemmas.Option.{same_Some}
-use Rattle.joint_model.specs.Control.{Doing, Stand}
-use Rattle.joint_model.specs.Joined.{removed_in}
+use Rattle.joint_machine.specs.Control.{Doing, Stand}
+use Rattle.joint_machine.specs.Joined.{removed_in}
 use Rattle.joint_laws.proofs.JointFlags.{removed-at}
-use Rattle.joint_model.specs.Heaps.{numbered_at, is_freed}
-use Rattle.joint_model.specs.Joint.{Joint, JointMarking, joint_target, is_twin, twin_from, twin_of}
-use Rattle.joint_model.specs.Managed.{handle_of}
-use Rattle.joint_model.specs.ManagedReplay.{ManagedReplay, registered}
-use Rattle.joint_model.specs.Peers.{Issued, Hold, held, raw, peer_of, is_held}
-use Rattle.joint_model.specs.PeerReplay.{PeerReplay, TableRow, table_target}
-use Rattle.joint_laws.specs.JointAgreement.{AreFlags}
+use Rattle.joint_machine.specs.Heaps.{numbered_at, is_freed}
+use Rattle.joint_machine.specs.Joint.{Joint, JointMarking, joint_target, is_twin, twin_from, twin_of}
+use Rattle.joint_machine.specs.Managed.{handle_of}
+use Rattle.joint_machine.specs.ManagedReplay.{ManagedReplay, registered}
+use Rattle.joint_machine.specs.Peers.{Issued, Hold, held, raw, peer_of, is_held}
+use Rattle.joint_machine.specs.PeerReplay.{PeerReplay, TableRow, table_target}
+use Rattle.joint_laws.specs.JointAgreement.{AreFlags, Flags, joint_as}
 use Rattle.joint_laws.specs.PeerInvariants.{IsTabled, IsIssued}
 use Rattle.joint_laws.specs.LinkedInvariants.{IsRowOf}
-use Rattle.joint_model.proofs.Numbered.{numbered-within, numbered-made}
-use Rattle.joint_model.proofs.Deciding.{none_some}
-use Rattle.joint_model.proofs.HeapLemmas.{Contains-is_freed, is_freed-live, Holds-handle_of}
+use Rattle.joint_machine.proofs.Numbered.{numbered-within, numbered-made}
+use Rattle.joint_machine.proofs.Deciding.{none_some}
+use Rattle.joint_machine.proofs.HeapLemmas.{Contains-is_freed, is_freed-live, Holds-handle_of}
 use Rattle.joint_laws.proofs.Registered.{registered-some, registered-none}
 use Rattle.joint_laws.proofs.DriverPeerSteps.{holds-handle_of}
 use Rattle.joint_laws.proofs.LinkedQuiet.{AreKept}
-use Rattle.joint_laws.specs.JointAgreement.{Flags, joint_as}
 
 -- the answers by their parts
 abbrev table_by : PeerReplay → ℕ → Option TableRow → Option ℕ

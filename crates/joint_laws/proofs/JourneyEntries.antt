@@ -2,25 +2,25 @@
 -- resolution it makes the cycle complete.
 use Rattle.std.proofs.Common.{◌≡◌, ℕ, Bool, true, false, List, [], ◌∷◌, ◌++◌, length, Option, Some, None, refl, ap, subst, ◌∙◌}
 use Rattle.std.specs.Prelude.{slice_get}
-use Rattle.joint_model.specs.declared.names.Thread.{Thread}
-use Rattle.joint_model.specs.declared.names.Thread.TheVariants.{M, P, C}
-use Rattle.joint_model.specs.declared.names.Cycle.{Cycle}
-use Rattle.joint_model.specs.declared.names.HNum.{HNum}
-use Rattle.joint_model.specs.declared.names.PhaseWord.{PhaseWord}
-use Rattle.joint_model.specs.declared.lines.Act.{Act}
-use Rattle.joint_model.specs.declared.events.Op.{Op}
-use Rattle.joint_model.specs.declared.events.Op.TheVariants as op
-use Rattle.joint_model.specs.declared.events.Reply.{Reply}
-use Rattle.joint_model.specs.Control.{OpenSnap, Stand, idle, snapped, contracted, weakening, marked, restoring, restored, stand_after, MayContractNow, MayMirrorNow, MayWeakenNow, MayBeginNow, MaySweepNow, MayRestoreNow, MayClearNow, MayResolveNow}
-use Rattle.joint_model.specs.Cycles.{IsResolution, IsAnsweredAlive}
-use Rattle.joint_model.specs.Headline.{IsCompleteCycle}
-use Rattle.joint_model.specs.Lines.{IsEvent}
-use Rattle.joint_model.specs.Linked.{Linkage, MayCome, linkage_after, is_joint}
-use Rattle.joint_model.specs.Managed.{OpenCycle, candidates_of}
-use Rattle.joint_model.specs.ManagedReplay.{MayResolve}
-use Rattle.joint_model.specs.PeerReplay.{Marking, begun, swept, SweepAllows}
-use Rattle.joint_model.specs.Run.{Moment}
-use Rattle.joint_model.specs.Told.{Told, Noted, snap_of, contraction_of, sweep_of, resolution_of, Answer}
+use Rattle.joint_machine.specs.declared.names.Thread.{Thread}
+use Rattle.joint_machine.specs.declared.names.Thread.TheVariants.{M, P, C}
+use Rattle.joint_machine.specs.declared.names.Cycle.{Cycle}
+use Rattle.joint_machine.specs.declared.names.HNum.{HNum}
+use Rattle.joint_machine.specs.declared.names.PhaseWord.{PhaseWord}
+use Rattle.joint_machine.specs.declared.lines.Act.{Act}
+use Rattle.joint_machine.specs.declared.events.Op.{Op}
+use Rattle.joint_machine.specs.declared.events.Op.TheVariants as op
+use Rattle.joint_machine.specs.declared.events.Reply.{Reply}
+use Rattle.joint_machine.specs.Control.{OpenSnap, Stand, idle, snapped, contracted, weakening, marked, restoring, restored, stand_after, MayContractNow, MayMirrorNow, MayWeakenNow, MayBeginNow, MaySweepNow, MayRestoreNow, MayClearNow, MayResolveNow}
+use Rattle.joint_machine.specs.Cycles.{IsResolution, IsAnsweredAlive}
+use Rattle.joint_machine.specs.Headline.{IsCompleteCycle}
+use Rattle.joint_machine.specs.Lines.{IsEvent}
+use Rattle.joint_machine.specs.Linked.{Linkage, MayCome, linkage_after, is_joint}
+use Rattle.joint_machine.specs.Managed.{OpenCycle, candidates_of}
+use Rattle.joint_machine.specs.ManagedReplay.{MayResolve}
+use Rattle.joint_machine.specs.PeerReplay.{Marking, begun, swept, SweepAllows}
+use Rattle.joint_machine.specs.Run.{Moment}
+use Rattle.joint_machine.specs.Told.{Told, Noted, snap_of, contraction_of, sweep_of, resolution_of, Answer}
 use Rattle.joint_laws.specs.LinkedInvariants.{IsDriverKept}
 use Rattle.joint_laws.proofs.AtResolutions.{complete-cycle}
 use Rattle.joint_laws.proofs.Journeys.{way-next, way-rests}

@@ -1,12 +1,12 @@
--- What is known of the run at each of the driver's stands: nothing where it is idle; the snapshot's place and what was seen
--- since, before the own sweep; in the marking what that has seen too; and behind the sweep what that freed.
+-- What is known of the run at each of the driver's stands: nothing where it is idle; the snapshot's place and what was
+-- seen since, before the own sweep; in the marking what that has seen too; and behind the sweep what that freed.
 use Rattle.std.proofs.Common.{◌≡◌, List, [], ◌∷◌, ◌++◌, length, Some, ◌∙◌}
-use Rattle.joint_model.specs.Control.{OpenSnap, Stand, idle, snapped, contracted, weakening, marked, restoring, restored}
-use Rattle.joint_model.specs.Linked.{Linkage, MayCome, linkage_after}
-use Rattle.joint_model.specs.Managed.{OpenCycle}
-use Rattle.joint_model.specs.PeerReplay.{Marking}
-use Rattle.joint_model.specs.Run.{Moment}
-use Rattle.joint_model.specs.Told.{Noted}
+use Rattle.joint_machine.specs.Control.{OpenSnap, Stand, idle, snapped, contracted, weakening, marked, restoring, restored}
+use Rattle.joint_machine.specs.Linked.{Linkage, MayCome, linkage_after}
+use Rattle.joint_machine.specs.Managed.{OpenCycle}
+use Rattle.joint_machine.specs.PeerReplay.{Marking}
+use Rattle.joint_machine.specs.Run.{Moment}
+use Rattle.joint_machine.specs.Told.{Noted}
 use Rattle.joint_laws.proofs.AfterSweeps.{swept-rests, swept-moves}
 use Rattle.joint_laws.proofs.Journeys.{IsOnTheWay, IsBehindSweep, goes-open, snaps-more}
 use Rattle.joint_laws.proofs.JointRuns.{Stands}

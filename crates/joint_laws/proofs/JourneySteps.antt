@@ -1,17 +1,17 @@
--- Where the driver's stand doesn't move on, what is known of the run stays known, at a step of the joint machine and at an
--- entry that is none.
+-- Where the driver's stand doesn't move on, what is known of the run stays known, at a step of the joint machine and at
+-- an entry that is none.
 use Rattle.std.proofs.Common.{◌≡◌, List, [], ◌∷◌, ◌++◌, Some, sym, ap, subst, ◌∙◌}
 use Rattle.std.proofs.lemmas.Option.{same_Some}
-use Rattle.joint_model.specs.declared.names.Cycle.{Cycle}
-use Rattle.joint_model.specs.declared.names.HNum.{HNum}
-use Rattle.joint_model.specs.declared.events.Op.{Op}
-use Rattle.joint_model.specs.declared.events.Op.TheVariants as op
-use Rattle.joint_model.specs.Control.{OpenSnap, Stand, idle, snapped, contracted, weakening, marked, restoring, restored}
-use Rattle.joint_model.specs.Linked.{Linkage, MayCome, linkage_after}
-use Rattle.joint_model.specs.Managed.{OpenCycle}
-use Rattle.joint_model.specs.PeerReplay.{Marking}
-use Rattle.joint_model.specs.Run.{Moment}
-use Rattle.joint_model.specs.Told.{Noted}
+use Rattle.joint_machine.specs.declared.names.Cycle.{Cycle}
+use Rattle.joint_machine.specs.declared.names.HNum.{HNum}
+use Rattle.joint_machine.specs.declared.events.Op.{Op}
+use Rattle.joint_machine.specs.declared.events.Op.TheVariants as op
+use Rattle.joint_machine.specs.Control.{OpenSnap, Stand, idle, snapped, contracted, weakening, marked, restoring, restored}
+use Rattle.joint_machine.specs.Linked.{Linkage, MayCome, linkage_after}
+use Rattle.joint_machine.specs.Managed.{OpenCycle}
+use Rattle.joint_machine.specs.PeerReplay.{Marking}
+use Rattle.joint_machine.specs.Run.{Moment}
+use Rattle.joint_machine.specs.Told.{Noted}
 use Rattle.joint_laws.specs.LinkedInvariants.{IsMirrored, IsInMarking, IsDriverKept}
 use Rattle.joint_laws.proofs.BroughtBack.{IsLater, later-entry}
 use Rattle.joint_laws.proofs.Journeys.{refs-entry, goes-open, way-next, way-rests}

@@ -1,22 +1,22 @@
--- Where the driver's own event moves its stand on: the snapshot begins what is watched, the begin what the own marking sees,
--- and the sweep ends both.
+-- Where the driver's own event moves its stand on: the snapshot begins what is watched, the begin what the own marking
+-- sees, and the sweep ends both.
 use Rattle.std.proofs.Common.{◌≡◌, ℕ, ◌+◌, List, [], ◌∷◌, ◌++◌, length, Some, None, refl, sym, ap, subst, ◌∙◌}
 use Rattle.std.specs.Prelude.{slice_get}
 use Rattle.std.proofs.lemmas.Option.{same_Some}
-use Rattle.joint_model.specs.declared.names.Thread.TheVariants.{C}
-use Rattle.joint_model.specs.declared.names.Span.{Span}
-use Rattle.joint_model.specs.declared.events.Op.TheVariants as op
-use Rattle.joint_model.specs.declared.events.Reply.TheVariants as says
-use Rattle.joint_model.specs.Control.{OpenSnap}
-use Rattle.joint_model.specs.Cycles.{IsSnapshot}
-use Rattle.joint_model.specs.Headline.{SnapsAt, SweepsAt, IsMadeBefore}
-use Rattle.joint_model.specs.Heaps.{IsMade}
-use Rattle.joint_model.specs.Linked.{Linkage, MayCome, linkage_after}
-use Rattle.joint_model.specs.Managed.{OpenCycle, with_snapshot}
-use Rattle.joint_model.specs.Peers.{weak}
-use Rattle.joint_model.specs.PeerReplay.{PeerReplay, begun, IsSweep, strong_peers}
-use Rattle.joint_model.specs.Run.{Moment}
-use Rattle.joint_model.specs.Told.{Noted, snap_of, sweep_of}
+use Rattle.joint_machine.specs.declared.names.Thread.TheVariants.{C}
+use Rattle.joint_machine.specs.declared.names.Span.{Span}
+use Rattle.joint_machine.specs.declared.events.Op.TheVariants as op
+use Rattle.joint_machine.specs.declared.events.Reply.TheVariants as says
+use Rattle.joint_machine.specs.Control.{OpenSnap}
+use Rattle.joint_machine.specs.Cycles.{IsSnapshot}
+use Rattle.joint_machine.specs.Headline.{SnapsAt, SweepsAt, IsMadeBefore}
+use Rattle.joint_machine.specs.Heaps.{IsMade}
+use Rattle.joint_machine.specs.Linked.{Linkage, MayCome, linkage_after}
+use Rattle.joint_machine.specs.Managed.{OpenCycle, with_snapshot}
+use Rattle.joint_machine.specs.Peers.{weak}
+use Rattle.joint_machine.specs.PeerReplay.{PeerReplay, begun, IsSweep, strong_peers}
+use Rattle.joint_machine.specs.Run.{Moment}
+use Rattle.joint_machine.specs.Told.{Noted, snap_of, sweep_of}
 use Rattle.joint_laws.specs.LinkedInvariants.{HasStrength, IsMirrored, ForCandidates, IsInMarking, IsRestoring}
 use Rattle.joint_laws.proofs.AtSnapshots.{watched-snapshot}
 use Rattle.joint_laws.proofs.AtSweeps.{swept-watch}

@@ -1,27 +1,29 @@
--- Only a read that names an object and a take that names one change the pins. So the pins that these leave are those of the
--- managed state, and with them each entry of the managed side's own list is lawful: it is the entry of the whole history.
+-- Only a read that names an object and a take that names one change the pins. So the pins that these leave are those of
+-- the managed state, and with them each entry of the managed side's own list is lawful: it is the entry of the whole
+-- history.
 use Rattle.std.proofs.Common.{◌≡◌, ℕ, Bool, true, false, not, ◌&&◌, List, [], ◌∷◌, Option, Some, None, refl, sym, ap, subst, ◌∙◌}
 use Rattle.std.specs.Prelude.{if◌then◌else◌, slice_set}
-use Rattle.joint_model.specs.declared.names.Thread.{Thread}
-use Rattle.joint_model.specs.declared.names.Thread.TheVariants.{M, P, C}
-use Rattle.joint_model.specs.declared.names.Kind.{Kind}
-use Rattle.joint_model.specs.declared.names.Sort.{Sort}
-use Rattle.joint_model.specs.declared.lines.Act.{Act}
-use Rattle.joint_model.specs.declared.lines.Act.TheVariants as act
-use Rattle.joint_model.specs.declared.events.Op.{Op}
-use Rattle.joint_model.specs.declared.events.Op.TheVariants as op
-use Rattle.joint_model.specs.declared.events.Reply.{Reply}
-use Rattle.joint_model.specs.declared.events.Reply.TheVariants as says
-use Rattle.joint_model.specs.declared.events.Made.{Made}
-use Rattle.joint_model.specs.Heaps.{Answered, answer, slot, place, is_full, with_var}
-use Rattle.joint_model.specs.Lines.{IsEvent, is_peer_event, is_read}
-use Rattle.joint_model.specs.Linked.{Linkage, opening_linkage, linkage_after, SideLawful, ManagedLawful, managed_after}
-use Rattle.joint_model.specs.Managed.{Managed, OpenCycle, managed_name, managed_line, adopted, met, given_up, with_row, cell_set, weakened_to, pin_taken, without_handle, twin_met, twin_kind, twin_fields}
-use Rattle.joint_model.specs.ManagedReplay.{ManagedReplay, opening_replay, registered}
-use Rattle.joint_model.specs.Readers.{is_managed_entry, pins_after, reader_after, EntryMayCome, entry_after, replayed_reading, AllMayComeReading, with_pins, AllKeptLawful, PinnedEntry}
-use Rattle.joint_model.specs.Run.{thread_number}
-use Rattle.joint_model.specs.Told.{Told, snap_of, contraction_of, resolution_of, phase_of, Noted}
-use Rattle.joint_model.proofs.HeapLemmas.{adopt_by-managed}
+use Rattle.joint_machine.specs.declared.names.Thread.{Thread}
+use Rattle.joint_machine.specs.declared.names.Thread.TheVariants.{M, P, C}
+use Rattle.joint_machine.specs.declared.names.Kind.{Kind}
+use Rattle.joint_machine.specs.declared.names.Sort.{Sort}
+use Rattle.joint_machine.specs.declared.lines.Act.{Act}
+use Rattle.joint_machine.specs.declared.lines.Act.TheVariants as act
+use Rattle.joint_machine.specs.declared.events.Op.{Op}
+use Rattle.joint_machine.specs.declared.events.Op.TheVariants as op
+use Rattle.joint_machine.specs.declared.events.Reply.{Reply}
+use Rattle.joint_machine.specs.declared.events.Reply.TheVariants as says
+use Rattle.joint_machine.specs.declared.events.Made.{Made}
+use Rattle.joint_machine.specs.Heaps.{Answered, answer, slot, place, is_full, with_var}
+use Rattle.joint_machine.specs.Lines.{IsEvent, is_peer_event, is_read}
+use Rattle.joint_machine.specs.Linked.{Linkage, opening_linkage, linkage_after, SideLawful, ManagedLawful, managed_after}
+use Rattle.joint_machine.specs.Managed.{Managed, OpenCycle, managed_name, managed_line, adopted, met, given_up, with_row, cell_set, weakened_to, pin_taken, without_handle, twin_met, twin_kind, twin_fields}
+use Rattle.joint_machine.specs.ManagedReplay.{ManagedReplay, opening_replay, registered}
+use Rattle.joint_machine.specs.Readers.{is_managed_entry, pins_after, reader_after, EntryMayCome, entry_after, replayed_reading, AllMayComeReading}
+use Rattle.joint_machine.specs.PinsTold.{AllKeptLawful, PinnedEntry, with_pins}
+use Rattle.joint_machine.specs.Run.{thread_number}
+use Rattle.joint_machine.specs.Told.{Told, snap_of, contraction_of, resolution_of, phase_of, Noted}
+use Rattle.joint_machine.proofs.HeapLemmas.{adopt_by-managed}
 use Rattle.joint_laws.specs.ReadingLaws.{pins_by, kept_from, kept_replayed, KeptPinsAreLawful, KeptPinsLeadToSame}
 use Rattle.joint_laws.proofs.ManagedMoves.{met_by}
 use Rattle.joint_laws.proofs.ManagedSteps.{meet_by-managed, give_by-managed}

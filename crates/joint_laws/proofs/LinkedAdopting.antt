@@ -1,21 +1,21 @@
 -- All stays kept at the entries that adopt and give up handles, and at a meeting.
 use Rattle.std.proofs.Common.{◌≡◌, ℕ, Bool, true, false, List, [], ◌∷◌, ◌++◌, Option, Some, None, set, refl, sym, subst, ◌∙◌}
 use Rattle.std.specs.Prelude.{Contains, if◌then◌else◌}
-use Rattle.joint_model.specs.declared.names.Kind.{Kind}
-use Rattle.joint_model.specs.declared.names.Sort.{Sort}
-use Rattle.joint_model.specs.declared.names.Var.{Var}
-use Rattle.joint_model.specs.declared.names.PNum.{PNum}
-use Rattle.joint_model.specs.declared.names.HNum.{HNum}
-use Rattle.joint_model.specs.declared.events.Op.TheVariants as op
-use Rattle.joint_model.specs.declared.events.Reply.{Reply}
-use Rattle.joint_model.specs.declared.events.Reply.TheVariants as says
-use Rattle.joint_model.specs.Control.{Doing, free, given, met, Stand, doing_after}
-use Rattle.joint_model.specs.Heaps.{IsLive, Answered, answer, slot, is_full, next_number, numbered_set, with_var}
-use Rattle.joint_model.specs.Managed.{Managed, OpenCycle, Holds, handle_of, managed_name, with_row, adopted, twin_met, twin_kind, twin_fields, given_up, without_handle, handle_reply}
-use Rattle.joint_model.specs.ManagedReplay.{ManagedReplay, registered, with_twin, without_twins, adopt_by, meet_by, give_by}
-use Rattle.joint_model.specs.Peers.{Issued}
-use Rattle.joint_model.specs.PeerReplay.{PeerReplay}
-use Rattle.joint_model.proofs.Deciding.{none_some}
+use Rattle.joint_machine.specs.declared.names.Kind.{Kind}
+use Rattle.joint_machine.specs.declared.names.Sort.{Sort}
+use Rattle.joint_machine.specs.declared.names.Var.{Var}
+use Rattle.joint_machine.specs.declared.names.PNum.{PNum}
+use Rattle.joint_machine.specs.declared.names.HNum.{HNum}
+use Rattle.joint_machine.specs.declared.events.Op.TheVariants as op
+use Rattle.joint_machine.specs.declared.events.Reply.{Reply}
+use Rattle.joint_machine.specs.declared.events.Reply.TheVariants as says
+use Rattle.joint_machine.specs.Control.{Doing, free, given, met, Stand, doing_after}
+use Rattle.joint_machine.specs.Heaps.{IsLive, Answered, answer, slot, is_full, next_number, numbered_set, with_var}
+use Rattle.joint_machine.specs.Managed.{Managed, OpenCycle, Holds, handle_of, managed_name, with_row, adopted, twin_met, twin_kind, twin_fields, given_up, without_handle, handle_reply}
+use Rattle.joint_machine.specs.ManagedReplay.{ManagedReplay, registered, with_twin, without_twins, adopt_by, meet_by, give_by}
+use Rattle.joint_machine.specs.Peers.{Issued}
+use Rattle.joint_machine.specs.PeerReplay.{PeerReplay}
+use Rattle.joint_machine.proofs.Deciding.{none_some}
 use Rattle.joint_laws.specs.ManagedInvariants.{IsReplayKept}
 use Rattle.joint_laws.specs.PeerInvariants.{IsIssued}
 use Rattle.joint_laws.specs.LinkedInvariants.{doing_in, HasInHand, HasPeer, HasMadePair, IsLoose, AreCallersKept, hands}

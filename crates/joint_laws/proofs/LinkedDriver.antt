@@ -2,25 +2,25 @@
 use Rattle.std.proofs.Common.{◌≡◌, ℕ, true, false, List, [], ◌∷◌, ◌++◌, Option, Some, refl, sym, subst, ◌∙◌}
 use Rattle.std.specs.Prelude.{slice_get}
 use Rattle.std.proofs.lemmas.Option.{same_Some}
-use Rattle.joint_model.specs.declared.names.Cycle.{Cycle}
-use Rattle.joint_model.specs.declared.names.HNum.{HNum}
-use Rattle.joint_model.specs.declared.names.PhaseWord.{PhaseWord}
-use Rattle.joint_model.specs.declared.events.Op.TheVariants as op
-use Rattle.joint_model.specs.declared.events.Reply.{Reply}
-use Rattle.joint_model.specs.Components.{End, mirror_edges}
-use Rattle.joint_model.specs.Control.{Doing, OpenSnap, Stand, idle, snapped, contracted, weakening, marked, restoring, restored, carried_edges, stand_after, IsCandidateHandle, MaySnap, MayContractNow, MayMirrorNow, MayWeakenNow, MayResolveNow, MayAbandonNow}
-use Rattle.joint_model.specs.Cycles.{IsSnapshot, IsAnsweredAlive, IsResolution, IsDeadContraction}
-use Rattle.joint_model.specs.Heaps.{numbered_at, numbered_set}
-use Rattle.joint_model.specs.Managed.{Managed, OpenCycle, Holds, with_snapshot as snapped_state, resolved as resolved_state, abandoned as abandoned_state}
-use Rattle.joint_model.specs.ManagedReplay.{ManagedReplay, MayContract, MayResolve, without_twins}
-use Rattle.joint_model.specs.Peers.{strong, weak}
-use Rattle.joint_model.specs.PeerReplay.{PeerReplay, Mirror, mirrored, with_weakened, MayWeaken, Refers}
-use Rattle.joint_model.specs.Told.{Told, contraction_of, references_of, resolution_of, Answer, handles_given}
+use Rattle.joint_machine.specs.declared.names.Cycle.{Cycle}
+use Rattle.joint_machine.specs.declared.names.HNum.{HNum}
+use Rattle.joint_machine.specs.declared.names.PhaseWord.{PhaseWord}
+use Rattle.joint_machine.specs.declared.events.Op.TheVariants as op
+use Rattle.joint_machine.specs.declared.events.Reply.{Reply}
+use Rattle.joint_machine.specs.Components.{End, mirror_edges}
+use Rattle.joint_machine.specs.Control.{Doing, OpenSnap, Stand, idle, snapped, contracted, weakening, marked, restoring, restored, carried_edges, stand_after, IsCandidateHandle, MaySnap, MayContractNow, MayMirrorNow, MayWeakenNow, MayResolveNow, MayAbandonNow}
+use Rattle.joint_machine.specs.Cycles.{IsSnapshot, IsAnsweredAlive, IsResolution, IsDeadContraction}
+use Rattle.joint_machine.specs.Heaps.{numbered_at, numbered_set}
+use Rattle.joint_machine.specs.Managed.{Managed, OpenCycle, Holds, with_snapshot as snapped_state, resolved as resolved_state, abandoned as abandoned_state}
+use Rattle.joint_machine.specs.ManagedReplay.{ManagedReplay, MayContract, MayResolve, without_twins}
+use Rattle.joint_machine.specs.Peers.{strong, weak}
+use Rattle.joint_machine.specs.PeerReplay.{PeerReplay, Mirror, mirrored, with_weakened, MayWeaken, Refers}
+use Rattle.joint_machine.specs.Told.{Told, contraction_of, references_of, resolution_of, Answer, handles_given}
 use Rattle.joint_laws.specs.ManagedInvariants.{IsReplayKept}
 use Rattle.joint_laws.specs.PeerInvariants.{IsPeerKept}
 use Rattle.joint_laws.specs.LinkedInvariants.{IsBeforeMirror, AreCallersKept, hands}
-use Rattle.joint_model.proofs.Numbered.{slot-named}
-use Rattle.joint_model.proofs.HeapLemmas.{candidates_of-open}
+use Rattle.joint_machine.proofs.Numbered.{slot-named}
+use Rattle.joint_machine.proofs.HeapLemmas.{candidates_of-open}
 use Rattle.joint_laws.proofs.ManagedMoves.{GoesOn-stay}
 use Rattle.joint_laws.proofs.HandlesAlike.{HandlesAlike, nothing_touched, AreOwnersKept-peer}
 use Rattle.joint_laws.proofs.OwnersManaged.{OwnersAlike}

@@ -1,26 +1,26 @@
 -- All stays kept at each entry that may come, so it holds at every state of a lawful list of entries.
 use Rattle.std.proofs.Common.{◌≡◌, ℕ, inl, inr, Bool, true, List, [], Option, Some, refl, sym, ap, ◌∙◌, arith}
 use Rattle.std.proofs.lemmas.Option.{same_Some}
-use Rattle.joint_model.specs.declared.names.Thread.{Thread}
-use Rattle.joint_model.specs.declared.names.Thread.TheVariants.{M, P, C}
-use Rattle.joint_model.specs.declared.lines.Act.{Act}
-use Rattle.joint_model.specs.declared.lines.Act.TheVariants as act
-use Rattle.joint_model.specs.declared.events.Op.{Op}
-use Rattle.joint_model.specs.declared.events.Op.TheVariants as op
-use Rattle.joint_model.specs.declared.events.Reply.{Reply}
-use Rattle.joint_model.specs.declared.events.Made.{Made}
-use Rattle.joint_model.specs.Control.{Doing, Stand, CallerAllows, control_after}
-use Rattle.joint_model.specs.Heaps.{place, slot, numbered_at}
-use Rattle.joint_model.specs.Managed.{managed_line, given_up}
-use Rattle.joint_model.specs.Peers.{Issued}
-use Rattle.joint_model.specs.Lines.{IsEvent, is_peer_event}
-use Rattle.joint_model.specs.Linked.{Linkage, MayCome, SideLawful, PeerLawful, opening_linkage, linkage_after, managed_after, peer_after}
-use Rattle.joint_model.specs.ManagedReplay.{ManagedReplay, registered}
-use Rattle.joint_model.specs.PeerReplay.{PeerReplay, peer_thread_line, sliced, begun}
-use Rattle.joint_model.specs.Told.{Told, Noted, nothing, snap_of, contraction_of, references_of, slice_of, sweep_of, resolution_of, phase_of}
+use Rattle.joint_machine.specs.declared.names.Thread.{Thread}
+use Rattle.joint_machine.specs.declared.names.Thread.TheVariants.{M, P, C}
+use Rattle.joint_machine.specs.declared.lines.Act.{Act}
+use Rattle.joint_machine.specs.declared.lines.Act.TheVariants as act
+use Rattle.joint_machine.specs.declared.events.Op.{Op}
+use Rattle.joint_machine.specs.declared.events.Op.TheVariants as op
+use Rattle.joint_machine.specs.declared.events.Reply.{Reply}
+use Rattle.joint_machine.specs.declared.events.Made.{Made}
+use Rattle.joint_machine.specs.Control.{Doing, Stand, CallerAllows, control_after}
+use Rattle.joint_machine.specs.Heaps.{place, slot, numbered_at}
+use Rattle.joint_machine.specs.Managed.{managed_line, given_up}
+use Rattle.joint_machine.specs.Peers.{Issued}
+use Rattle.joint_machine.specs.Lines.{IsEvent, is_peer_event}
+use Rattle.joint_machine.specs.Linked.{Linkage, MayCome, SideLawful, PeerLawful, opening_linkage, linkage_after, managed_after, peer_after}
+use Rattle.joint_machine.specs.ManagedReplay.{ManagedReplay, registered}
+use Rattle.joint_machine.specs.PeerReplay.{PeerReplay, peer_thread_line, sliced, begun}
+use Rattle.joint_machine.specs.Told.{Told, Noted, nothing, snap_of, contraction_of, references_of, slice_of, sweep_of, resolution_of, phase_of}
 use Rattle.joint_laws.specs.LinkedInvariants.{doing_in, HasMadePair, AreOwnersKept, hands}
-use Rattle.joint_model.proofs.Members.{Contains-nil}
-use Rattle.joint_model.proofs.Numbered.{numbered-within}
+use Rattle.joint_machine.proofs.Members.{Contains-nil}
+use Rattle.joint_machine.proofs.Numbered.{numbered-within}
 use Rattle.joint_laws.proofs.ManagedMoves.{met_by}
 use Rattle.joint_laws.proofs.ManagedSteps.{meet_by-reply, give_by-reply}
 use Rattle.joint_laws.proofs.HandleKeeping.{held-raw}

@@ -1,21 +1,21 @@
 -- All stays kept at the entries that make a pair, grip a peer, lend and land, and release.
 use Rattle.std.proofs.Common.{◌≡◌, ℕ, inr, Bool, true, false, ◌||◌, List, ◌++◌, map, Option, Some, None, set, refl, sym, subst, ◌∙◌}
 use Rattle.std.specs.Prelude.{Contains, if◌then◌else◌}
-use Rattle.joint_model.specs.declared.names.Sort.{Sort}
-use Rattle.joint_model.specs.declared.names.Var.{Var}
-use Rattle.joint_model.specs.declared.names.StaticNo.{StaticNo}
-use Rattle.joint_model.specs.declared.events.Op.TheVariants as op
-use Rattle.joint_model.specs.declared.events.Reply.{Reply}
-use Rattle.joint_model.specs.declared.events.Reply.TheVariants as says
-use Rattle.joint_model.specs.Control.{Doing, free, made, lent, gripped, Stand, doing_after}
-use Rattle.joint_model.specs.Heaps.{answer, slot, is_full, next_number}
-use Rattle.joint_model.specs.Managed.{Holds, handle_of, handle_reply}
-use Rattle.joint_model.specs.ManagedReplay.{ManagedReplay}
-use Rattle.joint_model.specs.Peers.{Peers, held, strong, with_handle, with_peer, pair_made, peer_gripped, landed, next_handle, issued_since, handles_full}
-use Rattle.joint_model.specs.PeerReplay.{PeerReplay, fresh_row, on_table, brings, untabled, table_target}
+use Rattle.joint_machine.specs.declared.names.Sort.{Sort}
+use Rattle.joint_machine.specs.declared.names.Var.{Var}
+use Rattle.joint_machine.specs.declared.names.StaticNo.{StaticNo}
+use Rattle.joint_machine.specs.declared.events.Op.TheVariants as op
+use Rattle.joint_machine.specs.declared.events.Reply.{Reply}
+use Rattle.joint_machine.specs.declared.events.Reply.TheVariants as says
+use Rattle.joint_machine.specs.Control.{Doing, free, made, lent, gripped, Stand, doing_after}
+use Rattle.joint_machine.specs.Heaps.{answer, slot, is_full, next_number}
+use Rattle.joint_machine.specs.Managed.{Holds, handle_of, handle_reply}
+use Rattle.joint_machine.specs.ManagedReplay.{ManagedReplay}
+use Rattle.joint_machine.specs.Peers.{Peers, held, strong, with_handle, with_peer, pair_made, peer_gripped, landed, next_handle, issued_since, handles_full}
+use Rattle.joint_machine.specs.PeerReplay.{PeerReplay, fresh_row, on_table, brings, untabled, table_target}
 use Rattle.joint_laws.specs.PeerInvariants.{IsTabled, IsPeerKept}
 use Rattle.joint_laws.specs.LinkedInvariants.{doing_in, HasInHand, HasMadePair, HasLent, IsLoose, IsVirgin, AreCallersKept, hands, given_at}
-use Rattle.joint_model.proofs.Numbered.{slot-Contains}
+use Rattle.joint_machine.proofs.Numbered.{slot-Contains}
 use Rattle.joint_laws.proofs.HandlesAlike.{AreOwnersKept-peer}
 use Rattle.joint_laws.proofs.DriverPeers.{driver_on}
 use Rattle.joint_laws.proofs.DriverPeerSteps.{Only, HandlesAlike-only, holds-handle_of}

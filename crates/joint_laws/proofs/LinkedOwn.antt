@@ -2,25 +2,25 @@
 use Rattle.std.proofs.Common.{◌≡◌, ℕ, ◌+◌, inl, inr, Bool, true, false, List, [], ◌∷◌, ◌++◌, length, Option, Some, None, refl, sym, ap, subst, ◌∙◌, arith}
 use Rattle.std.specs.Prelude.{slice_get}
 use Rattle.std.proofs.lemmas.Option.{slice_get_within, same_Some}
-use Rattle.joint_model.specs.declared.names.Thread.TheVariants.{C}
-use Rattle.joint_model.specs.declared.names.Cycle.{Cycle}
-use Rattle.joint_model.specs.declared.names.HNum.{HNum}
-use Rattle.joint_model.specs.declared.names.Marking.{Marking as MarkingNumber}
-use Rattle.joint_model.specs.declared.events.Op.TheVariants as op
-use Rattle.joint_model.specs.declared.events.Reply.{Reply}
-use Rattle.joint_model.specs.declared.events.Reply.TheVariants as says
-use Rattle.joint_model.specs.Control.{Doing, OpenSnap, Stand, idle, snapped, contracted, weakening, marked, restoring, restored, stand_after, answer_in, IsCandidateHandle, MayBeginNow, MaySweepNow, MayRestoreNow, MayClearNow}
-use Rattle.joint_model.specs.Managed.{candidates_of, Holds}
-use Rattle.joint_model.specs.Heaps.{Answered, answer, numbered_at}
-use Rattle.joint_model.specs.ManagedReplay.{ManagedReplay}
-use Rattle.joint_model.specs.Peers.{Issued, held, strong, peer_of, next_handle}
-use Rattle.joint_model.specs.PeerReplay.{PeerReplay, TableRow, Marking, row_of, begun, swept, swept_of, restored_by, with_restored, withdrawn, given_anew, fresh_row, MayRestore, SweepAllows, IsSweep, strong_peers}
-use Rattle.joint_model.specs.Told.{Told, sweep_of, said_alive, said_cleared, Answer}
+use Rattle.joint_machine.specs.declared.names.Thread.TheVariants.{C}
+use Rattle.joint_machine.specs.declared.names.Cycle.{Cycle}
+use Rattle.joint_machine.specs.declared.names.HNum.{HNum}
+use Rattle.joint_machine.specs.declared.names.Marking.{Marking as MarkingNumber}
+use Rattle.joint_machine.specs.declared.events.Op.TheVariants as op
+use Rattle.joint_machine.specs.declared.events.Reply.{Reply}
+use Rattle.joint_machine.specs.declared.events.Reply.TheVariants as says
+use Rattle.joint_machine.specs.Control.{Doing, OpenSnap, Stand, idle, snapped, contracted, weakening, marked, restoring, restored, stand_after, answer_in, IsCandidateHandle, MayBeginNow, MaySweepNow, MayRestoreNow, MayClearNow}
+use Rattle.joint_machine.specs.Managed.{candidates_of, Holds}
+use Rattle.joint_machine.specs.Heaps.{Answered, answer, numbered_at}
+use Rattle.joint_machine.specs.ManagedReplay.{ManagedReplay}
+use Rattle.joint_machine.specs.Peers.{Issued, held, strong, peer_of, next_handle}
+use Rattle.joint_machine.specs.PeerReplay.{PeerReplay, TableRow, Marking, row_of, begun, swept, swept_of, restored_by, with_restored, withdrawn, given_anew, fresh_row, MayRestore, SweepAllows, IsSweep, strong_peers}
+use Rattle.joint_machine.specs.Told.{Told, sweep_of, said_alive, said_cleared, Answer}
 use Rattle.joint_laws.specs.PeerInvariants.{IsTabled, IsIssued, IsPeerKept}
 use Rattle.joint_laws.specs.LinkedInvariants.{HasStrength, IsHeldOne, IsReplaced, IsVirgin, IsLoose, AreOwnersKept, AreCallersKept, doing_in, HasInHand, hands, IsWeakening, IsRestoring}
-use Rattle.joint_model.proofs.Numbered.{slot-named, numbered-within, numbered_set-length, numbered-push_cases, numbered-push_new}
-use Rattle.joint_model.proofs.Deciding.{none_some}
-use Rattle.joint_model.proofs.HeapLemmas.{candidates_of-open}
+use Rattle.joint_machine.proofs.Numbered.{slot-named, numbered-within, numbered_set-length, numbered-push_cases, numbered-push_new}
+use Rattle.joint_machine.proofs.Deciding.{none_some}
+use Rattle.joint_machine.proofs.HeapLemmas.{candidates_of-open}
 use Rattle.joint_laws.proofs.HandlesAlike.{HandlesAlike, HandlesAlike-then, nothing_touched, AreOwnersKept-peer, IsLoose-peer, IsReplaced-peer}
 use Rattle.joint_laws.proofs.DriverPeerSteps.{Only, HandlesAlike-only, mirrored-closed}
 use Rattle.joint_laws.proofs.DriverHandles.{callers_same, mirrored_changed, restored-stands, given-stands, owners_touched, not_in_hand, handles_restored, emptied-untabled}

@@ -1,9 +1,9 @@
--- All that both sides, the threads and the driver keep, and how it stays so at the managed entries after which rows hold the
--- same handles, at the quiet entries of the peer side, and when a thread goes on to something else.
+-- All that both sides, the threads and the driver keep, and how it stays so at the managed entries after which rows
+-- hold the same handles, at the quiet entries of the peer side, and when a thread goes on to something else.
 use Rattle.std.proofs.Common.{◌≡◌, ℕ, List, set, sym, subst}
-use Rattle.joint_model.specs.Control.{Doing, free, Stand}
-use Rattle.joint_model.specs.ManagedReplay.{ManagedReplay}
-use Rattle.joint_model.specs.PeerReplay.{PeerReplay}
+use Rattle.joint_machine.specs.Control.{Doing, free, Stand}
+use Rattle.joint_machine.specs.ManagedReplay.{ManagedReplay}
+use Rattle.joint_machine.specs.PeerReplay.{PeerReplay}
 use Rattle.joint_laws.specs.ManagedInvariants.{IsReplayKept}
 use Rattle.joint_laws.specs.PeerInvariants.{IsPeerKept}
 use Rattle.joint_laws.specs.LinkedInvariants.{AreOwnersKept, AreCallersKept, IsDriverKept, doing_in, HasMadePair, given_at, hands}

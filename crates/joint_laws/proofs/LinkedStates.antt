@@ -1,29 +1,31 @@
--- The laws at every state. Once all is restored, a candidate that was answered alive has an unfreed peer, so each that it
--- leads to has, so that one's answer wasn't cleared. And an `adopt` comes only from a thread that has just made its pair.
+-- The laws at every state. Once all is restored, a candidate that was answered alive has an unfreed peer, so each that
+-- it leads to has, so that one's answer wasn't cleared. And an `adopt` comes only from a thread that has just made its
+-- pair.
 use Rattle.std.proofs.Common.{◌≡◌, ℕ, inl, inr, List, Option, Some, None, refl, sym, subst}
 use Rattle.std.specs.Prelude.{Contains}
-use Rattle.joint_model.specs.declared.names.Thread.{Thread}
-use Rattle.joint_model.specs.declared.names.Thread.TheVariants.{M, P, C}
-use Rattle.joint_model.specs.declared.names.Var.{Var}
-use Rattle.joint_model.specs.declared.names.Kind.{Kind}
-use Rattle.joint_model.specs.declared.names.PNum.{PNum}
-use Rattle.joint_model.specs.declared.names.HNum.{HNum}
-use Rattle.joint_model.specs.declared.events.Op.{Op}
-use Rattle.joint_model.specs.declared.events.Op.TheVariants as op
-use Rattle.joint_model.specs.declared.events.Reply.{Reply}
-use Rattle.joint_model.specs.Control.{Doing, OpenSnap, restored, CallerAllows}
-use Rattle.joint_model.specs.Cycles.{IsAnsweredAlive}
-use Rattle.joint_model.specs.Lines.{IsEvent}
-use Rattle.joint_model.specs.Linked.{Linkage, AllMayCome, opening_linkage}
-use Rattle.joint_model.specs.Managed.{OpenCycle, ManagedEdge, IsBridge}
-use Rattle.joint_model.specs.ManagedReplay.{ManagedReplay, registered}
-use Rattle.joint_model.specs.PeerReplay.{PeerReplay}
-use Rattle.joint_model.specs.Told.{Told, Noted, Answer}
-use Rattle.joint_model.specs.Walks.{Reaches}
+use Rattle.joint_machine.specs.declared.names.Thread.{Thread}
+use Rattle.joint_machine.specs.declared.names.Thread.TheVariants.{M, P, C}
+use Rattle.joint_machine.specs.declared.names.Var.{Var}
+use Rattle.joint_machine.specs.declared.names.Kind.{Kind}
+use Rattle.joint_machine.specs.declared.names.PNum.{PNum}
+use Rattle.joint_machine.specs.declared.names.HNum.{HNum}
+use Rattle.joint_machine.specs.declared.events.Op.{Op}
+use Rattle.joint_machine.specs.declared.events.Op.TheVariants as op
+use Rattle.joint_machine.specs.declared.events.Reply.{Reply}
+use Rattle.joint_machine.specs.Control.{Doing, OpenSnap, restored, CallerAllows}
+use Rattle.joint_machine.specs.Cycles.{IsAnsweredAlive}
+use Rattle.joint_machine.specs.Lines.{IsEvent}
+use Rattle.joint_machine.specs.Linked.{Linkage, opening_linkage}
+use Rattle.joint_machine.specs.Replaying.{AllMayCome}
+use Rattle.joint_machine.specs.Managed.{OpenCycle, ManagedEdge, IsBridge}
+use Rattle.joint_machine.specs.ManagedReplay.{ManagedReplay, registered}
+use Rattle.joint_machine.specs.PeerReplay.{PeerReplay}
+use Rattle.joint_machine.specs.Told.{Told, Noted, Answer}
+use Rattle.joint_machine.specs.Walks.{Reaches}
 use Rattle.joint_laws.specs.LinkedInvariants.{IsRestored, doing_in}
 use Rattle.joint_laws.specs.LinkedLaws.{LinkageIsKept, AliveLeadToAlive, AdoptedPeerHasNoTwin}
 use Rattle.joint_laws.specs.States.{state_at}
-use Rattle.joint_model.proofs.Members.{Contains-at, at-Contains}
+use Rattle.joint_machine.proofs.Members.{Contains-at, at-Contains}
 use Rattle.joint_laws.proofs.Registered.{registered-some}
 use Rattle.joint_laws.proofs.DriverSteps.{row_of, alive-live, cleared-freed, answered}
 use Rattle.joint_laws.proofs.LinkedQuiet.{AreKept, threads-callers}

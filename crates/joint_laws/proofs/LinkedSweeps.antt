@@ -1,29 +1,28 @@
--- All stays kept at a sweep, by whichever thread: the handles keep their strength, and no candidate that leads to others
--- with unfreed peers loses its own alone.
+-- All stays kept at a sweep, by whichever thread: the handles keep their strength, and no candidate that leads to
+-- others with unfreed peers loses its own alone.
 use Rattle.std.proofs.Common.{◌≡◌, ℕ, ◌⊎◌, inl, inr, Bool, true, false, ◌||◌, List, [], Option, Some, None, refl, sym, ap, subst, ◌∙◌, arith}
 use Rattle.std.specs.Prelude.{Contains, if◌then◌else◌}
 use Rattle.std.proofs.lemmas.Option.{same_Some, slice_get_within}
 use Rattle.std.proofs.lemmas.List.Elements.{Contains-append_left, Contains-append_cases}
-use Rattle.joint_model.specs.declared.names.Thread.{Thread}
-use Rattle.joint_model.specs.declared.names.Thread.TheVariants.{P, C}
-use Rattle.joint_model.specs.declared.events.Reply.TheVariants as says
-use Rattle.joint_model.specs.Control.{Doing, OpenSnap, Stand, marked, restoring}
-use Rattle.joint_model.specs.Heaps.{IsLive, answer}
-use Rattle.joint_model.specs.ManagedReplay.{ManagedReplay}
-use Rattle.joint_model.specs.Peers.{weak}
-use Rattle.joint_model.specs.PeerReplay.{PeerReplay, Marking, is_thread, swept_of, swept, IsSweep, SweepAllows}
-use Rattle.joint_model.specs.Told.{Told, nothing, sweep_of}
+use Rattle.joint_machine.specs.declared.names.Thread.{Thread}
+use Rattle.joint_machine.specs.declared.names.Thread.TheVariants.{P, C}
+use Rattle.joint_machine.specs.declared.events.Reply.TheVariants as says
+use Rattle.joint_machine.specs.Control.{Doing, OpenSnap, Stand, marked, restoring}
+use Rattle.joint_machine.specs.Heaps.{IsLive, answer}
+use Rattle.joint_machine.specs.ManagedReplay.{ManagedReplay}
+use Rattle.joint_machine.specs.Peers.{weak}
+use Rattle.joint_machine.specs.PeerReplay.{PeerReplay, Marking, is_thread, swept_of, swept, IsSweep, SweepAllows}
+use Rattle.joint_machine.specs.Told.{Told, nothing, sweep_of}
 use Rattle.joint_laws.specs.PeerInvariants.{IsSpared}
 use Rattle.joint_laws.specs.LinkedInvariants.{IsDriverKept, IsInMarking, IsRestoring, AreCallersKept, hands}
-use Rattle.joint_model.proofs.Members.{at-Contains}
-use Rattle.joint_laws.proofs.HandlesAlike.{HandlesAlike, nothing_touched, AreOwnersKept-peer}
+use Rattle.joint_machine.proofs.Members.{at-Contains}
+use Rattle.joint_laws.proofs.HandlesAlike.{HandlesAlike, nothing_touched, AreOwnersKept-peer, replaced-peer}
 use Rattle.joint_laws.proofs.DriverPeers.{driver_on, StaysClosed}
 use Rattle.joint_laws.proofs.DriverPeerSteps.{HandlesAlike-swept}
 use Rattle.joint_laws.proofs.DriverHandles.{callers_same, mirrored_changed}
 use Rattle.joint_laws.proofs.PeerEntries.{swept_told, swept_of-kept, refused-by}
 use Rattle.joint_laws.proofs.Sparing.{spared-stays}
 use Rattle.joint_laws.proofs.LinkedQuiet.{AreKept}
-use Rattle.joint_laws.proofs.HandlesAlike.{replaced-peer}
 
 module _ (r : ManagedReplay) (s : PeerReplay) (ds : List Doing) (d : Stand) (k : AreKept r s ds d) (mk : Marking) (freed : List ℕ) (e : s.marking ≡ Some mk) (w : IsSweep s mk freed) where
   abbrev after : PeerReplay

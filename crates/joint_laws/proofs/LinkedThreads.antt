@@ -1,25 +1,25 @@
 -- All stays kept at the entries of the managed threads.
 use Rattle.std.proofs.Common.{◌≡◌, ℕ, ◌+◌, inl, inr, false, List, [], ◌∷◌, ◌++◌, length, map, Option, Some, refl, sym, subst, arith}
-use Rattle.joint_model.specs.declared.names.Kind.{Kind}
-use Rattle.joint_model.specs.declared.names.Sort.{Sort}
-use Rattle.joint_model.specs.declared.names.Thread.{Thread}
-use Rattle.joint_model.specs.declared.names.Var.{Var}
-use Rattle.joint_model.specs.declared.names.StaticNo.{StaticNo}
-use Rattle.joint_model.specs.declared.names.PNum.{PNum}
-use Rattle.joint_model.specs.declared.names.HNum.{HNum}
-use Rattle.joint_model.specs.declared.lines.Act.{Act}
-use Rattle.joint_model.specs.declared.events.Op.TheVariants as op
-use Rattle.joint_model.specs.declared.events.Reply.TheVariants as says
-use Rattle.joint_model.specs.Control.{Doing, free, made, lent, gripped, given, met, Stand, MayAdopt, MayLand, MayMeet, MayRelease}
-use Rattle.joint_model.specs.Heaps.{answer, next_number, numbered_at}
-use Rattle.joint_model.specs.Managed.{Managed, managed_line}
-use Rattle.joint_model.specs.ManagedReplay.{ManagedReplay}
-use Rattle.joint_model.specs.Peers.{Peers, Issued, held, strong, with_handle, with_peer, next_handle, issued_since}
-use Rattle.joint_model.specs.PeerReplay.{PeerReplay, TableRow, fresh_row, on_table}
+use Rattle.joint_machine.specs.declared.names.Kind.{Kind}
+use Rattle.joint_machine.specs.declared.names.Sort.{Sort}
+use Rattle.joint_machine.specs.declared.names.Thread.{Thread}
+use Rattle.joint_machine.specs.declared.names.Var.{Var}
+use Rattle.joint_machine.specs.declared.names.StaticNo.{StaticNo}
+use Rattle.joint_machine.specs.declared.names.PNum.{PNum}
+use Rattle.joint_machine.specs.declared.names.HNum.{HNum}
+use Rattle.joint_machine.specs.declared.lines.Act.{Act}
+use Rattle.joint_machine.specs.declared.events.Op.TheVariants as op
+use Rattle.joint_machine.specs.declared.events.Reply.TheVariants as says
+use Rattle.joint_machine.specs.Control.{Doing, free, made, lent, gripped, given, met, Stand, MayAdopt, MayLand, MayMeet, MayRelease}
+use Rattle.joint_machine.specs.Heaps.{answer, next_number, numbered_at}
+use Rattle.joint_machine.specs.Managed.{Managed, managed_line}
+use Rattle.joint_machine.specs.ManagedReplay.{ManagedReplay}
+use Rattle.joint_machine.specs.Peers.{Peers, Issued, held, strong, with_handle, with_peer, next_handle, issued_since}
+use Rattle.joint_machine.specs.PeerReplay.{PeerReplay, TableRow, fresh_row, on_table}
 use Rattle.joint_laws.specs.ManagedInvariants.{IsReplayKept}
 use Rattle.joint_laws.specs.PeerInvariants.{IsIssued}
 use Rattle.joint_laws.specs.LinkedInvariants.{HasStrength, doing_in, HasInHand, HasPeer, HasMadePair, HasLent, IsLoose, IsVirgin, hands}
-use Rattle.joint_model.proofs.Numbered.{numbered-within, numbered-push_new, numbered-push_cases}
+use Rattle.joint_machine.proofs.Numbered.{numbered-within, numbered-push_new, numbered-push_cases}
 use Rattle.joint_laws.proofs.ManagedMoves.{GoesOn, managed_line-goes_on}
 use Rattle.joint_laws.proofs.Adopting.{HoldsSame, managed_line-same, was-held, stays-live}
 use Rattle.joint_laws.proofs.HeapKeeping.{object-field, object-was_live}

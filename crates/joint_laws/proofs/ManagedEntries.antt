@@ -1,17 +1,17 @@
 -- The managed side at each lawful entry: an entry of the other side leaves it alone. So it is kept at every state, and
--- while a cycle is open its dead part is frozen: of the events only a snapshot opens a cycle, where none is open, and takes
--- the next number; a resolution and an abandonment close it.
+-- while a cycle is open its dead part is frozen: of the events only a snapshot opens a cycle, where none is open, and
+-- takes the next number; a resolution and an abandonment close it.
 use Rattle.std.proofs.Common.{◌≡◌, ℕ, ◌+◌, ◌<◌, ◌≤◌, Bool, true, false, Some, None, refl, sym, ap, ◌∙◌, arith}
 use Rattle.std.specs.Prelude.{if◌then◌else◌}
 use Rattle.std.proofs.lemmas.Option.{same_Some}
-use Rattle.joint_model.specs.declared.events.Made.{Made}
-use Rattle.joint_model.specs.Heaps.{IsLive, numbered_at}
-use Rattle.joint_model.specs.Lines.{is_peer_event}
-use Rattle.joint_model.specs.Managed.{Managed, OpenCycle, handle_of}
-use Rattle.joint_model.specs.Linked.{Linkage, MayCome, SideLawful, linkage_after, managed_after}
-use Rattle.joint_model.specs.Told.{Told, Noted}
-use Rattle.joint_model.proofs.Deciding.{none_some}
-use Rattle.joint_model.proofs.HeapLemmas.{is_freed-live}
+use Rattle.joint_machine.specs.declared.events.Made.{Made}
+use Rattle.joint_machine.specs.Heaps.{IsLive, numbered_at}
+use Rattle.joint_machine.specs.Lines.{is_peer_event}
+use Rattle.joint_machine.specs.Managed.{Managed, OpenCycle, handle_of}
+use Rattle.joint_machine.specs.Linked.{Linkage, MayCome, SideLawful, linkage_after, managed_after}
+use Rattle.joint_machine.specs.Told.{Told, Noted}
+use Rattle.joint_machine.proofs.Deciding.{none_some}
+use Rattle.joint_machine.proofs.HeapLemmas.{is_freed-live}
 use Rattle.joint_laws.specs.ManagedInvariants.{IsManagedKept, IsReplayKept}
 use Rattle.joint_laws.specs.ManagedLaws.{ManagedIsKept, DeadPartIsFrozen, IsFrozenSince, managed_at}
 use Rattle.joint_laws.specs.States.{state_at}

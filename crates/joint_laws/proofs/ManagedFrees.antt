@@ -1,18 +1,18 @@
--- A walk from the joint roots never comes to a row that a snapshot or a resolution frees. Before a snapshot each managed row
--- on the walk is reached from a slot or from a row that holds a handle: fields lead on, and a peer leads only to a row that
--- holds a handle. Before a resolution each is outside the dead part, or a staying candidate leads to it: no slot and no
--- field leads in, and a peer, which is unfreed, leads only to a candidate that stays.
+-- A walk from the joint roots never comes to a row that a snapshot or a resolution frees. Before a snapshot each
+-- managed row on the walk is reached from a slot or from a row that holds a handle: fields lead on, and a peer leads
+-- only to a row that holds a handle. Before a resolution each is outside the dead part, or a staying candidate leads to
+-- it: no slot and no field leads in, and a peer, which is unfreed, leads only to a candidate that stays.
 use Rattle.std.proofs.Common.{◌≡◌, ℕ, ◌⊎◌, inl, inr, List, Some}
 use Rattle.std.specs.Prelude.{Contains}
-use Rattle.joint_model.specs.Walks.{Reaches}
-use Rattle.joint_model.specs.Cycles.{IsSnapshot, IsResolution}
-use Rattle.joint_model.specs.Joint.{Joint, Graph, Row, object, peer, JointEdge, IsJoined, IsJointRoot, IsReached}
-use Rattle.joint_model.specs.Managed.{OpenCycle, IsBridge, IsManagedRoot, ManagedEdge, IsManagedReached, IsBridgeReached}
-use Rattle.joint_model.specs.Run.{IsKept}
-use Rattle.joint_model.proofs.WalkLemmas.{Reached-keeps, Reached-start, Reached-then, Reaches-self, Reaches-then}
+use Rattle.joint_machine.specs.Walks.{Reaches}
+use Rattle.joint_machine.specs.Cycles.{IsSnapshot, IsResolution}
+use Rattle.joint_machine.specs.Joint.{Joint, Graph, Row, object, peer, JointEdge, IsJoined, IsJointRoot, IsReached}
+use Rattle.joint_machine.specs.Managed.{OpenCycle, IsBridge, IsManagedRoot, ManagedEdge, IsManagedReached, IsBridgeReached}
+use Rattle.joint_machine.specs.Run.{IsKept}
+use Rattle.joint_machine.proofs.WalkLemmas.{Reached-keeps, Reached-start, Reached-then, Reaches-self, Reaches-then}
 use Rattle.joint_laws.specs.ManagedInvariants.{IsCutOff, IsManagedKept}
 use Rattle.joint_laws.specs.FreeingLaws.{SnapshotFreesUnreached, ResolutionFreesUnreached}
-use Rattle.joint_model.proofs.Members.{Contains-decided}
+use Rattle.joint_machine.proofs.Members.{Contains-decided}
 
 -- the row of a joined pair holds a handle
 joined-bridge : (g : Graph) (m p : ℕ) → IsJoined g m p → IsBridge g.managed m

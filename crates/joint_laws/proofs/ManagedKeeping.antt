@@ -1,25 +1,24 @@
--- The managed objects stay kept. An event that only goes on brings into a slot or a field only rows that are unfreed and
--- outside the dead part. A snapshot frees only rows that nothing reaches, so none that a slot or a field of a staying row
--- names; what leads to a row that no slot reaches is itself reached by none, so the dead part is cut off. A resolution
--- frees rows of the dead part alone, and none that a staying row of it leads to.
+-- The managed objects stay kept. An event that only goes on brings into a slot or a field only rows that are unfreed
+-- and outside the dead part. A snapshot frees only rows that nothing reaches, so none that a slot or a field of a
+-- staying row names; what leads to a row that no slot reaches is itself reached by none, so the dead part is cut off. A
+-- resolution frees rows of the dead part alone, and none that a staying row of it leads to.
 use Rattle.std.proofs.Common.{◌≡◌, ℕ, ◌+◌, ◌≤◌, ◌↔◌, inl, inr, List, ◌++◌, length, Some, refl, sym, subst, ◌∙◌, arith}
 use Rattle.std.specs.Prelude.{Contains}
 use Rattle.std.proofs.lemmas.Bool.{cases_lt}
 use Rattle.std.proofs.lemmas.Option.{same_Some}
 use Rattle.std.proofs.lemmas.List.Elements.{Contains-append_cases}
-use Rattle.joint_model.specs.Heaps.{Heap, IsMade, IsLive, numbered_at, fields_of, with_freed, opening_heap}
-use Rattle.joint_model.specs.Managed.{Managed, OpenCycle, IsBridge, IsManagedRoot, ManagedEdge, opening_managed, with_snapshot, resolved, abandoned}
-use Rattle.joint_model.specs.Cycles.{IsSnapshot, IsResolution}
-use Rattle.joint_model.proofs.WalkLemmas.{Reached-start, Reached-then, Reaches-then}
+use Rattle.joint_machine.specs.Heaps.{Heap, IsMade, IsLive, numbered_at, fields_of, with_freed, opening_heap}
+use Rattle.joint_machine.specs.Managed.{Managed, OpenCycle, IsBridge, IsManagedRoot, ManagedEdge, opening_managed, with_snapshot, resolved, abandoned, candidates_of}
+use Rattle.joint_machine.specs.Cycles.{IsSnapshot, IsResolution}
+use Rattle.joint_machine.proofs.WalkLemmas.{Reached-start, Reached-then, Reaches-then}
 use Rattle.joint_laws.specs.ManagedInvariants.{IsCutOff, IsManagedKept}
-use Rattle.joint_model.proofs.Members.{Contains-nil, Contains-decided}
-use Rattle.joint_model.proofs.Numbered.{replicate-none}
-use Rattle.joint_model.proofs.Deciding.{none_some}
-use Rattle.joint_model.proofs.HeapLemmas.{IsLive-before, IsLive-spared, IsLive-left}
+use Rattle.joint_machine.proofs.Members.{Contains-nil, Contains-decided}
+use Rattle.joint_machine.proofs.Numbered.{replicate-none}
+use Rattle.joint_machine.proofs.Deciding.{none_some}
+use Rattle.joint_machine.proofs.HeapLemmas.{IsLive-before, IsLive-spared, IsLive-left}
 use Rattle.joint_laws.proofs.Fields.{fields-past, IsLive-more}
 use Rattle.joint_laws.proofs.ManagedMoves.{GoesOn, IsNameable, IsNew}
-use Rattle.joint_model.specs.Managed.{candidates_of}
-use Rattle.joint_model.specs.Told.{Answer}
+use Rattle.joint_machine.specs.Told.{Answer}
 use Rattle.joint_laws.proofs.Renewing.{renewed-length}
 
 -- before the first entry nothing is named

@@ -1,20 +1,20 @@
--- The events of a managed thread's lines that are one event, by what they may change. A fact that each of these kinds of
--- change keeps holds after each of the events.
+-- The events of a managed thread's lines that are one event, by what they may change. A fact that each of these kinds
+-- of change keeps holds after each of the events.
 use Rattle.std.proofs.Common.{◌≡◌, ℕ, inl, Bool, true, false, Option, Some, None, set, refl}
 use Rattle.std.specs.Prelude.{Contains, if◌then◌else◌}
-use Rattle.joint_model.specs.declared.names.Kind.{Kind}
-use Rattle.joint_model.specs.declared.lines.Act.{Act}
-use Rattle.joint_model.specs.declared.lines.Act.TheVariants as act
-use Rattle.joint_model.specs.declared.events.Reply.{Reply}
-use Rattle.joint_model.specs.declared.events.Reply.TheVariants as says
-use Rattle.joint_model.specs.Heaps.{Heap, IsMade, IsLive, Answered, answer, slot, is_freed, is_full, next_number, place, with_var}
-use Rattle.joint_model.specs.Managed.{Managed, OpenCycle, IsManagedRoot, managed_name, with_row, cell_set, target_read, cell_read, place_or_none, managed_line, notices_taken}
-use Rattle.joint_model.proofs.Numbered.{slot-Contains}
-use Rattle.joint_model.proofs.HeapLemmas.{not_freed}
+use Rattle.joint_machine.specs.declared.names.Kind.{Kind}
+use Rattle.joint_machine.specs.declared.lines.Act.{Act}
+use Rattle.joint_machine.specs.declared.lines.Act.TheVariants as act
+use Rattle.joint_machine.specs.declared.events.Reply.{Reply}
+use Rattle.joint_machine.specs.declared.events.Reply.TheVariants as says
+use Rattle.joint_machine.specs.Heaps.{Heap, IsMade, IsLive, Answered, answer, slot, is_freed, is_full, next_number, place, with_var}
+use Rattle.joint_machine.specs.Managed.{Managed, OpenCycle, IsManagedRoot, managed_name, with_row, cell_set, target_read, cell_read, place_or_none, managed_line, notices_taken}
+use Rattle.joint_machine.proofs.Numbered.{slot-Contains}
+use Rattle.joint_machine.proofs.HeapLemmas.{not_freed}
 use Rattle.joint_laws.proofs.HeapMoves.{HasMoved, copied-moved, field_set-moved, field_got-moved, dropped-moved, loaded-moved, stored-moved}
 
--- the kinds of change: none; an operation of the heap alone; a further row without a handle; a cell comes to name what a
--- slot names; a pin comes to hold an unfreed row, while no cycle is open; a variable comes to name what a pin held;
+-- the kinds of change: none; an operation of the heap alone; a further row without a handle; a cell comes to name what
+-- a slot names; a pin comes to hold an unfreed row, while no cycle is open; a variable comes to name what a pin held;
 -- notices are taken
 pub record LineKeeps (s : Managed) (P : Managed → Type 0) : Type 0 where
   pub stay : P s

@@ -1,20 +1,20 @@
--- Every managed event but a snapshot, a resolution and an abandonment only goes on: it frees nothing and leaves the open
--- cycle alone; a slot comes to name only what a slot or a field of a row in a slot named, a new row, or, where no cycle is
--- open, an unfreed row; only a row in a slot has a field or its handle changed; and no row that was there comes to hold a
--- handle.
+-- Every managed event but a snapshot, a resolution and an abandonment only goes on: it frees nothing and leaves the
+-- open cycle alone; a slot comes to name only what a slot or a field of a row in a slot named, a new row, or, where no
+-- cycle is open, an unfreed row; only a row in a slot has a field or its handle changed; and no row that was there
+-- comes to hold a handle.
 use Rattle.std.proofs.Common.{◌≡◌, ℕ, ◌≤◌, ◌⊎◌, inl, inr, [], ◌∷◌, length, Option, Some, None, set, refl, sym, subst, ◌∙◌, arith, length-append}
 use Rattle.std.specs.Prelude.{Contains}
 use Rattle.std.proofs.Math.ListN.{length-set}
 use Rattle.std.proofs.lemmas.Bool.{cases_eq, cases_lt}
 use Rattle.std.proofs.lemmas.Option.{same_Some}
-use Rattle.joint_model.specs.declared.names.Kind.{Kind}
-use Rattle.joint_model.specs.declared.names.Sort.{Sort}
-use Rattle.joint_model.specs.declared.lines.Act.{Act}
-use Rattle.joint_model.specs.declared.events.Reply.TheVariants as says
-use Rattle.joint_model.specs.Heaps.{Heap, IsMade, IsLive, Answered, answer, slot, numbered_at, numbered_set, fields_of, is_full, next_number, with_var, with_object}
-use Rattle.joint_model.specs.Managed.{Managed, OpenCycle, IsManagedRoot, managed_name, with_row, adopted, without_handle, given_up, twin_kind, twin_fields, twin_met, met, managed_line, notices_taken}
-use Rattle.joint_model.proofs.Numbered.{Contains-set_cases, slot-Contains, numbered_set-length, numbered_set-same, numbered_set-other, numbered-push_cases, numbered-push_old}
-use Rattle.joint_model.proofs.Deciding.{none_some}
+use Rattle.joint_machine.specs.declared.names.Kind.{Kind}
+use Rattle.joint_machine.specs.declared.names.Sort.{Sort}
+use Rattle.joint_machine.specs.declared.lines.Act.{Act}
+use Rattle.joint_machine.specs.declared.events.Reply.TheVariants as says
+use Rattle.joint_machine.specs.Heaps.{Heap, IsMade, IsLive, Answered, answer, slot, numbered_at, numbered_set, fields_of, is_full, next_number, with_var, with_object}
+use Rattle.joint_machine.specs.Managed.{Managed, OpenCycle, IsManagedRoot, managed_name, with_row, adopted, without_handle, given_up, twin_kind, twin_fields, twin_met, met, managed_line, notices_taken}
+use Rattle.joint_machine.proofs.Numbered.{Contains-set_cases, slot-Contains, numbered_set-length, numbered_set-same, numbered_set-other, numbered-push_cases, numbered-push_old}
+use Rattle.joint_machine.proofs.Deciding.{none_some}
 use Rattle.joint_laws.proofs.Fields.{fields-past, with_object-old, with_object-new, with_object-length}
 use Rattle.joint_laws.proofs.HeapMoves.{HasMoved}
 use Rattle.joint_laws.proofs.ManagedLines.{if_full, managed_line-keeps}

@@ -1,17 +1,17 @@
 -- Each lawful managed entry goes on, or is a snapshot, a resolution or an abandonment, on the managed objects.
 use Rattle.std.proofs.Common.{◌≡◌, ℕ, List, Option, Some, None, refl, sym, subst}
-use Rattle.joint_model.specs.declared.names.Thread.{Thread}
-use Rattle.joint_model.specs.declared.events.Op.{Op}
-use Rattle.joint_model.specs.declared.events.Op.TheVariants as op
-use Rattle.joint_model.specs.declared.events.Reply.{Reply}
-use Rattle.joint_model.specs.declared.events.Reply.TheVariants as says
-use Rattle.joint_model.specs.Heaps.{IsLive, Answered, place, slot}
-use Rattle.joint_model.specs.Managed.{Managed, OpenCycle, adopted, met, given_up, with_snapshot, resolved, abandoned}
-use Rattle.joint_model.specs.Cycles.{IsSnapshot, IsResolution, IsAnsweredAlive}
-use Rattle.joint_model.specs.ManagedReplay.{ManagedReplay, registered, meet_by, give_by, managed_answer, ManagedAllows}
-use Rattle.joint_model.specs.Run.{thread_number}
-use Rattle.joint_model.specs.Told.{Told, nothing, snap_of, contraction_of, resolution_of, phase_of, Answer}
-use Rattle.joint_model.proofs.HeapLemmas.{adopt_by-managed}
+use Rattle.joint_machine.specs.declared.names.Thread.{Thread}
+use Rattle.joint_machine.specs.declared.events.Op.{Op}
+use Rattle.joint_machine.specs.declared.events.Op.TheVariants as op
+use Rattle.joint_machine.specs.declared.events.Reply.{Reply}
+use Rattle.joint_machine.specs.declared.events.Reply.TheVariants as says
+use Rattle.joint_machine.specs.Heaps.{IsLive, Answered, place, slot}
+use Rattle.joint_machine.specs.Managed.{Managed, OpenCycle, adopted, met, given_up, with_snapshot, resolved, abandoned}
+use Rattle.joint_machine.specs.Cycles.{IsSnapshot, IsResolution, IsAnsweredAlive}
+use Rattle.joint_machine.specs.ManagedReplay.{ManagedReplay, registered, meet_by, give_by, managed_answer, ManagedAllows}
+use Rattle.joint_machine.specs.Run.{thread_number}
+use Rattle.joint_machine.specs.Told.{Told, nothing, snap_of, contraction_of, resolution_of, phase_of, Answer}
+use Rattle.joint_machine.proofs.HeapLemmas.{adopt_by-managed}
 use Rattle.joint_laws.specs.ManagedInvariants.{IsReplayKept}
 use Rattle.joint_laws.proofs.Registered.{registered-some}
 use Rattle.joint_laws.proofs.ManagedMoves.{GoesOn, GoesOn-stay, managed_line-goes_on, adopted-goes_on, met-goes_on, given_up-goes_on}

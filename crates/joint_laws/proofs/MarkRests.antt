@@ -1,14 +1,14 @@
--- An entry that is no step of the joint machine leaves what the own marking has seen as it was: the objects, peers and handles
--- are the same, and the marking only goes on.
+-- An entry that is no step of the joint machine leaves what the own marking has seen as it was: the objects, peers and
+-- handles are the same, and the marking only goes on.
 use Rattle.std.proofs.Common.{◌≡◌, ℕ, ◌⊎◌, inl, inr, List, Some, sym, ap, subst, ◌∙◌}
 use Rattle.std.specs.Prelude.{Contains}
-use Rattle.joint_model.specs.Heaps.{IsLive, InSlot, fields_of}
-use Rattle.joint_model.specs.Joint.{Joint}
-use Rattle.joint_model.specs.Linked.{Linkage}
-use Rattle.joint_model.specs.Managed.{OpenCycle, Managed}
-use Rattle.joint_model.specs.Peers.{Peers}
-use Rattle.joint_model.specs.PeerReplay.{Marking}
-use Rattle.joint_model.specs.Run.{Moment}
+use Rattle.joint_machine.specs.Heaps.{IsLive, InSlot, fields_of}
+use Rattle.joint_machine.specs.Joint.{Joint}
+use Rattle.joint_machine.specs.Linked.{Linkage}
+use Rattle.joint_machine.specs.Managed.{OpenCycle, Managed}
+use Rattle.joint_machine.specs.Peers.{Peers}
+use Rattle.joint_machine.specs.PeerReplay.{Marking}
+use Rattle.joint_machine.specs.Run.{Moment}
 use Rattle.joint_laws.specs.LinkedInvariants.{IsRowOf}
 use Rattle.joint_laws.proofs.JointRuns.{Stands, state_of}
 use Rattle.joint_laws.proofs.MarkWatching.{IsMarkWatched, slot-seen}

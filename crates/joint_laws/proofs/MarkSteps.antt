@@ -3,19 +3,19 @@ use Rattle.std.proofs.Common.{◌≡◌, ℕ, ◌<◌, ◌≤◌, ◌⊎◌, inl
 use Rattle.std.specs.Prelude.{Contains, slice_get}
 use Rattle.std.proofs.lemmas.Option.{same_Some}
 use Rattle.std.proofs.lemmas.List.Elements.{Contains-append_left, Contains-append_right}
-use Rattle.joint_model.specs.declared.names.Thread.{Thread}
-use Rattle.joint_model.specs.Headline.{DriverBeginsAt, SweepsAt, IsMadeBefore, IsPeerFreedAt}
-use Rattle.joint_model.specs.Heaps.{IsMade, IsLive, HasField, InSlot, fields_of}
-use Rattle.joint_model.specs.Joint.{Row, object, peer, JointEdge, IsJointRoot, IsReached}
-use Rattle.joint_model.specs.Linked.{Linkage, MayCome, linkage_after}
-use Rattle.joint_model.specs.Managed.{OpenCycle, Holds}
-use Rattle.joint_model.specs.Peers.{Issued, weak}
-use Rattle.joint_model.specs.PeerReplay.{Marking, MarkingEdge, IsSweep, strong_peers, Refers}
-use Rattle.joint_model.specs.Run.{Moment}
-use Rattle.joint_model.specs.Told.{Noted}
-use Rattle.joint_model.proofs.WalkLemmas.{Reached-start, Reached-then, Reached-keeps}
+use Rattle.joint_machine.specs.declared.names.Thread.{Thread}
+use Rattle.joint_machine.specs.Headline.{DriverBeginsAt, SweepsAt, IsMadeBefore, IsPeerFreedAt}
+use Rattle.joint_machine.specs.Heaps.{IsMade, IsLive, HasField, InSlot, fields_of}
+use Rattle.joint_machine.specs.Joint.{Row, object, peer, JointEdge, IsJointRoot, IsReached}
+use Rattle.joint_machine.specs.Linked.{Linkage, MayCome, linkage_after}
+use Rattle.joint_machine.specs.Managed.{OpenCycle, Holds}
+use Rattle.joint_machine.specs.Peers.{Issued, weak}
+use Rattle.joint_machine.specs.PeerReplay.{Marking, MarkingEdge, IsSweep, strong_peers, Refers}
+use Rattle.joint_machine.specs.Run.{Moment}
+use Rattle.joint_machine.specs.Told.{Noted}
+use Rattle.joint_machine.proofs.WalkLemmas.{Reached-start, Reached-then, Reached-keeps}
 use Rattle.joint_laws.specs.LinkedInvariants.{HasStrength, IsRowOf, IsMirrored, ForCandidates}
-use Rattle.joint_model.proofs.Members.{Contains-nil, Contains-decided}
+use Rattle.joint_machine.proofs.Members.{Contains-nil, Contains-decided}
 use Rattle.joint_laws.proofs.ManagedMoves.{GoesOn}
 use Rattle.joint_laws.proofs.Sparing.{later}
 use Rattle.joint_laws.proofs.PeerHeaps.{heap-entry}

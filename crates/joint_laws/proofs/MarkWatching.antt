@@ -1,23 +1,23 @@
 -- The driver's own marking marks only what was seen since the snapshot. At its begin each of its roots is seen: all
--- candidates' handles are weak, so a strong handle is raw, or nobody's, or held by a row that was seen. An edge of its begin
--- from a seen peer leads to a seen one: a field is a joint edge, and a mirrored reference is a walk over managed fields
--- between the candidates. Later a peer that is seen for the first time was in no slot before, so its fields are those of the
--- begin.
+-- candidates' handles are weak, so a strong handle is raw, or nobody's, or held by a row that was seen. An edge of its
+-- begin from a seen peer leads to a seen one: a field is a joint edge, and a mirrored reference is a walk over managed
+-- fields between the candidates. Later a peer that is seen for the first time was in no slot before, so its fields are
+-- those of the begin.
 use Rattle.std.proofs.Common.{◌≡◌, ℕ, suc, ◌<◌, inl, inr, false, List, [], ◌∷◌, Option, Some, None, refl, sym, ap, subst, ◌∙◌}
 use Rattle.std.specs.Prelude.{Contains, slice_get, if◌then◌else◌}
-use Rattle.joint_model.specs.Headline.{DriverBeginsAt, IsMadeBefore}
-use Rattle.joint_model.specs.Heaps.{IsMade, IsLive, InSlot, fields_of, numbered_at}
-use Rattle.joint_model.specs.Joint.{Joint, Row, object, peer, JointEdge, IsJoined, IsJointRoot, IsReached}
-use Rattle.joint_model.specs.Linked.{Linkage}
-use Rattle.joint_model.specs.Managed.{OpenCycle, Holds, ManagedEdge}
-use Rattle.joint_model.specs.Peers.{Issued, Hold, held, raw, Strength, strong, weak, is_strong}
-use Rattle.joint_model.specs.PeerReplay.{TableRow, Marking, IsMarkingRoot, MarkingEdge, IsMarked, strong_peers, Refers}
-use Rattle.joint_model.specs.Run.{Moment}
-use Rattle.joint_model.specs.Walks.{Reaches}
-use Rattle.joint_model.proofs.WalkLemmas.{Reached-start, Reached-keeps, Reaches-keeps}
+use Rattle.joint_machine.specs.Headline.{DriverBeginsAt, IsMadeBefore}
+use Rattle.joint_machine.specs.Heaps.{IsMade, IsLive, InSlot, fields_of, numbered_at}
+use Rattle.joint_machine.specs.Joint.{Joint, Row, object, peer, JointEdge, IsJoined, IsJointRoot, IsReached}
+use Rattle.joint_machine.specs.Linked.{Linkage}
+use Rattle.joint_machine.specs.Managed.{OpenCycle, Holds, ManagedEdge}
+use Rattle.joint_machine.specs.Peers.{Issued, Hold, held, raw, Strength, strong, weak, is_strong}
+use Rattle.joint_machine.specs.PeerReplay.{TableRow, Marking, IsMarkingRoot, MarkingEdge, IsMarked, strong_peers, Refers}
+use Rattle.joint_machine.specs.Run.{Moment}
+use Rattle.joint_machine.specs.Walks.{Reaches}
+use Rattle.joint_machine.proofs.WalkLemmas.{Reached-start, Reached-keeps, Reaches-keeps}
 use Rattle.joint_laws.specs.LinkedInvariants.{HasStrength, IsRowOf, IsMirrored, ForCandidates}
 use Rattle.joint_laws.specs.PeerInvariants.{IsTabled, IsIssued}
-use Rattle.joint_model.proofs.Members.{Contains-nil, Contains-cons_cases, at-Contains}
+use Rattle.joint_machine.proofs.Members.{Contains-nil, Contains-cons_cases, at-Contains}
 use Rattle.joint_laws.proofs.PeerEntries.{peer_of-issued}
 use Rattle.joint_laws.proofs.DeadMirrors.{mirror_edge-managed}
 use Rattle.joint_laws.proofs.DriverSteps.{strength-one}

@@ -1,25 +1,28 @@
--- Between a cycle's snapshot and its resolution the driver begins exactly one marking. Its stand is followed: up to the weakened
--- phase no begin of its own came since the snapshot; the begin leads to the marked phase, which lies behind it, and none comes
--- from there on; and once the cycle is over, each later one has another number, so its resolution isn't this cycle's.
+-- Between a cycle's snapshot and its resolution the driver begins exactly one marking. Its stand is followed: up to the
+-- weakened phase no begin of its own came since the snapshot; the begin leads to the marked phase, which lies behind
+-- it, and none comes from there on; and once the cycle is over, each later one has another number, so its resolution
+-- isn't this cycle's.
 use Rattle.std.proofs.Common.{◌≡◌, ℕ, zero, suc, ◌+◌, ◌-◌, ◌<◌, ◌≤◌, ◌⊎◌, inl, inr, List, length, Option, Some, take, refl, sym, ap, subst, ◌∙◌, arith}
 use Rattle.std.specs.Prelude.{filter, slice_get, option_map}
 use Rattle.std.proofs.lemmas.Bool.{cases_lt}
 use Rattle.std.proofs.lemmas.Option.{same_Some, slice_get-map}
-use Rattle.joint_model.specs.declared.names.Thread.{Thread}
-use Rattle.joint_model.specs.declared.names.Thread.TheVariants.{M, P, C}
-use Rattle.joint_model.specs.declared.events.Op.{Op}
-use Rattle.joint_model.specs.declared.events.Op.TheVariants as op
-use Rattle.joint_model.specs.declared.events.Reply.{Reply}
-use Rattle.joint_model.specs.declared.events.Reply.TheVariants as says
-use Rattle.joint_model.specs.Control.{Stand, idle, snapped, contracted, weakening, marked, restoring, restored, CallerAllows, DriverAllows, MayResolveNow, MayBeginNow, control_after, stand_after}
-use Rattle.joint_model.specs.Lines.{IsEvent, is_peer_event}
-use Rattle.joint_model.specs.Linked.{Linkage, MayCome, AllMayCome, SideLawful, ManagedLawful, opening_linkage, linkage_after, is_joint, machine_entries}
-use Rattle.joint_model.specs.Managed.{Managed, OpenCycle}
-use Rattle.joint_model.specs.Peers.{Issued}
-use Rattle.joint_model.specs.Run.{Moment, IsRun}
-use Rattle.joint_model.specs.Told.{Told, contraction_of, snap_of, resolution_of, Noted}
+use Rattle.joint_machine.specs.declared.names.Thread.{Thread}
+use Rattle.joint_machine.specs.declared.names.Thread.TheVariants.{M, P, C}
+use Rattle.joint_machine.specs.declared.events.Op.{Op}
+use Rattle.joint_machine.specs.declared.events.Op.TheVariants as op
+use Rattle.joint_machine.specs.declared.events.Reply.{Reply}
+use Rattle.joint_machine.specs.declared.events.Reply.TheVariants as says
+use Rattle.joint_machine.specs.Control.{Stand, idle, snapped, contracted, weakening, marked, restoring, restored, CallerAllows, DriverAllows, MayResolveNow, MayBeginNow, control_after, stand_after}
+use Rattle.joint_machine.specs.Lines.{IsEvent, is_peer_event}
+use Rattle.joint_machine.specs.Linked.{Linkage, MayCome, SideLawful, ManagedLawful, opening_linkage, linkage_after, is_joint}
+use Rattle.joint_machine.specs.Replaying.{AllMayCome, machine_entries}
+use Rattle.joint_machine.specs.Managed.{Managed, OpenCycle}
+use Rattle.joint_machine.specs.Peers.{Issued}
+use Rattle.joint_machine.specs.Run.{Moment, IsRun}
+use Rattle.joint_machine.specs.Told.{Told, contraction_of, snap_of, resolution_of, Noted}
 use Rattle.joint_laws.specs.LinkedInvariants.{IsDriverKept}
-use Rattle.joint_laws.specs.OwnMarkingLaws.{HasEventAt, DriverBegins, HasOneBegin, OwnMarkingIsOne, RunMarksOnce}
+use Rattle.joint_laws.specs.OwnMarkingLaws.{DriverBegins, HasOneBegin, OwnMarkingIsOne, RunMarksOnce}
+use Rattle.joint_laws.specs.EventsAt.{HasEventAt}
 use Rattle.joint_laws.specs.States.{state_at}
 use Rattle.joint_laws.proofs.Everywhere.{everywhere, from_state}
 use Rattle.joint_laws.proofs.LinkedEntries.{Of, AreKept-entry, AreKept-opening}

@@ -1,24 +1,24 @@
--- An open marking stays kept. A slot comes to name only what is spared: what a slot named, or what a field of a peer in a
--- slot led to, by an edge of the begin or to a spared peer, or a peer made since or brought back. A field comes to hold
--- only what was in a slot. What is spared stays so as peers are brought back. At the begin every edge is one of the begin,
--- and slots and strong handles are its roots.
+-- An open marking stays kept. A slot comes to name only what is spared: what a slot named, or what a field of a peer in
+-- a slot led to, by an edge of the begin or to a spared peer, or a peer made since or brought back. A field comes to
+-- hold only what was in a slot. What is spared stays so as peers are brought back. At the begin every edge is one of
+-- the begin, and slots and strong handles are its roots.
 use Rattle.std.proofs.Common.{◌≡◌, ℕ, zero, suc, inl, inr, List, [], ◌∷◌, Option, Some, None, sym, ap, subst, ◌∙◌, arith}
 use Rattle.std.specs.Prelude.{Contains, slice_get, if◌then◌else◌}
 use Rattle.std.proofs.lemmas.Option.{same_Some}
-use Rattle.joint_model.specs.declared.names.Thread.{Thread}
-use Rattle.joint_model.specs.Heaps.{Heap, IsMade, with_var, with_static, with_object}
-use Rattle.joint_model.specs.Peers.{Issued, Strength, strong, weak, is_strong}
-use Rattle.joint_model.specs.PeerReplay.{TableRow, Mirror, Marking, strong_peers, Refers}
+use Rattle.joint_machine.specs.declared.names.Thread.{Thread}
+use Rattle.joint_machine.specs.Heaps.{Heap, IsMade, with_var, with_static, with_object}
+use Rattle.joint_machine.specs.Peers.{Issued, Strength, strong, weak, is_strong}
+use Rattle.joint_machine.specs.PeerReplay.{TableRow, Mirror, Marking, strong_peers, Refers}
 use Rattle.joint_laws.specs.PeerInvariants.{IsTabled, IsIssued, IsHeapKept, AreReferencesKept, IsSpared, IsMarkingKept}
-use Rattle.joint_model.proofs.Members.{Contains-here, Contains-there}
-use Rattle.joint_model.proofs.Numbered.{Contains-set_cases}
-use Rattle.joint_model.proofs.Deciding.{none_some}
-use Rattle.joint_model.proofs.HeapLemmas.{IsLive-later}
+use Rattle.joint_machine.proofs.Members.{Contains-here, Contains-there}
+use Rattle.joint_machine.proofs.Numbered.{Contains-set_cases}
+use Rattle.joint_machine.proofs.Deciding.{none_some}
+use Rattle.joint_machine.proofs.HeapLemmas.{IsLive-later}
 use Rattle.joint_laws.proofs.Fields.{with_object-length}
 use Rattle.joint_laws.proofs.HeapMoves.{HasMoved, IsInReach}
 use Rattle.joint_laws.proofs.HeapKeeping.{moved-live, moved-was_live, object-field, object-was_live}
 use Rattle.joint_laws.proofs.Sparing.{spared-root, spared-next, spared-later, later}
-use Rattle.joint_model.specs.Components.{End}
+use Rattle.joint_machine.specs.Components.{End}
 
 module _ (h : Heap) (issued : List Issued) (table : List (Option TableRow)) (refs : List (End × End)) (mk : Marking) (k : IsMarkingKept h issued table refs mk) where
   -- what is in reach is spared

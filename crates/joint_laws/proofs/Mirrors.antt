@@ -1,24 +1,23 @@
--- Mirror edges and walks, over any contraction. What is reported has an end: a component its first member, a heavy class its
--- temporary; and a row that stands for it: that first member, or the least row of the class. A mirror edge from end to end stands for
--- a walk from row to row: the members of a component reach each other, and a cross-reference has its walk. A walk from a to b is
--- followed node by node. At each node x something reported is known to whose end mirror edges lead from a, and which the walk
--- has not left, or has left over unreported classes alone. If x's class isn't reported, the next node is one further behind.
--- If it is, then it is what was left, or there is a cross-reference to it, so mirror edges lead on to its end. Whether the class
--- of x is reported can't be computed, but the walk over mirror edges that is looked for is decided, so it is enough that it isn't
--- impossible.
+-- Mirror edges and walks, over any contraction. What is reported has an end: a component its first member, a heavy
+-- class its temporary; and a row that stands for it: that first member, or the least row of the class. A mirror edge
+-- from end to end stands for a walk from row to row: the members of a component reach each other, and a cross-reference
+-- has its walk. A walk from a to b is followed node by node. At each node x something reported is known to whose end
+-- mirror edges lead from a, and which the walk has not left, or has left over unreported classes alone. If x's class
+-- isn't reported, the next node is one further behind. If it is, then it is what was left, or there is a
+-- cross-reference to it, so mirror edges lead on to its end. Whether the class of x is reported can't be computed, but
+-- the walk over mirror edges that is looked for is decided, so it is enough that it isn't impossible.
 use Rattle.std.proofs.Common.{◌≡◌, ℕ, zero, suc, ◌+◌, ◌-◌, ◌<◌, ◌≤◌, length, ◌⊎◌, inl, inr, Bool, true, false, List, [], ◌∷◌, ◌++◌, map, Some, refl, sym, subst, ap, ◌∙◌, arith}
 use Rattle.std.specs.Prelude.{⊤, if◌then◌else◌, Contains, All, flat_map, slice_get, slice_index, nat_lt}
 use Rattle.std.proofs.lemmas.List.Elements.{Contains-append_cases, Contains-append_left, Contains-append_right, All-nil, All-push, All-weaker}
 use Rattle.std.proofs.lemmas.Option.{slice_get_within, same_Some, none-some}
-use Rattle.std.proofs.lemmas.Bool.{cases_eq, cases_lt}
-use Rattle.std.proofs.lemmas.Bool.{ltb-true, lt-ltb}
-use Rattle.joint_model.proofs.Deciding.{true-false, false-from}
-use Rattle.joint_model.specs.Walks.{Walks, Reaches, Mutual}
-use Rattle.joint_model.specs.Components.{IsContraction, IsPlainClass, IsHeavy, IsUnreported, IsLeast, Leads, LeadsIn, LeadsOut, IsCrossReference, IsMember, End, node, temporary, end_at, stand_at, between_nodes, circle, first_of, first_at, mirror_edges}
-use Rattle.joint_model.proofs.WalkLemmas.{Walks-join, Reaches-self, Reaches-edge, Reaches-trans, Reaches-keeps, Mutual-self, Mutual-sym, Mutual-trans}
-use Rattle.joint_model.specs.PeerReplay.{LeadsOver}
+use Rattle.std.proofs.lemmas.Bool.{cases_eq, cases_lt, ltb-true, lt-ltb}
+use Rattle.joint_machine.proofs.Deciding.{true-false, false-from}
+use Rattle.joint_machine.specs.Walks.{Walks, Reaches, Mutual}
+use Rattle.joint_machine.specs.Components.{IsContraction, IsPlainClass, IsHeavy, IsUnreported, IsLeast, Leads, LeadsIn, LeadsOut, IsCrossReference, IsMember, End, node, temporary, end_at, stand_at, between_nodes, circle, first_of, first_at, mirror_edges}
+use Rattle.joint_machine.proofs.WalkLemmas.{Walks-join, Reaches-self, Reaches-edge, Reaches-trans, Reaches-keeps, Mutual-self, Mutual-sym, Mutual-trans}
+use Rattle.joint_machine.specs.PeerReplay.{LeadsOver}
 use Rattle.joint_laws.specs.Mirrors.{MirrorEdge, MirrorEdgesFollowWalks, WalksFollowMirrorEdges}
-use Rattle.joint_model.proofs.Members.{Contains-at, Contains-map, Contains-map_cases, Contains-flat_map, Contains-flat_map_cases, at-Contains, Rises-once}
+use Rattle.joint_machine.proofs.Members.{Contains-at, Contains-map, Contains-map_cases, Contains-flat_map, Contains-flat_map_cases, at-Contains, Rises-once}
 use Rattle.joint_laws.proofs.Circles.{circle-ends, circle-walks, first-member, first-there}
 use Rattle.joint_laws.proofs.FiniteReach.{reach_stable}
 use Rattle.joint_laws.proofs.Through.{RefEdge, leads-walk, walk-Refers, same-node}

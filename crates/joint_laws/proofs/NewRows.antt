@@ -1,27 +1,28 @@
--- A managed row that was made at an entry, and holds a handle, is in a slot after it; and a peer that is brought back is.
+-- A managed row that was made at an entry, and holds a handle, is in a slot after it; and a peer that is brought back
+-- is.
 use Rattle.std.proofs.Common.{◌≡◌, ℕ, ◌<◌, ◌≤◌, inl, inr, Bool, true, false, List, length, Option, Some, None, set, refl, sym, subst, arith}
 use Rattle.std.specs.Prelude.{Contains, if◌then◌else◌}
-use Rattle.joint_model.specs.declared.names.Kind.{Kind}
-use Rattle.joint_model.specs.declared.names.Sort.{Sort}
-use Rattle.joint_model.specs.declared.names.Thread.{Thread}
-use Rattle.joint_model.specs.declared.names.Thread.TheVariants.{M, P, C}
-use Rattle.joint_model.specs.declared.lines.Act.{Act}
-use Rattle.joint_model.specs.declared.events.Op.{Op}
-use Rattle.joint_model.specs.declared.events.Op.TheVariants as op
-use Rattle.joint_model.specs.declared.events.Reply.{Reply}
-use Rattle.joint_model.specs.declared.events.Reply.TheVariants as says
-use Rattle.joint_model.specs.declared.events.Made.{Made}
-use Rattle.joint_model.specs.Heaps.{IsMade, answer, slot, place, is_full, next_number, numbered_at, with_var}
-use Rattle.joint_model.specs.Lines.{IsEvent, is_peer_event}
-use Rattle.joint_model.specs.Linked.{Linkage, MayCome, SideLawful, linkage_after, managed_after}
-use Rattle.joint_model.specs.Managed.{Managed, OpenCycle, Holds, IsManagedRoot, managed_name, with_row, adopted, twin_met, twin_kind, twin_fields, met, given_up, without_handle, managed_line, with_snapshot, resolved, abandoned, candidates_of}
-use Rattle.joint_model.specs.ManagedReplay.{ManagedReplay, registered, managed_answer, ManagedAllows}
-use Rattle.joint_model.specs.Run.{thread_number}
-use Rattle.joint_model.specs.Told.{Told, Noted, nothing, snap_of, contraction_of, resolution_of, phase_of}
+use Rattle.joint_machine.specs.declared.names.Kind.{Kind}
+use Rattle.joint_machine.specs.declared.names.Sort.{Sort}
+use Rattle.joint_machine.specs.declared.names.Thread.{Thread}
+use Rattle.joint_machine.specs.declared.names.Thread.TheVariants.{M, P, C}
+use Rattle.joint_machine.specs.declared.lines.Act.{Act}
+use Rattle.joint_machine.specs.declared.events.Op.{Op}
+use Rattle.joint_machine.specs.declared.events.Op.TheVariants as op
+use Rattle.joint_machine.specs.declared.events.Reply.{Reply}
+use Rattle.joint_machine.specs.declared.events.Reply.TheVariants as says
+use Rattle.joint_machine.specs.declared.events.Made.{Made}
+use Rattle.joint_machine.specs.Heaps.{IsMade, answer, slot, place, is_full, next_number, numbered_at, with_var}
+use Rattle.joint_machine.specs.Lines.{IsEvent, is_peer_event}
+use Rattle.joint_machine.specs.Linked.{Linkage, MayCome, SideLawful, linkage_after, managed_after}
+use Rattle.joint_machine.specs.Managed.{Managed, OpenCycle, Holds, IsManagedRoot, managed_name, with_row, adopted, twin_met, twin_kind, twin_fields, met, given_up, without_handle, managed_line, with_snapshot, resolved, abandoned, candidates_of}
+use Rattle.joint_machine.specs.ManagedReplay.{ManagedReplay, registered, managed_answer, ManagedAllows}
+use Rattle.joint_machine.specs.Run.{thread_number}
+use Rattle.joint_machine.specs.Told.{Told, Noted, nothing, snap_of, contraction_of, resolution_of, phase_of}
 use Rattle.joint_laws.specs.ManagedInvariants.{IsManagedKept, IsReplayKept}
-use Rattle.joint_model.proofs.Numbered.{numbered-within, numbered_set-length, numbered-push_cases, set-at_here}
-use Rattle.joint_model.proofs.Members.{Contains-at}
-use Rattle.joint_model.proofs.HeapLemmas.{adopt_by-managed}
+use Rattle.joint_machine.proofs.Numbered.{numbered-within, numbered_set-length, numbered-push_cases, set-at_here}
+use Rattle.joint_machine.proofs.Members.{Contains-at}
+use Rattle.joint_machine.proofs.HeapLemmas.{adopt_by-managed}
 use Rattle.joint_laws.proofs.ManagedMoves.{met_by}
 use Rattle.joint_laws.proofs.ManagedSteps.{meet_by-managed, give_by-managed}
 use Rattle.joint_laws.proofs.Adopting.{managed_line-same}

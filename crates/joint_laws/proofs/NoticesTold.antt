@@ -1,35 +1,36 @@
--- Notices are only put behind those that wait, by resolutions, and only taken from the front, so at most as many are taken as were
--- queued. So those that an entry takes stand in the list of all that were ever queued where its span says; and that list is the
--- history's own as far as notices were taken.
+-- Notices are only put behind those that wait, by resolutions, and only taken from the front, so at most as many are
+-- taken as were queued. So those that an entry takes stand in the list of all that were ever queued where its span
+-- says; and that list is the history's own as far as notices were taken.
 use Rattle.std.proofs.Common.{◌≡◌, ℕ, zero, suc, ◌+◌, ◌-◌, ◌≤◌, Bool, true, false, ◌||◌, min, List, [], ◌∷◌, ◌++◌, length, take, drop, Option, Some, None, refl, sym, ap, subst, ◌∙◌, arith, length-append, length-take, length-drop}
 use Rattle.std.specs.Prelude.{slice_get, slice_set, filter}
 use Rattle.std.proofs.lemmas.List.{take_all, take-append-le, drop-append-le, drop-take}
 use Rattle.std.proofs.lemmas.Option.{slice_get_within}
-use Rattle.joint_model.specs.declared.names.Kind.{Kind}
-use Rattle.joint_model.specs.declared.names.Sort.{Sort}
-use Rattle.joint_model.specs.declared.names.Span.{Span}
-use Rattle.joint_model.specs.declared.names.Thread.{Thread}
-use Rattle.joint_model.specs.declared.names.Thread.TheVariants.{M, P, C}
-use Rattle.joint_model.specs.declared.lines.Act.{Act}
-use Rattle.joint_model.specs.declared.lines.Act.TheVariants as act
-use Rattle.joint_model.specs.declared.events.Op.{Op}
-use Rattle.joint_model.specs.declared.events.Op.TheVariants as op
-use Rattle.joint_model.specs.declared.events.Reply.{Reply}
-use Rattle.joint_model.specs.declared.events.Reply.TheVariants as says
-use Rattle.joint_model.specs.declared.events.Made.{Made}
-use Rattle.joint_model.specs.Heaps.{Answered, answer, slot, place, is_freed, is_full}
-use Rattle.joint_model.specs.Histories.{stretch}
-use Rattle.joint_model.specs.Lines.{IsEvent, is_peer_event}
-use Rattle.joint_model.specs.Linked.{Linkage, AllMayCome, SideLawful, opening_linkage, linkage_after, managed_after, replayed}
-use Rattle.joint_model.specs.Managed.{Managed, OpenCycle, managed_name, adopted, cell_set, target_read, cell_read, read_cell, twin_met, met, given_up, without_handle, managed_line, holds_handle}
-use Rattle.joint_model.specs.ManagedReplay.{ManagedReplay, registered, managed_answer}
-use Rattle.joint_model.specs.PeerReplay.{PeerReplay, Marking, is_thread, swept, swept_of, peer_answer}
-use Rattle.joint_model.specs.Run.{thread_number}
-use Rattle.joint_model.specs.Told.{Told, nothing, snap_of, contraction_of, sweep_of, resolution_of, phase_of, Noted}
-use Rattle.joint_model.proofs.Deciding.{option-cases, test-cases}
-use Rattle.joint_model.proofs.HeapLemmas.{adopt_by-managed}
+use Rattle.joint_machine.specs.declared.names.Kind.{Kind}
+use Rattle.joint_machine.specs.declared.names.Sort.{Sort}
+use Rattle.joint_machine.specs.declared.names.Span.{Span}
+use Rattle.joint_machine.specs.declared.names.Thread.{Thread}
+use Rattle.joint_machine.specs.declared.names.Thread.TheVariants.{M, P, C}
+use Rattle.joint_machine.specs.declared.lines.Act.{Act}
+use Rattle.joint_machine.specs.declared.lines.Act.TheVariants as act
+use Rattle.joint_machine.specs.declared.events.Op.{Op}
+use Rattle.joint_machine.specs.declared.events.Op.TheVariants as op
+use Rattle.joint_machine.specs.declared.events.Reply.{Reply}
+use Rattle.joint_machine.specs.declared.events.Reply.TheVariants as says
+use Rattle.joint_machine.specs.declared.events.Made.{Made}
+use Rattle.joint_machine.specs.Heaps.{Answered, answer, slot, place, is_freed, is_full}
+use Rattle.joint_machine.specs.Histories.{stretch}
+use Rattle.joint_machine.specs.Lines.{IsEvent, is_peer_event}
+use Rattle.joint_machine.specs.Linked.{Linkage, SideLawful, opening_linkage, linkage_after, managed_after}
+use Rattle.joint_machine.specs.Replaying.{AllMayCome, replayed}
+use Rattle.joint_machine.specs.Managed.{Managed, OpenCycle, managed_name, adopted, cell_set, target_read, cell_read, read_cell, twin_met, met, given_up, without_handle, managed_line, holds_handle}
+use Rattle.joint_machine.specs.ManagedReplay.{ManagedReplay, registered, managed_answer}
+use Rattle.joint_machine.specs.PeerReplay.{PeerReplay, Marking, is_thread, swept, swept_of, peer_answer}
+use Rattle.joint_machine.specs.Run.{thread_number}
+use Rattle.joint_machine.specs.Told.{Told, nothing, snap_of, contraction_of, sweep_of, resolution_of, phase_of, Noted}
+use Rattle.joint_machine.proofs.Deciding.{option-cases, test-cases}
+use Rattle.joint_machine.proofs.HeapLemmas.{adopt_by-managed}
 use Rattle.joint_laws.specs.States.{state_at}
-use Rattle.joint_laws.specs.ToldLaws.{TakesNamed}
+use Rattle.joint_laws.specs.Spans.{TakesNamed}
 use Rattle.joint_laws.proofs.Everywhere.{everywhere, from_state}
 use Rattle.joint_laws.proofs.FreedLists.{Grows, grows-same, grows-then}
 use Rattle.joint_laws.proofs.ManagedMoves.{met_by}

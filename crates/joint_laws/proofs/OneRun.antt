@@ -1,18 +1,17 @@
 -- A list of entries has one run at most: each entry leaves the joint machine in one state.
 use Rattle.std.proofs.Common.{◌≡◌, ℕ, ap, inl, inr, ◌⊎◌, List, [], ◌∷◌, map, Option, Some, None, refl, sym, subst, ◌∙◌}
-use Rattle.joint_model.specs.declared.names.Cycle.{Cycle}
-use Rattle.joint_model.specs.declared.names.Thread.{Thread}
-use Rattle.joint_model.specs.declared.names.Thread.TheVariants.{M, P, C}
-use Rattle.joint_model.specs.declared.events.Op.{Op}
-use Rattle.joint_model.specs.declared.events.Op.TheVariants as op
-use Rattle.joint_model.specs.declared.events.Reply.{Reply}
-use Rattle.joint_model.specs.Joint.{Joint, JointMarking, opening}
-use Rattle.joint_model.specs.Lines.{IsPeerThread}
-use Rattle.joint_model.specs.Run.{Moment, JointStep, JointEvent, JointBegin, JointSweep, JointRestore, joint_restored, IsRunFrom, IsRun}
-use Rattle.joint_model.specs.Joint.{with_managed}
-use Rattle.joint_model.specs.Managed.{resolved}
+use Rattle.joint_machine.specs.declared.names.Cycle.{Cycle}
+use Rattle.joint_machine.specs.declared.names.Thread.{Thread}
+use Rattle.joint_machine.specs.declared.names.Thread.TheVariants.{M, P, C}
+use Rattle.joint_machine.specs.declared.events.Op.{Op}
+use Rattle.joint_machine.specs.declared.events.Op.TheVariants as op
+use Rattle.joint_machine.specs.declared.events.Reply.{Reply}
+use Rattle.joint_machine.specs.Joint.{Joint, JointMarking, opening, with_managed}
+use Rattle.joint_machine.specs.Lines.{IsPeerThread}
+use Rattle.joint_machine.specs.Run.{Moment, JointStep, JointEvent, JointBegin, JointSweep, JointRestore, joint_restored, IsRunFrom, IsRun}
+use Rattle.joint_machine.specs.Managed.{resolved}
 use Rattle.std.proofs.lemmas.Option.{same_Some}
-use Rattle.joint_model.specs.Told.{Told, snap_of, sweep_of, resolution_of, Noted}
+use Rattle.joint_machine.specs.Told.{Told, snap_of, sweep_of, resolution_of, Noted}
 
 -- each event leaves one state
 one-begin : (j : Joint) (mk : Option JointMarking) (t : Thread) (reply : Reply) (a c : Joint) → JointBegin j mk t reply a → JointBegin j mk t reply c → a ≡ c

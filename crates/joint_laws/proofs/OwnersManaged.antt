@@ -1,23 +1,23 @@
--- Owners and what threads have in hand at the managed entries: where rows hold the same handles; where a new row takes a
--- handle that one thread had in hand; and where a row in a slot gives its handle up.
+-- Owners and what threads have in hand at the managed entries: where rows hold the same handles; where a new row takes
+-- a handle that one thread had in hand; and where a row in a slot gives its handle up.
 use Rattle.std.proofs.Common.{◌≡◌, ◌≢◌, ℕ, ◌≤◌, inl, inr, List, [], ◌∷◌, ◌++◌, length, Option, Some, None, refl, sym, ap, subst, ◌∙◌}
 use Rattle.std.specs.Prelude.{Contains}
 use Rattle.std.proofs.lemmas.Bool.{cases_eq}
 use Rattle.std.proofs.lemmas.Option.{same_Some}
 use Rattle.std.proofs.lemmas.List.Elements.{Contains-append_left, Contains-push, Contains-push_cases}
-use Rattle.joint_model.specs.declared.names.Kind.{Kind}
-use Rattle.joint_model.specs.Control.{Doing}
-use Rattle.joint_model.specs.Heaps.{numbered_at, numbered_set, slot}
-use Rattle.joint_model.specs.Managed.{OpenCycle, Holds, IsManagedRoot, candidates_of}
-use Rattle.joint_model.specs.ManagedReplay.{ManagedReplay, without_twins}
-use Rattle.joint_model.specs.Peers.{Issued, strong}
-use Rattle.joint_model.specs.PeerReplay.{PeerReplay}
+use Rattle.joint_machine.specs.declared.names.Kind.{Kind}
+use Rattle.joint_machine.specs.Control.{Doing}
+use Rattle.joint_machine.specs.Heaps.{numbered_at, numbered_set, slot}
+use Rattle.joint_machine.specs.Managed.{OpenCycle, Holds, IsManagedRoot, candidates_of}
+use Rattle.joint_machine.specs.ManagedReplay.{ManagedReplay, without_twins}
+use Rattle.joint_machine.specs.Peers.{Issued, strong}
+use Rattle.joint_machine.specs.PeerReplay.{PeerReplay}
 use Rattle.joint_laws.specs.ManagedInvariants.{IsReplayKept}
 use Rattle.joint_laws.specs.PeerInvariants.{IsIssued}
 use Rattle.joint_laws.specs.LinkedInvariants.{HasStrength, IsHeldOne, IsRowOf, AreOwnersKept, doing_in, HasInHand, IsLoose, AreCallersKept}
-use Rattle.joint_model.proofs.Members.{Contains-here, Contains-nil, Contains-cons_cases}
-use Rattle.joint_model.proofs.Numbered.{numbered-within, numbered_set-same, numbered_set-other, slot-Contains}
-use Rattle.joint_model.proofs.Deciding.{none_some}
+use Rattle.joint_machine.proofs.Members.{Contains-here, Contains-nil, Contains-cons_cases}
+use Rattle.joint_machine.proofs.Numbered.{numbered-within, numbered_set-same, numbered_set-other, slot-Contains}
+use Rattle.joint_machine.proofs.Deciding.{none_some}
 use Rattle.joint_laws.proofs.Registered.{without_twins-parts, without_twins-keeps}
 use Rattle.joint_laws.proofs.Adopting.{held-cases, pair-cases, new-live, new-held, stays-live, pushed-still, grows, after, newest, pushed}
 use Rattle.joint_laws.proofs.DriverPeers.{made-in_hand}

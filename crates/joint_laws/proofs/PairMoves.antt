@@ -1,28 +1,29 @@
--- What an entry does to the pairs of a peer and its row: a new pair has a new row, and a pair goes where its row is in a slot or
--- is freed.
+-- What an entry does to the pairs of a peer and its row: a new pair has a new row, and a pair goes where its row is in
+-- a slot or is freed.
 use Rattle.std.proofs.Common.{◌≡◌, ℕ, inl, inr, Bool, true, false, List, [], ◌∷◌, Option, Some, None, refl, sym, ap, subst, arith}
 use Rattle.std.specs.Prelude.{Contains, if◌then◌else◌}
 use Rattle.std.proofs.lemmas.List.Elements.{Contains-push_cases, Contains-append_left, Contains-append_right}
-use Rattle.joint_model.specs.declared.names.Sort.{Sort}
-use Rattle.joint_model.specs.declared.names.Thread.{Thread}
-use Rattle.joint_model.specs.declared.events.Made.{Made}
-use Rattle.joint_model.specs.declared.events.Op.{Op}
-use Rattle.joint_model.specs.declared.events.Op.TheVariants as op
-use Rattle.joint_model.specs.declared.events.Reply.{Reply}
-use Rattle.joint_model.specs.declared.events.Reply.TheVariants as says
-use Rattle.joint_model.specs.Heaps.{IsMade, answer, slot, place, is_full, next_number}
-use Rattle.joint_model.specs.Lines.{is_peer_event}
-use Rattle.joint_model.specs.Linked.{Linkage, managed_after, linkage_after}
-use Rattle.joint_model.specs.Managed.{Managed, OpenCycle, IsManagedRoot, managed_name, with_row, twin_met, twin_kind, twin_fields}
-use Rattle.joint_model.specs.ManagedReplay.{ManagedReplay, registered, with_twin, without_twins, adopt_by, meet_by, give_by, managed_answer}
-use Rattle.joint_model.specs.Run.{thread_number}
-use Rattle.joint_model.specs.Told.{Told, Noted, snap_of, contraction_of, resolution_of, phase_of}
-use Rattle.joint_model.proofs.Members.{Contains-nil, Contains-cons_cases}
-use Rattle.joint_model.proofs.Numbered.{slot-Contains}
+use Rattle.joint_machine.specs.declared.names.Sort.{Sort}
+use Rattle.joint_machine.specs.declared.names.Thread.{Thread}
+use Rattle.joint_machine.specs.declared.events.Made.{Made}
+use Rattle.joint_machine.specs.declared.events.Op.{Op}
+use Rattle.joint_machine.specs.declared.events.Op.TheVariants as op
+use Rattle.joint_machine.specs.declared.events.Reply.{Reply}
+use Rattle.joint_machine.specs.declared.events.Reply.TheVariants as says
+use Rattle.joint_machine.specs.Heaps.{IsMade, answer, slot, place, is_full, next_number}
+use Rattle.joint_machine.specs.Lines.{is_peer_event}
+use Rattle.joint_machine.specs.Linked.{Linkage, managed_after, linkage_after}
+use Rattle.joint_machine.specs.Managed.{Managed, OpenCycle, IsManagedRoot, managed_name, with_row, twin_met, twin_kind, twin_fields}
+use Rattle.joint_machine.specs.ManagedReplay.{ManagedReplay, registered, with_twin, without_twins, adopt_by, meet_by, give_by, managed_answer}
+use Rattle.joint_machine.specs.Run.{thread_number}
+use Rattle.joint_machine.specs.Told.{Told, Noted, snap_of, contraction_of, resolution_of, phase_of}
+use Rattle.joint_machine.proofs.Members.{Contains-nil, Contains-cons_cases}
+use Rattle.joint_machine.proofs.Numbered.{slot-Contains}
 use Rattle.joint_laws.proofs.ManagedMoves.{met_by}
 use Rattle.joint_laws.proofs.Registered.{without_twins-parts, without_twins-keeps}
 
--- the pairs before and after: a pair of a row that was made stood, and one of a row in no slot that isn't freed stands on
+-- the pairs before and after: a pair of a row that was made stood, and one of a row in no slot that isn't freed stands
+-- on
 pub record PairsMove (r u : ManagedReplay) : Type 0 where
   pub before : (p x : ℕ) → IsMade r.managed.heap x → Contains u.registry (p, x) → Contains r.registry (p, x)
   pub after : (p x : ℕ) → Contains r.registry (p, x) → (IsManagedRoot r.managed x → ⊥) → (Contains u.managed.heap.freed x → ⊥) → Contains u.registry (p, x)

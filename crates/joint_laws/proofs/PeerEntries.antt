@@ -1,25 +1,25 @@
 -- The peer side stays kept at each of its lawful entries. A sweep is the hard one: what it leaves unfreed is spared, so
--- what a staying peer leads to, by an edge of the begin or to a spared peer, is spared too, and so is what a slot names and
--- what a strong handle leads to. A mirror brings references between unfreed and safe peers alone, which the driver's order
--- gives.
+-- what a staying peer leads to, by an edge of the begin or to a spared peer, is spared too, and so is what a slot names
+-- and what a strong handle leads to. A mirror brings references between unfreed and safe peers alone, which the
+-- driver's order gives.
 use Rattle.std.proofs.Common.{◌≡◌, ℕ, ◌+◌, ◌-◌, inl, inr, Bool, true, false, ◌||◌, List, [], length, Option, Some, None, refl, ap, subst, ◌∙◌, ◌++◌, ◌∷◌}
 use Rattle.std.specs.Prelude.{Contains, if◌then◌else◌, min, nat_lt}
 use Rattle.std.proofs.lemmas.Option.{same_Some}
 use Rattle.std.proofs.lemmas.List.Elements.{Contains-append_left, Contains-append_right, Contains-append_cases}
-use Rattle.joint_model.specs.declared.names.Thread.{Thread}
-use Rattle.joint_model.specs.declared.names.Thread.TheVariants.{P, C}
-use Rattle.joint_model.specs.declared.lines.Act.TheVariants as act
-use Rattle.joint_model.specs.declared.events.Op.{Op}
-use Rattle.joint_model.specs.declared.events.Op.TheVariants as op
-use Rattle.joint_model.specs.declared.events.Reply.TheVariants as says
-use Rattle.joint_model.specs.Heaps.{IsLive, answer, slot, is_full, fields_of, numbered_at, numbered_set, with_freed}
-use Rattle.joint_model.specs.Peers.{Issued, held, strong, weak, peer_of, next_handle, with_renewed, handles_full}
-use Rattle.joint_model.specs.PeerReplay.{PeerReplay, TableRow, Marking, row_of, table_target, is_thread, sliced, begun, swept_of, swept, restored_by, mirrored, peer_answer, IsSweep, SweepAllows, PeerAllows, brought_to, withdrawn, given_anew, fresh_row, with_restored, with_given, with_weakened, Refers}
-use Rattle.joint_model.specs.Run.{thread_number}
-use Rattle.joint_model.specs.Told.{Told, nothing, references_of, slice_of, sweep_of}
+use Rattle.joint_machine.specs.declared.names.Thread.{Thread}
+use Rattle.joint_machine.specs.declared.names.Thread.TheVariants.{P, C}
+use Rattle.joint_machine.specs.declared.lines.Act.TheVariants as act
+use Rattle.joint_machine.specs.declared.events.Op.{Op}
+use Rattle.joint_machine.specs.declared.events.Op.TheVariants as op
+use Rattle.joint_machine.specs.declared.events.Reply.TheVariants as says
+use Rattle.joint_machine.specs.Heaps.{IsLive, answer, slot, is_full, fields_of, numbered_at, numbered_set, with_freed}
+use Rattle.joint_machine.specs.Peers.{Issued, held, strong, weak, peer_of, next_handle, with_renewed, handles_full}
+use Rattle.joint_machine.specs.PeerReplay.{PeerReplay, TableRow, Marking, row_of, table_target, is_thread, sliced, begun, swept_of, swept, restored_by, mirrored, peer_answer, IsSweep, SweepAllows, PeerAllows, brought_to, withdrawn, given_anew, fresh_row, with_restored, with_given, with_weakened, Refers}
+use Rattle.joint_machine.specs.Run.{thread_number}
+use Rattle.joint_machine.specs.Told.{Told, nothing, references_of, slice_of, sweep_of}
 use Rattle.joint_laws.specs.PeerInvariants.{IsTabled, IsIssued, IsMarkingKept, IsPeerKept}
-use Rattle.joint_model.proofs.Numbered.{slot-named}
-use Rattle.joint_model.proofs.Deciding.{none_some}
+use Rattle.joint_machine.proofs.Numbered.{slot-named}
+use Rattle.joint_machine.proofs.Deciding.{none_some}
 use Rattle.joint_laws.proofs.HeapKeeping.{IsHeapKept-freed}
 use Rattle.joint_laws.proofs.HandleKeeping.{AreHandlesKept-swept}
 use Rattle.joint_laws.proofs.ReferenceKeeping.{WasHeld, AreReferencesKept-none, AreReferencesKept-weakened, AreReferencesKept-restored, AreReferencesKept-given, AreReferencesKept-mirrored}
@@ -28,8 +28,8 @@ use Rattle.joint_laws.proofs.Sparing.{spared-next, spared-stays, stays-spared}
 use Rattle.joint_laws.proofs.PeerMoves.{IsSafe, kept-gone, kept-reset, kept-issue, kept-brought, brought-safe, kept-mirror}
 use Rattle.joint_laws.proofs.Restores.{restored-cases}
 use Rattle.joint_laws.proofs.PeerEvents.{pair-event, grip-event, land-event, line-event}
-use Rattle.joint_model.proofs.HeapLemmas.{same_thread}
-use Rattle.joint_model.specs.Components.{End}
+use Rattle.joint_machine.proofs.HeapLemmas.{same_thread}
+use Rattle.joint_machine.specs.Components.{End}
 use Rattle.joint_laws.proofs.Through.{Refers-none}
 
 -- the references that a mirror brings join unfreed and safe peers; the driver's order gives this

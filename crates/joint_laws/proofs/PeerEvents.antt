@@ -1,21 +1,21 @@
--- The peer side stays kept at the events of its threads' lines, and at those that make, grip and land: each is made up of
--- small changes.
+-- The peer side stays kept at the events of its threads' lines, and at those that make, grip and land: each is made up
+-- of small changes.
 use Rattle.std.proofs.Common.{◌≡◌, ℕ, ◌+◌, inl, inr, Bool, true, false, [], ◌∷◌, ◌++◌, map, Option, Some, None, set, refl, subst}
 use Rattle.std.specs.Prelude.{if◌then◌else◌}
 use Rattle.std.proofs.lemmas.Option.{same_Some}
-use Rattle.joint_model.specs.declared.names.Sort.{Sort}
-use Rattle.joint_model.specs.declared.names.Sort.TheVariants.{Framework}
-use Rattle.joint_model.specs.declared.lines.Act.{Act}
-use Rattle.joint_model.specs.declared.lines.Act.TheVariants as act
-use Rattle.joint_model.specs.declared.events.Reply.{Reply}
-use Rattle.joint_model.specs.declared.events.Reply.TheVariants as says
-use Rattle.joint_model.specs.Heaps.{Heap, IsLive, InSlot, Answered, answer, slot, place, is_full, next_number, numbered_at, numbered_set, with_var, with_static}
-use Rattle.joint_model.specs.Managed.{place_or_none}
-use Rattle.joint_model.specs.Peers.{Peers, Issued, held, raw, Strength, strong, weak, peer_name, handle_name, next_handle, with_handle, with_peer, peer_gripped, landed, name_given, peer_read, peer_of, issued_since, handles_full}
-use Rattle.joint_model.specs.PeerReplay.{PeerReplay, TableRow, fresh_row, row_of, table_target, on_table, brings, untabled, peer_thread_line, brought_to}
+use Rattle.joint_machine.specs.declared.names.Sort.{Sort}
+use Rattle.joint_machine.specs.declared.names.Sort.TheVariants.{Framework}
+use Rattle.joint_machine.specs.declared.lines.Act.{Act}
+use Rattle.joint_machine.specs.declared.lines.Act.TheVariants as act
+use Rattle.joint_machine.specs.declared.events.Reply.{Reply}
+use Rattle.joint_machine.specs.declared.events.Reply.TheVariants as says
+use Rattle.joint_machine.specs.Heaps.{Heap, IsLive, InSlot, Answered, answer, slot, place, is_full, next_number, numbered_at, numbered_set, with_var, with_static}
+use Rattle.joint_machine.specs.Managed.{place_or_none}
+use Rattle.joint_machine.specs.Peers.{Peers, Issued, held, raw, Strength, strong, weak, peer_name, handle_name, next_handle, with_handle, with_peer, peer_gripped, landed, name_given, peer_read, peer_of, issued_since, handles_full}
+use Rattle.joint_machine.specs.PeerReplay.{PeerReplay, TableRow, fresh_row, row_of, table_target, on_table, brings, untabled, peer_thread_line, brought_to}
 use Rattle.joint_laws.specs.PeerInvariants.{IsIssued, IsPeerKept}
-use Rattle.joint_model.proofs.Numbered.{slot-Contains, slot-named, numbered-push_new}
-use Rattle.joint_model.proofs.Deciding.{none_some}
+use Rattle.joint_machine.proofs.Numbered.{slot-Contains, slot-named, numbered-push_new}
+use Rattle.joint_machine.proofs.Deciding.{none_some}
 use Rattle.joint_laws.proofs.HeapMoves.{HasMoved, copied-moved, field_set-moved, field_got-moved, dropped-moved, loaded-moved, stored-moved}
 use Rattle.joint_laws.proofs.PeerMoves.{in_reach-safe, kept-heap, kept-peer, new-live, new-safe, kept-var, kept-static, kept-issue, kept-counted, kept-name, kept-gone, kept-brought, brought-safe, on_table-still, on_table-issued}
 

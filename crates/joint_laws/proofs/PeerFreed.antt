@@ -1,20 +1,20 @@
 -- Only a sweep frees peers.
 use Rattle.std.proofs.Common.{◌≡◌, ℕ, ◌⊎◌, inl, inr, Bool, true, false, ◌||◌, List, [], Option, Some, None, refl}
-use Rattle.joint_model.specs.declared.names.Thread.{Thread}
-use Rattle.joint_model.specs.declared.lines.Act.TheVariants as act
-use Rattle.joint_model.specs.declared.events.Op.{Op}
-use Rattle.joint_model.specs.declared.events.Op.TheVariants as op
-use Rattle.joint_model.specs.declared.events.Made.{Made}
-use Rattle.joint_model.specs.Heaps.{slot, is_full}
-use Rattle.joint_model.specs.Lines.{is_peer_event}
-use Rattle.joint_model.specs.Linked.{Linkage, linkage_after, peer_after}
-use Rattle.joint_model.specs.Peers.{handles_full}
-use Rattle.joint_model.specs.PeerReplay.{PeerReplay, TableRow, row_of, restored_by, mirrored, peer_answer, table_target}
-use Rattle.joint_model.specs.Run.{thread_number}
-use Rattle.joint_model.specs.Told.{Told, Noted, references_of, slice_of}
+use Rattle.joint_machine.specs.declared.names.Thread.{Thread}
+use Rattle.joint_machine.specs.declared.lines.Act.TheVariants as act
+use Rattle.joint_machine.specs.declared.events.Op.{Op}
+use Rattle.joint_machine.specs.declared.events.Op.TheVariants as op
+use Rattle.joint_machine.specs.declared.events.Made.{Made}
+use Rattle.joint_machine.specs.Heaps.{slot, is_full}
+use Rattle.joint_machine.specs.Lines.{is_peer_event}
+use Rattle.joint_machine.specs.Linked.{Linkage, linkage_after, peer_after}
+use Rattle.joint_machine.specs.Peers.{handles_full}
+use Rattle.joint_machine.specs.PeerReplay.{PeerReplay, TableRow, row_of, restored_by, mirrored, peer_answer, table_target}
+use Rattle.joint_machine.specs.Run.{thread_number}
+use Rattle.joint_machine.specs.Told.{Told, Noted, references_of, slice_of}
 use Rattle.joint_laws.specs.PeerInvariants.{IsPeerKept}
 use Rattle.joint_laws.proofs.PeerQuietEvents.{quiet-line, quiet-pair, quiet-grip, quiet-land, quiet-begun, quiet-sliced}
-use Rattle.joint_model.specs.Components.{End}
+use Rattle.joint_machine.specs.Components.{End}
 use Rattle.joint_laws.proofs.Restores.{restored-any}
 
 abbrev pub SameFreed : PeerReplay → PeerReplay → Type 0

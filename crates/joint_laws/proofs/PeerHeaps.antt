@@ -1,34 +1,34 @@
--- What each entry of the peer side may do to the peers' heap: slots keep their number; made peers stay; a field comes to hold only
--- what was in a slot; only a peer in a slot has a field changed; and no freed peer comes back.
+-- What each entry of the peer side may do to the peers' heap: slots keep their number; made peers stay; a field comes
+-- to hold only what was in a slot; only a peer in a slot has a field changed; and no freed peer comes back.
 use Rattle.std.proofs.Common.{◌≡◌, ℕ, ◌+◌, ◌-◌, ◌≤◌, ◌⊎◌, inl, inr, Bool, true, false, ◌||◌, List, [], length, Option, Some, None, set, refl, sym, subst, arith}
 use Rattle.std.specs.Prelude.{Contains, if◌then◌else◌, min, nat_lt}
 use Rattle.std.proofs.Math.ListN.{length-set}
 use Rattle.std.proofs.lemmas.List.Elements.{Contains-append_left}
-use Rattle.joint_model.specs.declared.names.Thread.{Thread}
-use Rattle.joint_model.specs.declared.names.Thread.TheVariants.{C}
-use Rattle.joint_model.specs.declared.names.Sort.{Sort}
-use Rattle.joint_model.specs.declared.names.Sort.TheVariants.{Framework}
-use Rattle.joint_model.specs.declared.lines.Act.{Act}
-use Rattle.joint_model.specs.declared.lines.Act.TheVariants as act
-use Rattle.joint_model.specs.declared.events.Op.{Op}
-use Rattle.joint_model.specs.declared.events.Op.TheVariants as op
-use Rattle.joint_model.specs.declared.events.Reply.{Reply}
-use Rattle.joint_model.specs.declared.events.Reply.TheVariants as says
-use Rattle.joint_model.specs.declared.events.Made.{Made}
-use Rattle.joint_model.specs.Heaps.{Heap, IsMade, IsLive, InSlot, Answered, answer, slot, place, fields_of, is_full, next_number, with_var, with_static, with_object, with_freed}
-use Rattle.joint_model.specs.Lines.{is_peer_event}
-use Rattle.joint_model.specs.Linked.{Linkage, linkage_after, peer_after}
-use Rattle.joint_model.specs.Managed.{place_or_none}
-use Rattle.joint_model.specs.Peers.{Peers, Strength, strong, weak, held, raw, peer_name, with_peer, with_handle, peer_gripped, landed, name_given, peer_read, peer_line, handle_name, next_handle, sort_of, handles_full}
-use Rattle.joint_model.specs.PeerReplay.{PeerReplay, TableRow, Marking, row_of, on_table, bring_by, peer_thread_line, is_thread, sliced, begun, swept_of, swept, restored_by, mirrored, peer_answer, table_target}
-use Rattle.joint_model.specs.Run.{thread_number}
-use Rattle.joint_model.specs.Told.{Told, Noted, references_of, slice_of, sweep_of}
+use Rattle.joint_machine.specs.declared.names.Thread.{Thread}
+use Rattle.joint_machine.specs.declared.names.Thread.TheVariants.{C}
+use Rattle.joint_machine.specs.declared.names.Sort.{Sort}
+use Rattle.joint_machine.specs.declared.names.Sort.TheVariants.{Framework}
+use Rattle.joint_machine.specs.declared.lines.Act.{Act}
+use Rattle.joint_machine.specs.declared.lines.Act.TheVariants as act
+use Rattle.joint_machine.specs.declared.events.Op.{Op}
+use Rattle.joint_machine.specs.declared.events.Op.TheVariants as op
+use Rattle.joint_machine.specs.declared.events.Reply.{Reply}
+use Rattle.joint_machine.specs.declared.events.Reply.TheVariants as says
+use Rattle.joint_machine.specs.declared.events.Made.{Made}
+use Rattle.joint_machine.specs.Heaps.{Heap, IsMade, IsLive, InSlot, Answered, answer, slot, place, fields_of, is_full, next_number, with_var, with_static, with_object, with_freed}
+use Rattle.joint_machine.specs.Lines.{is_peer_event}
+use Rattle.joint_machine.specs.Linked.{Linkage, linkage_after, peer_after}
+use Rattle.joint_machine.specs.Managed.{place_or_none}
+use Rattle.joint_machine.specs.Peers.{Peers, Strength, strong, weak, held, raw, peer_name, with_peer, with_handle, peer_gripped, landed, name_given, peer_read, peer_line, handle_name, next_handle, sort_of, handles_full}
+use Rattle.joint_machine.specs.PeerReplay.{PeerReplay, TableRow, Marking, row_of, on_table, bring_by, peer_thread_line, is_thread, sliced, begun, swept_of, swept, restored_by, mirrored, peer_answer, table_target}
+use Rattle.joint_machine.specs.Run.{thread_number}
+use Rattle.joint_machine.specs.Told.{Told, Noted, references_of, slice_of, sweep_of}
 use Rattle.joint_laws.proofs.Fields.{with_object-old, with_object-length}
 use Rattle.joint_laws.proofs.HeapMoves.{HasMoved, copied-moved, field_set-moved, field_got-moved, dropped-moved, loaded-moved, stored-moved}
 use Rattle.joint_laws.proofs.HeapKeeping.{object-field, object-was_live, moved-was_live}
 use Rattle.joint_laws.proofs.JointSteps.{bring-peers}
 use Rattle.joint_laws.proofs.PeerEvents.{globalised_by, freed_by, read_by}
-use Rattle.joint_model.specs.Components.{End}
+use Rattle.joint_machine.specs.Components.{End}
 use Rattle.joint_laws.proofs.Restores.{restored-any}
 
 pub record HeapGoes (h k : Heap) : Type 0 where

@@ -1,18 +1,18 @@
 -- The small changes of which the peer side's events are made up, each keeping what the peer side keeps: an operation of
--- the heap, a further peer, a slot that comes to name an unfreed and spared peer, a handle issued on such a peer, a name
--- set, a handle gone, a held handle's strength, a peer brought back, and a change of the mirror.
+-- the heap, a further peer, a slot that comes to name an unfreed and spared peer, a handle issued on such a peer, a
+-- name set, a handle gone, a held handle's strength, a peer brought back, and a change of the mirror.
 use Rattle.std.proofs.Common.{◌≡◌, ℕ, inl, inr, false, [], ◌∷◌, ◌++◌, length, map, drop, Option, Some, None, set, refl, sym, ap, subst, ◌∙◌, arith}
 use Rattle.std.specs.Prelude.{Contains}
 use Rattle.std.proofs.Math.Seq.{drop-append_seam, drop-length}
 use Rattle.std.proofs.lemmas.List.{append-nil}
 use Rattle.std.proofs.lemmas.Option.{same_Some}
 use Rattle.std.proofs.lemmas.List.Elements.{Contains-append_left, Contains-push}
-use Rattle.joint_model.specs.declared.names.Sort.{Sort}
-use Rattle.joint_model.specs.Heaps.{Heap, IsLive, numbered_set, next_number, with_var, with_static, with_object}
-use Rattle.joint_model.specs.Peers.{Peers, Issued, held, raw, strong, with_peer, issued_since}
-use Rattle.joint_model.specs.PeerReplay.{PeerReplay, TableRow, Mirror, Marking, fresh_row, brought_to, opening_peer_replay}
-use Rattle.joint_model.proofs.Deciding.{none_some}
-use Rattle.joint_model.proofs.HeapLemmas.{IsLive-later}
+use Rattle.joint_machine.specs.declared.names.Sort.{Sort}
+use Rattle.joint_machine.specs.Heaps.{Heap, IsLive, numbered_set, next_number, with_var, with_static, with_object}
+use Rattle.joint_machine.specs.Peers.{Peers, Issued, held, raw, strong, with_peer, issued_since}
+use Rattle.joint_machine.specs.PeerReplay.{PeerReplay, TableRow, Mirror, Marking, fresh_row, brought_to, opening_peer_replay}
+use Rattle.joint_machine.proofs.Deciding.{none_some}
+use Rattle.joint_machine.proofs.HeapLemmas.{IsLive-later}
 use Rattle.joint_laws.specs.PeerInvariants.{IsTabled, IsIssued, AreReferencesKept, IsSpared, IsMarkingKept, IsPeerKept}
 use Rattle.joint_laws.proofs.Fields.{with_object-length}
 use Rattle.joint_laws.proofs.HeapMoves.{HasMoved, IsInReach}

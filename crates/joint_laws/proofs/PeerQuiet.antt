@@ -1,19 +1,19 @@
--- The quiet events of the peer side: all but a release, a mirror, a weakening, a sweep, a restore and a clear. They free
--- nothing and touch no held handle of the table; a slot comes to name only what a slot or a field of a peer in a slot named,
--- a new peer, or where a handle leads; a field only what was in a slot; and a handle is issued only on a peer in a slot or
--- on a new one.
+-- The quiet events of the peer side: all but a release, a mirror, a weakening, a sweep, a restore and a clear. They
+-- free nothing and touch no held handle of the table; a slot comes to name only what a slot or a field of a peer in a
+-- slot named, a new peer, or where a handle leads; a field only what was in a slot; and a handle is issued only on a
+-- peer in a slot or on a new one.
 use Rattle.std.proofs.Common.{◌≡◌, ℕ, ◌+◌, ◌≤◌, ◌⊎◌, inl, inr, false, [], ◌∷◌, ◌++◌, length, map, drop, Option, Some, None, refl, sym, ap, subst, ◌∙◌, arith, length-append}
 use Rattle.std.specs.Prelude.{Contains}
 use Rattle.std.proofs.Math.Seq.{drop-append_seam, drop-length}
 use Rattle.std.proofs.lemmas.List.{append-nil}
 use Rattle.std.proofs.lemmas.Option.{same_Some}
-use Rattle.joint_model.specs.Heaps.{Heap, IsMade, InSlot, fields_of, numbered_at, numbered_set}
-use Rattle.joint_model.specs.Peers.{Peers, Issued, held, raw, Strength, strong, issued_since}
-use Rattle.joint_model.specs.PeerReplay.{PeerReplay, TableRow, Marking, fresh_row, brought_to, table_target}
+use Rattle.joint_machine.specs.Heaps.{Heap, IsMade, InSlot, fields_of, numbered_at, numbered_set}
+use Rattle.joint_machine.specs.Peers.{Peers, Issued, held, raw, Strength, strong, issued_since}
+use Rattle.joint_machine.specs.PeerReplay.{PeerReplay, TableRow, Marking, fresh_row, brought_to, table_target}
 use Rattle.joint_laws.specs.PeerInvariants.{IsTabled, IsIssued}
 use Rattle.joint_laws.specs.LinkedInvariants.{HasStrength, IsHeldOne}
-use Rattle.joint_model.proofs.Numbered.{numbered-within, numbered-push_cases, numbered-push_old, numbered_set-other}
-use Rattle.joint_model.proofs.Deciding.{none_some}
+use Rattle.joint_machine.proofs.Numbered.{numbered-within, numbered-push_cases, numbered-push_old, numbered_set-other}
+use Rattle.joint_machine.proofs.Deciding.{none_some}
 use Rattle.joint_laws.proofs.HeapMoves.{IsInReach}
 use Rattle.joint_laws.proofs.HandleKeeping.{held-raw, tabled-set_cases}
 use Rattle.joint_laws.proofs.HandlesAlike.{HandlesAlike, nothing_touched}

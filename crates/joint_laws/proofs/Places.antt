@@ -1,12 +1,13 @@
--- The entry in a place of a lawful list may come at the state before it, and leads to the state after it. And the places of a list
--- of which some elements are left out, in order.
+-- The entry in a place of a lawful list may come at the state before it, and leads to the state after it. And the
+-- places of a list of which some elements are left out, in order.
 use Rattle.std.proofs.Common.{◌≡◌, ℕ, zero, suc, ◌<◌, ◌≤◌, Bool, true, false, List, [], ◌∷◌, length, take, Some, refl, sym, ap, subst, ◌∙◌, cond, arith}
 use Rattle.std.specs.Prelude.{filter, slice_get}
 use Rattle.std.proofs.lemmas.Option.{same_Some, slice_get_within}
-use Rattle.joint_model.specs.Linked.{Linkage, MayCome, AllMayCome, opening_linkage, linkage_after, replayed}
-use Rattle.joint_model.specs.Told.{Noted}
-use Rattle.joint_model.proofs.Deciding.{none_some}
-use Rattle.joint_model.proofs.Numbered.{numbered-made}
+use Rattle.joint_machine.specs.Linked.{Linkage, MayCome, opening_linkage, linkage_after}
+use Rattle.joint_machine.specs.Replaying.{AllMayCome, replayed}
+use Rattle.joint_machine.specs.Told.{Noted}
+use Rattle.joint_machine.proofs.Deciding.{none_some}
+use Rattle.joint_machine.proofs.Numbered.{numbered-made}
 use Rattle.joint_laws.specs.States.{state_at}
 
 pub comes-in : (ns : List Noted) (s : Linkage) (i : ℕ) (n : Noted) → AllMayCome s ns → slice_get ns i ≡ Some n → MayCome (replayed s (take i ns)) n

@@ -1,22 +1,22 @@
 -- The reply of every event but a snapshot, a sweep, a resolution and the taking of notices has no span.
 use Rattle.std.proofs.Common.{ℕ, ◌+◌, ◌-◌, ◌||◌, List, length, Option, Some, None}
 use Rattle.std.specs.Prelude.{min, nat_lt, nat_le, slice_set}
-use Rattle.joint_model.specs.declared.names.Kind.{Kind}
-use Rattle.joint_model.specs.declared.names.Phase.{Phase}
-use Rattle.joint_model.specs.declared.names.PhaseWord.{PhaseWord}
-use Rattle.joint_model.specs.declared.names.PhaseWord.TheVariants as word
-use Rattle.joint_model.specs.declared.names.Sort.{Sort}
-use Rattle.joint_model.specs.declared.names.Thread.{Thread}
-use Rattle.joint_model.specs.declared.lines.Act.{Act}
-use Rattle.joint_model.specs.declared.lines.Act.TheVariants as act
-use Rattle.joint_model.specs.declared.events.Reply.{Reply}
-use Rattle.joint_model.specs.declared.events.Reply.TheVariants as says
-use Rattle.joint_model.specs.Heaps.{Heap, Answered, answer, slot, place, fields_of, is_freed, is_full, copied, field_set, field_stored, field_got, read_into, stored}
-use Rattle.joint_model.specs.Managed.{Managed, OpenCycle, managed_name, handle_of, adopted, cell_set, target_read, cell_read, read_cell, handle_reply, twin_met, met, place_or_none, managed_line}
-use Rattle.joint_model.specs.ManagedReplay.{open_reply, refusal_to}
-use Rattle.joint_model.specs.Peers.{Peers, Strength, peer_name, pair_made, peer_gripped, gripped, landed, name_given, globalised, peer_read, handles_full, peer_line}
-use Rattle.joint_model.specs.PeerReplay.{PeerReplay, Marking, TableRow, is_thread, sliced, begun, restored_by}
-use Rattle.joint_model.proofs.Deciding.{option-cases, test-cases}
+use Rattle.joint_machine.specs.declared.names.Kind.{Kind}
+use Rattle.joint_machine.specs.declared.names.Phase.{Phase}
+use Rattle.joint_machine.specs.declared.names.PhaseWord.{PhaseWord}
+use Rattle.joint_machine.specs.declared.names.PhaseWord.TheVariants as word
+use Rattle.joint_machine.specs.declared.names.Sort.{Sort}
+use Rattle.joint_machine.specs.declared.names.Thread.{Thread}
+use Rattle.joint_machine.specs.declared.lines.Act.{Act}
+use Rattle.joint_machine.specs.declared.lines.Act.TheVariants as act
+use Rattle.joint_machine.specs.declared.events.Reply.{Reply}
+use Rattle.joint_machine.specs.declared.events.Reply.TheVariants as says
+use Rattle.joint_machine.specs.Heaps.{Heap, Answered, answer, slot, place, fields_of, is_freed, is_full, copied, field_set, field_stored, field_got, read_into, stored}
+use Rattle.joint_machine.specs.Managed.{Managed, OpenCycle, managed_name, handle_of, adopted, cell_set, target_read, cell_read, read_cell, handle_reply, twin_met, met, place_or_none, managed_line}
+use Rattle.joint_machine.specs.ManagedReplay.{open_reply, refusal_to}
+use Rattle.joint_machine.specs.Peers.{Peers, Strength, peer_name, pair_made, peer_gripped, gripped, landed, name_given, globalised, peer_read, handles_full, peer_line}
+use Rattle.joint_machine.specs.PeerReplay.{PeerReplay, Marking, TableRow, is_thread, sliced, begun, restored_by}
+use Rattle.joint_machine.proofs.Deciding.{option-cases, test-cases}
 use Rattle.joint_laws.proofs.ManagedMoves.{met_by}
 use Rattle.joint_laws.proofs.Restores.{restored-any}
 

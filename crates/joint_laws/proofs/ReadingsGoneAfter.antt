@@ -1,23 +1,25 @@
--- The same in a history with lock-free reads: its state in a place is that of a lawful list, its entries before the place without
--- the reads that are set aside. And a reader's entry changes no reference.
+-- The same in a history with lock-free reads: its state in a place is that of a lawful list, its entries before the
+-- place without the reads that are set aside. And a reader's entry changes no reference.
 use Rattle.std.proofs.Common.{◌≡◌, ℕ, zero, suc, ◌+◌, ◌-◌, ◌<◌, ◌⊎◌, inl, inr, Bool, true, false, not, ◌&&◌, List, [], ◌∷◌, length, take, Option, Some, refl, sym, ap, subst, ◌∙◌, arith}
 use Rattle.std.specs.Prelude.{Contains, if◌then◌else◌, slice_get}
 use Rattle.std.proofs.lemmas.Option.{same_Some, slice_get_within}
 use Rattle.std.proofs.lemmas.List.{take_all}
-use Rattle.joint_model.specs.declared.names.Cycle.{Cycle}
-use Rattle.joint_model.specs.declared.lines.Act.TheVariants as act
-use Rattle.joint_model.specs.declared.events.Op.{Op}
-use Rattle.joint_model.specs.declared.events.Op.TheVariants as op
-use Rattle.joint_model.specs.Linked.{Linkage, MayCome, AllMayCome, opening_linkage, linkage_after, replayed}
-use Rattle.joint_model.specs.Managed.{OpenCycle}
-use Rattle.joint_model.specs.ManagedReplay.{ManagedReplay}
-use Rattle.joint_model.specs.PeerReplay.{PeerReplay}
-use Rattle.joint_model.specs.Lines.{is_read}
-use Rattle.joint_model.specs.Readers.{is_set_aside, is_aside, ReadsCell, IsReadReply, EntryMayCome, reader_after, entry_after, replayed_reading, AllMayComeReading}
-use Rattle.joint_model.specs.Told.{Noted}
-use Rattle.joint_model.proofs.Deciding.{none_some}
-use Rattle.joint_model.proofs.Members.{Contains-at, at-Contains, Contains-filter_to}
-use Rattle.joint_laws.specs.AfterwardsLaws.{ResolveFrees, SweepFrees, IsGoneAfter, NoMirrorBetween, reading_at, LockFreeReadsAreGone, WeakReadsAreGoneReading, NoneIsMirroredReading}
+use Rattle.joint_machine.specs.declared.names.Cycle.{Cycle}
+use Rattle.joint_machine.specs.declared.lines.Act.TheVariants as act
+use Rattle.joint_machine.specs.declared.events.Op.{Op}
+use Rattle.joint_machine.specs.declared.events.Op.TheVariants as op
+use Rattle.joint_machine.specs.Linked.{Linkage, MayCome, opening_linkage, linkage_after}
+use Rattle.joint_machine.specs.Replaying.{AllMayCome, replayed}
+use Rattle.joint_machine.specs.Managed.{OpenCycle}
+use Rattle.joint_machine.specs.ManagedReplay.{ManagedReplay}
+use Rattle.joint_machine.specs.PeerReplay.{PeerReplay}
+use Rattle.joint_machine.specs.Lines.{is_read}
+use Rattle.joint_machine.specs.Readers.{is_set_aside, is_aside, ReadsCell, IsReadReply, EntryMayCome, reader_after, entry_after, replayed_reading, AllMayComeReading}
+use Rattle.joint_machine.specs.Told.{Noted}
+use Rattle.joint_machine.proofs.Deciding.{none_some}
+use Rattle.joint_machine.proofs.Members.{Contains-at, at-Contains, Contains-filter_to}
+use Rattle.joint_laws.specs.AfterwardsLaws.{LockFreeReadsAreGone, WeakReadsAreGoneReading, NoneIsMirroredReading}
+use Rattle.joint_laws.specs.Afterwards.{IsGoneAfter, NoMirrorBetween, ResolveFrees, SweepFrees, reading_at}
 use Rattle.joint_laws.specs.PeerInvariants.{IsPeerKept}
 use Rattle.joint_laws.specs.ReadingLaws.{IsLawfulReading, without_aside}
 use Rattle.joint_laws.specs.States.{state_at}

@@ -2,25 +2,27 @@
 -- states of both sides; a read that is set aside names no span, and nothing is told beside it.
 use Rattle.std.proofs.Common.{◌≡◌, ℕ, Bool, true, false, not, ◌&&◌, List, length, take, Some, refl, sym, ap, subst, ◌∙◌}
 use Rattle.std.specs.Prelude.{slice_get}
-use Rattle.joint_model.specs.declared.events.Reply.{Reply}
-use Rattle.joint_model.specs.declared.events.Reply.TheVariants as says
-use Rattle.joint_model.specs.Histories.{managed_numbers, peer_numbers}
-use Rattle.joint_model.specs.Linked.{opening_linkage, replayed}
-use Rattle.joint_model.specs.ManagedReplay.{ManagedReplay}
-use Rattle.joint_model.specs.PeerReplay.{PeerReplay}
-use Rattle.joint_model.specs.Lines.{is_read}
-use Rattle.joint_model.specs.Readers.{is_set_aside, is_aside, EntryMayCome, replayed_reading}
-use Rattle.joint_model.specs.Told.{Told, Noted}
-use Rattle.joint_laws.specs.AfterwardsLaws.{reading_at}
+use Rattle.joint_machine.specs.declared.events.Reply.{Reply}
+use Rattle.joint_machine.specs.declared.events.Reply.TheVariants as says
+use Rattle.joint_machine.specs.Histories.{managed_numbers, peer_numbers}
+use Rattle.joint_machine.specs.Linked.{opening_linkage}
+use Rattle.joint_machine.specs.Replaying.{replayed}
+use Rattle.joint_machine.specs.ManagedReplay.{ManagedReplay}
+use Rattle.joint_machine.specs.PeerReplay.{PeerReplay}
+use Rattle.joint_machine.specs.Lines.{is_read}
+use Rattle.joint_machine.specs.Readers.{is_set_aside, is_aside, EntryMayCome, replayed_reading}
+use Rattle.joint_machine.specs.Told.{Told, Noted}
+use Rattle.joint_laws.specs.Afterwards.{reading_at}
 use Rattle.joint_laws.specs.ReadingLaws.{IsLawfulReading, without_aside, LeadToSameSides}
 use Rattle.joint_laws.specs.States.{state_at}
-use Rattle.joint_laws.specs.ToldLaws.{TellsNoneFreed, TellsNamed, TakesNamed, ToldIsNamed, NoticesAreNamed}
+use Rattle.joint_laws.specs.ToldLaws.{ToldIsNamed, NoticesAreNamed}
+use Rattle.joint_laws.specs.Spans.{TakesNamed, TellsNamed, TellsNoneFreed}
 use Rattle.joint_laws.proofs.NoticesTold.{notices-named}
 use Rattle.joint_laws.proofs.Places.{destined}
 use Rattle.joint_laws.proofs.ReadingsGoneAfter.{reading-take, reading-comes}
 use Rattle.joint_laws.proofs.ReadsAside.{reading_is_lawful, reading_leads_to_same}
 use Rattle.joint_laws.proofs.SpansTold.{told-named}
-use Rattle.joint_model.proofs.Deciding.{and-true}
+use Rattle.joint_machine.proofs.Deciding.{and-true}
 
 -- a reply that is set aside has no span
 aside-named : (ms ps : List ℕ) (r : Reply) (told : Told) → is_set_aside r ≡ true → TellsNoneFreed told → TellsNamed ms ps r told

@@ -1,30 +1,32 @@
--- A history with lock-free reads, without those that are set aside, is a lawful list of entries. Both are followed with one
--- state of both sides. Where they differ: a read that is set aside makes its caller's last line known and shows that its thread
--- is in the midst of nothing. So without it a last line is lower, and a thread may still be left behind a make, a lend or a grip;
--- every entry that may come after the read may come then too. So the joint projection is that of a lawful list.
+-- A history with lock-free reads, without those that are set aside, is a lawful list of entries. Both are followed with
+-- one state of both sides. Where they differ: a read that is set aside makes its caller's last line known and shows
+-- that its thread is in the midst of nothing. So without it a last line is lower, and a thread may still be left behind
+-- a make, a lend or a grip; every entry that may come after the read may come then too. So the joint projection is that
+-- of a lawful list.
 use Rattle.std.proofs.Common.{◌≡◌, ℕ, ◌≤◌, ◌⊎◌, inl, inr, Bool, true, false, not, ◌&&◌, List, [], ◌∷◌, Option, Some, None, refl, sym, ap, subst, ◌∙◌, cond, arith}
 use Rattle.std.specs.Prelude.{if◌then◌else◌, slice_get}
 use Rattle.std.proofs.lemmas.Option.{get_or_from_slice_get}
-use Rattle.joint_model.specs.declared.names.Thread.{Thread}
-use Rattle.joint_model.specs.declared.names.Thread.TheVariants.{M, P, C}
-use Rattle.joint_model.specs.declared.lines.Act.{Act}
-use Rattle.joint_model.specs.declared.lines.Act.TheVariants as act
-use Rattle.joint_model.specs.declared.events.Op.{Op}
-use Rattle.joint_model.specs.declared.events.Op.TheVariants as op
-use Rattle.joint_model.specs.declared.events.Reply.{Reply}
-use Rattle.joint_model.specs.declared.events.Reply.TheVariants as says
-use Rattle.joint_model.specs.declared.events.Made.{Made}
-use Rattle.joint_model.specs.Control.{Doing, free, made, lent, gripped, given, met, Control, CallerAllows, ThreadAllows, DriverAllows, MayStart, IsDone, control_after, doing_after, doing_at, last_line, caller_place, stand_after}
-use Rattle.joint_model.specs.Heaps.{Answered, answer, slot, is_freed}
-use Rattle.joint_model.specs.Lines.{is_peer_event, is_read}
-use Rattle.joint_model.specs.Linked.{Linkage, opening_linkage, linkage_after, replayed, MayCome, AllMayCome, SideLawful, PeerLawful, ManagedLawful, managed_after, peer_after, is_joint, machine_entries}
-use Rattle.joint_model.specs.LinkedHistories.{joint_projection}
-use Rattle.joint_model.specs.Managed.{Managed, OpenCycle, managed_name, target_read, cell_read, read_cell, managed_line}
-use Rattle.joint_model.specs.ManagedReplay.{ManagedReplay, ManagedAllows}
-use Rattle.joint_model.specs.PeerReplay.{PeerReplay}
-use Rattle.joint_model.specs.Readers.{is_set_aside, is_aside, IsReadReply, pins_after, reader_after, ReaderMayCome, EntryMayCome, entry_after, replayed_reading, AllMayComeReading}
-use Rattle.joint_model.specs.Run.{IsRun, thread_number}
-use Rattle.joint_model.specs.Told.{Told, Noted}
+use Rattle.joint_machine.specs.declared.names.Thread.{Thread}
+use Rattle.joint_machine.specs.declared.names.Thread.TheVariants.{M, P, C}
+use Rattle.joint_machine.specs.declared.lines.Act.{Act}
+use Rattle.joint_machine.specs.declared.lines.Act.TheVariants as act
+use Rattle.joint_machine.specs.declared.events.Op.{Op}
+use Rattle.joint_machine.specs.declared.events.Op.TheVariants as op
+use Rattle.joint_machine.specs.declared.events.Reply.{Reply}
+use Rattle.joint_machine.specs.declared.events.Reply.TheVariants as says
+use Rattle.joint_machine.specs.declared.events.Made.{Made}
+use Rattle.joint_machine.specs.Control.{Doing, free, made, lent, gripped, given, met, Control, CallerAllows, ThreadAllows, DriverAllows, MayStart, IsDone, control_after, doing_after, doing_at, last_line, caller_place, stand_after}
+use Rattle.joint_machine.specs.Heaps.{Answered, answer, slot, is_freed}
+use Rattle.joint_machine.specs.Lines.{is_peer_event, is_read}
+use Rattle.joint_machine.specs.Linked.{Linkage, opening_linkage, linkage_after, MayCome, SideLawful, PeerLawful, ManagedLawful, managed_after, peer_after, is_joint}
+use Rattle.joint_machine.specs.Replaying.{AllMayCome, machine_entries, replayed}
+use Rattle.joint_machine.specs.LinkedHistories.{joint_projection}
+use Rattle.joint_machine.specs.Managed.{Managed, OpenCycle, managed_name, target_read, cell_read, read_cell, managed_line}
+use Rattle.joint_machine.specs.ManagedReplay.{ManagedReplay, ManagedAllows}
+use Rattle.joint_machine.specs.PeerReplay.{PeerReplay}
+use Rattle.joint_machine.specs.Readers.{is_set_aside, is_aside, IsReadReply, pins_after, reader_after, ReaderMayCome, EntryMayCome, entry_after, replayed_reading, AllMayComeReading}
+use Rattle.joint_machine.specs.Run.{IsRun, thread_number}
+use Rattle.joint_machine.specs.Told.{Told, Noted}
 use Rattle.joint_laws.specs.ReadingLaws.{without_aside, IsLawfulReading, ReadingIsLawful, ReadingLeadsToSame, ReadingProjectsSo, ReadingProjectionIsComplete, LinkedIsComplete, EveryReadingRunIsComplete}
 use Rattle.joint_laws.proofs.CompleteRuns.{projection_is_complete, every_run_is_complete}
 use Rattle.joint_laws.proofs.Pairwise.{Pairwise, pairwise-same, pairwise-set, pairwise-left, pairwise-or, pairwise-at}

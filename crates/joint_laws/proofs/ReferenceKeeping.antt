@@ -4,14 +4,14 @@ use Rattle.std.proofs.Common.{◌≡◌, ℕ, inl, inr, List, [], ◌∷◌, ◌
 use Rattle.std.specs.Prelude.{Contains}
 use Rattle.std.proofs.lemmas.Option.{same_Some}
 use Rattle.std.proofs.lemmas.List.Elements.{Contains-push_cases}
-use Rattle.joint_model.specs.Heaps.{Heap, IsMade, IsLive}
-use Rattle.joint_model.specs.Peers.{Issued, held}
-use Rattle.joint_model.specs.PeerReplay.{Mirror, with_weakened, with_restored, with_given, Refers}
+use Rattle.joint_machine.specs.Heaps.{Heap, IsMade, IsLive}
+use Rattle.joint_machine.specs.Peers.{Issued, held}
+use Rattle.joint_machine.specs.PeerReplay.{Mirror, with_weakened, with_restored, with_given, Refers}
 use Rattle.joint_laws.specs.PeerInvariants.{IsIssued, AreReferencesKept}
-use Rattle.joint_model.proofs.Members.{Contains-nil}
-use Rattle.joint_model.proofs.Numbered.{numbered-within, numbered-push_old}
-use Rattle.joint_model.proofs.Deciding.{none_some}
-use Rattle.joint_model.specs.Components.{End}
+use Rattle.joint_machine.proofs.Members.{Contains-nil}
+use Rattle.joint_machine.proofs.Numbered.{numbered-within, numbered-push_old}
+use Rattle.joint_machine.proofs.Deciding.{none_some}
+use Rattle.joint_machine.specs.Components.{End}
 use Rattle.joint_laws.proofs.Through.{Refers-none}
 
 -- the handle was issued as a held one

@@ -7,8 +7,8 @@ use Rattle.std.proofs.lemmas.Bool.Decides.{Decides-eqb}
 use Rattle.std.proofs.lemmas.Option.{same_Some}
 use Rattle.std.proofs.lemmas.Map.Views.{list_any-from_Contains, Contains-from_any}
 use Rattle.std.proofs.lemmas.Cmp.{nat_eq_equiv}
-use Rattle.joint_model.specs.ManagedReplay.{registered, without_twins}
-use Rattle.joint_model.proofs.Members.{Contains-nil, Contains-here, Contains-there, Contains-cons_cases, Contains-filter_from, Contains-filter_to}
+use Rattle.joint_machine.specs.ManagedReplay.{registered, without_twins}
+use Rattle.joint_machine.proofs.Members.{Contains-nil, Contains-here, Contains-there, Contains-cons_cases, Contains-filter_from, Contains-filter_to}
 
 abbrev answered : ℕ × ℕ → List (ℕ × ℕ) → ℕ → Bool → Option ℕ
 answered pair pairs p b = if b then Some pair.1 else registered pairs p

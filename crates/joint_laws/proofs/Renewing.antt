@@ -4,14 +4,14 @@ use Rattle.std.specs.Prelude.{Contains, slice_get}
 use Rattle.std.proofs.lemmas.Bool.{cases_eq}
 use Rattle.std.proofs.lemmas.Option.{same_Some}
 use Rattle.std.proofs.lemmas.List.Elements.{All-contains, Contains-append_left, Contains-push}
-use Rattle.joint_model.specs.Components.{Rises}
-use Rattle.joint_model.specs.Heaps.{numbered_at, numbered_set}
-use Rattle.joint_model.specs.Managed.{renewed}
-use Rattle.joint_model.specs.ManagedReplay.{AreNew}
-use Rattle.joint_model.specs.Told.{Answer, said_alive, said_cleared, handles_given}
-use Rattle.joint_model.proofs.Deciding.{none_some}
-use Rattle.joint_model.proofs.Members.{Contains-nil, Contains-here, Contains-there, Contains-cons_cases, Contains-at}
-use Rattle.joint_model.proofs.Numbered.{numbered_set-length, numbered_set-same, numbered_set-here, numbered_set-other}
+use Rattle.joint_machine.specs.Components.{Rises}
+use Rattle.joint_machine.specs.Heaps.{numbered_at, numbered_set}
+use Rattle.joint_machine.specs.Managed.{renewed}
+use Rattle.joint_machine.specs.ManagedReplay.{AreNew}
+use Rattle.joint_machine.specs.Told.{Answer, said_alive, said_cleared, handles_given}
+use Rattle.joint_machine.proofs.Deciding.{none_some}
+use Rattle.joint_machine.proofs.Members.{Contains-nil, Contains-here, Contains-there, Contains-cons_cases, Contains-at}
+use Rattle.joint_machine.proofs.Numbered.{numbered_set-length, numbered_set-same, numbered_set-here, numbered_set-other}
 
 -- the row is a candidate whose restore gave that handle
 pub record IsGivenTo (cs : List ℕ) (answers : List Answer) (m g : ℕ) : Type 0 where

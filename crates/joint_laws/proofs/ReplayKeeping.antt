@@ -2,30 +2,30 @@
 use Rattle.std.proofs.Common.{◌≡◌, ◌≢◌, ℕ, ◌⊎◌, ◌++◌, ap, inl, inr, Bool, true, false, List, [], ◌∷◌, Option, Some, None, refl, sym, subst, ◌∙◌}
 use Rattle.std.specs.Prelude.{Contains, slice_get, if◌then◌else◌}
 use Rattle.std.proofs.lemmas.Bool.{cases_eq}
-use Rattle.joint_model.specs.declared.names.Sort.{Sort}
-use Rattle.joint_model.specs.declared.names.Thread.{Thread}
-use Rattle.joint_model.specs.declared.events.Op.{Op}
-use Rattle.joint_model.specs.declared.events.Op.TheVariants as op
-use Rattle.joint_model.specs.declared.events.Reply.{Reply}
-use Rattle.joint_model.specs.declared.events.Reply.TheVariants as says
-use Rattle.joint_model.specs.Heaps.{IsLive, answer, slot, place, numbered_at, numbered_set, is_full, next_number, with_var, with_freed}
-use Rattle.joint_model.specs.Managed.{Managed, OpenCycle, Holds, IsBridge, with_row, twin_met, twin_kind, twin_fields, without_handle, with_snapshot, resolved, abandoned, candidates_of}
-use Rattle.joint_model.specs.Cycles.{IsSnapshot, IsAnsweredAlive}
-use Rattle.joint_model.specs.ManagedReplay.{ManagedReplay, MayResolve, registered, without_twins, meet_by, give_by, managed_answer, ManagedAllows}
-use Rattle.joint_model.specs.Run.{thread_number}
-use Rattle.joint_model.specs.Told.{Told, nothing, snap_of, contraction_of, resolution_of, phase_of, Answer, handles_given}
+use Rattle.joint_machine.specs.declared.names.Sort.{Sort}
+use Rattle.joint_machine.specs.declared.names.Thread.{Thread}
+use Rattle.joint_machine.specs.declared.events.Op.{Op}
+use Rattle.joint_machine.specs.declared.events.Op.TheVariants as op
+use Rattle.joint_machine.specs.declared.events.Reply.{Reply}
+use Rattle.joint_machine.specs.declared.events.Reply.TheVariants as says
+use Rattle.joint_machine.specs.Heaps.{IsLive, answer, slot, place, numbered_at, numbered_set, is_full, next_number, with_var, with_freed}
+use Rattle.joint_machine.specs.Managed.{Managed, OpenCycle, Holds, IsBridge, with_row, twin_met, twin_kind, twin_fields, without_handle, with_snapshot, resolved, abandoned, candidates_of}
+use Rattle.joint_machine.specs.Cycles.{IsSnapshot, IsAnsweredAlive}
+use Rattle.joint_machine.specs.ManagedReplay.{ManagedReplay, MayResolve, registered, without_twins, meet_by, give_by, managed_answer, ManagedAllows}
+use Rattle.joint_machine.specs.Run.{thread_number}
+use Rattle.joint_machine.specs.Told.{Told, nothing, snap_of, contraction_of, resolution_of, phase_of, Answer, handles_given}
 use Rattle.joint_laws.specs.ManagedInvariants.{IsReplayKept}
-use Rattle.joint_model.proofs.Members.{Contains-here}
-use Rattle.joint_model.proofs.Numbered.{numbered_set-same, numbered_set-other, numbered-within}
-use Rattle.joint_model.proofs.Deciding.{none_some}
-use Rattle.joint_model.proofs.HeapLemmas.{IsLive-before, IsLive-left, candidates_of-open}
+use Rattle.joint_machine.proofs.Members.{Contains-here}
+use Rattle.joint_machine.proofs.Numbered.{numbered_set-same, numbered_set-other, numbered-within}
+use Rattle.joint_machine.proofs.Deciding.{none_some}
+use Rattle.joint_machine.proofs.HeapLemmas.{IsLive-before, IsLive-left, candidates_of-open}
 use Rattle.joint_laws.proofs.Registered.{registered-some, without_twins-parts}
 use Rattle.joint_laws.proofs.ManagedMoves.{GoesOn, met_by, managed_line-goes_on, twinned-goes_on, emptied-goes_on}
 use Rattle.joint_laws.proofs.ManagedKeeping.{IsManagedKept-goes_on, IsManagedKept-snapped, IsManagedKept-resolved, IsManagedKept-abandoned, bridge_stays}
 use Rattle.joint_laws.proofs.Adopting.{HoldsSame-as, managed_line-same, IsReplayKept-plainly, IsReplayKept-took, adopt-by}
 use Rattle.std.proofs.lemmas.List.Elements.{Contains-append_left, Contains-append_right}
 use Rattle.std.proofs.lemmas.Option.{same_Some}
-use Rattle.joint_model.specs.Components.{Rises}
+use Rattle.joint_machine.specs.Components.{Rises}
 use Rattle.joint_laws.proofs.Renewing.{IsGivenTo, renewed-cases, renewed-given, renewed-other, given-or, at-given, new-untaken, new-once}
 
 -- a `meet`, by the open cycle and the twin

@@ -1,14 +1,16 @@
--- The run is followed beside the list of entries: each state of the list has a joint state that agrees with its sides, each step leaves
--- the joint machine in one state, and the flags that tell which handles are removed are the list that both sides give.
+-- The run is followed beside the list of entries: each state of the list has a joint state that agrees with its sides,
+-- each step leaves the joint machine in one state, and the flags that tell which handles are removed are the list that
+-- both sides give.
 use Rattle.std.proofs.Common.{◌≡◌, ℕ, zero, suc, Bool, true, false, List, [], ◌∷◌, length, take, map, Some, refl, sym, ap, subst, ◌∙◌, cond}
 use Rattle.std.specs.Prelude.{slice_get}
 use Rattle.std.proofs.lemmas.Option.{same_Some}
-use Rattle.joint_model.specs.Joined.{graph_at}
-use Rattle.joint_model.specs.Joint.{Joint, Graph, opening}
-use Rattle.joint_model.specs.Linked.{Linkage, AllMayCome, opening_linkage, linkage_after, replayed, is_joint, machine_entries}
-use Rattle.joint_model.specs.Run.{Moment, JointStep, IsRunFrom}
-use Rattle.joint_model.specs.Told.{Noted}
-use Rattle.joint_model.proofs.Deciding.{none_some}
+use Rattle.joint_machine.specs.Joined.{graph_at}
+use Rattle.joint_machine.specs.Joint.{Joint, Graph, opening}
+use Rattle.joint_machine.specs.Linked.{Linkage, opening_linkage, linkage_after, is_joint}
+use Rattle.joint_machine.specs.Replaying.{AllMayCome, machine_entries, replayed}
+use Rattle.joint_machine.specs.Run.{Moment, JointStep, IsRunFrom}
+use Rattle.joint_machine.specs.Told.{Noted}
+use Rattle.joint_machine.proofs.Deciding.{none_some}
 use Rattle.joint_laws.specs.RunStateLaws.{StepsHaveMoments, OthersKeepGraph}
 use Rattle.joint_laws.specs.States.{state_at}
 use Rattle.joint_laws.proofs.JointRuns.{Stands, state_of, Enters, by_step, at_rest, enters, projected, Stands-opening, opening-state}

@@ -1,18 +1,19 @@
--- The same in the run: its moments are traced to entries that may come, and each begins in the state in which the one before it ends. So an
--- edge is followed on and back, moment by moment, as over the states of the list.
+-- The same in the run: its moments are traced to entries that may come, and each begins in the state in which the one
+-- before it ends. So an edge is followed on and back, moment by moment, as over the states of the list.
 use Rattle.std.proofs.Common.{◌≡◌, ℕ, zero, suc, ◌+◌, ◌-◌, ◌≤◌, ◌⊎◌, inl, inr, List, length, take, Option, Some, None, refl, sym, ap, subst, ◌∙◌, arith}
 use Rattle.std.specs.Prelude.{Contains, slice_get}
 use Rattle.std.proofs.lemmas.Bool.{cases_lt}
 use Rattle.std.proofs.lemmas.Option.{same_Some}
-use Rattle.joint_model.specs.Joint.{Joint, JointMarking, opening, Graph, Row, object, peer, JointEdge, IsJointRoot, IsReached}
-use Rattle.joint_model.specs.Linked.{Linkage, AllMayCome, opening_linkage, linkage_after, is_joint, machine_entries}
-use Rattle.joint_model.specs.PeerReplay.{Marking}
-use Rattle.joint_model.specs.Run.{Moment, IsRun}
-use Rattle.joint_model.specs.Told.{Noted}
-use Rattle.joint_model.specs.Walks.{Reaches}
-use Rattle.joint_model.proofs.Deciding.{none_some}
-use Rattle.joint_model.proofs.Members.{Contains-at}
-use Rattle.joint_model.proofs.WalkLemmas.{Reached-then, Reaches-keeps}
+use Rattle.joint_machine.specs.Joint.{Joint, JointMarking, opening, Graph, Row, object, peer, JointEdge, IsJointRoot, IsReached}
+use Rattle.joint_machine.specs.Linked.{Linkage, opening_linkage, linkage_after, is_joint}
+use Rattle.joint_machine.specs.Replaying.{AllMayCome, machine_entries}
+use Rattle.joint_machine.specs.PeerReplay.{Marking}
+use Rattle.joint_machine.specs.Run.{Moment, IsRun}
+use Rattle.joint_machine.specs.Told.{Noted}
+use Rattle.joint_machine.specs.Walks.{Reaches}
+use Rattle.joint_machine.proofs.Deciding.{none_some}
+use Rattle.joint_machine.proofs.Members.{Contains-at}
+use Rattle.joint_machine.proofs.WalkLemmas.{Reached-then, Reaches-keeps}
 use Rattle.joint_laws.specs.JointAgreement.{AreSameMarkings}
 use Rattle.joint_laws.specs.RunStateLaws.{IsReachedInRun, IsOpenInRun, RunUnionIsClosed, RunUnionFollowsMarking}
 use Rattle.joint_laws.proofs.CompleteRuns.{run-traced}

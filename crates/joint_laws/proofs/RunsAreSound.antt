@@ -1,29 +1,28 @@
--- What every run of the joint machine frees. A marking that is open was begun at an earlier entry, and keeps the graph that
--- stood after it; so what its sweep frees, which was unreached in that graph and is unreached now, was so at both entries.
-use Rattle.joint_model.specs.Headline.{BeginsAt, SweepsAt}
-use Rattle.joint_model.specs.declared.events.Reply.TheVariants as says
-use Rattle.joint_model.specs.declared.lines.Act.TheVariants as act
-use Rattle.joint_model.specs.declared.events.Reply.{Reply}
-use Rattle.joint_model.specs.declared.events.Op.{Op}
-use Rattle.joint_model.specs.declared.lines.Act.{Act}
-use Rattle.joint_model.specs.declared.names.Span.{Span}
-use Rattle.joint_model.specs.declared.names.Thread.TheVariants.{M, P, C}
-use Rattle.joint_model.specs.declared.names.Thread.{Thread}
+-- What every run of the joint machine frees. A marking that is open was begun at an earlier entry, and keeps the graph
+-- that stood after it; so what its sweep frees, which was unreached in that graph and is unreached now, was so at both
+-- entries.
+use Rattle.joint_machine.specs.Headline.{BeginsAt, SweepsAt}
+use Rattle.joint_machine.specs.declared.events.Reply.TheVariants as says
+use Rattle.joint_machine.specs.declared.lines.Act.TheVariants as act
+use Rattle.joint_machine.specs.declared.events.Reply.{Reply}
+use Rattle.joint_machine.specs.declared.events.Op.{Op}
+use Rattle.joint_machine.specs.declared.lines.Act.{Act}
+use Rattle.joint_machine.specs.declared.names.Span.{Span}
+use Rattle.joint_machine.specs.declared.names.Thread.TheVariants.{M, P, C}
+use Rattle.joint_machine.specs.declared.names.Thread.{Thread}
 use Rattle.std.proofs.lemmas.List.Elements.{All-contains}
 use Rattle.std.proofs.Common.{◌≡◌, ℕ, Bool, true, false, zero, suc, List, [], ◌∷◌, Some, sym, subst, ◌∙◌, ◌+◌, ◌<◌, inl, inr, Option, None, refl, ap, arith}
 use Rattle.std.specs.Prelude.{slice_get, if◌then◌else◌}
 use Rattle.std.proofs.lemmas.Option.{same_Some}
-use Rattle.joint_model.specs.declared.events.Op.TheVariants as op
-use Rattle.joint_model.specs.Joint.{Joint, opening, object, IsReached, JointMarking, peer, IsReachedIn}
-use Rattle.joint_model.specs.Run.{Moment, JointStep, JointEvent, JointSnap, IsRunFrom, JointBegin, JointSweep, EndsMarking, IsStored, JointComputed, joint_answer, joint_line, without}
-use Rattle.joint_model.specs.Told.{snap_of, Told, sweep_of, resolution_of}
-use Rattle.joint_model.proofs.Deciding.{none_some}
+use Rattle.joint_machine.specs.declared.events.Op.TheVariants as op
+use Rattle.joint_machine.specs.Joint.{Joint, opening, object, IsReached, JointMarking, peer, IsReachedIn}
+use Rattle.joint_machine.specs.Run.{Moment, JointStep, JointEvent, JointSnap, IsRunFrom, JointBegin, JointSweep, EndsMarking, IsStored, JointComputed, joint_answer, joint_line, without, answered, given_anew}
+use Rattle.joint_machine.specs.Told.{snap_of, Told, sweep_of, resolution_of, said_alive, said_cleared}
+use Rattle.joint_machine.proofs.Deciding.{none_some}
 use Rattle.joint_laws.specs.RunLaws.{SnapshotsAreSound, SweepsAreSound}
 use Rattle.joint_laws.proofs.ManagedFrees.{snapshot-unreached}
-use Rattle.joint_model.specs.Peers.{next_handle}
-use Rattle.joint_model.specs.Run.{answered, given_anew}
-use Rattle.joint_model.specs.Told.{said_alive, said_cleared}
-use Rattle.joint_model.specs.Heaps.{is_freed, answer}
+use Rattle.joint_machine.specs.Peers.{next_handle}
+use Rattle.joint_machine.specs.Heaps.{is_freed, answer}
 
 -- the step at a place of a run
 pub step-at : (run : List Moment) (j : Joint) (i : ℕ) (m : Moment) → IsRunFrom j run → slice_get run i ≡ Some m → JointStep m.before m.noted m.after

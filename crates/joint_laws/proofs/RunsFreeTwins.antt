@@ -1,29 +1,29 @@
--- A row that holds a handle on a freed peer: some sweep freed the peer, and neither of them was reached at the begin of its
--- marking or just before it. For just before the sweep the row held the handle and the peer was unfreed, so each leads to the
--- other; and so it was at the begin, since a row that took its handle since would have its peer spared. So a candidate that a
--- resolution frees, whose peer is freed, is freed with its peer.
+-- A row that holds a handle on a freed peer: some sweep freed the peer, and neither of them was reached at the begin of
+-- its marking or just before it. For just before the sweep the row held the handle and the peer was unfreed, so each
+-- leads to the other; and so it was at the begin, since a row that took its handle since would have its peer spared. So
+-- a candidate that a resolution frees, whose peer is freed, is freed with its peer.
 use Rattle.std.proofs.Common.{◌≡◌, ℕ, suc, ◌⊎◌, inl, inr, List, ◌++◌, length, Option, Some, None, refl, sym, ap, subst, ◌∙◌, arith}
 use Rattle.std.specs.Prelude.{Contains, slice_get}
 use Rattle.std.proofs.lemmas.Option.{same_Some}
 use Rattle.std.proofs.lemmas.List.Elements.{All-contains, Contains-append_cases}
-use Rattle.joint_model.specs.declared.names.Thread.{Thread}
-use Rattle.joint_model.specs.declared.events.Op.{Op}
-use Rattle.joint_model.specs.declared.events.Op.TheVariants as op
-use Rattle.joint_model.specs.declared.events.Reply.{Reply}
-use Rattle.joint_model.specs.Headline.{IsSweptFor}
-use Rattle.joint_model.specs.Heaps.{IsMade, IsLive}
-use Rattle.joint_model.specs.Joint.{Joint, JointMarking, opening, object, peer, JointEdge, IsJointRoot, IsReached, IsReachedIn}
-use Rattle.joint_model.specs.Linked.{Linkage, MayCome, linkage_after, SideLawful}
-use Rattle.joint_model.specs.Lines.{is_peer_event}
-use Rattle.joint_model.specs.Managed.{Holds}
-use Rattle.joint_model.specs.Peers.{Issued, strong, peer_of}
-use Rattle.joint_model.specs.PeerReplay.{Marking, IsSweep, SweepAllows}
-use Rattle.joint_model.specs.Run.{Moment, JointEvent, JointSweep, EndsMarking, IsStored, IsRunFrom}
-use Rattle.joint_model.specs.Told.{Told, Noted, sweep_of}
-use Rattle.joint_model.proofs.WalkLemmas.{Reached-then}
+use Rattle.joint_machine.specs.declared.names.Thread.{Thread}
+use Rattle.joint_machine.specs.declared.events.Op.{Op}
+use Rattle.joint_machine.specs.declared.events.Op.TheVariants as op
+use Rattle.joint_machine.specs.declared.events.Reply.{Reply}
+use Rattle.joint_machine.specs.Headline.{IsSweptFor}
+use Rattle.joint_machine.specs.Heaps.{IsMade, IsLive}
+use Rattle.joint_machine.specs.Joint.{Joint, JointMarking, opening, object, peer, JointEdge, IsJointRoot, IsReached, IsReachedIn}
+use Rattle.joint_machine.specs.Linked.{Linkage, MayCome, linkage_after, SideLawful}
+use Rattle.joint_machine.specs.Lines.{is_peer_event}
+use Rattle.joint_machine.specs.Managed.{Holds}
+use Rattle.joint_machine.specs.Peers.{Issued, strong, peer_of}
+use Rattle.joint_machine.specs.PeerReplay.{Marking, IsSweep, SweepAllows}
+use Rattle.joint_machine.specs.Run.{Moment, JointEvent, JointSweep, EndsMarking, IsStored, IsRunFrom}
+use Rattle.joint_machine.specs.Told.{Told, Noted, sweep_of}
+use Rattle.joint_machine.proofs.WalkLemmas.{Reached-then}
 use Rattle.joint_laws.specs.LinkedInvariants.{HasStrength}
 use Rattle.joint_laws.specs.PeerInvariants.{IsIssued, IsSpared}
-use Rattle.joint_model.proofs.Members.{Contains-decided}
+use Rattle.joint_machine.proofs.Members.{Contains-decided}
 use Rattle.joint_laws.proofs.PeerEntries.{peer_of-issued}
 use Rattle.joint_laws.proofs.Sparing.{spared-stays}
 use Rattle.joint_laws.proofs.SparedWalks.{peer_of-row}

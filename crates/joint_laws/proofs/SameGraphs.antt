@@ -1,9 +1,9 @@
 -- Graphs with the same bridge nodes and edges have the same components heavy classes and cross-references.
 use Rattle.std.proofs.Common.{ℕ, ◌↔◌, List, [], ◌∷◌, ◌++◌}
 use Rattle.std.proofs.lemmas.List.Elements.{All-weaker}
-use Rattle.joint_model.specs.Walks.{Mutual}
-use Rattle.joint_model.specs.Components.{IsContraction, IsPlainClass, IsFirst, IsLeast, IsHeavy, IsUnreported, Leads, LeadsIn, LeadsOut, IsCrossReference, stand_at}
-use Rattle.joint_model.proofs.WalkLemmas.{Walks-mono, Reaches-mono}
+use Rattle.joint_machine.specs.Walks.{Mutual}
+use Rattle.joint_machine.specs.Components.{IsContraction, IsPlainClass, IsFirst, IsLeast, IsHeavy, IsUnreported, Leads, LeadsIn, LeadsOut, IsCrossReference, stand_at}
+use Rattle.joint_machine.proofs.WalkLemmas.{Walks-mono, Reaches-mono}
 
 Mutual-mono : (edge more : ℕ → ℕ → Type 0) → ((x y : ℕ) → edge x y → more x y) → (x y : ℕ) → Mutual edge x y → Mutual more x y
 Mutual-mono edge more m x y w = record { there = Reaches-mono edge more m x y w.there; back = Reaches-mono edge more m y x w.back }

@@ -3,19 +3,19 @@
 use Rattle.std.proofs.Common.{◌≡◌, ℕ, zero, suc, inl, inr, List, [], Some, sym, ap, subst, ◌∙◌, arith}
 use Rattle.std.specs.Prelude.{Contains, slice_get}
 use Rattle.std.proofs.lemmas.Option.{same_Some}
-use Rattle.joint_model.specs.declared.events.Op.TheVariants as op
-use Rattle.joint_model.specs.Headline.{ResolvesAt, IsUnreachedBefore, IsFreedWithPeer, IsCandidateBefore, IsSoundRun}
-use Rattle.joint_model.specs.Joint.{Joint, opening, object, IsReached}
-use Rattle.joint_model.specs.Linked.{linkage_after}
-use Rattle.joint_model.specs.Managed.{OpenCycle, Holds, IsBridge, ManagedEdge}
-use Rattle.joint_model.specs.Peers.{peer_of}
-use Rattle.joint_model.specs.Run.{Moment, JointEvent, JointResolve, IsKept, IsRunFrom, IsRun}
-use Rattle.joint_model.specs.Told.{Noted}
-use Rattle.joint_model.specs.Walks.{Reaches}
-use Rattle.joint_model.proofs.WalkLemmas.{Reaches-self}
+use Rattle.joint_machine.specs.declared.events.Op.TheVariants as op
+use Rattle.joint_machine.specs.Headline.{ResolvesAt, IsUnreachedBefore, IsFreedWithPeer, IsCandidateBefore, IsSoundRun}
+use Rattle.joint_machine.specs.Joint.{Joint, opening, object, IsReached}
+use Rattle.joint_machine.specs.Linked.{linkage_after}
+use Rattle.joint_machine.specs.Managed.{OpenCycle, Holds, IsBridge, ManagedEdge}
+use Rattle.joint_machine.specs.Peers.{peer_of}
+use Rattle.joint_machine.specs.Run.{Moment, JointEvent, JointResolve, IsKept, IsRunFrom, IsRun}
+use Rattle.joint_machine.specs.Told.{Noted}
+use Rattle.joint_machine.specs.Walks.{Reaches}
+use Rattle.joint_machine.proofs.WalkLemmas.{Reaches-self}
 use Rattle.joint_laws.specs.ManagedInvariants.{IsManagedKept}
-use Rattle.joint_model.proofs.Members.{Contains-decided, Contains-at}
-use Rattle.joint_model.proofs.Numbered.{numbered-within}
+use Rattle.joint_machine.proofs.Members.{Contains-decided, Contains-at}
+use Rattle.joint_machine.proofs.Numbered.{numbered-within}
 use Rattle.joint_laws.proofs.PeerEntries.{peer_of-issued}
 use Rattle.joint_laws.proofs.ManagedFrees.{resolution-unreached}
 use Rattle.joint_laws.proofs.JointRuns.{state_of, IsTraced}

@@ -1,32 +1,33 @@
--- What is told of freeing beside an entry stands last in the freed list after it, behind what was freed before; the list only grows,
--- so at the end it still stands there, where the reply's span says. Every other entry's reply has no such span, and nothing freed is
--- told beside it.
+-- What is told of freeing beside an entry stands last in the freed list after it, behind what was freed before; the
+-- list only grows, so at the end it still stands there, where the reply's span says. Every other entry's reply has no
+-- such span, and nothing freed is told beside it.
 use Rattle.std.proofs.Common.{◌≡◌, ℕ, suc, ◌+◌, ◌-◌, Bool, true, false, ◌||◌, List, [], ◌++◌, length, take, drop, Option, Some, None, refl, sym, ap, subst, ◌∙◌, arith, append_assoc, length-append}
 use Rattle.std.specs.Prelude.{if◌then◌else◌, slice_get}
 use Rattle.std.proofs.lemmas.List.{take_all}
 use Rattle.std.proofs.lemmas.Option.{slice_get_within}
 use Rattle.std.proofs.Math.Seq.{drop-append_seam, take-append_seam}
-use Rattle.joint_model.specs.declared.names.Thread.{Thread}
-use Rattle.joint_model.specs.declared.names.Thread.TheVariants.{M, P, C}
-use Rattle.joint_model.specs.declared.lines.Act.{Act}
-use Rattle.joint_model.specs.declared.lines.Act.TheVariants as act
-use Rattle.joint_model.specs.declared.events.Op.{Op}
-use Rattle.joint_model.specs.declared.events.Op.TheVariants as op
-use Rattle.joint_model.specs.declared.events.Reply.{Reply}
-use Rattle.joint_model.specs.declared.events.Reply.TheVariants as says
-use Rattle.joint_model.specs.Components.{Rises}
-use Rattle.joint_model.specs.Heaps.{answer, slot, place}
-use Rattle.joint_model.specs.Lines.{IsEvent, is_peer_event}
-use Rattle.joint_model.specs.Linked.{Linkage, AllMayCome, SideLawful, PeerLawful, opening_linkage, linkage_after, managed_after, peer_after, replayed}
-use Rattle.joint_model.specs.Managed.{adopted, met, given_up, managed_line}
-use Rattle.joint_model.specs.ManagedReplay.{registered}
-use Rattle.joint_model.specs.Peers.{landed, peer_line}
-use Rattle.joint_model.specs.PeerReplay.{Marking, row_of, table_target, on_table, peer_thread_line, is_thread, swept, swept_of, SliceAllows, SweepAllows}
-use Rattle.joint_model.specs.Run.{thread_number}
-use Rattle.joint_model.specs.Told.{Told, nothing, snap_of, contraction_of, references_of, slice_of, sweep_of, resolution_of, phase_of, Noted}
-use Rattle.joint_model.proofs.HeapLemmas.{adopt_by-reply}
+use Rattle.joint_machine.specs.declared.names.Thread.{Thread}
+use Rattle.joint_machine.specs.declared.names.Thread.TheVariants.{M, P, C}
+use Rattle.joint_machine.specs.declared.lines.Act.{Act}
+use Rattle.joint_machine.specs.declared.lines.Act.TheVariants as act
+use Rattle.joint_machine.specs.declared.events.Op.{Op}
+use Rattle.joint_machine.specs.declared.events.Op.TheVariants as op
+use Rattle.joint_machine.specs.declared.events.Reply.{Reply}
+use Rattle.joint_machine.specs.declared.events.Reply.TheVariants as says
+use Rattle.joint_machine.specs.Components.{Rises}
+use Rattle.joint_machine.specs.Heaps.{answer, slot, place}
+use Rattle.joint_machine.specs.Lines.{IsEvent, is_peer_event}
+use Rattle.joint_machine.specs.Linked.{Linkage, SideLawful, PeerLawful, opening_linkage, linkage_after, managed_after, peer_after}
+use Rattle.joint_machine.specs.Replaying.{AllMayCome, replayed}
+use Rattle.joint_machine.specs.Managed.{adopted, met, given_up, managed_line}
+use Rattle.joint_machine.specs.ManagedReplay.{registered}
+use Rattle.joint_machine.specs.Peers.{landed, peer_line}
+use Rattle.joint_machine.specs.PeerReplay.{Marking, row_of, table_target, on_table, peer_thread_line, is_thread, swept, swept_of, SliceAllows, SweepAllows}
+use Rattle.joint_machine.specs.Run.{thread_number}
+use Rattle.joint_machine.specs.Told.{Told, nothing, snap_of, contraction_of, references_of, slice_of, sweep_of, resolution_of, phase_of, Noted}
+use Rattle.joint_machine.proofs.HeapLemmas.{adopt_by-reply}
 use Rattle.joint_laws.specs.States.{state_at}
-use Rattle.joint_laws.specs.ToldLaws.{IsStretch, TellsNoneFreed, TellsNamed}
+use Rattle.joint_laws.specs.Spans.{IsStretch, TellsNamed, TellsNoneFreed}
 use Rattle.joint_laws.proofs.FreedLists.{Grows, managed-grown, peers-grown}
 use Rattle.joint_laws.proofs.JointSteps.{may-end, bring-reply}
 use Rattle.joint_laws.proofs.LinkedEntries.{entry}

@@ -1,34 +1,33 @@
--- While a marking is open each peer that the joint graph reaches is spared. Along a walk from the joint roots, each peer is
--- spared, and from each managed row of the dead part it is known that each candidate that it leads to, whose peer is
--- unfreed, has a spared peer. A managed stretch that begins in a slot stays outside the dead part and ends at a strong
--- handle. One that begins at a peer inside the dead part leads from a candidate to a candidate: either that one's handle is
--- strong, or it is weak, and then the mirror stands and references follow the stretch.
+-- While a marking is open each peer that the joint graph reaches is spared. Along a walk from the joint roots, each
+-- peer is spared, and from each managed row of the dead part it is known that each candidate that it leads to, whose
+-- peer is unfreed, has a spared peer. A managed stretch that begins in a slot stays outside the dead part and ends at a
+-- strong handle. One that begins at a peer inside the dead part leads from a candidate to a candidate: either that
+-- one's handle is strong, or it is weak, and then the mirror stands and references follow the stretch.
 use Rattle.std.proofs.Common.{false, ◌≡◌, ℕ, ◌≤◌, ◌⊎◌, inl, inr, List, [], length, Option, Some, None, refl, sym, ap, subst, ◌∙◌, arith}
 use Rattle.std.specs.Prelude.{Contains}
 use Rattle.std.proofs.lemmas.Option.{same_Some, slice_get_within}
-use Rattle.joint_model.specs.Control.{Doing, Stand, idle, snapped, contracted, weakening, marked, restoring, restored}
-use Rattle.joint_model.specs.Cycles.{DeadEdge}
-use Rattle.joint_model.specs.Heaps.{IsLive, numbered_at}
-use Rattle.joint_model.specs.Joint.{Graph, JointMarking, Row, object, peer, JointEdge, IsJoined, IsJointRoot, IsRawRoot, IsLooseRoot, IsReached}
-use Rattle.joint_model.specs.Managed.{Managed, OpenCycle, IsBridge, ManagedEdge, candidates_of}
-use Rattle.joint_model.specs.ManagedReplay.{ManagedReplay}
-use Rattle.joint_model.specs.Peers.{Issued, Strength, strong, weak, peer_of}
-use Rattle.joint_model.specs.PeerReplay.{PeerReplay, Marking}
-use Rattle.joint_model.specs.Walks.{Reaches}
-use Rattle.joint_model.proofs.WalkLemmas.{Reached-keeps, Reaches-keeps, Reaches-self, Reaches-edge, Reaches-trans}
-use Rattle.joint_laws.specs.JointAgreement.{IsInTable, AreFlags}
+use Rattle.joint_machine.specs.Control.{Doing, Stand, idle, snapped, contracted, weakening, marked, restoring, restored}
+use Rattle.joint_machine.specs.Cycles.{DeadEdge}
+use Rattle.joint_machine.specs.Heaps.{IsLive, numbered_at}
+use Rattle.joint_machine.specs.Joint.{Graph, JointMarking, Row, object, peer, JointEdge, IsJoined, IsJointRoot, IsRawRoot, IsLooseRoot, IsReached}
+use Rattle.joint_machine.specs.Managed.{Managed, OpenCycle, IsBridge, ManagedEdge, candidates_of}
+use Rattle.joint_machine.specs.ManagedReplay.{ManagedReplay}
+use Rattle.joint_machine.specs.Peers.{Issued, Strength, strong, weak, peer_of}
+use Rattle.joint_machine.specs.PeerReplay.{PeerReplay, Marking}
+use Rattle.joint_machine.specs.Walks.{Reaches}
+use Rattle.joint_machine.proofs.WalkLemmas.{Reached-keeps, Reaches-keeps, Reaches-self, Reaches-edge, Reaches-trans}
+use Rattle.joint_laws.specs.JointAgreement.{IsInTable, AreFlags, Flags, joint_as}
 use Rattle.joint_laws.specs.ManagedInvariants.{IsCutOff}
 use Rattle.joint_laws.specs.Mirrors.{MirrorEdge}
 use Rattle.joint_laws.specs.PeerInvariants.{IsIssued, IsSpared, IsMarkingKept}
 use Rattle.joint_laws.specs.LinkedInvariants.{HasStrength, IsRowOf, IsDriverKept, IsMirrored, IsRestoredBy}
-use Rattle.joint_model.proofs.Members.{Contains-nil, Contains-decided, at-Contains}
-use Rattle.joint_model.proofs.Deciding.{none_some}
+use Rattle.joint_machine.proofs.Members.{Contains-nil, Contains-decided, at-Contains}
+use Rattle.joint_machine.proofs.Deciding.{none_some}
 use Rattle.joint_laws.proofs.DeadMirrors.{candidates-mirrored}
 use Rattle.joint_laws.proofs.Mirrors.{mirror_edge-ends}
 use Rattle.joint_laws.proofs.Sparing.{spared-next}
 use Rattle.joint_laws.proofs.LinkedQuiet.{AreKept}
-use Rattle.joint_laws.specs.JointAgreement.{Flags, joint_as}
-use Rattle.joint_model.specs.Told.{Answer}
+use Rattle.joint_machine.specs.Told.{Answer}
 use Rattle.joint_laws.proofs.HandlesAlike.{replaced-peer}
 use Rattle.joint_laws.proofs.JointFlags.{kept-at}
 

@@ -1,10 +1,10 @@
--- Which peers an open marking spares: its roots, those that its edges lead to from spared ones, those that were made since
--- its begin, and ever more as peers are brought back. Exactly the unfreed peers that it doesn't spare are swept.
+-- Which peers an open marking spares: its roots, those that its edges lead to from spared ones, those that were made
+-- since its begin, and ever more as peers are brought back. Exactly the unfreed peers that it doesn't spare are swept.
 use Rattle.std.proofs.Common.{ℕ, ◌⊎◌, inl, inr, List}
 use Rattle.std.specs.Prelude.{Contains}
-use Rattle.joint_model.specs.Heaps.{IsLive}
-use Rattle.joint_model.specs.PeerReplay.{PeerReplay, Marking, IsMarkingRoot, MarkingEdge, IsSweep}
-use Rattle.joint_model.proofs.WalkLemmas.{Reached-start, Reached-then, Reached-mono}
+use Rattle.joint_machine.specs.Heaps.{IsLive}
+use Rattle.joint_machine.specs.PeerReplay.{PeerReplay, Marking, IsMarkingRoot, MarkingEdge, IsSweep}
+use Rattle.joint_machine.proofs.WalkLemmas.{Reached-start, Reached-then, Reached-mono}
 use Rattle.joint_laws.specs.PeerInvariants.{IsSpared}
 
 pub spared-root : (mk : Marking) (p : ℕ) → IsMarkingRoot mk p → IsSpared mk p

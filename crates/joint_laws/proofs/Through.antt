@@ -1,14 +1,15 @@
--- References that lead through temporaries: from an end to an end, cut at the peers between, and carried from nodes to peers.
+-- References that lead through temporaries: from an end to an end, cut at the peers between, and carried from nodes to
+-- peers.
 use Rattle.std.proofs.Common.{◌≡◌, ℕ, List, [], ◌∷◌, refl, subst, ap}
 use Rattle.std.specs.Prelude.{Contains}
-use Rattle.joint_model.specs.Components.{End, node, temporary}
-use Rattle.joint_model.specs.Control.{carried_end, carried_edges, peer_of_row}
-use Rattle.joint_model.specs.Managed.{Managed}
-use Rattle.joint_model.specs.PeerReplay.{Refers, LeadsOver}
-use Rattle.joint_model.specs.Peers.{Issued}
-use Rattle.joint_model.specs.Walks.{Walks, Reaches}
-use Rattle.joint_model.proofs.Members.{Contains-nil, Contains-map, Contains-map_cases}
-use Rattle.joint_model.proofs.WalkLemmas.{Reaches-self, Reaches-edge, Reaches-trans}
+use Rattle.joint_machine.specs.Components.{End, node, temporary}
+use Rattle.joint_machine.specs.Control.{carried_end, carried_edges, peer_of_row}
+use Rattle.joint_machine.specs.Managed.{Managed}
+use Rattle.joint_machine.specs.PeerReplay.{Refers, LeadsOver}
+use Rattle.joint_machine.specs.Peers.{Issued}
+use Rattle.joint_machine.specs.Walks.{Walks, Reaches}
+use Rattle.joint_machine.proofs.Members.{Contains-nil, Contains-map, Contains-map_cases}
+use Rattle.joint_machine.proofs.WalkLemmas.{Reaches-self, Reaches-edge, Reaches-trans}
 
 -- one end leads to the next over a reference of the list
 abbrev pub RefEdge : List (End × End) → End → End → Type 0

@@ -1,33 +1,34 @@
--- The union of what is reached from some state to a later one is closed under the joint edges of each state between, if no peer is
--- freed from it on. Let x be reached at some state of the interval. Where that is later, the edge is followed from the given state on:
--- it stands, or its end was reached meanwhile, or x is freed, and then x isn't reached. Where it is earlier, the edge is followed
--- back: it stood already, or its end was in a slot or reached when it came. So nothing has to be decided of what is reached.
--- The edges of a marking are such walks: a field is a joint edge; a mirrored reference leads from the peer of a candidate to that of
--- another one, to which managed fields lead.
+-- The union of what is reached from some state to a later one is closed under the joint edges of each state between, if
+-- no peer is freed from it on. Let x be reached at some state of the interval. Where that is later, the edge is
+-- followed from the given state on: it stands, or its end was reached meanwhile, or x is freed, and then x isn't
+-- reached. Where it is earlier, the edge is followed back: it stood already, or its end was in a slot or reached when
+-- it came. So nothing has to be decided of what is reached. The edges of a marking are such walks: a field is a joint
+-- edge; a mirrored reference leads from the peer of a candidate to that of another one, to which managed fields lead.
 use Rattle.std.proofs.Common.{◌≡◌, ℕ, zero, suc, ◌+◌, ◌-◌, ◌≤◌, ◌⊎◌, inl, inr, Bool, true, false, ◌||◌, List, [], length, Option, Some, None, refl, sym, ap, subst, ◌∙◌, arith}
 use Rattle.std.specs.Prelude.{Contains, if◌then◌else◌, slice_get}
 use Rattle.std.proofs.lemmas.Bool.{cases_lt}
 use Rattle.std.proofs.lemmas.Option.{same_Some}
 use Rattle.std.proofs.lemmas.List.{take_all}
-use Rattle.joint_model.specs.declared.names.Thread.{Thread}
-use Rattle.joint_model.specs.declared.names.Thread.TheVariants.{C}
-use Rattle.joint_model.specs.declared.events.Op.{Op}
-use Rattle.joint_model.specs.declared.events.Op.TheVariants as op
-use Rattle.joint_model.specs.declared.events.Reply.TheVariants as says
-use Rattle.joint_model.specs.declared.events.Made.{Made}
-use Rattle.joint_model.specs.Control.{Stand, idle, snapped, contracted, weakening, marked, restoring, restored}
-use Rattle.joint_model.specs.Heaps.{IsLive, HasField, answer}
-use Rattle.joint_model.specs.Joined.{graph_at}
-use Rattle.joint_model.specs.Joint.{Graph, Row, object, peer, JointEdge, IsJoined, IsJointRoot, IsReachedIn}
-use Rattle.joint_model.specs.Lines.{is_peer_event}
-use Rattle.joint_model.specs.Linked.{Linkage, AllMayCome, opening_linkage, linkage_after, peer_after, replayed}
-use Rattle.joint_model.specs.Managed.{OpenCycle, ManagedEdge}
-use Rattle.joint_model.specs.PeerReplay.{PeerReplay, Marking, MarkingEdge, HasReference, is_thread, begun, swept, swept_of, peer_answer}
-use Rattle.joint_model.specs.Told.{Told, Noted, sweep_of}
-use Rattle.joint_model.specs.Walks.{Reaches}
-use Rattle.joint_model.proofs.Deciding.{none_some}
-use Rattle.joint_model.proofs.Numbered.{numbered-made}
-use Rattle.joint_model.proofs.WalkLemmas.{Reached-keeps, Reached-then, Reaches-keeps, Reaches-self, Reaches-then, Reaches-trans, Reaches-edge}
+use Rattle.joint_machine.specs.declared.names.Thread.{Thread}
+use Rattle.joint_machine.specs.declared.names.Thread.TheVariants.{C}
+use Rattle.joint_machine.specs.declared.events.Op.{Op}
+use Rattle.joint_machine.specs.declared.events.Op.TheVariants as op
+use Rattle.joint_machine.specs.declared.events.Reply.TheVariants as says
+use Rattle.joint_machine.specs.declared.events.Made.{Made}
+use Rattle.joint_machine.specs.Control.{Stand, idle, snapped, contracted, weakening, marked, restoring, restored}
+use Rattle.joint_machine.specs.Heaps.{IsLive, HasField, answer}
+use Rattle.joint_machine.specs.Joined.{graph_at}
+use Rattle.joint_machine.specs.Joint.{Graph, Row, object, peer, JointEdge, IsJoined, IsJointRoot, IsReachedIn}
+use Rattle.joint_machine.specs.Lines.{is_peer_event}
+use Rattle.joint_machine.specs.Linked.{Linkage, opening_linkage, linkage_after, peer_after}
+use Rattle.joint_machine.specs.Replaying.{AllMayCome, replayed}
+use Rattle.joint_machine.specs.Managed.{OpenCycle, ManagedEdge}
+use Rattle.joint_machine.specs.PeerReplay.{PeerReplay, Marking, MarkingEdge, HasReference, is_thread, begun, swept, swept_of, peer_answer}
+use Rattle.joint_machine.specs.Told.{Told, Noted, sweep_of}
+use Rattle.joint_machine.specs.Walks.{Reaches}
+use Rattle.joint_machine.proofs.Deciding.{none_some}
+use Rattle.joint_machine.proofs.Numbered.{numbered-made}
+use Rattle.joint_machine.proofs.WalkLemmas.{Reached-keeps, Reached-then, Reaches-keeps, Reaches-self, Reaches-then, Reaches-trans, Reaches-edge}
 use Rattle.joint_laws.specs.LinkedInvariants.{IsRowOf, IsMirrored, IsDriverKept}
 use Rattle.joint_laws.specs.LinkedLaws.{IsOpenUntil}
 use Rattle.joint_laws.specs.States.{state_at}

@@ -1,17 +1,17 @@
--- What was reached at some state since the snapshot of the open cycle. It isn't impossible for a row to be in this set where
--- it is not impossible that it was reached; so nothing has to be decided. The set is closed under the joint edges of the
--- present state: a new edge leads to what is reached now or was just before.
+-- What was reached at some state since the snapshot of the open cycle. It isn't impossible for a row to be in this set
+-- where it is not impossible that it was reached; so nothing has to be decided. The set is closed under the joint edges
+-- of the present state: a new edge leads to what is reached now or was just before.
 use Rattle.std.proofs.Common.{◌≡◌, ℕ, zero, suc, ◌<◌, ◌≤◌, ◌⊎◌, inl, inr, List, [], ◌∷◌, ◌++◌, length, Some, refl, sym, ap, subst, arith, length-append}
 use Rattle.std.specs.Prelude.{Contains, slice_get}
 use Rattle.std.proofs.lemmas.Option.{same_Some}
-use Rattle.joint_model.specs.Heaps.{IsMade, IsLive}
-use Rattle.joint_model.specs.Joint.{Joint, Row, object, JointEdge, IsJointRoot, IsReached}
-use Rattle.joint_model.specs.Linked.{Linkage, MayCome, linkage_after}
-use Rattle.joint_model.specs.Managed.{Holds}
-use Rattle.joint_model.specs.Run.{Moment}
-use Rattle.joint_model.specs.Told.{Noted}
-use Rattle.joint_model.proofs.WalkLemmas.{Reached-start, Reached-then}
-use Rattle.joint_model.proofs.Deciding.{none_some}
+use Rattle.joint_machine.specs.Heaps.{IsMade, IsLive}
+use Rattle.joint_machine.specs.Joint.{Joint, Row, object, JointEdge, IsJointRoot, IsReached}
+use Rattle.joint_machine.specs.Linked.{Linkage, MayCome, linkage_after}
+use Rattle.joint_machine.specs.Managed.{Holds}
+use Rattle.joint_machine.specs.Run.{Moment}
+use Rattle.joint_machine.specs.Told.{Noted}
+use Rattle.joint_machine.proofs.WalkLemmas.{Reached-start, Reached-then}
+use Rattle.joint_machine.proofs.Deciding.{none_some}
 use Rattle.joint_laws.proofs.Edges.{edge-before, made-or}
 use Rattle.joint_laws.proofs.ManagedMoves.{GoesOn}
 use Rattle.joint_laws.proofs.JointRuns.{Stands, state_of}

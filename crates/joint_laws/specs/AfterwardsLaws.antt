@@ -1,77 +1,18 @@
 -- What holds once something was freed or cleared: reads of it answer gone, and no mirrored reference stands.
-use Rattle.std.specs.Prelude.{◌≡◌, ℕ, ◌<◌, ◌⊎◌, true, List, [], take, Contains, Some, slice_get}
-use Rattle.joint_model.specs.declared.names.Thread.{Thread}
-use Rattle.joint_model.specs.declared.names.Var.{Var}
-use Rattle.joint_model.specs.declared.names.GName.{GName}
-use Rattle.joint_model.specs.declared.lines.Act.TheVariants as act
-use Rattle.joint_model.specs.declared.events.Op.TheVariants as op
-use Rattle.joint_model.specs.declared.events.Reply.{Reply}
-use Rattle.joint_model.specs.declared.events.Reply.TheVariants as says
-use Rattle.joint_model.specs.Heaps.{slot}
-use Rattle.joint_model.specs.Linked.{Linkage, AllMayCome, opening_linkage}
-use Rattle.joint_model.specs.Managed.{Managed, OpenCycle}
-use Rattle.joint_model.specs.PeerReplay.{PeerReplay}
-use Rattle.joint_model.specs.Peers.{peer_of}
-use Rattle.joint_model.specs.Readers.{ReadsCell, replayed_reading, is_aside}
-use Rattle.joint_model.specs.Run.{thread_number}
-use Rattle.joint_model.specs.Told.{Noted, sweep_of, resolution_of, Answer}
-use Rattle.joint_laws.specs.OwnMarkingLaws.{HasEventAt}
+use Rattle.std.specs.Prelude.{◌≡◌, ℕ, ◌<◌, ◌⊎◌, true, List, [], Some, slice_get}
+use Rattle.joint_machine.specs.declared.events.Op.TheVariants as op
+use Rattle.joint_machine.specs.declared.events.Reply.TheVariants as says
+use Rattle.joint_machine.specs.Linked.{opening_linkage}
+use Rattle.joint_machine.specs.Replaying.{AllMayCome}
+use Rattle.joint_machine.specs.Readers.{is_aside}
+use Rattle.joint_machine.specs.Told.{Noted}
+use Rattle.joint_laws.specs.EventsAt.{HasEventAt}
 use Rattle.joint_laws.specs.ReadingLaws.{IsLawfulReading}
 use Rattle.joint_laws.specs.States.{state_at}
+use Rattle.joint_laws.specs.Afterwards.{IsGoneAfter, NoMirrorBetween, ReadsObject, ReadsPeer, ResolveFrees, SweepFrees, reading_at}
 
--- the entry in that place resolves cycle k and frees the object
-pub record ResolveFrees (noted : List Noted) (i k m : ℕ) : Type 0 where
-  pub entry : Noted
-  pub there : slice_get noted i ≡ Some entry
-  pub event : entry.entry.made.op ≡ op.Resolve record { 0 = k }
-  pub alive : List Answer
-  pub freed : List ℕ
-  pub told : entry.told ≡ resolution_of alive freed
-  pub frees : Contains freed m
-
--- the entry in that place is a sweep that frees the peer
-pub record SweepFrees (noted : List Noted) (i p : ℕ) : Type 0 where
-  pub entry : Noted
-  pub there : slice_get noted i ≡ Some entry
-  pub event : entry.entry.made.op ≡ op.Sweep
-  pub freed : List ℕ
-  pub told : entry.told ≡ sweep_of freed
-  pub frees : Contains freed p
-
--- the entry reads a cell whose target is the object
-pub record ReadsObject (s : Managed) (n : Noted) (m : ℕ) : Type 0 where
-  pub cell : ℕ
-  pub reads : ReadsCell n.entry.made.op cell
-  pub target : slot s.cells cell ≡ Some m
-
--- the entry reads a weak global name whose handle is on the peer
-pub record ReadsPeer (s : PeerReplay) (n : Noted) (p : ℕ) : Type 0 where
-  pub var : Var
-  pub name : GName
-  pub reads : n.entry.made.op ≡ op.Line (act.WRead var name)
-  pub handle : ℕ
-  pub named : slot s.peers.names name.0 ≡ Some handle
-  pub leads : peer_of s.peers.issued handle ≡ Some p
-
--- the thread's pin is filled, and the reply names what it holds
-pub record SaysPinned (s : Managed) (t : Thread) (reply : Reply) : Type 0 where
-  pub object : ℕ
-  pub pinned : slot s.pins (thread_number t) ≡ Some object
-  pub replies : reply ≡ says.Pinned record { 0 = object }
-
--- a later cycle than k is open, and the reply names it
-pub record SaysLater (s : Managed) (k : ℕ) (reply : Reply) : Type 0 where
-  pub cycle : OpenCycle
-  pub open_now : s.cycle ≡ Some cycle
-  pub later : k < cycle.number
-  pub replies : reply ≡ says.Pending record { 0 = cycle.number }
-
--- the reply is gone, unless the thread's pin is filled or a later cycle is open
-abbrev pub IsGoneAfter : Managed → Thread → ℕ → Reply → Type 0
-IsGoneAfter s t k reply = (reply ≡ says.Gone) ⊎ SaysPinned s t reply ⊎ SaysLater s k reply
-
--- from `resolve k` on, a read of a cell whose target it freed answers gone, unless the caller's pin is filled or a later cycle
--- is open
+-- from `resolve k` on, a read of a cell whose target it freed answers gone, unless the caller's pin is filled or a
+-- later cycle is open
 abbrev pub ReadsAreGone : Type 0
 ReadsAreGone = (noted : List Noted) → AllMayCome opening_linkage noted → (i j k m : ℕ) (n : Noted) → ResolveFrees noted i k m → i < j → slice_get noted j ≡ Some n
     → ReadsObject (state_at noted j).managed.managed n m → IsGoneAfter (state_at noted j).managed.managed n.entry.made.caller k n.entry.made.reply
@@ -81,17 +22,9 @@ abbrev pub WeakReadsAreGone : Type 0
 WeakReadsAreGone = (noted : List Noted) → AllMayCome opening_linkage noted → (i j p : ℕ) (n : Noted) → SweepFrees noted i p → i < j → slice_get noted j ≡ Some n
     → ReadsPeer (state_at noted j).peer n p → n.entry.made.reply ≡ says.Gone
 
--- no entry between two places mirrors a cycle
-abbrev pub NoMirrorBetween : List Noted → ℕ → ℕ → Type 0
-NoMirrorBetween noted i j = (x k : ℕ) → i < x → x < j → HasEventAt noted x (op.Mirror record { 0 = k }) → ⊥
-
 -- after `clear k` no mirrored reference stands until the next mirror
 abbrev pub NoneIsMirrored : Type 0
 NoneIsMirrored = (noted : List Noted) → AllMayCome opening_linkage noted → (i j k : ℕ) → HasEventAt noted i (op.Clear record { 0 = k }) → i < j → NoMirrorBetween noted i j → (state_at noted j).peer.refs ≡ []
-
--- the same of histories with lock-free reads: their state after so many entries
-abbrev pub reading_at : List Noted → ℕ → Linkage
-reading_at noted i = replayed_reading opening_linkage (take i noted)
 
 -- a read answers gone unless it is set aside, the caller's pin is filled, or a later cycle is open
 abbrev pub LockFreeReadsAreGone : Type 0

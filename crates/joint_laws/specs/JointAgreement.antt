@@ -1,15 +1,15 @@
--- What ties the joint machine's state to a state of a linked history, beside joint_of of joint_model, which makes it out of
--- both sides: a handle is removed where it has left the table; and an open marking is the peer side's, with the joint graph of its
--- begin.
+-- What ties the joint machine's state to a state of a linked history, beside joint_of of joint_model, which makes it
+-- out of both sides: a handle is removed where it has left the table; and an open marking is the peer side's, with the
+-- joint graph of its begin.
 use Rattle.std.specs.Prelude.{◌≡◌, ℕ, Bool, true, false, List, ◌++◌, length, map, Option, Some, None, ⊤}
-use Rattle.joint_model.specs.Control.{Stand}
-use Rattle.joint_model.specs.Heaps.{numbered_set}
-use Rattle.joint_model.specs.Joined.{removed_in, answers_at}
-use Rattle.joint_model.specs.Joint.{Joint, JointMarking, IsReachedIn, peer}
-use Rattle.joint_model.specs.Managed.{Managed, candidates_of}
-use Rattle.joint_model.specs.Peers.{Issued}
-use Rattle.joint_model.specs.Told.{Answer}
-use Rattle.joint_model.specs.PeerReplay.{PeerReplay, TableRow, Marking}
+use Rattle.joint_machine.specs.Control.{Stand}
+use Rattle.joint_machine.specs.Heaps.{numbered_set}
+use Rattle.joint_machine.specs.Joined.{removed_in, answers_at}
+use Rattle.joint_machine.specs.Joint.{Joint, JointMarking, IsReachedIn, peer}
+use Rattle.joint_machine.specs.Managed.{Managed, candidates_of}
+use Rattle.joint_machine.specs.Peers.{Issued}
+use Rattle.joint_machine.specs.Told.{Answer}
+use Rattle.joint_machine.specs.PeerReplay.{PeerReplay, TableRow, Marking}
 use Rattle.joint_laws.specs.PeerInvariants.{IsTabled, IsSpared}
 
 -- the handle is in the table

@@ -9,8 +9,12 @@ pub mod LinkedLaws
 pub mod JointAgreement
 pub mod RunLaws
 pub mod ReadingLaws
+pub mod Readings
 pub mod OwnMarkingLaws
+pub mod EventsAt
 pub mod AfterwardsLaws
+pub mod Afterwards
 pub mod UnionLaws
 pub mod ToldLaws
+pub mod Spans
 pub mod RunStateLaws

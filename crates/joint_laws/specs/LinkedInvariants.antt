@@ -1,20 +1,20 @@
--- What every state of a linked history keeps of both sides together: who holds which handle, how strong it is, what each
--- managed thread is in the midst of, and how far the driver has come.
+-- What every state of a linked history keeps of both sides together: who holds which handle, how strong it is, what
+-- each managed thread is in the midst of, and how far the driver has come.
 use Rattle.std.specs.Prelude.{◌≡◌, ℕ, ◌<◌, ◌≤◌, ◌↔◌, ◌⊎◌, List, [], ◌∷◌, length, Contains, Some, None, slice_get}
-use Rattle.joint_model.specs.declared.names.Thread.TheVariants.{C}
-use Rattle.joint_model.specs.Control.{Doing, free, made, lent, gripped, given, met, OpenSnap, Stand, idle, snapped, contracted, weakening, marked, restoring, restored}
-use Rattle.joint_model.specs.Cycles.{IsDeadContraction}
-use Rattle.joint_model.specs.Heaps.{InSlot, IsLive, fields_of}
-use Rattle.joint_model.specs.Linked.{Linkage}
-use Rattle.joint_model.specs.ManagedReplay.{ManagedReplay}
-use Rattle.joint_model.specs.Managed.{Managed, OpenCycle, Holds, ManagedEdge, candidates_of}
-use Rattle.joint_model.specs.Peers.{Issued, held, Strength, strong, weak}
-use Rattle.joint_model.specs.PeerReplay.{PeerReplay, TableRow, Marking, Refers}
-use Rattle.joint_model.specs.Walks.{Reaches}
+use Rattle.joint_machine.specs.declared.names.Thread.TheVariants.{C}
+use Rattle.joint_machine.specs.Control.{Doing, free, made, lent, gripped, given, met, OpenSnap, Stand, idle, snapped, contracted, weakening, marked, restoring, restored}
+use Rattle.joint_machine.specs.Cycles.{IsDeadContraction}
+use Rattle.joint_machine.specs.Heaps.{InSlot, IsLive, fields_of}
+use Rattle.joint_machine.specs.Linked.{Linkage}
+use Rattle.joint_machine.specs.ManagedReplay.{ManagedReplay}
+use Rattle.joint_machine.specs.Managed.{Managed, OpenCycle, Holds, ManagedEdge, candidates_of}
+use Rattle.joint_machine.specs.Peers.{Issued, held, Strength, strong, weak}
+use Rattle.joint_machine.specs.PeerReplay.{PeerReplay, TableRow, Marking, Refers}
+use Rattle.joint_machine.specs.Walks.{Reaches}
 use Rattle.joint_laws.specs.ManagedInvariants.{IsReplayKept}
 use Rattle.joint_laws.specs.Mirrors.{MirrorEdge}
 use Rattle.joint_laws.specs.PeerInvariants.{IsTabled, IsIssued, IsPeerKept}
-use Rattle.joint_model.specs.Told.{said_alive, said_cleared, Answer}
+use Rattle.joint_machine.specs.Told.{said_alive, said_cleared, Answer}
 
 -- the handle is in the table with that strength
 abbrev pub HasStrength : PeerReplay → ℕ → Strength → Type 0
@@ -84,8 +84,8 @@ pub record IsVirgin (r : ManagedReplay) (s : PeerReplay) (p h : ℕ) : Type 0 wh
   pub pairs : (m : ℕ) → Contains r.registry (p, m) → ⊥
   pub unadopted : Contains r.adopted h → ⊥
 
--- what threads have in hand is loose, and no two have the same; a handle made or gripped is on the peer told; a peer just
--- made is named nowhere; and a handle that was lent was adopted
+-- what threads have in hand is loose, and no two have the same; a handle made or gripped is on the peer told; a peer
+-- just made is named nowhere; and a handle that was lent was adopted
 pub record AreCallersKept (r : ManagedReplay) (s : PeerReplay) (ds : List Doing) : Type 0 where
   pub loose : (t h : ℕ) → HasInHand (doing_in ds t) h → IsLoose r s h
   pub apart : (t u h : ℕ) → HasInHand (doing_in ds t) h → HasInHand (doing_in ds u) h → t ≡ u

@@ -1,33 +1,33 @@
 -- Laws of both sides together, at every state of a lawful list of entries.
 use Rattle.std.specs.Prelude.{◌≡◌, ℕ, ◌+◌, ◌≤◌, List, Contains, Some, None, Option, slice_get}
-use Rattle.joint_model.specs.declared.events.Op.TheVariants as op
-use Rattle.joint_model.specs.declared.names.Var.{Var}
-use Rattle.joint_model.specs.declared.names.Kind.{Kind}
-use Rattle.joint_model.specs.declared.names.PNum.{PNum}
-use Rattle.joint_model.specs.declared.names.HNum.{HNum}
-use Rattle.joint_model.specs.Control.{OpenSnap, Stand, idle, snapped, contracted, weakening, marked, restoring, restored}
-use Rattle.joint_model.specs.Cycles.{IsAnsweredAlive}
-use Rattle.joint_model.specs.Linked.{Linkage, AllMayCome, MayCome, opening_linkage}
-use Rattle.joint_model.specs.Managed.{OpenCycle, Holds, ManagedEdge, candidates_of}
-use Rattle.joint_model.specs.ManagedReplay.{registered}
-use Rattle.joint_model.specs.Told.{Noted, sweep_of, Answer}
-use Rattle.joint_model.specs.Walks.{Reaches}
-use Rattle.joint_model.specs.Joint.{JointMarking, peer, IsReached, twin_of}
-use Rattle.joint_model.specs.Peers.{strong, weak}
-use Rattle.joint_model.specs.PeerReplay.{PeerReplay, Marking}
-use Rattle.joint_laws.specs.JointAgreement.{AreFlags}
+use Rattle.joint_machine.specs.declared.events.Op.TheVariants as op
+use Rattle.joint_machine.specs.declared.names.Var.{Var}
+use Rattle.joint_machine.specs.declared.names.Kind.{Kind}
+use Rattle.joint_machine.specs.declared.names.PNum.{PNum}
+use Rattle.joint_machine.specs.declared.names.HNum.{HNum}
+use Rattle.joint_machine.specs.Control.{OpenSnap, Stand, idle, snapped, contracted, weakening, marked, restoring, restored}
+use Rattle.joint_machine.specs.Cycles.{IsAnsweredAlive}
+use Rattle.joint_machine.specs.Linked.{Linkage, MayCome, opening_linkage}
+use Rattle.joint_machine.specs.Replaying.{AllMayCome}
+use Rattle.joint_machine.specs.Managed.{OpenCycle, Holds, ManagedEdge, candidates_of}
+use Rattle.joint_machine.specs.ManagedReplay.{registered}
+use Rattle.joint_machine.specs.Told.{Noted, sweep_of, Answer}
+use Rattle.joint_machine.specs.Walks.{Reaches}
+use Rattle.joint_machine.specs.Joint.{JointMarking, peer, IsReached, twin_of}
+use Rattle.joint_machine.specs.Peers.{strong, weak}
+use Rattle.joint_machine.specs.PeerReplay.{PeerReplay, Marking}
+use Rattle.joint_laws.specs.JointAgreement.{AreFlags, Flags, joint_as}
 use Rattle.joint_laws.specs.LinkedInvariants.{IsLinkageKept, HasStrength, IsWeakenedBy, IsRestoredBy}
 use Rattle.joint_laws.specs.PeerInvariants.{IsSpared}
 use Rattle.joint_laws.specs.States.{state_at}
-use Rattle.joint_laws.specs.JointAgreement.{Flags, joint_as}
 
 -- what both sides, the threads and the driver keep holds at every state
 abbrev pub LinkageIsKept : Type 0
 LinkageIsKept = (noted : List Noted) → AllMayCome opening_linkage noted → (i : ℕ) → IsLinkageKept (state_at noted i)
 
--- the handle of the candidate at place l, by the driver's stand: strong up to the mirror; weak once weakened, and strong
--- before; weak while the own marking is open; then strong where the answer was alive, gone where it was cleared, and weak
--- before the answer
+-- the handle of the candidate at place l, by the driver's stand: strong up to the mirror; weak once weakened, and
+-- strong before; weak while the own marking is open; then strong where the answer was alive, gone where it was cleared,
+-- and weak before the answer
 abbrev pub IsByPhase : PeerReplay → Stand → ℕ → ℕ → Type 0
 IsByPhase s idle l h = ⊥
 IsByPhase s (snapped o) l h = HasStrength s h strong

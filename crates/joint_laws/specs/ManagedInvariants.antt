@@ -1,9 +1,9 @@
 -- What every state of the managed side keeps, in a lawful list of its entries.
 use Rattle.std.specs.Prelude.{◌≡◌, ℕ, ◌↔◌, length, Contains, Some}
-use Rattle.joint_model.specs.Components.{Rises}
-use Rattle.joint_model.specs.Heaps.{IsMade, IsLive, fields_of}
-use Rattle.joint_model.specs.Managed.{Managed, OpenCycle, Holds, IsBridge, IsManagedRoot}
-use Rattle.joint_model.specs.ManagedReplay.{ManagedReplay}
+use Rattle.joint_machine.specs.Components.{Rises}
+use Rattle.joint_machine.specs.Heaps.{IsMade, IsLive, fields_of}
+use Rattle.joint_machine.specs.Managed.{Managed, OpenCycle, Holds, IsBridge, IsManagedRoot}
+use Rattle.joint_machine.specs.ManagedReplay.{ManagedReplay}
 
 -- a dead part is cut off: its rows are unfreed, no slot and no field of another row names one of them, and the
 -- candidates are those of its rows that hold a handle, rising
@@ -26,8 +26,8 @@ pub record IsManagedKept (s : Managed) : Type 0 where
   pub cells : (m : ℕ) → Contains s.cells (Some m) → IsMade s.heap m
   pub dead : (c : OpenCycle) → s.cycle ≡ Some c → IsCutOff s c
 
--- beside it, each handle that a row holds was adopted, by that row alone; each pair of the registry has a row that holds
--- a handle, and no peer and no row stands in two pairs
+-- beside it, each handle that a row holds was adopted, by that row alone; each pair of the registry has a row that
+-- holds a handle, and no peer and no row stands in two pairs
 pub record IsReplayKept (s : ManagedReplay) : Type 0 where
   pub managed : IsManagedKept s.managed
   pub adopted : (m h : ℕ) → Holds s.managed m h → Contains s.adopted h

@@ -1,11 +1,12 @@
 -- Laws of the managed side, at every state of a lawful list of entries.
 use Rattle.std.specs.Prelude.{◌≡◌, ℕ, ◌+◌, ◌↔◌, List, Contains, Some}
-use Rattle.joint_model.specs.Cycles.{IsDeadContraction}
-use Rattle.joint_model.specs.Heaps.{fields_of}
-use Rattle.joint_model.specs.Managed.{Managed, OpenCycle, ManagedEdge, handle_of}
-use Rattle.joint_model.specs.Walks.{Reaches}
-use Rattle.joint_model.specs.Linked.{AllMayCome, opening_linkage}
-use Rattle.joint_model.specs.Told.{Noted}
+use Rattle.joint_machine.specs.Cycles.{IsDeadContraction}
+use Rattle.joint_machine.specs.Heaps.{fields_of}
+use Rattle.joint_machine.specs.Managed.{Managed, OpenCycle, ManagedEdge, handle_of}
+use Rattle.joint_machine.specs.Walks.{Reaches}
+use Rattle.joint_machine.specs.Linked.{opening_linkage}
+use Rattle.joint_machine.specs.Replaying.{AllMayCome}
+use Rattle.joint_machine.specs.Told.{Noted}
 use Rattle.joint_laws.specs.ManagedInvariants.{IsCutOff, IsManagedKept, IsReplayKept}
 use Rattle.joint_laws.specs.Mirrors.{MirrorEdge}
 use Rattle.joint_laws.specs.States.{state_at}
@@ -32,8 +33,8 @@ DeadPartIsFrozen = (noted : List Noted) → AllMayCome opening_linkage noted →
     → (managed_at noted i).cycle ≡ Some c → (managed_at noted (i + more)).cycle ≡ Some e → e.number ≡ c.number
     → IsFrozenSince (managed_at noted i) (managed_at noted (i + more)) c
 
--- in a managed state that is kept, between the candidates of an open cycle the mirror edges of its dead part lead exactly
--- where managed fields lead
+-- in a managed state that is kept, between the candidates of an open cycle the mirror edges of its dead part lead
+-- exactly where managed fields lead
 abbrev pub DeadPartIsMirrored : Type 0
 DeadPartIsMirrored = (s : Managed) (c : OpenCycle) (comps : List (List ℕ)) (heavy : List ℕ) (xrefs : List (ℕ × ℕ)) → IsManagedKept s → s.cycle ≡ Some c → IsDeadContraction s c.dead comps heavy xrefs
     → (a b : ℕ) → Contains c.candidates a → Contains c.candidates b → Reaches (ManagedEdge s) a b ↔ Reaches (MirrorEdge comps xrefs) a b

@@ -1,19 +1,15 @@
--- The own marking of a cycle is one: between a cycle's snapshot and its resolution the driver begins exactly one marking.
+-- The own marking of a cycle is one: between a cycle's snapshot and its resolution the driver begins exactly one
+-- marking.
 use Rattle.std.specs.Prelude.{◌≡◌, ℕ, ◌<◌, List, Some, slice_get}
-use Rattle.joint_model.specs.declared.names.Thread.TheVariants.{C}
-use Rattle.joint_model.specs.declared.events.Op.{Op}
-use Rattle.joint_model.specs.declared.events.Op.TheVariants as op
-use Rattle.joint_model.specs.declared.events.Reply.TheVariants as says
-use Rattle.joint_model.specs.Headline.{SnapsAt, ResolvesAt, DriverBeginsAt}
-use Rattle.joint_model.specs.Linked.{AllMayCome, opening_linkage, machine_entries}
-use Rattle.joint_model.specs.Run.{Moment, IsRun}
-use Rattle.joint_model.specs.Told.{Noted}
-
--- the entry in that place has the event
-pub record HasEventAt (noted : List Noted) (i : ℕ) (o : Op) : Type 0 where
-  pub entry : Noted
-  pub there : slice_get noted i ≡ Some entry
-  pub event : entry.entry.made.op ≡ o
+use Rattle.joint_machine.specs.declared.names.Thread.TheVariants.{C}
+use Rattle.joint_machine.specs.declared.events.Op.TheVariants as op
+use Rattle.joint_machine.specs.declared.events.Reply.TheVariants as says
+use Rattle.joint_machine.specs.Headline.{SnapsAt, ResolvesAt, DriverBeginsAt}
+use Rattle.joint_machine.specs.Linked.{opening_linkage}
+use Rattle.joint_machine.specs.Replaying.{AllMayCome, machine_entries}
+use Rattle.joint_machine.specs.Run.{Moment, IsRun}
+use Rattle.joint_machine.specs.Told.{Noted}
+use Rattle.joint_laws.specs.EventsAt.{HasEventAt}
 
 -- the driver begins a marking in that place
 pub record DriverBegins (noted : List Noted) (i : ℕ) : Type 0 where

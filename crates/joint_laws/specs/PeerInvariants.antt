@@ -1,9 +1,9 @@
 -- What every state of the peer side keeps, in a linked history.
 use Rattle.std.specs.Prelude.{◌≡◌, ℕ, ◌≤◌, ◌⊎◌, List, length, Contains, true, false, Option, Some, None}
-use Rattle.joint_model.specs.Heaps.{Heap, IsMade, IsLive, InSlot, fields_of, numbered_at}
-use Rattle.joint_model.specs.Peers.{Issued, held, raw, strong}
-use Rattle.joint_model.specs.PeerReplay.{PeerReplay, TableRow, Mirror, Marking, MarkingEdge, IsMarked, Refers}
-use Rattle.joint_model.specs.Components.{End}
+use Rattle.joint_machine.specs.Heaps.{Heap, IsMade, IsLive, InSlot, fields_of, numbered_at}
+use Rattle.joint_machine.specs.Peers.{Issued, held, raw, strong}
+use Rattle.joint_machine.specs.PeerReplay.{PeerReplay, TableRow, Mirror, Marking, MarkingEdge, IsMarked, Refers}
+use Rattle.joint_machine.specs.Components.{End}
 
 -- nothing that was freed is named: slots and fields of unfreed objects name unfreed objects
 pub record IsHeapKept (h : Heap) : Type 0 where
@@ -30,8 +30,8 @@ pub record AreHandlesKept (h : Heap) (issued : List Issued) (table : List (Optio
   pub raws : (n : ℕ) (row : TableRow) (i : Issued) → IsTabled table n row → IsIssued issued n i → i.hold ≡ raw → row.strength ≡ i.strength
   pub named : (n : ℕ) → Contains names (Some n) → (i : Issued) × IsIssued issued n i × (i.hold ≡ raw)
 
--- the source of a mirrored reference was made, and where it is unfreed so is the target; references stand only while a cycle
--- is mirrored; and only held handles are weakened
+-- the source of a mirrored reference was made, and where it is unfreed so is the target; references stand only while a
+-- cycle is mirrored; and only held handles are weakened
 pub record AreReferencesKept (h : Heap) (issued : List Issued) (refs : List (End × End)) (mirror : Option Mirror) : Type 0 where
   pub made : (p q : ℕ) → Refers refs p q → IsMade h p
   pub live : (p q : ℕ) → Refers refs p q → IsLive h p → IsLive h q
@@ -42,8 +42,8 @@ pub record AreReferencesKept (h : Heap) (issued : List Issued) (refs : List (End
 abbrev pub IsSpared : Marking → ℕ → Type 0
 IsSpared mk p = IsLive mk.heap p → (IsMarked mk p → ⊥) → ⊥
 
--- while a marking is open: the peers of its begin are unfreed; each edge of now is one of its begin, or leads to a spared
--- peer; and peers in slots and under strong handles are spared
+-- while a marking is open: the peers of its begin are unfreed; each edge of now is one of its begin, or leads to a
+-- spared peer; and peers in slots and under strong handles are spared
 pub record IsMarkingKept (h : Heap) (issued : List Issued) (table : List (Option TableRow)) (refs : List (End × End)) (mk : Marking) : Type 0 where
   pub made : length mk.heap.fields ≤ length h.fields
   pub existed : (p : ℕ) → IsLive mk.heap p → IsLive h p

@@ -1,22 +1,26 @@
--- Histories with lock-free reads: without the reads that are set aside each is a lawful list of entries, so its joint projection
--- is a run of the joint machine, the only one, sound and complete. And what the managed side's own list is in such a history.
+-- Histories with lock-free reads: without the reads that are set aside each is a lawful list of entries, so its joint
+-- projection is a run of the joint machine, the only one, sound and complete. And what the managed side's own list is
+-- in such a history.
 use Rattle.std.specs.Prelude.{◌≡◌, ℕ, All, false, not, if◌then◌else◌, List, [], ◌∷◌, filter, Option, Some, None, slice_set}
-use Rattle.joint_model.specs.declared.names.Thread.{Thread}
-use Rattle.joint_model.specs.declared.lines.Act.TheVariants as act
-use Rattle.joint_model.specs.declared.events.Op.{Op}
-use Rattle.joint_model.specs.declared.events.Op.TheVariants as op
-use Rattle.joint_model.specs.declared.events.Reply.{Reply}
-use Rattle.joint_model.specs.declared.events.Reply.TheVariants as says
-use Rattle.joint_model.specs.Headline.{IsSoundRun, IsCompleteRun}
-use Rattle.joint_model.specs.Histories.{Finished}
-use Rattle.joint_model.specs.Lines.{is_read}
-use Rattle.joint_model.specs.Linked.{Linkage, AllMayCome, opening_linkage, replayed, managed_after, machine_entries}
-use Rattle.joint_model.specs.LinkedHistories.{IsLinkedBy, joint_projection}
-use Rattle.joint_model.specs.Managed.{opening_managed, read_cell}
-use Rattle.joint_model.specs.ManagedReplay.{ManagedReplay, opening_replay}
-use Rattle.joint_model.specs.Readers.{ReadsCell, entry_after, AllMayComeReading, replayed_reading, is_aside, is_managed_entry, PinnedEntry, with_pins, AllKeptLawful}
-use Rattle.joint_model.specs.Run.{Moment, IsRun, thread_number}
-use Rattle.joint_model.specs.Told.{Noted}
+use Rattle.joint_machine.specs.declared.names.Thread.{Thread}
+use Rattle.joint_machine.specs.declared.lines.Act.TheVariants as act
+use Rattle.joint_machine.specs.declared.events.Op.{Op}
+use Rattle.joint_machine.specs.declared.events.Op.TheVariants as op
+use Rattle.joint_machine.specs.declared.events.Reply.{Reply}
+use Rattle.joint_machine.specs.declared.events.Reply.TheVariants as says
+use Rattle.joint_machine.specs.Headline.{IsSoundRun, IsCompleteRun}
+use Rattle.joint_machine.specs.Histories.{Finished}
+use Rattle.joint_machine.specs.Lines.{is_read}
+use Rattle.joint_machine.specs.Linked.{Linkage, opening_linkage, managed_after}
+use Rattle.joint_machine.specs.Replaying.{AllMayCome, machine_entries, replayed}
+use Rattle.joint_machine.specs.LinkedHistories.{IsLinkedBy, joint_projection}
+use Rattle.joint_machine.specs.Managed.{opening_managed}
+use Rattle.joint_machine.specs.ManagedReplay.{ManagedReplay, opening_replay}
+use Rattle.joint_machine.specs.Readers.{AllMayComeReading, replayed_reading, is_aside, is_managed_entry}
+use Rattle.joint_machine.specs.PinsTold.{AllKeptLawful, PinnedEntry, with_pins}
+use Rattle.joint_machine.specs.Run.{Moment, IsRun, thread_number}
+use Rattle.joint_machine.specs.Told.{Noted}
+use Rattle.joint_laws.specs.Readings.{AreExact, HasReadingRun}
 
 -- the entries but for the reads that are set aside
 abbrev pub without_aside : List Noted → List Noted
@@ -38,13 +42,10 @@ pub record LeadToSameSides (noted : List Noted) : Type 0 where
 abbrev pub ReadingLeadsToSame : Type 0
 ReadingLeadsToSame = (noted : List Noted) → IsLawfulReading noted → LeadToSameSides noted
 
--- and whose joint projection is that of the history: so each law on lawful lists and their runs is one on histories with lock-free reads
+-- and whose joint projection is that of the history: so each law on lawful lists and their runs is one on histories
+-- with lock-free reads
 abbrev pub ReadingProjectsSo : Type 0
 ReadingProjectsSo = (noted : List Noted) → machine_entries (without_aside noted) ≡ joint_projection noted
-
--- some moments are a run over its joint projection, sound and complete
-abbrev pub HasReadingRun : List Noted → Type 0
-HasReadingRun noted = (run : List Moment) × IsRun (joint_projection noted) run × IsSoundRun run × IsCompleteRun run
 
 -- the joint projection of a lawful list of entries with lock-free reads is a run, sound and complete
 abbrev pub ReadingProjectionIsComplete : Type 0
@@ -65,8 +66,8 @@ pins_by pins t (op.Line (act.Await k)) (says.M m) = slice_set pins (thread_numbe
 pins_by pins t (op.Line (act.Take v)) (says.M m) = slice_set pins (thread_number t) None
 pins_by pins t _ reply = pins
 
--- the managed side's own list of a history with lock-free reads: its entries, each with the pins that the reads and the takes
--- before it leave
+-- the managed side's own list of a history with lock-free reads: its entries, each with the pins that the reads and the
+-- takes before it leave
 abbrev pub kept_from : List (Option ℕ) → List Noted → List PinnedEntry
 kept_from pins [] = []
 kept_from pins (n ∷ ns) =
@@ -87,13 +88,8 @@ abbrev pub KeptPinsLeadToSame : Type 0
 KeptPinsLeadToSame = (noted : List Noted) → IsLawfulReading noted
     → with_pins (kept_replayed opening_replay (kept_from opening_managed.pins noted)) (replayed_reading opening_linkage noted).managed.managed.pins ≡ (replayed_reading opening_linkage noted).managed
 
--- each read answers as the one machine does at its number
-abbrev pub AreExact : Linkage → List Noted → Type 0
-AreExact s [] = Unit {0}
-AreExact s (n ∷ ns) = ((k : ℕ) → ReadsCell n.entry.made.op k → n.entry.made.reply ≡ (read_cell s.managed.managed (thread_number n.entry.made.caller) k).reply) × AreExact (entry_after s n) ns
-
--- then the list is lawful with reads that are events of the one machine as all others are, and leads to the same state: so two such
--- histories of one script, line after line, are one
+-- then the list is lawful with reads that are events of the one machine as all others are, and leads to the same state:
+-- so two such histories of one script, line after line, are one
 pub record IsExactList (noted : List Noted) : Type 0 where
   pub lawful : AllMayCome opening_linkage noted
   pub ends : replayed_reading opening_linkage noted ≡ replayed opening_linkage noted

@@ -1,11 +1,12 @@
--- The steps of the joint machine in each lawful list of entries are a run of it, the only one, sound and complete. In such a list reads are events of
--- the managed side; `ReadingLaws` has linked histories.
+-- The steps of the joint machine in each lawful list of entries are a run of it, the only one, sound and complete. In
+-- such a list reads are events of the managed side; `ReadingLaws` has linked histories.
 use Rattle.std.specs.Prelude.{◌≡◌, ℕ, ◌<◌, List, Contains}
-use Rattle.joint_model.specs.Headline.{SnapsAt, SweepsAt, BeginsAt, IsUnreachedBefore, WasUnreached, IsSoundRun, IsCompleteRun}
-use Rattle.joint_model.specs.Joint.{object, peer}
-use Rattle.joint_model.specs.Linked.{AllMayCome, opening_linkage, machine_entries}
-use Rattle.joint_model.specs.Run.{Moment, IsRun}
-use Rattle.joint_model.specs.Told.{Noted}
+use Rattle.joint_machine.specs.Headline.{SnapsAt, SweepsAt, BeginsAt, IsUnreachedBefore, WasUnreached, IsSoundRun, IsCompleteRun}
+use Rattle.joint_machine.specs.Joint.{object, peer}
+use Rattle.joint_machine.specs.Linked.{opening_linkage}
+use Rattle.joint_machine.specs.Replaying.{AllMayCome, machine_entries}
+use Rattle.joint_machine.specs.Run.{Moment, IsRun}
+use Rattle.joint_machine.specs.Told.{Noted}
 
 -- some moments are a run over the steps
 abbrev pub HasRun : List Noted → Type 0

@@ -1,14 +1,16 @@
--- The states of the run are those of both sides: what a law says of the states of a lawful list of entries it says of its run.
+-- The states of the run are those of both sides: what a law says of the states of a lawful list of entries it says of
+-- its run.
 use Rattle.std.specs.Prelude.{◌≡◌, ℕ, suc, ◌≤◌, true, false, List, length, take, Some, None, slice_get}
-use Rattle.joint_model.specs.Joint.{Row, peer, JointEdge, IsReached}
-use Rattle.joint_model.specs.Linked.{AllMayCome, opening_linkage, is_joint, machine_entries}
-use Rattle.joint_model.specs.Run.{Moment, IsRun}
-use Rattle.joint_model.specs.Told.{Noted}
-use Rattle.joint_model.specs.PeerReplay.{Marking, MarkingEdge}
+use Rattle.joint_machine.specs.Joint.{Row, peer, JointEdge, IsReached}
+use Rattle.joint_machine.specs.Linked.{opening_linkage, is_joint}
+use Rattle.joint_machine.specs.Replaying.{AllMayCome, machine_entries}
+use Rattle.joint_machine.specs.Run.{Moment, IsRun}
+use Rattle.joint_machine.specs.Told.{Noted}
+use Rattle.joint_machine.specs.PeerReplay.{Marking, MarkingEdge}
 use Rattle.joint_laws.specs.UnionLaws.{graph_in, BeginsMarking}
 
--- the entry's moment in the run, behind as many as there are steps before the entry: it goes from the joint graph of both sides'
--- states before the entry to that of those after it
+-- the entry's moment in the run, behind as many as there are steps before the entry: it goes from the joint graph of
+-- both sides' states before the entry to that of those after it
 pub record HasMoment (noted : List Noted) (run : List Moment) (i : ℕ) (n : Noted) : Type 0 where
   pub moment : Moment
   pub there : slice_get run (length (machine_entries (take i noted))) ≡ Some moment
@@ -38,8 +40,8 @@ pub record IsReachedInRun (run : List Moment) (from to : ℕ) (x : Row) : Type 0
 abbrev pub IsOpenInRun : List Moment → ℕ → ℕ → Type 0
 IsOpenInRun run from to = (j : ℕ) (m : Moment) → from ≤ j → j ≤ to → slice_get run j ≡ Some m → m.after.marking ≡ None → ⊥
 
--- in the run too the union of what is reached from one place to a later one is closed under the joint edges of each state between from
--- which on a marking is open
+-- in the run too the union of what is reached from one place to a later one is closed under the joint edges of each
+-- state between from which on a marking is open
 abbrev pub RunUnionIsClosed : Type 0
 RunUnionIsClosed = (noted : List Noted) (run : List Moment) → AllMayCome opening_linkage noted → IsRun (machine_entries noted) run → (a i k : ℕ) (m : Moment) → a ≤ i → i ≤ k → slice_get run i ≡ Some m → IsOpenInRun run i k
     → (x y : Row) → IsReachedInRun run a k x → JointEdge m.after.graph x y → IsReachedInRun run a k y

@@ -1,7 +1,8 @@
 -- The states that a lawful list of entries goes through.
 use Rattle.std.specs.Prelude.{ℕ, List, take}
-use Rattle.joint_model.specs.Linked.{Linkage, opening_linkage, replayed}
-use Rattle.joint_model.specs.Told.{Noted}
+use Rattle.joint_machine.specs.Linked.{Linkage, opening_linkage}
+use Rattle.joint_machine.specs.Replaying.{replayed}
+use Rattle.joint_machine.specs.Told.{Noted}
 
 -- the state after the first entries of a list, so many of them, or after all where there are fewer
 abbrev pub state_at : List Noted → ℕ → Linkage

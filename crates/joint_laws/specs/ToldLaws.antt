@@ -1,72 +1,19 @@
--- What is told beside an entry is what the span in its reply names: each freed list is a stretch of the history's freed list, and
--- the notices that an entry takes are a stretch of the history's notices. So who reads entries with their replies, and the three
--- lists, can find what is told of freeing.
-use Rattle.std.specs.Prelude.{◌≡◌, ℕ, List, length, Some, slice_get}
-use Rattle.joint_model.specs.declared.names.Span.{Span}
-use Rattle.joint_model.specs.declared.events.Reply.{Reply}
-use Rattle.joint_model.specs.declared.events.Reply.TheVariants as says
-use Rattle.joint_model.specs.Components.{Rises}
-use Rattle.joint_model.specs.Histories.{Finished, IsHistory, managed_numbers, peer_numbers, stretch, IsWithin}
-use Rattle.joint_model.specs.LinkedHistories.{IsLinkedBy}
-use Rattle.joint_model.specs.Managed.{Managed}
-use Rattle.joint_model.specs.Told.{Told, snap_of, sweep_of, resolution_of, Answer, Noted}
-use Rattle.joint_laws.specs.AfterwardsLaws.{reading_at}
-
--- the numbers are the stretch of the list that the span names, which lies within it
-pub record IsStretch (list : List ℕ) (s : Span) (numbers : List ℕ) : Type 0 where
-  pub within : IsWithin s (length list)
-  pub named : numbers ≡ stretch list s
-
--- a snap's freed rows, which rise, and as many candidates as the reply says
-pub record TellsSnap (ms : List ℕ) (count : ℕ) (s : Span) (told : Told) : Type 0 where
-  pub freed : List ℕ
-  pub candidates : List ℕ
-  pub dead : List ℕ
-  pub is : told ≡ snap_of freed candidates dead
-  pub counted : length candidates ≡ count
-  pub rises : Rises freed
-  pub stands : IsStretch ms s freed
-
--- a sweep's freed peers
-pub record TellsSweep (ps : List ℕ) (s : Span) (told : Told) : Type 0 where
-  pub freed : List ℕ
-  pub is : told ≡ sweep_of freed
-  pub rises : Rises freed
-  pub stands : IsStretch ps s freed
-
--- a resolution's freed rows
-pub record TellsResolution (ms : List ℕ) (s : Span) (told : Told) : Type 0 where
-  pub alive : List Answer
-  pub freed : List ℕ
-  pub is : told ≡ resolution_of alive freed
-  pub rises : Rises freed
-  pub stands : IsStretch ms s freed
-
--- nothing freed is told
-abbrev pub TellsNoneFreed : Told → Type 0
-TellsNoneFreed (snap_of freed candidates dead) = ⊥
-TellsNoneFreed (sweep_of freed) = ⊥
-TellsNoneFreed (resolution_of alive freed) = ⊥
-TellsNoneFreed _ = Unit {0}
-
--- what is told of freeing is what the reply names in the lists of freed rows and freed peers
-abbrev pub TellsNamed : List ℕ → List ℕ → Reply → Told → Type 0
-TellsNamed ms ps (says.Snapped count s) told = TellsSnap ms count s told
-TellsNamed ms ps (says.Swept j s) told = TellsSweep ps s told
-TellsNamed ms ps (says.Freed s) told = TellsResolution ms s told
-TellsNamed ms ps _ told = TellsNoneFreed told
+-- What is told beside an entry is what the span in its reply names: each freed list is a stretch of the history's freed
+-- list, and the notices that an entry takes are a stretch of the history's notices. So who reads entries with their
+-- replies, and the three lists, can find what is told of freeing.
+use Rattle.std.specs.Prelude.{◌≡◌, ℕ, List, Some, slice_get}
+use Rattle.joint_machine.specs.declared.names.Span.{Span}
+use Rattle.joint_machine.specs.declared.events.Reply.TheVariants as says
+use Rattle.joint_machine.specs.Histories.{Finished, IsHistory, managed_numbers, peer_numbers}
+use Rattle.joint_machine.specs.LinkedHistories.{IsLinkedBy}
+use Rattle.joint_machine.specs.Told.{Noted}
+use Rattle.joint_laws.specs.Afterwards.{reading_at}
+use Rattle.joint_laws.specs.Spans.{TakesNamed, TellsNamed}
 
 -- so it is at each entry of a linked history
 abbrev pub ToldIsNamed : Type 0
 ToldIsNamed = (h : Finished) (noted : List Noted) → IsLinkedBy h noted → (i : ℕ) (n : Noted) → slice_get noted i ≡ Some n
     → TellsNamed (managed_numbers h.freed_managed) (peer_numbers h.freed_peers) n.entry.made.reply n.told
-
--- the notices that an entry takes of those that wait at a state are those that its span names in the history's list: it starts
--- behind those taken before, and ends within the list of those queued by then
-pub record TakesNamed (list : List ℕ) (before : Managed) (s : Span) : Type 0 where
-  pub first : s.first ≡ before.taken
-  pub queued : IsWithin s (length before.notices)
-  pub stands : IsStretch list s (stretch before.notices s)
 
 abbrev pub NoticesAreNamed : Type 0
 NoticesAreNamed = (h : Finished) (noted : List Noted) → IsLinkedBy h noted → (i : ℕ) (n : Noted) (s : Span) → slice_get noted i ≡ Some n → n.entry.made.reply ≡ says.Took s

@@ -2,8 +2,9 @@
 
 ghost use Rattle.joint_laws.specs.AfterwardsLaws.{LockFreeReadsAreGone, NoneIsMirrored, NoneIsMirroredReading, ReadsAreGone, WeakReadsAreGone, WeakReadsAreGoneReading};
 
-/// From `resolve k` on, a read of a cell whose target it freed answers gone, unless the caller's pin is filled or a later cycle is
-/// open, which the reply then names; in a history with lock-free reads, unless the read is set aside too.
+/// From `resolve k` on, a read of a cell whose target it freed answers gone, unless the caller's pin is filled or a
+/// later cycle is open, which the reply then names; in a history with lock-free reads, unless the read is set aside
+/// too.
 pub fn reads_of_freed_objects_are_gone()
     ensures reads { ReadsAreGone }
     ensures lock_free { LockFreeReadsAreGone }

@@ -2,7 +2,8 @@
 //
 // Each function is a law: its body is empty, and its contract is a statement of `specs/`.
 //
-// No value is made and nothing runs. What is promised is said of every linked history, whatever threads and whatever schedule led to it.
+// No value is made and nothing runs. What is promised is said of every linked history, whatever threads and whatever
+// schedule led to it.
 #![tactic(auto)]
 
 mod afterwards;

@@ -2,9 +2,9 @@
 
 ghost use Rattle.joint_laws.specs.ReadingLaws.{EveryReadingRunIsComplete, ExactReadingsAreLawful, ReadlessIsExact, KeptPinsAreLawful, KeptPinsLeadToSame, LinkedIsComplete, ReadingIsLawful, ReadingLeadsToSame, ReadingProjectionIsComplete, ReadingProjectsSo};
 
-/// A history with lock-free reads, without those that are set aside, is a lawful list of entries, and leads to the same state of both
-/// sides, with the same joint projection. So this projection is a run of the joint machine, sound and complete: there is such a run, and
-/// every run over it is so.
+/// A history with lock-free reads, without those that are set aside, is a lawful list of entries, and leads to the same
+/// state of both sides, with the same joint projection. So this projection is a run of the joint machine, sound and
+/// complete: there is such a run, and every run over it is so.
 pub fn reading_projection_is_complete()
     ensures without { ReadingIsLawful }
     ensures same { ReadingLeadsToSame }
@@ -14,15 +14,15 @@ pub fn reading_projection_is_complete()
     ensures every { EveryReadingRunIsComplete }
 {}
 
-/// The managed side's own list of a history with lock-free reads is lawful, if with each entry those pins are kept that the reads and
-/// the takes before it leave; and it leads to the managed state of the history, but for the pins.
+/// The managed side's own list of a history with lock-free reads is lawful, if with each entry those pins are kept that
+/// the reads and the takes before it leave; and it leads to the managed state of the history, but for the pins.
 pub fn kept_pins_are_lawful()
     ensures lawful { KeptPinsAreLawful }
     ensures same { KeptPinsLeadToSame }
 {}
 
-/// A history with lock-free reads in which each read answers as the one machine does at its number is a lawful list in which reads are events as all
-/// others are, and leads to the same state. So it is of a history without reads.
+/// A history with lock-free reads in which each read answers as the one machine does at its number is a lawful list in
+/// which reads are events as all others are, and leads to the same state. So it is of a history without reads.
 pub fn exact_readings_are_lawful()
     ensures exact { ExactReadingsAreLawful }
     ensures readless { ReadlessIsExact }

@@ -8,12 +8,12 @@ use Rattle.std.proofs.Math.ListN.{length-set}
 use Rattle.std.proofs.lemmas.List.Elements.{Contains-push, Contains-push_cases, Contains-append_left}
 use Rattle.std.proofs.lemmas.List.{take_all, map-set, map-append, length-map}
 use Rattle.std.proofs.lemmas.Option.{slice_get-map, slice_get_read}
-use Rattle.joint_model.specs.Heaps.{Heap, IsLive, fields_of, slot}
-use Rattle.joint_model.specs.Joint.{Graph, IsJoined}
-use Rattle.joint_model.proofs.Members.{last-or, take-next}
-use Rattle.joint_model.proofs.Deciding.{none_some, some-same}
+use Rattle.joint_machine.specs.Heaps.{Heap, IsLive, fields_of, slot}
+use Rattle.joint_machine.specs.Joint.{Graph, IsJoined}
+use Rattle.joint_machine.proofs.Members.{last-or, take-next}
+use Rattle.joint_machine.proofs.Deciding.{none_some, some-same}
 use Rattle.joint_marking.specs.Nodes.{AddsEdges, LeadToNodes, HasNone, IsPair, IsRound, FieldEdge, ObjectField, ObjectEdge, objects_in, targets_at}
-use Rattle.joint_model.proofs.Numbered.{slot-at}
+use Rattle.joint_machine.proofs.Numbered.{slot-at}
 
 -- what a row has after a write to a row: the written one has what was written, and each other what it had
 set-from : (rows : List (List ℕ)) (a k : ℕ) (r : List ℕ) (j : ℕ) → Contains (targets_at (set rows a r) k) j → ((k ≡ a) × Contains r j) ⊎ Contains (targets_at rows k) j

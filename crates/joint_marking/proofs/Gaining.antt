@@ -3,7 +3,7 @@ use Rattle.std.proofs.Common.{◌≡◌, ℕ, ◌+◌, ◌<◌, inl, inr, List, 
 use Rattle.std.specs.Prelude.{Contains}
 use Rattle.std.proofs.lemmas.List.Elements.{Contains-push, Contains-push_cases, Contains-append_left}
 use Rattle.joint_marking.specs.Gathered.{Gains, IsBrought}
-use Rattle.joint_model.proofs.Members.{last-or}
+use Rattle.joint_machine.proofs.Members.{last-or}
 
 -- nothing is brought yet
 pub gains-none : (brings : ℕ → ℕ → Type 0) (n : ℕ) (old : List ℕ) → ((i k : ℕ) → i < n → brings i k → ⊥) → Gains (IsBrought brings n) old old

@@ -1,9 +1,9 @@
 -- Which live objects hold a handle, as a walk over the objects marks them.
 use Rattle.std.proofs.Common.{◌≡◌, ℕ, ◌+◌, ◌<◌, ◌↔◌, ◌⊎◌, inl, inr, Bool, List, length, Some, None, sym, subst, ◌∙◌, arith}
-use Rattle.joint_model.specs.Heaps.{IsLive}
-use Rattle.joint_model.specs.Managed.{Managed, Holds, handle_of}
-use Rattle.joint_model.proofs.Members.{last-or}
-use Rattle.joint_model.proofs.HeapLemmas.{Holds-handle_of}
+use Rattle.joint_machine.specs.Heaps.{IsLive}
+use Rattle.joint_machine.specs.Managed.{Managed, Holds, handle_of}
+use Rattle.joint_machine.proofs.Members.{last-or}
+use Rattle.joint_machine.proofs.HeapLemmas.{Holds-handle_of}
 use Rattle.reachability.specs.Marks.{HasMark}
 use Rattle.joint_marking.specs.Owned.{IsOwnedBelow}
 

@@ -5,14 +5,15 @@
 use Rattle.std.proofs.Common.{◌≡◌, ℕ, ◌+◌, ◌<◌, ◌↔◌, ◌⊎◌, inl, inr, Bool, true, false, List, ◌++◌, length, map, Option, Some, None, refl, sym, ap, subst, ◌∙◌, arith}
 use Rattle.std.specs.Prelude.{Contains, All, slice_get}
 use Rattle.std.proofs.lemmas.List.Elements.{Contains-append_left, Contains-append_right, Contains-append_cases}
-use Rattle.joint_model.specs.declared.names.MNum.{MNum}
-use Rattle.joint_model.specs.declared.names.PNum.{PNum}
-use Rattle.joint_model.specs.Heaps.{IsLive}
-use Rattle.joint_model.specs.Histories.{managed_numbers, peer_numbers}
-use Rattle.joint_model.specs.Joint.{Graph, Row, object, peer, JointEdge, IsJointRoot, IsReachedIn, AreUnreached}
-use Rattle.joint_model.specs.Walks.{Reached}
-use Rattle.joint_model.proofs.WalkLemmas.{Reached-keeps, Reached-start, Reached-then}
-use Rattle.joint_model.proofs.Members.{Contains-map, Contains-map_cases, All-members}
+use Rattle.joint_machine.specs.declared.names.MNum.{MNum}
+use Rattle.joint_machine.specs.declared.names.PNum.{PNum}
+use Rattle.joint_machine.specs.Heaps.{IsLive}
+use Rattle.joint_machine.specs.Histories.{managed_numbers, peer_numbers}
+use Rattle.joint_machine.specs.Joint.{Graph, Row, object, peer, JointEdge, IsJointRoot, IsReachedIn}
+use Rattle.joint_machine.specs.Replaying.{AreUnreached}
+use Rattle.joint_machine.specs.Walks.{Reached}
+use Rattle.joint_machine.proofs.WalkLemmas.{Reached-keeps, Reached-start, Reached-then}
+use Rattle.joint_machine.proofs.Members.{Contains-map, Contains-map_cases, All-members}
 use Rattle.reachability.specs.Marks.{Leads, HasMark}
 use Rattle.joint_marking.specs.Gathered.{RisesWith}
 use Rattle.joint_marking.specs.Nodes.{AddsEdges, AreLive, HasEdges, HasNone, EdgesOfObjects, EdgesOfPeers, ObjectEdge, IsLiveRow, IsLiveRoot, IsRootNode, IsUnmarkedPeer, node_count, node_of, objects_in, targets_at}

@@ -2,12 +2,12 @@
 -- which peer that handle was issued, and whether this peer is live. An object holds one handle at most, and a
 -- handle is on one peer, so there is no other twin.
 use Rattle.std.proofs.Common.{◌≡◌, ℕ, ◌↔◌, Some, None, sym, ap, subst, ◌∙◌}
-use Rattle.joint_model.specs.Heaps.{IsLive}
-use Rattle.joint_model.specs.Joint.{Graph, IsJoined}
-use Rattle.joint_model.specs.Managed.{handle_of}
-use Rattle.joint_model.specs.Peers.{peer_of}
-use Rattle.joint_model.proofs.Deciding.{none_some}
-use Rattle.joint_model.proofs.HeapLemmas.{Holds-handle_of}
+use Rattle.joint_machine.specs.Heaps.{IsLive}
+use Rattle.joint_machine.specs.Joint.{Graph, IsJoined}
+use Rattle.joint_machine.specs.Managed.{handle_of}
+use Rattle.joint_machine.specs.Peers.{peer_of}
+use Rattle.joint_machine.proofs.Deciding.{none_some}
+use Rattle.joint_machine.proofs.HeapLemmas.{Holds-handle_of}
 
 -- an object's twin is on the handle that it holds
 joined-leads : (g : Graph) (x h p q : ℕ) → handle_of g.managed x ≡ Some h → peer_of g.peers.issued h ≡ Some p → IsJoined g x q → p ≡ q

@@ -2,9 +2,9 @@
 -- peers 1, 2 and 3. Peer 1 has peer 2 in a field, and object 2 has object 3. So a walk leads from object 1 to
 -- peer 1, peer 2, object 2, object 3 and peer 3. Nothing leads to peer 4, and peer 5 was freed.
 use Rattle.std.specs.Prelude.{ℕ, false, [], ◌∷◌, Some, None}
-use Rattle.joint_model.specs.Heaps.{Heap}
-use Rattle.joint_model.specs.Joint.{Graph}
-use Rattle.joint_model.specs.Peers.{Issued, held, strong}
+use Rattle.joint_machine.specs.Heaps.{Heap}
+use Rattle.joint_machine.specs.Joint.{Graph}
+use Rattle.joint_machine.specs.Peers.{Issued, held, strong}
 
 -- the three objects
 abbrev pub chain_objects : Heap

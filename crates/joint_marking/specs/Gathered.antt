@@ -1,6 +1,6 @@
 -- Lists of numbers that a loop over rising numbers gathers. (This project's own.)
 use Rattle.std.specs.Prelude.{ℕ, ◌<◌, ◌↔◌, ◌⊎◌, List, Contains}
-use Rattle.joint_model.specs.Components.{Rises}
+use Rattle.joint_machine.specs.Components.{Rises}
 
 -- the list rises, and has exactly the numbers that are wanted
 pub record RisesWith (wanted : ℕ → Type 0) (xs : List ℕ) : Type 0 where

@@ -1,9 +1,9 @@
 -- The rows of both heaps as the nodes of one graph, which are numbers: with n managed objects, object x is node
 -- x and peer p is node n + p. (This project's own; the marking that goes over them is any textbook's.)
 use Rattle.std.specs.Prelude.{◌≡◌, ℕ, ◌+◌, ◌<◌, ◌↔◌, ◌⊎◌, Bool, List, [], Some, None, All, Contains, length, slice_get}
-use Rattle.joint_model.specs.declared.names.PNum.{PNum}
-use Rattle.joint_model.specs.Heaps.{Heap, IsLive, HasField}
-use Rattle.joint_model.specs.Joint.{Graph, Row, object, peer, IsJoined, IsJointRoot}
+use Rattle.joint_machine.specs.declared.names.PNum.{PNum}
+use Rattle.joint_machine.specs.Heaps.{Heap, IsLive, HasField}
+use Rattle.joint_machine.specs.Joint.{Graph, Row, object, peer, IsJoined, IsJointRoot}
 use Rattle.reachability.specs.Marks.{HasMark}
 
 -- how many managed objects were made

@@ -1,6 +1,6 @@
 -- Which handles live objects hold, as marks of the handles by their numbers. (This project's own.)
 use Rattle.std.specs.Prelude.{ℕ, ◌<◌}
-use Rattle.joint_model.specs.Managed.{Managed, Holds}
+use Rattle.joint_machine.specs.Managed.{Managed, Holds}
 
 -- a live object holds the handle, which is within the marks
 pub record IsOwned (s : Managed) (marks h : ℕ) : Type 0 where

@@ -1,15 +1,16 @@
 // The peers that no joint root reaches.
 
 ghost use Rattle.std.specs.Prelude.{◌≡◌, ℕ, ◌+◌, ◌++◌, ◌↔◌, ◌⊎◌, Contains, IfOk, OnOk, IsTrue, length, map};
-ghost use Rattle.joint_model.specs.Heaps.{IsLive};
-ghost use Rattle.joint_model.specs.Histories.{managed_numbers, peer_numbers};
-ghost use Rattle.joint_model.specs.Joint.{IsReachedIn, object, peer, AreUnreached};
+ghost use Rattle.joint_machine.specs.Heaps.{IsLive};
+ghost use Rattle.joint_machine.specs.Histories.{managed_numbers, peer_numbers};
+ghost use Rattle.joint_machine.specs.Joint.{IsReachedIn, object, peer};
+ghost use Rattle.joint_machine.specs.Replaying.{AreUnreached};
 ghost use Rattle.joint_marking.specs.Nodes.{AreLive, IsLiveRoot, IsRootNode, IsUnmarkedPeer, node_count, objects_in};
 ghost use Rattle.joint_marking.specs.Gathered.{RisesWith};
 
 use crate::rows::{joint_rows, peer_node};
 use crate::walked::JointWalked;
-use joint_model::{MNum, PNum};
+use joint_machine::{MNum, PNum};
 use reachability::reached;
 use std::alloc::{AllocError, Global};
 

@@ -1,11 +1,11 @@
 // The rows of both heaps as the nodes of one graph, each with the list of the nodes that it leads to.
 
 ghost use Rattle.std.specs.Prelude.{◌≡◌, ℕ, ◌+◌, ◌<◌, OnOk, IfOk, length, map, Some};
-ghost use Rattle.joint_model.specs.Heaps.{IsLive};
+ghost use Rattle.joint_machine.specs.Heaps.{IsLive};
 ghost use Rattle.joint_marking.specs.Nodes.{AddsEdges, HasEdges, ObjectEdge, PeerEdge, ObjectField, EdgesOfObjects, EdgesOfPeers, IsPair, IsRound, HasNone, node_count, objects_in, targets_at};
 
 use crate::walked::JointWalked;
-use joint_model::{MNum, PNum};
+use joint_machine::{MNum, PNum};
 use reachability::Walked;
 use std::alloc::{AllocError, Global};
 use std::marker::Model;

@@ -1,7 +1,7 @@
 // A joint marking of a small graph that is made by hand.
 
 use crate::{JointWalked, unreached_peers};
-use joint_model::{MNum, PNum};
+use joint_machine::{MNum, PNum};
 use std::alloc::AllocError;
 
 // The graph `chain` of specs/, which says what leads to what.

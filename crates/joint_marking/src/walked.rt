@@ -2,10 +2,10 @@
 
 ghost use Rattle.std.specs.Prelude.{◌≡◌, ℕ, ◌<◌, ◌≤◌, ◌↔◌, Some, IfSome, IsTrue, length};
 ghost use Rattle.std.specs.Option.{option_map};
-ghost use Rattle.joint_model.specs.Heaps.{MOST, IsLive, fields_of, slot};
-ghost use Rattle.joint_model.specs.Joint.{Graph, IsJoined};
+ghost use Rattle.joint_machine.specs.Heaps.{MOST, IsLive, fields_of, slot};
+ghost use Rattle.joint_machine.specs.Joint.{Graph, IsJoined};
 
-use joint_model::{MNum, PNum};
+use joint_machine::{MNum, PNum};
 
 /// Both heaps and the handles between them, as one graph that can be read.
 pub trait JointWalked {

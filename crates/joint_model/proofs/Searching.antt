@@ -1,5 +1,5 @@
--- The entry at a place of leaders and their followers, and the one with a number, where the numbers are in order. Both are found from the leader
--- before it: what that one leads stands in the list right there.
+-- The entry at a place of leaders and their followers, and the one with a number, where the numbers are in order. Both
+-- are found from the leader before it: what that one leads stands in the list right there.
 use Rattle.std.proofs.Common.{◌≡◌, ◌≢◌, inl, inr, Option, Some, None, slice_get, ℕ, zero, suc, ◌+◌, ◌-◌, ◌^◌, ◌<◌, ◌≤◌, List, [], ◌∷◌, ◌++◌, length, take, drop, sum_by, slice_index_or, slice_set, arith, subst, sym, ap, ◌∙◌}
 use Rattle.std.specs.Prelude.{All, Contains, MatchOption}
 use Rattle.std.specs.Ordering.{is_lt, nat_cmp, ordering_index}
@@ -12,13 +12,13 @@ use Rattle.std.proofs.lemmas.Option.{same_Some, slice_get_cases, slice_get_past}
 use Rattle.std.proofs.lemmas.List.Elements.{All-nil, All-cons, All-append, All-contains, Contains-append_left, Contains-append_right}
 use Rattle.std.proofs.lemmas.List.Sorted.{searchable_from_sorted}
 use Rattle.std.proofs.lemmas.List.Sums.{sum_by-append, sum_by-cons, sum_by_more}
-use Rattle.joint_model.specs.declared.names.HNum.{HNum}
-use Rattle.joint_model.specs.declared.events.Entry.{Entry}
+use Rattle.joint_machine.specs.declared.names.HNum.{HNum}
+use Rattle.joint_machine.specs.declared.events.Entry.{Entry}
 use Rattle.joint_model.specs.declared.leaders.Leader.{Leader}
 use Rattle.joint_model.specs.Leaders.{follower_of, followers_of, led, spelled, AreFollowed, Starts}
 use Rattle.joint_model.specs.Merged.{Ascends}
-use Rattle.joint_model.proofs.Deciding.{none_some}
-use Rattle.joint_model.proofs.Members.{Contains-at, Contains-here}
+use Rattle.joint_machine.proofs.Deciding.{none_some}
+use Rattle.joint_machine.proofs.Members.{Contains-at, Contains-here}
 use Rattle.joint_model.proofs.Merging.{compared, not-less}
 use Rattle.joint_model.proofs.Spelling.{length-followers, spelled-append, spelled_length}
 

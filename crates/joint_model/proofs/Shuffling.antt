@@ -1,20 +1,20 @@
--- The lists of a history's lines 0 to 9, one for each side and each reader, are a shuffle of it: each entry by a thread of the script stands in exactly one
--- of these lines, by its event. And lists are a shuffle of one whole.
+-- The lists of a history's lines 0 to 9, one for each side and each reader, are a shuffle of it: each entry by a thread
+-- of the script stands in exactly one of these lines, by its event. And lists are a shuffle of one whole.
 use Rattle.std.proofs.Common.{◌≡◌, ◌⊎◌, inl, inr, ℕ, zero, suc, ◌+◌, ◌<◌, ◌≤◌, Bool, true, false, ◌||◌, List, [], ◌∷◌, length, map, sum_by, slice_index_or, refl, sym, ap, ◌∙◌, subst, arith}
 use Rattle.std.specs.Prelude.{◌==◌, if◌then◌else◌, All, Contains}
 use Rattle.std.proofs.lemmas.Bool.{cases_eq, eq-eqb, ne_eqb}
 use Rattle.std.proofs.lemmas.List.Elements.{All-nil, All-cons}
 use Rattle.std.proofs.lemmas.List.Sums.{sum_by-cons}
-use Rattle.joint_model.specs.declared.names.Thread.{Thread}
-use Rattle.joint_model.specs.declared.names.Thread.TheVariants.{M, P, C}
-use Rattle.joint_model.specs.declared.events.Entry.{Entry}
-use Rattle.joint_model.specs.Components.{Rises}
-use Rattle.joint_model.specs.Draws.{NumberedFrom}
-use Rattle.joint_model.specs.Histories.{IsPlaced, IsShuffle}
-use Rattle.joint_model.specs.HistoryLines.{caller_line, side_line, stands_in, entries_in}
-use Rattle.joint_model.specs.Lines.{IsThread, is_peer_event, is_read, reader_line}
-use Rattle.joint_model.proofs.Joining.{placed_all}
-use Rattle.joint_model.proofs.Members.{All-members, Contains-here, Contains-there, Contains-cons_cases, Contains-map_cases}
+use Rattle.joint_machine.specs.declared.names.Thread.{Thread}
+use Rattle.joint_machine.specs.declared.names.Thread.TheVariants.{M, P, C}
+use Rattle.joint_machine.specs.declared.events.Entry.{Entry}
+use Rattle.joint_machine.specs.Components.{Rises}
+use Rattle.joint_machine.specs.Histories.{NumberedFrom}
+use Rattle.joint_machine.specs.Shuffles.{IsPlaced, IsShuffle}
+use Rattle.joint_machine.specs.HistoryLines.{caller_line, side_line, stands_in, entries_in, reader_line}
+use Rattle.joint_machine.specs.Lines.{IsThread, is_peer_event, is_read}
+use Rattle.joint_machine.proofs.Joining.{placed_all}
+use Rattle.joint_machine.proofs.Members.{All-members, Contains-here, Contains-there, Contains-cons_cases, Contains-map_cases}
 use Rattle.joint_model.proofs.Merging.{NumberedFrom-high, merged_all-whole}
 
 -- what stands in a line of the whole is an entry of it, and the other way round

@@ -1,14 +1,14 @@
--- Two lists whose entries are numbered one after the other when they are put into one: what comes next, and that the followers of a leader come right
--- after it.
+-- Two lists whose entries are numbered one after the other when they are put into one: what comes next, and that the
+-- followers of a leader come right after it.
 use Rattle.std.proofs.Common.{◌≡◌, ℕ, suc, ◌+◌, ◌≤◌, inl, inr, Bool, true, false, List, [], ◌∷◌, ◌++◌, Option, Some, None, nat_lt, arith, refl, subst, sym, ap, ◌∙◌}
 use Rattle.std.specs.Prelude.{if◌then◌else◌, MatchOption}
 use Rattle.std.proofs.lemmas.Bool.{cases_lt, ltb-true, ltb-false}
-use Rattle.joint_model.specs.declared.names.HNum.{HNum}
-use Rattle.joint_model.specs.declared.events.Entry.{Entry}
-use Rattle.joint_model.specs.Draws.{NumberedFrom}
+use Rattle.joint_machine.specs.declared.names.HNum.{HNum}
+use Rattle.joint_machine.specs.declared.events.Entry.{Entry}
+use Rattle.joint_machine.specs.Histories.{NumberedFrom}
 use Rattle.joint_model.specs.Leaders.{follower_of, followers_of}
 use Rattle.joint_model.specs.Merged.{entries_below, entries_from, merged, GoesOnInOther, IsNumbered}
-use Rattle.joint_model.proofs.Members.{Contains-here}
+use Rattle.joint_machine.proofs.Members.{Contains-here}
 use Rattle.joint_model.proofs.Merging.{merged-other, NumberedFrom-high}
 
 takes-other : (xs ys : List Entry) (y : Entry) → GoesOnInOther xs (y ∷ ys) → merged xs (y ∷ ys) ≡ y ∷ merged xs ys

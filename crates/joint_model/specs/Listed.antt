@@ -1,10 +1,10 @@
 -- What contracts see of a list with room that is known.
 use Rattle.std.specs.Prelude.{ℕ, List, [], ◌∷◌, ◌++◌, Option, Some, None, map}
 use Rattle.std.specs.declared.snapshot.Snapshot.{Snapshot}
-use Rattle.joint_model.specs.declared.events.Entry.{Entry}
+use Rattle.joint_machine.specs.declared.events.Entry.{Entry}
 use Rattle.joint_model.specs.declared.lists.Holding.{Holding}
-use Rattle.joint_model.specs.declared.names.HNum.{HNum}
-use Rattle.joint_model.specs.Told.{Answer, said_alive, said_cleared}
+use Rattle.joint_machine.specs.declared.names.HNum.{HNum}
+use Rattle.joint_machine.specs.Told.{Answer, said_alive, said_cleared}
 
 -- entries as they are kept, and for how many more there is room
 pub record Shelf : Type 0 where
@@ -21,6 +21,10 @@ pub record Stock : Type 0 where
   pub entries : List Entry
   pub spare : ℕ
   pub holding : Holding
+
+-- the lists of the sides and readers, as lists of entries
+abbrev pub entry_lists : List Stock → List (List Entry)
+entry_lists stocks = map (λ s. s.entries) stocks
 
 -- the answers of a cycle's candidates, and for how many more there is room
 pub record Answers : Type 0 where

@@ -1,42 +1,32 @@
 // Where the numbers of entries come from.
 
 ghost use Rattle.std.specs.Prelude.{◌≡◌, ℕ, ◌+◌, ◌-◌, ◌^◌, ◌≤◌, ◌<◌, ◌++◌, ◌↔◌, List, Option, None, IsTrue, map, length, ⊤};
-ghost use Rattle.joint_model.specs.declared.names.MNum.{MNum};
-ghost use Rattle.joint_model.specs.declared.names.Thread.{Thread};
-ghost use Rattle.joint_model.specs.declared.events.Entry.{Entry};
-ghost use Rattle.joint_model.specs.declared.events.Op.{Op};
-ghost use Rattle.joint_model.specs.Lines.{is_peer_event};
-ghost use Rattle.joint_model.specs.Draws.{numbered, Drawn, DrewInTurn, NumberedFrom, CountDrew};
+ghost use Rattle.joint_machine.specs.declared.names.MNum.{MNum};
+ghost use Rattle.joint_machine.specs.declared.names.Thread.{Thread};
+ghost use Rattle.joint_machine.specs.declared.events.Entry.{Entry};
+ghost use Rattle.joint_machine.specs.declared.events.Op.{Op};
+ghost use Rattle.joint_machine.specs.Lines.{is_peer_event};
+ghost use Rattle.joint_machine.specs.Draws.{numbered, counting, Drawing, Drawn, DrewInTurn, CountDrew};
+ghost use Rattle.joint_machine.specs.Histories.{NumberedFrom};
 
-use crate::events::Made;
-use crate::names::MNum;
+use joint_machine::{MNum, Made};
 use std::marker::Model;
 
 /// What gives an entry its number: one step for each entry, in the order of the whole history.
-///
-/// `floor` lies above every number drawn so far, `left` says how many draws are surely possible, `may`
-/// which caller may draw for which event, and `drew` relates the object before a draw, what was drawn, and
-/// the object after it.
 pub trait Draw {
-    ghost floor: { Self → ℕ };
-
-    ghost left: { Self → ℕ };
-
-    ghost may: { Self → Thread → Op → Option MNum → Type 0 };
-
-    ghost drew: { Self → Entry → Option MNum → List MNum → Self → Type 0 };
+    ghost rules: { Drawing Self };
 
     /// Gives the entry its number. `target` is the object to which a `weak` that answers `ok` sets its
     /// cell, and None for every other entry. `freed` holds the managed numbers that a snap or a resolve
     /// frees, and is empty for every other entry.
     fn draw(&mut self, made: &Made, target: Option<MNum>, freed: &[MNum]) -> u64
-        requires left { 1 ≤ left self.old }
-        requires may { may self.old made.now.caller made.now.op target }
-        ensures low { floor self.old ≤ result }
-        ensures high { result < floor self.new }
-        ensures left { left self.old ≤ left self.new + 1 }
-        ensures may { (t : Thread) (o : Op) → IsTrue (is_peer_event t o) → (may self.old t o None ↔ may self.new t o None) }
-        ensures drew { drew self.old (numbered result made.now) target freed.now self.new };
+        requires left { 1 ≤ rules.left self.old }
+        requires may { rules.may self.old made.now.caller made.now.op target }
+        ensures low { rules.floor self.old ≤ result }
+        ensures high { result < rules.floor self.new }
+        ensures left { rules.left self.old ≤ rules.left self.new + 1 }
+        ensures may { (t : Thread) (o : Op) → IsTrue (is_peer_event t o) → (rules.may self.old t o None ↔ rules.may self.new t o None) }
+        ensures drew { rules.drew self.old (numbered result made.now) target freed.now self.new };
 }
 
 /// The plain count: it draws 0, 1, 2 and so on.
@@ -65,13 +55,7 @@ impl Counter {
 }
 
 impl Draw for Counter {
-    ghost floor = { λ c. c };
-
-    ghost left = { λ c. 2 ^ 63 - c };
-
-    ghost may = { λ c t o m. ⊤ };
-
-    ghost drew = { CountDrew };
+    ghost rules = { counting };
 
     fn draw(&mut self, _made: &Made, _target: Option<MNum>, _freed: &[MNum]) -> u64 {
         let number = self.count;
@@ -88,5 +72,5 @@ pub fn counted_in_turn()
 
 /// The law of every draw: what was drawn in turn, and then more in turn, was drawn in turn as one list.
 pub fn drawn_in_turn<D: Draw>()
-    ensures { (a b c : D) (xs ys : List Drawn) → DrewInTurn D.drew a xs b → DrewInTurn D.drew b ys c → DrewInTurn D.drew a (xs ++ ys) c }
+    ensures { (a b c : D) (xs ys : List Drawn) → DrewInTurn D.rules.drew a xs b → DrewInTurn D.rules.drew b ys c → DrewInTurn D.rules.drew a (xs ++ ys) c }
 {}

@@ -3,21 +3,21 @@
 ghost use Rattle.std.specs.Prelude.{◌≡◌, ◌≢◌, All, Contains, MatchOption, ◌+◌, ◌≤◌, ◌<◌, ◌==◌, [], ◌∷◌, ◌++◌, length, slice_get, vec_len, vec_capacity, IfOk, OnErr, OnOk};
 ghost use Rattle.joint_model.specs.Merged.{Ascends};
 
-use crate::events::Entry;
 use crate::leaders::{Leader, Rest, entry_at, entry_with, put_follower};
-use crate::names::HNum;
+use joint_machine::{Entry, HNum};
 use std::alloc::{AllocError, Global};
 use std::marker::Model;
 
 /// The most entries that a list holds.
 pub(crate) const MOST: u32 = 4_294_967_295;
 
-/// For how many entries room is made at least, where there is memory for them: 32 MiB, and 2 MiB for those that are kept by their handles. Room
-/// that nothing is put into takes no memory, and so large a piece lies outside of the allocator's heap: where it grows, its pages are moved and
-/// no entry is copied.
+/// For how many entries room is made at least, where there is memory for them: 32 MiB, and 2 MiB for those that are
+/// kept by their handles. Room that nothing is put into takes no memory, and so large a piece lies outside of the
+/// allocator's heap: where it grows, its pages are moved and no entry is copied.
 pub(crate) const BLOCK: usize = 524_288;
 
-/// Entries in the order in which they were put, and room for more of them. An entry takes at most 64 bytes, or four: see [`Kept::push_handle`].
+/// Entries in the order in which they were put, and room for more of them. An entry takes at most 64 bytes, or four:
+/// see [`Kept::push_handle`].
 #[derive(Drop)]
 pub(crate) struct Kept {
     leaders: Vec<Leader>,
@@ -37,8 +37,8 @@ impl Model for Kept {
     ghost invariant = { λ s. AreFollowed s.leaders.items s.followers.items × Starts 0 s.leaders.items × (vec_len s.leaders + vec_len s.followers + s.spare ≤ 4294967295) × (vec_len s.leaders + s.spare ≤ vec_capacity s.leaders) × (vec_len s.followers + s.spare ≤ vec_capacity s.followers) };
 }
 
-// Makes room for at least `n` more items, and for a whole block of them where there is memory for it. Answers `AllocError` where there is
-// no memory for `n`.
+// Makes room for at least `n` more items, and for a whole block of them where there is memory for it. Answers
+// `AllocError` where there is no memory for `n`.
 fn make_room<T>(list: &mut Vec<T>, n: usize, block: usize) -> Result<(), AllocError>
     ensures room { OnOk result (vec_len list.new + n ≤ vec_capacity list.new) }
     ensures kept { vec_capacity list.old ≤ vec_capacity list.new }
@@ -62,8 +62,9 @@ impl Kept {
         }
     }
 
-    /// Makes room for `n` more entries at least, of at most `most` in all, and for a block of them where there is memory for it. Answers
-    /// `AllocError`, with nothing changed, where there is no memory for `n`, or where they would be more than `most`.
+    /// Makes room for `n` more entries at least, of at most `most` in all, and for a block of them where there is
+    /// memory for it. Answers `AllocError`, with nothing changed, where there is no memory for `n`, or where they would
+    /// be more than `most`.
     #[tactic(auto, using(crate::proofs::Spelling::spelled_length))]
     pub(crate) fn grow(&mut self, n: u32, most: u32, block: usize) -> Result<(), AllocError>
         requires { length self.old.entries + self.old.spare ≤ most }
@@ -98,8 +99,8 @@ impl Kept {
         self.spare -= 1;
     }
 
-    /// Puts an entry last as `push` does. Where it differs from the one before it by its number, one higher, and the handle that it weakens or
-    /// restores, it takes four bytes.
+    /// Puts an entry last as `push` does. Where it differs from the one before it by its number, one higher, and the
+    /// handle that it weakens or restores, it takes four bytes.
     #[inline(always)]
     pub(crate) fn push_handle(&mut self, entry: Entry)
         requires { 1 ≤ self.old.spare }
@@ -144,7 +145,8 @@ impl Kept {
         self.len() == 0
     }
 
-    /// The entry at place `i`, from 0; None exactly where `i` isn't below the length. It is searched for among the leaders.
+    /// The entry at place `i`, from 0; None exactly where `i` isn't below the length. It is searched for among the
+    /// leaders.
     pub(crate) fn at(&self, i: u32) -> Option<Entry>
         ensures { result ≡ slice_get self.now.entries i }
     {

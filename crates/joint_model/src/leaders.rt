@@ -1,16 +1,16 @@
-// How a list keeps its entries: where one differs from the one before it by its number, one higher, and by the handle that it weakens or
-// restores, the handle alone is kept. A cycle over many candidates makes many such entries.
+// How a list keeps its entries: where one differs from the one before it by its number, one higher, and by the handle
+// that it weakens or restores, the handle alone is kept. A cycle over many candidates makes many such entries.
 
 ghost use Rattle.std.specs.Prelude.{◌≡◌, ◌≢◌, All, Contains, ◌+◌, ◌<◌, ◌≤◌, ◌^◌, ◌↔◌, List, [], ◌∷◌, ◌++◌, length, slice_get, slice_index_or, vec_len, vec_capacity, IfSome, IsTrue, IsFalse, MatchOption};
 ghost use Rattle.joint_model.specs.Leaders.{follower_of, followers_of, led, reply_after, spelled, AreFollowed, Starts};
 ghost use Rattle.joint_model.specs.Merged.{Ascends, IsNextInOther, first_number, merged, IsNumbered};
 
-use crate::events::{Entry, Made, Op, Reply};
-use crate::names::{HNum, Thread};
 use crate::packed::PackedEntry;
+use joint_machine::{Entry, HNum, Made, Op, Reply, Thread};
 use std::marker::Model;
 
-/// An entry, and how many after it differ from it by their numbers and handles alone. The handles of those stand from place `from` on.
+/// An entry, and how many after it differ from it by their numbers and handles alone. The handles of those stand from
+/// place `from` on.
 #[derive(Drop)]
 pub(crate) struct Leader {
     pub(crate) entry: PackedEntry,
@@ -92,7 +92,8 @@ impl Leader {
         }
     }
 
-    // The entry `i` places after it, where those are the handles of its list; None exactly where it has fewer followers.
+    // The entry `i` places after it, where those are the handles of its list; None exactly where it has fewer
+    // followers.
     fn entry_after(&self, followers: &[HNum], i: u64) -> Option<Entry>
         requires { self.now.from + self.now.followers ≤ length followers.now }
         ensures { result ≡ slice_get (led self.now followers.now) i }
@@ -116,8 +117,8 @@ impl Leader {
     }
 }
 
-// Whether a reply is that of follower `i`: the same, or the handle that a restore gave is `i` higher. Other replies than those of a weakening
-// and a restore don't count.
+// Whether a reply is that of follower `i`: the same, or the handle that a restore gave is `i` higher. Other replies
+// than those of a weakening and a restore don't count.
 #[inline(always)]
 fn is_reply_after(own: &Reply, i: u32, reply: &Reply) -> bool
     ensures { IsTrue result → reply.now ≡ reply_after own.now i }
@@ -129,7 +130,8 @@ fn is_reply_after(own: &Reply, i: u32, reply: &Reply) -> bool
     }
 }
 
-// Puts an entry last, as a follower of the last leader where it is that, else as a leader of its own. It takes no memory.
+// Puts an entry last, as a follower of the last leader where it is that, else as a leader of its own. It takes no
+// memory.
 #[inline(always)]
 pub(crate) fn put_follower(leaders: &mut Vec<Leader>, followers: &mut Vec<HNum>, entry: Entry)
     requires followed { AreFollowed leaders.old.items followers.old.items }
@@ -172,7 +174,8 @@ pub(crate) fn entry_with(leaders: &[Leader], followers: &[HNum], number: u64) ->
     }
 }
 
-// The last leader that stands at the place or before it. A leader stands after those before it and all that follow them.
+// The last leader that stands at the place or before it. A leader stands after those before it and all that follow
+// them.
 fn leader_before(leaders: &[Leader], place: usize) -> usize
     requires some { 0 < length leaders.now }
     requires starts { Starts 0 leaders.now }
@@ -225,7 +228,7 @@ pub(crate) struct Rest<'a> {
 
 impl<'a> Model for Rest<'a> {
     ghost use Rattle.std.specs.Prelude.{List};
-    ghost use Rattle.joint_model.specs.declared.events.Entry.{Entry};
+    ghost use Rattle.joint_machine.specs.declared.events.Entry.{Entry};
     ghost use Rattle.joint_model.specs.Leaders.{spelled, AreFollowed};
 
     ghost Value = { List Entry };
@@ -279,8 +282,8 @@ pub(crate) fn is_next_in_other(one: Option<u64>, other: Option<u64>) -> bool
     }
 }
 
-// Takes the next leader of both lists, with the handles of its followers; None where none is left. No entry of the one list lies between a leader
-// of the other and its followers, since those have the numbers after it.
+// Takes the next leader of both lists, with the handles of its followers; None where none is left. No entry of the one
+// list lies between a leader of the other and its followers, since those have the numbers after it.
 #[inline(always)]
 pub(crate) fn next_leader<'a>(
     one: &mut Rest<'a>,

@@ -4,9 +4,8 @@
 ghost use Rattle.std.specs.Prelude.{◌≡◌, ◌+◌, ◌<◌, ◌≤◌, ◌==◌, [], ◌∷◌, ◌++◌, length, slice_get, IfOk, IfSome, MatchOption, OnErr};
 ghost use Rattle.joint_model.specs.declared.lists.Holding.TheVariants.{Every, Last};
 
-use crate::events::Entry;
 use crate::kept::{BLOCK, Kept, MOST};
-use crate::names::HNum;
+use joint_machine::{Entry, HNum};
 use std::alloc::{AllocError, Global};
 use std::marker::Model;
 use std::snapshot::Snapshot;
@@ -47,8 +46,8 @@ impl Model for Entries {
     ghost invariant = { λ s. (s.gone ≡ length (passed s.past.items)) × (s.gone + length s.kept.entries + s.kept.spare ≤ 4294967295) × (s.holding ≡ Every → s.gone ≡ 0) };
 }
 
-/// An empty list, with room for `n` items where there is memory for it; else it grows as it needs. Room that nothing is put into takes no memory,
-/// and a list that never grows is never copied.
+/// An empty list, with room for `n` items where there is memory for it; else it grows as it needs. Room that nothing is
+/// put into takes no memory, and a list that never grows is never copied.
 pub fn list_with_room<T>(alloc: Global, n: usize) -> Vec<T>
     ensures { result.items ≡ [] }
 {
@@ -106,9 +105,10 @@ impl Entries {
         self.kept.grow(n, MOST - self.gone, block)
     }
 
-    /// Makes room: afterwards `spare` is at least `n`, and never less than it was. It is made for many entries at once, so most calls
-    /// find it there. Answers `AllocError` where there is no memory for `n` entries, or where the list would hold more than
-    /// 4,294,967,295 entries; the list is then as before. Where it holds the last entries alone, this call may let the others go.
+    /// Makes room: afterwards `spare` is at least `n`, and never less than it was. It is made for many entries at once,
+    /// so most calls find it there. Answers `AllocError` where there is no memory for `n` entries, or where the list
+    /// would hold more than 4,294,967,295 entries; the list is then as before. Where it holds the last entries alone,
+    /// this call may let the others go.
     pub fn reserve(&mut self, n: u32) -> Result<(), AllocError>
         ensures room { IfOk result (λ _. n ≤ self.new.spare) }
         ensures kept { self.old.spare ≤ self.new.spare }
@@ -134,8 +134,8 @@ impl Entries {
         self.kept.push(entry);
     }
 
-    /// Puts an entry last as `push` does. Where it differs from the one before it by its number, one higher, and the handle that it weakens or
-    /// restores, it takes four bytes.
+    /// Puts an entry last as `push` does. Where it differs from the one before it by its number, one higher, and the
+    /// handle that it weakens or restores, it takes four bytes.
     #[inline(always)]
     pub fn push_handle(&mut self, entry: Entry)
         requires { 1 ≤ self.old.spare }
@@ -168,8 +168,9 @@ impl Entries {
         self.len() == 0
     }
 
-    /// The entry at place `i`, from 0. Of a list that holds every entry, None exactly where `i` isn't below the length; of one that holds the last
-    /// ones, None also where it has let that entry go. It is searched for, in a time that goes by the logarithm of the number of entries.
+    /// The entry at place `i`, from 0. Of a list that holds every entry, None exactly where `i` isn't below the length;
+    /// of one that holds the last ones, None also where it has let that entry go. It is searched for, in a time that
+    /// goes by the logarithm of the number of entries.
     pub fn at(&self, i: u32) -> Option<Entry>
         ensures every { self.now.holding ≡ Every → result ≡ slice_get self.now.entries i }
         ensures entry { IfSome result (λ entry. slice_get self.now.entries i ≡ Some entry) }
@@ -188,8 +189,8 @@ impl Entries {
     }
 }
 
-/// One value for each candidate of a cycle, in rising managed number: the handle that its restore gave, or None where it
-/// answered cleared.
+/// One value for each candidate of a cycle, in rising managed number: the handle that its restore gave, or None where
+/// it answered cleared.
 #[derive(Drop)]
 pub struct Alive {
     values: Vec<Option<HNum>>,

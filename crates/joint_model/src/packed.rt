@@ -1,10 +1,9 @@
-// An entry as a list keeps it. Whether a number is cited takes a byte beside the caller, so that an entry and what a leader has beside it fit in
-// 64 bytes.
+// An entry as a list keeps it. Whether a number is cited takes a byte beside the caller, so that an entry and what a
+// leader has beside it fit in 64 bytes.
 
 ghost use Rattle.std.specs.Prelude.{◌≡◌, Some, None, if◌then◌else◌};
 
-use crate::events::{Entry, Made, Op, Reply};
-use crate::names::Thread;
+use joint_machine::{Entry, Made, Op, Reply, Thread};
 use std::marker::Model;
 
 /// An entry in fewer bytes, as a list keeps it.
@@ -23,7 +22,7 @@ const _: () = prove!(size_of::<PackedEntry>() <= 56);
 
 impl Model for PackedEntry {
     ghost use Rattle.std.specs.Prelude.{Some, None, if◌then◌else◌};
-    ghost use Rattle.joint_model.specs.declared.events.Entry.{Entry};
+    ghost use Rattle.joint_machine.specs.declared.events.Entry.{Entry};
 
     ghost Value = { Entry };
 

@@ -1,10 +1,11 @@
 // A finished run of which no entry is read.
 
 ghost use Rattle.std.specs.Prelude.{◌≡◌};
-ghost use Rattle.joint_model.specs.Histories.{IsJoinable, IsShuffle, entry_lists};
+ghost use Rattle.joint_machine.specs.Shuffles.{IsJoinable, IsShuffle};
+ghost use Rattle.joint_model.specs.Listed.{entry_lists};
 
 use crate::lists::Entries;
-use crate::names::{MNum, PNum};
+use joint_machine::{MNum, PNum};
 use std::marker::Model;
 use std::snapshot::Snapshot;
 
@@ -18,7 +19,8 @@ pub struct PastHistory {
 }
 
 impl Model for PastHistory {
-    ghost use Rattle.joint_model.specs.Histories.{Finished, entry_lists};
+    ghost use Rattle.joint_machine.specs.Histories.{Finished};
+    ghost use Rattle.joint_model.specs.Listed.{entry_lists};
     ghost use Rattle.joint_model.specs.Merged.{merged_all};
 
     ghost Value = { Finished };
@@ -27,8 +29,9 @@ impl Model for PastHistory {
 }
 
 impl PastHistory {
-    /// Joins the lists of both sides and of the eight readers into one history, as [`History::join`](crate::History::join) does, under the same
-    /// condition. It takes no memory, and a list may have let its entries go.
+    /// Joins the lists of both sides and of the eight readers into one history, as
+    /// [`History::join`](crate::History::join) does, under the same condition. It takes no memory, and a list may have
+    /// let its entries go.
     pub fn join(
         lists: [Entries; 10],
         freed_managed: Vec<MNum>,

@@ -1,17 +1,16 @@
 // The lists of both sides.
 
 ghost use Rattle.std.specs.Prelude.{◌≡◌, ℕ, ◌+◌, ◌≤◌, [], ◌∷◌, ◌++◌, length};
-ghost use Rattle.joint_model.specs.declared.events.Made.{Made};
-ghost use Rattle.joint_model.specs.Draws.{numbered, AllBelow};
-ghost use Rattle.joint_model.specs.ManagedReplay.{ManagedReplay};
-ghost use Rattle.joint_model.specs.PeerReplay.{PeerReplay};
-ghost use Rattle.joint_model.specs.Sides.{Side, managed_rules, peer_rules, GoesOn, IsReplayed, DrawsLast};
-ghost use Rattle.joint_model.specs.Told.{Told};
+ghost use Rattle.joint_machine.specs.declared.events.Made.{Made};
+ghost use Rattle.joint_machine.specs.Draws.{numbered, AllBelow};
+ghost use Rattle.joint_machine.specs.ManagedReplay.{ManagedReplay};
+ghost use Rattle.joint_machine.specs.PeerReplay.{PeerReplay};
+ghost use Rattle.joint_machine.specs.Sides.{Side, managed_rules, peer_rules, GoesOn, IsReplayed, DrawsLast};
+ghost use Rattle.joint_machine.specs.Told.{Told};
 
 use crate::draws::Draw;
-use crate::events::{Entry, Made};
 use crate::lists::Entries;
-use crate::names::MNum;
+use joint_machine::{Entry, MNum, Made};
 
 /// The law of a side's list: where one entry was put last that may come next, with a number above
 /// those before it, and the state is the one after it, the side is again the replay of its entries.
@@ -29,10 +28,10 @@ pub fn enter<D: Draw>(
     freed: &[MNum],
 ) -> u64
     requires spare { 1 ≤ entries.old.spare }
-    requires below { AllBelow entries.old.entries (D.floor draw.old) }
-    requires room { 4294967295 ≤ D.left draw.old + length entries.old.entries }
-    requires may { D.may draw.old made.caller made.op target }
-    ensures draws { DrawsLast (record { floor = D.floor; left = D.left; may = D.may; drew = D.drew }) draw.old draw.new entries.old.entries entries.new.entries made target freed.now }
+    requires below { AllBelow entries.old.entries (D.rules.floor draw.old) }
+    requires room { 4294967295 ≤ D.rules.left draw.old + length entries.old.entries }
+    requires may { D.rules.may draw.old made.caller made.op target }
+    ensures draws { DrawsLast D.rules draw.old draw.new entries.old.entries entries.new.entries made target freed.now }
     ensures number { entries.new.entries ≡ entries.old.entries ++ numbered result made ∷ [] }
     ensures spare { entries.new.spare + 1 ≡ entries.old.spare }
 {
@@ -49,10 +48,10 @@ pub fn enter<D: Draw>(
 #[inline(always)]
 pub fn enter_handle<D: Draw>(entries: &mut Entries, draw: &mut D, made: Made) -> u64
     requires spare { 1 ≤ entries.old.spare }
-    requires below { AllBelow entries.old.entries (D.floor draw.old) }
-    requires room { 4294967295 ≤ D.left draw.old + length entries.old.entries }
-    requires may { D.may draw.old made.caller made.op None }
-    ensures draws { DrawsLast (record { floor = D.floor; left = D.left; may = D.may; drew = D.drew }) draw.old draw.new entries.old.entries entries.new.entries made None [] }
+    requires below { AllBelow entries.old.entries (D.rules.floor draw.old) }
+    requires room { 4294967295 ≤ D.rules.left draw.old + length entries.old.entries }
+    requires may { D.rules.may draw.old made.caller made.op None }
+    ensures draws { DrawsLast D.rules draw.old draw.new entries.old.entries entries.new.entries made None [] }
     ensures number { entries.new.entries ≡ entries.old.entries ++ numbered result made ∷ [] }
     ensures spare { entries.new.spare + 1 ≡ entries.old.spare }
 {

@@ -3,12 +3,12 @@ use Rattle.std.proofs.Common.{◌≡◌, ℕ, zero, suc, ◌+◌, arith, replica
 use Rattle.std.specs.List.{All}
 use Rattle.std.specs.Option.{option_map}
 use Rattle.std.proofs.lemmas.List.Elements.{All-nil, All-cons, All-head, All-tail}
-use Rattle.joint_model.specs.Heaps.{numbered_set}
-use Rattle.joint_model.specs.Joint.{Joint}
-use Rattle.joint_model.specs.Managed.{Managed, handle_of, renewed}
-use Rattle.joint_model.specs.Run.{answered_for, is_that_handle}
-use Rattle.joint_model.specs.Told.{Answer, said_alive, said_cleared}
-use Rattle.joint_model.proofs.Numbered.{numbered_set-length}
+use Rattle.joint_machine.specs.Heaps.{numbered_set}
+use Rattle.joint_machine.specs.Joint.{Joint}
+use Rattle.joint_machine.specs.Managed.{Managed, handle_of, renewed}
+use Rattle.joint_machine.specs.Run.{answered_for, is_that_handle}
+use Rattle.joint_machine.specs.Told.{Answer, said_alive, said_cleared}
+use Rattle.joint_machine.proofs.Numbered.{numbered_set-length}
 use Rattle.joint_replay.specs.declared.answers.Said.{Said}
 use Rattle.joint_replay.specs.Answers.{said_as, answers_as, AreAnswered, IsGiven, IsMissing, given_in, put_where, handle_in, renew_one, renewed_by}
 

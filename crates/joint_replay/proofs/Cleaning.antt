@@ -1,11 +1,11 @@
 -- The graph with clean heaps has the same edges and the same roots as the graph itself, so the same rows are reached.
 use Rattle.std.proofs.Common.{ℕ, ◌↔◌, inl, inr, map, Some, sym, subst}
 use Rattle.std.specs.Prelude.{Contains}
-use Rattle.joint_model.specs.Heaps.{Heap, HasField, fields_of}
-use Rattle.joint_model.specs.Joint.{Graph, Row, object, peer, IsJoined, JointEdge, IsJointRoot, IsReachedIn}
-use Rattle.joint_model.specs.Managed.{Holds}
-use Rattle.joint_model.proofs.WalkLemmas.{Reached-mono}
-use Rattle.joint_model.proofs.Members.{Contains-map, Contains-map_cases}
+use Rattle.joint_machine.specs.Heaps.{Heap, HasField, fields_of}
+use Rattle.joint_machine.specs.Joint.{Graph, Row, object, peer, IsJoined, JointEdge, IsJointRoot, IsReachedIn}
+use Rattle.joint_machine.specs.Managed.{Holds}
+use Rattle.joint_machine.proofs.WalkLemmas.{Reached-mono}
+use Rattle.joint_machine.proofs.Members.{Contains-map, Contains-map_cases}
 use Rattle.joint_marking.specs.Nodes.{IsLiveRoot}
 use Rattle.joint_replay.specs.Graphs.{clean_graph}
 use Rattle.joint_replay.specs.Plain.{cleaned, kept_target}

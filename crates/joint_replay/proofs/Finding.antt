@@ -6,20 +6,19 @@ use Rattle.std.specs.Option.{option_map}
 use Rattle.std.proofs.lemmas.List.{length-map}
 use Rattle.std.proofs.lemmas.List.Elements.{Contains-push, Contains-push_cases, Contains-append_left}
 use Rattle.std.proofs.lemmas.Option.{slice_get-map}
-use Rattle.joint_model.specs.Heaps.{Heap, IsLive, HasField, InSlot, fields_of}
-use Rattle.joint_model.specs.Walks.{Reached}
-use Rattle.joint_model.proofs.WalkLemmas.{Reached-mono, Reached-keeps, Reached-start, Reached-then}
-use Rattle.joint_model.proofs.Members.{Contains-nil, Contains-map, Contains-map_cases, take-next}
-use Rattle.joint_model.proofs.Deciding.{true-false, false-from}
+use Rattle.joint_machine.specs.Heaps.{Heap, IsLive, HasField, InSlot, fields_of}
+use Rattle.joint_machine.specs.Walks.{Reached}
+use Rattle.joint_machine.proofs.WalkLemmas.{Reached-mono, Reached-keeps, Reached-start, Reached-then}
+use Rattle.joint_machine.proofs.Members.{Contains-nil, Contains-map, Contains-map_cases, take-next}
+use Rattle.joint_machine.proofs.Deciding.{true-false, false-from}
 use Rattle.heap_rules.specs.Tidy.{live_fields}
 use Rattle.heap_rules.proofs.Sound.{IsLive-as}
 use Rattle.heap_rules.proofs.Targets.{live_fields-live, live_fields-held}
 use Rattle.reachability.specs.Marks.{Leads, HasMark, marked}
-use Rattle.joint_replay.specs.Found.{IsUnreachedRow, IsCandidateRow}
+use Rattle.joint_replay.specs.Found.{IsUnreachedRow, IsCandidateRow, IsRootReached, IsHandleReached}
 use Rattle.joint_replay.specs.Plain.{cleaned, kept_target, is_live}
 use Rattle.joint_marking.specs.Gathered.{Gains}
 use Rattle.joint_replay.specs.Roots.{IsNamedLive, IsNamedOrPinned, ListsExactly}
-use Rattle.joint_replay.specs.Found.{IsRootReached, IsHandleReached}
 use Rattle.joint_replay.specs.Finding.{FindsRows}
 use Rattle.joint_replay.proofs.Flags.{is_live-exact}
 use Rattle.reachability.proofs.Marking.{IsMarked-test, test-IsMarked}

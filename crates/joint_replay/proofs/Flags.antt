@@ -9,10 +9,10 @@ use Rattle.std.proofs.lemmas.List.{set_past}
 use Rattle.std.proofs.lemmas.List.Elements.{All-contains, Contains-append_cases, Contains-append_left, Contains-append_right, Contains-push, Contains-push_cases}
 use Rattle.std.proofs.lemmas.Map.Views.{list_any-from_Contains, Contains-from_any}
 use Rattle.std.proofs.lemmas.Option.{slice_get_within}
-use Rattle.joint_model.specs.Heaps.{Heap, MOST, IsMade, IsLive, is_freed, numbered_at, fields_of}
-use Rattle.joint_model.proofs.Joining.{same_or_not, slice_get-set_same, slice_get-set_other}
-use Rattle.joint_model.proofs.Numbered.{numbered-past, numbered-push_cases}
-use Rattle.joint_model.proofs.Deciding.{not-true, not-from}
+use Rattle.joint_machine.specs.Heaps.{Heap, MOST, IsMade, IsLive, is_freed, numbered_at, fields_of}
+use Rattle.joint_machine.proofs.Joining.{same_or_not, slice_get-set_same, slice_get-set_other}
+use Rattle.joint_machine.proofs.Numbered.{numbered-past, numbered-push_cases}
+use Rattle.joint_machine.proofs.Deciding.{not-true, not-from}
 use Rattle.heap_rules.proofs.Numbered.{row-none}
 use Rattle.joint_replay.specs.Plain.{IsFlagged, Lowers, is_live}
 

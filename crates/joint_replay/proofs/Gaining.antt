@@ -1,7 +1,7 @@
 -- Which handles a loop over their numbers has to ask.
 use Rattle.std.proofs.Common.{ℕ, ◌<◌, Bool, false, List, length, arith}
-use Rattle.joint_model.specs.Peers.{Peers}
-use Rattle.joint_model.proofs.Numbered.{numbered-within}
+use Rattle.joint_machine.specs.Peers.{Peers}
+use Rattle.joint_machine.proofs.Numbered.{numbered-within}
 use Rattle.joint_replay.specs.Graphs.{IsRooted}
 
 -- handle 0 leads nowhere, and no handle past the last one does

@@ -3,14 +3,14 @@ use Rattle.std.proofs.Common.{◌≡◌, ◌≤◌, ℕ, Bool, true, false, List
 use Rattle.std.specs.Prelude.{IfOk, OnErr, ◌||◌, slice_set}
 use Rattle.std.proofs.Math.Seq.{drop-length}
 use Rattle.std.proofs.lemmas.List.{append-nil}
-use Rattle.joint_model.specs.declared.names.Sort.{Sort}
-use Rattle.joint_model.specs.declared.names.Sort.TheVariants.{Framework}
-use Rattle.joint_model.specs.declared.events.Reply.{Reply}
-use Rattle.joint_model.specs.declared.events.Reply.TheVariants as says
-use Rattle.joint_model.specs.Heaps.{Answered, answer, slot, is_full, fields_of, with_var, next_number}
-use Rattle.joint_model.specs.Joint.{Joint, JointMarking}
-use Rattle.joint_model.specs.Peers.{Peers, Strength, held, raw, strong, sort_of, next_handle, handle_name, peer_name, with_handle, with_peer, handles_full, issued_since, peer_made, peer_read, landed, pair_made, peer_gripped, gripped, name_given, globalised}
-use Rattle.joint_model.specs.Run.{on_peers}
+use Rattle.joint_machine.specs.declared.names.Sort.{Sort}
+use Rattle.joint_machine.specs.declared.names.Sort.TheVariants.{Framework}
+use Rattle.joint_machine.specs.declared.events.Reply.{Reply}
+use Rattle.joint_machine.specs.declared.events.Reply.TheVariants as says
+use Rattle.joint_machine.specs.Heaps.{Answered, answer, slot, is_full, fields_of, with_var, next_number}
+use Rattle.joint_machine.specs.Joint.{Joint, JointMarking}
+use Rattle.joint_machine.specs.Peers.{Peers, Strength, held, raw, strong, sort_of, next_handle, handle_name, peer_name, with_handle, with_peer, handles_full, issued_since, peer_made, peer_read, landed, pair_made, peer_gripped, gripped, name_given, globalised}
+use Rattle.joint_machine.specs.Run.{on_peers}
 use Rattle.joint_replay.specs.declared.state.Verdict.{Verdict}
 use Rattle.joint_replay.specs.declared.state.Verdict.TheVariants.{Lawful, Unlawful}
 use Rattle.joint_replay.specs.Graphs.{KeepsStored}

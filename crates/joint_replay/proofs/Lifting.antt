@@ -1,7 +1,7 @@
 -- A verdict on the answer of a part of the joint state is one on the answer of the whole.
 use Rattle.std.proofs.Common.{refl, ap}
-use Rattle.joint_model.specs.declared.events.Reply.{Reply}
-use Rattle.joint_model.specs.Heaps.{Answered, answer}
+use Rattle.joint_machine.specs.declared.events.Reply.{Reply}
+use Rattle.joint_machine.specs.Heaps.{Answered, answer}
 use Rattle.joint_replay.specs.declared.state.Verdict.{Verdict}
 use Rattle.joint_replay.specs.declared.state.Verdict.TheVariants.{Lawful, Unlawful}
 use Rattle.joint_replay.specs.Judging.{Decides, Gives}

@@ -4,15 +4,15 @@ use Rattle.std.specs.Prelude.{MatchOption}
 use Rattle.std.specs.List.{All, Contains}
 use Rattle.std.proofs.lemmas.Bool.{false≢true, cases_Bool, eqb-true}
 use Rattle.std.proofs.lemmas.List.Elements.{All-nil, All-cons, All-contains}
-use Rattle.joint_model.specs.declared.events.Reply.{Reply}
-use Rattle.joint_model.specs.Heaps.{IsMade, numbered_at}
-use Rattle.joint_model.specs.Joint.{Joint}
-use Rattle.joint_model.specs.Managed.{Managed, OpenCycle, handle_of}
-use Rattle.joint_model.specs.Peers.{peer_of}
-use Rattle.joint_model.specs.Run.{JointRestore, joint_restored, is_that_handle}
-use Rattle.joint_model.proofs.Deciding.{none_some, some-same}
-use Rattle.joint_model.proofs.HeapLemmas.{Holds-handle_of}
-use Rattle.joint_model.proofs.Members.{Contains-here, Contains-there}
+use Rattle.joint_machine.specs.declared.events.Reply.{Reply}
+use Rattle.joint_machine.specs.Heaps.{IsMade, numbered_at}
+use Rattle.joint_machine.specs.Joint.{Joint}
+use Rattle.joint_machine.specs.Managed.{Managed, OpenCycle, handle_of}
+use Rattle.joint_machine.specs.Peers.{peer_of}
+use Rattle.joint_machine.specs.Run.{JointRestore, joint_restored, is_that_handle}
+use Rattle.joint_machine.proofs.Deciding.{none_some, some-same}
+use Rattle.joint_machine.proofs.HeapLemmas.{Holds-handle_of}
+use Rattle.joint_machine.proofs.Members.{Contains-here, Contains-there}
 use Rattle.joint_replay.specs.declared.state.Verdict.{Verdict}
 use Rattle.joint_replay.specs.Judging.{Decides, Gives}
 use Rattle.joint_replay.specs.Snaps.{HasCandidate, MayRestore}

@@ -1,10 +1,9 @@
 -- A list rises exactly where each number is larger than the one before it.
 use Rattle.std.proofs.Common.{◌≡◌, ℕ, zero, suc, ◌+◌, ◌<◌, ◌≤◌, List, [], ◌∷◌, length, get_or, subst, ◌-◌, arith}
 use Rattle.std.specs.Prelude.{All}
-use Rattle.std.proofs.lemmas.List.Elements.{All-nil, All-cons, All-head}
-use Rattle.joint_model.specs.Components.{Rises}
-use Rattle.joint_model.proofs.Members.{All-members}
-use Rattle.std.proofs.lemmas.List.Elements.{All-contains}
+use Rattle.std.proofs.lemmas.List.Elements.{All-nil, All-cons, All-head, All-contains}
+use Rattle.joint_machine.specs.Components.{Rises}
+use Rattle.joint_machine.proofs.Members.{All-members}
 
 pub Rises-step : (xs : List ℕ) (i : ℕ) → Rises xs → suc i < length xs → get_or xs i 0 < get_or xs (suc i) 0
 Rises-step [] i r l = absurd (omega (arith, l))

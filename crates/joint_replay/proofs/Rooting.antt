@@ -1,17 +1,18 @@
--- The live joint roots of a joint state: the live rows that a variable, a static or a pin names, and the live peers of the
--- handles that aren't removed and are raw and strong, or held and loose.
+-- The live joint roots of a joint state: the live rows that a variable, a static or a pin names, and the live peers of
+-- the handles that aren't removed and are raw and strong, or held and loose.
 use Rattle.std.proofs.Common.{◌≡◌, ℕ, ◌+◌, ◌↔◌, ◌⊎◌, inl, inr, Bool, true, List, [], ◌∷◌, ◌++◌, ◌<◌, ◌≤◌, length, set, take, Some, sym, ap, subst, ◌∙◌, arith}
 use Rattle.std.specs.Prelude.{Contains, All, slice_get}
 use Rattle.std.proofs.lemmas.List.{map-append}
 use Rattle.std.proofs.lemmas.List.Elements.{Contains-push, Contains-push_cases, Contains-append_left}
-use Rattle.joint_model.specs.declared.names.PNum.{PNum}
-use Rattle.joint_model.specs.Heaps.{IsLive, InSlot}
-use Rattle.joint_model.specs.Histories.{peer_numbers}
-use Rattle.joint_model.specs.Joint.{Graph, IsHandle, IsRawRoot, IsLooseRoot, IsReachedIn, object, peer, AreUnreached}
-use Rattle.joint_model.specs.Managed.{Managed, IsManagedRoot}
-use Rattle.joint_model.specs.Peers.{Peers}
-use Rattle.joint_model.proofs.Members.{Contains-map, All-members, take-next}
-use Rattle.joint_model.proofs.Numbered.{numbered-within}
+use Rattle.joint_machine.specs.declared.names.PNum.{PNum}
+use Rattle.joint_machine.specs.Heaps.{IsLive, InSlot}
+use Rattle.joint_machine.specs.Histories.{peer_numbers}
+use Rattle.joint_machine.specs.Joint.{Graph, IsHandle, IsRawRoot, IsLooseRoot, IsReachedIn, object, peer}
+use Rattle.joint_machine.specs.Replaying.{AreUnreached}
+use Rattle.joint_machine.specs.Managed.{Managed, IsManagedRoot}
+use Rattle.joint_machine.specs.Peers.{Peers}
+use Rattle.joint_machine.proofs.Members.{Contains-map, All-members, take-next}
+use Rattle.joint_machine.proofs.Numbered.{numbered-within}
 use Rattle.reachability.specs.Marks.{HasMark}
 use Rattle.reachability.proofs.Marking.{set-marked, set-keeps, set-fresh}
 use Rattle.joint_marking.specs.Gathered.{Gains}

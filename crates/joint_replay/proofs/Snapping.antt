@@ -3,21 +3,21 @@
 use Rattle.std.proofs.Common.{replicate, ◌≡◌, ℕ, ◌+◌, ◌<◌, ◌≤◌, ◌↔◌, inl, inr, Bool, true, false, not, List, length, Option, Some, None, refl, sym, ap, subst, ◌∙◌, arith, if◌then◌else◌}
 use Rattle.std.specs.Prelude.{Contains, All, filter}
 use Rattle.std.proofs.lemmas.List.Elements.{All-contains}
-use Rattle.joint_model.specs.declared.names.Span.{Span}
-use Rattle.joint_model.specs.declared.events.Reply.{Reply}
-use Rattle.joint_model.specs.declared.events.Reply.TheVariants as says
-use Rattle.joint_model.specs.Components.{Rises}
-use Rattle.joint_model.specs.Cycles.{IsSnapshot, snap_reply, IsResolution, resolve_reply, IsOpen}
-use Rattle.joint_model.specs.Heaps.{Heap, IsMade, numbered_at, is_freed}
-use Rattle.joint_model.specs.Histories.{Finished}
-use Rattle.joint_model.specs.Joint.{Joint, with_managed}
-use Rattle.joint_model.specs.Managed.{Managed, OpenCycle, Holds, IsBridgeReached, handle_of, candidates_of, with_snapshot}
-use Rattle.joint_model.specs.Peers.{Peers, peer_of}
-use Rattle.joint_model.specs.Told.{Answer}
-use Rattle.joint_model.specs.Run.{IsKept, JointResolve}
-use Rattle.joint_model.proofs.Members.{All-members, Contains-filter_from, Contains-filter_to, Rises-one, Rises-filter}
-use Rattle.joint_model.proofs.Deciding.{true-false, not-from, some-same}
-use Rattle.joint_model.proofs.HeapLemmas.{Holds-handle_of}
+use Rattle.joint_machine.specs.declared.names.Span.{Span}
+use Rattle.joint_machine.specs.declared.events.Reply.{Reply}
+use Rattle.joint_machine.specs.declared.events.Reply.TheVariants as says
+use Rattle.joint_machine.specs.Components.{Rises}
+use Rattle.joint_machine.specs.Cycles.{IsSnapshot, snap_reply, IsResolution, resolve_reply, IsOpen}
+use Rattle.joint_machine.specs.Heaps.{Heap, IsMade, numbered_at, is_freed}
+use Rattle.joint_machine.specs.Histories.{Finished}
+use Rattle.joint_machine.specs.Joint.{Joint, with_managed}
+use Rattle.joint_machine.specs.Managed.{Managed, OpenCycle, Holds, IsBridgeReached, handle_of, candidates_of, with_snapshot}
+use Rattle.joint_machine.specs.Peers.{Peers, peer_of}
+use Rattle.joint_machine.specs.Told.{Answer}
+use Rattle.joint_machine.specs.Run.{IsKept, JointResolve}
+use Rattle.joint_machine.proofs.Members.{All-members, Contains-filter_from, Contains-filter_to, Rises-one, Rises-filter}
+use Rattle.joint_machine.proofs.Deciding.{true-false, not-from, some-same}
+use Rattle.joint_machine.proofs.HeapLemmas.{Holds-handle_of}
 use Rattle.joint_replay.proofs.Snapshots.{handle-reached, bridge-row, row-bridge}
 use Rattle.reachability.specs.Marks.{HasMark, unmarked_of}
 use Rattle.joint_replay.specs.declared.state.Verdict.{Verdict}

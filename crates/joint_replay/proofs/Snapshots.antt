@@ -1,11 +1,11 @@
 -- The managed objects and their heap in one another's words: the rows that hold a handle, and what these reach.
 use Rattle.std.proofs.Common.{◌≡◌, ℕ, ◌+◌, ◌<◌, ◌↔◌, true, List, length, Option, Some, None, refl, sym, subst, arith}
 use Rattle.std.specs.Prelude.{Contains, All, is_some}
-use Rattle.joint_model.specs.Heaps.{Heap, IsLive, HasField, numbered_at}
-use Rattle.joint_model.specs.Managed.{Managed, IsBridge, ManagedEdge, IsBridgeReached}
-use Rattle.joint_model.proofs.WalkLemmas.{Reached-mono}
-use Rattle.joint_model.proofs.Members.{All-members}
-use Rattle.joint_model.proofs.Deciding.{handle-there}
+use Rattle.joint_machine.specs.Heaps.{Heap, IsLive, HasField, numbered_at}
+use Rattle.joint_machine.specs.Managed.{Managed, IsBridge, ManagedEdge, IsBridgeReached}
+use Rattle.joint_machine.proofs.WalkLemmas.{Reached-mono}
+use Rattle.joint_machine.proofs.Members.{All-members}
+use Rattle.joint_machine.proofs.Deciding.{handle-there}
 use Rattle.joint_replay.specs.Found.{IsBridgeRow, IsHandleReached}
 
 made-within : (h : Heap) (x : ℕ) → IsLive h x → x < length h.fields + 1

@@ -2,20 +2,20 @@
 use Rattle.std.proofs.Common.{◌≡◌, ℕ, ◌↔◌, ◌⊎◌, inl, inr, Bool, List, Option, Some, None, refl, sym, ap, subst, ◌∙◌, length}
 use Rattle.std.specs.Prelude.{All}
 use Rattle.std.proofs.lemmas.List.Elements.{All-contains}
-use Rattle.joint_model.specs.declared.names.Thread.{Thread}
-use Rattle.joint_model.specs.declared.names.Thread.TheVariants.{C}
-use Rattle.joint_model.specs.declared.events.Reply.{Reply}
-use Rattle.joint_model.specs.declared.events.Reply.TheVariants as says
-use Rattle.joint_model.specs.Components.{Rises}
-use Rattle.joint_model.specs.Heaps.{Heap, IsLive, IsMade}
-use Rattle.joint_model.specs.Histories.{Finished, peer_numbers, stretch}
-use Rattle.joint_model.specs.Joint.{Joint, JointMarking, IsReached, peer}
-use Rattle.joint_model.specs.Lines.{IsPeerThread}
-use Rattle.joint_model.specs.Run.{JointSweep, IsStored}
-use Rattle.joint_model.specs.Peers.{Peers}
-use Rattle.joint_model.specs.Told.{sweep_of}
-use Rattle.joint_model.proofs.Members.{All-members}
-use Rattle.joint_model.proofs.Deciding.{some-same}
+use Rattle.joint_machine.specs.declared.names.Thread.{Thread}
+use Rattle.joint_machine.specs.declared.names.Thread.TheVariants.{C}
+use Rattle.joint_machine.specs.declared.events.Reply.{Reply}
+use Rattle.joint_machine.specs.declared.events.Reply.TheVariants as says
+use Rattle.joint_machine.specs.Components.{Rises}
+use Rattle.joint_machine.specs.Heaps.{Heap, IsLive, IsMade}
+use Rattle.joint_machine.specs.Histories.{Finished, peer_numbers, stretch}
+use Rattle.joint_machine.specs.Joint.{Joint, JointMarking, IsReached, peer}
+use Rattle.joint_machine.specs.Lines.{IsPeerThread}
+use Rattle.joint_machine.specs.Run.{JointSweep, IsStored}
+use Rattle.joint_machine.specs.Peers.{Peers}
+use Rattle.joint_machine.specs.Told.{sweep_of}
+use Rattle.joint_machine.proofs.Members.{All-members}
+use Rattle.joint_machine.proofs.Deciding.{some-same}
 use Rattle.reachability.specs.Marks.{HasMark}
 use Rattle.joint_replay.specs.declared.state.Verdict.{Verdict}
 use Rattle.joint_replay.specs.Judging.{Decides, named_peers}

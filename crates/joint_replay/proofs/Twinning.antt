@@ -1,12 +1,12 @@
 -- The search for a peer's twin, one object on, and at the end of all objects.
 use Rattle.std.proofs.Common.{◌≡◌, ℕ, ◌+◌, ◌-◌, ◌≤◌, ◌<◌, ◌↔◌, true, false, Option, List, None, Some, drop, length, sym, ap, subst, ◌∙◌, arith, if◌then◌else◌}
 use Rattle.std.proofs.lemmas.List.{at_drop_more, drop_all}
-use Rattle.joint_model.specs.Heaps.{IsLive, IsMade}
-use Rattle.joint_model.specs.Joint.{Graph, IsJoined, Joint, is_twin, twin_from}
-use Rattle.joint_model.specs.Managed.{handle_of}
-use Rattle.joint_model.specs.Peers.{peer_of}
-use Rattle.joint_model.proofs.Deciding.{none_some, some-same}
-use Rattle.joint_model.proofs.HeapLemmas.{Holds-handle_of}
+use Rattle.joint_machine.specs.Heaps.{IsLive, IsMade}
+use Rattle.joint_machine.specs.Joint.{Graph, IsJoined, Joint, is_twin, twin_from}
+use Rattle.joint_machine.specs.Managed.{handle_of}
+use Rattle.joint_machine.specs.Peers.{peer_of}
+use Rattle.joint_machine.proofs.Deciding.{none_some, some-same}
+use Rattle.joint_machine.proofs.HeapLemmas.{Holds-handle_of}
 use Rattle.joint_replay.proofs.Snapping.{holds-made}
 
 pub twin-next : (j : Joint) (p m : ℕ) (hs : List (Option ℕ)) → 1 ≤ m → m ≤ length hs → twin_from j p m (drop (m - 1) hs) ≡ (if is_twin j p m then Some m else twin_from j p (m + 1) (drop (m + 1 - 1) hs))

@@ -1,29 +1,29 @@
 -- Verdicts under another name of their steps. An entry's event has one of the joint machine's steps, so a verdict on
 -- that step is the verdict on the entry.
 use Rattle.std.proofs.Common.{[], ◌≡◌, ℕ, ◌⊎◌, inl, inr, true, Option, Some, None, Result, Ok, Err, IfOk, refl, sym, ap, subst, ◌∙◌, false, ◌&&◌, true≢false}
-use Rattle.joint_model.specs.declared.names.Thread.{Thread}
-use Rattle.joint_model.specs.declared.names.Cycle.{Cycle}
-use Rattle.joint_model.specs.declared.names.Var.{Var}
-use Rattle.joint_model.specs.declared.names.Kind.{Kind}
-use Rattle.joint_model.specs.declared.names.Sort.{Sort}
-use Rattle.joint_model.specs.declared.names.PNum.{PNum}
-use Rattle.joint_model.specs.declared.names.HNum.{HNum}
-use Rattle.joint_model.specs.declared.names.StaticNo.{StaticNo}
-use Rattle.joint_model.specs.declared.lines.Act.{Act}
-use Rattle.joint_model.specs.declared.lines.Act.TheVariants as act
-use Rattle.joint_model.specs.declared.events.Op.{Op}
-use Rattle.joint_model.specs.declared.events.Op.TheVariants as op
-use Rattle.joint_model.specs.declared.events.Reply.{Reply}
-use Rattle.joint_model.specs.declared.events.Entry.{Entry}
-use Rattle.joint_model.specs.Heaps.{Answered}
-use Rattle.joint_model.specs.Histories.{Finished}
-use Rattle.joint_model.specs.Joint.{Joint, JointMarking, with_managed}
-use Rattle.joint_model.specs.Lines.{IsEvent, is_read}
-use Rattle.joint_model.specs.Linked.{is_joint}
-use Rattle.joint_model.specs.Managed.{Managed}
-use Rattle.joint_model.specs.Run.{JointEvent, JointComputed, JointAbandon, JointSnap, JointBegin, JointSweep, JointRestore, JointResolve, IsComputed, joint_answer, joint_line}
-use Rattle.joint_model.specs.Readers.{is_set_aside}
-use Rattle.joint_model.specs.Told.{Told, nothing, snap_of, contraction_of, references_of, begin_of, slice_of, sweep_of, resolution_of, phase_of, kept_pins}
+use Rattle.joint_machine.specs.declared.names.Thread.{Thread}
+use Rattle.joint_machine.specs.declared.names.Cycle.{Cycle}
+use Rattle.joint_machine.specs.declared.names.Var.{Var}
+use Rattle.joint_machine.specs.declared.names.Kind.{Kind}
+use Rattle.joint_machine.specs.declared.names.Sort.{Sort}
+use Rattle.joint_machine.specs.declared.names.PNum.{PNum}
+use Rattle.joint_machine.specs.declared.names.HNum.{HNum}
+use Rattle.joint_machine.specs.declared.names.StaticNo.{StaticNo}
+use Rattle.joint_machine.specs.declared.lines.Act.{Act}
+use Rattle.joint_machine.specs.declared.lines.Act.TheVariants as act
+use Rattle.joint_machine.specs.declared.events.Op.{Op}
+use Rattle.joint_machine.specs.declared.events.Op.TheVariants as op
+use Rattle.joint_machine.specs.declared.events.Reply.{Reply}
+use Rattle.joint_machine.specs.declared.events.Entry.{Entry}
+use Rattle.joint_machine.specs.Heaps.{Answered}
+use Rattle.joint_machine.specs.Histories.{Finished}
+use Rattle.joint_machine.specs.Joint.{Joint, JointMarking, with_managed}
+use Rattle.joint_machine.specs.Lines.{IsEvent, is_read}
+use Rattle.joint_machine.specs.Linked.{is_joint}
+use Rattle.joint_machine.specs.Managed.{Managed}
+use Rattle.joint_machine.specs.Run.{JointEvent, JointComputed, JointAbandon, JointSnap, JointBegin, JointSweep, JointRestore, JointResolve, IsComputed, joint_answer, joint_line}
+use Rattle.joint_machine.specs.Readers.{is_set_aside}
+use Rattle.joint_machine.specs.Told.{Told, nothing, snap_of, contraction_of, references_of, slice_of, sweep_of, resolution_of, phase_of, kept_pins}
 use Rattle.joint_replay.specs.declared.state.Verdict.{Verdict}
 use Rattle.joint_replay.specs.declared.state.Verdict.TheVariants.{Lawful, Unlawful}
 use Rattle.joint_replay.specs.Judging.{Decides, Judges, JudgesStep, IsStepOf, IsJointStepOf, IsTold, Gives, named_objects, named_peers}
@@ -116,7 +116,6 @@ snap-from h e j next k (kept_pins pins told) named s = absurd s
 snap-from h e j next k nothing named s = absurd s
 snap-from h e j next k (contraction_of comps heavy xrefs) named s = absurd s
 snap-from h e j next k (references_of refs) named s = absurd s
-snap-from h e j next k (begin_of unreached) named s = absurd s
 snap-from h e j next k (slice_of closure) named s = absurd s
 snap-from h e j next k (sweep_of freed) named s = absurd s
 snap-from h e j next k (resolution_of alive freed) named s = absurd s
@@ -135,7 +134,6 @@ resolve-from h e j next k (kept_pins pins told) named s = absurd s
 resolve-from h e j next k nothing named s = absurd s
 resolve-from h e j next k (contraction_of comps heavy xrefs) named s = absurd s
 resolve-from h e j next k (references_of refs) named s = absurd s
-resolve-from h e j next k (begin_of unreached) named s = absurd s
 resolve-from h e j next k (slice_of closure) named s = absurd s
 resolve-from h e j next k (sweep_of freed) named s = absurd s
 resolve-from h e j next k (snap_of freed candidates dead) named s = absurd s
@@ -160,7 +158,6 @@ sweep-from h t reply j next (Some m) (kept_pins pins told) named s = inr s
 sweep-from h t reply j next (Some m) nothing named s = inr s
 sweep-from h t reply j next (Some m) (contraction_of comps heavy xrefs) named s = inr s
 sweep-from h t reply j next (Some m) (references_of refs) named s = inr s
-sweep-from h t reply j next (Some m) (begin_of unreached) named s = inr s
 sweep-from h t reply j next (Some m) (slice_of closure) named s = inr s
 sweep-from h t reply j next (Some m) (snap_of freed candidates dead) named s = inr s
 sweep-from h t reply j next (Some m) (resolution_of alive freed) named s = inr s
@@ -177,7 +174,8 @@ pub Decides-managed : (j : Joint) (p : Managed → Type 0) (q : Joint → Type 0
 Decides-managed j p q to from Lawful m x = to m x
 Decides-managed j p q to from Unlawful m x = (λ n s. (let r = from n s in x.0 r.0 r.1), ap (λ (z : Managed). with_managed j z) x.1)
 
--- a read that is set aside is no step, and every other entry is one where it is one of the machine in which reads are as all others are
+-- a read that is set aside is no step, and every other entry is one where it is one of the machine in which reads are
+-- as all others are
 pub counted : (h : Finished) (e : Entry) (j : Joint) (new : Joint) → (is_read e.made.op && is_set_aside e.made.reply) ≡ false → (v : Verdict) → JudgesStep h e v j new → Judges h e v j new
 counted h e j new f Lawful s = record { told = s.told; named = s.named; step = record { step = s.step; counts = f } }
 counted h e j new f Unlawful s = (λ n t. s.0 n (record { told = t.told; named = t.named; step = t.step.step }), s.1)

@@ -1,10 +1,10 @@
--- What the restores of a cycle's candidates have answered, as the joint state keeps it, and what a resolution makes of it. (The
--- definitions are the joint model's; here they stand candidate by candidate.)
+-- What the restores of a cycle's candidates have answered, as the joint state keeps it, and what a resolution makes of
+-- it. (The definitions are the joint model's; here they stand candidate by candidate.)
 use Rattle.std.specs.Prelude.{◌≡◌, ℕ, Bool, true, false, List, [], ◌∷◌, map, replicate, slice_set, length, Option, Some, None}
 use Rattle.std.specs.Option.{option_map}
-use Rattle.joint_model.specs.Heaps.{numbered_set}
-use Rattle.joint_model.specs.Joint.{Joint}
-use Rattle.joint_model.specs.Told.{Answer, said_alive, said_cleared}
+use Rattle.joint_machine.specs.Heaps.{numbered_set}
+use Rattle.joint_machine.specs.Joint.{Joint}
+use Rattle.joint_machine.specs.Told.{Answer, said_alive, said_cleared}
 use Rattle.joint_replay.specs.declared.answers.Said.{Said}
 use Rattle.joint_replay.specs.declared.answers.Said.TheVariants.{Alive, Cleared}
 use Rattle.joint_replay.specs.declared.state.Verdict.{Verdict}

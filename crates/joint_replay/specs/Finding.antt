@@ -1,7 +1,7 @@
 -- What a snapshot finds among the rows of a heap: the rows that go, the candidates, and the dead part. (SGen's bridge:
 -- bridge objects that the program doesn't reach stay with all that they reach, until the other heap has spoken.)
 use Rattle.std.specs.Prelude.{ℕ, ◌⊎◌, List, Option}
-use Rattle.joint_model.specs.Heaps.{Heap, IsLive}
+use Rattle.joint_machine.specs.Heaps.{Heap, IsLive}
 use Rattle.joint_replay.specs.Found.{IsBridgeRow, IsRootReached, IsHandleReached}
 use Rattle.joint_replay.specs.Roots.{ListsExactly}
 

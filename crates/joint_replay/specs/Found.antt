@@ -2,8 +2,8 @@
 -- objects that the program doesn't reach stay with all that they reach, until the other heap's collector has said which
 -- of them live.)
 use Rattle.std.specs.Prelude.{◌≡◌, ℕ, Bool, true, false, List, Option, None, Some, is_some}
-use Rattle.joint_model.specs.Heaps.{Heap, IsLive, HasField, numbered_at}
-use Rattle.joint_model.specs.Walks.{Reached}
+use Rattle.joint_machine.specs.Heaps.{Heap, IsLive, HasField, numbered_at}
+use Rattle.joint_machine.specs.Walks.{Reached}
 use Rattle.joint_replay.specs.Roots.{IsNamedOrPinned}
 use Rattle.reachability.specs.Marks.{marked}
 

@@ -1,11 +1,11 @@
 -- The one graph with clean heaps, in which each field that holds a freed object is empty. It has the same edges and the
 -- same roots, so the same rows are reached. (This project's own.)
 use Rattle.std.specs.Prelude.{◌≡◌, ℕ, ◌⊎◌, Bool, false, List, Option, Some, None}
-use Rattle.joint_model.specs.Heaps.{IsLive, numbered_at}
-use Rattle.joint_model.specs.Joint.{Graph, JointMarking}
-use Rattle.joint_model.specs.Managed.{Managed}
-use Rattle.joint_model.specs.Peers.{Peers, Issued, held, raw, strong}
-use Rattle.joint_model.specs.Run.{IsStored}
+use Rattle.joint_machine.specs.Heaps.{IsLive, numbered_at}
+use Rattle.joint_machine.specs.Joint.{Graph, JointMarking}
+use Rattle.joint_machine.specs.Managed.{Managed}
+use Rattle.joint_machine.specs.Peers.{Peers, Issued, held, raw, strong}
+use Rattle.joint_machine.specs.Run.{IsStored}
 use Rattle.reachability.specs.Marks.{HasMark}
 use Rattle.joint_replay.specs.Plain.{cleaned}
 

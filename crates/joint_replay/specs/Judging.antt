@@ -1,19 +1,19 @@
 -- What it means to replay an entry of a history: whether it is a step of the joint machine from a state, with what is
 -- told beside it read from the history's own lists. (The joint machine is the one of the joint model.)
 use Rattle.std.specs.Prelude.{◌≡◌, ℕ, ◌<◌, Bool, false, List, [], ◌++◌, map, Some, slice_get}
-use Rattle.joint_model.specs.declared.events.Op.{Op}
-use Rattle.joint_model.specs.declared.events.Op.TheVariants as op
-use Rattle.joint_model.specs.declared.events.Reply.{Reply}
-use Rattle.joint_model.specs.declared.events.Reply.TheVariants as says
-use Rattle.joint_model.specs.declared.events.Entry.{Entry}
-use Rattle.joint_model.specs.Heaps.{Answered}
-use Rattle.joint_model.specs.Histories.{Finished, managed_numbers, peer_numbers, stretch}
-use Rattle.joint_model.specs.Joint.{Joint}
-use Rattle.joint_model.specs.Lines.{IsVar}
-use Rattle.joint_model.specs.LinkedHistories.{LawfulStep}
-use Rattle.joint_model.specs.Peers.{Peers, issued_since}
-use Rattle.joint_model.specs.Run.{JointStep}
-use Rattle.joint_model.specs.Told.{Told, snap_of, sweep_of, resolution_of}
+use Rattle.joint_machine.specs.declared.events.Op.{Op}
+use Rattle.joint_machine.specs.declared.events.Op.TheVariants as op
+use Rattle.joint_machine.specs.declared.events.Reply.{Reply}
+use Rattle.joint_machine.specs.declared.events.Reply.TheVariants as says
+use Rattle.joint_machine.specs.declared.events.Entry.{Entry}
+use Rattle.joint_machine.specs.Heaps.{Answered}
+use Rattle.joint_machine.specs.Histories.{Finished, managed_numbers, peer_numbers, stretch}
+use Rattle.joint_machine.specs.Joint.{Joint}
+use Rattle.joint_machine.specs.Lines.{IsVar}
+use Rattle.joint_machine.specs.Replaying.{LawfulStep}
+use Rattle.joint_machine.specs.Peers.{Peers, issued_since}
+use Rattle.joint_machine.specs.Run.{JointStep}
+use Rattle.joint_machine.specs.Told.{Told, snap_of, sweep_of, resolution_of}
 use Rattle.joint_replay.specs.declared.state.Verdict.{Verdict}
 use Rattle.joint_replay.specs.declared.state.Verdict.TheVariants.{Lawful, Unlawful}
 

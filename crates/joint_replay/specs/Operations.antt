@@ -1,17 +1,17 @@
 -- The operations that both heaps have. (The definitions are the joint model's; here they stand as one function of the
 -- line, so that both parts of the joint state take them from one place.)
 use Rattle.std.specs.Prelude.{ℕ, ◌<◌, ◌≤◌}
-use Rattle.joint_model.specs.declared.lines.Act.{Act}
-use Rattle.joint_model.specs.declared.lines.Act.TheVariants as act
-use Rattle.joint_model.specs.declared.names.Sort.{Sort}
-use Rattle.joint_model.specs.declared.events.Op.{Op}
-use Rattle.joint_model.specs.declared.events.Op.TheVariants as op
-use Rattle.joint_model.specs.declared.events.Reply.{Reply}
-use Rattle.joint_model.specs.declared.events.Reply.TheVariants as says
-use Rattle.joint_model.specs.Heaps.{Heap, Answered, answer, place, copied, field_set, field_got, dropped, loaded, stored}
-use Rattle.joint_model.specs.Lines.{IsVar, IsVarOrNone, IsBridgeObject}
-use Rattle.joint_model.specs.Managed.{managed_name, place_or_none}
-use Rattle.joint_model.specs.Peers.{peer_name}
+use Rattle.joint_machine.specs.declared.lines.Act.{Act}
+use Rattle.joint_machine.specs.declared.lines.Act.TheVariants as act
+use Rattle.joint_machine.specs.declared.names.Sort.{Sort}
+use Rattle.joint_machine.specs.declared.events.Op.{Op}
+use Rattle.joint_machine.specs.declared.events.Op.TheVariants as op
+use Rattle.joint_machine.specs.declared.events.Reply.{Reply}
+use Rattle.joint_machine.specs.declared.events.Reply.TheVariants as says
+use Rattle.joint_machine.specs.Heaps.{Heap, Answered, answer, place, copied, field_set, field_got, dropped, loaded, stored}
+use Rattle.joint_machine.specs.Lines.{IsVar, IsVarOrNone, IsBridgeObject}
+use Rattle.joint_machine.specs.Managed.{managed_name, place_or_none}
+use Rattle.joint_machine.specs.Peers.{peer_name}
 use Rattle.joint_replay.specs.declared.operations.Naming.{Naming}
 use Rattle.joint_replay.specs.declared.operations.Naming.TheVariants.{Objects, Peers}
 

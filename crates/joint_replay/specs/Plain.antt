@@ -1,11 +1,12 @@
--- A heap in plain lists, which nothing is asked of but its flags: a field may hold a freed object. (This project's own.)
+-- A heap in plain lists, which nothing is asked of but its flags: a field may hold a freed object. (This project's
+-- own.)
 use Rattle.std.specs.Prelude.{◌≡◌, ℕ, ◌≤◌, ◌⊎◌, Bool, true, false, ◌&&◌, not, nat_le, if◌then◌else◌, List, [], map, Contains, Option, Some, None, length}
-use Rattle.joint_model.specs.declared.events.Reply.{Reply}
-use Rattle.joint_model.specs.declared.events.Reply.TheVariants as says
-use Rattle.joint_model.specs.Heaps.{Heap, MOST, IsMade, is_freed, numbered_at}
-use Rattle.joint_model.specs.Cycles.{IsOpen}
-use Rattle.joint_model.specs.Managed.{Managed, OpenCycle}
-use Rattle.joint_model.specs.Peers.{Issued, Hold, Strength, held, raw, strong, weak}
+use Rattle.joint_machine.specs.declared.events.Reply.{Reply}
+use Rattle.joint_machine.specs.declared.events.Reply.TheVariants as says
+use Rattle.joint_machine.specs.Heaps.{Heap, MOST, IsMade, is_freed, numbered_at}
+use Rattle.joint_machine.specs.Cycles.{IsOpen}
+use Rattle.joint_machine.specs.Managed.{Managed, OpenCycle}
+use Rattle.joint_machine.specs.Peers.{Issued, Hold, Strength, held, raw, strong, weak}
 use Rattle.joint_replay.specs.declared.peers.Handle.{Handle}
 use Rattle.joint_replay.specs.declared.peers.IssuedHold.{IssuedHold}
 use Rattle.joint_replay.specs.declared.peers.IssuedHold.TheVariants.{Held, Raw}

@@ -1,7 +1,7 @@
 -- What is gathered before a marking: its roots, and the rows that it leaves out. (This project's own.)
 use Rattle.std.specs.Prelude.{ℕ, ◌↔◌, ◌⊎◌, List, Contains, Option, Some}
-use Rattle.joint_model.specs.Components.{Rises}
-use Rattle.joint_model.specs.Heaps.{Heap, IsLive, InSlot}
+use Rattle.joint_machine.specs.Components.{Rises}
+use Rattle.joint_machine.specs.Heaps.{Heap, IsLive, InSlot}
 
 -- the slots name the object, and it is live
 abbrev pub IsNamedLive : Heap → List (Option ℕ) → ℕ → Type 0

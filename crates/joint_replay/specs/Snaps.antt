@@ -1,20 +1,20 @@
 -- Snapshots, resolutions and sweeps, with the freed rows that are told. (The definitions are the joint model's; only
 -- their result is named here.)
 use Rattle.std.specs.Prelude.{◌≡◌, ℕ, ◌+◌, ◌≤◌, ◌⊎◌, Bool, false, not, List, [], Option, Some, None, All, Contains, filter, length}
-use Rattle.joint_model.specs.declared.names.Span.{Span}
-use Rattle.joint_model.specs.declared.names.Thread.{Thread}
-use Rattle.joint_model.specs.declared.names.Thread.TheVariants.{C}
-use Rattle.joint_model.specs.declared.events.Reply.TheVariants as says
-use Rattle.joint_model.specs.declared.events.Reply.{Reply}
-use Rattle.joint_model.specs.Components.{Rises}
-use Rattle.joint_model.specs.Cycles.{IsSnapshot, snap_reply, IsResolution, IsOpen}
-use Rattle.joint_model.specs.Heaps.{Heap, IsMade, is_freed, numbered_at}
-use Rattle.joint_model.specs.Histories.{Finished, managed_numbers, peer_numbers, stretch}
-use Rattle.joint_model.specs.Joint.{Joint, JointMarking, IsReached, peer, with_managed}
-use Rattle.joint_model.specs.Managed.{Managed, OpenCycle, with_snapshot, resolved, handle_of, Holds}
-use Rattle.joint_model.specs.Peers.{Peers, peer_of}
-use Rattle.joint_model.specs.Run.{IsKept, JointSnap, IsStored, EndsMarking}
-use Rattle.joint_model.specs.Walks.{Reached}
+use Rattle.joint_machine.specs.declared.names.Span.{Span}
+use Rattle.joint_machine.specs.declared.names.Thread.{Thread}
+use Rattle.joint_machine.specs.declared.names.Thread.TheVariants.{C}
+use Rattle.joint_machine.specs.declared.events.Reply.TheVariants as says
+use Rattle.joint_machine.specs.declared.events.Reply.{Reply}
+use Rattle.joint_machine.specs.Components.{Rises}
+use Rattle.joint_machine.specs.Cycles.{IsSnapshot, snap_reply, IsResolution, IsOpen}
+use Rattle.joint_machine.specs.Heaps.{Heap, IsMade, is_freed, numbered_at}
+use Rattle.joint_machine.specs.Histories.{Finished, managed_numbers, peer_numbers, stretch}
+use Rattle.joint_machine.specs.Joint.{Joint, JointMarking, IsReached, peer, with_managed}
+use Rattle.joint_machine.specs.Managed.{Managed, OpenCycle, with_snapshot, resolved, handle_of, Holds}
+use Rattle.joint_machine.specs.Peers.{Peers, peer_of}
+use Rattle.joint_machine.specs.Run.{IsKept, JointSnap, IsStored, EndsMarking}
+use Rattle.joint_machine.specs.Walks.{Reached}
 use Rattle.heap_rules.specs.Tidy.{live_fields}
 use Rattle.reachability.specs.Marks.{Leads}
 use Rattle.joint_replay.specs.Answers.{given_in}

@@ -1,7 +1,7 @@
 // What the restores of the open cycle's candidates have answered.
 
 ghost use Rattle.std.specs.Prelude.{◌≡◌, ◌+◌, ◌<◌, ◌↔◌, IsTrue, IfOk, All, replicate, slice_get, None};
-ghost use Rattle.joint_model.specs.Run.{answered_for};
+ghost use Rattle.joint_machine.specs.Run.{answered_for};
 ghost use Rattle.joint_replay.specs.Answers.{said_as, answers_as, handle_in, put_where, renew_one, renewed_by, IsGiven, IsMissing};
 
 use crate::managed::ManagedPart;

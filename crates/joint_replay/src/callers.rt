@@ -2,13 +2,13 @@
 
 ghost use Rattle.std.specs.Prelude.{◌≡◌, ◌↔◌, ◌<◌, IsTrue, true, false};
 ghost use Rattle.std.specs.Option.{ForSome};
-ghost use Rattle.joint_model.specs.Heaps.{place};
-ghost use Rattle.joint_model.specs.Lines.{IsEvent, IsLine, IsOneEvent, IsManagedAct, IsPeerAct, IsDriverAct, IsManagedThread, IsPeerThread, IsThread, IsVar, IsVarOrNone, IsPlainObject, IsBridgeObject};
-ghost use Rattle.joint_model.specs.Linked.{is_joint};
-ghost use Rattle.joint_model.specs.Managed.{place_or_none};
-ghost use Rattle.joint_model.specs.Run.{thread_number};
-ghost use Rattle.joint_model.specs.declared.events.Op.TheVariants.{Line};
-ghost use Rattle.joint_model.specs.declared.names.Sort.{Sort};
+ghost use Rattle.joint_machine.specs.Heaps.{place};
+ghost use Rattle.joint_machine.specs.Lines.{IsEvent, IsLine, IsOneEvent, IsManagedAct, IsPeerAct, IsDriverAct, IsManagedThread, IsPeerThread, IsThread, IsVar, IsVarOrNone, IsPlainObject, IsBridgeObject};
+ghost use Rattle.joint_machine.specs.Linked.{is_joint};
+ghost use Rattle.joint_machine.specs.Managed.{place_or_none};
+ghost use Rattle.joint_machine.specs.Run.{thread_number};
+ghost use Rattle.joint_machine.specs.declared.events.Op.TheVariants.{Line};
+ghost use Rattle.joint_machine.specs.declared.names.Sort.{Sort};
 ghost use Rattle.joint_replay.specs.Operations.{IsBridgeEvent, IsPlainAct};
 
 use joint_model::{Act, Cell, GName, Kind, Op, StaticNo, Thread, Var};

@@ -1,9 +1,9 @@
 // The driver's cycle: its snapshot, its resolution and its abandonment.
 
 ghost use Rattle.std.specs.Prelude.{◌≡◌, ℕ, ◌<◌, ◌↔◌, IsTrue, IfOk, OnErr, OnOk, Some, None, MatchOption, All, filter};
-ghost use Rattle.joint_model.specs.Heaps.{IsMade};
-ghost use Rattle.joint_model.specs.Joint.{Joint};
-ghost use Rattle.joint_model.specs.Run.{JointAbandon, JointResolve};
+ghost use Rattle.joint_machine.specs.Heaps.{IsMade};
+ghost use Rattle.joint_machine.specs.Joint.{Joint};
+ghost use Rattle.joint_machine.specs.Run.{JointAbandon, JointResolve};
 ghost use Rattle.joint_replay.specs.Answers.{AreAnswered};
 ghost use Rattle.joint_replay.specs.Plain.{HasOpen};
 ghost use Rattle.joint_replay.specs.Snaps.{SnapsJoint, Settles, SaysFreed, IsKeptReached, closed, keeps};

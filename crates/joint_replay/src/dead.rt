@@ -1,10 +1,10 @@
 // The peers that no joint root reaches.
 
 ghost use Rattle.std.specs.Prelude.{◌≡◌, ℕ, ◌+◌, ◌<◌, ◌≤◌, ◌↔◌, ◌⊎◌, Contains, IfOk, OnOk, IsTrue, Some, All, length, map, true, false};
-ghost use Rattle.joint_model.specs.Joint.{IsReachedIn, peer};
-ghost use Rattle.joint_model.specs.Heaps.{IsLive, MOST, numbered_at};
-ghost use Rattle.joint_model.specs.Histories.{peer_numbers};
-ghost use Rattle.joint_model.specs.Managed.{Holds};
+ghost use Rattle.joint_machine.specs.Joint.{IsReachedIn, peer};
+ghost use Rattle.joint_machine.specs.Heaps.{IsLive, MOST, numbered_at};
+ghost use Rattle.joint_machine.specs.Histories.{peer_numbers};
+ghost use Rattle.joint_machine.specs.Managed.{Holds};
 ghost use Rattle.reachability.specs.Marks.{HasMark};
 ghost use Rattle.joint_marking.specs.Gathered.{Gains};
 ghost use Rattle.joint_marking.specs.Owned.{IsOwned};
@@ -124,7 +124,8 @@ fn rooted_peer(peers: &PeerPart, removed: &[bool], owned: &[bool], h: u32) -> Op
     }
 }
 
-// Whether handle `h`, which was issued so, is a root by itself: a raw strong one, or a held one that no live object holds.
+// Whether handle `h`, which was issued so, is a root by itself: a raw strong one, or a held one that no live object
+// holds.
 fn is_root(row: Handle, owned: &[bool], h: u32) -> bool
     requires { h < length owned.now }
     ensures { IsTrue result ↔ IsRootHandle owned.now h (issued_as row) }

@@ -1,8 +1,8 @@
 // What a snapshot finds: lists of rows, each in rising number.
 
 ghost use Rattle.std.specs.Prelude.{◌≡◌, ℕ, ◌+◌, ◌<◌, ◌≤◌, ◌↔◌, Bool, true, false, Contains, IfOk, IsTrue, length};
-ghost use Rattle.joint_model.specs.Heaps.{Heap, IsLive};
-ghost use Rattle.joint_model.specs.Managed.{IsBridge};
+ghost use Rattle.joint_machine.specs.Heaps.{Heap, IsLive};
+ghost use Rattle.joint_machine.specs.Managed.{IsBridge};
 ghost use Rattle.joint_replay.specs.Found.{IsUnreachedRow, IsCandidateRow};
 ghost use Rattle.joint_replay.specs.Roots.{ListsExactly};
 ghost use Rattle.joint_replay.specs.Finding.{FindsRows};

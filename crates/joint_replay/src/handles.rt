@@ -1,11 +1,11 @@
 // What a managed thread does on the peers and handles.
 
 ghost use Rattle.std.specs.Prelude.{◌≡◌, ◌<◌, IfOk, OnErr, Some};
-ghost use Rattle.joint_model.specs.declared.names.Thread.{Thread};
-ghost use Rattle.joint_model.specs.Heaps.{answer};
-ghost use Rattle.joint_model.specs.Joint.{joint_target};
-ghost use Rattle.joint_model.specs.Peers.{gripped, landed, pair_made};
-ghost use Rattle.joint_model.specs.Run.{on_peers, without, joint_answer};
+ghost use Rattle.joint_machine.specs.declared.names.Thread.{Thread};
+ghost use Rattle.joint_machine.specs.Heaps.{answer};
+ghost use Rattle.joint_machine.specs.Joint.{joint_target};
+ghost use Rattle.joint_machine.specs.Peers.{gripped, landed, pair_made};
+ghost use Rattle.joint_machine.specs.Run.{on_peers, without, joint_answer};
 ghost use Rattle.joint_replay.specs.Judging.{Decides, Gives, IsHandleEvent};
 
 use crate::removed::remove;

@@ -2,7 +2,7 @@
 
 ghost use Rattle.std.specs.Prelude.{◌≡◌, ℕ, ◌+◌, ◌<◌, ◌≤◌, ◌↔◌, ◌++◌, List, Contains, All, Some, None, IsTrue, IfOk, OnOk, OnErr, MatchResult, IfSome, length, take, vec_capacity};
 ghost use Rattle.std.specs.Option.{ForSome};
-ghost use Rattle.joint_model.specs.Heaps.{Heap, MOST, IsMade, IsLive, is_freed, answer, slot, fields_of, is_full, opening_heap, with_object, with_var, with_static, with_field, with_freed, field_set};
+ghost use Rattle.joint_machine.specs.Heaps.{Heap, MOST, IsMade, IsLive, is_freed, answer, slot, fields_of, is_full, opening_heap, with_object, with_var, with_static, with_field, with_freed, field_set};
 ghost use Rattle.heap_rules.specs.Tidy.{live_fields};
 ghost use Rattle.joint_replay.specs.Plain.{refusal_reply, is_live, kept_target, cleaned, Lowers};
 
@@ -37,7 +37,7 @@ pub struct PlainHeap {
 
 impl Model for PlainHeap {
     ghost use Rattle.std.specs.Prelude.{map};
-    ghost use Rattle.joint_model.specs.Heaps.{Heap};
+    ghost use Rattle.joint_machine.specs.Heaps.{Heap};
     ghost use Rattle.joint_replay.specs.Plain.{IsFlagged};
 
     ghost Value = { Heap };

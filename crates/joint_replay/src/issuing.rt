@@ -1,8 +1,8 @@
 // The events of the peers that issue a handle. Each handle has a flag in the list of those that were removed.
 
 ghost use Rattle.std.specs.Prelude.{◌≡◌, ◌<◌, ◌++◌, ◌∷◌, [], ◌||◌, IfOk, OnErr, OnOk, Some, None, true, false, length};
-ghost use Rattle.joint_model.specs.Heaps.{is_full, next_number};
-ghost use Rattle.joint_model.specs.Peers.{handles_full, with_handle, with_peer, held, strong, pair_made, gripped, globalised};
+ghost use Rattle.joint_machine.specs.Heaps.{is_full, next_number};
+ghost use Rattle.joint_machine.specs.Peers.{handles_full, with_handle, with_peer, held, strong, pair_made, gripped, globalised};
 ghost use Rattle.joint_replay.specs.Judging.{Decides, Flags, Gives};
 ghost use Rattle.joint_replay.specs.Plain.{hold_as, strength_as};
 

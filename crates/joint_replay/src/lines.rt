@@ -1,15 +1,15 @@
 // The lines of the threads, each one event.
 
 ghost use Rattle.std.specs.Prelude.{◌≡◌, ◌+◌, ◌<◌, IfOk, OnErr, Some, None, true};
-ghost use Rattle.joint_model.specs.declared.names.Thread.{Thread};
-ghost use Rattle.joint_model.specs.declared.events.Op.TheVariants.{Line};
-ghost use Rattle.joint_model.specs.Heaps.{slot};
-ghost use Rattle.joint_model.specs.Joint.{joint_target};
-ghost use Rattle.joint_model.specs.Lines.{IsLine, IsOneEvent, IsManagedAct, IsPeerAct, IsManagedThread, IsPeerThread};
-ghost use Rattle.joint_model.specs.Linked.{is_joint};
-ghost use Rattle.joint_model.specs.Managed.{managed_line, notices_taken};
-ghost use Rattle.joint_model.specs.Peers.{globalised, name_freed, name_read, on_peer_heap, peer_made, peer_name, peer_read};
-ghost use Rattle.joint_model.specs.Run.{on_managed, on_peers, without, thread_number, joint_line, joint_peer_line};
+ghost use Rattle.joint_machine.specs.declared.names.Thread.{Thread};
+ghost use Rattle.joint_machine.specs.declared.events.Op.TheVariants.{Line};
+ghost use Rattle.joint_machine.specs.Heaps.{slot};
+ghost use Rattle.joint_machine.specs.Joint.{joint_target};
+ghost use Rattle.joint_machine.specs.Lines.{IsLine, IsOneEvent, IsManagedAct, IsPeerAct, IsManagedThread, IsPeerThread};
+ghost use Rattle.joint_machine.specs.Linked.{is_joint};
+ghost use Rattle.joint_machine.specs.Managed.{managed_line, notices_taken};
+ghost use Rattle.joint_machine.specs.Peers.{globalised, name_freed, name_read, on_peer_heap, peer_made, peer_name, peer_read};
+ghost use Rattle.joint_machine.specs.Run.{on_managed, on_peers, without, thread_number, joint_line, joint_peer_line};
 ghost use Rattle.joint_replay.specs.Operations.{IsPlainAct, plain_line};
 ghost use Rattle.joint_replay.specs.Plain.{strength_as};
 ghost use Rattle.joint_replay.specs.Judging.{Decides, Gives};

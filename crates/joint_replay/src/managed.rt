@@ -1,11 +1,11 @@
 // The managed part of the joint state.
 
 ghost use Rattle.std.specs.Prelude.{◌≡◌, ℕ, ◌<◌, ◌≤◌, ◌↔◌, false, IsTrue, IfOk, OnErr, None, Contains, length};
-ghost use Rattle.joint_model.specs.Heaps.{IsLive, MOST};
-ghost use Rattle.joint_model.specs.Histories.{managed_numbers};
-ghost use Rattle.joint_model.specs.Lines.{IsManagedAct, IsManagedThread, IsOneEvent};
-ghost use Rattle.joint_model.specs.Managed.{opening_managed, on_heap, managed_name, managed_line, handle_of, IsManagedRoot};
-ghost use Rattle.joint_model.specs.Run.{thread_number, is_that_handle};
+ghost use Rattle.joint_machine.specs.Heaps.{IsLive, MOST};
+ghost use Rattle.joint_machine.specs.Histories.{managed_numbers};
+ghost use Rattle.joint_machine.specs.Lines.{IsManagedAct, IsManagedThread, IsOneEvent};
+ghost use Rattle.joint_machine.specs.Managed.{opening_managed, on_heap, managed_name, managed_line, handle_of, IsManagedRoot};
+ghost use Rattle.joint_machine.specs.Run.{thread_number, is_that_handle};
 ghost use Rattle.joint_replay.specs.Operations.{IsPlainAct, plain_line};
 ghost use Rattle.joint_replay.specs.Judging.{Decides, Gives};
 ghost use Rattle.joint_replay.specs.Snaps.{OwesDead};
@@ -37,7 +37,7 @@ pub(crate) struct ManagedPart {
 
 impl Model for ManagedPart {
     ghost use Rattle.std.specs.Prelude.{◌≡◌, length};
-    ghost use Rattle.joint_model.specs.Managed.{Managed};
+    ghost use Rattle.joint_machine.specs.Managed.{Managed};
     ghost use Rattle.joint_replay.specs.Snaps.{OwesDead};
 
     ghost Value = { Managed };

@@ -1,10 +1,10 @@
 // An open marking.
 
 ghost use Rattle.std.specs.Prelude.{◌≡◌, ℕ, ◌↔◌, ◌⊎◌, IsTrue, IfOk, All};
-ghost use Rattle.joint_model.specs.Components.{Rises};
-ghost use Rattle.joint_model.specs.Joint.{Graph};
+ghost use Rattle.joint_machine.specs.Components.{Rises};
+ghost use Rattle.joint_machine.specs.Joint.{Graph};
 ghost use Rattle.reachability.specs.Marks.{HasMark, marked};
-ghost use Rattle.joint_model.specs.Run.{IsStored};
+ghost use Rattle.joint_machine.specs.Run.{IsStored};
 ghost use Rattle.joint_replay.specs.Graphs.{parts_graph};
 
 use crate::dead::dead_peers;
@@ -29,8 +29,8 @@ pub(crate) struct BegunMarking {
 
 impl Model for BegunMarking {
     ghost use Rattle.std.specs.Prelude.{ℕ, ◌↔◌};
-    ghost use Rattle.joint_model.specs.Joint.{JointMarking};
-    ghost use Rattle.joint_model.specs.Run.{IsStored};
+    ghost use Rattle.joint_machine.specs.Joint.{JointMarking};
+    ghost use Rattle.joint_machine.specs.Run.{IsStored};
     ghost use Rattle.joint_replay.specs.Graphs.{parts_graph};
     ghost use Rattle.reachability.specs.Marks.{HasMark};
 

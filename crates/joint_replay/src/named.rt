@@ -1,14 +1,14 @@
 // The lists of a history that the spans of its replies name.
 
 ghost use Rattle.std.specs.Prelude.{◌≡◌, ℕ, ◌+◌, ◌<◌, ◌≤◌, IfOk, MatchOption, length, take, drop};
-ghost use Rattle.joint_model.specs.Histories.{managed_numbers, peer_numbers, stretch};
+ghost use Rattle.joint_machine.specs.Histories.{managed_numbers, peer_numbers, stretch};
 
 use joint_model::{History, Span};
 use std::alloc::{AllocError, Global};
 
-/// The managed objects that a span names in the history's list of freed ones; None exactly where the span doesn't lie in
-/// the list. Answers `AllocError` where there is no memory, and where a place past 4,294,967,295 is asked for, since no
-/// list is so long.
+/// The managed objects that a span names in the history's list of freed ones; None exactly where the span doesn't lie
+/// in the list. Answers `AllocError` where there is no memory, and where a place past 4,294,967,295 is asked for, since
+/// no list is so long.
 pub(crate) fn freed_objects(
     alloc: Global,
     h: &History,

@@ -1,8 +1,8 @@
 // The objects of the managed part: how they are made, met and disposed of.
 
 ghost use Rattle.std.specs.Prelude.{◌≡◌, ◌+◌, ◌<◌, ◌↔◌, false, IsTrue, IfOk, OnErr, OnOk, Some, None};
-ghost use Rattle.joint_model.specs.Heaps.{answer, is_full, with_var};
-ghost use Rattle.joint_model.specs.Managed.{made_new, adopted, handle_reply, given_up, met, twin_met, twin_kind, twin_fields, without_handle, with_row};
+ghost use Rattle.joint_machine.specs.Heaps.{answer, is_full, with_var};
+ghost use Rattle.joint_machine.specs.Managed.{made_new, adopted, handle_reply, given_up, met, twin_met, twin_kind, twin_fields, without_handle, with_row};
 ghost use Rattle.joint_replay.specs.Judging.{Decides, Gives};
 
 use crate::managed::{ManagedPart, names_cycle, names_object};

@@ -1,10 +1,10 @@
 // The open cycle of the managed part, and the notices that its end queues.
 
 ghost use Rattle.std.specs.Prelude.{◌≡◌, ◌++◌, ◌+◌, ◌<◌, ◌↔◌, false, IsTrue, IfOk, OnErr, OnOk, Some, None, MatchOption, All, filter, length, map};
-ghost use Rattle.joint_model.specs.Cycles.{IsOpen};
-ghost use Rattle.joint_model.specs.Heaps.{IsMade, with_freed};
-ghost use Rattle.joint_model.specs.Managed.{abandoned, candidates_of, handle_of, holds_handle, notices_taken, with_snapshot, resolved};
-ghost use Rattle.joint_model.specs.Run.{answered_for, is_that_handle};
+ghost use Rattle.joint_machine.specs.Cycles.{IsOpen};
+ghost use Rattle.joint_machine.specs.Heaps.{IsMade, with_freed};
+ghost use Rattle.joint_machine.specs.Managed.{abandoned, candidates_of, handle_of, holds_handle, notices_taken, with_snapshot, resolved};
+ghost use Rattle.joint_machine.specs.Run.{answered_for, is_that_handle};
 ghost use Rattle.joint_replay.specs.Answers.{said_as, answers_as, given_in, renewed_by, Awaits};
 ghost use Rattle.joint_replay.specs.Plain.{HasOpen};
 ghost use Rattle.joint_replay.specs.Judging.{Decides, Gives, named_objects};
@@ -31,7 +31,7 @@ pub(crate) struct SnappedCycle {
 }
 
 impl Model for SnappedCycle {
-    ghost use Rattle.joint_model.specs.Managed.{OpenCycle};
+    ghost use Rattle.joint_machine.specs.Managed.{OpenCycle};
 
     ghost Value = { OpenCycle };
 
@@ -107,8 +107,8 @@ impl ManagedPart {
         }
     }
 
-    /// `snap`: cycle `k` is opened, with what the history says that it frees, and no candidate has an answer yet. Answers `AllocError`
-    /// where there is no memory; the part and the answers are then as before.
+    /// `snap`: cycle `k` is opened, with what the history says that it frees, and no candidate has an answer yet.
+    /// Answers `AllocError` where there is no memory; the part and the answers are then as before.
     pub(crate) fn snap(
         &mut self,
         alloc: Global,
@@ -187,9 +187,9 @@ impl ManagedPart {
         Ok(())
     }
 
-    /// Closes the open cycle and frees these rows, with a notice for each that holds a handle; each candidate that was answered
-    /// alive then holds the handle that its restore gave. Answers `AllocError` where there is no memory; the part is then as
-    /// before.
+    /// Closes the open cycle and frees these rows, with a notice for each that holds a handle; each candidate that was
+    /// answered alive then holds the handle that its restore gave. Answers `AllocError` where there is no memory; the
+    /// part is then as before.
     pub(crate) fn close(
         &mut self,
         alloc: Global,
@@ -206,8 +206,8 @@ impl ManagedPart {
         Ok(())
     }
 
-    // Frees these rows, with a notice for each that holds a handle. Answers `AllocError` where there is no memory; the part is
-    // then as before.
+    // Frees these rows, with a notice for each that holds a handle. Answers `AllocError` where there is no memory; the
+    // part is then as before.
     fn free(&mut self, alloc: Global, freed: &[u32]) -> Result<(), AllocError>
         requires { All (IsMade self.old.heap) freed.now }
         ensures ok { OnOk result (self.new ≡ record self.old { heap = with_freed self.old.heap freed.now; notices = self.old.notices ++ filter (holds_handle self.old) freed.now }) }

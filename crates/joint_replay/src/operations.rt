@@ -2,9 +2,9 @@
 
 ghost use Rattle.std.specs.Prelude.{◌≡◌, ℕ, ◌<◌, ◌↔◌, IsTrue, Some, None, length};
 ghost use Rattle.std.specs.Option.{ForSome};
-ghost use Rattle.joint_model.specs.Heaps.{answer, with_var, copied, field_set, read_into, field_got, dropped, loaded, stored};
-ghost use Rattle.joint_model.specs.Lines.{IsThread};
-ghost use Rattle.joint_model.specs.Run.{thread_number};
+ghost use Rattle.joint_machine.specs.Heaps.{answer, with_var, copied, field_set, read_into, field_got, dropped, loaded, stored};
+ghost use Rattle.joint_machine.specs.Lines.{IsThread};
+ghost use Rattle.joint_machine.specs.Run.{thread_number};
 ghost use Rattle.joint_replay.specs.Judging.{Decides, Gives};
 ghost use Rattle.joint_replay.specs.Operations.{name_of, IsPlainAct, plain_line};
 

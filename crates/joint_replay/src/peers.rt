@@ -2,10 +2,10 @@
 
 ghost use Rattle.std.specs.Prelude.{◌≡◌, ◌<◌, ◌≤◌, ◌↔◌, ◌||◌, IsTrue, IfOk, OnErr, OnOk, MatchOption, All, length, slice_set, false};
 ghost use Rattle.std.specs.Option.{option_map};
-ghost use Rattle.joint_model.specs.Heaps.{IsMade, is_full, next_number, numbered_at, slot, with_static, fields_of, with_freed};
-ghost use Rattle.joint_model.specs.Lines.{IsPeerThread};
-ghost use Rattle.joint_model.specs.Peers.{opening_peers, handles_full, with_handle, with_renewed, with_peer, held, strong, next_handle, peer_of, sort_of, on_peer_heap, peer_made, peer_name, peer_read, handle_name, landed};
-ghost use Rattle.joint_model.specs.Run.{thread_number};
+ghost use Rattle.joint_machine.specs.Heaps.{IsMade, is_full, next_number, numbered_at, slot, with_static, fields_of, with_freed};
+ghost use Rattle.joint_machine.specs.Lines.{IsPeerThread};
+ghost use Rattle.joint_machine.specs.Peers.{opening_peers, handles_full, with_handle, with_renewed, with_peer, held, strong, next_handle, peer_of, sort_of, on_peer_heap, peer_made, peer_name, peer_read, handle_name, landed};
+ghost use Rattle.joint_machine.specs.Run.{thread_number};
 ghost use Rattle.joint_replay.specs.Judging.{Decides, Gives};
 ghost use Rattle.joint_replay.specs.Operations.{IsPlainAct, plain_line};
 ghost use Rattle.joint_replay.specs.Plain.{hold_as, strength_as, issued_as};
@@ -55,7 +55,7 @@ pub(crate) struct PeerPart {
 
 impl Model for PeerPart {
     ghost use Rattle.std.specs.Prelude.{◌≡◌, ◌≤◌, map, length};
-    ghost use Rattle.joint_model.specs.Peers.{Peers};
+    ghost use Rattle.joint_machine.specs.Peers.{Peers};
     ghost use Rattle.joint_replay.specs.Plain.{issued_as};
 
     ghost Value = { Peers };
@@ -307,8 +307,8 @@ impl PeerPart {
         }
     }
 
-    /// A further peer and a held strong handle on it. Answers `AllocError` where there is no memory; the part is then as
-    /// before.
+    /// A further peer and a held strong handle on it. Answers `AllocError` where there is no memory; the part is then
+    /// as before.
     pub(crate) fn add_pair(&mut self, sort: Sort, fields: u8) -> Result<(), AllocError>
         requires full { (is_full self.old.heap.fields || handles_full self.old) ≡ false }
         requires room { length self.old.issued < 4294967295 }
@@ -345,8 +345,8 @@ impl PeerPart {
         }
     }
 
-    /// A held strong handle on a peer, in place of one that a restore removes. Answers `AllocError` where there is no memory;
-    /// the part is then as before.
+    /// A held strong handle on a peer, in place of one that a restore removes. Answers `AllocError` where there is no
+    /// memory; the part is then as before.
     pub(crate) fn renew(&mut self, peer: u32) -> Result<(), AllocError>
         requires { length self.old.issued < 4294967295 }
         ensures ok { OnOk result (self.new ≡ with_renewed self.old peer) }

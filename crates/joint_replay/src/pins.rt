@@ -1,7 +1,7 @@
 // The cells of the managed part, and the pins that reads fill.
 
 ghost use Rattle.std.specs.Prelude.{◌≡◌, ◌<◌, ◌↔◌, false, IsTrue, Some, None};
-ghost use Rattle.joint_model.specs.Managed.{weakened_to, read_cell, target_read, pin_taken};
+ghost use Rattle.joint_machine.specs.Managed.{weakened_to, read_cell, target_read, pin_taken};
 ghost use Rattle.joint_replay.specs.Judging.{Decides, Gives};
 
 use crate::managed::{ManagedPart, names_cycle, names_object};

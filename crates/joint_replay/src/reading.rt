@@ -2,10 +2,10 @@
 
 ghost use Rattle.std.specs.Prelude.{◌≡◌, All, length};
 ghost use Rattle.std.specs.Option.{option_map};
-ghost use Rattle.joint_model.specs.Components.{Rises};
-ghost use Rattle.joint_model.specs.Heaps.{IsMade, numbered_at};
-ghost use Rattle.joint_model.specs.Managed.{candidates_of, handle_of};
-ghost use Rattle.joint_model.specs.Peers.{sort_of};
+ghost use Rattle.joint_machine.specs.Components.{Rises};
+ghost use Rattle.joint_machine.specs.Heaps.{IsMade, numbered_at};
+ghost use Rattle.joint_machine.specs.Managed.{candidates_of, handle_of};
+ghost use Rattle.joint_machine.specs.Peers.{sort_of};
 ghost use Rattle.joint_replay.specs.Plain.{dead_of, issued_as};
 
 use crate::heap::PlainHeap;

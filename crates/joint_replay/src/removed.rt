@@ -1,7 +1,7 @@
 // Of each handle whether it was removed.
 
 ghost use Rattle.std.specs.Prelude.{◌≡◌, true, length, vec_capacity};
-ghost use Rattle.joint_model.specs.Heaps.{numbered_set};
+ghost use Rattle.joint_machine.specs.Heaps.{numbered_set};
 
 /// Marks a handle as removed.
 pub(crate) fn remove(h: u32, removed: &mut Vec<bool>)

@@ -1,12 +1,12 @@
 // The restores of the driver: a handle of a candidate is removed, and its peer gets a new one unless it is freed.
 
 ghost use Rattle.std.specs.Prelude.{◌≡◌, ◌<◌, IfOk, OnErr, Some, None, MatchOption, length};
-ghost use Rattle.joint_model.specs.Heaps.{answer};
-ghost use Rattle.joint_model.specs.Joint.{Joint};
-ghost use Rattle.joint_model.specs.Peers.{next_handle};
-ghost use Rattle.joint_model.specs.Run.{JointRestore, joint_restored, answered, given_anew, without};
-ghost use Rattle.joint_model.specs.Told.{said_alive, said_cleared};
-ghost use Rattle.joint_model.specs.declared.events.Reply.{Reply};
+ghost use Rattle.joint_machine.specs.Heaps.{answer};
+ghost use Rattle.joint_machine.specs.Joint.{Joint};
+ghost use Rattle.joint_machine.specs.Peers.{next_handle};
+ghost use Rattle.joint_machine.specs.Run.{JointRestore, joint_restored, answered, given_anew, without};
+ghost use Rattle.joint_machine.specs.Told.{said_alive, said_cleared};
+ghost use Rattle.joint_machine.specs.declared.events.Reply.{Reply};
 ghost use Rattle.joint_replay.specs.Judging.{Decides, Gives};
 ghost use Rattle.joint_replay.specs.Snaps.{MayRestore};
 
@@ -62,8 +62,8 @@ impl JointState {
         Verdict::Lawful
     }
 
-    // The handle is removed, and its peer gets a new one. Answers `AllocError` where there is no memory; the state is then as
-    // before.
+    // The handle is removed, and its peer gets a new one. Answers `AllocError` where there is no memory; the state is
+    // then as before.
     fn renew_handle(&mut self, h: u32, p: u32, reply: &Reply) -> Result<Verdict, AllocError>
         ensures ok { IfOk result (λ d. Decides (Gives (answer (Reply.Renewed record { 0 = next_handle self.old.graph.peers }) (answered (given_anew (without self.old (Some h)) p) h (said_alive (next_handle self.old.graph.peers)))) reply.now) d self.old self.new) }
         ensures err { OnErr result (self.new ≡ self.old) }

@@ -1,8 +1,8 @@
 // The roots of a marking.
 
 ghost use Rattle.std.specs.Prelude.{◌≡◌, ℕ, ◌+◌, ◌<◌, ◌≤◌, ◌↔◌, ◌⊎◌, Contains, IfOk, OnOk, IsTrue, Some, length, take, slice_get};
-ghost use Rattle.joint_model.specs.Heaps.{IsLive, InSlot};
-ghost use Rattle.joint_model.specs.Histories.{managed_numbers};
+ghost use Rattle.joint_machine.specs.Heaps.{IsLive, InSlot};
+ghost use Rattle.joint_machine.specs.Histories.{managed_numbers};
 ghost use Rattle.joint_replay.specs.Found.{IsBridgeRow, has_handle, held_at};
 ghost use Rattle.joint_marking.specs.Gathered.{Gains};
 ghost use Rattle.joint_replay.specs.Roots.{IsNamedLive, IsNamedOrPinned};

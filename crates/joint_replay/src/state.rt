@@ -1,12 +1,12 @@
 // The joint state, and the verdict on an entry.
 
 ghost use Rattle.std.specs.Prelude.{◌≡◌, ◌<◌, ◌&&◌, if◌then◌else◌, IfOk, OnErr, length, Some, None, true};
-ghost use Rattle.joint_model.specs.declared.events.Entry.{Entry};
-ghost use Rattle.joint_model.specs.declared.events.Op.TheVariants.{Line};
-ghost use Rattle.joint_model.specs.Heaps.{numbered_set};
-ghost use Rattle.joint_model.specs.Joint.{Joint, opening, joint_target};
-ghost use Rattle.joint_model.specs.Lines.{is_read};
-ghost use Rattle.joint_model.specs.Readers.{is_set_aside};
+ghost use Rattle.joint_machine.specs.declared.events.Entry.{Entry};
+ghost use Rattle.joint_machine.specs.declared.events.Op.TheVariants.{Line};
+ghost use Rattle.joint_machine.specs.Heaps.{numbered_set};
+ghost use Rattle.joint_machine.specs.Joint.{Joint, opening, joint_target};
+ghost use Rattle.joint_machine.specs.Lines.{is_read};
+ghost use Rattle.joint_machine.specs.Readers.{is_set_aside};
 ghost use Rattle.joint_replay.specs.Judging.{Judges, JudgesStep, IsEntry};
 
 use crate::answers::Said;
@@ -51,7 +51,7 @@ pub struct JointState {
 }
 
 impl Model for JointState {
-    ghost use Rattle.joint_model.specs.Joint.{Joint};
+    ghost use Rattle.joint_machine.specs.Joint.{Joint};
     ghost use Rattle.joint_replay.specs.Answers.{answers_as};
     ghost use Rattle.joint_replay.specs.Graphs.{KeepsStored};
 
@@ -78,8 +78,8 @@ impl JointState {
         })
     }
 
-    /// Replays entry `i` of a history. Answers `Lawful` exactly where the entry is a step of the joint machine from this
-    /// state, with the freed rows that its reply names in the history's lists, and then makes the step. Answers
+    /// Replays entry `i` of a history. Answers `Lawful` exactly where the entry is a step of the joint machine from
+    /// this state, with the freed rows that its reply names in the history's lists, and then makes the step. Answers
     /// `Unlawful` otherwise, and `AllocError` where there is no memory; the state is then as before.
     pub fn replay_step(&mut self, h: &History, i: u64) -> Result<Verdict, AllocError>
         requires index { i < length h.now.entries }
@@ -92,11 +92,11 @@ impl JointState {
         }
     }
 
-    /// Replays a single entry, wherever it stands: of the history only the lists of freed rows are read, and of the entry
-    /// its caller, its event and its reply, not its number, nor its line, nor what it cites. Answers `Lawful` exactly
-    /// where the entry is a step of the joint machine from this state, with the freed rows that its reply names in the
-    /// history's lists, and then makes the step. Answers `Unlawful` otherwise, and `AllocError` where there is no memory;
-    /// the state is then as before. Nothing is asked of the entry or of the history.
+    /// Replays a single entry, wherever it stands: of the history only the lists of freed rows are read, and of the
+    /// entry its caller, its event and its reply, not its number, nor its line, nor what it cites. Answers `Lawful`
+    /// exactly where the entry is a step of the joint machine from this state, with the freed rows that its reply names
+    /// in the history's lists, and then makes the step. Answers `Unlawful` otherwise, and `AllocError` where there is
+    /// no memory; the state is then as before. Nothing is asked of the entry or of the history.
     pub fn judge(&mut self, h: &History, entry: &Entry) -> Result<Verdict, AllocError>
         ensures verdict { IfOk result (λ v. Judges h.now entry.now v self.old self.new) }
         ensures err { OnErr result (self.new ≡ self.old) }

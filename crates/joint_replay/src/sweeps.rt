@@ -1,10 +1,10 @@
 // The begin of a marking, and the sweep that ends it.
 
 ghost use Rattle.std.specs.Prelude.{◌≡◌, ◌+◌, ◌<◌, ◌↔◌, ◌⊎◌, IsTrue, IfOk, OnErr, Some, None, MatchOption};
-ghost use Rattle.joint_model.specs.declared.names.Thread.{Thread};
-ghost use Rattle.joint_model.specs.Lines.{IsPeerThread, IsDriver};
-ghost use Rattle.joint_model.specs.Run.{JointBegin, JointSweep};
-ghost use Rattle.joint_model.specs.Told.{sweep_of};
+ghost use Rattle.joint_machine.specs.declared.names.Thread.{Thread};
+ghost use Rattle.joint_machine.specs.Lines.{IsPeerThread, IsDriver};
+ghost use Rattle.joint_machine.specs.Run.{JointBegin, JointSweep};
+ghost use Rattle.joint_machine.specs.Told.{sweep_of};
 ghost use Rattle.joint_replay.specs.Snaps.{SweepsJoint, MayEndOpen, MaySweep, SaysSwept};
 ghost use Rattle.joint_replay.specs.Judging.{Decides, named_peers};
 

@@ -1,11 +1,11 @@
 // What a managed thread does on the objects, and the search for a peer's twin.
 
 ghost use Rattle.std.specs.Prelude.{◌≡◌, ◌+◌, ◌<◌, IfOk, OnErr, Some, None};
-ghost use Rattle.joint_model.specs.declared.names.Thread.{Thread};
-ghost use Rattle.joint_model.specs.Joint.{is_twin, twin_of};
-ghost use Rattle.joint_model.specs.Lines.{IsManagedThread};
-ghost use Rattle.joint_model.specs.Managed.{adopted, given_up, met};
-ghost use Rattle.joint_model.specs.Run.{on_managed, joint_answer};
+ghost use Rattle.joint_machine.specs.declared.names.Thread.{Thread};
+ghost use Rattle.joint_machine.specs.Joint.{is_twin, twin_of};
+ghost use Rattle.joint_machine.specs.Lines.{IsManagedThread};
+ghost use Rattle.joint_machine.specs.Managed.{adopted, given_up, met};
+ghost use Rattle.joint_machine.specs.Run.{on_managed, joint_answer};
 ghost use Rattle.joint_replay.specs.Judging.{Decides, Gives, IsObjectEvent};
 
 use crate::callers::place_of;

@@ -1,11 +1,12 @@
 -- What was taken from a source, read and checked is a report that was judged.
 use Rattle.std.proofs.Common.{◌≡◌, ℕ, ◌<◌, List, Option, length, sym, subst, arith}
 use Rattle.std.specs.Prelude.{◌^◌, ◌↔◌}
-use Rattle.joint_model.specs.Histories.{Finished}
+use Rattle.joint_machine.specs.Histories.{Finished}
 use Rattle.check_laws.specs.declared.findings.Finding.TheVariants as finding
-use Rattle.check_laws.specs.Found.{IsFinding}
-use Rattle.limited_reports.specs.Limits.{TookReport}
-use Rattle.legal_reports.specs.Legal.{FoundLegalIsReport, IsReportOfRun}
+use Rattle.check_laws.specs.Findings.{IsFinding}
+use Rattle.limited_reports.specs.Answers.{TookReport}
+use Rattle.legal_reports.specs.Legal.{FoundLegalIsReport}
+use Rattle.legal_reports.specs.Reports.{IsReportOfRun}
 use Rattle.judged_reports.specs.declared.judging.Judged.{Judged}
 use Rattle.judged_reports.specs.Judging.{JudgedReport}
 

@@ -2,7 +2,7 @@
 use Rattle.std.proofs.Common.{◌≡◌, ℕ, ◌+◌, ◌≤◌, inl, inr, List, ◌++◌, length, Option, Some, None, refl, sym, ap, subst, ◌∙◌, arith, append-nil, length-append}
 use Rattle.bridge_script.specs.declared.faults.Cause.TheVariants.{Bytes}
 use Rattle.bridge_script.specs.Causes.{fault_text}
-use Rattle.joint_model.specs.Histories.{Finished}
+use Rattle.joint_machine.specs.Histories.{Finished}
 use Rattle.byte_streams.specs.Reading.{Took}
 use Rattle.report_reader.specs.declared.faults.ReportFault.{ReportFault}
 use Rattle.report_reader.specs.Reading.{IsReadAs}

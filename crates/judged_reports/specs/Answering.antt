@@ -1,5 +1,6 @@
--- What is put of a report that a source gives: its finding, or the line that names what is wrong. `Put` says what was done with the text that is due: all of
--- it was appended to what the sink held, or a beginning.
+-- What is put of a report that a source gives: its finding, or the line that names what is wrong. `Put` says what was
+-- done with the text that is due: all of it was appended to what the sink held, or a beginning.
+-- Believed: the clauses of the program's top call rest on all that stands here.
 use Rattle.std.specs.Prelude.{◌≡◌, ℕ, List, Option}
 use Rattle.bridge_script.specs.declared.faults.Cause.TheVariants.{Bytes}
 use Rattle.bridge_script.specs.Causes.{fault_text}
@@ -16,7 +17,8 @@ pub record FindingPut (most : ℕ) (left rest : Option (List ℕ)) (Put : List �
   pub report : JudgedReport most left rest judged
   pub text : Put (finding_text judged.count judged.finding)
 
--- the text is the line that names the first line that is wrong, with its cause, or the line that holds the first byte behind the limit
+-- the text is the line that names the first line that is wrong, with its cause, or the line that holds the first byte
+-- behind the limit
 abbrev pub IsRefusalText : TakeError → List ℕ → Type 0
 IsRefusalText OutOfMemory text = ⊥
 IsRefusalText ReadFault text = ⊥

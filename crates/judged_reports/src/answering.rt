@@ -2,8 +2,8 @@
 
 ghost use Rattle.std.specs.Prelude.{◌≡◌, ◌<◌, ◌≤◌, ◌⊎◌, ℕ, List, Some, length};
 ghost use Rattle.std.specs.Io.KnownBytes.{Appends, Keeps};
-ghost use Rattle.byte_streams.specs.Streams.{AppendsPart, Rose};
-ghost use Rattle.joint_model.specs.Histories.{Finished};
+ghost use Rattle.byte_streams.specs.Faults.{AppendsPart, Rose};
+ghost use Rattle.joint_machine.specs.Histories.{Finished};
 ghost use Rattle.report_reader.specs.Reading.{IsReadAs};
 ghost use Rattle.report_answers.specs.Answers.{finding_text, refusal_text};
 ghost use Rattle.bridge_script.specs.declared.faults.Cause.TheVariants.{Bytes};
@@ -80,9 +80,11 @@ fn put_length<K: Sink>(line: u32, out: &mut K) -> Answered
     }
 }
 
-/// Takes a report from a source, as [`judge_report`] does, and writes what its history was found to be, or what is wrong with it.
+/// Takes a report from a source, as [`judge_report`] does, and writes what its history was found to be, or what is
+/// wrong with it.
 ///
-/// `Found` exactly where the source gave a report within the limit, and memory and sink sufficed; `Refused` where it gave none.
+/// `Found` exactly where the source gave a report within the limit, and memory and sink sufficed; `Refused` where it
+/// gave none.
 pub fn answer_report<S: Source, K: Sink>(
     alloc: Global,
     src: &mut S,

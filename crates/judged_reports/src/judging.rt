@@ -1,7 +1,7 @@
 // From the source to the finding.
 
 ghost use Rattle.std.specs.Prelude.{◌<◌, ◌≤◌, IfErr, IfOk};
-ghost use Rattle.limited_reports.specs.Limits.{TookNone};
+ghost use Rattle.limited_reports.specs.Answers.{TookNone};
 ghost use Rattle.judged_reports.specs.Judging.{JudgedReport};
 
 use byte_streams::Source;
@@ -18,11 +18,13 @@ pub struct Judged {
     pub count: u64,
 }
 
-/// Takes bytes from a source, which may give them in whatever pieces, until its end, or until one byte more than `most` was taken, and no further; and answers
-/// what the history that they are the report of is found to be, with the number of its entries.
+/// Takes bytes from a source, which may give them in whatever pieces, until its end, or until one byte more than `most`
+/// was taken, and no further; and answers what the history that they are the report of is found to be, with the number
+/// of its entries.
 ///
-/// `ReadFault` only where the source's count of faults rose. `OutOfMemory` where there is no memory for the bytes, the history or its check. `Refused` and
-/// `Long` as [`take_report`] answers them. The time goes by the number of bytes and by what a run of the same entries takes.
+/// `ReadFault` only where the source's count of faults rose. `OutOfMemory` where there is no memory for the bytes, the
+/// history or its check. `Refused` and `Long` as [`take_report`] answers them. The time goes by the number of bytes and
+/// by what a run of the same entries takes.
 pub fn judge_report<S: Source>(alloc: Global, src: &mut S, most: usize) -> Result<Judged, TakeError>
     requires { most < 4294967294 }
     ensures ok { IfOk result (λ judged. JudgedReport most (S.left src.old) (S.left src.new) judged) }

@@ -1,20 +1,22 @@
--- Two pasts of one run are told the same of each entry that both have. By induction: behind an entry that both have latest, each line
--- in which it stands is the same entries with the same notes. So the entry, with what the one past tells, may come after the other
--- past too, and what may be told plainly of an entry at a state is one. So there is one whole run with notes of which both are
--- pasts, and the join law of noted pasts holds of them.
+-- Two pasts of one run are told the same of each entry that both have. By induction: behind an entry that both have
+-- latest, each line in which it stands is the same entries with the same notes. So the entry, with what the one past
+-- tells, may come after the other past too, and what may be told plainly of an entry at a state is one. So there is one
+-- whole run with notes of which both are pasts, and the join law of noted pasts holds of them.
 use Rattle.std.proofs.Common.{◌≡◌, inl, inr, ⊎_elim, ℕ, zero, suc, ◌+◌, ◌<◌, ◌≤◌, Bool, true, false, List, [], ◌∷◌, ◌++◌, length, map, Option, Some, None, refl, sym, ap, ◌∙◌, subst, arith, eqb, eq-eqb, ne_eqb, true≢false}
 use Rattle.std.specs.Prelude.{if◌then◌else◌}
 use Rattle.std.proofs.lemmas.Bool.{cases_Bool, eqb-true}
 use Rattle.std.proofs.lemmas.Option.{same_Some}
 use base.Growing.{prefix_anti}
-use Rattle.joint_model.specs.declared.events.Entry.{Entry}
-use Rattle.joint_model.specs.Lines.{is_read, is_pinned}
-use Rattle.joint_model.specs.Linked.{Linkage}
-use Rattle.joint_model.specs.Told.{Noted, nothing, bare_told, pins_told}
-use Rattle.known_laws.specs.Known.{MayComeLater, TellsPlainly, Comes, given, pinned}
+use Rattle.joint_machine.specs.declared.events.Entry.{Entry}
+use Rattle.joint_machine.specs.Lines.{is_read}
+use Rattle.joint_machine.specs.PinsTold.{is_pinned, bare_told, pins_told}
+use Rattle.joint_machine.specs.Linked.{Linkage}
+use Rattle.joint_machine.specs.Told.{Noted, nothing}
+use Rattle.known_laws.specs.Known.{MayComeLater, Comes, given, pinned}
+use Rattle.known_laws.specs.PastEntries.{TellsPlainly, InPast}
 use Rattle.known_laws.proofs.Bared.{same_told}
 use Rattle.known_laws.specs.Telling.{MayBeTold}
-use Rattle.known_laws.specs.Pasts.{role_of, own_of, is_in, line, of_line, PastRunsFrom, InPast, end_of, Lawful, Within, bare, AreWithin, AreAlike, PastsAgree, EntryPastsJoin, next_of}
+use Rattle.known_laws.specs.Pasts.{role_of, own_of, is_in, line, of_line, PastRunsFrom, end_of, Lawful, Within, bare, AreWithin, AreAlike, PastsAgree, EntryPastsJoin, next_of}
 use Rattle.known_laws.proofs.PastLines.{in_role, in_own, in-line, one-number, shorter_begins}
 use Rattle.known_laws.proofs.PastsJoin.{below, within_past, behind_past, in_whole_past}
 use Rattle.known_laws.proofs.Moving.{may_move}

@@ -1,18 +1,19 @@
 -- What may be told of an entry has no pins, so a note is made of its entry, its pins and what else is told.
-use Rattle.joint_model.specs.declared.events.Made.{Made}
+use Rattle.joint_machine.specs.declared.events.Made.{Made}
 use Rattle.std.proofs.Common.{◌≡◌, ℕ, Bool, true, false, List, Option, Some, None, refl, sym, ◌∙◌, true≢false}
-use Rattle.joint_model.specs.declared.names.Thread.{Thread}
-use Rattle.joint_model.specs.declared.names.Thread.TheVariants.{M, P, C}
-use Rattle.joint_model.specs.declared.lines.Act.TheVariants as act
-use Rattle.joint_model.specs.declared.events.Op.{Op}
-use Rattle.joint_model.specs.declared.events.Op.TheVariants as op
-use Rattle.joint_model.specs.Lines.{is_peer_event, is_read}
-use Rattle.joint_model.specs.Control.{Stand}
-use Rattle.joint_model.specs.Linked.{Linkage, MayCome, SideLawful, PeerLawful}
-use Rattle.joint_model.specs.ManagedReplay.{ManagedReplay, ManagedAllows}
-use Rattle.joint_model.specs.PeerReplay.{PeerReplay, Marking, PeerAllows, SliceAllows, SweepAllows}
-use Rattle.joint_model.specs.Told.{Told, Noted, kept_pins, bare_told, tells_pins, pins_told, no_pins}
-use Rattle.known_laws.specs.Known.{TellsPlainly}
+use Rattle.joint_machine.specs.declared.names.Thread.{Thread}
+use Rattle.joint_machine.specs.declared.names.Thread.TheVariants.{M, P, C}
+use Rattle.joint_machine.specs.declared.lines.Act.TheVariants as act
+use Rattle.joint_machine.specs.declared.events.Op.{Op}
+use Rattle.joint_machine.specs.declared.events.Op.TheVariants as op
+use Rattle.joint_machine.specs.Lines.{is_peer_event, is_read}
+use Rattle.joint_machine.specs.Control.{Stand}
+use Rattle.joint_machine.specs.Linked.{Linkage, MayCome, SideLawful, PeerLawful}
+use Rattle.joint_machine.specs.ManagedReplay.{ManagedReplay, ManagedAllows}
+use Rattle.joint_machine.specs.PeerReplay.{PeerReplay, Marking, PeerAllows, SliceAllows, SweepAllows}
+use Rattle.joint_machine.specs.Told.{Told, Noted, kept_pins}
+use Rattle.joint_machine.specs.PinsTold.{bare_told, no_pins, pins_told, tells_pins}
+use Rattle.known_laws.specs.PastEntries.{TellsPlainly}
 
 never_managed : (m : ManagedReplay) (o : Op) (p : List (Option ℕ)) (x : Told) → ManagedAllows m o (kept_pins p x) → ⊥
 never_managed m (op.Line a) p x w = w

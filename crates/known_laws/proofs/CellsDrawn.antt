@@ -1,38 +1,36 @@
--- A cell's target is the one with which its `weak` was drawn. Only a `weak` that answers ok changes the cells: it puts its variable's
--- object into its own cell, which is the target that it is drawn with. There are 64 cells all along, so what is put is there.
+-- A cell's target is the one with which its `weak` was drawn. Only a `weak` that answers ok changes the cells: it puts
+-- its variable's object into its own cell, which is the target that it is drawn with. There are 64 cells all along, so
+-- what is put is there.
 use Rattle.known_laws.proofs.Coming.{event_of}
 use Rattle.known_laws.specs.Known.{Comes, given, managed_past}
-use Rattle.joint_model.specs.Readers.{with_pins}
-use Rattle.joint_model.specs.Lines.{is_read}
-use Rattle.joint_model.specs.Told.{bare_told, pins_told}
-use Rattle.std.proofs.Common.{true≢false}
-use Rattle.std.proofs.Common.{◌≡◌, ◌≢◌, ⊎_elim, ℕ, zero, suc, ◌<◌, Bool, true, false, List, [], ◌∷◌, length, replicate, Option, Some, None, refl, sym, ap, ◌∙◌, subst, arith, eq-eqb, ne_eqb}
+use Rattle.joint_machine.specs.Lines.{is_read, IsEvent, is_peer_event}
+use Rattle.joint_machine.specs.PinsTold.{bare_told, pins_told, with_pins}
+use Rattle.std.proofs.Common.{true≢false, ◌≡◌, ◌≢◌, ⊎_elim, ℕ, zero, suc, ◌<◌, Bool, true, false, List, [], ◌∷◌, length, replicate, Option, Some, None, refl, sym, ap, ◌∙◌, subst, arith, eq-eqb, ne_eqb}
 use Rattle.std.specs.Prelude.{if◌then◌else◌, slice_get, slice_set}
 use Rattle.std.proofs.lemmas.Bool.{cases_eq}
 use Rattle.std.proofs.Math.ListN.{length-set}
-use Rattle.joint_model.specs.declared.names.Thread.{Thread}
-use Rattle.joint_model.specs.declared.names.Thread.TheVariants.{M, P, C}
-use Rattle.joint_model.specs.declared.names.Cell.{Cell}
-use Rattle.joint_model.specs.declared.names.MNum.{MNum}
-use Rattle.joint_model.specs.declared.names.Kind.{Kind}
-use Rattle.joint_model.specs.declared.names.Sort.{Sort}
-use Rattle.joint_model.specs.declared.names.Var.{Var}
-use Rattle.joint_model.specs.declared.lines.Act.{Act}
-use Rattle.joint_model.specs.declared.lines.Act.TheVariants as act
-use Rattle.joint_model.specs.declared.events.Op.{Op}
-use Rattle.joint_model.specs.declared.events.Op.TheVariants as op
-use Rattle.joint_model.specs.declared.events.Reply.{Reply}
-use Rattle.joint_model.specs.declared.events.Reply.TheVariants as says
-use Rattle.joint_model.specs.Heaps.{Answered, answer, slot, place, is_full, is_freed}
-use Rattle.joint_model.specs.Lines.{IsEvent, is_peer_event}
-use Rattle.joint_model.specs.Linked.{SideLawful}
-use Rattle.joint_model.specs.Managed.{Managed, OpenCycle, managed_name, managed_line, adopted, met, given_up, with_row, cell_set, weakened_to, target_read, cell_read, read_cell, pin_taken, without_handle, twin_met, twin_kind, twin_fields}
-use Rattle.joint_model.specs.ManagedReplay.{ManagedReplay, managed_answer, registered}
-use Rattle.joint_model.specs.Run.{thread_number}
-use Rattle.joint_model.specs.Sides.{managed_rules, peer_rules, object_or_none, cell_target}
-use Rattle.joint_model.specs.Told.{Told, Noted, snap_of, contraction_of, resolution_of, phase_of}
-use Rattle.joint_model.proofs.HeapLemmas.{adopt_by-managed}
-use Rattle.joint_model.proofs.Joining.{slice_get-set_same, slice_get-set_other}
+use Rattle.joint_machine.specs.declared.names.Thread.{Thread}
+use Rattle.joint_machine.specs.declared.names.Thread.TheVariants.{M, P, C}
+use Rattle.joint_machine.specs.declared.names.Cell.{Cell}
+use Rattle.joint_machine.specs.declared.names.MNum.{MNum}
+use Rattle.joint_machine.specs.declared.names.Kind.{Kind}
+use Rattle.joint_machine.specs.declared.names.Sort.{Sort}
+use Rattle.joint_machine.specs.declared.names.Var.{Var}
+use Rattle.joint_machine.specs.declared.lines.Act.{Act}
+use Rattle.joint_machine.specs.declared.lines.Act.TheVariants as act
+use Rattle.joint_machine.specs.declared.events.Op.{Op}
+use Rattle.joint_machine.specs.declared.events.Op.TheVariants as op
+use Rattle.joint_machine.specs.declared.events.Reply.{Reply}
+use Rattle.joint_machine.specs.declared.events.Reply.TheVariants as says
+use Rattle.joint_machine.specs.Heaps.{Answered, answer, slot, place, is_full, is_freed}
+use Rattle.joint_machine.specs.Linked.{SideLawful}
+use Rattle.joint_machine.specs.Managed.{Managed, OpenCycle, managed_name, managed_line, adopted, met, given_up, with_row, cell_set, weakened_to, target_read, cell_read, read_cell, pin_taken, without_handle, twin_met, twin_kind, twin_fields}
+use Rattle.joint_machine.specs.ManagedReplay.{ManagedReplay, managed_answer, registered}
+use Rattle.joint_machine.specs.Run.{thread_number}
+use Rattle.joint_machine.specs.Sides.{managed_rules, peer_rules, object_or_none, cell_target}
+use Rattle.joint_machine.specs.Told.{Told, Noted, snap_of, contraction_of, resolution_of, phase_of}
+use Rattle.joint_machine.proofs.HeapLemmas.{adopt_by-managed}
+use Rattle.joint_machine.proofs.Joining.{slice_get-set_same, slice_get-set_other}
 use Rattle.joint_laws.proofs.KeptPins.{weak_by, take_by}
 use Rattle.joint_laws.proofs.ManagedMoves.{met_by}
 use Rattle.joint_laws.proofs.ManagedSteps.{meet_by-managed, give_by-managed}

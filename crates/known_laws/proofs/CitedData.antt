@@ -1,24 +1,22 @@
--- What a mirror and a weaken are by where the driver stands: the references are those that its contraction's mirror edges give, and the
--- handle is that of the candidate which is next by the count of those weakened.
-use Rattle.std.proofs.Common.{false}
+-- What a mirror and a weaken are by where the driver stands: the references are those that its contraction's mirror
+-- edges give, and the handle is that of the candidate which is next by the count of those weakened.
+use Rattle.std.proofs.Common.{false, ◌≡◌, ℕ, List, ◌∷◌, Option, Some, refl, sym, ap, ◌∙◌, subst}
 use Rattle.known_laws.proofs.Coming.{event_of, turn_of, side_of}
 use Rattle.known_laws.specs.Known.{given}
-use Rattle.joint_model.specs.Lines.{is_read}
-use Rattle.joint_model.specs.Told.{bare_told}
-use Rattle.std.proofs.Common.{◌≡◌, ℕ, List, ◌∷◌, Option, Some, refl, sym, ap, ◌∙◌, subst}
-use Rattle.joint_model.specs.declared.names.Thread.{Thread}
-use Rattle.joint_model.specs.declared.names.Thread.TheVariants.{M, P, C}
-use Rattle.joint_model.specs.declared.names.Cycle.{Cycle}
-use Rattle.joint_model.specs.declared.names.HNum.{HNum}
-use Rattle.joint_model.specs.declared.events.Op.{Op}
-use Rattle.joint_model.specs.declared.events.Op.TheVariants as op
-use Rattle.joint_model.specs.declared.events.Reply.{Reply}
-use Rattle.joint_model.specs.declared.events.Made.{Made}
-use Rattle.joint_model.specs.Control.{Stand, contracted, weakening, CallerAllows, IsCandidateHandle, MayMirrorNow, MayWeakenNow}
-use Rattle.joint_model.specs.Lines.{IsEvent, is_peer_event}
-use Rattle.joint_model.specs.Linked.{Linkage, SideLawful}
-use Rattle.joint_model.specs.PeerReplay.{peer_answer}
-use Rattle.joint_model.specs.Told.{Told, Noted, references_of}
+use Rattle.joint_machine.specs.Lines.{is_read, IsEvent, is_peer_event}
+use Rattle.joint_machine.specs.PinsTold.{bare_told}
+use Rattle.joint_machine.specs.declared.names.Thread.{Thread}
+use Rattle.joint_machine.specs.declared.names.Thread.TheVariants.{M, P, C}
+use Rattle.joint_machine.specs.declared.names.Cycle.{Cycle}
+use Rattle.joint_machine.specs.declared.names.HNum.{HNum}
+use Rattle.joint_machine.specs.declared.events.Op.{Op}
+use Rattle.joint_machine.specs.declared.events.Op.TheVariants as op
+use Rattle.joint_machine.specs.declared.events.Reply.{Reply}
+use Rattle.joint_machine.specs.declared.events.Made.{Made}
+use Rattle.joint_machine.specs.Control.{Stand, contracted, weakening, CallerAllows, IsCandidateHandle, MayMirrorNow, MayWeakenNow}
+use Rattle.joint_machine.specs.Linked.{Linkage, SideLawful}
+use Rattle.joint_machine.specs.PeerReplay.{peer_answer}
+use Rattle.joint_machine.specs.Told.{Told, Noted, references_of}
 use Rattle.joint_laws.specs.LinkedInvariants.{IsDriverKept}
 use Rattle.known_laws.specs.Driving.{MirrorFits}
 use Rattle.known_laws.specs.Pasts.{Lawful, end_of}

@@ -1,23 +1,25 @@
--- No entry is cited twice, but a snap. The entry that an operation's later event will cite waits: it is the one by which a thread
--- is in the midst of something, or the clear at which the driver stands. What was cited once waits no more: the citing event ends
--- the waiting, only an entry itself begins it anew, and no two callers wait with one entry, as it has one caller.
+-- No entry is cited twice, but a snap. The entry that an operation's later event will cite waits: it is the one by
+-- which a thread is in the midst of something, or the clear at which the driver stands. What was cited once waits no
+-- more: the citing event ends the waiting, only an entry itself begins it anew, and no two callers wait with one entry,
+-- as it has one caller.
 use Rattle.known_laws.proofs.Coming.{event_of, turn_of}
-use Rattle.joint_model.specs.Told.{bare_told}
+use Rattle.joint_machine.specs.PinsTold.{bare_told}
 use Rattle.std.proofs.Common.{◌≡◌, ◌⊎◌, inl, inr, ⊎_elim, ℕ, ◌<◌, List, [], ◌∷◌, ◌++◌, Option, Some, refl, sym, ap, ◌∙◌, subst, arith}
 use Rattle.std.proofs.lemmas.Option.{same_Some}
-use Rattle.joint_model.specs.declared.names.Thread.{Thread}
-use Rattle.joint_model.specs.declared.names.Thread.TheVariants.{M, P, C}
-use Rattle.joint_model.specs.declared.events.Op.{Op}
-use Rattle.joint_model.specs.declared.events.Op.TheVariants as op
-use Rattle.joint_model.specs.declared.events.Reply.{Reply}
-use Rattle.joint_model.specs.declared.events.Reply.TheVariants as says
-use Rattle.joint_model.specs.declared.events.Made.{Made}
-use Rattle.joint_model.specs.Control.{Doing, free, made, lent, gripped, given, met, Control, Stand, snapped, contracted, weakening, marked, restoring, restored, CallerAllows, doing_after, stand_after, control_after, doing_at, MayAdopt, MayLand, MayMeet, MayRelease, MayResolveNow}
-use Rattle.joint_model.specs.Lines.{IsEvent}
-use Rattle.joint_model.specs.Told.{Told, Noted, contraction_of, resolution_of}
-use Rattle.joint_model.proofs.Deciding.{none_some}
+use Rattle.joint_machine.specs.declared.names.Thread.{Thread}
+use Rattle.joint_machine.specs.declared.names.Thread.TheVariants.{M, P, C}
+use Rattle.joint_machine.specs.declared.events.Op.{Op}
+use Rattle.joint_machine.specs.declared.events.Op.TheVariants as op
+use Rattle.joint_machine.specs.declared.events.Reply.{Reply}
+use Rattle.joint_machine.specs.declared.events.Reply.TheVariants as says
+use Rattle.joint_machine.specs.declared.events.Made.{Made}
+use Rattle.joint_machine.specs.Control.{Doing, free, made, lent, gripped, given, met, Control, Stand, snapped, contracted, weakening, marked, restoring, restored, CallerAllows, doing_after, stand_after, control_after, doing_at, MayAdopt, MayLand, MayMeet, MayRelease, MayResolveNow}
+use Rattle.joint_machine.specs.Lines.{IsEvent}
+use Rattle.joint_machine.specs.Told.{Told, Noted, contraction_of, resolution_of}
+use Rattle.joint_machine.proofs.Deciding.{none_some}
 use Rattle.joint_laws.proofs.Hands.{doing-set_cases}
-use Rattle.known_laws.specs.Pasts.{InPast, Lawful, end_of}
+use Rattle.known_laws.specs.Pasts.{Lawful, end_of}
+use Rattle.known_laws.specs.PastEntries.{InPast}
 use Rattle.known_laws.specs.Citations.{HasCited, Cites, IsSnapping, NoneIsCitedTwice, EachStandsBehind}
 use Rattle.known_laws.proofs.Citing.{Began, WasBegun, WasOpened, backed, pasts_cite}
 use Rattle.known_laws.proofs.PastsJoin.{below}

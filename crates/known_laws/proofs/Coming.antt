@@ -1,14 +1,16 @@
--- What is known of an entry of a past, whatever its list: its event, its caller's turn, and of a side's entry its lawfulness.
+-- What is known of an entry of a past, whatever its list: its event, its caller's turn, and of a side's entry its
+-- lawfulness.
 use Rattle.std.proofs.Common.{◌≡◌, Bool, true, false, List, ◌∷◌, refl, sym, ap, ◌∙◌, subst, true≢false}
-use Rattle.joint_model.specs.declared.names.Thread.{Thread}
-use Rattle.joint_model.specs.declared.names.Thread.TheVariants.{M, P, C}
-use Rattle.joint_model.specs.declared.lines.Act.TheVariants as act
-use Rattle.joint_model.specs.declared.events.Op.{Op}
-use Rattle.joint_model.specs.declared.events.Op.TheVariants as op
-use Rattle.joint_model.specs.Control.{CallerAllows}
-use Rattle.joint_model.specs.Lines.{IsEvent, is_peer_event, is_read, is_pinned}
-use Rattle.joint_model.specs.Linked.{Linkage, SideLawful, PeerLawful}
-use Rattle.joint_model.specs.Told.{Noted, bare_told}
+use Rattle.joint_machine.specs.declared.names.Thread.{Thread}
+use Rattle.joint_machine.specs.declared.names.Thread.TheVariants.{M, P, C}
+use Rattle.joint_machine.specs.declared.lines.Act.TheVariants as act
+use Rattle.joint_machine.specs.declared.events.Op.{Op}
+use Rattle.joint_machine.specs.declared.events.Op.TheVariants as op
+use Rattle.joint_machine.specs.Control.{CallerAllows}
+use Rattle.joint_machine.specs.Lines.{IsEvent, is_peer_event, is_read}
+use Rattle.joint_machine.specs.PinsTold.{is_pinned, bare_told}
+use Rattle.joint_machine.specs.Linked.{Linkage, SideLawful, PeerLawful}
+use Rattle.joint_machine.specs.Told.{Noted}
 use Rattle.known_laws.specs.Known.{Comes, SideMayCome, given}
 use Rattle.known_laws.specs.Pasts.{Lawful, end_of}
 use Rattle.known_laws.proofs.Bared.{plain_told}

@@ -1,30 +1,33 @@
--- What is drawn of an entry is what its past tells. Two pasts of one run that have the entry are told the same of it, and where it
--- sets a cell the managed side's state behind it is that of the one managed line up to it. So drawn lines grow and are joined as
--- lines of entries are, and what two seats have of an entry is one. And the objects freed are those drawn, since no other entry frees.
+-- What is drawn of an entry is what its past tells. Two pasts of one run that have the entry are told the same of it,
+-- and where it sets a cell the managed side's state behind it is that of the one managed line up to it. So drawn lines
+-- grow and are joined as lines of entries are, and what two seats have of an entry is one. And the objects freed are
+-- those drawn, since no other entry frees.
 use Rattle.std.proofs.Common.{◌≡◌, inl, ⊎_elim, ℕ, Bool, true, false, List, [], ◌∷◌, ◌++◌, map, Option, None, refl, sym, ap, ◌∙◌, subst, true≢false}
 use Rattle.std.specs.Prelude.{Contains, if◌then◌else◌}
 use mathlib.Core.List.{IsPrefix}
 use Rattle.std.proofs.lemmas.List.{map-append, append-nil}
 use Rattle.std.proofs.lemmas.List.Elements.{Contains-append_cases}
-use Rattle.joint_model.specs.declared.names.Thread.{Thread}
-use Rattle.joint_model.specs.declared.names.Thread.TheVariants.{M, P, C}
-use Rattle.joint_model.specs.declared.events.Entry.{Entry}
-use Rattle.joint_model.specs.declared.events.Op.{Op}
-use Rattle.joint_model.specs.declared.events.Op.TheVariants as op
-use Rattle.joint_model.specs.declared.events.Reply.{Reply}
-use Rattle.joint_model.specs.Draws.{Drawn}
-use Rattle.joint_model.specs.Lines.{IsEvent, is_peer_event, is_read}
-use Rattle.joint_model.specs.declared.lines.Act.TheVariants as act
-use Rattle.joint_model.specs.Histories.{managed_numbers}
-use Rattle.joint_model.specs.Linked.{Linkage, ManagedLawful, SideLawful, managed_after}
-use Rattle.joint_model.specs.Sides.{managed_rules, peer_rules, objects_freed, cell_target}
-use Rattle.joint_model.specs.ManagedReplay.{ManagedReplay, ManagedAllows, managed_answer}
+use Rattle.joint_machine.specs.declared.names.Thread.{Thread}
+use Rattle.joint_machine.specs.declared.names.Thread.TheVariants.{M, P, C}
+use Rattle.joint_machine.specs.declared.events.Entry.{Entry}
+use Rattle.joint_machine.specs.declared.events.Op.{Op}
+use Rattle.joint_machine.specs.declared.events.Op.TheVariants as op
+use Rattle.joint_machine.specs.declared.events.Reply.{Reply}
+use Rattle.joint_machine.specs.Draws.{Drawn}
+use Rattle.joint_machine.specs.Lines.{IsEvent, is_peer_event, is_read}
+use Rattle.joint_machine.specs.declared.lines.Act.TheVariants as act
+use Rattle.joint_machine.specs.Histories.{managed_numbers}
+use Rattle.joint_machine.specs.Linked.{Linkage, ManagedLawful, SideLawful, managed_after}
+use Rattle.joint_machine.specs.Sides.{managed_rules, peer_rules, objects_freed, cell_target}
+use Rattle.joint_machine.specs.ManagedReplay.{ManagedReplay, ManagedAllows, managed_answer}
 use Rattle.joint_laws.specs.ManagedInvariants.{IsReplayKept}
-use Rattle.joint_model.specs.Told.{Told, Noted, bare_told, pins_told, nothing, phase_of, contraction_of, snap_of, resolution_of}
-use Rattle.joint_model.proofs.Members.{Contains-nil, Contains-cons_cases}
+use Rattle.joint_machine.specs.Told.{Told, Noted, nothing, phase_of, contraction_of, snap_of, resolution_of}
+use Rattle.joint_machine.specs.PinsTold.{bare_told, pins_told}
+use Rattle.joint_machine.proofs.Members.{Contains-nil, Contains-cons_cases}
 use Rattle.known_laws.specs.Known.{Comes, given, managed_past}
 use Rattle.known_laws.proofs.Pinned.{kept_pinned}
-use Rattle.known_laws.specs.Pasts.{InPast, Lawful, Within, end_of, is_in}
+use Rattle.known_laws.specs.Pasts.{Lawful, Within, end_of, is_in}
+use Rattle.known_laws.specs.PastEntries.{InPast}
 use Rattle.known_laws.specs.Growing.{kept_in, AreJoined, HasGrown, grown, untold}
 use Rattle.known_laws.specs.Drawn.{KeptDrawn, kept_drawn, drawn_by, drawn, IsToldIn, of_drawn, AreDrawn, NothingIsDrawn, DrawnIsOne, drawn_on, DrawnLinesGrow, DrawnLinesJoin, FreedIsDrawn}
 use Rattle.known_laws.proofs.CitedOnce.{each_stands_behind}

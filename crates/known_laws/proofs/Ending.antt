@@ -1,26 +1,28 @@
--- Once both sides' lines are known whole, the past is the whole run, latest entry first. The latest entry of the past and that
--- of the run are one: were they in different lists, each would stand in the other behind its latest entry, and so have a smaller
--- number than the other.
+-- Once both sides' lines are known whole, the past is the whole run, latest entry first. The latest entry of the past
+-- and that of the run are one: were they in different lists, each would stand in the other behind its latest entry, and
+-- so have a smaller number than the other.
 use Rattle.std.proofs.Common.{◌≡◌, ◌≢◌, inl, inr, ⊎_elim, ℕ, suc, ◌+◌, ◌<◌, Bool, true, false, List, [], ◌∷◌, ◌++◌, length, map, refl, sym, ap, ◌∙◌, subst, arith, true≢false}
 use Rattle.std.specs.Prelude.{if◌then◌else◌}
 use Rattle.std.proofs.lemmas.Bool.{cases_Bool, cases_eq}
 use Rattle.std.proofs.lemmas.List.{append-nil}
-use Rattle.joint_model.specs.declared.names.Thread.{Thread}
-use Rattle.joint_model.specs.declared.names.Thread.TheVariants.{M, P, C}
-use Rattle.joint_model.specs.declared.lines.Act.TheVariants as act
-use Rattle.joint_model.specs.declared.events.Op.{Op}
-use Rattle.joint_model.specs.declared.events.Op.TheVariants as op
-use Rattle.joint_model.specs.Lines.{IsEvent, is_peer_event, is_read, reader_line, list_line}
-use Rattle.joint_model.specs.Linked.{opening_linkage}
+use Rattle.joint_machine.specs.declared.names.Thread.{Thread}
+use Rattle.joint_machine.specs.declared.names.Thread.TheVariants.{M, P, C}
+use Rattle.joint_machine.specs.declared.lines.Act.TheVariants as act
+use Rattle.joint_machine.specs.declared.events.Op.{Op}
+use Rattle.joint_machine.specs.declared.events.Op.TheVariants as op
+use Rattle.joint_machine.specs.Lines.{IsEvent, is_peer_event, is_read}
+use Rattle.joint_machine.specs.HistoryLines.{list_line, reader_line}
+use Rattle.joint_machine.specs.Linked.{opening_linkage}
 use Rattle.known_laws.specs.Known.{Comes}
-use Rattle.joint_model.specs.Told.{Noted}
-use Rattle.known_laws.specs.Pasts.{role_of, own_of, is_in, line, of_line, InPast, end_of, Lawful, bare}
-use Rattle.known_laws.specs.Growing.{Kept, shown, all_shown, entries_kept, untold, turned, AllCome, past_replayed, KnownWholeIsHistory}
+use Rattle.joint_machine.specs.Told.{Noted}
+use Rattle.known_laws.specs.Pasts.{role_of, own_of, is_in, line, of_line, end_of, Lawful, bare}
+use Rattle.known_laws.specs.PastEntries.{InPast, turned}
+use Rattle.known_laws.specs.Growing.{Kept, shown, all_shown, entries_kept, untold, AllCome, past_replayed, KnownWholeIsHistory}
 use Rattle.known_laws.proofs.PastLines.{in_right, in_role, in_own, in_which, line-in, line_in, line_out, in-line, snoc_same, snoc_some}
 use Rattle.known_laws.proofs.PastsJoin.{below}
 use Rattle.known_laws.proofs.Agreeing.{line_bare, in_bare}
 use Rattle.known_laws.proofs.Growing.{bare_entries, of_line_untold}
-use Rattle.joint_model.specs.Draws.{NumberedFrom}
+use Rattle.joint_machine.specs.Histories.{NumberedFrom}
 
 -- numbers fall, and fall by one to 0
 abbrev Fall : List Noted → Type 0

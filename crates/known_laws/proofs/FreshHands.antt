@@ -1,40 +1,38 @@
--- A handle that a thread has made or gripped was adopted by nobody. A new handle's number is above all that were issued, and so
--- above all that were adopted; and what another thread adopts is in that thread's hand, where no two threads have the same.
+-- A handle that a thread has made or gripped was adopted by nobody. A new handle's number is above all that were
+-- issued, and so above all that were adopted; and what another thread adopts is in that thread's hand, where no two
+-- threads have the same.
 use Rattle.std.proofs.Common.{◌≡◌, ◌⊎◌, inl, inr, ⊎_elim, ℕ, zero, suc, Bool, true, false, ◌||◌, List, [], ◌∷◌, ◌++◌, length, Option, Some, None, refl, subst, arith}
 use Rattle.std.specs.Prelude.{Contains, if◌then◌else◌, slice_get}
 use Rattle.std.proofs.lemmas.List.Elements.{Contains-append_cases}
-use Rattle.joint_model.specs.declared.names.Thread.{Thread}
-use Rattle.joint_model.specs.declared.names.Thread.TheVariants.{M, P, C}
-use Rattle.joint_model.specs.declared.names.Sort.{Sort}
-use Rattle.joint_model.specs.declared.names.StaticNo.{StaticNo}
-use Rattle.joint_model.specs.declared.events.Op.{Op}
-use Rattle.joint_model.specs.declared.events.Op.TheVariants as op
-use Rattle.joint_model.specs.declared.events.Made.{Made}
-use Rattle.joint_model.specs.declared.events.Reply.{Reply}
-use Rattle.joint_model.specs.declared.events.Reply.TheVariants as says
-use Rattle.joint_model.specs.Control.{Stand, restored, restoring, idle, snapped, contracted, weakening, marked, DriverAllows, MayResolveNow, MayRestoreNow, CallerAllows, stand_after, answer_in, Doing, free, made, lent, gripped, given, met, doing_after, control_after, doing_at}
-use Rattle.joint_model.specs.Heaps.{Answered, answer, is_full, next_number, slot, fields_of}
-use Rattle.joint_model.specs.Lines.{IsEvent, is_peer_event}
-use Rattle.joint_model.specs.Linked.{Linkage, MayCome, SideLawful, opening_linkage, managed_after, linkage_after}
-use Rattle.joint_model.specs.Managed.{Managed}
-use Rattle.joint_model.specs.ManagedReplay.{ManagedReplay, managed_answer, adopt_by, meet_by, give_by}
-use Rattle.joint_model.specs.Peers.{Peers, next_handle, pair_made, peer_gripped, with_handle, with_peer, held, strong, sort_of, handles_full}
-use Rattle.joint_model.specs.Told.{Told, Noted, snap_of, contraction_of, resolution_of, phase_of}
-use Rattle.joint_model.proofs.Members.{Contains-nil, Contains-cons_cases}
-use Rattle.joint_laws.specs.LinkedInvariants.{doing_in, HasInHand, HasPeer}
+use Rattle.joint_machine.specs.declared.names.Thread.{Thread}
+use Rattle.joint_machine.specs.declared.names.Thread.TheVariants.{M, P, C}
+use Rattle.joint_machine.specs.declared.names.Sort.{Sort}
+use Rattle.joint_machine.specs.declared.names.StaticNo.{StaticNo}
+use Rattle.joint_machine.specs.declared.events.Op.{Op}
+use Rattle.joint_machine.specs.declared.events.Op.TheVariants as op
+use Rattle.joint_machine.specs.declared.events.Made.{Made}
+use Rattle.joint_machine.specs.declared.events.Reply.{Reply}
+use Rattle.joint_machine.specs.declared.events.Reply.TheVariants as says
+use Rattle.joint_machine.specs.Control.{Stand, restored, restoring, idle, snapped, contracted, weakening, marked, DriverAllows, MayResolveNow, MayRestoreNow, CallerAllows, stand_after, answer_in, Doing, free, made, lent, gripped, given, met, doing_after, control_after, doing_at}
+use Rattle.joint_machine.specs.Heaps.{Answered, answer, is_full, next_number, slot, fields_of}
+use Rattle.joint_machine.specs.Lines.{IsEvent, is_peer_event}
+use Rattle.joint_machine.specs.Linked.{Linkage, MayCome, SideLawful, opening_linkage, managed_after, linkage_after}
+use Rattle.joint_machine.specs.Managed.{Managed}
+use Rattle.joint_machine.specs.ManagedReplay.{ManagedReplay, managed_answer, adopt_by, meet_by, give_by}
+use Rattle.joint_machine.specs.Peers.{Peers, next_handle, pair_made, peer_gripped, with_handle, with_peer, held, strong, sort_of, handles_full}
+use Rattle.joint_machine.specs.Told.{Told, Noted, snap_of, contraction_of, resolution_of, phase_of, handles_given, Answer, said_alive, said_cleared}
+use Rattle.joint_machine.proofs.Members.{Contains-nil, Contains-cons_cases}
+use Rattle.joint_laws.specs.LinkedInvariants.{doing_in, HasInHand, HasPeer, AreCallersKept, hands, given_at}
 use Rattle.joint_laws.proofs.DriverPeers.{made-in_hand}
-use Rattle.joint_laws.proofs.Hands.{doing-set_cases}
+use Rattle.joint_laws.proofs.Hands.{doing-set_cases, given-apart}
 use Rattle.joint_laws.proofs.LinkedEntries.{Of}
 use Rattle.joint_laws.proofs.LinkedThreads.{adopt-hand, meet-hand}
 use Rattle.known_laws.specs.Driving.{AreFreshHands, AreFreshGiven}
-use Rattle.joint_model.specs.Told.{handles_given, Answer, said_alive, said_cleared}
-use Rattle.joint_laws.specs.LinkedInvariants.{AreCallersKept, hands, given_at}
-use Rattle.joint_laws.proofs.Hands.{given-apart}
 use Rattle.joint_laws.proofs.Renewing.{given-at}
 use Rattle.joint_laws.proofs.Restores.{restored-any}
-use Rattle.joint_model.specs.PeerReplay.{PeerReplay, TableRow, restored_by, row_of}
-use Rattle.joint_model.specs.declared.names.HNum.{HNum}
-use Rattle.joint_model.proofs.Deciding.{none_some}
+use Rattle.joint_machine.specs.PeerReplay.{PeerReplay, TableRow, restored_by, row_of}
+use Rattle.joint_machine.specs.declared.names.HNum.{HNum}
+use Rattle.joint_machine.proofs.Deciding.{none_some}
 use Rattle.std.proofs.lemmas.Option.{same_Some}
 use Rattle.joint_laws.proofs.LinkedQuiet.{threads-callers}
 

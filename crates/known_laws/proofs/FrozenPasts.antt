@@ -1,30 +1,31 @@
--- Two pasts in which the driver did the same have the same open cycle, with the same handles and fields of its dead part. Another
--- thread's entry changes neither, since no slot names a row of the dead part. The snapshot itself is one entry of one managed line,
--- so it left the same in both. So what the driver's events ask of the managed objects is the same, and so is the contraction.
+-- Two pasts in which the driver did the same have the same open cycle, with the same handles and fields of its dead
+-- part. Another thread's entry changes neither, since no slot names a row of the dead part. The snapshot itself is one
+-- entry of one managed line, so it left the same in both. So what the driver's events ask of the managed objects is the
+-- same, and so is the contraction.
 use Rattle.std.proofs.Common.{◌≡◌, ⊎_elim, ℕ, zero, suc, ◌+◌, ◌≤◌, Bool, true, false, List, [], ◌∷◌, length, map, Option, Some, None, refl, sym, ap, ◌∙◌, subst, arith}
 use Rattle.std.specs.Prelude.{slice_get, Contains}
 use Rattle.std.proofs.lemmas.Bool.{cases_Bool}
 use Rattle.std.proofs.lemmas.Option.{same_Some}
 use base.Growing.{prefix_anti}
-use Rattle.joint_model.specs.declared.names.Thread.{Thread}
-use Rattle.joint_model.specs.declared.names.Thread.TheVariants.{M, P, C}
-use Rattle.joint_model.specs.declared.events.Op.{Op}
-use Rattle.joint_model.specs.declared.events.Op.TheVariants as op
-use Rattle.joint_model.specs.declared.events.Made.{Made}
-use Rattle.joint_model.specs.Components.{mirror_edges, IsContraction, End, node, temporary}
-use Rattle.joint_model.specs.Control.{peer_of_row, carried_end}
-use Rattle.joint_model.specs.Heaps.{place, slot, fields_of}
-use Rattle.joint_model.specs.Cycles.{IsDeadContraction, DeadEdge}
-use Rattle.joint_model.specs.Lines.{IsEvent, is_peer_event}
-use Rattle.joint_model.specs.Linked.{Linkage, SideLawful, managed_after}
-use Rattle.joint_model.specs.Managed.{Managed, OpenCycle, IsBridge, adopted, met, given_up, handle_of}
-use Rattle.joint_model.specs.ManagedReplay.{ManagedReplay, ManagedAllows, managed_answer, registered}
-use Rattle.joint_model.specs.Peers.{Issued, peer_of}
-use Rattle.joint_model.specs.Run.{thread_number}
-use Rattle.joint_model.specs.Told.{Told, Noted}
-use Rattle.joint_model.proofs.Deciding.{none_some}
-use Rattle.joint_model.proofs.HeapLemmas.{Holds-handle_of, adopt_by-managed, candidates_of-open}
-use Rattle.joint_model.proofs.Members.{Contains-at, Contains-here, Contains-there}
+use Rattle.joint_machine.specs.declared.names.Thread.{Thread}
+use Rattle.joint_machine.specs.declared.names.Thread.TheVariants.{M, P, C}
+use Rattle.joint_machine.specs.declared.events.Op.{Op}
+use Rattle.joint_machine.specs.declared.events.Op.TheVariants as op
+use Rattle.joint_machine.specs.declared.events.Made.{Made}
+use Rattle.joint_machine.specs.Components.{mirror_edges, IsContraction, End, node, temporary}
+use Rattle.joint_machine.specs.Control.{peer_of_row, carried_end}
+use Rattle.joint_machine.specs.Heaps.{place, slot, fields_of}
+use Rattle.joint_machine.specs.Cycles.{IsDeadContraction, DeadEdge}
+use Rattle.joint_machine.specs.Lines.{IsEvent, is_peer_event, is_read}
+use Rattle.joint_machine.specs.Linked.{Linkage, SideLawful, managed_after, linkage_after}
+use Rattle.joint_machine.specs.Managed.{Managed, OpenCycle, IsBridge, adopted, met, given_up, handle_of}
+use Rattle.joint_machine.specs.ManagedReplay.{ManagedReplay, ManagedAllows, managed_answer, registered}
+use Rattle.joint_machine.specs.Peers.{Issued, peer_of}
+use Rattle.joint_machine.specs.Run.{thread_number}
+use Rattle.joint_machine.specs.Told.{Told, Noted}
+use Rattle.joint_machine.proofs.Deciding.{none_some}
+use Rattle.joint_machine.proofs.HeapLemmas.{Holds-handle_of, adopt_by-managed, candidates_of-open}
+use Rattle.joint_machine.proofs.Members.{Contains-at, Contains-here, Contains-there}
 use Rattle.joint_laws.specs.LinkedInvariants.{IsDriverKept, IsContracted}
 use Rattle.joint_laws.specs.ManagedInvariants.{IsManagedKept, IsReplayKept}
 use Rattle.joint_laws.proofs.ManagedKeeping.{dead-held, dead-fields, cut_on}
@@ -34,12 +35,9 @@ use Rattle.joint_laws.proofs.DriverPeerSteps.{holds-handle_of}
 use Rattle.joint_laws.proofs.SameGraphs.{contraction-same}
 use Rattle.joint_laws.proofs.Mirrors.{edge-ends, IsEnd}
 use Rattle.known_laws.specs.Pasts.{role_of, is_in, line, of_line, end_of, Lawful, Within, HasSameDeadPart, IsSameForDriver, IsFrozenIn, KnownPastsJoin, EntryMayMove, driver_line}
-use Rattle.joint_model.specs.HistoryLines.{caller_line}
+use Rattle.joint_machine.specs.HistoryLines.{caller_line}
 use Rattle.known_laws.proofs.PastLines.{off, in_role, in_own, line_in, line_out, snoc_same, snoc_some, shorter_begins}
-use Rattle.joint_model.specs.Linked.{linkage_after}
-use Rattle.joint_model.specs.Readers.{with_pins}
-use Rattle.joint_model.specs.Told.{bare_told}
-use Rattle.joint_model.specs.Lines.{is_read}
+use Rattle.joint_machine.specs.PinsTold.{bare_told, with_pins}
 use Rattle.joint_laws.proofs.LinkedEntries.{Of}
 use Rattle.known_laws.specs.Known.{Comes, SideMayCome, given, without_pins, managed_past, past_after}
 use Rattle.known_laws.proofs.Pinned.{kept_pinned}

@@ -1,35 +1,34 @@
--- Known lines grow, and are joined. The new entry's number is above all in the past, since each entry of the past stands in the
--- line of its list. What is told of it may be told plainly. Two lines' pasts are joined by the law of pasts; where a joined line
--- has no more entries than the first one's, it is that one, since that begins it.
-use Rattle.joint_model.specs.ManagedReplay.{ManagedAllows}
-use Rattle.joint_model.specs.Linked.{SideLawful}
-use Rattle.joint_model.specs.Sides.{objects_freed}
-use Rattle.joint_model.specs.declared.names.PhaseWord.{PhaseWord}
+-- Known lines grow, and are joined. The new entry's number is above all in the past, since each entry of the past
+-- stands in the line of its list. What is told of it may be told plainly. Two lines' pasts are joined by the law of
+-- pasts; where a joined line has no more entries than the first one's, it is that one, since that begins it.
+use Rattle.joint_machine.specs.ManagedReplay.{ManagedAllows, ManagedReplay, managed_answer}
+use Rattle.joint_machine.specs.Linked.{SideLawful, Linkage, MayCome, peer_after}
+use Rattle.joint_machine.specs.Sides.{objects_freed}
+use Rattle.joint_machine.specs.declared.names.PhaseWord.{PhaseWord}
 use Rattle.std.proofs.Common.{◌≡◌, ◌⊎◌, ⊎_elim, ℕ, suc, ◌+◌, ◌<◌, ◌≤◌, Bool, true, false, List, [], ◌∷◌, ◌++◌, length, map, Some, None, refl, sym, ap, ◌∙◌, subst, arith, length-append}
 use Rattle.std.specs.Prelude.{if◌then◌else◌}
 use mathlib.Core.List.{IsPrefix}
 use base.Growing.{prefix_refl, prefix_anti}
-use Rattle.joint_model.specs.declared.events.Op.{Op}
-use Rattle.joint_model.specs.declared.events.Op.TheVariants as op
-use Rattle.joint_model.specs.declared.events.Made.{Made}
-use Rattle.joint_model.specs.Control.{free, caller_place}
-use Rattle.joint_model.specs.Lines.{IsEvent, is_peer_event, is_read}
-use Rattle.joint_model.specs.Linked.{Linkage, MayCome, peer_after}
-use Rattle.joint_model.specs.ManagedReplay.{ManagedReplay, managed_answer}
-use Rattle.joint_model.specs.Readers.{with_pins}
-use Rattle.joint_model.specs.Told.{Told, Noted, phase_of, bare_told, tells_pins, pins_told, no_pins}
-use Rattle.known_laws.specs.Known.{TellsPlainly, Comes, SideMayCome, PinsStand, pinned, given, without_pins, managed_past, past_after}
+use Rattle.joint_machine.specs.declared.events.Op.{Op}
+use Rattle.joint_machine.specs.declared.events.Op.TheVariants as op
+use Rattle.joint_machine.specs.declared.events.Made.{Made}
+use Rattle.joint_machine.specs.Control.{free, caller_place}
+use Rattle.joint_machine.specs.Lines.{IsEvent, is_peer_event, is_read}
+use Rattle.joint_machine.specs.Told.{Told, Noted, phase_of}
+use Rattle.joint_machine.specs.PinsTold.{bare_told, no_pins, pins_told, tells_pins, with_pins}
+use Rattle.known_laws.specs.Known.{Comes, SideMayCome, PinsStand, pinned, given, without_pins, managed_past, past_after}
+use Rattle.known_laws.specs.PastEntries.{TellsPlainly, InPast, entries}
 use Rattle.known_laws.proofs.Bared.{unpinned_told, same_told, retell, retell_tells, retell_pins, retell_bare, plain_read}
 use Rattle.known_laws.specs.Telling.{MayBeTold}
-use Rattle.known_laws.specs.Pasts.{role_of, is_in, line, of_line, PastRunsFrom, InPast, end_of, Within, AreWithin, AreAlike, bare, Joined, driver_line, next_of}
-use Rattle.known_laws.specs.Growing.{Kept, shown, all_shown, entries_kept, kept_in, untold, entries, AreKnown, NothingIsKnown, grown, AreBelow, HasGrown, KnownLinesGrow, Begin, KnownLinesJoin, LinesGiveParts, DeadPartStays}
+use Rattle.known_laws.specs.Pasts.{role_of, is_in, line, of_line, PastRunsFrom, end_of, Within, AreWithin, AreAlike, bare, Joined, driver_line, next_of}
+use Rattle.known_laws.specs.Growing.{Kept, shown, all_shown, entries_kept, kept_in, untold, AreKnown, NothingIsKnown, grown, AreBelow, HasGrown, KnownLinesGrow, Begin, KnownLinesJoin, LinesGiveParts, DeadPartStays}
 use Rattle.known_laws.proofs.PastLines.{in_role, line-in, length_begins, shorter_begins, in-line, in_begins}
 use Rattle.known_laws.proofs.PastsJoin.{counted}
 use Rattle.known_laws.proofs.Parts.{same_managed, same_peer, same_control}
 use Rattle.known_laws.proofs.Telling.{told_is_one, plain_may_be_told}
 use Rattle.known_laws.proofs.FrozenPasts.{same_dead_part}
 use Rattle.known_laws.proofs.Agreeing.{entry_pasts_join, pasts_agree, line_bare, tell, within_told, self_a, self_b}
-use Rattle.joint_model.specs.Draws.{NumberedFrom}
+use Rattle.joint_machine.specs.Histories.{NumberedFrom}
 
 pub nothing_is_known : NothingIsKnown
 nothing_is_known = record { past = []; lawful = tt; same = λ i. refl }

@@ -1,34 +1,37 @@
--- From the number on from which an object is held it isn't freed, and is in no open cycle's dead part: there no cycle is open, and it isn't freed yet; each snap
--- later on has it in a pin, so it is reached, not freed and left out of the dead part; a resolve frees rows of the dead part alone; and no other
--- entry frees or opens a cycle. As a cell's target it was made.
+-- From the number on from which an object is held it isn't freed, and is in no open cycle's dead part: there no cycle
+-- is open, and it isn't freed yet; each snap later on has it in a pin, so it is reached, not freed and left out of the
+-- dead part; a resolve frees rows of the dead part alone; and no other entry frees or opens a cycle. As a cell's target
+-- it was made.
 use Rattle.known_laws.specs.Drawn.{open_after, open_in, CyclesAreDrawn}
 use Rattle.std.proofs.Common.{◌≡◌, inl, inr, ⊎_elim, ℕ, ◌<◌, ◌≤◌, Bool, true, false, List, [], ◌∷◌, ◌++◌, Option, Some, None, refl, sym, ap, ◌∙◌, subst, arith, true≢false}
 use Rattle.std.specs.Prelude.{Contains, if◌then◌else◌, nat_lt, slice_get, slice_set}
 use Rattle.std.proofs.lemmas.Bool.{cases_Bool, ltb-true, ltb-false}
 use Rattle.std.proofs.lemmas.Option.{same_Some}
 use Rattle.std.proofs.lemmas.List.Elements.{Contains-append_cases}
-use Rattle.joint_model.specs.declared.names.Thread.{Thread}
-use Rattle.joint_model.specs.declared.names.Thread.TheVariants.{M, P, C}
-use Rattle.joint_model.specs.declared.names.Cycle.{Cycle}
-use Rattle.joint_model.specs.declared.events.Op.{Op}
-use Rattle.joint_model.specs.declared.events.Op.TheVariants as op
-use Rattle.joint_model.specs.declared.events.Reply.TheVariants as says
-use Rattle.joint_model.specs.declared.events.Made.{Made}
-use Rattle.joint_model.specs.Cycles.{IsSnapshot}
-use Rattle.joint_model.specs.Heaps.{Answered, answer, IsLive, slot, is_freed}
-use Rattle.joint_model.specs.Lines.{IsEvent, is_peer_event, is_read}
-use Rattle.joint_model.specs.Linked.{Linkage, SideLawful, linkage_after, managed_after}
-use Rattle.joint_model.specs.Managed.{Managed, OpenCycle, managed_name, cell_read, target_read}
-use Rattle.joint_model.specs.ManagedReplay.{ManagedReplay}
-use Rattle.joint_model.specs.Readers.{FreesObject}
-use Rattle.joint_model.specs.Told.{Told, Noted, snap_of, resolution_of, bare_told, pins_told}
-use Rattle.joint_model.proofs.Deciding.{none_some}
-use Rattle.joint_model.proofs.Members.{Contains-nil, Contains-at, at-Contains}
-use Rattle.joint_model.proofs.WalkLemmas.{Reached-start}
+use Rattle.joint_machine.specs.declared.names.Thread.{Thread}
+use Rattle.joint_machine.specs.declared.names.Thread.TheVariants.{M, P, C}
+use Rattle.joint_machine.specs.declared.names.Cycle.{Cycle}
+use Rattle.joint_machine.specs.declared.events.Op.{Op}
+use Rattle.joint_machine.specs.declared.events.Op.TheVariants as op
+use Rattle.joint_machine.specs.declared.events.Reply.TheVariants as says
+use Rattle.joint_machine.specs.declared.events.Made.{Made}
+use Rattle.joint_machine.specs.Cycles.{IsSnapshot}
+use Rattle.joint_machine.specs.Heaps.{Answered, answer, IsLive, slot, is_freed}
+use Rattle.joint_machine.specs.Lines.{IsEvent, is_peer_event, is_read}
+use Rattle.joint_machine.specs.Linked.{Linkage, SideLawful, linkage_after, managed_after}
+use Rattle.joint_machine.specs.Managed.{Managed, OpenCycle, managed_name, cell_read, target_read}
+use Rattle.joint_machine.specs.ManagedReplay.{ManagedReplay}
+use Rattle.joint_machine.specs.Readers.{FreesObject}
+use Rattle.joint_machine.specs.Told.{Told, Noted, snap_of, resolution_of}
+use Rattle.joint_machine.specs.PinsTold.{bare_told, pins_told}
+use Rattle.joint_machine.proofs.Deciding.{none_some}
+use Rattle.joint_machine.proofs.Members.{Contains-nil, Contains-at, at-Contains}
+use Rattle.joint_machine.proofs.WalkLemmas.{Reached-start}
 use Rattle.joint_laws.specs.ManagedInvariants.{IsReplayKept}
 use Rattle.joint_laws.proofs.ManagedMoves.{GoesOn}
 use Rattle.known_laws.specs.Known.{Comes, SideMayCome, given, without_pins}
-use Rattle.known_laws.specs.Pasts.{InPast, Lawful, end_of}
+use Rattle.known_laws.specs.Pasts.{Lawful, end_of}
+use Rattle.known_laws.specs.PastEntries.{InPast}
 use Rattle.known_laws.specs.Held.{those_below, IsHeld, HeldPinsStand, gone, object, answers_by, open_number, word_by, ReadsAreExact}
 use Rattle.known_laws.proofs.FrozenPasts.{goes_by}
 use Rattle.known_laws.proofs.Later.{IsSideAfter, side_after, reads_leave, kept_end}

@@ -1,23 +1,25 @@
--- An induction over a past: what holds before the first entry, is kept by each entry that may come, and asks for no pins, holds at its end.
--- An entry of a side's list does in a past what it does in the state with the pins that are told with it, but for the pins afterwards. A
--- reader's entry changes its caller's control as a `handle` on its line would, and nothing else. So what each entry that may come keeps is
--- kept by each entry of a past. What both sides keep asks for no numbers either, so it is kept at the end of each known past too.
-use Rattle.joint_model.specs.declared.lines.Act.{Act}
+-- An induction over a past: what holds before the first entry, is kept by each entry that may come, and asks for no
+-- pins, holds at its end. An entry of a side's list does in a past what it does in the state with the pins that are
+-- told with it, but for the pins afterwards. A reader's entry changes its caller's control as a `handle` on its line
+-- would, and nothing else. So what each entry that may come keeps is kept by each entry of a past. What both sides keep
+-- asks for no numbers either, so it is kept at the end of each known past too.
+use Rattle.joint_machine.specs.declared.lines.Act.{Act}
 use Rattle.std.proofs.Common.{◌≡◌, ℕ, Bool, true, false, List, [], ◌∷◌, Option, refl, sym, subst, true≢false, arith}
-use Rattle.joint_model.specs.declared.names.Thread.{Thread}
-use Rattle.joint_model.specs.declared.names.Thread.TheVariants.{M, P, C}
-use Rattle.joint_model.specs.declared.lines.Act.TheVariants as act
-use Rattle.joint_model.specs.declared.events.Op.{Op}
-use Rattle.joint_model.specs.declared.events.Op.TheVariants as op
-use Rattle.joint_model.specs.declared.events.Reply.{Reply}
-use Rattle.joint_model.specs.Control.{control_after}
-use Rattle.joint_model.specs.Heaps.{place}
-use Rattle.joint_model.specs.Lines.{is_peer_event, is_read}
-use Rattle.joint_model.specs.Linked.{Linkage, opening_linkage, MayCome, linkage_after, managed_after, peer_after}
-use Rattle.joint_model.specs.Managed.{handle_reply}
-use Rattle.joint_model.specs.ManagedReplay.{ManagedReplay}
-use Rattle.joint_model.specs.Readers.{ReaderMayCome}
-use Rattle.joint_model.specs.Told.{Told, Noted, nothing, bare_told, no_pins}
+use Rattle.joint_machine.specs.declared.names.Thread.{Thread}
+use Rattle.joint_machine.specs.declared.names.Thread.TheVariants.{M, P, C}
+use Rattle.joint_machine.specs.declared.lines.Act.TheVariants as act
+use Rattle.joint_machine.specs.declared.events.Op.{Op}
+use Rattle.joint_machine.specs.declared.events.Op.TheVariants as op
+use Rattle.joint_machine.specs.declared.events.Reply.{Reply}
+use Rattle.joint_machine.specs.Control.{control_after}
+use Rattle.joint_machine.specs.Heaps.{place}
+use Rattle.joint_machine.specs.Lines.{is_peer_event, is_read}
+use Rattle.joint_machine.specs.Linked.{Linkage, opening_linkage, MayCome, linkage_after, managed_after, peer_after}
+use Rattle.joint_machine.specs.Managed.{handle_reply}
+use Rattle.joint_machine.specs.ManagedReplay.{ManagedReplay}
+use Rattle.joint_machine.specs.Readers.{ReaderMayCome}
+use Rattle.joint_machine.specs.Told.{Told, Noted, nothing}
+use Rattle.joint_machine.specs.PinsTold.{bare_told, no_pins}
 use Rattle.joint_laws.specs.ManagedInvariants.{IsManagedKept}
 use Rattle.joint_laws.proofs.LinkedEntries.{Of, AreKept-entry, AreKept-opening}
 use Rattle.known_laws.specs.Known.{Comes, PinsStand, pinned, given, without_pins, managed_past, past_after}
@@ -47,7 +49,8 @@ reads_leave s n e = subst (λ r. managed_past s n.entry.made n.told (is_peer_eve
     by true = refl
     by false = refl
 
--- after an entry of a side's list: the state that it leads to with the pins that are told, but for the pins, which are those from before, or none
+-- after an entry of a side's list: the state that it leads to with the pins that are told, but for the pins, which are
+-- those from before, or none
 pub record IsSideAfter (s : Linkage) (n : Noted) : Type 0 where
   pub pins : List (Option ℕ)
   pub stand : IsManagedKept s.managed.managed → PinsStand (linkage_after (given s n.told) (without_pins n)).managed.managed pins

@@ -2,42 +2,40 @@
 -- handles that were there, and each handle that is issued comes into the table.
 use Rattle.std.proofs.Common.{◌≡◌, ◌⊎◌, inl, inr, ⊎_elim, ℕ, zero, suc, ◌+◌, ◌-◌, ◌<◌, ◌≤◌, Bool, true, false, ◌||◌, List, [], ◌∷◌, ◌++◌, length, map, drop, Option, Some, None, refl, sym, ap, ◌∙◌, subst, arith, length-append}
 use Rattle.known_laws.proofs.Coming.{peer_of as peer_lawful}
-use Rattle.joint_model.specs.Linked.{PeerLawful}
-use Rattle.joint_model.specs.Told.{bare_told}
+use Rattle.joint_machine.specs.Linked.{PeerLawful, Linkage, SideLawful, peer_after}
+use Rattle.joint_machine.specs.PinsTold.{bare_told}
 use Rattle.std.specs.Prelude.{if◌then◌else◌, min, nat_lt, slice_get}
 use Rattle.std.proofs.lemmas.Bool.{cases_eq, cases_lt}
 use Rattle.std.proofs.lemmas.Option.{same_Some}
-use Rattle.joint_model.specs.declared.names.Thread.{Thread}
-use Rattle.joint_model.specs.declared.names.Thread.TheVariants.{C}
-use Rattle.joint_model.specs.declared.lines.Act.{Act}
-use Rattle.joint_model.specs.declared.lines.Act.TheVariants as act
-use Rattle.joint_model.specs.declared.events.Op.{Op}
-use Rattle.joint_model.specs.declared.events.Op.TheVariants as op
-use Rattle.joint_model.specs.declared.events.Reply.{Reply}
-use Rattle.joint_model.specs.declared.events.Reply.TheVariants as says
-use Rattle.joint_model.specs.declared.events.Made.{Made}
-use Rattle.joint_model.specs.Heaps.{Answered, answer, slot, numbered_set, is_full}
-use Rattle.joint_model.specs.Lines.{is_peer_event}
-use Rattle.joint_model.specs.Linked.{Linkage, SideLawful, peer_after}
-use Rattle.joint_model.specs.Peers.{Peers, Issued, strong, weak, peer_of, peer_line, pair_made, landed, gripped as grip_static, handles_full, held}
-use Rattle.joint_model.specs.PeerReplay.{PeerReplay, TableRow, Marking, fresh_row, row_of, table_target, on_table, bring_by, brings, untabled, peer_thread_line, is_thread, sliced, begun, swept_of, swept, restored_by, peer_answer, withdrawn, given_anew, with_restored, mirrored}
-use Rattle.joint_model.specs.Run.{thread_number}
-use Rattle.joint_model.specs.Told.{Told, Noted, references_of, slice_of, sweep_of}
-use Rattle.joint_model.proofs.Numbered.{numbered-within, numbered-made, numbered_set-length}
+use Rattle.joint_machine.specs.declared.names.Thread.{Thread}
+use Rattle.joint_machine.specs.declared.names.Thread.TheVariants.{C}
+use Rattle.joint_machine.specs.declared.lines.Act.{Act}
+use Rattle.joint_machine.specs.declared.lines.Act.TheVariants as act
+use Rattle.joint_machine.specs.declared.events.Op.{Op}
+use Rattle.joint_machine.specs.declared.events.Op.TheVariants as op
+use Rattle.joint_machine.specs.declared.events.Reply.{Reply}
+use Rattle.joint_machine.specs.declared.events.Reply.TheVariants as says
+use Rattle.joint_machine.specs.declared.events.Made.{Made}
+use Rattle.joint_machine.specs.Heaps.{Answered, answer, slot, numbered_set, is_full}
+use Rattle.joint_machine.specs.Lines.{is_peer_event}
+use Rattle.joint_machine.specs.Peers.{Peers, Issued, strong, weak, peer_of, peer_line, pair_made, landed, gripped as grip_static, handles_full, held}
+use Rattle.joint_machine.specs.PeerReplay.{PeerReplay, TableRow, Marking, fresh_row, row_of, table_target, on_table, bring_by, brings, untabled, peer_thread_line, is_thread, sliced, begun, swept_of, swept, restored_by, peer_answer, withdrawn, given_anew, with_restored, mirrored}
+use Rattle.joint_machine.specs.Run.{thread_number}
+use Rattle.joint_machine.specs.Told.{Told, Noted, references_of, slice_of, sweep_of}
+use Rattle.joint_machine.proofs.Numbered.{numbered-within, numbered-made, numbered_set-length, numbered-push_new}
 use Rattle.joint_laws.specs.LinkedInvariants.{IsHeldOne}
 use Rattle.joint_laws.specs.PeerInvariants.{IsTabled, IsIssued, IsPeerKept}
 use Rattle.joint_laws.proofs.DriverHandles.{written-strength}
 use Rattle.joint_laws.proofs.DriverPeerSteps.{Only, HandlesAlike-only, HandlesAlike-swept}
-use Rattle.joint_laws.proofs.HandlesAlike.{HandlesAlike, nothing_touched}
+use Rattle.joint_laws.proofs.HandlesAlike.{HandlesAlike, nothing_touched, HandlesAlike-then}
 use Rattle.joint_laws.proofs.PeerQuietEvents.{quiet-line, quiet-pair, quiet-grip, quiet-land}
-use Rattle.known_laws.specs.Pasts.{InPast, Lawful, end_of}
+use Rattle.known_laws.specs.Pasts.{Lawful, end_of}
+use Rattle.known_laws.specs.PastEntries.{InPast}
 use Rattle.known_laws.specs.Facts.{TakesHandle, HandlesLeaveSo}
 use Rattle.known_laws.proofs.Later.{kept_end}
-use Rattle.joint_model.specs.Components.{End}
+use Rattle.joint_machine.specs.Components.{End}
 use Rattle.joint_laws.proofs.Restores.{restored-any}
-use Rattle.joint_laws.proofs.HandlesAlike.{HandlesAlike-then}
 use Rattle.joint_laws.proofs.PeerQuiet.{HandlesAlike-issued}
-use Rattle.joint_model.proofs.Numbered.{numbered-push_new}
 
 abbrev HasRow : PeerReplay → ℕ → Type 0
 HasRow s g = (row : TableRow) × IsTabled s.table g row

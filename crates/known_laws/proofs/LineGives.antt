@@ -1,11 +1,11 @@
--- What the state after a past has of one side or of one caller is what that line gives. One recursion over two pasts serves all
--- parts: an entry outside of the line leaves the part alone, and where the latest entries of both stand in the line they are one
--- entry, which does the same to both.
+-- What the state after a past has of one side or of one caller is what that line gives. One recursion over two pasts
+-- serves all parts: an entry outside of the line leaves the part alone, and where the latest entries of both stand in
+-- the line they are one entry, which does the same to both.
 use Rattle.std.proofs.Common.{◌≡◌, ◌⊎◌, inl, inr, ⊎_elim, ℕ, zero, suc, ◌+◌, ◌≤◌, Bool, true, false, List, [], ◌∷◌, length, refl, sym, ◌∙◌, subst, arith}
 use Rattle.std.proofs.lemmas.Bool.{cases_Bool}
-use Rattle.joint_model.specs.Linked.{Linkage, opening_linkage}
+use Rattle.joint_machine.specs.Linked.{Linkage, opening_linkage}
 use Rattle.known_laws.specs.Known.{past_after}
-use Rattle.joint_model.specs.Told.{Noted}
+use Rattle.joint_machine.specs.Told.{Noted}
 use Rattle.known_laws.specs.Pasts.{is_in, line, end_of}
 use Rattle.known_laws.proofs.PastLines.{line_in, line_out, snoc_same, snoc_some}
 

@@ -1,34 +1,35 @@
--- Each side's list in a past is lawful by itself and gives that side's state, since only the side's own entries move it. And the
--- line of a thread has exactly the entries that the thread made, since no two threads have one place.
+-- Each side's list in a past is lawful by itself and gives that side's state, since only the side's own entries move
+-- it. And the line of a thread has exactly the entries that the thread made, since no two threads have one place.
 use Rattle.std.proofs.Common.{◌≡◌, ◌≢◌, ◌⊎◌, inl, inr, ⊎_elim, ℕ, ◌+◌, ◌<◌, Bool, true, false, ◌||◌, List, [], ◌∷◌, ◌++◌, refl, sym, ap, ◌∙◌, subst, arith, eq-eqb, ne_eqb, true≢false}
-use Rattle.std.specs.Prelude.{if◌then◌else◌, nat_eq}
+use Rattle.std.specs.Prelude.{if◌then◌else◌, nat_eq, All, map}
 use Rattle.std.proofs.lemmas.Bool.{cases_eq}
-use Rattle.joint_model.specs.declared.names.Thread.{Thread}
-use Rattle.joint_model.specs.declared.names.Thread.TheVariants.{M, P, C}
-use Rattle.joint_model.specs.declared.events.Entry.{Entry}
-use Rattle.joint_model.specs.Control.{caller_place}
-use Rattle.joint_model.specs.declared.events.Op.{Op}
-use Rattle.joint_model.specs.declared.events.Op.TheVariants as op
-use Rattle.joint_model.specs.Lines.{IsEvent, IsThread, is_peer_event, is_read, list_line, reader_line}
-use Rattle.joint_model.specs.Linked.{SideLawful, PeerLawful, peer_after}
-use Rattle.joint_model.specs.ManagedReplay.{opening_replay}
-use Rattle.joint_model.specs.PeerReplay.{opening_peer_replay, is_thread}
-use Rattle.joint_model.specs.Told.{Noted, bare_told}
+use Rattle.joint_machine.specs.declared.names.Thread.{Thread}
+use Rattle.joint_machine.specs.declared.names.Thread.TheVariants.{M, P, C}
+use Rattle.joint_machine.specs.declared.events.Entry.{Entry}
+use Rattle.joint_machine.specs.Control.{caller_place}
+use Rattle.joint_machine.specs.declared.events.Op.{Op}
+use Rattle.joint_machine.specs.declared.events.Op.TheVariants as op
+use Rattle.joint_machine.specs.Lines.{IsEvent, IsThread, is_peer_event, is_read}
+use Rattle.joint_machine.specs.Linked.{SideLawful, PeerLawful, peer_after}
+use Rattle.joint_machine.specs.ManagedReplay.{opening_replay}
+use Rattle.joint_machine.specs.PeerReplay.{opening_peer_replay, is_thread}
+use Rattle.joint_machine.specs.Told.{Noted}
+use Rattle.joint_machine.specs.PinsTold.{bare_told}
 use Rattle.known_laws.specs.Known.{given, managed_past}
-use Rattle.known_laws.specs.Pasts.{role_of, is_in, line, end_of, InPast, Lawful}
-use Rattle.joint_model.specs.HistoryLines.{caller_line, stands_in}
-use Rattle.known_laws.specs.Growing.{Kept, entries, entries_kept, kept_in, turned}
-use Rattle.joint_model.specs.declared.lines.Act.TheVariants as act
+use Rattle.known_laws.specs.Pasts.{role_of, is_in, line, end_of, Lawful}
+use Rattle.known_laws.specs.PastEntries.{InPast, entries, turned}
+use Rattle.joint_machine.specs.HistoryLines.{caller_line, stands_in, list_line, reader_line}
+use Rattle.known_laws.specs.Growing.{Kept, entries_kept, kept_in}
+use Rattle.joint_machine.specs.declared.lines.Act.TheVariants as act
 use Rattle.known_laws.proofs.Coming.{event_of, side_of, peer_of, peer_told_whole}
 use Rattle.known_laws.proofs.Growing.{entries_shown}
 use Rattle.known_laws.proofs.Parts.{role_by}
 use Rattle.known_laws.proofs.Ending.{role_bound, known_whole_is_history}
-use Rattle.joint_model.specs.Sides.{managed_rules, peer_rules, LeadsTo}
-use Rattle.joint_model.specs.Components.{Rises}
-use Rattle.joint_model.proofs.Members.{Rises-push}
-use Rattle.joint_model.proofs.SideLists.{LeadsTo-push}
+use Rattle.joint_machine.specs.Sides.{managed_rules, peer_rules, LeadsTo}
+use Rattle.joint_machine.specs.Components.{Rises}
+use Rattle.joint_machine.proofs.Members.{Rises-push}
+use Rattle.joint_machine.proofs.SideLists.{LeadsTo-push}
 use Rattle.std.proofs.lemmas.List.Elements.{All-cons, All-nil}
-use Rattle.std.specs.Prelude.{All, map}
 use Rattle.known_laws.proofs.PastLines.{in-line}
 use Rattle.known_laws.proofs.PastsJoin.{below}
 use Rattle.known_laws.specs.Lists.{KnownListsAreLawful, made_by, OwnLineIsMadeByCaller}

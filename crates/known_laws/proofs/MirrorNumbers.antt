@@ -1,23 +1,23 @@
--- Each cycle that was ever mirrored was opened, and before its mirror the driver's cycle is later than each of them: a snapshot
--- opens the next number, only the mirror adds a number, and that is the open cycle's.
+-- Each cycle that was ever mirrored was opened, and before its mirror the driver's cycle is later than each of them: a
+-- snapshot opens the next number, only the mirror adds a number, and that is the open cycle's.
 use Rattle.std.proofs.Common.{◌≡◌, ◌⊎◌, inl, inr, ⊎_elim, ℕ, ◌≤◌, List, [], ◌∷◌, Option, Some, None, refl, sym, ap, subst, arith}
 use Rattle.std.specs.Prelude.{Contains}
 use Rattle.std.proofs.lemmas.List.Elements.{Contains-append_cases}
-use Rattle.joint_model.specs.declared.names.Thread.{Thread}
-use Rattle.joint_model.specs.declared.names.Thread.TheVariants.{M, P, C}
-use Rattle.joint_model.specs.declared.events.Op.{Op}
-use Rattle.joint_model.specs.declared.events.Op.TheVariants as op
-use Rattle.joint_model.specs.declared.events.Made.{Made}
-use Rattle.joint_model.specs.declared.events.Reply.{Reply}
-use Rattle.joint_model.specs.Control.{CallerAllows, Stand, snapped, contracted, weakening, marked, restoring, stand_after, control_after, MayContractNow, MayMirrorNow}
-use Rattle.joint_model.specs.Lines.{IsEvent, is_peer_event}
-use Rattle.joint_model.specs.Linked.{Linkage, MayCome, SideLawful, managed_after, peer_after, linkage_after}
-use Rattle.joint_model.specs.Managed.{Managed}
-use Rattle.joint_model.specs.ManagedReplay.{ManagedReplay}
-use Rattle.joint_model.specs.PeerReplay.{PeerReplay, mirrored}
-use Rattle.joint_model.specs.Peers.{Issued}
-use Rattle.joint_model.specs.Told.{Told, Noted, snap_of, contraction_of, references_of}
-use Rattle.joint_model.proofs.Members.{Contains-nil, Contains-cons_cases}
+use Rattle.joint_machine.specs.declared.names.Thread.{Thread}
+use Rattle.joint_machine.specs.declared.names.Thread.TheVariants.{M, P, C}
+use Rattle.joint_machine.specs.declared.events.Op.{Op}
+use Rattle.joint_machine.specs.declared.events.Op.TheVariants as op
+use Rattle.joint_machine.specs.declared.events.Made.{Made}
+use Rattle.joint_machine.specs.declared.events.Reply.{Reply}
+use Rattle.joint_machine.specs.Control.{CallerAllows, Stand, snapped, contracted, weakening, marked, restoring, stand_after, control_after, MayContractNow, MayMirrorNow}
+use Rattle.joint_machine.specs.Lines.{IsEvent, is_peer_event}
+use Rattle.joint_machine.specs.Linked.{Linkage, MayCome, SideLawful, managed_after, peer_after, linkage_after}
+use Rattle.joint_machine.specs.Managed.{Managed}
+use Rattle.joint_machine.specs.ManagedReplay.{ManagedReplay}
+use Rattle.joint_machine.specs.PeerReplay.{PeerReplay, mirrored}
+use Rattle.joint_machine.specs.Peers.{Issued}
+use Rattle.joint_machine.specs.Told.{Told, Noted, snap_of, contraction_of, references_of}
+use Rattle.joint_machine.proofs.Members.{Contains-nil, Contains-cons_cases}
 use Rattle.joint_laws.specs.LinkedInvariants.{IsDriverKept}
 use Rattle.joint_laws.specs.ManagedInvariants.{IsReplayKept}
 use Rattle.joint_laws.proofs.LinkedEntries.{Of}
@@ -25,7 +25,7 @@ use Rattle.joint_laws.proofs.ManagedEntries.{ManagedStep-entry}
 use Rattle.joint_laws.proofs.ManagedSteps.{ManagedStep, going_on, snapping, resolving, abandoning}
 use Rattle.known_laws.specs.Driving.{IsLater, AreMirrorsOpened}
 use Rattle.known_laws.proofs.PeerKeeps.{IsNoMirror, same_mirrors_after}
-use Rattle.joint_model.specs.Components.{End}
+use Rattle.joint_machine.specs.Components.{End}
 
 -- the driver's events other than a snapshot, a contraction and a mirror
 abbrev IsRest : Op → Type 0

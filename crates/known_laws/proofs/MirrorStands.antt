@@ -1,27 +1,27 @@
--- The mirror is as the driver's stand says. Another thread's entry leaves the mirror alone, and the candidates with their handles,
--- since nobody names the dead part. A mirror begins with nothing weakened; a weaken and a restore of the driver take the handle of
--- the next candidate; a begin comes when all are weakened; after a clear none stands.
+-- The mirror is as the driver's stand says. Another thread's entry leaves the mirror alone, and the candidates with
+-- their handles, since nobody names the dead part. A mirror begins with nothing weakened; a weaken and a restore of the
+-- driver take the handle of the next candidate; a begin comes when all are weakened; after a clear none stands.
 use Rattle.std.proofs.Common.{◌≡◌, ⊎_elim, ℕ, ◌+◌, ◌<◌, true, List, [], ◌∷◌, ◌++◌, length, Option, Some, None, refl, sym, ap, ◌∙◌, subst, arith, length-append, append-nil}
 use Rattle.std.specs.Prelude.{Contains, ◌↔◌, slice_get}
 use Rattle.std.proofs.lemmas.Option.{same_Some}
 use Rattle.std.proofs.lemmas.List.Elements.{Contains-append_cases, Contains-append_left, Contains-append_right}
-use Rattle.joint_model.specs.declared.names.Thread.{Thread}
-use Rattle.joint_model.specs.declared.names.Thread.TheVariants.{M, P, C}
-use Rattle.joint_model.specs.declared.events.Op.{Op}
-use Rattle.joint_model.specs.declared.events.Op.TheVariants as op
-use Rattle.joint_model.specs.declared.events.Made.{Made}
-use Rattle.joint_model.specs.declared.events.Reply.{Reply}
-use Rattle.joint_model.specs.declared.events.Reply.TheVariants as says
-use Rattle.joint_model.specs.Control.{CallerAllows, OpenSnap, Stand, idle, snapped, contracted, weakening, marked, restoring, restored, stand_after, control_after, IsCandidateHandle, answer_in, MayContractNow, MayMirrorNow, MayWeakenNow, MayBeginNow, MaySweepNow, MayRestoreNow, MayClearNow}
-use Rattle.joint_model.specs.Lines.{IsEvent, is_peer_event}
-use Rattle.joint_model.specs.Linked.{Linkage, MayCome, SideLawful, managed_after, peer_after, linkage_after}
-use Rattle.joint_model.specs.Managed.{Managed, OpenCycle, handle_of, candidates_of}
-use Rattle.joint_model.specs.ManagedReplay.{ManagedReplay}
-use Rattle.joint_model.specs.PeerReplay.{PeerReplay, Mirror, mirrored, row_of, with_weakened, with_restored}
-use Rattle.joint_model.specs.Run.{thread_number}
-use Rattle.joint_model.specs.Told.{Told, Noted, nothing, contraction_of, references_of, phase_of}
-use Rattle.joint_model.proofs.HeapLemmas.{candidates_of-open}
-use Rattle.joint_model.proofs.Members.{Contains-nil, Contains-here, Contains-cons_cases, Contains-at, last-or}
+use Rattle.joint_machine.specs.declared.names.Thread.{Thread}
+use Rattle.joint_machine.specs.declared.names.Thread.TheVariants.{M, P, C}
+use Rattle.joint_machine.specs.declared.events.Op.{Op}
+use Rattle.joint_machine.specs.declared.events.Op.TheVariants as op
+use Rattle.joint_machine.specs.declared.events.Made.{Made}
+use Rattle.joint_machine.specs.declared.events.Reply.{Reply}
+use Rattle.joint_machine.specs.declared.events.Reply.TheVariants as says
+use Rattle.joint_machine.specs.Control.{CallerAllows, OpenSnap, Stand, idle, snapped, contracted, weakening, marked, restoring, restored, stand_after, control_after, IsCandidateHandle, answer_in, MayContractNow, MayMirrorNow, MayWeakenNow, MayBeginNow, MaySweepNow, MayRestoreNow, MayClearNow}
+use Rattle.joint_machine.specs.Lines.{IsEvent, is_peer_event}
+use Rattle.joint_machine.specs.Linked.{Linkage, MayCome, SideLawful, managed_after, peer_after, linkage_after}
+use Rattle.joint_machine.specs.Managed.{Managed, OpenCycle, handle_of, candidates_of}
+use Rattle.joint_machine.specs.ManagedReplay.{ManagedReplay}
+use Rattle.joint_machine.specs.PeerReplay.{PeerReplay, Mirror, mirrored, row_of, with_weakened, with_restored, TableRow, restored_by, withdrawn, with_given}
+use Rattle.joint_machine.specs.Run.{thread_number}
+use Rattle.joint_machine.specs.Told.{Told, Noted, nothing, contraction_of, references_of, phase_of, Answer, said_alive, said_cleared, handles_given}
+use Rattle.joint_machine.proofs.HeapLemmas.{candidates_of-open}
+use Rattle.joint_machine.proofs.Members.{Contains-nil, Contains-here, Contains-cons_cases, Contains-at, last-or}
 use Rattle.joint_laws.specs.ManagedInvariants.{IsManagedKept}
 use Rattle.joint_laws.proofs.LinkedEntries.{Of}
 use Rattle.joint_laws.proofs.ManagedKeeping.{dead-held, cut_on}
@@ -30,11 +30,9 @@ use Rattle.known_laws.specs.Driving.{IsMirrorOf, MirrorFits}
 use Rattle.known_laws.proofs.FrozenPasts.{goes_by}
 use Rattle.known_laws.proofs.PeerKeeps.{unmirroring, same_mirror_after}
 use Rattle.joint_laws.proofs.ManagedEntries.{handle-same}
-use Rattle.joint_model.specs.Components.{End}
-use Rattle.joint_model.specs.PeerReplay.{TableRow, restored_by, withdrawn, with_given}
-use Rattle.joint_model.specs.Peers.{next_handle}
-use Rattle.joint_model.specs.Told.{Answer, said_alive, said_cleared, handles_given}
-use Rattle.joint_model.proofs.Deciding.{none_some}
+use Rattle.joint_machine.specs.Components.{End}
+use Rattle.joint_machine.specs.Peers.{next_handle}
+use Rattle.joint_machine.proofs.Deciding.{none_some}
 use Rattle.joint_laws.proofs.Restores.{restored-cases}
 
 -- the candidates and their handles are the same

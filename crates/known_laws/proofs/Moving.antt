@@ -1,29 +1,31 @@
--- An entry that may come after one past may come after another with the same line of its list and of its caller. Its own side's state
--- is that of its list, and what its caller is in the midst of that of its caller's line. The driver's peer events ask for candidates
--- and mirror edges of the managed side, which are frozen while the driver's line stays.
+-- An entry that may come after one past may come after another with the same line of its list and of its caller. Its
+-- own side's state is that of its list, and what its caller is in the midst of that of its caller's line. The driver's
+-- peer events ask for candidates and mirror edges of the managed side, which are frozen while the driver's line stays.
 use Rattle.std.proofs.Common.{◌≡◌, ⊎_elim, ℕ, ◌≤◌, Bool, true, false, List, length, Option, Some, None, refl, sym, ap, ◌∙◌, subst, true≢false}
 use Rattle.std.specs.Prelude.{slice_get}
 use Rattle.std.proofs.lemmas.Bool.{cases_Bool}
-use Rattle.joint_model.specs.declared.names.Thread.{Thread}
-use Rattle.joint_model.specs.declared.names.Thread.TheVariants.{M, P, C}
-use Rattle.joint_model.specs.declared.lines.Act.TheVariants as act
-use Rattle.joint_model.specs.declared.events.Op.{Op}
-use Rattle.joint_model.specs.declared.events.Op.TheVariants as op
-use Rattle.joint_model.specs.declared.events.Reply.{Reply}
-use Rattle.joint_model.specs.Components.{mirror_edges}
-use Rattle.joint_model.specs.Control.{free, Stand, OpenSnap, contracted, weakening, restoring, caller_place, carried_edges, IsCandidateHandle, CallerAllows, DriverAllows, ThreadAllows, IsAtRest, MayMirrorNow, MayWeakenNow, MayBeginNow, MaySweepNow, MayRestoreNow, MayClearNow, MayRefuseNow}
-use Rattle.joint_model.specs.Lines.{IsEvent, is_peer_event, is_read, is_pinned}
-use Rattle.joint_model.specs.Linked.{SideLawful, PeerLawful, ManagedLawful}
-use Rattle.joint_model.specs.Managed.{Managed, candidates_of}
-use Rattle.joint_model.specs.ManagedReplay.{ManagedReplay}
-use Rattle.joint_model.specs.PeerReplay.{PeerReplay}
-use Rattle.joint_model.specs.Peers.{Issued}
-use Rattle.joint_model.specs.Readers.{ReaderMayCome, with_pins}
-use Rattle.joint_model.specs.Told.{Told, Noted, references_of, kept_pins, tells_pins, pins_told, no_pins, bare_told}
-use Rattle.known_laws.specs.Known.{MayComeLater, TellsPlainly, Comes, SideMayCome, PinsStand, given}
+use Rattle.joint_machine.specs.declared.names.Thread.{Thread}
+use Rattle.joint_machine.specs.declared.names.Thread.TheVariants.{M, P, C}
+use Rattle.joint_machine.specs.declared.lines.Act.TheVariants as act
+use Rattle.joint_machine.specs.declared.events.Op.{Op}
+use Rattle.joint_machine.specs.declared.events.Op.TheVariants as op
+use Rattle.joint_machine.specs.declared.events.Reply.{Reply}
+use Rattle.joint_machine.specs.Components.{mirror_edges}
+use Rattle.joint_machine.specs.Control.{free, Stand, OpenSnap, contracted, weakening, restoring, caller_place, carried_edges, IsCandidateHandle, CallerAllows, DriverAllows, ThreadAllows, IsAtRest, MayMirrorNow, MayWeakenNow, MayBeginNow, MaySweepNow, MayRestoreNow, MayClearNow, MayRefuseNow}
+use Rattle.joint_machine.specs.Lines.{IsEvent, is_peer_event, is_read}
+use Rattle.joint_machine.specs.PinsTold.{is_pinned, bare_told, no_pins, pins_told, tells_pins, with_pins}
+use Rattle.joint_machine.specs.Linked.{SideLawful, PeerLawful, ManagedLawful}
+use Rattle.joint_machine.specs.Managed.{Managed, candidates_of}
+use Rattle.joint_machine.specs.ManagedReplay.{ManagedReplay}
+use Rattle.joint_machine.specs.PeerReplay.{PeerReplay}
+use Rattle.joint_machine.specs.Peers.{Issued}
+use Rattle.joint_machine.specs.Readers.{ReaderMayCome}
+use Rattle.joint_machine.specs.Told.{Told, Noted, references_of, kept_pins}
+use Rattle.known_laws.specs.Known.{MayComeLater, Comes, SideMayCome, PinsStand, given}
+use Rattle.known_laws.specs.PastEntries.{TellsPlainly}
 use Rattle.known_laws.proofs.Pinned.{none_stand}
 use Rattle.known_laws.specs.Pasts.{role_of, own_of, line, end_of, IsSameForDriver, next_of, driver_line}
-use Rattle.joint_model.specs.HistoryLines.{caller_line}
+use Rattle.joint_machine.specs.HistoryLines.{caller_line}
 use Rattle.known_laws.proofs.Parts.{SameAt, role_by, same_managed, same_peer, same_control}
 
 -- what the driver's events ask for, in two managed states that are the same for it

@@ -1,20 +1,20 @@
--- A marking of the driver is open only in its marked phase: only its begin opens one, with which it comes to that phase, and it
--- leaves the phase by the sweep alone, after which none is open.
+-- A marking of the driver is open only in its marked phase: only its begin opens one, with which it comes to that
+-- phase, and it leaves the phase by the sweep alone, after which none is open.
 use Rattle.std.proofs.Common.{◌≡◌, ℕ, List, [], Option, Some, refl, sym, ap, ◌∙◌, subst}
-use Rattle.joint_model.specs.declared.names.Thread.{Thread}
-use Rattle.joint_model.specs.declared.names.Thread.TheVariants.{M, P, C}
-use Rattle.joint_model.specs.declared.events.Op.{Op}
-use Rattle.joint_model.specs.declared.events.Op.TheVariants as op
-use Rattle.joint_model.specs.declared.events.Made.{Made}
-use Rattle.joint_model.specs.declared.events.Reply.{Reply}
-use Rattle.joint_model.specs.Control.{CallerAllows, DriverAllows, OpenSnap, Stand, weakening, marked, stand_after, control_after, MayBeginNow}
-use Rattle.joint_model.specs.Lines.{is_peer_event}
-use Rattle.joint_model.specs.Linked.{Linkage, MayCome, peer_after, linkage_after}
-use Rattle.joint_model.specs.Managed.{Managed}
-use Rattle.joint_model.specs.PeerReplay.{PeerReplay, Marking}
-use Rattle.joint_model.specs.Peers.{Issued}
-use Rattle.joint_model.specs.Told.{Told, Noted, sweep_of}
-use Rattle.joint_model.proofs.Deciding.{none_some}
+use Rattle.joint_machine.specs.declared.names.Thread.{Thread}
+use Rattle.joint_machine.specs.declared.names.Thread.TheVariants.{M, P, C}
+use Rattle.joint_machine.specs.declared.events.Op.{Op}
+use Rattle.joint_machine.specs.declared.events.Op.TheVariants as op
+use Rattle.joint_machine.specs.declared.events.Made.{Made}
+use Rattle.joint_machine.specs.declared.events.Reply.{Reply}
+use Rattle.joint_machine.specs.Control.{CallerAllows, DriverAllows, OpenSnap, Stand, weakening, marked, stand_after, control_after, MayBeginNow}
+use Rattle.joint_machine.specs.Lines.{is_peer_event}
+use Rattle.joint_machine.specs.Linked.{Linkage, MayCome, peer_after, linkage_after}
+use Rattle.joint_machine.specs.Managed.{Managed}
+use Rattle.joint_machine.specs.PeerReplay.{PeerReplay, Marking}
+use Rattle.joint_machine.specs.Peers.{Issued}
+use Rattle.joint_machine.specs.Told.{Told, Noted, sweep_of}
+use Rattle.joint_machine.proofs.Deciding.{none_some}
 use Rattle.joint_laws.proofs.LinkedEntries.{Of}
 use Rattle.known_laws.specs.Driving.{IsOwnMarking}
 use Rattle.known_laws.proofs.PeerKeeps.{marking_before, swept-closed}

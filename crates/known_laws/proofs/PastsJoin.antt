@@ -1,15 +1,16 @@
--- What two seats know of one run is, together, a past of it. By recursion over both pasts, latest entries first. Where the two latest
--- are one entry, it is dropped from one. Else the one with the greater number, x, is put in front of what is joined behind it: x isn't
--- in the other past, whose numbers are smaller, so in the lines of x the other past has no more than the first has behind x, and
--- what is asked of x is as it was.
+-- What two seats know of one run is, together, a past of it. By recursion over both pasts, latest entries first. Where
+-- the two latest are one entry, it is dropped from one. Else the one with the greater number, x, is put in front of
+-- what is joined behind it: x isn't in the other past, whose numbers are smaller, so in the lines of x the other past
+-- has no more than the first has behind x, and what is asked of x is as it was.
 use Rattle.std.proofs.Common.{◌≡◌, ◌⊎◌, inl, inr, ⊎_elim, ℕ, zero, suc, ◌+◌, ◌<◌, ◌≤◌, Bool, true, false, List, [], ◌∷◌, ◌++◌, length, refl, sym, ap, ◌∙◌, subst, arith, length-append}
 use Rattle.std.specs.Prelude.{if◌then◌else◌}
 use Rattle.std.proofs.lemmas.Bool.{cases_Bool, cases_order, cases_lt}
 use mathlib.Core.List.{IsPrefix}
 use base.Growing.{prefix_refl, prefix_trans, prefix_anti}
-use Rattle.joint_model.specs.Told.{Noted}
+use Rattle.joint_machine.specs.Told.{Noted}
 use Rattle.known_laws.specs.Known.{MayComeLater}
-use Rattle.known_laws.specs.Pasts.{role_of, own_of, is_in, line, of_line, PastRunsFrom, InPast, end_of, Lawful, Within, IsFrozenIn, Joined, PastsJoin, next_of}
+use Rattle.known_laws.specs.Pasts.{role_of, own_of, is_in, line, of_line, PastRunsFrom, end_of, Lawful, Within, IsFrozenIn, Joined, PastsJoin, next_of}
+use Rattle.known_laws.specs.PastEntries.{InPast}
 use Rattle.known_laws.proofs.PastLines.{in_right, in_begins, in_role, in_own, line_in, line_out, line-in, in-line, in-of_line, one-number, length_begins, shorter_begins, snoc_begins}
 use Rattle.known_laws.proofs.Moving.{may_move}
 

@@ -1,17 +1,16 @@
--- What both sides keep holds with other pins too, if they stand: pins are roots of the managed objects and nothing else of what is
--- kept asks for them.
+-- What both sides keep holds with other pins too, if they stand: pins are roots of the managed objects and nothing else
+-- of what is kept asks for them.
 use Rattle.std.proofs.Common.{◌≡◌, ℕ, inl, inr, List, Option, Some}
 use Rattle.std.specs.Prelude.{Contains}
-use Rattle.joint_model.specs.Control.{Doing, Stand, OpenSnap, idle, snapped, contracted, weakening, marked, restoring, restored}
-use Rattle.joint_model.specs.Cycles.{IsDeadContraction, DeadEdge}
-use Rattle.joint_model.specs.Linked.{Linkage}
-use Rattle.joint_model.specs.Managed.{Managed, OpenCycle, Holds, IsBridge}
-use Rattle.joint_model.specs.ManagedReplay.{ManagedReplay}
-use Rattle.joint_model.specs.PeerReplay.{PeerReplay}
-use Rattle.joint_model.specs.Peers.{Issued}
-use Rattle.joint_model.specs.Readers.{with_pins}
-use Rattle.joint_model.specs.Told.{no_pins}
-use Rattle.joint_model.proofs.Numbered.{replicate-none}
+use Rattle.joint_machine.specs.Control.{Doing, Stand, OpenSnap, idle, snapped, contracted, weakening, marked, restoring, restored}
+use Rattle.joint_machine.specs.Cycles.{IsDeadContraction, DeadEdge}
+use Rattle.joint_machine.specs.Linked.{Linkage}
+use Rattle.joint_machine.specs.Managed.{Managed, OpenCycle, Holds, IsBridge}
+use Rattle.joint_machine.specs.ManagedReplay.{ManagedReplay}
+use Rattle.joint_machine.specs.PeerReplay.{PeerReplay}
+use Rattle.joint_machine.specs.Peers.{Issued}
+use Rattle.joint_machine.specs.PinsTold.{no_pins, with_pins}
+use Rattle.joint_machine.proofs.Numbered.{replicate-none}
 use Rattle.joint_laws.specs.LinkedInvariants.{hands, IsRowOf, AreOwnersKept, AreCallersKept, IsOpenedAs, ForCandidates, IsMirrored, IsBeforeMirror, IsDriverKept}
 use Rattle.joint_laws.specs.ManagedInvariants.{IsCutOff, IsManagedKept, IsReplayKept}
 use Rattle.joint_laws.proofs.LinkedEntries.{Of}

@@ -1,29 +1,30 @@
--- A past's list, told with the pins that the reads and takes before each entry leave, is a lawful list with reads, entry by entry: the states are
--- the same but for the pins. A snap is told with all of them and a `take` with its own; every other entry asks for none; and a read asks for its turn,
--- and has its reply by the order.
+-- A past's list, told with the pins that the reads and takes before each entry leave, is a lawful list with reads,
+-- entry by entry: the states are the same but for the pins. A snap is told with all of them and a `take` with its own;
+-- every other entry asks for none; and a read asks for its turn, and has its reply by the order.
 use Rattle.std.proofs.Common.{◌≡◌, ℕ, Bool, true, false, List, [], ◌∷◌, map, Option, Some, None, refl, sym, ap, ◌∙◌, subst, true≢false}
 use Rattle.std.specs.Prelude.{if◌then◌else◌, slice_set, take}
-use Rattle.joint_model.specs.declared.names.Thread.{Thread}
-use Rattle.joint_model.specs.declared.names.Thread.TheVariants.{M, P, C}
-use Rattle.joint_model.specs.declared.lines.Act.TheVariants as act
-use Rattle.joint_model.specs.declared.events.Op.{Op}
-use Rattle.joint_model.specs.declared.events.Op.TheVariants as op
-use Rattle.joint_model.specs.declared.events.Reply.TheVariants as says
-use Rattle.joint_model.specs.declared.events.Made.{Made}
-use Rattle.joint_model.specs.Draws.{NumberedFrom}
-use Rattle.joint_model.specs.Heaps.{Answered, answer, slot, place, with_var}
-use Rattle.joint_model.specs.Histories.{managed_numbers, peer_numbers}
-use Rattle.joint_model.specs.Lines.{IsEvent, is_peer_event, is_read, is_pinned}
-use Rattle.joint_model.specs.Control.{CallerAllows, control_after}
-use Rattle.joint_model.specs.Linked.{Linkage, opening_linkage, SideLawful, ManagedLawful, IsWhole, linkage_after, managed_after, peer_after}
-use Rattle.joint_model.specs.Managed.{Managed, managed_name, pin_taken}
-use Rattle.joint_model.specs.ManagedReplay.{ManagedReplay, ManagedAllows, managed_answer}
-use Rattle.joint_model.specs.Readers.{with_pins, pins_after, reader_after, EntryMayCome, entry_after, replayed_reading, AllMayComeReading}
-use Rattle.joint_model.specs.Run.{thread_number}
-use Rattle.joint_model.specs.Told.{Told, Noted, nothing, bare_told, pins_told, no_pins}
+use Rattle.joint_machine.specs.declared.names.Thread.{Thread}
+use Rattle.joint_machine.specs.declared.names.Thread.TheVariants.{M, P, C}
+use Rattle.joint_machine.specs.declared.lines.Act.TheVariants as act
+use Rattle.joint_machine.specs.declared.events.Op.{Op}
+use Rattle.joint_machine.specs.declared.events.Op.TheVariants as op
+use Rattle.joint_machine.specs.declared.events.Reply.TheVariants as says
+use Rattle.joint_machine.specs.declared.events.Made.{Made}
+use Rattle.joint_machine.specs.Heaps.{Answered, answer, slot, place, with_var}
+use Rattle.joint_machine.specs.Histories.{managed_numbers, peer_numbers, NumberedFrom}
+use Rattle.joint_machine.specs.Lines.{IsEvent, is_peer_event, is_read}
+use Rattle.joint_machine.specs.PinsTold.{is_pinned, bare_told, no_pins, pins_told, with_pins}
+use Rattle.joint_machine.specs.Control.{CallerAllows, control_after}
+use Rattle.joint_machine.specs.Linked.{Linkage, opening_linkage, SideLawful, ManagedLawful, IsWhole, linkage_after, managed_after, peer_after}
+use Rattle.joint_machine.specs.Managed.{Managed, managed_name, pin_taken}
+use Rattle.joint_machine.specs.ManagedReplay.{ManagedReplay, ManagedAllows, managed_answer}
+use Rattle.joint_machine.specs.Readers.{pins_after, reader_after, EntryMayCome, entry_after, replayed_reading, AllMayComeReading}
+use Rattle.joint_machine.specs.Run.{thread_number}
+use Rattle.joint_machine.specs.Told.{Told, Noted, nothing}
 use Rattle.known_laws.specs.Known.{Comes, pinned, given, without_pins, past_after}
 use Rattle.known_laws.specs.Pasts.{end_of}
-use Rattle.known_laws.specs.Growing.{entries, entries_kept, AllCome, past_replayed, turned}
+use Rattle.known_laws.specs.Growing.{entries_kept, AllCome, past_replayed}
+use Rattle.known_laws.specs.PastEntries.{entries, turned}
 use Rattle.known_laws.specs.Wholes.{ArePinsOf, IsAsOrdered, AllOrdered, PastsAreReadLists, history_of, KnownWholeIsLinked}
 use Rattle.joint_laws.specs.ReadingLaws.{pins_by}
 use Rattle.joint_laws.proofs.KeptPins.{entry-pins, read-pins}
@@ -32,7 +33,8 @@ use Rattle.known_laws.proofs.Growing.{entries_shown}
 use Rattle.known_laws.proofs.Later.{by_past, reads_leave}
 use Rattle.known_laws.proofs.Unpinned.{answers_same, allows_same, turn_same}
 
--- a managed entry that is lawful with the told pins is lawful with those of the state, and leaves the same but for the pins
+-- a managed entry that is lawful with the told pins is lawful with those of the state, and leaves the same but for the
+-- pins
 record Moves (r : ManagedReplay) (p q : List (Option ℕ)) (m : Made) (told : Told) : Type 0 where
   lawful : ManagedLawful (with_pins r p) m told → ManagedLawful (with_pins r q) m told
   same : (x : List (Option ℕ)) → with_pins (managed_answer (with_pins r q) m.caller m.op told).state x ≡ with_pins (managed_answer (with_pins r p) m.caller m.op told).state x

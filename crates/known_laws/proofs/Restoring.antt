@@ -1,52 +1,46 @@
--- The restores of a past since its latest snap are the driver's answers, each of the candidate in its place. A snap begins anew, a
--- restore of the driver takes the next candidate's handle, no other entry is one, and no other entry changes a candidate's handle.
--- So what a resolve tells is what the restores answered, and it frees what no candidate whose restore answered alive leads to.
-use Rattle.std.proofs.Common.{Bool, true, false, true≢false}
-use Rattle.known_laws.proofs.Later.{side_after, reader_after_is}
+-- The restores of a past since its latest snap are the driver's answers, each of the candidate in its place. A snap
+-- begins anew, a restore of the driver takes the next candidate's handle, no other entry is one, and no other entry
+-- changes a candidate's handle. So what a resolve tells is what the restores answered, and it frees what no candidate
+-- whose restore answered alive leads to.
+use Rattle.std.proofs.Common.{Bool, true, false, true≢false, ◌≡◌, ⊎_elim, ℕ, List, [], ◌∷◌, ◌++◌, length, map, Option, Some, None, refl, sym, ap, ◌∙◌, subst}
+use Rattle.known_laws.proofs.Later.{side_after, reader_after_is, kept_end}
 use Rattle.known_laws.proofs.Pinned.{kept_pinned}
 use Rattle.known_laws.proofs.Unpinned.{allows_same}
 use Rattle.known_laws.proofs.Coming.{event_of, turn_of, side_of}
-use Rattle.known_laws.specs.Known.{Comes, given, pinned, without_pins}
-use Rattle.joint_model.specs.Linked.{ManagedLawful}
-use Rattle.joint_model.specs.Lines.{is_read}
-use Rattle.joint_model.specs.Told.{bare_told, pins_told, no_pins}
-use Rattle.std.proofs.Common.{◌≡◌, false, ⊎_elim, ℕ, List, [], ◌∷◌, ◌++◌, length, map, Option, Some, None, refl, sym, ap, ◌∙◌, subst}
+use Rattle.known_laws.specs.Known.{Comes, given, pinned, without_pins, managed_past}
+use Rattle.joint_machine.specs.Linked.{ManagedLawful, Linkage, MayCome, SideLawful, managed_after, linkage_after}
+use Rattle.joint_machine.specs.Lines.{is_read, IsEvent, is_peer_event}
+use Rattle.joint_machine.specs.PinsTold.{bare_told, no_pins, pins_told, with_pins}
 use Rattle.std.specs.Prelude.{◌↔◌, Contains, slice_get, option_map}
 use Rattle.std.proofs.lemmas.Option.{same_Some, slice_get-map}
 use Rattle.std.proofs.lemmas.List.{map-append, length-map}
-use Rattle.joint_model.specs.declared.names.Thread.{Thread}
-use Rattle.joint_model.specs.declared.names.Thread.TheVariants.{M, P, C}
-use Rattle.joint_model.specs.declared.names.Cycle.{Cycle}
-use Rattle.joint_model.specs.declared.events.Op.{Op}
-use Rattle.joint_model.specs.declared.events.Op.TheVariants as op
-use Rattle.joint_model.specs.declared.events.Reply.{Reply}
-use Rattle.joint_model.specs.declared.events.Made.{Made}
-use Rattle.joint_model.specs.Control.{Stand, idle, snapped, contracted, weakening, marked, restoring, restored, CallerAllows, stand_after, control_after, answer_in, IsCandidateHandle, MayRestoreNow, MayResolveNow}
-use Rattle.joint_model.specs.Cycles.{IsAnsweredAlive}
-use Rattle.joint_model.specs.Lines.{IsEvent, is_peer_event}
-use Rattle.joint_model.specs.Linked.{Linkage, MayCome, SideLawful, managed_after, linkage_after}
-use Rattle.joint_model.specs.Managed.{Managed, OpenCycle, Holds, handle_of, candidates_of, resolved}
-use Rattle.joint_model.specs.Components.{Rises}
-use Rattle.joint_model.proofs.Members.{Contains-at}
+use Rattle.joint_machine.specs.declared.names.Thread.{Thread}
+use Rattle.joint_machine.specs.declared.names.Thread.TheVariants.{M, P, C}
+use Rattle.joint_machine.specs.declared.names.Cycle.{Cycle}
+use Rattle.joint_machine.specs.declared.events.Op.{Op}
+use Rattle.joint_machine.specs.declared.events.Op.TheVariants as op
+use Rattle.joint_machine.specs.declared.events.Reply.{Reply}
+use Rattle.joint_machine.specs.declared.events.Made.{Made}
+use Rattle.joint_machine.specs.Control.{Stand, idle, snapped, contracted, weakening, marked, restoring, restored, CallerAllows, stand_after, control_after, answer_in, IsCandidateHandle, MayRestoreNow, MayResolveNow}
+use Rattle.joint_machine.specs.Cycles.{IsAnsweredAlive}
+use Rattle.joint_machine.specs.Managed.{Managed, OpenCycle, Holds, handle_of, candidates_of, resolved}
+use Rattle.joint_machine.specs.Components.{Rises}
+use Rattle.joint_machine.proofs.Members.{Contains-at}
 use Rattle.joint_laws.proofs.Renewing.{renewed-given}
-use Rattle.joint_model.specs.ManagedReplay.{ManagedReplay, ManagedAllows, MayResolve}
-use Rattle.joint_model.specs.Run.{thread_number}
-use Rattle.joint_model.specs.Told.{Told, Noted, contraction_of, resolution_of, phase_of, Answer, said_alive, said_cleared}
-use Rattle.joint_model.proofs.Deciding.{none_some}
-use Rattle.joint_model.proofs.HeapLemmas.{candidates_of-open, IsLive-left}
-use Rattle.joint_model.proofs.Numbered.{push-at_cases, numbered-within}
+use Rattle.joint_machine.specs.ManagedReplay.{ManagedReplay, ManagedAllows, MayResolve, managed_answer}
+use Rattle.joint_machine.specs.Run.{thread_number}
+use Rattle.joint_machine.specs.Told.{Told, Noted, contraction_of, resolution_of, phase_of, Answer, said_alive, said_cleared}
+use Rattle.joint_machine.proofs.Deciding.{none_some}
+use Rattle.joint_machine.proofs.HeapLemmas.{candidates_of-open, IsLive-left}
+use Rattle.joint_machine.proofs.Numbered.{push-at_cases, numbered-within}
 use Rattle.joint_laws.proofs.LinkedEntries.{Of}
 use Rattle.joint_laws.proofs.ManagedMoves.{managed_line-goes_on}
-use Rattle.known_laws.specs.Known.{managed_past}
-use Rattle.joint_model.specs.Readers.{with_pins}
-use Rattle.joint_model.specs.ManagedReplay.{managed_answer}
 use Rattle.known_laws.specs.Pasts.{Lawful, end_of}
 use Rattle.known_laws.specs.Citations.{RestoredHoldTheNew, restores_after, restores_in, AreRestored, WasRestoredAlive, FreesByRestores, ResolvesFreeByRestores, ResolvesFreeCleared}
 use Rattle.known_laws.specs.Driving.{IsPastKept}
 use Rattle.known_laws.proofs.Facts.{resolve_frees_cleared}
 use Rattle.known_laws.proofs.KnownPasts.{known_past_is_kept}
 use Rattle.known_laws.proofs.FrozenPasts.{goes_by}
-use Rattle.known_laws.proofs.Later.{kept_end}
 use Rattle.known_laws.proofs.MirrorStands.{SameCandidates, goes-same}
 
 -- by where the driver stands: none since the snap, or those whose answers it has

@@ -1,23 +1,24 @@
--- Every list of notes whose entries may come has one with the same entries that is told plainly, and leads to the same sides: where
--- the weakened phase wasn't seen, the mirrored one is told in its place, and the stands differ in that alone.
+-- Every list of notes whose entries may come has one with the same entries that is told plainly, and leads to the same
+-- sides: where the weakened phase wasn't seen, the mirrored one is told in its place, and the stands differ in that
+-- alone.
 use Rattle.std.proofs.Common.{◌≡◌, ◌⊎◌, inl, inr, ⊎_elim, ℕ, Bool, true, false, List, [], ◌∷◌, length, Option, refl, sym, ◌∙◌, ap, subst, true≢false}
-use Rattle.joint_model.specs.declared.names.Thread.{Thread}
-use Rattle.joint_model.specs.declared.names.Thread.TheVariants.{M, P, C}
-use Rattle.joint_model.specs.declared.names.Phase.{Phase}
-use Rattle.joint_model.specs.declared.names.Phase.TheVariants as at
-use Rattle.joint_model.specs.declared.names.PhaseWord.{PhaseWord}
-use Rattle.joint_model.specs.declared.events.Op.{Op}
-use Rattle.joint_model.specs.declared.events.Op.TheVariants as op
-use Rattle.joint_model.specs.declared.events.Reply.{Reply}
-use Rattle.joint_model.specs.declared.events.Made.{Made}
-use Rattle.joint_model.specs.Control.{Stand, OpenSnap, idle, snapped, contracted, weakening, marked, restoring, restored, stand_after, seen_weakened, DriverAllows, IsPhaseOf}
-use Rattle.joint_model.specs.Linked.{Linkage, MayCome, AllMayCome, linkage_after, replayed}
-use Rattle.joint_model.specs.Managed.{Managed, candidates_of}
-use Rattle.joint_model.specs.ManagedReplay.{ManagedReplay, MayRefuse, refusal_to}
-use Rattle.joint_model.specs.Peers.{Issued}
-use Rattle.joint_model.specs.Told.{Told, Noted, phase_of}
-use Rattle.known_laws.specs.Growing.{entries}
-use Rattle.known_laws.specs.Known.{TellsPlainly}
+use Rattle.joint_machine.specs.declared.names.Thread.{Thread}
+use Rattle.joint_machine.specs.declared.names.Thread.TheVariants.{M, P, C}
+use Rattle.joint_machine.specs.declared.names.Phase.{Phase}
+use Rattle.joint_machine.specs.declared.names.Phase.TheVariants as at
+use Rattle.joint_machine.specs.declared.names.PhaseWord.{PhaseWord}
+use Rattle.joint_machine.specs.declared.events.Op.{Op}
+use Rattle.joint_machine.specs.declared.events.Op.TheVariants as op
+use Rattle.joint_machine.specs.declared.events.Reply.{Reply}
+use Rattle.joint_machine.specs.declared.events.Made.{Made}
+use Rattle.joint_machine.specs.Control.{Stand, OpenSnap, idle, snapped, contracted, weakening, marked, restoring, restored, stand_after, seen_weakened, DriverAllows, IsPhaseOf}
+use Rattle.joint_machine.specs.Linked.{Linkage, MayCome, linkage_after}
+use Rattle.joint_machine.specs.Replaying.{AllMayCome, replayed}
+use Rattle.joint_machine.specs.Managed.{Managed, candidates_of}
+use Rattle.joint_machine.specs.ManagedReplay.{ManagedReplay, MayRefuse, refusal_to}
+use Rattle.joint_machine.specs.Peers.{Issued}
+use Rattle.joint_machine.specs.Told.{Told, Noted, phase_of}
+use Rattle.known_laws.specs.PastEntries.{TellsPlainly, entries}
 use Rattle.known_laws.proofs.Telling.{retold, plainly_by, IsTelling}
 
 -- what an entry is made of, and an entry with what is told beside it

@@ -1,30 +1,33 @@
--- The small pasts and states, computed. Where two entries have one number, that no past has two is what refutes the conclusion.
+-- The small pasts and states, computed. Where two entries have one number, that no past has two is what refutes the
+-- conclusion.
 use Rattle.std.proofs.Common.{◌≡◌, inl, inr, ⊎_elim, ℕ, Bool, zero, suc, ◌≤◌, true, false, List, [], ◌∷◌, Some, None, refl, sym, ap, ◌∙◌, arith, true≢false, if◌then◌else◌}
-use Rattle.joint_model.specs.declared.names.Thread.TheVariants.{M, P}
-use Rattle.joint_model.specs.declared.names.Phase.TheVariants as at
-use Rattle.joint_model.specs.declared.events.Entry.{Entry}
-use Rattle.joint_model.specs.Components.{Rises}
-use Rattle.joint_model.specs.Control.{OpenSnap}
-use Rattle.joint_model.specs.Cycles.{IsSnapshot}
-use Rattle.joint_model.specs.Draws.{Drawn, NumberedFrom}
-use Rattle.joint_model.specs.Heaps.{IsLive}
-use Rattle.joint_model.specs.Lines.{is_peer_event}
-use Rattle.joint_model.specs.Linked.{Linkage, MayCome, opening_linkage}
-use Rattle.joint_model.specs.Sides.{managed_rules, peer_rules}
-use Rattle.joint_model.specs.Managed.{opening_managed}
-use Rattle.joint_model.specs.ManagedReplay.{ManagedReplay, MayContract, opening_replay}
-use Rattle.joint_model.specs.PeerReplay.{MayClear, MayRelease, MayRestore, MayWeaken, opening_peer_replay}
-use Rattle.joint_model.specs.Told.{Noted, phase_of}
-use Rattle.joint_model.proofs.Deciding.{none_some}
-use Rattle.joint_model.proofs.Members.{Contains-nil, Contains-here, Contains-there}
+use Rattle.joint_machine.specs.declared.names.Thread.TheVariants.{M, P}
+use Rattle.joint_machine.specs.declared.names.Phase.TheVariants as at
+use Rattle.joint_machine.specs.declared.events.Entry.{Entry}
+use Rattle.joint_machine.specs.Components.{Rises}
+use Rattle.joint_machine.specs.Control.{OpenSnap}
+use Rattle.joint_machine.specs.Cycles.{IsSnapshot}
+use Rattle.joint_machine.specs.Draws.{Drawn}
+use Rattle.joint_machine.specs.Histories.{NumberedFrom}
+use Rattle.joint_machine.specs.Heaps.{IsLive}
+use Rattle.joint_machine.specs.Lines.{is_peer_event}
+use Rattle.joint_machine.specs.Linked.{Linkage, MayCome, opening_linkage}
+use Rattle.joint_machine.specs.Sides.{managed_rules, peer_rules}
+use Rattle.joint_machine.specs.Managed.{opening_managed}
+use Rattle.joint_machine.specs.ManagedReplay.{ManagedReplay, MayContract, opening_replay}
+use Rattle.joint_machine.specs.PeerReplay.{MayClear, MayRelease, MayRestore, MayWeaken, opening_peer_replay}
+use Rattle.joint_machine.specs.Told.{Noted, phase_of}
+use Rattle.joint_machine.proofs.Deciding.{none_some}
+use Rattle.joint_machine.proofs.Members.{Contains-nil, Contains-here, Contains-there}
 use Rattle.known_laws.specs.Conditions.{IsOpenHere}
 use Rattle.known_laws.specs.Drawn.{AreDrawn, IsToldIn, drawn_by}
 use Rattle.known_laws.specs.Growing.{Kept, AreKnown, IsTurnedPast, all_shown, entries_kept, grown, shown}
-use Rattle.known_laws.specs.Known.{Comes, TellsPlainly}
+use Rattle.known_laws.specs.Known.{Comes}
+use Rattle.known_laws.specs.PastEntries.{TellsPlainly, InPast}
 use Rattle.known_laws.proofs.Pinned.{none_stand}
 use Rattle.known_laws.specs.Driving.{IsPastKept}
 use Rattle.known_laws.proofs.KnownPasts.{known_past_is_kept}
-use Rattle.known_laws.specs.Pasts.{HasSameDeadPart, InPast, Joined, Lawful, PastRunsFrom, Within, end_of, line, driver_line}
+use Rattle.known_laws.specs.Pasts.{HasSameDeadPart, Joined, Lawful, PastRunsFrom, Within, end_of, line, driver_line}
 use Rattle.known_laws.specs.Worked.{a_read, a_take, a_drop, a_peer_drop, a_refusal, a_release, a_give, a_snap, lines_of, released_twice, turned_numbers, two_drops, without_candidates, wrong_lines, wrongly_drawn}
 use Rattle.known_laws.proofs.CitedOnce.{none_is_cited_twice}
 use Rattle.known_laws.proofs.PastLines.{in-line, in_begins, one-number}

@@ -1,37 +1,35 @@
--- The dead part of the driver's open cycle is that of the state just after its snap, since no entry behind the snap that leaves the
--- cycle open changes it: the others' events go on, and the driver's own leave the managed objects alone. The state just after the snap
--- is given by the managed line up to it, which all pasts have that have the snap.
-use Rattle.known_laws.proofs.Later.{reads_leave}
+-- The dead part of the driver's open cycle is that of the state just after its snap, since no entry behind the snap
+-- that leaves the cycle open changes it: the others' events go on, and the driver's own leave the managed objects
+-- alone. The state just after the snap is given by the managed line up to it, which all pasts have that have the snap.
+use Rattle.known_laws.proofs.Later.{reads_leave, kept_end}
 use Rattle.known_laws.proofs.Pinned.{kept_pinned}
 use Rattle.known_laws.proofs.Moving.{driver_reads}
 use Rattle.known_laws.specs.Known.{Comes, SideMayCome, given, managed_past}
-use Rattle.joint_model.specs.Lines.{is_read}
-use Rattle.joint_model.specs.Told.{bare_told}
-use Rattle.std.proofs.Common.{Bool}
-use Rattle.std.proofs.Common.{◌≡◌, inl, ℕ, true, false, List, [], ◌∷◌, ◌++◌, Option, Some, refl, sym, ap, ◌∙◌, subst, arith}
+use Rattle.joint_machine.specs.Lines.{is_read, IsEvent, is_peer_event}
+use Rattle.joint_machine.specs.PinsTold.{bare_told}
+use Rattle.std.proofs.Common.{Bool, ◌≡◌, inl, ℕ, true, false, List, [], ◌∷◌, ◌++◌, Option, Some, refl, sym, ap, ◌∙◌, subst, arith}
 use Rattle.std.proofs.lemmas.Option.{same_Some}
-use Rattle.joint_model.specs.declared.names.Thread.{Thread}
-use Rattle.joint_model.specs.declared.names.Thread.TheVariants.{M, P, C}
-use Rattle.joint_model.specs.declared.events.Op.{Op}
-use Rattle.joint_model.specs.declared.events.Op.TheVariants as op
-use Rattle.joint_model.specs.declared.events.Reply.{Reply}
-use Rattle.joint_model.specs.declared.events.Made.{Made}
-use Rattle.joint_model.specs.Control.{OpenSnap, control_after}
-use Rattle.joint_model.specs.Lines.{IsEvent, is_peer_event}
-use Rattle.joint_model.specs.Linked.{Linkage, SideLawful, managed_after}
-use Rattle.joint_model.specs.Managed.{Managed}
-use Rattle.joint_model.specs.ManagedReplay.{ManagedReplay}
-use Rattle.joint_model.specs.Run.{thread_number}
-use Rattle.joint_model.specs.Told.{Told, Noted, contraction_of, phase_of}
-use Rattle.joint_model.proofs.Deciding.{none_some}
+use Rattle.joint_machine.specs.declared.names.Thread.{Thread}
+use Rattle.joint_machine.specs.declared.names.Thread.TheVariants.{M, P, C}
+use Rattle.joint_machine.specs.declared.events.Op.{Op}
+use Rattle.joint_machine.specs.declared.events.Op.TheVariants as op
+use Rattle.joint_machine.specs.declared.events.Reply.{Reply}
+use Rattle.joint_machine.specs.declared.events.Made.{Made}
+use Rattle.joint_machine.specs.Control.{OpenSnap, control_after}
+use Rattle.joint_machine.specs.Linked.{Linkage, SideLawful, managed_after}
+use Rattle.joint_machine.specs.Managed.{Managed}
+use Rattle.joint_machine.specs.ManagedReplay.{ManagedReplay}
+use Rattle.joint_machine.specs.Run.{thread_number}
+use Rattle.joint_machine.specs.Told.{Told, Noted, contraction_of, phase_of}
+use Rattle.joint_machine.proofs.Deciding.{none_some}
 use Rattle.joint_laws.specs.ManagedInvariants.{IsReplayKept}
 use Rattle.joint_laws.proofs.ManagedMoves.{GoesOn, GoesOn-stay, managed_line-goes_on}
-use Rattle.known_laws.specs.Pasts.{InPast, Lawful, Within, end_of, is_in, role_of}
+use Rattle.known_laws.specs.Pasts.{Lawful, Within, end_of, is_in, role_of}
+use Rattle.known_laws.specs.PastEntries.{InPast}
 use Rattle.known_laws.specs.Facts.{opened_of, DeadPartIsOfSnap, SnapTellsDeadPart}
 use Rattle.known_laws.proofs.CitedOnce.{each_stands_behind}
 use Rattle.known_laws.proofs.FrozenPasts.{Alike, alike_goes, alike_self, alike_meet, goes_by, one_behind, dead_part-alike}
 use Rattle.known_laws.proofs.Growing.{one_run}
-use Rattle.known_laws.proofs.Later.{kept_end}
 use Rattle.known_laws.proofs.Parts.{role_by, same_managed}
 use Rattle.known_laws.proofs.PastLines.{in_role, in_right}
 use Rattle.known_laws.proofs.PastsJoin.{below, within_past}

@@ -1,30 +1,28 @@
--- The snap of the driver's open cycle stands in the past, and tells that cycle's candidates and dead part. The snapshot opens the
--- cycle with what is told of it, no entry but a resolve and an abandon changes the open cycle, and with these the driver comes to
--- be idle. While a cycle is mirrored it is the driver's, and the mirror cites its snap. So two pasts of one run that have the mirror
--- have the same candidates, as they are told the same of that snap.
-use Rattle.known_laws.proofs.Later.{side_after, reads_leave}
+-- The snap of the driver's open cycle stands in the past, and tells that cycle's candidates and dead part. The snapshot
+-- opens the cycle with what is told of it, no entry but a resolve and an abandon changes the open cycle, and with these
+-- the driver comes to be idle. While a cycle is mirrored it is the driver's, and the mirror cites its snap. So two
+-- pasts of one run that have the mirror have the same candidates, as they are told the same of that snap.
+use Rattle.known_laws.proofs.Later.{side_after, reads_leave, kept_end}
 use Rattle.known_laws.proofs.Pinned.{kept_pinned}
 use Rattle.known_laws.proofs.Moving.{driver_reads}
 use Rattle.known_laws.specs.Known.{Comes, SideMayCome, given}
-use Rattle.joint_model.specs.Lines.{is_read}
-use Rattle.joint_model.specs.Told.{bare_told}
-use Rattle.std.proofs.Common.{Bool, true, false}
-use Rattle.std.proofs.Common.{◌≡◌, inl, inr, ⊎_elim, ℕ, ◌+◌, List, [], ◌∷◌, length, map, Option, Some, refl, sym, ap, ◌∙◌, subst, arith}
+use Rattle.joint_machine.specs.Lines.{is_read, IsEvent, is_peer_event}
+use Rattle.joint_machine.specs.PinsTold.{bare_told}
+use Rattle.std.proofs.Common.{Bool, true, false, ◌≡◌, inl, inr, ⊎_elim, ℕ, ◌+◌, List, [], ◌∷◌, length, map, Option, Some, refl, sym, ap, ◌∙◌, subst, arith}
 use Rattle.std.proofs.lemmas.Option.{same_Some}
-use Rattle.joint_model.specs.declared.names.Thread.{Thread}
-use Rattle.joint_model.specs.declared.names.Thread.TheVariants.{M, P, C}
-use Rattle.joint_model.specs.declared.events.Op.{Op}
-use Rattle.joint_model.specs.declared.events.Op.TheVariants as op
-use Rattle.joint_model.specs.declared.events.Made.{Made}
-use Rattle.joint_model.specs.declared.events.Reply.{Reply}
-use Rattle.joint_model.specs.Control.{OpenSnap, Stand, idle, snapped, contracted, weakening, marked, restoring, restored, stand_after, control_after}
-use Rattle.joint_model.specs.Lines.{IsEvent, is_peer_event}
-use Rattle.joint_model.specs.Linked.{Linkage, SideLawful, managed_after}
-use Rattle.joint_model.specs.ManagedReplay.{ManagedReplay}
-use Rattle.joint_model.specs.PeerReplay.{PeerReplay, Mirror}
-use Rattle.joint_model.specs.Run.{thread_number}
-use Rattle.joint_model.specs.Told.{Told, Noted, snap_of, contraction_of, phase_of, Answer}
-use Rattle.joint_model.proofs.Deciding.{none_some}
+use Rattle.joint_machine.specs.declared.names.Thread.{Thread}
+use Rattle.joint_machine.specs.declared.names.Thread.TheVariants.{M, P, C}
+use Rattle.joint_machine.specs.declared.events.Op.{Op}
+use Rattle.joint_machine.specs.declared.events.Op.TheVariants as op
+use Rattle.joint_machine.specs.declared.events.Made.{Made}
+use Rattle.joint_machine.specs.declared.events.Reply.{Reply}
+use Rattle.joint_machine.specs.Control.{OpenSnap, Stand, idle, snapped, contracted, weakening, marked, restoring, restored, stand_after, control_after}
+use Rattle.joint_machine.specs.Linked.{Linkage, SideLawful, managed_after}
+use Rattle.joint_machine.specs.ManagedReplay.{ManagedReplay}
+use Rattle.joint_machine.specs.PeerReplay.{PeerReplay, Mirror}
+use Rattle.joint_machine.specs.Run.{thread_number}
+use Rattle.joint_machine.specs.Told.{Told, Noted, snap_of, contraction_of, phase_of, Answer}
+use Rattle.joint_machine.proofs.Deciding.{none_some}
 use Rattle.joint_laws.specs.LinkedInvariants.{IsDriverKept}
 use Rattle.joint_laws.specs.ManagedInvariants.{IsReplayKept}
 use Rattle.joint_laws.proofs.ManagedMoves.{managed_line-goes_on}
@@ -34,10 +32,9 @@ use Rattle.known_laws.specs.Facts.{opened_of, HasSnap, SnapTellsCycle, NumbersAr
 use Rattle.known_laws.specs.Growing.{MirroredCandidatesStay, untold}
 use Rattle.known_laws.proofs.Agreeing.{pasts_agree}
 use Rattle.known_laws.proofs.Growing.{runs_untold, within_by}
-use Rattle.joint_model.proofs.HeapLemmas.{candidates_of-open}
+use Rattle.joint_machine.proofs.HeapLemmas.{candidates_of-open}
 use Rattle.known_laws.proofs.FrozenPasts.{goes_by}
 use Rattle.known_laws.proofs.KnownPasts.{known_past_is_kept}
-use Rattle.known_laws.proofs.Later.{kept_end}
 use Rattle.known_laws.proofs.PastsJoin.{below}
 
 -- events that open and close no cycle

@@ -1,41 +1,41 @@
--- What is told of an entry is one. Rising lists with one meaning are one, so what a snap, a sweep, a slice and a resolve tell is
--- one; a contraction is one; and a mirror's references are those of the driver's contraction. A refusal's reply has its phase,
--- but that of `cycle` and `snap`; there the phase is the driver's, and where that may be the mirrored or the weakened one it
--- is told plainly. And it can be: where the weakened phase wasn't seen the mirrored one may be told in its place.
+-- What is told of an entry is one. Rising lists with one meaning are one, so what a snap, a sweep, a slice and a
+-- resolve tell is one; a contraction is one; and a mirror's references are those of the driver's contraction. A
+-- refusal's reply has its phase, but that of `cycle` and `snap`; there the phase is the driver's, and where that may be
+-- the mirrored or the weakened one it is told plainly. And it can be: where the weakened phase wasn't seen the mirrored
+-- one may be told in its place.
 use Rattle.std.proofs.Common.{◌≡◌, ◌⊎◌, inl, inr, ⊎_elim, ℕ, zero, suc, Bool, true, false, List, length, Option, Some, None, refl, sym, ap, ◌∙◌, subst}
 use Rattle.std.specs.Prelude.{Contains, ◌↔◌}
 use Rattle.std.proofs.lemmas.Option.{same_Some}
-use Rattle.joint_model.specs.declared.names.Thread.{Thread}
-use Rattle.joint_model.specs.declared.names.Thread.TheVariants.{M, P, C}
-use Rattle.joint_model.specs.declared.lines.Act.{Act}
-use Rattle.joint_model.specs.declared.lines.Act.TheVariants as act
-use Rattle.joint_model.specs.declared.names.Cycle.{Cycle}
-use Rattle.joint_model.specs.declared.events.Op.{Op}
-use Rattle.joint_model.specs.declared.events.Op.TheVariants as op
-use Rattle.joint_model.specs.declared.events.Reply.{Reply}
-use Rattle.joint_model.specs.declared.events.Reply.TheVariants as says
-use Rattle.joint_model.specs.declared.names.Phase.{Phase}
-use Rattle.joint_model.specs.declared.names.Phase.TheVariants as at
-use Rattle.joint_model.specs.declared.names.PhaseWord.{PhaseWord}
-use Rattle.joint_model.specs.declared.names.PhaseWord.TheVariants as word
-use Rattle.joint_model.specs.declared.events.Entry.{Entry}
-use Rattle.joint_model.specs.Components.{Rises}
-use Rattle.joint_model.specs.Control.{Stand, idle, snapped, contracted, weakening, marked, restoring, restored, CallerAllows, IsPhaseOf, MayMirrorNow, MayResolveNow}
-use Rattle.joint_model.specs.Lines.{IsEvent, is_peer_event}
-use Rattle.joint_model.specs.Linked.{Linkage, MayCome, SideLawful}
-use Rattle.joint_model.specs.Cycles.{IsDeadContraction, IsAnsweredAlive}
-use Rattle.joint_model.specs.Walks.{Reaches}
-use Rattle.joint_model.specs.Managed.{Managed, OpenCycle, ManagedEdge, candidates_of}
-use Rattle.joint_model.specs.ManagedReplay.{ManagedReplay, ManagedAllows, MayResolve, MayRefuse, refusal_to}
-use Rattle.joint_model.specs.Peers.{Issued}
-use Rattle.joint_model.specs.PeerReplay.{PeerReplay, Marking, PeerAllows, SliceAllows, SweepAllows}
-use Rattle.joint_model.specs.Told.{Told, nothing, snap_of, contraction_of, references_of, slice_of, sweep_of, resolution_of, phase_of, Answer}
-use Rattle.joint_model.proofs.Deciding.{true-false}
-use Rattle.joint_model.proofs.Members.{Rises-one}
-use Rattle.known_laws.specs.Known.{TellsPlainly, IsSeen}
+use Rattle.joint_machine.specs.declared.names.Thread.{Thread}
+use Rattle.joint_machine.specs.declared.names.Thread.TheVariants.{M, P, C}
+use Rattle.joint_machine.specs.declared.lines.Act.{Act}
+use Rattle.joint_machine.specs.declared.lines.Act.TheVariants as act
+use Rattle.joint_machine.specs.declared.names.Cycle.{Cycle}
+use Rattle.joint_machine.specs.declared.events.Op.{Op}
+use Rattle.joint_machine.specs.declared.events.Op.TheVariants as op
+use Rattle.joint_machine.specs.declared.events.Reply.{Reply}
+use Rattle.joint_machine.specs.declared.events.Reply.TheVariants as says
+use Rattle.joint_machine.specs.declared.names.Phase.{Phase}
+use Rattle.joint_machine.specs.declared.names.Phase.TheVariants as at
+use Rattle.joint_machine.specs.declared.names.PhaseWord.{PhaseWord}
+use Rattle.joint_machine.specs.declared.names.PhaseWord.TheVariants as word
+use Rattle.joint_machine.specs.declared.events.Entry.{Entry}
+use Rattle.joint_machine.specs.Components.{Rises, End}
+use Rattle.joint_machine.specs.Control.{Stand, idle, snapped, contracted, weakening, marked, restoring, restored, CallerAllows, IsPhaseOf, MayMirrorNow, MayResolveNow}
+use Rattle.joint_machine.specs.Lines.{IsEvent, is_peer_event}
+use Rattle.joint_machine.specs.Linked.{Linkage, MayCome, SideLawful}
+use Rattle.joint_machine.specs.Cycles.{IsDeadContraction, IsAnsweredAlive}
+use Rattle.joint_machine.specs.Walks.{Reaches}
+use Rattle.joint_machine.specs.Managed.{Managed, OpenCycle, ManagedEdge, candidates_of}
+use Rattle.joint_machine.specs.ManagedReplay.{ManagedReplay, ManagedAllows, MayResolve, MayRefuse, refusal_to}
+use Rattle.joint_machine.specs.Peers.{Issued}
+use Rattle.joint_machine.specs.PeerReplay.{PeerReplay, Marking, PeerAllows, SliceAllows, SweepAllows}
+use Rattle.joint_machine.specs.Told.{Told, nothing, snap_of, contraction_of, references_of, slice_of, sweep_of, resolution_of, phase_of, Answer}
+use Rattle.joint_machine.proofs.Deciding.{true-false}
+use Rattle.joint_machine.proofs.Members.{Rises-one}
+use Rattle.known_laws.specs.PastEntries.{IsSeen, TellsPlainly}
 use Rattle.known_laws.specs.Telling.{IsOneContraction, MayBeTold, ToldIsOne, PlainMayBeTold}
 use Rattle.known_laws.proofs.OneContraction.{is_one_contraction}
-use Rattle.joint_model.specs.Components.{End}
 
 -- two rising lists with one meaning are one
 one : (xs ys : List ℕ) (Q : ℕ → Type 0) → Rises xs → Rises ys → ((m : ℕ) → Contains xs m ↔ Q m) → ((m : ℕ) → Contains ys m ↔ Q m) → xs ≡ ys

@@ -1,21 +1,22 @@
--- Whose turn it is, by the equation that tells what a thread is in the midst of or where the driver stands: with it the rule computes.
+-- Whose turn it is, by the equation that tells what a thread is in the midst of or where the driver stands: with it the
+-- rule computes.
 use Rattle.known_laws.proofs.Unpinned.{turn_same}
 use Rattle.known_laws.proofs.Moving.{driver_reads}
 use Rattle.known_laws.proofs.Coming.{peer_reads_none}
 use Rattle.known_laws.proofs.Bared.{plain_told, peer_unpinned}
 use Rattle.known_laws.specs.Known.{Comes, given as given_pins}
-use Rattle.joint_model.specs.Run.{thread_number}
-use Rattle.joint_model.specs.Lines.{IsEvent, is_read}
-use Rattle.joint_model.specs.declared.names.Thread.{Thread}
-use Rattle.std.proofs.Common.{true, false, true≢false, ◌∙◌}
-use Rattle.std.proofs.Common.{◌≡◌, ⊎_elim, ℕ, Option, Some, None, refl, sym, subst}
-use Rattle.joint_model.specs.declared.names.Thread.TheVariants.{M, P, C}
-use Rattle.joint_model.specs.declared.events.Op.{Op}
-use Rattle.joint_model.specs.declared.events.Op.TheVariants as op
-use Rattle.joint_model.specs.declared.events.Reply.{Reply}
-use Rattle.joint_model.specs.Control.{Doing, free, made, lent, gripped, given, met, Stand, doing_at, IsDone, MayStart, ThreadAllows, DriverAllows, CallerAllows}
-use Rattle.joint_model.specs.Linked.{Linkage, SideLawful, PeerLawful}
-use Rattle.joint_model.specs.Told.{Told, Noted, nothing, bare_told, tells_pins, pins_told}
+use Rattle.joint_machine.specs.Run.{thread_number}
+use Rattle.joint_machine.specs.Lines.{IsEvent, is_read}
+use Rattle.joint_machine.specs.declared.names.Thread.{Thread}
+use Rattle.std.proofs.Common.{true, false, true≢false, ◌∙◌, ◌≡◌, ⊎_elim, ℕ, Option, Some, None, refl, sym, subst}
+use Rattle.joint_machine.specs.declared.names.Thread.TheVariants.{M, P, C}
+use Rattle.joint_machine.specs.declared.events.Op.{Op}
+use Rattle.joint_machine.specs.declared.events.Op.TheVariants as op
+use Rattle.joint_machine.specs.declared.events.Reply.{Reply}
+use Rattle.joint_machine.specs.Control.{Doing, free, made, lent, gripped, given, met, Stand, doing_at, IsDone, MayStart, ThreadAllows, DriverAllows, CallerAllows}
+use Rattle.joint_machine.specs.Linked.{Linkage, SideLawful, PeerLawful}
+use Rattle.joint_machine.specs.Told.{Told, Noted, nothing}
+use Rattle.joint_machine.specs.PinsTold.{bare_told, pins_told, tells_pins}
 use Rattle.known_laws.specs.Turns.{SideEntryComes, ReaderEntryComes, ThreadTurn, DriverTurn, ThreadsHaveTurns, DriverHasTurns}
 
 pub side_entry_comes : SideEntryComes

@@ -1,20 +1,20 @@
--- Just after the snapshot no contraction was made. The snapshot makes the flag false, only a contraction makes it true, and with that
--- the driver leaves its snapped stand.
+-- Just after the snapshot no contraction was made. The snapshot makes the flag false, only a contraction makes it true,
+-- and with that the driver leaves its snapped stand.
 use Rattle.std.proofs.Common.{◌≡◌, ℕ, Bool, true, false, Option, Some, None, refl, ◌∙◌}
-use Rattle.joint_model.specs.declared.names.Thread.{Thread}
-use Rattle.joint_model.specs.declared.names.Thread.TheVariants.{M, P, C}
-use Rattle.joint_model.specs.declared.events.Op.{Op}
-use Rattle.joint_model.specs.declared.events.Made.{Made}
-use Rattle.joint_model.specs.declared.events.Op.TheVariants as op
-use Rattle.joint_model.specs.declared.events.Reply.{Reply}
-use Rattle.joint_model.specs.declared.events.Reply.TheVariants as says
-use Rattle.joint_model.specs.Control.{CallerAllows, MayContractNow, Stand, OpenSnap, snapped, contracted, weakening, marked, restoring, stand_after, control_after}
-use Rattle.joint_model.specs.Heaps.{Answered}
-use Rattle.joint_model.specs.Lines.{IsEvent, is_peer_event}
-use Rattle.joint_model.specs.Linked.{Linkage, MayCome, SideLawful, managed_after, linkage_after}
-use Rattle.joint_model.specs.Managed.{Managed}
-use Rattle.joint_model.specs.ManagedReplay.{ManagedReplay, managed_answer, adopt_by, meet_by, give_by}
-use Rattle.joint_model.specs.Told.{Told, Noted, snap_of, contraction_of, resolution_of, phase_of}
+use Rattle.joint_machine.specs.declared.names.Thread.{Thread}
+use Rattle.joint_machine.specs.declared.names.Thread.TheVariants.{M, P, C}
+use Rattle.joint_machine.specs.declared.events.Op.{Op}
+use Rattle.joint_machine.specs.declared.events.Made.{Made}
+use Rattle.joint_machine.specs.declared.events.Op.TheVariants as op
+use Rattle.joint_machine.specs.declared.events.Reply.{Reply}
+use Rattle.joint_machine.specs.declared.events.Reply.TheVariants as says
+use Rattle.joint_machine.specs.Control.{CallerAllows, MayContractNow, Stand, OpenSnap, snapped, contracted, weakening, marked, restoring, stand_after, control_after}
+use Rattle.joint_machine.specs.Heaps.{Answered}
+use Rattle.joint_machine.specs.Lines.{IsEvent, is_peer_event}
+use Rattle.joint_machine.specs.Linked.{Linkage, MayCome, SideLawful, managed_after, linkage_after}
+use Rattle.joint_machine.specs.Managed.{Managed}
+use Rattle.joint_machine.specs.ManagedReplay.{ManagedReplay, managed_answer, adopt_by, meet_by, give_by}
+use Rattle.joint_machine.specs.Told.{Told, Noted, snap_of, contraction_of, resolution_of, phase_of}
 use Rattle.known_laws.specs.Driving.{IsUncontracted}
 
 adopt_by-same : (r : ManagedReplay) (p h : ℕ) (after : Managed) (reply : Reply) → (adopt_by r p h after reply).state.contracted ≡ r.contracted

@@ -1,26 +1,26 @@
--- Only a snap, a `take` and a read ask for pins. Every other entry of the managed side's list is lawful with any pins where it is so with some, answers
--- the same and leaves the same, but for the pins.
+-- Only a snap, a `take` and a read ask for pins. Every other entry of the managed side's list is lawful with any pins
+-- where it is so with some, answers the same and leaves the same, but for the pins.
 use Rattle.std.proofs.Common.{◌≡◌, ℕ, Bool, true, false, List, Option, Some, None, refl, ap, ◌∙◌, true≢false}
 use Rattle.std.specs.Prelude.{if◌then◌else◌}
-use Rattle.joint_model.specs.declared.names.Thread.{Thread}
-use Rattle.joint_model.specs.declared.names.Thread.TheVariants.{M, P, C}
-use Rattle.joint_model.specs.declared.names.Kind.{Kind}
-use Rattle.joint_model.specs.declared.names.Sort.{Sort}
-use Rattle.joint_model.specs.declared.lines.Act.{Act}
-use Rattle.joint_model.specs.declared.lines.Act.TheVariants as act
-use Rattle.joint_model.specs.declared.events.Op.{Op}
-use Rattle.joint_model.specs.declared.events.Op.TheVariants as op
-use Rattle.joint_model.specs.declared.events.Reply.{Reply}
-use Rattle.joint_model.specs.declared.events.Reply.TheVariants as says
-use Rattle.joint_model.specs.Control.{Control, CallerAllows}
-use Rattle.joint_model.specs.Heaps.{Answered, answer, slot, place, is_full, next_number}
-use Rattle.joint_model.specs.Lines.{is_read, is_pinned}
-use Rattle.joint_model.specs.Managed.{Managed, OpenCycle, managed_name, managed_line, adopted, met, handle_reply, with_row, cell_set, weakened_to, without_handle, twin_met, twin_kind, twin_fields}
-use Rattle.joint_model.specs.ManagedReplay.{ManagedReplay, managed_answer, ManagedAllows, registered, adopt_by, meet_by, give_by, plainly}
-use Rattle.joint_model.specs.Peers.{Issued}
-use Rattle.joint_model.specs.Readers.{with_pins}
-use Rattle.joint_model.specs.Run.{thread_number}
-use Rattle.joint_model.specs.Told.{Told, nothing, contraction_of, resolution_of, phase_of}
+use Rattle.joint_machine.specs.declared.names.Thread.{Thread}
+use Rattle.joint_machine.specs.declared.names.Thread.TheVariants.{M, P, C}
+use Rattle.joint_machine.specs.declared.names.Kind.{Kind}
+use Rattle.joint_machine.specs.declared.names.Sort.{Sort}
+use Rattle.joint_machine.specs.declared.lines.Act.{Act}
+use Rattle.joint_machine.specs.declared.lines.Act.TheVariants as act
+use Rattle.joint_machine.specs.declared.events.Op.{Op}
+use Rattle.joint_machine.specs.declared.events.Op.TheVariants as op
+use Rattle.joint_machine.specs.declared.events.Reply.{Reply}
+use Rattle.joint_machine.specs.declared.events.Reply.TheVariants as says
+use Rattle.joint_machine.specs.Control.{Control, CallerAllows}
+use Rattle.joint_machine.specs.Heaps.{Answered, answer, slot, place, is_full, next_number}
+use Rattle.joint_machine.specs.Lines.{is_read}
+use Rattle.joint_machine.specs.PinsTold.{is_pinned, with_pins}
+use Rattle.joint_machine.specs.Managed.{Managed, OpenCycle, managed_name, managed_line, adopted, met, handle_reply, with_row, cell_set, weakened_to, without_handle, twin_met, twin_kind, twin_fields}
+use Rattle.joint_machine.specs.ManagedReplay.{ManagedReplay, managed_answer, ManagedAllows, registered, adopt_by, meet_by, give_by, plainly}
+use Rattle.joint_machine.specs.Peers.{Issued}
+use Rattle.joint_machine.specs.Run.{thread_number}
+use Rattle.joint_machine.specs.Told.{Told, nothing, contraction_of, resolution_of, phase_of}
 use Rattle.known_laws.proofs.Moving.{driver_move}
 use Rattle.known_laws.proofs.Pinned.{contraction_to}
 

@@ -1,26 +1,29 @@
--- Citations. The later event of an operation cites the earlier one, a mirror and a weaken cite the snap of their cycle, a resolve
--- its clear. What an entry cites agrees with its data, and no entry is cited twice, but a snap.
+-- Citations. The later event of an operation cites the earlier one, a mirror and a weaken cite the snap of their cycle,
+-- a resolve its clear. What an entry cites agrees with its data, and no entry is cited twice, but a snap.
 use Rattle.std.specs.Prelude.{◌≡◌, ℕ, ◌<◌, ◌↔◌, ◌⊎◌, List, [], ◌∷◌, ◌++◌, length, map, Contains, Option, Some, None, slice_get}
-use Rattle.joint_model.specs.declared.names.Sort.{Sort}
-use Rattle.joint_model.specs.declared.names.Var.{Var}
-use Rattle.joint_model.specs.declared.names.StaticNo.{StaticNo}
-use Rattle.joint_model.specs.declared.names.PNum.{PNum}
-use Rattle.joint_model.specs.declared.names.HNum.{HNum}
-use Rattle.joint_model.specs.declared.names.Cycle.{Cycle}
-use Rattle.joint_model.specs.declared.events.Op.{Op}
-use Rattle.joint_model.specs.declared.events.Op.TheVariants as op
-use Rattle.joint_model.specs.declared.events.Reply.{Reply}
-use Rattle.joint_model.specs.declared.events.Reply.TheVariants as says
-use Rattle.joint_model.specs.declared.events.Made.{Made}
-use Rattle.joint_model.specs.Components.{mirror_edges, End}
-use Rattle.joint_model.specs.Control.{carried_edges, answer_in, IsCandidateHandle}
-use Rattle.joint_model.specs.Cycles.{IsDeadContraction, IsOpen}
-use Rattle.joint_model.specs.Linked.{Linkage}
-use Rattle.joint_model.specs.Managed.{Holds, Managed, OpenCycle, ManagedEdge, handle_of, candidates_of}
-use Rattle.joint_model.specs.PeerReplay.{Mirror}
-use Rattle.joint_model.specs.Told.{Told, Noted, references_of, resolution_of, Answer, IsKept, said_alive, said_cleared, bare_told}
-use Rattle.joint_model.specs.Walks.{Reaches}
-use Rattle.known_laws.specs.Pasts.{InPast, Lawful, end_of}
+use Rattle.joint_machine.specs.declared.names.Sort.{Sort}
+use Rattle.joint_machine.specs.declared.names.Var.{Var}
+use Rattle.joint_machine.specs.declared.names.StaticNo.{StaticNo}
+use Rattle.joint_machine.specs.declared.names.PNum.{PNum}
+use Rattle.joint_machine.specs.declared.names.HNum.{HNum}
+use Rattle.joint_machine.specs.declared.names.Cycle.{Cycle}
+use Rattle.joint_machine.specs.declared.events.Op.{Op}
+use Rattle.joint_machine.specs.declared.events.Op.TheVariants as op
+use Rattle.joint_machine.specs.declared.events.Reply.{Reply}
+use Rattle.joint_machine.specs.declared.events.Reply.TheVariants as says
+use Rattle.joint_machine.specs.declared.events.Made.{Made}
+use Rattle.joint_machine.specs.Components.{mirror_edges, End}
+use Rattle.joint_machine.specs.Control.{carried_edges, answer_in, IsCandidateHandle}
+use Rattle.joint_machine.specs.Cycles.{IsDeadContraction, IsOpen}
+use Rattle.joint_machine.specs.Linked.{Linkage}
+use Rattle.joint_machine.specs.Managed.{Holds, Managed, OpenCycle, ManagedEdge, handle_of, candidates_of}
+use Rattle.joint_machine.specs.PeerReplay.{Mirror}
+use Rattle.joint_machine.specs.Told.{Told, Noted, references_of, resolution_of, Answer, said_alive, said_cleared}
+use Rattle.joint_machine.specs.Replaying.{IsKept}
+use Rattle.joint_machine.specs.PinsTold.{bare_told}
+use Rattle.joint_machine.specs.Walks.{Reaches}
+use Rattle.known_laws.specs.Pasts.{Lawful, end_of}
+use Rattle.known_laws.specs.PastEntries.{InPast}
 
 -- an earlier entry of the past is cited, of the same caller, and it is as the citing entry's data say
 pub record HasCited (h : List Noted) (x : Made) (number : ℕ) (IsAsSaid : Made → Type 0) : Type 0 where
@@ -88,7 +91,8 @@ IsSnapping o = ⊥
 abbrev pub NoneIsCitedTwice : Type 0
 NoneIsCitedTwice = (h : List Noted) → Lawful h → (x y z : Noted) → InPast h x → InPast h y → InPast h z → x.entry.made.cites ≡ Some z.entry.number → y.entry.made.cites ≡ Some z.entry.number → (x ≡ y) ⊎ IsSnapping z.entry.made.op
 
--- a mirror adds exactly the mirror edges of its cycle's dead part, carried to the peers of the handles, and replies their number
+-- a mirror adds exactly the mirror edges of its cycle's dead part, carried to the peers of the handles, and replies
+-- their number
 pub record AddsMirrorEdges (s : Linkage) (told : Told) (reply : Reply) (k : ℕ) : Type 0 where
   pub cycle : OpenCycle
   pub open_cycle : IsOpen s.managed.managed k cycle
@@ -142,8 +146,8 @@ pub record WasRestoredAlive (s : Managed) (restores : List (ℕ × Answer)) (m :
   pub answered : slice_get restores place ≡ Some (handle, answer)
   pub kept : IsKept answer
 
--- a resolve tells the answers of the restores, of which each candidate has one, and frees exactly the rows of the dead part that no
--- candidate whose restore answered alive leads to
+-- a resolve tells the answers of the restores, of which each candidate has one, and frees exactly the rows of the dead
+-- part that no candidate whose restore answered alive leads to
 pub record FreesByRestores (s : Managed) (restores : List (ℕ × Answer)) (told : Told) (k : ℕ) : Type 0 where
   pub cycle : OpenCycle
   pub open_cycle : IsOpen s k cycle
@@ -163,7 +167,8 @@ abbrev pub ResolvesFreeCleared : Type 0
 ResolvesFreeCleared = (x : Noted) (h : List Noted) → Lawful (x ∷ h) → (k : Cycle) → x.entry.made.op ≡ op.Resolve k → (answers : List Answer) (freed : List ℕ) → bare_told x.told ≡ resolution_of answers freed
     → (i g m : ℕ) (a : Answer) → slice_get (restores_in h) i ≡ Some (g, a) → slice_get (candidates_of (end_of h).managed.managed) i ≡ Some m → Contains freed m ↔ (a ≡ said_cleared)
 
--- a restore that answered alive ends in the new handle of its row: after the resolve the candidate holds the handle that it gave
+-- a restore that answered alive ends in the new handle of its row: after the resolve the candidate holds the handle
+-- that it gave
 abbrev pub RestoredHoldTheNew : Type 0
 RestoredHoldTheNew = (x : Noted) (h : List Noted) → Lawful (x ∷ h) → (k : Cycle) → x.entry.made.op ≡ op.Resolve k → (i g m n : ℕ) → slice_get (restores_in h) i ≡ Some (g, said_alive n) → slice_get (candidates_of (end_of h).managed.managed) i ≡ Some m → Holds (end_of (x ∷ h)).managed.managed m n
 

@@ -1,17 +1,19 @@
--- Lines with what is drawn beside each entry: the object to which it sets a cell, and the objects that it frees; and the pins that are kept with it.
+-- Lines with what is drawn beside each entry: the object to which it sets a cell, and the objects that it frees; and
+-- the pins that are kept with it.
 use Rattle.std.specs.Prelude.{◌≡◌, ℕ, ◌⊎◌, nat_eq, if◌then◌else◌, List, [], ◌∷◌, ◌++◌, map, Contains, Option, Some, None}
-use Rattle.joint_model.specs.declared.names.MNum.{MNum}
-use Rattle.joint_model.specs.declared.lines.Act.TheVariants as act
-use Rattle.joint_model.specs.declared.events.Op.{Op}
-use Rattle.joint_model.specs.declared.events.Op.TheVariants as op
-use Rattle.joint_model.specs.Heaps.{slot}
-use Rattle.joint_model.specs.Draws.{Drawn, NumberedFrom}
-use Rattle.joint_model.specs.Histories.{managed_numbers}
-use Rattle.joint_model.specs.Lines.{is_peer_event, is_read}
+use Rattle.joint_machine.specs.declared.names.MNum.{MNum}
+use Rattle.joint_machine.specs.declared.lines.Act.TheVariants as act
+use Rattle.joint_machine.specs.declared.events.Op.{Op}
+use Rattle.joint_machine.specs.declared.events.Op.TheVariants as op
+use Rattle.joint_machine.specs.Heaps.{slot}
+use Rattle.joint_machine.specs.Draws.{Drawn}
+use Rattle.joint_machine.specs.Histories.{managed_numbers, NumberedFrom}
+use Rattle.joint_machine.specs.Lines.{is_peer_event, is_read}
 use Rattle.known_laws.specs.Known.{Comes}
-use Rattle.joint_model.specs.Linked.{Linkage}
-use Rattle.joint_model.specs.Sides.{SideRules, managed_rules, peer_rules}
-use Rattle.joint_model.specs.Told.{Noted, pins_told}
+use Rattle.joint_machine.specs.Linked.{Linkage}
+use Rattle.joint_machine.specs.Sides.{SideRules, managed_rules, peer_rules}
+use Rattle.joint_machine.specs.Told.{Noted}
+use Rattle.joint_machine.specs.PinsTold.{pins_told}
 use Rattle.known_laws.specs.Held.{open_number}
 use Rattle.known_laws.specs.Pasts.{Lawful, end_of, is_in}
 use Rattle.known_laws.specs.Growing.{Kept, entries_kept, AreKnown, AreBelow, Begin, AreLonger, AreJoined, HasGrown, untold}
@@ -64,7 +66,8 @@ drawn_on lines d i = if is_in i (untold record { entry = d.drawn.entry; pins = d
 abbrev pub kept_drawn : Linkage → Noted → KeptDrawn
 kept_drawn s n = record { drawn = drawn s n; pins = pins_told n.told }
 
--- they grow by an entry that may come after the past, as it is drawn at the past's end, with a number above all that is known
+-- they grow by an entry that may come after the past, as it is drawn at the past's end, with a number above all that is
+-- known
 pub record DrawnGrow (lines : ℕ → List KeptDrawn) (past : List Noted) (n : Noted) : Type 0 where
   pub grows : HasGrown (λ i. of_drawn (lines i)) past n
   pub told : (i : ℕ) (d : KeptDrawn) → Contains (drawn_on lines (kept_drawn (end_of past) n) i) d → IsToldIn (record { entry = n.entry; told = grows.told } ∷ past) d

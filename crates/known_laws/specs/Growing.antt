@@ -1,20 +1,22 @@
 -- Known lines: how they grow by an entry and are joined, and what they are at the end of a run.
-use Rattle.joint_model.specs.Sides.{objects_freed}
+use Rattle.joint_machine.specs.Sides.{objects_freed}
 use Rattle.std.specs.Prelude.{◌≡◌, ℕ, ◌<◌, ◌⊎◌, if◌then◌else◌, List, [], ◌∷◌, ◌++◌, map, Option, Some}
 use mathlib.Core.List.{IsPrefix}
-use Rattle.joint_model.specs.declared.names.Thread.{Thread}
-use Rattle.joint_model.specs.declared.names.Thread.TheVariants.{M}
-use Rattle.joint_model.specs.declared.events.Entry.{Entry}
-use Rattle.joint_model.specs.Control.{doing_at, last_line}
-use Rattle.joint_model.specs.Managed.{candidates_of}
-use Rattle.joint_model.specs.Linked.{Linkage, opening_linkage}
-use Rattle.joint_model.specs.PeerReplay.{Mirror}
-use Rattle.joint_model.specs.Told.{Told, Noted, nothing, kept_pins, pins_told, bare_told}
-use Rattle.known_laws.specs.Known.{TellsPlainly, Comes, past_after}
-use Rattle.known_laws.specs.Pasts.{InPast, is_in, line, end_of, Lawful, HasSameDeadPart, driver_line}
-use Rattle.joint_model.specs.HistoryLines.{caller_line, stands_in}
-use Rattle.joint_model.specs.Lines.{is_read}
-use Rattle.joint_model.specs.Draws.{NumberedFrom}
+use Rattle.joint_machine.specs.declared.names.Thread.{Thread}
+use Rattle.joint_machine.specs.declared.names.Thread.TheVariants.{M}
+use Rattle.joint_machine.specs.declared.events.Entry.{Entry}
+use Rattle.joint_machine.specs.Control.{doing_at, last_line}
+use Rattle.joint_machine.specs.Managed.{candidates_of}
+use Rattle.joint_machine.specs.Linked.{Linkage, opening_linkage}
+use Rattle.joint_machine.specs.PeerReplay.{Mirror}
+use Rattle.joint_machine.specs.Told.{Told, Noted, nothing, kept_pins}
+use Rattle.joint_machine.specs.PinsTold.{bare_told, pins_told}
+use Rattle.known_laws.specs.Known.{Comes, past_after}
+use Rattle.known_laws.specs.PastEntries.{TellsPlainly, InPast, turned}
+use Rattle.known_laws.specs.Pasts.{is_in, line, end_of, Lawful, HasSameDeadPart, driver_line}
+use Rattle.joint_machine.specs.HistoryLines.{caller_line, stands_in}
+use Rattle.joint_machine.specs.Lines.{is_read}
+use Rattle.joint_machine.specs.Histories.{NumberedFrom}
 
 -- an entry as a line keeps it: with the pins that were given to a snap or a `take`, and no pins with any other
 pub record Kept : Type 0 where
@@ -31,10 +33,6 @@ shown n = record { entry = n.entry; pins = pins_told n.told }
 
 abbrev pub all_shown : List Noted → List Kept
 all_shown ns = map shown ns
-
--- the entries of notes, and of what a line keeps
-abbrev pub entries : List Noted → List Entry
-entries ns = map (λ n. n.entry) ns
 
 abbrev pub entries_kept : List Kept → List Entry
 entries_kept ks = map (λ k. k.entry) ks
@@ -63,8 +61,8 @@ abbrev pub AreBelow : ℕ → List Kept → Type 0
 AreBelow n [] = Unit {0}
 AreBelow n (k ∷ ks) = (k.entry.number < n) × AreBelow n ks
 
--- the past has grown by the entry; what was told plainly of it is told of it, with the same pins, and the sides' states are those after it in any
--- case
+-- the past has grown by the entry; what was told plainly of it is told of it, with the same pins, and the sides' states
+-- are those after it in any case
 pub record HasGrown (lines : ℕ → List Kept) (past : List Noted) (n : Noted) : Type 0 where
   pub told : Told
   pub lawful : Lawful (record { entry = n.entry; told = told } ∷ past)
@@ -89,8 +87,8 @@ pub record AreLonger (ls ms ns : ℕ → List Kept) : Type 0 where
   pub first : (i : ℕ) → IsPrefix (ls i) (ns i)
   pub second : (i : ℕ) → IsPrefix (ms i) (ns i)
 
--- the longer lines are known; a line that is the first one's is so with what is told; each entry stays with what is told of it; and
--- each side's state is that of the longer line
+-- the longer lines are known; a line that is the first one's is so with what is told; each entry stays with what is
+-- told of it; and each side's state is that of the longer line
 pub record AreJoined (a b : List Noted) (ls ms ns : ℕ → List Kept) : Type 0 where
   pub joined : AreKnown ns
   pub first : (i : ℕ) → ns i ≡ ls i → line i joined.past ≡ line i a
@@ -106,7 +104,8 @@ pub record AreJoined (a b : List Noted) (ls ms ns : ℕ → List Kept) : Type 0 
 abbrev pub KnownLinesJoin : Type 0
 KnownLinesJoin = (whole : List Kept) (ls ms ns : ℕ → List Kept) (a : AreKnown ls) (b : AreKnown ms) → NumberedFrom 0 (entries_kept whole) → Begin whole ls → Begin whole ms → AreLonger ls ms ns → AreJoined a.past b.past ls ms ns
 
--- the managed line gives the managed side's state, the peer line the peer side's, and each caller's line what that caller does
+-- the managed line gives the managed side's state, the peer line the peer side's, and each caller's line what that
+-- caller does
 pub record GivesParts (a b : List Noted) : Type 0 where
   pub managed : line 0 a ≡ line 0 b → (end_of a).managed ≡ (end_of b).managed
   pub peer : line 1 a ≡ line 1 b → (end_of a).peer ≡ (end_of b).peer
@@ -127,11 +126,6 @@ DeadPartStays = (whole : List Kept) (ls ms : ℕ → List Kept) (a : AreKnown ls
 abbrev pub MirroredCandidatesStay : Type 0
 MirroredCandidatesStay = (whole : List Kept) (ls ms : ℕ → List Kept) (a : AreKnown ls) (b : AreKnown ms) → NumberedFrom 0 (entries_kept whole) → Begin whole ls → Begin whole ms
     → (m n : Mirror) → (end_of a.past).peer.mirror ≡ Some m → (end_of b.past).peer.mirror ≡ Some n → m.snap ≡ n.snap → candidates_of (end_of a.past).managed.managed ≡ candidates_of (end_of b.past).managed.managed
-
--- a list the other way round, before another
-abbrev pub turned : {A : Type 0} → List A → List A → List A
-turned acc [] = acc
-turned acc (x ∷ xs) = turned (x ∷ acc) xs
 
 -- the state after the entries of a past, earliest first, and that each may come when it comes
 abbrev pub past_replayed : Linkage → List Noted → Linkage

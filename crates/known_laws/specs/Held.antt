@@ -1,24 +1,27 @@
--- What a pin's word says of the object that it names, to who knows the managed list: it was held from a number on, so it is unfreed and in no open
--- cycle's dead part, and pins that hold such objects stand. (Textbook: an object that a root holds when a collector starts isn't freed by it.)
+-- What a pin's word says of the object that it names, to who knows the managed list: it was held from a number on, so
+-- it is unfreed and in no open cycle's dead part, and pins that hold such objects stand. (Textbook: an object that a
+-- root holds when a collector starts isn't freed by it.)
 use Rattle.std.specs.Prelude.{◌≡◌, ℕ, ◌<◌, ◌≤◌, nat_lt, if◌then◌else◌, List, [], ◌∷◌, Option, Some, None}
-use Rattle.joint_model.specs.declared.names.Cycle.{Cycle}
-use Rattle.joint_model.specs.declared.events.Op.TheVariants as op
-use Rattle.joint_model.specs.declared.events.Reply.{Reply}
-use Rattle.joint_model.specs.declared.events.Reply.TheVariants as says
-use Rattle.joint_model.specs.Heaps.{slot, is_freed}
-use Rattle.joint_model.specs.Managed.{Managed, OpenCycle, read_cell}
-use Rattle.joint_model.specs.Readers.{FreesObject}
-use Rattle.joint_model.specs.Told.{Noted, bare_told, pins_told}
+use Rattle.joint_machine.specs.declared.names.Cycle.{Cycle}
+use Rattle.joint_machine.specs.declared.events.Op.TheVariants as op
+use Rattle.joint_machine.specs.declared.events.Reply.{Reply}
+use Rattle.joint_machine.specs.declared.events.Reply.TheVariants as says
+use Rattle.joint_machine.specs.Heaps.{slot, is_freed}
+use Rattle.joint_machine.specs.Managed.{Managed, OpenCycle, read_cell}
+use Rattle.joint_machine.specs.Readers.{FreesObject}
+use Rattle.joint_machine.specs.Told.{Noted}
+use Rattle.joint_machine.specs.PinsTold.{bare_told, pins_told}
 use Rattle.known_laws.specs.Known.{PinsStand}
-use Rattle.known_laws.specs.Pasts.{InPast, Lawful, end_of}
+use Rattle.known_laws.specs.Pasts.{Lawful, end_of}
+use Rattle.known_laws.specs.PastEntries.{InPast}
 
 -- the part of a past whose numbers are below n
 abbrev pub those_below : ℕ → List Noted → List Noted
 those_below n [] = []
 those_below n (x ∷ h) = if nat_lt x.entry.number n then x ∷ h else those_below n h
 
--- a thread's pin holds the object from a number on: the object is a cell's target; no entry below the number frees it, and no cycle is open there;
--- and each later snap was told with the object in that thread's pin
+-- a thread's pin holds the object from a number on: the object is a cell's target; no entry below the number frees it,
+-- and no cycle is open there; and each later snap was told with the object in that thread's pin
 pub record IsHeld (h : List Noted) (r m : ℕ) : Type 0 where
   pub cell : ℕ
   pub aims : slot (end_of h).managed.managed.cells cell ≡ Some m
@@ -31,8 +34,8 @@ pub record IsHeld (h : List Noted) (r m : ℕ) : Type 0 where
 abbrev pub HeldPinsStand : Type 0
 HeldPinsStand = (h : List Noted) (pins : List (Option ℕ)) → Lawful h → ((r m : ℕ) → slot pins r ≡ Some m → IsHeld h r m) → PinsStand (end_of h).managed.managed pins
 
--- what a reader answers that finds so of its own pin, of the gate and of the cell's word: a filled pin alone decides, then a held gate, and then the word,
--- 0 for unset, 1 for gone and else the object's number and 1
+-- what a reader answers that finds so of its own pin, of the gate and of the cell's word: a filled pin alone decides,
+-- then a held gate, and then the word, 0 for unset, 1 for gone and else the object's number and 1
 pub data Word : Type 0 where
   unset : Word
   gone : Word

@@ -1,30 +1,17 @@
 -- The entries that a seat knows: a part of a history, whose numbers rise and may leave numbers out.
 use Rattle.std.specs.Prelude.{◌≡◌, ℕ, ◌≤◌, Bool, true, false, List, Contains, Option, Some}
-use Rattle.joint_model.specs.declared.names.Phase.TheVariants as at
-use Rattle.joint_model.specs.declared.names.PhaseWord.TheVariants as word
-use Rattle.joint_model.specs.declared.events.Op.{Op}
-use Rattle.joint_model.specs.declared.events.Op.TheVariants as op
-use Rattle.joint_model.specs.declared.events.Made.{Made}
-use Rattle.joint_model.specs.Control.{Stand, weakening, control_after}
-use Rattle.joint_model.specs.Heaps.{IsLive}
-use Rattle.joint_model.specs.Lines.{is_peer_event, is_read, is_pinned}
-use Rattle.joint_model.specs.Linked.{Linkage, MayCome, peer_after}
-use Rattle.joint_model.specs.Managed.{Managed, OpenCycle}
-use Rattle.joint_model.specs.ManagedReplay.{ManagedReplay, managed_answer}
-use Rattle.joint_model.specs.Readers.{ReaderMayCome, with_pins}
-use Rattle.joint_model.specs.Told.{Told, Noted, phase_of, bare_told, tells_pins, pins_told, no_pins}
-
--- before the first weakening it was seen that the driver has come to the weakened phase
-abbrev pub IsSeen : Stand → Type 0
-IsSeen (weakening o count weakened swept) = count ≡ 0 → weakened ≡ true
-IsSeen _ = Unit {0}
-
--- In a cycle without candidates the mirrored phase becomes the weakened one at a point that no entry shows. So a refusal that
--- answers the open cycle's number, and not the phase, is told as of the mirrored phase until the weakened one was seen.
-abbrev pub TellsPlainly : Stand → Op → Told → Type 0
-TellsPlainly stand (op.Refused word.Cycle) (phase_of at.Weakened) = IsSeen stand
-TellsPlainly stand (op.Refused word.Snap) (phase_of at.Weakened) = IsSeen stand
-TellsPlainly stand _ _ = Unit {0}
+use Rattle.joint_machine.specs.declared.events.Op.TheVariants as op
+use Rattle.joint_machine.specs.declared.events.Made.{Made}
+use Rattle.joint_machine.specs.Control.{control_after}
+use Rattle.joint_machine.specs.Heaps.{IsLive}
+use Rattle.joint_machine.specs.Lines.{is_peer_event, is_read}
+use Rattle.joint_machine.specs.PinsTold.{is_pinned, bare_told, no_pins, pins_told, tells_pins, with_pins}
+use Rattle.joint_machine.specs.Linked.{Linkage, MayCome, peer_after}
+use Rattle.joint_machine.specs.Managed.{Managed, OpenCycle}
+use Rattle.joint_machine.specs.ManagedReplay.{ManagedReplay, managed_answer}
+use Rattle.joint_machine.specs.Readers.{ReaderMayCome}
+use Rattle.joint_machine.specs.Told.{Told, Noted}
+use Rattle.known_laws.specs.PastEntries.{TellsPlainly}
 
 -- the state with these pins, and with those that are told
 abbrev pub pinned : Linkage → List (Option ℕ) → Linkage
@@ -42,7 +29,8 @@ pub record PinsStand (s : Managed) (pins : List (Option ℕ)) : Type 0 where
   pub live : (m : ℕ) → Contains pins (Some m) → IsLive s.heap m
   pub outside : (c : OpenCycle) → s.cycle ≡ Some c → (m : ℕ) → Contains pins (Some m) → Contains c.dead m → ⊥
 
--- an entry of a side's list may come next: pins are told with a snap and a `take` alone, they stand, and in the state with them it may come
+-- an entry of a side's list may come next: pins are told with a snap and a `take` alone, they stand, and in the state
+-- with them it may come
 pub record SideMayCome (s : Linkage) (n : Noted) : Type 0 where
   pub tells : tells_pins n.told ≡ is_pinned n.entry.made.op
   pub stand : PinsStand s.managed.managed (pins_told n.told)
@@ -59,7 +47,8 @@ pub record MayComeLater (next : ℕ) (s : Linkage) (n : Noted) : Type 0 where
   pub comes : Comes (is_read n.entry.made.op) s n
   pub plain : TellsPlainly s.control.stand n.entry.made.op (bare_told n.told)
 
--- the managed side after an entry of a past: it has no pins between entries. A peer entry and a reader's leave it alone.
+-- the managed side after an entry of a past: it has no pins between entries. A peer entry and a reader's leave it
+-- alone.
 abbrev pub managed_past : ManagedReplay → Made → Told → Bool → Bool → ManagedReplay
 managed_past s m told true read = s
 managed_past s m told false true = s

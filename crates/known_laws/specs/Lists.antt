@@ -1,20 +1,21 @@
 -- Each side's own list, as a past has it: lawful by itself, and giving that side's state.
 use Rattle.std.specs.Prelude.{◌≡◌, ℕ, List, filter, map}
-use Rattle.joint_model.specs.declared.names.Thread.{Thread}
-use Rattle.joint_model.specs.declared.events.Entry.{Entry}
-use Rattle.joint_model.specs.Lines.{IsThread}
-use Rattle.joint_model.specs.ManagedReplay.{opening_replay}
-use Rattle.joint_model.specs.PeerReplay.{opening_peer_replay, is_thread}
-use Rattle.joint_model.specs.Components.{Rises}
-use Rattle.joint_model.specs.Sides.{managed_rules, peer_rules, LeadsTo, IsReplayed}
-use Rattle.joint_model.specs.Told.{Noted}
+use Rattle.joint_machine.specs.declared.names.Thread.{Thread}
+use Rattle.joint_machine.specs.declared.events.Entry.{Entry}
+use Rattle.joint_machine.specs.Lines.{IsThread}
+use Rattle.joint_machine.specs.ManagedReplay.{opening_replay}
+use Rattle.joint_machine.specs.PeerReplay.{opening_peer_replay, is_thread}
+use Rattle.joint_machine.specs.Components.{Rises}
+use Rattle.joint_machine.specs.Sides.{managed_rules, peer_rules, LeadsTo, IsReplayed}
+use Rattle.joint_machine.specs.Told.{Noted}
 use Rattle.known_laws.specs.Pasts.{line, end_of, Lawful}
-use Rattle.joint_model.specs.HistoryLines.{caller_line}
-use Rattle.known_laws.specs.Growing.{Kept, entries_kept, kept_in, AreKnown, AreWhole, entries}
-use Rattle.joint_model.specs.Draws.{NumberedFrom}
+use Rattle.joint_machine.specs.HistoryLines.{caller_line}
+use Rattle.known_laws.specs.Growing.{Kept, entries_kept, kept_in, AreKnown, AreWhole}
+use Rattle.known_laws.specs.PastEntries.{entries}
+use Rattle.joint_machine.specs.Histories.{NumberedFrom}
 
--- each side's list in a past is lawful, and leads to that side's state at the past's end, so that the side is the replay of its
--- entries; and in each line numbers rise
+-- each side's list in a past is lawful, and leads to that side's state at the past's end, so that the side is the
+-- replay of its entries; and in each line numbers rise
 pub record AreListsLawful (h : List Noted) : Type 0 where
   pub managed : LeadsTo managed_rules opening_replay (line 0 h) (end_of h).managed
   pub peer : LeadsTo peer_rules opening_peer_replay (line 1 h) (end_of h).peer

@@ -1,16 +1,18 @@
 -- What a seat knows: a past, latest entry first, with numbers left out, and its lines.
 use Rattle.std.specs.Prelude.{◌≡◌, ℕ, ◌+◌, ◌≤◌, ◌⊎◌, Bool, if◌then◌else◌, List, [], ◌∷◌, ◌++◌, map, Contains, Some}
 use mathlib.Core.List.{IsPrefix}
-use Rattle.joint_model.specs.Components.{mirror_edges}
-use Rattle.joint_model.specs.Control.{OpenSnap, contracted, IsCandidateHandle, carried_edges}
-use Rattle.joint_model.specs.Cycles.{IsDeadContraction}
-use Rattle.joint_model.specs.Heaps.{fields_of}
-use Rattle.joint_model.specs.HistoryLines.{caller_line, side_line, stands_in}
-use Rattle.joint_model.specs.Linked.{Linkage, opening_linkage, linkage_after}
-use Rattle.joint_model.specs.Managed.{Managed, OpenCycle, handle_of, candidates_of}
-use Rattle.joint_model.specs.Peers.{Issued}
-use Rattle.joint_model.specs.Told.{Noted, nothing, kept_pins, pins_told}
+use Rattle.joint_machine.specs.Components.{mirror_edges}
+use Rattle.joint_machine.specs.Control.{OpenSnap, contracted, IsCandidateHandle, carried_edges}
+use Rattle.joint_machine.specs.Cycles.{IsDeadContraction}
+use Rattle.joint_machine.specs.Heaps.{fields_of}
+use Rattle.joint_machine.specs.HistoryLines.{caller_line, side_line, stands_in}
+use Rattle.joint_machine.specs.Linked.{Linkage, opening_linkage}
+use Rattle.joint_machine.specs.Managed.{Managed, OpenCycle, handle_of, candidates_of}
+use Rattle.joint_machine.specs.Peers.{Issued}
+use Rattle.joint_machine.specs.Told.{Noted, nothing, kept_pins}
+use Rattle.joint_machine.specs.PinsTold.{pins_told}
 use Rattle.known_laws.specs.Known.{MayComeLater, past_after}
+use Rattle.known_laws.specs.PastEntries.{InPast}
 
 -- the driver's line
 abbrev pub driver_line : ℕ
@@ -42,11 +44,6 @@ of_line i (x ∷ xs) = if is_in i x then x ∷ of_line i xs else of_line i xs
 abbrev pub PastRunsFrom : ℕ → List Noted → Type 0
 PastRunsFrom n [] = Unit {0}
 PastRunsFrom n (x ∷ xs) = (x.entry.number ≡ n) × PastRunsFrom (n + 1) xs
-
--- the entry stands in the past
-abbrev pub InPast : List Noted → Noted → Type 0
-InPast [] e = ⊥
-InPast (x ∷ xs) e = (x ≡ e) ⊎ InPast xs e
 
 -- the state after a past
 abbrev pub end_of : List Noted → Linkage
@@ -85,7 +82,8 @@ pub record IsSameForDriver (s t : Linkage) : Type 0 where
 abbrev pub IsFrozenIn : List Noted → Type 0
 IsFrozenIn whole = (a b : List Noted) → Lawful a → Lawful b → Within whole a → Within whole b → line driver_line a ≡ line driver_line b → IsSameForDriver (end_of a) (end_of b)
 
--- an entry that may come after one past of a run may come after another that has the same line of its list and of its caller
+-- an entry that may come after one past of a run may come after another that has the same line of its list and of its
+-- caller
 abbrev pub EntryMayMove : Type 0
 EntryMayMove = (whole a b : List Noted) → Lawful a → Lawful b → Within whole a → Within whole b → (x : Noted) → line (role_of x) a ≡ line (role_of x) b → line (own_of x) a ≡ line (own_of x) b
     → next_of b ≤ x.entry.number → MayComeLater (next_of a) (end_of a) x → MayComeLater (next_of b) (end_of b) x

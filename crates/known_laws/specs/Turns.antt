@@ -1,35 +1,36 @@
--- Whose turn it is: which event of a caller may come next, with what it cites, by what a thread has in hand or where the driver
--- stands. An entry that a side's list allows, in its caller's turn, may come next.
+-- Whose turn it is: which event of a caller may come next, with what it cites, by what a thread has in hand or where
+-- the driver stands. An entry that a side's list allows, in its caller's turn, may come next.
 use Rattle.known_laws.specs.Known.{Comes, PinsStand}
 use Rattle.std.specs.Prelude.{◌≡◌, ◌⊎◌, ℕ, ◌<◌, ◌≤◌, ◌^◌, Bool, true, false, List, length, Option, Some, None}
-use Rattle.joint_model.specs.declared.names.Thread.TheVariants.{M}
-use Rattle.joint_model.specs.declared.names.Cycle.{Cycle}
-use Rattle.joint_model.specs.declared.names.HNum.{HNum}
-use Rattle.joint_model.specs.declared.names.PNum.{PNum}
-use Rattle.joint_model.specs.declared.names.StaticNo.{StaticNo}
-use Rattle.joint_model.specs.declared.names.Var.{Var}
-use Rattle.joint_model.specs.declared.names.Kind.{Kind}
-use Rattle.joint_model.specs.declared.names.Sort.{Sort}
-use Rattle.joint_model.specs.declared.names.Phase.{Phase}
-use Rattle.joint_model.specs.declared.names.PhaseWord.{PhaseWord}
-use Rattle.joint_model.specs.declared.names.Marking.{Marking}
-use Rattle.joint_model.specs.declared.lines.Act.TheVariants as act
-use Rattle.joint_model.specs.declared.events.Op.{Op}
-use Rattle.joint_model.specs.declared.events.Op.TheVariants as op
-use Rattle.joint_model.specs.declared.events.Reply.{Reply}
-use Rattle.joint_model.specs.declared.events.Reply.TheVariants as says
-use Rattle.joint_model.specs.declared.events.Made.{Made}
-use Rattle.joint_model.specs.Components.{mirror_edges}
-use Rattle.joint_model.specs.Control.{OpenSnap, made, lent, gripped, given, met, idle, snapped, contracted, weakening, marked, restoring, restored, doing_at, last_line, carried_edges, IsCandidateHandle, IsPhaseOf, IsAtRest, IsDone, MayStart, ThreadAllows, DriverAllows, CallerAllows}
-use Rattle.joint_model.specs.Managed.{candidates_of}
-use Rattle.joint_model.specs.Lines.{IsLine, IsEvent, is_read}
-use Rattle.joint_model.specs.Linked.{Linkage, MayCome}
-use Rattle.joint_model.specs.Run.{thread_number}
-use Rattle.joint_model.specs.Sides.{managed_rules, peer_rules}
-use Rattle.joint_model.specs.Told.{Told, nothing, bare_told, pins_told, Answer, references_of, resolution_of, phase_of}
+use Rattle.joint_machine.specs.declared.names.Thread.TheVariants.{M}
+use Rattle.joint_machine.specs.declared.names.Cycle.{Cycle}
+use Rattle.joint_machine.specs.declared.names.HNum.{HNum}
+use Rattle.joint_machine.specs.declared.names.PNum.{PNum}
+use Rattle.joint_machine.specs.declared.names.StaticNo.{StaticNo}
+use Rattle.joint_machine.specs.declared.names.Var.{Var}
+use Rattle.joint_machine.specs.declared.names.Kind.{Kind}
+use Rattle.joint_machine.specs.declared.names.Sort.{Sort}
+use Rattle.joint_machine.specs.declared.names.Phase.{Phase}
+use Rattle.joint_machine.specs.declared.names.PhaseWord.{PhaseWord}
+use Rattle.joint_machine.specs.declared.names.Marking.{Marking}
+use Rattle.joint_machine.specs.declared.lines.Act.TheVariants as act
+use Rattle.joint_machine.specs.declared.events.Op.{Op}
+use Rattle.joint_machine.specs.declared.events.Op.TheVariants as op
+use Rattle.joint_machine.specs.declared.events.Reply.{Reply}
+use Rattle.joint_machine.specs.declared.events.Reply.TheVariants as says
+use Rattle.joint_machine.specs.declared.events.Made.{Made}
+use Rattle.joint_machine.specs.Components.{mirror_edges}
+use Rattle.joint_machine.specs.Control.{OpenSnap, made, lent, gripped, given, met, idle, snapped, contracted, weakening, marked, restoring, restored, doing_at, last_line, carried_edges, IsCandidateHandle, IsPhaseOf, IsAtRest, IsDone, MayStart, ThreadAllows, DriverAllows, CallerAllows}
+use Rattle.joint_machine.specs.Managed.{candidates_of}
+use Rattle.joint_machine.specs.Lines.{IsLine, IsEvent, is_read}
+use Rattle.joint_machine.specs.Linked.{Linkage, MayCome}
+use Rattle.joint_machine.specs.Run.{thread_number}
+use Rattle.joint_machine.specs.Sides.{managed_rules, peer_rules}
+use Rattle.joint_machine.specs.Told.{Told, nothing, Answer, references_of, resolution_of, phase_of}
+use Rattle.joint_machine.specs.PinsTold.{bare_told, pins_told}
 
--- what a side promises of an entry that it makes, in its caller's turn, is all that is asked of it, where the pins that are told stand; its line isn't
--- below the caller's last
+-- what a side promises of an entry that it makes, in its caller's turn, is all that is asked of it, where the pins that
+-- are told stand; its line isn't below the caller's last
 abbrev pub SideEntryComes : Type 0
 SideEntryComes = (s : Linkage) (number : ℕ) (m : Made) (told : Told) → last_line s.control m.caller ≤ m.index → m.index < 2 ^ 32
     → CallerAllows s.control s.managed.managed s.peer.peers.issued m.caller m.index m.op m.reply m.cites (bare_told told) → PinsStand s.managed.managed (pins_told told)
@@ -47,7 +48,8 @@ ThreadTurn s t line o cites = ThreadAllows (doing_at s.control t) (M t) line o c
 abbrev pub DriverTurn : Linkage → Op → Reply → Option ℕ → Told → Type 0
 DriverTurn s o reply cites told = DriverAllows s.control.stand s.managed.managed s.peer.peers.issued o reply cites told
 
--- a thread may begin an operation unless a handle waits for its release, and goes on with the later event of the one it is in
+-- a thread may begin an operation unless a handle waits for its release, and goes on with the later event of the one it
+-- is in
 pub record AreThreadTurns (s : Linkage) (t : ℕ) : Type 0 where
   pub start : IsDone (doing_at s.control t) → MayStart (doing_at s.control t) None
   pub adopt : (n line : ℕ) (p : PNum) (h : HNum) (sort : Sort) (f : ℕ) (v : Var) (kind : Kind) (k : ℕ) → doing_at s.control t ≡ made n line p.0 h.0 sort f → IsLine (M t) (act.Bridge v kind k sort f) → ThreadTurn s t line (op.Adopt v kind k p h) (Some n)

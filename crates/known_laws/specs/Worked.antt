@@ -1,20 +1,21 @@
 -- Small pasts and states, on which a premise of a law fails, and its conclusion with it.
 use Rattle.std.specs.Prelude.{ℕ, false, true, if◌then◌else◌, List, [], ◌∷◌, Option, Some, None}
-use Rattle.joint_model.specs.declared.names.Thread.{Thread}
-use Rattle.joint_model.specs.declared.names.Thread.TheVariants.{M, P, C}
-use Rattle.joint_model.specs.declared.names.Phase.{Phase}
-use Rattle.joint_model.specs.declared.names.PhaseWord.TheVariants as word
-use Rattle.joint_model.specs.declared.lines.Act.TheVariants as act
-use Rattle.joint_model.specs.declared.events.Op.{Op}
-use Rattle.joint_model.specs.declared.events.Op.TheVariants as op
-use Rattle.joint_model.specs.declared.events.Reply.{Reply}
-use Rattle.joint_model.specs.declared.events.Reply.TheVariants as says
-use Rattle.joint_model.specs.Control.{opening_control, weakening}
-use Rattle.joint_model.specs.Linked.{Linkage}
-use Rattle.joint_model.specs.Managed.{opening_managed}
-use Rattle.joint_model.specs.ManagedReplay.{opening_replay}
-use Rattle.joint_model.specs.PeerReplay.{opening_peer_replay}
-use Rattle.joint_model.specs.Told.{Told, Noted, kept_pins, no_pins, nothing, snap_of, phase_of}
+use Rattle.joint_machine.specs.declared.names.Thread.{Thread}
+use Rattle.joint_machine.specs.declared.names.Thread.TheVariants.{M, P, C}
+use Rattle.joint_machine.specs.declared.names.Phase.{Phase}
+use Rattle.joint_machine.specs.declared.names.PhaseWord.TheVariants as word
+use Rattle.joint_machine.specs.declared.lines.Act.TheVariants as act
+use Rattle.joint_machine.specs.declared.events.Op.{Op}
+use Rattle.joint_machine.specs.declared.events.Op.TheVariants as op
+use Rattle.joint_machine.specs.declared.events.Reply.{Reply}
+use Rattle.joint_machine.specs.declared.events.Reply.TheVariants as says
+use Rattle.joint_machine.specs.Control.{opening_control, weakening}
+use Rattle.joint_machine.specs.Linked.{Linkage}
+use Rattle.joint_machine.specs.Managed.{opening_managed}
+use Rattle.joint_machine.specs.ManagedReplay.{opening_replay}
+use Rattle.joint_machine.specs.PeerReplay.{opening_peer_replay}
+use Rattle.joint_machine.specs.Told.{Told, Noted, kept_pins, nothing, snap_of, phase_of}
+use Rattle.joint_machine.specs.PinsTold.{no_pins}
 use Rattle.known_laws.specs.Drawn.{KeptDrawn}
 use Rattle.known_laws.specs.Growing.{Kept, shown, all_shown}
 use Rattle.known_laws.specs.Pasts.{is_in, line}

@@ -1,19 +1,20 @@
 // Small pasts and states, computed, on which a premise of a law fails: there its conclusion fails too.
 
 ghost use Rattle.std.specs.Prelude.{◌≡◌, ℕ, false, List, [], ◌∷◌, None};
-ghost use Rattle.joint_model.specs.declared.names.Phase.TheVariants as at;
-ghost use Rattle.joint_model.specs.Control.{opening_control, snapped, OpenSnap};
-ghost use Rattle.joint_model.specs.Draws.{NumberedFrom};
-ghost use Rattle.joint_model.specs.Linked.{MayCome, opening_linkage};
-ghost use Rattle.joint_model.specs.Managed.{OpenCycle};
-ghost use Rattle.joint_model.specs.ManagedReplay.{MayContract, opening_replay};
-ghost use Rattle.joint_model.specs.PeerReplay.{MayClear, MayRelease, MayRestore, MayWeaken, opening_peer_replay};
-ghost use Rattle.joint_model.specs.Told.{Noted, phase_of};
+ghost use Rattle.joint_machine.specs.declared.names.Phase.TheVariants as at;
+ghost use Rattle.joint_machine.specs.Control.{opening_control, snapped, OpenSnap};
+ghost use Rattle.joint_machine.specs.Histories.{NumberedFrom};
+ghost use Rattle.joint_machine.specs.Linked.{MayCome, opening_linkage};
+ghost use Rattle.joint_machine.specs.Managed.{OpenCycle};
+ghost use Rattle.joint_machine.specs.ManagedReplay.{MayContract, opening_replay};
+ghost use Rattle.joint_machine.specs.PeerReplay.{MayClear, MayRelease, MayRestore, MayWeaken, opening_peer_replay};
+ghost use Rattle.joint_machine.specs.Told.{Noted, phase_of};
 ghost use Rattle.known_laws.specs.Conditions.{IsOpenHere};
 ghost use Rattle.known_laws.specs.Driving.{IsPastKept};
 ghost use Rattle.known_laws.specs.Drawn.{AreDrawn};
 ghost use Rattle.known_laws.specs.Growing.{AreKnown, IsTurnedPast, entries_kept, grown, kept_in, shown};
-ghost use Rattle.known_laws.specs.Known.{Comes, TellsPlainly};
+ghost use Rattle.known_laws.specs.Known.{Comes};
+ghost use Rattle.known_laws.specs.PastEntries.{TellsPlainly};
 ghost use Rattle.known_laws.specs.Pasts.{HasSameDeadPart, Joined, Lawful, PastRunsFrom, Within, end_of, line, driver_line};
 ghost use Rattle.known_laws.specs.Worked.{a_drop, a_peer_drop, a_read, a_refusal, a_snap, a_take, lines_of, released_twice, turned_numbers, two_drops, without_candidates, wrong_lines};
 
@@ -66,8 +67,9 @@ pub fn targets_must_be_told()
     ensures { AreDrawn wrong_lines → ⊥ }
 {}
 
-/// Before the first entry all that a past keeps holds, no thread has anything in hand and the driver is idle: no call has its condition
-/// that asks for a handle, an open cycle or a mirror. And once the driver has snapped, the condition of a snap is gone.
+/// Before the first entry all that a past keeps holds, no thread has anything in hand and the driver is idle: no call
+/// has its condition that asks for a handle, an open cycle or a mirror. And once the driver has snapped, the condition
+/// of a snap is gone.
 pub fn calls_need_their_stand()
     ensures kept { IsPastKept opening_linkage }
     ensures release { (h : ℕ) → MayRelease opening_peer_replay h → ⊥ }

@@ -1,18 +1,19 @@
--- The history that bytes are read as is legal exactly where the bytes are the report of a linked history: such a one is read as itself without the notices
--- that weren't taken, which is linked as it is, and of one text one history is read.
+-- The history that bytes are read as is legal exactly where the bytes are the report of a linked history: such a one is
+-- read as itself without the notices that weren't taken, which is linked as it is, and of one text one history is read.
 use Rattle.std.specs.Prelude.{◌^◌}
 use Rattle.std.proofs.Common.{◌≡◌, ℕ, ◌<◌, List, length, refl, sym, subst}
-use Rattle.joint_model.specs.Histories.{Finished}
-use Rattle.joint_model.specs.LinkedHistories.{IsLinked}
+use Rattle.joint_machine.specs.Histories.{Finished}
+use Rattle.joint_machine.specs.LinkedHistories.{IsLinked}
 use Rattle.report_reader.specs.Reading.{IsReadAs}
-use Rattle.report_reader.specs.Reading.{as_named as as_shown}
+use Rattle.report_reader.specs.Answers.{as_named as as_shown}
 use Rattle.report_reader.proofs.Back.{one_history}
 use Rattle.report_laws.proofs.Linked.{linked_is_read, named_is_linked}
 use Rattle.check_laws.specs.declared.findings.Finding.TheVariants as finding
-use Rattle.check_laws.specs.Found.{IsFinding}
+use Rattle.check_laws.specs.Findings.{IsFinding}
 use Rattle.check_laws.proofs.Linking.{legal_linked, linked_runs}
 use Rattle.check_laws.proofs.OneFinding.{one_finding}
-use Rattle.legal_reports.specs.Legal.{FoundLegalIsReport, IsReportOfRun, LegalIsReport}
+use Rattle.legal_reports.specs.Legal.{FoundLegalIsReport, LegalIsReport}
+use Rattle.legal_reports.specs.Reports.{IsReportOfRun}
 use Rattle.legal_reports.proofs.Named.{named_is_same}
 
 -- a legal history that was read is linked

@@ -1,12 +1,13 @@
--- A history that was read has in its lists what its replies name, and no more. So cutting its lists behind the last number that is named leaves it as it is.
+-- A history that was read has in its lists what its replies name, and no more. So cutting its lists behind the last
+-- number that is named leaves it as it is.
 use Rattle.std.proofs.Common.{◌≡◌, ◌+◌, List, [], ◌∷◌, take, refl, arith}
 use Rattle.std.specs.Prelude.{sum_by}
 use Rattle.std.proofs.lemmas.List.{take_all}
 use Rattle.std.proofs.lemmas.List.Sums.{sum_by-cons}
-use Rattle.joint_model.specs.declared.events.Reply.{Reply}
-use Rattle.joint_model.specs.declared.events.Reply.TheVariants as reply
-use Rattle.joint_model.specs.declared.events.Entry.{Entry}
-use Rattle.joint_model.specs.Histories.{Finished}
+use Rattle.joint_machine.specs.declared.events.Reply.{Reply}
+use Rattle.joint_machine.specs.declared.events.Reply.TheVariants as reply
+use Rattle.joint_machine.specs.declared.events.Entry.{Entry}
+use Rattle.joint_machine.specs.Histories.{Finished}
 use Rattle.report_reader.specs.Reading.{Ends, HasJust, ends_after, ends_of, no_ends}
 use Rattle.check_laws.specs.Found.{as_named, objects_in, peers_in}
 

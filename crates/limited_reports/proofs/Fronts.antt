@@ -1,10 +1,11 @@
--- How many newlines there are in the lines of a report, and so which fault is that of a line, where every line has its newline.
+-- How many newlines there are in the lines of a report, and so which fault is that of a line, where every line has its
+-- newline.
 use Rattle.std.proofs.Common.{◌≡◌, ◌≢◌, ℕ, ◌+◌, ◌<◌, ◌≤◌, inl, inr, Bool, true, false, List, [], ◌∷◌, ◌++◌, length, All, codes, decimal, refl, sym, ap, subst, ◌∙◌, arith, length-append}
 use Rattle.std.proofs.lemmas.Bool.{cases_lt}
 use Rattle.std.proofs.lemmas.List.Elements.{All-from_recursion}
 use Rattle.std.specs.Io.KnownBytes.{IsAtEnd}
 use Rattle.std.specs.Prelude.{Option}
-use Rattle.joint_model.specs.Histories.{Finished}
+use Rattle.joint_machine.specs.Histories.{Finished}
 use Rattle.byte_streams.specs.Reading.{Took}
 use Rattle.text_words.proofs.Cutting.{Lacks}
 use Rattle.text_words.proofs.PlainWords.{no-byte, plain-decimal}
@@ -21,7 +22,8 @@ use Rattle.report_reader.proofs.Lines.{entry_lines}
 use Rattle.report_reader.proofs.Texts.{text_lacks}
 use Rattle.limited_reports.specs.declared.limits.TakeError.{TakeError}
 use Rattle.limited_reports.specs.declared.limits.TakeError.TheVariants.{Refused, Long}
-use Rattle.limited_reports.specs.Limits.{IsFaultBefore, IsLongLine, IsLongRefusal}
+use Rattle.limited_reports.specs.Limits.{IsFaultBefore, IsLongLine}
+use Rattle.limited_reports.specs.Answers.{IsLongRefusal}
 
 all_lack : (text : List ℕ) → Lacks 10 text → All (λ b. b ≢ 10) text
 all_lack text l = All-from_recursion (λ (z : ℕ). z ≢ 10) text l

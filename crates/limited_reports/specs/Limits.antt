@@ -1,14 +1,11 @@
--- A text that is longer than a limit: which of its lines holds the first byte behind the limit, where the lines before it are those of a report, and else
--- which line before it is wrong. And what taking a report from a source does to it.
+-- A text that is longer than a limit: which of its lines holds the first byte behind the limit, where the lines before
+-- it are those of a report, and else which line before it is wrong. And what taking a report from a source does to it.
+-- Believed: the clauses of the program's top call rest on all that stands here.
 use Rattle.std.specs.Prelude.{◌≡◌, ℕ, ◌+◌, ◌<◌, ◌≤◌, ◌⊎◌, Bool, List, Option, length}
-use Rattle.std.specs.Io.KnownBytes.{Consumes, IsAtEnd}
-use Rattle.joint_model.specs.Histories.{Finished}
 use Rattle.byte_streams.specs.Reading.{Took}
-use Rattle.byte_streams.specs.Streams.{Rose}
 use Rattle.text_limits.specs.Limits.{IsFrontOf}
 use Rattle.report_reader.specs.declared.faults.ReportFault.{ReportFault}
 use Rattle.report_reader.specs.Faults.{AreEntryLines, IsFaultyLine, IsNoReport, IsReportFault, front, front_count}
-use Rattle.report_reader.specs.Reading.{IsReadAs}
 use Rattle.limited_reports.specs.declared.limits.TakeError.{TakeError}
 use Rattle.limited_reports.specs.declared.limits.TakeError.TheVariants.{OutOfMemory, ReadFault, Refused, Long}
 
@@ -28,13 +25,6 @@ pub record IsFaultBefore (most : ℕ) (bytes : List ℕ) (fault : ReportFault) :
   pub cut : IsFrontOf most bytes before
   pub wrong : IsFaultyLine before fault
 
--- what is answered of a text that is longer than the limit
-abbrev pub IsLongRefusal : ℕ → List ℕ → TakeError → Type 0
-IsLongRefusal most bytes OutOfMemory = Unit {0}
-IsLongRefusal most bytes ReadFault = ⊥
-IsLongRefusal most bytes (Refused fault) = IsFaultBefore most bytes fault
-IsLongRefusal most bytes (Long line) = IsLongLine most bytes line
-
 -- bytes within the limit are no report, and this is their first line with a cause, or the place behind all lines
 pub record IsWrongReport (most : ℕ) (bytes : List ℕ) (fault : ReportFault) : Type 0 where
   pub size : length bytes ≤ most
@@ -48,22 +38,8 @@ IsNoneWithin most bytes ReadFault = ⊥
 IsNoneWithin most bytes (Refused fault) = IsWrongReport most bytes fault ⊎ ((most < length bytes) × IsFaultBefore most bytes fault)
 IsNoneWithin most bytes (Long line) = (most < length bytes) × IsLongLine most bytes line
 
--- the source was read to its end, and what was taken is within the limit and is read as the history
-pub record TookReport (most : ℕ) (left rest : Option (List ℕ)) (h : Finished) : Type 0 where
-  pub input : List ℕ
-  pub taken : Consumes left rest input
-  pub ended : IsAtEnd rest
-  pub size : length input ≤ most
-  pub reads : IsReadAs input h
-
 -- the source was read to its end or up to one byte past the limit, and what was taken gives no report
 pub record TookWrong (most : ℕ) (left rest : Option (List ℕ)) (error : TakeError) : Type 0 where
   pub input : List ℕ
   pub took : Took most left rest input
   pub wrong : IsNoneWithin most input error
-
--- why a source gave no report within the limit: no memory, or its count of faults rose, or what it gave is none
-abbrev pub TookNone : ℕ → Option (List ℕ) → Option (List ℕ) → ℕ → ℕ → TakeError → Type 0
-TookNone most left rest before now OutOfMemory = Unit {0}
-TookNone most left rest before now ReadFault = Rose before now
-TookNone most left rest before now error = TookWrong most left rest error

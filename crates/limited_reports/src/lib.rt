@@ -7,10 +7,12 @@
 //         Err(TakeError::OutOfMemory | TakeError::ReadFault) => ..,
 //     }
 //
-// The source is read to its end, or to one byte past the limit, and the bytes are let go before the history is answered.
+// The source is read to its end, or to one byte past the limit, and the bytes are let go before the history is
+// answered.
 //
-// What is promised: of bytes within the limit a history is answered as `report_reader` answers it. Of more bytes the lines before the one that holds the
-// first byte behind the limit are judged: the first of them that is wrong is named, and where none is, that line.
+// What is promised: of bytes within the limit a history is answered as `report_reader` answers it. Of more bytes the
+// lines before the one that holds the first byte behind the limit are judged: the first of them that is wrong is named,
+// and where none is, that line.
 //
 // `specs/Limits.antt` says which lines these are.
 #![tactic(auto)]

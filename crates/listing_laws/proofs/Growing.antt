@@ -2,7 +2,7 @@
 use Rattle.std.proofs.Common.{ℕ, List, [], ◌∷◌, ◌++◌}
 use mathlib.Core.List.{IsPrefix}
 use base.Growing.{prefix_trans}
-use Rattle.joint_model.specs.declared.events.Entry.{Entry}
+use Rattle.joint_machine.specs.declared.events.Entry.{Entry}
 use Rattle.known_laws.specs.Growing.{Kept}
 use Rattle.graph_listing.specs.Listing.{Listed}
 use Rattle.listing_laws.specs.Laws.{SeenStaysSeen}

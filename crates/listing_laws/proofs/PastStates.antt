@@ -1,24 +1,26 @@
--- The notes of a past, without the pins that are told in it, lead to the past's states but for the pins, where they are lawful. A snapshot leaves what is told
--- of it, whatever the pins are; and a `take` that answers the same has the same pin.
+-- The notes of a past, without the pins that are told in it, lead to the past's states but for the pins, where they are
+-- lawful. A snapshot leaves what is told of it, whatever the pins are; and a `take` that answers the same has the same
+-- pin.
 use Rattle.std.proofs.Common.{◌≡◌, ⊎_elim, ℕ, Bool, true, false, List, Option, Some, None, refl, sym, ap, ◌∙◌, subst, true≢false}
 use Rattle.std.specs.Prelude.{if◌then◌else◌, slice_set}
 use Rattle.std.proofs.lemmas.Bool.{cases_Bool}
-use Rattle.joint_model.specs.declared.names.Cycle.{Cycle}
-use Rattle.joint_model.specs.declared.lines.Act.TheVariants as act
-use Rattle.joint_model.specs.declared.events.Made.{Made}
-use Rattle.joint_model.specs.declared.events.Op.{Op}
-use Rattle.joint_model.specs.declared.events.Op.TheVariants as op
-use Rattle.joint_model.specs.declared.events.Reply.{Reply}
-use Rattle.joint_model.specs.declared.events.Reply.TheVariants as says
-use Rattle.joint_model.specs.Control.{control_after}
-use Rattle.joint_model.specs.Heaps.{Answered, answer, place, slot, with_var}
-use Rattle.joint_model.specs.Lines.{is_peer_event, is_pinned, is_read}
-use Rattle.joint_model.specs.Linked.{Linkage, ManagedLawful, SideLawful, linkage_after, managed_after, peer_after}
-use Rattle.joint_model.specs.Managed.{Managed, managed_name, pin_taken}
-use Rattle.joint_model.specs.ManagedReplay.{ManagedReplay, managed_answer}
-use Rattle.joint_model.specs.Readers.{EntryMayCome, entry_after, pins_after, reader_after, with_pins}
-use Rattle.joint_model.specs.Run.{thread_number}
-use Rattle.joint_model.specs.Told.{Noted, Told, bare_told, pins_told, snap_of}
+use Rattle.joint_machine.specs.declared.names.Cycle.{Cycle}
+use Rattle.joint_machine.specs.declared.lines.Act.TheVariants as act
+use Rattle.joint_machine.specs.declared.events.Made.{Made}
+use Rattle.joint_machine.specs.declared.events.Op.{Op}
+use Rattle.joint_machine.specs.declared.events.Op.TheVariants as op
+use Rattle.joint_machine.specs.declared.events.Reply.{Reply}
+use Rattle.joint_machine.specs.declared.events.Reply.TheVariants as says
+use Rattle.joint_machine.specs.Control.{control_after}
+use Rattle.joint_machine.specs.Heaps.{Answered, answer, place, slot, with_var}
+use Rattle.joint_machine.specs.Lines.{is_peer_event, is_read}
+use Rattle.joint_machine.specs.PinsTold.{is_pinned, bare_told, pins_told, with_pins}
+use Rattle.joint_machine.specs.Linked.{Linkage, ManagedLawful, SideLawful, linkage_after, managed_after, peer_after}
+use Rattle.joint_machine.specs.Managed.{Managed, managed_name, pin_taken}
+use Rattle.joint_machine.specs.ManagedReplay.{ManagedReplay, managed_answer}
+use Rattle.joint_machine.specs.Readers.{EntryMayCome, entry_after, pins_after, reader_after}
+use Rattle.joint_machine.specs.Run.{thread_number}
+use Rattle.joint_machine.specs.Told.{Noted, Told, snap_of}
 use Rattle.known_laws.specs.Known.{Comes, past_after, pinned, without_pins}
 use Rattle.known_laws.proofs.Coming.{peer_reads_none}
 use Rattle.known_laws.proofs.Later.{by_past, reads_leave}

@@ -1,19 +1,22 @@
--- What was listed of each snapshot when it was made is listed of the finished history's: the lines that were known then and the past of all entries up to the
--- snapshot have one dead part, and the history's notes lead to that past's states.
+-- What was listed of each snapshot when it was made is listed of the finished history's: the lines that were known then
+-- and the past of all entries up to the snapshot have one dead part, and the history's notes lead to that past's
+-- states.
 use Rattle.std.proofs.Common.{◌≡◌, ℕ, Bool, true, false, cond, List, [], ◌∷◌, ◌++◌, map, Option, Some, refl, sym, ap, ◌∙◌, subst, append_assoc, append-nil}
 use Rattle.std.specs.Prelude.{if◌then◌else◌}
 use Rattle.std.proofs.lemmas.Option.{same_Some}
 use mathlib.Core.List.{IsPrefix}
 use base.Growing.{prefix_refl, prefix_trans}
-use Rattle.joint_model.specs.declared.events.Op.{Op}
-use Rattle.joint_model.specs.Control.{OpenSnap}
-use Rattle.joint_model.specs.Draws.{NumberedFrom}
-use Rattle.joint_model.specs.Linked.{Linkage, opening_linkage}
-use Rattle.joint_model.specs.LinkedHistories.{managed_end}
-use Rattle.joint_model.specs.Readers.{AllMayComeReading, entry_after}
-use Rattle.joint_model.specs.Told.{Noted, no_pins}
+use Rattle.joint_machine.specs.declared.events.Op.{Op}
+use Rattle.joint_machine.specs.Control.{OpenSnap}
+use Rattle.joint_machine.specs.Histories.{NumberedFrom}
+use Rattle.joint_machine.specs.Linked.{Linkage, opening_linkage}
+use Rattle.joint_machine.specs.LinkedHistories.{managed_end}
+use Rattle.joint_machine.specs.Readers.{AllMayComeReading, entry_after}
+use Rattle.joint_machine.specs.Told.{Noted}
+use Rattle.joint_machine.specs.PinsTold.{no_pins}
 use Rattle.known_laws.specs.Drawn.{open_after, open_in}
-use Rattle.known_laws.specs.Growing.{AreKnown, Begin, Kept, all_shown, entries, entries_kept, kept_in, shown, turned}
+use Rattle.known_laws.specs.Growing.{AreKnown, Begin, Kept, all_shown, entries_kept, kept_in, shown}
+use Rattle.known_laws.specs.PastEntries.{entries, turned}
 use Rattle.known_laws.specs.Held.{open_number}
 use Rattle.known_laws.specs.Known.{pinned, without_pins}
 use Rattle.known_laws.specs.Pasts.{HasSameDeadPart, Lawful, end_of, is_in, line}

@@ -2,25 +2,25 @@
 use Rattle.std.proofs.Common.{◌≡◌, ⊎_elim, ℕ, Bool, true, false, cond, List, [], ◌∷◌, ◌++◌, Option, Some, None, refl, sym, ap, ◌∙◌, subst, true≢false}
 use Rattle.std.proofs.lemmas.Bool.{cases_Bool}
 use Rattle.std.proofs.lemmas.List.Elements.{filter-append}
-use Rattle.joint_model.specs.declared.names.Phase.{Phase}
-use Rattle.joint_model.specs.declared.names.Phase.TheVariants as at
-use Rattle.joint_model.specs.declared.names.PhaseWord.{PhaseWord}
-use Rattle.joint_model.specs.declared.names.PhaseWord.TheVariants as word
-use Rattle.joint_model.specs.declared.names.Thread.{Thread}
-use Rattle.joint_model.specs.declared.names.Thread.TheVariants.{M, P, C}
-use Rattle.joint_model.specs.declared.lines.Act.{Act}
-use Rattle.joint_model.specs.declared.lines.Act.TheVariants as act
-use Rattle.joint_model.specs.declared.events.Entry.{Entry}
-use Rattle.joint_model.specs.declared.events.Op.{Op}
-use Rattle.joint_model.specs.declared.events.Op.TheVariants as op
-use Rattle.joint_model.specs.Lines.{IsEvent, is_read}
-use Rattle.joint_model.specs.Linked.{Linkage}
-use Rattle.joint_model.specs.PeerReplay.{is_thread}
-use Rattle.joint_model.specs.Phases.{AreEach, ArePhase, ArePhases, IsClear, IsEventOf, candidates_after, next_phase, phases_left, phases_of}
-use Rattle.joint_model.specs.Readers.{AllMayComeReading, EntryMayCome, entry_after}
-use Rattle.joint_model.specs.Told.{Noted}
-use Rattle.joint_model.proofs.Deciding.{none_some}
-use Rattle.known_laws.specs.Growing.{entries}
+use Rattle.joint_machine.specs.declared.names.Phase.{Phase}
+use Rattle.joint_machine.specs.declared.names.Phase.TheVariants as at
+use Rattle.joint_machine.specs.declared.names.PhaseWord.{PhaseWord}
+use Rattle.joint_machine.specs.declared.names.PhaseWord.TheVariants as word
+use Rattle.joint_machine.specs.declared.names.Thread.{Thread}
+use Rattle.joint_machine.specs.declared.names.Thread.TheVariants.{M, P, C}
+use Rattle.joint_machine.specs.declared.lines.Act.{Act}
+use Rattle.joint_machine.specs.declared.lines.Act.TheVariants as act
+use Rattle.joint_machine.specs.declared.events.Entry.{Entry}
+use Rattle.joint_machine.specs.declared.events.Op.{Op}
+use Rattle.joint_machine.specs.declared.events.Op.TheVariants as op
+use Rattle.joint_machine.specs.Lines.{IsEvent, is_read}
+use Rattle.joint_machine.specs.Linked.{Linkage}
+use Rattle.joint_machine.specs.PeerReplay.{is_thread}
+use Rattle.joint_machine.specs.Phases.{AreEach, ArePhase, ArePhases, IsClear, IsEventOf, candidates_after, next_phase, phases_left, phases_of}
+use Rattle.joint_machine.specs.Readers.{AllMayComeReading, EntryMayCome, entry_after}
+use Rattle.joint_machine.specs.Told.{Noted}
+use Rattle.joint_machine.proofs.Deciding.{none_some}
+use Rattle.known_laws.specs.PastEntries.{entries}
 use Rattle.known_laws.specs.Lists.{made_by}
 use Rattle.script_laws.specs.Holding.{AreEventsAfter, AreLine, AreWord, Standing}
 use Rattle.listing_laws.specs.Laws.{LeftPhasesOpenNone, LinesOpenNone, SnapsAreTheDrivers}

@@ -2,7 +2,8 @@
 use Rattle.std.proofs.Common.{◌≡◌, ℕ, List, [], ◌∷◌, ◌++◌, length, Option, Some, None, Result, Ok, Err, refl, sym, ap, ◌∙◌, subst, append_assoc, append-nil, arith}
 use Rattle.std.proofs.lemmas.List.{length-append}
 use Rattle.byte_streams.specs.declared.streams.Failed.{Failed}
-use Rattle.byte_streams.specs.Streams.{AppendsPart, Writes}
+use Rattle.byte_streams.specs.Streams.{Writes}
+use Rattle.byte_streams.specs.Faults.{AppendsPart}
 use Rattle.byte_streams.proofs.Written.{Writes-after}
 use Rattle.graph_listing.specs.Listing.{Listed, cycle_lines, cycles_text, listing_text}
 use Rattle.history_report.specs.Report.{end_text}

@@ -1,19 +1,20 @@
 -- The laws.
 use Rattle.std.specs.Prelude.{◌≡◌, ℕ, List, [], ◌∷◌, ◌++◌, Option, Some, Result}
 use mathlib.Core.List.{IsPrefix}
-use Rattle.joint_model.specs.declared.names.Cycle.{Cycle}
-use Rattle.joint_model.specs.declared.names.Phase.{Phase}
-use Rattle.joint_model.specs.declared.names.Thread.TheVariants.{C}
-use Rattle.joint_model.specs.declared.lines.Act.{Act}
-use Rattle.joint_model.specs.declared.events.Entry.{Entry}
-use Rattle.joint_model.specs.declared.events.Op.TheVariants as op
-use Rattle.joint_model.specs.Histories.{Finished}
-use Rattle.joint_model.specs.Linked.{opening_linkage}
-use Rattle.joint_model.specs.LinkedHistories.{IsLinked, IsLinkedBy}
-use Rattle.joint_model.specs.Phases.{ArePhases, phases_left}
-use Rattle.joint_model.specs.Told.{Noted}
+use Rattle.joint_machine.specs.declared.names.Cycle.{Cycle}
+use Rattle.joint_machine.specs.declared.names.Phase.{Phase}
+use Rattle.joint_machine.specs.declared.names.Thread.TheVariants.{C}
+use Rattle.joint_machine.specs.declared.lines.Act.{Act}
+use Rattle.joint_machine.specs.declared.events.Entry.{Entry}
+use Rattle.joint_machine.specs.declared.events.Op.TheVariants as op
+use Rattle.joint_machine.specs.Histories.{Finished}
+use Rattle.joint_machine.specs.Linked.{opening_linkage}
+use Rattle.joint_machine.specs.LinkedHistories.{IsLinked, IsLinkedBy}
+use Rattle.joint_machine.specs.Phases.{ArePhases, phases_left}
+use Rattle.joint_machine.specs.Told.{Noted}
 use Rattle.known_laws.specs.Facts.{opened_of}
-use Rattle.known_laws.specs.Growing.{Kept, all_shown, entries}
+use Rattle.known_laws.specs.Growing.{Kept, all_shown}
+use Rattle.known_laws.specs.PastEntries.{entries}
 use Rattle.known_laws.specs.Lists.{made_by}
 use Rattle.known_laws.specs.Pasts.{Lawful, driver_line, end_of, line}
 use Rattle.known_laws.specs.Wholes.{history_of}
@@ -47,7 +48,8 @@ abbrev pub StatesAreOne : Type 0
 StatesAreOne = (h : Finished) (a b : List Noted) → IsLinkedBy h a → IsLinkedBy h b
     → states_after_snaps opening_linkage a ≡ states_after_snaps opening_linkage b
 
--- what was listed of all snapshots by beginnings of a past, when each was made, is listed of the history which that past's notes link
+-- what was listed of all snapshots by beginnings of a past, when each was made, is listed of the history which that
+-- past's notes link
 abbrev pub SeenIsListed : Type 0
 SeenIsListed = (h : Finished) (past : List Noted) (cycles : List Listed) → Lawful past → IsLinkedBy h (history_of past)
     → AreSeen (λ i. all_shown (line i past)) (snaps_of h.entries) cycles → IsListedIn h cycles

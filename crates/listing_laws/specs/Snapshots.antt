@@ -1,14 +1,15 @@
--- Which lines of the driver make a snapshot, and what a seat has of one that it knows: lines in which the snapshot's cycle is open, and what is listed of them.
+-- Which lines of the driver make a snapshot, and what a seat has of one that it knows: lines in which the snapshot's
+-- cycle is open, and what is listed of them.
 use Rattle.std.specs.Prelude.{◌≡◌, ℕ, filter, List, [], ◌∷◌, Some}
 use mathlib.Core.List.{IsPrefix}
-use Rattle.joint_model.specs.declared.names.Phase.{Phase}
-use Rattle.joint_model.specs.declared.names.Phase.TheVariants as at
-use Rattle.joint_model.specs.declared.names.PhaseWord.TheVariants as word
-use Rattle.joint_model.specs.declared.lines.Act.{Act}
-use Rattle.joint_model.specs.declared.lines.Act.TheVariants as act
-use Rattle.joint_model.specs.declared.events.Entry.{Entry}
-use Rattle.joint_model.specs.declared.events.Op.TheVariants as op
-use Rattle.joint_model.specs.Managed.{OpenCycle}
+use Rattle.joint_machine.specs.declared.names.Phase.{Phase}
+use Rattle.joint_machine.specs.declared.names.Phase.TheVariants as at
+use Rattle.joint_machine.specs.declared.names.PhaseWord.TheVariants as word
+use Rattle.joint_machine.specs.declared.lines.Act.{Act}
+use Rattle.joint_machine.specs.declared.lines.Act.TheVariants as act
+use Rattle.joint_machine.specs.declared.events.Entry.{Entry}
+use Rattle.joint_machine.specs.declared.events.Op.TheVariants as op
+use Rattle.joint_machine.specs.Managed.{OpenCycle}
 use Rattle.known_laws.specs.Facts.{opened_of}
 use Rattle.known_laws.specs.Growing.{AreKnown, Kept}
 use Rattle.known_laws.specs.Pasts.{end_of}
@@ -25,7 +26,8 @@ OpensNone (act.PhaseLine word.Snap) at.Idle = ⊥
 OpensNone (act.PhaseLine word.Cycle) at.Idle = ⊥
 OpensNone a phase = Unit {0}
 
--- some beginnings of these lines are known, at whose end the driver has the snapshot's cycle open; what is listed is the contraction of the dead part there
+-- some beginnings of these lines are known, at whose end the driver has the snapshot's cycle open; what is listed is
+-- the contraction of the dead part there
 pub record IsSeenAt (lines : ℕ → List Kept) (e : Entry) (c : Listed) : Type 0 where
   pub event : e.made.op ≡ op.Snap record { 0 = c.cycle }
   pub seen : ℕ → List Kept

@@ -6,7 +6,8 @@ use log_text::LogError;
 use std::alloc::Global;
 use std::test::Fail;
 
-// A text, a limit, the number of the line that is named, and its cause: 9 where it holds the first byte behind the limit.
+// A text, a limit, the number of the line that is named, and its cause: 9 where it holds the first byte behind the
+// limit.
 const LIMITS: [(&[u8], usize, u32, u32); 8] = [
     (b"xxxx", 3, 1, 9),
     (b"end 0\n", 5, 1, 9),

@@ -8,7 +8,8 @@ use log_text::{
 use std::alloc::{AllocError, Global};
 use std::test::Fail;
 
-// In each row what is answered of a text, and the text; a stroke stands for a newline. Of a log it is what was never released, else why it is refused.
+// In each row what is answered of a text, and the text; a stroke stands for a newline. Of a log it is what was never
+// released, else why it is refused.
 const ANSWERS: &[u8] =
     b"strong h2/weak -/|+g+ h1 p1 grefc 1 gwrefc 0 @0/+w+ h1 p1 grefc 1 gwrefc 1 @10/-g- h1 p1 grefc 0 gwrefc 1 @10/+g+ h2 p1 grefc 1 gwrefc 1 @13/-w- h1 p1 grefc 1 gwrefc 0 @13/end 5/
 line 6: cause 13 end/|+g+ h1 p1 grefc 1 gwrefc 0 @0/+w+ h1 p1 grefc 1 gwrefc 1 @10/-g- h1 p1 grefc 0 gwrefc 1 @10/+g+ h2 p1 grefc 1 gwrefc 1 @13/-w- h1 p1 grefc 1 gwrefc 0 @13/

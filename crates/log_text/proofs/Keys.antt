@@ -8,9 +8,9 @@ use Rattle.std.proofs.lemmas.Cmp.{nat_cmp_total}
 use Rattle.std.proofs.lemmas.Map.Keys.{IsStrictlyIncreasing-from_sorted}
 use Rattle.std.proofs.lemmas.Map.Lookups.{exact_unsigned}
 use Rattle.std.proofs.lemmas.Map.Views.{btree_map_contains_key_iff}
-use Rattle.joint_model.specs.declared.names.HNum.{HNum}
+use Rattle.joint_machine.specs.declared.names.HNum.{HNum}
 use Rattle.log_text.specs.Live.{handles_of}
-use Rattle.log_text.specs.Taking.{AreKeys}
+use Rattle.log_text.specs.Keys.{AreKeys}
 
 numbers : (ks : List ℕ) → map (λ (h : HNum). h.0) (handles_of ks) ≡ ks
 numbers [] = refl

@@ -1,4 +1,5 @@
--- The words of a line of a log have no space, so the line is cut into them again; they tell the line, and no such line is a last one.
+-- The words of a line of a log have no space, so the line is cut into them again; they tell the line, and no such line
+-- is a last one.
 use Rattle.std.proofs.Common.{◌≡◌, ◌≢◌, ℕ, ◌<◌, ◌^◌, List, [], ◌∷◌, codes, decimal, get_or, refl, sym, ap, ◌∙◌, arith, All}
 use Rattle.std.specs.List.{slice_split}
 use Rattle.std.proofs.Math.Dec.{eqb}

@@ -1,4 +1,5 @@
--- Lines of a log that stand at the front of a log's text are its first lines: a line ends at the first newline, and its text tells it.
+-- Lines of a log that stand at the front of a log's text are its first lines: a line ends at the first newline, and its
+-- text tells it.
 use Rattle.std.proofs.Common.{◌≡◌, ℕ, ◌+◌, ◌≤◌, List, [], ◌∷◌, ◌++◌, length, refl, sym, ap, ◌∙◌, subst, arith, append_assoc, append-nil, length-append}
 use Rattle.text_words.proofs.Cuts.{cut_once}
 use Rattle.log_text.specs.declared.lines.LogLine.{LogLine}

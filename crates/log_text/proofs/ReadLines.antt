@@ -1,4 +1,5 @@
--- Line after line, what was read is the text of the log so far, and what is left is the rest; where a line is wrong, the bytes are the text of no log.
+-- Line after line, what was read is the text of the log so far, and what is left is the rest; where a line is wrong,
+-- the bytes are the text of no log.
 use Rattle.std.proofs.Common.{◌≡◌, ℕ, ◌+◌, ◌*◌, ◌<◌, ◌≤◌, Bool, true, false, List, [], ◌∷◌, ◌++◌, length, Result, Ok, Err, IfOk, IfErr, MatchResult, refl, sym, ap, subst, ◌∙◌, inl, inr, arith, append_assoc, append-nil, length-append}
 use Rattle.text_words.specs.Placed.{IsCut, IsFirstLine}
 use Rattle.log_text.specs.declared.lines.Mark.{Mark}
@@ -11,8 +12,8 @@ use Rattle.log_text.specs.declared.lines.LogError.TheVariants.{OutOfMemory, Refu
 use Rattle.log_text.specs.Behind.{IsLog}
 use Rattle.text_words.specs.Words.{spaced}
 use Rattle.log_text.specs.Text.{IsLogText, end_text, line_text, lines_text, log_text, mark_text, number_words}
-use Rattle.log_text.specs.Faults.{IsLogFault, IsLogRefusal, IsWrongLine}
-use Rattle.log_text.specs.Taking.{EndsBy, Finishes, GrowsBy, Stops}
+use Rattle.log_text.specs.Faults.{IsLogFault, IsWrongLine}
+use Rattle.log_text.specs.Taking.{EndsBy, Finishes, GrowsBy, Stops, IsLogRefusal}
 use Rattle.log_text.proofs.LogTexts.{lines-push}
 use Rattle.log_text.proofs.Wrong.{no-log}
 

@@ -1,6 +1,7 @@
 -- What is answered of a log: what was never released, or why it is refused.
+-- Believed: the clauses of the program's top call rest on all that stands here.
 use Rattle.std.specs.Prelude.{ℕ, List, [], ◌∷◌, ◌++◌, codes, decimal}
-use Rattle.joint_model.specs.declared.names.HNum.{HNum}
+use Rattle.joint_machine.specs.declared.names.HNum.{HNum}
 use Rattle.log_text.specs.declared.lines.LogCause.{LogCause}
 use Rattle.log_text.specs.declared.lines.LogCause.TheVariants as cause
 

@@ -1,6 +1,7 @@
--- What stands behind the lines of a reference log: which handles are live in each strength, each with its peer, and the two counts. (The
--- Xamarin.Android documentation: a line for each global and each weak global reference that comes or goes, with the numbers of those that
--- are there.)
+-- What stands behind the lines of a reference log: which handles are live in each strength, each with its peer, and the
+-- two counts. (The Xamarin.Android documentation: a line for each global and each weak global reference that comes or
+-- goes, with the numbers of those that are there.)
+-- Believed: the clauses of the program's top call rest on all that stands here.
 use Rattle.std.specs.Prelude.{◌≡◌, ℕ, ◌+◌, ◌-◌, ◌<◌, ◌^◌, nat_eq, if◌then◌else◌, List, [], ◌∷◌, Option, Some, None}
 use Rattle.log_text.specs.declared.lines.Mark.{Mark}
 use Rattle.log_text.specs.declared.lines.Mark.TheVariants.{GPlus, GMinus, WPlus, WMinus}
@@ -21,8 +22,8 @@ none_live = record { strong = λ h. None; weak = λ h. None; grefc = 0; gwrefc =
 abbrev pub put : (ℕ → Option ℕ) → ℕ → Option ℕ → ℕ → Option ℕ
 put live h o k = if nat_eq k h then o else live k
 
--- a handle came or went: it is live in a strength from its plus line until its minus line, and the counts are the numbers of plus
--- lines less the numbers of minus lines
+-- a handle came or went: it is live in a strength from its plus line until its minus line, and the counts are the
+-- numbers of plus lines less the numbers of minus lines
 abbrev pub moved : Behind → Mark → ℕ → ℕ → Behind
 moved v GPlus h p = record v { strong = put v.strong h (Some p); grefc = v.grefc + 1 }
 moved v GMinus h p = record v { strong = put v.strong h None; grefc = v.grefc - 1 }

@@ -1,10 +1,9 @@
 -- Which line of bytes is the first that is wrong, and why.
+-- Believed: the clauses of the program's top call rest on all that stands here.
 use Rattle.std.specs.Prelude.{◌≡◌, ◌≢◌, ℕ, ◌+◌, ◌<◌, ◌^◌, ◌⊎◌, Bool, true, false, List, [], ◌++◌, ◌∷◌, length}
 use Rattle.text_words.specs.Placed.{IsFirstLine}
 use Rattle.log_text.specs.declared.lines.LogCause.{LogCause}
 use Rattle.log_text.specs.declared.lines.LogCause.TheVariants as cause
-use Rattle.log_text.specs.declared.lines.LogError.{LogError}
-use Rattle.log_text.specs.declared.lines.LogError.TheVariants.{OutOfMemory, Refused}
 use Rattle.log_text.specs.declared.lines.LogLine.{LogLine}
 use Rattle.log_text.specs.Behind.{Behind, behind, behind_all, none_live, Fits, HasCounts, IsLog, MayStand}
 use Rattle.log_text.specs.Text.{IsLogText, end_text, line_text, lines_text}
@@ -14,7 +13,8 @@ pub record IsNeither (text : List ℕ) : Type 0 where
   pub line : (l : LogLine) → Fits l → line_text l ≢ text
   pub last : (n : ℕ) → n < 2 ^ 64 → end_text n ≢ text
 
--- the text is that of a line which may not stand there: a plus line of a handle that is live, or a minus line of one that isn't, or is on another peer
+-- the text is that of a line which may not stand there: a plus line of a handle that is live, or a minus line of one
+-- that isn't, or is on another peer
 pub record IsMarkedWrongly (v : Behind) (text : List ℕ) : Type 0 where
   pub line : LogLine
   pub fits : Fits line
@@ -72,7 +72,8 @@ pub record LacksEnd (bytes : List ℕ) (number : ℕ) : Type 0 where
   pub lawful : IsLog before
   pub number_is : number ≡ length before + 1
 
--- the line with that number, counted from 1, is the first that is wrong, or it is the place behind the last line, and this is why
+-- the line with that number, counted from 1, is the first that is wrong, or it is the place behind the last line, and
+-- this is why
 abbrev pub IsLogFault : List ℕ → ℕ → LogCause → Type 0
 IsLogFault bytes number cause.End = IsWrongLine bytes number cause.End ⊎ GoesOn bytes number ⊎ LacksEnd bytes number
 IsLogFault bytes number why = IsWrongLine bytes number why
@@ -80,8 +81,3 @@ IsLogFault bytes number why = IsWrongLine bytes number why
 -- the bytes are the text of no log
 abbrev pub IsNoLogText : List ℕ → Type 0
 IsNoLogText bytes = (ls : List LogLine) → IsLogText bytes ls → ⊥
-
--- why bytes give no log: no memory, or they are the text of none
-abbrev pub IsLogRefusal : List ℕ → LogError → Type 0
-IsLogRefusal bytes OutOfMemory = Unit {0}
-IsLogRefusal bytes (Refused line why) = IsLogFault bytes line why × IsNoLogText bytes

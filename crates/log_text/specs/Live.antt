@@ -2,7 +2,7 @@
 use Rattle.std.specs.Prelude.{ℕ, List, map}
 use Rattle.std.specs.BTreeMap.{get}
 use Rattle.std.specs.Ordering.{nat_cmp}
-use Rattle.joint_model.specs.declared.names.HNum.{HNum}
+use Rattle.joint_machine.specs.declared.names.HNum.{HNum}
 use Rattle.log_text.specs.declared.live.LiveHandles.{LiveHandles}
 use Rattle.log_text.specs.Behind.{Behind}
 

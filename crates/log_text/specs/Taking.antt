@@ -1,21 +1,14 @@
 -- What the steps of reading a log promise each other.
-use Rattle.std.specs.Prelude.{◌≡◌, ◌≢◌, ℕ, ◌+◌, ◌<◌, ◌≤◌, ◌^◌, ◌↔◌, Bool, true, false, List, [], ◌∷◌, ◌++◌, length, map, Contains, Option, IsSome}
-use Rattle.std.specs.List.Sorted.{IsStrictlyIncreasing}
-use Rattle.joint_model.specs.declared.names.HNum.{HNum}
+use Rattle.std.specs.Prelude.{◌≡◌, ◌≢◌, ℕ, ◌+◌, ◌<◌, ◌≤◌, ◌^◌, Bool, true, false, List, [], ◌∷◌, ◌++◌, length}
 use Rattle.log_text.specs.declared.lines.LogLine.{LogLine}
 use Rattle.log_text.specs.declared.lines.LogError.{LogError}
 use Rattle.log_text.specs.declared.lines.LogError.TheVariants.{OutOfMemory, Refused}
 use Rattle.log_text.specs.declared.said.Said.{Said}
 use Rattle.log_text.specs.declared.said.Said.TheVariants.{Entry, End}
-use Rattle.log_text.specs.declared.lines.LogCause.TheVariants as cause
 use Rattle.log_text.specs.Behind.{Behind, Fits, HasCounts, IsLog, MayStand, behind, behind_all, none_live}
 use Rattle.log_text.specs.Text.{line_text, end_text}
-use Rattle.log_text.specs.Faults.{Has}
-
--- exactly the handles that are live, rising
-pub record AreKeys (live : ℕ → Option ℕ) (hs : List HNum) : Type 0 where
-  pub rise : IsStrictlyIncreasing (map (λ h. h.0) hs)
-  pub exact : (h : ℕ) → Contains (map (λ h. h.0) hs) h ↔ IsSome (live h)
+use Rattle.log_text.specs.Faults.{Has, IsLogFault, IsNoLogText}
+use Rattle.log_text.specs.declared.lines.LogCause.TheVariants as cause
 
 -- the text is that of this line, or of this last line
 abbrev pub Says : Said → List ℕ → Type 0
@@ -63,3 +56,8 @@ abbrev pub Finishes : List LogLine → List ℕ → LogError → Type 0
 Finishes ls left OutOfMemory = ⊥
 Finishes ls left (Refused line cause.End) = (line ≡ length ls + 2) × (left ≢ [])
 Finishes ls left (Refused line why) = ⊥
+
+-- why bytes give no log: no memory, or they are the text of none
+abbrev pub IsLogRefusal : List ℕ → LogError → Type 0
+IsLogRefusal bytes OutOfMemory = Unit {0}
+IsLogRefusal bytes (Refused line why) = IsLogFault bytes line why × IsNoLogText bytes

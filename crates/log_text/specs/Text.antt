@@ -1,4 +1,5 @@
 -- The text of a reference log.
+-- Believed: the clauses of the program's top call rest on all that stands here.
 use Rattle.std.specs.Prelude.{◌≡◌, ℕ, List, [], ◌∷◌, ◌++◌, length, codes, decimal}
 use Rattle.text_words.specs.Words.{spaced}
 use Rattle.log_text.specs.declared.lines.Mark.{Mark}

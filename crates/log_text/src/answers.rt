@@ -36,8 +36,9 @@ impl LogCause {
     }
 }
 
-/// Writes the line that names a log's first line that is wrong and its cause, as `line 3: cause 12 count`, in whatever portions the sink takes.
-/// [`Failed`] comes only where the sink's count of faults rose; then a beginning of the line was written.
+/// Writes the line that names a log's first line that is wrong and its cause, as `line 3: cause 12 count`, in whatever
+/// portions the sink takes. [`Failed`] comes only where the sink's count of faults rose; then a beginning of the line
+/// was written.
 pub fn write_log_refusal<K: Sink>(number: u32, cause: LogCause, out: &mut K) -> Result<(), Failed>
     ensures { Writes (K.held out.old) (K.held out.new) (K.faults out.old) (K.faults out.new) result (refusal_text number cause) }
 {
@@ -114,8 +115,9 @@ fn write_both<K: Sink>(left: &Unreleased, line: &mut Line, out: &mut K) -> Resul
     write_piece(b"\n", line, out)
 }
 
-/// Writes what was never released: a line `strong LIST` and a line `weak LIST`, each list rising, or `-` where nothing is left. The sink gets it in pieces of
-/// at most 16 KiB. It takes no memory. [`Failed`] only where the sink's count of faults rose, and then a beginning of the text was written.
+/// Writes what was never released: a line `strong LIST` and a line `weak LIST`, each list rising, or `-` where nothing
+/// is left. The sink gets it in pieces of at most 16 KiB. It takes no memory. [`Failed`] only where the sink's count of
+/// faults rose, and then a beginning of the text was written.
 pub fn write_unreleased<K: Sink>(left: &Unreleased, out: &mut K) -> Result<(), Failed>
     ensures { Writes (K.held out.old) (K.held out.new) (K.faults out.old) (K.faults out.new) result (unreleased_text left.now.strong.items left.now.weak.items) }
 {

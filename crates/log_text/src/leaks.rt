@@ -3,7 +3,7 @@
 ghost use Rattle.std.specs.Prelude.{◌≡◌, ◌<◌, ◌^◌, length, IfOk};
 ghost use Rattle.log_text.specs.Behind.{behind_all, none_live};
 ghost use Rattle.log_text.specs.Live.{shown};
-ghost use Rattle.log_text.specs.Taking.{AreKeys};
+ghost use Rattle.log_text.specs.Keys.{AreKeys};
 
 use crate::lines::LogLine;
 use crate::lists::Unreleased;

@@ -18,8 +18,8 @@ pub enum Mark {
     WMinus,
 }
 
-/// A line of a log: a handle and the peer that it was made on, how many strong and weak handles there are behind it, and the number of the
-/// entry that it is of.
+/// A line of a log: a handle and the peer that it was made on, how many strong and weak handles there are behind it,
+/// and the number of the entry that it is of.
 #[derive(Clone, Copy, PartialEq, Eq, Debug)]
 pub struct LogLine {
     pub mark: Mark,
@@ -35,7 +35,8 @@ pub struct LogLine {
 pub enum LogCause {
     /// It is no line of a log, or it has no newline.
     Text,
-    /// A plus line of a handle that is live in that strength, or a minus line of one that isn't live in that strength on that peer.
+    /// A plus line of a handle that is live in that strength, or a minus line of one that isn't live in that strength
+    /// on that peer.
     Mark,
     /// The counts aren't those behind the line.
     Count,

@@ -2,7 +2,8 @@
 
 use joint_model::HNum;
 
-/// The handles that are live at the end of a log in each strength, in rising number. One that is cleared but was never removed is live.
+/// The handles that are live at the end of a log in each strength, in rising number. One that is cleared but was never
+/// removed is live.
 #[derive(Drop)]
 pub struct Unreleased {
     pub strong: Vec<HNum>,

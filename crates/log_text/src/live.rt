@@ -5,15 +5,16 @@ ghost use Rattle.std.specs.BTreeMap.{IsOrdered, get, keys};
 ghost use Rattle.std.specs.Ordering.{nat_cmp};
 ghost use Rattle.log_text.specs.Behind.{MayStand, HasCounts, behind, none_live};
 ghost use Rattle.log_text.specs.Live.{handles_of, shown};
-ghost use Rattle.log_text.specs.Taking.{AreKeys};
+ghost use Rattle.log_text.specs.Keys.{AreKeys};
 
 use crate::lines::{LogLine, Mark};
 use joint_model::HNum;
 use std::alloc::{AllocError, Global};
 use std::collections::BTreeMap;
 
-/// The live handles of each strength with their peers, and the counts. Clauses see it as `shown` of `specs/Live.antt`. The numbers come from whoever wrote the log, so that the maps are in the
-/// order of their keys: no choice of numbers makes a look-up slow.
+/// The live handles of each strength with their peers, and the counts. Clauses see it as `shown` of `specs/Live.antt`.
+/// The numbers come from whoever wrote the log, so that the maps are in the order of their keys: no choice of numbers
+/// makes a look-up slow.
 #[derive(Drop)]
 pub struct LiveHandles {
     strong: BTreeMap<u32, u32>,
@@ -35,7 +36,8 @@ impl LiveHandles {
         }
     }
 
-    /// Whether a line may stand: a plus line where its handle isn't live in that strength, a minus line where it is, on that peer.
+    /// Whether a line may stand: a plus line where its handle isn't live in that strength, a minus line where it is, on
+    /// that peer.
     pub fn may_stand(&self, line: &LogLine) -> bool
         ensures { MatchBool result (MayStand (shown self.now) line.now.mark line.now.h.0 line.now.p.0) (MayStand (shown self.now) line.now.mark line.now.h.0 line.now.p.0 → ⊥) }
     {

@@ -6,8 +6,8 @@ ghost use Rattle.log_text.specs.Behind.{IsLog};
 use crate::lines::LogLine;
 use std::marker::Model;
 
-/// A reference log: its lines in order. A plus line stands where its handle isn't live in that strength, a minus line where it is, on that peer, and
-/// the counts of each line are those behind it. It never changes.
+/// A reference log: its lines in order. A plus line stands where its handle isn't live in that strength, a minus line
+/// where it is, on that peer, and the counts of each line are those behind it. It never changes.
 #[derive(Drop)]
 pub struct Log {
     lines: Vec<LogLine>,

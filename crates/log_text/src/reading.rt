@@ -4,8 +4,7 @@ ghost use Rattle.std.specs.Prelude.{◌≡◌, ◌+◌, ◌++◌, ◌<◌, ◌^�
 ghost use Rattle.log_text.specs.declared.lines.LogError.{LogError};
 ghost use Rattle.log_text.specs.Behind.{IsLog, Fits};
 ghost use Rattle.log_text.specs.Text.{IsLogText};
-ghost use Rattle.log_text.specs.Faults.{IsLogRefusal};
-ghost use Rattle.log_text.specs.Taking.{Takes, Stops, StopsAt, Finishes};
+ghost use Rattle.log_text.specs.Taking.{Takes, Stops, StopsAt, Finishes, IsLogRefusal};
 
 use crate::lines::{LogCause, LogError, LogLine};
 use crate::live::LiveHandles;
@@ -125,11 +124,12 @@ impl Growing {
 
 /// The log that has these bytes as its text.
 ///
-/// `OutOfMemory` where there is no memory for the lines or for the live handles. `Refused` exactly where no log has this text, with the first line that
-/// is wrong, counted from 1, and its first [`LogCause`]: where only the last line lacks, that is the place behind all lines.
+/// `OutOfMemory` where there is no memory for the lines or for the live handles. `Refused` exactly where no log has
+/// this text, with the first line that is wrong, counted from 1, and its first [`LogCause`]: where only the last line
+/// lacks, that is the place behind all lines.
 ///
-/// The lines take at most 32 bytes for each 30 bytes of the text, and the live handles less. The handles' numbers may be any of 32 bits: the time for
-/// n lines is that of n look-ups among the live handles in an ordered map.
+/// The lines take at most 32 bytes for each 30 bytes of the text, and the live handles less. The handles' numbers may
+/// be any of 32 bits: the time for n lines is that of n look-ups among the live handles in an ordered map.
 pub fn read_log(alloc: Global, bytes: &[u8]) -> Result<Log, LogError>
     requires { length bytes.now < 4294967295 }
     ensures ok { IfOk result (λ log. IsLogText bytes.now log) }

@@ -10,11 +10,12 @@ use crate::lines::{LogLine, Mark, head_of};
 use crate::logs::Log;
 use byte_streams::{Count, Failed, Line, Sink};
 
-/// The hundreds of the numbers of the lines before, each with its decimal text: most numbers of a line have the hundreds of a line before. The text of a line
-/// is the same whatever they are.
+/// The hundreds of the numbers of the lines before, each with its decimal text: most numbers of a line have the
+/// hundreds of a line before. The text of a line is the same whatever they are.
 #[derive(Drop)]
 pub struct LastNumbers {
-    // The handle of the last line of a strong handle that comes, and of any other line: a cycle's restore has one of each.
+    // The handle of the last line of a strong handle that comes, and of any other line: a cycle's restore has one of
+    // each.
     given: Count,
     other: Count,
     peer: Count,
@@ -94,8 +95,8 @@ fn add_line(line: &mut Line, entry: &LogLine, last: &mut LastNumbers)
     line.text(b"\n");
 }
 
-/// Writes a line of a log, with its newline, behind what is pending in the draft. [`Failed`] only where the sink's count of faults rose; then it got a
-/// beginning of both.
+/// Writes a line of a log, with its newline, behind what is pending in the draft. [`Failed`] only where the sink's
+/// count of faults rose; then it got a beginning of both.
 #[inline(always)]
 pub fn write_line<K: Sink>(
     entry: &LogLine,
@@ -125,8 +126,8 @@ fn write_lines<K: Sink>(
     Ok(())
 }
 
-/// Writes the last line of a log, with the number of lines, behind what is pending in the draft. [`Failed`] only where the sink's count of faults rose;
-/// then it got a beginning of both.
+/// Writes the last line of a log, with the number of lines, behind what is pending in the draft. [`Failed`] only where
+/// the sink's count of faults rose; then it got a beginning of both.
 pub fn write_end<K: Sink>(count: u64, line: &mut Line, out: &mut K) -> Result<(), Failed>
     ensures { Sends (K.held out.old) (K.held out.new) line.old.text line.new.text (K.faults out.old) (K.faults out.new) result (end_text count ++ 10 ∷ []) }
 {
@@ -137,8 +138,9 @@ pub fn write_end<K: Sink>(count: u64, line: &mut Line, out: &mut K) -> Result<()
     Ok(())
 }
 
-/// Writes the text of a log: its lines, and `end` with the number of them. The sink gets it in pieces of at most 16 KiB. It takes no memory. [`Failed`]
-/// only where the sink's count of faults rose, and then a beginning of the text was written.
+/// Writes the text of a log: its lines, and `end` with the number of them. The sink gets it in pieces of at most 16
+/// KiB. It takes no memory. [`Failed`] only where the sink's count of faults rose, and then a beginning of the text was
+/// written.
 pub fn write_log<K: Sink>(log: &Log, out: &mut K) -> Result<(), Failed>
     ensures { Writes (K.held out.old) (K.held out.new) (K.faults out.old) (K.faults out.new) result (log_text log.now) }
 {

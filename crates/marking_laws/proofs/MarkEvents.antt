@@ -1,21 +1,22 @@
--- Exact marks stay exact, event by event. Each law is over the one field `unmarked`: an edge of the begin leads to a peer with a mark, or it
--- begins at a peer without a mark and still stands. What no slot names can't be written, and what a slot names has a mark, so such an edge
--- stays. The begin and bringing back are the two markings: of the second, a walk over the edges of now ends at marks that were there or goes
--- on over edges of the begin, and a walk over the edges of the begin goes on over edges of now as long as it meets no mark.
+-- Exact marks stay exact, event by event. Each law is over the one field `unmarked`: an edge of the begin leads to a
+-- peer with a mark, or it begins at a peer without a mark and still stands. What no slot names can't be written, and
+-- what a slot names has a mark, so such an edge stays. The begin and bringing back are the two markings: of the second,
+-- a walk over the edges of now ends at marks that were there or goes on over edges of the begin, and a walk over the
+-- edges of the begin goes on over edges of now as long as it meets no mark.
 use Rattle.std.proofs.Common.{◌≡◌, ℕ, ◌≤◌, ◌⊎◌, ◌↔◌, ◌≢◌, inl, inr, Bool, true, false, List, [], ◌∷◌, ◌++◌, length, replicate, Option, Some, None, refl, sym, ap, subst, ◌∙◌, arith, length-append}
 use Rattle.std.specs.Prelude.{Contains}
 use Rattle.std.proofs.lemmas.Bool.{cases_eq}
 use Rattle.std.proofs.lemmas.List.Elements.{Contains-push_cases, Contains-append_left, Contains-append_right}
-use Rattle.joint_model.specs.declared.names.Sort.{Sort}
-use Rattle.joint_model.specs.declared.names.Thread.{Thread}
-use Rattle.joint_model.specs.Heaps.{IsLive, HasField, InSlot, fields_of, numbered_at, next_number, with_field}
-use Rattle.joint_model.specs.Peers.{with_peer}
-use Rattle.joint_model.specs.PeerReplay.{PeerReplay, Marking, IsMarked, IsMarkingRoot, MarkingEdge, HasReference, Refers, begun, mirrored}
-use Rattle.joint_model.specs.Components.{End}
-use Rattle.joint_model.specs.Walks.{Reached}
-use Rattle.joint_model.proofs.HeapLemmas.{IsLive-later}
-use Rattle.joint_model.proofs.Members.{Contains-nil, Contains-here}
-use Rattle.joint_model.proofs.WalkLemmas.{Reached-keeps, Reached-start, Reached-then, Reached-mono}
+use Rattle.joint_machine.specs.declared.names.Sort.{Sort}
+use Rattle.joint_machine.specs.declared.names.Thread.{Thread}
+use Rattle.joint_machine.specs.Heaps.{IsLive, HasField, InSlot, fields_of, numbered_at, next_number, with_field}
+use Rattle.joint_machine.specs.Peers.{with_peer}
+use Rattle.joint_machine.specs.PeerReplay.{PeerReplay, Marking, IsMarked, IsMarkingRoot, MarkingEdge, HasReference, Refers, begun, mirrored}
+use Rattle.joint_machine.specs.Components.{End}
+use Rattle.joint_machine.specs.Walks.{Reached}
+use Rattle.joint_machine.proofs.HeapLemmas.{IsLive-later}
+use Rattle.joint_machine.proofs.Members.{Contains-nil, Contains-here}
+use Rattle.joint_machine.proofs.WalkLemmas.{Reached-keeps, Reached-start, Reached-then, Reached-mono}
 use Rattle.joint_laws.specs.PeerInvariants.{IsSpared}
 use Rattle.joint_laws.proofs.Through.{Refers-none}
 use Rattle.joint_laws.proofs.Fields.{with_object-old, with_field-length, with_field-other}

@@ -1,10 +1,11 @@
--- What exact marks say of a single peer. A peer that the definition spares is one for which it is impossible that it was unfreed at the begin
--- and isn't marked. A mark is there or not, so this double negation costs nothing: a spared peer that is unfreed has a mark, and what has a
--- mark is spared. What is unfreed now was unfreed at the begin or was made since, as numbers rise and freed peers stay freed.
+-- What exact marks say of a single peer. A peer that the definition spares is one for which it is impossible that it
+-- was unfreed at the begin and isn't marked. A mark is there or not, so this double negation costs nothing: a spared
+-- peer that is unfreed has a mark, and what has a mark is spared. What is unfreed now was unfreed at the begin or was
+-- made since, as numbers rise and freed peers stay freed.
 use Rattle.std.proofs.Common.{ℕ, ◌⊎◌, inl, inr, Bool, List, length, arith}
 use Rattle.std.proofs.lemmas.Bool.{cases_lt}
-use Rattle.joint_model.specs.Heaps.{IsLive}
-use Rattle.joint_model.specs.PeerReplay.{PeerReplay, Marking, MarkingEdge}
+use Rattle.joint_machine.specs.Heaps.{IsLive}
+use Rattle.joint_machine.specs.PeerReplay.{PeerReplay, Marking, MarkingEdge}
 use Rattle.joint_laws.specs.PeerInvariants.{IsSpared}
 use Rattle.reachability.specs.Marks.{HasMark}
 use Rattle.reachability.proofs.Marking.{marked-or}

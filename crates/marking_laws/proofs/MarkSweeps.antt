@@ -1,12 +1,12 @@
--- What exact marks give at any moment. What a marked peer leads to is an edge of the begin, whose target the marking reaches too, or leads to a
--- spared peer: so it has a mark. Hence the unfreed peers without a mark are those that the definition's sweep frees, no slot names one since
--- what slots name is spared, and no field of a peer that stays does.
+-- What exact marks give at any moment. What a marked peer leads to is an edge of the begin, whose target the marking
+-- reaches too, or leads to a spared peer: so it has a mark. Hence the unfreed peers without a mark are those that the
+-- definition's sweep frees, no slot names one since what slots name is spared, and no field of a peer that stays does.
 use Rattle.std.proofs.Common.{ℕ, ◌↔◌, inl, inr, Bool, List}
 use Rattle.std.specs.Prelude.{Contains}
-use Rattle.joint_model.proofs.Members.{All-members}
-use Rattle.joint_model.specs.Components.{Rises}
-use Rattle.joint_model.specs.Heaps.{IsLive}
-use Rattle.joint_model.specs.PeerReplay.{PeerReplay, Marking, IsSweep}
+use Rattle.joint_machine.proofs.Members.{All-members}
+use Rattle.joint_machine.specs.Components.{Rises}
+use Rattle.joint_machine.specs.Heaps.{IsLive}
+use Rattle.joint_machine.specs.PeerReplay.{PeerReplay, Marking, IsSweep}
 use Rattle.joint_laws.proofs.Sparing.{spared-next}
 use Rattle.heap_rules.specs.Tidy.{CanFree}
 use Rattle.reachability.specs.Marks.{IsClosed}

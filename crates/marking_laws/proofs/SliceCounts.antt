@@ -1,14 +1,15 @@
--- How many are black. A member of the closure is black, grey or white. Blackening takes a grey one, which is a member since it is spared, and
--- no other changes; shading makes white ones grey; and what bringing back adds had no mark before, since what has a mark is spared.
+-- How many are black. A member of the closure is black, grey or white. Blackening takes a grey one, which is a member
+-- since it is spared, and no other changes; shading makes white ones grey; and what bringing back adds had no mark
+-- before, since what has a mark is spared.
 use Rattle.std.proofs.Common.{◌≡◌, ℕ, zero, suc, ◌≤◌, ◌<◌, ◌⊎◌, ◌↔◌, ◌≢◌, inl, inr, Bool, List, [], ◌∷◌, ◌++◌, length, refl, sym, ap, subst, ◌∙◌, arith}
 use Rattle.std.specs.Prelude.{Contains}
 use Rattle.std.proofs.lemmas.Bool.{cases_eq, cases_lt}
 use Rattle.std.proofs.lemmas.List.Elements.{All-contains, Contains-append_left}
-use Rattle.joint_model.specs.Components.{Rises}
-use Rattle.joint_model.specs.PeerReplay.{PeerReplay, Marking, IsMarked, IsMarkingRoot, IsClosure, MarkingEdge}
-use Rattle.joint_model.specs.Heaps.{IsLive}
-use Rattle.joint_model.proofs.Members.{Contains-nil, Contains-here, Contains-there, Contains-cons_cases}
-use Rattle.joint_model.proofs.WalkLemmas.{Reached-mono}
+use Rattle.joint_machine.specs.Components.{Rises}
+use Rattle.joint_machine.specs.PeerReplay.{PeerReplay, Marking, IsMarked, IsMarkingRoot, IsClosure, MarkingEdge}
+use Rattle.joint_machine.specs.Heaps.{IsLive}
+use Rattle.joint_machine.proofs.Members.{Contains-nil, Contains-here, Contains-there, Contains-cons_cases}
+use Rattle.joint_machine.proofs.WalkLemmas.{Reached-mono}
 use Rattle.joint_laws.specs.PeerInvariants.{IsSpared}
 use Rattle.reachability.specs.Marks.{HasMark}
 use Rattle.reachability.proofs.Marking.{marked-or}

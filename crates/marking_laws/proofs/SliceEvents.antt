@@ -1,23 +1,24 @@
--- The marks of a marking in slices go on, event by event. A mark is only given to what is spared: what a spared peer leads to is spared, as
--- is what is brought back and what a reference that goes led to. An edge of the begin is lost by a write or by the references' going alone,
--- and then what it led to is shaded; and a peer becomes black only when all that it leads to now has a mark.
+-- The marks of a marking in slices go on, event by event. A mark is only given to what is spared: what a spared peer
+-- leads to is spared, as is what is brought back and what a reference that goes led to. An edge of the begin is lost by
+-- a write or by the references' going alone, and then what it led to is shaded; and a peer becomes black only when all
+-- that it leads to now has a mark.
 use Rattle.std.proofs.Common.{◌≡◌, ℕ, ◌≤◌, ◌⊎◌, ◌↔◌, ◌≢◌, inl, inr, Bool, true, false, List, [], ◌∷◌, ◌++◌, length, replicate, Option, Some, None, refl, sym, ap, subst, ◌∙◌, arith, length-append}
 use Rattle.std.specs.Prelude.{Contains, slice_get, slice_set}
 use Rattle.std.proofs.lemmas.Bool.{cases_eq, cases_lt}
 use Rattle.std.proofs.lemmas.Option.{same_Some}
 use Rattle.std.proofs.lemmas.List.Elements.{Contains-push_cases, Contains-append_left, Contains-append_right}
-use Rattle.joint_model.specs.declared.names.Sort.{Sort}
-use Rattle.joint_model.specs.declared.names.Thread.{Thread}
-use Rattle.joint_model.specs.Components.{End, Rises}
-use Rattle.joint_model.specs.Heaps.{IsLive, HasField, InSlot, fields_of, numbered_at, next_number, with_field}
-use Rattle.joint_model.specs.Peers.{with_peer}
-use Rattle.joint_model.specs.PeerReplay.{PeerReplay, Marking, IsMarked, IsMarkingRoot, IsSweep, MarkingEdge, HasReference, Refers, begun, mirrored}
-use Rattle.joint_model.specs.Walks.{Reached}
-use Rattle.joint_model.proofs.HeapLemmas.{IsLive-later}
-use Rattle.joint_model.proofs.Joining.{slice_get-set_other}
-use Rattle.joint_model.proofs.Members.{Contains-nil, Contains-here, Contains-at, at-Contains, All-members}
-use Rattle.joint_model.proofs.Numbered.{numbered_set-here}
-use Rattle.joint_model.proofs.WalkLemmas.{Reached-keeps}
+use Rattle.joint_machine.specs.declared.names.Sort.{Sort}
+use Rattle.joint_machine.specs.declared.names.Thread.{Thread}
+use Rattle.joint_machine.specs.Components.{End, Rises}
+use Rattle.joint_machine.specs.Heaps.{IsLive, HasField, InSlot, fields_of, numbered_at, next_number, with_field}
+use Rattle.joint_machine.specs.Peers.{with_peer}
+use Rattle.joint_machine.specs.PeerReplay.{PeerReplay, Marking, IsMarked, IsMarkingRoot, IsSweep, MarkingEdge, HasReference, Refers, begun, mirrored}
+use Rattle.joint_machine.specs.Walks.{Reached}
+use Rattle.joint_machine.proofs.HeapLemmas.{IsLive-later}
+use Rattle.joint_machine.proofs.Joining.{slice_get-set_other}
+use Rattle.joint_machine.proofs.Members.{Contains-nil, Contains-here, Contains-at, at-Contains, All-members}
+use Rattle.joint_machine.proofs.Numbered.{numbered_set-here}
+use Rattle.joint_machine.proofs.WalkLemmas.{Reached-keeps}
 use Rattle.joint_laws.specs.PeerInvariants.{IsSpared}
 use Rattle.joint_laws.proofs.Through.{Refers-none}
 use Rattle.joint_laws.proofs.Fields.{with_object-old, with_field-length, with_field-other}

@@ -1,12 +1,12 @@
 -- The laws of the marks of the peer rows, one for each kind of event. (This project's own.)
 use Rattle.std.specs.Prelude.{◌≡◌, ◌≢◌, ℕ, ◌↔◌, ◌⊎◌, ◌++◌, ◌∷◌, [], Bool, true, false, List, Contains, Option, Some, None}
-use Rattle.joint_model.specs.declared.names.Sort.{Sort}
-use Rattle.joint_model.specs.declared.names.Thread.{Thread}
-use Rattle.joint_model.specs.Components.{Rises, End}
-use Rattle.joint_model.specs.Heaps.{InSlot, next_number, with_field}
-use Rattle.joint_model.specs.Peers.{with_peer}
-use Rattle.joint_model.specs.PeerReplay.{PeerReplay, Marking, IsSweep, HasReference, begun, mirrored}
-use Rattle.joint_model.specs.Walks.{Reached}
+use Rattle.joint_machine.specs.declared.names.Sort.{Sort}
+use Rattle.joint_machine.specs.declared.names.Thread.{Thread}
+use Rattle.joint_machine.specs.Components.{Rises, End}
+use Rattle.joint_machine.specs.Heaps.{InSlot, next_number, with_field}
+use Rattle.joint_machine.specs.Peers.{with_peer}
+use Rattle.joint_machine.specs.PeerReplay.{PeerReplay, Marking, IsSweep, HasReference, begun, mirrored}
+use Rattle.joint_machine.specs.Walks.{Reached}
 use Rattle.joint_laws.specs.PeerInvariants.{IsSpared}
 use Rattle.heap_rules.specs.Tidy.{CanFree}
 use Rattle.reachability.specs.Marks.{HasMark, IsClosed}

@@ -1,8 +1,8 @@
 -- What the marks of the peer rows keep against the definition of the peer list, while a marking is open. (Textbook: a
 -- snapshot-at-the-beginning marking; the rest is this project's own.)
 use Rattle.std.specs.Prelude.{◌≡◌, ℕ, ◌⊎◌, ◌↔◌, Bool, true, List, Contains, Some}
-use Rattle.joint_model.specs.Heaps.{IsLive, HasField, InSlot}
-use Rattle.joint_model.specs.PeerReplay.{PeerReplay, Marking, IsMarked, MarkingEdge, HasReference, strong_peers}
+use Rattle.joint_machine.specs.Heaps.{IsLive, HasField, InSlot}
+use Rattle.joint_machine.specs.PeerReplay.{PeerReplay, Marking, IsMarked, MarkingEdge, HasReference, strong_peers}
 use Rattle.joint_laws.specs.PeerInvariants.{IsPeerKept}
 use Rattle.reachability.specs.Marks.{HasMark}
 
@@ -18,9 +18,9 @@ EdgeNow s follows p q = HasField s.peers.heap p q ⊎ ((follows ≡ true) × Has
 abbrev pub IsWithoutMark : PeerReplay → List Bool → ℕ → Type 0
 IsWithoutMark s marks p = IsLive s.peers.heap p × (HasMark marks p → ⊥)
 
--- the marks are exact: what was freed stays freed; a peer made since the begin has a mark; another one has a mark exactly where
--- the definition has it as marked; and an edge of the begin leads to a peer with a mark, or begins at one without a mark and
--- still stands
+-- the marks are exact: what was freed stays freed; a peer made since the begin has a mark; another one has a mark
+-- exactly where the definition has it as marked; and an edge of the begin leads to a peer with a mark, or begins at one
+-- without a mark and still stands
 pub record AreMarksExact (s : PeerReplay) (mk : Marking) (follows : Bool) (marks : List Bool) : Type 0 where
   pub older : (p : ℕ) → Contains mk.heap.freed p → Contains s.peers.heap.freed p
   pub fresh : (p : ℕ) → IsLive s.peers.heap p → (IsLive mk.heap p → ⊥) → HasMark marks p

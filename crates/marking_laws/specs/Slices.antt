@@ -1,20 +1,22 @@
--- What the marks keep while a marking goes on in slices, and its laws, one for each kind of event. (Textbook: a tri-colour marking of the
--- snapshot at its beginning, where a write shades what it overwrites; the rest is this project's own.)
+-- What the marks keep while a marking goes on in slices, and its laws, one for each kind of event. (Textbook: a
+-- tri-colour marking of the snapshot at its beginning, where a write shades what it overwrites; the rest is this
+-- project's own.)
 use Rattle.std.specs.Prelude.{◌≡◌, ◌≢◌, ℕ, suc, length, ◌↔◌, ◌⊎◌, ◌++◌, ◌∷◌, [], Bool, true, false, List, Contains, Option, Some, None, slice_get}
-use Rattle.joint_model.specs.declared.names.Sort.{Sort}
-use Rattle.joint_model.specs.declared.names.Thread.{Thread}
-use Rattle.joint_model.specs.Components.{Rises, End}
-use Rattle.joint_model.specs.Heaps.{IsLive, InSlot, fields_of, next_number, with_field}
-use Rattle.joint_model.specs.Peers.{with_peer}
-use Rattle.joint_model.specs.PeerReplay.{PeerReplay, Marking, IsMarked, IsMarkingRoot, IsClosure, IsSweep, MarkingEdge, HasReference, begun, mirrored}
+use Rattle.joint_machine.specs.declared.names.Sort.{Sort}
+use Rattle.joint_machine.specs.declared.names.Thread.{Thread}
+use Rattle.joint_machine.specs.Components.{Rises, End}
+use Rattle.joint_machine.specs.Heaps.{IsLive, InSlot, fields_of, next_number, with_field}
+use Rattle.joint_machine.specs.Peers.{with_peer}
+use Rattle.joint_machine.specs.PeerReplay.{PeerReplay, Marking, IsMarked, IsMarkingRoot, IsClosure, IsSweep, MarkingEdge, HasReference, begun, mirrored}
 use Rattle.joint_laws.specs.PeerInvariants.{IsPeerKept, IsSpared}
 use Rattle.heap_rules.specs.Tidy.{CanFree}
 use Rattle.reachability.specs.Marks.{HasMark, IsClosed}
 use Rattle.marking_laws.specs.Marks.{EdgeNow, IsRootNow, IsWithoutMark}
 
--- a peer is white without a mark, grey in the list, and black with a mark and not in the list. What was freed stays freed; a peer made since
--- the begin has a mark; what has a mark is spared; the roots have one; what is grey has one and was there at the begin; and an edge of the
--- begin leads to a peer with a mark, or begins at one that isn't black and still stands
+-- a peer is white without a mark, grey in the list, and black with a mark and not in the list. What was freed stays
+-- freed; a peer made since the begin has a mark; what has a mark is spared; the roots have one; what is grey has one
+-- and was there at the begin; and an edge of the begin leads to a peer with a mark, or begins at one that isn't black
+-- and still stands
 pub record AreMarksGoing (s : PeerReplay) (mk : Marking) (follows : Bool) (marks : List Bool) (greys : List ℕ) : Type 0 where
   pub older : (p : ℕ) → Contains mk.heap.freed p → Contains s.peers.heap.freed p
   pub fresh : (p : ℕ) → IsLive s.peers.heap p → (IsLive mk.heap p → ⊥) → HasMark marks p
@@ -30,7 +32,8 @@ pub record IsGoingSide (s : PeerReplay) (mk : Marking) (follows : Bool) (marks :
   pub opened : s.marking ≡ Some mk
   pub right : AreMarksGoing s mk follows marks greys
 
--- what is seen gets a mark, and is grey where it had none; of the others those that are gone leave the list of grey ones
+-- what is seen gets a mark, and is grey where it had none; of the others those that are gone leave the list of grey
+-- ones
 pub record Shades (seen gone : ℕ → Type 0) (marks : List Bool) (greys : List ℕ) (after : List Bool) (waits : List ℕ) : Type 0 where
   pub marked : (k : ℕ) → HasMark after k ↔ (HasMark marks k ⊎ seen k)
   pub kept : (k : ℕ) → Contains greys k → (gone k → ⊥) → Contains waits k

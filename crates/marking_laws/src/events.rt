@@ -12,8 +12,8 @@ pub fn writes_keep_marks()
     ensures { WritesKeepMarks }
 {}
 
-/// An event that leaves fields, freed peers and mirrored references as they are keeps the marks exact: moves between slots, handles issued
-/// or gone, names and strengths.
+/// An event that leaves fields, freed peers and mirrored references as they are keeps the marks exact: moves between
+/// slots, handles issued or gone, names and strengths.
 pub fn other_events_keep_marks()
     ensures { OtherEventsKeepMarks }
 {}

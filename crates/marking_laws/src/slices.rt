@@ -2,9 +2,9 @@
 
 ghost use Rattle.marking_laws.specs.Slices.{BeginGreysRoots, BlackeningCounts, BlackeningGoesOn, BringingBackCounts, BringingBackGoesOn, ClearingGoesOn, DoneIsAllBlack, MarksAreShutThen, NewPeersGoOn, NoneGreyIsAll, OtherEventsGoOn, ShadedWritesGoOn, ShadingCounts, StandingGoesOn, SweepIsExactThen, SweepIsSafeThen};
 
-/// The begin greys the roots. Then a grey peer is made black, where all that it leads to now is shaded; a write shades what it overwrites; what is
-/// brought back is shaded; a new peer is black; references may come to stand; those that go shade their targets; and all other events leave the
-/// marks as they are.
+/// The begin greys the roots. Then a grey peer is made black, where all that it leads to now is shaded; a write shades
+/// what it overwrites; what is brought back is shaded; a new peer is black; references may come to stand; those that go
+/// shade their targets; and all other events leave the marks as they are.
 pub fn slices_go_on()
     ensures begin { BeginGreysRoots }
     ensures black { BlackeningGoesOn }
@@ -16,8 +16,9 @@ pub fn slices_go_on()
     ensures other { OtherEventsGoOn }
 {}
 
-/// Once none is grey, all that the marking reaches has a mark, what a marked peer leads to now has one, and to free the unfreed peers without a
-/// mark is a sweep of the definition, which leaves no slot and no field of a peer that stays with a freed one.
+/// Once none is grey, all that the marking reaches has a mark, what a marked peer leads to now has one, and to free the
+/// unfreed peers without a mark is a sweep of the definition, which leaves no slot and no field of a peer that stays
+/// with a freed one.
 pub fn slices_end()
     ensures all { NoneGreyIsAll }
     ensures sweep { SweepIsExactThen }
@@ -25,8 +26,8 @@ pub fn slices_end()
     ensures safe { SweepIsSafeThen }
 {}
 
-/// The count of slices: to make a grey one black makes one more of the marking's peers black; to shade or to bring back makes none black; and none is
-/// grey exactly where all of them are black.
+/// The count of slices: to make a grey one black makes one more of the marking's peers black; to shade or to bring back
+/// makes none black; and none is grey exactly where all of them are black.
 pub fn slices_count()
     ensures black { BlackeningCounts }
     ensures shade { ShadingCounts }

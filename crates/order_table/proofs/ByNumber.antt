@@ -5,24 +5,24 @@ use Rattle.std.proofs.lemmas.Bool.{cases_Bool, both_ways, and_parts, not-true, e
 use mathlib.Core.Option.{some, some-injective, some-ne-none}
 use mathlib.Core.List.{append-nil, append_assoc}
 use lib.ListN.{get_elem?}
-use Rattle.joint_model.specs.declared.names.Thread.{Thread}
-use Rattle.joint_model.specs.declared.names.Thread.TheVariants.{M}
-use Rattle.joint_model.specs.declared.lines.Act.TheVariants as act
-use Rattle.joint_model.specs.declared.events.Op.{Op}
-use Rattle.joint_model.specs.declared.events.Op.TheVariants as op
-use Rattle.joint_model.specs.declared.events.Made.{Made}
-use Rattle.joint_model.specs.declared.events.Entry.{Entry}
-use Rattle.joint_model.specs.declared.events.Reply.{Reply}
-use Rattle.joint_model.specs.declared.events.Reply.TheVariants as says
-use Rattle.joint_model.specs.Lines.{is_peer_event, is_read}
-use Rattle.joint_model.specs.Heaps.{slot, answer}
-use Rattle.joint_model.specs.Heaps as heap
-use Rattle.joint_model.specs.Managed.{Managed, read_cell, cell_read, target_read, managed_name}
-use Rattle.joint_model.specs.Run.{thread_number}
-use Rattle.joint_model.specs.Told.{Noted}
-use Rattle.joint_model.specs.Readers.{is_managed_entry, ReadsCell, HasKnownFrom, MayBePending, MayBeUnset, IsReadReply}
+use Rattle.joint_machine.specs.declared.names.Thread.{Thread}
+use Rattle.joint_machine.specs.declared.names.Thread.TheVariants.{M}
+use Rattle.joint_machine.specs.declared.lines.Act.TheVariants as act
+use Rattle.joint_machine.specs.declared.events.Op.{Op}
+use Rattle.joint_machine.specs.declared.events.Op.TheVariants as op
+use Rattle.joint_machine.specs.declared.events.Made.{Made}
+use Rattle.joint_machine.specs.declared.events.Entry.{Entry}
+use Rattle.joint_machine.specs.declared.events.Reply.{Reply}
+use Rattle.joint_machine.specs.declared.events.Reply.TheVariants as says
+use Rattle.joint_machine.specs.Lines.{is_peer_event, is_read}
+use Rattle.joint_machine.specs.Heaps.{slot, answer}
+use Rattle.joint_machine.specs.Heaps as heap
+use Rattle.joint_machine.specs.Managed.{Managed, read_cell, cell_read, target_read, managed_name}
+use Rattle.joint_machine.specs.Run.{thread_number}
+use Rattle.joint_machine.specs.Told.{Noted}
+use Rattle.joint_machine.specs.Readers.{is_managed_entry, ReadsCell, HasKnownFrom, MayBePending, MayBeUnset, IsReadReply}
 use Rattle.order_table.specs.declared.views.KeptEntry.{KeptEntry}
-use Rattle.joint_model.specs.HistoryLines.{caller_line}
+use Rattle.joint_machine.specs.HistoryLines.{caller_line}
 use Rattle.order_table.specs.Stages.{opens, ends, neither, deed, IsClosed}
 use Rattle.order_table.specs.Owed.{marked, aims_at, target_from, target, has, is_freed, read_of, word_of, pin}
 use Rattle.order_table.specs.Views.{IsAnswer, IsInRole}

@@ -2,19 +2,19 @@
 use Rattle.std.proofs.Common.{◌≡◌, ⊎_elim, ℕ, zero, suc, ◌+◌, ◌-◌, ◌^◌, ◌<◌, ◌≤◌, Bool, true, false, List, [], refl, sym, ap, ◌∙◌, subst, arith, true≢false}
 use Rattle.std.specs.Prelude.{if◌then◌else◌, ◌==◌, Option, Some, None}
 use Rattle.std.proofs.lemmas.Bool.{both_ways, cases_eq}
-use Rattle.joint_model.specs.declared.names.MNum.{MNum}
-use Rattle.joint_model.specs.declared.names.Thread.{Thread}
-use Rattle.joint_model.specs.declared.names.Thread.TheVariants.{M, P, C}
-use Rattle.joint_model.specs.declared.lines.Act.TheVariants as act
-use Rattle.joint_model.specs.declared.events.Op.{Op}
-use Rattle.joint_model.specs.declared.events.Op.TheVariants as op
-use Rattle.joint_model.specs.declared.events.Made.{Made}
-use Rattle.joint_model.specs.declared.events.Reply.{Reply}
-use Rattle.joint_model.specs.declared.events.Reply.TheVariants as says
-use Rattle.joint_model.specs.Control.{caller_place}
-use Rattle.joint_model.specs.Lines.{IsThread, is_peer_event, is_read}
+use Rattle.joint_machine.specs.declared.names.MNum.{MNum}
+use Rattle.joint_machine.specs.declared.names.Thread.{Thread}
+use Rattle.joint_machine.specs.declared.names.Thread.TheVariants.{M, P, C}
+use Rattle.joint_machine.specs.declared.lines.Act.TheVariants as act
+use Rattle.joint_machine.specs.declared.events.Op.{Op}
+use Rattle.joint_machine.specs.declared.events.Op.TheVariants as op
+use Rattle.joint_machine.specs.declared.events.Made.{Made}
+use Rattle.joint_machine.specs.declared.events.Reply.{Reply}
+use Rattle.joint_machine.specs.declared.events.Reply.TheVariants as says
+use Rattle.joint_machine.specs.Control.{caller_place}
+use Rattle.joint_machine.specs.Lines.{IsThread, is_peer_event, is_read}
 use Rattle.order_table.specs.declared.views.View.{View}
-use Rattle.joint_model.specs.HistoryLines.{caller_line}
+use Rattle.joint_machine.specs.HistoryLines.{caller_line}
 use Rattle.order_table.specs.Rows.{at}
 use Rattle.order_table.specs.Stages.{stage, deed}
 use Rattle.order_table.specs.Owed.{PinDeed, fills, empties, stays, pin_deed, pin, owing, has, mark, target_told, freed_told}
@@ -61,7 +61,8 @@ others_free r t (op.Snap k) freed peer reader other = absurd (⊎_elim (λ e. tr
 others_free r t (op.Resolve k) freed peer reader other = absurd (⊎_elim (λ e. true≢false (sym (peer e))) (λ n. true≢false (sym (reader (omega (arith, n, other))))) (cases_eq r 1))
 others_free r t _ freed peer reader other = refl
 
--- what an entry does to its caller's pin: only a read of a reader's list fills it, only a managed one empties it, and a pin is a managed thread's
+-- what an entry does to its caller's pin: only a read of a reader's list fills it, only a managed one empties it, and a
+-- pin is a managed thread's
 pub record MayPin (v : View) (r : ℕ) (place : ℕ) (d : PinDeed) : Type 0 where
   pub fills : (w : ℕ) → d ≡ fills w → (0 < place) × (place < 9) × (r ≡ 1 + place) × (v.inside ≡ 2 ^ place) × (pin (known v (place + 10)) ≡ 0)
   pub empties : d ≡ empties → (0 < place) × (place < 9) × (r ≡ 0)

@@ -1,15 +1,16 @@
 -- What an entry more does to the history's lines and to what a seat knows of them.
 --
--- An entry stands in exactly two lines: in that of its role and in that of its caller. So a history one entry longer has the entry at the end of
--- these two and the same lines else; and a seat that made it knows just that. A line's numbers lie below the length of the history. Each entry
--- stands in a role's line and no role has more than 4,294,967,295, so the history's length is far below 2 ^ 64 and the word never wraps.
+-- An entry stands in exactly two lines: in that of its role and in that of its caller. So a history one entry longer
+-- has the entry at the end of these two and the same lines else; and a seat that made it knows just that. A line's
+-- numbers lie below the length of the history. Each entry stands in a role's line and no role has more than
+-- 4,294,967,295, so the history's length is far below 2 ^ 64 and the word never wraps.
 use Rattle.std.proofs.Common.{◌≡◌, ◌≢◌, ◌⊎◌, inl, inr, ⊎_elim, ℕ, zero, suc, ◌+◌, ◌<◌, ◌≤◌, Bool, true, false, ◌||◌, List, [], ◌∷◌, ◌++◌, length, refl, sym, ap, ◌∙◌, subst, arith, eq-eqb}
 use Rattle.std.specs.Prelude.{if◌then◌else◌, ◌==◌}
 use Rattle.std.proofs.lemmas.Bool.{cases_Bool, cases_eq, eqb-true, or_cases, both_ways}
 use mathlib.Core.List.{IsPrefix}
 use Rattle.order_table.specs.declared.views.KeptEntry.{KeptEntry}
 use Rattle.order_table.specs.declared.views.View.{View}
-use Rattle.joint_model.specs.HistoryLines.{caller_line}
+use Rattle.joint_machine.specs.HistoryLines.{caller_line}
 use Rattle.order_table.specs.Rows.{at}
 use Rattle.order_table.specs.Views.{known, grown, appended}
 use Rattle.order_table.specs.Rule.{Item, IsItem, is_in, of_line, RunsFrom, IsBelow}

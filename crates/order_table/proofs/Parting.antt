@@ -1,20 +1,20 @@
 -- What a seat owns and knows after it gave lines away, and after it took another seat in, line by line.
 --
--- A mask has true at the lines that go. The place of a role's line or of a caller's in its mask is true, and all others are false; the rest is
--- read off place by place.
+-- A mask has true at the lines that go. The place of a role's line or of a caller's in its mask is true, and all others
+-- are false; the rest is read off place by place.
 use Rattle.std.proofs.Common.{◌≡◌, ◌⊎◌, inl, inr, ⊎_elim, ℕ, ◌+◌, Bool, true, false, not, List, [], refl, sym, ap, ◌∙◌, subst}
 use Rattle.std.proofs.lemmas.Bool.{cases_eq, and_parts, or_cases, not-true, both_ways}
-use Rattle.joint_model.specs.declared.names.Thread.{Thread}
-use Rattle.joint_model.specs.declared.names.Thread.TheVariants.{M, P, C}
+use Rattle.joint_machine.specs.declared.names.Thread.{Thread}
+use Rattle.joint_machine.specs.declared.names.Thread.TheVariants.{M, P, C}
 use Rattle.order_table.specs.declared.views.Role.{Role}
 use Rattle.order_table.specs.declared.views.KeptEntry.{KeptEntry}
 use Rattle.order_table.specs.declared.views.View.{View}
-use Rattle.joint_model.specs.HistoryLines.{caller_line}
+use Rattle.joint_machine.specs.HistoryLines.{caller_line}
 use Rattle.order_table.specs.Rows.{at, put}
 use Rattle.order_table.specs.Views.{Owns, known, role_line, giving, given, hearing, lines_of_role, lines_of_caller, lines_of_none}
 use Rattle.order_table.specs.Tells.{Compares, GrowsByEntry, Parts, IsOfRole, IsOfCaller, IsOfNone, TakesIn}
 use Rattle.order_table.proofs.Places.{at_put_here, at_put_else, at_joined, at_common, at_without, at_longest, longer_cases, or_true}
-use Rattle.joint_model.proofs.Deciding.{and-both}
+use Rattle.joint_machine.proofs.Deciding.{and-both}
 
 -- the mask has just the lines of this kind
 pub record Marks (Goes : ℕ → Type 0) (lines : List Bool) : Type 0 where

@@ -3,26 +3,26 @@ use Rattle.std.proofs.Common.{map, ◌≡◌, ◌≢◌, ◌⊎◌, inl, inr, �
 use Rattle.std.specs.Prelude.{if◌then◌else◌, slice_set, replicate, Option, Some, None}
 use Rattle.std.proofs.lemmas.Bool.{cases_Bool, both_ways}
 use mathlib.Core.List.{append-nil, append_assoc}
-use Rattle.joint_model.specs.declared.names.Thread.{Thread}
-use Rattle.joint_model.specs.declared.names.Thread.TheVariants.{M, P, C}
-use Rattle.joint_model.specs.declared.names.Sort.{Sort}
-use Rattle.joint_model.specs.declared.lines.Act.{Act}
-use Rattle.joint_model.specs.declared.lines.Act.TheVariants as act
-use Rattle.joint_model.specs.declared.events.Op.{Op}
-use Rattle.joint_model.specs.declared.events.Op.TheVariants as op
-use Rattle.joint_model.specs.declared.events.Entry.{Entry}
-use Rattle.joint_model.specs.declared.events.Reply.{Reply}
-use Rattle.joint_model.specs.declared.events.Reply.TheVariants as says
-use Rattle.joint_model.specs.Lines.{is_peer_event, is_peer_thread, IsThread, is_read}
-use Rattle.joint_model.specs.Heaps.{slot, place, is_full, with_var, Answered, answer}
-use Rattle.joint_model.specs.Managed.{Managed, managed_line, adopted, cell_set, met, twin_met, given_up, without_handle, managed_name, OpenCycle}
-use Rattle.joint_model.specs.ManagedReplay.{ManagedReplay, managed_answer, adopt_by, meet_by, give_by, registered}
-use Rattle.joint_model.specs.Run.{thread_number}
-use Rattle.joint_model.specs.Told.{Told, snap_of, contraction_of, resolution_of, phase_of, Noted}
-use Rattle.joint_model.specs.Linked.{Linkage, opening_linkage, linkage_after, managed_after}
-use Rattle.joint_model.specs.Readers.{pins_after, reader_after, entry_after, replayed_reading}
-use Rattle.joint_model.specs.Control.{caller_place}
-use Rattle.joint_model.specs.HistoryLines.{caller_line}
+use Rattle.joint_machine.specs.declared.names.Thread.{Thread}
+use Rattle.joint_machine.specs.declared.names.Thread.TheVariants.{M, P, C}
+use Rattle.joint_machine.specs.declared.names.Sort.{Sort}
+use Rattle.joint_machine.specs.declared.lines.Act.{Act}
+use Rattle.joint_machine.specs.declared.lines.Act.TheVariants as act
+use Rattle.joint_machine.specs.declared.events.Op.{Op}
+use Rattle.joint_machine.specs.declared.events.Op.TheVariants as op
+use Rattle.joint_machine.specs.declared.events.Entry.{Entry}
+use Rattle.joint_machine.specs.declared.events.Reply.{Reply}
+use Rattle.joint_machine.specs.declared.events.Reply.TheVariants as says
+use Rattle.joint_machine.specs.Lines.{is_peer_event, is_peer_thread, IsThread, is_read}
+use Rattle.joint_machine.specs.Heaps.{slot, place, is_full, with_var, Answered, answer}
+use Rattle.joint_machine.specs.Managed.{Managed, managed_line, adopted, cell_set, met, twin_met, given_up, without_handle, managed_name, OpenCycle}
+use Rattle.joint_machine.specs.ManagedReplay.{ManagedReplay, managed_answer, adopt_by, meet_by, give_by, registered}
+use Rattle.joint_machine.specs.Run.{thread_number}
+use Rattle.joint_machine.specs.Told.{Told, snap_of, contraction_of, resolution_of, phase_of, Noted}
+use Rattle.joint_machine.specs.Linked.{Linkage, opening_linkage, linkage_after, managed_after}
+use Rattle.joint_machine.specs.Readers.{pins_after, reader_after, entry_after, replayed_reading}
+use Rattle.joint_machine.specs.Control.{caller_place}
+use Rattle.joint_machine.specs.HistoryLines.{caller_line}
 use Rattle.order_table.specs.Owed.{PinDeed, fills, empties, stays, pin_deed, pin_after, pin}
 use Rattle.order_table.specs.Rule.{Item, IsItem, is_in, of_line, RunsFrom}
 use Rattle.order_table.specs.Facts.{entries_of}

@@ -1,9 +1,10 @@
 -- The steps on the sequencer keep the rule, and tell what they say: an append, a split, a join and the load after it.
 --
--- The rule has one history, and a seat knows a beginning of each of its lines. An append makes the history one entry longer: who makes it owns
--- both lines in which the entry stands, so nobody else's lines are whole any more, and they stay beginnings. A split and a join change owners
--- alone. A join keeps both views side by side; the load after it compares them, and takes of each line the longer list, since both are beginnings
--- of one line; where one of the two owned the line, it knew it whole, and so the longer list is that one's.
+-- The rule has one history, and a seat knows a beginning of each of its lines. An append makes the history one entry
+-- longer: who makes it owns both lines in which the entry stands, so nobody else's lines are whole any more, and they
+-- stay beginnings. A split and a join change owners alone. A join keeps both views side by side; the load after it
+-- compares them, and takes of each line the longer list, since both are beginnings of one line; where one of the two
+-- owned the line, it knew it whole, and so the longer list is that one's.
 use Rattle.std.proofs.Common.{◌≡◌, ◌≢◌, ◌⊎◌, inl, inr, ⊎_elim, ℕ, zero, suc, ◌+◌, ◌*◌, ◌/◌, ◌%◌, ◌^◌, ◌<◌, ◌≤◌, Bool, true, false, not, ◌&&◌, List, [], ◌∷◌, ◌++◌, length, get_or, set, refl, sym, ap, ◌∙◌, subst, arith, length-append, length-set, get_or-set_same, get_or-set_other, eq-eqb, ne_eqb, true≢false}
 use Rattle.std.specs.Prelude.{if◌then◌else◌, ◌==◌, Option, Some, None, replicate}
 use Rattle.std.proofs.lemmas.Bool.{cases_Bool, cases_eq, and_parts, or_cases, not-true, both_ways}
@@ -14,15 +15,15 @@ use lib.ListN.{get_elem?}
 use lib.Seq.{set-get_or}
 use Rattle.atomic_table.specs.Table.{State, Me, step, keeps, Allows, Splits, Joins, opening}
 use Rattle.atomic_table.proofs.Lists.{at_set, set_here, set_else, at_longer, at_last}
-use Rattle.joint_model.specs.declared.names.MNum.{MNum}
-use Rattle.joint_model.specs.declared.names.Var.{Var}
-use Rattle.joint_model.specs.declared.lines.Act.TheVariants as act
-use Rattle.joint_model.specs.declared.events.Op.TheVariants as op
-use Rattle.joint_model.specs.declared.events.Made.{Made}
-use Rattle.joint_model.specs.Control.{caller_place}
+use Rattle.joint_machine.specs.declared.names.MNum.{MNum}
+use Rattle.joint_machine.specs.declared.names.Var.{Var}
+use Rattle.joint_machine.specs.declared.lines.Act.TheVariants as act
+use Rattle.joint_machine.specs.declared.events.Op.TheVariants as op
+use Rattle.joint_machine.specs.declared.events.Made.{Made}
+use Rattle.joint_machine.specs.Control.{caller_place}
 use Rattle.order_table.specs.declared.views.KeptEntry.{KeptEntry}
 use Rattle.order_table.specs.declared.views.View.{View}
-use Rattle.joint_model.specs.HistoryLines.{caller_line}
+use Rattle.joint_machine.specs.HistoryLines.{caller_line}
 use Rattle.order_table.specs.Rows.{at, longer}
 use Rattle.order_table.specs.Stages.{IsClosed, opens, deed, stage_after, stage}
 use Rattle.order_table.specs.Owed.{PinDeed, fills, empties, pin_deed, owing, pin, pin_after, marked, target, has, is_freed, by_place, owes_after, stays, fill_after, empty_after}
@@ -30,7 +31,7 @@ use Rattle.order_table.specs.Views.{IsNext, IsCompared, IsInRole, lines_of_none,
 use Rattle.order_table.specs.Allowed.{Settled, NoDebt, MaySet, SaysPending, MayDo, MayMake, IsQuiet}
 use Rattle.order_table.specs.Rule.{HasOwner, HasBit, Scans, Pinned, ReadsWord, CellIs, Debts, EachLoad, Celled, Unknown, IsSnapped, Waits, IsPending, IsDue, Stands, Item, is_in, of_line, RunsFrom, IsBelow, Knows, Gates, IsHeldFor, Ordered, AreLinesOfOneHistory}
 use Rattle.order_table.specs.Tells.{Appended, Compared, Compares}
-use Rattle.joint_model.specs.Lines.{IsThread}
+use Rattle.joint_machine.specs.Lines.{IsThread}
 use Rattle.order_table.proofs.Gate.{no_bit, if_true, if_false, stage_more, held_more, gates_giving, gates_given, gates_spent, gates_hearing, gates_learned, gates_appended}
 use Rattle.std.proofs.Math.Nat.{one-le-pow}
 use Rattle.order_table.proofs.Pins.{no_scans, scans_more, pin_at, scanned_at, pin_more, owing_after, pinned_keep, not_storing, not_clearing, pinned_entry, filling, filling_last}

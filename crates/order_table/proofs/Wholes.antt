@@ -1,22 +1,23 @@
 -- Whole lists, by number and by event.
 --
--- What stands in a line is an entry of the one history that is in the line. Entries of the history have the numbers from 0 on, so each number below its
--- length has one entry, which stands in the list of its role; and two with one number are one. A line below 10 is a role's, so an entry stands in at
--- most one of them. An event tells its role, so each line can be read off the entries alone.
+-- What stands in a line is an entry of the one history that is in the line. Entries of the history have the numbers
+-- from 0 on, so each number below its length has one entry, which stands in the list of its role; and two with one
+-- number are one. A line below 10 is a role's, so an entry stands in at most one of them. An event tells its role, so
+-- each line can be read off the entries alone.
 use Rattle.std.proofs.Common.{◌≡◌, ◌⊎◌, inl, inr, ⊎_elim, ℕ, zero, suc, ◌+◌, ◌-◌, ◌<◌, ◌≤◌, Bool, true, false, ◌||◌, List, [], ◌∷◌, length, refl, sym, ap, ◌∙◌, subst, arith, true≢false}
 use Rattle.std.specs.Prelude.{if◌then◌else◌, ◌==◌}
 use Rattle.std.proofs.lemmas.Bool.{cases_Bool, cases_eq}
-use Rattle.joint_model.specs.declared.names.Thread.{Thread}
-use Rattle.joint_model.specs.declared.names.Thread.TheVariants.{M, P, C}
-use Rattle.joint_model.specs.declared.events.Made.{Made}
-use Rattle.joint_model.specs.declared.events.Op.{Op}
-use Rattle.joint_model.specs.declared.events.Op.TheVariants as op
-use Rattle.joint_model.specs.Control.{caller_place}
-use Rattle.joint_model.specs.Draws.{NumberedFrom}
-use Rattle.joint_model.specs.Lines.{IsThread, is_peer_event, is_read, reader_line, list_line}
+use Rattle.joint_machine.specs.declared.names.Thread.{Thread}
+use Rattle.joint_machine.specs.declared.names.Thread.TheVariants.{M, P, C}
+use Rattle.joint_machine.specs.declared.events.Made.{Made}
+use Rattle.joint_machine.specs.declared.events.Op.{Op}
+use Rattle.joint_machine.specs.declared.events.Op.TheVariants as op
+use Rattle.joint_machine.specs.Control.{caller_place}
+use Rattle.joint_machine.specs.Histories.{NumberedFrom}
+use Rattle.joint_machine.specs.Lines.{IsThread, is_peer_event, is_read}
 use Rattle.order_table.specs.declared.views.Role.TheVariants as role
 use Rattle.order_table.specs.declared.views.KeptEntry.{KeptEntry}
-use Rattle.joint_model.specs.HistoryLines.{caller_line, entries_in}
+use Rattle.joint_machine.specs.HistoryLines.{caller_line, entries_in, list_line, reader_line}
 use Rattle.order_table.specs.Views.{IsInRole}
 use Rattle.order_table.specs.Rule.{Item, IsItem, is_in, of_line, RunsFrom}
 use Rattle.order_table.specs.Facts.{In, RuleKeepsLists, RolesDiffer, CallersDiffer, entries_of, line_entries, EntriesTellLines}

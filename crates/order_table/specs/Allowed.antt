@@ -1,12 +1,12 @@
 -- Which entries a seat may make, and when it may be cut or joined.
 use Rattle.std.specs.Prelude.{◌≡◌, ◌⊎◌, ℕ, ◌+◌, ◌-◌, ◌^◌, ◌<◌, ◌≤◌, true, false, [], Option, Some, None}
-use Rattle.joint_model.specs.declared.names.MNum.{MNum}
-use Rattle.joint_model.specs.declared.events.Made.{Made}
-use Rattle.joint_model.specs.declared.events.Reply.{Reply}
-use Rattle.joint_model.specs.declared.events.Reply.TheVariants as says
+use Rattle.joint_machine.specs.declared.names.MNum.{MNum}
+use Rattle.joint_machine.specs.declared.events.Made.{Made}
+use Rattle.joint_machine.specs.declared.events.Reply.{Reply}
+use Rattle.joint_machine.specs.declared.events.Reply.TheVariants as says
 use Rattle.order_table.specs.declared.views.KeptEntry.{KeptEntry}
 use Rattle.order_table.specs.declared.views.View.{View}
-use Rattle.joint_model.specs.HistoryLines.{caller_line}
+use Rattle.joint_machine.specs.HistoryLines.{caller_line}
 use Rattle.order_table.specs.Rows.{at}
 use Rattle.order_table.specs.Stages.{IsClosed, Deed, opens, ends, neither, deed}
 use Rattle.order_table.specs.Owed.{IsNumber, fills, mark, marked, target, target_told, is_freed, read_of, word_of, IsLoaded, all_scanned, stays, deed_of_pin, pin}
@@ -27,7 +27,8 @@ OwesNone v = NoDebt v × (v.fill ≡ 0) × (v.empty ≡ 0)
 abbrev pub HoldsOpen : View → Type 0
 HoldsOpen v = ((v.holds ≡ 0) × IsClosed (known v 0)) ⊎ ((0 < v.holds) × IsOpen v v.holds)
 
--- the seat is outside the gate and owes nothing; if it owns the managed list, it holds the gate just while a cycle is open
+-- the seat is outside the gate and owes nothing; if it owns the managed list, it holds the gate just while a cycle is
+-- open
 pub record Settled (v : View) : Type 0 where
   pub outside : v.inside ≡ 0
   pub clear : v.owes ≡ 0
@@ -35,7 +36,8 @@ pub record Settled (v : View) : Type 0 where
   pub stored : (v.fill ≡ 0) × (v.empty ≡ 0)
   pub gate : at false v.owns 0 ≡ true → HoldsOpen v
 
--- a seat that owns the managed list may make an entry that does this; one that opens a cycle only with all eight pins scanned
+-- a seat that owns the managed list may make an entry that does this; one that opens a cycle only with all eight pins
+-- scanned
 abbrev pub MayDo : View → Deed → Type 0
 MayDo v (opens k) = IsNext v k × (v.holds ≡ k) × (all_scanned 8 v.scanned ≡ true)
 MayDo v (ends k) = IsOpen v k
@@ -58,9 +60,9 @@ MayPinned v m = ((o : ℕ) → m.reply ≡ says.Pinned record { 0 = o } → pin 
 abbrev pub MayRead : View → Made → Type 0
 MayRead v m = (c w : ℕ) → read_of m.op ≡ Some c → word_of m.reply ≡ Some w → (0 < v.inside) × IsLoaded v.loads c w
 
--- what the list of a role asks of an entry, beside that it stands there: of a peer's nothing; of a managed one that the seat owes no store,
--- and what it does to the cycles and to a cell; of a reader's that the seat owes no store, and its reply: a pending cycle was found held since
--- the last entry; who gives an object is inside with that reader's own bit
+-- what the list of a role asks of an entry, beside that it stands there: of a peer's nothing; of a managed one that the
+-- seat owes no store, and what it does to the cycles and to a cell; of a reader's that the seat owes no store, and its
+-- reply: a pending cycle was found held since the last entry; who gives an object is inside with that reader's own bit
 pub record MayMake (v : View) (r : ℕ) (m : Made) (aim : Option MNum) : Type 0 where
   pub paid : (r ≡ 1 → ⊥) → OwesNone v
   pub cycles : r ≡ 0 → MayDo v (deed m.op)
@@ -70,7 +72,8 @@ pub record MayMake (v : View) (r : ℕ) (m : Made) (aim : Option MNum) : Type 0 
   pub pinned : 2 ≤ r → MayPinned v m
   pub inside : 2 ≤ r → (w : ℕ) → pin_owed v m ≡ fills w → v.inside ≡ 2 ^ (r - 1)
 
--- an entry that leaves nothing to be done: it sets no cell, frees nothing, opens and ends no cycle, and leaves every pin as it is
+-- an entry that leaves nothing to be done: it sets no cell, frees nothing, opens and ends no cycle, and leaves every
+-- pin as it is
 pub record IsQuiet (k : KeptEntry) : Type 0 where
   pub marks : marked k ≡ None
   pub frees : k.freed ≡ []

@@ -1,18 +1,18 @@
--- What follows from the rule, in words of their own: whole lists and passes between any two steps, and that entries by themselves tell in which
--- lines they stand.
+-- What follows from the rule, in words of their own: whole lists and passes between any two steps, and that entries by
+-- themselves tell in which lines they stand.
 use Rattle.std.specs.Prelude.{◌≡◌, ◌⊎◌, ℕ, ◌<◌, ◌≤◌, List, [], ◌∷◌, length, map, slice_index}
 use mathlib.Core.Option.{some}
 use mathlib.Core.List.{IsPrefix}
 use lib.ListN.{get_elem?}
 use Rattle.atomic_table.specs.Table.{State}
-use Rattle.joint_model.specs.declared.names.Thread.{Thread}
-use Rattle.joint_model.specs.declared.events.Entry.{Entry}
-use Rattle.joint_model.specs.Draws.{NumberedFrom}
-use Rattle.joint_model.specs.Lines.{IsThread}
+use Rattle.joint_machine.specs.declared.names.Thread.{Thread}
+use Rattle.joint_machine.specs.declared.events.Entry.{Entry}
+use Rattle.joint_machine.specs.Histories.{NumberedFrom}
+use Rattle.joint_machine.specs.Lines.{IsThread}
 use Rattle.order_table.specs.declared.views.Role.{Role}
 use Rattle.order_table.specs.declared.views.KeptEntry.{KeptEntry}
 use Rattle.order_table.specs.declared.views.View.{View}
-use Rattle.joint_model.specs.HistoryLines.{caller_line, entries_in}
+use Rattle.joint_machine.specs.HistoryLines.{caller_line, entries_in}
 use Rattle.order_table.specs.Rows.{at}
 use Rattle.order_table.specs.Views.{IsRole, role_line, known, Owns}
 use Rattle.order_table.specs.Rule.{Item, Ordered, RunsFrom, of_line}
@@ -37,10 +37,10 @@ pub record IsKnownBySomeSeat (views : List View) (i : ℕ) (whole : List KeptEnt
   pub there : get_elem? views seat ≡ some view
   pub known : (known view i ≡ whole) ⊎ (at [] view.heard i ≡ whole)
 
--- Between any two steps each line has a whole list, the longest that any seat knows. Each seat that there ever was knows a beginning of it; its
--- one owner knows all of it. The
--- numbers in the roles' lists are those below the sequencer word, each once; no list is too long, and the word is far from its end. A
--- caller's list has just that caller's entries of the roles' lists.
+-- Between any two steps each line has a whole list, the longest that any seat knows. Each seat that there ever was
+-- knows a beginning of it; its one owner knows all of it. The numbers in the roles' lists are those below the sequencer
+-- word, each once; no list is too long, and the word is far from its end. A caller's list has just that caller's
+-- entries of the roles' lists.
 pub record HasWholeLists (s : State (Unit {0}) View) : Type 0 where
   pub lists : ℕ → List KeptEntry
   pub begins : (j : ℕ) (v : View) → get_elem? s.views j ≡ some v → (i : ℕ) → IsPrefix (known v i) (lists i)

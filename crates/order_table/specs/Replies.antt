@@ -2,18 +2,18 @@
 use Rattle.std.specs.Prelude.{◌≡◌, ℕ, zero, suc, ◌+◌, ◌<◌, ◌≤◌, true, List, [], ◌∷◌, map, Option, Some, None}
 use mathlib.Core.Option.{some}
 use lib.ListN.{get_elem?}
-use Rattle.joint_model.specs.declared.names.Cycle.{Cycle}
-use Rattle.joint_model.specs.declared.names.Var.{Var}
-use Rattle.joint_model.specs.declared.lines.Act.TheVariants as act
-use Rattle.joint_model.specs.declared.events.Op.TheVariants as op
-use Rattle.joint_model.specs.declared.events.Reply.TheVariants as says
-use Rattle.joint_model.specs.Control.{caller_place}
-use Rattle.joint_model.specs.Heaps.{slot, is_freed}
-use Rattle.joint_model.specs.Managed.{Managed}
-use Rattle.joint_model.specs.Told.{Noted}
-use Rattle.joint_model.specs.Readers.{SetsCell, ReadsCell, FreesObject, IsReadReply, replayed_reading}
-use Rattle.joint_model.specs.Linked.{opening_linkage}
-use Rattle.joint_model.specs.HistoryLines.{caller_line}
+use Rattle.joint_machine.specs.declared.names.Cycle.{Cycle}
+use Rattle.joint_machine.specs.declared.names.Var.{Var}
+use Rattle.joint_machine.specs.declared.lines.Act.TheVariants as act
+use Rattle.joint_machine.specs.declared.events.Op.TheVariants as op
+use Rattle.joint_machine.specs.declared.events.Reply.TheVariants as says
+use Rattle.joint_machine.specs.Control.{caller_place}
+use Rattle.joint_machine.specs.Heaps.{slot, is_freed}
+use Rattle.joint_machine.specs.Managed.{Managed}
+use Rattle.joint_machine.specs.Told.{Noted}
+use Rattle.joint_machine.specs.Readers.{SetsCell, ReadsCell, FreesObject, IsReadReply, replayed_reading}
+use Rattle.joint_machine.specs.Linked.{opening_linkage}
+use Rattle.joint_machine.specs.HistoryLines.{caller_line}
 use Rattle.order_table.specs.Rows.{at}
 use Rattle.order_table.specs.Stages.{IsClosed}
 use Rattle.order_table.specs.Owed.{marked, target, has, pin}
@@ -21,7 +21,8 @@ use Rattle.order_table.specs.Rule.{Item, of_line}
 use Rattle.order_table.specs.Facts.{entries_of}
 use Rattle.order_table.specs.Owed as lists
 
--- a note of an entry: what it says is freed was told to `append`, and a `weak` that set its cell was told with the object
+-- a note of an entry: what it says is freed was told to `append`, and a `weak` that set its cell was told with the
+-- object
 pub record IsNoteOf (x : Item) (n : Noted) : Type 0 where
   pub entry : n.entry ≡ x.kept.entry
   pub freed : (m : ℕ) → FreesObject n.told m → has x.kept.freed m ≡ true

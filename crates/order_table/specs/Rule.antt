@@ -1,27 +1,28 @@
--- The rule of the order, which holds between any two steps: there is one history, whose entries have the numbers from 0 on, and whose length
--- is the sequencer word. Each line is what this history has of it, so of what two views know of a line the one begins the other. The words of the
--- gate, the cells and the pins are what the lines say, but for what a seat still owes; and what readers answered is right by what stands before.
+-- The rule of the order, which holds between any two steps: there is one history, whose entries have the numbers from 0
+-- on, and whose length is the sequencer word. Each line is what this history has of it, so of what two views know of a
+-- line the one begins the other. The words of the gate, the cells and the pins are what the lines say, but for what a
+-- seat still owes; and what readers answered is right by what stands before.
 use Rattle.std.specs.Prelude.{◌≡◌, ℕ, ◌+◌, ◌*◌, ◌/◌, ◌^◌, ◌<◌, ◌≤◌, ◌==◌, false, ◌||◌, nat_lt, Bool, true, if◌then◌else◌, ◌⊎◌, List, [], ◌∷◌, ◌++◌, Some, None, length, slice_index}
 use Rattle.std.specs.Int.{bit_at}
 use mathlib.Core.Option.{some}
 use mathlib.Core.List.{IsPrefix}
 use lib.ListN.{get_elem?}
 use Rattle.atomic_table.specs.Table.{State}
-use Rattle.joint_model.specs.declared.names.Cycle.{Cycle}
-use Rattle.joint_model.specs.declared.names.Var.{Var}
-use Rattle.joint_model.specs.declared.lines.Act.TheVariants as act
-use Rattle.joint_model.specs.declared.events.Op.TheVariants as op
-use Rattle.joint_model.specs.declared.events.Reply.TheVariants as says
-use Rattle.joint_model.specs.Control.{caller_place}
+use Rattle.joint_machine.specs.declared.names.Cycle.{Cycle}
+use Rattle.joint_machine.specs.declared.names.Var.{Var}
+use Rattle.joint_machine.specs.declared.lines.Act.TheVariants as act
+use Rattle.joint_machine.specs.declared.events.Op.TheVariants as op
+use Rattle.joint_machine.specs.declared.events.Reply.TheVariants as says
+use Rattle.joint_machine.specs.Control.{caller_place}
 use Rattle.order_table.specs.declared.views.KeptEntry.{KeptEntry}
 use Rattle.order_table.specs.declared.views.View.{View}
-use Rattle.joint_model.specs.HistoryLines.{caller_line}
+use Rattle.joint_machine.specs.HistoryLines.{caller_line}
 use Rattle.order_table.specs.Rows.{at}
 use Rattle.order_table.specs.Stages.{IsClosed, stage, deed, opens, ends}
 use Rattle.order_table.specs.Owed.{IsNumber, marked, target, has, is_freed, says_word, read_of, word_of, pin}
 use Rattle.order_table.specs.Views.{IsInRole, IsNext, known, Owns}
 use Rattle.order_table.specs.Allowed.{SaysPending}
-use Rattle.joint_model.specs.Lines.{IsThread}
+use Rattle.joint_machine.specs.Lines.{IsThread}
 
 -- an entry of the history, with the line of the role in whose list it stands
 pub record Item : Type 0 where
@@ -68,8 +69,8 @@ pub record HasBit (word : ℕ) (owns : List Bool) (bit : ℕ) : Type 0 where
   pub role : at false owns (1 + reader) ≡ true
   pub set : bit_at word reader ≡ 1
 
--- what a view says of the gate: the owner of the managed list says whether it is held, nobody else knows the cycle that it is
--- held for as ended, and who is inside, or owes a bit, has its bit in the word
+-- what a view says of the gate: the owner of the managed list says whether it is held, nobody else knows the cycle that
+-- it is held for as ended, and who is inside, or owes a bit, has its bit in the word
 pub record Gates (gate word : ℕ) (v : View) : Type 0 where
   pub owner : Owns v 0 → v.holds ≡ gate
   pub other : at false v.owns 0 ≡ false → (v.holds ≡ 0) × (0 < gate → stage (known v 0) ≤ 2 * gate)
@@ -79,7 +80,8 @@ pub record Gates (gate word : ℕ) (v : View) : Type 0 where
   pub owes : 0 < v.owes → HasBit word v.owns v.owes
   pub one : 0 < v.inside → v.owes ≡ 0
 
--- the gate is held for the next cycle, for the open one, or for the one that has ended last; while a cycle is open it is held
+-- the gate is held for the next cycle, for the open one, or for the one that has ended last; while a cycle is open it
+-- is held
 abbrev pub IsHeldFor : ℕ → ℕ → Type 0
 IsHeldFor gate stage = (gate ≡ 0 → (q : ℕ) × (stage ≡ 2 * q + 1)) × (0 < gate → (2 * gate ≤ stage + 1) × (stage ≤ 2 * gate + 1))
 
@@ -107,8 +109,8 @@ Unknown ml own k = (a b : KeptEntry) → Stands ml a → deed a.entry.made.op �
 abbrev pub SetsCell : KeptEntry → ℕ → Type 0
 SetsCell k c = (m : ℕ) × (marked k ≡ Some (c, m))
 
--- what a word of a cell says to a caller with these own entries: 0, that it is unset as far as the caller can know; 1, that its
--- target is freed; another, that its target is the object, which isn't freed
+-- what a word of a cell says to a caller with these own entries: 0, that it is unset as far as the caller can know; 1,
+-- that its target is freed; another, that its target is the object, which isn't freed
 pub record ReadsWord (ml own : List KeptEntry) (c w : ℕ) : Type 0 where
   pub unknown : w ≡ 0 → (a b : KeptEntry) → Stands ml a → SetsCell a c → Stands ml b → a.entry.number < b.entry.number → IsBelow b.entry.number own
   pub not_own : w ≡ 0 → (y : KeptEntry) → Stands own y → SetsCell y c → ⊥
@@ -172,8 +174,8 @@ pub record IsStale (ml : List KeptEntry) (gate c w : ℕ) : Type 0 where
 abbrev pub CellIs : List KeptEntry → ℕ → Bool → ℕ → ℕ → Type 0
 CellIs ml gate owed c w = (w ≡ says_word ml c) ⊎ ((owed ≡ true) × (IsFresh ml c w ⊎ IsStale ml gate c w))
 
--- who owns the managed list owes these words; as long as one is owed nobody else knows the last managed entry. What a caller's own
--- line has of cells, its seat knows from the managed list as well
+-- who owns the managed list owes these words; as long as one is owed nobody else knows the last managed entry. What a
+-- caller's own line has of cells, its seat knows from the managed list as well
 pub record Debts (ml : List KeptEntry) (debt : ℕ → Bool) (v : View) : Type 0 where
   pub owner : Owns v 0 → (c : ℕ) → at false v.debts c ≡ debt c
   pub heard_owner : at false v.heard_owns 0 ≡ true → (c : ℕ) → at false v.debts c ≡ debt c
@@ -214,8 +216,8 @@ abbrev pub those_below : ℕ → List KeptEntry → List KeptEntry
 those_below n [] = []
 those_below n (k ∷ ks) = if nat_lt k.entry.number n then k ∷ those_below n ks else those_below n ks
 
--- a reader's pin holds the object from a number on: the object is a cell's target, no managed entry below the number frees it,
--- no cycle is open at the number, and each snap from there on keeps the object among its pins
+-- a reader's pin holds the object from a number on: the object is a cell's target, no managed entry below the number
+-- frees it, no cycle is open at the number, and each snap from there on keeps the object among its pins
 pub record IsHeld (ml : List KeptEntry) (r m : ℕ) : Type 0 where
   pub cell : ℕ
   pub aims : target ml cell ≡ Some m
@@ -228,14 +230,15 @@ pub record IsHeld (ml : List KeptEntry) (r m : ℕ) : Type 0 where
 abbrev pub Scans : List Item → View → Type 0
 Scans whole v = Owns v 0 → IsNext v v.holds → (r w : ℕ) → 0 < r → r < 9 → at None v.scanned r ≡ Some w → w ≡ pin (of_line (r + 10) whole)
 
--- the line's owner is a seat that there is or was: it owns the line, or has taken in a seat that did, and not yet compared
+-- the line's owner is a seat that there is or was: it owns the line, or has taken in a seat that did, and not yet
+-- compared
 pub record HasOwner (views : List View) (i j : ℕ) : Type 0 where
   pub view : View
   pub there : get_elem? views j ≡ some view
   pub owns : Owns view i ⊎ (at false view.heard_owns i ≡ true)
 
--- the rule. The history and the owner of each line are its own data, and the cycle that the gate is held for; the views are those of all seats
--- that there ever were, so that of a seat that was dropped stays too
+-- the rule. The history and the owner of each line are its own data, and the cycle that the gate is held for; the views
+-- are those of all seats that there ever were, so that of a seat that was dropped stays too
 pub record Ordered (s : State (Unit {0}) View) : Type 0 where
   pub whole : List Item
   pub owner : ℕ → ℕ

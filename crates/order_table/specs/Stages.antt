@@ -1,8 +1,8 @@
--- What entries say of the driver's cycles. (SGen's bridge header: bridge processing is in progress from the snapshot of the dead part
--- until the client has answered.)
+-- What entries say of the driver's cycles. (SGen's bridge header: bridge processing is in progress from the snapshot of
+-- the dead part until the client has answered.)
 use Rattle.std.specs.Prelude.{◌≡◌, ℕ, ◌+◌, ◌*◌, max, List, [], ◌∷◌}
-use Rattle.joint_model.specs.declared.events.Op.{Op}
-use Rattle.joint_model.specs.declared.events.Op.TheVariants as op
+use Rattle.joint_machine.specs.declared.events.Op.{Op}
+use Rattle.joint_machine.specs.declared.events.Op.TheVariants as op
 use Rattle.order_table.specs.declared.views.KeptEntry.{KeptEntry}
 
 -- what an entry does to the cycles: it opens one, it ends one, or neither
@@ -17,7 +17,8 @@ deed (op.Resolve k) = ends k.0
 deed (op.Abandon k) = ends k.0
 deed _ = neither
 
--- how far the cycles have come in a managed list: 2 k where cycle k is open, 2 k + 1 where it has ended and no later one is open
+-- how far the cycles have come in a managed list: 2 k where cycle k is open, 2 k + 1 where it has ended and no later
+-- one is open
 abbrev pub stage_after : ℕ → Deed → ℕ
 stage_after s (opens k) = max s (2 * k)
 stage_after s (ends k) = max s (2 * k + 1)

@@ -2,14 +2,14 @@
 use Rattle.std.specs.Prelude.{◌≡◌, ◌⊎◌, ℕ, ◌+◌, ◌-◌, ◌/◌, ◌<◌, ◌≤◌, ◌==◌, if◌then◌else◌, true, false, List, [], ◌∷◌, ◌++◌, Option}
 use mathlib.Core.List.{IsPrefix}
 use Rattle.atomic_table.specs.Table.{Step, Me}
-use Rattle.joint_model.specs.declared.names.MNum.{MNum}
-use Rattle.joint_model.specs.declared.names.Thread.{Thread}
-use Rattle.joint_model.specs.declared.names.Thread.TheVariants.{M}
-use Rattle.joint_model.specs.declared.events.Made.{Made}
+use Rattle.joint_machine.specs.declared.names.MNum.{MNum}
+use Rattle.joint_machine.specs.declared.names.Thread.{Thread}
+use Rattle.joint_machine.specs.declared.names.Thread.TheVariants.{M}
+use Rattle.joint_machine.specs.declared.events.Made.{Made}
 use Rattle.order_table.specs.declared.views.Role.{Role}
 use Rattle.order_table.specs.declared.views.KeptEntry.{KeptEntry}
 use Rattle.order_table.specs.declared.views.View.{View}
-use Rattle.joint_model.specs.HistoryLines.{caller_line}
+use Rattle.joint_machine.specs.HistoryLines.{caller_line}
 use Rattle.order_table.specs.Rows.{at}
 use Rattle.order_table.specs.Stages.{IsClosed}
 use Rattle.order_table.specs.Owed.{pin}
@@ -23,7 +23,8 @@ pub record BeginsOneHistory (w : View) : Type 0 where
   pub numbers : RunsFrom 0 whole
   pub begins : (i : ℕ) → IsPrefix (known w i) (of_line i whole)
 
--- the entry has the number found, which is greater than all that the seat knew and which no other entry of the one history has
+-- the entry has the number found, which is greater than all that the seat knew and which no other entry of the one
+-- history has
 abbrev pub Appended : ℕ → Made → Option MNum → List MNum → Step (Unit {0}) → Me (Unit {0}) View → ℕ → Me (Unit {0}) View → Type 0
 Appended role made target freed st m n m' = (m'.1 ≡ m.1) × (m'.0 ≡ appended m.0 role (kept m.0 made target freed n)) × ((i : ℕ) → IsBelow n (known m.0 i)) × BeginsOneHistory m'.0
 
@@ -77,8 +78,8 @@ pub record Parts (Goes : ℕ → Type 0) (old left right : View) : Type 0 where
   pub had : (i : ℕ) → (Owns left i → Owns old i) × (Owns right i → Owns old i)
   pub know : (i : ℕ) → (known left i ≡ known old i) × (known right i ≡ known old i)
 
--- a seat took another one in: it owns what both owned, and knows of each line the longer list, which both begin; and of a line that one of
--- them owned just what that one knew
+-- a seat took another one in: it owns what both owned, and knows of each line the longer list, which both begin; and of
+-- a line that one of them owned just what that one knew
 pub record TakesIn (old other new : View) : Type 0 where
   pub owns : (i : ℕ) → (Owns old i ⊎ Owns other i → Owns new i) × (Owns new i → Owns old i ⊎ Owns other i)
   pub either : (i : ℕ) → (known new i ≡ known old i) ⊎ (known new i ≡ known other i)
@@ -87,7 +88,8 @@ pub record TakesIn (old other new : View) : Type 0 where
   pub owned : (i : ℕ) → Owns old i → known new i ≡ known old i
   pub taken : (i : ℕ) → Owns other i → known new i ≡ known other i
 
--- the seat is inside, or found the gate held for a cycle that it doesn't know as ended; the owner of the managed list finds what it says itself
+-- the seat is inside, or found the gate held for a cycle that it doesn't know as ended; the owner of the managed list
+-- finds what it says itself
 abbrev pub Entered : Step (Unit {0}) → Me (Unit {0}) View → ℕ → Me (Unit {0}) View → Type 0
 Entered st m n m' = (m'.1 ≡ m.1) × (m'.0 ≡ entered st.first n m.0) × (0 < n / 512 → ¬ IsEnded m.0 (n / 512)) × (Owns m.0 0 → (n / 512 ≡ m.0.holds) × (n / 512 ≡ 0 → IsClosed (known m.0 0))) × (n / 512 < 4294967296)
 
@@ -104,7 +106,8 @@ Closed cycle st m n m' = (m'.1 ≡ m.1) × (m'.0 ≡ (if n == 0 then record m.0 
 abbrev pub Opened : Step (Unit {0}) → Me (Unit {0}) View → ℕ → Me (Unit {0}) View → Type 0
 Opened st m n m' = (m'.1 ≡ m.1) × (m'.0 ≡ record m.0 { holds = 0 })
 
--- what a loaded word tells: the owner, that it is what its managed list says, or what it was before where it is still to be stored; anybody who owes nothing, that it isn't 0 where it knows the cell as set
+-- what a loaded word tells: the owner, that it is what its managed list says, or what it was before where it is still
+-- to be stored; anybody who owes nothing, that it isn't 0 where it knows the cell as set
 abbrev pub LoadedCell : Step (Unit {0}) → Me (Unit {0}) View → ℕ → Me (Unit {0}) View → Type 0
 LoadedCell st m n m' = (m'.1 ≡ m.1) × (m'.0 ≡ loading (st.word - 2) n m.0) × (Owns m.0 0 → CellIs (known m.0 0) m.0.holds (at false m.0.debts (st.word - 2)) (st.word - 2) n)
     × (NoDebt m.0 → n ≡ 0 → (y : KeptEntry) → Stands (known m.0 0) y → SetsCell y (st.word - 2) → ⊥) × (n ≤ 4294967296)
@@ -112,7 +115,8 @@ LoadedCell st m n m' = (m'.1 ≡ m.1) × (m'.0 ≡ loading (st.word - 2) n m.0) 
 abbrev pub StoredCell : Step (Unit {0}) → Me (Unit {0}) View → ℕ → Me (Unit {0}) View → Type 0
 StoredCell st m n m' = (m'.1 ≡ m.1) × (m'.0 ≡ storing (st.word - 2) m.0)
 
--- who owes nothing finds of its own pin what its own entries leave; the owner of the managed list, that the object has been held
+-- who owes nothing finds of its own pin what its own entries leave; the owner of the managed list, that the object has
+-- been held
 abbrev pub LoadedPin : Step (Unit {0}) → Me (Unit {0}) View → ℕ → Me (Unit {0}) View → Type 0
 LoadedPin st m n m' = (m'.1 ≡ m.1) × (m'.0 ≡ scanning (st.word - 65) n m.0) × ((r : ℕ) → st.word ≡ 65 + r → 0 < r → r < 9 → Owns m.0 (r + 10) → m.0.fill ≡ 0 → m.0.empty ≡ 0 → n ≡ pin (known m.0 (r + 10)))
     × ((r o : ℕ) → st.word ≡ 65 + r → 0 < r → r < 9 → Owns m.0 0 → m.0.empty ≡ 0 → n ≡ o + 1 → IsHeld (known m.0 0) r o)

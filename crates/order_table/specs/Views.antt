@@ -1,25 +1,25 @@
--- What a seat knows. A line is the list of one role's entries or of one caller's: the lines 0 to 9 are those of the roles, and
--- the lines from 10 on those of the callers. A seat that owns a role's line owns the role; one that owns a caller's line holds
--- that caller's pass.
+-- What a seat knows. A line is the list of one role's entries or of one caller's: the lines 0 to 9 are those of the
+-- roles, and the lines from 10 on those of the callers. A seat that owns a role's line owns the role; one that owns a
+-- caller's line holds that caller's pass.
 use Rattle.std.specs.Prelude.{◌≡◌, ℕ, ◌+◌, ◌-◌, ◌*◌, ◌/◌, ◌<◌, ◌≤◌, ◌==◌, ◌&&◌, not, nat_lt, if◌then◌else◌, Bool, true, false, List, [], ◌∷◌, ◌++◌, replicate, Option, Some, None}
 use Rattle.atomic_table.specs.Seated.{TableId}
-use Rattle.joint_model.specs.declared.names.MNum.{MNum}
-use Rattle.joint_model.specs.declared.names.Thread.{Thread}
-use Rattle.joint_model.specs.declared.names.Thread.TheVariants.{M}
-use Rattle.joint_model.specs.declared.lines.Act.TheVariants as act
-use Rattle.joint_model.specs.declared.events.Op.{Op}
-use Rattle.joint_model.specs.declared.events.Op.TheVariants as op
-use Rattle.joint_model.specs.declared.events.Made.{Made}
-use Rattle.joint_model.specs.declared.events.Reply.{Reply}
-use Rattle.joint_model.specs.declared.events.Reply.TheVariants as says
-use Rattle.joint_model.specs.Control.{caller_place}
-use Rattle.joint_model.specs.Draws.{numbered}
-use Rattle.joint_model.specs.Lines.{is_peer_event, is_read}
+use Rattle.joint_machine.specs.declared.names.MNum.{MNum}
+use Rattle.joint_machine.specs.declared.names.Thread.{Thread}
+use Rattle.joint_machine.specs.declared.names.Thread.TheVariants.{M}
+use Rattle.joint_machine.specs.declared.lines.Act.TheVariants as act
+use Rattle.joint_machine.specs.declared.events.Op.{Op}
+use Rattle.joint_machine.specs.declared.events.Op.TheVariants as op
+use Rattle.joint_machine.specs.declared.events.Made.{Made}
+use Rattle.joint_machine.specs.declared.events.Reply.{Reply}
+use Rattle.joint_machine.specs.declared.events.Reply.TheVariants as says
+use Rattle.joint_machine.specs.Control.{caller_place}
+use Rattle.joint_machine.specs.Draws.{numbered}
+use Rattle.joint_machine.specs.Lines.{is_peer_event, is_read}
 use Rattle.order_table.specs.declared.views.Role.{Role}
 use Rattle.order_table.specs.declared.views.Role.TheVariants as role
 use Rattle.order_table.specs.declared.views.KeptEntry.{KeptEntry}
 use Rattle.order_table.specs.declared.views.View.{View}
-use Rattle.joint_model.specs.HistoryLines.{caller_line}
+use Rattle.joint_machine.specs.HistoryLines.{caller_line}
 use Rattle.order_table.specs.Rows.{at, put, longest, joined, common, without}
 use Rattle.order_table.specs.Stages.{stage}
 use Rattle.order_table.specs.Owed.{IsNumber, PinDeed, pin_deed, pin, owing, fill_after, empty_after, owes_after, by_place, pin_row, target_told, freed_told}
@@ -58,7 +58,8 @@ IsAnswer says.Gone = Unit {0}
 IsAnswer (says.M m) = IsNumber m.0
 IsAnswer _ = ⊥
 
--- in whose list an event stands: a read in that of its thread's reader, an event of the peer side in the peer's, and all else in the managed one
+-- in whose list an event stands: a read in that of its thread's reader, an event of the peer side in the peer's, and
+-- all else in the managed one
 pub record IsInRole (r : ℕ) (m : Made) : Type 0 where
   pub one : r < 10
   pub managed : r ≡ 0 → (is_read m.op ≡ false) × (is_peer_event m.caller m.op ≡ false)
@@ -83,7 +84,8 @@ pub record IsCompared (v : View) : Type 0 where
   pub owns : v.heard_owns ≡ []
   pub holds : v.heard_holds ≡ 0
 
--- the words of pins that are kept with an entry: with a snapshot those that the seat scanned, with a `take` that of its caller's pin
+-- the words of pins that are kept with an entry: with a snapshot those that the seat scanned, with a `take` that of its
+-- caller's pin
 abbrev pub pins_kept : View → Thread → Op → List ℕ
 pins_kept v t (op.Snap k) = pin_row v.scanned
 pins_kept v t (op.Line (act.Take x)) = put 0 [] (caller_place t) (pin (known v (caller_line t)))
@@ -145,7 +147,8 @@ learned v = record v {
   scanned = [];
 }
 
--- the lines that a seat gives away: a role's; those that a caller takes along, its own and for a managed thread that of its reader; none
+-- the lines that a seat gives away: a role's; those that a caller takes along, its own and for a managed thread that of
+-- its reader; none
 abbrev pub lines_of_role : Role → List Bool
 lines_of_role r = put false [] (role_line r) true
 

@@ -3,8 +3,8 @@
 use crate::seats::Seat;
 use std::marker::Model;
 
-/// A finished order. Contracts see the view of a seat that knows all of it: of each role and of each caller the whole list, with what is
-/// kept beside its entries.
+/// A finished order. Contracts see the view of a seat that knows all of it: of each role and of each caller the whole
+/// list, with what is kept beside its entries.
 #[derive(Drop)]
 pub struct Linked {
     pub(crate) note: Seat,

@@ -6,8 +6,9 @@ ghost use Rattle.order_table.specs.Rule.{AreLinesOfOneHistory};
 ghost use Rattle.order_table.specs.Facts.{RuleKeepsLists, RolesDiffer, CallersDiffer, EntriesTellLines};
 ghost use Rattle.order_table.specs.Replies.{RepliesAreRight, PinsAreReplayed, KeptPinsAreRight};
 
-/// Between any two steps, whatever seats were dropped: each line has a whole list, of which each seat knows a beginning and its one owner all;
-/// the numbers in the roles' lists are those below the sequencer word, each once; and a caller's list has just that caller's entries.
+/// Between any two steps, whatever seats were dropped: each line has a whole list, of which each seat knows a beginning
+/// and its one owner all; the numbers in the roles' lists are those below the sequencer word, each once; and a caller's
+/// list has just that caller's entries.
 pub fn rule_keeps_lists()
     ensures law { RuleKeepsLists }
 {}
@@ -33,7 +34,8 @@ pub fn pins_are_replayed()
     ensures law { (lines : List (List KeptEntry)) (w : AreLinesOfOneHistory lines) → PinsAreReplayed w.whole }
 {}
 
-/// In a finished order the pins that are kept with a snapshot and with a `take` are those that the lines before it leave.
+/// In a finished order the pins that are kept with a snapshot and with a `take` are those that the lines before it
+/// leave.
 pub fn kept_pins_are_right()
     ensures law { (lines : List (List KeptEntry)) (w : AreLinesOfOneHistory lines) → KeptPinsAreRight w.whole }
 {}

@@ -1,11 +1,11 @@
 // The order and its calls.
 
 ghost use Rattle.std.specs.Prelude.{◌≡◌, ◌⊎◌, ◌<◌, ◌≤◌, ◌+◌, ◌^◌, ◌==◌, if◌then◌else◌, ℕ, Bool, true, false, [], Some, None, length, slice_get, IfOk, OnOk, IfErr, MatchResult, count_ones};
-ghost use Rattle.joint_model.specs.declared.names.Thread.{Thread};
-ghost use Rattle.joint_model.specs.Lines.{IsThread};
+ghost use Rattle.joint_machine.specs.declared.names.Thread.{Thread};
+ghost use Rattle.joint_machine.specs.Lines.{IsThread};
 ghost use Rattle.order_table.specs.declared.views.View.{View};
 ghost use Rattle.order_table.specs.declared.views.KeptEntry.{KeptEntry};
-ghost use Rattle.joint_model.specs.HistoryLines.{caller_line};
+ghost use Rattle.joint_machine.specs.HistoryLines.{caller_line};
 ghost use Rattle.order_table.specs.Rows.{at, put};
 ghost use Rattle.order_table.specs.Stages.{IsClosed};
 ghost use Rattle.order_table.specs.Owed.{IsLoaded, all_scanned, marked, owes_after, pin, says_word, pin_row, scanned_row};
@@ -22,7 +22,7 @@ use crate::plays::{
 use crate::seats::Seat;
 use crate::views::{Role, View};
 use atomic_table::Table;
-use joint_model::{Cell, Cycle, MNum, Made, Thread};
+use joint_machine::{Cell, Cycle, MNum, Made, Thread};
 use std::alloc::{AllocError, Global};
 use std::marker::{Brand, Model};
 
@@ -65,8 +65,8 @@ fn bit_of(reader: u8) -> u64
 }
 
 impl Order {
-    /// An order without entries, and the one seat of it, which owns every role and holds every caller's pass. It has room for eight
-    /// readers whatever `readers` is: what isn't handed out isn't used.
+    /// An order without entries, and the one seat of it, which owns every role and holds every caller's pass. It has
+    /// room for eight readers whatever `readers` is: what isn't handed out isn't used.
     pub fn new(alloc: Global, readers: u8) -> Result<(Order, Seat), AllocError>
         requires readers { readers ≤ 8 }
         ensures seat { IfOk result (λ r. (r.1.order ≡ r.0) × (r.1.view ≡ first_view)) }
@@ -107,13 +107,14 @@ impl Order {
             .fetch_add::<Append<W>>(&mut seat.inner, 0, 1)
     }
 
-    /// Makes an entry in the list of the role, and answers its number. No other entry has that number, and it is greater than every number
-    /// that the seat knew.
+    /// Makes an entry in the list of the role, and answers its number. No other entry has that number, and it is
+    /// greater than every number that the seat knew.
     ///
-    /// The entry's caller is `c`, one of `m1` to `m8` or one of `p1` to `p8`, and its event belongs in the role's list. `target` and `freed` are
-    /// kept beside the entry, for contracts alone. An entry of the managed list is made by a seat that owes no store: a snapshot while it holds the
-    /// gate for that cycle and has scanned all pins, and any other while it doesn't hold the gate or holds it for the open cycle. A reader's reply is one
-    /// that the seat's own steps since its last entry allow.
+    /// The entry's caller is `c`, one of `m1` to `m8` or one of `p1` to `p8`, and its event belongs in the role's list.
+    /// `target` and `freed` are kept beside the entry, for contracts alone. An entry of the managed list is made by a
+    /// seat that owes no store: a snapshot while it holds the gate for that cycle and has scanned all pins, and any
+    /// other while it doesn't hold the gate or holds it for the open cycle. A reader's reply is one that the seat's own
+    /// steps since its last entry allow.
     pub fn append(
         &self,
         seat: &mut Seat,
@@ -186,8 +187,8 @@ impl Order {
         self.cut_role::<Brand>(seat, role)
     }
 
-    /// A new seat that holds the caller's pass, which this one gives away; for a managed thread also with the role of that reader, if this
-    /// one owned it. Both know what this one knew.
+    /// A new seat that holds the caller's pass, which this one gives away; for a managed thread also with the role of
+    /// that reader, if this one owned it. Both know what this one knew.
     pub fn hand(&self, seat: &mut Seat, t: Thread) -> Seat
         requires seat { seat.old.order ≡ self.now }
         requires settled { Settled seat.old.view }
@@ -212,8 +213,9 @@ impl Order {
         self.cut::<NoLine>(seat)
     }
 
-    /// Takes another seat in. Afterwards this one owns the roles and holds the passes of both, and knows of each line the longer list, which
-    /// the other begins; of a line that one of the two owned it knows what that one knew; and all that it knows is of one history.
+    /// Takes another seat in. Afterwards this one owns the roles and holds the passes of both, and knows of each line
+    /// the longer list, which the other begins; of a line that one of the two owned it knows what that one knew; and
+    /// all that it knows is of one history.
     pub fn learn(&self, seat: &mut Seat, other: Seat)
         requires seat { seat.old.order ≡ self.now }
         requires settled { Settled seat.old.view }
@@ -231,8 +233,8 @@ impl Order {
 
     /// A reader goes inside, or finds the gate held, with the cycle for which it is.
     ///
-    /// Answers `Pending` only where its own step found the gate held, and never where the seat knows that cycle as ended. To a seat that owns
-    /// the managed list it comes exactly while that list has an open cycle.
+    /// Answers `Pending` only where its own step found the gate held, and never where the seat knows that cycle as
+    /// ended. To a seat that owns the managed list it comes exactly while that list has an open cycle.
     pub fn enter(&self, seat: &mut Seat, reader: u8) -> Result<(), Pending>
         requires seat { seat.old.order ≡ self.now }
         requires settled { Settled seat.old.view }
@@ -283,7 +285,8 @@ impl Order {
             .compare_exchange::<Close<W>>(&mut seat.inner, 1, 0, 512 * cycle.0 as u64)
     }
 
-    /// Closes the gate for the next cycle, if no reader's bit is in the word. Answers `Readers` exactly where this call's own step found some.
+    /// Closes the gate for the next cycle, if no reader's bit is in the word. Answers `Readers` exactly where this
+    /// call's own step found some.
     pub fn try_close_gate(&self, seat: &mut Seat, cycle: Cycle) -> Result<(), Readers>
         requires seat { seat.old.order ≡ self.now }
         requires owner { Owns seat.old.view 0 × (seat.old.view.holds ≡ 0) }
@@ -313,8 +316,9 @@ impl Order {
         self.table.shared.fetch_and::<Open>(&mut seat.inner, 1, 511);
     }
 
-    /// Loads the word of a cell: 0 for unset, 1 for gone, and else the object's number and 1. To a seat that owns the managed list it is what that list
-    /// says, or where it is still to be stored what it was before. To any seat that owes no store it isn't 0 where the seat knows the cell as set.
+    /// Loads the word of a cell: 0 for unset, 1 for gone, and else the object's number and 1. To a seat that owns the
+    /// managed list it is what that list says, or where it is still to be stored what it was before. To any seat that
+    /// owes no store it isn't 0 where the seat knows the cell as set.
     pub fn load_cell(&self, seat: &mut Seat, cell: Cell) -> u64
         requires seat { seat.old.order ≡ self.now }
         requires cell { cell.0 < 64 }
@@ -346,9 +350,9 @@ impl Order {
             .store::<StoreCell>(&mut seat.inner, 2 + cell.0 as usize, word);
     }
 
-    /// Loads the word of a reader's pin: 0 where it is empty, and else the object's number and 1. To a seat that holds that thread's pass and owes no
-    /// store it is what the thread's own entries leave. To a seat that owns the managed list and owes no clearing the object has been held since some
-    /// number, at which no cycle was open.
+    /// Loads the word of a reader's pin: 0 where it is empty, and else the object's number and 1. To a seat that holds
+    /// that thread's pass and owes no store it is what the thread's own entries leave. To a seat that owns the managed
+    /// list and owes no clearing the object has been held since some number, at which no cycle was open.
     pub fn load_pin(&self, seat: &mut Seat, reader: u8) -> u64
         requires seat { seat.old.order ≡ self.now }
         requires reader { (0 < reader) × (reader < 9) }
@@ -364,7 +368,8 @@ impl Order {
             .load::<LoadPin>(&mut seat.inner, 65 + reader as usize)
     }
 
-    /// Loads the words of all eight pins, by reader from 1 on, as the next snapshot keeps them. The seat has just closed the gate, and owes no store.
+    /// Loads the words of all eight pins, by reader from 1 on, as the next snapshot keeps them. The seat has just
+    /// closed the gate, and owes no store.
     pub fn scan_pins(&self, seat: &mut Seat) -> [u64; 8]
         requires seat { seat.old.order ≡ self.now }
         requires owner { Owns seat.old.view 0 × (0 < seat.old.view.holds) × (seat.old.view.scanned ≡ []) }
@@ -400,7 +405,8 @@ impl Order {
             .store::<StorePin>(&mut seat.inner, 65 + reader as usize, word);
     }
 
-    /// Stores an object into a reader's pin. The seat holds that thread's pass, and the thread's own entries leave the object in the pin.
+    /// Stores an object into a reader's pin. The seat holds that thread's pass, and the thread's own entries leave the
+    /// object in the pin.
     pub fn store_pin(&self, seat: &mut Seat, reader: u8, m: MNum)
         requires seat { seat.old.order ≡ self.now }
         requires reader { (0 < reader) × (reader < 9) }
@@ -422,8 +428,8 @@ impl Order {
         self.set_pin(seat, reader, 0);
     }
 
-    /// Ends the order. The seat owns every role and holds every caller's pass, so what it knows is the whole history: each role's list and
-    /// each caller's, with the numbers from 0 on, each once.
+    /// Ends the order. The seat owns every role and holds every caller's pass, so what it knows is the whole history:
+    /// each role's list and each caller's, with the numbers from 0 on, each once.
     pub fn finish(self, mut seat: Seat) -> Linked
         requires seat { (seat.order ≡ self) × Settled seat.view }
         requires all { OwnsAll seat.view }

@@ -1,11 +1,11 @@
 // What each atomic step does to a seat's view and tells its caller. These types are for the proofs alone.
 
 ghost use Rattle.std.specs.Prelude.{◌≡◌, ℕ, List, [], Bool, Option, None};
-ghost use Rattle.joint_model.specs.declared.names.MNum.{MNum};
-ghost use Rattle.joint_model.specs.declared.names.Thread.TheVariants.{C};
-ghost use Rattle.joint_model.specs.declared.events.Made.{Made};
-ghost use Rattle.joint_model.specs.declared.events.Op.TheVariants as op;
-ghost use Rattle.joint_model.specs.declared.events.Reply.TheVariants as says;
+ghost use Rattle.joint_machine.specs.declared.names.MNum.{MNum};
+ghost use Rattle.joint_machine.specs.declared.names.Thread.TheVariants.{C};
+ghost use Rattle.joint_machine.specs.declared.events.Made.{Made};
+ghost use Rattle.joint_machine.specs.declared.events.Op.TheVariants as op;
+ghost use Rattle.joint_machine.specs.declared.events.Reply.TheVariants as says;
 ghost use Rattle.order_table.specs.Views.{first_view, giving, given, hearing, lines_of_none, spent_view};
 ghost use Rattle.order_table.specs.Rule.{Ordered};
 ghost use Rattle.order_table.specs.Tells.{Appended, Compared, Entered, GaveBack, Left, Closed, Opened, LoadedCell, StoredCell, LoadedPin, StoredPin};

@@ -3,9 +3,10 @@
 use crate::views::View;
 use std::marker::{Brand, Model};
 
-/// Names one order, and for how many managed and how many peer threads its run is, so that types behind a lock can keep that their seats are
-/// those of the order beside the lock, and that they are for the run's threads. A run makes its order first and then does all its work in a
-/// function that is generic over `N: OrderName` and that is called at `Brand`.
+/// Names one order, and for how many managed and how many peer threads its run is, so that types behind a lock can keep
+/// that their seats are those of the order beside the lock, and that they are for the run's threads. A run makes its
+/// order first and then does all its work in a function that is generic over `N: OrderName` and that is called at
+/// `Brand`.
 pub trait OrderName {
     ghost use Rattle.std.specs.Prelude.{ℕ};
     ghost use Rattle.order_table.specs.Views.{OrderId};
@@ -27,7 +28,8 @@ impl OrderName for Brand {
     ghost peers = { 0 };
 }
 
-/// What a thread knows of an order, and what it may add. It takes no bytes, and contracts see which order it is of, and its view.
+/// What a thread knows of an order, and what it may add. It takes no bytes, and contracts see which order it is of, and
+/// its view.
 #[derive(Drop)]
 pub struct Seat {
     pub(crate) inner: atomic_table::Seat<(), View>,

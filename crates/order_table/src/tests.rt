@@ -1,15 +1,16 @@
-// Two sides draw numbers from one order at the same time, which is the most that may: each list has one owner. What the contracts promise
-// of the numbers is looked at in the program as it runs. And the words of the gate, of a cell and of a pin, as one thread finds them.
+// Two sides draw numbers from one order at the same time, which is the most that may: each list has one owner. What the
+// contracts promise of the numbers is looked at in the program as it runs. And the words of the gate, of a cell and of
+// a pin, as one thread finds them.
 
 ghost use Rattle.std.specs.Prelude.{◌≡◌, ◌⊎◌, ◌<◌, [], None};
-ghost use Rattle.joint_model.specs.declared.events.Op.TheVariants as op;
-ghost use Rattle.joint_model.specs.Lines.{IsThread};
-ghost use Rattle.joint_model.specs.HistoryLines.{caller_line};
+ghost use Rattle.joint_machine.specs.declared.events.Op.TheVariants as op;
+ghost use Rattle.joint_machine.specs.Lines.{IsThread};
+ghost use Rattle.joint_machine.specs.HistoryLines.{caller_line};
 ghost use Rattle.order_table.specs.Views.{IsRole, IsInRole, role_line, known, Owns, OwnsAll, first_view};
 ghost use Rattle.order_table.specs.Allowed.{Settled};
 
 use crate::{Order, OrderName, Role, Seat};
-use joint_model::{Act, Cell, Cycle, MNum, Made, Op, Reply, Span, Thread, Var};
+use joint_machine::{Act, Cell, Cycle, MNum, Made, Op, Reply, Span, Thread, Var};
 use std::alloc::{AllocError, Global};
 use std::marker::{Brand, Model, PhantomData};
 use std::test::Fail;
@@ -49,8 +50,8 @@ struct NamedOrder<N: OrderName> {
     ghost named: { order ≡ N.order },
 }
 
-// A side's seat, which owns its role and holds the pass of its caller; how many numbers it drew, their sum, the one above the last, and whether
-// they rose.
+// A side's seat, which owns its role and holds the pass of its caller; how many numbers it drew, their sum, the one
+// above the last, and whether they rose.
 #[derive(Drop)]
 struct Side<N: OrderName> {
     role: Role,
@@ -65,9 +66,9 @@ struct Side<N: OrderName> {
 
 impl<N: OrderName> Model for Side<N> {
     ghost use Rattle.std.specs.Prelude.{◌≡◌, ◌<◌, length};
-    ghost use Rattle.joint_model.specs.Lines.{IsThread};
+    ghost use Rattle.joint_machine.specs.Lines.{IsThread};
     ghost use Rattle.order_table.specs.declared.views.Role.{Role};
-    ghost use Rattle.joint_model.specs.HistoryLines.{caller_line};
+    ghost use Rattle.joint_machine.specs.HistoryLines.{caller_line};
     ghost use Rattle.order_table.specs.Views.{IsRole, Owns, known, role_line};
     ghost use Rattle.order_table.specs.Allowed.{Settled};
 
@@ -154,8 +155,8 @@ fn draw_on_threads<N: OrderName + Send + Sync, R: Threads + Sync>(
     )
 }
 
-// Whether each side's numbers rose, and both sides together drew each number once: their sum is that of the first so many, and where a
-// counter from nought on gives one twice, it is less.
+// Whether each side's numbers rose, and both sides together drew each number once: their sum is that of the first so
+// many, and where a counter from nought on gives one twice, it is less.
 fn are_right<N: OrderName>(sides: &[Side<N>]) -> bool {
     let mut sum = 0u64;
     for side in sides {

@@ -1,6 +1,6 @@
 // What a seat knows of the history.
 
-use joint_model::{Entry, MNum};
+use joint_machine::{Entry, MNum};
 
 /// In whose list an entry stands. Readers are numbered from 1 to 8.
 #[derive(Clone, Copy, PartialEq, Eq, Debug)]
@@ -41,7 +41,8 @@ pub struct View {
     pub found: u64,
     /// 0, or the cycle for which it holds the gate.
     pub holds: u64,
-    /// The cells that it loaded, with the words found, since it went inside and since its last entry, while it owed nothing.
+    /// The cells that it loaded, with the words found, since it went inside and since its last entry, while it owed
+    /// nothing.
     pub loads: [(u64, u64); 0],
     /// The cells whose words it still has to store.
     pub debts: [bool; 0],
@@ -49,6 +50,7 @@ pub struct View {
     pub fill: u64,
     /// 0, or the reader whose pin it has still to clear.
     pub empty: u64,
-    /// The words of the pins by reader that it loaded since it closed the gate and since its last entry, while it owed nothing.
+    /// The words of the pins by reader that it loaded since it closed the gate and since its last entry, while it owed
+    /// nothing.
     pub scanned: [Option<u64>; 0],
 }

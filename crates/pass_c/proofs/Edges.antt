@@ -6,7 +6,7 @@ use Rattle.std.proofs.lemmas.Bool.{cases_lt, eq-eqb, eqb-true}
 use Rattle.std.proofs.lemmas.List.{get_or_past}
 use Rattle.std.proofs.lemmas.List.FromFn.{length-map-range_with_len}
 use Rattle.std.proofs.lemmas.List.Elements.{All-contains, All-take, All-drop}
-use Rattle.joint_model.proofs.Members.{Contains-nil, Contains-map, Contains-map_cases, Contains-filter_from, Contains-filter_to}
+use Rattle.joint_machine.proofs.Members.{Contains-nil, Contains-map, Contains-map_cases, Contains-filter_from, Contains-filter_to}
 use Rattle.bridge_graph.specs.declared.graph.Node.{Node}
 use Rattle.bridge_graph.specs.declared.packing.Link.{Link}
 use Rattle.bridge_graph.specs.Packed.{IsPackedPart}

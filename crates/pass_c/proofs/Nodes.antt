@@ -1,4 +1,5 @@
--- The nodes of the kinds, one by one: their numbers rise, none is opaque, and the bridge nodes are those whose kinds aren't 0.
+-- The nodes of the kinds, one by one: their numbers rise, none is opaque, and the bridge nodes are those whose kinds
+-- aren't 0.
 use Rattle.std.proofs.Common.{◌≡◌, ◌≢◌, ℕ, zero, suc, ◌+◌, ◌<◌, ◌≤◌, ◌↔◌, ◌⊎◌, inl, inr, Bool, true, List, [], ◌∷◌, ◌++◌, length, map, get_or, slice_get, false, cond, Some, None, refl, sym, ap, subst, ◌∙◌, arith}
 use Rattle.std.specs.Prelude.{All, Contains, IsSome, is_some}
 use Rattle.std.proofs.Math.Dec.{eqb}
@@ -7,10 +8,10 @@ use Rattle.std.proofs.lemmas.Bool.{cases_lt, false≢true}
 use Rattle.std.proofs.lemmas.List.{get_or-map, get_or_past, length-map, length_push, map_push}
 use Rattle.std.proofs.lemmas.List.Elements.{All-map}
 use Rattle.std.proofs.lemmas.Option.{same_Some, slice_get_within, slice_get-get_or, get_or_from_slice_get}
-use Rattle.joint_model.proofs.Members.{at-Contains, All-members, last-or, Rises-push}
-use Rattle.joint_model.proofs.Numbered.{push-at_old, push-at_new}
-use Rattle.joint_model.specs.Components.{Rises}
-use Rattle.joint_model.specs.declared.names.HNum.{HNum}
+use Rattle.joint_machine.proofs.Members.{at-Contains, All-members, last-or, Rises-push}
+use Rattle.joint_machine.proofs.Numbered.{push-at_old, push-at_new}
+use Rattle.joint_machine.specs.Components.{Rises}
+use Rattle.joint_machine.specs.declared.names.HNum.{HNum}
 use Rattle.bridge_graph.specs.declared.graph.Node.{Node}
 use Rattle.bridge_graph.specs.Parts.{IsBridgeNode, numbers_of, opaque_at}
 use Rattle.pass_c.specs.Calls.{HasNodes, handle_by, node_at}

@@ -2,8 +2,8 @@
 use Rattle.std.proofs.Common.{◌≡◌, ℕ, zero, suc, ◌+◌, ◌<◌, ◌≤◌, inl, inr, List, [], ◌∷◌, ◌++◌, length, take, set, slice_get, Some, replicate, append_assoc, refl, sym, ap, subst, ◌∙◌, arith}
 use Rattle.std.proofs.lemmas.List.{append-nil, length-append, length-replicate, get_or-replicate}
 use Rattle.std.proofs.lemmas.Option.{slice_get-get_or}
-use Rattle.joint_model.proofs.Members.{last-or, take-next}
-use Rattle.joint_model.proofs.Numbered.{set-at_other, set-at_here}
+use Rattle.joint_machine.proofs.Members.{last-or, take-next}
+use Rattle.joint_machine.proofs.Numbered.{set-at_other, set-at_here}
 use Rattle.pass_c.specs.Found.{all_of, flat}
 
 flat-more : (xss : List (List ℕ)) (xs : List ℕ) → flat (xss ++ xs ∷ []) ≡ flat xss ++ xs

@@ -1,12 +1,12 @@
 -- The graph of the arrays, as it is made.
 use Rattle.std.specs.Prelude.{◌≡◌, ◌≢◌, ℕ, ◌+◌, ◌<◌, ◌≤◌, ◌⊎◌, ◌↔◌, List, length, Option, Some, None, false, if◌then◌else◌, nat_eq, slice_get, slice_index}
-use Rattle.joint_model.specs.declared.names.HNum.{HNum}
+use Rattle.joint_machine.specs.declared.names.HNum.{HNum}
 use Rattle.bridge_graph.specs.declared.graph.Node.{Node}
 use Rattle.bridge_graph.specs.Parts.{IsBridgeNode, NodeLeads, numbers_of}
 use Rattle.bridge_graph.specs.declared.packing.Link.{Link}
 use Rattle.pass_c.specs.declared.arrays.PassCounts.{PassCounts}
 use Rattle.pass_c.specs.Found.{AreCounted, AreShort, AreWritten, all_of}
-use Rattle.joint_model.specs.Components.{Rises}
+use Rattle.joint_machine.specs.Components.{Rises}
 
 -- a made graph has those bridge nodes and edges
 pub record IsMade (bridge : ℕ → Type 0) (edge : ℕ → ℕ → Type 0) (nodes : List Node) (rows : List (List ℕ)) : Type 0 where
@@ -30,7 +30,8 @@ pub record HasNodes (kinds : List ℕ) (n : ℕ) (nodes : List Node) : Type 0 wh
   pub each : (x : ℕ) → x < n → slice_get nodes x ≡ Some (node_at kinds x)
   pub rising : Rises (numbers_of nodes)
 
--- what an answer says of components and pairs: they stand in the arrays, or these are too short, and their numbers are told
+-- what an answer says of components and pairs: they stand in the arrays, or these are too short, and their numbers are
+-- told
 pub record Gives (comps : List (List ℕ)) (heavy : ℕ) (pairs : List (ℕ × ℕ)) (status : ℕ) (starts members : List ℕ) (xrefs : List Link) (counts : PassCounts) : Type 0 where
   pub counted : status ≢ 4 → AreCounted comps heavy pairs counts
   pub written : status ≡ 0 → AreWritten (all_of comps heavy) pairs starts members xrefs

@@ -1,7 +1,7 @@
 -- Heavy classes, put in place by pairs.
 use Rattle.std.specs.Prelude.{◌≡◌, ◌≢◌, ℕ, ◌<◌, ◌≤◌, ◌↔◌, Bool, ◌&&◌, not, nat_lt, nat_eq, List, length, Contains}
-use Rattle.joint_model.specs.Components.{IsCanonical, IsMember, IsPlainClass, Leads, PairsRise, first_at}
-use Rattle.joint_model.specs.Walks.{Mutual, Reached}
+use Rattle.joint_machine.specs.Components.{IsCanonical, IsMember, IsPlainClass, Leads, PairsRise, first_at}
+use Rattle.joint_machine.specs.Walks.{Mutual, Reached}
 use Rattle.bridge_graph.specs.declared.packing.Link.{Link}
 use Rattle.pass_c.specs.declared.arrays.PassCounts.{PassCounts}
 use Rattle.pass_c.specs.Found.{AreCounted, AreShort, AreWritten, LeadsInRow, all_of}
@@ -28,8 +28,8 @@ pub record AreExpandedBelow (starts targets : List ℕ) (n i : ℕ) (out : List 
 abbrev pub is_other : ℕ → ℕ → ℕ → Bool
 is_other n i y = nat_lt y n && not (nat_eq y i)
 
--- a component refers to another where heavy classes aren't reported: they differ, and some walk leads from the class of the first to the class of the second whose nodes
--- between lie in classes without a bridge node
+-- a component refers to another where heavy classes aren't reported: they differ, and some walk leads from the class of
+-- the first to the class of the second whose nodes between lie in classes without a bridge node
 abbrev pub IsJoined : (ℕ → Type 0) → (ℕ → ℕ → Type 0) → ℕ → ℕ → Type 0
 IsJoined bridge edge a b = (Mutual edge a b → ⊥) × Leads edge (IsPlainClass bridge edge) a b
 

@@ -1,6 +1,6 @@
 -- What the arrays of a call say: a graph before it, and components with their cross-references behind it.
 use Rattle.std.specs.Prelude.{◌≡◌, ◌≢◌, ℕ, ◌+◌, ◌<◌, ◌≤◌, ◌⊎◌, List, [], ◌∷◌, ◌++◌, length, map, take, replicate, All, Contains, Some, slice_get, slice_index, slice_index_or, slice_range}
-use Rattle.joint_model.specs.Components.{IsContraction}
+use Rattle.joint_machine.specs.Components.{IsContraction}
 use Rattle.bridge_graph.specs.declared.packing.Link.{Link}
 use Rattle.pass_c.specs.declared.arrays.PassCounts.{PassCounts}
 
@@ -16,7 +16,8 @@ HasEdge edges x y = Contains edges record { from = x; to = y }
 abbrev pub AreEdges : ℕ → List Link → Type 0
 AreEdges nodes edges = All (λ e. (e.from < nodes) × (e.to < nodes)) edges
 
--- an edge leads from x to y, in rows: y stands in the targets from the start of row x on, up to that of the next row, or up to the end
+-- an edge leads from x to y, in rows: y stands in the targets from the start of row x on, up to that of the next row,
+-- or up to the end
 abbrev pub LeadsInRow : List ℕ → List ℕ → ℕ → ℕ → Type 0
 LeadsInRow starts targets x y = (x < length starts) × Contains (slice_range targets (slice_index starts x) (slice_index_or starts (x + 1) (length targets))) y
 
@@ -50,7 +51,8 @@ pub record AreCounted (comps : List (List ℕ)) (heavy : ℕ) (pairs : List (ℕ
   pub members_count : counts.members ≡ length (flat (all_of comps heavy))
   pub xrefs_count : counts.xrefs ≡ length pairs
 
--- components and cross-references stand in the arrays: each component starts where those before it end, and their members stand one behind another
+-- components and cross-references stand in the arrays: each component starts where those before it end, and their
+-- members stand one behind another
 pub record AreWritten (comps : List (List ℕ)) (pairs : List (ℕ × ℕ)) (starts members : List ℕ) (xrefs : List Link) : Type 0 where
   pub starts_at : (c : ℕ) → c < length comps → slice_get starts c ≡ Some (length (flat (take c comps)))
   pub members_at : take (length (flat comps)) members ≡ flat comps

@@ -5,7 +5,7 @@ ghost use Rattle.pass_c.specs.Found.{AreEdges, AreInOrder, AreRows, HasEdge, IsB
 ghost use Rattle.pass_c.specs.Calls.{HasNodes, IsMade, IsTooLong, handle_by};
 
 use bridge_graph::{DeadGraph, Link, Node, pack_rows};
-use joint_model::{HNum, MNum};
+use joint_machine::{HNum, MNum};
 use std::alloc::{AllocError, Global};
 
 // The most nodes and the most edges of a graph.

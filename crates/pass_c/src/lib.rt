@@ -1,17 +1,19 @@
-// The exact component pass for programs in C: a call reads a graph that lies in the caller's arrays, and writes its components and cross-references
-// into others. docs/C-LIBRARY.md tells how a runtime links it, and include/bridge_pass.h what it has to keep.
+// The exact component pass for programs in C: a call reads a graph that lies in the caller's arrays, and writes its
+// components and cross-references into others. docs/C-LIBRARY.md tells how a runtime links it, and
+// include/bridge_pass.h what it has to keep.
 //
 //     struct pass_counts counts;
 //     uint32_t status = pass_rows(kinds, nodes, row_starts, nodes, targets, edges, 0, starts, nodes, members, nodes, xrefs, room, &counts);
 //
-// `pass_rows` takes the graph as a runtime can write it while it walks its objects: where each node's references begin in one list of targets.
-// `pass_pairs` takes it as pairs of nodes in any order. Both make a graph of the library's own (`graphs`), find its components (`component_pass`), put pairs in
-// place of heavy classes where that is asked for (`expanding`), and write all where there is room for it (`results`). Nothing outlives the call, and no pointer of the caller's is kept; so calls on arrays
-// of their own may run side by side.
+// `pass_rows` takes the graph as a runtime can write it while it walks its objects: where each node's references begin
+// in one list of targets. `pass_pairs` takes it as pairs of nodes in any order. Both make a graph of the library's own
+// (`graphs`), find its components (`component_pass`), put pairs in place of heavy classes where that is asked for
+// (`expanding`), and write all where there is room for it (`results`). Nothing outlives the call, and no pointer of the
+// caller's is kept; so calls on arrays of their own may run side by side.
 //
-// What is promised: whatever the arrays hold, the call ends, and reads and writes nothing but them and memory of its own; where it answers that it
-// is done, the arrays have exactly the components, heavy classes and cross-references of their graph, in their one order; and each other answer says
-// what stopped it, with the caller's arrays as they were.
+// What is promised: whatever the arrays hold, the call ends, and reads and writes nothing but them and memory of its
+// own; where it answers that it is done, the arrays have exactly the components, heavy classes and cross-references of
+// their graph, in their one order; and each other answer says what stopped it, with the caller's arrays as they were.
 #![tactic(auto)]
 
 ghost use Rattle.std.specs.Prelude.{◌≡◌, ◌≢◌, ℕ, ◌↔◌, ◌≤◌, ◌⊎◌, List, length};
@@ -51,15 +53,17 @@ pub const TOO_MANY: u32 = 4;
 
 /// Finds the exact components and cross-references of a graph in rows.
 ///
-/// A node is a bridge node where its kind isn't 0. Node `x` leads to the targets from place `row_starts[x]` on, up to the start of the next row, or to
-/// the end. Component `c` has the members from place `starts[c]` on, up to the start of the next one or to `counts.members`; the last `counts.heavy`
-/// components are heavy classes, and have none. Where `pairs_for_heavy` isn't 0 no heavy class is reported: in their place each component refers to all others that
-/// a path leads to past nodes of classes without a bridge node.
+/// A node is a bridge node where its kind isn't 0. Node `x` leads to the targets from place `row_starts[x]` on, up to
+/// the start of the next row, or to the end. Component `c` has the members from place `starts[c]` on, up to the start
+/// of the next one or to `counts.members`; the last `counts.heavy` components are heavy classes, and have none. Where
+/// `pairs_for_heavy` isn't 0 no heavy class is reported: in their place each component refers to all others that a path
+/// leads to past nodes of classes without a bridge node.
 ///
-/// Answers `DONE` where all was written, `NO_MEMORY` where there is no memory, `NO_GRAPH` exactly where there isn't one start for each node, starts don't rise
-/// up to the end, or a target names no node, `NO_ROOM` where an array has too few places, and `TOO_MANY` where there are more than
-/// 4,294,967,294 nodes, 4,294,967,295 targets or so many members and cross-references together, or where the pass can't number what it works with. The
-/// arrays are as they were unless it is done; `counts` is told where it is done or there is no room.
+/// Answers `DONE` where all was written, `NO_MEMORY` where there is no memory, `NO_GRAPH` exactly where there isn't one
+/// start for each node, starts don't rise up to the end, or a target names no node, `NO_ROOM` where an array has too
+/// few places, and `TOO_MANY` where there are more than 4,294,967,294 nodes, 4,294,967,295 targets or so many members
+/// and cross-references together, or where the pass can't number what it works with. The arrays are as they were unless
+/// it is done; `counts` is told where it is done or there is no room.
 #[unsafe(no_mangle)]
 pub extern "C" fn pass_rows(
     alloc: Global,
@@ -96,8 +100,8 @@ pub extern "C" fn pass_rows(
     }
 }
 
-/// Finds the exact components and cross-references of a graph in pairs of nodes, which come in any order, and may come again. All else is as for
-/// `pass_rows`; `NO_GRAPH` is answered exactly where a pair names no node.
+/// Finds the exact components and cross-references of a graph in pairs of nodes, which come in any order, and may come
+/// again. All else is as for `pass_rows`; `NO_GRAPH` is answered exactly where a pair names no node.
 #[unsafe(no_mangle)]
 pub extern "C" fn pass_pairs(
     alloc: Global,

@@ -92,7 +92,8 @@ fn count_members(found: &Components, heavy: u32) -> Option<u32>
     u32::try_from(total).ok()
 }
 
-// Writes the members of the components one behind another, up to so many of those without, and where each component starts.
+// Writes the members of the components one behind another, up to so many of those without, and where each component
+// starts.
 fn write_members(found: &Components, heavy: u32, starts: &mut [u32], members: &mut [u32])
     requires heavy { heavy ≤ found.now.heavy }
     requires starts { length (all_of found.now.comps heavy) ≤ length starts.old }

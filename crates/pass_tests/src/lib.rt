@@ -1,5 +1,6 @@
-// Both component passes on one graph. `run_both` gives what they list, and its clause says that it is the same. The tests run both
-// on worked and drawn graphs, since a pass that always answers want of memory would meet its contract too.
+// Both component passes on one graph. `run_both` gives what they list, and its clause says that it is the same. The
+// tests run both on worked and drawn graphs, since a pass that always answers want of memory would meet its contract
+// too.
 #![tactic(auto)]
 
 mod both;

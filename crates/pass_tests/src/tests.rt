@@ -5,7 +5,7 @@ ghost use Rattle.std.specs.Prelude.{◌<◌};
 use crate::run_both;
 use bridge_graph::{DeadGraph, GraphBuilder};
 use compare_pass::second_pass;
-use joint_model::{HNum, MNum};
+use joint_machine::{HNum, MNum};
 use std::alloc::Global;
 use std::test::Fail;
 use xref_list::Components;

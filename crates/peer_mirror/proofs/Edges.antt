@@ -1,21 +1,22 @@
--- The mirror edges join members of components and temporaries, and the references that are carried from them join peers under strong handles and temporaries.
+-- The mirror edges join members of components and temporaries, and the references that are carried from them join peers
+-- under strong handles and temporaries.
 use Rattle.std.proofs.Common.{◌≡◌, ℕ, zero, suc, ◌+◌, ◌-◌, ◌<◌, ◌≤◌, inl, inr, List, [], ◌∷◌, ◌++◌, length, map, take, Some, refl, sym, ap, subst, ◌∙◌, arith, length-append}
 use Rattle.std.specs.Prelude.{All, Contains, flat_map, slice_get}
 use Rattle.std.proofs.lemmas.Option.{same_Some}
 use Rattle.std.proofs.lemmas.List.{map-append}
 use Rattle.std.proofs.lemmas.List.Elements.{All-contains, Contains-append_cases}
-use Rattle.joint_model.specs.Components.{End, between_nodes, circle, end_at, first_at, mirror_edges, node, temporary}
-use Rattle.joint_model.specs.PeerReplay.{PeerReplay, strong_peers}
-use Rattle.joint_model.proofs.Members.{at-Contains, Contains-flat_map_cases, Contains-map_cases, take-next}
+use Rattle.joint_machine.specs.Components.{End, between_nodes, circle, end_at, first_at, mirror_edges, node, temporary}
+use Rattle.joint_machine.specs.PeerReplay.{PeerReplay, strong_peers}
+use Rattle.joint_machine.proofs.Members.{at-Contains, Contains-flat_map_cases, Contains-map_cases, take-next}
 use Rattle.joint_laws.specs.PeerInvariants.{IsPeerKept}
 use Rattle.joint_laws.proofs.Circles.{circle-ends, first-there}
 use Rattle.joint_laws.proofs.Mirrors.{EndIs, comp, weight, end-is}
-use Rattle.joint_model.specs.Peers.{Issued}
+use Rattle.joint_machine.specs.Peers.{Issued}
 use Rattle.bridge_graph.specs.declared.graph.Node.{Node}
 use Rattle.bridge_graph.specs.Parts.{IsBridgeNode}
-use Rattle.peer_side.specs.Cycles.{reserve_pushed}
-use Rattle.peer_side.specs.Mirrors.{AreEndsStrong}
-use Rattle.peer_side.specs.Sides.{PeerModel, Reserve}
+use Rattle.peer_heap.specs.Cycles.{reserve_pushed}
+use Rattle.peer_heap.specs.Mirrors.{AreEndsStrong}
+use Rattle.peer_heap.specs.Sides.{PeerModel, Reserve}
 use Rattle.xref_list.specs.declared.components.End.{End as Answered}
 use Rattle.xref_list.specs.declared.components.End.TheVariants as variants
 use Rattle.xref_list.specs.Ends.{end_of, ends_of}

@@ -4,23 +4,23 @@ use Rattle.std.specs.Prelude.{Contains, IsSome}
 use Rattle.std.specs.Option.{option_and_then, option_to_list}
 use Rattle.std.proofs.lemmas.Option.{same_Some, slice_get-get_or}
 use Rattle.std.proofs.lemmas.List.Elements.{All-contains}
-use Rattle.joint_model.specs.declared.names.HNum.{HNum}
-use Rattle.joint_model.specs.declared.names.PNum.{PNum}
-use Rattle.peer_side.specs.Rows.{number_of}
-use Rattle.joint_model.specs.Heaps.{IsLive, numbered_at}
-use Rattle.joint_model.specs.Peers.{Issued, peer_of, held, strong}
-use Rattle.joint_model.specs.PeerReplay.{PeerReplay, TableRow, row_of, strong_peers, table_target}
-use Rattle.joint_model.proofs.Deciding.{none_some}
-use Rattle.joint_model.proofs.Members.{Contains-at, Contains-flat_map, Contains-here}
-use Rattle.joint_model.proofs.Numbered.{numbered-within}
+use Rattle.joint_machine.specs.declared.names.HNum.{HNum}
+use Rattle.joint_machine.specs.declared.names.PNum.{PNum}
+use Rattle.peer_heap.specs.Rows.{number_of}
+use Rattle.joint_machine.specs.Heaps.{IsLive, numbered_at}
+use Rattle.joint_machine.specs.Peers.{Issued, peer_of, held, strong}
+use Rattle.joint_machine.specs.PeerReplay.{PeerReplay, TableRow, row_of, strong_peers, table_target}
+use Rattle.joint_machine.proofs.Deciding.{none_some}
+use Rattle.joint_machine.proofs.Members.{Contains-at, Contains-flat_map, Contains-here}
+use Rattle.joint_machine.proofs.Numbered.{numbered-within}
 use Rattle.joint_laws.specs.PeerInvariants.{IsPeerKept, IsTabled, IsIssued}
 use Rattle.joint_laws.proofs.MarkingKeeping.{strong-listed}
 use Rattle.bridge_graph.specs.declared.graph.Node.{Node}
 use Rattle.bridge_graph.specs.Handles.{handle_at, handles_of}
 use Rattle.bridge_graph.specs.Parts.{HasNode, IsBridgeNode}
-use Rattle.peer_side.specs.Mirroring.{strong_row}
+use Rattle.peer_heap.specs.Mirroring.{strong_row}
 use Rattle.peer_mirror.specs.Carried.{AreHandlesStrong, peer_of_node}
-use Rattle.peer_side.proofs.Steps.{row-tabled}
+use Rattle.peer_heap.proofs.Steps.{row-tabled}
 
 -- what holds of a bridge node: its handle, and the peer under it
 pub record IsStrongNode (s : PeerReplay) (nodes : List Node) (i : ℕ) : Type 0 where

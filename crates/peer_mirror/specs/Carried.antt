@@ -1,18 +1,18 @@
--- The mirror edges between nodes of a dead part, carried to the peers of their handles. (The Xamarin.Android documentation: a bridge collection adds
--- references between the peers of a component and along cross-references.)
+-- The mirror edges between nodes of a dead part, carried to the peers of their handles. (The Xamarin.Android
+-- documentation: a bridge collection adds references between the peers of a component and along cross-references.)
 use Rattle.std.specs.Prelude.{◌≡◌, ℕ, ◌-◌, ◌<◌, List, [], length, map, All, true, Some, None}
-use Rattle.joint_model.specs.Components as exact
-use Rattle.joint_model.specs.Components.{IsMember}
-use Rattle.joint_model.specs.Peers.{Issued, peer_of}
-use Rattle.joint_model.specs.PeerReplay.{PeerReplay, row_of}
+use Rattle.joint_machine.specs.Components as exact
+use Rattle.joint_machine.specs.Components.{IsMember}
+use Rattle.joint_machine.specs.Peers.{Issued, peer_of}
+use Rattle.joint_machine.specs.PeerReplay.{PeerReplay, row_of}
 use Rattle.bridge_graph.specs.declared.graph.Node.{Node}
 use Rattle.bridge_graph.specs.Handles.{handle_at, handles_of}
 use Rattle.bridge_graph.specs.Parts.{IsBridgeNode}
-use Rattle.peer_side.specs.Mirroring.{strong_row}
-use Rattle.peer_side.specs.Mirrors.{MayStand}
+use Rattle.peer_heap.specs.Mirroring.{strong_row}
+use Rattle.peer_heap.specs.Mirrors.{MayStand}
 use Rattle.xref_list.specs.declared.components.End.{End as Answered}
 use Rattle.xref_list.specs.Ends.{end_of}
-use Rattle.peer_side.specs.Sides.{PeerModel, Reserve}
+use Rattle.peer_heap.specs.Sides.{PeerModel, Reserve}
 
 -- the peer of the handle of the node with that index; 0 where there is none
 abbrev pub peer_of_node : List Issued → List Node → ℕ → ℕ

@@ -1,28 +1,29 @@
 // The references go.
 
 ghost use Rattle.std.specs.Prelude.{◌≡◌, ℕ, ◌++◌, [], ◌∷◌, Some};
-ghost use Rattle.joint_model.specs.Draws.{numbered};
-ghost use Rattle.joint_model.specs.Heaps.{IsLive};
-ghost use Rattle.joint_model.specs.PeerReplay.{MayClear, Mirror, Refers};
-ghost use Rattle.joint_model.specs.Sides.{peer_rules, AddsLawful, MayDraw};
-ghost use Rattle.joint_model.specs.Told.{nothing};
-ghost use Rattle.peer_side.specs.Cycles.{clears, reserve_over};
-ghost use Rattle.peer_side.specs.Mirrors.{AreTargetsRestored, HasRestoredHandle};
-ghost use Rattle.peer_side.specs.Sides.{seen};
+ghost use Rattle.joint_machine.specs.Draws.{numbered};
+ghost use Rattle.joint_machine.specs.Heaps.{IsLive};
+ghost use Rattle.joint_machine.specs.PeerReplay.{MayClear, Mirror, Refers};
+ghost use Rattle.joint_machine.specs.Sides.{peer_rules, AddsLawful, MayDraw};
+ghost use Rattle.joint_machine.specs.Told.{nothing};
+ghost use Rattle.peer_heap.specs.Cycles.{clears, reserve_over};
+ghost use Rattle.peer_heap.specs.Mirrors.{AreTargetsRestored, HasRestoredHandle};
+ghost use Rattle.peer_heap.specs.Sides.{seen};
 
 use joint_model::{Cycle, Draw, Op, Thread};
-use peer_side::PeerSide;
+use peer_heap::PeerSide;
 
-/// Ends the mirrored cycle, whose handles are all restored: no reference stands from then on, and no temporary. One entry is drawn and put last, and
-/// its number is answered. Each unfreed peer that a reference leads to, directly or over temporaries, has to be under the strong handle that its restore
-/// gave. It takes no memory, and changes no peer.
+/// Ends the mirrored cycle, whose handles are all restored: no reference stands from then on, and no temporary. One
+/// entry is drawn and put last, and its number is answered. Each unfreed peer that a reference leads to, directly or
+/// over temporaries, has to be under the strong handle that its restore gave. It takes no memory, and changes no peer.
 ///
-/// No reference led from a peer that is restored strong to a freed one: so none led to one whose restore answered `Cleared`.
+/// No reference led from a peer that is restored strong to a freed one: so none led to one whose restore answered
+/// `Cleared`.
 pub fn clear<D: Draw>(side: &mut PeerSide, draw: &mut D, index: u32, cycle: Cycle) -> u64
     requires clears { MayClear side.old.state cycle.0 }
     requires targets { AreTargetsRestored side.old.state }
-    requires may { MayDraw peer_rules (record { floor = D.floor; left = D.left; may = D.may; drew = D.drew }) draw.old (seen side.old) Thread.C (Op.Clear cycle) }
-    ensures adds { AddsLawful peer_rules (record { floor = D.floor; left = D.left; may = D.may; drew = D.drew }) draw.old draw.new (seen side.old) (seen side.new) (clears index cycle) nothing }
+    requires may { MayDraw peer_rules D.rules draw.old (seen side.old) Thread.C (Op.Clear cycle) }
+    ensures adds { AddsLawful peer_rules D.rules draw.old draw.new (seen side.old) (seen side.new) (clears index cycle) nothing }
     ensures number { side.new.entries ≡ side.old.entries ++ numbered result (clears index cycle) ∷ [] }
     ensures none { side.new.state.refs ≡ [] }
     ensures kept { (m : Mirror) (p q : ℕ) → side.old.state.mirror ≡ Some m → Refers side.old.state.refs p q → HasRestoredHandle side.old.state m p → IsLive side.old.state.peers.heap q }

@@ -1,34 +1,35 @@
 // The references come to stand.
 
 ghost use Rattle.std.specs.Prelude.{◌≡◌, ℕ, ◌≤◌, [], length, IfOk, IfSome, OnErr, OnOk, Some, None};
-ghost use Rattle.joint_model.specs.Components as exact;
-ghost use Rattle.joint_model.specs.Components.{mirror_edges};
-ghost use Rattle.joint_model.specs.Heaps.{IsLive};
-ghost use Rattle.joint_model.specs.PeerReplay.{MayMirror};
-ghost use Rattle.joint_model.specs.Sides.{peer_rules, AddsLawful, MayDraw};
-ghost use Rattle.joint_model.specs.Told.{references_of};
+ghost use Rattle.joint_machine.specs.Components as exact;
+ghost use Rattle.joint_machine.specs.Components.{mirror_edges};
+ghost use Rattle.joint_machine.specs.Heaps.{IsLive};
+ghost use Rattle.joint_machine.specs.PeerReplay.{MayMirror};
+ghost use Rattle.joint_machine.specs.Sides.{peer_rules, AddsLawful, MayDraw};
+ghost use Rattle.joint_machine.specs.Told.{references_of};
 ghost use Rattle.bridge_graph.specs.Handles.{handles_of};
 ghost use Rattle.bridge_graph.specs.Parts.{IsBridgeNode};
 ghost use Rattle.xref_list.specs.Ends.{end_of};
-ghost use Rattle.peer_side.specs.Cycles.{mirrors};
-ghost use Rattle.peer_side.specs.Mirroring.{end_of as ref_end};
-ghost use Rattle.peer_side.specs.Mirrors.{MayStand};
-ghost use Rattle.peer_side.specs.Sides.{seen};
+ghost use Rattle.peer_heap.specs.Cycles.{mirrors};
+ghost use Rattle.peer_heap.specs.Mirroring.{end_of as ref_end};
+ghost use Rattle.peer_heap.specs.Mirrors.{MayStand};
+ghost use Rattle.peer_heap.specs.Sides.{seen};
 ghost use Rattle.peer_mirror.specs.Carried.{IsCarried, IsEdgeEnd, carried_end, carried_to_peers, peer_of_node, reserve_installed, with_pushed, AreBridgeNodes, AreHandlesStrong};
 
 use bridge_graph::DeadGraph;
 use joint_model::{Cycle, Draw, Op, PNum, Thread};
-use peer_side::{PeerSide, RefEnd};
+use peer_heap::{PeerSide, RefEnd};
 use std::alloc::AllocError;
 use xref_list::{Components, End};
 
-/// Mirrors a cycle's dead part: references come to stand between the peers of its handles and temporaries, one for each mirror edge of its
-/// components, in their order, and no other. A component without members has a temporary, which references lead over. One entry is drawn and put
-/// last, and their number is answered. Each member of a component has to be a bridge node of the part, and each handle of the part strong.
+/// Mirrors a cycle's dead part: references come to stand between the peers of its handles and temporaries, one for each
+/// mirror edge of its components, in their order, and no other. A component without members has a temporary, which
+/// references lead over. One entry is drawn and put last, and their number is answered. Each member of a component has
+/// to be a bridge node of the part, and each handle of the part strong.
 ///
-/// All room is taken first, by one `reserve_refs` for these references and temporaries, and for as many handles as the part has bridge nodes; so
-/// the cycle's weakenings, marking, restores and clear take none. Answers `AllocError`, with the side and the draw as before, where there is no
-/// memory. It takes time linear in nodes and references.
+/// All room is taken first, by one `reserve_refs` for these references and temporaries, and for as many handles as the
+/// part has bridge nodes; so the cycle's weakenings, marking, restores and clear take none. Answers `AllocError`, with
+/// the side and the draw as before, where there is no memory. It takes time linear in nodes and references.
 pub fn install<D: Draw>(
     side: &mut PeerSide,
     draw: &mut D,
@@ -42,8 +43,8 @@ pub fn install<D: Draw>(
     requires strong_ones { AreHandlesStrong side.old.state graph.now.nodes }
     requires none_waits { side.old.reserve.waiting ≡ [] }
     requires mirrors { MayMirror side.old.state cycle.0 (Some cites) }
-    requires may { MayDraw peer_rules (record { floor = D.floor; left = D.left; may = D.may; drew = D.drew }) draw.old (seen side.old) Thread.C (Op.Mirror cycle) }
-    ensures adds { IfOk result (λ refs. AddsLawful peer_rules (record { floor = D.floor; left = D.left; may = D.may; drew = D.drew }) draw.old draw.new (seen side.old) (seen side.new) (mirrors index cycle refs cites) (references_of (carried_to_peers side.old.state.peers.issued graph.now.nodes (mirror_edges comps.now.comps comps.now.pairs)))) }
+    requires may { MayDraw peer_rules D.rules draw.old (seen side.old) Thread.C (Op.Mirror cycle) }
+    ensures adds { IfOk result (λ refs. AddsLawful peer_rules D.rules draw.old draw.new (seen side.old) (seen side.new) (mirrors index cycle refs cites) (references_of (carried_to_peers side.old.state.peers.issued graph.now.nodes (mirror_edges comps.now.comps comps.now.pairs)))) }
     ensures number { IfOk result (λ refs. refs ≡ length (mirror_edges comps.now.comps comps.now.pairs)) }
     ensures refs { OnOk result (side.new.state.refs ≡ carried_to_peers side.old.state.peers.issued graph.now.nodes (mirror_edges comps.now.comps comps.now.pairs)) }
     ensures peers { side.new.state.peers ≡ side.old.state.peers }
@@ -92,7 +93,8 @@ fn push_edges(side: &mut PeerSide, graph: &DeadGraph, comps: &Components)
     }
 }
 
-// The end of a reference, which is at hand where it is that of the reference before: those from one component stand in a row.
+// The end of a reference, which is at hand where it is that of the reference before: those from one component stand in
+// a row.
 fn from_end(
     side: &PeerSide,
     graph: &DeadGraph,
@@ -112,8 +114,8 @@ fn from_end(
     }
 }
 
-// The end of a reference that a mirror edge's end stands for: the peer of the node's handle, or the temporary, which is numbered behind the components
-// with members there and from 0 on here.
+// The end of a reference that a mirror edge's end stands for: the peer of the node's handle, or the temporary, which is
+// numbered behind the components with members there and from 0 on here.
 fn ref_end(side: &PeerSide, graph: &DeadGraph, end: End, members: u32) -> RefEnd
     requires end { (e : exact.End) × (end ≡ end_of members e) × IsEdgeEnd graph.now.nodes side.now.reserve.temps e }
     requires strong_ones { AreHandlesStrong side.now.state graph.now.nodes }

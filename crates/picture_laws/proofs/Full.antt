@@ -3,14 +3,14 @@ use Rattle.std.proofs.Common.{◌≡◌, ℕ, zero, suc, ◌+◌, ◌<◌, ◌�
 use Rattle.std.specs.Prelude.{Contains, slice_get}
 use Rattle.std.specs.List.{range_with_len}
 use Rattle.std.proofs.lemmas.Option.{slice_get_within}
-use Rattle.joint_model.specs.Heaps.{Heap, IsLive, HasField, InSlot, fields_of, numbered_at, slot}
-use Rattle.joint_model.specs.Joint.{Graph, Row, object, peer, IsJoined, IsJointRoot, IsRawRoot, IsLooseRoot, IsReachedIn, JointEdge}
-use Rattle.joint_model.specs.Managed.{Managed, Holds, handle_of}
-use Rattle.joint_model.specs.Peers.{Hold, held, raw, Strength, strong, weak, Issued, is_held, is_strong, peer_of}
-use Rattle.joint_model.specs.Walks.{Reaches, Reached, Walks}
-use Rattle.joint_model.proofs.HeapLemmas.{Holds-handle_of}
-use Rattle.joint_model.proofs.Members.{Contains-nil, Contains-here, Contains-flat_map, Contains-flat_map_cases, at-Contains}
-use Rattle.joint_model.proofs.Numbered.{numbered-within}
+use Rattle.joint_machine.specs.Heaps.{Heap, IsLive, HasField, InSlot, fields_of, numbered_at, slot}
+use Rattle.joint_machine.specs.Joint.{Graph, Row, object, peer, IsJoined, IsJointRoot, IsRawRoot, IsLooseRoot, IsReachedIn, JointEdge}
+use Rattle.joint_machine.specs.Managed.{Managed, Holds, handle_of}
+use Rattle.joint_machine.specs.Peers.{Hold, held, raw, Strength, strong, weak, Issued, is_held, is_strong, peer_of}
+use Rattle.joint_machine.specs.Walks.{Reaches, Reached, Walks}
+use Rattle.joint_machine.proofs.HeapLemmas.{Holds-handle_of}
+use Rattle.joint_machine.proofs.Members.{Contains-nil, Contains-here, Contains-flat_map, Contains-flat_map_cases, at-Contains}
+use Rattle.joint_machine.proofs.Numbered.{numbered-within}
 use Rattle.joint_laws.proofs.DriverPeerSteps.{holds-handle_of}
 use Rattle.joint_replay.specs.Plain.{is_live, kept_target}
 use Rattle.joint_replay.proofs.Finding.{live-kept}

@@ -1,15 +1,16 @@
--- Each arrow over which a path goes is an edge of the joint machine, and each box holds one of its roots; so a path leads to what is reached.
+-- Each arrow over which a path goes is an edge of the joint machine, and each box holds one of its roots; so a path
+-- leads to what is reached.
 use Rattle.std.proofs.Common.{◌≡◌, ℕ, ◌+◌, ◌⊎◌, inl, inr, Bool, true, false, ◌&&◌, not, if◌then◌else◌, List, [], ◌∷◌, ◌++◌, length, Option, Some, None, refl, sym, ap, subst, ◌∙◌, arith}
 use Rattle.std.specs.Prelude.{Contains, slice_get}
 use Rattle.std.specs.List.{range_with_len}
-use Rattle.joint_model.specs.Components.{End}
-use Rattle.joint_model.specs.Heaps.{Heap, IsLive, HasField, InSlot, fields_of, numbered_at, slot}
-use Rattle.joint_model.specs.Joint.{Joint, Graph, Row, object, peer, IsJoined, IsJointRoot, IsRawRoot, IsLooseRoot, IsReachedIn, JointEdge}
-use Rattle.joint_model.specs.Managed.{Managed, Holds, handle_of}
-use Rattle.joint_model.specs.Peers.{Hold, held, raw, Strength, strong, weak, Issued, is_held, is_strong, peer_of}
-use Rattle.joint_model.specs.Walks.{Reaches, Reached, Walks}
-use Rattle.joint_model.proofs.HeapLemmas.{Holds-handle_of}
-use Rattle.joint_model.proofs.Members.{Contains-nil, Contains-cons_cases, Contains-at, Contains-flat_map, Contains-flat_map_cases}
+use Rattle.joint_machine.specs.Components.{End}
+use Rattle.joint_machine.specs.Heaps.{Heap, IsLive, HasField, InSlot, fields_of, numbered_at, slot}
+use Rattle.joint_machine.specs.Joint.{Joint, Graph, Row, object, peer, IsJoined, IsJointRoot, IsRawRoot, IsLooseRoot, IsReachedIn, JointEdge}
+use Rattle.joint_machine.specs.Managed.{Managed, Holds, handle_of}
+use Rattle.joint_machine.specs.Peers.{Hold, held, raw, Strength, strong, weak, Issued, is_held, is_strong, peer_of}
+use Rattle.joint_machine.specs.Walks.{Reaches, Reached, Walks}
+use Rattle.joint_machine.proofs.HeapLemmas.{Holds-handle_of}
+use Rattle.joint_machine.proofs.Members.{Contains-nil, Contains-cons_cases, Contains-at, Contains-flat_map, Contains-flat_map_cases}
 use Rattle.joint_laws.proofs.DriverPeerSteps.{holds-handle_of}
 use Rattle.joint_replay.specs.Plain.{is_live, kept_target}
 use Rattle.joint_replay.proofs.Finding.{kept-live}

@@ -2,11 +2,11 @@
 use Rattle.std.proofs.Common.{◌≡◌, ◌↔◌, ℕ, ◌+◌, Bool, true, false, List, [], ◌∷◌, length, map, refl, sym, subst, ◌∙◌, arith}
 use Rattle.std.specs.Prelude.{Contains, filter}
 use Rattle.std.specs.List.{flat_map, range_with_len}
-use Rattle.joint_model.specs.Components.{Rises}
-use Rattle.joint_model.specs.Heaps.{Heap, IsLive, numbered_at}
-use Rattle.joint_model.specs.Joint.{Row, object, peer}
-use Rattle.joint_model.specs.Peers.{sort_of}
-use Rattle.joint_model.proofs.Members.{Contains-filter_from, Contains-filter_to, Rises-filter}
+use Rattle.joint_machine.specs.Components.{Rises}
+use Rattle.joint_machine.specs.Heaps.{Heap, IsLive, numbered_at}
+use Rattle.joint_machine.specs.Joint.{Row, object, peer}
+use Rattle.joint_machine.specs.Peers.{sort_of}
+use Rattle.joint_machine.proofs.Members.{Contains-filter_from, Contains-filter_to, Rises-filter}
 use Rattle.joint_replay.specs.Plain.{is_live}
 use Rattle.joint_replay.proofs.Flags.{is_live-exact}
 use Rattle.heap_views.specs.Views.{View}

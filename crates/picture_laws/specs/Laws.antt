@@ -1,8 +1,8 @@
 -- What is so of every picture.
 use Rattle.std.specs.Prelude.{◌≡◌, ◌↔◌, ℕ, length, map}
-use Rattle.joint_model.specs.Components.{Rises}
-use Rattle.joint_model.specs.Heaps.{IsLive}
-use Rattle.joint_model.specs.Joint.{Joint, Row, object, peer, IsReached}
+use Rattle.joint_machine.specs.Components.{Rises}
+use Rattle.joint_machine.specs.Heaps.{IsLive}
+use Rattle.joint_machine.specs.Joint.{Joint, Row, object, peer, IsReached}
 use Rattle.heap_views.specs.Views.{View}
 use Rattle.heap_pictures.specs.Pictures.{Drawing}
 use Rattle.heap_pictures.specs.Drawing.{drawing_of}
@@ -26,6 +26,7 @@ pub record HasOneNodeEach (v : View) : Type 0 where
 abbrev pub PathsAreReached : View → Type 0
 PathsAreReached v = (x : Row) → HasNode (drawing_of v) x → IsPathTo (drawing_of v) (spot_of_row x) ↔ IsReached v.joint x
 
--- so it is of each state in which every managed object has a place for a handle, as every state of the joint machine has
+-- so it is of each state in which every managed object has a place for a handle, as every state of the joint machine
+-- has
 abbrev pub PicturesTell : Type 0
 PicturesTell = (v : View) → length v.joint.graph.managed.held ≡ length v.joint.graph.managed.heap.fields → NodesAreUnfreed v × HasOneNodeEach v × PathsAreReached v

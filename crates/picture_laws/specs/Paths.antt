@@ -1,7 +1,7 @@
 -- Paths in a picture: over which arrows one goes, and where one begins.
 use Rattle.std.specs.Prelude.{◌≡◌, ◌⊎◌, ℕ, List, Contains, map}
-use Rattle.joint_model.specs.Joint.{Row, object, peer}
-use Rattle.joint_model.specs.Walks.{Reached}
+use Rattle.joint_machine.specs.Joint.{Row, object, peer}
+use Rattle.joint_machine.specs.Walks.{Reached}
 use Rattle.heap_pictures.specs.declared.pictures.Arrow.{Arrow}
 use Rattle.heap_pictures.specs.declared.pictures.Arrow.TheVariants as arrow
 use Rattle.heap_pictures.specs.declared.pictures.Spot.{Spot}
@@ -9,8 +9,9 @@ use Rattle.heap_pictures.specs.declared.pictures.Spot.TheVariants.{Object, Peer,
 use Rattle.heap_pictures.specs.declared.pictures.Style.TheVariants.{Full}
 use Rattle.heap_pictures.specs.Pictures.{Drawing}
 
--- an arrow leads from one spot to another: a field's, a slot's, and that of a box whose handle is strong one way, that of the handle of a managed
--- object both ways. A weak global reference and a reference that a cycle added lead nowhere, nor does a cleared handle.
+-- an arrow leads from one spot to another: a field's, a slot's, and that of a box whose handle is strong one way, that
+-- of the handle of a managed object both ways. A weak global reference and a reference that a cycle added lead nowhere,
+-- nor does a cleared handle.
 abbrev pub Leads : Arrow → Spot → Spot → Type 0
 Leads (arrow.Field from i to) x y = (x ≡ from) × (y ≡ to)
 Leads (arrow.Held m h p style) x y = ((x ≡ Object m) × (y ≡ Peer p)) ⊎ ((x ≡ Peer p) × (y ≡ Object m))

@@ -2,11 +2,12 @@
 //
 //     let text = dot_text(alloc, &title, &picture)?;
 //
-// The nodes of each heap stand in a frame of their own, the dead part in one within. Names of nodes are those of the report: m1, p1, h1. A box has the words
-// of a script line that names its slot: "m1 a" is the variable a of the thread m1, g0 a static of the managed heap, s0 one of the peer heap, G0 a global name.
+// The nodes of each heap stand in a frame of their own, the dead part in one within. Names of nodes are those of the
+// report: m1, p1, h1. A box has the words of a script line that names its slot: "m1 a" is the variable a of the thread
+// m1, g0 a static of the managed heap, s0 one of the peer heap, G0 a global name.
 //
-// What is promised: the text is `picture_text` of `specs/Texts.antt`, a function of the title and the picture. It has the nodes and arrows in the picture's
-// order.
+// What is promised: the text is `picture_text` of `specs/Texts.antt`, a function of the title and the picture. It has
+// the nodes and arrows in the picture's order.
 #![tactic(auto)]
 
 mod arrows;

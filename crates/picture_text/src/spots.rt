@@ -5,7 +5,7 @@ ghost use Rattle.picture_text.specs.Texts.{kind_word, slot_name, sort_word, spot
 
 use crate::pieces::{put, put_byte, put_named, put_number};
 use heap_pictures::{Slots, Spot};
-use joint_model::{Kind, Sort};
+use joint_machine::{Kind, Sort};
 use std::alloc::AllocError;
 
 // A thread's variable, by its place among all.

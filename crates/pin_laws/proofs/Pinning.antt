@@ -1,32 +1,34 @@
--- From the read that gives an object up to its thread's next `take` the thread's pin holds the object. Of all entries only a read that gives an object and a
--- `take` change a pin, their own thread's; and a read with a filled pin gives none. What a pin holds is live, since no slot names a freed object.
+-- From the read that gives an object up to its thread's next `take` the thread's pin holds the object. Of all entries
+-- only a read that gives an object and a `take` change a pin, their own thread's; and a read with a filled pin gives
+-- none. What a pin holds is live, since no slot names a freed object.
 use Rattle.std.proofs.Common.{◌≡◌, ℕ, zero, suc, ◌+◌, ◌-◌, ◌<◌, inl, inr, ⊎_elim, Bool, true, false, List, [], ◌∷◌, length, take, Option, Some, None, refl, sym, ap, subst, ◌∙◌, arith}
 use Rattle.std.specs.Prelude.{Contains, slice_get, slice_set}
 use Rattle.std.proofs.lemmas.Bool.{cases_lt}
 use Rattle.std.proofs.lemmas.List.{length-set, take_all}
 use Rattle.std.proofs.lemmas.List.Elements.{Contains-append_right}
 use Rattle.std.proofs.lemmas.Option.{same_Some, slice_get_cases}
-use Rattle.joint_model.specs.declared.names.MNum.{MNum}
-use Rattle.joint_model.specs.declared.names.Thread.{Thread}
-use Rattle.joint_model.specs.declared.names.Thread.TheVariants.{M, P, C}
-use Rattle.joint_model.specs.declared.names.Var.{Var}
-use Rattle.joint_model.specs.declared.lines.Act.TheVariants as act
-use Rattle.joint_model.specs.declared.events.Op.{Op}
-use Rattle.joint_model.specs.declared.events.Op.TheVariants as op
-use Rattle.joint_model.specs.declared.events.Reply.{Reply}
-use Rattle.joint_model.specs.declared.events.Reply.TheVariants as says
-use Rattle.joint_model.specs.Heaps.{Answered, IsLive, answer, slot}
-use Rattle.joint_model.specs.Lines.{IsEvent, is_peer_event, is_read}
-use Rattle.joint_model.specs.Linked.{Linkage, opening_linkage, managed_after, replayed}
-use Rattle.joint_model.specs.LinkedHistories.{managed_end}
-use Rattle.joint_model.specs.Managed.{Managed, cell_read, read_cell}
-use Rattle.joint_model.specs.ManagedReplay.{ManagedReplay}
-use Rattle.joint_model.specs.Readers.{ReadsCell, IsReadReply, EntryMayCome, AllMayComeReading, entry_after, pins_after, replayed_reading}
-use Rattle.joint_model.specs.Run.{thread_number}
-use Rattle.joint_model.specs.Told.{Told, Noted, snap_of, resolution_of}
-use Rattle.joint_model.proofs.Joining.{slice_get-set_other, slice_get-set_same}
-use Rattle.joint_model.proofs.Numbered.{slot-Contains}
-use Rattle.joint_laws.specs.AfterwardsLaws.{reading_at}
+use Rattle.joint_machine.specs.declared.names.MNum.{MNum}
+use Rattle.joint_machine.specs.declared.names.Thread.{Thread}
+use Rattle.joint_machine.specs.declared.names.Thread.TheVariants.{M, P, C}
+use Rattle.joint_machine.specs.declared.names.Var.{Var}
+use Rattle.joint_machine.specs.declared.lines.Act.TheVariants as act
+use Rattle.joint_machine.specs.declared.events.Op.{Op}
+use Rattle.joint_machine.specs.declared.events.Op.TheVariants as op
+use Rattle.joint_machine.specs.declared.events.Reply.{Reply}
+use Rattle.joint_machine.specs.declared.events.Reply.TheVariants as says
+use Rattle.joint_machine.specs.Heaps.{Answered, IsLive, answer, slot}
+use Rattle.joint_machine.specs.Lines.{IsEvent, is_peer_event, is_read}
+use Rattle.joint_machine.specs.Linked.{Linkage, opening_linkage, managed_after}
+use Rattle.joint_machine.specs.Replaying.{replayed}
+use Rattle.joint_machine.specs.LinkedHistories.{managed_end}
+use Rattle.joint_machine.specs.Managed.{Managed, cell_read, read_cell}
+use Rattle.joint_machine.specs.ManagedReplay.{ManagedReplay}
+use Rattle.joint_machine.specs.Readers.{ReadsCell, IsReadReply, EntryMayCome, AllMayComeReading, entry_after, pins_after, replayed_reading}
+use Rattle.joint_machine.specs.Run.{thread_number}
+use Rattle.joint_machine.specs.Told.{Told, Noted, snap_of, resolution_of}
+use Rattle.joint_machine.proofs.Joining.{slice_get-set_other, slice_get-set_same}
+use Rattle.joint_machine.proofs.Numbered.{slot-Contains}
+use Rattle.joint_laws.specs.Afterwards.{reading_at}
 use Rattle.joint_laws.specs.ManagedInvariants.{IsManagedKept}
 use Rattle.joint_laws.specs.ReadingLaws.{IsLawfulReading, pins_by, without_aside}
 use Rattle.joint_laws.specs.States.{state_at}

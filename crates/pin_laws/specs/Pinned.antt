@@ -1,17 +1,18 @@
--- A pinned object lives: from the read that gave an object to a managed thread up to that thread's next `take` the object stays in the thread's pin, and no entry
--- frees it. (Textbook: what a root holds when a collector starts isn't freed by it. A local reference of the Xamarin.Android documentation does the same.)
+-- A pinned object lives: from the read that gave an object to a managed thread up to that thread's next `take` the
+-- object stays in the thread's pin, and no entry frees it. (Textbook: what a root holds when a collector starts isn't
+-- freed by it. A local reference of the Xamarin.Android documentation does the same.)
 use Rattle.std.specs.Prelude.{◌≡◌, ℕ, ◌<◌, ◌⊎◌, List, Contains, Some, slice_get}
-use Rattle.joint_model.specs.declared.names.Thread.TheVariants.{M}
-use Rattle.joint_model.specs.declared.names.Var.{Var}
-use Rattle.joint_model.specs.declared.lines.Act.TheVariants as act
-use Rattle.joint_model.specs.declared.events.Op.TheVariants as op
-use Rattle.joint_model.specs.declared.events.Reply.TheVariants as says
-use Rattle.joint_model.specs.Heaps.{IsLive, slot}
-use Rattle.joint_model.specs.Histories.{Finished}
-use Rattle.joint_model.specs.LinkedHistories.{IsLinkedBy}
-use Rattle.joint_model.specs.Readers.{ReadsCell}
-use Rattle.joint_model.specs.Told.{Noted, snap_of}
-use Rattle.joint_laws.specs.AfterwardsLaws.{ResolveFrees, reading_at}
+use Rattle.joint_machine.specs.declared.names.Thread.TheVariants.{M}
+use Rattle.joint_machine.specs.declared.names.Var.{Var}
+use Rattle.joint_machine.specs.declared.lines.Act.TheVariants as act
+use Rattle.joint_machine.specs.declared.events.Op.TheVariants as op
+use Rattle.joint_machine.specs.declared.events.Reply.TheVariants as says
+use Rattle.joint_machine.specs.Heaps.{IsLive, slot}
+use Rattle.joint_machine.specs.Histories.{Finished}
+use Rattle.joint_machine.specs.LinkedHistories.{IsLinkedBy}
+use Rattle.joint_machine.specs.Readers.{ReadsCell}
+use Rattle.joint_machine.specs.Told.{Noted, snap_of}
+use Rattle.joint_laws.specs.Afterwards.{ResolveFrees, reading_at}
 use Rattle.joint_laws.specs.ReadingLaws.{IsLawfulReading}
 
 -- the entry in that place is a read that gave the object to managed thread t

@@ -1,10 +1,11 @@
-// A law of weak reads: a pinned object lives. From the read that gave an object to a managed thread up to that thread's next `take` the object stays in the
-// thread's pin, and no entry frees it.
+// A law of weak reads: a pinned object lives. From the read that gave an object to a managed thread up to that thread's
+// next `take` the object stays in the thread's pin, and no entry frees it.
 //
-// A law is a function with an empty body, whose clauses are statements of `specs/`. So no value is made here, and nothing runs. What is promised is said of
-// every linked history, whatever threads and whatever schedule led to it.
+// A law is a function with an empty body, whose clauses are statements of `specs/`. So no value is made here, and
+// nothing runs. What is promised is said of every linked history, whatever threads and whatever schedule led to it.
 //
-// `specs/Pinned.antt` has the statements. Why it is so in a run, where no lock is held over a read, stands in docs/INVARIANTS.md.
+// `specs/Pinned.antt` has the statements. Why it is so in a run, where no lock is held over a read, stands in
+// docs/INVARIANTS.md.
 #![tactic(auto)]
 
 mod laws;

@@ -8,12 +8,12 @@ use Rattle.std.specs.Prelude.{Contains, slice_get}
 use Rattle.std.proofs.Math.ListN.{length-set}
 use Rattle.std.proofs.lemmas.List.Elements.{Contains-push, Contains-push_cases, Contains-append_left}
 use Rattle.std.proofs.lemmas.Option.{slice_get-get_or}
-use Rattle.joint_model.specs.Walks.{Reached}
-use Rattle.joint_model.proofs.WalkLemmas.{Reached-keeps, Reached-then}
-use Rattle.joint_model.proofs.Members.{Contains-nil, Contains-filter_from, Contains-filter_to}
+use Rattle.joint_machine.specs.Walks.{Reached}
+use Rattle.joint_machine.proofs.WalkLemmas.{Reached-keeps, Reached-then}
+use Rattle.joint_machine.proofs.Members.{Contains-nil, Contains-filter_from, Contains-filter_to}
 use Rattle.reachability.specs.Marks.{HasMark, IsClosed, unmarked, marked, unmarked_of}
 use Rattle.reachability.specs.Scans.{Scans}
-use Rattle.joint_model.proofs.Deciding.{not-true, not-from}
+use Rattle.joint_machine.proofs.Deciding.{not-true, not-from}
 
 -- marking a node that wasn't marked
 pub unmarked-set : (m : List Bool) (i : ℕ) → slice_get m i ≡ Some false → unmarked (set m i true) + 1 ≡ unmarked m

@@ -1,24 +1,25 @@
-// Marking: which nodes of a graph are reached from some roots. The joint marking and the joint machine's
-// program use this loop; the collectors of both sides mark in their rows, by `row_marking`.
+// Marking: which nodes of a graph are reached from some roots. The joint marking and the joint machine's program use
+// this loop; the collectors of both sides mark in their rows, by `row_marking`.
 //
 // What the roots 1 and 4 reach in a graph that is `Walked`:
 //
 //     let marks = reached(alloc, &graph, &[1, 4])?;
 //
-// What can be walked has the trait [`Walked`]: nodes with the numbers 0, 1, 2 and so on, and for each node
-// a list of places that hold a target or nothing. A caller that has no memory to spend keeps marks and a
-// list of waiting nodes with room for each node, and calls [`mark_reached`]; it may go on with the marks of
-// an earlier call. [`reached`] makes both itself.
+// What can be walked has the trait [`Walked`]: nodes with the numbers 0, 1, 2 and so on, and for each node a list of
+// places that hold a target or nothing. A caller that has no memory to spend keeps marks and a list of waiting nodes
+// with room for each node, and calls [`mark_reached`]; it may go on with the marks of an earlier call. [`reached`]
+// makes both itself.
 //
-// The loop holds a list of waiting nodes, each of them marked. It takes one from the list and marks its
-// targets; each target that was not marked joins the list. So a marked node waits, or all its targets are
-// marked, and once none waits the marks are closed under the edges. Each node joins the list at most once.
+// The loop holds a list of waiting nodes, each of them marked. It takes one from the list and marks its targets; each
+// target that was not marked joins the list. So a marked node waits, or all its targets are marked, and once none waits
+// the marks are closed under the edges. Each node joins the list at most once.
 //
-// Nobody changes the graph during a call. What is promised: marked is exactly what is reached from the roots or was marked before.
+// Nobody changes the graph during a call. What is promised: marked is exactly what is reached from the roots or was
+// marked before.
 #![tactic(auto)]
 
 ghost use Rattle.std.specs.Prelude.{◌≡◌, ℕ, ◌+◌, ◌*◌, ◌%◌, ◌<◌, ◌≤◌, ◌↔◌, ◌⊎◌, List, [], ◌∷◌, Option, Some, None, All, Contains, IfOk, IfSome, length, take, slice_get, vec_capacity, vec_len};
-ghost use Rattle.joint_model.specs.Walks.{Reached};
+ghost use Rattle.joint_machine.specs.Walks.{Reached};
 ghost use Rattle.reachability.specs.Marks.{Leads, HasMark, IsClosed, unmarked};
 ghost use Rattle.reachability.specs.Scans.{Scans};
 

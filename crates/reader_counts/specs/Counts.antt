@@ -1,18 +1,18 @@
 -- Counts of managed entries, and what a read may answer by them.
 use Rattle.std.specs.Prelude.{◌≡◌, ℕ, ◌+◌, ◌-◌, ◌≤◌, ◌⊎◌, Bool, false, not, ◌&&◌, if◌then◌else◌, List, [], ◌∷◌, ◌++◌, length, replicate, slice_get, slice_set, slice_index, Option, Some, None}
-use Rattle.joint_model.specs.declared.names.Thread.{Thread}
-use Rattle.joint_model.specs.declared.lines.Act.TheVariants as act
-use Rattle.joint_model.specs.declared.events.Made.{Made}
-use Rattle.joint_model.specs.declared.events.Op.{Op}
-use Rattle.joint_model.specs.declared.events.Op.TheVariants as op
-use Rattle.joint_model.specs.declared.events.Reply.{Reply}
-use Rattle.joint_model.specs.declared.events.Reply.TheVariants as says
-use Rattle.joint_model.specs.Control.{caller_place}
-use Rattle.joint_model.specs.Lines.{is_peer_event, is_read}
+use Rattle.joint_machine.specs.declared.names.Thread.{Thread}
+use Rattle.joint_machine.specs.declared.lines.Act.TheVariants as act
+use Rattle.joint_machine.specs.declared.events.Made.{Made}
+use Rattle.joint_machine.specs.declared.events.Op.{Op}
+use Rattle.joint_machine.specs.declared.events.Op.TheVariants as op
+use Rattle.joint_machine.specs.declared.events.Reply.{Reply}
+use Rattle.joint_machine.specs.declared.events.Reply.TheVariants as says
+use Rattle.joint_machine.specs.Control.{caller_place}
+use Rattle.joint_machine.specs.Lines.{is_peer_event, is_read}
 use Rattle.reader_counts.specs.declared.counts.CellSet.{CellSet}
 
--- how many managed entries there are; how many there were at the last entry of the caller with a place, with the setting of each cell, and with the end of
--- each cycle, from the first on
+-- how many managed entries there are; how many there were at the last entry of the caller with a place, with the
+-- setting of each cell, and with the end of each cycle, from the first on
 pub record Counts : Type 0 where
   pub managed : ℕ
   pub seen : List ℕ

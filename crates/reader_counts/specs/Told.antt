@@ -1,8 +1,8 @@
 -- The counts that are kept are those of the entries before, and what a read may answer by them is what it may answer.
 use Rattle.std.specs.Prelude.{◌≡◌, ℕ, ◌<◌, ◌≤◌, ◌↔◌, List, [], ◌∷◌, length, Option, Some, None, is_some}
-use Rattle.joint_model.specs.declared.names.Thread.{Thread}
-use Rattle.joint_model.specs.Lines.{IsThread}
-use Rattle.joint_model.specs.Told.{Noted}
+use Rattle.joint_machine.specs.declared.names.Thread.{Thread}
+use Rattle.joint_machine.specs.Lines.{IsThread}
+use Rattle.joint_machine.specs.Told.{Noted}
 use Rattle.check_laws.specs.Behind.{state_of, MayBePendingBehind}
 use Rattle.check_laws.specs.Counts.{Setting, ended, setting, IsUnknown}
 use Rattle.check_laws.specs.Known.{managed_count, seen}

@@ -1,11 +1,11 @@
 // The counts, and the tests over them.
 
 ghost use Rattle.std.specs.Prelude.{◌≡◌, ◌<◌, ◌^◌, ◌↔◌, IsTrue, OnErr, OnOk, Some, length, slice_set};
-ghost use Rattle.joint_model.specs.Control.{caller_place};
-ghost use Rattle.joint_model.specs.Lines.{IsNamed, IsThread, is_peer_event, is_read};
+ghost use Rattle.joint_machine.specs.Control.{caller_place};
+ghost use Rattle.joint_machine.specs.Lines.{IsNamed, IsThread, is_peer_event, is_read};
 ghost use Rattle.reader_counts.specs.Counts.{AtMostSeen, EndsWithin, IsNoSnap, IsPendingIn, IsUnknownBy, IsUnknownIn, cells_after, counts_after, ended_after, more_managed, opening_counts};
 
-use joint_model::{Act, Cell, Cycle, Entry, Op, Reply, Thread};
+use joint_machine::{Act, Cell, Cycle, Entry, Op, Reply, Thread};
 use std::alloc::{AllocError, Global};
 use std::marker::Model;
 
@@ -16,7 +16,8 @@ pub struct CellSet {
     pub count: u64,
 }
 
-/// How many managed entries there are, how many there were at each caller's last entry, with the setting of each cell, and with the end of each cycle.
+/// How many managed entries there are, how many there were at each caller's last entry, with the setting of each cell,
+/// and with the end of each cycle.
 #[derive(Drop)]
 pub struct ReadCounts {
     managed: u64,
@@ -118,8 +119,9 @@ impl ReadCounts {
         self.seen[place(caller)] <= set.count
     }
 
-    /// Whether a thread with an empty pin may answer `pending k`, where so many cycles were snapped, and one is open or none: the cycle is the next one, while
-    /// none is open; or it was snapped, and isn't over, or the thread has seen no managed entry behind its end.
+    /// Whether a thread with an empty pin may answer `pending k`, where so many cycles were snapped, and one is open or
+    /// none: the cycle is the next one, while none is open; or it was snapped, and isn't over, or the thread has seen
+    /// no managed entry behind its end.
     pub fn may_be_pending(&self, caller: Thread, k: Cycle, cycles: u32, is_open: bool) -> bool
         requires caller { IsThread caller }
         requires cycles { length self.now.ended ≡ cycles }
@@ -135,8 +137,9 @@ impl ReadCounts {
         self.has_seen_at_most(caller, self.ended[number as usize - 1])
     }
 
-    /// Whether a thread knows nothing of the setting of a cell: the cell isn't set, or another thread set it, and the thread has seen no managed entry behind
-    /// that. (A read that answers `unset` then is right if the cell has no target that is freed.)
+    /// Whether a thread knows nothing of the setting of a cell: the cell isn't set, or another thread set it, and the
+    /// thread has seen no managed entry behind that. (A read that answers `unset` then is right if the cell has no
+    /// target that is freed.)
     pub fn knows_nothing(&self, caller: Thread, k: Cell) -> bool
         requires caller { IsThread caller }
         requires cell { k.0 < 64 }
@@ -188,8 +191,8 @@ impl ReadCounts {
         self.seen[place(caller)] = self.managed;
     }
 
-    /// Counts an entry, and keeps what it sets or ends. A resolve or an abandon is of a cycle that was snapped. Answers `AllocError` where there is no memory for a
-    /// further cycle; the counts are then as before.
+    /// Counts an entry, and keeps what it sets or ends. A resolve or an abandon is of a cycle that was snapped. Answers
+    /// `AllocError` where there is no memory for a further cycle; the counts are then as before.
     pub fn note(&mut self, entry: &Entry) -> Result<(), AllocError>
         requires event { IsNamed entry.now.made.caller entry.now.made.op }
         requires count { self.old.managed < 2 ^ 63 }

@@ -1,8 +1,8 @@
-// Tests of `entry_reader` and `report_reader` by their public calls: reports of worked scripts, which are written again as they were, texts that are no
-// report, and texts of two readings.
+// Tests of `entry_reader` and `report_reader` by their public calls: reports of worked scripts, which are written again
+// as they were, texts that are no report, and texts of two readings.
 //
-// They stand in a crate of their own since a crate with tests is proved twice, with them and without. Nothing but tests stands here, and no other crate
-// builds on it.
+// They stand in a crate of their own since a crate with tests is proved twice, with them and without. Nothing but tests
+// stands here, and no other crate builds on it.
 //
 // Nothing is promised to anybody. A test reads a text, and compares what it is read as with a table; each runs alone.
 #![tactic(auto)]

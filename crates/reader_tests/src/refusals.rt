@@ -5,8 +5,8 @@ use report_reader::{ReportError, read_report};
 use std::alloc::Global;
 use std::test::Fail;
 
-// A thousand times the number of a text's first faulty line and the number of its cause; 0 where it is a report, and the greatest number
-// where it is too long for this table or memory lacks.
+// A thousand times the number of a text's first faulty line and the number of its cause; 0 where it is a report, and
+// the greatest number where it is too long for this table or memory lacks.
 fn fault(alloc: Global, text: &[u8]) -> u64 {
     if text.len() > 1000 {
         return u64::MAX;

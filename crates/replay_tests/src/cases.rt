@@ -196,8 +196,8 @@ const CYCLES: [(Said, Verdict); 27] = [
     ((C, RESOLVE_2, Reply::Freed(BOTH)), L),
 ];
 
-// Only an open cycle is closed, by the driver alone; of what a cycle does with handles the restores of its candidates alone are
-// steps of the joint machine.
+// Only an open cycle is closed, by the driver alone; of what a cycle does with handles the restores of its candidates
+// alone are steps of the joint machine.
 const CLOSING: [(Said, Verdict); 11] = [
     ((C, RESOLVE_1, Reply::Freed(NONE)), U),
     ((C, ABANDON_1, Reply::Ok), U),

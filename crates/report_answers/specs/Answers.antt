@@ -1,4 +1,5 @@
 -- What is answered of a printed report: what its history was found to be, or which of its lines is wrong.
+-- Believed: the clauses of the program's top call rest on all that stands here.
 use Rattle.std.specs.Prelude.{ℕ, List, ◌++◌, codes, decimal}
 use Rattle.check_laws.specs.declared.findings.Finding.{Finding}
 use Rattle.check_laws.specs.declared.findings.Finding.TheVariants as finding
@@ -13,7 +14,8 @@ why_text why.Caller = codes "caller"
 why_text why.Cite = codes "cite"
 why_text why.Reply = codes "reply"
 
--- what a history with so many entries was found to be: `legal N`, `illegal I` with that word, or `illegal end`, with its newline
+-- what a history with so many entries was found to be: `legal N`, `illegal I` with that word, or `illegal end`, with
+-- its newline
 abbrev pub finding_text : ℕ → Finding → List ℕ
 finding_text count finding.Legal = codes "legal " ++ decimal count ++ codes "\n"
 finding_text count (finding.Illegal i w) = codes "illegal " ++ decimal i ++ codes " " ++ why_text w ++ codes "\n"

@@ -42,9 +42,10 @@ fn put_finding(finding: Finding, count: u64, line: &mut Line)
     }
 }
 
-/// Writes what a history with so many entries was found to be, in whatever portions the sink takes: `legal` with their number, `illegal` with the number of
-/// the first entry that isn't in order and the test that fails first, `caller`, `cite` or `reply`, or `illegal end` where something has to follow. [`Failed`]
-/// comes only where the sink's count of faults rose; then a beginning of the line was written. It takes no memory.
+/// Writes what a history with so many entries was found to be, in whatever portions the sink takes: `legal` with their
+/// number, `illegal` with the number of the first entry that isn't in order and the test that fails first, `caller`,
+/// `cite` or `reply`, or `illegal end` where something has to follow. [`Failed`] comes only where the sink's count of
+/// faults rose; then a beginning of the line was written. It takes no memory.
 pub fn write_finding<K: Sink>(finding: Finding, count: u64, out: &mut K) -> Result<(), Failed>
     ensures { Writes (K.held out.old) (K.held out.new) (K.faults out.old) (K.faults out.new) result (finding_text count finding) }
 {
@@ -53,8 +54,9 @@ pub fn write_finding<K: Sink>(finding: Finding, count: u64, out: &mut K) -> Resu
     write_text(out, line.bytes())
 }
 
-/// Writes the line that names a report's first wrong line and its cause, as `line 3: cause 14 form`, in whatever portions the sink takes. [`Failed`] comes
-/// only where the sink's count of faults rose; then a beginning of the line was written. It takes no memory.
+/// Writes the line that names a report's first wrong line and its cause, as `line 3: cause 14 form`, in whatever
+/// portions the sink takes. [`Failed`] comes only where the sink's count of faults rose; then a beginning of the line
+/// was written. It takes no memory.
 pub fn write_report_refusal<K: Sink>(fault: ReportFault, out: &mut K) -> Result<(), Failed>
     ensures { Writes (K.held out.old) (K.held out.new) (K.faults out.old) (K.faults out.new) result (refusal_text fault) }
 {

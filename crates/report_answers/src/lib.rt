@@ -1,4 +1,5 @@
-// What is answered of a printed report, one line each: what its history was found to be, or which of its lines is wrong.
+// What is answered of a printed report, one line each: what its history was found to be, or which of its lines is
+// wrong.
 //
 //     match read_report(alloc, bytes) {
 //         Ok(history) => write_finding(check(alloc, &history)?, history.len(), out)?,

@@ -1,24 +1,26 @@
--- A linked history, without the reads that are set aside, is a lawful list: so its replies are those that their events have, and its spans stand one behind
--- another. A read that is set aside has no span. So the history is read of its report as itself, but for the notices that weren't taken.
+-- A linked history, without the reads that are set aside, is a lawful list: so its replies are those that their events
+-- have, and its spans stand one behind another. A read that is set aside has no span. So the history is read of its
+-- report as itself, but for the notices that weren't taken.
 use Rattle.std.proofs.Common.{◌≡◌, ℕ, zero, suc, Bool, true, false, not, cond, List, [], ◌∷◌, length, take, refl, sym, ap, subst, ◌∙◌, arith, true≢false}
 use Rattle.std.proofs.lemmas.List.{take_all, take-map, length-map}
 use Rattle.std.proofs.lemmas.List.Elements.{All-cons, All-head, All-tail}
-use Rattle.joint_model.specs.declared.names.MNum.{MNum}
-use Rattle.joint_model.specs.declared.names.PNum.{PNum}
-use Rattle.joint_model.specs.declared.lines.Act.TheVariants as act
-use Rattle.joint_model.specs.declared.events.Op.{Op}
-use Rattle.joint_model.specs.declared.events.Op.TheVariants as op
-use Rattle.joint_model.specs.declared.events.Reply.{Reply}
-use Rattle.joint_model.specs.declared.events.Reply.TheVariants as reply
-use Rattle.joint_model.specs.declared.events.Entry.{Entry}
-use Rattle.joint_model.specs.Histories.{Finished, managed_numbers, peer_numbers}
-use Rattle.joint_model.specs.Lines.{is_read}
-use Rattle.joint_model.specs.Linked.{opening_linkage, replayed}
-use Rattle.joint_model.specs.LinkedHistories.{IsLinkedBy, linked_end, managed_end}
-use Rattle.joint_model.specs.Readers.{is_aside, is_set_aside}
-use Rattle.joint_model.specs.Told.{Noted}
-use Rattle.joint_model.proofs.Deciding.{and-true}
-use Rattle.entry_reader.specs.Meaning.{IsMeant}
+use Rattle.joint_machine.specs.declared.names.MNum.{MNum}
+use Rattle.joint_machine.specs.declared.names.PNum.{PNum}
+use Rattle.joint_machine.specs.declared.lines.Act.TheVariants as act
+use Rattle.joint_machine.specs.declared.events.Op.{Op}
+use Rattle.joint_machine.specs.declared.events.Op.TheVariants as op
+use Rattle.joint_machine.specs.declared.events.Reply.{Reply}
+use Rattle.joint_machine.specs.declared.events.Reply.TheVariants as reply
+use Rattle.joint_machine.specs.declared.events.Entry.{Entry}
+use Rattle.joint_machine.specs.Histories.{Finished, managed_numbers, peer_numbers}
+use Rattle.joint_machine.specs.Lines.{is_read}
+use Rattle.joint_machine.specs.Linked.{opening_linkage}
+use Rattle.joint_machine.specs.Replaying.{replayed}
+use Rattle.joint_machine.specs.LinkedHistories.{IsLinkedBy, linked_end, managed_end}
+use Rattle.joint_machine.specs.Readers.{is_aside, is_set_aside}
+use Rattle.joint_machine.specs.Told.{Noted}
+use Rattle.joint_machine.proofs.Deciding.{and-true}
+use Rattle.entry_reader.specs.Meant.{IsMeant}
 use Rattle.joint_laws.specs.ReadingLaws.{IsLawfulReading, without_aside}
 use Rattle.joint_laws.proofs.LinkedEntries.{AreKept-opening}
 use Rattle.joint_laws.proofs.PlainReplies.{IsPlain}

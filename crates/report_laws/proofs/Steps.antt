@@ -1,23 +1,25 @@
--- In a lawful list each span begins where its list ends so far: a snapshot and a resolution put what they free behind the rows that were freed, a sweep
--- behind the peers, and notices are taken in turn. Every other reply has no span, and leaves the lists as they are.
+-- In a lawful list each span begins where its list ends so far: a snapshot and a resolution put what they free behind
+-- the rows that were freed, a sweep behind the peers, and notices are taken in turn. Every other reply has no span, and
+-- leaves the lists as they are.
 use Rattle.std.proofs.Common.{◌≡◌, ℕ, Bool, true, false, ◌||◌, List, [], ◌∷◌, length, map, All, Option, Some, None, refl, sym, ap, subst, ◌∙◌, length-append}
 use Rattle.std.specs.Prelude.{if◌then◌else◌}
 use Rattle.std.proofs.lemmas.List.Elements.{All-cons, All-nil}
-use Rattle.joint_model.specs.declared.names.Thread.{Thread}
-use Rattle.joint_model.specs.declared.names.Thread.TheVariants.{M, P, C}
-use Rattle.joint_model.specs.declared.lines.Act.TheVariants as act
-use Rattle.joint_model.specs.declared.events.Op.{Op}
-use Rattle.joint_model.specs.declared.events.Op.TheVariants as op
-use Rattle.joint_model.specs.declared.events.Reply.{Reply}
-use Rattle.joint_model.specs.declared.events.Reply.TheVariants as reply
-use Rattle.joint_model.specs.declared.events.Entry.{Entry}
-use Rattle.joint_model.specs.declared.events.Made.{Made}
-use Rattle.joint_model.specs.Heaps.{answer}
-use Rattle.joint_model.specs.Lines.{IsEvent, is_peer_event}
-use Rattle.joint_model.specs.Linked.{Linkage, AllMayCome, MayCome, SideLawful, linkage_after, managed_after, peer_after, replayed}
-use Rattle.joint_model.specs.PeerReplay.{Marking, is_thread, swept, swept_of, SweepAllows}
-use Rattle.joint_model.specs.Told.{Told, Noted, nothing, resolution_of, snap_of, sweep_of}
-use Rattle.entry_reader.specs.Meaning.{IsMeant}
+use Rattle.joint_machine.specs.declared.names.Thread.{Thread}
+use Rattle.joint_machine.specs.declared.names.Thread.TheVariants.{M, P, C}
+use Rattle.joint_machine.specs.declared.lines.Act.TheVariants as act
+use Rattle.joint_machine.specs.declared.events.Op.{Op}
+use Rattle.joint_machine.specs.declared.events.Op.TheVariants as op
+use Rattle.joint_machine.specs.declared.events.Reply.{Reply}
+use Rattle.joint_machine.specs.declared.events.Reply.TheVariants as reply
+use Rattle.joint_machine.specs.declared.events.Entry.{Entry}
+use Rattle.joint_machine.specs.declared.events.Made.{Made}
+use Rattle.joint_machine.specs.Heaps.{answer}
+use Rattle.joint_machine.specs.Lines.{IsEvent, is_peer_event}
+use Rattle.joint_machine.specs.Linked.{Linkage, MayCome, SideLawful, linkage_after, managed_after, peer_after}
+use Rattle.joint_machine.specs.Replaying.{AllMayCome, replayed}
+use Rattle.joint_machine.specs.PeerReplay.{Marking, is_thread, swept, swept_of, SweepAllows}
+use Rattle.joint_machine.specs.Told.{Told, Noted, nothing, resolution_of, snap_of, sweep_of}
+use Rattle.entry_reader.specs.Meant.{IsMeant}
 use Rattle.joint_laws.proofs.FreedRows.{FreesRows, answer-freed}
 use Rattle.joint_laws.proofs.JointSteps.{may-end}
 use Rattle.joint_laws.proofs.LinkedEntries.{AreKept-entry, Of, entry}

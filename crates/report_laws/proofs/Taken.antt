@@ -1,21 +1,21 @@
 -- No managed event but the taking of notices changes how many were taken.
 use Rattle.std.proofs.Common.{◌≡◌, ℕ, Option, Some, None, refl, ap, ◌∙◌}
 use Rattle.std.specs.Prelude.{slice_set}
-use Rattle.joint_model.specs.declared.names.Kind.{Kind}
-use Rattle.joint_model.specs.declared.names.Sort.{Sort}
-use Rattle.joint_model.specs.declared.names.Thread.{Thread}
-use Rattle.joint_model.specs.declared.lines.Act.{Act}
-use Rattle.joint_model.specs.declared.lines.Act.TheVariants as act
-use Rattle.joint_model.specs.declared.events.Op.{Op}
-use Rattle.joint_model.specs.declared.events.Op.TheVariants as op
-use Rattle.joint_model.specs.declared.events.Reply.TheVariants as says
-use Rattle.joint_model.specs.Heaps.{Answered, answer, slot, place, is_freed, is_full}
-use Rattle.joint_model.specs.Managed.{Managed, OpenCycle, managed_name, adopted, cell_set, target_read, cell_read, read_cell, twin_met, met, given_up, without_handle, managed_line}
-use Rattle.joint_model.specs.ManagedReplay.{ManagedReplay, registered, managed_answer}
-use Rattle.joint_model.specs.Run.{thread_number}
-use Rattle.joint_model.specs.Told.{Told, snap_of, contraction_of, resolution_of, phase_of}
-use Rattle.joint_model.proofs.Deciding.{option-cases, test-cases}
-use Rattle.joint_model.proofs.HeapLemmas.{adopt_by-managed}
+use Rattle.joint_machine.specs.declared.names.Kind.{Kind}
+use Rattle.joint_machine.specs.declared.names.Sort.{Sort}
+use Rattle.joint_machine.specs.declared.names.Thread.{Thread}
+use Rattle.joint_machine.specs.declared.lines.Act.{Act}
+use Rattle.joint_machine.specs.declared.lines.Act.TheVariants as act
+use Rattle.joint_machine.specs.declared.events.Op.{Op}
+use Rattle.joint_machine.specs.declared.events.Op.TheVariants as op
+use Rattle.joint_machine.specs.declared.events.Reply.TheVariants as says
+use Rattle.joint_machine.specs.Heaps.{Answered, answer, slot, place, is_freed, is_full}
+use Rattle.joint_machine.specs.Managed.{Managed, OpenCycle, managed_name, adopted, cell_set, target_read, cell_read, read_cell, twin_met, met, given_up, without_handle, managed_line}
+use Rattle.joint_machine.specs.ManagedReplay.{ManagedReplay, registered, managed_answer}
+use Rattle.joint_machine.specs.Run.{thread_number}
+use Rattle.joint_machine.specs.Told.{Told, snap_of, contraction_of, resolution_of, phase_of}
+use Rattle.joint_machine.proofs.Deciding.{option-cases, test-cases}
+use Rattle.joint_machine.proofs.HeapLemmas.{adopt_by-managed}
 use Rattle.joint_laws.proofs.ManagedMoves.{met_by}
 use Rattle.joint_laws.proofs.ManagedSteps.{meet_by-managed, give_by-managed}
 

@@ -1,10 +1,11 @@
 -- Linked histories are read of their reports, but for the notices that weren't taken.
 use Rattle.std.specs.Prelude.{◌<◌, ◌^◌, List, length}
-use Rattle.joint_model.specs.Histories.{Finished}
-use Rattle.joint_model.specs.LinkedHistories.{IsLinked, IsLinkedBy}
-use Rattle.joint_model.specs.Told.{Noted}
+use Rattle.joint_machine.specs.Histories.{Finished}
+use Rattle.joint_machine.specs.LinkedHistories.{IsLinked, IsLinkedBy}
+use Rattle.joint_machine.specs.Told.{Noted}
 use Rattle.history_report.specs.Report.{report}
-use Rattle.report_reader.specs.Reading.{IsReadAs, IsValue, as_named}
+use Rattle.report_reader.specs.Reading.{IsReadAs, IsValue}
+use Rattle.report_reader.specs.Answers.{as_named}
 
 -- the report of a linked history is read as that history, without the notices that weren't taken
 abbrev pub LinkedIsRead : Type 0

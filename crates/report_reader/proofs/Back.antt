@@ -3,18 +3,18 @@ use Rattle.std.proofs.Common.{◌≡◌, ℕ, ◌+◌, ◌-◌, ◌<◌, ◌≤�
 use Rattle.std.proofs.lemmas.List.{take_all, length-map, length-take, length-take-le, take-map, drop-map}
 use Rattle.std.proofs.lemmas.List.Elements.{All-head, All-tail}
 use Rattle.std.proofs.Math.Seq.{take-add}
-use Rattle.joint_model.specs.declared.names.MNum.{MNum}
-use Rattle.joint_model.specs.declared.names.PNum.{PNum}
-use Rattle.joint_model.specs.declared.names.Span.{Span}
-use Rattle.joint_model.specs.declared.events.Reply.{Reply}
-use Rattle.joint_model.specs.declared.events.Reply.TheVariants as reply
-use Rattle.joint_model.specs.declared.events.Entry.{Entry}
-use Rattle.joint_model.specs.Draws.{NumberedFrom}
-use Rattle.joint_model.specs.Histories.{Finished, FitsLists, HasSpans, managed_numbers, peer_numbers, stretch}
+use Rattle.joint_machine.specs.declared.names.MNum.{MNum}
+use Rattle.joint_machine.specs.declared.names.PNum.{PNum}
+use Rattle.joint_machine.specs.declared.names.Span.{Span}
+use Rattle.joint_machine.specs.declared.events.Reply.{Reply}
+use Rattle.joint_machine.specs.declared.events.Reply.TheVariants as reply
+use Rattle.joint_machine.specs.declared.events.Entry.{Entry}
+use Rattle.joint_machine.specs.Histories.{Finished, FitsLists, HasSpans, managed_numbers, peer_numbers, stretch, NumberedFrom}
 use Rattle.text_words.specs.Words.{spaced}
 use Rattle.history_report.specs.Report.{end_text, entry_text, entries_text}
 use Rattle.entry_reader.specs.Fitting.{FitsTypes}
-use Rattle.entry_reader.specs.Meaning.{Lists, IsMeant, BeginsAt, grown, as_managed, as_peers}
+use Rattle.entry_reader.specs.Meaning.{Lists, BeginsAt, grown, as_managed, as_peers}
+use Rattle.entry_reader.specs.Meant.{IsMeant}
 use Rattle.entry_reader.specs.Saying.{line_words}
 use Rattle.report_reader.specs.Reading.{Ends, HasJust, IsCanonical, IsValue, SpansRun, StartsAt, ends_after, ends_of, no_ends}
 use Rattle.report_reader.specs.Laws.{NamedIsRead, ReportsAreOne}
@@ -237,8 +237,8 @@ inside_all h e (x ∷ es) f s i l =
     let g = k.grows in
     (k.inside, inside_all h (ends_after e r) es (All-tail (FitsLists h.freed_managed h.freed_peers h.notices) x es f) s.1 k.inside (omega (arith, l, whole, a, b, c, d, g)))
 
--- so a history whose replies are meant, and whose spans stand one behind another, is read of its report as itself, but for what stands in its lists
--- behind the last number that is named
+-- so a history whose replies are meant, and whose spans stand one behind another, is read of its report as itself, but
+-- for what stands in its lists behind the last number that is named
 pub named_read : NamedIsRead
 named_read h v meant spans few =
     let end = end_text (length h.entries) in

@@ -1,19 +1,19 @@
--- What was read line by line is the history that is meant by the text. Each list only grows, so what a span named stays where it is, and the line of an entry
--- in the whole history is the line that was read.
+-- What was read line by line is the history that is meant by the text. Each list only grows, so what a span named stays
+-- where it is, and the line of an entry in the whole history is the line that was read.
 use Rattle.std.proofs.Common.{◌≡◌, ℕ, ◌+◌, ◌≤◌, List, [], ◌∷◌, ◌++◌, length, All, codes, decimal, refl, sym, ap, ◌∙◌, subst, arith, append_assoc, append-nil, length-append}
 use Rattle.std.proofs.lemmas.List.Elements.{All-cons, All-nil, All-append, All-map}
-use Rattle.joint_model.specs.declared.names.MNum.{MNum}
-use Rattle.joint_model.specs.declared.names.PNum.{PNum}
-use Rattle.joint_model.specs.declared.events.Reply.{Reply}
-use Rattle.joint_model.specs.declared.events.Reply.TheVariants as reply
-use Rattle.joint_model.specs.declared.events.Entry.{Entry}
-use Rattle.joint_model.specs.Components.{Rises}
-use Rattle.joint_model.specs.Draws.{NumberedFrom}
-use Rattle.joint_model.specs.Histories.{Finished, FitsLists, HasSpans}
+use Rattle.joint_machine.specs.declared.names.MNum.{MNum}
+use Rattle.joint_machine.specs.declared.names.PNum.{PNum}
+use Rattle.joint_machine.specs.declared.events.Reply.{Reply}
+use Rattle.joint_machine.specs.declared.events.Reply.TheVariants as reply
+use Rattle.joint_machine.specs.declared.events.Entry.{Entry}
+use Rattle.joint_machine.specs.Components.{Rises}
+use Rattle.joint_machine.specs.Histories.{Finished, FitsLists, HasSpans, NumberedFrom}
 use Rattle.text_words.specs.Words.{spaced}
 use Rattle.history_report.specs.Report.{event_words, reply_words, list_of, cite_words, place_text, entry_text, entries_text}
 use Rattle.entry_reader.specs.Fitting.{Short, FitsTypes}
-use Rattle.entry_reader.specs.Meaning.{Lists, IsMeant, BeginsAt, grown, as_managed, as_peers}
+use Rattle.entry_reader.specs.Meaning.{Lists, BeginsAt, grown, as_managed, as_peers}
+use Rattle.entry_reader.specs.Meant.{IsMeant}
 use Rattle.entry_reader.specs.Saying.{IsShown, list_said}
 use Rattle.entry_reader.proofs.ListParts.{length_managed, length_peers}
 use Rattle.report_reader.specs.Reading.{Ends, IsCanonical, SpansRun, StartsAt, ends_after, ends_of, no_ends}

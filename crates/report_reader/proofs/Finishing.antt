@@ -2,15 +2,15 @@
 use Rattle.std.proofs.Common.{◌≡◌, ℕ, ◌+◌, ◌<◌, List, [], ◌∷◌, map, ap, ◌∙◌, subst, arith}
 use Rattle.std.specs.Prelude.{All, Contains}
 use Rattle.std.proofs.lemmas.List.Elements.{All-nil, All-cons}
-use Rattle.joint_model.specs.declared.names.MNum.{MNum}
-use Rattle.joint_model.specs.declared.names.PNum.{PNum}
-use Rattle.joint_model.specs.declared.events.Entry.{Entry}
-use Rattle.joint_model.specs.Components.{Rises}
-use Rattle.joint_model.specs.Draws.{NumberedFrom}
-use Rattle.joint_model.specs.Histories.{IsHistory, IsJoinable, IsPlaced, IsShuffle, entry_lists}
-use Rattle.joint_model.specs.Listed.{Stock}
-use Rattle.joint_model.proofs.Joining.{placed_all}
-use Rattle.joint_model.proofs.Members.{All-members, Contains-here, Contains-map_cases}
+use Rattle.joint_machine.specs.declared.names.MNum.{MNum}
+use Rattle.joint_machine.specs.declared.names.PNum.{PNum}
+use Rattle.joint_machine.specs.declared.events.Entry.{Entry}
+use Rattle.joint_machine.specs.Components.{Rises}
+use Rattle.joint_machine.specs.Histories.{IsHistory, NumberedFrom}
+use Rattle.joint_machine.specs.Shuffles.{IsJoinable, IsPlaced, IsShuffle}
+use Rattle.joint_model.specs.Listed.{Stock, entry_lists}
+use Rattle.joint_machine.proofs.Joining.{placed_all}
+use Rattle.joint_machine.proofs.Members.{All-members, Contains-here, Contains-map_cases}
 use Rattle.joint_model.proofs.Merging.{NumberedFrom-high}
 use Rattle.joint_model.proofs.Shuffling.{shuffle_is_one}
 use Rattle.report_reader.specs.Steps.{Read, history_of}

@@ -1,17 +1,16 @@
--- A refusal is right: if the bytes were the report of a history, the lines before the faulty one would be those of its first entries, and the faulty one
--- would be the line of the next, or the last line.
+-- A refusal is right: if the bytes were the report of a history, the lines before the faulty one would be those of its
+-- first entries, and the faulty one would be the line of the next, or the last line.
 use Rattle.std.proofs.Common.{◌≡◌, ◌≢◌, ℕ, zero, suc, ◌+◌, ◌-◌, ◌<◌, ◌≤◌, ◌^◌, ◌⊎◌, inl, inr, Bool, true, false, List, [], ◌∷◌, ◌++◌, length, take, drop, All, codes, decimal, refl, sym, ap, ◌∙◌, subst, arith, append_assoc, append-nil, length-append, true≢false}
 use Rattle.std.proofs.lemmas.List.{append_cancel_right, drop-take, take-map, drop-map}
 use Rattle.std.proofs.lemmas.List.Elements.{All-head, All-tail, All-take, All-drop, All-map, recursion_from_All}
-use Rattle.joint_model.specs.declared.names.MNum.{MNum}
-use Rattle.joint_model.specs.declared.names.PNum.{PNum}
-use Rattle.joint_model.specs.declared.names.Span.{Span}
-use Rattle.joint_model.specs.declared.events.Reply.{Reply}
-use Rattle.joint_model.specs.declared.events.Reply.TheVariants as reply
-use Rattle.joint_model.specs.declared.events.Entry.{Entry}
-use Rattle.joint_model.specs.Components.{Rises}
-use Rattle.joint_model.specs.Draws.{NumberedFrom}
-use Rattle.joint_model.specs.Histories.{Finished, FitsLists, HasSpans, managed_numbers, peer_numbers, stretch}
+use Rattle.joint_machine.specs.declared.names.MNum.{MNum}
+use Rattle.joint_machine.specs.declared.names.PNum.{PNum}
+use Rattle.joint_machine.specs.declared.names.Span.{Span}
+use Rattle.joint_machine.specs.declared.events.Reply.{Reply}
+use Rattle.joint_machine.specs.declared.events.Reply.TheVariants as reply
+use Rattle.joint_machine.specs.declared.events.Entry.{Entry}
+use Rattle.joint_machine.specs.Components.{Rises}
+use Rattle.joint_machine.specs.Histories.{Finished, FitsLists, HasSpans, managed_numbers, peer_numbers, stretch, NumberedFrom}
 use Rattle.text_words.specs.Words.{spaced}
 use Rattle.history_report.specs.Report.{entry_text, entries_text, end_text, report}
 use Rattle.text_words.proofs.Cutting.{Lacks, cut-first, every-append}

@@ -1,8 +1,9 @@
--- Lines that were read one after another: one more may stand behind them, each is an entry's line, and there are no more than bytes.
+-- Lines that were read one after another: one more may stand behind them, each is an entry's line, and there are no
+-- more than bytes.
 use Rattle.std.proofs.Common.{◌≡◌, ℕ, ◌+◌, List, [], ◌∷◌, ◌++◌, length, refl, ap, ◌∙◌, subst, arith, append_assoc}
-use Rattle.joint_model.specs.declared.events.Entry.{Entry}
+use Rattle.joint_machine.specs.declared.events.Entry.{Entry}
 use Rattle.entry_reader.specs.Meaning.{Lists}
-use Rattle.entry_reader.specs.Saying.{ReadsEntry}
+use Rattle.entry_reader.specs.Tailing.{ReadsEntry}
 use Rattle.report_reader.specs.Faults.{AreEntryLines, closed_lines}
 use Rattle.report_reader.specs.Steps.{ReadsLines}
 

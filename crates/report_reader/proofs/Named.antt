@@ -2,8 +2,8 @@
 use Rattle.std.proofs.Common.{◌≡◌, ℕ, ◌≤◌, List, [], ◌∷◌, ◌++◌, length, take, drop, map, refl, sym, ap, ◌∙◌, arith, append_assoc, length-append}
 use Rattle.std.proofs.lemmas.List.{take_all, length-map, map-append}
 use Rattle.std.proofs.Math.Seq.{drop-append_seam, take-append_seam}
-use Rattle.joint_model.specs.declared.names.Span.{Span}
-use Rattle.joint_model.specs.Histories.{managed_numbers, peer_numbers, stretch, IsWithin}
+use Rattle.joint_machine.specs.declared.names.Span.{Span}
+use Rattle.joint_machine.specs.Histories.{managed_numbers, peer_numbers, stretch, IsWithin}
 use Rattle.entry_reader.specs.Meaning.{Spans, as_managed, as_peers}
 
 -- what was put behind a list stands in each longer list where its span says

@@ -1,15 +1,15 @@
 -- A line is read as one entry, behind the same lists. So lines are read as one list of entries.
 use Rattle.std.proofs.Common.{◌≡◌, ◌≢◌, ℕ, ◌+◌, Bool, true, false, List, [], ◌∷◌, ◌++◌, get_or, drop, length, Option, Some, None, codes, decimal, refl, sym, ap, ◌∙◌, subst, arith, append_assoc, true≢false}
-use Rattle.joint_model.specs.declared.names.Thread.{Thread}
-use Rattle.joint_model.specs.declared.names.MNum.{MNum}
-use Rattle.joint_model.specs.declared.names.Marking.{Marking}
-use Rattle.joint_model.specs.declared.names.Span.{Span}
-use Rattle.joint_model.specs.declared.lines.Act.TheVariants as act
-use Rattle.joint_model.specs.declared.events.Op.{Op}
-use Rattle.joint_model.specs.declared.events.Op.TheVariants as op
-use Rattle.joint_model.specs.declared.events.Reply.{Reply}
-use Rattle.joint_model.specs.declared.events.Reply.TheVariants as reply
-use Rattle.joint_model.specs.declared.events.Entry.{Entry}
+use Rattle.joint_machine.specs.declared.names.Thread.{Thread}
+use Rattle.joint_machine.specs.declared.names.MNum.{MNum}
+use Rattle.joint_machine.specs.declared.names.Marking.{Marking}
+use Rattle.joint_machine.specs.declared.names.Span.{Span}
+use Rattle.joint_machine.specs.declared.lines.Act.TheVariants as act
+use Rattle.joint_machine.specs.declared.events.Op.{Op}
+use Rattle.joint_machine.specs.declared.events.Op.TheVariants as op
+use Rattle.joint_machine.specs.declared.events.Reply.{Reply}
+use Rattle.joint_machine.specs.declared.events.Reply.TheVariants as reply
+use Rattle.joint_machine.specs.declared.events.Entry.{Entry}
 use Rattle.history_report.specs.Report.{event_words, cite_words, end_text}
 use Rattle.text_words.proofs.Cutting.{cut-first}
 use Rattle.text_words.proofs.Decimals.{decimal-one}
@@ -18,8 +18,10 @@ use Rattle.history_report.proofs.Plain.{plain-event}
 use Rattle.history_report.proofs.TextLines.{place-one}
 use Rattle.entry_reader.specs.Fitting.{FitsCites}
 use Rattle.entry_reader.specs.Events.{IsReadable}
-use Rattle.entry_reader.specs.Meaning.{Lists, IsMeant, BeginsAt, grown}
-use Rattle.entry_reader.specs.Saying.{ReadsEntry, said, line_words}
+use Rattle.entry_reader.specs.Meaning.{Lists, BeginsAt, grown}
+use Rattle.entry_reader.specs.Meant.{IsMeant}
+use Rattle.entry_reader.specs.Saying.{said, line_words}
+use Rattle.entry_reader.specs.Tailing.{ReadsEntry}
 use Rattle.entry_reader.proofs.WholeLines.{line_cut, line_head}
 use Rattle.report_reader.specs.Faults.{IsEntryText}
 use Rattle.report_reader.specs.Steps.{ReadsLines}

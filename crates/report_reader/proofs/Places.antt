@@ -4,7 +4,7 @@ use Rattle.std.specs.Prelude.{nat_eq}
 use Rattle.std.proofs.lemmas.List.{take_all, append_cancel_right}
 use Rattle.std.proofs.lemmas.List.Elements.{All-cons, All-nil}
 use Rattle.std.proofs.lemmas.Bool.Decides.{eqb_tells}
-use Rattle.joint_model.specs.declared.events.Entry.{Entry}
+use Rattle.joint_machine.specs.declared.events.Entry.{Entry}
 use Rattle.byte_streams.proofs.Bytes.{rest_of}
 use Rattle.text_words.proofs.Cuts.{cut_at, free_before}
 use Rattle.history_report.specs.Report.{end_text}

@@ -1,12 +1,13 @@
 -- The lines that were read so far, one after another, and what is left.
 use Rattle.std.proofs.Common.{◌≡◌, ℕ, ◌+◌, ◌<◌, ◌≤◌, inl, inr, true, false, List, [], ◌∷◌, ◌++◌, length, refl, sym, ap, ◌∙◌, subst, arith, append_assoc, append-nil, length-append}
-use Rattle.joint_model.specs.declared.events.Entry.{Entry}
+use Rattle.joint_machine.specs.declared.events.Entry.{Entry}
 use Rattle.history_report.specs.Report.{end_text, entries_text}
-use Rattle.entry_reader.specs.Saying.{ReadsEntry}
+use Rattle.entry_reader.specs.Tailing.{ReadsEntry}
 use Rattle.report_reader.specs.declared.faults.ReportError.{ReportError}
 use Rattle.report_reader.specs.declared.faults.ReportError.TheVariants as error
 use Rattle.report_reader.specs.Reading.{IsReadAs}
-use Rattle.report_reader.specs.Faults.{IsFaultHere, IsReportFault, IsReportRefusal, closed_lines}
+use Rattle.report_reader.specs.Faults.{IsFaultHere, IsReportFault, closed_lines}
+use Rattle.report_reader.specs.Answers.{IsReportRefusal}
 use Rattle.report_reader.specs.Steps.{IsEndError, IsFaultBehind, IsFrontError, IsLineError, Read, ReadsLine, ReadsLines, ReadsTo, history_of, no_lists}
 use Rattle.report_reader.proofs.Canonical.{canonical_of}
 use Rattle.report_reader.proofs.Judging.{no_report}

@@ -1,11 +1,11 @@
 -- A list has no more numbers than its text has bytes, and there are no more entries: each word has a space before it.
 use Rattle.std.proofs.Common.{ℕ, ◌+◌, ◌≤◌, List, [], ◌∷◌, ◌++◌, length, codes, decimal, ap, arith, length-append}
 use Rattle.std.proofs.lemmas.List.{length-map}
-use Rattle.joint_model.specs.declared.events.Reply.{Reply}
-use Rattle.joint_model.specs.declared.events.Reply.TheVariants as reply
-use Rattle.joint_model.specs.declared.events.Entry.{Entry}
-use Rattle.joint_model.specs.Histories.{Finished}
-use Rattle.byte_streams.specs.Drafts.{after_spaces}
+use Rattle.joint_machine.specs.declared.events.Reply.{Reply}
+use Rattle.joint_machine.specs.declared.events.Reply.TheVariants as reply
+use Rattle.joint_machine.specs.declared.events.Entry.{Entry}
+use Rattle.joint_machine.specs.Histories.{Finished}
+use Rattle.byte_streams.specs.Spaced.{after_spaces}
 use Rattle.text_words.specs.Words.{spaced}
 use Rattle.bridge_script.proofs.Printed.{spaced_after}
 use Rattle.history_report.specs.Lists.{listed}

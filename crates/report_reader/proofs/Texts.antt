@@ -1,12 +1,12 @@
--- The line of an entry in a history is that entry's line with the numbers that it names there. It has no newline, and begins with a digit, as the last line
--- of a report doesn't.
+-- The line of an entry in a history is that entry's line with the numbers that it names there. It has no newline, and
+-- begins with a digit, as the last line of a report doesn't.
 use Rattle.std.proofs.Common.{◌≡◌, ℕ, ◌<◌, ◌^◌, List, [], ◌∷◌, ◌++◌, take, Option, Some, None, codes, decimal, refl, sym, ap, ◌∙◌, subst, arith, append_assoc}
 use Rattle.std.proofs.lemmas.List.{append_cancel_left, append_cancel_right}
-use Rattle.joint_model.specs.declared.names.Span.{Span}
-use Rattle.joint_model.specs.declared.events.Reply.{Reply}
-use Rattle.joint_model.specs.declared.events.Entry.{Entry}
-use Rattle.joint_model.specs.Histories.{Finished, stretch}
-use Rattle.byte_streams.specs.Drafts.{after_spaces}
+use Rattle.joint_machine.specs.declared.names.Span.{Span}
+use Rattle.joint_machine.specs.declared.events.Reply.{Reply}
+use Rattle.joint_machine.specs.declared.events.Entry.{Entry}
+use Rattle.joint_machine.specs.Histories.{Finished, stretch}
+use Rattle.byte_streams.specs.Spaced.{after_spaces}
 use Rattle.text_words.specs.Words.{spaced}
 use Rattle.bridge_script.proofs.Printed.{spaced_after}
 use Rattle.history_report.specs.declared.lists.Numbers.{Numbers}

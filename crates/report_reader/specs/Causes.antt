@@ -1,4 +1,5 @@
 -- The numbers and the names of the causes for which a report is refused.
+-- Believed: the clauses of the program's top call rest on all that stands here.
 use Rattle.std.specs.Prelude.{ℕ, List, codes}
 use Rattle.report_reader.specs.declared.faults.ReportCause.{ReportCause}
 use Rattle.report_reader.specs.declared.faults.ReportCause.TheVariants as cause

@@ -1,14 +1,13 @@
 -- Which line of bytes is the first that no report has, and why.
+-- Believed: the clauses of the program's top call rest on all that stands here.
 use Rattle.std.specs.Prelude.{◌≡◌, ◌≢◌, ℕ, ◌+◌, ◌<◌, ◌^◌, ◌⊎◌, Bool, true, false, List, [], ◌∷◌, ◌++◌, length, All}
-use Rattle.joint_model.specs.declared.events.Entry.{Entry}
-use Rattle.joint_model.specs.Histories.{Finished}
+use Rattle.joint_machine.specs.declared.events.Entry.{Entry}
+use Rattle.joint_machine.specs.Histories.{Finished}
 use Rattle.history_report.specs.Report.{report, end_text}
 use Rattle.entry_reader.specs.Saying.{IsLineOf}
 use Rattle.report_reader.specs.declared.faults.ReportCause.{ReportCause}
 use Rattle.report_reader.specs.declared.faults.ReportCause.TheVariants as cause
 use Rattle.report_reader.specs.declared.faults.ReportFault.{ReportFault}
-use Rattle.report_reader.specs.declared.faults.ReportError.{ReportError}
-use Rattle.report_reader.specs.declared.faults.ReportError.TheVariants as error
 use Rattle.report_reader.specs.Reading.{IsValue}
 
 -- the text, without its newline, is the line of an entry with that number, whatever numbers its list has
@@ -22,7 +21,8 @@ pub record IsEntryText (number : ℕ) (text : List ℕ) : Type 0 where
 abbrev pub IsEndText : ℕ → List ℕ → Type 0
 IsEndText n text = (n < 2 ^ 64) × (text ++ 10 ∷ [] ≡ end_text n)
 
--- a line where it stands: its text, whether it has a newline, how many lines stand before it, and whether one of them is the last line of a report
+-- a line where it stands: its text, whether it has a newline, how many lines stand before it, and whether one of them
+-- is the last line of a report
 pub record Placed : Type 0 where
   pub text : List ℕ
   pub closed : Bool
@@ -92,8 +92,3 @@ IsReportFault bytes fault = IsFaultyLine bytes fault ⊎ LacksEnd bytes fault
 -- no history has these bytes as its report
 abbrev pub IsNoReport : List ℕ → Type 0
 IsNoReport bytes = (h : Finished) → IsValue h → bytes ≢ report h
-
--- what may be answered in place of a history: no memory, or the first faulty line where the bytes are no report
-abbrev pub IsReportRefusal : List ℕ → ReportError → Type 0
-IsReportRefusal bytes error.OutOfMemory = Unit {0}
-IsReportRefusal bytes (error.Refused fault) = IsReportFault bytes fault × IsNoReport bytes

@@ -1,12 +1,14 @@
--- What holds of reading reports back: a text is read as one history, each history's report is read, and as a history that is like it.
+-- What holds of reading reports back: a text is read as one history, each history's report is read, and as a history
+-- that is like it.
 use Rattle.std.specs.Prelude.{◌≡◌, ℕ, ◌<◌, ◌^◌, List, [], ◌∷◌, length, All}
-use Rattle.joint_model.specs.declared.events.Reply.{Reply}
-use Rattle.joint_model.specs.declared.events.Reply.TheVariants as reply
-use Rattle.joint_model.specs.declared.events.Entry.{Entry}
-use Rattle.joint_model.specs.Histories.{Finished}
+use Rattle.joint_machine.specs.declared.events.Reply.{Reply}
+use Rattle.joint_machine.specs.declared.events.Reply.TheVariants as reply
+use Rattle.joint_machine.specs.declared.events.Entry.{Entry}
+use Rattle.joint_machine.specs.Histories.{Finished}
 use Rattle.history_report.specs.Report.{report}
-use Rattle.entry_reader.specs.Meaning.{IsMeant}
-use Rattle.report_reader.specs.Reading.{IsValue, IsReadAs, SpansRun, as_named, no_ends}
+use Rattle.entry_reader.specs.Meant.{IsMeant}
+use Rattle.report_reader.specs.Reading.{IsValue, IsReadAs, SpansRun, no_ends}
+use Rattle.report_reader.specs.Answers.{as_named}
 
 -- bytes are read as at most one history
 abbrev pub ReportsAreOne : Type 0
@@ -48,7 +50,7 @@ pub record IsReadBack (h : Finished) : Type 0 where
 abbrev pub EachIsReadBack : Type 0
 EachIsReadBack = (h : Finished) → IsValue h → length (report h) < 2 ^ 32 → IsReadBack h
 
--- a history whose replies are those that their events have, and whose spans stand one behind another, is read of its report as itself, but for what stands
--- in its lists behind the last number that is named
+-- a history whose replies are those that their events have, and whose spans stand one behind another, is read of its
+-- report as itself, but for what stands in its lists behind the last number that is named
 abbrev pub NamedIsRead : Type 0
 NamedIsRead = (h : Finished) → IsValue h → All (λ e. IsMeant e.made.op e.made.reply) h.entries → SpansRun no_ends h.entries → length (report h) < 2 ^ 32 → IsReadAs (report h) (as_named h)

@@ -1,13 +1,14 @@
--- Which history a text is read as: of all those that have this report the one whose replies are those that their events have, and whose lists are what
--- the text names, in the order of the entries.
-use Rattle.std.specs.Prelude.{◌≡◌, ℕ, ◌+◌, ◌≤◌, List, [], ◌∷◌, length, take, All}
-use Rattle.joint_model.specs.declared.events.Reply.{Reply}
-use Rattle.joint_model.specs.declared.events.Reply.TheVariants as reply
-use Rattle.joint_model.specs.declared.events.Entry.{Entry}
-use Rattle.joint_model.specs.Histories.{Finished, IsHistory}
+-- Which history a text is read as: of all those that have this report the one whose replies are those that their events
+-- have, and whose lists are what the text names, in the order of the entries.
+-- Believed: the clauses of the program's top call rest on all that stands here.
+use Rattle.std.specs.Prelude.{◌≡◌, ℕ, ◌+◌, ◌≤◌, List, [], ◌∷◌, length, All}
+use Rattle.joint_machine.specs.declared.events.Reply.{Reply}
+use Rattle.joint_machine.specs.declared.events.Reply.TheVariants as reply
+use Rattle.joint_machine.specs.declared.events.Entry.{Entry}
+use Rattle.joint_machine.specs.Histories.{Finished, IsHistory}
 use Rattle.history_report.specs.Report.{report}
 use Rattle.entry_reader.specs.Fitting.{Short, FitsTypes}
-use Rattle.entry_reader.specs.Meaning.{IsMeant}
+use Rattle.entry_reader.specs.Meant.{IsMeant}
 
 -- a history as a value of the program, lawful or not: what every history keeps, and each number fits its type
 pub record IsValue (h : Finished) : Type 0 where
@@ -61,7 +62,8 @@ pub record HasJust (h : Finished) (e : Ends) : Type 0 where
   pub few_peers : e.peers ≤ 4294967295
   pub few_notices : e.notices ≤ 4294967295
 
--- the history is the one that is meant by its text: each reply is the one that its event has, and the lists are what the spans name, one behind another
+-- the history is the one that is meant by its text: each reply is the one that its event has, and the lists are what
+-- the spans name, one behind another
 pub record IsCanonical (h : Finished) : Type 0 where
   pub value : IsValue h
   pub meant : All (λ e. IsMeant e.made.op e.made.reply) h.entries
@@ -72,12 +74,3 @@ pub record IsCanonical (h : Finished) : Type 0 where
 pub record IsReadAs (bytes : List ℕ) (h : Finished) : Type 0 where
   pub canonical : IsCanonical h
   pub text : bytes ≡ report h
-
--- the history without what stands in its lists behind the last number that is named, where its spans stand one behind another
-abbrev pub as_named : Finished → Finished
-as_named h = record {
-  entries = h.entries;
-  freed_managed = take (ends_of no_ends h.entries).managed h.freed_managed;
-  freed_peers = take (ends_of no_ends h.entries).peers h.freed_peers;
-  notices = take (ends_of no_ends h.entries).notices h.notices;
-}

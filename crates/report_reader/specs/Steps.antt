@@ -1,10 +1,10 @@
 -- What the parts of reading a report promise each other. Nothing outside of this crate rests on it.
 use Rattle.std.specs.Prelude.{◌≡◌, ℕ, ◌+◌, ◌⊎◌, false, true, List, [], ◌∷◌, ◌++◌, length}
-use Rattle.joint_model.specs.declared.events.Entry.{Entry}
-use Rattle.joint_model.specs.Histories.{Finished}
+use Rattle.joint_machine.specs.declared.events.Entry.{Entry}
+use Rattle.joint_machine.specs.Histories.{Finished}
 use Rattle.history_report.specs.Report.{end_text}
 use Rattle.entry_reader.specs.Meaning.{Lists}
-use Rattle.entry_reader.specs.Saying.{ReadsEntry}
+use Rattle.entry_reader.specs.Tailing.{ReadsEntry}
 use Rattle.report_reader.specs.declared.faults.ReportCause.TheVariants as cause
 use Rattle.report_reader.specs.declared.faults.ReportFault.{ReportFault}
 use Rattle.report_reader.specs.declared.faults.ReportError.{ReportError}
@@ -24,7 +24,8 @@ no_lists = record { managed = []; peers = []; notices = [] }
 abbrev pub history_of : Read → Finished
 history_of r = record { entries = r.entries; freed_managed = r.lists.managed; freed_peers = r.lists.peers; notices = r.lists.notices }
 
--- the entries were read from the lines of a text, each numbered by the lines before it, and their lists put behind those before
+-- the entries were read from the lines of a text, each numbered by the lines before it, and their lists put behind
+-- those before
 abbrev pub ReadsLines : ℕ → Lists → List Entry → List ℕ → Lists → Type 0
 ReadsLines n before [] text after = (text ≡ []) × (after ≡ before)
 ReadsLines n before (e ∷ es) text after = (line : List ℕ) × (rest : List ℕ) × (mid : Lists) × (text ≡ line ++ (10 ∷ rest)) × ReadsEntry line n before mid e × ReadsLines (n + 1) mid es rest after

@@ -1,7 +1,7 @@
 // What was read so far: the entries of the lines, and the lists that they name.
 
 ghost use Rattle.std.specs.Prelude.{◌≡◌, ◌≢◌, ◌+◌, ◌<◌, ◌≤◌, ◌++◌, ℕ, [], ◌∷◌, All, length, slice_index, IfOk, IfErr, MatchOption};
-ghost use Rattle.joint_model.specs.Histories.{IsHistory};
+ghost use Rattle.joint_machine.specs.Histories.{IsHistory};
 ghost use Rattle.report_reader.specs.Steps.{ReadsLine, IsLineError, history_of, no_lists};
 
 use crate::faults::{ReportCause, ReportError, refusal};
@@ -34,7 +34,8 @@ impl Model for Draft {
 // How many bytes are looked at at once for a line's end.
 const LANES: usize = 32;
 
-// The place of the first newline, or the length where there is none. Most lines of a report have more than 32 bytes and fewer than 64.
+// The place of the first newline, or the length where there is none. Most lines of a report have more than 32 bytes and
+// fewer than 64.
 #[inline(always)]
 fn line_end(bytes: &[u8]) -> usize
     ensures within { result ≤ length bytes.now }
@@ -82,8 +83,8 @@ impl Draft {
         self.entries.len()
     }
 
-    /// Reads the first line as that of the next entry, and answers what stands behind it. The line doesn't begin as a last line does. Where it is no
-    /// entry's, or for want of memory, the draft is of no more use.
+    /// Reads the first line as that of the next entry, and answers what stands behind it. The line doesn't begin as a
+    /// last line does. Where it is no entry's, or for want of memory, the draft is of no more use.
     pub(crate) fn read_line<'a>(&mut self, bytes: &'a [u8]) -> Result<&'a [u8], ReportError>
         requires some { 0 < length bytes.now }
         requires not_last { slice_index bytes.now 0 ≢ 101 }

@@ -5,13 +5,15 @@ ghost use Rattle.report_reader.specs.Causes.{cause_number, cause_name};
 
 use std::alloc::AllocError;
 
-/// Why a line is no line of a report where it stands. Each cause has a number, behind those of scripts, and a name, which are printed.
+/// Why a line is no line of a report where it stands. Each cause has a number, behind those of scripts, and a name,
+/// which are printed.
 #[derive(Clone, Copy, PartialEq, Eq, Debug)]
 pub enum ReportCause {
-    /// The line is neither an entry's, with the number of the lines before it, nor `end` with a number; or it has no newline.
+    /// The line is neither an entry's, with the number of the lines before it, nor `end` with a number; or it has no
+    /// newline.
     Form,
-    /// The line is `end` with another number than that of the lines before it, or stands behind the last line; or it is the place behind all lines,
-    /// where no last line stood.
+    /// The line is `end` with another number than that of the lines before it, or stands behind the last line; or it is
+    /// the place behind all lines, where no last line stood.
     Ending,
 }
 
@@ -39,7 +41,8 @@ impl ReportCause {
     }
 }
 
-/// The first line of a text that no report has, counted from 1, and its cause. Where only the last line is missing, it is the place behind all lines.
+/// The first line of a text that no report has, counted from 1, and its cause. Where only the last line is missing, it
+/// is the place behind all lines.
 #[derive(Clone, Copy, PartialEq, Eq, Debug)]
 pub struct ReportFault {
     pub line: u32,

@@ -2,7 +2,7 @@
 
 ghost use Rattle.std.specs.Prelude.{◌≡◌, ◌≢◌, ◌+◌, ◌<◌, ◌≤◌, ◌⊎◌, [], length, slice_index, IfOk, IfErr};
 ghost use Rattle.report_reader.specs.Reading.{IsReadAs};
-ghost use Rattle.report_reader.specs.Faults.{IsReportRefusal};
+ghost use Rattle.report_reader.specs.Answers.{IsReportRefusal};
 ghost use Rattle.report_reader.specs.Steps.{ReadsTo, IsFrontError};
 
 use crate::drafts::Draft;
@@ -27,11 +27,12 @@ fn read_entries<'a>(bytes: &'a [u8], draft: &mut Draft) -> Result<&'a [u8], Repo
     Ok(left)
 }
 
-/// The history that these bytes are the report of: of all that have it the one whose replies are those that their events have, and whose lists are what
-/// the text names, in the order of the entries. Its report is these bytes again.
+/// The history that these bytes are the report of: of all that have it the one whose replies are those that their
+/// events have, and whose lists are what the text names, in the order of the entries. Its report is these bytes again.
 ///
-/// `OutOfMemory` where there is no memory for the history, which is all that is taken. `Refused` exactly where no history has this report, lawful or not,
-/// with the first line that has a cause: see [`ReportCause`](crate::ReportCause). The time goes by the number of bytes.
+/// `OutOfMemory` where there is no memory for the history, which is all that is taken. `Refused` exactly where no
+/// history has this report, lawful or not, with the first line that has a cause: see
+/// [`ReportCause`](crate::ReportCause). The time goes by the number of bytes.
 pub fn read_report(alloc: Global, bytes: &[u8]) -> Result<History, ReportError>
     requires { length bytes.now < 4294967295 }
     ensures ok { IfOk result (λ h. IsReadAs bytes.now h) }

@@ -2,9 +2,9 @@
 use Rattle.std.proofs.Common.{◌≡◌, ℕ, ◌<◌, ◌≤◌, true, false, Option, Some, None, length, sym, ap, ◌∙◌, nat_le}
 use Rattle.std.specs.Prelude.{if◌then◌else◌}
 use borrow.Author.Tests.{le-leb, lt-leb}
-use Rattle.joint_model.specs.declared.events.Reply.{Reply}
-use Rattle.joint_model.specs.declared.events.Reply.TheVariants as says
-use Rattle.joint_model.specs.Heaps.{Heap, answer, field_got, field_set, field_stored, fields_of, read_into, slot, stored, with_field, with_static}
+use Rattle.joint_machine.specs.declared.events.Reply.{Reply}
+use Rattle.joint_machine.specs.declared.events.Reply.TheVariants as says
+use Rattle.joint_machine.specs.Heaps.{Heap, answer, field_got, field_set, field_stored, fields_of, read_into, slot, stored, with_field, with_static}
 use Rattle.row_heap.specs.Marks.{is_given, overwritten}
 use Rattle.row_heap.specs.Rows.{HeapRows}
 

@@ -1,9 +1,10 @@
--- Few fields stand in two places, of which those after the fields are empty. So what the places hold is what the fields hold.
+-- Few fields stand in two places, of which those after the fields are empty. So what the places hold is what the fields
+-- hold.
 use Rattle.std.proofs.Common.{◌≡◌, ℕ, zero, suc, ◌≤◌, ◌⊎◌, inl, inr, List, [], ◌∷◌, take, drop, get_or, Option, Some, None, sym, subst, arith}
 use Rattle.std.specs.Prelude.{All, Contains}
 use Rattle.std.proofs.lemmas.List.{take-append-drop}
 use Rattle.std.proofs.lemmas.List.Elements.{All-contains, Contains-append_cases}
-use Rattle.joint_model.proofs.Members.{Contains-nil, Contains-here, Contains-there, Contains-cons_cases}
+use Rattle.joint_machine.proofs.Members.{Contains-nil, Contains-here, Contains-there, Contains-cons_cases}
 
 -- what a place holds is among the fields
 pub place-held : (cells : List (Option ℕ)) (i y : ℕ) → get_or cells i None ≡ Some y → Contains cells (Some y)

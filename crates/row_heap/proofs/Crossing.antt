@@ -1,14 +1,16 @@
--- What the references of a row lead to over temporaries. The row and the temporaries that were gone through are done: what their references lead
--- to is marked, or seen. A temporary that is seen was seen before, waits, or is done, and whatever a waiting one leads to the row leads to. Once
--- none waits, a walk from a done end meets only done ones, up to a temporary that was seen before, behind which all is marked already.
+-- What the references of a row lead to over temporaries. The row and the temporaries that were gone through are done:
+-- what their references lead to is marked, or seen. A temporary that is seen was seen before, waits, or is done, and
+-- whatever a waiting one leads to the row leads to. Once none waits, a walk from a done end meets only done ones, up to
+-- a temporary that was seen before, behind which all is marked already.
 --
--- A turn takes one temporary from those that wait, and each that joins them wasn't seen: the unseen ones, with those that wait, become fewer.
+-- A turn takes one temporary from those that wait, and each that joins them wasn't seen: the unseen ones, with those
+-- that wait, become fewer.
 use Rattle.std.proofs.Common.{◌≡◌, ℕ, suc, ◌+◌, ◌≤◌, ◌<◌, ◌⊎◌, inl, inr, Bool, List, [], ◌∷◌, ◌++◌, length, Some, refl, sym, ap, subst, ◌∙◌, arith}
 use Rattle.std.specs.Prelude.{Contains, slice_get}
 use Rattle.std.proofs.lemmas.List.Elements.{Contains-append_left, Contains-push, Contains-push_cases}
-use Rattle.joint_model.specs.Components.{End, node, temporary}
-use Rattle.joint_model.specs.PeerReplay.{LeadsOver, Refers}
-use Rattle.joint_model.proofs.Members.{Contains-nil, Contains-here, Contains-there, Contains-cons_cases}
+use Rattle.joint_machine.specs.Components.{End, node, temporary}
+use Rattle.joint_machine.specs.PeerReplay.{LeadsOver, Refers}
+use Rattle.joint_machine.proofs.Members.{Contains-nil, Contains-here, Contains-there, Contains-cons_cases}
 use Rattle.reachability.specs.Marks.{HasMark, unmarked}
 use Rattle.reachability.proofs.Marking.{unmarked-le}
 use Rattle.row_marking.specs.Traces.{Chained, GreyChain, Greyed, greys}

@@ -1,13 +1,14 @@
--- The edges of the heap, and those that the marking loop walks. Between live objects they are the same; from a freed one the loop's lead on, but
--- no freed object has a mark, and no walk from a live one comes to one. So a marking over the one kind of edges is one over the other.
+-- The edges of the heap, and those that the marking loop walks. Between live objects they are the same; from a freed
+-- one the loop's lead on, but no freed object has a mark, and no walk from a live one comes to one. So a marking over
+-- the one kind of edges is one over the other.
 use Rattle.std.proofs.Common.{◌≡◌, ℕ, zero, ◌≤◌, suc, inl, inr, Bool, true, false, List, [], ◌∷◌, map, length, Option, refl, sym, ap, subst, ◌∙◌, arith}
 use Rattle.std.specs.Prelude.{Contains, IsTrue}
 use Rattle.std.proofs.lemmas.List.{length-map}
-use Rattle.joint_model.specs.Components.{node}
-use Rattle.joint_model.specs.PeerReplay.{Refers}
-use Rattle.joint_model.specs.Heaps.{Heap, IsLive}
-use Rattle.joint_model.specs.Walks.{Reached}
-use Rattle.joint_model.proofs.WalkLemmas.{Reached-keeps, Reached-start, Reached-then, Reached-mono}
+use Rattle.joint_machine.specs.Components.{node}
+use Rattle.joint_machine.specs.PeerReplay.{Refers}
+use Rattle.joint_machine.specs.Heaps.{Heap, IsLive}
+use Rattle.joint_machine.specs.Walks.{Reached}
+use Rattle.joint_machine.proofs.WalkLemmas.{Reached-keeps, Reached-start, Reached-then, Reached-mono}
 use Rattle.heap_rules.specs.Tidy.{IsTidy}
 use Rattle.reachability.specs.Marks.{IsClosed, HasMark}
 use Rattle.reachability.specs.Scans.{Scans}

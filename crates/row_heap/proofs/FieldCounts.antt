@@ -1,9 +1,10 @@
--- How many fields the rows have together. A further row adds its own; a write to a field, a mark and a removal leave each row as many as it had.
+-- How many fields the rows have together. A further row adds its own; a write to a field, a mark and a removal leave
+-- each row as many as it had.
 use Rattle.std.proofs.Common.{◌≡◌, ℕ, ◌+◌, ◌≤◌, List, [], ◌∷◌, ◌++◌, map, length, refl, sym, ap, subst, ◌∙◌, arith, length-append}
 use Rattle.std.specs.Prelude.{sum}
 use Rattle.std.proofs.lemmas.List.{length-map, map-append}
 use Rattle.std.proofs.lemmas.List.Sums.{sum_by_push}
-use Rattle.joint_model.specs.Heaps.{numbered_set}
+use Rattle.joint_machine.specs.Heaps.{numbered_set}
 use Rattle.row_heap.specs.Places.{Seen, row_at}
 use Rattle.row_heap.specs.Rows.{IsFieldCount}
 use Rattle.row_heap.proofs.Sound.{map-kept}

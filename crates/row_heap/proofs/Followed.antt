@@ -1,11 +1,12 @@
--- The references of one end, followed from the last one to the first. Those from a place on are done, and between two that follow each other
--- stands none of the end's. So at the first place all that the end's references lead to is marked, or seen.
+-- The references of one end, followed from the last one to the first. Those from a place on are done, and between two
+-- that follow each other stands none of the end's. So at the first place all that the end's references lead to is
+-- marked, or seen.
 use Rattle.std.proofs.Common.{◌≡◌, ℕ, ◌-◌, ◌≤◌, ◌⊎◌, inl, inr, Bool, List, length, Some, refl, sym, ap, subst, ◌∙◌, arith}
 use Rattle.std.specs.Prelude.{Contains, slice_get}
 use Rattle.std.proofs.lemmas.Bool.{cases_lt}
 use Rattle.std.proofs.lemmas.Option.{slice_get_within}
-use Rattle.joint_model.specs.Components.{End, node}
-use Rattle.joint_model.proofs.Members.{Contains-at, at-Contains}
+use Rattle.joint_machine.specs.Components.{End, node}
+use Rattle.joint_machine.proofs.Members.{Contains-at, at-Contains}
 use Rattle.row_marking.specs.Traces.{Greyed}
 use Rattle.row_marking.proofs.Greys.{Greyed-as, Greyed-none, Greyed-then}
 use Rattle.row_heap.specs.Ends.{IsLastBelow, IsTemporary, Raises, Sees}

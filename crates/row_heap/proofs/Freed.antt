@@ -1,10 +1,11 @@
--- Rows that are removed one after another. A removed row keeps its fields and doesn't stand, so it can't be one of those that stand; the others
--- are as they were. Which rows stand is the list of flags of `heap_rules`, whose lemmas on flags taken down are used as they are.
+-- Rows that are removed one after another. A removed row keeps its fields and doesn't stand, so it can't be one of
+-- those that stand; the others are as they were. Which rows stand is the list of flags of `heap_rules`, whose lemmas on
+-- flags taken down are used as they are.
 use Rattle.std.proofs.Common.{◌≡◌, ℕ, zero, suc, ◌+◌, ◌≤◌, ◌<◌, Bool, true, false, List, [], ◌∷◌, ◌++◌, map, length, take, Option, Some, get_or, refl, sym, ap, subst, ◌∙◌}
 use Rattle.std.specs.Prelude.{Contains, All}
 use Rattle.std.proofs.lemmas.List.{length-map}
-use Rattle.joint_model.specs.Components.{Rises}
-use Rattle.joint_model.specs.Heaps.{Heap, IsLive, numbered_set, with_freed}
+use Rattle.joint_machine.specs.Components.{Rises}
+use Rattle.joint_machine.specs.Heaps.{Heap, IsLive, numbered_set, with_freed}
 use Rattle.heap_rules.specs.Flags.{IsSound, IsUp, TakesDown, up_count}
 use Rattle.heap_rules.specs.Tidy.{CanFree}
 use Rattle.heap_rules.proofs.Numbered.{numbered_set-index}

@@ -5,8 +5,8 @@ use Rattle.std.proofs.lemmas.Bool.{cases_lt}
 use Rattle.std.proofs.lemmas.List.{length-replicate}
 use Rattle.std.proofs.Math.Seq.{take-suc-set}
 use Rattle.std.proofs.lemmas.List.Elements.{All-head, All-push, All-tail, Contains-append_left}
-use Rattle.joint_model.specs.Heaps.{Heap, IsLive}
-use Rattle.joint_model.proofs.Members.{Contains-decided}
+use Rattle.joint_machine.specs.Heaps.{Heap, IsLive}
+use Rattle.joint_machine.proofs.Members.{Contains-decided}
 use Rattle.heap_rules.specs.Flags.{IsSound}
 use Rattle.heap_rules.specs.Tidy.{IsTidy}
 use Rattle.row_heap.specs.Places.{Seen, row_at}

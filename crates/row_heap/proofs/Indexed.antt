@@ -1,13 +1,13 @@
--- The rows that an index shows, where one place of it, or one row of the slab, changes. A key stands in the index once, so what happens under
--- it is seen at one number alone; and a key that was vacant stands nowhere in the index.
+-- The rows that an index shows, where one place of it, or one row of the slab, changes. A key stands in the index once,
+-- so what happens under it is seen at one number alone; and a key that was vacant stands nowhere in the index.
 use Rattle.std.proofs.Common.{◌≡◌, ◌≢◌, ℕ, zero, suc, ◌-◌, ◌≤◌, ◌⊎◌, inl, inr, true, false, List, [], ◌∷◌, ◌++◌, map, length, Option, Some, None, is_some, set, get_or, refl, sym, ap, subst, ◌∙◌, arith}
 use Rattle.std.specs.Prelude.{slice_get, slice_index_or}
 use Rattle.std.proofs.lemmas.Bool.{cases_eq}
 use Rattle.std.proofs.lemmas.List.{length-map, map-append}
 use Rattle.std.proofs.lemmas.Option.{slice_get_read}
 use Rattle.std.specs.declared.snapshot.Snapshot.{Snapshot}
-use Rattle.joint_model.specs.Heaps.{numbered_at, numbered_set}
-use Rattle.joint_model.proofs.Numbered.{push-at_cases}
+use Rattle.joint_machine.specs.Heaps.{numbered_at, numbered_set}
+use Rattle.joint_machine.proofs.Numbered.{push-at_cases}
 use Rattle.heap_rules.proofs.Numbered.{numbered-read, numbered_set-index}
 use Rattle.slab.specs.Slab.{Slab, get, Updates, with_value}
 use Rattle.slab.proofs.SlabLemmas.{Updates-with_value}

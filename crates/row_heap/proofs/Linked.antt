@@ -1,14 +1,15 @@
--- References of each end as a linked list. A further reference stands last, and the one of its end before it is the one that the end said: between
--- them stands none of the end's. The lists of other ends go on as they were, since each speaks of the places below one of its own.
+-- References of each end as a linked list. A further reference stands last, and the one of its end before it is the one
+-- that the end said: between them stands none of the end's. The lists of other ends go on as they were, since each
+-- speaks of the places below one of its own.
 use Rattle.std.proofs.Common.{◌≡◌, ◌≢◌, ℕ, zero, suc, ◌+◌, ◌-◌, ◌≤◌, ◌⊎◌, inl, inr, Bool, false, List, [], ◌∷◌, ◌++◌, map, length, replicate, take, Option, Some, None, refl, sym, ap, subst, ◌∙◌, arith, length-append}
 use Rattle.std.specs.Prelude.{Contains, slice_get, slice_index_or}
 use Rattle.std.proofs.lemmas.Bool.{cases_eq, cases_lt}
 use Rattle.std.proofs.lemmas.List.{get_or-replicate, get_or_past, length-map, length-replicate, map-append, take_all}
 use Rattle.std.proofs.lemmas.List.Elements.{Contains-push_cases}
 use Rattle.std.proofs.lemmas.Option.{slice_get_within}
-use Rattle.joint_model.specs.Components as exact
-use Rattle.joint_model.proofs.Numbered.{push-at_cases, push-at_old, push-at_new}
-use Rattle.joint_model.proofs.Members.{Contains-nil, Contains-here, Contains-there}
+use Rattle.joint_machine.specs.Components as exact
+use Rattle.joint_machine.proofs.Numbered.{push-at_cases, push-at_old, push-at_new}
+use Rattle.joint_machine.proofs.Members.{Contains-nil, Contains-here, Contains-there}
 use Rattle.row_marking.specs.Traces.{Greyed}
 use Rattle.row_heap.specs.declared.references.Reference.{Reference}
 use Rattle.row_heap.specs.Ends.{AreLinked, FirstsCleared, HasPlace, IsEnd, IsLastBelow, Linked, end_of, first_in, linked_of, pairs_in}

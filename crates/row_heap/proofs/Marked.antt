@@ -1,12 +1,13 @@
--- Rows with the marks and the links that stand beside them. What marks and links don't touch is seen as without them, so a write to a row of
--- the slab is a write to the row as it is seen; a write to all three lists at one place writes the row with both. A row with a mark stands as
--- long as each row that is written is such a row, and a marking through the fields of a row marks rows that stand.
+-- Rows with the marks and the links that stand beside them. What marks and links don't touch is seen as without them,
+-- so a write to a row of the slab is a write to the row as it is seen; a write to all three lists at one place writes
+-- the row with both. A row with a mark stands as long as each row that is written is such a row, and a marking through
+-- the fields of a row marks rows that stand.
 use Rattle.std.proofs.Common.{◌≡◌, ℕ, zero, suc, ◌-◌, ◌≤◌, ◌<◌, ◌⊎◌, inl, inr, Bool, true, false, List, [], ◌∷◌, ◌++◌, map, length, replicate, drop, get_or, set, Option, Some, None, refl, sym, ap, subst, ◌∙◌, arith, length-append}
 use Rattle.std.specs.Prelude.{Contains, slice_get}
 use Rattle.std.proofs.Math.ListN.{length-set}
 use Rattle.std.proofs.lemmas.List.{length-map}
 use Rattle.std.proofs.lemmas.List.Elements.{Contains-append_left, Contains-push, Contains-push_cases}
-use Rattle.joint_model.specs.Heaps.{numbered_set}
+use Rattle.joint_machine.specs.Heaps.{numbered_set}
 use Rattle.heap_rules.proofs.Numbered.{numbered_set-index}
 use Rattle.reachability.specs.Marks.{HasMark}
 use Rattle.reachability.proofs.Marking.{Scans-seen, read-mark, set-keeps, set-marked}

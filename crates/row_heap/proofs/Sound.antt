@@ -1,18 +1,18 @@
--- A heap of rows stays sound. The lemmas of `heap_rules` on a heap with flags are used as they are: its flags are which rows
--- stand. Slots and fields are written between rows that stand, so no row comes or goes, and no reference is touched. A further row stands last,
--- and no reference is its own.
+-- A heap of rows stays sound. The lemmas of `heap_rules` on a heap with flags are used as they are: its flags are which
+-- rows stand. Slots and fields are written between rows that stand, so no row comes or goes, and no reference is
+-- touched. A further row stands last, and no reference is its own.
 use Rattle.std.proofs.Common.{◌≡◌, ℕ, zero, suc, ◌+◌, ◌≤◌, ◌<◌, ◌⊎◌, inl, inr, Bool, true, false, List, [], ◌∷◌, ◌++◌, map, length, replicate, Option, Some, None, get_or, set, refl, sym, ap, subst, ◌∙◌, arith, length-append}
 use Rattle.std.specs.Prelude.{All, Contains, OnErr, OnOk, Result, Ok, Err, max}
 use Rattle.std.specs.Option.{ForSome}
 use Rattle.std.proofs.lemmas.Bool.{cases_lt}
 use Rattle.std.proofs.lemmas.List.{get_or_default, length-map, map-append, map-set}
 use Rattle.std.proofs.lemmas.List.Elements.{All-weaker, Contains-append_cases}
-use Rattle.joint_model.specs.Components.{End, node, temporary}
-use Rattle.joint_model.specs.PeerReplay.{LeadsOver, Refers}
-use Rattle.joint_model.specs.Heaps.{Heap, MOST, IsLive, fields_of, numbered_at, numbered_set, slot, with_field, with_object}
-use Rattle.joint_model.proofs.Members.{Contains-nil}
+use Rattle.joint_machine.specs.Components.{End, node, temporary}
+use Rattle.joint_machine.specs.PeerReplay.{LeadsOver, Refers}
+use Rattle.joint_machine.specs.Heaps.{Heap, MOST, IsLive, fields_of, numbered_at, numbered_set, slot, with_field, with_object}
+use Rattle.joint_machine.proofs.Members.{Contains-nil}
 use Rattle.row_heap.proofs.Indexed.{stands-within}
-use Rattle.joint_model.proofs.Numbered.{numbered-push_old, numbered-push_new, numbered-past, numbered_set-length}
+use Rattle.joint_machine.proofs.Numbered.{numbered-push_old, numbered-push_new, numbered-past, numbered_set-length}
 use Rattle.heap_rules.specs.Flags.{IsSound, up_count}
 use Rattle.heap_rules.specs.Tidy.{IsTidy}
 use Rattle.heap_rules.proofs.Numbered.{slot-read}

@@ -1,12 +1,12 @@
--- Each row with references is a source just once: at the place of its last reference. So where the places have had their turn one after another,
--- what the sources below a place lead to is marked.
+-- Each row with references is a source just once: at the place of its last reference. So where the places have had
+-- their turn one after another, what the sources below a place lead to is marked.
 use Rattle.std.proofs.Common.{◌≡◌, ℕ, ◌+◌, ◌-◌, ◌≤◌, ◌⊎◌, inl, inr, true, Bool, List, length, Some, refl, sym, ap, subst, ◌∙◌, arith}
 use Rattle.std.specs.Prelude.{slice_get}
 use Rattle.std.proofs.lemmas.Bool.{cases_lt}
 use Rattle.std.proofs.lemmas.Option.{slice_get_within}
-use Rattle.joint_model.specs.Components.{End, node}
-use Rattle.joint_model.specs.PeerReplay.{Refers}
-use Rattle.joint_model.proofs.Members.{at-Contains}
+use Rattle.joint_machine.specs.Components.{End, node}
+use Rattle.joint_machine.specs.PeerReplay.{Refers}
+use Rattle.joint_machine.proofs.Members.{at-Contains}
 use Rattle.row_marking.specs.Traces.{Greyed}
 use Rattle.row_marking.proofs.Greys.{Greyed-as, Greyed-none, Greyed-then}
 use Rattle.row_heap.specs.Ends.{IsLastBelow}

@@ -1,12 +1,12 @@
--- A sweep over the rows: those without a mark are removed one after another. A row whose turn hasn't come is as it was, so what the sweep looks
--- at is what stood before it. A removed row had no mark, so the marks stay.
+-- A sweep over the rows: those without a mark are removed one after another. A row whose turn hasn't come is as it was,
+-- so what the sweep looks at is what stood before it. A removed row had no mark, so the marks stay.
 use Rattle.std.proofs.Common.{◌≡◌, ℕ, zero, suc, ◌+◌, ◌≤◌, ◌<◌, ◌⊎◌, ◌↔◌, inl, inr, Bool, true, false, not, ◌&&◌, List, [], ◌∷◌, ◌++◌, map, length, drop, Option, Some, if◌then◌else◌, refl, sym, ap, subst, ◌∙◌, arith, append_assoc}
 use Rattle.std.specs.Prelude.{Contains}
 use Rattle.std.proofs.Math.Seq.{drop-append_seam}
 use Rattle.std.proofs.lemmas.List.Elements.{Contains-push, Contains-push_cases, Contains-append_left}
 use Rattle.std.proofs.lemmas.Bool.{cases_Bool}
-use Rattle.joint_model.specs.Heaps.{IsLive, InSlot, numbered_set}
-use Rattle.joint_model.proofs.Members.{All-members, Contains-nil, Rises-push}
+use Rattle.joint_machine.specs.Heaps.{IsLive, InSlot, numbered_set}
+use Rattle.joint_machine.proofs.Members.{All-members, Contains-nil, Rises-push}
 use Rattle.heap_rules.specs.Flags.{IsSound, TakesDown, up_count}
 use Rattle.heap_rules.specs.Tidy.{CanFree}
 use Rattle.heap_rules.proofs.Sound.{TakesDown-push, up_count-down}

@@ -1,11 +1,12 @@
--- The rows as a marking walks them. A row that stands has its mark and its link at its number. A reference is followed only where the marking
--- follows references; then its source's list is linked, and what a live source leads to is live. To mark a row writes its mark and link alone.
+-- The rows as a marking walks them. A row that stands has its mark and its link at its number. A reference is followed
+-- only where the marking follows references; then its source's list is linked, and what a live source leads to is live.
+-- To mark a row writes its mark and link alone.
 use Rattle.std.proofs.Common.{◌≡◌, ℕ, zero, suc, ◌≤◌, Bool, true, false, List, [], ◌∷◌, map, length, Option, Some, set, refl, sym, ap, subst, ◌∙◌, arith}
 use Rattle.std.specs.Prelude.{Contains, slice_get}
 use Rattle.std.proofs.lemmas.List.{length-map, map-set}
-use Rattle.joint_model.specs.Components.{node}
-use Rattle.joint_model.specs.PeerReplay.{Refers}
-use Rattle.joint_model.specs.Heaps.{Heap, IsLive, fields_of, numbered_set}
+use Rattle.joint_machine.specs.Components.{node}
+use Rattle.joint_machine.specs.PeerReplay.{Refers}
+use Rattle.joint_machine.specs.Heaps.{Heap, IsLive, fields_of, numbered_set}
 use Rattle.heap_rules.specs.Flags.{IsSound}
 use Rattle.reachability.specs.Marks.{HasMark}
 use Rattle.row_marking.specs.Traces.{Greyed}

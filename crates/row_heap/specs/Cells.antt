@@ -1,4 +1,5 @@
--- Where the fields of a row stand: few in the row itself, more in a vector. (This project's own; the small vectors of many libraries.)
+-- Where the fields of a row stand: few in the row itself, more in a vector. (This project's own; the small vectors of
+-- many libraries.)
 use Rattle.std.specs.Prelude.{◌≡◌, ℕ, ◌≤◌, ⊤, List, Option, None, All, take, drop}
 use Rattle.row_heap.specs.declared.fields.Cells.{Cells}
 use Rattle.row_heap.specs.declared.fields.Cells.TheVariants.{Few, More}

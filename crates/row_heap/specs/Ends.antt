@@ -1,7 +1,7 @@
--- References between ends. An end is an object, or a temporary, which only references lead to and from. (The temporary Java objects of Mono's bridge,
--- which stand for components without peers.)
+-- References between ends. An end is an object, or a temporary, which only references lead to and from. (The temporary
+-- Java objects of Mono's bridge, which stand for components without peers.)
 use Rattle.std.specs.Prelude.{◌≡◌, ℕ, ◌+◌, ◌-◌, ◌≤◌, ◌<◌, ◌⊎◌, suc, Bool, false, List, [], ◌∷◌, Some, Contains, length, map, slice_get, slice_index_or}
-use Rattle.joint_model.specs.Components as exact
+use Rattle.joint_machine.specs.Components as exact
 use Rattle.reachability.specs.Marks.{HasMark}
 use Rattle.row_heap.specs.declared.references.End.{End}
 use Rattle.row_heap.specs.declared.references.End.TheVariants.{Object, Temporary}
@@ -19,9 +19,9 @@ ends_of p = (end_of p.0, end_of p.1)
 abbrev pub pairs_in : List Reference → List (exact.End × exact.End)
 pairs_in list = map (λ r. (end_of r.from, end_of r.to)) list
 
--- references as they are seen: from which end to which, in the order in which they came; for how many temporaries and for how many more
--- references there is room; and which temporaries a marking has seen, with their links, where the number 0 is no temporary's, and 1 that of
--- the first
+-- references as they are seen: from which end to which, in the order in which they came; for how many temporaries and
+-- for how many more references there is room; and which temporaries a marking has seen, with their links, where the
+-- number 0 is no temporary's, and 1 that of the first
 pub record Linked : Type 0 where
   pub refs : List (exact.End × exact.End)
   pub temps : ℕ
@@ -60,8 +60,8 @@ abbrev pub HasPlace : ℕ → ℕ → exact.End → Type 0
 HasPlace objects temporaries (exact.node x) = x < objects
 HasPlace objects temporaries (exact.temporary t) = t < temporaries
 
--- the references of each end are linked, the last one first, and each of their ends has a place; the temporaries have their flags and links; and
--- the list has the room that is said
+-- the references of each end are linked, the last one first, and each of their ends has a place; the temporaries have
+-- their flags and links; and the list has the room that is said
 pub record AreLinked (list : List Reference) (objects temporaries : List ℕ) (seen : List Bool) (links : List ℕ) (room capacity : ℕ) : Type 0 where
   pub firsts : (e : exact.End) → IsLastBelow (pairs_in list) e (length list) (first_in objects temporaries e)
   pub nexts : (i : ℕ) (r : Reference) → slice_get list i ≡ Some r → IsLastBelow (pairs_in list) (end_of r.from) i r.next

@@ -1,9 +1,9 @@
 -- What a marking of a heap of rows follows, and what it leaves as it is. (Textbook: the edges of a tracing collector.)
 use Rattle.std.specs.Prelude.{◌≡◌, ℕ, ◌⊎◌, ◌↔◌, Bool, true, if◌then◌else◌, nat_le, List, [], Option, Some, None, Contains, length}
 use Rattle.std.specs.Option.{is_some}
-use Rattle.joint_model.specs.Components.{Rises}
-use Rattle.joint_model.specs.Heaps.{Heap, IsLive, HasField, fields_of, slot}
-use Rattle.joint_model.specs.PeerReplay.{HasReference, Refers}
+use Rattle.joint_machine.specs.Components.{Rises}
+use Rattle.joint_machine.specs.Heaps.{Heap, IsLive, HasField, fields_of, slot}
+use Rattle.joint_machine.specs.PeerReplay.{HasReference, Refers}
 use Rattle.reachability.specs.Marks.{HasMark}
 use Rattle.row_heap.specs.Rows.{HeapRows}
 

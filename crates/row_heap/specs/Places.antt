@@ -1,8 +1,8 @@
--- Rows by number: an index from each number to the key under which a slab has the row. A removed row's memory serves the next
--- row, and its fields are still seen. Marks and links are lists beside the rows. (This project's own; the index is the object table of a
--- Smalltalk heap.)
+-- Rows by number: an index from each number to the key under which a slab has the row. A removed row's memory serves
+-- the next row, and its fields are still seen. Marks and links are lists beside the rows. (This project's own; the
+-- index is the object table of a Smalltalk heap.)
 use Rattle.std.specs.Prelude.{◌≡◌, ℕ, Bool, true, false, not, ◌&&◌, List, [], ◌∷◌, Option, Some, None, drop, get_or, length, map, slice_get}
-use Rattle.joint_model.specs.Heaps.{numbered_at}
+use Rattle.joint_machine.specs.Heaps.{numbered_at}
 use Rattle.slab.specs.Slab.{Slab, get}
 use Rattle.row_heap.specs.declared.places.Row.{Row}
 use Rattle.row_heap.specs.declared.places.RowPlace.{RowPlace}

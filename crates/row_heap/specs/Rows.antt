@@ -1,16 +1,17 @@
--- A heap whose objects are rows that can be marked: the heap of the definition, and beside it marks, links and references. (This
--- project's own.)
+-- A heap whose objects are rows that can be marked: the heap of the definition, and beside it marks, links and
+-- references. (This project's own.)
 use Rattle.std.specs.Prelude.{◌≡◌, ℕ, ◌*◌, ◌≤◌, ◌<◌, ◌↔◌, Bool, true, false, List, [], ◌∷◌, ◌++◌, map, length, sum, Option, Contains, suc}
-use Rattle.joint_model.specs.Components.{Rises, End, node, temporary}
-use Rattle.joint_model.specs.PeerReplay.{LeadsOver, Refers}
-use Rattle.joint_model.specs.Heaps.{Heap, IsLive, opening_heap}
+use Rattle.joint_machine.specs.Components.{Rises, End, node, temporary}
+use Rattle.joint_machine.specs.PeerReplay.{LeadsOver, Refers}
+use Rattle.joint_machine.specs.Heaps.{Heap, IsLive, opening_heap}
 use Rattle.heap_rules.specs.Flags.{IsSound, TakesDown}
 use Rattle.reachability.specs.Marks.{HasMark}
 use Rattle.row_heap.specs.Ends.{IsLastBelow, Linked}
 use Rattle.row_heap.specs.Places.{Seen, row_at, is_white}
 
--- the heap; the references from an end to an end, in the order in which they came, and whether a marking follows them; for how
--- many more of them and for how many temporaries there is room; and each row's mark and link, where the number 0 is no row
+-- the heap; the references from an end to an end, in the order in which they came, and whether a marking follows them;
+-- for how many more of them and for how many temporaries there is room; and each row's mark and link, where the number
+-- 0 is no row
 pub record HeapRows : Type 0 where
   pub heap : Heap
   pub refs : List (End × End)
@@ -56,8 +57,8 @@ IsLedTo refs rows q = (p : ℕ) × ((row_at rows p).stands ≡ true) × Refers r
 abbrev pub IsLedFrom : List (End × End) → List Seen → End → ℕ → ℕ → Type 0
 IsLedFrom refs rows e r q = (p : ℕ) × (e ≡ node p) × IsLastBelow refs (node p) (length refs) r × ((row_at rows p).stands ≡ true) × Refers refs p q
 
--- references lead from rows that were made; where a marking follows them, what a standing row's reference leads to stands, and what
--- a temporary leads to that the marking has seen is marked
+-- references lead from rows that were made; where a marking follows them, what a standing row's reference leads to
+-- stands, and what a temporary leads to that the marking has seen is marked
 pub record AreReferences (rows : List Seen) (refs : Linked) (follows : Bool) : Type 0 where
   pub made : (p : ℕ) (f : End) → Contains refs.refs (node p, f) → p ≤ length rows
   pub ends : follows ≡ true → (p q : ℕ) → Refers refs.refs p q → (row_at rows p).stands ≡ true → (row_at rows q).stands ≡ true
@@ -83,8 +84,8 @@ pub record RowsFreed (xs : List ℕ) (old new : List Seen) : Type 0 where
   pub fields : map (λ (r : Seen). r.fields) new ≡ map (λ (r : Seen). r.fields) old
   pub others : (x : ℕ) → (row_at new x).stands ≡ true → row_at new x ≡ row_at old x
 
--- of the rows up to a number those without a mark were removed, in rising order, and their numbers put last on a list; the marks
--- are as before
+-- of the rows up to a number those without a mark were removed, in rising order, and their numbers put last on a list;
+-- the marks are as before
 pub record RowsSwept (to : ℕ) (old new : List Seen) (before after : List ℕ) : Type 0 where
   pub swept : List ℕ
   pub rises : Rises swept

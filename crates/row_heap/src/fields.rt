@@ -1,8 +1,8 @@
 // The fields of one row, seen as their list.
 //
-// Most objects have few fields. Up to two stand in the row itself and take no memory of their own; more stand in a vector. So most new objects
-// cost no call of the allocator, and a marking finds their fields where the row is. A place that no field has is empty: so a marking looks at
-// both places, and doesn't ask how many fields there are.
+// Most objects have few fields. Up to two stand in the row itself and take no memory of their own; more stand in a
+// vector. So most new objects cost no call of the allocator, and a marking finds their fields where the row is. A place
+// that no field has is empty: so a marking looks at both places, and doesn't ask how many fields there are.
 
 ghost use Rattle.std.specs.Prelude.{◌≡◌, ℕ, ◌<◌, ◌≤◌, ◌⊎◌, ◌∷◌, Some, None, false, Contains, IfOk, IsOk, length, replicate, slice_set};
 ghost use Rattle.reachability.specs.Marks.{HasMark};
@@ -74,7 +74,8 @@ impl Fields {
         }
     }
 
-    /// Marks what the fields hold, by the lists of marks and links; each row that wasn't marked comes first in the list of grey rows.
+    /// Marks what the fields hold, by the lists of marks and links; each row that wasn't marked comes first in the list
+    /// of grey rows.
     pub(crate) fn visit(&self, marks: &mut [bool], links: &mut [u32], grey: &mut u32)
         requires held { (y : ℕ) → Contains self.now (Some y) → (1 ≤ y) × (y ≤ length marks.old) }
         requires len { length links.old ≡ length marks.old }

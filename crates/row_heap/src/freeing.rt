@@ -1,8 +1,9 @@
-// Freeing: rows are removed and give their memory back, and their numbers come last in the list of freed objects, which has room for each.
+// Freeing: rows are removed and give their memory back, and their numbers come last in the list of freed objects, which
+// has room for each.
 
 ghost use Rattle.std.specs.Prelude.{◌≡◌, ℕ, ◌+◌, ◌≤◌, ◌↔◌, ◌++◌, List, map, All, Contains, length, vec_capacity};
-ghost use Rattle.joint_model.specs.Components.{Rises};
-ghost use Rattle.joint_model.specs.Heaps.{with_freed};
+ghost use Rattle.joint_machine.specs.Components.{Rises};
+ghost use Rattle.joint_machine.specs.Heaps.{with_freed};
 ghost use Rattle.heap_rules.specs.Flags.{IsUp, up_count};
 ghost use Rattle.heap_rules.specs.Tidy.{CanFree};
 ghost use Rattle.reachability.specs.Marks.{HasMark};
@@ -13,7 +14,8 @@ use crate::places::Rows;
 use heap_rules::Number;
 
 impl<N: Number> RowHeap<N> {
-    /// Frees the objects of a list, which have no mark from then on. It takes no memory, and its time goes by the list alone.
+    /// Frees the objects of a list, which have no mark from then on. It takes no memory, and its time goes by the list
+    /// alone.
     pub fn free(&mut self, xs: &[N])
         requires can { CanFree self.old.heap (map N.number xs.now) }
         requires ends { NoneRefers self.old (map N.number xs.now) }

@@ -2,7 +2,7 @@
 
 ghost use Rattle.std.specs.Prelude.{◌≡◌, ℕ, ◌+◌, ◌<◌, ◌≤◌, ◌↔◌, ◌++◌, [], ◌∷◌, List, map, Contains, All, Option, Some, None, IsTrue, true, IfOk, OnOk, OnErr, IfSome, length, sum, vec_capacity};
 ghost use Rattle.std.specs.Option.{ForSome};
-ghost use Rattle.joint_model.specs.Heaps.{Heap, MOST, IsMade, IsLive, InSlot, slot, fields_of, is_full, opening_heap, next_number, with_object, with_var, with_static, with_field, with_freed};
+ghost use Rattle.joint_machine.specs.Heaps.{Heap, MOST, IsMade, IsLive, InSlot, slot, fields_of, is_full, opening_heap, next_number, with_object, with_var, with_static, with_field, with_freed};
 ghost use Rattle.heap_rules.specs.Tidy.{IsTidy, CanFree};
 ghost use Rattle.row_heap.specs.Rows.{HeapRows, opening_rows};
 
@@ -16,7 +16,8 @@ use std::marker::Model;
 /// The most objects that a heap makes.
 pub const MOST_OBJECTS: usize = 65_535;
 
-/// The objects of one heap as rows, the variables and statics that name them, the objects that were freed, and the references between rows.
+/// The objects of one heap as rows, the variables and statics that name them, the objects that were freed, and the
+/// references between rows.
 #[derive(Drop)]
 pub struct RowHeap<N: Number> {
     pub(crate) alloc: Global,
@@ -44,8 +45,8 @@ impl<N: Number> Model for RowHeap<N> {
 }
 
 impl<N: Number> RowHeap<N> {
-    /// A heap without objects, in which every variable and static is empty. It asks for room for all objects that it will ever make, and goes
-    /// without where there is no memory for that.
+    /// A heap without objects, in which every variable and static is empty. It asks for room for all objects that it
+    /// will ever make, and goes without where there is no memory for that.
     pub fn new(alloc: Global) -> RowHeap<N>
         ensures { result ≡ opening_rows }
     {
@@ -101,7 +102,8 @@ impl<N: Number> RowHeap<N> {
         self.rows.stands(x as usize)
     }
 
-    /// A number below which no object is live. The begin of a marking moves it on; how near it comes to the oldest live object is no promise.
+    /// A number below which no object is live. The begin of a marking moves it on; how near it comes to the oldest live
+    /// object is no promise.
     pub fn oldest(&self) -> u32
         ensures below { (x : ℕ) → x < result → IsLive self.now.heap x → ⊥ }
         ensures most { result ≤ MOST + 1 }
@@ -163,8 +165,8 @@ impl<N: Number> RowHeap<N> {
         self.rows.row(x as usize).fields.as_slice()[i]
     }
 
-    /// Makes an object with so many empty fields, and answers its number. It has a mark. Answers `AllocError` where there is no memory; the
-    /// heap is then as before.
+    /// Makes an object with so many empty fields, and answers its number. It has a mark. Answers `AllocError` where
+    /// there is no memory; the heap is then as before.
     pub fn add_object(&mut self, fields: u8) -> Result<u32, AllocError>
         requires { length self.old.heap.fields < MOST }
         ensures number { IfOk result (λ x. x ≡ next_number self.old.heap) }

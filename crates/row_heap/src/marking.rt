@@ -1,15 +1,16 @@
 // A marking of the heap: its begin, what it marks, and its end.
 //
-// A collector calls `begin_marking`, marks what slots name by `visit_slots` and each further root by `row_marking::visit`, and carries the
-// marking to its end by `finish_marking`. While it is open, `bring_back` marks an object with all that it reaches. None of it takes memory.
+// A collector calls `begin_marking`, marks what slots name by `visit_slots` and each further root by
+// `row_marking::visit`, and carries the marking to its end by `finish_marking`. While it is open, `bring_back` marks an
+// object with all that it reaches. None of it takes memory.
 //
-// A marking may also go on in slices, between which others change the heap. Then `mark_some` takes some grey objects at a time, and whatever
-// might be missed is shaded, which is to `visit` it: so is what a write takes out of a field (`overwritten`, before), and so is, by
-// `shade_references`, what the references lead to before they go.
+// A marking may also go on in slices, between which others change the heap. Then `mark_some` takes some grey objects at
+// a time, and whatever might be missed is shaded, which is to `visit` it: so is what a write takes out of a field
+// (`overwritten`, before), and so is, by `shade_references`, what the references lead to before they go.
 
 ghost use Rattle.std.specs.Prelude.{◌≡◌, ℕ, ◌+◌, ◌<◌, ◌≤◌, ◌↔◌, ◌⊎◌, List, [], ◌∷◌, Bool, Contains, IsTrue, Option, Some, length};
-ghost use Rattle.joint_model.specs.Heaps.{InSlot, IsLive};
-ghost use Rattle.joint_model.specs.Walks.{Reached};
+ghost use Rattle.joint_machine.specs.Heaps.{InSlot, IsLive};
+ghost use Rattle.joint_machine.specs.Walks.{Reached};
 ghost use Rattle.reachability.specs.Marks.{IsClosed, HasMark};
 ghost use Rattle.row_marking.specs.Traces.{BlackensTo, Chained, Greyed, Greying, IsGreyList, IsGreying};
 ghost use Rattle.row_heap.specs.Marks.{AreEndsLive, EdgeOf, IsReferred};
@@ -28,7 +29,8 @@ impl<N: Number> RowHeap<N> {
         self.rows.marked_stand();
     }
 
-    /// There is a place for the mark of each object, and one for the number 0, which is no object's, for the proofs of callers. It does nothing.
+    /// There is a place for the mark of each object, and one for the number 0, which is no object's, for the proofs of
+    /// callers. It does nothing.
     pub fn marks_len(&self)
         ensures { length self.now.marks ≡ length self.now.heap.fields + 1 }
     {
@@ -85,8 +87,8 @@ impl<N: Number> RowHeap<N> {
         self.marked_live();
     }
 
-    /// Makes at most so many grey objects black: each marks what it leads to now. Answers how many; where these are fewer, none is grey. The heap may
-    /// have changed since the marking began. It takes no memory.
+    /// Makes at most so many grey objects black: each marks what it leads to now. Answers how many; where these are
+    /// fewer, none is grey. The heap may have changed since the marking began. It takes no memory.
     pub fn mark_some(&mut self, grey: &mut u32, most: u32) -> u32
         requires { IsGreyList self.old.marks self.old.links grey.old }
         ensures steps { (greys : List ℕ) → Chained self.old.marks self.old.links grey.old greys → BlackensTo (EdgeOf self.old) result self.old.marks greys self.new.marks self.new.links grey.new }
@@ -103,8 +105,9 @@ impl<N: Number> RowHeap<N> {
         scanned.1
     }
 
-    /// Marks what the references of live objects lead to, directly or over temporaries; each that wasn't marked comes first in the list of grey
-    /// objects. Whether the marking follows references isn't asked. It takes no memory, and its time goes by the references.
+    /// Marks what the references of live objects lead to, directly or over temporaries; each that wasn't marked comes
+    /// first in the list of grey objects. Whether the marking follows references isn't asked. It takes no memory, and
+    /// its time goes by the references.
     pub fn shade_references(&mut self, grey: &mut u32)
         requires { AreEndsLive self.old }
         ensures greyed { Greyed (IsReferred self.old) self.old.marks self.old.links grey.old self.new.marks self.new.links grey.new }

@@ -1,13 +1,14 @@
 // Rows by number, in a slab.
 //
-// The slab picks its keys and gives a removed row's key out again, so a key is no number of an object. The index has for each number ever
-// made the key of its row, in four bytes beside a tag. A row has its fields in itself where they are few (`fields.rt`). Marks and links stand
-// beside the rows, in lists of their own: a marking looks at them far more often than at a row, and all marks are taken down by one fill. A row
-// that is freed gives its memory back, and the index keeps its fields for proofs alone, in no bytes: so the heap of the definition, which never
-// forgets the fields of a freed object, is still what contracts see.
+// The slab picks its keys and gives a removed row's key out again, so a key is no number of an object. The index has
+// for each number ever made the key of its row, in four bytes beside a tag. A row has its fields in itself where they
+// are few (`fields.rt`). Marks and links stand beside the rows, in lists of their own: a marking looks at them far more
+// often than at a row, and all marks are taken down by one fill. A row that is freed gives its memory back, and the
+// index keeps its fields for proofs alone, in no bytes: so the heap of the definition, which never forgets the fields
+// of a freed object, is still what contracts see.
 
 ghost use Rattle.std.specs.Prelude.{All, take, replicate, ◌≡◌, ℕ, ◌≤◌, ◌<◌, ◌⊎◌, ◌++◌, [], ◌∷◌, Some, None, Contains, MatchBool, true, false, length, map, slice_set, vec_len, vec_capacity, OnOk, OnErr};
-ghost use Rattle.joint_model.specs.Heaps.{numbered_set};
+ghost use Rattle.joint_machine.specs.Heaps.{numbered_set};
 ghost use Rattle.reachability.specs.Marks.{HasMark};
 ghost use Rattle.row_marking.specs.Traces.{Greyed};
 ghost use Rattle.slab.specs.Slab.{HasRoomFor};
@@ -35,7 +36,8 @@ pub(crate) enum RowPlace {
     Gone(Snapshot<Fields>),
 }
 
-/// The rows with the numbers 1, 2, 3 and so on, in the order in which they were made. What a list has of row x stands at x - 1.
+/// The rows with the numbers 1, 2, 3 and so on, in the order in which they were made. What a list has of row x stands
+/// at x - 1.
 #[derive(Drop)]
 pub(crate) struct Rows {
     places: Vec<RowPlace>,
@@ -210,8 +212,8 @@ impl Rows {
         let _ = &self.places;
     }
 
-    /// Makes a row with so many empty fields under the next number, with a mark. Answers `AllocError`, with the rows as before, where there is no
-    /// memory.
+    /// Makes a row with so many empty fields under the next number, with a mark. Answers `AllocError`, with the rows as
+    /// before, where there is no memory.
     #[inline(always)]
     pub(crate) fn add(&mut self, alloc: Global, fields: u8) -> Result<(), AllocError>
         ensures ok { OnOk result (self.new ≡ self.old ++ record { fields = replicate fields None; marked = true; link = 0; stands = true } ∷ []) }
@@ -248,7 +250,8 @@ impl Rows {
     }
 }
 
-// Takes room for one more row, whose key fits the index. Answers `AllocError` where there is no memory for it. The rows stay as they are.
+// Takes room for one more row, whose key fits the index. Answers `AllocError` where there is no memory for it. The rows
+// stay as they are.
 #[inline(always)]
 fn take_room(
     slab: &mut Slab<Row>,

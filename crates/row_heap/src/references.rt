@@ -1,14 +1,15 @@
 // References from an end to an end, in one list that a marking reads in place.
 //
-// An end is an object or a temporary. A temporary is no object: it has a number from 0 on, and references alone lead to it and from it. So what
-// an object refers to is what its references lead to, directly or over temporaries.
+// An end is an object or a temporary. A temporary is no object: it has a number from 0 on, and references alone lead to
+// it and from it. So what an object refers to is what its references lead to, directly or over temporaries.
 //
-// The references of one end are linked, the last one first, and a list by the number of the object or of the temporary says where the last one
-// stands. So a push is one step, and no end's references are looked for. A marking goes through a temporary once: it keeps a flag for each that
-// it has seen, and a link in the list of those that it still has to go through.
+// The references of one end are linked, the last one first, and a list by the number of the object or of the temporary
+// says where the last one stands. So a push is one step, and no end's references are looked for. A marking goes through
+// a temporary once: it keeps a flag for each that it has seen, and a link in the list of those that it still has to go
+// through.
 
 ghost use Rattle.std.specs.Prelude.{◌≡◌, ◌≢◌, ℕ, ◌+◌, ◌-◌, ◌≤◌, ◌<◌, ◌++◌, [], ◌∷◌, List, Option, Some, Contains, false, OnOk, OnErr, All, nat_le, length, map, max, slice_get, slice_index_or, vec_capacity};
-ghost use Rattle.joint_model.specs.Components as exact;
+ghost use Rattle.joint_machine.specs.Components as exact;
 ghost use Rattle.reachability.specs.Marks.{HasMark};
 ghost use Rattle.row_marking.specs.Traces.{Greyed};
 ghost use Rattle.row_heap.specs.Packed.{IsSmall, unpacked};
@@ -39,7 +40,8 @@ pub(crate) struct Reference {
     pub(crate) next: u32,
 }
 
-/// A reference in fewer bytes, as the list keeps it: an end is one number, below 65,536 an object's, and from there on a temporary's.
+/// A reference in fewer bytes, as the list keeps it: an end is one number, below 65,536 an object's, and from there on
+/// a temporary's.
 #[derive(Drop)]
 pub(crate) struct PackedReference {
     from: u32,
@@ -124,7 +126,8 @@ fn is_temporary(n: u32) -> bool
 #[derive(Drop)]
 pub(crate) struct References {
     list: Vec<PackedReference>,
-    // Where the references from an object begin, and those from a temporary: the place of the last one, counted from 1; 0 where there is none.
+    // Where the references from an object begin, and those from a temporary: the place of the last one, counted from 1;
+    // 0 where there is none.
     objects: Vec<u32>,
     temporaries: Vec<u32>,
     seen: Vec<bool>,
@@ -166,8 +169,9 @@ impl References {
         self.list.len()
     }
 
-    /// Takes room for so many more references, and for so many temporaries, if there is room for fewer. Answers `AllocError`, with nothing
-    /// changed, where there is no memory, where the list would pass 4,294,967,295, or for more than 4,294,901,760 temporaries.
+    /// Takes room for so many more references, and for so many temporaries, if there is room for fewer. Answers
+    /// `AllocError`, with nothing changed, where there is no memory, where the list would pass 4,294,967,295, or for
+    /// more than 4,294,901,760 temporaries.
     pub(crate) fn reserve(&mut self, additional: u32, temps: u32) -> Result<(), AllocError>
         ensures refs { self.new.refs ≡ self.old.refs }
         ensures temps { OnOk result (self.new.temps ≡ max self.old.temps temps) }
@@ -256,7 +260,8 @@ impl References {
         self.list[r as usize - 1].unpack()
     }
 
-    /// A marking sees a temporary, which comes first in the list of those that it has to go through, if it hadn't seen it.
+    /// A marking sees a temporary, which comes first in the list of those that it has to go through, if it hadn't seen
+    /// it.
     pub(crate) fn see(&mut self, t: u32, through: &mut u32)
         requires { t < self.old.temps }
         ensures rest { self.new ≡ record self.old { seen = self.new.seen; links = self.new.links } }

@@ -1,7 +1,8 @@
-// Sweeping: the live rows without a mark are removed, in rising order, and their numbers come last in the list of freed objects.
+// Sweeping: the live rows without a mark are removed, in rising order, and their numbers come last in the list of freed
+// objects.
 
 ghost use Rattle.std.specs.Prelude.{◌≡◌, ℕ, ◌+◌, ◌≤◌, ◌++◌, [], ◌∷◌, true, if◌then◌else◌, map, length, drop, vec_capacity};
-ghost use Rattle.joint_model.specs.Heaps.{InSlot, MOST, numbered_set, with_freed};
+ghost use Rattle.joint_machine.specs.Heaps.{InSlot, MOST, numbered_set, with_freed};
 ghost use Rattle.heap_rules.specs.Flags.{up_count};
 ghost use Rattle.reachability.specs.Marks.{IsClosed, HasMark};
 ghost use Rattle.row_heap.specs.Marks.{AreWhite, EdgeOf};
@@ -13,9 +14,9 @@ use crate::places::Rows;
 use heap_rules::Number;
 
 impl<N: Number> RowHeap<N> {
-    /// Frees each live object without a mark, by one pass over the numbers from the oldest live object on, and puts them last on the list of
-    /// freed ones, in rising order. It takes no memory. What slots name and what marked objects lead to has to be marked, as it is once a
-    /// marking has come to its end.
+    /// Frees each live object without a mark, by one pass over the numbers from the oldest live object on, and puts
+    /// them last on the list of freed ones, in rising order. It takes no memory. What slots name and what marked
+    /// objects lead to has to be marked, as it is once a marking has come to its end.
     pub fn sweep(&mut self)
         requires slots { (x : ℕ) → InSlot self.old.heap x → HasMark self.old.marks x }
         requires shut { IsClosed (EdgeOf self.old) self.old.marks }
@@ -27,7 +28,8 @@ impl<N: Number> RowHeap<N> {
     }
 }
 
-// Removes each row that stands without a mark, and puts its number on the list of freed ones. None of the first rows up to a number does.
+// Removes each row that stands without a mark, and puts its number on the list of freed ones. None of the first rows up
+// to a number does.
 fn sweep_rows<N: Number>(from: usize, rows: &mut Rows, freed: &mut Vec<N>)
     requires from { from ≤ length rows.old }
     requires before { (x : ℕ) → x ≤ from → is_white (row_at rows.old x) ≡ true → ⊥ }

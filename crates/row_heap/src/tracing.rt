@@ -1,11 +1,12 @@
 // The rows of a heap as the marking loop walks them.
 //
-// What a row's references lead to is marked before its scan ends: the peers at once, and the temporaries go into a list of their own, which is
-// gone through until it is empty. So no temporary is ever grey, and each is gone through once in a marking.
+// What a row's references lead to is marked before its scan ends: the peers at once, and the temporaries go into a list
+// of their own, which is gone through until it is empty. So no temporary is ever grey, and each is gone through once in
+// a marking.
 
 ghost use Rattle.std.specs.Prelude.{◌≡◌, ℕ, ◌+◌, ◌≤◌, ◌<◌, Contains, IsTrue, length, map, true, false};
-ghost use Rattle.joint_model.specs.Components as exact;
-ghost use Rattle.joint_model.specs.PeerReplay.{Refers};
+ghost use Rattle.joint_machine.specs.Components as exact;
+ghost use Rattle.joint_machine.specs.PeerReplay.{Refers};
 ghost use Rattle.reachability.specs.Marks.{HasMark};
 ghost use Rattle.row_marking.specs.Traces.{Greyed};
 ghost use Rattle.row_heap.specs.Ends.{IsEnd, IsLastBelow, IsTemporary, Raises, Sees, end_of};
@@ -20,7 +21,7 @@ use row_marking::Traced;
 
 // The rows are the live objects. A marking leaves all but marks and links as it is.
 impl<N: Number> Traced for RowHeap<N> {
-    ghost use Rattle.joint_model.specs.Heaps.{IsLive};
+    ghost use Rattle.joint_machine.specs.Heaps.{IsLive};
     ghost use Rattle.row_heap.specs.Rows.{HeapRows};
     ghost use Rattle.row_heap.specs.Marks.{LeadsTo, unmarked_rows};
 

@@ -1,20 +1,22 @@
--- Steps of a marking whose grey rows are a list through the rows. A step is a function of the list of grey rows before it: whichever rows
--- the links chained from the old head, all of them marked, other rows are chained from the new head, and between the two lists stands what a
--- step of any marking does (`Scans`). So steps compose as functions do, and a step has nothing to ask for.
+-- Steps of a marking whose grey rows are a list through the rows. A step is a function of the list of grey rows before
+-- it: whichever rows the links chained from the old head, all of them marked, other rows are chained from the new head,
+-- and between the two lists stands what a step of any marking does (`Scans`). So steps compose as functions do, and a
+-- step has nothing to ask for.
 --
--- To put a row first writes its link. It wasn't marked, and each row of the list is, so it isn't in the list and no link of the list changes.
--- A loop that takes the first grey row and visits what that leads to keeps `Greying`: what is marked was marked before or is reached, and a
--- marked row is grey or all that it leads to is marked. Once the list is empty the marks are closed, so each reached row is marked. A turn
--- takes one row from the list, and what joins it wasn't marked: twice the unmarked rows, with the grey ones, become fewer.
+-- To put a row first writes its link. It wasn't marked, and each row of the list is, so it isn't in the list and no
+-- link of the list changes. A loop that takes the first grey row and visits what that leads to keeps `Greying`: what is
+-- marked was marked before or is reached, and a marked row is grey or all that it leads to is marked. Once the list is
+-- empty the marks are closed, so each reached row is marked. A turn takes one row from the list, and what joins it
+-- wasn't marked: twice the unmarked rows, with the grey ones, become fewer.
 use Rattle.std.proofs.Common.{◌≡◌, ℕ, zero, suc, ◌+◌, ◌*◌, ◌<◌, ◌≤◌, ◌⊎◌, ◌↔◌, inl, inr, Bool, true, false, List, [], ◌∷◌, ◌++◌, length, Option, Some, None, set, refl, sym, ap, subst, ◌∙◌, arith}
 use Rattle.std.specs.Prelude.{Contains, slice_get}
 use Rattle.std.proofs.Math.ListN.{length-set}
 use Rattle.std.proofs.lemmas.Option.{slice_get_within}
 use Rattle.std.proofs.lemmas.List.Elements.{Contains-push, Contains-push_cases, Contains-append_left}
-use Rattle.joint_model.specs.Walks.{Reached}
-use Rattle.joint_model.proofs.WalkLemmas.{Reached-keeps, Reached-start, Reached-then}
-use Rattle.joint_model.proofs.Numbered.{set-at_here, set-at_other}
-use Rattle.joint_model.proofs.Members.{Contains-nil, Contains-here, Contains-there, Contains-cons_cases}
+use Rattle.joint_machine.specs.Walks.{Reached}
+use Rattle.joint_machine.proofs.WalkLemmas.{Reached-keeps, Reached-start, Reached-then}
+use Rattle.joint_machine.proofs.Numbered.{set-at_here, set-at_other}
+use Rattle.joint_machine.proofs.Members.{Contains-nil, Contains-here, Contains-there, Contains-cons_cases}
 use Rattle.reachability.specs.Marks.{HasMark, IsClosed, unmarked}
 use Rattle.reachability.specs.Scans.{Scans}
 use Rattle.reachability.proofs.Marking.{Scans-none, Scans-then, unmarked-set, set-marked, set-keeps, set-fresh, unmarked-le}

@@ -2,7 +2,7 @@
 use Rattle.std.specs.Prelude.{◌≡◌, ℕ, ◌≤◌, ◌⊎◌, ◌+◌, zero, suc, Bool, List, [], ◌∷◌, Some, None, Contains, length, slice_get}
 use Rattle.reachability.specs.Marks.{HasMark, IsClosed, unmarked}
 use Rattle.reachability.specs.Scans.{Scans}
-use Rattle.joint_model.specs.Walks.{Reached}
+use Rattle.joint_machine.specs.Walks.{Reached}
 
 -- the list of rows that begins at `head` and goes on by the links
 abbrev pub GreyChain : List ℕ → ℕ → List ℕ → Type 0
@@ -49,7 +49,8 @@ greys links zero head = []
 greys links (suc n) zero = []
 greys links (suc n) (suc h) = suc h ∷ greys links n (elim (slice_get links (suc h)) [ None ↦ 0 | Some next ↦ next ])
 
--- grey row x was scanned: it leaves the list, in which it stood once, and of what it leads to the rows without a mark came into the list
+-- grey row x was scanned: it leaves the list, in which it stood once, and of what it leads to the rows without a mark
+-- came into the list
 pub record Blackened (row : ℕ → Type 0) (m : List Bool) (x : ℕ) (rest : List ℕ) (m' : List Bool) (waits : List ℕ) : Type 0 where
   pub grey : HasMark m x
   pub once : Contains rest x → ⊥

@@ -1,28 +1,32 @@
-// Marking through the rows of a heap: which objects are reached from some roots, with a mark and a link that each row has for good. The
-// managed and the peer collector both mark by this one loop. It takes no memory: nothing is copied, and no list is made.
+// Marking through the rows of a heap: which objects are reached from some roots, with a mark and a link that each row
+// has for good. The managed and the peer collector both mark by this one loop. It takes no memory: nothing is copied,
+// and no list is made.
 //
 //     marked and scanned        marked and grey               not marked
 //     +---+   +---+         head -> +---+   +---+            +---+   +---+
 //     | 3 |-->| 7 |                 | 9 |-->| 4 |--> 0       | 5 |   | 8 |
 //     +---+   +---+                 +---+   +---+            +---+   +---+
 //
-// Rows have the numbers from 1 on, and 0 is no row. What can be marked has the trait [`Traced`]: each row has a mark and a link, and marks what it
-// leads to in one call, so that the row is looked up once. Over what it leads there, fields or more, is the rows' own matter.
+// Rows have the numbers from 1 on, and 0 is no row. What can be marked has the trait [`Traced`]: each row has a mark
+// and a link, and marks what it leads to in one call, so that the row is looked up once. Over what it leads there,
+// fields or more, is the rows' own matter.
 //
-// A grey row is marked and isn't scanned yet. The grey rows are a list through the links: `head` is the first, 0 ends it. `visit` marks a
-// row, and one that wasn't marked comes first in the list; to scan a row is to visit what it leads to; `finish` scans the grey rows until
-// none is left. So a marked row is grey or all that it leads to is marked, and once none is grey the marks are closed under the edges. Each
-// row becomes grey at most once, so a marking is linear in what it walks.
+// A grey row is marked and isn't scanned yet. The grey rows are a list through the links: `head` is the first, 0 ends
+// it. `visit` marks a row, and one that wasn't marked comes first in the list; to scan a row is to visit what it leads
+// to; `finish` scans the grey rows until none is left. So a marked row is grey or all that it leads to is marked, and
+// once none is grey the marks are closed under the edges. Each row becomes grey at most once, so a marking is linear in
+// what it walks.
 //
-// A collector begins a marking with all marks down, visits each root and calls `finish`; `mark_from` does both for a list of roots. While
-// the marking is open it brings a row back by `mark_from` with that one row, and the marks before have to be closed under the edges.
+// A collector begins a marking with all marks down, visits each root and calls `finish`; `mark_from` does both for a
+// list of roots. While the marking is open it brings a row back by `mark_from` with that one row, and the marks before
+// have to be closed under the edges.
 //
-// Nobody else changes the rows during a call; between the calls of one open marking their owner may. What is promised: once no row is grey, marked is
-// exactly what is reached from the roots or was marked before.
+// Nobody else changes the rows during a call; between the calls of one open marking their owner may. What is promised:
+// once no row is grey, marked is exactly what is reached from the roots or was marked before.
 #![tactic(auto)]
 
 ghost use Rattle.std.specs.Prelude.{◌≡◌, ℕ, ◌+◌, ◌-◌, ◌<◌, ◌≤◌, ◌⊎◌, ◌↔◌, List, Option, Some, Contains, All, Bool, length, slice_get, slice_set, IfSome, IsTrue, true};
-ghost use Rattle.joint_model.specs.Walks.{Reached};
+ghost use Rattle.joint_machine.specs.Walks.{Reached};
 ghost use Rattle.reachability.specs.Marks.{HasMark, IsClosed};
 ghost use Rattle.row_marking.specs.Traces.{BlackensTo, Chained, Greyed, Greying, IsGreyList, IsGreying};
 
@@ -96,8 +100,9 @@ pub fn finish<G: Traced>(g: &mut G, grey: u32)
     }
 }
 
-/// Scans at most so many grey rows, and answers where the list of grey rows begins then, and how many were scanned; where these are fewer, none
-/// is grey. No row is scanned twice. What black rows lead to need not be marked, so the rows may have changed since the marking began. It takes no memory.
+/// Scans at most so many grey rows, and answers where the list of grey rows begins then, and how many were scanned;
+/// where these are fewer, none is grey. No row is scanned twice. What black rows lead to need not be marked, so the
+/// rows may have changed since the marking began. It takes no memory.
 pub fn scan_some<G: Traced>(g: &mut G, grey: u32, most: u32) -> (u32, u32)
     requires { IsGreyList (G.marks g.old) (G.links g.old) grey }
     ensures kept { G.kept g.new ≡ G.kept g.old }
@@ -128,8 +133,8 @@ fn mark_roots<G: Traced>(g: &mut G, roots: &[u32], grey: &mut u32)
     }
 }
 
-/// Marks the roots with all that they reach, and keeps what was marked, which has to be closed under the edges. It takes
-/// no memory.
+/// Marks the roots with all that they reach, and keeps what was marked, which has to be closed under the edges. It
+/// takes no memory.
 pub fn mark_from<G: Traced>(g: &mut G, roots: &[u32])
     requires roots { All (λ y. (1 ≤ y) × G.is_row (G.kept g.old) y) roots.now }
     requires shut { IsClosed (G.leads (G.kept g.old)) (G.marks g.old) }

@@ -1,28 +1,30 @@
--- An abandon: before its mirror the driver's cycle is open, and the call closes it. It may come exactly where it names that cycle, and answers ok.
+-- An abandon: before its mirror the driver's cycle is open, and the call closes it. It may come exactly where it names
+-- that cycle, and answers ok.
 use Rattle.std.proofs.Common.{◌≡◌, ℕ, Bool, true, false, List, ◌∷◌, length, Option, Some, None, refl, sym, ap, ◌∙◌, subst}
 use Rattle.std.specs.Prelude.{IsSome}
-use Rattle.joint_model.specs.declared.names.Cycle.{Cycle}
-use Rattle.joint_model.specs.declared.names.Thread.TheVariants.{C}
-use Rattle.joint_model.specs.declared.events.Made.{Made}
-use Rattle.joint_model.specs.declared.events.Op.TheVariants as op
-use Rattle.joint_model.specs.declared.events.Reply.{Reply}
-use Rattle.joint_model.specs.declared.events.Reply.TheVariants as says
-use Rattle.joint_model.specs.Control as control
-use Rattle.joint_model.specs.Control.{Stand, stand_after}
-use Rattle.joint_model.specs.Histories.{Finished, managed_numbers, peer_numbers}
-use Rattle.joint_model.specs.Linked.{Linkage}
-use Rattle.joint_model.specs.Managed.{OpenCycle, candidates_of}
-use Rattle.joint_model.specs.Sides.{AddsLawful, managed_rules}
-use Rattle.joint_model.specs.Told.{Noted, Told, no_pins, nothing}
-use Rattle.joint_laws.specs.ToldLaws.{TellsNamed}
+use Rattle.joint_machine.specs.declared.names.Cycle.{Cycle}
+use Rattle.joint_machine.specs.declared.names.Thread.TheVariants.{C}
+use Rattle.joint_machine.specs.declared.events.Made.{Made}
+use Rattle.joint_machine.specs.declared.events.Op.TheVariants as op
+use Rattle.joint_machine.specs.declared.events.Reply.{Reply}
+use Rattle.joint_machine.specs.declared.events.Reply.TheVariants as says
+use Rattle.joint_machine.specs.Control as control
+use Rattle.joint_machine.specs.Control.{Stand, stand_after}
+use Rattle.joint_machine.specs.Histories.{Finished, managed_numbers, peer_numbers}
+use Rattle.joint_machine.specs.Linked.{Linkage}
+use Rattle.joint_machine.specs.Managed.{OpenCycle, candidates_of}
+use Rattle.joint_machine.specs.Sides.{AddsLawful, managed_rules}
+use Rattle.joint_machine.specs.Told.{Noted, Told, nothing}
+use Rattle.joint_machine.specs.PinsTold.{no_pins}
+use Rattle.joint_laws.specs.Spans.{TellsNamed}
 use Rattle.known_laws.specs.Driving.{IsPastKept}
 use Rattle.known_laws.specs.Known.{pinned}
 use Rattle.known_laws.proofs.Conditions.{unmirrored_may_be_abandoned}
 use Rattle.check_laws.specs.Behind.{state_of}
 use Rattle.check_laws.specs.Order.{AbandonData, AbandonTurn}
-use Rattle.managed_side.specs.Calls.{abandon_made}
-use Rattle.managed_side.specs.Sides.{ManagedModel, as_side}
-use Rattle.managed_side.specs.Steps.{step_made}
+use Rattle.managed_heap.specs.Calls.{abandon_made}
+use Rattle.managed_heap.specs.Sides.{ManagedModel, as_side}
+use Rattle.managed_heap.specs.Steps.{step_made}
 use Rattle.run_check.specs.declared.cycles.OpenCycle.{OpenCycle as Kept}
 use Rattle.run_check.specs.declared.draws.Recorder.{Recorder}
 use Rattle.run_check.specs.declared.replays.Replay.{Replay}

@@ -1,18 +1,18 @@
--- The bridge nodes of a dead part's graph are the open cycle's candidates, in their order: both lists rise, and have the same rows.
+-- The bridge nodes of a dead part's graph are the open cycle's candidates, in their order: both lists rise, and have
+-- the same rows.
 use Rattle.std.proofs.Common.{◌≡◌, ⊎_elim, ℕ, zero, suc, ◌<◌, List, [], ◌∷◌, ◌++◌, length, Option, Some, None, refl, sym, ap, ◌∙◌, subst}
 use Rattle.std.specs.Prelude.{Contains, IsSome, flat_map, slice_get}
 use Rattle.std.specs.Option.{option_to_list}
 use Rattle.std.proofs.lemmas.List.Elements.{All-contains}
-use Rattle.joint_model.specs.declared.names.HNum.{HNum}
-use Rattle.joint_model.specs.Components.{Rises}
-use Rattle.joint_model.specs.Managed.{Managed, OpenCycle, handle_of, candidates_of}
-use Rattle.joint_model.specs.Managed.{IsBridge as IsBridgeRow}
-use Rattle.joint_model.proofs.HeapLemmas.{candidates_of-open}
-use Rattle.joint_model.proofs.Members.{All-members, Contains-at, Contains-cons_cases, Contains-flat_map, Contains-flat_map_cases, Contains-here, Contains-map, Contains-nil, Contains-there, Rises-one, at-Contains}
+use Rattle.joint_machine.specs.declared.names.HNum.{HNum}
+use Rattle.joint_machine.specs.Components.{Rises}
+use Rattle.joint_machine.specs.Managed.{Managed, OpenCycle, handle_of, candidates_of, IsBridge as IsBridgeRow}
+use Rattle.joint_machine.proofs.HeapLemmas.{candidates_of-open}
+use Rattle.joint_machine.proofs.Members.{All-members, Contains-at, Contains-cons_cases, Contains-flat_map, Contains-flat_map_cases, Contains-here, Contains-map, Contains-nil, Contains-there, Rises-one, at-Contains}
 use Rattle.joint_laws.specs.ManagedInvariants.{IsManagedKept}
 use Rattle.bridge_graph.specs.declared.graph.Node.{Node}
 use Rattle.bridge_graph.specs.Parts.{Part, IsPart, numbers_of}
-use Rattle.managed_side.specs.Graphs.{IsDeadGraph, handle_number}
+use Rattle.managed_heap.specs.Graphs.{IsDeadGraph, handle_number}
 use Rattle.run_check.specs.Cycles.{number_at}
 use Rattle.bridge_graph.specs.Handles.{handles_of}
 use Rattle.run_check.specs.Handles.{AreCandidates}

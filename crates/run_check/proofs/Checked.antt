@@ -3,26 +3,26 @@ use Rattle.std.proofs.Common.{◌≡◌, ℕ, ◌+◌, ◌<◌, ◌^◌, ◌↔�
 use Rattle.std.specs.Prelude.{IfOk, Option, Result, Ok, Err, slice_get}
 use Rattle.std.proofs.lemmas.List.{append-nil}
 use Rattle.std.proofs.Math.Seq.{take-append_seam}
-use Rattle.joint_model.specs.declared.names.Kind.{Kind}
-use Rattle.joint_model.specs.declared.names.Kind.TheVariants as kind
-use Rattle.joint_model.specs.declared.names.Sort.{Sort}
-use Rattle.joint_model.specs.declared.names.Thread.{Thread}
-use Rattle.joint_model.specs.declared.names.Thread.TheVariants.{M, P, C}
-use Rattle.joint_model.specs.declared.events.Entry.{Entry}
-use Rattle.joint_model.specs.declared.events.Op.{Op}
-use Rattle.joint_model.specs.declared.events.Op.TheVariants as op
-use Rattle.joint_model.specs.Draws.{NumberedFrom}
-use Rattle.joint_model.specs.Histories.{Finished}
-use Rattle.joint_model.specs.Lines.{IsAdoptable, IsBridgeObject, IsDriver, IsEvent, IsManagedThread, IsNamed, IsPeerThread, IsThread}
-use Rattle.joint_model.specs.LinkedHistories.{IsLinked}
-use Rattle.joint_model.specs.Told.{Noted}
-use Rattle.known_laws.specs.Growing.{entries}
+use Rattle.joint_machine.specs.declared.names.Kind.{Kind}
+use Rattle.joint_machine.specs.declared.names.Kind.TheVariants as kind
+use Rattle.joint_machine.specs.declared.names.Sort.{Sort}
+use Rattle.joint_machine.specs.declared.names.Thread.{Thread}
+use Rattle.joint_machine.specs.declared.names.Thread.TheVariants.{M, P, C}
+use Rattle.joint_machine.specs.declared.events.Entry.{Entry}
+use Rattle.joint_machine.specs.declared.events.Op.{Op}
+use Rattle.joint_machine.specs.declared.events.Op.TheVariants as op
+use Rattle.joint_machine.specs.Histories.{Finished, NumberedFrom}
+use Rattle.joint_machine.specs.Lines.{IsAdoptable, IsBridgeObject, IsDriver, IsEvent, IsManagedThread, IsNamed, IsPeerThread, IsThread}
+use Rattle.joint_machine.specs.LinkedHistories.{IsLinked}
+use Rattle.joint_machine.specs.Told.{Noted}
+use Rattle.known_laws.specs.PastEntries.{entries}
 use Rattle.check_laws.specs.declared.findings.Finding.{Finding}
 use Rattle.check_laws.specs.declared.findings.Finding.TheVariants as finding
 use Rattle.check_laws.specs.declared.findings.Why.{Why}
 use Rattle.check_laws.specs.declared.findings.Why.TheVariants as why
 use Rattle.check_laws.specs.Behind.{in_turn}
-use Rattle.check_laws.specs.Found.{FailsBy, HasSoundAndCompleteRun, IsAllInOrder, IsFinding, NothingFollows, as_named}
+use Rattle.check_laws.specs.Found.{as_named}
+use Rattle.check_laws.specs.Findings.{FailsBy, HasSoundAndCompleteRun, IsAllInOrder, IsFinding, NothingFollows}
 use Rattle.check_laws.specs.Knows.{AreKnown}
 use Rattle.check_laws.proofs.Knows.{pasts_known}
 use Rattle.check_laws.proofs.Linking.{legal_linked, linked_runs}

@@ -1,28 +1,28 @@
--- A contract: the graph that is kept is the dead part's, so its contraction is the dead part's, by the nodes' numbers. It may come exactly where it names the
--- driver's cycle and answers how many components and cross-references there are.
+-- A contract: the graph that is kept is the dead part's, so its contraction is the dead part's, by the nodes' numbers.
+-- It may come exactly where it names the driver's cycle and answers how many components and cross-references there are.
 use Rattle.std.proofs.Common.{◌≡◌, ℕ, ◌+◌, Bool, true, false, List, [], ◌∷◌, length, map, Option, Some, None, refl, sym, ap, ◌∙◌, subst, arith}
 use Rattle.std.proofs.lemmas.List.{length-map}
 use Rattle.std.proofs.lemmas.Option.{same_Some}
-use Rattle.joint_model.specs.declared.names.Cycle.{Cycle}
-use Rattle.joint_model.specs.declared.names.Thread.TheVariants.{C}
-use Rattle.joint_model.specs.declared.events.Made.{Made}
-use Rattle.joint_model.specs.declared.events.Op.TheVariants as op
-use Rattle.joint_model.specs.declared.events.Reply.{Reply}
-use Rattle.joint_model.specs.declared.events.Reply.TheVariants as says
-use Rattle.joint_model.specs.Components.{IsContraction}
-use Rattle.joint_model.specs.Control as control
-use Rattle.joint_model.specs.Control.{OpenSnap, Stand, stand_after}
-use Rattle.joint_model.specs.Cycles.{IsDeadContraction}
-use Rattle.joint_model.specs.Histories.{Finished, managed_numbers, peer_numbers}
-use Rattle.joint_model.specs.Linked.{Linkage}
+use Rattle.joint_machine.specs.declared.names.Cycle.{Cycle}
+use Rattle.joint_machine.specs.declared.names.Thread.TheVariants.{C}
+use Rattle.joint_machine.specs.declared.events.Made.{Made}
+use Rattle.joint_machine.specs.declared.events.Op.TheVariants as op
+use Rattle.joint_machine.specs.declared.events.Reply.{Reply}
+use Rattle.joint_machine.specs.declared.events.Reply.TheVariants as says
+use Rattle.joint_machine.specs.Components.{IsContraction}
+use Rattle.joint_machine.specs.Control as control
+use Rattle.joint_machine.specs.Control.{OpenSnap, Stand, stand_after}
+use Rattle.joint_machine.specs.Cycles.{IsDeadContraction}
+use Rattle.joint_machine.specs.Histories.{Finished, managed_numbers, peer_numbers}
+use Rattle.joint_machine.specs.Linked.{Linkage}
 use Rattle.joint_model.specs.Listed.{answers_of}
-use Rattle.joint_model.specs.Managed.{Managed, OpenCycle, candidates_of}
-use Rattle.joint_model.specs.ManagedReplay.{ManagedReplay, MayContract}
-use Rattle.joint_model.specs.Readers.{with_pins}
-use Rattle.joint_model.specs.Sides.{AddsLawful, managed_rules}
-use Rattle.joint_model.specs.Told.{Noted, Told, contraction_of, no_pins}
+use Rattle.joint_machine.specs.Managed.{Managed, OpenCycle, candidates_of}
+use Rattle.joint_machine.specs.ManagedReplay.{ManagedReplay, MayContract}
+use Rattle.joint_machine.specs.Sides.{AddsLawful, managed_rules}
+use Rattle.joint_machine.specs.Told.{Noted, Told, contraction_of}
+use Rattle.joint_machine.specs.PinsTold.{no_pins, with_pins}
 use Rattle.joint_laws.specs.LinkedInvariants.{given_at}
-use Rattle.joint_laws.specs.ToldLaws.{TellsNamed}
+use Rattle.joint_laws.specs.Spans.{TellsNamed}
 use Rattle.known_laws.specs.Driving.{IsPastKept}
 use Rattle.known_laws.specs.Known.{pinned}
 use Rattle.known_laws.proofs.Conditions.{snapped_may_be_contracted}
@@ -32,10 +32,10 @@ use Rattle.check_laws.specs.Order.{ContractData, ContractTurn}
 use Rattle.bridge_graph.specs.Parts.{IsBridgeNode, NodeLeads}
 use Rattle.xref_list.specs.Listing.{IsListing, Listing}
 use Rattle.caller_turns.specs.Shapes.{next_place}
-use Rattle.managed_side.specs.Calls.{Contracts, IsContractedBy, MayContractWith, contract_made}
-use Rattle.managed_side.specs.Graphs.{IsDeadGraph}
-use Rattle.managed_side.specs.Sides.{ManagedModel, as_side}
-use Rattle.managed_side.specs.Steps.{step_made}
+use Rattle.managed_heap.specs.Calls.{Contracts, IsContractedBy, MayContractWith, contract_made}
+use Rattle.managed_heap.specs.Graphs.{IsDeadGraph}
+use Rattle.managed_heap.specs.Sides.{ManagedModel, as_side}
+use Rattle.managed_heap.specs.Steps.{step_made}
 use Rattle.run_check.specs.declared.cycles.OpenCycle.{OpenCycle as Kept}
 use Rattle.run_check.specs.declared.draws.Recorder.{Recorder}
 use Rattle.run_check.specs.declared.replays.Replay.{Replay}

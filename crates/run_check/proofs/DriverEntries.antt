@@ -1,22 +1,23 @@
--- An entry of the driver on the peer side: whose turn it is and what it cites by where the driver stands, and where it stands behind the entry.
+-- An entry of the driver on the peer side: whose turn it is and what it cites by where the driver stands, and where it
+-- stands behind the entry.
 use Rattle.std.proofs.Common.{◌≡◌, ℕ, true, List, [], ◌∷◌, length, Option, refl, sym, ap, ◌∙◌, subst}
-use Rattle.joint_model.specs.declared.names.Thread.{Thread}
-use Rattle.joint_model.specs.declared.names.Thread.TheVariants.{M, P, C}
-use Rattle.joint_model.specs.declared.events.Made.{Made}
-use Rattle.joint_model.specs.declared.events.Op.{Op}
-use Rattle.joint_model.specs.declared.events.Reply.{Reply}
-use Rattle.joint_model.specs.Control.{Control, Stand, control_after, stand_after}
-use Rattle.joint_model.specs.Histories.{Finished}
-use Rattle.joint_model.specs.Lines.{IsDriver, is_peer_event, is_read}
-use Rattle.joint_model.specs.Linked.{Linkage}
-use Rattle.joint_model.specs.Managed.{candidates_of}
-use Rattle.joint_model.specs.Sides.{AddsLawful, MayDraw, peer_rules}
-use Rattle.joint_model.specs.Told.{Noted, Told}
+use Rattle.joint_machine.specs.declared.names.Thread.{Thread}
+use Rattle.joint_machine.specs.declared.names.Thread.TheVariants.{M, P, C}
+use Rattle.joint_machine.specs.declared.events.Made.{Made}
+use Rattle.joint_machine.specs.declared.events.Op.{Op}
+use Rattle.joint_machine.specs.declared.events.Reply.{Reply}
+use Rattle.joint_machine.specs.Control.{Control, Stand, control_after, stand_after}
+use Rattle.joint_machine.specs.Histories.{Finished}
+use Rattle.joint_machine.specs.Lines.{IsDriver, is_peer_event, is_read}
+use Rattle.joint_machine.specs.Linked.{Linkage}
+use Rattle.joint_machine.specs.Managed.{candidates_of}
+use Rattle.joint_machine.specs.Sides.{AddsLawful, MayDraw, peer_rules}
+use Rattle.joint_machine.specs.Told.{Noted, Told}
 use Rattle.joint_laws.proofs.SpansTold.{HasSpan}
 use Rattle.check_laws.specs.Behind.{NamesSo, RepliesBehind, state_of}
 use Rattle.check_laws.specs.Laws.{IsNoRefusal}
 use Rattle.check_laws.specs.Order.{CallersData, CallersTurn, CitesBy, DriverCites, DriverData, DriverTurn}
-use Rattle.peer_side.specs.Sides.{seen}
+use Rattle.peer_heap.specs.Sides.{seen}
 use Rattle.run_check.specs.declared.replays.Replay.{Replay}
 use Rattle.run_check.specs.Cycles.{CycleFollows}
 use Rattle.run_check.specs.Follows.{LeftFits}

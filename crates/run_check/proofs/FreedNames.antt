@@ -1,13 +1,13 @@
--- What a resolution and a snapshot free stands last in the side's list of freed objects, where the reply's span says; so the history names it rightly exactly
--- where its own list has the same there.
+-- What a resolution and a snapshot free stands last in the side's list of freed objects, where the reply's span says;
+-- so the history names it rightly exactly where its own list has the same there.
 use Rattle.std.proofs.Common.{◌≡◌, ℕ, ◌+◌, ◌-◌, ◌≤◌, List, [], ◌++◌, length, drop, refl, sym, ap, ◌∙◌, subst, arith, length-append}
 use Rattle.std.specs.Prelude.{◌↔◌}
 use Rattle.std.proofs.Math.Seq.{drop-append_seam}
-use Rattle.joint_model.specs.declared.names.Span.{Span}
-use Rattle.joint_model.specs.declared.events.Reply.TheVariants as says
-use Rattle.joint_model.specs.Components.{Rises}
-use Rattle.joint_model.specs.Told.{Answer, Told, resolution_of, snap_of}
-use Rattle.joint_laws.specs.ToldLaws.{IsStretch, TellsNamed}
+use Rattle.joint_machine.specs.declared.names.Span.{Span}
+use Rattle.joint_machine.specs.declared.events.Reply.TheVariants as says
+use Rattle.joint_machine.specs.Components.{Rises}
+use Rattle.joint_machine.specs.Told.{Answer, Told, resolution_of, snap_of}
+use Rattle.joint_laws.specs.Spans.{IsStretch, TellsNamed}
 use Rattle.run_check.specs.Lists.{StandsInList, rest_of}
 
 -- the span of what was put behind a list

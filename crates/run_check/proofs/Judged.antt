@@ -1,19 +1,19 @@
 -- One entry judged: which test fails, or that the replay follows the longer past.
 use Rattle.std.proofs.Common.{◌≡◌, ℕ, ◌+◌, ◌<◌, ◌≤◌, ◌^◌, ◌↔◌, Bool, true, false, not, ◌&&◌, List, [], ◌∷◌, length, Option, Some, None, refl, sym, ap, ◌∙◌, subst, arith, true≢false}
 use Rattle.std.specs.Prelude.{IsTrue}
-use Rattle.joint_model.specs.declared.names.Phase.{Phase}
-use Rattle.joint_model.specs.declared.events.Entry.{Entry}
-use Rattle.joint_model.specs.declared.events.Made.{Made}
-use Rattle.joint_model.specs.Control.{control_after}
-use Rattle.joint_model.specs.Draws.{numbered}
-use Rattle.joint_model.specs.Histories.{Finished}
-use Rattle.joint_model.specs.Lines.{is_read}
-use Rattle.joint_model.specs.Linked.{Linkage}
-use Rattle.joint_model.specs.Readers.{entry_after}
-use Rattle.joint_model.specs.Told.{Told, Noted, nothing}
+use Rattle.joint_machine.specs.declared.names.Phase.{Phase}
+use Rattle.joint_machine.specs.declared.events.Entry.{Entry}
+use Rattle.joint_machine.specs.declared.events.Made.{Made}
+use Rattle.joint_machine.specs.Control.{control_after}
+use Rattle.joint_machine.specs.Draws.{numbered}
+use Rattle.joint_machine.specs.Histories.{Finished}
+use Rattle.joint_machine.specs.Lines.{is_read}
+use Rattle.joint_machine.specs.Linked.{Linkage}
+use Rattle.joint_machine.specs.Readers.{entry_after}
+use Rattle.joint_machine.specs.Told.{Told, Noted, nothing}
 use Rattle.check_laws.specs.declared.findings.Why.TheVariants as why
 use Rattle.check_laws.specs.Behind.{AllInOrder, GivesSnap, IsInOrderBehind, RepliesBehind, state_of}
-use Rattle.check_laws.specs.Found.{FailsBy}
+use Rattle.check_laws.specs.Findings.{FailsBy}
 use Rattle.check_laws.specs.Known.{managed_count}
 use Rattle.check_laws.specs.Order.{IsTurn, CitesSo}
 use Rattle.check_laws.proofs.Keeping.{after-other, after-read}

@@ -1,21 +1,22 @@
--- What follows a past follows it still when it is longer by an entry of the managed side: the side has its state, the peer side its own as before.
+-- What follows a past follows it still when it is longer by an entry of the managed side: the side has its state, the
+-- peer side its own as before.
 use Rattle.std.proofs.Common.{◌≡◌, ℕ, suc, ◌+◌, ◌<◌, ◌≤◌, Bool, true, false, List, [], ◌∷◌, length, map, Option, Some, None, refl, sym, ap, ◌∙◌, subst, arith}
 use Rattle.std.proofs.lemmas.List.Elements.{All-weaker}
-use Rattle.joint_model.specs.declared.events.Entry.{Entry}
-use Rattle.joint_model.specs.declared.events.Made.{Made}
-use Rattle.joint_model.specs.Control.{control_after}
-use Rattle.joint_model.specs.Draws.{AllBelow}
-use Rattle.joint_model.specs.Lines.{is_peer_event, is_read}
-use Rattle.joint_model.specs.Linked.{Linkage, managed_after, peer_after}
-use Rattle.joint_model.specs.Managed.{candidates_of}
-use Rattle.joint_model.specs.ManagedReplay.{ManagedReplay, managed_answer}
-use Rattle.joint_model.specs.Readers.{with_pins}
-use Rattle.joint_model.specs.Told.{Noted, Told, no_pins}
+use Rattle.joint_machine.specs.declared.events.Entry.{Entry}
+use Rattle.joint_machine.specs.declared.events.Made.{Made}
+use Rattle.joint_machine.specs.Control.{control_after}
+use Rattle.joint_machine.specs.Draws.{AllBelow}
+use Rattle.joint_machine.specs.Lines.{is_peer_event, is_read}
+use Rattle.joint_machine.specs.Linked.{Linkage, managed_after, peer_after}
+use Rattle.joint_machine.specs.Managed.{candidates_of}
+use Rattle.joint_machine.specs.ManagedReplay.{ManagedReplay, managed_answer}
+use Rattle.joint_machine.specs.Told.{Noted, Told}
+use Rattle.joint_machine.specs.PinsTold.{no_pins, with_pins}
 use Rattle.check_laws.specs.Behind.{state_of}
 use Rattle.check_laws.proofs.Keeping.{after-other}
-use Rattle.managed_side.specs.Rows.{number_or_none}
-use Rattle.managed_side.specs.Sides.{ManagedModel}
-use Rattle.peer_side.specs.Sides.{PeerModel}
+use Rattle.managed_heap.specs.Rows.{number_or_none}
+use Rattle.managed_heap.specs.Sides.{ManagedModel}
+use Rattle.peer_heap.specs.Sides.{PeerModel}
 use Rattle.run_check.specs.declared.readers.Readers.{Readers}
 use Rattle.run_check.specs.Follows.{LeftFits, ManagedFollows, PeersFollow, StoresFollow}
 use Rattle.run_check.specs.Judging.{next_noted}

@@ -1,20 +1,21 @@
--- Behind a past in order no more notices were taken than were queued, and no more were queued than objects were freed: each notice is one of a freed object.
+-- Behind a past in order no more notices were taken than were queued, and no more were queued than objects were freed:
+-- each notice is one of a freed object.
 use Rattle.std.proofs.Common.{◌≡◌, ℕ, ◌+◌, ◌≤◌, Bool, true, false, List, [], ◌∷◌, ◌++◌, length, Option, Some, None, refl, sym, ap, ◌∙◌, subst, arith, length-append, true≢false}
 use Rattle.std.specs.Prelude.{filter}
 use Rattle.std.proofs.lemmas.List.Sums.{count_by-le-length, length-filter}
-use Rattle.joint_model.specs.declared.names.Thread.{Thread}
-use Rattle.joint_model.specs.declared.lines.Act.{Act}
-use Rattle.joint_model.specs.declared.lines.Act.TheVariants as act
-use Rattle.joint_model.specs.declared.events.Op.{Op}
-use Rattle.joint_model.specs.declared.events.Op.TheVariants as op
-use Rattle.joint_model.specs.Histories.{Finished}
-use Rattle.joint_model.specs.Lines.{IsEvent, is_peer_event, is_read}
-use Rattle.joint_model.specs.Linked.{Linkage, MayCome, SideLawful, linkage_after, managed_after}
-use Rattle.joint_model.specs.Managed.{Managed, holds_handle, managed_line}
-use Rattle.joint_model.specs.ManagedReplay.{ManagedAllows, ManagedReplay, managed_answer}
-use Rattle.joint_model.specs.Run.{thread_number}
-use Rattle.joint_model.specs.Heaps.{place}
-use Rattle.joint_model.specs.Told.{Noted, Told, contraction_of, nothing, phase_of, resolution_of, snap_of}
+use Rattle.joint_machine.specs.declared.names.Thread.{Thread}
+use Rattle.joint_machine.specs.declared.lines.Act.{Act}
+use Rattle.joint_machine.specs.declared.lines.Act.TheVariants as act
+use Rattle.joint_machine.specs.declared.events.Op.{Op}
+use Rattle.joint_machine.specs.declared.events.Op.TheVariants as op
+use Rattle.joint_machine.specs.Histories.{Finished}
+use Rattle.joint_machine.specs.Lines.{IsEvent, is_peer_event, is_read}
+use Rattle.joint_machine.specs.Linked.{Linkage, MayCome, SideLawful, linkage_after, managed_after}
+use Rattle.joint_machine.specs.Managed.{Managed, holds_handle, managed_line}
+use Rattle.joint_machine.specs.ManagedReplay.{ManagedAllows, ManagedReplay, managed_answer}
+use Rattle.joint_machine.specs.Run.{thread_number}
+use Rattle.joint_machine.specs.Heaps.{place}
+use Rattle.joint_machine.specs.Told.{Noted, Told, contraction_of, nothing, phase_of, resolution_of, snap_of}
 use Rattle.joint_laws.specs.ManagedInvariants.{IsReplayKept}
 use Rattle.joint_laws.proofs.ManagedMoves.{managed_line-goes_on}
 use Rattle.joint_laws.proofs.NoticesTold.{notices-go}

@@ -1,17 +1,18 @@
--- The side's own call tells which entry may come behind the past: with its reply, and with what it tells. There is one such reply and one such telling, so
--- the entry that is judged is right exactly where it answers the same and names what was freed and taken.
+-- The side's own call tells which entry may come behind the past: with its reply, and with what it tells. There is one
+-- such reply and one such telling, so the entry that is judged is right exactly where it answers the same and names
+-- what was freed and taken.
 use Rattle.std.proofs.Common.{◌≡◌, ℕ, Bool, true, false, List, ◌∷◌, length, refl, sym, ap, ◌∙◌, subst, true≢false}
-use Rattle.joint_model.specs.declared.events.Made.{Made}
-use Rattle.joint_model.specs.declared.events.Op.{Op}
-use Rattle.joint_model.specs.declared.events.Op.TheVariants as op
-use Rattle.joint_model.specs.declared.events.Reply.{Reply}
-use Rattle.joint_model.specs.Control.{Stand}
-use Rattle.joint_model.specs.Draws.{numbered}
-use Rattle.joint_model.specs.Histories.{Finished}
-use Rattle.joint_model.specs.Lines.{is_peer_event, is_read}
-use Rattle.joint_model.specs.Linked.{Linkage, ManagedLawful, SideLawful}
-use Rattle.joint_model.specs.Told.{Noted, Told}
-use Rattle.known_laws.specs.Known.{TellsPlainly}
+use Rattle.joint_machine.specs.declared.events.Made.{Made}
+use Rattle.joint_machine.specs.declared.events.Op.{Op}
+use Rattle.joint_machine.specs.declared.events.Op.TheVariants as op
+use Rattle.joint_machine.specs.declared.events.Reply.{Reply}
+use Rattle.joint_machine.specs.Control.{Stand}
+use Rattle.joint_machine.specs.Draws.{numbered}
+use Rattle.joint_machine.specs.Histories.{Finished}
+use Rattle.joint_machine.specs.Lines.{is_peer_event, is_read}
+use Rattle.joint_machine.specs.Linked.{Linkage, ManagedLawful, SideLawful}
+use Rattle.joint_machine.specs.Told.{Noted, Told}
+use Rattle.known_laws.specs.PastEntries.{TellsPlainly}
 use Rattle.check_laws.specs.Behind.{NamesSo, RepliesBehind, SideReplies, state_of}
 use Rattle.check_laws.specs.Laws.{IsNoRefusal}
 use Rattle.check_laws.specs.Order.{CallersData, CitesSo, IsTurn, RepliesSo}
@@ -37,7 +38,8 @@ one_reply s k m r t u n turn cites a b = replies_one s m.caller m.index m.op m.c
     ((order_tested s (record { entry = numbered k (answered m r); told = t })).0 (record { turn = record { event = turn.event; line = turn.line; short = turn.short; turn = turn.turn }; cites = cites; replies = a }))
     ((order_tested s (record { entry = numbered k m; told = u })).0 (record { turn = turn; cites = cites; replies = b }))
 
--- what a call of a side has made is the next entry with its own reply, and the replay follows the past that is longer by it
+-- what a call of a side has made is the next entry with its own reply, and the replay follows the past that is longer
+-- by it
 pub record HasMade (past : List Noted) (m : Made) (r : Reply) (told : Told) (old new : Replay) : Type 0 where
   pub replies : RepliesSo (state_of past) (next_noted past (answered m r) told)
   pub sides : SidesFollow (next_noted past (answered m r) told ∷ past) new

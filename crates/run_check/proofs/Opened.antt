@@ -1,23 +1,23 @@
--- The open cycle behind an entry of the peer side, which leaves the managed objects as they were: the graph stays the dead part's, and where the driver goes on
--- to a further candidate so does the place.
+-- The open cycle behind an entry of the peer side, which leaves the managed objects as they were: the graph stays the
+-- dead part's, and where the driver goes on to a further candidate so does the place.
 use Rattle.std.proofs.Common.{◌≡◌, ℕ, ◌+◌, ◌<◌, [], length, Option, Some, None, refl, sym, ap, ◌∙◌, subst, arith}
 use Rattle.std.proofs.lemmas.Option.{slice_get_within}
-use Rattle.joint_model.specs.Control.{Stand, IsCandidateHandle}
-use Rattle.joint_model.specs.Linked.{Linkage}
+use Rattle.joint_machine.specs.Control.{Stand, IsCandidateHandle}
+use Rattle.joint_machine.specs.Linked.{Linkage}
 use Rattle.joint_model.specs.Listed.{answers_of}
-use Rattle.joint_model.specs.Managed.{Managed, candidates_of}
-use Rattle.joint_model.specs.ManagedReplay.{ManagedReplay}
-use Rattle.joint_model.proofs.HeapLemmas.{candidates_of-open}
+use Rattle.joint_machine.specs.Managed.{Managed, candidates_of}
+use Rattle.joint_machine.specs.ManagedReplay.{ManagedReplay}
+use Rattle.joint_machine.proofs.HeapLemmas.{candidates_of-open}
 use Rattle.joint_laws.specs.LinkedInvariants.{given_at}
-use Rattle.joint_model.specs.Told.{no_pins}
+use Rattle.joint_machine.specs.PinsTold.{no_pins}
 use Rattle.known_laws.specs.Driving.{IsPastKept}
 use Rattle.known_laws.specs.Known.{pinned}
 use Rattle.known_laws.specs.Pasts.{HasSameDeadPart}
 use Rattle.bridge_graph.specs.Handles.{handles_of}
 use Rattle.bridge_graph.specs.Parts.{IsPart, Part}
-use Rattle.managed_side.specs.Graphs.{IsDeadGraph}
+use Rattle.managed_heap.specs.Graphs.{IsDeadGraph}
 use Rattle.caller_turns.specs.Shapes.{next_place}
-use Rattle.peer_side.specs.Sides.{Reserve}
+use Rattle.peer_heap.specs.Sides.{Reserve}
 use Rattle.run_check.specs.declared.cycles.OpenCycle.{OpenCycle as Kept}
 use Rattle.run_check.specs.Cycles.{CycleFollows, HasCycle, IsAtHandle, IsOpenHere}
 use Rattle.run_check.specs.Follows.{LeftFits, ReserveFollows}

@@ -1,26 +1,27 @@
--- A snap: the driver is idle, so no cycle is open; the pins that are given are the state's, which stand. It may come exactly where it names the next cycle,
--- counts its candidates and names what is freed; the dead part's graph is kept from then on.
+-- A snap: the driver is idle, so no cycle is open; the pins that are given are the state's, which stand. It may come
+-- exactly where it names the next cycle, counts its candidates and names what is freed; the dead part's graph is kept
+-- from then on.
 use Rattle.std.proofs.Common.{◌≡◌, ℕ, suc, ◌+◌, Bool, true, false, List, [], ◌∷◌, ◌++◌, length, Option, Some, None, refl, sym, ap, ◌∙◌, subst, arith}
-use Rattle.joint_model.specs.declared.names.Cycle.{Cycle}
-use Rattle.joint_model.specs.declared.names.Span.{Span}
-use Rattle.joint_model.specs.declared.names.Thread.TheVariants.{C}
-use Rattle.joint_model.specs.declared.events.Made.{Made}
-use Rattle.joint_model.specs.declared.events.Op.TheVariants as op
-use Rattle.joint_model.specs.declared.events.Reply.{Reply}
-use Rattle.joint_model.specs.declared.events.Reply.TheVariants as says
-use Rattle.joint_model.specs.Control as control
-use Rattle.joint_model.specs.Control.{Stand, stand_after}
-use Rattle.joint_model.specs.Draws.{AllBelow}
-use Rattle.joint_model.specs.Histories.{Finished, managed_numbers, peer_numbers}
-use Rattle.joint_model.specs.Linked.{Linkage}
+use Rattle.joint_machine.specs.declared.names.Cycle.{Cycle}
+use Rattle.joint_machine.specs.declared.names.Span.{Span}
+use Rattle.joint_machine.specs.declared.names.Thread.TheVariants.{C}
+use Rattle.joint_machine.specs.declared.events.Made.{Made}
+use Rattle.joint_machine.specs.declared.events.Op.TheVariants as op
+use Rattle.joint_machine.specs.declared.events.Reply.{Reply}
+use Rattle.joint_machine.specs.declared.events.Reply.TheVariants as says
+use Rattle.joint_machine.specs.Control as control
+use Rattle.joint_machine.specs.Control.{Stand, stand_after}
+use Rattle.joint_machine.specs.Draws.{AllBelow}
+use Rattle.joint_machine.specs.Histories.{Finished, managed_numbers, peer_numbers}
+use Rattle.joint_machine.specs.Linked.{Linkage}
 use Rattle.joint_model.specs.Listed.{answers_of}
-use Rattle.joint_model.specs.Managed.{Managed, OpenCycle, candidates_of}
-use Rattle.joint_model.specs.ManagedReplay.{ManagedAllows, ManagedReplay}
-use Rattle.joint_model.specs.Readers.{with_pins}
-use Rattle.joint_model.specs.Sides.{GoesOn, managed_rules}
-use Rattle.joint_model.specs.Told.{Noted, Told, kept_pins, no_pins, snap_of}
+use Rattle.joint_machine.specs.Managed.{Managed, OpenCycle, candidates_of}
+use Rattle.joint_machine.specs.ManagedReplay.{ManagedAllows, ManagedReplay}
+use Rattle.joint_machine.specs.Sides.{GoesOn, managed_rules}
+use Rattle.joint_machine.specs.Told.{Noted, Told, kept_pins, snap_of}
+use Rattle.joint_machine.specs.PinsTold.{no_pins, with_pins}
 use Rattle.joint_laws.specs.LinkedInvariants.{given_at}
-use Rattle.joint_laws.specs.ToldLaws.{TellsNamed}
+use Rattle.joint_laws.specs.Spans.{TellsNamed}
 use Rattle.known_laws.specs.Known.{PinsStand, pinned}
 use Rattle.known_laws.proofs.Conditions.{idle_is_closed}
 use Rattle.known_laws.proofs.Pinned.{own_stand}
@@ -28,10 +29,10 @@ use Rattle.check_laws.specs.Behind.{state_of}
 use Rattle.check_laws.specs.Order.{SnapTurn}
 use Rattle.bridge_graph.specs.Parts.{IsPart, Part}
 use Rattle.caller_turns.specs.Shapes.{next_place}
-use Rattle.managed_side.specs.Graphs.{IsDeadGraph}
-use Rattle.managed_side.specs.Openings.{snap_made}
-use Rattle.managed_side.specs.Sides.{ManagedModel}
-use Rattle.managed_side.specs.Steps.{step_made}
+use Rattle.managed_heap.specs.Graphs.{IsDeadGraph}
+use Rattle.managed_heap.specs.Openings.{snap_made}
+use Rattle.managed_heap.specs.Sides.{ManagedModel}
+use Rattle.managed_heap.specs.Steps.{step_made}
 use Rattle.run_check.specs.declared.cycles.OpenCycle.{OpenCycle as Kept}
 use Rattle.run_check.specs.declared.draws.Recorder.{Recorder}
 use Rattle.run_check.specs.declared.readers.Readers.{Readers}

@@ -2,18 +2,18 @@
 use Rattle.std.proofs.Common.{◌≡◌, inl, inr, ℕ, ◌+◌, ◌<◌, ◌≤◌, Bool, true, false, not, ◌&&◌, List, [], ◌∷◌, length, Option, Some, None, refl, sym, ap, ◌∙◌, subst, arith, true≢false}
 use Rattle.std.specs.Prelude.{◌⊎◌, nat_lt, if◌then◌else◌}
 use Rattle.std.proofs.lemmas.Bool.{lt-ltb, ltb-true}
-use Rattle.joint_model.specs.declared.names.Cycle.{Cycle}
-use Rattle.joint_model.specs.declared.lines.Act.TheVariants as act
-use Rattle.joint_model.specs.declared.events.Op.{Op}
-use Rattle.joint_model.specs.declared.events.Op.TheVariants as op
-use Rattle.joint_model.specs.declared.events.Reply.{Reply}
-use Rattle.joint_model.specs.declared.events.Reply.TheVariants as says
-use Rattle.joint_model.specs.Histories.{Finished}
-use Rattle.joint_model.specs.Lines.{is_peer_event, is_read}
-use Rattle.joint_model.specs.Linked.{Linkage, linkage_after, managed_after}
-use Rattle.joint_model.specs.Readers.{ReadsCell, entry_after, is_managed_entry}
-use Rattle.joint_model.specs.Told.{Noted}
-use Rattle.known_laws.specs.Pasts.{InPast}
+use Rattle.joint_machine.specs.declared.names.Cycle.{Cycle}
+use Rattle.joint_machine.specs.declared.lines.Act.TheVariants as act
+use Rattle.joint_machine.specs.declared.events.Op.{Op}
+use Rattle.joint_machine.specs.declared.events.Op.TheVariants as op
+use Rattle.joint_machine.specs.declared.events.Reply.{Reply}
+use Rattle.joint_machine.specs.declared.events.Reply.TheVariants as says
+use Rattle.joint_machine.specs.Histories.{Finished}
+use Rattle.joint_machine.specs.Lines.{is_peer_event, is_read}
+use Rattle.joint_machine.specs.Linked.{Linkage, linkage_after, managed_after}
+use Rattle.joint_machine.specs.Readers.{ReadsCell, entry_after, is_managed_entry}
+use Rattle.joint_machine.specs.Told.{Noted}
+use Rattle.known_laws.specs.PastEntries.{InPast}
 use Rattle.check_laws.specs.Behind.{AllInOrder, IsReplyBehind, MayBePendingBehind, ReadsBehind, RepliesBehind, WaitsForSnap, state_of}
 use Rattle.check_laws.proofs.Keeping.{after-other, after-read, snap-counted}
 use Rattle.check_laws.proofs.Naming.{all_read}

@@ -1,26 +1,27 @@
--- An entry that a call of the managed side has made is lawful in the side's own list, which has no pins between entries but those that it is told. So it is
--- lawful in the state of the past, which has the readers' pins, and leaves the same but for the pins.
+-- An entry that a call of the managed side has made is lawful in the side's own list, which has no pins between entries
+-- but those that it is told. So it is lawful in the state of the past, which has the readers' pins, and leaves the same
+-- but for the pins.
 use Rattle.std.proofs.Common.{◌≡◌, ℕ, Bool, true, false, List, Option, Some, None, refl, sym, ap, ◌∙◌, subst}
-use Rattle.joint_model.specs.declared.names.Thread.{Thread}
-use Rattle.joint_model.specs.declared.names.Var.{Var}
-use Rattle.joint_model.specs.declared.lines.Act.TheVariants as act
-use Rattle.joint_model.specs.declared.events.Made.{Made}
-use Rattle.joint_model.specs.declared.events.Op.{Op}
-use Rattle.joint_model.specs.declared.events.Op.TheVariants as op
-use Rattle.joint_model.specs.declared.events.Reply.{Reply}
-use Rattle.joint_model.specs.Heaps.{Answered, place, slot}
-use Rattle.joint_model.specs.Lines.{is_pinned, is_read}
-use Rattle.joint_model.specs.Linked.{ManagedLawful}
-use Rattle.joint_model.specs.Managed.{Managed, pin_taken}
-use Rattle.joint_model.specs.ManagedReplay.{ManagedReplay, managed_answer}
-use Rattle.joint_model.specs.Readers.{with_pins}
-use Rattle.joint_model.specs.Run.{thread_number}
-use Rattle.joint_model.specs.Sides.{GoesOn, IsOwnLawful, managed_rules}
-use Rattle.joint_model.specs.Told.{Told, bare_told, kept_pins, no_pins, nothing, pins_told}
+use Rattle.joint_machine.specs.declared.names.Thread.{Thread}
+use Rattle.joint_machine.specs.declared.names.Var.{Var}
+use Rattle.joint_machine.specs.declared.lines.Act.TheVariants as act
+use Rattle.joint_machine.specs.declared.events.Made.{Made}
+use Rattle.joint_machine.specs.declared.events.Op.{Op}
+use Rattle.joint_machine.specs.declared.events.Op.TheVariants as op
+use Rattle.joint_machine.specs.declared.events.Reply.{Reply}
+use Rattle.joint_machine.specs.Heaps.{Answered, place, slot}
+use Rattle.joint_machine.specs.Lines.{is_read}
+use Rattle.joint_machine.specs.PinsTold.{is_pinned, bare_told, no_pins, pins_told, with_pins}
+use Rattle.joint_machine.specs.Linked.{ManagedLawful}
+use Rattle.joint_machine.specs.Managed.{Managed, pin_taken}
+use Rattle.joint_machine.specs.ManagedReplay.{ManagedReplay, managed_answer}
+use Rattle.joint_machine.specs.Run.{thread_number}
+use Rattle.joint_machine.specs.Sides.{GoesOn, IsOwnLawful, managed_rules}
+use Rattle.joint_machine.specs.Told.{Told, kept_pins, nothing}
 use Rattle.joint_laws.proofs.KeptPins.{take_by}
 use Rattle.known_laws.proofs.Bared.{plain_pins, plain_told}
 use Rattle.known_laws.proofs.Unpinned.{allows_same, answers_same, pinned_answer}
-use Rattle.managed_side.specs.Steps.{step_made, take_op}
+use Rattle.managed_heap.specs.Steps.{step_made, take_op}
 
 -- it is lawful in that state, and the side is then as the state after it, but for the pins
 pub record IsMadeIn (s : ManagedReplay) (m : Made) (told : Told) (new : ManagedReplay) : Type 0 where

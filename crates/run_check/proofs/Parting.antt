@@ -3,24 +3,24 @@ use Rattle.std.proofs.Common.{◌≡◌, ℕ, zero, suc, ◌+◌, ◌<◌, ◌�
 use Rattle.std.specs.Prelude.{IsSome, is_some, slice_get}
 use Rattle.std.specs.Option.{option_to_list}
 use Rattle.std.proofs.lemmas.Option.{same_Some, slice_get_within}
-use Rattle.joint_model.specs.declared.names.HNum.{HNum}
-use Rattle.joint_model.specs.declared.names.Marking.{Marking as Number}
-use Rattle.joint_model.specs.declared.names.Thread.{Thread}
-use Rattle.joint_model.specs.Control as control
-use Rattle.joint_model.specs.Control.{IsCandidateHandle}
-use Rattle.joint_model.specs.Linked.{Linkage}
-use Rattle.joint_model.specs.Managed.{Managed, OpenCycle, candidates_of, handle_of}
-use Rattle.joint_model.specs.PeerReplay.{Marking}
-use Rattle.joint_model.specs.Told.{no_pins}
-use Rattle.joint_model.proofs.Deciding.{none_some}
-use Rattle.joint_model.proofs.HeapLemmas.{candidates_of-open}
+use Rattle.joint_machine.specs.declared.names.HNum.{HNum}
+use Rattle.joint_machine.specs.declared.names.Marking.{Marking as Number}
+use Rattle.joint_machine.specs.declared.names.Thread.{Thread}
+use Rattle.joint_machine.specs.Control as control
+use Rattle.joint_machine.specs.Control.{IsCandidateHandle}
+use Rattle.joint_machine.specs.Linked.{Linkage}
+use Rattle.joint_machine.specs.Managed.{Managed, OpenCycle, candidates_of, handle_of}
+use Rattle.joint_machine.specs.PeerReplay.{Marking}
+use Rattle.joint_machine.specs.PinsTold.{no_pins}
+use Rattle.joint_machine.proofs.Deciding.{none_some}
+use Rattle.joint_machine.proofs.HeapLemmas.{candidates_of-open}
 use Rattle.known_laws.specs.Driving.{IsPastKept}
 use Rattle.known_laws.specs.Known.{pinned}
 use Rattle.known_laws.proofs.Conditions.{idle_is_closed}
 use Rattle.bridge_graph.specs.declared.graph.Node.{Node}
 use Rattle.bridge_graph.specs.Handles.{handle_at, handles_of}
-use Rattle.managed_side.specs.Graphs.{IsDeadGraph}
-use Rattle.peer_side.specs.Sides.{IsMarkingOf}
+use Rattle.managed_heap.specs.Graphs.{IsDeadGraph}
+use Rattle.peer_heap.specs.Sides.{IsMarkingOf}
 use Rattle.caller_turns.specs.Shapes.{IsPartOf, next_place, stand_of}
 use Rattle.caller_turns.specs.Turns.{HasCount}
 use Rattle.run_check.specs.declared.cycles.OpenCycle.{OpenCycle as Kept}

@@ -1,15 +1,16 @@
--- What holds behind a past in order, for the calls of both sides: what every known past keeps, with the readers' pins or without them; and what an event of the
--- driver is by its name.
+-- What holds behind a past in order, for the calls of both sides: what every known past keeps, with the readers' pins
+-- or without them; and what an event of the driver is by its name.
 use Rattle.std.proofs.Common.{◌≡◌, ℕ, List, Option, None, refl, subst}
-use Rattle.joint_model.specs.declared.names.Thread.{Thread}
-use Rattle.joint_model.specs.declared.names.Thread.TheVariants.{M, P, C}
-use Rattle.joint_model.specs.declared.events.Made.{Made}
-use Rattle.joint_model.specs.declared.events.Op.{Op}
-use Rattle.joint_model.specs.declared.events.Op.TheVariants as op
-use Rattle.joint_model.specs.Histories.{Finished}
-use Rattle.joint_model.specs.Lines.{IsDriver, IsEvent}
-use Rattle.joint_model.specs.Linked.{Linkage}
-use Rattle.joint_model.specs.Told.{Noted, no_pins}
+use Rattle.joint_machine.specs.declared.names.Thread.{Thread}
+use Rattle.joint_machine.specs.declared.names.Thread.TheVariants.{M, P, C}
+use Rattle.joint_machine.specs.declared.events.Made.{Made}
+use Rattle.joint_machine.specs.declared.events.Op.{Op}
+use Rattle.joint_machine.specs.declared.events.Op.TheVariants as op
+use Rattle.joint_machine.specs.Histories.{Finished}
+use Rattle.joint_machine.specs.Lines.{IsDriver, IsEvent}
+use Rattle.joint_machine.specs.Linked.{Linkage}
+use Rattle.joint_machine.specs.Told.{Noted}
+use Rattle.joint_machine.specs.PinsTold.{no_pins}
 use Rattle.joint_laws.specs.ManagedInvariants.{IsReplayKept}
 use Rattle.known_laws.specs.Driving.{IsPastKept}
 use Rattle.known_laws.specs.Known.{pinned}
@@ -20,7 +21,7 @@ use Rattle.check_laws.proofs.Knows.{pasts_known}
 use Rattle.check_laws.proofs.Naming.{all_read}
 use Rattle.check_laws.proofs.Tested.{stand_behind}
 use Rattle.check_laws.proofs.Turned.{all_come}
-use Rattle.managed_side.specs.Steps.{step_made}
+use Rattle.managed_heap.specs.Steps.{step_made}
 use Rattle.run_check.specs.Judging.{IsSoFar}
 
 pub past_kept : (h : Finished) (past : List Noted) → IsSoFar h past → IsPastKept (pinned (state_of past) no_pins)

@@ -1,13 +1,12 @@
 -- Pasts in order as they are judged: they grow by the next entry, and are known.
 use Rattle.std.proofs.Common.{◌≡◌, ℕ, ◌+◌, ◌<◌, ◌≤◌, ◌^◌, Bool, true, false, List, [], ◌∷◌, ◌++◌, length, refl, sym, ap, ◌∙◌, subst, arith}
-use Rattle.joint_model.specs.declared.events.Entry.{Entry}
-use Rattle.joint_model.specs.declared.events.Made.{Made}
-use Rattle.joint_model.specs.Draws.{NumberedFrom}
-use Rattle.joint_model.specs.Histories.{Finished}
-use Rattle.joint_model.specs.Lines.{is_read}
-use Rattle.joint_model.specs.Readers.{is_managed_entry}
-use Rattle.joint_model.specs.Told.{Told, Noted}
-use Rattle.known_laws.specs.Growing.{entries}
+use Rattle.joint_machine.specs.declared.events.Entry.{Entry}
+use Rattle.joint_machine.specs.declared.events.Made.{Made}
+use Rattle.joint_machine.specs.Histories.{Finished, NumberedFrom}
+use Rattle.joint_machine.specs.Lines.{is_read}
+use Rattle.joint_machine.specs.Readers.{is_managed_entry}
+use Rattle.joint_machine.specs.Told.{Told, Noted}
+use Rattle.known_laws.specs.PastEntries.{entries}
 use Rattle.check_laws.specs.Behind.{in_turn, state_of, IsInOrderBehind, RepliesBehind, AllInOrder}
 use Rattle.check_laws.specs.Known.{managed_count, one}
 use Rattle.check_laws.specs.Knows.{AreKnown}

@@ -1,32 +1,33 @@
--- An entry of the peer side behind a past that a replay follows: where its reply is the side's, it comes behind the past, and the replay follows the longer one;
--- and where it isn't, nothing that is told of it makes it right, since what may come there answers one thing.
+-- An entry of the peer side behind a past that a replay follows: where its reply is the side's, it comes behind the
+-- past, and the replay follows the longer one; and where it isn't, nothing that is told of it makes it right, since
+-- what may come there answers one thing.
 use Rattle.std.proofs.Common.{◌≡◌, ℕ, suc, ◌<◌, ◌^◌, Bool, true, false, List, ◌∷◌, length, Option, refl, sym, ap, ◌∙◌, subst, arith, true≢false}
 use Rattle.std.specs.Prelude.{◌↔◌, ◌-◌, IsTrue, ⊤}
 use Rattle.std.proofs.lemmas.List.Elements.{All-contains}
-use Rattle.joint_model.specs.declared.names.Cycle.{Cycle}
-use Rattle.joint_model.specs.declared.names.Thread.{Thread}
-use Rattle.joint_model.specs.declared.lines.Act.TheVariants as act
-use Rattle.joint_model.specs.declared.events.Entry.{Entry}
-use Rattle.joint_model.specs.declared.events.Made.{Made}
-use Rattle.joint_model.specs.declared.events.Op.{Op}
-use Rattle.joint_model.specs.declared.events.Op.TheVariants as op
-use Rattle.joint_model.specs.declared.events.Reply.{Reply}
-use Rattle.joint_model.specs.declared.events.Reply.TheVariants as says
-use Rattle.joint_model.specs.Control.{Stand, control_after}
-use Rattle.joint_model.specs.Draws.{AllBelow, CountDrew}
-use Rattle.joint_model.specs.Histories.{Finished, managed_numbers, peer_numbers}
-use Rattle.joint_model.specs.Lines.{is_peer_event, is_read}
-use Rattle.joint_model.specs.Linked.{Linkage, MayCome, PeerLawful, SideLawful, linkage_after, managed_after, peer_after}
-use Rattle.joint_model.specs.ManagedReplay.{ManagedReplay}
-use Rattle.joint_model.specs.PeerReplay.{PeerReplay, peer_answer}
-use Rattle.joint_model.specs.Readers.{with_pins}
-use Rattle.joint_model.specs.Sides.{AddsLawful, Drawing, MayDraw, TakesPeer, peer_rules}
-use Rattle.joint_model.specs.Told.{Noted, Told, no_pins}
-use Rattle.joint_model.proofs.Members.{All-members}
-use Rattle.joint_laws.specs.ToldLaws.{TellsNamed}
+use Rattle.joint_machine.specs.declared.names.Cycle.{Cycle}
+use Rattle.joint_machine.specs.declared.names.Thread.{Thread}
+use Rattle.joint_machine.specs.declared.lines.Act.TheVariants as act
+use Rattle.joint_machine.specs.declared.events.Entry.{Entry}
+use Rattle.joint_machine.specs.declared.events.Made.{Made}
+use Rattle.joint_machine.specs.declared.events.Op.{Op}
+use Rattle.joint_machine.specs.declared.events.Op.TheVariants as op
+use Rattle.joint_machine.specs.declared.events.Reply.{Reply}
+use Rattle.joint_machine.specs.declared.events.Reply.TheVariants as says
+use Rattle.joint_machine.specs.Control.{Stand, control_after}
+use Rattle.joint_machine.specs.Draws.{AllBelow, CountDrew, Drawing}
+use Rattle.joint_machine.specs.Histories.{Finished, managed_numbers, peer_numbers}
+use Rattle.joint_machine.specs.Lines.{is_peer_event, is_read}
+use Rattle.joint_machine.specs.Linked.{Linkage, MayCome, PeerLawful, SideLawful, linkage_after, managed_after, peer_after}
+use Rattle.joint_machine.specs.ManagedReplay.{ManagedReplay}
+use Rattle.joint_machine.specs.PeerReplay.{PeerReplay, peer_answer}
+use Rattle.joint_machine.specs.Sides.{AddsLawful, MayDraw, TakesPeer, peer_rules}
+use Rattle.joint_machine.specs.Told.{Noted, Told}
+use Rattle.joint_machine.specs.PinsTold.{no_pins, with_pins}
+use Rattle.joint_machine.proofs.Members.{All-members}
+use Rattle.joint_laws.specs.Spans.{TellsNamed}
 use Rattle.joint_laws.proofs.PlainReplies.{IsPlain}
 use Rattle.joint_laws.proofs.SpansTold.{HasSpan, IsPlainEntry, plain-entry}
-use Rattle.known_laws.specs.Known.{TellsPlainly}
+use Rattle.known_laws.specs.PastEntries.{TellsPlainly}
 use Rattle.known_laws.proofs.Coming.{peer_reads_none}
 use Rattle.check_laws.specs.Behind.{NamesSo, RepliesBehind, SideReplies, state_of}
 use Rattle.check_laws.specs.Knows.{AreKnown}
@@ -36,7 +37,7 @@ use Rattle.check_laws.proofs.Keeping.{after-other}
 use Rattle.check_laws.proofs.Knows.{pasts_known}
 use Rattle.check_laws.proofs.Ordering.{order_tested}
 use Rattle.check_laws.proofs.Replying.{replies_one}
-use Rattle.peer_side.specs.Sides.{seen}
+use Rattle.peer_heap.specs.Sides.{seen}
 use Rattle.run_check.specs.declared.draws.Recorder.{Recorder}
 use Rattle.run_check.specs.declared.readers.Readers.{Readers}
 use Rattle.run_check.specs.declared.replays.Replay.{Replay}

@@ -1,26 +1,28 @@
--- The driver's entries on the handles of its candidates: each is weakened, then restored, and then the references are cleared.
+-- The driver's entries on the handles of its candidates: each is weakened, then restored, and then the references are
+-- cleared.
 use Rattle.std.proofs.Common.{◌≡◌, ℕ, ◌+◌, ◌<◌, ◌≤◌, Bool, true, false, List, [], ◌∷◌, ◌++◌, length, length-append, Option, Some, None, refl, sym, ap, ◌∙◌, subst, arith}
 use Rattle.std.specs.Prelude.{◌↔◌, IsTrue}
 use Rattle.std.proofs.lemmas.List.{length-map, map-append}
 use Rattle.std.proofs.lemmas.Option.{slice_get_within}
-use Rattle.joint_model.specs.declared.names.Cycle.{Cycle}
-use Rattle.joint_model.specs.declared.names.HNum.{HNum}
-use Rattle.joint_model.specs.declared.names.Thread.TheVariants.{C}
-use Rattle.joint_model.specs.declared.events.Made.{Made}
-use Rattle.joint_model.specs.declared.events.Op.{Op}
-use Rattle.joint_model.specs.declared.events.Op.TheVariants as op
-use Rattle.joint_model.specs.declared.events.Reply.TheVariants as says
-use Rattle.joint_model.specs.Control.{OpenSnap, Stand, idle, weakening, restoring, restored, IsCandidateHandle, answer_in, stand_after}
-use Rattle.joint_model.specs.Heaps.{numbered_at}
-use Rattle.joint_model.specs.Histories.{Finished}
-use Rattle.joint_model.specs.Lines.{IsEvent, is_peer_event, is_read}
-use Rattle.joint_model.specs.Linked.{Linkage}
+use Rattle.joint_machine.specs.declared.names.Cycle.{Cycle}
+use Rattle.joint_machine.specs.declared.names.HNum.{HNum}
+use Rattle.joint_machine.specs.declared.names.Thread.TheVariants.{C}
+use Rattle.joint_machine.specs.declared.events.Made.{Made}
+use Rattle.joint_machine.specs.declared.events.Op.{Op}
+use Rattle.joint_machine.specs.declared.events.Op.TheVariants as op
+use Rattle.joint_machine.specs.declared.events.Reply.TheVariants as says
+use Rattle.joint_machine.specs.Control.{OpenSnap, Stand, idle, weakening, restoring, restored, IsCandidateHandle, answer_in, stand_after}
+use Rattle.joint_machine.specs.Heaps.{numbered_at}
+use Rattle.joint_machine.specs.Histories.{Finished}
+use Rattle.joint_machine.specs.Lines.{IsEvent, is_peer_event, is_read}
+use Rattle.joint_machine.specs.Linked.{Linkage}
 use Rattle.joint_model.specs.Listed.{answer_of, answers_of}
-use Rattle.joint_model.specs.Managed.{Managed, candidates_of}
-use Rattle.joint_model.specs.PeerReplay.{PeerReplay, TableRow, MayClear, MayRestore, MayWeaken, row_of}
-use Rattle.joint_model.specs.Peers.{strong}
-use Rattle.joint_model.specs.Sides.{AddsLawful, MayDraw, peer_rules}
-use Rattle.joint_model.specs.Told.{Answer, Noted, nothing, no_pins}
+use Rattle.joint_machine.specs.Managed.{Managed, candidates_of}
+use Rattle.joint_machine.specs.PeerReplay.{PeerReplay, TableRow, MayClear, MayRestore, MayWeaken, row_of}
+use Rattle.joint_machine.specs.Peers.{strong}
+use Rattle.joint_machine.specs.Sides.{AddsLawful, MayDraw, peer_rules}
+use Rattle.joint_machine.specs.Told.{Answer, Noted, nothing}
+use Rattle.joint_machine.specs.PinsTold.{no_pins}
 use Rattle.joint_laws.specs.LinkedInvariants.{HasStrength, given_at}
 use Rattle.joint_laws.proofs.PeerEntries.{peer_of-issued}
 use Rattle.known_laws.specs.Driving.{IsPastKept}
@@ -31,10 +33,10 @@ use Rattle.check_laws.specs.Order.{CallersData, ClearData, ClearTurn, DriverData
 use Rattle.caller_turns.specs.Shapes.{next_place}
 use Rattle.bridge_graph.specs.Handles.{handles_of}
 use Rattle.global_handles.specs.Rows.{back_of}
-use Rattle.peer_side.specs.Cycles.{clears, reply_of, reserve_left, reserve_over, restores, weakens}
-use Rattle.peer_side.specs.Mirroring.{strong_row}
-use Rattle.peer_side.specs.Mirrors.{AreTargetsRestored}
-use Rattle.peer_side.specs.Sides.{Reserve, seen}
+use Rattle.peer_heap.specs.Cycles.{clears, reply_of, reserve_left, reserve_over, restores, weakens}
+use Rattle.peer_heap.specs.Mirroring.{strong_row}
+use Rattle.peer_heap.specs.Mirrors.{AreTargetsRestored}
+use Rattle.peer_heap.specs.Sides.{Reserve, seen}
 use Rattle.run_check.specs.declared.cycles.OpenCycle.{OpenCycle as Kept}
 use Rattle.run_check.specs.declared.replays.Replay.{Replay}
 use Rattle.run_check.specs.Cycles.{CycleFollows, HasCycle, IsAtHandle, IsOpenHere}

@@ -1,28 +1,30 @@
 -- The begin and the sweep of a marking, by the driver or by a peer thread.
 use Rattle.std.proofs.Common.{◌≡◌, ◌⊎◌, inl, inr, ℕ, ◌+◌, ◌≤◌, Bool, true, false, ◌||◌, List, [], ◌∷◌, ◌++◌, length, length-append, drop, Option, Some, None, refl, sym, ap, ◌∙◌, subst, arith, true≢false}
 use Rattle.std.specs.Prelude.{◌↔◌, ◌-◌, IsSome, IsTrue, if◌then◌else◌}
-use Rattle.joint_model.specs.declared.names.Marking.{Marking as Number}
-use Rattle.joint_model.specs.declared.names.Span.{Span}
-use Rattle.joint_model.specs.declared.names.Thread.{Thread}
-use Rattle.joint_model.specs.declared.names.Thread.TheVariants.{C}
-use Rattle.joint_model.specs.declared.events.Made.{Made}
-use Rattle.joint_model.specs.declared.events.Op.TheVariants as op
-use Rattle.joint_model.specs.declared.events.Reply.{Reply}
-use Rattle.joint_model.specs.declared.events.Reply.TheVariants as says
-use Rattle.joint_model.specs.Components.{Rises}
-use Rattle.joint_model.specs.Control.{OpenSnap, Stand, idle, weakening, marked, restoring, stand_after}
-use Rattle.joint_model.specs.Heaps.{answer}
-use Rattle.joint_model.specs.Histories.{Finished, managed_numbers, peer_numbers}
-use Rattle.joint_model.specs.Lines.{IsDriver, IsEvent, IsPeerThread, is_peer_event, is_read}
-use Rattle.joint_model.specs.Linked.{Linkage}
+use Rattle.joint_machine.specs.declared.names.Marking.{Marking as Number}
+use Rattle.joint_machine.specs.declared.names.Span.{Span}
+use Rattle.joint_machine.specs.declared.names.Thread.{Thread}
+use Rattle.joint_machine.specs.declared.names.Thread.TheVariants.{C}
+use Rattle.joint_machine.specs.declared.events.Made.{Made}
+use Rattle.joint_machine.specs.declared.events.Op.TheVariants as op
+use Rattle.joint_machine.specs.declared.events.Reply.{Reply}
+use Rattle.joint_machine.specs.declared.events.Reply.TheVariants as says
+use Rattle.joint_machine.specs.Components.{Rises}
+use Rattle.joint_machine.specs.Control.{OpenSnap, Stand, idle, weakening, marked, restoring, stand_after}
+use Rattle.joint_machine.specs.Heaps.{answer}
+use Rattle.joint_machine.specs.Histories.{Finished, managed_numbers, peer_numbers}
+use Rattle.joint_machine.specs.Lines.{IsDriver, IsEvent, IsPeerThread, is_peer_event, is_read}
+use Rattle.joint_machine.specs.Linked.{Linkage}
 use Rattle.joint_model.specs.Listed.{answers_of}
-use Rattle.joint_model.specs.Managed.{candidates_of}
-use Rattle.joint_model.specs.PeerReplay.{PeerReplay, Marking, SweepAllows, is_thread, peer_answer, swept, swept_of}
-use Rattle.joint_model.specs.Sides.{AddsInTurn, AddsLawful, Drawing, MayDraw, Side, SideRules, peer_rules}
-use Rattle.joint_model.specs.Told.{Noted, Told, nothing, no_pins, sweep_of}
+use Rattle.joint_machine.specs.Managed.{candidates_of}
+use Rattle.joint_machine.specs.PeerReplay.{PeerReplay, Marking, SweepAllows, is_thread, peer_answer, swept, swept_of}
+use Rattle.joint_machine.specs.Draws.{Drawing}
+use Rattle.joint_machine.specs.Sides.{AddsInTurn, AddsLawful, MayDraw, Side, SideRules, peer_rules}
+use Rattle.joint_machine.specs.Told.{Noted, Told, nothing, sweep_of}
+use Rattle.joint_machine.specs.PinsTold.{no_pins}
 use Rattle.joint_laws.specs.LinkedInvariants.{given_at}
 use Rattle.joint_laws.proofs.SpansTold.{HasSpan}
-use Rattle.joint_laws.specs.ToldLaws.{IsStretch, TellsNamed}
+use Rattle.joint_laws.specs.Spans.{IsStretch, TellsNamed}
 use Rattle.known_laws.specs.Driving.{IsPastKept}
 use Rattle.known_laws.specs.Known.{pinned}
 use Rattle.known_laws.proofs.Conditions.{marked_is_the_drivers}
@@ -30,10 +32,10 @@ use Rattle.caller_turns.specs.Shapes.{next_place}
 use Rattle.check_laws.specs.Behind.{NamesSo, RepliesBehind, SideReplies, state_of}
 use Rattle.check_laws.specs.Laws.{IsNoRefusal}
 use Rattle.check_laws.specs.Order.{BeginTurn, SweepTurn}
-use Rattle.peer_side.specs.declared.side.BeginFault.{BeginFault}
-use Rattle.peer_side.specs.declared.side.BeginFault.TheVariants.{OutOfMemory, MarkOpen}
-use Rattle.peer_side.specs.Makings.{IsSideStep, MayDrawStep, MayStep, step_makings, told_at}
-use Rattle.peer_side.specs.Sides.{IsFaultAt, MayEnd, Reserve, begins, ends, reserve_begun, seen}
+use Rattle.peer_heap.specs.declared.side.BeginFault.{BeginFault}
+use Rattle.peer_heap.specs.declared.side.BeginFault.TheVariants.{OutOfMemory, MarkOpen}
+use Rattle.peer_heap.specs.Makings.{IsSideStep, MayDrawStep, MayStep, step_makings, told_at}
+use Rattle.peer_heap.specs.Sides.{IsFaultAt, MayEnd, Reserve, begins, ends, reserve_begun, seen}
 use Rattle.run_check.specs.declared.cycles.OpenCycle.{OpenCycle as Kept}
 use Rattle.run_check.specs.declared.replays.Replay.{Replay}
 use Rattle.run_check.specs.Cycles.{CycleFollows, HasCycle, IsAtHandle, IsOpenHere}

@@ -1,21 +1,23 @@
--- The driver's mirror: the mirror edges of the components that were told come to stand as references between the peers of the dead part's handles.
+-- The driver's mirror: the mirror edges of the components that were told come to stand as references between the peers
+-- of the dead part's handles.
 use Rattle.std.proofs.Common.{◌≡◌, ℕ, Bool, false, List, length, Option, Some, None, refl, sym, ap, ◌∙◌, subst, arith}
 use Rattle.std.specs.Prelude.{◌↔◌, IsTrue}
 use Rattle.std.proofs.lemmas.Option.{same_Some}
-use Rattle.joint_model.specs.declared.names.Cycle.{Cycle}
-use Rattle.joint_model.specs.declared.names.Thread.TheVariants.{C}
-use Rattle.joint_model.specs.declared.events.Made.{Made}
-use Rattle.joint_model.specs.declared.events.Op.TheVariants as op
-use Rattle.joint_model.specs.declared.events.Reply.TheVariants as says
-use Rattle.joint_model.specs.Components.{mirror_edges}
-use Rattle.joint_model.specs.Control.{OpenSnap, Stand, idle, contracted, weakening, carried_edges, stand_after}
-use Rattle.joint_model.specs.Cycles.{IsDeadContraction}
-use Rattle.joint_model.specs.Histories.{Finished}
-use Rattle.joint_model.specs.Lines.{IsEvent}
-use Rattle.joint_model.specs.Managed.{Managed}
-use Rattle.joint_model.specs.PeerReplay.{PeerReplay, MayMirror, row_of}
-use Rattle.joint_model.specs.Sides.{AddsLawful, MayDraw, peer_rules}
-use Rattle.joint_model.specs.Told.{Noted, no_pins, references_of}
+use Rattle.joint_machine.specs.declared.names.Cycle.{Cycle}
+use Rattle.joint_machine.specs.declared.names.Thread.TheVariants.{C}
+use Rattle.joint_machine.specs.declared.events.Made.{Made}
+use Rattle.joint_machine.specs.declared.events.Op.TheVariants as op
+use Rattle.joint_machine.specs.declared.events.Reply.TheVariants as says
+use Rattle.joint_machine.specs.Components.{mirror_edges}
+use Rattle.joint_machine.specs.Control.{OpenSnap, Stand, idle, contracted, weakening, carried_edges, stand_after}
+use Rattle.joint_machine.specs.Cycles.{IsDeadContraction}
+use Rattle.joint_machine.specs.Histories.{Finished}
+use Rattle.joint_machine.specs.Lines.{IsEvent}
+use Rattle.joint_machine.specs.Managed.{Managed}
+use Rattle.joint_machine.specs.PeerReplay.{PeerReplay, MayMirror, row_of}
+use Rattle.joint_machine.specs.Sides.{AddsLawful, MayDraw, peer_rules}
+use Rattle.joint_machine.specs.Told.{Noted, references_of}
+use Rattle.joint_machine.specs.PinsTold.{no_pins}
 use Rattle.joint_laws.specs.LinkedInvariants.{given_at}
 use Rattle.known_laws.specs.Conditions.{MayBeInstalled}
 use Rattle.known_laws.specs.Driving.{IsPastKept}
@@ -25,12 +27,12 @@ use Rattle.caller_turns.specs.Shapes.{next_place}
 use Rattle.check_laws.specs.Behind.{state_of}
 use Rattle.check_laws.specs.Order.{DriverData, MirrorCites, MirrorData}
 use Rattle.bridge_graph.specs.Handles.{handles_of}
-use Rattle.managed_side.specs.Graphs.{IsDeadGraph}
+use Rattle.managed_heap.specs.Graphs.{IsDeadGraph}
 use Rattle.xref_list.specs.Listing.{IsListing, Listing}
 use Rattle.peer_mirror.specs.Carried.{AreBridgeNodes, AreHandlesStrong, carried_to_peers, reserve_installed}
-use Rattle.peer_side.specs.Cycles.{mirrors}
-use Rattle.peer_side.specs.Mirroring.{strong_row}
-use Rattle.peer_side.specs.Sides.{Reserve, seen}
+use Rattle.peer_heap.specs.Cycles.{mirrors}
+use Rattle.peer_heap.specs.Mirroring.{strong_row}
+use Rattle.peer_heap.specs.Sides.{Reserve, seen}
 use Rattle.run_check.specs.declared.cycles.OpenCycle.{OpenCycle as Kept}
 use Rattle.run_check.specs.declared.replays.Replay.{Replay}
 use Rattle.run_check.specs.Cycles.{CycleFollows, HasCycle, HasListing, IsAtHandle, IsOpenHere, numbered_comps}

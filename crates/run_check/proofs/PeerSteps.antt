@@ -1,21 +1,22 @@
 -- An event of a peer thread, or what a managed thread does with a handle: the peer side makes it as one step.
 use Rattle.std.proofs.Common.{◌≡◌, ℕ, ◌≤◌, Bool, true, List, ◌∷◌, length, Option, None, refl, sym, ap, ◌∙◌, subst, true≢false}
 use Rattle.std.specs.Prelude.{◌↔◌, IsTrue}
-use Rattle.joint_model.specs.declared.names.Thread.{Thread}
-use Rattle.joint_model.specs.declared.names.Thread.TheVariants.{M, P, C}
-use Rattle.joint_model.specs.declared.lines.Act.{Act}
-use Rattle.joint_model.specs.declared.lines.Act.TheVariants as act
-use Rattle.joint_model.specs.declared.events.Made.{Made}
-use Rattle.joint_model.specs.declared.events.Op.{Op}
-use Rattle.joint_model.specs.declared.events.Op.TheVariants as op
-use Rattle.joint_model.specs.declared.events.Reply.{Reply}
-use Rattle.joint_model.specs.Control.{Control, Doing, given, met, control_after, doing_at}
-use Rattle.joint_model.specs.Histories.{Finished}
-use Rattle.joint_model.specs.Lines.{IsEvent, IsOneEvent, IsPeerAct, IsPeerThread, is_peer_event}
-use Rattle.joint_model.specs.Linked.{Linkage}
-use Rattle.joint_model.specs.PeerReplay.{PeerReplay, MayRelease, PeerAllows}
-use Rattle.joint_model.specs.Sides.{AddsLawful, MayDraw, TakesPeer, peer_rules}
-use Rattle.joint_model.specs.Told.{Noted, Told, nothing, no_pins}
+use Rattle.joint_machine.specs.declared.names.Thread.{Thread}
+use Rattle.joint_machine.specs.declared.names.Thread.TheVariants.{M, P, C}
+use Rattle.joint_machine.specs.declared.lines.Act.{Act}
+use Rattle.joint_machine.specs.declared.lines.Act.TheVariants as act
+use Rattle.joint_machine.specs.declared.events.Made.{Made}
+use Rattle.joint_machine.specs.declared.events.Op.{Op}
+use Rattle.joint_machine.specs.declared.events.Op.TheVariants as op
+use Rattle.joint_machine.specs.declared.events.Reply.{Reply}
+use Rattle.joint_machine.specs.Control.{Control, Doing, given, met, control_after, doing_at}
+use Rattle.joint_machine.specs.Histories.{Finished}
+use Rattle.joint_machine.specs.Lines.{IsEvent, IsOneEvent, IsPeerAct, IsPeerThread, is_peer_event}
+use Rattle.joint_machine.specs.Linked.{Linkage}
+use Rattle.joint_machine.specs.PeerReplay.{PeerReplay, MayRelease, PeerAllows}
+use Rattle.joint_machine.specs.Sides.{AddsLawful, MayDraw, TakesPeer, peer_rules}
+use Rattle.joint_machine.specs.Told.{Noted, Told, nothing}
+use Rattle.joint_machine.specs.PinsTold.{no_pins}
 use Rattle.joint_laws.proofs.SpansTold.{HasSpan}
 use Rattle.known_laws.specs.Driving.{IsPastKept}
 use Rattle.known_laws.specs.Known.{pinned}
@@ -23,8 +24,8 @@ use Rattle.known_laws.proofs.Conditions.{given_may_be_released, met_may_be_relea
 use Rattle.check_laws.specs.Behind.{NamesSo, state_of}
 use Rattle.check_laws.specs.Laws.{IsNoRefusal}
 use Rattle.check_laws.specs.Order.{CallersData, CitesBy, ReleaseCites}
-use Rattle.peer_side.specs.Sides.{seen}
-use Rattle.peer_side.specs.Steps.{IsPeerStep, IsStepLine}
+use Rattle.peer_heap.specs.Sides.{seen}
+use Rattle.peer_heap.specs.Steps.{IsPeerStep, IsStepLine}
 use Rattle.run_check.specs.declared.replays.Replay.{Replay}
 use Rattle.run_check.specs.Cycles.{CycleFollows}
 use Rattle.run_check.specs.Follows.{ReserveFollows}

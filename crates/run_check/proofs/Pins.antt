@@ -1,19 +1,20 @@
--- The pins as they are kept: each thread's pin stands in its place, and one that is set there is set in the state's pins.
+-- The pins as they are kept: each thread's pin stands in its place, and one that is set there is set in the state's
+-- pins.
 use Rattle.std.proofs.Common.{◌≡◌, inl, inr, ℕ, zero, suc, ◌≤◌, List, [], ◌∷◌, get_or, length, drop, map, Option, Some, None, refl, sym, ap, ◌∙◌, subst, arith}
 use Rattle.std.specs.Prelude.{Contains, slice_get, slice_set}
 use Rattle.std.specs.Option.{option_map}
 use Rattle.std.proofs.lemmas.List.{map-set}
 use Rattle.std.proofs.lemmas.Option.{slice_get-map}
-use Rattle.joint_model.specs.declared.names.MNum.{MNum}
-use Rattle.joint_model.specs.Heaps.{slot}
-use Rattle.joint_model.specs.Managed.{Managed}
-use Rattle.joint_model.specs.Told.{no_pins}
-use Rattle.joint_model.proofs.Numbered.{Contains-set_cases, slot-Contains}
+use Rattle.joint_machine.specs.declared.names.MNum.{MNum}
+use Rattle.joint_machine.specs.Heaps.{slot}
+use Rattle.joint_machine.specs.Managed.{Managed}
+use Rattle.joint_machine.specs.PinsTold.{no_pins}
+use Rattle.joint_machine.proofs.Numbered.{Contains-set_cases, slot-Contains}
 use Rattle.joint_laws.specs.ManagedInvariants.{IsManagedKept}
 use Rattle.known_laws.specs.Known.{PinsStand}
 use Rattle.known_laws.proofs.Pinned.{none_stand, own_stand}
-use Rattle.managed_side.specs.Pinned.{pin_given, pins_given}
-use Rattle.managed_side.specs.Rows.{number_or_none}
+use Rattle.managed_heap.specs.Pinned.{pin_given, pins_given}
+use Rattle.managed_heap.specs.Rows.{number_or_none}
 use Rattle.run_check.specs.Follows.{shown_pins}
 
 pub shown-slot : (pins : List (Option MNum)) (t : ℕ) (pin : Option MNum) → 1 ≤ t → slice_get pins t ≡ Some pin → slot (shown_pins pins) t ≡ number_or_none pin

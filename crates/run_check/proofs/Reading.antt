@@ -1,24 +1,24 @@
 -- What a reader's entry may answer, by the pins, the cells' targets and the counts that are kept.
 use Rattle.std.proofs.Common.{◌≡◌, inl, inr, ℕ, zero, suc, ◌+◌, ◌<◌, ◌≤◌, ◌↔◌, Bool, true, false, List, [], ◌∷◌, length, map, drop, Option, Some, None, refl, sym, ap, ◌∙◌, subst, arith, true≢false}
 use Rattle.std.specs.Prelude.{Contains, if◌then◌else◌, is_some, slice_get, slice_set}
-use Rattle.joint_model.specs.declared.names.MNum.{MNum}
-use Rattle.joint_model.specs.declared.names.Thread.{Thread}
-use Rattle.joint_model.specs.declared.names.Thread.TheVariants.{M, P, C}
-use Rattle.joint_model.specs.declared.lines.Act.TheVariants as act
-use Rattle.joint_model.specs.declared.events.Op.{Op}
-use Rattle.joint_model.specs.declared.events.Op.TheVariants as op
-use Rattle.joint_model.specs.declared.events.Reply.{Reply}
-use Rattle.joint_model.specs.declared.events.Reply.TheVariants as says
-use Rattle.joint_model.specs.Heaps.{Answered, Heap, IsLive, answer, is_freed, slot}
-use Rattle.joint_model.specs.Histories.{Finished}
-use Rattle.joint_model.specs.Lines.{IsEvent, IsManagedThread, IsThread, is_read}
-use Rattle.joint_model.specs.Managed.{Managed, OpenCycle, cell_read, managed_name, read_cell, target_read}
-use Rattle.joint_model.specs.Readers.{MayBeUnset, ReadsCell, is_set_aside}
-use Rattle.joint_model.specs.Run.{thread_number}
-use Rattle.joint_model.specs.Told.{Noted}
-use Rattle.joint_model.proofs.Deciding.{none_some}
-use Rattle.joint_model.proofs.HeapLemmas.{Contains-is_freed, is_freed-live}
-use Rattle.joint_model.proofs.Numbered.{slot-Contains}
+use Rattle.joint_machine.specs.declared.names.MNum.{MNum}
+use Rattle.joint_machine.specs.declared.names.Thread.{Thread}
+use Rattle.joint_machine.specs.declared.names.Thread.TheVariants.{M, P, C}
+use Rattle.joint_machine.specs.declared.lines.Act.TheVariants as act
+use Rattle.joint_machine.specs.declared.events.Op.{Op}
+use Rattle.joint_machine.specs.declared.events.Op.TheVariants as op
+use Rattle.joint_machine.specs.declared.events.Reply.{Reply}
+use Rattle.joint_machine.specs.declared.events.Reply.TheVariants as says
+use Rattle.joint_machine.specs.Heaps.{Answered, Heap, IsLive, answer, is_freed, slot}
+use Rattle.joint_machine.specs.Histories.{Finished}
+use Rattle.joint_machine.specs.Lines.{IsEvent, IsManagedThread, IsThread, is_read}
+use Rattle.joint_machine.specs.Managed.{Managed, OpenCycle, cell_read, managed_name, read_cell, target_read}
+use Rattle.joint_machine.specs.Readers.{MayBeUnset, ReadsCell, is_set_aside}
+use Rattle.joint_machine.specs.Run.{thread_number}
+use Rattle.joint_machine.specs.Told.{Noted}
+use Rattle.joint_machine.proofs.Deciding.{none_some}
+use Rattle.joint_machine.proofs.HeapLemmas.{Contains-is_freed, is_freed-live}
+use Rattle.joint_machine.proofs.Numbered.{slot-Contains}
 use Rattle.check_laws.specs.Behind.{IsReplyBehind, MayBePendingBehind, in_turn, state_of}
 use Rattle.check_laws.specs.Counts.{AreCounted, IsUnknown, IsUnsetBy, setting}
 use Rattle.check_laws.specs.Known.{seen}
@@ -28,8 +28,8 @@ use Rattle.check_laws.proofs.Turned.{all_come, in_place}
 use Rattle.reader_counts.specs.Counts.{IsPendingIn, IsUnknownIn}
 use Rattle.reader_counts.specs.Told.{AreTold}
 use Rattle.reader_counts.proofs.Counted.{told_by_counts}
-use Rattle.managed_side.specs.Pinned.{pins_given}
-use Rattle.managed_side.specs.Rows.{number_or_none}
+use Rattle.managed_heap.specs.Pinned.{pins_given}
+use Rattle.managed_heap.specs.Rows.{number_or_none}
 use Rattle.run_check.specs.declared.readers.Readers.{Readers}
 use Rattle.run_check.specs.declared.replays.Replay.{Replay}
 use Rattle.run_check.specs.Follows.{shown_pins}

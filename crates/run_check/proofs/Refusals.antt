@@ -3,36 +3,38 @@ use Rattle.std.proofs.Common.{◌≡◌, inl, inr, ℕ, zero, suc, ◌+◌, ◌<
 use Rattle.std.specs.Prelude.{◌⊎◌, if◌then◌else◌, nat_eq}
 use Rattle.std.proofs.lemmas.Bool.{eq-eqb, eqb-true}
 use Rattle.std.proofs.lemmas.Option.{same_Some}
-use Rattle.joint_model.specs.declared.names.Phase.{Phase}
-use Rattle.joint_model.specs.declared.names.Phase.TheVariants as at
-use Rattle.joint_model.specs.declared.names.PhaseWord.{PhaseWord}
-use Rattle.joint_model.specs.declared.names.PhaseWord.TheVariants as word
-use Rattle.joint_model.specs.declared.names.Span.{Span}
-use Rattle.joint_model.specs.declared.names.Thread.TheVariants.{C}
-use Rattle.joint_model.specs.declared.events.Made.{Made}
-use Rattle.joint_model.specs.declared.events.Op.TheVariants as op
-use Rattle.joint_model.specs.declared.events.Reply.{Reply}
-use Rattle.joint_model.specs.declared.events.Reply.TheVariants as says
-use Rattle.joint_model.specs.Control as control
-use Rattle.joint_model.specs.Control.{IsPhaseOf, stand_after}
-use Rattle.joint_model.specs.Histories.{Finished, managed_numbers, peer_numbers}
-use Rattle.joint_model.specs.Linked.{Linkage}
-use Rattle.joint_model.specs.Managed.{Managed, OpenCycle, candidates_of}
-use Rattle.joint_model.specs.ManagedReplay.{IsRefusedIn, ManagedReplay, MayRefuse, open_reply, refusal_to}
-use Rattle.joint_model.specs.Sides.{AddsLawful, managed_rules}
-use Rattle.joint_model.specs.Told.{Told, Noted, Answer, no_pins, nothing, snap_of, contraction_of, references_of, begin_of, slice_of, sweep_of, resolution_of, phase_of, kept_pins}
-use Rattle.joint_model.proofs.Deciding.{none_some}
+use Rattle.joint_machine.specs.declared.names.Phase.{Phase}
+use Rattle.joint_machine.specs.declared.names.Phase.TheVariants as at
+use Rattle.joint_machine.specs.declared.names.PhaseWord.{PhaseWord}
+use Rattle.joint_machine.specs.declared.names.PhaseWord.TheVariants as word
+use Rattle.joint_machine.specs.declared.names.Span.{Span}
+use Rattle.joint_machine.specs.declared.names.Thread.TheVariants.{C}
+use Rattle.joint_machine.specs.declared.events.Made.{Made}
+use Rattle.joint_machine.specs.declared.events.Op.TheVariants as op
+use Rattle.joint_machine.specs.declared.events.Reply.{Reply}
+use Rattle.joint_machine.specs.declared.events.Reply.TheVariants as says
+use Rattle.joint_machine.specs.Control as control
+use Rattle.joint_machine.specs.Control.{IsPhaseOf, stand_after}
+use Rattle.joint_machine.specs.Histories.{Finished, managed_numbers, peer_numbers}
+use Rattle.joint_machine.specs.Linked.{Linkage}
+use Rattle.joint_machine.specs.Managed.{Managed, OpenCycle, candidates_of}
+use Rattle.joint_machine.specs.ManagedReplay.{IsRefusedIn, ManagedReplay, MayRefuse, open_reply, refusal_to}
+use Rattle.joint_machine.specs.Sides.{AddsLawful, managed_rules}
+use Rattle.joint_machine.specs.Told.{Told, Noted, Answer, nothing, snap_of, contraction_of, references_of, slice_of, sweep_of, resolution_of, phase_of, kept_pins}
+use Rattle.joint_machine.specs.PinsTold.{no_pins}
+use Rattle.joint_machine.proofs.Deciding.{none_some}
 use Rattle.joint_laws.specs.LinkedInvariants.{given_at}
-use Rattle.joint_laws.specs.ToldLaws.{TellsNamed}
+use Rattle.joint_laws.specs.Spans.{TellsNamed}
 use Rattle.known_laws.specs.Driving.{IsPastKept}
-use Rattle.known_laws.specs.Known.{TellsPlainly, pinned}
+use Rattle.known_laws.specs.Known.{pinned}
+use Rattle.known_laws.specs.PastEntries.{TellsPlainly}
 use Rattle.known_laws.proofs.Conditions.{refused_may_be_told}
 use Rattle.check_laws.specs.Behind.{SideReplies, state_of}
 use Rattle.check_laws.specs.Order.{RefusalData}
 use Rattle.caller_turns.specs.Shapes.{next_place, stand_of}
-use Rattle.managed_side.specs.Graphs.{IsDeadGraph}
-use Rattle.managed_side.specs.Sides.{ManagedModel, as_side}
-use Rattle.managed_side.specs.Steps.{step_made}
+use Rattle.managed_heap.specs.Graphs.{IsDeadGraph}
+use Rattle.managed_heap.specs.Sides.{ManagedModel, as_side}
+use Rattle.managed_heap.specs.Steps.{step_made}
 use Rattle.run_check.specs.declared.cycles.OpenCycle.{OpenCycle as Kept}
 use Rattle.run_check.specs.declared.draws.Recorder.{Recorder}
 use Rattle.run_check.specs.declared.replays.Replay.{Replay}
@@ -172,7 +174,8 @@ refusal-took m p word.Cycle span e = open-took m.cycle span e
 refusal-took m p word.Snap span e = open-took m.cycle span e
 refusal-took m p w span e = cc
 
--- the driver's stand behind a refusal: nothing that is kept of the open cycle goes by whether the weakened phase was seen
+-- the driver's stand behind a refusal: nothing that is kept of the open cycle goes by whether the weakened phase was
+-- seen
 refused-cycle : (d : control.Stand) (n : ℕ) (w : PhaseWord) (r : Reply) (told : Told) (o : Kept) → HasCycle d o → HasCycle (stand_after d n (op.Refused w) r told) o
 refused-cycle (control.weakening q count weakened swept) n w r told o h = h
 refused-cycle control.idle n w r told o h = h
@@ -241,7 +244,6 @@ module _ (h : Finished) (past : List Noted) (old : Replay) (w : PhaseWord) (inde
   only (snap_of a b c) r = absurd r.replies.driven
   only (contraction_of a b c) r = absurd r.replies.driven
   only (references_of a) r = absurd r.replies.driven
-  only (begin_of a) r = absurd r.replies.driven
   only (slice_of a) r = absurd r.replies.driven
   only (sweep_of a) r = absurd r.replies.driven
   only (resolution_of a b) r = absurd r.replies.driven

@@ -1,37 +1,38 @@
--- A resolve: the driver has restored all candidates and cleared the mirror; the answers that are kept are those of the restores, so the call may close the
--- cycle. It may come exactly where it answers and names what is freed.
+-- A resolve: the driver has restored all candidates and cleared the mirror; the answers that are kept are those of the
+-- restores, so the call may close the cycle. It may come exactly where it answers and names what is freed.
 use Rattle.std.proofs.Common.{◌≡◌, ℕ, Bool, true, false, List, ◌∷◌, ◌++◌, length, Option, Some, None, refl, sym, ap, ◌∙◌, subst}
 use Rattle.std.proofs.lemmas.List.{length-map}
 use Rattle.std.proofs.lemmas.Option.{same_Some}
-use Rattle.joint_model.specs.declared.names.Cycle.{Cycle}
-use Rattle.joint_model.specs.declared.names.HNum.{HNum}
-use Rattle.joint_model.specs.declared.names.Span.{Span}
-use Rattle.joint_model.specs.declared.names.Thread.TheVariants.{C}
-use Rattle.joint_model.specs.declared.events.Made.{Made}
-use Rattle.joint_model.specs.declared.events.Op.TheVariants as op
-use Rattle.joint_model.specs.declared.events.Reply.{Reply}
-use Rattle.joint_model.specs.declared.events.Reply.TheVariants as says
-use Rattle.joint_model.specs.Control as control
-use Rattle.joint_model.specs.Control.{OpenSnap, Stand, stand_after}
-use Rattle.joint_model.specs.Histories.{Finished, managed_numbers, peer_numbers}
-use Rattle.joint_model.specs.Linked.{Linkage}
+use Rattle.joint_machine.specs.declared.names.Cycle.{Cycle}
+use Rattle.joint_machine.specs.declared.names.HNum.{HNum}
+use Rattle.joint_machine.specs.declared.names.Span.{Span}
+use Rattle.joint_machine.specs.declared.names.Thread.TheVariants.{C}
+use Rattle.joint_machine.specs.declared.events.Made.{Made}
+use Rattle.joint_machine.specs.declared.events.Op.TheVariants as op
+use Rattle.joint_machine.specs.declared.events.Reply.{Reply}
+use Rattle.joint_machine.specs.declared.events.Reply.TheVariants as says
+use Rattle.joint_machine.specs.Control as control
+use Rattle.joint_machine.specs.Control.{OpenSnap, Stand, stand_after}
+use Rattle.joint_machine.specs.Histories.{Finished, managed_numbers, peer_numbers}
+use Rattle.joint_machine.specs.Linked.{Linkage}
 use Rattle.joint_model.specs.Listed.{answer_of, answers_of}
-use Rattle.joint_model.specs.Managed.{OpenCycle, candidates_of}
-use Rattle.joint_model.specs.ManagedReplay.{AreNew, ManagedReplay}
-use Rattle.joint_model.specs.Sides.{AddsLawful, managed_rules}
-use Rattle.joint_model.specs.Told.{Answer, Noted, Told, handles_given, no_pins, resolution_of}
-use Rattle.joint_model.proofs.Deciding.{none_some}
+use Rattle.joint_machine.specs.Managed.{OpenCycle, candidates_of}
+use Rattle.joint_machine.specs.ManagedReplay.{AreNew, ManagedReplay}
+use Rattle.joint_machine.specs.Sides.{AddsLawful, managed_rules}
+use Rattle.joint_machine.specs.Told.{Answer, Noted, Told, handles_given, resolution_of}
+use Rattle.joint_machine.specs.PinsTold.{no_pins}
+use Rattle.joint_machine.proofs.Deciding.{none_some}
 use Rattle.joint_laws.specs.LinkedInvariants.{given_at}
-use Rattle.joint_laws.specs.ToldLaws.{TellsNamed}
+use Rattle.joint_laws.specs.Spans.{TellsNamed}
 use Rattle.known_laws.specs.Driving.{IsPastKept}
 use Rattle.known_laws.specs.Known.{pinned}
 use Rattle.known_laws.proofs.Conditions.{restored_are_new, restored_may_be_resolved}
 use Rattle.check_laws.specs.Behind.{state_of}
 use Rattle.check_laws.specs.Order.{ResolveCites, ResolveData, ResolveTurn}
-use Rattle.managed_side.specs.Calls.{resolve_made}
-use Rattle.managed_side.specs.Resolving.{MayClose}
-use Rattle.managed_side.specs.Sides.{ManagedModel, as_side}
-use Rattle.managed_side.specs.Steps.{step_made}
+use Rattle.managed_heap.specs.Calls.{resolve_made}
+use Rattle.managed_heap.specs.Resolving.{MayClose}
+use Rattle.managed_heap.specs.Sides.{ManagedModel, as_side}
+use Rattle.managed_heap.specs.Steps.{step_made}
 use Rattle.run_check.specs.declared.cycles.OpenCycle.{OpenCycle as Kept}
 use Rattle.run_check.specs.declared.draws.Recorder.{Recorder}
 use Rattle.run_check.specs.declared.replays.Replay.{Replay}

@@ -1,19 +1,20 @@
--- An entry that leaves the open cycle and the driver's stand alone, made by a call of the managed side: the replay follows the longer past.
+-- An entry that leaves the open cycle and the driver's stand alone, made by a call of the managed side: the replay
+-- follows the longer past.
 use Rattle.std.proofs.Common.{◌≡◌, suc, false, List, ◌∷◌, length, refl, sym, ap, ◌∙◌, subst}
-use Rattle.joint_model.specs.declared.events.Made.{Made}
-use Rattle.joint_model.specs.declared.events.Reply.{Reply}
-use Rattle.joint_model.specs.Control.{control_after}
-use Rattle.joint_model.specs.Draws.{AllBelow}
-use Rattle.joint_model.specs.Histories.{Finished}
-use Rattle.joint_model.specs.Lines.{is_peer_event, is_read}
-use Rattle.joint_model.specs.Linked.{Linkage}
-use Rattle.joint_model.specs.Managed.{candidates_of}
-use Rattle.joint_model.specs.ManagedReplay.{ManagedReplay, managed_answer}
-use Rattle.joint_model.specs.Told.{Noted, Told}
+use Rattle.joint_machine.specs.declared.events.Made.{Made}
+use Rattle.joint_machine.specs.declared.events.Reply.{Reply}
+use Rattle.joint_machine.specs.Control.{control_after}
+use Rattle.joint_machine.specs.Draws.{AllBelow}
+use Rattle.joint_machine.specs.Histories.{Finished}
+use Rattle.joint_machine.specs.Lines.{is_peer_event, is_read}
+use Rattle.joint_machine.specs.Linked.{Linkage}
+use Rattle.joint_machine.specs.Managed.{candidates_of}
+use Rattle.joint_machine.specs.ManagedReplay.{ManagedReplay, managed_answer}
+use Rattle.joint_machine.specs.Told.{Noted, Told}
 use Rattle.joint_laws.proofs.ManagedMoves.{GoesOn}
 use Rattle.check_laws.specs.Behind.{state_of}
 use Rattle.check_laws.specs.Order.{CallersData}
-use Rattle.managed_side.specs.Sides.{ManagedModel}
+use Rattle.managed_heap.specs.Sides.{ManagedModel}
 use Rattle.run_check.specs.declared.draws.Recorder.{Recorder}
 use Rattle.run_check.specs.declared.readers.Readers.{Readers}
 use Rattle.run_check.specs.declared.replays.Replay.{Replay}

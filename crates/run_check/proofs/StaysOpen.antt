@@ -1,12 +1,12 @@
--- An entry that leaves the open cycle alone leaves what is kept of it: no slot names a row of the dead part, so its rows keep their handles and fields, and
--- its graph is still the dead part's.
+-- An entry that leaves the open cycle alone leaves what is kept of it: no slot names a row of the dead part, so its
+-- rows keep their handles and fields, and its graph is still the dead part's.
 use Rattle.std.proofs.Common.{◌≡◌, ℕ, List, [], ◌∷◌, length, map, Option, Some, None, refl, sym, ap, ◌∙◌, subst}
 use Rattle.std.specs.Prelude.{Contains, slice_get}
-use Rattle.joint_model.specs.Control.{Stand}
-use Rattle.joint_model.specs.Heaps.{HasField, IsLive, fields_of}
-use Rattle.joint_model.specs.Linked.{Linkage}
-use Rattle.joint_model.specs.Managed.{Managed, OpenCycle, candidates_of, handle_of}
-use Rattle.joint_model.proofs.Members.{Contains-at, Contains-here, Contains-there}
+use Rattle.joint_machine.specs.Control.{Stand}
+use Rattle.joint_machine.specs.Heaps.{HasField, IsLive, fields_of}
+use Rattle.joint_machine.specs.Linked.{Linkage}
+use Rattle.joint_machine.specs.Managed.{Managed, OpenCycle, candidates_of, handle_of}
+use Rattle.joint_machine.proofs.Members.{Contains-at, Contains-here, Contains-there}
 use Rattle.joint_laws.specs.LinkedInvariants.{given_at}
 use Rattle.joint_laws.specs.ManagedInvariants.{IsManagedKept}
 use Rattle.joint_laws.proofs.ManagedEntries.{handle-same}
@@ -14,7 +14,7 @@ use Rattle.joint_laws.proofs.ManagedKeeping.{cut_on, dead-fields, dead-held}
 use Rattle.joint_laws.proofs.ManagedMoves.{GoesOn}
 use Rattle.bridge_graph.specs.Parts.{Part}
 use Rattle.caller_turns.specs.Shapes.{next_place}
-use Rattle.managed_side.specs.Graphs.{IsDeadGraph, handle_number}
+use Rattle.managed_heap.specs.Graphs.{IsDeadGraph, handle_number}
 use Rattle.run_check.specs.declared.cycles.OpenCycle.{OpenCycle as Kept}
 use Rattle.run_check.specs.Cycles.{CycleFollows, HasCycle, IsAtHandle, IsOpenHere}
 

@@ -1,33 +1,33 @@
--- A plain step of the managed side: what its call asks for holds behind the past, by what the thread has in hand; it leaves the open cycle, the pins and the
--- cells alone; and where it takes notices, they are the oldest that wait.
+-- A plain step of the managed side: what its call asks for holds behind the past, by what the thread has in hand; it
+-- leaves the open cycle, the pins and the cells alone; and where it takes notices, they are the oldest that wait.
 use Rattle.std.proofs.Common.{◌≡◌, inl, inr, ℕ, ◌+◌, ◌-◌, ◌<◌, ◌≤◌, Bool, true, false, List, [], ◌∷◌, length, Option, Some, None, refl, sym, ap, ◌∙◌, subst, arith, true≢false}
 use Rattle.std.specs.Prelude.{Contains, IsSome, min, slice_get}
-use Rattle.joint_model.specs.declared.names.Cycle.{Cycle}
-use Rattle.joint_model.specs.declared.names.HNum.{HNum}
-use Rattle.joint_model.specs.declared.names.PNum.{PNum}
-use Rattle.joint_model.specs.declared.names.Sort.{Sort}
-use Rattle.joint_model.specs.declared.names.Span.{Span}
-use Rattle.joint_model.specs.declared.names.Var.{Var}
-use Rattle.joint_model.specs.declared.names.Thread.{Thread}
-use Rattle.joint_model.specs.declared.names.Thread.TheVariants.{M, P, C}
-use Rattle.joint_model.specs.declared.lines.Act.{Act}
-use Rattle.joint_model.specs.declared.lines.Act.TheVariants as act
-use Rattle.joint_model.specs.declared.events.Made.{Made}
-use Rattle.joint_model.specs.declared.events.Op.{Op}
-use Rattle.joint_model.specs.declared.events.Op.TheVariants as op
-use Rattle.joint_model.specs.declared.events.Reply.{Reply}
-use Rattle.joint_model.specs.declared.events.Reply.TheVariants as says
-use Rattle.joint_model.specs.Control as control
-use Rattle.joint_model.specs.Control.{Control, Doing, Stand, control_after, doing_at, stand_after}
-use Rattle.joint_model.specs.Lines.{IsDriver, IsEvent, IsLine, IsManagedThread, IsOneEvent, is_peer_event, is_pinned, is_read}
-use Rattle.joint_model.specs.Linked.{Linkage, ManagedLawful, SideLawful}
-use Rattle.joint_model.specs.Managed.{Managed}
-use Rattle.joint_model.specs.ManagedReplay.{ManagedAllows, ManagedReplay, managed_answer}
-use Rattle.joint_model.specs.Readers.{with_pins}
-use Rattle.joint_model.specs.Run.{thread_number}
-use Rattle.joint_model.specs.Told.{Told, nothing, no_pins}
+use Rattle.joint_machine.specs.declared.names.Cycle.{Cycle}
+use Rattle.joint_machine.specs.declared.names.HNum.{HNum}
+use Rattle.joint_machine.specs.declared.names.PNum.{PNum}
+use Rattle.joint_machine.specs.declared.names.Sort.{Sort}
+use Rattle.joint_machine.specs.declared.names.Span.{Span}
+use Rattle.joint_machine.specs.declared.names.Var.{Var}
+use Rattle.joint_machine.specs.declared.names.Thread.{Thread}
+use Rattle.joint_machine.specs.declared.names.Thread.TheVariants.{M, P, C}
+use Rattle.joint_machine.specs.declared.lines.Act.{Act}
+use Rattle.joint_machine.specs.declared.lines.Act.TheVariants as act
+use Rattle.joint_machine.specs.declared.events.Made.{Made}
+use Rattle.joint_machine.specs.declared.events.Op.{Op}
+use Rattle.joint_machine.specs.declared.events.Op.TheVariants as op
+use Rattle.joint_machine.specs.declared.events.Reply.{Reply}
+use Rattle.joint_machine.specs.declared.events.Reply.TheVariants as says
+use Rattle.joint_machine.specs.Control as control
+use Rattle.joint_machine.specs.Control.{Control, Doing, Stand, control_after, doing_at, stand_after}
+use Rattle.joint_machine.specs.Lines.{IsDriver, IsEvent, IsLine, IsManagedThread, IsOneEvent, is_peer_event, is_read}
+use Rattle.joint_machine.specs.PinsTold.{is_pinned, no_pins, with_pins}
+use Rattle.joint_machine.specs.Linked.{Linkage, ManagedLawful, SideLawful}
+use Rattle.joint_machine.specs.Managed.{Managed}
+use Rattle.joint_machine.specs.ManagedReplay.{ManagedAllows, ManagedReplay, managed_answer}
+use Rattle.joint_machine.specs.Run.{thread_number}
+use Rattle.joint_machine.specs.Told.{Told, nothing}
 use Rattle.joint_laws.specs.ManagedInvariants.{IsReplayKept}
-use Rattle.joint_laws.specs.ToldLaws.{TellsNamed, TellsNoneFreed}
+use Rattle.joint_laws.specs.Spans.{TellsNamed, TellsNoneFreed}
 use Rattle.joint_laws.proofs.ManagedMoves.{GoesOn, managed_line-goes_on}
 use Rattle.joint_laws.proofs.PlainReplies.{IsPlain}
 use Rattle.joint_laws.proofs.SpansTold.{HasSpan, IsPlainEntry, plain-entry}
@@ -37,7 +37,7 @@ use Rattle.known_laws.proofs.Conditions.{gripped_is_new, made_is_new}
 use Rattle.known_laws.proofs.FrozenPasts.{goes_on}
 use Rattle.check_laws.specs.Laws.{IsNoRefusal}
 use Rattle.check_laws.specs.Order.{AdoptCites, CallersData, CitesBy, DriverCites, MeetCites}
-use Rattle.managed_side.specs.Steps.{CitesRightly, IsFresh, IsManagedStep, IsStepAct}
+use Rattle.managed_heap.specs.Steps.{CitesRightly, IsFresh, IsManagedStep, IsStepAct}
 use Rattle.run_check.specs.Follows.{owed_after}
 use Rattle.run_check.specs.Judging.{IsStepped}
 

@@ -1,23 +1,23 @@
--- An entry of a plain step behind a past: the call may be made, and the replay follows the longer past. It is right exactly where it answers the same and, where
--- it takes notices, the history has them.
+-- An entry of a plain step behind a past: the call may be made, and the replay follows the longer past. It is right
+-- exactly where it answers the same and, where it takes notices, the history has them.
 use Rattle.std.proofs.Common.{◌≡◌, ℕ, ◌+◌, ◌≤◌, Bool, true, false, List, ◌∷◌, length, Option, Some, None, refl, sym, ap, ◌∙◌, subst}
-use Rattle.joint_model.specs.declared.names.Span.{Span}
-use Rattle.joint_model.specs.declared.events.Made.{Made}
-use Rattle.joint_model.specs.declared.events.Reply.{Reply}
-use Rattle.joint_model.specs.declared.events.Reply.TheVariants as says
-use Rattle.joint_model.specs.Histories.{Finished, IsWithin, managed_numbers, peer_numbers, stretch}
-use Rattle.joint_model.specs.Lines.{is_peer_event, is_pinned, is_read}
-use Rattle.joint_model.specs.Linked.{Linkage}
-use Rattle.joint_model.specs.ManagedReplay.{ManagedReplay, managed_answer}
-use Rattle.joint_model.specs.Readers.{with_pins}
-use Rattle.joint_model.specs.Sides.{AddsLawful, managed_rules}
-use Rattle.joint_model.specs.Told.{Noted, no_pins, nothing}
-use Rattle.joint_laws.specs.ToldLaws.{IsStretch, TellsNamed}
+use Rattle.joint_machine.specs.declared.names.Span.{Span}
+use Rattle.joint_machine.specs.declared.events.Made.{Made}
+use Rattle.joint_machine.specs.declared.events.Reply.{Reply}
+use Rattle.joint_machine.specs.declared.events.Reply.TheVariants as says
+use Rattle.joint_machine.specs.Histories.{Finished, IsWithin, managed_numbers, peer_numbers, stretch}
+use Rattle.joint_machine.specs.Lines.{is_peer_event, is_read}
+use Rattle.joint_machine.specs.PinsTold.{is_pinned, no_pins, with_pins}
+use Rattle.joint_machine.specs.Linked.{Linkage}
+use Rattle.joint_machine.specs.ManagedReplay.{ManagedReplay, managed_answer}
+use Rattle.joint_machine.specs.Sides.{AddsLawful, managed_rules}
+use Rattle.joint_machine.specs.Told.{Noted, nothing}
+use Rattle.joint_laws.specs.Spans.{IsStretch, TellsNamed}
 use Rattle.joint_laws.proofs.ManagedMoves.{GoesOn}
 use Rattle.check_laws.specs.Behind.{state_of}
 use Rattle.check_laws.specs.Laws.{IsNoRefusal}
-use Rattle.managed_side.specs.Sides.{ManagedModel, as_side}
-use Rattle.managed_side.specs.Steps.{CitesRightly, IsFresh, IsManagedStep}
+use Rattle.managed_heap.specs.Sides.{ManagedModel, as_side}
+use Rattle.managed_heap.specs.Steps.{CitesRightly, IsFresh, IsManagedStep}
 use Rattle.run_check.specs.declared.draws.Recorder.{Recorder}
 use Rattle.run_check.specs.declared.replays.Replay.{Replay}
 use Rattle.run_check.specs.Judging.{IsStepped, MayReply, next_noted}

@@ -1,14 +1,15 @@
--- The stretches of two lists that a span names are the same exactly where both lists have the same at each of its places.
+-- The stretches of two lists that a span names are the same exactly where both lists have the same at each of its
+-- places.
 use Rattle.std.proofs.Common.{◌≡◌, ⊎_elim, ℕ, ◌+◌, ◌-◌, ◌<◌, ◌≤◌, Bool, true, false, IsTrue, List, length, get_or, take, drop, Some, refl, sym, ap, subst, ◌∙◌, arith, length-take, length-drop, get_or-drop, true≢false}
 use Rattle.std.specs.Prelude.{◌↔◌, map, slice_get}
 use Rattle.std.specs.Option.{option_map}
 use Rattle.std.proofs.lemmas.Bool.{cases_lt}
 use Rattle.std.proofs.lemmas.List.{get_or-take, take_rest}
 use Rattle.std.proofs.lemmas.Option.{slice_get-get_or, slice_get-map}
-use Rattle.joint_model.specs.declared.names.Span.{Span}
-use Rattle.joint_model.specs.Histories.{IsWithin, stretch}
-use Rattle.joint_model.proofs.Joining.{same_by_places}
-use Rattle.joint_laws.specs.ToldLaws.{IsStretch}
+use Rattle.joint_machine.specs.declared.names.Span.{Span}
+use Rattle.joint_machine.specs.Histories.{IsWithin, stretch}
+use Rattle.joint_machine.proofs.Joining.{same_by_places}
+use Rattle.joint_laws.specs.Spans.{IsStretch}
 use Rattle.run_check.specs.Lists.{rest_of, StandsInList}
 
 -- a place of a list of numbers

@@ -1,35 +1,35 @@
--- The two lines of a managed thread with calls of their own: `weak` sets a cell, whose target is kept, and `take` empties the thread's pin. Each may be made
--- behind the past, and is right exactly where it answers the same.
+-- The two lines of a managed thread with calls of their own: `weak` sets a cell, whose target is kept, and `take`
+-- empties the thread's pin. Each may be made behind the past, and is right exactly where it answers the same.
 use Rattle.std.proofs.Common.{◌≡◌, inl, inr, ℕ, ◌<◌, ◌≤◌, Bool, true, false, List, ◌∷◌, length, get_or, map, Option, Some, None, refl, sym, ap, ◌∙◌, subst, arith}
 use Rattle.std.specs.Prelude.{◌↔◌, slice_get, slice_set}
 use Rattle.std.specs.Option.{option_map}
 use Rattle.std.proofs.Math.ListN.{length-set}
 use Rattle.std.proofs.lemmas.List.{map-set}
 use Rattle.std.proofs.lemmas.Option.{slice_get-get_or, slice_get-map}
-use Rattle.joint_model.specs.declared.names.Cell.{Cell}
-use Rattle.joint_model.specs.declared.names.MNum.{MNum}
-use Rattle.joint_model.specs.declared.names.Thread.{Thread}
-use Rattle.joint_model.specs.declared.names.Thread.TheVariants.{M, P, C}
-use Rattle.joint_model.specs.declared.names.Var.{Var}
-use Rattle.joint_model.specs.declared.lines.Act.{Act}
-use Rattle.joint_model.specs.declared.lines.Act.TheVariants as act
-use Rattle.joint_model.specs.declared.events.Made.{Made}
-use Rattle.joint_model.specs.declared.events.Op.{Op}
-use Rattle.joint_model.specs.declared.events.Op.TheVariants as op
-use Rattle.joint_model.specs.declared.events.Reply.{Reply}
-use Rattle.joint_model.specs.declared.events.Reply.TheVariants as says
-use Rattle.joint_model.specs.Heaps.{Answered, answer, place, slot}
-use Rattle.joint_model.specs.Histories.{Finished, managed_numbers, peer_numbers}
-use Rattle.joint_model.specs.Lines.{IsDriverAct, IsEvent, IsManagedThread, IsPeerAct, IsVar}
-use Rattle.joint_model.specs.Linked.{Linkage}
-use Rattle.joint_model.specs.Managed.{Managed, cell_set, pin_taken, weakened_to}
-use Rattle.joint_model.specs.ManagedReplay.{ManagedReplay, managed_answer}
-use Rattle.joint_model.specs.Readers.{with_pins}
-use Rattle.joint_model.specs.Run.{thread_number}
-use Rattle.joint_model.specs.Sides.{AddsLawful, cell_target, managed_rules, object_or_none}
-use Rattle.joint_model.specs.Told.{Noted, kept_pins, no_pins, nothing}
-use Rattle.joint_model.proofs.Deciding.{none_some}
-use Rattle.joint_laws.specs.ToldLaws.{TellsNamed}
+use Rattle.joint_machine.specs.declared.names.Cell.{Cell}
+use Rattle.joint_machine.specs.declared.names.MNum.{MNum}
+use Rattle.joint_machine.specs.declared.names.Thread.{Thread}
+use Rattle.joint_machine.specs.declared.names.Thread.TheVariants.{M, P, C}
+use Rattle.joint_machine.specs.declared.names.Var.{Var}
+use Rattle.joint_machine.specs.declared.lines.Act.{Act}
+use Rattle.joint_machine.specs.declared.lines.Act.TheVariants as act
+use Rattle.joint_machine.specs.declared.events.Made.{Made}
+use Rattle.joint_machine.specs.declared.events.Op.{Op}
+use Rattle.joint_machine.specs.declared.events.Op.TheVariants as op
+use Rattle.joint_machine.specs.declared.events.Reply.{Reply}
+use Rattle.joint_machine.specs.declared.events.Reply.TheVariants as says
+use Rattle.joint_machine.specs.Heaps.{Answered, answer, place, slot}
+use Rattle.joint_machine.specs.Histories.{Finished, managed_numbers, peer_numbers}
+use Rattle.joint_machine.specs.Lines.{IsDriverAct, IsEvent, IsManagedThread, IsPeerAct, IsVar}
+use Rattle.joint_machine.specs.Linked.{Linkage}
+use Rattle.joint_machine.specs.Managed.{Managed, cell_set, pin_taken, weakened_to}
+use Rattle.joint_machine.specs.ManagedReplay.{ManagedReplay, managed_answer}
+use Rattle.joint_machine.specs.Run.{thread_number}
+use Rattle.joint_machine.specs.Sides.{AddsLawful, cell_target, managed_rules, object_or_none}
+use Rattle.joint_machine.specs.Told.{Noted, kept_pins, nothing}
+use Rattle.joint_machine.specs.PinsTold.{no_pins, with_pins}
+use Rattle.joint_machine.proofs.Deciding.{none_some}
+use Rattle.joint_laws.specs.Spans.{TellsNamed}
 use Rattle.joint_laws.proofs.KeptPins.{take_by}
 use Rattle.joint_laws.proofs.ManagedMoves.{managed_line-goes_on}
 use Rattle.joint_laws.proofs.PlainReplies.{IsPlain}
@@ -37,11 +37,11 @@ use Rattle.joint_laws.proofs.SpansTold.{IsPlainEntry, plain-entry}
 use Rattle.known_laws.specs.Known.{PinsStand}
 use Rattle.check_laws.specs.Behind.{state_of}
 use Rattle.check_laws.specs.Order.{CitesBy, CitesSo, IsTurn}
-use Rattle.managed_side.specs.Pinned.{pin_given}
-use Rattle.managed_side.specs.Rows.{number_or_none}
-use Rattle.managed_side.specs.Sides.{ManagedModel, as_side}
-use Rattle.managed_side.specs.Steps.{step_made, take_op, weak_op}
-use Rattle.managed_side.proofs.GivenPins.{pin-slot}
+use Rattle.managed_heap.specs.Pinned.{pin_given}
+use Rattle.managed_heap.specs.Rows.{number_or_none}
+use Rattle.managed_heap.specs.Sides.{ManagedModel, as_side}
+use Rattle.managed_heap.specs.Steps.{step_made, take_op, weak_op}
+use Rattle.managed_heap.proofs.GivenPins.{pin-slot}
 use Rattle.run_check.specs.declared.draws.Recorder.{Recorder}
 use Rattle.run_check.specs.declared.readers.Readers.{Readers}
 use Rattle.run_check.specs.declared.replays.Replay.{Replay}

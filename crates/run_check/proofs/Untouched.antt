@@ -1,28 +1,28 @@
--- But for a `weak`, a `take` and what the driver does with a cycle, no event of the managed side touches cells or notices; a `weak` leaves the notices, and a
--- `take` both.
+-- But for a `weak`, a `take` and what the driver does with a cycle, no event of the managed side touches cells or
+-- notices; a `weak` leaves the notices, and a `take` both.
 use Rattle.std.proofs.Common.{◌≡◌, ℕ, zero, suc, ◌+◌, ◌-◌, ◌≤◌, Bool, true, false, List, [], ◌∷◌, ◌++◌, length, Option, Some, None, refl, sym, ap, ◌∙◌, subst, arith, length-append, true≢false}
 use Rattle.std.specs.Prelude.{if◌then◌else◌, filter, min}
-use Rattle.joint_model.specs.declared.names.Thread.{Thread}
-use Rattle.joint_model.specs.declared.names.Thread.TheVariants.{M, P, C}
-use Rattle.joint_model.specs.declared.names.Kind.{Kind}
-use Rattle.joint_model.specs.declared.names.Sort.{Sort}
-use Rattle.joint_model.specs.declared.lines.Act.{Act}
-use Rattle.joint_model.specs.declared.lines.Act.TheVariants as act
-use Rattle.joint_model.specs.declared.events.Op.{Op}
-use Rattle.joint_model.specs.declared.events.Op.TheVariants as op
-use Rattle.joint_model.specs.declared.events.Made.{Made}
-use Rattle.joint_model.specs.declared.events.Reply.{Reply}
-use Rattle.joint_model.specs.declared.events.Reply.TheVariants as says
-use Rattle.joint_model.specs.Heaps.{Answered, answer, is_full, next_number, place, slot}
-use Rattle.joint_model.specs.Lines.{is_peer_event, is_read}
-use Rattle.joint_model.specs.Linked.{Linkage, MayCome, linkage_after, managed_after}
-use Rattle.joint_model.specs.Managed.{Managed, OpenCycle, adopted, cell_set, given_up, holds_handle, managed_line, managed_name, met, pin_taken, twin_fields, twin_kind, twin_met, weakened_to, with_row, without_handle}
-use Rattle.joint_model.specs.ManagedReplay.{ManagedReplay, managed_answer, registered}
-use Rattle.joint_model.specs.Readers.{entry_after, reader_after}
-use Rattle.joint_model.specs.Run.{thread_number}
-use Rattle.joint_model.specs.Told.{Noted, Told, contraction_of, phase_of, resolution_of, snap_of}
-use Rattle.joint_model.proofs.Deciding.{option-cases, test-cases}
-use Rattle.joint_model.proofs.HeapLemmas.{adopt_by-managed}
+use Rattle.joint_machine.specs.declared.names.Thread.{Thread}
+use Rattle.joint_machine.specs.declared.names.Thread.TheVariants.{M, P, C}
+use Rattle.joint_machine.specs.declared.names.Kind.{Kind}
+use Rattle.joint_machine.specs.declared.names.Sort.{Sort}
+use Rattle.joint_machine.specs.declared.lines.Act.{Act}
+use Rattle.joint_machine.specs.declared.lines.Act.TheVariants as act
+use Rattle.joint_machine.specs.declared.events.Op.{Op}
+use Rattle.joint_machine.specs.declared.events.Op.TheVariants as op
+use Rattle.joint_machine.specs.declared.events.Made.{Made}
+use Rattle.joint_machine.specs.declared.events.Reply.{Reply}
+use Rattle.joint_machine.specs.declared.events.Reply.TheVariants as says
+use Rattle.joint_machine.specs.Heaps.{Answered, answer, is_full, next_number, place, slot}
+use Rattle.joint_machine.specs.Lines.{is_peer_event, is_read}
+use Rattle.joint_machine.specs.Linked.{Linkage, MayCome, linkage_after, managed_after}
+use Rattle.joint_machine.specs.Managed.{Managed, OpenCycle, adopted, cell_set, given_up, holds_handle, managed_line, managed_name, met, pin_taken, twin_fields, twin_kind, twin_met, weakened_to, with_row, without_handle}
+use Rattle.joint_machine.specs.ManagedReplay.{ManagedReplay, managed_answer, registered}
+use Rattle.joint_machine.specs.Readers.{entry_after, reader_after}
+use Rattle.joint_machine.specs.Run.{thread_number}
+use Rattle.joint_machine.specs.Told.{Noted, Told, contraction_of, phase_of, resolution_of, snap_of}
+use Rattle.joint_machine.proofs.Deciding.{option-cases, test-cases}
+use Rattle.joint_machine.proofs.HeapLemmas.{adopt_by-managed}
 use Rattle.joint_laws.specs.ManagedInvariants.{IsReplayKept}
 use Rattle.joint_laws.proofs.ManagedSteps.{give_by-managed, meet_by-managed}
 use Rattle.run_check.specs.Judging.{IsStepped}

@@ -1,26 +1,26 @@
--- What a replay follows before the first entry, whether a managed entry gives the snap that is waited for, and whether nothing has to follow.
+-- What a replay follows before the first entry, whether a managed entry gives the snap that is waited for, and whether
+-- nothing has to follow.
 use Rattle.std.proofs.Common.{◌≡◌, ℕ, ◌+◌, ◌<◌, ◌↔◌, Bool, true, false, not, ◌&&◌, List, [], ◌∷◌, length, Option, Some, None, refl, sym, ap, ◌∙◌, subst, replicate, true≢false}
-use Rattle.std.specs.Prelude.{is_some}
+use Rattle.std.specs.Prelude.{is_some, MatchOption}
 use Rattle.std.proofs.lemmas.List.Elements.{All-nil}
-use Rattle.std.specs.Prelude.{MatchOption, is_some}
-use Rattle.joint_model.specs.declared.names.Cycle.{Cycle}
-use Rattle.joint_model.specs.declared.names.Phase.{Phase}
-use Rattle.joint_model.specs.declared.names.PhaseWord.{PhaseWord}
-use Rattle.joint_model.specs.declared.names.Phase.TheVariants as at
-use Rattle.joint_model.specs.declared.names.Thread.{Thread}
-use Rattle.joint_model.specs.declared.events.Made.{Made}
-use Rattle.joint_model.specs.declared.events.Op.{Op}
-use Rattle.joint_model.specs.declared.events.Op.TheVariants as op
-use Rattle.joint_model.specs.Control.{opening_control}
-use Rattle.joint_model.specs.Draws.{AllBelow}
-use Rattle.joint_model.specs.declared.events.Reply.{Reply}
-use Rattle.joint_model.specs.Histories.{Finished}
-use Rattle.joint_model.specs.Lines.{is_peer_event, is_read}
-use Rattle.joint_model.specs.Linked.{IsWhole}
-use Rattle.joint_model.specs.ManagedReplay.{ManagedReplay, opening_replay}
-use Rattle.joint_model.specs.Told.{Noted, Told, contraction_of, nothing}
+use Rattle.joint_machine.specs.declared.names.Cycle.{Cycle}
+use Rattle.joint_machine.specs.declared.names.Phase.{Phase}
+use Rattle.joint_machine.specs.declared.names.PhaseWord.{PhaseWord}
+use Rattle.joint_machine.specs.declared.names.Phase.TheVariants as at
+use Rattle.joint_machine.specs.declared.names.Thread.{Thread}
+use Rattle.joint_machine.specs.declared.events.Made.{Made}
+use Rattle.joint_machine.specs.declared.events.Op.{Op}
+use Rattle.joint_machine.specs.declared.events.Op.TheVariants as op
+use Rattle.joint_machine.specs.Control.{opening_control}
+use Rattle.joint_machine.specs.Draws.{AllBelow}
+use Rattle.joint_machine.specs.declared.events.Reply.{Reply}
+use Rattle.joint_machine.specs.Histories.{Finished}
+use Rattle.joint_machine.specs.Lines.{is_peer_event, is_read}
+use Rattle.joint_machine.specs.Linked.{IsWhole}
+use Rattle.joint_machine.specs.ManagedReplay.{ManagedReplay, opening_replay}
+use Rattle.joint_machine.specs.Told.{Noted, Told, contraction_of, nothing}
 use Rattle.check_laws.specs.Behind.{GivesSnap, RepliesBehind, WaitsForSnap, state_of}
-use Rattle.check_laws.specs.Found.{NothingFollows}
+use Rattle.check_laws.specs.Findings.{NothingFollows}
 use Rattle.check_laws.specs.Laws.{IsNoRefusal}
 use Rattle.check_laws.proofs.Tested.{read-unmanaged}
 use Rattle.caller_turns.specs.declared.stands.Part.{Part}
@@ -30,7 +30,7 @@ use Rattle.caller_turns.proofs.Turning.{whole_tested}
 use Rattle.reader_counts.specs.Counts.{opening_counts}
 use Rattle.reader_counts.specs.Told.{AreCountsOf}
 use Rattle.reader_counts.proofs.Counted.{counts_on}
-use Rattle.peer_side.specs.Sides.{PeerModel, opening_side}
+use Rattle.peer_heap.specs.Sides.{PeerModel, opening_side}
 use Rattle.run_check.specs.declared.cycles.OpenCycle.{OpenCycle as Kept}
 use Rattle.run_check.specs.declared.readers.Readers.{Readers}
 use Rattle.run_check.specs.declared.replays.Replay.{Replay}

@@ -1,18 +1,18 @@
--- What is kept of the open cycle, in the state of a linked history: the dead part's graph, which candidate is next, the components that the contraction
--- told, and what the restores have answered.
+-- What is kept of the open cycle, in the state of a linked history: the dead part's graph, which candidate is next, the
+-- components that the contraction told, and what the restores have answered.
 use Rattle.std.specs.Prelude.{◌≡◌, ℕ, ◌+◌, ◌<◌, ◌≤◌, List, [], length, map, slice_index, drop, IsSome, Option, Some, None}
-use Rattle.joint_model.specs.Control as control
-use Rattle.joint_model.specs.Control.{Stand}
-use Rattle.joint_model.specs.Linked.{Linkage}
+use Rattle.joint_machine.specs.Control as control
+use Rattle.joint_machine.specs.Control.{Stand}
+use Rattle.joint_machine.specs.Linked.{Linkage}
 use Rattle.joint_model.specs.Listed.{answers_of}
-use Rattle.joint_model.specs.Managed.{OpenCycle}
-use Rattle.joint_model.specs.Told.{Answer}
+use Rattle.joint_machine.specs.Managed.{OpenCycle}
+use Rattle.joint_machine.specs.Told.{Answer}
 use Rattle.joint_laws.specs.LinkedInvariants.{given_at}
 use Rattle.bridge_graph.specs.declared.graph.Node.{Node}
 use Rattle.bridge_graph.specs.Handles.{handles_of, handle_at}
 use Rattle.bridge_graph.specs.Parts.{IsPart, Part, numbers_of}
 use Rattle.xref_list.specs.Listing.{IsListing, Listing}
-use Rattle.managed_side.specs.Graphs.{IsDeadGraph}
+use Rattle.managed_heap.specs.Graphs.{IsDeadGraph}
 use Rattle.caller_turns.specs.Shapes.{next_place}
 use Rattle.run_check.specs.declared.cycles.OpenCycle.{OpenCycle as Kept}
 

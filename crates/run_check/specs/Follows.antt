@@ -1,28 +1,29 @@
--- What a replay keeps of the entries so far, given as a past, the latest first: both sides with the open cycle, the pins and the cells, which the entry's own
--- call makes longer; and the callers with the readers' counts, which are noted once the entry is found in order.
+-- What a replay keeps of the entries so far, given as a past, the latest first: both sides with the open cycle, the
+-- pins and the cells, which the entry's own call makes longer; and the callers with the readers' counts, which are
+-- noted once the entry is found in order.
 use Rattle.std.specs.Prelude.{◌≡◌, ℕ, ◌+◌, ◌<◌, ◌^◌, nat_lt, if◌then◌else◌, List, [], ◌∷◌, drop, length, map, slice_set, Option, Some, None}
-use Rattle.joint_model.specs.declared.names.Cycle.{Cycle}
-use Rattle.joint_model.specs.declared.names.MNum.{MNum}
-use Rattle.joint_model.specs.declared.lines.Act.TheVariants as act
-use Rattle.joint_model.specs.declared.events.Made.{Made}
-use Rattle.joint_model.specs.declared.events.Op.{Op}
-use Rattle.joint_model.specs.declared.events.Op.TheVariants as op
-use Rattle.joint_model.specs.declared.events.Reply.{Reply}
-use Rattle.joint_model.specs.declared.events.Reply.TheVariants as says
-use Rattle.joint_model.specs.Control as control
-use Rattle.joint_model.specs.Control.{Stand}
-use Rattle.joint_model.specs.Draws.{AllBelow}
-use Rattle.joint_model.specs.Linked.{Linkage}
-use Rattle.joint_model.specs.Managed.{candidates_of}
-use Rattle.joint_model.specs.Readers.{with_pins}
-use Rattle.joint_model.specs.Told.{Noted, no_pins}
+use Rattle.joint_machine.specs.declared.names.Cycle.{Cycle}
+use Rattle.joint_machine.specs.declared.names.MNum.{MNum}
+use Rattle.joint_machine.specs.declared.lines.Act.TheVariants as act
+use Rattle.joint_machine.specs.declared.events.Made.{Made}
+use Rattle.joint_machine.specs.declared.events.Op.{Op}
+use Rattle.joint_machine.specs.declared.events.Op.TheVariants as op
+use Rattle.joint_machine.specs.declared.events.Reply.{Reply}
+use Rattle.joint_machine.specs.declared.events.Reply.TheVariants as says
+use Rattle.joint_machine.specs.Control as control
+use Rattle.joint_machine.specs.Control.{Stand}
+use Rattle.joint_machine.specs.Draws.{AllBelow}
+use Rattle.joint_machine.specs.Linked.{Linkage}
+use Rattle.joint_machine.specs.Managed.{candidates_of}
+use Rattle.joint_machine.specs.Told.{Noted}
+use Rattle.joint_machine.specs.PinsTold.{no_pins, with_pins}
 use Rattle.check_laws.specs.Behind.{WaitsForSnap, state_of}
 use Rattle.caller_turns.specs.Shapes.{callers_of}
 use Rattle.reader_counts.specs.Told.{AreCountsOf}
-use Rattle.managed_side.specs.Pinned.{pins_given}
-use Rattle.managed_side.specs.Rows.{number_or_none}
-use Rattle.managed_side.specs.Sides.{ManagedModel}
-use Rattle.peer_side.specs.Sides.{PeerModel, Reserve}
+use Rattle.managed_heap.specs.Pinned.{pins_given}
+use Rattle.managed_heap.specs.Rows.{number_or_none}
+use Rattle.managed_heap.specs.Sides.{ManagedModel}
+use Rattle.peer_heap.specs.Sides.{PeerModel, Reserve}
 use Rattle.run_check.specs.declared.readers.Readers.{Readers}
 use Rattle.run_check.specs.declared.replays.Replay.{Replay}
 use Rattle.run_check.specs.Cycles.{CycleFollows}
@@ -94,7 +95,8 @@ pub record Follows (past : List Noted) (r : Replay) : Type 0 where
   pub sides : SidesFollow past r
   pub callers : CallersFollow past r
 
--- for which cycle's snap a read waits behind an event with that reply: for none behind a snap, and behind a `pending` of a cycle that isn't snapped for that one
+-- for which cycle's snap a read waits behind an event with that reply: for none behind a snap, and behind a `pending`
+-- of a cycle that isn't snapped for that one
 abbrev pub owed_by_read : ℕ → Reply → Option Cycle → Option Cycle
 owed_by_read cycles (says.Pending k) owed = if nat_lt cycles k.0 then Some k else owed
 owed_by_read cycles reply owed = owed

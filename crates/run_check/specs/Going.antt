@@ -1,7 +1,7 @@
--- What becomes of the open cycle by an entry of the driver on the peer side: it goes on to its next candidate, with the answer of the one that was restored,
--- or begins again at the first.
+-- What becomes of the open cycle by an entry of the driver on the peer side: it goes on to its next candidate, with the
+-- answer of the one that was restored, or begins again at the first.
 use Rattle.std.specs.Prelude.{◌≡◌, ℕ, ◌+◌, ◌<◌, [], ◌∷◌, ◌++◌, length, Option, Some, None}
-use Rattle.joint_model.specs.declared.names.HNum.{HNum}
+use Rattle.joint_machine.specs.declared.names.HNum.{HNum}
 use Rattle.bridge_graph.specs.Handles.{handles_of}
 use Rattle.run_check.specs.declared.cycles.OpenCycle.{OpenCycle as Kept}
 use Rattle.run_check.specs.Cycles.{IsAtHandle}

@@ -1,15 +1,16 @@
--- The open cycle's dead part by its graph: the bridge nodes are the candidates, and the contraction of the graph is that of the dead part.
+-- The open cycle's dead part by its graph: the bridge nodes are the candidates, and the contraction of the graph is
+-- that of the dead part.
 use Rattle.std.specs.Prelude.{◌≡◌, ℕ, List, length, map, slice_get, Some}
-use Rattle.joint_model.specs.declared.names.HNum.{HNum}
-use Rattle.joint_model.specs.Components.{IsContraction}
-use Rattle.joint_model.specs.Control.{IsCandidateHandle}
-use Rattle.joint_model.specs.Cycles.{IsDeadContraction}
-use Rattle.joint_model.specs.Managed.{Managed, candidates_of}
+use Rattle.joint_machine.specs.declared.names.HNum.{HNum}
+use Rattle.joint_machine.specs.Components.{IsContraction}
+use Rattle.joint_machine.specs.Control.{IsCandidateHandle}
+use Rattle.joint_machine.specs.Cycles.{IsDeadContraction}
+use Rattle.joint_machine.specs.Managed.{Managed, candidates_of}
 use Rattle.joint_laws.specs.ManagedInvariants.{IsManagedKept}
 use Rattle.bridge_graph.specs.declared.graph.Node.{Node}
 use Rattle.bridge_graph.specs.Handles.{handles_of}
 use Rattle.bridge_graph.specs.Parts.{Part, IsBridgeNode, IsPart, NodeLeads}
-use Rattle.managed_side.specs.Graphs.{IsDeadGraph}
+use Rattle.managed_heap.specs.Graphs.{IsDeadGraph}
 use Rattle.run_check.specs.Cycles.{number_at, numbered_comps}
 
 -- the bridge nodes are the candidates: there are as many, and each has the handle of the candidate in its place

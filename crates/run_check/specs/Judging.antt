@@ -1,27 +1,28 @@
--- What the judgement of an entry promises: where it is found in order, a past that is longer by it, and else which test fails first.
+-- What the judgement of an entry promises: where it is found in order, a past that is longer by it, and else which test
+-- fails first.
 use Rattle.std.specs.Prelude.{◌≡◌, ℕ, ◌<◌, ◌^◌, Bool, true, false, List, ◌∷◌, length, Option, Some, None, slice_get}
-use Rattle.joint_model.specs.declared.names.Phase.{Phase}
-use Rattle.joint_model.specs.declared.lines.Act.TheVariants as act
-use Rattle.joint_model.specs.declared.events.Entry.{Entry}
-use Rattle.joint_model.specs.declared.events.Made.{Made}
-use Rattle.joint_model.specs.declared.events.Op.{Op}
-use Rattle.joint_model.specs.declared.events.Op.TheVariants as op
-use Rattle.joint_model.specs.declared.names.Thread.{Thread}
-use Rattle.joint_model.specs.declared.events.Reply.{Reply}
-use Rattle.joint_model.specs.declared.events.Reply.TheVariants as says
-use Rattle.joint_model.specs.Draws.{NumberedFrom, numbered}
-use Rattle.joint_model.specs.Histories.{Finished}
-use Rattle.joint_model.specs.Lines.{is_read}
-use Rattle.joint_model.specs.Managed.{cell_read}
-use Rattle.joint_model.specs.Readers.{MayBeUnset}
-use Rattle.joint_model.specs.Run.{thread_number}
-use Rattle.joint_model.specs.Told.{Told, Noted, nothing}
-use Rattle.known_laws.specs.Growing.{entries}
+use Rattle.joint_machine.specs.declared.names.Phase.{Phase}
+use Rattle.joint_machine.specs.declared.lines.Act.TheVariants as act
+use Rattle.joint_machine.specs.declared.events.Entry.{Entry}
+use Rattle.joint_machine.specs.declared.events.Made.{Made}
+use Rattle.joint_machine.specs.declared.events.Op.{Op}
+use Rattle.joint_machine.specs.declared.events.Op.TheVariants as op
+use Rattle.joint_machine.specs.declared.names.Thread.{Thread}
+use Rattle.joint_machine.specs.declared.events.Reply.{Reply}
+use Rattle.joint_machine.specs.declared.events.Reply.TheVariants as says
+use Rattle.joint_machine.specs.Draws.{numbered}
+use Rattle.joint_machine.specs.Histories.{Finished, NumberedFrom}
+use Rattle.joint_machine.specs.Lines.{is_read}
+use Rattle.joint_machine.specs.Managed.{cell_read}
+use Rattle.joint_machine.specs.Readers.{MayBeUnset}
+use Rattle.joint_machine.specs.Run.{thread_number}
+use Rattle.joint_machine.specs.Told.{Told, Noted, nothing}
+use Rattle.known_laws.specs.PastEntries.{entries}
 use Rattle.check_laws.specs.declared.findings.Finding.{Finding}
 use Rattle.check_laws.specs.declared.findings.Finding.TheVariants as finding
 use Rattle.check_laws.specs.declared.findings.Why.{Why}
 use Rattle.check_laws.specs.Behind.{in_turn, state_of, AllInOrder, GivesSnap, IsInOrderBehind, MayBePendingBehind, RepliesBehind}
-use Rattle.check_laws.specs.Found.{FailsBy, IsFinding, NothingFollows}
+use Rattle.check_laws.specs.Findings.{FailsBy, IsFinding, NothingFollows}
 use Rattle.check_laws.specs.Order.{IsTurn, CitesSo}
 use Rattle.caller_turns.specs.Shapes.{TellsPhase}
 use Rattle.run_check.specs.declared.replays.Replay.{Replay}

@@ -1,7 +1,7 @@
 -- The lists that a reply names, against those of the history.
 use Rattle.std.specs.Prelude.{ℕ, ◌-◌, List, drop, length}
-use Rattle.joint_model.specs.declared.names.Span.{Span}
-use Rattle.joint_laws.specs.ToldLaws.{IsStretch}
+use Rattle.joint_machine.specs.declared.names.Span.{Span}
+use Rattle.joint_laws.specs.Spans.{IsStretch}
 
 -- from the span's first place on
 abbrev pub rest_of : Span → ℕ → Span

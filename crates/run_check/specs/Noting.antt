@@ -1,6 +1,6 @@
 -- What is noted of an entry that is in order.
-use Rattle.joint_model.specs.declared.names.Phase.{Phase}
-use Rattle.joint_model.specs.declared.events.Entry.{Entry}
+use Rattle.joint_machine.specs.declared.names.Phase.{Phase}
+use Rattle.joint_machine.specs.declared.events.Entry.{Entry}
 use Rattle.caller_turns.specs.Turns.{callers_after}
 use Rattle.reader_counts.specs.Counts.{counts_after}
 use Rattle.run_check.specs.declared.replays.Replay.{Replay}

@@ -1,11 +1,12 @@
--- In which phase a word was refused: the one that the reply names, where the driver may be in it, and else the plain one.
+-- In which phase a word was refused: the one that the reply names, where the driver may be in it, and else the plain
+-- one.
 use Rattle.std.specs.Prelude.{◌≡◌, ℕ, Bool, true, false, ◌&&◌, not, nat_eq, if◌then◌else◌, Option, Some, None}
-use Rattle.joint_model.specs.declared.names.Phase.{Phase}
-use Rattle.joint_model.specs.declared.names.Phase.TheVariants as at
-use Rattle.joint_model.specs.declared.names.PhaseWord.{PhaseWord}
-use Rattle.joint_model.specs.declared.events.Reply.{Reply}
-use Rattle.joint_model.specs.declared.events.Reply.TheVariants as says
-use Rattle.joint_model.specs.ManagedReplay.{IsRefusedIn}
+use Rattle.joint_machine.specs.declared.names.Phase.{Phase}
+use Rattle.joint_machine.specs.declared.names.Phase.TheVariants as at
+use Rattle.joint_machine.specs.declared.names.PhaseWord.{PhaseWord}
+use Rattle.joint_machine.specs.declared.events.Reply.{Reply}
+use Rattle.joint_machine.specs.declared.events.Reply.TheVariants as says
+use Rattle.joint_machine.specs.ManagedReplay.{IsRefusedIn}
 use Rattle.caller_turns.specs.declared.stands.Stand.{Stand}
 use Rattle.caller_turns.specs.declared.stands.Stand.TheVariants as stand
 

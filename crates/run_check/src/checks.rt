@@ -1,13 +1,14 @@
 // The check: entry by entry.
 
 ghost use Rattle.std.specs.Prelude.{◌≡◌, ◌↔◌, [], IfOk, List};
-ghost use Rattle.joint_model.specs.Told.{Noted};
+ghost use Rattle.joint_machine.specs.Told.{Noted};
 ghost use Rattle.check_laws.specs.Knows.{AreKnown};
 ghost use Rattle.run_check.specs.Follows.{Follows};
 ghost use Rattle.run_check.specs.Judging.{FindsSoFar, GoesOnFrom, IsFoundAtEnd, IsWalked};
 ghost use Rattle.joint_model.specs.Leaders.{entry_of as entry_at};
-ghost use Rattle.joint_model.specs.LinkedHistories.{IsLinked};
-ghost use Rattle.check_laws.specs.Found.{HasSoundAndCompleteRun, IsFinding, as_named};
+ghost use Rattle.joint_machine.specs.LinkedHistories.{IsLinked};
+ghost use Rattle.check_laws.specs.Found.{as_named};
+ghost use Rattle.check_laws.specs.Findings.{HasSoundAndCompleteRun, IsFinding};
 
 use crate::named::is_named;
 use crate::replays::Replay;
@@ -28,8 +29,8 @@ fn entry_of(step: &Step) -> Entry
 // The most entries that are judged: more than any history has, since none has as many as 2^34.
 const MOST: u64 = 1 << 62;
 
-// Judges the entry that comes with that number. (A history's entry has the number of its place, which no clause of a history says, so it is looked at here;
-// and a caller or an event that no entry can name is nobody's turn.)
+// Judges the entry that comes with that number. (A history's entry has the number of its place, which no clause of a
+// history says, so it is looked at here; and a caller or an event that no entry can name is nobody's turn.)
 fn judge_next(
     replay: &mut Replay,
     h: &History,
@@ -89,8 +90,9 @@ fn found_in(replay: &mut Replay, h: &History) -> Result<Finding, AllocError>
     }
 }
 
-/// What the history is: legal, illegal at the first entry that isn't in order behind those before it, or unfinished. Answers `AllocError` where there is no
-/// memory; also where the components of a cycle's dead part, with their members and cross-references, are more than 4,294,967,295 together.
+/// What the history is: legal, illegal at the first entry that isn't in order behind those before it, or unfinished.
+/// Answers `AllocError` where there is no memory; also where the components of a cycle's dead part, with their members
+/// and cross-references, are more than 4,294,967,295 together.
 pub fn check(alloc: Global, h: &History) -> Result<Finding, AllocError>
     ensures found { IfOk result (λ f. IsFinding h.now f) }
     ensures legal { IfOk result (λ f. (f ≡ Finding.Legal) ↔ IsLinked (as_named h.now)) }

@@ -1,4 +1,5 @@
-// What is kept of the open cycle: its dead part, the components, which candidate is next, and what the restores have answered.
+// What is kept of the open cycle: its dead part, the components, which candidate is next, and what the restores have
+// answered.
 
 ghost use Rattle.std.specs.Prelude.{◌≡◌, ◌+◌, ◌<◌, ◌≤◌, [], ℕ, IfOk, IsSome, None, drop, length};
 ghost use Rattle.bridge_graph.specs.Handles.{handle_at, handles_of};
@@ -10,7 +11,8 @@ use joint_model::{Alive, Cycle, HNum};
 use std::alloc::{AllocError, Global};
 use xref_list::Components;
 
-/// The open cycle. `place` is the node of the candidate that is next to be weakened or restored; behind the last node none is.
+/// The open cycle. `place` is the node of the candidate that is next to be weakened or restored; behind the last node
+/// none is.
 #[derive(Drop)]
 pub(crate) struct OpenCycle {
     pub(crate) cycle: Cycle,

@@ -1,9 +1,10 @@
-// The one count from which both sides draw, and the gate of a snapshot. There is one thread, so the gate closes at once, with the pins as they are.
+// The one count from which both sides draw, and the gate of a snapshot. There is one thread, so the gate closes at
+// once, with the pins as they are.
 
 ghost use Rattle.std.specs.Prelude.{◌≡◌};
 
 use joint_model::{Counter, Cycle, Draw, MNum, Made};
-use managed_side::{Closes, Pins};
+use managed_heap::{Closes, Pins};
 
 /// The plain count, with the object to which the last drawn entry set its cell, and the pins that the gate gives.
 #[derive(Drop)]
@@ -42,15 +43,14 @@ impl Recorder {
 
 impl Draw for Recorder {
     ghost use Rattle.std.specs.Prelude.{◌≡◌, ◌-◌, ◌^◌, ⊤};
-    ghost use Rattle.joint_model.specs.Draws.{CountDrew};
+    ghost use Rattle.joint_machine.specs.Draws.{CountDrew};
 
-    ghost floor = { λ r. r.counter };
-
-    ghost left = { λ r. 2 ^ 63 - r.counter };
-
-    ghost may = { λ r t o m. ⊤ };
-
-    ghost drew = { λ r e m freed after. CountDrew r.counter e m freed after.counter × (after.target ≡ m) };
+    ghost rules = { record {
+      floor = λ r. r.counter;
+      left = λ r. 2 ^ 63 - r.counter;
+      may = λ r t o m. ⊤;
+      drew = λ r e m freed after. CountDrew r.counter e m freed after.counter × (after.target ≡ m);
+    } };
 
     fn draw(&mut self, made: &Made, target: Option<MNum>, freed: &[MNum]) -> u64 {
         self.target = target;

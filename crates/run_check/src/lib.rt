@@ -6,12 +6,15 @@
 //         Finding::Unfinished => ..,
 //     }
 //
-// The history may come from anywhere: a report that was read back, another build, another implementation of this bridge. It is replayed by both sides' own
-// calls over one plain count of entries, on one thread. Of each entry three tests are made, in this order: whether it is its caller's turn, whether it cites
-// what it has to, and whether it answers, frees and takes what it may. The first two are answered by `caller_turns`. What is left of the third, once these
-// passed, is to compare: the cycle's number, the reply, and the lists that the reply names. A reader's entry is judged by a few counts.
+// The history may come from anywhere: a report that was read back, another build, another implementation of this
+// bridge. It is replayed by both sides' own calls over one plain count of entries, on one thread. Of each entry three
+// tests are made, in this order: whether it is its caller's turn, whether it cites what it has to, and whether it
+// answers, frees and takes what it may. The first two are answered by `caller_turns`. What is left of the third, once
+// these passed, is to compare: the cycle's number, the reply, and the lists that the reply names. A reader's entry is
+// judged by a few counts.
 //
-// Nothing is searched in a list, and an entry costs what its side's own step costs. The sides hold their last entries alone.
+// Nothing is searched in a list, and an entry costs what its side's own step costs. The sides hold their last entries
+// alone.
 #![tactic(auto)]
 
 mod checks;

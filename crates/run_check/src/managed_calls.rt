@@ -1,8 +1,8 @@
 // Entries of the managed side: made by its own calls, and compared.
 
 ghost use Rattle.std.specs.Prelude.{◌≡◌, ◌+◌, ◌<◌, ◌≤◌, ◌↔◌, false, length, IfOk, IsTrue, List, None, Option, Some};
-ghost use Rattle.joint_model.specs.Histories.{managed_numbers};
-ghost use Rattle.joint_model.specs.Lines.{is_peer_event, is_read};
+ghost use Rattle.joint_machine.specs.Histories.{managed_numbers};
+ghost use Rattle.joint_machine.specs.Lines.{is_peer_event, is_read};
 ghost use Rattle.check_laws.specs.Laws.{IsNoRefusal};
 ghost use Rattle.run_check.specs.declared.cycles.OpenCycle.{OpenCycle as KeptCycle};
 ghost use Rattle.run_check.specs.Cells.{targets_after};
@@ -14,12 +14,13 @@ use crate::replays::Replay;
 use crate::replies::{freed_as_named, is_same, taken_as_named};
 use component_pass::contract;
 use joint_model::{Act, Cell, Cycle, History, MNum, Made, Op, Reply, Span, Var};
-use managed_side::SnapFault;
+use managed_heap::SnapFault;
 use std::alloc::AllocError;
 use xref_list::Components;
 
 impl Replay {
-    /// Makes an entry of the managed side, and compares: whether it may answer so. Answers `AllocError` where there is no memory.
+    /// Makes an entry of the managed side, and compares: whether it may answer so. Answers `AllocError` where there is
+    /// no memory.
     pub(crate) fn managed_replies(&mut self, h: &History, made: &Made) -> Result<bool, AllocError>
         requires ready { IsReady h.now self.old made.now }
         requires managed { is_peer_event made.now.caller made.now.op ≡ false }

@@ -1,10 +1,10 @@
 // Entries of the peer side: made by its own calls, and compared.
 
 ghost use Rattle.std.specs.Prelude.{◌≡◌, ◌≤◌, ◌↔◌, true, length, IfOk, IsTrue, Some};
-ghost use Rattle.joint_model.specs.Histories.{peer_numbers};
-ghost use Rattle.joint_model.specs.Lines.{is_peer_event};
+ghost use Rattle.joint_machine.specs.Histories.{peer_numbers};
+ghost use Rattle.joint_machine.specs.Lines.{is_peer_event};
 ghost use Rattle.global_handles.specs.Rows.{back_of};
-ghost use Rattle.peer_side.specs.Cycles.{reply_of};
+ghost use Rattle.peer_heap.specs.Cycles.{reply_of};
 ghost use Rattle.run_check.specs.declared.cycles.OpenCycle.{OpenCycle};
 ghost use Rattle.run_check.specs.Going.{HasBegun, HasGoneOn, HasPut};
 ghost use Rattle.run_check.specs.Judging.{AnswersRightly, IsPeerStepped, IsReady};
@@ -14,12 +14,13 @@ use crate::replays::Replay;
 use crate::replies::{is_same, peers_as_named};
 use handle_weaken::{restore_one, weaken_one};
 use joint_model::{Act, Cycle, HNum, History, Made, Op, Reply, Span, Thread};
+use peer_heap::BeginFault;
 use peer_mirror::{clear, install};
-use peer_side::BeginFault;
 use std::alloc::AllocError;
 
 impl Replay {
-    /// Makes an entry of the peer side, and compares: whether it may answer so. Answers `AllocError` where there is no memory.
+    /// Makes an entry of the peer side, and compares: whether it may answer so. Answers `AllocError` where there is no
+    /// memory.
     pub(crate) fn peer_replies(&mut self, h: &History, made: &Made) -> Result<bool, AllocError>
         requires ready { IsReady h.now self.old made.now }
         requires peer { is_peer_event made.now.caller made.now.op ≡ true }

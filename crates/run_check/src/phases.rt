@@ -1,7 +1,7 @@
 // In which phase a word was refused, by the reply, and whether it may be refused there.
 
 ghost use Rattle.std.specs.Prelude.{◌≡◌, ◌↔◌, IsTrue};
-ghost use Rattle.joint_model.specs.ManagedReplay.{IsRefusedIn};
+ghost use Rattle.joint_machine.specs.ManagedReplay.{IsRefusedIn};
 ghost use Rattle.run_check.specs.Phases.{IsRefusedAt, is_weakened, plain_phase, told_phase, weakening_phase};
 
 use caller_turns::Stand;
@@ -82,8 +82,8 @@ fn told(stand: Stand, candidates: u32, reply: &Reply) -> Option<Phase>
     }
 }
 
-/// The phase that a refusal tells: the one that its reply names, if the driver may be in it, and else the plain one. None where the word is due in it, and
-/// where a phase is half done.
+/// The phase that a refusal tells: the one that its reply names, if the driver may be in it, and else the plain one.
+/// None where the word is due in it, and where a phase is half done.
 pub(crate) fn refused_in(
     stand: Stand,
     candidates: u32,

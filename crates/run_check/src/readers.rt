@@ -1,12 +1,13 @@
-// What readers' entries may answer: the pins, the targets of cells, the counts, and the cycle whose snap a read waits for.
+// What readers' entries may answer: the pins, the targets of cells, the counts, and the cycle whose snap a read waits
+// for.
 
 ghost use Rattle.std.specs.Prelude.{◌≡◌, ◌<◌, ◌^◌, ◌↔◌, IsTrue, None, OnErr, OnOk, Some, drop, length, replicate, slice_get, slice_set};
-ghost use Rattle.joint_model.specs.Lines.{IsManagedThread, IsNamed, IsThread};
-ghost use Rattle.joint_model.specs.Run.{thread_number};
+ghost use Rattle.joint_machine.specs.Lines.{IsManagedThread, IsNamed, IsThread};
+ghost use Rattle.joint_machine.specs.Run.{thread_number};
 ghost use Rattle.reader_counts.specs.Counts.{EndsWithin, IsPendingIn, IsUnknownIn, counts_after, opening_counts};
 
 use joint_model::{Cell, Cycle, Entry, MNum, Thread};
-use managed_side::Pins;
+use managed_heap::Pins;
 use reader_counts::ReadCounts;
 use std::alloc::{AllocError, Global};
 

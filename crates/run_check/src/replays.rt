@@ -2,15 +2,15 @@
 
 ghost use Rattle.std.specs.Prelude.{◌≡◌, ◌+◌, ◌<◌, ◌^◌, length, true, false, [], IfOk, IsTrue, OnOk, List, MatchOption, None, Some, ◌↔◌, ℕ};
 ghost use Rattle.std.specs.Bool.{OnTrue};
-ghost use Rattle.joint_model.specs.declared.names.PhaseWord.{PhaseWord};
-ghost use Rattle.joint_model.specs.Lines.{IsManagedThread, IsNamed, is_peer_event as made_by_peers, is_read};
-ghost use Rattle.joint_model.specs.Histories.{Finished};
-ghost use Rattle.joint_model.specs.Managed.{cell_read};
-ghost use Rattle.joint_model.specs.Readers.{MayBeUnset, ReadsCell, is_set_aside};
-ghost use Rattle.joint_model.specs.Run.{thread_number};
-ghost use Rattle.joint_model.specs.Told.{Noted, nothing};
+ghost use Rattle.joint_machine.specs.declared.names.PhaseWord.{PhaseWord};
+ghost use Rattle.joint_machine.specs.Lines.{IsManagedThread, IsNamed, is_peer_event as made_by_peers, is_read};
+ghost use Rattle.joint_machine.specs.Histories.{Finished};
+ghost use Rattle.joint_machine.specs.Managed.{cell_read};
+ghost use Rattle.joint_machine.specs.Readers.{MayBeUnset, ReadsCell, is_set_aside};
+ghost use Rattle.joint_machine.specs.Run.{thread_number};
+ghost use Rattle.joint_machine.specs.Told.{Noted, nothing};
 ghost use Rattle.check_laws.specs.Behind.{GivesSnap, IsReplyBehind, MayBePendingBehind, WaitsForSnap, in_turn, state_of};
-ghost use Rattle.check_laws.specs.Found.{NothingFollows};
+ghost use Rattle.check_laws.specs.Findings.{NothingFollows};
 ghost use Rattle.check_laws.specs.Knows.{AreKnown};
 ghost use Rattle.caller_turns.specs.Shapes.{IsPartOf};
 ghost use Rattle.run_check.specs.Follows.{Follows, OwedFollows, SidesFollow, owed_by_read, pins_read};
@@ -29,8 +29,8 @@ use check_laws::Why;
 use joint_model::{
     Act, Cell, Cycle, Draw, Entry, History, Holding, Made, Op, Phase, Reply, Thread,
 };
-use managed_side::ManagedSide;
-use peer_side::PeerSide;
+use managed_heap::ManagedSide;
+use peer_heap::PeerSide;
 use std::alloc::{AllocError, Global};
 
 /// Both sides as the entries so far have left them, with what is kept of callers, readers and the open cycle.
@@ -124,8 +124,8 @@ impl Replay {
         }
     }
 
-    /// Judges the next entry, and keeps what it changes: None where it is in order, and else the first test that fails. Behind a failed test nothing may be
-    /// judged any more. Answers `AllocError` where there is no memory.
+    /// Judges the next entry, and keeps what it changes: None where it is in order, and else the first test that fails.
+    /// Behind a failed test nothing may be judged any more. Answers `AllocError` where there is no memory.
     pub(crate) fn judge(&mut self, h: &History, entry: &Entry) -> Result<Option<Why>, AllocError>
         requires judged { (past : List Noted) × IsJudged h.now past self.old entry.now }
         requires named { IsNamed entry.now.made.caller entry.now.made.op }
@@ -201,8 +201,8 @@ impl Replay {
         }
     }
 
-    // Makes the entry on its own side, and compares: None where it may not answer so. Of a refusal the phase is answered, and of every other entry one that
-    // says nothing.
+    // Makes the entry on its own side, and compares: None where it may not answer so. Of a refusal the phase is
+    // answered, and of every other entry one that says nothing.
     fn replies(&mut self, h: &History, entry: &Entry) -> Result<Option<Phase>, AllocError>
         requires ready { IsReady h.now self.old entry.now.made }
         ensures { IfOk result (λ phase. TellsRightly h.now entry.now.made self.old self.new phase) }

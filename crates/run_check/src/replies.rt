@@ -1,12 +1,12 @@
 // Replies, and the lists that they name.
 
 ghost use Rattle.std.specs.Prelude.{◌≡◌, ◌<◌, ◌≤◌, ◌↔◌, IsTrue, Some, length, slice_get};
-ghost use Rattle.joint_laws.specs.ToldLaws.{IsStretch};
-ghost use Rattle.joint_model.specs.Histories.{IsWithin, managed_numbers, peer_numbers, stretch};
+ghost use Rattle.joint_laws.specs.Spans.{IsStretch};
+ghost use Rattle.joint_machine.specs.Histories.{IsWithin, managed_numbers, peer_numbers, stretch};
 ghost use Rattle.run_check.specs.Lists.{StandsInList};
 
 use joint_model::{History, MNum, PNum, Reply, Span};
-use managed_side::ManagedSide;
+use managed_heap::ManagedSide;
 
 // Whether two spans are the same.
 fn is_same_span(a: Span, b: Span) -> bool
@@ -133,7 +133,8 @@ fn is_freed_at(h: &History, i: u32, m: MNum) -> bool
     }
 }
 
-/// Whether the objects that were freed, from the place of a span on, are the ones that a history's freed list has there.
+/// Whether the objects that were freed, from the place of a span on, are the ones that a history's freed list has
+/// there.
 pub(crate) fn freed_as_named(h: &History, freed: &[MNum], span: Span) -> bool
     requires within { span.first ≤ length freed.now }
     requires few { length freed.now ≤ 4294967295 }

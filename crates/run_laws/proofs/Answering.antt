@@ -1,36 +1,38 @@
--- A read whose answer is exact by the managed list that its caller knows is right by the entries of that list: what the caller knows is a past, whose state has the cycle open that
--- the entries leave open, and no target in a cell that none of them set. And of what it knows of any caller's line, the managed entries stand in the managed list.
+-- A read whose answer is exact by the managed list that its caller knows is right by the entries of that list: what the
+-- caller knows is a past, whose state has the cycle open that the entries leave open, and no target in a cell that none
+-- of them set. And of what it knows of any caller's line, the managed entries stand in the managed list.
 use Rattle.std.proofs.Common.{◌≡◌, inl, inr, ⊎_elim, ℕ, ◌==◌, Bool, true, false, List, [], ◌∷◌, Option, Some, None, refl, sym, ap, ◌∙◌, subst, true≢false, eq-eqb}
 use Rattle.std.specs.Prelude.{Contains, if◌then◌else◌, nat_eq}
 use Rattle.std.proofs.lemmas.List.{append-nil}
 use Rattle.std.proofs.lemmas.List.Elements.{Contains-append_left}
-use Rattle.joint_model.specs.declared.names.Thread.{Thread}
-use Rattle.joint_model.specs.declared.names.Thread.TheVariants.{M, P, C}
-use Rattle.joint_model.specs.declared.lines.Act.{Act}
-use Rattle.joint_model.specs.declared.lines.Act.TheVariants as act
-use Rattle.joint_model.specs.declared.events.Op.{Op}
-use Rattle.joint_model.specs.declared.events.Op.TheVariants as op
-use Rattle.joint_model.specs.declared.events.Reply.{Reply}
-use Rattle.joint_model.specs.declared.events.Reply.TheVariants as says
-use Rattle.joint_model.specs.declared.events.Entry.{Entry}
-use Rattle.joint_model.specs.Heaps.{is_freed, place, slot}
-use Rattle.joint_model.specs.HistoryLines.{caller_line, stands_in}
-use Rattle.joint_model.specs.Lines.{IsEvent, IsLine, is_peer_event, is_read, list_line}
-use Rattle.joint_model.specs.Linked.{SideLawful}
-use Rattle.joint_model.specs.Managed.{Managed}
-use Rattle.joint_model.specs.ManagedReplay.{ManagedReplay, managed_answer}
-use Rattle.joint_model.specs.Readers.{ReadsCell, SetsCell, with_pins}
-use Rattle.joint_model.specs.Run.{thread_number}
-use Rattle.joint_model.specs.Sides.{cell_target, managed_rules, object_or_none, peer_rules}
-use Rattle.joint_model.specs.Told.{Told, Noted, bare_told, pins_told}
-use Rattle.joint_model.proofs.Deciding.{none_some}
-use Rattle.joint_model.proofs.Members.{Contains-cons_cases, Contains-here, Contains-nil, Contains-there}
+use Rattle.joint_machine.specs.declared.names.Thread.{Thread}
+use Rattle.joint_machine.specs.declared.names.Thread.TheVariants.{M, P, C}
+use Rattle.joint_machine.specs.declared.lines.Act.{Act}
+use Rattle.joint_machine.specs.declared.lines.Act.TheVariants as act
+use Rattle.joint_machine.specs.declared.events.Op.{Op}
+use Rattle.joint_machine.specs.declared.events.Op.TheVariants as op
+use Rattle.joint_machine.specs.declared.events.Reply.{Reply}
+use Rattle.joint_machine.specs.declared.events.Reply.TheVariants as says
+use Rattle.joint_machine.specs.declared.events.Entry.{Entry}
+use Rattle.joint_machine.specs.Heaps.{is_freed, place, slot}
+use Rattle.joint_machine.specs.HistoryLines.{caller_line, stands_in, list_line}
+use Rattle.joint_machine.specs.Lines.{IsEvent, IsLine, is_peer_event, is_read}
+use Rattle.joint_machine.specs.Linked.{SideLawful}
+use Rattle.joint_machine.specs.Managed.{Managed}
+use Rattle.joint_machine.specs.ManagedReplay.{ManagedReplay, managed_answer}
+use Rattle.joint_machine.specs.Readers.{ReadsCell, SetsCell}
+use Rattle.joint_machine.specs.Run.{thread_number}
+use Rattle.joint_machine.specs.Sides.{cell_target, managed_rules, object_or_none, peer_rules}
+use Rattle.joint_machine.specs.Told.{Told, Noted}
+use Rattle.joint_machine.specs.PinsTold.{bare_told, pins_told, with_pins}
+use Rattle.joint_machine.proofs.Deciding.{none_some}
+use Rattle.joint_machine.proofs.Members.{Contains-cons_cases, Contains-here, Contains-nil, Contains-there}
 use Rattle.joint_laws.proofs.KeptPins.{weak_by}
 use Rattle.known_laws.specs.Drawn.{aimed, aims_at, drawn, drawn_by, open_after, open_in, sets, sets_by, target_in}
-use Rattle.known_laws.specs.Growing.{entries}
 use Rattle.known_laws.specs.Held.{answers_by, gone, object, open_number, word_by}
 use Rattle.known_laws.specs.Known.{given}
-use Rattle.known_laws.specs.Pasts.{InPast, Lawful, end_of, is_in, line}
+use Rattle.known_laws.specs.Pasts.{Lawful, end_of, is_in, line}
+use Rattle.known_laws.specs.PastEntries.{InPast, entries}
 use Rattle.known_laws.proofs.CellsDrawn.{targets_are_drawn}
 use Rattle.known_laws.proofs.Coming.{event_of, side_of}
 use Rattle.known_laws.proofs.Growing.{entries_append}

@@ -1,22 +1,24 @@
--- Thread by thread: a line of another thread is none of this thread's, a line of its own stands behind its others with its entries, and what
--- each thread holds of its lines is what the script's history holds, since of each thread the history has just its caller's own entries.
+-- Thread by thread: a line of another thread is none of this thread's, a line of its own stands behind its others with
+-- its entries, and what each thread holds of its lines is what the script's history holds, since of each thread the
+-- history has just its caller's own entries.
 use Rattle.std.proofs.Common.{◌≡◌, ⊎_elim, ℕ, ◌+◌, true, List, [], ◌∷◌, ◌++◌, length, Some, refl, sym, ◌∙◌, ap, subst, arith}
 use Rattle.std.specs.Prelude.{if◌then◌else◌, slice_get, take}
 use Rattle.std.proofs.lemmas.List.{append-nil, length-take-le, take_all, take_more}
 use Rattle.std.proofs.lemmas.List.Elements.{All-contains}
 use Rattle.std.proofs.lemmas.Option.{get_or_from_slice_get, slice_get_within}
-use Rattle.joint_model.specs.declared.names.Thread.{Thread}
-use Rattle.joint_model.specs.declared.names.Thread.TheVariants.{M, P, C}
-use Rattle.joint_model.specs.declared.lines.Act.{Act}
-use Rattle.joint_model.specs.declared.events.Entry.{Entry}
-use Rattle.joint_model.specs.PeerReplay.{is_thread}
-use Rattle.joint_model.proofs.Members.{Contains-map_cases}
-use Rattle.joint_model.proofs.Deciding.{nat_eq-turned}
-use Rattle.joint_model.proofs.HeapLemmas.{thread_itself}
+use Rattle.joint_machine.specs.declared.names.Thread.{Thread}
+use Rattle.joint_machine.specs.declared.names.Thread.TheVariants.{M, P, C}
+use Rattle.joint_machine.specs.declared.lines.Act.{Act}
+use Rattle.joint_machine.specs.declared.events.Entry.{Entry}
+use Rattle.joint_machine.specs.PeerReplay.{is_thread}
+use Rattle.joint_machine.proofs.Members.{Contains-map_cases}
+use Rattle.joint_machine.proofs.Deciding.{nat_eq-turned}
+use Rattle.joint_machine.proofs.HeapLemmas.{thread_itself}
 use Rattle.known_laws.specs.Lists.{made_by}
 use Rattle.joint_history.specs.Callers.{Pass, own}
 use Rattle.joint_history.specs.Ending.{HasOwn}
-use Rattle.script_laws.specs.Holding.{opening_standing, standing_after, HoldsLines, HoldsSoFar, numbered_from, lines_of, entries_by}
+use Rattle.script_laws.specs.Holding.{opening_standing, standing_after, HoldsLines, numbered_from, lines_of, entries_by}
+use Rattle.script_laws.specs.SoFar.{HoldsSoFar}
 use Rattle.script_laws.proofs.AllThreads.{each_thread_is_all}
 use Rattle.script_laws.proofs.Growing.{held_lines_grow, held_lines_end, lines_of_go_on, numbers_go_on}
 use Rattle.run_laws.specs.Threads.{thread_lines, HoldsItsLines, OthersLinesPass, OwnLinesAdd, OwnLinesEnd, ThreadsHoldScript}

@@ -1,7 +1,8 @@
--- What a run's history has follows from what it holds and that it is linked, by the laws of scripts and of linked histories.
+-- What a run's history has follows from what it holds and that it is linked, by the laws of scripts and of linked
+-- histories.
 use Rattle.std.specs.Prelude.{◌<◌, ◌^◌, length}
-use Rattle.joint_model.specs.Histories.{Finished}
-use Rattle.joint_model.specs.LinkedHistories.{managed_end}
+use Rattle.joint_machine.specs.Histories.{Finished}
+use Rattle.joint_machine.specs.LinkedHistories.{managed_end}
 use Rattle.joint_laws.specs.ReadingLaws.{IsLawfulReading}
 use Rattle.joint_laws.proofs.ReadsAside.{linked_is_complete}
 use Rattle.joint_laws.proofs.ReadingsGoneAfter.{lock_free_reads_are_gone, weak_reads_are_gone_reading, none_is_mirrored_reading}
@@ -13,7 +14,8 @@ use Rattle.script_laws.proofs.Finishing.{one-history}
 use Rattle.script_laws.proofs.OneText.{one-text}
 use Rattle.script_laws.proofs.ReadCycles.{linked-end}
 use Rattle.script_laws.proofs.ThreadEnding.{thread_history_ends}
-use Rattle.run_laws.specs.Final.{IsBridgeRun, HeldInOrderIsRun, HeldByThreadsIsRun}
+use Rattle.run_laws.specs.Final.{IsBridgeRun}
+use Rattle.run_laws.specs.FinalLaws.{HeldByThreadsIsRun, HeldInOrderIsRun}
 
 -- by what ends each cycle a finished history is a run's
 abbrev pub kept : (h : Finished) (w : IsFinished h) → length h.entries < 2 ^ 64 → AllCyclesEnd h.entries → IsBridgeRun h w.noted

@@ -1,6 +1,7 @@
--- Line after line. The driver's seat tells a caller all that it knows before the caller's line, and so the line's entries have numbers above
--- all that was made; and it hears of them afterwards. What one line makes is its thread's own, so each caller keeps just its own entries of all that
--- was made; and since a later line's numbers are all greater, numbers rise over all lines where they rise within each caller's.
+-- Line after line. The driver's seat tells a caller all that it knows before the caller's line, and so the line's
+-- entries have numbers above all that was made; and it hears of them afterwards. What one line makes is its thread's
+-- own, so each caller keeps just its own entries of all that was made; and since a later line's numbers are all
+-- greater, numbers rise over all lines where they rise within each caller's.
 use Rattle.std.proofs.Common.{◌≡◌, ⊎_elim, ℕ, ◌+◌, ◌<◌, true, false, List, [], ◌∷◌, ◌++◌, length, map, Some, refl, sym, ◌∙◌, ap, subst, arith, append_assoc}
 use Rattle.std.specs.Prelude.{Contains, slice_get, slice_set}
 use Rattle.std.proofs.lemmas.Bool.{cases_Bool}
@@ -8,16 +9,16 @@ use Rattle.std.proofs.lemmas.List.{append-nil, map-append}
 use Rattle.std.proofs.lemmas.Option.{slice_get_within}
 use Rattle.std.proofs.lemmas.List.Elements.{Contains-append_cases, Contains-append_left, Contains-append_right, All-contains, filter-append}
 use mathlib.Core.List.{IsPrefix}
-use Rattle.joint_model.specs.declared.names.Thread.{Thread}
-use Rattle.joint_model.specs.declared.names.Thread.TheVariants.{C}
-use Rattle.joint_model.specs.declared.events.Entry.{Entry}
-use Rattle.joint_model.specs.Components.{Rises}
-use Rattle.joint_model.specs.Control.{caller_place}
-use Rattle.joint_model.specs.HistoryLines.{caller_line}
-use Rattle.joint_model.specs.Lines.{IsManagedThread, IsThread, is_read}
-use Rattle.joint_model.specs.PeerReplay.{is_thread}
-use Rattle.joint_model.proofs.Joining.{same_or_not, slice_get-set_same, slice_get-set_other}
-use Rattle.joint_model.proofs.Members.{All-members, Contains-here, Contains-there, Contains-nil, Contains-cons_cases, Contains-map, Contains-map_cases}
+use Rattle.joint_machine.specs.declared.names.Thread.{Thread}
+use Rattle.joint_machine.specs.declared.names.Thread.TheVariants.{C}
+use Rattle.joint_machine.specs.declared.events.Entry.{Entry}
+use Rattle.joint_machine.specs.Components.{Rises}
+use Rattle.joint_machine.specs.Control.{caller_place}
+use Rattle.joint_machine.specs.HistoryLines.{caller_line}
+use Rattle.joint_machine.specs.Lines.{IsManagedThread, IsThread, is_read}
+use Rattle.joint_machine.specs.PeerReplay.{is_thread}
+use Rattle.joint_machine.proofs.Joining.{same_or_not, slice_get-set_same, slice_get-set_other}
+use Rattle.joint_machine.proofs.Members.{All-members, Contains-here, Contains-there, Contains-nil, Contains-cons_cases, Contains-map, Contains-map_cases}
 use Rattle.order_table.specs.declared.views.KeptEntry.{KeptEntry}
 use Rattle.order_table.specs.declared.views.View.{View}
 use Rattle.order_table.specs.Facts.{line_entries}
@@ -34,7 +35,7 @@ use Rattle.script_laws.proofs.Growing.{held_lines_grow}
 use Rattle.script_laws.proofs.ThreadOrder.{all-by, none-by}
 use Rattle.run_laws.proofs.ByThreads.{is-either}
 use Rattle.run_laws.specs.Serial.{AllReadBy, CallerAdds, ToldCallersAdd, DriversAdd, AreOthers, NothingIsRun, OthersRunOn, DriverRunsOn}
-use Rattle.joint_model.proofs.HeapLemmas.{same_thread}
+use Rattle.joint_machine.proofs.HeapLemmas.{same_thread}
 use Rattle.order_table.proofs.Lines.{below_front}
 
 -- beginnings of lists

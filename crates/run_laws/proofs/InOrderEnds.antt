@@ -1,32 +1,31 @@
--- At the end of a run line after line every entry of the history is one of a caller's own, and so one of those that were made; and both the history
--- and what was made rise. So they are one list, and what was made holds the script.
+-- At the end of a run line after line every entry of the history is one of a caller's own, and so one of those that
+-- were made; and both the history and what was made rise. So they are one list, and what was made holds the script.
 use Rattle.std.proofs.Common.{◌≡◌, inr, ⊎_elim, ℕ, ◌+◌, ◌-◌, ◌<◌, Bool, true, false, List, [], ◌∷◌, ◌++◌, get_or, cond, Option, Some, refl, sym, ◌∙◌, ap, subst, arith, append_assoc, true≢false}
 use Rattle.std.specs.Prelude.{Contains, filter, if◌then◌else◌, slice_get}
 use mathlib.Core.List.{IsPrefix}
 use Rattle.std.proofs.lemmas.Bool.{cases_eq}
 use Rattle.std.proofs.lemmas.List.Elements.{Contains-append_cases, Contains-append_left, Contains-append_right, All-contains, filter-append}
 use Rattle.std.proofs.lemmas.Option.{slice_get-get_or}
-use Rattle.joint_model.specs.declared.names.Thread.{Thread}
-use Rattle.joint_model.specs.declared.names.Thread.TheVariants.{M, P, C}
-use Rattle.joint_model.specs.declared.lines.Act.TheVariants as act
-use Rattle.joint_model.specs.declared.events.Op.{Op}
-use Rattle.joint_model.specs.declared.events.Op.TheVariants as op
-use Rattle.joint_model.specs.declared.events.Entry.{Entry}
-use Rattle.joint_model.specs.Components.{Rises}
-use Rattle.joint_model.specs.Control.{caller_place}
-use Rattle.joint_model.specs.Draws.{NumberedFrom}
-use Rattle.joint_model.specs.Histories.{Finished}
-use Rattle.joint_model.specs.HistoryLines.{entries_in, stands_in}
-use Rattle.joint_model.specs.Lines.{IsEvent, IsManagedThread, IsThread, is_read}
-use Rattle.joint_model.specs.Linked.{Linkage, opening_linkage}
-use Rattle.joint_model.specs.LinkedHistories.{IsLinkedBy, managed_end}
-use Rattle.joint_model.specs.Readers.{AllMayComeReading, EntryMayCome, ReadsCell, entry_after}
-use Rattle.joint_model.specs.PeerReplay.{is_thread}
-use Rattle.joint_model.specs.Told.{Noted}
-use Rattle.joint_model.proofs.Members.{All-members, Contains-at, at-Contains, Contains-here, Contains-nil, Contains-cons_cases, Contains-map, Contains-map_cases, Contains-filter_from, Contains-filter_to}
+use Rattle.joint_machine.specs.declared.names.Thread.{Thread}
+use Rattle.joint_machine.specs.declared.names.Thread.TheVariants.{M, P, C}
+use Rattle.joint_machine.specs.declared.lines.Act.TheVariants as act
+use Rattle.joint_machine.specs.declared.events.Op.{Op}
+use Rattle.joint_machine.specs.declared.events.Op.TheVariants as op
+use Rattle.joint_machine.specs.declared.events.Entry.{Entry}
+use Rattle.joint_machine.specs.Components.{Rises}
+use Rattle.joint_machine.specs.Control.{caller_place}
+use Rattle.joint_machine.specs.Histories.{Finished, NumberedFrom}
+use Rattle.joint_machine.specs.HistoryLines.{entries_in, stands_in}
+use Rattle.joint_machine.specs.Lines.{IsEvent, IsManagedThread, IsThread, is_read}
+use Rattle.joint_machine.specs.Linked.{Linkage, opening_linkage}
+use Rattle.joint_machine.specs.LinkedHistories.{IsLinkedBy, managed_end}
+use Rattle.joint_machine.specs.Readers.{AllMayComeReading, EntryMayCome, ReadsCell, entry_after}
+use Rattle.joint_machine.specs.PeerReplay.{is_thread}
+use Rattle.joint_machine.specs.Told.{Noted}
+use Rattle.joint_machine.proofs.Members.{All-members, Contains-at, at-Contains, Contains-here, Contains-nil, Contains-cons_cases, Contains-map, Contains-map_cases, Contains-filter_from, Contains-filter_to}
 use Rattle.joint_model.proofs.Merging.{NumberedFrom-high}
-use Rattle.joint_model.proofs.HeapLemmas.{thread_itself}
-use Rattle.known_laws.specs.Growing.{entries}
+use Rattle.joint_machine.proofs.HeapLemmas.{thread_itself}
+use Rattle.known_laws.specs.PastEntries.{entries}
 use Rattle.joint_history.specs.Callers.{Pass, own}
 use Rattle.joint_history.specs.Desks.{thread_of}
 use Rattle.joint_history.specs.Ending.{HasOwn, threads_of}
@@ -140,7 +139,8 @@ in-filter : (es : List Entry) → entries_in 0 es ≡ filter (stands_in 0) es
 in-filter [] = refl
 in-filter (e ∷ es) = ap (λ l. if stands_in 0 e then e ∷ l else l) (in-filter es)
 
--- the list by which a read was answered is the managed list before it: it begins the whole one, has all that was made before, and nothing that was made after
+-- the list by which a read was answered is the managed list before it: it begins the whole one, has all that was made
+-- before, and nothing that was made after
 module _ (v : View) (all : List Entry) (rises : Rises (numbers_of all)) (begins : IsPrefix (line_known v 0) (entries_in 0 all)) (events : (e : Entry) → Contains all e → IsEvent e.made.caller e.made.op) where
   list-rises : (list : List Entry) → IsPrefix list (line_known v 0) → Rises (numbers_of list)
   list-rises list p =

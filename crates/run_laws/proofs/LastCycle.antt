@@ -1,48 +1,50 @@
--- The driver's last cycle stands behind all else: its numbers are above all that anybody else made, since the driver had heard of that; so the
--- history, whose numbers rise, is a beginning without the cycle's entries and then these. The beginning has of each thread just what its caller had
--- before the cycle.
+-- The driver's last cycle stands behind all else: its numbers are above all that anybody else made, since the driver
+-- had heard of that; so the history, whose numbers rise, is a beginning without the cycle's entries and then these. The
+-- beginning has of each thread just what its caller had before the cycle.
 use Rattle.std.proofs.Common.{◌≡◌, ◌⊎◌, inl, inr, ⊎_elim, ℕ, ◌+◌, ◌<◌, ◌^◌, true, false, List, [], ◌∷◌, ◌++◌, length, refl, sym, ◌∙◌, ap, subst, arith, append_assoc}
 use Rattle.std.specs.Prelude.{All, Contains, if◌then◌else◌}
 use Rattle.std.proofs.lemmas.Bool.{cases_Bool}
 use Rattle.std.proofs.lemmas.List.{append-nil, append_cancel_right}
 use Rattle.std.proofs.lemmas.List.Elements.{Contains-append_cases, Contains-append_right, All-contains, filter-append}
-use Rattle.joint_model.specs.declared.names.Phase.{Phase}
-use Rattle.joint_model.specs.declared.names.Phase.TheVariants as at
-use Rattle.joint_model.specs.declared.names.PhaseWord.TheVariants as word
-use Rattle.joint_model.specs.declared.names.Thread.{Thread}
-use Rattle.joint_model.specs.declared.names.Thread.TheVariants.{M, P, C}
-use Rattle.joint_model.specs.declared.lines.Act.{Act}
-use Rattle.joint_model.specs.declared.lines.Act.TheVariants as act
-use Rattle.joint_model.specs.declared.events.Op.{Op}
-use Rattle.joint_model.specs.declared.events.Op.TheVariants as op
-use Rattle.joint_model.specs.declared.events.Entry.{Entry}
-use Rattle.joint_model.specs.Components.{Rises}
-use Rattle.joint_model.specs.Histories.{Finished}
-use Rattle.joint_model.specs.HistoryLines.{caller_line}
-use Rattle.joint_model.specs.Lines.{IsLine, IsThread}
-use Rattle.joint_model.specs.PeerReplay.{is_thread}
-use Rattle.joint_model.specs.Phases.{next_phase, phases_left, ArePhases}
-use Rattle.joint_model.proofs.Members.{Contains-here, Contains-there, Contains-nil, Contains-cons_cases, Contains-map_cases, Contains-filter_from, Contains-filter_to}
+use Rattle.joint_machine.specs.declared.names.Phase.{Phase}
+use Rattle.joint_machine.specs.declared.names.Phase.TheVariants as at
+use Rattle.joint_machine.specs.declared.names.PhaseWord.TheVariants as word
+use Rattle.joint_machine.specs.declared.names.Thread.{Thread}
+use Rattle.joint_machine.specs.declared.names.Thread.TheVariants.{M, P, C}
+use Rattle.joint_machine.specs.declared.lines.Act.{Act}
+use Rattle.joint_machine.specs.declared.lines.Act.TheVariants as act
+use Rattle.joint_machine.specs.declared.events.Op.{Op}
+use Rattle.joint_machine.specs.declared.events.Op.TheVariants as op
+use Rattle.joint_machine.specs.declared.events.Entry.{Entry}
+use Rattle.joint_machine.specs.Components.{Rises}
+use Rattle.joint_machine.specs.Histories.{Finished}
+use Rattle.joint_machine.specs.HistoryLines.{caller_line}
+use Rattle.joint_machine.specs.Lines.{IsLine, IsThread}
+use Rattle.joint_machine.specs.PeerReplay.{is_thread}
+use Rattle.joint_machine.specs.Phases.{next_phase, phases_left, ArePhases}
+use Rattle.joint_machine.proofs.Members.{Contains-here, Contains-there, Contains-nil, Contains-cons_cases, Contains-map_cases, Contains-filter_from, Contains-filter_to}
 use Rattle.known_laws.specs.Lists.{made_by}
 use Rattle.joint_history.specs.Callers.{Pass, own}
 use Rattle.joint_history.specs.Desks.{Waiting}
 use Rattle.joint_history.specs.Ending.{HasAll, HasOwn, IsFinished, StillWaits}
 use Rattle.joint_history.specs.Knowing.{line_known}
 use Rattle.script_laws.specs.Growing.{numbers_of}
-use Rattle.script_laws.specs.Holding.{Standing, opening_standing, phase_after, standing_after, AreLine, AreLeft, HoldsLines, HoldsSoFar, numbered_from, lines_of, entries_by}
+use Rattle.script_laws.specs.Holding.{Standing, opening_standing, phase_after, standing_after, AreLine, AreLeft, HoldsLines, numbered_from, lines_of, entries_by}
+use Rattle.script_laws.specs.SoFar.{HoldsSoFar}
 use Rattle.script_laws.specs.Ending.{ResolvesLater, ResolveComes, IsEnded, AllCyclesEnd}
 use Rattle.script_laws.proofs.AllThreads.{is_one, no-lines}
 use Rattle.script_laws.proofs.Ending.{EndsFrom, lines-end}
 use Rattle.script_laws.proofs.Growing.{held_lines_end, idle_leaves_nothing, numbers_go_on, rising_entries_are_one, behind}
 use Rattle.script_laws.proofs.ThreadEnding.{drivers_ends}
 use Rattle.script_laws.proofs.ThreadOrder.{all-by, line_order_gives_thread_order, none-by}
-use Rattle.run_laws.specs.LastCycle.{cycle_line, AreWholeCycle, HoldsThenCycle, IsRunThenCycle, HasHeardOf, EndsWithCycle, CyclesEndRuns, DrivesCycles, CycleLinesEndRuns}
+use Rattle.run_laws.specs.LastCycle.{HasHeardOf, EndsWithCycle, CyclesEndRuns, DrivesCycles, CycleLinesEndRuns}
+use Rattle.run_laws.specs.WithCycle.{AreWholeCycle, HoldsThenCycle, IsRunThenCycle, cycle_line}
 use Rattle.run_laws.specs.Threads.{HoldsItsLines, NoneIsLeft}
 use Rattle.run_laws.proofs.ByThreads.{made_is_by}
 use Rattle.run_laws.proofs.Finals.{kept}
 use Rattle.run_laws.proofs.InOrder.{above-in, prefix-in, rises-last}
 use Rattle.run_laws.proofs.InOrderEnds.{filter-rise, history-threads, numbered-rise}
-use Rattle.joint_model.proofs.HeapLemmas.{same_thread, thread_itself}
+use Rattle.joint_machine.proofs.HeapLemmas.{same_thread, thread_itself}
 
 -- the entry is one of the last, or has a smaller number than each of them
 abbrev IsLastOrBelow : List Entry → Entry → Type 0

@@ -1,21 +1,22 @@
--- An operation's events are the line's: the first comes of itself, the second by the first reply, and the third by the second event and
--- its reply; so each is the next event after the replies so far. A case for each act and, where it matters, each reply.
+-- An operation's events are the line's: the first comes of itself, the second by the first reply, and the third by the
+-- second event and its reply; so each is the next event after the replies so far. A case for each act and, where it
+-- matters, each reply.
 use Rattle.std.proofs.Common.{◌≡◌, ⊎_elim, ℕ, List, [], ◌∷◌, Option, Some, None, refl, sym, ◌∙◌, subst}
-use Rattle.joint_model.specs.declared.names.Thread.{Thread}
-use Rattle.joint_model.specs.declared.names.Thread.TheVariants.{M, P, C}
-use Rattle.joint_model.specs.declared.lines.Act.{Act}
-use Rattle.joint_model.specs.declared.lines.Act.TheVariants as act
-use Rattle.joint_model.specs.declared.events.Op.{Op}
-use Rattle.joint_model.specs.declared.events.Op.TheVariants as op
-use Rattle.joint_model.specs.declared.events.Reply.{Reply}
-use Rattle.joint_model.specs.declared.events.Reply.TheVariants as says
-use Rattle.joint_model.specs.declared.events.Entry.{Entry}
-use Rattle.joint_model.specs.Lines.{IsLine}
+use Rattle.joint_machine.specs.declared.names.Thread.{Thread}
+use Rattle.joint_machine.specs.declared.names.Thread.TheVariants.{M, P, C}
+use Rattle.joint_machine.specs.declared.lines.Act.{Act}
+use Rattle.joint_machine.specs.declared.lines.Act.TheVariants as act
+use Rattle.joint_machine.specs.declared.events.Op.{Op}
+use Rattle.joint_machine.specs.declared.events.Op.TheVariants as op
+use Rattle.joint_machine.specs.declared.events.Reply.{Reply}
+use Rattle.joint_machine.specs.declared.events.Reply.TheVariants as says
+use Rattle.joint_machine.specs.declared.events.Entry.{Entry}
+use Rattle.joint_machine.specs.Lines.{IsLine}
 use Rattle.joint_history.specs.declared.callers.Receipt.{Receipt}
 use Rattle.joint_history.specs.Operations.{EndsWithFirst, EndsWithSecond, EndsWithThird, IsOperationOf, entry_by, first_of, second_of, third_of}
 use Rattle.script_laws.specs.Holding.{Standing, standing_after, next_event, AreEventsAfter, AreEvents, AreOnLine, AreLine}
 use Rattle.run_laws.specs.Lines.{OperationsAreLines, OthersKeepStanding}
-use Rattle.joint_model.proofs.Deciding.{none_some}
+use Rattle.joint_machine.proofs.Deciding.{none_some}
 
 -- acts whose first event follows from the act alone, and whose others follow from its replies
 abbrev IsPlain : Act → Type 0

@@ -1,21 +1,23 @@
--- No wait of a history answers `pending` where none of a caller's does: each entry is one of a thread's, and so one of its caller's own.
+-- No wait of a history answers `pending` where none of a caller's does: each entry is one of a thread's, and so one of
+-- its caller's own.
 use Rattle.std.proofs.Common.{◌≡◌, ⊎_elim, ap, sym, ◌∙◌, subst}
 use Rattle.std.specs.Prelude.{Contains}
 use Rattle.std.proofs.lemmas.List.Elements.{All-contains, Contains-append_cases}
-use Rattle.joint_model.specs.declared.names.Cell.{Cell}
-use Rattle.joint_model.specs.declared.lines.Act.{Act}
-use Rattle.joint_model.specs.declared.lines.Act.TheVariants as act
-use Rattle.joint_model.specs.declared.events.Op.{Op}
-use Rattle.joint_model.specs.declared.events.Op.TheVariants as op
-use Rattle.joint_model.specs.Lines.{IsManagedThread, is_read}
-use Rattle.joint_model.specs.PeerReplay.{is_thread}
-use Rattle.joint_model.proofs.HeapLemmas.{thread_itself}
-use Rattle.joint_model.proofs.Members.{Contains-filter_to, Contains-map_cases, Contains-nil}
+use Rattle.joint_machine.specs.declared.names.Cell.{Cell}
+use Rattle.joint_machine.specs.declared.lines.Act.{Act}
+use Rattle.joint_machine.specs.declared.lines.Act.TheVariants as act
+use Rattle.joint_machine.specs.declared.events.Op.{Op}
+use Rattle.joint_machine.specs.declared.events.Op.TheVariants as op
+use Rattle.joint_machine.specs.Lines.{IsManagedThread, is_read}
+use Rattle.joint_machine.specs.PeerReplay.{is_thread}
+use Rattle.joint_machine.proofs.HeapLemmas.{thread_itself}
+use Rattle.joint_machine.proofs.Members.{Contains-filter_to, Contains-map_cases, Contains-nil}
 use Rattle.joint_history.specs.Callers.{Pass, own}
 use Rattle.joint_history.specs.Ending.{HasOwn}
 use Rattle.joint_history.specs.Operations.{first_of}
 use Rattle.script_laws.specs.Holding.{entries_by}
-use Rattle.run_laws.specs.Threads.{CallersWaitsEnd, MoreWaitsEnd, OperationsWaitsEnd, WaitsEnd}
+use Rattle.run_laws.specs.Threads.{CallersWaitsEnd, MoreWaitsEnd, OperationsWaitsEnd}
+use Rattle.run_laws.specs.Waits.{WaitsEnd}
 use Rattle.run_laws.proofs.ByThreads.{made_is_by}
 use Rattle.run_laws.proofs.InOrderEnds.{history-events, history-threads, read-managed}
 use Rattle.run_laws.proofs.Answering.{lone}

@@ -1,30 +1,30 @@
--- What a finished run's history is: linked, with all that was queued; each cycle ends in it; it is a run of the one machine whose single
--- graph joins both heaps, sound and complete; and what is read of a freed object is gone. Of the lines it holds, line after line or thread
--- by thread, each once.
-use Rattle.std.specs.Prelude.{◌≡◌, ◌⊎◌, ℕ, ◌<◌, ◌^◌, true, List, [], Some, length, slice_get}
-use Rattle.joint_model.specs.declared.names.Thread.{Thread}
-use Rattle.joint_model.specs.declared.lines.Act.{Act}
-use Rattle.joint_model.specs.declared.events.Op.TheVariants as op
-use Rattle.joint_model.specs.declared.events.Reply.TheVariants as says
-use Rattle.joint_model.specs.Headline.{IsSoundRun, IsCompleteRun}
-use Rattle.joint_model.specs.Histories.{Finished}
-use Rattle.joint_model.specs.Linked.{opening_linkage}
-use Rattle.joint_model.specs.LinkedHistories.{IsLinked, IsLinkedBy, HasQueued, joint_projection}
-use Rattle.joint_model.specs.Readers.{is_aside}
-use Rattle.joint_model.specs.Run.{Moment, IsRun}
-use Rattle.joint_model.specs.Told.{Noted}
-use Rattle.joint_laws.specs.AfterwardsLaws.{ResolveFrees, SweepFrees, ReadsObject, ReadsPeer, IsGoneAfter, NoMirrorBetween, reading_at}
-use Rattle.joint_laws.specs.OwnMarkingLaws.{HasEventAt}
-use Rattle.joint_laws.specs.ReadingLaws.{AreExact}
-use Rattle.joint_history.specs.Ending.{IsFinished}
+-- What a finished run's history is: linked, with all that was queued; each cycle ends in it; it is a run of the one
+-- machine whose single graph joins both heaps, sound and complete; and what is read of a freed object is gone. Of the
+-- lines it holds, line after line or thread by thread, each once.
+-- Believed: the clauses of the program's top call rest on all that stands here.
+use Rattle.std.specs.Prelude.{◌≡◌, ◌⊎◌, ℕ, ◌<◌, true, List, [], Some, slice_get}
+use Rattle.joint_machine.specs.declared.names.Thread.{Thread}
+use Rattle.joint_machine.specs.declared.lines.Act.{Act}
+use Rattle.joint_machine.specs.declared.events.Op.TheVariants as op
+use Rattle.joint_machine.specs.declared.events.Reply.TheVariants as says
+use Rattle.joint_machine.specs.Headline.{IsSoundRun, IsCompleteRun}
+use Rattle.joint_machine.specs.Histories.{Finished}
+use Rattle.joint_machine.specs.Linked.{opening_linkage}
+use Rattle.joint_machine.specs.LinkedHistories.{IsLinked, IsLinkedBy, HasQueued, joint_projection}
+use Rattle.joint_machine.specs.Readers.{is_aside}
+use Rattle.joint_machine.specs.Run.{Moment, IsRun}
+use Rattle.joint_machine.specs.Told.{Noted}
+use Rattle.joint_laws.specs.Afterwards.{IsGoneAfter, NoMirrorBetween, ReadsObject, ReadsPeer, ResolveFrees, SweepFrees, reading_at}
+use Rattle.joint_laws.specs.EventsAt.{HasEventAt}
+use Rattle.joint_laws.specs.Readings.{AreExact}
 use Rattle.history_report.specs.Report.{report}
 use Rattle.script_laws.specs.Ending.{AllCyclesEnd, OwnCyclesEnd}
 use Rattle.script_laws.specs.Holding.{HoldsInOrder, HoldsPerThread}
-use Rattle.script_laws.specs.Laws.{IsOneHistory}
-use Rattle.run_laws.specs.Serial.{HoldsExactly}
-use Rattle.run_laws.specs.Threads.{WaitsEnd}
+use Rattle.script_laws.specs.OneHistory.{IsOneHistory}
+use Rattle.run_laws.specs.Waits.{WaitsEnd}
 
--- from its resolve on, a read of a cell whose target was freed answers gone, unless it is set aside, the caller's pin is filled, or a later cycle is open
+-- from its resolve on, a read of a cell whose target was freed answers gone, unless it is set aside, the caller's pin
+-- is filled, or a later cycle is open
 abbrev pub FreedReadsAreGone : List Noted → Type 0
 FreedReadsAreGone noted = (i j k m : ℕ) (n : Noted) → ResolveFrees noted i k m → i < j → slice_get noted j ≡ Some n → ReadsObject (reading_at noted j).managed.managed n m
     → (is_aside n ≡ true) ⊎ IsGoneAfter (reading_at noted j).managed.managed n.entry.made.caller k n.entry.made.reply
@@ -57,8 +57,8 @@ pub record IsBridgeRun (h : Finished) (noted : List Noted) : Type 0 where
   -- every linked history with the same text is this one
   pub named : (other : Finished) (theirs : IsLinked other) → report other ≡ report h → IsOneHistory other h theirs record { noted = noted; linked = linked }
 
--- the history of a script's run on one thread: it holds the script's lines in their order, and each read answers as the one machine does, `pending` and `unset`
--- included; every linked history that does both is this one
+-- the history of a script's run on one thread: it holds the script's lines in their order, and each read answers as the
+-- one machine does, `pending` and `unset` included; every linked history that does both is this one
 pub record IsRunInOrder (script : List (Thread × Act)) (h : Finished) : Type 0 where
   pub noted : List Noted
   pub kept : IsBridgeRun h noted
@@ -66,17 +66,10 @@ pub record IsRunInOrder (script : List (Thread × Act)) (h : Finished) : Type 0 
   pub exact : AreExact opening_linkage noted
   pub only : (other : Finished) (theirs : IsLinked other) → AreExact opening_linkage theirs.noted → HoldsInOrder script other.entries → IsOneHistory other h theirs record { noted = noted; linked = kept.linked }
 
--- the history of a script's run on many threads: of each thread it holds the lines in their order, and no wait answers `pending`
+-- the history of a script's run on many threads: of each thread it holds the lines in their order, and no wait answers
+-- `pending`
 pub record IsRunByThreads (script : List (Thread × Act)) (h : Finished) : Type 0 where
   pub noted : List Noted
   pub kept : IsBridgeRun h noted
   pub lines : HoldsPerThread script h.entries
   pub waits : WaitsEnd h.entries
-
--- a linked history with all that was queued, which has fewer than 2^64 entries and holds a script's lines in order with exact reads, is the history of its run
-abbrev pub HeldInOrderIsRun : Type 0
-HeldInOrderIsRun = (script : List (Thread × Act)) (h : Finished) → IsFinished h → length h.entries < 2 ^ 64 → HoldsExactly script h.entries → IsRunInOrder script h
-
--- and so it is thread by thread
-abbrev pub HeldByThreadsIsRun : Type 0
-HeldByThreadsIsRun = (script : List (Thread × Act)) (h : Finished) → IsFinished h → length h.entries < 2 ^ 64 → HoldsPerThread script h.entries → WaitsEnd h.entries → IsRunByThreads script h

@@ -1,18 +1,14 @@
--- A run with one cycle more: the threads run their lines, and once all of them have ended the driver hears of what each has made and runs a whole
--- cycle. So the cycle's entries stand behind all others.
+-- A run with one cycle more: the threads run their lines, and once all of them have ended the driver hears of what each
+-- has made and runs a whole cycle. So the cycle's entries stand behind all others.
 use Rattle.std.specs.Prelude.{◌≡◌, ℕ, ◌+◌, ◌<◌, ◌^◌, List, [], ◌∷◌, ◌++◌, All, Contains, length}
 use mathlib.Core.List.{IsPrefix}
-use Rattle.joint_model.specs.declared.names.Phase.TheVariants as at
-use Rattle.joint_model.specs.declared.names.PhaseWord.TheVariants as word
-use Rattle.joint_model.specs.declared.names.Thread.{Thread}
-use Rattle.joint_model.specs.declared.names.Thread.TheVariants.{C}
-use Rattle.joint_model.specs.declared.lines.Act.{Act}
-use Rattle.joint_model.specs.declared.lines.Act.TheVariants as act
-use Rattle.joint_model.specs.declared.events.Entry.{Entry}
-use Rattle.joint_model.specs.Histories.{Finished}
-use Rattle.joint_model.specs.HistoryLines.{caller_line}
-use Rattle.joint_model.specs.Lines.{IsLine, IsThread}
-use Rattle.joint_model.specs.Told.{Noted}
+use Rattle.joint_machine.specs.declared.names.Thread.{Thread}
+use Rattle.joint_machine.specs.declared.names.Thread.TheVariants.{C}
+use Rattle.joint_machine.specs.declared.lines.Act.{Act}
+use Rattle.joint_machine.specs.declared.events.Entry.{Entry}
+use Rattle.joint_machine.specs.Histories.{Finished}
+use Rattle.joint_machine.specs.HistoryLines.{caller_line}
+use Rattle.joint_machine.specs.Lines.{IsLine, IsThread}
 use Rattle.known_laws.specs.Lists.{made_by}
 use Rattle.order_table.specs.declared.views.View.{View}
 use Rattle.joint_history.specs.Callers.{Pass, own}
@@ -20,33 +16,9 @@ use Rattle.joint_history.specs.Desks.{Waiting}
 use Rattle.joint_history.specs.Ending.{HasAll, HasOwn, IsFinished, StillWaits}
 use Rattle.joint_history.specs.Knowing.{line_known}
 use Rattle.joint_history.specs.Operations.{AreAbove}
-use Rattle.script_laws.specs.Holding.{Standing, AreLine, HoldsPerThread}
-use Rattle.run_laws.specs.Final.{IsBridgeRun, IsRunInOrder}
+use Rattle.run_laws.specs.Final.{IsRunInOrder}
 use Rattle.run_laws.specs.Threads.{HoldsItsLines, NoneIsLeft}
-
--- the line of a whole cycle
-abbrev pub cycle_line : Thread × Act
-cycle_line = (C, act.PhaseLine word.Cycle)
-
--- the entries are those of a whole cycle on that line, begun by an idle driver
-pub record AreWholeCycle (number : ℕ) (entries : List Entry) : Type 0 where
-  pub standing : Standing
-  pub idle : standing.phase ≡ at.Idle
-  pub line : AreLine standing number cycle_line entries
-
--- the entries are those of a script's lines, thread by thread, and behind them all those of a cycle on a line of its own
-pub record HoldsThenCycle (script : List (Thread × Act)) (entries : List Entry) : Type 0 where
-  pub before : List Entry
-  pub cycle : List Entry
-  pub all : entries ≡ before ++ cycle
-  pub lines : HoldsPerThread script before
-  pub cycle_is : AreWholeCycle (length script + 1) cycle
-
--- the history of a script's run with one cycle more at its end
-pub record IsRunThenCycle (script : List (Thread × Act)) (h : Finished) : Type 0 where
-  pub noted : List Noted
-  pub kept : IsBridgeRun h noted
-  pub lines : HoldsThenCycle script h.entries
+use Rattle.run_laws.specs.WithCycle.{AreWholeCycle, IsRunThenCycle, cycle_line}
 
 -- a seat has heard of all that a caller made
 abbrev pub HasHeardOf : View → Pass → Type 0
@@ -64,8 +36,8 @@ pub record EndsWithCycle (number : ℕ) (before after : Pass) (others : List Pas
   pub own_more : own after ≡ own before ++ cycle
   pub above : AreAbove heard cycle
 
--- where each caller that was given out has run its thread's lines, nobody else has any, and the driver then made a cycle more, the finished history is that
--- of the script's run with one cycle more
+-- where each caller that was given out has run its thread's lines, nobody else has any, and the driver then made a
+-- cycle more, the finished history is that of the script's run with one cycle more
 abbrev pub CyclesEndRuns : Type 0
 CyclesEndRuns = (script : List (Thread × Act)) (h : Finished) (d : Waiting) (others : List Pass) (before after : Pass) → IsFinished h → length h.entries < 2 ^ 64 → ((line : Thread × Act) → Contains script line → IsLine line.0 line.1)
     → HasAll d (others ++ after ∷ []) → All (HasOwn h.entries) (others ++ after ∷ []) → ((t : Thread) → IsThread t → StillWaits d t → made_by t h.entries ≡ []) → NoneIsLeft script d

@@ -1,17 +1,17 @@
--- A run line after line: the driver's seat hears of each line's entries and tells the next line's caller, so that numbers rise from line to
--- line and what all callers hold is the script in its order.
+-- A run line after line: the driver's seat hears of each line's entries and tells the next line's caller, so that
+-- numbers rise from line to line and what all callers hold is the script in its order.
 use Rattle.std.specs.Prelude.{◌≡◌, ℕ, true, ◌+◌, List, [], ◌∷◌, ◌++◌, All, Contains, Some, length, slice_get, slice_set}
 use mathlib.Core.List.{IsPrefix}
-use Rattle.joint_model.specs.declared.names.Thread.{Thread}
-use Rattle.joint_model.specs.declared.names.Thread.TheVariants.{C}
-use Rattle.joint_model.specs.declared.lines.Act.{Act}
-use Rattle.joint_model.specs.declared.events.Entry.{Entry}
-use Rattle.joint_model.specs.Components.{Rises}
-use Rattle.joint_model.specs.Histories.{Finished}
-use Rattle.joint_model.specs.HistoryLines.{caller_line, entries_in, stands_in}
-use Rattle.joint_model.specs.Lines.{IsManagedThread, IsThread, is_read}
-use Rattle.joint_model.specs.LinkedHistories.{IsLinked}
-use Rattle.joint_model.specs.Readers.{ReadsCell}
+use Rattle.joint_machine.specs.declared.names.Thread.{Thread}
+use Rattle.joint_machine.specs.declared.names.Thread.TheVariants.{C}
+use Rattle.joint_machine.specs.declared.lines.Act.{Act}
+use Rattle.joint_machine.specs.declared.events.Entry.{Entry}
+use Rattle.joint_machine.specs.Components.{Rises}
+use Rattle.joint_machine.specs.Histories.{Finished}
+use Rattle.joint_machine.specs.HistoryLines.{caller_line, entries_in, stands_in}
+use Rattle.joint_machine.specs.Lines.{IsManagedThread, IsThread, is_read}
+use Rattle.joint_machine.specs.LinkedHistories.{IsLinked}
+use Rattle.joint_machine.specs.Readers.{ReadsCell}
 use Rattle.order_table.specs.declared.views.View.{View}
 use Rattle.order_table.specs.Views.{known}
 use Rattle.joint_history.specs.Callers.{Hears, Pass, Tells, own}
@@ -21,9 +21,11 @@ use Rattle.joint_history.specs.Knowing.{line_known}
 use Rattle.joint_history.specs.Operations.{AreAbove, MakesAll}
 use Rattle.script_laws.specs.Asides.{AsidesAreExact, IsAsideBy}
 use Rattle.script_laws.specs.Growing.{numbers_of}
-use Rattle.script_laws.specs.Holding.{Standing, opening_standing, standing_after, AreLine, AreLeft, HoldsSoFar, HoldsInOrder, numbered_from, entries_by}
+use Rattle.script_laws.specs.Holding.{Standing, opening_standing, standing_after, AreLine, AreLeft, HoldsInOrder, numbered_from, entries_by}
+use Rattle.script_laws.specs.SoFar.{HoldsSoFar}
 
--- a call's read was made alone, and its answer is right by a managed list that the caller knows then, in which all stands of the managed list that was known before it of any caller
+-- a call's read was made alone, and its answer is right by a managed list that the caller knows then, in which all
+-- stands of the managed list that was known before it of any caller
 pub record IsAnswered (old new : View) (es : List Entry) (e : Entry) : Type 0 where
   pub alone : es ≡ e ∷ []
   pub list : List Entry
@@ -35,8 +37,8 @@ pub record IsAnswered (old new : View) (es : List Entry) (e : Entry) : Type 0 wh
 abbrev pub ReadsAreAnswered : Thread → View → View → List Entry → Type 0
 ReadsAreAnswered t old new es = IsManagedThread t → (e : Entry) → Contains es e → is_read e.made.op ≡ true → IsAnswered old new es e
 
--- a caller made these entries: they stand at the end of its own, their numbers are above all that the driver's seat knew, and the
--- driver's seat knows them now
+-- a caller made these entries: they stand at the end of its own, their numbers are above all that the driver's seat
+-- knew, and the driver's seat knows them now
 pub record CallerAdds (old new : View) (t : Thread) (mine mine' es : List Entry) : Type 0 where
   pub more : (i : ℕ) → IsPrefix (known old i) (known new i)
   pub above : AreAbove old es
@@ -59,8 +61,8 @@ pub record AreOthers (others : List Pass) : Type 0 where
   pub count : length others ≡ 16
   pub each : (i : ℕ) (p : Pass) → slice_get others i ≡ Some p → p.thread ≡ thread_of (i + 1)
 
--- a read's answer is right by a managed list that the driver's seat knows: all of the managed list that was made before the read stands in it, and nothing that
--- was made after it
+-- a read's answer is right by a managed list that the driver's seat knows: all of the managed list that was made before
+-- the read stands in it, and nothing that was made after it
 pub record IsReadBy (v : View) (before after : List Entry) (e : Entry) : Type 0 where
   pub list : List Entry
   pub begins : IsPrefix list (line_known v 0)
@@ -73,8 +75,9 @@ abbrev pub AllReadBy : View → List Entry → List Entry → Type 0
 AllReadBy v before [] = Unit {0}
 AllReadBy v before (e ∷ es) = (is_read e.made.op ≡ true → IsManagedThread e.made.caller → IsReadBy v before es e) × AllReadBy v (before ++ e ∷ []) es
 
--- these lines have been run, one after another: the entries made are theirs, each caller has its own of them, the driver's seat knows them
--- all, their numbers rise where those of each caller do, and each read was answered by the managed list that was made before it
+-- these lines have been run, one after another: the entries made are theirs, each caller has its own of them, the
+-- driver's seat knows them all, their numbers rise where those of each caller do, and each read was answered by the
+-- managed list that was made before it
 pub record IsRunSoFar (lines : List (ℕ × (Thread × Act))) (s : Standing) (driver : Pass) (others : List Pass) : Type 0 where
   pub made : List Entry
   pub holds : HoldsSoFar opening_standing lines made s
@@ -101,12 +104,14 @@ abbrev pub DriverRunsOn : Type 0
 DriverRunsOn = (lines : List (ℕ × (Thread × Act))) (s : Standing) (driver after : Pass) (others : List Pass) (number : ℕ) (act : Act) (es : List Entry) → AreOthers others → after.thread ≡ driver.thread
     → CallerAdds driver.view after.view C (own driver) (own after) es → AreLine s number (C, act) es → IsRunSoFar lines s driver others → IsRunSoFar (lines ++ (number, (C, act)) ∷ []) (standing_after s number act es) after others
 
--- entries hold the script in line order, and each read among them that is set aside is right by the managed list before it
+-- entries hold the script in line order, and each read among them that is set aside is right by the managed list before
+-- it
 pub record HoldsExactly (script : List (Thread × Act)) (entries : List Entry) : Type 0 where
   pub lines : HoldsInOrder script entries
   pub asides : AsidesAreExact [] entries
 
--- once all lines and the phases left have been run, the finished history, of whose managed list the driver knows a beginning, holds the script so
+-- once all lines and the phases left have been run, the finished history, of whose managed list the driver knows a
+-- beginning, holds the script so
 abbrev pub RunsHoldScript : Type 0
 RunsHoldScript = (script : List (Thread × Act)) (h : Finished) (s : Standing) (driver after : Pass) (others : List Pass) (left : List Entry) → IsLinked h → AreOthers others → after.thread ≡ driver.thread
     → CallerAdds driver.view after.view C (own driver) (own after) left → AreLeft s left → IsRunSoFar (numbered_from 1 script) s driver others → All (HasOwn h.entries) (others ++ after ∷ [])

@@ -1,24 +1,26 @@
--- A run thread by thread: what each thread's caller holds while its lines are run, and that what all hold is the script.
+-- A run thread by thread: what each thread's caller holds while its lines are run, and that what all hold is the
+-- script.
 use Rattle.std.specs.Prelude.{◌≡◌, ℕ, ◌+◌, false, List, [], ◌++◌, All, Contains, Some, length, slice_get, take}
-use Rattle.joint_model.specs.declared.names.Thread.{Thread}
-use Rattle.joint_model.specs.declared.names.Cell.{Cell}
-use Rattle.joint_model.specs.declared.names.Cycle.{Cycle}
-use Rattle.joint_model.specs.declared.lines.Act.{Act}
-use Rattle.joint_model.specs.declared.lines.Act.TheVariants as act
-use Rattle.joint_model.specs.declared.events.Op.TheVariants as op
-use Rattle.joint_model.specs.declared.events.Reply.TheVariants as says
-use Rattle.joint_model.specs.declared.events.Entry.{Entry}
-use Rattle.joint_model.specs.Histories.{Finished}
-use Rattle.joint_model.specs.Lines.{IsLine, IsManagedThread, IsThread}
-use Rattle.joint_model.specs.LinkedHistories.{IsLinked}
-use Rattle.joint_model.specs.PeerReplay.{is_thread}
+use Rattle.joint_machine.specs.declared.names.Thread.{Thread}
+use Rattle.joint_machine.specs.declared.names.Cell.{Cell}
+use Rattle.joint_machine.specs.declared.names.Cycle.{Cycle}
+use Rattle.joint_machine.specs.declared.lines.Act.{Act}
+use Rattle.joint_machine.specs.declared.lines.Act.TheVariants as act
+use Rattle.joint_machine.specs.declared.events.Reply.TheVariants as says
+use Rattle.joint_machine.specs.declared.events.Entry.{Entry}
+use Rattle.joint_machine.specs.Histories.{Finished}
+use Rattle.joint_machine.specs.Lines.{IsLine, IsManagedThread, IsThread}
+use Rattle.joint_machine.specs.LinkedHistories.{IsLinked}
+use Rattle.joint_machine.specs.PeerReplay.{is_thread}
 use Rattle.known_laws.specs.Lists.{made_by}
 use Rattle.joint_history.specs.declared.callers.Receipt.{Receipt}
 use Rattle.joint_history.specs.Callers.{Pass, own}
 use Rattle.joint_history.specs.Desks.{Waiting}
 use Rattle.joint_history.specs.Ending.{HasAll, HasOwn, StillWaits}
 use Rattle.joint_history.specs.Operations.{IsOperation}
-use Rattle.script_laws.specs.Holding.{Standing, opening_standing, standing_after, AreLine, AreLeft, HoldsLines, HoldsSoFar, HoldsPerThread, numbered_from, lines_of}
+use Rattle.script_laws.specs.Holding.{Standing, opening_standing, standing_after, AreLine, AreLeft, HoldsLines, HoldsPerThread, numbered_from, lines_of}
+use Rattle.script_laws.specs.SoFar.{HoldsSoFar}
+use Rattle.run_laws.specs.Waits.{WaitsEnd}
 
 -- the lines of a thread, with their numbers
 abbrev pub thread_lines : Thread → List (Thread × Act) → List (ℕ × (Thread × Act))
@@ -50,21 +52,11 @@ OwnLinesEnd = (script : List (Thread × Act)) (p q : Pass) (s : Standing) (left 
 abbrev pub NoneIsLeft : List (Thread × Act) → Waiting → Type 0
 NoneIsLeft script d = (t : Thread) → IsThread t → StillWaits d t → thread_lines t script ≡ []
 
--- where each caller that was given out holds its thread's lines, and no other thread has any, the finished history holds the script
+-- where each caller that was given out holds its thread's lines, and no other thread has any, the finished history
+-- holds the script
 abbrev pub ThreadsHoldScript : Type 0
 ThreadsHoldScript = (script : List (Thread × Act)) (h : Finished) (d : Waiting) (callers : List Pass) → IsLinked h → ((line : Thread × Act) → Contains script line → IsLine line.0 line.1)
     → HasAll d callers → All (HasOwn h.entries) callers → ((t : Thread) → IsThread t → StillWaits d t → made_by t h.entries ≡ []) → All (HoldsItsLines script) callers → NoneIsLeft script d → HoldsPerThread script h.entries
-
--- a read that waits answered `pending`
-pub record IsWaitPending (e : Entry) : Type 0 where
-  pub cell : Cell
-  pub cycle : Cycle
-  pub waits : e.made.op ≡ op.Line (act.Await cell)
-  pub pending : e.made.reply ≡ says.Pending cycle
-
--- none of these did: each wait is answered once no cycle is in its way
-abbrev pub WaitsEnd : List Entry → Type 0
-WaitsEnd es = (e : Entry) → Contains es e → IsWaitPending e → ⊥
 
 -- so it is with more entries of which none did
 abbrev pub MoreWaitsEnd : Type 0

@@ -1,16 +1,17 @@
 -- What entries made and what is left of it, counted by their events and replies alone.
-use Rattle.std.specs.Prelude.{ℕ, ◌+◌, ◌-◌, Bool, true, false, cond, List, [], ◌∷◌}
-use Rattle.joint_model.specs.declared.lines.Act.TheVariants as act
-use Rattle.joint_model.specs.declared.events.Op.{Op}
-use Rattle.joint_model.specs.declared.events.Op.TheVariants as op
-use Rattle.joint_model.specs.declared.events.Reply.{Reply}
-use Rattle.joint_model.specs.declared.events.Reply.TheVariants as says
-use Rattle.joint_model.specs.declared.events.Entry.{Entry}
+use Rattle.std.specs.Prelude.{ℕ, ◌+◌, ◌-◌, Bool, true, false, List, [], ◌∷◌}
+use Rattle.joint_machine.specs.declared.lines.Act.TheVariants as act
+use Rattle.joint_machine.specs.declared.events.Op.{Op}
+use Rattle.joint_machine.specs.declared.events.Op.TheVariants as op
+use Rattle.joint_machine.specs.declared.events.Reply.{Reply}
+use Rattle.joint_machine.specs.declared.events.Reply.TheVariants as says
+use Rattle.joint_machine.specs.declared.events.Entry.{Entry}
 use Rattle.run_summary.specs.declared.tallies.Objects.{Objects}
 use Rattle.run_summary.specs.declared.tallies.Tally.{Tally}
+use Rattle.run_summary.specs.Lines.{one}
 
--- whether the reply names a managed object, a new one that was met, a peer, a peer that was made with a handle, a peer that was
--- gripped, or a handle; and whether it is `ok` or `cleared`
+-- whether the reply names a managed object, a new one that was met, a peer, a peer that was made with a handle, a peer
+-- that was gripped, or a handle; and whether it is `ok` or `cleared`
 abbrev pub is_m : Reply → Bool
 is_m (says.M m) = true
 is_m _ = false
@@ -86,9 +87,6 @@ freed_managed _ = 0
 abbrev pub freed_peers : Reply → ℕ
 freed_peers (says.Swept j s) = s.count
 freed_peers _ = 0
-
-abbrev pub one : Bool → ℕ
-one b = cond b 1 0
 
 -- with what an event made
 abbrev pub more : Objects → Op → Reply → Objects

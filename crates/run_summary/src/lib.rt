@@ -4,9 +4,10 @@
 //
 //     write_summary(seed, size, mode, lines, &tally, out)?;
 //
-// What is promised: what is written is the four lines as one text; after a fault of the sink a beginning of it was written. The call takes no
-// memory. The tally of a run is what the definitions count from its entries' events and replies; that it is what stands in the state behind
-// the last entry, where a run has it at hand, is a law of `summary_laws`.
+// What is promised: what is written is the four lines as one text; after a fault of the sink a beginning of it was
+// written. The call takes no memory. The tally of a run is what the definitions count from its entries' events and
+// replies; that it is what stands in the state behind the last entry, where a run has it at hand, is a law of
+// `summary_laws`.
 //
 // `specs/Tallies.antt` says what each event and its reply made and took away, and `specs/Summary.antt` has the text.
 #![tactic(auto)]

@@ -64,10 +64,10 @@ fn add_counts(line: &mut Line, lines: u32, tally: &Tally)
     add_objects(line, &tally.left);
 }
 
-/// Writes the summary of a run that was asked for by a seed, a size and a mode: the four lines of those words, of the number of the
-/// script's lines and of the cycles, of what was made, and of what is left of it. They go to the sink as one text, in
-/// whatever portions it takes. It takes no memory. [`Failed`] comes only where the sink's count of faults rose; then a beginning of the
-/// text was written.
+/// Writes the summary of a run that was asked for by a seed, a size and a mode: the four lines of those words, of the
+/// number of the script's lines and of the cycles, of what was made, and of what is left of it. They go to the sink as
+/// one text, in whatever portions it takes. It takes no memory. [`Failed`] comes only where the sink's count of faults
+/// rose; then a beginning of the text was written.
 pub fn write_summary<K: Sink>(
     seed: u64,
     size: u32,

@@ -1,14 +1,15 @@
--- The families of lines that a generated script is made of. Each uses the variables a, b and c of its one thread, and leaves them
--- empty.
+-- The families of lines that a generated script is made of. Each uses the variables a, b and c of its one thread, and
+-- leaves them empty.
+-- Believed: the clauses of the program's top call rest on all that stands here.
 use Rattle.std.specs.Prelude.{ℕ, zero, suc, List, [], ◌∷◌, map, Some}
-use Rattle.joint_model.specs.declared.names.Var.{Var}
-use Rattle.joint_model.specs.declared.names.StaticNo.{StaticNo}
-use Rattle.joint_model.specs.declared.names.Thread.{Thread}
-use Rattle.joint_model.specs.declared.names.Thread.TheVariants.{M, P}
-use Rattle.joint_model.specs.declared.names.Kind.TheVariants.{Plain, Leaf, Bridge, LeafBridge}
-use Rattle.joint_model.specs.declared.names.Sort.TheVariants.{User, Framework}
-use Rattle.joint_model.specs.declared.lines.Act.{Act}
-use Rattle.joint_model.specs.declared.lines.Act.TheVariants as act
+use Rattle.joint_machine.specs.declared.names.Var.{Var}
+use Rattle.joint_machine.specs.declared.names.StaticNo.{StaticNo}
+use Rattle.joint_machine.specs.declared.names.Thread.{Thread}
+use Rattle.joint_machine.specs.declared.names.Thread.TheVariants.{M, P}
+use Rattle.joint_machine.specs.declared.names.Kind.TheVariants.{Plain, Leaf, Bridge, LeafBridge}
+use Rattle.joint_machine.specs.declared.names.Sort.TheVariants.{User, Framework}
+use Rattle.joint_machine.specs.declared.lines.Act.{Act}
+use Rattle.joint_machine.specs.declared.lines.Act.TheVariants as act
 
 -- the variables a, b and c
 abbrev pub var_a : Var

@@ -1,9 +1,9 @@
 -- What is known of every generated script.
 use Rattle.std.specs.Prelude.{◌≡◌, ℕ, ◌+◌, ◌-◌, ◌*◌, ◌/◌, ◌%◌, ◌^◌, ◌≤◌, List, ◌++◌, length, All, codes}
-use Rattle.joint_model.specs.declared.names.Thread.{Thread}
-use Rattle.joint_model.specs.declared.names.Thread.TheVariants.{M, P}
-use Rattle.joint_model.specs.declared.lines.Act.{Act}
-use Rattle.joint_model.specs.declared.lines.Act.TheVariants as act
+use Rattle.joint_machine.specs.declared.names.Thread.{Thread}
+use Rattle.joint_machine.specs.declared.names.Thread.TheVariants.{M, P}
+use Rattle.joint_machine.specs.declared.lines.Act.{Act}
+use Rattle.joint_machine.specs.declared.lines.Act.TheVariants as act
 use Rattle.bridge_script.specs.Scripts.{IsScript, cycles_of, script_text_of}
 use Rattle.script_generator.specs.Families.{lines_by, cached_leaf}
 use Rattle.script_generator.specs.Generated.{family, cycle_after, generated}
@@ -20,7 +20,8 @@ HasLines = (seed size : ℕ) → length (generated seed size) ≡ 6 * size + 3 *
 abbrev pub HasCycles : Type 0
 HasCycles = (seed size : ℕ) → cycles_of (generated seed size) ≡ size / 100
 
--- four families in turn have 27 lines, two thousand families 13,520, and the most that may be asked for 18,928, whatever the seed
+-- four families in turn have 27 lines, two thousand families 13,520, and the most that may be asked for 18,928,
+-- whatever the seed
 pub record HasKnownLengths : Type 0 where
   pub four : (seed : ℕ) → length (generated seed 4) ≡ 27
   pub two_thousand : (seed : ℕ) → length (generated seed 2000) ≡ 13520
@@ -38,8 +39,8 @@ four_families_text =
     ++ codes "m3 bridge a bridge 1 user 0\nm3 new b leaf 0\nm3 set a 0 b\nm3 pass a s2\nm3 drop a\nm3 drop b\n"
     ++ codes "p4 new a 1\np4 new b 1\np4 set a 0 b\np4 set b 0 a\np4 drop a\np4 drop b\n"
 
--- these two scripts, word for word; the hundredth family, with the line `c cycle` behind it; and a family whose number and whose seed
--- have a sum past 64 bits: its shape is that of the sum
+-- these two scripts, word for word; the hundredth family, with the line `c cycle` behind it; and a family whose number
+-- and whose seed have a sum past 64 bits: its shape is that of the sum
 pub record HasKnownTexts : Type 0 where
   pub one : script_text_of (generated 3 1) ≡ one_family_text
   pub four : script_text_of (generated 0 4) ≡ four_families_text
@@ -50,8 +51,8 @@ pub record HasKnownTexts : Type 0 where
 abbrev pub AreScripts : Type 0
 AreScripts = (seed size : ℕ) → size ≤ 2800 → IsScript (generated seed size)
 
--- the line writes no static, or one that is written by its thread alone: in each heap a static is written by the managed thread with
--- one more than the remainder of its number by four
+-- the line writes no static, or one that is written by its thread alone: in each heap a static is written by the
+-- managed thread with one more than the remainder of its number by four
 abbrev pub WritesOwnStatic : Thread × Act → Type 0
 WritesOwnStatic (M t, act.Store x v) = t ≡ 1 + x.0 % 4
 WritesOwnStatic (M t, act.Pass v x) = t ≡ 1 + x.0 % 4

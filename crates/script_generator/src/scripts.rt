@@ -21,8 +21,8 @@ fn lines_of(alloc: Global, seed: u64, size: u32) -> Result<Vec<(Thread, Act)>, A
     Ok(lines)
 }
 
-/// The script of `size` families from the seed's shape on, at most 2,800 of them. Answers `AllocError` where there is no memory for
-/// its lines.
+/// The script of `size` families from the seed's shape on, at most 2,800 of them. Answers `AllocError` where there is
+/// no memory for its lines.
 pub fn generate(alloc: Global, seed: u64, size: u32) -> Result<Script, AllocError>
     requires { size ≤ 2800 }
     ensures { IfOk result (λ script. script ≡ generated seed size) }

@@ -1,25 +1,25 @@
--- A caller that no script can have makes no entry of a linked history and has no line of a script. So what is held of each thread that a
--- script can have is held of all.
+-- A caller that no script can have makes no entry of a linked history and has no line of a script. So what is held of
+-- each thread that a script can have is held of all.
 use Rattle.std.proofs.Common.{◌≡◌, ◌⊎◌, inl, inr, ⊎_elim, ℕ, ◌+◌, ◌≤◌, ◌<◌, true, false, List, [], ◌∷◌, Option, refl, sym, ◌∙◌, ap, subst, arith}
 use Rattle.std.specs.Prelude.{Contains, if◌then◌else◌}
 use Rattle.std.proofs.lemmas.Bool.{cases_Bool, cases_lt}
-use Rattle.joint_model.specs.declared.names.Thread.{Thread}
-use Rattle.joint_model.specs.declared.names.Thread.TheVariants.{M, P, C}
-use Rattle.joint_model.specs.declared.lines.Act.{Act}
-use Rattle.joint_model.specs.Lines.{IsLine, IsThread, is_read}
-use Rattle.joint_model.specs.Linked.{Linkage, opening_linkage}
-use Rattle.joint_model.specs.LinkedHistories.{managed_end}
-use Rattle.joint_model.specs.Readers.{AllMayComeReading, entry_after}
-use Rattle.joint_model.specs.PeerReplay.{is_thread}
-use Rattle.joint_model.specs.Told.{Noted}
-use Rattle.joint_model.proofs.Members.{Contains-here, Contains-there}
+use Rattle.joint_machine.specs.declared.names.Thread.{Thread}
+use Rattle.joint_machine.specs.declared.names.Thread.TheVariants.{M, P, C}
+use Rattle.joint_machine.specs.declared.lines.Act.{Act}
+use Rattle.joint_machine.specs.Lines.{IsLine, IsThread, is_read}
+use Rattle.joint_machine.specs.Linked.{Linkage, opening_linkage}
+use Rattle.joint_machine.specs.LinkedHistories.{managed_end}
+use Rattle.joint_machine.specs.Readers.{AllMayComeReading, entry_after}
+use Rattle.joint_machine.specs.PeerReplay.{is_thread}
+use Rattle.joint_machine.specs.Told.{Noted}
+use Rattle.joint_machine.proofs.Members.{Contains-here, Contains-there}
 use Rattle.bridge_script.proofs.Fitting.{lawful_thread}
 use Rattle.joint_laws.proofs.FittingLists.{event-of}
-use Rattle.known_laws.specs.Growing.{entries}
+use Rattle.known_laws.specs.PastEntries.{entries}
 use Rattle.script_laws.specs.Holding.{opening_standing, HoldsLines, numbered_from, lines_of, entries_by}
 use Rattle.script_laws.specs.Growing.{EachThreadIsAll}
 use Rattle.known_laws.proofs.Lists.{event-thread}
-use Rattle.joint_model.proofs.HeapLemmas.{same_thread}
+use Rattle.joint_machine.proofs.HeapLemmas.{same_thread}
 
 -- whether a thread is one that a script can have
 numbered : (n : ℕ) → ((1 ≤ n) × (n ≤ 8)) ⊎ ((1 ≤ n) × (n ≤ 8) → ⊥)

@@ -1,32 +1,33 @@
--- A read that is set aside was right by the managed list before it, which says which cycle is open and which cells are set as the state has them. So each read of the
--- history answers as the one machine does: any other reply is the machine's already.
+-- A read that is set aside was right by the managed list before it, which says which cycle is open and which cells are
+-- set as the state has them. So each read of the history answers as the one machine does: any other reply is the
+-- machine's already.
 use Rattle.std.proofs.Common.{◌≡◌, ℕ, zero, suc, ◌+◌, ◌==◌, ◌||◌, Bool, true, false, List, [], ◌∷◌, ◌++◌, Option, Some, None, refl, sym, ap, ◌∙◌, subst, arith, true≢false, ne_eqb}
 use Rattle.std.specs.Prelude.{Contains, if◌then◌else◌, replicate}
 use Rattle.std.proofs.lemmas.List.{append-nil}
 use Rattle.std.proofs.lemmas.List.Elements.{Contains-append_left, Contains-append_right}
-use Rattle.joint_model.specs.declared.names.Thread.{Thread}
-use Rattle.joint_model.specs.declared.names.Thread.TheVariants.{M, P, C}
-use Rattle.joint_model.specs.declared.lines.Act.TheVariants as act
-use Rattle.joint_model.specs.declared.events.Op.{Op}
-use Rattle.joint_model.specs.declared.events.Op.TheVariants as op
-use Rattle.joint_model.specs.declared.events.Reply.{Reply}
-use Rattle.joint_model.specs.declared.events.Reply.TheVariants as says
-use Rattle.joint_model.specs.declared.events.Entry.{Entry}
-use Rattle.joint_model.specs.Control.{caller_place}
-use Rattle.joint_model.specs.Heaps.{slot}
-use Rattle.joint_model.specs.HistoryLines.{entries_in, side_line, stands_in}
-use Rattle.joint_model.specs.Lines.{IsEvent, is_peer_event, is_read, list_line, reader_line}
-use Rattle.joint_model.specs.Linked.{Linkage, SideLawful, linkage_after, managed_after, opening_linkage}
-use Rattle.joint_model.specs.LinkedHistories.{managed_end}
-use Rattle.joint_model.specs.Managed.{Managed, read_cell}
-use Rattle.joint_model.specs.ManagedReplay.{managed_answer}
-use Rattle.joint_model.specs.Readers.{AllMayComeReading, EntryMayCome, IsReadReply, ReadsCell, entry_after, reader_after}
-use Rattle.joint_model.specs.Run.{thread_number}
-use Rattle.joint_model.specs.Told.{Noted}
-use Rattle.joint_model.proofs.Members.{Contains-here}
-use Rattle.joint_laws.specs.ReadingLaws.{AreExact}
+use Rattle.joint_machine.specs.declared.names.Thread.{Thread}
+use Rattle.joint_machine.specs.declared.names.Thread.TheVariants.{M, P, C}
+use Rattle.joint_machine.specs.declared.lines.Act.TheVariants as act
+use Rattle.joint_machine.specs.declared.events.Op.{Op}
+use Rattle.joint_machine.specs.declared.events.Op.TheVariants as op
+use Rattle.joint_machine.specs.declared.events.Reply.{Reply}
+use Rattle.joint_machine.specs.declared.events.Reply.TheVariants as says
+use Rattle.joint_machine.specs.declared.events.Entry.{Entry}
+use Rattle.joint_machine.specs.Control.{caller_place}
+use Rattle.joint_machine.specs.Heaps.{slot}
+use Rattle.joint_machine.specs.HistoryLines.{entries_in, side_line, stands_in, list_line, reader_line}
+use Rattle.joint_machine.specs.Lines.{IsEvent, is_peer_event, is_read}
+use Rattle.joint_machine.specs.Linked.{Linkage, SideLawful, linkage_after, managed_after, opening_linkage}
+use Rattle.joint_machine.specs.LinkedHistories.{managed_end}
+use Rattle.joint_machine.specs.Managed.{Managed, read_cell}
+use Rattle.joint_machine.specs.ManagedReplay.{managed_answer}
+use Rattle.joint_machine.specs.Readers.{AllMayComeReading, EntryMayCome, IsReadReply, ReadsCell, entry_after, reader_after}
+use Rattle.joint_machine.specs.Run.{thread_number}
+use Rattle.joint_machine.specs.Told.{Noted}
+use Rattle.joint_machine.proofs.Members.{Contains-here}
+use Rattle.joint_laws.specs.Readings.{AreExact}
 use Rattle.known_laws.specs.Drawn.{open_after}
-use Rattle.known_laws.specs.Growing.{entries}
+use Rattle.known_laws.specs.PastEntries.{entries}
 use Rattle.known_laws.specs.Held.{answers_by, open_number, word_by}
 use Rattle.known_laws.proofs.Held.{reads_are_exact}
 use Rattle.script_laws.specs.Asides.{open_from, open_among, HasSet, IsAsideBy, AsidesAreExact, ExactAsidesAreReplies}

@@ -1,17 +1,19 @@
--- Two linked histories with the same entries and the same last states of both sides are one: the freed lists and notices are those of the
--- states. So two that hold one script's lines in line order are one, where each read answers as the one machine does: told plainly, their notes are the same.
+-- Two linked histories with the same entries and the same last states of both sides are one: the freed lists and
+-- notices are those of the states. So two that hold one script's lines in line order are one, where each read answers
+-- as the one machine does: told plainly, their notes are the same.
 use Rattle.std.proofs.Common.{◌≡◌, ℕ, List, take, sym, ◌∙◌, ap, subst}
-use Rattle.joint_model.specs.Draws.{NumberedFrom}
-use Rattle.joint_model.specs.Histories.{Finished, managed_numbers}
-use Rattle.joint_model.specs.Linked.{Linkage, opening_linkage, replayed}
-use Rattle.joint_model.specs.LinkedHistories.{IsLinked, linked_end, managed_end}
-use Rattle.joint_model.specs.ManagedReplay.{ManagedReplay}
-use Rattle.joint_model.specs.PeerReplay.{PeerReplay}
-use Rattle.joint_model.specs.Told.{Noted}
-use Rattle.joint_model.proofs.HistoryLists.{managed-one, peers-one, four-lists, numbers-take}
+use Rattle.joint_machine.specs.Histories.{Finished, managed_numbers, NumberedFrom}
+use Rattle.joint_machine.specs.Linked.{Linkage, opening_linkage}
+use Rattle.joint_machine.specs.Replaying.{replayed}
+use Rattle.joint_machine.specs.LinkedHistories.{IsLinked, linked_end, managed_end}
+use Rattle.joint_machine.specs.ManagedReplay.{ManagedReplay}
+use Rattle.joint_machine.specs.PeerReplay.{PeerReplay}
+use Rattle.joint_machine.specs.Told.{Noted}
+use Rattle.joint_machine.proofs.HistoryLists.{managed-one, peers-one, four-lists, numbers-take}
 use Rattle.script_laws.specs.Holding.{opening_standing, numbered_from}
-use Rattle.script_laws.specs.Laws.{IsOneHistory, HasOneHistory}
-use Rattle.known_laws.specs.Growing.{entries}
+use Rattle.script_laws.specs.Laws.{HasOneHistory}
+use Rattle.script_laws.specs.OneHistory.{IsOneHistory}
+use Rattle.known_laws.specs.PastEntries.{entries}
 use Rattle.joint_laws.proofs.ExactReads.{exact_readings_are_lawful}
 use Rattle.known_laws.proofs.Retelling.{plain_list}
 use Rattle.script_laws.proofs.Lining.{lines-one}

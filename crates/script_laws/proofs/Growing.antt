@@ -1,17 +1,18 @@
--- Lines come to be held one after another: a further line's entries stand behind all others, and what is left open at the end behind
--- those. Each is an induction over the lines. And lists of the same entries whose numbers rise have one first entry, and then one rest.
+-- Lines come to be held one after another: a further line's entries stand behind all others, and what is left open at
+-- the end behind those. Each is an induction over the lines. And lists of the same entries whose numbers rise have one
+-- first entry, and then one rest.
 use Rattle.std.proofs.Common.{◌≡◌, ⊎_elim, ◌+◌, ◌<◌, List, [], ◌∷◌, ◌++◌, length, refl, sym, ◌∙◌, ap, subst, arith, append_assoc}
 use Rattle.std.specs.Prelude.{Contains}
 use Rattle.std.proofs.lemmas.List.{append-nil}
 use Rattle.std.proofs.lemmas.List.Elements.{All-contains, filter-append}
-use Rattle.joint_model.specs.declared.names.Thread.{Thread}
-use Rattle.joint_model.specs.declared.names.Phase.{Phase}
-use Rattle.joint_model.specs.declared.lines.Act.{Act}
-use Rattle.joint_model.specs.declared.events.Entry.{Entry}
-use Rattle.joint_model.specs.Components.{Rises}
-use Rattle.joint_model.specs.PeerReplay.{is_thread}
-use Rattle.joint_model.specs.Phases.{phases_left, ArePhases}
-use Rattle.joint_model.proofs.Members.{Contains-here, Contains-there, Contains-nil, Contains-cons_cases, Contains-map}
+use Rattle.joint_machine.specs.declared.names.Thread.{Thread}
+use Rattle.joint_machine.specs.declared.names.Phase.{Phase}
+use Rattle.joint_machine.specs.declared.lines.Act.{Act}
+use Rattle.joint_machine.specs.declared.events.Entry.{Entry}
+use Rattle.joint_machine.specs.Components.{Rises}
+use Rattle.joint_machine.specs.PeerReplay.{is_thread}
+use Rattle.joint_machine.specs.Phases.{phases_left, ArePhases}
+use Rattle.joint_machine.proofs.Members.{Contains-here, Contains-there, Contains-nil, Contains-cons_cases, Contains-map}
 use Rattle.script_laws.specs.Holding.{standing_after, AreLine, AreLeft, numbered_from}
 use Rattle.script_laws.specs.Growing.{HeldLinesGrow, HeldLinesEnd, IdleLeavesNothing, NumbersGoOn, LinesOfGoOn, numbers_of, RisingEntriesAreOne}
 

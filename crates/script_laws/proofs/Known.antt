@@ -1,11 +1,12 @@
--- What the words of an event and the state together tell of the event, for each event of a managed or a peer thread: all of it.
+-- What the words of an event and the state together tell of the event, for each event of a managed or a peer thread:
+-- all of it.
 use Rattle.std.proofs.Common.{◌≡◌, ◌<◌, ◌≤◌, ◌∷◌, decimal, refl, sym, ◌∙◌, ap, arith}
-use Rattle.joint_model.specs.declared.names.Thread.{Thread}
-use Rattle.joint_model.specs.declared.lines.Act.{Act}
-use Rattle.joint_model.specs.declared.lines.Act.TheVariants as act
-use Rattle.joint_model.specs.declared.events.Op.{Op}
-use Rattle.joint_model.specs.declared.events.Op.TheVariants as op
-use Rattle.joint_model.specs.Lines.{IsVar, IsVarOrNone}
+use Rattle.joint_machine.specs.declared.names.Thread.{Thread}
+use Rattle.joint_machine.specs.declared.lines.Act.{Act}
+use Rattle.joint_machine.specs.declared.lines.Act.TheVariants as act
+use Rattle.joint_machine.specs.declared.events.Op.{Op}
+use Rattle.joint_machine.specs.declared.events.Op.TheVariants as op
+use Rattle.joint_machine.specs.Lines.{IsVar, IsVarOrNone}
 use Rattle.bridge_script.specs.Words.{act_words}
 use Rattle.history_report.specs.Report.{event_words}
 use Rattle.script_laws.proofs.Reading.{Names, read_event, read-number, read-var, read-optional, read-kind, read-sort, read-static, read-own, read-cell, read-global}

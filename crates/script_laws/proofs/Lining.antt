@@ -1,32 +1,33 @@
--- The entries of each line, and of all lines, are the same in two lists that hold them. Two entries of one phase are one, as the state
--- has one event of it; a `mark` sweeps exactly where a marking is open; of two refusals on one line both name the driver's phase; and
--- the events of another operation go by the replies so far.
+-- The entries of each line, and of all lines, are the same in two lists that hold them. Two entries of one phase are
+-- one, as the state has one event of it; a `mark` sweeps exactly where a marking is open; of two refusals on one line
+-- both name the driver's phase; and the events of another operation go by the replies so far.
 use Rattle.std.proofs.Common.{◌≡◌, ◌⊎◌, inl, inr, ℕ, List, [], ◌∷◌, ◌++◌, length, Option, Some, None, refl, sym, ◌∙◌, ap, subst}
 use Rattle.std.proofs.lemmas.List.{append-nil}
 use Rattle.std.proofs.lemmas.Option.{same_Some}
-use Rattle.joint_model.specs.declared.names.Thread.{Thread}
-use Rattle.joint_model.specs.declared.names.Thread.TheVariants.{M, P, C}
-use Rattle.joint_model.specs.declared.names.Phase.{Phase}
-use Rattle.joint_model.specs.declared.names.PhaseWord.{PhaseWord}
-use Rattle.joint_model.specs.declared.names.PhaseWord.TheVariants as word
-use Rattle.joint_model.specs.declared.lines.Act.{Act}
-use Rattle.joint_model.specs.declared.lines.Act.TheVariants as act
-use Rattle.joint_model.specs.declared.events.Op.{Op}
-use Rattle.joint_model.specs.declared.events.Op.TheVariants as op
-use Rattle.joint_model.specs.declared.events.Reply.{Reply}
-use Rattle.joint_model.specs.declared.events.Reply.TheVariants as says
-use Rattle.joint_model.specs.declared.events.Entry.{Entry}
-use Rattle.joint_model.specs.Control.{Stand, weakening, MayBeginNow}
-use Rattle.joint_model.specs.Managed.{candidates_of}
-use Rattle.joint_model.specs.Draws.{NumberedFrom}
-use Rattle.joint_model.specs.Lines.{IsLine}
-use Rattle.joint_model.specs.Linked.{Linkage, replayed}
-use Rattle.joint_model.specs.PeerReplay.{PeerReplay, Marking, begun, SweepAllows}
-use Rattle.joint_model.specs.Told.{Told, Noted}
-use Rattle.joint_model.specs.Phases.{next_phase, phases_left, phases_of, IsEventOf, AreTimes, AreMarkAfterSweep, AreRestores, ArePhase, candidates_after, ArePhases, NamesPhase, AreRefusal}
+use Rattle.joint_machine.specs.declared.names.Thread.{Thread}
+use Rattle.joint_machine.specs.declared.names.Thread.TheVariants.{M, P, C}
+use Rattle.joint_machine.specs.declared.names.Phase.{Phase}
+use Rattle.joint_machine.specs.declared.names.PhaseWord.{PhaseWord}
+use Rattle.joint_machine.specs.declared.names.PhaseWord.TheVariants as word
+use Rattle.joint_machine.specs.declared.lines.Act.{Act}
+use Rattle.joint_machine.specs.declared.lines.Act.TheVariants as act
+use Rattle.joint_machine.specs.declared.events.Op.{Op}
+use Rattle.joint_machine.specs.declared.events.Op.TheVariants as op
+use Rattle.joint_machine.specs.declared.events.Reply.{Reply}
+use Rattle.joint_machine.specs.declared.events.Reply.TheVariants as says
+use Rattle.joint_machine.specs.declared.events.Entry.{Entry}
+use Rattle.joint_machine.specs.Control.{Stand, weakening, MayBeginNow}
+use Rattle.joint_machine.specs.Managed.{candidates_of}
+use Rattle.joint_machine.specs.Histories.{NumberedFrom}
+use Rattle.joint_machine.specs.Lines.{IsLine}
+use Rattle.joint_machine.specs.Linked.{Linkage}
+use Rattle.joint_machine.specs.Replaying.{replayed}
+use Rattle.joint_machine.specs.PeerReplay.{PeerReplay, Marking, begun, SweepAllows}
+use Rattle.joint_machine.specs.Told.{Told, Noted}
+use Rattle.joint_machine.specs.Phases.{next_phase, phases_left, phases_of, IsEventOf, AreTimes, AreMarkAfterSweep, AreRestores, ArePhase, candidates_after, ArePhases, NamesPhase, AreRefusal}
 use Rattle.script_laws.specs.Holding.{AreEventsAfter, Standing, AreWord, AreEvents, standing_after, HoldsLines}
 use Rattle.script_laws.proofs.OneNote.{Agree}
-use Rattle.known_laws.specs.Growing.{entries}
+use Rattle.known_laws.specs.PastEntries.{entries}
 use Rattle.known_laws.proofs.Retelling.{AllPlain}
 use Rattle.script_laws.proofs.Sharing.{OneOn, Shares, Comes, comes-of, agree, next-no, one-op, one-phase, one-clear, shares-none, shares-cons, shares-then, shares-by, times-share}
 

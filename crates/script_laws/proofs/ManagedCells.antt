@@ -1,24 +1,25 @@
--- What an entry of the managed list does to the open cycle and to the cells: a snap, a resolve and an abandon alone change the cycle, as the events say, and a
--- `weak` that answers ok alone sets a cell, its own. A case for each event, since the machine's answers are computed by cases.
+-- What an entry of the managed list does to the open cycle and to the cells: a snap, a resolve and an abandon alone
+-- change the cycle, as the events say, and a `weak` that answers ok alone sets a cell, its own. A case for each event,
+-- since the machine's answers are computed by cases.
 use Rattle.std.proofs.Common.{◌≡◌, ⊎_elim, ℕ, Bool, true, false, Option, Some, None, refl, sym, ap, ◌∙◌, subst}
 use Rattle.std.specs.Prelude.{if◌then◌else◌, slice_set}
-use Rattle.joint_model.specs.declared.names.Thread.{Thread}
-use Rattle.joint_model.specs.declared.names.Kind.{Kind}
-use Rattle.joint_model.specs.declared.names.Sort.{Sort}
-use Rattle.joint_model.specs.declared.lines.Act.{Act}
-use Rattle.joint_model.specs.declared.lines.Act.TheVariants as act
-use Rattle.joint_model.specs.declared.events.Op.{Op}
-use Rattle.joint_model.specs.declared.events.Op.TheVariants as op
-use Rattle.joint_model.specs.declared.events.Reply.{Reply}
-use Rattle.joint_model.specs.declared.events.Reply.TheVariants as says
-use Rattle.joint_model.specs.Heaps.{Answered, answer, slot, place, is_full, is_freed}
-use Rattle.joint_model.specs.Managed.{Managed, OpenCycle, managed_name, managed_line, adopted, met, given_up, with_row, cell_set, target_read, cell_read, read_cell, pin_taken, without_handle, twin_met, twin_kind, twin_fields}
-use Rattle.joint_model.specs.ManagedReplay.{ManagedReplay, ManagedAllows, managed_answer, registered}
-use Rattle.joint_model.specs.Readers.{SetsCell}
-use Rattle.joint_model.specs.Run.{thread_number}
-use Rattle.joint_model.specs.Told.{Told, snap_of, contraction_of, resolution_of, phase_of}
-use Rattle.joint_model.proofs.HeapLemmas.{adopt_by-managed}
-use Rattle.joint_model.proofs.Joining.{same_or_not, slice_get-set_other}
+use Rattle.joint_machine.specs.declared.names.Thread.{Thread}
+use Rattle.joint_machine.specs.declared.names.Kind.{Kind}
+use Rattle.joint_machine.specs.declared.names.Sort.{Sort}
+use Rattle.joint_machine.specs.declared.lines.Act.{Act}
+use Rattle.joint_machine.specs.declared.lines.Act.TheVariants as act
+use Rattle.joint_machine.specs.declared.events.Op.{Op}
+use Rattle.joint_machine.specs.declared.events.Op.TheVariants as op
+use Rattle.joint_machine.specs.declared.events.Reply.{Reply}
+use Rattle.joint_machine.specs.declared.events.Reply.TheVariants as says
+use Rattle.joint_machine.specs.Heaps.{Answered, answer, slot, place, is_full, is_freed}
+use Rattle.joint_machine.specs.Managed.{Managed, OpenCycle, managed_name, managed_line, adopted, met, given_up, with_row, cell_set, target_read, cell_read, read_cell, pin_taken, without_handle, twin_met, twin_kind, twin_fields}
+use Rattle.joint_machine.specs.ManagedReplay.{ManagedReplay, ManagedAllows, managed_answer, registered}
+use Rattle.joint_machine.specs.Readers.{SetsCell}
+use Rattle.joint_machine.specs.Run.{thread_number}
+use Rattle.joint_machine.specs.Told.{Told, snap_of, contraction_of, resolution_of, phase_of}
+use Rattle.joint_machine.proofs.HeapLemmas.{adopt_by-managed}
+use Rattle.joint_machine.proofs.Joining.{same_or_not, slice_get-set_other}
 use Rattle.joint_laws.proofs.KeptPins.{weak_by, take_by}
 use Rattle.joint_laws.proofs.ManagedMoves.{met_by}
 use Rattle.joint_laws.proofs.ManagedSteps.{meet_by-managed, give_by-managed}

@@ -1,33 +1,33 @@
--- Two linked histories with one text are one. Line by line, the text gives the caller and the line, and the event's words; these and the
--- state give the event; of a refusal the reply's words give its phase, and of a read that is set aside what it answers. Then the entry and what is told plainly of it are one.
+-- Two linked histories with one text are one. Line by line, the text gives the caller and the line, and the event's
+-- words; these and the state give the event; of a refusal the reply's words give its phase, and of a read that is set
+-- aside what it answers. Then the entry and what is told plainly of it are one.
 use Rattle.std.proofs.Common.{◌≡◌, ℕ, suc, ◌<◌, ◌≤◌, ◌^◌, ◌⊎◌, inl, inr, Bool, true, false, List, [], ◌∷◌, ◌++◌, get_or, codes, decimal, length, ◌+◌, refl, sym, ◌∙◌, ap, subst, arith, lit≤, true≢false}
 use Rattle.std.proofs.lemmas.List.{append_cancel_left, length-map}
-use Rattle.joint_model.specs.declared.names.Phase.{Phase}
-use Rattle.joint_model.specs.declared.names.Phase.TheVariants as at
-use Rattle.joint_model.specs.declared.names.PhaseWord.TheVariants as word
-use Rattle.joint_model.specs.declared.names.Thread.{Thread}
-use Rattle.joint_model.specs.declared.names.Thread.TheVariants.{C}
-use Rattle.joint_model.specs.declared.lines.Act.TheVariants as act
-use Rattle.joint_model.specs.declared.events.Op.{Op}
-use Rattle.joint_model.specs.declared.events.Op.TheVariants as op
-use Rattle.joint_model.specs.declared.events.Reply.{Reply}
-use Rattle.joint_model.specs.declared.events.Reply.TheVariants as says
-use Rattle.joint_model.specs.declared.events.Entry.{Entry}
-use Rattle.joint_model.specs.Histories.{Finished}
-use Rattle.joint_model.specs.Lines.{IsEvent, is_read}
-use Rattle.joint_model.specs.Draws.{NumberedFrom}
-use Rattle.joint_model.specs.Linked.{Linkage, opening_linkage}
-use Rattle.joint_model.specs.LinkedHistories.{IsLinked, managed_end}
-use Rattle.joint_model.specs.Readers.{ReadsCell, entry_after, replayed_reading}
-use Rattle.joint_model.specs.Run.{thread_number}
-use Rattle.joint_model.specs.Told.{Noted}
-use Rattle.byte_streams.specs.Drafts.{after_spaces}
+use Rattle.joint_machine.specs.declared.names.Phase.{Phase}
+use Rattle.joint_machine.specs.declared.names.Phase.TheVariants as at
+use Rattle.joint_machine.specs.declared.names.PhaseWord.TheVariants as word
+use Rattle.joint_machine.specs.declared.names.Thread.{Thread}
+use Rattle.joint_machine.specs.declared.names.Thread.TheVariants.{C}
+use Rattle.joint_machine.specs.declared.lines.Act.TheVariants as act
+use Rattle.joint_machine.specs.declared.events.Op.{Op}
+use Rattle.joint_machine.specs.declared.events.Op.TheVariants as op
+use Rattle.joint_machine.specs.declared.events.Reply.{Reply}
+use Rattle.joint_machine.specs.declared.events.Reply.TheVariants as says
+use Rattle.joint_machine.specs.declared.events.Entry.{Entry}
+use Rattle.joint_machine.specs.Histories.{Finished, NumberedFrom}
+use Rattle.joint_machine.specs.Lines.{IsEvent, is_read}
+use Rattle.joint_machine.specs.Linked.{Linkage, opening_linkage}
+use Rattle.joint_machine.specs.LinkedHistories.{IsLinked, managed_end}
+use Rattle.joint_machine.specs.Readers.{ReadsCell, entry_after, replayed_reading}
+use Rattle.joint_machine.specs.Run.{thread_number}
+use Rattle.joint_machine.specs.Told.{Noted}
+use Rattle.byte_streams.specs.Spaced.{after_spaces}
 use Rattle.history_report.specs.Report.{event_words, reply_words, entries_text, end_text}
 use Rattle.text_words.proofs.Cutting.{cut-first, words-one}
 use Rattle.script_laws.proofs.Reading.{is_word}
 use Rattle.script_laws.specs.Laws.{HasOneText}
 use Rattle.script_laws.proofs.OneNote.{Agree, Allowed, caller-cites, one-note}
-use Rattle.known_laws.specs.Growing.{entries}
+use Rattle.known_laws.specs.PastEntries.{entries}
 use Rattle.known_laws.proofs.Retelling.{PlainComes, noting}
 use Rattle.script_laws.proofs.Sharing.{comes-of}
 use Rattle.script_laws.proofs.Finishing.{ends-tell}
@@ -109,7 +109,8 @@ cell-of (op.Line (act.Await k)) e = (k.0, refl)
 cell-of (op.Line a) e = absurd (let f : false ≡ true = e in cc)
 cell-of _ e = absurd (let f : false ≡ true = e in cc)
 
--- two entries that may come in one state, by their callers, with the same line of text: of one place, and one event where one is a read
+-- two entries that may come in one state, by their callers, with the same line of text: of one place, and one event
+-- where one is a read
 record InTurn (s : Linkage) (n : Noted) : Type 0 where
   event : IsEvent n.entry.made.caller n.entry.made.op
   short : n.entry.made.index < 2 ^ 32

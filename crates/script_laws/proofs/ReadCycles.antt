@@ -1,19 +1,20 @@
--- A read opens and ends no cycle. So cycles end in a linked history where they do without the reads that are set aside, which is a lawful list.
+-- A read opens and ends no cycle. So cycles end in a linked history where they do without the reads that are set aside,
+-- which is a lawful list.
 use Rattle.std.proofs.Common.{◌≡◌, Bool, true, false, List, [], ◌∷◌, refl, sym, subst}
-use Rattle.joint_model.specs.declared.names.Cycle.{Cycle}
-use Rattle.joint_model.specs.declared.events.Op.{Op}
-use Rattle.joint_model.specs.declared.events.Op.TheVariants as op
-use Rattle.joint_model.specs.declared.events.Entry.{Entry}
-use Rattle.joint_model.specs.Histories.{Finished}
-use Rattle.joint_model.specs.Lines.{is_read}
-use Rattle.joint_model.specs.Linked.{opening_linkage}
-use Rattle.joint_model.specs.LinkedHistories.{IsLinkedBy, managed_end}
-use Rattle.joint_model.specs.Readers.{is_aside, is_set_aside}
-use Rattle.joint_model.specs.Told.{Noted}
-use Rattle.joint_model.proofs.Deciding.{and-true}
+use Rattle.joint_machine.specs.declared.names.Cycle.{Cycle}
+use Rattle.joint_machine.specs.declared.events.Op.{Op}
+use Rattle.joint_machine.specs.declared.events.Op.TheVariants as op
+use Rattle.joint_machine.specs.declared.events.Entry.{Entry}
+use Rattle.joint_machine.specs.Histories.{Finished}
+use Rattle.joint_machine.specs.Lines.{is_read}
+use Rattle.joint_machine.specs.Linked.{opening_linkage}
+use Rattle.joint_machine.specs.LinkedHistories.{IsLinkedBy, managed_end}
+use Rattle.joint_machine.specs.Readers.{is_aside, is_set_aside}
+use Rattle.joint_machine.specs.Told.{Noted}
+use Rattle.joint_machine.proofs.Deciding.{and-true}
 use Rattle.joint_laws.specs.ReadingLaws.{without_aside}
 use Rattle.joint_laws.proofs.ReadsAside.{reading_is_lawful, without-cons}
-use Rattle.known_laws.specs.Growing.{entries}
+use Rattle.known_laws.specs.PastEntries.{entries}
 use Rattle.script_laws.specs.Ending.{ResolvesLater, ResolveComes, AllCyclesEnd, ResolvesAs, ResolveOf, IsOwnEnded, OwnCyclesEnd}
 use Rattle.script_laws.proofs.OwnCycles.{own-ends}
 use Rattle.script_laws.proofs.ThreadEnding.{resolves-more, ended-more}

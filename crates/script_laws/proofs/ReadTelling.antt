@@ -1,23 +1,24 @@
--- Every linked list of entries, reads among them, has one with the same entries that is told plainly and leads to the same sides. Of a read it is kept what
--- it answers: that it waits for a cycle, whose number is bounded, that its cell is unset, or what the managed state gives.
+-- Every linked list of entries, reads among them, has one with the same entries that is told plainly and leads to the
+-- same sides. Of a read it is kept what it answers: that it waits for a cycle, whose number is bounded, that its cell
+-- is unset, or what the managed state gives.
 use Rattle.std.proofs.Common.{◌≡◌, ℕ, ◌<◌, Bool, true, false, inl, List, [], ◌∷◌, Option, refl, sym, ◌∙◌, ap, subst}
 use Rattle.std.specs.Prelude.{if◌then◌else◌}
-use Rattle.joint_model.specs.declared.names.Thread.{Thread}
-use Rattle.joint_model.specs.declared.names.Thread.TheVariants.{M, P, C}
-use Rattle.joint_model.specs.declared.lines.Act.TheVariants as act
-use Rattle.joint_model.specs.declared.events.Op.{Op}
-use Rattle.joint_model.specs.declared.events.Op.TheVariants as op
-use Rattle.joint_model.specs.declared.events.Reply.{Reply}
-use Rattle.joint_model.specs.declared.events.Reply.TheVariants as says
-use Rattle.joint_model.specs.declared.events.Entry.{Entry}
-use Rattle.joint_model.specs.Control.{Stand}
-use Rattle.joint_model.specs.Lines.{is_read}
-use Rattle.joint_model.specs.Linked.{Linkage, MayCome, linkage_after}
-use Rattle.joint_model.specs.Managed.{Managed, read_cell}
-use Rattle.joint_model.specs.Readers.{ReadsCell, MayBePending, IsReadReply, ReaderMayCome, EntryMayCome, AllMayComeReading, reader_after, entry_after, replayed_reading}
-use Rattle.joint_model.specs.Run.{thread_number}
-use Rattle.joint_model.specs.Told.{Told, Noted}
-use Rattle.known_laws.specs.Growing.{entries}
+use Rattle.joint_machine.specs.declared.names.Thread.{Thread}
+use Rattle.joint_machine.specs.declared.names.Thread.TheVariants.{M, P, C}
+use Rattle.joint_machine.specs.declared.lines.Act.TheVariants as act
+use Rattle.joint_machine.specs.declared.events.Op.{Op}
+use Rattle.joint_machine.specs.declared.events.Op.TheVariants as op
+use Rattle.joint_machine.specs.declared.events.Reply.{Reply}
+use Rattle.joint_machine.specs.declared.events.Reply.TheVariants as says
+use Rattle.joint_machine.specs.declared.events.Entry.{Entry}
+use Rattle.joint_machine.specs.Control.{Stand}
+use Rattle.joint_machine.specs.Lines.{is_read}
+use Rattle.joint_machine.specs.Linked.{Linkage, MayCome, linkage_after}
+use Rattle.joint_machine.specs.Managed.{Managed, read_cell}
+use Rattle.joint_machine.specs.Readers.{ReadsCell, MayBePending, IsReadReply, ReaderMayCome, EntryMayCome, AllMayComeReading, reader_after, entry_after, replayed_reading}
+use Rattle.joint_machine.specs.Run.{thread_number}
+use Rattle.joint_machine.specs.Told.{Told, Noted}
+use Rattle.known_laws.specs.PastEntries.{entries}
 use Rattle.known_laws.proofs.Retelling.{PlainComes, Near, with_stand, plainly, noting}
 
 -- what a read answers, with a bound on the cycle for which it waits

@@ -1,14 +1,14 @@
--- What a read answers is read back from its words: of one that waits the cycle, which is bounded; that its cell is unset; and every other answer is that of the
--- managed state.
+-- What a read answers is read back from its words: of one that waits the cycle, which is bounded; that its cell is
+-- unset; and every other answer is that of the managed state.
 use Rattle.std.proofs.Common.{◌≡◌, ℕ, ◌≤◌, ◌<◌, ◌^◌, true, false, List, [], ◌++◌, get_or, Option, Some, None, refl, sym, ◌∙◌, ap, subst, arith}
-use Rattle.joint_model.specs.declared.names.Cycle.{Cycle}
-use Rattle.joint_model.specs.declared.events.Reply.{Reply}
-use Rattle.joint_model.specs.declared.events.Reply.TheVariants as says
-use Rattle.joint_model.specs.Heaps as heaps
-use Rattle.joint_model.specs.Heaps.{slot, is_freed}
-use Rattle.joint_model.specs.Managed.{Managed, OpenCycle, target_read, cell_read, read_cell}
-use Rattle.joint_model.specs.Readers.{is_set_aside}
-use Rattle.joint_model.proofs.Deciding.{option-cases, test-cases}
+use Rattle.joint_machine.specs.declared.names.Cycle.{Cycle}
+use Rattle.joint_machine.specs.declared.events.Reply.{Reply}
+use Rattle.joint_machine.specs.declared.events.Reply.TheVariants as says
+use Rattle.joint_machine.specs.Heaps as heaps
+use Rattle.joint_machine.specs.Heaps.{slot, is_freed}
+use Rattle.joint_machine.specs.Managed.{Managed, OpenCycle, target_read, cell_read, read_cell}
+use Rattle.joint_machine.specs.Readers.{is_set_aside}
+use Rattle.joint_machine.proofs.Deciding.{option-cases, test-cases}
 use Rattle.history_report.specs.Report.{reply_words}
 use Rattle.text_words.proofs.Decimals.{decimal-one}
 use Rattle.script_laws.proofs.ReadTelling.{Answered}

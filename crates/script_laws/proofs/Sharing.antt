@@ -1,33 +1,34 @@
--- Two lists of entries that hold the same lines, each entry one that may come and is told plainly, are the same: the next event of
--- an operation is decided by the replies so far, and that of a phase by the state.
+-- Two lists of entries that hold the same lines, each entry one that may come and is told plainly, are the same: the
+-- next event of an operation is decided by the replies so far, and that of a phase by the state.
 use Rattle.std.proofs.Common.{◌≡◌, ℕ, ◌+◌, List, [], ◌∷◌, ◌++◌, length, Option, Some, refl, sym, ◌∙◌, ap, subst, append_assoc}
 use Rattle.std.proofs.lemmas.Option.{same_Some}
-use Rattle.joint_model.specs.declared.names.Thread.{Thread}
-use Rattle.joint_model.specs.declared.names.Thread.TheVariants.{M, P, C}
-use Rattle.joint_model.specs.declared.names.PhaseWord.{PhaseWord}
-use Rattle.joint_model.specs.declared.names.PhaseWord.TheVariants as word
-use Rattle.joint_model.specs.declared.names.Cycle.{Cycle}
-use Rattle.joint_model.specs.declared.names.HNum.{HNum}
-use Rattle.joint_model.specs.declared.lines.Act.{Act}
-use Rattle.joint_model.specs.declared.lines.Act.TheVariants as act
-use Rattle.joint_model.specs.declared.events.Op.{Op}
-use Rattle.joint_model.specs.declared.events.Op.TheVariants as op
-use Rattle.joint_model.specs.declared.events.Reply.{Reply}
-use Rattle.joint_model.specs.declared.events.Reply.TheVariants as says
-use Rattle.joint_model.specs.declared.events.Entry.{Entry}
-use Rattle.joint_model.specs.Control.{Stand, snapped, contracted, weakening, restoring, restored, MayContractNow, MayMirrorNow, MayWeakenNow, MayRestoreNow, MayClearNow, MayResolveNow, IsCandidateHandle}
-use Rattle.joint_model.specs.Draws.{NumberedFrom}
-use Rattle.joint_model.specs.Lines.{is_peer_event}
-use Rattle.joint_model.specs.Linked.{Linkage, linkage_after, replayed, SideLawful}
-use Rattle.joint_model.specs.Managed.{Managed, handle_of, candidates_of}
-use Rattle.joint_model.specs.ManagedReplay.{ManagedReplay, ManagedAllows}
-use Rattle.joint_model.specs.PeerReplay.{swept}
-use Rattle.joint_model.specs.Peers.{Issued}
-use Rattle.joint_model.specs.Told.{Told, Noted, snap_of, references_of, resolution_of}
-use Rattle.joint_model.specs.Phases.{IsEventOf, IsClear, AreEach, AreTimes}
+use Rattle.joint_machine.specs.declared.names.Thread.{Thread}
+use Rattle.joint_machine.specs.declared.names.Thread.TheVariants.{M, P, C}
+use Rattle.joint_machine.specs.declared.names.PhaseWord.{PhaseWord}
+use Rattle.joint_machine.specs.declared.names.PhaseWord.TheVariants as word
+use Rattle.joint_machine.specs.declared.names.Cycle.{Cycle}
+use Rattle.joint_machine.specs.declared.names.HNum.{HNum}
+use Rattle.joint_machine.specs.declared.lines.Act.{Act}
+use Rattle.joint_machine.specs.declared.lines.Act.TheVariants as act
+use Rattle.joint_machine.specs.declared.events.Op.{Op}
+use Rattle.joint_machine.specs.declared.events.Op.TheVariants as op
+use Rattle.joint_machine.specs.declared.events.Reply.{Reply}
+use Rattle.joint_machine.specs.declared.events.Reply.TheVariants as says
+use Rattle.joint_machine.specs.declared.events.Entry.{Entry}
+use Rattle.joint_machine.specs.Control.{Stand, snapped, contracted, weakening, restoring, restored, MayContractNow, MayMirrorNow, MayWeakenNow, MayRestoreNow, MayClearNow, MayResolveNow, IsCandidateHandle}
+use Rattle.joint_machine.specs.Histories.{NumberedFrom}
+use Rattle.joint_machine.specs.Lines.{is_peer_event}
+use Rattle.joint_machine.specs.Linked.{Linkage, linkage_after, SideLawful}
+use Rattle.joint_machine.specs.Replaying.{replayed}
+use Rattle.joint_machine.specs.Managed.{Managed, handle_of, candidates_of}
+use Rattle.joint_machine.specs.ManagedReplay.{ManagedReplay, ManagedAllows}
+use Rattle.joint_machine.specs.PeerReplay.{swept}
+use Rattle.joint_machine.specs.Peers.{Issued}
+use Rattle.joint_machine.specs.Told.{Told, Noted, snap_of, references_of, resolution_of}
+use Rattle.joint_machine.specs.Phases.{IsEventOf, IsClear, AreEach, AreTimes}
 use Rattle.script_laws.specs.Holding.{next_event, IsOnLine, AreOnLine}
 use Rattle.script_laws.proofs.OneNote.{Agree, Allowed, one-note}
-use Rattle.known_laws.specs.Growing.{entries}
+use Rattle.known_laws.specs.PastEntries.{entries}
 use Rattle.known_laws.proofs.Retelling.{AllPlain, PlainComes, making}
 
 -- two events of one phase that may come in one state are the same

@@ -1,22 +1,24 @@
--- In a linked history only the driver opens, resolves and abandons cycles. So where the driver's entries end each cycle, all entries do.
+-- In a linked history only the driver opens, resolves and abandons cycles. So where the driver's entries end each
+-- cycle, all entries do.
 use Rattle.std.proofs.Common.{◌≡◌, ℕ, Option, List, [], ◌∷◌, refl, subst}
-use Rattle.joint_model.specs.declared.names.Thread.{Thread}
-use Rattle.joint_model.specs.declared.names.Thread.TheVariants.{M, P, C}
-use Rattle.joint_model.specs.declared.events.Op.{Op}
-use Rattle.joint_model.specs.declared.events.Op.TheVariants as op
-use Rattle.joint_model.specs.declared.events.Entry.{Entry}
-use Rattle.joint_model.specs.Lines.{IsEvent, is_read}
-use Rattle.joint_model.specs.Histories.{Finished}
-use Rattle.joint_model.specs.Linked.{Linkage, opening_linkage}
-use Rattle.joint_model.specs.LinkedHistories.{IsLinkedBy, managed_end}
-use Rattle.joint_model.specs.Readers.{AllMayComeReading, entry_after}
-use Rattle.joint_model.specs.Told.{Noted}
-use Rattle.joint_model.specs.PeerReplay.{is_thread}
+use Rattle.joint_machine.specs.declared.names.Thread.{Thread}
+use Rattle.joint_machine.specs.declared.names.Thread.TheVariants.{M, P, C}
+use Rattle.joint_machine.specs.declared.events.Op.{Op}
+use Rattle.joint_machine.specs.declared.events.Op.TheVariants as op
+use Rattle.joint_machine.specs.declared.events.Entry.{Entry}
+use Rattle.joint_machine.specs.Lines.{IsEvent, is_read}
+use Rattle.joint_machine.specs.Histories.{Finished}
+use Rattle.joint_machine.specs.Linked.{Linkage, opening_linkage}
+use Rattle.joint_machine.specs.LinkedHistories.{IsLinkedBy, managed_end}
+use Rattle.joint_machine.specs.Readers.{AllMayComeReading, entry_after}
+use Rattle.joint_machine.specs.Told.{Noted}
+use Rattle.joint_machine.specs.PeerReplay.{is_thread}
 use Rattle.std.specs.Prelude.{if◌then◌else◌}
 use Rattle.script_laws.specs.Holding.{entries_by}
-use Rattle.script_laws.specs.Ending.{ResolvesLater, ResolveComes, IsEnded, AllCyclesEnd, ThreadHistoryEnds}
+use Rattle.script_laws.specs.Ending.{ResolvesLater, ResolveComes, IsEnded, AllCyclesEnd}
+use Rattle.script_laws.specs.EndingLaws.{ThreadHistoryEnds}
 use Rattle.script_laws.proofs.Ending.{held-thread-end}
-use Rattle.known_laws.specs.Growing.{entries}
+use Rattle.known_laws.specs.PastEntries.{entries}
 use Rattle.joint_laws.proofs.FittingLists.{event-of}
 
 -- the entries are events that their callers can make

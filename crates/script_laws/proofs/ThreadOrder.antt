@@ -1,19 +1,19 @@
--- Held in line order, lines are held thread by thread. A line's entries are its thread's own, so the entries of a thread are those of
--- its lines, in their order; and only the driver's lines move where the driver stands, so its standing is the same with its own lines
--- alone, and another thread's lines ask for no standing.
+-- Held in line order, lines are held thread by thread. A line's entries are its thread's own, so the entries of a
+-- thread are those of its lines, in their order; and only the driver's lines move where the driver stands, so its
+-- standing is the same with its own lines alone, and another thread's lines ask for no standing.
 use Rattle.std.proofs.Common.{◌≡◌, ℕ, Bool, true, false, List, [], ◌∷◌, ◌++◌, refl, sym, ◌∙◌, ap, subst, true≢false}
 use Rattle.std.specs.Prelude.{if◌then◌else◌}
 use Rattle.std.proofs.lemmas.List.Elements.{filter-append}
-use Rattle.joint_model.specs.declared.names.Thread.{Thread}
-use Rattle.joint_model.specs.declared.names.Thread.TheVariants.{M, P, C}
-use Rattle.joint_model.specs.declared.lines.Act.{Act}
-use Rattle.joint_model.specs.declared.lines.Act.TheVariants as act
-use Rattle.joint_model.specs.declared.events.Entry.{Entry}
-use Rattle.joint_model.specs.Lines.{IsLine}
-use Rattle.joint_model.specs.PeerReplay.{is_thread}
+use Rattle.joint_machine.specs.declared.names.Thread.{Thread}
+use Rattle.joint_machine.specs.declared.names.Thread.TheVariants.{M, P, C}
+use Rattle.joint_machine.specs.declared.lines.Act.{Act}
+use Rattle.joint_machine.specs.declared.lines.Act.TheVariants as act
+use Rattle.joint_machine.specs.declared.events.Entry.{Entry}
+use Rattle.joint_machine.specs.Lines.{IsLine}
+use Rattle.joint_machine.specs.PeerReplay.{is_thread}
 use Rattle.script_laws.specs.Holding.{Standing, opening_standing, AreEvents, standing_after, AreOnLine, AreLine, AreLeft, HoldsLines, numbered_from, lines_of, entries_by}
 use Rattle.script_laws.specs.Laws.{LineOrderGivesThreadOrder}
-use Rattle.joint_model.proofs.HeapLemmas.{same_thread, thread_itself}
+use Rattle.joint_machine.proofs.HeapLemmas.{same_thread, thread_itself}
 
 -- a thread's entries among those of one line
 pub all-by : (number : ℕ) (t : Thread) (es : List Entry) → AreOnLine number t es → entries_by t es ≡ es

@@ -1,17 +1,17 @@
 -- The histories of two threads, computed: each thread's lines are held, whichever came first, and both are linked.
 use Rattle.std.proofs.Common.{◌≡◌, ℕ, Bool, true, false, List, [], ◌∷◌, ◌++◌, map, take, drop, None, refl, sym, ◌∙◌, ap, inl, subst, arith}
 use Rattle.std.specs.Prelude.{filter, nat_eq}
-use Rattle.joint_model.specs.declared.names.Thread.{Thread}
-use Rattle.joint_model.specs.declared.names.Thread.TheVariants.{M, P, C}
-use Rattle.joint_model.specs.declared.lines.Act.{Act}
-use Rattle.joint_model.specs.declared.lines.Act.TheVariants as act
-use Rattle.joint_model.specs.declared.events.Op.TheVariants as op
-use Rattle.joint_model.specs.declared.events.Reply.{Reply}
-use Rattle.joint_model.specs.declared.events.Reply.TheVariants as says
-use Rattle.joint_model.specs.declared.events.Entry.{Entry}
-use Rattle.joint_model.specs.Control.{IsDone}
-use Rattle.joint_model.specs.LinkedHistories.{IsLinked}
-use Rattle.joint_model.specs.Told.{Noted, nothing}
+use Rattle.joint_machine.specs.declared.names.Thread.{Thread}
+use Rattle.joint_machine.specs.declared.names.Thread.TheVariants.{M, P, C}
+use Rattle.joint_machine.specs.declared.lines.Act.{Act}
+use Rattle.joint_machine.specs.declared.lines.Act.TheVariants as act
+use Rattle.joint_machine.specs.declared.events.Op.TheVariants as op
+use Rattle.joint_machine.specs.declared.events.Reply.{Reply}
+use Rattle.joint_machine.specs.declared.events.Reply.TheVariants as says
+use Rattle.joint_machine.specs.declared.events.Entry.{Entry}
+use Rattle.joint_machine.specs.Control.{IsDone}
+use Rattle.joint_machine.specs.LinkedHistories.{IsLinked}
+use Rattle.joint_machine.specs.Told.{Noted, nothing}
 use Rattle.joint_laws.proofs.Hands.{opening-free}
 use Rattle.script_laws.specs.Ending.{AllCyclesEnd}
 use Rattle.script_laws.specs.Holding.{HoldsLines, opening_standing, numbered_from, HoldsInOrder, HoldsPerThread, AreLine, AreOnLine}

@@ -1,16 +1,17 @@
--- Reads that are set aside: what the entries of the managed list before one of them say of the open cycle and of its cell, and that a history in which each
--- answers as these say is one in which each read answers as the one machine does.
+-- Reads that are set aside: what the entries of the managed list before one of them say of the open cycle and of its
+-- cell, and that a history in which each answers as these say is one in which each read answers as the one machine
+-- does.
 use Rattle.std.specs.Prelude.{◌≡◌, ℕ, List, [], ◌∷◌, ◌++◌, Contains, Option, Some, None}
-use Rattle.joint_model.specs.declared.events.Reply.{Reply}
-use Rattle.joint_model.specs.declared.events.Reply.TheVariants as says
-use Rattle.joint_model.specs.declared.events.Entry.{Entry}
-use Rattle.joint_model.specs.Histories.{Finished}
-use Rattle.joint_model.specs.HistoryLines.{entries_in}
-use Rattle.joint_model.specs.Linked.{opening_linkage}
-use Rattle.joint_model.specs.LinkedHistories.{IsLinkedBy}
-use Rattle.joint_model.specs.Readers.{ReadsCell, SetsCell}
-use Rattle.joint_model.specs.Told.{Noted}
-use Rattle.joint_laws.specs.ReadingLaws.{AreExact}
+use Rattle.joint_machine.specs.declared.events.Reply.{Reply}
+use Rattle.joint_machine.specs.declared.events.Reply.TheVariants as says
+use Rattle.joint_machine.specs.declared.events.Entry.{Entry}
+use Rattle.joint_machine.specs.Histories.{Finished}
+use Rattle.joint_machine.specs.HistoryLines.{entries_in}
+use Rattle.joint_machine.specs.Linked.{opening_linkage}
+use Rattle.joint_machine.specs.LinkedHistories.{IsLinkedBy}
+use Rattle.joint_machine.specs.Readers.{ReadsCell, SetsCell}
+use Rattle.joint_machine.specs.Told.{Noted}
+use Rattle.joint_laws.specs.Readings.{AreExact}
 use Rattle.known_laws.specs.Drawn.{open_after}
 
 -- the number of the open cycle after the entries of a managed list, earliest first
@@ -25,7 +26,8 @@ open_among es = open_from None es
 abbrev pub HasSet : ℕ → Entry → Type 0
 HasSet k e = SetsCell e.made.op k × (e.made.reply ≡ says.Ok)
 
--- a read of the cell may answer so by the managed list before it: `pending k` while cycle k is open, and `unset` while none is open and no entry has set the cell
+-- a read of the cell may answer so by the managed list before it: `pending k` while cycle k is open, and `unset` while
+-- none is open and no entry has set the cell
 abbrev pub IsAsideBy : List Entry → ℕ → Reply → Type 0
 IsAsideBy ml k (says.Pending c) = open_among ml ≡ Some c.0
 IsAsideBy ml k says.Unset = (open_among ml ≡ None) × ((e : Entry) → Contains ml e → HasSet k e → ⊥)

@@ -1,15 +1,16 @@
 -- How lines come to be held, one after another: as a runner makes their entries.
 use Rattle.std.specs.Prelude.{◌≡◌, ℕ, ◌+◌, ◌↔◌, List, [], ◌∷◌, ◌++◌, length, map, Contains}
-use Rattle.joint_model.specs.declared.names.Thread.{Thread}
-use Rattle.joint_model.specs.declared.names.Phase.TheVariants as at
-use Rattle.joint_model.specs.declared.lines.Act.{Act}
-use Rattle.joint_model.specs.declared.events.Entry.{Entry}
-use Rattle.joint_model.specs.Components.{Rises}
-use Rattle.joint_model.specs.Histories.{Finished}
-use Rattle.joint_model.specs.Lines.{IsLine, IsThread}
-use Rattle.joint_model.specs.LinkedHistories.{IsLinkedBy}
-use Rattle.joint_model.specs.Told.{Noted}
-use Rattle.script_laws.specs.Holding.{Standing, opening_standing, standing_after, AreLine, AreLeft, HoldsLines, HoldsSoFar, HoldsPerThread, numbered_from, lines_of, entries_by}
+use Rattle.joint_machine.specs.declared.names.Thread.{Thread}
+use Rattle.joint_machine.specs.declared.names.Phase.TheVariants as at
+use Rattle.joint_machine.specs.declared.lines.Act.{Act}
+use Rattle.joint_machine.specs.declared.events.Entry.{Entry}
+use Rattle.joint_machine.specs.Components.{Rises}
+use Rattle.joint_machine.specs.Histories.{Finished}
+use Rattle.joint_machine.specs.Lines.{IsLine, IsThread}
+use Rattle.joint_machine.specs.LinkedHistories.{IsLinkedBy}
+use Rattle.joint_machine.specs.Told.{Noted}
+use Rattle.script_laws.specs.Holding.{Standing, opening_standing, standing_after, AreLine, AreLeft, HoldsLines, HoldsPerThread, numbered_from, lines_of, entries_by}
+use Rattle.script_laws.specs.SoFar.{HoldsSoFar}
 
 -- a further line with its own entries behind all others
 abbrev pub HeldLinesGrow : Type 0
@@ -30,7 +31,8 @@ NumbersGoOn = (n : ℕ) (script : List (Thread × Act)) (line : Thread × Act) �
 abbrev pub LinesOfGoOn : Type 0
 LinesOfGoOn = (t : Thread) (xs ys : List (ℕ × (Thread × Act))) → lines_of t (xs ++ ys) ≡ lines_of t xs ++ lines_of t ys
 
--- two lists of the same entries with rising numbers are one: so entries that were listed as they were made are the history
+-- two lists of the same entries with rising numbers are one: so entries that were listed as they were made are the
+-- history
 abbrev pub numbers_of : List Entry → List ℕ
 numbers_of es = map (λ e. e.number) es
 

@@ -1,21 +1,22 @@
--- Which lines of a script a history holds: the events of each line, each once, one line after another, and at the end the
--- phases that the driver's lines have left open.
+-- Which lines of a script a history holds: the events of each line, each once, one line after another, and at the end
+-- the phases that the driver's lines have left open.
+-- Believed: the clauses of the program's top call rest on all that stands here.
 use Rattle.std.specs.Prelude.{◌≡◌, ℕ, ◌+◌, List, [], ◌∷◌, ◌++◌, filter, Option, Some, None}
-use Rattle.joint_model.specs.declared.names.Thread.{Thread}
-use Rattle.joint_model.specs.declared.names.Thread.TheVariants.{C}
-use Rattle.joint_model.specs.declared.names.Phase.{Phase}
-use Rattle.joint_model.specs.declared.names.Phase.TheVariants as at
-use Rattle.joint_model.specs.declared.names.PhaseWord.{PhaseWord}
-use Rattle.joint_model.specs.declared.lines.Act.{Act}
-use Rattle.joint_model.specs.declared.lines.Act.TheVariants as act
-use Rattle.joint_model.specs.declared.events.Op.{Op}
-use Rattle.joint_model.specs.declared.events.Op.TheVariants as op
-use Rattle.joint_model.specs.declared.events.Reply.{Reply}
-use Rattle.joint_model.specs.declared.events.Reply.TheVariants as says
-use Rattle.joint_model.specs.declared.events.Entry.{Entry}
-use Rattle.joint_model.specs.Lines.{IsLine}
-use Rattle.joint_model.specs.PeerReplay.{is_thread}
-use Rattle.joint_model.specs.Phases.{next_phase, phases_left, phases_of, ArePhases, AreRefusal, candidates_after}
+use Rattle.joint_machine.specs.declared.names.Thread.{Thread}
+use Rattle.joint_machine.specs.declared.names.Thread.TheVariants.{C}
+use Rattle.joint_machine.specs.declared.names.Phase.{Phase}
+use Rattle.joint_machine.specs.declared.names.Phase.TheVariants as at
+use Rattle.joint_machine.specs.declared.names.PhaseWord.{PhaseWord}
+use Rattle.joint_machine.specs.declared.lines.Act.{Act}
+use Rattle.joint_machine.specs.declared.lines.Act.TheVariants as act
+use Rattle.joint_machine.specs.declared.events.Op.{Op}
+use Rattle.joint_machine.specs.declared.events.Op.TheVariants as op
+use Rattle.joint_machine.specs.declared.events.Reply.{Reply}
+use Rattle.joint_machine.specs.declared.events.Reply.TheVariants as says
+use Rattle.joint_machine.specs.declared.events.Entry.{Entry}
+use Rattle.joint_machine.specs.Lines.{IsLine}
+use Rattle.joint_machine.specs.PeerReplay.{is_thread}
+use Rattle.joint_machine.specs.Phases.{next_phase, phases_left, phases_of, ArePhases, AreRefusal, candidates_after}
 
 -- the next event of an operation, by the replies to its events so far; none where it has no more
 abbrev pub next_event : Act → List Reply → Option Op
@@ -94,16 +95,11 @@ pub record AreLeft (s : Standing) (entries : List Entry) : Type 0 where
   pub places : AreOnLine s.line C entries
   pub events : ArePhases s.candidates (phases_left s.phase) entries
 
--- the entries are those of these lines with their numbers: each line's stand together, once, and before those of each later
--- line; and then those of the phases left open
+-- the entries are those of these lines with their numbers: each line's stand together, once, and before those of each
+-- later line; and then those of the phases left open
 abbrev pub HoldsLines : Standing → List (ℕ × (Thread × Act)) → List Entry → Type 0
 HoldsLines s [] entries = AreLeft s entries
 HoldsLines s (line ∷ lines) entries = (own : List Entry) × (rest : List Entry) × (entries ≡ own ++ rest) × AreLine s line.0 line.1 own × HoldsLines (standing_after s line.0 line.1.1 own) lines rest
-
--- the entries are those of these lines so far, and lead to where the driver stands then
-abbrev pub HoldsSoFar : Standing → List (ℕ × (Thread × Act)) → List Entry → Standing → Type 0
-HoldsSoFar s [] entries t = (entries ≡ []) × (t ≡ s)
-HoldsSoFar s (line ∷ lines) entries t = (own : List Entry) × (rest : List Entry) × (entries ≡ own ++ rest) × AreLine s line.0 line.1 own × HoldsSoFar (standing_after s line.0 line.1.1 own) lines rest t
 
 -- the lines with their numbers
 abbrev pub numbered_from : ℕ → List (Thread × Act) → List (ℕ × (Thread × Act))

@@ -1,6 +1,9 @@
 pub mod Holding
+pub mod SoFar
 pub mod Ending
+pub mod EndingLaws
 pub mod Laws
+pub mod OneHistory
 pub mod Worked
 pub mod Growing
 pub mod Asides

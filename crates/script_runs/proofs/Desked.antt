@@ -1,17 +1,18 @@
--- Callers are given out place by place: whom the desk was asked for waits no more, and who wasn't asked for has no line.
+-- Callers are given out place by place: whom the desk was asked for waits no more, and who wasn't asked for has no
+-- line.
 use Rattle.std.proofs.Common.{◌≡◌, inl, inr, ⊎_elim, ℕ, ◌+◌, ◌<◌, ◌≤◌, Bool, true, false, ◌&&◌, List, [], ◌∷◌, ◌++◌, length, Option, Some, None, refl, sym, ◌∙◌, ap, subst, arith}
 use Rattle.std.specs.Prelude.{All, Contains, IsSome, if◌then◌else◌, nat_le, option_to_list, slice_get, slice_set}
 use Rattle.std.proofs.lemmas.Bool.{cases_lt, le-leb}
 use Rattle.std.proofs.lemmas.List.{length-set}
 use Rattle.std.proofs.lemmas.List.Elements.{All-push, Contains-append_cases, Contains-append_left, Contains-append_right}
 use Rattle.std.proofs.lemmas.Option.{slice_get_past}
-use Rattle.joint_model.specs.declared.names.Thread.{Thread}
-use Rattle.joint_model.specs.declared.names.Thread.TheVariants.{M, P, C}
-use Rattle.joint_model.specs.declared.lines.Act.{Act}
-use Rattle.joint_model.specs.Control.{caller_place}
-use Rattle.joint_model.specs.Lines.{IsDriver, IsThread}
-use Rattle.joint_model.proofs.Joining.{same_or_not, slice_get-set_same, slice_get-set_other}
-use Rattle.joint_model.proofs.Members.{Contains-here, Contains-nil, Contains-cons_cases, Contains-map, Contains-map_cases}
+use Rattle.joint_machine.specs.declared.names.Thread.{Thread}
+use Rattle.joint_machine.specs.declared.names.Thread.TheVariants.{M, P, C}
+use Rattle.joint_machine.specs.declared.lines.Act.{Act}
+use Rattle.joint_machine.specs.Control.{caller_place}
+use Rattle.joint_machine.specs.Lines.{IsDriver, IsThread}
+use Rattle.joint_machine.proofs.Joining.{same_or_not, slice_get-set_same, slice_get-set_other}
+use Rattle.joint_machine.proofs.Members.{Contains-here, Contains-nil, Contains-cons_cases, Contains-map, Contains-map_cases}
 use Rattle.joint_history.specs.Callers.{KnowsNothing, Pass}
 use Rattle.joint_history.specs.Desks.{Waiting, flat, has_thread, thread_of, waits, without_caller}
 use Rattle.joint_history.specs.Ending.{HasAll, StillWaits, threads_of}
@@ -20,7 +21,7 @@ use Rattle.joint_history.proofs.Ended.{one_at_place}
 use Rattle.joint_history.proofs.LastLines.{place_small}
 use Rattle.run_laws.specs.Threads.{NoneIsLeft, thread_lines}
 use Rattle.script_runs.specs.Running.{DriverIsFirst}
-use Rattle.joint_model.proofs.Deciding.{and-both}
+use Rattle.joint_machine.proofs.Deciding.{and-both}
 
 within : (m n : ℕ) → m ≡ 8 → 1 ≤ n → n ≤ 8 → (nat_le 1 n && nat_le n m) ≡ true
 within m n e a b = and-both (nat_le 1 n) (nat_le n m) (le-leb 1 n a) (le-leb n m (omega (arith, b, e)))

@@ -1,23 +1,24 @@
--- What the driver's calls make are the entries of its lines, and it stands where they lead. A word that is due leads to the phase after it: `cycle`
--- runs all eight phases, which lead from idle back to it; a word that is refused, and a `finalise`, leave the driver where it stands.
+-- What the driver's calls make are the entries of its lines, and it stands where they lead. A word that is due leads to
+-- the phase after it: `cycle` runs all eight phases, which lead from idle back to it; a word that is refused, and a
+-- `finalise`, leave the driver where it stands.
 use Rattle.std.proofs.Common.{◌≡◌, ℕ, List, [], ◌∷◌, Option, Some, None, refl, sym, ◌∙◌, ap, subst}
 use Rattle.std.specs.Prelude.{Result, Ok, Err, OnErr, OnOk}
-use Rattle.joint_model.specs.declared.names.Phase.{Phase}
-use Rattle.joint_model.specs.declared.names.Phase.TheVariants as at
-use Rattle.joint_model.specs.declared.names.PhaseWord.{PhaseWord}
-use Rattle.joint_model.specs.declared.names.PhaseWord.TheVariants as word
-use Rattle.joint_model.specs.declared.names.Thread.TheVariants.{C}
-use Rattle.joint_model.specs.declared.lines.Act.{Act}
-use Rattle.joint_model.specs.declared.lines.Act.TheVariants as act
-use Rattle.joint_model.specs.declared.events.Op.TheVariants as op
-use Rattle.joint_model.specs.declared.events.Reply.{Reply}
-use Rattle.joint_model.specs.declared.events.Entry.{Entry}
-use Rattle.joint_model.specs.Lines.{IsLine}
-use Rattle.joint_model.specs.Phases.{next_phase, phases_left, phases_of, ArePhases, AreRefusal, candidates_after}
+use Rattle.joint_machine.specs.declared.names.Phase.{Phase}
+use Rattle.joint_machine.specs.declared.names.Phase.TheVariants as at
+use Rattle.joint_machine.specs.declared.names.PhaseWord.{PhaseWord}
+use Rattle.joint_machine.specs.declared.names.PhaseWord.TheVariants as word
+use Rattle.joint_machine.specs.declared.names.Thread.TheVariants.{C}
+use Rattle.joint_machine.specs.declared.lines.Act.{Act}
+use Rattle.joint_machine.specs.declared.lines.Act.TheVariants as act
+use Rattle.joint_machine.specs.declared.events.Op.TheVariants as op
+use Rattle.joint_machine.specs.declared.events.Reply.{Reply}
+use Rattle.joint_machine.specs.declared.events.Entry.{Entry}
+use Rattle.joint_machine.specs.Lines.{IsLine}
+use Rattle.joint_machine.specs.Phases.{next_phase, phases_left, phases_of, ArePhases, AreRefusal, candidates_after}
 use Rattle.bridge_cycle.specs.Progress.{Progress, AreDriversOnLine, AreNotices, LeadTo, MakesOne, RunsWords, RunsLine, RunsAct, RunsPhases, RunsWord}
 use Rattle.script_laws.specs.Holding.{Standing, phase_after, AreEventsAfter, AreWord, AreOnLine}
 use Rattle.script_runs.specs.Running.{DrivesLeft, DrivesLine, StandsAs}
-use Rattle.joint_model.proofs.Deciding.{some-same, none_some}
+use Rattle.joint_machine.proofs.Deciding.{some-same, none_some}
 
 on-line : (index : ℕ) (es : List Entry) → AreDriversOnLine index es → AreOnLine index C es
 on-line index [] a = tt

@@ -1,20 +1,20 @@
--- Once all threads have ended the driver hears of what each of the others has made, and its cycle stands behind all that; so what `finish` answers is the
--- history of the script's run with one cycle more.
+-- Once all threads have ended the driver hears of what each of the others has made, and its cycle stands behind all
+-- that; so what `finish` answers is the history of the script's run with one cycle more.
 use Rattle.std.proofs.Common.{◌≡◌, ⊎_elim, ℕ, zero, suc, ◌+◌, ◌<◌, ◌^◌, ◌≤◌, List, [], ◌∷◌, ◌++◌, length, Some, Result, Ok, Err, refl, sym, ◌∙◌, ap, subst, arith, length-append}
 use Rattle.std.specs.Prelude.{All, Contains, IfOk, drop, slice_get, slice_index_or, slice_set, take}
 use Rattle.std.proofs.lemmas.List.{append-nil, length-set}
 use Rattle.std.proofs.lemmas.List.Elements.{All-contains, All-push, Contains-append_cases}
 use Rattle.std.proofs.lemmas.Option.{slice_get_within}
 use mathlib.Core.List.{IsPrefix}
-use Rattle.joint_model.specs.declared.names.Phase.TheVariants.{Idle}
-use Rattle.joint_model.specs.declared.names.Thread.{Thread}
-use Rattle.joint_model.specs.declared.names.Thread.TheVariants.{C}
-use Rattle.joint_model.specs.declared.lines.Act.{Act}
-use Rattle.joint_model.specs.Histories.{Finished}
-use Rattle.joint_model.specs.HistoryLines.{caller_line}
-use Rattle.joint_model.specs.Lines.{IsDriver, IsThread}
-use Rattle.joint_model.proofs.Joining.{same_or_not, slice_get-set_same, slice_get-set_other}
-use Rattle.joint_model.proofs.Members.{All-members, Contains-at, Contains-here, Contains-there, Contains-nil, Contains-cons_cases, at-Contains}
+use Rattle.joint_machine.specs.declared.names.Phase.TheVariants.{Idle}
+use Rattle.joint_machine.specs.declared.names.Thread.{Thread}
+use Rattle.joint_machine.specs.declared.names.Thread.TheVariants.{C}
+use Rattle.joint_machine.specs.declared.lines.Act.{Act}
+use Rattle.joint_machine.specs.Histories.{Finished}
+use Rattle.joint_machine.specs.HistoryLines.{caller_line}
+use Rattle.joint_machine.specs.Lines.{IsDriver, IsThread}
+use Rattle.joint_machine.proofs.Joining.{same_or_not, slice_get-set_same, slice_get-set_other}
+use Rattle.joint_machine.proofs.Members.{All-members, Contains-at, Contains-here, Contains-there, Contains-nil, Contains-cons_cases, at-Contains}
 use Rattle.known_laws.specs.Lists.{made_by}
 use Rattle.order_table.specs.declared.views.View.{View}
 use Rattle.order_table.specs.declared.views.KeptEntry.{KeptEntry}
@@ -28,7 +28,8 @@ use Rattle.joint_history.specs.Knowing.{line_known}
 use Rattle.bridge_cycle.specs.Progress.{Progress, pass_of}
 use Rattle.script_laws.specs.Holding.{Standing, HoldsLines, opening_standing}
 use Rattle.run_laws.specs.Final.{IsRunInOrder}
-use Rattle.run_laws.specs.LastCycle.{cycle_line, DrivesCycles, EndsWithCycle, HasHeardOf, IsRunThenCycle}
+use Rattle.run_laws.specs.LastCycle.{DrivesCycles, EndsWithCycle, HasHeardOf}
+use Rattle.run_laws.specs.WithCycle.{IsRunThenCycle, cycle_line}
 use Rattle.run_laws.specs.Threads.{HoldsItsLines, NoneIsLeft, thread_lines}
 use Rattle.run_laws.proofs.InOrder.{prefix-map, prefix-then}
 use Rattle.run_laws.proofs.LastCycle.{cycle_lines_end_runs, cycles_end_runs}
@@ -37,7 +38,7 @@ use Rattle.script_runs.specs.Running.{AreSame, CanRun, DriverIsFirst, DrivesLine
 use Rattle.script_runs.proofs.Desked.{has_all_last}
 use Rattle.script_runs.proofs.Ran.{AllRan, ran_all}
 use Rattle.joint_history.proofs.Giving.{has_all_same}
-use Rattle.joint_model.proofs.Deciding.{some-same}
+use Rattle.joint_machine.proofs.Deciding.{some-same}
 
 prefix-itself : {A : Type 0} (xs : List A) → IsPrefix xs xs
 prefix-itself xs = ([], append-nil xs)

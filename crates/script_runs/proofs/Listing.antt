@@ -3,12 +3,11 @@ use Rattle.std.proofs.Common.{◌≡◌, ℕ, ◌+◌, ◌≤◌, List, [], ◌+
 use Rattle.std.proofs.lemmas.List.{length-append}
 use Rattle.std.specs.Prelude.{IfOk, OnOk}
 use Rattle.byte_streams.specs.declared.streams.Failed.{Failed}
-use Rattle.graph_listing.specs.Listing.{Listed}
+use Rattle.graph_listing.specs.Listing.{Listed, cycles_text}
 use Rattle.bridge_cycle.specs.Progress.{Progress}
 use Rattle.listing_laws.specs.Snapshots.{AreSeen}
 use Rattle.listing_laws.specs.Writing.{Wrote}
-use Rattle.byte_streams.specs.Streams.{AppendsPart}
-use Rattle.graph_listing.specs.Listing.{cycles_text}
+use Rattle.byte_streams.specs.Faults.{AppendsPart}
 use Rattle.listing_laws.proofs.Written.{Writes-nothing, part_of, wrote_none, wrote_then}
 use Rattle.script_runs.specs.declared.compared.Listing.{Listing}
 use Rattle.script_runs.specs.Listed.{AreAllListed, HasNoSnap, Lists, ListsLine, lines_seen}

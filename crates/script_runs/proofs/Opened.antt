@@ -1,38 +1,41 @@
--- What a run lists of a cycle is what the driver knows of it at its snapshot: the graph is that of the dead part at the end of the driver's past, whose
--- lines are those that the driver knows. And a snapshot is one more of the driver's own entries.
+-- What a run lists of a cycle is what the driver knows of it at its snapshot: the graph is that of the dead part at the
+-- end of the driver's past, whose lines are those that the driver knows. And a snapshot is one more of the driver's own
+-- entries.
 use Rattle.std.proofs.Common.{◌≡◌, ℕ, ◌<◌, ◌≤◌, cond, List, [], ◌∷◌, ◌++◌, length, map, Option, Some, refl, sym, ap, ◌∙◌, subst, append-nil, arith}
 use Rattle.std.specs.Prelude.{All}
 use mathlib.Core.List.{IsPrefix}
 use base.Growing.{prefix_refl, prefix_trans}
 use Rattle.std.proofs.lemmas.List.{length-map}
 use Rattle.std.proofs.lemmas.Option.{slice_get_within}
-use Rattle.joint_model.specs.declared.names.Cycle.{Cycle}
-use Rattle.joint_model.specs.declared.names.Phase.{Phase}
-use Rattle.joint_model.specs.declared.names.Phase.TheVariants as at
-use Rattle.joint_model.specs.declared.names.PhaseWord.{PhaseWord}
-use Rattle.joint_model.specs.declared.names.PhaseWord.TheVariants as word
-use Rattle.joint_model.specs.declared.names.Thread.TheVariants.{C}
-use Rattle.joint_model.specs.declared.lines.Act.{Act}
-use Rattle.joint_model.specs.declared.lines.Act.TheVariants as act
-use Rattle.joint_model.specs.declared.events.Entry.{Entry}
-use Rattle.joint_model.specs.declared.events.Op.{Op}
-use Rattle.joint_model.specs.declared.events.Op.TheVariants as op
-use Rattle.joint_model.specs.Components.{IsContraction}
-use Rattle.joint_model.specs.Phases.{AreEach, IsEventOf, next_phase, phases_left, phases_of}
-use Rattle.joint_model.specs.Histories.{Finished}
-use Rattle.joint_model.specs.LinkedHistories.{IsLinked}
-use Rattle.joint_model.specs.Managed.{OpenCycle}
-use Rattle.joint_model.proofs.Members.{All-members, at-Contains}
+use Rattle.joint_machine.specs.declared.names.Cycle.{Cycle}
+use Rattle.joint_machine.specs.declared.names.Phase.{Phase}
+use Rattle.joint_machine.specs.declared.names.Phase.TheVariants as at
+use Rattle.joint_machine.specs.declared.names.PhaseWord.{PhaseWord}
+use Rattle.joint_machine.specs.declared.names.PhaseWord.TheVariants as word
+use Rattle.joint_machine.specs.declared.names.Thread.TheVariants.{C}
+use Rattle.joint_machine.specs.declared.lines.Act.{Act}
+use Rattle.joint_machine.specs.declared.lines.Act.TheVariants as act
+use Rattle.joint_machine.specs.declared.events.Entry.{Entry}
+use Rattle.joint_machine.specs.declared.events.Op.{Op}
+use Rattle.joint_machine.specs.declared.events.Op.TheVariants as op
+use Rattle.joint_machine.specs.Components.{IsContraction}
+use Rattle.joint_machine.specs.Phases.{AreEach, IsEventOf, next_phase, phases_left, phases_of}
+use Rattle.joint_machine.specs.Histories.{Finished}
+use Rattle.joint_machine.specs.LinkedHistories.{IsLinked}
+use Rattle.joint_machine.specs.Managed.{OpenCycle}
+use Rattle.joint_machine.proofs.Members.{All-members, at-Contains}
 use Rattle.known_laws.specs.Drawn.{KeptDrawn, of_drawn}
 use Rattle.known_laws.specs.Facts.{opened_of}
-use Rattle.known_laws.specs.Growing.{Kept, all_shown, entries, entries_kept}
+use Rattle.known_laws.specs.Growing.{Kept, all_shown, entries_kept}
+use Rattle.known_laws.specs.PastEntries.{entries}
 use Rattle.known_laws.specs.Lists.{made_by}
 use Rattle.known_laws.specs.Pasts.{driver_line, end_of, line}
 use Rattle.known_laws.proofs.Growing.{entries_shown}
 use Rattle.bridge_graph.specs.declared.graph.Node.{Node}
 use Rattle.bridge_graph.specs.Parts.{IsBridgeNode, NodeLeads, Part}
 use Rattle.xref_list.specs.Listing.{Listing as Components}
-use Rattle.graph_listing.specs.Listing.{AreOfNodes, Listed, listed_of}
+use Rattle.graph_listing.specs.Listing.{Listed}
+use Rattle.graph_listing.specs.Numbers.{AreOfNodes, listed_of}
 use Rattle.order_table.specs.declared.views.KeptEntry.{KeptEntry}
 use Rattle.order_table.specs.declared.views.View.{View}
 use Rattle.order_table.specs.Facts.{line_entries}

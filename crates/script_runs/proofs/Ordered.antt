@@ -1,16 +1,17 @@
--- The callers come in the order of their places, and each but the driver's has a line: a caller whose place is past all others goes behind them.
+-- The callers come in the order of their places, and each but the driver's has a line: a caller whose place is past all
+-- others goes behind them.
 use Rattle.std.proofs.Common.{◌≡◌, ◌⊎◌, inl, inr, ℕ, zero, suc, ◌+◌, ◌<◌, true, List, [], ◌∷◌, ◌++◌, map, Some, sym, ◌∙◌, ap, subst, arith}
 use Rattle.std.specs.Prelude.{All, Contains, slice_get}
 use Rattle.std.proofs.lemmas.List.{map-append}
 use Rattle.std.proofs.lemmas.List.Elements.{All-nil, All-push, All-weaker}
-use Rattle.joint_model.specs.declared.lines.Act.{Act}
-use Rattle.joint_model.specs.declared.names.Thread.{Thread}
-use Rattle.joint_model.specs.declared.names.Thread.TheVariants.{C}
-use Rattle.joint_model.specs.Components.{Rises}
-use Rattle.joint_model.specs.Control.{caller_place}
-use Rattle.joint_model.specs.Lines.{IsDriver}
-use Rattle.joint_model.specs.PeerReplay.{is_thread}
-use Rattle.joint_model.proofs.Members.{Contains-filter_to, Contains-here, Contains-nil, Contains-there, Rises-push}
+use Rattle.joint_machine.specs.declared.lines.Act.{Act}
+use Rattle.joint_machine.specs.declared.names.Thread.{Thread}
+use Rattle.joint_machine.specs.declared.names.Thread.TheVariants.{C}
+use Rattle.joint_machine.specs.Components.{Rises}
+use Rattle.joint_machine.specs.Control.{caller_place}
+use Rattle.joint_machine.specs.Lines.{IsDriver}
+use Rattle.joint_machine.specs.PeerReplay.{is_thread}
+use Rattle.joint_machine.proofs.Members.{Contains-filter_to, Contains-here, Contains-nil, Contains-there, Rises-push}
 use Rattle.joint_history.specs.Callers.{Pass}
 use Rattle.joint_history.specs.Desks.{thread_of}
 use Rattle.joint_history.proofs.Desking.{thread_is}

@@ -1,15 +1,15 @@
--- A thread runs its own lines: each line that isn't its own passes, each of its own is held with the entries that its caller made, and at the end
--- the driver holds the phases that were left too.
+-- A thread runs its own lines: each line that isn't its own passes, each of its own is held with the entries that its
+-- caller made, and at the end the driver holds the phases that were left too.
 use Rattle.std.proofs.Common.{◌≡◌, ℕ, ◌+◌, ◌≤◌, true, false, List, [], ◌++◌, length, Some, refl, sym, ◌∙◌, ap, subst}
 use Rattle.std.specs.Prelude.{Contains, slice_get}
 use Rattle.std.proofs.lemmas.List.{append-nil}
-use Rattle.joint_model.specs.declared.names.Thread.{Thread}
-use Rattle.joint_model.specs.declared.names.Thread.TheVariants.{C}
-use Rattle.joint_model.specs.declared.lines.Act.{Act}
-use Rattle.joint_model.specs.HistoryLines.{caller_line}
-use Rattle.joint_model.specs.Lines.{IsManagedThread}
-use Rattle.joint_model.specs.PeerReplay.{is_thread}
-use Rattle.joint_model.proofs.Members.{Contains-nil}
+use Rattle.joint_machine.specs.declared.names.Thread.{Thread}
+use Rattle.joint_machine.specs.declared.names.Thread.TheVariants.{C}
+use Rattle.joint_machine.specs.declared.lines.Act.{Act}
+use Rattle.joint_machine.specs.HistoryLines.{caller_line}
+use Rattle.joint_machine.specs.Lines.{IsManagedThread}
+use Rattle.joint_machine.specs.PeerReplay.{is_thread}
+use Rattle.joint_machine.proofs.Members.{Contains-nil}
 use Rattle.order_table.specs.Facts.{line_entries}
 use Rattle.joint_history.specs.Callers.{KnowsNothing, Pass, last_index, own}
 use Rattle.joint_history.specs.Ending.{HasIdleDriver}
@@ -19,11 +19,12 @@ use Rattle.joint_history.proofs.KnownCallers.{own_idle}
 use Rattle.bridge_cycle.specs.Progress.{Progress, pass_of}
 use Rattle.script_laws.specs.Holding.{Standing, opening_standing, standing_after, AreLine}
 use Rattle.script_laws.proofs.Growing.{idle_leaves_nothing}
-use Rattle.run_laws.specs.Threads.{HoldsItsFirst, HoldsItsLines, WaitsEnd}
+use Rattle.run_laws.specs.Threads.{HoldsItsFirst, HoldsItsLines}
+use Rattle.run_laws.specs.Waits.{WaitsEnd}
 use Rattle.run_laws.proofs.ByThreads.{others_lines_pass, own_lines_add, own_lines_end}
 use Rattle.run_laws.proofs.Waits.{more_waits_end}
 use Rattle.script_runs.specs.Running.{DrivesLeft, DrivesLine, HasRunLines, MakesLine, StandsAs, WaitsLine}
-use Rattle.joint_model.proofs.HeapLemmas.{same_thread}
+use Rattle.joint_machine.proofs.HeapLemmas.{same_thread}
 
 -- who knows nothing has made nothing, and is idle
 pub own_nothing : (p : Pass) → KnowsNothing p.view → own p ≡ []

@@ -1,20 +1,21 @@
--- What the jobs of a run ended with: each its thread's caller, who holds that thread's lines. So all callers together are those that were given out,
--- and the finished history holds the script thread by thread.
+-- What the jobs of a run ended with: each its thread's caller, who holds that thread's lines. So all callers together
+-- are those that were given out, and the finished history holds the script thread by thread.
 use Rattle.std.proofs.Common.{◌≡◌, ℕ, zero, suc, ◌<◌, ◌^◌, List, [], ◌∷◌, length, map, Result, Ok, Err, refl, sym, ◌∙◌, ap, subst, arith}
 use Rattle.std.specs.Prelude.{All, IfOk, slice_index_or}
 use Rattle.std.proofs.lemmas.List.Elements.{All-nil, All-cons, All-contains}
-use Rattle.joint_model.specs.declared.names.Thread.{Thread}
-use Rattle.joint_model.specs.declared.lines.Act.{Act}
-use Rattle.joint_model.specs.Histories.{Finished}
-use Rattle.joint_model.specs.Lines.{IsManagedThread, IsThread}
-use Rattle.joint_model.specs.LinkedHistories.{IsLinked}
+use Rattle.joint_machine.specs.declared.names.Thread.{Thread}
+use Rattle.joint_machine.specs.declared.lines.Act.{Act}
+use Rattle.joint_machine.specs.Histories.{Finished}
+use Rattle.joint_machine.specs.Lines.{IsManagedThread, IsThread}
+use Rattle.joint_machine.specs.LinkedHistories.{IsLinked}
 use Rattle.known_laws.specs.Lists.{made_by}
 use Rattle.joint_history.specs.Callers.{Pass, own}
 use Rattle.joint_history.specs.Desks.{Waiting}
 use Rattle.joint_history.specs.Ending.{HasAll, HasOwn, IsFinished, HasIdleDriver, StillWaits, threads_of}
 use Rattle.joint_history.proofs.Giving.{has_all_same}
 use Rattle.run_laws.specs.Final.{IsRunByThreads}
-use Rattle.run_laws.specs.Threads.{HoldsItsLines, NoneIsLeft, WaitsEnd}
+use Rattle.run_laws.specs.Threads.{HoldsItsLines, NoneIsLeft}
+use Rattle.run_laws.specs.Waits.{WaitsEnd}
 use Rattle.run_laws.proofs.ByThreads.{threads_hold_script}
 use Rattle.run_laws.proofs.Finals.{held_by_threads_is_run}
 use Rattle.run_laws.proofs.Waits.{callers_waits_end}

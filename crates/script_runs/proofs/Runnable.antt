@@ -1,7 +1,7 @@
 -- A script that was read can be run.
 use Rattle.std.proofs.Common.{List, arith}
-use Rattle.joint_model.specs.declared.names.Thread.{Thread}
-use Rattle.joint_model.specs.declared.lines.Act.{Act}
+use Rattle.joint_machine.specs.declared.names.Thread.{Thread}
+use Rattle.joint_machine.specs.declared.lines.Act.{Act}
 use Rattle.bridge_script.specs.Scripts.{IsScript}
 use Rattle.script_runs.specs.Running.{CanRun}
 

@@ -4,16 +4,16 @@ use Rattle.std.specs.Prelude.{All, IfOk, Result, Ok, Err, if◌then◌else◌, s
 use Rattle.std.proofs.lemmas.List.{take_all}
 use Rattle.std.proofs.lemmas.List.Elements.{All-contains, Contains-append_cases, Contains-append_right}
 use Rattle.std.proofs.lemmas.Option.{slice_get_within}
-use Rattle.joint_model.specs.declared.names.Thread.{Thread}
-use Rattle.joint_model.specs.declared.names.Thread.TheVariants.{M, P, C}
-use Rattle.joint_model.specs.declared.names.Phase.TheVariants.{Idle}
-use Rattle.joint_model.specs.declared.lines.Act.{Act}
-use Rattle.joint_model.specs.Control.{caller_place}
-use Rattle.joint_model.specs.Histories.{Finished}
-use Rattle.joint_model.specs.Lines.{IsDriver, IsThread}
-use Rattle.joint_model.specs.LinkedHistories.{IsLinked}
-use Rattle.joint_model.proofs.Joining.{slice_get-set_other}
-use Rattle.joint_model.proofs.Members.{All-members, at-Contains, Contains-cons_cases, Contains-here, Contains-nil}
+use Rattle.joint_machine.specs.declared.names.Thread.{Thread}
+use Rattle.joint_machine.specs.declared.names.Thread.TheVariants.{M, P, C}
+use Rattle.joint_machine.specs.declared.names.Phase.TheVariants.{Idle}
+use Rattle.joint_machine.specs.declared.lines.Act.{Act}
+use Rattle.joint_machine.specs.Control.{caller_place}
+use Rattle.joint_machine.specs.Histories.{Finished}
+use Rattle.joint_machine.specs.Lines.{IsDriver, IsThread}
+use Rattle.joint_machine.specs.LinkedHistories.{IsLinked}
+use Rattle.joint_machine.proofs.Joining.{slice_get-set_other}
+use Rattle.joint_machine.proofs.Members.{All-members, at-Contains, Contains-cons_cases, Contains-here, Contains-nil}
 use Rattle.joint_history.specs.Callers.{KnowsNothing, Pass, last_index, own}
 use Rattle.joint_history.specs.Desks.{AreAll, Waiting, flat, has_thread, thread_of, waits, without_caller}
 use Rattle.joint_history.specs.Ending.{BeginsHistory, HasOwn, IsFinished, HasIdleDriver}

@@ -3,13 +3,13 @@ use Rattle.std.proofs.Common.{◌≡◌, ◌⊎◌, inl, inr, ⊎_elim, ℕ, ◌
 use Rattle.std.specs.Prelude.{if◌then◌else◌, slice_get, slice_set}
 use Rattle.std.proofs.lemmas.List.{length-set}
 use Rattle.std.proofs.lemmas.Option.{slice_get_within}
-use Rattle.joint_model.specs.declared.names.Thread.{Thread}
-use Rattle.joint_model.specs.declared.names.Thread.TheVariants.{M, P, C}
-use Rattle.joint_model.specs.declared.lines.Act.{Act}
-use Rattle.joint_model.specs.Control.{caller_place}
-use Rattle.joint_model.specs.HistoryLines.{caller_line}
-use Rattle.joint_model.specs.Lines.{IsLine, IsThread}
-use Rattle.joint_model.proofs.Joining.{same_or_not, slice_get-set_same, slice_get-set_other}
+use Rattle.joint_machine.specs.declared.names.Thread.{Thread}
+use Rattle.joint_machine.specs.declared.names.Thread.TheVariants.{M, P, C}
+use Rattle.joint_machine.specs.declared.lines.Act.{Act}
+use Rattle.joint_machine.specs.Control.{caller_place}
+use Rattle.joint_machine.specs.HistoryLines.{caller_line}
+use Rattle.joint_machine.specs.Lines.{IsLine, IsThread}
+use Rattle.joint_machine.proofs.Joining.{same_or_not, slice_get-set_same, slice_get-set_other}
 use Rattle.order_table.specs.Facts.{line_entries}
 use Rattle.joint_history.specs.Callers.{Hears, Pass, Tells, last_index, own}
 use Rattle.view_laws.specs.Knowing.{IsDrawnView}
@@ -21,7 +21,7 @@ use Rattle.script_laws.specs.Holding.{Standing, standing_after, AreLine}
 use Rattle.run_laws.specs.Serial.{AreOthers}
 use Rattle.run_laws.proofs.InOrder.{told_callers_add, drivers_add, others_run_on, driver_runs_on, not-driver}
 use Rattle.script_runs.specs.Running.{AnswersLine, AreUpTo, DrivesLine, HasCome, RunsOn, StandsAs, TellsLine, last_after}
-use Rattle.joint_model.proofs.Deciding.{some-same}
+use Rattle.joint_machine.proofs.Deciding.{some-same}
 
 pub tells_line : (a b d : Progress) (p q r t : Pass) (index : ℕ) (o : Act) → Tells (pass_of a) (pass_of b) → Hears (pass_of a) p q → b ≡ record a { view = b.view } → r.thread ≡ q.thread → AnswersLine q.thread q.view r.view index o → IsDrawnView q.view → IsDrawnView r.view
     → Tells r t → Hears r (pass_of b) (pass_of d) → d ≡ record b { view = d.view } → TellsLine a d p t index o

@@ -1,12 +1,13 @@
--- What a run lists as it goes on: of each snapshot that the driver makes, what the driver knows of its cycle's dead part then.
+-- What a run lists as it goes on: of each snapshot that the driver makes, what the driver knows of its cycle's dead
+-- part then.
 use Rattle.std.specs.Prelude.{◌≡◌, ℕ, ◌≤◌, List, [], ◌∷◌, ◌++◌, length, Option, Some, Result, IfOk}
-use Rattle.joint_model.specs.declared.names.Phase.{Phase}
-use Rattle.joint_model.specs.declared.names.Phase.TheVariants as at
-use Rattle.joint_model.specs.declared.names.PhaseWord.TheVariants as word
-use Rattle.joint_model.specs.declared.lines.Act.{Act}
-use Rattle.joint_model.specs.declared.lines.Act.TheVariants as act
-use Rattle.joint_model.specs.declared.events.Entry.{Entry}
-use Rattle.joint_model.specs.Managed.{OpenCycle}
+use Rattle.joint_machine.specs.declared.names.Phase.{Phase}
+use Rattle.joint_machine.specs.declared.names.Phase.TheVariants as at
+use Rattle.joint_machine.specs.declared.names.PhaseWord.TheVariants as word
+use Rattle.joint_machine.specs.declared.lines.Act.{Act}
+use Rattle.joint_machine.specs.declared.lines.Act.TheVariants as act
+use Rattle.joint_machine.specs.declared.events.Entry.{Entry}
+use Rattle.joint_machine.specs.Managed.{OpenCycle}
 use Rattle.known_laws.specs.Drawn.{of_drawn}
 use Rattle.known_laws.specs.Growing.{Kept}
 use Rattle.known_laws.specs.Pasts.{end_of}
@@ -66,6 +67,7 @@ HasNoSnap d = snaps_of (own (pass_of d)) ≡ []
 abbrev pub AreAllListed : Progress → List Listed → Type 0
 AreAllListed d cycles = AreSeen (lines_seen d.view) (snaps_of (own (pass_of d))) cycles
 
--- the last line of a listing of so many cycles was written behind the lines of as many: all of it, or a beginning, or nothing where the sink had failed before
+-- the last line of a listing of so many cycles was written behind the lines of as many: all of it, or a beginning, or
+-- nothing where the sink had failed before
 abbrev pub EndsListing : {E : Type 0} → ℕ → Option (List ℕ) → Option (List ℕ) → ℕ → ℕ → Result (Unit {0}) E → Result (Unit {0}) E → Type 0
 EndsListing count held now before after written result = (start : Option (List ℕ)) (first : ℕ) (cycles : List Listed) → count ≡ length cycles → Writes start held first before written (cycles_text cycles) → Writes start now first after result (listing_text cycles)

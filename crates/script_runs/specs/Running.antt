@@ -1,16 +1,16 @@
 -- Which lines can be run, and what running them makes.
 use Rattle.std.specs.Prelude.{◌≡◌, ℕ, ◌≤◌, ◌⊎◌, if◌then◌else◌, List, [], ◌∷◌, ◌++◌, All, Contains, Result, IfOk, length, map, Some, slice_get}
 use mathlib.Core.List.{IsPrefix}
-use Rattle.joint_model.specs.declared.names.Thread.{Thread}
-use Rattle.joint_model.specs.declared.names.Thread.TheVariants.{C}
-use Rattle.joint_model.specs.declared.names.Phase.TheVariants.{Idle}
-use Rattle.joint_model.specs.declared.lines.Act.{Act}
-use Rattle.joint_model.specs.declared.lines.Act.TheVariants as act
-use Rattle.joint_model.specs.declared.events.Entry.{Entry}
-use Rattle.joint_model.specs.Components.{Rises}
-use Rattle.joint_model.specs.Control.{caller_place}
-use Rattle.joint_model.specs.Lines.{IsDriver, IsManagedThread}
-use Rattle.joint_model.specs.PeerReplay.{is_thread}
+use Rattle.joint_machine.specs.declared.names.Thread.{Thread}
+use Rattle.joint_machine.specs.declared.names.Thread.TheVariants.{C}
+use Rattle.joint_machine.specs.declared.names.Phase.TheVariants.{Idle}
+use Rattle.joint_machine.specs.declared.lines.Act.{Act}
+use Rattle.joint_machine.specs.declared.lines.Act.TheVariants as act
+use Rattle.joint_machine.specs.declared.events.Entry.{Entry}
+use Rattle.joint_machine.specs.Components.{Rises}
+use Rattle.joint_machine.specs.Control.{caller_place}
+use Rattle.joint_machine.specs.Lines.{IsDriver, IsManagedThread}
+use Rattle.joint_machine.specs.PeerReplay.{is_thread}
 use Rattle.order_table.specs.declared.views.View.{View}
 use Rattle.order_table.specs.Views.{known}
 use Rattle.joint_history.specs.Callers.{KnowsNothing, Pass, last_index, own}
@@ -21,7 +21,8 @@ use Rattle.bridge_script.specs.Scripts.{IsScriptLine}
 use Rattle.script_laws.specs.Holding.{Standing, standing_after, AreLine, AreLeft, numbered_from}
 use Rattle.run_laws.specs.LastCycle.{HasHeardOf}
 use Rattle.run_laws.specs.Serial.{CallerAdds, AreOthers, IsRunSoFar, ReadsAreAnswered}
-use Rattle.run_laws.specs.Threads.{HoldsItsLines, WaitsEnd, thread_lines}
+use Rattle.run_laws.specs.Threads.{HoldsItsLines, thread_lines}
+use Rattle.run_laws.specs.Waits.{WaitsEnd}
 use Rattle.view_laws.specs.Knowing.{IsDrawnView}
 use Rattle.script_runs.specs.declared.lines.ReadCall.{ReadCall}
 use Rattle.script_runs.specs.declared.lines.ReadCall.TheVariants as reads
@@ -38,7 +39,8 @@ pub record MakesLine (t : Thread) (old new : View) (index : ℕ) (a : Act) : Typ
   pub line : (s : Standing) → AreLine s index (t, a) entries
   pub still : (s : Standing) → standing_after s index a entries ≡ s
 
--- the same by one thread that has both sides alone: a read of a managed thread is answered by the managed list that its caller knows
+-- the same by one thread that has both sides alone: a read of a managed thread is answered by the managed list that its
+-- caller knows
 pub record AnswersLine (t : Thread) (old new : View) (index : ℕ) (a : Act) : Type 0 where
   pub made_line : MakesLine t old new index a
   pub answered : IsDrawnView old → IsDrawnView new → ReadsAreAnswered t old new made_line.entries
@@ -73,7 +75,8 @@ pub record DrivesLeft (old new : Progress) (index : ℕ) : Type 0 where
   pub made : MakesAll C old.view new.view entries
   pub left : (s : Standing) → StandsAs s old → s.line ≡ index → AreLeft s entries
 
--- a caller holds the lines of its thread, up to the last of the script, is idle if it is the driver's, and has no wait that answered `pending`
+-- a caller holds the lines of its thread, up to the last of the script, is idle if it is the driver's, and has no wait
+-- that answered `pending`
 pub record HasRunLines (script : List (Thread × Act)) (t : Thread) (p : Pass) : Type 0 where
   pub thread : p.thread ≡ t
   pub holds : HoldsItsLines script p
@@ -103,7 +106,8 @@ pub record DriverIsFirst (callers : List Pass) : Type 0 where
 abbrev pub HasLine : List (Thread × Act) → Thread → Type 0
 HasLine script t = thread_lines t script ≡ [] → ⊥
 
--- the callers stand in the order of their places, c, m1 to m8 and p1 to p8, and each but the driver's is that of a thread that has a line
+-- the callers stand in the order of their places, c, m1 to m8 and p1 to p8, and each but the driver's is that of a
+-- thread that has a line
 pub record AreWorkers (script : List (Thread × Act)) (callers : List Pass) : Type 0 where
   pub rise : Rises (map (λ p. caller_place p.thread) callers)
   pub each : All (λ p. IsDriver p.thread ⊎ HasLine script p.thread) callers

@@ -1,15 +1,16 @@
-// The run of a script on one thread with a listing of its cycles: the dead part of each is analysed by the second component pass as soon as its snapshot
-// is taken, and its lines go to a sink at once, since the graphs of all cycles together may be many.
+// The run of a script on one thread with a listing of its cycles: the dead part of each is analysed by the second
+// component pass as soon as its snapshot is taken, and its lines go to a sink at once, since the graphs of all cycles
+// together may be many.
 
 ghost use Rattle.std.specs.Prelude.{◌≡◌, ℕ, ◌+◌, ◌≤◌, ◌<◌, ◌^◌, [], ◌∷◌, List, All, IfOk, OnOk, OnErr, length};
-ghost use Rattle.byte_streams.specs.Streams.{AppendsPart};
-ghost use Rattle.joint_model.specs.Histories.{Finished};
-ghost use Rattle.joint_model.specs.LinkedHistories.{IsLinked};
-ghost use Rattle.joint_model.specs.Lines.{IsLine};
-ghost use Rattle.joint_model.specs.Phases.{phases_of};
-ghost use Rattle.joint_model.specs.declared.names.Phase.TheVariants.{Idle};
-ghost use Rattle.joint_model.specs.declared.names.PhaseWord.TheVariants as word;
-ghost use Rattle.joint_model.specs.declared.names.Thread.TheVariants.{C};
+ghost use Rattle.byte_streams.specs.Faults.{AppendsPart};
+ghost use Rattle.joint_machine.specs.Histories.{Finished};
+ghost use Rattle.joint_machine.specs.LinkedHistories.{IsLinked};
+ghost use Rattle.joint_machine.specs.Lines.{IsLine};
+ghost use Rattle.joint_machine.specs.Phases.{phases_of};
+ghost use Rattle.joint_machine.specs.declared.names.Phase.TheVariants.{Idle};
+ghost use Rattle.joint_machine.specs.declared.names.PhaseWord.TheVariants as word;
+ghost use Rattle.joint_machine.specs.declared.names.Thread.TheVariants.{C};
 ghost use Rattle.order_table.specs.Allowed.{Settled};
 ghost use Rattle.order_table.specs.Views.{OwnsAll};
 ghost use Rattle.joint_history.specs.Callers.{KnowsNothing};
@@ -19,7 +20,8 @@ ghost use Rattle.bridge_cycle.specs.Progress.{RunsWords, line_of};
 ghost use Rattle.run_laws.specs.Final.{IsRunInOrder};
 ghost use Rattle.run_laws.specs.Serial.{AreOthers};
 ghost use Rattle.bridge_script.specs.Scripts.{IsScriptLine};
-ghost use Rattle.graph_listing.specs.Listing.{AreOfNodes, Listed, cycles_text, listed_of};
+ghost use Rattle.graph_listing.specs.Listing.{Listed, cycles_text};
+ghost use Rattle.graph_listing.specs.Numbers.{AreOfNodes, listed_of};
 ghost use Rattle.script_runs.specs.Running.{AreUpTo, CanRun, DrivesLine, HasCome, HasComeThrough, RunsOn, last_after};
 ghost use Rattle.listing_laws.specs.Listings.{IsListedIn};
 ghost use Rattle.listing_laws.specs.Writing.{GoesOn, WroteListing};
@@ -100,7 +102,8 @@ fn write_next<O: Sink>(
     }
 }
 
-// Lists the open cycle: the second pass finds the components of its dead part, and the sink gets their lines, unless it failed before.
+// Lists the open cycle: the second pass finds the components of its dead part, and the sink gets their lines, unless it
+// failed before.
 fn list_cycle<N: OrderName, O: Sink>(
     alloc: Global,
     driver: &Driver<N>,
@@ -367,9 +370,10 @@ fn compare_named<N: OrderName, O: Sink>(
     Ok(Compared { history, written })
 }
 
-/// Runs the lines of a script as `run_serial` does, and writes the listing of its cycles while they run: of each snapshot the components of the dead part,
-/// its heavy classes and its cross-references, and `end` with the number of snapshots. They are found by the second component pass. Where the sink fails the
-/// run goes on to its end, and nothing more is written: `written` tells it, and a beginning of the listing stands at the sink. Answers `AllocError` where
+/// Runs the lines of a script as `run_serial` does, and writes the listing of its cycles while they run: of each
+/// snapshot the components of the dead part, its heavy classes and its cross-references, and `end` with the number of
+/// snapshots. They are found by the second component pass. Where the sink fails the run goes on to its end, and nothing
+/// more is written: `written` tells it, and a beginning of the listing stands at the sink. Answers `AllocError` where
 /// there is no memory; a beginning of a listing may stand at the sink then too.
 pub fn run_compared<O: Sink>(
     rt: &impl Wait,

@@ -1,16 +1,17 @@
 // The run of a script with one cycle more: the driver runs it once all threads have ended.
 
 ghost use Rattle.std.specs.Prelude.{◌≡◌, ◌+◌, ◌<◌, ◌≤◌, ◌^◌, [], ◌∷◌, ◌++◌, IfOk, All, length};
-ghost use Rattle.joint_model.specs.declared.names.Thread.{Thread};
-ghost use Rattle.joint_model.specs.Histories.{Finished};
-ghost use Rattle.joint_model.specs.Lines.{IsDriver, IsThread};
+ghost use Rattle.joint_machine.specs.declared.names.Thread.{Thread};
+ghost use Rattle.joint_machine.specs.Histories.{Finished};
+ghost use Rattle.joint_machine.specs.Lines.{IsDriver, IsThread};
 ghost use Rattle.known_laws.specs.Lists.{made_by};
 ghost use Rattle.joint_history.specs.Callers.{KnowsNothing, last_index, own};
 ghost use Rattle.joint_history.specs.Ending.{HasAll, HasIdleDriver, HasOwn, HasEndNumbers, IsFinished, StillWaits};
 ghost use Rattle.order_table.specs.Allowed.{Settled};
 ghost use Rattle.order_table.specs.Views.{OwnsAll};
 ghost use Rattle.run_laws.specs.Final.{IsRunInOrder};
-ghost use Rattle.run_laws.specs.LastCycle.{DrivesCycles, EndsWithCycle, IsRunThenCycle, cycle_line};
+ghost use Rattle.run_laws.specs.LastCycle.{DrivesCycles, EndsWithCycle};
+ghost use Rattle.run_laws.specs.WithCycle.{IsRunThenCycle, cycle_line};
 ghost use Rattle.script_runs.specs.Running.{AreSame, CanRun, HearsAll};
 
 use crate::lines::drive_line;
@@ -45,7 +46,8 @@ fn hear_all<N: OrderName>(
     }
 }
 
-// Runs a whole cycle, on a line of its own, by the driver's caller, which hears of all that the others have made before.
+// Runs a whole cycle, on a line of its own, by the driver's caller, which hears of all that the others have made
+// before.
 fn cycle_last<N: OrderName>(
     rt: &impl Wait,
     alloc: Global,
@@ -121,9 +123,10 @@ fn run_named<N: OrderName + Send + Sync, R: Threads + Wait + Sync, T: Turnstile 
     }
 }
 
-/// Runs the lines of each thread of a script in a thread of its own, as `run_threads` does; and once all of them have ended the driver hears of what
-/// each has made and runs a whole cycle, on a line of its own behind the script's. No entry is kept: the finished history is there for proofs alone, and
-/// the numbers of its last state are answered, or `AllocError` where there is no memory.
+/// Runs the lines of each thread of a script in a thread of its own, as `run_threads` does; and once all of them have
+/// ended the driver hears of what each has made and runs a whole cycle, on a line of its own behind the script's. No
+/// entry is kept: the finished history is there for proofs alone, and the numbers of its last state are answered, or
+/// `AllocError` where there is no memory.
 pub fn run_threads_then_cycle<R: Threads + Wait + Sync, T: Turnstile + Sync>(
     rt: &R,
     alloc: Global,
@@ -139,9 +142,9 @@ pub fn run_threads_then_cycle<R: Threads + Wait + Sync, T: Turnstile + Sync>(
     run_named::<Brand, R, T>(rt, alloc, order, seat, script, turn)
 }
 
-/// Runs the lines of a script one after another, as `run_serial` does, and then a whole cycle, on a line of its own, which is put behind them. All lines
-/// of the driver are whole cycles too. No entry is kept: the finished history is there for proofs alone, and the numbers of its last state are answered,
-/// or `AllocError` where there is no memory.
+/// Runs the lines of a script one after another, as `run_serial` does, and then a whole cycle, on a line of its own,
+/// which is put behind them. All lines of the driver are whole cycles too. No entry is kept: the finished history is
+/// there for proofs alone, and the numbers of its last state are answered, or `AllocError` where there is no memory.
 pub fn run_serial_then_cycle(
     rt: &impl Wait,
     alloc: Global,

@@ -3,10 +3,10 @@
 ghost use Rattle.std.specs.Prelude.{◌≡◌, ◌≤◌, OnOk};
 ghost use Rattle.joint_history.specs.Callers.{last_index, own};
 ghost use Rattle.joint_history.specs.Operations.{IsOperationOf};
-ghost use Rattle.joint_model.specs.Lines.{IsLine, IsManagedThread};
+ghost use Rattle.joint_machine.specs.Lines.{IsLine, IsManagedThread};
 ghost use Rattle.weak_wait.specs.Reads.{IsRead};
-ghost use Rattle.joint_model.specs.declared.names.Phase.TheVariants.{Idle};
-ghost use Rattle.joint_model.specs.declared.names.Thread.TheVariants.{C};
+ghost use Rattle.joint_machine.specs.declared.names.Phase.TheVariants.{Idle};
+ghost use Rattle.joint_machine.specs.declared.names.Thread.TheVariants.{C};
 ghost use Rattle.bridge_cycle.specs.Progress.{line_of};
 ghost use Rattle.script_runs.specs.declared.lines.ReadCall.TheVariants.{Now};
 ghost use Rattle.script_runs.specs.Running.{AnswersLine, DrivesLeft, DrivesLine, WaitsLine, read_call};
@@ -18,7 +18,8 @@ use order_table::OrderName;
 use std::alloc::{AllocError, Global};
 use std::sync::Wait;
 
-// How a line of a managed thread reads a cell beside other threads: at once, or by waiting. Each other line takes locks.
+// How a line of a managed thread reads a cell beside other threads: at once, or by waiting. Each other line takes
+// locks.
 #[derive(Clone, Copy)]
 enum ReadCall {
     Now,
@@ -36,8 +37,9 @@ fn read_call(act: &Act) -> ReadCall
     }
 }
 
-/// Runs a line of a thread that isn't the driver's, where one thread has both sides alone: the caller makes the line's entries, and a read is answered by the
-/// managed list that it knows. Answers `AllocError` where there is no memory; the caller may have made the first of them then.
+/// Runs a line of a thread that isn't the driver's, where one thread has both sides alone: the caller makes the line's
+/// entries, and a read is answered by the managed list that it knows. Answers `AllocError` where there is no memory;
+/// the caller may have made the first of them then.
 #[inline(always)]
 pub(crate) fn run_line_alone<N: OrderName>(
     rt: &impl Wait,
@@ -98,8 +100,9 @@ fn read_in_time<N: OrderName>(
     Ok(())
 }
 
-/// Runs a line of a thread that isn't the driver's beside other threads: the caller makes the line's entries. A managed thread reads a cell without a lock, and
-/// no wait answers `pending`. Answers `AllocError` where there is no memory; the caller may have made the first of the entries then.
+/// Runs a line of a thread that isn't the driver's beside other threads: the caller makes the line's entries. A managed
+/// thread reads a cell without a lock, and no wait answers `pending`. Answers `AllocError` where there is no memory;
+/// the caller may have made the first of the entries then.
 #[inline(always)]
 pub(crate) fn run_line_beside<N: OrderName>(
     rt: &impl Wait,
@@ -126,7 +129,8 @@ pub(crate) fn run_line_beside<N: OrderName>(
     Ok(())
 }
 
-/// Runs a line of the driver: it makes the line's entries, and stands where they lead. Answers `AllocError` where there is no memory.
+/// Runs a line of the driver: it makes the line's entries, and stands where they lead. Answers `AllocError` where there
+/// is no memory.
 pub(crate) fn drive_line<N: OrderName, K: Keeps<N>>(
     rt: &impl Wait,
     alloc: Global,
@@ -144,8 +148,9 @@ pub(crate) fn drive_line<N: OrderName, K: Keeps<N>>(
     Ok(())
 }
 
-/// Makes the phases that are left of an open cycle, on the driver's last line. Answers `AllocError` where there is no memory: the cycle is abandoned then. The
-/// driver is idle in either case, so that nobody waits for the end of a cycle that has none.
+/// Makes the phases that are left of an open cycle, on the driver's last line. Answers `AllocError` where there is no
+/// memory: the cycle is abandoned then. The driver is idle in either case, so that nobody waits for the end of a cycle
+/// that has none.
 pub(crate) fn drive_left<N: OrderName, K: Keeps<N>>(
     rt: &impl Wait,
     alloc: Global,

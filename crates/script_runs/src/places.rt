@@ -1,8 +1,8 @@
 // Threads and the places of their callers.
 
 ghost use Rattle.std.specs.Prelude.{◌≡◌, ◌+◌, ◌<◌};
-ghost use Rattle.joint_model.specs.Control.{caller_place};
-ghost use Rattle.joint_model.specs.PeerReplay.{is_thread};
+ghost use Rattle.joint_machine.specs.Control.{caller_place};
+ghost use Rattle.joint_machine.specs.PeerReplay.{is_thread};
 ghost use Rattle.joint_history.specs.Desks.{thread_of};
 ghost use Rattle.joint_history.specs.Operations.{IsOwnThread};
 

@@ -1,8 +1,8 @@
 // The run of a script on one thread: its lines one after another.
 
 ghost use Rattle.std.specs.Prelude.{◌≡◌, ℕ, ◌+◌, ◌≤◌, ◌<◌, ◌^◌, [], Some, All, IfOk, OnOk, OnErr, length, slice_get};
-ghost use Rattle.joint_model.specs.Histories.{Finished};
-ghost use Rattle.joint_model.specs.LinkedHistories.{IsLinked};
+ghost use Rattle.joint_machine.specs.Histories.{Finished};
+ghost use Rattle.joint_machine.specs.LinkedHistories.{IsLinked};
 ghost use Rattle.order_table.specs.Allowed.{Settled};
 ghost use Rattle.order_table.specs.Views.{OwnsAll};
 ghost use Rattle.joint_history.specs.Callers.{KnowsNothing, Pass, last_index, own};
@@ -25,7 +25,8 @@ use std::alloc::{AllocError, Global};
 use std::marker::Brand;
 use std::sync::Wait;
 
-/// Runs a line of a thread that isn't the driver's. The driver tells the thread's caller all that it knows, and hears of what the caller made.
+/// Runs a line of a thread that isn't the driver's. The driver tells the thread's caller all that it knows, and hears
+/// of what the caller made.
 #[inline(always)]
 pub(crate) fn run_told<N: OrderName>(
     rt: &impl Wait,
@@ -157,7 +158,8 @@ fn run_by_desk<N: OrderName>(
     Ok(others)
 }
 
-// Runs a script by the callers of one order, and answers both sides and the callers, of which each is given back or still at the desk.
+// Runs a script by the callers of one order, and answers both sides and the callers, of which each is given back or
+// still at the desk.
 fn run_lines<N: OrderName>(
     rt: &impl Wait,
     alloc: Global,
@@ -184,7 +186,8 @@ fn run_lines<N: OrderName>(
     }
 }
 
-// Runs a script by the callers of one order, for its history. Its lists hold every entry, so memory alone can be wanting for that.
+// Runs a script by the callers of one order, for its history. Its lists hold every entry, so memory alone can be
+// wanting for that.
 fn run_named<N: OrderName>(
     rt: &impl Wait,
     alloc: Global,
@@ -221,8 +224,9 @@ fn end_named<N: OrderName>(
     Ok(shared.end(desk, callers))
 }
 
-/// Runs the lines of a script one after another, each by its thread's caller, and then the phases that the driver's lines have left; and answers
-/// the finished history, in which each read has the one machine's reply: the only one that a run of these lines in their order can have so. Answers `AllocError` where there is no memory.
+/// Runs the lines of a script one after another, each by its thread's caller, and then the phases that the driver's
+/// lines have left; and answers the finished history, in which each read has the one machine's reply: the only one that
+/// a run of these lines in their order can have so. Answers `AllocError` where there is no memory.
 pub fn run_serial(
     rt: &impl Wait,
     alloc: Global,
@@ -235,7 +239,8 @@ pub fn run_serial(
     run_named::<Brand>(rt, alloc, order, seat, script)
 }
 
-/// The same of a run of which no entry is read: its history is there for proofs alone, and the numbers of its last state are answered.
+/// The same of a run of which no entry is read: its history is there for proofs alone, and the numbers of its last
+/// state are answered.
 pub(crate) fn end_serial(
     rt: &impl Wait,
     alloc: Global,

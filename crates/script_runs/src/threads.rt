@@ -1,10 +1,10 @@
 // The run of a script by a thread of its own for each of its threads.
 
 ghost use Rattle.std.specs.Prelude.{◌≡◌, ◌<◌, ◌^◌, ℕ, map, All, IfOk, Ok, [], length, slice_index_or, vec_len};
-ghost use Rattle.joint_model.specs.declared.names.Thread.{Thread};
-ghost use Rattle.joint_model.specs.Histories.{Finished};
-ghost use Rattle.joint_model.specs.LinkedHistories.{IsLinked};
-ghost use Rattle.joint_model.specs.Lines.{IsThread};
+ghost use Rattle.joint_machine.specs.declared.names.Thread.{Thread};
+ghost use Rattle.joint_machine.specs.Histories.{Finished};
+ghost use Rattle.joint_machine.specs.LinkedHistories.{IsLinked};
+ghost use Rattle.joint_machine.specs.Lines.{IsThread};
 ghost use Rattle.order_table.specs.Allowed.{Settled};
 ghost use Rattle.order_table.specs.Views.{OwnsAll};
 ghost use Rattle.joint_history.specs.Callers.{KnowsNothing};
@@ -62,7 +62,8 @@ pub(crate) fn run_jobs<N: OrderName + Send + Sync, R: Threads + Wait + Sync, T: 
     )
 }
 
-// Runs the lines of each thread in a thread of its own, by the callers of the desk, and answers those that were given out.
+// Runs the lines of each thread in a thread of its own, by the callers of the desk, and answers those that were given
+// out.
 fn run_by_desk<N: OrderName + Send + Sync, R: Threads + Wait + Sync, T: Turnstile + Sync>(
     rt: &R,
     alloc: Global,
@@ -84,7 +85,8 @@ fn run_by_desk<N: OrderName + Send + Sync, R: Threads + Wait + Sync, T: Turnstil
     Ok(callers)
 }
 
-// Runs a script by the callers of one order. Its lists hold every entry, so memory alone can be wanting for the history.
+// Runs a script by the callers of one order. Its lists hold every entry, so memory alone can be wanting for the
+// history.
 fn run_named<N: OrderName + Send + Sync, R: Threads + Wait + Sync, T: Turnstile + Sync>(
     rt: &R,
     alloc: Global,
@@ -109,9 +111,10 @@ fn run_named<N: OrderName + Send + Sync, R: Threads + Wait + Sync, T: Turnstile 
     }
 }
 
-/// Runs the lines of each thread of a script in a thread of its own, in their order and each after its turn, and then the phases that the
-/// driver's lines have left; and answers the finished history. There is one job for the driver and one for each other thread that has a line;
-/// where no thread can be made the jobs run one after another. Answers `AllocError` where there is no memory, after all jobs have ended.
+/// Runs the lines of each thread of a script in a thread of its own, in their order and each after its turn, and then
+/// the phases that the driver's lines have left; and answers the finished history. There is one job for the driver and
+/// one for each other thread that has a line; where no thread can be made the jobs run one after another. Answers
+/// `AllocError` where there is no memory, after all jobs have ended.
 pub fn run_threads<R: Threads + Wait + Sync, T: Turnstile + Sync>(
     rt: &R,
     alloc: Global,

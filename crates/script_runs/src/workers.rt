@@ -1,9 +1,9 @@
 // The callers of a run, and what each does with its thread's lines.
 
 ghost use Rattle.std.specs.Prelude.{◌≡◌, ℕ, ◌≤◌, ◌<◌, false, true, [], All, IfOk, OnOk};
-ghost use Rattle.joint_model.specs.Lines.{IsThread};
-ghost use Rattle.joint_model.specs.declared.names.Phase.TheVariants.{Idle};
-ghost use Rattle.joint_model.specs.declared.names.Thread.TheVariants.{C};
+ghost use Rattle.joint_machine.specs.Lines.{IsThread};
+ghost use Rattle.joint_machine.specs.declared.names.Phase.TheVariants.{Idle};
+ghost use Rattle.joint_machine.specs.declared.names.Thread.TheVariants.{C};
 ghost use Rattle.joint_history.specs.Callers.{KnowsNothing};
 ghost use Rattle.joint_history.specs.Ending.{HasAll};
 ghost use Rattle.joint_history.specs.Operations.{IsOwnThread};
@@ -33,8 +33,8 @@ fn has_line(script: &[(Thread, Act)], t: Thread) -> bool
     false
 }
 
-/// The callers of `c`, first of all, and of each other thread that has a line, in the order of their places. Answers `AllocError` where there is no
-/// memory.
+/// The callers of `c`, first of all, and of each other thread that has a line, in the order of their places. Answers
+/// `AllocError` where there is no memory.
 pub(crate) fn workers<N: OrderName>(
     alloc: Global,
     desk: &mut Desk<N>,
@@ -64,7 +64,8 @@ pub(crate) fn workers<N: OrderName>(
     Ok(callers)
 }
 
-/// Runs the lines of a thread that isn't the driver's, in their order, each after its turn. Answers `AllocError` where there is no memory.
+/// Runs the lines of a thread that isn't the driver's, in their order, each after its turn. Answers `AllocError` where
+/// there is no memory.
 pub(crate) fn run_own<N: OrderName, T: Turnstile>(
     rt: &impl Wait,
     shared: &Shared<N, Locks>,
@@ -90,9 +91,9 @@ pub(crate) fn run_own<N: OrderName, T: Turnstile>(
     Ok(caller)
 }
 
-// Runs the driver's lines, in their order, each after its turn, and then the phases that they have left. Answers `AllocError` where there is no
-// memory; a cycle that is open then is ended first, or abandoned. The driver is idle in either case, so that no other thread waits for the end of a
-// cycle that has none.
+// Runs the driver's lines, in their order, each after its turn, and then the phases that they have left. Answers
+// `AllocError` where there is no memory; a cycle that is open then is ended first, or abandoned. The driver is idle in
+// either case, so that no other thread waits for the end of a cycle that has none.
 fn drive_all<N: OrderName, T: Turnstile>(
     rt: &impl Wait,
     alloc: Global,
@@ -124,7 +125,8 @@ fn drive_all<N: OrderName, T: Turnstile>(
     drive_left(rt, alloc, shared, driver, last)
 }
 
-/// Runs the lines of the driver's caller, and what they have left. Answers `AllocError` where there is no memory, once the driver is idle.
+/// Runs the lines of the driver's caller, and what they have left. Answers `AllocError` where there is no memory, once
+/// the driver is idle.
 pub(crate) fn run_driver<N: OrderName, T: Turnstile>(
     rt: &impl Wait,
     alloc: Global,

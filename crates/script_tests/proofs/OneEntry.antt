@@ -1,13 +1,15 @@
--- A list of one entry, the only list of a run, joins to the history of that entry, where the entry fits what the history's lists hold.
+-- A list of one entry, the only list of a run, joins to the history of that entry, where the entry fits what the
+-- history's lists hold.
 use Rattle.std.proofs.Common.{◌≡◌, List, [], ◌∷◌, All, Contains, map, refl}
 use Rattle.std.proofs.lemmas.List.Elements.{All-nil, All-cons}
-use Rattle.joint_model.proofs.Members.{Contains-here}
-use Rattle.joint_model.specs.declared.names.MNum.{MNum}
-use Rattle.joint_model.specs.declared.names.PNum.{PNum}
-use Rattle.joint_model.specs.declared.events.Entry.{Entry}
-use Rattle.joint_model.specs.Components.{Rises}
-use Rattle.joint_model.specs.Histories.{FitsLists, IsJoinable, IsPlaced, IsShuffle, entry_lists}
-use Rattle.joint_model.specs.Listed.{Stock}
+use Rattle.joint_machine.proofs.Members.{Contains-here}
+use Rattle.joint_machine.specs.declared.names.MNum.{MNum}
+use Rattle.joint_machine.specs.declared.names.PNum.{PNum}
+use Rattle.joint_machine.specs.declared.events.Entry.{Entry}
+use Rattle.joint_machine.specs.Components.{Rises}
+use Rattle.joint_machine.specs.Histories.{FitsLists}
+use Rattle.joint_machine.specs.Shuffles.{IsJoinable, IsPlaced, IsShuffle}
+use Rattle.joint_model.specs.Listed.{Stock, entry_lists}
 
 -- the entry stands at its number
 placed : (e : Entry) → e.number ≡ 0 → IsPlaced (e ∷ []) e

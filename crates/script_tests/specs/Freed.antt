@@ -1,7 +1,7 @@
 -- What the worked histories freed: two objects of each heap.
 use Rattle.std.specs.Prelude.{ℕ, List, [], ◌∷◌}
-use Rattle.joint_model.specs.declared.names.MNum.{MNum}
-use Rattle.joint_model.specs.declared.names.PNum.{PNum}
+use Rattle.joint_machine.specs.declared.names.MNum.{MNum}
+use Rattle.joint_machine.specs.declared.names.PNum.{PNum}
 
 -- a managed object, and a peer, by their numbers
 abbrev pub object : ℕ → MNum

@@ -1,10 +1,11 @@
-// Tests of `byte_streams`, `bridge_script` and `history_report` by their public calls: scripts and their first faults, sources, sinks, and the
-// reports of worked histories.
+// Tests of `byte_streams`, `bridge_script` and `history_report` by their public calls: scripts and their first faults,
+// sources, sinks, and the reports of worked histories.
 //
-// They stand in a crate of their own since a crate with tests is proved twice, with them and without, and these are what a program is built on. Nothing
-// but tests stands here, and no other crate builds on it.
+// They stand in a crate of their own since a crate with tests is proved twice, with them and without, and these are
+// what a program is built on. Nothing but tests stands here, and no other crate builds on it.
 //
-// Nothing is promised to anybody. A test makes its source, sink or history, makes the calls, and compares what they answer with a table; each runs alone.
+// Nothing is promised to anybody. A test makes its source, sink or history, makes the calls, and compares what they
+// answer with a table; each runs alone.
 #![tactic(auto)]
 
 #[cfg(test)]

@@ -1,7 +1,7 @@
 // Reports of worked histories: the words of each event and reply, and what a sink has of a report at each fault.
 
-ghost use Rattle.joint_model.specs.Lines.{IsNamed};
-ghost use Rattle.joint_model.specs.Histories.{HasSpans};
+ghost use Rattle.joint_machine.specs.Lines.{IsNamed};
+ghost use Rattle.joint_machine.specs.Histories.{HasSpans};
 ghost use Rattle.script_tests.specs.Freed.{freed_objects, freed_peers};
 
 use crate::comparing::{expect_at, expect_text};

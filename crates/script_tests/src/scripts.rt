@@ -1,4 +1,5 @@
-// Scripts and sources by worked examples and at their limits. What is compared stands in tables, which one loop reads each.
+// Scripts and sources by worked examples and at their limits. What is compared stands in tables, which one loop reads
+// each.
 
 use crate::comparing::{expect_at, expect_text};
 use bridge_script::{ScriptError, parse, read_script, script_text};
@@ -145,8 +146,8 @@ fn each_line_has_its_first_cause(rt: HostRuntime) {
     }
 }
 
-// A text: a line so many times, then so many bytes `x`, then an end. And a thousand times the number of its first faulty line and the
-// number of the cause.
+// A text: a line so many times, then so many bytes `x`, then an end. And a thousand times the number of its first
+// faulty line and the number of the cause.
 type Faulty = (&'static [u8], usize, usize, &'static [u8], u64);
 
 // Texts with few lines, and texts at the limits of a script.

@@ -2,8 +2,8 @@
 use Rattle.std.proofs.Common.{◌≡◌, ◌⊎◌, inl, inr, ⊎_elim, ℕ, ◌+◌, ◌*◌, ◌<◌, Bool, true, false, ◌||◌, [], ◌∷◌, ◌++◌, refl, sym, ap, ◌∙◌, subst, arith, true≢false}
 use Rattle.std.specs.Prelude.{if◌then◌else◌, ◌==◌, max, Option, Some, None}
 use Rattle.std.proofs.lemmas.Bool.{cases_eq, cases_Bool}
-use Rattle.joint_model.specs.Control.{caller_place}
-use Rattle.joint_model.specs.HistoryLines.{caller_line}
+use Rattle.joint_machine.specs.Control.{caller_place}
+use Rattle.joint_machine.specs.HistoryLines.{caller_line}
 use Rattle.order_table.specs.declared.views.KeptEntry.{KeptEntry}
 use Rattle.order_table.specs.declared.views.View.{View}
 use Rattle.order_table.specs.Rows.{at}
@@ -41,7 +41,8 @@ stage_now v w r k g small which = ⊎_elim
     (λ n. ap stage (g.others 0 (λ z. n (sym z)) (λ z. let z' : 0 ≡ caller_place k.entry.made.caller + 10 = z in omega arith)))
     (cases_eq r 0)
 
--- a seat is settled after a peer's entry, and after a managed one that frees nothing, opens and ends no cycle, and leaves every pin
+-- a seat is settled after a peer's entry, and after a managed one that frees nothing, opens and ends no cycle, and
+-- leaves every pin
 pub plain_settled : (v w : View) (r : ℕ) (k : KeptEntry) → r < 2 → IsInRole r k.entry.made → GrowsByEntry v w r k → IsPaid v w r k → (r ≡ 1) ⊎ IsPlain k → Settled v → Settled w
 plain_settled v w r k small stands g p which s =
     let pin_stays : deed_of_pin k ≡ stays = ⊎_elim (λ (e : r ≡ 1). peer_stays k.entry.made.caller k.entry.made.op k.entry.made.reply (stands.peer e).1) (λ q. q.pin) which in

@@ -1,7 +1,7 @@
 -- How the gate goes with a cycle, and a pin with its thread.
 use Rattle.std.specs.Prelude.{◌≡◌, ◌⊎◌, ℕ, ◌<◌}
-use Rattle.joint_model.specs.declared.lines.Act.{Act}
-use Rattle.joint_model.specs.declared.names.Thread.TheVariants.{M}
+use Rattle.joint_machine.specs.declared.lines.Act.{Act}
+use Rattle.joint_machine.specs.declared.names.Thread.TheVariants.{M}
 use Rattle.joint_model.specs.Listed.{Stock}
 use Rattle.order_table.specs.declared.views.View.{View}
 use Rattle.order_table.specs.Stages.{IsClosed}
@@ -42,7 +42,8 @@ pub record OwesClearing (v : View) (reader : ℕ) : Type 0 where
   pub empty : (v.empty ≡ 0) ⊎ (v.empty ≡ reader)
   pub gate : HoldsOpen v
 
--- a read under the managed lock: the caller's lines are lent, the read is made by the locked seat, and they are given back
+-- a read under the managed lock: the caller's lines are lent, the read is made by the locked seat, and they are given
+-- back
 pub record ReadsLocked (reader index : ℕ) (a : Act) (number : ℕ) (g : Got) (locked mine locked' mine' : View) (old new : Stock) : Type 0 where
   pub lent : View
   pub left : View

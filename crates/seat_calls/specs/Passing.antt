@@ -1,15 +1,15 @@
 -- How a side draws its entries' numbers by a seat, and how a caller's pass is handed to a locked seat and back.
 use Rattle.std.specs.Prelude.{◌≡◌, ◌⊎◌, ℕ, ◌+◌, ◌-◌, ◌<◌, max, true, false, List, [], ◌∷◌, length, Option}
 use mathlib.Core.List.{IsPrefix}
-use Rattle.joint_model.specs.declared.names.Thread.{Thread}
-use Rattle.joint_model.specs.declared.events.Op.{Op}
-use Rattle.joint_model.specs.HistoryLines.{caller_line}
-use Rattle.joint_model.specs.Lines.{IsThread, is_peer_event, is_read}
+use Rattle.joint_machine.specs.declared.names.Thread.{Thread}
+use Rattle.joint_machine.specs.declared.events.Op.{Op}
+use Rattle.joint_machine.specs.HistoryLines.{caller_line}
+use Rattle.joint_machine.specs.Lines.{IsThread, is_peer_event, is_read}
 use Rattle.order_table.specs.declared.views.KeptEntry.{KeptEntry}
 use Rattle.order_table.specs.declared.views.View.{View}
 use Rattle.order_table.specs.Rule.{IsBelow}
 use Rattle.order_table.specs.Tells.{GrowsByEntry, IsOfCaller, BeginsOneHistory}
-use Rattle.joint_model.specs.declared.names.MNum.{MNum}
+use Rattle.joint_machine.specs.declared.names.MNum.{MNum}
 use Rattle.order_table.specs.Stages.{deed}
 use Rattle.order_table.specs.Owed.{mark, target_told}
 use Rattle.order_table.specs.Allowed.{MayDo, MaySet, OwesNone}
@@ -46,8 +46,8 @@ pub record MayAppend (order : OrderId) (seat : Shown) (r : ℕ) (t : Thread) (o 
   pub cycles : r ≡ 0 → MayDo seat.view (deed o)
   pub cells : r ≡ 0 → MaySet seat.view (mark o (target_told t o m))
 
--- the seat made that entry, and stored the word of the cell that it sets: the number is above all that the seat knew, what the seat knows now is of one
--- history, and this it holds and owes
+-- the seat made that entry, and stored the word of the cell that it sets: the number is above all that the seat knew,
+-- what the seat knows now is of one history, and this it holds and owes
 pub record Appends (order order' : OrderId) (old new : Shown) (r : ℕ) (k : KeptEntry) : Type 0 where
   pub same_order : order' ≡ order
   pub same : new.order ≡ old.order
@@ -56,9 +56,9 @@ pub record Appends (order order' : OrderId) (old new : Shown) (r : ℕ) (k : Kep
   pub one_history : BeginsOneHistory new.view
   pub paid : IsPaid old.view new.view r k
 
--- a caller's lines were handed to a locked seat: that seat owns what it owned and the caller's lines, and knows of each line the longer
--- list; of the lines that it owned it knows what it knew, and of the caller's lines what the caller knew. The caller's own seat knows
--- what it knew.
+-- a caller's lines were handed to a locked seat: that seat owns what it owned and the caller's lines, and knows of each
+-- line the longer list; of the lines that it owned it knows what it knew, and of the caller's lines what the caller
+-- knew. The caller's own seat knows what it knew.
 pub record Lends (t : Thread) (locked mine locked' mine' : View) : Type 0 where
   pub kept : (i : ℕ) → Owns locked i → Owns locked' i
   pub lines : (i : ℕ) → IsOfCaller t i → Owns mine i → Owns locked' i
@@ -70,8 +70,8 @@ pub record Lends (t : Thread) (locked mine locked' mine' : View) : Type 0 where
   pub same : (i : ℕ) → known mine' i ≡ known mine i
   pub one_history : BeginsOneHistory locked'
 
--- they were handed back: the locked seat owns its other lines and knows what it knew, and the caller's seat owns its lines and knows
--- all that the locked one does
+-- they were handed back: the locked seat owns its other lines and knows what it knew, and the caller's seat owns its
+-- lines and knows all that the locked one does
 pub record Returns (t : Thread) (locked mine locked' mine' : View) : Type 0 where
   pub kept : (i : ℕ) → (IsOfCaller t i → ⊥) → Owns locked i → Owns locked' i
   pub lines : (i : ℕ) → IsOfCaller t i → Owns locked i → Owns mine' i

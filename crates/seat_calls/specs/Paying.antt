@@ -1,6 +1,6 @@
 -- What is still to be stored after an entry, and what a side says of freed objects.
 use Rattle.std.specs.Prelude.{◌≡◌, ◌↔◌, ℕ, ◌<◌, true, false, [], Some}
-use Rattle.joint_model.specs.Control.{caller_place}
+use Rattle.joint_machine.specs.Control.{caller_place}
 use Rattle.order_table.specs.declared.views.KeptEntry.{KeptEntry}
 use Rattle.order_table.specs.declared.views.View.{View}
 use Rattle.order_table.specs.Rows.{at}

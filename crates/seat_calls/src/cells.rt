@@ -1,9 +1,9 @@
 // The words of cells, after an entry that sets one or frees the targets of some.
 
 ghost use Rattle.std.specs.Prelude.{◌≡◌, ◌⊎◌, ℕ, ◌+◌, ◌<◌, ◌≤◌, ◌↔◌, Bool, true, false, IsTrue, MatchBool, Option, None, Some, IfNone, IfSome, length};
-ghost use Rattle.joint_model.specs.declared.names.MNum.{MNum};
-ghost use Rattle.joint_model.specs.HistoryLines.{caller_line};
-ghost use Rattle.joint_model.specs.Lines.{IsThread, is_peer_event};
+ghost use Rattle.joint_machine.specs.declared.names.MNum.{MNum};
+ghost use Rattle.joint_machine.specs.HistoryLines.{caller_line};
+ghost use Rattle.joint_machine.specs.Lines.{IsThread, is_peer_event};
 ghost use Rattle.order_table.specs.Rows.{at};
 ghost use Rattle.order_table.specs.Allowed.{MayMake, NoDebt};
 ghost use Rattle.order_table.specs.Owed.{is_freed, mark, target, target_told};
@@ -27,7 +27,8 @@ fn cell_set(made: &Made) -> Option<Cell>
     }
 }
 
-/// Makes an entry in the list of a side's role, as `Order::append` does, and stores the word of the cell that it sets. Answers the entry's number.
+/// Makes an entry in the list of a side's role, as `Order::append` does, and stores the word of the cell that it sets.
+/// Answers the entry's number.
 #[inline(always)]
 pub fn append_paid(
     order: &Order,

@@ -45,7 +45,8 @@ pub fn settle_opened<L: Lives>(order: &Order, seat: &mut Seat, side: &L)
     pay_cells(order, seat, side);
 }
 
-/// After the entry that ends a cycle: the cells whose targets it freed say so, the gate is open, and the seat is settled.
+/// After the entry that ends a cycle: the cells whose targets it freed say so, the gate is open, and the seat is
+/// settled.
 pub fn settle_ended<L: Lives>(order: &Order, seat: &mut Seat, side: &L)
     requires seat { (seat.old.order ≡ order.now) × Owns seat.old.view 0 }
     requires agrees { Agrees seat.old.view (L.live side.now) }

@@ -1,8 +1,8 @@
-// What a side does with its seat under its lock: how a caller's lines come and go, how a side draws by the seat, and how the words of the gate, of the
-// cells and of the pins follow the entries that a cycle, a `weak` or a `take` makes.
+// What a side does with its seat under its lock: how a caller's lines come and go, how a side draws by the seat, and
+// how the words of the gate, of the cells and of the pins follow the entries that a cycle, a `weak` or a `take` makes.
 //
-// Each call is for whoever has the side and its seat in hand. It makes at most one entry, takes no memory and waits for nobody. `specs/` read alone tells
-// what is true: Passing first, then Paying and Gating.
+// Each call is for whoever has the side and its seat in hand. It makes at most one entry, takes no memory and waits for
+// nobody. `specs/` read alone tells what is true: Passing first, then Paying and Gating.
 #![tactic(auto)]
 
 mod cells;

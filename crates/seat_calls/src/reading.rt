@@ -12,7 +12,8 @@ use joint_model::{Act, Entries, Thread};
 use order_table::{Order, Seat};
 use weak_wait::{Got, read};
 
-/// Reads a cell by a locked seat, which owns the managed list, for a caller that lends its lines to it; so the answer is what the managed list says.
+/// Reads a cell by a locked seat, which owns the managed list, for a caller that lends its lines to it; so the answer
+/// is what the managed list says.
 pub fn read_locked(
     order: &Order,
     locked: &mut Seat,

@@ -2,8 +2,8 @@
 
 ghost use Rattle.std.specs.Prelude.{◌≡◌, ℕ};
 ghost use mathlib.Core.List.{IsPrefix};
-ghost use Rattle.joint_model.specs.HistoryLines.{caller_line};
-ghost use Rattle.joint_model.specs.Lines.{IsThread};
+ghost use Rattle.joint_machine.specs.HistoryLines.{caller_line};
+ghost use Rattle.joint_machine.specs.Lines.{IsThread};
 ghost use Rattle.order_table.specs.Allowed.{Settled};
 ghost use Rattle.order_table.specs.Views.{known, Owns};
 ghost use Rattle.seat_calls.specs.Passing.{Lends, Returns};
@@ -55,13 +55,12 @@ impl<'a> Draw for SeatDrawing<'a> {
     ghost use Rattle.order_table.specs.Views.{kept, role_line};
     ghost use Rattle.seat_calls.specs.Passing.{floor_of, left_in, MayAppend, Appends};
 
-    ghost floor = { λ d. floor_of d.seat.now.view };
-
-    ghost left = { λ d. left_in d.seat.now.view (role_line d.role) };
-
-    ghost may = { λ d t o m. MayAppend d.order.now d.seat.now (role_line d.role) t o m };
-
-    ghost drew = { λ d e m freed d'. (d'.seat.ghost_name ≡ d.seat.ghost_name) × (d'.role ≡ d.role) × (d'.last ≡ e.number) × Appends d.order.now d'.order.now d.seat.now d'.seat.now (role_line d.role) (kept d.seat.now.view e.made m freed e.number) × (d'.first ≡ Some (unwrap_or d.first e.number)) };
+    ghost rules = { record {
+      floor = λ d. floor_of d.seat.now.view;
+      left = λ d. left_in d.seat.now.view (role_line d.role);
+      may = λ d t o m. MayAppend d.order.now d.seat.now (role_line d.role) t o m;
+      drew = λ d e m freed d'. (d'.seat.ghost_name ≡ d.seat.ghost_name) × (d'.role ≡ d.role) × (d'.last ≡ e.number) × Appends d.order.now d'.order.now d.seat.now d'.seat.now (role_line d.role) (kept d.seat.now.view e.made m freed e.number) × (d'.first ≡ Some (unwrap_or d.first e.number));
+    } };
 
     fn draw(&mut self, made: &Made, target: Option<MNum>, freed: &[MNum]) -> u64 {
         let number = append_paid(self.order, self.seat, self.role, made, target, freed);

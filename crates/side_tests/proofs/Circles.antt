@@ -4,16 +4,17 @@ use Rattle.std.specs.Prelude.{All, AllPairs, Contains, is_some, slice_get}
 use Rattle.std.proofs.lemmas.List.Elements.{All-cons, All-nil}
 use Rattle.std.proofs.lemmas.List.Kept.{AllPairs-cons}
 use Rattle.std.proofs.lemmas.Option.{same_Some}
-use Rattle.joint_model.specs.declared.names.HNum.{HNum}
-use Rattle.joint_model.specs.declared.events.Reply.TheVariants as says
-use Rattle.joint_model.specs.Components.{End, IsMember, mirror_edges, node, temporary}
-use Rattle.joint_model.specs.Peers.{Issued, held, next_handle, peer_of, strong}
-use Rattle.joint_model.specs.Heaps.{numbered_at}
-use Rattle.joint_model.specs.PeerReplay.{PeerReplay, LeadsOver, Mirror, Refers, TableRow, MayClear, MayRestore, MayWeaken, opening_peer_replay, restored_by, row_of, with_weakened, IsHeld}
-use Rattle.joint_model.specs.Sides.{Side, AddsInTurn, AddsLawful, peer_rules}
-use Rattle.joint_model.specs.Told.{nothing, references_of}
-use Rattle.joint_model.proofs.Deciding.{and-true, none_some}
-use Rattle.joint_model.proofs.Members.{Contains-cons_cases, Contains-here, Contains-nil, Contains-there}
+use Rattle.joint_machine.specs.Draws.{counting}
+use Rattle.joint_machine.specs.declared.names.HNum.{HNum}
+use Rattle.joint_machine.specs.declared.events.Reply.TheVariants as says
+use Rattle.joint_machine.specs.Components.{End, IsMember, mirror_edges, node, temporary}
+use Rattle.joint_machine.specs.Peers.{Issued, held, next_handle, peer_of, strong}
+use Rattle.joint_machine.specs.Heaps.{numbered_at}
+use Rattle.joint_machine.specs.PeerReplay.{PeerReplay, LeadsOver, Mirror, Refers, TableRow, MayClear, MayRestore, MayWeaken, opening_peer_replay, restored_by, row_of, with_weakened, IsHeld}
+use Rattle.joint_machine.specs.Sides.{Side, AddsInTurn, AddsLawful, peer_rules}
+use Rattle.joint_machine.specs.Told.{nothing, references_of}
+use Rattle.joint_machine.proofs.Deciding.{and-true, none_some}
+use Rattle.joint_machine.proofs.Members.{Contains-cons_cases, Contains-here, Contains-nil, Contains-there}
 use Rattle.bridge_graph.specs.declared.graph.Node.{Node}
 use Rattle.bridge_graph.specs.Handles.{handles_of}
 use Rattle.bridge_graph.specs.Parts.{IsBridgeNode}
@@ -22,13 +23,13 @@ use Rattle.global_handles.specs.declared.Back.TheVariants.{Alive, Cleared}
 use Rattle.global_handles.specs.Rows.{back_of, is_alive}
 use Rattle.handle_weaken.specs.Entries.{RestoresInTurn, reserve_weakened, weakenings, restorings}
 use Rattle.peer_mirror.specs.Carried.{carried_to_peers, reserve_installed, AreBridgeNodes, AreHandlesStrong}
-use Rattle.peer_side.specs.Cycles.{clears, mirrors, reply_of, restores, weakens, reserve_left, reserve_over}
-use Rattle.peer_side.specs.Mirroring.{strong_row}
-use Rattle.peer_side.specs.Mirrors.{AreTargetsRestored, HasRestoredHandle}
-use Rattle.peer_side.specs.Sides.{PeerModel, Reserve, no_reserve, seen}
+use Rattle.peer_heap.specs.Cycles.{clears, mirrors, reply_of, restores, weakens, reserve_left, reserve_over}
+use Rattle.peer_heap.specs.Mirroring.{strong_row}
+use Rattle.peer_heap.specs.Mirrors.{AreTargetsRestored, HasRestoredHandle}
+use Rattle.peer_heap.specs.Sides.{PeerModel, Reserve, no_reserve, seen}
 use Rattle.side_tests.specs.Drives.{IsCounted}
 use Rattle.side_tests.specs.Circles.{IsCircle, circle, given_handles, given_ones, is_given, mirror_at, nodes, one, two, two_issued, up_to, with_pair}
-use Rattle.side_tests.proofs.Counting.{counting, counted-once, counted-in-turn}
+use Rattle.side_tests.proofs.Counting.{counted-once, counted-in-turn}
 use Rattle.side_tests.proofs.Moves.{RestoredTo, StaysAlike, restored}
 
 -- two peers were made

@@ -1,17 +1,13 @@
 -- What calls keep that draw from a plain count.
 use Rattle.std.specs.Prelude.{◌≡◌, ℕ, ◌-◌, ◌^◌, List, [], ◌∷◌, ⊤}
 use Rattle.std.proofs.Common.{sym, subst, ◌∙◌}
-use Rattle.joint_model.specs.declared.names.Thread.{Thread}
-use Rattle.joint_model.specs.declared.events.Made.{Made}
-use Rattle.joint_model.specs.declared.events.Op.{Op}
-use Rattle.joint_model.specs.Draws.{CountDrew}
-use Rattle.joint_model.specs.Sides.{Side, SideRules, Drawing, Making, MayDraw, AddsLawful, AddsInTurn}
-use Rattle.joint_model.specs.Told.{Told}
+use Rattle.joint_machine.specs.declared.names.Thread.{Thread}
+use Rattle.joint_machine.specs.declared.events.Made.{Made}
+use Rattle.joint_machine.specs.declared.events.Op.{Op}
+use Rattle.joint_machine.specs.Draws.{counting}
+use Rattle.joint_machine.specs.Sides.{Side, SideRules, Making, MayDraw, AddsLawful, AddsInTurn}
+use Rattle.joint_machine.specs.Told.{Told}
 use Rattle.side_tests.specs.Drives.{IsCounted}
-
--- the plain count
-abbrev pub counting : Drawing ℕ
-counting = record { floor = λ c. c; left = λ c. 2 ^ 63 - c; may = λ c t o m. ⊤; drew = CountDrew }
 
 -- so a call may draw
 pub counted-may : {S : Type 0} (r : SideRules S) (s : Side S) (count : ℕ) (t : Thread) (o : Op) → r.takes 8 t → IsCounted s count → MayDraw r counting count s t o

@@ -1,11 +1,11 @@
 -- The first handle stays held.
 use Rattle.std.proofs.Common.{◌≡◌, ℕ, List, Result, OnOk, refl, sym, ap, ◌∙◌, subst}
 use Rattle.std.proofs.lemmas.Result.{on_ok_weaker}
-use Rattle.joint_model.specs.declared.names.Thread.TheVariants.{M, P}
-use Rattle.joint_model.specs.Heaps.{numbered_at}
-use Rattle.joint_model.specs.Peers.{Issued}
-use Rattle.joint_model.specs.PeerReplay.{PeerReplay, IsHeld, opening_peer_replay}
-use Rattle.peer_side.specs.Sides.{PeerModel, seen}
+use Rattle.joint_machine.specs.declared.names.Thread.TheVariants.{M, P}
+use Rattle.joint_machine.specs.Heaps.{numbered_at}
+use Rattle.joint_machine.specs.Peers.{Issued}
+use Rattle.joint_machine.specs.PeerReplay.{PeerReplay, IsHeld, opening_peer_replay}
+use Rattle.peer_heap.specs.Sides.{PeerModel, seen}
 use Rattle.side_tests.specs.Circles.{with_pair}
 use Rattle.side_tests.specs.Drives.{IsCounted}
 use Rattle.side_tests.specs.Loose.{after, with_grip, newly, putting, dropping, gripping}

@@ -2,30 +2,30 @@
 use Rattle.std.proofs.Common.{◌≡◌, ℕ, ◌+◌, ◌<◌, ◌⊎◌, inl, inr, [], ◌∷◌, length, Option, Some, None, refl, sym, ap, subst, ◌∙◌, arith, length-append}
 use Rattle.std.specs.Prelude.{Contains}
 use Rattle.std.proofs.lemmas.List.Elements.{Contains-push_cases}
-use Rattle.joint_model.specs.declared.names.Thread.{Thread}
-use Rattle.joint_model.specs.declared.names.Thread.TheVariants.{M}
-use Rattle.joint_model.specs.declared.lines.Act.{Act}
-use Rattle.joint_model.specs.declared.lines.Act.TheVariants as act
-use Rattle.joint_model.specs.declared.events.Made.{Made}
-use Rattle.joint_model.specs.declared.events.Op.{Op}
-use Rattle.joint_model.specs.declared.events.Op.TheVariants as op
-use Rattle.joint_model.specs.declared.events.Reply.{Reply}
-use Rattle.joint_model.specs.declared.events.Reply.TheVariants as says
-use Rattle.joint_model.specs.Draws.{numbered}
-use Rattle.joint_model.specs.Heaps.{Answered, place, slot}
-use Rattle.joint_model.specs.Lines.{IsManagedThread}
-use Rattle.joint_model.specs.Managed.{Managed, OpenCycle, adopted, met, given_up}
-use Rattle.joint_model.specs.ManagedReplay.{ManagedReplay, managed_answer, adopt_by, meet_by, give_by, registered}
-use Rattle.joint_model.specs.Run.{thread_number}
-use Rattle.joint_model.specs.Sides.{Side, AddsLawful, TakesManaged, managed_rules}
-use Rattle.joint_model.specs.Told.{Told, nothing}
-use Rattle.joint_model.proofs.HeapLemmas.{adopt_by-managed}
+use Rattle.joint_machine.specs.declared.names.Thread.{Thread}
+use Rattle.joint_machine.specs.declared.names.Thread.TheVariants.{M}
+use Rattle.joint_machine.specs.declared.lines.Act.{Act}
+use Rattle.joint_machine.specs.declared.lines.Act.TheVariants as act
+use Rattle.joint_machine.specs.declared.events.Made.{Made}
+use Rattle.joint_machine.specs.declared.events.Op.{Op}
+use Rattle.joint_machine.specs.declared.events.Op.TheVariants as op
+use Rattle.joint_machine.specs.declared.events.Reply.{Reply}
+use Rattle.joint_machine.specs.declared.events.Reply.TheVariants as says
+use Rattle.joint_machine.specs.Draws.{numbered, counting}
+use Rattle.joint_machine.specs.Heaps.{Answered, place, slot}
+use Rattle.joint_machine.specs.Lines.{IsManagedThread}
+use Rattle.joint_machine.specs.Managed.{Managed, OpenCycle, adopted, met, given_up}
+use Rattle.joint_machine.specs.ManagedReplay.{ManagedReplay, managed_answer, adopt_by, meet_by, give_by, registered}
+use Rattle.joint_machine.specs.Run.{thread_number}
+use Rattle.joint_machine.specs.Sides.{Side, AddsLawful, TakesManaged, managed_rules}
+use Rattle.joint_machine.specs.Told.{Told, nothing}
+use Rattle.joint_machine.proofs.HeapLemmas.{adopt_by-managed}
 use Rattle.joint_laws.specs.ManagedInvariants.{IsReplayKept}
 use Rattle.joint_laws.proofs.ManagedMoves.{managed_line-goes_on, adopted-goes_on, met-goes_on, given_up-goes_on}
 use Rattle.joint_laws.proofs.ManagedSteps.{meet_by-managed, give_by-managed, twin-live}
-use Rattle.managed_side.specs.Steps.{IsFresh, IsLineBy, IsManagedStep, IsStepBy}
+use Rattle.managed_heap.specs.Steps.{IsFresh, IsLineBy, IsManagedStep, IsStepBy}
 use Rattle.side_tests.specs.Drives.{IsDriven, NamesNext}
-use Rattle.side_tests.proofs.Counting.{counting, counted-once}
+use Rattle.side_tests.proofs.Counting.{counted-once}
 
 -- each handle that a row took was taken before, or has this number
 abbrev pub AdoptsNext : ManagedReplay → ManagedReplay → ℕ → Type 0

@@ -1,25 +1,25 @@
 -- What steps, a weakening and a restore do to a mirrored cycle.
 use Rattle.std.proofs.Common.{◌≡◌, ◌⊎◌, inl, inr, ℕ, Bool, true, false, if◌then◌else◌, ◌||◌, List, [], ◌∷◌, Option, Some, None, refl, sym, ap, ◌∙◌, subst, arith}
-use Rattle.joint_model.specs.declared.names.HNum.{HNum}
-use Rattle.joint_model.specs.declared.names.Thread.{Thread}
-use Rattle.joint_model.specs.declared.names.Thread.TheVariants.{P, C}
-use Rattle.joint_model.specs.declared.lines.Act.TheVariants as act
-use Rattle.joint_model.specs.declared.events.Op.{Op}
-use Rattle.joint_model.specs.declared.events.Op.TheVariants as op
-use Rattle.joint_model.specs.declared.events.Reply.{Reply}
-use Rattle.joint_model.specs.declared.events.Reply.TheVariants as says
-use Rattle.joint_model.specs.Heaps.{Answered, answer}
-use Rattle.joint_model.specs.Lines.{IsPeerThread}
-use Rattle.joint_model.specs.Peers.{landed, next_handle, peer_of}
-use Rattle.joint_model.specs.PeerReplay.{PeerReplay, Marking, TableRow, MayRestore, peer_answer, on_table, brings, begun, given_anew, renewed_on, swept, swept_of, is_thread, restored_by, row_of, table_target, withdrawn}
-use Rattle.joint_model.proofs.Deciding.{test-cases}
-use Rattle.joint_model.specs.declared.events.Made.{Made}
-use Rattle.joint_model.specs.Sides.{Side, Making, AddsInTurn, AddsLawful, peer_rules}
-use Rattle.joint_model.specs.Told.{Told, nothing, sweep_of}
-use Rattle.peer_side.specs.Makings.{IsSideStep, MayStep, step_makings, collect_makings}
-use Rattle.peer_side.specs.Sides.{Reserve, reserve_begun}
+use Rattle.joint_machine.specs.Draws.{counting}
+use Rattle.joint_machine.specs.declared.names.HNum.{HNum}
+use Rattle.joint_machine.specs.declared.names.Thread.{Thread}
+use Rattle.joint_machine.specs.declared.names.Thread.TheVariants.{P, C}
+use Rattle.joint_machine.specs.declared.lines.Act.TheVariants as act
+use Rattle.joint_machine.specs.declared.events.Op.{Op}
+use Rattle.joint_machine.specs.declared.events.Op.TheVariants as op
+use Rattle.joint_machine.specs.declared.events.Reply.{Reply}
+use Rattle.joint_machine.specs.declared.events.Reply.TheVariants as says
+use Rattle.joint_machine.specs.Heaps.{Answered, answer}
+use Rattle.joint_machine.specs.Lines.{IsPeerThread}
+use Rattle.joint_machine.specs.Peers.{landed, next_handle, peer_of}
+use Rattle.joint_machine.specs.PeerReplay.{PeerReplay, Marking, TableRow, MayRestore, peer_answer, on_table, brings, begun, given_anew, renewed_on, swept, swept_of, is_thread, restored_by, row_of, table_target, withdrawn}
+use Rattle.joint_machine.proofs.Deciding.{test-cases}
+use Rattle.joint_machine.specs.declared.events.Made.{Made}
+use Rattle.joint_machine.specs.Sides.{Side, Making, AddsInTurn, AddsLawful, peer_rules}
+use Rattle.joint_machine.specs.Told.{Told, nothing, sweep_of}
+use Rattle.peer_heap.specs.Makings.{IsSideStep, MayStep, step_makings, collect_makings}
+use Rattle.peer_heap.specs.Sides.{Reserve, reserve_begun}
 use Rattle.side_tests.specs.Circles.{IsPlainOp, IsStillOp}
-use Rattle.side_tests.proofs.Counting.{counting}
 
 -- the handles stay as they were issued, and the cycle as it is
 pub record StaysAlike (s t : PeerReplay) : Type 0 where
@@ -136,7 +136,8 @@ plain-state before after old new t index (op.Line (act.Store x v)) r gone k a = 
 plain-state before after old new t index (op.Line (act.Drop v)) r gone k a = ap (λ (z : Side PeerReplay). z.state) a.3.1 ∙ a.2.goes.state
 plain-state before after old new t index _ r gone k a = absurd k
 
--- a restore of a handle of the table: it is removed, and where that is all the answer says so; else its peer gets a handle with the next number
+-- a restore of a handle of the table: it is removed, and where that is all the answer says so; else its peer gets a
+-- handle with the next number
 abbrev pub RestoredTo : PeerReplay → Reply → PeerReplay → ℕ → Type 0
 RestoredTo s r t h = ((r ≡ says.Cleared) × (t ≡ withdrawn s h))
     ⊎ ((p : ℕ) × (peer_of s.peers.issued h ≡ Some p) × (r ≡ says.Renewed record { 0 = next_handle s.peers }) × (t ≡ given_anew (withdrawn s h) p))

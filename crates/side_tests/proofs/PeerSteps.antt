@@ -1,18 +1,19 @@
 -- What a step of a peer side asks of a state and of a plain count.
 use Rattle.std.proofs.Common.{◌≡◌, ℕ, ◌≤◌, Option, Some, None, inl, inr, refl, sym, ◌∙◌}
-use Rattle.joint_model.specs.declared.names.Marking.{Marking as Number}
-use Rattle.joint_model.specs.declared.names.Thread.{Thread}
-use Rattle.joint_model.specs.declared.names.Thread.TheVariants.{M, P, C}
-use Rattle.joint_model.specs.declared.lines.Act.{Act}
-use Rattle.joint_model.specs.declared.lines.Act.TheVariants as act
-use Rattle.joint_model.specs.declared.events.Op.{Op}
-use Rattle.joint_model.specs.declared.events.Op.TheVariants as op
-use Rattle.joint_model.specs.PeerReplay.{PeerReplay, Marking}
-use Rattle.joint_model.specs.Sides.{Side, TakesPeer, peer_rules}
-use Rattle.peer_side.specs.Makings.{IsSideStep, MayDrawStep}
-use Rattle.peer_side.specs.Sides.{IsDrivers, IsMarkingOf, MayEnd}
+use Rattle.joint_machine.specs.Draws.{counting}
+use Rattle.joint_machine.specs.declared.names.Marking.{Marking as Number}
+use Rattle.joint_machine.specs.declared.names.Thread.{Thread}
+use Rattle.joint_machine.specs.declared.names.Thread.TheVariants.{M, P, C}
+use Rattle.joint_machine.specs.declared.lines.Act.{Act}
+use Rattle.joint_machine.specs.declared.lines.Act.TheVariants as act
+use Rattle.joint_machine.specs.declared.events.Op.{Op}
+use Rattle.joint_machine.specs.declared.events.Op.TheVariants as op
+use Rattle.joint_machine.specs.PeerReplay.{PeerReplay, Marking}
+use Rattle.joint_machine.specs.Sides.{Side, TakesPeer, peer_rules}
+use Rattle.peer_heap.specs.Makings.{IsSideStep, MayDrawStep}
+use Rattle.peer_heap.specs.Sides.{IsDrivers, IsMarkingOf, MayEnd}
 use Rattle.side_tests.specs.Drives.{IsCounted}
-use Rattle.side_tests.proofs.Counting.{counting, counted-may}
+use Rattle.side_tests.proofs.Counting.{counted-may}
 
 -- a side for all eight threads takes each step
 line-thread : (i : ℕ) (a : Act) → IsSideStep (P i) (op.Line a) → i ≤ 8

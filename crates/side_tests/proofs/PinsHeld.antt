@@ -1,15 +1,15 @@
 -- A pin that holds a live object while no cycle is open stands.
 use Rattle.std.proofs.Common.{◌≡◌, ℕ, List, inl, inr, Option, Some, None, sym, subst, ◌∙◌}
 use Rattle.std.specs.Prelude.{Contains, IfSome}
-use Rattle.joint_model.specs.declared.names.MNum.{MNum}
-use Rattle.joint_model.specs.Heaps.{IsLive}
-use Rattle.joint_model.specs.Managed.{Managed}
-use Rattle.joint_model.specs.Told.{no_pins}
-use Rattle.joint_model.proofs.Deciding.{none_some, some-same}
-use Rattle.joint_model.proofs.Numbered.{Contains-set_cases, replicate-none}
+use Rattle.joint_machine.specs.declared.names.MNum.{MNum}
+use Rattle.joint_machine.specs.Heaps.{IsLive}
+use Rattle.joint_machine.specs.Managed.{Managed}
+use Rattle.joint_machine.specs.PinsTold.{no_pins}
+use Rattle.joint_machine.proofs.Deciding.{none_some, some-same}
+use Rattle.joint_machine.proofs.Numbered.{Contains-set_cases, replicate-none}
 use Rattle.known_laws.specs.Known.{PinsStand}
-use Rattle.managed_side.specs.Pinned.{pin_given}
-use Rattle.managed_side.specs.Rows.{number_or_none}
+use Rattle.managed_heap.specs.Pinned.{pin_given}
+use Rattle.managed_heap.specs.Rows.{number_or_none}
 
 -- the object is live, and no cycle is open
 abbrev pub MayHold : Managed → Option MNum → Type 0

@@ -4,33 +4,32 @@ use Rattle.std.proofs.lemmas.List.{nil_from_length}
 use Rattle.std.proofs.lemmas.List.Elements.{All-head, All-nil, Contains-append_cases, Contains-push_cases}
 use Rattle.std.proofs.lemmas.Option.{slice_get_within}
 use Rattle.std.specs.Prelude.{All, Contains, IfSome, slice_get}
-use Rattle.joint_model.specs.declared.names.HNum.{HNum}
-use Rattle.joint_model.specs.declared.names.MNum.{MNum}
-use Rattle.joint_model.specs.declared.events.Entry.{Entry}
-use Rattle.joint_model.specs.declared.events.Made.{Made}
-use Rattle.joint_model.specs.Draws.{AllBelow, CountDrew}
-use Rattle.joint_model.specs.declared.names.Phase.{Phase}
-use Rattle.joint_model.specs.declared.names.PhaseWord.{PhaseWord}
-use Rattle.joint_model.specs.declared.names.Thread.TheVariants.{C}
-use Rattle.joint_model.specs.declared.events.Op.TheVariants as op
-use Rattle.joint_model.specs.declared.events.Reply.{Reply}
-use Rattle.joint_model.specs.Components.{LeadsIn, Rises}
-use Rattle.joint_model.specs.Cycles.{DeadEdge, IsDeadContraction}
+use Rattle.joint_machine.specs.declared.names.HNum.{HNum}
+use Rattle.joint_machine.specs.declared.names.MNum.{MNum}
+use Rattle.joint_machine.specs.declared.events.Entry.{Entry}
+use Rattle.joint_machine.specs.declared.events.Made.{Made}
+use Rattle.joint_machine.specs.Draws.{AllBelow, CountDrew, Drawing, counting}
+use Rattle.joint_machine.specs.declared.names.Phase.{Phase}
+use Rattle.joint_machine.specs.declared.names.PhaseWord.{PhaseWord}
+use Rattle.joint_machine.specs.declared.names.Thread.TheVariants.{C}
+use Rattle.joint_machine.specs.declared.events.Op.TheVariants as op
+use Rattle.joint_machine.specs.declared.events.Reply.{Reply}
+use Rattle.joint_machine.specs.Components.{LeadsIn, Rises}
+use Rattle.joint_machine.specs.Cycles.{DeadEdge, IsDeadContraction}
 use Rattle.joint_model.specs.Listed.{answers_of}
-use Rattle.joint_model.specs.Managed.{IsBridge, Managed, OpenCycle}
-use Rattle.joint_model.specs.ManagedReplay.{AreNew, ManagedReplay}
-use Rattle.joint_model.specs.Sides.{Side, AddsLawful, Drawing, managed_rules}
-use Rattle.joint_model.specs.Told.{Told, handles_given, nothing, phase_of}
+use Rattle.joint_machine.specs.Managed.{IsBridge, Managed, OpenCycle}
+use Rattle.joint_machine.specs.ManagedReplay.{AreNew, ManagedReplay}
+use Rattle.joint_machine.specs.Sides.{Side, AddsLawful, managed_rules}
+use Rattle.joint_machine.specs.Told.{Told, handles_given, nothing, phase_of}
 use Rattle.bridge_graph.specs.Parts.{numbers_of}
-use Rattle.joint_model.proofs.Members.{Contains-cons_cases, Contains-nil}
-use Rattle.managed_side.specs.Calls.{Abandons, Contracts, MayContractWith, Resolves}
-use Rattle.managed_side.specs.Openings.{OpensBySnap}
-use Rattle.managed_side.specs.Resolving.{MayClose}
-use Rattle.managed_side.specs.Steps.{step_made}
-use Rattle.managed_side.specs.declared.cycles.ResolveOut.{ResolveOut}
-use Rattle.managed_side.specs.declared.opening.Opened.{Opened}
+use Rattle.joint_machine.proofs.Members.{Contains-cons_cases, Contains-nil}
+use Rattle.managed_heap.specs.Calls.{Abandons, Contracts, MayContractWith, Resolves}
+use Rattle.managed_heap.specs.Openings.{OpensBySnap}
+use Rattle.managed_heap.specs.Resolving.{MayClose}
+use Rattle.managed_heap.specs.Steps.{step_made}
+use Rattle.managed_heap.specs.declared.cycles.ResolveOut.{ResolveOut}
+use Rattle.managed_heap.specs.declared.opening.Opened.{Opened}
 use Rattle.side_tests.specs.Drives.{AreFrom, IsDriven}
-use Rattle.side_tests.proofs.Counting.{counting}
 use Rattle.side_tests.proofs.ManagedDrives.{driven-below, driven-on, driven-still, HasWaiting}
 
 -- the cycle that is open is the only one

@@ -1,18 +1,18 @@
 -- A mirrored cycle of two peers that lie on a circle, as the tests drive it.
 use Rattle.std.specs.Prelude.{◌≡◌, ℕ, zero, suc, ◌-◌, ◌<◌, ◌≤◌, Bool, true, false, List, [], ◌∷◌, ◌++◌, Option, Some, None}
-use Rattle.joint_model.specs.declared.names.HNum.{HNum}
-use Rattle.joint_model.specs.declared.names.Sort.TheVariants.{Framework}
-use Rattle.joint_model.specs.declared.names.Thread.{Thread}
-use Rattle.joint_model.specs.declared.names.Thread.TheVariants.{M, P}
-use Rattle.joint_model.specs.declared.lines.Act.TheVariants as act
-use Rattle.joint_model.specs.declared.events.Op.{Op}
-use Rattle.joint_model.specs.declared.events.Op.TheVariants as op
-use Rattle.joint_model.specs.Components.{End, node}
-use Rattle.joint_model.specs.Peers.{Issued, held, strong}
-use Rattle.joint_model.specs.PeerReplay.{PeerReplay, Mirror, peer_answer}
-use Rattle.joint_model.specs.Told.{nothing}
+use Rattle.joint_machine.specs.declared.names.HNum.{HNum}
+use Rattle.joint_machine.specs.declared.names.Sort.TheVariants.{Framework}
+use Rattle.joint_machine.specs.declared.names.Thread.{Thread}
+use Rattle.joint_machine.specs.declared.names.Thread.TheVariants.{M, P}
+use Rattle.joint_machine.specs.declared.lines.Act.TheVariants as act
+use Rattle.joint_machine.specs.declared.events.Op.{Op}
+use Rattle.joint_machine.specs.declared.events.Op.TheVariants as op
+use Rattle.joint_machine.specs.Components.{End, node}
+use Rattle.joint_machine.specs.Peers.{Issued, held, strong}
+use Rattle.joint_machine.specs.PeerReplay.{PeerReplay, Mirror, peer_answer}
+use Rattle.joint_machine.specs.Told.{nothing}
 use Rattle.bridge_graph.specs.declared.graph.Node.{Node}
-use Rattle.peer_side.specs.Sides.{PeerModel, seen}
+use Rattle.peer_heap.specs.Sides.{PeerModel, seen}
 use Rattle.side_tests.specs.Drives.{IsCounted}
 
 -- one more peer with a field, and a handle on it
@@ -37,7 +37,8 @@ circle = (0 ∷ 1 ∷ []) ∷ []
 abbrev pub two_issued : List Issued
 two_issued = record { peer = 1; hold = held; strength = strong } ∷ record { peer = 2; hold = held; strength = strong } ∷ []
 
--- the handles that the first so many restores gave, where each gave one: each on the peer of the handle in whose place it came; and their numbers
+-- the handles that the first so many restores gave, where each gave one: each on the peer of the handle in whose place
+-- it came; and their numbers
 abbrev pub given_ones : ℕ → List Issued
 given_ones zero = []
 given_ones (suc n) = given_ones n ++ record { peer = suc n; hold = held; strength = strong } ∷ []
@@ -57,8 +58,8 @@ abbrev pub up_to : ℕ → List ℕ
 up_to zero = []
 up_to (suc n) = up_to n ++ suc n ∷ []
 
--- what there is of the cycle: itself, where it stands, with the handles that it has weakened and restored, and those that restores gave; the cycles that
--- were ever mirrored; its references; and for how many more handles there is room
+-- what there is of the cycle: itself, where it stands, with the handles that it has weakened and restored, and those
+-- that restores gave; the cycles that were ever mirrored; its references; and for how many more handles there is room
 abbrev pub mirror_at : Bool → ℕ → ℕ → List ℕ → Option Mirror
 mirror_at false weak back given = None
 mirror_at true weak back given = Some record { cycle = 1; snap = 0; weakened = up_to weak; restored = up_to back; renewed = given }
@@ -75,7 +76,8 @@ abbrev pub left_at : Bool → ℕ → ℕ
 left_at false weak = 0
 left_at true weak = 2 - weak
 
--- the cycle was mirrored or not, and stands or not, each restore so far gave a handle or not, and so many handles were weakened and restored
+-- the cycle was mirrored or not, and stands or not, each restore so far gave a handle or not, and so many handles were
+-- weakened and restored
 pub record IsCircle (m : PeerModel) (count : ℕ) (mirrored standing kept : Bool) (weak back : ℕ) : Type 0 where
   pub counted : IsCounted (seen m) count
   pub later : List Issued

@@ -1,19 +1,19 @@
 -- What the tests keep of a side that a plain count drives.
 use Rattle.std.specs.Prelude.{◌≡◌, ℕ, ◌+◌, ◌-◌, ◌^◌, ◌<◌, ◌≤◌, Contains, List, [], ◌∷◌, length, Option, Some, None}
-use Rattle.joint_model.specs.declared.names.HNum.{HNum}
-use Rattle.joint_model.specs.declared.events.Op.{Op}
-use Rattle.joint_model.specs.declared.events.Op.TheVariants as op
-use Rattle.joint_model.specs.Draws.{AllBelow}
-use Rattle.joint_model.specs.Managed.{OpenCycle}
-use Rattle.joint_model.specs.ManagedReplay.{ManagedReplay}
-use Rattle.joint_model.specs.Sides.{Side}
+use Rattle.joint_machine.specs.declared.names.HNum.{HNum}
+use Rattle.joint_machine.specs.declared.events.Op.{Op}
+use Rattle.joint_machine.specs.declared.events.Op.TheVariants as op
+use Rattle.joint_machine.specs.Draws.{AllBelow}
+use Rattle.joint_machine.specs.Managed.{OpenCycle}
+use Rattle.joint_machine.specs.ManagedReplay.{ManagedReplay}
+use Rattle.joint_machine.specs.Sides.{Side}
 
 -- each entry's number is below the count, and the count has room for a full list; and the side is for all eight threads
 abbrev pub IsCounted : {S : Type 0} → Side S → ℕ → Type 0
 IsCounted s count = AllBelow s.entries count × (4294967295 ≤ 2 ^ 63 - count + length s.entries) × (s.threads ≡ 8)
 
--- beside it each handle that a row of the managed side took is below the number of its entries and of the candidates that were answered, and an open
--- cycle has so many candidates
+-- beside it each handle that a row of the managed side took is below the number of its entries and of the candidates
+-- that were answered, and an open cycle has so many candidates
 pub record IsDriven (s : Side ManagedReplay) (count waiting answered : ℕ) : Type 0 where
   pub counted : IsCounted s count
   pub adopts : (h : ℕ) → Contains s.state.adopted h → h < length s.entries + answered

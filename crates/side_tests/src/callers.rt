@@ -1,7 +1,7 @@
 // What a caller and a variable of a table must be.
 
 ghost use Rattle.std.specs.Prelude.{IsTrue};
-ghost use Rattle.joint_model.specs.Lines.{IsManagedThread, IsVarOrNone};
+ghost use Rattle.joint_machine.specs.Lines.{IsManagedThread, IsVarOrNone};
 
 use joint_model::{Thread, Var};
 

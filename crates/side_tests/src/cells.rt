@@ -2,11 +2,12 @@
 
 use crate::managed::M1;
 use joint_model::{Act, Cell, Counter, Holding, Kind, Op, Reply, Var};
-use managed_side::ManagedSide;
+use managed_heap::ManagedSide;
 use std::alloc::{AllocError, Global};
 use std::test::Fail;
 
-// What `weak` answers for a variable without an object, for one with an object while the cell isn't set, and when it is.
+// What `weak` answers for a variable without an object, for one with an object while the cell isn't set, and when it
+// is.
 fn weakens(alloc: Global) -> Result<(Reply, Reply, Reply), AllocError> {
     let mut side = ManagedSide::new(alloc, 8, Holding::Every)?;
     let mut draw = Counter::new();

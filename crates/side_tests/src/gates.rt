@@ -1,7 +1,7 @@
 // A count that gives the numbers of a side's entries, with pins that it was told: it closes no gate.
 
 use joint_model::{Counter, Cycle, Draw, MNum, Made};
-use managed_side::{Closes, Pins};
+use managed_heap::{Closes, Pins};
 
 /// Draws from a plain count, and gives these pins.
 #[derive(Drop)]
@@ -12,15 +12,14 @@ pub(crate) struct Given {
 
 impl Draw for Given {
     ghost use Rattle.std.specs.Prelude.{◌-◌, ◌^◌, ⊤};
-    ghost use Rattle.joint_model.specs.Draws.{CountDrew};
+    ghost use Rattle.joint_machine.specs.Draws.{CountDrew};
 
-    ghost floor = { λ g. g.count };
-
-    ghost left = { λ g. 2 ^ 63 - g.count };
-
-    ghost may = { λ g t o m. ⊤ };
-
-    ghost drew = { λ g e m freed h. CountDrew g.count e m freed h.count };
+    ghost rules = { record {
+      floor = λ g. g.count;
+      left = λ g. 2 ^ 63 - g.count;
+      may = λ g t o m. ⊤;
+      drew = λ g e m freed h. CountDrew g.count e m freed h.count;
+    } };
 
     fn draw(&mut self, made: &Made, target: Option<MNum>, freed: &[MNum]) -> u64 {
         self.count.draw(made, target, freed)

@@ -1,9 +1,9 @@
-// Handles that no managed object holds, by the calls of both sides. One that was given up is a root of its peer until its release. One that was just
-// gripped is a root until it is adopted, from when on its object holds it, or released.
+// Handles that no managed object holds, by the calls of both sides. One that was given up is a root of its peer until
+// its release. One that was just gripped is a root until it is adopted, from when on its object holds it, or released.
 
 ghost use Rattle.std.specs.Prelude.{◌≡◌, OnOk};
-ghost use Rattle.joint_model.specs.PeerReplay.{IsHeld, opening_peer_replay};
-ghost use Rattle.peer_side.specs.Sides.{opening_side, seen};
+ghost use Rattle.joint_machine.specs.PeerReplay.{IsHeld, opening_peer_replay};
+ghost use Rattle.peer_heap.specs.Sides.{opening_side, seen};
 ghost use Rattle.side_tests.specs.Drives.{IsCounted};
 ghost use Rattle.side_tests.specs.Loose.{with_grip};
 
@@ -15,7 +15,7 @@ use joint_model::Reply::{self, Gone, H, M, P, Plain, Swept};
 use joint_model::{
     Act, Counter, HNum, Holding, MNum, Marking, Op, PNum, Sort, Span, StaticNo, Thread, Var,
 };
-use peer_side::PeerSide;
+use peer_heap::PeerSide;
 use std::alloc::{AllocError, Global};
 use std::marker::Model;
 use std::test::Fail;
@@ -53,8 +53,8 @@ struct Driven {
 }
 
 impl Model for Driven {
-    ghost use Rattle.joint_model.specs.PeerReplay.{PeerReplay, IsHeld};
-    ghost use Rattle.peer_side.specs.Sides.{seen};
+    ghost use Rattle.joint_machine.specs.PeerReplay.{PeerReplay, IsHeld};
+    ghost use Rattle.peer_heap.specs.Sides.{seen};
     ghost use Rattle.side_tests.specs.Drives.{IsCounted};
 
     ghost Value = { PeerReplay };
@@ -146,8 +146,9 @@ fn begin(side: &mut PeerSide, draw: &mut Counter, gripped: bool) -> Result<(), A
     }
 }
 
-// Makes the calls of a table on this new peer side, beside this managed side, where m1 has gripped a peer that stands in the first static, or made
-// one. The place of the first row that is answered otherwise than it says; and the side, which goes on to its end.
+// Makes the calls of a table on this new peer side, beside this managed side, where m1 has gripped a peer that stands
+// in the first static, or made one. The place of the first row that is answered otherwise than it says; and the side,
+// which goes on to its end.
 fn play_on(
     alloc: Global,
     managed: &mut managed::Driven,
@@ -186,8 +187,8 @@ fn play_beside(
     })
 }
 
-// Makes the calls of a table, where m1 has gripped a peer that stands in the first static, or made one. What its rows came to, and whether the
-// managed side freed nothing.
+// Makes the calls of a table, where m1 has gripped a peer that stands in the first static, or made one. What its rows
+// came to, and whether the managed side freed nothing.
 fn play(
     alloc: Global,
     gripped: bool,
@@ -212,7 +213,8 @@ const GIVEN_UP: [Row; 8] = [
     (Call::Managed(Give(0)), Plain),
 ];
 
-// A handle that was lent holds its peer until it is landed, also where its object gives it up meanwhile; the static holds the peer from then on.
+// A handle that was lent holds its peer until it is landed, also where its object gives it up meanwhile; the static
+// holds the peer from then on.
 const LENT: [Row; 11] = [
     (Call::Managed(New(7, 0)), M(MNum(1))),
     (Call::Managed(Adopt(0, 1, 1)), M(MNum(2))),

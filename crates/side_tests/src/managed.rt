@@ -2,7 +2,7 @@
 
 ghost use Rattle.std.specs.Prelude.{◌≡◌, ◌+◌, ◌≤◌, IfOk, IfSome, length};
 ghost use Rattle.side_tests.specs.Drives.{AreFrom};
-ghost use Rattle.managed_side.specs.Calls.{MayContractWith};
+ghost use Rattle.managed_heap.specs.Calls.{MayContractWith};
 
 use crate::callers::is_managed;
 use crate::gates::Given;
@@ -12,7 +12,7 @@ use joint_model::{
     Act, Alive, Counter, HNum, Holding, Kind, MNum, Op, PNum, Phase, PhaseWord, Sort, StaticNo,
     Thread, Var,
 };
-use managed_side::{ManagedSide, Pins, SnapFault, TwinAnswer};
+use managed_heap::{ManagedSide, Pins, SnapFault, TwinAnswer};
 use std::alloc::{AllocError, Global};
 use std::marker::Model;
 
@@ -41,7 +41,8 @@ pub(crate) enum Call {
     Finalise(u32),
     Lend(u8, u8),
     Give(u8),
-    // a bridge with so many fields on a peer; its handle has the number of the entries so far, and of the candidates that were answered
+    // a bridge with so many fields on a peer; its handle has the number of the entries so far, and of the candidates
+    // that were answered
     Adopt(u8, u8, u32),
     // a peer of this sort with so many fields; the handle as above
     Meet(u8, u32, Sort, u8),
@@ -56,13 +57,13 @@ pub(crate) enum Call {
     SnapWith(u32),
     // a snapshot of a side with nothing dead, and its contraction
     SnapAndContract,
-    // the candidate in place i was answered alive where bit i is set, with the handle i above the next one; this tells how many were kept, and what was
-    // freed
+    // the candidate in place i was answered alive where bit i is set, with the handle i above the next one; this tells
+    // how many were kept, and what was freed
     Resolve(u32),
     Abandon,
     Refuse(PhaseWord, Phase),
-    // looks: a peer's twin, an object by its number if it is live, the open cycle, the number of nodes of the last snapshot's graph, and whether the side is
-    // ready, as 1 or 0
+    // looks: a peer's twin, an object by its number if it is live, the open cycle, the number of nodes of the last
+    // snapshot's graph, and whether the side is ready, as 1 or 0
     TwinFor(u32),
     Live(u32),
     Open,
@@ -146,8 +147,9 @@ impl Call {
     }
 }
 
-/// A side with the count that numbers its entries, how many candidates an open cycle has, how many candidates were answered so far, and how many nodes the
-/// last snapshot's graph had. Each handle that a row took is below the number of the entries and of these answers.
+/// A side with the count that numbers its entries, how many candidates an open cycle has, how many candidates were
+/// answered so far, and how many nodes the last snapshot's graph had. Each handle that a row took is below the number
+/// of the entries and of these answers.
 #[derive(Drop)]
 pub(crate) struct Driven {
     pub(crate) side: ManagedSide,
@@ -158,8 +160,8 @@ pub(crate) struct Driven {
 }
 
 impl Model for Driven {
-    ghost use Rattle.joint_model.specs.ManagedReplay.{ManagedReplay};
-    ghost use Rattle.managed_side.specs.Sides.{as_side};
+    ghost use Rattle.joint_machine.specs.ManagedReplay.{ManagedReplay};
+    ghost use Rattle.managed_heap.specs.Sides.{as_side};
     ghost use Rattle.side_tests.specs.Drives.{IsDriven};
 
     ghost Value = { ManagedReplay };
@@ -195,7 +197,8 @@ impl Driven {
         }
     }
 
-    // The answer to a `take` of this object; None where there is no such caller or variable, or no pin may hold the object.
+    // The answer to a `take` of this object; None where there is no such caller or variable, or no pin may hold the
+    // object.
     fn takes(
         &mut self,
         caller: Thread,
@@ -227,7 +230,8 @@ impl Driven {
         Ok(Some(Reply::Ok))
     }
 
-    // Opens a cycle by a snapshot: what its entry says, and how many nodes the dead part's graph has. It may be contracted at once where it has none.
+    // Opens a cycle by a snapshot: what its entry says, and how many nodes the dead part's graph has. It may be
+    // contracted at once where it has none.
     fn opens(&mut self, pin: Option<MNum>) -> Result<(Reply, u32), SnapFault>
         ensures { IfOk result (λ o. o.1 ≡ 0 → MayContractWith self.new 0 0) }
     {
@@ -261,7 +265,8 @@ impl Driven {
         self.side.contracted(&mut self.gate.count, 3, 0, 0);
     }
 
-    // A snapshot that finds nothing dead, and its contraction; None where something is dead, or a cycle is open already.
+    // A snapshot that finds nothing dead, and its contraction; None where something is dead, or a cycle is open
+    // already.
     fn snaps_and_contracts(&mut self) -> Option<Reply> {
         let Ok((_, nodes)) = self.opens(None) else {
             return None;

@@ -1,15 +1,15 @@
 // What may be asked of a managed side: the checks that stand before its calls.
 
 ghost use Rattle.std.specs.Prelude.{◌≡◌, ◌↔◌, IfSome, IsTrue, None};
-ghost use Rattle.joint_model.specs.Heaps.{IsLive};
-ghost use Rattle.joint_model.specs.Lines.{IsManagedAct, IsOneEvent};
-ghost use Rattle.joint_model.specs.ManagedReplay.{IsRefusedIn};
-ghost use Rattle.managed_side.specs.Steps.{CitesRightly, IsManagedStep, IsStepAct};
+ghost use Rattle.joint_machine.specs.Heaps.{IsLive};
+ghost use Rattle.joint_machine.specs.Lines.{IsManagedAct, IsOneEvent};
+ghost use Rattle.joint_machine.specs.ManagedReplay.{IsRefusedIn};
+ghost use Rattle.managed_heap.specs.Steps.{CitesRightly, IsManagedStep, IsStepAct};
 ghost use Rattle.side_tests.specs.Drives.{NamesNext};
 
 use crate::callers::{is_managed, is_var_or_none};
 use joint_model::{Act, Kind, MNum, Op, Phase, PhaseWord, Thread};
-use managed_side::ManagedSide;
+use managed_heap::ManagedSide;
 
 /// Whether this is one of the words and phases of the tables, and is refused in that phase.
 pub(crate) fn is_refused(word: PhaseWord, phase: Phase) -> bool

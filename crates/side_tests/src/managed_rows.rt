@@ -9,8 +9,9 @@ use joint_model::{Cycle, HNum, MNum, Phase, PhaseWord, Sort, Span};
 use std::alloc::{AllocError, Global};
 use std::test::Fail;
 
-// What the rows of a table came to: the first one that was answered otherwise than it says, how many objects were made and are live at the end, how
-// many entries there are, and whether the lists of freed objects and of notices are as they should be.
+// What the rows of a table came to: the first one that was answered otherwise than it says, how many objects were made
+// and are live at the end, how many entries there are, and whether the lists of freed objects and of notices are as
+// they should be.
 #[derive(Clone, Copy)]
 struct Played {
     miss: Option<usize>,
@@ -171,7 +172,8 @@ const CYCLES: [Row; 22] = [
     (C, Call::Open, Reply::At(Phase::Idle)),
 ];
 
-// A side is ready from when room is taken until an entry is made, and a snapshot uses the room up, also where objects and notices came meanwhile.
+// A side is ready from when room is taken until an entry is made, and a snapshot uses the room up, also where objects
+// and notices came meanwhile.
 const READY: [Row; 22] = [
     (C, Call::Ready, Refs(0)),
     (C, Call::Reserve, Reply::Ok),
@@ -269,8 +271,8 @@ const NOTICES: [Row; 13] = [
     (C, Call::TwinFor(2), Twin(MNum(2))),
 ];
 
-// A kept candidate keeps what it reaches. What isn't kept is freed, with a notice for each object that holds a handle; an object that comes while a
-// cycle is open isn't in its dead part.
+// A kept candidate keeps what it reaches. What isn't kept is freed, with a notice for each object that holds a handle;
+// an object that comes while a cycle is open isn't in its dead part.
 const KEPT: [Row; 28] = [
     (M1, Call::Adopt(0, 1, 1), M(MNum(1))),
     (M1, Call::Adopt(1, 1, 2), M(MNum(2))),

@@ -8,7 +8,8 @@ use std::test::Fail;
 // No peers, in the list of freed ones.
 const NONE: Span = Span { first: 0, count: 0 };
 
-// While one handle is strong, its peer holds the other one over the circle; and while neither is, a peer in a static does.
+// While one handle is strong, its peer holds the other one over the circle; and while neither is, a peer in a static
+// does.
 const CIRCLE: [Row; 19] = [
     (Call::References, Refs(0)),
     (Call::Install, Refs(2)),

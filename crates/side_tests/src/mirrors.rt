@@ -1,11 +1,12 @@
-// Plays a mirrored cycle on a peer side, by its calls: two peers, each under a handle of m1's making, whose managed objects lead to one another.
+// Plays a mirrored cycle on a peer side, by its calls: two peers, each under a handle of m1's making, whose managed
+// objects lead to one another.
 
 ghost use Rattle.std.specs.Prelude.{◌≡◌, ◌&&◌, [], ◌∷◌, IfOk, IsTrue, None, OnOk, Some};
-ghost use Rattle.joint_model.specs.PeerReplay.{TableRow, peer_answer, row_of};
-ghost use Rattle.joint_model.specs.Told.{nothing};
-ghost use Rattle.peer_side.specs.Makings.{IsSideStep};
-ghost use Rattle.peer_side.specs.Mirroring.{strong_row};
-ghost use Rattle.peer_side.specs.Sides.{opening_side, seen};
+ghost use Rattle.joint_machine.specs.PeerReplay.{TableRow, peer_answer, row_of};
+ghost use Rattle.joint_machine.specs.Told.{nothing};
+ghost use Rattle.peer_heap.specs.Makings.{IsSideStep};
+ghost use Rattle.peer_heap.specs.Mirroring.{strong_row};
+ghost use Rattle.peer_heap.specs.Sides.{opening_side, seen};
 ghost use Rattle.global_handles.specs.Rows.{is_alive};
 ghost use Rattle.side_tests.specs.Circles.{circle, is_given, nodes, with_pair, IsPlainOp, IsStillOp};
 ghost use Rattle.side_tests.specs.Drives.{IsCounted};
@@ -18,8 +19,8 @@ use joint_model::Reply::{self, Cleared, Mark, MarkOpen, NoMark, P, Refs, Swept};
 use joint_model::{
     Act, Alive, Counter, Cycle, HNum, Holding, MNum, Op, PNum, Sort, StaticNo, Thread,
 };
+use peer_heap::{BeginFault, PeerSide};
 use peer_mirror::{clear, install};
-use peer_side::{BeginFault, PeerSide};
 use std::alloc::{AllocError, Global};
 use std::marker::Model;
 use xref_list::{Components, ComponentsBuilder, ListingFault};
@@ -62,8 +63,8 @@ impl Call {
     }
 }
 
-// A side with the count that numbers its entries; whether its cycle was mirrored, whether its references stand, and whether each restore so far gave a
-// handle; and how many of its handles it has weakened, and restored.
+// A side with the count that numbers its entries; whether its cycle was mirrored, whether its references stand, and
+// whether each restore so far gave a handle; and how many of its handles it has weakened, and restored.
 #[derive(Drop)]
 struct Driven {
     side: PeerSide,
@@ -76,7 +77,7 @@ struct Driven {
 }
 
 impl Model for Driven {
-    ghost use Rattle.joint_model.specs.PeerReplay.{PeerReplay};
+    ghost use Rattle.joint_machine.specs.PeerReplay.{PeerReplay};
     ghost use Rattle.side_tests.specs.Circles.{IsCircle};
 
     ghost Value = { PeerReplay };
@@ -151,7 +152,8 @@ impl Driven {
         })
     }
 
-    // Both handles are restored, and the second answer is told; None where it isn't their turn, one isn't in the table, or one answer alone gave a handle.
+    // Both handles are restored, and the second answer is told; None where it isn't their turn, one isn't in the table,
+    // or one answer alone gave a handle.
     fn restores_all(&mut self, alloc: Global) -> Result<Option<Reply>, AllocError> {
         if !self.standing || self.weak != 2 || self.back != 0 {
             return Ok(None);
@@ -243,7 +245,8 @@ impl Driven {
     }
 }
 
-// What the second of two restores answered; None where one of them alone gave a handle, or where the first one gave another than handle 3.
+// What the second of two restores answered; None where one of them alone gave a handle, or where the first one gave
+// another than handle 3.
 fn both(first: Option<Option<HNum>>, second: Option<Option<HNum>>) -> Option<Reply> {
     match (first, second) {
         (Some(Some(HNum(3))), Some(Some(h))) => Some(Reply::Renewed(h)),
@@ -382,8 +385,8 @@ fn make_both(side: &mut PeerSide, draw: &mut Counter) -> Result<(), AllocError>
     make(side, draw)
 }
 
-// Makes the calls of a table on this new side, where m1 has made both peers. The place of the first row that is answered otherwise than it says; and
-// the side, which goes on to its end.
+// Makes the calls of a table on this new side, where m1 has made both peers. The place of the first row that is
+// answered otherwise than it says; and the side, which goes on to its end.
 fn play_on(
     alloc: Global,
     mut side: PeerSide,

@@ -105,8 +105,9 @@ const NO_PEERS: [Row; 6] = [
     (C, Call::MarkSweep, NoMark),
 ];
 
-// The only field that leads to p2 is emptied before the marking has come to it, and so is the variable that had it from there; p2 existed at the begin and was
-// reached then. A peer that is made meanwhile, p4, is kept, and so is what a weak name gives, p3. The next marking frees all three.
+// The only field that leads to p2 is emptied before the marking has come to it, and so is the variable that had it from
+// there; p2 existed at the begin and was reached then. A peer that is made meanwhile, p4, is kept, and so is what a
+// weak name gives, p3. The next marking frees all three.
 const HIDDEN: [Row; 18] = [
     (P1, Call::New(0, 1), P(PNum(1))),
     (P1, Call::New(1, 0), P(PNum(2))),

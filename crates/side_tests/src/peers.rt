@@ -1,18 +1,18 @@
 // A peer side that is driven by a table of calls.
 
 ghost use Rattle.std.specs.Prelude.{◌≡◌, IsTrue, None, Option};
-ghost use Rattle.joint_model.specs.Lines.{IsPeerAct, IsPeerThread};
-ghost use Rattle.joint_model.specs.PeerReplay.{Marking as Open, PeerReplay};
-ghost use Rattle.peer_side.specs.Makings.{IsSideStep, MayStep};
-ghost use Rattle.peer_side.specs.Sides.{IsDrivers, IsMarkingOf};
-ghost use Rattle.peer_side.specs.Steps.{IsStepLine};
+ghost use Rattle.joint_machine.specs.Lines.{IsPeerAct, IsPeerThread};
+ghost use Rattle.joint_machine.specs.PeerReplay.{Marking as Open, PeerReplay};
+ghost use Rattle.peer_heap.specs.Makings.{IsSideStep, MayStep};
+ghost use Rattle.peer_heap.specs.Sides.{IsDrivers, IsMarkingOf};
+ghost use Rattle.peer_heap.specs.Steps.{IsStepLine};
 
 use crate::callers::{is_managed, is_var_or_none};
 use joint_model::Reply::{self, Done, Gone, Mark, MarkOpen, More, NoMark, P, Swept, Unset};
 use joint_model::{
     Act, Counter, GName, HNum, Holding, Marking, Op, PNum, Sort, Span, StaticNo, Thread, Var,
 };
-use peer_side::{BeginFault, PeerSide, SliceEnd};
+use peer_heap::{BeginFault, PeerSide, SliceEnd};
 use std::alloc::{AllocError, Global};
 use std::marker::Model;
 
@@ -137,8 +137,8 @@ struct Driven {
 }
 
 impl Model for Driven {
-    ghost use Rattle.joint_model.specs.PeerReplay.{PeerReplay};
-    ghost use Rattle.peer_side.specs.Sides.{seen};
+    ghost use Rattle.joint_machine.specs.PeerReplay.{PeerReplay};
+    ghost use Rattle.peer_heap.specs.Sides.{seen};
     ghost use Rattle.side_tests.specs.Drives.{IsCounted};
 
     ghost Value = { PeerReplay };
@@ -175,7 +175,8 @@ impl Driven {
         }
     }
 
-    // The driver's slice: whether peers are left to go through, or that no marking is open. None where another thread's is.
+    // The driver's slice: whether peers are left to go through, or that no marking is open. None where another thread's
+    // is.
     fn slices(&mut self, n: u32) -> Option<Reply> {
         if !is_drivers(self.side.marking()) {
             return None;
@@ -261,8 +262,8 @@ pub(crate) fn ends_with(side: PeerSide, freed: &[PNum]) -> (u32, bool) {
     (lists.entries.len(), lists.freed.as_slice() == freed)
 }
 
-/// What the rows of a table came to: the first one that was answered otherwise than it says, how many entries there are at the end, and whether the
-/// list of freed peers is as it should be.
+/// What the rows of a table came to: the first one that was answered otherwise than it says, how many entries there are
+/// at the end, and whether the list of freed peers is as it should be.
 #[derive(Clone, Copy)]
 pub(crate) struct Played {
     pub(crate) miss: Option<usize>,

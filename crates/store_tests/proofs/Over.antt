@@ -1,9 +1,9 @@
 -- Of two references, one to a temporary and one from it, whatever walks over them comes to where the second leads.
 use Rattle.std.proofs.Common.{◌≡◌, ℕ, ◌⊎◌, inl, inr, List, [], ◌∷◌, ap, subst}
 use Rattle.std.specs.Prelude.{Contains}
-use Rattle.joint_model.specs.Components.{End, node, temporary}
-use Rattle.joint_model.specs.PeerReplay.{LeadsOver, Refers}
-use Rattle.joint_model.proofs.Members.{Contains-cons_cases, Contains-nil}
+use Rattle.joint_machine.specs.Components.{End, node, temporary}
+use Rattle.joint_machine.specs.PeerReplay.{LeadsOver, Refers}
+use Rattle.joint_machine.proofs.Members.{Contains-cons_cases, Contains-nil}
 
 pub over-ends : (refs : List (End × End)) (x y : ℕ) → refs ≡ (node x, temporary 0) ∷ (temporary 0, node y) ∷ [] → (p q : ℕ) → Refers refs p q → y ≡ q
 over-ends refs x y is p q r = by (node p) r.through r.walk

@@ -103,7 +103,8 @@ fn add_circles(builder: &mut ComponentsBuilder) -> Result<bool, ListingFault>
     Ok((first, second, third) == (0, 1, 2) && add_pairs(builder)?)
 }
 
-// Adds a component with two members and one without, and the pairs between them. Answers whether each call answers as it should.
+// Adds a component with two members and one without, and the pairs between them. Answers whether each call answers as
+// it should.
 fn add_bridgeless(builder: &mut ComponentsBuilder) -> Result<bool, ListingFault>
     requires comps { builder.old.comps ≡ [] }
     requires heavy { builder.old.heavy ≡ 0 }

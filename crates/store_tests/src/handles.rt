@@ -1,5 +1,5 @@
-// Tables of calls of a table of handles, with what each answers: how rows are made, cleared, restored and removed, at the last place, with
-// many handles of a peer and with many restores.
+// Tables of calls of a table of handles, with what each answers: how rows are made, cleared, restored and removed, at
+// the last place, with many handles of a peer and with many restores.
 
 ghost use Rattle.std.specs.Prelude.{◌≡◌, All};
 ghost use Rattle.std.specs.Bool.{OnTrue};
@@ -10,7 +10,8 @@ use global_handles::Strength::{Strong, Weak};
 use global_handles::{Back, HandleFault, HandleRow, HandleTable, Hold, NotLive, Strength};
 use joint_model::{HNum, PNum};
 
-// A call, with what it answers. `Count` is of the rows that are in the table, of the handles that were made by `make`, and the greatest number given.
+// A call, with what it answers. `Count` is of the rows that are in the table, of the handles that were made by `make`,
+// and the greatest number given.
 #[derive(Clone, Copy)]
 enum Call {
     Reserve(u32),

@@ -166,7 +166,8 @@ fn single(
     Ok(entries)
 }
 
-// Joins ten lists: an entry of each side, and one of two readers each. Answers `AllocError` where there is no memory for the lists.
+// Joins ten lists: an entry of each side, and one of two readers each. Answers `AllocError` where there is no memory
+// for the lists.
 fn join_ten(alloc: Global, holding: Holding) -> Result<Result<History, JoinFault>, AllocError> {
     let lists = vec![in alloc;
         single(

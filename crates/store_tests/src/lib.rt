@@ -1,10 +1,12 @@
-// Tests of the crates that keep something, by their public calls, where memory is ample: lists of entries and their history, marked rows, the
-// heap of rows, the table of handles, the dead part as a graph, the list of components, and the words of the gate, a cell and a pin.
+// Tests of the crates that keep something, by their public calls, where memory is ample: lists of entries and their
+// history, marked rows, the heap of rows, the table of handles, the dead part as a graph, the list of components, and
+// the words of the gate, a cell and a pin.
 //
-// They stand in a crate of their own since a crate with tests is proved twice, with them and without. Nothing but tests stands here, and no
-// other crate builds on it.
+// They stand in a crate of their own since a crate with tests is proved twice, with them and without. Nothing but tests
+// stands here, and no other crate builds on it.
 //
-// Nothing is promised to anybody. A test makes its value, plays a table of calls on it, and compares the answers; no other thread runs.
+// Nothing is promised to anybody. A test makes its value, plays a table of calls on it, and compares the answers; no
+// other thread runs.
 #![tactic(auto)]
 
 #[cfg(test)]

@@ -1,7 +1,8 @@
-// A weak read without a lock, step by step, beside a cycle that tries to close the gate: from `enter` to `leave` the gate stays open.
+// A weak read without a lock, step by step, beside a cycle that tries to close the gate: from `enter` to `leave` the
+// gate stays open.
 
 ghost use Rattle.std.specs.Prelude.{◌≡◌, None};
-ghost use Rattle.joint_model.specs.declared.events.Op.TheVariants as op;
+ghost use Rattle.joint_machine.specs.declared.events.Op.TheVariants as op;
 
 use joint_model::{Act, Cell, Cycle, MNum, Made, Op, Reply, Thread, Var};
 use order_table::{Order, Readers, Role};

@@ -1,7 +1,7 @@
 // A table of a small heap's operations, with what each answers; references, and a sweep.
 
 ghost use Rattle.std.specs.Prelude.{◌≡◌, [], OnOk};
-ghost use Rattle.joint_model.specs.Heaps.{IsLive};
+ghost use Rattle.joint_machine.specs.Heaps.{IsLive};
 ghost use Rattle.row_heap.specs.Marks.{AreEndsLive};
 
 use heap_rules::Done::{self, Empty, Null, Object, Range};
@@ -10,7 +10,8 @@ use row_heap::{End, RowHeap};
 use row_marking::visit;
 use std::alloc::AllocError;
 
-// An operation, by places of variables, fields and statics. `Add` makes an object with so many fields, which the variable then names.
+// An operation, by places of variables, fields and statics. `Add` makes an object with so many fields, which the
+// variable then names.
 #[derive(Clone, Copy)]
 enum Call {
     Add(u8, usize),

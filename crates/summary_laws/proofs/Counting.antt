@@ -1,15 +1,18 @@
 -- The tally of a lawful list goes with the numbers of its states, entry after entry.
 use Rattle.std.proofs.Common.{◌≡◌, Bool, true, false, List, [], ◌∷◌, map, refl, sym, ap, subst, ◌∙◌, arith}
-use Rattle.joint_model.specs.declared.events.Made.{Made}
-use Rattle.joint_model.specs.Lines.{IsEvent, is_peer_event}
-use Rattle.joint_model.specs.Linked.{Linkage, MayCome, AllMayCome, SideLawful, opening_linkage, linkage_after, managed_after, peer_after, replayed}
-use Rattle.joint_model.specs.ManagedReplay.{ManagedReplay}
-use Rattle.joint_model.specs.PeerReplay.{PeerReplay}
-use Rattle.joint_model.specs.Told.{Told, Noted}
+use Rattle.joint_machine.specs.declared.events.Made.{Made}
+use Rattle.joint_machine.specs.Lines.{IsEvent, is_peer_event}
+use Rattle.joint_machine.specs.Linked.{Linkage, MayCome, SideLawful, opening_linkage, linkage_after, managed_after, peer_after}
+use Rattle.joint_machine.specs.Replaying.{AllMayCome, replayed}
+use Rattle.joint_machine.specs.ManagedReplay.{ManagedReplay}
+use Rattle.joint_machine.specs.PeerReplay.{PeerReplay}
+use Rattle.joint_machine.specs.Told.{Told, Noted}
 use Rattle.joint_laws.proofs.LinkedEntries.{Of, AreKept-entry, AreKept-opening}
 use Rattle.run_summary.specs.declared.tallies.Tally.{Tally}
-use Rattle.run_summary.specs.Tallies.{one, freed_managed, freed_peers, tallied, tally_from}
-use Rattle.summary_laws.specs.States.{tally_in, AddsUp, HeapsAddUp, TalliesAreOfStates}
+use Rattle.run_summary.specs.Tallies.{freed_managed, freed_peers, tallied, tally_from}
+use Rattle.run_summary.specs.Lines.{one}
+use Rattle.summary_laws.specs.States.{tally_in}
+use Rattle.summary_laws.specs.Laws.{AddsUp, HeapsAddUp, TalliesAreOfStates}
 use Rattle.summary_laws.proofs.HeapCounts.{adds-up}
 use Rattle.summary_laws.proofs.ManagedCounts.{ManagedCounts, answer-counts}
 use Rattle.summary_laws.proofs.Names.{AreNamesKept, names-opening}

@@ -2,10 +2,11 @@
 use Rattle.std.proofs.Common.{◌≡◌, ℕ, suc, ◌+◌, List, ◌++◌, length, refl, ap, ◌∙◌, arith}
 use Rattle.std.specs.Prelude.{Contains}
 use Rattle.std.proofs.lemmas.List.{length-append}
-use Rattle.joint_model.specs.Components.{Rises}
-use Rattle.joint_model.specs.Heaps.{Heap, IsMade, IsLive}
+use Rattle.joint_machine.specs.Components.{Rises}
+use Rattle.joint_machine.specs.Heaps.{Heap, IsMade, IsLive}
 use Rattle.joint_laws.proofs.HeapMoves.{HasMoved}
-use Rattle.summary_laws.specs.States.{AddsUp, others_up_to, unfreed}
+use Rattle.summary_laws.specs.States.{others_up_to, unfreed}
+use Rattle.summary_laws.specs.Laws.{AddsUp}
 use Rattle.summary_laws.proofs.Unfreed.{put-all, rising-fresh, grown-by_one}
 
 pub record HeapCounts (h k : Heap) (new gone : ℕ) : Type 0 where

@@ -1,28 +1,29 @@
 -- What a managed event does to the managed numbers, by its reply.
 use Rattle.std.proofs.Common.{◌≡◌, ℕ, ◌+◌, true, false, length, Option, Some, None, refl, sym, ap, subst, arith}
 use Rattle.std.specs.Prelude.{Contains}
-use Rattle.joint_model.specs.declared.names.Kind.{Kind}
-use Rattle.joint_model.specs.declared.names.Sort.{Sort}
-use Rattle.joint_model.specs.declared.names.Thread.{Thread}
-use Rattle.joint_model.specs.declared.lines.Act.{Act}
-use Rattle.joint_model.specs.declared.lines.Act.TheVariants as act
-use Rattle.joint_model.specs.declared.events.Op.{Op}
-use Rattle.joint_model.specs.declared.events.Op.TheVariants as op
-use Rattle.joint_model.specs.declared.events.Reply.{Reply}
-use Rattle.joint_model.specs.declared.events.Reply.TheVariants as says
-use Rattle.joint_model.specs.Heaps.{Heap, IsMade, Answered, answer, slot, place, is_full, is_freed}
-use Rattle.joint_model.specs.Managed.{Managed, OpenCycle, managed_name, managed_line, with_row, adopted, cell_set, target_read, cell_read, read_cell, without_handle, given_up, twin_met, met, place_or_none}
-use Rattle.joint_model.specs.ManagedReplay.{ManagedReplay, registered, managed_answer, ManagedAllows}
-use Rattle.joint_model.specs.Run.{thread_number}
-use Rattle.joint_model.specs.Told.{Told, nothing, snap_of, contraction_of, resolution_of, phase_of}
-use Rattle.joint_model.proofs.Deciding.{option-cases, test-cases}
-use Rattle.joint_model.proofs.HeapLemmas.{adopt_by-managed, adopt_by-reply}
+use Rattle.joint_machine.specs.declared.names.Kind.{Kind}
+use Rattle.joint_machine.specs.declared.names.Sort.{Sort}
+use Rattle.joint_machine.specs.declared.names.Thread.{Thread}
+use Rattle.joint_machine.specs.declared.lines.Act.{Act}
+use Rattle.joint_machine.specs.declared.lines.Act.TheVariants as act
+use Rattle.joint_machine.specs.declared.events.Op.{Op}
+use Rattle.joint_machine.specs.declared.events.Op.TheVariants as op
+use Rattle.joint_machine.specs.declared.events.Reply.{Reply}
+use Rattle.joint_machine.specs.declared.events.Reply.TheVariants as says
+use Rattle.joint_machine.specs.Heaps.{Heap, IsMade, Answered, answer, slot, place, is_full, is_freed}
+use Rattle.joint_machine.specs.Managed.{Managed, OpenCycle, managed_name, managed_line, with_row, adopted, cell_set, target_read, cell_read, read_cell, without_handle, given_up, twin_met, met, place_or_none}
+use Rattle.joint_machine.specs.ManagedReplay.{ManagedReplay, registered, managed_answer, ManagedAllows}
+use Rattle.joint_machine.specs.Run.{thread_number}
+use Rattle.joint_machine.specs.Told.{Told, nothing, snap_of, contraction_of, resolution_of, phase_of}
+use Rattle.joint_machine.proofs.Deciding.{option-cases, test-cases}
+use Rattle.joint_machine.proofs.HeapLemmas.{adopt_by-managed, adopt_by-reply}
 use Rattle.joint_laws.specs.ManagedInvariants.{IsReplayKept}
 use Rattle.joint_laws.proofs.Fields.{with_object-length}
 use Rattle.joint_laws.proofs.HeapMoves.{HasMoved, copied-moved, field_set-moved, field_got-moved, dropped-moved, loaded-moved, stored-moved}
 use Rattle.joint_laws.proofs.ManagedSteps.{meet_by-managed, meet_by-reply, give_by-managed, give_by-reply}
 use Rattle.joint_laws.proofs.PlainReplies.{IsPlain, line-plain, handle-plain, refusal-plain}
-use Rattle.run_summary.specs.Tallies.{one, makes_managed, opens_cycle, freed_managed}
+use Rattle.run_summary.specs.Tallies.{makes_managed, opens_cycle, freed_managed}
+use Rattle.run_summary.specs.Lines.{one}
 use Rattle.summary_laws.proofs.HeapCounts.{HeapCounts, counts-alike, counts-stay, counts-moved, counts-object, counts-freed}
 
 -- the managed numbers between two states, by an event and its reply

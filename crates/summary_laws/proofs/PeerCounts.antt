@@ -1,28 +1,27 @@
 -- What a peer event does to the peers' numbers and to the handle table, by its reply.
 use Rattle.std.proofs.Common.{◌≡◌, ℕ, ◌+◌, Bool, true, false, ◌||◌, List, [], ◌∷◌, ◌++◌, map, Option, Some, None, set, refl, sym, ap, subst, ◌∙◌, arith}
 use Rattle.std.specs.Prelude.{Contains}
-use Rattle.joint_model.specs.declared.names.GName.{GName}
-use Rattle.joint_model.specs.declared.names.HNum.{HNum}
-use Rattle.joint_model.specs.declared.names.Sort.{Sort}
-use Rattle.joint_model.specs.declared.names.Thread.{Thread}
-use Rattle.joint_model.specs.declared.names.Thread.TheVariants.{M, P, C}
-use Rattle.joint_model.specs.declared.lines.Act.{Act}
-use Rattle.joint_model.specs.declared.lines.Act.TheVariants as act
-use Rattle.joint_model.specs.declared.events.Op.{Op}
-use Rattle.joint_model.specs.declared.events.Op.TheVariants as op
-use Rattle.joint_model.specs.declared.events.Reply.{Reply}
-use Rattle.joint_model.specs.declared.events.Reply.TheVariants as says
-use Rattle.joint_model.specs.Components.{Rises}
-use Rattle.joint_model.specs.Heaps.{Heap, IsLive, Answered, answer, slot, place, is_full, numbered_set}
-use Rattle.joint_model.specs.Managed.{place_or_none}
-use Rattle.joint_model.specs.Components.{End}
-use Rattle.joint_model.specs.Peers.{with_renewed, peer_of, Peers, Issued, Strength, strong, weak, held, raw, peer_name, pair_made, peer_gripped, landed, name_given, peer_read, name_read, on_peer_heap, peer_line, issued_since, handles_full}
-use Rattle.joint_model.specs.PeerReplay.{PeerReplay, TableRow, Marking, row_of, fresh_row, table_target, on_table, bring_by, untabled, peer_thread_line, is_thread, sliced, begun, swept, restored_by, renewed_on, mirrored, peer_answer, PeerAllows, SweepAllows, IsHeld}
-use Rattle.joint_model.specs.Run.{thread_number}
-use Rattle.joint_model.specs.Told.{Told, nothing, references_of, slice_of, sweep_of}
-use Rattle.joint_model.proofs.Deciding.{none_some, option-cases, test-cases}
-use Rattle.joint_model.proofs.Members.{Contains-nil}
-use Rattle.joint_model.proofs.Numbered.{slot-named, slot-Contains}
+use Rattle.joint_machine.specs.declared.names.GName.{GName}
+use Rattle.joint_machine.specs.declared.names.HNum.{HNum}
+use Rattle.joint_machine.specs.declared.names.Sort.{Sort}
+use Rattle.joint_machine.specs.declared.names.Thread.{Thread}
+use Rattle.joint_machine.specs.declared.names.Thread.TheVariants.{M, P, C}
+use Rattle.joint_machine.specs.declared.lines.Act.{Act}
+use Rattle.joint_machine.specs.declared.lines.Act.TheVariants as act
+use Rattle.joint_machine.specs.declared.events.Op.{Op}
+use Rattle.joint_machine.specs.declared.events.Op.TheVariants as op
+use Rattle.joint_machine.specs.declared.events.Reply.{Reply}
+use Rattle.joint_machine.specs.declared.events.Reply.TheVariants as says
+use Rattle.joint_machine.specs.Components.{Rises, End}
+use Rattle.joint_machine.specs.Heaps.{Heap, IsLive, Answered, answer, slot, place, is_full, numbered_set}
+use Rattle.joint_machine.specs.Managed.{place_or_none}
+use Rattle.joint_machine.specs.Peers.{with_renewed, peer_of, Peers, Issued, Strength, strong, weak, held, raw, peer_name, pair_made, peer_gripped, landed, name_given, peer_read, name_read, on_peer_heap, peer_line, issued_since, handles_full}
+use Rattle.joint_machine.specs.PeerReplay.{PeerReplay, TableRow, Marking, row_of, fresh_row, table_target, on_table, bring_by, untabled, peer_thread_line, is_thread, sliced, begun, swept, restored_by, renewed_on, mirrored, peer_answer, PeerAllows, SweepAllows, IsHeld}
+use Rattle.joint_machine.specs.Run.{thread_number}
+use Rattle.joint_machine.specs.Told.{Told, nothing, references_of, slice_of, sweep_of}
+use Rattle.joint_machine.proofs.Deciding.{none_some, option-cases, test-cases}
+use Rattle.joint_machine.proofs.Members.{Contains-nil}
+use Rattle.joint_machine.proofs.Numbered.{slot-named, slot-Contains}
 use Rattle.joint_laws.specs.PeerInvariants.{IsPeerKept, IsTabled}
 use Rattle.joint_laws.proofs.Fields.{with_object-length}
 use Rattle.joint_laws.proofs.HandleKeeping.{held-raw, issued-same}
@@ -30,7 +29,8 @@ use Rattle.joint_laws.proofs.HeapMoves.{HasMoved, copied-moved, field_set-moved,
 use Rattle.joint_laws.proofs.PeerEvents.{freed_by}
 use Rattle.joint_laws.proofs.PeerQuiet.{table-still, table-issued}
 use Rattle.joint_laws.proofs.PlainReplies.{IsPlain, peer_line-plain, sliced-plain}
-use Rattle.run_summary.specs.Tallies.{one, is_h, makes_peer, makes_handle, removes_handle, freed_peers}
+use Rattle.run_summary.specs.Tallies.{is_h, makes_peer, makes_handle, removes_handle, freed_peers}
+use Rattle.run_summary.specs.Lines.{one}
 use Rattle.summary_laws.proofs.HeapCounts.{HeapCounts, counts-alike, counts-stay, counts-moved, counts-object, counts-freed}
 use Rattle.summary_laws.proofs.Names.{AreNamesKept, names-grown, names-given, names-freed, names-gone, names-reset, names-swept}
 use Rattle.summary_laws.proofs.TableRows.{rows, rows-put, rows-set, rows-swept}

@@ -1,17 +1,17 @@
 -- An event of one side makes, removes and frees nothing on the other.
 use Rattle.std.proofs.Common.{◌≡◌, ℕ, Bool, true, false, ◌||◌, List, [], Option, Some, None, refl, sym, ap, ◌∙◌}
-use Rattle.joint_model.specs.declared.names.Thread.{Thread}
-use Rattle.joint_model.specs.declared.names.Thread.TheVariants.{M, P, C}
-use Rattle.joint_model.specs.declared.lines.Act.TheVariants as act
-use Rattle.joint_model.specs.declared.events.Op.{Op}
-use Rattle.joint_model.specs.declared.events.Op.TheVariants as op
-use Rattle.joint_model.specs.declared.events.Reply.{Reply}
-use Rattle.joint_model.specs.Heaps.{Answered}
-use Rattle.joint_model.specs.Lines.{IsEvent, is_peer_event}
-use Rattle.joint_model.specs.Linked.{Linkage, SideLawful}
-use Rattle.joint_model.specs.PeerReplay.{PeerReplay, Marking, is_thread, swept}
-use Rattle.joint_model.specs.Told.{Told, snap_of, resolution_of, sweep_of}
-use Rattle.joint_model.proofs.Deciding.{test-cases}
+use Rattle.joint_machine.specs.declared.names.Thread.{Thread}
+use Rattle.joint_machine.specs.declared.names.Thread.TheVariants.{M, P, C}
+use Rattle.joint_machine.specs.declared.lines.Act.TheVariants as act
+use Rattle.joint_machine.specs.declared.events.Op.{Op}
+use Rattle.joint_machine.specs.declared.events.Op.TheVariants as op
+use Rattle.joint_machine.specs.declared.events.Reply.{Reply}
+use Rattle.joint_machine.specs.Heaps.{Answered}
+use Rattle.joint_machine.specs.Lines.{IsEvent, is_peer_event}
+use Rattle.joint_machine.specs.Linked.{Linkage, SideLawful}
+use Rattle.joint_machine.specs.PeerReplay.{PeerReplay, Marking, is_thread, swept}
+use Rattle.joint_machine.specs.Told.{Told, snap_of, resolution_of, sweep_of}
+use Rattle.joint_machine.proofs.Deciding.{test-cases}
 use Rattle.joint_laws.proofs.LinkedEntries.{entry}
 use Rattle.joint_laws.proofs.SpansTold.{HasSpan, plain-entry}
 use Rattle.run_summary.specs.Tallies.{opens_cycle, makes_managed, makes_peer, makes_handle, removes_handle, freed_managed, freed_peers}

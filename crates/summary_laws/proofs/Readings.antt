@@ -1,25 +1,28 @@
--- Reads that are set aside count nothing, so the tally of a linked history is that of its last state too, in which both heaps add up.
+-- Reads that are set aside count nothing, so the tally of a linked history is that of its last state too, in which both
+-- heaps add up.
 use Rattle.std.proofs.Common.{◌≡◌, Bool, true, false, List, [], ◌∷◌, cond, map, refl, sym, ap, subst, ◌∙◌, arith}
 use Rattle.std.specs.Prelude.{not}
-use Rattle.joint_model.specs.declared.lines.Act.TheVariants as act
-use Rattle.joint_model.specs.declared.events.Op.{Op}
-use Rattle.joint_model.specs.declared.events.Op.TheVariants as op
-use Rattle.joint_model.specs.declared.events.Reply.{Reply}
-use Rattle.joint_model.specs.declared.events.Reply.TheVariants as says
-use Rattle.joint_model.specs.declared.events.Entry.{Entry}
-use Rattle.joint_model.specs.Linked.{opening_linkage, replayed}
-use Rattle.joint_model.specs.Lines.{is_read}
-use Rattle.joint_model.specs.ManagedReplay.{ManagedReplay}
-use Rattle.joint_model.specs.PeerReplay.{PeerReplay}
-use Rattle.joint_model.specs.Readers.{is_set_aside, is_aside, replayed_reading}
-use Rattle.joint_model.specs.Told.{Noted}
+use Rattle.joint_machine.specs.declared.lines.Act.TheVariants as act
+use Rattle.joint_machine.specs.declared.events.Op.{Op}
+use Rattle.joint_machine.specs.declared.events.Op.TheVariants as op
+use Rattle.joint_machine.specs.declared.events.Reply.{Reply}
+use Rattle.joint_machine.specs.declared.events.Reply.TheVariants as says
+use Rattle.joint_machine.specs.declared.events.Entry.{Entry}
+use Rattle.joint_machine.specs.Linked.{opening_linkage}
+use Rattle.joint_machine.specs.Replaying.{replayed}
+use Rattle.joint_machine.specs.Lines.{is_read}
+use Rattle.joint_machine.specs.ManagedReplay.{ManagedReplay}
+use Rattle.joint_machine.specs.PeerReplay.{PeerReplay}
+use Rattle.joint_machine.specs.Readers.{is_set_aside, is_aside, replayed_reading}
+use Rattle.joint_machine.specs.Told.{Noted}
 use Rattle.joint_laws.specs.ReadingLaws.{without_aside, IsLawfulReading}
 use Rattle.joint_laws.proofs.ReadsAside.{reading_is_lawful, reading_leads_to_same, without-cons}
 use Rattle.run_summary.specs.declared.tallies.Tally.{Tally}
 use Rattle.run_summary.specs.Tallies.{tallied, tally_from, tally_of, nothing_yet}
-use Rattle.summary_laws.specs.States.{tally_in, AddsUp, HeapsOfLinked, TalliesOfLinked}
+use Rattle.summary_laws.specs.States.{tally_in}
+use Rattle.summary_laws.specs.Laws.{AddsUp, HeapsOfLinked, TalliesOfLinked}
 use Rattle.summary_laws.proofs.Counting.{same_tally, sides, heaps_add_up, tallies_are_of_states}
-use Rattle.joint_model.proofs.Deciding.{and-true}
+use Rattle.joint_machine.proofs.Deciding.{and-true}
 
 -- nothing is added and nothing taken away
 nothing_counted : (t : Tally) → tallied t (op.Line (act.Read record { 0 = 0 })) says.Unset ≡ t

@@ -4,12 +4,12 @@ use Rattle.std.specs.Prelude.{count_by, is_some, slice_get, get_or}
 use Rattle.std.specs.List.{list_any}
 use Rattle.std.proofs.lemmas.List.Sums.{sum_by-cons, sum_by_push, sum_by-set}
 use Rattle.std.proofs.lemmas.Option.{slice_get_within, get_or_from_slice_get}
-use Rattle.joint_model.specs.Heaps.{numbered_set}
-use Rattle.joint_model.specs.Peers.{Issued}
-use Rattle.joint_model.specs.PeerReplay.{TableRow, cleared_rows}
-use Rattle.joint_model.proofs.Deciding.{none_some}
+use Rattle.joint_machine.specs.Heaps.{numbered_set}
+use Rattle.joint_machine.specs.Peers.{Issued}
+use Rattle.joint_machine.specs.PeerReplay.{TableRow, cleared_rows}
+use Rattle.joint_machine.proofs.Deciding.{none_some}
 use Rattle.joint_laws.specs.PeerInvariants.{IsTabled}
-use Rattle.run_summary.specs.Tallies.{one}
+use Rattle.run_summary.specs.Lines.{one}
 
 -- rows of any kind
 module _ (f : Option TableRow → Bool) where

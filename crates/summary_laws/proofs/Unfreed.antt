@@ -1,13 +1,14 @@
--- How many numbers up to a limit don't stand in a list: one that comes into it is one less, and one more that stays out is one more.
+-- How many numbers up to a limit don't stand in a list: one that comes into it is one less, and one more that stays out
+-- is one more.
 use Rattle.std.proofs.Common.{◌≡◌, ℕ, zero, suc, ◌+◌, ◌≤◌, ◌<◌, ◌⊎◌, inl, inr, Bool, true, false, ◌||◌, List, [], ◌∷◌, ◌++◌, length, nat_eq, refl, subst, ◌∙◌, arith, append_assoc}
 use Rattle.std.specs.Prelude.{Contains, All}
 use Rattle.std.proofs.lemmas.List.{append-nil}
 use Rattle.std.proofs.lemmas.List.Folds.{list_any-append}
 use Rattle.std.proofs.lemmas.List.Elements.{All-contains, Contains-append_cases}
 use Rattle.std.proofs.lemmas.Cmp.{nat_eq_equiv}
-use Rattle.joint_model.specs.Components.{Rises}
-use Rattle.joint_model.proofs.Members.{Contains-nil, Contains-here, Contains-there, Contains-cons_cases}
-use Rattle.joint_model.proofs.HeapLemmas.{is_freed-Contains}
+use Rattle.joint_machine.specs.Components.{Rises}
+use Rattle.joint_machine.proofs.Members.{Contains-nil, Contains-here, Contains-there, Contains-cons_cases}
+use Rattle.joint_machine.proofs.HeapLemmas.{is_freed-Contains}
 use Rattle.summary_laws.specs.States.{stands_in, others_up_to}
 
 eq-other : (x y : ℕ) → (x ≡ y → ⊥) → nat_eq x y ≡ false

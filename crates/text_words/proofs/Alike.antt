@@ -1,5 +1,5 @@
--- Two texts whose first bytes are compared at once: the answers are the bits of a number, of which the lowest stands first, so the zeros at its end
--- count the places from the front on at which both have the same byte.
+-- Two texts whose first bytes are compared at once: the answers are the bits of a number, of which the lowest stands
+-- first, so the zeros at its end count the places from the front on at which both have the same byte.
 use Rattle.std.proofs.Common.{◌≡◌, ℕ, ◌+◌, ◌-◌, ◌++◌, ◌%◌, ◌^◌, ◌≤◌, Bool, true, false, cond, eqb, not, List, [], ◌∷◌, length, take, drop, take-add, map, refl, sym, ◌∙◌, ap, arith, w8, zero, suc}
 use lib.Lanes.{zip2, mask_l, top}
 use lib.Count.{count_trailing_zeros}

@@ -2,7 +2,7 @@
 -- has a space before each.
 use Rattle.std.proofs.Common.{◌≡◌, ◌≢◌, ℕ, List, [], ◌∷◌, ◌++◌, refl, sym, ◌∙◌, ap, append_assoc}
 use Rattle.std.specs.List.{AllByRecursion}
-use Rattle.byte_streams.specs.Drafts.{after_spaces}
+use Rattle.byte_streams.specs.Spaced.{after_spaces}
 
 -- the element isn't in the list
 abbrev pub Lacks : {X : Type 0} → X → List X → Type 0

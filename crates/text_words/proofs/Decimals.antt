@@ -1,5 +1,5 @@
--- The decimal of any number has digits alone, and a number of at most 64 bits is known by its decimal among all numbers:
--- a decimal past 64 digits is cut to its last 64, so it is longer than that of any such number.
+-- The decimal of any number has digits alone, and a number of at most 64 bits is known by its decimal among all
+-- numbers: a decimal past 64 digits is cut to its last 64, so it is longer than that of any such number.
 use Rattle.std.proofs.Common.{◌≡◌, ℕ, ◌+◌, ◌<◌, ◌≤◌, ◌/◌, ◌%◌, ◌^◌, Bool, true, false, cond, inl, inr, zero, suc, List, [], ◌∷◌, length, decimal, refl, sym, ◌∙◌, ap, arith, All}
 use Rattle.std.specs.Fmt.{digit_glyph, digits_onto, digits}
 use Rattle.std.specs.Str.Parse.{digits_value}

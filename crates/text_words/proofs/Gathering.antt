@@ -1,4 +1,5 @@
--- A number is read digit by digit: so far it is the number that the first digits write, which is below ten to the power of so many.
+-- A number is read digit by digit: so far it is the number that the first digits write, which is below ten to the power
+-- of so many.
 use Rattle.std.proofs.Common.{◌≡◌, ℕ, ◌+◌, ◌-◌, ◌*◌, ◌/◌, ◌%◌, ◌<◌, ◌≤◌, ◌^◌, ◌⊎◌, inl, inr, List, [], ◌∷◌, ◌++◌, get_or, length, take, decimal, sym, ap, ◌∙◌, subst, arith}
 use Rattle.std.proofs.lemmas.Bool.{cases_lt}
 use Rattle.std.proofs.lemmas.Fmt.{decimal_digit, decimal_step, first_decimal}

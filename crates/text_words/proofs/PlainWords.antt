@@ -1,5 +1,5 @@
--- Plain words: each byte is above the space and isn't the equals sign. So such a word has no space and no newline, and it is not
--- the equals sign itself. Decimals are plain, and so is a letter with a decimal behind it.
+-- Plain words: each byte is above the space and isn't the equals sign. So such a word has no space and no newline, and
+-- it is not the equals sign itself. Decimals are plain, and so is a letter with a decimal behind it.
 use Rattle.std.proofs.Common.{◌≡◌, ◌≢◌, ℕ, ◌<◌, ◌≤◌, Bool, true, false, cond, not, ◌&&◌, List, [], ◌∷◌, codes, decimal, refl, arith, All}
 use Rattle.std.specs.List.{AllByRecursion, list_all}
 use Rattle.std.proofs.Math.Dec.{eqb, ltb}

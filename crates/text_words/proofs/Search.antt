@@ -1,6 +1,6 @@
--- The first place of a byte among the first 32, or 16, of a text. They are compared with it at once, and the answers are the bits of
--- a number, of which the lowest stands first: so the number is 0 where none of them is the byte, and else the zeros at its
--- end count those before the first that is.
+-- The first place of a byte among the first 32, or 16, of a text. They are compared with it at once, and the answers
+-- are the bits of a number, of which the lowest stands first: so the number is 0 where none of them is the byte, and
+-- else the zeros at its end count those before the first that is.
 use Rattle.std.proofs.Common.{◌≡◌, ◌≢◌, ℕ, ◌+◌, ◌-◌, ◌%◌, ◌^◌, ◌<◌, ◌≤◌, Bool, cond, eqb, not, List, length, get_or, take, drop, map, replicate, sym, ◌∙◌, ap, arith, w8, true≢false, inl, inr}
 use lib.Lanes.{zip2, chunk, mask_l, top}
 use lib.Count.{count_trailing_zeros}

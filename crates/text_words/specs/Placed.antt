@@ -1,4 +1,5 @@
 -- The first line of bytes, and what stands behind it.
+-- Believed: the clauses of the program's top call rest on all that stands here.
 use Rattle.std.specs.Prelude.{◌≡◌, ◌≢◌, ℕ, Bool, true, false, List, [], ◌∷◌, ◌++◌, All}
 
 -- bytes are a line and what is left behind it: a line is closed by its newline, and one that isn't is all of them

@@ -1,4 +1,5 @@
 -- The words of a line, and the line of words.
+-- Believed: the clauses of the program's top call rest on all that stands here.
 use Rattle.std.specs.Prelude.{ℕ, ◌==◌, List}
 use Rattle.std.specs.List.{slice_split, join_with_byte}
 

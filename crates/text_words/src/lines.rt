@@ -7,7 +7,8 @@ use crate::searches::first_place_far;
 use crate::stretches::Stretch;
 use std::marker::Model;
 
-/// A line where it stands: its text, which is without the newline, and whether it has one. Only the last line may have none.
+/// A line where it stands: its text, which is without the newline, and whether it has one. Only the last line may have
+/// none.
 #[derive(Drop)]
 pub struct PlacedLine<'a> {
     pub text: Stretch<'a>,

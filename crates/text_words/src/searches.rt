@@ -21,7 +21,8 @@ pub fn first_place(bytes: &[u8], byte: u8) -> usize
     bytes.len()
 }
 
-/// The same, for a text that is mostly longer than 32 bytes, as what is left of a script: its first 32 are compared at once.
+/// The same, for a text that is mostly longer than 32 bytes, as what is left of a script: its first 32 are compared at
+/// once.
 pub fn first_place_far(bytes: &[u8], byte: u8) -> usize
     ensures within { result ≤ length bytes.now }
     ensures before { (k : ℕ) → k < result → slice_index bytes.now k ≢ byte }

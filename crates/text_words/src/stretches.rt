@@ -19,7 +19,8 @@ const SPREADS: [u64; 3] = [
     0xc4ce_b9fe_1a85_ec53,
 ];
 
-/// The first bytes of a text. A search looks at more of them at once than the stretch may have, since it knows what stands behind it.
+/// The first bytes of a text. A search looks at more of them at once than the stretch may have, since it knows what
+/// stands behind it.
 #[derive(Drop)]
 pub struct Stretch<'a> {
     text: &'a [u8],
@@ -88,8 +89,8 @@ impl<'a> Stretch<'a> {
         first_place(&self.text[..self.len], byte)
     }
 
-    /// Whether it is seen at once to have the same bytes as another one. Where it is not seen they may still be the same: it is seen where they have at
-    /// most 64 bytes, and both texts go on to 32.
+    /// Whether it is seen at once to have the same bytes as another one. Where it is not seen they may still be the
+    /// same: it is seen where they have at most 64 bytes, and both texts go on to 32.
     #[inline(always)]
     pub fn is_seen_same(&self, other: &Stretch) -> bool
         ensures { IsTrue result → self.now ≡ other.now }
@@ -103,8 +104,8 @@ impl<'a> Stretch<'a> {
         self.len <= 2 * SHORT && same_ends(self.text, other.text, self.len)
     }
 
-    /// A number below 512 that stretches of the same bytes share, and others seldom: it is drawn from the first eight bytes, the last eight and eight in
-    /// the middle.
+    /// A number below 512 that stretches of the same bytes share, and others seldom: it is drawn from the first eight
+    /// bytes, the last eight and eight in the middle.
     #[inline(always)]
     pub fn mark(&self) -> usize
         ensures { result < 512 }
@@ -140,7 +141,8 @@ fn eight_at(text: &[u8], at: usize) -> u64
     ])
 }
 
-// Whether two texts have the same first bytes, so many, from 32 to 64: the first 32 are compared at once, and the last 32.
+// Whether two texts have the same first bytes, so many, from 32 to 64: the first 32 are compared at once, and the last
+// 32.
 #[inline(always)]
 fn same_ends(a: &[u8], b: &[u8], len: usize) -> bool
     requires a { len ≤ length a.now }

@@ -3,8 +3,8 @@ use Rattle.std.proofs.Common.{◌≡◌, ◌⊎◌, inl, inr, ⊎_elim, ℕ, Lis
 use Rattle.std.specs.Prelude.{Contains, if◌then◌else◌}
 use mathlib.Core.List.{IsPrefix}
 use base.Growing.{prefix_trans}
-use Rattle.joint_model.specs.HistoryLines.{stands_in}
-use Rattle.joint_model.specs.Told.{Noted}
+use Rattle.joint_machine.specs.HistoryLines.{stands_in}
+use Rattle.joint_machine.specs.Told.{Noted}
 use Rattle.known_laws.specs.Drawn.{of_drawn, drawn_on, kept_drawn, DrawnGrow, DrawnJoin}
 use Rattle.known_laws.specs.Growing.{kept_in, grown, shown, AreBelow, Begin}
 use Rattle.known_laws.specs.Pasts.{end_of}

@@ -1,11 +1,12 @@
--- A read by the owner of the managed list answers as the one machine does: each of the pin, the gate and the cell's word is as the state has it.
+-- A read by the owner of the managed list answers as the one machine does: each of the pin, the gate and the cell's
+-- word is as the state has it.
 use Rattle.std.proofs.Common.{◌≡◌, ℕ, zero, suc, ◌+◌, Bool, true, false, List, Option, Some, None, refl, sym, ap, ◌∙◌, subst, arith}
 use Rattle.std.specs.Prelude.{if◌then◌else◌}
-use Rattle.joint_model.specs.Heaps.{slot}
-use Rattle.joint_model.specs.Heaps as heaps
-use Rattle.joint_model.specs.Managed.{Managed, OpenCycle}
-use Rattle.joint_model.specs.Told.{Noted}
-use Rattle.joint_model.proofs.Numbered.{slot-Contains}
+use Rattle.joint_machine.specs.Heaps.{slot}
+use Rattle.joint_machine.specs.Heaps as heaps
+use Rattle.joint_machine.specs.Managed.{Managed, OpenCycle}
+use Rattle.joint_machine.specs.Told.{Noted}
+use Rattle.joint_machine.proofs.Numbered.{slot-Contains}
 use Rattle.known_laws.specs.Held.{open_number, answers_by, gone, object}
 use Rattle.known_laws.specs.Held as held
 use Rattle.known_laws.specs.Pasts.{end_of}

@@ -4,32 +4,34 @@ use Rattle.std.specs.Prelude.{if◌then◌else◌, nat_eq, Contains}
 use Rattle.std.proofs.lemmas.Bool.{cases_Bool, cases_lt}
 use Rattle.std.proofs.lemmas.List.{append-nil}
 use Rattle.std.proofs.lemmas.Bool.Decides.{nat_tests}
-use Rattle.joint_model.specs.declared.names.MNum.{MNum}
-use Rattle.joint_model.specs.declared.names.Thread.{Thread}
-use Rattle.joint_model.specs.declared.names.Thread.TheVariants.{M, P, C}
-use Rattle.joint_model.specs.declared.lines.Act.TheVariants as act
-use Rattle.joint_model.specs.declared.events.Op.{Op}
-use Rattle.joint_model.specs.declared.events.Op.TheVariants as op
-use Rattle.joint_model.specs.declared.events.Reply.{Reply}
-use Rattle.joint_model.specs.declared.events.Reply.TheVariants as says
-use Rattle.joint_model.specs.declared.events.Entry.{Entry}
-use Rattle.joint_model.specs.Draws.{NumberedFrom}
-use Rattle.joint_model.specs.Heaps.{Answered, answer, slot, place}
-use Rattle.joint_model.specs.HistoryLines.{caller_line}
-use Rattle.joint_model.specs.Lines.{IsEvent, IsThread, is_read, is_peer_event}
-use Rattle.joint_model.specs.Linked.{opening_linkage, SideLawful}
-use Rattle.joint_model.specs.Managed.{Managed, cell_set}
-use Rattle.joint_model.specs.PeerReplay.{PeerReplay, Marking, PeerAllows, SliceAllows, SweepAllows}
-use Rattle.joint_model.specs.Readers.{SetsCell, FreesObject}
-use Rattle.joint_model.specs.Sides.{objects_freed, managed_rules, peer_rules, cell_target, object_or_none}
-use Rattle.joint_model.specs.Told.{Told, Noted, bare_told, snap_of, resolution_of, no_pins}
-use Rattle.joint_model.proofs.Members.{Contains-nil, Contains-here, Contains-there, Contains-cons_cases, Contains-map}
-use Rattle.joint_model.specs.Draws.{Drawn}
+use Rattle.joint_machine.specs.declared.names.MNum.{MNum}
+use Rattle.joint_machine.specs.declared.names.Thread.{Thread}
+use Rattle.joint_machine.specs.declared.names.Thread.TheVariants.{M, P, C}
+use Rattle.joint_machine.specs.declared.lines.Act.TheVariants as act
+use Rattle.joint_machine.specs.declared.events.Op.{Op}
+use Rattle.joint_machine.specs.declared.events.Op.TheVariants as op
+use Rattle.joint_machine.specs.declared.events.Reply.{Reply}
+use Rattle.joint_machine.specs.declared.events.Reply.TheVariants as says
+use Rattle.joint_machine.specs.declared.events.Entry.{Entry}
+use Rattle.joint_machine.specs.Histories.{NumberedFrom}
+use Rattle.joint_machine.specs.Heaps.{Answered, answer, slot, place}
+use Rattle.joint_machine.specs.HistoryLines.{caller_line}
+use Rattle.joint_machine.specs.Lines.{IsEvent, IsThread, is_read, is_peer_event}
+use Rattle.joint_machine.specs.Linked.{opening_linkage, SideLawful}
+use Rattle.joint_machine.specs.Managed.{Managed, cell_set}
+use Rattle.joint_machine.specs.PeerReplay.{PeerReplay, Marking, PeerAllows, SliceAllows, SweepAllows}
+use Rattle.joint_machine.specs.Readers.{SetsCell, FreesObject}
+use Rattle.joint_machine.specs.Sides.{objects_freed, managed_rules, peer_rules, cell_target, object_or_none}
+use Rattle.joint_machine.specs.Told.{Told, Noted, snap_of, resolution_of}
+use Rattle.joint_machine.specs.PinsTold.{bare_told, no_pins}
+use Rattle.joint_machine.proofs.Members.{Contains-nil, Contains-here, Contains-there, Contains-cons_cases, Contains-map}
+use Rattle.joint_machine.specs.Draws.{Drawn}
 use Rattle.known_laws.specs.Drawn.{IsToldIn, drawn, drawn_by, of_drawn}
-use Rattle.known_laws.specs.Growing.{Kept, entries_kept, AreWhole, all_shown, shown, turned}
+use Rattle.known_laws.specs.Growing.{Kept, entries_kept, AreWhole, all_shown, shown}
 use Rattle.known_laws.specs.Known.{Comes, given, without_pins}
 use Rattle.known_laws.specs.Lists.{made_by}
-use Rattle.known_laws.specs.Pasts.{InPast, Lawful, end_of, line, is_in, own_of, role_of}
+use Rattle.known_laws.specs.Pasts.{Lawful, end_of, line, is_in, own_of, role_of}
+use Rattle.known_laws.specs.PastEntries.{InPast, turned}
 use Rattle.known_laws.specs.Wholes.{history_of, AllOrdered}
 use Rattle.known_laws.proofs.Drawing.{drawn-entry}
 use Rattle.known_laws.proofs.Ending.{known_whole_is_history, lawful_small, turned_twice}

@@ -1,30 +1,33 @@
--- What a pin's word tells the owner of the managed list says the same of its past: so pins that hold such objects stand.
+-- What a pin's word tells the owner of the managed list says the same of its past: so pins that hold such objects
+-- stand.
 use Rattle.std.proofs.Common.{◌≡◌, inl, inr, ⊎_elim, ℕ, zero, suc, ◌+◌, ◌<◌, ◌≤◌, Bool, true, false, List, [], ◌∷◌, ◌++◌, length, map, Option, Some, None, refl, sym, ap, ◌∙◌, subst, arith, true≢false, append_assoc}
 use Rattle.std.specs.Prelude.{if◌then◌else◌, nat_eq, nat_lt, Contains}
 use Rattle.std.specs.List.{list_any}
 use Rattle.std.proofs.lemmas.Bool.{cases_Bool, cases_lt, ltb-true, ltb-false}
 use mathlib.Core.Option.{some}
-use Rattle.joint_model.specs.declared.events.Entry.{Entry}
-use Rattle.joint_model.specs.declared.names.MNum.{MNum}
-use Rattle.joint_model.specs.declared.lines.Act.TheVariants as act
-use Rattle.joint_model.specs.declared.events.Op.{Op}
-use Rattle.joint_model.specs.declared.events.Op.TheVariants as op
-use Rattle.joint_model.specs.Sides.{objects_freed, managed_rules, peer_rules}
+use Rattle.joint_machine.specs.declared.events.Entry.{Entry}
+use Rattle.joint_machine.specs.declared.names.MNum.{MNum}
+use Rattle.joint_machine.specs.declared.lines.Act.TheVariants as act
+use Rattle.joint_machine.specs.declared.events.Op.{Op}
+use Rattle.joint_machine.specs.declared.events.Op.TheVariants as op
+use Rattle.joint_machine.specs.Sides.{objects_freed, managed_rules, peer_rules}
 use Rattle.std.proofs.lemmas.Option.{same_Some}
 use Rattle.std.proofs.lemmas.List.Elements.{Contains-append_left, Contains-append_right}
-use Rattle.joint_model.specs.Draws.{Drawn}
-use Rattle.joint_model.specs.HistoryLines.{caller_line}
-use Rattle.joint_model.specs.Lines.{is_read, is_peer_event, list_line, reader_line}
-use Rattle.joint_model.specs.Linked.{SideLawful}
-use Rattle.joint_model.specs.Managed.{OpenCycle}
-use Rattle.joint_model.specs.Heaps.{slot}
-use Rattle.joint_model.specs.Readers.{FreesObject}
-use Rattle.joint_model.specs.Told.{Noted, bare_told}
-use Rattle.joint_model.proofs.Members.{Contains-nil, Contains-here, Contains-there, Contains-cons_cases, Contains-map, Contains-map_cases}
+use Rattle.joint_machine.specs.Draws.{Drawn}
+use Rattle.joint_machine.specs.HistoryLines.{caller_line, list_line, reader_line}
+use Rattle.joint_machine.specs.Lines.{is_read, is_peer_event}
+use Rattle.joint_machine.specs.Linked.{SideLawful}
+use Rattle.joint_machine.specs.Managed.{OpenCycle}
+use Rattle.joint_machine.specs.Heaps.{slot}
+use Rattle.joint_machine.specs.Readers.{FreesObject}
+use Rattle.joint_machine.specs.Told.{Noted}
+use Rattle.joint_machine.specs.PinsTold.{bare_told}
+use Rattle.joint_machine.proofs.Members.{Contains-nil, Contains-here, Contains-there, Contains-cons_cases, Contains-map, Contains-map_cases}
 use Rattle.known_laws.specs.Drawn.{IsToldIn, drawn, drawn_by, of_drawn}
 use Rattle.known_laws.specs.Growing.{Kept, all_shown, shown}
 use Rattle.known_laws.specs.Known.{Comes, given}
-use Rattle.known_laws.specs.Pasts.{InPast, Lawful, end_of, line, is_in, role_of}
+use Rattle.known_laws.specs.Pasts.{Lawful, end_of, line, is_in, role_of}
+use Rattle.known_laws.specs.PastEntries.{InPast}
 use Rattle.known_laws.specs.Held as past
 use Rattle.known_laws.specs.Held.{open_number}
 use Rattle.known_laws.proofs.CellsDrawn.{targets_are_drawn}
@@ -40,7 +43,7 @@ use Rattle.order_table.proofs.Held.{those_more, those_all}
 use Rattle.order_table.proofs.Lines.{role_in, in_cases}
 use Rattle.view_laws.specs.Knowing.{row, pins_of, of_kept, of_order, PinsOfViewsStand, ViewsSayStates, TargetsAgree}
 use Rattle.view_laws.specs.Knowing as knowing
-use Rattle.joint_model.proofs.Numbered.{slot-Contains}
+use Rattle.joint_machine.proofs.Numbered.{slot-Contains}
 use Rattle.known_laws.proofs.Later.{kept_end}
 use Rattle.std.proofs.lemmas.Map.Views.{list_any-from_Contains, Contains-from_any}
 use Rattle.std.proofs.lemmas.Cmp.{nat_eq_equiv}

@@ -1,11 +1,12 @@
--- The lists of both sides and of the readers, of a view that knows a whole history, are a shuffle of it: each is the list of its line, and each entry stands in
--- one of these lines. So they can be joined, and what they are joined to is the linked history of the view's past.
+-- The lists of both sides and of the readers, of a view that knows a whole history, are a shuffle of it: each is the
+-- list of its line, and each entry stands in one of these lines. So they can be joined, and what they are joined to is
+-- the linked history of the view's past.
 use Rattle.std.proofs.Common.{inl, inr, ℕ, ◌+◌, List, [], ◌∷◌, sym, ap, ◌∙◌, subst, arith, refl}
 use Rattle.std.specs.Prelude.{Contains}
-use Rattle.joint_model.specs.declared.events.Entry.{Entry}
-use Rattle.joint_model.specs.Histories.{Finished}
-use Rattle.joint_model.specs.Lines.{IsThread}
-use Rattle.joint_model.proofs.Members.{Contains-nil, Contains-cons_cases}
+use Rattle.joint_machine.specs.declared.events.Entry.{Entry}
+use Rattle.joint_machine.specs.Histories.{Finished}
+use Rattle.joint_machine.specs.Lines.{IsThread}
+use Rattle.joint_machine.proofs.Members.{Contains-nil, Contains-cons_cases}
 use Rattle.joint_model.proofs.Shuffling.{lines_shuffle, shuffle_is_one}
 use Rattle.joint_laws.proofs.FittingLists.{linked_is_history}
 use Rattle.known_laws.specs.Wholes.{history_of, IsLinkedPast}

@@ -4,8 +4,8 @@ use Rattle.std.specs.Prelude.{if◌then◌else◌, ◌==◌, ◌||◌}
 use Rattle.std.proofs.lemmas.Bool.{cases_Bool, both_ways}
 use mathlib.Core.List.{IsPrefix}
 use base.Growing.{prefix_trans}
-use Rattle.joint_model.specs.Draws.{NumberedFrom}
-use Rattle.joint_model.specs.HistoryLines.{caller_line, side_line, stands_in}
+use Rattle.joint_machine.specs.Histories.{NumberedFrom}
+use Rattle.joint_machine.specs.HistoryLines.{caller_line, side_line, stands_in}
 use Rattle.known_laws.specs.Growing.{Kept, entries_kept, kept_in, AreBelow, Begin, grown, shown}
 use Rattle.known_laws.proofs.Growing.{nothing_is_known, known_lines_grow, known_lines_join}
 use Rattle.order_table.specs.declared.views.KeptEntry.{KeptEntry}

@@ -1,27 +1,30 @@
--- A past whose lines are those of one whole history is as the order promises: its snaps and takes are told the pins that reads and takes before them leave, and its
--- reads answer what whole histories allow. By recursion along the history, with the past of the entries before.
+-- A past whose lines are those of one whole history is as the order promises: its snaps and takes are told the pins
+-- that reads and takes before them leave, and its reads answer what whole histories allow. By recursion along the
+-- history, with the past of the entries before.
 use Rattle.std.proofs.Common.{◌≡◌, ℕ, ◌+◌, ◌≤◌, Bool, true, false, List, [], ◌∷◌, ◌++◌, length, Option, Some, None, refl, sym, ap, ◌∙◌, subst, arith, true≢false, append_assoc}
 use Rattle.std.specs.Prelude.{nat_eq, slice_set}
 use Rattle.std.specs.List.{list_any}
 use mathlib.Core.Option.{some}
 use lib.ListN.{get_elem?}
-use Rattle.joint_model.specs.declared.names.Thread.{Thread}
-use Rattle.joint_model.specs.declared.names.Thread.TheVariants.{M, P, C}
-use Rattle.joint_model.specs.declared.lines.Act.TheVariants as act
-use Rattle.joint_model.specs.declared.events.Op.{Op}
-use Rattle.joint_model.specs.declared.events.Op.TheVariants as op
-use Rattle.joint_model.specs.declared.events.Reply.TheVariants as says
-use Rattle.joint_model.specs.declared.events.Entry.{Entry}
-use Rattle.joint_model.specs.Control.{caller_place}
-use Rattle.joint_model.specs.Heaps.{Answered, answer, slot, place, with_var}
-use Rattle.joint_model.specs.Lines.{IsEvent, is_read, list_line}
-use Rattle.joint_model.specs.Linked.{opening_linkage}
-use Rattle.joint_model.specs.Managed.{Managed, OpenCycle, managed_name}
-use Rattle.joint_model.specs.Readers.{ReadsCell, IsReadReply}
-use Rattle.joint_model.specs.Told.{Told, Noted, pins_told}
+use Rattle.joint_machine.specs.declared.names.Thread.{Thread}
+use Rattle.joint_machine.specs.declared.names.Thread.TheVariants.{M, P, C}
+use Rattle.joint_machine.specs.declared.lines.Act.TheVariants as act
+use Rattle.joint_machine.specs.declared.events.Op.{Op}
+use Rattle.joint_machine.specs.declared.events.Op.TheVariants as op
+use Rattle.joint_machine.specs.declared.events.Reply.TheVariants as says
+use Rattle.joint_machine.specs.declared.events.Entry.{Entry}
+use Rattle.joint_machine.specs.Control.{caller_place}
+use Rattle.joint_machine.specs.Heaps.{Answered, answer, slot, place, with_var}
+use Rattle.joint_machine.specs.Lines.{IsEvent, is_read}
+use Rattle.joint_machine.specs.HistoryLines.{list_line}
+use Rattle.joint_machine.specs.Linked.{opening_linkage}
+use Rattle.joint_machine.specs.Managed.{Managed, OpenCycle, managed_name}
+use Rattle.joint_machine.specs.Readers.{ReadsCell, IsReadReply}
+use Rattle.joint_machine.specs.Told.{Told, Noted}
+use Rattle.joint_machine.specs.PinsTold.{pins_told}
 use Rattle.joint_laws.specs.ReadingLaws.{pins_by}
 use Rattle.known_laws.specs.Drawn.{drawn}
-use Rattle.known_laws.specs.Growing.{turned}
+use Rattle.known_laws.specs.PastEntries.{turned}
 use Rattle.known_laws.specs.Held.{open_number}
 use Rattle.known_laws.specs.Known.{Comes, given, pinned}
 use Rattle.known_laws.specs.Pasts.{Lawful, end_of}

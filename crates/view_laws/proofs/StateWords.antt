@@ -1,24 +1,26 @@
--- What the lines of the first entries say of cells, freed objects and the open cycle is what the state of their past has.
+-- What the lines of the first entries say of cells, freed objects and the open cycle is what the state of their past
+-- has.
 use Rattle.std.proofs.Common.{◌≡◌, ◌⊎◌, inl, inr, ⊎_elim, ℕ, ◌+◌, ◌*◌, ◌≤◌, Bool, true, false, ◌||◌, max, List, [], ◌∷◌, ◌++◌, Option, Some, None, refl, sym, ap, ◌∙◌, subst, arith}
 use Rattle.std.specs.Prelude.{nat_eq}
 use Rattle.std.specs.List.{list_any}
 use Rattle.std.proofs.lemmas.Bool.{cases_Bool, both_ways, cases_eq}
 use Rattle.std.proofs.lemmas.Option.{same_Some}
 use Rattle.std.proofs.lemmas.Bool.Decides.{nat_tests}
-use Rattle.joint_model.specs.declared.names.Cycle.{Cycle}
-use Rattle.joint_model.specs.declared.names.MNum.{MNum}
-use Rattle.joint_model.specs.declared.names.Thread.{Thread}
-use Rattle.joint_model.specs.declared.lines.Act.TheVariants as act
-use Rattle.joint_model.specs.declared.events.Op.{Op}
-use Rattle.joint_model.specs.declared.events.Op.TheVariants as op
-use Rattle.joint_model.specs.Draws.{Drawn}
-use Rattle.joint_model.specs.Histories.{managed_numbers}
-use Rattle.joint_model.specs.HistoryLines.{caller_line}
-use Rattle.joint_model.specs.Lines.{is_read, is_peer_event, list_line}
-use Rattle.joint_model.specs.Linked.{Linkage, SideLawful, linkage_after}
-use Rattle.joint_model.specs.Managed.{Managed, OpenCycle}
-use Rattle.joint_model.specs.ManagedReplay.{ManagedReplay}
-use Rattle.joint_model.specs.Told.{Told, Noted, bare_told, resolution_of, nothing}
+use Rattle.joint_machine.specs.declared.names.Cycle.{Cycle}
+use Rattle.joint_machine.specs.declared.names.MNum.{MNum}
+use Rattle.joint_machine.specs.declared.names.Thread.{Thread}
+use Rattle.joint_machine.specs.declared.lines.Act.TheVariants as act
+use Rattle.joint_machine.specs.declared.events.Op.{Op}
+use Rattle.joint_machine.specs.declared.events.Op.TheVariants as op
+use Rattle.joint_machine.specs.Draws.{Drawn}
+use Rattle.joint_machine.specs.Histories.{managed_numbers}
+use Rattle.joint_machine.specs.HistoryLines.{caller_line, list_line}
+use Rattle.joint_machine.specs.Lines.{is_read, is_peer_event}
+use Rattle.joint_machine.specs.Linked.{Linkage, SideLawful, linkage_after}
+use Rattle.joint_machine.specs.Managed.{Managed, OpenCycle}
+use Rattle.joint_machine.specs.ManagedReplay.{ManagedReplay}
+use Rattle.joint_machine.specs.Told.{Told, Noted, resolution_of, nothing}
+use Rattle.joint_machine.specs.PinsTold.{bare_told}
 use Rattle.joint_laws.proofs.ManagedEntries.{ManagedStep-entry}
 use Rattle.joint_laws.proofs.ManagedSteps.{ManagedStep, going_on, snapping, resolving, abandoning}
 use Rattle.known_laws.specs.Held.{open_number}

@@ -1,20 +1,23 @@
--- What a seat knows is a past of the one run, with the pins that were given to snaps and takes beside these. It stays so where the seat makes an entry, takes another
--- seat in, or gives lines away.
+-- What a seat knows is a past of the one run, with the pins that were given to snaps and takes beside these. It stays
+-- so where the seat makes an entry, takes another seat in, or gives lines away.
 use Rattle.std.specs.Prelude.{◌≡◌, ◌↔◌, false, ℕ, ◌+◌, ◌<◌, List, [], ◌∷◌, length, map, slice_index_or, Option, Some, None}
-use Rattle.joint_model.specs.declared.names.MNum.{MNum}
-use Rattle.joint_model.specs.declared.names.PNum.{PNum}
-use Rattle.joint_model.specs.declared.names.Thread.{Thread}
-use Rattle.joint_model.specs.declared.events.Entry.{Entry}
-use Rattle.joint_model.specs.Draws.{Drawn}
-use Rattle.joint_model.specs.Heaps.{IsLive, slot}
-use Rattle.joint_model.specs.Heaps as heaps
-use Rattle.joint_model.specs.Managed.{Managed, OpenCycle}
-use Rattle.joint_model.specs.HistoryLines.{caller_line}
-use Rattle.joint_model.specs.Histories.{Finished, IsJoinable, IsShuffle}
-use Rattle.joint_model.specs.Lines.{IsThread, is_read}
-use Rattle.joint_model.specs.Told.{Told, Noted, pins_told, bare_told}
+use Rattle.joint_machine.specs.declared.names.MNum.{MNum}
+use Rattle.joint_machine.specs.declared.names.PNum.{PNum}
+use Rattle.joint_machine.specs.declared.names.Thread.{Thread}
+use Rattle.joint_machine.specs.declared.events.Entry.{Entry}
+use Rattle.joint_machine.specs.Draws.{Drawn}
+use Rattle.joint_machine.specs.Heaps.{IsLive, slot}
+use Rattle.joint_machine.specs.Heaps as heaps
+use Rattle.joint_machine.specs.Managed.{Managed, OpenCycle}
+use Rattle.joint_machine.specs.HistoryLines.{caller_line}
+use Rattle.joint_machine.specs.Histories.{Finished}
+use Rattle.joint_machine.specs.Shuffles.{IsJoinable, IsShuffle}
+use Rattle.joint_machine.specs.Lines.{IsThread, is_read}
+use Rattle.joint_machine.specs.Told.{Told, Noted}
+use Rattle.joint_machine.specs.PinsTold.{bare_told, pins_told}
 use Rattle.known_laws.specs.Growing.{Kept, AreKnown, AreJoined}
-use Rattle.known_laws.specs.Known.{TellsPlainly, Comes, PinsStand, past_after}
+use Rattle.known_laws.specs.Known.{Comes, PinsStand, past_after}
+use Rattle.known_laws.specs.PastEntries.{TellsPlainly}
 use Rattle.known_laws.specs.Drawn.{KeptDrawn, AreDrawn, DrawnJoin, drawn}
 use Rattle.known_laws.specs.Lists.{made_by}
 use Rattle.known_laws.specs.Pasts.{end_of}
@@ -57,7 +60,8 @@ FirstIsKnown = IsKnownView first_view
 abbrev pub note_of : KeptEntry → Told → Noted
 note_of k told = record { entry = k.entry; told = told }
 
--- what is known now is the past with that entry. What was told plainly is told of it, with the same pins; the sides' states are those after it in any case.
+-- what is known now is the past with that entry. What was told plainly is told of it, with the same pins; the sides'
+-- states are those after it in any case.
 pub record KnowsMore (past : List Noted) (n : Noted) (w : View) : Type 0 where
   pub known : IsKnownView w
   pub told : Told
@@ -67,12 +71,14 @@ pub record KnowsMore (past : List Noted) (n : Noted) (w : View) : Type 0 where
   pub managed : (end_of known.past).managed ≡ (past_after (end_of past) n).managed
   pub peer : (end_of known.past).peer ≡ (past_after (end_of past) n).peer
 
--- a seat that made an entry which may come after its past, with a number above all that it knew and the pins that it is told with, knows that past with the entry
+-- a seat that made an entry which may come after its past, with a number above all that it knew and the pins that it is
+-- told with, knows that past with the entry
 abbrev pub ViewsGrow : Type 0
 ViewsGrow = (v w : View) (r : ℕ) (k : KeptEntry) (a : IsKnownView v) (told : Told) → GrowsByEntry v w r k → IsInRole r k.entry.made → ((i : ℕ) → IsBelow k.entry.number (known v i)) → pins_of k.pins ≡ pins_told told
     → Comes (is_read k.entry.made.op) (end_of a.past) (note_of k told) → KnowsMore a.past (note_of k told) w
 
--- a seat that took another one in knows a past again, in which each line, and what it gives, is that of the one or of the other
+-- a seat that took another one in knows a past again, in which each line, and what it gives, is that of the one or of
+-- the other
 abbrev pub ViewsJoin : Type 0
 ViewsJoin = (v w u : View) (a : IsKnownView v) (b : IsKnownView w) → TakesIn v w u → BeginsOneHistory u → AreJoined a.past b.past (lines_of v) (lines_of w) (lines_of u)
 
@@ -99,7 +105,8 @@ drawn_lines v i = map of_order (known v i)
 abbrev pub IsDrawnView : View → Type 0
 IsDrawnView v = AreDrawn (drawn_lines v)
 
--- a history is linked if its entries are those of the whole that a view knows, and the view's past has ended; it ends in the past's state, but for the pins
+-- a history is linked if its entries are those of the whole that a view knows, and the view's past has ended; it ends
+-- in the past's state, but for the pins
 abbrev pub WholeViewIsLinked : Type 0
 WholeViewIsLinked = (h : Finished) (v : View) (a : IsDrawnView v) (w : AreLinesOfOneHistory v.known) → h.entries ≡ entries_of w.whole → HasEnded h (end_of a.known.past) → IsLinkedPast h a.known.past
 
@@ -112,7 +119,8 @@ pub record AreListsOf (v : View) (lists : List (List Entry)) : Type 0 where
 abbrev pub WholeListsAreShuffle : Type 0
 WholeListsAreShuffle = (v : View) (w : AreLinesOfOneHistory v.known) (lists : List (List Entry)) → AreListsOf v lists → IsShuffle lists (entries_of w.whole)
 
--- what such lists give: they can be joined with the lists that were freed and queued, and the history that is joined of them is linked by the view's past
+-- what such lists give: they can be joined with the lists that were freed and queued, and the history that is joined of
+-- them is linked by the view's past
 pub record JoinsToLinked (v : View) (a : IsDrawnView v) (lists : List (List Entry)) (whole : List Entry) (ms : List MNum) (ps : List PNum) (ns : List MNum) : Type 0 where
   pub joinable : IsJoinable lists ms ps ns
   pub linked : (h : Finished) → IsShuffle lists h.entries → h.freed_managed ≡ ms → h.freed_peers ≡ ps → h.notices ≡ ns → IsLinkedPast h a.known.past × (h.entries ≡ whole)
@@ -122,7 +130,8 @@ abbrev pub WholeListsAreJoined : Type 0
 WholeListsAreJoined = (v : View) (a : IsDrawnView v) (w : AreLinesOfOneHistory v.known) (lists : List (List Entry)) (ms : List MNum) (ps : List PNum) (ns : List MNum) → AreListsOf v lists
     → HasEnded (record { entries = entries_of w.whole; freed_managed = ms; freed_peers = ps; notices = ns }) (end_of a.known.past) → JoinsToLinked v a lists (entries_of w.whole) ms ps ns
 
--- pins by words that were loaded stand for who owns the managed list, as the order says of each word that names an object
+-- pins by words that were loaded stand for who owns the managed list, as the order says of each word that names an
+-- object
 abbrev pub PinsOfViewsStand : Type 0
 PinsOfViewsStand = (v : View) (a : IsDrawnView v) (ws : List ℕ) → ((r m : ℕ) → 0 < r → r < 9 → at 0 ws r ≡ m + 1 → IsHeld (known v 0) r m) → PinsStand (end_of a.known.past).managed.managed (pins_of ws)
 

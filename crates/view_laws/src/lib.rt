@@ -1,15 +1,16 @@
-// Laws of what a seat of the order knows: its view is a past, which grows and is joined as the order promises, pins' words stand, and at the end of a run it is a
-// linked history.
+// Laws of what a seat of the order knows: its view is a past, which grows and is joined as the order promises, pins'
+// words stand, and at the end of a run it is a linked history.
 //
-// A law is a function with an empty body, whose clauses are statements of `specs/`: Knowing, and ExactReads for reads by the owner of the managed list. No
-// value is made, and nothing runs.
+// A law is a function with an empty body, whose clauses are statements of `specs/`: Knowing, and ExactReads for reads
+// by the owner of the managed list. No value is made, and nothing runs.
 #![tactic(auto)]
 
 ghost use Rattle.view_laws.specs.ExactReads.{ExactReadsAreReplies};
 ghost use Rattle.view_laws.specs.Knowing.{DrawnViewsGrow, DrawnViewsJoin, FirstIsKnown, OwnLinesAreMadeByCallers, PinsOfViewsStand, SameIsKnown, TargetsAgree, ViewsGrow, ViewsJoin, ViewsSayStates, WholeListsAreJoined, WholeListsAreShuffle, WholeViewIsLinked};
 
-/// The first seat knows nothing; a seat that makes an entry which may come, takes another seat in, or gives lines away knows a past again, with what was drawn too;
-/// and a seat that knows the whole of a finished order knows a linked history.
+/// The first seat knows nothing; a seat that makes an entry which may come, takes another seat in, or gives lines away
+/// knows a past again, with what was drawn too; and a seat that knows the whole of a finished order knows a linked
+/// history.
 pub fn views_are_pasts()
     ensures first { FirstIsKnown }
     ensures grow { ViewsGrow }
@@ -20,12 +21,14 @@ pub fn views_are_pasts()
     ensures whole { WholeViewIsLinked }
 {}
 
-/// Pins that are given by words which the owner of the managed list loaded stand at its past: what they name is live, and in no open cycle's dead part.
+/// Pins that are given by words which the owner of the managed list loaded stand at its past: what they name is live,
+/// and in no open cycle's dead part.
 pub fn pins_of_views_stand()
     ensures { PinsOfViewsStand }
 {}
 
-/// The owner of the managed list finds in its words what its state has: cells, freed objects, whether a cycle is open, and which is the next.
+/// The owner of the managed list finds in its words what its state has: cells, freed objects, whether a cycle is open,
+/// and which is the next.
 pub fn views_say_states()
     ensures states { ViewsSayStates }
     ensures targets { TargetsAgree }
@@ -36,8 +39,8 @@ pub fn exact_reads_are_replies()
     ensures { ExactReadsAreReplies }
 {}
 
-/// The lists of both sides and of the readers, of a seat that knows the whole of a finished order, are a shuffle of the history, and are joined to it; and each
-/// thread's line is what that thread made.
+/// The lists of both sides and of the readers, of a seat that knows the whole of a finished order, are a shuffle of the
+/// history, and are joined to it; and each thread's line is what that thread made.
 pub fn whole_lists_are_joined()
     ensures shuffle { WholeListsAreShuffle }
     ensures joined { WholeListsAreJoined }

@@ -1,13 +1,14 @@
--- What the threads of a race begin and end with. A caller that a desk gave has made nothing, so it is ready; and a thread ends with its own caller, so each
--- thread's caller still waits at the desk or is among those that are given back.
+-- What the threads of a race begin and end with. A caller that a desk gave has made nothing, so it is ready; and a
+-- thread ends with its own caller, so each thread's caller still waits at the desk or is among those that are given
+-- back.
 use Rattle.std.proofs.Common.{◌≡◌, inl, inr, ⊎_elim, ℕ, zero, suc, ◌<◌, ◌≤◌, List, [], ◌∷◌, ◌++◌, length, map, Option, Some, None, Result, Ok, refl, sym, ◌∙◌, ap, subst, arith}
 use Rattle.std.specs.Prelude.{All, Contains, option_to_list, slice_index_or}
 use Rattle.std.proofs.lemmas.List.Elements.{All-nil, All-cons}
-use Rattle.joint_model.specs.declared.names.Thread.{Thread}
-use Rattle.joint_model.specs.declared.names.Thread.TheVariants.{M, P, C}
-use Rattle.joint_model.specs.HistoryLines.{caller_line}
-use Rattle.joint_model.specs.Lines.{IsDriver, IsThread}
-use Rattle.joint_model.proofs.Members.{Contains-cons_cases, Contains-here, Contains-there}
+use Rattle.joint_machine.specs.declared.names.Thread.{Thread}
+use Rattle.joint_machine.specs.declared.names.Thread.TheVariants.{M, P, C}
+use Rattle.joint_machine.specs.HistoryLines.{caller_line}
+use Rattle.joint_machine.specs.Lines.{IsDriver, IsThread}
+use Rattle.joint_machine.proofs.Members.{Contains-cons_cases, Contains-here, Contains-there}
 use Rattle.order_table.specs.declared.views.View.{View}
 use Rattle.order_table.specs.Facts.{line_entries}
 use Rattle.joint_history.specs.Callers.{KnowsNothing, Pass, last_index, own, own_in}

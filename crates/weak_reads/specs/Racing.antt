@@ -1,6 +1,7 @@
--- The callers of a race: before their threads begin, while they go on, and after they have ended. All their entries stand on line 1. (This project's own.)
+-- The callers of a race: before their threads begin, while they go on, and after they have ended. All their entries
+-- stand on line 1. (This project's own.)
 use Rattle.std.specs.Prelude.{◌≡◌, ◌≤◌, IfOk, Result}
-use Rattle.joint_model.specs.Lines.{IsManagedThread, IsThread}
+use Rattle.joint_machine.specs.Lines.{IsManagedThread, IsThread}
 use Rattle.joint_history.specs.Callers.{Pass, last_index, own}
 use Rattle.joint_history.specs.Ending.{HasIdleDriver}
 use Rattle.joint_history.specs.Operations.{IsOwnThread}

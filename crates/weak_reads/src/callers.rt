@@ -1,7 +1,7 @@
 // The callers of a race, from the desk.
 
 ghost use Rattle.std.specs.Prelude.{◌≤◌, ◌<◌, [], All, IfOk};
-ghost use Rattle.joint_model.specs.Lines.{IsThread};
+ghost use Rattle.joint_machine.specs.Lines.{IsThread};
 ghost use Rattle.joint_history.specs.Ending.{HasAll};
 ghost use Rattle.weak_reads.specs.Racing.{IsReady};
 
@@ -67,7 +67,8 @@ pub(crate) fn with_others<N: OrderName>(
     Ok(callers)
 }
 
-/// The callers that are there, and last that of the driver, whose first cycle has freed what nothing holds. Answers `AllocError` where there is no memory.
+/// The callers that are there, and last that of the driver, whose first cycle has freed what nothing holds. Answers
+/// `AllocError` where there is no memory.
 pub(crate) fn with_driver<N: OrderName>(
     rt: &(impl Wait + Clock),
     alloc: Global,

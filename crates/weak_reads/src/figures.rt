@@ -34,7 +34,8 @@ pub(crate) fn now(rt: &impl Clock) -> u64 {
     seconds.saturating_add(u64::from(time.subsec_nanos()))
 }
 
-/// How often a second something is done that is done so often in so many nanoseconds, rounded down; the greatest number where it is more often.
+/// How often a second something is done that is done so often in so many nanoseconds, rounded down; the greatest number
+/// where it is more often.
 pub(crate) fn a_second(count: u64, nanos: u64) -> u64
     requires { 0 < nanos }
     ensures { result ≡ min (count * 1000000000 / nanos) 18446744073709551615 }
@@ -56,7 +57,8 @@ fn greatest_but(rising: &[u32], few: usize) -> u32
     }
 }
 
-/// Puts waits into rising order, and answers the longest, and what all but the longest thousandth kept to; 0 where there are none.
+/// Puts waits into rising order, and answers the longest, and what all but the longest thousandth kept to; 0 where
+/// there are none.
 pub(crate) fn times_of(waits: &mut Vec<u32>) -> Times
     ensures same { IsPermutation waits.old.items waits.new.items }
     ensures longest { (i : ℕ) → i < vec_len waits.new → slice_index_or waits.new.items i 0 ≤ result.longest }

@@ -1,7 +1,8 @@
-// What stands on the heaps while cells are read: a list of objects that stays, two cells, and what threads allocate and let go.
+// What stands on the heaps while cells are read: a list of objects that stays, two cells, and what threads allocate and
+// let go.
 
 ghost use Rattle.std.specs.Prelude.{◌≡◌};
-ghost use Rattle.joint_model.specs.Lines.{IsManagedAct};
+ghost use Rattle.joint_machine.specs.Lines.{IsManagedAct};
 ghost use Rattle.weak_reads.specs.Racing.{GoesOn, IsReader, IsWorker};
 
 use joint_history::{Caller, Locks, Shared};
@@ -78,7 +79,8 @@ fn make_list<N: OrderName>(
     Ok(())
 }
 
-/// Makes a list of so many objects, which a static holds, a cell of its first object, and a cell of one that nothing holds.
+/// Makes a list of so many objects, which a static holds, a cell of its first object, and a cell of one that nothing
+/// holds.
 pub(crate) fn make_heap<N: OrderName>(
     rt: &impl Wait,
     shared: &Shared<N, Locks>,

@@ -1,7 +1,7 @@
 // What each thread does: some read, some allocate, and the driver runs one cycle after the other.
 
 ghost use Rattle.std.specs.Prelude.{◌≤◌};
-ghost use Rattle.joint_model.specs.Lines.{IsDriver};
+ghost use Rattle.joint_machine.specs.Lines.{IsDriver};
 ghost use Rattle.bridge_cycle.specs.Progress.{line_of};
 ghost use Rattle.weak_reads.specs.Racing.{EndsIdle, GoesOn, IsReader, IsReady, IsWorker};
 
@@ -24,7 +24,8 @@ const BURST: u32 = 64;
 
 const REST: u64 = 1;
 
-// Reads once, and answers whether a cycle was open. The reads without a lock take no memory: there is room for their entry before.
+// Reads once, and answers whether a cycle was open. The reads without a lock take no memory: there is room for their
+// entry before.
 #[inline(always)]
 fn read<N: OrderName>(
     rt: &impl Wait,
@@ -96,7 +97,8 @@ fn read_until<N: OrderName>(
     unreachable!()
 }
 
-// Reads for half of the time without a clock, and then to the end read by read; what it took is added to what others took.
+// Reads for half of the time without a clock, and then to the end read by read; what it took is added to what others
+// took.
 fn read_all<N: OrderName>(
     rt: &(impl Wait + Clock),
     alloc: Global,
@@ -166,7 +168,8 @@ fn work<N: OrderName>(
     }
 }
 
-// Runs one cycle after the other. The last one begins when all other threads have ended, so it frees whatever they let go.
+// Runs one cycle after the other. The last one begins when all other threads have ended, so it frees whatever they let
+// go.
 fn run_cycles<N: OrderName>(
     rt: &(impl Wait + Clock),
     alloc: Global,

@@ -4,17 +4,20 @@
 //                                        and all but the longest thousandth, cycles a second, and how many reads answered that one was open
 //     weak_reads count 20 2 300          the same for 20 milliseconds, and only what is left then, which is the same whatever the schedule
 //
-// One race for each way of reading: `read_now`, which takes no lock and answers at once; the same where the thread's pin is filled; `read_wait`, which
-// takes no lock and waits for the end of a cycle; `managed`, the same read under the managed lock; and, to compare with, an addition to a plain atomic
-// word. Meanwhile the driver runs cycles, a peer thread allocates, and so does a managed thread where one is left; each rests for a millisecond now and
-// then. In the first half of a race no clock is read between reads, and that half gives the reads a second; in the other half each read is timed.
+// One race for each way of reading: `read_now`, which takes no lock and answers at once; the same where the thread's
+// pin is filled; `read_wait`, which takes no lock and waits for the end of a cycle; `managed`, the same read under the
+// managed lock; and, to compare with, an addition to a plain atomic word. Meanwhile the driver runs cycles, a peer
+// thread allocates, and so does a managed thread where one is left; each rests for a millisecond now and then. In the
+// first half of a race no clock is read between reads, and that half gives the reads a second; in the other half each
+// read is timed.
 //
-// `race.rt` is the page to read for whoever wants threads on the bridge; `jobs.rt` has what the threads do. Who runs: this thread sets up a race, waits for
-// its threads, and has the history finished before it prints.
+// `race.rt` is the page to read for whoever wants threads on the bridge; `jobs.rt` has what the threads do. Who runs:
+// this thread sets up a race, waits for its threads, and has the history finished before it prints.
 //
-// What is promised, of each race: its history is linked, whatever the schedule, and the numbers that are printed of objects, peers and handles are those of
-// its last state; no more reads are counted as pending than were made; the longest and the all but longest waits are those of the list. That a race
-// ends, and what a clock says, is not promised.
+// What is promised, of each race: its history is linked, whatever the schedule, and the numbers that are printed of
+// objects, peers and handles are those of its last state; no more reads are counted as pending than were made; the
+// longest and the all but longest waits are those of the list. That a race ends, and what a clock says, is not
+// promised.
 #![tactic(auto)]
 
 mod callers;

@@ -20,7 +20,8 @@ pub(crate) enum Way {
     Locked,
 }
 
-/// How the threads read, how many of them do, how many objects stay on the managed heap meanwhile, and how many nanoseconds it takes.
+/// How the threads read, how many of them do, how many objects stay on the managed heap meanwhile, and how many
+/// nanoseconds it takes.
 #[derive(Clone, Copy)]
 pub(crate) struct Setup {
     pub(crate) way: Way,

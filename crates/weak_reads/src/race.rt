@@ -1,12 +1,14 @@
-// A race: threads read a weak cell while the bridge runs cycles and other threads allocate. It is all that threads need of the library:
+// A race: threads read a weak cell while the bridge runs cycles and other threads allocate. It is all that threads need
+// of the library:
 //
 // 1. an order, and by it both heaps behind their locks, with a desk at which a caller waits for each thread;
-// 2. callers from the desk (`callers.rt`): whoever has a thread's caller makes that thread's entries, by calls of `Shared`, or of a `Driver` for thread c;
+// 2. callers from the desk (`callers.rt`): whoever has a thread's caller makes that thread's entries, by calls of
+// `Shared`, or of a `Driver` for thread c;
 // 3. a job for each caller, on a thread of its own (`jobs.rt`);
 // 4. all callers given back: the run is finished, and its history counted.
 
 ghost use Rattle.std.specs.Prelude.{◌≡◌, ◌<◌, ℕ, map, [], All, IfOk, Ok, slice_index_or, vec_len};
-ghost use Rattle.joint_model.specs.LinkedHistories.{IsLinked};
+ghost use Rattle.joint_machine.specs.LinkedHistories.{IsLinked};
 ghost use Rattle.order_table.specs.Allowed.{Settled};
 ghost use Rattle.order_table.specs.Views.{OwnsAll};
 ghost use Rattle.joint_history.specs.Callers.{KnowsNothing};
@@ -34,8 +36,8 @@ pub(crate) struct Over {
     pub(crate) end: RunEnd,
 }
 
-/// Runs a race to its end, and one cycle more. The history is linked, whatever the schedule, and the numbers are those of its last state; none of its
-/// entries is kept. Answers `AllocError` where a thread finds no memory.
+/// Runs a race to its end, and one cycle more. The history is linked, whatever the schedule, and the numbers are those
+/// of its last state; none of its entries is kept. Answers `AllocError` where a thread finds no memory.
 pub(crate) fn run_race<R: Threads + Wait + Clock + Sync>(
     rt: &R,
     alloc: Global,

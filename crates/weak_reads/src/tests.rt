@@ -7,8 +7,8 @@ use crate::words::{Command, command_of};
 use std::alloc::{AllocError, Global};
 use std::test::Fail;
 
-// The list stays, and all that threads allocated is gone from both heaps, with its handles. How much was read meanwhile is the machine's affair: a thread
-// may come too late for the whole race.
+// The list stays, and all that threads allocated is gone from both heaps, with its handles. How much was read meanwhile
+// is the machine's affair: a thread may come too late for the whole race.
 #[test]
 fn a_race_leaves_what_stood_before(rt: HostRuntime) -> Result<(), Fail> {
     for (way, readers) in [(Way::Now, 1), (Way::Wait, 3), (Way::Locked, 8)] {

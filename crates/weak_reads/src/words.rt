@@ -2,8 +2,8 @@
 
 ghost use Rattle.std.specs.Prelude.{◌≤◌, IfSome};
 
-/// What the words behind the program's name ask for: figures or counts, for how many milliseconds each way of reading is tried, by how many threads, and
-/// how many objects stay on the heap.
+/// What the words behind the program's name ask for: figures or counts, for how many milliseconds each way of reading
+/// is tried, by how many threads, and how many objects stay on the heap.
 #[derive(Clone, Copy, PartialEq, Eq, Debug)]
 pub(crate) struct Command {
     pub(crate) timed: bool,
@@ -12,7 +12,8 @@ pub(crate) struct Command {
     pub(crate) objects: u32,
 }
 
-/// The command of four words; None where they aren't `count` or `time`, a number of milliseconds, one from 1 to 8, and a number of objects.
+/// The command of four words; None where they aren't `count` or `time`, a number of milliseconds, one from 1 to 8, and
+/// a number of objects.
 pub(crate) fn command_of(words: &[String]) -> Option<Command>
     ensures { IfSome result (λ c. (1 ≤ c.readers) × (c.readers ≤ 8)) }
 {

@@ -1,16 +1,16 @@
 -- What a read of a weak cell is seen as, and what it promises.
 use Rattle.std.specs.Prelude.{◌≡◌, ◌↔◌, ℕ, ◌+◌, ◌*◌, ◌^◌, ◌<◌, List, [], ◌∷◌, ◌++◌, None, Some}
-use Rattle.joint_model.specs.declared.names.Cycle.{Cycle}
-use Rattle.joint_model.specs.declared.names.MNum.{MNum}
-use Rattle.joint_model.specs.declared.names.Thread.TheVariants.{M}
-use Rattle.joint_model.specs.declared.lines.Act.{Act}
-use Rattle.joint_model.specs.declared.lines.Act.TheVariants as act
-use Rattle.joint_model.specs.declared.events.Entry.{Entry}
-use Rattle.joint_model.specs.declared.events.Made.{Made}
-use Rattle.joint_model.specs.declared.events.Op.TheVariants as op
-use Rattle.joint_model.specs.declared.events.Reply.{Reply}
-use Rattle.joint_model.specs.declared.events.Reply.TheVariants as says
-use Rattle.joint_model.specs.Draws.{numbered}
+use Rattle.joint_machine.specs.declared.names.Cycle.{Cycle}
+use Rattle.joint_machine.specs.declared.names.MNum.{MNum}
+use Rattle.joint_machine.specs.declared.names.Thread.TheVariants.{M}
+use Rattle.joint_machine.specs.declared.lines.Act.{Act}
+use Rattle.joint_machine.specs.declared.lines.Act.TheVariants as act
+use Rattle.joint_machine.specs.declared.events.Entry.{Entry}
+use Rattle.joint_machine.specs.declared.events.Made.{Made}
+use Rattle.joint_machine.specs.declared.events.Op.TheVariants as op
+use Rattle.joint_machine.specs.declared.events.Reply.{Reply}
+use Rattle.joint_machine.specs.declared.events.Reply.TheVariants as says
+use Rattle.joint_machine.specs.Draws.{numbered}
 use Rattle.joint_model.specs.Listed.{Stock}
 use Rattle.order_table.specs.declared.views.KeptEntry.{KeptEntry}
 use Rattle.order_table.specs.declared.views.View.{View}
@@ -59,8 +59,8 @@ pub record IsExact (ml own : List KeptEntry) (cell : ℕ) (g : Got) : Type 0 whe
 abbrev pub entry_of : ℕ → ℕ → Act → Got → ℕ → KeptEntry
 entry_of reader index a g number = record { entry = numbered number (read_made reader index a g); target = None; freed = []; pins = [] }
 
--- a reader may answer so: an object that its own entries leave in its pin, and with an empty pin a cycle for which its last try to enter found the
--- gate held, or what it loaded from the cell since it went inside
+-- a reader may answer so: an object that its own entries leave in its pin, and with an empty pin a cycle for which its
+-- last try to enter found the gate held, or what it loaded from the cell since it went inside
 pub record MayAnswer (v : View) (reader : ℕ) (a : Act) (g : Got) : Type 0 where
   pub held : (m : MNum) → g ≡ got.PinHeld m → pin (known v (reader + 10)) ≡ m.0 + 1
   pub empty : ((m : MNum) → g ≡ got.PinHeld m → ⊥) → pin (known v (reader + 10)) ≡ 0

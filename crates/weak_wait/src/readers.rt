@@ -1,7 +1,7 @@
 // A reader: a seat with the list of its entries.
 
 ghost use Rattle.std.specs.Prelude.{◌≡◌, ◌+◌, ◌<◌, ◌≤◌, [], IfOk, OnErr};
-ghost use Rattle.joint_model.specs.declared.names.Cycle.{Cycle};
+ghost use Rattle.joint_machine.specs.declared.names.Cycle.{Cycle};
 ghost use Rattle.order_table.specs.Allowed.{Settled};
 ghost use Rattle.order_table.specs.Facts.{line_entries};
 ghost use Rattle.order_table.specs.Views.{known, Owns};
@@ -15,8 +15,9 @@ use std::alloc::{AllocError, Global};
 use std::marker::Model;
 use std::sync::Wait;
 
-/// A reader of weak cells: the seat that owns its role and holds its thread's pass, and the list of its entries. Contracts see which reader it is,
-/// what the seat knows, and the entries. The seat is settled, and the list is the seat's list of that role.
+/// A reader of weak cells: the seat that owns its role and holds its thread's pass, and the list of its entries.
+/// Contracts see which reader it is, what the seat knows, and the entries. The seat is settled, and the list is the
+/// seat's list of that role.
 #[derive(Drop)]
 pub struct WeakReader {
     reader: u8,
@@ -39,7 +40,8 @@ impl Model for WeakReader {
 }
 
 impl WeakReader {
-    /// A reader, by a settled seat that owns its role and holds its thread's pass, and that knows no entry of that role. It takes no memory.
+    /// A reader, by a settled seat that owns its role and holds its thread's pass, and that knows no entry of that
+    /// role. It takes no memory.
     pub fn new(alloc: Global, reader: u8, seat: Seat) -> WeakReader
         requires reader { (0 < reader) × (reader < 9) }
         requires role { Owns seat.view (1 + reader) × Owns seat.view (reader + 10) }
@@ -85,8 +87,8 @@ impl WeakReader {
         }
     }
 
-    /// Makes room for `n` more entries. Answers `AllocError` where there is no memory, or where the list would pass its limit; the reader is then as
-    /// before.
+    /// Makes room for `n` more entries. Answers `AllocError` where there is no memory, or where the list would pass its
+    /// limit; the reader is then as before.
     pub fn reserve(&mut self, n: u32) -> Result<(), AllocError>
         ensures room { IfOk result (λ _. n ≤ self.new.spare) }
         ensures rest { self.new ≡ record self.old { spare = self.new.spare } }
@@ -103,10 +105,11 @@ impl WeakReader {
         self.entries.spare()
     }
 
-    /// Reads the cell of a `read` or a `wait`, on that line, and makes one entry. It takes no lock and no memory, and waits for nobody.
+    /// Reads the cell of a `read` or a `wait`, on that line, and makes one entry. It takes no lock and no memory, and
+    /// waits for nobody.
     ///
-    /// The answers are tested in this order: `PinHeld` exactly where the reader's pin holds that object; `Pending` where a cycle holds the gate; `Unset`,
-    /// `Gone` or `Got` by the cell, where `Got` pins the object.
+    /// The answers are tested in this order: `PinHeld` exactly where the reader's pin holds that object; `Pending`
+    /// where a cycle holds the gate; `Unset`, `Gone` or `Got` by the cell, where `Got` pins the object.
     #[inline(always)]
     pub fn try_get(&mut self, order: &Order, index: u32, act: &Act) -> Got
         requires order { self.old.order ≡ order.now }
@@ -125,8 +128,8 @@ impl WeakReader {
         got
     }
 
-    /// The same, but it tries again while a cycle holds the gate, and never answers `Pending`. It makes one entry, for its answer. That it ends is
-    /// not promised.
+    /// The same, but it tries again while a cycle holds the gate, and never answers `Pending`. It makes one entry, for
+    /// its answer. That it ends is not promised.
     pub fn get<R: Wait>(&mut self, rt: &R, order: &Order, index: u32, act: &Act) -> Got
         requires order { self.old.order ≡ order.now }
         requires act { IsRead act.now }

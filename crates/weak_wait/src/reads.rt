@@ -1,8 +1,8 @@
 // A read, by a seat and the list of its reader's entries.
 
 ghost use Rattle.std.specs.Prelude.{◌≡◌, ◌⊎◌, ℕ, ◌+◌, ◌^◌, ◌<◌, ◌≤◌, ◌≢◌, [], ◌∷◌, ◌++◌, None, IfNone, IfSome, length};
-ghost use Rattle.joint_model.specs.declared.names.Cycle.{Cycle};
-ghost use Rattle.joint_model.specs.Draws.{numbered};
+ghost use Rattle.joint_machine.specs.declared.names.Cycle.{Cycle};
+ghost use Rattle.joint_machine.specs.Draws.{numbered};
 ghost use Rattle.order_table.specs.Allowed.{OwesNone, Settled};
 ghost use Rattle.order_table.specs.Facts.{line_entries};
 ghost use Rattle.order_table.specs.Owed.{pin};
@@ -203,8 +203,9 @@ fn read_inside(
     (number, got)
 }
 
-/// Reads a cell, by a seat that owns the reader's role and holds its thread's pass, and puts the entry last in the reader's list. Answers the entry's
-/// number too. It waits for nobody and takes no memory. See [`WeakReader::try_get`](crate::WeakReader::try_get).
+/// Reads a cell, by a seat that owns the reader's role and holds its thread's pass, and puts the entry last in the
+/// reader's list. Answers the entry's number too. It waits for nobody and takes no memory. See
+/// [`WeakReader::try_get`](crate::WeakReader::try_get).
 #[inline(always)]
 pub fn read(
     order: &Order,
@@ -235,7 +236,8 @@ pub fn read(
     }
 }
 
-// One try of a read that waits: the answer, whose entry is made, or None where a cycle holds the gate, and no entry is made.
+// One try of a read that waits: the answer, whose entry is made, or None where a cycle holds the gate, and no entry is
+// made.
 fn try_read(
     order: &Order,
     seat: &mut Seat,
@@ -267,8 +269,8 @@ fn try_read(
     }
 }
 
-/// Reads a cell as [`read`] does, but tries again while a cycle holds the gate, and never answers `Pending`. It takes no memory. It yields between
-/// two tries; that it ever ends is not promised.
+/// Reads a cell as [`read`] does, but tries again while a cycle holds the gate, and never answers `Pending`. It takes
+/// no memory. It yields between two tries; that it ever ends is not promised.
 pub fn read_waiting<R: Wait>(
     rt: &R,
     order: &Order,

@@ -1,7 +1,7 @@
 // What a reader answers, as one thread finds it.
 
 ghost use Rattle.std.specs.Prelude.{◌≡◌, None};
-ghost use Rattle.joint_model.specs.declared.names.Thread.{Thread};
+ghost use Rattle.joint_machine.specs.declared.names.Thread.{Thread};
 
 use crate::{Got, WeakReader};
 use joint_model::{Act, Cell, Cycle, MNum, Made, Op, Reply, Span, Thread, Var};

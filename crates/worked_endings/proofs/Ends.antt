@@ -1,17 +1,18 @@
--- Each of these lists is refused at its last entry: what the definition promises of it is none of the replies that it allows, or an end that isn't there.
+-- Each of these lists is refused at its last entry: what the definition promises of it is none of the replies that it
+-- allows, or an end that isn't there.
 use Rattle.std.proofs.Common.{◌≡◌, ℕ, inl, inr, true, List, [], ◌∷◌, None, refl, nat_eq, arith}
 use Rattle.std.specs.Prelude.{Contains}
-use Rattle.joint_model.specs.declared.events.Reply.{Reply}
-use Rattle.joint_model.specs.declared.events.Reply.TheVariants as says
-use Rattle.joint_model.specs.declared.names.Thread.TheVariants.{M, P}
-use Rattle.joint_model.specs.declared.lines.Act.TheVariants as act
-use Rattle.joint_model.specs.declared.events.Op.TheVariants as op
-use Rattle.joint_model.specs.Told.{Noted, nothing}
-use Rattle.joint_model.specs.Readers.{is_aside}
-use Rattle.joint_laws.specs.AfterwardsLaws.{IsGoneAfter, ReadsObject, ReadsPeer, ResolveFrees, SweepFrees, reading_at}
+use Rattle.joint_machine.specs.declared.events.Reply.{Reply}
+use Rattle.joint_machine.specs.declared.events.Reply.TheVariants as says
+use Rattle.joint_machine.specs.declared.names.Thread.TheVariants.{M, P}
+use Rattle.joint_machine.specs.declared.lines.Act.TheVariants as act
+use Rattle.joint_machine.specs.declared.events.Op.TheVariants as op
+use Rattle.joint_machine.specs.Told.{Noted, nothing}
+use Rattle.joint_machine.specs.Readers.{is_aside}
+use Rattle.joint_laws.specs.Afterwards.{IsGoneAfter, ReadsObject, ReadsPeer, ResolveFrees, SweepFrees, reading_at}
 use Rattle.run_laws.specs.Final.{FreedReadsAreGone}
-use Rattle.history_tests.proofs.Reaching.{member}
-use Rattle.history_tests.proofs.Telling.{same}
+use Rattle.computed_histories.proofs.Reaching.{member}
+use Rattle.computed_histories.proofs.Telling.{same}
 use Rattle.worked_histories.specs.Notes.{note, var, cell_no, name_no, object_no, peer_no}
 use Rattle.worked_endings.specs.Endings.{AreCyclesRefused, AreReadsRefused, read_after, weakly_read_after}
 

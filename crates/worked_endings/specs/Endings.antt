@@ -1,13 +1,13 @@
 -- Lists of entries, each with one fault at its end: what was freed is read, or a cycle has no end of its own.
 use Rattle.std.specs.Prelude.{ℕ, List, [], ◌∷◌, map, None}
-use Rattle.joint_model.specs.declared.names.Thread.TheVariants.{M, P, C}
-use Rattle.joint_model.specs.declared.names.Kind.TheVariants as kind
-use Rattle.joint_model.specs.declared.lines.Act.TheVariants as act
-use Rattle.joint_model.specs.declared.events.Entry.{Entry}
-use Rattle.joint_model.specs.declared.events.Reply.{Reply}
-use Rattle.joint_model.specs.declared.events.Op.TheVariants as op
-use Rattle.joint_model.specs.declared.events.Reply.TheVariants as says
-use Rattle.joint_model.specs.Told.{nothing, snap_of, sweep_of, resolution_of, Noted}
+use Rattle.joint_machine.specs.declared.names.Thread.TheVariants.{M, P, C}
+use Rattle.joint_machine.specs.declared.names.Kind.TheVariants as kind
+use Rattle.joint_machine.specs.declared.lines.Act.TheVariants as act
+use Rattle.joint_machine.specs.declared.events.Entry.{Entry}
+use Rattle.joint_machine.specs.declared.events.Reply.{Reply}
+use Rattle.joint_machine.specs.declared.events.Op.TheVariants as op
+use Rattle.joint_machine.specs.declared.events.Reply.TheVariants as says
+use Rattle.joint_machine.specs.Told.{nothing, snap_of, sweep_of, resolution_of, Noted}
 use Rattle.script_laws.specs.Ending.{AllCyclesEnd, OwnCyclesEnd}
 use Rattle.run_laws.specs.Final.{FreedReadsAreGone, FreedPeersAreGone}
 use Rattle.worked_histories.specs.Notes.{note, var, cell_no, name_no, object_no, peer_no, handle_no, cycle_no, marking_no, span}
@@ -30,8 +30,8 @@ weakly_read_after reply =
     ∷ note 3 (P 1) 4 (op.Line (act.WRead (var 1) (name_no 0))) reply None nothing
     ∷ []
 
--- a read of a freed object answers neither the object, nor a pin that isn't filled, nor that a variable is empty; a weak read of a freed peer answers neither
--- the peer nor that its name is unset
+-- a read of a freed object answers neither the object, nor a pin that isn't filled, nor that a variable is empty; a
+-- weak read of a freed peer answers neither the peer nor that its name is unset
 pub record AreReadsRefused : Type 0 where
   pub object : FreedReadsAreGone (read_after (says.M (object_no 1))) → ⊥
   pub unfilled_pin : FreedReadsAreGone (read_after (says.Pinned (object_no 1))) → ⊥

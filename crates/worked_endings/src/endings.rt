@@ -2,12 +2,14 @@
 
 ghost use Rattle.worked_endings.specs.Endings.{AreCyclesRefused, AreReadsRefused};
 
-/// A read answers an object that a resolution has freed, or a pin that isn't filled; a weak read answers a peer that a sweep has freed.
+/// A read answers an object that a resolution has freed, or a pin that isn't filled; a weak read answers a peer that a
+/// sweep has freed.
 pub fn reads_of_the_freed_are_refused()
     ensures { AreReadsRefused }
 {}
 
-/// A cycle is abandoned, is never resolved, or isn't resolved before the next one is opened; or another cycle's resolve comes in place of its own.
+/// A cycle is abandoned, is never resolved, or isn't resolved before the next one is opened; or another cycle's resolve
+/// comes in place of its own.
 pub fn abandoned_and_open_cycles_are_refused()
     ensures { AreCyclesRefused }
 {}

@@ -1,8 +1,10 @@
-// Endings that the headline refuses: the definitions of what holds afterwards, computed on short lists of entries that break them.
+// Endings that the headline refuses: the definitions of what holds afterwards, computed on short lists of entries that
+// break them.
 //
-// Each function is a law about those definitions: its body is empty, and its contract is a statement of `specs/`. No machine has these lists; they stand here
-// so that a definition which let one pass would be found. That no mirrored reference stands after a clear can't be broken by any list of entries, since a clear
-// empties the list of references and a mirror alone fills it: so no list is refused by it.
+// Each function is a law about those definitions: its body is empty, and its contract is a statement of `specs/`. No
+// machine has these lists; they stand here so that a definition which let one pass would be found. That no mirrored
+// reference stands after a clear can't be broken by any list of entries, since a clear empties the list of references
+// and a mirror alone fills it: so no list is refused by it.
 #![tactic(auto)]
 
 mod endings;

@@ -1,8 +1,9 @@
 -- The worked histories, each by computing.
 use Rattle.std.proofs.Common.{refl, ◌+◌, map, [], ◌∷◌}
-use Rattle.joint_model.specs.Linked.{AllMayCome, opening_linkage}
-use Rattle.joint_model.specs.LinkedHistories.{linked_end}
-use Rattle.history_tests.proofs.HistoryTests.{numbered, whole}
+use Rattle.joint_machine.specs.Linked.{opening_linkage}
+use Rattle.joint_machine.specs.Replaying.{AllMayCome}
+use Rattle.joint_machine.specs.LinkedHistories.{linked_end}
+use Rattle.computed_histories.proofs.HistoryTests.{numbered, whole}
 use Rattle.worked_histories.specs.CrossHeap.{cross_heap_cycle}
 use Rattle.worked_histories.specs.Deletion.{deletion}
 use Rattle.worked_histories.specs.Abandoned.{abandoned, AbandonedHolds}

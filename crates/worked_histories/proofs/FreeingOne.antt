@@ -1,24 +1,24 @@
--- The run of the one object is sound and complete: the places of its snap, begin, sweep and resolution are the only ones,
--- and neither the object nor its peer is reached from the snap on.
+-- The run of the one object is sound and complete: the places of its snap, begin, sweep and resolution are the only
+-- ones, and neither the object nor its peer is reached from the snap on.
 use Rattle.std.proofs.Common.{◌≡◌, ℕ, ◌<◌, ◌≤◌, Bool, true, false, List, [], ◌∷◌, Some, None, slice_get, get_or, refl, sym, subst, ap, nat_eq, arith, ⊎_elim}
 use Rattle.std.specs.List.{Contains}
-use Rattle.joint_model.specs.declared.events.Op.{Op}
-use Rattle.joint_model.specs.declared.events.Op.TheVariants as op
-use Rattle.joint_model.specs.declared.events.Reply.{Reply}
-use Rattle.joint_model.specs.declared.events.Reply.TheVariants as says
-use Rattle.joint_model.specs.declared.names.Thread.TheVariants.{C}
-use Rattle.joint_model.specs.Heaps.{IsMade}
-use Rattle.joint_model.specs.Headline.{IsSoundRun, IsCompleteRun, IsCompleteCycle, IsFreedWithPeer, IsUnreachedAt, IsUnreachedBefore, WasUnreached, ResolvesAt, SweepsAt, SnapsAt, IsPeerFreedAt}
-use Rattle.joint_model.specs.Joint.{opening, Row, object, peer, IsReached}
-use Rattle.joint_model.specs.Run.{Moment}
-use Rattle.joint_model.specs.Told.{snap_of, sweep_of, resolution_of, nothing, said_cleared, Answer}
+use Rattle.joint_machine.specs.declared.events.Op.{Op}
+use Rattle.joint_machine.specs.declared.events.Op.TheVariants as op
+use Rattle.joint_machine.specs.declared.events.Reply.{Reply}
+use Rattle.joint_machine.specs.declared.events.Reply.TheVariants as says
+use Rattle.joint_machine.specs.declared.names.Thread.TheVariants.{C}
+use Rattle.joint_machine.specs.Heaps.{IsMade}
+use Rattle.joint_machine.specs.Headline.{IsSoundRun, IsCompleteRun, IsCompleteCycle, IsFreedWithPeer, IsUnreachedAt, IsUnreachedBefore, WasUnreached, ResolvesAt, SweepsAt, SnapsAt, IsPeerFreedAt}
+use Rattle.joint_machine.specs.Joint.{opening, Row, object, peer, IsReached}
+use Rattle.joint_machine.specs.Run.{Moment}
+use Rattle.joint_machine.specs.Told.{snap_of, sweep_of, resolution_of, nothing, said_cleared, Answer}
 use Rattle.worked_histories.specs.Freeing.{one_run, FreesOneObject}
 use Rattle.worked_histories.specs.Notes.{note, span}
-use Rattle.history_tests.specs.Graphs.{is_reached}
-use Rattle.history_tests.proofs.GraphTests.{joint_reached}
-use Rattle.history_tests.proofs.Reaching.{member}
-use Rattle.history_tests.proofs.Telling.{refuted, same as is_same}
-use Rattle.joint_model.proofs.Members.{Contains-nil, Contains-cons_cases}
+use Rattle.computed_histories.specs.Graphs.{is_reached}
+use Rattle.computed_histories.proofs.GraphTests.{joint_reached}
+use Rattle.computed_histories.proofs.Reaching.{member}
+use Rattle.computed_histories.proofs.Telling.{refuted, same as is_same}
+use Rattle.joint_machine.proofs.Members.{Contains-nil, Contains-cons_cases}
 use Rattle.worked_histories.proofs.Places.{place, same_place}
 
 -- the moment at a place

@@ -1,13 +1,13 @@
 -- A graph whose edges are a list of pairs has finitely many nodes, so its components are computed.
 use Rattle.std.proofs.Common.{◌≡◌, ℕ, Bool, true, ◌&&◌, List, map, filter, refl, sym, subst, nat_eq}
 use Rattle.std.specs.List.{Contains, list_all}
-use Rattle.joint_model.specs.Components.{IsContraction}
-use Rattle.joint_model.proofs.Members.{Contains-map, Contains-map_cases}
-use Rattle.history_tests.specs.Contractions.{Listed, is_contraction}
-use Rattle.history_tests.specs.Lists.{mem, has, pair_eq}
-use Rattle.history_tests.proofs.ContractionTests.{IsListed, contraction}
-use Rattle.history_tests.proofs.Reaching.{all_in, member, member_filter}
-use Rattle.history_tests.proofs.Telling.{Tells, like, and2, same, same_pair}
+use Rattle.joint_machine.specs.Components.{IsContraction}
+use Rattle.joint_machine.proofs.Members.{Contains-map, Contains-map_cases}
+use Rattle.computed_histories.specs.Contractions.{Listed, is_contraction}
+use Rattle.computed_histories.specs.Lists.{mem, has, pair_eq}
+use Rattle.computed_histories.proofs.ContractionTests.{IsListed, contraction}
+use Rattle.computed_histories.proofs.Reaching.{all_in, member, member_filter}
+use Rattle.computed_histories.proofs.Telling.{Tells, like, and2, same, same_pair}
 use Rattle.worked_histories.specs.Graphs.{HasEdge}
 
 -- where a list of pairs leads from a number

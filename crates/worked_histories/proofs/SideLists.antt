@@ -2,25 +2,25 @@
 use Rattle.std.proofs.Common.{◌≡◌, Bool, true, false, ◌&&◌, not, List, [], ◌∷◌, map, refl, sym}
 use Rattle.std.specs.List.{list_all}
 use Rattle.std.specs.Prelude.{ℕ, nat_le}
-use Rattle.joint_model.specs.declared.names.Thread.{Thread}
-use Rattle.joint_model.specs.declared.names.Thread.TheVariants.{M, P, C}
-use Rattle.joint_model.specs.declared.events.Entry.{Entry}
-use Rattle.joint_model.specs.declared.events.Made.{Made}
-use Rattle.joint_model.specs.Lines.{is_peer_event, is_read, is_pinned}
-use Rattle.joint_model.specs.ManagedReplay.{ManagedReplay, opening_replay}
-use Rattle.joint_model.specs.PeerReplay.{PeerReplay, peer_answer}
-use Rattle.joint_model.specs.Readers.{with_pins}
-use Rattle.joint_model.specs.Sides.{SideRules, IsOfSide, IsOwnLawful, TakesManaged, TakesPeer, managed_rules, peer_rules, LeadsTo}
-use Rattle.joint_model.specs.Told.{Told, bare_told, tells_pins, pins_told, Noted}
-use Rattle.history_tests.specs.Histories.{managed_lawful, peer_lawful}
-use Rattle.history_tests.specs.Lines.{is_event}
-use Rattle.history_tests.proofs.Telling.{Tells, all, always, and2, and3, like, refuted, upto, is_true, is_false}
-use Rattle.history_tests.proofs.HistoryTests.{managed_side}
-use Rattle.history_tests.proofs.LineTests.{tells_event}
-use Rattle.history_tests.proofs.ReplyTests.{replies}
-use Rattle.history_tests.proofs.SideTests.{peer}
-use Rattle.history_tests.specs.Lists.{rises}
-use Rattle.history_tests.proofs.Reaching.{rising}
+use Rattle.joint_machine.specs.declared.names.Thread.{Thread}
+use Rattle.joint_machine.specs.declared.names.Thread.TheVariants.{M, P, C}
+use Rattle.joint_machine.specs.declared.events.Entry.{Entry}
+use Rattle.joint_machine.specs.declared.events.Made.{Made}
+use Rattle.joint_machine.specs.Lines.{is_peer_event, is_read}
+use Rattle.joint_machine.specs.PinsTold.{is_pinned, bare_told, pins_told, tells_pins, with_pins}
+use Rattle.joint_machine.specs.ManagedReplay.{ManagedReplay, opening_replay}
+use Rattle.joint_machine.specs.PeerReplay.{PeerReplay, peer_answer}
+use Rattle.joint_machine.specs.Sides.{SideRules, IsOfSide, IsOwnLawful, TakesManaged, TakesPeer, managed_rules, peer_rules, LeadsTo}
+use Rattle.joint_machine.specs.Told.{Told, Noted}
+use Rattle.computed_histories.specs.Histories.{managed_lawful, peer_lawful}
+use Rattle.computed_histories.specs.Lines.{is_event}
+use Rattle.computed_histories.proofs.Telling.{Tells, all, always, and2, and3, like, refuted, upto, is_true, is_false}
+use Rattle.computed_histories.proofs.HistoryTests.{managed_side}
+use Rattle.computed_histories.proofs.LineTests.{tells_event}
+use Rattle.computed_histories.proofs.ReplyTests.{replies}
+use Rattle.computed_histories.proofs.SideTests.{peer}
+use Rattle.computed_histories.specs.Lists.{rises}
+use Rattle.computed_histories.proofs.Reaching.{rising}
 use Rattle.worked_histories.specs.OneObject.{one_object}
 use Rattle.worked_histories.specs.SideLists.{managed_notes, peer_notes, state_after, AreTakenFor, IsReplayedBy, adopted_twice, OneObjectSidesHold}
 

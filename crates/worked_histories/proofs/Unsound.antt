@@ -1,16 +1,17 @@
--- Each of these runs is refused by the conjunct that its law names: what that promises has no place in the run, or speaks against a state that the run shows.
+-- Each of these runs is refused by the conjunct that its law names: what that promises has no place in the run, or
+-- speaks against a state that the run shows.
 use Rattle.std.proofs.Common.{◌≡◌, ℕ, zero, suc, ◌<◌, List, [], ◌∷◌, Some, refl, slice_get, nat_eq, subst, sym, arith}
 use Rattle.std.specs.Prelude.{Contains}
-use Rattle.joint_model.specs.declared.events.Op.TheVariants as op
-use Rattle.joint_model.specs.Headline.{IsUnreachedAt, IsCandidateBefore, ResolvesAt, SnapsAt, SweepsAt}
-use Rattle.joint_model.specs.Heaps.{IsMade}
-use Rattle.joint_model.specs.Joint.{Joint, IsReached, object, peer}
-use Rattle.joint_model.specs.Run.{Moment}
-use Rattle.joint_model.specs.Told.{snap_of, Noted, said_cleared}
-use Rattle.joint_model.proofs.Members.{Contains-nil}
-use Rattle.history_tests.proofs.GraphTests.{joint_reached}
-use Rattle.history_tests.proofs.Reaching.{member}
-use Rattle.history_tests.proofs.Telling.{refuted, same}
+use Rattle.joint_machine.specs.declared.events.Op.TheVariants as op
+use Rattle.joint_machine.specs.Headline.{IsUnreachedAt, IsCandidateBefore, ResolvesAt, SnapsAt, SweepsAt}
+use Rattle.joint_machine.specs.Heaps.{IsMade}
+use Rattle.joint_machine.specs.Joint.{Joint, IsReached, object, peer}
+use Rattle.joint_machine.specs.Run.{Moment}
+use Rattle.joint_machine.specs.Told.{snap_of, Noted, said_cleared}
+use Rattle.joint_machine.proofs.Members.{Contains-nil}
+use Rattle.computed_histories.proofs.GraphTests.{joint_reached}
+use Rattle.computed_histories.proofs.Reaching.{member}
+use Rattle.computed_histories.proofs.Telling.{refuted, same}
 use Rattle.worked_histories.specs.Unsound.{still, closed, object_named, peer_named, moment_of, snaps_two, snaps_nothing, snap_frees_two, begins_one, sweeps_none, sweeps_two, resolves_none, resolves_two, cycle_run, leaves_candidate, freed_without_sweep, swept_without_begin, reached_at_begin, reached_before_sweep, snapped_while_reached, resolved_while_reached, AreUnsound, AreIncomplete}
 
 abbrev only-two : List ℕ

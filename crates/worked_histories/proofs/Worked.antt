@@ -1,28 +1,30 @@
--- One computation for each history: the notes pass the test of linked histories, each entry that is a step leads from the joint state
--- of both sides' replays to the next one, every other entry leaves that state as it is, and the unreached peers pass their test.
+-- One computation for each history: the notes pass the test of linked histories, each entry that is a step leads from
+-- the joint state of both sides' replays to the next one, every other entry leaves that state as it is, and the
+-- unreached peers pass their test.
 use Rattle.std.proofs.Common.{◌≡◌, ℕ, Bool, true, false, ◌&&◌, cond, List, [], ◌∷◌, map, refl, ap, subst, sym}
-use Rattle.joint_model.specs.Joint.{Joint, Graph, opening}
-use Rattle.joint_model.specs.Linked.{Linkage, opening_linkage, AllMayCome}
-use Rattle.joint_model.specs.LinkedHistories.{joint_projection}
-use Rattle.joint_model.specs.Readers.{entry_after}
-use Rattle.joint_model.specs.PeerReplay.{PeerReplay, Marking, IsMarked, IsSweep}
-use Rattle.joint_model.specs.Run.{JointStep, Moment, IsRunFrom}
-use Rattle.joint_model.specs.Told.{Noted}
-use Rattle.history_tests.specs.Graphs.{are_unreached}
-use Rattle.history_tests.specs.Histories.{all_may_come}
-use Rattle.history_tests.specs.Lists.{has}
-use Rattle.history_tests.specs.Markings.{marking_reach, is_sweep}
-use Rattle.history_tests.specs.Readings.{is_linked}
-use Rattle.history_tests.specs.Rows.{is_live}
-use Rattle.history_tests.specs.States.{same_joint}
-use Rattle.history_tests.specs.Steps.{joint_after, may_step}
-use Rattle.history_tests.proofs.Telling.{Tells, always, never, and2, and3, is_true}
-use Rattle.history_tests.proofs.GraphTests.{unreached}
-use Rattle.history_tests.proofs.HistoryTests.{all_come}
-use Rattle.history_tests.proofs.MarkingTests.{marked, sweep}
-use Rattle.history_tests.proofs.ReadingTests.{linked}
-use Rattle.history_tests.proofs.StateTests.{joints}
-use Rattle.history_tests.proofs.StepTests.{steps_tested}
+use Rattle.joint_machine.specs.Joint.{Joint, Graph, opening}
+use Rattle.joint_machine.specs.Linked.{Linkage, opening_linkage}
+use Rattle.joint_machine.specs.Replaying.{AllMayCome}
+use Rattle.joint_machine.specs.LinkedHistories.{joint_projection}
+use Rattle.joint_machine.specs.Readers.{entry_after}
+use Rattle.joint_machine.specs.PeerReplay.{PeerReplay, Marking, IsMarked, IsSweep}
+use Rattle.joint_machine.specs.Run.{JointStep, Moment, IsRunFrom}
+use Rattle.joint_machine.specs.Told.{Noted}
+use Rattle.computed_histories.specs.Graphs.{are_unreached}
+use Rattle.computed_histories.specs.Histories.{all_may_come}
+use Rattle.computed_histories.specs.Lists.{has}
+use Rattle.computed_histories.specs.Markings.{marking_reach, is_sweep}
+use Rattle.computed_histories.specs.Readings.{is_linked}
+use Rattle.computed_histories.specs.Rows.{is_live}
+use Rattle.computed_histories.specs.States.{same_joint}
+use Rattle.computed_histories.specs.Steps.{joint_after, may_step}
+use Rattle.computed_histories.proofs.Telling.{Tells, always, never, and2, and3, is_true}
+use Rattle.computed_histories.proofs.GraphTests.{unreached}
+use Rattle.computed_histories.proofs.HistoryTests.{all_come}
+use Rattle.computed_histories.proofs.MarkingTests.{marked, sweep}
+use Rattle.computed_histories.proofs.ReadingTests.{linked}
+use Rattle.computed_histories.proofs.StateTests.{joints}
+use Rattle.computed_histories.proofs.StepTests.{steps_tested}
 use Rattle.worked_histories.specs.Moments.{linked_joint, linked_graph, begun_with, is_step, moment_if, moments_from, begins_from, AreUnreachedEach, IsWorked}
 
 -- whether each list has exactly the unreached peers of the graph with its place

@@ -1,16 +1,17 @@
--- What no lawful history has, shown where the histories of before would have it: a mirror that is cleared before the last
--- restore, a sweep that takes a weak handle for a root, and one that frees a peer that a weak name gave back.
+-- What no lawful history has, shown where the histories of before would have it: a mirror that is cleared before the
+-- last restore, a sweep that takes a weak handle for a root, and one that frees a peer that a weak name gave back.
 use Rattle.std.specs.Prelude.{ℕ, List, [], ◌∷◌, ◌++◌, Contains, Some, None}
-use Rattle.joint_model.specs.declared.names.Thread.TheVariants.{M, P, C}
-use Rattle.joint_model.specs.declared.names.Sort.TheVariants.{User}
-use Rattle.joint_model.specs.declared.names.Kind.TheVariants as kind
-use Rattle.joint_model.specs.declared.lines.Act.TheVariants as act
-use Rattle.joint_model.specs.declared.events.Op.TheVariants as op
-use Rattle.joint_model.specs.declared.events.Reply.{Reply}
-use Rattle.joint_model.specs.declared.events.Reply.TheVariants as says
-use Rattle.joint_model.specs.Linked.{Linkage, opening_linkage, replayed, AllMayCome, MayCome}
-use Rattle.joint_model.specs.PeerReplay.{MayClear}
-use Rattle.joint_model.specs.Told.{Told, nothing, snap_of, contraction_of, references_of, sweep_of, Noted}
+use Rattle.joint_machine.specs.declared.names.Thread.TheVariants.{M, P, C}
+use Rattle.joint_machine.specs.declared.names.Sort.TheVariants.{User}
+use Rattle.joint_machine.specs.declared.names.Kind.TheVariants as kind
+use Rattle.joint_machine.specs.declared.lines.Act.TheVariants as act
+use Rattle.joint_machine.specs.declared.events.Op.TheVariants as op
+use Rattle.joint_machine.specs.declared.events.Reply.{Reply}
+use Rattle.joint_machine.specs.declared.events.Reply.TheVariants as says
+use Rattle.joint_machine.specs.Linked.{Linkage, opening_linkage, MayCome}
+use Rattle.joint_machine.specs.Replaying.{AllMayCome, replayed}
+use Rattle.joint_machine.specs.PeerReplay.{MayClear}
+use Rattle.joint_machine.specs.Told.{Told, nothing, snap_of, contraction_of, references_of, sweep_of, Noted}
 use Rattle.worked_histories.specs.Notes.{note, var, static_no, name_no, object_no, peer_no, handle_no, cycle_no, marking_no, span}
 use Rattle.worked_histories.specs.Phases.{two_made, reached_cycle, dead_snap, weakened_both, swept_both, restored_first, restored_last}
 
@@ -27,14 +28,15 @@ before_own_sweep = replayed opening_linkage until_own_sweep
 abbrev pub before_last_restore : Linkage
 before_last_restore = replayed opening_linkage until_last_restore
 
--- each of these entries may come, then a sweep that frees both peers may, and none that doesn't: a weak handle is no root
+-- each of these entries may come, then a sweep that frees both peers may, and none that doesn't: a weak handle is no
+-- root
 pub record SweepsUnderWeak : Type 0 where
   pub lawful : AllMayCome opening_linkage until_own_sweep
   pub comes : MayCome before_own_sweep swept_both
   pub both : (freed : List ℕ) (reply : Reply) → MayCome before_own_sweep (note 20 C 7 op.Sweep reply None (sweep_of freed)) → Contains freed 1 × Contains freed 2
 
--- each of these entries may come, and then the mirror isn't cleared: the driver's order has a restore left, and the peers'
--- own list a weakened handle that isn't restored; after the last restore it is cleared
+-- each of these entries may come, and then the mirror isn't cleared: the driver's order has a restore left, and the
+-- peers' own list a weakened handle that isn't restored; after the last restore it is cleared
 pub record ClearsLast : Type 0 where
   pub lawful : AllMayCome opening_linkage until_last_restore
   pub not_cleared : (reply : Reply) (told : Told) → MayCome before_last_restore (note 22 C 7 (op.Clear (cycle_no 2)) reply None told) → ⊥

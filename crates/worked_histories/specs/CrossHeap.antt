@@ -1,14 +1,15 @@
--- A cycle across both heaps: one managed object has another in a field, and the peer of the second has the peer of the first.
--- Nothing else holds them, and a bridge cycle frees all four.
+-- A cycle across both heaps: one managed object has another in a field, and the peer of the second has the peer of the
+-- first. Nothing else holds them, and a bridge cycle frees all four.
 use Rattle.std.specs.Prelude.{List, [], ◌∷◌, ◌++◌, Some, None}
-use Rattle.joint_model.specs.declared.names.Thread.TheVariants.{M, P, C}
-use Rattle.joint_model.specs.declared.names.Sort.TheVariants.{User}
-use Rattle.joint_model.specs.declared.names.Kind.TheVariants as kind
-use Rattle.joint_model.specs.declared.lines.Act.TheVariants as act
-use Rattle.joint_model.specs.declared.events.Op.TheVariants as op
-use Rattle.joint_model.specs.declared.events.Reply.TheVariants as says
-use Rattle.joint_model.specs.Linked.{Linkage, opening_linkage, replayed}
-use Rattle.joint_model.specs.Told.{nothing, snap_of, contraction_of, sweep_of, resolution_of, Noted, said_cleared}
+use Rattle.joint_machine.specs.declared.names.Thread.TheVariants.{M, P, C}
+use Rattle.joint_machine.specs.declared.names.Sort.TheVariants.{User}
+use Rattle.joint_machine.specs.declared.names.Kind.TheVariants as kind
+use Rattle.joint_machine.specs.declared.lines.Act.TheVariants as act
+use Rattle.joint_machine.specs.declared.events.Op.TheVariants as op
+use Rattle.joint_machine.specs.declared.events.Reply.TheVariants as says
+use Rattle.joint_machine.specs.Linked.{Linkage, opening_linkage}
+use Rattle.joint_machine.specs.Replaying.{replayed}
+use Rattle.joint_machine.specs.Told.{nothing, snap_of, contraction_of, sweep_of, resolution_of, Noted, said_cleared}
 use Rattle.worked_histories.specs.Notes.{linking, note, var, static_no, object_no, peer_no, handle_no, cycle_no, marking_no, span}
 
 -- both objects are made and linked, and passed to two statics of the peer heap

@@ -1,12 +1,13 @@
 -- A peer that was in a field when a marking began stays to its sweep, though the field is emptied meanwhile.
 use Rattle.std.specs.Prelude.{ℕ, List, [], ◌∷◌, ◌++◌, Contains, Some, None}
-use Rattle.joint_model.specs.declared.names.Thread.TheVariants.{P}
-use Rattle.joint_model.specs.declared.lines.Act.TheVariants as act
-use Rattle.joint_model.specs.declared.events.Op.TheVariants as op
-use Rattle.joint_model.specs.declared.events.Reply.{Reply}
-use Rattle.joint_model.specs.declared.events.Reply.TheVariants as says
-use Rattle.joint_model.specs.Linked.{Linkage, opening_linkage, replayed, MayCome}
-use Rattle.joint_model.specs.Told.{nothing, slice_of, sweep_of, Noted}
+use Rattle.joint_machine.specs.declared.names.Thread.TheVariants.{P}
+use Rattle.joint_machine.specs.declared.lines.Act.TheVariants as act
+use Rattle.joint_machine.specs.declared.events.Op.TheVariants as op
+use Rattle.joint_machine.specs.declared.events.Reply.{Reply}
+use Rattle.joint_machine.specs.declared.events.Reply.TheVariants as says
+use Rattle.joint_machine.specs.Linked.{Linkage, opening_linkage, MayCome}
+use Rattle.joint_machine.specs.Replaying.{replayed}
+use Rattle.joint_machine.specs.Told.{nothing, slice_of, sweep_of, Noted}
 use Rattle.worked_histories.specs.Notes.{note, var, peer_no, marking_no, span}
 
 -- two peers, of which the first has the second in its field, a marking that begins then, and the field emptied

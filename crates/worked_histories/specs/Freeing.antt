@@ -1,8 +1,8 @@
 -- What the run of the one object that is let go frees: nothing too early, and all that was unreached throughout its
 -- cycle.
 use Rattle.std.specs.Prelude.{List}
-use Rattle.joint_model.specs.Headline.{IsSoundRun, IsCompleteRun}
-use Rattle.joint_model.specs.Run.{Moment}
+use Rattle.joint_machine.specs.Headline.{IsSoundRun, IsCompleteRun}
+use Rattle.joint_machine.specs.Run.{Moment}
 use Rattle.worked_histories.specs.Moments.{moments_of}
 use Rattle.worked_histories.specs.OneObject.{one_object}
 

@@ -1,20 +1,20 @@
--- A cycle between whose phases another caller's lines come: a collection, a read of a weak name with what becomes of it, a read of
--- a weak cell, or a begin, in each of the seven gaps.
+-- A cycle between whose phases another caller's lines come: a collection, a read of a weak name with what becomes of
+-- it, a read of a weak cell, or a begin, in each of the seven gaps.
 use Rattle.std.specs.Prelude.{ℕ, List, [], ◌∷◌, ◌++◌, take, drop, length, Some, None}
-use Rattle.joint_model.specs.declared.names.Thread.TheVariants.{M, P, C}
-use Rattle.joint_model.specs.declared.names.Sort.TheVariants.{User}
-use Rattle.joint_model.specs.declared.names.Kind.TheVariants as kind
-use Rattle.joint_model.specs.declared.lines.Act.TheVariants as act
-use Rattle.joint_model.specs.declared.events.Op.TheVariants as op
-use Rattle.joint_model.specs.declared.events.Reply.{Reply}
-use Rattle.joint_model.specs.declared.events.Reply.TheVariants as says
-use Rattle.joint_model.specs.Told.{snap_of, contraction_of, sweep_of, resolution_of, Noted, said_alive, said_cleared, Answer}
+use Rattle.joint_machine.specs.declared.names.Thread.TheVariants.{M, P, C}
+use Rattle.joint_machine.specs.declared.names.Sort.TheVariants.{User}
+use Rattle.joint_machine.specs.declared.names.Kind.TheVariants as kind
+use Rattle.joint_machine.specs.declared.lines.Act.TheVariants as act
+use Rattle.joint_machine.specs.declared.events.Op.TheVariants as op
+use Rattle.joint_machine.specs.declared.events.Reply.{Reply}
+use Rattle.joint_machine.specs.declared.events.Reply.TheVariants as says
+use Rattle.joint_machine.specs.Told.{snap_of, contraction_of, sweep_of, resolution_of, Noted, said_alive, said_cleared, Answer}
 use Rattle.worked_histories.specs.Lines.{Move, move, telling, citing, citing_telling, Came, came, notes_of}
 use Rattle.worked_histories.specs.Moments.{IsWorked}
 use Rattle.worked_histories.specs.Notes.{linking, var, static_no, name_no, cell_no, object_no, peer_no, handle_no, cycle_no, marking_no, span}
 
--- two bridge objects, of which the first has the second in a field; a weak cell has the second, and a weak name the first's peer;
--- then no slot holds either
+-- two bridge objects, of which the first has the second in a field; a weak cell has the second, and a weak name the
+-- first's peer; then no slot holds either
 abbrev pub set_up : List Came
 set_up =
     came (M 1) (move (op.Make User 0) (says.Made (peer_no 1) (handle_no 1)) ∷ citing (op.Adopt (var 0) kind.Bridge 1 (peer_no 1) (handle_no 1)) (says.M (object_no 1)) 0 ∷ [])
@@ -30,8 +30,9 @@ set_up =
     ∷ came (M 1) (move (op.Line (act.Drop (var 1))) says.Ok ∷ [])
     ∷ []
 
--- what the cycle comes to: what `mark` sweeps before its begin, the number of its own marking, what that one's sweep frees, the
--- answers to both restores, the number of the clear entry, what the resolution frees, and the last read's reply
+-- what the cycle comes to: what `mark` sweeps before its begin, the number of its own marking, what that one's sweep
+-- frees, the answers to both restores, the number of the clear entry, what the resolution frees, and the last read's
+-- reply
 pub record Outcome : Type 0 where
   pub first : List Move
   pub marking : ℕ
@@ -79,7 +80,8 @@ phase_lines o =
 abbrev pub with_gap : ℕ → List Came → Outcome → List Noted
 with_gap gap lines o = notes_of (set_up ++ (take gap (phase_lines o) ++ (lines ++ (drop gap (phase_lines o) ++ came (M 1) (move (op.Line (act.Read (cell_no 0))) o.last ∷ []) ∷ []))))
 
--- some of the gaps, the lines that come in each of them, what the cycle comes to, and the peers that are unreached at the begins
+-- some of the gaps, the lines that come in each of them, what the cycle comes to, and the peers that are unreached at
+-- the begins
 pub record GapCase : Type 0 where
   pub gaps : List ℕ
   pub lines : List Came
@@ -113,8 +115,8 @@ NONE = [] ∷ []
 abbrev pub collects : ℕ → Move → List Came
 collects j sweep = came (P 1) (move op.Begin (says.Mark (marking_no j)) ∷ sweep ∷ []) ∷ []
 
--- before the weakening it frees nothing; after it, it frees both in the cycle's place; in the cycle's own marking its begin is
--- told of that one; later nothing is left
+-- before the weakening it frees nothing; after it, it frees both in the cycle's place; in the cycle's own marking its
+-- begin is told of that one; later nothing is left
 abbrev pub collections : List GapCase
 collections =
     gap_case (1 ∷ 2 ∷ 3 ∷ []) (collects 1 (frees_none 1 0)) (freed_by [] 2 (frees_both 2) 25) (BOTH ++ BOTH)
@@ -178,7 +180,8 @@ waitings =
 abbrev pub begins : Reply → List Came
 begins reply = peer_line (move op.Begin reply) ∷ []
 
--- a marking that is open when the cycle's own is to begin is swept first, and frees what a collection in its place would
+-- a marking that is open when the cycle's own is to begin is swept first, and frees what a collection in its place
+-- would
 abbrev pub beginnings : List GapCase
 beginnings =
     gap_case (1 ∷ 2 ∷ 3 ∷ []) (begins (says.Mark (marking_no 1))) (freed_by (frees_none 1 0 ∷ []) 2 (frees_both 2) 25) (BOTH ++ BOTH)

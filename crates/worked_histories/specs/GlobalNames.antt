@@ -1,10 +1,10 @@
 -- A strong global name holds a peer, and a weak one does not.
 use Rattle.std.specs.Prelude.{List, [], ◌∷◌, None}
-use Rattle.joint_model.specs.declared.names.Thread.TheVariants.{P}
-use Rattle.joint_model.specs.declared.lines.Act.TheVariants as act
-use Rattle.joint_model.specs.declared.events.Op.TheVariants as op
-use Rattle.joint_model.specs.declared.events.Reply.TheVariants as says
-use Rattle.joint_model.specs.Told.{nothing, sweep_of, Noted}
+use Rattle.joint_machine.specs.declared.names.Thread.TheVariants.{P}
+use Rattle.joint_machine.specs.declared.lines.Act.TheVariants as act
+use Rattle.joint_machine.specs.declared.events.Op.TheVariants as op
+use Rattle.joint_machine.specs.declared.events.Reply.TheVariants as says
+use Rattle.joint_machine.specs.Told.{nothing, sweep_of, Noted}
 use Rattle.worked_histories.specs.Moments.{IsWorked}
 use Rattle.worked_histories.specs.Notes.{note, var, name_no, peer_no, handle_no, marking_no, span}
 

@@ -1,6 +1,6 @@
 -- Small graphs with their bridge nodes, and what their components, cross-references and mirror edges have to be.
 use Rattle.std.specs.Prelude.{◌≡◌, ℕ, List, [], ◌∷◌, ◌++◌, map, flat_map, Contains}
-use Rattle.joint_model.specs.Components.{IsContraction, node, temporary, between_nodes, mirror_edges}
+use Rattle.joint_machine.specs.Components.{IsContraction, node, temporary, between_nodes, mirror_edges}
 
 -- a node has an edge to another if the pair is listed
 abbrev pub HasEdge : List (ℕ × ℕ) → ℕ → ℕ → Type 0
@@ -63,15 +63,16 @@ meeting_components = map (λ x. x ∷ []) meeting_bridges
 abbrev pub meeting_references : List (ℕ × ℕ)
 meeting_references = map (λ i. (i, 16)) (0 ∷ 1 ∷ 2 ∷ 3 ∷ 4 ∷ 5 ∷ 6 ∷ 7 ∷ []) ++ map (λ i. (16, i)) (8 ∷ 9 ∷ 10 ∷ 11 ∷ 12 ∷ 13 ∷ 14 ∷ 15 ∷ [])
 
--- that class is heavy, so each reference begins or ends at it, and its end of a mirror edge is the first temporary; no list without it is
--- the graph's
+-- that class is heavy, so each reference begins or ends at it, and its end of a mirror edge is the first temporary; no
+-- list without it is the graph's
 pub record MeetingIsContracted : Type 0 where
   pub contraction : IsContraction (Contains meeting_bridges) (HasEdge meeting) meeting_components (9 ∷ []) meeting_references
   pub mirror : mirror_edges meeting_components meeting_references
       ≡ map (λ x. (node x, temporary 0)) (1 ∷ 2 ∷ 3 ∷ 4 ∷ 5 ∷ 6 ∷ 7 ∷ 8 ∷ []) ++ map (λ y. (temporary 0, node y)) (10 ∷ 11 ∷ 12 ∷ 13 ∷ 14 ∷ 15 ∷ 16 ∷ 17 ∷ [])
   pub needed : (xrefs : List (ℕ × ℕ)) → IsContraction (Contains meeting_bridges) (HasEdge meeting) meeting_components [] xrefs → ⊥
 
--- the same with seven that lead to the plain node: its class isn't heavy, so each of the seven has a reference to each of the eight
+-- the same with seven that lead to the plain node: its class isn't heavy, so each of the seven has a reference to each
+-- of the eight
 abbrev pub light_meeting : List (ℕ × ℕ)
 light_meeting = map (λ x. (x, 9)) (2 ∷ 3 ∷ 4 ∷ 5 ∷ 6 ∷ 7 ∷ 8 ∷ []) ++ map (λ y. (9, y)) (10 ∷ 11 ∷ 12 ∷ 13 ∷ 14 ∷ 15 ∷ 16 ∷ 17 ∷ [])
 

@@ -1,9 +1,9 @@
 -- A history as the lines of its script came: each line with its events, whose numbers follow one another.
 use Rattle.std.specs.Prelude.{ℕ, ◌+◌, List, [], ◌∷◌, ◌++◌, length, Option, Some, None}
-use Rattle.joint_model.specs.declared.names.Thread.{Thread}
-use Rattle.joint_model.specs.declared.events.Op.{Op}
-use Rattle.joint_model.specs.declared.events.Reply.{Reply}
-use Rattle.joint_model.specs.Told.{Told, nothing, Noted}
+use Rattle.joint_machine.specs.declared.names.Thread.{Thread}
+use Rattle.joint_machine.specs.declared.events.Op.{Op}
+use Rattle.joint_machine.specs.declared.events.Reply.{Reply}
+use Rattle.joint_machine.specs.Told.{Told, nothing, Noted}
 use Rattle.worked_histories.specs.Notes.{note}
 
 -- an event with its reply, what it cites, and what is told beside it
@@ -13,7 +13,8 @@ pub record Move : Type 0 where
   pub cites : Option ℕ
   pub told : Told
 
--- one that cites nothing and is told nothing; one that is told something; one that cites an entry; and one that does both
+-- one that cites nothing and is told nothing; one that is told something; one that cites an entry; and one that does
+-- both
 abbrev pub move : Op → Reply → Move
 move o reply = record { op = o; reply = reply; cites = None; told = nothing }
 

@@ -1,16 +1,18 @@
--- Eight objects lead to one plain object and it to eight others: a temporary peer stands for it. Of the eight that lead to it one has its peer in a static, so the
--- marking reaches the peers of the other eight through the temporary alone, and the cycle keeps their objects with that one.
+-- Eight objects lead to one plain object and it to eight others: a temporary peer stands for it. Of the eight that lead
+-- to it one has its peer in a static, so the marking reaches the peers of the other eight through the temporary alone,
+-- and the cycle keeps their objects with that one.
 use Rattle.std.specs.Prelude.{ℕ, ◌+◌, ◌*◌, List, [], ◌∷◌, ◌++◌, map, flat_map, Contains, Some, None}
-use Rattle.joint_model.specs.declared.names.Thread.TheVariants.{M, C}
-use Rattle.joint_model.specs.declared.names.Sort.TheVariants.{User}
-use Rattle.joint_model.specs.declared.names.Kind.TheVariants as kind
-use Rattle.joint_model.specs.declared.lines.Act.TheVariants as act
-use Rattle.joint_model.specs.declared.events.Op.TheVariants as op
-use Rattle.joint_model.specs.declared.events.Reply.{Reply}
-use Rattle.joint_model.specs.declared.events.Reply.TheVariants as says
-use Rattle.joint_model.specs.Components.{End, node, temporary}
-use Rattle.joint_model.specs.Linked.{Linkage, opening_linkage, replayed, MayCome}
-use Rattle.joint_model.specs.Told.{nothing, snap_of, contraction_of, references_of, sweep_of, resolution_of, Noted, Answer, said_alive, said_cleared}
+use Rattle.joint_machine.specs.declared.names.Thread.TheVariants.{M, C}
+use Rattle.joint_machine.specs.declared.names.Sort.TheVariants.{User}
+use Rattle.joint_machine.specs.declared.names.Kind.TheVariants as kind
+use Rattle.joint_machine.specs.declared.lines.Act.TheVariants as act
+use Rattle.joint_machine.specs.declared.events.Op.TheVariants as op
+use Rattle.joint_machine.specs.declared.events.Reply.{Reply}
+use Rattle.joint_machine.specs.declared.events.Reply.TheVariants as says
+use Rattle.joint_machine.specs.Components.{End, node, temporary}
+use Rattle.joint_machine.specs.Linked.{Linkage, opening_linkage, MayCome}
+use Rattle.joint_machine.specs.Replaying.{replayed}
+use Rattle.joint_machine.specs.Told.{nothing, snap_of, contraction_of, references_of, sweep_of, resolution_of, Noted, Answer, said_alive, said_cleared}
 use Rattle.worked_histories.specs.Moments.{IsWorked}
 use Rattle.worked_histories.specs.Notes.{note, var, static_no, object_no, peer_no, handle_no, cycle_no, marking_no, span}
 
@@ -33,7 +35,8 @@ follower i =
     ∷ note (3 * i + 29) (M 1) (2 * i + 20) (op.Line (act.Set (var 0) i (Some (var 1)))) says.Ok None nothing
     ∷ []
 
--- all objects are made and linked, the peer of the last that leads to the plain one comes into the static, and no variable holds them any more
+-- all objects are made and linked, the peer of the last that leads to the plain one comes into the static, and no
+-- variable holds them any more
 abbrev pub meeting_made : List Noted
 meeting_made =
     note 0 (M 1) 1 (op.Line (act.New (var 0) kind.Plain 8)) (says.M (object_no 1)) None nothing
@@ -49,7 +52,8 @@ meeting_made =
 abbrev pub met : List ℕ
 met = map (λ i. i + 2) eight ++ map (λ i. i + 10) eight
 
--- each candidate is a component, and the plain object's class stands behind them; the mirror edges begin or end at its temporary
+-- each candidate is a component, and the plain object's class stands behind them; the mirror edges begin or end at its
+-- temporary
 abbrev pub met_edges : List (End × End)
 met_edges = map (λ i. (node (i + 1), temporary 0)) eight ++ map (λ i. (temporary 0, node (i + 9))) eight
 
@@ -85,7 +89,8 @@ meeting_kept =
 abbrev pub meeting_history : List Noted
 meeting_history = meeting_made ++ (meeting_begun ++ meeting_kept)
 
--- the notes make a linked history, and the entries that are steps of the joint machine are a run, at whose begin those seven peers are unreached
+-- the notes make a linked history, and the entries that are steps of the joint machine are a run, at whose begin those
+-- seven peers are unreached
 abbrev pub MeetingHolds : Type 0
 MeetingHolds = IsWorked meeting_history (map (λ i. i + 1) seven ∷ [])
 

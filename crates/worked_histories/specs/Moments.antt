@@ -1,16 +1,18 @@
--- A linked history as moments of the joint machine: each entry that is a step, with the joint states before and after it.
+-- A linked history as moments of the joint machine: each entry that is a step, with the joint states before and after
+-- it.
 use Rattle.std.specs.Prelude.{ℕ, Bool, true, false, if◌then◌else◌, List, [], ◌∷◌, length}
-use Rattle.joint_model.specs.declared.events.Reply.{Reply}
-use Rattle.joint_model.specs.declared.events.Reply.TheVariants as says
-use Rattle.joint_model.specs.Joined.{joint_since, answers_at, graph_at}
-use Rattle.joint_model.specs.Joint.{Joint, Graph, opening, AreUnreached}
-use Rattle.joint_model.specs.Linked.{Linkage, opening_linkage, is_joint}
-use Rattle.joint_model.specs.LinkedHistories.{joint_projection, IsLinkedBy}
-use Rattle.joint_model.specs.Managed.{candidates_of}
-use Rattle.joint_model.specs.Readers.{is_aside, entry_after}
-use Rattle.joint_model.specs.Run.{Moment, IsRun}
-use Rattle.joint_model.specs.Told.{Noted}
-use Rattle.history_tests.specs.Readings.{finished_of}
+use Rattle.joint_machine.specs.declared.events.Reply.{Reply}
+use Rattle.joint_machine.specs.declared.events.Reply.TheVariants as says
+use Rattle.joint_machine.specs.Joined.{joint_since, answers_at, graph_at}
+use Rattle.joint_machine.specs.Joint.{Joint, Graph, opening}
+use Rattle.joint_machine.specs.Replaying.{AreUnreached}
+use Rattle.joint_machine.specs.Linked.{Linkage, opening_linkage, is_joint}
+use Rattle.joint_machine.specs.LinkedHistories.{joint_projection, IsLinkedBy}
+use Rattle.joint_machine.specs.Managed.{candidates_of}
+use Rattle.joint_machine.specs.Readers.{is_aside, entry_after}
+use Rattle.joint_machine.specs.Run.{Moment, IsRun}
+use Rattle.joint_machine.specs.Told.{Noted}
+use Rattle.computed_histories.specs.Readings.{finished_of}
 
 -- whether the entry is a step: a read that is set aside is none
 abbrev pub is_step : Noted → Bool
@@ -62,14 +64,14 @@ AreUnreachedEach (g ∷ gs) (now ∷ later) = AreUnreached g now × AreUnreached
 AreUnreachedEach [] (now ∷ later) = ⊥
 AreUnreachedEach (g ∷ gs) [] = ⊥
 
--- the entries that are steps of the joint machine are a run, and these are the peers that are unreached at the begins of
--- its markings, one list for each
+-- the entries that are steps of the joint machine are a run, and these are the peers that are unreached at the begins
+-- of its markings, one list for each
 pub record IsRunOf (noted : List Noted) (unreached : List (List ℕ)) : Type 0 where
   pub run : IsRun (joint_projection noted) (moments_of noted)
   pub begins : AreUnreachedEach (begins_from opening_linkage noted) unreached
 
--- the notes make a linked history: every entry may come when it comes, and nothing is left half done. And the entries that are
--- steps of the joint machine are a run, with these peers unreached at the begins of its markings.
+-- the notes make a linked history: every entry may come when it comes, and nothing is left half done. And the entries
+-- that are steps of the joint machine are a run, with these peers unreached at the begins of its markings.
 pub record IsWorked (noted : List Noted) (unreached : List (List ℕ)) : Type 0 where
   pub linked : IsLinkedBy (finished_of noted) noted
   pub run : IsRunOf noted unreached

@@ -1,12 +1,12 @@
 -- While a cycle is open a read of a weak cell is pending, and afterwards the object is gone.
 use Rattle.std.specs.Prelude.{List, [], ◌∷◌, Some, None}
-use Rattle.joint_model.specs.declared.names.Thread.TheVariants.{M, C}
-use Rattle.joint_model.specs.declared.names.Sort.TheVariants.{User}
-use Rattle.joint_model.specs.declared.names.Kind.TheVariants as kind
-use Rattle.joint_model.specs.declared.lines.Act.TheVariants as act
-use Rattle.joint_model.specs.declared.events.Op.TheVariants as op
-use Rattle.joint_model.specs.declared.events.Reply.TheVariants as says
-use Rattle.joint_model.specs.Told.{nothing, snap_of, contraction_of, references_of, sweep_of, resolution_of, Noted, said_cleared}
+use Rattle.joint_machine.specs.declared.names.Thread.TheVariants.{M, C}
+use Rattle.joint_machine.specs.declared.names.Sort.TheVariants.{User}
+use Rattle.joint_machine.specs.declared.names.Kind.TheVariants as kind
+use Rattle.joint_machine.specs.declared.lines.Act.TheVariants as act
+use Rattle.joint_machine.specs.declared.events.Op.TheVariants as op
+use Rattle.joint_machine.specs.declared.events.Reply.TheVariants as says
+use Rattle.joint_machine.specs.Told.{nothing, snap_of, contraction_of, references_of, sweep_of, resolution_of, Noted, said_cleared}
 use Rattle.worked_histories.specs.Moments.{IsWorked}
 use Rattle.worked_histories.specs.Notes.{note, var, cell_no, object_no, peer_no, handle_no, cycle_no, marking_no, span}
 

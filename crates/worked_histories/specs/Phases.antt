@@ -1,16 +1,17 @@
--- Two bridge objects, of which the first has the second in a field, with cycles of eight phases: the first cycle finds both
--- reached, and the second frees both with their peers.
+-- Two bridge objects, of which the first has the second in a field, with cycles of eight phases: the first cycle finds
+-- both reached, and the second frees both with their peers.
 use Rattle.std.specs.Prelude.{◌≡◌, ℕ, List, [], ◌∷◌, ◌++◌, take, map, Contains, Some, None}
-use Rattle.joint_model.specs.declared.names.Thread.TheVariants.{M, C}
-use Rattle.joint_model.specs.declared.names.Sort.TheVariants.{User}
-use Rattle.joint_model.specs.declared.names.Kind.TheVariants as kind
-use Rattle.joint_model.specs.declared.lines.Act.TheVariants as act
-use Rattle.joint_model.specs.declared.events.Op.TheVariants as op
-use Rattle.joint_model.specs.declared.events.Reply.{Reply}
-use Rattle.joint_model.specs.declared.events.Reply.TheVariants as says
-use Rattle.joint_model.specs.Components.{End, between_nodes}
-use Rattle.joint_model.specs.Linked.{Linkage, opening_linkage, replayed, MayCome}
-use Rattle.joint_model.specs.Told.{nothing, snap_of, contraction_of, references_of, sweep_of, resolution_of, Noted, said_cleared, Answer}
+use Rattle.joint_machine.specs.declared.names.Thread.TheVariants.{M, C}
+use Rattle.joint_machine.specs.declared.names.Sort.TheVariants.{User}
+use Rattle.joint_machine.specs.declared.names.Kind.TheVariants as kind
+use Rattle.joint_machine.specs.declared.lines.Act.TheVariants as act
+use Rattle.joint_machine.specs.declared.events.Op.TheVariants as op
+use Rattle.joint_machine.specs.declared.events.Reply.{Reply}
+use Rattle.joint_machine.specs.declared.events.Reply.TheVariants as says
+use Rattle.joint_machine.specs.Components.{End, between_nodes}
+use Rattle.joint_machine.specs.Linked.{Linkage, opening_linkage, MayCome}
+use Rattle.joint_machine.specs.Replaying.{replayed}
+use Rattle.joint_machine.specs.Told.{nothing, snap_of, contraction_of, references_of, sweep_of, resolution_of, Noted, said_cleared, Answer}
 use Rattle.worked_histories.specs.Notes.{linking, note, var, object_no, peer_no, handle_no, cycle_no, marking_no, span}
 
 -- both objects are made, the first gets the second into its field, and the second's variable is emptied
@@ -80,7 +81,8 @@ dead_end = note 24 C 7 (op.Resolve (cycle_no 2)) (says.Freed (span 0 2)) (Some 2
 abbrev pub two_phased : List Noted
 two_phased = two_made ++ (reached_cycle ++ (dead_snap ++ (dead_peers ++ dead_end)))
 
--- the state before the set, once both objects are made, after the first cycle, before the second one's mirror, and before its resolution
+-- the state before the set, once both objects are made, after the first cycle, before the second one's mirror, and
+-- before its resolution
 abbrev pub before_set : Linkage
 before_set = replayed opening_linkage (take 4 two_made)
 

@@ -1,21 +1,22 @@
 -- Two bridge objects with two plain ones between them, of which the first one has a peer in a static.
 use Rattle.std.specs.Prelude.{◌≡◌, ℕ, List, [], ◌∷◌, ◌++◌, map, Contains, Some, None}
-use Rattle.joint_model.specs.declared.names.Thread.TheVariants.{M, C}
-use Rattle.joint_model.specs.declared.names.Sort.TheVariants.{User, Framework}
-use Rattle.joint_model.specs.declared.names.Kind.TheVariants as kind
-use Rattle.joint_model.specs.declared.lines.Act.TheVariants as act
-use Rattle.joint_model.specs.declared.events.Op.TheVariants as op
-use Rattle.joint_model.specs.declared.events.Reply.{Reply}
-use Rattle.joint_model.specs.declared.events.Reply.TheVariants as says
-use Rattle.joint_model.specs.Components.{End, between_nodes}
-use Rattle.joint_model.specs.Linked.{Linkage, opening_linkage, replayed, AllMayCome, MayCome}
-use Rattle.joint_model.specs.PeerReplay.{SweepAllows}
-use Rattle.joint_model.specs.Told.{nothing, snap_of, contraction_of, references_of, sweep_of, resolution_of, Noted, said_alive}
+use Rattle.joint_machine.specs.declared.names.Thread.TheVariants.{M, C}
+use Rattle.joint_machine.specs.declared.names.Sort.TheVariants.{User, Framework}
+use Rattle.joint_machine.specs.declared.names.Kind.TheVariants as kind
+use Rattle.joint_machine.specs.declared.lines.Act.TheVariants as act
+use Rattle.joint_machine.specs.declared.events.Op.TheVariants as op
+use Rattle.joint_machine.specs.declared.events.Reply.{Reply}
+use Rattle.joint_machine.specs.declared.events.Reply.TheVariants as says
+use Rattle.joint_machine.specs.Components.{End, between_nodes}
+use Rattle.joint_machine.specs.Linked.{Linkage, opening_linkage, MayCome}
+use Rattle.joint_machine.specs.Replaying.{AllMayCome, replayed}
+use Rattle.joint_machine.specs.PeerReplay.{SweepAllows}
+use Rattle.joint_machine.specs.Told.{nothing, snap_of, contraction_of, references_of, sweep_of, resolution_of, Noted, said_alive}
 use Rattle.worked_histories.specs.Moments.{IsWorked}
 use Rattle.worked_histories.specs.Notes.{linking, note, var, static_no, object_no, peer_no, handle_no, cycle_no, marking_no, span}
 
--- all objects are made and linked, the first peer comes into the static, no variable holds them any more, and the cycle has
--- found its candidates
+-- all objects are made and linked, the first peer comes into the static, no variable holds them any more, and the cycle
+-- has found its candidates
 abbrev pub plain_contracted : List Noted
 plain_contracted =
     note 0 (M 1) 1 (op.Make User 0) (says.Made (peer_no 1) (handle_no 1)) None nothing

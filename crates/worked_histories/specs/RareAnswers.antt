@@ -1,18 +1,20 @@
--- Answers that the other histories don't have: a filled pin and an unset cell while a cycle is open, a field that holds nothing, notices when none was queued, a
--- framework's twin without fields, and a peer thread that begins between the own sweep and the restore.
+-- Answers that the other histories don't have: a filled pin and an unset cell while a cycle is open, a field that holds
+-- nothing, notices when none was queued, a framework's twin without fields, and a peer thread that begins between the
+-- own sweep and the restore.
 use Rattle.std.specs.Prelude.{List, [], ◌∷◌, Some, None}
-use Rattle.joint_model.specs.declared.names.Thread.TheVariants.{M, P, C}
-use Rattle.joint_model.specs.declared.names.Sort.TheVariants.{User, Framework}
-use Rattle.joint_model.specs.declared.names.Kind.TheVariants as kind
-use Rattle.joint_model.specs.declared.lines.Act.TheVariants as act
-use Rattle.joint_model.specs.declared.events.Op.TheVariants as op
-use Rattle.joint_model.specs.declared.events.Reply.TheVariants as says
-use Rattle.joint_model.specs.Told.{nothing, snap_of, contraction_of, references_of, sweep_of, resolution_of, Noted, said_cleared}
+use Rattle.joint_machine.specs.declared.names.Thread.TheVariants.{M, P, C}
+use Rattle.joint_machine.specs.declared.names.Sort.TheVariants.{User, Framework}
+use Rattle.joint_machine.specs.declared.names.Kind.TheVariants as kind
+use Rattle.joint_machine.specs.declared.lines.Act.TheVariants as act
+use Rattle.joint_machine.specs.declared.events.Op.TheVariants as op
+use Rattle.joint_machine.specs.declared.events.Reply.TheVariants as says
+use Rattle.joint_machine.specs.Told.{nothing, snap_of, contraction_of, references_of, sweep_of, resolution_of, Noted, said_cleared}
 use Rattle.worked_histories.specs.Moments.{IsWorked}
 use Rattle.worked_histories.specs.Notes.{note, var, static_no, cell_no, object_no, peer_no, handle_no, cycle_no, marking_no, span}
 
--- a bridge object is in a pin, and reading its empty field makes a variable let go of a plain object, which the snapshot frees. While the cycle is open a
--- filled pin answers that it is, and an unset cell that the cycle is open; no notice was queued, since what was freed had no peer
+-- a bridge object is in a pin, and reading its empty field makes a variable let go of a plain object, which the
+-- snapshot frees. While the cycle is open a filled pin answers that it is, and an unset cell that the cycle is open; no
+-- notice was queued, since what was freed had no peer
 abbrev pub answers_while_open : List Noted
 answers_while_open =
     note 0 (M 1) 1 (op.Make User 0) (says.Made (peer_no 1) (handle_no 1)) None nothing

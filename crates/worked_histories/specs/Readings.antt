@@ -1,13 +1,13 @@
 -- The histories with reads of weak cells, where each read is an entry of a reader of its own.
 use Rattle.std.specs.Prelude.{◌++◌, take, [], ◌∷◌, ℕ, List, Option, None}
-use Rattle.joint_model.specs.declared.names.Thread.TheVariants.{M}
-use Rattle.joint_model.specs.LinkedHistories.{IsLinkedBy, managed_end}
-use Rattle.joint_model.specs.Readers.{MayBePending, MayBeUnset}
-use Rattle.joint_model.specs.declared.lines.Act.TheVariants as act
-use Rattle.joint_model.specs.declared.events.Op.TheVariants as op
-use Rattle.joint_model.specs.declared.events.Reply.TheVariants as says
-use Rattle.joint_model.specs.Told.{Noted, nothing}
-use Rattle.history_tests.specs.Readings.{finished_of}
+use Rattle.joint_machine.specs.declared.names.Thread.TheVariants.{M}
+use Rattle.joint_machine.specs.LinkedHistories.{IsLinkedBy, managed_end}
+use Rattle.joint_machine.specs.Readers.{MayBePending, MayBeUnset}
+use Rattle.joint_machine.specs.declared.lines.Act.TheVariants as act
+use Rattle.joint_machine.specs.declared.events.Op.TheVariants as op
+use Rattle.joint_machine.specs.declared.events.Reply.TheVariants as says
+use Rattle.joint_machine.specs.Told.{Noted, nothing}
+use Rattle.computed_histories.specs.Readings.{finished_of}
 use Rattle.worked_histories.specs.Notes.{note, var, cell_no, cycle_no}
 use Rattle.worked_histories.specs.PendingRead.{pending_read}
 use Rattle.worked_histories.specs.Pins.{pinned_object}

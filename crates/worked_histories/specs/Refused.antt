@@ -1,15 +1,17 @@
--- Entries that may not come, each for one reason alone, after an object was made on line 5; and a history that ends in the midst of a dispose.
+-- Entries that may not come, each for one reason alone, after an object was made on line 5; and a history that ends in
+-- the midst of a dispose.
 use Rattle.std.specs.Prelude.{ℕ, List, [], ◌∷◌, Some, None}
-use Rattle.joint_model.specs.declared.names.Thread.TheVariants.{M}
-use Rattle.joint_model.specs.declared.names.Sort.TheVariants.{User}
-use Rattle.joint_model.specs.declared.names.Kind.TheVariants as kind
-use Rattle.joint_model.specs.declared.lines.Act.TheVariants as act
-use Rattle.joint_model.specs.declared.events.Op.TheVariants as op
-use Rattle.joint_model.specs.declared.events.Reply.TheVariants as says
-use Rattle.joint_model.specs.Linked.{Linkage, opening_linkage, replayed, AllMayCome, MayCome}
-use Rattle.joint_model.specs.LinkedHistories.{IsLinkedBy}
-use Rattle.joint_model.specs.Told.{nothing, snap_of, Noted}
-use Rattle.history_tests.specs.Readings.{finished_of}
+use Rattle.joint_machine.specs.declared.names.Thread.TheVariants.{M}
+use Rattle.joint_machine.specs.declared.names.Sort.TheVariants.{User}
+use Rattle.joint_machine.specs.declared.names.Kind.TheVariants as kind
+use Rattle.joint_machine.specs.declared.lines.Act.TheVariants as act
+use Rattle.joint_machine.specs.declared.events.Op.TheVariants as op
+use Rattle.joint_machine.specs.declared.events.Reply.TheVariants as says
+use Rattle.joint_machine.specs.Linked.{Linkage, opening_linkage, MayCome}
+use Rattle.joint_machine.specs.Replaying.{AllMayCome, replayed}
+use Rattle.joint_machine.specs.LinkedHistories.{IsLinkedBy}
+use Rattle.joint_machine.specs.Told.{nothing, snap_of, Noted}
+use Rattle.computed_histories.specs.Readings.{finished_of}
 use Rattle.worked_histories.specs.Notes.{note, var, object_no, peer_no, handle_no, cycle_no, span}
 
 -- an object with a handle, made on line 5
@@ -34,8 +36,8 @@ disposed_halfway =
     ∷ note 2 (M 1) 6 (op.Give (var 0)) (says.H (handle_no 1)) None nothing
     ∷ []
 
--- what may come, and what may not: a line before the last one of its thread, or past 32 bits; an event that its caller doesn't have; an answer that isn't the
--- one; a release that nothing came before
+-- what may come, and what may not: a line before the last one of its thread, or past 32 bits; an event that its caller
+-- doesn't have; an answer that isn't the one; a release that nothing came before
 pub record AreRefused : Type 0 where
   pub lawful : AllMayCome opening_linkage made_on_five
   pub comes : MayCome once_made (drops_on 5)

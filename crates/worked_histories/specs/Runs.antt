@@ -1,5 +1,5 @@
--- The worked histories as runs of the joint machine: each entry that is a step leads from the joint state of both sides'
--- replays to the next one.
+-- The worked histories as runs of the joint machine: each entry that is a step leads from the joint state of both
+-- sides' replays to the next one.
 use Rattle.std.specs.Prelude.{[], ◌∷◌}
 use Rattle.worked_histories.specs.CrossHeap.{cross_heap_cycle}
 use Rattle.worked_histories.specs.Deletion.{deletion}

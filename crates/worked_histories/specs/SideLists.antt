@@ -1,15 +1,16 @@
--- The lists of both sides in a worked history: each side's entries are a lawful list of their own, by that side's rules alone, and
--- the state after it is as the history has it.
+-- The lists of both sides in a worked history: each side's entries are a lawful list of their own, by that side's rules
+-- alone, and the state after it is as the history has it.
 use Rattle.std.specs.Prelude.{◌≡◌, ℕ, if◌then◌else◌, List, [], ◌∷◌, map, Some, None}
-use Rattle.joint_model.specs.declared.names.Thread.TheVariants.{M}
-use Rattle.joint_model.specs.declared.names.Kind.TheVariants as kind
-use Rattle.joint_model.specs.declared.events.Op.TheVariants as op
-use Rattle.joint_model.specs.declared.events.Reply.TheVariants as says
-use Rattle.joint_model.specs.Lines.{is_peer_event, is_pinned}
-use Rattle.joint_model.specs.ManagedReplay.{ManagedReplay, opening_replay}
-use Rattle.joint_model.specs.PeerReplay.{PeerReplay, opening_peer_replay}
-use Rattle.joint_model.specs.Sides.{SideRules, managed_rules, peer_rules, AreTaken, LeadsTo, IsReplayed}
-use Rattle.joint_model.specs.Told.{Noted, nothing, kept_pins, no_pins}
+use Rattle.joint_machine.specs.declared.names.Thread.TheVariants.{M}
+use Rattle.joint_machine.specs.declared.names.Kind.TheVariants as kind
+use Rattle.joint_machine.specs.declared.events.Op.TheVariants as op
+use Rattle.joint_machine.specs.declared.events.Reply.TheVariants as says
+use Rattle.joint_machine.specs.Lines.{is_peer_event}
+use Rattle.joint_machine.specs.PinsTold.{is_pinned, no_pins}
+use Rattle.joint_machine.specs.ManagedReplay.{ManagedReplay, opening_replay}
+use Rattle.joint_machine.specs.PeerReplay.{PeerReplay, opening_peer_replay}
+use Rattle.joint_machine.specs.Sides.{SideRules, managed_rules, peer_rules, AreTaken, LeadsTo, IsReplayed}
+use Rattle.joint_machine.specs.Told.{Noted, nothing, kept_pins}
 use Rattle.worked_histories.specs.Notes.{note, var, object_no, peer_no, handle_no}
 use Rattle.worked_histories.specs.OneObject.{one_object}
 
@@ -52,9 +53,10 @@ adopted_twice =
     ∷ note 2 (M 1) 2 (op.Adopt (var 1) kind.Bridge 0 (peer_no 1) (handle_no 1)) (says.M (object_no 2)) (Some 0) nothing
     ∷ []
 
--- each side of the history is the replay of its entries. At the end each has freed its one object and the managed side has queued
--- its notice; no cycle is open, the registry is empty, and the handle is gone. The one managed thread is all that a managed side needs,
--- and one that was made for no thread doesn't take it; a peer side without threads takes all. And no lawful managed list adopts a handle twice.
+-- each side of the history is the replay of its entries. At the end each has freed its one object and the managed side
+-- has queued its notice; no cycle is open, the registry is empty, and the handle is gone. The one managed thread is all
+-- that a managed side needs, and one that was made for no thread doesn't take it; a peer side without threads takes
+-- all. And no lawful managed list adopts a handle twice.
 pub record OneObjectSidesHold : Type 0 where
   pub managed : IsReplayedBy managed_rules (managed_notes one_object)
   pub peer : IsReplayedBy peer_rules (peer_notes one_object)

@@ -1,16 +1,17 @@
--- Runs that aren't sound, and one that isn't complete, each for one reason alone: what refuses it is the conjunct that its law names. No machine has these runs;
--- they stand here so that a definition which lost one of its conjuncts, or spoke of some objects only, is found.
+-- Runs that aren't sound, and one that isn't complete, each for one reason alone: what refuses it is the conjunct that
+-- its law names. No machine has these runs; they stand here so that a definition which lost one of its conjuncts, or
+-- spoke of some objects only, is found.
 use Rattle.std.specs.Prelude.{ℕ, List, [], ◌∷◌, Option, Some, None}
-use Rattle.joint_model.specs.declared.names.Thread.TheVariants.{C}
-use Rattle.joint_model.specs.declared.events.Op.TheVariants as op
-use Rattle.joint_model.specs.declared.events.Reply.TheVariants as says
-use Rattle.joint_model.specs.Headline.{IsSoundRun, IsCompleteRun}
-use Rattle.joint_model.specs.Heaps.{Heap}
-use Rattle.joint_model.specs.Joint.{Joint}
-use Rattle.joint_model.specs.Managed.{OpenCycle, opening_managed}
-use Rattle.joint_model.specs.Peers.{opening_peers}
-use Rattle.joint_model.specs.Run.{Moment}
-use Rattle.joint_model.specs.Told.{nothing, snap_of, sweep_of, resolution_of, Noted, said_cleared}
+use Rattle.joint_machine.specs.declared.names.Thread.TheVariants.{C}
+use Rattle.joint_machine.specs.declared.events.Op.TheVariants as op
+use Rattle.joint_machine.specs.declared.events.Reply.TheVariants as says
+use Rattle.joint_machine.specs.Headline.{IsSoundRun, IsCompleteRun}
+use Rattle.joint_machine.specs.Heaps.{Heap}
+use Rattle.joint_machine.specs.Joint.{Joint}
+use Rattle.joint_machine.specs.Managed.{OpenCycle, opening_managed}
+use Rattle.joint_machine.specs.Peers.{opening_peers}
+use Rattle.joint_machine.specs.Run.{Moment}
+use Rattle.joint_machine.specs.Told.{nothing, snap_of, sweep_of, resolution_of, Noted, said_cleared}
 use Rattle.worked_histories.specs.Notes.{note, cycle_no, marking_no, span}
 
 -- a heap of two objects without fields; a variable names the given one, or none
@@ -48,8 +49,8 @@ peer_named = state_of None (Some 2) None
 abbrev pub moment_of : Joint → Noted → Joint → Moment
 moment_of before n after = record { before = before; noted = n; after = after }
 
--- the events of cycle 1: a snapshot that takes object 2 as its candidate, or none, or frees it; the own marking, whose sweep frees peer 2 or none; a resolution
--- that frees object 2 or none
+-- the events of cycle 1: a snapshot that takes object 2 as its candidate, or none, or frees it; the own marking, whose
+-- sweep frees peer 2 or none; a resolution that frees object 2 or none
 abbrev pub snaps_two : Noted
 snaps_two = note 0 C 1 (op.Snap (cycle_no 1)) (says.Snapped 1 (span 0 0)) None (snap_of [] (2 ∷ []) (2 ∷ []))
 

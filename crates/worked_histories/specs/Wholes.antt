@@ -1,8 +1,8 @@
--- Finished histories that are linked by their notes: nothing is left half done, and the lists that spans name are what was
--- freed and queued.
+-- Finished histories that are linked by their notes: nothing is left half done, and the lists that spans name are what
+-- was freed and queued.
 use Rattle.std.specs.Prelude.{[], ◌∷◌, map}
-use Rattle.joint_model.specs.Histories.{Finished}
-use Rattle.joint_model.specs.LinkedHistories.{IsLinkedBy, HasQueued}
+use Rattle.joint_machine.specs.Histories.{Finished}
+use Rattle.joint_machine.specs.LinkedHistories.{IsLinkedBy, HasQueued}
 use Rattle.worked_histories.specs.CrossHeap.{cross_heap_cycle}
 use Rattle.worked_histories.specs.Notes.{object_no, peer_no}
 use Rattle.worked_histories.specs.Phases.{two_phased}
@@ -16,7 +16,8 @@ cross_heap_finished = record {
   notices = object_no 1 ∷ object_no 2 ∷ [];
 }
 
--- the history of the two linked objects, in which nobody takes notices: its list may leave out those that are only queued
+-- the history of the two linked objects, in which nobody takes notices: its list may leave out those that are only
+-- queued
 abbrev pub two_phased_finished : Finished
 two_phased_finished = record {
   entries = map (λ n. n.entry) two_phased;

@@ -1,6 +1,7 @@
 // Whole histories with cycles of eight phases, and the replies that may not stand in them.
 
-ghost use Rattle.joint_model.specs.Linked.{AllMayCome, opening_linkage};
+ghost use Rattle.joint_machine.specs.Linked.{opening_linkage};
+ghost use Rattle.joint_machine.specs.Replaying.{AllMayCome};
 ghost use Rattle.worked_histories.specs.CrossHeap.{cross_heap_cycle};
 ghost use Rattle.worked_histories.specs.Deletion.{deletion, KeepsDeleted};
 ghost use Rattle.worked_histories.specs.Phases.{two_phased, SetsField, KeepsReached, MirrorsBoth, ResolvesBoth};

@@ -1,9 +1,11 @@
-// Worked histories: the definitions of `joint_model`, computed on histories and graphs whose outcome is known beforehand.
+// Worked histories: the definitions of `joint_model`, computed on histories and graphs whose outcome is known
+// beforehand.
 //
-// Each function is a law about those definitions: its body is empty, and its contract is a statement of `specs/`. A law that
-// could not be proved would show a mistake in a definition, so they are checked before anything stands on them.
+// Each function is a law about those definitions: its body is empty, and its contract is a statement of `specs/`. A law
+// that could not be proved would show a mistake in a definition, so they are checked before anything stands on them.
 //
-// No value is made and nothing runs. What is promised is the outcome of each example: lawful, or broken at the entry that breaks a rule.
+// No value is made and nothing runs. What is promised is the outcome of each example: lawful, or broken at the entry
+// that breaks a rule.
 #![tactic(auto)]
 
 mod broken;

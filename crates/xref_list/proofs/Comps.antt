@@ -9,9 +9,9 @@ use Rattle.std.proofs.lemmas.List.Quantifiers.{all_pairs_push}
 use Rattle.std.proofs.lemmas.Option.{slice_get-get_or}
 use Rattle.std.specs.List.{All}
 use Rattle.std.specs.Prelude.{flat_map, slice_get}
-use Rattle.joint_model.specs.Components.{Rises, first_at, first_of, circle, circle_from, between_nodes, end_at, mirror_edges, PairsRise}
-use Rattle.joint_model.specs.Components as exact
-use Rattle.joint_model.proofs.Members.{Rises-push}
+use Rattle.joint_machine.specs.Components.{Rises, first_at, first_of, circle, circle_from, between_nodes, end_at, mirror_edges, PairsRise}
+use Rattle.joint_machine.specs.Components as exact
+use Rattle.joint_machine.proofs.Members.{Rises-push}
 use Rattle.bridge_graph.specs.Packing.{packed_row, packed_rows}
 use Rattle.bridge_graph.proofs.Packs.{packed_rows-more, cut-more}
 use Rattle.xref_list.specs.declared.pairs.Added.{Added}

@@ -1,7 +1,7 @@
 -- The ends of mirror edges as they are answered. The definition numbers temporaries from 0 among the components without
 -- members; an answered one has its component's index.
 use Rattle.std.specs.Prelude.{ℕ, ◌+◌}
-use Rattle.joint_model.specs.Components as exact
+use Rattle.joint_machine.specs.Components as exact
 use Rattle.xref_list.specs.declared.components.End.{End}
 use Rattle.xref_list.specs.declared.components.End.TheVariants.{Node, Temp}
 

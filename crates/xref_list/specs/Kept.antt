@@ -1,6 +1,6 @@
 -- What the flat lists of components keep, while they are being built and afterwards.
 use Rattle.std.specs.Prelude.{◌≡◌, ℕ, ◌+◌, ◌≤◌, Bool, true, List, length, All, flat_map}
-use Rattle.joint_model.specs.Components.{circle, PairsRise}
+use Rattle.joint_machine.specs.Components.{circle, PairsRise}
 use Rattle.bridge_graph.specs.Packing.{packed_rows, IsCut}
 use Rattle.xref_list.specs.Listing.{AreComponents, IsBetween, IsListing}
 

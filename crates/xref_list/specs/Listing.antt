@@ -1,8 +1,9 @@
 -- Components of bridge nodes and their cross-references, as lists.
 use Rattle.std.specs.Prelude.{◌≢◌, ℕ, ◌+◌, ◌<◌, ◌≤◌, List, length, map, All, AllPairs, Contains}
-use Rattle.joint_model.specs.Components.{IsCanonical, Rises, first_of}
+use Rattle.joint_machine.specs.Components.{IsCanonical, Rises, first_of}
 
--- the members of each component, how many components without members come behind them, and the pairs of component indexes
+-- the members of each component, how many components without members come behind them, and the pairs of component
+-- indexes
 pub record Listing : Type 0 where
   pub comps : List (List ℕ)
   pub heavy : ℕ

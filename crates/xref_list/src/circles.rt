@@ -1,7 +1,7 @@
 // The circle of a component.
 
 ghost use Rattle.std.specs.Prelude.{◌≡◌, ◌+◌, ◌<◌, ◌≤◌, ◌++◌, length, vec_len, vec_capacity};
-ghost use Rattle.joint_model.specs.Components.{circle};
+ghost use Rattle.joint_machine.specs.Components.{circle};
 
 /// Appends the circle of a component: an edge from each member to the next, and from the last to the
 /// first; none where there is only one member. There is room for an edge a member.

@@ -1,7 +1,7 @@
 // Components and cross-references, while they are being listed and afterwards.
 
 ghost use Rattle.std.specs.Prelude.{◌≡◌, ◌≢◌, ℕ, ◌<◌, ◌≤◌, [], ◌∷◌, ◌++◌, length, map, Contains, All, IfOk, OnOk, OnErr, slice_get, Some, IsPermutation, ◌+◌, vec_len, vec_capacity};
-ghost use Rattle.joint_model.specs.Components.{Rises, first_of, first_at, end_at, mirror_edges};
+ghost use Rattle.joint_machine.specs.Components.{Rises, first_of, first_at, end_at, mirror_edges};
 ghost use Rattle.xref_list.specs.Adding.{AddsPair};
 ghost use Rattle.xref_list.specs.Ends.{end_of, ends_of};
 ghost use Rattle.xref_list.specs.Listing.{AreDisjoint, AreComponents, IsListing};
@@ -13,7 +13,8 @@ use bridge_graph::packed_row;
 use std::alloc::{AllocError, Global};
 use std::marker::Model;
 
-// The most members of all components and pairs together: so the mirror edges, of which a member and a pair have one each at most, can be counted.
+// The most members of all components and pairs together: so the mirror edges, of which a member and a pair have one
+// each at most, can be counted.
 const MOST: usize = 4_294_967_295;
 
 /// An end of a mirror edge: a node, or the temporary of the component with that index, which has no members.
@@ -66,8 +67,8 @@ impl ComponentsBuilder {
         }
     }
 
-    /// Makes room for so many components, which have so many members in all. Answers `AllocError` where there is no memory; the components and
-    /// pairs are as before in any case.
+    /// Makes room for so many components, which have so many members in all. Answers `AllocError` where there is no
+    /// memory; the components and pairs are as before in any case.
     pub fn reserve(&mut self, comps: u32, members: u32) -> Result<(), AllocError>
         ensures comps { self.new.comps ≡ self.old.comps }
         ensures heavy { self.new.heavy ≡ self.old.heavy }
@@ -330,7 +331,8 @@ impl Components {
     }
 }
 
-// Takes room for so many components with so many members in all. Answers `AllocError` where there is no memory. The lists hold what they held.
+// Takes room for so many components with so many members in all. Answers `AllocError` where there is no memory. The
+// lists hold what they held.
 #[inline(always)]
 fn take_room(
     starts: &mut Vec<u32>,
@@ -347,7 +349,8 @@ fn take_room(
     members.reserve(more)
 }
 
-// Puts the members of a component last, for which there is room. Most components have one member, so it is a loop, and no copy.
+// Puts the members of a component last, for which there is room. Most components have one member, so it is a loop, and
+// no copy.
 fn append(objs: &[u32], members: &mut Vec<u32>)
     requires { vec_len members.old + length objs.now ≤ vec_capacity members.old }
     ensures { members.new.items ≡ members.old.items ++ objs.now }

@@ -9,8 +9,9 @@ use std::alloc::{AllocError, AllocFailed};
 pub enum ListingFault {
     /// There is no memory.
     Memory,
-    /// There is too much of something that is numbered in 32 bits: the members of all components are more than 4,294,967,295
-    /// together with the cross-references; or what an analysis has found so far, which says itself what it numbers.
+    /// There is too much of something that is numbered in 32 bits: the members of all components are more than
+    /// 4,294,967,295 together with the cross-references; or what an analysis has found so far, which says itself what
+    /// it numbers.
     TooMany,
 }
 

@@ -4,7 +4,7 @@ ghost use Rattle.std.specs.Prelude.{◌≡◌, ◌≢◌, ℕ, ◌+◌, ◌<◌,
 ghost use Rattle.std.specs.HashSet as bag;
 ghost use Rattle.xref_list.specs.Adding.{AddsPair};
 ghost use Rattle.xref_list.specs.Known.{ArePairsKnown};
-ghost use Rattle.joint_model.specs.Components.{Rises, PairsRise};
+ghost use Rattle.joint_machine.specs.Components.{Rises, PairsRise};
 
 use std::alloc::{AllocError, Global};
 use std::collections::HashSet;

@@ -1,7 +1,7 @@
 -- One more notice stands last in each turn.
 use Rattle.std.proofs.Common.{◌≡◌, ◌+◌, ◌++◌, ◌∷◌, [], take, get_or, refl, ap, ◌∙◌, arith, length, length-append}
 use Rattle.std.proofs.lemmas.List.{take_all, take_more}
-use Rattle.joint_model.specs.declared.names.MNum.{MNum}
+use Rattle.joint_machine.specs.declared.names.MNum.{MNum}
 use Rattle.finaliser_queue.proofs.copied.Goals as goal
 
 pub loop-m-init : goal.loop-m-init

@@ -3,7 +3,7 @@ use Rattle.std.proofs.lemmas.Option.{slice_get_read}
 use Rattle.global_handles.specs.Slots.{head_in}
 use Rattle.global_handles.proofs.Chains.{IsChained-emptied, IsChained-without, head-within, length-with_next, length-with_row, length-without_slots, links-within, opens-own, rows_of-without_slots}
 use Rattle.global_handles.proofs.remove_row.Goals as goal
-use Rattle.joint_model.proofs.Deciding.{neq-eqb}
+use Rattle.joint_machine.proofs.Deciding.{neq-eqb}
 
 pub returns-then-not-is_open-clause-chained : goal.returns-then-not-is_open-clause-chained
 returns-then-not-is_open-clause-chained c =

@@ -4,7 +4,7 @@ use Rattle.std.proofs.lemmas.List.{take_all}
 use Rattle.reachability.proofs.Marking.{Scans-push_some, Scans-push_none}
 use Rattle.reachability.proofs.scan.Goals as goal
 use Rattle.reachability.proofs.scan.Goals.{in-Some, in_default}
-use Rattle.joint_model.proofs.Members.{take-next}
+use Rattle.joint_machine.proofs.Members.{take-next}
 
 pub loop-i-preserved : goal.loop-i-preserved
 loop-i-preserved g c =

@@ -1,6 +1,6 @@
 -- Each phase is run where it is due, and the gap behind it comes then: how many gaps came tells which.
 use Rattle.std.proofs.Common.{rules, ◌∙◌}
-use Rattle.joint_model.proofs.Deciding.{true_false}
+use Rattle.joint_machine.proofs.Deciding.{true_false}
 use Rattle.bridge_cycle.proofs.Gapped.{cycle_ends, gap_due, gaps_stop, mid_none}
 use Rattle.bridge_cycle.proofs.gaps.run_gap.Goals as goal
 

@@ -1,7 +1,7 @@
 use Rattle.std.proofs.Common.{inl, inr, subst, arith}
 use Rattle.std.specs.Io.KnownBytes.{Appends}
-use Rattle.byte_streams.specs.Streams.{AppendsPart}
-use Rattle.log_text.specs.Faults.{IsLogRefusal}
+use Rattle.byte_streams.specs.Faults.{AppendsPart}
+use Rattle.log_text.specs.Taking.{IsLogRefusal}
 use Rattle.bridge_run.proofs.Leaking.{puts_left, puts_wrong}
 use Rattle.bridge_run.proofs.leaks.judge.Goals as goal
 

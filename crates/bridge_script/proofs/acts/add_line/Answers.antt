@@ -1,6 +1,6 @@
 use Rattle.std.proofs.Common.{◌++◌, sym, ◌∙◌, ap, arith, append_assoc}
 use Rattle.bridge_script.specs.Words.{thread_text, act_words}
-use Rattle.byte_streams.specs.Drafts.{after_spaces}
+use Rattle.byte_streams.specs.Spaced.{after_spaces}
 use Rattle.bridge_script.proofs.Printed.{spaced_after}
 use Rattle.bridge_script.proofs.acts.add_line.Goals as goal
 

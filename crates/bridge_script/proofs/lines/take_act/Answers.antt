@@ -1,4 +1,4 @@
-use Rattle.joint_model.proofs.Deciding.{some-same}
+use Rattle.joint_machine.proofs.Deciding.{some-same}
 use Rattle.bridge_script.proofs.Taking.{lines_all, lines_only, no_row, row_of}
 use Rattle.bridge_script.proofs.lines.take_act.Goals as goal
 

@@ -1,4 +1,4 @@
-use Rattle.joint_model.proofs.Members.{Contains-at}
+use Rattle.joint_machine.proofs.Members.{Contains-at}
 use Rattle.bridge_graph.specs.Parts.{numbers_of}
 use Rattle.compare_pass.proofs.Tabled.{number-at}
 use Rattle.compare_pass.proofs.classes.label_of.Goals as goal

@@ -1,6 +1,6 @@
 use Rattle.std.proofs.Common.{◌∙◌}
 use Rattle.std.proofs.lemmas.Result.{on_ok_weaker}
-use Rattle.joint_model.proofs.Members.{Contains-at}
+use Rattle.joint_machine.proofs.Members.{Contains-at}
 use Rattle.bridge_graph.specs.Parts.{numbers_of}
 use Rattle.compare_pass.proofs.Tabled.{number-at}
 use Rattle.compare_pass.proofs.classes.put_label.Goals as goal

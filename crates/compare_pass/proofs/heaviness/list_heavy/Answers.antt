@@ -1,7 +1,7 @@
 -- A class is listed at its least node.
 use Rattle.std.proofs.Common.{◌≡◌, ◌+◌, ◌<◌, ◌++◌, ◌∷◌, [], ℕ, length, refl, sym, ◌∙◌, ap, arith, append-nil, append_assoc}
 use Rattle.std.proofs.lemmas.List.{length_push, length-append, length-map}
-use Rattle.joint_model.specs.Components.{first_of}
+use Rattle.joint_machine.specs.Components.{first_of}
 use Rattle.bridge_graph.specs.Parts.{IsBridgeNode, NodeLeads}
 use Rattle.compare_pass.proofs.HeavyList.{heavy-none, heavy-skip, heavy-more}
 use Rattle.compare_pass.proofs.Numbering.{numbered-room}

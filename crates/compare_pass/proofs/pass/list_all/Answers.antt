@@ -3,7 +3,7 @@ use Rattle.std.proofs.Common.{◌≡◌, length, sym, ◌∙◌, ap, arith}
 use Rattle.std.proofs.lemmas.List.{length-append, length-map}
 use Rattle.std.proofs.lemmas.Result.{on_ok_weaker}
 use Rattle.bridge_graph.specs.Parts.{IsBridgeNode, NodeLeads}
-use Rattle.joint_model.specs.Components.{first_of}
+use Rattle.joint_machine.specs.Components.{first_of}
 use Rattle.compare_pass.proofs.Components.{listed-few}
 use Rattle.compare_pass.proofs.Contracted.{heavy-below}
 use Rattle.compare_pass.proofs.Heavies.{counts-in, counts-out, many-heavy, plain-index}

@@ -4,7 +4,7 @@ use Rattle.std.proofs.lemmas.List.{length_push, length-map, map_push, take_more,
 use Rattle.std.proofs.lemmas.Option.{get_or_from_slice_get, slice_get_within}
 use Rattle.std.proofs.lemmas.Bool.{cases_lt}
 use Rattle.std.specs.List.{All, Contains}
-use Rattle.joint_model.specs.Components.{Rises}
+use Rattle.joint_machine.specs.Components.{Rises}
 use Rattle.bridge_graph.specs.declared.graph.Node.{Node}
 use Rattle.bridge_graph.specs.Parts.{NodeLeads, numbers_of}
 use Rattle.compare_pass.specs.Turned.{AreTurnedNodes}

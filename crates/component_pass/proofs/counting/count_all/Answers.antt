@@ -1,5 +1,5 @@
--- One class more: its set has only what leaves it, and all of it where it is small or something was left to be read; what has an
--- index keeps that set and hands on itself.
+-- One class more: its set has only what leaves it, and all of it where it is small or something was left to be read;
+-- what has an index keeps that set and hands on itself.
 use Rattle.component_pass.specs.Counting.{cap}
 use Rattle.std.proofs.Common.{◌≡◌, ◌⊎◌, ℕ, ◌+◌, ◌<◌, ◌≤◌, List, [], ◌∷◌, length, min, get_or, sym, subst, ◌∙◌, arith, inl, inr}
 use Rattle.std.proofs.lemmas.List.{length-set}

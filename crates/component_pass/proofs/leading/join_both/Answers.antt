@@ -1,7 +1,7 @@
 -- The components of two sets.
 use Rattle.std.proofs.Common.{◌↔◌, ◌⊎◌, ◌∷◌, [], ℕ, List, sym, subst, inl, inr}
 use Rattle.std.specs.List.{Contains}
-use Rattle.joint_model.proofs.Members.{Contains-cons_cases, Contains-here, Contains-there, Contains-nil}
+use Rattle.joint_machine.proofs.Members.{Contains-cons_cases, Contains-here, Contains-there, Contains-nil}
 use Rattle.component_pass.specs.Gathering.{set_at}
 use Rattle.component_pass.proofs.Sets.{set-last}
 use Rattle.component_pass.proofs.leading.join_both.Goals as goal

@@ -3,7 +3,7 @@ use Rattle.std.proofs.Common.{◌≡◌, ◌↔◌, ◌<◌, ◌++◌, ◌∷◌
 use Rattle.std.proofs.lemmas.List.Elements.{All-contains}
 use Rattle.std.proofs.lemmas.Result.{on_ok_weaker}
 use Rattle.std.specs.List.{All, Contains}
-use Rattle.joint_model.specs.Components.{Rises}
+use Rattle.joint_machine.specs.Components.{Rises}
 use Rattle.component_pass.specs.Gathering.{set_at}
 use Rattle.component_pass.specs.Grouping.{AddsOne}
 use Rattle.component_pass.proofs.Rows.{same-some, same-apart, same-after}

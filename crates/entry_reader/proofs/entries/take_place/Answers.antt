@@ -1,5 +1,5 @@
 use Rattle.std.proofs.Common.{ℕ}
-use Rattle.joint_model.specs.declared.names.Thread.{Thread}
+use Rattle.joint_machine.specs.declared.names.Thread.{Thread}
 use Rattle.history_report.specs.Report.{place_text}
 use Rattle.entry_reader.proofs.WholeLines.{IsPlace, place_taken}
 use Rattle.entry_reader.proofs.Parts.{no_word}

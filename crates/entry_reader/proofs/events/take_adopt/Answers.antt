@@ -1,9 +1,9 @@
 use Rattle.std.proofs.Common.{Some, ◌≤◌, ◌∷◌, ◌∙◌, ap, decimal}
-use Rattle.joint_model.specs.Lines.{IsVar}
-use Rattle.joint_model.specs.declared.names.HNum.{HNum}
-use Rattle.joint_model.specs.declared.names.Kind.{Kind}
-use Rattle.joint_model.specs.declared.names.PNum.{PNum}
-use Rattle.joint_model.specs.declared.events.Op.TheVariants as op
+use Rattle.joint_machine.specs.Lines.{IsVar}
+use Rattle.joint_machine.specs.declared.names.HNum.{HNum}
+use Rattle.joint_machine.specs.declared.names.Kind.{Kind}
+use Rattle.joint_machine.specs.declared.names.PNum.{PNum}
+use Rattle.joint_machine.specs.declared.events.Op.TheVariants as op
 use Rattle.bridge_script.specs.Words.{kind_text, var_text}
 use Rattle.history_report.specs.Report.{peer_text}
 use Rattle.entry_reader.specs.Fitting.{Short}

@@ -1,5 +1,5 @@
 use Rattle.std.proofs.Common.{decimal, None, Some}
-use Rattle.joint_model.specs.declared.names.Cycle.{Cycle}
+use Rattle.joint_machine.specs.declared.names.Cycle.{Cycle}
 use Rattle.entry_reader.specs.Fitting.{Short}
 use Rattle.entry_reader.proofs.Parts.{no_word, one_word}
 use Rattle.entry_reader.proofs.events.take_cycle.Goals as goal

@@ -1,6 +1,6 @@
 use Rattle.std.proofs.Common.{Some, ◌<◌}
-use Rattle.joint_model.specs.declared.names.StaticNo.{StaticNo}
-use Rattle.joint_model.specs.declared.events.Op.TheVariants as op
+use Rattle.joint_machine.specs.declared.names.StaticNo.{StaticNo}
+use Rattle.joint_machine.specs.declared.events.Op.TheVariants as op
 use Rattle.entry_reader.specs.declared.events.EventWord.TheVariants as word
 use Rattle.entry_reader.specs.Events.{IsEventOf, others}
 use Rattle.entry_reader.proofs.Parts.{goes_all, goes_on, goes_whole, goes_wrong}

@@ -1,4 +1,4 @@
-use Rattle.joint_model.specs.declared.names.HNum.{HNum}
+use Rattle.joint_machine.specs.declared.names.HNum.{HNum}
 use Rattle.history_report.specs.Report.{handle_text}
 use Rattle.entry_reader.specs.Fitting.{Short}
 use Rattle.entry_reader.proofs.Parts.{no_word, one_word}

@@ -1,7 +1,7 @@
 use Rattle.std.proofs.Common.{Some, ◌<◌, ◌∷◌, ◌∙◌, ap}
-use Rattle.joint_model.specs.declared.names.HNum.{HNum}
-use Rattle.joint_model.specs.declared.names.StaticNo.{StaticNo}
-use Rattle.joint_model.specs.declared.events.Op.TheVariants as op
+use Rattle.joint_machine.specs.declared.names.HNum.{HNum}
+use Rattle.joint_machine.specs.declared.names.StaticNo.{StaticNo}
+use Rattle.joint_machine.specs.declared.events.Op.TheVariants as op
 use Rattle.history_report.specs.Report.{handle_text}
 use Rattle.entry_reader.specs.Fitting.{Short}
 use Rattle.entry_reader.specs.declared.events.EventWord.TheVariants as word

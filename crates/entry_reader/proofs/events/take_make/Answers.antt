@@ -1,6 +1,6 @@
 use Rattle.std.proofs.Common.{Some, ◌≤◌, ◌∷◌, ◌∙◌, ap}
-use Rattle.joint_model.specs.declared.names.Sort.{Sort}
-use Rattle.joint_model.specs.declared.events.Op.TheVariants as op
+use Rattle.joint_machine.specs.declared.names.Sort.{Sort}
+use Rattle.joint_machine.specs.declared.events.Op.TheVariants as op
 use Rattle.bridge_script.specs.Words.{sort_text}
 use Rattle.entry_reader.specs.declared.events.EventWord.TheVariants as word
 use Rattle.entry_reader.specs.Events.{IsEventOf, others}

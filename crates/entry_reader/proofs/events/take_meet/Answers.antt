@@ -1,9 +1,9 @@
 use Rattle.std.proofs.Common.{Some, ◌≤◌, ◌∷◌, ◌∙◌, ap}
-use Rattle.joint_model.specs.Lines.{IsVar}
-use Rattle.joint_model.specs.declared.names.HNum.{HNum}
-use Rattle.joint_model.specs.declared.names.PNum.{PNum}
-use Rattle.joint_model.specs.declared.names.Sort.{Sort}
-use Rattle.joint_model.specs.declared.events.Op.TheVariants as op
+use Rattle.joint_machine.specs.Lines.{IsVar}
+use Rattle.joint_machine.specs.declared.names.HNum.{HNum}
+use Rattle.joint_machine.specs.declared.names.PNum.{PNum}
+use Rattle.joint_machine.specs.declared.names.Sort.{Sort}
+use Rattle.joint_machine.specs.declared.events.Op.TheVariants as op
 use Rattle.bridge_script.specs.Words.{sort_text, var_text}
 use Rattle.history_report.specs.Report.{handle_text, peer_text}
 use Rattle.entry_reader.specs.Fitting.{Short}

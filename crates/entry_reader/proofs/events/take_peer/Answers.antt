@@ -1,4 +1,4 @@
-use Rattle.joint_model.specs.declared.names.PNum.{PNum}
+use Rattle.joint_machine.specs.declared.names.PNum.{PNum}
 use Rattle.history_report.specs.Report.{peer_text}
 use Rattle.entry_reader.specs.Fitting.{Short}
 use Rattle.entry_reader.proofs.Parts.{no_word, one_word}

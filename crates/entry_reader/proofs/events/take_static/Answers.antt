@@ -1,5 +1,5 @@
 use Rattle.std.proofs.Common.{◌<◌}
-use Rattle.joint_model.specs.declared.names.StaticNo.{StaticNo}
+use Rattle.joint_machine.specs.declared.names.StaticNo.{StaticNo}
 use Rattle.bridge_script.specs.Words.{peer_static}
 use Rattle.entry_reader.proofs.Parts.{no_word, one_word}
 use Rattle.entry_reader.proofs.events.take_static.Goals as goal

@@ -1,4 +1,4 @@
-use Rattle.joint_model.specs.Lines.{IsVar}
+use Rattle.joint_machine.specs.Lines.{IsVar}
 use Rattle.bridge_script.specs.Words.{var_text}
 use Rattle.entry_reader.proofs.Parts.{no_word, one_word}
 use Rattle.entry_reader.proofs.events.take_var.Goals as goal

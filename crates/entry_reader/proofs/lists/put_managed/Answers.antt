@@ -1,5 +1,5 @@
 use Rattle.std.proofs.Common.{arith, ap, length, refl}
-use Rattle.joint_model.specs.declared.names.MNum.{MNum}
+use Rattle.joint_machine.specs.declared.names.MNum.{MNum}
 use Rattle.entry_reader.specs.Meaning.{as_managed}
 use Rattle.entry_reader.proofs.NumberParts.{put_all, put_more, put_none, managed_push}
 use Rattle.entry_reader.proofs.lists.put_managed.Goals as goal

@@ -1,5 +1,5 @@
 use Rattle.std.proofs.Common.{arith, ap, length, refl, true}
-use Rattle.joint_model.specs.declared.names.PNum.{PNum}
+use Rattle.joint_machine.specs.declared.names.PNum.{PNum}
 use Rattle.entry_reader.specs.Meaning.{as_peers}
 use Rattle.entry_reader.proofs.NumberParts.{put_all, put_more, put_none, peers_push}
 use Rattle.entry_reader.proofs.lists.put_peers.Goals as goal

@@ -1,5 +1,5 @@
 use Rattle.std.proofs.Common.{◌≡◌, [], ◌∷◌, codes, decimal, refl, ap, sym, ◌∙◌, arith}
-use Rattle.joint_model.specs.declared.events.Reply.TheVariants as reply
+use Rattle.joint_machine.specs.declared.events.Reply.TheVariants as reply
 use Rattle.entry_reader.specs.Replies.{IsComponents}
 use Rattle.entry_reader.proofs.ReplyParts.{as_words, components_behind, components_empty, components_other, components_short, components_unread, ends_by}
 use Rattle.entry_reader.proofs.replies.components_tail.Goals as goal

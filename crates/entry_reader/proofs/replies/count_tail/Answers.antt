@@ -1,5 +1,5 @@
 use Rattle.std.proofs.Common.{◌≡◌, [], ◌∷◌, ap, sym, ◌∙◌}
-use Rattle.joint_model.specs.declared.events.Reply.TheVariants as reply
+use Rattle.joint_machine.specs.declared.events.Reply.TheVariants as reply
 use Rattle.entry_reader.specs.Replies.{IsCount}
 use Rattle.entry_reader.proofs.ReplyParts.{as_words, ended, count_else, count_empty, count_unread}
 use Rattle.entry_reader.proofs.replies.count_tail.Goals as goal

@@ -1,5 +1,5 @@
 use Rattle.std.proofs.Common.{◌≡◌, [], ◌∷◌, decimal, refl, ap, ◌∙◌, arith}
-use Rattle.joint_model.specs.declared.events.Reply.TheVariants as reply
+use Rattle.joint_machine.specs.declared.events.Reply.TheVariants as reply
 use Rattle.entry_reader.specs.Replies.{IsCounted}
 use Rattle.entry_reader.proofs.ReplyParts.{as_words, counted_else, counted_empty, counted_other, counted_refs, ends_as, ends_by}
 use Rattle.entry_reader.proofs.replies.counted_tail.Goals as goal

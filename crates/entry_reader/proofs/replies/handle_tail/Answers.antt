@@ -1,5 +1,5 @@
 use Rattle.std.proofs.Common.{◌≡◌, [], ◌∷◌, ap, sym, ◌∙◌}
-use Rattle.joint_model.specs.declared.events.Reply.TheVariants as reply
+use Rattle.joint_machine.specs.declared.events.Reply.TheVariants as reply
 use Rattle.entry_reader.specs.Replies.{IsHandle}
 use Rattle.entry_reader.proofs.ReplyParts.{as_words, ends_by, handle_behind, handle_empty, handle_unread}
 use Rattle.entry_reader.proofs.replies.handle_tail.Goals as goal

@@ -1,5 +1,5 @@
 use Rattle.std.proofs.Common.{◌≡◌, [], ◌∷◌, refl, ap, sym, ◌∙◌}
-use Rattle.joint_model.specs.declared.events.Reply.TheVariants as reply
+use Rattle.joint_machine.specs.declared.events.Reply.TheVariants as reply
 use Rattle.bridge_script.specs.Words.{sort_text}
 use Rattle.history_report.specs.Report.{handle_text, peer_text}
 use Rattle.entry_reader.specs.Replies.{IsHeld}

@@ -1,5 +1,5 @@
 use Rattle.std.proofs.Common.{◌≡◌, [], ◌∷◌, refl, ap, ◌∙◌}
-use Rattle.joint_model.specs.declared.events.Reply.TheVariants as reply
+use Rattle.joint_machine.specs.declared.events.Reply.TheVariants as reply
 use Rattle.history_report.specs.Report.{managed_text}
 use Rattle.entry_reader.specs.Replies.{IsNew}
 use Rattle.entry_reader.proofs.ReplyParts.{as_words, ends_by, new_behind, new_empty, new_other, twin_behind}

@@ -1,5 +1,5 @@
 use Rattle.std.proofs.Common.{◌≡◌, [], ◌∷◌, ap, sym, ◌∙◌}
-use Rattle.joint_model.specs.declared.events.Reply.TheVariants as reply
+use Rattle.joint_machine.specs.declared.events.Reply.TheVariants as reply
 use Rattle.entry_reader.specs.Replies.{IsPeer}
 use Rattle.entry_reader.proofs.ReplyParts.{as_words, ended, peer_else, peer_empty, peer_unread}
 use Rattle.entry_reader.proofs.replies.peer_tail.Goals as goal

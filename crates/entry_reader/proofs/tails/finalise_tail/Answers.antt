@@ -1,5 +1,5 @@
 use Rattle.std.proofs.Common.{ℕ, Option}
-use Rattle.joint_model.specs.declared.events.Reply.{Reply}
+use Rattle.joint_machine.specs.declared.events.Reply.{Reply}
 use Rattle.entry_reader.specs.Replies.{TailsMeant, TailsUnnoticed}
 use Rattle.entry_reader.proofs.TailParts.{if_ok, notices_first, notices_else}
 use Rattle.entry_reader.proofs.tails.finalise_tail.Goals as goal

@@ -1,5 +1,5 @@
 use Rattle.std.proofs.Common.{ℕ, Option}
-use Rattle.joint_model.specs.declared.events.Reply.{Reply}
+use Rattle.joint_machine.specs.declared.events.Reply.{Reply}
 use Rattle.entry_reader.specs.Replies.{TailsListed, TailsNumbered}
 use Rattle.entry_reader.proofs.TailParts.{if_ok, freed_first, freed_then}
 use Rattle.entry_reader.proofs.tails.listed_tail.Goals as goal

@@ -1,6 +1,6 @@
 use Rattle.std.proofs.Common.{ℕ, Option}
-use Rattle.joint_model.specs.declared.events.Reply.{Reply}
-use Rattle.entry_reader.specs.Saying.{Tails}
+use Rattle.joint_machine.specs.declared.events.Reply.{Reply}
+use Rattle.entry_reader.specs.Tailing.{Tails}
 use Rattle.entry_reader.specs.Replies.{IsSwept, TailsNumbered}
 use Rattle.entry_reader.proofs.TailParts.{if_ok, snap_first, snap_then}
 use Rattle.entry_reader.proofs.tails.snap_tail.Goals as goal

@@ -1,6 +1,6 @@
 use Rattle.std.proofs.Common.{ℕ, Option}
-use Rattle.joint_model.specs.declared.events.Reply.{Reply}
-use Rattle.entry_reader.specs.Saying.{Tails}
+use Rattle.joint_machine.specs.declared.events.Reply.{Reply}
+use Rattle.entry_reader.specs.Tailing.{Tails}
 use Rattle.entry_reader.specs.Replies.{IsSnapped, TailsNumbered}
 use Rattle.entry_reader.proofs.TailParts.{if_ok, sweep_first, sweep_then}
 use Rattle.entry_reader.proofs.tails.sweep_tail.Goals as goal

@@ -1,9 +1,10 @@
--- The row stands in a slot, to which its name leads: where it isn't cleared that slot keeps the new row, and the last name leads there.
+-- The row stands in a slot, to which its name leads: where it isn't cleared that slot keeps the new row, and the last
+-- name leads there.
 use Rattle.std.proofs.Common.{◌≡◌, ◌+◌, [], ◌∷◌, ◌++◌, Some, true, false, length, refl, sym, ap, ◌∙◌, arith}
 use Rattle.std.proofs.lemmas.List.{length_push}
 use Rattle.std.proofs.lemmas.Option.{none-some, same_Some}
-use Rattle.joint_model.specs.declared.names.HNum.{HNum}
-use Rattle.joint_model.proofs.Deciding.{true_false}
+use Rattle.joint_machine.specs.declared.names.HNum.{HNum}
+use Rattle.joint_machine.proofs.Deciding.{true_false}
 use Rattle.global_handles.specs.declared.Back.{Back}
 use Rattle.global_handles.specs.declared.Back.TheVariants.{Alive, Cleared}
 use Rattle.global_handles.specs.Rows.{row_in, cleared_in, is_alive, renewed}

@@ -1,9 +1,10 @@
 use Rattle.std.proofs.Common.{[], ◌∷◌, ◌++◌, map}
-use Rattle.byte_streams.specs.Drafts.{after_spaces}
+use Rattle.byte_streams.specs.Spaced.{after_spaces}
 use Rattle.byte_streams.proofs.Passing.{passed_on}
 use Rattle.byte_streams.proofs.Written.{Sends-after, Sends-short}
 use Rattle.history_report.specs.Lists.{listed}
-use Rattle.graph_listing.specs.Listing.{head_text, number_in}
+use Rattle.graph_listing.specs.Listing.{head_text}
+use Rattle.graph_listing.specs.Numbers.{number_in}
 use Rattle.graph_listing.proofs.listing.write_component.Goals as goal
 
 pub returns-in_err-write_head : goal.returns-in_err-write_head

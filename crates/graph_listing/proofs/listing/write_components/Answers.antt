@@ -2,7 +2,8 @@ use Rattle.std.proofs.Common.{◌≡◌, ◌+◌, ◌<◌, length, map, take, So
 use Rattle.std.specs.Prelude.{slice_get}
 use Rattle.byte_streams.proofs.Passing.{passed_on}
 use Rattle.byte_streams.proofs.Written.{BuffersText-then, Sends-into}
-use Rattle.graph_listing.specs.Listing.{all_comps, component_text, components_text, listed_of, number_in}
+use Rattle.graph_listing.specs.Listing.{all_comps, component_text, components_text}
+use Rattle.graph_listing.specs.Numbers.{listed_of, number_in}
 use Rattle.graph_listing.proofs.Lines.{components_next, components_split, row_at}
 use Rattle.graph_listing.proofs.listing.write_components.Goals as goal
 

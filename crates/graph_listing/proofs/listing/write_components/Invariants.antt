@@ -1,6 +1,7 @@
 use Rattle.std.proofs.Common.{◌≤◌, take}
 use Rattle.byte_streams.specs.Sending.{BuffersText}
-use Rattle.graph_listing.specs.Listing.{all_comps, components_text, listed_of}
+use Rattle.graph_listing.specs.Listing.{all_comps, components_text}
+use Rattle.graph_listing.specs.Numbers.{listed_of}
 use Rattle.graph_listing.proofs.listing.write_components.Given as goal
 
 abbrev pub invariant-loop-c : goal.invariant-loop-c

@@ -1,7 +1,8 @@
 use Rattle.std.proofs.Common.{◌≡◌, ◌++◌, ◌∙◌, [], refl, arith}
 use Rattle.byte_streams.proofs.Passing.{passed_on}
 use Rattle.byte_streams.proofs.Written.{BuffersText-none, BuffersText-put, BuffersText-then, Sends-after, Sends-short, Writes-flushed, Writes-open}
-use Rattle.graph_listing.specs.Listing.{all_comps, components_text, cycle_text, listed_of, references_text}
+use Rattle.graph_listing.specs.Listing.{all_comps, components_text, cycle_text, references_text}
+use Rattle.graph_listing.specs.Numbers.{listed_of}
 use Rattle.graph_listing.proofs.listing.write_listing.Goals as goal
 
 pub returns-in_err-write_components : goal.returns-in_err-write_components

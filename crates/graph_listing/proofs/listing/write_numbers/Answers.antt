@@ -2,11 +2,11 @@ use Rattle.std.proofs.Common.{◌≡◌, ◌∷◌, ◌∙◌, Some, ap, drop, g
 use Rattle.std.specs.Prelude.{decimal, slice_get}
 use Rattle.std.specs.Option.{option_map}
 use Rattle.std.proofs.lemmas.Option.{slice_get-get_or, slice_get-map}
-use Rattle.byte_streams.specs.Drafts.{after_spaces}
+use Rattle.byte_streams.specs.Spaced.{after_spaces}
 use Rattle.byte_streams.proofs.Passing.{passed_on}
 use Rattle.byte_streams.proofs.Written.{BuffersText-put, BuffersText-room, Sends-no_room}
 use Rattle.history_report.specs.Lists.{lettered}
-use Rattle.graph_listing.specs.Listing.{number_in}
+use Rattle.graph_listing.specs.Numbers.{number_in}
 use Rattle.graph_listing.proofs.Lines.{number_is, numbers_next, numbers_split}
 use Rattle.graph_listing.proofs.listing.write_numbers.Goals as goal
 

@@ -1,8 +1,8 @@
 use Rattle.std.proofs.Common.{◌≤◌, map, take}
 use Rattle.byte_streams.specs.Sending.{BuffersText}
-use Rattle.byte_streams.specs.Drafts.{after_spaces}
+use Rattle.byte_streams.specs.Spaced.{after_spaces}
 use Rattle.history_report.specs.Lists.{lettered}
-use Rattle.graph_listing.specs.Listing.{number_in}
+use Rattle.graph_listing.specs.Numbers.{number_in}
 use Rattle.graph_listing.proofs.listing.write_numbers.Given as goal
 
 abbrev pub invariant-loop-x : goal.invariant-loop-x

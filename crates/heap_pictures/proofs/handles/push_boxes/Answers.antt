@@ -1,5 +1,5 @@
 use Rattle.std.proofs.Common.{[], ◌+◌, arith}
-use Rattle.joint_model.specs.Heaps.{numbered_at}
+use Rattle.joint_machine.specs.Heaps.{numbered_at}
 use Rattle.heap_pictures.specs.Drawing.{box_of, owned}
 use Rattle.heap_pictures.proofs.Ranges.{put_more}
 use Rattle.heap_pictures.proofs.handles.push_boxes.Goals as goal

@@ -1,6 +1,6 @@
 use Rattle.std.proofs.Common.{◌≡◌, [], ◌++◌}
 use Rattle.std.specs.List.{flat_map, range_with_len}
-use Rattle.joint_model.specs.Heaps.{numbered_at, slot}
+use Rattle.joint_machine.specs.Heaps.{numbered_at, slot}
 use Rattle.heap_pictures.specs.Drawing.{box_of, owned}
 use Rattle.heap_pictures.proofs.handles.push_boxes.Given as goal
 

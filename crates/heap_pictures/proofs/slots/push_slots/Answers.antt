@@ -1,7 +1,7 @@
 use Rattle.std.proofs.Common.{◌≡◌, ◌++◌, Some, None, get_or, ap, sym, ◌∙◌, arith}
 use Rattle.std.specs.Prelude.{slice_get, Option}
 use Rattle.std.proofs.lemmas.Option.{slice_get-get_or}
-use Rattle.joint_model.specs.Heaps.{slot}
+use Rattle.joint_machine.specs.Heaps.{slot}
 use Rattle.heap_pictures.specs.Drawing.{slot_arrow}
 use Rattle.heap_pictures.proofs.Ranges.{put_more}
 use Rattle.heap_pictures.proofs.slots.push_slots.Goals as goal

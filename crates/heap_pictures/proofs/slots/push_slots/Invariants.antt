@@ -1,6 +1,6 @@
 use Rattle.std.proofs.Common.{◌≡◌, [], ◌++◌}
 use Rattle.std.specs.List.{flat_map, range_with_len}
-use Rattle.joint_model.specs.Heaps.{numbered_at, slot}
+use Rattle.joint_machine.specs.Heaps.{numbered_at, slot}
 use Rattle.heap_pictures.specs.Drawing.{slot_arrow}
 use Rattle.heap_pictures.proofs.slots.push_slots.Given as goal
 

@@ -1,5 +1,5 @@
 use Rattle.std.proofs.Common.{◌++◌, refl, arith}
-use Rattle.byte_streams.specs.Drafts.{after_spaces}
+use Rattle.byte_streams.specs.Spaced.{after_spaces}
 use Rattle.byte_streams.proofs.Passing.{passed_on}
 use Rattle.byte_streams.proofs.Written.{BuffersText-room, Sends-no_room, Sends-put, Sends-short}
 use Rattle.history_report.specs.Lists.{list_words}

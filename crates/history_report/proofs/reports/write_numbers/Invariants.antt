@@ -1,6 +1,6 @@
 use Rattle.std.proofs.Common.{◌≤◌, take, drop}
 use Rattle.byte_streams.specs.Sending.{BuffersText}
-use Rattle.byte_streams.specs.Drafts.{after_spaces}
+use Rattle.byte_streams.specs.Spaced.{after_spaces}
 use Rattle.history_report.specs.Lists.{lettered, numbers_of, letter_of}
 use Rattle.history_report.proofs.reports.write_numbers.Given as goal
 

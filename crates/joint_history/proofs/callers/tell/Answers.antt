@@ -1,5 +1,5 @@
 use Rattle.std.proofs.Common.{sym, subst, ◌∙◌}
-use Rattle.joint_model.specs.Lines.{IsDriver}
+use Rattle.joint_machine.specs.Lines.{IsDriver}
 use Rattle.joint_history.specs.Driven.{DriverStands}
 use Rattle.joint_history.proofs.DriverHears.{driver_hears, driver_pass}
 use Rattle.joint_history.proofs.KnownCallers.{caller_same, caller_joins, hears, pass_kept, pass_joined, reads_joined, reads_parted}

@@ -1,10 +1,10 @@
 use Rattle.std.proofs.Common.{None, ◌≤◌, ◌+◌, length, refl, sym, subst, ◌∙◌}
 use Rattle.std.proofs.lemmas.Option.{none-some, same_Some}
-use Rattle.joint_model.specs.declared.events.Op.TheVariants as op
-use Rattle.joint_model.specs.Sides.{peer_rules}
+use Rattle.joint_machine.specs.declared.events.Op.TheVariants as op
+use Rattle.joint_machine.specs.Sides.{peer_rules}
 use Rattle.order_table.specs.Views.{role_line}
-use Rattle.peer_side.specs.Makings.{gone_since}
-use Rattle.peer_side.specs.Sides.{seen}
+use Rattle.peer_heap.specs.Makings.{gone_since}
+use Rattle.peer_heap.specs.Sides.{seen}
 use Rattle.joint_history.specs.Collecting.{DrawsCollect}
 use Rattle.seat_calls.specs.Passing.{MayAppend, left_in}
 use Rattle.joint_history.proofs.Collecting.{collect_drew, threads_in_turn}

@@ -1,11 +1,11 @@
 use Rattle.std.proofs.Common.{ap, refl, rules, sym, ◌∙◌}
-use Rattle.joint_model.specs.ManagedReplay.{ManagedReplay}
-use Rattle.joint_model.specs.Sides.{managed_rules}
-use Rattle.joint_model.specs.Told.{nothing}
-use Rattle.managed_side.specs.Calls.{abandon_made, abandon_op}
-use Rattle.managed_side.proofs.Driving.{cycle-there}
+use Rattle.joint_machine.specs.ManagedReplay.{ManagedReplay}
+use Rattle.joint_machine.specs.Sides.{managed_rules}
+use Rattle.joint_machine.specs.Told.{nothing}
+use Rattle.managed_heap.specs.Calls.{abandon_made, abandon_op}
+use Rattle.managed_heap.proofs.Driving.{cycle-there}
 use Rattle.seat_calls.proofs.Floors.{below_floor, room_left}
-use Rattle.managed_side.specs.Sides.{as_side}
+use Rattle.managed_heap.specs.Sides.{as_side}
 use Rattle.joint_history.proofs.CycleDraws.{cycle_ended, cycle_open, drew_still, driver_may, frees_none}
 use Rattle.joint_history.proofs.SeatDraws.{drew_managed}
 use Rattle.joint_history.proofs.driven.draw_abandon.Goals as goal

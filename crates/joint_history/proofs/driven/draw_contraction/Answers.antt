@@ -1,8 +1,8 @@
 use Rattle.std.proofs.Common.{[], None, refl, rules}
-use Rattle.joint_model.specs.Told.{contraction_of}
-use Rattle.managed_side.specs.Calls.{contract_made}
+use Rattle.joint_machine.specs.Told.{contraction_of}
+use Rattle.managed_heap.specs.Calls.{contract_made}
 use Rattle.seat_calls.proofs.Floors.{below_floor, room_left}
-use Rattle.managed_side.specs.Sides.{as_side}
+use Rattle.managed_heap.specs.Sides.{as_side}
 use Rattle.joint_history.proofs.SeatDraws.{drew_managed, plain_event_settled}
 use Rattle.joint_history.proofs.driven.draw_contraction.Goals as goal
 

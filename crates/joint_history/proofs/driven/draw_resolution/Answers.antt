@@ -1,11 +1,11 @@
 use Rattle.std.proofs.Common.{ap, refl, rules, sym, ◌∙◌}
 use Rattle.joint_model.specs.Listed.{answers_of}
-use Rattle.joint_model.specs.ManagedReplay.{ManagedReplay}
-use Rattle.joint_model.specs.Sides.{managed_rules}
-use Rattle.joint_model.specs.Told.{resolution_of}
-use Rattle.managed_side.specs.Calls.{resolve_made, resolve_op}
+use Rattle.joint_machine.specs.ManagedReplay.{ManagedReplay}
+use Rattle.joint_machine.specs.Sides.{managed_rules}
+use Rattle.joint_machine.specs.Told.{resolution_of}
+use Rattle.managed_heap.specs.Calls.{resolve_made, resolve_op}
 use Rattle.seat_calls.proofs.Floors.{below_floor, room_left}
-use Rattle.managed_side.specs.Sides.{as_side}
+use Rattle.managed_heap.specs.Sides.{as_side}
 use Rattle.joint_history.proofs.CycleDraws.{cycle_ended, cycle_open, drew_still, driver_may, frees_these}
 use Rattle.joint_history.proofs.SeatDraws.{drew_managed}
 use Rattle.joint_history.proofs.driven.draw_resolution.Goals as goal

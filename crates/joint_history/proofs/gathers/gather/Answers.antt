@@ -1,6 +1,6 @@
 use Rattle.std.proofs.Common.{◌≡◌, ◌++◌, [], ◌∷◌, ◌∙◌, sym, ap, subst, refl, append_assoc, append-nil, length, arith}
 use Rattle.std.specs.Vec.Iter.{into_iter_items}
-use Rattle.joint_model.specs.Histories.{entry_lists}
+use Rattle.joint_model.specs.Listed.{entry_lists}
 use Rattle.joint_history.specs.Callers.{Pass}
 use Rattle.joint_history.specs.Ending.{GathersAll, HasIdleDriver, TakesOwn, threads_of}
 use Rattle.joint_history.proofs.Ended.{takes_none, takes_then}

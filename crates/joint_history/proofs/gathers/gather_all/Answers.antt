@@ -1,8 +1,7 @@
 use Rattle.std.proofs.Common.{◌≡◌, ◌∙◌, ℕ, [], ◌++◌, Option, Some, subst}
 use Rattle.std.specs.Prelude.{slice_get}
 use Rattle.std.proofs.lemmas.List.{length-map}
-use Rattle.joint_model.specs.Histories.{entry_lists}
-use Rattle.joint_model.specs.Listed.{Stock}
+use Rattle.joint_model.specs.Listed.{Stock, entry_lists}
 use Rattle.joint_history.specs.Callers.{Pass}
 use Rattle.joint_history.specs.Desks.{WaitsAt, present}
 use Rattle.joint_history.specs.Ending.{GathersAll, TakesOwn, threads_of}

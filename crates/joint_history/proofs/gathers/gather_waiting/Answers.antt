@@ -1,6 +1,6 @@
 use Rattle.std.proofs.Common.{◌≡◌, ◌++◌, [], ◌∷◌, Some, Option, ◌∙◌, sym, ap, subst, refl, append_assoc, append-nil, length, arith}
 use Rattle.std.specs.Vec.Iter.{into_iter_items}
-use Rattle.joint_model.specs.Histories.{entry_lists}
+use Rattle.joint_model.specs.Listed.{entry_lists}
 use Rattle.joint_history.specs.Callers.{Pass}
 use Rattle.joint_history.specs.Desks.{present}
 use Rattle.joint_history.specs.Ending.{GathersAll, TakesOwn, threads_of}

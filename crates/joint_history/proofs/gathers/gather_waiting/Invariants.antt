@@ -1,6 +1,6 @@
 use Rattle.std.proofs.Common.{◌≡◌, ◌++◌, length}
 use Rattle.std.specs.Vec.Iter.{into_iter_items, into_iter_len}
-use Rattle.joint_model.specs.Histories.{entry_lists}
+use Rattle.joint_model.specs.Listed.{entry_lists}
 use Rattle.order_table.specs.Allowed.{Settled}
 use Rattle.joint_history.specs.Desks.{present}
 use Rattle.joint_history.specs.Ending.{GathersAll, TakesOwn, threads_of}

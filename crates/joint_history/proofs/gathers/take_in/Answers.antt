@@ -1,5 +1,5 @@
 use Rattle.std.proofs.Common.{[], ◌∷◌, sym, subst}
-use Rattle.joint_model.specs.Histories.{entry_lists}
+use Rattle.joint_model.specs.Listed.{entry_lists}
 use Rattle.joint_history.specs.Callers.{Pass, reads_of}
 use Rattle.joint_history.specs.Ending.{GathersAll, HasIdleDriver, TakesOwn, with_reads}
 use Rattle.joint_history.proofs.Ended.{takes_one}

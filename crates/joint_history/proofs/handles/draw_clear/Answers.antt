@@ -1,8 +1,8 @@
 use Rattle.seat_calls.proofs.Floors.{below_floor, room_left}
 use Rattle.joint_history.proofs.handles.draw_clear.Goals as goal
 
-pub clear_refs-requires-clause-may : goal.clear_refs-requires-clause-may
-clear_refs-requires-clause-may c = record {
+pub clear-requires-clause-may : goal.clear-requires-clause-may
+clear-requires-clause-may c = record {
   takes = tt;
   below = below_floor c.args.seat.now.view 1 c.args.side.now.entries c.requires.entries;
   room = room_left c.args.seat.now.view 1 c.args.side.now.entries c.requires.entries;

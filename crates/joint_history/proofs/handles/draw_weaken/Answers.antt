@@ -1,8 +1,8 @@
 use Rattle.seat_calls.proofs.Floors.{below_floor, room_left}
 use Rattle.joint_history.proofs.handles.draw_weaken.Goals as goal
 
-pub weaken-requires-clause-may : goal.weaken-requires-clause-may
-weaken-requires-clause-may c = record {
+pub weaken_one-requires-clause-may : goal.weaken_one-requires-clause-may
+weaken_one-requires-clause-may c = record {
   takes = tt;
   below = below_floor c.args.seat.now.view 1 c.args.side.now.entries c.requires.entries;
   room = room_left c.args.seat.now.view 1 c.args.side.now.entries c.requires.entries;

@@ -1,10 +1,10 @@
 -- A step sets no cell, and is plain.
 use Rattle.std.proofs.Common.{ap, rules}
-use Rattle.joint_model.specs.Told.{nothing}
-use Rattle.managed_side.specs.Steps.{step_made}
+use Rattle.joint_machine.specs.Told.{nothing}
+use Rattle.managed_heap.specs.Steps.{step_made}
 use Rattle.seat_calls.proofs.Floors.{below_floor, room_left}
 use Rattle.view_laws.specs.Knowing.{pins_of}
-use Rattle.managed_side.specs.Sides.{as_side}
+use Rattle.managed_heap.specs.Sides.{as_side}
 use Rattle.joint_history.proofs.SeatDraws.{drew_managed, plain_event_settled, step_is_plain, step_sets_none}
 use Rattle.joint_history.proofs.managed.draw_step.Goals as goal
 

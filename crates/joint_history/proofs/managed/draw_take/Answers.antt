@@ -1,18 +1,18 @@
 -- The pin that the managed seat finds stands, and is told; the seat is settled once it is cleared.
 use Rattle.std.proofs.Common.{◌≡◌, [], Option, None, ap, ◌∙◌, subst, sym, rules}
 use Rattle.std.specs.Prelude.{false}
-use Rattle.joint_model.specs.declared.names.MNum.{MNum}
-use Rattle.joint_model.specs.HistoryLines.{caller_line}
-use Rattle.joint_model.specs.Run.{thread_number}
-use Rattle.joint_model.specs.Sides.{managed_rules}
-use Rattle.joint_model.specs.Told.{kept_pins, nothing}
+use Rattle.joint_machine.specs.declared.names.MNum.{MNum}
+use Rattle.joint_machine.specs.HistoryLines.{caller_line}
+use Rattle.joint_machine.specs.Run.{thread_number}
+use Rattle.joint_machine.specs.Sides.{managed_rules}
+use Rattle.joint_machine.specs.Told.{kept_pins, nothing}
 use Rattle.known_laws.specs.Known.{PinsStand}
-use Rattle.managed_side.specs.Pinned.{pin_given}
-use Rattle.managed_side.specs.Steps.{step_made, take_op}
+use Rattle.managed_heap.specs.Pinned.{pin_given}
+use Rattle.managed_heap.specs.Steps.{step_made, take_op}
 use Rattle.order_table.specs.Rows.{at}
 use Rattle.seat_calls.specs.Passing.{MayAppend}
 use Rattle.seat_calls.proofs.Floors.{below_floor, room_left}
-use Rattle.managed_side.specs.Sides.{as_side}
+use Rattle.managed_heap.specs.Sides.{as_side}
 use Rattle.joint_history.specs.Locked.{StaysSeated}
 use Rattle.joint_history.proofs.Looking.{drew_between, knows_looked, seated, settled_looked}
 use Rattle.joint_history.proofs.SeatDraws.{drew_managed}

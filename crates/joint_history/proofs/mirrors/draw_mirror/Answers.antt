@@ -1,9 +1,9 @@
 -- A mirror leaves the seat settled, as each peer's entry does.
 use Rattle.std.proofs.Common.{rules}
-use Rattle.joint_model.specs.Components.{mirror_edges}
-use Rattle.joint_model.specs.Told.{references_of}
+use Rattle.joint_machine.specs.Components.{mirror_edges}
+use Rattle.joint_machine.specs.Told.{references_of}
 use Rattle.peer_mirror.specs.Carried.{carried_to_peers}
-use Rattle.peer_side.specs.Cycles.{mirrors}
+use Rattle.peer_heap.specs.Cycles.{mirrors}
 use Rattle.seat_calls.proofs.Floors.{below_floor, room_left}
 use Rattle.joint_history.proofs.SeatDraws.{peer_settled}
 use Rattle.joint_history.proofs.mirrors.draw_mirror.Goals as goal

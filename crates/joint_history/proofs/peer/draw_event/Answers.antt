@@ -1,11 +1,11 @@
 -- Each event by the call that makes it; but for a slice and a sweep nothing is told.
 use Rattle.std.proofs.Common.{◌≡◌, None, sym, ◌∙◌, subst}
 use Rattle.std.proofs.lemmas.Result.{IfOk-weaker}
-use Rattle.joint_model.specs.declared.lines.Act.TheVariants as act
-use Rattle.joint_model.specs.declared.events.Op.{Op}
-use Rattle.joint_model.specs.declared.events.Op.TheVariants as op
-use Rattle.joint_model.specs.Told.{nothing}
-use Rattle.peer_side.specs.Steps.{IsRelease}
+use Rattle.joint_machine.specs.declared.lines.Act.TheVariants as act
+use Rattle.joint_machine.specs.declared.events.Op.{Op}
+use Rattle.joint_machine.specs.declared.events.Op.TheVariants as op
+use Rattle.joint_machine.specs.Told.{nothing}
+use Rattle.peer_heap.specs.Steps.{IsRelease}
 use Rattle.joint_history.specs.PeerCalls.{AllowsCall, IsPeerCall}
 use Rattle.seat_calls.specs.Passing.{MayAppend}
 use Rattle.joint_history.proofs.PeerCalls.{else_allows, else_step, mark_bare, mark_thread, no_release, slice_is}

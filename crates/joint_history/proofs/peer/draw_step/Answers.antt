@@ -1,7 +1,7 @@
 -- A peer's event sets no cell, and leaves the seat settled.
 use Rattle.std.proofs.Common.{rules}
-use Rattle.joint_model.specs.Told.{nothing}
-use Rattle.peer_side.specs.Sides.{seen}
+use Rattle.joint_machine.specs.Told.{nothing}
+use Rattle.peer_heap.specs.Sides.{seen}
 use Rattle.seat_calls.proofs.Floors.{below_floor, room_left}
 use Rattle.joint_history.specs.Locked.{made_by}
 use Rattle.joint_history.proofs.SeatDraws.{drew_peer, peer_settled}

@@ -1,8 +1,8 @@
 -- A step makes a begin or a sweep with one entry.
 use Rattle.std.proofs.Common.{None, ◌≤◌, ◌+◌, length, refl, sym, subst}
 use Rattle.order_table.specs.Views.{role_line}
-use Rattle.peer_side.specs.Makings.{gone_since}
-use Rattle.peer_side.specs.Sides.{seen}
+use Rattle.peer_heap.specs.Makings.{gone_since}
+use Rattle.peer_heap.specs.Sides.{seen}
 use Rattle.seat_calls.specs.Passing.{MayAppend, left_in}
 use Rattle.joint_history.proofs.Collecting.{mark_drew}
 use Rattle.joint_history.proofs.PeerCalls.{mark_draws, mark_may, mark_side}

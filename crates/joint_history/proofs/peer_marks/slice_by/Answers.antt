@@ -1,9 +1,9 @@
 -- The slice's own call makes one entry, with what its marking reaches.
 use Rattle.std.proofs.Common.{None, ◌≤◌, ◌+◌, length, refl, sym, subst}
-use Rattle.joint_model.specs.declared.lines.Act.TheVariants as act
-use Rattle.joint_model.specs.declared.events.Op.TheVariants as op
+use Rattle.joint_machine.specs.declared.lines.Act.TheVariants as act
+use Rattle.joint_machine.specs.declared.events.Op.TheVariants as op
 use Rattle.order_table.specs.Views.{role_line}
-use Rattle.peer_side.specs.Sides.{seen}
+use Rattle.peer_heap.specs.Sides.{seen}
 use Rattle.joint_history.specs.Locked.{made_by}
 use Rattle.seat_calls.specs.Passing.{MayAppend, left_in}
 use Rattle.joint_history.proofs.Collecting.{event_drew}

@@ -1,8 +1,8 @@
 use Rattle.std.proofs.Common.{ap, rules, sym, ◌∙◌}
-use Rattle.joint_model.specs.ManagedReplay.{ManagedReplay}
-use Rattle.joint_model.specs.Sides.{Side}
+use Rattle.joint_machine.specs.ManagedReplay.{ManagedReplay}
+use Rattle.joint_machine.specs.Sides.{Side}
 use Rattle.seat_calls.proofs.Floors.{below_floor, room_left}
-use Rattle.managed_side.specs.Sides.{as_side}
+use Rattle.managed_heap.specs.Sides.{as_side}
 use Rattle.joint_history.proofs.CycleDraws.{cycle_next}
 use Rattle.joint_history.proofs.Scanning.{knows_gate, pins_stand, snap_drawn, snap_may, snapshot_still}
 use Rattle.joint_history.proofs.snaps.draw_snap.Goals as goal

@@ -1,6 +1,6 @@
 -- The objects so far stand at the end.
 use Rattle.std.proofs.Common.{◌≡◌, ◌++◌, take}
-use Rattle.joint_model.specs.Histories.{managed_numbers}
+use Rattle.joint_machine.specs.Histories.{managed_numbers}
 use Rattle.joint_marking.proofs.found.push_objects.Given as goal
 
 abbrev pub invariant-loop-x : goal.invariant-loop-x

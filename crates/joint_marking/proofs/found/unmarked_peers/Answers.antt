@@ -1,10 +1,10 @@
 -- Each turn asks one peer more.
 use Rattle.std.proofs.Common.{[], ◌∷◌, arith}
 use Rattle.std.proofs.lemmas.List.{map-append}
-use Rattle.joint_model.specs.declared.names.PNum.{PNum}
-use Rattle.joint_model.specs.Histories.{peer_numbers}
-use Rattle.joint_model.proofs.Deciding.{test-true, test-false}
-use Rattle.joint_model.proofs.Gathering.{Gathered-push, Gathered-skip}
+use Rattle.joint_machine.specs.declared.names.PNum.{PNum}
+use Rattle.joint_machine.specs.Histories.{peer_numbers}
+use Rattle.joint_machine.proofs.Deciding.{test-true, test-false}
+use Rattle.joint_machine.proofs.Gathering.{Gathered-push, Gathered-skip}
 use Rattle.joint_marking.specs.Nodes.{IsUnmarkedPeer}
 use Rattle.joint_marking.proofs.Gathering.{Gathered-end}
 use Rattle.joint_marking.proofs.found.unmarked_peers.Goals as goal

@@ -1,6 +1,6 @@
 -- The unmarked peers so far are gathered.
-use Rattle.joint_model.specs.Histories.{peer_numbers}
-use Rattle.joint_model.specs.Gathered.{Gathered}
+use Rattle.joint_machine.specs.Histories.{peer_numbers}
+use Rattle.joint_machine.specs.Gathered.{Gathered}
 use Rattle.joint_marking.specs.Nodes.{IsUnmarkedPeer}
 use Rattle.joint_marking.proofs.found.unmarked_peers.Given as goal
 

@@ -1,6 +1,6 @@
 -- Each turn adds the edge of one place, or the place is empty.
 use Rattle.std.proofs.Common.{◌<◌, length, arith}
-use Rattle.joint_model.specs.Heaps.{IsLive, fields_of}
+use Rattle.joint_machine.specs.Heaps.{IsLive, fields_of}
 use Rattle.joint_marking.proofs.Edges.{Places-push, Places-skip, Places-all}
 use Rattle.joint_marking.proofs.rows.add_object_fields.Goals as goal
 use Rattle.joint_marking.proofs.rows.add_object_fields.Goals.{in-Some+in_ok-add, in_default}

@@ -1,5 +1,5 @@
 -- The edges of the places so far are added.
-use Rattle.joint_model.specs.Heaps.{IsLive, fields_of}
+use Rattle.joint_machine.specs.Heaps.{IsLive, fields_of}
 use Rattle.joint_marking.specs.Nodes.{AddsEdges}
 use Rattle.joint_marking.proofs.Edges.{PlacesBelow}
 use Rattle.joint_marking.proofs.rows.add_object_fields.Given as goal

@@ -1,7 +1,7 @@
 -- Each turn adds the edges of one object, which has none if it isn't live.
 use Rattle.std.proofs.Common.{arith}
-use Rattle.joint_model.specs.Heaps.{IsLive}
-use Rattle.joint_model.proofs.Deciding.{test-false}
+use Rattle.joint_machine.specs.Heaps.{IsLive}
+use Rattle.joint_machine.proofs.Deciding.{test-false}
 use Rattle.joint_marking.specs.Nodes.{ObjectEdge}
 use Rattle.joint_marking.proofs.Edges.{Brought-push, Brought-skip, Brought-all}
 use Rattle.joint_marking.proofs.Reaching.{ObjectEdge-live}

@@ -1,6 +1,6 @@
 -- Each turn adds the edge of one place, or the place is empty.
 use Rattle.std.proofs.Common.{ℕ, ◌+◌, ◌<◌, length, arith}
-use Rattle.joint_model.specs.Heaps.{IsLive, fields_of}
+use Rattle.joint_machine.specs.Heaps.{IsLive, fields_of}
 use Rattle.joint_marking.specs.Nodes.{objects_in}
 use Rattle.joint_marking.proofs.Edges.{Places-push, Places-skip, Places-all}
 use Rattle.joint_marking.proofs.rows.add_peer.Goals as goal

@@ -1,6 +1,6 @@
 -- The edges of the places so far are added.
 use Rattle.std.proofs.Common.{◌+◌}
-use Rattle.joint_model.specs.Heaps.{IsLive, fields_of}
+use Rattle.joint_machine.specs.Heaps.{IsLive, fields_of}
 use Rattle.joint_marking.specs.Nodes.{AddsEdges, objects_in}
 use Rattle.joint_marking.proofs.Edges.{PlacesBelow}
 use Rattle.joint_marking.proofs.rows.add_peer.Given as goal

@@ -1,4 +1,4 @@
-use Rattle.joint_model.proofs.DrawnInTurn.{DrewInTurn-counts}
+use Rattle.joint_machine.proofs.DrawnInTurn.{DrewInTurn-counts}
 use Rattle.joint_model.proofs.draws.counted_in_turn.Goals as goal
 
 pub returns : goal.returns

@@ -1,4 +1,4 @@
-use Rattle.joint_model.proofs.DrawnInTurn.{DrewInTurn-append}
+use Rattle.joint_machine.proofs.DrawnInTurn.{DrewInTurn-append}
 use Rattle.joint_model.proofs.draws.drawn_in_turn.Goals as goal
 
 pub returns : goal.returns

@@ -2,16 +2,16 @@
 use Rattle.std.proofs.Common.{◌<◌, arith}
 use Rattle.std.proofs.lemmas.List.{length_push}
 use Rattle.std.proofs.lemmas.List.Elements.{All-push, All-weaker}
-use Rattle.joint_model.specs.declared.events.Entry.{Entry}
-use Rattle.joint_model.specs.Draws.{numbered}
+use Rattle.joint_machine.specs.declared.events.Entry.{Entry}
+use Rattle.joint_machine.specs.Draws.{numbered}
 use Rattle.joint_model.proofs.sides.enter.Goals as goal
 
 pub returns-clause-draws : goal.returns-clause-draws
 returns-clause-draws g c =
     let drawn = c.draw-number.ensures in
     let e : Entry = numbered c.draw-number.result c.args.made in
-    let floor = g.D.Draw.floor c.args.draw.now in
-    let next = g.D.Draw.floor c.draw-number.new.self in
+    let floor = g.D.Draw.rules.floor c.args.draw.now in
+    let next = g.D.Draw.rules.floor c.draw-number.new.self in
     record {
       adds = record { number = c.draw-number.result; drawn = drawn.drew; added = c.push.ensures.entries };
       above = drawn.low;

@@ -1,5 +1,5 @@
-use Rattle.joint_model.specs.Sides.{managed_rules, peer_rules}
-use Rattle.joint_model.proofs.SideLists.{IsReplayed-push}
+use Rattle.joint_machine.specs.Sides.{managed_rules, peer_rules}
+use Rattle.joint_machine.proofs.SideLists.{IsReplayed-push}
 use Rattle.joint_model.proofs.sides.replays_go_on.Goals as goal
 
 pub returns-clause-managed : goal.returns-clause-managed

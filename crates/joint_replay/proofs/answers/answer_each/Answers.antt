@@ -1,9 +1,9 @@
 -- One candidate more has had the answer, if it holds the handle.
 use Rattle.std.proofs.Common.{◌≡◌, List, Option, take, get_or, length, sym, ap, ◌∙◌, arith}
 use Rattle.std.proofs.lemmas.List.{take_more, take_all, length-take-le}
-use Rattle.joint_model.specs.Run.{answered_for, is_that_handle}
-use Rattle.joint_model.specs.Managed.{handle_of}
-use Rattle.joint_model.specs.Told.{Answer}
+use Rattle.joint_machine.specs.Run.{answered_for, is_that_handle}
+use Rattle.joint_machine.specs.Managed.{handle_of}
+use Rattle.joint_machine.specs.Told.{Answer}
 use Rattle.joint_replay.specs.Answers.{said_as, answers_as, put_where}
 use Rattle.joint_replay.proofs.Answering.{answered-more}
 use Rattle.joint_replay.proofs.answers.answer_each.Goals as goal

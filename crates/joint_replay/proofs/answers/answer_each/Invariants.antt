@@ -1,6 +1,6 @@
 -- The candidates so far that hold the handle have had the answer.
 use Rattle.std.proofs.Common.{◌≡◌, take}
-use Rattle.joint_model.specs.Run.{answered_for}
+use Rattle.joint_machine.specs.Run.{answered_for}
 use Rattle.joint_replay.specs.Answers.{said_as, answers_as}
 use Rattle.joint_replay.proofs.answers.answer_each.Given as goal
 

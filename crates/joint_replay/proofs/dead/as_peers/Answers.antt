@@ -1,6 +1,6 @@
 -- One number more was put.
 use Rattle.std.proofs.Common.{get_or, refl, arith}
-use Rattle.joint_model.specs.declared.names.PNum.{PNum}
+use Rattle.joint_machine.specs.declared.names.PNum.{PNum}
 use Rattle.joint_replay.proofs.Naming.{map-next}
 use Rattle.joint_replay.proofs.dead.as_peers.Goals as goal
 

@@ -1,5 +1,5 @@
 -- The lists are exactly the live joint roots, and what the marking leaves out is what is marked.
-use Rattle.joint_model.specs.Histories.{managed_numbers, peer_numbers}
+use Rattle.joint_machine.specs.Histories.{managed_numbers, peer_numbers}
 use Rattle.joint_replay.specs.Graphs.{parts_graph}
 use Rattle.joint_replay.proofs.Rooting.{object-roots, peer-roots, dead-clean, dead-within}
 use Rattle.std.proofs.lemmas.Result.{IfOk-weaker}

@@ -3,7 +3,7 @@ use Rattle.std.proofs.Common.{◌<◌, get_or, length, true, arith}
 use Rattle.std.proofs.Math.ListN.{length-set}
 use Rattle.std.proofs.lemmas.List.{take_all}
 use Rattle.std.proofs.lemmas.Option.{slice_get-get_or}
-use Rattle.joint_model.specs.declared.names.PNum.{PNum}
+use Rattle.joint_machine.specs.declared.names.PNum.{PNum}
 use Rattle.joint_replay.proofs.Rooting.{mark-more}
 use Rattle.joint_replay.proofs.dead.marks_of.Goals as goal
 

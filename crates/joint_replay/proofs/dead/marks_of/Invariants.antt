@@ -1,7 +1,7 @@
 -- The peers so far are marked.
 use Rattle.std.proofs.Common.{◌≡◌, ℕ, ◌+◌, ◌↔◌, length, take}
 use Rattle.std.specs.Prelude.{Contains}
-use Rattle.joint_model.specs.Histories.{peer_numbers}
+use Rattle.joint_machine.specs.Histories.{peer_numbers}
 use Rattle.reachability.specs.Marks.{HasMark}
 use Rattle.joint_replay.proofs.dead.marks_of.Given as goal
 

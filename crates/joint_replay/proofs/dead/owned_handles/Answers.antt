@@ -1,8 +1,8 @@
 -- Each turn asks one object more, and marks the handle that it holds if it is live.
 use Rattle.std.proofs.Common.{arith, ◌≡◌, ◌+◌, ◌∙◌, ◌++◌, length, take, drop}
 use Rattle.std.proofs.lemmas.List.{take_all, take-append-le}
-use Rattle.joint_model.specs.Heaps.{IsLive}
-use Rattle.joint_model.proofs.Deciding.{test-false}
+use Rattle.joint_machine.specs.Heaps.{IsLive}
+use Rattle.joint_machine.proofs.Deciding.{test-false}
 use Rattle.joint_marking.proofs.Owning.{owned-push, owned-skip}
 use Rattle.joint_replay.proofs.dead.owned_handles.Goals as goal
 use Rattle.joint_replay.proofs.dead.owned_handles.Goals.{then-is_live, else-is_live}

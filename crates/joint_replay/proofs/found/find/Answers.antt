@@ -1,6 +1,6 @@
 -- Both markings start from live rows, so they mark exactly what is reached.
 use Rattle.std.proofs.Common.{◌<◌, ◌+◌, All, length, subst, sym}
-use Rattle.joint_model.specs.Heaps.{IsLive}
+use Rattle.joint_machine.specs.Heaps.{IsLive}
 use Rattle.joint_replay.specs.Roots.{IsNamedOrPinned}
 use Rattle.joint_replay.proofs.Snapshots.{roots-within}
 use Rattle.joint_replay.specs.Found.{IsBridgeRow}

@@ -1,6 +1,6 @@
 -- One place more was read.
 use Rattle.std.proofs.Common.{◌+◌, arith, length, [], ◌∷◌, ap, sym, refl, length-append}
-use Rattle.joint_model.specs.declared.names.MNum.{MNum}
+use Rattle.joint_machine.specs.declared.names.MNum.{MNum}
 use Rattle.joint_replay.proofs.Naming.{stretch-next, stretch-read}
 use Rattle.joint_replay.proofs.named.freed_objects.Goals as goal
 

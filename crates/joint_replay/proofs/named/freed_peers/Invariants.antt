@@ -1,6 +1,6 @@
 -- The places so far were read.
 use Rattle.std.proofs.Common.{◌≡◌, length, take, drop}
-use Rattle.joint_model.specs.Histories.{peer_numbers}
+use Rattle.joint_machine.specs.Histories.{peer_numbers}
 use Rattle.joint_replay.proofs.named.freed_peers.Given as goal
 
 abbrev pub invariant-loop-i : goal.invariant-loop-i

@@ -1,6 +1,6 @@
 -- One number more was put.
 use Rattle.std.proofs.Common.{get_or, refl, arith}
-use Rattle.joint_model.specs.declared.names.MNum.{MNum}
+use Rattle.joint_machine.specs.declared.names.MNum.{MNum}
 use Rattle.joint_replay.proofs.Naming.{map-next}
 use Rattle.joint_replay.proofs.roots.as_objects.Goals as goal
 

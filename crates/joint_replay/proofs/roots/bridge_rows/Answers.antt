@@ -3,8 +3,8 @@ use Rattle.std.proofs.Common.{arith}
 use Rattle.joint_replay.specs.Found.{IsBridgeRow}
 use Rattle.joint_replay.proofs.roots.bridge_rows.Goals as goal
 use Rattle.joint_replay.proofs.roots.bridge_rows.Goals.{then-is_bridge+in_ok-push, else-is_bridge}
-use Rattle.joint_model.proofs.Deciding.{test-true, test-false}
-use Rattle.joint_model.proofs.Gathering.{Gathered-push, Gathered-skip, Gathered-all, made-below}
+use Rattle.joint_machine.proofs.Deciding.{test-true, test-false}
+use Rattle.joint_machine.proofs.Gathering.{Gathered-push, Gathered-skip, Gathered-all, made-below}
 
 pub loop-m-preserved : goal.loop-m-preserved
 loop-m-preserved c =

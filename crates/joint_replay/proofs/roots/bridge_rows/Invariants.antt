@@ -1,6 +1,6 @@
 -- The wanted rows so far are gathered.
 use Rattle.joint_replay.specs.Found.{IsBridgeRow}
-use Rattle.joint_model.specs.Gathered.{Gathered}
+use Rattle.joint_machine.specs.Gathered.{Gathered}
 use Rattle.joint_replay.proofs.roots.bridge_rows.Given as goal
 
 abbrev pub invariant-loop-m : goal.invariant-loop-m

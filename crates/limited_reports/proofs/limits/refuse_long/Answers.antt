@@ -1,5 +1,5 @@
 use Rattle.std.proofs.Common.{subst}
-use Rattle.report_reader.specs.Faults.{IsReportRefusal}
+use Rattle.report_reader.specs.Answers.{IsReportRefusal}
 use Rattle.limited_reports.proofs.Fronts.{answered, whole-before}
 use Rattle.limited_reports.proofs.limits.refuse_long.Goals as goal
 

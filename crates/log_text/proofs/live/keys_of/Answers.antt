@@ -2,7 +2,7 @@ use Rattle.std.proofs.Common.{rules, tests}
 use Rattle.std.specs.BTreeMap.{keys}
 use Rattle.std.proofs.lemmas.Iterator.{YieldsList-from_map, items_from_collect}
 use Rattle.std.proofs.lemmas.Iterator.Consumers.{YieldsList-at, YieldsList-from_rest}
-use Rattle.joint_model.specs.declared.names.HNum.{HNum}
+use Rattle.joint_machine.specs.declared.names.HNum.{HNum}
 use Rattle.log_text.proofs.live.keys_of.Goals as goal
 
 pub returns-clause-keys : goal.returns-clause-keys

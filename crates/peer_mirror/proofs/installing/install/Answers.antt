@@ -1,6 +1,6 @@
 -- The references that wait are the carried mirror edges, whose ends are under strong handles.
-use Rattle.joint_model.specs.Components.{mirror_edges}
-use Rattle.peer_side.specs.Cycles.{reserve_more}
+use Rattle.joint_machine.specs.Components.{mirror_edges}
+use Rattle.peer_heap.specs.Cycles.{reserve_more}
 use Rattle.peer_mirror.proofs.Edges.{carried-strong, installed-ends}
 use Rattle.peer_mirror.proofs.installing.install.Goals as goal
 

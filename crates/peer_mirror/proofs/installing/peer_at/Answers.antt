@@ -1,8 +1,8 @@
 -- The node's handle is strong, so it leads to its peer.
 use Rattle.std.proofs.Common.{sym, ap, ◌∙◌, subst}
-use Rattle.joint_model.specs.Heaps.{IsLive}
-use Rattle.joint_model.proofs.Deciding.{none_some}
-use Rattle.peer_side.specs.Rows.{number_of}
+use Rattle.joint_machine.specs.Heaps.{IsLive}
+use Rattle.joint_machine.proofs.Deciding.{none_some}
+use Rattle.peer_heap.specs.Rows.{number_of}
 use Rattle.peer_mirror.proofs.Nodes.{peer_of_node-is, same-peer, strong-node, target-is}
 use Rattle.peer_mirror.proofs.installing.peer_at.Goals as goal
 

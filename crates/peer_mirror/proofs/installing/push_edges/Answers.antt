@@ -1,11 +1,11 @@
 -- The ends of each mirror edge are bridge nodes and temporaries, and there is room for their reference.
 use Rattle.std.proofs.Common.{◌≡◌, ◌≤◌, ◌-◌, length, sym, ap, subst, arith}
-use Rattle.joint_model.specs.Components.{mirror_edges}
-use Rattle.joint_model.proofs.Members.{Contains-at}
-use Rattle.peer_side.specs.Sides.{PeerModel}
+use Rattle.joint_machine.specs.Components.{mirror_edges}
+use Rattle.joint_machine.proofs.Members.{Contains-at}
+use Rattle.peer_heap.specs.Sides.{PeerModel}
 use Rattle.xref_list.specs.declared.components.End.{End as Answered}
 use Rattle.xref_list.specs.Ends.{end_of}
-use Rattle.peer_side.specs.Mirroring.{end_of as ref_end}
+use Rattle.peer_heap.specs.Mirroring.{end_of as ref_end}
 use Rattle.peer_mirror.specs.Carried.{IsCarried}
 use Rattle.peer_mirror.proofs.Edges.{edge-at, edge-ends, end-more, pushed-next}
 use Rattle.peer_mirror.proofs.installing.push_edges.Goals as goal

@@ -1,7 +1,7 @@
 use Rattle.std.proofs.Common.{◌≡◌, IfSome, take}
-use Rattle.joint_model.specs.Components.{mirror_edges}
+use Rattle.joint_machine.specs.Components.{mirror_edges}
 use Rattle.peer_mirror.specs.Carried.{IsCarried, carried_to_peers, with_pushed}
-use Rattle.peer_side.specs.Mirroring.{end_of as ref_end}
+use Rattle.peer_heap.specs.Mirroring.{end_of as ref_end}
 use Rattle.peer_mirror.proofs.installing.push_edges.Given as goal
 
 abbrev pub invariant-loop-i : goal.invariant-loop-i

@@ -2,7 +2,7 @@
 use Rattle.std.proofs.Common.{◌<◌, ◌≤◌, vec_len, vec_capacity, ap, arith}
 use Rattle.std.proofs.lemmas.Result.{on_ok_weaker}
 use Rattle.slab.specs.Slab.{HasRoomFor}
-use Rattle.joint_model.proofs.Results.{at_value}
+use Rattle.joint_machine.proofs.Results.{at_value}
 use Rattle.row_heap.proofs.places.take_room.Goals as goal
 
 pub returns-clause-kept : goal.returns-clause-kept

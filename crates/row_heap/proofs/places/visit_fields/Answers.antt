@@ -2,7 +2,7 @@
 use Rattle.std.proofs.Common.{◌∙◌, ◌≤◌, ◌∷◌, false, length, take, Some, None, ap, arith}
 use Rattle.std.proofs.lemmas.List.{take_all}
 use Rattle.std.proofs.lemmas.Option.{slice_get-get_or}
-use Rattle.joint_model.proofs.Members.{Contains-at, take-next}
+use Rattle.joint_machine.proofs.Members.{Contains-at, take-next}
 use Rattle.row_heap.proofs.Marked.{fresh-push, greyed-push}
 use Rattle.row_heap.proofs.places.visit_fields.Goals as goal
 

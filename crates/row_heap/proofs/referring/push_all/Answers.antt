@@ -1,10 +1,10 @@
 -- One more reference stands in each turn, and its ends have places.
 use Rattle.std.proofs.Common.{◌≡◌, ◌+◌, ◌-◌, ◌++◌, ◌∙◌, [], ◌∷◌, ℕ, List, append_assoc, get_or, map, take, sym, ap, subst, arith}
-use Rattle.joint_model.specs.Components as exact
+use Rattle.joint_machine.specs.Components as exact
 use Rattle.std.proofs.lemmas.List.{map-append, take_more}
 use Rattle.std.proofs.lemmas.List.Elements.{All-contains}
 use Rattle.std.proofs.lemmas.Option.{slice_get-get_or}
-use Rattle.joint_model.proofs.Members.{Contains-at, Contains-map}
+use Rattle.joint_machine.proofs.Members.{Contains-at, Contains-map}
 use Rattle.row_heap.specs.declared.references.End.{End}
 use Rattle.row_heap.specs.declared.references.End.TheVariants.{Object}
 use Rattle.row_heap.specs.Ends.{AreEnds, IsEnd, Linked, end_of, ends_of}

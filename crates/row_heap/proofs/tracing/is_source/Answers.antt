@@ -2,7 +2,7 @@
 use Rattle.std.proofs.Common.{◌∙◌, sym, subst}
 use Rattle.std.specs.Prelude.{length}
 use Rattle.std.proofs.lemmas.Bool.{true≢false}
-use Rattle.joint_model.specs.Components as exact
+use Rattle.joint_machine.specs.Components as exact
 use Rattle.row_heap.specs.Ends.{IsLastBelow}
 use Rattle.row_heap.proofs.Sources.{last-one}
 use Rattle.row_heap.proofs.tracing.is_source.Goals as goal

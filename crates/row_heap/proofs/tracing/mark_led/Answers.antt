@@ -1,5 +1,5 @@
 -- A row without a reference of its own refers to nothing.
-use Rattle.joint_model.specs.PeerReplay.{Refers}
+use Rattle.joint_machine.specs.PeerReplay.{Refers}
 use Rattle.row_marking.proofs.Greys.{Greyed-none}
 use Rattle.row_heap.proofs.Sound.{refers-from}
 use Rattle.row_heap.proofs.tracing.mark_led.Goals as goal

@@ -1,6 +1,6 @@
 -- A temporary is no row; and a row is a source at the place of its last reference.
 use Rattle.std.proofs.Common.{◌≡◌, ℕ, ap, sym, ◌∙◌}
-use Rattle.joint_model.specs.Components.{node, temporary}
+use Rattle.joint_machine.specs.Components.{node, temporary}
 use Rattle.row_heap.specs.Ends.{end_of}
 use Rattle.row_marking.proofs.Greys.{Greyed-none}
 use Rattle.row_heap.specs.Rows.{IsLedFrom}

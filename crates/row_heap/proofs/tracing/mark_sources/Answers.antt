@@ -1,8 +1,8 @@
 -- One more place has its turn; which rows stand, and the references, stay.
 use Rattle.std.proofs.Common.{◌≡◌, ◌∙◌, ◌+◌, ◌-◌, length, Some, refl, sym, ap, subst, arith}
 use Rattle.std.specs.Prelude.{slice_get}
-use Rattle.joint_model.specs.Components.{node}
-use Rattle.joint_model.specs.PeerReplay.{Refers}
+use Rattle.joint_machine.specs.Components.{node}
+use Rattle.joint_machine.specs.PeerReplay.{Refers}
 use Rattle.row_marking.proofs.Greys.{Greyed-as}
 use Rattle.row_heap.specs.Ends.{Linked, end_of}
 use Rattle.row_heap.specs.Places.{Seen}

@@ -1,6 +1,6 @@
 use Rattle.std.proofs.Common.{sym, ◌∙◌, arith, true≢false}
 use Rattle.std.proofs.lemmas.List.{length-map}
-use Rattle.joint_model.specs.Histories.{peer_numbers}
+use Rattle.joint_machine.specs.Histories.{peer_numbers}
 use Rattle.run_check.proofs.Stretches.{alike_more, mapped_place, rest_no, rest_told}
 use Rattle.run_check.proofs.replies.peers_as_named.Goals as goal
 

@@ -1,6 +1,6 @@
 use Rattle.std.proofs.Common.{sym, ◌∙◌, refl, arith, true≢false}
 use Rattle.std.proofs.lemmas.List.{length-map}
-use Rattle.joint_model.specs.Histories.{managed_numbers}
+use Rattle.joint_machine.specs.Histories.{managed_numbers}
 use Rattle.run_check.proofs.Stretches.{stretch_told, told_no}
 use Rattle.run_check.proofs.replies.taken_as_named.Goals as goal
 

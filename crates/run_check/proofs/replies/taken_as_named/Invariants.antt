@@ -1,4 +1,4 @@
-use Rattle.joint_model.specs.Histories.{managed_numbers}
+use Rattle.joint_machine.specs.Histories.{managed_numbers}
 use Rattle.run_check.proofs.Stretches.{AreAlikeFrom}
 use Rattle.run_check.proofs.replies.taken_as_named.Given as goal
 

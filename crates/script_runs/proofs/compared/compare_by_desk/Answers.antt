@@ -1,8 +1,8 @@
 use Rattle.listing_laws.specs.Snapshots.{snaps_of}
 use Rattle.std.proofs.Common.{[], ◌∷◌, ◌++◌, ◌≤◌, refl, sym, ◌∙◌, ap, subst, arith}
 use Rattle.std.specs.Prelude.{All}
-use Rattle.joint_model.specs.declared.names.Thread.TheVariants.{C}
-use Rattle.joint_model.specs.Lines.{IsDriver}
+use Rattle.joint_machine.specs.declared.names.Thread.TheVariants.{C}
+use Rattle.joint_machine.specs.Lines.{IsDriver}
 use Rattle.joint_history.specs.Callers.{KnowsNothing, Pass, last_index}
 use Rattle.joint_history.specs.Desks.{Waiting}
 use Rattle.joint_history.specs.Ending.{BeginsHistory, BeginsPast, HasAll, HasIdleDriver, HasOwn}
@@ -13,7 +13,7 @@ use Rattle.script_runs.proofs.Owned.{own_nothing}
 use Rattle.script_runs.proofs.Seated.{AreThereFrom, all_idle, all_there, come_first, first_up_to, is_there, rest_there, run_ends}
 use Rattle.bridge_cycle.proofs.Refusals.{idle_first}
 use Rattle.std.proofs.lemmas.List.Elements.{All-contains, Contains-append_right}
-use Rattle.joint_model.proofs.Members.{Contains-here}
+use Rattle.joint_machine.proofs.Members.{Contains-here}
 use Rattle.listing_laws.proofs.Written.{wrote_none}
 use Rattle.script_runs.proofs.Opened.{listed_in_history}
 use Rattle.script_runs.proofs.compared.compare_by_desk.Goals as goal

@@ -1,7 +1,7 @@
 use Rattle.std.proofs.Common.{[], ◌∷◌, refl, sym, ap, subst}
-use Rattle.joint_model.specs.declared.names.Cycle.{Cycle}
+use Rattle.joint_machine.specs.declared.names.Cycle.{Cycle}
 use Rattle.bridge_cycle.specs.OpenParts.{IsOpenPart}
-use Rattle.graph_listing.specs.Listing.{listed_of}
+use Rattle.graph_listing.specs.Numbers.{listed_of}
 use Rattle.listing_laws.proofs.Written.{wrote_none}
 use Rattle.script_runs.proofs.Opened.{members_are_nodes, open_is_listed}
 use Rattle.script_runs.proofs.compared.list_cycle.Goals as goal

@@ -1,5 +1,5 @@
 use Rattle.std.proofs.Common.{◌≡◌, [], sym, ◌∙◌}
-use Rattle.joint_model.specs.declared.names.Phase.TheVariants as at
+use Rattle.joint_machine.specs.declared.names.Phase.TheVariants as at
 use Rattle.listing_laws.proofs.Written.{wrote_none}
 use Rattle.script_runs.proofs.Listing.{always_ok, lists_as}
 use Rattle.script_runs.proofs.Opened.{lists_opened, opened_phase}

@@ -1,12 +1,11 @@
-use Rattle.std.proofs.Common.{◌<◌, length, refl, subst, sym, ap, ◌∙◌, arith, true≢false}
+use Rattle.std.proofs.Common.{◌<◌, length, refl, subst, sym, ap, ◌∙◌, arith, true≢false, []}
 use Rattle.std.proofs.lemmas.Option.{slice_get_read}
-use Rattle.joint_model.specs.declared.names.Thread.TheVariants.{C}
-use Rattle.joint_model.specs.PeerReplay.{is_thread}
+use Rattle.joint_machine.specs.declared.names.Thread.TheVariants.{C}
+use Rattle.joint_machine.specs.PeerReplay.{is_thread}
 use Rattle.joint_history.specs.Operations.{IsOperationOf}
 use Rattle.script_runs.proofs.Told.{driver_on, other_on, placed_thread, own_thread, still_others, still_up_to}
 use Rattle.script_runs.proofs.Making.{line_operation}
-use Rattle.joint_model.proofs.HeapLemmas.{same_thread}
-use Rattle.std.proofs.Common.{[]}
+use Rattle.joint_machine.proofs.HeapLemmas.{same_thread}
 use Rattle.listing_laws.proofs.Written.{wrote_none}
 use Rattle.script_runs.proofs.Opened.{lists_told}
 use Rattle.script_runs.proofs.compared.run_next_listed.Goals as goal

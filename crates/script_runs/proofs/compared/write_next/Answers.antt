@@ -1,5 +1,5 @@
 use Rattle.std.proofs.Common.{[], ◌∷◌}
-use Rattle.graph_listing.specs.Listing.{listed_of}
+use Rattle.graph_listing.specs.Numbers.{listed_of}
 use Rattle.listing_laws.proofs.Written.{goes_failed, goes_one}
 use Rattle.script_runs.proofs.compared.write_next.Goals as goal
 

@@ -1,7 +1,7 @@
 -- The phases that were left lead to the idle one; and a cycle that found no memory for them was abandoned.
 use Rattle.std.proofs.lemmas.Result.{on_err_weaker, on_ok_weaker}
 use Rattle.bridge_cycle.specs.Progress.{RunsWords, StopsForMemory}
-use Rattle.joint_model.specs.Phases.{phases_left}
+use Rattle.joint_machine.specs.Phases.{phases_left}
 use Rattle.script_runs.proofs.Driving.{drives_left, either_way, left_leads}
 use Rattle.script_runs.proofs.lines.drive_left.Goals as goal
 

@@ -1,6 +1,6 @@
 use Rattle.std.proofs.Common.{◌≡◌, ◌+◌, length, sym, ◌∙◌, ap, subst, arith}
-use Rattle.joint_model.specs.Control.{caller_place}
-use Rattle.joint_model.specs.Lines.{IsThread}
+use Rattle.joint_machine.specs.Control.{caller_place}
+use Rattle.joint_machine.specs.Lines.{IsThread}
 use Rattle.joint_history.specs.Desks.{Waiting}
 use Rattle.joint_history.proofs.Desking.{thread_is}
 use Rattle.script_runs.proofs.Desked.{counts_stay}

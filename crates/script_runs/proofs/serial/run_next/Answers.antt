@@ -1,11 +1,11 @@
 use Rattle.std.proofs.Common.{◌<◌, length, refl, subst, sym, ap, ◌∙◌, arith, true≢false}
 use Rattle.std.proofs.lemmas.Option.{slice_get_read}
-use Rattle.joint_model.specs.declared.names.Thread.TheVariants.{C}
-use Rattle.joint_model.specs.PeerReplay.{is_thread}
+use Rattle.joint_machine.specs.declared.names.Thread.TheVariants.{C}
+use Rattle.joint_machine.specs.PeerReplay.{is_thread}
 use Rattle.joint_history.specs.Operations.{IsOperationOf}
 use Rattle.script_runs.proofs.Told.{driver_on, other_on, placed_thread, own_thread, still_others, still_up_to}
 use Rattle.script_runs.proofs.Making.{line_operation}
-use Rattle.joint_model.proofs.HeapLemmas.{same_thread}
+use Rattle.joint_machine.proofs.HeapLemmas.{same_thread}
 use Rattle.script_runs.proofs.serial.run_next.Goals as goal
 
 pub returns-then-is_thread-clause-runs : goal.returns-then-is_thread-clause-runs

@@ -1,10 +1,11 @@
 use Rattle.std.proofs.Common.{◌≡◌, ◌+◌, ◌≤◌, length, sym, ◌∙◌, ap, subst, arith}
-use Rattle.joint_model.specs.PeerReplay.{is_thread}
+use Rattle.joint_machine.specs.PeerReplay.{is_thread}
 use Rattle.joint_history.specs.Callers.{Pass, last_index, own}
 use Rattle.joint_history.specs.Operations.{IsOwnThread}
 use Rattle.script_laws.specs.Holding.{opening_standing}
-use Rattle.joint_model.specs.Lines.{IsManagedThread}
-use Rattle.run_laws.specs.Threads.{HoldsItsFirst, WaitsEnd}
+use Rattle.joint_machine.specs.Lines.{IsManagedThread}
+use Rattle.run_laws.specs.Threads.{HoldsItsFirst}
+use Rattle.run_laws.specs.Waits.{WaitsEnd}
 use Rattle.script_runs.specs.Running.{HasRunLines, MakesLine}
 use Rattle.script_runs.proofs.Owned.{own_ends, own_holds, own_waits, other_holds}
 use Rattle.script_runs.proofs.Reading.{line_of, there}

@@ -1,8 +1,9 @@
 use Rattle.std.proofs.Common.{◌≡◌, ◌≤◌}
 use Rattle.joint_history.specs.Callers.{last_index, own}
 use Rattle.script_laws.specs.Holding.{opening_standing}
-use Rattle.joint_model.specs.Lines.{IsManagedThread}
-use Rattle.run_laws.specs.Threads.{HoldsItsFirst, WaitsEnd}
+use Rattle.joint_machine.specs.Lines.{IsManagedThread}
+use Rattle.run_laws.specs.Threads.{HoldsItsFirst}
+use Rattle.run_laws.specs.Waits.{WaitsEnd}
 use Rattle.script_runs.proofs.workers.run_own.Given as goal
 
 abbrev pub invariant-loop-t : goal.invariant-loop-t

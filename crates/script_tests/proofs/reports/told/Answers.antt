@@ -1,6 +1,6 @@
 -- The only list has the one entry, which fits what the history's lists hold.
 use Rattle.std.proofs.Common.{List, [], ◌∷◌, ◌++◌, refl, ap, ◌∙◌}
-use Rattle.joint_model.specs.declared.events.Entry.{Entry}
+use Rattle.joint_machine.specs.declared.events.Entry.{Entry}
 use Rattle.joint_model.specs.Listed.{Stock}
 use Rattle.script_tests.proofs.OneEntry.{joins_one}
 use Rattle.script_tests.proofs.reports.told.Goals as goal

@@ -1,6 +1,6 @@
 use Rattle.std.proofs.Common.{◌≡◌, sym, ap, ◌∙◌, [], ◌∷◌, ◌++◌, subst}
 use Rattle.std.specs.Prelude.{Some}
-use Rattle.joint_model.specs.Lines.{is_peer_event}
+use Rattle.joint_machine.specs.Lines.{is_peer_event}
 use Rattle.order_table.specs.declared.views.KeptEntry.{KeptEntry}
 use Rattle.order_table.specs.declared.views.View.{View}
 use Rattle.order_table.specs.Owed.{mark, says_word, target_told}

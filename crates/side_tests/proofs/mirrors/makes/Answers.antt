@@ -1,6 +1,6 @@
 -- An event that asks nothing is answered as the replay does.
-use Rattle.joint_model.specs.Sides.{peer_rules}
-use Rattle.peer_side.specs.Sides.{seen}
+use Rattle.joint_machine.specs.Sides.{peer_rules}
+use Rattle.peer_heap.specs.Sides.{seen}
 use Rattle.side_tests.proofs.Counting.{counted-in-turn}
 use Rattle.side_tests.proofs.Moves.{plain-may, plain-state}
 use Rattle.side_tests.proofs.PeerSteps.{counted-may-step, step-taken}

@@ -1,6 +1,6 @@
 -- Two peers were made.
 use Rattle.std.proofs.Common.{ap, ◌∙◌}
-use Rattle.peer_side.specs.Sides.{PeerModel}
+use Rattle.peer_heap.specs.Sides.{PeerModel}
 use Rattle.side_tests.specs.Circles.{with_pair}
 use Rattle.side_tests.proofs.Circles.{circle-first}
 use Rattle.side_tests.proofs.mirrors.play_on.Goals as goal

@@ -1,7 +1,7 @@
 -- What the two references lead to is the second object, which is live.
 use Rattle.std.proofs.Common.{◌∙◌, ◌++◌, [], ◌∷◌, ap, subst, sym}
-use Rattle.joint_model.specs.Components.{node, temporary}
-use Rattle.joint_model.specs.Heaps.{Heap, IsLive}
+use Rattle.joint_machine.specs.Components.{node, temporary}
+use Rattle.joint_machine.specs.Heaps.{Heap, IsLive}
 use Rattle.row_heap.specs.Rows.{HeapRows}
 use Rattle.store_tests.proofs.Over.{over-ends}
 use Rattle.store_tests.proofs.row_heaps.refer_over.Goals as goal

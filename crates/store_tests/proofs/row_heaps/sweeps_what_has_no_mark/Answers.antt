@@ -1,7 +1,7 @@
 -- The one object is in no slot.
 use Rattle.std.proofs.Common.{inl, inr, subst, ap, ◌∙◌}
-use Rattle.joint_model.specs.Heaps.{InSlot, with_object}
-use Rattle.joint_model.proofs.Numbered.{replicate-none}
+use Rattle.joint_machine.specs.Heaps.{InSlot, with_object}
+use Rattle.joint_machine.proofs.Numbered.{replicate-none}
 use Rattle.row_heap.specs.Rows.{HeapRows}
 use Rattle.store_tests.proofs.row_heaps.sweeps_what_has_no_mark.Goals as goal
 

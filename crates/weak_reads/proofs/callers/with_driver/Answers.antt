@@ -1,7 +1,7 @@
 use Rattle.std.proofs.Common.{sym, ◌∙◌, subst}
 use Rattle.std.specs.Prelude.{All}
 use Rattle.std.proofs.lemmas.List.Elements.{All-push}
-use Rattle.joint_model.specs.Lines.{IsThread}
+use Rattle.joint_machine.specs.Lines.{IsThread}
 use Rattle.joint_history.specs.Ending.{HasAll}
 use Rattle.weak_reads.specs.Racing.{IsReady}
 use Rattle.weak_reads.proofs.Racing.{given_goes_on, given_is_ready}

@@ -1,6 +1,6 @@
 use Rattle.std.proofs.Common.{sym, subst}
 use Rattle.std.proofs.lemmas.List.Elements.{All-push}
-use Rattle.joint_model.specs.Lines.{IsThread}
+use Rattle.joint_machine.specs.Lines.{IsThread}
 use Rattle.weak_reads.specs.Racing.{IsReady}
 use Rattle.weak_reads.proofs.Racing.{given_is_ready, none_given, one_given}
 use Rattle.weak_reads.proofs.callers.with_others.Goals as goal

@@ -1,7 +1,7 @@
 use Rattle.std.proofs.Common.{refl, arith}
-use Rattle.history_tests.proofs.HistoryTests.{all_come}
-use Rattle.history_tests.proofs.SideTests.{clears}
-use Rattle.history_tests.proofs.Telling.{refuted}
+use Rattle.computed_histories.proofs.HistoryTests.{all_come}
+use Rattle.computed_histories.proofs.SideTests.{clears}
+use Rattle.computed_histories.proofs.Telling.{refuted}
 use Rattle.worked_histories.specs.Broken.{until_last_restore, before_last_restore}
 use Rattle.worked_histories.specs.Phases.{restored_last}
 use Rattle.worked_histories.proofs.Worked.{lawful}

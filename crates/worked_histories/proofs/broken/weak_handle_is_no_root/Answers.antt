@@ -1,9 +1,9 @@
 use Rattle.std.proofs.Common.{ℕ, List, [], ◌∷◌, refl, nat_eq}
 use Rattle.std.specs.Prelude.{Contains}
-use Rattle.joint_model.specs.PeerReplay.{PeerReplay, Marking, IsSweep}
-use Rattle.history_tests.proofs.HistoryTests.{comes}
-use Rattle.history_tests.proofs.Reaching.{member}
-use Rattle.history_tests.proofs.Telling.{same}
+use Rattle.joint_machine.specs.PeerReplay.{PeerReplay, Marking, IsSweep}
+use Rattle.computed_histories.proofs.HistoryTests.{comes}
+use Rattle.computed_histories.proofs.Reaching.{member}
+use Rattle.computed_histories.proofs.Telling.{same}
 use Rattle.worked_histories.specs.Broken.{until_own_sweep, before_own_sweep}
 use Rattle.worked_histories.specs.Phases.{swept_both}
 use Rattle.worked_histories.proofs.Worked.{lawful, is_swept_by}

@@ -1,13 +1,11 @@
 -- Seven times eight is less than 60, and no list with the plain node's class is the graph's.
-use Rattle.std.proofs.Common.{[], ◌∷◌, refl}
-use Rattle.history_tests.proofs.ContractionTests.{heavy}
-use Rattle.history_tests.proofs.Reaching.{member}
-use Rattle.history_tests.proofs.Telling.{refuted, same}
-use Rattle.worked_histories.specs.Graphs.{light_meeting, light_bridges, light_nodes, light_components, light_references}
+use Rattle.std.proofs.Common.{[], ◌∷◌, refl, nat_eq}
+use Rattle.computed_histories.proofs.ContractionTests.{heavy}
+use Rattle.computed_histories.proofs.Reaching.{member}
+use Rattle.computed_histories.proofs.Telling.{refuted, same}
+use Rattle.worked_histories.specs.Graphs.{light_meeting, light_bridges, light_nodes, light_components, light_references, HasEdge}
 use Rattle.worked_histories.proofs.PairGraphs.{pair_contraction, pair_graph, pair_listed}
-use Rattle.std.proofs.Common.{nat_eq}
 use Rattle.std.specs.List.{Contains}
-use Rattle.worked_histories.specs.Graphs.{HasEdge}
 use Rattle.worked_histories.proofs.graphs.components_of_a_light_meeting.Goals as goal
 
 pub returns : goal.returns

@@ -1,10 +1,10 @@
 -- Eight times eight is more than 60, so a list without the plain node's class isn't the graph's.
 use Rattle.std.proofs.Common.{[], ◌∷◌, refl, nat_eq}
 use Rattle.std.specs.List.{Contains}
-use Rattle.history_tests.proofs.Reaching.{member}
-use Rattle.history_tests.proofs.Telling.{same}
-use Rattle.joint_model.proofs.Members.{Contains-nil}
-use Rattle.joint_model.specs.Components.{IsContraction}
+use Rattle.computed_histories.proofs.Reaching.{member}
+use Rattle.computed_histories.proofs.Telling.{same}
+use Rattle.joint_machine.proofs.Members.{Contains-nil}
+use Rattle.joint_machine.specs.Components.{IsContraction}
 use Rattle.worked_histories.specs.Graphs.{HasEdge, meeting, meeting_bridges, meeting_nodes, meeting_components, meeting_references}
 use Rattle.worked_histories.proofs.PairGraphs.{pair_contraction}
 use Rattle.worked_histories.proofs.graphs.components_of_a_meeting.Goals as goal

@@ -1,5 +1,5 @@
 use Rattle.std.proofs.Common.{[], ◌∷◌, refl}
-use Rattle.history_tests.proofs.Telling.{refuted}
+use Rattle.computed_histories.proofs.Telling.{refuted}
 use Rattle.worked_histories.specs.Graphs.{diamond, diamond_bridges, diamond_components}
 use Rattle.worked_histories.proofs.PairGraphs.{pair_contraction}
 use Rattle.worked_histories.proofs.graphs.components_without_detours.Goals as goal

@@ -1,5 +1,5 @@
 use Rattle.std.proofs.Common.{refl}
-use Rattle.history_tests.proofs.RowTests.{slot_reached}
+use Rattle.computed_histories.proofs.RowTests.{slot_reached}
 use Rattle.worked_histories.specs.Phases.{making_phased}
 use Rattle.worked_histories.proofs.histories.reached_object_stays.Goals as goal
 

@@ -1,13 +1,13 @@
 -- The answers are those of the restores, so no candidate is kept, and both rows of the dead part are freed.
 use Rattle.std.proofs.Common.{◌≡◌, ℕ, List, [], ◌∷◌, Some, refl, subst, slice_get, nat_eq}
-use Rattle.joint_model.specs.Cycles.{IsAnsweredAlive}
-use Rattle.joint_model.specs.Managed.{OpenCycle}
+use Rattle.joint_machine.specs.Cycles.{IsAnsweredAlive}
+use Rattle.joint_machine.specs.Managed.{OpenCycle}
 use Rattle.std.specs.List.{Contains}
-use Rattle.history_tests.proofs.Reaching.{member}
-use Rattle.history_tests.proofs.RowTests.{answered}
-use Rattle.history_tests.proofs.Telling.{refuted, same}
+use Rattle.computed_histories.proofs.Reaching.{member}
+use Rattle.computed_histories.proofs.RowTests.{answered}
+use Rattle.computed_histories.proofs.Telling.{refuted, same}
 use Rattle.worked_histories.proofs.histories.resolution_keeps_the_answered.Goals as goal
-use Rattle.joint_model.specs.Told.{said_alive, said_cleared, Answer}
+use Rattle.joint_machine.specs.Told.{said_alive, said_cleared, Answer}
 
 none_kept : (cycle : OpenCycle) (alive : List Answer) → cycle.candidates ≡ 1 ∷ 2 ∷ [] → alive ≡ said_cleared ∷ said_cleared ∷ [] → (x : ℕ) → IsAnsweredAlive cycle.candidates alive x → ⊥
 none_kept cycle alive p q x a = refuted (answered (1 ∷ 2 ∷ []) (said_cleared ∷ said_cleared ∷ []) x) refl (a.0, subst (λ l. slice_get l a.0 ≡ Some x) p a.1, (a.2.0, subst (λ l. slice_get l a.0 ≡ Some (said_alive a.2.0)) q a.2.1))

@@ -1,7 +1,7 @@
 use Rattle.std.proofs.Common.{refl}
-use Rattle.history_tests.proofs.ReadingTests.{unset}
-use Rattle.history_tests.proofs.Telling.{refuted}
-use Rattle.joint_model.specs.declared.names.Thread.TheVariants.{M}
+use Rattle.computed_histories.proofs.ReadingTests.{unset}
+use Rattle.computed_histories.proofs.Telling.{refuted}
+use Rattle.joint_machine.specs.declared.names.Thread.TheVariants.{M}
 use Rattle.worked_histories.specs.Pins.{pinned_object}
 use Rattle.worked_histories.specs.Readings.{cells_of}
 use Rattle.worked_histories.proofs.readings.own_cell_is_set.Goals as goal

@@ -1,7 +1,7 @@
 use Rattle.std.proofs.Common.{refl}
-use Rattle.history_tests.proofs.ReadingTests.{pending}
-use Rattle.history_tests.proofs.Telling.{refuted}
-use Rattle.joint_model.specs.declared.names.Thread.TheVariants.{M}
+use Rattle.computed_histories.proofs.ReadingTests.{pending}
+use Rattle.computed_histories.proofs.Telling.{refuted}
+use Rattle.joint_machine.specs.declared.names.Thread.TheVariants.{M}
 use Rattle.worked_histories.specs.Readings.{pending_after_end, pending_too_late}
 use Rattle.worked_histories.proofs.readings.pending_reads_end.Goals as goal
 

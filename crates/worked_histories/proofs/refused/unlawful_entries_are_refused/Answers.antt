@@ -1,8 +1,8 @@
 -- Each by computing: the test of the entry, or of the history, answers no.
 use Rattle.std.proofs.Common.{refl}
-use Rattle.history_tests.proofs.HistoryTests.{comes}
-use Rattle.history_tests.proofs.ReadingTests.{linked}
-use Rattle.history_tests.proofs.Telling.{refuted}
+use Rattle.computed_histories.proofs.HistoryTests.{comes}
+use Rattle.computed_histories.proofs.ReadingTests.{linked}
+use Rattle.computed_histories.proofs.Telling.{refuted}
 use Rattle.worked_histories.specs.Refused.{made_on_five, once_made, drops_on, disposed_halfway}
 use Rattle.worked_histories.proofs.Worked.{lawful}
 use Rattle.worked_histories.proofs.refused.unlawful_entries_are_refused.Goals as goal

@@ -1,5 +1,5 @@
 use Rattle.std.proofs.Common.{◌≡◌, ◌+◌, ◌-◌, ◌++◌, drop, get_or, vec_capacity, vec_len}
-use Rattle.joint_model.specs.Components.{circle_from}
+use Rattle.joint_machine.specs.Components.{circle_from}
 use Rattle.xref_list.proofs.circles.push_circle.Given as goal
 
 abbrev pub invariant-loop-i : goal.invariant-loop-i

@@ -1,8 +1,8 @@
 -- One phase after another is run, and less is to come.
 use Rattle.std.proofs.Common.{rules, [], ◌∷◌, ◌∙◌}
 use Rattle.std.proofs.lemmas.Result.{IfOk-weaker}
-use Rattle.joint_model.proofs.Deciding.{true_false}
-use Rattle.joint_model.proofs.Results.{at_error}
+use Rattle.joint_machine.proofs.Deciding.{true_false}
+use Rattle.joint_machine.proofs.Results.{at_error}
 use Rattle.bridge_cycle.specs.Progress.{EndsWithReply}
 use Rattle.bridge_cycle.specs.Words.{next_word, to_come}
 use Rattle.bridge_cycle.proofs.Composed.{closes_now, partway_lacks, partway_more, partway_none}

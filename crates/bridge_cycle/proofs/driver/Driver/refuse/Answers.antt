@@ -1,4 +1,4 @@
-use Rattle.joint_model.proofs.Results.{at_error}
+use Rattle.joint_machine.proofs.Results.{at_error}
 use Rattle.bridge_cycle.proofs.Making.{driver_seen, keeps}
 use Rattle.bridge_cycle.proofs.Refusals.{may_refuse, refused_now, stayed_now}
 use Rattle.bridge_cycle.proofs.driver.Driver.refuse.Goals as goal

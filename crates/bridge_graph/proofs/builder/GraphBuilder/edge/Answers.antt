@@ -3,7 +3,7 @@ use Rattle.bridge_graph.specs.declared.packing.Link.{Link}
 use Rattle.bridge_graph.specs.Built.{Joins}
 use Rattle.bridge_graph.proofs.Rows.{rows-link}
 use Rattle.bridge_graph.proofs.Building.{building-link}
-use Rattle.joint_model.proofs.Results.{at_error}
+use Rattle.joint_machine.proofs.Results.{at_error}
 use Rattle.bridge_graph.proofs.Room.{edges-most, edges-none, edges-pushed}
 use Rattle.bridge_graph.proofs.builder.GraphBuilder.edge.Goals as goal
 

@@ -3,7 +3,7 @@ use Rattle.std.proofs.lemmas.List.{length_push}
 use Rattle.bridge_graph.specs.declared.graph.Node.{Node}
 use Rattle.bridge_graph.proofs.Rows.{rows-node}
 use Rattle.bridge_graph.proofs.Building.{building-node, none_new}
-use Rattle.joint_model.proofs.Results.{at_error}
+use Rattle.joint_machine.proofs.Results.{at_error}
 use Rattle.bridge_graph.proofs.Room.{nodes-none, nodes-pushed}
 use Rattle.bridge_graph.proofs.builder.GraphBuilder.node.Goals as goal
 

@@ -1,7 +1,7 @@
 -- The number is found at its node.
 use Rattle.std.proofs.Common.{◌∙◌}
 use Rattle.std.proofs.lemmas.Option.{same_Some}
-use Rattle.joint_model.proofs.Deciding.{none_some}
+use Rattle.joint_machine.proofs.Deciding.{none_some}
 use Rattle.compare_pass.proofs.Tabled.{found-label}
 use Rattle.compare_pass.proofs.table.NodeTable.label.Goals as goal
 

@@ -1,6 +1,6 @@
 -- The number keeps its place, and gets the label.
 use Rattle.std.proofs.Common.{map, ap, ◌∙◌}
-use Rattle.joint_model.proofs.Members.{at-Contains}
+use Rattle.joint_machine.proofs.Members.{at-Contains}
 use Rattle.compare_pass.proofs.Tabled.{insert-labels, insert-numbers, label_in, number_of, rises-on}
 use Rattle.compare_pass.proofs.table.NodeTable.set.Goals as goal
 use Rattle.compare_pass.proofs.table.NodeTable.set.Goals.{in-Ok, in-Err}

@@ -1,6 +1,6 @@
 use Rattle.std.proofs.Common.{◌≡◌, None, true, sym, ap, subst, ◌∙◌}
 use Rattle.std.specs.Prelude.{IfSome, slice_set, if◌then◌else◌}
-use Rattle.joint_model.specs.Control.{caller_place}
+use Rattle.joint_machine.specs.Control.{caller_place}
 use Rattle.joint_history.specs.Callers.{IsOfRun, KnowsNothing}
 use Rattle.joint_history.specs.Desks.{Waiting, has_thread, waits, without_caller}
 use Rattle.joint_history.specs.Ending.{HasAll}

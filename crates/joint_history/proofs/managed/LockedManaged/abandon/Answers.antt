@@ -1,9 +1,9 @@
 use Rattle.std.proofs.Common.{refl, arith, ◌∙◌}
-use Rattle.joint_model.specs.declared.names.Thread.TheVariants.{C}
-use Rattle.joint_model.specs.Draws.{numbered}
-use Rattle.joint_model.specs.Told.{nothing}
-use Rattle.managed_side.specs.Calls.{abandon_made}
-use Rattle.managed_side.specs.Sides.{as_side}
+use Rattle.joint_machine.specs.declared.names.Thread.TheVariants.{C}
+use Rattle.joint_machine.specs.Draws.{numbered}
+use Rattle.joint_machine.specs.Told.{nothing}
+use Rattle.managed_heap.specs.Calls.{abandon_made}
+use Rattle.managed_heap.specs.Sides.{as_side}
 use Rattle.joint_history.proofs.CycleDraws.{knows_lent}
 use Rattle.joint_history.proofs.DriverCalls.{abandon_knows, abandoning_made, drew_keeps, drew_prefix, may_abandon, under_lock}
 use Rattle.joint_history.proofs.LockedSteps.{did, more_back}

@@ -1,10 +1,10 @@
 use Rattle.std.proofs.Common.{refl, arith, ◌∙◌}
-use Rattle.joint_model.specs.declared.names.Thread.TheVariants.{C}
-use Rattle.joint_model.specs.Control.{snapped}
-use Rattle.joint_model.specs.Draws.{numbered}
-use Rattle.joint_model.specs.Told.{contraction_of}
-use Rattle.managed_side.specs.Calls.{contract_made}
-use Rattle.managed_side.specs.Sides.{as_side}
+use Rattle.joint_machine.specs.declared.names.Thread.TheVariants.{C}
+use Rattle.joint_machine.specs.Control.{snapped}
+use Rattle.joint_machine.specs.Draws.{numbered}
+use Rattle.joint_machine.specs.Told.{contraction_of}
+use Rattle.managed_heap.specs.Calls.{contract_made}
+use Rattle.managed_heap.specs.Sides.{as_side}
 use Rattle.joint_history.proofs.DriverCalls.{contraction_knows, contraction_made, drew_keeps, drew_prefix, may_contract_with, under_lock}
 use Rattle.joint_history.proofs.LockedSteps.{did, more_back}
 use Rattle.joint_history.proofs.managed.LockedManaged.contracted.Goals as goal

@@ -1,5 +1,5 @@
 use Rattle.std.proofs.Common.{subst}
-use Rattle.managed_side.specs.Sides.{as_side}
+use Rattle.managed_heap.specs.Sides.{as_side}
 use Rattle.joint_history.specs.Locked.{UnderManaged}
 use Rattle.joint_history.specs.SeatFacts.{ManagedListCites}
 use Rattle.joint_history.proofs.SeatsKnow.{managed_list_cites, resolves_freed, resolves_renewed}

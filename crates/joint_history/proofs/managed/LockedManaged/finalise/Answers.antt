@@ -1,12 +1,12 @@
 use Rattle.std.proofs.Common.{ℕ, None, arith, ◌∙◌}
-use Rattle.joint_model.specs.declared.names.Thread.TheVariants.{C}
-use Rattle.joint_model.specs.declared.lines.Act.TheVariants as act
-use Rattle.joint_model.specs.declared.events.Entry.{Entry}
-use Rattle.joint_model.specs.declared.events.Op.TheVariants as op
-use Rattle.joint_model.specs.declared.events.Reply.{Reply}
-use Rattle.joint_model.specs.Sides.{managed_rules}
-use Rattle.joint_model.specs.Told.{nothing}
-use Rattle.managed_side.specs.Sides.{as_side}
+use Rattle.joint_machine.specs.declared.names.Thread.TheVariants.{C}
+use Rattle.joint_machine.specs.declared.lines.Act.TheVariants as act
+use Rattle.joint_machine.specs.declared.events.Entry.{Entry}
+use Rattle.joint_machine.specs.declared.events.Op.TheVariants as op
+use Rattle.joint_machine.specs.declared.events.Reply.{Reply}
+use Rattle.joint_machine.specs.Sides.{managed_rules}
+use Rattle.joint_machine.specs.Told.{nothing}
+use Rattle.managed_heap.specs.Sides.{as_side}
 use Rattle.joint_history.proofs.DriverCalls.{finalise_called}
 use Rattle.joint_history.specs.Driven.{driver_entry}
 use Rattle.joint_history.proofs.LockedSteps.{did, drew_more, drew_owns, more_back}

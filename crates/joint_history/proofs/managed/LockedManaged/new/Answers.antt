@@ -1,5 +1,5 @@
 use Rattle.std.proofs.Common.{◌∙◌}
-use Rattle.managed_side.specs.Sides.{as_side}
+use Rattle.managed_heap.specs.Sides.{as_side}
 use Rattle.joint_history.proofs.LockedSteps.{opening_managed_knows}
 use Rattle.joint_history.proofs.managed.LockedManaged.new.Goals as goal
 

@@ -1,5 +1,5 @@
 use Rattle.std.proofs.Common.{arith, ◌∙◌}
-use Rattle.managed_side.specs.Sides.{as_side}
+use Rattle.managed_heap.specs.Sides.{as_side}
 use Rattle.joint_history.proofs.LockedReads.{called_read}
 use Rattle.joint_history.proofs.managed.LockedManaged.read.Goals as goal
 

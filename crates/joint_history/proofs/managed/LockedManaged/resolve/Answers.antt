@@ -1,11 +1,11 @@
 use Rattle.std.proofs.Common.{refl, arith, ◌∙◌}
-use Rattle.joint_model.specs.declared.names.Thread.TheVariants.{C}
-use Rattle.joint_model.specs.Control.{restored}
-use Rattle.joint_model.specs.Draws.{numbered}
+use Rattle.joint_machine.specs.declared.names.Thread.TheVariants.{C}
+use Rattle.joint_machine.specs.Control.{restored}
+use Rattle.joint_machine.specs.Draws.{numbered}
 use Rattle.joint_model.specs.Listed.{answers_of}
-use Rattle.joint_model.specs.Told.{resolution_of}
-use Rattle.managed_side.specs.Calls.{resolve_made}
-use Rattle.managed_side.specs.Sides.{as_side}
+use Rattle.joint_machine.specs.Told.{resolution_of}
+use Rattle.managed_heap.specs.Calls.{resolve_made}
+use Rattle.managed_heap.specs.Sides.{as_side}
 use Rattle.joint_history.proofs.CycleDraws.{knows_lent}
 use Rattle.joint_history.proofs.DriverCalls.{drew_keeps, drew_prefix, may_close, resolution_knows, resolution_made, under_lock}
 use Rattle.joint_history.proofs.LockedSteps.{did, more_back}

@@ -1,7 +1,7 @@
 use Rattle.std.proofs.Common.{arith, ◌∙◌}
-use Rattle.joint_model.specs.declared.names.Thread.TheVariants.{C}
-use Rattle.joint_model.specs.Control.{idle}
-use Rattle.managed_side.specs.Sides.{as_side}
+use Rattle.joint_machine.specs.declared.names.Thread.TheVariants.{C}
+use Rattle.joint_machine.specs.Control.{idle}
+use Rattle.managed_heap.specs.Sides.{as_side}
 use Rattle.joint_history.proofs.CycleDraws.{knows_lent}
 use Rattle.joint_history.proofs.DriverCalls.{under_lock}
 use Rattle.joint_history.proofs.DriverSnaps.{may_snap, snap_keeps, snap_prefix, snapshot_called}

@@ -1,10 +1,10 @@
 use Rattle.std.proofs.Common.{ℕ, arith, ◌∙◌, subst, sym}
-use Rattle.joint_model.specs.declared.events.Entry.{Entry}
-use Rattle.joint_model.specs.declared.events.Reply.{Reply}
-use Rattle.joint_model.specs.Draws.{numbered}
-use Rattle.joint_model.specs.Sides.{managed_rules, TakesManaged}
-use Rattle.joint_model.specs.Told.{nothing}
-use Rattle.managed_side.specs.Sides.{as_side}
+use Rattle.joint_machine.specs.declared.events.Entry.{Entry}
+use Rattle.joint_machine.specs.declared.events.Reply.{Reply}
+use Rattle.joint_machine.specs.Draws.{numbered}
+use Rattle.joint_machine.specs.Sides.{managed_rules, TakesManaged}
+use Rattle.joint_machine.specs.Told.{nothing}
+use Rattle.managed_heap.specs.Sides.{as_side}
 use Rattle.joint_history.specs.Locked.{made_by}
 use Rattle.joint_history.proofs.Fresh.{turn_is_fresh_for}
 use Rattle.joint_history.proofs.LockedSteps.{called_managed, did, drew_more, drew_owns, more_back, plain_stand}

@@ -1,11 +1,11 @@
 use Rattle.std.proofs.Common.{ℕ, None, arith, ◌∙◌, subst, sym}
-use Rattle.joint_model.specs.declared.events.Entry.{Entry}
-use Rattle.joint_model.specs.declared.events.Reply.{Reply}
-use Rattle.joint_model.specs.Draws.{numbered}
-use Rattle.joint_model.specs.Sides.{managed_rules, TakesManaged}
-use Rattle.joint_model.specs.Told.{nothing}
-use Rattle.managed_side.specs.Steps.{weak_op}
-use Rattle.managed_side.specs.Sides.{as_side}
+use Rattle.joint_machine.specs.declared.events.Entry.{Entry}
+use Rattle.joint_machine.specs.declared.events.Reply.{Reply}
+use Rattle.joint_machine.specs.Draws.{numbered}
+use Rattle.joint_machine.specs.Sides.{managed_rules, TakesManaged}
+use Rattle.joint_machine.specs.Told.{nothing}
+use Rattle.managed_heap.specs.Steps.{weak_op}
+use Rattle.managed_heap.specs.Sides.{as_side}
 use Rattle.joint_history.specs.Locked.{made_by}
 use Rattle.joint_laws.proofs.FittingLists.{managed-thread}
 use Rattle.joint_history.proofs.Lent.{knows_lent, owns_lent}

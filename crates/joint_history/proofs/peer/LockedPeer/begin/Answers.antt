@@ -1,9 +1,9 @@
 use Rattle.std.proofs.Common.{None, refl, arith, ◌∙◌}
-use Rattle.joint_model.specs.declared.names.Thread.TheVariants.{C}
-use Rattle.joint_model.specs.declared.events.Op.TheVariants as op
-use Rattle.joint_model.specs.declared.events.Reply.TheVariants as says
-use Rattle.joint_model.specs.Told.{nothing}
-use Rattle.peer_side.specs.Sides.{seen}
+use Rattle.joint_machine.specs.declared.names.Thread.TheVariants.{C}
+use Rattle.joint_machine.specs.declared.events.Op.TheVariants as op
+use Rattle.joint_machine.specs.declared.events.Reply.TheVariants as says
+use Rattle.joint_machine.specs.Told.{nothing}
+use Rattle.peer_heap.specs.Sides.{seen}
 use Rattle.joint_history.specs.Driven.{driver_entry}
 use Rattle.joint_history.proofs.DriverMarks.{begin_knows, begin_made, peer_keeps, peer_prefix}
 use Rattle.joint_history.proofs.LockedSteps.{did, more_back}

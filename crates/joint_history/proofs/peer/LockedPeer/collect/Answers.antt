@@ -1,6 +1,6 @@
 use Rattle.std.proofs.Common.{arith, ◌∙◌, subst, sym}
-use Rattle.joint_model.specs.Sides.{TakesPeer}
-use Rattle.peer_side.specs.Sides.{seen}
+use Rattle.joint_machine.specs.Sides.{TakesPeer}
+use Rattle.peer_heap.specs.Sides.{seen}
 use Rattle.joint_history.proofs.Collecting.{collect_called, collect_more, collect_owns, collect_reserves}
 use Rattle.joint_history.proofs.LockedSteps.{did, more_back}
 use Rattle.joint_laws.proofs.FittingLists.{peer-thread}

@@ -1,5 +1,5 @@
 use Rattle.std.proofs.Common.{subst}
-use Rattle.peer_side.specs.Sides.{seen}
+use Rattle.peer_heap.specs.Sides.{seen}
 use Rattle.joint_history.specs.Locked.{UnderPeer}
 use Rattle.joint_history.specs.SeatFacts.{HandlesLeft, NoneLeadsToFreedIn, PeerListCites, WeakIsWaitingIn}
 use Rattle.joint_history.proofs.SeatsKnow.{handles_left, none_to_cleared, none_to_freed, peer_list_cites, weak_waits}

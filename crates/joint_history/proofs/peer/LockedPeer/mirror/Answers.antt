@@ -1,7 +1,7 @@
 use Rattle.std.proofs.Common.{refl, arith, ◌∙◌}
-use Rattle.joint_model.specs.declared.names.Thread.TheVariants.{C}
-use Rattle.joint_model.specs.Control.{contracted}
-use Rattle.peer_side.specs.Sides.{seen}
+use Rattle.joint_machine.specs.declared.names.Thread.TheVariants.{C}
+use Rattle.joint_machine.specs.Control.{contracted}
+use Rattle.peer_heap.specs.Sides.{seen}
 use Rattle.joint_history.proofs.DriverMirrors.{are_bridges, are_strong, may_mirror, mirror_called, mirror_keeps, mirror_order, mirror_prefix}
 use Rattle.joint_history.proofs.DriverPeerSteps.{under_peers}
 use Rattle.joint_history.proofs.LockedSteps.{did, more_back}

@@ -1,5 +1,5 @@
 use Rattle.std.proofs.Common.{ap, ◌∙◌}
-use Rattle.peer_side.specs.Sides.{seen, PeerModel}
+use Rattle.peer_heap.specs.Sides.{seen, PeerModel}
 use Rattle.joint_history.proofs.LockedSteps.{opening_peer_knows}
 use Rattle.joint_history.proofs.Reserving.{first_reserves}
 use Rattle.joint_history.proofs.peer.LockedPeer.new.Goals as goal

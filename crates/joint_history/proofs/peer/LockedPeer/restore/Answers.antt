@@ -1,10 +1,10 @@
 use Rattle.std.proofs.Common.{None, refl, arith, ◌∙◌}
-use Rattle.joint_model.specs.declared.names.Thread.TheVariants.{C}
-use Rattle.joint_model.specs.declared.events.Op.TheVariants as op
-use Rattle.joint_model.specs.Control.{restoring}
-use Rattle.joint_model.specs.Told.{nothing}
-use Rattle.peer_side.specs.Cycles.{reply_of}
-use Rattle.peer_side.specs.Sides.{seen}
+use Rattle.joint_machine.specs.declared.names.Thread.TheVariants.{C}
+use Rattle.joint_machine.specs.declared.events.Op.TheVariants as op
+use Rattle.joint_machine.specs.Control.{restoring}
+use Rattle.joint_machine.specs.Told.{nothing}
+use Rattle.peer_heap.specs.Cycles.{reply_of}
+use Rattle.peer_heap.specs.Sides.{seen}
 use Rattle.joint_history.specs.Driven.{driver_entry}
 use Rattle.joint_history.proofs.DriverHandles.{may_restore, restore_knows, restore_made}
 use Rattle.joint_history.proofs.DriverMarks.{peer_keeps, peer_prefix}

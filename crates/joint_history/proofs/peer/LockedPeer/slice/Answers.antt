@@ -1,8 +1,8 @@
 -- The driver's own marking is open, and a slice leaves the side as its entries have it: the colours alone are others.
 use Rattle.std.proofs.Common.{inr, refl, sym, ap, subst, arith, ◌∙◌}
 use base.Growing.{prefix_refl}
-use Rattle.joint_model.specs.declared.names.Thread.TheVariants.{C}
-use Rattle.peer_side.specs.Sides.{PeerModel, seen}
+use Rattle.joint_machine.specs.declared.names.Thread.TheVariants.{C}
+use Rattle.peer_heap.specs.Sides.{PeerModel, seen}
 use Rattle.order_table.specs.Views.{known}
 use Rattle.joint_history.specs.Locked.{PeerKnows}
 use Rattle.joint_history.proofs.DriverMarks.{is_open, is_own_marking}

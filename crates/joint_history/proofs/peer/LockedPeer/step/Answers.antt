@@ -1,9 +1,9 @@
 use Rattle.std.proofs.Common.{ℕ, arith, ◌∙◌, subst, sym}
-use Rattle.joint_model.specs.declared.events.Entry.{Entry}
-use Rattle.joint_model.specs.declared.events.Reply.{Reply}
-use Rattle.joint_model.specs.Draws.{numbered}
-use Rattle.joint_model.specs.Sides.{TakesPeer}
-use Rattle.peer_side.specs.Sides.{seen}
+use Rattle.joint_machine.specs.declared.events.Entry.{Entry}
+use Rattle.joint_machine.specs.declared.events.Reply.{Reply}
+use Rattle.joint_machine.specs.Draws.{numbered}
+use Rattle.joint_machine.specs.Sides.{TakesPeer}
+use Rattle.peer_heap.specs.Sides.{seen}
 use Rattle.joint_history.specs.Locked.{made_by}
 use Rattle.joint_history.proofs.Allowed.{turn_is_allowed}
 use Rattle.joint_history.proofs.LockedSteps.{called_peer, did, event_more, event_owns, more_back}

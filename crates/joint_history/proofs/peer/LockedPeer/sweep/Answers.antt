@@ -1,10 +1,10 @@
 use Rattle.std.proofs.Common.{◌⊎◌, None, refl, sym, subst, arith, ◌∙◌}
 use Rattle.std.specs.Prelude.{IsSome}
-use Rattle.joint_model.specs.declared.names.Thread.TheVariants.{C}
-use Rattle.joint_model.specs.declared.events.Op.TheVariants as op
-use Rattle.joint_model.specs.declared.events.Reply.TheVariants as says
-use Rattle.joint_model.specs.Told.{sweep_of}
-use Rattle.peer_side.specs.Sides.{seen}
+use Rattle.joint_machine.specs.declared.names.Thread.TheVariants.{C}
+use Rattle.joint_machine.specs.declared.events.Op.TheVariants as op
+use Rattle.joint_machine.specs.declared.events.Reply.TheVariants as says
+use Rattle.joint_machine.specs.Told.{sweep_of}
+use Rattle.peer_heap.specs.Sides.{seen}
 use Rattle.joint_history.specs.Driven.{driver_entry}
 use Rattle.joint_history.specs.DriverMarks.{HasBegunMarking}
 use Rattle.joint_history.specs.Locked.{UnderPeer}

@@ -1,6 +1,6 @@
 use Rattle.std.proofs.Common.{sym, subst}
-use Rattle.joint_model.specs.Control.{restored}
-use Rattle.joint_model.specs.Lines.{IsDriver}
+use Rattle.joint_machine.specs.Control.{restored}
+use Rattle.joint_machine.specs.Lines.{IsDriver}
 use Rattle.joint_history.specs.Callers.{Pass}
 use Rattle.joint_history.specs.DriverHandles.{MakesClear, MayClearCycle}
 use Rattle.joint_history.proofs.DriverHears.{driver_knows, driver_pass, driver_pass_back, driver_reads}

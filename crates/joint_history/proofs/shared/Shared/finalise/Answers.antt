@@ -1,6 +1,6 @@
 use Rattle.std.proofs.Common.{sym, subst}
 use Rattle.std.specs.Prelude.{IfOk}
-use Rattle.joint_model.specs.Lines.{IsDriver}
+use Rattle.joint_machine.specs.Lines.{IsDriver}
 use Rattle.joint_history.specs.Driven.{MakesFinalise, MayFinalise}
 use Rattle.joint_history.specs.Callers.{Pass}
 use Rattle.joint_history.proofs.DriverCallers.{knows_either}

@@ -1,6 +1,6 @@
 use Rattle.std.proofs.Common.{◌≤◌, sym, ap, subst}
 use Rattle.std.specs.Prelude.{IfOk, OnErr}
-use Rattle.joint_model.specs.Lines.{IsLine, IsManagedThread}
+use Rattle.joint_machine.specs.Lines.{IsLine, IsManagedThread}
 use Rattle.joint_history.specs.Callers.{Pass, last_index, own}
 use Rattle.joint_history.specs.Operations.{StopsWithoutMemory, Runs}
 use Rattle.joint_history.proofs.Running.{beginner_is_below, beginner_knows, managed_is_own, managed_operation}

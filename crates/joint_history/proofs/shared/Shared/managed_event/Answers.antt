@@ -1,6 +1,6 @@
 -- A read cites nothing.
 use Rattle.std.proofs.Common.{ℕ, Option, sym, ◌∙◌, subst}
-use Rattle.joint_model.specs.declared.events.Op.{Op}
+use Rattle.joint_machine.specs.declared.events.Op.{Op}
 use Rattle.joint_history.specs.Locked.{Makes, MayMake}
 use Rattle.joint_history.specs.Operations.{IsCallBy, entry_by}
 use Rattle.joint_history.proofs.Running.{line_bare}

@@ -1,5 +1,5 @@
 use Rattle.std.proofs.Common.{sym, subst}
-use Rattle.joint_model.specs.Lines.{IsDriver}
+use Rattle.joint_machine.specs.Lines.{IsDriver}
 use Rattle.joint_history.specs.Callers.{Pass}
 use Rattle.joint_history.specs.DriverMarks.{MakesMark, MayMarkCycle}
 use Rattle.joint_history.proofs.DriverHears.{driver_pass, driver_pass_back, driver_reads}

@@ -1,6 +1,6 @@
 -- No slice makes an entry.
 use Rattle.std.proofs.Common.{◌∙◌, sym, subst}
-use Rattle.joint_model.specs.Lines.{IsDriver}
+use Rattle.joint_machine.specs.Lines.{IsDriver}
 use Rattle.joint_history.proofs.DriverMarks.{none_begun}
 use Rattle.joint_history.proofs.DriverSnaps.{none_then_none}
 use Rattle.joint_history.proofs.shared.Shared.mark_on.Goals as goal

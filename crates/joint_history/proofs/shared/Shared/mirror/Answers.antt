@@ -1,7 +1,7 @@
 use Rattle.std.proofs.Common.{ℕ, sym, subst}
 use Rattle.std.specs.Prelude.{IfOk}
-use Rattle.joint_model.specs.Control.{contracted}
-use Rattle.joint_model.specs.Lines.{IsDriver}
+use Rattle.joint_machine.specs.Control.{contracted}
+use Rattle.joint_machine.specs.Lines.{IsDriver}
 use Rattle.joint_history.specs.Callers.{Pass}
 use Rattle.joint_history.specs.DriverMirrors.{MakesMirror, MayMirrorCycle}
 use Rattle.joint_history.proofs.DriverCallers.{knows_either}

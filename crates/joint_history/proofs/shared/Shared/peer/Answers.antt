@@ -1,7 +1,7 @@
 use Rattle.std.proofs.Common.{[], ◌≤◌, sym, ap, subst}
 use Rattle.std.specs.Prelude.{IfOk, OnErr}
-use Rattle.joint_model.specs.declared.lines.Act.{Act}
-use Rattle.joint_model.specs.Lines.{IsLine, IsPeerThread}
+use Rattle.joint_machine.specs.declared.lines.Act.{Act}
+use Rattle.joint_machine.specs.Lines.{IsLine, IsPeerThread}
 use Rattle.joint_history.specs.Callers.{Pass, last_index, own}
 use Rattle.joint_history.specs.Collecting.{Collects}
 use Rattle.joint_history.specs.Locked.{MakesNone}

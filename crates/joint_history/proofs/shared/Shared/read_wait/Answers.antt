@@ -1,5 +1,5 @@
 use Rattle.std.proofs.Common.{◌≡◌, ◌+◌, ◌≤◌, arith, rules, subst, sym}
-use Rattle.joint_model.specs.Lines.{IsManagedThread}
+use Rattle.joint_machine.specs.Lines.{IsManagedThread}
 use Rattle.joint_model.specs.Listed.{Stock}
 use Rattle.joint_history.specs.Callers.{Pass, last_index, own, reads_of}
 use Rattle.joint_history.specs.Operations.{ReadsBy}

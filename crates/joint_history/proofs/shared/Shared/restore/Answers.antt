@@ -1,7 +1,7 @@
 use Rattle.std.proofs.Common.{[], ◌∷◌, ◌++◌, sym, subst}
-use Rattle.joint_model.specs.Control.{answer_in, restoring}
-use Rattle.joint_model.specs.Lines.{IsDriver}
-use Rattle.peer_side.specs.Cycles.{reply_of}
+use Rattle.joint_machine.specs.Control.{answer_in, restoring}
+use Rattle.joint_machine.specs.Lines.{IsDriver}
+use Rattle.peer_heap.specs.Cycles.{reply_of}
 use Rattle.joint_history.specs.Callers.{Pass}
 use Rattle.joint_history.specs.DriverHandles.{MakesRestore, MayRestoreHandle}
 use Rattle.joint_history.proofs.DriverHears.{driver_knows, driver_pass, driver_pass_back, driver_reads}

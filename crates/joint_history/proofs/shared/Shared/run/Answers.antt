@@ -2,7 +2,7 @@ use Rattle.std.proofs.Common.{None, sym, subst, ◌∙◌}
 use Rattle.joint_history.specs.Locked.{MayMake}
 use Rattle.joint_history.specs.Operations.{IsSideEvent, Runs}
 use Rattle.std.proofs.lemmas.Result.{IfOk-from_err}
-use Rattle.joint_model.proofs.Results.{at_error}
+use Rattle.joint_machine.proofs.Results.{at_error}
 use Rattle.joint_history.proofs.Running.{broken_begins, broken_off, exact_first, exact_later, first_begins, first_comes, first_ends, first_is_made, none_from, nothing_begun, second_begins, second_ends, then_second, third_begins, third_comes, third_ends, third_is_release}
 use Rattle.joint_history.proofs.Turning.{begins_still}
 use Rattle.joint_history.proofs.shared.Shared.run.Goals as goal

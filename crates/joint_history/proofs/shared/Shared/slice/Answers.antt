@@ -1,6 +1,6 @@
 use Rattle.std.proofs.Common.{sym, subst}
-use Rattle.joint_model.specs.Control.{marked}
-use Rattle.joint_model.specs.Lines.{IsDriver}
+use Rattle.joint_machine.specs.Control.{marked}
+use Rattle.joint_machine.specs.Lines.{IsDriver}
 use Rattle.joint_history.specs.Callers.{Pass}
 use Rattle.joint_history.specs.Driven.{DriverMakesNone}
 use Rattle.joint_history.specs.DriverMarks.{HasBegunMarking}

@@ -1,6 +1,6 @@
 -- The slices make no entry, and then the sweep makes its own.
 use Rattle.std.proofs.Common.{sym, subst}
-use Rattle.joint_model.specs.Lines.{IsDriver}
+use Rattle.joint_machine.specs.Lines.{IsDriver}
 use Rattle.joint_history.proofs.DriverMarks.{none_begun, none_then_sweep}
 use Rattle.joint_history.proofs.shared.Shared.sweep.Goals as goal
 

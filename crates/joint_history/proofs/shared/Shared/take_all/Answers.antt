@@ -1,8 +1,8 @@
 -- All seats are in one, so it owns every line and knows the whole.
 use Rattle.std.proofs.Common.{subst}
-use Rattle.joint_model.specs.Histories.{entry_lists}
-use Rattle.managed_side.specs.Sides.{as_side}
-use Rattle.peer_side.specs.Sides.{seen}
+use Rattle.joint_model.specs.Listed.{entry_lists}
+use Rattle.managed_heap.specs.Sides.{as_side}
+use Rattle.peer_heap.specs.Sides.{seen}
 use Rattle.order_table.specs.Rule.{AreLinesOfOneHistory as AllKnown}
 use Rattle.joint_history.proofs.Joined.{owns_every}
 use Rattle.joint_history.proofs.shared.Shared.take_all.Goals as goal

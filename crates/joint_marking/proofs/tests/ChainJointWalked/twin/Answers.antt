@@ -1,10 +1,10 @@
 -- Each of the three objects holds the handle with its own number, and that handle is on the peer with this number.
 use Rattle.std.proofs.Common.{◌≡◌, ℕ, zero, suc, ◌≤◌, ◌↔◌, inl, inr, [], ◌∷◌, Some, refl, sym, ap, subst, ◌∙◌, arith}
 use Rattle.std.specs.Prelude.{Contains}
-use Rattle.joint_model.specs.Heaps.{IsLive, numbered_at}
-use Rattle.joint_model.specs.Joint.{IsJoined}
-use Rattle.joint_model.specs.Peers.{peer_of}
-use Rattle.joint_model.proofs.Members.{Contains-nil, Contains-cons_cases}
+use Rattle.joint_machine.specs.Heaps.{IsLive, numbered_at}
+use Rattle.joint_machine.specs.Joint.{IsJoined}
+use Rattle.joint_machine.specs.Peers.{peer_of}
+use Rattle.joint_machine.proofs.Members.{Contains-nil, Contains-cons_cases}
 use Rattle.joint_marking.specs.Chain.{chain, chain_objects}
 use Rattle.joint_marking.proofs.tests.ChainJointWalked.twin.Goals as goal
 

@@ -1,6 +1,7 @@
 -- The lists are merged as where they are kept.
 use Rattle.std.proofs.Common.{subst, sym}
-use Rattle.joint_model.specs.Histories.{IsShuffle, entry_lists}
+use Rattle.joint_machine.specs.Shuffles.{IsShuffle}
+use Rattle.joint_model.specs.Listed.{entry_lists}
 use Rattle.joint_model.proofs.Merging.{merged_all-whole}
 use Rattle.joint_model.proofs.past.PastHistory.join.Goals as goal
 

@@ -1,6 +1,6 @@
 -- The clean heap is the one of the graph.
 use Rattle.std.proofs.Common.{◌≡◌, ◌<◌, sym, subst, length, None, Some}
-use Rattle.joint_model.specs.Heaps.{Heap, fields_of, slot}
+use Rattle.joint_machine.specs.Heaps.{Heap, fields_of, slot}
 use Rattle.joint_replay.specs.Plain.{cleaned}
 use Rattle.joint_replay.proofs.both.BothPartsJointWalked.peer_field.Goals as goal
 

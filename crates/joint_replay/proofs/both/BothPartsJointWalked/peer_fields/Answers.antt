@@ -1,6 +1,6 @@
 -- The clean heap is the one of the graph.
 use Rattle.std.proofs.Common.{◌∙◌, ap, length}
-use Rattle.joint_model.specs.Heaps.{Heap, fields_of}
+use Rattle.joint_machine.specs.Heaps.{Heap, fields_of}
 use Rattle.joint_replay.specs.Plain.{cleaned}
 use Rattle.joint_replay.proofs.both.BothPartsJointWalked.peer_fields.Goals as goal
 

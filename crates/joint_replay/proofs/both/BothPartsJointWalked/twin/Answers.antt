@@ -1,7 +1,7 @@
 -- An object without a handle, or whose handle is on a freed peer, has no twin.
 use Rattle.std.proofs.Common.{sym}
-use Rattle.joint_model.specs.Heaps.{IsLive}
-use Rattle.joint_model.proofs.Deciding.{test-false}
+use Rattle.joint_machine.specs.Heaps.{IsLive}
+use Rattle.joint_machine.proofs.Deciding.{test-false}
 use Rattle.joint_marking.proofs.Twins.{twin-none, twin-freed}
 use Rattle.joint_replay.specs.Graphs.{clean_graph, parts_graph}
 use Rattle.joint_replay.proofs.Finding.{cleaned-live, live-cleaned}

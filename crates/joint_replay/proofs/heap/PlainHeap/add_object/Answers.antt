@@ -1,7 +1,7 @@
 -- The further object stands last, with its flag up.
 use Rattle.std.proofs.Common.{◌≡◌, ◌∙◌, ◌++◌, ◌+◌, ◌<◌, [], ◌∷◌, ap, map, length, refl, true, arith, length-append}
 use Rattle.std.proofs.lemmas.List.{length-map}
-use Rattle.joint_model.specs.Heaps.{Heap, MOST}
+use Rattle.joint_machine.specs.Heaps.{Heap, MOST}
 use Rattle.joint_replay.proofs.Flags.{IsFlagged-more}
 use Rattle.joint_replay.proofs.heap.PlainHeap.add_object.Goals as goal
 

@@ -1,6 +1,6 @@
 -- The row of the object is the Vec at its index.
 use Rattle.std.proofs.Common.{◌≡◌, List, Option, ℕ, get_or, refl, sym, ap, subst, length, arith}
-use Rattle.joint_model.specs.Heaps.{IsMade, fields_of}
+use Rattle.joint_machine.specs.Heaps.{IsMade, fields_of}
 use Rattle.heap_rules.proofs.Numbered.{fields-read, slot-read}
 use Rattle.joint_replay.proofs.Flags.{fields_of-made}
 use Rattle.joint_replay.proofs.heap.PlainHeap.field.Goals as goal

@@ -1,7 +1,7 @@
 -- The row of the object is the Vec at its index.
 use Rattle.std.proofs.Common.{◌≡◌, ◌∙◌, refl, sym, ap, length, map, arith}
 use Rattle.std.proofs.lemmas.List.{length-map}
-use Rattle.joint_model.specs.Heaps.{Heap, IsMade}
+use Rattle.joint_machine.specs.Heaps.{Heap, IsMade}
 use Rattle.heap_rules.proofs.Numbered.{fields-read}
 use Rattle.joint_replay.proofs.heap.PlainHeap.fields_len.Goals as goal
 

@@ -1,7 +1,7 @@
 -- The flags of the freed objects are taken down.
 use Rattle.std.proofs.Common.{◌∙◌, ◌++◌, refl, ap, subst, sym}
 use Rattle.std.specs.Prelude.{All}
-use Rattle.joint_model.specs.Heaps.{Heap, IsMade}
+use Rattle.joint_machine.specs.Heaps.{Heap, IsMade}
 use Rattle.joint_replay.proofs.Flags.{IsFlagged-freed}
 use Rattle.joint_replay.proofs.heap.PlainHeap.free.Goals as goal
 

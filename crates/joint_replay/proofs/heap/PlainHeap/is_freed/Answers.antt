@@ -1,7 +1,7 @@
 -- The flag of the object tells.
 use Rattle.std.specs.Prelude.{Contains}
 use Rattle.std.proofs.Common.{◌↔◌, IsTrue, false, not, ◌≤◌, length, arith, subst}
-use Rattle.joint_model.specs.Heaps.{Heap, is_freed}
+use Rattle.joint_machine.specs.Heaps.{Heap, is_freed}
 use Rattle.heap_rules.proofs.Numbered.{numbered-index}
 use Rattle.joint_replay.specs.Plain.{IsFlagged}
 use Rattle.joint_replay.proofs.Flags.{IsFlagged-tells, IsFlagged-past, is_freed-exact, same-test}

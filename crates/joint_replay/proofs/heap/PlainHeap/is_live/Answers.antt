@@ -1,6 +1,6 @@
 -- The flag of the object tells, as the test of the definitions does.
 use Rattle.std.proofs.Common.{◌≤◌, ◌↔◌, IsTrue, false, length, arith, subst}
-use Rattle.joint_model.specs.Heaps.{Heap, IsLive}
+use Rattle.joint_machine.specs.Heaps.{Heap, IsLive}
 use Rattle.heap_rules.proofs.Numbered.{numbered-index}
 use Rattle.joint_replay.specs.Plain.{IsFlagged, is_live}
 use Rattle.joint_replay.proofs.Flags.{IsFlagged-live, IsFlagged-unmade, is_live-exact, same-test}

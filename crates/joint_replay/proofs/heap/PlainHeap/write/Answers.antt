@@ -1,7 +1,7 @@
 -- The row of the object is written at the index of its Vec.
 use Rattle.std.proofs.Common.{◌≡◌, ◌∙◌, refl, ap, length, map, arith}
-use Rattle.joint_model.specs.Heaps.{IsMade, fields_of}
-use Rattle.joint_model.proofs.Numbered.{numbered_set-length}
+use Rattle.joint_machine.specs.Heaps.{IsMade, fields_of}
+use Rattle.joint_machine.proofs.Numbered.{numbered_set-length}
 use Rattle.heap_rules.proofs.Numbered.{fields-read, map-set_number}
 use Rattle.heap_rules.proofs.Sound.{write-is}
 use Rattle.joint_replay.proofs.Flags.{IsFlagged-as, fields_of-made}

@@ -1,8 +1,8 @@
 -- The rows are freed, and then the cycle ends.
 use Rattle.std.proofs.Common.{None, ap, ◌∙◌, ◌++◌}
 use Rattle.std.specs.Prelude.{filter}
-use Rattle.joint_model.specs.Heaps.{with_freed}
-use Rattle.joint_model.specs.Managed.{Managed, candidates_of, holds_handle}
+use Rattle.joint_machine.specs.Heaps.{with_freed}
+use Rattle.joint_machine.specs.Managed.{Managed, candidates_of, holds_handle}
 use Rattle.joint_replay.specs.Answers.{answers_as, given_in, renewed_by}
 use Rattle.joint_replay.proofs.Answering.{renewed-all}
 use Rattle.joint_replay.proofs.managed.ManagedPart.close.Goals as goal

@@ -1,8 +1,8 @@
 -- The candidates of the open cycle were made, so one that holds the handle is live.
 use Rattle.std.proofs.Common.{sym, ap, ◌∙◌, subst}
 use Rattle.std.specs.Prelude.{All}
-use Rattle.joint_model.specs.Heaps.{IsMade}
-use Rattle.joint_model.specs.Managed.{Managed}
+use Rattle.joint_machine.specs.Heaps.{IsMade}
+use Rattle.joint_machine.specs.Managed.{Managed}
 use Rattle.joint_replay.proofs.Restoring.{candidate-found}
 use Rattle.joint_replay.proofs.managed.ManagedPart.has_candidate.Goals as goal
 

@@ -1,8 +1,8 @@
 -- What was found among the rows was made.
 use Rattle.std.proofs.Common.{◌≡◌, ◌∙◌, length, subst, sym, ap}
 use Rattle.std.specs.Prelude.{All}
-use Rattle.joint_model.specs.Heaps.{Heap, IsMade}
-use Rattle.joint_model.specs.Managed.{Managed}
+use Rattle.joint_machine.specs.Heaps.{Heap, IsMade}
+use Rattle.joint_machine.specs.Managed.{Managed}
 use Rattle.joint_replay.specs.Finding.{FindsRows}
 use Rattle.joint_replay.proofs.Snapping.{found-freed, found-owed}
 use Rattle.joint_replay.proofs.managed.ManagedPart.open.Goals as goal

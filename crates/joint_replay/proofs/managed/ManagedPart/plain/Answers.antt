@@ -1,8 +1,8 @@
 -- The objects' heap alone moves.
 use Rattle.std.proofs.Common.{subst}
-use Rattle.joint_model.specs.Heaps.{Heap}
-use Rattle.joint_model.specs.Managed.{Managed, managed_name, on_heap}
-use Rattle.joint_model.specs.Run.{thread_number}
+use Rattle.joint_machine.specs.Heaps.{Heap}
+use Rattle.joint_machine.specs.Managed.{Managed, managed_name, on_heap}
+use Rattle.joint_machine.specs.Run.{thread_number}
 use Rattle.joint_replay.specs.Judging.{Decides, Gives}
 use Rattle.joint_replay.specs.Operations.{plain_line}
 use Rattle.joint_replay.proofs.Lifting.{Gives-on}

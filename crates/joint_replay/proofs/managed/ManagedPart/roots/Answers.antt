@@ -1,8 +1,8 @@
 -- A variable, a static or a pin names each root.
 use Rattle.std.proofs.Common.{ℕ, ◌↔◌, ◌∙◌, Contains, IfOk, subst}
-use Rattle.joint_model.specs.Heaps.{IsLive}
-use Rattle.joint_model.specs.Histories.{managed_numbers}
-use Rattle.joint_model.specs.Managed.{Managed, IsManagedRoot}
+use Rattle.joint_machine.specs.Heaps.{IsLive}
+use Rattle.joint_machine.specs.Histories.{managed_numbers}
+use Rattle.joint_machine.specs.Managed.{Managed, IsManagedRoot}
 use Rattle.joint_replay.proofs.Rooting.{numbered-roots}
 use Rattle.std.proofs.lemmas.Result.{IfOk-weaker}
 use Rattle.joint_replay.proofs.managed.ManagedPart.roots.Goals as goal

@@ -1,6 +1,6 @@
 -- There is one snapshot, and the reply is its, or isn't.
 use Rattle.std.proofs.Common.{refl, true, false, ◌≡◌, sym, subst, length, ◌∙◌, arith}
-use Rattle.joint_model.specs.Managed.{Managed}
+use Rattle.joint_machine.specs.Managed.{Managed}
 use Rattle.joint_replay.specs.Finding.{FindsRows}
 use Rattle.joint_replay.proofs.Snapping.{snapshot-found, snap-no, snap-yes}
 use Rattle.joint_replay.proofs.managed.ManagedPart.snap.Goals as goal

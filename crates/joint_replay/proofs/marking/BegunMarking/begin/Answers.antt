@@ -1,5 +1,5 @@
 -- The marked peers are those that were live and unreached at the begin.
-use Rattle.joint_model.specs.Run.{IsStored}
+use Rattle.joint_machine.specs.Run.{IsStored}
 use Rattle.joint_replay.specs.Graphs.{parts_graph}
 use Rattle.joint_replay.proofs.marking.BegunMarking.begin.Goals as goal
 

@@ -1,8 +1,8 @@
 -- The handle stands at its number.
 use Rattle.std.proofs.Common.{◌≡◌, ◌≤◌, Some, map, length, subst, arith}
 use Rattle.std.proofs.lemmas.List.{length-map}
-use Rattle.joint_model.specs.Heaps.{numbered_at}
-use Rattle.joint_model.specs.Peers.{Peers}
+use Rattle.joint_machine.specs.Heaps.{numbered_at}
+use Rattle.joint_machine.specs.Peers.{Peers}
 use Rattle.heap_rules.proofs.Numbered.{numbered-read}
 use Rattle.joint_replay.specs.Plain.{issued_as}
 use Rattle.joint_replay.proofs.peers.PeerPart.handle.Goals as goal

@@ -1,8 +1,8 @@
 -- The peers' heap alone moves.
 use Rattle.std.proofs.Common.{map, subst}
-use Rattle.joint_model.specs.Heaps.{Heap}
-use Rattle.joint_model.specs.Peers.{Peers, on_peer_heap, peer_name}
-use Rattle.joint_model.specs.Run.{thread_number}
+use Rattle.joint_machine.specs.Heaps.{Heap}
+use Rattle.joint_machine.specs.Peers.{Peers, on_peer_heap, peer_name}
+use Rattle.joint_machine.specs.Run.{thread_number}
 use Rattle.joint_replay.specs.Judging.{Decides, Gives}
 use Rattle.joint_replay.specs.Operations.{plain_line}
 use Rattle.joint_replay.specs.Plain.{issued_as}

@@ -1,6 +1,6 @@
 -- Each candidate has had its restore, so the answers are those that were given.
 use Rattle.std.proofs.Common.{◌≡◌, map, Some, ap, sym, subst}
-use Rattle.joint_model.specs.Joint.{Joint}
+use Rattle.joint_machine.specs.Joint.{Joint}
 use Rattle.joint_replay.specs.Answers.{answers_as, given_in}
 use Rattle.joint_replay.proofs.Answering.{all-answered}
 use Rattle.joint_replay.proofs.state.JointState.close.Goals as goal

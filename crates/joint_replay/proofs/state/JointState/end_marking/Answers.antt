@@ -1,6 +1,6 @@
 -- What a sweep frees was made, since nothing frees a peer while a marking is open.
 use Rattle.std.proofs.Common.{subst, sym}
-use Rattle.joint_model.specs.Joint.{Joint}
+use Rattle.joint_machine.specs.Joint.{Joint}
 use Rattle.joint_replay.specs.Answers.{answers_as}
 use Rattle.joint_replay.specs.Snaps.{MaySweep}
 use Rattle.joint_replay.proofs.Sweeping.{sweep-made}

@@ -1,6 +1,6 @@
 -- The answers are those of the state.
 use Rattle.std.proofs.Common.{◌≡◌, sym, ap, ◌∙◌}
-use Rattle.joint_model.specs.Joint.{Joint}
+use Rattle.joint_machine.specs.Joint.{Joint}
 use Rattle.joint_replay.specs.Answers.{answers_as, given_in}
 use Rattle.joint_replay.proofs.Answering.{given-all, all-given}
 use Rattle.joint_replay.proofs.state.JointState.is_answered.Goals as goal

@@ -1,7 +1,7 @@
 -- The answers are those of the state.
 use Rattle.std.proofs.Common.{◌≡◌, None, sym, ap, subst}
 use Rattle.std.specs.List.{All}
-use Rattle.joint_model.specs.Joint.{Joint}
+use Rattle.joint_machine.specs.Joint.{Joint}
 use Rattle.joint_replay.specs.Answers.{answers_as}
 use Rattle.joint_replay.proofs.Answering.{missing-all, all-missing}
 use Rattle.joint_replay.proofs.state.JointState.is_unanswered.Goals as goal

@@ -1,9 +1,9 @@
 -- The peers alone move, and the flags with them.
 use Rattle.std.proofs.Common.{◌≡◌, subst}
 use Rattle.std.specs.Prelude.{IfOk, OnErr}
-use Rattle.joint_model.specs.Joint.{Joint}
-use Rattle.joint_model.specs.Peers.{pair_made}
-use Rattle.joint_model.specs.Run.{on_peers}
+use Rattle.joint_machine.specs.Joint.{Joint}
+use Rattle.joint_machine.specs.Peers.{pair_made}
+use Rattle.joint_machine.specs.Run.{on_peers}
 use Rattle.joint_replay.specs.Answers.{answers_as}
 use Rattle.joint_replay.specs.Judging.{Decides, Gives}
 use Rattle.joint_replay.proofs.Growing.{Grows-pair_made, err-peers, on-peers, stored-after, with_peers}

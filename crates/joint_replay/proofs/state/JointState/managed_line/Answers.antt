@@ -1,8 +1,8 @@
 -- The managed part alone moves.
 use Rattle.std.proofs.Common.{subst}
-use Rattle.joint_model.specs.Joint.{Joint, with_managed}
-use Rattle.joint_model.specs.Managed.{Managed, managed_line}
-use Rattle.joint_model.specs.Run.{on_managed, thread_number}
+use Rattle.joint_machine.specs.Joint.{Joint, with_managed}
+use Rattle.joint_machine.specs.Managed.{Managed, managed_line}
+use Rattle.joint_machine.specs.Run.{on_managed, thread_number}
 use Rattle.joint_replay.specs.Answers.{answers_as}
 use Rattle.joint_replay.specs.Judging.{Decides, Gives}
 use Rattle.joint_replay.proofs.Lifting.{Gives-on}

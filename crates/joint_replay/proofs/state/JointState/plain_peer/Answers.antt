@@ -1,8 +1,8 @@
 -- The peers alone move.
 use Rattle.std.proofs.Common.{arith, refl, subst}
-use Rattle.joint_model.specs.Joint.{Joint}
-use Rattle.joint_model.specs.Peers.{on_peer_heap, peer_name}
-use Rattle.joint_model.specs.Run.{on_peers, thread_number}
+use Rattle.joint_machine.specs.Joint.{Joint}
+use Rattle.joint_machine.specs.Peers.{on_peer_heap, peer_name}
+use Rattle.joint_machine.specs.Run.{on_peers, thread_number}
 use Rattle.joint_replay.specs.Answers.{answers_as}
 use Rattle.joint_replay.specs.Judging.{Decides, Gives}
 use Rattle.joint_replay.specs.Operations.{plain_line}

@@ -1,8 +1,8 @@
 -- The peers alone move, and the flags with them.
 use Rattle.std.proofs.Common.{subst}
-use Rattle.joint_model.specs.Joint.{Joint}
-use Rattle.joint_model.specs.Peers.{peer_read}
-use Rattle.joint_model.specs.Run.{on_peers}
+use Rattle.joint_machine.specs.Joint.{Joint}
+use Rattle.joint_machine.specs.Peers.{peer_read}
+use Rattle.joint_machine.specs.Run.{on_peers}
 use Rattle.joint_replay.specs.Answers.{answers_as}
 use Rattle.joint_replay.specs.Judging.{Decides, Gives}
 use Rattle.joint_replay.proofs.Growing.{Grows-peer_read, issued-peer_read, on-peers-same, stored-then, with_peers}

@@ -1,9 +1,9 @@
 -- The peer of the handle is the one that it leads to.
 use Rattle.std.proofs.Common.{subst}
 use Rattle.std.specs.Prelude.{MatchOption}
-use Rattle.joint_model.specs.declared.events.Reply.{Reply}
-use Rattle.joint_model.specs.Joint.{Joint}
-use Rattle.joint_model.specs.Run.{JointRestore}
+use Rattle.joint_machine.specs.declared.events.Reply.{Reply}
+use Rattle.joint_machine.specs.Joint.{Joint}
+use Rattle.joint_machine.specs.Run.{JointRestore}
 use Rattle.joint_replay.specs.Answers.{answers_as}
 use Rattle.joint_replay.specs.Snaps.{MayRestore}
 use Rattle.joint_replay.proofs.Restoring.{may-restore}

@@ -1,6 +1,6 @@
 -- A marking from the kept candidates leaves out what goes.
 use Rattle.std.proofs.Common.{subst}
-use Rattle.joint_model.specs.Joint.{Joint}
+use Rattle.joint_machine.specs.Joint.{Joint}
 use Rattle.joint_replay.specs.Answers.{answers_as}
 use Rattle.joint_replay.specs.Snaps.{Settles}
 use Rattle.joint_replay.proofs.Snapping.{settles-from}

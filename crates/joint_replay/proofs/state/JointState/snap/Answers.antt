@@ -1,6 +1,6 @@
 -- The managed part moves, and the answers with it.
 use Rattle.std.proofs.Common.{subst}
-use Rattle.joint_model.specs.Joint.{Joint, with_managed}
+use Rattle.joint_machine.specs.Joint.{Joint, with_managed}
 use Rattle.joint_replay.specs.Answers.{answers_as}
 use Rattle.joint_replay.specs.Snaps.{SnapsJoint}
 use Rattle.joint_replay.specs.Judging.{named_objects, Decides}

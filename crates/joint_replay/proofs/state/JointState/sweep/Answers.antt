@@ -1,6 +1,6 @@
 -- The caller may end the open marking, so its sweep is not refused.
 use Rattle.std.proofs.Common.{◌≡◌, Some, subst}
-use Rattle.joint_model.specs.Joint.{Joint}
+use Rattle.joint_machine.specs.Joint.{Joint}
 use Rattle.joint_replay.specs.Judging.{named_peers}
 use Rattle.joint_replay.specs.Snaps.{MayEndOpen}
 use Rattle.joint_replay.proofs.Sweeping.{sweep-ends}

@@ -1,10 +1,10 @@
 -- The reply names a sweep of the open marking exactly where each test holds.
 use Rattle.std.proofs.Common.{subst, sym}
 use Rattle.std.specs.Prelude.{All}
-use Rattle.joint_model.specs.Components.{Rises}
-use Rattle.joint_model.specs.Joint.{Joint}
-use Rattle.joint_model.specs.Run.{IsStored}
-use Rattle.joint_model.proofs.Deciding.{test-false}
+use Rattle.joint_machine.specs.Components.{Rises}
+use Rattle.joint_machine.specs.Joint.{Joint}
+use Rattle.joint_machine.specs.Run.{IsStored}
+use Rattle.joint_machine.proofs.Deciding.{test-false}
 use Rattle.reachability.specs.Marks.{HasMark}
 use Rattle.joint_replay.specs.Answers.{answers_as}
 use Rattle.joint_replay.specs.Judging.{named_peers}

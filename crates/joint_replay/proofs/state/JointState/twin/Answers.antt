@@ -1,6 +1,6 @@
 -- Each turn asks one object more.
 use Rattle.std.proofs.Common.{◌≡◌, ◌∙◌, length, sym, ap, arith}
-use Rattle.joint_model.specs.Joint.{Joint}
+use Rattle.joint_machine.specs.Joint.{Joint}
 use Rattle.joint_replay.proofs.Twinning.{twin-found, twin-skip, twin-none}
 use Rattle.joint_replay.proofs.state.JointState.twin.Goals as goal
 

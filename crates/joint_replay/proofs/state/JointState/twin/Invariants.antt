@@ -1,6 +1,6 @@
 -- No object so far is the twin.
 use Rattle.std.proofs.Common.{◌≡◌, ◌-◌, drop}
-use Rattle.joint_model.specs.Joint.{twin_from, twin_of}
+use Rattle.joint_machine.specs.Joint.{twin_from, twin_of}
 use Rattle.joint_replay.proofs.state.JointState.twin.Given as goal
 
 abbrev pub invariant-loop-m : goal.invariant-loop-m

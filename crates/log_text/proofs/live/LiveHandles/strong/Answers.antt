@@ -2,7 +2,7 @@ use Rattle.std.proofs.Common.{◌≡◌}
 use Rattle.std.specs.BTreeMap.{keys}
 use Rattle.std.proofs.lemmas.Result.{IfOk-weaker}
 use Rattle.log_text.specs.Live.{handles_of, shown}
-use Rattle.log_text.specs.Taking.{AreKeys}
+use Rattle.log_text.specs.Keys.{AreKeys}
 use Rattle.log_text.proofs.Keys.{are-keys}
 use Rattle.log_text.proofs.live.LiveHandles.strong.Goals as goal
 

@@ -1,7 +1,7 @@
 -- The further row stands last, and the list of freed objects has room for it too.
 use Rattle.std.proofs.Common.{rules, ◌≡◌, ◌∙◌, ◌+◌, ◌<◌, ◌≤◌, ap, map, length, refl, arith, None, vec_capacity, length-append}
 use Rattle.std.proofs.lemmas.List.{length-map, length-replicate}
-use Rattle.joint_model.specs.Heaps.{MOST}
+use Rattle.joint_machine.specs.Heaps.{MOST}
 use Rattle.heap_rules.proofs.Sound.{IsLive-last}
 use Rattle.row_heap.proofs.FieldCounts.{count-added}
 use Rattle.row_heap.proofs.Gone.{gone-same}

@@ -1,7 +1,7 @@
 -- The further references lead from rows that stand, and nothing follows them.
 use Rattle.std.proofs.Common.{◌++◌, ◌-◌, ◌∙◌, false, length, map, ap, arith}
 use Rattle.std.proofs.lemmas.List.Elements.{All-contains}
-use Rattle.joint_model.specs.Components.{node}
+use Rattle.joint_machine.specs.Components.{node}
 use Rattle.row_heap.specs.Ends.{Linked, ends_of}
 use Rattle.row_heap.specs.Rows.{HeapRows, MayReferBoth, rows_of}
 use Rattle.row_heap.proofs.Sound.{AreReferences-added, IsRowHeap-other, ends-refer, made-seen, tidy-seen}

@@ -1,8 +1,8 @@
 -- From a live object the loop's edges are those of the heap.
 use Rattle.std.proofs.Common.{ℕ, ◌∷◌, [], inl, inr, subst}
 use Rattle.std.specs.Prelude.{Contains}
-use Rattle.joint_model.specs.Heaps.{IsLive}
-use Rattle.joint_model.proofs.Members.{Contains-cons_cases, Contains-nil}
+use Rattle.joint_machine.specs.Heaps.{IsLive}
+use Rattle.joint_machine.proofs.Members.{Contains-cons_cases, Contains-nil}
 use Rattle.reachability.specs.Marks.{IsClosed}
 use Rattle.row_heap.specs.Rows.{HeapRows}
 use Rattle.row_heap.specs.Marks.{LeadsTo}

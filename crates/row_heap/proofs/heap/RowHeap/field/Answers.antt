@@ -3,7 +3,7 @@ use Rattle.std.proofs.Common.{◌∙◌, ◌<◌, None, get_or, sym, ap, length,
 use Rattle.std.specs.Prelude.{Contains}
 use Rattle.std.proofs.lemmas.List.{get_or_default}
 use Rattle.std.proofs.lemmas.List.Elements.{Contains-get_or}
-use Rattle.joint_model.specs.Heaps.{slot, fields_of}
+use Rattle.joint_machine.specs.Heaps.{slot, fields_of}
 use Rattle.heap_rules.proofs.Numbered.{slot-read}
 use Rattle.heap_rules.proofs.Sound.{read-live}
 use Rattle.row_heap.proofs.Sound.{live-stands, fields-seen, tidy-seen}

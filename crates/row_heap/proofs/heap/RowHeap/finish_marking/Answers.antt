@@ -1,6 +1,5 @@
 -- No marked object is freed, so the loop's edges are those of the heap.
-use Rattle.std.proofs.Common.{inl, inr}
-use Rattle.std.proofs.Common.{subst}
+use Rattle.std.proofs.Common.{inl, inr, subst}
 use Rattle.reachability.specs.Marks.{IsClosed}
 use Rattle.row_heap.specs.Rows.{HeapRows}
 use Rattle.row_heap.specs.Marks.{LeadsTo}

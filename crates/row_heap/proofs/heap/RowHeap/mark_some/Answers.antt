@@ -1,6 +1,6 @@
 -- No marked object is freed, so what the loop walks are the edges of the heap.
 use Rattle.std.proofs.Common.{ℕ, ap, subst}
-use Rattle.joint_model.specs.Heaps.{Heap, IsLive}
+use Rattle.joint_machine.specs.Heaps.{Heap, IsLive}
 use Rattle.reachability.specs.Marks.{HasMark}
 use Rattle.row_heap.specs.Rows.{HeapRows}
 use Rattle.row_heap.proofs.Edges.{blackens-edges, rest-kept}

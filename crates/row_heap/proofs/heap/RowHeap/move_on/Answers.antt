@@ -2,7 +2,7 @@
 use Rattle.std.proofs.Common.{◌+◌, length, map, arith, ap, sym, subst, ◌∙◌}
 use Rattle.std.proofs.lemmas.Bool.{true≢false}
 use Rattle.row_heap.specs.Rows.{HeapRows, heap_of}
-use Rattle.joint_model.specs.Heaps.{IsLive}
+use Rattle.joint_machine.specs.Heaps.{IsLive}
 use Rattle.row_heap.proofs.Gone.{gone-next}
 use Rattle.row_heap.proofs.Sound.{made-seen}
 use Rattle.row_heap.proofs.heap.RowHeap.move_on.Goals as goal

@@ -1,6 +1,6 @@
 -- No temporary counts as seen, so what live objects' references lead to is gone through anew; only marks change.
 use Rattle.std.proofs.Common.{◌∙◌, suc, refl, sym, ap, subst}
-use Rattle.joint_model.specs.PeerReplay.{Refers}
+use Rattle.joint_machine.specs.PeerReplay.{Refers}
 use Rattle.row_marking.specs.Traces.{Greyed}
 use Rattle.row_marking.proofs.Greys.{Greyed-as}
 use Rattle.row_heap.specs.Ends.{Linked}

@@ -1,7 +1,7 @@
 -- The rows without a mark are removed, and the heap stays sound.
 use Rattle.std.proofs.Common.{◌∙◌, sym, ap, subst, arith}
 use Rattle.std.proofs.lemmas.List.{length-map}
-use Rattle.joint_model.specs.Heaps.{with_freed}
+use Rattle.joint_machine.specs.Heaps.{with_freed}
 use Rattle.row_heap.specs.Marks.{AreWhite}
 use Rattle.row_heap.specs.Places.{row_at}
 use Rattle.row_heap.specs.Rows.{HeapRows}

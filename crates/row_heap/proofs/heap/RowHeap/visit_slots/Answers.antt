@@ -1,7 +1,7 @@
 -- The variables are done, and then the statics.
 use Rattle.std.proofs.Common.{Some, inl, inr, ap, subst}
 use Rattle.std.specs.Prelude.{Contains}
-use Rattle.joint_model.specs.Heaps.{InSlot}
+use Rattle.joint_machine.specs.Heaps.{InSlot}
 use Rattle.row_marking.specs.Traces.{Greyed}
 use Rattle.row_marking.proofs.Greys.{Greyed-then}
 use Rattle.row_heap.specs.Rows.{HeapRows}

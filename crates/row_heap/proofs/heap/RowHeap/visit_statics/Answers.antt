@@ -1,14 +1,14 @@
 -- One more slot is done in each turn: what it names is marked, or it names nothing.
 use Rattle.std.proofs.Common.{◌≡◌, ◌∙◌, ◌≤◌, ◌<◌, length, Some, None, ap, subst, arith}
 use Rattle.std.proofs.lemmas.List.{take_all}
-use Rattle.joint_model.specs.Heaps.{slot}
+use Rattle.joint_machine.specs.Heaps.{slot}
 use Rattle.row_marking.proofs.Greys.{Greyed-push_some, Greyed-push_none}
 use Rattle.row_heap.specs.Rows.{HeapRows}
 use Rattle.row_heap.proofs.Edges.{rest-kept}
 use Rattle.row_heap.proofs.heap.RowHeap.visit_statics.Goals as goal
 use Rattle.row_heap.proofs.heap.RowHeap.visit_statics.Goals.{in-Some, in_default}
-use Rattle.joint_model.proofs.Numbered.{slot-at}
-use Rattle.joint_model.proofs.Members.{take-next}
+use Rattle.joint_machine.proofs.Numbered.{slot-at}
+use Rattle.joint_machine.proofs.Members.{take-next}
 
 pub loop-s-preserved : goal.loop-s-preserved
 loop-s-preserved g c =

@@ -1,7 +1,7 @@
 -- The key was vacant, so no place of the index has it.
 use Rattle.std.proofs.Common.{◌∙◌, arith}
 use Rattle.row_heap.proofs.Marked.{kept-are, kept-rows, pushed-are, pushed-rows}
-use Rattle.joint_model.proofs.Results.{at_error}
+use Rattle.joint_machine.proofs.Results.{at_error}
 use Rattle.row_heap.proofs.places.Rows.add.Goals as goal
 
 pub invariant_of-self : goal.invariant_of-self

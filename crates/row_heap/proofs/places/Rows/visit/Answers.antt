@@ -3,7 +3,7 @@ use Rattle.std.proofs.Common.{◌≡◌, ℕ, ◌∙◌, ◌∷◌, [], ◌⊎�
 use Rattle.std.specs.Prelude.{Contains}
 use Rattle.std.specs.Vec.{with_items}
 use Rattle.std.proofs.lemmas.List.{length-map, with_items_is}
-use Rattle.joint_model.proofs.Members.{Contains-cons_cases, Contains-here, Contains-nil}
+use Rattle.joint_machine.proofs.Members.{Contains-cons_cases, Contains-here, Contains-nil}
 use Rattle.reachability.specs.Marks.{HasMark}
 use Rattle.row_marking.specs.Traces.{Greyed}
 use Rattle.row_heap.specs.Ends.{Raises}

@@ -1,6 +1,6 @@
 -- The lists say where the end's references begin.
 use Rattle.std.proofs.Common.{◌∙◌, ap, slice_index_or}
-use Rattle.joint_model.specs.Components as exact
+use Rattle.joint_machine.specs.Components as exact
 use Rattle.row_heap.proofs.Linked.{last-at}
 use Rattle.row_heap.proofs.references.References.first.Goals as goal
 

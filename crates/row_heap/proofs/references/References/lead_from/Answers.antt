@@ -3,8 +3,8 @@ use Rattle.std.proofs.Common.{◌∙◌, length, ap, sym, arith}
 use Rattle.std.specs.Prelude.{◌==◌, vec_len}
 use Rattle.std.proofs.lemmas.Bool.{eqb-true, not-false}
 use Rattle.std.proofs.lemmas.Option.{slice_get_within}
-use Rattle.joint_model.proofs.Members.{at-Contains}
-use Rattle.joint_model.specs.Components as exact
+use Rattle.joint_machine.proofs.Members.{at-Contains}
+use Rattle.joint_machine.specs.Components as exact
 use Rattle.row_heap.specs.Ends.{Linked}
 use Rattle.row_heap.proofs.Linked.{pairs-len}
 use Rattle.row_heap.proofs.references.References.lead_from.Goals as goal

@@ -2,8 +2,8 @@
 use Rattle.std.proofs.Common.{◌≡◌, ◌∙◌, inl, inr, true, Some, refl, sym, ap, subst}
 use Rattle.std.specs.Prelude.{Contains}
 use Rattle.std.proofs.lemmas.Bool.{true≢false}
-use Rattle.joint_model.specs.Heaps.{fields_of}
-use Rattle.joint_model.specs.PeerReplay.{Refers}
+use Rattle.joint_machine.specs.Heaps.{fields_of}
+use Rattle.joint_machine.specs.PeerReplay.{Refers}
 use Rattle.row_marking.proofs.Greys.{Greyed-as, Greyed-then}
 use Rattle.row_heap.specs.Ends.{Linked}
 use Rattle.row_heap.specs.Marks.{LeadsTo}

@@ -1,5 +1,5 @@
 use Rattle.std.proofs.Common.{◌≡◌, ℕ, Some, None, refl, sym, ap, ◌∙◌, subst}
-use Rattle.joint_model.specs.declared.events.Op.TheVariants as op
+use Rattle.joint_machine.specs.declared.events.Op.TheVariants as op
 use Rattle.check_laws.specs.Behind.{state_of}
 use Rattle.xref_list.specs.Listing.{IsListing, Listing}
 use Rattle.run_check.specs.declared.cycles.OpenCycle.{OpenCycle as Kept}

@@ -1,6 +1,6 @@
 -- The driver's begin gives a number, and the place is the first again.
 use Rattle.std.proofs.Common.{refl, sym, subst, ap, ◌∙◌}
-use Rattle.peer_side.specs.Sides.{Reserve, is_own}
+use Rattle.peer_heap.specs.Sides.{Reserve, is_own}
 use Rattle.run_check.specs.declared.replays.Replay.{Replay}
 use Rattle.run_check.specs.Judging.{AnswersRightly}
 use Rattle.run_check.proofs.PeerMarks.{begin-answers, begun-waits}

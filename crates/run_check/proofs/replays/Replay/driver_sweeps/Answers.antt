@@ -1,7 +1,7 @@
 -- The driver's sweep: its reply is compared, and then what it freed.
 use Rattle.std.proofs.Common.{refl, sym, length, drop, ◌∙◌, true≢false}
-use Rattle.joint_model.specs.declared.events.Reply.TheVariants as says
-use Rattle.joint_model.specs.Told.{sweep_of}
+use Rattle.joint_machine.specs.declared.events.Reply.TheVariants as says
+use Rattle.joint_machine.specs.Told.{sweep_of}
 use Rattle.run_check.specs.declared.replays.Replay.{Replay}
 use Rattle.run_check.proofs.PeerMarks.{MakesSweep, driver-sweeps, sweep-named, sweep-other-reply}
 use Rattle.run_check.proofs.replays.Replay.driver_sweeps.Goals as goal

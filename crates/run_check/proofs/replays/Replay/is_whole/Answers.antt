@@ -1,5 +1,5 @@
 use Rattle.std.proofs.Common.{◌≡◌, sym, ◌∙◌, true≢false}
-use Rattle.joint_model.proofs.Deciding.{none_some}
+use Rattle.joint_machine.proofs.Deciding.{none_some}
 use Rattle.run_check.proofs.Wholes.{follows-done, nothing-follows, owed-none}
 use Rattle.run_check.proofs.replays.Replay.is_whole.Goals as goal
 

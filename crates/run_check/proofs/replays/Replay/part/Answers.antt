@@ -1,6 +1,6 @@
 use Rattle.std.proofs.Common.{ap, ◌∙◌, subst}
 use Rattle.std.specs.Prelude.{is_some}
-use Rattle.joint_model.specs.PeerReplay.{PeerReplay}
+use Rattle.joint_machine.specs.PeerReplay.{PeerReplay}
 use Rattle.check_laws.specs.Behind.{state_of}
 use Rattle.run_check.specs.Cycles.{CycleFollows}
 use Rattle.run_check.proofs.Parting.{marking-so, some-part}

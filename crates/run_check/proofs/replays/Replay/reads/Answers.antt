@@ -1,7 +1,7 @@
 -- A read that answers as it may is drawn, and its pin is filled where it names an object.
 use Rattle.std.proofs.Common.{◌+◌, ap, sym, subst, ◌∙◌}
-use Rattle.joint_model.specs.Run.{thread_number}
-use Rattle.joint_model.specs.Told.{nothing}
+use Rattle.joint_machine.specs.Run.{thread_number}
+use Rattle.joint_machine.specs.Told.{nothing}
 use Rattle.run_check.specs.declared.replays.Replay.{Replay}
 use Rattle.run_check.specs.Follows.{pins_read}
 use Rattle.run_check.specs.Judging.{Replied}

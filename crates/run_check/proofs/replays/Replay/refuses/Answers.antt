@@ -1,7 +1,7 @@
 use Rattle.std.proofs.Common.{◌≡◌, List, length, None, Some, refl, sym, ap, ◌∙◌, subst, true≢false}
-use Rattle.joint_model.specs.declared.events.Op.TheVariants as op
-use Rattle.joint_model.specs.Managed.{candidates_of}
-use Rattle.joint_model.specs.Told.{Noted, phase_of}
+use Rattle.joint_machine.specs.declared.events.Op.TheVariants as op
+use Rattle.joint_machine.specs.Managed.{candidates_of}
+use Rattle.joint_machine.specs.Told.{Noted, phase_of}
 use Rattle.check_laws.specs.Behind.{state_of}
 use Rattle.caller_turns.specs.Shapes.{TellsPhase, stand_of}
 use Rattle.caller_turns.specs.Turns.{Callers}

@@ -1,10 +1,10 @@
 -- The next candidate's handle may be restored, there is room for its answer, and the place goes on.
 use Rattle.std.proofs.Common.{◌≡◌, refl, sym, subst}
 use Rattle.std.specs.Prelude.{◌↔◌, IsTrue}
-use Rattle.joint_model.specs.Sides.{AddsLawful, peer_rules}
-use Rattle.joint_model.specs.Told.{nothing}
-use Rattle.peer_side.specs.Cycles.{restores}
-use Rattle.peer_side.specs.Sides.{seen}
+use Rattle.joint_machine.specs.Sides.{AddsLawful, peer_rules}
+use Rattle.joint_machine.specs.Told.{nothing}
+use Rattle.peer_heap.specs.Cycles.{restores}
+use Rattle.peer_heap.specs.Sides.{seen}
 use Rattle.run_check.specs.declared.replays.Replay.{Replay}
 use Rattle.run_check.specs.Judging.{AnswersRightly}
 use Rattle.run_check.proofs.PeerEntries.{recorder}

@@ -1,10 +1,10 @@
 use Rattle.std.proofs.Common.{◌≡◌, ℕ, suc, [], List, length, Option, Some, None, refl, sym, ap, ◌∙◌, subst, true≢false}
-use Rattle.joint_model.specs.declared.names.MNum.{MNum}
-use Rattle.joint_model.specs.declared.events.Op.TheVariants as op
+use Rattle.joint_machine.specs.declared.names.MNum.{MNum}
+use Rattle.joint_machine.specs.declared.events.Op.TheVariants as op
 use Rattle.known_laws.specs.Known.{PinsStand}
 use Rattle.check_laws.specs.Behind.{state_of}
-use Rattle.managed_side.specs.Pinned.{pins_given}
-use Rattle.managed_side.specs.Sides.{as_side}
+use Rattle.managed_heap.specs.Pinned.{pins_given}
+use Rattle.managed_heap.specs.Sides.{as_side}
 use Rattle.run_check.specs.declared.cycles.OpenCycle.{OpenCycle as Kept}
 use Rattle.run_check.specs.declared.draws.Recorder.{Recorder}
 use Rattle.run_check.specs.declared.replays.Replay.{Replay}

@@ -1,6 +1,6 @@
 use Rattle.std.proofs.Common.{◌≡◌, false, true, refl, sym, ap, ◌∙◌, subst, true≢false}
-use Rattle.joint_model.specs.Histories.{managed_numbers, stretch}
-use Rattle.joint_laws.specs.ToldLaws.{IsStretch}
+use Rattle.joint_machine.specs.Histories.{managed_numbers, stretch}
+use Rattle.joint_laws.specs.Spans.{IsStretch}
 use Rattle.run_check.specs.declared.replays.Replay.{Replay}
 use Rattle.run_check.specs.Judging.{AnswersRightly}
 use Rattle.run_check.proofs.OneReply.{answers_rightly}

@@ -1,6 +1,6 @@
 -- A peer thread's begin.
 use Rattle.std.proofs.Common.{refl}
-use Rattle.peer_side.specs.Makings.{gone_since}
+use Rattle.peer_heap.specs.Makings.{gone_since}
 use Rattle.run_check.specs.declared.replays.Replay.{Replay}
 use Rattle.run_check.proofs.PeerMarks.{thread-begin-answers}
 use Rattle.run_check.proofs.replays.Replay.thread_begins.Goals as goal

@@ -1,7 +1,7 @@
 -- A peer thread's sweep: its reply is compared, and then what it freed, if it wasn't refused.
 use Rattle.std.proofs.Common.{refl, sym, subst, ◌∙◌, true≢false}
-use Rattle.joint_model.specs.declared.events.Op.TheVariants as op
-use Rattle.peer_side.specs.Makings.{gone_since, told_at}
+use Rattle.joint_machine.specs.declared.events.Op.TheVariants as op
+use Rattle.peer_heap.specs.Makings.{gone_since, told_at}
 use Rattle.run_check.specs.declared.replays.Replay.{Replay}
 use Rattle.run_check.proofs.PeerMarks.{MakesSweep, sweep-named, sweep-other-reply, sweep-refused, thread-sweeps}
 use Rattle.run_check.proofs.replays.Replay.thread_sweeps.Goals as goal

@@ -1,7 +1,7 @@
 -- A step leaves the handles as they were issued.
 use Rattle.std.proofs.Common.{refl}
-use Rattle.joint_model.specs.Sides.{peer_rules}
-use Rattle.peer_side.specs.Sides.{seen}
+use Rattle.joint_machine.specs.Sides.{peer_rules}
+use Rattle.peer_heap.specs.Sides.{seen}
 use Rattle.side_tests.proofs.Counting.{counted-in-turn}
 use Rattle.side_tests.proofs.Holding.{same-held, stays-held}
 use Rattle.side_tests.proofs.Moves.{makings-still, still-in-turn, still-may, still-step}

@@ -1,10 +1,10 @@
 -- The handle is held, and a release leaves the handles as they were issued.
 use Rattle.std.proofs.Common.{None, refl}
-use Rattle.joint_model.specs.declared.names.Thread.TheVariants.{M}
-use Rattle.joint_model.specs.declared.events.Op.TheVariants as op
-use Rattle.joint_model.specs.Sides.{peer_rules}
-use Rattle.peer_side.specs.Makings.{gone_since, step_makings}
-use Rattle.peer_side.specs.Sides.{seen}
+use Rattle.joint_machine.specs.declared.names.Thread.TheVariants.{M}
+use Rattle.joint_machine.specs.declared.events.Op.TheVariants as op
+use Rattle.joint_machine.specs.Sides.{peer_rules}
+use Rattle.peer_heap.specs.Makings.{gone_since, step_makings}
+use Rattle.peer_heap.specs.Sides.{seen}
 use Rattle.side_tests.proofs.Counting.{counted-in-turn}
 use Rattle.side_tests.proofs.Holding.{same-held, stays-held}
 use Rattle.side_tests.proofs.Moves.{release-still, still-in-turn}

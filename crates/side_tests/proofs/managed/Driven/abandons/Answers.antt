@@ -1,5 +1,5 @@
 -- An abandoning closes the cycle.
-use Rattle.managed_side.specs.Sides.{as_side}
+use Rattle.managed_heap.specs.Sides.{as_side}
 use Rattle.side_tests.proofs.Snapshots.{abandoned-on}
 use Rattle.side_tests.proofs.managed.Driven.abandons.Goals as goal
 

@@ -1,7 +1,7 @@
 -- A contraction leaves the cycle as it is.
 use Rattle.std.proofs.Common.{subst, sym}
-use Rattle.managed_side.specs.Calls.{MayContractWith}
-use Rattle.managed_side.specs.Sides.{as_side}
+use Rattle.managed_heap.specs.Calls.{MayContractWith}
+use Rattle.managed_heap.specs.Sides.{as_side}
 use Rattle.side_tests.proofs.Snapshots.{contracted-on}
 use Rattle.side_tests.proofs.managed.Driven.contracts.Goals as goal
 

@@ -1,11 +1,11 @@
 -- The handle that an event names is the next one, which none of those that rows took is.
 use Rattle.std.proofs.Common.{ap, ◌+◌, length, subst, refl}
-use Rattle.joint_model.specs.Sides.{managed_rules}
-use Rattle.joint_model.specs.Told.{nothing, no_pins}
-use Rattle.joint_model.specs.Readers.{with_pins}
+use Rattle.joint_machine.specs.Sides.{managed_rules}
+use Rattle.joint_machine.specs.Told.{nothing}
+use Rattle.joint_machine.specs.PinsTold.{no_pins, with_pins}
 use Rattle.known_laws.proofs.Pinned.{none_stand}
-use Rattle.managed_side.proofs.Kept.{kept-pinned}
-use Rattle.managed_side.specs.Sides.{as_side}
+use Rattle.managed_heap.proofs.Kept.{kept-pinned}
+use Rattle.managed_heap.specs.Sides.{as_side}
 use Rattle.side_tests.specs.Drives.{NamesNext}
 use Rattle.side_tests.proofs.Counting.{counted-may}
 use Rattle.side_tests.proofs.ManagedDrives.{driven-still, driven-same, fresh-next, managed-taken, step-cycle, step-named}

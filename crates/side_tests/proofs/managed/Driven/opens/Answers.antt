@@ -1,7 +1,8 @@
--- A snapshot opens a cycle with as many candidates as it tells, which may be contracted where nothing is dead; a refusal changes nothing.
+-- A snapshot opens a cycle with as many candidates as it tells, which may be contracted where nothing is dead; a
+-- refusal changes nothing.
 use Rattle.std.proofs.Common.{◌∙◌, refl, sym, subst}
-use Rattle.managed_side.specs.Pinned.{pins_given}
-use Rattle.managed_side.specs.Sides.{as_side}
+use Rattle.managed_heap.specs.Pinned.{pins_given}
+use Rattle.managed_heap.specs.Sides.{as_side}
 use Rattle.side_tests.specs.Drives.{IsDriven}
 use Rattle.side_tests.proofs.Snapshots.{may-contract, snap-counted, snapped-on}
 use Rattle.side_tests.proofs.managed.Driven.opens.Goals as goal

@@ -1,5 +1,5 @@
 -- A refusal leaves the cycle as it is.
-use Rattle.managed_side.specs.Sides.{as_side}
+use Rattle.managed_heap.specs.Sides.{as_side}
 use Rattle.side_tests.proofs.Snapshots.{refused-on}
 use Rattle.side_tests.proofs.managed.Driven.refuses.Goals as goal
 

@@ -1,6 +1,6 @@
 -- Room changes nothing that is counted.
 use Rattle.std.proofs.Common.{subst, sym}
-use Rattle.managed_side.specs.Sides.{ManagedModel, as_side}
+use Rattle.managed_heap.specs.Sides.{ManagedModel, as_side}
 use Rattle.side_tests.specs.Drives.{IsDriven}
 use Rattle.side_tests.proofs.managed.Driven.reserves.Goals as goal
 

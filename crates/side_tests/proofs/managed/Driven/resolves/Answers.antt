@@ -1,6 +1,6 @@
 -- There is an answer for each candidate, and their handles come behind all that rows took.
 use Rattle.std.proofs.Common.{◌+◌, refl, subst}
-use Rattle.managed_side.specs.Sides.{as_side}
+use Rattle.managed_heap.specs.Sides.{as_side}
 use Rattle.side_tests.specs.Drives.{AreFrom}
 use Rattle.side_tests.proofs.Snapshots.{may-close, resolved-on}
 use Rattle.side_tests.proofs.managed.Driven.resolves.Goals as goal

@@ -1,14 +1,14 @@
 -- A `take` adopts no handle and leaves an open cycle as it is.
 use Rattle.std.proofs.Common.{ap, inl, refl}
-use Rattle.joint_model.specs.declared.lines.Act.TheVariants as act
-use Rattle.joint_model.specs.Run.{thread_number}
-use Rattle.joint_model.specs.Told.{kept_pins, nothing}
+use Rattle.joint_machine.specs.declared.lines.Act.TheVariants as act
+use Rattle.joint_machine.specs.Run.{thread_number}
+use Rattle.joint_machine.specs.Told.{kept_pins, nothing}
 use Rattle.joint_laws.proofs.ManagedMoves.{managed_line-goes_on}
-use Rattle.joint_model.specs.Readers.{with_pins}
-use Rattle.managed_side.specs.Pinned.{pin_given}
-use Rattle.joint_model.specs.Sides.{managed_rules}
-use Rattle.managed_side.specs.Steps.{take_op}
-use Rattle.managed_side.specs.Sides.{as_side}
+use Rattle.joint_machine.specs.PinsTold.{with_pins}
+use Rattle.managed_heap.specs.Pinned.{pin_given}
+use Rattle.joint_machine.specs.Sides.{managed_rules}
+use Rattle.managed_heap.specs.Steps.{take_op}
+use Rattle.managed_heap.specs.Sides.{as_side}
 use Rattle.side_tests.proofs.Counting.{counted-may}
 use Rattle.side_tests.proofs.ManagedDrives.{driven-still, driven-same, thread-taken}
 use Rattle.side_tests.proofs.PinsHeld.{take-stands}

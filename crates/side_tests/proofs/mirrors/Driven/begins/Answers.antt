@@ -1,8 +1,8 @@
 -- A begin leaves the cycle as it is, and of what is reserved it takes nothing but its own.
 use Rattle.std.proofs.Common.{ap, ◌∙◌}
-use Rattle.joint_model.specs.Sides.{peer_rules}
-use Rattle.joint_model.specs.Told.{nothing}
-use Rattle.peer_side.specs.Sides.{Reserve, seen}
+use Rattle.joint_machine.specs.Sides.{peer_rules}
+use Rattle.joint_machine.specs.Told.{nothing}
+use Rattle.peer_heap.specs.Sides.{Reserve, seen}
 use Rattle.side_tests.proofs.Circles.{circle-same, circle-stays}
 use Rattle.side_tests.proofs.Counting.{counted-once}
 use Rattle.side_tests.proofs.Moves.{begun-left, begun-waiting, still-once}

@@ -1,8 +1,7 @@
 -- A step leaves the cycle as it is.
-use Rattle.peer_side.specs.Sides.{seen}
-use Rattle.joint_model.specs.Sides.{peer_rules}
+use Rattle.peer_heap.specs.Sides.{seen, Reserve}
+use Rattle.joint_machine.specs.Sides.{peer_rules}
 use Rattle.std.proofs.Common.{ap, refl}
-use Rattle.peer_side.specs.Sides.{Reserve}
 use Rattle.side_tests.proofs.Circles.{circle-same, circle-stays}
 use Rattle.side_tests.proofs.Counting.{counted-in-turn}
 use Rattle.side_tests.proofs.Moves.{makings-still, still-in-turn, still-may, still-step}

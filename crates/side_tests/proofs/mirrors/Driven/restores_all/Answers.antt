@@ -1,7 +1,7 @@
 -- Both handles may be restored, and then both are.
 use Rattle.std.proofs.Common.{true, ◌&&◌, refl, subst, ap, ◌∙◌, arith}
 use Rattle.std.specs.Prelude.{slice_get}
-use Rattle.joint_model.specs.PeerReplay.{MayRestore}
+use Rattle.joint_machine.specs.PeerReplay.{MayRestore}
 use Rattle.side_tests.specs.Circles.{IsCircle, is_given}
 use Rattle.side_tests.proofs.Circles.{apart, circle-at, circle-restored_all, circle-stood, each, handles-count, may-restore}
 use Rattle.side_tests.proofs.mirrors.Driven.restores_all.Goals as goal

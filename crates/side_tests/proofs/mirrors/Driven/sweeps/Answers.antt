@@ -1,7 +1,7 @@
 -- A sweep leaves the cycle and what is reserved for it as they are. The driver may end each marking.
 use Rattle.std.proofs.Common.{ap}
-use Rattle.joint_model.specs.Sides.{peer_rules}
-use Rattle.peer_side.specs.Sides.{Reserve, seen}
+use Rattle.joint_machine.specs.Sides.{peer_rules}
+use Rattle.peer_heap.specs.Sides.{Reserve, seen}
 use Rattle.side_tests.proofs.Circles.{circle-same, circle-stays}
 use Rattle.side_tests.proofs.Counting.{counted-once}
 use Rattle.side_tests.proofs.Moves.{still-once}

@@ -1,6 +1,6 @@
 -- Both handles may be weakened, and then both are.
 use Rattle.std.proofs.Common.{Some, refl, arith}
-use Rattle.joint_model.specs.PeerReplay.{MayWeaken}
+use Rattle.joint_machine.specs.PeerReplay.{MayWeaken}
 use Rattle.side_tests.proofs.Circles.{apart, circle-at, circle-stood, circle-weakened_all, each, handles-count, may-weaken}
 use Rattle.side_tests.proofs.mirrors.Driven.weakens_all.Goals as goal
 

@@ -1,8 +1,8 @@
 -- A begin draws once, from a plain count.
 use Rattle.std.proofs.Common.{ap}
-use Rattle.joint_model.specs.Sides.{peer_rules}
-use Rattle.joint_model.specs.Told.{nothing}
-use Rattle.peer_side.specs.Sides.{seen}
+use Rattle.joint_machine.specs.Sides.{peer_rules}
+use Rattle.joint_machine.specs.Told.{nothing}
+use Rattle.peer_heap.specs.Sides.{seen}
 use Rattle.side_tests.proofs.Counting.{counted-once, counted-same}
 use Rattle.side_tests.proofs.peers.Driven.begins.Goals as goal
 use Rattle.side_tests.proofs.peers.Driven.begins.Goals.{in-Ok, in-Err-MarkOpen, in-Err-OutOfMemory}

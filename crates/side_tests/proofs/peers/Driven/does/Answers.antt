@@ -1,7 +1,7 @@
 -- A step draws in turn, from a plain count.
 use Rattle.std.proofs.Common.{ap, refl}
-use Rattle.joint_model.specs.Sides.{peer_rules}
-use Rattle.peer_side.specs.Sides.{seen}
+use Rattle.joint_machine.specs.Sides.{peer_rules}
+use Rattle.peer_heap.specs.Sides.{seen}
 use Rattle.side_tests.proofs.Counting.{counted-in-turn, counted-same}
 use Rattle.side_tests.proofs.PeerSteps.{counted-may-step, step-taken}
 use Rattle.side_tests.proofs.peers.Driven.does.Goals as goal

@@ -1,6 +1,6 @@
 -- A slice of the driver's marking makes no entry.
 use Rattle.std.proofs.Common.{ap, refl}
-use Rattle.peer_side.specs.Sides.{seen}
+use Rattle.peer_heap.specs.Sides.{seen}
 use Rattle.side_tests.proofs.Counting.{counted-same}
 use Rattle.side_tests.proofs.peers.Driven.slices.Goals as goal
 

@@ -1,7 +1,7 @@
 -- A sweep draws once, from a plain count. The driver may end each marking.
 use Rattle.std.proofs.Common.{ap}
-use Rattle.joint_model.specs.Sides.{peer_rules}
-use Rattle.peer_side.specs.Sides.{seen}
+use Rattle.joint_machine.specs.Sides.{peer_rules}
+use Rattle.peer_heap.specs.Sides.{seen}
 use Rattle.side_tests.proofs.Counting.{counted-once, counted-same}
 use Rattle.side_tests.proofs.PeerSteps.{driver-ends}
 use Rattle.side_tests.proofs.peers.Driven.sweeps.Goals as goal

@@ -2,7 +2,7 @@
 use Rattle.std.proofs.Common.{◌≡◌, ℕ, List, [], ◌∷◌, get_or, refl, sym, ◌∙◌, ap}
 use Rattle.std.proofs.lemmas.List.{get_or-map}
 use Rattle.std.proofs.lemmas.Option.{get_or_from_slice_get}
-use Rattle.joint_model.specs.Components.{first_of}
+use Rattle.joint_machine.specs.Components.{first_of}
 use Rattle.xref_list.proofs.components.Components.first.Goals as goal
 
 head_is : (xs : List ℕ) → get_or xs 0 0 ≡ first_of xs

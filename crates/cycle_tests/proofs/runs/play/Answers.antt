@@ -1,0 +1,5 @@
+use Rattle.cycle_tests.proofs.runs.play.Goals as goal
+use Rattle.joint_history.proofs.KnownCallers.{first_knows_nothing}
+
+pub miss_of-requires-clause-seat : goal.miss_of-requires-clause-seat
+miss_of-requires-clause-seat g c = (c.in_ok-order.ensures.seat.0, c.in_ok-order.ensures.all, first_knows_nothing _ c.in_ok-order.ensures.seat.1, c.in_ok-order.ensures.settled)

@@ -1,5 +1,0 @@
-use Rattle.history_runs.proofs.rooms.a_reader_that_is_refused_room_keeps_its_reads_and_goes_on.Goals as goal
-use Rattle.joint_history.proofs.KnownCallers.{first_knows_nothing}
-
-pub run-requires-clause-seat : goal.run-requires-clause-seat
-run-requires-clause-seat g c = (c.in_ok-order.ensures.seat.0, c.in_ok-order.ensures.all, first_knows_nothing _ c.in_ok-order.ensures.seat.1, c.in_ok-order.ensures.settled)

@@ -1,4 +1,0 @@
-use Rattle.history_runs.proofs.runs.a_finished_history_has_the_events_of_both_threads.Given as goal
-
-abbrev pub ghosts-run : goal.ghosts-run
-ghosts-run g a = record { order = a.order; managed = 1; peers = 1 }

@@ -1,4 +1,0 @@
-use Rattle.history_runs.proofs.threads.four_threads_at_once_make_one_history.Given as goal
-
-abbrev pub ghosts-run : goal.ghosts-run
-ghosts-run g a = record { order = a.order; managed = 2; peers = 2 }

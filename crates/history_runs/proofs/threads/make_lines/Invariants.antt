@@ -1,7 +1,0 @@
-use Rattle.std.proofs.Common.{◌≡◌, ◌≤◌}
-use Rattle.joint_history.specs.Callers.{last_index, own}
-use Rattle.joint_history.specs.Operations.{IsOwnThread}
-use Rattle.history_runs.proofs.threads.make_lines.Given as goal
-
-abbrev pub invariant-loop-line : goal.invariant-loop-line
-invariant-loop-line g l = IsOwnThread l.caller.thread × (l.caller.thread ≡ l.initial.caller.thread) × (last_index (own l.caller) ≤ l.line)

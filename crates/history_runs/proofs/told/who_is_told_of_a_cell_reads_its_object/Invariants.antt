@@ -1,4 +1,0 @@
-use Rattle.history_runs.proofs.told.who_is_told_of_a_cell_reads_its_object.Given as goal
-
-abbrev pub ghosts-run : goal.ghosts-run
-ghosts-run g a = record { order = a.order; managed = 2; peers = 0 }

@@ -1,5 +1,0 @@
-use Rattle.history_tests.proofs.HistoryTests.{numbers_tested, whole_tested, replies_tested}
-use Rattle.history_tests.proofs.ends_are_tested.Goals as goal
-
-pub returns : goal.returns
-returns c = record { numbers = numbers_tested; whole = whole_tested; replies = replies_tested }

@@ -1,5 +1,0 @@
-use Rattle.history_tests.proofs.HistoryTests.{may_come_tested, all_may_come_tested}
-use Rattle.history_tests.proofs.may_come_is_tested.Goals as goal
-
-pub returns : goal.returns
-returns c = record { one = may_come_tested; every = all_may_come_tested }

@@ -1,6 +1,0 @@
-use Rattle.history_tests.proofs.StateTests.{states_tested}
-use Rattle.history_tests.proofs.StepTests.{steps_tested, runs_tested}
-use Rattle.history_tests.proofs.steps_are_tested.Goals as goal
-
-pub returns : goal.returns
-returns c = record { one = steps_tested; run = runs_tested; states = states_tested }

@@ -1,7 +1,0 @@
--- What stands beside the row.
-use Rattle.std.proofs.Common.{◌∙◌, sym, arith}
-use Rattle.managed_side.proofs.Lists.{has_peer-at}
-use Rattle.managed_side.proofs.resolving.has_peer.Goals as goal
-
-pub returns : goal.returns
-returns c = c.is_some.ensures ∙ sym (has_peer-at c.args.infos.now c.args.m.0 _ (omega (arith, c.if-m-eq0.false)) (omega (arith, c.if-m-infos.false)))

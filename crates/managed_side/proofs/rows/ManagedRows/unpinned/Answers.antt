@@ -1,6 +1,0 @@
--- What is seen of the rows has none.
-use Rattle.std.proofs.Common.{refl}
-use Rattle.managed_side.proofs.rows.ManagedRows.unpinned.Goals as goal
-
-pub returns : goal.returns
-returns c = rw (← c.self.view_is) refl

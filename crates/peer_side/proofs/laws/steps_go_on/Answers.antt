@@ -1,6 +1,0 @@
--- By the lemma.
-use Rattle.peer_side.proofs.Marks.{marks-step}
-use Rattle.peer_side.proofs.laws.steps_go_on.Goals as goal
-
-pub returns : goal.returns
-returns c = marks-step

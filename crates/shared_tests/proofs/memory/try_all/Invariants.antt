@@ -1,0 +1,7 @@
+use Rattle.std.proofs.Common.{◌≡◌, ◌≤◌}
+use Rattle.joint_machine.specs.declared.names.Thread.TheVariants.{M}
+use Rattle.joint_history.specs.Callers.{last_index, own}
+use Rattle.shared_tests.proofs.memory.try_all.Given as goal
+
+abbrev pub invariant-loop-line : goal.invariant-loop-line
+invariant-loop-line g l = (l.one.thread ≡ M 1) × (last_index (own l.one) ≤ l.line) × (l.refused ≤ l.line)

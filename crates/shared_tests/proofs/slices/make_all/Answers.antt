@@ -1,0 +1,33 @@
+use mir.Syntax.{named, w32}
+use denote.Param.{param}
+use denote.Param.Send.{IsSync, sendable, shr_sync}
+use denote.Plain.{UInt}
+use Rattle.std.proofs.Common.{[]}
+use Rattle.std.proofs.Crossing.{crosses}
+use Rattle.order_table.proofs.seats.Seat.TheSendSync.{the_send as seat}
+use Rattle.joint_history.proofs.Crosses.{entries, shared}
+use Rattle.shared_tests.proofs.slices.make_all.Goals as goal
+
+count : IsSync (UInt w32)
+count = search sendable
+
+-- the closure holds the runtime, the shared bridge and the number of lines, each by a reference
+pub map_vec-requires-sync-F : goal.map_vec-requires-sync-F
+map_vec-requires-sync-F g c κs within = record {
+  shared = λ x b o ν. (
+    (
+      (shr_sync (named 0) _ _ c.type_bounds.sync-R).shared x.0 b o ν,
+      (
+        (shr_sync (named 0) _ _ (shared (param 0 g.row.N) g.N.OrderName)).shared x.1 b o ν,
+        ((shr_sync (named 0) [] _ count).shared x.2 b o ν, tt),
+      ),
+    ),
+    λ q. tt,
+  );
+}
+
+pub map_vec-requires-send-J : goal.map_vec-requires-send-J
+map_vec-requires-send-J g c κs within = search (sendable, crosses, entries, seat) depth 60 fits 100000
+
+pub map_vec-requires-send-X : goal.map_vec-requires-send-X
+map_vec-requires-send-X g c κs within = search (sendable, crosses, entries, seat) depth 60 fits 100000

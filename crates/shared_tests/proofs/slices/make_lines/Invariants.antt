@@ -1,0 +1,7 @@
+use Rattle.std.proofs.Common.{◌≡◌, ◌≤◌}
+use Rattle.joint_history.specs.Callers.{last_index, own}
+use Rattle.joint_machine.specs.Lines.{IsPeerThread}
+use Rattle.shared_tests.proofs.slices.make_lines.Given as goal
+
+abbrev pub invariant-loop-line : goal.invariant-loop-line
+invariant-loop-line g l = IsPeerThread l.caller.thread × (l.caller.thread ≡ l.initial.caller.thread) × (last_index (own l.caller) ≤ l.line)

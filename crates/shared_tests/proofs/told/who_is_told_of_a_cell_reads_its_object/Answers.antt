@@ -1,0 +1,5 @@
+use Rattle.shared_tests.proofs.told.who_is_told_of_a_cell_reads_its_object.Goals as goal
+use Rattle.joint_history.proofs.KnownCallers.{first_knows_nothing}
+
+pub run-requires-clause-seat : goal.run-requires-clause-seat
+run-requires-clause-seat g c = (c.in_ok-order.ensures.seat.0, c.in_ok-order.ensures.all, first_knows_nothing _ c.in_ok-order.ensures.seat.1, c.in_ok-order.ensures.settled)
