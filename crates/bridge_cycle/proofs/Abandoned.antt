@@ -70,7 +70,8 @@ abandons_after old mid new index r a =
 -- it is idle then
 fails : (q : Progress) (f : Fields) (new : View) (s : Stage) (index : ℕ) → s ≡ stage.Idle → DriverKeeps q f index → Fails (shown f) (kept new stage.Idle f.cycle f.candidates) index
     → Fails q (kept new s f.cycle f.candidates) index
-fails q f new s index is i w = subst (λ (z : Stage). Fails q (kept new z f.cycle f.candidates) index) (sym is) (subst (λ (d : Progress). Fails d (kept new stage.Idle f.cycle f.candidates) index) i.seen w)
+fails q f new s index is i w = subst (λ (z : Stage). Fails q (kept new z f.cycle f.candidates) index)
+    (sym is) (subst (λ (d : Progress). Fails d (kept new stage.Idle f.cycle f.candidates) index) i.seen w)
 
 -- the snapshot found no memory
 module _ {q : Progress} {v : View} {k : Cycle} {n index : ℕ} (i : DriverKeeps q (kept v stage.Idle k n) index) where
@@ -84,7 +85,14 @@ module _ {q : Progress} {v : View} {k : Cycle} {n index : ℕ} {o : Snapshot} (i
   pub before_contract : IsBefore (kept v (stage.Snapped o) k n) index
   before_contract =
       let c : IsOfCycle k n i.held.seen o = i.held.cycle in
-      record { snapshot = o; stand = snapped (cycle_of o); seen = i.held.seen; stands = stands_on q (kept v (stage.Snapped o) k n) index i (snapped (cycle_of o)) i.held.at; unmirrored = refl; same = c.same }
+      record {
+        snapshot = o;
+        stand = snapped (cycle_of o);
+        seen = i.held.seen;
+        stands = stands_on q (kept v (stage.Snapped o) k n) index i (snapped (cycle_of o)) i.held.at;
+        unmirrored = refl;
+        same = c.same;
+      }
 
   pub contract_fails : (new : View) (s : Stage) (m : ℕ) → s ≡ stage.Idle → MakesAbandon v new index m → Fails q (kept new s k n) index
   contract_fails new s m is makes =
@@ -92,7 +100,8 @@ module _ {q : Progress} {v : View} {k : Cycle} {n index : ℕ} {o : Snapshot} (i
       fails q (kept v (stage.Snapped o) k n) new s index is i (record { held = a.held; line = a.line; lacks = record { takes = tt; gives_up = a.abandons; idle = refl } })
 
 -- the mirror did, and had made nothing
-module _ {q : Progress} {v : View} {k : Cycle} {n index : ℕ} {o : Snapshot} {listing : Listing} {room : Answers} (i : DriverKeeps q (kept v (stage.Contracted o listing room) k n) index) (mid : View) (none : DriverMakesNone v mid) where
+module _ {q : Progress} {v : View} {k : Cycle} {n index : ℕ} {o : Snapshot} {listing : Listing} {room : Answers}
+    (i : DriverKeeps q (kept v (stage.Contracted o listing room) k n) index) (mid : View) (none : DriverMakesNone v mid) where
   pub before_mirror : IsBefore (kept mid (stage.Contracted o listing room) k n) index
   before_mirror =
       let j = still_keeps q (kept v (stage.Contracted o listing room) k n) index i mid none in
@@ -111,5 +120,6 @@ module _ {q : Progress} {v : View} {k : Cycle} {n index : ℕ} {o : Snapshot} {l
   mirror_fails new s m is makes =
       let w = stayed_now (shown (kept v (stage.Contracted o listing room) k n)) (kept v (stage.Contracted o listing room) k n) index (record { held = i.held; line = i.line; seen = refl }) mid none in
       let a = abandoned_now (kept mid (stage.Contracted o listing room) k n) index before_mirror new m makes in
-      let all = abandons_after (shown (kept v (stage.Contracted o listing room) k n)) (shown (kept mid (stage.Contracted o listing room) k n)) (shown (kept new stage.Idle k n)) index w.runs a.abandons in
+      let all = abandons_after (shown (kept v (stage.Contracted o listing room) k n))
+      (shown (kept mid (stage.Contracted o listing room) k n)) (shown (kept new stage.Idle k n)) index w.runs a.abandons in
       fails q (kept v (stage.Contracted o listing room) k n) new s index is i (record { held = a.held; line = a.line; lacks = record { takes = tt; gives_up = all; idle = refl } })

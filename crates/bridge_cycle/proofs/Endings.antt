@@ -27,7 +27,8 @@ use Rattle.bridge_cycle.specs.Progress.{AreDriversOnLine, Progress, cycle_after,
 use Rattle.bridge_cycle.proofs.Making.{DriverKeeps, Steps, append_nil, kept, makes_more, makes_nothing, makes_one, stands_on, steps, steps_one}
 
 -- the cycle's own marking was begun, after one that was open was ended, or there was none
-module _ (old between new : View) (index : ℕ) (o : OpenSnap) (count : ℕ) (weakened : Bool) (m : Managed) (stands : DriverStands old index (weakening o count weakened false) m) (all : count ≡ length (candidates_of m)) (n : ℕ) (j : Marking) (begins : MakesBegin between new index n j) where
+module _ (old between new : View) (index : ℕ) (o : OpenSnap) (count : ℕ) (weakened : Bool) (m : Managed) (stands : DriverStands old index (weakening o count weakened false) m)
+    (all : count ≡ length (candidates_of m)) (n : ℕ) (j : Marking) (begins : MakesBegin between new index n j) where
   abbrev begin : Entry
   begin = driver_entry n index op.Begin (says.Mark j) None
 
@@ -61,7 +62,8 @@ module _ (old between new : View) (index : ℕ) (o : OpenSnap) (count : ℕ) (we
       let sweep : Entry = driver_entry r.0 index op.Sweep (says.Swept r.1.marking r.1.freed) None in
       record {
         entries = sweep ∷ begin ∷ [];
-        made = makes_more old between new (sweep ∷ []) (begin ∷ []) (makes_one old between (weakening o count weakened false) m sweep (sweep_of v.freed) v.makes) (makes_one between new (weakening o count true true) m begin nothing w.makes);
+        made = makes_more old between new (sweep ∷ []) (begin ∷ []) (makes_one old between (weakening o count weakened false) m sweep (sweep_of v.freed) v.makes)
+            (makes_one between new (weakening o count true true) m begin nothing w.makes);
         places = (refl, refl, (refl, refl, tt));
         phase = inr (record { sweep = sweep; begin = begin; all = refl; sweeps = refl; ends = tt; begins = tt });
         cycle = λ k. refl;
@@ -86,7 +88,8 @@ module _ {q : Progress} {v : View} {k : Cycle} {n index : ℕ} {o : Snapshot} {r
   pub marked_now : (new : View) (out : Begun) → MakesMark v new index out → Steps q (kept new (stage.Marked o room) k n) index (says.Mark out.marking)
   marked_now new out makes =
       let w = began v makes.between new index (cycle_of o) n weakened i.held.seen stands (sym cycle.count) out.number out.marking makes.begins out.ended makes.ends in
-      steps q (kept v (stage.Weakened o room) k n) (kept new (stage.Marked o room) k n) index (says.Mark out.marking) (marked (cycle_of o)) i.held.seen i w.now i.held.cycle (i.held.at.0, refl) (record {
+      steps q (kept v (stage.Weakened o room) k n) (kept new (stage.Marked o room) k n) index
+      (says.Mark out.marking) (marked (cycle_of o)) i.held.seen i w.now i.held.cycle (i.held.at.0, refl) (record {
         entries = w.entries;
         runs = record {
           enters = record { made = w.made; places = w.places; cycle = sym (w.cycle k); candidates = sym w.candidates };

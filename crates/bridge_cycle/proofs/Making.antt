@@ -135,7 +135,12 @@ pub ran_none : (old new : Progress) (index : ℕ) → DriverMakesNone old.view n
 ran_none old new index none cycle candidates phase = (
   [],
   record {
-    enters = record { made = record { own_more = none.own ∙ sym (append_nil (line_known old.view (caller_line C))); more = none.more; above = tt }; places = tt; cycle = cycle; candidates = candidates };
+    enters = record {
+      made = record { own_more = none.own ∙ sym (append_nil (line_known old.view (caller_line C))); more = none.more; above = tt };
+      places = tt;
+      cycle = cycle;
+      candidates = candidates;
+    };
     events = refl;
     leads = phase;
   },

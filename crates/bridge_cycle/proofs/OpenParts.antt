@@ -26,7 +26,8 @@ names_cycle (stage.Restored o r clear) n stand a = ap facts.opened_of a
 pub graph_seen : {f : Fields} {q : Progress} {o : Snapshot} → shown f ≡ q → KnowsItsStand f → snapshot_in f.stage ≡ Some o → IsOpenPart q.view q.cycle o.graph
 graph_seen {f} {q} {o} e h there =
     let c : IsOfCycle f.cycle f.candidates h.seen o = subst (λ (z : Option Snapshot). IfSome z (λ y. IsOfCycle f.cycle f.candidates h.seen y)) there h.cycle in
-    let named : facts.opened_of h.stand ≡ Some (cycle_of o) = subst (λ (z : Option Snapshot). IfSome z (λ y. facts.opened_of h.stand ≡ Some (cycle_of y))) there (names_cycle f.stage f.candidates h.stand h.at) in
+    let named : facts.opened_of h.stand ≡ Some (cycle_of o) = subst
+    (λ (z : Option Snapshot). IfSome z (λ y. facts.opened_of h.stand ≡ Some (cycle_of y))) there (names_cycle f.stage f.candidates h.stand h.at) in
     subst (λ (d : Progress). IsOpenPart d.view d.cycle o.graph) e (record {
       known = h.stands.known;
       opened = cycle_of o;

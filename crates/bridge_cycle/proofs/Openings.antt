@@ -49,7 +49,8 @@ module _ {q : Progress} {v : View} {k : Cycle} {n index : ℕ} (i : DriverKeeps 
       (record { each = (tt, tt); count = refl }) refl refl refl
 
 module _ {q : Progress} {v : View} {k : Cycle} {n index : ℕ} {o : Snapshot} (i : DriverKeeps q (kept v (stage.Snapped o) k n) index) (listing : Listing)
-    (exact : (heavy : List ℕ) × (length heavy ≡ listing.heavy) × IsContraction (IsBridgeNode o.graph.nodes) (NodeLeads o.graph.edges) listing.comps heavy listing.pairs) (sccs xrefs : ℕ) (components : sccs ≡ length listing.comps + listing.heavy) (references : xrefs ≡ length listing.pairs) where
+    (exact : (heavy : List ℕ) × (length heavy ≡ listing.heavy) × IsContraction (IsBridgeNode o.graph.nodes) (NodeLeads o.graph.edges) listing.comps heavy listing.pairs)
+    (sccs xrefs : ℕ) (components : sccs ≡ length listing.comps + listing.heavy) (references : xrefs ≡ length listing.pairs) where
   abbrev heavy : List ℕ
   heavy = map (number_at o.graph) exact.0
 

@@ -145,7 +145,8 @@ module _ (q : Progress) (f : Fields) (index : ℕ) (i : DriverKeeps q f index) w
   phase_here p is = is ∙ sym (ap (λ (d : Progress). d.phase) i.seen)
 
   pub may_refuse : (w : PhaseWord) (p : Phase) → p ≡ q.phase → next_phase q.phase w ≡ None → MayRefuseWord f.view index w p
-  may_refuse w p is r = subst (MayRefuseWord f.view index w) (sym (phase_here p is)) (record { stand = h.stand; seen = h.seen; stands = stands; in_phase = phase_stands f h; refused = refused_here w r })
+  may_refuse w p is r = subst (MayRefuseWord f.view index w) (sym (phase_here p is))
+      (record { stand = h.stand; seen = h.seen; stands = stands; in_phase = phase_stands f h; refused = refused_here w r })
 
   pub refused_now : (w : PhaseWord) (p : Phase) (new : View) (m : ℕ) (reply : Reply) → p ≡ q.phase → next_phase q.phase w ≡ None → MakesRefusal f.view new index m w p reply
       → StepsOne q (knowing f new) index (act.PhaseLine w) reply
@@ -182,7 +183,12 @@ module _ (q : Progress) (f : Fields) (index : ℕ) (i : DriverKeeps q f index) w
       let v = makes h.stand h.seen stands rests in
       let e : Entry = driver_entry m index (op.Line (act.Finalise count)) reply None in
       let made : MakesOne (shown f) (shown (knowing f new)) index (e ∷ []) = record {
-        enters = record { made = makes_one f.view new h.stand h.seen e nothing v.0; places = (refl, refl, tt); cycle = refl; candidates = sym (ap (told_by f.candidates) v.0.comes.comes.lawful.replies) };
+        enters = record {
+          made = makes_one f.view new h.stand h.seen e nothing v.0;
+          places = (refl, refl, tt);
+          cycle = refl;
+          candidates = sym (ap (told_by f.candidates) v.0.comes.comes.lawful.replies);
+        };
         phase = refl;
         same_candidates = refl;
       } in
@@ -204,7 +210,8 @@ pub held_first : (p : Pass) (cycle : Cycle) → IsDriver p.thread → HasIdleDri
 held_first p cycle is idle_one =
     let a = idle_one is in
     let seen = (end_of a.0.known.past).managed.managed in
-    held_there (kept p.view stage.Idle cycle 0) (control_line (end_of a.0.known.past).control C) idle seen (record { known = a.0; stands = record { last = omega arith; come = a.1; dead = dead_part_self seen } }) tt refl
+    held_there (kept p.view stage.Idle cycle 0) (control_line (end_of a.0.known.past).control C) idle seen
+    (record { known = a.0; stands = record { last = omega arith; come = a.1; dead = dead_part_self seen } }) tt refl
 
 idle_at : (s : Stage) (n : ℕ) (stand : Stand) → phase_of s ≡ at.Idle → IsAt s n stand → stand ≡ idle
 idle_at stage.Idle n stand e a = a

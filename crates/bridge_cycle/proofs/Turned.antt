@@ -41,7 +41,8 @@ use Rattle.bridge_cycle.proofs.Making.{append_nil, candidates_more, cycle_more, 
 next_place : (nodes : List Node) (i : ℕ) (h : HNum) → HasNode nodes i (λ n. n.handle ≡ Some h) → slice_get (handles_of nodes) (length (handles_of (take i nodes))) ≡ Some h
 next_place nodes i h at =
     let cut : handles_of nodes ≡ handles_of (take i nodes) ++ h ∷ handles_of (drop (i + 1) nodes) =
-    ap handles_of (sym (take-append-drop i nodes)) ∙ (flat_map-append (λ (n : Node). option_to_list n.handle) (take i nodes) (drop i nodes) ∙ ap (λ hs. handles_of (take i nodes) ++ hs) (left-some nodes i h at)) in
+    ap handles_of (sym (take-append-drop i nodes)) ∙ (flat_map-append (λ (n : Node). option_to_list n.handle) (take i nodes) (drop i nodes)
+    ∙ ap (λ hs. handles_of (take i nodes) ++ hs) (left-some nodes i h at)) in
     subst (λ (hs : List HNum). slice_get hs (length (handles_of (take i nodes))) ≡ Some h) (sym cut) (behind (handles_of (take i nodes)) h (handles_of (drop (i + 1) nodes)))
   where
     behind : (xs : List HNum) (h : HNum) (ys : List HNum) → slice_get (xs ++ h ∷ ys) (length xs) ≡ Some h
@@ -70,7 +71,8 @@ times_none v index w = record {
   candidates = λ c. refl;
 }
 
-times_more : (old mid new : View) (index : ℕ) (w : PhaseWord) (n m : ℕ) (es : List Entry) (e : Entry) → MakesTimes old mid index w n es → MakesAll C mid new (e ∷ []) → e.made.caller ≡ C → e.made.index ≡ index → IsEventOf w e.made.op
+times_more : (old mid new : View) (index : ℕ) (w : PhaseWord) (n m : ℕ) (es : List Entry) (e : Entry)
+    → MakesTimes old mid index w n es → MakesAll C mid new (e ∷ []) → e.made.caller ≡ C → e.made.index ≡ index → IsEventOf w e.made.op
     → ((k : Cycle) → opened_by k e.made.op ≡ k) → ((c : ℕ) → told_by c e.made.reply ≡ c) → m ≡ n + 1 → MakesTimes old new index w m (es ++ e ∷ [])
 times_more old mid new index w n m es e t made caller line event opens tells more = record {
   made = makes_more old mid new es (e ∷ []) t.made made;
@@ -82,7 +84,8 @@ times_more old mid new index w n m es e t made caller line event opens tells mor
 
 -- weakening
 module _ (old mid : View) (index snap : ℕ) (nodes : List Node) (i : ℕ) where
-  pub may_weaken_next : (h : HNum) → HasNode nodes i (λ n. n.handle ≡ Some h) → MayWeakenAll old index snap nodes → WeakensAll old mid index snap nodes (handles_of (take i nodes)) → MayWeakenHandle mid index snap h.0
+  pub may_weaken_next : (h : HNum) → HasNode nodes i (λ n. n.handle ≡ Some h) → MayWeakenAll old index snap nodes
+      → WeakensAll old mid index snap nodes (handles_of (take i nodes)) → MayWeakenHandle mid index snap h.0
   may_weaken_next h at may done =
       let w = done may.opened may.weakened may.seen may.stands may.candidates may.same in
       record {
@@ -95,7 +98,8 @@ module _ (old mid : View) (index snap : ℕ) (nodes : List Node) (i : ℕ) where
         same = may.same;
       }
 
-  pub weakens_next : (new : View) (h : HNum) (n : ℕ) → HasNode nodes i (λ n. n.handle ≡ Some h) → WeakensAll old mid index snap nodes (handles_of (take i nodes)) → MakesWeaken mid new index snap h n → WeakensAll old new index snap nodes (handles_of (take (i + 1) nodes))
+  pub weakens_next : (new : View) (h : HNum) (n : ℕ) → HasNode nodes i (λ n. n.handle ≡ Some h) → WeakensAll old mid index snap nodes (handles_of (take i nodes))
+      → MakesWeaken mid new index snap h n → WeakensAll old new index snap nodes (handles_of (take (i + 1) nodes))
   weakens_next new h n at done makes = λ o weakened m stands are same.
       let w = done o weakened m stands are same in
       let count = length (handles_of (take i nodes)) in
@@ -104,7 +108,8 @@ module _ (old mid : View) (index snap : ℕ) (nodes : List Node) (i : ℕ) where
       let e : Entry = driver_entry n index (op.Weaken h) says.Ok (Some snap) in
       record {
         entries = w.entries ++ e ∷ [];
-        makes = times_more old mid new index word.Weaken count (length (handles_of (take (i + 1) nodes))) w.entries e w.makes (makes_one mid new (weakening o count w.weakened false) m e nothing v.0) refl refl tt (λ k. refl) (λ c. refl) more;
+        makes = times_more old mid new index word.Weaken count (length (handles_of (take (i + 1) nodes))) w.entries e w.makes
+            (makes_one mid new (weakening o count w.weakened false) m e nothing v.0) refl refl tt (λ k. refl) (λ c. refl) more;
         last = last_snoc w.entries e;
         weakened = true;
         stands = subst (λ (c : ℕ). DriverStands new index (weakening o c true false) m) (sym more) v.1;
@@ -116,7 +121,8 @@ module _ (old mid : View) (index snap : ℕ) (nodes : List Node) (i : ℕ) where
 pub weakens_first : (v : View) (index snap : ℕ) (nodes : List Node) → WeakensAll v v index snap nodes (handles_of (take 0 nodes))
 weakens_first v index snap nodes = λ o weakened m stands are same. record { entries = []; makes = times_none v index word.Weaken; last = refl; weakened = weakened; stands = stands }
 
-pub weakens_last : (old new : View) (index snap : ℕ) (nodes : List Node) (n : ℕ) → length nodes ≤ n → WeakensAll old new index snap nodes (handles_of (take n nodes)) → WeakensAll old new index snap nodes (handles_of nodes)
+pub weakens_last : (old new : View) (index snap : ℕ) (nodes : List Node) (n : ℕ) → length nodes ≤ n
+    → WeakensAll old new index snap nodes (handles_of (take n nodes)) → WeakensAll old new index snap nodes (handles_of nodes)
 weakens_last old new index snap nodes n e done = subst (λ (ns : List Node). WeakensAll old new index snap nodes (handles_of ns)) (take_all n nodes e) done
 
 -- restoring
@@ -137,7 +143,8 @@ answers_count [] = refl
 answers_count (v ∷ values) = ap suc (answers_count values)
 
 module _ (old mid : View) (index : ℕ) (nodes : List Node) (i : ℕ) (values : List (Option HNum)) where
-  pub may_restore_next : (h : HNum) → HasNode nodes i (λ n. n.handle ≡ Some h) → MayRestoreAll old index nodes → RestoresAll old mid index nodes (handles_of (take i nodes)) values → MayRestoreHandle mid index h.0
+  pub may_restore_next : (h : HNum) → HasNode nodes i (λ n. n.handle ≡ Some h) → MayRestoreAll old index nodes
+      → RestoresAll old mid index nodes (handles_of (take i nodes)) values → MayRestoreHandle mid index h.0
   may_restore_next h at may done =
       let w = done may.opened may.seen may.stands may.candidates in
       let place : length (answers_of values) ≡ length (handles_of (take i nodes)) = answers_count values ∙ w.count in
@@ -149,7 +156,8 @@ module _ (old mid : View) (index : ℕ) (nodes : List Node) (i : ℕ) (values : 
         next = may.candidates.each (length (answers_of values)) h (subst (λ (k : ℕ). slice_get (handles_of nodes) k ≡ Some h) (sym place) (next_place nodes i h at));
       }
 
-  pub restores_next : (new : View) (h : HNum) (back : Back) (b : Option HNum) (n : ℕ) → HasNode nodes i (λ n. n.handle ≡ Some h) → back_of b ≡ back → RestoresAll old mid index nodes (handles_of (take i nodes)) values → MakesRestore mid new index h back n
+  pub restores_next : (new : View) (h : HNum) (back : Back) (b : Option HNum) (n : ℕ) → HasNode nodes i (λ n. n.handle ≡ Some h)
+      → back_of b ≡ back → RestoresAll old mid index nodes (handles_of (take i nodes)) values → MakesRestore mid new index h back n
       → RestoresAll old new index nodes (handles_of (take (i + 1) nodes)) (values ++ b ∷ [])
   restores_next new h back b n at is done makes = λ o m stands are.
       let w = done o m stands are in
@@ -161,18 +169,22 @@ module _ (old mid : View) (index : ℕ) (nodes : List Node) (i : ℕ) (values : 
       let now : answers_of values ++ answer_in (reply_of back) ∷ [] ≡ answers_of (values ++ b ∷ []) = ap (λ a. answers_of values ++ a ∷ []) (answer_back back b is) ∙ sym (answers_more values b) in
       record {
         entries = w.entries ++ e ∷ [];
-        makes = times_more old mid new index word.Restore count (length (handles_of (take (i + 1) nodes))) w.entries e w.makes (makes_one mid new (restoring o (answers_of values)) m e nothing v.0) refl refl tt (λ k. refl) (restore_tells back) more;
+        makes = times_more old mid new index word.Restore count (length (handles_of (take (i + 1) nodes))) w.entries e w.makes
+            (makes_one mid new (restoring o (answers_of values)) m e nothing v.0) refl refl tt (λ k. refl) (restore_tells back) more;
         count = one_longer values b ∙ (ap (λ k. k + 1) w.count ∙ sym more);
         stands = subst (λ (bs : List Answer). DriverStands new index (restoring o bs) m) now v.1;
       }
 
-  pub restores_past : HasNode nodes i (λ n. n.handle ≡ None) → RestoresAll old mid index nodes (handles_of (take i nodes)) values → RestoresAll old mid index nodes (handles_of (take (i + 1) nodes)) values
+  pub restores_past : HasNode nodes i (λ n. n.handle ≡ None) → RestoresAll old mid index nodes (handles_of (take i nodes)) values
+      → RestoresAll old mid index nodes (handles_of (take (i + 1) nodes)) values
   restores_past at done = subst (λ (hs : List HNum). RestoresAll old mid index nodes hs values) (sym (done-none nodes i at)) done
 
 pub restores_first : (v : View) (index : ℕ) (nodes : List Node) (values : List (Option HNum)) → values ≡ [] → RestoresAll v v index nodes (handles_of (take 0 nodes)) values
-restores_first v index nodes values none = subst (λ (bs : List (Option HNum)). RestoresAll v v index nodes (handles_of (take 0 nodes)) bs) (sym none) (λ o m stands are. record { entries = []; makes = times_none v index word.Restore; count = refl; stands = stands })
+restores_first v index nodes values none = subst (λ (bs : List (Option HNum)). RestoresAll v v index nodes (handles_of (take 0 nodes)) bs)
+    (sym none) (λ o m stands are. record { entries = []; makes = times_none v index word.Restore; count = refl; stands = stands })
 
-pub restores_last : (old new : View) (index : ℕ) (nodes : List Node) (values : List (Option HNum)) (n : ℕ) → length nodes ≤ n → RestoresAll old new index nodes (handles_of (take n nodes)) values → RestoresAll old new index nodes (handles_of nodes) values
+pub restores_last : (old new : View) (index : ℕ) (nodes : List Node) (values : List (Option HNum)) (n : ℕ) → length nodes ≤ n
+    → RestoresAll old new index nodes (handles_of (take n nodes)) values → RestoresAll old new index nodes (handles_of nodes) values
 restores_last old new index nodes values n e done = subst (λ (ns : List Node). RestoresAll old new index nodes (handles_of ns) values) (take_all n nodes e) done
 
 -- there is room for an answer of each handle that is left

@@ -5,7 +5,8 @@ use Rattle.std.specs.Prelude.{◌≡◌, ℕ, Bool, false, List, [], length, Opt
 use Rattle.joint_machine.specs.declared.names.Cycle.{Cycle}
 use Rattle.joint_machine.specs.declared.names.Phase.{Phase}
 use Rattle.joint_machine.specs.declared.names.Phase.TheVariants as at
-use Rattle.joint_machine.specs.Control.{OpenSnap, Stand, idle, snapped, contracted, weakening, marked, restoring, restored}
+use Rattle.joint_machine.specs.Control.{OpenSnap, Stand, idle, snapped, contracted, weakening, marked, restoring}
+use Rattle.joint_machine.specs.Control.{restored}
 use Rattle.joint_model.specs.Listed.{Answers, answers_of}
 use Rattle.joint_machine.specs.Managed.{Managed, OpenCycle, candidates_of}
 use Rattle.joint_laws.specs.ManagedInvariants.{IsManagedKept}
@@ -77,9 +78,12 @@ pub record HasRoom (n : ℕ) (a : Answers) : Type 0 where
 abbrev pub IsAt : Stage → ℕ → Stand → Type 0
 IsAt stage.Idle n stand = stand ≡ idle
 IsAt (stage.Snapped o) n stand = stand ≡ snapped (cycle_of o)
-IsAt (stage.Contracted o l a) n stand = HasRoom n a × ((heavy : List ℕ) × (length heavy ≡ l.heavy) × (stand ≡ contracted (cycle_of o) (numbered_comps o.graph l.comps) heavy l.pairs))
+IsAt (stage.Contracted o l a) n stand = HasRoom n a
+    × ((heavy : List ℕ) × (length heavy ≡ l.heavy)
+    × (stand ≡ contracted (cycle_of o) (numbered_comps o.graph l.comps) heavy l.pairs))
 IsAt (stage.Mirrored o a) n stand = HasRoom n a × (stand ≡ weakening (cycle_of o) 0 false false)
-IsAt (stage.Weakened o a) n stand = HasRoom n a × ((weakened : Bool) × (stand ≡ weakening (cycle_of o) n weakened false))
+IsAt (stage.Weakened o a) n stand = HasRoom n a
+    × ((weakened : Bool) × (stand ≡ weakening (cycle_of o) n weakened false))
 IsAt (stage.Marked o a) n stand = HasRoom n a × (stand ≡ marked (cycle_of o))
 IsAt (stage.Swept o a) n stand = HasRoom n a × (stand ≡ restoring (cycle_of o) [])
 IsAt (stage.Restored o a clear) n stand = stand ≡ restored (cycle_of o) (answers_of a.values) clear

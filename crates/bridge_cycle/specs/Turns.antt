@@ -45,7 +45,9 @@ pub record Weakens (old new : View) (index n : ℕ) (o : OpenSnap) (m : Managed)
   pub stands : DriverStands new index (weakening o n weakened false) m
 
 abbrev pub WeakensAll : View → View → ℕ → ℕ → List Node → List HNum → Type 0
-WeakensAll old new index snap nodes hs = (o : OpenSnap) (weakened : Bool) (m : Managed) → DriverStands old index (weakening o 0 weakened false) m → AreCandidates m nodes → o.snap ≡ snap → Weakens old new index (length hs) o m
+WeakensAll old new index snap nodes hs = (o : OpenSnap) (weakened : Bool) (m : Managed)
+    → DriverStands old index (weakening o 0 weakened false) m
+    → AreCandidates m nodes → o.snap ≡ snap → Weakens old new index (length hs) o m
 
 -- no handle of the driver's cycle is restored yet
 pub record MayRestoreAll (v : View) (index : ℕ) (nodes : List Node) : Type 0 where
@@ -55,11 +57,13 @@ pub record MayRestoreAll (v : View) (index : ℕ) (nodes : List Node) : Type 0 w
   pub candidates : AreCandidates seen nodes
 
 -- so many handles are restored, with these answers
-pub record Restores (old new : View) (index n : ℕ) (values : List (Option HNum)) (o : OpenSnap) (m : Managed) : Type 0 where
+pub record Restores (old new : View) (index n : ℕ)
+    (values : List (Option HNum)) (o : OpenSnap) (m : Managed) : Type 0 where
   pub entries : List Entry
   pub makes : MakesTimes old new index word.Restore n entries
   pub count : length values ≡ n
   pub stands : DriverStands new index (restoring o (answers_of values)) m
 
 abbrev pub RestoresAll : View → View → ℕ → List Node → List HNum → List (Option HNum) → Type 0
-RestoresAll old new index nodes hs values = (o : OpenSnap) (m : Managed) → DriverStands old index (restoring o []) m → AreCandidates m nodes → Restores old new index (length hs) values o m
+RestoresAll old new index nodes hs values = (o : OpenSnap) (m : Managed)
+    → DriverStands old index (restoring o []) m → AreCandidates m nodes → Restores old new index (length hs) values o m

@@ -33,7 +33,8 @@ fn components_of(
     graph: &DeadGraph,
     candidates: u32,
 ) -> Result<(Components, Alive), ListingFault>
-    ensures comps { IfOk result (λ found. (heavy : List ℕ) × (length heavy ≡ found.0.heavy) × IsContraction (IsBridgeNode graph.now.nodes) (NodeLeads graph.now.edges) found.0.comps heavy found.0.pairs) }
+    ensures comps { IfOk result (λ found. (heavy : List ℕ) × (length heavy ≡ found.0.heavy)
+        × IsContraction (IsBridgeNode graph.now.nodes) (NodeLeads graph.now.edges) found.0.comps heavy found.0.pairs) }
     ensures room { IfOk result (λ found. (found.1.values ≡ []) × (found.1.room ≡ candidates)) }
 {
     let comps = contract(alloc, graph)?;

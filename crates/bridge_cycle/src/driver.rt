@@ -32,9 +32,15 @@ impl<N: OrderName> Model for Driver<N> {
 
     ghost Value = { Progress };
 
-    ghost view = { λ d. shown record { view = d.caller.view; stage = d.stage; cycle = d.cycle; candidates = d.candidates } };
+    ghost view = { λ d. shown record {
+      view = d.caller.view;
+      stage = d.stage;
+      cycle = d.cycle;
+      candidates = d.candidates;
+    } };
 
-    ghost invariant = { λ d. IsDriver d.caller.thread × KnowsItsStand record { view = d.caller.view; stage = d.stage; cycle = d.cycle; candidates = d.candidates } };
+    ghost invariant = { λ d. IsDriver d.caller.thread
+        × KnowsItsStand record { view = d.caller.view; stage = d.stage; cycle = d.cycle; candidates = d.candidates } };
 }
 
 /// Why a call of the driver made nothing of what it was asked for.

@@ -43,11 +43,13 @@ pub fn run_gap<N: OrderName, K: Keeps<N>, G: Gap<N, K>>(
     requires none { G.count between.old ≡ 0 }
     requires index { line_of driver.old ≤ index }
     ensures index { line_of driver.new ≤ index }
-    ensures open { ¬ (driver.old.phase ≡ at.Idle) → (result ≡ Err (DriverFault.CycleOpen driver.old.cycle)) × (driver.new ≡ driver.old) × (G.count between.new ≡ 0) }
+    ensures open { ¬ (driver.old.phase ≡ at.Idle) → (result ≡ Err (DriverFault.CycleOpen driver.old.cycle))
+        × (driver.new ≡ driver.old) × (G.count between.new ≡ 0) }
     ensures idle { driver.old.phase ≡ at.Idle → IfErr result (λ e. e ≡ DriverFault.OutOfMemory) }
     ensures ok { OnOk result (RunsWords driver.old driver.new index (phases_of word.Cycle)) }
     ensures all { OnOk result (G.count between.new ≡ 7) }
-    ensures err { driver.old.phase ≡ at.Idle → OnErr result (StopsInGaps driver.old driver.new index (phases_of word.Cycle) (G.count between.new)) }
+    ensures err { driver.old.phase ≡ at.Idle
+        → OnErr result (StopsInGaps driver.old driver.new index (phases_of word.Cycle) (G.count between.new)) }
 {
     if driver.phase() != Phase::Idle {
         return Err(DriverFault::CycleOpen {

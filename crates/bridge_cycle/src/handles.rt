@@ -23,7 +23,8 @@ pub(crate) fn weaken_all<N: OrderName, K: Keeps<N>>(
     requires driver { IsDriver driver.old.thread }
     requires may { MayWeakenAll driver.old.view index opened.now.number opened.now.graph.nodes }
     ensures thread { driver.new.thread ≡ driver.old.thread }
-    ensures weakens { WeakensAll driver.old.view driver.new.view index opened.now.number opened.now.graph.nodes (handles_of opened.now.graph.nodes) }
+    ensures weakens { WeakensAll driver.old.view driver.new.view index opened.now.number opened.now.graph.nodes
+        (handles_of opened.now.graph.nodes) }
 {
     for i in 0..opened.graph.nodes() {
         if let Some(h) = opened.graph.handle(i) {
@@ -47,7 +48,8 @@ pub(crate) fn restore_all<N: OrderName, K: Keeps<N>>(
     requires none { alive.old.values ≡ [] }
     requires room { alive.old.room ≡ length (handles_of opened.now.graph.nodes) }
     ensures thread { driver.new.thread ≡ driver.old.thread }
-    ensures restores { RestoresAll driver.old.view driver.new.view index opened.now.graph.nodes (handles_of opened.now.graph.nodes) alive.new.values }
+    ensures restores { RestoresAll driver.old.view driver.new.view index opened.now.graph.nodes
+        (handles_of opened.now.graph.nodes) alive.new.values }
 {
     for i in 0..opened.graph.nodes() {
         if let Some(h) = opened.graph.handle(i) {

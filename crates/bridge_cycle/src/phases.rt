@@ -26,11 +26,13 @@ impl<N: OrderName> Driver<N> {
     ) -> Result<(), DriverFault>
         requires index { line_of self.old ≤ index }
         ensures index { line_of self.new ≤ index }
-        ensures wrong { ¬ (self.old.phase ≡ due) → (result ≡ Err (DriverFault.WrongPhase self.old.phase)) × (self.new ≡ self.old) }
+        ensures wrong { ¬ (self.old.phase ≡ due)
+            → (result ≡ Err (DriverFault.WrongPhase self.old.phase)) × (self.new ≡ self.old) }
         ensures due { self.old.phase ≡ due → IfErr result (λ e. e ≡ DriverFault.OutOfMemory) }
         ensures ok { OnOk result (RunsWords self.old self.new index (next_word due ∷ [])) }
         ensures err { self.old.phase ≡ due → OnErr result (GivesUp (next_word due) self.old self.new index) }
-        ensures never { ¬ TakesMemory (next_word due) → (self.old.phase ≡ due → IsOk result) × OnErr result (self.new ≡ self.old) }
+        ensures never { ¬ TakesMemory (next_word due)
+            → (self.old.phase ≡ due → IsOk result) × OnErr result (self.new ≡ self.old) }
     {
         if self.phase() != due {
             return Err(DriverFault::WrongPhase { at: self.phase() });
@@ -52,7 +54,8 @@ impl<N: OrderName> Driver<N> {
     ) -> Result<(), DriverFault>
         requires index { line_of self.old ≤ index }
         ensures index { line_of self.new ≤ index }
-        ensures open { ¬ (self.old.phase ≡ at.Idle) → (result ≡ Err (DriverFault.CycleOpen self.old.cycle)) × (self.new ≡ self.old) }
+        ensures open { ¬ (self.old.phase ≡ at.Idle)
+            → (result ≡ Err (DriverFault.CycleOpen self.old.cycle)) × (self.new ≡ self.old) }
         ensures idle { self.old.phase ≡ at.Idle → IfErr result (λ e. e ≡ DriverFault.OutOfMemory) }
         ensures ok { OnOk result (RunsWords self.old self.new index (word.Snap ∷ [])) }
         ensures err { OnErr result (RunsWords self.old self.new index []) }
@@ -78,7 +81,8 @@ impl<N: OrderName> Driver<N> {
     ) -> Result<(), DriverFault>
         requires index { line_of self.old ≤ index }
         ensures index { line_of self.new ≤ index }
-        ensures wrong { ¬ (self.old.phase ≡ at.Snapped) → (result ≡ Err (DriverFault.WrongPhase self.old.phase)) × (self.new ≡ self.old) }
+        ensures wrong { ¬ (self.old.phase ≡ at.Snapped)
+            → (result ≡ Err (DriverFault.WrongPhase self.old.phase)) × (self.new ≡ self.old) }
         ensures due { self.old.phase ≡ at.Snapped → IfErr result (λ e. e ≡ DriverFault.OutOfMemory) }
         ensures ok { OnOk result (RunsWords self.old self.new index (word.Contract ∷ [])) }
         ensures err { self.old.phase ≡ at.Snapped → OnErr result (AbandonsCycle self.old self.new index) }
@@ -98,7 +102,8 @@ impl<N: OrderName> Driver<N> {
     ) -> Result<(), DriverFault>
         requires index { line_of self.old ≤ index }
         ensures index { line_of self.new ≤ index }
-        ensures wrong { ¬ (self.old.phase ≡ at.Contracted) → (result ≡ Err (DriverFault.WrongPhase self.old.phase)) × (self.new ≡ self.old) }
+        ensures wrong { ¬ (self.old.phase ≡ at.Contracted)
+            → (result ≡ Err (DriverFault.WrongPhase self.old.phase)) × (self.new ≡ self.old) }
         ensures due { self.old.phase ≡ at.Contracted → IfErr result (λ e. e ≡ DriverFault.OutOfMemory) }
         ensures ok { OnOk result (RunsWords self.old self.new index (word.Mirror ∷ [])) }
         ensures err { self.old.phase ≡ at.Contracted → OnErr result (AbandonsCycle self.old self.new index) }

@@ -129,10 +129,12 @@ impl<N: OrderName> Driver<N> {
     ) -> Result<(), DriverFault>
         requires index { line_of self.old ≤ index }
         ensures index { line_of self.new ≤ index }
-        ensures open { ¬ (self.old.phase ≡ at.Idle) → (result ≡ Err (DriverFault.CycleOpen self.old.cycle)) × (self.new ≡ self.old) }
+        ensures open { ¬ (self.old.phase ≡ at.Idle)
+            → (result ≡ Err (DriverFault.CycleOpen self.old.cycle)) × (self.new ≡ self.old) }
         ensures idle { self.old.phase ≡ at.Idle → IfErr result (λ e. e ≡ DriverFault.OutOfMemory) }
         ensures ok { OnOk result (RunsWords self.old self.new index (phases_of word.Cycle)) }
-        ensures err { self.old.phase ≡ at.Idle → OnErr result (StopsForMemory self.old self.new index (phases_of word.Cycle)) }
+        ensures err { self.old.phase ≡ at.Idle
+            → OnErr result (StopsForMemory self.old self.new index (phases_of word.Cycle)) }
     {
         if self.phase() != Phase::Idle {
             return Err(DriverFault::CycleOpen { cycle: self.cycle });

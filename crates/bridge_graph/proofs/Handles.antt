@@ -9,7 +9,8 @@ use Rattle.bridge_graph.specs.Handles.{handles_of}
 use Rattle.bridge_graph.specs.Parts.{HasNode}
 
 -- the handles of one node more
-handles-next : (nodes : List Node) (i : ℕ) (o : Option HNum) → HasNode nodes i (λ n. n.handle ≡ o) → length (handles_of (take (i + 1) nodes)) ≡ length (handles_of (take i nodes)) + length (option_to_list o)
+handles-next : (nodes : List Node) (i : ℕ) (o : Option HNum) → HasNode nodes i (λ n. n.handle ≡ o)
+    → length (handles_of (take (i + 1) nodes)) ≡ length (handles_of (take i nodes)) + length (option_to_list o)
 handles-next nodes i o at =
     ap (λ ns. length (handles_of ns)) (take-next nodes i at.0 at.1)
     ∙ (ap length (flat_map-append (λ (n : Node). option_to_list n.handle) (take i nodes) (at.0 ∷ []) ∙ ap (λ hs. handles_of (take i nodes) ++ hs) (append-nil (option_to_list at.0.handle)))

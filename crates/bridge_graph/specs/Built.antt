@@ -12,7 +12,8 @@ pub record Joins (nodes : List Node) (l : Link) : Type 0 where
   pub transparent : opaque_at nodes l.from ≡ false
 
 -- the numbers rise, the links join nodes, no node is linked up yet, and there is room for the targets
-pub record IsBuilding (nodes : List Node) (heads : List ℕ) (links : List Link) (follows targets : List ℕ) (space : ℕ) : Type 0 where
+pub record IsBuilding (nodes : List Node) (heads : List ℕ)
+    (links : List Link) (follows targets : List ℕ) (space : ℕ) : Type 0 where
   pub rising : Rises (numbers_of nodes)
   pub few : length nodes < 4294967295
   pub firsts : length heads ≡ length nodes

@@ -1,6 +1,7 @@
 -- The dead part as a value: nodes with rising managed numbers, and for each node the indexes of the nodes
 -- that its references lead to, in the order in which they were added.
-use Rattle.std.specs.Prelude.{◌≡◌, ℕ, ◌<◌, Bool, true, IsSome, List, [], length, map, Contains, slice_index_or, slice_get, Some}
+use Rattle.std.specs.Prelude.{◌≡◌, ℕ, ◌<◌, Bool, true, IsSome, List, [], length, map, Contains, slice_index_or}
+use Rattle.std.specs.Prelude.{slice_get, Some}
 use Rattle.joint_machine.specs.Components.{Rises}
 use Rattle.bridge_graph.specs.declared.graph.Node.{Node}
 

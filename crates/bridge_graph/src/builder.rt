@@ -1,6 +1,7 @@
 // A part that is being built.
 
-ghost use Rattle.std.specs.Prelude.{◌≡◌, ℕ, ◌+◌, ◌-◌, ◌<◌, ◌≤◌, ◌++◌, [], ◌∷◌, length, slice_set, All, IfOk, OnOk, OnErr, false};
+ghost use Rattle.std.specs.Prelude.{◌≡◌, ℕ, ◌+◌, ◌-◌, ◌<◌, ◌≤◌, ◌++◌, [], ◌∷◌, length, slice_set, All, IfOk, OnOk};
+ghost use Rattle.std.specs.Prelude.{OnErr, false};
 ghost use Rattle.std.specs.Bool.{OnTrue, OnFalse};
 ghost use Rattle.bridge_graph.specs.Parts.{Part, Building, IsPart, row_at, opaque_at};
 
@@ -39,7 +40,8 @@ impl Model for GraphBuilder {
       spare_edges = min 4294967295 (min (vec_capacity b.links) (min (vec_capacity b.nexts) (vec_capacity b.targets))) - vec_len b.links;
     } };
 
-    ghost invariant = { λ b. IsBuilding b.nodes.items b.firsts.items b.links.items b.nexts.items b.targets.items (vec_capacity b.targets) };
+    ghost invariant = { λ b. IsBuilding b.nodes.items b.firsts.items
+        b.links.items b.nexts.items b.targets.items (vec_capacity b.targets) };
 }
 
 impl GraphBuilder {
@@ -92,7 +94,8 @@ impl GraphBuilder {
         requires rising { All (λ n. n.number.0 < number.0) self.old.nodes }
         requires few { length self.old.nodes < 4294967294 }
         ensures index { IfOk result (λ i. i ≡ length self.old.nodes) }
-        ensures nodes { OnOk result (self.new.nodes ≡ self.old.nodes ++ record { number = number; handle = handle; opaque = opaque } ∷ []) }
+        ensures nodes { OnOk result (self.new.nodes ≡ self.old.nodes ++
+            record { number = number; handle = handle; opaque = opaque } ∷ []) }
         ensures edges { OnOk result (self.new.edges ≡ self.old.edges ++ [] ∷ []) }
         ensures spare_nodes { OnOk result (self.old.spare_nodes ≤ self.new.spare_nodes + 1) }
         ensures spare_edges { self.new.spare_edges ≡ self.old.spare_edges }
@@ -120,7 +123,8 @@ impl GraphBuilder {
         requires to { to < length self.old.nodes }
         requires open { opaque_at self.old.nodes from ≡ false }
         ensures nodes { self.new.nodes ≡ self.old.nodes }
-        ensures edges { OnOk result (self.new.edges ≡ slice_set self.old.edges from (row_at self.old.edges from ++ to ∷ [])) }
+        ensures edges { OnOk result (self.new.edges ≡ slice_set self.old.edges from
+            (row_at self.old.edges from ++ to ∷ [])) }
         ensures spare_nodes { self.new.spare_nodes ≡ self.old.spare_nodes }
         ensures spare_edges { OnOk result (self.old.spare_edges ≤ self.new.spare_edges + 1) }
         ensures room { OnErr result (self.old.spare_edges ≡ 0) }
@@ -150,7 +154,8 @@ impl GraphBuilder {
     pub fn next_is(&self, number: MNum) -> bool
         ensures few { OnTrue result (length self.now.nodes < 4294967294) }
         ensures rising { OnTrue result (All (λ n. n.number.0 < number.0) self.now.nodes) }
-        ensures refused { OnFalse result ((length self.now.nodes < 4294967294) × All (λ n. n.number.0 < number.0) self.now.nodes → ⊥) }
+        ensures refused { OnFalse result ((length self.now.nodes < 4294967294)
+            × All (λ n. n.number.0 < number.0) self.now.nodes → ⊥) }
     {
         let count = self.nodes.len();
         count < 4_294_967_294 && (count == 0 || self.nodes[count - 1].number.0 < number.0)
@@ -161,7 +166,8 @@ impl GraphBuilder {
         ensures from { OnTrue result (from < length self.now.nodes) }
         ensures to { OnTrue result (to < length self.now.nodes) }
         ensures open { OnTrue result (opaque_at self.now.nodes from ≡ false) }
-        ensures refused { OnFalse result ((from < length self.now.nodes) × (to < length self.now.nodes) × (opaque_at self.now.nodes from ≡ false) → ⊥) }
+        ensures refused { OnFalse result ((from < length self.now.nodes)
+            × (to < length self.now.nodes) × (opaque_at self.now.nodes from ≡ false) → ⊥) }
     {
         (from as usize) < self.nodes.len()
             && (to as usize) < self.nodes.len()

@@ -1,6 +1,7 @@
 // The finished part, which is only read.
 
-ghost use Rattle.std.specs.Prelude.{◌≡◌, ℕ, ◌<◌, length, slice_get, slice_index, slice_index_or, IfSome, Some, map, All, MatchBool};
+ghost use Rattle.std.specs.Prelude.{◌≡◌, ℕ, ◌<◌, length, slice_get, slice_index, slice_index_or, IfSome, Some, map};
+ghost use Rattle.std.specs.Prelude.{All, MatchBool};
 ghost use Rattle.bridge_graph.specs.Packed.{IsPackedPart};
 ghost use Rattle.bridge_graph.specs.Packing.{packed_rows};
 ghost use Rattle.bridge_graph.specs.Parts.{Part, IsPart, IsBridgeNode, row_at, opaque_at, HasNode};
@@ -39,7 +40,10 @@ impl Model for DeadGraph {
     ghost use Rattle.bridge_graph.specs.Packing.{packed_rows};
     ghost use Rattle.bridge_graph.specs.Packed.{IsPackedPart};
 
-    ghost view = { λ g. record { nodes = g.nodes.items; edges = packed_rows g.starts.items g.targets.items (length g.nodes.items) } };
+    ghost view = { λ g. record {
+      nodes = g.nodes.items;
+      edges = packed_rows g.starts.items g.targets.items (length g.nodes.items);
+    } };
 
     ghost invariant = { λ g. IsPackedPart g.nodes.items g.starts.items g.targets.items };
 }

@@ -69,11 +69,19 @@ part_of_last old new = put-of-last (AppendsPart old new)
 
 -- the numbers of a run's last state are the tally of its entries
 pub same_numbers : (e : RunEnd) (t : Tally) → HasEndNumbers e → TalliesOfLinked → HeapsOfLinked
-    → t ≡ record { cycles = e.cycles; made = record { managed = e.managed.all; peers = e.peers.all; handles = e.handles.all }; left = record { managed = e.managed.left; peers = e.peers.left; handles = e.handles.left } } → t ≡ tally_of e.history.entries
+    → t ≡ record {
+      cycles = e.cycles;
+      made = record { managed = e.managed.all; peers = e.peers.all; handles = e.handles.all };
+      left = record { managed = e.managed.left; peers = e.peers.left; handles = e.handles.left };
+    } → t ≡ tally_of e.history.entries
 same_numbers e t w law heaps is =
     let n = w.numbers in
     let up = heaps e.history w.noted w.finished.linked in
-    let same = same_tally (record { cycles = e.cycles; made = record { managed = e.managed.all; peers = e.peers.all; handles = e.handles.all }; left = record { managed = e.managed.left; peers = e.peers.left; handles = e.handles.left } }) (tally_in (linked_end w.noted)) (record {
+    let same = same_tally (record {
+      cycles = e.cycles;
+      made = record { managed = e.managed.all; peers = e.peers.all; handles = e.handles.all };
+      left = record { managed = e.managed.left; peers = e.peers.left; handles = e.handles.left };
+    }) (tally_in (linked_end w.noted)) (record {
       cycles = n.cycles;
       managed = n.managed;
       peers = n.peers;

@@ -53,7 +53,8 @@ not-refused : (bytes text : List ℕ) (lines : List LogLine) → IsLogText bytes
 not-refused bytes text lines t l (inl w) = elim w.wrong [ inl f ↦ f.2 lines t | inr f ↦ absurd (let e = f.0 in omega (arith, e, l)) ]
 not-refused bytes text lines t l (inr w) = (let e = w.long in absurd (omega (arith, e, l)))
 
-pub never_refused : (left rest : Option (List ℕ)) (input bytes text : List ℕ) (lines : List LogLine) → left ≡ Some input → IsLogText input lines → length input ≤ MOST_BYTES → Took MOST_BYTES left rest bytes → IsRefusal bytes text → ⊥
+pub never_refused : (left rest : Option (List ℕ)) (input bytes text : List ℕ) (lines : List LogLine) → left ≡ Some input
+    → IsLogText input lines → length input ≤ MOST_BYTES → Took MOST_BYTES left rest bytes → IsRefusal bytes text → ⊥
 never_refused left rest input bytes text lines e t l took r =
     let same = all-taken left rest input bytes e l took in
     not-refused bytes text lines (subst (λ b. IsLogText b lines) (sym same) t) (subst (λ b. length b ≤ MOST_BYTES) (sym same) l) r

@@ -24,6 +24,7 @@ no_words (command.Generate seed size m, a) = some_word (Contains-map_cases (λ r
     some_word w = let e = w.2 in cc
 
 -- so what follows for words that are no command follows where the arguments aren't text
-pub without_text : {A Z E : Type 0} (args : Result (IntoIter (String A) Z) E) (words : List (List ℕ)) (Q : E → Type 0) (R : Type 0) → words ≡ words_told args → ((IsCommand words → ⊥) → R) → IfErr args (λ e. Q e → R)
+pub without_text : {A Z E : Type 0} (args : Result (IntoIter (String A) Z) E) (words : List (List ℕ)) (Q : E → Type 0) (R : Type 0)
+    → words ≡ words_told args → ((IsCommand words → ⊥) → R) → IfErr args (λ e. Q e → R)
 without_text (Ok x) words Q R w f = tt
 without_text (Err e) words Q R w f = λ q. f (λ c. no_words (subst IsCommand w c))

@@ -28,7 +28,8 @@ pub record ReportRefusalPut (words : List (List ℕ)) (left rest : Option (List 
   pub put : RefusalPut MOST_REPORT_BYTES left rest Put
 
 -- the words ask for a report to be judged, the source has one within the limit, and neither count of faults rose
-pub record MayCheck (words : List (List ℕ)) (left : Option (List ℕ)) (read_before read_now write_before write_now : ℕ) : Type 0 where
+pub record MayCheck (words : List (List ℕ)) (left : Option (List ℕ))
+    (read_before read_now write_before write_now : ℕ) : Type 0 where
   pub command : AreWordsOf words command.Check
   pub history : Finished
   pub input : List ℕ

@@ -6,7 +6,8 @@ use Rattle.std.specs.Vec.Iter.{into_iter_items}
 use Rattle.std.specs.declared.string.String.{String}
 use Rattle.std.specs.declared.vec.IntoIter.{IntoIter}
 use Rattle.byte_streams.specs.Faults.{AppendsPart, Rose}
-use Rattle.bridge_run.specs.Top.{IsCommand, LacksMemory, MayAnswer, MayGenerate, ReadsInput, RefusalPut, ResultPut, TextPut, UsagePut}
+use Rattle.bridge_run.specs.Top.{IsCommand, LacksMemory, MayAnswer, MayGenerate, ReadsInput, RefusalPut, ResultPut}
+use Rattle.bridge_run.specs.Top.{TextPut, UsagePut}
 
 -- the words after the program's name, as bytes; none where the arguments couldn't be had as text
 abbrev pub words_told : {A Z E : Type 0} → Result (IntoIter (String A) Z) E → List (List ℕ)
@@ -15,7 +16,8 @@ words_told (Err e) = []
 
 -- how the program ends that was asked by these words: with the status, the bytes and the counts of faults that
 -- `bridge_main` promises; only that memory may be wanting before the words are judged
-pub record Ends (words : List (List ℕ)) (left rest : Option (List ℕ)) (read_before read_now : ℕ) (held after : Option (List ℕ)) (write_before write_now status : ℕ) : Type 0 where
+pub record Ends (words : List (List ℕ)) (left rest : Option (List ℕ)) (read_before read_now : ℕ)
+    (held after : Option (List ℕ)) (write_before write_now status : ℕ) : Type 0 where
   pub printed : status ≡ 0 → ResultPut words left rest (Appends held after)
   pub usage : status ≡ 1 → UsagePut words (Appends held after)
   pub no_command : (IsCommand words → ⊥) → (status ≡ 1) ⊎ (status ≡ 4) ⊎ (status ≡ 5)

@@ -76,7 +76,8 @@ pub record LeftPut (left rest : Option (List ℕ)) (Put : List ℕ → Type 0) :
 -- a line is wrong: of bytes within the limit the first one, or the place behind all lines, and the bytes are the text
 -- of no log; of more bytes one before the limit
 abbrev pub IsLineWrong : List ℕ → ℕ → LogCause → Type 0
-IsLineWrong bytes number why = ((length bytes ≤ MOST_BYTES) × IsLogFault bytes number why × IsNoLogText bytes) ⊎ ((length bytes ≡ MOST_BYTES + 1) × IsFaultBefore MOST_BYTES bytes number why)
+IsLineWrong bytes number why = ((length bytes ≤ MOST_BYTES) × IsLogFault bytes number why × IsNoLogText bytes)
+    ⊎ ((length bytes ≡ MOST_BYTES + 1) × IsFaultBefore MOST_BYTES bytes number why)
 
 -- the text is the line that names the first line that is wrong, with its cause
 pub record NamesWrongLine (bytes text : List ℕ) : Type 0 where

@@ -64,7 +64,8 @@ IsRunIn mode.Threads script history = IsRunByThreads script history
 -- the history of a generated script's run in a mode, with one cycle more at its end: line after line, where it is the
 -- only one, or thread by thread
 abbrev pub IsGeneratedRunIn : Mode → List (Thread × Act) → Finished → Type 0
-IsGeneratedRunIn mode.Serial script history = IsRunInOrder (script ++ cycle_line ∷ []) history × IsRunThenCycle script history
+IsGeneratedRunIn mode.Serial script history = IsRunInOrder (script ++ cycle_line ∷ []) history
+    × IsRunThenCycle script history
 IsGeneratedRunIn mode.Threads script history = IsRunThenCycle script history
 
 -- the history of the run of a seed's and a size's script in a mode. The numbers of the state after its last entry, what
@@ -99,7 +100,8 @@ pub record LogRefusalPut (words : List (List ℕ)) (left rest : Option (List ℕ
 
 -- a refusal of what the words ask for
 abbrev pub RefusalPut : List (List ℕ) → Option (List ℕ) → Option (List ℕ) → (List ℕ → Type 0) → Type 0
-RefusalPut words left rest Put = ScriptRefusalPut words left rest Put ⊎ LogRefusalPut words left rest Put ⊎ ReportRefusalPut words left rest Put
+RefusalPut words left rest Put = ScriptRefusalPut words left rest Put
+    ⊎ LogRefusalPut words left rest Put ⊎ ReportRefusalPut words left rest Put
 
 -- a report: the source was read to its end, what was taken is a text of the script, and the text is the report of a
 -- history of its run in that mode
@@ -157,7 +159,8 @@ pub record LeaksPut (words : List (List ℕ)) (left rest : Option (List ℕ)) (P
 -- the text of a command was put: a report, a summary, a listing, a log, what one never releases or what a report is
 -- found to be, each with its command
 abbrev pub ResultPut : List (List ℕ) → Option (List ℕ) → Option (List ℕ) → (List ℕ → Type 0) → Type 0
-ResultPut words left rest Put = ReportPut words left rest Put ⊎ SummaryPut words left rest Put ⊎ ListingPut words left rest Put ⊎ LogPut words left rest Put ⊎ LeaksPut words left rest Put
+ResultPut words left rest Put = ReportPut words left rest Put ⊎ SummaryPut words left rest Put
+    ⊎ ListingPut words left rest Put ⊎ LogPut words left rest Put ⊎ LeaksPut words left rest Put
     ⊎ CheckPut words left rest Put
 
 -- one of these texts was put
@@ -176,7 +179,8 @@ pub record LacksMemory (words : List (List ℕ)) (held after : Option (List ℕ)
   pub lines : AreWordsOf words command.Compare → LinesPut held after
 
 -- the words ask for a script to be read, the source has a script's text, and neither count of faults rose
-pub record MayRun (words : List (List ℕ)) (left : Option (List ℕ)) (read_before read_now write_before write_now : ℕ) : Type 0 where
+pub record MayRun (words : List (List ℕ)) (left : Option (List ℕ))
+    (read_before read_now write_before write_now : ℕ) : Type 0 where
   pub command : ReadsScript words
   pub script : List (Thread × Act)
   pub input : List ℕ
@@ -186,7 +190,8 @@ pub record MayRun (words : List (List ℕ)) (left : Option (List ℕ)) (read_bef
   pub written : Rose write_before write_now → ⊥
 
 -- the words ask for a log to be read, the source has a log's text within the limit, and neither count of faults rose
-pub record MayJudge (words : List (List ℕ)) (left : Option (List ℕ)) (read_before read_now write_before write_now : ℕ) : Type 0 where
+pub record MayJudge (words : List (List ℕ)) (left : Option (List ℕ))
+    (read_before read_now write_before write_now : ℕ) : Type 0 where
   pub command : AreWordsOf words command.Leaks
   pub lines : List LogLine
   pub input : List ℕ
@@ -198,7 +203,8 @@ pub record MayJudge (words : List (List ℕ)) (left : Option (List ℕ)) (read_b
 
 -- the source has what the words ask for
 abbrev pub MayAnswer : List (List ℕ) → Option (List ℕ) → ℕ → ℕ → ℕ → ℕ → Type 0
-MayAnswer words left read_before read_now write_before write_now = MayRun words left read_before read_now write_before write_now ⊎ MayJudge words left read_before read_now write_before write_now
+MayAnswer words left read_before read_now write_before write_now = MayRun words left read_before
+    read_now write_before write_now ⊎ MayJudge words left read_before read_now write_before write_now
     ⊎ MayCheck words left read_before read_now write_before write_now
 
 -- the words ask for a script to be made, and the sink's count of faults didn't rise

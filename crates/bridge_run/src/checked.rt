@@ -18,13 +18,19 @@ const MOST_BYTES: usize = 268_435_456;
 /// Reads a report and writes what its history is found to be, or what is wrong with the report. Answers the program's
 /// exit status.
 pub fn print_checked<S: Source, K: Sink>(alloc: Global, src: &mut S, out: &mut K) -> u8
-    ensures done { result ≡ 0 → FindingPut 268435456 (S.left src.old) (S.left src.new) (Appends (K.held out.old) (K.held out.new)) }
+    ensures done { result ≡ 0 → FindingPut 268435456 (S.left src.old)
+        (S.left src.new) (Appends (K.held out.old) (K.held out.new)) }
     ensures read { result ≡ 2 → Rose (S.faults src.old) (S.faults src.new) × Keeps (K.held out.old) (K.held out.new) }
-    ensures refused { result ≡ 3 → NoReportPut 268435456 (S.left src.old) (S.left src.new) (Appends (K.held out.old) (K.held out.new)) }
+    ensures refused { result ≡ 3 → NoReportPut 268435456 (S.left src.old)
+        (S.left src.new) (Appends (K.held out.old) (K.held out.new)) }
     ensures write { result ≡ 4 → Rose (K.faults out.old) (K.faults out.new) }
-    ensures part { result ≡ 4 → FindingPut 268435456 (S.left src.old) (S.left src.new) (AppendsPart (K.held out.old) (K.held out.new)) ⊎ NoReportPut 268435456 (S.left src.old) (S.left src.new) (AppendsPart (K.held out.old) (K.held out.new)) }
+    ensures part { result ≡ 4 → FindingPut 268435456 (S.left src.old) (S.left src.new)
+        (AppendsPart (K.held out.old) (K.held out.new))
+        ⊎ NoReportPut 268435456 (S.left src.old) (S.left src.new) (AppendsPart (K.held out.old) (K.held out.new)) }
     ensures memory { result ≡ 5 → Keeps (K.held out.old) (K.held out.new) }
-    ensures complete { (history : Finished) (input : List ℕ) → S.left src.old ≡ Some input → IsReadAs input history → length input ≤ 268435456 → (Rose (S.faults src.old) (S.faults src.new) → ⊥) → (Rose (K.faults out.old) (K.faults out.new) → ⊥) → (result ≡ 0) ⊎ (result ≡ 5) }
+    ensures complete { (history : Finished) (input : List ℕ) → S.left src.old ≡ Some input
+        → IsReadAs input history → length input ≤ 268435456 → (Rose (S.faults src.old) (S.faults src.new) → ⊥)
+        → (Rose (K.faults out.old) (K.faults out.new) → ⊥) → (result ≡ 0) ⊎ (result ≡ 5) }
     ensures status { (result ≡ 0) ⊎ ((2 ≤ result) × (result ≤ 5)) }
 {
     match answer_report(alloc, src, out, MOST_BYTES) {

@@ -26,13 +26,19 @@ pub fn print_compared<S: Source, K: Sink>(
     src: &mut S,
     out: &mut K,
 ) -> u8
-    ensures done { result ≡ 0 → ComparedPut (S.left src.old) (S.left src.new) (Appends (K.held out.old) (K.held out.new)) }
+    ensures done { result ≡ 0 → ComparedPut (S.left src.old)
+        (S.left src.new) (Appends (K.held out.old) (K.held out.new)) }
     ensures read { result ≡ 2 → Rose (S.faults src.old) (S.faults src.new) × Keeps (K.held out.old) (K.held out.new) }
-    ensures refused { result ≡ 3 → FaultPut (S.left src.old) (S.left src.new) (Appends (K.held out.old) (K.held out.new)) }
+    ensures refused { result ≡ 3 → FaultPut (S.left src.old)
+        (S.left src.new) (Appends (K.held out.old) (K.held out.new)) }
     ensures write { result ≡ 4 → Rose (K.faults out.old) (K.faults out.new) }
-    ensures part { result ≡ 4 → FaultPut (S.left src.old) (S.left src.new) (AppendsPart (K.held out.old) (K.held out.new)) ⊎ ComparedPut (S.left src.old) (S.left src.new) (AppendsPart (K.held out.old) (K.held out.new)) }
+    ensures part { result ≡ 4 → FaultPut (S.left src.old) (S.left src.new)
+        (AppendsPart (K.held out.old) (K.held out.new))
+        ⊎ ComparedPut (S.left src.old) (S.left src.new) (AppendsPart (K.held out.old) (K.held out.new)) }
     ensures memory { result ≡ 5 → LinesPut (K.held out.old) (K.held out.new) }
-    ensures complete { (script : List (Thread × Act)) (input : List ℕ) → S.left src.old ≡ Some input → IsText input script → (Rose (S.faults src.old) (S.faults src.new) → ⊥) → (Rose (K.faults out.old) (K.faults out.new) → ⊥) → (result ≡ 0) ⊎ (result ≡ 5) }
+    ensures complete { (script : List (Thread × Act)) (input : List ℕ) → S.left src.old ≡ Some input
+        → IsText input script → (Rose (S.faults src.old) (S.faults src.new) → ⊥)
+        → (Rose (K.faults out.old) (K.faults out.new) → ⊥) → (result ≡ 0) ⊎ (result ≡ 5) }
     ensures status { (result ≡ 0) ⊎ ((2 ≤ result) × (result ≤ 5)) }
 {
     match read_script(alloc, src) {
@@ -49,9 +55,11 @@ pub fn print_compared<S: Source, K: Sink>(
 // Runs the script in order and writes the listing of its cycles.
 #[tactic(auto, using(script_runs::proofs::Runnable::can_run))]
 fn list_run<K: Sink>(rt: &impl Wait, alloc: Global, script: &Script, out: &mut K) -> u8
-    ensures done { result ≡ 0 → (h : Finished) × IsRunInOrder script.now h × (text : List ℕ) × IsListingOf h text × Appends (K.held out.old) (K.held out.new) text }
+    ensures done { result ≡ 0 → (h : Finished) × IsRunInOrder script.now h × (text : List ℕ)
+        × IsListingOf h text × Appends (K.held out.old) (K.held out.new) text }
     ensures write { result ≡ 4 → Rose (K.faults out.old) (K.faults out.new) }
-    ensures part { result ≡ 4 → (h : Finished) × IsRunInOrder script.now h × (text : List ℕ) × IsListingOf h text × AppendsPart (K.held out.old) (K.held out.new) text }
+    ensures part { result ≡ 4 → (h : Finished) × IsRunInOrder script.now h × (text : List ℕ)
+        × IsListingOf h text × AppendsPart (K.held out.old) (K.held out.new) text }
     ensures memory { result ≡ 5 → LinesPut (K.held out.old) (K.held out.new) }
     ensures status { (result ≡ 0) ⊎ (result ≡ 4) ⊎ (result ≡ 5) }
 {

@@ -39,9 +39,13 @@ pub fn print_generated<R: Threads + Wait + Sync, K: Sink, T: Turnstile + Sync>(
     turn: &T,
 ) -> u8
     requires { size ≤ 2800 }
-    ensures done { result ≡ 0 → (h : Finished) × IsGeneratedRunOf mode seed size h × Appends (K.held out.old) (K.held out.new) (summary_text seed size mode (length (generated seed size)) (generated_tally seed size)) }
+    ensures done { result ≡ 0 → (h : Finished) × IsGeneratedRunOf mode seed size h
+        × Appends (K.held out.old) (K.held out.new)
+        (summary_text seed size mode (length (generated seed size)) (generated_tally seed size)) }
     ensures write { result ≡ 4 → Rose (K.faults out.old) (K.faults out.new) }
-    ensures part { result ≡ 4 → (h : Finished) × IsGeneratedRunOf mode seed size h × AppendsPart (K.held out.old) (K.held out.new) (summary_text seed size mode (length (generated seed size)) (generated_tally seed size)) }
+    ensures part { result ≡ 4 → (h : Finished) × IsGeneratedRunOf mode seed size h
+        × AppendsPart (K.held out.old) (K.held out.new)
+        (summary_text seed size mode (length (generated seed size)) (generated_tally seed size)) }
     ensures memory { result ≡ 5 → Keeps (K.held out.old) (K.held out.new) }
     ensures status { (result ≡ 0) ⊎ (result ≡ 4) ⊎ (result ≡ 5) }
 {

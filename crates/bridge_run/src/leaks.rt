@@ -26,11 +26,16 @@ const MOST_BYTES: usize = 268_435_456;
 pub fn print_leaks<S: Source, K: Sink>(alloc: Global, src: &mut S, out: &mut K) -> u8
     ensures done { result ≡ 0 → LeftPut (S.left src.old) (S.left src.new) (Appends (K.held out.old) (K.held out.new)) }
     ensures read { result ≡ 2 → Rose (S.faults src.old) (S.faults src.new) × Keeps (K.held out.old) (K.held out.new) }
-    ensures refused { result ≡ 3 → LogFaultPut (S.left src.old) (S.left src.new) (Appends (K.held out.old) (K.held out.new)) }
+    ensures refused { result ≡ 3 → LogFaultPut (S.left src.old)
+        (S.left src.new) (Appends (K.held out.old) (K.held out.new)) }
     ensures write { result ≡ 4 → Rose (K.faults out.old) (K.faults out.new) }
-    ensures part { result ≡ 4 → LogFaultPut (S.left src.old) (S.left src.new) (AppendsPart (K.held out.old) (K.held out.new)) ⊎ LeftPut (S.left src.old) (S.left src.new) (AppendsPart (K.held out.old) (K.held out.new)) }
+    ensures part { result ≡ 4 → LogFaultPut (S.left src.old) (S.left src.new)
+        (AppendsPart (K.held out.old) (K.held out.new))
+        ⊎ LeftPut (S.left src.old) (S.left src.new) (AppendsPart (K.held out.old) (K.held out.new)) }
     ensures memory { result ≡ 5 → Keeps (K.held out.old) (K.held out.new) }
-    ensures complete { (lines : List LogLine) (input : List ℕ) → S.left src.old ≡ Some input → IsLogText input lines → length input ≤ 268435456 → (Rose (S.faults src.old) (S.faults src.new) → ⊥) → (Rose (K.faults out.old) (K.faults out.new) → ⊥) → (result ≡ 0) ⊎ (result ≡ 5) }
+    ensures complete { (lines : List LogLine) (input : List ℕ) → S.left src.old ≡ Some input
+        → IsLogText input lines → length input ≤ 268435456 → (Rose (S.faults src.old) (S.faults src.new) → ⊥)
+        → (Rose (K.faults out.old) (K.faults out.new) → ⊥) → (result ≡ 0) ⊎ (result ≡ 5) }
     ensures status { (result ≡ 0) ⊎ ((2 ≤ result) × (result ≤ 5)) }
 {
     match read_up_to(alloc, src, MOST_BYTES) {
@@ -43,10 +48,14 @@ pub fn print_leaks<S: Source, K: Sink>(alloc: Global, src: &mut S, out: &mut K) 
 // Writes what a log never releases, or what is wrong with it.
 fn judge<K: Sink>(alloc: Global, bytes: &[u8], out: &mut K) -> u8
     requires { length bytes.now ≤ 268435457 }
-    ensures done { result ≡ 0 → (length bytes.now ≤ 268435456) × LeftOfPut bytes.now (Appends (K.held out.old) (K.held out.new)) }
-    ensures refused { result ≡ 3 → (text : List ℕ) × IsRefusal bytes.now text × Appends (K.held out.old) (K.held out.new) text }
+    ensures done { result ≡ 0 → (length bytes.now ≤ 268435456)
+        × LeftOfPut bytes.now (Appends (K.held out.old) (K.held out.new)) }
+    ensures refused { result ≡ 3 → (text : List ℕ) × IsRefusal bytes.now text
+        × Appends (K.held out.old) (K.held out.new) text }
     ensures write { result ≡ 4 → Rose (K.faults out.old) (K.faults out.new) }
-    ensures part { result ≡ 4 → ((text : List ℕ) × IsRefusal bytes.now text × AppendsPart (K.held out.old) (K.held out.new) text) ⊎ ((length bytes.now ≤ 268435456) × LeftOfPut bytes.now (AppendsPart (K.held out.old) (K.held out.new))) }
+    ensures part { result ≡ 4 → ((text : List ℕ) × IsRefusal bytes.now text
+        × AppendsPart (K.held out.old) (K.held out.new) text)
+        ⊎ ((length bytes.now ≤ 268435456) × LeftOfPut bytes.now (AppendsPart (K.held out.old) (K.held out.new))) }
     ensures memory { result ≡ 5 → Keeps (K.held out.old) (K.held out.new) }
     ensures status { (result ≡ 0) ⊎ ((3 ≤ result) × (result ≤ 5)) }
 {
@@ -64,7 +73,8 @@ fn judge<K: Sink>(alloc: Global, bytes: &[u8], out: &mut K) -> u8
 fn print_left<K: Sink>(alloc: Global, log: &Log, out: &mut K) -> u8
     ensures done { result ≡ 0 → (left : LeftOf log.now) × Appends (K.held out.old) (K.held out.new) (left_text left) }
     ensures write { result ≡ 4 → Rose (K.faults out.old) (K.faults out.new) }
-    ensures part { result ≡ 4 → (left : LeftOf log.now) × AppendsPart (K.held out.old) (K.held out.new) (left_text left) }
+    ensures part { result ≡ 4 → (left : LeftOf log.now)
+        × AppendsPart (K.held out.old) (K.held out.new) (left_text left) }
     ensures memory { result ≡ 5 → Keeps (K.held out.old) (K.held out.new) }
     ensures status { (result ≡ 0) ⊎ (result ≡ 4) ⊎ (result ≡ 5) }
 {
@@ -93,9 +103,11 @@ fn refuse<K: Sink>(line: u32, cause: LogCause, out: &mut K) -> u8
 // Writes which line of a text that is too long is wrong, or that the line behind the limit is.
 fn refuse_long<K: Sink>(alloc: Global, bytes: &[u8], out: &mut K) -> u8
     requires { length bytes.now ≡ 268435457 }
-    ensures refused { result ≡ 3 → (text : List ℕ) × IsRefusal bytes.now text × Appends (K.held out.old) (K.held out.new) text }
+    ensures refused { result ≡ 3 → (text : List ℕ) × IsRefusal bytes.now text
+        × Appends (K.held out.old) (K.held out.new) text }
     ensures write { result ≡ 4 → Rose (K.faults out.old) (K.faults out.new) }
-    ensures part { result ≡ 4 → (text : List ℕ) × IsRefusal bytes.now text × AppendsPart (K.held out.old) (K.held out.new) text }
+    ensures part { result ≡ 4 → (text : List ℕ) × IsRefusal bytes.now text
+        × AppendsPart (K.held out.old) (K.held out.new) text }
     ensures memory { result ≡ 5 → Keeps (K.held out.old) (K.held out.new) }
     ensures status { (result ≡ 3) ⊎ (result ≡ 4) ⊎ (result ≡ 5) }
 {
@@ -108,9 +120,11 @@ fn refuse_long<K: Sink>(alloc: Global, bytes: &[u8], out: &mut K) -> u8
 
 // Writes which line holds the first byte behind the limit.
 fn refuse_length<K: Sink>(line: u32, out: &mut K) -> u8
-    ensures refused { result ≡ 3 → Appends (K.held out.old) (K.held out.new) (fault_text record { line = line; cause = Bytes }) }
+    ensures refused { result ≡ 3 → Appends (K.held out.old)
+        (K.held out.new) (fault_text record { line = line; cause = Bytes }) }
     ensures write { result ≡ 4 → Rose (K.faults out.old) (K.faults out.new) }
-    ensures part { result ≡ 4 → AppendsPart (K.held out.old) (K.held out.new) (fault_text record { line = line; cause = Bytes }) }
+    ensures part { result ≡ 4 → AppendsPart (K.held out.old)
+        (K.held out.new) (fault_text record { line = line; cause = Bytes }) }
     ensures status { (result ≡ 3) ⊎ (result ≡ 4) }
 {
     let fault = ScriptFault {

@@ -31,13 +31,19 @@ pub fn print_logged<S: Source, K: Sink>(
     src: &mut S,
     out: &mut K,
 ) -> u8
-    ensures done { result ≡ 0 → LoggedPut (S.left src.old) (S.left src.new) (Appends (K.held out.old) (K.held out.new)) }
+    ensures done { result ≡ 0 → LoggedPut (S.left src.old)
+        (S.left src.new) (Appends (K.held out.old) (K.held out.new)) }
     ensures read { result ≡ 2 → Rose (S.faults src.old) (S.faults src.new) × Keeps (K.held out.old) (K.held out.new) }
-    ensures refused { result ≡ 3 → FaultPut (S.left src.old) (S.left src.new) (Appends (K.held out.old) (K.held out.new)) }
+    ensures refused { result ≡ 3 → FaultPut (S.left src.old)
+        (S.left src.new) (Appends (K.held out.old) (K.held out.new)) }
     ensures write { result ≡ 4 → Rose (K.faults out.old) (K.faults out.new) }
-    ensures part { result ≡ 4 → FaultPut (S.left src.old) (S.left src.new) (AppendsPart (K.held out.old) (K.held out.new)) ⊎ LoggedPut (S.left src.old) (S.left src.new) (AppendsPart (K.held out.old) (K.held out.new)) }
+    ensures part { result ≡ 4 → FaultPut (S.left src.old) (S.left src.new)
+        (AppendsPart (K.held out.old) (K.held out.new))
+        ⊎ LoggedPut (S.left src.old) (S.left src.new) (AppendsPart (K.held out.old) (K.held out.new)) }
     ensures memory { result ≡ 5 → Keeps (K.held out.old) (K.held out.new) }
-    ensures complete { (script : List (Thread × Act)) (input : List ℕ) → S.left src.old ≡ Some input → IsText input script → (Rose (S.faults src.old) (S.faults src.new) → ⊥) → (Rose (K.faults out.old) (K.faults out.new) → ⊥) → (result ≡ 0) ⊎ (result ≡ 5) }
+    ensures complete { (script : List (Thread × Act)) (input : List ℕ) → S.left src.old ≡ Some input
+        → IsText input script → (Rose (S.faults src.old) (S.faults src.new) → ⊥)
+        → (Rose (K.faults out.old) (K.faults out.new) → ⊥) → (result ≡ 0) ⊎ (result ≡ 5) }
     ensures status { (result ≡ 0) ⊎ ((2 ≤ result) × (result ≤ 5)) }
 {
     match read_script(alloc, src) {
@@ -53,9 +59,11 @@ pub fn print_logged<S: Source, K: Sink>(
 
 // Runs the script in order and writes the log of its history.
 fn log_run<K: Sink>(rt: &impl Wait, alloc: Global, script: &Script, out: &mut K) -> u8
-    ensures done { result ≡ 0 → (h : Finished) × IsRunInOrder script.now h × (lines : List LogLine) × IsLogOfRun h lines × Appends (K.held out.old) (K.held out.new) (text_of_log lines) }
+    ensures done { result ≡ 0 → (h : Finished) × IsRunInOrder script.now h × (lines : List LogLine)
+        × IsLogOfRun h lines × Appends (K.held out.old) (K.held out.new) (text_of_log lines) }
     ensures write { result ≡ 4 → Rose (K.faults out.old) (K.faults out.new) }
-    ensures part { result ≡ 4 → (h : Finished) × IsRunInOrder script.now h × (lines : List LogLine) × IsLogOfRun h lines × AppendsPart (K.held out.old) (K.held out.new) (text_of_log lines) }
+    ensures part { result ≡ 4 → (h : Finished) × IsRunInOrder script.now h × (lines : List LogLine)
+        × IsLogOfRun h lines × AppendsPart (K.held out.old) (K.held out.new) (text_of_log lines) }
     ensures memory { result ≡ 5 → Keeps (K.held out.old) (K.held out.new) }
     ensures status { (result ≡ 0) ⊎ (result ≡ 4) ⊎ (result ≡ 5) }
 {

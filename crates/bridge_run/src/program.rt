@@ -30,9 +30,11 @@ pub fn run_program<R: Threads + Wait + Sync, S: Source, K: Sink, T: Turnstile + 
     out: &mut K,
     turn: &T,
 ) -> ExitCode
-    ensures ends { Ends (words_told args) (S.left src.old) (S.left src.new) (S.faults src.old) (S.faults src.new) (K.held out.old) (K.held out.new) (K.faults out.old) (K.faults out.new) (exit_status result) }
+    ensures ends { Ends (words_told args) (S.left src.old) (S.left src.new) (S.faults src.old) (S.faults src.new)
+        (K.held out.old) (K.held out.new) (K.faults out.old) (K.faults out.new) (exit_status result) }
     ensures memory { IfErr args (λ e. error_kind e ≡ ErrorKind.OutOfMemory → exit_status result ≡ 5) }
-    ensures no_text { IfErr args (λ e. error_kind e ≢ ErrorKind.OutOfMemory → (exit_status result ≡ 1) ⊎ (exit_status result ≡ 4)) }
+    ensures no_text { IfErr args (λ e. error_kind e ≢ ErrorKind.OutOfMemory
+        → (exit_status result ≡ 1) ⊎ (exit_status result ≡ 4)) }
 {
     match words_of(alloc, args) {
         Ok(words) => ExitCode::from(bridge_main(rt, alloc, &words, src, out, turn)),

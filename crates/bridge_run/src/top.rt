@@ -8,7 +8,8 @@ ghost use Rattle.std.specs.Io.KnownBytes.{Appends, Keeps};
 ghost use Rattle.byte_streams.specs.Faults.{AppendsPart, Rose};
 ghost use Rattle.history_report.specs.Report.{report};
 ghost use Rattle.joint_machine.specs.Histories.{Finished};
-ghost use Rattle.bridge_run.specs.Top.{FaultPut, IsCommand, IsRunIn, LacksMemory, MayAnswer, MayGenerate, ReadsInput, RefusalPut, ResultPut, RunPut, TextPut, UsagePut, usage_text};
+ghost use Rattle.bridge_run.specs.Top.{FaultPut, IsCommand, IsRunIn, LacksMemory, MayAnswer, MayGenerate, ReadsInput};
+ghost use Rattle.bridge_run.specs.Top.{RefusalPut, ResultPut, RunPut, TextPut, UsagePut, usage_text};
 
 use crate::checked::print_checked;
 use crate::compared::print_compared;
@@ -46,17 +47,24 @@ pub fn bridge_main<R: Threads + Wait + Sync, S: Source, K: Sink, T: Turnstile + 
     out: &mut K,
     turn: &T,
 ) -> u8
-    ensures printed { result ≡ 0 → ResultPut (map string_bytes words.now.items) (S.left src.old) (S.left src.new) (Appends (K.held out.old) (K.held out.new)) }
-    ensures usage { result ≡ 1 → UsagePut (map string_bytes words.now.items) (Appends (K.held out.old) (K.held out.new)) }
+    ensures printed { result ≡ 0 → ResultPut (map string_bytes words.now.items)
+        (S.left src.old) (S.left src.new) (Appends (K.held out.old) (K.held out.new)) }
+    ensures usage { result ≡ 1 → UsagePut (map string_bytes words.now.items)
+        (Appends (K.held out.old) (K.held out.new)) }
     ensures no_command { (IsCommand (map string_bytes words.now.items) → ⊥) → (result ≡ 1) ⊎ (result ≡ 4) }
-    ensures untouched { (ReadsInput (map string_bytes words.now.items) → ⊥) → (S.left src.new ≡ S.left src.old) × (S.faults src.new ≡ S.faults src.old) }
+    ensures untouched { (ReadsInput (map string_bytes words.now.items) → ⊥)
+        → (S.left src.new ≡ S.left src.old) × (S.faults src.new ≡ S.faults src.old) }
     ensures read { result ≡ 2 → Rose (S.faults src.old) (S.faults src.new) × Keeps (K.held out.old) (K.held out.new) }
-    ensures refused { result ≡ 3 → RefusalPut (map string_bytes words.now.items) (S.left src.old) (S.left src.new) (Appends (K.held out.old) (K.held out.new)) }
+    ensures refused { result ≡ 3 → RefusalPut (map string_bytes words.now.items)
+        (S.left src.old) (S.left src.new) (Appends (K.held out.old) (K.held out.new)) }
     ensures write { result ≡ 4 → Rose (K.faults out.old) (K.faults out.new) }
-    ensures part { result ≡ 4 → TextPut (map string_bytes words.now.items) (S.left src.old) (S.left src.new) (AppendsPart (K.held out.old) (K.held out.new)) }
+    ensures part { result ≡ 4 → TextPut (map string_bytes words.now.items)
+        (S.left src.old) (S.left src.new) (AppendsPart (K.held out.old) (K.held out.new)) }
     ensures memory { result ≡ 5 → LacksMemory (map string_bytes words.now.items) (K.held out.old) (K.held out.new) }
-    ensures complete { MayAnswer (map string_bytes words.now.items) (S.left src.old) (S.faults src.old) (S.faults src.new) (K.faults out.old) (K.faults out.new) → (result ≡ 0) ⊎ (result ≡ 5) }
-    ensures generated { MayGenerate (map string_bytes words.now.items) (K.faults out.old) (K.faults out.new) → (result ≡ 0) ⊎ (result ≡ 5) }
+    ensures complete { MayAnswer (map string_bytes words.now.items) (S.left src.old) (S.faults src.old)
+        (S.faults src.new) (K.faults out.old) (K.faults out.new) → (result ≡ 0) ⊎ (result ≡ 5) }
+    ensures generated { MayGenerate (map string_bytes words.now.items) (K.faults out.old) (K.faults out.new)
+        → (result ≡ 0) ⊎ (result ≡ 5) }
     ensures status { result ≤ 5 }
 {
     words_tell_commands();
@@ -95,13 +103,19 @@ fn print_script<R: Threads + Wait + Sync, S: Source, K: Sink, T: Turnstile + Syn
     out: &mut K,
     turn: &T,
 ) -> u8
-    ensures done { result ≡ 0 → RunPut mode (S.left src.old) (S.left src.new) (Appends (K.held out.old) (K.held out.new)) }
+    ensures done { result ≡ 0 → RunPut mode (S.left src.old)
+        (S.left src.new) (Appends (K.held out.old) (K.held out.new)) }
     ensures read { result ≡ 2 → Rose (S.faults src.old) (S.faults src.new) × Keeps (K.held out.old) (K.held out.new) }
-    ensures refused { result ≡ 3 → FaultPut (S.left src.old) (S.left src.new) (Appends (K.held out.old) (K.held out.new)) }
+    ensures refused { result ≡ 3 → FaultPut (S.left src.old)
+        (S.left src.new) (Appends (K.held out.old) (K.held out.new)) }
     ensures write { result ≡ 4 → Rose (K.faults out.old) (K.faults out.new) }
-    ensures part { result ≡ 4 → FaultPut (S.left src.old) (S.left src.new) (AppendsPart (K.held out.old) (K.held out.new)) ⊎ RunPut mode (S.left src.old) (S.left src.new) (AppendsPart (K.held out.old) (K.held out.new)) }
+    ensures part { result ≡ 4 → FaultPut (S.left src.old) (S.left src.new)
+        (AppendsPart (K.held out.old) (K.held out.new))
+        ⊎ RunPut mode (S.left src.old) (S.left src.new) (AppendsPart (K.held out.old) (K.held out.new)) }
     ensures memory { result ≡ 5 → Keeps (K.held out.old) (K.held out.new) }
-    ensures complete { (script : List (Thread × Act)) (input : List ℕ) → S.left src.old ≡ Some input → IsText input script → (Rose (S.faults src.old) (S.faults src.new) → ⊥) → (Rose (K.faults out.old) (K.faults out.new) → ⊥) → (result ≡ 0) ⊎ (result ≡ 5) }
+    ensures complete { (script : List (Thread × Act)) (input : List ℕ) → S.left src.old ≡ Some input
+        → IsText input script → (Rose (S.faults src.old) (S.faults src.new) → ⊥)
+        → (Rose (K.faults out.old) (K.faults out.new) → ⊥) → (result ≡ 0) ⊎ (result ≡ 5) }
     ensures status { (result ≡ 0) ⊎ ((2 ≤ result) × (result ≤ 5)) }
 {
     match read_script(alloc, src) {
@@ -124,9 +138,11 @@ fn print_run<R: Threads + Wait + Sync, K: Sink, T: Turnstile + Sync>(
     out: &mut K,
     turn: &T,
 ) -> u8
-    ensures done { result ≡ 0 → (h : Finished) × IsRunIn mode script.now h × Appends (K.held out.old) (K.held out.new) (report h) }
+    ensures done { result ≡ 0 → (h : Finished) × IsRunIn mode script.now h
+        × Appends (K.held out.old) (K.held out.new) (report h) }
     ensures write { result ≡ 4 → Rose (K.faults out.old) (K.faults out.new) }
-    ensures part { result ≡ 4 → (h : Finished) × IsRunIn mode script.now h × AppendsPart (K.held out.old) (K.held out.new) (report h) }
+    ensures part { result ≡ 4 → (h : Finished) × IsRunIn mode script.now h
+        × AppendsPart (K.held out.old) (K.held out.new) (report h) }
     ensures memory { result ≡ 5 → Keeps (K.held out.old) (K.held out.new) }
     ensures status { (result ≡ 0) ⊎ (result ≡ 4) ⊎ (result ≡ 5) }
 {

@@ -33,7 +33,8 @@ pub record Asked (t : Thread) (o : Operation) (xs : List Operand) : Type 0 where
   pub lawful : IsThread t → IsPossible act → IsLine t act
   pub clash : (IsPossible act → ⊥) → Clashes o (texts xs)
 
-asked : (t : Thread) (o : Operation) (a : Act) (xs : List Operand) → act_at o xs ≡ Some a → operation_of a ≡ o → act_words t a ≡ operation_text o ∷ texts xs → (IsThread t → IsLine t a) → IsPossible a → Asked t o xs
+asked : (t : Thread) (o : Operation) (a : Act) (xs : List Operand) → act_at o xs ≡ Some a → operation_of a ≡ o
+    → act_words t a ≡ operation_text o ∷ texts xs → (IsThread t → IsLine t a) → IsPossible a → Asked t o xs
 asked t o a xs e f w l p = record { act = a; is = e; operation = f; words = w; lawful = λ h q. l h; clash = λ n. absurd (n p) }
 
 -- operands stand at the places of an operation that there is
@@ -47,21 +48,47 @@ not_zero n l h e = h (decimal_injective n 0 l (omega arith) (rw zero_text e))
 
 asked_new : (m : ℕ) (v : Var) (k : Kind) (n : ℕ) → IsVar v → IsPlainKind k → n ≤ 16 → Asked (M m) operation.New (operand.Var v ∷ operand.Kind k ∷ operand.Number n ∷ [])
 asked_new m v kind.Plain n bv bk bn = asked (M m) operation.New (act.New v kind.Plain n) _ (rw (byte_is n (omega arith)) refl) refl refl (λ t. (t, (bv, bn))) bn
-asked_new m v kind.Leaf n bv bk bn = record { act = act.New v kind.Leaf n; is = rw (byte_is n (omega arith)) refl; operation = refl; words = refl; lawful = λ t p. (t, (bv, p)); clash = λ h. (refl, not_zero n (omega arith) h) }
+asked_new m v kind.Leaf n bv bk bn = record {
+  act = act.New v kind.Leaf n;
+  is = rw (byte_is n (omega arith)) refl;
+  operation = refl;
+  words = refl;
+  lawful = λ t p. (t, (bv, p));
+  clash = λ h. (refl, not_zero n (omega arith) h);
+}
 asked_new m v k n bv bk bn = absurd bk
 
-asked_bridge : (m : ℕ) (v : Var) (k : Kind) (n : ℕ) (s : Sort) (f : ℕ) → IsVar v → IsBridgeKind k → n ≤ 16 → f ≤ 16 → Asked (M m) operation.Bridge (operand.Var v ∷ operand.Kind k ∷ operand.Number n ∷ operand.Sort s ∷ operand.Number f ∷ [])
-asked_bridge m v kind.Bridge n sort.User f bv bk bn bf = asked (M m) operation.Bridge (act.Bridge v kind.Bridge n sort.User f) _ (rw (byte_is n (omega arith), byte_is f (omega arith)) refl) refl refl (λ t. (t, (bv, (bn, refl), bf))) (bn, refl)
-asked_bridge m v kind.Bridge n sort.Framework f bv bk bn bf = record { act = act.Bridge v kind.Bridge n sort.Framework f; is = rw (byte_is n (omega arith), byte_is f (omega arith)) refl; operation = refl; words = refl; lawful = λ t p. (t, (bv, p, bf)); clash = λ h. inr (refl, refl) }
-asked_bridge m v kind.LeafBridge n s f bv bk bn bf = record { act = act.Bridge v kind.LeafBridge n s f; is = rw (byte_is n (omega arith), byte_is f (omega arith)) refl; operation = refl; words = refl; lawful = λ t p. (t, (bv, p, bf)); clash = λ h. inl (refl, not_zero n (omega arith) h) }
+asked_bridge : (m : ℕ) (v : Var) (k : Kind) (n : ℕ) (s : Sort) (f : ℕ) → IsVar v → IsBridgeKind k → n ≤ 16 → f ≤ 16
+    → Asked (M m) operation.Bridge (operand.Var v ∷ operand.Kind k ∷ operand.Number n ∷ operand.Sort s ∷ operand.Number f ∷ [])
+asked_bridge m v kind.Bridge n sort.User f bv bk bn bf = asked (M m) operation.Bridge (act.Bridge v kind.Bridge n sort.User f) _
+    (rw (byte_is n (omega arith), byte_is f (omega arith)) refl) refl refl (λ t. (t, (bv, (bn, refl), bf))) (bn, refl)
+asked_bridge m v kind.Bridge n sort.Framework f bv bk bn bf =
+    record {
+      act = act.Bridge v kind.Bridge n sort.Framework f;
+      is = rw (byte_is n (omega arith), byte_is f (omega arith)) refl;
+      operation = refl;
+      words = refl;
+      lawful = λ t p. (t, (bv, p, bf));
+      clash = λ h. inr (refl, refl);
+    }
+asked_bridge m v kind.LeafBridge n s f bv bk bn bf = record {
+  act = act.Bridge v kind.LeafBridge n s f;
+  is = rw (byte_is n (omega arith), byte_is f (omega arith)) refl;
+  operation = refl;
+  words = refl;
+  lawful = λ t p. (t, (bv, p, bf));
+  clash = λ h. inl (refl, not_zero n (omega arith) h);
+}
 asked_bridge m v k n s f bv bk bn bf = absurd bk
 
 asked_managed : (m : ℕ) (o : Operation) (xs : List Operand) → FormStands (managed_form o) xs → Asked (M m) o xs
 asked_managed m operation.New (operand.Var v ∷ operand.Kind k ∷ operand.Number n ∷ []) h = asked_new m v k n h.0 h.1.0 h.1.1.0.1
 asked_managed m operation.Bridge (operand.Var v ∷ operand.Kind k ∷ operand.Number n ∷ operand.Sort s ∷ operand.Number f ∷ []) h = asked_bridge m v k n s f h.0 h.1.0 h.1.1.0.1 h.1.1.1.1.0.1
 asked_managed m operation.Copy (operand.Var v ∷ operand.Var w ∷ []) h = asked (M m) operation.Copy (act.Copy v w) _ refl refl refl (λ t. (t, (h.0, h.1.0))) tt
-asked_managed m operation.Set (operand.Var v ∷ operand.Number n ∷ operand.VarOrNone w ∷ []) h = asked (M m) operation.Set (act.Set v n w) _ (rw (byte_is n (omega arith)) refl) refl refl (λ t. (t, (h.0, h.1.1.0, h.1.0.1))) tt
-asked_managed m operation.Get (operand.Var v ∷ operand.Var w ∷ operand.Number n ∷ []) h = asked (M m) operation.Get (act.Get v w n) _ (rw (byte_is n (omega arith)) refl) refl refl (λ t. (t, (h.0, h.1.0, h.1.1.0.1))) tt
+asked_managed m operation.Set (operand.Var v ∷ operand.Number n ∷ operand.VarOrNone w ∷ []) h = asked (M m) operation.Set
+    (act.Set v n w) _ (rw (byte_is n (omega arith)) refl) refl refl (λ t. (t, (h.0, h.1.1.0, h.1.0.1))) tt
+asked_managed m operation.Get (operand.Var v ∷ operand.Var w ∷ operand.Number n ∷ []) h = asked (M m) operation.Get
+    (act.Get v w n) _ (rw (byte_is n (omega arith)) refl) refl refl (λ t. (t, (h.0, h.1.0, h.1.1.0.1))) tt
 asked_managed m operation.Drop (operand.Var v ∷ []) h = asked (M m) operation.Drop (act.Drop v) _ refl refl refl (λ t. (t, h.0)) tt
 asked_managed m operation.Load (operand.Var v ∷ operand.ManagedStatic x ∷ []) h = asked (M m) operation.Load (act.Load v x) _ refl refl refl (λ t. (t, (h.0, h.1.0))) tt
 asked_managed m operation.Store (operand.ManagedStatic x ∷ operand.VarOrNone v ∷ []) h = asked (M m) operation.Store (act.Store x v) _ refl refl refl (λ t. (t, (h.0, h.1.0))) tt
@@ -77,8 +104,10 @@ asked_managed m o xs h = absurd (assumption)
 
 asked_peer : (m : ℕ) (o : Operation) (xs : List Operand) → FormStands (peer_form o) xs → Asked (P m) o xs
 asked_peer m operation.Copy (operand.Var v ∷ operand.Var w ∷ []) h = asked (P m) operation.Copy (act.Copy v w) _ refl refl refl (λ t. (t, (h.0, h.1.0))) tt
-asked_peer m operation.Set (operand.Var v ∷ operand.Number n ∷ operand.VarOrNone w ∷ []) h = asked (P m) operation.Set (act.Set v n w) _ (rw (byte_is n (omega arith)) refl) refl refl (λ t. (t, (h.0, h.1.1.0, h.1.0.1))) tt
-asked_peer m operation.Get (operand.Var v ∷ operand.Var w ∷ operand.Number n ∷ []) h = asked (P m) operation.Get (act.Get v w n) _ (rw (byte_is n (omega arith)) refl) refl refl (λ t. (t, (h.0, h.1.0, h.1.1.0.1))) tt
+asked_peer m operation.Set (operand.Var v ∷ operand.Number n ∷ operand.VarOrNone w ∷ []) h = asked (P m) operation.Set
+    (act.Set v n w) _ (rw (byte_is n (omega arith)) refl) refl refl (λ t. (t, (h.0, h.1.1.0, h.1.0.1))) tt
+asked_peer m operation.Get (operand.Var v ∷ operand.Var w ∷ operand.Number n ∷ []) h = asked (P m) operation.Get
+    (act.Get v w n) _ (rw (byte_is n (omega arith)) refl) refl refl (λ t. (t, (h.0, h.1.0, h.1.1.0.1))) tt
 asked_peer m operation.Drop (operand.Var v ∷ []) h = asked (P m) operation.Drop (act.Drop v) _ refl refl refl (λ t. (t, h.0)) tt
 asked_peer m operation.Load (operand.Var v ∷ operand.PeerStatic x ∷ []) h = asked (P m) operation.Load (act.Load v x) _ refl refl refl (λ t. (t, (h.0, h.1.0))) tt
 asked_peer m operation.Store (operand.PeerStatic x ∷ operand.VarOrNone v ∷ []) h = asked (P m) operation.Store (act.Store x v) _ refl refl refl (λ t. (t, (h.0, h.1.0))) tt

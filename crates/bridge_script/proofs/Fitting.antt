@@ -34,11 +34,13 @@ lawful_thread C a l = tt
 pub none_of_line : (line : Thread × Act) → IsScriptLine line → (c : Cause) → WordsHave (line_words line) c → ⊥
 none_of_line line b c h =
     let f = fits_table line.0 line.1 b in
-    let reads : Reads (line_words line) line.0 (operation_of line.1) f.places f.rest = record { thread = lawful_thread line.0 line.1 b; form = f.form; begins = ap (λ ws. thread_text line.0 ∷ ws) f.words } in
+    let reads : Reads (line_words line) line.0 (operation_of line.1) f.places
+    f.rest = record { thread = lawful_thread line.0 line.1 b; form = f.form; begins = ap (λ ws. thread_text line.0 ∷ ws) f.words } in
     f.none c (has_behind (line_words line) line.0 (operation_of line.1) f.places f.rest reads c h)
 
 -- the act that the words behind a thread ask for makes the line of the text
-pub line_read : (text : List ℕ) (t : Thread) (ws : List (List ℕ)) (a : Act) → words_of text ≡ thread_text t ∷ ws → IsScriptLine (t, a) → act_words t a ≡ ws → IsScriptLine (t, a) × (line_text (t, a) ≡ text)
+pub line_read : (text : List ℕ) (t : Thread) (ws : List (List ℕ)) (a : Act) → words_of text ≡ thread_text t ∷ ws
+    → IsScriptLine (t, a) → act_words t a ≡ ws → IsScriptLine (t, a) × (line_text (t, a) ≡ text)
 line_read text t ws a e b w = (b, ap spaced (ap (λ x. thread_text t ∷ x) w ∙ sym e) ∙ join_with_byte-slice_split 32 text)
 
 -- no word has a cause that no place has
@@ -80,14 +82,16 @@ after_places o ps xs s cause.Kind h = lit≤ tt
 after_places o ps xs s d h = absurd h
 
 -- where operands stand at the places, and make no act that may be, a kind is the first cause
-pub kind_first : (t : Thread) (o : Operation) (ps : List Place) (xs : List Operand) (ws : List (List ℕ)) → form_of t o ≡ Some ps → StandAll ps xs → texts xs ≡ ws → ((a : Act) → act_at o xs ≡ Some a → IsPossible a → ⊥) → IsFirst (PlacesHave o ps ws) cause.Kind
+pub kind_first : (t : Thread) (o : Operation) (ps : List Place) (xs : List Operand) (ws : List (List ℕ)) → form_of t o ≡ Some ps
+    → StandAll ps xs → texts xs ≡ ws → ((a : Act) → act_at o xs ≡ Some a → IsPossible a → ⊥) → IsFirst (PlacesHave o ps ws) cause.Kind
 kind_first t o ps xs ws f s e none =
     let a = asked_of t o ps xs f s in
     let F : List (List ℕ) → Type 0 = λ w. IsFirst (PlacesHave o ps w) cause.Kind in
     subst F e record { here = inr (a.clash (none a.act a.is)); first = after_places o ps xs s }
 
 -- and where they make one that may be, it makes the line of the text
-pub line_asked : (text : List ℕ) (t : Thread) (o : Operation) (ps : List Place) (ws : List (List ℕ)) (xs : List Operand) (a : Act) → Reads (words_of text) t o ps ws → StandAll ps xs → texts xs ≡ ws → act_at o xs ≡ Some a → IsPossible a → IsScriptLine (t, a) × (line_text (t, a) ≡ text)
+pub line_asked : (text : List ℕ) (t : Thread) (o : Operation) (ps : List Place) (ws : List (List ℕ)) (xs : List Operand) (a : Act)
+    → Reads (words_of text) t o ps ws → StandAll ps xs → texts xs ≡ ws → act_at o xs ≡ Some a → IsPossible a → IsScriptLine (t, a) × (line_text (t, a) ≡ text)
 line_asked text t o ps ws xs a r s e i p =
     let k = asked_of t o ps xs r.form s in
     let same : k.act ≡ a = some-same k.act a (sym k.is ∙ i) in

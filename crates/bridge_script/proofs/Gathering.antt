@@ -1,6 +1,7 @@
 -- Words are read at places one after another: what is left of both has the causes that were not found yet, and where
 -- none was found, operands that stand at the places that are left make the whole.
-use Rattle.std.proofs.Common.{◌≡◌, ◌≢◌, ℕ, ◌+◌, ◌<◌, ◌≤◌, Bool, true, false, cond, List, [], ◌∷◌, ◌++◌, length, Option, Some, None, Result, Ok, Err, IfSome, sym, ap, refl, arith, subst, inl, inr, ◌⊎◌, lit≤, append_assoc, append-nil, get_or, drop, drop-cons, add-one, length-append, length-drop}
+use Rattle.std.proofs.Common.{◌≡◌, ◌≢◌, ℕ, ◌+◌, ◌<◌, ◌≤◌, Bool, true, false, cond, List, [], ◌∷◌, ◌++◌, length, Option, Some, None, Result, Ok, Err, IfSome, sym, ap, refl, arith, subst, inl, inr, ◌⊎◌}
+use Rattle.std.proofs.Common.{lit≤, append_assoc, append-nil, get_or, drop, drop-cons, add-one, length-append, length-drop}
 use Rattle.std.proofs.Math.Dec.{leb}
 use Rattle.std.proofs.lemmas.Bool.Decides.{leb_tells}
 use Rattle.std.proofs.lemmas.List.{nil_from_length}
@@ -36,7 +37,8 @@ earlier_one : (P : Cause → Type 0) (first : Option Cause) (c : Cause) → IfSo
 earlier_one P None c p q = q
 earlier_one P (Some b) c p q = pick P (leb (cause_number b) (cause_number c)) b c p q
 
-least : (b c d : Cause) → (t : Bool) → ((t ≡ true) × (cause_number b ≤ cause_number c)) ⊎ ((t ≡ false) × (cause_number c < cause_number b)) → (cause_number b ≤ cause_number d) ⊎ (d ≡ c) → cause_number (cond t b c) ≤ cause_number d
+least : (b c d : Cause) → (t : Bool) → ((t ≡ true) × (cause_number b ≤ cause_number c)) ⊎ ((t ≡ false) × (cause_number c < cause_number b))
+    → (cause_number b ≤ cause_number d) ⊎ (d ≡ c) → cause_number (cond t b c) ≤ cause_number d
 least b c d true (inl l) (inl h) = h
 least b c d true (inl l) (inr e) = omega (arith, ap cause_number e, l.1)
 least b c d true (inr l) h = absurd (let e = l.0 in cc)
@@ -49,7 +51,8 @@ earlier_least None c d (inl h) = absurd h
 earlier_least None c d (inr e) = omega (arith, ap cause_number e)
 earlier_least (Some b) c d h = least b c d (leb (cause_number b) (cause_number c)) (leb_tells (cause_number b) (cause_number c)) h
 
-put : (places : List Place) (words : List (List ℕ)) (p : Place) (w : List ℕ) (ps : List Place) (ws : List (List ℕ)) (first : Option Cause) (xs : List Operand) (x : Operand) → StandsAt p x → operand_text x ≡ w → Gathered places words (p ∷ ps) (w ∷ ws) first xs → Gathered places words ps ws first (xs ++ x ∷ [])
+put : (places : List Place) (words : List (List ℕ)) (p : Place) (w : List ℕ) (ps : List Place) (ws : List (List ℕ)) (first : Option Cause) (xs : List Operand) (x : Operand)
+    → StandsAt p x → operand_text x ≡ w → Gathered places words (p ∷ ps) (w ∷ ws) first xs → Gathered places words ps ws first (xs ++ x ∷ [])
 put places words p w ps ws first xs x s e g =
     let F : List ℕ → Type 0 = λ t. (c : Cause) → HasAt c p t → ⊥ in
     let none = subst F e (fits p x s) in
@@ -64,7 +67,8 @@ put places words p w ps ws first xs x s e g =
           subst W (sym (append_assoc xs (x ∷ []) ys)) v;
     }
 
-noted : (places : List Place) (words : List (List ℕ)) (p : Place) (w : List ℕ) (ps : List Place) (ws : List (List ℕ)) (first : Option Cause) (xs : List Operand) (c : Cause) → HasAt c p w → ((d : Cause) → HasAt d p w → d ≡ c) → Gathered places words (p ∷ ps) (w ∷ ws) first xs → Gathered places words ps ws (Some (earlier first c)) xs
+noted : (places : List Place) (words : List (List ℕ)) (p : Place) (w : List ℕ) (ps : List Place) (ws : List (List ℕ)) (first : Option Cause) (xs : List Operand) (c : Cause)
+    → HasAt c p w → ((d : Cause) → HasAt d p w → d ≡ c) → Gathered places words (p ∷ ps) (w ∷ ws) first xs → Gathered places words ps ws (Some (earlier first c)) xs
 noted places words p w ps ws first xs c h only g = record {
   count = omega (arith, g.count);
   found = earlier_one (λ b. HasAtSome b places words) first c g.found (g.left c (inl h));
@@ -74,7 +78,8 @@ noted places words p w ps ws first xs c h only g = record {
 }
 
 -- one more word
-pub gathered_more : (places : List Place) (words : List (List ℕ)) (p : Place) (w : List ℕ) (ps : List Place) (ws : List (List ℕ)) (r : Result Operand Cause) (first now : Option Cause) (xs ys : List Operand) → ReadsAt p w r → Notes r xs ys first now → Gathered places words (p ∷ ps) (w ∷ ws) first xs → Gathered places words ps ws now ys
+pub gathered_more : (places : List Place) (words : List (List ℕ)) (p : Place) (w : List ℕ) (ps : List Place) (ws : List (List ℕ)) (r : Result Operand Cause)
+    (first now : Option Cause) (xs ys : List Operand) → ReadsAt p w r → Notes r xs ys first now → Gathered places words (p ∷ ps) (w ∷ ws) first xs → Gathered places words ps ws now ys
 gathered_more places words p w ps ws (Ok x) first now xs ys r n g =
     let F : Option Cause → Type 0 = λ f. Gathered places words ps ws f ys in
     let G : List Operand → Type 0 = λ z. Gathered places words ps ws first z in
@@ -96,7 +101,8 @@ at_places : (ps : List Place) (ws : List (List ℕ)) (c : Cause) → HasAtSome c
 at_places ps ws cause.Arity h = absurd (none_at cause.Arity (λ p w x. x) ps ws h)
 at_places ps ws c h = h
 
-all_behind : (places : List Place) (words : List (List ℕ)) (c : Cause) (xs : List Operand) → Gathered places words [] [] (Some c) xs → (d : Cause) → HasAtPlaces places words d → cause_number c ≤ cause_number d
+all_behind : (places : List Place) (words : List (List ℕ)) (c : Cause) (xs : List Operand)
+    → Gathered places words [] [] (Some c) xs → (d : Cause) → HasAtPlaces places words d → cause_number c ≤ cause_number d
 all_behind places words c xs g cause.Arity h = absurd (h (omega (arith, g.count)))
 all_behind places words c xs g d h = elim (g.known d h) [ inl a ↦ a | inr a ↦ absurd a ]
 
@@ -109,7 +115,8 @@ pub all_gathered : (places : List Place) (words : List (List ℕ)) (xs : List Op
 all_gathered places words xs g = let W : List Operand → Type 0 = λ z. StandAll places z × (texts z ≡ words) in subst W (append-nil xs) (g.whole refl [] tt refl)
 
 -- the next word
-pub gathered_next : (places : List Place) (words : List (List ℕ)) (i : ℕ) (d : Place) (w : List ℕ) (us ws : List (List ℕ)) (r : Result Operand Cause) (first now : Option Cause) (xs ys : List Operand) → i < length places → us ≡ w ∷ ws → ReadsAt (get_or places i d) w r → Notes r xs ys first now
+pub gathered_next : (places : List Place) (words : List (List ℕ)) (i : ℕ) (d : Place) (w : List ℕ) (us ws : List (List ℕ)) (r : Result Operand Cause) (first now : Option Cause) (xs ys : List Operand)
+    → i < length places → us ≡ w ∷ ws → ReadsAt (get_or places i d) w r → Notes r xs ys first now
     → Gathered places words (drop i places) us first xs → Gathered places words (drop (i + 1) places) ws now ys
 gathered_next places words i d w us ws r first now xs ys l e a n g =
     let F : List (List ℕ) → Type 0 = λ u. Gathered places words (drop i places) u first xs in
@@ -122,15 +129,18 @@ few_more (Ok x) first now xs ys n = omega (arith, ap length n.0, length-append x
 few_more (Err c) first now xs ys n = omega (arith, ap length n.0)
 
 -- no place is left
-pub gathered_all : (places : List Place) (words : List (List ℕ)) (i : ℕ) (ws : List (List ℕ)) (first : Option Cause) (xs : List Operand) → length places ≤ i → Gathered places words (drop i places) ws first xs → Gathered places words [] ws first xs
+pub gathered_all : (places : List Place) (words : List (List ℕ)) (i : ℕ) (ws : List (List ℕ)) (first : Option Cause) (xs : List Operand)
+    → length places ≤ i → Gathered places words (drop i places) ws first xs → Gathered places words [] ws first xs
 gathered_all places words i ws first xs l g =
     let none : drop i places ≡ [] = nil_from_length (drop i places) (omega (arith, length-drop i places)) in
     let F : List Place → Type 0 = λ p. Gathered places words p ws first xs in
     subst F none g
 
-pub words_missing : (places : List Place) (words : List (List ℕ)) (i : ℕ) (ws : List (List ℕ)) (first : Option Cause) (xs : List Operand) → i < length places → ws ≡ [] → Gathered places words (drop i places) ws first xs → length words ≢ length places
+pub words_missing : (places : List Place) (words : List (List ℕ)) (i : ℕ) (ws : List (List ℕ)) (first : Option Cause) (xs : List Operand)
+    → i < length places → ws ≡ [] → Gathered places words (drop i places) ws first xs → length words ≢ length places
 words_missing places words i ws first xs l e g n = omega (arith, g.count, length-drop i places, ap length e)
 
-pub words_left : (places : List Place) (words : List (List ℕ)) (ws : List (List ℕ)) (first : Option Cause) (xs : List Operand) → ws ≢ [] → Gathered places words [] ws first xs → length words ≢ length places
+pub words_left : (places : List Place) (words : List (List ℕ)) (ws : List (List ℕ)) (first : Option Cause) (xs : List Operand)
+    → ws ≢ [] → Gathered places words [] ws first xs → length words ≢ length places
 words_left places words [] first xs n g e = n refl
 words_left places words (w ∷ ws) first xs n g e = omega (arith, g.count)

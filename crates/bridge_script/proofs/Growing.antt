@@ -38,14 +38,16 @@ weigh n true m = omega arith
 weigh n false m = omega arith
 
 -- a line that asks for one cycle too many
-pub cycles_first : (old : List (Thread × Act)) (line : Thread × Act) (end : ℕ) → IsScriptLine line → length old < 20000 → end ≤ 8388608 → cycles_of old ≤ 256 → 256 < cycles_of old + cond (is_cycle line) 1 0 → IsFirst (Has (behind old (line_text line) end)) cause.Cycles
+pub cycles_first : (old : List (Thread × Act)) (line : Thread × Act) (end : ℕ) → IsScriptLine line → length old < 20000 → end ≤ 8388608
+    → cycles_of old ≤ 256 → 256 < cycles_of old + cond (is_cycle line) 1 0 → IsFirst (Has (behind old (line_text line) end)) cause.Cycles
 cycles_first old line end b l s c m = record {
   here = ((s, omega arith), rw (words_of_line line b) (asks line (omega arith)), weigh (cycles_of old) (is_cycle line) m);
   first = after_cycles old line end b;
 }
 
 -- why a script doesn't go on with the line that comes next is why the bytes are none
-pub refused : (bytes : List ℕ) (old : List (Thread × Act)) (at end : ℕ) (error : ScriptError) → EndsLine bytes at end → IsScript old → at < length bytes → script_text_of old ≡ take at (bytes ++ 10 ∷ []) → at ≤ 8388608
+pub refused : (bytes : List ℕ) (old : List (Thread × Act)) (at end : ℕ) (error : ScriptError) → EndsLine bytes at end
+    → IsScript old → at < length bytes → script_text_of old ≡ take at (bytes ++ 10 ∷ []) → at ≤ 8388608
     → Stops old (slice_range bytes at end) (min (end + 1) (length bytes)) error → IsRefusal bytes error
 refused bytes old at end OutOfMemory e s l t z h = tt
 refused bytes old at end ReadFault e s l t z h = absurd h

@@ -43,7 +43,9 @@ printed_line line h =
 
 -- the words of a line's text are its words
 pub words_of_line : (line : Thread × Act) → IsScriptLine line → slice_split (λ b. eqb b 32) (line_text line) ≡ line_words line
-words_of_line line h = split-join 32 (line_words line) (omega arith) (All-weaker Printed (All (λ b. b ≢ 32)) (λ w a. All-weaker IsPrinted (λ b. b ≢ 32) (λ b l e. omega (arith, l.0)) w a) (line_words line) (All-from_recursion Printed (line_words line) (printed_line line h)))
+words_of_line line h = split-join 32 (line_words line) (omega arith)
+    (All-weaker Printed (All (λ b. b ≢ 32)) (λ w a. All-weaker IsPrinted (λ b. b ≢ 32) (λ b l e. omega (arith, l.0)) w a)
+    (line_words line) (All-from_recursion Printed (line_words line) (printed_line line h)))
 
 same_act : (t : Thread) (a b : Act) → IsLine t a → IsLine t b → act_words t a ≡ act_words t b → a ≡ b
 same_act t a b l m e =

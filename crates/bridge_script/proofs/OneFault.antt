@@ -56,7 +56,8 @@ not_past bytes f g a b l =
       length-append (line_text n.next) (10 ∷ []),
     ) in
     let W : List ℕ → Type 0 = λ x. Has (behind a.before x (end_of bytes (script_text_of a.before) a.line)) f.cause in
-    none_in_script a.before n.next (end_of bytes (script_text_of a.before) a.line) (script_part (a.before ++ n.next ∷ []) n.more (rw (n.whole) at b.lawful)) end f.cause (subst W (sym n.read) a.cause.here)
+    none_in_script a.before n.next (end_of bytes (script_text_of a.before) a.line)
+    (script_part (a.before ++ n.next ∷ []) n.more (rw (n.whole) at b.lawful)) end f.cause (subst W (sym n.read) a.cause.here)
 
 same_fault : (l m : ℕ) (c d : Cause) → l ≡ m → c ≡ d → (let x : ScriptFault = record { line = l; cause = c } in x) ≡ record { line = m; cause = d }
 same_fault l m c d p q = cc

@@ -31,7 +31,8 @@ spaced_after w (x ∷ ws) = ap (λ t. w ++ (32 ∷ t)) (spaced_after x ws)
 
 script_ascii : (script : List (Thread × Act)) → All IsScriptLine script → All (λ b. b < 128) (script_text_of script)
 script_ascii [] h = All-nil (λ b. b < 128)
-script_ascii (x ∷ script) h = All-append (λ b. b < 128) (line_text x) (10 ∷ script_text_of script) (line_ascii x (All-head IsScriptLine x script h)) (All-cons (λ b. b < 128) 10 (script_text_of script) (omega arith) (script_ascii script (All-tail IsScriptLine x script h)))
+script_ascii (x ∷ script) h = All-append (λ b. b < 128) (line_text x) (10 ∷ script_text_of script) (line_ascii x (All-head IsScriptLine x script h))
+    (All-cons (λ b. b < 128) 10 (script_text_of script) (omega arith) (script_ascii script (All-tail IsScriptLine x script h)))
 
 -- the text of a script is text
 pub script_utf8 : (script : List (Thread × Act)) → IsScript script → IsUtf8 (script_text_of script)
@@ -67,7 +68,12 @@ short_line line h =
 
 short_lines : (script : List (Thread × Act)) → All IsScriptLine script → length (script_text_of script) ≤ 118 * length script
 short_lines [] h = lit≤ tt
-short_lines (x ∷ script) h = omega (arith, short_line x (All-head IsScriptLine x script h), short_lines script (All-tail IsScriptLine x script h), length-append (line_text x) (10 ∷ script_text_of script))
+short_lines (x ∷ script) h = omega (
+  arith,
+  short_line x (All-head IsScriptLine x script h),
+  short_lines script (All-tail IsScriptLine x script h),
+  length-append (line_text x) (10 ∷ script_text_of script),
+)
 
 -- a script has its text, each line with its newline
 pub full_text : (script : List (Thread × Act)) → IsScript script → IsText (script_text_of script) script

@@ -37,13 +37,16 @@ find [] w = operation.New
 find (o ∷ os) w = cond (bytes_eq (operation_text o) w) o (find os w)
 
 abbrev managed : List ℕ → Operation
-managed = find (operation.New ∷ operation.Bridge ∷ operation.Copy ∷ operation.Set ∷ operation.Get ∷ operation.Drop ∷ operation.Load ∷ operation.Store ∷ operation.Weak ∷ operation.Read ∷ operation.Await ∷ operation.Take ∷ operation.Pass ∷ operation.Surface ∷ operation.Dispose ∷ operation.Handle ∷ [])
+managed = find (operation.New ∷ operation.Bridge ∷ operation.Copy ∷ operation.Set ∷ operation.Get ∷ operation.Drop ∷ operation.Load ∷ operation.Store
+    ∷ operation.Weak ∷ operation.Read ∷ operation.Await ∷ operation.Take ∷ operation.Pass ∷ operation.Surface ∷ operation.Dispose ∷ operation.Handle ∷ [])
 
 abbrev peers : List ℕ → Operation
-peers = find (operation.Copy ∷ operation.Set ∷ operation.Get ∷ operation.Drop ∷ operation.Load ∷ operation.Store ∷ operation.NewPeer ∷ operation.Global ∷ operation.WGlobal ∷ operation.UnGlobal ∷ operation.WRead ∷ operation.Collect ∷ operation.BeginMark ∷ operation.Slice ∷ operation.SweepMark ∷ [])
+peers = find (operation.Copy ∷ operation.Set ∷ operation.Get ∷ operation.Drop ∷ operation.Load ∷ operation.Store ∷ operation.NewPeer ∷ operation.Global
+    ∷ operation.WGlobal ∷ operation.UnGlobal ∷ operation.WRead ∷ operation.Collect ∷ operation.BeginMark ∷ operation.Slice ∷ operation.SweepMark ∷ [])
 
 abbrev driven : List ℕ → Operation
-driven = find ((operation.Phase phase.Cycle) ∷ (operation.Phase phase.Snap) ∷ (operation.Phase phase.Contract) ∷ (operation.Phase phase.Mirror) ∷ (operation.Phase phase.Weaken) ∷ (operation.Phase phase.Mark) ∷ (operation.Phase phase.Sweep) ∷ (operation.Phase phase.Restore) ∷ (operation.Phase phase.Resolve) ∷ operation.Finalise ∷ [])
+driven = find ((operation.Phase phase.Cycle) ∷ (operation.Phase phase.Snap) ∷ (operation.Phase phase.Contract) ∷ (operation.Phase phase.Mirror) ∷ (operation.Phase phase.Weaken)
+    ∷ (operation.Phase phase.Mark) ∷ (operation.Phase phase.Sweep) ∷ (operation.Phase phase.Restore) ∷ (operation.Phase phase.Resolve) ∷ operation.Finalise ∷ [])
 
 -- an operation of a thread is found by its word
 known_managed : (o : Operation) (ps : List Place) → managed_form o ≡ Some ps → managed (operation_text o) ≡ o
@@ -134,7 +137,8 @@ pub record Same (t : Thread) (o : Operation) (ps : List Place) (ws : List (List 
   pub places : ps ≡ ps'
   pub rest : ws ≡ ws'
 
-pub one_reading : (words : List (List ℕ)) (t : Thread) (o : Operation) (ps : List Place) (ws : List (List ℕ)) (t' : Thread) (o' : Operation) (ps' : List Place) (ws' : List (List ℕ)) → Reads words t o ps ws → Reads words t' o' ps' ws' → Same t o ps ws t' o' ps' ws'
+pub one_reading : (words : List (List ℕ)) (t : Thread) (o : Operation) (ps : List Place) (ws : List (List ℕ)) (t' : Thread) (o' : Operation) (ps' : List Place) (ws' : List (List ℕ))
+    → Reads words t o ps ws → Reads words t' o' ps' ws' → Same t o ps ws t' o' ps' ws'
 one_reading words t o ps ws t' o' ps' ws' r s =
     let e : thread_text t ∷ operation_text o ∷ ws ≡ thread_text t' ∷ operation_text o' ∷ ws' = sym r.begins ∙ s.begins in
     let first : thread_text t ≡ thread_text t' = ap (λ w. get_or w 0 []) e in
@@ -171,7 +175,8 @@ has_behind words t o ps ws r cause.Unknown h = absurd (h t o ps ws r)
 has_behind words t o ps ws r c h = has_there words t o ps ws r c h
 
 -- the first cause behind the operation is the first of the words
-pub first_behind : (words : List (List ℕ)) (t : Thread) (o : Operation) (ps : List Place) (ws : List (List ℕ)) → Reads words t o ps ws → (c : Cause) → IsFirst (PlacesHave o ps ws) c → IsFirst (WordsHave words) c
+pub first_behind : (words : List (List ℕ)) (t : Thread) (o : Operation) (ps : List Place) (ws : List (List ℕ))
+    → Reads words t o ps ws → (c : Cause) → IsFirst (PlacesHave o ps ws) c → IsFirst (WordsHave words) c
 first_behind words t o ps ws r c f = record { here = has_here words t o ps ws r c f.here; first = λ d h. f.first d (has_behind words t o ps ws r d h) }
 
 -- words that begin with a thread, and go on with no operation of it
@@ -183,5 +188,6 @@ unknown_behind t ws l none s o ps rest r =
     none o ps rest (subst F (sym e) r.form) (let b = r.begins in cc)
 
 -- so this is their first cause
-pub unknown_here : (words : List (List ℕ)) (t : Thread) (ws : List (List ℕ)) → words ≡ thread_text t ∷ ws → IsThread t → ((o : Operation) (ps : List Place) (rest : List (List ℕ)) → form_of t o ≡ Some ps → ws ≢ operation_text o ∷ rest) → IsFirst (WordsHave words) cause.Unknown
+pub unknown_here : (words : List (List ℕ)) (t : Thread) (ws : List (List ℕ)) → words ≡ thread_text t ∷ ws → IsThread t
+    → ((o : Operation) (ps : List Place) (rest : List (List ℕ)) → form_of t o ≡ Some ps → ws ≢ operation_text o ∷ rest) → IsFirst (WordsHave words) cause.Unknown
 unknown_here words t ws e l none = unknown_first words (λ s o ps rest r. unknown_behind t ws l none s o ps rest (let F : List (List ℕ) → Type 0 = λ w. Reads w s o ps rest in subst F e r))

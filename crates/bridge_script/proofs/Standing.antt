@@ -1,6 +1,7 @@
 -- What stands at a place has a word that has no cause there, of at most 20 printed bytes; and what stands at one
 -- place is told by its word. Each is shown place by place, and then of places in a row.
-use Rattle.std.proofs.Common.{min, ◌≡◌, ℕ, ◌+◌, ◌*◌, ◌<◌, ◌≤◌, ◌^◌, Bool, true, false, cond, List, [], ◌∷◌, Option, Some, None, codes, decimal, length, get_or, ap, refl, arith, ◌%◌, lit<, lit≤, inl, inr}
+use Rattle.std.proofs.Common.{min, ◌≡◌, ℕ, ◌+◌, ◌*◌, ◌<◌, ◌≤◌, ◌^◌, Bool, true, false, cond, List, [], ◌∷◌, Option, Some, None, codes, decimal, length, get_or, ap, refl, arith, ◌%◌, lit<, lit≤, inl}
+use Rattle.std.proofs.Common.{inr}
 use Rattle.std.specs.List.{All, AllByRecursion, list_all}
 use Rattle.std.proofs.Math.Dec.{ltb}
 use Rattle.std.proofs.lemmas.Bool.Decides.{nat_tests}
@@ -92,7 +93,8 @@ abbrev pub Printed : List ℕ → Type 0
 Printed word = All IsPrinted word
 
 pub printed_digits : (n : ℕ) → n < 2 ^ 64 → Printed (decimal n)
-printed_digits = decimal_by_steps (λ n ds. Printed ds) (λ n l. All-cons IsPrinted (48 + n) [] (omega arith, omega arith) (All-nil IsPrinted)) (λ n ds l h. All-push IsPrinted ds (48 + n % 10) h (omega arith, omega arith))
+printed_digits = decimal_by_steps (λ n ds. Printed ds) (λ n l. All-cons IsPrinted (48 + n) [] (omega arith, omega arith) (All-nil IsPrinted))
+    (λ n ds l h. All-push IsPrinted ds (48 + n % 10) h (omega arith, omega arith))
 
 printed_var : (v : Var) → IsVar v → Printed (var_text v)
 printed_var v l = All-cons IsPrinted (min (97 + v.0) 255) [] (omega arith, omega arith) (All-nil IsPrinted)
@@ -212,8 +214,10 @@ same_sort s t e = absurd (cc)
 same_operand : (p : Place) (x y : Operand) → StandsAt p x → StandsAt p y → operand_text x ≡ operand_text y → x ≡ y
 same_operand place.Var (operand.Var v) (operand.Var w) s t e = ap operand.Var (same_var v w s t e)
 same_operand place.VarOrNone (operand.VarOrNone v) (operand.VarOrNone w) s t e = ap operand.VarOrNone (same_optional v w s t e)
-same_operand place.ManagedStatic (operand.ManagedStatic x) (operand.ManagedStatic y) s t e = let k : x.0 ≡ y.0 = same_small x.0 y.0 (omega arith) (omega arith) (cc) in ap (λ n. operand.ManagedStatic record { 0 = n }) k
-same_operand place.PeerStatic (operand.PeerStatic x) (operand.PeerStatic y) s t e = let k : x.0 ≡ y.0 = same_small x.0 y.0 (omega arith) (omega arith) (cc) in ap (λ n. operand.PeerStatic record { 0 = n }) k
+same_operand place.ManagedStatic (operand.ManagedStatic x) (operand.ManagedStatic y) s t e = let k : x.0 ≡ y.0 = same_small x.0 y.0 (omega arith) (omega arith) (cc) in
+    ap (λ n. operand.ManagedStatic record { 0 = n }) k
+same_operand place.PeerStatic (operand.PeerStatic x) (operand.PeerStatic y) s t e = let k : x.0 ≡ y.0 = same_small x.0 y.0 (omega arith) (omega arith) (cc) in
+    ap (λ n. operand.PeerStatic record { 0 = n }) k
 same_operand place.Global (operand.Global x) (operand.Global y) s t e = let k : x.0 ≡ y.0 = same_small x.0 y.0 (omega arith) (omega arith) (cc) in ap (λ n. operand.Global record { 0 = n }) k
 same_operand place.Cell (operand.Cell x) (operand.Cell y) s t e = let k : x.0 ≡ y.0 = same_small x.0 y.0 (omega arith) (omega arith) (cc) in ap (λ n. operand.Cell record { 0 = n }) k
 same_operand (place.Number least most) (operand.Number m) (operand.Number n) s t e = ap operand.Number (decimal_injective m n s.2 t.2 e)

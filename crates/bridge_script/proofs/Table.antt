@@ -37,7 +37,8 @@ pub record HasRow (t : Thread) (a : Act) : Type 0 where
   pub act : act_at (operation_of a) operands ≡ Some a
   pub none : Clashes (operation_of a) (texts operands) → ⊥
 
-row : (t : Thread) (a : Act) (ps : List Place) (xs : List Operand) → form_of t (operation_of a) ≡ Some ps → StandAll ps xs → act_words t a ≡ operation_text (operation_of a) ∷ texts xs → act_at (operation_of a) xs ≡ Some a → (Clashes (operation_of a) (texts xs) → ⊥) → HasRow t a
+row : (t : Thread) (a : Act) (ps : List Place) (xs : List Operand) → form_of t (operation_of a) ≡ Some ps → StandAll ps xs
+    → act_words t a ≡ operation_text (operation_of a) ∷ texts xs → act_at (operation_of a) xs ≡ Some a → (Clashes (operation_of a) (texts xs) → ⊥) → HasRow t a
 row t a ps xs f s w e n = record { places = ps; operands = xs; form = f; stand = s; words = w; act = e; none = n }
 
 pub byte_is : (n : ℕ) → n ≤ 255 → min n 255 ≡ n
@@ -56,25 +57,31 @@ pub zero_text : decimal 0 ≡ codes "0"
 zero_text = decimal_digit 0 (omega arith)
 
 row_new : (m : ℕ) (v : Var) (k : Kind) (n : ℕ) → IsVar v → IsPlainObject k n → HasRow (M m) (act.New v k n)
-row_new m v kind.Plain n b h = row (M m) (act.New v kind.Plain n) _ (operand.Var v ∷ operand.Kind kind.Plain ∷ operand.Number n ∷ []) refl (b, (tt, (in_fields n h, tt))) refl (rw (byte_is n (omega arith)) refl) (λ x. let e = x.0 in absurd (cc))
-row_new m v kind.Leaf n b h = row (M m) (act.New v kind.Leaf n) _ (operand.Var v ∷ operand.Kind kind.Leaf ∷ operand.Number n ∷ []) refl (b, (tt, (in_fields n (omega arith), tt))) refl (rw (byte_is n (omega arith)) refl) (λ x. x.1 (ap decimal h ∙ zero_text))
+row_new m v kind.Plain n b h = row (M m) (act.New v kind.Plain n) _ (operand.Var v ∷ operand.Kind kind.Plain ∷ operand.Number n ∷ []) refl
+    (b, (tt, (in_fields n h, tt))) refl (rw (byte_is n (omega arith)) refl) (λ x. let e = x.0 in absurd (cc))
+row_new m v kind.Leaf n b h = row (M m) (act.New v kind.Leaf n) _ (operand.Var v ∷ operand.Kind kind.Leaf ∷ operand.Number n ∷ []) refl
+    (b, (tt, (in_fields n (omega arith), tt))) refl (rw (byte_is n (omega arith)) refl) (λ x. x.1 (ap decimal h ∙ zero_text))
 row_new m v kind.Bridge n b h = absurd h
 row_new m v kind.LeafBridge n b h = absurd h
 
-row_object : (m : ℕ) (v : Var) (k : Kind) (n : ℕ) (s : Sort) (f : ℕ) → StandsAt place.Var (operand.Var v) → StandsAt place.BridgeKind (operand.Kind k) → n ≤ 16 → f ≤ 16 → (ClashesAs (kind_text k) (decimal n) (sort_text s) → ⊥) → HasRow (M m) (act.Bridge v k n s f)
-row_object m v k n s f b kb nb fb c = row (M m) (act.Bridge v k n s f) _ (operand.Var v ∷ operand.Kind k ∷ operand.Number n ∷ operand.Sort s ∷ operand.Number f ∷ []) refl (b, (kb, (in_fields n nb, (tt, (in_fields f fb, tt))))) refl (rw (byte_is n (omega arith), byte_is f (omega arith)) refl) c
+row_object : (m : ℕ) (v : Var) (k : Kind) (n : ℕ) (s : Sort) (f : ℕ) → StandsAt place.Var (operand.Var v) → StandsAt place.BridgeKind (operand.Kind k)
+    → n ≤ 16 → f ≤ 16 → (ClashesAs (kind_text k) (decimal n) (sort_text s) → ⊥) → HasRow (M m) (act.Bridge v k n s f)
+row_object m v k n s f b kb nb fb c = row (M m) (act.Bridge v k n s f) _ (operand.Var v ∷ operand.Kind k ∷ operand.Number n ∷ operand.Sort s ∷ operand.Number f ∷ []) refl
+    (b, (kb, (in_fields n nb, (tt, (in_fields f fb, tt))))) refl (rw (byte_is n (omega arith), byte_is f (omega arith)) refl) c
 
 row_bridge : (m : ℕ) (v : Var) (k : Kind) (n : ℕ) (s : Sort) (f : ℕ) → IsVar v → IsBridgeObject k n s → f ≤ 16 → HasRow (M m) (act.Bridge v k n s f)
 row_bridge m v kind.Plain n s f b o h = absurd o
 row_bridge m v kind.Leaf n s f b o h = absurd o
-row_bridge m v kind.Bridge n s f b o h = row_object m v kind.Bridge n s f b tt o.0 h (λ x. elim x [ inl y ↦ (let e = y.0 in absurd (cc)) | inr y ↦ (let e = y.1 in let u = ap sort_text o.1 in absurd (cc)) ])
+row_bridge m v kind.Bridge n s f b o h = row_object m v kind.Bridge n s f b tt o.0 h
+    (λ x. elim x [ inl y ↦ (let e = y.0 in absurd (cc)) | inr y ↦ (let e = y.1 in let u = ap sort_text o.1 in absurd (cc)) ])
 row_bridge m v kind.LeafBridge n s f b o h = row_object m v kind.LeafBridge n s f b tt (omega arith) h (λ x. elim x [ inl y ↦ y.1 (ap decimal o ∙ zero_text) | inr y ↦ (let e = y.0 in absurd (cc)) ])
 
 row_managed : (m : ℕ) (a : Act) → IsManagedAct a → HasRow (M m) a
 row_managed m (act.New v k n) h = row_new m v k n h.0 h.1
 row_managed m (act.Bridge v k n s f) h = row_bridge m v k n s f h.0 h.1 h.2
 row_managed m (act.Copy v w) h = row (M m) (act.Copy v w) _ (operand.Var v ∷ operand.Var w ∷ []) refl (h.0, (h.1, tt)) refl refl (λ x. x)
-row_managed m (act.Set v n w) h = row (M m) (act.Set v n w) _ (operand.Var v ∷ operand.Number n ∷ operand.VarOrNone w ∷ []) refl (h.0, (in_index n h.2, (h.1, tt))) refl (rw (byte_is n h.2) refl) (λ x. x)
+row_managed m (act.Set v n w) h = row (M m) (act.Set v n w) _ (operand.Var v ∷ operand.Number n ∷ operand.VarOrNone w ∷ []) refl
+    (h.0, (in_index n h.2, (h.1, tt))) refl (rw (byte_is n h.2) refl) (λ x. x)
 row_managed m (act.Get v w n) h = row (M m) (act.Get v w n) _ (operand.Var v ∷ operand.Var w ∷ operand.Number n ∷ []) refl (h.0, (h.1, (in_index n h.2, tt))) refl (rw (byte_is n h.2) refl) (λ x. x)
 row_managed m (act.Drop v) h = row (M m) (act.Drop v) _ (operand.Var v ∷ []) refl (h, tt) refl refl (λ x. x)
 row_managed m (act.Load v x) h = row (M m) (act.Load v x) _ (operand.Var v ∷ operand.ManagedStatic x ∷ []) refl (h.0, (h.1, tt)) refl refl (λ x. x)
@@ -127,4 +134,10 @@ none_behind o ps xs s n cause.Kind h = elim h [ inl x ↦ all_fit ps xs s cause.
 none_behind o ps xs s n c h = absurd h
 
 pub fits_table : (t : Thread) (a : Act) → IsLine t a → FitsTable t a
-fits_table t a l = let r = has_row t a l in record { places = r.places; rest = texts r.operands; form = r.form; words = r.words; none = none_behind (operation_of a) r.places r.operands r.stand r.none }
+fits_table t a l = let r = has_row t a l in record {
+  places = r.places;
+  rest = texts r.operands;
+  form = r.form;
+  words = r.words;
+  none = none_behind (operation_of a) r.places r.operands r.stand r.none;
+}

@@ -1,7 +1,8 @@
 -- What stands at places is taken from the front of words in one way: so far the operands xs were taken, and whatever
 -- operands with a rest the words are, they go on from xs. So the words of a line behind its thread are taken in one way
 -- too, whatever follows: its first word tells the operation, that one its places, and these the operands.
-use Rattle.std.proofs.Common.{◌≡◌, ℕ, ◌+◌, ◌<◌, ◌≤◌, List, [], ◌∷◌, ◌++◌, length, drop, get_or, Option, Some, None, IfSome, MatchOption, sym, ◌∙◌, ap, refl, arith, subst, append_assoc, append-nil, add-one, drop-cons, length-drop}
+use Rattle.std.proofs.Common.{◌≡◌, ℕ, ◌+◌, ◌<◌, ◌≤◌, List, [], ◌∷◌, ◌++◌, length, drop, get_or, Option, Some, None, IfSome, MatchOption, sym, ◌∙◌, ap, refl, arith, subst, append_assoc, append-nil}
+use Rattle.std.proofs.Common.{add-one, drop-cons, length-drop}
 use Rattle.std.proofs.lemmas.List.{nil_from_length}
 use Rattle.joint_machine.specs.declared.names.Thread.{Thread}
 use Rattle.joint_machine.specs.declared.names.Thread.TheVariants.{M, P, C}
@@ -44,7 +45,8 @@ texts_push [] x ws = refl
 texts_push (y ∷ xs) x ws = ap (λ t. operand_text y ∷ t) (texts_push xs x ws)
 
 -- the operand of the next word is the one that was taken
-next_goes : (p : Place) (ps : List Place) (ws : List (List ℕ)) (xs zs : List Operand) (rest : List (List ℕ)) (x : Operand) → StandsAt p x → Goes (p ∷ ps) (operand_text x ∷ ws) xs zs rest → Goes ps ws (xs ++ x ∷ []) zs rest
+next_goes : (p : Place) (ps : List Place) (ws : List (List ℕ)) (xs zs : List Operand) (rest : List (List ℕ)) (x : Operand)
+    → StandsAt p x → Goes (p ∷ ps) (operand_text x ∷ ws) xs zs rest → Goes ps ws (xs ++ x ∷ []) zs rest
 next_goes p ps ws xs zs rest x s g = by g.more g.whole g.stand g.left
   where
     by : (more : List Operand) → zs ≡ xs ++ more → StandAll (p ∷ ps) more → operand_text x ∷ ws ≡ texts more ++ rest → Goes ps ws (xs ++ x ∷ []) zs rest
@@ -56,7 +58,8 @@ next_goes p ps ws xs zs rest x s g = by g.more g.whole g.stand g.left
         let one : xs ++ (y ∷ more) ≡ (xs ++ x ∷ []) ++ more = sym (append_assoc xs (y ∷ []) more) ∙ ap (λ z. (xs ++ z) ++ more) (sym same) in
         record { more = more; whole = e ∙ one; stand = t.1; left = cc }
 
-pub took_more : (places : List Place) (words : List (List ℕ)) (p : Place) (ps : List Place) (ws : List (List ℕ)) (xs : List Operand) (x : Operand) → StandsAt p x → Took places words (p ∷ ps) (operand_text x ∷ ws) xs → Took places words ps ws (xs ++ x ∷ [])
+pub took_more : (places : List Place) (words : List (List ℕ)) (p : Place) (ps : List Place) (ws : List (List ℕ)) (xs : List Operand) (x : Operand)
+    → StandsAt p x → Took places words (p ∷ ps) (operand_text x ∷ ws) xs → Took places words ps ws (xs ++ x ∷ [])
 took_more places words p ps ws xs x s k =
     let S : List Operand → Type 0 = λ z. StandAll places z in
     record {
@@ -84,34 +87,39 @@ no_operand p ps w ws xs zs rest c h g = by g.more g.stand g.left
 place_of : (places : List Place) (i : ℕ) (d : Place) → i < length places → drop i places ≡ get_or places i d ∷ drop (i + 1) places
 place_of places i d l = rw add-one (drop-cons places i d l)
 
-pub took_next : (places : List Place) (words : List (List ℕ)) (i : ℕ) (d : Place) (w : List ℕ) (us ws : List (List ℕ)) (xs : List Operand) (x : Operand) → i < length places → us ≡ w ∷ ws → StandsAt (get_or places i d) x → operand_text x ≡ w → Took places words (drop i places) us xs
+pub took_next : (places : List Place) (words : List (List ℕ)) (i : ℕ) (d : Place) (w : List ℕ) (us ws : List (List ℕ)) (xs : List Operand) (x : Operand)
+    → i < length places → us ≡ w ∷ ws → StandsAt (get_or places i d) x → operand_text x ≡ w → Took places words (drop i places) us xs
     → Took places words (drop (i + 1) places) ws (xs ++ x ∷ [])
 took_next places words i d w us ws xs x l e s t k =
     let F : List Place → Type 0 = λ p. Took places words p us xs in
     let G : List (List ℕ) → Type 0 = λ u. Took places words (get_or places i d ∷ drop (i + 1) places) u xs in
     took_more places words (get_or places i d) (drop (i + 1) places) ws xs x s (subst G (e ∙ ap (λ z. z ∷ ws) (sym t)) (subst F (place_of places i d l) k))
 
-pub none_left : (places : List Place) (words : List (List ℕ)) (i : ℕ) (d : Place) (us : List (List ℕ)) (xs zs : List Operand) (rest : List (List ℕ)) → i < length places → us ≡ [] → Took places words (drop i places) us xs → StandAll places zs → words ≡ texts zs ++ rest → ⊥
+pub none_left : (places : List Place) (words : List (List ℕ)) (i : ℕ) (d : Place) (us : List (List ℕ)) (xs zs : List Operand) (rest : List (List ℕ))
+    → i < length places → us ≡ [] → Took places words (drop i places) us xs → StandAll places zs → words ≡ texts zs ++ rest → ⊥
 none_left places words i d us xs zs rest l e k s t =
     let F : List Place → Type 0 = λ p. Took places words p us xs in
     let G : List (List ℕ) → Type 0 = λ u. Took places words (get_or places i d ∷ drop (i + 1) places) u xs in
     no_word (get_or places i d) (drop (i + 1) places) xs zs rest ((subst G e (subst F (place_of places i d l) k)).only zs rest s t)
 
-pub none_here : (places : List Place) (words : List (List ℕ)) (i : ℕ) (d : Place) (w : List ℕ) (us ws : List (List ℕ)) (xs zs : List Operand) (rest : List (List ℕ)) (c : Cause) → i < length places → us ≡ w ∷ ws → HasAt c (get_or places i d) w → Took places words (drop i places) us xs → StandAll places zs → words ≡ texts zs ++ rest → ⊥
+pub none_here : (places : List Place) (words : List (List ℕ)) (i : ℕ) (d : Place) (w : List ℕ) (us ws : List (List ℕ)) (xs zs : List Operand) (rest : List (List ℕ)) (c : Cause)
+    → i < length places → us ≡ w ∷ ws → HasAt c (get_or places i d) w → Took places words (drop i places) us xs → StandAll places zs → words ≡ texts zs ++ rest → ⊥
 none_here places words i d w us ws xs zs rest c l e h k s t =
     let F : List Place → Type 0 = λ p. Took places words p us xs in
     let G : List (List ℕ) → Type 0 = λ u. Took places words (get_or places i d ∷ drop (i + 1) places) u xs in
     no_operand (get_or places i d) (drop (i + 1) places) w ws xs zs rest c h ((subst G e (subst F (place_of places i d l) k)).only zs rest s t)
 
 -- no place is left
-pub took_all : (places : List Place) (words : List (List ℕ)) (i : ℕ) (ws : List (List ℕ)) (xs : List Operand) → length places ≤ i → Took places words (drop i places) ws xs → StandAll places xs × (words ≡ texts xs ++ ws)
+pub took_all : (places : List Place) (words : List (List ℕ)) (i : ℕ) (ws : List (List ℕ)) (xs : List Operand)
+    → length places ≤ i → Took places words (drop i places) ws xs → StandAll places xs × (words ≡ texts xs ++ ws)
 took_all places words i ws xs l k =
     let none : drop i places ≡ [] = nil_from_length (drop i places) (omega (arith, length-drop i places)) in
     let F : List Place → Type 0 = λ p. Took places words p ws xs in
     let S : List Operand → Type 0 = λ z. StandAll places z in
     (subst S (append-nil xs) ((subst F none k).stand [] tt), k.begins)
 
-pub took_only : (places : List Place) (words : List (List ℕ)) (i : ℕ) (ws : List (List ℕ)) (xs zs : List Operand) (rest : List (List ℕ)) → length places ≤ i → Took places words (drop i places) ws xs → StandAll places zs → words ≡ texts zs ++ rest → (xs ≡ zs) × (ws ≡ rest)
+pub took_only : (places : List Place) (words : List (List ℕ)) (i : ℕ) (ws : List (List ℕ)) (xs zs : List Operand) (rest : List (List ℕ))
+    → length places ≤ i → Took places words (drop i places) ws xs → StandAll places zs → words ≡ texts zs ++ rest → (xs ≡ zs) × (ws ≡ rest)
 took_only places words i ws xs zs rest l k s t =
     let none : drop i places ≡ [] = nil_from_length (drop i places) (omega (arith, length-drop i places)) in
     let F : List Place → Type 0 = λ p. Took places words p ws xs in
@@ -140,7 +148,8 @@ pub record IsRowOf (t : Thread) (a : Act) (o : Operation) (ps : List Place) (mid
   pub possible : IsPossible a
   pub words : mid ≡ texts operands ++ rest
 
-pub row_of : (t : Thread) (a : Act) (o : Operation) (ps : List Place) (words mid rest : List (List ℕ)) → form_of t o ≡ Some ps → words ≡ operation_text o ∷ mid → IsLine t a → words ≡ act_words t a ++ rest → IsRowOf t a o ps mid rest
+pub row_of : (t : Thread) (a : Act) (o : Operation) (ps : List Place) (words mid rest : List (List ℕ)) → form_of t o ≡ Some ps
+    → words ≡ operation_text o ∷ mid → IsLine t a → words ≡ act_words t a ++ rest → IsRowOf t a o ps mid rest
 row_of t a o ps words mid rest f w l e =
     let r = has_row t a l in
     let both : operation_text o ∷ mid ≡ operation_text (operation_of a) ∷ (texts r.operands ++ rest) = sym w ∙ (e ∙ ap (λ z. z ++ rest) r.words) in
@@ -151,11 +160,13 @@ row_of t a o ps words mid rest f w l e =
     record { operands = r.operands; stand = subst S (sym here) r.stand; act = ap (λ z. act_at z r.operands) same ∙ r.act; possible = possible t a l; words = cc }
 
 -- a thread's line has a row
-pub no_row : (t : Thread) (a : Act) (words rest : List (List ℕ)) → ((o : Operation) (ps : List Place) (more : List (List ℕ)) → form_of t o ≡ Some ps → words ≡ operation_text o ∷ more → ⊥) → IsLine t a → words ≡ act_words t a ++ rest → ⊥
+pub no_row : (t : Thread) (a : Act) (words rest : List (List ℕ))
+    → ((o : Operation) (ps : List Place) (more : List (List ℕ)) → form_of t o ≡ Some ps → words ≡ operation_text o ∷ more → ⊥) → IsLine t a → words ≡ act_words t a ++ rest → ⊥
 no_row t a words rest n l e = let r = has_row t a l in n (operation_of a) r.places (texts r.operands ++ rest) r.form (e ∙ ap (λ z. z ++ rest) r.words)
 
 -- the act of operands at the places of a row is a line, and has the words that were taken
-pub taken_line : (t : Thread) (o : Operation) (ps : List Place) (xs : List Operand) (a : Act) (words mid rest : List (List ℕ)) → IsThread t → form_of t o ≡ Some ps → StandAll ps xs → act_at o xs ≡ Some a → IsPossible a → words ≡ operation_text o ∷ mid → mid ≡ texts xs ++ rest
+pub taken_line : (t : Thread) (o : Operation) (ps : List Place) (xs : List Operand) (a : Act) (words mid rest : List (List ℕ)) → IsThread t
+    → form_of t o ≡ Some ps → StandAll ps xs → act_at o xs ≡ Some a → IsPossible a → words ≡ operation_text o ∷ mid → mid ≡ texts xs ++ rest
     → IsLine t a × (words ≡ act_words t a ++ rest)
 taken_line t o ps xs a words mid rest h f s m p w e =
     let k = asked_of t o ps xs f s in
@@ -164,7 +175,8 @@ taken_line t o ps xs a words mid rest h f s m p w e =
     subst L same (λ q. (k.lawful h q, w ∙ (ap (λ z. operation_text o ∷ z) e ∙ ap (λ z. z ++ rest) (sym k.words)))) p
 
 -- what is made of the operands of a row is a line, and there is no other line with these words
-pub lines_only : (t : Thread) (o : Operation) (ps : List Place) (xs : List Operand) (words mid rest : List (List ℕ)) (r : Option Act) → IsThread t → form_of t o ≡ Some ps → StandAll ps xs → words ≡ operation_text o ∷ mid → mid ≡ texts xs ++ rest
+pub lines_only : (t : Thread) (o : Operation) (ps : List Place) (xs : List Operand) (words mid rest : List (List ℕ)) (r : Option Act)
+    → IsThread t → form_of t o ≡ Some ps → StandAll ps xs → words ≡ operation_text o ∷ mid → mid ≡ texts xs ++ rest
     → MatchOption r ((a : Act) → act_at o xs ≡ Some a → IsPossible a → ⊥) (λ a. (act_at o xs ≡ Some a) × IsPossible a) → IfSome r (λ a. IsLine t a × (words ≡ act_words t a ++ rest))
 lines_only t o ps xs words mid rest None h f s w e m = tt
 lines_only t o ps xs words mid rest (Some a) h f s w e m = taken_line t o ps xs a words mid rest h f s m.0 m.1 w e

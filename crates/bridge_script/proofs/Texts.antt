@@ -1,7 +1,8 @@
 -- A text falls into lines in one way: no line has a newline, so the first newline ends the first line, and
 -- what stands behind it is the text of the other lines. So two scripts with one text are the same, and a line
 -- that no script goes on with, behind the lines of a script, excludes every script with that text.
-use Rattle.std.proofs.Common.{Bool, true, subst, zero, suc, slice_get, slice_range, ◌-◌, ◌≡◌, ◌≢◌, ℕ, ◌+◌, ◌<◌, ◌≤◌, cond, List, [], ◌∷◌, ◌++◌, length, take, drop, get_or, sym, ◌∙◌, ap, refl, inl, inr, ◌⊎◌, arith, append_assoc, append-nil, length-append, length-drop}
+use Rattle.std.proofs.Common.{Bool, true, subst, zero, suc, slice_get, slice_range, ◌-◌, ◌≡◌, ◌≢◌, ℕ, ◌+◌, ◌<◌, ◌≤◌, cond, List, [], ◌∷◌, ◌++◌, length, take, drop, get_or, sym, ◌∙◌, ap, refl, inl}
+use Rattle.std.proofs.Common.{inr, ◌⊎◌, arith, append_assoc, append-nil, length-append, length-drop}
 use Rattle.std.specs.List.{All}
 use Rattle.std.proofs.lemmas.List.{get_or-drop, drop-append-le, take-append-le, length-take-le}
 use Rattle.std.proofs.lemmas.Bool.{cases_lt}
@@ -47,7 +48,8 @@ pub last_line : (front : List (Thread × Act)) (line : Thread × Act) → IsScri
 last_line front line s = rw get_or-append_seam at (All-get_or IsScriptLine (front ++ line ∷ []) (length front) line (omega (arith, length-append front (line ∷ []))) s.each)
 
 -- a script grows by a line within the limits
-pub script_grown : (old : List (Thread × Act)) (line : Thread × Act) → IsScript old → IsScriptLine line → length old < 20000 → cycles_of old + cond (is_cycle line) 1 0 ≤ 256 → IsScript (old ++ line ∷ [])
+pub script_grown : (old : List (Thread × Act)) (line : Thread × Act) → IsScript old → IsScriptLine line
+    → length old < 20000 → cycles_of old + cond (is_cycle line) 1 0 ≤ 256 → IsScript (old ++ line ∷ [])
 script_grown old line s b l c = record {
   each = All-push IsScriptLine old line s.each b;
   lines = omega (arith, length-append old (line ∷ []));
@@ -65,13 +67,16 @@ pub goes_on : (script before : List (Thread × Act)) (extra line rest : List ℕ
     → script_text_of script ++ extra ≡ script_text_of before ++ (line ++ (10 ∷ rest)) → length (script_text_of before) < length (script_text_of script) → GoesOn script before line
 goes_on [] before extra line rest hs hb hl e l = absurd (omega arith)
 goes_on (x ∷ script) [] extra line rest hs hb hl e l =
-    let r = cut_once 10 (line_text x) line (script_text_of script ++ extra) rest (line_free x (All-head IsScriptLine x script hs)) hl (sym (append_assoc (line_text x) (10 ∷ script_text_of script) extra) ∙ e) in
+    let r = cut_once 10 (line_text x) line (script_text_of script ++ extra) rest (line_free x (All-head IsScriptLine x script hs)) hl
+    (sym (append_assoc (line_text x) (10 ∷ script_text_of script) extra) ∙ e) in
     record { next = x; more = script; whole = refl; read = r.0 }
 goes_on (x ∷ script) (y ∷ before) extra line rest hs hb hl e l =
-    let r = cut_once 10 (line_text x) (line_text y) (script_text_of script ++ extra) (script_text_of before ++ (line ++ (10 ∷ rest))) (line_free x (All-head IsScriptLine x script hs)) (line_free y (All-head IsScriptLine y before hb))
+    let r = cut_once 10 (line_text x) (line_text y) (script_text_of script ++ extra) (script_text_of before ++ (line ++ (10 ∷ rest)))
+    (line_free x (All-head IsScriptLine x script hs)) (line_free y (All-head IsScriptLine y before hb))
     (sym (append_assoc (line_text x) (10 ∷ script_text_of script) extra) ∙ (e ∙ append_assoc (line_text y) (10 ∷ script_text_of before) (line ++ (10 ∷ rest)))) in
     let same = same_line x y (All-head IsScriptLine x script hs) (All-head IsScriptLine y before hb) r.0 in
-    let shorter : length (script_text_of before) < length (script_text_of script) = omega (arith, l, ap length r.0, length-append (line_text x) (10 ∷ script_text_of script), length-append (line_text y) (10 ∷ script_text_of before)) in
+    let shorter : length (script_text_of before) < length (script_text_of script) = omega
+    (arith, l, ap length r.0, length-append (line_text x) (10 ∷ script_text_of script), length-append (line_text y) (10 ∷ script_text_of before)) in
     let g = goes_on script before extra line rest (All-tail IsScriptLine x script hs) (All-tail IsScriptLine y before hb) hl r.1 shorter in
     record { next = g.next; more = g.more; whole = let w = g.whole in cc; read = g.read }
 
@@ -105,10 +110,12 @@ pub no_text : (bytes : List ℕ) (fault : ScriptFault) → IsFault bytes fault �
 no_text bytes fault f script t =
     let finish : GoesOn script f.before f.line → ⊥ = λ g.
     let W : List ℕ → Type 0 = λ x. Has (behind f.before x (end_of bytes (script_text_of f.before) f.line)) fault.cause in
-    none_in_script f.before g.next (end_of bytes (script_text_of f.before) f.line) (script_part (f.before ++ g.next ∷ []) g.more (rw (g.whole) at t.lawful)) (omega (arith, t.size)) fault.cause (subst W (sym g.read) f.cause.here) in
+    none_in_script f.before g.next (end_of bytes (script_text_of f.before) f.line)
+    (script_part (f.before ++ g.next ∷ []) g.more (rw (g.whole) at t.lawful)) (omega (arith, t.size)) fault.cause (subst W (sym g.read) f.cause.here) in
     elim t.text [
       | inl e ↦ finish (goes_on script f.before (10 ∷ []) f.line f.rest t.lawful.each f.lawful.each f.whole (ap (λ b. b ++ 10 ∷ []) (sym e) ∙ f.stands) (omega (arith, f.some, ap length e)))
-      | inr h ↦ finish (goes_on script f.before [] f.line f.rest t.lawful.each f.lawful.each f.whole (append-nil (script_text_of script) ∙ (sym h.1 ∙ f.stands)) (omega (arith, f.some, ap length h.1, length-append bytes (10 ∷ []))))
+      | inr h ↦ finish (goes_on script f.before [] f.line f.rest t.lawful.each f.lawful.each f.whole
+          (append-nil (script_text_of script) ∙ (sym h.1 ∙ f.stands)) (omega (arith, f.some, ap length h.1, length-append bytes (10 ∷ []))))
     ]
 
 -- a text and the same text with one more newline aren't both texts of scripts
@@ -116,7 +123,8 @@ not_both : (s t : List (Thread × Act)) → All IsScriptLine s → All IsScriptL
 not_both s [] p q e = omega (arith, ap length e, length-append (script_text_of s) (10 ∷ []))
 not_both [] (y ∷ t) p q e = omega (arith, ap length e, length-append (line_text y) (10 ∷ script_text_of t), line_some y (All-head IsScriptLine y t q))
 not_both (x ∷ s) (y ∷ t) p q e =
-    let r = cut_once 10 (line_text y) (line_text x) (script_text_of t) (script_text_of s ++ 10 ∷ []) (line_free y (All-head IsScriptLine y t q)) (line_free x (All-head IsScriptLine x s p)) (e ∙ append_assoc (line_text x) (10 ∷ script_text_of s) (10 ∷ [])) in
+    let r = cut_once 10 (line_text y) (line_text x) (script_text_of t) (script_text_of s ++ 10 ∷ []) (line_free y (All-head IsScriptLine y t q))
+    (line_free x (All-head IsScriptLine x s p)) (e ∙ append_assoc (line_text x) (10 ∷ script_text_of s) (10 ∷ [])) in
     not_both s t (All-tail IsScriptLine x s p) (All-tail IsScriptLine y t q) r.1
 
 pub same_lines : (s t : List (Thread × Act)) → All IsScriptLine s → All IsScriptLine t → script_text_of s ≡ script_text_of t → s ≡ t
@@ -143,7 +151,8 @@ one_script bytes s t a b = elim a.text [
 ]
 
 -- the line of a text from a place on ends at the first newline from there on
-pub ends_line : (bytes : List ℕ) (at n : ℕ) → at < length bytes → n ≤ length (take (length bytes - at) (drop at bytes)) → ((k : ℕ) → k < n → get_or (take (length bytes - at) (drop at bytes)) k 0 ≡ 10 → ⊥)
+pub ends_line : (bytes : List ℕ) (at n : ℕ) → at < length bytes → n ≤ length (take (length bytes - at) (drop at bytes))
+    → ((k : ℕ) → k < n → get_or (take (length bytes - at) (drop at bytes)) k 0 ≡ 10 → ⊥)
     → (n < length (take (length bytes - at) (drop at bytes)) → get_or (take (length bytes - at) (drop at bytes)) n 0 ≡ 10) → EndsLine bytes at (at + n)
 ends_line bytes at n l w before found =
     let e = rest_of at bytes in
@@ -162,7 +171,8 @@ ends_line bytes at n l w before found =
       from = omega arith;
       within = inner;
       whole = rw cut (free_before 10 n (drop at bytes) w' (rw e at before));
-      stands = rw cut (split ∙ (ap (λ t. t ++ 10 ∷ drop (at + n + 1) (bytes ++ 10 ∷ [])) front ∙ append_assoc (take at (bytes ++ 10 ∷ [])) (take n (drop at bytes)) (10 ∷ drop (at + n + 1) (bytes ++ 10 ∷ []))));
+      stands = rw cut (split ∙ (ap (λ t. t ++ 10 ∷ drop (at + n + 1) (bytes ++ 10 ∷ [])) front
+          ∙ append_assoc (take at (bytes ++ 10 ∷ [])) (take n (drop at bytes)) (10 ∷ drop (at + n + 1) (bytes ++ 10 ∷ []))));
     }
 
 take_front : (n : ℕ) (front more : List ℕ) → length front ≡ n → take n (front ++ more) ≡ front

@@ -31,4 +31,5 @@ cause_name cause.Bytes = codes "bytes"
 
 -- the line that names a fault: `line N: cause C NAME`, with its newline
 abbrev pub fault_text : ScriptFault → List ℕ
-fault_text f = codes "line " ++ decimal f.line ++ codes ": cause " ++ decimal (cause_number f.cause) ++ codes " " ++ cause_name f.cause ++ codes "\n"
+fault_text f = codes "line " ++ decimal f.line ++ codes ": cause " ++ decimal
+    (cause_number f.cause) ++ codes " " ++ cause_name f.cause ++ codes "\n"

@@ -13,7 +13,8 @@ use Rattle.bridge_script.specs.declared.grammar.Operation.{Operation}
 use Rattle.bridge_script.specs.declared.grammar.Operation.TheVariants as operation
 use Rattle.bridge_script.specs.declared.grammar.Place.{Place}
 use Rattle.bridge_script.specs.declared.grammar.Place.TheVariants as place
-use Rattle.bridge_script.specs.Words.{thread_text, var_text, optional_text, managed_static, peer_static, global_text, cell_text}
+use Rattle.bridge_script.specs.Words.{thread_text, var_text, optional_text, managed_static, peer_static, global_text}
+use Rattle.bridge_script.specs.Words.{cell_text}
 use Rattle.bridge_script.specs.Grammar.{operation_text, form_of}
 use Rattle.bridge_script.specs.Causes.{cause_number}
 
@@ -26,7 +27,8 @@ HasAt cause.Name place.PeerStatic word = (x : StaticNo) → x.0 < 16 → peer_st
 HasAt cause.Name place.Global word = (g : GName) → g.0 < 64 → global_text g ≢ word
 HasAt cause.Name place.Cell word = (k : Cell) → k.0 < 64 → cell_text k ≢ word
 HasAt cause.Number (place.Number least most) word = (n : ℕ) → n < 2 ^ 64 → decimal n ≢ word
-HasAt cause.Limit (place.Number least most) word = (n : ℕ) × (n < 2 ^ 64) × (decimal n ≡ word) × ((n < least) ⊎ (most < n))
+HasAt cause.Limit (place.Number least most) word = (n : ℕ)
+    × (n < 2 ^ 64) × (decimal n ≡ word) × ((n < least) ⊎ (most < n))
 HasAt cause.Kind place.PlainKind word = (word ≢ codes "plain") × (word ≢ codes "leaf")
 HasAt cause.Kind place.BridgeKind word = (word ≢ codes "bridge") × (word ≢ codes "leafbridge")
 HasAt cause.Kind place.Sort word = (word ≢ codes "user") × (word ≢ codes "framework")
@@ -40,7 +42,8 @@ HasAtSome c _ _ = ⊥
 -- no bridge object has this kind, these fields and this sort of peer: a leaf bridge has fields, or a bridge has a
 -- framework's peer
 abbrev pub ClashesAs : List ℕ → List ℕ → List ℕ → Type 0
-ClashesAs kind fields sort = ((kind ≡ codes "leafbridge") × (fields ≢ codes "0")) ⊎ ((kind ≡ codes "bridge") × (sort ≡ codes "framework"))
+ClashesAs kind fields sort = ((kind ≡ codes "leafbridge") × (fields ≢ codes "0"))
+    ⊎ ((kind ≡ codes "bridge") × (sort ≡ codes "framework"))
 
 -- a kind stands beside what it doesn't allow
 abbrev pub Clashes : Operation → List (List ℕ) → Type 0
@@ -58,7 +61,8 @@ PlacesHave o places words cause.Kind = HasAtSome cause.Kind places words ⊎ Cla
 PlacesHave o places words _ = ⊥
 
 -- the words begin with a thread and an operation of it; these are its places, and the rest follows
-pub record Reads (words : List (List ℕ)) (t : Thread) (o : Operation) (places : List Place) (rest : List (List ℕ)) : Type 0 where
+pub record Reads (words : List (List ℕ)) (t : Thread) (o : Operation)
+    (places : List Place) (rest : List (List ℕ)) : Type 0 where
   pub thread : IsThread t
   pub form : form_of t o ≡ Some places
   pub begins : words ≡ thread_text t ∷ operation_text o ∷ rest
@@ -74,7 +78,8 @@ pub record ReadsWith (words : List (List ℕ)) (c : Cause) : Type 0 where
 
 -- a cause of a line's words, wherever the line stands
 abbrev pub WordsHave : List (List ℕ) → Cause → Type 0
-WordsHave words cause.Unknown = (t : Thread) (o : Operation) (places : List Place) (rest : List (List ℕ)) → Reads words t o places rest → ⊥
+WordsHave words cause.Unknown = (t : Thread) (o : Operation) (places : List Place) (rest : List (List ℕ))
+    → Reads words t o places rest → ⊥
 WordsHave words c = ReadsWith words c
 
 -- a line where it stands: its words, its number, how many lines before it are `c cycle` or `c snap`, and how

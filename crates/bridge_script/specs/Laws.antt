@@ -22,7 +22,8 @@ HasFullText = (s : List (Thread × Act)) → IsScript s → IsText (script_text_
 
 -- and at most one more, which is the same without its last newline
 abbrev pub HasAtMostOneMore : Type 0
-HasAtMostOneMore = (bytes : List ℕ) (s : List (Thread × Act)) → IsText bytes s → (bytes ≡ script_text_of s) ⊎ (bytes ++ 10 ∷ [] ≡ script_text_of s)
+HasAtMostOneMore = (bytes : List ℕ) (s : List (Thread × Act)) → IsText bytes s
+    → (bytes ≡ script_text_of s) ⊎ (bytes ++ 10 ∷ [] ≡ script_text_of s)
 
 -- bytes with a faulty line are a text of no script
 abbrev pub FaultExcludesScript : Type 0
@@ -34,7 +35,8 @@ HasOneFault = (bytes : List ℕ) (f g : ScriptFault) → IsFault bytes f → IsF
 
 -- a line of a script has no cause where it stands
 abbrev pub ScriptHasNoCause : Type 0
-ScriptHasNoCause = (bytes : List ℕ) (before : List (Thread × Act)) (next : Thread × Act) → IsScript (before ++ next ∷ []) → end_of bytes (script_text_of before) (line_text next) ≤ 8388608
+ScriptHasNoCause = (bytes : List ℕ) (before : List (Thread × Act)) (next : Thread × Act)
+    → IsScript (before ++ next ∷ []) → end_of bytes (script_text_of before) (line_text next) ≤ 8388608
     → (c : Cause) → Has (standing bytes before (line_text next)) c → ⊥
 
 -- a line fits the table of operations: its thread has the operation, and the words behind it have no cause at the

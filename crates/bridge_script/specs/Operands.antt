@@ -1,6 +1,7 @@
 -- The operands that stand at the places of a line, the texts of which are the line's words, and the act that an
 -- operation with operands is. Nothing outside of this crate rests on them.
-use Rattle.std.specs.Prelude.{min, ◌≡◌, ◌≢◌, ℕ, ◌≤◌, ◌^◌, ◌<◌, ◌++◌, List, [], ◌∷◌, length, map, decimal, Option, Some, None, option_map, Result, Ok, Err, MatchResult, cond, leb}
+use Rattle.std.specs.Prelude.{min, ◌≡◌, ◌≢◌, ℕ, ◌≤◌, ◌^◌, ◌<◌, ◌++◌, List, [], ◌∷◌, length, map, decimal, Option, Some}
+use Rattle.std.specs.Prelude.{None, option_map, Result, Ok, Err, MatchResult, cond, leb}
 use Rattle.joint_machine.specs.declared.names.Kind.{Kind}
 use Rattle.joint_machine.specs.declared.names.Kind.TheVariants as kind
 use Rattle.joint_machine.specs.declared.names.StaticNo.{StaticNo}
@@ -15,7 +16,8 @@ use Rattle.bridge_script.specs.declared.grammar.Place.{Place}
 use Rattle.bridge_script.specs.declared.grammar.Place.TheVariants as place
 use Rattle.bridge_script.specs.declared.operands.Operand.{Operand}
 use Rattle.bridge_script.specs.declared.operands.Operand.TheVariants as operand
-use Rattle.bridge_script.specs.Words.{var_text, optional_text, managed_static, peer_static, global_text, cell_text, kind_text, sort_text}
+use Rattle.bridge_script.specs.Words.{var_text, optional_text, managed_static, peer_static, global_text, cell_text}
+use Rattle.bridge_script.specs.Words.{kind_text, sort_text}
 use Rattle.bridge_script.specs.Causes.{cause_number}
 use Rattle.bridge_script.specs.Faults.{HasAt, HasAtSome, IsFirst}
 
@@ -68,7 +70,8 @@ StandAll _ _ = ⊥
 
 -- what reading a word at a place answers: the operand that has this word, or the one cause of the word
 abbrev pub ReadsAt : Place → List ℕ → Result Operand Cause → Type 0
-ReadsAt p word result = MatchResult result (λ v. StandsAt p v × (operand_text v ≡ word)) (λ c. HasAt c p word × ((d : Cause) → HasAt d p word → d ≡ c))
+ReadsAt p word result = MatchResult result (λ v. StandsAt p v × (operand_text v ≡ word))
+    (λ c. HasAt c p word × ((d : Cause) → HasAt d p word → d ≡ c))
 
 -- a cause of words at places, whatever the operation
 abbrev pub HasAtPlaces : List Place → List (List ℕ) → Cause → Type 0
@@ -77,7 +80,8 @@ HasAtPlaces places words c = HasAtSome c places words
 
 -- what reading words at places answers: the operands that have these words, or the first cause
 abbrev pub ReadsPlaces : List Place → List (List ℕ) → Result (List Operand) Cause → Type 0
-ReadsPlaces places words result = MatchResult result (λ operands. StandAll places operands × (texts operands ≡ words)) (λ c. IsFirst (HasAtPlaces places words) c)
+ReadsPlaces places words result = MatchResult result
+    (λ operands. StandAll places operands × (texts operands ≡ words)) (λ c. IsFirst (HasAtPlaces places words) c)
 
 -- the first of the causes that were found
 abbrev pub earlier : Option Cause → Cause → Cause
@@ -143,7 +147,8 @@ act_of_three _ _ _ _ = None
 
 -- the act of an operation with five operands
 abbrev pub act_of_five : Operation → Operand → Operand → Operand → Operand → Operand → Option Act
-act_of_five operation.Bridge (operand.Var v) (operand.Kind k) (operand.Number n) (operand.Sort s) (operand.Number f) = Some (act.Bridge v k (byte n) s (byte f))
+act_of_five operation.Bridge (operand.Var v) (operand.Kind k) (operand.Number n)
+    (operand.Sort s) (operand.Number f) = Some (act.Bridge v k (byte n) s (byte f))
 act_of_five _ _ _ _ _ _ = None
 
 -- the act of an operation with operands

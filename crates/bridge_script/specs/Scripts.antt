@@ -1,6 +1,7 @@
 -- Which bytes are a script, and which of their lines is the first that is none.
 -- Believed: the clauses of the program's top call rest on all that stands here.
-use Rattle.std.specs.Prelude.{◌≡◌, ◌≢◌, ℕ, ◌+◌, ◌≤◌, ◌<◌, ◌⊎◌, min, Bool, true, false, List, [], ◌∷◌, ◌++◌, length, All, count_by}
+use Rattle.std.specs.Prelude.{◌≡◌, ◌≢◌, ℕ, ◌+◌, ◌≤◌, ◌<◌, ◌⊎◌, min, Bool, true, false, List, [], ◌∷◌, ◌++◌, length, All}
+use Rattle.std.specs.Prelude.{count_by}
 use Rattle.joint_machine.specs.declared.names.Thread.{Thread}
 use Rattle.joint_machine.specs.declared.names.Thread.TheVariants.{C}
 use Rattle.joint_machine.specs.declared.names.PhaseWord.TheVariants as phase
@@ -52,7 +53,12 @@ end_of bytes before line = min (length before + length line + 1) (length bytes)
 
 -- a line where it stands: behind the lines `before` it, in these bytes
 abbrev pub standing : List ℕ → List (Thread × Act) → List ℕ → PlacedLine
-standing bytes before line = record { words = words_of line; number = length before + 1; cycles = cycles_of before; end = end_of bytes (script_text_of before) line }
+standing bytes before line = record {
+  words = words_of line;
+  number = length before + 1;
+  cycles = cycles_of before;
+  end = end_of bytes (script_text_of before) line;
+}
 
 -- the fault names the first line that is no line of a script, and its first cause: the lines `before` it are a
 -- script's, and it has at least one byte, its newline counted

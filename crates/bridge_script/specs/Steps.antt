@@ -1,6 +1,7 @@
 -- What the steps of reading a script promise each other: the words of a line, the line that comes next, and
 -- where a line ends. Nothing outside of this crate rests on them.
-use Rattle.std.specs.Prelude.{take, drop, slice_range, ◌≡◌, ◌≢◌, ℕ, ◌+◌, ◌≤◌, List, [], ◌∷◌, ◌++◌, length, Result, MatchResult, All}
+use Rattle.std.specs.Prelude.{take, drop, slice_range, ◌≡◌, ◌≢◌, ℕ, ◌+◌, ◌≤◌, List, [], ◌∷◌, ◌++◌, length, Result}
+use Rattle.std.specs.Prelude.{MatchResult, All}
 use Rattle.joint_machine.specs.declared.names.Thread.{Thread}
 use Rattle.joint_machine.specs.declared.lines.Act.{Act}
 use Rattle.bridge_script.specs.declared.faults.Cause.{Cause}
@@ -13,7 +14,8 @@ use Rattle.bridge_script.specs.Scripts.{IsScriptLine, IsScript, cycles_of}
 
 -- what a reader of a line's text answers: the line that has the text, or its words' first cause
 abbrev pub ReadsLine : List ℕ → Result (Thread × Act) Cause → Type 0
-ReadsLine text result = MatchResult result (λ line. IsScriptLine line × (line_text line ≡ text)) (λ c. IsFirst (WordsHave (words_of text)) c)
+ReadsLine text result = MatchResult result (λ line. IsScriptLine line × (line_text line ≡ text))
+    (λ c. IsFirst (WordsHave (words_of text)) c)
 
 -- a list of lines grew by one line, which has that text and ends at a byte within the limit
 pub record GainsLine (old new : List (Thread × Act)) (text : List ℕ) (end : ℕ) : Type 0 where
@@ -38,4 +40,5 @@ pub record EndsLine (bytes : List ℕ) (at end : ℕ) : Type 0 where
   pub from : at ≤ end
   pub within : end ≤ length bytes
   pub whole : All (λ b. b ≢ 10) (slice_range bytes at end)
-  pub stands : bytes ++ 10 ∷ [] ≡ take at (bytes ++ 10 ∷ []) ++ (slice_range bytes at end ++ 10 ∷ drop (end + 1) (bytes ++ 10 ∷ []))
+  pub stands : bytes ++ 10 ∷ [] ≡ take at
+      (bytes ++ 10 ∷ []) ++ (slice_range bytes at end ++ 10 ∷ drop (end + 1) (bytes ++ 10 ∷ []))

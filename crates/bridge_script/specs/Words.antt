@@ -81,7 +81,8 @@ phase_word_text phase.Resolve = codes "resolve"
 -- the words of a line after its thread
 abbrev pub act_words : Thread → Act → List (List ℕ)
 act_words t (act.New v kind fields) = codes "new" ∷ var_text v ∷ kind_text kind ∷ decimal fields ∷ []
-act_words t (act.Bridge v kind fields sort peer_fields) = codes "bridge" ∷ var_text v ∷ kind_text kind ∷ decimal fields ∷ sort_text sort ∷ decimal peer_fields ∷ []
+act_words t (act.Bridge v kind fields sort peer_fields) = codes "bridge" ∷ var_text
+    v ∷ kind_text kind ∷ decimal fields ∷ sort_text sort ∷ decimal peer_fields ∷ []
 act_words t (act.Copy v w) = codes "copy" ∷ var_text v ∷ var_text w ∷ []
 act_words t (act.Set v i w) = codes "set" ∷ var_text v ∷ decimal i ∷ optional_text w ∷ []
 act_words t (act.Get v w i) = codes "get" ∷ var_text v ∷ var_text w ∷ decimal i ∷ []

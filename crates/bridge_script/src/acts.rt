@@ -2,7 +2,8 @@
 
 ghost use Rattle.std.specs.Prelude.{◌+◌, ◌≤◌, [], ◌∷◌, codes, decimal, length};
 ghost use Rattle.byte_streams.specs.Drafts.{AddsText, AddsWords};
-ghost use Rattle.bridge_script.specs.Words.{thread_text, act_words, line_text, var_text, optional_text, kind_text, sort_text, cell_text, global_text, own_static, peer_static};
+ghost use Rattle.bridge_script.specs.Words.{thread_text, act_words, line_text, var_text, optional_text, kind_text};
+ghost use Rattle.bridge_script.specs.Words.{sort_text, cell_text, global_text, own_static, peer_static};
 
 use crate::names::{
     add_cell, add_global, add_kind, add_optional, add_own_static, add_peer_static, add_phase_word,
@@ -82,7 +83,8 @@ fn add_new(line: &mut Line, v: Var, kind: Kind, fields: u8)
 // `bridge V KIND N SORT F`.
 fn add_bridge(line: &mut Line, v: Var, kind: Kind, fields: u8, sort: Sort, peer_fields: u8)
     requires { 80 ≤ line.old.room }
-    ensures { AddsWords line.old line.new (codes "bridge" ∷ var_text v ∷ kind_text kind ∷ decimal fields ∷ sort_text sort ∷ decimal peer_fields ∷ []) 80 }
+    ensures { AddsWords line.old line.new
+        (codes "bridge" ∷ var_text v ∷ kind_text kind ∷ decimal fields ∷ sort_text sort ∷ decimal peer_fields ∷ []) 80 }
 {
     line.word(*b"bridge");
     add_var(line, v);

@@ -85,7 +85,9 @@ pub type Form = (Operation, &'static [Place]);
 
 /// The operation that a word asks for of a thread, and its places. None where the thread has no such operation.
 pub fn form_of(thread: Thread, word: &[u8]) -> Option<Form>
-    ensures { MatchOption result ((o : Operation) (places : List Place) → form_of thread o ≡ Some places → operation_text o ≢ word.now) (λ row. (form_of thread row.0 ≡ Some row.1.now) × (operation_text row.0 ≡ word.now)) }
+    ensures { MatchOption result ((o : Operation) (places : List Place) → form_of thread o ≡ Some places
+        → operation_text o ≢ word.now) (λ row. (form_of thread row.0 ≡ Some row.1.now)
+        × (operation_text row.0 ≡ word.now)) }
 {
     match thread {
         Thread::M(_) => managed_form(word),
@@ -96,7 +98,9 @@ pub fn form_of(thread: Thread, word: &[u8]) -> Option<Form>
 
 // The rows of a managed thread.
 fn managed_form(word: &[u8]) -> Option<Form>
-    ensures { MatchOption result ((o : Operation) (places : List Place) → managed_form o ≡ Some places → operation_text o ≢ word.now) (λ row. (managed_form row.0 ≡ Some row.1.now) × (operation_text row.0 ≡ word.now)) }
+    ensures { MatchOption result ((o : Operation) (places : List Place) → managed_form o ≡ Some places
+        → operation_text o ≢ word.now) (λ row. (managed_form row.0 ≡ Some row.1.now)
+        × (operation_text row.0 ≡ word.now)) }
 {
     if is_same(word, b"new") {
         return Some((Operation::New, &[Place::Var, Place::PlainKind, FIELDS]));
@@ -154,7 +158,8 @@ fn managed_form(word: &[u8]) -> Option<Form>
 
 // The rows of a peer thread.
 fn peer_form(word: &[u8]) -> Option<Form>
-    ensures { MatchOption result ((o : Operation) (places : List Place) → peer_form o ≡ Some places → operation_text o ≢ word.now) (λ row. (peer_form row.0 ≡ Some row.1.now) × (operation_text row.0 ≡ word.now)) }
+    ensures { MatchOption result ((o : Operation) (places : List Place) → peer_form o ≡ Some places
+        → operation_text o ≢ word.now) (λ row. (peer_form row.0 ≡ Some row.1.now) × (operation_text row.0 ≡ word.now)) }
 {
     if is_same(word, b"copy") {
         return Some((Operation::Copy, &[Place::Var, Place::Var]));
@@ -206,7 +211,8 @@ fn peer_form(word: &[u8]) -> Option<Form>
 
 // The rows of the driver.
 fn driver_form(word: &[u8]) -> Option<Form>
-    ensures { MatchOption result ((o : Operation) (places : List Place) → driver_form o ≡ Some places → operation_text o ≢ word.now) (λ row. (driver_form row.0 ≡ Some row.1.now) × (operation_text row.0 ≡ word.now)) }
+    ensures { MatchOption result ((o : Operation) (places : List Place) → driver_form o ≡ Some places
+        → operation_text o ≢ word.now) (λ row. (driver_form row.0 ≡ Some row.1.now) × (operation_text row.0 ≡ word.now)) }
 {
     if is_same(word, b"cycle") {
         return Some((Operation::Phase(PhaseWord::Cycle), &[]));

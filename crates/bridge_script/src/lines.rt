@@ -1,13 +1,15 @@
 // What a line of a script asks for, by its words, or what is wrong with them.
 
-ghost use Rattle.std.specs.Prelude.{◌≡◌, ◌≢◌, ◌∷◌, ◌++◌, ◌≤◌, ℕ, true, min, length, List, Option, Some, IfSome, MatchBool, MatchOption};
+ghost use Rattle.std.specs.Prelude.{◌≡◌, ◌≢◌, ◌∷◌, ◌++◌, ◌≤◌, ℕ, true, min, length, List, Option, Some, IfSome};
+ghost use Rattle.std.specs.Prelude.{MatchBool, MatchOption};
 ghost use Rattle.joint_machine.specs.Lines.{IsPlainObject, IsBridgeObject, IsThread, IsLine};
 ghost use Rattle.joint_machine.specs.declared.lines.Act.{Act};
 ghost use Rattle.bridge_script.specs.declared.grammar.Operation.{Operation};
 ghost use Rattle.bridge_script.specs.declared.grammar.Place.{Place};
 ghost use Rattle.bridge_script.specs.Words.{act_words};
 ghost use Rattle.bridge_script.specs.Grammar.{operation_text, form_of};
-ghost use Rattle.bridge_script.specs.Operands.{IsPossible, act_at, act_alone, static_of, act_of_one, act_of_two, act_of_three, act_of_five};
+ghost use Rattle.bridge_script.specs.Operands.{IsPossible, act_at, act_alone, static_of, act_of_one, act_of_two};
+ghost use Rattle.bridge_script.specs.Operands.{act_of_three, act_of_five};
 ghost use Rattle.bridge_script.specs.Steps.{ReadsLine};
 
 use crate::faults::Cause;
@@ -44,7 +46,8 @@ pub fn read_line(text: Stretch) -> Result<(Thread, Act), Cause>
 pub fn take_act(thread: Thread, words: &mut Words) -> Option<Act>
     requires { IsThread thread }
     ensures sound { IfSome result (λ a. IsLine thread a × (words.old ≡ act_words thread a ++ words.new)) }
-    ensures complete { (a : Act) (rest : List (List ℕ)) → IsLine thread a → words.old ≡ act_words thread a ++ rest → (result ≡ Some a) × (words.new ≡ rest) }
+    ensures complete { (a : Act) (rest : List (List ℕ)) → IsLine thread a
+        → words.old ≡ act_words thread a ++ rest → (result ≡ Some a) × (words.new ≡ rest) }
 {
     let (operation, places) = take_row(thread, words)?;
     let operands = take_operands(places, words)?;
@@ -53,7 +56,10 @@ pub fn take_act(thread: Thread, words: &mut Words) -> Option<Act>
 
 // Takes the word of an operation of a thread, and answers its row of the table. None where the next word asks for none.
 fn take_row(thread: Thread, words: &mut Words) -> Option<Form>
-    ensures { MatchOption result ((o : Operation) (places : List Place) (rest : List (List ℕ)) → form_of thread o ≡ Some places → words.old ≢ operation_text o ∷ rest) (λ row. (form_of thread row.0 ≡ Some row.1.now) × (words.old ≡ operation_text row.0 ∷ words.new) × (length row.1.now ≤ 5)) }
+    ensures { MatchOption result ((o : Operation) (places : List Place) (rest : List (List ℕ))
+        → form_of thread o ≡ Some places → words.old ≢ operation_text o ∷ rest)
+        (λ row. (form_of thread row.0 ≡ Some row.1.now)
+        × (words.old ≡ operation_text row.0 ∷ words.new) × (length row.1.now ≤ 5)) }
 {
     form_of(thread, words.next()?)
 }
@@ -61,7 +67,8 @@ fn take_row(thread: Thread, words: &mut Words) -> Option<Form>
 // The act of an operation with these operands at its places. None where they can't stand there, or not beside each
 // other.
 fn possible_act(operation: Operation, operands: &[Operand]) -> Option<Act>
-    ensures { MatchOption result ((a : Act) → act_at operation operands.now ≡ Some a → IsPossible a → ⊥) (λ a. (act_at operation operands.now ≡ Some a) × IsPossible a) }
+    ensures { MatchOption result ((a : Act) → act_at operation operands.now ≡ Some a → IsPossible a → ⊥)
+        (λ a. (act_at operation operands.now ≡ Some a) × IsPossible a) }
 {
     let act = act_of(operation, operands)?;
     if is_possible(&act) { Some(act) } else { None }

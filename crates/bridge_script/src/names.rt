@@ -2,7 +2,8 @@
 
 ghost use Rattle.std.specs.Prelude.{◌≤◌, ◌∷◌};
 ghost use Rattle.byte_streams.specs.Drafts.{AddsText};
-ghost use Rattle.bridge_script.specs.Words.{var_text, optional_text, kind_text, sort_text, peer_static, own_static, global_text, cell_text, phase_word_text};
+ghost use Rattle.bridge_script.specs.Words.{var_text, optional_text, kind_text, sort_text, peer_static, own_static};
+ghost use Rattle.bridge_script.specs.Words.{global_text, cell_text, phase_word_text};
 
 use byte_streams::Line;
 use joint_model::{Cell, GName, Kind, PhaseWord, Sort, StaticNo, Thread, Var};

@@ -195,7 +195,8 @@ pub fn read_operands(places: &[Place], words: &mut Words) -> Result<Operands, Ca
 pub fn take_operands(places: &[Place], words: &mut Words) -> Option<Operands>
     requires { length places.now ≤ 5 }
     ensures sound { IfSome result (λ xs. StandAll places.now xs × (words.old ≡ texts xs ++ words.new)) }
-    ensures complete { (xs : List Operand) (rest : List (List ℕ)) → StandAll places.now xs → words.old ≡ texts xs ++ rest → (result ≡ Some xs) × (words.new ≡ rest) }
+    ensures complete { (xs : List Operand) (rest : List (List ℕ)) → StandAll places.now xs
+        → words.old ≡ texts xs ++ rest → (result ≡ Some xs) × (words.new ≡ rest) }
 {
     let mut operands = Operands::new();
     for place in places {

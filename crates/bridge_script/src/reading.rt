@@ -16,7 +16,8 @@ use std::alloc::Global;
 /// other answer is what [`parse`] gives of the bytes that were taken.
 pub fn read_script<S: Source>(alloc: Global, src: &mut S) -> Result<Script, ScriptError>
     ensures ok { IfOk result (λ script. TookScript (S.left src.old) (S.left src.new) script) }
-    ensures err { IfErr result (λ error. IsNoScript (S.left src.old) (S.left src.new) (S.faults src.old) (S.faults src.new) error) }
+    ensures err { IfErr result (λ error. IsNoScript (S.left src.old)
+        (S.left src.new) (S.faults src.old) (S.faults src.new) error) }
     ensures later { S.faults src.old ≤ S.faults src.new }
 {
     match read_up_to(alloc, src, MOST_BYTES) {

@@ -1,6 +1,7 @@
 // A script: its lines, and which bytes are one.
 
-ghost use Rattle.std.specs.Prelude.{◌≡◌, ℕ, List, ◌+◌, ◌≤◌, ◌<◌, ◌==◌, [], cond, slice_get, length, IfOk, IfErr, IfSome, MatchResult};
+ghost use Rattle.std.specs.Prelude.{◌≡◌, ℕ, List, ◌+◌, ◌≤◌, ◌<◌, ◌==◌, [], cond, slice_get, length, IfOk, IfErr};
+ghost use Rattle.std.specs.Prelude.{IfSome, MatchResult};
 ghost use Rattle.joint_machine.specs.Lines.{IsLine};
 ghost use Rattle.bridge_script.specs.declared.faults.ScriptError.{ScriptError};
 ghost use Rattle.bridge_script.specs.Scripts.{IsScript, IsScriptLine, IsText, cycles_of, is_cycle};
@@ -112,7 +113,8 @@ impl Script {
     // that has a cause, with the first of them.
     fn grow(&mut self, read: Result<(Thread, Act), Cause>, end: usize) -> Result<(), ScriptError>
         requires { IfOk read (λ line. IsScriptLine line) }
-        ensures { (text : List ℕ) → ReadsLine text read → MatchResult result (λ _. GainsLine self.old self.new text end) (λ error. Stops self.old text end error) }
+        ensures { (text : List ℕ) → ReadsLine text read
+            → MatchResult result (λ _. GainsLine self.old self.new text end) (λ error. Stops self.old text end error) }
     {
         if end > MOST_BYTES {
             return Err(self.refusal(Cause::Bytes));

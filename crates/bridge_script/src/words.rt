@@ -2,7 +2,9 @@
 
 ghost use Rattle.std.specs.Prelude.{◌≡◌, ◌≢◌, ℕ, ◌<◌, ◌≤◌, List, ◌∷◌, Option, MatchOption, decimal};
 ghost use Rattle.joint_machine.specs.Lines.{IsThread, IsVar, IsVarOrNone};
-ghost use Rattle.bridge_script.specs.Words.{thread_text, var_text, optional_text, managed_static as managed_static_text, peer_static as peer_static_text, global_text, cell_text};
+ghost use Rattle.bridge_script.specs.Words.{thread_text, var_text, optional_text};
+ghost use Rattle.bridge_script.specs.Words.{managed_static as managed_static_text, peer_static as peer_static_text};
+ghost use Rattle.bridge_script.specs.Words.{global_text, cell_text};
 ghost use Rattle.joint_machine.specs.declared.names.Thread.{Thread};
 ghost use Rattle.joint_machine.specs.declared.names.Var.{Var};
 ghost use Rattle.joint_machine.specs.declared.names.StaticNo.{StaticNo};
@@ -14,35 +16,40 @@ use text_words::{Words, is_same, lettered};
 
 /// The static of the managed heap that a word names: `g0` to `g15`.
 pub fn managed_static(word: &[u8]) -> Option<StaticNo>
-    ensures { MatchOption result ((x : StaticNo) → x.0 < 16 → managed_static_text x ≢ word.now) (λ x. (x.0 < 16) × (managed_static_text x ≡ word.now)) }
+    ensures { MatchOption result ((x : StaticNo) → x.0 < 16 → managed_static_text x ≢ word.now)
+        (λ x. (x.0 < 16) × (managed_static_text x ≡ word.now)) }
 {
     Some(StaticNo(lettered(word, b'g', 16)? as u8))
 }
 
 /// The static of the peer heap that a word names: `s0` to `s15`.
 pub fn peer_static(word: &[u8]) -> Option<StaticNo>
-    ensures { MatchOption result ((x : StaticNo) → x.0 < 16 → peer_static_text x ≢ word.now) (λ x. (x.0 < 16) × (peer_static_text x ≡ word.now)) }
+    ensures { MatchOption result ((x : StaticNo) → x.0 < 16 → peer_static_text x ≢ word.now)
+        (λ x. (x.0 < 16) × (peer_static_text x ≡ word.now)) }
 {
     Some(StaticNo(lettered(word, b's', 16)? as u8))
 }
 
 /// The global name that a word is: `G0` to `G63`.
 pub fn global(word: &[u8]) -> Option<GName>
-    ensures { MatchOption result ((g : GName) → g.0 < 64 → global_text g ≢ word.now) (λ g. (g.0 < 64) × (global_text g ≡ word.now)) }
+    ensures { MatchOption result ((g : GName) → g.0 < 64 → global_text g ≢ word.now)
+        (λ g. (g.0 < 64) × (global_text g ≡ word.now)) }
 {
     Some(GName(lettered(word, b'G', 64)? as u8))
 }
 
 /// The weak cell that a word names: `k0` to `k63`.
 pub fn cell(word: &[u8]) -> Option<Cell>
-    ensures { MatchOption result ((k : Cell) → k.0 < 64 → cell_text k ≢ word.now) (λ k. (k.0 < 64) × (cell_text k ≡ word.now)) }
+    ensures { MatchOption result ((k : Cell) → k.0 < 64 → cell_text k ≢ word.now)
+        (λ k. (k.0 < 64) × (cell_text k ≡ word.now)) }
 {
     Some(Cell(lettered(word, b'k', 64)? as u8))
 }
 
 /// The thread that a word names: `m1` to `m8`, `p1` to `p8`, `c`.
 pub fn thread(word: &[u8]) -> Option<Thread>
-    ensures { MatchOption result ((t : Thread) → IsThread t → thread_text t ≢ word.now) (λ t. IsThread t × (thread_text t ≡ word.now)) }
+    ensures { MatchOption result ((t : Thread) → IsThread t → thread_text t ≢ word.now)
+        (λ t. IsThread t × (thread_text t ≡ word.now)) }
 {
     if is_same(word, b"c") {
         return Some(Thread::C);
@@ -58,7 +65,8 @@ pub fn thread(word: &[u8]) -> Option<Thread>
 
 // The number of a thread, 1 to 8, behind its letter.
 fn thread_number(word: &[u8], letter: u8) -> Option<u8>
-    ensures { MatchOption result ((n : ℕ) → 1 ≤ n → n ≤ 8 → letter ∷ decimal n ≢ word.now) (λ n. (1 ≤ n) × (n ≤ 8) × (letter ∷ decimal n ≡ word.now)) }
+    ensures { MatchOption result ((n : ℕ) → 1 ≤ n → n ≤ 8 → letter ∷ decimal n ≢ word.now)
+        (λ n. (1 ≤ n) × (n ≤ 8) × (letter ∷ decimal n ≡ word.now)) }
 {
     match lettered(word, letter, 9) {
         Some(n) if n > 0 => Some(n as u8),
@@ -68,7 +76,8 @@ fn thread_number(word: &[u8], letter: u8) -> Option<u8>
 
 /// The variable that a word names: `a` to `h`.
 pub fn var(word: &[u8]) -> Option<Var>
-    ensures { MatchOption result ((v : Var) → IsVar v → var_text v ≢ word.now) (λ v. IsVar v × (var_text v ≡ word.now)) }
+    ensures { MatchOption result ((v : Var) → IsVar v → var_text v ≢ word.now)
+        (λ v. IsVar v × (var_text v ≡ word.now)) }
 {
     if word.len() != 1 || word[0] < b'a' || word[0] > b'h' {
         return None;
@@ -78,7 +87,8 @@ pub fn var(word: &[u8]) -> Option<Var>
 
 /// The variable that a word names, or none for the word `-`.
 pub fn optional(word: &[u8]) -> Option<Option<Var>>
-    ensures { MatchOption result ((v : Option Var) → IsVarOrNone v → optional_text v ≢ word.now) (λ v. IsVarOrNone v × (optional_text v ≡ word.now)) }
+    ensures { MatchOption result ((v : Option Var) → IsVarOrNone v → optional_text v ≢ word.now)
+        (λ v. IsVarOrNone v × (optional_text v ≡ word.now)) }
 {
     if is_same(word, b"-") {
         return Some(None);
@@ -88,7 +98,8 @@ pub fn optional(word: &[u8]) -> Option<Option<Var>>
 
 /// Takes a thread; None where the next word is none.
 pub fn take_thread(words: &mut Words) -> Option<Thread>
-    ensures { MatchOption result ((t : Thread) (rest : List (List ℕ)) → IsThread t → words.old ≢ thread_text t ∷ rest) (λ t. IsThread t × (words.old ≡ thread_text t ∷ words.new)) }
+    ensures { MatchOption result ((t : Thread) (rest : List (List ℕ)) → IsThread t → words.old ≢ thread_text t ∷ rest)
+        (λ t. IsThread t × (words.old ≡ thread_text t ∷ words.new)) }
 {
     thread(words.next()?)
 }

@@ -71,5 +71,6 @@ carry_on old digits i j k h l b n s e p =
       m = c.m / 10;
       small = omega (arith, c.small);
       front = take-set digits j 48 ∙ (last.0 ∙ tens.1);
-      whole = c.whole ∙ (ap (λ t. t ++ drop (j + 1) digits) (carried c.m tens.0 (omega (arith, c.small)) nine) ∙ (append_assoc (decimal (c.m / 10 + 1)) (48 ∷ []) (drop (j + 1) digits) ∙ ap (λ t. decimal (c.m / 10 + 1) ++ t) (sym (drop-set digits j 48 l))));
+      whole = c.whole ∙ (ap (λ t. t ++ drop (j + 1) digits) (carried c.m tens.0 (omega (arith, c.small)) nine)
+          ∙ (append_assoc (decimal (c.m / 10 + 1)) (48 ∷ []) (drop (j + 1) digits) ∙ ap (λ t. decimal (c.m / 10 + 1) ++ t) (sym (drop-set digits j 48 l))));
     }

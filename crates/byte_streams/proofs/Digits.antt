@@ -1,7 +1,8 @@
 -- The decimal of a number from 10 on is the decimal of its tenth part, rounded down, and one digit more. So a number
 -- below 100 has its tens and its ones, which a table holds for each, and a longer one the decimal of its hundredth part
 -- and two digits more.
-use Rattle.std.proofs.Common.{◌≡◌, ℕ, zero, suc, ◌+◌, ◌-◌, ◌*◌, ◌/◌, ◌%◌, ◌^◌, ◌<◌, ◌≤◌, Bool, true, ◌&&◌, T, eqb, [], ◌∷◌, ◌++◌, get_or, decimal, arith, eq-zero-or-pos, eqb→eq, inl, inr, append_assoc}
+use Rattle.std.proofs.Common.{◌≡◌, ℕ, zero, suc, ◌+◌, ◌-◌, ◌*◌, ◌/◌, ◌%◌, ◌^◌, ◌<◌, ◌≤◌, Bool, true, ◌&&◌, T, eqb, [], ◌∷◌, ◌++◌, get_or, decimal, arith, eq-zero-or-pos, eqb→eq, inl, inr}
+use Rattle.std.proofs.Common.{append_assoc}
 use lib.Ieee.Fits.{and_l, and_r}
 use Rattle.std.proofs.lemmas.Fmt.{decimal_digit, decimal_step}
 use Rattle.byte_streams.specs.declared.drafts.TheConstants.{PAIRS}

@@ -22,7 +22,13 @@ pub Writes-after : {E : Type 0} (a b c : Option (List ℕ)) (f g k : ℕ) (r : R
 Writes-after a b c f g k (Ok u) x y p l w = record { whole = Appends-then a b c x y p w.whole; part = tt; cause = record { later = omega (arith, w.cause.later); failed = tt } }
 Writes-after a b c f g k (Err e) x y p l w = record {
   whole = tt;
-  part = record { part = x ++ w.part.part; rest = w.part.rest; whole = ap (λ t. x ++ t) w.part.whole ∙ sym (append_assoc x w.part.part w.part.rest); appends = Appends-then a b c x w.part.part p w.part.appends };
+  part = record {
+    part = x ++ w.part.part;
+    rest = w.part.rest;
+    whole = ap (λ t. x ++ t) w.part.whole
+        ∙ sym (append_assoc x w.part.part w.part.rest);
+    appends = Appends-then a b c x w.part.part p w.part.appends;
+  };
   cause = record { later = omega (arith, w.cause.later); failed = omega (arith, w.cause.failed) };
 }
 
@@ -54,7 +60,8 @@ pub Sends-put : {E : Type 0} (a b : Option (List ℕ)) (p q r : List ℕ) (f g :
 Sends-put a b p q r f g u x y v l e = record { whole = BuffersText-put a b p q r x y v e; part = tt; cause = record { later = l; failed = tt } }
 
 -- what was written after a text that was written
-pub Sends-after : {E : Type 0} (a b c : Option (List ℕ)) (p q r : List ℕ) (f g k : ℕ) (z : Result (Unit {0}) E) (x y : List ℕ) → BuffersText a b p q x → f ≤ g → Sends b c q r g k z y → Sends a c p r f k z (x ++ y)
+pub Sends-after : {E : Type 0} (a b c : Option (List ℕ)) (p q r : List ℕ) (f g k : ℕ) (z : Result (Unit {0}) E) (x y : List ℕ)
+    → BuffersText a b p q x → f ≤ g → Sends b c q r g k z y → Sends a c p r f k z (x ++ y)
 Sends-after a b c p q r f g k (Ok u) x y v l w = record { whole = BuffersText-then a b c p q r x y v w.whole; part = tt; cause = record { later = omega (arith, w.cause.later); failed = tt } }
 Sends-after a b c p q r f g k (Err e) x y v l w = record {
   whole = tt;
@@ -76,7 +83,8 @@ Sends-short a b p q f g e x y w = record {
 }
 
 -- a text that begins with what was written before, and goes on with a piece that failed
-pub Sends-into : {E : Type 0} (a b c : Option (List ℕ)) (p q r : List ℕ) (f g k : ℕ) (z : E) (before piece rest whole : List ℕ) → whole ≡ (before ++ piece) ++ rest → BuffersText a b p q before → f ≤ g → Sends {E = E} b c q r g k (Err z) piece → Sends {E = E} a c p r f k (Err z) whole
+pub Sends-into : {E : Type 0} (a b c : Option (List ℕ)) (p q r : List ℕ) (f g k : ℕ) (z : E) (before piece rest whole : List ℕ)
+    → whole ≡ (before ++ piece) ++ rest → BuffersText a b p q before → f ≤ g → Sends {E = E} b c q r g k (Err z) piece → Sends {E = E} a c p r f k (Err z) whole
 Sends-into a b c p q r f g k z before piece rest whole e v l w = rw e (Sends-short a c p r f k z (before ++ piece) rest (Sends-after a b c p q r f g k (Err z) before piece v l w))
 
 -- room was made behind what was written
@@ -84,7 +92,8 @@ pub BuffersText-room : (a b c : Option (List ℕ)) (p q r x : List ℕ) → Buff
 BuffersText-room a b c p q r x v w = let F : List ℕ → Type 0 = λ t. BuffersText a c p r t in subst F (append-nil x) (BuffersText-then a b c p q r x [] v w)
 
 -- room couldn't be made behind the beginning of a text
-pub Sends-no_room : {E : Type 0} (a b c : Option (List ℕ)) (p q r : List ℕ) (f g k : ℕ) (z : E) (x rest whole : List ℕ) → whole ≡ x ++ rest → BuffersText a b p q x → f ≤ g → Sends {E = E} b c q r g k (Err z) [] → Sends {E = E} a c p r f k (Err z) whole
+pub Sends-no_room : {E : Type 0} (a b c : Option (List ℕ)) (p q r : List ℕ) (f g k : ℕ) (z : E) (x rest whole : List ℕ)
+    → whole ≡ x ++ rest → BuffersText a b p q x → f ≤ g → Sends {E = E} b c q r g k (Err z) [] → Sends {E = E} a c p r f k (Err z) whole
 Sends-no_room a b c p q r f g k z x rest whole e v l w = Sends-into a b c p q r f g k z x [] rest whole (e ∙ ap (λ t. t ++ rest) (sym (append-nil x))) v l w
 
 -- a text of which the rest was pending, and was written

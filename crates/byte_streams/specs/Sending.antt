@@ -10,7 +10,8 @@ pub record BuffersText (old new : Option (List ℕ)) (pending left : List ℕ) (
   pub whole : pending ++ text ≡ sent ++ left
 
 -- the same; or the sink's count of faults rose, and it got a beginning
-pub record Sends {E : Type 0} (old new : Option (List ℕ)) (pending left : List ℕ) (before now : ℕ) (result : Result (Unit {0}) E) (text : List ℕ) : Type 0 where
+pub record Sends {E : Type 0} (old new : Option (List ℕ)) (pending left : List ℕ)
+    (before now : ℕ) (result : Result (Unit {0}) E) (text : List ℕ) : Type 0 where
   pub whole : OnOk result (BuffersText old new pending left text)
   pub part : OnErr result (AppendsPart old new (pending ++ text))
   pub cause : HasCause before now result

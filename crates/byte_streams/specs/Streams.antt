@@ -4,7 +4,8 @@ use Rattle.std.specs.Io.KnownBytes.{Appends}
 use Rattle.byte_streams.specs.Faults.{AppendsPart, HasCause}
 
 -- the whole text was appended; or the sink's count of faults rose, and a beginning was
-pub record Writes {E : Type 0} (old new : Option (List ℕ)) (before now : ℕ) (result : Result (Unit {0}) E) (text : List ℕ) : Type 0 where
+pub record Writes {E : Type 0} (old new : Option (List ℕ)) (before now : ℕ)
+    (result : Result (Unit {0}) E) (text : List ℕ) : Type 0 where
   pub whole : OnOk result (Appends old new text)
   pub part : OnErr result (AppendsPart old new text)
   pub cause : HasCause before now result

@@ -77,7 +77,8 @@ impl Line {
     /// [`Failed`] only where the sink's count of faults rose; then it got a beginning of the text.
     #[inline(always)]
     pub fn make_room<K: Sink>(&mut self, out: &mut K) -> Result<(), Failed>
-        ensures sent { Sends (K.held out.old) (K.held out.new) self.old.text self.new.text (K.faults out.old) (K.faults out.new) result [] }
+        ensures sent { Sends (K.held out.old) (K.held out.new) self.old.text self.new.text
+            (K.faults out.old) (K.faults out.new) result [] }
         ensures room { OnOk result (512 ≤ self.new.room) }
     {
         if SIZE - self.len >= LEAST {
@@ -89,7 +90,8 @@ impl Line {
     /// Gives the sink the text and empties the line. [`Failed`] only where the sink's count of faults rose; then it got
     /// a beginning of the text.
     pub fn flush<K: Sink>(&mut self, out: &mut K) -> Result<(), Failed>
-        ensures written { Writes (K.held out.old) (K.held out.new) (K.faults out.old) (K.faults out.new) result self.old.text }
+        ensures written { Writes (K.held out.old) (K.held out.new)
+            (K.faults out.old) (K.faults out.new) result self.old.text }
         ensures text { OnOk result (self.new.text ≡ []) }
         ensures room { OnOk result (self.new.room ≡ 16384) }
     {

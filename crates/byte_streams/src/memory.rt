@@ -1,6 +1,7 @@
 // Sources and sinks in memory, for tests and for callers that have the bytes at hand.
 
-ghost use Rattle.std.specs.Prelude.{◌≡◌, ℕ, ◌+◌, ◌↔◌, ◌<◌, ◌≤◌, ◌^◌, ◌-◌, [], length, min, take, Some, None, Contains, IsTrue, IsErr, IfOk};
+ghost use Rattle.std.specs.Prelude.{◌≡◌, ℕ, ◌+◌, ◌↔◌, ◌<◌, ◌≤◌, ◌^◌, ◌-◌, [], length, min, take, Some, None, Contains};
+ghost use Rattle.std.specs.Prelude.{IsTrue, IsErr, IfOk};
 ghost use Rattle.std.specs.Io.{ReadsAtMost, WritesAtMost};
 ghost use Rattle.std.specs.Io.KnownBytes.{ReadConsumes, WriteAppends};
 ghost use Rattle.byte_streams.specs.Streams.{next_count};
@@ -44,7 +45,12 @@ impl Model for ByteSource {
 
     ghost Value = { MemorySource };
 
-    ghost view = { λ s. record { left = drop s.at s.bytes.items; faults = s.faults; calls = s.calls; fails = s.fails.items } };
+    ghost view = { λ s. record {
+      left = drop s.at s.bytes.items;
+      faults = s.faults;
+      calls = s.calls;
+      fails = s.fails.items;
+    } };
 
     ghost invariant = { λ s. s.at ≤ length s.bytes.items };
 }
@@ -152,7 +158,13 @@ impl Model for ByteSink {
 
     ghost Value = { MemorySink };
 
-    ghost view = { λ s. record { held = s.held.items; most = s.most; faults = s.faults; calls = s.calls; fails = s.fails.items } };
+    ghost view = { λ s. record {
+      held = s.held.items;
+      most = s.most;
+      faults = s.faults;
+      calls = s.calls;
+      fails = s.fails.items;
+    } };
 
     ghost invariant = { λ s. 1 ≤ s.most };
 }

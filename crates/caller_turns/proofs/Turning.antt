@@ -99,7 +99,8 @@ Next s part d = (h : HNum) → (part.next ≡ Some h) ↔ IsCandidateHandle s (n
 resting : (s : Managed) (part : Part) (d : control.Stand) → part.candidates ≡ length (candidates_of s) → IsResting (stand_of d) part.candidates ↔ IsAtRest d (length (candidates_of s))
 resting s part d many = subst (λ c. IsResting (stand_of d) part.candidates ↔ IsAtRest d c) many (rest-tested d part.candidates)
 
-driver-tested : (s : Managed) (marking : Option Marking) (part : Part) (d : control.Stand) (o : Op) → part.candidates ≡ length (candidates_of s) → part.marking ≡ is_some marking → Next s part d → DriverTurn (stand_of d) part o ↔ order.DriverTurn d s marking o
+driver-tested : (s : Managed) (marking : Option Marking) (part : Part) (d : control.Stand) (o : Op) → part.candidates ≡ length (candidates_of s)
+    → part.marking ≡ is_some marking → Next s part d → DriverTurn (stand_of d) part o ↔ order.DriverTurn d s marking o
 driver-tested s marking part d (op.Line a) many now next = resting s part d many
 driver-tested s marking part d (op.Refused w) many now next = resting s part d many
 driver-tested s marking part (control.weakening o count weakened swept) (op.Weaken h) many now next = (λ z. (z.0, (next h).0 z.1), λ z. (z.0, (next h).1 z.1))
@@ -144,13 +145,16 @@ seen-on : (weakened : Bool) (phase : Phase) → seen_after weakened phase ≡ co
 seen-on weakened at.Weakened = refl
 seen-on weakened phase = refl
 
-stand-on : (d : control.Stand) (n : ℕ) (o : Op) (reply : Reply) (told : Told) (phase : Phase) → TellsPhase o told phase → stand_after (stand_of d) n o phase ≡ stand_of (control.stand_after d n o reply told)
+stand-on : (d : control.Stand) (n : ℕ) (o : Op) (reply : Reply) (told : Told) (phase : Phase)
+    → TellsPhase o told phase → stand_after (stand_of d) n o phase ≡ stand_of (control.stand_after d n o reply told)
 stand-on d n (op.Snap k) reply told phase t = refl
 stand-on (control.snapped q) n (op.Contract k) reply (contraction_of comps heavy xrefs) phase t = refl
 stand-on d n (op.Contract k) reply (contraction_of comps heavy xrefs) phase t = refl
 stand-on d n (op.Contract k) reply told phase t = absurd t
-stand-on (control.weakening q count weakened swept) n (op.Refused w) reply told phase t = ap (λ b. stand_of (control.weakening q count b swept)) (seen-on weakened phase ∙ ap (control.seen_weakened weakened) (sym t))
-stand-on (control.restoring q answers) n (op.Restore h) reply told phase t = ap (λ k. stand.Restoring (open_of q) k) (let e = length-append answers (control.answer_in reply ∷ []) in let f : length answers + 1 ≡ length (answers ++ control.answer_in reply ∷ []) = omega (arith, e) in f)
+stand-on (control.weakening q count weakened swept) n (op.Refused w) reply told phase t = ap
+    (λ b. stand_of (control.weakening q count b swept)) (seen-on weakened phase ∙ ap (control.seen_weakened weakened) (sym t))
+stand-on (control.restoring q answers) n (op.Restore h) reply told phase t = ap (λ k. stand.Restoring (open_of q) k)
+    (let e = length-append answers (control.answer_in reply ∷ []) in let f : length answers + 1 ≡ length (answers ++ control.answer_in reply ∷ []) = omega (arith, e) in f)
 stand-on control.idle n o reply told phase t = refl
 stand-on (control.snapped q) n o reply told phase t = refl
 stand-on (control.contracted q comps heavy xrefs) n o reply told phase t = refl
@@ -195,6 +199,14 @@ done-all ds a = All-members MayBegin (map hand_of ds) (λ x c.
 
 pub whole_tested : WholeIsTested
 whole_tested s candidates e = (
-  λ z. record { threads = all-done s.control.doing z.hands; driver = (subst (λ c. IsResting (stand_of s.control.stand) candidates ↔ IsAtRest s.control.stand c) e (rest-tested s.control.stand candidates)).0 z.driver },
-  λ w. record { hands = done-all s.control.doing w.threads; driver = (subst (λ c. IsResting (stand_of s.control.stand) candidates ↔ IsAtRest s.control.stand c) e (rest-tested s.control.stand candidates)).1 w.driver },
+  λ z. record {
+    threads = all-done s.control.doing z.hands;
+    driver =
+        (subst (λ c. IsResting (stand_of s.control.stand) candidates ↔ IsAtRest s.control.stand c) e (rest-tested s.control.stand candidates)).0 z.driver;
+  },
+  λ w. record {
+    hands = done-all s.control.doing w.threads;
+    driver =
+        (subst (λ c. IsResting (stand_of s.control.stand) candidates ↔ IsAtRest s.control.stand c) e (rest-tested s.control.stand candidates)).1 w.driver;
+  },
 )

@@ -60,7 +60,8 @@ pub record IsPartOf (s : Linkage) (part : Part) : Type 0 where
 
 -- the tests are the first two of an entry
 abbrev pub TurnsAreTested : Type 0
-TurnsAreTested = (s : Linkage) (part : Part) (m : Made) → IsPartOf s part → m.index < 2 ^ 32 → IsTheirTurn (callers_of s.control) part m.caller m.index m.op ↔ IsTurn s m
+TurnsAreTested = (s : Linkage) (part : Part) (m : Made) → IsPartOf s part → m.index < 2 ^ 32
+    → IsTheirTurn (callers_of s.control) part m.caller m.index m.op ↔ IsTurn s m
 
 abbrev pub CitesAreTested : Type 0
 CitesAreTested = (s : Linkage) (m : Made) → CitesIn (callers_of s.control) m.caller m.op m.cites ↔ CitesSo s m
@@ -74,9 +75,11 @@ TellsPhase _ told phase = Unit {0}
 
 -- and what is kept after an entry is what the control has after it
 abbrev pub CallersGoOn : Type 0
-CallersGoOn = (k : Control) (n : ℕ) (t : Thread) (l : ℕ) (o : Op) (reply : Reply) (told : Told) (phase : Phase) → TellsPhase o told phase
+CallersGoOn = (k : Control) (n : ℕ) (t : Thread) (l : ℕ) (o : Op) (reply : Reply) (told : Told) (phase : Phase)
+    → TellsPhase o told phase
     → callers_after (callers_of k) n t l o reply phase ≡ callers_of (control_after k t n l o reply told)
 
 -- nothing has to follow by what is kept exactly where nothing has to in the state
 abbrev pub WholeIsTested : Type 0
-WholeIsTested = (s : Linkage) (candidates : ℕ) → candidates ≡ length (candidates_of s.managed.managed) → AreDone (callers_of s.control) candidates ↔ IsWhole s
+WholeIsTested = (s : Linkage) (candidates : ℕ) → candidates ≡ length (candidates_of s.managed.managed)
+    → AreDone (callers_of s.control) candidates ↔ IsWhole s

@@ -1,5 +1,6 @@
 -- Whose turn it is and what an entry cites, over what is kept of callers.
-use Rattle.std.specs.Prelude.{◌≡◌, ℕ, ◌+◌, ◌<◌, ◌≤◌, ◌⊎◌, Bool, true, false, List, All, slice_set, slice_index, slice_get, Option, Some, None}
+use Rattle.std.specs.Prelude.{◌≡◌, ℕ, ◌+◌, ◌<◌, ◌≤◌, ◌⊎◌, Bool, true, false, List, All, slice_set, slice_index}
+use Rattle.std.specs.Prelude.{slice_get, Option, Some, None}
 use Rattle.joint_machine.specs.declared.names.HNum.{HNum}
 use Rattle.joint_machine.specs.declared.names.Kind.{Kind}
 use Rattle.joint_machine.specs.declared.names.Phase.{Phase}
@@ -98,7 +99,8 @@ BeginTurn (stand.Weakening o count weakened swept) part = (count ≡ part.candid
 BeginTurn _ part = ⊥
 
 abbrev pub SweepTurn : Stand → Part → Type 0
-SweepTurn (stand.Weakening o count weakened swept) part = (count ≡ part.candidates) × (swept ≡ false) × (part.marking ≡ true)
+SweepTurn (stand.Weakening o count weakened swept) part = (count ≡ part.candidates)
+    × (swept ≡ false) × (part.marking ≡ true)
 SweepTurn (stand.Marked o) part = Unit {0}
 SweepTurn _ part = ⊥
 
@@ -146,7 +148,8 @@ LandCites (doing.Lent n line h x) (op.Land h' x') cites = (cites ≡ Some n) × 
 LandCites _ o cites = ⊥
 
 abbrev pub MeetCites : Doing → Op → Option ℕ → Type 0
-MeetCites (doing.Gripped n line p h sort f) (op.Meet v sort' f' p' h') cites = (cites ≡ Some n) × (p'.0 ≡ p.0) × (h'.0 ≡ h.0) × (sort' ≡ sort) × (f' ≡ f)
+MeetCites (doing.Gripped n line p h sort f) (op.Meet v sort' f' p' h') cites = (cites ≡ Some n)
+    × (p'.0 ≡ p.0) × (h'.0 ≡ h.0) × (sort' ≡ sort) × (f' ≡ f)
 MeetCites _ o cites = ⊥
 
 abbrev pub ReleaseCites : Doing → HNum → Option ℕ → Type 0
@@ -207,7 +210,8 @@ stand_after (stand.Contracted o) n (op.Mirror k) phase = stand.Weakening o 0 fal
 stand_after (stand.Weakening o count weakened swept) n (op.Weaken h) phase = stand.Weakening o (count + 1) true swept
 stand_after (stand.Weakening o count weakened swept) n op.Sweep phase = stand.Weakening o count true true
 stand_after (stand.Weakening o count weakened swept) n op.Begin phase = stand.Marked o
-stand_after (stand.Weakening o count weakened swept) n (op.Refused w) phase = stand.Weakening o count (seen_after weakened phase) swept
+stand_after (stand.Weakening o count weakened swept) n
+    (op.Refused w) phase = stand.Weakening o count (seen_after weakened phase) swept
 stand_after (stand.Marked o) n op.Sweep phase = stand.Restoring o 0
 stand_after (stand.Restoring o count) n (op.Restore h) phase = stand.Restoring o (count + 1)
 stand_after (stand.Restoring o count) n (op.Clear k) phase = stand.Restored o n
@@ -217,7 +221,8 @@ stand_after d n _ phase = d
 
 -- what is kept after an entry
 abbrev pub callers_after : Callers → ℕ → Thread → ℕ → Op → Reply → Phase → Callers
-callers_after c n (M t) l o reply phase = record c { hands = slice_set c.hands t (hand_after n l o reply); lines = slice_set c.lines (caller_place (M t)) l }
+callers_after c n (M t) l o reply phase = record c
+    { hands = slice_set c.hands t (hand_after n l o reply); lines = slice_set c.lines (caller_place (M t)) l }
 callers_after c n (P t) l o reply phase = record c { lines = slice_set c.lines (caller_place (P t)) l }
 callers_after c n C l o reply phase = record c { lines = slice_set c.lines 0 l; stand = stand_after c.stand n o phase }
 

@@ -1,7 +1,10 @@
 // The events of the driver, by where it stands.
 
 ghost use Rattle.std.specs.Prelude.{◌≡◌, ◌<◌, ◌↔◌, IsTrue, Some};
-ghost use Rattle.caller_turns.specs.Turns.{BeginTurn, ClearTurn, DriverCites, DriverTurn, HasCount, IsContracted, IsIdle, IsRestored, IsResting, IsSnapped, MayAbandon, MirrorCites, ResolveCites, RestoreTurn, SweepTurn, WeakenCites, WeakenTurn, seen_after, stand_after};
+ghost use Rattle.caller_turns.specs.Turns.{BeginTurn, ClearTurn, DriverCites, DriverTurn, HasCount, IsContracted};
+ghost use Rattle.caller_turns.specs.Turns.{IsIdle, IsRestored, IsResting, IsSnapped, MayAbandon, MirrorCites};
+ghost use Rattle.caller_turns.specs.Turns.{ResolveCites, RestoreTurn, SweepTurn, WeakenCites, WeakenTurn, seen_after};
+ghost use Rattle.caller_turns.specs.Turns.{stand_after};
 
 use crate::hands::cites_entry;
 use crate::stands::{OpenSnap, Part, Stand};

@@ -1,7 +1,8 @@
 // The events of managed threads' operations, by the half that was made.
 
 ghost use Rattle.std.specs.Prelude.{◌≡◌, ◌↔◌, IsTrue, Some, None};
-ghost use Rattle.caller_turns.specs.Turns.{AdoptCites, AdoptTurn, HandCites, HandTurn, LandCites, LandTurn, MayBegin, MeetCites, MeetTurn, ReleaseCites, ReleaseTurn, hand_after};
+ghost use Rattle.caller_turns.specs.Turns.{AdoptCites, AdoptTurn, HandCites, HandTurn, LandCites, LandTurn, MayBegin};
+ghost use Rattle.caller_turns.specs.Turns.{MeetCites, MeetTurn, ReleaseCites, ReleaseTurn, hand_after};
 
 use crate::roles::is_bridge_object;
 use crate::stands::Doing;

@@ -1,7 +1,8 @@
 // Which events a caller can have, of those that an entry can name.
 
 ghost use Rattle.std.specs.Prelude.{◌≡◌, ◌≤◌, ◌↔◌, IsTrue};
-ghost use Rattle.joint_machine.specs.Lines.{IsBridgeObject, IsDriver, IsEvent, IsManagedThread, IsNamed, IsPeerThread, IsThread, IsAdoptable};
+ghost use Rattle.joint_machine.specs.Lines.{IsBridgeObject, IsDriver, IsEvent, IsManagedThread, IsNamed, IsPeerThread};
+ghost use Rattle.joint_machine.specs.Lines.{IsThread, IsAdoptable};
 
 use joint_machine::{Kind, Op, Sort, Thread};
 

@@ -4,7 +4,8 @@ ghost use Rattle.std.specs.Prelude.{◌≡◌, ◌<◌, ◌≤◌, ◌↔◌, Is
 ghost use Rattle.joint_machine.specs.Control.{caller_place, opening_control};
 ghost use Rattle.joint_machine.specs.Lines.{IsNamed, IsThread};
 ghost use Rattle.caller_turns.specs.Shapes.{callers_of};
-ghost use Rattle.caller_turns.specs.Turns.{AreDone, CallersTurn, CitesIn, HasCount, IsTheirTurn, callers_after, hand_at};
+ghost use Rattle.caller_turns.specs.Turns.{AreDone, CallersTurn, CitesIn, HasCount, IsTheirTurn, callers_after};
+ghost use Rattle.caller_turns.specs.Turns.{hand_at};
 
 use crate::driver::{after, driver_cites, driver_turn, is_resting};
 use crate::hands::{after as hand_after, hand_cites, hand_turn, may_begin};
@@ -118,7 +119,8 @@ impl Turns {
     pub fn note(&mut self, entry: &Entry, phase: Phase)
         requires thread { IsThread entry.now.made.caller }
         requires count { HasCount self.old.stand }
-        ensures { self.new ≡ callers_after self.old entry.now.number entry.now.made.caller entry.now.made.index entry.now.made.op entry.now.made.reply phase }
+        ensures { self.new ≡ callers_after self.old entry.now.number entry.now.made.caller
+            entry.now.made.index entry.now.made.op entry.now.made.reply phase }
     {
         let caller = entry.made.caller;
         self.lines[place(caller)] = entry.made.index;

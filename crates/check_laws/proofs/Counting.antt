@@ -34,7 +34,8 @@ use Rattle.check_laws.specs.Known.{At, ManagedAt, KnownFrom, managed_count, coun
 use Rattle.check_laws.specs.Behind.{in_turn, state_of, MayBePendingBehind}
 use Rattle.check_laws.specs.Counts.{ends_cycle, sets_cell, ended, Setting, setting, AtMost, IsPendingBy, IsUnknown, IsUnsetBy, ReadsAreCounted}
 use Rattle.check_laws.specs.Reads.{ComesBehind, AllComeBehind, AreInPlace}
-use Rattle.check_laws.proofs.Keeping.{AllStand, after-read, after-other, kept, since-on, all_come-back, all_stand-back, freed-in, opens-on, snap-counted, end-counted, Ends, resolve-open, abandon-open, comes-other}
+use Rattle.check_laws.proofs.Keeping.{AllStand, after-read, after-other, kept, since-on, all_come-back, all_stand-back, freed-in, opens-on, snap-counted, end-counted, Ends, resolve-open, abandon-open}
+use Rattle.check_laws.proofs.Keeping.{comes-other}
 use Rattle.check_laws.proofs.Knowing.{within, split, below-past, below-same, forth, back}
 use Rattle.check_laws.proofs.Naming.{managed-none}
 use Rattle.check_laws.proofs.Tested.{at-in, in-at, get-at, at-get, at-less, cut, one-at, stand_behind}
@@ -50,12 +51,14 @@ so-ends o k (inl e) = ap (λ z. ends_cycle z k) e ∙ eq-eqb k k refl
 so-ends o k (inr e) = ap (λ z. ends_cycle z k) e ∙ eq-eqb k k refl
 
 -- a cycle is over behind its end
-closes : (s : Linkage) (m : Made) (told : Told) (o : Op) (k : ℕ) → m.op ≡ o → Ends o k → SideLawful (is_peer_event m.caller m.op) s m told → (managed_after s.managed m told (is_peer_event m.caller m.op)).managed.cycle ≡ None
+closes : (s : Linkage) (m : Made) (told : Told) (o : Op) (k : ℕ) → m.op ≡ o → Ends o k
+    → SideLawful (is_peer_event m.caller m.op) s m told → (managed_after s.managed m told (is_peer_event m.caller m.op)).managed.cycle ≡ None
 closes s m told o k e (inl f) l =
     subst (λ z. (managed_after s.managed (record m { op = z }) told (is_peer_event m.caller z)).managed.cycle ≡ None) (sym (e ∙ f))
     (by told (subst (λ z. SideLawful (is_peer_event m.caller z) s (record m { op = z }) told) (e ∙ f) l))
   where
-    by : (told : Told) → ManagedLawful s.managed (record m { op = op.Resolve record { 0 = k } }) told → (managed_after s.managed (record m { op = op.Resolve record { 0 = k } }) told false).managed.cycle ≡ None
+    by : (told : Told) → ManagedLawful s.managed (record m { op = op.Resolve record { 0 = k } }) told
+        → (managed_after s.managed (record m { op = op.Resolve record { 0 = k } }) told false).managed.cycle ≡ None
     by (resolution_of alive freed) w = refl
     by _ w = absurd w.allowed
 closes s m told o k e (inr f) l =
@@ -80,14 +83,16 @@ step-open s t k (snapping p) l h c e = (let q : s.cycles + 1 ≡ c.number = numb
 step-open s t k (resolving p) l h c e = absurd (none_some c (sym (ap (λ (z : Managed). z.cycle) p.is) ∙ e))
 step-open s t k (abandoning p) l h c e = absurd (none_some c (sym (ap (λ (z : Managed). z.cycle) p.is) ∙ e))
 
-later-open : (past : List Noted) → AllComeBehind past → AllStand past → (n : Noted) (k : ℕ) → InPast past n → Ends n.entry.made.op k → (c : OpenCycle) → (state_of past).managed.managed.cycle ≡ Some c → k < c.number
+later-open : (past : List Noted) → AllComeBehind past → AllStand past → (n : Noted) (k : ℕ) → InPast past n
+    → Ends n.entry.made.op k → (c : OpenCycle) → (state_of past).managed.managed.cycle ≡ Some c → k < c.number
 later-open [] w r n k i e c q = absurd i
 later-open (m ∷ past) w r n k (inl same) e c q = absurd (none_some c (sym (closes-on (state_of past) m k w.0 (subst (λ z. Ends z k) (sym (ap (λ (z : Noted). z.entry.made.op) same)) e)) ∙ q))
 later-open (m ∷ past) w r n k (inr i) e c q = by (later-open past w.1 r.1 n k i e) (is_read m.entry.made.op) refl w.0
   where
     by : ((c : OpenCycle) → (state_of past).managed.managed.cycle ≡ Some c → k < c.number) → (b : Bool) → is_read m.entry.made.op ≡ b → ComesBehind b (state_of past) m → k < c.number
     by h true f v = h c (ap (λ (z : Linkage). z.managed.managed.cycle) (sym (after-read (state_of past) m f)) ∙ q)
-    by h false f v = step-open (state_of past).managed.managed (linkage_after (state_of past) m).managed.managed k (ManagedStep-entry (state_of past) m v (kept past w.1 r.1)) (end-counted past w.1 r.1 n k i e) h c
+    by h false f v = step-open (state_of past).managed.managed (linkage_after (state_of past) m).managed.managed k
+        (ManagedStep-entry (state_of past) m v (kept past w.1 r.1)) (end-counted past w.1 r.1 n k i e) h c
         (ap (λ (z : Linkage). z.managed.managed.cycle) (sym (after-other (state_of past) m f)) ∙ q)
 
 pub end-open : (s : Linkage) (n : Noted) (k : ℕ) → ComesBehind (is_read n.entry.made.op) s n → Ends n.entry.made.op k → (c : OpenCycle) × (s.managed.managed.cycle ≡ Some c) × (c.number ≡ k)
@@ -105,13 +110,15 @@ pub open-counted : (past : List Noted) → AllComeBehind past → AllStand past 
 open-counted [] w r c q = absurd (none_some c q)
 open-counted (m ∷ past) w r c q = by (open-counted past w.1 r.1) (is_read m.entry.made.op) refl w.0
   where
-    by : ((c : OpenCycle) → (state_of past).managed.managed.cycle ≡ Some c → 1 ≤ (state_of past).managed.managed.cycles) → (b : Bool) → is_read m.entry.made.op ≡ b → ComesBehind b (state_of past) m → 1 ≤ (state_of (m ∷ past)).managed.managed.cycles
+    by : ((c : OpenCycle) → (state_of past).managed.managed.cycle ≡ Some c → 1 ≤ (state_of past).managed.managed.cycles)
+        → (b : Bool) → is_read m.entry.made.op ≡ b → ComesBehind b (state_of past) m → 1 ≤ (state_of (m ∷ past)).managed.managed.cycles
     by h true f v = (
         let l = h c (ap (λ (z : Linkage). z.managed.managed.cycle) (sym (after-read (state_of past) m f)) ∙ q) in
         let e = ap (λ (z : Linkage). z.managed.managed.cycles) (after-read (state_of past) m f) in
         omega (arith, l, e))
     by h false f v = (
-        let l = step-counted (state_of past).managed.managed (linkage_after (state_of past) m).managed.managed (ManagedStep-entry (state_of past) m v (kept past w.1 r.1)) h c (ap (λ (z : Linkage). z.managed.managed.cycle) (sym (after-other (state_of past) m f)) ∙ q) in
+        let l = step-counted (state_of past).managed.managed (linkage_after (state_of past) m).managed.managed
+        (ManagedStep-entry (state_of past) m v (kept past w.1 r.1)) h c (ap (λ (z : Linkage). z.managed.managed.cycle) (sym (after-other (state_of past) m f)) ∙ q) in
         let e = ap (λ (z : Linkage). z.managed.managed.cycles) (after-other (state_of past) m f) in
         omega (arith, l, e))
 
@@ -154,7 +161,8 @@ record Counted (past : List Noted) (Is : Noted → Type 0) (m : ℕ) : Type 0 wh
   count : m ≡ count_below past (at + 1)
 
 counted-on : (past : List Noted) (x : Noted) (Is : Noted → Type 0) (m : ℕ) → Counted past Is m → Counted (x ∷ past) Is m
-counted-on past x Is m c = (let l = within past c.at c.entry c.there in record { at = c.at; entry = c.entry; there = inr c.there; is = c.is; count = c.count ∙ sym (below-same x past (c.at + 1) (omega (arith, l))) })
+counted-on past x Is m c = (let l = within past c.at c.entry c.there in
+    record { at = c.at; entry = c.entry; there = inr c.there; is = c.is; count = c.count ∙ sym (below-same x past (c.at + 1) (omega (arith, l))) })
 
 counted-here : (past : List Noted) (x : Noted) (Is : Noted → Type 0) → Is x → Counted (x ∷ past) Is (managed_count (x ∷ past))
 counted-here past x Is i = record { at = length past; entry = x; there = inl (refl, refl); is = i; count = sym (below-past x past (length past + 1) (omega arith)) }
@@ -166,7 +174,8 @@ ended-some (x ∷ past) k m e = by (ends_cycle x.entry.made.op k) refl e (ended-
     same : (a b : ℕ) → Some a ≡ Some b → a ≡ b
     same a b q = cc
 
-    by : (b : Bool) → ends_cycle x.entry.made.op k ≡ b → (if b then Some (managed_count (x ∷ past)) else ended past k) ≡ Some m → (ended past k ≡ Some m → Counted past (λ n. Ends n.entry.made.op k) m) → Counted (x ∷ past) (λ n. Ends n.entry.made.op k) m
+    by : (b : Bool) → ends_cycle x.entry.made.op k ≡ b → (if b then Some (managed_count (x ∷ past)) else ended past k) ≡ Some m
+        → (ended past k ≡ Some m → Counted past (λ n. Ends n.entry.made.op k) m) → Counted (x ∷ past) (λ n. Ends n.entry.made.op k) m
     by true t q rest = subst (Counted (x ∷ past) (λ n. Ends n.entry.made.op k)) (same _ m q) (counted-here past x (λ n. Ends n.entry.made.op k) (ends-so x.entry.made.op k t))
     by false t q rest = counted-on past x (λ n. Ends n.entry.made.op k) m (rest q)
 
@@ -174,7 +183,8 @@ ended-none : (past : List Noted) (k : ℕ) → ended past k ≡ None → (n : No
 ended-none [] k e n i f = i
 ended-none (x ∷ past) k e n i f = by (ends_cycle x.entry.made.op k) refl e (ended-none past k)
   where
-    by : (b : Bool) → ends_cycle x.entry.made.op k ≡ b → (if b then Some (managed_count (x ∷ past)) else ended past k) ≡ None → (ended past k ≡ None → (n : Noted) → InPast past n → Ends n.entry.made.op k → ⊥) → ⊥
+    by : (b : Bool) → ends_cycle x.entry.made.op k ≡ b → (if b then Some (managed_count (x ∷ past)) else ended past k) ≡ None
+        → (ended past k ≡ None → (n : Noted) → InPast past n → Ends n.entry.made.op k → ⊥) → ⊥
     by true t q rest = none_some _ (sym q)
     by false t q rest = elim i [
       | inl same ↦ true-false (ends_cycle x.entry.made.op k) (so-ends x.entry.made.op k (subst (λ z. Ends z k) (sym (ap (λ (z : Noted). z.entry.made.op) same)) f)) t
@@ -211,7 +221,8 @@ side-cycles : (s : ManagedReplay) (m : Made) (told : Told) (b : Bool) (o : Op) �
 side-cycles s m told true o e q k = refl
 side-cycles s m told false o e q k = event-cycles s m.caller m.op told (λ z. q (subst IsSnap e z)) k
 
-snap-here : (s : Linkage) (n : Noted) → ComesBehind (is_read n.entry.made.op) s n → IsReplayKept s.managed → (k : ℕ) → k ≤ (entry_after s n).managed.managed.cycles → (k ≤ s.managed.managed.cycles) ⊎ (n.entry.made.op ≡ op.Snap record { 0 = k })
+snap-here : (s : Linkage) (n : Noted) → ComesBehind (is_read n.entry.made.op) s n → IsReplayKept s.managed → (k : ℕ)
+    → k ≤ (entry_after s n).managed.managed.cycles → (k ≤ s.managed.managed.cycles) ⊎ (n.entry.made.op ≡ op.Snap record { 0 = k })
 snap-here s n w p k l = by (is_read n.entry.made.op) refl
   where
     named : (o : Op) → n.entry.made.op ≡ o → is_read n.entry.made.op ≡ false → (k ≤ s.managed.managed.cycles) ⊎ (n.entry.made.op ≡ op.Snap record { 0 = k })
@@ -231,12 +242,14 @@ snap-here s n w p k l = by (is_read n.entry.made.op) refl
     by true f = inl (let e = ap (λ (z : Linkage). z.managed.managed.cycles) (after-read s n f) in omega (arith, l, e))
     by false f = named n.entry.made.op refl f
 
-pub cycles-on : (s : Linkage) (n : Noted) → ComesBehind (is_read n.entry.made.op) s n → IsReplayKept s.managed → (IsSnap n.entry.made.op → ⊥) → (entry_after s n).managed.managed.cycles ≡ s.managed.managed.cycles
+pub cycles-on : (s : Linkage) (n : Noted) → ComesBehind (is_read n.entry.made.op) s n → IsReplayKept s.managed
+    → (IsSnap n.entry.made.op → ⊥) → (entry_after s n).managed.managed.cycles ≡ s.managed.managed.cycles
 cycles-on s n w p q = by (is_read n.entry.made.op) refl
   where
     by : (b : Bool) → is_read n.entry.made.op ≡ b → (entry_after s n).managed.managed.cycles ≡ s.managed.managed.cycles
     by true f = ap (λ (z : Linkage). z.managed.managed.cycles) (after-read s n f)
-    by false f = ap (λ (z : Linkage). z.managed.managed.cycles) (after-other s n f) ∙ side-cycles s.managed n.entry.made n.told (is_peer_event n.entry.made.caller n.entry.made.op) n.entry.made.op refl q p
+    by false f = ap (λ (z : Linkage). z.managed.managed.cycles) (after-other s n f)
+        ∙ side-cycles s.managed n.entry.made n.told (is_peer_event n.entry.made.caller n.entry.made.op) n.entry.made.op refl q p
 
 -- a cycle that wasn't counted hasn't ended
 pub unended : (past : List Noted) → AllComeBehind past → AllStand past → (k : ℕ) → (state_of past).managed.managed.cycles < k → ended past k ≡ None
@@ -246,7 +259,8 @@ unended past w r k l = by (ended past k) refl
     by None e = refl
     by (Some m) e = absurd (let c = ended-some past k m e in let few = end-counted past w r c.entry k (at-in past c.at c.entry c.there) c.is in omega (arith, few, l))
 
-snap-of : (past : List Noted) → AllComeBehind past → AllStand past → (k : ℕ) → 1 ≤ k → k ≤ (state_of past).managed.managed.cycles → (n : Noted) × InPast past n × (n.entry.made.op ≡ op.Snap record { 0 = k })
+snap-of : (past : List Noted) → AllComeBehind past → AllStand past → (k : ℕ) → 1 ≤ k
+    → k ≤ (state_of past).managed.managed.cycles → (n : Noted) × InPast past n × (n.entry.made.op ≡ op.Snap record { 0 = k })
 snap-of [] w r k a l = absurd (omega (arith, a, l))
 snap-of (x ∷ past) w r k a l = elim (snap-here (state_of past) x w.0 (kept past w.1 r.1) k l) [
   | inl less ↦ (let f = snap-of past w.1 r.1 k a less in (f.0, inr f.1, f.2))
@@ -254,14 +268,16 @@ snap-of (x ∷ past) w r k a l = elim (snap-here (state_of past) x w.0 (kept pas
 ]
 
 -- what is freed at a state some entry before it freed
-event-freed : (s : ManagedReplay) (t : Thread) (o : Op) (told : Told) (x : ℕ) → ManagedAllows s o told → IsReplayKept s → Contains (managed_answer s t o told).state.managed.heap.freed x → Contains s.managed.heap.freed x ⊎ FreesObject told x
+event-freed : (s : ManagedReplay) (t : Thread) (o : Op) (told : Told) (x : ℕ) → ManagedAllows s o told → IsReplayKept s
+    → Contains (managed_answer s t o told).state.managed.heap.freed x → Contains s.managed.heap.freed x ⊎ FreesObject told x
 event-freed s t (op.Snap n) (snap_of freed c d) x a k i = Contains-append_cases s.managed.heap.freed freed x i
 event-freed s t (op.Resolve n) (resolution_of y freed) x a k i = Contains-append_cases s.managed.heap.freed freed x i
 event-freed s t o (snap_of freed c d) x a k i = absurd a
 event-freed s t o (resolution_of y freed) x a k i = absurd a
 event-freed s t o told x a k i = inl (subst (λ z. Contains z x) (managed-none s t o told tt k) i)
 
-side-freed : (s : Linkage) (m : Made) (told : Told) (x : ℕ) (b : Bool) → SideLawful b s m told → IsReplayKept s.managed → Contains (managed_after s.managed m told b).managed.heap.freed x → Contains s.managed.managed.heap.freed x ⊎ FreesObject told x
+side-freed : (s : Linkage) (m : Made) (told : Told) (x : ℕ) (b : Bool) → SideLawful b s m told → IsReplayKept s.managed
+    → Contains (managed_after s.managed m told b).managed.heap.freed x → Contains s.managed.managed.heap.freed x ⊎ FreesObject told x
 side-freed s m told x true l k i = inl i
 side-freed s m told x false l k i = event-freed s.managed m.caller m.op told x l.allowed k i
 
@@ -272,12 +288,14 @@ freed-by (m ∷ past) w r x i = by (freed-by past w.1 r.1 x) (is_read m.entry.ma
     more : ((e : ℕ) × ((n : Noted) × At past e n × FreesObject n.told x)) → (e : ℕ) × ((n : Noted) × At (m ∷ past) e n × FreesObject n.told x)
     more f = (f.0, (f.1.0, inr f.1.1, f.1.2))
 
-    by : (Contains (state_of past).managed.managed.heap.freed x → (e : ℕ) × ((n : Noted) × At past e n × FreesObject n.told x)) → (b : Bool) → is_read m.entry.made.op ≡ b → ComesBehind b (state_of past) m → (e : ℕ) × ((n : Noted) × At (m ∷ past) e n × FreesObject n.told x)
+    by : (Contains (state_of past).managed.managed.heap.freed x → (e : ℕ) × ((n : Noted) × At past e n × FreesObject n.told x)) → (b : Bool)
+        → is_read m.entry.made.op ≡ b → ComesBehind b (state_of past) m → (e : ℕ) × ((n : Noted) × At (m ∷ past) e n × FreesObject n.told x)
     by rest true f c = more (rest (subst (λ (z : Linkage). Contains z.managed.managed.heap.freed x) (after-read (state_of past) m f) i))
-    by rest false f c = elim (side-freed (state_of past) m.entry.made m.told x (is_peer_event m.entry.made.caller m.entry.made.op) c.lawful (kept past w.1 r.1) (subst (λ (z : Linkage). Contains z.managed.managed.heap.freed x) (after-other (state_of past) m f) i)) [
-      | inl old ↦ more (rest old)
-      | inr new ↦ (length past, (m, inl (refl, refl), new))
-    ]
+    by rest false f c = elim (side-freed (state_of past) m.entry.made m.told x (is_peer_event m.entry.made.caller m.entry.made.op) c.lawful
+        (kept past w.1 r.1) (subst (λ (z : Linkage). Contains z.managed.managed.heap.freed x) (after-other (state_of past) m f) i)) [
+          | inl old ↦ more (rest old)
+          | inr new ↦ (length past, (m, inl (refl, refl), new))
+        ]
 
 -- a cell is set once: it was empty before, and is full behind
 sets-so : (o : Op) (r : Reply) (k : ℕ) → sets_cell o r k ≡ true → SetsCell o k × (r ≡ says.Ok)
@@ -304,7 +322,8 @@ weak-fills s k v l r = by (slot s.heap.vars v) r
     by None q = absurd (cc)
     by (Some x) q = put-fills s k x (slot s.cells k) refl l q
 
-event-fills : (s : Linkage) (t : Thread) (l : ℕ) (o : Op) (r : Reply) (cites : Option ℕ) (told : Told) (k : ℕ) → length s.managed.managed.cells ≡ 64 → IsEvent t o → SideLawful (is_peer_event t o) s (record { caller = t; index = l; op = o; reply = r; cites = cites }) told → SetsCell o k → r ≡ says.Ok
+event-fills : (s : Linkage) (t : Thread) (l : ℕ) (o : Op) (r : Reply) (cites : Option ℕ) (told : Told) (k : ℕ) → length s.managed.managed.cells ≡ 64
+    → IsEvent t o → SideLawful (is_peer_event t o) s (record { caller = t; index = l; op = o; reply = r; cites = cites }) told → SetsCell o k → r ≡ says.Ok
     → Fills s.managed.managed (managed_after s.managed (record { caller = t; index = l; op = o; reply = r; cites = cites }) told (is_peer_event t o)).managed k
 event-fills s (M u) l (op.Line (act.Weak c v)) r cites told k long e w q f =
     let low = e.0.1.0 in
@@ -317,7 +336,8 @@ sets-other : (o : Op) (k : ℕ) → SetsCell o k → is_read o ≡ false
 sets-other (op.Line (act.Weak c v)) k q = refl
 sets-other o k q = absurd q
 
-fills-on : (s : Linkage) (n : Noted) (k : ℕ) → length s.managed.managed.cells ≡ 64 → ComesBehind (is_read n.entry.made.op) s n → SetsCell n.entry.made.op k → n.entry.made.reply ≡ says.Ok → Fills s.managed.managed (entry_after s n).managed.managed k
+fills-on : (s : Linkage) (n : Noted) (k : ℕ) → length s.managed.managed.cells ≡ 64 → ComesBehind (is_read n.entry.made.op) s n
+    → SetsCell n.entry.made.op k → n.entry.made.reply ≡ says.Ok → Fills s.managed.managed (entry_after s n).managed.managed k
 fills-on s n k long w q f =
     let other = sets-other n.entry.made.op k q in
     let v : MayCome s n = subst (λ b. ComesBehind b s n) other w in
@@ -328,19 +348,23 @@ cells-long : (past : List Noted) → AllComeBehind past → AllStand past → le
 cells-long [] w r = refl
 cells-long (m ∷ past) w r = (since-on (state_of past) m w.0 (kept past w.1 r.1)).long ∙ cells-long past w.1 r.1
 
-filled : (past : List Noted) → AllComeBehind past → AllStand past → (n : Noted) (k : ℕ) → InPast past n → SetsCell n.entry.made.op k → n.entry.made.reply ≡ says.Ok → (x : ℕ) × (slot (state_of past).managed.managed.cells k ≡ Some x)
+filled : (past : List Noted) → AllComeBehind past → AllStand past → (n : Noted) (k : ℕ) → InPast past n
+    → SetsCell n.entry.made.op k → n.entry.made.reply ≡ says.Ok → (x : ℕ) × (slot (state_of past).managed.managed.cells k ≡ Some x)
 filled [] w r n k i q f = absurd i
-filled (m ∷ past) w r n k (inl e) q f = (fills-on (state_of past) m k (cells-long past w.1 r.1) w.0 (subst (λ z. SetsCell z k) (sym (ap (λ (z : Noted). z.entry.made.op) e)) q) (ap (λ (z : Noted). z.entry.made.reply) e ∙ f)).now
+filled (m ∷ past) w r n k (inl e) q f = (fills-on (state_of past) m k (cells-long past w.1 r.1) w.0
+    (subst (λ z. SetsCell z k) (sym (ap (λ (z : Noted). z.entry.made.op) e)) q) (ap (λ (z : Noted). z.entry.made.reply) e ∙ f)).now
 filled (m ∷ past) w r n k (inr i) q f = (let x = filled past w.1 r.1 n k i q f in (x.0, (since-on (state_of past) m w.0 (kept past w.1 r.1)).stay k x.0 x.1))
 
-set-apart : (h : List Noted) → AllComeBehind h → AllStand h → (i j k : ℕ) (n m : Noted) → At h i n → At h j m → j < i → SetsCell n.entry.made.op k → n.entry.made.reply ≡ says.Ok → SetsCell m.entry.made.op k → m.entry.made.reply ≡ says.Ok → ⊥
+set-apart : (h : List Noted) → AllComeBehind h → AllStand h → (i j k : ℕ) (n m : Noted) → At h i n → At h j m → j < i
+    → SetsCell n.entry.made.op k → n.entry.made.reply ≡ says.Ok → SetsCell m.entry.made.op k → m.entry.made.reply ≡ says.Ok → ⊥
 set-apart h w r i j k n m a b l e f g d =
     let p = pair h w r i j n m a b l in
     let x = filled p.back p.come p.stand m k (at-in p.back j m p.lower) g d in
     let none = (fills-on (state_of p.back) n k (cells-long p.back p.come p.stand) p.comes e f).was in
     none_some x.0 (sym none ∙ x.1)
 
-set-once : (h : List Noted) → AllComeBehind h → AllStand h → (i j k : ℕ) (n m : Noted) → At h i n → At h j m → SetsCell n.entry.made.op k → n.entry.made.reply ≡ says.Ok → SetsCell m.entry.made.op k → m.entry.made.reply ≡ says.Ok → i ≡ j
+set-once : (h : List Noted) → AllComeBehind h → AllStand h → (i j k : ℕ) (n m : Noted) → At h i n → At h j m
+    → SetsCell n.entry.made.op k → n.entry.made.reply ≡ says.Ok → SetsCell m.entry.made.op k → m.entry.made.reply ≡ says.Ok → i ≡ j
 set-once h w r i j k n m a b e f g d = elim (split j i) [
   | inl less ↦ absurd (set-apart h w r i j k n m a b less e f g d)
   | inr far ↦ elim (split i j) [ inl more ↦ absurd (set-apart h w r j i k m n b a more g d e f) | inr none ↦ omega (arith, far, none) ]
@@ -356,10 +380,12 @@ setting-some (x ∷ past) k v e = by (sets_cell x.entry.made.op x.entry.made.rep
     same : (a b : Setting) → Some a ≡ Some b → a ≡ b
     same a b q = ap (λ (o : Option Setting). elim o [ None ↦ a | Some z ↦ z ]) q
 
-    by : (b : Bool) → sets_cell x.entry.made.op x.entry.made.reply k ≡ b → (if b then Some record { caller = x.entry.made.caller; count = managed_count (x ∷ past) } else setting past k) ≡ Some v → (setting past k ≡ Some v → Counted past (SetsBy k v.caller) v.count) → Counted (x ∷ past) (SetsBy k v.caller) v.count
+    by : (b : Bool) → sets_cell x.entry.made.op x.entry.made.reply k ≡ b → (if b then Some record { caller = x.entry.made.caller; count = managed_count (x ∷ past) } else setting past k) ≡ Some v
+        → (setting past k ≡ Some v → Counted past (SetsBy k v.caller) v.count) → Counted (x ∷ past) (SetsBy k v.caller) v.count
     by true t q rest =
         let s = sets-so x.entry.made.op x.entry.made.reply k t in
-        subst (λ (z : Setting). Counted (x ∷ past) (SetsBy k z.caller) z.count) (same (record { caller = x.entry.made.caller; count = managed_count (x ∷ past) }) v q) (counted-here past x (SetsBy k x.entry.made.caller) (s.0, s.1, refl))
+        subst (λ (z : Setting). Counted (x ∷ past) (SetsBy k z.caller) z.count)
+        (same (record { caller = x.entry.made.caller; count = managed_count (x ∷ past) }) v q) (counted-here past x (SetsBy k x.entry.made.caller) (s.0, s.1, refl))
     by false t q rest = counted-on past x (SetsBy k v.caller) v.count (rest q)
 
 setting-none : (past : List Noted) (k : ℕ) → setting past k ≡ None → (n : Noted) → InPast past n → SetsCell n.entry.made.op k → n.entry.made.reply ≡ says.Ok → ⊥
@@ -370,7 +396,8 @@ setting-none (x ∷ past) k e n i f g = by (sets_cell x.entry.made.op x.entry.ma
         → (setting past k ≡ None → (n : Noted) → InPast past n → SetsCell n.entry.made.op k → n.entry.made.reply ≡ says.Ok → ⊥) → ⊥
     by true t q rest = none_some _ (sym q)
     by false t q rest = elim i [
-      | inl same ↦ true-false (sets_cell x.entry.made.op x.entry.made.reply k) (so-sets x.entry.made.op x.entry.made.reply k (subst (λ z. SetsCell z k) (sym (ap (λ (z : Noted). z.entry.made.op) same)) f) (ap (λ (z : Noted). z.entry.made.reply) same ∙ g)) t
+      | inl same ↦ true-false (sets_cell x.entry.made.op x.entry.made.reply k)
+          (so-sets x.entry.made.op x.entry.made.reply k (subst (λ z. SetsCell z k) (sym (ap (λ (z : Noted). z.entry.made.op) same)) f) (ap (λ (z : Noted). z.entry.made.reply) same ∙ g)) t
       | inr j ↦ rest q n j f g
     ]
 
@@ -410,7 +437,8 @@ module _ (past : List Noted) (w : AllComeBehind past) (r : AllStand past) (p : A
         unknown = λ e j d l m g. by (ended past k) refl most e j d l m g;
       })
     where
-      by : (o : Option ℕ) → ended past k ≡ o → AtMost (seen past t) o → (e j : ℕ) → EndsCycleAt (in_turn past) e k → e < j → IsManagedAt (in_turn past) j → HasKnownFrom (in_turn past) t (length past) j → ⊥
+      by : (o : Option ℕ) → ended past k ≡ o → AtMost (seen past t) o → (e j : ℕ) → EndsCycleAt (in_turn past) e k
+          → e < j → IsManagedAt (in_turn past) j → HasKnownFrom (in_turn past) t (length past) j → ⊥
       by None q most e j d l m g = ended-none past k q d.entry (at-in past e d.entry (get-at past e d.entry d.there)) d.event
       by (Some c) q most e j d l m g =
           let u = ended-some past k c q in
@@ -444,7 +472,8 @@ module _ (past : List Noted) (w : AllComeBehind past) (r : AllStand past) (p : A
     target_unfreed = λ m j q f l. u.unfreed m q (freed-in past w r f.entry m (at-in past j f.entry (get-at past j f.entry f.there)) f.frees);
   }
     where
-      by : (o : Option Setting) → setting past k ≡ o → IsUnknown t (seen past t) o → (e j : ℕ) → SetsCellAt (in_turn past) e k → e < j → IsManagedAt (in_turn past) j → HasKnownFrom (in_turn past) t (length past) j → ⊥
+      by : (o : Option Setting) → setting past k ≡ o → IsUnknown t (seen past t) o → (e j : ℕ) → SetsCellAt (in_turn past) e k
+          → e < j → IsManagedAt (in_turn past) j → HasKnownFrom (in_turn past) t (length past) j → ⊥
       by None q most e j d l m g = setting-none past k q d.entry (at-in past e d.entry (get-at past e d.entry d.there)) d.event d.set
       by (Some v) q most e j d l m g =
           let u = setting-some past k v q in

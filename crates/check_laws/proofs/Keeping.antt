@@ -20,7 +20,8 @@ use Rattle.joint_machine.specs.declared.events.Made.{Made}
 use Rattle.joint_machine.specs.Heaps.{Answered, answer, slot, place, is_full}
 use Rattle.joint_machine.specs.Lines.{is_peer_event, is_read}
 use Rattle.joint_machine.specs.Linked.{Linkage, MayCome, SideLawful, ManagedLawful, linkage_after, managed_after}
-use Rattle.joint_machine.specs.Managed.{Managed, OpenCycle, IsManagedRoot, managed_line, adopted, met, given_up, with_row, cell_set, weakened_to, read_cell, pin_taken, without_handle, twin_met, twin_kind, twin_fields}
+use Rattle.joint_machine.specs.Managed.{Managed, OpenCycle, IsManagedRoot, managed_line, adopted, met, given_up, with_row, cell_set, weakened_to, read_cell, pin_taken, without_handle, twin_met}
+use Rattle.joint_machine.specs.Managed.{twin_kind, twin_fields}
 use Rattle.joint_machine.specs.ManagedReplay.{ManagedReplay, ManagedAllows, managed_answer, registered}
 use Rattle.joint_machine.specs.PeerReplay.{PeerReplay, Marking, PeerAllows, SliceAllows, SweepAllows}
 use Rattle.joint_machine.specs.Readers.{ReadsCell, FreesObject, is_set_aside, pins_after, reader_after, entry_after}
@@ -164,7 +165,8 @@ event-sets : (s : ManagedReplay) (t : Thread) (o : Op) (told : Told) → SetsOne
 event-sets s t (op.Line a) told = line-sets s.managed (thread_number t) a
 event-sets s t (op.Adopt v kind n p h) told =
     let a = adopted s.managed (place (thread_number t) v.0) kind n h.0 in
-    same-cells s.managed _ (ap (λ (z : Managed). z.cells) (adopt_by-managed s p.0 h.0 a.state a.reply) ∙ row-cells s.managed (is_full s.managed.heap.fields) _ (place (thread_number t) v.0) kind n (Some h.0))
+    same-cells s.managed _ (ap (λ (z : Managed). z.cells) (adopt_by-managed s p.0 h.0 a.state a.reply)
+    ∙ row-cells s.managed (is_full s.managed.heap.fields) _ (place (thread_number t) v.0) kind n (Some h.0))
 event-sets s t (op.Meet v sort n p h) told =
     let a = met s.managed (place (thread_number t) v.0) h.0 sort n (registered s.registry p.0) in
     same-cells s.managed _ (ap (λ (z : Managed). z.cells) (meet_by-managed s p.0 h.0 a.state a.reply) ∙ met-cells s.managed (place (thread_number t) v.0) h.0 sort n (registered s.registry p.0))
@@ -207,14 +209,23 @@ since-then s t u a b = record {
 
 grows : (s t : Managed) → ManagedStep s t → ((x : ℕ) → Contains s.heap.freed x → Contains t.heap.freed x) × (s.cycles ≤ t.cycles)
 grows s t (going_on g) = (λ x f. subst (λ z. Contains z x) (sym g.freed) f, (let e = g.cycles in omega arith))
-grows s t (snapping p) = (λ x f. subst (λ (z : Managed). Contains z.heap.freed x) (sym p.is) (Contains-append_left s.heap.freed p.freed x f), (let e = ap (λ (z : Managed). z.cycles) p.is in omega arith))
-grows s t (resolving p) = (λ x f. subst (λ (z : Managed). Contains z.heap.freed x) (sym p.is) (Contains-append_left s.heap.freed p.freed x f), (let e = ap (λ (z : Managed). z.cycles) p.is in omega arith))
+grows s t (snapping p) = (
+  λ x f. subst (λ (z : Managed). Contains z.heap.freed x) (sym p.is) (Contains-append_left s.heap.freed p.freed x f),
+  (let e = ap (λ (z : Managed). z.cycles) p.is in omega arith),
+)
+grows s t (resolving p) = (
+  λ x f. subst (λ (z : Managed). Contains z.heap.freed x) (sym p.is) (Contains-append_left s.heap.freed p.freed x f),
+  (let e = ap (λ (z : Managed). z.cycles) p.is in omega arith),
+)
 grows s t (abandoning p) = (λ x f. subst (λ (z : Managed). Contains z.heap.freed x) (sym p.is) f, (let e = ap (λ (z : Managed). z.cycles) p.is in omega arith))
 
 pub since-entry : (s : Linkage) (n : Noted) → MayCome s n → IsReplayKept s.managed → Since s.managed.managed (linkage_after s n).managed.managed
 since-entry s n w k = record {
   stay = λ c x e. elim (sets.1 c) [ inl q ↦ q ∙ e | inr q ↦ absurd (let f = sym q.1 ∙ e in cc) ];
-  was_live = λ c x e. elim (sets.1 c) [ inl q ↦ inl (sym q ∙ e) | inr q ↦ inr (λ f. (k.managed.roots q.0 q.3).kept (subst (λ z. Contains s.managed.managed.heap.freed z) (one x q.0 (sym e ∙ q.2)) f)) ];
+  was_live = λ c x e. elim (sets.1 c) [
+    | inl q ↦ inl (sym q ∙ e)
+    | inr q ↦ inr (λ f. (k.managed.roots q.0 q.3).kept (subst (λ z. Contains s.managed.managed.heap.freed z) (one x q.0 (sym e ∙ q.2)) f))
+  ];
   freed = g.0;
   cycles = g.1;
   long = sets.0;
@@ -233,7 +244,8 @@ pub since-on : (s : Linkage) (n : Noted) → ComesBehind (is_read n.entry.made.o
 since-on s n w k = by (is_read n.entry.made.op) refl w
   where
     by : (b : Bool) → is_read n.entry.made.op ≡ b → ComesBehind b s n → Since s.managed.managed (entry_after s n).managed.managed
-    by true e w = subst (λ (z : Linkage). Since s.managed.managed z.managed.managed) (sym (after-read s n e)) (record { stay = λ c x q. q; was_live = λ c x q. inl q; freed = λ x c. c; cycles = omega arith; long = refl })
+    by true e w = subst (λ (z : Linkage). Since s.managed.managed z.managed.managed) (sym (after-read s n e))
+        (record { stay = λ c x q. q; was_live = λ c x q. inl q; freed = λ x c. c; cycles = omega arith; long = refl })
     by false e w = subst (λ (z : Linkage). Since s.managed.managed z.managed.managed) (sym (after-other s n e)) (since-entry s n w k)
 
 -- the end of a past
@@ -291,7 +303,8 @@ frees-on s n x w f = by (is_read n.entry.made.op) refl w
   where
     by : (b : Bool) → is_read n.entry.made.op ≡ b → ComesBehind b s n → Contains (entry_after s n).managed.managed.heap.freed x
     by true e w = absurd (subst (λ z. FreesObject z x) w.bare f)
-    by false e w = subst (λ (z : Linkage). Contains z.managed.managed.heap.freed x) (sym (after-other s n e)) (side-frees s n.entry.made n.told x (is_peer_event n.entry.made.caller n.entry.made.op) w.lawful f)
+    by false e w = subst (λ (z : Linkage). Contains z.managed.managed.heap.freed x) (sym (after-other s n e))
+        (side-frees s n.entry.made n.told x (is_peer_event n.entry.made.caller n.entry.made.op) w.lawful f)
 
 pub freed-in : (past : List Noted) → AllComeBehind past → AllStand past → (n : Noted) (x : ℕ) → InPast past n → FreesObject n.told x → Contains (state_of past).managed.managed.heap.freed x
 freed-in [] w r n x i f = absurd i
@@ -308,12 +321,14 @@ pub record Opens (s t : Managed) (k : ℕ) : Type 0 where
   pub next : k ≡ s.cycles + 1
   pub after : t.cycles ≡ k
 
-snap-opens : (s : Linkage) (m : Made) (told : Told) (o : Op) (k : ℕ) → m.op ≡ o → o ≡ op.Snap record { 0 = k } → SideLawful (is_peer_event m.caller m.op) s m told → Opens s.managed.managed (managed_after s.managed m told (is_peer_event m.caller m.op)).managed k
+snap-opens : (s : Linkage) (m : Made) (told : Told) (o : Op) (k : ℕ) → m.op ≡ o → o ≡ op.Snap record { 0 = k }
+    → SideLawful (is_peer_event m.caller m.op) s m told → Opens s.managed.managed (managed_after s.managed m told (is_peer_event m.caller m.op)).managed k
 snap-opens s m told o k e f l =
     subst (λ z. Opens s.managed.managed (managed_after s.managed (record m { op = z }) told (is_peer_event m.caller z)).managed k) (sym (e ∙ f))
     (by told (subst (λ z. SideLawful (is_peer_event m.caller z) s (record m { op = z }) told) (e ∙ f) l))
   where
-    by : (told : Told) → ManagedLawful s.managed (record m { op = op.Snap record { 0 = k } }) told → Opens s.managed.managed (managed_after s.managed (record m { op = op.Snap record { 0 = k } }) told false).managed k
+    by : (told : Told) → ManagedLawful s.managed (record m { op = op.Snap record { 0 = k } }) told
+        → Opens s.managed.managed (managed_after s.managed (record m { op = op.Snap record { 0 = k } }) told false).managed k
     by (snap_of freed candidates dead) w = record { closed = w.allowed.closed; next = w.allowed.next; after = sym w.allowed.next }
     by _ w = absurd w.allowed
 
@@ -322,7 +337,8 @@ opens-on s n k w e =
     let other : is_read n.entry.made.op ≡ false = ap is_read e in
     subst (λ (z : Linkage). Opens s.managed.managed z.managed.managed k) (sym (after-other s n other)) (snap-opens s n.entry.made n.told n.entry.made.op k refl e (comes-other s n _ e refl w).lawful)
 
-pub snap-counted : (past : List Noted) → AllComeBehind past → AllStand past → (n : Noted) (k : ℕ) → InPast past n → n.entry.made.op ≡ op.Snap record { 0 = k } → k ≤ (state_of past).managed.managed.cycles
+pub snap-counted : (past : List Noted) → AllComeBehind past → AllStand past → (n : Noted) (k : ℕ)
+    → InPast past n → n.entry.made.op ≡ op.Snap record { 0 = k } → k ≤ (state_of past).managed.managed.cycles
 snap-counted [] w r n k i e = absurd i
 snap-counted (m ∷ past) w r n k (inl q) e = (let o = opens-on (state_of past) m k w.0 (ap (λ (z : Noted). z.entry.made.op) q ∙ e) in let f = o.after in omega (arith, f))
 snap-counted (m ∷ past) w r n k (inr i) e = (let l = snap-counted past w.1 r.1 n k i e in let g = (since-on (state_of past) m w.0 (kept past w.1 r.1)).cycles in omega (arith, l, g))
@@ -331,14 +347,16 @@ snap-counted (m ∷ past) w r n k (inr i) e = (let l = snap-counted past w.1 r.1
 abbrev pub Ends : Op → ℕ → Type 0
 Ends o k = (o ≡ op.Resolve record { 0 = k }) ⊎ (o ≡ op.Abandon record { 0 = k })
 
-pub resolve-open : (s : Linkage) (m : Made) (told : Told) (o : Op) (k : ℕ) → m.op ≡ o → o ≡ op.Resolve record { 0 = k } → SideLawful (is_peer_event m.caller m.op) s m told → (c : OpenCycle) × (s.managed.managed.cycle ≡ Some c) × (c.number ≡ k)
+pub resolve-open : (s : Linkage) (m : Made) (told : Told) (o : Op) (k : ℕ) → m.op ≡ o → o ≡ op.Resolve record { 0 = k }
+    → SideLawful (is_peer_event m.caller m.op) s m told → (c : OpenCycle) × (s.managed.managed.cycle ≡ Some c) × (c.number ≡ k)
 resolve-open s m told o k e f l = by told (subst (λ z. SideLawful (is_peer_event m.caller z) s (record m { op = z }) told) (e ∙ f) l)
   where
     by : (told : Told) → ManagedLawful s.managed (record m { op = op.Resolve record { 0 = k } }) told → (c : OpenCycle) × (s.managed.managed.cycle ≡ Some c) × (c.number ≡ k)
     by (resolution_of alive freed) w = (w.allowed.cycle, w.allowed.open_cycle.0, w.allowed.open_cycle.1)
     by _ w = absurd w.allowed
 
-pub abandon-open : (s : Linkage) (m : Made) (told : Told) (o : Op) (k : ℕ) → m.op ≡ o → o ≡ op.Abandon record { 0 = k } → SideLawful (is_peer_event m.caller m.op) s m told → (c : OpenCycle) × (s.managed.managed.cycle ≡ Some c) × (c.number ≡ k)
+pub abandon-open : (s : Linkage) (m : Made) (told : Told) (o : Op) (k : ℕ) → m.op ≡ o → o ≡ op.Abandon record { 0 = k }
+    → SideLawful (is_peer_event m.caller m.op) s m told → (c : OpenCycle) × (s.managed.managed.cycle ≡ Some c) × (c.number ≡ k)
 abandon-open s m told o k e f l = by told (subst (λ z. SideLawful (is_peer_event m.caller z) s (record m { op = z }) told) (e ∙ f) l)
   where
     by : (told : Told) → ManagedLawful s.managed (record m { op = op.Abandon record { 0 = k } }) told → (c : OpenCycle) × (s.managed.managed.cycle ≡ Some c) × (c.number ≡ k)

@@ -69,7 +69,8 @@ later-counted (n ∷ h) w l = elim (split (length h) (w + 1)) [
   | inr far ↦ by (later-counted h w) (is_managed_entry n) refl far (let e = below-same n h (w + 1) far in omega (arith, e, l))
 ]
   where
-    by : (count_below h (w + 1) < managed_count h → (j : ℕ) × (w < j) × ManagedAt h j) → (b : Bool) → is_managed_entry n ≡ b → w + 1 ≤ length h → count_below h (w + 1) < managed_count h + one (is_managed_entry n) → (j : ℕ) × (w < j) × ManagedAt (n ∷ h) j
+    by : (count_below h (w + 1) < managed_count h → (j : ℕ) × (w < j) × ManagedAt h j) → (b : Bool) → is_managed_entry n ≡ b
+        → w + 1 ≤ length h → count_below h (w + 1) < managed_count h + one (is_managed_entry n) → (j : ℕ) × (w < j) × ManagedAt (n ∷ h) j
     by again true e far less = (length h, omega (arith, far), (n, inl (refl, refl), e))
     by again false e far less =
         let none : one (is_managed_entry n) ≡ 0 = ap (λ z. one z) e in
@@ -84,10 +85,12 @@ forth (n ∷ h) t w j l m k = by (forth h t w j l) (is_thread n.entry.made.calle
     earlier e = at k.2.1
       where
         at : At (n ∷ h) k.0 k.2.0 → KnownFrom h t j
-        at (inl q) = absurd (let itself : is_thread n.entry.made.caller t ≡ true = subst (λ z. is_thread z t ≡ true) (sym (ap (λ (z : Noted). z.entry.made.caller) q.1 ∙ k.2.2)) (thread_itself t) in let f : ⊥ = cc in f)
+        at (inl q) = absurd (let itself : is_thread n.entry.made.caller t ≡ true = subst (λ z. is_thread z t ≡ true) (sym (ap (λ (z : Noted). z.entry.made.caller) q.1 ∙ k.2.2)) (thread_itself t) in
+            let f : ⊥ = cc in f)
         at (inr a) = (k.0, k.1, (k.2.0, a, k.2.2))
 
-    by : (ManagedAt h j → KnownFrom h t j → count_below h (w + 1) < seen h t) → (b : Bool) → is_thread n.entry.made.caller t ≡ b → count_below (n ∷ h) (w + 1) < (if b then managed_count (n ∷ h) else seen h t)
+    by : (ManagedAt h j → KnownFrom h t j → count_below h (w + 1) < seen h t) → (b : Bool)
+        → is_thread n.entry.made.caller t ≡ b → count_below (n ∷ h) (w + 1) < (if b then managed_count (n ∷ h) else seen h t)
     by again true e = counted-later (n ∷ h) w j l m
     by again false e =
         let k' = earlier e in
@@ -105,7 +108,8 @@ pub back : (h : List Noted) (t : Thread) (w : ℕ) → count_below h (w + 1) < s
 back [] t w l = absurd (omega (arith, l))
 back (n ∷ h) t w l = by (back h t w) (is_thread n.entry.made.caller t) refl l
   where
-    by : (count_below h (w + 1) < seen h t → (j : ℕ) × (w < j) × ManagedAt h j × KnownFrom h t j) → (b : Bool) → is_thread n.entry.made.caller t ≡ b → count_below (n ∷ h) (w + 1) < (if b then managed_count (n ∷ h) else seen h t) → (j : ℕ) × (w < j) × ManagedAt (n ∷ h) j × KnownFrom (n ∷ h) t j
+    by : (count_below h (w + 1) < seen h t → (j : ℕ) × (w < j) × ManagedAt h j × KnownFrom h t j) → (b : Bool) → is_thread n.entry.made.caller t ≡ b
+        → count_below (n ∷ h) (w + 1) < (if b then managed_count (n ∷ h) else seen h t) → (j : ℕ) × (w < j) × ManagedAt (n ∷ h) j × KnownFrom (n ∷ h) t j
     by again true e less =
         let r = later-counted (n ∷ h) w less in
         let in_all = within (n ∷ h) r.0 r.2.0 r.2.1 in

@@ -133,12 +133,14 @@ module _ (s : Linkage) (n : Noted) where
         comes = comes-so;
       });
       plain = subst (TellsPlainly s.control.stand n.entry.made.op) (sym bare) plain;
-      after = subst (λ r. by_list (pinned s no_pins) n (is_peer_event n.entry.made.caller n.entry.made.op) r ≡ pinned (linkage_after s n) no_pins) (sym e) (past-so (is_peer_event n.entry.made.caller n.entry.made.op))
+      after = subst (λ r. by_list (pinned s no_pins) n (is_peer_event n.entry.made.caller n.entry.made.op) r ≡ pinned (linkage_after s n) no_pins)
+          (sym e) (past-so (is_peer_event n.entry.made.caller n.entry.made.op))
           ∙ ap (λ z. pinned z no_pins) (sym (after-other s n e));
     }
 
   -- one with which pins are kept
-  module _ (e : is_read n.entry.made.op ≡ false) (f : is_pinned n.entry.made.op ≡ true) (w : MayCome s n) (plain : TellsPlainly s.control.stand n.entry.made.op n.told) (k : IsManagedKept s.managed.managed) where
+  module _ (e : is_read n.entry.made.op ≡ false) (f : is_pinned n.entry.made.op ≡ true) (w : MayCome s n)
+      (plain : TellsPlainly s.control.stand n.entry.made.op n.told) (k : IsManagedKept s.managed.managed) where
     abbrev pinned-note : Noted
     pinned-note = record { entry = n.entry; told = kept_pins s.managed.managed.pins n.told }
 
@@ -166,7 +168,8 @@ record Step (s : Linkage) (n : Noted) : Type 0 where
   note : Noted
   known : Known s n note
 
-step : (h : Finished) (past : List Noted) (n : Noted) → ComesBehind (is_read n.entry.made.op) (state_of past) n → RepliesBehind (is_read n.entry.made.op) h past n → IsManagedKept (state_of past).managed.managed → Step (state_of past) n
+step : (h : Finished) (past : List Noted) (n : Noted) → ComesBehind (is_read n.entry.made.op) (state_of past) n
+    → RepliesBehind (is_read n.entry.made.op) h past n → IsManagedKept (state_of past).managed.managed → Step (state_of past) n
 step h past n w q k = by (is_read n.entry.made.op) (is_pinned n.entry.made.op) refl refl w q
   where
     by : (b p : Bool) → is_read n.entry.made.op ≡ b → is_pinned n.entry.made.op ≡ p → ComesBehind b (state_of past) n → RepliesBehind b h past n → Step (state_of past) n
@@ -193,8 +196,10 @@ knows h (n ∷ past) p o =
         lawful = (
           record {
             later = (let a = r.next in let b = p.0 in let c = ap (λ e. e.number) m in omega (arith, a, b, c));
-            comes = subst (λ (z : Linkage). Comes (is_read t.note.entry.made.op) z t.note) (sym r.is.ends) (subst (λ e. Comes (is_read e.made.op) (pinned (state_of past) no_pins) t.note) (sym m) t.known.comes);
-            plain = subst (λ (z : Linkage). TellsPlainly z.control.stand t.note.entry.made.op (bare_told t.note.told)) (sym r.is.ends) (subst (λ e. TellsPlainly (state_of past).control.stand e.made.op (bare_told t.note.told)) (sym m) t.known.plain);
+            comes = subst (λ (z : Linkage). Comes (is_read t.note.entry.made.op) z t.note) (sym r.is.ends)
+                (subst (λ e. Comes (is_read e.made.op) (pinned (state_of past) no_pins) t.note) (sym m) t.known.comes);
+            plain = subst (λ (z : Linkage). TellsPlainly z.control.stand t.note.entry.made.op (bare_told t.note.told)) (sym r.is.ends)
+                (subst (λ e. TellsPlainly (state_of past).control.stand e.made.op (bare_told t.note.told)) (sym m) t.known.plain);
           },
           r.is.lawful,
         );

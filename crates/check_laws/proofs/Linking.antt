@@ -42,7 +42,8 @@ linked-by h m past o f =
     record {
       same = o.same;
       numbers = m;
-      lawful = subst (λ (z : Linkage). AllMayComeReading (in_turn past) z.managed.managed.cells opening_linkage (in_turn past)) (sym ends) (lawful-turned (in_turn past) (state_of past).managed.managed.cells past (all_come h past o.order) (all_over h past m o f));
+      lawful = subst (λ (z : Linkage). AllMayComeReading (in_turn past) z.managed.managed.cells opening_linkage (in_turn past)) (sym ends)
+          (lawful-turned (in_turn past) (state_of past).managed.managed.cells past (all_come h past o.order) (all_over h past m o f));
       whole = subst IsWhole (sym ends) f.whole;
       freed_managed = lists.objects ∙ ap (λ (z : Linkage). z.managed.managed.heap.freed) (sym ends);
       freed_peers = lists.peers ∙ ap (λ (z : Linkage). z.peer.peers.heap.freed) (sym ends);
@@ -69,12 +70,21 @@ longer n list span numbers s =
     record { within = omega (arith, low, many); named = s.named ∙ drop-take-less span.first span.count n list (omega (arith, low, many)) }
 
 tells-longer : (n m : ℕ) (ms ps : List ℕ) (r : Reply) (told : Told) → TellsNamed (take n ms) (take m ps) r told → TellsNamed ms ps r told
-tells-longer n m ms ps (says.Snapped count span) told w = record { freed = w.freed; candidates = w.candidates; dead = w.dead; is = w.is; counted = w.counted; rises = w.rises; stands = longer n ms span w.freed w.stands }
+tells-longer n m ms ps (says.Snapped count span) told w = record {
+  freed = w.freed;
+  candidates = w.candidates;
+  dead = w.dead;
+  is = w.is;
+  counted = w.counted;
+  rises = w.rises;
+  stands = longer n ms span w.freed w.stands;
+}
 tells-longer n m ms ps (says.Swept j span) told w = record { freed = w.freed; is = w.is; rises = w.rises; stands = longer m ps span w.freed w.stands }
 tells-longer n m ms ps (says.Freed span) told w = record { alive = w.alive; freed = w.freed; is = w.is; rises = w.rises; stands = longer n ms span w.freed w.stands }
 tells-longer n m ms ps r told w = w
 
-named-so : (h : Finished) (r : Reply) (told : Told) → TellsNamed (managed_numbers (as_named h).freed_managed) (peer_numbers (as_named h).freed_peers) r told → TellsNamed (managed_numbers h.freed_managed) (peer_numbers h.freed_peers) r told
+named-so : (h : Finished) (r : Reply) (told : Told) → TellsNamed (managed_numbers (as_named h).freed_managed) (peer_numbers (as_named h).freed_peers) r told
+    → TellsNamed (managed_numbers h.freed_managed) (peer_numbers h.freed_peers) r told
 named-so h r told w =
     let n = sum_by (λ e. objects_in e.made.reply) h.entries in
     let m = sum_by (λ e. peers_in e.made.reply) h.entries in
@@ -122,8 +132,10 @@ first-of front n back =
 module _ (h : Finished) (notes : List Noted) (l : IsLinkedBy (as_named h) notes) where
   names-in : (front : List Noted) (n : Noted) (back : List Noted) → notes ≡ in_turn (front ++ n ∷ back) → NamesSo h (state_of back).managed.managed n
   names-in front n back e =
-      let there : slice_get notes (length back) ≡ Some n = subst (λ z. slice_get z (length back) ≡ Some n) (sym e) (at-get (front ++ n ∷ back) (length back) n (at-more front (n ∷ back) (length back) n (inl (refl, refl)))) in
-      let state : reading_at notes (length back) ≡ state_of back = ap (λ z. reading_at z (length back)) e ∙ (ap (λ z. replayed_reading opening_linkage z) (first-of front n back) ∙ ends-onto back []) in
+      let there : slice_get notes (length back) ≡ Some n = subst (λ z. slice_get z (length back) ≡ Some n) (sym e)
+      (at-get (front ++ n ∷ back) (length back) n (at-more front (n ∷ back) (length back) n (inl (refl, refl)))) in
+      let state : reading_at notes (length back) ≡ state_of back = ap (λ z. reading_at z (length back)) e
+      ∙ (ap (λ z. replayed_reading opening_linkage z) (first-of front n back) ∙ ends-onto back []) in
       record {
         freed = named-so h n.entry.made.reply n.told (told_is_named (as_named h) notes l (length back) n there);
         taken = λ span took. subst (λ (z : Linkage). TakesNamed (managed_numbers h.notices) z.managed.managed span) state (notices_are_named (as_named h) notes l (length back) n span there took);
@@ -139,7 +151,12 @@ module _ (h : Finished) (notes : List Noted) (l : IsLinkedBy (as_named h) notes)
           record { turn = o.0; cites = o.1; replies = subst (λ b. RepliesBehind b h back n) (sym q) (record { bare = o.2; reply = reads }) }
       by false q w =
           let o = (order_tested (state_of back) n).1 w in
-          record { turn = o.turn; cites = o.cites; replies = subst (λ b. RepliesBehind b h back n) (sym q) (record { replies = o.replies; plain = plain q; names = names-in front n back e; snap = gives }) }
+          record {
+            turn = o.turn;
+            cites = o.cites;
+            replies = subst (λ b. RepliesBehind b h back n) (sym q)
+                (record { replies = o.replies; plain = plain q; names = names-in front n back e; snap = gives });
+          }
 
   all-order : (front past : List Noted) → notes ≡ in_turn (front ++ past) → AllComeBehind past → PlainPast past → AllReadBehind past → AllInOrder h past
   all-order front [] e w p r = tt

@@ -1,6 +1,7 @@
 -- What the replies of a past in order name is what was freed and taken: each freed list begins with what was freed
 -- before, and goes on with what the reply's span names; and so it is with the notices that were taken.
-use Rattle.std.proofs.Common.{◌≡◌, ◌⊎◌, inl, inr, ℕ, ◌+◌, ◌-◌, ◌≤◌, Bool, true, false, ◌||◌, List, [], ◌∷◌, ◌++◌, length, take, drop, Option, Some, None, refl, sym, ap, ◌∙◌, subst, arith, length-append}
+use Rattle.std.proofs.Common.{◌≡◌, ◌⊎◌, inl, inr, ℕ, ◌+◌, ◌-◌, ◌≤◌, Bool, true, false, ◌||◌, List, [], ◌∷◌, ◌++◌, length, take, drop, Option, Some, None, refl, sym, ap, ◌∙◌, subst, arith}
+use Rattle.std.proofs.Common.{length-append}
 use Rattle.std.specs.Prelude.{if◌then◌else◌, sum_by, min}
 use Rattle.std.proofs.lemmas.List.{append-nil, take-append-le, take-map}
 use Rattle.std.proofs.lemmas.List.Sums.{sum_by_push}
@@ -24,7 +25,8 @@ use Rattle.joint_machine.specs.Heaps.{answer, slot, place, is_full}
 use Rattle.joint_machine.specs.Histories.{Finished, managed_numbers, peer_numbers, NumberedFrom}
 use Rattle.joint_machine.specs.Lines.{IsEvent, is_peer_event, is_read}
 use Rattle.joint_machine.specs.Linked.{Linkage, MayCome, SideLawful, PeerLawful, ManagedLawful, linkage_after, managed_after, peer_after}
-use Rattle.joint_machine.specs.Managed.{Managed, OpenCycle, managed_line, adopted, met, given_up, with_row, cell_set, weakened_to, read_cell, pin_taken, without_handle, twin_met, twin_kind, twin_fields}
+use Rattle.joint_machine.specs.Managed.{Managed, OpenCycle, managed_line, adopted, met, given_up, with_row, cell_set, weakened_to, read_cell, pin_taken, without_handle, twin_met, twin_kind}
+use Rattle.joint_machine.specs.Managed.{twin_fields}
 use Rattle.joint_machine.specs.ManagedReplay.{ManagedReplay, ManagedAllows, managed_answer, registered}
 use Rattle.joint_machine.specs.PeerReplay.{PeerReplay, Marking, PeerAllows, SliceAllows, SweepAllows, is_thread, swept, swept_of, peer_answer}
 use Rattle.joint_machine.specs.Readers.{ReadsCell, is_set_aside, is_managed_entry}
@@ -183,34 +185,40 @@ module _ (ms ps : List ℕ) (s : Linkage) (t : Thread) (l : ℕ) (reply : Reply)
   abbrev peers_before : List ℕ
   peers_before = s.peer.peers.heap.freed
 
-  none-adds : (o : Op) (told : Told) → NoObjects told → IsReplayKept s.managed → TellsNamed ms ps reply told → Adds before (managed_answer s.managed t o told).state.managed.heap.freed ms (objects_in reply)
+  none-adds : (o : Op) (told : Told) → NoObjects told → IsReplayKept s.managed → TellsNamed ms ps reply told
+      → Adds before (managed_answer s.managed t o told).state.managed.heap.freed ms (objects_in reply)
   none-adds o told n k w = adds-none _ _ _ _ (managed-none s.managed t o told n k) (told-objects ms ps reply told w n)
 
-  snap-adds : (freed candidates dead : List ℕ) (after : List ℕ) → after ≡ before ++ freed → reply ≡ says.Snapped (length candidates) record { first = length before; count = length freed } → TellsNamed ms ps reply (snap_of freed candidates dead) → Adds before after ms (objects_in reply)
+  snap-adds : (freed candidates dead : List ℕ) (after : List ℕ) → after ≡ before ++ freed → reply ≡ says.Snapped (length candidates) record { first = length before; count = length freed }
+      → TellsNamed ms ps reply (snap_of freed candidates dead) → Adds before after ms (objects_in reply)
   snap-adds freed candidates dead after is r w =
       let x = subst (λ z. TellsNamed ms ps z (snap_of freed candidates dead)) r w in
       let same : freed ≡ x.freed = ap (frees-of []) x.is in
       record { more = freed; after = is; many = ap objects_in r; named = inr (subst (λ z. IsStretch ms (record { first = length before; count = length freed }) z) (sym same) x.stands) }
 
-  resolve-adds : (alive : List Answer) (freed : List ℕ) (after : List ℕ) → after ≡ before ++ freed → reply ≡ says.Freed record { first = length before; count = length freed } → TellsNamed ms ps reply (resolution_of alive freed) → Adds before after ms (objects_in reply)
+  resolve-adds : (alive : List Answer) (freed : List ℕ) (after : List ℕ) → after ≡ before ++ freed
+      → reply ≡ says.Freed record { first = length before; count = length freed } → TellsNamed ms ps reply (resolution_of alive freed) → Adds before after ms (objects_in reply)
   resolve-adds alive freed after is r w =
       let x = subst (λ z. TellsNamed ms ps z (resolution_of alive freed)) r w in
       let same : freed ≡ x.freed = ap (frees-of []) x.is in
       record { more = freed; after = is; many = ap objects_in r; named = inr (subst (λ z. IsStretch ms (record { first = length before; count = length freed }) z) (sym same) x.stands) }
 
-  managed-adds : (o : Op) (told : Told) → ManagedLawful s.managed (made o) told → IsReplayKept s.managed → TellsNamed ms ps reply told → Adds before (managed_answer s.managed t o told).state.managed.heap.freed ms (objects_in reply)
+  managed-adds : (o : Op) (told : Told) → ManagedLawful s.managed (made o) told → IsReplayKept s.managed
+      → TellsNamed ms ps reply told → Adds before (managed_answer s.managed t o told).state.managed.heap.freed ms (objects_in reply)
   managed-adds (op.Snap n) (snap_of freed candidates dead) v k w = snap-adds freed candidates dead _ refl v.replies w
   managed-adds (op.Resolve n) (resolution_of alive freed) v k w = resolve-adds alive freed _ refl v.replies w
   managed-adds o (snap_of freed candidates dead) v k w = absurd v.allowed
   managed-adds o (resolution_of alive freed) v k w = absurd v.allowed
   managed-adds o told v k w = none-adds o told tt k w
 
-  objects-add : (o : Op) (told : Told) (b : Bool) → SideLawful b s (made o) told → IsReplayKept s.managed → TellsNamed ms ps reply told → Adds before (managed_after s.managed (made o) told b).managed.heap.freed ms (objects_in reply)
+  objects-add : (o : Op) (told : Told) (b : Bool) → SideLawful b s (made o) told → IsReplayKept s.managed
+      → TellsNamed ms ps reply told → Adds before (managed_after s.managed (made o) told b).managed.heap.freed ms (objects_in reply)
   objects-add o told true v k w = adds-none _ _ _ _ refl (told-objects ms ps reply told w (peer-objects s.peer t o cites told v.allowed))
   objects-add o told false v k w = managed-adds o told v k w
 
   -- an entry of the peer side and the freed peers
-  swept-adds : (mk : Marking) (freed : List ℕ) (b : Bool) → b ≡ true → reply ≡ (if b then swept_of s.peer mk freed else answer (says.MarkOpen record { 0 = mk.number }) s.peer).reply → TellsNamed ms ps reply (sweep_of freed)
+  swept-adds : (mk : Marking) (freed : List ℕ) (b : Bool) → b ≡ true
+      → reply ≡ (if b then swept_of s.peer mk freed else answer (says.MarkOpen record { 0 = mk.number }) s.peer).reply → TellsNamed ms ps reply (sweep_of freed)
       → Adds peers_before (if b then swept_of s.peer mk freed else answer (says.MarkOpen record { 0 = mk.number }) s.peer).state.peers.heap.freed ps (peers_in reply)
   swept-adds mk freed false e r w = absurd (let f : ⊥ = cc in f)
   swept-adds mk freed true e r w =
@@ -223,7 +231,8 @@ module _ (ms ps : List ℕ) (s : Linkage) (t : Thread) (l : ℕ) (reply : Reply)
   none-to-end (M n) freed a = a
   none-to-end C freed a = a
 
-  sweep-adds : (x : Option Marking) (freed : List ℕ) → SweepAllows s.peer x t (sweep_of freed) → reply ≡ (swept s.peer x t freed).reply → TellsNamed ms ps reply (sweep_of freed) → Adds peers_before (swept s.peer x t freed).state.peers.heap.freed ps (peers_in reply)
+  sweep-adds : (x : Option Marking) (freed : List ℕ) → SweepAllows s.peer x t (sweep_of freed) → reply ≡ (swept s.peer x t freed).reply
+      → TellsNamed ms ps reply (sweep_of freed) → Adds peers_before (swept s.peer x t freed).state.peers.heap.freed ps (peers_in reply)
   sweep-adds None freed a r w = absurd (none-to-end t freed a)
   sweep-adds (Some mk) freed a r w = swept-adds mk freed (is_thread t C || is_thread t mk.by) (may-end t mk.by a.0) r w
 
@@ -235,7 +244,8 @@ module _ (ms ps : List ℕ) (s : Linkage) (t : Thread) (l : ℕ) (reply : Reply)
       by true = append-nil peers_before
       by false = refl
 
-  sweep-by : (told : Told) → PeerLawful s.peer (made op.Sweep) told → TellsNamed ms ps reply told → Adds peers_before (peer_answer s.peer t op.Sweep cites told).state.peers.heap.freed ps (peers_in reply)
+  sweep-by : (told : Told) → PeerLawful s.peer (made op.Sweep) told → TellsNamed ms ps reply told
+      → Adds peers_before (peer_answer s.peer t op.Sweep cites told).state.peers.heap.freed ps (peers_in reply)
   sweep-by (sweep_of freed) v w = sweep-adds s.peer.marking freed v.allowed v.replies w
   sweep-by nothing v w = adds-none _ _ _ _ (unswept s.peer.marking) (told-peers ms ps reply nothing w tt)
   sweep-by (snap_of f c d) v w = absurd (sweep-objects s.peer s.peer.marking t (snap_of f c d) v.allowed)
@@ -256,7 +266,8 @@ peer-peers s t o cites _ q a = tt
 
 module _ (ms ps : List ℕ) (s : Linkage) (n : Noted) (w : TellsNamed ms ps n.entry.made.reply n.told) where
   entry-objects : MayCome s n → IsReplayKept s.managed → Adds s.managed.managed.heap.freed (linkage_after s n).managed.managed.heap.freed ms (objects_in n.entry.made.reply)
-  entry-objects m k = objects-add ms ps s n.entry.made.caller n.entry.made.index n.entry.made.reply n.entry.made.cites n.entry.made.op n.told (is_peer_event n.entry.made.caller n.entry.made.op) m.lawful k w
+  entry-objects m k = objects-add ms ps s n.entry.made.caller n.entry.made.index n.entry.made.reply n.entry.made.cites n.entry.made.op n.told
+      (is_peer_event n.entry.made.caller n.entry.made.op) m.lawful k w
 
   side-peers : (b : Bool) → is_peer_event n.entry.made.caller n.entry.made.op ≡ b → (n.entry.made.op ≡ op.Sweep → ⊥) → SideLawful b s n.entry.made n.told → NoPeers n.told
   side-peers true e q v = peer-peers s.peer n.entry.made.caller n.entry.made.op n.entry.made.cites n.told q v.allowed
@@ -271,7 +282,8 @@ module _ (ms ps : List ℕ) (s : Linkage) (n : Noted) (w : TellsNamed ms ps n.en
       swept : n.entry.made.op ≡ op.Sweep → Adds s.peer.peers.heap.freed (linkage_after s n).peer.peers.heap.freed ps (peers_in n.entry.made.reply)
       swept e =
           let v = subst (λ o. SideLawful (is_peer_event n.entry.made.caller o) s (record n.entry.made { op = o }) n.told) e m.lawful in
-          subst (λ o. Adds s.peer.peers.heap.freed (peer_after s.peer (record n.entry.made { op = o }) n.told (is_peer_event n.entry.made.caller o)).peers.heap.freed ps (peers_in n.entry.made.reply)) (sym e)
+          subst (λ o. Adds s.peer.peers.heap.freed (peer_after s.peer (record n.entry.made { op = o }) n.told (is_peer_event n.entry.made.caller o)).peers.heap.freed ps (peers_in n.entry.made.reply))
+          (sym e)
           (sweep-by ms ps s n.entry.made.caller n.entry.made.index n.entry.made.reply n.entry.made.cites n.told v w)
 
 -- the notices that were taken are the first of the list, and of those that were queued
@@ -355,7 +367,8 @@ event-taken s t o told q = refl
 module _ (s : Linkage) (list : List ℕ) (w : Waits s.managed.managed list) where
   still-waits : (m : Managed) (more : List ℕ) → m.taken ≡ s.managed.managed.taken → m.notices ≡ s.managed.managed.notices ++ more → Waits m list
   still-waits m more e g = record {
-    same = ap (λ k. take k list) e ∙ (w.same ∙ (sym (take-append-le s.managed.managed.taken s.managed.managed.notices more w.within) ∙ (ap (λ z. take s.managed.managed.taken z) (sym g) ∙ ap (λ k. take k m.notices) (sym e))));
+    same = ap (λ k. take k list) e ∙ (w.same ∙ (sym (take-append-le s.managed.managed.taken s.managed.managed.notices more w.within)
+        ∙ (ap (λ z. take s.managed.managed.taken z) (sym g) ∙ ap (λ k. take k m.notices) (sym e))));
     within = (let a = w.within in let b = ap length g in let c = length-append s.managed.managed.notices more in omega (arith, a, b, c, e));
     long = (let a = w.long in omega (arith, a, e));
   }
@@ -371,7 +384,8 @@ module _ (s : Linkage) (list : List ℕ) (w : Waits s.managed.managed list) wher
     other-waits : (o : Op) (told : Told) → (IsFinalise o → ⊥) → Waits (linkage_after s (note o told)).managed.managed list
     other-waits o told q = (let g = (notices-go s (note o told)).grows in still-waits (linkage_after s (note o told)).managed.managed g.0 (after-taken o told (is_peer_event t o) q) g.1)
 
-    takes-more : (m : Managed) (count : ℕ) → reply ≡ says.Took record { first = s.managed.managed.taken; count = count } → m.taken ≡ s.managed.managed.taken + count → m.notices ≡ s.managed.managed.notices → Waits m list
+    takes-more : (m : Managed) (count : ℕ) → reply ≡ says.Took record { first = s.managed.managed.taken; count = count }
+        → m.taken ≡ s.managed.managed.taken + count → m.notices ≡ s.managed.managed.notices → Waits m list
     takes-more m count r e g =
         let x = named (record { first = s.managed.managed.taken; count = count }) r in
         let low = x.stands.within in
@@ -385,7 +399,9 @@ module _ (s : Linkage) (list : List ℕ) (w : Waits s.managed.managed list) wher
           long = omega (arith, low, e);
         }
 
-waits-on : (s : Linkage) (list : List ℕ) → Waits s.managed.managed list → (t : Thread) (l : ℕ) (reply : Reply) (cites : Option ℕ) (number : ℕ) (named : (span : Span) → reply ≡ says.Took span → TakesNamed list s.managed.managed span) (o : Op) (told : Told) → IsEvent t o
+waits-on : (s : Linkage) (list : List ℕ) → Waits s.managed.managed list
+    → (t : Thread) (l : ℕ) (reply : Reply) (cites : Option ℕ) (number : ℕ) (named : (span : Span) → reply ≡ says.Took span → TakesNamed list s.managed.managed span) (o : Op) (told : Told)
+    → IsEvent t o
     → SideLawful (is_peer_event t o) s (record { caller = t; index = l; op = o; reply = reply; cites = cites }) told
     → Waits (linkage_after s (record { entry = record { number = number; made = record { caller = t; index = l; op = o; reply = reply; cites = cites } }; told = told })).managed.managed list
 waits-on s list w C l reply cites number named (op.Line (act.Finalise n)) told e v =
@@ -456,9 +472,11 @@ all-named h whole cells (n ∷ past) o w r v = by (all-named h whole cells past 
         let same = sym (after-read (state_of past) n e) in
         record {
           objects = subst (λ (z : Linkage). IsNamed z.managed.managed.heap.freed (managed_numbers h.freed_managed) (objects_by (n ∷ past))) same
-              (subst (λ k. IsNamed (state_of past).managed.managed.heap.freed (managed_numbers h.freed_managed) k) (let a = objects-sum in let b = none.0 in let u : objects_by past ≡ objects_by (n ∷ past) = omega (arith, a, b) in u) rest.objects);
+              (subst (λ k. IsNamed (state_of past).managed.managed.heap.freed (managed_numbers h.freed_managed) k)
+              (let a = objects-sum in let b = none.0 in let u : objects_by past ≡ objects_by (n ∷ past) = omega (arith, a, b) in u) rest.objects);
           peers = subst (λ (z : Linkage). IsNamed z.peer.peers.heap.freed (peer_numbers h.freed_peers) (peers_by (n ∷ past))) same
-              (subst (λ k. IsNamed (state_of past).peer.peers.heap.freed (peer_numbers h.freed_peers) k) (let a = peers-sum in let b = none.1 in let u : peers_by past ≡ peers_by (n ∷ past) = omega (arith, a, b) in u) rest.peers);
+              (subst (λ k. IsNamed (state_of past).peer.peers.heap.freed (peer_numbers h.freed_peers) k)
+              (let a = peers-sum in let b = none.1 in let u : peers_by past ≡ peers_by (n ∷ past) = omega (arith, a, b) in u) rest.peers);
           notices = subst (λ (z : Linkage). Waits z.managed.managed (managed_numbers h.notices)) same (record { same = rest.notices.same; within = rest.notices.within; long = rest.notices.long });
         }
     by rest false e q c =
@@ -473,7 +491,8 @@ all-named h whole cells (n ∷ past) o w r v = by (all-named h whole cells past 
               (subst (λ k. IsNamed (linkage_after (state_of past) n).peer.peers.heap.freed (peer_numbers h.freed_peers) k) (sym peers-sum)
               (goes-on _ _ _ _ _ rest.peers (entry-peers (managed_numbers h.freed_managed) (peer_numbers h.freed_peers) (state_of past) n q.names.freed c p)));
           notices = subst (λ (z : Linkage). Waits z.managed.managed (managed_numbers h.notices)) same
-              (waits-on (state_of past) (managed_numbers h.notices) rest.notices n.entry.made.caller n.entry.made.index n.entry.made.reply n.entry.made.cites n.entry.number q.names.taken n.entry.made.op n.told c.event c.lawful);
+              (waits-on (state_of past) (managed_numbers h.notices) rest.notices n.entry.made.caller n.entry.made.index
+              n.entry.made.reply n.entry.made.cites n.entry.number q.names.taken n.entry.made.op n.told c.event c.lawful);
         }
 
 -- a past in order reads behind
@@ -492,7 +511,9 @@ pub names_lists : NamesAreLists
 names_lists h past m o f =
     let a = all-named h (in_turn past) (state_of past).managed.managed.cells past o.order (all_come h past o.order) (stand_behind past (all_read h past o.order)) (all_over h past m o f) in
     record {
-      objects = sym (take-map (λ (x : MNum). x.0) (sum_by (λ e. objects_in e.made.reply) h.entries) h.freed_managed) ∙ (ap (λ es. take (sum_by (λ e. objects_in e.made.reply) es) (managed_numbers h.freed_managed)) (sym o.same) ∙ sym a.objects.same);
-      peers = sym (take-map (λ (x : PNum). x.0) (sum_by (λ e. peers_in e.made.reply) h.entries) h.freed_peers) ∙ (ap (λ es. take (sum_by (λ e. peers_in e.made.reply) es) (peer_numbers h.freed_peers)) (sym o.same) ∙ sym a.peers.same);
+      objects = sym (take-map (λ (x : MNum). x.0) (sum_by (λ e. objects_in e.made.reply) h.entries) h.freed_managed)
+          ∙ (ap (λ es. take (sum_by (λ e. objects_in e.made.reply) es) (managed_numbers h.freed_managed)) (sym o.same) ∙ sym a.objects.same);
+      peers = sym (take-map (λ (x : PNum). x.0) (sum_by (λ e. peers_in e.made.reply) h.entries) h.freed_peers)
+          ∙ (ap (λ es. take (sum_by (λ e. peers_in e.made.reply) es) (peer_numbers h.freed_peers)) (sym o.same) ∙ sym a.peers.same);
       notices = a.notices.same;
     }

@@ -79,7 +79,8 @@ first-part past es i n same c =
     let all : es ≡ entries (in_turn c.back) ++ (n.entry ∷ entries (turned [] c.front)) =
     sym same ∙ (ap (λ z. entries (in_turn z)) c.all ∙ (ap entries whole ∙ entries-append (in_turn c.back) (n ∷ turned [] c.front))) in
     let many : length (entries (in_turn c.back)) ≡ i = entries-length c.back ∙ c.place in
-    sym (ap (λ z. take i z) all ∙ (ap (λ k. take k (entries (in_turn c.back) ++ (n.entry ∷ entries (turned [] c.front)))) (sym many) ∙ take-append_seam (entries (in_turn c.back)) (n.entry ∷ entries (turned [] c.front))))
+    sym (ap (λ z. take i z) all ∙ (ap (λ k. take k (entries (in_turn c.back) ++ (n.entry ∷ entries (turned [] c.front)))) (sym many)
+    ∙ take-append_seam (entries (in_turn c.back)) (n.entry ∷ entries (turned [] c.front))))
 
 pub before : (past : List Noted) (es : List Entry) (i : ℕ) (e : Entry) → entries (in_turn past) ≡ es → slice_get es i ≡ Some e → Before past es i e
 before past es i e same there =
@@ -92,7 +93,8 @@ order-back h [] past w = w
 order-back h (n ∷ front) past w = order-back h front past w.1
 
 -- an entry in order that is no read may come, told plainly
-pub may-be-told : (h : Finished) (past : List Noted) (e : Entry) (t : Told) → IsTurn (state_of past) e.made → CitesSo (state_of past) e.made → SideReplies h past (record { entry = e; told = t }) → MayBeTold (state_of past) e t
+pub may-be-told : (h : Finished) (past : List Noted) (e : Entry) (t : Told) → IsTurn (state_of past) e.made
+    → CitesSo (state_of past) e.made → SideReplies h past (record { entry = e; told = t }) → MayBeTold (state_of past) e t
 may-be-told h past e t turn cites r = ((order_tested (state_of past) (record { entry = e; told = t })).0 (record { turn = turn; cites = cites; replies = r.replies }), r.plain)
 
 told-one : (h : Finished) (past : List Noted) (e : Entry) (t u : Told) → IsInOrderBehind h past (record { entry = e; told = t }) → IsInOrderBehind h past (record { entry = e; told = u }) → t ≡ u
@@ -129,7 +131,8 @@ fails-none why.Cite h past e t f o = f.1 o.cites
 fails-none why.Reply h past e t f o = f.2 t o.replies
 
 -- so an entry of a past in order isn't the first that fails
-none-first : (h : Finished) (a b : List Noted) (es : List Entry) (i : ℕ) (e : Entry) (w : Why) → entries (in_turn a) ≡ es → AllInOrder h a → slice_get es i ≡ Some e → entries (in_turn b) ≡ take i es → AllInOrder h b → FailsBy w h b e → ⊥
+none-first : (h : Finished) (a b : List Noted) (es : List Entry) (i : ℕ) (e : Entry) (w : Why) → entries (in_turn a) ≡ es
+    → AllInOrder h a → slice_get es i ≡ Some e → entries (in_turn b) ≡ take i es → AllInOrder h b → FailsBy w h b e → ⊥
 none-first h a b es i e w same order there first ordered f =
     let c = before a es i e same there in
     let all = order-back h c.front (c.note ∷ c.back) (subst (AllInOrder h) c.all order) in
@@ -166,7 +169,8 @@ why-one why.Reply why.Reply h past e f g = refl
 
 -- the first of two is the only one
 earlier : (h : Finished) (i j : ℕ) (v w : Why) → i < j → IsFinding h (finding.Illegal i v) → IsFinding h (finding.Illegal j w) → ⊥
-earlier h i j v w l f g = none-first h g.0 f.0 (take j h.entries) i f.2.0 v g.1.same g.1.order (get-less h.entries i j l ∙ f.2.1) (f.1.same ∙ sym (take-less h.entries i j (omega (arith, l)))) f.1.order f.2.2
+earlier h i j v w l f g = none-first h g.0 f.0 (take j h.entries) i f.2.0 v g.1.same g.1.order
+    (get-less h.entries i j l ∙ f.2.1) (f.1.same ∙ sym (take-less h.entries i j (omega (arith, l)))) f.1.order f.2.2
 
 illegal-one : (h : Finished) (i j : ℕ) (v w : Why) → IsFinding h (finding.Illegal i v) → IsFinding h (finding.Illegal j w) → finding.Illegal i v ≡ finding.Illegal j w
 illegal-one h i j v w f g = elim (split i j) [

@@ -29,7 +29,8 @@ module _ (x : Noted) (h : List Noted) (quiet : is_managed_entry x ≡ false) whe
   none-later [] j e (n, inr a, c) = within h j n a
   none-later (y ∷ later) j e m = by (none-later later j) (first_managed later) refl (is_managed_entry y) refl e m
     where
-      by : (first_managed later ≡ None → ManagedAt (later ++ x ∷ h) j → j < length h) → (o : Option Noted) → first_managed later ≡ o → (b : Bool) → is_managed_entry y ≡ b → pick b y o ≡ None → ManagedAt (y ∷ later ++ x ∷ h) j → j < length h
+      by : (first_managed later ≡ None → ManagedAt (later ++ x ∷ h) j → j < length h) → (o : Option Noted) → first_managed later ≡ o
+          → (b : Bool) → is_managed_entry y ≡ b → pick b y o ≡ None → ManagedAt (y ∷ later ++ x ∷ h) j → j < length h
       by again (Some z) q b p e m = absurd (none_some z (sym e))
       by again None q true p e m = absurd (none_some y (sym e))
       by again None q false p e (n, inl r, c) = absurd (true-false (is_managed_entry n) c (sym (ap is_managed_entry r.1) ∙ p))
@@ -54,7 +55,13 @@ module _ (x : Noted) (h : List Noted) (quiet : is_managed_entry x ≡ false) whe
       by : (first_managed later ≡ Some n → First later n) → (o : Option Noted) → first_managed later ≡ o → (b : Bool) → is_managed_entry y ≡ b → pick b y o ≡ Some n → First (y ∷ later) n
       by again (Some z) q b p e =
           let r = again (q ∙ e) in
-          record { place = r.place; there = inr r.there; behind = r.behind; managed = r.managed; early = λ j l m. r.early j l (lower j r.place l (let w = within (later ++ x ∷ h) r.place n r.there in omega (arith, w)) m) }
+          record {
+            place = r.place;
+            there = inr r.there;
+            behind = r.behind;
+            managed = r.managed;
+            early = λ j l m. r.early j l (lower j r.place l (let w = within (later ++ x ∷ h) r.place n r.there in omega (arith, w)) m);
+          }
       by again None q true p e = record {
         place = length (later ++ x ∷ h);
         there = inl (refl, same_Some y n e);
@@ -80,7 +87,8 @@ pending_owed later x h k quiet fresh = (forth, back)
     down : (j : ℕ) → j < length all → IsManagedAt (turned [] all) j → ManagedAt all j
     down j l m = (m.entry, turned-at all [] j m.entry m.there l, m.managed)
 
-    back : (n : Noted) × (first_managed later ≡ Some n) × (n.entry.made.op ≡ op.Snap record { 0 = k }) → (snap : ℕ) × SnapsCycleAt (turned [] all) snap k × ((j : ℕ) → j < snap → IsManagedAt (turned [] all) j → j < length h)
+    back : (n : Noted) × (first_managed later ≡ Some n) × (n.entry.made.op ≡ op.Snap record { 0 = k }) → (snap : ℕ)
+        × SnapsCycleAt (turned [] all) snap k × ((j : ℕ) → j < snap → IsManagedAt (turned [] all) j → j < length h)
     back w =
         let f = first x h quiet later w.0 w.1 in
         let there = within all f.place w.0 f.there in
@@ -92,7 +100,8 @@ pending_owed later x h k quiet fresh = (forth, back)
       | inr more ↦ absurd (none_some n (sym (behind all [] s (s - length all) (omega (arith, more))) ∙ e))
     ]
 
-    forth : (snap : ℕ) × SnapsCycleAt (turned [] all) snap k × ((j : ℕ) → j < snap → IsManagedAt (turned [] all) j → j < length h) → (n : Noted) × (first_managed later ≡ Some n) × (n.entry.made.op ≡ op.Snap record { 0 = k })
+    forth : (snap : ℕ) × SnapsCycleAt (turned [] all) snap k × ((j : ℕ) → j < snap → IsManagedAt (turned [] all) j → j < length h)
+        → (n : Noted) × (first_managed later ≡ Some n) × (n.entry.made.op ≡ op.Snap record { 0 = k })
     forth w = by (first_managed later) refl
       where
         s : ℕ
@@ -118,6 +127,7 @@ pending_owed later x h k quiet fresh = (forth, back)
               | inl less ↦ absurd (let l = w.2 f.place less (up f.place (m, f.there, f.managed)) in let b = f.behind in omega (arith, l, b))
               | inr more ↦ elim (split s f.place) [
                 | inl less ↦ absurd (not-before (f.early s less (n, at, managed)))
-                | inr same ↦ (let q : f.place ≡ s = omega (arith, more, same) in (m, e, subst (λ (z : Noted). z.entry.made.op ≡ op.Snap record { 0 = k }) (one-at all s n m at (subst (λ z. At all z m) q f.there)) w.1.event))
+                | inr same ↦ (let q : f.place ≡ s = omega (arith, more, same) in
+                    (m, e, subst (λ (z : Noted). z.entry.made.op ≡ op.Snap record { 0 = k }) (one-at all s n m at (subst (λ z. At all z m) q f.there)) w.1.event))
               ]
             ]

@@ -22,7 +22,8 @@ telling : (o : Op) → IsNoRefusal o → IsTelling o
 telling (op.Refused w) n = n
 telling _ n = tt
 
-module _ (s : Linkage) (c : Thread) (l : ℕ) (o : Op) (cites : Option ℕ) (i j : ℕ) (r q : Reply) (t u : Told) (n : IsNoRefusal o) (a : MayCome s (noted i c l o r cites t)) (b : MayCome s (noted j c l o q cites u)) where
+module _ (s : Linkage) (c : Thread) (l : ℕ) (o : Op) (cites : Option ℕ) (i j : ℕ) (r q : Reply) (t u : Told)
+    (n : IsNoRefusal o) (a : MayCome s (noted i c l o r cites t)) (b : MayCome s (noted j c l o q cites u)) where
   abbrev Allowed : Reply → Thread → Op → Told → Type 0
   Allowed reply d e z = CallerAllows s.control s.managed.managed s.peer.peers.issued d l e reply cites z
 
@@ -31,7 +32,8 @@ module _ (s : Linkage) (c : Thread) (l : ℕ) (o : Op) (cites : Option ℕ) (i j
   refs (M z) k xs ys v w x = absurd v
   refs (P z) k xs ys v w x = absurd v
 
-  answers : (d : Thread) (k : Cycle) (x y : List Answer) (f g : List ℕ) → IsEvent d (op.Resolve k) → Allowed r d (op.Resolve k) (resolution_of x f) → Allowed q d (op.Resolve k) (resolution_of y g) → x ≡ y
+  answers : (d : Thread) (k : Cycle) (x y : List Answer) (f g : List ℕ) → IsEvent d (op.Resolve k)
+      → Allowed r d (op.Resolve k) (resolution_of x f) → Allowed q d (op.Resolve k) (resolution_of y g) → x ≡ y
   answers C k x y f g v w z = resolves_alike s.control.stand k.0 cites x y f g w z
   answers (M m) k x y f g v w z = absurd v
   answers (P m) k x y f g v w z = absurd v

@@ -19,7 +19,8 @@ use Rattle.joint_machine.specs.Managed.{Managed}
 use Rattle.joint_machine.specs.ManagedReplay.{ManagedReplay, ManagedAllows}
 use Rattle.joint_machine.specs.PeerReplay.{PeerReplay}
 use Rattle.joint_machine.specs.Peers.{Issued}
-use Rattle.joint_machine.specs.Readers.{ReadsCell, IsReadReply, IsManagedAt, SnapsCycleAt, EndsCycleAt, SetsCell, SetsCellAt, IsCallersAt, HasKnownFrom, FreesObject, FreesObjectAt, IsEntryAt, is_managed_entry, ReaderMayCome, EntryMayCome, entry_after, reader_after, replayed_reading, AllMayComeReading}
+use Rattle.joint_machine.specs.Readers.{ReadsCell, IsReadReply, IsManagedAt, SnapsCycleAt, EndsCycleAt, SetsCell, SetsCellAt, IsCallersAt, HasKnownFrom, FreesObject, FreesObjectAt, IsEntryAt}
+use Rattle.joint_machine.specs.Readers.{is_managed_entry, ReaderMayCome, EntryMayCome, entry_after, reader_after, replayed_reading, AllMayComeReading}
 use Rattle.joint_machine.specs.Told.{Told, Noted, phase_of}
 use Rattle.joint_machine.proofs.Deciding.{none_some}
 use Rattle.known_laws.specs.PastEntries.{TellsPlainly, entries}
@@ -66,16 +67,26 @@ place (x ∷ ns) (y ∷ ms) a (suc i) n e = (let r = place ns ms a.1 i n e in re
 -- what is so of a place by its entry
 module _ (ns ms : List Noted) (a : AllAlike ns ms) where
   managed-so : (i : ℕ) → IsManagedAt ns i → IsManagedAt ms i
-  managed-so i m = (let r = place ns ms a i m.entry m.there in record { entry = r.note; there = r.there; managed = ap (λ e. is_managed_entry (record { entry = e; told = r.note.told })) r.alike.same ∙ m.managed })
+  managed-so i m = (let r = place ns ms a i m.entry m.there in
+      record { entry = r.note; there = r.there; managed = ap (λ e. is_managed_entry (record { entry = e; told = r.note.told })) r.alike.same ∙ m.managed })
 
   snaps-so : (i k : ℕ) → SnapsCycleAt ns i k → SnapsCycleAt ms i k
   snaps-so i k m = (let r = place ns ms a i m.entry m.there in record { entry = r.note; there = r.there; event = ap (λ e. e.made.op) r.alike.same ∙ m.event })
 
   ends-so : (i k : ℕ) → EndsCycleAt ns i k → EndsCycleAt ms i k
-  ends-so i k m = (let r = place ns ms a i m.entry m.there in record { entry = r.note; there = r.there; event = subst (λ o. (o ≡ op.Resolve record { 0 = k }) ⊎ (o ≡ op.Abandon record { 0 = k })) (sym (ap (λ e. e.made.op) r.alike.same)) m.event })
+  ends-so i k m = (let r = place ns ms a i m.entry m.there in record {
+    entry = r.note;
+    there = r.there;
+    event = subst (λ o. (o ≡ op.Resolve record { 0 = k }) ⊎ (o ≡ op.Abandon record { 0 = k })) (sym (ap (λ e. e.made.op) r.alike.same)) m.event;
+  })
 
   sets-so : (i k : ℕ) → SetsCellAt ns i k → SetsCellAt ms i k
-  sets-so i k m = (let r = place ns ms a i m.entry m.there in record { entry = r.note; there = r.there; event = subst (λ o. SetsCell o k) (sym (ap (λ e. e.made.op) r.alike.same)) m.event; set = ap (λ e. e.made.reply) r.alike.same ∙ m.set })
+  sets-so i k m = (let r = place ns ms a i m.entry m.there in record {
+    entry = r.note;
+    there = r.there;
+    event = subst (λ o. SetsCell o k) (sym (ap (λ e. e.made.op) r.alike.same)) m.event;
+    set = ap (λ e. e.made.reply) r.alike.same ∙ m.set;
+  })
 
   own-so : (i : ℕ) (t : Thread) → IsCallersAt ns i t → IsCallersAt ms i t
   own-so i t m = (let r = place ns ms a i m.entry m.there in record { entry = r.note; there = r.there; caller = ap (λ e. e.made.caller) r.alike.same ∙ m.caller })
@@ -119,7 +130,8 @@ over-so ns ms a cells s (x ∷ xs) w = (by (is_read x.entry.made.op) w.0, over-s
     by false w = w
 
 -- an event that is no refusal asks for the same at both stands, and leads to stands that are near again
-drive : (q : OpenSnap) (m : Managed) (i : List Issued) (o : Op) (r : Reply) (c : Option ℕ) (x : Told) → IsTelling o → DriverAllows (weakening q 0 true false) m i o r c x → DriverAllows (weakening q 0 false false) m i o r c x
+drive : (q : OpenSnap) (m : Managed) (i : List Issued) (o : Op) (r : Reply) (c : Option ℕ) (x : Told) → IsTelling o
+    → DriverAllows (weakening q 0 true false) m i o r c x → DriverAllows (weakening q 0 false false) m i o r c x
 drive q m i (op.Refused w) r c x t a = absurd t
 drive q m i o r c x t a = a
 
@@ -139,7 +151,8 @@ go q n o r x t = inr (q, refl, refl)
 
 go-near : (y z : Stand) (n : ℕ) (o : Op) (r : Reply) (x : Told) → Near y z → IsTelling o → Near (stand_after y n o r x) (stand_after z n o r x)
 go-near y z n o r x (inl e) t = inl (ap (λ w. stand_after w n o r x) e)
-go-near y z n o r x (inr e) t = subst (λ w. Near (stand_after w n o r x) (stand_after z n o r x)) (sym e.1) (subst (λ w. Near (stand_after (weakening e.0 0 true false) n o r x) (stand_after w n o r x)) (sym e.2) (go e.0 n o r x t))
+go-near y z n o r x (inr e) t = subst (λ w. Near (stand_after w n o r x) (stand_after z n o r x)) (sym e.1)
+    (subst (λ w. Near (stand_after (weakening e.0 0 true false) n o r x) (stand_after w n o r x)) (sym e.2) (go e.0 n o r x t))
 
 -- an entry told plainly, at a near stand
 record Again (s : Linkage) (z : Stand) (n : Noted) : Type 0 where
@@ -161,7 +174,8 @@ refused-frees s n w x e a f = by (subst (λ o. SideLawful (is_peer_event n.entry
     by : SideLawful false s (record n.entry.made { op = op.Refused w }) n.told → ⊥
     by l = refusal-frees s.managed w n.told x l.allowed f
 
-again : (s : Linkage) (z : Stand) (k : ℕ) (t : Thread) (l : ℕ) (o : Op) (r : Reply) (c : Option ℕ) (x : Told) → Near s.control.stand z → MayCome s (noting k t l o r c x) → Again s z (noting k t l o r c x)
+again : (s : Linkage) (z : Stand) (k : ℕ) (t : Thread) (l : ℕ) (o : Op) (r : Reply) (c : Option ℕ) (x : Told)
+    → Near s.control.stand z → MayCome s (noting k t l o r c x) → Again s z (noting k t l o r c x)
 again s z k t l (op.Refused w) r c x e a =
     let p = plainly s z k t l (op.Refused w) r c x e a in
     record {
@@ -207,7 +221,8 @@ record AgainRead (s : Linkage) (z : Stand) (n : Noted) : Type 0 where
   near : Near (reader_after s n).control.stand z
   after : reader_after (with_stand s z) n ≡ with_stand (reader_after s n) z
 
-read-again : (s : Linkage) (z : Stand) (k : ℕ) (t : Thread) (l : ℕ) (o : Op) (r : Reply) (c : Option ℕ) (x : Told) → Near s.control.stand z → is_read o ≡ true → ReaderMayCome s (noting k t l o r c x) → AgainRead s z (noting k t l o r c x)
+read-again : (s : Linkage) (z : Stand) (k : ℕ) (t : Thread) (l : ℕ) (o : Op) (r : Reply) (c : Option ℕ) (x : Told)
+    → Near s.control.stand z → is_read o ≡ true → ReaderMayCome s (noting k t l o r c x) → AgainRead s z (noting k t l o r c x)
 read-again s z k (M t) l o r c x e q a = record { comes = record { event = a.event; line = a.line; short = a.short; order = a.order; bare = a.bare }; near = e; after = refl }
 read-again s z k (P t) l o r c x e q a = record { comes = record { event = a.event; line = a.line; short = a.short; order = a.order; bare = a.bare }; near = e; after = refl }
 read-again s z k C l (op.Line (act.Read y)) r c x e q a = absurd a.event.0
@@ -229,7 +244,8 @@ record Retold (whole : List Noted) (cells : List (Option ℕ)) (t s : Linkage) (
   ends : replayed_reading t notes ≡ with_stand (replayed_reading s ns) stand
 
 module _ (whole : List Noted) (cells : List (Option ℕ)) where
-  retold-other : (s : Linkage) (z : Stand) (n : Noted) (ns : List Noted) → is_read n.entry.made.op ≡ false → (w : Again s z n) → Retold whole cells (with_stand (linkage_after s n) w.stand) (linkage_after s n) ns → Retold whole cells (with_stand s z) s (n ∷ ns)
+  retold-other : (s : Linkage) (z : Stand) (n : Noted) (ns : List Noted) → is_read n.entry.made.op ≡ false → (w : Again s z n)
+      → Retold whole cells (with_stand (linkage_after s n) w.stand) (linkage_after s n) ns → Retold whole cells (with_stand s z) s (n ∷ ns)
   retold-other s z n ns e w r =
       let e' : is_read w.note.entry.made.op ≡ false = ap (λ q. is_read q.made.op) w.alike.same ∙ e in
       let go = after-other (with_stand s z) w.note e' ∙ w.after in
@@ -264,7 +280,9 @@ module _ (whole : List Noted) (cells : List (Option ℕ)) where
   retell [] s z e a = record { notes = []; alike = tt; lawful = tt; plain = tt; stand = z; near = e; ends = refl }
   retell (n ∷ ns) s z e a = by (is_read n.entry.made.op) refl a.0 (λ q y v. retell ns (entry_after s n) y (subst (λ (u : Linkage). Near u.control.stand y) (sym q.1) v) a.1)
     where
-      by : (b : Bool) → is_read n.entry.made.op ≡ b → EntryMayCome b whole cells s n → ((q : (u : Linkage) × (entry_after s n ≡ u)) (y : Stand) → Near q.0.control.stand y → Retold whole cells (with_stand (entry_after s n) y) (entry_after s n) ns) → Retold whole cells (with_stand s z) s (n ∷ ns)
+      by : (b : Bool) → is_read n.entry.made.op ≡ b → EntryMayCome b whole cells s n
+          → ((q : (u : Linkage) × (entry_after s n ≡ u)) (y : Stand) → Near q.0.control.stand y → Retold whole cells (with_stand (entry_after s n) y) (entry_after s n) ns)
+          → Retold whole cells (with_stand s z) s (n ∷ ns)
       by true f c rest =
           let w = read-again s z n.entry.number n.entry.made.caller n.entry.made.index n.entry.made.op n.entry.made.reply n.entry.made.cites n.told e f c.0 in
           retold-read s z n ns f w c.1 (subst (λ (u : Linkage). Retold whole cells (with_stand u z) u ns) (after-read s n f) (rest (reader_after s n, after-read s n f) z w.near))
@@ -298,7 +316,8 @@ plainly_linked h noted l =
       linked = record {
         same = same-entries noted r.notes r.alike ∙ l.same;
         numbers = l.numbers;
-        lawful = subst (λ (z : ManagedReplay). AllMayComeReading r.notes z.managed.cells opening_linkage r.notes) (sym m) (over-so noted r.notes r.alike (managed_end noted).cells opening_linkage r.notes r.lawful);
+        lawful = subst (λ (z : ManagedReplay). AllMayComeReading r.notes z.managed.cells opening_linkage r.notes)
+            (sym m) (over-so noted r.notes r.alike (managed_end noted).cells opening_linkage r.notes r.lawful);
         whole = subst IsWhole (sym r.ends) (record { threads = l.whole.threads; driver = rest-near (linked_end noted).control.stand r.stand _ r.near l.whole.driver });
         freed_managed = l.freed_managed ∙ ap (λ (z : ManagedReplay). z.managed.heap.freed) (sym m);
         freed_peers = l.freed_peers ∙ ap (λ (z : PeerReplay). z.peers.heap.freed) (sym p);

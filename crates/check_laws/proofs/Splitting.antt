@@ -7,12 +7,15 @@ use Rattle.joint_machine.specs.declared.events.Op.{Op}
 use Rattle.joint_machine.specs.declared.events.Op.TheVariants as op
 use Rattle.joint_machine.specs.declared.events.Reply.{Reply}
 use Rattle.joint_machine.specs.declared.events.Reply.TheVariants as says
-use Rattle.joint_machine.specs.Control.{Doing, free, made, lent, gripped, given, met, Stand, idle, snapped, contracted, weakening, marked, restoring, restored, MayStart, ThreadAllows, IsAtRest, IsPhaseOf, MaySnap, MayContractNow, MayMirrorNow, MayWeakenNow, MayBeginNow, MaySweepNow, MayRestoreNow, MayClearNow, MayResolveNow, MayAbandonNow, MayRefuseNow, DriverAllows}
+use Rattle.joint_machine.specs.Control.{Doing, free, made, lent, gripped, given, met, Stand, idle, snapped, contracted, weakening, marked, restoring, restored, MayStart, ThreadAllows, IsAtRest}
+use Rattle.joint_machine.specs.Control.{IsPhaseOf, MaySnap, MayContractNow, MayMirrorNow, MayWeakenNow, MayBeginNow, MaySweepNow, MayRestoreNow, MayClearNow, MayResolveNow, MayAbandonNow}
+use Rattle.joint_machine.specs.Control.{MayRefuseNow, DriverAllows}
 use Rattle.joint_machine.specs.Managed.{Managed, candidates_of}
 use Rattle.joint_machine.specs.PeerReplay.{Marking}
 use Rattle.joint_machine.specs.Peers.{Issued}
 use Rattle.joint_machine.specs.Told.{Told, references_of, resolution_of, phase_of}
-use Rattle.check_laws.specs.Order.{MayBegin, ThreadTurn, ThreadCites, SnapTurn, ContractTurn, MirrorTurn, WeakenTurn, BeginTurn, SweepTurn, RestoreTurn, ClearTurn, ResolveTurn, AbandonTurn, DriverTurn, MirrorCites, WeakenCites, ResolveCites, DriverCites, ContractData, MirrorData, BeginData, ClearData, ResolveData, AbandonData, RefusalData, DriverData}
+use Rattle.check_laws.specs.Order.{MayBegin, ThreadTurn, ThreadCites, SnapTurn, ContractTurn, MirrorTurn, WeakenTurn, BeginTurn, SweepTurn, RestoreTurn, ClearTurn, ResolveTurn, AbandonTurn}
+use Rattle.check_laws.specs.Order.{DriverTurn, MirrorCites, WeakenCites, ResolveCites, DriverCites, ContractData, MirrorData, BeginData, ClearData, ResolveData, AbandonData, RefusalData, DriverData}
 
 starts : (d : Doing) (cites : Option ℕ) → MayStart d cites ↔ (MayBegin d × (cites ≡ None))
 starts (given n line h) cites = (λ z. absurd z, λ z. absurd z.0)
@@ -44,7 +47,8 @@ contracts : (d : Stand) (k : ℕ) (cites : Option ℕ) → MayContractNow d k ci
 contracts (snapped o) k cites = (λ z. (tt, z.1, z.0), λ z. (z.2, z.1))
 contracts _ k cites = (λ z. absurd z, λ z. absurd z.0)
 
-mirrors : (d : Stand) (s : Managed) (issued : List Issued) (k : ℕ) (cites : Option ℕ) (told : Told) → MayMirrorNow d s issued k cites told ↔ (MirrorTurn d × MirrorCites d k cites × MirrorData d s issued told)
+mirrors : (d : Stand) (s : Managed) (issued : List Issued) (k : ℕ) (cites : Option ℕ) (told : Told)
+    → MayMirrorNow d s issued k cites told ↔ (MirrorTurn d × MirrorCites d k cites × MirrorData d s issued told)
 mirrors (contracted o comps heavy xrefs) s issued k cites (references_of refs) = (λ z. (tt, (z.0, z.1), z.2), λ z. (z.1.0, z.1.1, z.2))
 mirrors (contracted o comps heavy xrefs) s issued k cites _ = (λ z. absurd z, λ z. absurd z.2)
 mirrors _ s issued k cites told = (λ z. absurd z, λ z. absurd z.0)
@@ -91,7 +95,8 @@ GoesByMarking op.Begin (says.Mark j) marking = marking ≡ None
 GoesByMarking op.Sweep reply None = ⊥
 GoesByMarking _ reply marking = Unit {0}
 
-begins : (d : Stand) (c : ℕ) (reply : Reply) (cites : Option ℕ) (marking : Option Marking) → GoesByMarking op.Begin reply marking → MayBeginNow d c reply cites ↔ (BeginTurn d c marking × (cites ≡ None) × BeginData reply)
+begins : (d : Stand) (c : ℕ) (reply : Reply) (cites : Option ℕ) (marking : Option Marking) → GoesByMarking op.Begin reply marking
+    → MayBeginNow d c reply cites ↔ (BeginTurn d c marking × (cites ≡ None) × BeginData reply)
 begins (weakening o count weakened swept) c (says.Mark j) cites None g = (λ z. (z.0, z.1, tt), λ z. (z.0, z.1))
 begins (weakening o count weakened swept) c (says.Mark j) cites (Some mk) g = (let f : ⊥ = cc in absurd f)
 begins (weakening o count weakened swept) c _ cites marking g = (λ z. absurd z, λ z. absurd z.2)

@@ -1,7 +1,8 @@
 -- What a reader's entry may answer over a whole history is told by what stands before it. A read knows nothing of what
 -- stands behind it: the rules of `pending` and `unset` ask of entries before the read alone, but for the snap that a
 -- `pending` waits for, which is the next managed entry, and for the cell's target, which is live where it is set.
-use Rattle.std.proofs.Common.{◌≡◌, ◌⊎◌, inl, inr, ℕ, ◌+◌, ◌-◌, ◌<◌, ◌≤◌, Bool, true, false, not, ◌&&◌, List, [], ◌∷◌, ◌++◌, length, Option, None, refl, sym, ap, ◌∙◌, subst, arith, append_assoc, length-append}
+use Rattle.std.proofs.Common.{◌≡◌, ◌⊎◌, inl, inr, ℕ, ◌+◌, ◌-◌, ◌<◌, ◌≤◌, Bool, true, false, not, ◌&&◌, List, [], ◌∷◌, ◌++◌, length, Option, None, refl, sym, ap, ◌∙◌, subst, arith, append_assoc}
+use Rattle.std.proofs.Common.{length-append}
 use Rattle.std.proofs.lemmas.Bool.{cases_eq}
 use Rattle.joint_machine.specs.declared.names.Thread.{Thread}
 use Rattle.joint_machine.specs.declared.lines.Act.TheVariants as act
@@ -12,7 +13,8 @@ use Rattle.joint_machine.specs.declared.events.Reply.TheVariants as says
 use Rattle.joint_machine.specs.Lines.{is_peer_event, is_read}
 use Rattle.joint_machine.specs.Linked.{Linkage, managed_after}
 use Rattle.joint_machine.specs.Managed.{Managed, read_cell}
-use Rattle.joint_machine.specs.Readers.{ReadsCell, IsReadReply, is_set_aside, is_managed_entry, IsEntryAt, IsManagedAt, EndsCycleAt, SetsCellAt, IsCallersAt, HasKnownFrom, FreesObjectAt, MayBePending, MayBeUnset, entry_after}
+use Rattle.joint_machine.specs.Readers.{ReadsCell, IsReadReply, is_set_aside, is_managed_entry, IsEntryAt, IsManagedAt, EndsCycleAt, SetsCellAt, IsCallersAt, HasKnownFrom, FreesObjectAt, MayBePending}
+use Rattle.joint_machine.specs.Readers.{MayBeUnset, entry_after}
 use Rattle.joint_machine.specs.Run.{thread_number}
 use Rattle.joint_machine.specs.Told.{Noted}
 use Rattle.joint_machine.proofs.Deciding.{none_some, true-false}
@@ -172,7 +174,8 @@ module _ (front h : List Noted) where
   frees-down i m e l = record { entry = e.entry; there = down i e.entry e.there l; frees = e.frees }
 
 -- no cycle is snapped twice
-snap-once : (h : List Noted) → AllComeBehind h → AllStand h → (i j k : ℕ) (n m : Noted) → At h i n → At h j m → j < i → n.entry.made.op ≡ op.Snap record { 0 = k } → m.entry.made.op ≡ op.Snap record { 0 = k } → ⊥
+snap-once : (h : List Noted) → AllComeBehind h → AllStand h → (i j k : ℕ) (n m : Noted) → At h i n → At h j m
+    → j < i → n.entry.made.op ≡ op.Snap record { 0 = k } → m.entry.made.op ≡ op.Snap record { 0 = k } → ⊥
 snap-once h w r i j k n m a b l e f =
     let c = cut h i n a in
     let w' = all_come-back c.front (n ∷ c.back) (subst AllComeBehind c.all w) in
@@ -199,9 +202,11 @@ quiet-on s n e = by (is_read n.entry.made.op) refl
     by : (b : Bool) → is_read n.entry.made.op ≡ b → SameCycles s.managed.managed (entry_after s n).managed.managed
     by true f = subst (λ (z : Linkage). SameCycles s.managed.managed z.managed.managed) (sym (after-read s n f)) (record { cycle = refl; cycles = refl })
     by false f = subst (λ (z : Linkage). SameCycles s.managed.managed z.managed.managed) (sym (after-other s n f))
-        (subst (λ b. SameCycles s.managed.managed (managed_after s.managed n.entry.made n.told b).managed) (sym (peer (is_peer_event n.entry.made.caller n.entry.made.op) (is_read n.entry.made.op) e f)) (record { cycle = refl; cycles = refl }))
+        (subst (λ b. SameCycles s.managed.managed (managed_after s.managed n.entry.made n.told b).managed)
+        (sym (peer (is_peer_event n.entry.made.caller n.entry.made.op) (is_read n.entry.made.op) e f)) (record { cycle = refl; cycles = refl }))
 
-quiet : (front h : List Noted) → ((j : ℕ) (n : Noted) → At (front ++ h) j n → length h ≤ j → is_managed_entry n ≡ true → ⊥) → SameCycles (state_of h).managed.managed (state_of (front ++ h)).managed.managed
+quiet : (front h : List Noted) → ((j : ℕ) (n : Noted) → At (front ++ h) j n → length h ≤ j → is_managed_entry n ≡ true → ⊥)
+    → SameCycles (state_of h).managed.managed (state_of (front ++ h)).managed.managed
 quiet [] h none = record { cycle = refl; cycles = refl }
 quiet (n ∷ front) h none =
     let r = quiet front h (λ j m a l e. none j m (inr a) l e) in
@@ -270,7 +275,8 @@ module _ (front : List Noted) (x : Noted) (h : List Noted) (w : AllComeBehind (f
       snap = m.snap;
       snaps = record { entry = m.snaps.entry; there = down (front ++ x ∷ []) h m.snap m.snaps.entry (drop (λ z. IsEntryAt (in_turn z) m.snap m.snaps.entry) m.snaps.there) low; event = m.snaps.event };
       early = λ j l g. (let e = number in omega (arith, l, low, e));
-      unknown = λ end j e l g f. m.unknown end j (lift (λ z. EndsCycleAt (in_turn z) end k) (ends-up (front ++ x ∷ []) h end k e)) l (lift (λ z. IsManagedAt (in_turn z) j) (managed-up (front ++ x ∷ []) h j g)) (lift (λ z. HasKnownFrom (in_turn z) t x.entry.number j) (known-up (front ++ x ∷ []) h t x.entry.number j f));
+      unknown = λ end j e l g f. m.unknown end j (lift (λ z. EndsCycleAt (in_turn z) end k) (ends-up (front ++ x ∷ []) h end k e)) l
+          (lift (λ z. IsManagedAt (in_turn z) j) (managed-up (front ++ x ∷ []) h j g)) (lift (λ z. HasKnownFrom (in_turn z) t x.entry.number j) (known-up (front ++ x ∷ []) h t x.entry.number j f));
     }
 
     unset-over : MayBeUnset (in_turn h) s.cells x.entry.number t k → MayBeUnset (in_turn all) end_cells x.entry.number t k
@@ -293,8 +299,10 @@ module _ (front : List Noted) (x : Noted) (h : List Noted) (w : AllComeBehind (f
 
     unset-behind : MayBeUnset (in_turn all) end_cells x.entry.number t k → MayBeUnset (in_turn h) s.cells x.entry.number t k
     unset-behind u = record {
-      unknown = λ set j e l g f. u.unknown set j (lift (λ z. SetsCellAt (in_turn z) set k) (sets-up (front ++ x ∷ []) h set k e)) l (lift (λ z. IsManagedAt (in_turn z) j) (managed-up (front ++ x ∷ []) h j g)) (lift (λ z. HasKnownFrom (in_turn z) t x.entry.number j) (known-up (front ++ x ∷ []) h t x.entry.number j f));
-      not_own = λ set e l o. u.not_own set (lift (λ z. SetsCellAt (in_turn z) set k) (sets-up (front ++ x ∷ []) h set k e)) l (lift (λ z. IsCallersAt (in_turn z) set t) (own-up (front ++ x ∷ []) h set t o));
+      unknown = λ set j e l g f. u.unknown set j (lift (λ z. SetsCellAt (in_turn z) set k) (sets-up (front ++ x ∷ []) h set k e)) l
+          (lift (λ z. IsManagedAt (in_turn z) j) (managed-up (front ++ x ∷ []) h j g)) (lift (λ z. HasKnownFrom (in_turn z) t x.entry.number j) (known-up (front ++ x ∷ []) h t x.entry.number j f));
+      not_own = λ set e l o. u.not_own set (lift (λ z. SetsCellAt (in_turn z) set k) (sets-up (front ++ x ∷ []) h set k e)) l
+          (lift (λ z. IsCallersAt (in_turn z) set t) (own-up (front ++ x ∷ []) h set t o));
       target_unfreed = λ m j e f l. u.target_unfreed m j (apart.stay k m e) (lift (λ z. FreesObjectAt (in_turn z) j m) (frees-up (front ++ x ∷ []) h j m f)) l;
     }
 
@@ -330,9 +338,11 @@ module _ (front : List Noted) (x : Noted) (h : List Noted) (w : AllComeBehind (f
 
         by : (c : Cut all m.snap m.snaps.entry) → (mid : List Noted) × (c.back ≡ mid ++ x ∷ h) → (s.cycle ≡ None) × (k ≡ s.cycles + 1)
         by c (mid, e) =
-            let back-in : (j : ℕ) (n : Noted) → At (mid ++ x ∷ h) j n → At all j n = λ j n q. subst (λ z. At z j n) (sym c.all) (at-more c.front (m.snaps.entry ∷ c.back) j n (inr (subst (λ z. At z j n) (sym e) q))) in
+            let back-in : (j : ℕ) (n : Noted) → At (mid ++ x ∷ h) j n
+            → At all j n = λ j n q. subst (λ z. At z j n) (sym c.all) (at-more c.front (m.snaps.entry ∷ c.back) j n (inr (subst (λ z. At z j n) (sym e) q))) in
             let z = quiet mid (x ∷ h) (λ j n q l g.
-            let low = m.early j (let v = within (mid ++ x ∷ h) j n q in let u = ap length e in let y = c.place in omega (arith, v, u, y)) (record { entry = n; there = at-get all j n (back-in j n q); managed = g }) in
+            let low = m.early j (let v = within (mid ++ x ∷ h) j n q in let u = ap length e in let y = c.place in omega (arith, v, u, y))
+            (record { entry = n; there = at-get all j n (back-in j n q); managed = g }) in
             let v = number in omega (arith, low, l, v)) in
             let o = quiet-on (state_of h) x (read-unmanaged x read) in
             let w' = all_come-back c.front (m.snaps.entry ∷ c.back) (subst AllComeBehind c.all w) in
@@ -341,13 +351,15 @@ module _ (front : List Noted) (x : Noted) (h : List Noted) (w : AllComeBehind (f
             (sym o.cycle ∙ sym z.cycle ∙ i'.0, (let a = i'.1 in let b = z.cycles in let d = o.cycles in omega (arith, a, b, d)))
 
     -- where the snap isn't there yet, it comes as the next managed entry
-    next-over : AllReadBehind all → ((j : ℕ) → WaitsForSnap all j → ⊥) → x.entry.made.reply ≡ says.Pending record { 0 = k } → s.cycle ≡ None → k ≡ s.cycles + 1 → MayBePending (in_turn all) x.entry.number t k
+    next-over : AllReadBehind all → ((j : ℕ) → WaitsForSnap all j → ⊥) → x.entry.made.reply ≡ says.Pending record { 0 = k }
+        → s.cycle ≡ None → k ≡ s.cycles + 1 → MayBePending (in_turn all) x.entry.number t k
     next-over b none says closed next = by (snapped-or all k)
       where
         x-in : InPast all x
         x-in = at-in all (length h) x x-at
 
-        by : ((n : Noted) × InPast all n × (n.entry.made.op ≡ op.Snap record { 0 = k })) ⊎ ((n : Noted) → InPast all n → n.entry.made.op ≡ op.Snap record { 0 = k } → ⊥) → MayBePending (in_turn all) x.entry.number t k
+        by : ((n : Noted) × InPast all n × (n.entry.made.op ≡ op.Snap record { 0 = k }))
+            ⊎ ((n : Noted) → InPast all n → n.entry.made.op ≡ op.Snap record { 0 = k } → ⊥) → MayBePending (in_turn all) x.entry.number t k
         by (inr u) = absurd (none k (record { entry = x; there = x-in; read = read; reply = says; unsnapped = u }))
         by (inl f) =
             let n = f.0 in
@@ -377,10 +389,13 @@ module _ (front : List Noted) (x : Noted) (h : List Noted) (w : AllComeBehind (f
                       let c = cut all j g.entry b' in
                       let there : At all j g.entry = b' in
                       elim (split (length h) j) [
-                        | inr less ↦ (let same : length h ≡ j = omega (arith, less, far) in let q = one-at all j g.entry x b' (subst (λ z. At all z x) same x-at) in true-false (is_managed_entry x) (subst (λ z. is_managed_entry z ≡ true) q g.managed) (read-unmanaged x read))
+                        | inr less ↦ (let same : length h ≡ j = omega (arith, less, far) in let q = one-at all j g.entry x b' (subst (λ z. At all z x) same x-at) in
+                            true-false (is_managed_entry x) (subst (λ z. is_managed_entry z ≡ true) q g.managed) (read-unmanaged x read))
                         | inl less ↦ (
                             let gs = gives c.front c.back g.entry (subst AllReadBehind c.all b) in
-                            let x-back : At c.back (length h) x = at-less (g.entry ∷ []) c.back (length h) x (at-less c.front (g.entry ∷ c.back) (length h) x (subst (λ z. At z (length h) x) c.all x-at) (let q = c.place in omega (arith, less, q))) (let q = c.place in omega (arith, less, q)) in
+                            let x-back : At c.back (length h) x = at-less (g.entry ∷ []) c.back (length h) x
+                            (at-less c.front (g.entry ∷ c.back) (length h) x (subst (λ z. At z (length h) x) c.all x-at) (let q = c.place in omega (arith, less, q)))
+                            (let q = c.place in omega (arith, less, q)) in
                             let is = gs g.managed k (record {
                               entry = x;
                               there = at-in c.back (length h) x x-back;
@@ -388,7 +403,9 @@ module _ (front : List Noted) (x : Noted) (h : List Noted) (w : AllComeBehind (f
                               reply = says;
                               unsnapped = λ m i f.
                                   let i' = in-at all m p (subst (λ z. InPast z m) (sym c.all) (in-more c.front (g.entry ∷ c.back) m (inr i))) in
-                                  let low : m.entry.number < n.entry.number = (let q = within c.back m.entry.number m (in-at c.back m (in_place-back c.front (g.entry ∷ c.back) (subst AreInPlace c.all p)).1 i) in let v = c.place in omega (arith, q, v, l)) in
+                                  let low : m.entry.number < n.entry.number = (let q = within
+                                  c.back m.entry.number m (in-at c.back m (in_place-back c.front (g.entry ∷ c.back) (subst AreInPlace c.all p)).1 i) in let v = c.place in omega (arith, q, v, l))
+                                  in
                                   snap-once all w r n.entry.number m.entry.number k n m a i' low e f;
                             }) in
                             snap-once all w r n.entry.number j k n g.entry a b' l e is)
@@ -397,7 +414,8 @@ module _ (front : List Noted) (x : Noted) (h : List Noted) (w : AllComeBehind (f
 
   -- a read's reply, both ways
   module _ (read : is_read x.entry.made.op ≡ true) (t : Thread) (c : ℕ) where
-    reply-over : AllReadBehind all → ((j : ℕ) → WaitsForSnap all j → ⊥) → (reply : Reply) → x.entry.made.reply ≡ reply → IsReplyBehind h s x.entry.number t c reply → IsReadReply (in_turn all) end_cells s x.entry.number t c reply
+    reply-over : AllReadBehind all → ((j : ℕ) → WaitsForSnap all j → ⊥) → (reply : Reply) → x.entry.made.reply ≡ reply
+        → IsReplyBehind h s x.entry.number t c reply → IsReadReply (in_turn all) end_cells s x.entry.number t c reply
     reply-over b none (says.Pending k) e (pin, q) = (pin, elim q [ inl m ↦ pending-over t k.0 m | inr m ↦ next-over read t k.0 b none e m.0 m.1 ])
     reply-over b none says.Unset e (pin, u) = (pin, unset-over t c u)
     reply-over b none reply e q = q
@@ -434,7 +452,8 @@ stand_over whole cells [] o = tt
 stand_over whole cells (x ∷ h) o = (λ e k q. standing-reply whole cells (state_of h).managed.managed x.entry.number x.entry.made.caller k x.entry.made.reply e (o.0 k q), stand_over whole cells h o.1)
 
 -- the read's `pending` over the whole
-over-pending : (whole : List Noted) (cells : List (Option ℕ)) (h : List Noted) → AllReadOver whole cells h → (x : Noted) (k : ℕ) → InPast h x → is_read x.entry.made.op ≡ true → x.entry.made.reply ≡ says.Pending record { 0 = k } → MayBePending whole x.entry.number x.entry.made.caller k
+over-pending : (whole : List Noted) (cells : List (Option ℕ)) (h : List Noted) → AllReadOver whole cells h → (x : Noted) (k : ℕ) → InPast h x
+    → is_read x.entry.made.op ≡ true → x.entry.made.reply ≡ says.Pending record { 0 = k } → MayBePending whole x.entry.number x.entry.made.caller k
 over-pending whole cells [] o x k i e f = absurd i
 over-pending whole cells (y ∷ h) o x k (inl q) e f =
     let e' : is_read y.entry.made.op ≡ true = ap (λ (z : Noted). is_read z.entry.made.op) q ∙ e in
@@ -478,10 +497,12 @@ module _ (all : List Noted) (w : AllComeBehind all) (p : AreInPlace all) where
           let here = in-at h v.entry (in_place-back front (x ∷ h) (subst AreInPlace e p)).1 v.there in
           let low = within h v.entry.entry.number v.entry here in
           elim (split m.snap (length h)) [
-            | inl less ↦ absurd (v.unsnapped m.snaps.entry (at-in h m.snap m.snaps.entry (at-less (x ∷ []) h m.snap m.snaps.entry (at-less front (x ∷ h) m.snap m.snaps.entry a' (omega (arith, less))) less)) m.snaps.event)
+            | inl less ↦ absurd (v.unsnapped m.snaps.entry (at-in h m.snap m.snaps.entry
+                (at-less (x ∷ []) h m.snap m.snaps.entry (at-less front (x ∷ h) m.snap m.snaps.entry a' (omega (arith, less))) less)) m.snaps.event)
             | inr far ↦ elim (split (length h) m.snap) [
               | inl more ↦ absurd (let z = m.early (length h) more (record { entry = x; there = at-get all (length h) x x-at; managed = g }) in omega (arith, z, low))
-              | inr same ↦ ap (λ (z : Noted). z.entry.made.op) (one-at all (length h) x m.snaps.entry x-at (subst (λ z. At all z m.snaps.entry) (let u : m.snap ≡ length h = omega (arith, far, same) in u) a)) ∙ m.snaps.event
+              | inr same ↦ ap (λ (z : Noted). z.entry.made.op) (one-at all (length h) x m.snaps.entry x-at
+                  (subst (λ z. At all z m.snaps.entry) (let u : m.snap ≡ length h = omega (arith, far, same) in u) a)) ∙ m.snaps.event
             ]
           ]
 

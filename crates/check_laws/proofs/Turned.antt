@@ -55,7 +55,8 @@ module _ (whole : List Noted) (cells : List (Option ℕ)) where
       by true w = (w, r)
       by false w = w
 
-  onto : (past acc : List Noted) → AllComeBehind past → AllReadOver whole cells past → AllMayComeReading whole cells (state_of past) acc → AllMayComeReading whole cells opening_linkage (turned acc past)
+  onto : (past acc : List Noted) → AllComeBehind past → AllReadOver whole cells past
+      → AllMayComeReading whole cells (state_of past) acc → AllMayComeReading whole cells opening_linkage (turned acc past)
   onto [] acc w r a = a
   onto (n ∷ past) acc w r a = onto past (n ∷ acc) w.1 r.1 (entry-comes past n w.0 r.0, a)
 

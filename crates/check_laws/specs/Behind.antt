@@ -38,7 +38,8 @@ pub record WaitsForSnap (past : List Noted) (k : ℕ) : Type 0 where
 
 -- a managed entry behind such a read is the snap
 abbrev pub GivesSnap : List Noted → Noted → Type 0
-GivesSnap past n = is_managed_entry n ≡ true → (k : ℕ) → WaitsForSnap past k → n.entry.made.op ≡ op.Snap record { 0 = k }
+GivesSnap past n = is_managed_entry n ≡ true → (k : ℕ)
+    → WaitsForSnap past k → n.entry.made.op ≡ op.Snap record { 0 = k }
 
 -- an entry with that number may answer `pending k` behind a past: the snap of cycle k stands there, as the rule asks,
 -- or it is the next one, while no cycle is open
@@ -52,7 +53,8 @@ IsReplyBehind past s i t k says.Unset = (slot s.pins (thread_number t) ≡ None)
 IsReplyBehind past s i t k reply = reply ≡ (read_cell s (thread_number t) k).reply
 
 abbrev pub ReadsBehind : List Noted → Noted → Type 0
-ReadsBehind past n = (k : ℕ) → ReadsCell n.entry.made.op k → IsReplyBehind past (state_of past).managed.managed n.entry.number n.entry.made.caller k n.entry.made.reply
+ReadsBehind past n = (k : ℕ) → ReadsCell n.entry.made.op k
+    → IsReplyBehind past (state_of past).managed.managed n.entry.number n.entry.made.caller k n.entry.made.reply
 
 -- the stretches of the history's lists that the reply names are what the entry freed, and what it took of the waiting
 -- notices

@@ -1,6 +1,7 @@
 -- What a read may answer that is set aside is told by a few counts of managed entries: at its caller's last entry, at
 -- the end of each cycle, and at the setting of each cell.
-use Rattle.std.specs.Prelude.{◌≡◌, ℕ, ◌+◌, ◌≤◌, ◌↔◌, ◌⊎◌, Bool, false, nat_eq, if◌then◌else◌, List, [], ◌∷◌, length, Contains, Option, Some, None}
+use Rattle.std.specs.Prelude.{◌≡◌, ℕ, ◌+◌, ◌≤◌, ◌↔◌, ◌⊎◌, Bool, false, nat_eq, if◌then◌else◌, List, [], ◌∷◌, length}
+use Rattle.std.specs.Prelude.{Contains, Option, Some, None}
 use Rattle.joint_machine.specs.declared.names.Thread.{Thread}
 use Rattle.joint_machine.specs.declared.lines.Act.TheVariants as act
 use Rattle.joint_machine.specs.declared.events.Op.{Op}
@@ -37,7 +38,8 @@ pub record Setting : Type 0 where
 
 abbrev pub setting : List Noted → ℕ → Option Setting
 setting [] k = None
-setting (n ∷ past) k = if sets_cell n.entry.made.op n.entry.made.reply k then Some record { caller = n.entry.made.caller; count = managed_count (n ∷ past) } else setting past k
+setting (n ∷ past) k = if sets_cell n.entry.made.op n.entry.made.reply k then Some
+    record { caller = n.entry.made.caller; count = managed_count (n ∷ past) } else setting past k
 
 -- no more than that, where there is a number
 abbrev pub AtMost : ℕ → Option ℕ → Type 0
@@ -47,7 +49,8 @@ AtMost n (Some m) = n ≤ m
 -- a thread may answer `pending k`: the cycle is the next one, and none is open; or it was snapped, and isn't over, or
 -- the thread has seen no managed entry behind its end
 abbrev pub IsPendingBy : List Noted → Managed → Thread → ℕ → Type 0
-IsPendingBy past s t k = ((s.cycle ≡ None) × (k ≡ s.cycles + 1)) ⊎ ((1 ≤ k) × (k ≤ s.cycles) × AtMost (seen past t) (ended past k))
+IsPendingBy past s t k = ((s.cycle ≡ None) × (k ≡ s.cycles + 1))
+    ⊎ ((1 ≤ k) × (k ≤ s.cycles) × AtMost (seen past t) (ended past k))
 
 -- a thread knows nothing of the setting of a cell: another thread made it, and the thread has seen no managed entry
 -- behind it
@@ -62,8 +65,11 @@ pub record IsUnsetBy (past : List Noted) (s : Managed) (t : Thread) (k : ℕ) : 
 
 -- so it is of each past whose entries come and whose reads answer as they may
 pub record AreCounted (past : List Noted) (t : Thread) (k : ℕ) : Type 0 where
-  pub pending : IsPendingBy past (state_of past).managed.managed t k ↔ MayBePendingBehind past (state_of past).managed.managed (length past) t k
-  pub unset : IsUnsetBy past (state_of past).managed.managed t k ↔ MayBeUnset (in_turn past) (state_of past).managed.managed.cells (length past) t k
+  pub pending : IsPendingBy past (state_of past).managed.managed t k
+      ↔ MayBePendingBehind past (state_of past).managed.managed (length past) t k
+  pub unset : IsUnsetBy past (state_of past).managed.managed t k
+      ↔ MayBeUnset (in_turn past) (state_of past).managed.managed.cells (length past) t k
 
 abbrev pub ReadsAreCounted : Type 0
-ReadsAreCounted = (past : List Noted) → AllComeBehind past → AllReadBehind past → AreInPlace past → (t : Thread) (k : ℕ) → AreCounted past t k
+ReadsAreCounted = (past : List Noted) → AllComeBehind past → AllReadBehind past
+    → AreInPlace past → (t : Thread) (k : ℕ) → AreCounted past t k

@@ -37,12 +37,14 @@ pub record NothingFollows (past : List Noted) : Type 0 where
 abbrev pub FailsBy : Why → Finished → List Noted → Entry → Type 0
 FailsBy why.Caller h past e = IsTurn (state_of past) e.made → ⊥
 FailsBy why.Cite h past e = IsTurn (state_of past) e.made × (CitesSo (state_of past) e.made → ⊥)
-FailsBy why.Reply h past e = IsTurn (state_of past) e.made × CitesSo (state_of past) e.made × ((told : Told) → RepliesBehind (is_read e.made.op) h past (record { entry = e; told = told }) → ⊥)
+FailsBy why.Reply h past e = IsTurn (state_of past) e.made × CitesSo (state_of past) e.made
+    × ((told : Told) → RepliesBehind (is_read e.made.op) h past (record { entry = e; told = told }) → ⊥)
 
 -- what a history was found to be
 abbrev pub IsFinding : Finished → Finding → Type 0
 IsFinding h finding.Legal = (past : List Noted) × IsAllInOrder h past × NothingFollows past
-IsFinding h (finding.Illegal i w) = (past : List Noted) × IsInOrderUpTo h i past × ((e : Entry) × (slice_get h.entries i ≡ Some e) × FailsBy w h past e)
+IsFinding h (finding.Illegal i w) = (past : List Noted) × IsInOrderUpTo h i past
+    × ((e : Entry) × (slice_get h.entries i ≡ Some e) × FailsBy w h past e)
 IsFinding h finding.Unfinished = (past : List Noted) × IsAllInOrder h past × (NothingFollows past → ⊥)
 
 -- some notes link the history, and its joint projection by them is a run, sound and complete

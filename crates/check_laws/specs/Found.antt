@@ -38,10 +38,12 @@ as_named h = record h {
 pub record AreLists (h : Finished) (past : List Noted) : Type 0 where
   pub objects : managed_numbers (as_named h).freed_managed ≡ (state_of past).managed.managed.heap.freed
   pub peers : peer_numbers (as_named h).freed_peers ≡ (state_of past).peer.peers.heap.freed
-  pub notices : take (state_of past).managed.managed.taken (managed_numbers h.notices) ≡ take (state_of past).managed.managed.taken (state_of past).managed.managed.notices
+  pub notices : take (state_of past).managed.managed.taken (managed_numbers h.notices) ≡ take
+      (state_of past).managed.managed.taken (state_of past).managed.managed.notices
 
 abbrev pub NamesAreLists : Type 0
-NamesAreLists = (h : Finished) (past : List Noted) → NumberedFrom 0 h.entries → IsAllInOrder h past → NothingFollows past → AreLists h past
+NamesAreLists = (h : Finished) (past : List Noted) → NumberedFrom 0 h.entries
+    → IsAllInOrder h past → NothingFollows past → AreLists h past
 
 -- a history is legal exactly where it is linked
 abbrev pub LegalIsLinked : Type 0

@@ -23,4 +23,5 @@ pub record AreKnown (past : List Noted) : Type 0 where
   pub kept : IsPastKept (pinned (state_of past) no_pins)
 
 abbrev pub PastsInOrderAreKnown : Type 0
-PastsInOrderAreKnown = (h : Finished) (past : List Noted) → NumberedFrom 0 (entries (in_turn past)) → AllInOrder h past → AreKnown past
+PastsInOrderAreKnown = (h : Finished) (past : List Noted)
+    → NumberedFrom 0 (entries (in_turn past)) → AllInOrder h past → AreKnown past

@@ -12,7 +12,9 @@ use Rattle.joint_machine.specs.declared.events.Made.{Made}
 use Rattle.joint_machine.specs.declared.events.Reply.{Reply}
 use Rattle.joint_machine.specs.declared.events.Reply.TheVariants as says
 use Rattle.joint_machine.specs.Components.{mirror_edges}
-use Rattle.joint_machine.specs.Control.{Doing, made, lent, gripped, given, met, Stand, idle, snapped, contracted, weakening, marked, restoring, restored, doing_at, last_line, carried_edges, IsCandidateHandle, IsAtRest, IsPhaseOf}
+use Rattle.joint_machine.specs.Control.{Doing, made, lent, gripped, given, met, Stand, idle, snapped, contracted}
+use Rattle.joint_machine.specs.Control.{weakening, marked, restoring, restored, doing_at, last_line, carried_edges}
+use Rattle.joint_machine.specs.Control.{IsCandidateHandle, IsAtRest, IsPhaseOf}
 use Rattle.joint_machine.specs.Lines.{IsEvent, IsLine, is_peer_event}
 use Rattle.joint_machine.specs.Linked.{Linkage, SideLawful}
 use Rattle.joint_machine.specs.Managed.{Managed, candidates_of}
@@ -134,7 +136,8 @@ LandCites (lent n line h x) h' x' cites = (cites ≡ Some n) × (h' ≡ h) × (x
 LandCites _ h' x' cites = ⊥
 
 abbrev pub MeetCites : Doing → Op → Option ℕ → Type 0
-MeetCites (gripped n line p h sort f) (op.Meet v sort' f' p' h') cites = (cites ≡ Some n) × (p'.0 ≡ p) × (h'.0 ≡ h) × (sort' ≡ sort) × (f' ≡ f)
+MeetCites (gripped n line p h sort f) (op.Meet v sort' f' p' h') cites = (cites ≡ Some n)
+    × (p'.0 ≡ p) × (h'.0 ≡ h) × (sort' ≡ sort) × (f' ≡ f)
 MeetCites _ o cites = ⊥
 
 abbrev pub ReleaseCites : Doing → ℕ → Option ℕ → Type 0
@@ -185,7 +188,8 @@ ContractData (snapped o) k = o.cycle ≡ k
 ContractData _ k = ⊥
 
 abbrev pub MirrorData : Stand → Managed → List Issued → Told → Type 0
-MirrorData (contracted o comps heavy xrefs) s issued (references_of refs) = refs ≡ carried_edges s issued (mirror_edges comps xrefs)
+MirrorData (contracted o comps heavy xrefs) s issued
+    (references_of refs) = refs ≡ carried_edges s issued (mirror_edges comps xrefs)
 MirrorData _ s issued told = ⊥
 
 abbrev pub BeginData : Reply → Type 0

@@ -10,7 +10,8 @@ use Rattle.check_laws.specs.Behind.{in_turn, state_of, WaitsForSnap, GivesSnap, 
 
 -- the first two tests of a reader's entry are all that is asked of it beside its reply
 abbrev pub ReaderOrderIsTested : Type 0
-ReaderOrderIsTested = (s : Linkage) (n : Noted) → is_read n.entry.made.op ≡ true → (IsTurn s n.entry.made × CitesSo s n.entry.made × (n.told ≡ nothing)) ↔ ReaderMayCome s n
+ReaderOrderIsTested = (s : Linkage) (n : Noted) → is_read n.entry.made.op ≡ true
+    → (IsTurn s n.entry.made × CitesSo s n.entry.made × (n.told ≡ nothing)) ↔ ReaderMayCome s n
 
 -- an entry may come behind a past, but for a reader's reply
 abbrev pub ComesBehind : Bool → Linkage → Noted → Type 0
@@ -35,10 +36,13 @@ AllReadBehind (n ∷ past) = (ReadsBehind past n × GivesSnap past n) × AllRead
 abbrev pub AllReadOver : List Noted → List (Option ℕ) → List Noted → Type 0
 AllReadOver whole cells [] = Unit {0}
 AllReadOver whole cells (n ∷ past) =
-    ((k : ℕ) → ReadsCell n.entry.made.op k → IsReadReply whole cells (state_of past).managed.managed n.entry.number n.entry.made.caller k n.entry.made.reply)
+    ((k : ℕ) → ReadsCell n.entry.made.op k
+    → IsReadReply whole cells (state_of past).managed.managed
+    n.entry.number n.entry.made.caller k n.entry.made.reply)
     × AllReadOver whole cells past
 
 -- the two are one where no snap is waited for at the end
 abbrev pub ReadersAreTested : Type 0
 ReadersAreTested = (past : List Noted) → AllComeBehind past → AreInPlace past
-    → (AllReadBehind past × ((k : ℕ) → WaitsForSnap past k → ⊥)) ↔ AllReadOver (in_turn past) (state_of past).managed.managed.cells past
+    → (AllReadBehind past × ((k : ℕ) → WaitsForSnap past k → ⊥))
+    ↔ AllReadOver (in_turn past) (state_of past).managed.managed.cells past

@@ -17,7 +17,10 @@ abbrev pub first_cycle : Cycle
 first_cycle = record { 0 = 1 }
 
 abbrev pub note : Op → Reply → Option ℕ → Told → ℕ → Noted
-note o reply cites told number = record { entry = record { number = number; made = record { caller = C; index = 1; op = o; reply = reply; cites = cites } }; told = told }
+note o reply cites told number = record {
+  entry = record { number = number; made = record { caller = C; index = 1; op = o; reply = reply; cites = cites } };
+  told = told;
+}
 
 -- nothing is there; a cycle is opened, contracted and mirrored
 abbrev pub mirrored_cycle : List Noted

@@ -63,7 +63,8 @@ seven_words (a ∷ b ∷ c ∷ d ∷ e ∷ f ∷ []) l = absurd (omega arith)
 seven_words (a ∷ b ∷ c ∷ d ∷ e ∷ f ∷ g ∷ []) l = refl
 seven_words (a ∷ b ∷ c ∷ d ∷ e ∷ f ∷ g ∷ h ∷ more) l = absurd (omega arith)
 
-listed : (words : List (List ℕ)) (s t u v w x y : List ℕ) → length words ≡ 7 → word_at words 0 ≡ s → word_at words 1 ≡ t → word_at words 2 ≡ u → word_at words 3 ≡ v → word_at words 4 ≡ w → word_at words 5 ≡ x → word_at words 6 ≡ y
+listed : (words : List (List ℕ)) (s t u v w x y : List ℕ) → length words ≡ 7 → word_at words 0 ≡ s → word_at words 1 ≡ t
+    → word_at words 2 ≡ u → word_at words 3 ≡ v → word_at words 4 ≡ w → word_at words 5 ≡ x → word_at words 6 ≡ y
     → s ∷ t ∷ u ∷ v ∷ w ∷ x ∷ y ∷ [] ≡ words
 listed words s t u v w x y l e f g h i j k = rw (← e, ← f, ← g, ← h, ← i, ← j, ← k) (seven_words words l)
 
@@ -71,7 +72,8 @@ listed words s t u v w x y l e f g h i j k = rw (← e, ← f, ← g, ← h, ←
 clash : {A : Type 0} (x a b : List ℕ) → x ≡ a → x ≡ b → bytes_eq a b ≡ false → A
 clash x a b e f d = absurd (other_text a b (sym d) (sym e ∙ f))
 
-ordered : (words : List (List ℕ)) (a b c : List ℕ) → length words ≡ 7 → word_at words 0 ≡ codes "gen" → Found words (codes "--seed") a → Found words (codes "--size") b → Found words (codes "--mode") c → Given a b c words
+ordered : (words : List (List ℕ)) (a b c : List ℕ) → length words ≡ 7 → word_at words 0 ≡ codes "gen"
+    → Found words (codes "--seed") a → Found words (codes "--size") b → Found words (codes "--mode") c → Given a b c words
 ordered words a b c l g (first n v) (first n' v') m = clash _ _ _ n n' refl
 ordered words a b c l g (first n v) (second n' v') (first n'' v'') = clash _ _ _ n n'' refl
 ordered words a b c l g (first n v) (second n' v') (second n'' v'') = clash _ _ _ n' n'' refl
@@ -109,7 +111,8 @@ of_one (v ∷ []) w l e = let few : 0 < 1 = omega arith in (0, few, ap (λ u. u 
 of_one (v ∷ u ∷ words) w l e = absurd (omega arith)
 
 -- of one word, none that is a mode's and none of the others
-pub not_one : (words : List (List ℕ)) → length words ≡ 1 → (word_at words 0 ≢ codes "compare") → (word_at words 0 ≢ codes "grefs") → (word_at words 0 ≢ codes "leaks") → (word_at words 0 ≢ codes "check") → ((m : Mode) → mode_text m ≢ word_at words 0) → (c : Command) → AreWordsOf words c → ⊥
+pub not_one : (words : List (List ℕ)) → length words ≡ 1 → (word_at words 0 ≢ codes "compare") → (word_at words 0 ≢ codes "grefs")
+    → (word_at words 0 ≢ codes "leaks") → (word_at words 0 ≢ codes "check") → ((m : Mode) → mode_text m ≢ word_at words 0) → (c : Command) → AreWordsOf words c → ⊥
 not_one words l listing log leaks check none (command.Run m) a = none m (ap (λ w. word_at w 0) (one (mode_text m) words a.given))
 not_one words l listing log leaks check none command.Compare a = listing (sym (ap (λ w. word_at w 0) (one (codes "compare") words a.given)))
 not_one words l listing log leaks check none command.References a = log (sym (ap (λ w. word_at w 0) (one (codes "grefs") words a.given)))
@@ -118,7 +121,8 @@ not_one words l listing log leaks check none command.Check a = check (sym (ap (�
 not_one words l listing log leaks check none (command.Generate seed size m) a = let seven = (values (decimal seed) (decimal size) (mode_text m) words a.given).seven in absurd (omega (arith, seven, l))
 
 -- of seven words, none that are the generator's
-pub not_seven : (words : List (List ℕ)) → length words ≡ 7 → ((seed size : ℕ) (m : Mode) → seed < 2 ^ 64 → size ≤ 2800 → Values words (decimal seed) (decimal size) (mode_text m) → ⊥) → (c : Command) → AreWordsOf words c → ⊥
+pub not_seven : (words : List (List ℕ)) → length words ≡ 7 → ((seed size : ℕ) (m : Mode) → seed < 2 ^ 64 → size ≤ 2800 → Values words (decimal seed) (decimal size) (mode_text m) → ⊥)
+    → (c : Command) → AreWordsOf words c → ⊥
 not_seven words l none (command.Run m) a = let single = sym (ap length (one (mode_text m) words a.given)) in absurd (omega (arith, single, l))
 not_seven words l none command.Compare a = let single = sym (ap length (one (codes "compare") words a.given)) in absurd (omega (arith, single, l))
 not_seven words l none command.References a = let single = sym (ap length (one (codes "grefs") words a.given)) in absurd (omega (arith, single, l))

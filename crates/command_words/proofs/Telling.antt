@@ -32,7 +32,8 @@ data OneWord : Command → List ℕ → Type 0 where
   check : OneWord command.Check (codes "check")
 
 abbrev told : List ℕ → Option Command
-told w = if bytes_eq w (codes "serial") then Some (command.Run mode.Serial) else if bytes_eq w (codes "threads") then Some (command.Run mode.Threads) else if bytes_eq w (codes "compare") then Some command.Compare
+told w = if bytes_eq w (codes "serial") then Some (command.Run mode.Serial) else if bytes_eq w
+    (codes "threads") then Some (command.Run mode.Threads) else if bytes_eq w (codes "compare") then Some command.Compare
     else if bytes_eq w (codes "grefs") then Some command.References else if bytes_eq w (codes "leaks") then Some command.Leaks else Some command.Check
 
 tells : (c : Command) (w : List ℕ) → OneWord c w → told w ≡ Some c

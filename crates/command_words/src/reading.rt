@@ -1,6 +1,7 @@
 // The reading of the words, by their places.
 
-ghost use Rattle.std.specs.Prelude.{◌≡◌, ◌≢◌, ℕ, ◌<◌, ◌≤◌, map, length, string_bytes, MatchOption, MatchBool, bytes_eq, codes, decimal, Some, None};
+ghost use Rattle.std.specs.Prelude.{◌≡◌, ◌≢◌, ℕ, ◌<◌, ◌≤◌, map, length, string_bytes, MatchOption, MatchBool, bytes_eq};
+ghost use Rattle.std.specs.Prelude.{codes, decimal, Some, None};
 ghost use Rattle.command_words.specs.Commands.{AreWordsOf, mode_text};
 ghost use Rattle.command_words.specs.Values.{word_at, value_of};
 ghost use Rattle.command_words.specs.declared.commands.Mode.{Mode as TheMode};
@@ -14,7 +15,8 @@ const MOST_FAMILIES: u64 = 2800;
 
 /// The command that the words give; None exactly where they give none. It takes no memory.
 pub fn command_of(words: &Vec<String>) -> Option<Command>
-    ensures { MatchOption result ((c : TheCommand) → AreWordsOf (map string_bytes words.now.items) c → ⊥) (λ c. AreWordsOf (map string_bytes words.now.items) c) }
+    ensures { MatchOption result ((c : TheCommand) → AreWordsOf (map string_bytes words.now.items) c → ⊥)
+        (λ c. AreWordsOf (map string_bytes words.now.items) c) }
 {
     match words.len() {
         1 => one_word(words),
@@ -26,7 +28,8 @@ pub fn command_of(words: &Vec<String>) -> Option<Command>
 // The command that one word gives.
 fn one_word(words: &[String]) -> Option<Command>
     requires { length words.now ≡ 1 }
-    ensures { MatchOption result ((c : TheCommand) → AreWordsOf (map string_bytes words.now) c → ⊥) (λ c. AreWordsOf (map string_bytes words.now) c) }
+    ensures { MatchOption result ((c : TheCommand) → AreWordsOf (map string_bytes words.now) c → ⊥)
+        (λ c. AreWordsOf (map string_bytes words.now) c) }
 {
     if is_same(word(words, 0), "compare") {
         return Some(Command::Compare);
@@ -49,7 +52,8 @@ fn one_word(words: &[String]) -> Option<Command>
 // The command that seven words give.
 fn seven_words(words: &[String]) -> Option<Command>
     requires { length words.now ≡ 7 }
-    ensures { MatchOption result ((c : TheCommand) → AreWordsOf (map string_bytes words.now) c → ⊥) (λ c. AreWordsOf (map string_bytes words.now) c) }
+    ensures { MatchOption result ((c : TheCommand) → AreWordsOf (map string_bytes words.now) c → ⊥)
+        (λ c. AreWordsOf (map string_bytes words.now) c) }
 {
     if !is_at(words, 0, "gen") {
         return None;
@@ -73,7 +77,9 @@ fn seven_words(words: &[String]) -> Option<Command>
 // The number of at most `most` behind a name.
 fn number_of(words: &[String], name: &str, most: u64) -> Option<u64>
     requires { length words.now ≡ 7 }
-    ensures { MatchOption result ((n : ℕ) → n ≤ most → value_of (map string_bytes words.now) name.now ≢ Some (decimal n)) (λ n. (n ≤ most) × (value_of (map string_bytes words.now) name.now ≡ Some (decimal n))) }
+    ensures { MatchOption result ((n : ℕ) → n ≤ most
+        → value_of (map string_bytes words.now) name.now ≢ Some (decimal n))
+        (λ n. (n ≤ most) × (value_of (map string_bytes words.now) name.now ≡ Some (decimal n))) }
 {
     match value(words, name) {
         Some(value) => number(value, most),
@@ -84,7 +90,9 @@ fn number_of(words: &[String], name: &str, most: u64) -> Option<u64>
 // The mode behind its name.
 fn asked_mode(words: &[String]) -> Option<Mode>
     requires { length words.now ≡ 7 }
-    ensures { MatchOption result ((m : TheMode) → value_of (map string_bytes words.now) (codes "--mode") ≢ Some (mode_text m)) (λ m. value_of (map string_bytes words.now) (codes "--mode") ≡ Some (mode_text m)) }
+    ensures { MatchOption result ((m : TheMode)
+        → value_of (map string_bytes words.now) (codes "--mode") ≢ Some (mode_text m))
+        (λ m. value_of (map string_bytes words.now) (codes "--mode") ≡ Some (mode_text m)) }
 {
     match value(words, "--mode") {
         Some(value) => mode_of(value),
@@ -111,7 +119,8 @@ fn word(words: &[String], i: usize) -> &str
 // The word behind a name, where the name stands first in one of the three pairs.
 fn value<'a>(words: &'a [String], name: &str) -> Option<&'a str>
     requires { length words.now ≡ 7 }
-    ensures { MatchOption result (value_of (map string_bytes words.now) name.now ≡ None) (λ v. value_of (map string_bytes words.now) name.now ≡ Some v.now) }
+    ensures { MatchOption result (value_of (map string_bytes words.now) name.now ≡ None)
+        (λ v. value_of (map string_bytes words.now) name.now ≡ Some v.now) }
 {
     if is_at(words, 1, name) {
         Some(word(words, 2))
@@ -139,7 +148,8 @@ fn mode_of(word: &str) -> Option<Mode>
 
 // The number of at most `most` that a word writes, in decimal digits without a needless zero.
 fn number(word: &str, most: u64) -> Option<u64>
-    ensures { MatchOption result ((n : ℕ) → n ≤ most → decimal n ≢ word.now) (λ n. (n ≤ most) × (decimal n ≡ word.now)) }
+    ensures { MatchOption result ((n : ℕ) → n ≤ most → decimal n ≢ word.now)
+        (λ n. (n ≤ most) × (decimal n ≡ word.now)) }
 {
     let Ok(n) = word.parse::<u64>() else {
         return None;

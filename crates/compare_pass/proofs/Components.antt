@@ -22,7 +22,8 @@ use Rattle.compare_pass.proofs.Rising.{first-least, first-in, rising-few}
 pub bridge-below : (nodes : List Node) (x : ℕ) → IsBridgeNode nodes x → x < length nodes
 bridge-below nodes x b = slice_get_within nodes x b.node b.there
 
-pub listed-none : (nodes : List Node) (labels indexes : List ℕ) → length indexes ≡ length nodes → ((x : ℕ) → x < length nodes → index_at labels indexes x ≡ 4294967295) → AreListed nodes labels 0 [] indexes []
+pub listed-none : (nodes : List Node) (labels indexes : List ℕ) → length indexes ≡ length nodes
+    → ((x : ℕ) → x < length nodes → index_at labels indexes x ≡ 4294967295) → AreListed nodes labels 0 [] indexes []
 listed-none nodes labels indexes size none = record {
   numbered = numbered-none (length nodes) labels indexes size none;
   firsts = refl;
@@ -122,7 +123,8 @@ module _ (nodes : List Node) (labels : List ℕ) (x : ℕ) (comps : List (List �
       }
 
 -- fewer stand than there are nodes
-pub listed-few : (nodes : List Node) (labels : List ℕ) (comps : List (List ℕ)) (indexes stands : List ℕ) → length nodes < 4294967295 → AreListed nodes labels (length nodes) comps indexes stands → length stands ≤ 4294967294
+pub listed-few : (nodes : List Node) (labels : List ℕ) (comps : List (List ℕ)) (indexes stands : List ℕ)
+    → length nodes < 4294967295 → AreListed nodes labels (length nodes) comps indexes stands → length stands ≤ 4294967294
 listed-few nodes labels comps indexes stands few a = omega (arith, rising-few stands 0 (length nodes) a.rise (λ k d l. omega arith) a.below (omega arith), few)
 
 -- once all nodes are gone through

@@ -72,7 +72,8 @@ module _ (nodes : List Node) (edges : List (List ℕ)) (labels : List ℕ) (comp
       (λ t.
           let il : i < length (firsts ++ heavy) = omega (arith, t.0, all) in
           let jl : j < length (firsts ++ heavy) = omega (arith, t.1, all) in
-          let r = (comes-crosses B edges (length nodes) labels after (firsts ++ heavy) (omega (arith, all, few)) part.in_range classes h.numbered bare-unreported i j il).1 (jl, rw (stand-is i, stand-is j) at t.2) in
+          let r = (comes-crosses B edges (length nodes) labels after (firsts ++ heavy) (omega (arith, all, few)) part.in_range classes h.numbered bare-unreported i j il).1
+          (jl, rw (stand-is i, stand-is j) at t.2) in
           Contains-permutation pairs ordered (i, j) perm ((refs.exact i j).1 (il, r))),
     );
   }

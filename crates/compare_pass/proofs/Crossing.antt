@@ -36,7 +36,8 @@ module _ (edges : List (List ℕ)) (count : ℕ) (labels indexes : List ℕ) (pa
   -- where x leads to a class, the search comes to it
   pub leads-comes : (x b : ℕ) → x < count → (l : Leads E passed x b) → Reaches (Step x) x l.to
   leads-comes x b lt l =
-      let leave : Reaches (Step x) x l.from = walk_inside E (Step x) count x within (λ u v ul m e. (own_opens x u lt m, e)) x l.from l.leaves.there.rows lt (Reaches-self (Step x) x) (Mutual-self E x) l.leaves.there.walk l.leaves.back in
+      let leave : Reaches (Step x) x l.from = walk_inside E (Step x) count x within
+      (λ u v ul m e. (own_opens x u lt m, e)) x l.from l.leaves.there.rows lt (Reaches-self (Step x) x) (Mutual-self E x) l.leaves.there.walk l.leaves.back in
       through x l.from l.to l.between lt leave (own_opens x l.from lt l.leaves) l.walk l.plain
 
   -- and to all of it, where it may be passed

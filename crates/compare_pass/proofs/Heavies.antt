@@ -61,10 +61,26 @@ pub plain-class : (B : ℕ → Type 0) (E : ℕ → ℕ → Type 0) (x y : ℕ) 
 plain-class B E x y m p b h r = p b h (Mutual-trans E x y b m r)
 
 leads-to-same : (E : ℕ → ℕ → Type 0) (passed : ℕ → Type 0) (b x y : ℕ) → Mutual E x y → Leads E passed b x → Leads E passed b y
-leads-to-same E passed b x y m l = record { from = l.from; between = l.between; to = l.to; leaves = l.leaves; arrives = Mutual-trans E y x l.to (Mutual-sym E x y m) l.arrives; walk = l.walk; plain = l.plain }
+leads-to-same E passed b x y m l = record {
+  from = l.from;
+  between = l.between;
+  to = l.to;
+  leaves = l.leaves;
+  arrives = Mutual-trans E y x l.to (Mutual-sym E x y m) l.arrives;
+  walk = l.walk;
+  plain = l.plain;
+}
 
 leads-from-same : (E : ℕ → ℕ → Type 0) (passed : ℕ → Type 0) (b x y : ℕ) → Mutual E x y → Leads E passed x b → Leads E passed y b
-leads-from-same E passed b x y m l = record { from = l.from; between = l.between; to = l.to; leaves = Mutual-trans E y x l.from (Mutual-sym E x y m) l.leaves; arrives = l.arrives; walk = l.walk; plain = l.plain }
+leads-from-same E passed b x y m l = record {
+  from = l.from;
+  between = l.between;
+  to = l.to;
+  leaves = Mutual-trans E y x l.from (Mutual-sym E x y m) l.leaves;
+  arrives = l.arrives;
+  walk = l.walk;
+  plain = l.plain;
+}
 
 pub heavy-class : (B : ℕ → Type 0) (E : ℕ → ℕ → Type 0) (x y : ℕ) → Mutual E x y → IsHeavy B E x → IsHeavy B E y
 heavy-class B E x y m h = record {
@@ -129,7 +145,8 @@ module _ (nodes : List Node) (edges : List (List ℕ)) (labels : List ℕ) (comp
         record {
           member = h;
           least = λ y hy m. (
-              let same : get_or labels y 0 ≡ get_or labels (get_or stands c.0 0) 0 = sym ((classes.exact b y (bridge-below nodes b h) (bridge-below nodes y hy)).1 m) ∙ ap (λ z. get_or labels z 0) (sym at) in
+              let same : get_or labels y 0 ≡ get_or labels (get_or stands c.0 0) 0 = sym ((classes.exact b y (bridge-below nodes b h) (bridge-below nodes y hy)).1 m)
+              ∙ ap (λ z. get_or labels z 0) (sym at) in
               let low = first-least e.0 y e.2.rises ((e.2.exact y).1 (hy, same)) in
               omega (arith, low, at, member-first c.0 c.1));
         }),
@@ -185,8 +202,11 @@ module _ (nodes : List Node) (edges : List (List ℕ)) (labels : List ℕ) (comp
       count-same (λ b. Contains (take (length stands) stands) b × Comes turned labels indexes b x) (LeadsOut B E x) (get_or outs x 0) (λ b. (
         (λ r.
             let s : Contains stands b = subst (λ xs. Contains xs b) (take_all (length stands) stands (omega arith)) r.0 in
-            let f = (stand-first b).0 s in
-            (f, leads-back E T to-edge Plain b x (comes-leads turned (length nodes) labels indexes Plain range cs plain-index b x x (bridge-below nodes b f.member) r.1 (λ m. apart x b p f.member (mutual-back E T to-edge b x m)) (Mutual-self T x)))),
+            let f = (stand-first b).0 s in (
+              f,
+              leads-back E T to-edge Plain b x (comes-leads turned (length nodes) labels indexes Plain
+                  range cs plain-index b x x (bridge-below nodes b f.member) r.1 (λ m. apart x b p f.member (mutual-back E T to-edge b x m)) (Mutual-self T x)),
+            )),
         (λ r. (
           subst (λ xs. Contains xs b) (sym (take_all (length stands) stands (omega arith))) ((stand-first b).1 r.0),
           leads-all turned (length nodes) labels indexes Plain range cs plain-index b x (bridge-below nodes b r.0.member) l (λ u m. plain-class B E x u (mutual-back E T to-edge x u m) p)

@@ -22,7 +22,8 @@ pub put-here : (labels indexes : List ℕ) (x v y : ℕ) → get_or labels x 0 <
 put-here labels indexes x v y lt e = ap (λ l. get_or (set indexes (get_or labels x 0) v) l 0) e ∙ get_or-set_same indexes (get_or labels x 0) v 0 lt
 
 -- what has an index keeps one
-pub put-kept : (labels indexes : List ℕ) (x v y : ℕ) → get_or labels x 0 < length indexes → v ≢ 4294967295 → index_at labels indexes y ≢ 4294967295 → index_at labels (set indexes (get_or labels x 0) v) y ≢ 4294967295
+pub put-kept : (labels indexes : List ℕ) (x v y : ℕ) → get_or labels x 0 < length indexes → v ≢ 4294967295
+    → index_at labels indexes y ≢ 4294967295 → index_at labels (set indexes (get_or labels x 0) v) y ≢ 4294967295
 put-kept labels indexes x v y lt n old e = elim (cases_eq (get_or labels y 0) (get_or labels x 0)) [
   | inl s ↦ n (sym (put-here labels indexes x v y lt s) ∙ e)
   | inr d ↦ old (sym (put-index labels indexes x v y d) ∙ e)

@@ -70,7 +70,8 @@ unfolding pairs_from
 pair-in n k [] y c = absurd (Contains-nil y c)
 pair-in n zero (row ∷ rows) y c =
     let at : n ≡ zero + n = omega arith in
-    subst (λ m. Contains (map (λ y. (n, y)) row ++ pairs_from (suc n) rows) (m, y)) at (Contains-append_left (map (λ (y : ℕ). (n, y)) row) (pairs_from (suc n) rows) (n, y) (Contains-map (λ (y : ℕ). (n, y)) row y c))
+    subst (λ m. Contains (map (λ y. (n, y)) row ++ pairs_from (suc n) rows) (m, y)) at
+    (Contains-append_left (map (λ (y : ℕ). (n, y)) row) (pairs_from (suc n) rows) (n, y) (Contains-map (λ (y : ℕ). (n, y)) row y c))
 pair-in n (suc k) (row ∷ rows) y c =
     let next : k + suc n ≡ suc k + n = omega arith in
     Contains-append_right (map (λ (y : ℕ). (n, y)) row) (pairs_from (suc n) rows) (suc k + n, y)

@@ -77,7 +77,8 @@ refers-more edges labels indexes stands n pairs outs d a = record {
   );
 }
 
-pub refers-fresh : (edges : List (List ℕ)) (labels indexes stands : List ℕ) (n : ℕ) (pairs : List (ℕ × ℕ)) → AreReferencesBelow edges labels indexes stands n pairs → (p : ℕ × ℕ) → Contains pairs p → p.0 < n
+pub refers-fresh : (edges : List (List ℕ)) (labels indexes stands : List ℕ) (n : ℕ) (pairs : List (ℕ × ℕ))
+    → AreReferencesBelow edges labels indexes stands n pairs → (p : ℕ × ℕ) → Contains pairs p → p.0 < n
 refers-fresh edges labels indexes stands n pairs a p c = ((a.exact p.0 p.1).0 c).0
 
 -- what a class refers to is reported, and another one
@@ -88,7 +89,8 @@ refers-below edges count labels indexes stands x j within lt a c =
     let t = a.index c.0 yl (λ e. c.2 (inr e)) in
     omega (arith, t.0, c.3)
 
-pub refers-apart : (edges : List (List ℕ)) (count : ℕ) (labels indexes stands : List ℕ) (i j : ℕ) → ((u v : ℕ) → NodeLeads edges u v → v < count) → i < length stands → AreNumbered count labels indexes stands
+pub refers-apart : (edges : List (List ℕ)) (count : ℕ) (labels indexes stands : List ℕ) (i j : ℕ)
+    → ((u v : ℕ) → NodeLeads edges u v → v < count) → i < length stands → AreNumbered count labels indexes stands
     → ComesTo edges labels indexes (get_or stands i 0) j → i ≡ j → ⊥
 refers-apart edges count labels indexes stands i j within il a c e =
     let s = a.stand i il in

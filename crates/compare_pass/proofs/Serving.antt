@@ -71,12 +71,17 @@ begins edge finished v s = record {
 
 pub deeper : (edge : ℕ → ℕ → Type 0) (finished below : List ℕ) (top v : ℕ) → IsSearching edge finished (top ∷ below) → edge top v → IsSearching edge finished (v ∷ top ∷ below)
 deeper edge finished below top v s e = record {
-  path = (All-cons (λ g. Reaches edge g v) top below (Reaches-edge edge top v e) (All-members (λ g. Reaches edge g v) below (λ g c. Reaches-then edge g top v (All-contains (λ h. Reaches edge h top) below g s.path.0 c) e)), s.path);
+  path = (
+    All-cons (λ g. Reaches edge g v) top below (Reaches-edge edge top v e)
+        (All-members (λ g. Reaches edge g v) below (λ g c. Reaches-then edge g top v (All-contains (λ h. Reaches edge h top) below g s.path.0 c) e)),
+    s.path,
+  );
   closed = λ x y c d. elim (s.closed x y c d) [ inl f ↦ inl f | inr f ↦ inr (Contains-there y v (top ∷ below) f) ];
   served = λ x c. elim (s.served x c) [ inl o ↦ inl (o.0, Contains-there o.0 v (top ∷ below) o.1, o.2) | inr k ↦ inr k ];
 }
 
-module _ (edge : ℕ → ℕ → Type 0) (finished below : List ℕ) (v : ℕ) (d : Decided edge) (s : IsSearching edge finished (v ∷ below)) (done : (y : ℕ) → edge v y → Contains finished y ⊎ Contains (v ∷ below) y) where
+module _ (edge : ℕ → ℕ → Type 0) (finished below : List ℕ) (v : ℕ) (d : Decided edge)
+    (s : IsSearching edge finished (v ∷ below)) (done : (y : ℕ) → edge v y → Contains finished y ⊎ Contains (v ∷ below) y) where
   after : List ℕ
   after = finished ++ v ∷ []
 

@@ -76,7 +76,11 @@ labels-new row label y before waiting labels more b apart l =
       size = length-set labels y label ∙ l.size;
       kept = λ x n. other x (same-bare before labels x (l.kept x n) n) ∙ l.kept x n;
       fresh = λ x bx n. elim (cases_eq x y) [
-        | inl e ↦ (ap (λ z. get_or (set labels y label) z 0) e ∙ here, subst (λ z. Contains (row ++ y ∷ []) z) (sym e) (Contains-push row y), subst (λ z. Contains (more ++ y ∷ []) z) (sym e) (Contains-push more y))
+        | inl e ↦ (
+          ap (λ z. get_or (set labels y label) z 0) e ∙ here,
+          subst (λ z. Contains (row ++ y ∷ []) z) (sym e) (Contains-push row y),
+          subst (λ z. Contains (more ++ y ∷ []) z) (sym e) (Contains-push more y),
+        )
         | inr ne ↦
             let same : get_or (set labels y label) x 0 ≡ get_or labels x 0 = get_or-set_other labels y x label 0 ne in
             let f = l.fresh x bx (λ m. n (same ∙ m)) in
@@ -99,7 +103,8 @@ pub spread-first : (edges : List (List ℕ)) (root : ℕ) (before : List ℕ) �
 spread-first edges root before apart b =
     let lt = bare-below before root b in
     let here : get_or (set before root root) root 0 ≡ root = get_or-set_same before root root 0 lt in
-    let only : (x : ℕ) → IsBare before x → ¬ IsBare (set before root root) x → x ≡ root = (λ x bx n. elim (cases_eq x root) [ inl e ↦ e | inr ne ↦ absurd (n (get_or-set_other before root x root 0 ne ∙ bx)) ]) in
+    let only : (x : ℕ) → IsBare before x → ¬ IsBare (set before root root) x
+    → x ≡ root = (λ x bx n. elim (cases_eq x root) [ inl e ↦ e | inr ne ↦ absurd (n (get_or-set_other before root x root 0 ne ∙ bx)) ]) in
     record {
       size = length-set before root root;
       here = here;

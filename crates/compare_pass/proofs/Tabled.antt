@@ -31,7 +31,8 @@ insert-last (e ∷ es) m v a =
     rw (neq-eqb m.0 e.0.0 (λ h. omega (arith, h, l))) (ap (λ z. e ∷ z) (insert-last es m v (All-tail (λ n. n < m.0) e.0.0 (map number_of es) a)))
 
 -- a number that is there keeps its place and gets the label
-pub insert-labels : (es : List (MNum × ℕ)) (m : MNum) (v i : ℕ) → Rises (map number_of es) → slice_get (map number_of es) i ≡ Some m.0 → map label_in (insert_entry same es m v) ≡ set (map label_in es) i v
+pub insert-labels : (es : List (MNum × ℕ)) (m : MNum) (v i : ℕ) → Rises (map number_of es)
+    → slice_get (map number_of es) i ≡ Some m.0 → map label_in (insert_entry same es m v) ≡ set (map label_in es) i v
 insert-labels [] m v i r e = absurd (none_some m.0 e)
 insert-labels (x ∷ es) m v zero r e = rw (eq-eqb m.0 x.0.0 (sym (same_Some x.0.0 m.0 e))) refl
 insert-labels (x ∷ es) m v (suc i) r e =

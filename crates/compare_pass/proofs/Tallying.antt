@@ -33,7 +33,8 @@ counts-none edges count labels indexes stands counts size none = record {
 }
 
 -- one stand more
-pub counts-more : (edges : List (List ℕ)) (count : ℕ) (labels indexes stands : List ℕ) (k s : ℕ) (marks : List Bool) (found counts after : List ℕ) → k < length stands → get_or stands k 0 ≡ s → Rises stands
+pub counts-more : (edges : List (List ℕ)) (count : ℕ) (labels indexes stands : List ℕ) (k s : ℕ) (marks : List Bool) (found counts after : List ℕ)
+    → k < length stands → get_or stands k 0 ≡ s → Rises stands
     → FindsReached (Goes edges labels indexes (get_or labels s 0)) s marks found → Tallies marks counts after
     → AreCounts edges count labels indexes stands k counts → AreCounts edges count labels indexes stands (k + 1) after
 counts-more edges count labels indexes stands k s marks found counts after l is r f t a = record {
@@ -65,7 +66,10 @@ counts-more edges count labels indexes stands k s marks found counts after l is 
           exact = λ b. (
             (λ h. elim (Contains-push_cases c.names s b h) [
               | inl o ↦ let q = (c.exact b).0 o in (subst (λ xs. Contains xs b) (sym next) (Contains-append_left (take k stands) (s ∷ []) b q.0), q.1)
-              | inr n ↦ (subst (λ xs. Contains xs b) (sym next) (subst (λ z. Contains (take k stands ++ s ∷ []) z) n (Contains-push (take k stands) s)), subst (λ z. Comes edges labels indexes z x) n comes)
+              | inr n ↦ (
+                subst (λ xs. Contains xs b) (sym next) (subst (λ z. Contains (take k stands ++ s ∷ []) z) n (Contains-push (take k stands) s)),
+                subst (λ z. Comes edges labels indexes z x) n comes,
+              )
             ]),
             (λ h. elim (Contains-push_cases (take k stands) s b (subst (λ xs. Contains xs b) next h.0)) [
               | inl o ↦ Contains-append_left c.names (s ∷ []) b ((c.exact b).1 (o, h.1))

@@ -7,4 +7,5 @@ use Rattle.bridge_graph.specs.Parts.{NodeLeads}
 pub record AreClasses (edges : List (List ℕ)) (count : ℕ) (labels : List ℕ) : Type 0 where
   pub whole : length labels ≡ count
   pub small : All (λ l. l < count) labels
-  pub exact : (x y : ℕ) → x < count → y < count → (slice_index labels x ≡ slice_index labels y) ↔ Mutual (NodeLeads edges) x y
+  pub exact : (x y : ℕ) → x < count → y < count
+      → (slice_index labels x ≡ slice_index labels y) ↔ Mutual (NodeLeads edges) x y

@@ -1,5 +1,6 @@
 -- How many components a search comes to a node from.
-use Rattle.std.specs.Prelude.{◌≡◌, ◌↔◌, ℕ, ◌+◌, ◌*◌, ◌<◌, ◌≤◌, Bool, false, cond, List, length, All, Contains, slice_index, slice_index_or, take}
+use Rattle.std.specs.Prelude.{◌≡◌, ◌↔◌, ℕ, ◌+◌, ◌*◌, ◌<◌, ◌≤◌, Bool, false, cond, List, length, All, Contains}
+use Rattle.std.specs.Prelude.{slice_index, slice_index_or, take}
 use Rattle.joint_machine.specs.Walks.{Reaches}
 use Rattle.joint_machine.specs.Components.{Rises}
 use Rattle.compare_pass.specs.Searching.{Goes}
@@ -16,10 +17,12 @@ abbrev pub Comes : List (List ℕ) → List ℕ → List ℕ → ℕ → ℕ →
 Comes edges labels indexes b x = Reaches (Goes edges labels indexes (slice_index labels b)) b x
 
 -- for each node from how many of the first k stands the search comes to it
-pub record AreCounts (edges : List (List ℕ)) (count : ℕ) (labels indexes stands : List ℕ) (k : ℕ) (counts : List ℕ) : Type 0 where
+pub record AreCounts (edges : List (List ℕ)) (count : ℕ)
+    (labels indexes stands : List ℕ) (k : ℕ) (counts : List ℕ) : Type 0 where
   pub size : length counts ≡ count
   pub few : All (λ c. c ≤ k) counts
-  pub exact : (x : ℕ) → x < count → IsCount (λ b. Contains (take k stands) b × Comes edges labels indexes b x) (slice_index counts x)
+  pub exact : (x : ℕ) → x < count → IsCount
+      (λ b. Contains (take k stands) b × Comes edges labels indexes b x) (slice_index counts x)
 
 -- a mark as a number
 abbrev pub bit : Bool → ℕ
@@ -28,7 +31,8 @@ bit b = cond b 1 0
 -- one more where there is a mark, and no mark is left
 pub record Tallies (marks : List Bool) (before after : List ℕ) : Type 0 where
   pub size : length after ≡ length before
-  pub exact : (y : ℕ) → y < length before → slice_index after y ≡ slice_index before y + bit (slice_index_or marks y false)
+  pub exact : (y : ℕ) → y < length before
+      → slice_index after y ≡ slice_index before y + bit (slice_index_or marks y false)
 
 -- at least three on either side, and many in all
 pub record AreMany (ins outs : ℕ) : Type 0 where

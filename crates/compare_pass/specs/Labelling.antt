@@ -32,15 +32,18 @@ pub record IsSpreading (edges : List (List ℕ)) (root : ℕ) (before labels wai
   pub size : length labels ≡ length before
   pub here : slice_index labels root ≡ root
   pub kept : (x : ℕ) → ¬ IsBare before x → slice_index labels x ≡ slice_index before x
-  pub sound : (x : ℕ) → IsBare before x → ¬ IsBare labels x → (slice_index labels x ≡ root) × Reaches (NodeLeads edges) x root
-  pub closed : (x y : ℕ) → IsBare before y → ¬ IsBare labels y → NodeLeads edges x y → ¬ IsBare labels x ⊎ Contains waiting y
+  pub sound : (x : ℕ) → IsBare before x → ¬ IsBare labels x
+      → (slice_index labels x ≡ root) × Reaches (NodeLeads edges) x root
+  pub closed : (x y : ℕ) → IsBare before y → ¬ IsBare labels y
+      → NodeLeads edges x y → ¬ IsBare labels x ⊎ Contains waiting y
   pub found : (x : ℕ) → Contains waiting x → IsBare before x × ¬ IsBare labels x
 
 -- the bare nodes of a row got the label and wait
 pub record Labels (row : List ℕ) (label : ℕ) (before waiting labels more : List ℕ) : Type 0 where
   pub size : length labels ≡ length before
   pub kept : (x : ℕ) → ¬ IsBare before x → slice_index labels x ≡ slice_index before x
-  pub fresh : (x : ℕ) → IsBare before x → ¬ IsBare labels x → (slice_index labels x ≡ label) × Contains row x × Contains more x
+  pub fresh : (x : ℕ) → IsBare before x → ¬ IsBare labels x
+      → (slice_index labels x ≡ label) × Contains row x × Contains more x
   pub waits : (x : ℕ) → Contains waiting x → Contains more x
   pub from : (x : ℕ) → Contains more x → Contains waiting x ⊎ (IsBare before x × ¬ IsBare labels x)
   pub whole : (x : ℕ) → Contains row x → ¬ IsBare labels x

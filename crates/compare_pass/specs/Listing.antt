@@ -1,5 +1,6 @@
 -- Classes that are reported: each has an index at its label, and one node that stands for it.
-use Rattle.std.specs.Prelude.{◌≡◌, ◌≢◌, ◌↔◌, ℕ, ◌<◌, List, ◌++◌, length, map, All, Contains, Some, slice_get, slice_index}
+use Rattle.std.specs.Prelude.{◌≡◌, ◌≢◌, ◌↔◌, ℕ, ◌<◌, List, ◌++◌, length, map, All, Contains, Some, slice_get}
+use Rattle.std.specs.Prelude.{slice_index}
 use Rattle.joint_machine.specs.Components.{Rises, IsHeavy, IsLeast, first_of}
 use Rattle.bridge_graph.specs.declared.graph.Node.{Node}
 use Rattle.bridge_graph.specs.declared.packing.Link.{Link}
@@ -27,16 +28,19 @@ pub record AreLinked (nodes : List Node) (labels : List ℕ) (n : ℕ) (links : 
 -- the index at a node's label is the place of the node that stands for its class
 pub record AreNumbered (count : ℕ) (labels indexes stands : List ℕ) : Type 0 where
   pub size : length indexes ≡ count
-  pub stand : (i : ℕ) → i < length stands → (slice_index stands i < count) × (index_at labels indexes (slice_index stands i) ≡ i)
+  pub stand : (i : ℕ) → i < length stands → (slice_index stands i < count)
+      × (index_at labels indexes (slice_index stands i) ≡ i)
   pub index : (x : ℕ) → x < count → index_at labels indexes x ≢ no_index
-      → (index_at labels indexes x < length stands) × (slice_index labels (slice_index stands (index_at labels indexes x)) ≡ slice_index labels x)
+      → (index_at labels indexes x < length stands)
+      × (slice_index labels (slice_index stands (index_at labels indexes x)) ≡ slice_index labels x)
 
 -- x is a bridge node whose class has no index
 abbrev pub Begins : List Node → List ℕ → List ℕ → ℕ → Type 0
 Begins nodes labels indexes x = IsBridgeNode nodes x × (index_at labels indexes x ≡ no_index)
 
 -- the components whose first members are below x are listed; their first members stand for them
-pub record AreListed (nodes : List Node) (labels : List ℕ) (x : ℕ) (comps : List (List ℕ)) (indexes stands : List ℕ) : Type 0 where
+pub record AreListed (nodes : List Node) (labels : List ℕ) (x : ℕ)
+    (comps : List (List ℕ)) (indexes stands : List ℕ) : Type 0 where
   pub numbered : AreNumbered (length nodes) labels indexes stands
   pub firsts : map first_of comps ≡ stands
   pub each : (i : ℕ) → i < length stands → (members : List ℕ) × (slice_get comps i ≡ Some members)
@@ -47,7 +51,8 @@ pub record AreListed (nodes : List Node) (labels : List ℕ) (x : ℕ) (comps : 
   pub every : (y : ℕ) → y < x → IsBridgeNode nodes y → index_at labels indexes y ≢ no_index
 
 -- behind the first members stand the least nodes of the heavy classes that have one below x
-pub record AreHeavyBelow (bridge : ℕ → Type 0) (edge : ℕ → ℕ → Type 0) (count : ℕ) (labels before firsts : List ℕ) (x : ℕ)
+pub record AreHeavyBelow (bridge : ℕ → Type 0) (edge : ℕ → ℕ → Type 0)
+    (count : ℕ) (labels before firsts : List ℕ) (x : ℕ)
     (indexes heavy : List ℕ) : Type 0 where
   pub numbered : AreNumbered count labels indexes (firsts ++ heavy)
   pub still : (y : ℕ) → index_at labels indexes y ≡ no_index → index_at labels before y ≡ no_index

@@ -19,16 +19,19 @@ pub record AreDestinations (edges : List (List ℕ)) (labels indexes : List ℕ)
   pub exact : (j : ℕ) → Contains outs j ↔ ComesTo edges labels indexes x j
 
 -- the pairs are exactly those from the first n stands
-pub record AreReferencesBelow (edges : List (List ℕ)) (labels indexes stands : List ℕ) (n : ℕ) (pairs : List (ℕ × ℕ)) : Type 0 where
+pub record AreReferencesBelow (edges : List (List ℕ))
+    (labels indexes stands : List ℕ) (n : ℕ) (pairs : List (ℕ × ℕ)) : Type 0 where
   pub exact : (i j : ℕ) → Contains pairs (i, j) ↔ ((i < n) × ComesTo edges labels indexes (slice_index stands i) j)
 
 -- components, as many heavy classes behind them and pairs are all that there is to list
-pub record AreAllListed (nodes : List Node) (edges : List (List ℕ)) (labels : List ℕ) (comps : List (List ℕ)) (size : ℕ) (pairs : List (ℕ × ℕ)) : Type 0 where
+pub record AreAllListed (nodes : List Node) (edges : List (List ℕ)) (labels : List ℕ)
+    (comps : List (List ℕ)) (size : ℕ) (pairs : List (ℕ × ℕ)) : Type 0 where
   pub before : List ℕ
   pub firsts : List ℕ
   pub after : List ℕ
   pub heavy : List ℕ
   pub count : length heavy ≡ size
   pub listed : AreListed nodes labels (length nodes) comps before firsts
-  pub below : AreHeavyBelow (IsBridgeNode nodes) (NodeLeads edges) (length nodes) labels before firsts (length nodes) after heavy
+  pub below : AreHeavyBelow (IsBridgeNode nodes) (NodeLeads edges)
+      (length nodes) labels before firsts (length nodes) after heavy
   pub references : AreReferencesBelow edges labels after (firsts ++ heavy) (length (firsts ++ heavy)) pairs

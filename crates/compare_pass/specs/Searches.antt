@@ -1,13 +1,15 @@
 -- A depth first search along the edges, and what the order of finishing tells: behind all that a node reaches some node
 -- of its class stands. (Kosaraju and Sharir; textbook.)
-use Rattle.std.specs.Prelude.{◌≡◌, ◌⊎◌, ◌↔◌, ℕ, ◌+◌, ◌<◌, ◌≤◌, Bool, true, false, cond, List, [], ◌∷◌, length, map, All, Contains, Some, slice_get, slice_index, slice_index_or}
+use Rattle.std.specs.Prelude.{◌≡◌, ◌⊎◌, ◌↔◌, ℕ, ◌+◌, ◌<◌, ◌≤◌, Bool, true, false, cond, List, [], ◌∷◌, length, map, All}
+use Rattle.std.specs.Prelude.{Contains, Some, slice_get, slice_index, slice_index_or}
 use Rattle.joint_machine.specs.Walks.{Reaches, Mutual}
 use Rattle.bridge_graph.specs.Parts.{NodeLeads, row_at}
 use Rattle.compare_pass.specs.declared.finishing.Frame.{Frame}
 
 -- y stands at or before z in the list
 abbrev pub StandsBefore : List ℕ → ℕ → ℕ → Type 0
-StandsBefore finished y z = (i : ℕ) × (j : ℕ) × (slice_get finished i ≡ Some y) × (slice_get finished j ≡ Some z) × (i ≤ j)
+StandsBefore finished y z = (i : ℕ) × (j : ℕ)
+    × (slice_get finished i ≡ Some y) × (slice_get finished j ≡ Some z) × (i ≤ j)
 
 -- some node of the class of x stands behind all that x reaches
 abbrev pub IsServed : (ℕ → ℕ → Type 0) → List ℕ → ℕ → Type 0
@@ -55,7 +57,8 @@ IsOnce (x ∷ xs) = (Contains xs x → ⊥) × IsOnce xs
 
 -- exactly the finished nodes and those of the frames are seen, each of them once; and so are the targets that a frame
 -- has gone over
-pub record IsGoing (edges : List (List ℕ)) (count : ℕ) (seen : List Bool) (order : List ℕ) (frames : List Frame) : Type 0 where
+pub record IsGoing (edges : List (List ℕ)) (count : ℕ)
+    (seen : List Bool) (order : List ℕ) (frames : List Frame) : Type 0 where
   pub whole : length seen ≡ count
   pub searching : IsSearching (NodeLeads edges) order (nodes_of frames)
   pub known : (x : ℕ) → (slice_index_or seen x false ≡ true) ↔ (Contains order x ⊎ Contains (nodes_of frames) x)

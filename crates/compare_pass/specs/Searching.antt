@@ -1,5 +1,6 @@
 -- A search from one node, through its own class and through classes without an index.
-use Rattle.std.specs.Prelude.{◌≡◌, ◌⊎◌, ◌↔◌, ℕ, ◌+◌, Bool, true, false, cond, List, [], ◌∷◌, ◌++◌, length, All, Contains, slice_index, slice_index_or}
+use Rattle.std.specs.Prelude.{◌≡◌, ◌⊎◌, ◌↔◌, ℕ, ◌+◌, Bool, true, false, cond, List, [], ◌∷◌, ◌++◌, length, All}
+use Rattle.std.specs.Prelude.{Contains, slice_index, slice_index_or}
 use Rattle.joint_machine.specs.Walks.{Reaches}
 use Rattle.bridge_graph.specs.Parts.{NodeLeads}
 

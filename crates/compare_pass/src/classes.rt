@@ -104,7 +104,8 @@ fn label_row(
     requires numbers { table.old.numbers ≡ numbers_of graph.now.nodes }
     requires size { length table.old.labels ≡ length graph.now.nodes }
     ensures numbers { OnOk result (table.new.numbers ≡ numbers_of graph.now.nodes) }
-    ensures labels { OnOk result (Labels row.now label table.old.labels waiting.old.items table.new.labels waiting.new.items) }
+    ensures labels { OnOk result (Labels row.now label table.old.labels
+        waiting.old.items table.new.labels waiting.new.items) }
 {
     for y in row {
         if label_of(graph, table, *y) == NO_LABEL {

@@ -1,6 +1,7 @@
 // The first search: depth first along the edges. It lists the nodes in the order in which it finished them.
 
-ghost use Rattle.std.specs.Prelude.{◌≡◌, ℕ, ◌+◌, ◌*◌, ◌<◌, ◌≤◌, [], ◌∷◌, length, All, IfOk, OnOk, reverse, slice_index, slice_index_or, false, true};
+ghost use Rattle.std.specs.Prelude.{◌≡◌, ℕ, ◌+◌, ◌*◌, ◌<◌, ◌≤◌, [], ◌∷◌, length, All, IfOk, OnOk, reverse, slice_index};
+ghost use Rattle.std.specs.Prelude.{slice_index_or, false, true};
 ghost use Rattle.bridge_graph.specs.Parts.{IsPart, NodeLeads, row_at};
 ghost use Rattle.compare_pass.specs.Searches.{IsFinishingOrder, IsGoing, unseen};
 
@@ -63,7 +64,8 @@ fn finish_from(
     ensures frames { OnOk result (frames.new.items ≡ []) }
     ensures going { OnOk result (IsGoing graph.now.edges (length graph.now.nodes) seen.new order.new.items []) }
     ensures root { OnOk result (slice_index_or seen.new root false ≡ true) }
-    ensures kept { OnOk result ((x : ℕ) → slice_index_or seen.old x false ≡ true → slice_index_or seen.new x false ≡ true) }
+    ensures kept { OnOk result ((x : ℕ) → slice_index_or seen.old x false ≡ true
+        → slice_index_or seen.new x false ≡ true) }
 {
     seen[root as usize] = true;
     frames.push(Frame {
@@ -85,10 +87,14 @@ fn advance(
     frames: &mut Vec<Frame>,
 ) -> Result<(), AllocError>
     requires part { IsPart graph.now.nodes graph.now.edges }
-    requires going { IsGoing graph.now.edges (length graph.now.nodes) seen.old order.old.items (frame ∷ reverse frames.old.items) }
-    ensures going { OnOk result (IsGoing graph.now.edges (length graph.now.nodes) seen.new order.new.items (reverse frames.new.items)) }
-    ensures less { OnOk result (2 * unseen seen.new + length frames.new.items < 2 * unseen seen.old + length frames.old.items + 1) }
-    ensures kept { OnOk result ((x : ℕ) → slice_index_or seen.old x false ≡ true → slice_index_or seen.new x false ≡ true) }
+    requires going { IsGoing graph.now.edges
+        (length graph.now.nodes) seen.old order.old.items (frame ∷ reverse frames.old.items) }
+    ensures going { OnOk result (IsGoing graph.now.edges
+        (length graph.now.nodes) seen.new order.new.items (reverse frames.new.items)) }
+    ensures less { OnOk result (2 * unseen seen.new + length
+        frames.new.items < 2 * unseen seen.old + length frames.old.items + 1) }
+    ensures kept { OnOk result ((x : ℕ) → slice_index_or seen.old x false ≡ true
+        → slice_index_or seen.new x false ≡ true) }
 {
     let row = graph.row(frame.node);
     let next = first_unseen(row, seen, frame.next);
@@ -114,7 +120,8 @@ fn first_unseen(row: &[u32], seen: &[bool], from: u32) -> u32
     requires in_range { All (λ y. y < length seen.now) row.now }
     requires few { length row.now < 4294967296 }
     ensures later { from ≤ result }
-    ensures seen { (k : ℕ) → from ≤ k → k < result → k < length row.now → slice_index_or seen.now (slice_index row.now k) false ≡ true }
+    ensures seen { (k : ℕ) → from ≤ k → k < result → k < length row.now
+        → slice_index_or seen.now (slice_index row.now k) false ≡ true }
     ensures next { result < length row.now → slice_index_or seen.now (slice_index row.now result) false ≡ false }
 {
     let mut next = from;

@@ -1,6 +1,7 @@
 // How many components lead to each node and are led to, and the heavy classes.
 
-ghost use Rattle.std.specs.Prelude.{◌≡◌, ◌≢◌, ◌↔◌, ℕ, ◌+◌, ◌*◌, ◌<◌, ◌≤◌, [], ◌++◌, List, length, map, All, IfOk, OnOk, MatchBool, false, slice_index};
+ghost use Rattle.std.specs.Prelude.{◌≡◌, ◌≢◌, ◌↔◌, ℕ, ◌+◌, ◌*◌, ◌<◌, ◌≤◌, [], ◌++◌, List, length, map, All, IfOk, OnOk};
+ghost use Rattle.std.specs.Prelude.{MatchBool, false, slice_index};
 ghost use Rattle.joint_machine.specs.Components.{IsHeavy, Rises, first_of};
 ghost use Rattle.bridge_graph.specs.Parts.{IsBridgeNode, NodeLeads};
 ghost use Rattle.compare_pass.specs.Classes.{AreClasses};
@@ -31,7 +32,8 @@ pub(crate) fn count_from(
     requires stands { All (λ s. s < length graph.now.nodes) stands.now }
     requires rise { Rises stands.now }
     requires few { length stands.now ≤ 4294967294 }
-    ensures { IfOk result (λ v. AreCounts graph.now.edges (length graph.now.nodes) labels.now indexes.now stands.now (length stands.now) v.items) }
+    ensures { IfOk result (λ v. AreCounts graph.now.edges
+        (length graph.now.nodes) labels.now indexes.now stands.now (length stands.now) v.items) }
 {
     let n = graph.nodes() as usize;
     let mut counts = vec![in alloc; 0u32; n]?;
@@ -69,7 +71,8 @@ fn count_all(
     requires found { found.old.items ≡ [] }
     requires counts { length counts.old ≡ length graph.now.nodes }
     requires none { All (λ c. c ≡ 0) counts.old }
-    ensures { OnOk result (AreCounts graph.now.edges (length graph.now.nodes) labels.now indexes.now stands.now (length stands.now) counts.new) }
+    ensures { OnOk result (AreCounts graph.now.edges
+        (length graph.now.nodes) labels.now indexes.now stands.now (length stands.now) counts.new) }
 {
     for stand in stands {
         search(graph, labels, indexes, *stand, marks, found)?;
@@ -113,10 +116,14 @@ pub(crate) fn list_heavy(
     requires numbered { AreNumbered (length graph.now.nodes) labels.now indexes.old stands.old.items }
     requires firsts { map first_of builder.old.comps ≡ stands.old.items }
     requires exact { (x : ℕ) → x < length graph.now.nodes → index_at labels.now indexes.old x ≡ no_index
-        → AreMany (slice_index ins.now x) (slice_index outs.now x) ↔ IsHeavy (IsBridgeNode graph.now.nodes) (NodeLeads graph.now.edges) x }
-    requires plain { (x : ℕ) → IsHeavy (IsBridgeNode graph.now.nodes) (NodeLeads graph.now.edges) x → index_at labels.now indexes.old x ≡ no_index }
-    ensures heavy { OnOk result ((heavy : List ℕ) × (length heavy ≡ builder.new.heavy) × (stands.new.items ≡ stands.old.items ++ heavy)
-        × AreHeavyBelow (IsBridgeNode graph.now.nodes) (NodeLeads graph.now.edges) (length graph.now.nodes) labels.now indexes.old stands.old.items
+        → AreMany (slice_index ins.now x) (slice_index outs.now x)
+        ↔ IsHeavy (IsBridgeNode graph.now.nodes) (NodeLeads graph.now.edges) x }
+    requires plain { (x : ℕ) → IsHeavy (IsBridgeNode graph.now.nodes) (NodeLeads graph.now.edges) x
+        → index_at labels.now indexes.old x ≡ no_index }
+    ensures heavy { OnOk result ((heavy : List ℕ) × (length heavy ≡ builder.new.heavy)
+        × (stands.new.items ≡ stands.old.items ++ heavy)
+        × AreHeavyBelow (IsBridgeNode graph.now.nodes) (NodeLeads graph.now.edges)
+        (length graph.now.nodes) labels.now indexes.old stands.old.items
         (length graph.now.nodes) indexes.new heavy) }
     ensures comps { builder.new.comps ≡ builder.old.comps }
     ensures pairs { builder.new.pairs ≡ builder.old.pairs }

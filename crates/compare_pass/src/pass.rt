@@ -28,7 +28,8 @@ use xref_list::{Components, ComponentsBuilder, ListingFault};
 /// Answers `Memory` only where there is no memory, and `TooMany` only where there are more than 4,294,967,295 bridge
 /// nodes and pairs together.
 pub fn second_pass(alloc: Global, graph: &DeadGraph) -> Result<Components, ListingFault>
-    ensures { IfOk result (λ c. (heavy : List ℕ) × (length heavy ≡ c.heavy) × IsContraction (IsBridgeNode graph.now.nodes) (NodeLeads graph.now.edges) c.comps heavy c.pairs) }
+    ensures { IfOk result (λ c. (heavy : List ℕ) × (length heavy ≡ c.heavy)
+        × IsContraction (IsBridgeNode graph.now.nodes) (NodeLeads graph.now.edges) c.comps heavy c.pairs) }
 {
     let order = finishing_order(alloc, graph)?;
     let back = turned(alloc, graph)?;
@@ -45,7 +46,8 @@ fn contraction(
 ) -> Result<Components, ListingFault>
     requires back { IsTurned (length graph.now.nodes) graph.now.edges (length back.now.nodes) back.now.edges }
     requires classes { AreClasses graph.now.edges (length graph.now.nodes) labels.now }
-    ensures { IfOk result (λ c. (heavy : List ℕ) × (length heavy ≡ c.heavy) × IsContraction (IsBridgeNode graph.now.nodes) (NodeLeads graph.now.edges) c.comps heavy c.pairs) }
+    ensures { IfOk result (λ c. (heavy : List ℕ) × (length heavy ≡ c.heavy)
+        × IsContraction (IsBridgeNode graph.now.nodes) (NodeLeads graph.now.edges) c.comps heavy c.pairs) }
 {
     let groups = group_bridges(alloc, graph, labels)?;
     let mut indexes = vec![in alloc; NO_INDEX; graph.nodes() as usize]?;
@@ -85,7 +87,8 @@ fn list_all(
     requires heavy { builder.old.heavy ≡ 0 }
     requires comps { builder.old.comps ≡ [] }
     requires pairs { builder.old.pairs ≡ [] }
-    ensures { OnOk result (AreAllListed graph.now.nodes graph.now.edges labels.now builder.new.comps builder.new.heavy builder.new.pairs) }
+    ensures { OnOk result (AreAllListed graph.now.nodes graph.now.edges
+        labels.now builder.new.comps builder.new.heavy builder.new.pairs) }
 {
     list_components(graph, labels, groups, indexes, stands, builder)?;
     let ins = count_from(alloc, graph, labels, indexes, stands)?;

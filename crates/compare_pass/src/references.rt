@@ -27,7 +27,8 @@ pub(crate) fn list_references(
     requires numbered { AreNumbered (length graph.now.nodes) labels.now indexes.now stands.now }
     requires all { length stands.now ≡ length builder.old.comps + builder.old.heavy }
     requires empty { builder.old.pairs ≡ [] }
-    ensures pairs { OnOk result (AreReferencesBelow graph.now.edges labels.now indexes.now stands.now (length stands.now) builder.new.pairs) }
+    ensures pairs { OnOk result (AreReferencesBelow graph.now.edges labels.now indexes.now stands.now
+        (length stands.now) builder.new.pairs) }
     ensures comps { builder.new.comps ≡ builder.old.comps }
     ensures heavy { builder.new.heavy ≡ builder.old.heavy }
 {
@@ -60,7 +61,8 @@ fn refer_all(
     requires clear { All (λ m. m ≡ false) marks.old }
     requires found { found.old.items ≡ [] }
     requires outs { outs.old.items ≡ [] }
-    ensures pairs { OnOk result (AreReferencesBelow graph.now.edges labels.now indexes.now stands.now (length stands.now) builder.new.pairs) }
+    ensures pairs { OnOk result (AreReferencesBelow graph.now.edges labels.now indexes.now stands.now
+        (length stands.now) builder.new.pairs) }
     ensures comps { builder.new.comps ≡ builder.old.comps }
     ensures heavy { builder.new.heavy ≡ builder.old.heavy }
 {

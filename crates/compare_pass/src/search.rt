@@ -25,7 +25,8 @@ pub(crate) fn search(
     requires marks { length marks.old ≡ length graph.now.nodes }
     requires clear { All (λ m. m ≡ false) marks.old }
     requires empty { found.old.items ≡ [] }
-    ensures { OnOk result (FindsReached (Goes graph.now.edges labels.now indexes.now (slice_index labels.now start)) start marks.new found.new.items) }
+    ensures { OnOk result (FindsReached
+        (Goes graph.now.edges labels.now indexes.now (slice_index labels.now start)) start marks.new found.new.items) }
 {
     let own = labels[start as usize];
     marks[start as usize] = true;

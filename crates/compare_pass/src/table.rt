@@ -1,6 +1,7 @@
 // A label for each node, found by the node's managed number.
 
-ghost use Rattle.std.specs.Prelude.{◌≡◌, ℕ, ◌<◌, length, map, All, Contains, IfOk, OnOk, Some, slice_get, slice_index, slice_set};
+ghost use Rattle.std.specs.Prelude.{◌≡◌, ℕ, ◌<◌, length, map, All, Contains, IfOk, OnOk, Some, slice_get, slice_index};
+ghost use Rattle.std.specs.Prelude.{slice_set};
 ghost use Rattle.bridge_graph.specs.Parts.{numbers_of};
 ghost use Rattle.compare_pass.specs.Labelling.{no_label};
 ghost use Rattle.compare_pass.specs.Tables.{Table};
@@ -63,7 +64,8 @@ impl NodeTable {
     pub fn set(&mut self, m: MNum, label: u32) -> Result<(), AllocError>
         requires { Contains self.old.numbers m.0 }
         ensures numbers { OnOk result (self.new.numbers ≡ self.old.numbers) }
-        ensures labels { (i : ℕ) → slice_get self.old.numbers i ≡ Some m.0 → OnOk result (self.new.labels ≡ slice_set self.old.labels i label) }
+        ensures labels { (i : ℕ) → slice_get self.old.numbers i ≡ Some m.0
+            → OnOk result (self.new.labels ≡ slice_set self.old.labels i label) }
     {
         match self.entries.insert(m, label) {
             Ok(_) => Ok(()),

@@ -54,7 +54,8 @@ fn turn_row(row: &[u32], x: u32, builder: &mut GraphBuilder) -> Result<(), Alloc
     requires rows { length builder.old.edges ≡ length builder.old.nodes }
     ensures rows { length builder.new.edges ≡ length builder.old.edges }
     ensures nodes { builder.new.nodes ≡ builder.old.nodes }
-    ensures edges { OnOk result ((u v : ℕ) → NodeLeads builder.new.edges u v ↔ (NodeLeads builder.old.edges u v ⊎ (Contains row.now u × (v ≡ x)))) }
+    ensures edges { OnOk result ((u v : ℕ) → NodeLeads builder.new.edges u v
+        ↔ (NodeLeads builder.old.edges u v ⊎ (Contains row.now u × (v ≡ x)))) }
 {
     for y in row {
         builder.edge(*y, x)?;

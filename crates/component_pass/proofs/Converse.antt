@@ -80,11 +80,13 @@ module _ (nodes : List Node) (edges : List (List ℕ)) (labels indexes : List �
   pub count_out : (many n x : ℕ) → x < length nodes → IsOpen labels indexes x → IsCount (ComesOut edges labels indexes x) many n → IsCount (LeadsOut B E x) many n
   count_out many n x lt o c = record {
     named = map firsts c.named;
-    rise = rises_map firsts c.named (λ i j a b. fs.rise i j (out_of x i lt o (All-contains (ComesOut edges labels indexes x) c.named i c.hold a)).0 (out_of x j lt o (All-contains (ComesOut edges labels indexes x) c.named j c.hold b)).0) c.rise;
+    rise = rises_map firsts c.named (λ i j a b. fs.rise i j (out_of x i lt o (All-contains (ComesOut edges labels indexes x) c.named i c.hold a)).0
+        (out_of x j lt o (All-contains (ComesOut edges labels indexes x) c.named j c.hold b)).0) c.rise;
     hold = All-map (LeadsOut B E x) firsts c.named (λ k d h. (out_of x (get_or c.named k d) lt o (c.hold k d h)).1);
     least = omega (arith, c.least, length-map c.named firsts);
     most = λ few. omega (arith, c.most few, length-map c.named firsts);
-    whole = λ few b t. subst (λ (k : ℕ). Contains (map firsts c.named) k) (fs.first b t.0).2 (Contains-map firsts c.named (index_at labels indexes b) (c.whole few (index_at labels indexes b) (in_named x b lt o t)));
+    whole = λ few b t. subst (λ (k : ℕ). Contains (map firsts c.named) k) (fs.first b t.0).2
+        (Contains-map firsts c.named (index_at labels indexes b) (c.whole few (index_at labels indexes b) (in_named x b lt o t)));
   }
 
   -- what comes in is what components lead in
@@ -132,9 +134,11 @@ module _ (nodes : List Node) (edges : List (List ℕ)) (labels indexes : List �
   pub count_in : (many n x : ℕ) → x < length nodes → IsOpen labels indexes x → IsCount (ComesIn edges labels indexes x) many n → IsCount (LeadsIn B E x) many n
   count_in many n x lt o c = record {
     named = map firsts c.named;
-    rise = rises_map firsts c.named (λ i j a b. fs.rise i j (from_in x i lt o (All-contains (ComesIn edges labels indexes x) c.named i c.hold a)).0 (from_in x j lt o (All-contains (ComesIn edges labels indexes x) c.named j c.hold b)).0) c.rise;
+    rise = rises_map firsts c.named (λ i j a b. fs.rise i j (from_in x i lt o (All-contains (ComesIn edges labels indexes x) c.named i c.hold a)).0
+        (from_in x j lt o (All-contains (ComesIn edges labels indexes x) c.named j c.hold b)).0) c.rise;
     hold = All-map (LeadsIn B E x) firsts c.named (λ k d h. (from_in x (get_or c.named k d) lt o (c.hold k d h)).1);
     least = omega (arith, c.least, length-map c.named firsts);
     most = λ few. omega (arith, c.most few, length-map c.named firsts);
-    whole = λ few b t. subst (λ (k : ℕ). Contains (map firsts c.named) k) (fs.first b t.0).2 (Contains-map firsts c.named (index_at labels indexes b) (c.whole few (index_at labels indexes b) (to_in x b lt o t)));
+    whole = λ few b t. subst (λ (k : ℕ). Contains (map firsts c.named) k) (fs.first b t.0).2
+        (Contains-map firsts c.named (index_at labels indexes b) (c.whole few (index_at labels indexes b) (to_in x b lt o t)));
   }

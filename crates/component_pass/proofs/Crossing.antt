@@ -189,7 +189,8 @@ module _ (nodes : List Node) (edges : List (List ℕ)) (labels : List ℕ) (link
                   let jl : j < K = subst (λ (k : ℕ). k < K) l.2 (rp.numbered.below (get_or labels y 0) (labelled y l.1) l.3) in
                   let z : ℕ = stand_at comps heavy j in
                   let zt = rp.stand j jl in
-                  let same : get_or labels z 0 ≡ get_or labels y 0 = rp.numbered.apart (get_or labels z 0) (get_or labels y 0) (labelled z zt.0) (labelled y l.1) (closed z j jl zt.1) (zt.1 ∙ sym l.2) in
+                  let same : get_or labels z 0 ≡ get_or labels y 0 = rp.numbered.apart (get_or labels z 0)
+                  (get_or labels y 0) (labelled z zt.0) (labelled y l.1) (closed z j jl zt.1) (zt.1 ∙ sym l.2) in
                   let meets : Mutual E z y = (s.classes.exact z y zt.0 l.1).0 same in
                   let d' = l.5 in (
                     il,

@@ -108,7 +108,8 @@ module _ (labels before outs ins : List ℕ) (count : ℕ) where
   )
 
   -- another is listed
-  pub heavy-more : (x : ℕ) (indexes heavy : List ℕ) → get_or labels x 0 < length before → get_or indexes (get_or labels x 0) 0 ≡ 4294967295 → Many (get_or labels x 0) → count + length heavy < 4294967295
+  pub heavy-more : (x : ℕ) (indexes heavy : List ℕ) → get_or labels x 0 < length before
+      → get_or indexes (get_or labels x 0) 0 ≡ 4294967295 → Many (get_or labels x 0) → count + length heavy < 4294967295
       → So x indexes heavy → So (x + 1) (set indexes (get_or labels x 0) (count + length heavy)) (heavy ++ x ∷ [])
   heavy-more x indexes heavy lt bare many few h =
       let own : ℕ = get_or labels x 0 in
@@ -206,9 +207,11 @@ module _ (nodes : List Node) (edges : List (List ℕ)) (labels : List ℕ) (link
         let i = index_of nodes edges labels links comps indexes s b.0 b.1 in
         let k = index_of nodes edges labels links comps indexes s d.0 d.1 in
         let same : group links l ≡ group links m =
-        ap (λ (z : ℕ). group links z) (sym b.2) ∙ sym i.1 ∙ ap (λ (z : ℕ). get_or comps z []) (ap (λ (z : ℕ). get_or indexes z 0) b.2 ∙ e ∙ ap (λ (z : ℕ). get_or indexes z 0) (sym d.2)) ∙ k.1 ∙ ap (λ (z : ℕ). group links z) d.2 in
+        ap (λ (z : ℕ). group links z) (sym b.2) ∙ sym i.1 ∙ ap (λ (z : ℕ). get_or comps z []) (ap (λ (z : ℕ). get_or indexes z 0) b.2 ∙ e ∙ ap (λ (z : ℕ). get_or indexes z 0) (sym d.2))
+        ∙ k.1 ∙ ap (λ (z : ℕ). group links z) d.2 in
         let has = subst (λ (z : ℕ). Contains (group links z) b.0) b.2 (group-has nodes labels (length nodes) links b.0 s.grouped (bridge-below nodes b.0 b.1) b.1) in
-        let mem = All-contains (λ z. (z < length nodes) × (get_or labels z 0 ≡ m) × IsBridgeNode nodes z) (group links m) b.0 (group-members nodes labels (length nodes) links m s.grouped) (subst (λ (xs : List ℕ). Contains xs b.0) same has) in
+        let mem = All-contains (λ z. (z < length nodes) × (get_or labels z 0 ≡ m) × IsBridgeNode nodes z) (group links m) b.0
+        (group-members nodes labels (length nodes) links m s.grouped) (subst (λ (xs : List ℕ). Contains xs b.0) same has) in
         sym b.2 ∙ mem.1;
     onto = λ i lt. (first_at comps i, bridge-below nodes (first_at comps i) (comp_at nodes edges labels links comps indexes s i lt).0, at_label nodes edges labels links comps indexes s i lt);
   }
@@ -249,7 +252,8 @@ module _ (nodes : List Node) (edges : List (List ℕ)) (labels : List ℕ) (link
         count_out nodes edges labels indexes (length comps) (first_at comps) s.part s.classes firsts cap (get_or outs (at x) 0) x lt o record {
           named = c.named;
           rise = c.rise;
-          hold = All-members (ComesOut edges labels indexes x) c.named (λ j d. (open_leaves nodes edges labels indexes s.part s.classes x j lt o).1 (All-contains (Leaves edges (length nodes) labels indexes (at x)) c.named j c.hold d));
+          hold = All-members (ComesOut edges labels indexes x) c.named
+              (λ j d. (open_leaves nodes edges labels indexes s.part s.classes x j lt o).1 (All-contains (Leaves edges (length nodes) labels indexes (at x)) c.named j c.hold d));
           least = c.least;
           most = c.most;
           whole = λ f j t. c.whole f j ((open_leaves nodes edges labels indexes s.part s.classes x j lt o).0 t);
@@ -284,7 +288,8 @@ module _ (nodes : List Node) (edges : List (List ℕ)) (labels : List ℕ) (link
         let d = t.1 in
         Reaches-keeps E (λ v. v < length nodes) (λ u v e q. s.part.in_range u v e) d.to x d.arrives.back (end_below d.from d.to d.between d.walk)
 
-    in_heavy : (k : ℕ) → k < length heavy → (get_or heavy k 0 < length nodes) × IsOpen labels indexes (get_or heavy k 0) × AreMany (get_or ins (at (get_or heavy k 0)) 0) (get_or outs (at (get_or heavy k 0)) 0)
+    in_heavy : (k : ℕ) → k < length heavy → (get_or heavy k 0 < length nodes) × IsOpen labels indexes (get_or heavy k 0)
+        × AreMany (get_or ins (at (get_or heavy k 0)) 0) (get_or outs (at (get_or heavy k 0)) 0)
     in_heavy k kl = let e = h.each k 0 kl in (h.below k 0 kl, e.0, e.1)
 
     -- an open class that got an index was listed at its least node
@@ -298,7 +303,8 @@ module _ (nodes : List Node) (edges : List (List ℕ)) (labels : List ℕ) (link
     stand_first i lt = get_or_append_left (map first_of comps) heavy 0 i (omega (arith, lt, length-map comps first_of))
 
     stand_heavy : (k : ℕ) → stand_at comps heavy (length comps + k) ≡ get_or heavy k 0
-    stand_heavy k = get_or-append_right (map first_of comps) heavy (length comps) (length comps + k) 0 (length-map comps first_of) (omega arith) ∙ ap (λ (i : ℕ). get_or heavy i 0) (let e : length comps + k - length comps ≡ k = omega arith in e)
+    stand_heavy k = get_or-append_right (map first_of comps) heavy (length comps) (length comps + k) 0 (length-map comps first_of) (omega arith)
+        ∙ ap (λ (i : ℕ). get_or heavy i 0) (let e : length comps + k - length comps ≡ k = omega arith in e)
 
     stands : (i : ℕ) → i < K → (stand_at comps heavy i < length nodes) × (index_at labels after (stand_at comps heavy i) ≡ i)
     stands i lt = elim (cases_lt i (length comps)) [
@@ -317,7 +323,8 @@ module _ (nodes : List Node) (edges : List (List ℕ)) (labels : List ℕ) (link
     reported_of =
         let num = numbered_first in
         let index_is : (l : ℕ) → l < rows → get_or after l 0 ≢ 4294967295
-        → ((get_or indexes l 0 ≢ 4294967295) × (get_or after l 0 ≡ get_or indexes l 0)) ⊎ ((k : ℕ) × (k < length heavy) × (at (get_or heavy k 0) ≡ l) × (get_or after l 0 ≡ length comps + k)) = λ l lt ne.
+        → ((get_or indexes l 0 ≢ 4294967295) × (get_or after l 0 ≡ get_or indexes l 0))
+        ⊎ ((k : ℕ) × (k < length heavy) × (at (get_or heavy k 0) ≡ l) × (get_or after l 0 ≡ length comps + k)) = λ l lt ne.
         elim (cases_eq (get_or indexes l 0) 4294967295) [
           | inl o ↦
               let t = h.found l o ne in
@@ -412,7 +419,8 @@ module _ (nodes : List Node) (edges : List (List ℕ)) (labels : List ℕ) (rows
 
   pub heavy_room : (heavy : List ℕ) → Rises heavy → All (λ h. (h < length labels) × (get_or indexes (get_or labels h 0) 0 ≡ 4294967295)) heavy → length comps + length heavy ≤ 4294967294
   heavy_room heavy r a =
-      let n = room_for nodes edges labels (links_of nodes labels) comps indexes setting (length rows) f.order.labelled f.few f.plain heavy r (λ k d lt. (omega (arith, (a k d lt).0, f.classes.whole), (a k d lt).1)) in
+      let n = room_for nodes edges labels (links_of nodes labels) comps indexes setting (length rows) f.order.labelled f.few f.plain
+      heavy r (λ k d lt. (omega (arith, (a k d lt).0, f.classes.whole), (a k d lt).1)) in
       omega (arith, n, f.part.few)
 
   pub heavy_reported : (outs ins after heavy : List ℕ) → ((l : ℕ) → l < length rows → IsCount (Leaves edges (length nodes) labels indexes l) cap (get_or outs l 0))

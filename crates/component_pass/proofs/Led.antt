@@ -90,19 +90,23 @@ module _ (labels indexes counts : List ℕ) (many count own number : ℕ) where
   pub pushes-then : (T U : ℕ → Type 0) (ins mid after : List ℕ) (lists next more : List (List ℕ)) → number < count + length lists
       → Push T ins lists mid next → Push U mid next after more → Push (λ v. T v ⊎ U v) ins lists after more
   pushes-then T U ins mid after lists next more known p q =
-      let rise1 : (l : ℕ) → l < length ins → Rises (set_at count next (get_or mid l 0)) = λ l lt. set-rises next count (get_or mid l 0) p.valid.rising (p.valid.known l 0 (omega (arith, lt, p.size))) in
-      let rise2 : (l : ℕ) → l < length ins → Rises (set_at count more (get_or after l 0)) = λ l lt. set-rises more count (get_or after l 0) q.valid.rising (q.valid.known l 0 (omega (arith, lt, p.size, q.size))) in
+      let rise1 : (l : ℕ) → l < length ins → Rises (set_at count next (get_or mid l 0)) = λ l lt. set-rises next count
+      (get_or mid l 0) p.valid.rising (p.valid.known l 0 (omega (arith, lt, p.size))) in
+      let rise2 : (l : ℕ) → l < length ins → Rises (set_at count more (get_or after l 0)) = λ l lt. set-rises more count
+      (get_or after l 0) q.valid.rising (q.valid.known l 0 (omega (arith, lt, p.size, q.size))) in
       let same : set_at count next number ≡ set_at count lists number = set-kept count lists next number known p.kept in
       record {
         valid = q.valid;
         size = q.size ∙ p.size;
         kept = λ k lt. q.kept k (omega (arith, lt, p.longer)) ∙ p.kept k lt;
         longer = omega (arith, p.longer, q.longer);
-        grows = λ l lt. covers-trans many (set_at count lists (get_or ins l 0)) (set_at count next (get_or mid l 0)) (set_at count more (get_or after l 0)) (rise1 l lt) (rise2 l lt) (p.grows l lt) (q.grows l (omega (arith, lt, p.size)));
+        grows = λ l lt. covers-trans many (set_at count lists (get_or ins l 0)) (set_at count next (get_or mid l 0))
+            (set_at count more (get_or after l 0)) (rise1 l lt) (rise2 l lt) (p.grows l lt) (q.grows l (omega (arith, lt, p.size)));
         gives = λ v t lt ne w. elim t [
           | inl a ↦
               let l : ℕ = get_or labels v 0 in
-              covers-trans many (set_at count lists number) (set_at count next (get_or mid l 0)) (set_at count more (get_or after l 0)) (rise1 l lt) (rise2 l lt) (p.gives v a lt ne w) (q.grows l (omega (arith, lt, p.size)))
+              covers-trans many (set_at count lists number) (set_at count next (get_or mid l 0)) (set_at count more (get_or after l 0))
+              (rise1 l lt) (rise2 l lt) (p.gives v a lt ne w) (q.grows l (omega (arith, lt, p.size)))
           | inr b ↦ subst (λ (xs : List ℕ). Covers many xs (set_at count more (get_or after (get_or labels v 0) 0))) same (q.gives v b (omega (arith, lt, p.size)) ne w)
         ];
         others = λ l o. q.others l (elim o [ inl e ↦ inl e | inr f ↦ inr (λ v u. f v (inr u)) ]) ∙ p.others l (elim o [ inl e ↦ inl e | inr f ↦ inr (λ v u. f v (inl u)) ]);
@@ -199,8 +203,10 @@ module _ (nodes : List Node) (edges : List (List ℕ)) (labels indexes counts : 
       → Led (own + 1) ins lists → Led own after more
   led-push own number ins after lists more ol bare closed_is p h =
       let in_ins : (x : ℕ) → x < length nodes → at x < length ins = λ x lt. omega (arith, o.labelled x lt, h.size, size) in
-      let rise : (x : ℕ) → x < length nodes → Rises (set_at count lists (get_or ins (at x) 0)) = λ x lt. set-rises lists count (get_or ins (at x) 0) h.valid.rising (h.valid.known (at x) 0 (in_ins x lt)) in
-      let rise' : (x : ℕ) → x < length nodes → Rises (set_at count more (get_or after (at x) 0)) = λ x lt. set-rises more count (get_or after (at x) 0) p.valid.rising (p.valid.known (at x) 0 (omega (arith, in_ins x lt, p.size))) in
+      let rise : (x : ℕ) → x < length nodes → Rises (set_at count lists (get_or ins (at x) 0)) = λ x lt. set-rises lists count
+      (get_or ins (at x) 0) h.valid.rising (h.valid.known (at x) 0 (in_ins x lt)) in
+      let rise' : (x : ℕ) → x < length nodes → Rises (set_at count more (get_or after (at x) 0)) = λ x lt. set-rises more count
+      (get_or after (at x) 0) p.valid.rising (p.valid.known (at x) 0 (omega (arith, in_ins x lt, p.size))) in
       let one : get_or indexes own 0 ≢ 4294967295 → set_at count lists number ≡ get_or indexes own 0 ∷ [] = λ ne.
       ap (λ (s : ℕ). set_at count lists s) (closed_is ne) ∙ set-one count lists (get_or indexes own 0) (num.below own ol ne) in
       record {
@@ -244,7 +250,8 @@ module _ (nodes : List Node) (edges : List (List ℕ)) (labels indexes counts : 
               | inl is ↦ inl is
               | inr far ↦ inr (λ y t is. absurd (let m = (o.members own t.0).0 t.1 in omega (arith, o.backwards t.0 y t.2, m.1, is, le, far)))
             ]) in
-            let same : set_at count more (get_or after (at u) 0) ≡ set_at count lists (get_or ins (at u) 0) = ap (λ (s : ℕ). set_at count more s) kept ∙ set-kept count lists more (get_or ins (at u) 0) (h.valid.known (at u) 0 (in_ins u ul)) p.kept in
+            let same : set_at count more (get_or after (at u) 0) ≡ set_at count lists (get_or ins (at u) 0) = ap (λ (s : ℕ). set_at count more s) kept
+            ∙ set-kept count lists more (get_or ins (at u) 0) (h.valid.known (at u) 0 (in_ins u ul)) p.kept in
             subst (λ (xs : List ℕ). Covers many xs (set_at count more (get_or after (at v) 0))) (sym same) (elim (cases_eq (at u) own) [
               | inl is ↦
                   let g = p.gives v (u, (o.members own u).1 (ul, is), e) (in_ins v vl) (λ f. ne (is ∙ sym f)) w in
@@ -281,7 +288,8 @@ module _ (nodes : List Node) (edges : List (List ℕ)) (labels indexes counts : 
             let zl = part.in_range y z g.1 in (
               zl,
               λ q. elim (cases_eq (at y) (at z)) [
-                | inl is ↦ subst (λ (l : ℕ). (many ≤ length (set_at count lists (get_or ins l 0))) ⊎ Contains (set_at count lists (get_or ins l 0)) j) is (k.1 (g.0, subst (λ (l : ℕ). 3 ≤ get_or counts l 0) (sym is) q.1))
+                | inl is ↦ subst (λ (l : ℕ). (many ≤ length (set_at count lists (get_or ins l 0))) ⊎ Contains (set_at count lists (get_or ins l 0)) j) is
+                    (k.1 (g.0, subst (λ (l : ℕ). 3 ≤ get_or counts l 0) (sym is) q.1))
                 | inr ne ↦
                     let had = k.1 (g.0, wide_up y z k.0 g.1 ne q) in
                     elim (h.from_bare y z k.0 g.1 (omega arith) g.0 ne q) [

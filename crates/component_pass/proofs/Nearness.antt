@@ -95,7 +95,8 @@ pub thin_old : (row : List ℕ) (thin : List Bool) (before : List ℕ) (marks : 
 thin_old row thin before marks after marked y h v = record {
   more = v.more;
   appended = v.appended;
-  from_row = All-weaker (λ z. Contains row z × (get_or thin z false ≡ true)) (λ z. Contains (row ++ y ∷ []) z × (get_or thin z false ≡ true)) (λ z c. (Contains-append_left row (y ∷ []) z c.0, c.1)) v.more v.from_row;
+  from_row = All-weaker (λ z. Contains row z × (get_or thin z false ≡ true)) (λ z. Contains (row ++ y ∷ []) z × (get_or thin z false ≡ true))
+      (λ z c. (Contains-append_left row (y ∷ []) z c.0, c.1)) v.more v.from_row;
   whole = λ z c t. elim (Contains-push_cases row y z c) [
     | inl d ↦ v.whole z d t
     | inr e ↦ subst (λ (w : ℕ). Contains after w) e (h (subst (λ (w : ℕ). get_or thin w false ≡ true) (sym e) t))
@@ -110,7 +111,8 @@ thin_new row thin before marks after marked y t f lt v = record {
   more = v.more ++ y ∷ [];
   appended = rw v.appended (append_assoc before v.more (y ∷ []));
   from_row = All-push (λ z. Contains (row ++ y ∷ []) z × (get_or thin z false ≡ true)) v.more y
-      (All-weaker (λ z. Contains row z × (get_or thin z false ≡ true)) (λ z. Contains (row ++ y ∷ []) z × (get_or thin z false ≡ true)) (λ z c. (Contains-append_left row (y ∷ []) z c.0, c.1)) v.more v.from_row)
+      (All-weaker (λ z. Contains row z × (get_or thin z false ≡ true)) (λ z. Contains (row ++ y ∷ []) z × (get_or thin z false ≡ true))
+      (λ z c. (Contains-append_left row (y ∷ []) z c.0, c.1)) v.more v.from_row)
       (Contains-push row y, t);
   whole = λ z c u. elim (Contains-push_cases row y z c) [
     | inl d ↦ Contains-append_left after (y ∷ []) z (v.whole z d u)
@@ -165,7 +167,8 @@ nearing-more nodes edges thin members marks marks' near near' at x part lt e l v
       size = v.size ∙ s.size;
       done = omega (arith, len, lt);
       below = subst (λ (xs : List ℕ). All (λ y. y < length nodes) xs) (sym v.appended)
-          (All-append (λ y. y < length nodes) near v.more s.below (All-weaker (λ y. Contains (row_at edges x) y × (get_or thin y false ≡ true)) (λ y. y < length nodes) (λ y c. part.in_range x y c.0) v.more v.from_row));
+          (All-append (λ y. y < length nodes) near v.more s.below (All-weaker (λ y. Contains (row_at edges x) y × (get_or thin y false ≡ true))
+          (λ y. y < length nodes) (λ y c. part.in_range x y c.0) v.more v.from_row));
       listed = l;
       members_in = All-weaker (Contains near) (Contains near') grown members s.members_in;
       sound = subst (λ (xs : List ℕ). All (IsNear edges thin members) xs) (sym v.appended)

@@ -45,7 +45,8 @@ listed-next set n pairs h =
               | inl l ↦ Contains-append_left pairs more p ((h.exact i j).1 (l, t.1))
               | inr ge ↦
                   let is : i ≡ n = omega (arith, ge, t.0) in
-                  subst (λ (k : ℕ). let r : ℕ × ℕ = (k, j) in Contains (pairs ++ more) r) (sym is) (Contains-append_right pairs more (n, j) (to_pair n j (set n) (subst (λ (k : ℕ). Contains (set k) j) is t.1)))
+                  subst (λ (k : ℕ). let r : ℕ × ℕ = (k, j) in Contains (pairs ++ more) r) (sym is)
+                  (Contains-append_right pairs more (n, j) (to_pair n j (set n) (subst (λ (k : ℕ). Contains (set k) j) is t.1)))
             ]),
           );
     }

@@ -1,6 +1,7 @@
 -- The bridge nodes of a class's row, in order, are the group of its label. So going through the nodes in order,
 -- the first bridge node of a class, which finds no index at its label, stands first in its group.
-use Rattle.std.proofs.Common.{◌≡◌, ◌↔◌, ℕ, suc, zero, ◌+◌, ◌<◌, ◌≤◌, Option, None, Some, IsSome, List, [], ◌∷◌, ◌++◌, length, map, get_or, set, slice_get, refl, sym, ◌∙◌, ap, subst, arith, add-one, append-nil, length-set, inl, inr}
+use Rattle.std.proofs.Common.{◌≡◌, ◌↔◌, ℕ, suc, zero, ◌+◌, ◌<◌, ◌≤◌, Option, None, Some, IsSome, List, [], ◌∷◌, ◌++◌, length, map, get_or, set, slice_get, refl, sym, ◌∙◌, ap, subst, arith, add-one}
+use Rattle.std.proofs.Common.{append-nil, length-set, inl, inr}
 use Rattle.std.proofs.lemmas.List.{length-map, get_or-set_other, get_or_default}
 use Rattle.std.proofs.lemmas.List.Elements.{All-nil, All-map, All-contains, Contains-get_or, Contains-append_left, Contains-push, Contains-push_cases}
 use Rattle.std.proofs.lemmas.Option.{slice_get_within}
@@ -39,7 +40,11 @@ node-grouped nodes labels n links (Some node) at g = link-grouped nodes labels n
 
 below-grouped : (nodes : List Node) (labels : List ℕ) (n : ℕ) → AreGrouped nodes labels n (links_below nodes labels n)
 unfolding links_below
-below-grouped nodes labels zero = record { made = All-nil (λ (l : Link). (l.to < 0) × (l.from ≡ get_or labels l.to 0) × IsBridgeNode nodes l.to); rising = tt; every = λ x lt b. absurd (omega (arith, lt)) }
+below-grouped nodes labels zero = record {
+  made = All-nil (λ (l : Link). (l.to < 0) × (l.from ≡ get_or labels l.to 0) × IsBridgeNode nodes l.to);
+  rising = tt;
+  every = λ x lt b. absurd (omega (arith, lt));
+}
 below-grouped nodes labels (suc n) =
     subst (λ (k : ℕ). AreGrouped nodes labels k (links_below nodes labels n ++ link_of (slice_get nodes n) (get_or labels n 0) n)) (add-one n)
     (node-grouped nodes labels n (links_below nodes labels n) (slice_get nodes n) refl (below-grouped nodes labels n))
@@ -78,7 +83,8 @@ module _ (nodes : List Node) (edges : List (List ℕ)) (labels : List ℕ) (rows
         ((o.members l y).1 (m.0, m.1), m.2)),
   )
 
-  pub begins-head : (x : ℕ) (comps : List (List ℕ)) (indexes : List ℕ) → x ≤ length nodes → AreListed nodes labels links x comps indexes → IsBridgeNode nodes x → get_or indexes (get_or labels x 0) 0 ≡ 4294967295
+  pub begins-head : (x : ℕ) (comps : List (List ℕ)) (indexes : List ℕ) → x ≤ length nodes
+      → AreListed nodes labels links x comps indexes → IsBridgeNode nodes x → get_or indexes (get_or labels x 0) 0 ≡ 4294967295
       → IsHead (gr (get_or labels x 0)) x
   begins-head x comps indexes le a b unset =
       let l : ℕ = get_or labels x 0 in
@@ -103,7 +109,8 @@ module _ (nodes : List Node) (edges : List (List ℕ)) (labels : List ℕ) (rows
       )
 
   -- one that does makes a component of its group
-  pub unset-more : (x : ℕ) (comps more : List (List ℕ)) (indexes members : List ℕ) → x ≤ length nodes → get_or labels x 0 < length indexes → IsBridgeNode nodes x → get_or indexes (get_or labels x 0) 0 ≡ 4294967295
+  pub unset-more : (x : ℕ) (comps more : List (List ℕ)) (indexes members : List ℕ) → x ≤ length nodes
+      → get_or labels x 0 < length indexes → IsBridgeNode nodes x → get_or indexes (get_or labels x 0) 0 ≡ 4294967295
       → ((y : ℕ) → Contains members y ↔ (Contains (row_at rows (get_or labels x 0)) y × IsBridgeNode nodes y)) → AddsOne comps more members
       → AreUnset links x indexes → AreListed nodes labels links x comps indexes
       → AreListed nodes labels links (x + 1) more (set indexes (get_or labels x 0) (length comps)) × AreUnset links (x + 1) (set indexes (get_or labels x 0) (length comps))
@@ -137,7 +144,8 @@ module _ (nodes : List Node) (edges : List (List ℕ)) (labels : List ℕ) (rows
       )
 
 -- what stands in the rows are nodes
-pub rows-below : (nodes : List Node) (labels : List ℕ) (rows : List (List ℕ)) → ((c x : ℕ) → Contains (row_at rows c) x ↔ ((x < length nodes) × (get_or labels x 0 ≡ c))) → All (All (λ j. j < length nodes)) rows
+pub rows-below : (nodes : List Node) (labels : List ℕ) (rows : List (List ℕ))
+    → ((c x : ℕ) → Contains (row_at rows c) x ↔ ((x < length nodes) × (get_or labels x 0 ≡ c))) → All (All (λ j. j < length nodes)) rows
 rows-below nodes labels rows members = λ c d lt k e kl.
     let row = get_or rows c d in
     let same : row ≡ row_at rows c = get_or_default rows c d [] lt in

@@ -57,7 +57,8 @@ module _ (nodes : List Node) (edges : List (List ℕ)) (labels indexes : List �
       → AreCounted edges (length nodes) labels indexes many left count own sets lists → AreSets sets lists count (count + length lists) → IsFound sets lists more count numbers found
       → Puts (row_at rows own) sets after number
       → ((x j : ℕ) → x < length nodes → get_or labels x 0 ≡ own → Contains (set_at count more number) j → ComesOut edges labels indexes x j)
-      → ((x j : ℕ) → x < length nodes → get_or labels x 0 ≡ own → (length (set_at count more number) < many) ⊎ (0 < more_left) → ComesOut edges labels indexes x j → Contains (set_at count more number) j)
+      → ((x j : ℕ) → x < length nodes → get_or labels x 0 ≡ own → (length (set_at count more number) < many)
+      ⊎ (0 < more_left) → ComesOut edges labels indexes x j → Contains (set_at count more number) j)
       → AreCounted edges (length nodes) labels indexes many more_left count (own + 1) after more
   counted-more many left more_left numbers found number sets after lists more less h a f p s w =
       let old_set : (x : ℕ) → x < length nodes → get_or labels x 0 < own → set_at count more (get_or after x 0) ≡ set_at count lists (get_or sets x 0) = λ x lt old.
@@ -220,7 +221,8 @@ module _ (nodes : List Node) (edges : List (List ℕ)) (labels indexes : List �
       let refs' = set refs at found in
       let here : (x : ℕ) → get_or labels x 0 ≡ own → get_or refs' (index_at labels indexes x) 0 ≡ found = λ x is.
       ap (λ (l : ℕ). get_or refs' (get_or indexes l 0) 0) is ∙ get_or-set_same refs at found 0 (omega (arith, index, h.size)) in
-      let there : (x : ℕ) → x < length nodes → (IsOpen labels indexes x → ⊥) → get_or labels x 0 < own → get_or refs' (index_at labels indexes x) 0 ≡ get_or refs (index_at labels indexes x) 0 = λ x xl c lt.
+      let there : (x : ℕ) → x < length nodes → (IsOpen labels indexes x → ⊥) → get_or labels x 0 < own
+      → get_or refs' (index_at labels indexes x) 0 ≡ get_or refs (index_at labels indexes x) 0 = λ x xl c lt.
       get_or-set_other refs at (index_at labels indexes x) found 0 (λ e. absurd (omega (arith, apart x xl c e, lt))) in
       record {
         size = length-set refs at found ∙ h.size;

@@ -4,7 +4,8 @@
 -- part of the stack to what lies below: from each node of the part one comes down to the frame's node, and
 -- the part is a class. Where the lowest place is lower, the part is left to the frame below.
 use Rattle.std.proofs.Common.{◌≡◌, ◌≢◌, ◌⊎◌, ℕ, suc, zero, ◌+◌, ◌-◌, ◌<◌, ◌≤◌, min, eqb, List, [], ◌∷◌, ◌++◌, length, take, drop, get_or, set, refl, sym, ◌∙◌, ap, subst, arith, inl, inr}
-use Rattle.std.proofs.lemmas.List.{length_push, length-set, length-take-le, length-drop, get_or-drop, get_or-set_same, get_or-set_other, get_or-take, get_or_append_left, get_or_push, get_or_default, get_or_past}
+use Rattle.std.proofs.lemmas.List.{length_push, length-set, length-take-le, length-drop, get_or-drop, get_or-set_same, get_or-set_other, get_or-take, get_or_append_left, get_or_push, get_or_default}
+use Rattle.std.proofs.lemmas.List.{get_or_past}
 use Rattle.std.proofs.lemmas.List.Elements.{Contains-get_or}
 use Rattle.std.proofs.lemmas.Bool.{cases_lt, cases_eq, cases_order, cases_Bool, eq-eqb, ne_eqb}
 use Rattle.std.specs.List.{All, Contains}
@@ -220,7 +221,8 @@ module _ (edges : List (List ℕ)) (count : ℕ) (in_range : (x y : ℕ) → Nod
         | inl e ↦ absurd (omega (arith, b, z, ap (λ (y : ℕ). get_or marks y 0) e))
         | inr ne ↦ rw (get_or-set_other marks w v (length stack + 1) 0 ne) b
       ] in
-      let reach : (a u : ℕ) → a ≤ f.at → ((i : ℕ) → a ≤ i → i < length stack → Reaches E u (get_or stack i 0)) → (i : ℕ) → a ≤ i → i < length (stack ++ w ∷ []) → Reaches E u (get_or (stack ++ w ∷ []) i 0) =
+      let reach : (a u : ℕ) → a ≤ f.at → ((i : ℕ) → a ≤ i → i < length stack → Reaches E u (get_or stack i 0))
+      → (i : ℕ) → a ≤ i → i < length (stack ++ w ∷ []) → Reaches E u (get_or (stack ++ w ∷ []) i 0) =
       λ a u al h i p q. elim (cases_lt i (length stack)) [
         | inl old ↦ subst (λ (v : ℕ). Reaches E u v) (sym (same i old)) (h i p old)
         | inr ge ↦
@@ -334,7 +336,8 @@ module _ (edges : List (List ℕ)) (count : ℕ) (in_range : (x y : ℕ) → Nod
         | inr ne ↦
             let t = s.back i (omega (arith, a, ne)) b in
             let here = (o.placed i b).1 in
-            let far = Reaches-keeps E (λ v. f.at < get_or marks v 0) (λ u v e q. leaves stack marks labels rows f o s all low u v q e) (get_or stack i 0) (get_or stack t.0 0) t.2 (omega (arith, here, a)) in
+            let far = Reaches-keeps E (λ v. f.at < get_or marks v 0) (λ u v e q. leaves stack marks labels rows f o s all low u v q e)
+            (get_or stack i 0) (get_or stack t.0 0) t.2 (omega (arith, here, a)) in
             let there = (o.placed t.0 (omega (arith, t.1, b))).1 in
             Reaches-trans E (get_or stack i 0) (get_or stack t.0 0) f.node t.2
             (root_back stack marks labels rows f o s all low m t.0 (omega (arith, t.1, im)) (omega (arith, far, there)) (omega (arith, t.1, b)))
@@ -358,7 +361,8 @@ module _ (edges : List (List ℕ)) (count : ℕ) (in_range : (x y : ℕ) → Nod
       let new_row : (c : ℕ) → c ≡ length rows → row_at (rows ++ class ∷ []) c ≡ class = λ c e. get_or_push rows class [] c (sym e) in
       -- each node above the place is done now, and stands in the new row or stood in one before
       let cases : (x : ℕ) → f.at < get_or marks x 0 → (get_or marks' x 0 ≡ done_mark)
-      × (((get_or labels' x 0 ≡ length rows) × Mutual E x f.node × (get_or marks x 0 ≤ length stack) × Contains class x) ⊎ ((get_or labels' x 0 ≡ get_or labels x 0) × (get_or marks x 0 ≡ done_mark))) =
+      × (((get_or labels' x 0 ≡ length rows) × Mutual E x f.node × (get_or marks x 0 ≤ length stack) × Contains class x) ⊎ ((get_or labels' x 0 ≡ get_or labels x 0) × (get_or marks x 0 ≡ done_mark)))
+      =
       λ x a. elim (o.known x) [
         | inl z ↦ absurd (omega (arith, z, a))
         | inr k ↦ elim k [
@@ -488,7 +492,8 @@ module _ (edges : List (List ℕ)) (count : ℕ) (in_range : (x y : ℕ) → Nod
         ]
       ]
 
-  pub finished-classes : (stack marks labels : List ℕ) (rows : List (List ℕ)) → IsGoing edges count stack marks labels rows [] → ((x : ℕ) → x < count → get_or marks x 0 ≢ 0) → AreClasses edges count labels
+  pub finished-classes : (stack marks labels : List ℕ) (rows : List (List ℕ)) → IsGoing edges count stack marks labels rows []
+      → ((x : ℕ) → x < count → get_or marks x 0 ≢ 0) → AreClasses edges count labels
   finished-classes stack marks labels rows g seen =
       let o = g.sorted in
       let done = all-done stack marks labels rows g seen in

@@ -7,7 +7,8 @@ use Rattle.bridge_graph.specs.Parts.{NodeLeads, row_at}
 pub record AreClasses (edges : List (List ℕ)) (count : ℕ) (labels : List ℕ) : Type 0 where
   pub whole : length labels ≡ count
   pub small : All (λ l. l < count) labels
-  pub exact : (x y : ℕ) → x < count → y < count → (slice_index labels x ≡ slice_index labels y) ↔ Mutual (NodeLeads edges) x y
+  pub exact : (x y : ℕ) → x < count → y < count
+      → (slice_index labels x ≡ slice_index labels y) ↔ Mutual (NodeLeads edges) x y
 
 -- the classes are listed, the one with label c in row c, so that edges lead only to a row itself and to those before it
 pub record AreInOrder (edges : List (List ℕ)) (count : ℕ) (labels : List ℕ) (rows : List (List ℕ)) : Type 0 where

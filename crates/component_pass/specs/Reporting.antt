@@ -7,12 +7,16 @@ use Rattle.component_pass.specs.Grouping.{AreListed, links_of}
 use Rattle.component_pass.specs.Sharing.{AreNumbered, AreReferences, IsOpen, index_at, no_index}
 
 -- the heavy classes stand behind the components by their least nodes, and exactly what isn't reported has no index
-pub record AreReported (nodes : List Node) (edges : List (List ℕ)) (labels : List ℕ) (rows : ℕ) (indexes : List ℕ) (comps : List (List ℕ)) (heavy : List ℕ) : Type 0 where
+pub record AreReported (nodes : List Node) (edges : List (List ℕ)) (labels : List ℕ)
+    (rows : ℕ) (indexes : List ℕ) (comps : List (List ℕ)) (heavy : List ℕ) : Type 0 where
   pub numbered : AreNumbered (length nodes) labels rows indexes (length comps + length heavy)
-  pub stand : (i : ℕ) → i < length comps + length heavy → (stand_at comps heavy i < length nodes) × (index_at labels indexes (stand_at comps heavy i) ≡ i)
+  pub stand : (i : ℕ) → i < length comps + length heavy → (stand_at comps heavy i < length nodes)
+      × (index_at labels indexes (stand_at comps heavy i) ≡ i)
   pub rise : Rises heavy
-  pub heavies : (x : ℕ) → Contains heavy x ↔ (IsHeavy (IsBridgeNode nodes) (NodeLeads edges) x × IsLeast (NodeLeads edges) x)
-  pub bare : (x : ℕ) → x < length nodes → IsOpen labels indexes x ↔ IsUnreported (IsBridgeNode nodes) (NodeLeads edges) x
+  pub heavies : (x : ℕ) → Contains heavy x
+      ↔ (IsHeavy (IsBridgeNode nodes) (NodeLeads edges) x × IsLeast (NodeLeads edges) x)
+  pub bare : (x : ℕ) → x < length nodes → IsOpen labels indexes x
+      ↔ IsUnreported (IsBridgeNode nodes) (NodeLeads edges) x
 
 -- the counts of what leads in and of what is led to make a class heavy
 abbrev pub AreMany : ℕ → ℕ → Type 0
@@ -20,7 +24,8 @@ AreMany ins outs = (3 ≤ ins) × (3 ≤ outs) × (60 ≤ ins * outs)
 
 -- no class without an index has so many
 abbrev pub AreLight : List ℕ → List ℕ → List ℕ → Type 0
-AreLight indexes outs ins = (l : ℕ) → l < length indexes → slice_index indexes l ≡ no_index → AreMany (slice_index ins l) (slice_index outs l) → ⊥
+AreLight indexes outs ins = (l : ℕ) → l < length indexes
+    → slice_index indexes l ≡ no_index → AreMany (slice_index ins l) (slice_index outs l) → ⊥
 
 -- the classes with so many that had no index before and have a node below x are listed by their least nodes, and have
 -- the indexes from count on

@@ -1,7 +1,8 @@
 -- What Tarjan's algorithm keeps. A node is unseen (mark 0), on the stack at place p (mark p + 1), or done.
 -- The frames are the nodes that the search is in, the innermost first; between the place of one and the
 -- place of the next lie the nodes that were finished under it and whose class is not complete.
-use Rattle.std.specs.Prelude.{◌≡◌, ◌⊎◌, ◌↔◌, ℕ, ◌+◌, ◌-◌, ◌<◌, ◌≤◌, ◌==◌, cond, Option, Some, None, List, [], ◌∷◌, length, Contains, slice_index}
+use Rattle.std.specs.Prelude.{◌≡◌, ◌⊎◌, ◌↔◌, ℕ, ◌+◌, ◌-◌, ◌<◌, ◌≤◌, ◌==◌, cond, Option, Some, None, List, [], ◌∷◌}
+use Rattle.std.specs.Prelude.{length, Contains, slice_index}
 use Rattle.joint_machine.specs.Walks.{Reaches, Mutual}
 use Rattle.bridge_graph.specs.Parts.{NodeLeads, row_at}
 use Rattle.component_pass.specs.declared.tarjan.Frame.{Frame}
@@ -18,9 +19,11 @@ pub record IsSegment (edges : List (List ℕ)) (stack marks : List ℕ) (f : Fra
   pub low : f.low ≤ f.at
   pub cursor : f.next ≤ length (row_at edges f.node)
   pub lower : Reaches (NodeLeads edges) f.node (slice_index stack f.low)
-  pub back : (i : ℕ) → f.at < i → i < end → (k : ℕ) × (k < i) × Reaches (NodeLeads edges) (slice_index stack i) (slice_index stack k)
+  pub back : (i : ℕ) → f.at < i → i < end → (k : ℕ) × (k < i)
+      × Reaches (NodeLeads edges) (slice_index stack i) (slice_index stack k)
   pub finished : (i w : ℕ) → f.at < i → i < end → NodeLeads edges (slice_index stack i) w → f.low < slice_index marks w
-  pub scanned : (k : ℕ) → k < f.next → k < length (row_at edges f.node) → f.low < slice_index marks (slice_index (row_at edges f.node) k)
+  pub scanned : (k : ℕ) → k < f.next → k < length (row_at edges f.node)
+      → f.low < slice_index marks (slice_index (row_at edges f.node) k)
 
 -- the frames cut the stack into segments
 abbrev pub AreSegments : List (List ℕ) → List ℕ → List ℕ → List Frame → ℕ → Type 0
@@ -39,20 +42,28 @@ unseen (m ∷ marks) = cond (m == 0) 1 0 + unseen marks
 
 -- the marks say where the nodes of the stack are; done nodes stand in the rows of their classes, and lead only
 -- to done nodes, of their own class and of those before it
-pub record AreSorted (edges : List (List ℕ)) (count : ℕ) (stack marks labels : List ℕ) (rows : List (List ℕ)) : Type 0 where
+pub record AreSorted (edges : List (List ℕ)) (count : ℕ)
+    (stack marks labels : List ℕ) (rows : List (List ℕ)) : Type 0 where
   pub marks_whole : length marks ≡ count
   pub labels_whole : length labels ≡ count
-  pub placed : (k : ℕ) → k < length stack → (slice_index stack k < count) × (slice_index marks (slice_index stack k) ≡ k + 1)
-  pub known : (x : ℕ) → (slice_index marks x ≡ 0) ⊎ ((0 < slice_index marks x) × (slice_index marks x ≤ length stack) × (slice_index stack (slice_index marks x - 1) ≡ x)) ⊎ (slice_index marks x ≡ done_mark)
+  pub placed : (k : ℕ) → k < length stack → (slice_index stack k < count)
+      × (slice_index marks (slice_index stack k) ≡ k + 1)
+  pub known : (x : ℕ) → (slice_index marks x ≡ 0)
+      ⊎ ((0 < slice_index marks x) × (slice_index marks x ≤ length stack)
+      × (slice_index stack (slice_index marks x - 1) ≡ x)) ⊎ (slice_index marks x ≡ done_mark)
   pub room : unseen marks + length stack + length rows ≤ count
   pub closed : (x y : ℕ) → slice_index marks x ≡ done_mark → NodeLeads edges x y → slice_index marks y ≡ done_mark
   pub labelled : (x : ℕ) → slice_index marks x ≡ done_mark → slice_index labels x < length rows
-  pub same : (x y : ℕ) → slice_index marks x ≡ done_mark → slice_index marks y ≡ done_mark → (slice_index labels x ≡ slice_index labels y) ↔ Mutual (NodeLeads edges) x y
-  pub members : (c x : ℕ) → Contains (row_at rows c) x ↔ ((slice_index marks x ≡ done_mark) × (slice_index labels x ≡ c))
-  pub backwards : (x y : ℕ) → slice_index marks x ≡ done_mark → NodeLeads edges x y → slice_index labels y ≤ slice_index labels x
+  pub same : (x y : ℕ) → slice_index marks x ≡ done_mark → slice_index marks y ≡ done_mark
+      → (slice_index labels x ≡ slice_index labels y) ↔ Mutual (NodeLeads edges) x y
+  pub members : (c x : ℕ) → Contains (row_at rows c) x
+      ↔ ((slice_index marks x ≡ done_mark) × (slice_index labels x ≡ c))
+  pub backwards : (x y : ℕ) → slice_index marks x ≡ done_mark
+      → NodeLeads edges x y → slice_index labels y ≤ slice_index labels x
 
 -- all that the algorithm keeps
-pub record IsGoing (edges : List (List ℕ)) (count : ℕ) (stack marks labels : List ℕ) (rows : List (List ℕ)) (frames : List Frame) : Type 0 where
+pub record IsGoing (edges : List (List ℕ)) (count : ℕ) (stack marks labels : List ℕ)
+    (rows : List (List ℕ)) (frames : List Frame) : Type 0 where
   pub sorted : AreSorted edges count stack marks labels rows
   pub segments : AreSegments edges stack marks frames (length stack)
 

@@ -26,7 +26,8 @@ use xref_list::{Components, ComponentsBuilder, ListingFault};
 /// bridge nodes and pairs together, or sets of components to work with, or elements of these. The dead parts of the
 /// heaps are too small for that.
 pub fn contract(alloc: Global, graph: &DeadGraph) -> Result<Components, ListingFault>
-    ensures { IfOk result (λ c. (heavy : List ℕ) × (length heavy ≡ c.heavy) × IsContraction (IsBridgeNode graph.now.nodes) (NodeLeads graph.now.edges) c.comps heavy c.pairs) }
+    ensures { IfOk result (λ c. (heavy : List ℕ) × (length heavy ≡ c.heavy)
+        × IsContraction (IsBridgeNode graph.now.nodes) (NodeLeads graph.now.edges) c.comps heavy c.pairs) }
 {
     let found = classes(alloc, graph)?;
     from_rows(alloc, graph, found)
@@ -40,7 +41,8 @@ fn from_rows(
 ) -> Result<Components, ListingFault>
     requires classes { AreClasses graph.now.edges (length graph.now.nodes) found.labels.items }
     requires order { AreInOrder graph.now.edges (length graph.now.nodes) found.labels.items found.rows }
-    ensures { IfOk result (λ c. (heavy : List ℕ) × (length heavy ≡ c.heavy) × IsContraction (IsBridgeNode graph.now.nodes) (NodeLeads graph.now.edges) c.comps heavy c.pairs) }
+    ensures { IfOk result (λ c. (heavy : List ℕ) × (length heavy ≡ c.heavy)
+        × IsContraction (IsBridgeNode graph.now.nodes) (NodeLeads graph.now.edges) c.comps heavy c.pairs) }
 {
     let mut indexes = vec![in alloc; NO_COMPONENT; found.rows.len()]?;
     let mut builder = ComponentsBuilder::new(alloc);
@@ -72,9 +74,12 @@ fn list_others(
     requires indexes { length indexes.old ≡ length found.rows }
     requires heavy { builder.old.heavy ≡ 0 }
     requires empty { builder.old.pairs ≡ [] }
-    requires listed { AreListed graph.now.nodes found.labels.items (links_of graph.now.nodes found.labels.items) (length graph.now.nodes) builder.old.comps indexes.old }
-    requires plain { (l : ℕ) → l < length found.rows → length (group (links_of graph.now.nodes found.labels.items) l) ≡ 0 → slice_index indexes.old l ≡ 4294967295 }
-    ensures listed { OnOk result (AreAllListed graph.now.nodes graph.now.edges found.labels.items (length found.rows) builder.new.comps builder.new.heavy builder.new.pairs) }
+    requires listed { AreListed graph.now.nodes found.labels.items
+        (links_of graph.now.nodes found.labels.items) (length graph.now.nodes) builder.old.comps indexes.old }
+    requires plain { (l : ℕ) → l < length found.rows
+        → length (group (links_of graph.now.nodes found.labels.items) l) ≡ 0 → slice_index indexes.old l ≡ 4294967295 }
+    ensures listed { OnOk result (AreAllListed graph.now.nodes graph.now.edges found.labels.items
+        (length found.rows) builder.new.comps builder.new.heavy builder.new.pairs) }
 {
     let count = builder.len();
     let reached = count_reached(alloc, graph, &found, indexes, count)?;
@@ -109,14 +114,19 @@ fn list_heavy(
     requires indexes { length indexes.old ≡ length found.rows }
     requires heavy { builder.old.heavy ≡ 0 }
     requires empty { builder.old.pairs ≡ [] }
-    requires listed { AreListed graph.now.nodes found.labels.items (links_of graph.now.nodes found.labels.items) (length graph.now.nodes) builder.old.comps indexes.old }
-    requires plain { (l : ℕ) → l < length found.rows → length (group (links_of graph.now.nodes found.labels.items) l) ≡ 0 → slice_index indexes.old l ≡ 4294967295 }
+    requires listed { AreListed graph.now.nodes found.labels.items
+        (links_of graph.now.nodes found.labels.items) (length graph.now.nodes) builder.old.comps indexes.old }
+    requires plain { (l : ℕ) → l < length found.rows
+        → length (group (links_of graph.now.nodes found.labels.items) l) ≡ 0 → slice_index indexes.old l ≡ 4294967295 }
     requires few { length builder.old.comps ≤ 4294967294 }
     requires outs { length outs.now ≡ length found.rows }
     requires ins { length ins.now ≡ length found.rows }
-    requires led_to { CountsOut graph.now.edges (length graph.now.nodes) found.labels.items indexes.old (length found.rows) outs.now }
-    requires lead_in { CountsIn graph.now.edges (length graph.now.nodes) found.labels.items indexes.old outs.now ins.now }
-    ensures listed { OnOk result (AreAllListed graph.now.nodes graph.now.edges found.labels.items (length found.rows) builder.new.comps builder.new.heavy builder.new.pairs) }
+    requires led_to { CountsOut graph.now.edges
+        (length graph.now.nodes) found.labels.items indexes.old (length found.rows) outs.now }
+    requires lead_in { CountsIn graph.now.edges
+        (length graph.now.nodes) found.labels.items indexes.old outs.now ins.now }
+    ensures listed { OnOk result (AreAllListed graph.now.nodes graph.now.edges found.labels.items
+        (length found.rows) builder.new.comps builder.new.heavy builder.new.pairs) }
 {
     number_heavy(&found.labels, outs, ins, indexes, builder)?;
     let mut thin = vec![in alloc; false; graph.nodes() as usize]?;

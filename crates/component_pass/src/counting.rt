@@ -7,7 +7,8 @@
 // components or more takes that set for its own and looks at no other. From then on each edge has at most nineteen
 // elements read, and a set of fewer than twenty is exact.
 
-ghost use Rattle.std.specs.Prelude.{◌≡◌, ◌≢◌, ◌↔◌, ◌⊎◌, ℕ, ◌+◌, ◌<◌, ◌≤◌, [], ◌∷◌, length, min, All, Contains, IfOk, OnOk, IfSome, IfNone, true, slice_index, slice_set};
+ghost use Rattle.std.specs.Prelude.{◌≡◌, ◌≢◌, ◌↔◌, ◌⊎◌, ℕ, ◌+◌, ◌<◌, ◌≤◌, [], ◌∷◌, length, min, All, Contains, IfOk};
+ghost use Rattle.std.specs.Prelude.{OnOk, IfSome, IfNone, true, slice_index, slice_set};
 ghost use Rattle.joint_machine.specs.Components.{Rises};
 ghost use Rattle.bridge_graph.specs.Parts.{IsPart};
 ghost use Rattle.component_pass.specs.Classes.{AreClasses, AreInOrder};
@@ -52,12 +53,15 @@ pub(crate) fn count_reached(
     requires classes { AreClasses graph.now.edges (length graph.now.nodes) found.now.labels.items }
     requires order { AreInOrder graph.now.edges (length graph.now.nodes) found.now.labels.items found.now.rows }
     requires indexes { length indexes.now ≡ length found.now.rows }
-    requires numbered { AreNumbered (length graph.now.nodes) found.now.labels.items (length found.now.rows) indexes.now count }
+    requires numbered { AreNumbered (length graph.now.nodes) found.now.labels.items
+        (length found.now.rows) indexes.now count }
     requires count { count ≤ 4294967294 }
     requires part { IsPart graph.now.nodes graph.now.edges }
     ensures len { IfOk result (λ r. length r.counts.items ≡ length found.now.rows) }
-    ensures counts { IfOk result (λ r. CountsOut graph.now.edges (length graph.now.nodes) found.now.labels.items indexes.now (length found.now.rows) r.counts.items) }
-    ensures referred { IfOk result (λ r. 0 < r.left → AreReferred (length graph.now.nodes) graph.now.edges found.now.labels.items indexes.now count
+    ensures counts { IfOk result (λ r. CountsOut graph.now.edges
+        (length graph.now.nodes) found.now.labels.items indexes.now (length found.now.rows) r.counts.items) }
+    ensures referred { IfOk result (λ r. 0 < r.left
+        → AreReferred (length graph.now.nodes) graph.now.edges found.now.labels.items indexes.now count
         (length found.now.rows) (count + length r.lists) r.refs.items r.lists) }
     ensures rising { IfOk result (λ r. All Rises r.lists) }
 {
@@ -104,7 +108,8 @@ fn count_all(
     requires classes { AreClasses graph.now.edges (length graph.now.nodes) found.now.labels.items }
     requires order { AreInOrder graph.now.edges (length graph.now.nodes) found.now.labels.items found.now.rows }
     requires indexes { length indexes.now ≡ length found.now.rows }
-    requires numbered { AreNumbered (length graph.now.nodes) found.now.labels.items (length found.now.rows) indexes.now count }
+    requires numbered { AreNumbered (length graph.now.nodes) found.now.labels.items
+        (length found.now.rows) indexes.now count }
     requires count { count ≤ 4294967294 }
     requires part { IsPart graph.now.nodes graph.now.edges }
     requires whole { length sets.old ≡ length graph.now.nodes }
@@ -115,8 +120,10 @@ fn count_all(
     requires known { length work.old.known.items ≡ count + 1 }
     requires marks { length work.old.marks.items ≡ count }
     requires clear { HasNoMarks work.old }
-    ensures counts { OnOk result (CountsOut graph.now.edges (length graph.now.nodes) found.now.labels.items indexes.now (length found.now.rows) counts.new) }
-    ensures referred { OnOk result (0 < left.new → AreReferred (length graph.now.nodes) graph.now.edges found.now.labels.items indexes.now count
+    ensures counts { OnOk result (CountsOut graph.now.edges
+        (length graph.now.nodes) found.now.labels.items indexes.now (length found.now.rows) counts.new) }
+    ensures referred { OnOk result (0 < left.new
+        → AreReferred (length graph.now.nodes) graph.now.edges found.now.labels.items indexes.now count
         (length found.now.rows) (count + length lists.new) refs.new lists.new) }
     ensures rising { OnOk result (All Rises lists.new) }
 {
@@ -161,9 +168,12 @@ fn count_in(
     requires count { length work.old.marks.items ≡ count }
     requires clear { HasNoMarks work.old }
     ensures found { IfOk result (λ s. IsFound sets.now lists.old lists.new count (length work.new.known.items) s) }
-    ensures exact { IfOk result (λ s. (Aims graph.now.edges sets.now members.now s × (cap ≤ length (set_at count lists.new s)) × (lists.new ≡ lists.old) × (left.new ≡ 0))
-        ⊎ (((k : ℕ) → Aims graph.now.edges sets.now members.now k → (length (set_at count lists.old k) < cap) ⊎ (0 < left.old))
-        × ((j : ℕ) → Contains (set_at count lists.new s) j ↔ Gathers graph.now.edges sets.now lists.old count members.now j))) }
+    ensures exact { IfOk result (λ s. (Aims graph.now.edges sets.now members.now s
+        × (cap ≤ length (set_at count lists.new s)) × (lists.new ≡ lists.old) × (left.new ≡ 0))
+        ⊎ (((k : ℕ) → Aims graph.now.edges sets.now members.now k
+        → (length (set_at count lists.old k) < cap) ⊎ (0 < left.old))
+        × ((j : ℕ) → Contains (set_at count lists.new s) j
+        ↔ Gathers graph.now.edges sets.now lists.old count members.now j))) }
     ensures marks { OnOk result (length work.new.marks.items ≡ count) }
     ensures clear { OnOk result (HasNoMarks work.new) }
     ensures left { left.new ≤ left.old }
@@ -190,8 +200,10 @@ fn full_among(
     requires members { All (λ x. x < length graph.now.nodes) members.now }
     requires whole { length sets.now ≡ length graph.now.nodes }
     requires sets { All (λ s. s < count + length lists.now) sets.now }
-    ensures some { IfSome result (λ s. Aims graph.now.edges sets.now members.now s × (cap ≤ length (set_at count lists.now s))) }
-    ensures none { IfNone result ((s : ℕ) → Aims graph.now.edges sets.now members.now s → length (set_at count lists.now s) < cap) }
+    ensures some { IfSome result (λ s. Aims graph.now.edges sets.now members.now s
+        × (cap ≤ length (set_at count lists.now s))) }
+    ensures none { IfNone result ((s : ℕ) → Aims graph.now.edges sets.now members.now s
+        → length (set_at count lists.now s) < cap) }
 {
     for x in members {
         if let Some(number) = full_in(graph.row(*x), sets, count, lists) {

@@ -9,7 +9,8 @@
 // leads into a thin class are two components at most, so these go through it themselves; and no heavy class, since the
 // three or more that lead into that one would lead on.
 
-ghost use Rattle.std.specs.Prelude.{◌≡◌, ◌↔◌, ◌≤◌, ◌<◌, ◌+◌, ◌*◌, ℕ, List, length, IfOk, OnOk, IfSome, IfNone, IsTrue, MatchBool, All, slice_index, false};
+ghost use Rattle.std.specs.Prelude.{◌≡◌, ◌↔◌, ◌≤◌, ◌<◌, ◌+◌, ◌*◌, ℕ, List, length, IfOk, OnOk, IfSome, IfNone, IsTrue};
+ghost use Rattle.std.specs.Prelude.{MatchBool, All, slice_index, false};
 ghost use Rattle.joint_machine.specs.Components.{IsHeavy, LeadsIn, Rises};
 ghost use Rattle.bridge_graph.specs.Parts.{IsBridgeNode, IsPart, NodeLeads};
 ghost use Rattle.component_pass.specs.Classes.{AreClasses, AreInOrder};
@@ -41,13 +42,16 @@ pub(crate) fn count_heavy(
     requires classes { AreClasses graph.now.edges (length graph.now.nodes) found.now.labels.items }
     requires order { AreInOrder graph.now.edges (length graph.now.nodes) found.now.labels.items found.now.rows }
     requires indexes { length indexes.now ≡ length found.now.rows }
-    requires numbered { AreNumbered (length graph.now.nodes) found.now.labels.items (length found.now.rows) indexes.now count }
+    requires numbered { AreNumbered (length graph.now.nodes) found.now.labels.items
+        (length found.now.rows) indexes.now count }
     requires count { count ≤ 4294967294 }
     requires part { IsPart graph.now.nodes graph.now.edges }
     requires len { length counts.now ≡ length found.now.rows }
-    requires counts { CountsOut graph.now.edges (length graph.now.nodes) found.now.labels.items indexes.now (length found.now.rows) counts.now }
+    requires counts { CountsOut graph.now.edges
+        (length graph.now.nodes) found.now.labels.items indexes.now (length found.now.rows) counts.now }
     ensures len { IfOk result (λ r. IfSome r (λ v. length v.items ≡ length found.now.rows)) }
-    ensures counts { IfOk result (λ r. IfSome r (λ v. CountsIn graph.now.edges (length graph.now.nodes) found.now.labels.items indexes.now counts.now v.items)) }
+    ensures counts { IfOk result (λ r. IfSome r
+        (λ v. CountsIn graph.now.edges (length graph.now.nodes) found.now.labels.items indexes.now counts.now v.items)) }
     ensures none { IfOk result (λ r. IfNone r ((ins : List ℕ) × AreLight indexes.now counts.now ins
         × CountsIn graph.now.edges (length graph.now.nodes) found.now.labels.items indexes.now counts.now ins)) }
     ensures asked { IfOk result (λ r. IfNone r (in_any_case ≡ false)) }
@@ -65,7 +69,8 @@ pub(crate) fn count_heavy(
 // Whether some class without an index leads to at least three components.
 fn has_wide(indexes: &[u32], counts: &[u8]) -> bool
     requires { length counts.now ≡ length indexes.now }
-    ensures { result ≡ false → (l : ℕ) → l < length indexes.now → slice_index indexes.now l ≡ 4294967295 → slice_index counts.now l < 3 }
+    ensures { result ≡ false → (l : ℕ) → l < length indexes.now
+        → slice_index indexes.now l ≡ 4294967295 → slice_index counts.now l < 3 }
 {
     for l in 0..indexes.len() {
         if counts[l] >= LEAST && indexes[l] == NO_COMPONENT {
@@ -102,10 +107,12 @@ pub(crate) fn number_heavy(
     requires outs { length outs.now ≡ length indexes.old }
     requires ins { length ins.now ≡ length indexes.old }
     requires none { builder.old.heavy ≡ 0 }
-    requires room { (heavy : List ℕ) → Rises heavy → All (λ h. (h < length labels.now) × (slice_index indexes.old (slice_index labels.now h) ≡ 4294967295)) heavy
+    requires room { (heavy : List ℕ) → Rises heavy
+        → All (λ h. (h < length labels.now) × (slice_index indexes.old (slice_index labels.now h) ≡ 4294967295)) heavy
         → length builder.old.comps + length heavy ≤ 4294967294 }
     ensures heavy { OnOk result ((heavy : List ℕ) × (length heavy ≡ builder.new.heavy)
-        × AreHeavyBelow labels.now indexes.old outs.now ins.now (length builder.old.comps) (length labels.now) indexes.new heavy) }
+        × AreHeavyBelow labels.now indexes.old outs.now ins.now
+        (length builder.old.comps) (length labels.now) indexes.new heavy) }
     ensures comps { builder.new.comps ≡ builder.old.comps }
     ensures pairs { builder.new.pairs ≡ builder.old.pairs }
 {

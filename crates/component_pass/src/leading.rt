@@ -6,7 +6,8 @@
 // without an index the set of what came to it. A set of twenty or more takes nothing more, so at most 38 elements are
 // read for an edge.
 
-ghost use Rattle.std.specs.Prelude.{◌≡◌, ◌≢◌, ◌↔◌, ◌⊎◌, ℕ, ◌+◌, ◌<◌, ◌≤◌, [], ◌∷◌, length, min, All, Contains, IfOk, OnOk, MatchBool, false, slice_index, slice_set};
+ghost use Rattle.std.specs.Prelude.{◌≡◌, ◌≢◌, ◌↔◌, ◌⊎◌, ℕ, ◌+◌, ◌<◌, ◌≤◌, [], ◌∷◌, length, min, All, Contains, IfOk};
+ghost use Rattle.std.specs.Prelude.{OnOk, MatchBool, false, slice_index, slice_set};
 ghost use Rattle.bridge_graph.specs.Parts.{IsPart, row_at};
 ghost use Rattle.component_pass.specs.Classes.{AreClasses, AreInOrder};
 ghost use Rattle.component_pass.specs.Counting.{AreLed, CountsIn, CountsOut, Joins, Pushes, cap};
@@ -46,13 +47,16 @@ pub(crate) fn count_leading(
     requires classes { AreClasses graph.now.edges (length graph.now.nodes) found.now.labels.items }
     requires order { AreInOrder graph.now.edges (length graph.now.nodes) found.now.labels.items found.now.rows }
     requires indexes { length indexes.now ≡ length found.now.rows }
-    requires numbered { AreNumbered (length graph.now.nodes) found.now.labels.items (length found.now.rows) indexes.now count }
+    requires numbered { AreNumbered (length graph.now.nodes) found.now.labels.items
+        (length found.now.rows) indexes.now count }
     requires count { count ≤ 4294967294 }
     requires part { IsPart graph.now.nodes graph.now.edges }
     requires len { length counts.now ≡ length found.now.rows }
-    requires counts { CountsOut graph.now.edges (length graph.now.nodes) found.now.labels.items indexes.now (length found.now.rows) counts.now }
+    requires counts { CountsOut graph.now.edges
+        (length graph.now.nodes) found.now.labels.items indexes.now (length found.now.rows) counts.now }
     ensures len { IfOk result (λ v. length v.items ≡ length found.now.rows) }
-    ensures counts { IfOk result (λ v. CountsIn graph.now.edges (length graph.now.nodes) found.now.labels.items indexes.now counts.now v.items) }
+    ensures counts { IfOk result (λ v. CountsIn graph.now.edges
+        (length graph.now.nodes) found.now.labels.items indexes.now counts.now v.items) }
 {
     let mut lists = Lists::new(alloc);
     lists.push(&[])?;
@@ -97,17 +101,20 @@ fn lead_all(
     requires classes { AreClasses graph.now.edges (length graph.now.nodes) found.now.labels.items }
     requires order { AreInOrder graph.now.edges (length graph.now.nodes) found.now.labels.items found.now.rows }
     requires indexes { length indexes.now ≡ length found.now.rows }
-    requires numbered { AreNumbered (length graph.now.nodes) found.now.labels.items (length found.now.rows) indexes.now count }
+    requires numbered { AreNumbered (length graph.now.nodes) found.now.labels.items
+        (length found.now.rows) indexes.now count }
     requires count { count ≤ 4294967294 }
     requires part { IsPart graph.now.nodes graph.now.edges }
     requires len { length counts.now ≡ length found.now.rows }
-    requires counts { CountsOut graph.now.edges (length graph.now.nodes) found.now.labels.items indexes.now (length found.now.rows) counts.now }
+    requires counts { CountsOut graph.now.edges
+        (length graph.now.nodes) found.now.labels.items indexes.now (length found.now.rows) counts.now }
     requires ins { length ins.old ≡ length found.now.rows }
     requires empty { All (λ s. s ≡ count) ins.old }
     requires lists { lists.old ≡ [] ∷ [] }
     requires marks { length work.old.marks.items ≡ count }
     requires clear { All (λ m. m ≡ false) work.old.marks.items }
-    ensures { OnOk result (AreLed graph.now.edges (length graph.now.nodes) found.now.labels.items indexes.now counts.now cap count 0 ins.new lists.new) }
+    ensures { OnOk result (AreLed graph.now.edges
+        (length graph.now.nodes) found.now.labels.items indexes.now counts.now cap count 0 ins.new lists.new) }
 {
     let mut c = found.rows.len();
     while c > 0 {
@@ -156,7 +163,8 @@ fn lead_class(
     requires marks { length work.old.marks.items ≡ count }
     requires clear { All (λ m. m ≡ false) work.old.marks.items }
     ensures pushes { OnOk result (Pushes found.now.labels.items indexes.now counts.now cap count own number
-        (λ v. (u : ℕ) × Contains (row_at found.now.rows own) u × Contains (row_at graph.now.edges u) v) ins.old lists.old ins.new lists.new) }
+        (λ v. (u : ℕ) × Contains (row_at found.now.rows own) u × Contains (row_at graph.now.edges u) v)
+        ins.old lists.old ins.new lists.new) }
     ensures marks { OnOk result (length work.new.marks.items ≡ count) }
     ensures clear { OnOk result (All (λ m. m ≡ false) work.new.marks.items) }
 {
@@ -200,7 +208,8 @@ fn lead_row(
     requires count { count ≤ 4294967294 }
     requires marks { length work.old.marks.items ≡ count }
     requires clear { All (λ m. m ≡ false) work.old.marks.items }
-    ensures pushes { OnOk result (Pushes labels.now indexes.now counts.now cap count own number (Contains row.now) ins.old lists.old ins.new lists.new) }
+    ensures pushes { OnOk result (Pushes labels.now indexes.now counts.now cap count own number
+        (Contains row.now) ins.old lists.old ins.new lists.new) }
     ensures marks { OnOk result (length work.new.marks.items ≡ count) }
     ensures clear { OnOk result (All (λ m. m ≡ false) work.new.marks.items) }
 {
@@ -215,7 +224,8 @@ fn lead_row(
 
 // Whether a class takes what another hands on: it is not that one, has no index and leads to three components or more.
 fn takes(index: u32, leads_to: u8, at: usize, own: usize) -> bool
-    ensures { MatchBool result ((at ≢ own) × (index ≡ 4294967295) × (3 ≤ leads_to)) (¬ ((at ≢ own) × (index ≡ 4294967295) × (3 ≤ leads_to))) }
+    ensures { MatchBool result ((at ≢ own) × (index ≡ 4294967295) × (3 ≤ leads_to))
+        (¬ ((at ≢ own) × (index ≡ 4294967295) × (3 ≤ leads_to))) }
 {
     at != own && leads_to >= LEAST && index == NO_COMPONENT
 }
@@ -236,7 +246,8 @@ fn join(
     requires marks { length work.old.marks.items ≡ count }
     requires clear { All (λ m. m ≡ false) work.old.marks.items }
     ensures found { IfOk result (λ s. IsFound ins.now lists.old lists.new count (count + length lists.new) s) }
-    ensures joins { IfOk result (λ s. Joins cap (set_at count lists.old (slice_index ins.now at)) (set_at count lists.old number) (set_at count lists.new s)) }
+    ensures joins { IfOk result (λ s. Joins cap (set_at count lists.old (slice_index ins.now at))
+        (set_at count lists.old number) (set_at count lists.new s)) }
     ensures marks { OnOk result (length work.new.marks.items ≡ count) }
     ensures clear { OnOk result (All (λ m. m ≡ false) work.new.marks.items) }
 {

@@ -1,7 +1,8 @@
 // The components, from the rows of the classes. Going through the nodes in order, the first bridge node of a class
 // makes a component of all its bridge nodes.
 
-ghost use Rattle.std.specs.Prelude.{◌≡◌, ◌↔◌, ℕ, ◌<◌, ◌≤◌, [], length, All, Contains, IfOk, OnOk, MatchBool, false, slice_index};
+ghost use Rattle.std.specs.Prelude.{◌≡◌, ◌↔◌, ℕ, ◌<◌, ◌≤◌, [], length, All, Contains, IfOk, OnOk, MatchBool, false};
+ghost use Rattle.std.specs.Prelude.{slice_index};
 ghost use Rattle.bridge_graph.specs.Parts.{IsBridgeNode};
 ghost use Rattle.component_pass.specs.Classes.{AreClasses, AreInOrder};
 ghost use Rattle.component_pass.specs.Grouping.{AreListed, AddsOne, group, links_of};
@@ -32,8 +33,10 @@ pub(crate) fn list_rows(
     requires unset { All (λ i. i ≡ 4294967295) indexes.old }
     requires empty { builder.old.comps ≡ [] }
     requires heavy { builder.old.heavy ≡ 0 }
-    ensures listed { OnOk result (AreListed graph.now.nodes labels.now (links_of graph.now.nodes labels.now) (length graph.now.nodes) builder.new.comps indexes.new) }
-    ensures plain { OnOk result ((l : ℕ) → l < length rows.now → length (group (links_of graph.now.nodes labels.now) l) ≡ 0 → slice_index indexes.new l ≡ 4294967295) }
+    ensures listed { OnOk result (AreListed graph.now.nodes labels.now
+        (links_of graph.now.nodes labels.now) (length graph.now.nodes) builder.new.comps indexes.new) }
+    ensures plain { OnOk result ((l : ℕ) → l < length rows.now
+        → length (group (links_of graph.now.nodes labels.now) l) ≡ 0 → slice_index indexes.new l ≡ 4294967295) }
     ensures heavy { builder.new.heavy ≡ 0 }
     ensures pairs { builder.new.pairs ≡ builder.old.pairs }
 {
@@ -71,8 +74,10 @@ fn list_all(
     requires clear { All (λ m. m ≡ false) marks.old }
     requires empty { builder.old.comps ≡ [] }
     requires heavy { builder.old.heavy ≡ 0 }
-    ensures listed { OnOk result (AreListed graph.now.nodes labels.now (links_of graph.now.nodes labels.now) (length graph.now.nodes) builder.new.comps indexes.new) }
-    ensures plain { OnOk result ((l : ℕ) → l < length rows.now → length (group (links_of graph.now.nodes labels.now) l) ≡ 0 → slice_index indexes.new l ≡ 4294967295) }
+    ensures listed { OnOk result (AreListed graph.now.nodes labels.now
+        (links_of graph.now.nodes labels.now) (length graph.now.nodes) builder.new.comps indexes.new) }
+    ensures plain { OnOk result ((l : ℕ) → l < length rows.now
+        → length (group (links_of graph.now.nodes labels.now) l) ≡ 0 → slice_index indexes.new l ≡ 4294967295) }
     ensures heavy { builder.new.heavy ≡ 0 }
     ensures pairs { builder.new.pairs ≡ builder.old.pairs }
 {
@@ -99,7 +104,9 @@ fn begins(graph: &DeadGraph, labels: &[u32], indexes: &[u32], x: u32) -> bool
     requires node { x < length graph.now.nodes }
     requires labels { length labels.now ≡ length graph.now.nodes }
     requires label { slice_index labels.now x < length indexes.now }
-    ensures { MatchBool result (IsBridgeNode graph.now.nodes x × (slice_index indexes.now (slice_index labels.now x) ≡ 4294967295)) (¬ (IsBridgeNode graph.now.nodes x × (slice_index indexes.now (slice_index labels.now x) ≡ 4294967295))) }
+    ensures { MatchBool result (IsBridgeNode graph.now.nodes x
+        × (slice_index indexes.now (slice_index labels.now x) ≡ 4294967295))
+        (¬ (IsBridgeNode graph.now.nodes x × (slice_index indexes.now (slice_index labels.now x) ≡ 4294967295))) }
 {
     graph.is_bridge(x) && indexes[labels[x as usize] as usize] == NO_COMPONENT
 }
@@ -112,7 +119,8 @@ fn collect_bridges(
     members: &mut Vec<u32>,
 ) -> Result<(), AllocError>
     requires { All (λ x. x < length graph.now.nodes) class.now }
-    ensures { OnOk result ((y : ℕ) → Contains members.new.items y ↔ (Contains class.now y × IsBridgeNode graph.now.nodes y)) }
+    ensures { OnOk result ((y : ℕ) → Contains members.new.items y
+        ↔ (Contains class.now y × IsBridgeNode graph.now.nodes y)) }
 {
     members.clear();
     for y in class {

@@ -11,12 +11,14 @@
 // of nodes, edges and pairs, and of one more thing: where a class leads to several sets of many heavy ones, the
 // elements of each are read once for that class.
 
-ghost use Rattle.std.specs.Prelude.{◌≡◌, ◌≢◌, ◌↔◌, ◌⊎◌, ℕ, ◌+◌, ◌<◌, ◌≤◌, [], ◌∷◌, ◌++◌, length, All, Contains, IfOk, OnOk, IfSome, MatchBool, false, true, slice_index, slice_index_or, slice_set};
+ghost use Rattle.std.specs.Prelude.{◌≡◌, ◌≢◌, ◌↔◌, ◌⊎◌, ℕ, ◌+◌, ◌<◌, ◌≤◌, [], ◌∷◌, ◌++◌, length, All, Contains, IfOk};
+ghost use Rattle.std.specs.Prelude.{OnOk, IfSome, MatchBool, false, true, slice_index, slice_index_or, slice_set};
 ghost use Rattle.joint_machine.specs.Components.{Rises};
 ghost use Rattle.bridge_graph.specs.Parts.{IsPart, row_at};
 ghost use Rattle.component_pass.specs.Classes.{AreClasses, AreInOrder};
 ghost use Rattle.component_pass.specs.Gathering.{AreSets, Gathers, HasNoMarks, set_at};
-ghost use Rattle.component_pass.specs.Sharing.{AreListedBelow, AreNumbered, AreReferences, AreReferred, AreThin, GathersNear, IsFound, IsNear, VisitsThin};
+ghost use Rattle.component_pass.specs.Sharing.{AreListedBelow, AreNumbered, AreReferences, AreReferred, AreThin};
+ghost use Rattle.component_pass.specs.Sharing.{GathersNear, IsFound, IsNear, VisitsThin};
 
 use crate::gathering::{MOST_SETS, Work, gather, new_work, set_of};
 use crate::listing::NO_COMPONENT;
@@ -40,10 +42,12 @@ pub(crate) fn share_references(
     requires order { AreInOrder graph.now.edges (length graph.now.nodes) labels.old rows.now }
     requires indexes { length indexes.now ≡ length rows.now }
     requires thin { AreThin (length graph.now.nodes) labels.old indexes.now thin.now }
-    requires numbered { AreNumbered (length graph.now.nodes) labels.old (length rows.now) indexes.now (length builder.old.comps + builder.old.heavy) }
+    requires numbered { AreNumbered (length graph.now.nodes) labels.old
+        (length rows.now) indexes.now (length builder.old.comps + builder.old.heavy) }
     requires part { IsPart graph.now.nodes graph.now.edges }
     requires empty { builder.old.pairs ≡ [] }
-    ensures pairs { OnOk result (AreReferences graph.now.edges (length graph.now.nodes) labels.old indexes.now (length builder.old.comps + builder.old.heavy) builder.new.pairs) }
+    ensures pairs { OnOk result (AreReferences graph.now.edges (length graph.now.nodes) labels.old indexes.now
+        (length builder.old.comps + builder.old.heavy) builder.new.pairs) }
     ensures comps { builder.new.comps ≡ builder.old.comps }
     ensures heavy { builder.new.heavy ≡ builder.old.heavy }
 {
@@ -92,7 +96,8 @@ fn share_all(
     requires clear { HasNoMarks work.old }
     requires marks { length marks.old ≡ length graph.now.nodes }
     requires unmarked { All (λ m. m ≡ false) marks.old }
-    ensures pairs { OnOk result (AreReferences graph.now.edges (length graph.now.nodes) labels.old indexes.now count builder.new.pairs) }
+    ensures pairs { OnOk result (AreReferences graph.now.edges
+        (length graph.now.nodes) labels.old indexes.now count builder.new.pairs) }
     ensures comps { builder.new.comps ≡ builder.old.comps }
     ensures heavy { builder.new.heavy ≡ builder.old.heavy }
 {
@@ -116,7 +121,8 @@ pub(crate) fn list_sets(
     requires below { (i : ℕ) → i < count → All (λ d. d < count) (set_at count lists.now (slice_index refs.now i)) }
     requires apart { (i : ℕ) → i < count → All (λ d. i ≢ d) (set_at count lists.now (slice_index refs.now i)) }
     requires empty { builder.old.pairs ≡ [] }
-    ensures pairs { OnOk result (AreListedBelow (λ i. set_at count lists.now (slice_index refs.now i)) count builder.new.pairs) }
+    ensures pairs { OnOk result (AreListedBelow
+        (λ i. set_at count lists.now (slice_index refs.now i)) count builder.new.pairs) }
     ensures comps { builder.new.comps ≡ builder.old.comps }
     ensures heavy { builder.new.heavy ≡ builder.old.heavy }
 {
@@ -155,7 +161,8 @@ fn number_all(
     requires clear { HasNoMarks work.old }
     requires marks { length marks.old ≡ length graph.now.nodes }
     requires unmarked { All (λ m. m ≡ false) marks.old }
-    ensures referred { OnOk result (AreReferred (length graph.now.nodes) graph.now.edges sets.old indexes.now count (length rows.now) (count + length lists.new) refs.new lists.new) }
+    ensures referred { OnOk result (AreReferred (length graph.now.nodes) graph.now.edges sets.old indexes.now count
+        (length rows.now) (count + length lists.new) refs.new lists.new) }
     ensures rising { OnOk result (All Rises lists.new) }
 {
     sets.fill(count);
@@ -177,7 +184,9 @@ fn number_all(
 // Whether a class has a first node and that is thin. All nodes of a class are thin, or none.
 fn is_thin(class: &[u32], thin: &[bool]) -> bool
     requires { All (λ x. x < length thin.now) class.now }
-    ensures { MatchBool result ((0 < length class.now) × (slice_index_or thin.now (slice_index class.now 0) false ≡ true)) (¬ ((0 < length class.now) × (slice_index_or thin.now (slice_index class.now 0) false ≡ true))) }
+    ensures { MatchBool result ((0 < length class.now)
+        × (slice_index_or thin.now (slice_index class.now 0) false ≡ true))
+        (¬ ((0 < length class.now) × (slice_index_or thin.now (slice_index class.now 0) false ≡ true))) }
 {
     class.len() > 0 && thin[class[0] as usize]
 }
@@ -204,7 +213,8 @@ fn share_through(
     requires marks { length marks.old ≡ length graph.now.nodes }
     requires unmarked { All (λ m. m ≡ false) marks.old }
     ensures found { IfOk result (λ s. IsFound sets.now lists.old lists.new count (length work.new.known.items) s) }
-    ensures exact { IfOk result (λ s. (j : ℕ) → Contains (set_at count lists.new s) j ↔ GathersNear graph.now.edges thin.now sets.now lists.old count members.now j) }
+    ensures exact { IfOk result (λ s. (j : ℕ) → Contains (set_at count lists.new s) j
+        ↔ GathersNear graph.now.edges thin.now sets.now lists.old count members.now j) }
     ensures marks { OnOk result (length work.new.marks.items ≡ count) }
     ensures clear { OnOk result (HasNoMarks work.new) }
     ensures unmarked { OnOk result (All (λ m. m ≡ false) marks.new) }
@@ -224,7 +234,8 @@ fn share_through(
 fn lead_to_thin(graph: &DeadGraph, members: &[u32], thin: &[bool]) -> bool
     requires members { All (λ x. x < length graph.now.nodes) members.now }
     requires thin { length thin.now ≡ length graph.now.nodes }
-    ensures { result ≡ false → All (λ x. All (λ y. slice_index_or thin.now y false ≡ false) (row_at graph.now.edges x)) members.now }
+    ensures { result ≡ false → All (λ x. All (λ y. slice_index_or thin.now y false ≡ false) (row_at graph.now.edges x))
+        members.now }
 {
     for x in members {
         if has_thin(graph.row(*x), thin) {
@@ -334,7 +345,8 @@ pub(crate) fn share(
     requires count { length work.old.marks.items ≡ count }
     requires clear { HasNoMarks work.old }
     ensures found { IfOk result (λ s. IsFound sets.now lists.old lists.new count (length work.new.known.items) s) }
-    ensures exact { IfOk result (λ s. (j : ℕ) → Contains (set_at count lists.new s) j ↔ Gathers graph.now.edges sets.now lists.old count members.now j) }
+    ensures exact { IfOk result (λ s. (j : ℕ) → Contains (set_at count lists.new s) j
+        ↔ Gathers graph.now.edges sets.now lists.old count members.now j) }
     ensures marks { OnOk result (length work.new.marks.items ≡ count) }
     ensures clear { OnOk result (HasNoMarks work.new) }
 {

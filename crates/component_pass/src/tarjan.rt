@@ -1,6 +1,7 @@
 // Tarjan's algorithm for strongly connected classes, with the search's frames in a list on the heap.
 
-ghost use Rattle.std.specs.Prelude.{◌≡◌, ◌≢◌, ◌⊎◌, ℕ, ◌+◌, ◌*◌, ◌<◌, ◌≤◌, List, [], ◌∷◌, ◌++◌, length, min, take, drop, All, Contains, IfOk, OnOk, IfNone, reverse, slice_index, slice_set};
+ghost use Rattle.std.specs.Prelude.{◌≡◌, ◌≢◌, ◌⊎◌, ℕ, ◌+◌, ◌*◌, ◌<◌, ◌≤◌, List, [], ◌∷◌, ◌++◌, length, min, take, drop};
+ghost use Rattle.std.specs.Prelude.{All, Contains, IfOk, OnOk, IfNone, reverse, slice_index, slice_set};
 ghost use Rattle.bridge_graph.specs.Parts.{IsPart, NodeLeads, row_at};
 ghost use Rattle.component_pass.specs.Classes.{AreClasses, AreInOrder};
 ghost use Rattle.component_pass.specs.Tarjan.{IsGoing, ScansRow, unseen, with_current, done_mark};
@@ -103,7 +104,8 @@ fn walk(
     requires fresh { slice_index marks.old root ≡ 0 }
     requires going { IsGoing graph.now.edges (length graph.now.nodes) stack.old.items marks.old labels.old rows.old [] }
     requires frames { frames.old.items ≡ [] }
-    ensures going { OnOk result (IsGoing graph.now.edges (length graph.now.nodes) stack.new.items marks.new labels.new rows.new []) }
+    ensures going { OnOk result (IsGoing graph.now.edges
+        (length graph.now.nodes) stack.new.items marks.new labels.new rows.new []) }
     ensures frames { OnOk result (frames.new.items ≡ []) }
     ensures root { OnOk result (slice_index marks.new root ≢ 0) }
     ensures kept { OnOk result ((x : ℕ) → slice_index marks.old x ≢ 0 → slice_index marks.new x ≢ 0) }
@@ -121,7 +123,8 @@ fn enter(node: u32, marks: &mut [u32], stack: &mut Vec<u32>) -> Result<Frame, Al
     requires few { length stack.old.items < 4294967295 }
     ensures marks { OnOk result (marks.new ≡ slice_set marks.old node (length stack.old.items + 1)) }
     ensures stack { OnOk result (stack.new.items ≡ stack.old.items ++ node ∷ []) }
-    ensures frame { IfOk result (λ f. f ≡ record { node = node; at = length stack.old.items; next = 0; low = length stack.old.items }) }
+    ensures frame { IfOk result (λ f. f
+        ≡ record { node = node; at = length stack.old.items; next = 0; low = length stack.old.items }) }
 {
     let at = stack.len() as u32;
     stack.push(node)?;
@@ -145,10 +148,14 @@ fn advance(
     stack: &mut Vec<u32>,
     frames: &mut Vec<Frame>,
 ) -> Result<Option<Frame>, ListingFault>
-    requires going { IsGoing graph.now.edges (length graph.now.nodes) stack.old.items marks.old labels.old rows.old (frame ∷ reverse frames.old.items) }
-    ensures going { IfOk result (λ f. IsGoing graph.now.edges (length graph.now.nodes) stack.new.items marks.new labels.new rows.new (with_current f (reverse frames.new.items))) }
+    requires going { IsGoing graph.now.edges
+        (length graph.now.nodes) stack.old.items marks.old labels.old rows.old (frame ∷ reverse frames.old.items) }
+    ensures going { IfOk result (λ f. IsGoing graph.now.edges
+        (length graph.now.nodes) stack.new.items marks.new labels.new rows.new
+        (with_current f (reverse frames.new.items))) }
     ensures none { IfOk result (λ f. IfNone f (frames.new.items ≡ [])) }
-    ensures less { IfOk result (λ f. 2 * unseen marks.new + length (with_current f frames.new.items) < 2 * unseen marks.old + length frames.old.items + 1) }
+    ensures less { IfOk result (λ f. 2 * unseen marks.new + length
+        (with_current f frames.new.items) < 2 * unseen marks.old + length frames.old.items + 1) }
     ensures kept { OnOk result ((x : ℕ) → slice_index marks.old x ≢ 0 → slice_index marks.new x ≢ 0) }
 {
     let row = graph.row(frame.node);
@@ -215,11 +222,16 @@ fn close(
     requires marks { All (λ x. x < length marks.old) stack.old.items }
     requires labels { All (λ x. x < length labels.old) stack.old.items }
     requires few { length rows.old < 4294967295 }
-    requires placed { (k : ℕ) → k < length stack.old.items → slice_index marks.old (slice_index stack.old.items k) ≡ k + 1 }
+    requires placed { (k : ℕ) → k < length stack.old.items
+        → slice_index marks.old (slice_index stack.old.items k) ≡ k + 1 }
     ensures stack { OnOk result (stack.new.items ≡ take at stack.old.items) }
     ensures rows { OnOk result (rows.new ≡ rows.old ++ drop at stack.old.items ∷ []) }
-    ensures taken { OnOk result ((k : ℕ) → at ≤ k → k < length stack.old.items → (slice_index marks.new (slice_index stack.old.items k) ≡ done_mark) × (slice_index labels.new (slice_index stack.old.items k) ≡ length rows.old)) }
-    ensures others { OnOk result ((x : ℕ) → (slice_index marks.old x ≤ at) ⊎ (length stack.old.items < slice_index marks.old x) → (slice_index marks.new x ≡ slice_index marks.old x) × (slice_index labels.new x ≡ slice_index labels.old x)) }
+    ensures taken { OnOk result ((k : ℕ) → at ≤ k → k < length stack.old.items
+        → (slice_index marks.new (slice_index stack.old.items k) ≡ done_mark)
+        × (slice_index labels.new (slice_index stack.old.items k) ≡ length rows.old)) }
+    ensures others { OnOk result ((x : ℕ) → (slice_index marks.old x ≤ at)
+        ⊎ (length stack.old.items < slice_index marks.old x) → (slice_index marks.new x ≡ slice_index marks.old x)
+        × (slice_index labels.new x ≡ slice_index labels.old x)) }
 {
     let class = &stack[at as usize..];
     settle(class, rows.len() as u32, marks, labels);
@@ -233,7 +245,8 @@ fn settle(class: &[u32], label: u32, marks: &mut [u32], labels: &mut [u32])
     requires marks { All (λ x. x < length marks.old) class.now }
     requires labels { All (λ x. x < length labels.old) class.now }
     ensures taken { All (λ x. (slice_index marks.new x ≡ done_mark) × (slice_index labels.new x ≡ label)) class.now }
-    ensures others { (x : ℕ) → (Contains class.now x → ⊥) → (slice_index marks.new x ≡ slice_index marks.old x) × (slice_index labels.new x ≡ slice_index labels.old x) }
+    ensures others { (x : ℕ) → (Contains class.now x → ⊥) → (slice_index marks.new x ≡ slice_index marks.old x)
+        × (slice_index labels.new x ≡ slice_index labels.old x) }
 {
     for x in class {
         marks[*x as usize] = DONE;

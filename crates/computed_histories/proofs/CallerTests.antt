@@ -12,14 +12,18 @@ use Rattle.joint_machine.specs.declared.events.Op.TheVariants as op
 use Rattle.joint_machine.specs.declared.events.Reply.{Reply}
 use Rattle.joint_machine.specs.declared.events.Reply.TheVariants as says
 use Rattle.joint_machine.specs.Components.{mirror_edges}
-use Rattle.joint_machine.specs.Control.{Doing, free, made, lent, gripped, given, met, Stand, idle, snapped, contracted, weakening, marked, restoring, restored, Control, doing_at, carried_edges, MayStart, MayAdopt, MayLand, MayMeet, MayRelease, ThreadAllows, IsCandidateHandle, IsAtRest, IsPhaseOf, MaySnap, MayContractNow, MayMirrorNow, MayWeakenNow, MayBeginNow, MaySweepNow, MayRestoreNow, MayClearNow, MayResolveNow, MayAbandonNow, MayRefuseNow, DriverAllows, CallerAllows, IsDone}
+use Rattle.joint_machine.specs.Control.{Doing, free, made, lent, gripped, given, met, Stand, idle, snapped, contracted, weakening, marked, restoring, restored, Control, doing_at, carried_edges}
+use Rattle.joint_machine.specs.Control.{MayStart, MayAdopt, MayLand, MayMeet, MayRelease, ThreadAllows, IsCandidateHandle, IsAtRest, IsPhaseOf, MaySnap, MayContractNow, MayMirrorNow, MayWeakenNow}
+use Rattle.joint_machine.specs.Control.{MayBeginNow, MaySweepNow, MayRestoreNow, MayClearNow, MayResolveNow, MayAbandonNow, MayRefuseNow, DriverAllows, CallerAllows, IsDone}
 use Rattle.joint_machine.specs.Managed.{Managed, handle_of, candidates_of}
 use Rattle.joint_machine.specs.Peers.{Issued}
 use Rattle.joint_machine.specs.Told.{Told, references_of, resolution_of, phase_of}
 use Rattle.computed_histories.specs.Lists.{same_number}
 use Rattle.computed_histories.specs.Markings.{ends_eq}
 use Rattle.computed_histories.specs.Replies.{same_answer}
-use Rattle.computed_histories.specs.Callers.{may_start, may_adopt, may_land, may_meet, may_release, thread_allows, is_candidate_handle, is_at_rest, is_phase_of, may_snap, may_contract_now, may_mirror_now, may_weaken_now, may_begin_now, may_sweep_now, may_restore_now, may_clear_now, may_resolve_now, may_abandon_now, may_refuse_now, driver_allows, caller_allows, is_done}
+use Rattle.computed_histories.specs.Callers.{may_start, may_adopt, may_land, may_meet, may_release, thread_allows, is_candidate_handle, is_at_rest, is_phase_of, may_snap, may_contract_now}
+use Rattle.computed_histories.specs.Callers.{may_mirror_now, may_weaken_now, may_begin_now, may_sweep_now, may_restore_now, may_clear_now, may_resolve_now, may_abandon_now, may_refuse_now}
+use Rattle.computed_histories.specs.Callers.{driver_allows, caller_allows, is_done}
 use Rattle.computed_histories.proofs.Telling.{Tells, always, never, like, and2, and3, and4, and5, and6, or2, same, same_numbers, same_lists, empty, that, is_false}
 use Rattle.computed_histories.proofs.LineTests.{tells_line}
 use Rattle.computed_histories.proofs.MarkingTests.{both_ends}
@@ -83,7 +87,8 @@ contracts (snapped o) k cites = and2 (same o.cycle k) (empty cites)
 contracts _ k cites = never (λ z. z)
 
 mirrors : (d : Stand) (s : Managed) (issued : List Issued) (k : ℕ) (cites : Option ℕ) (told : Told) → Tells (may_mirror_now d s issued k cites told) (MayMirrorNow d s issued k cites told)
-mirrors (contracted o comps heavy xrefs) s issued k cites (references_of refs) = and3 (same o.cycle k) (same_numbers cites (Some o.snap)) (same_lists ends_eq both_ends refs (carried_edges s issued (mirror_edges comps xrefs)))
+mirrors (contracted o comps heavy xrefs) s issued k cites (references_of refs) = and3 (same o.cycle k)
+    (same_numbers cites (Some o.snap)) (same_lists ends_eq both_ends refs (carried_edges s issued (mirror_edges comps xrefs)))
 mirrors _ s issued k cites told = never (λ z. z)
 
 weakens : (d : Stand) (s : Managed) (h : ℕ) (cites : Option ℕ) → Tells (may_weaken_now d s h cites) (MayWeakenNow d s h cites)
@@ -120,7 +125,8 @@ refuses : (d : Stand) (c : ℕ) (cites : Option ℕ) (told : Told) → Tells (ma
 refuses d c cites (phase_of p) = and2 (phase d c p) (empty cites)
 refuses d c cites _ = never (λ z. z)
 
-driver : (d : Stand) (s : Managed) (issued : List Issued) (o : Op) (reply : Reply) (cites : Option ℕ) (told : Told) → Tells (driver_allows d s issued o reply cites told) (DriverAllows d s issued o reply cites told)
+driver : (d : Stand) (s : Managed) (issued : List Issued) (o : Op) (reply : Reply) (cites : Option ℕ) (told : Told)
+    → Tells (driver_allows d s issued o reply cites told) (DriverAllows d s issued o reply cites told)
 driver d s issued (op.Line a) reply cites told = and2 (at_rest d (length (candidates_of s))) (empty cites)
 driver d s issued (op.Snap k) reply cites told = snaps d cites
 driver d s issued (op.Contract k) reply cites told = contracts d k.0 cites

@@ -1,20 +1,24 @@
 -- The tests of a graph's components, heavy classes and cross-references tell what the definitions say: the class of a
 -- node is what reaches it and is reached from it, a class is heavy where many components meet in it, and a
 -- cross-reference is a walk out of a class, over nodes in classes that aren't reported.
-use Rattle.std.proofs.Common.{◌≡◌, ℕ, zero, suc, ◌+◌, ◌*◌, ◌<◌, ◌≤◌, ◌⊎◌, ◌↔◌, inl, inr, ⊎_elim, cond, Bool, true, false, not, List, [], ◌∷◌, ◌++◌, map, length, refl, sym, ap, subst, arith, nat_eq, nat_lt, nat_le, ◌&&◌, Some, slice_get}
+use Rattle.std.proofs.Common.{◌≡◌, ℕ, zero, suc, ◌+◌, ◌*◌, ◌<◌, ◌≤◌, ◌⊎◌, ◌↔◌, inl, inr, ⊎_elim, cond, Bool, true, false, not, List, [], ◌∷◌, ◌++◌, map, length, refl, sym, ap, subst, arith, nat_eq}
+use Rattle.std.proofs.Common.{nat_lt, nat_le, ◌&&◌, Some, slice_get}
 use Rattle.std.proofs.lemmas.Bool.{false≢true, cases_eq, cases_lt}
 use Rattle.std.proofs.lemmas.Nat.{mul-le}
 use Rattle.std.specs.List.{All, Contains, filter, list_all}
 use Rattle.std.proofs.lemmas.List.Elements.{All-nil, All-cons, All-head, All-tail, Contains-append_cases, Contains-append_left, Contains-append_right}
 use Rattle.joint_machine.specs.Walks.{Walks, Reaches, Reached, Mutual}
-use Rattle.joint_machine.specs.Components.{IsContraction, IsCanonical, Leads, IsLeast, IsFirst, LeadsIn, LeadsOut, IsHeavy, IsUnreported, IsCrossReference, IsPlainClass, IsMember, Rises, PairsRise, PairBefore, stand_at, first_of}
+use Rattle.joint_machine.specs.Components.{IsContraction, IsCanonical, Leads, IsLeast, IsFirst, LeadsIn, LeadsOut, IsHeavy, IsUnreported, IsCrossReference, IsPlainClass, IsMember, Rises, PairsRise}
+use Rattle.joint_machine.specs.Components.{PairBefore, stand_at, first_of}
 use Rattle.joint_machine.specs.Cycles.{IsDeadContraction, DeadEdge}
 use Rattle.joint_machine.specs.Heaps.{HasField}
 use Rattle.joint_machine.specs.Managed.{Managed, IsBridge}
 use Rattle.joint_machine.proofs.Members.{Contains-nil, Contains-cons_cases, Contains-map, Contains-map_cases, Contains-flat_map}
 use Rattle.computed_histories.specs.Lists.{mem, has, pair_eq, implies, rises, count_from, is_exactly, rises_exactly}
 use Rattle.computed_histories.specs.Rows.{heap_next, is_bridge}
-use Rattle.computed_histories.specs.Contractions.{Listed, is_mutual, is_plain, passed_next, class_next, past_class, is_led, above, bridges_where, is_first, ins_of, outs_of, are_many, is_heavy, is_unreported, is_least, is_referred, places_from, members_of, agrees, is_split, pairs_below, is_reference, is_pair_before, pairs_rise, is_in_order, is_contraction, dead_graph}
+use Rattle.computed_histories.specs.Contractions.{Listed, is_mutual, is_plain, passed_next, class_next, past_class, is_led, above, bridges_where, is_first, ins_of, outs_of, are_many, is_heavy}
+use Rattle.computed_histories.specs.Contractions.{is_unreported, is_least, is_referred, places_from, members_of, agrees, is_split, pairs_below, is_reference, is_pair_before, pairs_rise, is_in_order}
+use Rattle.computed_histories.specs.Contractions.{is_contraction, dead_graph}
 use Rattle.computed_histories.proofs.Telling.{Tells, always, never, like, isn't, implied, and2, and3, and4, and5, or2, same, less, upto, same_pair, is_true, all}
 use Rattle.computed_histories.proofs.Reaching.{all_in, any_in, member, member_filter, member_flat_map, filtered, where_it_holds, reached, reaches, exactly, rising, rising_exactly, counted}
 use Rattle.computed_histories.proofs.RowTests.{field, bridge}
@@ -69,7 +73,8 @@ counted_most test k (suc n) (x ∷ xs) rise pass within =
     (All-cons (λ y. (suc k ≤ y) × (y < suc k + n)) x xs (past_it k x d w.0, shorter k n x w.1) (both (λ y l p. (over k x y (past_it k x d w.0) l, shorter k n y p.1)) xs rise.0 ws))))
     (cases_eq x k)
   where
-    both : ((y : ℕ) → x < y → (k ≤ y) × (y < k + suc n) → (suc k ≤ y) × (y < suc k + n)) → (ys : List ℕ) → All (λ y. x < y) ys → All (λ y. (k ≤ y) × (y < k + suc n)) ys → All (λ y. (suc k ≤ y) × (y < suc k + n)) ys
+    both : ((y : ℕ) → x < y → (k ≤ y) × (y < k + suc n) → (suc k ≤ y) × (y < suc k + n)) → (ys : List ℕ)
+        → All (λ y. x < y) ys → All (λ y. (k ≤ y) × (y < k + suc n)) ys → All (λ y. (suc k ≤ y) × (y < suc k + n)) ys
     both f [] a b = All-nil (λ y. (suc k ≤ y) × (y < suc k + n))
     both f (y ∷ ys) a b = All-cons (λ y. (suc k ≤ y) × (y < suc k + n)) y ys (f y (All-head (λ y. x < y) y ys a) (All-head (λ y. (k ≤ y) × (y < k + suc n)) y ys b))
         (both f ys (All-tail (λ y. x < y) y ys a) (All-tail (λ y. (k ≤ y) × (y < k + suc n)) y ys b))
@@ -86,11 +91,13 @@ counted_most test k (suc n) (x ∷ xs) rise pass within =
     shorter : (k n y : ℕ) → y < k + suc n → y < suc k + n
     shorter k n y l = omega (arith, l)
 
-    taken : (b : Bool) → b ≡ true → length xs ≤ length (filter test (count_from (suc k) n)) → length (x ∷ xs) ≤ length (cond b (k ∷ filter test (count_from (suc k) n)) (filter test (count_from (suc k) n)))
+    taken : (b : Bool) → b ≡ true → length xs ≤ length (filter test (count_from (suc k) n))
+        → length (x ∷ xs) ≤ length (cond b (k ∷ filter test (count_from (suc k) n)) (filter test (count_from (suc k) n)))
     taken true e l = omega (arith, l)
     taken false e l = absurd (false≢true e)
 
-    skipped : (b : Bool) → length (x ∷ xs) ≤ length (filter test (count_from (suc k) n)) → length (x ∷ xs) ≤ length (cond b (k ∷ filter test (count_from (suc k) n)) (filter test (count_from (suc k) n)))
+    skipped : (b : Bool) → length (x ∷ xs) ≤ length (filter test (count_from (suc k) n))
+        → length (x ∷ xs) ≤ length (cond b (k ∷ filter test (count_from (suc k) n)) (filter test (count_from (suc k) n)))
     skipped true l = omega (arith, l)
     skipped false l = l
 
@@ -138,7 +145,8 @@ passed_between edge Passed x y (z ∷ zs) to e w =
     (y ∷ r.0, (e, r.1), All-cons Passed y r.0 w.0.0 r.2)
 
 -- the other way round
-passed_walk : (edge : ℕ → ℕ → Type 0) (Passed : ℕ → Type 0) (z : ℕ) (zs : List ℕ) (to : ℕ) → Passed z → All Passed zs → Walks edge z (zs ++ to ∷ []) to → Walks (λ a b. Passed a × edge a b) z (zs ++ to ∷ []) to
+passed_walk : (edge : ℕ → ℕ → Type 0) (Passed : ℕ → Type 0) (z : ℕ) (zs : List ℕ) (to : ℕ) → Passed z
+    → All Passed zs → Walks edge z (zs ++ to ∷ []) to → Walks (λ a b. Passed a × edge a b) z (zs ++ to ∷ []) to
 passed_walk edge Passed z [] to p all w = ((p, w.0), w.1)
 passed_walk edge Passed z (y ∷ ys) to p all w = ((p, w.0), passed_walk edge Passed y ys to (All-head Passed y ys all) (All-tail Passed y ys all) w.1)
 
@@ -167,8 +175,17 @@ module _ (bridge : ℕ → Type 0) (edge : ℕ → ℕ → Type 0) (g : Listed) 
 
   leaves_class : (a z : ℕ) → Tells (mem nat_eq (class_next g a) z) (LeavesClass a z)
   leaves_class a z = like {P = (x : ℕ) × Contains (filter (is_mutual g a) g.nodes) x × (mem nat_eq (g.next x) z ≡ true)}
-      (λ r. (r.0, (mutually a r.0).holds ((member_filter nat_eq same (is_mutual g a) g.nodes r.0).holds ((member nat_eq same (filter (is_mutual g a) g.nodes) r.0).passes r.1)).1, (l.edges r.0 z).holds r.2))
-      (λ r. (r.0, (member nat_eq same (filter (is_mutual g a) g.nodes) r.0).holds ((member_filter nat_eq same (is_mutual g a) g.nodes r.0).passes ((member nat_eq same g.nodes r.0).passes (l.sources r.0 z r.2), (mutually a r.0).passes r.1)), (l.edges r.0 z).passes r.2))
+      (λ r. (
+        r.0,
+        (mutually a r.0).holds ((member_filter nat_eq same (is_mutual g a) g.nodes r.0).holds ((member nat_eq same (filter (is_mutual g a) g.nodes) r.0).passes r.1)).1,
+        (l.edges r.0 z).holds r.2,
+      ))
+      (λ r. (
+        r.0,
+        (member nat_eq same (filter (is_mutual g a) g.nodes) r.0).holds
+            ((member_filter nat_eq same (is_mutual g a) g.nodes r.0).passes ((member nat_eq same g.nodes r.0).passes (l.sources r.0 z r.2), (mutually a r.0).passes r.1)),
+        (l.edges r.0 z).passes r.2,
+      ))
       (member_flat_map nat_eq same g.next (filter (is_mutual g a) g.nodes) z)
 
   -- where a walk may pass some rows
@@ -272,23 +289,30 @@ module _ (bridge : ℕ → Type 0) (edge : ℕ → ℕ → Type 0) (g : Listed) 
     many = m.2;
   }
 
-  heavy_seen : (x : ℕ) → IsHeavy bridge edge x → (8 ≤ length (bridges_where g (λ b. true))) × IsPlainClass bridge edge x × ((3 ≤ length (ins_of g x)) × (3 ≤ length (outs_of g x)) × (60 ≤ length (ins_of g x) * length (outs_of g x)))
+  heavy_seen : (x : ℕ) → IsHeavy bridge edge x → (8 ≤ length (bridges_where g (λ b. true))) × IsPlainClass bridge edge x
+      × ((3 ≤ length (ins_of g x)) × (3 ≤ length (outs_of g x)) × (60 ≤ length (ins_of g x) * length (outs_of g x)))
   heavy_seen x h =
       let i : length h.ins ≤ length (ins_of g x) = bridges_count (λ b. is_first g b && is_led g (is_plain g) b x) (LeadsIn bridge edge x) (into x) h.ins h.ins_rise h.lead_in in
       let o : length h.outs ≤ length (outs_of g x) = bridges_count (λ b. is_first g b && is_led g (is_plain g) x b) (LeadsOut bridge edge x) (out x) h.outs h.outs_rise h.lead_out in
-      let i' : length h.ins ≤ length (bridges_where g (λ b. true)) = bridges_count (λ b. true) bridge any_first h.ins h.ins_rise (All-map_from {P = LeadsIn bridge edge x} {Q = bridge} (λ b p. p.0.member) h.ins h.lead_in) in
-      let o' : length h.outs ≤ length (bridges_where g (λ b. true)) = bridges_count (λ b. true) bridge any_first h.outs h.outs_rise (All-map_from {P = LeadsOut bridge edge x} {Q = bridge} (λ b p. p.0.member) h.outs h.lead_out) in
+      let i' : length h.ins ≤ length (bridges_where g (λ b. true)) = bridges_count (λ b. true) bridge any_first h.ins h.ins_rise
+      (All-map_from {P = LeadsIn bridge edge x} {Q = bridge} (λ b p. p.0.member) h.ins h.lead_in) in
+      let o' : length h.outs ≤ length (bridges_where g (λ b. true)) = bridges_count (λ b. true) bridge any_first h.outs h.outs_rise
+      (All-map_from {P = LeadsOut bridge edge x} {Q = bridge} (λ b p. p.0.member) h.outs h.lead_out) in
       let p = mul-le (length h.ins) (length h.outs) (length (ins_of g x)) (length (outs_of g x)) i o in
       let in_some = h.some_in in
       let out_some = h.some_out in
-      let m = h.many in
-      (eight (length h.ins) (length h.outs) (length (bridges_where g (λ b. true))) i' o' m, h.plain, (omega (arith, in_some, i), omega (arith, out_some, o), many_more (length h.ins * length h.outs) (length (ins_of g x) * length (outs_of g x)) m p))
+      let m = h.many in (
+        eight (length h.ins) (length h.outs) (length (bridges_where g (λ b. true))) i' o' m,
+        h.plain,
+        (omega (arith, in_some, i), omega (arith, out_some, o), many_more (length h.ins * length h.outs) (length (ins_of g x) * length (outs_of g x)) m p),
+      )
     where
       many_more : (a b : ℕ) → 60 ≤ a → a ≤ b → 60 ≤ b
       many_more a b m p = omega (arith, m, p)
 
   pub heavy : (x : ℕ) → Tells (is_heavy g x) (IsHeavy bridge edge x)
-  heavy x = like {P = (8 ≤ length (bridges_where g (λ b. true))) × IsPlainClass bridge edge x × ((3 ≤ length (ins_of g x)) × (3 ≤ length (outs_of g x)) × (60 ≤ length (ins_of g x) * length (outs_of g x)))}
+  heavy x = like {P = (8 ≤ length (bridges_where g (λ b. true))) × IsPlainClass bridge edge x
+      × ((3 ≤ length (ins_of g x)) × (3 ≤ length (outs_of g x)) × (60 ≤ length (ins_of g x) * length (outs_of g x)))}
       (λ p. heavy_found x p.1 p.2)
       (heavy_seen x)
       (and3 (upto 8 (length (bridges_where g (λ b. true)))) (plain x) (heavy_many x))
@@ -325,7 +349,8 @@ module _ (bridge : ℕ → Type 0) (edge : ℕ → ℕ → Type 0) (g : Listed) 
   reference a b = like (λ p. record { apart = p.0; leads = p.1 }) (λ r. (r.apart, r.leads)) (and2 (isn't (mutually a b)) (leads (is_unreported g) (IsUnreported bridge edge) unreported a b))
 
   pub heavies : (hs : List ℕ) → Tells (rises_exactly g.nodes (λ x. is_heavy g x && is_least g x) hs) (Rises hs × ((x : ℕ) → Contains hs x ↔ (IsHeavy bridge edge x × IsLeast edge x)))
-  heavies hs = rising_exactly g.nodes (λ x. is_heavy g x && is_least g x) (λ x. IsHeavy bridge edge x × IsLeast edge x) hs (λ x. and2 (heavy x) (least x)) (λ x p. (member nat_eq same g.nodes x).passes (heavy_inside x p.0))
+  heavies hs = rising_exactly g.nodes (λ x. is_heavy g x && is_least g x) (λ x. IsHeavy bridge edge x × IsLeast edge x) hs
+      (λ x. and2 (heavy x) (least x)) (λ x p. (member nat_eq same g.nodes x).passes (heavy_inside x p.0))
 
 -- the places of components
 abbrev StandsAt : List (ℕ × ℕ) → ℕ → ℕ → Type 0
@@ -391,12 +416,21 @@ pairs_rising (p ∷ ps) = and2 (all ps (is_pair_before p) (PairBefore p) (λ q. 
 
 pub in_order : (comps : List (List ℕ)) (xrefs : List (ℕ × ℕ)) → Tells (is_in_order comps xrefs) (IsCanonical comps xrefs)
 in_order comps xrefs = like (λ p. record { members = p.0; some = p.1; order = p.2; rising = p.3 }) (λ r. (r.members, r.some, r.order, r.rising))
-    (and4 (all comps rises Rises rising) (all comps (λ members. nat_lt 0 (length members)) (λ members. 0 < length members) (λ members. less 0 (length members))) (rising (map first_of comps)) (pairs_rising xrefs))
+    (and4 (all comps rises Rises rising) (all comps (λ members. nat_lt 0 (length members)) (λ members. 0 < length members) (λ members. less 0 (length members)))
+    (rising (map first_of comps)) (pairs_rising xrefs))
 
 -- the components, heavy classes and cross-references that are computed are the graph's
-pub contraction : (bridge : ℕ → Type 0) (edge : ℕ → ℕ → Type 0) (g : Listed) → IsListed bridge edge g → (comps : List (List ℕ)) (heavy : List ℕ) (xrefs : List (ℕ × ℕ)) → Tells (is_contraction g comps heavy xrefs) (IsContraction bridge edge comps heavy xrefs)
+pub contraction : (bridge : ℕ → Type 0) (edge : ℕ → ℕ → Type 0) (g : Listed) → IsListed bridge edge g
+    → (comps : List (List ℕ)) (heavy : List ℕ) (xrefs : List (ℕ × ℕ)) → Tells (is_contraction g comps heavy xrefs) (IsContraction bridge edge comps heavy xrefs)
 contraction bridge edge g l comps heavy xrefs = like
-    (λ p. record { canonical = p.0; members = λ x. (λ m. (p.1 x).0 (member_in x m.0 m.1), λ b. member_of x ((p.1 x).1 b)); together = p.2; heavy_rise = p.3.0; heavies = p.3.1; references = λ i j. p.4 (i, j) })
+    (λ p. record {
+      canonical = p.0;
+      members = λ x. (λ m. (p.1 x).0 (member_in x m.0 m.1), λ b. member_of x ((p.1 x).1 b));
+      together = p.2;
+      heavy_rise = p.3.0;
+      heavies = p.3.1;
+      references = λ i j. p.4 (i, j);
+    })
     (λ r. (r.canonical, λ x. (λ c. (r.members x).0 (member_of x c), λ b. let m = (r.members x).1 b in member_in x m.0 m.1), r.together, (r.heavy_rise, r.heavies), λ p. r.references p.0 p.1))
     (and5 (in_order comps xrefs) (exactly nat_eq same g.nodes (has g.bridges) bridge (members_of comps) l.picks l.inside) split (heavies bridge edge g l heavy) references)
   where
@@ -410,12 +444,14 @@ contraction bridge edge g l comps heavy xrefs = like
     split = like
         (λ f i j x y a b. f (i, x) (place_of comps i x a) (j, y) (place_of comps j y b))
         (λ f p a q b. f p.0 q.0 p.1 q.1 (member_at comps p.0 p.1 a) (member_at comps q.0 q.1 b))
-        (all_in (places_from 0 comps) (λ p. list_all (λ q. agrees (nat_eq p.0 q.0) (is_mutual g p.1 q.1)) (places_from 0 comps)) (λ p. (q : ℕ × ℕ) → Contains (places_from 0 comps) q → (p.0 ≡ q.0) ↔ Mutual edge p.1 q.1)
+        (all_in (places_from 0 comps) (λ p. list_all (λ q. agrees (nat_eq p.0 q.0) (is_mutual g p.1 q.1)) (places_from 0 comps))
+        (λ p. (q : ℕ × ℕ) → Contains (places_from 0 comps) q → (p.0 ≡ q.0) ↔ Mutual edge p.1 q.1)
         (λ p. all_in (places_from 0 comps) (λ q. agrees (nat_eq p.0 q.0) (is_mutual g p.1 q.1)) (λ q. (p.0 ≡ q.0) ↔ Mutual edge p.1 q.1)
         (λ q. agree (nat_eq p.0 q.0) (is_mutual g p.1 q.1) (p.0 ≡ q.0) (Mutual edge p.1 q.1) (same p.0 q.0) (mutually bridge edge g l p.1 q.1))))
 
     references : Tells (is_exactly pair_eq (pairs_below (length comps + length heavy)) (is_reference g comps heavy) xrefs)
-        ((p : ℕ × ℕ) → Contains xrefs p ↔ ((p.0 < length comps + length heavy) × (p.1 < length comps + length heavy) × IsCrossReference bridge edge (stand_at comps heavy p.0) (stand_at comps heavy p.1)))
+        ((p : ℕ × ℕ) → Contains xrefs p ↔ ((p.0 < length comps + length heavy) × (p.1 < length comps + length heavy)
+        × IsCrossReference bridge edge (stand_at comps heavy p.0) (stand_at comps heavy p.1)))
     references = exactly pair_eq same_pair (pairs_below (length comps + length heavy)) (is_reference g comps heavy)
         (λ p. (p.0 < length comps + length heavy) × (p.1 < length comps + length heavy) × IsCrossReference bridge edge (stand_at comps heavy p.0) (stand_at comps heavy p.1)) xrefs
         (λ p. and3 (less p.0 (length comps + length heavy)) (less p.1 (length comps + length heavy)) (reference bridge edge g l (stand_at comps heavy p.0) (stand_at comps heavy p.1)))
@@ -433,5 +469,6 @@ dead_listed s dead = record {
   inside = λ m p. (member nat_eq same dead m).passes p.0;
 }
 
-pub dead_contraction : (s : Managed) (dead : List ℕ) (comps : List (List ℕ)) (heavy : List ℕ) (xrefs : List (ℕ × ℕ)) → Tells (is_contraction (dead_graph s dead) comps heavy xrefs) (IsDeadContraction s dead comps heavy xrefs)
+pub dead_contraction : (s : Managed) (dead : List ℕ) (comps : List (List ℕ)) (heavy : List ℕ) (xrefs : List (ℕ × ℕ))
+    → Tells (is_contraction (dead_graph s dead) comps heavy xrefs) (IsDeadContraction s dead comps heavy xrefs)
 dead_contraction s dead comps heavy xrefs = contraction (λ m. Contains dead m × IsBridge s m) (DeadEdge s dead) (dead_graph s dead) (dead_listed s dead) comps heavy xrefs

@@ -11,7 +11,8 @@ use Rattle.joint_machine.specs.Managed.{Managed, Holds, IsManagedRoot}
 use Rattle.joint_machine.specs.Peers.{Issued, Hold, held, raw, strong, peer_of, is_held}
 use Rattle.computed_histories.specs.Lists.{mem, has, count_from}
 use Rattle.computed_histories.specs.Rows.{is_live, all_rows, heap_next, slot_rows, managed_roots}
-use Rattle.computed_histories.specs.Graphs.{row_eq, rows_of, live_peer, held_peer, joined_peers, joined_objects, joint_next, is_handle_here, is_loose, is_raw_root, is_loose_root, is_kept, issued_peer, handle_peers, rooted_peers, peer_roots, joint_roots, graph_rows, is_reached, are_unreached, ReachedIsTested, UnreachedAreTested}
+use Rattle.computed_histories.specs.Graphs.{row_eq, rows_of, live_peer, held_peer, joined_peers, joined_objects, joint_next, is_handle_here, is_loose, is_raw_root, is_loose_root, is_kept, issued_peer}
+use Rattle.computed_histories.specs.Graphs.{handle_peers, rooted_peers, peer_roots, joint_roots, graph_rows, is_reached, are_unreached, ReachedIsTested, UnreachedAreTested}
 use Rattle.computed_histories.proofs.Telling.{Tells, always, never, like, isn't, and2, or2, same}
 use Rattle.computed_histories.proofs.Reaching.{any_in, member, member_append, member_filter, member_flat_map, where_it_holds, reached, counted, rising_exactly}
 use Rattle.computed_histories.proofs.RowTests.{live, live_row, field, slot_row, managed_root}
@@ -65,7 +66,8 @@ live_there h (Some x) p = like {P = IsLive h x × (x ≡ p)} (λ q. (ap (λ z. S
 held_there : (g : Graph) (o : Option (Option ℕ)) (p : ℕ) → Tells (mem nat_eq (held_peer g o) p) ((h : ℕ) × (o ≡ Some (Some h)) × (peer_of g.peers.issued h ≡ Some p) × IsLive g.peers.heap p)
 held_there g None p = never (λ q. let e = q.1 in cc)
 held_there g (Some None) p = never (λ q. let e = q.1 in cc)
-held_there g (Some (Some h)) p = like (λ r. (h, refl, r.0, r.1)) (λ q. (subst (λ k. peer_of g.peers.issued k ≡ Some p) (inside_handle h q.0 q.1) q.2, q.3)) (live_there g.peers.heap (peer_of g.peers.issued h) p)
+held_there g (Some (Some h)) p = like (λ r. (h, refl, r.0, r.1))
+    (λ q. (subst (λ k. peer_of g.peers.issued k ≡ Some p) (inside_handle h q.0 q.1) q.2, q.3)) (live_there g.peers.heap (peer_of g.peers.issued h) p)
 
 joined_peer : (g : Graph) (m p : ℕ) → Tells (mem nat_eq (joined_peers g m) p) (IsJoined g m p)
 joined_peer g m p = like {P = IsLive g.managed.heap m × ((h : ℕ) × (numbered_at g.managed.held m ≡ Some (Some h)) × (peer_of g.peers.issued h ≡ Some p) × IsLive g.peers.heap p)}
@@ -76,7 +78,8 @@ joined_peer g m p = like {P = IsLive g.managed.heap m × ((h : ℕ) × (numbered
     (live g.managed.heap m) (held_there g (numbered_at g.managed.held m) p))
 
 joined_object : (g : Graph) (m p : ℕ) → Tells (mem nat_eq (joined_objects g p) m) (IsJoined g m p)
-joined_object g m p = like (λ q. (joined_peer g m p).holds q.1) (λ r. (live_row g.managed.heap m r.holds.live, (joined_peer g m p).passes r)) (member_filter nat_eq same (λ m. has (joined_peers g m) p) (all_rows g.managed.heap) m)
+joined_object g m p = like (λ q. (joined_peer g m p).holds q.1) (λ r. (live_row g.managed.heap m r.holds.live, (joined_peer g m p).passes r))
+    (member_filter nat_eq same (λ m. has (joined_peers g m) p) (all_rows g.managed.heap) m)
 
 -- edges
 pub joint_edge : (g : Graph) (x y : Row) → Tells (mem row_eq (joint_next g x) y) (JointEdge g x y)
@@ -86,10 +89,12 @@ joint_edge g (peer p) (object x) = an_object (joined_objects g p) (heap_next g.p
 joint_edge g (peer p) (peer q) = a_peer (joined_objects g p) (heap_next g.peers.heap p) q (HasField g.peers.heap p q) (field g.peers.heap p q)
 
 made_object : (g : Graph) (x : ℕ) → IsLive g.managed.heap x → mem row_eq (graph_rows g) (object x) ≡ true
-made_object g x l = (an_object (all_rows g.managed.heap) (all_rows g.peers.heap) x (mem nat_eq (all_rows g.managed.heap) x ≡ true) (record { holds = λ e. e; passes = λ e. e })).passes (live_row g.managed.heap x l)
+made_object g x l = (an_object (all_rows g.managed.heap) (all_rows g.peers.heap) x (mem nat_eq (all_rows g.managed.heap) x ≡ true) (record { holds = λ e. e; passes = λ e. e })).passes
+    (live_row g.managed.heap x l)
 
 made_peer : (g : Graph) (p : ℕ) → IsLive g.peers.heap p → mem row_eq (graph_rows g) (peer p) ≡ true
-made_peer g p l = (a_peer (all_rows g.managed.heap) (all_rows g.peers.heap) p (mem nat_eq (all_rows g.peers.heap) p ≡ true) (record { holds = λ e. e; passes = λ e. e })).passes (live_row g.peers.heap p l)
+made_peer g p l = (a_peer (all_rows g.managed.heap) (all_rows g.peers.heap) p (mem nat_eq (all_rows g.peers.heap) p ≡ true) (record { holds = λ e. e; passes = λ e. e })).passes
+    (live_row g.peers.heap p l)
 
 edge_made : (g : Graph) (x y : Row) → JointEdge g x y → mem row_eq (graph_rows g) y ≡ true
 edge_made g (object x) (object y) e = made_object g y e.there
@@ -124,7 +129,8 @@ loose s h = like (λ f m r. f (m, r)) (λ f p. f p.0 p.1) (isn't (like {Q = (m :
 inside_issued : (a b : Issued) → Some a ≡ Some b → b ≡ a
 inside_issued a b e = cc
 
-issued_there : (o : Option Issued) (test : Issued → Bool) (P : Issued → Type 0) → ((i : Issued) → Tells (test i) (P i)) → (p : ℕ) → Tells (mem nat_eq (issued_peer o test) p) ((i : Issued) × (o ≡ Some i) × P i × (i.peer ≡ p))
+issued_there : (o : Option Issued) (test : Issued → Bool) (P : Issued → Type 0) → ((i : Issued) → Tells (test i) (P i))
+    → (p : ℕ) → Tells (mem nat_eq (issued_peer o test) p) ((i : Issued) × (o ≡ Some i) × P i × (i.peer ≡ p))
 issued_there None test P t p = never (λ q. let e = q.1 in cc)
 issued_there (Some i) test P t p = like (λ r. (i, refl, r.0, r.1)) (λ q. (subst P (inside_issued i q.0 q.1) q.2, subst (λ (k : Issued). k.peer ≡ p) (inside_issued i q.0 q.1) q.3))
     (where_it_holds nat_eq same (test i) (i.peer ∷ []) p (P i) (i.peer ≡ p) (t i) (only i.peer p))
@@ -146,7 +152,8 @@ rooted g test P t p = like
 -- roots
 peer_root : (g : Graph) (p : ℕ) → Tells (mem nat_eq (peer_roots g) p) (IsJointRoot g (peer p))
 peer_root g p = like {P = InSlot g.peers.heap p ⊎ (IsRawRoot g p ⊎ IsLooseRoot g p)} (λ s. s) (λ s. s)
-    (member_append nat_eq same (slot_rows g.peers.heap) (rooted_peers g is_raw_root ++ rooted_peers g (is_loose_root g)) p (InSlot g.peers.heap p) (IsRawRoot g p ⊎ IsLooseRoot g p) (slot_row g.peers.heap p)
+    (member_append nat_eq same (slot_rows g.peers.heap) (rooted_peers g is_raw_root ++ rooted_peers g (is_loose_root g)) p
+    (InSlot g.peers.heap p) (IsRawRoot g p ⊎ IsLooseRoot g p) (slot_row g.peers.heap p)
     (member_append nat_eq same (rooted_peers g is_raw_root) (rooted_peers g (is_loose_root g)) p (IsRawRoot g p) (IsLooseRoot g p)
     (like (λ q. record { handle = q.0; row = q.1; is_handle = q.2; raw_hold = q.3.0; strong_made = q.3.1; leads = q.4 }) (λ r. (r.handle, r.row, r.is_handle, (r.raw_hold, r.strong_made), r.leads))
     (rooted g is_raw_root (λ h i. (i.hold ≡ raw) × (i.strength ≡ strong)) (λ h i. and2 (holds_raw i.hold) (is_strong_now i.strength)) p))

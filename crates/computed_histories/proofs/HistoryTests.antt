@@ -11,7 +11,8 @@ use Rattle.joint_machine.specs.Replaying.{AllMayCome}
 use Rattle.joint_machine.specs.ManagedReplay.{ManagedReplay, managed_answer}
 use Rattle.joint_machine.specs.PeerReplay.{PeerReplay, peer_answer}
 use Rattle.joint_machine.specs.Told.{Told, Noted}
-use Rattle.computed_histories.specs.Histories.{managed_lawful, peer_lawful, side_lawful, may_come, all_may_come, is_numbered_from, is_whole, MayComeIsTested, AllMayComeIsTested, NumbersAreTested, WholeIsTested, RepliesAreTested}
+use Rattle.computed_histories.specs.Histories.{managed_lawful, peer_lawful, side_lawful, may_come, all_may_come, is_numbered_from, is_whole, MayComeIsTested, AllMayComeIsTested, NumbersAreTested}
+use Rattle.computed_histories.specs.Histories.{WholeIsTested, RepliesAreTested}
 use Rattle.computed_histories.proofs.Telling.{Tells, tested, always, like, and2, and5, same, less, upto}
 use Rattle.computed_histories.proofs.ReplyTests.{replies}
 use Rattle.computed_histories.proofs.LineTests.{tells_event}
@@ -22,7 +23,8 @@ pub managed_side : (s : ManagedReplay) (m : Made) (told : Told) → Tells (manag
 managed_side s m told = like (λ p. record { allowed = p.0; replies = p.1 }) (λ r. (r.allowed, r.replies)) (and2 (managed s m.op told) (replies m.reply (managed_answer s m.caller m.op told).reply))
 
 peer_side : (s : PeerReplay) (m : Made) (told : Told) → Tells (peer_lawful s m told) (PeerLawful s m told)
-peer_side s m told = like (λ p. record { allowed = p.0; replies = p.1 }) (λ r. (r.allowed, r.replies)) (and2 (peer s m.caller m.op m.cites told) (replies m.reply (peer_answer s m.caller m.op m.cites told).reply))
+peer_side s m told = like (λ p. record { allowed = p.0; replies = p.1 }) (λ r. (r.allowed, r.replies))
+    (and2 (peer s m.caller m.op m.cites told) (replies m.reply (peer_answer s m.caller m.op m.cites told).reply))
 
 side : (b : Bool) (s : Linkage) (m : Made) (told : Told) → Tells (side_lawful b s m told) (SideLawful b s m told)
 side true s m told = peer_side s.peer m told

@@ -12,7 +12,8 @@ use Rattle.joint_machine.specs.declared.lines.Act.TheVariants as act
 use Rattle.joint_machine.specs.declared.events.Op.{Op}
 use Rattle.joint_machine.specs.declared.events.Op.TheVariants as op
 use Rattle.joint_machine.specs.Lines.{IsVar, IsVarOrNone, IsManagedThread, IsPeerThread, IsDriver, IsPlainObject, IsBridgeObject, IsManagedAct, IsPeerAct, IsDriverAct, IsLine, IsOneEvent, IsEvent}
-use Rattle.computed_histories.specs.Lines.{is_var, is_var_or_none, is_managed_thread, is_peer_thread, is_driver, is_plain_object, is_bridge_object, is_managed_act, is_peer_act, is_driver_act, is_line, is_one_event, is_event}
+use Rattle.computed_histories.specs.Lines.{is_var, is_var_or_none, is_managed_thread, is_peer_thread, is_driver, is_plain_object, is_bridge_object, is_managed_act, is_peer_act, is_driver_act, is_line}
+use Rattle.computed_histories.specs.Lines.{is_one_event, is_event}
 use Rattle.computed_histories.proofs.Telling.{Tells, always, never, like, and2, and3, or2, same, less, upto}
 use Rattle.computed_histories.proofs.ReplyTests.{sorts}
 

@@ -8,7 +8,8 @@ use Rattle.joint_machine.specs.Heaps.{Heap, IsLive, HasField, InSlot}
 use Rattle.joint_machine.specs.PeerReplay.{PeerReplay, Marking, IsMarkingRoot, HasReference, LeadsOver, Refers, MarkingEdge, IsMarked, IsClosure, IsSweep}
 use Rattle.joint_machine.specs.Walks.{Walks, Reaches, Reached}
 use Rattle.computed_histories.specs.Lists.{mem, has}
-use Rattle.computed_histories.specs.Markings.{end_eq, ends_eq, ends_from, is_temporary, temporaries_from, passed_from, nodes_of, listed_next, marking_roots, reference_next, marking_next, marking_reach, is_closure, is_sweep}
+use Rattle.computed_histories.specs.Markings.{end_eq, ends_eq, ends_from, is_temporary, temporaries_from, passed_from, nodes_of, listed_next, marking_roots, reference_next, marking_next}
+use Rattle.computed_histories.specs.Markings.{marking_reach, is_closure, is_sweep}
 use Rattle.computed_histories.specs.Rows.{is_live, all_rows, heap_next, slot_rows}
 use Rattle.computed_histories.proofs.Telling.{Tells, always, never, like, isn't, and2, and3, or2, same, equal}
 use Rattle.computed_histories.proofs.Reaching.{member, member_append, member_filter, filtered, where_it_holds, reached, reaches, rising_exactly}
@@ -117,7 +118,8 @@ reference_edge h refs x y = like {P = IsLive h x × (Refers refs x y × IsLive h
     (filtered nat_eq same (is_live h) (listed_next refs x) y (Refers refs x y) (IsLive h y) (listed refs x y) (live h y)))
 
 pub marking_edge : (mk : Marking) (x y : ℕ) → Tells (mem nat_eq (marking_next mk x) y) (MarkingEdge mk x y)
-marking_edge mk x y = member_append nat_eq same (heap_next mk.heap x) (reference_next mk.heap mk.refs x) y (HasField mk.heap x y) (HasReference mk.heap mk.refs x y) (field mk.heap x y) (reference_edge mk.heap mk.refs x y)
+marking_edge mk x y = member_append nat_eq same (heap_next mk.heap x) (reference_next mk.heap mk.refs x) y
+    (HasField mk.heap x y) (HasReference mk.heap mk.refs x y) (field mk.heap x y) (reference_edge mk.heap mk.refs x y)
 
 -- edges lead to peers that were made
 edge_inside : (mk : Marking) (x y : ℕ) → mem nat_eq (marking_next mk x) y ≡ true → Contains (all_rows mk.heap) y

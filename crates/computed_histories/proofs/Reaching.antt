@@ -1,7 +1,8 @@
 -- What is computed to be reached is what walks reach: each round adds where the rows so far lead, and a round that adds
 -- none leaves the list as it is. Each other round leaves fewer rows outside, so as many rounds as there are rows are
 -- enough.
-use Rattle.std.proofs.Common.{◌≡◌, ℕ, zero, suc, ◌+◌, ◌<◌, ◌≤◌, ◌⊎◌, ◌↔◌, inl, inr, ⊎_elim, Bool, true, false, not, ◌&&◌, cond, List, [], ◌∷◌, ◌++◌, length, refl, sym, ap, subst, ◌∙◌, arith, nat_eq, nat_lt, true≢false, Option, Some, None}
+use Rattle.std.proofs.Common.{◌≡◌, ℕ, zero, suc, ◌+◌, ◌<◌, ◌≤◌, ◌⊎◌, ◌↔◌, inl, inr, ⊎_elim, Bool, true, false, not, ◌&&◌, cond, List, [], ◌∷◌, ◌++◌, length, refl, sym, ap, subst, ◌∙◌, arith, nat_eq}
+use Rattle.std.proofs.Common.{nat_lt, true≢false, Option, Some, None}
 use Rattle.std.specs.List.{Contains, filter, list_any, list_all, flat_map}
 use Rattle.std.proofs.lemmas.Bool.{cases_Bool, false≢true, or_cases, and_parts, not-true, cases_eq}
 use Rattle.joint_machine.specs.Walks.{Reaches, Reached}
@@ -54,7 +55,8 @@ module _ {A : Type 0} (eq : A → A → Bool) (laws : (a b : A) → Tells (eq a 
   member_filter test [] x = never (λ p. false≢true p.0)
   member_filter test (y ∷ ys) x = go (test y) refl (member_filter test ys x)
     where
-      go : (b : Bool) → test y ≡ b → Tells (mem eq (filter test ys) x) ((mem eq ys x ≡ true) × (test x ≡ true)) → Tells (mem eq (cond b (y ∷ filter test ys) (filter test ys)) x) ((mem eq (y ∷ ys) x ≡ true) × (test x ≡ true))
+      go : (b : Bool) → test y ≡ b → Tells (mem eq (filter test ys) x) ((mem eq ys x ≡ true) × (test x ≡ true))
+          → Tells (mem eq (cond b (y ∷ filter test ys) (filter test ys)) x) ((mem eq (y ∷ ys) x ≡ true) × (test x ≡ true))
       go true e rest = like {P = (x ≡ y) ⊎ ((mem eq ys x ≡ true) × (test x ≡ true))}
           (λ s. ⊎_elim
           (λ i. (or_left (eq x y) (mem eq ys x) ((laws x y).passes i), subst (λ z. test z ≡ true) (sym i) e))
@@ -85,7 +87,8 @@ module _ {A : Type 0} (eq : A → A → Bool) (laws : (a b : A) → Tells (eq a 
   one_missing seen [] e = absurd (true≢false e)
   one_missing seen (x ∷ xs) e = go (one_missing seen xs) (mem eq seen x) refl e
     where
-      go : (list_all (mem eq seen) xs ≡ false → (y : A) × Contains xs y × (mem eq seen y ≡ false)) → (b : Bool) → mem eq seen x ≡ b → (b && list_all (mem eq seen) xs) ≡ false → (y : A) × Contains (x ∷ xs) y × (mem eq seen y ≡ false)
+      go : (list_all (mem eq seen) xs ≡ false → (y : A) × Contains xs y × (mem eq seen y ≡ false)) → (b : Bool)
+          → mem eq seen x ≡ b → (b && list_all (mem eq seen) xs) ≡ false → (y : A) × Contains (x ∷ xs) y × (mem eq seen y ≡ false)
       go rest true i f = let r = rest f in (r.0, Contains-there r.0 x xs r.1, r.2)
       go rest false i f = (x, Contains-here x xs, i)
 
@@ -139,13 +142,15 @@ module _ {A : Type 0} (eq : A → A → Bool) (laws : (a b : A) → Tells (eq a 
   fewer test more f [] = omega arith
   fewer test more f (x ∷ xs) = go (more x) (test x) refl refl (fewer test more f xs)
     where
-      go : (a b : Bool) → more x ≡ a → test x ≡ b → length (filter more xs) ≤ length (filter test xs) → length (cond a (x ∷ filter more xs) (filter more xs)) ≤ length (cond b (x ∷ filter test xs) (filter test xs))
+      go : (a b : Bool) → more x ≡ a → test x ≡ b → length (filter more xs) ≤ length (filter test xs)
+          → length (cond a (x ∷ filter more xs) (filter more xs)) ≤ length (cond b (x ∷ filter test xs) (filter test xs))
       go true true i j r = omega arith
       go true false i j r = absurd (true≢false (sym (f x i) ∙ j))
       go false true i j r = omega arith
       go false false i j r = r
 
-  pub one_fewer : (test more : A → Bool) → ((x : A) → more x ≡ true → test x ≡ true) → (xs : List A) (y : A) → Contains xs y → test y ≡ true → more y ≡ false → length (filter more xs) < length (filter test xs)
+  pub one_fewer : (test more : A → Bool) → ((x : A) → more x ≡ true → test x ≡ true) → (xs : List A) (y : A)
+      → Contains xs y → test y ≡ true → more y ≡ false → length (filter more xs) < length (filter test xs)
   one_fewer test more f [] y c t m = absurd (Contains-nil y c)
   one_fewer test more f (x ∷ xs) y c t m = ⊎_elim
       (λ e. here (more x) (test x) (subst (λ z. more z ≡ false) (sym e) m) (subst (λ z. test z ≡ true) (sym e) t))
@@ -157,7 +162,8 @@ module _ {A : Type 0} (eq : A → A → Bool) (laws : (a b : A) → Tells (eq a 
       here false true i j = let l = fewer test more f xs in omega arith
       here false false i j = absurd (false≢true j)
 
-      there : (a b : Bool) → more x ≡ a → test x ≡ b → length (filter more xs) < length (filter test xs) → length (cond a (x ∷ filter more xs) (filter more xs)) < length (cond b (x ∷ filter test xs) (filter test xs))
+      there : (a b : Bool) → more x ≡ a → test x ≡ b → length (filter more xs) < length (filter test xs)
+          → length (cond a (x ∷ filter more xs) (filter more xs)) < length (cond b (x ∷ filter test xs) (filter test xs))
       there true true i j r = omega arith
       there true false i j r = absurd (true≢false (sym (f x i) ∙ j))
       there false true i j r = omega arith
@@ -182,7 +188,8 @@ module _ {A : Type 0} (eq : A → A → Bool) (laws : (a b : A) → Tells (eq a 
         (ap not m.2) (ap not ((member (round seen) m.0).passes (with_all_has seen (flat_map next seen) m.0 m.1)))
       where
         keeps : (x : A) → is_outside (round seen) x ≡ true → is_outside seen x ≡ true
-        keeps x o = not-from (mem eq seen x) (λ i. true≢false (sym ((member (round seen) x).passes (with_all_keeps seen (flat_map next seen) x ((member seen x).holds i))) ∙ not-true (mem eq (round seen) x) o))
+        keeps x o = not-from (mem eq seen x) (λ i. true≢false (sym ((member (round seen) x).passes (with_all_keeps seen (flat_map next seen) x ((member seen x).holds i)))
+            ∙ not-true (mem eq (round seen) x) o))
 
     stays : (n : ℕ) (seen : List A) → is_closed seen ≡ true → reach eq next n seen ≡ seen
     stays zero seen e = refl
@@ -208,7 +215,8 @@ module _ {A : Type 0} (eq : A → A → Bool) (laws : (a b : A) → Tells (eq a 
     reach_keeps_first (suc n) seen x c = reach_keeps_first n (round seen) x (with_all_keeps seen (flat_map next seen) x c)
 
     -- what holds of a list, and with each row of the next ones, holds of what is reached
-    reach_keeps : (P : A → Type 0) → ((x y : A) → P x → mem eq (next x) y ≡ true → P y) → (n : ℕ) (seen : List A) → ((y : A) → Contains seen y → P y) → (y : A) → Contains (reach eq next n seen) y → P y
+    reach_keeps : (P : A → Type 0) → ((x y : A) → P x → mem eq (next x) y ≡ true → P y) → (n : ℕ) (seen : List A)
+        → ((y : A) → Contains seen y → P y) → (y : A) → Contains (reach eq next n seen) y → P y
     reach_keeps P step zero seen base y c = base y c
     reach_keeps P step (suc n) seen base y c = reach_keeps P step n (round seen)
         (λ z d. ⊎_elim (base z)
@@ -236,7 +244,8 @@ module _ {A : Type 0} (eq : A → A → Bool) (laws : (a b : A) → Tells (eq a 
         (reached (λ z. z ≡ x) edge (x ∷ []) (λ z. like (λ s. ⊎_elim (λ e. e) (λ e. absurd e) s) (λ e. inl e) (or2 (laws z x) (never {P = ⊥} (λ e. e)))) to y)
 
   -- exactly what passes a test
-  pub exactly : (rows : List A) (test : A → Bool) (P : A → Type 0) (xs : List A) → ((x : A) → Tells (test x) (P x)) → ((x : A) → P x → mem eq rows x ≡ true) → Tells (is_exactly eq rows test xs) ((x : A) → Contains xs x ↔ P x)
+  pub exactly : (rows : List A) (test : A → Bool) (P : A → Type 0) (xs : List A) → ((x : A) → Tells (test x) (P x))
+      → ((x : A) → P x → mem eq rows x ≡ true) → Tells (is_exactly eq rows test xs) ((x : A) → Contains xs x ↔ P x)
   exactly rows test P xs t within = like {P = ((x : A) → Contains xs x → P x) × ((x : A) → mem eq rows x ≡ true → P x → Contains xs x)}
       (λ p x. (p.0 x, λ q. p.1 x (within x q) q))
       (λ f. (λ x c. (f x).0 c, λ x i q. (f x).1 q))
@@ -254,7 +263,8 @@ pub rising : (xs : List ℕ) → Tells (rises xs) (Rises xs)
 rising [] = always tt
 rising (x ∷ xs) = and2 (all xs (nat_lt x) (λ y. x < y) (less x)) (rising xs)
 
-pub rising_exactly : (rows : List ℕ) (test : ℕ → Bool) (P : ℕ → Type 0) (xs : List ℕ) → ((x : ℕ) → Tells (test x) (P x)) → ((x : ℕ) → P x → mem nat_eq rows x ≡ true) → Tells (rises_exactly rows test xs) (Rises xs × ((x : ℕ) → Contains xs x ↔ P x))
+pub rising_exactly : (rows : List ℕ) (test : ℕ → Bool) (P : ℕ → Type 0) (xs : List ℕ) → ((x : ℕ) → Tells (test x) (P x))
+    → ((x : ℕ) → P x → mem nat_eq rows x ≡ true) → Tells (rises_exactly rows test xs) (Rises xs × ((x : ℕ) → Contains xs x ↔ P x))
 rising_exactly rows test P xs t within = and2 (rising xs) (exactly nat_eq same rows test P xs t within)
 
 -- numbers that are counted

@@ -16,11 +16,14 @@ use Rattle.joint_machine.specs.LinkedHistories.{linked_end, managed_end, IsLinke
 use Rattle.joint_machine.specs.Managed.{Managed, read_cell}
 use Rattle.joint_machine.specs.PeerReplay.{is_thread}
 use Rattle.joint_machine.specs.Lines.{is_read}
-use Rattle.joint_machine.specs.Readers.{is_managed_entry, ReadsCell, SetsCell, FreesObject, IsManagedAt, SnapsCycleAt, EndsCycleAt, SetsCellAt, IsCallersAt, FreesObjectAt, HasKnownFrom, MayBePending, MayBeUnset, IsReadReply, ReaderMayCome, EntryMayCome, entry_after, AllMayComeReading}
+use Rattle.joint_machine.specs.Readers.{is_managed_entry, ReadsCell, SetsCell, FreesObject, IsManagedAt, SnapsCycleAt, EndsCycleAt, SetsCellAt, IsCallersAt, FreesObjectAt, HasKnownFrom, MayBePending}
+use Rattle.joint_machine.specs.Readers.{MayBeUnset, IsReadReply, ReaderMayCome, EntryMayCome, entry_after, AllMayComeReading}
 use Rattle.joint_machine.specs.Run.{thread_number}
 use Rattle.joint_machine.specs.Told.{Told, nothing, snap_of, resolution_of, Noted}
 use Rattle.computed_histories.specs.Lists.{implies}
-use Rattle.computed_histories.specs.Readings.{places, snaps_cycle, ends_cycle, sets_cell, frees_object, is_managed_at, snaps_cycle_at, ends_cycle_at, sets_cell_at, is_callers_at, frees_object_at, is_known_from, is_later_known, may_be_pending, may_be_unset, is_read_reply, reads_rightly, is_bare, reader_may_come, entry_may_come, all_may_come_reading, finished_of, is_linked, PendingIsTested, UnsetIsTested, ReadingIsTested, LinkedIsTested, LinkedHasQueued}
+use Rattle.computed_histories.specs.Readings.{places, snaps_cycle, ends_cycle, sets_cell, frees_object, is_managed_at, snaps_cycle_at, ends_cycle_at, sets_cell_at, is_callers_at, frees_object_at}
+use Rattle.computed_histories.specs.Readings.{is_known_from, is_later_known, may_be_pending, may_be_unset, is_read_reply, reads_rightly, is_bare, reader_may_come, entry_may_come, all_may_come_reading}
+use Rattle.computed_histories.specs.Readings.{finished_of, is_linked, PendingIsTested, UnsetIsTested, ReadingIsTested, LinkedIsTested, LinkedHasQueued}
 use Rattle.computed_histories.specs.Replies.{same_reply}
 use Rattle.computed_histories.proofs.Telling.{Tells, tested, always, never, like, isn't, and2, and3, and5, same, less, upto, empty, that, implied, is_true}
 use Rattle.computed_histories.proofs.Reaching.{all_in, any_in, member, counted}
@@ -103,14 +106,16 @@ frees_at ns i m = like (λ p. record { entry = p.0; there = p.1; frees = p.2 }) 
 -- what the caller knows
 known_from : (ns : List Noted) (t : Thread) (i j : ℕ) → Tells (is_known_from ns t i j) (HasKnownFrom ns t i j)
 known_from ns t i j = like (λ p. (p.0, p.1.0, p.1.1, p.1.2)) (λ r. (r.0, (r.1, r.2, r.3)))
-    (some_place ns (λ x. nat_le j x && nat_lt x i && is_callers_at ns x t) (λ x. (j ≤ x) × (x < i) × IsCallersAt ns x t) (λ x. and3 (upto j x) (less x i) (callers_at ns x t)) (λ x p. in_places ns x p.2.entry p.2.there))
+    (some_place ns (λ x. nat_le j x && nat_lt x i && is_callers_at ns x t) (λ x. (j ≤ x) × (x < i) × IsCallersAt ns x t)
+    (λ x. and3 (upto j x) (less x i) (callers_at ns x t)) (λ x p. in_places ns x p.2.entry p.2.there))
 
 abbrev IsLaterKnown : List Noted → Thread → ℕ → ℕ → Type 0
 IsLaterKnown ns t i from = (j : ℕ) × (from < j) × IsManagedAt ns j × HasKnownFrom ns t i j
 
 later_known : (ns : List Noted) (t : Thread) (i from : ℕ) → Tells (is_later_known ns t i from) (IsLaterKnown ns t i from)
 later_known ns t i from = like (λ p. (p.0, p.1.0, p.1.1, p.1.2)) (λ r. (r.0, (r.1, r.2, r.3)))
-    (some_place ns (λ j. nat_lt from j && is_managed_at ns j && is_known_from ns t i j) (λ j. (from < j) × IsManagedAt ns j × HasKnownFrom ns t i j) (λ j. and3 (less from j) (managed_at ns j) (known_from ns t i j))
+    (some_place ns (λ j. nat_lt from j && is_managed_at ns j && is_known_from ns t i j)
+    (λ j. (from < j) × IsManagedAt ns j × HasKnownFrom ns t i j) (λ j. and3 (less from j) (managed_at ns j) (known_from ns t i j))
     (λ j p. in_places ns j p.1.entry p.1.there))
 
 -- pending
@@ -121,9 +126,11 @@ pending ns i t k = like
     (and2
     (some_place ns (λ snap. snaps_cycle_at ns snap k && list_all (λ j. implies (nat_lt j snap && is_managed_at ns j) (nat_lt j i)) (places ns))
     (λ snap. SnapsCycleAt ns snap k × ((j : ℕ) → Contains (places ns) j → (j < snap) × IsManagedAt ns j → j < i))
-    (λ snap. and2 (snaps_at ns snap k) (all_in (places ns) (λ j. implies (nat_lt j snap && is_managed_at ns j) (nat_lt j i)) (λ j. (j < snap) × IsManagedAt ns j → j < i) (λ j. implied (and2 (less j snap) (managed_at ns j)) (less j i))))
+    (λ snap. and2 (snaps_at ns snap k) (all_in (places ns) (λ j. implies (nat_lt j snap && is_managed_at ns j) (nat_lt j i))
+    (λ j. (j < snap) × IsManagedAt ns j → j < i) (λ j. implied (and2 (less j snap) (managed_at ns j)) (less j i))))
     (λ snap p. in_places ns snap p.0.entry p.0.there))
-    (isn't (some_place ns (λ end. ends_cycle_at ns end k && is_later_known ns t i end) (λ end. EndsCycleAt ns end k × IsLaterKnown ns t i end) (λ end. and2 (ends_at ns end k) (later_known ns t i end)) (λ end p. in_places ns end p.0.entry p.0.there))))
+    (isn't (some_place ns (λ end. ends_cycle_at ns end k && is_later_known ns t i end) (λ end. EndsCycleAt ns end k × IsLaterKnown ns t i end)
+    (λ end. and2 (ends_at ns end k) (later_known ns t i end)) (λ end p. in_places ns end p.0.entry p.0.there))))
 
 -- unset
 pub unset : (ns : List Noted) (cells : List (Option ℕ)) (i : ℕ) (t : Thread) (k : ℕ) → Tells (may_be_unset ns cells i t k) (MayBeUnset ns cells i t k)
@@ -131,8 +138,10 @@ unset ns cells i t k = like
     (λ p. record { unknown = λ set j s l m h. p.0 (set, (s, (j, l, m, h))); not_own = λ set s b c. p.1 (set, (s, b, c)); target_unfreed = λ m j e f l. p.2 (m, e, (j, (f, l))) })
     (λ r. (λ q. r.unknown q.0 q.1.1.0 q.1.0 q.1.1.1 q.1.1.2 q.1.1.3, λ q. r.not_own q.0 q.1.0 q.1.1 q.1.2, λ q. r.target_unfreed q.0 q.2.0 q.1 q.2.1.0 q.2.1.1))
     (and3
-    (isn't (some_place ns (λ set. sets_cell_at ns set k && is_later_known ns t i set) (λ set. SetsCellAt ns set k × IsLaterKnown ns t i set) (λ set. and2 (sets_at ns set k) (later_known ns t i set)) (λ set p. in_places ns set p.0.entry p.0.there)))
-    (isn't (some_place ns (λ set. sets_cell_at ns set k && nat_lt set i && is_callers_at ns set t) (λ set. SetsCellAt ns set k × (set < i) × IsCallersAt ns set t) (λ set. and3 (sets_at ns set k) (less set i) (callers_at ns set t)) (λ set p. in_places ns set p.0.entry p.0.there)))
+    (isn't (some_place ns (λ set. sets_cell_at ns set k && is_later_known ns t i set) (λ set. SetsCellAt ns set k × IsLaterKnown ns t i set)
+    (λ set. and2 (sets_at ns set k) (later_known ns t i set)) (λ set p. in_places ns set p.0.entry p.0.there)))
+    (isn't (some_place ns (λ set. sets_cell_at ns set k && nat_lt set i && is_callers_at ns set t) (λ set. SetsCellAt ns set k × (set < i) × IsCallersAt ns set t)
+    (λ set. and3 (sets_at ns set k) (less set i) (callers_at ns set t)) (λ set p. in_places ns set p.0.entry p.0.there)))
     (isn't (that (slot cells k) (λ m. list_any (λ j. frees_object_at ns j m && nat_lt j i) (places ns)) (λ m. (j : ℕ) × (FreesObjectAt ns j m × (j < i)))
     (λ m. some_place ns (λ j. frees_object_at ns j m && nat_lt j i) (λ j. FreesObjectAt ns j m × (j < i)) (λ j. and2 (frees_at ns j m) (less j i)) (λ j p. in_places ns j p.0.entry p.0.there)))))
 
@@ -142,7 +151,8 @@ read_reply ns cells s i t k (says.Pending c) = and2 (empty (slot s.pins (thread_
 read_reply ns cells s i t k says.Unset = and2 (empty (slot s.pins (thread_number t))) (unset ns cells i t k)
 read_reply ns cells s i t k reply = replies reply (read_cell s (thread_number t) k).reply
 
-rightly : (ns : List Noted) (cells : List (Option ℕ)) (s : Managed) (i : ℕ) (t : Thread) (o : Op) (reply : Reply) → Tells (reads_rightly ns cells s i t o reply) ((k : ℕ) → ReadsCell o k → IsReadReply ns cells s i t k reply)
+rightly : (ns : List Noted) (cells : List (Option ℕ)) (s : Managed) (i : ℕ) (t : Thread) (o : Op) (reply : Reply)
+    → Tells (reads_rightly ns cells s i t o reply) ((k : ℕ) → ReadsCell o k → IsReadReply ns cells s i t k reply)
 rightly ns cells s i t (op.Line (act.Read c)) reply = like (λ p k e. subst (λ x. IsReadReply ns cells s i t x reply) e p) (λ f. f c.0 refl) (read_reply ns cells s i t c.0 reply)
 rightly ns cells s i t (op.Line (act.Await c)) reply = like (λ p k e. subst (λ x. IsReadReply ns cells s i t x reply) e p) (λ f. f c.0 refl) (read_reply ns cells s i t c.0 reply)
 rightly ns cells s i t _ reply = always (λ k e. absurd e)

@@ -85,7 +85,8 @@ reply_found (says.Renewed h) (says.Renewed h') e = λ i. says.Renewed (record { 
 reply_found (says.New m) (says.New m') e = λ i. says.New (record { 0 = ((same m.0 m'.0).holds e) i })
 reply_found (says.Twin m) (says.Twin m') e = λ i. says.Twin (record { 0 = ((same m.0 m'.0).holds e) i })
 reply_found (says.Made p h) (says.Made p' h') e = let r = (and2 (same p.0 p'.0) (same h.0 h'.0)).holds e in λ i. says.Made (record { 0 = r.0 i }) (record { 0 = r.1 i })
-reply_found (says.Gripped p h sort n) (says.Gripped p' h' sort' n') e = let r = (and4 (same p.0 p'.0) (same h.0 h'.0) (sorts sort sort') (same n n')).holds e in λ i. says.Gripped (record { 0 = r.0 i }) (record { 0 = r.1 i }) (r.2 i) (r.3 i)
+reply_found (says.Gripped p h sort n) (says.Gripped p' h' sort' n') e = let r = (and4 (same p.0 p'.0) (same h.0 h'.0) (sorts sort sort') (same n n')).holds e in
+    λ i. says.Gripped (record { 0 = r.0 i }) (record { 0 = r.1 i }) (r.2 i) (r.3 i)
 reply_found (says.Pending k) (says.Pending k') e = λ i. says.Pending (record { 0 = ((same k.0 k'.0).holds e) i })
 reply_found (says.Pinned m) (says.Pinned m') e = λ i. says.Pinned (record { 0 = ((same m.0 m'.0).holds e) i })
 reply_found (says.Mark j) (says.Mark j') e = λ i. says.Mark (record { 0 = ((same j.0 j'.0).holds e) i })

@@ -9,7 +9,8 @@ use Rattle.joint_machine.specs.Managed.{Managed, IsBridge, IsManagedRoot, Manage
 use Rattle.joint_machine.specs.Told.{Answer, said_alive, said_cleared}
 use Rattle.joint_machine.specs.Walks.{Reaches, Reached}
 use Rattle.computed_histories.specs.Lists.{mem, has, somes}
-use Rattle.computed_histories.specs.Rows.{is_live, all_rows, heap_next, slot_rows, field_reach, managed_roots, has_handle, is_bridge, bridge_rows, slot_reach, bridge_reach, is_surveyed, is_snapshot, is_resolution, answered_alive}
+use Rattle.computed_histories.specs.Rows.{is_live, all_rows, heap_next, slot_rows, field_reach, managed_roots, has_handle, is_bridge, bridge_rows, slot_reach, bridge_reach, is_surveyed, is_snapshot}
+use Rattle.computed_histories.specs.Rows.{is_resolution, answered_alive}
 use Rattle.computed_histories.proofs.Telling.{Tells, always, never, like, isn't, and2, and3, or2, same, upto, empty}
 use Rattle.computed_histories.proofs.Reaching.{member, member_append, member_filter, filtered, where_it_holds, reached, counted, in_somes, rising_exactly}
 
@@ -50,7 +51,8 @@ bridge s m = like {P = IsLive s.heap m × ((h : ℕ) × (numbered_at s.held m �
 pub bridge_row : (s : Managed) (m : ℕ) → Tells (mem nat_eq (bridge_rows s) m) (IsBridge s m)
 bridge_row s m = like (λ p. (bridge s m).holds p.1) (λ b. (live_row s.heap m b.1.live, (bridge s m).passes b)) (member_filter nat_eq same (is_bridge s) (all_rows s.heap) m)
 
-pub field_reached : (s : Managed) (start : ℕ → Type 0) (roots : List ℕ) → ((m : ℕ) → Tells (mem nat_eq roots m) (start m)) → (m : ℕ) → Tells (has (field_reach s.heap roots) m) (Reached start (ManagedEdge s) m)
+pub field_reached : (s : Managed) (start : ℕ → Type 0) (roots : List ℕ) → ((m : ℕ) → Tells (mem nat_eq roots m) (start m))
+    → (m : ℕ) → Tells (has (field_reach s.heap roots) m) (Reached start (ManagedEdge s) m)
 field_reached s start roots from m = reached nat_eq same (heap_next s.heap) (all_rows s.heap) (field_inside s.heap) start (ManagedEdge s) roots from (field s.heap) m
 
 pub slot_reached : (s : Managed) (m : ℕ) → Tells (has (slot_reach s) m) (IsManagedReached s m)
@@ -80,7 +82,8 @@ snapshot s k freed candidates dead = like
     (and3 (empty s.cycle) (same k (s.cycles + 1)) (surveyed s (slot_reach s) (bridge_reach s) freed candidates dead (slot_reached s) (bridge_reached s)))
 
 -- a resolution
-pub resolution : (s : Managed) (dead : List ℕ) (kept : ℕ → Type 0) (rows freed : List ℕ) → ((m : ℕ) → Tells (mem nat_eq rows m) (kept m)) → Tells (is_resolution s dead rows freed) (IsResolution s dead kept freed)
+pub resolution : (s : Managed) (dead : List ℕ) (kept : ℕ → Type 0) (rows freed : List ℕ)
+    → ((m : ℕ) → Tells (mem nat_eq rows m) (kept m)) → Tells (is_resolution s dead rows freed) (IsResolution s dead kept freed)
 resolution s dead kept rows freed from = like
     (λ p. record { rise = p.0; frees = p.1 })
     (λ r. (r.rise, r.frees))
@@ -94,7 +97,8 @@ answered_there [] answers m i h p q = cc
 answered_there (c ∷ cs) [] m i h p q = cc
 answered_there (c ∷ cs) (said_alive g ∷ answers) m zero h p q = let e : m ≡ c = cc in (or2 (same m c) (member nat_eq same (answered_alive cs answers) m)).passes (inl e)
 answered_there (c ∷ cs) (said_cleared ∷ answers) m zero h p q = cc
-answered_there (c ∷ cs) (said_alive g ∷ answers) m (suc i) h p q = (or2 (same m c) (member nat_eq same (answered_alive cs answers) m)).passes (inr ((member nat_eq same (answered_alive cs answers) m).holds (answered_there cs answers m i h p q)))
+answered_there (c ∷ cs) (said_alive g ∷ answers) m (suc i) h p q = (or2 (same m c) (member nat_eq same (answered_alive cs answers) m)).passes
+    (inr ((member nat_eq same (answered_alive cs answers) m).holds (answered_there cs answers m i h p q)))
 answered_there (c ∷ cs) (said_cleared ∷ answers) m (suc i) h p q = answered_there cs answers m i h p q
 
 answered_from : (cs : List ℕ) (answers : List Answer) (m : ℕ) → mem nat_eq (answered_alive cs answers) m ≡ true → IsAnsweredAlive cs answers m

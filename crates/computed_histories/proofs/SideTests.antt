@@ -21,7 +21,8 @@ use Rattle.computed_histories.specs.Contractions.{is_contraction, dead_graph}
 use Rattle.computed_histories.specs.Lists.{has, same_number, is_empty}
 use Rattle.computed_histories.specs.Replies.{same_phase}
 use Rattle.computed_histories.specs.Rows.{is_resolution, answered_alive}
-use Rattle.computed_histories.specs.Sides.{is_open, may_contract, are_new, may_resolve, may_refuse, managed_allows, is_held_handle, may_mirror, may_weaken, may_restore, may_clear, may_release_held, slice_allows, sweep_allows, peer_allows}
+use Rattle.computed_histories.specs.Sides.{is_open, may_contract, are_new, may_resolve, may_refuse, managed_allows, is_held_handle, may_mirror, may_weaken, may_restore, may_clear, may_release_held}
+use Rattle.computed_histories.specs.Sides.{slice_allows, sweep_allows, peer_allows}
 use Rattle.computed_histories.proofs.Telling.{Tells, always, never, like, isn't, and2, and3, or2, same, same_numbers, empty, that, is_false, all}
 use Rattle.computed_histories.proofs.Reaching.{member}
 use Rattle.computed_histories.proofs.ReplyTests.{phases}
@@ -36,7 +37,8 @@ opened s k test Q t = like (λ p. (p.0, (p.1, p.2.0), p.2.1)) (λ p. (p.0, p.1.0
 
 contracts : (s : ManagedReplay) (k : ℕ) (comps : List (List ℕ)) (heavy : List ℕ) (xrefs : List (ℕ × ℕ)) → Tells (may_contract s k comps heavy xrefs) (MayContract s k comps heavy xrefs)
 contracts s k comps heavy xrefs = like (λ p. record { cycle = p.0.0; open_cycle = p.0.1; once = p.1; exact = p.0.2 }) (λ r. ((r.cycle, r.open_cycle, r.exact), r.once))
-    (and2 (opened s.managed k (λ c. is_contraction (dead_graph s.managed c.dead) comps heavy xrefs) (λ c. IsDeadContraction s.managed c.dead comps heavy xrefs) (λ c. dead_contraction s.managed c.dead comps heavy xrefs)) (is_false s.contracted))
+    (and2 (opened s.managed k (λ c. is_contraction (dead_graph s.managed c.dead) comps heavy xrefs)
+    (λ c. IsDeadContraction s.managed c.dead comps heavy xrefs) (λ c. dead_contraction s.managed c.dead comps heavy xrefs)) (is_false s.contracted))
 
 news : (taken hs : List ℕ) → Tells (are_new taken hs) (AreNew taken hs)
 news taken [] = always tt
@@ -46,7 +48,8 @@ resolves : (s : ManagedReplay) (k : ℕ) (given : List Answer) (freed : List ℕ
 resolves s k given freed = like (λ p. record { cycle = p.0; open_cycle = p.1; answers = p.2.0; new = p.2.1; resolution = p.2.2 }) (λ r. (r.cycle, r.open_cycle, (r.answers, r.new, r.resolution)))
     (opened s.managed k (λ c. nat_eq (length given) (length c.candidates) && are_new s.adopted (handles_given given) && is_resolution s.managed c.dead (answered_alive c.candidates given) freed)
     (λ c. (length given ≡ length c.candidates) × AreNew s.adopted (handles_given given) × IsResolution s.managed c.dead (IsAnsweredAlive c.candidates given) freed)
-    (λ c. and3 (same (length given) (length c.candidates)) (news s.adopted (handles_given given)) (resolution s.managed c.dead (IsAnsweredAlive c.candidates given) (answered_alive c.candidates given) freed (answered c.candidates given))))
+    (λ c. and3 (same (length given) (length c.candidates)) (news s.adopted (handles_given given))
+    (resolution s.managed c.dead (IsAnsweredAlive c.candidates given) (answered_alive c.candidates given) freed (answered c.candidates given))))
 
 refuses : (s : ManagedReplay) (w : PhaseWord) (phase : Phase) → Tells (may_refuse s w phase) (MayRefuse s w phase)
 refuses s w phase = like (λ p. record { refused = p.0; idle = p.1 }) (λ r. (r.refused, r.idle))
@@ -61,7 +64,8 @@ managed s (op.Give v) nothing = always tt
 managed s (op.Snap k) (snap_of freed candidates dead) = snapshot s.managed k.0 freed candidates dead
 managed s (op.Contract k) (contraction_of comps heavy xrefs) = contracts s k.0 comps heavy xrefs
 managed s (op.Resolve k) (resolution_of given freed) = resolves s k.0 given freed
-managed s (op.Abandon k) nothing = like {P = (c : OpenCycle) × IsOpen s.managed k.0 c × Unit {0}} (λ p. (p.0, p.1)) (λ p. (p.0, p.1, tt)) (opened s.managed k.0 (λ c. true) (λ c. Unit {0}) (λ c. always tt))
+managed s (op.Abandon k) nothing = like {P = (c : OpenCycle) × IsOpen s.managed k.0 c × Unit {0}}
+    (λ p. (p.0, p.1)) (λ p. (p.0, p.1, tt)) (opened s.managed k.0 (λ c. true) (λ c. Unit {0}) (λ c. always tt))
 managed s (op.Refused w) (phase_of phase) = refuses s w phase
 managed s _ _ = never (λ z. z)
 
@@ -101,7 +105,8 @@ restores : (s : PeerReplay) (h : ℕ) → Tells (may_restore s h) (MayRestore s 
 restores s h = like
     (λ p. record { mirror = p.0.0; stands = p.0.1; weakened = p.0.2.0; waiting = p.0.2.1; row = p.1.0; tabled = p.1.1 })
     (λ r. ((r.mirror, r.stands, (r.weakened, r.waiting)), (r.row, r.tabled, tt)))
-    (and2 (that s.mirror (λ m. has m.weakened h && not (has m.restored h)) (λ m. Contains m.weakened h × (Contains m.restored h → ⊥)) (λ m. and2 (member nat_eq same m.weakened h) (isn't (member nat_eq same m.restored h))))
+    (and2 (that s.mirror (λ m. has m.weakened h && not (has m.restored h)) (λ m. Contains m.weakened h × (Contains m.restored h → ⊥))
+    (λ m. and2 (member nat_eq same m.weakened h) (isn't (member nat_eq same m.restored h))))
     (that (row_of s h) (λ r. true) (λ r. Unit {0}) (λ r. always tt)))
 
 pub clears : (s : PeerReplay) (k : ℕ) → Tells (may_clear s k) (MayClear s k)

@@ -9,7 +9,8 @@ use Rattle.joint_machine.specs.Managed.{Managed, OpenCycle}
 use Rattle.joint_machine.specs.Peers.{Peers, Issued, Hold, held, raw, Strength, strong, weak}
 use Rattle.computed_histories.specs.Lists.{same_list, same_number}
 use Rattle.computed_histories.specs.Replies.{same_sort, same_answer}
-use Rattle.computed_histories.specs.States.{same_option, same_truth, same_kind, same_hold, same_strength, same_heap, same_cycle, same_managed, same_issued, same_peers, same_graph, same_marking, same_joint, StatesAreTested}
+use Rattle.computed_histories.specs.States.{same_option, same_truth, same_kind, same_hold, same_strength, same_heap, same_cycle, same_managed, same_issued, same_peers, same_graph, same_marking}
+use Rattle.computed_histories.specs.States.{same_joint, StatesAreTested}
 use Rattle.computed_histories.proofs.Telling.{Tells, tested, always, never, like, and2, and3, and4, and5, equal, same, same_numbers, same_lists}
 use Rattle.computed_histories.proofs.ReplyTests.{sorts, answers}
 use Rattle.computed_histories.proofs.SideTests.{threads}
@@ -61,7 +62,8 @@ heaps : (a b : Heap) → Tells (same_heap a b) (a ≡ b)
 heaps a b = like {P = (a.fields ≡ b.fields) × (a.freed ≡ b.freed) × (a.vars ≡ b.vars) × (a.statics ≡ b.statics)}
     (λ e i. record { fields = e.0 i; freed = e.1 i; vars = e.2 i; statics = e.3 i })
     (λ e. (ap (λ (x : Heap). x.fields) e, ap (λ (x : Heap). x.freed) e, ap (λ (x : Heap). x.vars) e, ap (λ (x : Heap). x.statics) e))
-    (and4 (same_lists (same_list same_number) (same_lists same_number same_numbers) a.fields b.fields) (same_lists nat_eq same a.freed b.freed) (same_lists same_number same_numbers a.vars b.vars) (same_lists same_number same_numbers a.statics b.statics))
+    (and4 (same_lists (same_list same_number) (same_lists same_number same_numbers) a.fields b.fields) (same_lists nat_eq same a.freed b.freed)
+    (same_lists same_number same_numbers a.vars b.vars) (same_lists same_number same_numbers a.statics b.statics))
 
 cycles : (a b : OpenCycle) → Tells (same_cycle a b) (a ≡ b)
 cycles a b = like {P = (a.number ≡ b.number) × (a.candidates ≡ b.candidates) × (a.dead ≡ b.dead)}
@@ -70,10 +72,35 @@ cycles a b = like {P = (a.number ≡ b.number) × (a.candidates ≡ b.candidates
     (and3 (same a.number b.number) (same_lists nat_eq same a.candidates b.candidates) (same_lists nat_eq same a.dead b.dead))
 
 manageds : (a b : Managed) → Tells (same_managed a b) (a ≡ b)
-manageds a b = like {P = (((((((((a.heap ≡ b.heap) × (a.kinds ≡ b.kinds)) × (a.held ≡ b.held)) × (a.pins ≡ b.pins)) × (a.cells ≡ b.cells)) × (a.notices ≡ b.notices)) × (a.taken ≡ b.taken)) × (a.cycle ≡ b.cycle)) × (a.cycles ≡ b.cycles))}
-    (λ e i. record { heap = e.0.0.0.0.0.0.0.0 i; kinds = e.0.0.0.0.0.0.0.1 i; held = e.0.0.0.0.0.0.1 i; pins = e.0.0.0.0.0.1 i; cells = e.0.0.0.0.1 i; notices = e.0.0.0.1 i; taken = e.0.0.1 i; cycle = e.0.1 i; cycles = e.1 i })
-    (λ e. ((((((((ap (λ (x : Managed). x.heap) e, ap (λ (x : Managed). x.kinds) e), ap (λ (x : Managed). x.held) e), ap (λ (x : Managed). x.pins) e), ap (λ (x : Managed). x.cells) e), ap (λ (x : Managed). x.notices) e), ap (λ (x : Managed). x.taken) e), ap (λ (x : Managed). x.cycle) e), ap (λ (x : Managed). x.cycles) e))
-    (and2 (and2 (and2 (and2 (and2 (and2 (and2 (and2 (heaps a.heap b.heap) (same_lists same_kind kinds a.kinds b.kinds)) (same_lists same_number same_numbers a.held b.held)) (same_lists same_number same_numbers a.pins b.pins)) (same_lists same_number same_numbers a.cells b.cells)) (same_lists nat_eq same a.notices b.notices)) (same a.taken b.taken)) (options same_cycle cycles a.cycle b.cycle)) (same a.cycles b.cycles))
+manageds a b = like {P = (((((((((a.heap ≡ b.heap) × (a.kinds ≡ b.kinds)) × (a.held ≡ b.held)) × (a.pins ≡ b.pins)) × (a.cells ≡ b.cells)) × (a.notices ≡ b.notices)) × (a.taken ≡ b.taken))
+    × (a.cycle ≡ b.cycle)) × (a.cycles ≡ b.cycles))}
+    (λ e i. record {
+      heap = e.0.0.0.0.0.0.0.0 i;
+      kinds = e.0.0.0.0.0.0.0.1 i;
+      held = e.0.0.0.0.0.0.1 i;
+      pins = e.0.0.0.0.0.1 i;
+      cells = e.0.0.0.0.1 i;
+      notices = e.0.0.0.1 i;
+      taken = e.0.0.1 i;
+      cycle = e.0.1 i;
+      cycles = e.1 i;
+    })
+    (λ e. (
+      (
+        (
+          (
+            ((((ap (λ (x : Managed). x.heap) e, ap (λ (x : Managed). x.kinds) e), ap (λ (x : Managed). x.held) e), ap (λ (x : Managed). x.pins) e), ap (λ (x : Managed). x.cells) e),
+            ap (λ (x : Managed). x.notices) e,
+          ),
+          ap (λ (x : Managed). x.taken) e,
+        ),
+        ap (λ (x : Managed). x.cycle) e,
+      ),
+      ap (λ (x : Managed). x.cycles) e,
+    ))
+    (and2 (and2 (and2 (and2 (and2 (and2 (and2 (and2 (heaps a.heap b.heap) (same_lists same_kind kinds a.kinds b.kinds)) (same_lists same_number same_numbers a.held b.held))
+    (same_lists same_number same_numbers a.pins b.pins)) (same_lists same_number same_numbers a.cells b.cells)) (same_lists nat_eq same a.notices b.notices)) (same a.taken b.taken))
+    (options same_cycle cycles a.cycle b.cycle)) (same a.cycles b.cycles))
 
 issueds : (a b : Issued) → Tells (same_issued a b) (a ≡ b)
 issueds a b = like {P = (a.peer ≡ b.peer) × (a.hold ≡ b.hold) × (a.strength ≡ b.strength)}
@@ -85,7 +112,8 @@ peerss : (a b : Peers) → Tells (same_peers a b) (a ≡ b)
 peerss a b = like {P = (a.heap ≡ b.heap) × (a.sorts ≡ b.sorts) × (a.names ≡ b.names) × (a.issued ≡ b.issued) × (a.made ≡ b.made)}
     (λ e i. record { heap = e.0 i; sorts = e.1 i; names = e.2 i; issued = e.3 i; made = e.4 i })
     (λ e. (ap (λ (x : Peers). x.heap) e, ap (λ (x : Peers). x.sorts) e, ap (λ (x : Peers). x.names) e, ap (λ (x : Peers). x.issued) e, ap (λ (x : Peers). x.made) e))
-    (and5 (heaps a.heap b.heap) (same_lists same_sort sorts a.sorts b.sorts) (same_lists same_number same_numbers a.names b.names) (same_lists same_issued issueds a.issued b.issued) (same a.made b.made))
+    (and5 (heaps a.heap b.heap) (same_lists same_sort sorts a.sorts b.sorts) (same_lists same_number same_numbers a.names b.names)
+    (same_lists same_issued issueds a.issued b.issued) (same a.made b.made))
 
 graphs : (a b : Graph) → Tells (same_graph a b) (a ≡ b)
 graphs a b = like {P = (a.managed ≡ b.managed) × (a.peers ≡ b.peers) × (a.removed ≡ b.removed)}
@@ -103,7 +131,8 @@ pub joints : (a b : Joint) → Tells (same_joint a b) (a ≡ b)
 joints a b = like {P = (a.graph ≡ b.graph) × (a.answers ≡ b.answers) × (a.marking ≡ b.marking) × (a.markings ≡ b.markings)}
     (λ e i. record { graph = e.0 i; answers = e.1 i; marking = e.2 i; markings = e.3 i })
     (λ e. (ap (λ (x : Joint). x.graph) e, ap (λ (x : Joint). x.answers) e, ap (λ (x : Joint). x.marking) e, ap (λ (x : Joint). x.markings) e))
-    (and4 (graphs a.graph b.graph) (same_lists (same_option same_answer) (options same_answer answers) a.answers b.answers) (options same_marking markings a.marking b.marking) (same a.markings b.markings))
+    (and4 (graphs a.graph b.graph) (same_lists (same_option same_answer) (options same_answer answers) a.answers b.answers)
+    (options same_marking markings a.marking b.marking) (same a.markings b.markings))
 
 -- as the contract states it
 pub states_tested : StatesAreTested

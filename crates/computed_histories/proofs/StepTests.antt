@@ -20,7 +20,8 @@ use Rattle.joint_machine.specs.Told.{Told, Answer, snap_of, sweep_of, resolution
 use Rattle.computed_histories.specs.Graphs.{joint_reach, is_reached, is_handle_here}
 use Rattle.computed_histories.specs.Lists.{mem, is_empty, somes}
 use Rattle.computed_histories.specs.Rows.{is_live, is_resolution}
-use Rattle.computed_histories.specs.Steps.{is_unfreed, holds_unfreed, kept_rows, joint_begun, joint_swept, restored_on, joint_stepped, may_free, may_sweep, is_candidates, may_renew, is_answered, is_computed, joint_allows, joint_after, may_step, all_may_step, joint_moments, StepsAreTested, RunsAreTested}
+use Rattle.computed_histories.specs.Steps.{is_unfreed, holds_unfreed, kept_rows, joint_begun, joint_swept, restored_on, joint_stepped, may_free, may_sweep, is_candidates, may_renew, is_answered}
+use Rattle.computed_histories.specs.Steps.{is_computed, joint_allows, joint_after, may_step, all_may_step, joint_moments, StepsAreTested, RunsAreTested}
 use Rattle.computed_histories.specs.Sides.{is_open}
 use Rattle.computed_histories.proofs.Telling.{Tells, always, never, like, isn't, and2, and3, or2, same, all, is_true, is_false, that, empty}
 use Rattle.computed_histories.proofs.Reaching.{any_in, member, filtered, rising}
@@ -38,7 +39,8 @@ unfreed : (g : Graph) (o : Option ℕ) → Tells (is_unfreed g o) ((p : ℕ) × 
 unfreed g None = never (λ q. let e = q.1 in cc)
 unfreed g (Some x) = like (λ n. (x, refl, n)) (λ q. subst (λ p. Contains g.peers.heap.freed p → ⊥) (inside x q.0 q.1) q.2) (isn't (member nat_eq same g.peers.heap.freed x))
 
-holds_an_unfreed : (g : Graph) (o : Option (Option ℕ)) → Tells (holds_unfreed g o) ((h : ℕ) × (o ≡ Some (Some h)) × ((p : ℕ) × (peer_of g.peers.issued h ≡ Some p) × (Contains g.peers.heap.freed p → ⊥)))
+holds_an_unfreed : (g : Graph) (o : Option (Option ℕ)) → Tells (holds_unfreed g o)
+    ((h : ℕ) × (o ≡ Some (Some h)) × ((p : ℕ) × (peer_of g.peers.issued h ≡ Some p) × (Contains g.peers.heap.freed p → ⊥)))
 holds_an_unfreed g None = never (λ q. let e = q.1 in cc)
 holds_an_unfreed g (Some None) = never (λ q. let e = q.1 in cc)
 holds_an_unfreed g (Some (Some h)) = like (λ r. (h, refl, r))
@@ -49,7 +51,8 @@ kept j c m = like
     (λ p. record { candidate = p.0; handle = p.1.1.0; holds = record { live = p.1.0; held = p.1.1.1 }; peer = p.1.1.2.0; leads = p.1.1.2.1; unfreed = p.1.1.2.2 })
     (λ k. (k.candidate, (k.holds.live, (k.handle, k.holds.held, (k.peer, k.leads, k.unfreed)))))
     (filtered nat_eq same (λ m. is_live j.graph.managed.heap m && holds_unfreed j.graph (numbered_at j.graph.managed.held m)) c.candidates m (Contains c.candidates m)
-    (IsLive j.graph.managed.heap m × ((h : ℕ) × (numbered_at j.graph.managed.held m ≡ Some (Some h)) × ((p : ℕ) × (peer_of j.graph.peers.issued h ≡ Some p) × (Contains j.graph.peers.heap.freed p → ⊥))))
+    (IsLive j.graph.managed.heap m × ((h : ℕ) × (numbered_at j.graph.managed.held m ≡ Some (Some h))
+    × ((p : ℕ) × (peer_of j.graph.peers.issued h ≡ Some p) × (Contains j.graph.peers.heap.freed p → ⊥))))
     (member nat_eq same c.candidates m) (and2 (live j.graph.managed.heap m) (holds_an_unfreed j.graph (numbered_at j.graph.managed.held m))))
 
 -- a begin
@@ -58,13 +61,15 @@ begins j None t reply e = record { replies = e; state = refl }
 begins j (Some m) t reply e = (e, refl)
 
 -- a sweep
-freeing : (j : Joint) (m : JointMarking) (freed : List ℕ) → Tells (may_free m (joint_reach m.begun) (joint_reach j.graph) freed) (Rises freed × All (IsStored m) freed × All (λ p. IsReached j (peer p) → ⊥) freed)
+freeing : (j : Joint) (m : JointMarking) (freed : List ℕ) → Tells (may_free m (joint_reach m.begun) (joint_reach j.graph) freed)
+    (Rises freed × All (IsStored m) freed × All (λ p. IsReached j (peer p) → ⊥) freed)
 freeing j m freed = and3 (rising freed)
     (all freed (λ p. is_live m.begun.peers.heap p && not (is_reached m.begun (peer p))) (IsStored m)
     (λ p. like (λ q. record { existed = q.0; unreached = q.1 }) (λ r. (r.existed, r.unreached)) (and2 (live m.begun.peers.heap p) (isn't (joint_reached m.begun (peer p))))))
     (all freed (λ p. not (is_reached j.graph (peer p))) (λ p. IsReached j (peer p) → ⊥) (λ p. isn't (joint_reached j.graph (peer p))))
 
-sweeps : (j : Joint) (o : Option JointMarking) (t : Thread) (reply : Reply) (told : Told) → may_sweep j o t told ≡ true → reply ≡ (joint_swept j o told).reply → JointSweep j o t reply told (joint_swept j o told).state
+sweeps : (j : Joint) (o : Option JointMarking) (t : Thread) (reply : Reply) (told : Told) → may_sweep j o t told ≡ true
+    → reply ≡ (joint_swept j o told).reply → JointSweep j o t reply told (joint_swept j o told).state
 sweeps j None t reply told e r = ((tells_peer_thread t).holds e, r, refl)
 sweeps j (Some m) t reply (sweep_of freed) e r = let p = (and2 (or2 (threads t C) (threads t m.by)) (freeing j m freed)).holds e in
     inl (record { allowed = p.0; rise = p.1.0; stored = p.1.1; unreached = p.1.2; replies = r; state = refl })
@@ -75,7 +80,8 @@ candidate : (j : Joint) (h : ℕ) (c : OpenCycle) → Tells (is_candidates j h c
 candidate j h c = any_in c.candidates (λ m. is_live j.graph.managed.heap m && is_handle_here (numbered_at j.graph.managed.held m) h) (λ m. Holds j.graph.managed m h)
     (λ m. like (λ p. record { live = p.0; held = p.1 }) (λ r. (r.live, r.held)) (and2 (live j.graph.managed.heap m) (handle_here (numbered_at j.graph.managed.held m) h)))
 
-renews : (j : Joint) (h : ℕ) (reply : Reply) → may_renew j h ≡ true → reply ≡ (restored_on j h (peer_of j.graph.peers.issued h)).reply → JointRestore j h reply (restored_on j h (peer_of j.graph.peers.issued h)).state
+renews : (j : Joint) (h : ℕ) (reply : Reply) → may_renew j h ≡ true → reply ≡ (restored_on j h (peer_of j.graph.peers.issued h)).reply
+    → JointRestore j h reply (restored_on j h (peer_of j.graph.peers.issued h)).state
 renews j h reply e r =
     let p = (and3 (that j.graph.managed.cycle (is_candidates j h) (λ c. (m : ℕ) × Contains c.candidates m × Holds j.graph.managed m h) (candidate j h))
     (that (numbered_at j.graph.removed h) not (λ gone. gone ≡ false) is_false) (that (peer_of j.graph.peers.issued h) (λ p. true) (λ p. Unit {0}) (λ p. always tt))).holds e in
@@ -114,7 +120,8 @@ computed (op.Abandon k) = never (λ z. z)
 computed (op.Refused w) = never (λ z. z)
 computed _ = always tt
 
-steps_by : (j : Joint) (t : Thread) (o : Op) (reply : Reply) (told : Told) → joint_allows j t o told ≡ true → reply ≡ (joint_stepped j t o told).reply → JointEvent j t o reply told (joint_stepped j t o told).state
+steps_by : (j : Joint) (t : Thread) (o : Op) (reply : Reply) (told : Told) → joint_allows j t o told ≡ true
+    → reply ≡ (joint_stepped j t o told).reply → JointEvent j t o reply told (joint_stepped j t o told).state
 steps_by j t (op.Snap k) reply (snap_of freed candidates dead) e r = record { snapshot = (snapshot j.graph.managed k.0 freed candidates dead).holds e; replies = r; state = refl }
 steps_by j t op.Begin reply told e r = begins j j.marking t reply r
 steps_by j t op.Sweep reply told e r = sweeps j j.marking t reply told e r

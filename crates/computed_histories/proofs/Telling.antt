@@ -62,7 +62,8 @@ pub and5 : {a b c d e : Bool} {P Q R S T : Type 0} → Tells a P → Tells b Q �
 and5 {P = P} {Q = Q} {R = R} {S = S} {T = T} r s t u v = like {P = (P × Q × R × S) × T} (λ p. (p.0.0, p.0.1, p.0.2, p.0.3, p.1)) (λ p. ((p.0, p.1, p.2, p.3), p.4)) (and2 (and4 r s t u) v)
 
 pub and6 : {a b c d e f : Bool} {P Q R S T U : Type 0} → Tells a P → Tells b Q → Tells c R → Tells d S → Tells e T → Tells f U → Tells (a && b && c && d && e && f) (P × Q × R × S × T × U)
-and6 {P = P} {Q = Q} {R = R} {S = S} {T = T} {U = U} r s t u v w = like {P = (P × Q × R × S × T) × U} (λ p. (p.0.0, p.0.1, p.0.2, p.0.3, p.0.4, p.1)) (λ p. ((p.0, p.1, p.2, p.3, p.4), p.5)) (and2 (and5 r s t u v) w)
+and6 {P = P} {Q = Q} {R = R} {S = S} {T = T} {U = U} r s t u v w = like {P = (P × Q × R × S × T) × U}
+    (λ p. (p.0.0, p.0.1, p.0.2, p.0.3, p.0.4, p.1)) (λ p. ((p.0, p.1, p.2, p.3, p.4), p.5)) (and2 (and5 r s t u v) w)
 
 -- numbers
 pub same : (a b : ℕ) → Tells (nat_eq a b) (a ≡ b)

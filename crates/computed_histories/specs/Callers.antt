@@ -10,7 +10,8 @@ use Rattle.joint_machine.specs.declared.events.Op.TheVariants as op
 use Rattle.joint_machine.specs.declared.events.Reply.{Reply}
 use Rattle.joint_machine.specs.declared.events.Reply.TheVariants as says
 use Rattle.joint_machine.specs.Components.{mirror_edges}
-use Rattle.joint_machine.specs.Control.{Doing, free, made, lent, gripped, given, met, Stand, idle, snapped, contracted, weakening, marked, restoring, restored, Control, doing_at, carried_edges}
+use Rattle.joint_machine.specs.Control.{Doing, free, made, lent, gripped, given, met, Stand, idle, snapped, contracted}
+use Rattle.joint_machine.specs.Control.{weakening, marked, restoring, restored, Control, doing_at, carried_edges}
 use Rattle.joint_machine.specs.Managed.{Managed, handle_of, candidates_of}
 use Rattle.joint_machine.specs.Peers.{Issued}
 use Rattle.joint_machine.specs.Told.{Told, references_of, resolution_of, phase_of}
@@ -30,15 +31,18 @@ may_start (gripped n line p h sort f) cites = is_empty cites
 
 -- a later event of an operation: it cites the entry of the first, on the same line, and names what that entry gave
 abbrev pub may_adopt : Doing → Thread → ℕ → Op → Option ℕ → Bool
-may_adopt (made n line p h sort f) t l (op.Adopt v kind k p' h') cites = same_number cites (Some n) && nat_eq l line && nat_eq p'.0 p && nat_eq h'.0 h && is_line t (act.Bridge v kind k sort f)
+may_adopt (made n line p h sort f) t l (op.Adopt v kind k p' h') cites = same_number cites
+    (Some n) && nat_eq l line && nat_eq p'.0 p && nat_eq h'.0 h && is_line t (act.Bridge v kind k sort f)
 may_adopt _ t l o cites = false
 
 abbrev pub may_land : Doing → ℕ → Op → Option ℕ → Bool
-may_land (lent n line h x) l (op.Land h' x') cites = same_number cites (Some n) && nat_eq l line && nat_eq h'.0 h && nat_eq x'.0 x
+may_land (lent n line h x) l (op.Land h' x') cites = same_number cites
+    (Some n) && nat_eq l line && nat_eq h'.0 h && nat_eq x'.0 x
 may_land _ l o cites = false
 
 abbrev pub may_meet : Doing → ℕ → Op → Option ℕ → Bool
-may_meet (gripped n line p h sort f) l (op.Meet v sort' f' p' h') cites = same_number cites (Some n) && nat_eq l line && nat_eq p'.0 p && nat_eq h'.0 h && same_sort sort' sort && nat_eq f' f
+may_meet (gripped n line p h sort f) l (op.Meet v sort' f' p' h') cites = same_number cites
+    (Some n) && nat_eq l line && nat_eq p'.0 p && nat_eq h'.0 h && same_sort sort' sort && nat_eq f' f
 may_meet _ l o cites = false
 
 abbrev pub may_release : Doing → ℕ → ℕ → Option ℕ → Bool
@@ -70,7 +74,8 @@ is_phase_of idle c p = same_phase p at.Idle
 is_phase_of (snapped o) c p = same_phase p at.Snapped
 is_phase_of (contracted o comps heavy xrefs) c p = same_phase p at.Contracted
 is_phase_of (weakening o count weakened swept) c p =
-    not swept && ((same_phase p at.Mirrored && nat_eq count 0 && not weakened) || (same_phase p at.Weakened && nat_eq count c))
+    not swept && ((same_phase p at.Mirrored && nat_eq count 0 && not weakened) ||
+    (same_phase p at.Weakened && nat_eq count c))
 is_phase_of (marked o) c p = same_phase p at.Marked
 is_phase_of (restoring o answers) c p = same_list same_answer answers [] && same_phase p at.Swept
 is_phase_of (restored o answers clear) c p = same_phase p at.Restored
@@ -86,11 +91,13 @@ may_contract_now _ k cites = false
 
 abbrev pub may_mirror_now : Stand → Managed → List Issued → ℕ → Option ℕ → Told → Bool
 may_mirror_now (contracted o comps heavy xrefs) s issued k cites (references_of refs) =
-    nat_eq o.cycle k && same_number cites (Some o.snap) && same_list ends_eq refs (carried_edges s issued (mirror_edges comps xrefs))
+    nat_eq o.cycle k && same_number cites (Some o.snap) && same_list ends_eq refs
+    (carried_edges s issued (mirror_edges comps xrefs))
 may_mirror_now _ s issued k cites told = false
 
 abbrev pub may_weaken_now : Stand → Managed → ℕ → Option ℕ → Bool
-may_weaken_now (weakening o count weakened swept) s h cites = same_number cites (Some o.snap) && not swept && is_candidate_handle s count h
+may_weaken_now (weakening o count weakened swept) s h cites = same_number cites
+    (Some o.snap) && not swept && is_candidate_handle s count h
 may_weaken_now _ s h cites = false
 
 abbrev pub may_begin_now : Stand → ℕ → Reply → Option ℕ → Bool
@@ -111,7 +118,8 @@ may_clear_now (restoring o answers) c k cites = is_empty cites && nat_eq (length
 may_clear_now _ c k cites = false
 
 abbrev pub may_resolve_now : Stand → ℕ → Option ℕ → Told → Bool
-may_resolve_now (restored o answers clear) k cites (resolution_of told freed) = nat_eq o.cycle k && same_number cites (Some clear) && same_list same_answer told answers
+may_resolve_now (restored o answers clear) k cites (resolution_of told freed) = nat_eq
+    o.cycle k && same_number cites (Some clear) && same_list same_answer told answers
 may_resolve_now _ k cites told = false
 
 abbrev pub may_abandon_now : Stand → ℕ → Option ℕ → Bool
@@ -125,7 +133,8 @@ may_refuse_now stand c cites _ = false
 
 -- the driver's event may come next
 abbrev pub driver_allows : Stand → Managed → List Issued → Op → Reply → Option ℕ → Told → Bool
-driver_allows stand s issued (op.Line a) reply cites told = is_at_rest stand (length (candidates_of s)) && is_empty cites
+driver_allows stand s issued (op.Line a) reply cites told = is_at_rest stand
+    (length (candidates_of s)) && is_empty cites
 driver_allows stand s issued (op.Snap k) reply cites told = may_snap stand cites
 driver_allows stand s issued (op.Contract k) reply cites told = may_contract_now stand k.0 cites
 driver_allows stand s issued (op.Mirror k) reply cites told = may_mirror_now stand s issued k.0 cites told
@@ -136,7 +145,8 @@ driver_allows stand s issued (op.Restore h) reply cites told = may_restore_now s
 driver_allows stand s issued (op.Clear k) reply cites told = may_clear_now stand (length (candidates_of s)) k.0 cites
 driver_allows stand s issued (op.Resolve k) reply cites told = may_resolve_now stand k.0 cites told
 driver_allows stand s issued (op.Abandon k) reply cites told = may_abandon_now stand k.0 cites
-driver_allows stand s issued (op.Refused w) reply cites told = may_refuse_now stand (length (candidates_of s)) cites told
+driver_allows stand s issued (op.Refused w) reply cites told = may_refuse_now stand
+    (length (candidates_of s)) cites told
 driver_allows stand s issued _ reply cites told = false
 
 -- the caller's event may come next

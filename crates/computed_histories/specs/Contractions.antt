@@ -1,9 +1,11 @@
 -- The components, heavy classes and cross-references of a graph with finitely many nodes, by computing.
-use Rattle.std.specs.Prelude.{ℕ, suc, ◌+◌, ◌*◌, Bool, true, not, ◌&&◌, ◌||◌, nat_eq, nat_lt, nat_le, if◌then◌else◌, List, [], ◌∷◌, ◌++◌, length, map, filter, flat_map}
+use Rattle.std.specs.Prelude.{ℕ, suc, ◌+◌, ◌*◌, Bool, true, not, ◌&&◌, ◌||◌, nat_eq, nat_lt, nat_le, if◌then◌else◌}
+use Rattle.std.specs.Prelude.{List, [], ◌∷◌, ◌++◌, length, map, filter, flat_map}
 use Rattle.std.specs.List.{list_any, list_all}
 use Rattle.joint_machine.specs.Components.{first_of, stand_at}
 use Rattle.joint_machine.specs.Managed.{Managed}
-use Rattle.computed_histories.specs.Lists.{has, pair_eq, implies, reach, rises, is_exactly, rises_exactly, count_from, where_true}
+use Rattle.computed_histories.specs.Lists.{has, pair_eq, implies, reach, rises, is_exactly, rises_exactly, count_from}
+use Rattle.computed_histories.specs.Lists.{where_true}
 use Rattle.computed_histories.specs.Rows.{heap_next, is_bridge}
 
 -- a graph: where each node leads, its nodes, and its bridge nodes
@@ -74,7 +76,8 @@ are_many ins outs = nat_le 3 ins && nat_le 3 outs && nat_le 60 (ins * outs)
 
 -- whether the class of a node is heavy; that takes eight bridge nodes, which is seen first
 abbrev pub is_heavy : Listed → ℕ → Bool
-is_heavy g x = nat_le 8 (length (bridges_where g (λ b. true))) && is_plain g x && are_many (length (ins_of g x)) (length (outs_of g x))
+is_heavy g x = nat_le 8 (length (bridges_where g (λ b. true))) && is_plain
+    g x && are_many (length (ins_of g x)) (length (outs_of g x))
 
 -- whether a class isn't reported
 abbrev pub is_unreported : Listed → ℕ → Bool
@@ -112,7 +115,8 @@ pairs_below k = flat_map (λ i. map (λ j. (i, j)) (count_from 0 k)) (count_from
 -- whether a pair of indexes stands between two that are reported, with a cross-reference
 abbrev pub is_reference : Listed → List (List ℕ) → List ℕ → ℕ × ℕ → Bool
 is_reference g comps heavy p =
-    nat_lt p.0 (length comps + length heavy) && nat_lt p.1 (length comps + length heavy) && is_referred g (stand_at comps heavy p.0) (stand_at comps heavy p.1)
+    nat_lt p.0 (length comps + length heavy) && nat_lt p.1
+    (length comps + length heavy) && is_referred g (stand_at comps heavy p.0) (stand_at comps heavy p.1)
 
 -- whether pairs rise
 abbrev pub is_pair_before : ℕ × ℕ → ℕ × ℕ → Bool
@@ -124,7 +128,8 @@ pairs_rise (p ∷ ps) = list_all (is_pair_before p) ps && pairs_rise ps
 
 -- whether the lists are in their one order
 abbrev pub is_in_order : List (List ℕ) → List (ℕ × ℕ) → Bool
-is_in_order comps xrefs = list_all rises comps && list_all (λ members. nat_lt 0 (length members)) comps && rises (map first_of comps) && pairs_rise xrefs
+is_in_order comps xrefs = list_all rises comps && list_all
+    (λ members. nat_lt 0 (length members)) comps && rises (map first_of comps) && pairs_rise xrefs
 
 -- whether the lists are the graph's components, heavy classes and cross-references
 abbrev pub is_contraction : Listed → List (List ℕ) → List ℕ → List (ℕ × ℕ) → Bool

@@ -1,5 +1,6 @@
 -- What the one graph of both heaps reaches from its roots, and the peers that nothing reaches, by computing.
-use Rattle.std.specs.Prelude.{ℕ, ◌↔◌, Bool, false, not, ◌&&◌, nat_eq, IsTrue, List, [], ◌∷◌, ◌++◌, length, map, filter, flat_map, Option, Some, None}
+use Rattle.std.specs.Prelude.{ℕ, ◌↔◌, Bool, false, not, ◌&&◌, nat_eq, IsTrue, List, [], ◌∷◌, ◌++◌, length, map, filter}
+use Rattle.std.specs.Prelude.{flat_map, Option, Some, None}
 use Rattle.std.specs.List.{list_any}
 use Rattle.joint_machine.specs.Heaps.{Heap, numbered_at}
 use Rattle.joint_machine.specs.Joint.{Graph, Row, object, peer, IsReachedIn}
@@ -68,7 +69,8 @@ issued_peer None test = []
 issued_peer (Some i) test = where_true (test i) (i.peer ∷ [])
 
 abbrev pub handle_peers : Graph → (ℕ → Issued → Bool) → ℕ → List ℕ
-handle_peers g test h = where_true (is_kept (numbered_at g.removed h)) (issued_peer (numbered_at g.peers.issued h) (test h))
+handle_peers g test h = where_true (is_kept (numbered_at g.removed h))
+    (issued_peer (numbered_at g.peers.issued h) (test h))
 
 -- the peers of all handles that pass the test
 abbrev pub rooted_peers : Graph → (ℕ → Issued → Bool) → List ℕ
@@ -94,7 +96,8 @@ is_reached g x = mem row_eq (joint_reach g) x
 
 -- whether the list has exactly the unfreed peers that aren't reached
 abbrev pub are_unreached_of : Graph → List Row → List ℕ → Bool
-are_unreached_of g reached peers = rises_exactly (all_rows g.peers.heap) (λ p. is_live g.peers.heap p && not (mem row_eq reached (peer p))) peers
+are_unreached_of g reached peers = rises_exactly (all_rows g.peers.heap)
+    (λ p. is_live g.peers.heap p && not (mem row_eq reached (peer p))) peers
 
 abbrev pub are_unreached : Graph → List ℕ → Bool
 are_unreached g peers = are_unreached_of g (joint_reach g) peers

@@ -1,6 +1,7 @@
 -- Whether an entry may come next, and whether each entry of a list may come when it comes, by computing; and that the
 -- tests tell exactly what the definitions say.
-use Rattle.std.specs.Prelude.{◌≡◌, ℕ, ◌+◌, ◌^◌, ◌↔◌, Bool, true, false, ◌&&◌, nat_eq, nat_lt, nat_le, IsTrue, List, [], ◌∷◌, length}
+use Rattle.std.specs.Prelude.{◌≡◌, ℕ, ◌+◌, ◌^◌, ◌↔◌, Bool, true, false, ◌&&◌, nat_eq, nat_lt, nat_le, IsTrue, List, []}
+use Rattle.std.specs.Prelude.{◌∷◌, length}
 use Rattle.std.specs.List.{list_all}
 use Rattle.joint_machine.specs.declared.events.Entry.{Entry}
 use Rattle.joint_machine.specs.declared.events.Made.{Made}
@@ -24,7 +25,8 @@ abbrev pub managed_lawful : ManagedReplay → Made → Told → Bool
 managed_lawful s m told = managed_allows s m.op told && same_reply m.reply (managed_answer s m.caller m.op told).reply
 
 abbrev pub peer_lawful : PeerReplay → Made → Told → Bool
-peer_lawful s m told = peer_allows s m.caller m.op m.cites told && same_reply m.reply (peer_answer s m.caller m.op m.cites told).reply
+peer_lawful s m told = peer_allows s m.caller m.op m.cites told && same_reply m.reply
+    (peer_answer s m.caller m.op m.cites told).reply
 
 -- the entry's own side finds it lawful
 abbrev pub side_lawful : Bool → Linkage → Made → Told → Bool
@@ -38,7 +40,8 @@ may_come s n =
     && nat_le (last_line s.control n.entry.made.caller) n.entry.made.index
     && nat_lt n.entry.made.index (2 ^ 32)
     && side_lawful (is_peer_event n.entry.made.caller n.entry.made.op) s n.entry.made n.told
-    && caller_allows s.control s.managed.managed s.peer.peers.issued n.entry.made.caller n.entry.made.index n.entry.made.op n.entry.made.reply n.entry.made.cites n.told
+    && caller_allows s.control s.managed.managed s.peer.peers.issued n.entry.made.caller
+    n.entry.made.index n.entry.made.op n.entry.made.reply n.entry.made.cites n.told
 
 -- each entry of the list may come when it comes
 abbrev pub all_may_come : Linkage → List Noted → Bool

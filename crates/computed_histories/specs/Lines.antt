@@ -136,7 +136,8 @@ is_one_event _ = true
 abbrev pub is_event : Thread → Op → Bool
 is_event t (op.Line a) = is_line t a && is_one_event a
 is_event t (op.Make s n) = is_managed_thread t && nat_le n 16
-is_event t (op.Adopt v k n p h) = is_managed_thread t && is_var v && (is_bridge_object k n User || is_bridge_object k n Framework)
+is_event t (op.Adopt v k n p h) = is_managed_thread t && is_var v &&
+    (is_bridge_object k n User || is_bridge_object k n Framework)
 is_event t (op.Lend v x) = is_managed_thread t && is_var v && nat_lt x.0 16
 is_event t (op.Land h x) = is_managed_thread t && nat_lt x.0 16
 is_event t (op.Grip x) = is_managed_thread t && nat_lt x.0 16

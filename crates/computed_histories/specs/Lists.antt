@@ -1,5 +1,6 @@
 -- Tests on lists, and what is reached from a list by following where its elements lead. (Textbook.)
-use Rattle.std.specs.Prelude.{ℕ, zero, suc, Bool, true, false, not, ◌&&◌, ◌||◌, nat_eq, nat_lt, if◌then◌else◌, List, [], ◌∷◌, Option, Some, None, flat_map}
+use Rattle.std.specs.Prelude.{ℕ, zero, suc, Bool, true, false, not, ◌&&◌, ◌||◌, nat_eq, nat_lt, if◌then◌else◌, List, []}
+use Rattle.std.specs.Prelude.{◌∷◌, Option, Some, None, flat_map}
 use Rattle.std.specs.List.{list_any, list_all}
 
 -- whether the list has the element, by a test of equality

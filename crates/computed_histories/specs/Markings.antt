@@ -1,5 +1,6 @@
 -- What a marking of the peer heap reaches, and what its sweep frees, by computing.
-use Rattle.std.specs.Prelude.{ℕ, Bool, true, false, not, ◌&&◌, nat_eq, List, [], ◌∷◌, ◌++◌, length, map, filter, flat_map}
+use Rattle.std.specs.Prelude.{ℕ, Bool, true, false, not, ◌&&◌, nat_eq, List, [], ◌∷◌, ◌++◌, length, map, filter}
+use Rattle.std.specs.Prelude.{flat_map}
 use Rattle.joint_machine.specs.Components.{End, node, temporary}
 use Rattle.joint_machine.specs.Heaps.{Heap}
 use Rattle.joint_machine.specs.PeerReplay.{PeerReplay, Marking}
@@ -61,7 +62,8 @@ abbrev pub is_closure_of : Marking → List ℕ → List ℕ → Bool
 is_closure_of mk reached closure = rises_exactly (all_rows mk.heap) (λ p. is_live mk.heap p && has reached p) closure
 
 abbrev pub is_swept_of : PeerReplay → Marking → List ℕ → List ℕ → Bool
-is_swept_of s mk reached freed = rises_exactly (all_rows s.peers.heap) (λ p. is_live s.peers.heap p && is_live mk.heap p && not (is_live mk.heap p && has reached p)) freed
+is_swept_of s mk reached freed = rises_exactly (all_rows s.peers.heap)
+    (λ p. is_live s.peers.heap p && is_live mk.heap p && not (is_live mk.heap p && has reached p)) freed
 
 abbrev pub is_closure : Marking → List ℕ → Bool
 is_closure mk closure = is_closure_of mk (marking_reach mk) closure

@@ -21,14 +21,17 @@ use Rattle.computed_histories.specs.Sides.{managed_allows, peer_allows}
 
 -- what a snapshot frees and leaves, what a resolution frees, and the components of a dead part
 abbrev pub SnapshotIsTested : Type 0
-SnapshotIsTested = (s : Managed) (k : ℕ) (freed candidates dead : List ℕ) → IsTrue (is_snapshot s k freed candidates dead) ↔ IsSnapshot s k freed candidates dead
+SnapshotIsTested = (s : Managed) (k : ℕ) (freed candidates dead : List ℕ)
+    → IsTrue (is_snapshot s k freed candidates dead) ↔ IsSnapshot s k freed candidates dead
 
 abbrev pub ResolutionIsTested : Type 0
 ResolutionIsTested = (s : Managed) (dead candidates : List ℕ) (answers : List Answer) (freed : List ℕ)
-    → IsTrue (is_resolution s dead (answered_alive candidates answers) freed) ↔ IsResolution s dead (IsAnsweredAlive candidates answers) freed
+    → IsTrue (is_resolution s dead (answered_alive candidates answers) freed)
+    ↔ IsResolution s dead (IsAnsweredAlive candidates answers) freed
 
 abbrev pub ContractionIsTested : Type 0
-ContractionIsTested = (s : Managed) (dead : List ℕ) (comps : List (List ℕ)) (heavy : List ℕ) (xrefs : List (ℕ × ℕ)) → IsTrue (is_contraction (dead_graph s dead) comps heavy xrefs) ↔ IsDeadContraction s dead comps heavy xrefs
+ContractionIsTested = (s : Managed) (dead : List ℕ) (comps : List (List ℕ)) (heavy : List ℕ) (xrefs : List (ℕ × ℕ))
+    → IsTrue (is_contraction (dead_graph s dead) comps heavy xrefs) ↔ IsDeadContraction s dead comps heavy xrefs
 
 -- a slice's closure, and what a sweep frees
 abbrev pub ClosureIsTested : Type 0
@@ -45,8 +48,11 @@ abbrev pub ManagedIsTested : Type 0
 ManagedIsTested = (s : ManagedReplay) (o : Op) (told : Told) → IsTrue (managed_allows s o told) ↔ ManagedAllows s o told
 
 abbrev pub PeerIsTested : Type 0
-PeerIsTested = (s : PeerReplay) (t : Thread) (o : Op) (cites : Option ℕ) (told : Told) → IsTrue (peer_allows s t o cites told) ↔ PeerAllows s t o cites told
+PeerIsTested = (s : PeerReplay) (t : Thread) (o : Op) (cites : Option ℕ) (told : Told)
+    → IsTrue (peer_allows s t o cites told) ↔ PeerAllows s t o cites told
 
 abbrev pub CallerIsTested : Type 0
-CallerIsTested = (s : Control) (managed : Managed) (issued : List Issued) (t : Thread) (line : ℕ) (o : Op) (reply : Reply) (cites : Option ℕ) (told : Told)
-    → IsTrue (caller_allows s managed issued t line o reply cites told) ↔ CallerAllows s managed issued t line o reply cites told
+CallerIsTested = (s : Control) (managed : Managed) (issued : List Issued)
+    (t : Thread) (line : ℕ) (o : Op) (reply : Reply) (cites : Option ℕ) (told : Told)
+    → IsTrue (caller_allows s managed issued t line o reply cites told)
+    ↔ CallerAllows s managed issued t line o reply cites told

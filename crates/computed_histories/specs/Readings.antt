@@ -1,6 +1,7 @@
 -- Whether each entry of a history may come when it comes, its reads among them, and whether it is linked, by computing.
 -- (SGen's bridge header: while bridge processing is in progress, the reading of a weak link to a bridge object waits.)
-use Rattle.std.specs.Prelude.{ℕ, ◌^◌, ◌↔◌, Bool, true, false, not, ◌&&◌, nat_eq, nat_lt, nat_le, IsTrue, List, [], ◌∷◌, length, map, slice_get, Option}
+use Rattle.std.specs.Prelude.{ℕ, ◌^◌, ◌↔◌, Bool, true, false, not, ◌&&◌, nat_eq, nat_lt, nat_le, IsTrue, List, [], ◌∷◌}
+use Rattle.std.specs.Prelude.{length, map, slice_get, Option}
 use Rattle.std.specs.List.{list_any, list_all}
 use Rattle.joint_machine.specs.declared.names.Thread.{Thread}
 use Rattle.joint_machine.specs.declared.lines.Act.TheVariants as act
@@ -60,7 +61,8 @@ abbrev pub ends_cycle_at : List Noted → ℕ → ℕ → Bool
 ends_cycle_at ns i k = has_that (λ n. ends_cycle n.entry.made.op k) (slice_get ns i)
 
 abbrev pub sets_cell_at : List Noted → ℕ → ℕ → Bool
-sets_cell_at ns i k = has_that (λ n. sets_cell n.entry.made.op k && same_reply n.entry.made.reply says.Ok) (slice_get ns i)
+sets_cell_at ns i k = has_that (λ n. sets_cell n.entry.made.op k && same_reply n.entry.made.reply says.Ok)
+    (slice_get ns i)
 
 abbrev pub is_callers_at : List Noted → ℕ → Thread → Bool
 is_callers_at ns i t = has_that (λ n. is_thread n.entry.made.caller t) (slice_get ns i)
@@ -79,7 +81,8 @@ is_later_known ns t i from = list_any (λ j. nat_lt from j && is_managed_at ns j
 -- whether a read may answer `pending`, or `unset`
 abbrev pub may_be_pending : List Noted → ℕ → Thread → ℕ → Bool
 may_be_pending ns i t k =
-    list_any (λ snap. snaps_cycle_at ns snap k && list_all (λ j. implies (nat_lt j snap && is_managed_at ns j) (nat_lt j i)) (places ns)) (places ns)
+    list_any (λ snap. snaps_cycle_at ns snap k && list_all
+    (λ j. implies (nat_lt j snap && is_managed_at ns j) (nat_lt j i)) (places ns)) (places ns)
     && not (list_any (λ end. ends_cycle_at ns end k && is_later_known ns t i end) (places ns))
 
 abbrev pub may_be_unset : List Noted → List (Option ℕ) → ℕ → Thread → ℕ → Bool
@@ -110,18 +113,21 @@ reader_may_come s n =
     is_event n.entry.made.caller n.entry.made.op
     && nat_le (last_line s.control n.entry.made.caller) n.entry.made.index
     && nat_lt n.entry.made.index (2 ^ 32)
-    && caller_allows s.control s.managed.managed s.peer.peers.issued n.entry.made.caller n.entry.made.index n.entry.made.op n.entry.made.reply n.entry.made.cites n.told
+    && caller_allows s.control s.managed.managed s.peer.peers.issued n.entry.made.caller
+    n.entry.made.index n.entry.made.op n.entry.made.reply n.entry.made.cites n.told
     && is_bare n.told
 
 -- an entry of any list may come next
 abbrev pub entry_may_come : Bool → List Noted → List (Option ℕ) → Linkage → Noted → Bool
-entry_may_come true ns cells s n = reader_may_come s n && reads_rightly ns cells s.managed.managed n.entry.number n.entry.made.caller n.entry.made.op n.entry.made.reply
+entry_may_come true ns cells s n = reader_may_come s n && reads_rightly ns cells
+    s.managed.managed n.entry.number n.entry.made.caller n.entry.made.op n.entry.made.reply
 entry_may_come false ns cells s n = may_come s n
 
 -- each entry of the list may come when it comes
 abbrev pub all_may_come_reading : List Noted → List (Option ℕ) → Linkage → List Noted → Bool
 all_may_come_reading whole cells s [] = true
-all_may_come_reading whole cells s (n ∷ ns) = entry_may_come (is_read n.entry.made.op) whole cells s n && all_may_come_reading whole cells (entry_after s n) ns
+all_may_come_reading whole cells s (n ∷ ns) = entry_may_come
+    (is_read n.entry.made.op) whole cells s n && all_may_come_reading whole cells (entry_after s n) ns
 
 -- the history that notes make: their entries, and the lists of what was freed and queued
 abbrev pub finished_of : List Noted → Finished
@@ -134,17 +140,21 @@ finished_of noted = record {
 
 -- whether the history that notes make is linked by them
 abbrev pub is_linked : List Noted → Bool
-is_linked noted = is_numbered_from 0 (map (λ n. n.entry) noted) && all_may_come_reading noted (managed_end noted).cells opening_linkage noted && is_whole (linked_end noted)
+is_linked noted = is_numbered_from 0 (map (λ n. n.entry) noted) && all_may_come_reading noted
+    (managed_end noted).cells opening_linkage noted && is_whole (linked_end noted)
 
 -- each test tells exactly what its definition says
 abbrev pub PendingIsTested : Type 0
-PendingIsTested = (ns : List Noted) (i : ℕ) (t : Thread) (k : ℕ) → IsTrue (may_be_pending ns i t k) ↔ MayBePending ns i t k
+PendingIsTested = (ns : List Noted) (i : ℕ) (t : Thread) (k : ℕ)
+    → IsTrue (may_be_pending ns i t k) ↔ MayBePending ns i t k
 
 abbrev pub UnsetIsTested : Type 0
-UnsetIsTested = (ns : List Noted) (cells : List (Option ℕ)) (i : ℕ) (t : Thread) (k : ℕ) → IsTrue (may_be_unset ns cells i t k) ↔ MayBeUnset ns cells i t k
+UnsetIsTested = (ns : List Noted) (cells : List (Option ℕ)) (i : ℕ) (t : Thread) (k : ℕ)
+    → IsTrue (may_be_unset ns cells i t k) ↔ MayBeUnset ns cells i t k
 
 abbrev pub ReadingIsTested : Type 0
-ReadingIsTested = (whole : List Noted) (cells : List (Option ℕ)) (s : Linkage) (ns : List Noted) → IsTrue (all_may_come_reading whole cells s ns) ↔ AllMayComeReading whole cells s ns
+ReadingIsTested = (whole : List Noted) (cells : List (Option ℕ)) (s : Linkage) (ns : List Noted)
+    → IsTrue (all_may_come_reading whole cells s ns) ↔ AllMayComeReading whole cells s ns
 
 abbrev pub LinkedIsTested : Type 0
 LinkedIsTested = (noted : List Noted) → IsTrue (is_linked noted) ↔ IsLinkedBy (finished_of noted) noted

@@ -54,7 +54,8 @@ same_reply (says.Renewed h) (says.Renewed h') = nat_eq h.0 h'.0
 same_reply (says.New m) (says.New m') = nat_eq m.0 m'.0
 same_reply (says.Twin m) (says.Twin m') = nat_eq m.0 m'.0
 same_reply (says.Made p h) (says.Made p' h') = nat_eq p.0 p'.0 && nat_eq h.0 h'.0
-same_reply (says.Gripped p h sort n) (says.Gripped p' h' sort' n') = nat_eq p.0 p'.0 && nat_eq h.0 h'.0 && same_sort sort sort' && nat_eq n n'
+same_reply (says.Gripped p h sort n) (says.Gripped p' h' sort' n') = nat_eq
+    p.0 p'.0 && nat_eq h.0 h'.0 && same_sort sort sort' && nat_eq n n'
 same_reply (says.Pending k) (says.Pending k') = nat_eq k.0 k'.0
 same_reply (says.Pinned m) (says.Pinned m') = nat_eq m.0 m'.0
 same_reply (says.Mark j) (says.Mark j') = nat_eq j.0 j'.0

@@ -1,5 +1,6 @@
 -- What the rows of a heap reach, and what a snapshot and a resolution free, by computing.
-use Rattle.std.specs.Prelude.{ℕ, ◌+◌, Bool, true, false, not, ◌&&◌, nat_eq, nat_le, List, [], ◌∷◌, ◌++◌, length, filter, Option, Some, None}
+use Rattle.std.specs.Prelude.{ℕ, ◌+◌, Bool, true, false, not, ◌&&◌, nat_eq, nat_le, List, [], ◌∷◌, ◌++◌, length, filter}
+use Rattle.std.specs.Prelude.{Option, Some, None}
 use Rattle.joint_machine.specs.Heaps.{Heap, is_freed, fields_of, numbered_at}
 use Rattle.joint_machine.specs.Managed.{Managed}
 use Rattle.joint_machine.specs.Told.{Answer, said_alive, said_cleared}

@@ -1,5 +1,6 @@
 -- Whether an event has what its own side asks for, beside its reply.
-use Rattle.std.specs.Prelude.{ℕ, Bool, true, false, not, ◌&&◌, ◌||◌, nat_eq, List, [], ◌∷◌, ◌++◌, length, Option, Some, None}
+use Rattle.std.specs.Prelude.{ℕ, Bool, true, false, not, ◌&&◌, ◌||◌, nat_eq, List, [], ◌∷◌, ◌++◌, length, Option, Some}
+use Rattle.std.specs.Prelude.{None}
 use Rattle.std.specs.List.{list_all}
 use Rattle.joint_machine.specs.declared.names.Thread.{Thread}
 use Rattle.joint_machine.specs.declared.names.Thread.TheVariants.{P, C}
@@ -15,7 +16,8 @@ use Rattle.joint_machine.specs.ManagedReplay.{ManagedReplay}
 use Rattle.joint_machine.specs.PeerReplay.{PeerReplay, Marking, row_of, is_thread}
 use Rattle.joint_machine.specs.Peers.{is_held, is_strong}
 use Rattle.joint_machine.specs.Phases.{next_phase}
-use Rattle.joint_machine.specs.Told.{Told, nothing, snap_of, contraction_of, references_of, slice_of, sweep_of, resolution_of, phase_of, Answer, handles_given}
+use Rattle.joint_machine.specs.Told.{Told, nothing, snap_of, contraction_of, references_of, slice_of, sweep_of}
+use Rattle.joint_machine.specs.Told.{resolution_of, phase_of, Answer, handles_given}
 use Rattle.computed_histories.specs.Contractions.{is_contraction, dead_graph, agrees}
 use Rattle.computed_histories.specs.Lists.{has, has_that, is_empty, same_number}
 use Rattle.computed_histories.specs.Markings.{is_closure, is_sweep}
@@ -27,7 +29,8 @@ abbrev pub is_open : Managed → ℕ → (OpenCycle → Bool) → Bool
 is_open s k test = has_that (λ c. nat_eq c.number k && test c) s.cycle
 
 abbrev pub may_contract : ManagedReplay → ℕ → List (List ℕ) → List ℕ → List (ℕ × ℕ) → Bool
-may_contract s k comps heavy xrefs = is_open s.managed k (λ c. is_contraction (dead_graph s.managed c.dead) comps heavy xrefs) && not s.contracted
+may_contract s k comps heavy xrefs = is_open s.managed k
+    (λ c. is_contraction (dead_graph s.managed c.dead) comps heavy xrefs) && not s.contracted
 
 -- whether handles are all different, and no row took one of them
 abbrev pub are_new : List ℕ → List ℕ → Bool
@@ -35,7 +38,9 @@ are_new taken [] = true
 are_new taken (h ∷ hs) = not (has taken h) && are_new (taken ++ h ∷ []) hs
 
 abbrev pub may_resolve : ManagedReplay → ℕ → List Answer → List ℕ → Bool
-may_resolve s k answers freed = is_open s.managed k (λ c. nat_eq (length answers) (length c.candidates) && are_new s.adopted (handles_given answers) && is_resolution s.managed c.dead (answered_alive c.candidates answers) freed)
+may_resolve s k answers freed = is_open s.managed k
+    (λ c. nat_eq (length answers) (length c.candidates) && are_new s.adopted
+    (handles_given answers) && is_resolution s.managed c.dead (answered_alive c.candidates answers) freed)
 
 abbrev pub may_refuse : ManagedReplay → PhaseWord → Phase → Bool
 may_refuse s w phase = is_empty (next_phase phase w) && agrees (same_phase phase at.Idle) (is_empty s.managed.cycle)
@@ -62,10 +67,12 @@ abbrev pub may_mirror : PeerReplay → ℕ → Option ℕ → Bool
 may_mirror s k cites = is_empty s.mirror && not (has s.mirrors k) && has_that (λ n. true) cites
 
 abbrev pub may_weaken : PeerReplay → ℕ → Option ℕ → Bool
-may_weaken s h cites = has_that (λ m. same_number cites (Some m.snap)) s.mirror && is_held_handle s h && has_that (λ r. is_strong r.strength && not r.cleared) (row_of s h)
+may_weaken s h cites = has_that (λ m. same_number cites (Some m.snap)) s.mirror && is_held_handle s h && has_that
+    (λ r. is_strong r.strength && not r.cleared) (row_of s h)
 
 abbrev pub may_restore : PeerReplay → ℕ → Bool
-may_restore s h = has_that (λ m. has m.weakened h && not (has m.restored h)) s.mirror && has_that (λ r. true) (row_of s h)
+may_restore s h = has_that (λ m. has m.weakened h && not (has m.restored h)) s.mirror && has_that
+    (λ r. true) (row_of s h)
 
 abbrev pub may_clear : PeerReplay → ℕ → Bool
 may_clear s k = has_that (λ m. nat_eq m.cycle k && list_all (has m.restored) m.weakened) s.mirror

@@ -41,10 +41,12 @@ same_strength _ _ = false
 
 -- the parts of a state, and the whole
 abbrev pub same_heap : Heap → Heap → Bool
-same_heap a b = same_list (same_list same_number) a.fields b.fields && same_list nat_eq a.freed b.freed && same_list same_number a.vars b.vars && same_list same_number a.statics b.statics
+same_heap a b = same_list (same_list same_number) a.fields b.fields && same_list nat_eq a.freed
+    b.freed && same_list same_number a.vars b.vars && same_list same_number a.statics b.statics
 
 abbrev pub same_cycle : OpenCycle → OpenCycle → Bool
-same_cycle a b = nat_eq a.number b.number && same_list nat_eq a.candidates b.candidates && same_list nat_eq a.dead b.dead
+same_cycle a b = nat_eq a.number b.number && same_list nat_eq
+    a.candidates b.candidates && same_list nat_eq a.dead b.dead
 
 abbrev pub same_managed : Managed → Managed → Bool
 same_managed a b =
@@ -62,16 +64,19 @@ abbrev pub same_issued : Issued → Issued → Bool
 same_issued a b = nat_eq a.peer b.peer && same_hold a.hold b.hold && same_strength a.strength b.strength
 
 abbrev pub same_peers : Peers → Peers → Bool
-same_peers a b = same_heap a.heap b.heap && same_list same_sort a.sorts b.sorts && same_list same_number a.names b.names && same_list same_issued a.issued b.issued && nat_eq a.made b.made
+same_peers a b = same_heap a.heap b.heap && same_list same_sort a.sorts b.sorts && same_list
+    same_number a.names b.names && same_list same_issued a.issued b.issued && nat_eq a.made b.made
 
 abbrev pub same_graph : Graph → Graph → Bool
-same_graph a b = same_managed a.managed b.managed && same_peers a.peers b.peers && same_list same_truth a.removed b.removed
+same_graph a b = same_managed a.managed b.managed && same_peers
+    a.peers b.peers && same_list same_truth a.removed b.removed
 
 abbrev pub same_marking : JointMarking → JointMarking → Bool
 same_marking a b = nat_eq a.number b.number && is_thread a.by b.by && same_graph a.begun b.begun
 
 abbrev pub same_joint : Joint → Joint → Bool
-same_joint a b = same_graph a.graph b.graph && same_list (same_option same_answer) a.answers b.answers && same_option same_marking a.marking b.marking && nat_eq a.markings b.markings
+same_joint a b = same_graph a.graph b.graph && same_list (same_option same_answer) a.answers
+    b.answers && same_option same_marking a.marking b.marking && nat_eq a.markings b.markings
 
 -- the test tells exactly that two states are the same
 abbrev pub StatesAreTested : Type 0

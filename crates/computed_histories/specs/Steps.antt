@@ -1,5 +1,6 @@
 -- Steps of the joint machine, by computing: what an entry answers, the state after it, and whether it is a step.
-use Rattle.std.specs.Prelude.{ℕ, ◌+◌, Bool, true, false, not, ◌&&◌, ◌||◌, IsTrue, List, [], ◌∷◌, length, filter, replicate, Option, Some, None}
+use Rattle.std.specs.Prelude.{ℕ, ◌+◌, Bool, true, false, not, ◌&&◌, ◌||◌, IsTrue, List, [], ◌∷◌, length, filter}
+use Rattle.std.specs.Prelude.{replicate, Option, Some, None}
 use Rattle.std.specs.List.{list_any, list_all}
 use Rattle.joint_machine.specs.declared.names.Thread.{Thread}
 use Rattle.joint_machine.specs.declared.names.Thread.TheVariants.{C}
@@ -38,14 +39,19 @@ kept_rows g c = filter (λ m. is_live g.managed.heap m && holds_unfreed g (numbe
 
 -- the answer to a begin
 abbrev pub joint_begun : Joint → Option JointMarking → Thread → Answered Joint
-joint_begun j None t = answer (says.Mark record { 0 = j.markings + 1 }) (record j { marking = Some record { number = j.markings + 1; by = t; begun = j.graph }; markings = j.markings + 1 })
+joint_begun j None t = answer (says.Mark record { 0 = j.markings + 1 })
+    (record j { marking = Some record { number = j.markings + 1; by = t; begun = j.graph }; markings = j.markings + 1 })
 joint_begun j (Some m) t = answer (says.MarkOpen record { 0 = m.number }) j
 
 -- the answer to a sweep
 abbrev pub joint_swept : Joint → Option JointMarking → Told → Answered Joint
 joint_swept j None told = answer says.NoMark j
-joint_swept j (Some m) (sweep_of freed) = answer (says.Swept record { 0 = m.number } record { first = length j.graph.peers.heap.freed; count = length freed })
-    (record j { graph = record j.graph { peers = record j.graph.peers { heap = with_freed j.graph.peers.heap freed } }; marking = None })
+joint_swept j (Some m) (sweep_of freed) = answer
+    (says.Swept record { 0 = m.number } record { first = length j.graph.peers.heap.freed; count = length freed })
+    (record j {
+      graph = record j.graph { peers = record j.graph.peers { heap = with_freed j.graph.peers.heap freed } };
+      marking = None;
+    })
 joint_swept j (Some m) _ = answer (says.MarkOpen record { 0 = m.number }) j
 
 -- the answer to a restore of a handle, given its peer
@@ -55,12 +61,17 @@ restored_on j h (Some p) = joint_restored j h p
 
 -- the answer to an event, and the state after it
 abbrev pub joint_stepped : Joint → Thread → Op → Told → Answered Joint
-joint_stepped j t (op.Snap k) (snap_of freed candidates dead) = answer (snap_reply j.graph.managed freed candidates) (record (with_managed j (with_snapshot j.graph.managed freed candidates dead)) { answers = replicate (length candidates) None })
+joint_stepped j t (op.Snap k) (snap_of freed candidates dead) = answer
+    (snap_reply j.graph.managed freed candidates)
+    (record (with_managed j (with_snapshot j.graph.managed freed candidates dead))
+    { answers = replicate (length candidates) None })
 joint_stepped j t op.Begin told = joint_begun j j.marking t
 joint_stepped j t op.Sweep told = joint_swept j j.marking told
 joint_stepped j t (op.Restore h) told = restored_on j h.0 (peer_of j.graph.peers.issued h.0)
-joint_stepped j t (op.Resolve k) (resolution_of alive freed) = answer (resolve_reply j.graph.managed freed) (record (with_managed j (resolved j.graph.managed (somes j.answers) freed)) { answers = [] })
-joint_stepped j t (op.Abandon k) told = answer says.Ok (record (with_managed j (abandoned j.graph.managed)) { answers = [] })
+joint_stepped j t (op.Resolve k) (resolution_of alive freed) = answer (resolve_reply j.graph.managed freed)
+    (record (with_managed j (resolved j.graph.managed (somes j.answers) freed)) { answers = [] })
+joint_stepped j t (op.Abandon k) told = answer says.Ok
+    (record (with_managed j (abandoned j.graph.managed)) { answers = [] })
 joint_stepped j t o told = joint_answer j t o
 
 -- whether a sweep may free these peers, given what was reached at the begin and what is reached now
@@ -72,15 +83,18 @@ may_free m before now freed = rises freed
 -- what a sweep asks for
 abbrev pub may_sweep : Joint → Option JointMarking → Thread → Told → Bool
 may_sweep j None t told = is_peer_thread t
-may_sweep j (Some m) t (sweep_of freed) = (is_thread t C || is_thread t m.by) && may_free m (joint_reach m.begun) (joint_reach j.graph) freed
+may_sweep j (Some m) t (sweep_of freed) = (is_thread t C || is_thread t m.by) && may_free m
+    (joint_reach m.begun) (joint_reach j.graph) freed
 may_sweep j (Some m) t _ = is_peer_thread t && not (is_thread t m.by)
 
 -- what a restore asks for: a candidate of the open cycle holds the handle, and it isn't removed
 abbrev pub is_candidates : Joint → ℕ → OpenCycle → Bool
-is_candidates j h c = list_any (λ m. is_live j.graph.managed.heap m && is_handle_here (numbered_at j.graph.managed.held m) h) c.candidates
+is_candidates j h c = list_any (λ m. is_live j.graph.managed.heap m && is_handle_here
+    (numbered_at j.graph.managed.held m) h) c.candidates
 
 abbrev pub may_renew : Joint → ℕ → Bool
-may_renew j h = has_that (is_candidates j h) j.graph.managed.cycle && has_that not (numbered_at j.graph.removed h) && has_that (λ p. true) (peer_of j.graph.peers.issued h)
+may_renew j h = has_that (is_candidates j h) j.graph.managed.cycle && has_that not
+    (numbered_at j.graph.removed h) && has_that (λ p. true) (peer_of j.graph.peers.issued h)
 
 -- whether each candidate has had its restore
 abbrev pub is_answered : Joint → Bool
@@ -108,7 +122,8 @@ joint_allows j t (op.Snap k) (snap_of freed candidates dead) = is_snapshot j.gra
 joint_allows j t op.Begin told = true
 joint_allows j t op.Sweep told = may_sweep j j.marking t told
 joint_allows j t (op.Restore h) told = may_renew j h.0
-joint_allows j t (op.Resolve k) (resolution_of alive freed) = is_answered j && is_open j.graph.managed k.0 (λ c. is_resolution j.graph.managed c.dead (kept_rows j.graph c) freed)
+joint_allows j t (op.Resolve k) (resolution_of alive freed) = is_answered j && is_open j.graph.managed k.0
+    (λ c. is_resolution j.graph.managed c.dead (kept_rows j.graph c) freed)
 joint_allows j t (op.Abandon k) told = list_all is_empty j.answers && is_open j.graph.managed k.0 (λ c. true)
 joint_allows j t o told = is_computed o
 
@@ -129,7 +144,8 @@ all_may_step j (n ∷ ns) = may_step j n && all_may_step (joint_after j n) ns
 
 abbrev pub joint_moments : Joint → List Noted → List Moment
 joint_moments j [] = []
-joint_moments j (n ∷ ns) = record { before = j; noted = n; after = joint_after j n } ∷ joint_moments (joint_after j n) ns
+joint_moments j (n ∷ ns) = record { before = j; noted = n; after = joint_after j n } ∷ joint_moments
+    (joint_after j n) ns
 
 -- an entry that passes the test is a step, and the moments of a list that passes it are a run
 abbrev pub StepsAreTested : Type 0

@@ -9,9 +9,13 @@
 #![tactic(auto)]
 
 ghost use Rattle.computed_histories.specs.Graphs.{ReachedIsTested, UnreachedAreTested};
-ghost use Rattle.computed_histories.specs.Histories.{AllMayComeIsTested, MayComeIsTested, NumbersAreTested, RepliesAreTested, WholeIsTested};
-ghost use Rattle.computed_histories.specs.Parts.{CallerIsTested, ClosureIsTested, ContractionIsTested, EventIsTested, ManagedIsTested, PeerIsTested, ResolutionIsTested, SnapshotIsTested, SweepIsTested};
-ghost use Rattle.computed_histories.specs.Readings.{LinkedHasQueued, LinkedIsTested, PendingIsTested, ReadingIsTested, UnsetIsTested};
+ghost use Rattle.computed_histories.specs.Histories.{AllMayComeIsTested, MayComeIsTested, NumbersAreTested};
+ghost use Rattle.computed_histories.specs.Histories.{RepliesAreTested, WholeIsTested};
+ghost use Rattle.computed_histories.specs.Parts.{CallerIsTested, ClosureIsTested, ContractionIsTested, EventIsTested};
+ghost use Rattle.computed_histories.specs.Parts.{ManagedIsTested, PeerIsTested, ResolutionIsTested, SnapshotIsTested};
+ghost use Rattle.computed_histories.specs.Parts.{SweepIsTested};
+ghost use Rattle.computed_histories.specs.Readings.{LinkedHasQueued, LinkedIsTested, PendingIsTested, ReadingIsTested};
+ghost use Rattle.computed_histories.specs.Readings.{UnsetIsTested};
 ghost use Rattle.computed_histories.specs.States.{StatesAreTested};
 ghost use Rattle.computed_histories.specs.Steps.{RunsAreTested, StepsAreTested};
 

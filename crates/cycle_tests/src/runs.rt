@@ -116,7 +116,8 @@ impl<N: OrderName> Model for DrivenBridge<N> {
 
     ghost view = { λ d. d.driver.phase };
 
-    ghost invariant = { λ d. GaveThree d.desk × (d.one.thread ≡ M 1) × (last_index (own d.one) ≤ 1) × (d.two.thread ≡ P 1) × (last_index (own d.two) ≤ 1) × (line_of d.driver ≤ 1) };
+    ghost invariant = { λ d. GaveThree d.desk × (d.one.thread ≡ M 1) × (last_index (own d.one) ≤ 1)
+        × (d.two.thread ≡ P 1) × (last_index (own d.two) ≤ 1) × (line_of d.driver ≤ 1) };
 }
 
 // Runs the driver's call of that name.

@@ -58,7 +58,8 @@ line_open t old mid new b n m = record { sound = tt; complete = by }
     by (op.Line a) rest g e = absurd (m.complete tt rest tt (n a (codes "=" ∷ rest) g.0 (e ∙ with_equals (act_words t a) rest)).1).0
     by o rest g e = absurd g
 
-pub line_taken : (t : Thread) (old mid new : List (List ℕ)) (b : Act) → OnlyAct t old mid (Some b) → IsLine t b → old ≡ act_words t b ++ mid → IsOneEvent b → Equals mid new (Some tt) → Takes (IsLineEvent t) (ends (event_words t)) old new (Some (op.Line b))
+pub line_taken : (t : Thread) (old mid new : List (List ℕ)) (b : Act) → OnlyAct t old mid (Some b) → IsLine t b → old ≡ act_words t b ++ mid
+    → IsOneEvent b → Equals mid new (Some tt) → Takes (IsLineEvent t) (ends (event_words t)) old new (Some (op.Line b))
 line_taken t old mid new b n l e q m = record { sound = ((l, q), e ∙ (ap (λ z. act_words t b ++ z) m.sound.1 ∙ sym (with_equals (act_words t b) new))); complete = by }
   where
     by : (o : Op) (rest : List (List ℕ)) → IsLineEvent t o → old ≡ ends (event_words t) o ++ rest → Unit {0} × (new ≡ rest)
@@ -71,7 +72,8 @@ find [] w = word.Make
 find (v ∷ vs) w = cond (bytes_eq (word_text v) w) v (find vs w)
 
 abbrev found : List ℕ → EventWord
-found = find (word.Make ∷ word.Adopt ∷ word.Lend ∷ word.Land ∷ word.Grip ∷ word.Meet ∷ word.Give ∷ word.Release ∷ word.Snap ∷ word.Contract ∷ word.Mirror ∷ word.Weaken ∷ word.Begin ∷ word.Sweep ∷ word.Restore ∷ word.Clear ∷ word.Resolve ∷ word.Abandon ∷ word.Refused ∷ [])
+found = find (word.Make ∷ word.Adopt ∷ word.Lend ∷ word.Land ∷ word.Grip ∷ word.Meet ∷ word.Give ∷ word.Release ∷ word.Snap ∷ word.Contract ∷ word.Mirror ∷ word.Weaken ∷ word.Begin
+    ∷ word.Sweep ∷ word.Restore ∷ word.Clear ∷ word.Resolve ∷ word.Abandon ∷ word.Refused ∷ [])
 
 known : (v : EventWord) → found (word_text v) ≡ v
 known word.Make = refl
@@ -160,7 +162,8 @@ pub step_unread : (old new : List (List ℕ)) (w : List ℕ) → old ≡ w ∷ n
 step_unread old new w n m = record { sound = tt; complete = λ o rest g e. absurd (let s = step_by o old rest g e in let q = s.words in m s.word (let k = n in cc)) }
 
 -- the step of the word that was read
-behind_word : (o : Op) (old mid rest : List (List ℕ)) (w : List ℕ) (v : EventWord) → old ≡ w ∷ mid → word_text v ≡ w → IsStep o → old ≡ ends step_words o ++ rest → IsEventOf v o × (mid ≡ others o ++ (codes "=" ∷ rest))
+behind_word : (o : Op) (old mid rest : List (List ℕ)) (w : List ℕ) (v : EventWord) → old ≡ w ∷ mid → word_text v ≡ w
+    → IsStep o → old ≡ ends step_words o ++ rest → IsEventOf v o × (mid ≡ others o ++ (codes "=" ∷ rest))
 behind_word o old mid rest w v n r g e =
     let s = step_by o old rest g e in
     let q = s.words in
@@ -171,8 +174,12 @@ behind_word o old mid rest w v n r g e =
 pub step_none : (old mid new : List (List ℕ)) (w : List ℕ) (v : EventWord) → old ≡ w ∷ mid → word_text v ≡ w → Takes (IsEventOf v) others mid new None → Takes IsStep (ends step_words) old new None
 step_none old mid new w v n r k = record { sound = tt; complete = λ o rest g e. absurd (let b = behind_word o old mid rest w v n r g e in (k.complete o (codes "=" ∷ rest) b.0 b.1).0) }
 
-pub step_open : (old mid left new : List (List ℕ)) (w : List ℕ) (v : EventWord) (p : Op) → old ≡ w ∷ mid → word_text v ≡ w → Takes (IsEventOf v) others mid left (Some p) → Equals left new None → Takes IsStep (ends step_words) old new None
-step_open old mid left new w v p n r k m = record { sound = tt; complete = λ o rest g e. absurd (let b = behind_word o old mid rest w v n r g e in (m.complete tt rest tt (k.complete o (codes "=" ∷ rest) b.0 b.1).1).0) }
+pub step_open : (old mid left new : List (List ℕ)) (w : List ℕ) (v : EventWord) (p : Op) → old ≡ w ∷ mid → word_text v ≡ w
+    → Takes (IsEventOf v) others mid left (Some p) → Equals left new None → Takes IsStep (ends step_words) old new None
+step_open old mid left new w v p n r k m = record {
+  sound = tt;
+  complete = λ o rest g e. absurd (let b = behind_word o old mid rest w v n r g e in (m.complete tt rest tt (k.complete o (codes "=" ∷ rest) b.0 b.1).1).0);
+}
 
 -- an event of a word has that word
 event_word_is : (v : EventWord) (o : Op) → IsEventOf v o → word_of o ≡ Some v
@@ -197,11 +204,13 @@ event_word_is word.Abandon (op.Abandon k) g = refl
 event_word_is word.Refused (op.Refused w) g = refl
 event_word_is v o g = absurd g
 
-pub step_taken : (old mid left new : List (List ℕ)) (w : List ℕ) (v : EventWord) (p : Op) → old ≡ w ∷ mid → word_text v ≡ w → Takes (IsEventOf v) others mid left (Some p) → Equals left new (Some tt) → Takes IsStep (ends step_words) old new (Some p)
+pub step_taken : (old mid left new : List (List ℕ)) (w : List ℕ) (v : EventWord) (p : Op) → old ≡ w ∷ mid → word_text v ≡ w
+    → Takes (IsEventOf v) others mid left (Some p) → Equals left new (Some tt) → Takes IsStep (ends step_words) old new (Some p)
 step_taken old mid left new w v p n r k m =
     let is = event_word_is v p k.sound.0 in
     let S : Option EventWord → Type 0 = λ z. IsStepOf z p in
-    let words : old ≡ step_words p ++ (codes "=" ∷ new) = n ∙ (ap (λ z. z ∷ mid) (sym r) ∙ (ap (λ z. word_text v ∷ z) (k.sound.1 ∙ ap (λ z. others p ++ z) m.sound.1) ∙ ap (λ z. first_words z (others p) ++ (codes "=" ∷ new)) (sym is))) in
+    let words : old ≡ step_words p ++ (codes "=" ∷ new) = n ∙ (ap (λ z. z ∷ mid) (sym r)
+    ∙ (ap (λ z. word_text v ∷ z) (k.sound.1 ∙ ap (λ z. others p ++ z) m.sound.1) ∙ ap (λ z. first_words z (others p) ++ (codes "=" ∷ new)) (sym is))) in
     record {
       sound = (subst S (sym is) k.sound.0, words ∙ sym (with_equals (step_words p) new));
       complete = λ o rest g e. (let b = behind_word o old mid rest w v n r g e in (tt, (m.complete tt rest tt (k.complete o (codes "=" ∷ rest) b.0 b.1).1).1));
@@ -291,8 +300,13 @@ event_by_line t old new p k = record { sound = (line_readable t p k.sound.0, k.s
 as_step : (t : Thread) (o : Op) (old rest : List (List ℕ)) → IsStep o → old ≡ ends (event_words t) o ++ rest → old ≡ ends step_words o ++ rest
 as_step t o old rest g e = e ∙ ap (λ z. (z ++ codes "=" ∷ []) ++ rest) (step_event t o g)
 
-event_none : (t : Thread) (old mid new : List (List ℕ)) → Takes (IsLineEvent t) (ends (event_words t)) old mid None → Takes IsStep (ends step_words) old new None → Takes (IsReadable t) (ends (event_words t)) old new None
-event_none t old mid new a b = record { sound = tt; complete = λ o rest g e. absurd (elim (line_or_step t o g) [ inl h ↦ (a.complete o rest h e).0 | inr h ↦ (b.complete o rest h (as_step t o old rest h e)).0 ]) }
+event_none : (t : Thread) (old mid new : List (List ℕ)) → Takes (IsLineEvent t) (ends (event_words t)) old mid None
+    → Takes IsStep (ends step_words) old new None → Takes (IsReadable t) (ends (event_words t)) old new None
+event_none t old mid new a b = record {
+  sound = tt;
+  complete = λ o rest g e. absurd
+      (elim (line_or_step t o g) [ inl h ↦ (a.complete o rest h e).0 | inr h ↦ (b.complete o rest h (as_step t o old rest h e)).0 ]);
+}
 
 event_by_step : (t : Thread) (old new : List (List ℕ)) (p : Op) → IsThread t → Takes IsStep (ends step_words) old new (Some p) → Takes (IsReadable t) (ends (event_words t)) old new (Some p)
 event_by_step t old new p h k =
@@ -300,7 +314,8 @@ event_by_step t old new p h k =
     record { sound = (step_readable t p h k.sound.0, words); complete = λ o rest g e. (tt, one_rest t o p old new rest words e) }
 
 -- a line's event or a step, whichever was found
-pub event_rest : (t : Thread) (old mid new : List (List ℕ)) (r : Option Op) → IsThread t → Takes (IsLineEvent t) (ends (event_words t)) old mid None → Takes IsStep (ends step_words) old new r → Takes (IsReadable t) (ends (event_words t)) old new r
+pub event_rest : (t : Thread) (old mid new : List (List ℕ)) (r : Option Op) → IsThread t → Takes (IsLineEvent t) (ends (event_words t)) old mid None
+    → Takes IsStep (ends step_words) old new r → Takes (IsReadable t) (ends (event_words t)) old new r
 event_rest t old mid new None h a b = event_none t old mid new a b
 event_rest t old mid new (Some p) h a b = event_by_step t old new p h b
 
@@ -308,6 +323,11 @@ event_rest t old mid new (Some p) h a b = event_by_step t old new p h b
 pub driver_by_step : (old new : List (List ℕ)) (p : Op) → Takes IsStep (ends step_words) old new (Some p) → Takes (IsReadable C) (ends (event_words C)) old new (Some p)
 driver_by_step old new p k = event_by_step C old new p tt k
 
-pub driver_rest : (old mid new : List (List ℕ)) (r : Option Op) → Takes IsStep (ends step_words) old mid None → Takes (IsLineEvent C) (ends (event_words C)) old new r → Takes (IsReadable C) (ends (event_words C)) old new r
-driver_rest old mid new None b a = record { sound = tt; complete = λ o rest g e. absurd (elim (line_or_step C o g) [ inl h ↦ (a.complete o rest h e).0 | inr h ↦ (b.complete o rest h (as_step C o old rest h e)).0 ]) }
+pub driver_rest : (old mid new : List (List ℕ)) (r : Option Op) → Takes IsStep (ends step_words) old mid None
+    → Takes (IsLineEvent C) (ends (event_words C)) old new r → Takes (IsReadable C) (ends (event_words C)) old new r
+driver_rest old mid new None b a = record {
+  sound = tt;
+  complete = λ o rest g e. absurd
+      (elim (line_or_step C o g) [ inl h ↦ (a.complete o rest h e).0 | inr h ↦ (b.complete o rest h (as_step C o old rest h e)).0 ]);
+}
 driver_rest old mid new (Some p) b a = event_by_line C old new p a

@@ -31,7 +31,8 @@ only_dash : (rising : Bool) (letter : ℕ) (new : List (List ℕ)) (ns : List �
 only_dash rising letter new [] c l e = cc
 only_dash rising letter new (n ∷ ns) c l e = absurd (l (cc))
 
-pub dash_taken : {A : Type 0} (of : List ℕ → List A) (rising : Bool) (letter : ℕ) (old new : List (List ℕ)) (before : List A) (s : Span) → of [] ≡ [] → letter ≢ 45 → length before < 2 ^ 32 → s.first ≡ length before → s.count ≡ 0 → old ≡ codes "-" ∷ new → TakesList of rising letter old new before before (Some s)
+pub dash_taken : {A : Type 0} (of : List ℕ → List A) (rising : Bool) (letter : ℕ) (old new : List (List ℕ)) (before : List A) (s : Span) → of [] ≡ []
+    → letter ≢ 45 → length before < 2 ^ 32 → s.first ≡ length before → s.count ≡ 0 → old ≡ codes "-" ∷ new → TakesList of rising letter old new before before (Some s)
 dash_taken of rising letter old new before s z l b f n e = record {
   sound = record { numbers = []; list = no_numbers rising; words = e; span = (f, n); short = (omega (arith, f), omega (arith, n)); put = sym (append-nil before) ∙ ap (λ t. before ++ t) (sym z) };
   complete = λ ns c h q. (tt, only_dash rising letter new ns c l (sym e ∙ q));
@@ -43,14 +44,17 @@ nothing_put of before after [] k e n = refl
 nothing_put of before after (m ∷ ns) k e n = absurd (omega (arith, ap length e, length-append before (of (m ∷ ns)), k (m ∷ ns)))
 
 -- a list only grows
-pub puts_grow : {A : Type 0} (of : List ℕ → List A) (rising : Bool) (letter : ℕ) (old new : List (List ℕ)) (before after : List A) → Puts of rising letter old new before after → length before ≤ length after
+pub puts_grow : {A : Type 0} (of : List ℕ → List A) (rising : Bool) (letter : ℕ) (old new : List (List ℕ)) (before after : List A)
+    → Puts of rising letter old new before after → length before ≤ length after
 puts_grow of rising letter old new before after p = omega (arith, ap length p.put, length-append before (of p.numbers))
 
-no_list : (rising : Bool) (letter : ℕ) (old new : List (List ℕ)) (ms : List ℕ) (c : Option ℕ) → letter ≢ 64 → ((rest : List (List ℕ)) → old ≢ codes "-" ∷ rest) → TakesAll rising letter old new [] → IsList rising ms → old ≡ listed letter ms ++ cite_words c → ⊥
+no_list : (rising : Bool) (letter : ℕ) (old new : List (List ℕ)) (ms : List ℕ) (c : Option ℕ) → letter ≢ 64
+    → ((rest : List (List ℕ)) → old ≢ codes "-" ∷ rest) → TakesAll rising letter old new [] → IsList rising ms → old ≡ listed letter ms ++ cite_words c → ⊥
 no_list rising letter old new [] c l d t h e = d (cite_words c) e
 no_list rising letter old new (m ∷ ms) c l d t h e = no_cite letter m (lettered letter ms ++ cite_words c) c l (sym e ∙ (t.words ∙ t.only (m ∷ ms) c h e))
 
-pub none_taken : {A : Type 0} (of : List ℕ → List A) (rising : Bool) (letter : ℕ) (old new : List (List ℕ)) (before after : List A) → KeepsLength of → of [] ≡ [] → letter ≢ 64 → ((rest : List (List ℕ)) → old ≢ codes "-" ∷ rest) → Puts of rising letter old new before after → length after ≡ length before → TakesList of rising letter old new before after None
+pub none_taken : {A : Type 0} (of : List ℕ → List A) (rising : Bool) (letter : ℕ) (old new : List (List ℕ)) (before after : List A) → KeepsLength of → of [] ≡ [] → letter ≢ 64
+    → ((rest : List (List ℕ)) → old ≢ codes "-" ∷ rest) → Puts of rising letter old new before after → length after ≡ length before → TakesList of rising letter old new before after None
 none_taken of rising letter old new before after k z l d p n =
     let none = nothing_put of before after p.numbers k p.put n in
     let T : List ℕ → Type 0 = λ ns. TakesAll rising letter old new ns in
@@ -64,11 +68,14 @@ some_listed : (letter : ℕ) (ns : List ℕ) → (ns ≡ [] → ⊥) → listed 
 some_listed letter [] n = absurd (n refl)
 some_listed letter (m ∷ ns) n = refl
 
-only_numbers : (rising : Bool) (letter : ℕ) (old new : List (List ℕ)) (ns ms : List ℕ) (c : Option ℕ) → ((rest : List (List ℕ)) → old ≢ codes "-" ∷ rest) → TakesAll rising letter old new ns → IsList rising ms → old ≡ listed letter ms ++ cite_words c → new ≡ cite_words c
+only_numbers : (rising : Bool) (letter : ℕ) (old new : List (List ℕ)) (ns ms : List ℕ) (c : Option ℕ) → ((rest : List (List ℕ)) → old ≢ codes "-" ∷ rest)
+    → TakesAll rising letter old new ns → IsList rising ms → old ≡ listed letter ms ++ cite_words c → new ≡ cite_words c
 only_numbers rising letter old new ns [] c d t h e = absurd (d (cite_words c) e)
 only_numbers rising letter old new ns (m ∷ ms) c d t h e = t.only (m ∷ ms) c h e
 
-pub list_taken : {A : Type 0} (of : List ℕ → List A) (rising : Bool) (letter : ℕ) (old new : List (List ℕ)) (before after : List A) (s : Span) → KeepsLength of → of [] ≡ [] → ((rest : List (List ℕ)) → old ≢ codes "-" ∷ rest) → Puts of rising letter old new before after → length after < 2 ^ 32 → s.first ≡ length before → length before + s.count ≡ length after → 0 < s.count
+pub list_taken : {A : Type 0} (of : List ℕ → List A) (rising : Bool) (letter : ℕ) (old new : List (List ℕ)) (before after : List A) (s : Span) → KeepsLength of → of [] ≡ []
+    → ((rest : List (List ℕ)) → old ≢ codes "-" ∷ rest) → Puts of rising letter old new before after
+    → length after < 2 ^ 32 → s.first ≡ length before → length before + s.count ≡ length after → 0 < s.count
     → TakesList of rising letter old new before after (Some s)
 list_taken of rising letter old new before after s k z d p b f n g =
     let ns = p.numbers in
@@ -76,24 +83,36 @@ list_taken of rising letter old new before after s k z d p b f n g =
     let some : ns ≡ [] → ⊥ = λ e. omega (arith, long, ap length e, n, g) in
     let count : s.count ≡ length ns = omega (arith, long, n) in
     record {
-      sound = record { numbers = ns; list = p.takes.list; words = p.takes.words ∙ ap (λ t. t ++ new) (sym (some_listed letter ns some)); span = (f, count); short = (omega (arith, f, b, n), omega (arith, b, n)); put = p.put };
+      sound = record {
+        numbers = ns;
+        list = p.takes.list;
+        words = p.takes.words
+            ∙ ap (λ t. t ++ new) (sym (some_listed letter ns some));
+        span = (f, count);
+        short = (omega (arith, f, b, n), omega (arith, b, n));
+        put = p.put;
+      };
       complete = λ ms c h e. (tt, only_numbers rising letter old new ns ms c d p.takes h e);
     }
 
 -- no list stands there
-pub ends_without : {A : Type 0} (of : List ℕ → List A) (rising : Bool) (letter : ℕ) (old new : List (List ℕ)) (before after : List A) → TakesList of rising letter old new before after None → EndsList of rising letter old before after None
+pub ends_without : {A : Type 0} (of : List ℕ → List A) (rising : Bool) (letter : ℕ) (old new : List (List ℕ)) (before after : List A)
+    → TakesList of rising letter old new before after None → EndsList of rising letter old before after None
 ends_without of rising letter old new before after t = (t.sound.1, λ ns c l f e. (t.complete ns c l e).0)
 
 -- or something else than a citation stands behind it
-pub ends_otherwise : {A : Type 0} (of : List ℕ → List A) (rising : Bool) (letter : ℕ) (old new : List (List ℕ)) (before after : List A) (s : Span) → TakesList of rising letter old new before after (Some s) → ((c : Option ℕ) → FitsCites c → new ≢ cite_words c) → EndsList of rising letter old before before None
+pub ends_otherwise : {A : Type 0} (of : List ℕ → List A) (rising : Bool) (letter : ℕ) (old new : List (List ℕ)) (before after : List A) (s : Span)
+    → TakesList of rising letter old new before after (Some s) → ((c : Option ℕ) → FitsCites c → new ≢ cite_words c) → EndsList of rising letter old before before None
 ends_otherwise of rising letter old new before after s t n = (refl, λ ns c l f e. n c f (t.complete ns c l e).1)
 
 -- a list, and what the line cites
-pub ends_with : {A : Type 0} (of : List ℕ → List A) (rising : Bool) (letter : ℕ) (old new : List (List ℕ)) (before after : List A) (s : Span) (c : Option ℕ) → TakesList of rising letter old new before after (Some s) → FitsCites c → new ≡ cite_words c → EndsList of rising letter old before after (Some (s, c))
+pub ends_with : {A : Type 0} (of : List ℕ → List A) (rising : Bool) (letter : ℕ) (old new : List (List ℕ)) (before after : List A) (s : Span) (c : Option ℕ)
+    → TakesList of rising letter old new before after (Some s) → FitsCites c → new ≡ cite_words c → EndsList of rising letter old before after (Some (s, c))
 ends_with of rising letter old new before after s c t f e =
     let n = t.sound in
     record { cites = f; names = record { numbers = n.numbers; list = n.list; words = n.words ∙ ap (λ z. listed letter n.numbers ++ z) e; span = n.span; short = n.short; put = n.put } }
 
 -- the list without what was put behind it
-pub cut_back : {A : Type 0} (of : List ℕ → List A) (rising : Bool) (letter : ℕ) (old new : List (List ℕ)) (before after : List A) (s : Span) (n : ℕ) → n ≡ length before → TakesList of rising letter old new before after (Some s) → take n after ≡ before
+pub cut_back : {A : Type 0} (of : List ℕ → List A) (rising : Bool) (letter : ℕ) (old new : List (List ℕ)) (before after : List A) (s : Span) (n : ℕ)
+    → n ≡ length before → TakesList of rising letter old new before after (Some s) → take n after ≡ before
 cut_back of rising letter old new before after s n e t = rw (e, t.sound.put, take-append_seam before (of t.sound.numbers)) refl

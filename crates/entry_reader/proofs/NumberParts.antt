@@ -1,7 +1,8 @@
 -- Numbers of a list are taken one by one. So far, whatever list with a citation the words are, what is left is the rest
 -- of that list with the citation: each of its next numbers is the one that was taken, since a decimal is of one number,
 -- and where none was taken the list is at its end.
-use Rattle.std.proofs.Common.{◌≡◌, ◌≢◌, ℕ, ◌+◌, ◌<◌, ◌≤◌, ◌^◌, Bool, true, false, cond, List, [], ◌∷◌, ◌++◌, length, take, drop, get_or, Option, Some, None, All, decimal, refl, sym, ap, ◌∙◌, subst, arith, append_assoc, append-nil, length-append}
+use Rattle.std.proofs.Common.{◌≡◌, ◌≢◌, ℕ, ◌+◌, ◌<◌, ◌≤◌, ◌^◌, Bool, true, false, cond, List, [], ◌∷◌, ◌++◌, length, take, drop, get_or, Option, Some, None, All, decimal, refl, sym, ap, ◌∙◌, subst}
+use Rattle.std.proofs.Common.{arith, append_assoc, append-nil, length-append}
 use Rattle.std.proofs.lemmas.Fmt.{decimal_injective}
 use Rattle.std.proofs.Math.Seq.{get_or-append_seam}
 use Rattle.std.proofs.lemmas.List.{map-append}
@@ -91,7 +92,8 @@ next_above false n ms l = from_none ms
 list_tail : (rising : Bool) (n : ℕ) (ms : List ℕ) → IsList rising (n ∷ ms) → IsList rising ms
 list_tail rising n ms l = record { short = All-tail Short n ms l.short; rises = λ e. (l.rises e).1 }
 
-next_rest : (rising : Bool) (letter least n : ℕ) (new : List (List ℕ)) (c : Option ℕ) → letter ≢ 64 → Short n → Rest rising letter least ((letter ∷ decimal n) ∷ new) c → Rest rising letter (cond rising (n + 1) 0) new c
+next_rest : (rising : Bool) (letter least n : ℕ) (new : List (List ℕ)) (c : Option ℕ) → letter ≢ 64 → Short n
+    → Rest rising letter least ((letter ∷ decimal n) ∷ new) c → Rest rising letter (cond rising (n + 1) 0) new c
 next_rest rising letter least n new c l s r = by r.more r.list r.words
   where
     by : (more : List ℕ) → IsList rising more → (letter ∷ decimal n) ∷ new ≡ lettered letter more ++ cite_words c → Rest rising letter (cond rising (n + 1) 0) new c
@@ -108,7 +110,8 @@ below_next true least n ns l b e = All-push (λ m. m < n + 1) ns n (All-weaker (
 below_next false least n ns l b e = absurd (cc)
 
 -- one more number
-pub taken_more : (rising : Bool) (letter least n : ℕ) (words left new : List (List ℕ)) (ns : List ℕ) → letter ≢ 64 → TakesNumber letter least left new (Some n) → Taken rising letter least words left ns → Taken rising letter (cond rising (n + 1) 0) words new (ns ++ n ∷ [])
+pub taken_more : (rising : Bool) (letter least n : ℕ) (words left new : List (List ℕ)) (ns : List ℕ) → letter ≢ 64
+    → TakesNumber letter least left new (Some n) → Taken rising letter least words left ns → Taken rising letter (cond rising (n + 1) 0) words new (ns ++ n ∷ [])
 taken_more rising letter least n words left new ns l t k =
     let s = t.sound in
     let R : List (List ℕ) → Option ℕ → Type 0 = λ z c. Rest rising letter least z c in
@@ -130,7 +133,8 @@ last_rest rising letter least left new c t r = by r.more r.list r.above r.words
     by [] k a e = t.sound ∙ e
     by (m ∷ more) k a e = absurd (let h = (t.complete m (lettered letter more ++ cite_words c) (All-head Short m more k.short) (All-head (λ n. least ≤ n) m more a) e).0 in cc)
 
-pub taken_all : (rising : Bool) (letter least : ℕ) (words left new : List (List ℕ)) (ns : List ℕ) → TakesNumber letter least left new None → Taken rising letter least words left ns → TakesAll rising letter words new ns
+pub taken_all : (rising : Bool) (letter least : ℕ) (words left new : List (List ℕ)) (ns : List ℕ)
+    → TakesNumber letter least left new None → Taken rising letter least words left ns → TakesAll rising letter words new ns
 taken_all rising letter least words left new ns t k = record {
   list = k.list;
   words = k.begins ∙ ap (λ z. lettered letter ns ++ z) (sym t.sound);
@@ -150,7 +154,8 @@ put_none of rising letter words before e = record { numbers = []; taken = taken_
 abbrev pub Pushes : {A : Type 0} → (List ℕ → List A) → (ℕ → A) → Type 0
 Pushes of one = (ns : List ℕ) (n : ℕ) → of (ns ++ n ∷ []) ≡ of ns ++ one n ∷ []
 
-pub put_more : {A : Type 0} (of : List ℕ → List A) (one : ℕ → A) (rising : Bool) (letter least n : ℕ) (words left new : List (List ℕ)) (before mid after : List A) → Pushes of one → letter ≢ 64 → TakesNumber letter least left new (Some n) → PutSoFar of rising letter least words left before mid → after ≡ mid ++ one n ∷ []
+pub put_more : {A : Type 0} (of : List ℕ → List A) (one : ℕ → A) (rising : Bool) (letter least n : ℕ) (words left new : List (List ℕ)) (before mid after : List A)
+    → Pushes of one → letter ≢ 64 → TakesNumber letter least left new (Some n) → PutSoFar of rising letter least words left before mid → after ≡ mid ++ one n ∷ []
     → PutSoFar of rising letter (cond rising (n + 1) 0) words new before after
 put_more of one rising letter least n words left new before mid after p l t k e = record {
   numbers = k.numbers ++ n ∷ [];
@@ -158,7 +163,8 @@ put_more of one rising letter least n words left new before mid after p l t k e 
   put = e ∙ (ap (λ z. z ++ one n ∷ []) k.put ∙ (append_assoc before (of k.numbers) (one n ∷ []) ∙ ap (λ z. before ++ z) (sym (p k.numbers n))));
 }
 
-pub put_all : {A : Type 0} (of : List ℕ → List A) (rising : Bool) (letter least : ℕ) (words left new : List (List ℕ)) (before after : List A) → TakesNumber letter least left new None → PutSoFar of rising letter least words left before after → Puts of rising letter words new before after
+pub put_all : {A : Type 0} (of : List ℕ → List A) (rising : Bool) (letter least : ℕ) (words left new : List (List ℕ)) (before after : List A)
+    → TakesNumber letter least left new None → PutSoFar of rising letter least words left before after → Puts of rising letter words new before after
 put_all of rising letter least words left new before after t k = record { numbers = k.numbers; takes = taken_all rising letter least words left new k.numbers t k.taken; put = k.put }
 
 -- objects of a kind, one after another
@@ -176,7 +182,8 @@ no_point w t n d e before f =
     before k (omega (arith, long, e)) (ap (λ z. get_or z k 0) (sym f) ∙ get_or-append_seam (thread_text t) 46 (decimal n) 0)
 
 -- the parts of a place
-pub place_parts : (w : List ℕ) (t : Thread) (n d : ℕ) → d < length w → ((k : ℕ) → k < d → get_or w k 0 ≡ 46 → ⊥) → get_or w d 0 ≡ 46 → place_text t n ≡ w → (thread_text t ≡ take d w) × (decimal n ≡ drop (d + 1) w)
+pub place_parts : (w : List ℕ) (t : Thread) (n d : ℕ) → d < length w → ((k : ℕ) → k < d → get_or w k 0 ≡ 46 → ⊥)
+    → get_or w d 0 ≡ 46 → place_text t n ≡ w → (thread_text t ≡ take d w) × (decimal n ≡ drop (d + 1) w)
 place_parts w t n d l before found e =
     let free = recursion_from_All (λ b. b ≢ 46) (take d w) (free_before 46 d w (omega (arith, l)) before) in
     cut-first 46 (thread_text t) (take d w) (decimal n) (drop (d + 1) w) (thread-whole t) free (e ∙ cut_at 46 d w l found)

@@ -33,7 +33,8 @@ abbrev pub NoEnd : (Reply → Type 0) → List (List ℕ) → Type 0
 NoEnd kind words = (r : Reply) (c : Option ℕ) → kind r → IsEnd words r c → ⊥
 
 -- a reply was read to the end of the line
-pub ended : (kind : Reply → Type 0) (words rest : List (List ℕ)) (r : Reply) (t : Reply × Option ℕ) → kind r → FitsReply r → words ≡ reply_words r ++ rest → (t.0 ≡ r) × FitsCites t.1 × (rest ≡ cite_words t.1) → kind t.0 × IsEnd words t.0 t.1
+pub ended : (kind : Reply → Type 0) (words rest : List (List ℕ)) (r : Reply) (t : Reply × Option ℕ) → kind r → FitsReply r
+    → words ≡ reply_words r ++ rest → (t.0 ≡ r) × FitsCites t.1 × (rest ≡ cite_words t.1) → kind t.0 × IsEnd words t.0 t.1
 ended kind words rest r t k f e h =
     let same : r ≡ t.0 = sym h.0 in
     let F : Reply → Type 0 = λ z. FitsReply z in
@@ -41,7 +42,8 @@ ended kind words rest r t k f e h =
     (subst kind same k, record { fits = subst F same f; cites = h.1; same = subst W same e ∙ ap (λ z. reply_words t.0 ++ z) h.2 })
 
 -- or what stands behind it isn't what a line may cite
-pub ends_by : (kind : Reply → Type 0) (words rest : List (List ℕ)) (r : Reply) (result : Option (Reply × Option ℕ)) → kind r → FitsReply r → words ≡ reply_words r ++ rest → (NoCites rest → NoEnd kind words) → EndsAs r rest result → Ends kind words result
+pub ends_by : (kind : Reply → Type 0) (words rest : List (List ℕ)) (r : Reply) (result : Option (Reply × Option ℕ)) → kind r
+    → FitsReply r → words ≡ reply_words r ++ rest → (NoCites rest → NoEnd kind words) → EndsAs r rest result → Ends kind words result
 ends_by kind words rest r None k f e n h = n h
 ends_by kind words rest r (Some t) k f e n h = ended kind words rest r t k f e h
 
@@ -171,7 +173,8 @@ same_managed : (m n : MNum) → Short m.0 → Short n.0 → managed_text m ≡ m
 same_managed m n k l e = (let f : decimal m.0 ≡ decimal n.0 = cc in let g = decimal_injective m.0 n.0 (omega (arith, k)) (omega (arith, l)) f in ap (λ (x : ℕ). let y : MNum = record { 0 = x } in y) g)
 
 -- behind an object that isn't all
-pub managed_else : (words rest : List (List ℕ)) (m : MNum) (found : Option (Reply × Option ℕ)) → words ≡ managed_text m ∷ rest → Short m.0 → NoCites rest → Ends (IsNew m) (managed_text m ∷ rest) found → Ends IsManaged words found
+pub managed_else : (words rest : List (List ℕ)) (m : MNum) (found : Option (Reply × Option ℕ)) → words ≡ managed_text m ∷ rest
+    → Short m.0 → NoCites rest → Ends (IsNew m) (managed_text m ∷ rest) found → Ends IsManaged words found
 managed_else words rest m None w f n h = as_words IsManaged words (managed_text m ∷ rest) w by
   where
     by : NoEnd IsManaged (managed_text m ∷ rest)
@@ -224,7 +227,8 @@ same_peer : (p q : PNum) → Short p.0 → Short q.0 → peer_text p ≡ peer_te
 same_peer p q k l e = (let f : decimal p.0 ≡ decimal q.0 = cc in let g = decimal_injective p.0 q.0 (omega (arith, k)) (omega (arith, l)) f in ap (λ (x : ℕ). let y : PNum = record { 0 = x } in y) g)
 
 -- behind a peer that isn't all
-pub peer_else : (words rest : List (List ℕ)) (p : PNum) (found : Option (Reply × Option ℕ)) → words ≡ peer_text p ∷ rest → Short p.0 → NoCites rest → Ends (IsHeld p) (peer_text p ∷ rest) found → Ends IsPeer words found
+pub peer_else : (words rest : List (List ℕ)) (p : PNum) (found : Option (Reply × Option ℕ)) → words ≡ peer_text p ∷ rest
+    → Short p.0 → NoCites rest → Ends (IsHeld p) (peer_text p ∷ rest) found → Ends IsPeer words found
 peer_else words rest p None w f n h = as_words IsPeer words (peer_text p ∷ rest) w by
   where
     by : NoEnd IsPeer (peer_text p ∷ rest)
@@ -416,7 +420,8 @@ count_unread w rest n (reply.Refs a) c k e = n a e.fits (let q = e.same in cc)
 count_unread w rest n r c k e = absurd k
 
 -- behind a number that isn't all
-pub count_else : (words rest : List (List ℕ)) (n : ℕ) (found : Option (Reply × Option ℕ)) → words ≡ decimal n ∷ rest → Short n → NoCites rest → Ends (IsCounted n) (decimal n ∷ rest) found → Ends IsCount words found
+pub count_else : (words rest : List (List ℕ)) (n : ℕ) (found : Option (Reply × Option ℕ)) → words ≡ decimal n ∷ rest
+    → Short n → NoCites rest → Ends (IsCounted n) (decimal n ∷ rest) found → Ends IsCount words found
 count_else words rest n None w f m h = as_words IsCount words (decimal n ∷ rest) w by
   where
     by : NoEnd IsCount (decimal n ∷ rest)
@@ -447,7 +452,8 @@ counted_other n w v rest a b (reply.Sccs x y) c k e = b (let q = e.same in cc)
 counted_other n w v rest a b r c k e = absurd k
 
 -- behind a number of components
-pub counted_else : (n : ℕ) (w v : List ℕ) (rest : List (List ℕ)) (found : Option (Reply × Option ℕ)) → v ≡ codes "sccs" → Ends (IsComponents n) (w ∷ codes "sccs" ∷ rest) found → Ends (IsCounted n) (w ∷ v ∷ rest) found
+pub counted_else : (n : ℕ) (w v : List ℕ) (rest : List (List ℕ)) (found : Option (Reply × Option ℕ))
+    → v ≡ codes "sccs" → Ends (IsComponents n) (w ∷ codes "sccs" ∷ rest) found → Ends (IsCounted n) (w ∷ v ∷ rest) found
 counted_else n w v rest None s h = as_words (IsCounted n) (w ∷ v ∷ rest) (w ∷ codes "sccs" ∷ rest) (ap (λ z. w ∷ z ∷ rest) s) by
   where
     by : NoEnd (IsCounted n) (w ∷ codes "sccs" ∷ rest)

@@ -174,7 +174,8 @@ same_kind kind.Bridge kind.Bridge e = refl
 same_kind kind.LeafBridge kind.LeafBridge e = refl
 same_kind k l e = absurd (cc)
 
-pub adopts : (v : Var) (k : Kind) (n : ℕ) (p : PNum) (h : HNum) (old new : List (List ℕ)) → n ≤ 16 → old ≡ others (op.Adopt v k n p h) ++ new → (o : Op) (rest : List (List ℕ)) → IsEventOf word.Adopt o → old ≡ others o ++ rest → IsAdoptable k n
+pub adopts : (v : Var) (k : Kind) (n : ℕ) (p : PNum) (h : HNum) (old new : List (List ℕ)) → n ≤ 16 → old ≡ others (op.Adopt v k n p h) ++ new
+    → (o : Op) (rest : List (List ℕ)) → IsEventOf word.Adopt o → old ≡ others o ++ rest → IsAdoptable k n
 adopts v k n p h old new l e (op.Adopt w j m q g) rest a f =
     let text : kind_text j ≡ kind_text k = cc in
     let number : decimal m ≡ decimal n = cc in
@@ -186,7 +187,8 @@ adopts v k n p h old new l e (op.Adopt w j m q g) rest a f =
 adopts v k n p h old new l e o rest a f = absurd a
 
 -- an event of one part
-pub one_taken : {A : Type 0} (ga : A → Type 0) (ta : A → List (List ℕ)) (good : Op → Type 0) (x : A) (o : Op) (old new : List (List ℕ)) → Splits ga ta good (behind 0) (behind 1) → ((p : Op) → good p → behind 1 p ≡ []) → Takes ga ta old new (Some x) → good o → others o ≡ ta x → Takes good others old new (Some o)
+pub one_taken : {A : Type 0} (ga : A → Type 0) (ta : A → List (List ℕ)) (good : Op → Type 0) (x : A) (o : Op) (old new : List (List ℕ))
+    → Splits ga ta good (behind 0) (behind 1) → ((p : Op) → good p → behind 1 p ≡ []) → Takes ga ta old new (Some x) → good o → others o ≡ ta x → Takes good others old new (Some o)
 one_taken ga ta good x o old new s n t g e =
     goes_whole good others (behind 1) old new o n (goes_on ga ta good others (behind 0) (behind 1) old old new (Some x) s t (goes_all good others old)) g (t.sound.1 ∙ ap (λ z. z ++ new) (sym e))
 

@@ -1,7 +1,8 @@
 -- The words behind the equals sign: a reply without a list, or one with a list, each kind by itself. Where two kinds
 -- have the same words, the one that is meant by the event is tried first, and what is read after it isn't what the
 -- first one has.
-use Rattle.std.proofs.Common.{◌≡◌, ◌≢◌, ℕ, ◌⊎◌, inl, inr, true, false, List, [], ◌∷◌, ◌++◌, Option, Some, None, Result, Ok, Err, IfOk, All, length, codes, decimal, refl, sym, ap, ◌∙◌, subst, arith, append-nil}
+use Rattle.std.proofs.Common.{◌≡◌, ◌≢◌, ℕ, ◌⊎◌, inl, inr, true, false, List, [], ◌∷◌, ◌++◌, Option, Some, None, Result, Ok, Err, IfOk, All, length, codes, decimal, refl, sym, ap, ◌∙◌, subst, arith}
+use Rattle.std.proofs.Common.{append-nil}
 use Rattle.std.proofs.lemmas.List.{nil_from_length}
 use Rattle.std.proofs.lemmas.List.Elements.{All-cons, All-head, All-nil}
 use Rattle.joint_machine.specs.declared.names.Marking.{Marking}
@@ -22,15 +23,19 @@ use Rattle.entry_reader.specs.Taking.{Takes}
 use Rattle.entry_reader.specs.Saying.{IsList, IsShown, said}
 use Rattle.entry_reader.specs.Tailing.{IsTail, ReadsTail, Tails}
 use Rattle.entry_reader.specs.Listing.{EndsList}
-use Rattle.entry_reader.specs.Replies.{IsPlain, IsManaged, IsPeer, IsHandle, IsKeyed, IsCount, IsEnd, Ends, IsUnlisted, IsSnapped, IsSwept, IsFreed, IsTook, IsUnnoticed, IsMeantListed, IsMeantNumbered, IsMeantUnnoticed, IsFinalise, IsSweep, TailsListed, TailsMeant, TailsNumbered, TailsUnnoticed}
+use Rattle.entry_reader.specs.Replies.{IsPlain, IsManaged, IsPeer, IsHandle, IsKeyed, IsCount, IsEnd, Ends, IsUnlisted, IsSnapped, IsSwept, IsFreed, IsTook, IsUnnoticed, IsMeantListed}
+use Rattle.entry_reader.specs.Replies.{IsMeantNumbered, IsMeantUnnoticed, IsFinalise, IsSweep, TailsListed, TailsMeant, TailsNumbered, TailsUnnoticed}
 use Rattle.entry_reader.proofs.ReplyParts.{NoEnd}
 
 -- lists are the same that have the same parts
 pub same_lists : (a b : Lists) → a.managed ≡ b.managed → a.peers ≡ b.peers → a.notices ≡ b.notices → a ≡ b
 same_lists a b e f g =
-    let one : record { managed = a.managed; peers = a.peers; notices = a.notices } ≡ record { managed = b.managed; peers = a.peers; notices = a.notices } = ap (λ (x : List MNum). let l : Lists = record { managed = x; peers = a.peers; notices = a.notices } in l) e in
-    let two : record { managed = b.managed; peers = a.peers; notices = a.notices } ≡ record { managed = b.managed; peers = b.peers; notices = a.notices } = ap (λ (x : List PNum). let l : Lists = record { managed = b.managed; peers = x; notices = a.notices } in l) f in
-    let three : record { managed = b.managed; peers = b.peers; notices = a.notices } ≡ record { managed = b.managed; peers = b.peers; notices = b.notices } = ap (λ (x : List MNum). let l : Lists = record { managed = b.managed; peers = b.peers; notices = x } in l) g in
+    let one : record { managed = a.managed; peers = a.peers; notices = a.notices } ≡ record { managed = b.managed; peers = a.peers; notices = a.notices } = ap
+    (λ (x : List MNum). let l : Lists = record { managed = x; peers = a.peers; notices = a.notices } in l) e in
+    let two : record { managed = b.managed; peers = a.peers; notices = a.notices } ≡ record { managed = b.managed; peers = b.peers; notices = a.notices } = ap
+    (λ (x : List PNum). let l : Lists = record { managed = b.managed; peers = x; notices = a.notices } in l) f in
+    let three : record { managed = b.managed; peers = b.peers; notices = a.notices } ≡ record { managed = b.managed; peers = b.peers; notices = b.notices } = ap
+    (λ (x : List MNum). let l : Lists = record { managed = b.managed; peers = b.peers; notices = x } in l) g in
     one ∙ (two ∙ three)
 
 -- no reply of a kind has the words, whatever its list
@@ -42,7 +47,8 @@ pub took_none : (words : List (List ℕ)) (before : List MNum) (after : List MNu
 took_none words before after e (reply.Took s) ns c k t = e.1 ns c t.shown t.cites t.same
 took_none words before after e r ns c k t = absurd k
 
-pub took_some : (words : List (List ℕ)) (a b : Lists) (s : Span) (c : Option ℕ) → EndsList as_managed false 109 words a.notices b.notices (Some (s, c)) → b.managed ≡ a.managed → b.peers ≡ a.peers → ReadsTail IsTook words a b (reply.Took s, c)
+pub took_some : (words : List (List ℕ)) (a b : Lists) (s : Span) (c : Option ℕ) → EndsList as_managed false 109 words a.notices b.notices (Some (s, c))
+    → b.managed ≡ a.managed → b.peers ≡ a.peers → ReadsTail IsTook words a b (reply.Took s, c)
 took_some words a b s c e f g =
     let n = e.names in
     record {
@@ -58,11 +64,13 @@ pub snapped_unread : (words new : List (List ℕ)) → Takes Short (λ n. decima
 snapped_unread words new k (reply.Snapped n s) ns c h t = (k.complete n (listed 109 ns ++ cite_words c) t.fits.0 t.same).0
 snapped_unread words new k r ns c h t = absurd h
 
-pub snapped_none : (words new : List (List ℕ)) (m : ℕ) (before after : List MNum) → Takes Short (λ n. decimal n ∷ codes "freed" ∷ []) words new (Some m) → EndsList as_managed true 109 new before after None → NoTail IsSnapped words
+pub snapped_none : (words new : List (List ℕ)) (m : ℕ) (before after : List MNum)
+    → Takes Short (λ n. decimal n ∷ codes "freed" ∷ []) words new (Some m) → EndsList as_managed true 109 new before after None → NoTail IsSnapped words
 snapped_none words new m before after k e (reply.Snapped n s) ns c h t = e.1 ns c t.shown t.cites (k.complete n (listed 109 ns ++ cite_words c) t.fits.0 t.same).1
 snapped_none words new m before after k e r ns c h t = absurd h
 
-pub snapped_some : (words new : List (List ℕ)) (m : ℕ) (a b : Lists) (s : Span) (c : Option ℕ) → Takes Short (λ n. decimal n ∷ codes "freed" ∷ []) words new (Some m) → EndsList as_managed true 109 new a.managed b.managed (Some (s, c)) → b.peers ≡ a.peers → b.notices ≡ a.notices → ReadsTail IsSnapped words a b (reply.Snapped m s, c)
+pub snapped_some : (words new : List (List ℕ)) (m : ℕ) (a b : Lists) (s : Span) (c : Option ℕ) → Takes Short (λ n. decimal n ∷ codes "freed" ∷ []) words new (Some m)
+    → EndsList as_managed true 109 new a.managed b.managed (Some (s, c)) → b.peers ≡ a.peers → b.notices ≡ a.notices → ReadsTail IsSnapped words a b (reply.Snapped m s, c)
 snapped_some words new m a b s c k e f g =
     let n = e.names in
     record {
@@ -78,11 +86,13 @@ pub swept_unread : (words new : List (List ℕ)) → Takes Short (λ n. decimal 
 swept_unread words new k (reply.Swept j s) ns c h t = (k.complete j.0 (listed 112 ns ++ cite_words c) t.fits.0 t.same).0
 swept_unread words new k r ns c h t = absurd h
 
-pub swept_none : (words new : List (List ℕ)) (m : ℕ) (before after : List PNum) → Takes Short (λ n. decimal n ∷ codes "freed" ∷ []) words new (Some m) → EndsList as_peers true 112 new before after None → NoTail IsSwept words
+pub swept_none : (words new : List (List ℕ)) (m : ℕ) (before after : List PNum)
+    → Takes Short (λ n. decimal n ∷ codes "freed" ∷ []) words new (Some m) → EndsList as_peers true 112 new before after None → NoTail IsSwept words
 swept_none words new m before after k e (reply.Swept j s) ns c h t = e.1 ns c t.shown t.cites (k.complete j.0 (listed 112 ns ++ cite_words c) t.fits.0 t.same).1
 swept_none words new m before after k e r ns c h t = absurd h
 
-pub swept_some : (words new : List (List ℕ)) (m : ℕ) (a b : Lists) (s : Span) (c : Option ℕ) → Takes Short (λ n. decimal n ∷ codes "freed" ∷ []) words new (Some m) → EndsList as_peers true 112 new a.peers b.peers (Some (s, c)) → b.managed ≡ a.managed → b.notices ≡ a.notices → ReadsTail IsSwept words a b (reply.Swept record { 0 = m } s, c)
+pub swept_some : (words new : List (List ℕ)) (m : ℕ) (a b : Lists) (s : Span) (c : Option ℕ) → Takes Short (λ n. decimal n ∷ codes "freed" ∷ []) words new (Some m)
+    → EndsList as_peers true 112 new a.peers b.peers (Some (s, c)) → b.managed ≡ a.managed → b.notices ≡ a.notices → ReadsTail IsSwept words a b (reply.Swept record { 0 = m } s, c)
 swept_some words new m a b s c k e f g =
     let n = e.names in
     record {
@@ -106,7 +116,8 @@ pub freed_none : (words rest : List (List ℕ)) (w : List ℕ) (before after : L
 freed_none words rest w before after e k (reply.Freed s) ns c h t = k.1 ns c t.shown t.cites (let p = e in let q = t.same in cc)
 freed_none words rest w before after e k r ns c h t = absurd h
 
-pub freed_some : (words rest : List (List ℕ)) (w : List ℕ) (a b : Lists) (s : Span) (c : Option ℕ) → words ≡ w ∷ rest → w ≡ codes "freed" → EndsList as_managed true 109 rest a.managed b.managed (Some (s, c)) → b.peers ≡ a.peers → b.notices ≡ a.notices → ReadsTail IsFreed words a b (reply.Freed s, c)
+pub freed_some : (words rest : List (List ℕ)) (w : List ℕ) (a b : Lists) (s : Span) (c : Option ℕ) → words ≡ w ∷ rest → w ≡ codes "freed"
+    → EndsList as_managed true 109 rest a.managed b.managed (Some (s, c)) → b.peers ≡ a.peers → b.notices ≡ a.notices → ReadsTail IsFreed words a b (reply.Freed s, c)
 freed_some words rest w a b s c e u k f g =
     let n = k.names in
     record {
@@ -118,7 +129,8 @@ freed_some words rest w a b s c e u k f g =
     }
 
 -- a reply without a list is of one of six kinds
-pub unlisted_none : (words : List (List ℕ)) → NoEnd IsPlain words → NoEnd IsManaged words → NoEnd IsPeer words → NoEnd IsHandle words → NoEnd IsCount words → NoEnd IsKeyed words → NoEnd IsUnlisted words
+pub unlisted_none : (words : List (List ℕ)) → NoEnd IsPlain words → NoEnd IsManaged words → NoEnd IsPeer words
+    → NoEnd IsHandle words → NoEnd IsCount words → NoEnd IsKeyed words → NoEnd IsUnlisted words
 unlisted_none words a b d e f g (reply.M m) c k t = b (reply.M m) c tt t
 unlisted_none words a b d e f g (reply.New m) c k t = b (reply.New m) c tt t
 unlisted_none words a b d e f g (reply.Twin m) c k t = b (reply.Twin m) c tt t
@@ -184,7 +196,8 @@ keyed_unlisted (reply.Took s) k = k
 keyed_unlisted r k = tt
 
 -- or it was read as the last of these kinds
-pub unlisted_rest : (words : List (List ℕ)) (found : Option (Reply × Option ℕ)) → NoEnd IsPlain words → NoEnd IsManaged words → NoEnd IsPeer words → NoEnd IsHandle words → NoEnd IsCount words → Ends IsKeyed words found → Ends IsUnlisted words found
+pub unlisted_rest : (words : List (List ℕ)) (found : Option (Reply × Option ℕ)) → NoEnd IsPlain words → NoEnd IsManaged words
+    → NoEnd IsPeer words → NoEnd IsHandle words → NoEnd IsCount words → Ends IsKeyed words found → Ends IsUnlisted words found
 unlisted_rest words None a b d e f g = unlisted_none words a b d e f g
 unlisted_rest words (Some t) a b d e f g = (keyed_unlisted t.0 g.0, g.1)
 
@@ -233,7 +246,8 @@ no_unlisted : (words : List (List ℕ)) → NoEnd IsUnlisted words → NoTail Is
 no_unlisted words n r ns c k t = n r c k record { fits = t.fits; cites = t.cites; same = t.same ∙ ap (λ z. z ++ cite_words c) (plainly r ns k) }
 
 -- what was read of lists that stayed so far, as of another kind
-pub rekind : (K L : Reply → Type 0) (words : List (List ℕ)) (before mid after : Lists) (t : Reply × Option ℕ) → mid ≡ before → (ReadsTail K words mid after t → L t.0) → ReadsTail K words mid after t → ReadsTail L words before after t
+pub rekind : (K L : Reply → Type 0) (words : List (List ℕ)) (before mid after : Lists) (t : Reply × Option ℕ)
+    → mid ≡ before → (ReadsTail K words mid after t → L t.0) → ReadsTail K words mid after t → ReadsTail L words before after t
 rekind K L words before mid after t e f w =
     let B : Lists → Type 0 = λ l. BeginsAt l t.0 w.numbers in
     let G : Lists → Type 0 = λ l. after ≡ grown l t.0 w.numbers in
@@ -289,7 +303,8 @@ snapped_of_other o r i k = absurd k
 pub sweep_first : (o : Op) (words : List (List ℕ)) (a b : Lists) (t : Reply × Option ℕ) → IsSweep o → ReadsTail IsSwept words a b t → ReadsTail (IsMeantNumbered o) words a b t
 sweep_first o words a b t i w = rekind IsSwept (IsMeantNumbered o) words a a b t refl (λ v. swept_of_sweep o t.0 i v.of_kind) w
 
-pub sweep_then : (o : Op) (words : List (List ℕ)) (a m b : Lists) (found : Option (Reply × Option ℕ)) → IsSweep o → (m ≡ a) × NoTail IsSwept words → Tails IsSnapped words m b found → TailsNumbered o words a b found
+pub sweep_then : (o : Op) (words : List (List ℕ)) (a m b : Lists) (found : Option (Reply × Option ℕ))
+    → IsSweep o → (m ≡ a) × NoTail IsSwept words → Tails IsSnapped words m b found → TailsNumbered o words a b found
 sweep_then o words a m b None i n h = (h.0 ∙ n.0, λ r ns c k t. elim k [ inl x ↦ h.1 r ns c x t | inr x ↦ n.1 r ns c x t ])
 sweep_then o words a m b (Some t) i n h = rekind IsSnapped (IsMeantNumbered o) words a m b t n.0 (meant_after_swept o words m b t i n.1) h
 
@@ -297,7 +312,8 @@ sweep_then o words a m b (Some t) i n h = rekind IsSnapped (IsMeantNumbered o) w
 pub snap_first : (o : Op) (words : List (List ℕ)) (a b : Lists) (t : Reply × Option ℕ) → (IsSweep o → ⊥) → ReadsTail IsSnapped words a b t → ReadsTail (IsMeantNumbered o) words a b t
 snap_first o words a b t i w = rekind IsSnapped (IsMeantNumbered o) words a a b t refl (λ v. snapped_of_other o t.0 i v.of_kind) w
 
-pub snap_then : (o : Op) (words : List (List ℕ)) (a m b : Lists) (found : Option (Reply × Option ℕ)) → (IsSweep o → ⊥) → (m ≡ a) × NoTail IsSnapped words → Tails IsSwept words m b found → TailsNumbered o words a b found
+pub snap_then : (o : Op) (words : List (List ℕ)) (a m b : Lists) (found : Option (Reply × Option ℕ)) → (IsSweep o → ⊥)
+    → (m ≡ a) × NoTail IsSnapped words → Tails IsSwept words m b found → TailsNumbered o words a b found
 snap_then o words a m b None i n h = (h.0 ∙ n.0, λ r ns c k t. elim k [ inl x ↦ n.1 r ns c x t | inr x ↦ h.1 r ns c x t ])
 snap_then o words a m b (Some t) i n h = rekind IsSwept (IsMeantNumbered o) words a m b t n.0 (meant_after_snapped o words m b t i n.1) h
 
@@ -334,7 +350,8 @@ no_tail words n k r ns c t = elim (all_kinds r) [ inl x ↦ n r ns c x t | inr x
 -- an object is a list of one
 one_object : (words : List (List ℕ)) (m : MNum) (ns : List ℕ) (c : Option ℕ) → NoTail IsTook words → IsTail words (reply.M m) ns c → ⊥
 one_object words m ns c n t =
-    n (reply.Took record { first = 0; count = 1 }) (m.0 ∷ []) c tt record { fits = (omega arith, omega arith); shown = record { short = All-cons Short m.0 [] t.fits (All-nil Short); rises = λ e. (All-nil _, tt) }; cites = t.cites; same = t.same }
+    n (reply.Took record { first = 0; count = 1 }) (m.0 ∷ []) c tt
+    record { fits = (omega arith, omega arith); shown = record { short = All-cons Short m.0 [] t.fits (All-nil Short); rises = λ e. (All-nil _, tt) }; cites = t.cites; same = t.same }
 
 meant_of_finalise : (o : Op) (r : Reply) (c : Option ℕ) (words : List (List ℕ)) (a b : Lists) → IsFinalise o → NoTail IsTook words → ReadsTail (IsMeantUnnoticed o) words a b (r, c) → IsMeant o r
 meant_of_finalise (op.Line (act.Finalise k)) (reply.M m) c words a b i n w = one_object words m w.numbers c n w.tail
@@ -364,7 +381,8 @@ took_of_finalise o r i x = absurd i
 pub notices_first : (o : Op) (words : List (List ℕ)) (a b : Lists) (t : Reply × Option ℕ) → IsFinalise o → ReadsTail IsTook words a b t → ReadsTail (IsMeant o) words a b t
 notices_first o words a b t i w = rekind IsTook (IsMeant o) words a a b t refl (λ v. took_of_finalise o t.0 i v.of_kind) w
 
-pub notices_else : (o : Op) (words : List (List ℕ)) (a m b : Lists) (found : Option (Reply × Option ℕ)) → IsFinalise o → (m ≡ a) × NoTail IsTook words → TailsUnnoticed o words m b found → TailsMeant o words a b found
+pub notices_else : (o : Op) (words : List (List ℕ)) (a m b : Lists) (found : Option (Reply × Option ℕ))
+    → IsFinalise o → (m ≡ a) × NoTail IsTook words → TailsUnnoticed o words m b found → TailsMeant o words a b found
 notices_else o words a m b None i n h = no_tail words h.1 n.1
 notices_else o words a m b (Some t) i n h = rekind (IsMeantUnnoticed o) (IsMeant o) words a m b t n.0 (meant_of_finalise o t.0 t.1 words m b i n.1) h
 
@@ -380,7 +398,8 @@ took_after o words a b (reply.Took s, c) i n w = λ e. (let one = one_count w.nu
     n (reply.M record { 0 = one.0 }) [] c (inl tt) record { fits = All-head Short one.0 [] (subst L one.1 w.tail.shown.short); shown = tt; cites = w.tail.cites; same = subst S one.1 w.tail.same })
 took_after o words a b (r, c) i n w = absurd w.of_kind
 
-pub notices_last : (o : Op) (words : List (List ℕ)) (a m b : Lists) (found : Option (Reply × Option ℕ)) → (IsFinalise o → ⊥) → (m ≡ a) × NoTail IsUnnoticed words → Tails IsTook words m b found → TailsMeant o words a b found
+pub notices_last : (o : Op) (words : List (List ℕ)) (a m b : Lists) (found : Option (Reply × Option ℕ))
+    → (IsFinalise o → ⊥) → (m ≡ a) × NoTail IsUnnoticed words → Tails IsTook words m b found → TailsMeant o words a b found
 notices_last o words a m b None i n h = no_tail words n.1 h.1
 notices_last o words a m b (Some t) i n h = rekind IsTook (IsMeant o) words a m b t n.0 (took_after o words m b t i n.1) h
 

@@ -43,7 +43,8 @@ IsPlace p = IsThread p.0 × Short p.1
 abbrev pub places : Thread × ℕ → List (List ℕ)
 places p = place_text p.0 p.1 ∷ []
 
-pub place_taken : (old new : List (List ℕ)) (word : List ℕ) (r : Option (Thread × ℕ)) → old ≡ word ∷ new → MatchOption r ((t : Thread) (n : ℕ) → IsThread t → Short n → place_text t n ≢ word) (λ p. IsThread p.0 × Short p.1 × (place_text p.0 p.1 ≡ word)) → Takes IsPlace places old new r
+pub place_taken : (old new : List (List ℕ)) (word : List ℕ) (r : Option (Thread × ℕ)) → old ≡ word ∷ new
+    → MatchOption r ((t : Thread) (n : ℕ) → IsThread t → Short n → place_text t n ≢ word) (λ p. IsThread p.0 × Short p.1 × (place_text p.0 p.1 ≡ word)) → Takes IsPlace places old new r
 place_taken old new word None e n = one_word IsPlace (λ (p : Thread × ℕ). place_text p.0 p.1) old new word None e (λ p g. n p.0 p.1 g.0 g.1)
 place_taken old new word (Some p) e h = one_word IsPlace (λ (q : Thread × ℕ). place_text q.0 q.1) old new word (Some p) e ((h.0, h.1), h.2)
 
@@ -60,7 +61,8 @@ head_unplaced count old mid new k p = record {
 }
 
 -- the thread of any head is the one that was taken
-thread_taken : (count : ℕ) (old mid left : List (List ℕ)) (q : Thread × ℕ) → TakesCount count old mid (Some tt) → Takes IsPlace places mid left (Some q) → (h : Thread × ℕ × Op) (rest : List (List ℕ)) → IsHead h → old ≡ head_words count h ++ rest → IsReadable q.0 h.2 × (left ≡ ends (event_words q.0) h.2 ++ rest)
+thread_taken : (count : ℕ) (old mid left : List (List ℕ)) (q : Thread × ℕ) → TakesCount count old mid (Some tt) → Takes IsPlace places mid left (Some q)
+    → (h : Thread × ℕ × Op) (rest : List (List ℕ)) → IsHead h → old ≡ head_words count h ++ rest → IsReadable q.0 h.2 × (left ≡ ends (event_words q.0) h.2 ++ rest)
 thread_taken count old mid left q k p h rest g e =
     let m = (k.complete tt (place_text h.0 h.1 ∷ (ends (event_words h.0) h.2 ++ rest)) tt e).1 in
     let s = p.sound.1 in
@@ -71,10 +73,12 @@ thread_taken count old mid left q k p h rest g e =
     let F : Thread → Type 0 = λ t. IsReadable t h.2 × (left ≡ ends (event_words t) h.2 ++ rest) in
     subst F (sym same) (g.2, left_is)
 
-pub head_eventless : (count : ℕ) (old mid left new : List (List ℕ)) (q : Thread × ℕ) → TakesCount count old mid (Some tt) → Takes IsPlace places mid left (Some q) → Takes (IsReadable q.0) (ends (event_words q.0)) left new None → Takes IsHead (head_words count) old new None
+pub head_eventless : (count : ℕ) (old mid left new : List (List ℕ)) (q : Thread × ℕ) → TakesCount count old mid (Some tt)
+    → Takes IsPlace places mid left (Some q) → Takes (IsReadable q.0) (ends (event_words q.0)) left new None → Takes IsHead (head_words count) old new None
 head_eventless count old mid left new q k p v = record { sound = tt; complete = λ h rest g e. absurd (let t = thread_taken count old mid left q k p h rest g e in (v.complete h.2 rest t.0 t.1).0) }
 
-pub head_taken : (count : ℕ) (old mid left new : List (List ℕ)) (q : Thread × ℕ) (o : Op) → TakesCount count old mid (Some tt) → Takes IsPlace places mid left (Some q) → Takes (IsReadable q.0) (ends (event_words q.0)) left new (Some o) → Takes IsHead (head_words count) old new (Some (q.0, q.1, o))
+pub head_taken : (count : ℕ) (old mid left new : List (List ℕ)) (q : Thread × ℕ) (o : Op) → TakesCount count old mid (Some tt) → Takes IsPlace places mid left (Some q)
+    → Takes (IsReadable q.0) (ends (event_words q.0)) left new (Some o) → Takes IsHead (head_words count) old new (Some (q.0, q.1, o))
 head_taken count old mid left new q o k p v = record {
   sound = ((p.sound.0.0, p.sound.0.1, v.sound.0), k.sound.1 ∙ ap (λ z. decimal count ∷ z) (p.sound.1 ∙ ap (λ z. place_text q.0 q.1 ∷ z) v.sound.1));
   complete = λ h rest g e. (let t = thread_taken count old mid left q k p h rest g e in (tt, (v.complete h.2 rest t.0 t.1).1));
@@ -93,7 +97,8 @@ words_lack b l e ns =
     let event = event_words e.made.caller e.made.op in
     let cites = no-bytes b l (cite_words e.made.cites) (plain-cites e.made.cites) in
     let reply = no-bytes b l (reply_words e.made.reply) (plain-reply e.made.reply) in
-    let tail = every-append Q (said e.made.reply ns) (cite_words e.made.cites) (every-append Q (reply_words e.made.reply) (list_said (list_of e.made.reply) ns) reply (list_lacks b l (list_of e.made.reply) ns)) cites in
+    let tail = every-append Q (said e.made.reply ns) (cite_words e.made.cites)
+    (every-append Q (reply_words e.made.reply) (list_said (list_of e.made.reply) ns) reply (list_lacks b l (list_of e.made.reply) ns)) cites in
     let equals : Lacks b (codes "=") = (λ q. omega (arith, l, q), tt) in
     let behind = every-append Q event (codes "=" ∷ (said e.made.reply ns ++ cite_words e.made.cites)) (no-bytes b l event (plain-event e.made.caller e.made.op)) (equals, tail) in
     (no-byte b l (decimal e.number) (plain-decimal e.number), (no-byte b l (place_text e.made.caller e.made.index) (plain-place e.made.caller e.made.index), behind))
@@ -150,13 +155,15 @@ line_head text number e ns q l =
 pub none_by_head : (text : List ℕ) (number : ℕ) (new : List (List ℕ)) → Takes IsHead (head_words number) (cut text) new None → (e : Entry) (ns : List ℕ) → e.number ≡ number → IsLineOf text e ns → ⊥
 none_by_head text number new k e ns q l = (let h = line_head text number e ns q l in (k.complete (head_of e) (tail_of e ns) h.0 h.1).0)
 
-pub none_by_tail : (text : List ℕ) (number : ℕ) (new : List (List ℕ)) (x : Thread × ℕ × Op) → Takes IsHead (head_words number) (cut text) new (Some x) → ((r : Reply) (ns : List ℕ) (c : Option ℕ) → IsTail new r ns c → ⊥) → (e : Entry) (ns : List ℕ) → e.number ≡ number → IsLineOf text e ns → ⊥
+pub none_by_tail : (text : List ℕ) (number : ℕ) (new : List (List ℕ)) (x : Thread × ℕ × Op) → Takes IsHead (head_words number) (cut text) new (Some x)
+    → ((r : Reply) (ns : List ℕ) (c : Option ℕ) → IsTail new r ns c → ⊥) → (e : Entry) (ns : List ℕ) → e.number ≡ number → IsLineOf text e ns → ⊥
 none_by_tail text number new x k n e ns q l =
     let h = line_head text number e ns q l in
     n e.made.reply ns e.made.cites record { fits = l.fits.reply; shown = l.shown; cites = l.fits.cites; same = (k.complete (head_of e) (tail_of e ns) h.0 h.1).1 }
 
 -- an entry has it
-pub entry_by : (text : List ℕ) (number : ℕ) (new : List (List ℕ)) (t : Thread) (i : ℕ) (o : Op) (r : Reply) (c : Option ℕ) (before after : Lists) → number < 2 ^ 64 → Takes IsHead (head_words number) (cut text) new (Some (t, i, o)) → ReadsTail (IsMeant o) new before after (r, c)
+pub entry_by : (text : List ℕ) (number : ℕ) (new : List (List ℕ)) (t : Thread) (i : ℕ) (o : Op) (r : Reply) (c : Option ℕ) (before after : Lists)
+    → number < 2 ^ 64 → Takes IsHead (head_words number) (cut text) new (Some (t, i, o)) → ReadsTail (IsMeant o) new before after (r, c)
     → ReadsEntry text number before after record { number = number; made = record { caller = t; index = i; op = o; reply = r; cites = c } }
 entry_by text number new t i o r c before after few k w =
     let h = k.sound.0 in

@@ -16,23 +16,27 @@ Numbered letter least old new (Some n) = Short n × (least ≤ n) × (old ≡ (l
 -- the next word was taken where it is a number of the letter that isn't below the least; else nothing was
 pub record TakesNumber (letter least : ℕ) (old new : List (List ℕ)) (result : Option ℕ) : Type 0 where
   pub sound : Numbered letter least old new result
-  pub complete : (n : ℕ) (rest : List (List ℕ)) → Short n → least ≤ n → old ≡ (letter ∷ decimal n) ∷ rest → (result ≡ Some n) × (new ≡ rest)
+  pub complete : (n : ℕ) (rest : List (List ℕ)) → Short n → least ≤ n
+      → old ≡ (letter ∷ decimal n) ∷ rest → (result ≡ Some n) × (new ≡ rest)
 
 -- numbers of the letter were taken, as many as stand there: whatever numbers with a citation the words are, the
 -- citation is left
 pub record TakesAll (rising : Bool) (letter : ℕ) (old new : List (List ℕ)) (ns : List ℕ) : Type 0 where
   pub list : IsList rising ns
   pub words : old ≡ lettered letter ns ++ new
-  pub only : (ms : List ℕ) (c : Option ℕ) → IsList rising ms → old ≡ lettered letter ms ++ cite_words c → new ≡ cite_words c
+  pub only : (ms : List ℕ) (c : Option ℕ) → IsList rising ms
+      → old ≡ lettered letter ms ++ cite_words c → new ≡ cite_words c
 
 -- numbers were put behind a list, which are those that stood at the front of the words
-pub record Puts {A : Type 0} (of : List ℕ → List A) (rising : Bool) (letter : ℕ) (old new : List (List ℕ)) (before after : List A) : Type 0 where
+pub record Puts {A : Type 0} (of : List ℕ → List A) (rising : Bool)
+    (letter : ℕ) (old new : List (List ℕ)) (before after : List A) : Type 0 where
   pub numbers : List ℕ
   pub takes : TakesAll rising letter old new numbers
   pub put : after ≡ before ++ of numbers
 
 -- a list was taken and put behind those before it
-pub record Names {A : Type 0} (of : List ℕ → List A) (rising : Bool) (letter : ℕ) (old new : List (List ℕ)) (before after : List A) (s : Span) : Type 0 where
+pub record Names {A : Type 0} (of : List ℕ → List A) (rising : Bool) (letter : ℕ)
+    (old new : List (List ℕ)) (before after : List A) (s : Span) : Type 0 where
   pub numbers : List ℕ
   pub list : IsList rising numbers
   pub words : old ≡ listed letter numbers ++ new
@@ -41,20 +45,27 @@ pub record Names {A : Type 0} (of : List ℕ → List A) (rising : Bool) (letter
   pub put : after ≡ before ++ of numbers
 
 -- or nothing was
-abbrev pub NamesOrNone : {A : Type 0} → (List ℕ → List A) → Bool → ℕ → List (List ℕ) → List (List ℕ) → List A → List A → Option Span → Type 0
+abbrev pub NamesOrNone : {A : Type 0} → (List ℕ → List A) → Bool → ℕ
+    → List (List ℕ) → List (List ℕ) → List A → List A → Option Span → Type 0
 NamesOrNone of rising letter old new before after None = (new ≡ old) × (after ≡ before)
 NamesOrNone of rising letter old new before after (Some s) = Names of rising letter old new before after s
 
 -- a list was taken where one is next, exactly
-pub record TakesList {A : Type 0} (of : List ℕ → List A) (rising : Bool) (letter : ℕ) (old new : List (List ℕ)) (before after : List A) (found : Option Span) : Type 0 where
+pub record TakesList {A : Type 0} (of : List ℕ → List A) (rising : Bool) (letter : ℕ)
+    (old new : List (List ℕ)) (before after : List A) (found : Option Span) : Type 0 where
   pub sound : NamesOrNone of rising letter old new before after found
-  pub complete : (ns : List ℕ) (c : Option ℕ) → IsList rising ns → old ≡ listed letter ns ++ cite_words c → IsThere found × (new ≡ cite_words c)
+  pub complete : (ns : List ℕ) (c : Option ℕ) → IsList rising ns
+      → old ≡ listed letter ns ++ cite_words c → IsThere found × (new ≡ cite_words c)
 
 -- a list that is put behind those before it, with what its line cites
-pub record EndsWith {A : Type 0} (of : List ℕ → List A) (rising : Bool) (letter : ℕ) (old : List (List ℕ)) (before after : List A) (t : Span × Option ℕ) : Type 0 where
+pub record EndsWith {A : Type 0} (of : List ℕ → List A) (rising : Bool) (letter : ℕ)
+    (old : List (List ℕ)) (before after : List A) (t : Span × Option ℕ) : Type 0 where
   pub cites : FitsCites t.1
   pub names : Names of rising letter old (cite_words t.1) before after t.0
 
 -- the words that are left are read as such a list, exactly
-abbrev pub EndsList : {A : Type 0} → (List ℕ → List A) → Bool → ℕ → List (List ℕ) → List A → List A → Option (Span × Option ℕ) → Type 0
-EndsList of rising letter old before after found = MatchOption found ((after ≡ before) × ((ns : List ℕ) (c : Option ℕ) → IsList rising ns → FitsCites c → old ≢ listed letter ns ++ cite_words c)) (EndsWith of rising letter old before after)
+abbrev pub EndsList : {A : Type 0} → (List ℕ → List A) → Bool → ℕ
+    → List (List ℕ) → List A → List A → Option (Span × Option ℕ) → Type 0
+EndsList of rising letter old before after found = MatchOption found
+    ((after ≡ before) × ((ns : List ℕ) (c : Option ℕ) → IsList rising ns → FitsCites c
+    → old ≢ listed letter ns ++ cite_words c)) (EndsWith of rising letter old before after)

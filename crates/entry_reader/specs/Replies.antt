@@ -97,11 +97,13 @@ pub record IsEnd (words : List (List ℕ)) (r : Reply) (c : Option ℕ) : Type 0
 
 -- the words are read as a reply of a kind, with what the line cites, exactly
 abbrev pub Ends : (Reply → Type 0) → List (List ℕ) → Option (Reply × Option ℕ) → Type 0
-Ends kind words result = MatchOption result ((r : Reply) (c : Option ℕ) → kind r → IsEnd words r c → ⊥) (λ t. kind t.0 × IsEnd words t.0 t.1)
+Ends kind words result = MatchOption result
+    ((r : Reply) (c : Option ℕ) → kind r → IsEnd words r c → ⊥) (λ t. kind t.0 × IsEnd words t.0 t.1)
 
 -- the words behind a reply are read as what the line cites, exactly
 abbrev pub EndsAs : Reply → List (List ℕ) → Option (Reply × Option ℕ) → Type 0
-EndsAs r words result = MatchOption result ((c : Option ℕ) → FitsCites c → words ≢ cite_words c) (λ t. (t.0 ≡ r) × FitsCites t.1 × (words ≡ cite_words t.1))
+EndsAs r words result = MatchOption result ((c : Option ℕ) → FitsCites c → words ≢ cite_words c)
+    (λ t. (t.0 ≡ r) × FitsCites t.1 × (words ≡ cite_words t.1))
 
 -- the replies with a list, each kind by itself, and those without one
 abbrev pub IsSnapped : Reply → Type 0
@@ -151,17 +153,24 @@ IsMeantUnnoticed o r = IsUnlisted r ⊎ IsMeantListed o r
 
 -- the words are read as such a reply, exactly; where they are none, the lists stay
 abbrev pub TailsNumbered : Op → List (List ℕ) → Lists → Lists → Option (Reply × Option ℕ) → Type 0
-TailsNumbered o words before after found = MatchOption found ((after ≡ before) × ((r : Reply) (ns : List ℕ) (c : Option ℕ) → IsNumbered r → IsTail words r ns c → ⊥)) (ReadsTail (IsMeantNumbered o) words before after)
+TailsNumbered o words before after found = MatchOption found
+    ((after ≡ before) × ((r : Reply) (ns : List ℕ) (c : Option ℕ) → IsNumbered r → IsTail words r ns c → ⊥))
+    (ReadsTail (IsMeantNumbered o) words before after)
 
 abbrev pub TailsListed : Op → List (List ℕ) → Lists → Lists → Option (Reply × Option ℕ) → Type 0
-TailsListed o words before after found = MatchOption found ((after ≡ before) × ((r : Reply) (ns : List ℕ) (c : Option ℕ) → IsListed r → IsTail words r ns c → ⊥)) (ReadsTail (IsMeantListed o) words before after)
+TailsListed o words before after found = MatchOption found
+    ((after ≡ before) × ((r : Reply) (ns : List ℕ) (c : Option ℕ) → IsListed r → IsTail words r ns c → ⊥))
+    (ReadsTail (IsMeantListed o) words before after)
 
 abbrev pub TailsUnnoticed : Op → List (List ℕ) → Lists → Lists → Option (Reply × Option ℕ) → Type 0
-TailsUnnoticed o words before after found = MatchOption found ((after ≡ before) × ((r : Reply) (ns : List ℕ) (c : Option ℕ) → IsUnnoticed r → IsTail words r ns c → ⊥)) (ReadsTail (IsMeantUnnoticed o) words before after)
+TailsUnnoticed o words before after found = MatchOption found
+    ((after ≡ before) × ((r : Reply) (ns : List ℕ) (c : Option ℕ) → IsUnnoticed r → IsTail words r ns c → ⊥))
+    (ReadsTail (IsMeantUnnoticed o) words before after)
 
 -- the words are read as the reply that is meant by the event, exactly
 abbrev pub TailsMeant : Op → List (List ℕ) → Lists → Lists → Option (Reply × Option ℕ) → Type 0
-TailsMeant o words before after found = MatchOption found ((r : Reply) (ns : List ℕ) (c : Option ℕ) → IsTail words r ns c → ⊥) (ReadsTail (IsMeant o) words before after)
+TailsMeant o words before after found = MatchOption found
+    ((r : Reply) (ns : List ℕ) (c : Option ℕ) → IsTail words r ns c → ⊥) (ReadsTail (IsMeant o) words before after)
 
 -- whether an event takes notices, and whether it is a sweep
 abbrev pub IsFinalise : Op → Type 0

@@ -38,7 +38,9 @@ said r ns = reply_words r ++ list_said (list_of r) ns
 
 -- the words of an entry's line, where its list has these numbers
 abbrev pub line_words : Entry → List ℕ → List (List ℕ)
-line_words e ns = decimal e.number ∷ place_text e.made.caller e.made.index ∷ (event_words e.made.caller e.made.op ++ (codes "=" ∷ (said e.made.reply ns ++ cite_words e.made.cites)))
+line_words e ns = decimal e.number ∷ place_text e.made.caller
+    e.made.index ∷ (event_words e.made.caller
+    e.made.op ++ (codes "=" ∷ (said e.made.reply ns ++ cite_words e.made.cites)))
 
 -- the text is the line of an entry, where its list has these numbers
 pub record IsLineOf (text : List ℕ) (e : Entry) (ns : List ℕ) : Type 0 where

@@ -18,7 +18,8 @@ pub record IsTail (words : List (List ℕ)) (r : Reply) (ns : List ℕ) (c : Opt
   pub same : words ≡ said r ns ++ cite_words c
 
 -- such words were read as a reply of a kind, and its list was put behind those before it
-pub record ReadsTail (kind : Reply → Type 0) (words : List (List ℕ)) (before after : Lists) (t : Reply × Option ℕ) : Type 0 where
+pub record ReadsTail (kind : Reply → Type 0) (words : List (List ℕ))
+    (before after : Lists) (t : Reply × Option ℕ) : Type 0 where
   pub numbers : List ℕ
   pub of_kind : kind t.0
   pub tail : IsTail words t.0 numbers t.1
@@ -27,7 +28,9 @@ pub record ReadsTail (kind : Reply → Type 0) (words : List (List ℕ)) (before
 
 -- the words are read as a reply of a kind, exactly; where they are none, the lists stay
 abbrev pub Tails : (Reply → Type 0) → List (List ℕ) → Lists → Lists → Option (Reply × Option ℕ) → Type 0
-Tails kind words before after found = MatchOption found ((after ≡ before) × ((r : Reply) (ns : List ℕ) (c : Option ℕ) → kind r → IsTail words r ns c → ⊥)) (ReadsTail kind words before after)
+Tails kind words before after found = MatchOption found
+    ((after ≡ before) × ((r : Reply) (ns : List ℕ) (c : Option ℕ) → kind r → IsTail words r ns c → ⊥))
+    (ReadsTail kind words before after)
 
 -- a text was read as the line of an entry with that number, with the reply that is meant, and its list was put behind
 -- those before it

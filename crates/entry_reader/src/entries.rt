@@ -29,14 +29,16 @@ fn take_count(count: u64, words: &mut Words) -> Option<()>
 
 // Takes a thread and a line.
 fn take_place(last: &mut LastPlace, words: &mut Words) -> Option<(Thread, u32)>
-    ensures { Takes (λ (p : Thread × ℕ). IsThread p.0 × Short p.1) (λ p. place_text p.0 p.1 ∷ []) words.old words.new result }
+    ensures { Takes (λ (p : Thread × ℕ). IsThread p.0 × Short p.1)
+        (λ p. place_text p.0 p.1 ∷ []) words.old words.new result }
 {
     last.read(words.next()?)
 }
 
 // Takes the words up to the reply: the number, the place, the event and the equals sign.
 fn take_head(count: u64, last: &mut LastPlace, words: &mut Words) -> Option<(Thread, u32, Op)>
-    ensures { Takes IsHead (λ h. decimal count ∷ place_text h.0 h.1 ∷ (event_words h.0 h.2 ++ codes "=" ∷ [])) words.old words.new result }
+    ensures { Takes IsHead (λ h. decimal count ∷ place_text h.0 h.1 ∷ (event_words h.0 h.2 ++ codes "=" ∷ []))
+        words.old words.new result }
 {
     take_count(count, words)?;
     let (caller, index) = take_place(last, words)?;
@@ -52,7 +54,9 @@ pub fn read_entry(
     lists: &mut NamedLists,
     last: &mut LastPlace,
 ) -> Result<Option<Entry>, AllocError>
-    ensures { IfOk result (λ found. MatchOption found ((e : Entry) (ns : List ℕ) → e.number ≡ number → IsLineOf text.entry e ns → ⊥) (ReadsEntry text.entry number lists.old lists.new)) }
+    ensures { IfOk result (λ found. MatchOption found
+        ((e : Entry) (ns : List ℕ) → e.number ≡ number → IsLineOf text.entry e ns → ⊥)
+        (ReadsEntry text.entry number lists.old lists.new)) }
 {
     let mut words = Words::of(text);
     let Some((caller, index, op)) = take_head(number, last, &mut words) else {

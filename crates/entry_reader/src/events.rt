@@ -1,6 +1,7 @@
 // The event of a line.
 
-ghost use Rattle.std.specs.Prelude.{⊤, ◌≡◌, ◌≢◌, ◌<◌, ◌≤◌, ℕ, ◌++◌, [], ◌∷◌, codes, List, MatchOption, MatchBool, decimal};
+ghost use Rattle.std.specs.Prelude.{⊤, ◌≡◌, ◌≢◌, ◌<◌, ◌≤◌, ℕ, ◌++◌, [], ◌∷◌, codes, List, MatchOption, MatchBool};
+ghost use Rattle.std.specs.Prelude.{decimal};
 ghost use Rattle.joint_machine.specs.declared.lines.Act.{Act};
 ghost use Rattle.joint_machine.specs.declared.names.PNum.{PNum};
 ghost use Rattle.joint_machine.specs.declared.names.HNum.{HNum};
@@ -10,12 +11,14 @@ ghost use Rattle.joint_machine.specs.declared.names.Sort.{Sort};
 ghost use Rattle.joint_machine.specs.declared.names.Kind.{Kind};
 ghost use Rattle.joint_machine.specs.declared.names.PhaseWord.{PhaseWord};
 ghost use Rattle.joint_machine.specs.Lines.{IsThread, IsVar, IsLine, IsOneEvent, IsAdoptable};
-ghost use Rattle.bridge_script.specs.Words.{var_text, peer_static as peer_static_text, kind_text, sort_text, phase_word_text, act_words};
+ghost use Rattle.bridge_script.specs.Words.{var_text, peer_static as peer_static_text, kind_text, sort_text};
+ghost use Rattle.bridge_script.specs.Words.{phase_word_text, act_words};
 ghost use Rattle.history_report.specs.Report.{peer_text, handle_text, event_words};
 ghost use Rattle.entry_reader.specs.Fitting.{Short};
 ghost use Rattle.entry_reader.specs.Taking.{Takes};
 ghost use Rattle.entry_reader.specs.declared.events.EventWord.{EventWord};
-ghost use Rattle.entry_reader.specs.Events.{IsEventOf, IsLineEvent, IsOfCycle, IsOfHandle, IsReadable, IsStep, others, step_words, with_cycle, with_handle, word_text};
+ghost use Rattle.entry_reader.specs.Events.{IsEventOf, IsLineEvent, IsOfCycle, IsOfHandle, IsReadable, IsStep, others};
+ghost use Rattle.entry_reader.specs.Events.{step_words, with_cycle, with_handle, word_text};
 
 use crate::numbers::{handle, peer, short};
 use bridge_script::{peer_static, take_act, var};
@@ -437,7 +440,8 @@ fn take_equals(words: &mut Words) -> Option<()>
 // Takes the event of a line of the thread that is one event, and the equals sign.
 fn take_line(thread: Thread, words: &mut Words) -> Option<Op>
     requires { IsThread thread }
-    ensures { Takes (λ o. IsLineEvent thread o) (λ o. event_words thread o ++ codes "=" ∷ []) words.old words.new result }
+    ensures { Takes (λ o. IsLineEvent thread o)
+        (λ o. event_words thread o ++ codes "=" ∷ []) words.old words.new result }
 {
     let act = take_act(thread, words)?;
     if !is_one_event(&act) {

@@ -1,6 +1,7 @@
 // The three lists of a history, as far as the lines that were read name them.
 
-ghost use Rattle.std.specs.Prelude.{◌≡◌, ◌≢◌, ◌+◌, ◌≤◌, ◌++◌, [], ◌∷◌, cond, true, false, ℕ, List, length, codes, IfOk, MatchBool};
+ghost use Rattle.std.specs.Prelude.{◌≡◌, ◌≢◌, ◌+◌, ◌≤◌, ◌++◌, [], ◌∷◌, cond, true, false, ℕ, List, length, codes, IfOk};
+ghost use Rattle.std.specs.Prelude.{MatchBool};
 ghost use Rattle.history_report.specs.Report.{cite_words};
 ghost use Rattle.entry_reader.specs.Meaning.{as_managed, as_peers};
 ghost use Rattle.entry_reader.specs.Listing.{TakesNumber, Puts, TakesList, EndsList};
@@ -32,9 +33,14 @@ impl Model for NamedLists {
 
     ghost Value = { Lists };
 
-    ghost view = { λ l. record { managed = l.freed_managed.items; peers = l.freed_peers.items; notices = l.notices.items } };
+    ghost view = { λ l. record {
+      managed = l.freed_managed.items;
+      peers = l.freed_peers.items;
+      notices = l.notices.items;
+    } };
 
-    ghost invariant = { λ l. (length l.freed_managed.items ≤ 4294967295) × (length l.freed_peers.items ≤ 4294967295) × (length l.notices.items ≤ 4294967295) };
+    ghost invariant = { λ l. (length l.freed_managed.items ≤ 4294967295)
+        × (length l.freed_peers.items ≤ 4294967295) × (length l.notices.items ≤ 4294967295) };
 }
 
 // Takes the next word where it is a number of that letter that isn't below `least`; else None, and the words stay.
@@ -52,7 +58,8 @@ fn next_number(letter: u8, least: u64, words: &mut Words) -> Option<u32>
 
 // Takes the word `-`, where it is the next; else false, and the words stay.
 fn take_none(words: &mut Words) -> bool
-    ensures { MatchBool result (words.old ≡ codes "-" ∷ words.new) ((words.new ≡ words.old) × ((rest : List (List ℕ)) → words.old ≢ codes "-" ∷ rest)) }
+    ensures { MatchBool result (words.old ≡ codes "-" ∷ words.new)
+        ((words.new ≡ words.old) × ((rest : List (List ℕ)) → words.old ≢ codes "-" ∷ rest)) }
 {
     let mut ahead = words.fork();
     let Some(word) = ahead.next() else {
@@ -120,7 +127,8 @@ fn take_managed(
     list: &mut Vec<MNum>,
 ) -> Result<Option<Span>, AllocError>
     requires { length list.old.items ≤ 4294967295 }
-    ensures list { IfOk result (λ found. TakesList as_managed rising 109 words.old words.new list.old.items list.new.items found) }
+    ensures list { IfOk result (λ found. TakesList as_managed rising
+        109 words.old words.new list.old.items list.new.items found) }
     ensures limit { length list.new.items ≤ 4294967295 }
 {
     let first = list.len() as u32;
@@ -138,7 +146,8 @@ fn take_managed(
 // Takes a list of peers and puts it last: its span, or None where no list is next.
 fn take_peers(words: &mut Words, list: &mut Vec<PNum>) -> Result<Option<Span>, AllocError>
     requires { length list.old.items ≤ 4294967295 }
-    ensures list { IfOk result (λ found. TakesList as_peers true 112 words.old words.new list.old.items list.new.items found) }
+    ensures list { IfOk result (λ found. TakesList as_peers true
+        112 words.old words.new list.old.items list.new.items found) }
     ensures limit { length list.new.items ≤ 4294967295 }
 {
     let first = list.len() as u32;
@@ -217,7 +226,8 @@ impl NamedLists {
         &mut self,
         words: &mut Words,
     ) -> Result<Option<(Span, Option<u64>)>, AllocError>
-        ensures list { IfOk result (λ found. EndsList as_managed true 109 words.old self.old.managed self.new.managed found) }
+        ensures list { IfOk result (λ found. EndsList as_managed true
+            109 words.old self.old.managed self.new.managed found) }
         ensures others { (self.new.peers ≡ self.old.peers) × (self.new.notices ≡ self.old.notices) }
     {
         read_managed(words, true, &mut self.freed_managed)
@@ -239,7 +249,8 @@ impl NamedLists {
         &mut self,
         words: &mut Words,
     ) -> Result<Option<(Span, Option<u64>)>, AllocError>
-        ensures list { IfOk result (λ found. EndsList as_managed false 109 words.old self.old.notices self.new.notices found) }
+        ensures list { IfOk result (λ found. EndsList as_managed false
+            109 words.old self.old.notices self.new.notices found) }
         ensures others { (self.new.managed ≡ self.old.managed) × (self.new.peers ≡ self.old.peers) }
     {
         read_managed(words, false, &mut self.notices)
@@ -247,8 +258,10 @@ impl NamedLists {
 
     /// The managed objects that were freed, the peers that were freed, and the notices; of each at most 4,294,967,295.
     pub fn into_parts(self) -> (Vec<MNum>, Vec<PNum>, Vec<MNum>)
-        ensures parts { (result.0.items ≡ self.managed) × (result.1.items ≡ self.peers) × (result.2.items ≡ self.notices) }
-        ensures limit { (length self.managed ≤ 4294967295) × (length self.peers ≤ 4294967295) × (length self.notices ≤ 4294967295) }
+        ensures parts { (result.0.items ≡ self.managed)
+            × (result.1.items ≡ self.peers) × (result.2.items ≡ self.notices) }
+        ensures limit { (length self.managed ≤ 4294967295)
+            × (length self.peers ≤ 4294967295) × (length self.notices ≤ 4294967295) }
     {
         let NamedLists {
             freed_managed,

@@ -18,21 +18,24 @@ const SHORT: u64 = 1 << 32;
 
 /// The managed object that a word names.
 pub fn managed(word: &[u8]) -> Option<MNum>
-    ensures { MatchOption result ((m : MNum) → Short m.0 → managed_text m ≢ word.now) (λ m. Short m.0 × (managed_text m ≡ word.now)) }
+    ensures { MatchOption result ((m : MNum) → Short m.0 → managed_text m ≢ word.now)
+        (λ m. Short m.0 × (managed_text m ≡ word.now)) }
 {
     Some(MNum(lettered(word, b'm', SHORT)? as u32))
 }
 
 /// The peer that a word names.
 pub fn peer(word: &[u8]) -> Option<PNum>
-    ensures { MatchOption result ((p : PNum) → Short p.0 → peer_text p ≢ word.now) (λ p. Short p.0 × (peer_text p ≡ word.now)) }
+    ensures { MatchOption result ((p : PNum) → Short p.0 → peer_text p ≢ word.now)
+        (λ p. Short p.0 × (peer_text p ≡ word.now)) }
 {
     Some(PNum(lettered(word, b'p', SHORT)? as u32))
 }
 
 /// The handle that a word names.
 pub fn handle(word: &[u8]) -> Option<HNum>
-    ensures { MatchOption result ((h : HNum) → Short h.0 → handle_text h ≢ word.now) (λ h. Short h.0 × (handle_text h ≡ word.now)) }
+    ensures { MatchOption result ((h : HNum) → Short h.0 → handle_text h ≢ word.now)
+        (λ h. Short h.0 × (handle_text h ≡ word.now)) }
 {
     Some(HNum(lettered(word, b'h', SHORT)? as u32))
 }
@@ -47,7 +50,8 @@ pub fn short(word: &[u8]) -> Option<u32>
 
 /// The thread and the line that a word names: `m1.12`.
 pub fn place(word: &[u8]) -> Option<(Thread, u32)>
-    ensures { MatchOption result ((t : Thread) (n : ℕ) → IsThread t → Short n → place_text t n ≢ word.now) (λ p. IsThread p.0 × Short p.1 × (place_text p.0 p.1 ≡ word.now)) }
+    ensures { MatchOption result ((t : Thread) (n : ℕ) → IsThread t → Short n → place_text t n ≢ word.now)
+        (λ p. IsThread p.0 × Short p.1 × (place_text p.0 p.1 ≡ word.now)) }
 {
     let dot = first_place(word, b'.');
     if dot == word.len() {

@@ -49,7 +49,8 @@ impl LastPlace {
 
     /// The thread and the line that a word names: `m1.12`.
     pub fn read(&mut self, word: &[u8]) -> Option<(Thread, u32)>
-        ensures { MatchOption result ((t : Thread) (n : ℕ) → IsThread t → Short n → place_text t n ≢ word.now) (λ p. IsThread p.0 × Short p.1 × (place_text p.0 p.1 ≡ word.now)) }
+        ensures { MatchOption result ((t : Thread) (n : ℕ) → IsThread t → Short n → place_text t n ≢ word.now)
+            (λ p. IsThread p.0 × Short p.1 × (place_text p.0 p.1 ≡ word.now)) }
     {
         if is_same(word, &self.text[..self.len]) {
             return Some((self.caller, self.index));

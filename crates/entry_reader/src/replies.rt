@@ -5,7 +5,8 @@ ghost use Rattle.joint_machine.specs.declared.names.Phase.{Phase};
 ghost use Rattle.joint_machine.specs.declared.events.Reply.{Reply};
 ghost use Rattle.history_report.specs.Report.{managed_text, peer_text, phase_text, reply_words, cite_words};
 ghost use Rattle.entry_reader.specs.Fitting.{Short, FitsReply, FitsCites};
-ghost use Rattle.entry_reader.specs.Replies.{IsPlain, IsManaged, IsPeer, IsHandle, IsKeyed, IsCount, IsNew, IsHeld, IsComponents, IsCounted, Ends, EndsAs};
+ghost use Rattle.entry_reader.specs.Replies.{IsPlain, IsManaged, IsPeer, IsHandle, IsKeyed, IsCount, IsNew, IsHeld};
+ghost use Rattle.entry_reader.specs.Replies.{IsComponents, IsCounted, Ends, EndsAs};
 
 use crate::events::sort;
 use crate::numbers::{handle, managed, peer, short};
@@ -17,7 +18,8 @@ pub type Tail = (Reply, Option<u64>);
 
 // The entry that a word cites: `@12`.
 fn cited(word: &[u8]) -> Option<u64>
-    ensures { MatchOption result ((n : ℕ) → n < 2 ^ 64 → 64 ∷ decimal n ≢ word.now) (λ n. (n < 2 ^ 64) × (64 ∷ decimal n ≡ word.now)) }
+    ensures { MatchOption result ((n : ℕ) → n < 2 ^ 64 → 64 ∷ decimal n ≢ word.now)
+        (λ n. (n < 2 ^ 64) × (64 ∷ decimal n ≡ word.now)) }
 {
     if word.is_empty() || word[0] != b'@' {
         return None;
@@ -28,7 +30,8 @@ fn cited(word: &[u8]) -> Option<u64>
 
 /// What stands behind a reply: the entry that is cited, or nothing. None where it is something else.
 pub fn read_cites(words: &mut Words) -> Option<Option<u64>>
-    ensures { MatchOption result ((c : Option ℕ) → FitsCites c → words.old ≢ cite_words c) (λ c. FitsCites c × (words.old ≡ cite_words c)) }
+    ensures { MatchOption result ((c : Option ℕ) → FitsCites c → words.old ≢ cite_words c)
+        (λ c. FitsCites c × (words.old ≡ cite_words c)) }
 {
     let Some(word) = words.next() else {
         return Some(None);
@@ -50,7 +53,8 @@ fn end_of(reply: Reply, words: &mut Words) -> Option<Tail>
 
 // The reply that is this one word, and always the same.
 fn plain_reply(word: &[u8]) -> Option<Reply>
-    ensures { MatchOption result ((r : Reply) → IsPlain r → reply_words r ≢ word.now ∷ []) (λ r. IsPlain r × (reply_words r ≡ word.now ∷ [])) }
+    ensures { MatchOption result ((r : Reply) → IsPlain r → reply_words r ≢ word.now ∷ [])
+        (λ r. IsPlain r × (reply_words r ≡ word.now ∷ [])) }
 {
     if is_same(word, b"ok") {
         return Some(Reply::Ok);
@@ -132,7 +136,8 @@ pub fn managed_tail(words: &Words) -> Option<Tail>
 
 // A number of a byte that a word writes.
 fn byte(word: &[u8]) -> Option<u8>
-    ensures { MatchOption result ((n : ℕ) → n < 2 ^ 8 → decimal n ≢ word.now) (λ n. (n < 2 ^ 8) × (decimal n ≡ word.now)) }
+    ensures { MatchOption result ((n : ℕ) → n < 2 ^ 8 → decimal n ≢ word.now)
+        (λ n. (n < 2 ^ 8) × (decimal n ≡ word.now)) }
 {
     let n = number(word)?;
     if n <= 255 { Some(n as u8) } else { None }
@@ -206,7 +211,8 @@ fn phase(word: &[u8]) -> Option<Phase>
 
 // The reply of these two words, the first of which tells what the second one is.
 fn keyed_reply(key: &[u8], word: &[u8]) -> Option<Reply>
-    ensures { MatchOption result ((r : Reply) → IsKeyed r → FitsReply r → reply_words r ≢ key.now ∷ word.now ∷ []) (λ r. IsKeyed r × FitsReply r × (reply_words r ≡ key.now ∷ word.now ∷ [])) }
+    ensures { MatchOption result ((r : Reply) → IsKeyed r → FitsReply r → reply_words r ≢ key.now ∷ word.now ∷ [])
+        (λ r. IsKeyed r × FitsReply r × (reply_words r ≡ key.now ∷ word.now ∷ [])) }
 {
     if is_same(key, b"pending") {
         return Some(Reply::Pending(Cycle(short(word)?)));

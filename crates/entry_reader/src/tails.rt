@@ -4,7 +4,8 @@ ghost use Rattle.std.specs.Prelude.{[], ◌∷◌, IfOk, MatchBool, codes, decim
 ghost use Rattle.entry_reader.specs.Fitting.{Short};
 ghost use Rattle.entry_reader.specs.Taking.{Takes};
 ghost use Rattle.entry_reader.specs.Tailing.{Tails};
-ghost use Rattle.entry_reader.specs.Replies.{Ends, IsFinalise, IsFreed, IsSnapped, IsSweep, IsSwept, IsTook, IsUnlisted, TailsListed, TailsMeant, TailsNumbered, TailsUnnoticed};
+ghost use Rattle.entry_reader.specs.Replies.{Ends, IsFinalise, IsFreed, IsSnapped, IsSweep, IsSwept, IsTook};
+ghost use Rattle.entry_reader.specs.Replies.{IsUnlisted, TailsListed, TailsMeant, TailsNumbered, TailsUnnoticed};
 
 use crate::lists::NamedLists;
 use crate::numbers::short;

@@ -19,7 +19,8 @@
 // and a push takes no memory and is never refused, since it needs room beforehand.
 #![tactic(auto)]
 
-ghost use Rattle.std.specs.Prelude.{◌≡◌, ◌+◌, ◌≤◌, ◌==◌, [], ◌∷◌, ◌++◌, length, slice_get, MatchOption, is_some, if◌then◌else◌, IfOk, IsOk, OnErr, vec_capacity};
+ghost use Rattle.std.specs.Prelude.{◌≡◌, ◌+◌, ◌≤◌, ◌==◌, [], ◌∷◌, ◌++◌, length, slice_get, MatchOption, is_some};
+ghost use Rattle.std.specs.Prelude.{if◌then◌else◌, IfOk, IsOk, OnErr, vec_capacity};
 ghost use Rattle.finaliser_queue.specs.Queue.{waiting_in};
 
 use joint_machine::MNum;
@@ -43,7 +44,11 @@ impl Model for Notices {
 
     ghost Value = { Queue };
 
-    ghost view = { λ s. record { queued = s.list.items; taken = s.taken; spare = min (vec_capacity s.list) 4294967295 - vec_len s.list } };
+    ghost view = { λ s. record {
+      queued = s.list.items;
+      taken = s.taken;
+      spare = min (vec_capacity s.list) 4294967295 - vec_len s.list;
+    } };
 
     ghost invariant = { λ s. (s.taken ≤ vec_len s.list) × (vec_len s.list ≤ 4294967295) };
 }
@@ -124,7 +129,8 @@ impl Notices {
     /// Gives the oldest notice that waits, and None exactly where none waits. It moves no other notice, and
     /// takes no memory; the room stays as it was.
     pub fn take(&mut self) -> Option<MNum>
-        ensures oldest { MatchOption result (waiting_in self.old ≡ []) (λ m. waiting_in self.old ≡ m ∷ waiting_in self.new) }
+        ensures oldest { MatchOption result (waiting_in self.old ≡ [])
+            (λ m. waiting_in self.old ≡ m ∷ waiting_in self.new) }
         ensures place { result ≡ slice_get self.old.queued self.old.taken }
         ensures taken { self.new.taken ≡ (if is_some result then self.old.taken + 1 else self.old.taken) }
         ensures queued { self.new.queued ≡ self.old.queued }

@@ -78,8 +78,10 @@ module _ (seed size : ℕ) (h : Finished) (small : size ≤ 2800) (w : IsGenerat
   opening : Inv keep opening_linkage run
   opening = inv-opening keep run
       (λ t. subst (λ l. Going l empty_mind) (sym (only-before (M t) refl))
-      (thread-going seed size t opening_standing (entries_by (M t) w.before) refl (simple-lines seed size) (each-filter HasAnswer (λ (e : Entry). is_thread (M t) e.made.caller) w.before both-answered.0) (w.lines (M t))))
-      (λ t. subst (λ l. PeerGoing l none_filled) (sym (only-before (P t) refl)) (peer_thread-going seed size t opening_standing (entries_by (P t) w.before) refl (simple-lines seed size) (w.lines (P t))))
+      (thread-going seed size t opening_standing (entries_by (M t) w.before) refl (simple-lines seed size)
+      (each-filter HasAnswer (λ (e : Entry). is_thread (M t) e.made.caller) w.before both-answered.0) (w.lines (M t))))
+      (λ t. subst (λ l. PeerGoing l none_filled) (sym (only-before (P t) refl))
+      (peer_thread-going seed size t opening_standing (entries_by (P t) w.before) refl (simple-lines seed size) (w.lines (P t))))
       (subst (Each IsCycleEntry) (sym (filter-append (λ (e : Entry). is_thread C e.made.caller) w.before w.cycle))
       (each-join IsCycleEntry (entries_by C w.before) (entries_by C w.cycle) (driver-held 1 (generated seed size) opening_standing (entries_by C w.before) refl (simple-lines seed size) (w.lines C))
       (each-filter IsCycleEntry (λ (e : Entry). is_thread C e.made.caller) w.cycle (cycle-driven w.cycle is-whole))))
@@ -118,14 +120,16 @@ module _ (seed size : ℕ) (h : Finished) (small : size ≤ 2800) (w : IsGenerat
   }
 
   ended : IsEnded inv.minds inv.fills inv.groups (replayed ended_threads parts.1)
-  ended = cycle-leaves inv.minds inv.fills inv.groups ended_threads parts.1 w.standing w.number settled reached.1 halves.1 w.idle (subst (AreLine w.standing w.number (C, act.PhaseLine word.Cycle)) (sym parts.4) w.line)
+  ended = cycle-leaves inv.minds inv.fills inv.groups ended_threads parts.1 w.standing w.number settled reached.1 halves.1 w.idle
+      (subst (AreLine w.standing w.number (C, act.PhaseLine word.Cycle)) (sym parts.4) w.line)
 
   -- the statics that are filled are those of the script's lines
   run-fills : (i : ℕ) → total (filling i) run ≡ total (λ (line : Thread × Act). line_fills i line.1) (generated seed size)
   run-fills i =
       let a = total-append (filling i) w.before w.cycle in
       let b = cycle-none i w.cycle is-whole in
-      let c = script-total HasBoth (filling i) (line_fills i) (λ x y. x ≡ y) refl (λ x y z u p q. omega (arith, p, q)) (own-count i) (generated seed size) w.before (simple-lines seed size) (callers seed size h w) (each-both w.before both-answered.0 says) w.lines in
+      let c = script-total HasBoth (filling i) (line_fills i) (λ x y. x ≡ y) refl (λ x y z u p q. omega (arith, p, q)) (own-count i)
+      (generated seed size) w.before (simple-lines seed size) (callers seed size h w) (each-both w.before both-answered.0 says) w.lines in
       omega (arith, a, b, c)
 
   filled-so : (i : ℕ) → i < 32 → (is_some (slot inv.groups i) ≡ true) ↔ (0 < total (λ (line : Thread × Act). line_fills i line.1) (generated seed size))

@@ -150,7 +150,8 @@ module _ (g : Act → ℕ) where
   no-cycle : (i : ℕ) → g (act.PhaseLine Cycle) ≡ 0 → total of_line (cycle_after i) ≡ 0
   no-cycle i e = elim (cycle-line i) [ inl c ↦ c.1 ∙ e | inr c ↦ c.1 ]
 
-  by-families : (seed : ℕ) (target : ℕ → ℕ) → target 0 ≡ 0 → ((i : ℕ) → target (suc i) ≡ target i + total of_line (family seed i) + total of_line (cycle_after i)) → (size : ℕ) → total of_line (generated seed size) ≡ target size
+  by-families : (seed : ℕ) (target : ℕ → ℕ) → target 0 ≡ 0 → ((i : ℕ) → target (suc i) ≡ target i + total of_line (family seed i) + total of_line (cycle_after i))
+      → (size : ℕ) → total of_line (generated seed size) ≡ target size
   by-families seed target z step zero = sym z
   by-families seed target z step (suc i) =
       let a = total-append of_line (generated seed i ++ family seed i) (cycle_after i) in
@@ -193,7 +194,8 @@ abbrev handles_target : ℕ → ℕ → ℕ
 handles_target seed size = 2 * families_of 0 seed size + families_of 1 seed size + families_of 2 seed size
 
 -- the numbers of families at two sizes, as plain numbers
-managed-step : (k f0 f1 f2 g0 g1 g2 own : ℕ) → g0 ≡ f0 + at_shape 1 0 0 0 k → g1 ≡ f1 + at_shape 0 1 0 0 k → g2 ≡ f2 + at_shape 0 0 1 0 k → own ≡ at_shape 3 2 2 0 k → 3 * g0 + 2 * g1 + 2 * g2 ≡ 3 * f0 + 2 * f1 + 2 * f2 + own
+managed-step : (k f0 f1 f2 g0 g1 g2 own : ℕ) → g0 ≡ f0 + at_shape 1 0 0 0 k → g1 ≡ f1 + at_shape 0 1 0 0 k
+    → g2 ≡ f2 + at_shape 0 0 1 0 k → own ≡ at_shape 3 2 2 0 k → 3 * g0 + 2 * g1 + 2 * g2 ≡ 3 * f0 + 2 * f1 + 2 * f2 + own
 managed-step zero f0 f1 f2 g0 g1 g2 own a b c d = omega (arith, a, b, c, d)
 managed-step (suc zero) f0 f1 f2 g0 g1 g2 own a b c d = omega (arith, a, b, c, d)
 managed-step (suc (suc zero)) f0 f1 f2 g0 g1 g2 own a b c d = omega (arith, a, b, c, d)
@@ -206,7 +208,8 @@ peers-step (suc zero) f0 f1 f2 f3 g0 g1 g2 g3 own a b c d e = omega (arith, a, b
 peers-step (suc (suc zero)) f0 f1 f2 f3 g0 g1 g2 g3 own a b c d e = omega (arith, a, b, c, d, e)
 peers-step (suc (suc (suc n))) f0 f1 f2 f3 g0 g1 g2 g3 own a b c d e = omega (arith, a, b, c, d, e)
 
-handles-step : (k f0 f1 f2 g0 g1 g2 own : ℕ) → g0 ≡ f0 + at_shape 1 0 0 0 k → g1 ≡ f1 + at_shape 0 1 0 0 k → g2 ≡ f2 + at_shape 0 0 1 0 k → own ≡ at_shape 2 1 1 0 k → 2 * g0 + g1 + g2 ≡ 2 * f0 + f1 + f2 + own
+handles-step : (k f0 f1 f2 g0 g1 g2 own : ℕ) → g0 ≡ f0 + at_shape 1 0 0 0 k → g1 ≡ f1 + at_shape 0 1 0 0 k
+    → g2 ≡ f2 + at_shape 0 0 1 0 k → own ≡ at_shape 2 1 1 0 k → 2 * g0 + g1 + g2 ≡ 2 * f0 + f1 + f2 + own
 handles-step zero f0 f1 f2 g0 g1 g2 own a b c d = omega (arith, a, b, c, d)
 handles-step (suc zero) f0 f1 f2 g0 g1 g2 own a b c d = omega (arith, a, b, c, d)
 handles-step (suc (suc zero)) f0 f1 f2 g0 g1 g2 own a b c d = omega (arith, a, b, c, d)
@@ -252,4 +255,5 @@ simple-cycle i = elim (after i) [
 
 pub simple-lines : (seed size : ℕ) → Each IsSimpleLine (generated seed size)
 simple-lines seed zero = tt
-simple-lines seed (suc i) = each-join IsSimpleLine (generated seed i ++ family seed i) (cycle_after i) (each-join IsSimpleLine (generated seed i) (family seed i) (simple-lines seed i) (simple-family (shape_of seed i) (thread_of i) (static_of i) (omega arith) (omega arith))) (simple-cycle i)
+simple-lines seed (suc i) = each-join IsSimpleLine (generated seed i ++ family seed i) (cycle_after i)
+    (each-join IsSimpleLine (generated seed i) (family seed i) (simple-lines seed i) (simple-family (shape_of seed i) (thread_of i) (static_of i) (omega arith) (omega arith))) (simple-cycle i)

@@ -49,7 +49,8 @@ listed (j ∷ issued) [] p c = absurd (Contains-nil p c)
 listed (j ∷ issued) (None ∷ table) p c = later-listed j None issued table p (listed issued table p c)
 listed (j ∷ issued) (Some r ∷ table) p c = by r.strength refl c (λ d. listed issued table p d)
   where
-    by : (x : Strength) → r.strength ≡ x → Contains (if is_strong x then j.peer ∷ strong_peers issued table else strong_peers issued table) p → (Contains (strong_peers issued table) p → IsListed issued table p) → IsListed (j ∷ issued) (Some r ∷ table) p
+    by : (x : Strength) → r.strength ≡ x → Contains (if is_strong x then j.peer ∷ strong_peers issued table else strong_peers issued table) p
+        → (Contains (strong_peers issued table) p → IsListed issued table p) → IsListed (j ∷ issued) (Some r ∷ table) p
     by weak e d rest = later-listed j (Some r) issued table p (rest d)
     by strong e d rest = elim (Contains-cons_cases j.peer (strong_peers issued table) p d) [
       | inl q ↦ record { place = 0; row = r; is = j; tabled = refl; is_strong_one = e; is_issued = refl; leads = q }
@@ -89,14 +90,17 @@ module _ (minds : ℕ → Mind) (fills : ℕ → Filled) (groups : List (Option 
     sp = s.peer.peers
 
     reached-kept : (x : ℕ) → IsManagedReached sm x → Contains (rows_of groups) x
-    reached-kept x r = Reached-keeps (IsManagedRoot sm) (ManagedEdge sm) (λ z. Contains (rows_of groups) z) (λ z e. root-kept minds fills groups s w k z e) (λ a b e c. edge-kept minds fills groups s w k a b e c) x r
+    reached-kept x r = Reached-keeps (IsManagedRoot sm) (ManagedEdge sm) (λ z. Contains (rows_of groups) z)
+        (λ z e. root-kept minds fills groups s w k z e) (λ a b e c. edge-kept minds fills groups s w k a b e c) x r
 
     -- behind the snapshot
-    pub snap-rest : (c : ℕ) (freed candidates dead : List ℕ) → IsSnapshot sm c freed candidates dead → (x : ℕ) → IsLive (with_freed sm.heap freed) x → (Contains dead x → ⊥) → Contains (rows_of groups) x
+    pub snap-rest : (c : ℕ) (freed candidates dead : List ℕ) → IsSnapshot sm c freed candidates dead
+        → (x : ℕ) → IsLive (with_freed sm.heap freed) x → (Contains dead x → ⊥) → Contains (rows_of groups) x
     snap-rest c freed candidates dead a x l n = stable (rows_of groups) x (λ out. n ((a.leaves x).1 (IsLive-before sm.heap freed x l, (λ r. out (reached-kept x r)), IsLive-spared sm.heap freed x l)))
 
     -- a strong handle is a kept bridge's
-    strong-kept : (o : OpenSnap) (d : IsInMarking s.managed s.peer o) → ((h : ℕ) → Contains (handles_given (given_at s.control.stand)) h → ⊥) → Rest sm → (h : ℕ) (row : TableRow) (i : Issued) → IsTabled s.peer.table h row → row.strength ≡ strong → IsIssued sp.issued h i → Contains (peers_of groups) i.peer
+    strong-kept : (o : OpenSnap) (d : IsInMarking s.managed s.peer o) → ((h : ℕ) → Contains (handles_given (given_at s.control.stand)) h → ⊥) → Rest sm
+        → (h : ℕ) (row : TableRow) (i : Issued) → IsTabled s.peer.table h row → row.strength ≡ strong → IsIssued sp.issued h i → Contains (peers_of groups) i.peer
     strong-kept o d none rest h row i t st e =
         let live = k.peer.handles.uncleared h row i t e (k.peer.handles.sure h row t st) in
         elim (w.are_held.owned h row t) [
@@ -121,7 +125,8 @@ module _ (minds : ℕ → Mind) (fills : ℕ → Filled) (groups : List (Option 
         ]
 
     -- along the edges of a marking that has just begun
-    edge-marked : (o : OpenSnap) (d : IsInMarking s.managed s.peer o) (mk : Marking) → mk.heap ≡ sp.heap → mk.refs ≡ s.peer.refs → (p q : ℕ) → MarkingEdge mk p q → Contains (peers_of groups) p → Contains (peers_of groups) q
+    edge-marked : (o : OpenSnap) (d : IsInMarking s.managed s.peer o) (mk : Marking) → mk.heap ≡ sp.heap
+        → mk.refs ≡ s.peer.refs → (p q : ℕ) → MarkingEdge mk p q → Contains (peers_of groups) p → Contains (peers_of groups) q
     edge-marked o d mk heap refs p q (inl f) c =
         let g = peer-stands groups p c in
         let i = row-of_group minds fills groups s w k g.spot g.group g.there in
@@ -134,20 +139,25 @@ module _ (minds : ℕ → Mind) (fills : ℕ → Filled) (groups : List (Option 
         let walk = mirror_edge-managed sm d.cycle cut d.mirror.comps d.mirror.heavy d.mirror.xrefs d.mirror.contraction e.0 e.1 e.2 in
         let named : Names g.group e.1 = Reaches-keeps (ManagedEdge sm) (Names g.group) (λ x y a b. names-on minds fills groups s w k g.spot g.group g.there x y a b) e.0 e.1 walk (inl same) in
         let b = kept-bridge minds fills groups s w k e.1 e.4.handle e.4.holds (stands-row groups g.spot g.group e.1 g.there named) in
-        subst (Contains (peers_of groups)) (some-same b.group.peer q (sym b.has.1 ∙ (peer_of-issued sp.issued e.4.handle e.4.row e.4.is_issued ∙ ap Some e.4.leads))) (stands-peer groups b.spot b.group b.there)
+        subst (Contains (peers_of groups)) (some-same b.group.peer q (sym b.has.1 ∙ (peer_of-issued sp.issued e.4.handle e.4.row e.4.is_issued ∙ ap Some e.4.leads)))
+        (stands-peer groups b.spot b.group b.there)
 
     -- so all that it marks
-    pub begun-marks : (o : OpenSnap) (d : IsInMarking s.managed s.peer o) → ((h : ℕ) → Contains (handles_given (given_at s.control.stand)) h → ⊥) → Rest sm → (mk : Marking) → mk.heap ≡ sp.heap → mk.refs ≡ s.peer.refs → mk.strong_peers ≡ strong_peers sp.issued s.peer.table → mk.brought ≡ []
+    pub begun-marks : (o : OpenSnap) (d : IsInMarking s.managed s.peer o) → ((h : ℕ) → Contains (handles_given (given_at s.control.stand)) h → ⊥)
+        → Rest sm → (mk : Marking) → mk.heap ≡ sp.heap → mk.refs ≡ s.peer.refs → mk.strong_peers ≡ strong_peers sp.issued s.peer.table → mk.brought ≡ []
         → (q : ℕ) → IsMarked mk q → Contains (peers_of groups) q
-    begun-marks o d unasked rest mk heap refs roots none q m = Reached-keeps (IsMarkingRoot mk) (MarkingEdge mk) (λ z. Contains (peers_of groups) z) start (λ a b e c. edge-marked o d mk heap refs a b e c) q m.reached
+    begun-marks o d unasked rest mk heap refs roots none q m = Reached-keeps (IsMarkingRoot mk) (MarkingEdge mk)
+        (λ z. Contains (peers_of groups) z) start (λ a b e c. edge-marked o d mk heap refs a b e c) q m.reached
       where
         start : (z : ℕ) → IsMarkingRoot mk z → Contains (peers_of groups) z
         start z (inl a) = peer_slot-kept minds fills groups s w k z (subst (λ h. InSlot h z) heap a)
-        start z (inr (inl a)) = (let l = listed sp.issued s.peer.table z (subst (λ l. Contains l z) roots a) in subst (λ y. Contains (peers_of groups) y) l.leads (strong-kept o d unasked rest (suc l.place) l.row l.is l.tabled l.is_strong_one l.is_issued))
+        start z (inr (inl a)) = (let l = listed sp.issued s.peer.table z (subst (λ l. Contains l z) roots a) in
+            subst (λ y. Contains (peers_of groups) y) l.leads (strong-kept o d unasked rest (suc l.place) l.row l.is l.tabled l.is_strong_one l.is_issued))
         start z (inr (inr a)) = absurd (Contains-nil z (subst (λ l. Contains l z) none a))
 
     -- behind the resolution
-    pub resolved-left : (o : OpenSnap) (answers : List Answer) (clear : ℕ) (d : IsDriverKept s.managed s.peer (restored o answers clear)) → Rest sm → PeersLeft sp → (c : ℕ) (freed : List ℕ) → MayResolve s.managed c answers freed
+    pub resolved-left : (o : OpenSnap) (answers : List Answer) (clear : ℕ) (d : IsDriverKept s.managed s.peer (restored o answers clear))
+        → Rest sm → PeersLeft sp → (c : ℕ) (freed : List ℕ) → MayResolve s.managed c answers freed
         → (x : ℕ) → IsLive (with_freed sm.heap freed) x → Contains (rows_of groups) x
     resolved-left o answers clear d rest left c freed a x l = elim (Contains-decided a.cycle.dead x) [
       | inr n ↦ rest a.cycle a.open_cycle.0 x (IsLive-before sm.heap freed x l) n
@@ -165,7 +175,8 @@ module _ (minds : ℕ → Mind) (fills : ℕ → Filled) (groups : List (Option 
             let h = bridge.0 in
             let in_list : IsGivenTo d.cycle.candidates answers y alive.2.0 = record { place = alive.0; candidate = there; answer = alive.2.1 } in
             let new = replaced s.managed s.peer o answers k.managed k.peer k.owners d y alive.2.0 h in_list bridge.1 in
-            let live : IsLive sp.heap new.new.peer = k.peer.handles.uncleared alive.2.0 new.strong_one.0 new.new new.strong_one.1 new.is (k.peer.handles.sure alive.2.0 new.strong_one.0 new.strong_one.1 new.strong_one.2) in
+            let live : IsLive sp.heap new.new.peer = k.peer.handles.uncleared alive.2.0 new.strong_one.0 new.new new.strong_one.1 new.is
+            (k.peer.handles.sure alive.2.0 new.strong_one.0 new.strong_one.1 new.strong_one.2) in
             let g = peer-stands groups new.old.peer (left new.old.peer (subst (IsLive sp.heap) new.same live)) in
             let row : IsRowOf sm sp.issued y new.old.peer = record { handle = h; holds = bridge.1; row = new.old; is_issued = new.was; leads = refl } in
             let is = only-row minds fills groups s w k y g.spot g.group new.old.peer g.there g.has row in

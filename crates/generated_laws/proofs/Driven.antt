@@ -53,7 +53,8 @@ given-last (said_cleared ∷ answers) a n e = given-last answers a n e
 
 -- a row that was freed in an entry held a handle on a freed peer
 module _ (s : Linkage) (n : Noted) (may : MayCome s n) (k : Of s) (minds : ℕ → Mind) (groups : List (Option Group)) (h : AreHeld s.managed.managed s.peer (given_at s.control.stand) minds groups) where
-  still-freed : (x a : ℕ) → numbered_at s.managed.managed.held x ≡ Some (Some a) → Contains (linkage_after s n).managed.managed.heap.freed x → (q : ℕ) × (peer_of s.peer.peers.issued a ≡ Some q) × Contains (linkage_after s n).peer.peers.heap.freed q
+  still-freed : (x a : ℕ) → numbered_at s.managed.managed.held x ≡ Some (Some a) → Contains (linkage_after s n).managed.managed.heap.freed x
+      → (q : ℕ) × (peer_of s.peer.peers.issued a ≡ Some q) × Contains (linkage_after s n).peer.peers.heap.freed q
   still-freed x a d f = elim (Contains-decided s.managed.managed.heap.freed x) [
     | inl old ↦ (let o = h.freed x a d old in (o.0, o.1, grows-Contains s.peer.peers.heap.freed (linkage_after s n).peer.peers.heap.freed o.0 (peers-grow s n k.peer) o.2))
     | inr new ↦ (
@@ -89,7 +90,8 @@ module _ (minds : ℕ → Mind) (fills : ℕ → Filled) (groups : List (Option 
   Allowed o told d = DriverAllows d sm sp.issued o r cites told
 
   -- what restores gave stays in the driver's hand until the resolution
-  keeps-given : (o : Op) (told : Told) (d : Stand) → IsStill o → Allowed o told d → (n : ℕ) → Contains (handles_given (given_at d)) n → Contains (handles_given (given_at (stand_after d number o r told))) n
+  keeps-given : (o : Op) (told : Told) (d : Stand) → IsStill o → Allowed o told d → (n : ℕ)
+      → Contains (handles_given (given_at d)) n → Contains (handles_given (given_at (stand_after d number o r told))) n
   keeps-given (op.Snap c) told idle i al n g = absurd (Contains-nil n g)
   keeps-given (op.Snap c) told _ i al n g = absurd al
   keeps-given (op.Contract c) told (snapped q) i al n g = absurd (Contains-nil n g)
@@ -131,13 +133,15 @@ module _ (minds : ℕ → Mind) (fills : ℕ → Filled) (groups : List (Option 
               | inr (inr g) ↦ inr (inr (keeps-given o told s.control.stand i may.order n g))
             ]
           ];
-          freed = λ x n e f. (let q = still-freed s (the o told) may k minds groups h x n (ap (λ l. numbered_at l x) (sym m.held) ∙ e) f in (q.0, peer_of-on sp.issued (after o told).peer.peers.issued n q.0 t.issued q.1, q.2));
+          freed = λ x n e f. (let q = still-freed s (the o told) may k minds groups h x n (ap (λ l. numbered_at l x) (sym m.held) ∙ e) f in
+              (q.0, peer_of-on sp.issued (after o told).peer.peers.issued n q.0 t.issued q.1, q.2));
           leads = λ j g n e f. peer_of-on sp.issued (after o told).peer.peers.issued n g.peer t.issued (h.leads j g n e (ap (λ l. numbered_at l g.bridge) (sym m.held) ∙ f));
         };
       }
 
   -- the resolution
-  module _ (c : Cycle) (said : List Answer) (freed : List ℕ) (q : OpenSnap) (d : IsRestored s.managed s.peer q said) (given : given_at s.control.stand ≡ said) (a : MayResolve s.managed c.0 said freed) where
+  module _ (c : Cycle) (said : List Answer) (freed : List ℕ) (q : OpenSnap) (d : IsRestored s.managed s.peer q said)
+      (given : given_at s.control.stand ≡ said) (a : MayResolve s.managed c.0 said freed) where
     cut : IsCutOff sm d.cycle
     cut = k.managed.managed.dead d.cycle d.opened.cycle
 
@@ -187,7 +191,8 @@ module _ (minds : ℕ → Mind) (fills : ℕ → Filled) (groups : List (Option 
     resolved_shown = renewed-shown sm (resolved sm said freed) minds groups w refl refl refl refl (renewed-length sm.held (candidates_of sm) said)
         (λ t v x e. holds-old x.number (λ g y. no-named t v x g e y))
         (λ i g e. (
-          (let b = (w.groups_are i g e).holds in elim (given-or (candidates_of sm) said g.bridge) [ inl y ↦ (y.0, holds-new g.bridge b.0 y.0 y.1 b.1) | inr none ↦ (b.0, holds-old g.bridge none ∙ b.1) ]),
+          (let b = (w.groups_are i g e).holds in elim (given-or (candidates_of sm) said g.bridge)
+              [ inl y ↦ (y.0, holds-new g.bridge b.0 y.0 y.1 b.1) | inr none ↦ (b.0, holds-old g.bridge none ∙ b.1) ]),
           holds-old g.plain (λ x y. no-plain g.plain x (w.groups_are i g e).none y) ∙ (w.groups_are i g e).none,
         ))
 
@@ -220,7 +225,8 @@ module _ (minds : ℕ → Mind) (fills : ℕ → Filled) (groups : List (Option 
       ];
     }
 
-  resolve-by : (c : Cycle) (told : Told) (d : Stand) → s.control.stand ≡ d → SideLawful false s (entry C line (op.Resolve c) r cites) told → Allowed (op.Resolve c) told d → IsDriverKept s.managed s.peer d → MayCome s (the (op.Resolve c) told)
+  resolve-by : (c : Cycle) (told : Told) (d : Stand) → s.control.stand ≡ d → SideLawful false s (entry C line (op.Resolve c) r cites) told
+      → Allowed (op.Resolve c) told d → IsDriverKept s.managed s.peer d → MayCome s (the (op.Resolve c) told)
       → AreShown minds fills groups (after (op.Resolve c) told)
   resolve-by c (resolution_of said freed) (restored q answers clear) now l al dk may =
       let given : given_at s.control.stand ≡ said = ap given_at now ∙ sym al.2 in
@@ -228,7 +234,8 @@ module _ (minds : ℕ → Mind) (fills : ℕ → Filled) (groups : List (Option 
       record {
         shown = resolved_shown c said freed q d given l.allowed;
         peers = p;
-        are_held = subst (λ l. AreHeld (resolved sm said freed) s.peer l minds groups) (sym (ap (λ (z : Stand). given_at (stand_after z number (op.Resolve c) r (resolution_of said freed))) now)) (resolved_held c said freed q d given l.allowed may);
+        are_held = subst (λ l. AreHeld (resolved sm said freed) s.peer l minds groups)
+            (sym (ap (λ (z : Stand). given_at (stand_after z number (op.Resolve c) r (resolution_of said freed))) now)) (resolved_held c said freed q d given l.allowed may);
       }
   resolve-by c told (restored q answers clear) now l al dk may = absurd al
   resolve-by c told _ now l al dk may = absurd al

@@ -47,23 +47,30 @@ module _ (m : Mind) (acts : List Act) (es tail : List Entry) (good : Each HasAns
   abbrev Goes : Mind → Type 0
   Goes n = (rest : List Entry) → Each HasAnswer rest → Runs acts rest → Going (rest ++ tail) n
 
-  one-going : (a : Act) (o : Op) → next_event a [] ≡ Some o → ((r : Reply) → next_event a (r ∷ []) ≡ None) → Runs (a ∷ acts) es → ((r : Reply) (rest : List Entry) → Each HasAnswer rest → Runs acts rest → Answers o r → Step m o r (Going (rest ++ tail))) → Going (es ++ tail) m
+  one-going : (a : Act) (o : Op) → next_event a [] ≡ Some o → ((r : Reply) → next_event a (r ∷ []) ≡ None) → Runs (a ∷ acts) es
+      → ((r : Reply) (rest : List Entry) → Each HasAnswer rest → Runs acts rest → Answers o r → Step m o r (Going (rest ++ tail))) → Going (es ++ tail) m
   one-going a o e n r f =
       let s = single a o r.0 e n r.3 in
       let all : es ≡ s.entry ∷ r.1 = r.2 ∙ ap (λ l. l ++ r.1) s.all in
       let g : Each HasAnswer (s.entry ∷ r.1) = subst (Each HasAnswer) all good in
-      subst (λ l. Going (l ++ tail) m) (sym all) (step-in m s.entry (r.1 ++ tail) o s.entry.made.reply s.event refl (f s.entry.made.reply r.1 g.1 r.4 (subst (λ z. Answers z s.entry.made.reply) s.event g.0)))
+      subst (λ l. Going (l ++ tail) m) (sym all) (step-in m s.entry (r.1 ++ tail) o s.entry.made.reply s.event refl
+      (f s.entry.made.reply r.1 g.1 r.4 (subst (λ z. Answers z s.entry.made.reply) s.event g.0)))
 
-  new-going : (v : Var) (k : Kind) (n : ℕ) → v.0 < 3 → Runs (act.New v k n ∷ acts) es → ((z : ℕ) → Goes (record m { slots = put m.slots v.0 (Some (seen z (replicate n None) None)) })) → Going (es ++ tail) m
-  new-going v k n l r f = one-going (act.New v k n) (op.Line (act.New v k n)) refl (λ q. refl) r (λ q rest g u a. (let z = m-reply q a in subst (λ y. Step m (op.Line (act.New v k n)) y (Going (rest ++ tail))) (sym z.1) (l, f z.0.0 rest g u)))
+  new-going : (v : Var) (k : Kind) (n : ℕ) → v.0 < 3 → Runs (act.New v k n ∷ acts) es
+      → ((z : ℕ) → Goes (record m { slots = put m.slots v.0 (Some (seen z (replicate n None) None)) })) → Going (es ++ tail) m
+  new-going v k n l r f = one-going (act.New v k n) (op.Line (act.New v k n)) refl (λ q. refl) r
+      (λ q rest g u a. (let z = m-reply q a in subst (λ y. Step m (op.Line (act.New v k n)) y (Going (rest ++ tail))) (sym z.1) (l, f z.0.0 rest g u)))
 
-  set-going : (v w : Var) → (b : IsBare m.slots v.0 w.0 0) → Runs (act.Set v 0 (Some w) ∷ acts) es → Goes (record m { slots = put m.slots v.0 (Some (seen b.target.number (Some b.value.number ∷ []) b.target.handle)) }) → Going (es ++ tail) m
+  set-going : (v w : Var) → (b : IsBare m.slots v.0 w.0 0) → Runs (act.Set v 0 (Some w) ∷ acts) es
+      → Goes (record m { slots = put m.slots v.0 (Some (seen b.target.number (Some b.value.number ∷ []) b.target.handle)) }) → Going (es ++ tail) m
   set-going v w b r f = one-going (act.Set v 0 (Some w)) (op.Line (act.Set v 0 (Some w))) refl (λ q. refl) r (λ q rest g u a. (b, f rest g u))
 
-  drop-going : (v : Var) (stored : Bool) → v.0 < 3 → ((stored ≡ m.stored) ⊎ ((w : ℕ) → at (put m.slots v.0 None) w ≡ None)) → Runs (act.Drop v ∷ acts) es → Goes (record m { slots = put m.slots v.0 None; stored = stored }) → Going (es ++ tail) m
+  drop-going : (v : Var) (stored : Bool) → v.0 < 3 → ((stored ≡ m.stored) ⊎ ((w : ℕ) → at (put m.slots v.0 None) w ≡ None))
+      → Runs (act.Drop v ∷ acts) es → Goes (record m { slots = put m.slots v.0 None; stored = stored }) → Going (es ++ tail) m
   drop-going v stored l how r f = one-going (act.Drop v) (op.Line (act.Drop v)) refl (λ q. refl) r (λ q rest g u a. (l, stored, how, f rest g u))
 
-  store-going : (x : StaticNo) (v : Var) (h : ℕ) → x.0 < 16 → v.0 < 3 → IsOver m.slots v.0 None (Some h) → m.stored ≡ false → Runs (act.Store x (Some v) ∷ acts) es → Goes (record m { stored = true }) → Going (es ++ tail) m
+  store-going : (x : StaticNo) (v : Var) (h : ℕ) → x.0 < 16 → v.0 < 3 → IsOver m.slots v.0 None (Some h)
+      → m.stored ≡ false → Runs (act.Store x (Some v) ∷ acts) es → Goes (record m { stored = true }) → Going (es ++ tail) m
   store-going x v h l l' o s r f = one-going (act.Store x (Some v)) (op.Line (act.Store x (Some v))) refl (λ q. refl) r (λ q rest g u a. (l, l', h, o, s, f rest g u))
 
   bridge-going : (v : Var) (k : Kind) (n : ℕ) (sort : Sort) (l : ℕ) → v.0 < 3 → m.hand ≡ None → Runs (act.Bridge v k n sort l ∷ acts) es
@@ -79,7 +86,8 @@ module _ (m : Mind) (acts : List Act) (es tail : List Entry) (good : Each HasAns
       (step-in m p.first (p.second ∷ r.1 ++ tail) (op.Make sort l) (says.Made p.peer p.handle) p.makes p.made
       (empty, step-in held p.second (r.1 ++ tail) (op.Adopt v k n p.peer p.handle) (says.M z.0) p.adopts z.1 (refl, small, f z.0.0 p.handle.0 r.1 parts.1 r.4)))
 
-  pass-going : (v : Var) (x : StaticNo) (h : ℕ) → v.0 < 3 → x.0 < 16 → IsOver m.slots v.0 (Some h) None → m.stored ≡ false → Runs (act.Pass v x ∷ acts) es → Goes (record m { stored = true }) → Going (es ++ tail) m
+  pass-going : (v : Var) (x : StaticNo) (h : ℕ) → v.0 < 3 → x.0 < 16 → IsOver m.slots v.0 (Some h) None
+      → m.stored ≡ false → Runs (act.Pass v x ∷ acts) es → Goes (record m { stored = true }) → Going (es ++ tail) m
   pass-going v x h l l' o s r f = by r.0 refl r.3
     where
       land : (own : List Entry) (g : HNum) → g.0 ≡ h → AreEventsAfter (act.Pass v x) (says.H g ∷ []) own → Going ((own ++ r.1) ++ tail) m
@@ -141,7 +149,18 @@ cached-going x es tail l good r done =
     bridge-going empty_mind (behind 1 (cached_leaf x)) es tail good _ LeafBridge 0 Framework 1 v0 refl r (λ a h e1 g1 r1.
     new-going _ (behind 2 (cached_leaf x)) e1 tail g1 _ Plain 1 v1 r1 (λ b e2 g2 r2.
     set-going _ (behind 3 (cached_leaf x)) e2 tail g2 _ _ (bare_over _ 1 0 _ _ refl refl refl v1 v0) r2 (λ e3 g3 r3.
-    store-going _ (behind 4 (cached_leaf x)) e3 tail g3 x _ h l v1 (record { outer = seen b (Some a ∷ []) None; inner = seen a [] (Some h); other = 0; here = refl; there = refl; over_fields = refl; under_fields = refl; over_handle = refl; under_handle = refl }) refl r3 (λ e4 g4 r4.
+    store-going _ (behind 4 (cached_leaf x)) e3 tail g3 x _ h l v1
+    (record {
+      outer = seen b (Some a ∷ []) None;
+      inner = seen a [] (Some h);
+      other = 0;
+      here = refl;
+      there = refl;
+      over_fields = refl;
+      under_fields = refl;
+      over_handle = refl;
+      under_handle = refl;
+    }) refl r3 (λ e4 g4 r4.
     drop-going _ (behind 5 (cached_leaf x)) e4 tail g4 _ true v0 (inl refl) r4 (λ e5 g5 r5.
     drop-going _ (behind 6 (cached_leaf x)) e5 tail g5 _ false v1 (inr none-at) r5 (λ e6 g6 r6.
     (let q : e6 ≡ [] = r6 in subst (λ l. Going (l ++ tail) empty_mind) (sym q) done)))))))
@@ -152,7 +171,18 @@ passed-going x es tail l good r done =
     bridge-going empty_mind (behind 1 (passed_bridge x)) es tail good _ Bridge 1 User 0 v0 refl r (λ a h e1 g1 r1.
     new-going _ (behind 2 (passed_bridge x)) e1 tail g1 _ Leaf 0 v1 r1 (λ b e2 g2 r2.
     set-going _ (behind 3 (passed_bridge x)) e2 tail g2 _ _ (bare_over _ 0 1 _ _ refl refl refl v0 v1) r2 (λ e3 g3 r3.
-    pass-going _ (behind 4 (passed_bridge x)) e3 tail g3 _ x h v0 l (record { outer = seen a (Some b ∷ []) (Some h); inner = seen b [] None; other = 1; here = refl; there = refl; over_fields = refl; under_fields = refl; over_handle = refl; under_handle = refl }) refl r3 (λ e4 g4 r4.
+    pass-going _ (behind 4 (passed_bridge x)) e3 tail g3 _ x h v0 l
+    (record {
+      outer = seen a (Some b ∷ []) (Some h);
+      inner = seen b [] None;
+      other = 1;
+      here = refl;
+      there = refl;
+      over_fields = refl;
+      under_fields = refl;
+      over_handle = refl;
+      under_handle = refl;
+    }) refl r3 (λ e4 g4 r4.
     drop-going _ (behind 5 (passed_bridge x)) e4 tail g4 _ true v0 (inl refl) r4 (λ e5 g5 r5.
     drop-going _ (behind 6 (passed_bridge x)) e5 tail g5 _ false v1 (inr none-at) r5 (λ e6 g6 r6.
     (let q : e6 ≡ [] = r6 in subst (λ l. Going (l ++ tail) empty_mind) (sym q) done)))))))

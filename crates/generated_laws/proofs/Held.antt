@@ -46,7 +46,8 @@ module _ (Q : Entry → Type 0) (F : Entry → ℕ) (G : Act → ℕ) (R : ℕ �
   of_line line = G line.1.1
 
   -- of the lines of one thread
-  held-total : (lines : List (ℕ × (Thread × Act))) (s : Standing) (es : List Entry) → s.phase ≡ at.Idle → Each IsSimpleNumbered lines → Each Q es → HoldsLines s lines es → R (total F es) (total of_line lines)
+  held-total : (lines : List (ℕ × (Thread × Act))) (s : Standing) (es : List Entry) → s.phase ≡ at.Idle
+      → Each IsSimpleNumbered lines → Each Q es → HoldsLines s lines es → R (total F es) (total of_line lines)
   held-total [] s es i w q h =
       let e : es ≡ [] = subst (λ (p : Phase). ArePhases s.candidates (phases_left p) es) i h.events in
       subst (λ l. R (total F l) 0) (sym e) none
@@ -71,8 +72,10 @@ module _ (Q : Entry → Type 0) (F : Entry → ℕ) (G : Act → ℕ) (R : ℕ �
       let lines = numbered_from 1 script in
       let simple = numbered-simple 1 script w in
       let each : (u : Thread) → R (total F (entries_by u es)) (total of_line (lines_of u lines)) =
-      λ u. held-total (lines_of u lines) opening_standing (entries_by u es) refl (each-filter IsSimpleNumbered (λ line. is_thread u line.1.0) lines simple) (each-filter Q (λ e. is_thread u e.made.caller) es q) (h u) in
+      λ u. held-total (lines_of u lines) opening_standing (entries_by u es) refl
+      (each-filter IsSimpleNumbered (λ line. is_thread u line.1.0) lines simple) (each-filter Q (λ e. is_thread u e.made.caller) es q) (h u) in
       let entries-sum = by_threads (λ (e : Entry). e.made.caller) F es t in
       let lines-sum = by_threads (λ (line : ℕ × (Thread × Act)). line.1.0) of_line lines (each-threads lines simple) in
       let sums = of-all (λ u. total F (entries_by u es)) (λ u. total of_line (lines_of u lines)) all_threads each in
-      subst (λ n. R n (total (λ (line : Thread × Act). G line.1) script)) (sym entries-sum) (subst (λ n. R (total (λ u. total F (entries_by u es)) all_threads) n) (sym lines-sum ∙ numbered-total 1 script) sums)
+      subst (λ n. R n (total (λ (line : Thread × Act). G line.1) script)) (sym entries-sum)
+      (subst (λ n. R (total (λ u. total F (entries_by u es)) all_threads) n) (sym lines-sum ∙ numbered-total 1 script) sums)

@@ -55,9 +55,11 @@ pub stands-row : (groups : List (Option Group)) (i : ℕ) (g : Group) (z : ℕ) 
 stands-row [] i g z e n = absurd (cc)
 stands-row (None ∷ gs) zero g z e n = absurd (cc)
 stands-row (None ∷ gs) (suc i) g z e n = stands-row gs i g z e n
-stands-row (Some k ∷ gs) zero g z e (inl n) = subst (λ y. Contains (k.bridge ∷ k.plain ∷ rows_of gs) y) (ap (λ (y : Group). y.bridge) (some-same k g e) ∙ sym n) (Contains-here k.bridge (k.plain ∷ rows_of gs))
+stands-row (Some k ∷ gs) zero g z e (inl n) = subst (λ y. Contains (k.bridge ∷ k.plain ∷ rows_of gs) y)
+    (ap (λ (y : Group). y.bridge) (some-same k g e) ∙ sym n) (Contains-here k.bridge (k.plain ∷ rows_of gs))
 stands-row (Some k ∷ gs) zero g z e (inr n) =
-    subst (λ y. Contains (k.bridge ∷ k.plain ∷ rows_of gs) y) (ap (λ (y : Group). y.plain) (some-same k g e) ∙ sym n) (Contains-there k.plain k.bridge (k.plain ∷ rows_of gs) (Contains-here k.plain (rows_of gs)))
+    subst (λ y. Contains (k.bridge ∷ k.plain ∷ rows_of gs) y) (ap (λ (y : Group). y.plain) (some-same k g e) ∙ sym n)
+    (Contains-there k.plain k.bridge (k.plain ∷ rows_of gs) (Contains-here k.plain (rows_of gs)))
 stands-row (Some k ∷ gs) (suc i) g z e n = Contains-there z k.bridge (k.plain ∷ rows_of gs) (Contains-there z k.plain (rows_of gs) (stands-row gs i g z e n))
 
 pub peer-stands : (groups : List (Option Group)) (q : ℕ) → Contains (peers_of groups) q → StandsIn groups (λ g. g.peer ≡ q)
@@ -177,10 +179,12 @@ module _ (minds : ℕ → Mind) (fills : ℕ → Filled) (groups : List (Option 
 
   -- the rows of a group are unfreed
   from-plain : (i : ℕ) (g : Group) → slot groups i ≡ Some g → IsLive sm.heap g.plain → g.turned ≡ false → IsLive sm.heap g.bridge
-  from-plain i g e l t = k.managed.managed.fields g.plain g.bridge l (subst (λ fs. Contains fs (Some g.bridge)) (sym (subst (Joined sm g.bridge g.plain) t (w.shown.groups_are i g e).joined).0) (Contains-here (Some g.bridge) []))
+  from-plain i g e l t = k.managed.managed.fields g.plain g.bridge l
+      (subst (λ fs. Contains fs (Some g.bridge)) (sym (subst (Joined sm g.bridge g.plain) t (w.shown.groups_are i g e).joined).0) (Contains-here (Some g.bridge) []))
 
   from-bridge : (i : ℕ) (g : Group) → slot groups i ≡ Some g → IsLive sm.heap g.bridge → g.turned ≡ true → IsLive sm.heap g.plain
-  from-bridge i g e l t = k.managed.managed.fields g.bridge g.plain l (subst (λ fs. Contains fs (Some g.plain)) (sym (subst (Joined sm g.bridge g.plain) t (w.shown.groups_are i g e).joined).0) (Contains-here (Some g.plain) []))
+  from-bridge i g e l t = k.managed.managed.fields g.bridge g.plain
+      l (subst (λ fs. Contains fs (Some g.plain)) (sym (subst (Joined sm g.bridge g.plain) t (w.shown.groups_are i g e).joined).0) (Contains-here (Some g.plain) []))
 
   pub group-live : (i : ℕ) (g : Group) → slot groups i ≡ Some g → IsLive sm.heap g.bridge × IsLive sm.heap g.plain
   group-live i g e = elim (cases_lt i 16) [
@@ -212,7 +216,8 @@ module _ (minds : ℕ → Mind) (fills : ℕ → Filled) (groups : List (Option 
               let c = w.shown.places in
               let bridge : IsLive sm.heap g.bridge = record {
                 made = (b.0, omega (arith, b.1, c));
-                kept = λ d. (let o = w.are_held.freed g.bridge h.0 h.1 d in live.kept (subst (λ z. Contains sp.heap.freed z) (some-same o.0 g.peer (sym o.1 ∙ w.are_held.leads i g h.0 e h.1) ∙ n.0) o.2));
+                kept = λ d. (let o = w.are_held.freed g.bridge h.0 h.1 d in
+                    live.kept (subst (λ z. Contains sp.heap.freed z) (some-same o.0 g.peer (sym o.1 ∙ w.are_held.leads i g h.0 e h.1) ∙ n.0) o.2));
               } in
               (bridge, from-bridge i g e bridge n.1)
 

@@ -63,7 +63,8 @@ module _ (minds : ℕ → Mind) (fills : ℕ → Filled) (groups : List (Option 
     Is o told d = Known minds fills groups (after o told).managed.managed (after o told).peer (stand_after d number o r told)
 
     -- the begin of the own marking
-    begin-marks : (told : Told) (d : Stand) (j : ℕ) (q : OpenSnap) → ((h : ℕ) → Contains (handles_given (given_at (after op.Begin told).control.stand)) h → ⊥) → r ≡ (begun s.peer s.peer.marking C).reply → r ≡ says.Mark record { 0 = j } → IsSettled minds fills groups (after op.Begin told) → Of (after op.Begin told)
+    begin-marks : (told : Told) (d : Stand) (j : ℕ) (q : OpenSnap) → ((h : ℕ) → Contains (handles_given (given_at (after op.Begin told).control.stand)) h → ⊥)
+        → r ≡ (begun s.peer s.peer.marking C).reply → r ≡ says.Mark record { 0 = j } → IsSettled minds fills groups (after op.Begin told) → Of (after op.Begin told)
         → IsDriverKept (after op.Begin told).managed (after op.Begin told).peer (marked q) → Rest minds fills groups s.managed.managed → OnlyMarks minds fills groups (after op.Begin told).peer
     begin-marks told d j q unasked e f w' k' d' rest = by s.peer.marking refl
       where
@@ -71,7 +72,15 @@ module _ (minds : ℕ → Mind) (fills : ℕ → Filled) (groups : List (Option 
         by (Some mk) g = absurd (let h : says.Mark record { 0 = j } ≡ says.MarkOpen record { 0 = mk.number } = sym f ∙ (e ∙ ap (λ z. (begun s.peer z C).reply) g) in cc)
         by None g =
             let now : (after op.Begin told).peer ≡ (begun s.peer None C).state = ap (λ z. (begun s.peer z C).state) g in
-            let new : Marking = record { number = s.peer.markings + 1; by = C; heap = s.peer.peers.heap; refs = s.peer.refs; strong_peers = strong_peers s.peer.peers.issued s.peer.table; brought = []; blackened = 0 } in
+            let new : Marking = record {
+              number = s.peer.markings + 1;
+              by = C;
+              heap = s.peer.peers.heap;
+              refs = s.peer.refs;
+              strong_peers = strong_peers s.peer.peers.issued s.peer.table;
+              brought = [];
+              blackened = 0;
+            } in
             let is : (mk : Marking) → (after op.Begin told).peer.marking ≡ Some mk → mk ≡ new = λ mk h. some-same mk new (sym h ∙ ap (λ (z : PeerReplay). z.marking) now) in
             record {
               only = λ mk h p m.
@@ -83,7 +92,8 @@ module _ (minds : ℕ → Mind) (fills : ℕ → Filled) (groups : List (Option 
               old = λ mk h p l. subst (λ z. IsLive z p) (ap (λ (z : PeerReplay). z.peers.heap) now ∙ sym (ap (λ (z : Marking). z.heap) (is mk h))) l;
             }
 
-    begin-known : (told : Told) (d : Stand) → s.control.stand ≡ d → r ≡ (begun s.peer s.peer.marking C).reply → DriverAllows d s.managed.managed s.peer.peers.issued op.Begin r cites told → IsSettled minds fills groups (after op.Begin told) → Of (after op.Begin told)
+    begin-known : (told : Told) (d : Stand) → s.control.stand ≡ d → r ≡ (begun s.peer s.peer.marking C).reply
+        → DriverAllows d s.managed.managed s.peer.peers.issued op.Begin r cites told → IsSettled minds fills groups (after op.Begin told) → Of (after op.Begin told)
         → IsDriverKept (after op.Begin told).managed (after op.Begin told).peer (stand_after d number op.Begin r told) → Was d → Is op.Begin told d
     begin-known told (weakening q count seen sw) now e al w' k' d' kn = (kn, begin-marks told (weakening q count seen sw) (number_in r al) q unasked e (mark-in r al) w' k' d' kn)
       where
@@ -101,15 +111,21 @@ module _ (minds : ℕ → Mind) (fills : ℕ → Filled) (groups : List (Option 
     begin-known told _ now e al w' k' d' kn = absurd al
 
     -- its sweep
-    swept-left : (freed : List ℕ) (q : OpenSnap) → SweepAllows s.peer s.peer.marking C (sweep_of freed) → IsDriverKept s.managed s.peer (marked q) → OnlyMarks minds fills groups s.peer → PeersLeft minds fills groups (swept s.peer s.peer.marking C freed).state.peers
+    swept-left : (freed : List ℕ) (q : OpenSnap) → SweepAllows s.peer s.peer.marking C (sweep_of freed) → IsDriverKept s.managed s.peer (marked q)
+        → OnlyMarks minds fills groups s.peer → PeersLeft minds fills groups (swept s.peer s.peer.marking C freed).state.peers
     swept-left freed q al d only =
         let e = d.own in
         let is : IsSweep s.peer d.marking freed = (subst (λ z. SweepAllows s.peer z C (sweep_of freed)) e al).1 in
         subst (λ z. PeersLeft minds fills groups (swept s.peer z C freed).state.peers) (sym e)
         (λ p l. stable (peers_of groups) p (λ out.
-        IsLive-spared s.peer.peers.heap freed p l ((is.exact p).1 (IsLive-before s.peer.peers.heap freed p l, only.old d.marking e p (IsLive-before s.peer.peers.heap freed p l), λ m. out (only.only d.marking e p m)))))
+        IsLive-spared s.peer.peers.heap freed p l ((is.exact p).1 (
+          IsLive-before s.peer.peers.heap freed p l,
+          only.old d.marking e p (IsLive-before s.peer.peers.heap freed p l),
+          λ m. out (only.only d.marking e p m),
+        ))))
 
-    sweep-known : (told : Told) (d : Stand) → SweepAllows s.peer s.peer.marking C told → DriverAllows d s.managed.managed s.peer.peers.issued op.Sweep r cites told → IsDriverKept s.managed s.peer d → Was d → Is op.Sweep told d
+    sweep-known : (told : Told) (d : Stand) → SweepAllows s.peer s.peer.marking C told
+        → DriverAllows d s.managed.managed s.peer.peers.issued op.Sweep r cites told → IsDriverKept s.managed s.peer d → Was d → Is op.Sweep told d
     sweep-known told (weakening q count seen sw) al da dk kn = kn
     sweep-known (sweep_of freed) (marked q) al da dk kn = (kn.0, swept-left freed q al dk kn.1)
     sweep-known other (marked q) al da dk kn = absurd (subst (λ z. SweepAllows s.peer z C other) dk.own al)
@@ -123,13 +139,15 @@ module _ (minds : ℕ → Mind) (fills : ℕ → Filled) (groups : List (Option 
         by None = refl
         by (Some p) = refl
 
-    resolve-known : (c : Cycle) (told : Told) (d : Stand) → SideLawful false s (entry C line (op.Resolve c) r cites) told → DriverAllows d s.managed.managed s.peer.peers.issued (op.Resolve c) r cites told → IsDriverKept s.managed s.peer d → Was d → Is (op.Resolve c) told d
+    resolve-known : (c : Cycle) (told : Told) (d : Stand) → SideLawful false s (entry C line (op.Resolve c) r cites) told
+        → DriverAllows d s.managed.managed s.peer.peers.issued (op.Resolve c) r cites told → IsDriverKept s.managed s.peer d → Was d → Is (op.Resolve c) told d
     resolve-known c (resolution_of said freed) (restored q answers clear) l da dk kn =
         (resolved-left minds fills groups s w k q answers clear dk kn.0 kn.1 c.0 freed (subst (λ z. MayResolve s.managed c.0 z freed) da.2 l.allowed), kn.1)
     resolve-known c told (restored q answers clear) l da dk kn = absurd da
     resolve-known c told _ l da dk kn = absurd da
 
-    later-known : (o : Op) (told : Told) (d : Stand) → s.control.stand ≡ d → IsLater o → SideLawful (is_peer_event C o) s (entry C line o r cites) told → DriverAllows d s.managed.managed s.peer.peers.issued o r cites told → IsDriverKept s.managed s.peer d
+    later-known : (o : Op) (told : Told) (d : Stand) → s.control.stand ≡ d → IsLater o → SideLawful (is_peer_event C o) s (entry C line o r cites) told
+        → DriverAllows d s.managed.managed s.peer.peers.issued o r cites told → IsDriverKept s.managed s.peer d
         → IsSettled minds fills groups (after o told) → Of (after o told) → IsDriverKept (after o told).managed (after o told).peer (stand_after d number o r told) → Was d → Is o told d
     later-known (op.Contract c) (contraction_of a b d) (snapped q) now i l al dk w' k' d' kn = kn
     later-known (op.Contract c) (contraction_of a b d) _ now i l al dk w' k' d' kn = absurd al
@@ -153,7 +171,8 @@ module _ (minds : ℕ → Mind) (fills : ℕ → Filled) (groups : List (Option 
     pub kept : Of s
     pub known : Known minds fills groups s.managed.managed s.peer s.control.stand
 
-  lastly-by : (s : Linkage) (number line : ℕ) (r : Reply) (cites : Option ℕ) (told : Told) (t : Thread) (o : Op) → t ≡ C → IsLater o → MayCome s (record { entry = record { number = number; made = entry t line o r cites }; told = told }) → IsLastly s
+  lastly-by : (s : Linkage) (number line : ℕ) (r : Reply) (cites : Option ℕ) (told : Told) (t : Thread) (o : Op) → t ≡ C
+      → IsLater o → MayCome s (record { entry = record { number = number; made = entry t line o r cites }; told = told }) → IsLastly s
       → IsLastly (linkage_after s (record { entry = record { number = number; made = entry t line o r cites }; told = told }))
   lastly-by s number line r cites told C o e i may w =
       let w' = settled-step s w.settled w.kept number line r cites o told (of-cycle o i) may in
@@ -184,11 +203,13 @@ module _ (minds : ℕ → Mind) (fills : ℕ → Filled) (groups : List (Option 
   module _ (s : Linkage) (w : IsSettled minds fills groups s) (k : Of s) (number line : ℕ) (r : Reply) (cites : Option ℕ) where
     snap-known : (c : Cycle) (told : Told) (d : Stand) → SideLawful false s (entry C line (op.Snap c) r cites) told → DriverAllows d s.managed.managed s.peer.peers.issued (op.Snap c) r cites told
         → Known minds fills groups (managed_after s.managed (entry C line (op.Snap c) r cites) told false).managed s.peer (stand_after d number (op.Snap c) r told)
-    snap-known c (snap_of freed candidates dead) idle l al = λ y e x live out. snap-rest minds fills groups s w k c.0 freed candidates dead l.allowed x live (λ z. out (subst (λ (o : OpenCycle). Contains o.dead x) (some-same _ y e) z))
+    snap-known c (snap_of freed candidates dead) idle l al = λ y e x live out. snap-rest minds fills groups s w k c.0 freed candidates dead l.allowed x live
+        (λ z. out (subst (λ (o : OpenCycle). Contains o.dead x) (some-same _ y e) z))
     snap-known c told idle l al = absurd l.allowed
     snap-known c told _ l al = absurd al
 
-  snap-by : (s : Linkage) (number line : ℕ) (r : Reply) (cites : Option ℕ) (told : Told) (t : Thread) (o : Op) (c : Cycle) → t ≡ C → o ≡ op.Snap c → MayCome s (record { entry = record { number = number; made = entry t line o r cites }; told = told })
+  snap-by : (s : Linkage) (number line : ℕ) (r : Reply) (cites : Option ℕ) (told : Told) (t : Thread) (o : Op) (c : Cycle)
+      → t ≡ C → o ≡ op.Snap c → MayCome s (record { entry = record { number = number; made = entry t line o r cites }; told = told })
       → IsSettled minds fills groups s → Of s → IsLastly (linkage_after s (record { entry = record { number = number; made = entry t line o r cites }; told = told }))
   snap-by s number line r cites told C (op.Snap c') c e i may w k = record {
     settled = settled-step s w k number line r cites (op.Snap c') told tt may;
@@ -260,9 +281,11 @@ resolve-idle (restored o a b) n c r told = refl
 idle-then : (s : Linkage) (n : Noted) (c : Cycle) → n.entry.made.caller ≡ C → n.entry.made.op ≡ op.Resolve c → (linkage_after s n).control.stand ≡ idle
 idle-then s n c e f =
     let m = n.entry.made in
-    ap (λ t. (control_after s.control t n.entry.number m.index m.op m.reply n.told).stand) e ∙ (ap (λ o. stand_after s.control.stand n.entry.number o m.reply n.told) f ∙ resolve-idle s.control.stand n.entry.number c m.reply n.told)
+    ap (λ t. (control_after s.control t n.entry.number m.index m.op m.reply n.told).stand) e
+    ∙ (ap (λ o. stand_after s.control.stand n.entry.number o m.reply n.told) f ∙ resolve-idle s.control.stand n.entry.number c m.reply n.told)
 
-last-idle : (ns : List Noted) (s : Linkage) (front : List Entry) (last : Entry) (c : Cycle) → entries ns ≡ front ++ last ∷ [] → last.made.caller ≡ C → last.made.op ≡ op.Resolve c → (replayed s ns).control.stand ≡ idle
+last-idle : (ns : List Noted) (s : Linkage) (front : List Entry) (last : Entry) (c : Cycle) → entries ns ≡ front ++ last ∷ []
+    → last.made.caller ≡ C → last.made.op ≡ op.Resolve c → (replayed s ns).control.stand ≡ idle
 last-idle ns s front last c e by f =
     let parts = split-notes ns front (last ∷ []) e in
     ap (λ l. (replayed s l).control.stand) parts.2 ∙ (ap (λ (z : Linkage). z.control.stand) (replayed-both parts.0 parts.1 s) ∙ one parts.1 parts.4)
@@ -293,7 +316,8 @@ each-last : (Q : Entry → Type 0) (front : List Entry) (last : Entry) → Each 
 each-last Q [] last e = e.0
 each-last Q (x ∷ front) last e = each-last Q front last e.1
 
-pub cycle-leaves : (minds : ℕ → Mind) (fills : ℕ → Filled) (groups : List (Option Group)) (s : Linkage) (ns : List Noted) (standing : Standing) (number : ℕ) → IsSettled minds fills groups s → Of s → AllMayCome s ns
+pub cycle-leaves : (minds : ℕ → Mind) (fills : ℕ → Filled) (groups : List (Option Group)) (s : Linkage) (ns : List Noted) (standing : Standing) (number : ℕ)
+    → IsSettled minds fills groups s → Of s → AllMayCome s ns
     → standing.phase ≡ at.Idle → AreLine standing number (C, act.PhaseLine word.Cycle) (entries ns) → IsEnded minds fills groups (replayed s ns)
 cycle-leaves minds fills groups s ns standing number w k a i l = by ns refl a
   where
@@ -323,6 +347,7 @@ cycle-leaves minds fills groups s ns standing number w k a i l = by ns refl a
         let head : n.entry ≡ whole.snap = cc in
         let tail : entries ms ≡ whole.later = cc in
         let both = subst (Each (λ (z : Entry). z.made.caller ≡ C)) (ap entries e) callers in
-        let first = snap-by minds fills groups s n.entry.number n.entry.made.index n.entry.made.reply n.entry.made.cites n.told n.entry.made.caller n.entry.made.op whole.cycle both.0 (ap (λ (z : Entry). z.made.op) head ∙ whole.snaps) a'.0 w k in
+        let first = snap-by minds fills groups s n.entry.number n.entry.made.index n.entry.made.reply n.entry.made.cites n.told
+        n.entry.made.caller n.entry.made.op whole.cycle both.0 (ap (λ (z : Entry). z.made.op) head ∙ whole.snaps) a'.0 w k in
         let rest = all-later minds fills groups ms (linkage_after s n) a'.1 (each-two (entries ms) both.1 (subst (Each IsLaterEntry) (sym tail) whole.are_later)) first in
         finish (subst (λ l. IsLastly minds fills groups (replayed s l)) (sym e) rest)

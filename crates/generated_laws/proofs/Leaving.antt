@@ -83,7 +83,8 @@ no-rows (None ∷ table) n = (let a = sum_by-cons (λ (o : Option TableRow). one
     later (suc h) row t = t
 no-rows (Some row ∷ table) n = absurd (n 1 row refl)
 
-table-count : (hs : List ℕ) (table : List (Option TableRow)) → AreDistinct hs → ((h : ℕ) → Contains hs h → (row : TableRow) × IsTabled table h row) → ((h : ℕ) (row : TableRow) → IsTabled table h row → Contains hs h) → rows table ≡ length hs
+table-count : (hs : List ℕ) (table : List (Option TableRow)) → AreDistinct hs → ((h : ℕ) → Contains hs h → (row : TableRow) × IsTabled table h row)
+    → ((h : ℕ) (row : TableRow) → IsTabled table h row → Contains hs h) → rows table ≡ length hs
 table-count [] table d f all = no-rows table (λ h row t. Contains-nil h (all h row t))
 table-count (h ∷ hs) table d f all =
     let here = f h (Contains-here h hs) in
@@ -125,7 +126,8 @@ stands-handle : (held : List (Option ℕ)) (groups : List (Option Group)) (i : �
 stands-handle held [] i g e = absurd (cc)
 stands-handle held (None ∷ gs) zero g e = absurd (cc)
 stands-handle held (None ∷ gs) (suc i) g e = stands-handle held gs i g e
-stands-handle held (Some k ∷ gs) zero g e = (let f : k ≡ g = cc in subst (λ (y : Group). Contains (handle_at held k.bridge ∷ handles_in held gs) (handle_at held y.bridge)) f (Contains-here (handle_at held k.bridge) (handles_in held gs)))
+stands-handle held (Some k ∷ gs) zero g e = (let f : k ≡ g = cc in
+    subst (λ (y : Group). Contains (handle_at held k.bridge ∷ handles_in held gs) (handle_at held y.bridge)) f (Contains-here (handle_at held k.bridge) (handles_in held gs)))
 stands-handle held (Some k ∷ gs) (suc i) g e = Contains-there (handle_at held g.bridge) (handle_at held k.bridge) (handles_in held gs) (stands-handle held gs i g e)
 
 -- lengths
@@ -145,7 +147,8 @@ peers-length (None ∷ gs) = (let r = peers-length gs in omega (arith, r))
 peers-length (Some g ∷ gs) = (let r = peers-length gs in omega (arith, r))
 
 -- nothing stands twice
-rows-distinct : (groups : List (Option Group)) → ((i j : ℕ) (g k : Group) (z : ℕ) → slot groups i ≡ Some g → slot groups j ≡ Some k → Names g z → Names k z → i ≡ j) → ((i : ℕ) (g : Group) → slot groups i ≡ Some g → g.bridge ≡ g.plain → ⊥) → AreDistinct (rows_of groups)
+rows-distinct : (groups : List (Option Group)) → ((i j : ℕ) (g k : Group) (z : ℕ) → slot groups i ≡ Some g → slot groups j ≡ Some k → Names g z → Names k z → i ≡ j)
+    → ((i : ℕ) (g : Group) → slot groups i ≡ Some g → g.bridge ≡ g.plain → ⊥) → AreDistinct (rows_of groups)
 rows-distinct [] f two = tt
 rows-distinct (None ∷ gs) f two = rows-distinct gs (λ i j g k z a b c d. (let e = f (suc i) (suc j) g k z a b c d in omega (arith, e))) (λ i g e. two (suc i) g e)
 rows-distinct (Some g ∷ gs) f two = (
@@ -156,7 +159,8 @@ rows-distinct (Some g ∷ gs) f two = (
     away : (z : ℕ) → Names g z → Contains (rows_of gs) z → ⊥
     away z n c = (let w = row-stands gs z c in let e = f 0 (suc w.spot) g w.group z refl w.there n w.has in omega (arith, e))
 
-handles-distinct : (held : List (Option ℕ)) (groups : List (Option Group)) → ((i j : ℕ) (g k : Group) → slot groups i ≡ Some g → slot groups j ≡ Some k → handle_at held g.bridge ≡ handle_at held k.bridge → i ≡ j) → AreDistinct (handles_in held groups)
+handles-distinct : (held : List (Option ℕ)) (groups : List (Option Group))
+    → ((i j : ℕ) (g k : Group) → slot groups i ≡ Some g → slot groups j ≡ Some k → handle_at held g.bridge ≡ handle_at held k.bridge → i ≡ j) → AreDistinct (handles_in held groups)
 handles-distinct held [] f = tt
 handles-distinct held (None ∷ gs) f = handles-distinct held gs (λ i j g k a b c. (let e = f (suc i) (suc j) g k a b c in omega (arith, e)))
 handles-distinct held (Some g ∷ gs) f = (
@@ -173,7 +177,8 @@ peers-distinct (Some g ∷ gs) f = (
 )
 
 -- so the state has these numbers
-module _ (minds : ℕ → Mind) (fills : ℕ → Filled) (groups : List (Option Group)) (s : Linkage) (w : IsSettled minds fills groups s) (k : Of s) (rests : s.control.stand ≡ idle) (closed : s.managed.managed.cycle ≡ None) (some_rows : RowsLeft minds fills groups s.managed.managed) (some_peers : PeersLeft minds fills groups s.peer.peers) where
+module _ (minds : ℕ → Mind) (fills : ℕ → Filled) (groups : List (Option Group)) (s : Linkage) (w : IsSettled minds fills groups s) (k : Of s) (rests : s.control.stand ≡ idle)
+    (closed : s.managed.managed.cycle ≡ None) (some_rows : RowsLeft minds fills groups s.managed.managed) (some_peers : PeersLeft minds fills groups s.peer.peers) where
   abbrev sm : Managed
   sm = s.managed.managed
 
@@ -213,7 +218,8 @@ module _ (minds : ℕ → Mind) (fills : ℕ → Filled) (groups : List (Option 
   pub rows-left : unfreed sm.heap ≡ 2 * filled_ones groups
   rows-left =
       left-count sm.heap (rows_of groups) (rows-distinct groups w.shown.disjoint bridge-apart)
-      (λ x c. (let g = row-stands groups x c in let l = group-live minds fills groups s w k g.spot g.group g.there in elim g.has [ inl e ↦ subst (IsLive sm.heap) (sym e) l.0 | inr e ↦ subst (IsLive sm.heap) (sym e) l.1 ]))
+      (λ x c. (let g = row-stands groups x c in let l = group-live minds fills groups s w k g.spot g.group g.there in
+      elim g.has [ inl e ↦ subst (IsLive sm.heap) (sym e) l.0 | inr e ↦ subst (IsLive sm.heap) (sym e) l.1 ]))
       some_rows
       ∙ rows-length groups
 
@@ -247,7 +253,8 @@ module _ (minds : ℕ → Mind) (fills : ℕ → Filled) (groups : List (Option 
                 let holds : Holds sm x.0 h = record {
                   live = record {
                     made = (b.0, omega (arith, b.1, c));
-                    kept = λ f. (let q = w.are_held.freed x.0 h x.1 f in live.kept (subst (λ z. Contains sp.heap.freed z) (some-same q.0 is.0.peer (sym q.1 ∙ peer_of-issued sp.issued h is.0 is.1)) q.2));
+                    kept = λ f. (let q = w.are_held.freed x.0 h x.1 f in live.kept
+                        (subst (λ z. Contains sp.heap.freed z) (some-same q.0 is.0.peer (sym q.1 ∙ peer_of-issued sp.issued h is.0 is.1)) q.2));
                   };
                   held = x.1;
                 } in

@@ -1,6 +1,7 @@
 -- The events of the managed threads of a generated script, one by one: what is shown of both sides is shown of them
 -- afterwards, by what the thread has then.
-use Rattle.std.proofs.Common.{◌≡◌, ◌≢◌, ℕ, ◌+◌, ◌<◌, ◌≤◌, ◌⊎◌, ◌||◌, inl, inr, Bool, true, false, List, [], ◌∷◌, ◌++◌, length, map, Option, Some, None, set, replicate, nat_le, nat_eq, refl, sym, ap, subst, ◌∙◌, arith, eq-eqb}
+use Rattle.std.proofs.Common.{◌≡◌, ◌≢◌, ℕ, ◌+◌, ◌<◌, ◌≤◌, ◌⊎◌, ◌||◌, inl, inr, Bool, true, false, List, [], ◌∷◌, ◌++◌, length, map, Option, Some, None, set, replicate, nat_le, nat_eq, refl, sym, ap}
+use Rattle.std.proofs.Common.{subst, ◌∙◌, arith, eq-eqb}
 use Rattle.std.specs.Prelude.{Contains, if◌then◌else◌, is_some}
 use Rattle.std.proofs.Math.ListN.{length-set}
 use Rattle.std.proofs.lemmas.Bool.{cases_eq}
@@ -85,7 +86,8 @@ pub record HasMoved (m : Managed) (p : PeerReplay) (answers : List Answer) (u : 
   pub to : (i : ℕ) → i < 32 → (is_some (slot groups i) ≡ true) ⊎ Fills i o → is_some (slot more i) ≡ true
 
 -- a reply that isn't a refusal tells which way a test went
-row-case : (b : Bool) (m t : Managed) (z : MNum) (k : ℕ) → says.M z ≡ (if b then answer says.Full m else answer (managed_name k) t).reply → (z.0 ≡ k) × ((if b then answer says.Full m else answer (managed_name k) t).state ≡ t)
+row-case : (b : Bool) (m t : Managed) (z : MNum) (k : ℕ) → says.M z ≡ (if b then answer says.Full m else answer (managed_name k) t).reply
+    → (z.0 ≡ k) × ((if b then answer says.Full m else answer (managed_name k) t).state ≡ t)
 row-case true m t z k e = absurd (cc)
 row-case false m t z k e = ((let f : z ≡ record { 0 = k } = cc in ap (λ (y : MNum). y.0) f), refl)
 
@@ -100,7 +102,8 @@ set-is h v w x y a b c =
     ∙ (ap (λ fs. (if nat_le (length fs) 0 then answer says.Range h else field_stored h x 0 (Some w)).state) c
     ∙ ap (λ o. (elim o as (λ z. Answered Heap) [ None ↦ answer says.Empty h | Some z ↦ answer says.Ok (with_field h x 0 (Some z)) ]).state) b)
 
-stored-is : (h : Heap) (s v x : ℕ) → slot h.vars v ≡ Some x → (elim (slot h.vars v) as (λ z. Answered Heap) [ None ↦ answer says.Empty h | Some z ↦ answer says.Ok (with_static h s (Some z)) ]).state ≡ with_static h s (Some x)
+stored-is : (h : Heap) (s v x : ℕ) → slot h.vars v ≡ Some x → (elim (slot h.vars v) as (λ z. Answered Heap) [ None ↦ answer says.Empty h | Some z ↦ answer says.Ok (with_static h s (Some z)) ]).state
+    ≡ with_static h s (Some x)
 stored-is h s v x e = ap (λ o. (elim o as (λ z. Answered Heap) [ None ↦ answer says.Empty h | Some z ↦ answer says.Ok (with_static h s (Some z)) ]).state) e
 
 module _ (s : Linkage) (k : Of s) (minds : ℕ → Mind) (fills : ℕ → Filled) (groups : List (Option Group)) (w : IsShown s.managed.managed minds groups) (p : ArePeersShown s.peer.peers fills groups)
@@ -126,7 +129,8 @@ module _ (s : Linkage) (k : Of s) (minds : ℕ → Mind) (fills : ℕ → Filled
   named-live v x e = k.managed.managed.roots x.number (inl (inl (slot-Contains sm.heap.vars (place u v) x.number (named v x e))))
 
   -- a further row, by its handle or none
-  row-moved : (v : ℕ) (kind : Kind) (n : ℕ) (o : Option ℕ) (mind : Mind) (e : Op) → v < 3 → mind.slots ≡ put (minds u).slots v (Some (seen (next_number sm.heap) (replicate n None) o)) → mind.stored ≡ (minds u).stored
+  row-moved : (v : ℕ) (kind : Kind) (n : ℕ) (o : Option ℕ) (mind : Mind) (e : Op) → v < 3
+      → mind.slots ≡ put (minds u).slots v (Some (seen (next_number sm.heap) (replicate n None) o)) → mind.stored ≡ (minds u).stored
       → ((z : ℕ) → (minds u).hand ≡ Some z → (o ≡ Some z) ⊎ (mind.hand ≡ Some z)) → ((i : ℕ) → Fills i e → ⊥) → go mind
       → HasMoved (with_row sm (place u v) kind n o) s.peer said u e minds fills groups go
   row-moved v kind n o mind e small slots stored hands none g =
@@ -134,7 +138,8 @@ module _ (s : Linkage) (k : Of s) (minds : ℕ → Mind) (fills : ℕ → Filled
       record {
         mind = mind;
         more = groups;
-        shown = row-shown sm minds next groups w u v kind n o few small (mind-other minds u mind) (ap (λ (z : Mind). z.slots) (mind-here minds u mind) ∙ slots) (ap (λ (z : Mind). z.stored) (mind-here minds u mind) ∙ stored);
+        shown = row-shown sm minds next groups w u v kind n o few small (mind-other minds u mind)
+            (ap (λ (z : Mind). z.slots) (mind-here minds u mind) ∙ slots) (ap (λ (z : Mind). z.stored) (mind-here minds u mind) ∙ stored);
         peers = p;
         are_held = record {
           owned = λ a row c. elim (h.owned a row c) [
@@ -163,7 +168,8 @@ module _ (s : Linkage) (k : Of s) (minds : ℕ → Mind) (fills : ℕ → Filled
       }
 
   -- what is in hand, where the handles of the table and what rows hold stay
-  hands-still : (m : Managed) (q : PeerReplay) (mind : Mind) (more : List (Option Group)) → m.held ≡ sm.held → m.heap.freed ≡ sm.heap.freed → q.peers.issued ≡ sp.issued → q.table ≡ s.peer.table → q.peers.heap.freed ≡ sp.heap.freed → mind.hand ≡ (minds u).hand
+  hands-still : (m : Managed) (q : PeerReplay) (mind : Mind) (more : List (Option Group)) → m.held ≡ sm.held → m.heap.freed ≡ sm.heap.freed
+      → q.peers.issued ≡ sp.issued → q.table ≡ s.peer.table → q.peers.heap.freed ≡ sp.heap.freed → mind.hand ≡ (minds u).hand
       → ((i : ℕ) (g : Group) (n : ℕ) → slot more i ≡ Some g → numbered_at sm.held g.bridge ≡ Some (Some n) → peer_of sp.issued n ≡ Some g.peer) → AreHeld m q said (with_mind minds u mind) more
   hands-still m q mind more holding freed issued table gone hand leads = record {
     owned = λ a row c. elim (h.owned a row (subst (λ l. IsTabled l a row) table c)) [
@@ -171,12 +177,14 @@ module _ (s : Linkage) (k : Of s) (minds : ℕ → Mind) (fills : ℕ → Filled
       | inr (inl t) ↦ inr (inl (t.0, part-same (λ (z : Mind). z.hand) minds u mind hand t.0 ∙ t.1))
       | inr (inr g) ↦ inr (inr g)
     ];
-    freed = λ x a d f. (let o = h.freed x a (ap (λ l. numbered_at l x) (sym holding) ∙ d) (subst (λ l. Contains l x) freed f) in (o.0, ap (λ l. peer_of l a) issued ∙ o.1, subst (λ l. Contains l o.0) (sym gone) o.2));
+    freed = λ x a d f. (let o = h.freed x a (ap (λ l. numbered_at l x) (sym holding) ∙ d) (subst (λ l. Contains l x) freed f) in
+        (o.0, ap (λ l. peer_of l a) issued ∙ o.1, subst (λ l. Contains l o.0) (sym gone) o.2));
     leads = λ i g n e d. ap (λ l. peer_of l n) issued ∙ leads i g n e (ap (λ l. numbered_at l g.bridge) (sym holding) ∙ d);
   }
 
   -- an event that changes neither heap's lists but what is shown
-  kept-moved : (m : Managed) (mind : Mind) (e : Op) → IsShown m (with_mind minds u mind) groups → m.held ≡ sm.held → m.heap.freed ≡ sm.heap.freed → mind.hand ≡ (minds u).hand → ((i : ℕ) → Fills i e → ⊥) → go mind
+  kept-moved : (m : Managed) (mind : Mind) (e : Op) → IsShown m (with_mind minds u mind) groups → m.held ≡ sm.held
+      → m.heap.freed ≡ sm.heap.freed → mind.hand ≡ (minds u).hand → ((i : ℕ) → Fills i e → ⊥) → go mind
       → HasMoved m s.peer said u e minds fills groups go
   kept-moved m mind e shown holding freed hand none g = record {
     mind = mind;
@@ -216,14 +224,17 @@ module _ (s : Linkage) (k : Of s) (minds : ℕ → Mind) (fills : ℕ → Filled
       ∙ set-is sm.heap (place u v.0) (place u x.0) b.target.number b.value.number (named v.0 b.target b.here) (named x.0 b.value b.there) ((w.objects u v.0 b.target b.here).0 ∙ b.bare) in
       subst (λ hp. HasMoved (record sm { heap = hp }) s.peer said u (op.Line (act.Set v i (Some x))) minds fills groups go) (sym same)
       (kept-moved (record sm { heap = with_field sm.heap b.target.number 0 (Some b.value.number) }) mind (op.Line (act.Set v i (Some x)))
-      (write-shown sm minds next groups w u v.0 b.target b.value.number few b.v_small b.here b.bare (mind-other minds u mind) (ap (λ (z : Mind). z.slots) (mind-here minds u mind)) (ap (λ (z : Mind). z.stored) (mind-here minds u mind)))
+      (write-shown sm minds next groups w u v.0 b.target b.value.number few b.v_small b.here b.bare (mind-other minds u mind)
+      (ap (λ (z : Mind). z.slots) (mind-here minds u mind)) (ap (λ (z : Mind). z.stored) (mind-here minds u mind)))
       refl refl refl (λ j f. f) st.1)
 
-  drop-moved : (v : Var) (r : Reply) → Step (minds u) (op.Line (act.Drop v)) r go → HasMoved (record sm { heap = with_var sm.heap (place u v.0) None }) s.peer said u (op.Line (act.Drop v)) minds fills groups go
+  drop-moved : (v : Var) (r : Reply) → Step (minds u) (op.Line (act.Drop v)) r go
+      → HasMoved (record sm { heap = with_var sm.heap (place u v.0) None }) s.peer said u (op.Line (act.Drop v)) minds fills groups go
   drop-moved v r st =
       let mind : Mind = record (minds u) { slots = put (minds u).slots v.0 None; stored = st.1 } in
       let next = with_mind minds u mind in
-      let how : ((next u).stored ≡ (minds u).stored) ⊎ ((x : ℕ) → at (put (minds u).slots v.0 None) x ≡ None) = elim st.2 [ inl a ↦ inl (ap (λ (z : Mind). z.stored) (mind-here minds u mind) ∙ a) | inr a ↦ inr a ] in
+      let how : ((next u).stored ≡ (minds u).stored) ⊎ ((x : ℕ) → at (put (minds u).slots v.0 None) x ≡ None) = elim st.2
+      [ inl a ↦ inl (ap (λ (z : Mind). z.stored) (mind-here minds u mind) ∙ a) | inr a ↦ inr a ] in
       kept-moved (record sm { heap = with_var sm.heap (place u v.0) None }) mind (op.Line (act.Drop v))
       (drop-shown sm minds next groups w u v.0 few st.0 (mind-other minds u mind) (ap (λ (z : Mind). z.slots) (mind-here minds u mind)) how)
       refl refl refl (λ j f. f) st.3
@@ -238,7 +249,8 @@ module _ (s : Linkage) (k : Of s) (minds : ℕ → Mind) (fills : ℕ → Filled
       ap (λ z. elim z as (λ y. Reply) [ None ↦ says.Empty | Some y ↦ elim (handle_of sm y) [ None ↦ says.Plain | Some g ↦ says.H record { 0 = g } ] ]) (named v.0 o.outer o.here)
       ∙ ap (λ z. elim z as (λ y. Reply) [ None ↦ says.Plain | Some g ↦ says.H record { 0 = g } ]) (Holds-handle_of sm o.outer.number n holds) in
       kept-moved sm (minds u) (op.Lend v x)
-      (still-shown sm sm minds (with_mind minds u (minds u)) groups w refl refl refl refl refl (part-same (λ (z : Mind). z.slots) minds u (minds u) refl) (part-same (λ (z : Mind). z.stored) minds u (minds u) refl))
+      (still-shown sm sm minds (with_mind minds u (minds u)) groups w refl refl refl refl refl
+      (part-same (λ (z : Mind). z.slots) minds u (minds u) refl) (part-same (λ (z : Mind). z.stored) minds u (minds u) refl))
       refl refl refl (λ j f. f) (st.3 record { 0 = n } (e ∙ says_it) refl)
 
   -- and what a lend says
@@ -270,7 +282,8 @@ module _ (s : Linkage) (k : Of s) (minds : ℕ → Mind) (fills : ℕ → Filled
       (record {
         mind = mind;
         more = groups;
-        shown = still-shown sm sm minds (with_mind minds u mind) groups w refl refl refl refl refl (part-same (λ (z : Mind). z.slots) minds u mind refl) (part-same (λ (z : Mind). z.stored) minds u mind refl);
+        shown = still-shown sm sm minds (with_mind minds u mind) groups w refl refl refl refl refl
+            (part-same (λ (z : Mind). z.slots) minds u mind refl) (part-same (λ (z : Mind). z.stored) minds u mind refl);
         peers = pair-shown sp fills groups p sort n (λ v z f. (k.peer.heap.slots z (inl (slot-Contains sp.heap.vars v z f))).made.1);
         are_held = record {
           owned = λ a row t. elim (numbered-push_cases s.peer.table (fresh_row new) a (Some row) t) [
@@ -406,7 +419,8 @@ module _ (s : Linkage) (k : Of s) (minds : ℕ → Mind) (fills : ℕ → Filled
   -- any entry of a managed thread
   module _ (es : List Entry) (line : ℕ) (cites : Option ℕ) where
     abbrev Moves : Op → Reply → Told → Type 0
-    Moves o r told = HasMoved (managed_after s.managed (entry (M u) line o r cites) told (is_peer_event (M u) o)).managed (peer_after s.peer (entry (M u) line o r cites) told (is_peer_event (M u) o)) said u o minds fills groups go
+    Moves o r told = HasMoved (managed_after s.managed (entry (M u) line o r cites) told (is_peer_event (M u) o)).managed
+        (peer_after s.peer (entry (M u) line o r cites) told (is_peer_event (M u) o)) said u o minds fills groups go
 
     pub moves : (o : Op) (r : Reply) (told : Told) → SideLawful (is_peer_event (M u) o) s (entry (M u) line o r cites) told → Step (minds u) o r go → Moves o r told
     moves (op.Line (act.New v kind n)) (says.M z) told l st = new-moved v kind n z l.replies st

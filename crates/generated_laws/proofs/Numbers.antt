@@ -21,7 +21,8 @@ use Rattle.generated_laws.proofs.Readless.{callers, whole, exact}
 use Rattle.generated_laws.proofs.Own.{HasAnswer, Measures, own-total}
 use Rattle.generated_laws.proofs.Held.{script-total}
 use Rattle.generated_laws.proofs.Unrefused.{asking, own-asks, cycle-asks, answers-all, tally-totals}
-use Rattle.generated_laws.proofs.Counting.{managed_of, peers_of, handles_of, cycles_of, managed-measures, peers-measures, handles-measures, cycles-measures, managed-lines, peers-lines, handles-lines, cycles-lines, simple-lines}
+use Rattle.generated_laws.proofs.Counting.{managed_of, peers_of, handles_of, cycles_of, managed-measures, peers-measures, handles-measures, cycles-measures, managed-lines, peers-lines, handles-lines}
+use Rattle.generated_laws.proofs.Counting.{cycles-lines, simple-lines}
 
 abbrev Anything : Entry → Type 0
 Anything e = Unit {0}
@@ -42,7 +43,8 @@ pub record MakesTheSame (seed size : ℕ) (t : Tally) : Type 0 where
 module _ (seed size : ℕ) (h : Finished) (small : size ≤ 2800) (w : IsGeneratedRun seed size h) where
   few-ask : total asking h.entries ≤ 65534
   few-ask =
-      let before = script-total Anything asking (λ a. 2) (λ a b. a ≤ b) (omega arith) (λ a b c d p q. omega (arith, p, q)) own-asks (generated seed size) w.before (simple-lines seed size) (callers seed size h w) (each-anything w.before) w.lines in
+      let before = script-total Anything asking (λ a. 2) (λ a b. a ≤ b) (omega arith) (λ a b c d p q. omega (arith, p, q)) own-asks
+      (generated seed size) w.before (simple-lines seed size) (callers seed size h w) (each-anything w.before) w.lines in
       let lines = twice (generated seed size) in
       let number = generated_length seed size in
       let most = most_lines seed size small in
@@ -56,9 +58,11 @@ module _ (seed size : ℕ) (h : Finished) (small : size ≤ 2800) (w : IsGenerat
   both-answered : Each HasAnswer w.before × Each HasAnswer w.cycle
   both-answered = each-append HasAnswer w.before w.cycle (subst (Each HasAnswer) w.all answered)
 
-  sums : (f : Op → Reply → ℕ) (g : Act → ℕ) → Measures f g → total (λ (e : Entry). f e.made.op e.made.reply) h.entries ≡ total (λ (line : Thread × Act). g line.1) (generated seed size) + g (act.PhaseLine word.Cycle)
+  sums : (f : Op → Reply → ℕ) (g : Act → ℕ) → Measures f g → total (λ (e : Entry). f e.made.op e.made.reply) h.entries ≡ total
+      (λ (line : Thread × Act). g line.1) (generated seed size) + g (act.PhaseLine word.Cycle)
   sums f g m =
-      let before = script-total HasAnswer (λ (e : Entry). f e.made.op e.made.reply) g (λ a b. a ≡ b) refl (λ a b c d p q. omega (arith, p, q)) (own-total f g m) (generated seed size) w.before (simple-lines seed size) (callers seed size h w) both-answered.0 w.lines in
+      let before = script-total HasAnswer (λ (e : Entry). f e.made.op e.made.reply) g (λ a b. a ≡ b) refl (λ a b c d p q. omega (arith, p, q))
+      (own-total f g m) (generated seed size) w.before (simple-lines seed size) (callers seed size h w) both-answered.0 w.lines in
       let last = own-total f g m w.standing (act.PhaseLine word.Cycle) w.cycle w.idle tt both-answered.1 w.line.events in
       let all = ap (total (λ (e : Entry). f e.made.op e.made.reply)) w.all ∙ total-append (λ (e : Entry). f e.made.op e.made.reply) w.before w.cycle in
       omega (arith, before, last, all)

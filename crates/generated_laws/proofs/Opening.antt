@@ -85,7 +85,8 @@ opening-held = record {
   leads = λ i g n e d. no-group i g e;
 }
 
-pub inv-opening : (keep : ℕ → Bool) (rest : List Entry) → ((t : ℕ) → Going (entries_by (M t) rest) empty_mind) → ((t : ℕ) → PeerGoing (entries_by (P t) rest) none_filled) → Each IsCycleEntry (entries_by C rest)
+pub inv-opening : (keep : ℕ → Bool) (rest : List Entry) → ((t : ℕ) → Going (entries_by (M t) rest) empty_mind)
+    → ((t : ℕ) → PeerGoing (entries_by (P t) rest) none_filled) → Each IsCycleEntry (entries_by C rest)
     → ((i : ℕ) → FilledIn i rest → keep i ≡ true) → ((i : ℕ) → keep i ≡ true → FilledIn i rest) → Inv keep opening_linkage rest
 inv-opening keep rest going peer_going driven there back = record {
   minds = no_minds;

@@ -104,7 +104,8 @@ phase-later word.Mark n es l a = elim a [
   | inr b ↦ subst (Each IsLaterEntry) (sym b.all) (subst IsLater (sym b.sweeps) tt, (event-later word.Mark b.begin.made.op tt b.begins, tt))
 ]
 phase-later word.Sweep n es l a = each-later word.Sweep es tt a.each
-phase-later word.Restore n es l a = subst (Each IsLaterEntry) (sym a.all) (each-join IsLaterEntry a.restores (a.clear ∷ []) (each-later word.Restore a.restores tt a.times.each) (clear-later a.clear.made.op a.clears, tt))
+phase-later word.Restore n es l a = subst (Each IsLaterEntry) (sym a.all)
+    (each-join IsLaterEntry a.restores (a.clear ∷ []) (each-later word.Restore a.restores tt a.times.each) (clear-later a.clear.made.op a.clears, tt))
 phase-later word.Resolve n es l a = each-later word.Resolve es tt a.each
 
 phases-later : (ws : List PhaseWord) (n : ℕ) (es : List Entry) → AreLaterWords ws → ArePhases n ws es → Each IsLaterEntry es
@@ -177,7 +178,8 @@ pair v k n sort f (x ∷ rest) g w =
 pub record Measures (f : Op → Reply → ℕ) (g : Act → ℕ) : Type 0 where
   pub new : (v : Var) (k : Kind) (n : ℕ) (r : Reply) → is_m r ≡ true → f (op.Line (act.New v k n)) r ≡ g (act.New v k n)
   pub peer : (v : Var) (n : ℕ) (r : Reply) → is_p r ≡ true → f (op.Line (act.NewPeer v n)) r ≡ g (act.NewPeer v n)
-  pub pair : (v : Var) (k : Kind) (n : ℕ) (sort : Sort) (m : ℕ) (p : PNum) (h : HNum) (r q : Reply) → is_made r ≡ true → is_m q ≡ true → f (op.Make sort m) r + f (op.Adopt v k n p h) q ≡ g (act.Bridge v k n sort m)
+  pub pair : (v : Var) (k : Kind) (n : ℕ) (sort : Sort) (m : ℕ) (p : PNum) (h : HNum) (r q : Reply)
+      → is_made r ≡ true → is_m q ≡ true → f (op.Make sort m) r + f (op.Adopt v k n p h) q ≡ g (act.Bridge v k n sort m)
   pub set : (v : Var) (i : ℕ) (w : Option Var) (r : Reply) → f (op.Line (act.Set v i w)) r ≡ g (act.Set v i w)
   pub drop : (v : Var) (r : Reply) → f (op.Line (act.Drop v)) r ≡ g (act.Drop v)
   pub store : (x : StaticNo) (v : Option Var) (r : Reply) → f (op.Line (act.Store x v)) r ≡ g (act.Store x v)
@@ -214,7 +216,8 @@ module _ (f : Op → Reply → ℕ) (g : Act → ℕ) (m : Measures f g) where
 
   pass-rest : (v : Var) (x : StaticNo) (r : Reply) (rest : List Entry) → AreEventsAfter (act.Pass v x) (r ∷ []) rest → total of_entry rest ≡ 0
   pass-rest v x (says.H h) [] w = refl
-  pass-rest v x (says.H h) (e ∷ []) w = (let o : e.made.op ≡ op.Land h x = some-same e.made.op (op.Land h x) (sym w.0) in let c = ap (λ z. f z e.made.reply) o in let d = m.land h x e.made.reply in omega (arith, c, d))
+  pass-rest v x (says.H h) (e ∷ []) w = (let o : e.made.op ≡ op.Land h x = some-same e.made.op (op.Land h x) (sym w.0) in
+      let c = ap (λ z. f z e.made.reply) o in let d = m.land h x e.made.reply in omega (arith, c, d))
   pass-rest v x (says.H h) (e ∷ e' ∷ es) w = absurd (none_some e'.made.op w.1.0)
   pass-rest v x _ [] w = refl
   pass-rest v x _ (e ∷ es) w = absurd (none_some e.made.op w.0)

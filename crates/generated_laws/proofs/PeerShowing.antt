@@ -1,6 +1,7 @@
 -- The peers, as the threads that made them know them: which variables are empty; that the peer of a handle stands in no
 -- variable and has nothing in a field; and that each filled static has its group's peer.
-use Rattle.std.proofs.Common.{◌≡◌, ◌≢◌, ℕ, zero, suc, ◌+◌, ◌<◌, ◌≤◌, ◌⊎◌, inl, inr, Bool, true, false, List, [], ◌∷◌, ◌++◌, length, Option, Some, None, set, replicate, nat_le, refl, sym, ap, subst, ◌∙◌, arith, length-append}
+use Rattle.std.proofs.Common.{◌≡◌, ◌≢◌, ℕ, zero, suc, ◌+◌, ◌<◌, ◌≤◌, ◌⊎◌, inl, inr, Bool, true, false, List, [], ◌∷◌, ◌++◌, length, Option, Some, None, set, replicate, nat_le, refl, sym, ap, subst}
+use Rattle.std.proofs.Common.{◌∙◌, arith, length-append}
 use Rattle.std.specs.Prelude.{Contains, if◌then◌else◌}
 use Rattle.std.proofs.Math.ListN.{length-set}
 use Rattle.std.proofs.lemmas.Bool.{cases_eq}
@@ -79,14 +80,18 @@ fill-other f (suc (suc v)) w x n = refl
 
 -- a variable of a peer thread gets a new peer, or is emptied
 module _ (old vars : List (Option ℕ)) (fills next : ℕ → Filled) (t v : ℕ) (x : Bool) (o : Option ℕ) (few : t ≤ 8) (small : v < 2) (len : length old ≡ 72) (is : vars ≡ set old (place t v) o)
-    (empties : x ≡ false → o ≡ None) (same : (u : ℕ) → u ≢ t → next u ≡ fills u) (here : next t ≡ fill (fills t) v x) (was : (u w : ℕ) → w < 8 → filled (fills u) w ≡ false → slot old (place u w) ≡ None) where
+    (empties : x ≡ false → o ≡ None) (same : (u : ℕ) → u ≢ t → next u ≡ fills u) (here : next t ≡ fill (fills t) v x)
+    (was : (u w : ℕ) → w < 8 → filled (fills u) w ≡ false → slot old (place u w) ≡ None) where
   vars-filled : (u w : ℕ) → w < 8 → filled (next u) w ≡ false → slot vars (place u w) ≡ None
   vars-filled u w l e = elim (cases_eq u t) [
-    | inr n ↦ ap (λ z. slot z (place u w)) is ∙ (slot-set_other old (place t v) (place u w) o (λ q. n (one-place u t w v l (omega (arith, small)) q).0) ∙ was u w l (ap (λ z. filled z w) (sym (same u n)) ∙ e))
+    | inr n ↦ ap (λ z. slot z (place u w)) is ∙ (slot-set_other old (place t v) (place u w) o (λ q. n (one-place u t w v l (omega (arith, small)) q).0)
+        ∙ was u w l (ap (λ z. filled z w) (sym (same u n)) ∙ e))
     | inl q ↦ elim (cases_eq w v) [
       | inl r ↦ (
-          let off : x ≡ false = sym (fill-same (fills t) v x small) ∙ (ap (λ z. filled (fill (fills t) v x) z) (sym r) ∙ (ap (λ z. filled z w) (sym here) ∙ (ap (λ z. filled (next z) w) (sym q) ∙ e))) in
-          ap (λ z. slot z (place u w)) is ∙ (ap (λ k. slot (set old (place t v) o) k) (ap (λ k. place k w) q ∙ ap (λ k. place t k) r) ∙ (slot-set_here old (place t v) o (omega (arith, len, few, small)) ∙ empties off)))
+          let off : x ≡ false = sym (fill-same (fills t) v x small) ∙ (ap (λ z. filled (fill (fills t) v x) z) (sym r) ∙ (ap (λ z. filled z w) (sym here) ∙ (ap (λ z. filled (next z) w) (sym q) ∙ e)))
+          in
+          ap (λ z. slot z (place u w)) is ∙ (ap (λ k. slot (set old (place t v) o) k) (ap (λ k. place k w) q ∙ ap (λ k. place t k) r)
+          ∙ (slot-set_here old (place t v) o (omega (arith, len, few, small)) ∙ empties off)))
       | inr r ↦
           ap (λ z. slot z (place u w)) is ∙ (slot-set_other old (place t v) (place u w) o (λ f. r (one-place u t w v l (omega (arith, small)) f).1)
           ∙ was u w l (ap (λ z. filled (fills z) w) q ∙ (sym (fill-other (fills t) v w x r) ∙ (ap (λ z. filled z w) (sym here) ∙ (ap (λ z. filled (next z) w) (sym q) ∙ e)))))
@@ -127,7 +132,8 @@ module _ (p : Peers) (fills next : ℕ → Filled) (groups : List (Option Group)
   }
 
   -- a variable is emptied
-  pub peer-dropped : (t v : ℕ) → t ≤ 8 → v < 2 → ((u : ℕ) → u ≢ t → next u ≡ fills u) → next t ≡ fill (fills t) v false → ArePeersShown (record p { heap = with_var p.heap (place t v) None }) next groups
+  pub peer-dropped : (t v : ℕ) → t ≤ 8 → v < 2 → ((u : ℕ) → u ≢ t → next u ≡ fills u)
+      → next t ≡ fill (fills t) v false → ArePeersShown (record p { heap = with_var p.heap (place t v) None }) next groups
   peer-dropped t v few small same here = record {
     size = length-set p.heap.vars (place t v) None ∙ w.size;
     shelf = w.shelf;
@@ -164,7 +170,8 @@ module _ (h : Heap) (v i : ℕ) where
   set-keeps : (w : Option ℕ) → KeepsOthers h (field_set h v i w).state v
   set-keeps w = by (slot h.vars v) refl
     where
-      by : (o : Option ℕ) → slot h.vars v ≡ o → KeepsOthers h (elim o as (λ z. Answered Heap) [ None ↦ answer says.Empty h | Some x ↦ if nat_le (length (fields_of h x)) i then answer says.Range h else field_stored h x i w ]).state v
+      by : (o : Option ℕ) → slot h.vars v ≡ o → KeepsOthers h (elim o as (λ z. Answered Heap)
+          [ None ↦ answer says.Empty h | Some x ↦ if nat_le (length (fields_of h x)) i then answer says.Range h else field_stored h x i w ]).state v
       by None e = all-kept
       by (Some x) e = test-cases (λ (a : Answered Heap). KeepsOthers h a.state v) (nat_le (length (fields_of h x)) i) _ _ all-kept (stored-keeps x w e)
 
@@ -227,7 +234,8 @@ module _ (p : Peers) (fills : ℕ → Filled) (groups : List (Option Group)) (w 
       }
 
   -- a further peer with a handle
-  pub pair-shown : (sort : Sort) (n : ℕ) → ((v z : ℕ) → slot p.heap.vars v ≡ Some z → z ≤ length p.heap.fields) → ArePeersShown (with_handle (with_peer p sort n) (next_number p.heap) held strong) fills groups
+  pub pair-shown : (sort : Sort) (n : ℕ) → ((v z : ℕ) → slot p.heap.vars v ≡ Some z → z ≤ length p.heap.fields)
+      → ArePeersShown (with_handle (with_peer p sort n) (next_number p.heap) held strong) fills groups
   pair-shown sort n named = record {
     size = w.size;
     shelf = w.shelf;
@@ -249,7 +257,8 @@ module _ (p : Peers) (fills : ℕ → Filled) (groups : List (Option Group)) (w 
   }
 
   -- a static comes to hold a group's peer
-  pub land-shown : (y q : ℕ) (g : Group) → y < 16 → length groups ≡ 32 → g.peer ≡ q → g.turned ≡ true → ArePeersShown (record p { heap = with_static p.heap y (Some q) }) fills (set groups (16 + y) (Some g))
+  pub land-shown : (y q : ℕ) (g : Group) → y < 16 → length groups ≡ 32 → g.peer ≡ q → g.turned ≡ true
+      → ArePeersShown (record p { heap = with_static p.heap y (Some q) }) fills (set groups (16 + y) (Some g))
   land-shown y q g small spots leads turned = record {
     size = w.size;
     shelf = length-set p.heap.statics y (Some q) ∙ w.shelf;
@@ -293,7 +302,8 @@ module _ (p : Peers) (fills : ℕ → Filled) (groups : List (Option Group)) (w 
         unnamed = λ n j e x q. (let b = old n j e in w.unnamed b.place b.was b.is_issued x (ap (λ z. slot z x) (sym v) ∙ (q ∙ ap Some (sym b.same))));
         bare = λ n j q e d. (
             let b = old n j e in
-            w.bare b.place b.was q b.is_issued (subst (λ z. Contains (fields_of p.heap z) (Some q)) (sym b.same) (subst (λ fs. Contains fs (Some q)) (ap (λ (fs : List (List (Option ℕ))). elim (numbered_at fs j.peer) [ None ↦ [] | Some gs ↦ gs ]) f) d)));
+            w.bare b.place b.was q b.is_issued (subst (λ z. Contains (fields_of p.heap z) (Some q)) (sym b.same)
+            (subst (λ fs. Contains fs (Some q)) (ap (λ (fs : List (List (Option ℕ))). elim (numbered_at fs j.peer) [ None ↦ [] | Some gs ↦ gs ]) f) d)));
         made = λ n j e. (let b = old n j e in let l = w.made b.place b.was b.is_issued in let s = b.same in let g = ap length f in omega (arith, l, s, g));
         holds = λ n j e. (let b = old n j e in b.holds (w.holds b.place b.was b.is_issued));
         statics = λ y l. subst (λ z. PeerStaticIs (slot z y) (slot groups (16 + y))) (sym c) (w.statics y l);

@@ -76,7 +76,8 @@ pub record IsBare (s : Slots) (v w i : ℕ) : Type 0 where
 abbrev pub Step : Mind → Op → Reply → (Mind → Type 0) → Type 0
 Step m (op.Line (act.New v k n)) (says.M z) go = (v.0 < 3) × go (record m { slots = put m.slots v.0 (Some (seen z.0 (replicate n None) None)) })
 Step m (op.Line (act.Set v i (Some w))) r go = (b : IsBare m.slots v.0 w.0 i) × go (record m { slots = put m.slots v.0 (Some (seen b.target.number (Some b.value.number ∷ []) b.target.handle)) })
-Step m (op.Line (act.Drop v)) r go = (v.0 < 3) × (stored : Bool) × ((stored ≡ m.stored) ⊎ ((w : ℕ) → at (put m.slots v.0 None) w ≡ None)) × go (record m { slots = put m.slots v.0 None; stored = stored })
+Step m (op.Line (act.Drop v)) r go = (v.0 < 3) × (stored : Bool) × ((stored ≡ m.stored) ⊎ ((w : ℕ) → at (put m.slots v.0 None) w ≡ None))
+    × go (record m { slots = put m.slots v.0 None; stored = stored })
 Step m (op.Line (act.Store x (Some v))) r go = (x.0 < 16) × (v.0 < 3) × (h : ℕ) × IsOver m.slots v.0 None (Some h) × (m.stored ≡ false) × go (record m { stored = true })
 Step m (op.Make sort f) (says.Made p h) go = (m.hand ≡ None) × go (record m { hand = Some h.0 })
 Step m (op.Adopt v k n p h) (says.M z) go = (m.hand ≡ Some h.0) × (v.0 < 3) × go (record m { slots = put m.slots v.0 (Some (seen z.0 (replicate n None) (Some h.0))); hand = None })

@@ -74,10 +74,12 @@ module _ (p : Peers) (fills : ℕ → Filled) (groups : List (Option Group)) (w 
   new-moved : (v : Var) (n : ℕ) → PeerStep (fills u) (op.Line (act.NewPeer v n)) go → Moved (peer_made p (place u v.0) n).state
   new-moved v n st = by (is_full p.heap.fields)
     where
-      by : (b : Bool) → Moved (if b then answer says.Full p else (let grown = with_peer p Framework n in answer (peer_name (next_number p.heap)) (record grown { heap = with_var grown.heap (place u v.0) (Some (next_number p.heap)) }))).state
+      by : (b : Bool) → Moved (if b then answer says.Full p else (let grown = with_peer p Framework n in
+          answer (peer_name (next_number p.heap)) (record grown { heap = with_var grown.heap (place u v.0) (Some (next_number p.heap)) }))).state
       by false = record {
         fill_now = fill (fills u) v.0 true;
-        shown = peer-shown p fills (with_fill fills u (fill (fills u) v.0 true)) groups w u v.0 n few st.0 Framework (fill-other fills u (fill (fills u) v.0 true)) (fill-here fills u (fill (fills u) v.0 true));
+        shown = peer-shown p fills (with_fill fills u (fill (fills u) v.0 true)) groups w u v.0 n few st.0 Framework
+            (fill-other fills u (fill (fills u) v.0 true)) (fill-here fills u (fill (fills u) v.0 true));
         issued = refl;
         freed = refl;
         goes = st.1;
@@ -105,7 +107,8 @@ module _ (p : Peers) (fills : ℕ → Filled) (groups : List (Option Group)) (w 
           less : (k x : ℕ) → filled (with_fill fills u (fill (fills u) v.0 true) k) x ≡ false → filled (fills k) x ≡ false
           less k x e = elim (cases_eq k u) [
             | inr n ↦ ap (λ (z : Filled). filled z x) (sym (fill-other fills u (fill (fills u) v.0 true) k n)) ∙ e
-            | inl q ↦ ap (λ z. filled (fills z) x) q ∙ off v.0 x (ap (λ (z : Filled). filled z x) (sym (fill-here fills u (fill (fills u) v.0 true))) ∙ (ap (λ z. filled (with_fill fills u (fill (fills u) v.0 true) z) x) (sym q) ∙ e))
+            | inl q ↦ ap (λ z. filled (fills z) x) q ∙ off v.0 x (ap (λ (z : Filled). filled z x) (sym (fill-here fills u (fill (fills u) v.0 true)))
+                ∙ (ap (λ z. filled (with_fill fills u (fill (fills u) v.0 true) z) x) (sym q) ∙ e))
           ]
             where
               off : (y x : ℕ) → filled (fill (fills u) y true) x ≡ false → filled (fills u) x ≡ false
@@ -135,13 +138,17 @@ module _ (p : Peers) (fills : ℕ → Filled) (groups : List (Option Group)) (w 
   }
 
 -- any entry of a peer thread
-module _ (s : Linkage) (fills : ℕ → Filled) (groups : List (Option Group)) (w : ArePeersShown s.peer.peers fills groups) (u : ℕ) (few : u ≤ 8) (go : Filled → Type 0) (line : ℕ) (r : Reply) (cites : Option ℕ) where
+module _ (s : Linkage) (fills : ℕ → Filled) (groups : List (Option Group)) (w : ArePeersShown s.peer.peers fills groups)
+    (u : ℕ) (few : u ≤ 8) (go : Filled → Type 0) (line : ℕ) (r : Reply) (cites : Option ℕ) where
   abbrev after_it : Op → Told → PeerReplay
   after_it o told = peer_after s.peer (entry (P u) line o r cites) told true
 
-  pub peer_moves : (o : Op) (told : Told) → PeerStep (fills u) o go → is_peer_event (P u) o ≡ true × PeersMoved s.peer.peers (after_it o told).peers u fills groups go × ((after_it o told).table ≡ s.peer.table)
-  peer_moves (op.Line (act.NewPeer v n)) told st = (let m = new-moved s.peer.peers fills groups w u few go v n st in (refl, m, table-still s.peer (peer_made s.peer.peers (place u v.0) n).state m.issued))
-  peer_moves (op.Line (act.Drop v)) told st = (let m = drop-moved s.peer.peers fills groups w u few go v st in (refl, m, table-still s.peer (record s.peer.peers { heap = with_var s.peer.peers.heap (place u v.0) None }) m.issued))
+  pub peer_moves : (o : Op) (told : Told) → PeerStep (fills u) o go → is_peer_event (P u) o ≡ true
+      × PeersMoved s.peer.peers (after_it o told).peers u fills groups go × ((after_it o told).table ≡ s.peer.table)
+  peer_moves (op.Line (act.NewPeer v n)) told st = (let m = new-moved s.peer.peers fills groups w u few go v n st in
+      (refl, m, table-still s.peer (peer_made s.peer.peers (place u v.0) n).state m.issued))
+  peer_moves (op.Line (act.Drop v)) told st = (let m = drop-moved s.peer.peers fills groups w u few go v st in
+      (refl, m, table-still s.peer (record s.peer.peers { heap = with_var s.peer.peers.heap (place u v.0) None }) m.issued))
   peer_moves (op.Line (act.Set v i x)) told st =
       let m = set-moved s.peer.peers fills groups w u few go (place u v.0) i (place_or_none u x) (field_set-moved s.peer.peers.heap (place u v.0) i (place_or_none u x)).freed st in
       (refl, m, table-still s.peer (record s.peer.peers { heap = (field_set s.peer.peers.heap (place u v.0) i (place_or_none u x)).state }) m.issued)
@@ -208,7 +215,13 @@ module _ (s : PeerReplay) (k : IsPeerKept s) where
 
   swept-same : (o : Option Marking) (freed : List ℕ) → SameSide s (swept s o C freed).state op.Sweep (swept s o C freed).reply
   swept-same None freed = no-change op.Sweep says.NoMark
-  swept-same (Some mk) freed = record { fields = refl; vars = refl; statics = refl; issued = inl refl; tabled = λ n row t. (let w = tabled-swept freed s.peers.issued s.table n row k.handles.places t in inl (w.1, w.3)) }
+  swept-same (Some mk) freed = record {
+    fields = refl;
+    vars = refl;
+    statics = refl;
+    issued = inl refl;
+    tabled = λ n row t. (let w = tabled-swept freed s.peers.issued s.table n row k.handles.places t in inl (w.1, w.3));
+  }
 
   -- a restored handle leaves the table, and one on its peer may come
   gone-tabled : (h n : ℕ) (row : TableRow) → IsTabled (numbered_set s.table h None) n row → (old : TableRow) × IsTabled s.table n old
@@ -286,7 +299,8 @@ module _ (s : Linkage) (line : ℕ) (r : Reply) (cites : Option ℕ) (o : Op) (t
       by true = same s.managed
       by false = managed-same s.managed o told w
 
-  pub peers-stay : IsPeerKept s.peer → IsOfCycle o → SideLawful (is_peer_event C o) s (entry C line o r cites) told → SameSide s.peer (peer_after s.peer (entry C line o r cites) told (is_peer_event C o)) o r
+  pub peers-stay : IsPeerKept s.peer → IsOfCycle o → SideLawful (is_peer_event C o) s (entry C line o r cites) told
+      → SameSide s.peer (peer_after s.peer (entry C line o r cites) told (is_peer_event C o)) o r
   peers-stay k w l = by (is_peer_event C o) l
     where
       by : (b : Bool) → SideLawful b s (entry C line o r cites) told → SameSide s.peer (peer_after s.peer (entry C line o r cites) told b) o r

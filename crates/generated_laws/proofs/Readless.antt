@@ -42,7 +42,8 @@ IsUnread None = Unit {0}
 IsUnread (Some o) = is_read o ≡ false
 
 -- no event of an operation is one
-bridge-next : (a : Act) (rs : List Reply) → IsUnread (next_event a []) → ((r : Reply) → IsUnread (next_event a (r ∷ []))) → ((r q : Reply) (rest : List Reply) → IsUnread (next_event a (r ∷ q ∷ rest))) → IsUnread (next_event a rs)
+bridge-next : (a : Act) (rs : List Reply) → IsUnread (next_event a []) → ((r : Reply) → IsUnread (next_event a (r ∷ [])))
+    → ((r q : Reply) (rest : List Reply) → IsUnread (next_event a (r ∷ q ∷ rest))) → IsUnread (next_event a rs)
 bridge-next a [] x y z = x
 bridge-next a (r ∷ []) x y z = y r
 bridge-next a (r ∷ q ∷ rs) x y z = z r q rs
@@ -154,7 +155,8 @@ module _ (seed size : ℕ) (h : Finished) (w : IsGeneratedRun seed size h) where
 
   no-reads : total reading h.entries ≡ 0
   no-reads =
-      let before = script-total (λ (e : Entry). Unit {0}) reading (λ a. 0) (λ a b. a ≤ b) (omega arith) (λ a b c d p q. omega (arith, p, q)) own-reads (generated seed size) w.before (simple-lines seed size) callers (each-anything w.before) w.lines in
+      let before = script-total (λ (e : Entry). Unit {0}) reading (λ a. 0) (λ a b. a ≤ b) (omega arith) (λ a b c d p q. omega (arith, p, q)) own-reads
+      (generated seed size) w.before (simple-lines seed size) callers (each-anything w.before) w.lines in
       let none = no-sum (generated seed size) in
       let last = cycle-reads w.cycle whole in
       let all = ap (total reading) w.all ∙ total-append reading w.before w.cycle in

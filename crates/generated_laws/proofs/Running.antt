@@ -123,7 +123,8 @@ module _ (keep : ℕ → Bool) (s : Linkage) (number line : ℕ) (r : Reply) (ci
       let b = both.0 in
       let m = both.1 in
       let managed : managed_after s.managed (entry (P u) line o r cites) told (is_peer_event (P u) o) ≡ s.managed = ap (managed_after s.managed (entry (P u) line o r cites) told) b in
-      let peer : peer_after s.peer (entry (P u) line o r cites) told (is_peer_event (P u) o) ≡ peer_after s.peer (entry (P u) line o r cites) told true = ap (peer_after s.peer (entry (P u) line o r cites) told) b in
+      let peer : peer_after s.peer (entry (P u) line o r cites) told (is_peer_event (P u) o) ≡ peer_after s.peer
+      (entry (P u) line o r cites) told true = ap (peer_after s.peer (entry (P u) line o r cites) told) b in
       let none : (i : ℕ) → Fills i o → ⊥ = λ i f. peer-fills i (w.fills u) (PeerGoing (entries_by (P u) es)) o st f in
       record {
         minds = w.minds;
@@ -131,7 +132,8 @@ module _ (keep : ℕ → Bool) (s : Linkage) (number line : ℕ) (r : Reply) (ci
         groups = w.groups;
         shown = subst (λ (z : ManagedReplay). IsShown z.managed w.minds w.groups) (sym managed) w.shown;
         peers = subst (λ (z : PeerReplay). ArePeersShown z.peers (with_fill w.fills u m.fill_now) w.groups) (sym peer) m.shown;
-        are_held = subst (λ (z : ManagedReplay). AreHeld z.managed (peer_after s.peer (entry (P u) line o r cites) told (is_peer_event (P u) o)) (given_at s.control.stand) w.minds w.groups) (sym managed)
+        are_held = subst (λ (z : ManagedReplay). AreHeld z.managed (peer_after s.peer (entry (P u) line o r cites) told (is_peer_event (P u) o)) (given_at s.control.stand) w.minds w.groups)
+            (sym managed)
             (subst (λ (z : PeerReplay). AreHeld s.managed.managed z (given_at s.control.stand) w.minds w.groups) (sym peer)
             (record {
               owned = λ a row t. w.are_held.owned a row (subst (λ l. IsTabled l a row) both.2 t);
@@ -186,7 +188,8 @@ inv-all keep (n ∷ ns) s rest a k w = inv-all keep ns (linkage_after s n) rest 
 abbrev pub SaysIt : Entry → Type 0
 SaysIt e = SaysHandle e.made.op e.made.reply
 
-says-by : (keep : ℕ → Bool) (s : Linkage) (number line : ℕ) (r : Reply) (cites : Option ℕ) (told : Told) (es : List Entry) → Of s → (t : Thread) (o : Op) → MayCome s (record { entry = record { number = number; made = entry t line o r cites }; told = told })
+says-by : (keep : ℕ → Bool) (s : Linkage) (number line : ℕ) (r : Reply) (cites : Option ℕ) (told : Told) (es : List Entry) → Of s
+    → (t : Thread) (o : Op) → MayCome s (record { entry = record { number = number; made = entry t line o r cites }; told = told })
     → Inv keep s (record { number = number; made = entry t line o r cites } ∷ es) → SaysHandle o r
 says-by keep s number line r cites told es k (M u) o may w =
     let e : Entry = record { number = number; made = entry (M u) line o r cites } in

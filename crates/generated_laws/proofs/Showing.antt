@@ -1,6 +1,7 @@
 -- The managed objects, as the threads that made them know them: each variable names what its thread has there, no two
 -- name the same, and each filled static names a group of two objects that no other static's group has.
-use Rattle.std.proofs.Common.{◌≡◌, ◌≢◌, ℕ, ◌+◌, ◌<◌, ◌≤◌, ◌⊎◌, inl, inr, Bool, true, false, List, [], ◌∷◌, ◌++◌, length, Option, Some, None, set, replicate, refl, sym, ap, subst, ◌∙◌, arith, length-append}
+use Rattle.std.proofs.Common.{◌≡◌, ◌≢◌, ℕ, ◌+◌, ◌<◌, ◌≤◌, ◌⊎◌, inl, inr, Bool, true, false, List, [], ◌∷◌, ◌++◌, length, Option, Some, None, set, replicate, refl, sym, ap, subst, ◌∙◌, arith}
+use Rattle.std.proofs.Common.{length-append}
 use Rattle.std.specs.Prelude.{Contains}
 use Rattle.std.proofs.Math.ListN.{length-set}
 use Rattle.std.proofs.lemmas.Bool.{cases_eq}
@@ -73,7 +74,8 @@ group-held m g z w (inl e) = (Some w.holds.0, ap (numbered_at m.held) e ∙ w.ho
 group-held m g z w (inr e) = (None, ap (numbered_at m.held) e ∙ w.none)
 
 -- a group stays one where its two objects keep their fields and handles
-group-stays : (m k : Managed) (g : Group) → IsGroup m g → ((z : ℕ) → Names g z → fields_of k.heap z ≡ fields_of m.heap z) → ((z : ℕ) → Names g z → numbered_at k.held z ≡ numbered_at m.held z) → IsGroup k g
+group-stays : (m k : Managed) (g : Group) → IsGroup m g → ((z : ℕ) → Names g z → fields_of k.heap z ≡ fields_of m.heap z)
+    → ((z : ℕ) → Names g z → numbered_at k.held z ≡ numbered_at m.held z) → IsGroup k g
 group-stays m k g w f h = record {
   holds = (w.holds.0, h g.bridge (inl refl) ∙ w.holds.1);
   none = h g.plain (inr refl) ∙ w.none;
@@ -100,7 +102,8 @@ module _ (minds next : ℕ → Mind) (t v : ℕ) (s : Option Seen) (small : v < 
   vars-after : (old vars : List (Option ℕ)) → t ≤ 8 → length old ≡ 72 → vars ≡ set old (place t v) (number_of s) → ((u w : ℕ) → w < 8 → slot old (place u w) ≡ number_of (at (minds u).slots w))
       → (u w : ℕ) → w < 8 → slot vars (place u w) ≡ number_of (at (next u).slots w)
   vars-after old vars few len is was u w l = elim (cases_eq u t) [
-    | inr n ↦ ap (λ z. slot z (place u w)) is ∙ (slot-set_other old (place t v) (place u w) (number_of s) (λ e. n (one-place u t w v l (omega (arith, small)) e).0) ∙ (was u w l ∙ ap (λ (m : Mind). number_of (at m.slots w)) (sym (same u n))))
+    | inr n ↦ ap (λ z. slot z (place u w)) is ∙ (slot-set_other old (place t v) (place u w) (number_of s) (λ e. n (one-place u t w v l (omega (arith, small)) e).0)
+        ∙ (was u w l ∙ ap (λ (m : Mind). number_of (at m.slots w)) (sym (same u n))))
     | inl q ↦ elim (cases_eq w v) [
       | inl r ↦
           ap (λ z. slot z (place u w)) is ∙ (ap (λ k. slot (set old (place t v) (number_of s)) k) (ap (λ k. place k w) q ∙ ap (λ k. place t k) r)
@@ -114,7 +117,8 @@ module _ (minds next : ℕ → Mind) (t v : ℕ) (s : Option Seen) (small : v < 
 
 -- a further object that a variable comes to name
 module _ (m : Managed) (minds next : ℕ → Mind) (groups : List (Option Group)) (w : IsShown m minds groups) (t v : ℕ) (kind : Kind) (n : ℕ) (o : Option ℕ) (few : t ≤ 8) (small : v < 3)
-    (same : (u : ℕ) → u ≢ t → next u ≡ minds u) (slots : (next t).slots ≡ put (minds t).slots v (Some (seen (next_number m.heap) (replicate n None) o))) (stored : (next t).stored ≡ (minds t).stored) where
+    (same : (u : ℕ) → u ≢ t → next u ≡ minds u) (slots : (next t).slots ≡ put (minds t).slots v (Some (seen (next_number m.heap) (replicate n None) o)))
+    (stored : (next t).stored ≡ (minds t).stored) where
   abbrev after : Managed
   after = with_row m (place t v) kind n o
 
@@ -276,7 +280,8 @@ module _ (m : Managed) (minds next : ℕ → Mind) (groups : List (Option Group)
     | inl q ↦ elim (cases_eq a v) [
       | inl r ↦
           subst (λ (s : Seen). (fields_of written.heap s.number ≡ s.fields) × (numbered_at written.held s.number ≡ Some s.handle))
-          (some-same now z (sym (at-put_same (minds t).slots v (Some now) small) ∙ (ap (λ k. at (put (minds t).slots v (Some now)) k) (sym r) ∙ (ap (λ k. at k a) (sym slots) ∙ (ap (λ k. at (next k).slots a) (sym q) ∙ e)))))
+          (some-same now z (sym (at-put_same (minds t).slots v (Some now) small)
+          ∙ (ap (λ k. at (put (minds t).slots v (Some now)) k) (sym r) ∙ (ap (λ k. at k a) (sym slots) ∙ (ap (λ k. at (next k).slots a) (sym q) ∙ e)))))
           (now-fields, (w.objects t v x here).1)
       | inr r ↦ old-one (old-of (λ c. r c.1)) (λ c. r c.1)
     ]
@@ -313,7 +318,8 @@ module _ (m : Managed) (minds next : ℕ → Mind) (groups : List (Option Group)
         | inr n ↦ ap (λ (k : Mind). number_of (at k.slots a)) (sym (same u n))
         | inl q ↦ elim (cases_eq a v) [
           | inl r ↦ ap number_of (ap (λ k. at (minds k).slots a) q ∙ (ap (λ k. at (minds t).slots k) r ∙ here))
-              ∙ ap number_of (sym (at-put_same (minds t).slots v (Some now) small) ∙ (ap (λ k. at (put (minds t).slots v (Some now)) k) (sym r) ∙ (ap (λ k. at k a) (sym slots) ∙ ap (λ k. at (next k).slots a) (sym q))))
+              ∙ ap number_of (sym (at-put_same (minds t).slots v (Some now) small)
+              ∙ (ap (λ k. at (put (minds t).slots v (Some now)) k) (sym r) ∙ (ap (λ k. at k a) (sym slots) ∙ ap (λ k. at (next k).slots a) (sym q))))
           | inr r ↦ ap number_of (ap (λ k. at (minds k).slots a) q ∙ (sym (at-put_other (minds t).slots v a (Some now) r) ∙ (ap (λ k. at k a) (sym slots) ∙ ap (λ k. at (next k).slots a) (sym q))))
         ]
       ]
@@ -382,7 +388,8 @@ module _ (m : Managed) (minds next : ℕ → Mind) (groups : List (Option Group)
       }
 
 -- nothing that is shown changed
-pub still-shown : (m k : Managed) (minds next : ℕ → Mind) (groups : List (Option Group)) → IsShown m minds groups → k.heap.fields ≡ m.heap.fields → k.heap.vars ≡ m.heap.vars → k.heap.statics ≡ m.heap.statics → k.held ≡ m.held → k.pins ≡ m.pins
+pub still-shown : (m k : Managed) (minds next : ℕ → Mind) (groups : List (Option Group)) → IsShown m minds groups
+    → k.heap.fields ≡ m.heap.fields → k.heap.vars ≡ m.heap.vars → k.heap.statics ≡ m.heap.statics → k.held ≡ m.held → k.pins ≡ m.pins
     → ((u : ℕ) → (next u).slots ≡ (minds u).slots) → ((u : ℕ) → (next u).stored ≡ (minds u).stored) → IsShown k next groups
 still-shown m k minds next groups w f v c h p slots stored =
     let fields : (z : ℕ) → fields_of k.heap z ≡ fields_of m.heap z = λ z. ap (λ (fs : List (List (Option ℕ))). elim (numbered_at fs z) [ None ↦ [] | Some gs ↦ gs ]) f in
@@ -405,7 +412,8 @@ still-shown m k minds next groups w f v c h p slots stored =
 
 -- kept candidates came to hold other handles, and nothing else that is shown changed: what variables name and what
 -- holds none are no such candidates
-pub renewed-shown : (m k : Managed) (minds : ℕ → Mind) (groups : List (Option Group)) → IsShown m minds groups → k.heap.fields ≡ m.heap.fields → k.heap.vars ≡ m.heap.vars → k.heap.statics ≡ m.heap.statics → k.pins ≡ m.pins → length k.held ≡ length m.held
+pub renewed-shown : (m k : Managed) (minds : ℕ → Mind) (groups : List (Option Group)) → IsShown m minds groups → k.heap.fields ≡ m.heap.fields
+    → k.heap.vars ≡ m.heap.vars → k.heap.statics ≡ m.heap.statics → k.pins ≡ m.pins → length k.held ≡ length m.held
     → ((t v : ℕ) (x : Seen) → at (minds t).slots v ≡ Some x → numbered_at k.held x.number ≡ numbered_at m.held x.number)
     → ((i : ℕ) (g : Group) → slot groups i ≡ Some g → ((h : ℕ) × (numbered_at k.held g.bridge ≡ Some (Some h))) × (numbered_at k.held g.plain ≡ Some None)) → IsShown k minds groups
 renewed-shown m k minds groups w f v c p l named grouped_ones =

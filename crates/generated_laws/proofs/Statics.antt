@@ -37,7 +37,8 @@ cycle-fills i j = elim (after j) [
   | none e is ↦ ap (total (filled_by i)) is
 ]
 
-more-fills : (i seed n : ℕ) → total (filled_by i) (generated seed (suc n)) ≡ total (filled_by i) (generated seed n) + at_shape (one (nat_eq i (n % 16))) (one (nat_eq i (16 + n % 16))) (shape_of seed n)
+more-fills : (i seed n : ℕ) → total (filled_by i) (generated seed (suc n)) ≡ total (filled_by i)
+    (generated seed n) + at_shape (one (nat_eq i (n % 16))) (one (nat_eq i (16 + n % 16))) (shape_of seed n)
 more-fills i seed n =
     let a = total-append (filled_by i) (generated seed n ++ family seed n) (cycle_after n) in
     let b = total-append (filled_by i) (generated seed n) (family seed n) in
@@ -97,8 +98,10 @@ passed-to seed i l (suc n) p = by (shape_of seed n) refl (more-fills (16 + i) se
     further : IsFilled seed i n 2 → IsFilled seed i (suc n) 2
     further w = (let e = w.early in record { early = omega (arith, e); shapes = w.shapes })
 
-    by : (k : ℕ) → shape_of seed n ≡ k → total (filled_by (16 + i)) (generated seed (suc n)) ≡ total (filled_by (16 + i)) (generated seed n) + at_shape (one (nat_eq (16 + i) (n % 16))) (one (nat_eq (16 + i) (16 + n % 16))) k
-        → (0 < total (filled_by (16 + i)) (generated seed n)) ⊎ (total (filled_by (16 + i)) (generated seed n) ≤ 0) → (0 < total (filled_by (16 + i)) (generated seed n) → IsFilled seed i n 2) → IsFilled seed i (suc n) 2
+    by : (k : ℕ) → shape_of seed n ≡ k → total (filled_by (16 + i)) (generated seed (suc n)) ≡ total (filled_by (16 + i))
+        (generated seed n) + at_shape (one (nat_eq (16 + i) (n % 16))) (one (nat_eq (16 + i) (16 + n % 16))) k
+        → (0 < total (filled_by (16 + i)) (generated seed n)) ⊎ (total (filled_by (16 + i)) (generated seed n) ≤ 0)
+        → (0 < total (filled_by (16 + i)) (generated seed n) → IsFilled seed i n 2) → IsFilled seed i (suc n) 2
     by k e m (inl q) f = further (f q)
     by zero e m (inr q) f = absurd (omega (arith, p, m, q))
     by (suc zero) e m (inr q) f = elim (same-or (16 + i) (n % 16)) [
@@ -143,7 +146,8 @@ count-split f a (suc b) = (let e : a + suc b ≡ suc (a + b) = omega arith in le
 
 -- as many as families of that shape among the first sixteen
 count-shape : (seed size shape : ℕ) (G : ℕ → Bool) → shape ≤ 3 → ((i : ℕ) → i < 16 → (G i ≡ true) ↔ IsFilled seed i size shape)
-    → ((n : ℕ) → shape_of seed n ≡ shape → families_of shape seed (suc n) ≡ families_of shape seed n + 1) → ((n : ℕ) → (shape_of seed n ≢ shape) → families_of shape seed (suc n) ≡ families_of shape seed n)
+    → ((n : ℕ) → shape_of seed n ≡ shape → families_of shape seed (suc n) ≡ families_of shape seed n + 1)
+    → ((n : ℕ) → (shape_of seed n ≢ shape) → families_of shape seed (suc n) ≡ families_of shape seed n)
     → (n : ℕ) → n ≤ 16 → count_up (λ i. one (G i)) n ≡ families_of shape seed (min size n)
 count-shape seed size shape G s is more same zero l = (let e : min size 0 ≡ 0 = omega arith in sym (ap (families_of shape seed) e ∙ omega arith))
 count-shape seed size shape G s is more same (suc n) l =
@@ -173,7 +177,8 @@ count-shape seed size shape G s is more same (suc n) l =
     off false f = refl
 
 -- where just the statics that the lines fill have a group
-pub filled-statics : (seed size : ℕ) (groups : List (Option Group)) → length groups ≡ 32 → ((i : ℕ) → i < 32 → (is_some (slot groups i) ≡ true) ↔ (0 < total (λ (line : Thread × Act). line_fills i line.1) (generated seed size)))
+pub filled-statics : (seed size : ℕ) (groups : List (Option Group)) → length groups ≡ 32
+    → ((i : ℕ) → i < 32 → (is_some (slot groups i) ≡ true) ↔ (0 < total (λ (line : Thread × Act). line_fills i line.1) (generated seed size)))
     → total (λ o. one (is_some o)) groups ≡ filled_statics seed size
 filled-statics seed size groups len is =
     let all = count-slots groups ∙ ap (count_up (λ i. one (is_some (slot groups i)))) len in

@@ -41,7 +41,8 @@ acts-append : (t : Thread) (xs ys : List (Thread × Act)) → acts_of t (xs ++ y
 acts-append t [] ys = refl
 acts-append t (x ∷ xs) ys = by (is_thread t x.0) (acts-append t xs ys)
   where
-    by : (b : Bool) → acts_of t (xs ++ ys) ≡ acts_of t xs ++ acts_of t ys → (if b then x.1 ∷ acts_of t (xs ++ ys) else acts_of t (xs ++ ys)) ≡ (if b then x.1 ∷ acts_of t xs else acts_of t xs) ++ acts_of t ys
+    by : (b : Bool) → acts_of t (xs ++ ys) ≡ acts_of t xs ++ acts_of t ys
+        → (if b then x.1 ∷ acts_of t (xs ++ ys) else acts_of t (xs ++ ys)) ≡ (if b then x.1 ∷ acts_of t xs else acts_of t xs) ++ acts_of t ys
     by true e = ap (λ l. x.1 ∷ l) e
     by false e = e
 
@@ -68,12 +69,14 @@ plain-events s C a own l n' e = absurd (cc)
 plain-events s t a own l n' e = e
 
 -- what is held of a thread's lines runs its operations
-runs-held : (t : Thread) → is_thread t C ≡ false → (k : ℕ) (script : List (Thread × Act)) (s : Standing) (es : List Entry) → s.phase ≡ at.Idle → Each IsSimpleLine script → HoldsLines s (lines_of t (numbered_from k script)) es → Runs (acts_of t script) es
+runs-held : (t : Thread) → is_thread t C ≡ false → (k : ℕ) (script : List (Thread × Act)) (s : Standing) (es : List Entry)
+    → s.phase ≡ at.Idle → Each IsSimpleLine script → HoldsLines s (lines_of t (numbered_from k script)) es → Runs (acts_of t script) es
 runs-held t n k [] s es i w h = subst (λ (p : Phase). ArePhases s.candidates (phases_left p) es) i h.events
 runs-held t n k (x ∷ script) s es i w h = by (is_thread t x.0) refl h (λ z fs j g. runs-held t n (k + 1) script z fs j w.1 g)
   where
     by : (b : Bool) → is_thread t x.0 ≡ b → HoldsLines s (if b then (k, x) ∷ lines_of t (numbered_from (k + 1) script) else lines_of t (numbered_from (k + 1) script)) es
-        → ((z : Standing) (fs : List Entry) → z.phase ≡ at.Idle → HoldsLines z (lines_of t (numbered_from (k + 1) script)) fs → Runs (acts_of t script) fs) → Runs (if b then x.1 ∷ acts_of t script else acts_of t script) es
+        → ((z : Standing) (fs : List Entry) → z.phase ≡ at.Idle → HoldsLines z (lines_of t (numbered_from (k + 1) script)) fs → Runs (acts_of t script) fs)
+        → Runs (if b then x.1 ∷ acts_of t script else acts_of t script) es
     by false e g f = f s es i g
     by true e g f =
         let same : t ≡ x.0 = same_thread t x.0 e in
@@ -106,7 +109,8 @@ no-cycle t i n = elim (after i) [
 front-acts : (t : Thread) (seed i n : ℕ) → is_thread t C ≡ false → acts_of t (front seed i (suc n)) ≡ acts_of t (family seed i) ++ acts_of t (front seed (suc i) n)
 front-acts t seed i n other =
     acts-append t (family seed i ++ cycle_after i) (front seed (suc i) n)
-    ∙ ap (λ l. l ++ acts_of t (front seed (suc i) n)) (acts-append t (family seed i) (cycle_after i) ∙ (ap (λ l. acts_of t (family seed i) ++ l) (no-cycle t i other) ∙ append-nil (acts_of t (family seed i))))
+    ∙ ap (λ l. l ++ acts_of t (front seed (suc i) n)) (acts-append t (family seed i) (cycle_after i)
+    ∙ (ap (λ l. acts_of t (family seed i) ++ l) (no-cycle t i other) ∙ append-nil (acts_of t (family seed i))))
 
 -- one family of a managed thread
 family-going : (k t u : ℕ) (x : StaticNo) (es tail : List Entry) → x.0 < 16 → Each HasAnswer es → Runs (acts_of (M t) (family_of k u x)) es → Going tail empty_mind → Going (es ++ tail) empty_mind
@@ -131,7 +135,8 @@ family-going (suc (suc (suc n))) t u x es tail l g r d = (let q : es ≡ [] = su
 peer_family-going : (k t u : ℕ) (x : StaticNo) (es tail : List Entry) → Runs (acts_of (P t) (family_of k u x)) es → PeerGoing tail none_filled → PeerGoing (es ++ tail) none_filled
 peer_family-going zero t u x es tail r d = (let q : es ≡ [] = subst (λ a. Runs a es) (acts-lines (P t) (M u) bridge_circle) r in subst (λ y. PeerGoing (y ++ tail) none_filled) (sym q) d)
 peer_family-going (suc zero) t u x es tail r d = (let q : es ≡ [] = subst (λ a. Runs a es) (acts-lines (P t) (M u) (cached_leaf x)) r in subst (λ y. PeerGoing (y ++ tail) none_filled) (sym q) d)
-peer_family-going (suc (suc zero)) t u x es tail r d = (let q : es ≡ [] = subst (λ a. Runs a es) (acts-lines (P t) (M u) (passed_bridge x)) r in subst (λ y. PeerGoing (y ++ tail) none_filled) (sym q) d)
+peer_family-going (suc (suc zero)) t u x es tail r d = (let q : es ≡ [] = subst (λ a. Runs a es) (acts-lines (P t) (M u) (passed_bridge x)) r in
+    subst (λ y. PeerGoing (y ++ tail) none_filled) (sym q) d)
 peer_family-going (suc (suc (suc n))) t u x es tail r d = by (is_thread (P t) (P u)) (subst (λ a. Runs a es) (acts-lines (P t) (P u) peer_circle) r)
   where
     by : (b : Bool) → Runs (if b then peer_circle else []) es → PeerGoing (es ++ tail) none_filled
@@ -152,11 +157,14 @@ peer_front-going seed t (suc n) i es r =
     let both = runs-append (acts_of (P t) (family seed i)) (acts_of (P t) (front seed (suc i) n)) es (subst (λ a. Runs a es) (front-acts (P t) seed i n refl) r) in
     subst (λ l. PeerGoing l none_filled) (sym both.2) (peer_family-going (shape_of seed i) t (thread_of i) (static_of i) both.0 both.1 both.3 (peer_front-going seed t n (suc i) both.1 both.4))
 
-pub thread-going : (seed size t : ℕ) (s : Standing) (es : List Entry) → s.phase ≡ at.Idle → Each IsSimpleLine (generated seed size) → Each HasAnswer es → HoldsLines s (lines_of (M t) (numbered_from 1 (generated seed size))) es → Going es empty_mind
+pub thread-going : (seed size t : ℕ) (s : Standing) (es : List Entry) → s.phase ≡ at.Idle → Each IsSimpleLine (generated seed size)
+    → Each HasAnswer es → HoldsLines s (lines_of (M t) (numbered_from 1 (generated seed size))) es → Going es empty_mind
 thread-going seed size t s es i w g h = front-going seed t size 0 es g (subst (λ l. Runs (acts_of (M t) l) es) (generated-front seed size) (runs-held (M t) refl 1 (generated seed size) s es i w h))
 
-pub peer_thread-going : (seed size t : ℕ) (s : Standing) (es : List Entry) → s.phase ≡ at.Idle → Each IsSimpleLine (generated seed size) → HoldsLines s (lines_of (P t) (numbered_from 1 (generated seed size))) es → PeerGoing es none_filled
-peer_thread-going seed size t s es i w h = peer_front-going seed t size 0 es (subst (λ l. Runs (acts_of (P t) l) es) (generated-front seed size) (runs-held (P t) refl 1 (generated seed size) s es i w h))
+pub peer_thread-going : (seed size t : ℕ) (s : Standing) (es : List Entry) → s.phase ≡ at.Idle → Each IsSimpleLine (generated seed size)
+    → HoldsLines s (lines_of (P t) (numbered_from 1 (generated seed size))) es → PeerGoing es none_filled
+peer_thread-going seed size t s es i w h = peer_front-going seed t size 0 es
+    (subst (λ l. Runs (acts_of (P t) l) es) (generated-front seed size) (runs-held (P t) refl 1 (generated seed size) s es i w h))
 
 -- the driver's entries are those of cycles
 later-cycle : (es : List Entry) → Each IsLaterEntry es → Each IsCycleEntry es
@@ -178,7 +186,8 @@ driver-line s C a own i e l w h = absurd l
 driver-line s (M n) a own i e l w h = absurd (cc)
 driver-line s (P n) a own i e l w h = absurd (cc)
 
-pub driver-held : (k : ℕ) (script : List (Thread × Act)) (s : Standing) (es : List Entry) → s.phase ≡ at.Idle → Each IsSimpleLine script → HoldsLines s (lines_of C (numbered_from k script)) es → Each IsCycleEntry es
+pub driver-held : (k : ℕ) (script : List (Thread × Act)) (s : Standing) (es : List Entry) → s.phase ≡ at.Idle
+    → Each IsSimpleLine script → HoldsLines s (lines_of C (numbered_from k script)) es → Each IsCycleEntry es
 driver-held k [] s es i w h = (let q : es ≡ [] = subst (λ (p : Phase). ArePhases s.candidates (phases_left p) es) i h.events in subst (Each IsCycleEntry) (sym q) tt)
 driver-held k (x ∷ script) s es i w h = by (is_thread C x.0) refl h (λ z fs j g. driver-held (k + 1) script z fs j w.1 g)
   where

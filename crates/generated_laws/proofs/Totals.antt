@@ -91,5 +91,6 @@ module _ {X : Type 0} (by : X → Thread) (f : X → ℕ) where
       let first = once (by x) e.0 (f x) in
       let rest = by_threads xs e.1 in
       let both = total-plus (λ t. if is_thread t (by x) then f x else 0) (λ t. total f (filter (λ y. is_thread t (by y)) xs)) all_threads in
-      let same = total-same (λ t. total f (filter (λ y. is_thread t (by y)) (x ∷ xs))) (λ t. (if is_thread t (by x) then f x else 0) + total f (filter (λ y. is_thread t (by y)) xs)) all_threads (one-more x xs) in
+      let same = total-same (λ t. total f (filter (λ y. is_thread t (by y)) (x ∷ xs)))
+      (λ t. (if is_thread t (by x) then f x else 0) + total f (filter (λ y. is_thread t (by y)) xs)) all_threads (one-more x xs) in
       omega (arith, first, rest, both, same)

@@ -164,18 +164,24 @@ module _ (s : Linkage) (managed : length s.managed.managed.heap.fields < 65535) 
 
   now : (t : Thread) (o : Op) (told : Told) (line : ℕ) (r : Reply) (cites : Option ℕ) → IsEvent t o → SideLawful (is_peer_event t o) s (entry t line o r cites) told → Answers o r
   now (M u) (op.Line (act.New v k n)) told line r cites e w =
-      ap is_m (w.replies ∙ ap (λ b. (if b then answer says.Full s.managed.managed else answer (managed_name (next_number s.managed.managed.heap)) (with_row s.managed.managed (place u v.0) k n None)).reply) no-managed)
+      ap is_m (w.replies ∙ ap (λ b. (if b then answer says.Full s.managed.managed else answer
+      (managed_name (next_number s.managed.managed.heap)) (with_row s.managed.managed (place u v.0) k n None)).reply) no-managed)
   now (P u) (op.Line (act.New v k n)) told line r cites e w = absurd e.0.1
   now C (op.Line (act.New v k n)) told line r cites e w = absurd e.0
   now (P u) (op.Line (act.NewPeer v n)) told line r cites e w =
-      ap is_p (w.replies ∙ ap (λ b. (if b then answer says.Full s.peer.peers else (let grown = with_peer s.peer.peers Framework n in answer (peer_name (next_number s.peer.peers.heap)) (record grown { heap = with_var grown.heap (place u v.0) (Some (next_number s.peer.peers.heap)) }))).reply) no-peers)
+      ap is_p (w.replies ∙ ap (λ b. (if b then answer says.Full s.peer.peers else
+      (let grown = with_peer s.peer.peers Framework n in answer (peer_name (next_number s.peer.peers.heap))
+      (record grown { heap = with_var grown.heap (place u v.0) (Some (next_number s.peer.peers.heap)) }))).reply) no-peers)
   now (M u) (op.Line (act.NewPeer v n)) told line r cites e w = absurd e.0.1
   now C (op.Line (act.NewPeer v n)) told line r cites e w = absurd e.0
   now t (op.Make sort n) told line r cites e w =
-      ap is_made (w.replies ∙ ap (λ b. (if b then answer says.Full s.peer.peers else answer (says.Made record { 0 = next_number s.peer.peers.heap } record { 0 = next_handle s.peer.peers }) (with_handle (with_peer s.peer.peers sort n) (next_number s.peer.peers.heap) held strong)).reply) neither)
+      ap is_made (w.replies ∙ ap (λ b. (if b then answer says.Full s.peer.peers else answer (says.Made record { 0 = next_number s.peer.peers.heap } record { 0 = next_handle s.peer.peers })
+      (with_handle (with_peer s.peer.peers sort n) (next_number s.peer.peers.heap) held strong)).reply) neither)
   now t (op.Adopt v k n p h) told line r cites e w =
       let a = adopted s.managed.managed (place (thread_number t) v.0) k n h.0 in
-      ap is_m (w.replies ∙ (adopt_by-reply s.managed p.0 h.0 a.state a.reply ∙ ap (λ b. (if b then answer says.Full s.managed.managed else answer (managed_name (next_number s.managed.managed.heap)) (with_row s.managed.managed (place (thread_number t) v.0) k n (Some h.0))).reply) no-managed))
+      ap is_m (w.replies ∙ (adopt_by-reply s.managed p.0 h.0 a.state a.reply
+      ∙ ap (λ b. (if b then answer says.Full s.managed.managed else answer (managed_name (next_number s.managed.managed.heap))
+      (with_row s.managed.managed (place (thread_number t) v.0) k n (Some h.0))).reply) no-managed))
   now t o told line r cites e w = tt
 
 pub all-split : (xs ys : List Noted) (s : Linkage) → AllMayCome s (xs ++ ys) → AllMayCome s xs × AllMayCome (replayed s xs) ys

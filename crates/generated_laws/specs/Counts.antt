@@ -24,8 +24,16 @@ abbrev pub filled_statics : ℕ → ℕ → ℕ
 filled_statics seed size = families_of 1 seed (min size 16) + families_of 2 seed (min size 16)
 
 abbrev pub left_by_families : ℕ → ℕ → Objects
-left_by_families seed size = record { managed = 2 * filled_statics seed size; peers = filled_statics seed size; handles = filled_statics seed size }
+left_by_families seed size = record {
+  managed = 2 * filled_statics seed size;
+  peers = filled_statics seed size;
+  handles = filled_statics seed size;
+}
 
 -- the tally of such a run: a function of the seed and the size
 abbrev pub generated_tally : ℕ → ℕ → Tally
-generated_tally seed size = record { cycles = size / 100 + 1; made = made_by_families seed size; left = left_by_families seed size }
+generated_tally seed size = record {
+  cycles = size / 100 + 1;
+  made = made_by_families seed size;
+  left = left_by_families seed size;
+}

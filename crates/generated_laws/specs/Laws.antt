@@ -29,4 +29,5 @@ pub record IsGeneratedRun (seed size : ℕ) (h : Finished) : Type 0 where
 
 -- so it is, in whatever order threads came
 abbrev pub GeneratedRunsAreAlike : Type 0
-GeneratedRunsAreAlike = (seed size : ℕ) (h : Finished) → size ≤ 2800 → IsGeneratedRun seed size h → tally_of h.entries ≡ generated_tally seed size
+GeneratedRunsAreAlike = (seed size : ℕ) (h : Finished) → size ≤ 2800
+    → IsGeneratedRun seed size h → tally_of h.entries ≡ generated_tally seed size

@@ -6,7 +6,8 @@
 -- between them but the slot itself. No other slot or head led to it, since two that lead to one slot are one.
 -- The walk clears from the top down: before the slot of the number n, all slots from there up are as if cleared,
 -- since those between two slots of a chain have nothing to clear for its peer.
-use Rattle.std.proofs.Common.{◌≡◌, ◌≢◌, ℕ, ◌+◌, ◌<◌, ◌≤◌, zero, suc, cond, eqb, not, Bool, true, false, List, [], ◌∷◌, ◌++◌, length, map, set, get_or, slice_get, Option, None, Some, refl, sym, ap, ◌∙◌, subst, ◌⊎◌, inl, inr, eq-eqb, arith}
+use Rattle.std.proofs.Common.{◌≡◌, ◌≢◌, ℕ, ◌+◌, ◌<◌, ◌≤◌, zero, suc, cond, eqb, not, Bool, true, false, List, [], ◌∷◌, ◌++◌, length, map, set, get_or, slice_get, Option, None, Some, refl, sym, ap}
+use Rattle.std.proofs.Common.{◌∙◌, subst, ◌⊎◌, inl, inr, eq-eqb, arith}
 use Rattle.std.specs.Option.{option_map, option_and_then}
 use Rattle.std.proofs.lemmas.Bool.{cases_eq, cases_lt}
 use Rattle.std.proofs.lemmas.List.{get_or_past}
@@ -17,7 +18,8 @@ use Rattle.joint_machine.proofs.Deciding.{neq-eqb, true-false}
 use Rattle.global_handles.specs.declared.Kept.{Kept}
 use Rattle.global_handles.specs.declared.Name.{Name}
 use Rattle.global_handles.specs.declared.Slot.{Slot}
-use Rattle.global_handles.specs.Slots.{with_row, with_next, with_previous, next_at, previous_at, numbered, row_at, row_of, rows_of, ArePlaced, cleared_kept, cleared_slot, is_open, opens, head_in, IsLastOpen, AreLinkedSlots, LeadsBack, IsBacked, IsChained}
+use Rattle.global_handles.specs.Slots.{with_row, with_next, with_previous, next_at, previous_at, numbered, row_at, row_of, rows_of, ArePlaced, cleared_kept, cleared_slot, is_open, opens, head_in}
+use Rattle.global_handles.specs.Slots.{IsLastOpen, AreLinkedSlots, LeadsBack, IsBacked, IsChained}
 use Rattle.global_handles.proofs.Slots.{kept_at, rows_of-made}
 
 -- the peer of a number
@@ -49,7 +51,8 @@ opens-none p s none = by (eqb p.0 s.peer.0) refl
     by false e = rw e refl
 
 -- the slots open for a peer are the same, so its chain is
-pub Leads-alike : (old new : List Slot) (p : PNum) (n high : ℕ) → ((j : ℕ) (t : Slot) → j < high → slice_get new j ≡ Some t → (s : Slot) × (slice_get old j ≡ Some s) × (opens p t ≡ opens p s)) → IsLastOpen old p n high → IsLastOpen new p n high
+pub Leads-alike : (old new : List Slot) (p : PNum) (n high : ℕ)
+    → ((j : ℕ) (t : Slot) → j < high → slice_get new j ≡ Some t → (s : Slot) × (slice_get old j ≡ Some s) × (opens p t ≡ opens p s)) → IsLastOpen old p n high → IsLastOpen new p n high
 Leads-alike old new p n high came leads = record {
   within = leads.within;
   own = λ j t is at. let c = came j t (omega (arith, leads.within)) at in c.2 ∙ leads.own j c.0 is c.1;
@@ -126,12 +129,14 @@ numbered-came f n (u ∷ ss) zero m t is at =
 numbered-came f n (u ∷ ss) (suc j) m t is at = numbered-came f (n + 1) ss j m t (omega arith) at
 
 -- slots whose peers and rows stay lead each name to the same row
-row_of-numbered : (f : ℕ → Slot → Slot) (n m i : ℕ) (ss : List Slot) → ((k : ℕ) (s : Slot) → (f k s).peer ≡ s.peer) → ((k : ℕ) (s : Slot) → (f k s).row ≡ s.row) → option_and_then (row_of n) (slice_get (numbered f m ss) i) ≡ option_and_then (row_of n) (slice_get ss i)
+row_of-numbered : (f : ℕ → Slot → Slot) (n m i : ℕ) (ss : List Slot) → ((k : ℕ) (s : Slot) → (f k s).peer ≡ s.peer)
+    → ((k : ℕ) (s : Slot) → (f k s).row ≡ s.row) → option_and_then (row_of n) (slice_get (numbered f m ss) i) ≡ option_and_then (row_of n) (slice_get ss i)
 row_of-numbered f n m i [] peers rows = refl
 row_of-numbered f n m zero (s ∷ ss) peers rows = rw (peers m s, rows m s) refl
 row_of-numbered f n m (suc i) (s ∷ ss) peers rows = row_of-numbered f n (m + 1) i ss peers rows
 
-rows_of-numbered : (f : ℕ → Slot → Slot) (m : ℕ) (ss : List Slot) (es : List Name) → ((k : ℕ) (s : Slot) → (f k s).peer ≡ s.peer) → ((k : ℕ) (s : Slot) → (f k s).row ≡ s.row) → rows_of (numbered f m ss) es ≡ rows_of ss es
+rows_of-numbered : (f : ℕ → Slot → Slot) (m : ℕ) (ss : List Slot) (es : List Name) → ((k : ℕ) (s : Slot) → (f k s).peer ≡ s.peer)
+    → ((k : ℕ) (s : Slot) → (f k s).row ≡ s.row) → rows_of (numbered f m ss) es ≡ rows_of ss es
 rows_of-numbered f m ss [] peers rows = refl
 rows_of-numbered f m ss (e ∷ es) peers rows = rw (row_of-numbered f e.number m e.place ss peers rows, rows_of-numbered f m ss es peers rows) refl
 
@@ -196,7 +201,8 @@ with_row-goes (u ∷ ss) zero row (suc j) s at = rw (neq-eqb 0 (suc j) (omega ar
 with_row-goes (u ∷ ss) (suc i) row zero s at = rw (neq-eqb (suc i) 0 (omega arith)) at
 with_row-goes (u ∷ ss) (suc i) row (suc j) s at = rw (eqb-suc i j) (with_row-goes ss i row j s at)
 
-with_row-came : (ss : List Slot) (i : ℕ) (row : Option Kept) (j : ℕ) (t : Slot) → slice_get (with_row ss i row) j ≡ Some t → (s : Slot) × (slice_get ss j ≡ Some s) × (t ≡ slot_with s (cond (eqb i j) row s.row))
+with_row-came : (ss : List Slot) (i : ℕ) (row : Option Kept) (j : ℕ) (t : Slot) → slice_get (with_row ss i row) j ≡ Some t
+    → (s : Slot) × (slice_get ss j ≡ Some s) × (t ≡ slot_with s (cond (eqb i j) row s.row))
 with_row-came [] i row j t at = absurd (none-some t at)
 with_row-came (u ∷ ss) zero row zero t at = (u, refl, sym (same_Some _ t at))
 with_row-came (u ∷ ss) zero row (suc j) t at = (t, at, rw (neq-eqb 0 (suc j) (omega arith)) refl)
@@ -204,7 +210,8 @@ with_row-came (u ∷ ss) (suc i) row zero t at = (t, at, rw (neq-eqb (suc i) 0 (
 with_row-came (u ∷ ss) (suc i) row (suc j) t at = rw (eqb-suc i j) (with_row-came ss i row j t at)
 
 -- what is written at a place is the slot there with another row
-pub set-with_row : (ss : List Slot) (i : ℕ) (s : Slot) (row : Option Kept) → s ≡ get_or ss i s → set ss i (record { peer = s.peer; next = s.next; previous = s.previous; row = row }) ≡ with_row ss i row
+pub set-with_row : (ss : List Slot) (i : ℕ) (s : Slot) (row : Option Kept) → s ≡ get_or ss i s
+    → set ss i (record { peer = s.peer; next = s.next; previous = s.previous; row = row }) ≡ with_row ss i row
 set-with_row [] i s row is = refl
 set-with_row (t ∷ ss) zero s row is = ap (λ u. slot_with u row ∷ ss) is
 set-with_row (t ∷ ss) (suc i) s row is = ap (λ u. t ∷ u) (set-with_row ss i s row is)
@@ -215,7 +222,8 @@ length-with_row (s ∷ ss) zero row = refl
 length-with_row (s ∷ ss) (suc i) row = ap suc (length-with_row ss i row)
 
 -- a row that is as open as that before it leaves all chains
-pub IsChained-with_row : (ss : List Slot) (i : ℕ) (row : Option Kept) (head : PNum → ℕ) → ((s : Slot) → slice_get ss i ≡ Some s → is_open row ≡ is_open s.row) → IsChained ss head → IsChained (with_row ss i row) head
+pub IsChained-with_row : (ss : List Slot) (i : ℕ) (row : Option Kept) (head : PNum → ℕ)
+    → ((s : Slot) → slice_get ss i ≡ Some s → is_open row ≡ is_open s.row) → IsChained ss head → IsChained (with_row ss i row) head
 IsChained-with_row ss i row head same chained = IsChained-follows ss (with_row ss i row) head follows chained
   where
     row_same : (j : ℕ) (s : Slot) (b : Bool) → slice_get ss j ≡ Some s → eqb i j ≡ b → is_open (cond b row s.row) ≡ is_open s.row
@@ -335,7 +343,8 @@ abbrev pub head_moved : PNum → Slot → (PNum → ℕ) → PNum → ℕ
 head_moved p gone head q = cond (eqb gone.previous 0) (cond (eqb p.0 q.0) gone.next (head q)) (head q)
 
 -- the chains after a slot was taken off
-pub IsChained-without : (ss : List Slot) (i : ℕ) (gone : Slot) (p : PNum) (head new : PNum → ℕ) → slice_get ss i ≡ Some gone → opens p gone ≡ true → ((q : PNum) → new q ≡ head_moved p gone head q) → IsChained ss head → IsChained (without_slots ss i gone) new
+pub IsChained-without : (ss : List Slot) (i : ℕ) (gone : Slot) (p : PNum) (head new : PNum → ℕ) → slice_get ss i ≡ Some gone
+    → opens p gone ≡ true → ((q : PNum) → new q ≡ head_moved p gone head q) → IsChained ss head → IsChained (without_slots ss i gone) new
 IsChained-without ss i gone p head new at has moved chained = record {
   heads_lead = λ q. rw (length-without_slots ss i gone) (heads q);
   linked = links;
@@ -480,7 +489,8 @@ IsChained-without ss i gone p head new at has moved chained = record {
             }
 
 -- the links of an open slot are numbers of slots, and its peer has a head
-pub links-within : (ss : List Slot) (i : ℕ) (s : Slot) (p : PNum) (head : PNum → ℕ) → IsChained ss head → slice_get ss i ≡ Some s → opens p s ≡ true → (s.previous ≤ length ss) × (s.next ≤ length ss) × (s.previous ≡ 0 → head p ≢ 0)
+pub links-within : (ss : List Slot) (i : ℕ) (s : Slot) (p : PNum) (head : PNum → ℕ) → IsChained ss head
+    → slice_get ss i ≡ Some s → opens p s ≡ true → (s.previous ≤ length ss) × (s.next ≤ length ss) × (s.previous ≡ 0 → head p ≢ 0)
 links-within ss i s p head chained at has =
     let back = chained.backed i s at p has in
     let inner = chained.linked i s at p has in
@@ -539,7 +549,8 @@ cleared-came p (u ∷ ss) zero t at = (u, refl, sym (same_Some (cleared_slot p u
 cleared-came p (u ∷ ss) (suc j) t at = cleared-came p ss j t at
 
 -- the chains after a clearing: that of the peer is gone, the others stay
-pub IsChained-cleared : (p : PNum) (ss : List Slot) (head new : PNum → ℕ) → length (map (cleared_slot p) ss) ≡ length ss → ((q : PNum) → new q ≡ cond (eqb p.0 q.0) 0 (head q)) → IsChained ss head → IsChained (map (cleared_slot p) ss) new
+pub IsChained-cleared : (p : PNum) (ss : List Slot) (head new : PNum → ℕ) → length (map (cleared_slot p) ss) ≡ length ss
+    → ((q : PNum) → new q ≡ cond (eqb p.0 q.0) 0 (head q)) → IsChained ss head → IsChained (map (cleared_slot p) ss) new
 IsChained-cleared p ss head new len moved chained = record {
   heads_lead = λ q. rw len (heads q);
   linked = λ j t there q is.
@@ -567,7 +578,8 @@ IsChained-cleared p ss head new len moved chained = record {
     ]
 
     stay : (q : PNum) (n high : ℕ) → p.0 ≢ q.0 → IsLastOpen ss q n high → IsLastOpen (map (cleared_slot p) ss) q n high
-    stay q n high apart = Leads-alike ss (map (cleared_slot p) ss) q n high (λ j t below at. let c = cleared-came p ss j t at in (c.0, c.1, ap (λ (u : Slot). opens q u) c.2 ∙ opens-cleared_other p q c.0 apart))
+    stay q n high apart = Leads-alike ss (map (cleared_slot p) ss) q n high
+        (λ j t below at. let c = cleared-came p ss j t at in (c.0, c.1, ap (λ (u : Slot). opens q u) c.2 ∙ opens-cleared_other p q c.0 apart))
 
     none : IsLastOpen (map (cleared_slot p) ss) p 0 (length ss)
     none = record {
@@ -619,12 +631,14 @@ push_last (u ∷ ss) s = push_last ss s
 abbrev pub pushed_slots : List Slot → Slot → ℕ → List Slot
 pushed_slots ss s number = with_previous ss s.next number ++ s ∷ []
 
-pub rows_of-pushed : (ss : List Slot) (es : List Name) (s : Slot) (number : ℕ) (e : Name) (k : Kept) → ArePlaced (length ss) es → e.place ≡ length ss → s.row ≡ Some k → k.number ≡ e.number → rows_of (pushed_slots ss s number) (es ++ e ∷ []) ≡ rows_of ss es ++ row_at e.number s.peer k ∷ []
+pub rows_of-pushed : (ss : List Slot) (es : List Name) (s : Slot) (number : ℕ) (e : Name) (k : Kept) → ArePlaced (length ss) es → e.place ≡ length ss
+    → s.row ≡ Some k → k.number ≡ e.number → rows_of (pushed_slots ss s number) (es ++ e ∷ []) ≡ rows_of ss es ++ row_at e.number s.peer k ∷ []
 rows_of-pushed ss es s number e k placed place row same =
     let len = length-with_previous ss s.next number in
     rows_of-made (with_previous ss s.next number) es s e k (rw len placed) (rw len place) row same ∙ ap (λ rows. rows ++ row_at e.number s.peer k ∷ []) (rows_of-with_previous ss es s.next number)
 
-pub IsChained-pushed : (ss : List Slot) (s : Slot) (number : ℕ) (head new : PNum → ℕ) → number ≡ length ss + 1 → s.previous ≡ 0 → is_open s.row ≡ true → s.next ≡ head s.peer → length (pushed_slots ss s number) ≡ number → ((q : PNum) → new q ≡ cond (eqb s.peer.0 q.0) number (head q)) → IsChained ss head → IsChained (pushed_slots ss s number) new
+pub IsChained-pushed : (ss : List Slot) (s : Slot) (number : ℕ) (head new : PNum → ℕ) → number ≡ length ss + 1 → s.previous ≡ 0 → is_open s.row ≡ true → s.next ≡ head s.peer
+    → length (pushed_slots ss s number) ≡ number → ((q : PNum) → new q ≡ cond (eqb s.peer.0 q.0) number (head q)) → IsChained ss head → IsChained (pushed_slots ss s number) new
 IsChained-pushed ss s number head new next first has leads len moved chained = record {
   heads_lead = λ q. rw len (heads q);
   linked = links;
@@ -634,7 +648,8 @@ IsChained-pushed ss s number head new next first has leads len moved chained = r
     low : List Slot
     low = with_previous ss s.next number
 
-    came : (j : ℕ) (t : Slot) → slice_get (pushed_slots ss s number) j ≡ Some t → ((u : Slot) × (j < length ss) × (slice_get ss j ≡ Some u) × (t ≡ previous_at s.next number (suc j) u)) ⊎ ((j ≡ length ss) × (s ≡ t))
+    came : (j : ℕ) (t : Slot) → slice_get (pushed_slots ss s number) j ≡ Some t
+        → ((u : Slot) × (j < length ss) × (slice_get ss j ≡ Some u) × (t ≡ previous_at s.next number (suc j) u)) ⊎ ((j ≡ length ss) × (s ≡ t))
     came j t at = elim (push_cases (with_previous ss s.next number) s j t at) [
       | inl w ↦
           let c = numbered-came (previous_at s.next number) 1 ss j (suc j) t (omega arith) w.1 in
@@ -787,12 +802,14 @@ cleared_slot-settled p s settled = by (eqb p.0 s.peer.0) s.row refl refl
     by false o is row = rw is refl
 
 -- down over settled slots nothing changes
-pub cleared_above-down : (p : PNum) (low high : ℕ) (ss : List Slot) → low ≤ high → ((j : ℕ) (s : Slot) → low ≤ j → j < high → slice_get ss j ≡ Some s → opens p s ≡ false) → cleared_above p high ss ≡ cleared_above p low ss
+pub cleared_above-down : (p : PNum) (low high : ℕ) (ss : List Slot) → low ≤ high
+    → ((j : ℕ) (s : Slot) → low ≤ j → j < high → slice_get ss j ≡ Some s → opens p s ≡ false) → cleared_above p high ss ≡ cleared_above p low ss
 cleared_above-down p low high [] le settled = refl
 cleared_above-down p zero zero (s ∷ ss) le settled = refl
 cleared_above-down p (suc low) zero (s ∷ ss) le settled = absurd (omega arith)
 cleared_above-down p zero (suc high) (s ∷ ss) le settled =
-    rw (cleared_slot-settled p s (settled 0 s (omega arith) (omega arith) refl)) (ap (λ t. s ∷ t) (cleared_above-down p zero high ss (omega arith) (λ j t a b at. settled (suc j) t (omega arith) (omega arith) at)))
+    rw (cleared_slot-settled p s (settled 0 s (omega arith) (omega arith) refl))
+    (ap (λ t. s ∷ t) (cleared_above-down p zero high ss (omega arith) (λ j t a b at. settled (suc j) t (omega arith) (omega arith) at)))
 cleared_above-down p (suc low) (suc high) (s ∷ ss) le settled =
     ap (λ t. s ∷ t) (cleared_above-down p low high ss (omega arith) (λ j t a b at. settled (suc j) t (omega arith) (omega arith) at))
 
@@ -803,7 +820,8 @@ cleared_above-step p (t ∷ ss) zero s at = rw (same_Some t s at) refl
 cleared_above-step p (t ∷ ss) (suc j) s at = ap (λ u. t ∷ u) (cleared_above-step p ss j s at)
 
 -- one step of the walk: the slot below the place is cleared, and the walk goes on at the number that it leads to
-pub walk-step : (p : PNum) (old now : List Slot) (at j : ℕ) (s : Slot) → AreLinkedSlots old → now ≡ cleared_above p at old → at ≡ suc j → at ≤ length old → ((i : ℕ) (t : Slot) → at ≡ suc i → slice_get old i ≡ Some t → opens p t ≡ true) → s ≡ get_or now j s
+pub walk-step : (p : PNum) (old now : List Slot) (at j : ℕ) (s : Slot) → AreLinkedSlots old → now ≡ cleared_above p at old
+    → at ≡ suc j → at ≤ length old → ((i : ℕ) (t : Slot) → at ≡ suc i → slice_get old i ≡ Some t → opens p t ≡ true) → s ≡ get_or now j s
     → (set now j (slot_with s (option_map cleared_kept s.row)) ≡ cleared_above p s.next old) × (s.next ≤ j) × ((i : ℕ) (t : Slot) → s.next ≡ suc i → slice_get old i ≡ Some t → opens p t ≡ true)
 walk-step p old now at j s linked now_is top within own is =
     let now_at : now ≡ cleared_above p (suc j) old = rw top at now_is in

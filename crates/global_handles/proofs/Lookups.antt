@@ -49,7 +49,8 @@ row_in-push_other (x ∷ rs) r h other = by (eqb h.0 x.number.0) refl (row_in-pu
     by false is rest = rw is rest
 
 -- a change of one row is seen at its number alone
-pub row_in-changed_same : (f : HandleRow → HandleRow) (rows : List HandleRow) (h : HNum) (r : HandleRow) → ((x : HandleRow) → (f x).number ≡ x.number) → row_in rows h ≡ Some r → row_in (changed f h rows) h ≡ Some (f r)
+pub row_in-changed_same : (f : HandleRow → HandleRow) (rows : List HandleRow) (h : HNum) (r : HandleRow)
+    → ((x : HandleRow) → (f x).number ≡ x.number) → row_in rows h ≡ Some r → row_in (changed f h rows) h ≡ Some (f r)
 row_in-changed_same f [] h r keeps is = absurd (none-some r is)
 row_in-changed_same f (x ∷ rs) h r keeps is = by (eqb h.0 x.number.0) refl (row_in-changed_same f rs h r keeps)
   where
@@ -62,7 +63,8 @@ row_in-changed_same f (x ∷ rs) h r keeps is = by (eqb h.0 x.number.0) refl (ro
         let left : row_in rs h ≡ Some r = rw e at is in
         rw (e, e) (rest left)
 
-pub row_in-changed_other : (f : HandleRow → HandleRow) (rows : List HandleRow) (h other : HNum) → ((x : HandleRow) → (f x).number ≡ x.number) → other.0 ≢ h.0 → row_in (changed f h rows) other ≡ row_in rows other
+pub row_in-changed_other : (f : HandleRow → HandleRow) (rows : List HandleRow) (h other : HNum)
+    → ((x : HandleRow) → (f x).number ≡ x.number) → other.0 ≢ h.0 → row_in (changed f h rows) other ≡ row_in rows other
 row_in-changed_other f [] h other keeps apart = refl
 row_in-changed_other f (x ∷ rs) h other keeps apart = by (eqb h.0 x.number.0) refl (row_in-changed_other f rs h other keeps apart)
   where
@@ -94,7 +96,8 @@ row_in-without_other (x ∷ rs) h other apart = by (eqb h.0 x.number.0) refl (ro
     by false e rest = rw (e, rest) refl
 
 -- a renewed row is found under its new number, and no more under the old one; each other look-up stays
-pub row_in-renewed_new : (low high : ℕ) (rows : List HandleRow) (h g : HNum) (p : PNum) → RisesBetween low high rows → high < g.0 → target_in rows h ≡ Some p → row_in (renewed h g rows) g ≡ Some (fresh_row g p Held Strong)
+pub row_in-renewed_new : (low high : ℕ) (rows : List HandleRow) (h g : HNum) (p : PNum) → RisesBetween low high rows
+    → high < g.0 → target_in rows h ≡ Some p → row_in (renewed h g rows) g ≡ Some (fresh_row g p Held Strong)
 row_in-renewed_new low high rows h g p rises above target =
     let new = row_in-above low high (without h rows) g above (RisesBetween-without h low high rows rises) in
     rw target (row_in-push_new (without h rows) (fresh_row g p Held Strong) new)

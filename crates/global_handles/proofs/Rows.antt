@@ -16,7 +16,8 @@ RisesBetween-low a b c [] le rises = omega arith
 RisesBetween-low a b c (r ∷ rs) le rises = (omega arith, rises.1)
 
 -- rows that keep their numbers rise as they did
-pub RisesBetween-map : (f : HandleRow → HandleRow) (low high : ℕ) (rows : List HandleRow) → ((r : HandleRow) → (f r).number ≡ r.number) → RisesBetween low high rows → RisesBetween low high (map f rows)
+pub RisesBetween-map : (f : HandleRow → HandleRow) (low high : ℕ) (rows : List HandleRow)
+    → ((r : HandleRow) → (f r).number ≡ r.number) → RisesBetween low high rows → RisesBetween low high (map f rows)
 RisesBetween-map f low high [] keeps rises = rises
 RisesBetween-map f low high (r ∷ rs) keeps rises = rw (keeps r) (rises.0, RisesBetween-map f r.number.0 high rs keeps rises.1)
 

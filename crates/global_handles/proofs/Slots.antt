@@ -2,7 +2,8 @@
 -- rows do; a look-up by number finds one name, and reads one slot. To write the row of the place to which that name
 -- leads is to change or to remove one row: the other names of the place have other numbers, and the names of the number
 -- are one. Each fact is first one of a single name, and then by an induction over the names.
-use Rattle.std.proofs.Common.{◌≡◌, ◌≢◌, ℕ, ◌+◌, ◌<◌, ◌≤◌, zero, suc, cond, eqb, Bool, true, false, List, [], ◌∷◌, ◌++◌, length, map, filter, slice_get, Option, None, Some, refl, sym, ap, ◌∙◌, inl, inr, eq-eqb, arith}
+use Rattle.std.proofs.Common.{◌≡◌, ◌≢◌, ℕ, ◌+◌, ◌<◌, ◌≤◌, zero, suc, cond, eqb, Bool, true, false, List, [], ◌∷◌, ◌++◌, length, map, filter, slice_get, Option, None, Some, refl, sym, ap, ◌∙◌, inl}
+use Rattle.std.proofs.Common.{inr, eq-eqb, arith}
 use Rattle.std.specs.Prelude.{⊤}
 use Rattle.std.specs.Option.{option_map, option_and_then}
 use Rattle.std.proofs.lemmas.List.{length_push}
@@ -46,7 +47,8 @@ pub named_row-number : (ss : List Slot) (e : Name) (r : HandleRow) → named_row
 named_row-number ss e r is = row_of-number e.number (slice_get ss e.place) r is
 
 -- rows rise as their names do
-RisesBetween-put : (low high n : ℕ) (o : Option HandleRow) (rows : List HandleRow) → ((r : HandleRow) → o ≡ Some r → r.number.0 ≡ n) → low < n → RisesBetween n high rows → RisesBetween low high (put o rows)
+RisesBetween-put : (low high n : ℕ) (o : Option HandleRow) (rows : List HandleRow)
+    → ((r : HandleRow) → o ≡ Some r → r.number.0 ≡ n) → low < n → RisesBetween n high rows → RisesBetween low high (put o rows)
 RisesBetween-put low high n None rows number above rises = RisesBetween-low low n high rows (omega arith) rises
 RisesBetween-put low high n (Some r) rows number above rises =
     let is = number r refl in
@@ -58,7 +60,8 @@ RisesBetween-named low high ss (e ∷ es) rise =
     RisesBetween-put low high e.number (named_row ss e) (rows_of ss es) (named_row-number ss e) rise.0 (RisesBetween-named e.number high ss es rise.1)
 
 -- a look-up by number finds the name, and reads its slot
-row_in-put_here : (low high : ℕ) (o : Option HandleRow) (rows : List HandleRow) (h : HNum) → ((r : HandleRow) → o ≡ Some r → r.number.0 ≡ h.0) → h.0 ≤ low → RisesBetween low high rows → row_in (put o rows) h ≡ o
+row_in-put_here : (low high : ℕ) (o : Option HandleRow) (rows : List HandleRow) (h : HNum)
+    → ((r : HandleRow) → o ≡ Some r → r.number.0 ≡ h.0) → h.0 ≤ low → RisesBetween low high rows → row_in (put o rows) h ≡ o
 row_in-put_here low high None rows h number le rises = row_in-below low high rows h le rises
 row_in-put_here low high (Some r) rows h number le rises = rw (eq-eqb h.0 r.number.0 (sym (number r refl))) refl
 
@@ -72,7 +75,8 @@ pub row_in-named : (low high : ℕ) (ss : List Slot) (es : List Name) (h : HNum)
 row_in-named low high ss [] h rise = refl
 row_in-named low high ss (e ∷ es) h rise = by (eqb h.0 e.number) refl (row_in-named e.number high ss es h rise.1)
   where
-    by : (b : Bool) → eqb h.0 e.number ≡ b → row_in (rows_of ss es) h ≡ option_and_then (named_row ss) (name_in es h) → row_in (rows_of ss (e ∷ es)) h ≡ option_and_then (named_row ss) (name_in (e ∷ es) h)
+    by : (b : Bool) → eqb h.0 e.number ≡ b → row_in (rows_of ss es) h ≡ option_and_then (named_row ss) (name_in es h)
+        → row_in (rows_of ss (e ∷ es)) h ≡ option_and_then (named_row ss) (name_in (e ∷ es) h)
     by true is rest =
         let same : h.0 ≡ e.number = grind (arith, nat_tests) in
         rw is (row_in-put_here e.number high (named_row ss e) (rows_of ss es) h (λ r at. named_row-number ss e r at ∙ sym same) (omega arith) (RisesBetween-named e.number high ss es rise.1))
@@ -210,7 +214,8 @@ pub not_found : (high : ℕ) (ss : List Slot) (es : List Name) (h : HNum) (r : H
 not_found high ss es h r rise none is = none-some r (rw none at (sym (row_in-named 0 high ss es h rise) ∙ is))
 
 -- what was looked up stands as before where names that lead to no row are left out
-pub stands_still : (high : ℕ) (ss : List Slot) (es less : List Name) (h : HNum) (r : HandleRow) (e : Name) → NamesRise 0 high es → NamesRise 0 high less → name_in es h ≡ Some e → row_in (rows_of ss es) h ≡ Some r
+pub stands_still : (high : ℕ) (ss : List Slot) (es less : List Name) (h : HNum) (r : HandleRow) (e : Name)
+    → NamesRise 0 high es → NamesRise 0 high less → name_in es h ≡ Some e → row_in (rows_of ss es) h ≡ Some r
     → (is_named ss e ≡ true → name_in less h ≡ Some e) → rows_of ss less ≡ rows_of ss es → Stands ss less h r e
 stands_still high ss es less h r e rise still found row left rows =
     let named : named_row ss e ≡ Some r = rw found at (sym (row_in-named 0 high ss es h rise) ∙ row) in
@@ -244,7 +249,8 @@ named-was : (ss : List Slot) (i : ℕ) (s : Slot) (e : Name) → slice_get ss i 
 named-was ss i s e there here = rw (here, there) refl
 
 -- what a name leads to is changed as its row is: to write the row of the place of a number is to change that row
-changed-kept : (f : HandleRow → HandleRow) (h : HNum) (n : ℕ) (p : PNum) (o : Option Kept) (k k' : Kept) → o ≡ Some k → k.number ≡ h.0 → k'.number ≡ h.0 → f (row_at h.0 p k) ≡ row_at h.0 p k' → (rows : List HandleRow) → put (kept_row n p (Some k')) (changed f h rows) ≡ changed f h (put (kept_row n p o) rows)
+changed-kept : (f : HandleRow → HandleRow) (h : HNum) (n : ℕ) (p : PNum) (o : Option Kept) (k k' : Kept) → o ≡ Some k → k.number ≡ h.0 → k'.number ≡ h.0
+    → f (row_at h.0 p k) ≡ row_at h.0 p k' → (rows : List HandleRow) → put (kept_row n p (Some k')) (changed f h rows) ≡ changed f h (put (kept_row n p o) rows)
 changed-kept f h n p o k k' is number number' gives rows = rw (is, number, number') (by (eqb n h.0) refl)
   where
     by : (b : Bool) → eqb n h.0 ≡ b → put (cond (eqb n h.0) (Some (row_at n p k')) None) (changed f h rows) ≡ changed f h (put (cond (eqb n h.0) (Some (row_at n p k)) None) rows)
@@ -253,13 +259,15 @@ changed-kept f h n p o k k' is number number' gives rows = rw (is, number, numbe
         rw (e, same, eq-eqb h.0 h.0 refl, gives) refl
     by false e = rw e refl
 
-changed-other : (f : HandleRow → HandleRow) (h : HNum) (n : ℕ) (o : Option HandleRow) → ((r : HandleRow) → o ≡ Some r → r.number.0 ≡ n) → n ≢ h.0 → (rows : List HandleRow) → put o (changed f h rows) ≡ changed f h (put o rows)
+changed-other : (f : HandleRow → HandleRow) (h : HNum) (n : ℕ) (o : Option HandleRow) → ((r : HandleRow) → o ≡ Some r → r.number.0 ≡ n)
+    → n ≢ h.0 → (rows : List HandleRow) → put o (changed f h rows) ≡ changed f h (put o rows)
 changed-other f h n None number apart rows = refl
 changed-other f h n (Some r) number apart rows =
     let no : h.0 ≢ r.number.0 = λ e. apart (sym (number r refl) ∙ sym e) in
     rw (neq-eqb h.0 r.number.0 no) refl
 
-pub changed-rows : (f : HandleRow → HandleRow) (ss : List Slot) (es : List Name) (h : HNum) (i : ℕ) (s : Slot) (k k' : Kept) → OnePlace h.0 i es → slice_get ss i ≡ Some s → s.row ≡ Some k → k.number ≡ h.0 → k'.number ≡ h.0 → f (row_at h.0 s.peer k) ≡ row_at h.0 s.peer k' → rows_of (with_row ss i (Some k')) es ≡ changed f h (rows_of ss es)
+pub changed-rows : (f : HandleRow → HandleRow) (ss : List Slot) (es : List Name) (h : HNum) (i : ℕ) (s : Slot) (k k' : Kept) → OnePlace h.0 i es → slice_get ss i ≡ Some s
+    → s.row ≡ Some k → k.number ≡ h.0 → k'.number ≡ h.0 → f (row_at h.0 s.peer k) ≡ row_at h.0 s.peer k' → rows_of (with_row ss i (Some k')) es ≡ changed f h (rows_of ss es)
 changed-rows f ss [] h i s k k' one there row number number' gives = refl
 changed-rows f ss (e ∷ es) h i s k k' one there row number number' gives =
     rw (changed-rows f ss es h i s k k' one.1 there row number number' gives) (elim (cases_eq e.place i) [
@@ -283,24 +291,29 @@ without-kept h n p k number rows = rw number (by (eqb n h.0) refl)
         rw (e, same, eq-eqb h.0 h.0 refl) refl
     by false e = rw e refl
 
-pub without-rows : (ss : List Slot) (es : List Name) (h : HNum) (low high : ℕ) (i : ℕ) (s : Slot) (k : Kept) (o : Option Kept) → OnePlace h.0 i es → NamesRise low high es → slice_get ss i ≡ Some s → s.row ≡ Some k → k.number ≡ h.0 → ((n : ℕ) → n ≤ high → kept_row n s.peer o ≡ None) → rows_of (with_row ss i o) es ≡ without h (rows_of ss es)
+pub without-rows : (ss : List Slot) (es : List Name) (h : HNum) (low high : ℕ) (i : ℕ) (s : Slot) (k : Kept) (o : Option Kept) → OnePlace h.0 i es → NamesRise low high es
+    → slice_get ss i ≡ Some s → s.row ≡ Some k → k.number ≡ h.0 → ((n : ℕ) → n ≤ high → kept_row n s.peer o ≡ None) → rows_of (with_row ss i o) es ≡ without h (rows_of ss es)
 without-rows ss [] h low high i s k o one rise there row number gone = refl
 without-rows ss (e ∷ es) h low high i s k o one rise there row number gone =
     rw (without-rows ss es h e.number high i s k o one.1 rise.1 there row number gone) (elim (cases_eq e.place i) [
-      | inl here ↦ rw (named-here ss i o s e there here, named-was ss i s e there here, row, gone e.number (NamesRise-within e.number high es rise.1)) (without-kept h e.number s.peer k number (rows_of ss es))
+      | inl here ↦ rw (named-here ss i o s e there here, named-was ss i s e there here, row, gone e.number (NamesRise-within e.number high es rise.1))
+          (without-kept h e.number s.peer k number (rows_of ss es))
       | inr apart ↦ rw (named-other ss i o e apart) (without-other h e.number (named_row ss e) (named_row-number ss e) (λ n. apart (one.0 n)) (rows_of ss es))
     ])
 
 -- the row that stands is removed with what its place keeps
-pub removed-rows : (high : ℕ) (ss : List Slot) (es : List Name) (h : HNum) (r : HandleRow) (e : Name) → NamesRise 0 high es → Stands ss es h r e → rows_of (with_row ss e.place None) es ≡ without h (rows_of ss es)
+pub removed-rows : (high : ℕ) (ss : List Slot) (es : List Name) (h : HNum) (r : HandleRow) (e : Name)
+    → NamesRise 0 high es → Stands ss es h r e → rows_of (with_row ss e.place None) es ≡ without h (rows_of ss es)
 removed-rows high ss es h r e rise st = without-rows ss es h 0 high e.place st.slot st.kept None (OnePlace-found 0 high es h e rise st.found) rise st.there st.row st.same_number (λ n le. refl)
 
 -- it gets another strength with what its place keeps
 abbrev pub strong_as : HNum → HandleRow → Strength → Kept
 strong_as h r strength = record { number = h.0; hold = r.hold; strength = strength; cleared = r.cleared }
 
-pub strength-rows : (high : ℕ) (ss : List Slot) (es : List Name) (h : HNum) (r : HandleRow) (e : Name) (strength : Strength) → NamesRise 0 high es → Stands ss es h r e → rows_of (with_row ss e.place (Some (strong_as h r strength))) es ≡ changed (with_strength strength) h (rows_of ss es)
-strength-rows high ss es h r e strength rise st = changed-rows (with_strength strength) ss es h e.place st.slot st.kept (strong_as h r strength) (OnePlace-found 0 high es h e rise st.found) st.there st.row st.same_number refl (rw (← st.is) refl)
+pub strength-rows : (high : ℕ) (ss : List Slot) (es : List Name) (h : HNum) (r : HandleRow) (e : Name) (strength : Strength) → NamesRise 0 high es
+    → Stands ss es h r e → rows_of (with_row ss e.place (Some (strong_as h r strength))) es ≡ changed (with_strength strength) h (rows_of ss es)
+strength-rows high ss es h r e strength rise st = changed-rows (with_strength strength) ss es h e.place st.slot st.kept
+    (strong_as h r strength) (OnePlace-found 0 high es h e rise st.found) st.there st.row st.same_number refl (rw (← st.is) refl)
 
 -- and its place keeps no more of it than that
 pub kept-cleared : (ss : List Slot) (es : List Name) (h : HNum) (r : HandleRow) (e : Name) → (st : Stands ss es h r e) → (kept_at ss e.place ≡ Some st.kept) × (r.cleared ≡ st.kept.cleared)
@@ -335,15 +348,21 @@ pub named_row-at : (ss : List Slot) (e : Name) (s : Slot) (k : Kept) → slice_g
 named_row-at ss e s k there row number = rw (there, row, number, eq-eqb e.number e.number refl) refl
 
 -- a slot and its name, both put last, put its row last
-pub rows_of-made : (ss : List Slot) (es : List Name) (s : Slot) (e : Name) (k : Kept) → ArePlaced (length ss) es → e.place ≡ length ss → s.row ≡ Some k → k.number ≡ e.number → rows_of (ss ++ s ∷ []) (es ++ e ∷ []) ≡ rows_of ss es ++ row_at e.number s.peer k ∷ []
+pub rows_of-made : (ss : List Slot) (es : List Name) (s : Slot) (e : Name) (k : Kept) → ArePlaced (length ss) es → e.place ≡ length ss
+    → s.row ≡ Some k → k.number ≡ e.number → rows_of (ss ++ s ∷ []) (es ++ e ∷ []) ≡ rows_of ss es ++ row_at e.number s.peer k ∷ []
 rows_of-made ss es s e k placed place row number =
     rw (rows_of-push (ss ++ s ∷ []) es e, rows_of-more ss s es placed, named_row-at (ss ++ s ∷ []) e s k (get_last ss s e.place place) row number) refl
 
 -- a row renewed in its place under a greater number goes last
-pub rows_of-renewed : (ss : List Slot) (es : List Name) (h : HNum) (high : ℕ) (s : Slot) (e : Name) (k k' : Kept) → OnePlace h.0 e.place es → NamesRise 0 high es → slice_get ss e.place ≡ Some s → s.row ≡ Some k → k.number ≡ h.0 → k'.number ≡ e.number → high < e.number
+pub rows_of-renewed : (ss : List Slot) (es : List Name) (h : HNum) (high : ℕ) (s : Slot) (e : Name) (k k' : Kept) → OnePlace h.0 e.place es
+    → NamesRise 0 high es → slice_get ss e.place ≡ Some s → s.row ≡ Some k → k.number ≡ h.0 → k'.number ≡ e.number → high < e.number
     → rows_of (with_row ss e.place (Some k')) (es ++ e ∷ []) ≡ without h (rows_of ss es) ++ row_at e.number s.peer k' ∷ []
 rows_of-renewed ss es h high s e k k' one rise there row number number' above =
-    rw (rows_of-push (with_row ss e.place (Some k')) es e, without-rows ss es h 0 high e.place s k (Some k') one rise there row number gone, named_row-at (with_row ss e.place (Some k')) e (slot_with s (Some k')) k' (with_row-here ss e.place (Some k') s there) refl number') refl
+    rw (
+      rows_of-push (with_row ss e.place (Some k')) es e,
+      without-rows ss es h 0 high e.place s k (Some k') one rise there row number gone,
+      named_row-at (with_row ss e.place (Some k')) e (slot_with s (Some k')) k' (with_row-here ss e.place (Some k') s there) refl number',
+    ) refl
   where
     gone : (n : ℕ) → n ≤ high → kept_row n s.peer (Some k') ≡ None
     gone n le =
@@ -357,7 +376,8 @@ kept_anew n = record { number = n; hold = Held; strength = Strong; cleared = fal
 abbrev pub name_anew : ℕ → Name → Name
 name_anew n e = record { number = n; place = e.place }
 
-pub renewed-rows : (high n : ℕ) (ss : List Slot) (es : List Name) (h : HNum) (r : HandleRow) (e : Name) → NamesRise 0 high es → high < n → Stands ss es h r e → row_in (rows_of ss es) h ≡ Some r → r.cleared ≡ false
+pub renewed-rows : (high n : ℕ) (ss : List Slot) (es : List Name) (h : HNum) (r : HandleRow) (e : Name)
+    → NamesRise 0 high es → high < n → Stands ss es h r e → row_in (rows_of ss es) h ≡ Some r → r.cleared ≡ false
     → rows_of (with_row ss e.place (Some (kept_anew n))) (es ++ name_anew n e ∷ []) ≡ renewed h (record { 0 = n }) (rows_of ss es)
 renewed-rows high n ss es h r e rise above st row uncleared =
     let target : target_in (rows_of ss es) h ≡ Some st.slot.peer = rw (row, uncleared) (ap (λ (t : HandleRow). Some t.peer) (sym st.is)) in
@@ -365,7 +385,8 @@ renewed-rows high n ss es h r e rise above st row uncleared =
     rw target goes
 
 -- so there are as many rows as before
-pub length-renewed : (high n : ℕ) (ss : List Slot) (es : List Name) (h : HNum) (r : HandleRow) (e : Name) → NamesRise 0 high es → high < n → Stands ss es h r e → row_in (rows_of ss es) h ≡ Some r → r.cleared ≡ false
+pub length-renewed : (high n : ℕ) (ss : List Slot) (es : List Name) (h : HNum) (r : HandleRow) (e : Name)
+    → NamesRise 0 high es → high < n → Stands ss es h r e → row_in (rows_of ss es) h ≡ Some r → r.cleared ≡ false
     → length (rows_of (with_row ss e.place (Some (kept_anew n))) (es ++ name_anew n e ∷ [])) ≡ length (rows_of ss es)
 length-renewed high n ss es h r e rise above st row uncleared =
     let goes = rows_of-renewed ss es h high st.slot (name_anew n e) st.kept (kept_anew n) (OnePlace-found 0 high es h e rise st.found) rise st.there st.row st.same_number refl above in
@@ -384,10 +405,12 @@ target-row rows h some = by (row_in rows h) refl
     by (Some r) is = by_cleared r r.cleared is refl
 
 -- a cleared slot's row is cleared
-cleared-put : (p : PNum) (n : ℕ) (s : Slot) (o : Option Kept) (rows : List HandleRow) → s.row ≡ o → put (row_of n (cleared_slot p s)) (cleared_for p rows) ≡ cleared_for p (put (kept_row n s.peer o) rows)
+cleared-put : (p : PNum) (n : ℕ) (s : Slot) (o : Option Kept) (rows : List HandleRow) → s.row ≡ o
+    → put (row_of n (cleared_slot p s)) (cleared_for p rows) ≡ cleared_for p (put (kept_row n s.peer o) rows)
 cleared-put p n s o rows row = by (eqb p.0 s.peer.0) o refl row
   where
-    by_number : (t : Bool) (k : Kept) → eqb p.0 s.peer.0 ≡ true → put (cond t (Some (row_at n s.peer (cleared_kept k))) None) (cleared_for p rows) ≡ cleared_for p (put (cond t (Some (row_at n s.peer k)) None) rows)
+    by_number : (t : Bool) (k : Kept) → eqb p.0 s.peer.0 ≡ true
+        → put (cond t (Some (row_at n s.peer (cleared_kept k))) None) (cleared_for p rows) ≡ cleared_for p (put (cond t (Some (row_at n s.peer k)) None) rows)
     by_number true k is = rw is refl
     by_number false k is = refl
 
@@ -406,7 +429,8 @@ get_map p [] i = refl
 get_map p (s ∷ ss) zero = refl
 get_map p (s ∷ ss) (suc i) = get_map p ss i
 
-cleared-slot : (p : PNum) (n : ℕ) (o : Option Slot) (rows : List HandleRow) → put (option_and_then (row_of n) (option_map (cleared_slot p) o)) (cleared_for p rows) ≡ cleared_for p (put (option_and_then (row_of n) o) rows)
+cleared-slot : (p : PNum) (n : ℕ) (o : Option Slot) (rows : List HandleRow)
+    → put (option_and_then (row_of n) (option_map (cleared_slot p) o)) (cleared_for p rows) ≡ cleared_for p (put (option_and_then (row_of n) o) rows)
 cleared-slot p n None rows = refl
 cleared-slot p n (Some s) rows = cleared-put p n s s.row rows refl
 
@@ -445,7 +469,8 @@ pub rows_of-nth : (ss : List Slot) (es : List Name) (i : ℕ) → length es ≤ 
 rows_of-nth ss [] i le = refl
 rows_of-nth ss (e ∷ es) i le = by (named_row ss e) i refl (rows_of-nth ss es)
   where
-    by : (o : Option HandleRow) (i : ℕ) → named_row ss e ≡ o → ((j : ℕ) → length es ≤ length (rows_of ss es) → slice_get (rows_of ss es) j ≡ option_and_then (named_row ss) (slice_get es j)) → slice_get (rows_of ss (e ∷ es)) i ≡ option_and_then (named_row ss) (slice_get (e ∷ es) i)
+    by : (o : Option HandleRow) (i : ℕ) → named_row ss e ≡ o → ((j : ℕ) → length es ≤ length (rows_of ss es) → slice_get (rows_of ss es) j ≡ option_and_then (named_row ss) (slice_get es j))
+        → slice_get (rows_of ss (e ∷ es)) i ≡ option_and_then (named_row ss) (slice_get (e ∷ es) i)
     by None i is rest =
         let few : suc (length es) ≤ length (rows_of ss es) = rw is at le in
         absurd (omega (arith, few, length-rows-le ss es))
@@ -499,7 +524,8 @@ get_some (r ∷ rs) zero below none = none-some r (sym none)
 get_some (r ∷ rs) (suc i) below none = get_some rs i (omega arith) none
 
 -- names before the middle have smaller numbers than it, those behind it greater ones
-pub below-middle : (high : ℕ) (es : List Name) (m n : ℕ) (x : Name) → NamesRise 0 high es → slice_get es m ≡ Some x → x.number < n → (i : ℕ) (e : Name) → i < m + 1 → slice_get es i ≡ Some e → e.number < n
+pub below-middle : (high : ℕ) (es : List Name) (m n : ℕ) (x : Name) → NamesRise 0 high es
+    → slice_get es m ≡ Some x → x.number < n → (i : ℕ) (e : Name) → i < m + 1 → slice_get es i ≡ Some e → e.number < n
 below-middle high es m n x rise there less i e below at = elim (cases_lt i m) [
   | inl lt ↦ omega (arith, NamesRise-order 0 high es i m e x rise lt at there)
   | inr ge ↦

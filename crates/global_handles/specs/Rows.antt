@@ -1,6 +1,7 @@
 -- What contracts see of a handle table: its rows in rising number, how many handles were made, the greatest number
 -- given, and the room for more.
-use Rattle.std.specs.Prelude.{◌≡◌, ◌==◌, ◌<◌, ◌≤◌, ℕ, Bool, true, false, List, [], ◌∷◌, ◌++◌, Option, None, Some, map, filter, not, if◌then◌else◌}
+use Rattle.std.specs.Prelude.{◌≡◌, ◌==◌, ◌<◌, ◌≤◌, ℕ, Bool, true, false, List, [], ◌∷◌, ◌++◌, Option, None, Some, map}
+use Rattle.std.specs.Prelude.{filter, not, if◌then◌else◌}
 use Rattle.std.specs.Option.{option_map, option_and_then}
 use Rattle.joint_machine.specs.declared.names.HNum.{HNum}
 use Rattle.joint_machine.specs.declared.names.PNum.{PNum}
@@ -55,7 +56,13 @@ fresh_row h p hold strength = record { number = h; peer = p; hold = hold; streng
 
 -- the row with another strength
 abbrev pub with_strength : Strength → HandleRow → HandleRow
-with_strength strength r = record { number = r.number; peer = r.peer; hold = r.hold; strength = strength; cleared = r.cleared }
+with_strength strength r = record {
+  number = r.number;
+  peer = r.peer;
+  hold = r.hold;
+  strength = strength;
+  cleared = r.cleared;
+}
 
 -- the row, cleared
 abbrev pub cleared_row : HandleRow → HandleRow

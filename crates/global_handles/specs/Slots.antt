@@ -1,5 +1,6 @@
 -- How the table keeps its rows: a slot for each handle that make made, and the names, which lead from numbers to slots.
-use Rattle.std.specs.Prelude.{◌≡◌, ◌==◌, ◌+◌, ◌*◌, ◌-◌, ◌≤◌, ◌<◌, ℕ, Bool, zero, suc, true, false, not, List, [], ◌∷◌, Option, None, Some, ⊤, is_some, length, slice_get, slice_index_or, if◌then◌else◌}
+use Rattle.std.specs.Prelude.{◌≡◌, ◌==◌, ◌+◌, ◌*◌, ◌-◌, ◌≤◌, ◌<◌, ℕ, Bool, zero, suc, true, false, not, List, [], ◌∷◌}
+use Rattle.std.specs.Prelude.{Option, None, Some, ⊤, is_some, length, slice_get, slice_index_or, if◌then◌else◌}
 use Rattle.std.specs.Option.{option_map, option_and_then}
 use Rattle.std.specs.Vec.{vec_capacity}
 use Rattle.joint_machine.specs.declared.names.HNum.{HNum}
@@ -69,14 +70,24 @@ numbered f n (s ∷ ss) = f n s ∷ numbered f (n + 1) ss
 
 -- the slots, where that of a number leads on to another one; 0 is the number of no slot
 abbrev pub next_at : ℕ → ℕ → ℕ → Slot → Slot
-next_at m next n s = record { peer = s.peer; next = if n == m then next else s.next; previous = s.previous; row = s.row }
+next_at m next n s = record {
+  peer = s.peer;
+  next = if n == m then next else s.next;
+  previous = s.previous;
+  row = s.row;
+}
 
 abbrev pub with_next : List Slot → ℕ → ℕ → List Slot
 with_next ss m next = numbered (next_at m next) 1 ss
 
 -- the slots, where that of a number leads back to another one
 abbrev pub previous_at : ℕ → ℕ → ℕ → Slot → Slot
-previous_at m previous n s = record { peer = s.peer; next = s.next; previous = if n == m then previous else s.previous; row = s.row }
+previous_at m previous n s = record {
+  peer = s.peer;
+  next = s.next;
+  previous = if n == m then previous else s.previous;
+  row = s.row;
+}
 
 abbrev pub with_previous : List Slot → ℕ → ℕ → List Slot
 with_previous ss m previous = numbered (previous_at m previous) 1 ss
@@ -87,7 +98,8 @@ cleared_kept k = record { number = k.number; hold = k.hold; strength = k.strengt
 
 -- the slot, with its row cleared where it names the peer
 abbrev pub cleared_slot : PNum → Slot → Slot
-cleared_slot p s = if p.0 == s.peer.0 then record { peer = s.peer; next = s.next; previous = s.previous; row = option_map cleared_kept s.row } else s
+cleared_slot p s = if p.0 == s.peer.0 then
+    record { peer = s.peer; next = s.next; previous = s.previous; row = option_map cleared_kept s.row } else s
 
 -- there is a row, and it isn't cleared
 abbrev pub is_open : Option Kept → Bool
@@ -106,7 +118,8 @@ pub record IsLastOpen (ss : List Slot) (p : PNum) (n high : ℕ) : Type 0 where
 
 -- each slot with a row to clear leads on to the one before it of the same peer
 abbrev pub AreLinkedSlots : List Slot → Type 0
-AreLinkedSlots ss = (i : ℕ) (s : Slot) → slice_get ss i ≡ Some s → (p : PNum) → opens p s ≡ true → IsLastOpen ss p s.next i
+AreLinkedSlots ss = (i : ℕ) (s : Slot) → slice_get ss i ≡ Some s
+    → (p : PNum) → opens p s ≡ true → IsLastOpen ss p s.next i
 
 -- what the number m leads back to, which is the head of the peer at 0 and else a slot of it with a row to clear,
 -- leads on to the number n
@@ -116,7 +129,8 @@ pub record LeadsBack (ss : List Slot) (head : PNum → ℕ) (p : PNum) (m n : �
 
 -- each slot with a row to clear leads back to what leads on to it
 abbrev pub IsBacked : List Slot → (PNum → ℕ) → Type 0
-IsBacked ss head = (i : ℕ) (s : Slot) → slice_get ss i ≡ Some s → (p : PNum) → opens p s ≡ true → LeadsBack ss head p s.previous (suc i)
+IsBacked ss head = (i : ℕ) (s : Slot) → slice_get ss i ≡ Some s
+    → (p : PNum) → opens p s ≡ true → LeadsBack ss head p s.previous (suc i)
 
 -- from the head of each peer on, just the slots with a row to clear for it are chained, the last made first
 pub record IsChained (ss : List Slot) (head : PNum → ℕ) : Type 0 where
@@ -130,7 +144,13 @@ head_in heads p = slice_index_or heads p.0 0
 
 -- what contracts see of a table with these fields
 abbrev pub table_of : Inside → Table
-table_of t = record { rows = rows_of t.slots.items t.names.items; made = length t.slots.items; last = t.last; room = t.ready; holes = length t.names.items - length (rows_of t.slots.items t.names.items) }
+table_of t = record {
+  rows = rows_of t.slots.items t.names.items;
+  made = length t.slots.items;
+  last = t.last;
+  room = t.ready;
+  holes = length t.names.items - length (rows_of t.slots.items t.names.items);
+}
 
 -- what holds of a table's fields: at most 65,535 handles were made, the rows are counted and are no more than the
 -- slots, the names rise up to the greatest number given and lead to slots, there are at most two for each slot, just

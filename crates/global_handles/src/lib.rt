@@ -36,11 +36,17 @@
 // the definition; `release` refuses exactly a number that isn't in the table, and `make` all after its 65,535th row.
 #![tactic(auto)]
 
-ghost use Rattle.std.specs.Prelude.{◌≡◌, ◌==◌, ◌+◌, ◌*◌, ◌<◌, ◌≤◌, ◌↔◌, max, List, [], ◌∷◌, ◌++◌, true, length, map, filter, slice_get, All, ok_or, ℕ, ◌-◌, ◌≢◌, if◌then◌else◌, Ok, Err, None, Some, OnOk, OnErr, IfOk, IsOk};
+ghost use Rattle.std.specs.Prelude.{◌≡◌, ◌==◌, ◌+◌, ◌*◌, ◌<◌, ◌≤◌, ◌↔◌, max, List, [], ◌∷◌, ◌++◌, true, length, map};
+ghost use Rattle.std.specs.Prelude.{filter, slice_get, All, ok_or, ℕ, ◌-◌, ◌≢◌, if◌then◌else◌, Ok, Err, None, Some};
+ghost use Rattle.std.specs.Prelude.{OnOk, OnErr, IfOk, IsOk};
 ghost use Rattle.std.specs.Option.{option_map};
 ghost use Rattle.std.specs.Vec.{vec_capacity, vec_len};
-ghost use Rattle.global_handles.specs.Slots.{name_in, named_row, is_named, rows_of, with_row, with_next, with_previous, head_in, cleared_slot, NamesRise, ArePlaced, AreLinkedSlots, IsLastOpen, IsChained};
-ghost use Rattle.global_handles.specs.Rows.{row_in, target_in, strength_in, cleared_in, fresh_row, renewed, with_strength, changed, cleared_for, without, not_live, is_alive, back_of, IsWeakFor, IsRising};
+ghost use Rattle.global_handles.specs.Slots.{name_in, named_row, is_named, rows_of, with_row, with_next, with_previous};
+ghost use Rattle.global_handles.specs.Slots.{head_in, cleared_slot, NamesRise, ArePlaced, AreLinkedSlots, IsLastOpen};
+ghost use Rattle.global_handles.specs.Slots.{IsChained};
+ghost use Rattle.global_handles.specs.Rows.{row_in, target_in, strength_in, cleared_in, fresh_row, renewed};
+ghost use Rattle.global_handles.specs.Rows.{with_strength, changed, cleared_for, without, not_live, is_alive, back_of};
+ghost use Rattle.global_handles.specs.Rows.{IsWeakFor, IsRising};
 
 use joint_model::{HNum, PNum, list_with_room};
 use std::alloc::{AllocError, Global};
@@ -187,7 +193,12 @@ impl Slot {
 
     // The slot, with its row cleared.
     fn cleared(self) -> Slot
-        ensures { result ≡ record { peer = self.peer; next = self.next; previous = self.previous; row = option_map cleared_kept self.row } }
+        ensures { result ≡ record {
+          peer = self.peer;
+          next = self.next;
+          previous = self.previous;
+          row = option_map cleared_kept self.row;
+        } }
     {
         let row = match self.row {
             Some(kept) => Some(Kept {
@@ -349,8 +360,10 @@ impl HandleTable {
         requires weak { strength_in self.old.rows h ≡ Some Strength.Weak }
         requires last { self.old.last < 4294967295 }
         ensures cleared { (result ≡ Back.Cleared) ↔ (cleared_in self.old.rows h ≡ Some true) }
-        ensures gone { result ≡ Back.Cleared → (self.new.rows ≡ without h self.old.rows) × (self.new.last ≡ self.old.last) }
-        ensures anew { (g : HNum) → result ≡ Back.Alive g → (self.new.rows ≡ renewed h g self.old.rows) × (g.0 ≡ self.old.last + 1) × (self.new.last ≡ self.old.last + 1) }
+        ensures gone { result ≡ Back.Cleared
+            → (self.new.rows ≡ without h self.old.rows) × (self.new.last ≡ self.old.last) }
+        ensures anew { (g : HNum) → result ≡ Back.Alive g → (self.new.rows ≡ renewed h g self.old.rows)
+            × (g.0 ≡ self.old.last + 1) × (self.new.last ≡ self.old.last + 1) }
         ensures made { self.new.made ≡ self.old.made }
         ensures room { self.new.room ≡ self.old.room }
         ensures rising { IsRising self.new }
@@ -493,7 +506,8 @@ impl HandleTable {
 #[inline(always)]
 fn look_up(names: &[Name], slots: &[Slot], h: HNum) -> Option<(Name, HandleRow)>
     requires { (high : ℕ) × NamesRise 0 high names.now }
-    ensures some { (e : Name) (r : HandleRow) → result ≡ Some (e, r) → (name_in names.now h ≡ Some e) × (row_in (rows_of slots.now names.now) h ≡ Some r) }
+    ensures some { (e : Name) (r : HandleRow) → result ≡ Some (e, r)
+        → (name_in names.now h ≡ Some e) × (row_in (rows_of slots.now names.now) h ≡ Some r) }
     ensures none { result ≡ None → row_in (rows_of slots.now names.now) h ≡ None }
 {
     let name = find(names, h)?;
@@ -648,7 +662,8 @@ fn make_gap(names: &mut Vec<Name>, slots: &[Slot])
     ensures gap { length names.new.items < 2 * length slots.now }
     ensures rows { rows_of slots.now names.new.items ≡ rows_of slots.now names.old.items }
     ensures rise { (high : ℕ) → NamesRise 0 high names.old.items → NamesRise 0 high names.new.items }
-    ensures found { (h : HNum) (e : Name) → name_in names.old.items h ≡ Some e → is_named slots.now e ≡ true → name_in names.new.items h ≡ Some e }
+    ensures found { (h : HNum) (e : Name) → name_in names.old.items h ≡ Some e
+        → is_named slots.now e ≡ true → name_in names.new.items h ≡ Some e }
     ensures placed { (n : ℕ) → ArePlaced n names.old.items → ArePlaced n names.new.items }
     ensures capacity { vec_capacity names.new ≡ vec_capacity names.old }
 {
@@ -696,7 +711,8 @@ fn remove_row(slots: &mut Vec<Slot>, heads: &mut Vec<u32>, place: u32)
     requires within { place < length slots.old.items }
     requires chained { IsChained slots.old.items (head_in heads.old.items) }
     ensures chained { IsChained slots.new.items (head_in heads.new.items) }
-    ensures rows { (names : List Name) → rows_of slots.new.items names ≡ rows_of (with_row slots.old.items place None) names }
+    ensures rows { (names : List Name) → rows_of slots.new.items names ≡ rows_of
+        (with_row slots.old.items place None) names }
     ensures len { length slots.new.items ≡ length slots.old.items }
     ensures capacity { vec_capacity slots.new ≡ vec_capacity slots.old }
     ensures heads_len { length heads.new.items ≡ length heads.old.items }

@@ -18,7 +18,8 @@ use Rattle.graph_listing.specs.Numbers.{number_in}
 
 -- the number of a node
 pub number_is : (nodes : List Node) (i : ℕ) (r : MNum) → HasNode nodes i (λ n. n.number ≡ r) → number_in nodes i ≡ r.0
-number_is nodes i r h = get_or_from_slice_get (numbers_of nodes) i r.0 0 (slice_get-map (λ (n : Node). n.number.0) nodes i ∙ (ap (option_map (λ (n : Node). n.number.0)) h.1 ∙ ap (λ (m : MNum). Some m.0) h.2))
+number_is nodes i r h = get_or_from_slice_get (numbers_of nodes) i r.0 0
+    (slice_get-map (λ (n : Node). n.number.0) nodes i ∙ (ap (option_map (λ (n : Node). n.number.0)) h.1 ∙ ap (λ (m : MNum). Some m.0) h.2))
 
 -- numbers, and others behind them
 numbers-append : (a b : List ℕ) → after_spaces (lettered 109 (a ++ b)) ≡ after_spaces (lettered 109 a) ++ after_spaces (lettered 109 b)
@@ -26,7 +27,8 @@ numbers-append a b = ap after_spaces (map-append (λ m. 109 ∷ decimal m) a b) 
 
 -- one more number
 pub numbers_next : (xs : List ℕ) (k n : ℕ) → slice_get xs k ≡ Some n → after_spaces (lettered 109 (take (k + 1) xs)) ≡ after_spaces (lettered 109 (take k xs)) ++ 32 ∷ 109 ∷ decimal n
-numbers_next xs k n e = ap (λ l. after_spaces (lettered 109 l)) (take-next xs k n e) ∙ (numbers-append (take k xs) (n ∷ []) ∙ ap (λ t. after_spaces (lettered 109 (take k xs)) ++ 32 ∷ 109 ∷ t) (append-nil (decimal n)))
+numbers_next xs k n e = ap (λ l. after_spaces (lettered 109 l)) (take-next xs k n e)
+    ∙ (numbers-append (take k xs) (n ∷ []) ∙ ap (λ t. after_spaces (lettered 109 (take k xs)) ++ 32 ∷ 109 ∷ t) (append-nil (decimal n)))
 
 -- the first numbers, and the others
 pub numbers_split : (xs : List ℕ) (k : ℕ) → after_spaces (lettered 109 xs) ≡ after_spaces (lettered 109 (take k xs)) ++ after_spaces (lettered 109 (drop k xs))
@@ -45,7 +47,8 @@ pub components_next : (comps : List (List ℕ)) (k : ℕ) (m : List ℕ) → sli
 components_next comps k m e =
     let less = slice_get_within comps k m e in
     let count : 0 + length (take k comps) ≡ k = omega (arith, length-take k comps, less) in
-    ap (components_text 0) (take-next comps k m e) ∙ (components-append 0 (take k comps) (m ∷ []) ∙ ap (λ t. components_text 0 (take k comps) ++ t) (append-nil (component_text (0 + length (take k comps)) m) ∙ ap (λ n. component_text n m) count))
+    ap (components_text 0) (take-next comps k m e) ∙ (components-append 0 (take k comps) (m ∷ [])
+    ∙ ap (λ t. components_text 0 (take k comps) ++ t) (append-nil (component_text (0 + length (take k comps)) m) ∙ ap (λ n. component_text n m) count))
 
 -- the lines of components, one of them, and the rest
 pub record SplitAt (whole before piece : List ℕ) : Type 0 where
@@ -55,7 +58,8 @@ pub record SplitAt (whole before piece : List ℕ) : Type 0 where
 pub components_split : (comps : List (List ℕ)) (k : ℕ) (m : List ℕ) → slice_get comps k ≡ Some m → SplitAt (components_text 0 comps) (components_text 0 (take k comps)) (component_text k m)
 components_split comps k m e = record {
   rest = components_text (0 + length (take (k + 1) comps)) (drop (k + 1) comps);
-  whole_is = ap (components_text 0) (sym (take-append-drop (k + 1) comps)) ∙ (components-append 0 (take (k + 1) comps) (drop (k + 1) comps) ∙ ap (λ t. t ++ components_text (0 + length (take (k + 1) comps)) (drop (k + 1) comps)) (components_next comps k m e));
+  whole_is = ap (components_text 0) (sym (take-append-drop (k + 1) comps))
+      ∙ (components-append 0 (take (k + 1) comps) (drop (k + 1) comps) ∙ ap (λ t. t ++ components_text (0 + length (take (k + 1) comps)) (drop (k + 1) comps)) (components_next comps k m e));
 }
 
 -- pairs, and others behind them
@@ -69,7 +73,8 @@ references_next pairs k p e = ap references_text (take-next pairs k p e) ∙ (re
 pub references_split : (pairs : List (ℕ × ℕ)) (k : ℕ) (p : ℕ × ℕ) → slice_get pairs k ≡ Some p → SplitAt (references_text pairs) (references_text (take k pairs)) (reference_text p)
 references_split pairs k p e = record {
   rest = references_text (drop (k + 1) pairs);
-  whole_is = ap references_text (sym (take-append-drop (k + 1) pairs)) ∙ (references-append (take (k + 1) pairs) (drop (k + 1) pairs) ∙ ap (λ t. t ++ references_text (drop (k + 1) pairs)) (references_next pairs k p e));
+  whole_is = ap references_text (sym (take-append-drop (k + 1) pairs))
+      ∙ (references-append (take (k + 1) pairs) (drop (k + 1) pairs) ∙ ap (λ t. t ++ references_text (drop (k + 1) pairs)) (references_next pairs k p e));
 }
 
 abbrev pub no_members : List ℕ
@@ -92,14 +97,16 @@ heavy_of f (x ∷ comps) heavy zero l u = absurd (omega arith)
 heavy_of f (x ∷ comps) heavy (suc k) l u = heavy_of f comps heavy k (omega arith) (omega arith)
 
 -- so what a listing's components answer is a row of all of them
-pub row_at : (f : ℕ → ℕ) (comps : List (List ℕ)) (heavy k : ℕ) (m : List ℕ) → k < length comps + heavy → (k < length comps → slice_get comps k ≡ Some m) → (length comps ≤ k → m ≡ []) → slice_get (map (map f) comps ++ replicate heavy no_members) k ≡ Some (map f m)
+pub row_at : (f : ℕ → ℕ) (comps : List (List ℕ)) (heavy k : ℕ) (m : List ℕ) → k < length comps + heavy → (k < length comps → slice_get comps k ≡ Some m)
+    → (length comps ≤ k → m ≡ []) → slice_get (map (map f) comps ++ replicate heavy no_members) k ≡ Some (map f m)
 row_at f comps heavy k m few here none = ⊎_elim
     (λ (l : k < length comps). row_of f comps heavy k m l (here l))
     (λ (l : length comps ≤ k). heavy_of f comps heavy k l few ∙ ap (λ (x : List ℕ). Some (map f x)) (sym (none l)))
     (cases_lt k (length comps))
 
 -- the members of each component are nodes
-pub members_of : (n : ℕ) (comps : List (List ℕ)) (k : ℕ) (m : List ℕ) → All (All (λ x. x < n)) comps → (k < length comps → slice_get comps k ≡ Some m) → (length comps ≤ k → m ≡ []) → All (λ x. x < n) m
+pub members_of : (n : ℕ) (comps : List (List ℕ)) (k : ℕ) (m : List ℕ) → All (All (λ x. x < n)) comps
+    → (k < length comps → slice_get comps k ≡ Some m) → (length comps ≤ k → m ≡ []) → All (λ x. x < n) m
 members_of n comps k m all here none = ⊎_elim
     (λ (l : k < length comps). All-contains (All (λ x. x < n)) comps m all (Contains-at comps k m (here l)))
     (λ (l : length comps ≤ k). subst (All (λ x. x < n)) (sym (none l)) (All-nil (λ x. x < n)))

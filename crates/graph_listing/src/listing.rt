@@ -6,7 +6,8 @@ ghost use Rattle.byte_streams.specs.Sending.{Sends};
 ghost use Rattle.byte_streams.specs.Spaced.{after_spaces};
 ghost use Rattle.history_report.specs.Lists.{lettered, listed};
 ghost use Rattle.history_report.specs.Report.{end_text};
-ghost use Rattle.graph_listing.specs.Listing.{all_comps, component_text, components_text, cycle_lines, head_text, reference_text, references_text};
+ghost use Rattle.graph_listing.specs.Listing.{all_comps, component_text, components_text, cycle_lines, head_text};
+ghost use Rattle.graph_listing.specs.Listing.{reference_text, references_text};
 ghost use Rattle.graph_listing.specs.Numbers.{AreOfNodes, listed_of, number_in};
 
 use bridge_graph::DeadGraph;
@@ -22,7 +23,8 @@ fn write_numbers<K: Sink>(
     out: &mut K,
 ) -> Result<(), Failed>
     requires nodes { All (λ x. x < length graph.now.nodes) objs.now }
-    ensures { Sends (K.held out.old) (K.held out.new) line.old.text line.new.text (K.faults out.old) (K.faults out.new) result (after_spaces (lettered 109 (map (number_in graph.now.nodes) objs.now))) }
+    ensures { Sends (K.held out.old) (K.held out.new) line.old.text line.new.text (K.faults out.old)
+        (K.faults out.new) result (after_spaces (lettered 109 (map (number_in graph.now.nodes) objs.now))) }
 {
     for x in objs {
         line.make_room(out)?;
@@ -40,7 +42,8 @@ fn write_list<K: Sink>(
 ) -> Result<(), Failed>
     requires nodes { All (λ x. x < length graph.now.nodes) objs.now }
     requires room { 2 ≤ line.old.room }
-    ensures { Sends (K.held out.old) (K.held out.new) line.old.text line.new.text (K.faults out.old) (K.faults out.new) result (after_spaces (listed 109 (map (number_in graph.now.nodes) objs.now))) }
+    ensures { Sends (K.held out.old) (K.held out.new) line.old.text line.new.text (K.faults out.old)
+        (K.faults out.new) result (after_spaces (listed 109 (map (number_in graph.now.nodes) objs.now))) }
 {
     if objs.is_empty() {
         line.word(*b"-");
@@ -51,7 +54,8 @@ fn write_list<K: Sink>(
 
 // Writes a component's line up to its members.
 fn write_head<K: Sink>(c: u32, line: &mut Line, out: &mut K) -> Result<(), Failed>
-    ensures sent { Sends (K.held out.old) (K.held out.new) line.old.text line.new.text (K.faults out.old) (K.faults out.new) result (head_text c) }
+    ensures sent { Sends (K.held out.old) (K.held out.new) line.old.text line.new.text
+        (K.faults out.old) (K.faults out.new) result (head_text c) }
     ensures room { OnOk result (2 ≤ line.new.room) }
 {
     line.make_room(out)?;
@@ -62,7 +66,8 @@ fn write_head<K: Sink>(c: u32, line: &mut Line, out: &mut K) -> Result<(), Faile
 
 // Writes the end of a line.
 fn write_newline<K: Sink>(line: &mut Line, out: &mut K) -> Result<(), Failed>
-    ensures { Sends (K.held out.old) (K.held out.new) line.old.text line.new.text (K.faults out.old) (K.faults out.new) result (10 ∷ []) }
+    ensures { Sends (K.held out.old) (K.held out.new) line.old.text line.new.text
+        (K.faults out.old) (K.faults out.new) result (10 ∷ []) }
 {
     line.make_room(out)?;
     line.text(b"\n");
@@ -78,7 +83,8 @@ fn write_component<K: Sink>(
     out: &mut K,
 ) -> Result<(), Failed>
     requires nodes { All (λ x. x < length graph.now.nodes) objs.now }
-    ensures { Sends (K.held out.old) (K.held out.new) line.old.text line.new.text (K.faults out.old) (K.faults out.new) result (component_text c (map (number_in graph.now.nodes) objs.now)) }
+    ensures { Sends (K.held out.old) (K.held out.new) line.old.text line.new.text (K.faults out.old)
+        (K.faults out.new) result (component_text c (map (number_in graph.now.nodes) objs.now)) }
 {
     write_head(c, line, out)?;
     write_list(graph, objs, line, out)?;
@@ -93,7 +99,8 @@ fn write_components<K: Sink>(
     out: &mut K,
 ) -> Result<(), Failed>
     requires nodes { AreOfNodes graph.now.nodes comps.now.comps }
-    ensures { Sends (K.held out.old) (K.held out.new) line.old.text line.new.text (K.faults out.old) (K.faults out.new) result (components_text 0 (all_comps (listed_of 0 graph.now comps.now))) }
+    ensures { Sends (K.held out.old) (K.held out.new) line.old.text line.new.text (K.faults out.old)
+        (K.faults out.new) result (components_text 0 (all_comps (listed_of 0 graph.now comps.now))) }
 {
     for c in 0..comps.len() {
         write_component(graph, c, comps.objs(c), line, out)?;
@@ -103,7 +110,8 @@ fn write_components<K: Sink>(
 
 // Writes the line of a cross-reference.
 fn write_reference<K: Sink>(pair: (u32, u32), line: &mut Line, out: &mut K) -> Result<(), Failed>
-    ensures { Sends (K.held out.old) (K.held out.new) line.old.text line.new.text (K.faults out.old) (K.faults out.new) result (reference_text pair) }
+    ensures { Sends (K.held out.old) (K.held out.new) line.old.text line.new.text
+        (K.faults out.old) (K.faults out.new) result (reference_text pair) }
 {
     line.make_room(out)?;
     line.text(b"xref");
@@ -115,7 +123,8 @@ fn write_reference<K: Sink>(pair: (u32, u32), line: &mut Line, out: &mut K) -> R
 
 // Writes the lines of all cross-references.
 fn write_references<K: Sink>(comps: &Components, line: &mut Line, out: &mut K) -> Result<(), Failed>
-    ensures { Sends (K.held out.old) (K.held out.new) line.old.text line.new.text (K.faults out.old) (K.faults out.new) result (references_text comps.now.pairs) }
+    ensures { Sends (K.held out.old) (K.held out.new) line.old.text line.new.text
+        (K.faults out.old) (K.faults out.new) result (references_text comps.now.pairs) }
 {
     for i in 0..comps.xrefs() {
         write_reference(comps.xref(i), line, out)?;
@@ -133,7 +142,8 @@ pub fn write_listing<K: Sink>(
     out: &mut K,
 ) -> Result<(), Failed>
     requires nodes { AreOfNodes graph.now.nodes comps.now.comps }
-    ensures { Writes (K.held out.old) (K.held out.new) (K.faults out.old) (K.faults out.new) result (cycle_lines (listed_of cycle.0 graph.now comps.now)) }
+    ensures { Writes (K.held out.old) (K.held out.new) (K.faults out.old)
+        (K.faults out.new) result (cycle_lines (listed_of cycle.0 graph.now comps.now)) }
 {
     let mut line = Line::new();
     line.text(b"cycle ");

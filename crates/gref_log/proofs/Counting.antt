@@ -64,7 +64,8 @@ pub record Steps (s : Linkage) (m : Made) (told : Told) (b : Bool) : Type 0 wher
   pub names : AreNamesKept (peer_after s.peer m told b).peers.names (peer_after s.peer m told b).table
 
 module _ (s : Linkage) (k : IsLinkageKept s) (names : AreNamesKept s.peer.peers.names s.peer.table) where
-  released : (t : Thread) (l : ℕ) (o : Op) (m : Made) (told : Told) → IsEvent t o → CallerAllows s.control s.managed.managed s.peer.peers.issued t l o m.reply m.cites told → (h : HNum) → o ≡ op.Release h → HasStrength s.peer h.0 strong
+  released : (t : Thread) (l : ℕ) (o : Op) (m : Made) (told : Told) → IsEvent t o
+      → CallerAllows s.control s.managed.managed s.peer.peers.issued t l o m.reply m.cites told → (h : HNum) → o ≡ op.Release h → HasStrength s.peer h.0 strong
   released t l (op.Release g) m told e w h q = subst (λ (z : HNum). HasStrength s.peer z.0 strong) (let p : g ≡ h = cc in p) (at t e w)
     where
       at : (t : Thread) → IsEvent t (op.Release g) → CallerAllows s.control s.managed.managed s.peer.peers.issued t l (op.Release g) m.reply m.cites told → HasStrength s.peer g.0 strong
@@ -73,7 +74,8 @@ module _ (s : Linkage) (k : IsLinkageKept s) (names : AreNamesKept s.peer.peers.
       at C e w = absurd e
   released t l o m told e w h q = (let f : ⊥ = cc in absurd f)
 
-  restored : (t : Thread) (l : ℕ) (o : Op) (m : Made) (told : Told) → IsEvent t o → CallerAllows s.control s.managed.managed s.peer.peers.issued t l o m.reply m.cites told → (h : HNum) → o ≡ op.Restore h → HasStrength s.peer h.0 weak
+  restored : (t : Thread) (l : ℕ) (o : Op) (m : Made) (told : Told) → IsEvent t o
+      → CallerAllows s.control s.managed.managed s.peer.peers.issued t l o m.reply m.cites told → (h : HNum) → o ≡ op.Restore h → HasStrength s.peer h.0 weak
   restored t l (op.Restore g) m told e w h q = subst (λ (z : HNum). HasStrength s.peer z.0 weak) (let p : g ≡ h = cc in p) (at t e w)
     where
       at : (t : Thread) → IsEvent t (op.Restore g) → CallerAllows s.control s.managed.managed s.peer.peers.issued t l (op.Restore g) m.reply m.cites told → HasStrength s.peer g.0 weak
@@ -82,18 +84,22 @@ module _ (s : Linkage) (k : IsLinkageKept s) (names : AreNamesKept s.peer.peers.
       at (P u) e w = absurd e
   restored t l o m told e w h q = (let f : ⊥ = cc in absurd f)
 
-  by : (m : Made) (told : Told) (b : Bool) → is_peer_event m.caller m.op ≡ b → IsEvent m.caller m.op → SideLawful b s m told → CallerAllows s.control s.managed.managed s.peer.peers.issued m.caller m.index m.op m.reply m.cites told → Steps s m told b
+  by : (m : Made) (told : Told) (b : Bool) → is_peer_event m.caller m.op ≡ b → IsEvent m.caller m.op → SideLawful b s m told
+      → CallerAllows s.control s.managed.managed s.peer.peers.issued m.caller m.index m.op m.reply m.cites told → Steps s m told b
   by m told true q e w a =
       let g = peer-goes s.peer k.peer names m.caller m.op m.cites told w.allowed (released m.caller m.index m.op m told e a) (restored m.caller m.index m.op m told e a) in
-      let h : Goes s.peer (peer_after s.peer m told true).peers (peer_after s.peer m told true).table m.op m.reply = subst (λ z. Goes s.peer (peer_after s.peer m told true).peers (peer_after s.peer m told true).table m.op z) (sym w.replies) g in
+      let h : Goes s.peer (peer_after s.peer m told true).peers (peer_after s.peer m told true).table m.op m.reply = subst
+      (λ z. Goes s.peer (peer_after s.peer m told true).peers (peer_after s.peer m told true).table m.op z) (sym w.replies) g in
       record { follows = h.follows; names = h.names }
   by m told false q e w a = record {
-    follows = subst (λ ds. Follows s.peer.peers.issued s.peer.peers.issued s.peer.table s.peer.table ds) (sym (quiet s.peer m.caller m.op m.reply e q)) (stays s.peer.peers.issued s.peer.peers.issued s.peer.table s.peer.table refl refl);
+    follows = subst (λ ds. Follows s.peer.peers.issued s.peer.peers.issued s.peer.table s.peer.table ds)
+        (sym (quiet s.peer m.caller m.op m.reply e q)) (stays s.peer.peers.issued s.peer.peers.issued s.peer.table s.peer.table refl refl);
     names = names;
   }
 
 pub step : (s : Linkage) (n : Noted) → MayCome s n → Of s → AreNamesKept s.peer.peers.names s.peer.table → Steps s n.entry.made n.told (is_peer_event n.entry.made.caller n.entry.made.op)
-step s n a k names = by s (record { managed = k.managed; peer = k.peer; owners = k.owners; callers = k.callers; driver = k.driver }) names n.entry.made n.told (is_peer_event n.entry.made.caller n.entry.made.op) refl a.event a.lawful a.order
+step s n a k names = by s (record { managed = k.managed; peer = k.peer; owners = k.owners; callers = k.callers; driver = k.driver }) names n.entry.made n.told
+    (is_peer_event n.entry.made.caller n.entry.made.op) refl a.event a.lawful a.order
 
 -- what stands behind the lines of changes
 lines-behind : (issued : List Issued) (number : ℕ) (v : Behind) (ds : List Change) → behind_all v (lines_of issued number v ds) ≡ changed_all issued v ds
@@ -130,7 +136,8 @@ pub record EntryGoes (s t : PeerReplay) (ls : List LogLine) : Type 0 where
   pub right : AreRight (behind_peers s) ls
   pub ends : behind_all (behind_peers s) ls ≡ behind_peers t
 
-pub entry-goes : (s : PeerReplay) (n : Noted) → Follows s.peers.issued (peer_next s n).peers.issued s.table (peer_next s n).table (changes s n.entry.made.op n.entry.made.reply) → EntryGoes s (peer_next s n) (entry_lines s (behind_peers s) n)
+pub entry-goes : (s : PeerReplay) (n : Noted) → Follows s.peers.issued (peer_next s n).peers.issued s.table (peer_next s n).table (changes s n.entry.made.op n.entry.made.reply)
+    → EntryGoes s (peer_next s n) (entry_lines s (behind_peers s) n)
 entry-goes s n f =
     let issued = (peer_next s n).peers.issued in
     let ds = changes s n.entry.made.op n.entry.made.reply in
@@ -178,7 +185,8 @@ read-quiet C (op.Line (act.Read k)) e r = absurd e.0
 read-quiet C (op.Line (act.Await k)) e r = absurd e.0
 read-quiet t o e r = absurd (let f : ⊥ = cc in f)
 
-silent : (s : PeerReplay) (n : Noted) (ns : List Noted) (v : Behind) → is_peer_event n.entry.made.caller n.entry.made.op ≡ false → changes s n.entry.made.op n.entry.made.reply ≡ [] → log_from s v (n ∷ ns) ≡ log_from s v ns
+silent : (s : PeerReplay) (n : Noted) (ns : List Noted) (v : Behind) → is_peer_event n.entry.made.caller n.entry.made.op ≡ false
+    → changes s n.entry.made.op n.entry.made.reply ≡ [] → log_from s v (n ∷ ns) ≡ log_from s v ns
 silent s n ns v e f =
     let m = n.entry.made in
     let at : Bool → List Change → List LogLine = λ b ds. (let next = peer_after s m n.told b in let ls = lines_of next.peers.issued n.entry.number v ds in ls ++ log_from next (behind_all v ls) ns) in
@@ -193,7 +201,8 @@ module _ (all : List Noted) (cells : List (Option ℕ)) where
       same-rest x y u e r = subst (λ z. log_from z u ns ≡ log_from z u (without_aside ns)) e r
 
       by : (b : Bool) → is_read n.entry.made.op ≡ b → EntryMayCome b all cells s n → log_from (entry_after s n).peer v ns ≡ log_from (entry_after s n).peer v (without_aside ns)
-          → log_from (entry_after s n).peer (behind_all v (entry_lines s.peer v n)) ns ≡ log_from (entry_after s n).peer (behind_all v (entry_lines s.peer v n)) (without_aside ns) → log_from s.peer v (n ∷ ns) ≡ log_from s.peer v (without_aside (n ∷ ns))
+          → log_from (entry_after s n).peer (behind_all v (entry_lines s.peer v n)) ns ≡ log_from (entry_after s n).peer (behind_all v (entry_lines s.peer v n)) (without_aside ns)
+          → log_from s.peer v (n ∷ ns) ≡ log_from s.peer v (without_aside (n ∷ ns))
       by true e w r _ =
           let m = n.entry.made in
           let q = read-quiet m.caller m.op w.0.event e in
@@ -201,7 +210,8 @@ module _ (all : List Noted) (cells : List (Option ℕ)) where
           let peer : (entry_after s n).peer ≡ s.peer = ap (λ (b : Bool). (if b then reader_after s n else linkage_after s n).peer) e in
           silent s.peer n ns v q c ∙ (same-rest (entry_after s n).peer s.peer v peer r ∙ (dropped (is_aside n) q c ∙ ap (log_from s.peer v) (sym (without-cons n ns (is_aside n) refl))))
         where
-          dropped : (b : Bool) → is_peer_event n.entry.made.caller n.entry.made.op ≡ false → changes s.peer n.entry.made.op n.entry.made.reply ≡ [] → log_from s.peer v (without_aside ns) ≡ log_from s.peer v (cond (not b) (n ∷ without_aside ns) (without_aside ns))
+          dropped : (b : Bool) → is_peer_event n.entry.made.caller n.entry.made.op ≡ false → changes s.peer n.entry.made.op n.entry.made.reply ≡ []
+              → log_from s.peer v (without_aside ns) ≡ log_from s.peer v (cond (not b) (n ∷ without_aside ns) (without_aside ns))
           dropped true q c = refl
           dropped false q c = sym (silent s.peer n (without_aside ns) v q c)
       by false e w _ r =
@@ -223,7 +233,8 @@ module _ (noted : List Noted) (w : IsLawfulReading noted) where
   same-peer = sym (reading_leads_to_same noted w).peer
 
   behind-log : behind_all none_live (log_of_notes noted) ≡ behind_peers (replayed_reading opening_linkage noted).peer
-  behind-log = ap (behind_all none_live) same-log ∙ (ap (λ v. behind_all v (log_from opening_peer_replay (behind_peers opening_peer_replay) others)) opening-behind ∙ (all-of.ends ∙ ap behind_peers same-peer))
+  behind-log = ap (behind_all none_live) same-log ∙ (ap (λ v. behind_all v (log_from opening_peer_replay (behind_peers opening_peer_replay) others)) opening-behind
+      ∙ (all-of.ends ∙ ap behind_peers same-peer))
 
   pub log-right : AreRight none_live (log_of_notes noted)
   log-right = subst (AreRight none_live) (sym same-log) (subst (λ v. AreRight v (log_from opening_peer_replay (behind_peers opening_peer_replay) others)) (sym opening-behind) all-of.right)
@@ -262,7 +273,8 @@ strength-weak row e = by row.strength refl e
     by strong q e = (let f : ⊥ = cc in absurd f)
     by weak q e = q
 
-live-row : (f : Option TableRow → Bool) (issued : List Issued) (t : List (Option TableRow)) (h : ℕ) (row : TableRow) → length t ≡ length issued → IsTabled t h row → f (Some row) ≡ true → IsSome (peer_in f (numbered_at t h) (numbered_at issued h))
+live-row : (f : Option TableRow → Bool) (issued : List Issued) (t : List (Option TableRow)) (h : ℕ) (row : TableRow)
+    → length t ≡ length issued → IsTabled t h row → f (Some row) ≡ true → IsSome (peer_in f (numbered_at t h) (numbered_at issued h))
 live-row f issued t h row l c e =
     let w = numbered-within t h (Some row) c in
     let i = numbered-made issued h w.0 (omega (arith, w.1, l)) in
@@ -273,8 +285,13 @@ live_are_rows noted w h =
     let s = (replayed_reading opening_linkage noted).peer in
     let e = behind-log noted w in
     let l = places noted w in
-    let weakly = λ (q : HasStrength s h weak). subst (λ (v : Behind). IsSome (v.weak h)) (sym e) (live-row is_weak_row s.peers.issued s.table h q.0 l q.1 (ap (λ z. elim z [ strong ↦ false | weak ↦ true ]) q.2)) in
-    let strongly = λ (q : HasStrength s h strong). subst (λ (v : Behind). IsSome (v.strong h)) (sym e) (live-row is_strong_row s.peers.issued s.table h q.0 l q.1 (ap (λ z. elim z [ strong ↦ true | weak ↦ false ]) q.2)) in (
-      (λ q. (let r = row-live is_strong_row (numbered_at s.table h) (numbered_at s.peers.issued h) refl (subst (λ (v : Behind). IsSome (v.strong h)) e q) in (r.0, r.1, strength-strong r.0 r.2)), strongly),
+    let weakly = λ (q : HasStrength s h weak). subst (λ (v : Behind). IsSome (v.weak h)) (sym e)
+    (live-row is_weak_row s.peers.issued s.table h q.0 l q.1 (ap (λ z. elim z [ strong ↦ false | weak ↦ true ]) q.2)) in
+    let strongly = λ (q : HasStrength s h strong). subst (λ (v : Behind). IsSome (v.strong h)) (sym e)
+    (live-row is_strong_row s.peers.issued s.table h q.0 l q.1 (ap (λ z. elim z [ strong ↦ true | weak ↦ false ]) q.2)) in (
+      (
+        λ q. (let r = row-live is_strong_row (numbered_at s.table h) (numbered_at s.peers.issued h) refl (subst (λ (v : Behind). IsSome (v.strong h)) e q) in (r.0, r.1, strength-strong r.0 r.2)),
+        strongly,
+      ),
       (λ q. (let r = row-live is_weak_row (numbered_at s.table h) (numbered_at s.peers.issued h) refl (subst (λ (v : Behind). IsSome (v.weak h)) e q) in (r.0, r.1, strength-weak r.0 r.2)), weakly),
     )

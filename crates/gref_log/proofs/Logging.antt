@@ -1,5 +1,6 @@
 -- A log that is made entry after entry, by events and replies alone, is the log of the history.
-use Rattle.std.proofs.Common.{◌≡◌, ℕ, ◌+◌, ◌-◌, ◌≤◌, ◌⊎◌, inl, inr, Bool, true, false, List, [], ◌∷◌, ◌++◌, length, map, Option, Some, None, refl, sym, ap, subst, ◌∙◌, arith, append-nil, length-append}
+use Rattle.std.proofs.Common.{◌≡◌, ℕ, ◌+◌, ◌-◌, ◌≤◌, ◌⊎◌, inl, inr, Bool, true, false, List, [], ◌∷◌, ◌++◌, length, map, Option, Some, None, refl, sym, ap, subst, ◌∙◌, arith, append-nil}
+use Rattle.std.proofs.Common.{length-append}
 use Rattle.std.specs.Prelude.{All}
 use Rattle.std.proofs.Math.Nat.{min-eq_left}
 use Rattle.std.proofs.lemmas.List.{append_assoc, length-map}
@@ -35,7 +36,8 @@ use Rattle.log_text.specs.declared.lines.Mark.TheVariants.{GPlus, GMinus, WPlus,
 use Rattle.log_text.specs.Behind.{Behind, Fits, IsLog, behind_all, moved, none_live}
 use Rattle.gref_log.specs.Laws.{IsWholeLog}
 use Rattle.gref_log.specs.Log.{Change, behind_peers, changed, changes, entry_lines, is_strong_row, is_weak_row, lines_of, log_from, log_of_notes, made_on, minus, peer_next, unnamed}
-use Rattle.gref_log.specs.Tracking.{Logged, Tracked, after_line, counted, given_of, given_on, line_after, logged_after, logged_all, nothing_logged, one_more, peer_at, tracked_after, tracked_changes, tracked_of, tracked_on, with_line, with_lines, changed_all}
+use Rattle.gref_log.specs.Tracking.{Logged, Tracked, after_line, counted, given_of, given_on, line_after, logged_after, logged_all, nothing_logged, one_more, peer_at, tracked_after, tracked_changes}
+use Rattle.gref_log.specs.Tracking.{tracked_of, tracked_on, with_line, with_lines, changed_all}
 use Rattle.gref_log.proofs.Counting.{counts_are_tables, entry-goes, logs_are_logs, same-log, step}
 use Rattle.gref_log.proofs.TableSteps.{Follows}
 use Rattle.gref_log.proofs.Tracks.{changes-tracked, entry-tracks, peer-at}
@@ -94,14 +96,16 @@ module _ (issued : List Issued) (number : ℕ) where
       let one = line-is d _ _ _ _ _ _ peer w.strong w.weak in
       let rest = lines-grow ds (with_line g number d) (changed issued v d) (record { strong = w.strong; weak = w.weak }) (λ h. ap (λ t. peer_at t.given h) k.1 ∙ p h) l.1 in
       record {
-        lines = rest.lines ∙ (append_assoc g.lines (line_after (counted g d.mark) number d ∷ []) (lines_of issued number (changed issued v d) ds) ∙ ap (λ x. g.lines ++ x ∷ lines_of issued number (changed issued v d) ds) one);
+        lines = rest.lines ∙ (append_assoc g.lines (line_after (counted g d.mark) number d ∷ []) (lines_of issued number (changed issued v d) ds)
+            ∙ ap (λ x. g.lines ++ x ∷ lines_of issued number (changed issued v d) ds) one);
         tracked = rest.tracked ∙ k.1;
         counts = rest.counts;
       }
 
 -- the changes of an entry: none, one, or two of different strengths
 abbrev AreFew : List Change → Type 0
-AreFew ds = (ds ≡ []) ⊎ ((d : Change) × (ds ≡ d ∷ [])) ⊎ ((h k : ℕ) × (ds ≡ record { mark = GPlus; handle = h } ∷ record { mark = WMinus; handle = k } ∷ [])) ⊎ ((h k : ℕ) × (ds ≡ record { mark = WPlus; handle = h } ∷ record { mark = GMinus; handle = k } ∷ []))
+AreFew ds = (ds ≡ []) ⊎ ((d : Change) × (ds ≡ d ∷ [])) ⊎ ((h k : ℕ) × (ds ≡ record { mark = GPlus; handle = h } ∷ record { mark = WMinus; handle = k } ∷ []))
+    ⊎ ((h k : ℕ) × (ds ≡ record { mark = WPlus; handle = h } ∷ record { mark = GMinus; handle = k } ∷ []))
 
 none : AreFew []
 none = inl refl
@@ -221,7 +225,8 @@ all-grows (e ∷ es) g =
     omega (arith, a, b, c)
 
 -- a read is no peer event
-read-still : (g : Logged) (number : ℕ) (t : Thread) (o : Op) (r : Reply) → is_read o ≡ true → with_lines (record g { tracked = tracked_after g.tracked t o r }) number (tracked_changes g.tracked o r) ≡ g
+read-still : (g : Logged) (number : ℕ) (t : Thread) (o : Op) (r : Reply) → is_read o ≡ true
+    → with_lines (record g { tracked = tracked_after g.tracked t o r }) number (tracked_changes g.tracked o r) ≡ g
 read-still g number (P u) (op.Line (act.Read k)) r e = refl
 read-still g number (M u) (op.Line (act.Read k)) r e = refl
 read-still g number C (op.Line (act.Read k)) r e = refl
@@ -237,7 +242,9 @@ aside-logged : (ns : List Noted) (g : Logged) → logged_all g (entries ns) ≡ 
 aside-logged [] g = refl
 aside-logged (n ∷ ns) g = by (is_aside n) refl (aside-logged ns g) (aside-logged ns (logged_after g n.entry))
   where
-    by : (b : Bool) → is_aside n ≡ b → logged_all g (entries ns) ≡ logged_all g (entries (without_aside ns)) → logged_all (logged_after g n.entry) (entries ns) ≡ logged_all (logged_after g n.entry) (entries (without_aside ns)) → logged_all (logged_after g n.entry) (entries ns) ≡ logged_all g (entries (without_aside (n ∷ ns)))
+    by : (b : Bool) → is_aside n ≡ b → logged_all g (entries ns) ≡ logged_all g (entries (without_aside ns))
+        → logged_all (logged_after g n.entry) (entries ns) ≡ logged_all (logged_after g n.entry) (entries (without_aside ns))
+        → logged_all (logged_after g n.entry) (entries ns) ≡ logged_all g (entries (without_aside (n ∷ ns)))
     by true e dropped kept =
         let m = n.entry.made in
         let still = read-still g n.entry.number m.caller m.op m.reply (and-true (is_read m.op) (is_set_aside m.reply) e).0 in
@@ -249,7 +256,8 @@ replies-so s m told true w e = w.replies
 replies-so s m told false w e = absurd (true_false (sym e))
 
 -- all of a lawful list
-whole-logged : (ns : List Noted) (s : Linkage) (g : Logged) → AllMayCome s ns → Of s → AreNamesKept s.peer.peers.names s.peer.table → GoesWith g s.peer → given-length (logged_all g (entries ns)) ≤ MOST
+whole-logged : (ns : List Noted) (s : Linkage) (g : Logged) → AllMayCome s ns → Of s
+    → AreNamesKept s.peer.peers.names s.peer.table → GoesWith g s.peer → given-length (logged_all g (entries ns)) ≤ MOST
     → (logged_all g (entries ns)).lines ≡ g.lines ++ log_from s.peer (behind_peers s.peer) ns
 whole-logged [] s g a k names w l = sym (append-nil g.lines)
 whole-logged (n ∷ ns) s g a k names w l =
@@ -261,20 +269,24 @@ whole-logged (n ∷ ns) s g a k names w l =
     let ends : behind_all (behind_peers s.peer) ls ≡ behind_peers next = (entry-goes s.peer n t.follows).ends in
     let tracks = entry-tracks s.peer m n.told (is_peer_event m.caller m.op) refl (replies-so s m n.told (is_peer_event m.caller m.op) a.0.lawful) in
     let now : tracked_after g.tracked m.caller m.op m.reply ≡ tracked_of next.peers = ap (λ x. tracked_after x m.caller m.op m.reply) w.tracked ∙ tracks in
-    let many : given-length (logged_after g n.entry) ≡ length next.peers.issued = ap (λ x. length x.given) (lines-keep n.entry.number (tracked_changes g.tracked m.op m.reply) (tracked_on g n.entry) ∙ now) ∙ length-map next.peers.issued given_of in
+    let many : given-length (logged_after g n.entry) ≡ length next.peers.issued = ap (λ x. length x.given)
+    (lines-keep n.entry.number (tracked_changes g.tracked m.op m.reply) (tracked_on g n.entry) ∙ now) ∙ length-map next.peers.issued given_of in
     let was : given-length g ≡ length s.peer.peers.issued = ap (λ x. length x.given) w.tracked ∙ length-map s.peer.peers.issued given_of in
     let more = all-grows (entries ns) (logged_after g n.entry) in
     let all = all-grows (entries (n ∷ ns)) g in
-    let one = logged-entry s.peer n g w tracks t.follows (few-enough s.peer k.peer.handles.places (omega (arith, was, all, l))) (few-enough next kept.peer.handles.places (omega (arith, many, more, l))) in
+    let one = logged-entry s.peer n g w tracks t.follows (few-enough s.peer k.peer.handles.places (omega (arith, was, all, l)))
+    (few-enough next kept.peer.handles.places (omega (arith, many, more, l))) in
     let rest = whole-logged ns (linkage_after s n) (logged_after g n.entry) a.1 kept t.names one.goes l in
-    rest ∙ (ap (λ x. x ++ log_from next (behind_peers next) ns) one.lines ∙ (append_assoc g.lines ls (log_from next (behind_peers next) ns) ∙ ap (λ v. g.lines ++ (ls ++ log_from next v ns)) (sym ends)))
+    rest ∙ (ap (λ x. x ++ log_from next (behind_peers next) ns) one.lines
+    ∙ (append_assoc g.lines ls (log_from next (behind_peers next) ns) ∙ ap (λ v. g.lines ++ (ls ++ log_from next v ns)) (sym ends)))
 
 -- the log of a linked history
 log-lines : (h : Finished) (noted : List Noted) → IsLinkedBy h noted → given-length (logged_all nothing_logged h.entries) ≤ MOST → (logged_all nothing_logged h.entries).lines ≡ log_of_notes noted
 log-lines h noted w l =
     let lawful : IsLawfulReading noted = (noted, _, w.lawful) in
     let same : logged_all nothing_logged h.entries ≡ logged_all nothing_logged (entries (without_aside noted)) = ap (logged_all nothing_logged) (sym w.same) ∙ aside-logged noted nothing_logged in
-    ap (λ g. g.lines) same ∙ (whole-logged (without_aside noted) opening_linkage nothing_logged (reading_is_lawful noted lawful) AreKept-opening names-opening (record { tracked = refl; counts = record { strong = refl; weak = refl } }) (subst (λ g. given-length g ≤ MOST) same l)
+    ap (λ g. g.lines) same ∙ (whole-logged (without_aside noted) opening_linkage nothing_logged (reading_is_lawful noted lawful) AreKept-opening names-opening
+    (record { tracked = refl; counts = record { strong = refl; weak = refl } }) (subst (λ g. given-length g ≤ MOST) same l)
     ∙ sym (same-log noted lawful))
 
 -- what is promised of the lines that were made

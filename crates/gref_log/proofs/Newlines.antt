@@ -35,7 +35,8 @@ module _ (front : List ℕ) (closed : AreClosed front) where
   goes-within : (number : ℕ) → GoesOn front number → number ≤ lines_in front
   goes-within number w =
       let end = end_text (length w.before) in
-      let here : front ≡ (lines_text w.before ++ (end ++ 10 ∷ [])) ++ w.left = w.whole ∙ (ap (λ t. lines_text w.before ++ t) (sym (append_assoc end (10 ∷ []) w.left)) ∙ sym (append_assoc (lines_text w.before) (end ++ 10 ∷ []) w.left)) in
+      let here : front ≡ (lines_text w.before ++ (end ++ 10 ∷ [])) ++ w.left = w.whole
+      ∙ (ap (λ t. lines_text w.before ++ t) (sym (append_assoc end (10 ∷ []) w.left)) ∙ sym (append_assoc (lines_text w.before) (end ++ 10 ∷ []) w.left)) in
       let many = closed-behind front (log_text w.before) w.left closed here w.more in
       let all = ap lines_in here ∙ appended (log_text w.before) w.left in
       let n = w.number_is in
@@ -66,20 +67,23 @@ module _ (most : ℕ) (bytes front : List ℕ) (cut : IsFrontOf most bytes front
   whole-before count ls c t = (let n = ap lines_in t.text ∙ of-log ls in record { front = front; cut = cut; before = ls; lawful = t.lawful; behind = inr (t.text, omega (arith, c, n)) })
 
   pub nothing-wrong : (count number : ℕ) (why : LogCause) → count ≡ lines_in front → count < number → IsLogFault front number why → IsLongLine most bytes number
-  nothing-wrong count number why c l f = (let w = lacks front cut.closed number why (omega (arith, c, l)) f in record { front = front; cut = cut; before = w.before; lawful = w.lawful; behind = inl (w.whole, w.number_is) })
+  nothing-wrong count number why c l f = (let w = lacks front cut.closed number why (omega (arith, c, l)) f in
+      record { front = front; cut = cut; before = w.before; lawful = w.lawful; behind = inl (w.whole, w.number_is) })
 
   pub wrong-before : (count number : ℕ) (why : LogCause) → count ≡ lines_in front → number ≤ count → IsLogFault front number why → IsFaultBefore most bytes number why
   wrong-before count number why c l f = record { front = front; cut = cut; fault = of-line front cut.closed number why (omega (arith, c, l)) f }
 
   -- what is answered where the lines before are refused
   abbrev Within : ℕ → LogError → Result ℕ LogError → Type 0
-  Within count error r = MatchResult r (λ number. (why : LogCause) × (error ≡ Refused number why) × (count < number)) (λ refusal. (refusal ≡ error) × ((number : ℕ) (why : LogCause) → error ≡ Refused number why → number ≤ count))
+  Within count error r = MatchResult r (λ number. (why : LogCause) × (error ≡ Refused number why) × (count < number))
+      (λ refusal. (refusal ≡ error) × ((number : ℕ) (why : LogCause) → error ≡ Refused number why → number ≤ count))
 
   pub answered : (count : ℕ) (error : LogError) → count ≡ lines_in front → IsLogRefusal front error → (r : Result ℕ LogError) → Within count error r → IfOk r (λ n. IsLongLine most bytes n)
   answered count error c f (Ok n) w = nothing-wrong count n w.0 c w.2 (subst (IsLogRefusal front) w.1 f).0
   answered count error c f (Err e) w = tt
 
-  refused-by : (count : ℕ) (error : LogError) → count ≡ lines_in front → IsLogRefusal front error → ((number : ℕ) (why : LogCause) → error ≡ Refused number why → number ≤ count) → IsRefusedBefore most bytes error
+  refused-by : (count : ℕ) (error : LogError) → count ≡ lines_in front → IsLogRefusal front error
+      → ((number : ℕ) (why : LogCause) → error ≡ Refused number why → number ≤ count) → IsRefusedBefore most bytes error
   refused-by count OutOfMemory c f w = tt
   refused-by count (Refused number why) c f w = wrong-before count number why c (w number why refl) f.0
 

@@ -1,6 +1,7 @@
 -- What each step of the handle table does to what stands behind the log: a handle is put last, leaves, is weakened, is
 -- replaced, or is cleared where it stands. Each is shown at every handle, for rows of either kind.
-use Rattle.std.proofs.Common.{◌≡◌, ◌≢◌, ℕ, zero, suc, ◌+◌, ◌<◌, ◌||◌, nat_eq, Bool, true, false, List, [], ◌∷◌, ◌++◌, length, Option, Some, None, cond, refl, sym, ap, subst, ◌∙◌, inl, inr, arith, length-append}
+use Rattle.std.proofs.Common.{◌≡◌, ◌≢◌, ℕ, zero, suc, ◌+◌, ◌<◌, ◌||◌, nat_eq, Bool, true, false, List, [], ◌∷◌, ◌++◌, length, Option, Some, None, cond, refl, sym, ap, subst, ◌∙◌, inl, inr, arith}
+use Rattle.std.proofs.Common.{length-append}
 use Rattle.std.specs.Prelude.{slice_get}
 use Rattle.std.specs.List.{list_any}
 use Rattle.std.proofs.lemmas.Bool.{cases_lt}
@@ -68,7 +69,8 @@ module _ (issued : List Issued) (t : List (Option TableRow)) (l : length t ≡ l
   others f k ne = elim (cases_lt k n) [
     | inl s ↦ both f _ _ _ _ (sym (numbered-push_old t (Some row) k (omega (arith, l, s)))) (sym (numbered-push_old issued i k (omega (arith, s))))
     | inr g ↦ (let long : length (t ++ Some row ∷ []) < k = omega (arith, g, ne, l, length-append t (Some row ∷ [])) in
-        ap (λ z. peer_in f z (numbered_at issued k)) (numbered-past t k (omega (arith, g, l))) ∙ sym (ap (λ z. peer_in f z (numbered_at (issued ++ i ∷ []) k)) (numbered-past (t ++ Some row ∷ []) k long)))
+        ap (λ z. peer_in f z (numbered_at issued k)) (numbered-past t k (omega (arith, g, l)))
+        ∙ sym (ap (λ z. peer_in f z (numbered_at (issued ++ i ∷ []) k)) (numbered-past (t ++ Some row ∷ []) k long)))
   ]
 
   there : (f : Kind) (b : Bool) → f (Some row) ≡ b → live f (issued ++ i ∷ []) (t ++ Some row ∷ []) n ≡ cond b (Some i.peer) None
@@ -117,7 +119,8 @@ plus strong = GPlus
 plus weak = WPlus
 
 -- a handle comes into the table
-pub comes : (issued : List Issued) (t : List (Option TableRow)) → length t ≡ length issued → (i : Issued) (x : Strength) → i.strength ≡ x → Follows issued (issued ++ i ∷ []) t (t ++ fresh_row i ∷ []) (record { mark = plus x; handle = length issued + 1 } ∷ [])
+pub comes : (issued : List Issued) (t : List (Option TableRow)) → length t ≡ length issued → (i : Issued) (x : Strength) → i.strength ≡ x
+    → Follows issued (issued ++ i ∷ []) t (t ++ fresh_row i ∷ []) (record { mark = plus x; handle = length issued + 1 } ∷ [])
 comes issued t l i strong e = (let k = strong-row strong (record { strength = i.strength; cleared = false }) e refl in put-strong issued t l i _ k.0 k.1)
 comes issued t l i weak e = (let k = weak-row weak (record { strength = i.strength; cleared = false }) e refl in put-weak issued t l i _ k.0 k.1)
 
@@ -178,7 +181,8 @@ module _ (issued : List Issued) (t : List (Option TableRow)) (l : length t ≡ l
   leaves weak e = (let k = weak-row weak row e refl in leaves-weak k.0 k.1)
 
   -- a strong one is weakened
-  pub weakens : row.strength ≡ strong → Follows issued issued t (numbered_set t h (Some record { strength = weak; cleared = false })) (record { mark = WPlus; handle = h } ∷ record { mark = GMinus; handle = h } ∷ [])
+  pub weakens : row.strength ≡ strong → Follows issued issued t (numbered_set t h (Some record { strength = weak; cleared = false }))
+      (record { mark = WPlus; handle = h } ∷ record { mark = GMinus; handle = h } ∷ [])
   weakens s =
       let k = strong-row strong row s refl in
       let new : Option TableRow = Some record { strength = weak; cleared = false } in
@@ -192,19 +196,22 @@ module _ (issued : List Issued) (t : List (Option TableRow)) (l : length t ≡ l
       }
 
   -- a weak one is replaced by a strong one, which stands last
-  pub renews : row.strength ≡ weak → (i : Issued) → i.strength ≡ strong → Follows issued (issued ++ i ∷ []) t (numbered_set t h None ++ fresh_row i ∷ []) (record { mark = GPlus; handle = length issued + 1 } ∷ record { mark = WMinus; handle = h } ∷ [])
+  pub renews : row.strength ≡ weak → (i : Issued) → i.strength ≡ strong
+      → Follows issued (issued ++ i ∷ []) t (numbered_set t h None ++ fresh_row i ∷ []) (record { mark = GPlus; handle = length issued + 1 } ∷ record { mark = WMinus; handle = h } ∷ [])
   renews s i e =
       let gone = leaves weak s in
       let come = comes issued (numbered_set t h None) (numbered_set-length t h None ∙ l) i strong e in
       let k = weak-row weak row s refl in
-      let same : made_on (issued ++ i ∷ []) h ≡ made_on issued h = made-of (issued ++ i ∷ []) h issue.0 (numbered-push_old issued i h (numbered-within issued h issue.0 issue.1).1 ∙ issue.1) ∙ sym made in
+      let same : made_on (issued ++ i ∷ []) h ≡ made_on issued h = made-of (issued ++ i ∷ []) h issue.0 (numbered-push_old issued i h (numbered-within issued h issue.0 issue.1).1 ∙ issue.1)
+      ∙ sym made in
       record {
         stands = (none-yet issued t l i row is_strong_row, (on is_weak_row k.1 ∙ ap Some (sym same), tt));
         ends = ap (λ v. changed (issued ++ i ∷ []) v (record { mark = GPlus; handle = length issued + 1 })) gone.ends ∙ come.ends;
       }
 
 -- handles are cleared: they stay what they were
-cleared-at : (f : Kind) → ((row : TableRow) (b : Bool) → f (Some (record row { cleared = b })) ≡ f (Some row)) → (freed : List ℕ) (issued : List Issued) (t : List (Option TableRow)) → length t ≡ length issued → (k : ℕ) (j : Option Issued) → peer_in f (slice_get t k) j ≡ peer_in f (slice_get (cleared_rows freed issued t) k) j
+cleared-at : (f : Kind) → ((row : TableRow) (b : Bool) → f (Some (record row { cleared = b })) ≡ f (Some row)) → (freed : List ℕ) (issued : List Issued) (t : List (Option TableRow))
+    → length t ≡ length issued → (k : ℕ) (j : Option Issued) → peer_in f (slice_get t k) j ≡ peer_in f (slice_get (cleared_rows freed issued t) k) j
 cleared-at f alike freed [] t l k j = refl
 cleared-at f alike freed (i ∷ issued) [] l k j = absurd (omega (arith, l))
 cleared-at f alike freed (i ∷ issued) (None ∷ t) l zero j = refl
@@ -213,7 +220,8 @@ cleared-at f alike freed (i ∷ issued) (Some row ∷ t) l zero None = refl
 cleared-at f alike freed (i ∷ issued) (Some row ∷ t) l zero (Some j) = ap (λ b. cond b (Some j.peer) None) (sym (alike row (row.cleared || list_any (nat_eq i.peer) freed)))
 cleared-at f alike freed (i ∷ issued) (Some row ∷ t) l (suc k) j = cleared-at f alike freed issued t (omega (arith, l)) k j
 
-cleared-live : (f : Kind) → ((row : TableRow) (b : Bool) → f (Some (record row { cleared = b })) ≡ f (Some row)) → (freed : List ℕ) (issued : List Issued) (t : List (Option TableRow)) → length t ≡ length issued → (h : ℕ) → live f issued t h ≡ live f issued (cleared_rows freed issued t) h
+cleared-live : (f : Kind) → ((row : TableRow) (b : Bool) → f (Some (record row { cleared = b })) ≡ f (Some row))
+    → (freed : List ℕ) (issued : List Issued) (t : List (Option TableRow)) → length t ≡ length issued → (h : ℕ) → live f issued t h ≡ live f issued (cleared_rows freed issued t) h
 cleared-live f alike freed issued t l zero = refl
 cleared-live f alike freed issued t l (suc k) = cleared-at f alike freed issued t l k (slice_get issued k)
 

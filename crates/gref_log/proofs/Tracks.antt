@@ -22,9 +22,11 @@ use Rattle.joint_machine.specs.Components.{End}
 use Rattle.joint_machine.specs.Heaps.{Answered, Heap, answer, field_set, field_stored, fields_of, is_full, numbered_at, place, read_into, slot, stored}
 use Rattle.joint_machine.specs.Lines.{is_peer_event}
 use Rattle.joint_machine.specs.Linked.{peer_after}
-use Rattle.joint_machine.specs.PeerReplay.{Marking, PeerReplay, TableRow, begun, bring_by, is_thread, mirrored, on_table, peer_answer, peer_thread_line, renewed_on, restored_by, row_of, sliced, swept, table_target}
+use Rattle.joint_machine.specs.PeerReplay.{Marking, PeerReplay, TableRow, begun, bring_by, is_thread, mirrored, on_table, peer_answer, peer_thread_line, renewed_on, restored_by, row_of, sliced, swept}
+use Rattle.joint_machine.specs.PeerReplay.{table_target}
 use Rattle.joint_machine.specs.Managed.{place_or_none}
-use Rattle.joint_machine.specs.Peers.{Issued, Peers, Strength, handles_full, is_strong, landed, name_given, name_read, next_handle, on_peer_heap, pair_made, peer_gripped, peer_line, peer_name, peer_of, peer_read, strong, weak}
+use Rattle.joint_machine.specs.Peers.{Issued, Peers, Strength, handles_full, is_strong, landed, name_given, name_read, next_handle, on_peer_heap, pair_made, peer_gripped, peer_line, peer_name}
+use Rattle.joint_machine.specs.Peers.{peer_of, peer_read, strong, weak}
 use Rattle.joint_machine.specs.Told.{Told, references_of, slice_of, sweep_of}
 use Rattle.joint_machine.proofs.Deciding.{option-cases, test-cases}
 use Rattle.gref_log.specs.Log.{Change, changes, made_on, minus, unnamed}
@@ -41,20 +43,24 @@ numbered-map f xs (suc i) = slice_get-map f xs i
 pub peer-at : (issued : List Issued) (h : ℕ) → peer_at (map given_of issued) h ≡ made_on issued h
 peer-at issued h = ap {B = ℕ} (λ (z : Option Given). elim z [ None ↦ 0 | Some g ↦ g.peer ]) (numbered-map given_of issued h) ∙ of (numbered_at issued h)
   where
-    of : (o : Option Issued) → elim (option_map given_of o) as (λ y. ℕ) [ None ↦ 0 | Some g ↦ g.peer ] ≡ elim (elim o as (λ y. Option ℕ) [ None ↦ None | Some i ↦ Some i.peer ]) as (λ y. ℕ) [ None ↦ 0 | Some p ↦ p ]
+    of : (o : Option Issued) → elim (option_map given_of o) as (λ y. ℕ)
+        [ None ↦ 0 | Some g ↦ g.peer ] ≡ elim (elim o as (λ y. Option ℕ) [ None ↦ None | Some i ↦ Some i.peer ]) as (λ y. ℕ) [ None ↦ 0 | Some p ↦ p ]
     of None = refl
     of (Some i) = refl
 
 -- what a name's end takes away is tracked
 name-leaves : (s : PeerReplay) (o : Option ℕ) → name_leaves_of (map given_of s.peers.issued) o ≡ unnamed s o
 name-leaves s None = refl
-name-leaves s (Some h) = ap {B = List Change} (λ (z : Option Given). elim z [ None ↦ [] | Some g ↦ record { mark = cond g.strong GMinus WMinus; handle = h } ∷ [] ]) (numbered-map given_of s.peers.issued h) ∙ of (numbered_at s.peers.issued h)
+name-leaves s (Some h) = ap {B = List Change} (λ (z : Option Given). elim z [ None ↦ [] | Some g ↦ record { mark = cond g.strong GMinus WMinus; handle = h } ∷ [] ])
+    (numbered-map given_of s.peers.issued h) ∙ of (numbered_at s.peers.issued h)
   where
     mark-of : (x : Strength) → cond (is_strong x) GMinus WMinus ≡ minus x
     mark-of strong = refl
     mark-of weak = refl
 
-    of : (o : Option Issued) → elim (option_map given_of o) as (λ y. List Change) [ None ↦ [] | Some g ↦ record { mark = cond g.strong GMinus WMinus; handle = h } ∷ [] ] ≡ elim o as (λ y. List Change) [ None ↦ [] | Some i ↦ record { mark = minus i.strength; handle = h } ∷ [] ]
+    of : (o : Option Issued) → elim (option_map given_of o) as (λ y. List Change)
+        [ None ↦ [] | Some g ↦ record { mark = cond g.strong GMinus WMinus; handle = h } ∷ [] ] ≡ elim o as (λ y. List Change)
+        [ None ↦ [] | Some i ↦ record { mark = minus i.strength; handle = h } ∷ [] ]
     of None = refl
     of (Some i) = ap (λ (m : Mark). let d : Change = record { mark = m; handle = h } in d ∷ []) (mark-of i.strength)
 
@@ -172,7 +178,8 @@ module _ (s : PeerReplay) where
 
   thread-line : (u : ℕ) (a : Act) → Goes (P u) (op.Line a) (peer_thread_line s u a)
   thread-line u (act.UnGlobal g) = line-tracks s.peers u (act.UnGlobal g) (table_target s)
-  thread-line u (act.WRead v g) = brought (P u) (op.Line (act.WRead v g)) (on_table s (peer_line (table_target s) s.peers u (act.WRead v g))) (peer_line (table_target s) s.peers u (act.WRead v g)).reply (line-tracks s.peers u (act.WRead v g) (table_target s))
+  thread-line u (act.WRead v g) = brought (P u) (op.Line (act.WRead v g)) (on_table s (peer_line (table_target s) s.peers u (act.WRead v g)))
+      (peer_line (table_target s) s.peers u (act.WRead v g)).reply (line-tracks s.peers u (act.WRead v g) (table_target s))
   thread-line u a = line-tracks s.peers u a (table_target s)
 
   slice-goes : (u m n : ℕ) (t : Thread) (x : Option Marking) (closure : List ℕ) → Goes (P u) (op.Line (act.Slice m)) (sliced s x t n closure)
@@ -208,7 +215,8 @@ module _ (s : PeerReplay) where
   event-goes (M u) (op.Line a) cites told e = (let f : ⊥ = cc in absurd f)
   event-goes C (op.Line a) cites told e = (let f : ⊥ = cc in absurd f)
   event-goes t (op.Make sort n) cites told e = pair-tracks s.peers t sort n
-  event-goes t (op.Land h x) cites told e = brought t (op.Land h x) (on_table s (landed s.peers x.0 (table_target s h.0))) (landed s.peers x.0 (table_target s h.0)).reply (land-tracks s.peers t h x x.0 (table_target s h.0))
+  event-goes t (op.Land h x) cites told e = brought t (op.Land h x) (on_table s (landed s.peers x.0 (table_target s h.0)))
+      (landed s.peers x.0 (table_target s h.0)).reply (land-tracks s.peers t h x x.0 (table_target s h.0))
   event-goes t (op.Grip x) cites told e = grip-tracks s.peers t x (slot s.peers.heap.statics x.0)
   event-goes t (op.Mirror k) cites (references_of refs) e = mirror-goes t k (length refs) k.0 cites refs
   event-goes t op.Begin cites told e = begin-goes t s.marking t

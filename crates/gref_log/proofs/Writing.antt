@@ -18,12 +18,14 @@ lines-append [] b = refl
 lines-append (l ∷ a) b = ap (λ t. line_text l ++ (10 ∷ t)) (lines-append a b) ∙ sym (append_assoc (line_text l) (10 ∷ lines_text a) (lines_text b))
 
 -- the two lines of an entry are one behind the other; the first one failed, or the second one came
-pub two-failed : {E : Type 0} (a b : Option (List ℕ)) (p q : List ℕ) (f g : ℕ) (z : E) (l k : LogLine) → Sends {E = E} a b p q f g (Err z) (line_text l ++ 10 ∷ []) → Sends {E = E} a b p q f g (Err z) (lines_text (l ∷ k ∷ []))
+pub two-failed : {E : Type 0} (a b : Option (List ℕ)) (p q : List ℕ) (f g : ℕ) (z : E) (l k : LogLine)
+    → Sends {E = E} a b p q f g (Err z) (line_text l ++ 10 ∷ []) → Sends {E = E} a b p q f g (Err z) (lines_text (l ∷ k ∷ []))
 two-failed {E} a b p q f g z l k w =
     let F : List ℕ → Type 0 = λ t. Sends {E = E} a b p q f g (Err z) t in
     subst F (append_assoc (line_text l) (10 ∷ []) (line_text k ++ 10 ∷ [])) (Sends-short a b p q f g z (line_text l ++ 10 ∷ []) (line_text k ++ 10 ∷ []) w)
 
-pub two-went : {E : Type 0} (a b c : Option (List ℕ)) (p q r : List ℕ) (f g i : ℕ) (z : Result (Unit {0}) E) (l k : LogLine) → BuffersText a b p q (line_text l ++ 10 ∷ []) → f ≤ g → Sends {E = E} b c q r g i z (line_text k ++ 10 ∷ []) → Sends {E = E} a c p r f i z (lines_text (l ∷ k ∷ []))
+pub two-went : {E : Type 0} (a b c : Option (List ℕ)) (p q r : List ℕ) (f g i : ℕ) (z : Result (Unit {0}) E) (l k : LogLine)
+    → BuffersText a b p q (line_text l ++ 10 ∷ []) → f ≤ g → Sends {E = E} b c q r g i z (line_text k ++ 10 ∷ []) → Sends {E = E} a c p r f i z (lines_text (l ∷ k ∷ []))
 two-went {E} a b c p q r f g i z l k v h w =
     let F : List ℕ → Type 0 = λ t. Sends {E = E} a c p r f i z t in
     subst F (append_assoc (line_text l) (10 ∷ []) (line_text k ++ 10 ∷ [])) (Sends-after a b c p q r f g i z (line_text l ++ 10 ∷ []) (line_text k ++ 10 ∷ []) v h w)
@@ -44,7 +46,8 @@ pub record Walked {E : Type 0} (es rest : List Entry) (m : InMaking) (count : �
   pub sends : Sends {E = E} a b p q f g sent (lines_text before)
 
 -- none is written yet
-pub none-walked : {E : Type 0} (es : List Entry) (m : InMaking) (a : Option (List ℕ)) (p : List ℕ) (f : ℕ) (u : Unit {0}) → behind_lines [] m ≡ nothing_logged → length es ≤ m.room → length es ≤ 4294967295 → Walked {E = E} es es m 0 a a p p f f (Ok u)
+pub none-walked : {E : Type 0} (es : List Entry) (m : InMaking) (a : Option (List ℕ)) (p : List ℕ) (f : ℕ) (u : Unit {0})
+    → behind_lines [] m ≡ nothing_logged → length es ≤ m.room → length es ≤ 4294967295 → Walked {E = E} es es m 0 a a p p f f (Ok u)
 none-walked es m a p f u e room limit = record {
   before = [];
   same = ap (λ x. logged_all x es) e;
@@ -55,7 +58,8 @@ none-walked es m a p f u e room limit = record {
   sends = record { whole = BuffersText-none a p; part = tt; cause = record { later = omega arith; failed = tt } };
 }
 
-pub one-entry : {E : Type 0} (es rest : List Entry) (e : Entry) (m n : InMaking) (count : ℕ) (a b c : Option (List ℕ)) (p q r : List ℕ) (f g k : ℕ) (y z : Result (Unit {0}) E) (l : Lines) → Walked {E = E} es (e ∷ rest) m count a b p q f g y
+pub one-entry : {E : Type 0} (es rest : List Entry) (e : Entry) (m n : InMaking) (count : ℕ) (a b c : Option (List ℕ)) (p q r : List ℕ) (f g k : ℕ) (y z : Result (Unit {0}) E) (l : Lines)
+    → Walked {E = E} es (e ∷ rest) m count a b p q f g y
     → ((ls : List LogLine) → behind_lines (ls ++ made_lines l) n ≡ logged_after (behind_lines ls m) e) → All Fits (made_lines l) → m.room ≤ n.room + 1
     → ((x : List ℕ) → Sends {E = E} a b p q f g y x → Sends {E = E} a c p r f k z (x ++ lines_text (made_lines l)))
     → Walked {E = E} es rest n (count + length (made_lines l)) a c p r f k z
@@ -79,7 +83,8 @@ pub record AllWalked {E : Type 0} (es : List Entry) (m : InMaking) (count : ℕ)
   pub handles : length (logged_all nothing_logged es).tracked.given ≡ length m.tracked.given
   pub sends : Sends {E = E} a b p q f g sent (lines_text (logged_all nothing_logged es).lines)
 
-pub all-walked : {E : Type 0} (es : List Entry) (m : InMaking) (count : ℕ) (a b : Option (List ℕ)) (p q : List ℕ) (f g : ℕ) (sent : Result (Unit {0}) E) → Walked {E = E} es [] m count a b p q f g sent → AllWalked {E = E} es m count a b p q f g sent
+pub all-walked : {E : Type 0} (es : List Entry) (m : InMaking) (count : ℕ) (a b : Option (List ℕ)) (p q : List ℕ) (f g : ℕ) (sent : Result (Unit {0}) E)
+    → Walked {E = E} es [] m count a b p q f g sent → AllWalked {E = E} es m count a b p q f g sent
 all-walked {E} es m count a b p q f g sent w =
     let e : w.before ≡ (logged_all nothing_logged es).lines = ap (λ (x : Logged). x.lines) w.same in
     let F : List LogLine → Type 0 = λ ls. Sends {E = E} a b p q f g sent (lines_text ls) in

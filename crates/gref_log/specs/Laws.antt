@@ -17,7 +17,8 @@ use Rattle.gref_log.specs.After.{peers_after}
 -- behind the lines of all entries of a lawful list, what is live is what the table says; so it is behind the last line
 -- of each entry of a linked history, since the entries up to there are a lawful list
 abbrev pub CountsAreTheTables : Type 0
-CountsAreTheTables = (noted : List Noted) → IsLawfulReading noted → behind_all none_live (log_of_notes noted) ≡ behind_peers (peers_after noted)
+CountsAreTheTables = (noted : List Noted) → IsLawfulReading noted
+    → behind_all none_live (log_of_notes noted) ≡ behind_peers (peers_after noted)
 
 -- a handle is live in a strength exactly where the table has it in that strength
 abbrev pub LiveAreTheRows : Type 0
@@ -38,13 +39,16 @@ pub record StandsBehindEntries (noted : List Noted) (count : ℕ) : Type 0 where
 
 -- so it is of a linked history, after each of its entries
 abbrev pub EntriesLeaveTheTable : Type 0
-EntriesLeaveTheTable = (h : Finished) (noted : List Noted) → IsLinkedBy h noted → (count : ℕ) → StandsBehindEntries noted count
+EntriesLeaveTheTable = (h : Finished) (noted : List Noted)
+    → IsLinkedBy h noted → (count : ℕ) → StandsBehindEntries noted count
 
 -- what a linked history's log never releases is exactly the rows of the table at its end, in each strength
 abbrev pub LeftAreTheRows : Type 0
 LeftAreTheRows = (h : Finished) (noted : List Noted) (lines : List LogLine) → IsLinkedBy h noted → IsLogOf h lines
-    → (hs ws : List HNum) → AreKeys (behind_all none_live lines).strong hs → AreKeys (behind_all none_live lines).weak ws → (n : ℕ)
-    → (Contains (map (λ h. h.0) hs) n ↔ HasStrength (peers_after noted) n strong) × (Contains (map (λ h. h.0) ws) n ↔ HasStrength (peers_after noted) n weak)
+    → (hs ws : List HNum) → AreKeys (behind_all none_live lines).strong hs
+    → AreKeys (behind_all none_live lines).weak ws → (n : ℕ)
+    → (Contains (map (λ h. h.0) hs) n ↔ HasStrength (peers_after noted) n strong)
+    × (Contains (map (λ h. h.0) ws) n ↔ HasStrength (peers_after noted) n weak)
 
 -- the lines are the log of a linked history: such a log is read back, and what is live behind it is what the handle
 -- table says

@@ -16,7 +16,8 @@ pub record IsLongLine (most : ℕ) (bytes : List ℕ) (number : ℕ) : Type 0 wh
   pub cut : IsFrontOf most bytes front
   pub before : List LogLine
   pub lawful : IsLog before
-  pub behind : ((front ≡ lines_text before) × (number ≡ length before + 1)) ⊎ ((front ≡ log_text before) × (number ≡ length before + 2))
+  pub behind : ((front ≡ lines_text before) × (number ≡ length before + 1))
+      ⊎ ((front ≡ log_text before) × (number ≡ length before + 2))
 
 -- the line with that number is the first that is wrong, and this is why
 abbrev pub IsFaultOfLine : List ℕ → ℕ → LogCause → Type 0

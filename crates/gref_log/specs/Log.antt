@@ -1,7 +1,8 @@
 -- The global reference log of a history: which lines its entries give. (The Xamarin.Android documentation: a line for
 -- each global and each weak global reference that comes or goes, with the numbers of those that are there.)
 -- Believed: the clauses of the program's top call rest on all that stands here.
-use Rattle.std.specs.Prelude.{◌≡◌, ℕ, Bool, true, false, if◌then◌else◌, List, [], ◌∷◌, ◌++◌, Option, Some, None, count_by}
+use Rattle.std.specs.Prelude.{◌≡◌, ℕ, Bool, true, false, if◌then◌else◌, List, [], ◌∷◌, ◌++◌, Option, Some, None}
+use Rattle.std.specs.Prelude.{count_by}
 use Rattle.joint_machine.specs.declared.lines.Act.TheVariants as act
 use Rattle.joint_machine.specs.declared.events.Op.{Op}
 use Rattle.joint_machine.specs.declared.events.Op.TheVariants as op
@@ -33,7 +34,8 @@ minus weak = WMinus
 -- the handle that a name has goes, by the strength that it was issued with
 abbrev pub unnamed : PeerReplay → Option ℕ → List Change
 unnamed s None = []
-unnamed s (Some h) = elim (numbered_at s.peers.issued h) [ None ↦ [] | Some i ↦ record { mark = minus i.strength; handle = h } ∷ [] ]
+unnamed s (Some h) = elim (numbered_at s.peers.issued h)
+    [ None ↦ [] | Some i ↦ record { mark = minus i.strength; handle = h } ∷ [] ]
 
 -- what an event with its reply changes, in order: a handle is made, gripped or given to a name; a candidate's handle is
 -- weakened; a restore gives its peer a new strong handle and removes the weak one, or only removes it; a handle is
@@ -44,7 +46,8 @@ changes s (op.Grip x) (says.Gripped p h sort f) = record { mark = GPlus; handle 
 changes s (op.Line (act.Global g v)) (says.H h) = record { mark = GPlus; handle = h.0 } ∷ []
 changes s (op.Line (act.WGlobal g v)) (says.H h) = record { mark = WPlus; handle = h.0 } ∷ []
 changes s (op.Weaken h) says.Ok = record { mark = WPlus; handle = h.0 } ∷ record { mark = GMinus; handle = h.0 } ∷ []
-changes s (op.Restore h) (says.Renewed g) = record { mark = GPlus; handle = g.0 } ∷ record { mark = WMinus; handle = h.0 } ∷ []
+changes s (op.Restore h) (says.Renewed g) = record { mark = GPlus; handle = g.0 }
+    ∷ record { mark = WMinus; handle = h.0 } ∷ []
 changes s (op.Restore h) says.Cleared = record { mark = WMinus; handle = h.0 } ∷ []
 changes s (op.Release h) says.Ok = record { mark = GMinus; handle = h.0 } ∷ []
 changes s (op.Line (act.UnGlobal g)) says.Ok = unnamed s (slot s.peers.names g.0)
@@ -79,7 +82,8 @@ peer_next s n = peer_after s n.entry.made n.told (is_peer_event n.entry.made.cal
 
 -- the lines of an entry: the handles that it gives stand in the state after it
 abbrev pub entry_lines : PeerReplay → Behind → Noted → List LogLine
-entry_lines s v n = lines_of (peer_next s n).peers.issued n.entry.number v (changes s n.entry.made.op n.entry.made.reply)
+entry_lines s v n = lines_of (peer_next s n).peers.issued n.entry.number v
+    (changes s n.entry.made.op n.entry.made.reply)
 
 -- the log of entries from a state on
 abbrev pub log_from : PeerReplay → Behind → List Noted → List LogLine

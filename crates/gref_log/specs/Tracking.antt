@@ -1,6 +1,7 @@
 -- What is tracked of the peer side while a log is made: it is computed of events and replies alone. Nothing outside of
 -- this crate rests on it.
-use Rattle.std.specs.Prelude.{ℕ, ◌+◌, ◌-◌, min, Bool, true, false, if◌then◌else◌, List, [], ◌∷◌, ◌++◌, Option, Some, None, map, replicate, slice_set}
+use Rattle.std.specs.Prelude.{ℕ, ◌+◌, ◌-◌, min, Bool, true, false, if◌then◌else◌, List, [], ◌∷◌, ◌++◌, Option, Some}
+use Rattle.std.specs.Prelude.{None, map, replicate, slice_set}
 use Rattle.joint_machine.specs.declared.names.Thread.{Thread}
 use Rattle.joint_machine.specs.declared.names.Thread.TheVariants.{P}
 use Rattle.joint_machine.specs.declared.lines.Act.{Act}
@@ -65,7 +66,8 @@ peer_at given h = elim (numbered_at given h) [ None ↦ 0 | Some g ↦ g.peer ]
 -- the handle of a name goes, by the strength that it was given with
 abbrev pub name_leaves : List Given → Option ℕ → List Change
 name_leaves given None = []
-name_leaves given (Some h) = elim (numbered_at given h) [ None ↦ [] | Some g ↦ record { mark = if g.strong then GMinus else WMinus; handle = h } ∷ [] ]
+name_leaves given (Some h) = elim (numbered_at given h)
+    [ None ↦ [] | Some g ↦ record { mark = if g.strong then GMinus else WMinus; handle = h } ∷ [] ]
 
 -- the handles that come or go by an event with its reply
 abbrev pub tracked_changes : Tracked → Op → Reply → List Change
@@ -73,8 +75,10 @@ tracked_changes t (op.Make sort f) (says.Made p h) = record { mark = GPlus; hand
 tracked_changes t (op.Grip x) (says.Gripped p h sort f) = record { mark = GPlus; handle = h.0 } ∷ []
 tracked_changes t (op.Line (act.Global g v)) (says.H h) = record { mark = GPlus; handle = h.0 } ∷ []
 tracked_changes t (op.Line (act.WGlobal g v)) (says.H h) = record { mark = WPlus; handle = h.0 } ∷ []
-tracked_changes t (op.Weaken h) says.Ok = record { mark = WPlus; handle = h.0 } ∷ record { mark = GMinus; handle = h.0 } ∷ []
-tracked_changes t (op.Restore h) (says.Renewed g) = record { mark = GPlus; handle = g.0 } ∷ record { mark = WMinus; handle = h.0 } ∷ []
+tracked_changes t (op.Weaken h) says.Ok = record { mark = WPlus; handle = h.0 }
+    ∷ record { mark = GMinus; handle = h.0 } ∷ []
+tracked_changes t (op.Restore h) (says.Renewed g) = record { mark = GPlus; handle = g.0 }
+    ∷ record { mark = WMinus; handle = h.0 } ∷ []
 tracked_changes t (op.Restore h) says.Cleared = record { mark = WMinus; handle = h.0 } ∷ []
 tracked_changes t (op.Release h) says.Ok = record { mark = GMinus; handle = h.0 } ∷ []
 tracked_changes t (op.Line (act.UnGlobal g)) says.Ok = name_leaves t.given (slot t.names g.0)
@@ -107,8 +111,10 @@ after_line t u (act.Drop v) says.Ok = with_var t u v.0 None
 after_line t u (act.Load v x) (says.P p) = with_var t u v.0 (Some p.0)
 after_line t u (act.Load v x) says.Null = with_var t u v.0 None
 after_line t u (act.WRead v g) (says.P p) = with_var t u v.0 (Some p.0)
-after_line t u (act.Global g v) (says.H h) = with_name (with_given t (peer_or_none (slot t.vars (place u v.0))) true) g.0 (Some h.0)
-after_line t u (act.WGlobal g v) (says.H h) = with_name (with_given t (peer_or_none (slot t.vars (place u v.0))) false) g.0 (Some h.0)
+after_line t u (act.Global g v) (says.H h) = with_name
+    (with_given t (peer_or_none (slot t.vars (place u v.0))) true) g.0 (Some h.0)
+after_line t u (act.WGlobal g v) (says.H h) = with_name
+    (with_given t (peer_or_none (slot t.vars (place u v.0))) false) g.0 (Some h.0)
 after_line t u (act.UnGlobal g) says.Ok = with_name t g.0 None
 after_line t u a reply = t
 
@@ -165,7 +171,14 @@ counted g WMinus = record g { gwrefc = g.gwrefc - 1 }
 
 -- the line of a change: the counts are those behind it
 abbrev pub line_after : Logged → ℕ → Change → LogLine
-line_after g number d = record { mark = d.mark; h = record { 0 = d.handle }; p = record { 0 = peer_at g.tracked.given d.handle }; grefc = g.grefc; gwrefc = g.gwrefc; entry = number }
+line_after g number d = record {
+  mark = d.mark;
+  h = record { 0 = d.handle };
+  p = record { 0 = peer_at g.tracked.given d.handle };
+  grefc = g.grefc;
+  gwrefc = g.gwrefc;
+  entry = number;
+}
 
 abbrev pub with_line : Logged → ℕ → Change → Logged
 with_line g number d = record (counted g d.mark) { lines = g.lines ++ line_after (counted g d.mark) number d ∷ [] }

@@ -1,6 +1,7 @@
 // The laws, the contracts of functions that do nothing.
 
-ghost use Rattle.gref_log.specs.Laws.{CountsAreTheTables, EntriesLeaveTheTable, LeftAreTheRows, LiveAreTheRows, LogsAreLogs};
+ghost use Rattle.gref_log.specs.Laws.{CountsAreTheTables, EntriesLeaveTheTable, LeftAreTheRows, LiveAreTheRows};
+ghost use Rattle.gref_log.specs.Laws.{LogsAreLogs};
 
 /// After the last line of each entry of a linked history what is live is what the handle table says: `grefc` is the
 /// number of its strong rows, `gwrefc` that of its weak rows, cleared ones among them, and the live handles of each

@@ -12,7 +12,8 @@ use text_limits::{front_of, newlines};
 
 // A refusal whose line is one of so many; its line where it stands behind them.
 fn within(count: u32, error: LogError) -> Result<u32, LogError>
-    ensures { MatchResult result (λ number. (why : LogCause) × (error ≡ Refused number why) × (count < number)) (λ refusal. (refusal ≡ error) × ((number : ℕ) (why : LogCause) → error ≡ Refused number why → number ≤ count)) }
+    ensures { MatchResult result (λ number. (why : LogCause) × (error ≡ Refused number why) × (count < number))
+        (λ refusal. (refusal ≡ error) × ((number : ℕ) (why : LogCause) → error ≡ Refused number why → number ≤ count)) }
 {
     match error {
         LogError::OutOfMemory => Err(LogError::OutOfMemory),

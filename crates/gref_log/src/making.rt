@@ -15,7 +15,8 @@ ghost use Rattle.gref_log.specs.declared.making.WriteFault.TheVariants as fault;
 ghost use Rattle.gref_log.specs.Laws.{LogPut};
 ghost use Rattle.gref_log.specs.After.{peers_after};
 ghost use Rattle.gref_log.specs.Log.{IsLogOf, behind_peers};
-ghost use Rattle.gref_log.specs.Tracking.{behind_lines, change_of, counted, listed, logged_after, logged_all, made_lines, nothing_logged, with_line, with_lines};
+ghost use Rattle.gref_log.specs.Tracking.{behind_lines, change_of, counted, listed, logged_after, logged_all};
+ghost use Rattle.gref_log.specs.Tracking.{made_lines, nothing_logged, with_line, with_lines};
 
 use crate::tracked::{Move, Moves, Tracker};
 use byte_streams::{Failed, Line, Sink};
@@ -53,7 +54,12 @@ impl Model for Making {
 
     ghost Value = { InMaking };
 
-    ghost view = { λ m. record { tracked = m.tracker.tracked; room = m.tracker.room; grefc = m.grefc; gwrefc = m.gwrefc } };
+    ghost view = { λ m. record {
+      tracked = m.tracker.tracked;
+      room = m.tracker.room;
+      grefc = m.grefc;
+      gwrefc = m.gwrefc;
+    } };
 }
 
 impl Lines {
@@ -96,7 +102,8 @@ impl Lines {
         line: &mut Line,
         out: &mut K,
     ) -> Result<(), Failed>
-        ensures { Sends (K.held out.old) (K.held out.new) line.old.text line.new.text (K.faults out.old) (K.faults out.new) result (lines_text (made_lines self.now)) }
+        ensures { Sends (K.held out.old) (K.held out.new) line.old.text line.new.text
+            (K.faults out.old) (K.faults out.new) result (lines_text (made_lines self.now)) }
     {
         match self {
             Lines::None => Ok(()),
@@ -117,7 +124,10 @@ impl Lines {
         line: &mut Line,
         out: &mut K,
     ) -> Result<(), Failed>
-        ensures { (held : Option (List ℕ)) (pending text : List ℕ) (faults : ℕ) → Sends held (K.held out.old) pending line.old.text faults (K.faults out.old) before text → Sends held (K.held out.new) pending line.new.text faults (K.faults out.new) result (text ++ lines_text (made_lines self.now)) }
+        ensures { (held : Option (List ℕ)) (pending text : List ℕ) (faults : ℕ)
+            → Sends held (K.held out.old) pending line.old.text faults (K.faults out.old) before text
+            → Sends held (K.held out.new) pending line.new.text faults
+            (K.faults out.new) result (text ++ lines_text (made_lines self.now)) }
     {
         before?;
         self.write(last, line, out)
@@ -127,7 +137,14 @@ impl Lines {
 // A line of these numbers, which all fit.
 #[inline(always)]
 fn numbered_line(mark: Mark, h: u32, p: u32, grefc: u32, gwrefc: u32, entry: u64) -> LogLine
-    ensures line { result ≡ record { mark = mark; h = record { 0 = h }; p = record { 0 = p }; grefc = grefc; gwrefc = gwrefc; entry = entry } }
+    ensures line { result ≡ record {
+      mark = mark;
+      h = record { 0 = h };
+      p = record { 0 = p };
+      grefc = grefc;
+      gwrefc = gwrefc;
+      entry = entry;
+    } }
     ensures fits { Fits result }
 {
     LogLine {
@@ -178,7 +195,8 @@ impl Making {
     // The line of a handle that comes or goes, which is counted.
     #[inline(always)]
     fn line(&mut self, number: u64, one: Move) -> LogLine
-        ensures line { (ls : List LogLine) → behind_lines (ls ++ result ∷ []) self.new ≡ with_line (behind_lines ls self.old) number (change_of one) }
+        ensures line { (ls : List LogLine)
+            → behind_lines (ls ++ result ∷ []) self.new ≡ with_line (behind_lines ls self.old) number (change_of one) }
         ensures fits { Fits result }
         ensures room { self.new.room ≡ self.old.room }
     {
@@ -190,7 +208,9 @@ impl Making {
     // The lines of the handles that come or go by an entry.
     #[inline(always)]
     fn lines(&mut self, number: u64, moves: Moves) -> Lines
-        ensures lines { (ls : List LogLine) → behind_lines (ls ++ made_lines result) self.new ≡ with_lines (behind_lines ls self.old) number (listed moves) }
+        ensures lines { (ls : List LogLine)
+            → behind_lines (ls ++ made_lines result) self.new ≡ with_lines
+            (behind_lines ls self.old) number (listed moves) }
         ensures fits { All Fits (made_lines result) }
         ensures room { self.new.room ≡ self.old.room }
     {
@@ -209,7 +229,8 @@ impl Making {
     #[inline(always)]
     fn take(&mut self, entry: &PackedEntry) -> Lines
         requires { 1 ≤ self.old.room }
-        ensures lines { (ls : List LogLine) → behind_lines (ls ++ made_lines result) self.new ≡ logged_after (behind_lines ls self.old) entry.now }
+        ensures lines { (ls : List LogLine)
+            → behind_lines (ls ++ made_lines result) self.new ≡ logged_after (behind_lines ls self.old) entry.now }
         ensures fits { All Fits (made_lines result) }
         ensures room { self.old.room ≤ self.new.room + 1 }
     {
@@ -222,7 +243,9 @@ impl Making {
     #[inline(always)]
     fn take_step(&mut self, step: Step) -> Lines
         requires { 1 ≤ self.old.room }
-        ensures lines { (ls : List LogLine) → behind_lines (ls ++ made_lines result) self.new ≡ logged_after (behind_lines ls self.old) (entry_of step.entry) }
+        ensures lines { (ls : List LogLine)
+            → behind_lines (ls ++ made_lines result) self.new ≡ logged_after
+            (behind_lines ls self.old) (entry_of step.entry) }
         ensures fits { All Fits (made_lines result) }
         ensures room { self.old.room ≤ self.new.room + 1 }
     {
@@ -248,7 +271,8 @@ fn write_entries<K: Sink>(
     ensures count { result.0 ≡ length (logged_all nothing_logged h.now.entries).lines }
     ensures fits { All Fits (logged_all nothing_logged h.now.entries).lines }
     ensures handles { length (logged_all nothing_logged h.now.entries).tracked.given ≤ 4294967295 }
-    ensures sends { Sends (K.held out.old) (K.held out.new) line.old.text line.new.text (K.faults out.old) (K.faults out.new) result.1 (lines_text (logged_all nothing_logged h.now.entries).lines) }
+    ensures sends { Sends (K.held out.old) (K.held out.new) line.old.text line.new.text (K.faults out.old)
+        (K.faults out.new) result.1 (lines_text (logged_all nothing_logged h.now.entries).lines) }
 {
     let mut count = 0;
     let mut sent = Ok(());
@@ -269,7 +293,8 @@ fn write_made<K: Sink>(making: &mut Making, h: &History, out: &mut K) -> Result<
     requires limit { length h.now.entries ≤ 4294967295 }
     ensures fits { All Fits (logged_all nothing_logged h.now.entries).lines }
     ensures handles { length (logged_all nothing_logged h.now.entries).tracked.given ≤ 4294967295 }
-    ensures written { Writes (K.held out.old) (K.held out.new) (K.faults out.old) (K.faults out.new) result (text_of_log (logged_all nothing_logged h.now.entries).lines) }
+    ensures written { Writes (K.held out.old) (K.held out.new) (K.faults out.old)
+        (K.faults out.new) result (text_of_log (logged_all nothing_logged h.now.entries).lines) }
 {
     let mut last = LastNumbers::new();
     let mut line = Line::new();
@@ -324,7 +349,8 @@ fn list_entries(making: &mut Making, h: &History, list: &mut Vec<LogLine>) -> Re
 pub fn log_of(alloc: Global, h: &History) -> Result<Log, AllocError>
     requires { IsLinked h.now }
     ensures log { IfOk result (λ l. IsLogOf h.now l) }
-    ensures table { IfOk result (λ l. (noted : List Noted) → IsLinkedBy h.now noted → behind_all none_live l ≡ behind_peers (peers_after noted)) }
+    ensures table { IfOk result (λ l. (noted : List Noted) → IsLinkedBy h.now noted
+        → behind_all none_live l ≡ behind_peers (peers_after noted)) }
 {
     let mut making = Making::with_room(alloc, h.len())?;
     let mut list = Vec::new(alloc);

@@ -5,7 +5,9 @@ ghost use Rattle.std.specs.Prelude.{◌≡◌, ◌+◌, ◌≤◌, [], ◌∷◌
 ghost use Rattle.joint_machine.specs.declared.events.Op.{Op};
 ghost use Rattle.joint_machine.specs.Heaps.{numbered_at, place, slot};
 ghost use Rattle.gref_log.specs.Log.{Change};
-ghost use Rattle.gref_log.specs.Tracking.{after_line, listed, name_leaves, nothing_tracked, peer_at as peer_given, peer_or_none, tracked_after, tracked_changes, with_given, with_name, with_var};
+ghost use Rattle.gref_log.specs.Tracking.{after_line, listed, name_leaves, nothing_tracked, peer_at as peer_given};
+ghost use Rattle.gref_log.specs.Tracking.{peer_or_none, tracked_after, tracked_changes, with_given, with_name};
+ghost use Rattle.gref_log.specs.Tracking.{with_var};
 
 use joint_model::{Act, HNum, Op, Reply, Thread};
 use log_text::Mark;
@@ -49,7 +51,10 @@ impl Model for Tracker {
 
     ghost Value = { TrackedInRoom };
 
-    ghost view = { λ t. record { tracked = record { vars = t.vars; names = t.names; given = t.given.items }; room = vec_capacity t.given - vec_len t.given } };
+    ghost view = { λ t. record {
+      tracked = record { vars = t.vars; names = t.names; given = t.given.items };
+      room = vec_capacity t.given - vec_len t.given;
+    } };
 
     ghost invariant = { λ t. vec_capacity t.given ≤ 4294967295 };
 }
@@ -184,7 +189,9 @@ impl Tracker {
     // A name names a new handle on a variable's peer.
     fn name_new(&mut self, thread: u8, v: u8, name: u8, h: u32, strong: bool)
         requires { 1 ≤ self.old.room }
-        ensures named { self.new.tracked ≡ with_name (with_given self.old.tracked (peer_or_none (slot self.old.tracked.vars (place thread v))) strong) name (Some h) }
+        ensures named { self.new.tracked ≡ with_name
+            (with_given self.old.tracked (peer_or_none (slot self.old.tracked.vars (place thread v))) strong) name
+            (Some h) }
         ensures room { self.old.room ≤ self.new.room + 1 }
     {
         let at = 8 * thread as usize + v as usize;

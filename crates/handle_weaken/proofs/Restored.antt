@@ -1,5 +1,6 @@
 -- Restoring handles one after another: what may still be restored stays so.
-use Rattle.std.proofs.Common.{◌≡◌, ◌≢◌, ℕ, ◌+◌, ◌≤◌, inl, inr, Bool, true, false, List, [], ◌∷◌, ◌++◌, length, Option, Some, None, refl, sym, ap, subst, ◌∙◌, arith, append_assoc, length-append, if◌then◌else◌, take, drop, get_or}
+use Rattle.std.proofs.Common.{◌≡◌, ◌≢◌, ℕ, ◌+◌, ◌≤◌, inl, inr, Bool, true, false, List, [], ◌∷◌, ◌++◌, length, Option, Some, None, refl, sym, ap, subst, ◌∙◌, arith, append_assoc, length-append}
+use Rattle.std.proofs.Common.{if◌then◌else◌, take, drop, get_or}
 use Rattle.std.specs.Prelude.{All, AllPairs, Contains}
 use Rattle.std.specs.Option.{option_to_list}
 use Rattle.std.proofs.lemmas.Option.{get_or_from_slice_get, slice_get_within}
@@ -110,15 +111,18 @@ restores-on s t h k is first apart may =
     }
 
 -- the entries that restore one more handle
-restorings-more : (index : ℕ) (hs : List HNum) (h : HNum) (bs : List (Option HNum)) (b : Option HNum) → length bs ≡ length hs → restorings index (hs ++ h ∷ []) (bs ++ b ∷ []) ≡ restorings index hs bs ++ record { made = restores index h (back_of b); told = nothing } ∷ []
+restorings-more : (index : ℕ) (hs : List HNum) (h : HNum) (bs : List (Option HNum)) (b : Option HNum) → length bs ≡ length hs
+    → restorings index (hs ++ h ∷ []) (bs ++ b ∷ []) ≡ restorings index hs bs ++ record { made = restores index h (back_of b); told = nothing } ∷ []
 restorings-more index [] h [] b e = refl
 restorings-more index [] h (c ∷ bs) b e = absurd (omega (arith, e))
 restorings-more index (k ∷ hs) h [] b e = absurd (omega (arith, e))
 restorings-more index (k ∷ hs) h (c ∷ bs) b e = ap (λ ms. record { made = restores index k (back_of c); told = nothing } ∷ ms) (restorings-more index hs h bs b (omega (arith, e)))
 
 -- one more handle is restored
-pub IsRestoring-next : {D : Type 0} (d : Drawing D) (start now next : D) (old new later : PeerModel) (index : ℕ) (h : HNum) (b : Option HNum) (done rest : List HNum) (values mid after : List (Option HNum)) → IsRestoring d start now old new index done (h ∷ rest) values mid
-    → AddsLawful peer_rules d now next (seen new) (seen later) (restores index h (back_of b)) nothing → later.reserve ≡ new.reserve → later.state.peers ≡ record new.state.peers { issued = later.state.peers.issued } → after ≡ mid ++ b ∷ [] → IsRestoring d start next old later index (done ++ h ∷ []) rest values after
+pub IsRestoring-next : {D : Type 0} (d : Drawing D) (start now next : D) (old new later : PeerModel) (index : ℕ) (h : HNum) (b : Option HNum)
+    (done rest : List HNum) (values mid after : List (Option HNum)) → IsRestoring d start now old new index done (h ∷ rest) values mid
+    → AddsLawful peer_rules d now next (seen new) (seen later) (restores index h (back_of b)) nothing → later.reserve ≡ new.reserve
+    → later.state.peers ≡ record new.state.peers { issued = later.state.peers.issued } → after ≡ mid ++ b ∷ [] → IsRestoring d start next old later index (done ++ h ∷ []) rest values after
 IsRestoring-next d start now next old new later index h b done rest values mid after r adds reserve peers pushed =
     let t = r.turns in
     let first : MayRestore new.state h.0 = All-head (λ (k : HNum). MayRestore new.state k.0) h rest r.restores in
@@ -135,12 +139,14 @@ IsRestoring-next d start now next old new later index h b done rest values mid a
       apart = apart-rest h rest r.apart;
       restores = All-members (λ k. MayRestore later.state k.0) rest (λ k there. restores-on new.state later.state h.0 k.0 adds.goes.state first (apart-first h rest k r.apart there)
           (All-contains (λ k. MayRestore new.state k.0) (h ∷ rest) k r.restores (Contains-there k h rest there)));
-      may = All-members (λ k. MayDraw peer_rules d next (seen later) C (op.Restore k)) rest (λ k there. draws-on d now next (seen new) (seen later) (restores index h (back_of b)) nothing C (op.Restore k) adds refl
+      may = All-members (λ k. MayDraw peer_rules d next (seen later) C (op.Restore k)) rest
+          (λ k there. draws-on d now next (seen new) (seen later) (restores index h (back_of b)) nothing C (op.Restore k) adds refl
           (All-contains (λ k. MayDraw peer_rules d now (seen new) C (op.Restore k)) (h ∷ rest) k r.may (Contains-there k h rest there)));
     }
 
 -- the nodes of a part, one after another
-module _ {D : Type 0} (d : Drawing D) (start now : D) (old new : PeerModel) (index : ℕ) (nodes : List Node) (i : ℕ) (values mid : List (Option HNum)) (r : IsRestoring d start now old new index (handles_of (take i nodes)) (handles_of (drop i nodes)) values mid) where
+module _ {D : Type 0} (d : Drawing D) (start now : D) (old new : PeerModel) (index : ℕ) (nodes : List Node) (i : ℕ) (values mid : List (Option HNum))
+    (r : IsRestoring d start now old new index (handles_of (take i nodes)) (handles_of (drop i nodes)) values mid) where
   module _ (h : HNum) (at : HasNode nodes i (λ n. n.handle ≡ Some h)) where
     -- the handle of the next bridge node may be restored
     first : IsRestoring d start now old new index (handles_of (take i nodes)) (h ∷ handles_of (drop (i + 1) nodes)) values mid
@@ -153,10 +159,14 @@ module _ {D : Type 0} (d : Drawing D) (start now : D) (old new : PeerModel) (ind
     next-may = All-head (λ (k : HNum). MayDraw peer_rules d now (seen new) C (op.Restore k)) h (handles_of (drop (i + 1) nodes)) first.may
 
     -- and is restored
-    pub IsRestoring-node : (next : D) (later : PeerModel) (back : Back) (b : Option HNum) (after : List (Option HNum)) → AddsLawful peer_rules d now next (seen new) (seen later) (restores index h back) nothing → back_of b ≡ back → later.reserve ≡ new.reserve → later.state.peers ≡ record new.state.peers { issued = later.state.peers.issued } → after ≡ mid ++ b ∷ []
+    pub IsRestoring-node : (next : D) (later : PeerModel) (back : Back) (b : Option HNum) (after : List (Option HNum))
+        → AddsLawful peer_rules d now next (seen new) (seen later) (restores index h back) nothing → back_of b ≡ back
+        → later.reserve ≡ new.reserve → later.state.peers ≡ record new.state.peers { issued = later.state.peers.issued } → after ≡ mid ++ b ∷ []
         → IsRestoring d start next old later index (handles_of (take (i + 1) nodes)) (handles_of (drop (i + 1) nodes)) values after
-    IsRestoring-node next later back b after adds is reserve peers pushed = subst (λ hs. IsRestoring d start next old later index hs (handles_of (drop (i + 1) nodes)) values after) (sym (done-some nodes i h at))
-        (IsRestoring-next d start now next old new later index h b (handles_of (take i nodes)) (handles_of (drop (i + 1) nodes)) values mid after first (subst (λ k. AddsLawful peer_rules d now next (seen new) (seen later) (restores index h k) nothing) (sym is) adds) reserve peers pushed)
+    IsRestoring-node next later back b after adds is reserve peers pushed = subst
+        (λ hs. IsRestoring d start next old later index hs (handles_of (drop (i + 1) nodes)) values after) (sym (done-some nodes i h at))
+        (IsRestoring-next d start now next old new later index h b (handles_of (take i nodes)) (handles_of (drop (i + 1) nodes)) values mid after first
+        (subst (λ k. AddsLawful peer_rules d now next (seen new) (seen later) (restores index h k) nothing) (sym is) adds) reserve peers pushed)
 
   -- another node is passed
   pub IsRestoring-passed : HasNode nodes i (λ n. n.handle ≡ None) → IsRestoring d start now old new index (handles_of (take (i + 1) nodes)) (handles_of (drop (i + 1) nodes)) values mid

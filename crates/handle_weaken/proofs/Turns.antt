@@ -13,7 +13,8 @@ use Rattle.bridge_graph.specs.Handles.{handles_of}
 use Rattle.bridge_graph.specs.Parts.{HasNode}
 
 -- one more entry comes after those before it
-pub turn-more : {S D : Type 0} (r : SideRules S) (d : Drawing D) (before mid after : D) (old side new : Side S) (ms : List Making) (m : Making) → AddsInTurn r d before mid old side ms → AddsLawful r d mid after side new m.made m.told → AddsInTurn r d before after old new (ms ++ m ∷ [])
+pub turn-more : {S D : Type 0} (r : SideRules S) (d : Drawing D) (before mid after : D) (old side new : Side S) (ms : List Making) (m : Making)
+    → AddsInTurn r d before mid old side ms → AddsLawful r d mid after side new m.made m.told → AddsInTurn r d before after old new (ms ++ m ∷ [])
 turn-more {S} {D} r d before mid after old side new [] m turns one =
     let from : AddsLawful r d before after side new m.made m.told = subst (λ (z : D). AddsLawful r d z after side new m.made m.told) turns.0 one in
     (after, new, subst (λ (z : Side S). AddsLawful r d before after z new m.made m.told) turns.1 from, (refl, refl))

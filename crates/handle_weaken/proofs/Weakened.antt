@@ -34,26 +34,31 @@ pub record IsWeakening {D : Type 0} (d : Drawing D) (start now : D) (old new : P
   pub may : All (λ h. MayDraw peer_rules d now (seen new) C (op.Weaken h)) rest
 
 -- a handle that may be weakened may be so after another one was
-weakens-on : (s t : PeerReplay) (h k snap : ℕ) → t ≡ record s { table = numbered_set s.table h (Some weak_row); mirror = with_weakened s.mirror h } → k ≢ h → MayWeaken s k (Some snap) → MayWeaken t k (Some snap)
+weakens-on : (s t : PeerReplay) (h k snap : ℕ) → t ≡ record s { table = numbered_set s.table h (Some weak_row); mirror = with_weakened s.mirror h }
+    → k ≢ h → MayWeaken s k (Some snap) → MayWeaken t k (Some snap)
 weakens-on s t h k snap is apart may = record {
   mirror = record may.mirror { weakened = may.mirror.weakened ++ h ∷ [] };
   stands = ap (λ (z : PeerReplay). z.mirror) is ∙ ap (λ m. with_weakened m h) may.stands;
   cited = may.cited;
   is_held = let i = may.is_held in (i.0, ap (λ (z : PeerReplay). numbered_at z.peers.issued k) is ∙ i.1, i.2);
-  strong_now = ap (λ (z : PeerReplay). row_of z k) is ∙ (ap (λ (o : Option (Option TableRow)). elim o [ None ↦ None | Some row ↦ row ]) (numbered_set-other s.table h k (Some weak_row) apart) ∙ may.strong_now);
+  strong_now = ap (λ (z : PeerReplay). row_of z k) is ∙ (ap (λ (o : Option (Option TableRow)). elim o [ None ↦ None | Some row ↦ row ]) (numbered_set-other s.table h k (Some weak_row) apart)
+      ∙ may.strong_now);
 }
 
 length-cons : (h : HNum) (hs : List HNum) → length (h ∷ hs) ≡ length hs + 1
 length-cons h hs = omega arith
 
 -- one more handle is weakened
-pub IsWeakening-next : {D : Type 0} (d : Drawing D) (start now next : D) (old new later : PeerModel) (index snap : ℕ) (h : HNum) (done rest : List HNum) → IsWeakening d start now old new index snap done (h ∷ rest)
-    → AddsLawful peer_rules d now next (seen new) (seen later) (weakens index h snap) nothing → later.reserve ≡ reserve_left new.reserve → later.state.peers ≡ new.state.peers → IsWeakening d start next old later index snap (done ++ h ∷ []) rest
+pub IsWeakening-next : {D : Type 0} (d : Drawing D) (start now next : D) (old new later : PeerModel) (index snap : ℕ) (h : HNum) (done rest : List HNum)
+    → IsWeakening d start now old new index snap done (h ∷ rest)
+    → AddsLawful peer_rules d now next (seen new) (seen later) (weakens index h snap) nothing → later.reserve ≡ reserve_left new.reserve
+    → later.state.peers ≡ new.state.peers → IsWeakening d start next old later index snap (done ++ h ∷ []) rest
 IsWeakening-next d start now next old new later index snap h done rest w adds reserve peers =
     let count : length (done ++ h ∷ []) ≡ length done + 1 = length-append done (h ∷ []) in
     let less : new.reserve.left - 1 ≡ old.reserve.left - length (done ++ h ∷ []) = omega (arith, ap (λ (z : Reserve). z.left) w.reserve) in
     record {
-      adds = subst (AddsInTurn peer_rules d start next (seen old) (seen later)) (sym (map-append (λ (k : HNum). (let m : Making = record { made = weakens index k snap; told = nothing } in m)) done (h ∷ [])))
+      adds = subst (AddsInTurn peer_rules d start next (seen old) (seen later))
+          (sym (map-append (λ (k : HNum). (let m : Making = record { made = weakens index k snap; told = nothing } in m)) done (h ∷ [])))
           (turn-more peer_rules d start now next (seen old) (seen new) (seen later) (weakenings index snap done) (record { made = weakens index h snap; told = nothing }) w.adds adds);
       reserve = reserve ∙ (ap (λ (z : Reserve). record z { left = new.reserve.left - 1 }) w.reserve ∙ ap (λ n. record old.reserve { left = n }) less);
       peers = peers ∙ w.peers;
@@ -61,12 +66,14 @@ IsWeakening-next d start now next old new later index snap h done rest w adds re
       apart = apart-rest h rest w.apart;
       weakens = All-members (λ k. MayWeaken later.state k.0 (Some snap)) rest (λ k there. weakens-on new.state later.state h.0 k.0 snap adds.goes.state (apart-first h rest k w.apart there)
           (All-contains (λ k. MayWeaken new.state k.0 (Some snap)) (h ∷ rest) k w.weakens (Contains-there k h rest there)));
-      may = All-members (λ k. MayDraw peer_rules d next (seen later) C (op.Weaken k)) rest (λ k there. draws-on d now next (seen new) (seen later) (weakens index h snap) nothing C (op.Weaken k) adds refl
+      may = All-members (λ k. MayDraw peer_rules d next (seen later) C (op.Weaken k)) rest
+          (λ k there. draws-on d now next (seen new) (seen later) (weakens index h snap) nothing C (op.Weaken k) adds refl
           (All-contains (λ k. MayDraw peer_rules d now (seen new) C (op.Weaken k)) (h ∷ rest) k w.may (Contains-there k h rest there)));
     }
 
 -- the nodes of a part, one after another
-module _ {D : Type 0} (d : Drawing D) (start now : D) (old new : PeerModel) (index snap : ℕ) (nodes : List Node) (i : ℕ) (w : IsWeakening d start now old new index snap (handles_of (take i nodes)) (handles_of (drop i nodes))) where
+module _ {D : Type 0} (d : Drawing D) (start now : D) (old new : PeerModel) (index snap : ℕ) (nodes : List Node)
+    (i : ℕ) (w : IsWeakening d start now old new index snap (handles_of (take i nodes)) (handles_of (drop i nodes))) where
   module _ (h : HNum) (at : HasNode nodes i (λ n. n.handle ≡ Some h)) where
     -- the handle of the next bridge node may be weakened
     first : IsWeakening d start now old new index snap (handles_of (take i nodes)) (h ∷ handles_of (drop (i + 1) nodes))
@@ -82,9 +89,11 @@ module _ {D : Type 0} (d : Drawing D) (start now : D) (old new : PeerModel) (ind
     next-may = All-head (λ (k : HNum). MayDraw peer_rules d now (seen new) C (op.Weaken k)) h (handles_of (drop (i + 1) nodes)) first.may
 
     -- and is weakened
-    pub IsWeakening-node : (next : D) (later : PeerModel) → AddsLawful peer_rules d now next (seen new) (seen later) (weakens index h snap) nothing → later.reserve ≡ reserve_left new.reserve → later.state.peers ≡ new.state.peers
+    pub IsWeakening-node : (next : D) (later : PeerModel) → AddsLawful peer_rules d now next (seen new) (seen later) (weakens index h snap) nothing
+        → later.reserve ≡ reserve_left new.reserve → later.state.peers ≡ new.state.peers
         → IsWeakening d start next old later index snap (handles_of (take (i + 1) nodes)) (handles_of (drop (i + 1) nodes))
-    IsWeakening-node next later adds reserve peers = subst (λ hs. IsWeakening d start next old later index snap hs (handles_of (drop (i + 1) nodes))) (sym (done-some nodes i h at)) (IsWeakening-next d start now next old new later index snap h (handles_of (take i nodes)) (handles_of (drop (i + 1) nodes)) first adds reserve peers)
+    IsWeakening-node next later adds reserve peers = subst (λ hs. IsWeakening d start next old later index snap hs (handles_of (drop (i + 1) nodes))) (sym (done-some nodes i h at))
+        (IsWeakening-next d start now next old new later index snap h (handles_of (take i nodes)) (handles_of (drop (i + 1) nodes)) first adds reserve peers)
 
   -- another node is passed
   pub IsWeakening-passed : HasNode nodes i (λ n. n.handle ≡ None) → IsWeakening d start now old new index snap (handles_of (take (i + 1) nodes)) (handles_of (drop (i + 1) nodes))

@@ -21,10 +21,12 @@ reserve_weakened r n = record r { left = r.left - n }
 abbrev pub restorings : ℕ → List HNum → List (Option HNum) → List Making
 restorings index [] answers = []
 restorings index (h ∷ hs) [] = []
-restorings index (h ∷ hs) (b ∷ bs) = record { made = restores index h (back_of b); told = nothing } ∷ restorings index hs bs
+restorings index (h ∷ hs) (b ∷ bs) = record { made = restores index h (back_of b); told = nothing } ∷ restorings
+    index hs bs
 
 -- these handles were restored one after another; the answers, one for each of them, were put last
-pub record RestoresInTurn {D : Type 0} (d : Drawing D) (before after : D) (old new : Side PeerReplay) (index : ℕ) (hs : List HNum) (values later : List (Option HNum)) : Type 0 where
+pub record RestoresInTurn {D : Type 0} (d : Drawing D) (before after : D) (old new : Side PeerReplay)
+    (index : ℕ) (hs : List HNum) (values later : List (Option HNum)) : Type 0 where
   pub answers : List (Option HNum)
   pub each : length answers ≡ length hs
   pub put : later ≡ values ++ answers

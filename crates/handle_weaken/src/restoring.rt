@@ -24,8 +24,10 @@ use peer_heap::PeerSide;
 pub fn restore_one<D: Draw>(side: &mut PeerSide, draw: &mut D, index: u32, h: HNum) -> Back
     requires restores { MayRestore side.old.state h.0 }
     requires may { MayDraw peer_rules D.rules draw.old (seen side.old) Thread.C (Op.Restore h) }
-    ensures adds { AddsLawful peer_rules D.rules draw.old draw.new (seen side.old) (seen side.new) (restores index h result) nothing }
-    ensures cleared { (row : TableRow) → row_of side.old.state h.0 ≡ Some row → ((result ≡ Back.Cleared) ↔ (row.cleared ≡ true)) }
+    ensures adds { AddsLawful peer_rules D.rules draw.old draw.new
+        (seen side.old) (seen side.new) (restores index h result) nothing }
+    ensures cleared { (row : TableRow) → row_of side.old.state h.0 ≡ Some row
+        → ((result ≡ Back.Cleared) ↔ (row.cleared ≡ true)) }
     ensures number { (g : HNum) → result ≡ Back.Alive g → g.0 ≡ next_handle side.old.state.peers }
     ensures reserve { side.new.reserve ≡ side.old.reserve }
     ensures peers { side.new.state.peers ≡ record side.old.state.peers { issued = side.new.state.peers.issued } }
@@ -45,8 +47,10 @@ pub fn restore_all<D: Draw>(
     requires apart { AllPairs (λ h k. h.0 ≢ k.0) (handles_of graph.now.nodes) }
     requires room { length (handles_of graph.now.nodes) ≤ alive.old.room }
     requires restores { All (λ h. MayRestore side.old.state h.0) (handles_of graph.now.nodes) }
-    requires may { All (λ h. MayDraw peer_rules D.rules draw.old (seen side.old) Thread.C (Op.Restore h)) (handles_of graph.now.nodes) }
-    ensures restores { RestoresInTurn D.rules draw.old draw.new (seen side.old) (seen side.new) index (handles_of graph.now.nodes) alive.old.values alive.new.values }
+    requires may { All (λ h. MayDraw peer_rules D.rules draw.old (seen side.old) Thread.C (Op.Restore h))
+        (handles_of graph.now.nodes) }
+    ensures restores { RestoresInTurn D.rules draw.old draw.new (seen side.old)
+        (seen side.new) index (handles_of graph.now.nodes) alive.old.values alive.new.values }
     ensures room { alive.new.room + length (handles_of graph.now.nodes) ≡ alive.old.room }
     ensures reserve { side.new.reserve ≡ side.old.reserve }
     ensures peers { side.new.state.peers ≡ record side.old.state.peers { issued = side.new.state.peers.issued } }

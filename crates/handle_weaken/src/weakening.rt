@@ -19,7 +19,8 @@ pub fn weaken_one<D: Draw>(side: &mut PeerSide, draw: &mut D, index: u32, cites:
     requires left { 1 ≤ side.old.reserve.left }
     requires weakens { MayWeaken side.old.state h.0 (Some cites) }
     requires may { MayDraw peer_rules D.rules draw.old (seen side.old) Thread.C (Op.Weaken h) }
-    ensures adds { AddsLawful peer_rules D.rules draw.old draw.new (seen side.old) (seen side.new) (weakens index h cites) nothing }
+    ensures adds { AddsLawful peer_rules D.rules draw.old draw.new
+        (seen side.old) (seen side.new) (weakens index h cites) nothing }
     ensures reserve { side.new.reserve ≡ reserve_left side.old.reserve }
     ensures peers { side.new.state.peers ≡ side.old.state.peers }
 {
@@ -38,8 +39,10 @@ pub fn weaken_all<D: Draw>(
     requires apart { AllPairs (λ h k. h.0 ≢ k.0) (handles_of graph.now.nodes) }
     requires left { length (handles_of graph.now.nodes) ≤ side.old.reserve.left }
     requires weakens { All (λ h. MayWeaken side.old.state h.0 (Some cites)) (handles_of graph.now.nodes) }
-    requires may { All (λ h. MayDraw peer_rules D.rules draw.old (seen side.old) Thread.C (Op.Weaken h)) (handles_of graph.now.nodes) }
-    ensures adds { AddsInTurn peer_rules D.rules draw.old draw.new (seen side.old) (seen side.new) (weakenings index cites (handles_of graph.now.nodes)) }
+    requires may { All (λ h. MayDraw peer_rules D.rules draw.old (seen side.old) Thread.C (Op.Weaken h))
+        (handles_of graph.now.nodes) }
+    ensures adds { AddsInTurn peer_rules D.rules draw.old draw.new (seen side.old)
+        (seen side.new) (weakenings index cites (handles_of graph.now.nodes)) }
     ensures reserve { side.new.reserve ≡ reserve_weakened side.old.reserve (length (handles_of graph.now.nodes)) }
     ensures peers { side.new.state.peers ≡ side.old.state.peers }
 {

@@ -1,5 +1,6 @@
 -- What the top call does.
-use Rattle.std.specs.Prelude.{◌≡◌, ℕ, ◌<◌, ◌≤◌, ◌^◌, List, [], ◌∷◌, Option, Result, Ok, Err, codes, decimal, drop, map, string_bytes}
+use Rattle.std.specs.Prelude.{◌≡◌, ℕ, ◌<◌, ◌≤◌, ◌^◌, List, [], ◌∷◌, Option, Result, Ok, Err, codes, decimal, drop, map}
+use Rattle.std.specs.Prelude.{string_bytes}
 use Rattle.std.specs.Io.KnownBytes.{Appends, Keeps}
 use Rattle.std.specs.Vec.Iter.{into_iter_items}
 use Rattle.std.specs.declared.string.String.{String}
@@ -30,7 +31,8 @@ pub record RefusalOf (most : ℕ) (input : List ℕ) (n : ℕ) (Put : List ℕ �
   pub put : Put (refusal_line refusal)
 
 -- the words name an entry, the source was read, and the picture after that entry of what was taken was put
-pub record PicturePut (most : ℕ) (words : List (List ℕ)) (left rest : Option (List ℕ)) (Put : List ℕ → Type 0) : Type 0 where
+pub record PicturePut (most : ℕ) (words : List (List ℕ))
+    (left rest : Option (List ℕ)) (Put : List ℕ → Type 0) : Type 0 where
   pub entry : ℕ
   pub named : NamesEntry words entry
   pub input : List ℕ
@@ -38,7 +40,8 @@ pub record PicturePut (most : ℕ) (words : List (List ℕ)) (left rest : Option
   pub picture : PictureOf input entry Put
 
 -- the same, and why there is none was put
-pub record RefusalPut (most : ℕ) (words : List (List ℕ)) (left rest : Option (List ℕ)) (Put : List ℕ → Type 0) : Type 0 where
+pub record RefusalPut (most : ℕ) (words : List (List ℕ))
+    (left rest : Option (List ℕ)) (Put : List ℕ → Type 0) : Type 0 where
   pub entry : ℕ
   pub named : NamesEntry words entry
   pub input : List ℕ
@@ -57,7 +60,8 @@ words_told (Err e) = []
 
 -- how the program ends that was asked by these words: with the status, the bytes and the counts of faults that the top
 -- call promises
-pub record Ends (words : List (List ℕ)) (left rest : Option (List ℕ)) (read_before read_now : ℕ) (held after : Option (List ℕ)) (write_before write_now status : ℕ) : Type 0 where
+pub record Ends (words : List (List ℕ)) (left rest : Option (List ℕ)) (read_before read_now : ℕ)
+    (held after : Option (List ℕ)) (write_before write_now status : ℕ) : Type 0 where
   pub printed : status ≡ 0 → PicturePut 268435456 words left rest (Appends held after)
   pub usage : status ≡ 1 → UsagePut words (Appends held after)
   pub read : status ≡ 2 → Rose read_before read_now × Keeps held after

@@ -40,7 +40,8 @@ pub enum Refusal {
 impl Refusal {
     /// Writes the line that says it.
     pub(crate) fn write<K: Sink>(self, out: &mut K) -> Result<(), Failed>
-        ensures { Writes (K.held out.old) (K.held out.new) (K.faults out.old) (K.faults out.new) result (refusal_line self) }
+        ensures { Writes (K.held out.old) (K.held out.new)
+            (K.faults out.old) (K.faults out.new) result (refusal_line self) }
     {
         match self {
             Refusal::Line(fault) => write_report_refusal(fault, out),
@@ -54,7 +55,8 @@ impl Refusal {
 
 // Writes which line holds the first byte behind the limit.
 fn write_long<K: Sink>(line: u32, out: &mut K) -> Result<(), Failed>
-    ensures { Writes (K.held out.old) (K.held out.new) (K.faults out.old) (K.faults out.new) result (refusal_line (Refusal.Long line)) }
+    ensures { Writes (K.held out.old) (K.held out.new) (K.faults out.old)
+        (K.faults out.new) result (refusal_line (Refusal.Long line)) }
 {
     let fault = ScriptFault {
         line,

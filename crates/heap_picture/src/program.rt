@@ -24,7 +24,8 @@ pub fn run_program<S: Source, K: Sink>(
     src: &mut S,
     out: &mut K,
 ) -> ExitCode
-    ensures ends { Ends (words_told args) (S.left src.old) (S.left src.new) (S.faults src.old) (S.faults src.new) (K.held out.old) (K.held out.new) (K.faults out.old) (K.faults out.new) (exit_status result) }
+    ensures ends { Ends (words_told args) (S.left src.old) (S.left src.new) (S.faults src.old) (S.faults src.new)
+        (K.held out.old) (K.held out.new) (K.faults out.old) (K.faults out.new) (exit_status result) }
 {
     match words_of(alloc, args) {
         Ok(words) => ExitCode::from(picture_main(alloc, &words, src, out)),

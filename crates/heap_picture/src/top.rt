@@ -4,7 +4,8 @@ ghost use Rattle.std.specs.Prelude.{◌≡◌, ◌≤◌, ◌<◌, ◌⊎◌, ma
 ghost use Rattle.std.specs.Io.KnownBytes.{Appends, Keeps};
 ghost use Rattle.byte_streams.specs.Faults.{Rose};
 ghost use Rattle.heap_picture.specs.Drawn.{refusal_line};
-ghost use Rattle.heap_picture.specs.Top.{NamesEntry, PictureOf, PicturePut, RefusalOf, RefusalPut, UsagePut, usage_text};
+ghost use Rattle.heap_picture.specs.Top.{NamesEntry, PictureOf, PicturePut, RefusalOf, RefusalPut, UsagePut};
+ghost use Rattle.heap_picture.specs.Top.{usage_text};
 
 use crate::drawing::{Drawn, Refusal, draw};
 use crate::statuses::{DONE, NO_MEMORY, READ_FAULT, REFUSED, USAGE, WRITE_FAULT};
@@ -25,10 +26,13 @@ pub fn picture_main<S: Source, K: Sink>(
     src: &mut S,
     out: &mut K,
 ) -> u8
-    ensures printed { result ≡ 0 → PicturePut 268435456 (map string_bytes words.now.items) (S.left src.old) (S.left src.new) (Appends (K.held out.old) (K.held out.new)) }
-    ensures usage { result ≡ 1 → UsagePut (map string_bytes words.now.items) (Appends (K.held out.old) (K.held out.new)) }
+    ensures printed { result ≡ 0 → PicturePut 268435456 (map string_bytes words.now.items)
+        (S.left src.old) (S.left src.new) (Appends (K.held out.old) (K.held out.new)) }
+    ensures usage { result ≡ 1 → UsagePut (map string_bytes words.now.items)
+        (Appends (K.held out.old) (K.held out.new)) }
     ensures read { result ≡ 2 → Rose (S.faults src.old) (S.faults src.new) × Keeps (K.held out.old) (K.held out.new) }
-    ensures refused { result ≡ 3 → RefusalPut 268435456 (map string_bytes words.now.items) (S.left src.old) (S.left src.new) (Appends (K.held out.old) (K.held out.new)) }
+    ensures refused { result ≡ 3 → RefusalPut 268435456 (map string_bytes words.now.items)
+        (S.left src.old) (S.left src.new) (Appends (K.held out.old) (K.held out.new)) }
     ensures write { result ≡ 4 → Rose (K.faults out.old) (K.faults out.new) }
     ensures memory { result ≡ 5 → Keeps (K.held out.old) (K.held out.new) }
     ensures status { result ≤ 5 }
@@ -60,9 +64,11 @@ fn print_picture<S: Source, K: Sink>(
     out: &mut K,
 ) -> u8
     requires { NamesEntry (map string_bytes words.now.items) n }
-    ensures printed { result ≡ 0 → PicturePut 268435456 (map string_bytes words.now.items) (S.left src.old) (S.left src.new) (Appends (K.held out.old) (K.held out.new)) }
+    ensures printed { result ≡ 0 → PicturePut 268435456 (map string_bytes words.now.items)
+        (S.left src.old) (S.left src.new) (Appends (K.held out.old) (K.held out.new)) }
     ensures read { result ≡ 2 → Rose (S.faults src.old) (S.faults src.new) × Keeps (K.held out.old) (K.held out.new) }
-    ensures refused { result ≡ 3 → RefusalPut 268435456 (map string_bytes words.now.items) (S.left src.old) (S.left src.new) (Appends (K.held out.old) (K.held out.new)) }
+    ensures refused { result ≡ 3 → RefusalPut 268435456 (map string_bytes words.now.items)
+        (S.left src.old) (S.left src.new) (Appends (K.held out.old) (K.held out.new)) }
     ensures write { result ≡ 4 → Rose (K.faults out.old) (K.faults out.new) }
     ensures memory { result ≡ 5 → Keeps (K.held out.old) (K.held out.new) }
     ensures status { (result ≡ 0) ⊎ ((2 ≤ result) × (result ≤ 5)) }

@@ -7,7 +7,8 @@ use text_words::number;
 
 /// The number of the entry that the words name: one word, a decimal number without needless zeros.
 pub(crate) fn entry_of(words: &Vec<String>) -> Option<u64>
-    ensures { MatchOption result ((n : ℕ) → NamesEntry (map string_bytes words.now.items) n → ⊥) (λ n. NamesEntry (map string_bytes words.now.items) n) }
+    ensures { MatchOption result ((n : ℕ) → NamesEntry (map string_bytes words.now.items) n → ⊥)
+        (λ n. NamesEntry (map string_bytes words.now.items) n) }
 {
     if words.len() != 1 {
         return None;

@@ -19,7 +19,8 @@ or-false true = refl
 or-false false = refl
 
 -- one number more was raised
-pub flags-more : (most : ℕ) (numbers : List ℕ) (i : ℕ) (old new : List Bool) → i < length numbers → length old ≡ most + 1 → AreFlags most (take i numbers) old → Raises (get_or numbers i 0) old new → AreFlags most (take (i + 1) numbers) new
+pub flags-more : (most : ℕ) (numbers : List ℕ) (i : ℕ) (old new : List Bool) → i < length numbers → length old ≡ most + 1
+    → AreFlags most (take i numbers) old → Raises (get_or numbers i 0) old new → AreFlags most (take (i + 1) numbers) new
 flags-more most numbers i old new l len before raised n w = by (nat_eq n (get_or numbers i 0)) refl
   where
     more : is_in (take (i + 1) numbers) n ≡ (is_in (take i numbers) n || nat_eq n (get_or numbers i 0))

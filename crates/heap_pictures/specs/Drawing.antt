@@ -1,5 +1,6 @@
 -- The picture of what there is to see: a function of it. All lists stand by rising number.
-use Rattle.std.specs.Prelude.{ℕ, Bool, true, false, ◌&&◌, not, if◌then◌else◌, List, [], ◌∷◌, ◌++◌, length, filter, Option, Some, None}
+use Rattle.std.specs.Prelude.{ℕ, Bool, true, false, ◌&&◌, not, if◌then◌else◌, List, [], ◌∷◌, ◌++◌, length, filter}
+use Rattle.std.specs.Prelude.{Option, Some, None}
 use Rattle.std.specs.List.{flat_map, range_with_len}
 use Rattle.joint_machine.specs.Components.{End, node, temporary}
 use Rattle.joint_machine.specs.Heaps.{Heap, slot, numbered_at, fields_of}
@@ -29,7 +30,8 @@ numbers_to n = range_with_len 1 n
 
 -- a node for each unfreed object of either heap
 abbrev pub object_node : Joint → ℕ → List ObjectNode
-object_node j m = if is_live j.graph.managed.heap m then record { m = m; kind = numbered_at j.graph.managed.kinds m } ∷ [] else []
+object_node j m = if is_live j.graph.managed.heap m then
+    record { m = m; kind = numbered_at j.graph.managed.kinds m } ∷ [] else []
 
 abbrev pub object_nodes : Joint → List ObjectNode
 object_nodes j = flat_map (object_node j) (numbers_to (length j.graph.managed.heap.fields))
@@ -51,7 +53,8 @@ spot_of Peers x = spot.Peer x
 
 -- an arrow for each field of an unfreed object that holds another
 abbrev pub field_arrow : Side → Heap → ℕ → ℕ → List Arrow
-field_arrow side h x i = elim (kept_target h (slot (fields_of h x) i)) [ None ↦ [] | Some y ↦ arrow.Field (spot_of side x) i (spot_of side y) ∷ [] ]
+field_arrow side h x i = elim (kept_target h (slot (fields_of h x) i))
+    [ None ↦ [] | Some y ↦ arrow.Field (spot_of side x) i (spot_of side y) ∷ [] ]
 
 abbrev pub row_arrows : Side → Heap → ℕ → List Arrow
 row_arrows side h x = flat_map (field_arrow side h x) (range_with_len 0 (length (fields_of h x)))
@@ -78,10 +81,12 @@ faded_style j h = if is_tabled j h then style.Cleared else style.Gone
 -- freed
 abbrev pub held_arrow : View → ℕ → ℕ → Option ℕ → List Arrow
 held_arrow v m h None = []
-held_arrow v m h (Some p) = if is_live v.joint.graph.peers.heap p then arrow.Held m h p (held_style v h) ∷ [] else arrow.Faded m h (faded_style v.joint h) ∷ []
+held_arrow v m h (Some p) = if is_live v.joint.graph.peers.heap p then arrow.Held m h p
+    (held_style v h) ∷ [] else arrow.Faded m h (faded_style v.joint h) ∷ []
 
 abbrev pub tie : View → ℕ → List Arrow
-tie v m = elim (handle_of v.joint.graph.managed m) [ None ↦ [] | Some h ↦ held_arrow v m h (peer_of v.joint.graph.peers.issued h) ]
+tie v m = elim (handle_of v.joint.graph.managed m)
+    [ None ↦ [] | Some h ↦ held_arrow v m h (peer_of v.joint.graph.peers.issued h) ]
 
 abbrev pub ties : View → List Arrow
 ties v = flat_map (tie v) (numbers_to (length v.joint.graph.managed.heap.fields))
@@ -112,8 +117,11 @@ abbrev pub slot_arrows : Joint → Slots → List (Option ℕ) → List Arrow
 slot_arrows j s xs = flat_map (λ i. slot_arrow j s i (slot xs i)) (range_with_len 0 (length xs))
 
 abbrev pub all_slots : Joint → List Arrow
-all_slots j = slot_arrows j slots.ManagedVars j.graph.managed.heap.vars ++ (slot_arrows j slots.ManagedStatics j.graph.managed.heap.statics ++ (slot_arrows j slots.Pins j.graph.managed.pins
-    ++ (slot_arrows j slots.PeerVars j.graph.peers.heap.vars ++ (slot_arrows j slots.PeerStatics j.graph.peers.heap.statics ++ slot_arrows j slots.Names j.graph.peers.names))))
+all_slots j = slot_arrows j slots.ManagedVars
+    j.graph.managed.heap.vars ++ (slot_arrows j slots.ManagedStatics
+    j.graph.managed.heap.statics ++ (slot_arrows j slots.Pins j.graph.managed.pins
+    ++ (slot_arrows j slots.PeerVars j.graph.peers.heap.vars ++
+    (slot_arrows j slots.PeerStatics j.graph.peers.heap.statics ++ slot_arrows j slots.Names j.graph.peers.names))))
 
 -- the handle that a managed object holds, if it holds one
 abbrev pub handle_list : Joint → ℕ → List ℕ
@@ -133,14 +141,16 @@ grip_style i = if is_held i.hold then style.Full else if is_strong i.strength th
 
 -- the box of a handle, and its arrow where its peer isn't freed
 abbrev pub box_arrow : Joint → ℕ → Issued → List Arrow
-box_arrow j h i = if is_live j.graph.peers.heap i.peer then arrow.Grips h i.peer (grip_style i) ∷ [] else arrow.Stub h ∷ []
+box_arrow j h i = if is_live j.graph.peers.heap i.peer then arrow.Grips h i.peer
+    (grip_style i) ∷ [] else arrow.Stub h ∷ []
 
 abbrev pub box_of : Joint → List ℕ → ℕ → Option Issued → List Arrow
 box_of j owners h None = []
 box_of j owners h (Some i) = if is_tabled j h && is_box owners h i then box_arrow j h i else []
 
 abbrev pub boxes : Joint → List Arrow
-boxes j = flat_map (λ h. box_of j (owned j) h (numbered_at j.graph.peers.issued h)) (numbers_to (length j.graph.peers.issued))
+boxes j = flat_map (λ h. box_of j (owned j) h (numbered_at j.graph.peers.issued h))
+    (numbers_to (length j.graph.peers.issued))
 
 -- the references that a cycle added, between unfreed peers
 abbrev pub ref_spot : End → Spot
@@ -148,14 +158,16 @@ ref_spot (node p) = spot.Peer p
 ref_spot (temporary i) = spot.Temporary i
 
 abbrev pub ref_arrow : Joint → End × End → List Arrow
-ref_arrow j e = if is_there j (ref_spot e.0) && is_there j (ref_spot e.1) then arrow.Refers (ref_spot e.0) (ref_spot e.1) ∷ [] else []
+ref_arrow j e = if is_there j (ref_spot e.0) && is_there j
+    (ref_spot e.1) then arrow.Refers (ref_spot e.0) (ref_spot e.1) ∷ [] else []
 
 abbrev pub ref_arrows : View → List Arrow
 ref_arrows v = flat_map (ref_arrow v.joint) v.refs
 
 -- all arrows
 abbrev pub arrows_of : View → List Arrow
-arrows_of v = field_arrows Managed v.joint.graph.managed.heap ++ (field_arrows Peers v.joint.graph.peers.heap ++ (ties v ++ (all_slots v.joint ++ (boxes v.joint ++ ref_arrows v))))
+arrows_of v = field_arrows Managed v.joint.graph.managed.heap ++
+    (field_arrows Peers v.joint.graph.peers.heap ++ (ties v ++ (all_slots v.joint ++ (boxes v.joint ++ ref_arrows v))))
 
 -- the picture
 abbrev pub drawing_of : View → Drawing

@@ -3,7 +3,10 @@
 ghost use Rattle.std.specs.Prelude.{◌≡◌, ◌++◌, ◌<◌, OnOk, IfOk, length};
 ghost use Rattle.joint_machine.specs.Heaps.{fields_of};
 ghost use Rattle.heap_views.specs.Mirrored.{end_as, ends_as};
-ghost use Rattle.heap_pictures.specs.Drawing.{all_slots, arrows_of, boxes, drawing_of, drawn_of, field_arrow, field_arrows, object_arrows, object_node, object_nodes, peer_node, peer_nodes, ref_arrow, ref_arrows, ref_spot, row_arrows, slot_arrows, spot_of};
+ghost use Rattle.heap_pictures.specs.Drawing.{all_slots, arrows_of, boxes, drawing_of, drawn_of, field_arrow};
+ghost use Rattle.heap_pictures.specs.Drawing.{field_arrows, object_arrows, object_node, object_nodes, peer_node};
+ghost use Rattle.heap_pictures.specs.Drawing.{peer_nodes, ref_arrow, ref_arrows, ref_spot, row_arrows, slot_arrows};
+ghost use Rattle.heap_pictures.specs.Drawing.{spot_of};
 
 use crate::handles::{push_boxes, push_ties};
 use crate::pictures::{Arrow, ObjectNode, PeerNode, Picture, Side, Slots, Spot};
@@ -177,14 +180,16 @@ fn push_refs(view: &HeapView, arrows: &mut Vec<Arrow>) -> Result<(), AllocError>
 
 // The variables of managed threads.
 fn push_managed_vars(joint: &JointState, arrows: &mut Vec<Arrow>) -> Result<(), AllocError>
-    ensures { OnOk result (arrows.new.items ≡ arrows.old.items ++ slot_arrows joint.now Slots.ManagedVars joint.now.graph.managed.heap.vars) }
+    ensures { OnOk result (arrows.new.items ≡ arrows.old.items ++ slot_arrows
+        joint.now Slots.ManagedVars joint.now.graph.managed.heap.vars) }
 {
     push_slots(joint, Slots::ManagedVars, joint.objects().vars(), arrows)
 }
 
 // The statics of the managed heap.
 fn push_managed_statics(joint: &JointState, arrows: &mut Vec<Arrow>) -> Result<(), AllocError>
-    ensures { OnOk result (arrows.new.items ≡ arrows.old.items ++ slot_arrows joint.now Slots.ManagedStatics joint.now.graph.managed.heap.statics) }
+    ensures { OnOk result (arrows.new.items ≡ arrows.old.items ++ slot_arrows
+        joint.now Slots.ManagedStatics joint.now.graph.managed.heap.statics) }
 {
     push_slots(
         joint,
@@ -196,28 +201,32 @@ fn push_managed_statics(joint: &JointState, arrows: &mut Vec<Arrow>) -> Result<(
 
 // The pins.
 fn push_pins(joint: &JointState, arrows: &mut Vec<Arrow>) -> Result<(), AllocError>
-    ensures { OnOk result (arrows.new.items ≡ arrows.old.items ++ slot_arrows joint.now Slots.Pins joint.now.graph.managed.pins) }
+    ensures { OnOk result (arrows.new.items ≡ arrows.old.items ++ slot_arrows
+        joint.now Slots.Pins joint.now.graph.managed.pins) }
 {
     push_slots(joint, Slots::Pins, joint.pins(), arrows)
 }
 
 // The variables of peer threads.
 fn push_peer_vars(joint: &JointState, arrows: &mut Vec<Arrow>) -> Result<(), AllocError>
-    ensures { OnOk result (arrows.new.items ≡ arrows.old.items ++ slot_arrows joint.now Slots.PeerVars joint.now.graph.peers.heap.vars) }
+    ensures { OnOk result (arrows.new.items ≡ arrows.old.items ++ slot_arrows
+        joint.now Slots.PeerVars joint.now.graph.peers.heap.vars) }
 {
     push_slots(joint, Slots::PeerVars, joint.peers().vars(), arrows)
 }
 
 // The statics of the peer heap.
 fn push_peer_statics(joint: &JointState, arrows: &mut Vec<Arrow>) -> Result<(), AllocError>
-    ensures { OnOk result (arrows.new.items ≡ arrows.old.items ++ slot_arrows joint.now Slots.PeerStatics joint.now.graph.peers.heap.statics) }
+    ensures { OnOk result (arrows.new.items ≡ arrows.old.items ++ slot_arrows
+        joint.now Slots.PeerStatics joint.now.graph.peers.heap.statics) }
 {
     push_slots(joint, Slots::PeerStatics, joint.peers().statics(), arrows)
 }
 
 // The global names.
 fn push_names(joint: &JointState, arrows: &mut Vec<Arrow>) -> Result<(), AllocError>
-    ensures { OnOk result (arrows.new.items ≡ arrows.old.items ++ slot_arrows joint.now Slots.Names joint.now.graph.peers.names) }
+    ensures { OnOk result (arrows.new.items ≡ arrows.old.items ++ slot_arrows
+        joint.now Slots.Names joint.now.graph.peers.names) }
 {
     push_slots(joint, Slots::Names, joint.names(), arrows)
 }
@@ -237,14 +246,16 @@ fn push_all_slots(joint: &JointState, arrows: &mut Vec<Arrow>) -> Result<(), All
 
 // The arrows of the managed objects' fields.
 fn push_object_fields(view: &HeapView, arrows: &mut Vec<Arrow>) -> Result<(), AllocError>
-    ensures { OnOk result (arrows.new.items ≡ arrows.old.items ++ field_arrows Side.Managed view.now.joint.graph.managed.heap) }
+    ensures { OnOk result (arrows.new.items ≡ arrows.old.items ++ field_arrows
+        Side.Managed view.now.joint.graph.managed.heap) }
 {
     push_fields(Side::Managed, view.joint().objects(), arrows)
 }
 
 // The arrows of the peers' fields.
 fn push_peer_fields(view: &HeapView, arrows: &mut Vec<Arrow>) -> Result<(), AllocError>
-    ensures { OnOk result (arrows.new.items ≡ arrows.old.items ++ field_arrows Side.Peers view.now.joint.graph.peers.heap) }
+    ensures { OnOk result (arrows.new.items ≡ arrows.old.items ++ field_arrows
+        Side.Peers view.now.joint.graph.peers.heap) }
 {
     push_fields(Side::Peers, view.joint().peers(), arrows)
 }

@@ -4,7 +4,8 @@ ghost use Rattle.std.specs.Prelude.{◌≡◌, ◌++◌, ◌+◌, ℕ, List, Som
 ghost use Rattle.joint_machine.specs.Heaps.{numbered_at};
 ghost use Rattle.joint_replay.specs.Plain.{issued_as};
 ghost use Rattle.heap_pictures.specs.Flags.{AreFlags, flag_at, is_in};
-ghost use Rattle.heap_pictures.specs.Drawing.{box_arrow, box_of, boxes, faded_style, grip_style, handle_list, held_arrow, held_style, is_box, owned, tie, ties};
+ghost use Rattle.heap_pictures.specs.Drawing.{box_arrow, box_of, boxes, faded_style, grip_style, handle_list};
+ghost use Rattle.heap_pictures.specs.Drawing.{held_arrow, held_style, is_box, owned, tie, ties};
 
 use crate::flags::{flags_of, has_flag};
 use crate::pictures::{Arrow, Style};
@@ -137,7 +138,8 @@ fn push_issued(
     arrows: &mut Vec<Arrow>,
 ) -> Result<(), AllocError>
     requires { flag_at held.now h ≡ is_in (owned joint.now) h }
-    ensures { OnOk result (arrows.new.items ≡ arrows.old.items ++ box_of joint.now (owned joint.now) h (Some (issued_as row))) }
+    ensures { OnOk result (arrows.new.items ≡ arrows.old.items ++ box_of joint.now
+        (owned joint.now) h (Some (issued_as row))) }
 {
     let drawn = is_tabled(joint, h) & is_box(joint, held, h, row);
     if drawn {
@@ -154,7 +156,8 @@ fn push_handle(
     arrows: &mut Vec<Arrow>,
 ) -> Result<(), AllocError>
     requires { AreFlags (length joint.now.graph.peers.issued) (owned joint.now) held.now }
-    ensures { OnOk result (arrows.new.items ≡ arrows.old.items ++ box_of joint.now (owned joint.now) h (numbered_at joint.now.graph.peers.issued h)) }
+    ensures { OnOk result (arrows.new.items ≡ arrows.old.items ++ box_of joint.now
+        (owned joint.now) h (numbered_at joint.now.graph.peers.issued h)) }
 {
     match joint.handle(h) {
         None => Ok(()),

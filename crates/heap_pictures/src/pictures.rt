@@ -112,7 +112,13 @@ impl Model for Picture {
 
     ghost Value = { Drawing };
 
-    ghost view = { λ p. record { objects = p.objects.items; peers = p.peers.items; dead = p.dead.items; candidates = p.candidates.items; arrows = p.arrows.items } };
+    ghost view = { λ p. record {
+      objects = p.objects.items;
+      peers = p.peers.items;
+      dead = p.dead.items;
+      candidates = p.candidates.items;
+      arrows = p.arrows.items;
+    } };
 }
 
 impl Picture {

@@ -1,7 +1,8 @@
 -- A heap stays sound. What changes only slots or fields, to live objects or nothing, changes no object's
 -- liveness, so all that is named or held stays live. A further object is live and has empty fields. Freed
 -- objects were named by no slot and held by no object that stays live.
-use Rattle.std.proofs.Common.{◌≡◌, ℕ, zero, suc, ◌+◌, ◌-◌, ◌<◌, ◌≤◌, ◌↔◌, inl, inr, Bool, true, false, List, [], ◌∷◌, ◌++◌, length, map, Option, Some, None, IsTrue, set, get_or, take, replicate, refl, sym, ap, subst, ◌∙◌, arith, length-append}
+use Rattle.std.proofs.Common.{◌≡◌, ℕ, zero, suc, ◌+◌, ◌-◌, ◌<◌, ◌≤◌, ◌↔◌, inl, inr, Bool, true, false, List, [], ◌∷◌, ◌++◌, length, map, Option, Some, None, IsTrue, set, get_or, take, replicate, refl}
+use Rattle.std.proofs.Common.{sym, ap, subst, ◌∙◌, arith, length-append}
 use Rattle.std.specs.Prelude.{Contains, All, slice_get}
 use Rattle.std.specs.Option.{ForSome, IfSome}
 use Rattle.std.proofs.Math.ListN.{length-set}
@@ -83,14 +84,17 @@ read-live h os None all c = tt
 read-live h os (Some y) all c = all y c
 
 -- the write of a field, where the object's row was read first: k are the tables, and h is what they are seen as
-pub write-is : (k h : Heap) (x i : ℕ) (o : Option ℕ) (fs : List (Option ℕ)) (rows : List (List (Option ℕ))) → k ≡ h → fields_of h x ≡ fs → rows ≡ numbered_set k.fields x (set fs i o) → record k { fields = rows } ≡ with_field h x i o
+pub write-is : (k h : Heap) (x i : ℕ) (o : Option ℕ) (fs : List (Option ℕ)) (rows : List (List (Option ℕ))) → k ≡ h
+    → fields_of h x ≡ fs → rows ≡ numbered_set k.fields x (set fs i o) → record k { fields = rows } ≡ with_field h x i o
 write-is k h x i o fs rows same e f =
     let there : fields_of k x ≡ fs = subst (λ (l : Heap). fields_of l x ≡ fs) (sym same) e in
-    let put : record k { fields = rows } ≡ with_field k x i o = ap (λ (l : List (List (Option ℕ))). record k { fields = l }) (f ∙ ap (λ (l : List (Option ℕ)). numbered_set k.fields x (set l i o)) (sym there)) in
+    let put : record k { fields = rows } ≡ with_field k x i o = ap (λ (l : List (List (Option ℕ))). record k { fields = l })
+    (f ∙ ap (λ (l : List (Option ℕ)). numbered_set k.fields x (set l i o)) (sym there)) in
     put ∙ ap (λ (l : Heap). with_field l x i o) same
 
 -- a heap without objects
-pub IsSound-empty : (rows : List (List (Option ℕ))) (gone : List ℕ) (ups : List Bool) (vs ss : List (Option ℕ)) (room : ℕ) → rows ≡ [] → gone ≡ [] → ups ≡ [] → vs ≡ replicate 72 None → ss ≡ replicate 16 None
+pub IsSound-empty : (rows : List (List (Option ℕ))) (gone : List ℕ) (ups : List Bool) (vs ss : List (Option ℕ)) (room : ℕ)
+    → rows ≡ [] → gone ≡ [] → ups ≡ [] → vs ≡ replicate 72 None → ss ≡ replicate 16 None
     → IsSound (record { fields = rows; freed = gone; vars = vs; statics = ss }) ups room
 IsSound-empty rows gone ups vs ss room e f u v t =
     let none : (x : ℕ) → Contains gone x → ⊥ = λ x c. (let d : Contains [] x = subst (λ l. Contains l x) f c in omega (arith, d.1)) in
@@ -225,7 +229,8 @@ Rises-before (x ∷ xs) (suc i) n r e c = elim (Contains-cons_cases x (take i xs
 ]
 
 -- the step of a loop over a list of objects
-pub TakesDown-here : {A : Type 0} (f : A → ℕ) (xs : List A) (i : ℕ) (x : A) (n : ℕ) (a b : List Bool) → TakesDown (map f (take i xs)) a b → All (IsUp a) (map f xs) → Rises (map f xs) → i < length xs → x ≡ get_or xs i x → n ≡ f x
+pub TakesDown-here : {A : Type 0} (f : A → ℕ) (xs : List A) (i : ℕ) (x : A) (n : ℕ) (a b : List Bool)
+    → TakesDown (map f (take i xs)) a b → All (IsUp a) (map f xs) → Rises (map f xs) → i < length xs → x ≡ get_or xs i x → n ≡ f x
     → IsUp a n × (Contains (map f (take i xs)) n → ⊥) × (1 ≤ n) × (n ≤ length b) × (1 ≤ up_count b)
 TakesDown-here f xs i x n a b t up rises l e m =
     let at : slice_get (map f xs) i ≡ Some n = number-at f xs i x n l e m in
@@ -234,7 +239,8 @@ TakesDown-here f xs i x n a b t up rises l e m =
     let r = numbered-within a n true u in
     (u, new, r.0, omega (arith, r.1, t.len), omega (arith, (number-down b n (t.other n new ∙ u)).1))
 
-pub TakesDown-next : {A : Type 0} (f : A → ℕ) (xs : List A) (i : ℕ) (x : A) (n : ℕ) (a b : List Bool) → TakesDown (map f (take i xs)) a b → All (IsUp a) (map f xs) → Rises (map f xs) → i < length xs → x ≡ get_or xs i x → n ≡ f x
+pub TakesDown-next : {A : Type 0} (f : A → ℕ) (xs : List A) (i : ℕ) (x : A) (n : ℕ) (a b : List Bool)
+    → TakesDown (map f (take i xs)) a b → All (IsUp a) (map f xs) → Rises (map f xs) → i < length xs → x ≡ get_or xs i x → n ≡ f x
     → TakesDown (map f (take (i + 1) xs)) a (set b (n - 1) false)
 TakesDown-next f xs i x n a b t up rises l e m =
     let h = TakesDown-here f xs i x n a b t up rises l e m in
@@ -275,7 +281,8 @@ IsSound-freed h ups downs room xs s t f = record {
 }
 
 -- the same in the form that `free` leaves: k are the tables, and h is what they are seen as
-pub IsSound-gone : (k h : Heap) (ups downs : List Bool) (room space : ℕ) (xs gone : List ℕ) → k ≡ h → IsSound k ups room → TakesDown xs ups downs → CanFree h xs → gone ≡ k.freed ++ xs → space ≡ room → IsSound (record k { freed = gone }) downs space
+pub IsSound-gone : (k h : Heap) (ups downs : List Bool) (room space : ℕ) (xs gone : List ℕ) → k ≡ h → IsSound k ups room
+    → TakesDown xs ups downs → CanFree h xs → gone ≡ k.freed ++ xs → space ≡ room → IsSound (record k { freed = gone }) downs space
 IsSound-gone k h ups downs room space xs gone same s t f e r =
     subst (λ (l : List ℕ). IsSound (record k { freed = l }) downs space) (sym e)
     (subst (λ (m : ℕ). IsSound (with_freed k xs) downs m) (sym r)

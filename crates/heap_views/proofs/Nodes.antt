@@ -19,7 +19,8 @@ pub before_next : (s : Managed) (dead : List ℕ) (i : ℕ) → Rises dead → i
 before_next s [] i r l = absurd (omega (arith, l))
 before_next s (m ∷ ms) zero r l = All-nil (λ (n : Node). n.number.0 < m)
 before_next s (m ∷ ms) (suc i) r l =
-    All-cons (λ (n : Node). n.number.0 < get_or ms i 0) (row_node s m) (map (row_node s) (take i ms)) (All-contains (λ y. m < y) ms (get_or ms i 0) r.0 (Contains-at ms i (get_or ms i 0) (slice_get-get_or ms i 0 (omega (arith, l))))) (before_next s ms i r.1 (omega (arith, l)))
+    All-cons (λ (n : Node). n.number.0 < get_or ms i 0) (row_node s m) (map (row_node s) (take i ms))
+    (All-contains (λ y. m < y) ms (get_or ms i 0) r.0 (Contains-at ms i (get_or ms i 0) (slice_get-get_or ms i 0 (omega (arith, l))))) (before_next s ms i r.1 (omega (arith, l)))
 
 pub all_plain : (s : Managed) (dead : List ℕ) → All (λ (n : Node). n.opaque ≡ false) (map (row_node s) dead)
 all_plain s [] = All-nil (λ (n : Node). n.opaque ≡ false)

@@ -27,7 +27,8 @@ goes-moves true h e old new s m = subst (λ b. StepBy b h e old new) (sym s) m
 goes-moves false h e old new s m = λ next step. m next (subst (λ b. StepBy b h e old next) s step)
 
 -- one entry more was gone on by, or it is no step
-pub seen-on : (went : Bool) (h : Finished) (i : ℕ) (e : Entry) (old new : View) → slice_get h.entries i ≡ Some e → Seen h opening_view (take i h.entries) old → GoesOn went h e old new → IsSeenOn went h i new
+pub seen-on : (went : Bool) (h : Finished) (i : ℕ) (e : Entry) (old new : View) → slice_get h.entries i ≡ Some e
+    → Seen h opening_view (take i h.entries) old → GoesOn went h e old new → IsSeenOn went h i new
 seen-on true h i e old new t s g = subst (λ es. Seen h opening_view es new) (sym (take-next h.entries i e t)) (Seen-push h opening_view (take i h.entries) old new e s g)
 seen-on false h i e old new t s g = record { place = i; within = omega arith; before = old; seen = s; entry = e; there = t; stuck = g }
 

@@ -17,4 +17,8 @@ ends_as e = (end_as e.0, end_as e.1)
 
 -- the node of a row of the dead part
 abbrev pub row_node : Managed → ℕ → Node
-row_node s m = record { number = record { 0 = m }; handle = option_map (λ h. record { 0 = h }) (handle_of s m); opaque = false }
+row_node s m = record {
+  number = record { 0 = m };
+  handle = option_map (λ h. record { 0 = h }) (handle_of s m);
+  opaque = false;
+}

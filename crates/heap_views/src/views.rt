@@ -5,7 +5,8 @@ ghost use Rattle.joint_machine.specs.Linked.{is_joint};
 ghost use Rattle.joint_machine.specs.Lines.{is_read};
 ghost use Rattle.joint_machine.specs.Readers.{is_set_aside};
 ghost use Rattle.heap_views.specs.Mirrored.{ends_as};
-ghost use Rattle.heap_views.specs.Views.{GoesOn, IsSeenOn, IsStuck, MovesOn, RefsAfter, Seen, is_lawful, is_step, opening_view, weakened_after};
+ghost use Rattle.heap_views.specs.Views.{GoesOn, IsSeenOn, IsStuck, MovesOn, RefsAfter, Seen, is_lawful, is_step};
+ghost use Rattle.heap_views.specs.Views.{opening_view, weakened_after};
 
 use crate::mirrored::{MirrorEnd, mirrored_refs};
 use joint_model::{Act, Entry, History, Op, Reply};
@@ -161,7 +162,8 @@ fn go_on(view: &mut HeapView, h: &History, i: u64, entry: &Entry) -> Result<bool
 /// machine. Answers `AllocError` where there is no memory.
 pub fn view_after(alloc: Global, h: &History, n: u64) -> Result<Option<HeapView>, AllocError>
     requires { n < length h.now.entries }
-    ensures { IfOk result (λ found. MatchOption found (IsStuck h.now n) (λ v. Seen h.now opening_view (take (n + 1) h.now.entries) v)) }
+    ensures { IfOk result (λ found. MatchOption found (IsStuck h.now n)
+        (λ v. Seen h.now opening_view (take (n + 1) h.now.entries) v)) }
 {
     // a history has as many entries as can be counted
     let _ = h.len();

@@ -41,7 +41,8 @@ entry-line h e =
     let words : after_spaces (whole_words h e) ≡ front ++ (list ++ cites) =
     after_spaces-append (head_words e) (rest_words h e) ∙ ap (λ t. front ++ t) (after_spaces-append (shown h (list_of e.made.reply)) (cite_words e.made.cites)) in
     let left : (d ++ front) ++ (list ++ (cites ++ 10 ∷ [])) ≡ (d ++ (front ++ (list ++ cites))) ++ 10 ∷ [] =
-    ap (λ t. (d ++ front) ++ t) (sym (append_assoc list cites (10 ∷ []))) ∙ (sym (append_assoc (d ++ front) (list ++ cites) (10 ∷ [])) ∙ ap (λ t. t ++ 10 ∷ []) (append_assoc d front (list ++ cites))) in
+    ap (λ t. (d ++ front) ++ t) (sym (append_assoc list cites (10 ∷ [])))
+    ∙ (sym (append_assoc (d ++ front) (list ++ cites) (10 ∷ [])) ∙ ap (λ t. t ++ 10 ∷ []) (append_assoc d front (list ++ cites))) in
     left ∙ sym (ap (λ t. (d ++ t) ++ 10 ∷ []) words)
 
 -- a line, its newline, and what stands behind it
@@ -76,7 +77,8 @@ after-lack c l [] h = tt
 after-lack c l (w ∷ ws) h = (λ q. omega (arith, l, q), every-append (λ (x : ℕ). (x ≡ c) → ⊥) w (after_spaces ws) h.0 (after-lack c l ws h.1))
 
 pub line-whole : (h : Finished) (e : Entry) → Lacks 10 (line_of h e)
-line-whole h e = every-append (λ (x : ℕ). (x ≡ 10) → ⊥) (decimal e.number) (after_spaces (whole_words h e)) (no-byte 10 (omega arith) (decimal e.number) (plain-decimal e.number)) (after-lack 10 (omega arith) (whole_words h e) (words-lack 10 (omega arith) h e))
+line-whole h e = every-append (λ (x : ℕ). (x ≡ 10) → ⊥) (decimal e.number) (after_spaces (whole_words h e))
+    (no-byte 10 (omega arith) (decimal e.number) (plain-decimal e.number)) (after-lack 10 (omega arith) (whole_words h e) (words-lack 10 (omega arith) h e))
 
 -- an entry's line isn't the last line
 abbrev first_byte : List ℕ → ℕ
@@ -113,7 +115,8 @@ place-one t t' l l' h s e =
     (thread-one t t' h r.0, decimal-one l l' s r.1)
 
 -- the words of two lines: the place, and the event's words before the first equals sign
-pub words-tell : (h h' : Finished) (e e' : Entry) → whole_words h e ≡ whole_words h' e' → (place_text e.made.caller e.made.index ≡ place_text e'.made.caller e'.made.index) × (event_words e.made.caller e.made.op ≡ event_words e'.made.caller e'.made.op) × (reply_words e.made.reply ++ rest_words h e ≡ reply_words e'.made.reply ++ rest_words h' e')
+pub words-tell : (h h' : Finished) (e e' : Entry) → whole_words h e ≡ whole_words h' e' → (place_text e.made.caller e.made.index ≡ place_text e'.made.caller e'.made.index)
+    × (event_words e.made.caller e.made.op ≡ event_words e'.made.caller e'.made.op) × (reply_words e.made.reply ++ rest_words h e ≡ reply_words e'.made.reply ++ rest_words h' e')
 words-tell h h' e e' q =
     let first = λ (ws : List (List ℕ)). get_or ws 0 [] in
     let others = λ (ws : List (List ℕ)). drop 1 ws in
@@ -124,5 +127,6 @@ words-tell h h' e e' q =
     let rest : (v ++ (codes "=" ∷ r)) ++ rest_words h e ≡ (v' ++ (codes "=" ∷ r')) ++ rest_words h' e' = ap others q in
     let split : v ++ (codes "=" ∷ (r ++ rest_words h e)) ≡ v' ++ (codes "=" ∷ (r' ++ rest_words h' e')) =
     sym (append_assoc v (codes "=" ∷ r) (rest_words h e)) ∙ (rest ∙ append_assoc v' (codes "=" ∷ r') (rest_words h' e')) in
-    let cut = cut-first (codes "=") v v' (r ++ rest_words h e) (r' ++ rest_words h' e') (no-equals v (plain-event e.made.caller e.made.op)) (no-equals v' (plain-event e'.made.caller e'.made.op)) split in
+    let cut = cut-first (codes "=") v v' (r ++ rest_words h e) (r' ++ rest_words h' e')
+    (no-equals v (plain-event e.made.caller e.made.op)) (no-equals v' (plain-event e'.made.caller e'.made.op)) split in
     (ap first q, cut.0, cut.1)

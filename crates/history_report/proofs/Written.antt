@@ -1,5 +1,6 @@
 -- A report is written entry by entry, and an entry piece by piece: each text is those before it and one piece more.
-use Rattle.std.proofs.Common.{◌≡◌, ℕ, ◌+◌, ◌<◌, ◌≤◌, List, [], ◌∷◌, ◌++◌, length, take, drop, get_or, Some, None, slice_get, codes, decimal, sym, ◌∙◌, ap, refl, arith, inl, inr, append_assoc, append-nil, length-drop, length-take, Option, Err}
+use Rattle.std.proofs.Common.{◌≡◌, ℕ, ◌+◌, ◌<◌, ◌≤◌, List, [], ◌∷◌, ◌++◌, length, take, drop, get_or, Some, None, slice_get, codes, decimal, sym, ◌∙◌, ap, refl, arith, inl, inr, append_assoc}
+use Rattle.std.proofs.Common.{append-nil, length-drop, length-take, Option, Err}
 use Rattle.std.proofs.lemmas.List.{map-append, get_or-drop, take-take, take_more, take_all, take-append-drop, nil_from_length}
 use Rattle.std.proofs.lemmas.Option.{slice_get_cases}
 use Rattle.joint_machine.specs.declared.events.Entry.{Entry}
@@ -22,7 +23,8 @@ numbers_more letter xs first k n e = elim (slice_get_cases xs (first + k)).1 [
       let last : get_or (drop first xs) k p.0 ≡ n = get_or-drop first xs k p.0 ∙ (p.3 ∙ sym same) in
       let front = take k (drop first xs) in
       ap (λ t. after_spaces (lettered letter t)) (more ∙ ap (λ y. front ++ y ∷ []) last)
-      ∙ (ap after_spaces (map-append (λ m. letter ∷ decimal m) front (n ∷ [])) ∙ (after_spaces-append (lettered letter front) (lettered letter (n ∷ [])) ∙ ap (λ t. after_spaces (lettered letter front) ++ t) (one_word letter n))))
+      ∙ (ap after_spaces (map-append (λ m. letter ∷ decimal m) front (n ∷ []))
+      ∙ (after_spaces-append (lettered letter front) (lettered letter (n ∷ [])) ∙ ap (λ t. after_spaces (lettered letter front) ++ t) (one_word letter n))))
   | inr p ↦ absurd (let q = p.1 in cc)
 ]
 
@@ -34,7 +36,8 @@ numbers_same xs first k e = elim (slice_get_cases xs (first + k)).1 [
 ]
 
 -- the first numbers of a list, and the others
-pub numbers_split : (letter : ℕ) (ys : List ℕ) (k n : ℕ) → k ≤ n → after_spaces (lettered letter (take n ys)) ≡ after_spaces (lettered letter (take k ys)) ++ after_spaces (lettered letter (drop k (take n ys)))
+pub numbers_split : (letter : ℕ) (ys : List ℕ) (k n : ℕ) → k ≤ n
+    → after_spaces (lettered letter (take n ys)) ≡ after_spaces (lettered letter (take k ys)) ++ after_spaces (lettered letter (drop k (take n ys)))
 numbers_split letter ys k n l =
     let front : take k (take n ys) ≡ take k ys = take-take k n ys l in
     ap (λ t. after_spaces (lettered letter t)) (sym (take-append-drop k (take n ys)) ∙ ap (λ t. t ++ drop k (take n ys)) front)
@@ -45,7 +48,8 @@ listed_long letter [] l = absurd (omega arith)
 listed_long letter (y ∷ ys) l = refl
 
 -- a list with a number at its first place isn't empty
-pub listed_some : (letter : ℕ) (xs : List ℕ) (first count n : ℕ) → (count ≡ 0 → ⊥) → Some n ≡ slice_get xs first → listed letter (take count (drop first xs)) ≡ lettered letter (take count (drop first xs))
+pub listed_some : (letter : ℕ) (xs : List ℕ) (first count n : ℕ) → (count ≡ 0 → ⊥) → Some n ≡ slice_get xs first
+    → listed letter (take count (drop first xs)) ≡ lettered letter (take count (drop first xs))
 listed_some letter xs first count n some e = elim (slice_get_cases xs first).1 [
   | inl p ↦ (let long : 0 < length (take count (drop first xs)) = omega (arith, p.1, length-take count (drop first xs), length-drop first xs) in listed_long letter (take count (drop first xs)) long)
   | inr p ↦ absurd (let q = p.1 in cc)
@@ -63,7 +67,8 @@ pub listed_empty : (letter : ℕ) (xs : List ℕ) (first count : ℕ) → count 
 listed_empty letter xs first count e = rw e refl
 
 -- the head of an entry's line, as it is put together
-pub head_joined : (o d p : List ℕ) (event reply : List (List ℕ)) → ((((o ++ d) ++ after_spaces (p ∷ [])) ++ after_spaces event) ++ 32 ∷ 61 ∷ []) ++ after_spaces reply ≡ o ++ (d ++ after_spaces (p ∷ (event ++ (61 ∷ []) ∷ reply)))
+pub head_joined : (o d p : List ℕ) (event reply : List (List ℕ))
+    → ((((o ++ d) ++ after_spaces (p ∷ [])) ++ after_spaces event) ++ 32 ∷ 61 ∷ []) ++ after_spaces reply ≡ o ++ (d ++ after_spaces (p ∷ (event ++ (61 ∷ []) ∷ reply)))
 head_joined o d p event reply = simp (append_assoc, append-nil, after_spaces-append)
 
 -- the last line, as it is put together
@@ -80,7 +85,8 @@ pub none_reported : (h : Finished) (a : Option (List ℕ)) (p : List ℕ) → Re
 none_reported h a p = record { text = []; whole = refl; so_far = BuffersText-none a p }
 
 -- one more entry
-pub one_more : (h : Finished) (e : Entry) (left : List Entry) (a b c : Option (List ℕ)) (p q r : List ℕ) → Reported h (e ∷ left) a b p q → BuffersText b c q r (entry_text h e) → Reported h left a c p r
+pub one_more : (h : Finished) (e : Entry) (left : List Entry) (a b c : Option (List ℕ)) (p q r : List ℕ)
+    → Reported h (e ∷ left) a b p q → BuffersText b c q r (entry_text h e) → Reported h left a c p r
 one_more h e left a b c p q r w v = record {
   text = w.text ++ entry_text h e;
   whole = w.whole ∙ sym (append_assoc w.text (entry_text h e) (entries_text h left));
@@ -88,9 +94,11 @@ one_more h e left a b c p q r w v = record {
 }
 
 -- an entry that couldn't be written
-pub not_reported : {E : Type 0} (h : Finished) (e : Entry) (left : List Entry) (a b c : Option (List ℕ)) (p q r : List ℕ) (f g k : ℕ) (z : E) → Reported h (e ∷ left) a b p q → f ≤ g → Sends {E = E} b c q r g k (Err z) (entry_text h e)
+pub not_reported : {E : Type 0} (h : Finished) (e : Entry) (left : List Entry) (a b c : Option (List ℕ)) (p q r : List ℕ) (f g k : ℕ) (z : E)
+    → Reported h (e ∷ left) a b p q → f ≤ g → Sends {E = E} b c q r g k (Err z) (entry_text h e)
     → Sends {E = E} a c p r f k (Err z) (entries_text h h.entries)
-not_reported h e left a b c p q r f g k z w l v = Sends-into a b c p q r f g k z w.text (entry_text h e) (entries_text h left) (entries_text h h.entries) (w.whole ∙ sym (append_assoc w.text (entry_text h e) (entries_text h left))) w.so_far l v
+not_reported h e left a b c p q r f g k z w l v = Sends-into a b c p q r f g k z w.text (entry_text h e) (entries_text h left)
+    (entries_text h h.entries) (w.whole ∙ sym (append_assoc w.text (entry_text h e) (entries_text h left))) w.so_far l v
 
 -- all entries
 pub all_reported : (h : Finished) (a b : Option (List ℕ)) (p q : List ℕ) → Reported h [] a b p q → BuffersText a b p q (entries_text h h.entries)

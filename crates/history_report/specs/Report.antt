@@ -16,7 +16,8 @@ use Rattle.joint_machine.specs.Histories.{Finished}
 use Rattle.joint_machine.specs.declared.names.Span.{Span}
 use Rattle.history_report.specs.declared.lists.Numbers.{Numbers}
 use Rattle.history_report.specs.declared.lists.Numbers.TheVariants.{Freed, FreedPeers, Notices}
-use Rattle.bridge_script.specs.Words.{thread_text, var_text, peer_static, kind_text, sort_text, phase_word_text, act_words}
+use Rattle.bridge_script.specs.Words.{thread_text, var_text, peer_static, kind_text, sort_text, phase_word_text}
+use Rattle.bridge_script.specs.Words.{act_words}
 use Rattle.byte_streams.specs.Spaced.{after_spaces}
 use Rattle.history_report.specs.Lists.{list_words}
 
@@ -47,11 +48,13 @@ phase_text phase.Restored = codes "restored"
 abbrev pub event_words : Thread → Op → List (List ℕ)
 event_words t (op.Line a) = act_words t a
 event_words t (op.Make s n) = codes "make" ∷ sort_text s ∷ decimal n ∷ []
-event_words t (op.Adopt v k n p h) = codes "adopt" ∷ var_text v ∷ kind_text k ∷ decimal n ∷ peer_text p ∷ handle_text h ∷ []
+event_words t (op.Adopt v k n p h) = codes "adopt" ∷ var_text
+    v ∷ kind_text k ∷ decimal n ∷ peer_text p ∷ handle_text h ∷ []
 event_words t (op.Lend v x) = codes "lend" ∷ var_text v ∷ peer_static x ∷ []
 event_words t (op.Land h x) = codes "land" ∷ handle_text h ∷ peer_static x ∷ []
 event_words t (op.Grip x) = codes "grip" ∷ peer_static x ∷ []
-event_words t (op.Meet v s n p h) = codes "meet" ∷ var_text v ∷ peer_text p ∷ handle_text h ∷ sort_text s ∷ decimal n ∷ []
+event_words t (op.Meet v s n p h) = codes "meet" ∷ var_text
+    v ∷ peer_text p ∷ handle_text h ∷ sort_text s ∷ decimal n ∷ []
 event_words t (op.Give v) = codes "give" ∷ var_text v ∷ []
 event_words t (op.Release h) = codes "release" ∷ handle_text h ∷ []
 event_words t (op.Snap k) = codes "snap" ∷ decimal k.0 ∷ []
@@ -127,7 +130,8 @@ place_text t line = thread_text t ++ (codes "." ++ decimal line)
 
 -- the words of an entry up to its list
 abbrev pub head_words : Entry → List (List ℕ)
-head_words e = place_text e.made.caller e.made.index ∷ (event_words e.made.caller e.made.op ++ (codes "=" ∷ reply_words e.made.reply))
+head_words e = place_text e.made.caller
+    e.made.index ∷ (event_words e.made.caller e.made.op ++ (codes "=" ∷ reply_words e.made.reply))
 
 -- the text of an entry up to its list
 abbrev pub head_text : Entry → List ℕ

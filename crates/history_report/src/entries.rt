@@ -3,7 +3,8 @@
 ghost use Rattle.std.specs.Prelude.{◌≡◌, ◌+◌, ◌≤◌, [], ◌∷◌, codes, decimal, length};
 ghost use Rattle.byte_streams.specs.Drafts.{AddsText, AddsWords};
 ghost use Rattle.bridge_script.specs.Words.{var_text, kind_text, sort_text, peer_static};
-ghost use Rattle.history_report.specs.Report.{event_words, reply_words, managed_text, peer_text, handle_text, list_of, head_text, tail_text, place_text};
+ghost use Rattle.history_report.specs.Report.{event_words, reply_words, managed_text, peer_text, handle_text, list_of};
+ghost use Rattle.history_report.specs.Report.{head_text, tail_text, place_text};
 
 use crate::lists::Numbers;
 use crate::objects::{add_handle, add_managed, add_peer, add_phase};
@@ -63,7 +64,8 @@ fn add_make(line: &mut Line, sort: Sort, fields: u8)
 // `adopt V KIND N p h`.
 fn add_adopt(line: &mut Line, v: Var, kind: Kind, fields: u8, p: PNum, h: HNum)
     requires { 100 ≤ line.old.room }
-    ensures { AddsWords line.old line.new (codes "adopt" ∷ var_text v ∷ kind_text kind ∷ decimal fields ∷ peer_text p ∷ handle_text h ∷ []) 100 }
+    ensures { AddsWords line.old line.new
+        (codes "adopt" ∷ var_text v ∷ kind_text kind ∷ decimal fields ∷ peer_text p ∷ handle_text h ∷ []) 100 }
 {
     line.word(*b"adopt");
     add_var(line, v);
@@ -94,7 +96,8 @@ fn add_grip(line: &mut Line, x: StaticNo)
 // `meet V p h SORT F`.
 fn add_meet(line: &mut Line, v: Var, p: PNum, h: HNum, sort: Sort, fields: u8)
     requires { 100 ≤ line.old.room }
-    ensures { AddsWords line.old line.new (codes "meet" ∷ var_text v ∷ peer_text p ∷ handle_text h ∷ sort_text sort ∷ decimal fields ∷ []) 100 }
+    ensures { AddsWords line.old line.new
+        (codes "meet" ∷ var_text v ∷ peer_text p ∷ handle_text h ∷ sort_text sort ∷ decimal fields ∷ []) 100 }
 {
     line.word(*b"meet");
     add_var(line, v);

@@ -22,7 +22,9 @@ fn write_numbers<K: Sink>(
     line: &mut Line,
     out: &mut K,
 ) -> Result<(), Failed>
-    ensures { Sends (K.held out.old) (K.held out.new) line.old.text line.new.text (K.faults out.old) (K.faults out.new) result (after_spaces (lettered (letter_of numbers) (stretch (take 4294967296 (numbers_of h.now numbers)) span))) }
+    ensures { Sends (K.held out.old) (K.held out.new) line.old.text line.new.text
+        (K.faults out.old) (K.faults out.new) result
+        (after_spaces (lettered (letter_of numbers) (stretch (take 4294967296 (numbers_of h.now numbers)) span))) }
 {
     for k in 0..span.count {
         let Some(n) = numbers.at(h, span.first as u64 + k as u64) else {
@@ -43,7 +45,8 @@ fn write_list<K: Sink>(
     out: &mut K,
 ) -> Result<(), Failed>
     requires { 2 ≤ line.old.room }
-    ensures { Sends (K.held out.old) (K.held out.new) line.old.text line.new.text (K.faults out.old) (K.faults out.new) result (after_spaces (list_words h.now numbers span)) }
+    ensures { Sends (K.held out.old) (K.held out.new) line.old.text line.new.text
+        (K.faults out.old) (K.faults out.new) result (after_spaces (list_words h.now numbers span)) }
 {
     if span.count == 0 {
         line.word(*b"-");
@@ -70,7 +73,8 @@ fn write_listed<K: Sink>(
     out: &mut K,
 ) -> Result<(), Failed>
     requires { 2 ≤ line.old.room }
-    ensures { Sends (K.held out.old) (K.held out.new) line.old.text line.new.text (K.faults out.old) (K.faults out.new) result (after_spaces (list_words h.now numbers span) ++ tail_text cites) }
+    ensures { Sends (K.held out.old) (K.held out.new) line.old.text line.new.text (K.faults out.old)
+        (K.faults out.new) result (after_spaces (list_words h.now numbers span) ++ tail_text cites) }
 {
     write_list(h, numbers, span, line, out)?;
     line.make_room(out)?;
@@ -87,7 +91,8 @@ pub fn write_entry<K: Sink>(
     line: &mut Line,
     out: &mut K,
 ) -> Result<(), Failed>
-    ensures { Sends (K.held out.old) (K.held out.new) line.old.text line.new.text (K.faults out.old) (K.faults out.new) result (entry_text h.now entry.now) }
+    ensures { Sends (K.held out.old) (K.held out.new) line.old.text line.new.text
+        (K.faults out.old) (K.faults out.new) result (entry_text h.now entry.now) }
 {
     line.make_room(out)?;
     add_head(line, entry, counts);
@@ -109,14 +114,16 @@ fn write_spelled<K: Sink>(
     line: &mut Line,
     out: &mut K,
 ) -> Result<(), Failed>
-    ensures { Sends (K.held out.old) (K.held out.new) line.old.text line.new.text (K.faults out.old) (K.faults out.new) result (entry_text h.now entry.now) }
+    ensures { Sends (K.held out.old) (K.held out.new) line.old.text line.new.text
+        (K.faults out.old) (K.faults out.new) result (entry_text h.now entry.now) }
 {
     write_entry(h, entry, counts, line, out)
 }
 
 // Writes the lines of all entries, in rising number.
 fn write_entries<K: Sink>(h: &History, line: &mut Line, out: &mut K) -> Result<(), Failed>
-    ensures { Sends (K.held out.old) (K.held out.new) line.old.text line.new.text (K.faults out.old) (K.faults out.new) result (entries_text h.now h.now.entries) }
+    ensures { Sends (K.held out.old) (K.held out.new) line.old.text line.new.text
+        (K.faults out.old) (K.faults out.new) result (entries_text h.now h.now.entries) }
 {
     let mut counts = Counts::new();
     let mut walk = h.walk();
@@ -131,7 +138,8 @@ fn write_entries<K: Sink>(h: &History, line: &mut Line, out: &mut K) -> Result<(
 
 // Writes the last line, with the number of entries.
 fn write_end<K: Sink>(count: u64, line: &mut Line, out: &mut K) -> Result<(), Failed>
-    ensures { Sends (K.held out.old) (K.held out.new) line.old.text line.new.text (K.faults out.old) (K.faults out.new) result (end_text count) }
+    ensures { Sends (K.held out.old) (K.held out.new) line.old.text line.new.text
+        (K.faults out.old) (K.faults out.new) result (end_text count) }
 {
     line.make_room(out)?;
     line.text(b"end ");

@@ -21,7 +21,8 @@
 // nothing.
 #![tactic(auto)]
 
-ghost use Rattle.std.specs.Prelude.{◌≡◌, ◌-◌, ◌==◌, ◌↔◌, [], ◌∷◌, ◌++◌, Bool, IsTrue, filter, length, slice_get, Ok, Err, None, Some, OnOk, OnErr};
+ghost use Rattle.std.specs.Prelude.{◌≡◌, ◌-◌, ◌==◌, ◌↔◌, [], ◌∷◌, ◌++◌, Bool, IsTrue, filter, length, slice_get, Ok};
+ghost use Rattle.std.specs.Prelude.{Err, None, Some, OnOk, OnErr};
 ghost use Rattle.instance_registry.specs.Pairs.{twin_in, without, IsToldBy, PeersDistinct};
 ghost use Rattle.joint_machine.specs.declared.names.MNum.{MNum};
 ghost use Rattle.joint_machine.specs.declared.names.PNum.{PNum};

@@ -79,7 +79,8 @@ swept_so s (Some mk) t gone w = record {
 -- a draw by a seat keeps which seat it is and the role, and leaves the number of its entry, the seat with that entry
 -- and the first number drawn
 abbrev DrewBy : SeatDrawing → Entry → Option MNum → List MNum → SeatDrawing → Type 0
-DrewBy a e m freed b = (b.seat.ghost_name ≡ a.seat.ghost_name) × (b.role ≡ a.role) × (b.last ≡ e.number) × Appends a.order.now b.order.now a.seat.now b.seat.now (role_line a.role) (kept a.seat.now.view e.made m freed e.number) × (b.first ≡ Some (unwrap_or a.first e.number))
+DrewBy a e m freed b = (b.seat.ghost_name ≡ a.seat.ghost_name) × (b.role ≡ a.role) × (b.last ≡ e.number)
+    × Appends a.order.now b.order.now a.seat.now b.seat.now (role_line a.role) (kept a.seat.now.view e.made m freed e.number) × (b.first ≡ Some (unwrap_or a.first e.number))
 
 module _ (d : Drawing SeatDrawing) (reads : (a b : SeatDrawing) (e : Entry) (m : Option MNum) (freed : List MNum) → d.drew a e m freed b → DrewBy a e m freed b) (order : OrderId) where
   record DrewOne (a b : SeatDrawing) (old new : Side PeerReplay) (m : Made) (told : Told) : Type 0 where
@@ -92,14 +93,16 @@ module _ (d : Drawing SeatDrawing) (reads : (a b : SeatDrawing) (e : Entry) (m :
     pub first : b.first ≡ Some (unwrap_or a.first number)
     pub settled : Settled a.seat.now.view → Settled b.seat.now.view
 
-  drew_one : (a b : SeatDrawing) (old new : Side PeerReplay) (m : Made) (told : Told) → a.order.now ≡ order → a.role ≡ role.Peer → AddsLawful peer_rules d a b old new m told → DrewOne a b old new m told
+  drew_one : (a b : SeatDrawing) (old new : Side PeerReplay) (m : Made) (told : Told) → a.order.now ≡ order
+      → a.role ≡ role.Peer → AddsLawful peer_rules d a b old new m told → DrewOne a b old new m told
   drew_one a b old new m told o r w =
       let n = w.draws.adds.number in
       let x = reads a b (numbered n m) None [] w.draws.adds.drawn in
       let y = subst (λ l. Appends a.order.now b.order.now a.seat.now b.seat.now l (kept a.seat.now.view m None [] n)) (ap role_line r) x.3 in
       record {
         number = n;
-        drew = subst (λ p. Drew peer_rules 1 p a.seat.now b.seat.now old new (numbered n m) told) o (drew_peer a.order.now b.order.now a.seat.now b.seat.now old new m told n y w.goes w.draws.adds.added n refl);
+        drew = subst (λ p. Drew peer_rules 1 p a.seat.now b.seat.now old new (numbered n m) told) o
+            (drew_peer a.order.now b.order.now a.seat.now b.seat.now old new m told n y w.goes w.draws.adds.added n refl);
         settled = peer_settled a.order.now b.order.now a.seat.now b.seat.now old.state m told n y w.goes.lawful;
         name = x.0;
         role_is = x.1 ∙ r;
@@ -114,7 +117,8 @@ module _ (d : Drawing SeatDrawing) (reads : (a b : SeatDrawing) (e : Entry) (m :
     pub settled : Settled a.seat.now.view → Settled b.seat.now.view
     pub threads : new.threads ≡ old.threads
 
-  pub event_drew : (a b : SeatDrawing) (old new : Side PeerReplay) (m : Made) (told : Told) → a.order.now ≡ order → a.role ≡ role.Peer → AddsLawful peer_rules d a b old new m told → EventDrew a b old new m
+  pub event_drew : (a b : SeatDrawing) (old new : Side PeerReplay) (m : Made) (told : Told) → a.order.now ≡ order
+      → a.role ≡ role.Peer → AddsLawful peer_rules d a b old new m told → EventDrew a b old new m
   event_drew a b old new m told o r w =
       let one = drew_one a b old new m told o r w in
       record {
@@ -123,7 +127,8 @@ module _ (d : Drawing SeatDrawing) (reads : (a b : SeatDrawing) (e : Entry) (m :
         threads = w.threads;
       }
 
-  one_drew : (a b : SeatDrawing) (old new : Side PeerReplay) (m : Made) (told : Told) → a.order.now ≡ order → a.role ≡ role.Peer → AddsInTurn peer_rules d a b old new (record { made = m; told = told } ∷ []) → EventDrew a b old new m
+  one_drew : (a b : SeatDrawing) (old new : Side PeerReplay) (m : Made) (told : Told) → a.order.now ≡ order
+      → a.role ≡ role.Peer → AddsInTurn peer_rules d a b old new (record { made = m; told = told } ∷ []) → EventDrew a b old new m
   one_drew a b old new m told o r w =
       let is = w.3 in
       subst (λ (s : Side PeerReplay). EventDrew a b old s m) (sym is.1) (subst (λ (x : SeatDrawing). EventDrew a x old w.1 m) (sym is.0) (event_drew a w.0 old w.1 m told o r w.2))
@@ -191,11 +196,13 @@ module _ (d : Drawing SeatDrawing) (reads : (a b : SeatDrawing) (e : Entry) (m :
 
   -- a sweep that was made answers so
   swept_drew : (a b : SeatDrawing) (old new : Side PeerReplay) (t : Thread) (index : ℕ) (reply : Reply) (gone : List ℕ) (s : PeerReplay) → a.order.now ≡ order → a.role ≡ role.Peer → a.first ≡ None
-      → AddsInTurn peer_rules d a b old new (collect_makings t index reply gone) → SweepAllows s s.marking t (sweep_of gone) → reply ≡ (swept s s.marking t gone).reply → CollectDrew a b old new t index reply
+      → AddsInTurn peer_rules d a b old new (collect_makings t index reply gone) → SweepAllows s s.marking t (sweep_of gone)
+      → reply ≡ (swept s s.marking t gone).reply → CollectDrew a b old new t index reply
   swept_drew a b old new t index reply gone s o r f w allowed is =
       let x = swept_so s s.marking t gone allowed in
       let e = is ∙ x.is in
-      subst (CollectDrew a b old new t index) (sym e) (whole_drew a b old new t index x.marking x.freed gone o r f (subst (λ y. AddsInTurn peer_rules d a b old new (collect_makings t index y gone)) e w))
+      subst (CollectDrew a b old new t index) (sym e) (whole_drew a b old new t index x.marking x.freed gone o r f
+      (subst (λ y. AddsInTurn peer_rules d a b old new (collect_makings t index y gone)) e w))
 
   pub collect_drew : (a b : SeatDrawing) (old new : Side PeerReplay) (t : Thread) (index : ℕ) (reply : Reply) (gone : List ℕ) → a.order.now ≡ order → a.role ≡ role.Peer → a.first ≡ None
       → AddsInTurn peer_rules d a b old new (collect_makings t index reply gone) → CollectDrew a b old new t index reply
@@ -208,7 +215,8 @@ record KnowsAt (t : Thread) (v : View) (side : Side PeerReplay) (index : ℕ) : 
   pub last : last_line (end_of knows.known.known.past).control t ≤ index
 
 -- after the caller's lines were handed over
-lent_at : (t : Thread) (locked mine lent mine1 : View) (side : Side PeerReplay) (index : ℕ) → HoldsPass t mine → Owns locked 1 → PeerKnows locked side → MayBegin t mine index → Lends t locked mine lent mine1 → KnowsAt t lent side index
+lent_at : (t : Thread) (locked mine lent mine1 : View) (side : Side PeerReplay) (index : ℕ) → HoldsPass t mine
+    → Owns locked 1 → PeerKnows locked side → MayBegin t mine index → Lends t locked mine lent mine1 → KnowsAt t lent side index
 lent_at t locked mine lent mine1 side index pass owns ks b l =
     let j = lent_joined t locked mine lent mine1 l ks.known b.stands.known in
     record {
@@ -221,7 +229,8 @@ lent_at t locked mine lent mine1 side index pass owns ks b l =
     }
 
 -- after an entry of the thread
-drew_at : (n : ℕ) (order : OrderId) (seat seat' : Shown) (old new : Side PeerReplay) (index number : ℕ) (o : Op) (reply : Reply) (told : Told) → IsThread (P n) → index < 2 ^ 32 → KnowsAt (P n) seat.view old index
+drew_at : (n : ℕ) (order : OrderId) (seat seat' : Shown) (old new : Side PeerReplay) (index number : ℕ) (o : Op) (reply : Reply) (told : Told)
+    → IsThread (P n) → index < 2 ^ 32 → KnowsAt (P n) seat.view old index
     → Drew peer_rules 1 order seat seat' old new (entry_by (P n) index number o reply None) told → KnowsAt (P n) seat'.view new index
 drew_at n order seat seat' old new index number o reply told is short w d =
     let k = d.kept in
@@ -235,15 +244,18 @@ drew_at n order seat seat' old new index number o reply told is short w d =
         state = e.after;
       };
       last = subst (λ m. last_line (end_of known'.known.past).control (P n) ≤ m) (ap (λ (z : Entry). z.made.index) d.entry)
-          (subst (λ h. last_line (end_of h).control (P n) ≤ k.entry.made.index) (sym e.entered.grown.past_is) (let l = last_of_own a.known.past (note_of k.entry e.entered.grown.told) (P n) (ap (λ (z : Entry). z.made.caller) d.entry) is in omega arith));
+          (subst (λ h. last_line (end_of h).control (P n) ≤ k.entry.made.index) (sym e.entered.grown.past_is)
+          (let l = last_of_own a.known.past (note_of k.entry e.entered.grown.told) (P n) (ap (λ (z : Entry). z.made.caller) d.entry) is in omega arith));
     }
 
 -- what the caller has made so far, and knows
-own_after : (t : Thread) (order : OrderId) (seat seat' : Shown) (old new : Side PeerReplay) (e : Entry) (told : Told) → e.made.caller ≡ t → Drew peer_rules 1 order seat seat' old new e told → line_known seat'.view (caller_line t) ≡ line_known seat.view (caller_line t) ++ e ∷ []
+own_after : (t : Thread) (order : OrderId) (seat seat' : Shown) (old new : Side PeerReplay) (e : Entry) (told : Told) → e.made.caller ≡ t
+    → Drew peer_rules 1 order seat seat' old new e told → line_known seat'.view (caller_line t) ≡ line_known seat.view (caller_line t) ++ e ∷ []
 own_after t order seat seat' old new e told is d =
     let k = d.kept in
     let caller : k.entry.made.caller ≡ t = ap (λ (z : Entry). z.made.caller) d.entry ∙ is in
-    ap line_entries (subst (λ u. known seat'.view (caller_line u) ≡ known seat.view (caller_line u) ++ k ∷ []) caller d.appends.grows.caller) ∙ (entries_snoc (known seat.view (caller_line t)) k ∙ ap (λ z. line_known seat.view (caller_line t) ++ z ∷ []) d.entry)
+    ap line_entries (subst (λ u. known seat'.view (caller_line u) ≡ known seat.view (caller_line u) ++ k ∷ []) caller d.appends.grows.caller)
+    ∙ (entries_snoc (known seat.view (caller_line t)) k ∙ ap (λ z. line_known seat.view (caller_line t) ++ z ∷ []) d.entry)
 
 lent_made : (t : Thread) (locked mine lent mine1 : View) → HoldsPass t mine → Lends t locked mine lent mine1 → MakesAll t mine lent []
 lent_made t locked mine lent mine1 pass l = record {
@@ -252,7 +264,8 @@ lent_made t locked mine lent mine1 pass l = record {
   above = tt;
 }
 
-drew_made : (t : Thread) (order : OrderId) (mine : View) (seat seat' : Shown) (old new : Side PeerReplay) (es : List Entry) (e : Entry) (told : Told) → e.made.caller ≡ t → MakesAll t mine seat.view es → Drew peer_rules 1 order seat seat' old new e told → MakesAll t mine seat'.view (es ++ e ∷ [])
+drew_made : (t : Thread) (order : OrderId) (mine : View) (seat seat' : Shown) (old new : Side PeerReplay) (es : List Entry) (e : Entry) (told : Told)
+    → e.made.caller ≡ t → MakesAll t mine seat.view es → Drew peer_rules 1 order seat seat' old new e told → MakesAll t mine seat'.view (es ++ e ∷ [])
 drew_made t order mine seat seat' old new es e told is a d = record {
   own_more = own_after t order seat seat' old new e told is d ∙ (ap (λ xs. xs ++ e ∷ []) a.own_more ∙ append_assoc (line_known mine (caller_line t)) es (e ∷ []));
   more = λ i. prefix_trans (known mine i) (known seat.view i) (known seat'.view i) (a.more i) (grows_more seat.view seat'.view 1 d.kept d.appends.grows i);
@@ -271,7 +284,8 @@ record BackAt (t : Thread) (locked2 mine2 : View) (side : Side PeerReplay) (inde
   pub knows : PeerKnows locked2 side
   pub begins : MayBegin t mine2 index
 
-back_at : (n : ℕ) (lent mine1 locked2 mine2 : View) (side : Side PeerReplay) (index : ℕ) → KnowsAt (P n) lent side index → Returns (P n) lent mine1 locked2 mine2 → BackAt (P n) locked2 mine2 side index
+back_at : (n : ℕ) (lent mine1 locked2 mine2 : View) (side : Side PeerReplay) (index : ℕ)
+    → KnowsAt (P n) lent side index → Returns (P n) lent mine1 locked2 mine2 → BackAt (P n) locked2 mine2 side index
 back_at n lent mine1 locked2 mine2 side index w b = record {
   knows = record {
     known = same_view lent locked2 w.knows.known b.stays;
@@ -289,13 +303,15 @@ pub record CalledCollect {E : Type 0} (t : Thread) (mine locked2 mine2 : View) (
   pub err : OnErr result (MakesNone t mine mine2)
 
 module _ {E : Type 0} (order : OrderId) (seat seat' : Shown) (old new : Side PeerReplay) (index : ℕ) where
-  whole_called : (n : ℕ) (locked mine mine1 locked2 mine2 : View) (r : Receipt) → IsThread (P n) → HoldsPass (P n) mine → index < 2 ^ 32 → KnowsAt (P n) seat.view old index → Lends (P n) locked mine seat.view mine1 → Returns (P n) seat'.view mine1 locked2 mine2
+  whole_called : (n : ℕ) (locked mine mine1 locked2 mine2 : View) (r : Receipt) → IsThread (P n) → HoldsPass (P n) mine → index < 2 ^ 32
+      → KnowsAt (P n) seat.view old index → Lends (P n) locked mine seat.view mine1 → Returns (P n) seat'.view mine1 locked2 mine2
       → DrawsWhole order seat seat' old new (P n) index r → CalledCollect {E = E} (P n) mine locked2 mine2 new index (Ok r)
   whole_called n locked mine mine1 locked2 mine2 r is pass short w l b d =
       let begun = drew_at n order seat d.between old d.begun index r.first op.Begin (says.Mark d.marking) nothing is short w d.begins in
       let ended = drew_at n order d.between seat' d.begun new index r.last op.Sweep (says.Swept d.marking d.freed) (sweep_of d.gone) is short begun d.ends in
       let first = drew_made (P n) order mine seat d.between old d.begun [] (began_at (P n) index r.first d.marking) nothing refl (lent_made (P n) locked mine seat.view mine1 pass l) d.begins in
-      let both = drew_made (P n) order mine d.between seat' d.begun new (began_at (P n) index r.first d.marking ∷ []) (swept_at (P n) index r.last d.marking d.freed) (sweep_of d.gone) refl first d.ends in
+      let both = drew_made (P n) order mine d.between seat' d.begun new (began_at (P n) index r.first d.marking ∷ [])
+      (swept_at (P n) index r.last d.marking d.freed) (sweep_of d.gone) refl first d.ends in
       let back = back_at n seat'.view mine1 locked2 mine2 new index ended b in
       record {
         knows = back.knows;
@@ -304,7 +320,8 @@ module _ {E : Type 0} (order : OrderId) (seat seat' : Shown) (old new : Side Pee
         err = tt;
       }
 
-  refusal_called : (n : ℕ) (locked mine mine1 locked2 mine2 : View) (r : Receipt) → IsThread (P n) → HoldsPass (P n) mine → index < 2 ^ 32 → KnowsAt (P n) seat.view old index → Lends (P n) locked mine seat.view mine1 → Returns (P n) seat'.view mine1 locked2 mine2
+  refusal_called : (n : ℕ) (locked mine mine1 locked2 mine2 : View) (r : Receipt) → IsThread (P n) → HoldsPass (P n) mine → index < 2 ^ 32
+      → KnowsAt (P n) seat.view old index → Lends (P n) locked mine seat.view mine1 → Returns (P n) seat'.view mine1 locked2 mine2
       → DrawsRefusal order seat seat' old new (P n) index r → CalledCollect {E = E} (P n) mine locked2 mine2 new index (Ok r)
   refusal_called n locked mine mine1 locked2 mine2 r is pass short w l b d =
       let refused = drew_at n order seat seat' old new index r.first op.Begin (says.MarkOpen d.marking) nothing is short w d.drew in
@@ -317,8 +334,10 @@ module _ {E : Type 0} (order : OrderId) (seat seat' : Shown) (old new : Side Pee
         err = tt;
       }
 
-  collect_called_by : (n : ℕ) (locked mine mine1 locked2 mine2 : View) (result : Result Receipt E) → IsThread (P n) → HoldsPass (P n) mine → Owns locked 1 → index < 2 ^ 32 → PeerKnows locked old → MayBegin (P n) mine index → Lends (P n) locked mine seat.view mine1
-      → IfOk result (λ r. DrawsCollect order seat seat' old new (P n) index r) → OnErr result (StaysSeated seat seat' × (new ≡ old)) → Returns (P n) seat'.view mine1 locked2 mine2 → CalledCollect (P n) mine locked2 mine2 new index result
+  collect_called_by : (n : ℕ) (locked mine mine1 locked2 mine2 : View) (result : Result Receipt E) → IsThread (P n) → HoldsPass (P n) mine
+      → Owns locked 1 → index < 2 ^ 32 → PeerKnows locked old → MayBegin (P n) mine index → Lends (P n) locked mine seat.view mine1
+      → IfOk result (λ r. DrawsCollect order seat seat' old new (P n) index r) → OnErr result (StaysSeated seat seat' × (new ≡ old))
+      → Returns (P n) seat'.view mine1 locked2 mine2 → CalledCollect (P n) mine locked2 mine2 new index result
   collect_called_by n locked mine mine1 locked2 mine2 (Ok r) is pass owns short ks may l d e b =
       let w = lent_at (P n) locked mine seat.view mine1 old index pass owns ks may l in
       ⊎_elim
@@ -335,20 +354,25 @@ module _ {E : Type 0} (order : OrderId) (seat seat' : Shown) (old new : Side Pee
         err = none;
       }
 
-  pub collect_called : (t : Thread) (locked mine mine1 locked2 mine2 : View) (result : Result Receipt E) → IsPeerThread t → HoldsPass t mine → Owns locked 1 → index < 2 ^ 32 → PeerKnows locked old → MayBegin t mine index → Lends t locked mine seat.view mine1
-      → IfOk result (λ r. DrawsCollect order seat seat' old new t index r) → OnErr result (StaysSeated seat seat' × (new ≡ old)) → Returns t seat'.view mine1 locked2 mine2 → CalledCollect t mine locked2 mine2 new index result
+  pub collect_called : (t : Thread) (locked mine mine1 locked2 mine2 : View) (result : Result Receipt E) → IsPeerThread t
+      → HoldsPass t mine → Owns locked 1 → index < 2 ^ 32 → PeerKnows locked old → MayBegin t mine index → Lends t locked mine seat.view mine1
+      → IfOk result (λ r. DrawsCollect order seat seat' old new t index r) → OnErr result (StaysSeated seat seat' × (new ≡ old))
+      → Returns t seat'.view mine1 locked2 mine2 → CalledCollect t mine locked2 mine2 new index result
   collect_called (M n) locked mine mine1 locked2 mine2 result is pass owns short ks may l d e b = absurd is
   collect_called (P n) locked mine mine1 locked2 mine2 result is pass owns short ks may l d e b = collect_called_by n locked mine mine1 locked2 mine2 result is pass owns short ks may l d e b
   collect_called C locked mine mine1 locked2 mine2 result is pass owns short ks may l d e b = absurd is
 
 -- what the seat knew and owned after the draw, and that it is of the order
 module _ {E : Type 0} (order : OrderId) (seat seat' : Shown) (old new : Side PeerReplay) (t : Thread) (index : ℕ) where
-  pub collect_more : (result : Result Receipt E) → IfOk result (λ r. DrawsCollect order seat seat' old new t index r) → OnErr result (StaysSeated seat seat' × (new ≡ old)) → (i : ℕ) → IsPrefix (known seat.view i) (known seat'.view i)
-  collect_more (Ok r) (inl d) e i = prefix_trans (known seat.view i) (known d.between.view i) (known seat'.view i) (grows_more seat.view d.between.view 1 d.begins.kept d.begins.appends.grows i) (grows_more d.between.view seat'.view 1 d.ends.kept d.ends.appends.grows i)
+  pub collect_more : (result : Result Receipt E) → IfOk result (λ r. DrawsCollect order seat seat' old new t index r)
+      → OnErr result (StaysSeated seat seat' × (new ≡ old)) → (i : ℕ) → IsPrefix (known seat.view i) (known seat'.view i)
+  collect_more (Ok r) (inl d) e i = prefix_trans (known seat.view i) (known d.between.view i) (known seat'.view i)
+      (grows_more seat.view d.between.view 1 d.begins.kept d.begins.appends.grows i) (grows_more d.between.view seat'.view 1 d.ends.kept d.ends.appends.grows i)
   collect_more (Ok r) (inr d) e i = grows_more seat.view seat'.view 1 d.drew.kept d.drew.appends.grows i
   collect_more (Err x) d e i = subst (IsPrefix (known seat.view i)) (sym (ap (λ ks. at [] ks i) e.0.known)) (prefix_refl (known seat.view i))
 
-  pub collect_owns : (result : Result Receipt E) → IfOk result (λ r. DrawsCollect order seat seat' old new t index r) → OnErr result (StaysSeated seat seat' × (new ≡ old)) → (i : ℕ) → Owns seat.view i → Owns seat'.view i
+  pub collect_owns : (result : Result Receipt E) → IfOk result (λ r. DrawsCollect order seat seat' old new t index r)
+      → OnErr result (StaysSeated seat seat' × (new ≡ old)) → (i : ℕ) → Owns seat.view i → Owns seat'.view i
   collect_owns (Ok r) (inl d) e i w = owns_on d.between.view seat'.view 1 d.ends.kept d.ends.appends.grows i (owns_on seat.view d.between.view 1 d.begins.kept d.begins.appends.grows i w)
   collect_owns (Ok r) (inr d) e i w = owns_on seat.view seat'.view 1 d.drew.kept d.drew.appends.grows i w
   collect_owns (Err x) d e i w = ap (λ os. at false os i) e.0.owns ∙ w
@@ -366,30 +390,43 @@ keeps_then a b c k l = record {
   marking = λ q. l.marking (k.marking q);
 }
 
-whole_reserves : (n : ℕ) (index : ℕ) (order : OrderId) (locked mine mine1 locked2 mine2 : View) (seat seat' : Shown) (old new : PeerModel) (r : Receipt) → PeerKnows locked (seen old) → PeerReserves locked old → Lends (P n) locked mine seat.view mine1
+whole_reserves : (n : ℕ) (index : ℕ) (order : OrderId) (locked mine mine1 locked2 mine2 : View) (seat seat' : Shown) (old new : PeerModel) (r : Receipt)
+    → PeerKnows locked (seen old) → PeerReserves locked old → Lends (P n) locked mine seat.view mine1
     → DrawsWhole order seat seat' (seen old) (seen new) (P n) index r → new.reserve ≡ old.reserve → Returns (P n) seat'.view mine1 locked2 mine2 → PeerReserves locked2 new
 whole_reserves n index order locked mine mine1 locked2 mine2 seat seat' old new r ks rs l d same b =
     let mid : PeerModel = record { threads = d.begun.threads; entries = d.begun.entries; state = d.begun.state; reserve = old.reserve; colours = old.colours } in
     let began = began_at (P n) index r.first d.marking in
     let ended = swept_at (P n) index r.last d.marking d.freed in
     let on = drew_on (P n) locked mine mine1 order seat d.between old mid began nothing l d.begins in
-    let all : KnowsOn locked seat'.view = record { more = λ i. prefix_trans (known locked i) (known d.between.view i) (known seat'.view i) (on.more i) (grows_more d.between.view seat'.view 1 d.ends.kept d.ends.appends.grows i); one_history = d.ends.appends.one_history } in
+    let all : KnowsOn locked seat'.view = record {
+      more = λ i. prefix_trans (known locked i) (known d.between.view i) (known seat'.view i)
+          (on.more i) (grows_more d.between.view seat'.view 1 d.ends.kept d.ends.appends.grows i);
+      one_history = d.ends.appends.one_history;
+    } in
     reserves_on locked locked2 old new ks (back_on (P n) locked seat'.view mine1 locked2 mine2 all b)
-    (keeps_then old mid new (quiet_kept order seat d.between old mid began nothing d.begins refl tt (λ due. refl)) (quiet_kept order d.between seat' mid new ended (sweep_of d.gone) d.ends same tt (λ due. refl))) rs
+    (keeps_then old mid new (quiet_kept order seat d.between old mid began nothing d.begins refl tt (λ due. refl))
+    (quiet_kept order d.between seat' mid new ended (sweep_of d.gone) d.ends same tt (λ due. refl))) rs
 
-reserves_by : {E : Type 0} (n : ℕ) (index : ℕ) (order : OrderId) (locked mine mine1 locked2 mine2 : View) (seat seat' : Shown) (old new : PeerModel) (result : Result Receipt E) → PeerKnows locked (seen old) → PeerReserves locked old → Lends (P n) locked mine seat.view mine1
-    → IfOk result (λ r. DrawsCollect order seat seat' (seen old) (seen new) (P n) index r) → OnErr result (StaysSeated seat seat' × (seen new ≡ seen old)) → new.reserve ≡ old.reserve → Returns (P n) seat'.view mine1 locked2 mine2 → PeerReserves locked2 new
-reserves_by n index order locked mine mine1 locked2 mine2 seat seat' old new (Ok r) ks rs l (inl d) e same b = whole_reserves n index order locked mine mine1 locked2 mine2 seat seat' old new r ks rs l d same b
+reserves_by : {E : Type 0} (n : ℕ) (index : ℕ) (order : OrderId) (locked mine mine1 locked2 mine2 : View) (seat seat' : Shown) (old new : PeerModel) (result : Result Receipt E)
+    → PeerKnows locked (seen old) → PeerReserves locked old → Lends (P n) locked mine seat.view mine1
+    → IfOk result (λ r. DrawsCollect order seat seat' (seen old) (seen new) (P n) index r) → OnErr result (StaysSeated seat seat' × (seen new ≡ seen old))
+    → new.reserve ≡ old.reserve → Returns (P n) seat'.view mine1 locked2 mine2 → PeerReserves locked2 new
+reserves_by n index order locked mine mine1 locked2 mine2 seat seat' old new (Ok r) ks rs l
+    (inl d) e same b = whole_reserves n index order locked mine mine1 locked2 mine2 seat seat' old new r ks rs l d same b
 reserves_by n index order locked mine mine1 locked2 mine2 seat seat' old new (Ok r) ks rs l (inr d) e same b =
     let refused = refused_at (P n) index r.first d.marking in
     drew_reserves (P n) locked mine mine1 locked2 mine2 order seat seat' old new refused nothing ks rs l d.drew b (quiet_kept order seat seat' old new refused nothing d.drew same tt (λ due. refl))
 reserves_by n index order locked mine mine1 locked2 mine2 seat seat' old new (Err x) ks rs l d e same b =
-    reserves_on locked locked2 old new ks (back_on (P n) locked seat'.view mine1 locked2 mine2 (seated_on locked seat seat' e.0 (lent_on (P n) locked mine seat.view mine1 l)) b) (nothing_kept old new e.1 same) rs
+    reserves_on locked locked2 old new ks (back_on (P n) locked seat'.view mine1 locked2 mine2 (seated_on locked seat seat' e.0 (lent_on (P n) locked mine seat.view mine1 l)) b)
+    (nothing_kept old new e.1 same) rs
 
-pub collect_reserves : {E : Type 0} (t : Thread) (index : ℕ) (order : OrderId) (locked mine mine1 locked2 mine2 : View) (seat seat' : Shown) (old new : PeerModel) (result : Result Receipt E) → IsPeerThread t → PeerKnows locked (seen old) → PeerReserves locked old → Lends t locked mine seat.view mine1
-    → IfOk result (λ r. DrawsCollect order seat seat' (seen old) (seen new) t index r) → OnErr result (StaysSeated seat seat' × (seen new ≡ seen old)) → new.reserve ≡ old.reserve → Returns t seat'.view mine1 locked2 mine2 → PeerReserves locked2 new
+pub collect_reserves : {E : Type 0} (t : Thread) (index : ℕ) (order : OrderId) (locked mine mine1 locked2 mine2 : View) (seat seat' : Shown) (old new : PeerModel) (result : Result Receipt E)
+    → IsPeerThread t → PeerKnows locked (seen old) → PeerReserves locked old → Lends t locked mine seat.view mine1
+    → IfOk result (λ r. DrawsCollect order seat seat' (seen old) (seen new) t index r) → OnErr result (StaysSeated seat seat' × (seen new ≡ seen old))
+    → new.reserve ≡ old.reserve → Returns t seat'.view mine1 locked2 mine2 → PeerReserves locked2 new
 collect_reserves (M n) index order locked mine mine1 locked2 mine2 seat seat' old new result is ks rs l d e same b = absurd is
-collect_reserves (P n) index order locked mine mine1 locked2 mine2 seat seat' old new result is ks rs l d e same b = reserves_by n index order locked mine mine1 locked2 mine2 seat seat' old new result ks rs l d e same b
+collect_reserves (P n) index order locked mine mine1 locked2 mine2 seat seat' old new result is ks rs l d e
+    same b = reserves_by n index order locked mine mine1 locked2 mine2 seat seat' old new result ks rs l d e same b
 collect_reserves C index order locked mine mine1 locked2 mine2 seat seat' old new result is ks rs l d e same b = absurd is
 
 -- the numbers, the entries and the reply are those of the operation

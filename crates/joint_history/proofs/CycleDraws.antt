@@ -53,10 +53,12 @@ cycle_open v s k c e = (views_say_states v k.known).opened c (ap (λ (r : Manage
 
 -- and where the side has none, so has the list, and the next one is the same
 pub cycle_next : (v : View) (s : Side ManagedReplay) → ManagedKnows v s → s.state.managed.cycle ≡ None → IsClosed (known v 0) × IsNext v (s.state.managed.cycles + 1)
-cycle_next v s k e = subst (λ (r : ManagedReplay). IsClosed (known v 0) × IsNext v (r.managed.cycles + 1)) k.state ((views_say_states v k.known).closed (ap (λ (r : ManagedReplay). r.managed.cycle) k.state ∙ e))
+cycle_next v s k e = subst (λ (r : ManagedReplay). IsClosed (known v 0) × IsNext v (r.managed.cycles + 1)) k.state
+    ((views_say_states v k.known).closed (ap (λ (r : ManagedReplay). r.managed.cycle) k.state ∙ e))
 
 -- the driver's entry of the managed list may be made that does to the cycles what it may, and sets no cell
-pub driver_may : (order : OrderId) (seat : Shown) (o : Op) → seat.order ≡ order → is_read o ≡ false → is_peer_event C o ≡ false → mark o None ≡ None → Owns seat.view 0 → Owns seat.view (caller_line C) → OwesNone seat.view → MayDo seat.view (deed o) → MayAppend order seat 0 C o None
+pub driver_may : (order : OrderId) (seat : Shown) (o : Op) → seat.order ≡ order → is_read o ≡ false → is_peer_event C o ≡ false → mark o None ≡ None
+    → Owns seat.view 0 → Owns seat.view (caller_line C) → OwesNone seat.view → MayDo seat.view (deed o) → MayAppend order seat 0 C o None
 driver_may order seat o same own side plain owns pass paid cycles = record {
   same = same;
   thread = tt;
@@ -105,15 +107,18 @@ pub frees_these : (old new : ManagedReplay) (k : KeptEntry) (freed : List ℕ) �
 frees_these old new k freed e is = record {
   live = λ m. (
     (λ l. (let l2 = subst (λ h. IsLive h m) e l in (IsLive-before old.managed.heap freed m l2, ap (λ xs. has xs m) is ∙ not_has freed m (IsLive-spared old.managed.heap freed m l2)))),
-    (λ z. subst (λ h. IsLive h m) (sym e) (IsLive-left old.managed.heap freed m z.0 (λ c. both_ways (has (numbers_of freed) m) (sym (ap (λ xs. has xs m) is) ∙ z.1) (frees-has (snap_of freed [] []) m c)))),
+    (λ z. subst (λ h. IsLive h m) (sym e) (IsLive-left old.managed.heap freed m z.0
+        (λ c. both_ways (has (numbers_of freed) m) (sym (ap (λ xs. has xs m) is) ∙ z.1) (frees-has (snap_of freed [] []) m c)))),
   );
 }
 
 -- so of the cells' targets the side has as live those which the managed list doesn't free, after the entry as before
-pub agrees_after : (v w : View) (old new : Side ManagedReplay) (k : KeptEntry) → ManagedKnows v old → (known w 0 ≡ known v 0 ++ k ∷ []) → marked k ≡ None → Frees old.state new.state k → Agrees w (λ m. IsLive new.state.managed.heap m)
+pub agrees_after : (v w : View) (old new : Side ManagedReplay) (k : KeptEntry) → ManagedKnows v old
+    → (known w 0 ≡ known v 0 ++ k ∷ []) → marked k ≡ None → Frees old.state new.state k → Agrees w (λ m. IsLive new.state.managed.heap m)
 agrees_after v w old new k ks g unmarked f c m aims =
     let was : target (known v 0) c ≡ Some m = sym (ap (λ ls. target ls c) g ∙ (target_more c (known v 0) k ∙ ap (aims_at c (target (known v 0) c)) unmarked)) ∙ aims in
-    let t : IsLive old.state.managed.heap m ↔ (is_freed (known v 0) m ≡ false) = subst (λ (r : ManagedReplay). IsLive r.managed.heap m ↔ (is_freed (known v 0) m ≡ false)) ks.state (targets_agree v ks.known c m was) in
+    let t : IsLive old.state.managed.heap m ↔ (is_freed (known v 0) m ≡ false) = subst
+    (λ (r : ManagedReplay). IsLive r.managed.heap m ↔ (is_freed (known v 0) m ≡ false)) ks.state (targets_agree v ks.known c m was) in
     let now : is_freed (known w 0) m ≡ (is_freed (known v 0) m || has k.freed m) = ap (λ ls. is_freed ls m) g ∙ freed_more (known v 0) k m in (
       (λ l. (let b = (f.live m).0 l in now ∙ (ap (λ z. z || has k.freed m) (t.0 b.0) ∙ b.1))),
       (λ e. (let b = none_of (is_freed (known v 0) m) (has k.freed m) (sym now ∙ e) in (f.live m).1 (t.1 b.0, b.1))),
@@ -141,7 +146,8 @@ outside_after v w r k p e s =
       stored = (p.fill ∙ (ap (λ d. fill_after (owing own d) place v.fill) e ∙ s.stored.0), p.empty ∙ (ap (λ d. empty_after (owing own d) place v.empty) e ∙ s.stored.1));
     }
 
-pub to_settle : (order order' : OrderId) (seat seat' : Shown) (old new : Side ManagedReplay) (k : KeptEntry) → ManagedKnows seat.view old → Owns seat.view 0 → seat.order ≡ order → IsOutside seat.view → Appends order order' seat seat' 0 k → marked k ≡ None → deed_of_pin k ≡ stays
+pub to_settle : (order order' : OrderId) (seat seat' : Shown) (old new : Side ManagedReplay) (k : KeptEntry) → ManagedKnows seat.view old
+    → Owns seat.view 0 → seat.order ≡ order → IsOutside seat.view → Appends order order' seat seat' 0 k → marked k ≡ None → deed_of_pin k ≡ stays
     → Frees old.state new.state k → IsToSettle order seat' new
 to_settle order order' seat seat' old new k ks owns same out a unmarked pin f = record {
   same = a.same ∙ same;
@@ -156,7 +162,8 @@ pub record HasToEnd (order : OrderId) (seat : Shown) (side : Side ManagedReplay)
   pub settle : IsToSettle order seat side
   pub ended : HasEnded seat.view
 
-pub cycle_ended : (order order' : OrderId) (seat seat' : Shown) (old new : Side ManagedReplay) (k : KeptEntry) (c : OpenCycle) → ManagedKnows seat.view old → Owns seat.view 0 → seat.order ≡ order → Settled seat.view → old.state.managed.cycle ≡ Some c → Appends order order' seat seat' 0 k
+pub cycle_ended : (order order' : OrderId) (seat seat' : Shown) (old new : Side ManagedReplay) (k : KeptEntry) (c : OpenCycle) → ManagedKnows seat.view old
+    → Owns seat.view 0 → seat.order ≡ order → Settled seat.view → old.state.managed.cycle ≡ Some c → Appends order order' seat seat' 0 k
     → marked k ≡ None → deed_of_pin k ≡ stays → deed k.entry.made.op ≡ ends c.number → Frees old.state new.state k → HasToEnd order seat' new
 cycle_ended order order' seat seat' old new k c ks owns same s opened a unmarked pin d f = record {
   settle = to_settle order order' seat seat' old new k ks owns same (is_outside seat.view s) a unmarked pin f;
@@ -164,17 +171,23 @@ cycle_ended order order' seat seat' old new k c ks owns same s opened a unmarked
 }
 
 -- a seat that is settled then has drawn the same
-pub appended_still : (order : OrderId) (seat mid seat' : Shown) (r : ℕ) (k : KeptEntry) → HasAppended order seat mid r k → seat'.order ≡ mid.order → seat'.view.owns ≡ mid.view.owns → seat'.view.known ≡ mid.view.known → HasAppended order seat seat' r k
+pub appended_still : (order : OrderId) (seat mid seat' : Shown) (r : ℕ) (k : KeptEntry) → HasAppended order seat mid r k
+    → seat'.order ≡ mid.order → seat'.view.owns ≡ mid.view.owns → seat'.view.known ≡ mid.view.known → HasAppended order seat seat' r k
 appended_still order seat mid seat' r k a same owns knows =
     let line : (i : ℕ) → known seat'.view i ≡ known mid.view i = λ i. ap (λ ls. at [] ls i) knows in
     record {
       same = same ∙ a.same;
       grows = record { role = line r ∙ a.grows.role; caller = line (caller_line k.entry.made.caller) ∙ a.grows.caller; others = λ i n m. line i ∙ a.grows.others i n m; owns = owns ∙ a.grows.owns };
       number = a.number;
-      one_history = record { whole = a.one_history.whole; numbers = a.one_history.numbers; begins = λ i. subst (λ l. IsPrefix l (of_line i a.one_history.whole)) (sym (line i)) (a.one_history.begins i) };
+      one_history = record {
+        whole = a.one_history.whole;
+        numbers = a.one_history.numbers;
+        begins = λ i. subst (λ l. IsPrefix l (of_line i a.one_history.whole)) (sym (line i)) (a.one_history.begins i);
+      };
     }
 
-pub drew_still : {S : Type 0} (rules : SideRules S) (r : ℕ) (order : OrderId) (seat mid seat' : Shown) (old new : Side S) (e : Entry) (told : Told) → Drew rules r order seat mid old new e told → seat'.order ≡ mid.order → seat'.view.owns ≡ mid.view.owns → seat'.view.known ≡ mid.view.known
+pub drew_still : {S : Type 0} (rules : SideRules S) (r : ℕ) (order : OrderId) (seat mid seat' : Shown) (old new : Side S) (e : Entry) (told : Told)
+    → Drew rules r order seat mid old new e told → seat'.order ≡ mid.order → seat'.view.owns ≡ mid.view.owns → seat'.view.known ≡ mid.view.known
     → Drew rules r order seat seat' old new e told
 drew_still rules r order seat mid seat' old new e told d same owns knows = record {
   kept = d.kept;

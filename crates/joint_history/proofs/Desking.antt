@@ -95,7 +95,8 @@ module _ {A : Type 0} where
   get_front (x ∷ xs) ys (suc i) l = get_front xs ys i (omega arith)
 
 -- one caller more is placed
-pub placed_more : (n : ℕ) (callers : List (Option Pass)) (p : Pass) → length callers ≡ n → p.thread ≡ thread_of n → KnowsNothing p.view → ArePlaced n callers → ArePlaced (n + 1) (callers ++ Some p ∷ [])
+pub placed_more : (n : ℕ) (callers : List (Option Pass)) (p : Pass) → length callers ≡ n → p.thread ≡ thread_of n
+    → KnowsNothing p.view → ArePlaced n callers → ArePlaced (n + 1) (callers ++ Some p ∷ [])
 placed_more n callers p len is nothing placed i l = ⊎_elim
     (λ (e : i ≡ n). (p, subst (λ k. slice_get (callers ++ Some p ∷ []) k ≡ Some (Some p)) (len ∙ sym e) (get_last callers (Some p)), (subst (λ k. p.thread ≡ thread_of k) (sym e) is, nothing)))
     (λ (m : i ≡ n → ⊥). let q = placed i (omega (arith, m)) in (q.0, get_front callers (Some p ∷ []) i (omega (arith, m)) ∙ q.1, q.2))

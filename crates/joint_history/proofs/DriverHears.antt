@@ -18,7 +18,8 @@ use Rattle.joint_history.proofs.DriverSteps.{driver_in}
 use Rattle.joint_history.proofs.KnownCallers.{own_line}
 use Rattle.joint_history.proofs.KnownViews.{views_join, same_view, no_view}
 
-pub driver_hears : (mine other new : View) → IsDrawnView other → TakesIn mine other new → BeginsOneHistory new → HoldsPass C mine → (index : ℕ) (stand : Stand) (seen : Managed) → DriverStands mine index stand seen → DriverStands new index stand seen
+pub driver_hears : (mine other new : View) → IsDrawnView other → TakesIn mine other new → BeginsOneHistory new → HoldsPass C mine
+    → (index : ℕ) (stand : Stand) (seen : Managed) → DriverStands mine index stand seen → DriverStands new index stand seen
 driver_hears mine other new b takes one pass index stand seen s =
     let j = views_join mine other new s.known b takes one in
     let whole = takes.owned (caller_line C) (pass (caller_line C) (own_line C)) in

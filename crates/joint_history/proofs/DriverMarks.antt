@@ -48,7 +48,8 @@ marked_open side o seen u =
     let w = marked_is_the_drivers u.state u.kept o u.stood in
     subst (λ (s : PeerReplay). IsSome s.marking) u.peer (some_marking u.state.peer.marking w.0 w.1)
 
-pub is_open : (locked mine lent mine1 : View) (side : Side PeerReplay) (index : ℕ) → HoldsPass C mine → Owns locked 1 → PeerKnows locked side → Lends C locked mine lent mine1 → IsSome side.state.marking ⊎ HasBegunMarking mine index → IsSome side.state.marking
+pub is_open : (locked mine lent mine1 : View) (side : Side PeerReplay) (index : ℕ) → HoldsPass C mine → Owns locked 1 → PeerKnows locked side
+    → Lends C locked mine lent mine1 → IsSome side.state.marking ⊎ HasBegunMarking mine index → IsSome side.state.marking
 is_open locked mine lent mine1 side index pass owns ks l w = ⊎_elim
     (λ (i : IsSome side.state.marking). i)
     (λ (m : HasBegunMarking mine index). marked_open side.state m.opened m.seen (under_peers locked mine lent mine1 side index (marked m.opened) m.seen pass owns ks m.stands l))
@@ -60,8 +61,10 @@ marked_own side o seen u =
     let w = marked_is_the_drivers u.state u.kept o u.stood in
     subst IsDrivers (sym (sym (ap (λ (s : PeerReplay). s.marking) u.peer) ∙ w.1)) w.2
 
-pub is_own_marking : (locked mine lent mine1 : View) (side : Side PeerReplay) (index : ℕ) → HoldsPass C mine → Owns locked 1 → PeerKnows locked side → Lends C locked mine lent mine1 → HasBegunMarking mine index → IsDrivers side.state.marking
-is_own_marking locked mine lent mine1 side index pass owns ks l m = marked_own side.state m.opened m.seen (under_peers locked mine lent mine1 side index (marked m.opened) m.seen pass owns ks m.stands l)
+pub is_own_marking : (locked mine lent mine1 : View) (side : Side PeerReplay) (index : ℕ) → HoldsPass C mine → Owns locked 1
+    → PeerKnows locked side → Lends C locked mine lent mine1 → HasBegunMarking mine index → IsDrivers side.state.marking
+is_own_marking locked mine lent mine1 side index pass owns ks l m = marked_own side.state m.opened m.seen
+    (under_peers locked mine lent mine1 side index (marked m.opened) m.seen pass owns ks m.stands l)
 
 -- where the driver stands after it has ended a marking
 sweep_next : (stand : Stand) (n : ℕ) (reply : Reply) (told : Told) → stand_after stand n op.Sweep reply told ≡ after_sweep stand
@@ -83,12 +86,15 @@ sweep_counts s None freed j span e = (let f : says.Swept j span ≡ says.NoMark 
 sweep_counts s (Some mk) freed j span e = ap count_in e
 
 -- after a draw under the lock
-module _ (locked mine mine1 locked2 mine2 : View) (order : OrderId) (seat seat' : Shown) (old new : Side PeerReplay) (index : ℕ) (pass : HoldsPass C mine) (owns : Owns locked 1) (short : index < 2 ^ 32) (ks : PeerKnows locked old) (l : Lends C locked mine seat.view mine1) (b : Returns C seat'.view mine1 locked2 mine2) where
+module _ (locked mine mine1 locked2 mine2 : View) (order : OrderId) (seat seat' : Shown) (old new : Side PeerReplay) (index : ℕ) (pass : HoldsPass C mine)
+    (owns : Owns locked 1) (short : index < 2 ^ 32) (ks : PeerKnows locked old) (l : Lends C locked mine seat.view mine1) (b : Returns C seat'.view mine1 locked2 mine2) where
   -- the sweep
-  with_sweep : (n : ℕ) (out : Swept) (d : DrawsSweep order seat seat' old new index n out) (stand : Stand) (m : Managed) → DriverStands mine index stand m → MaySweepNow stand (length (candidates_of m)) None
+  with_sweep : (n : ℕ) (out : Swept) (d : DrawsSweep order seat seat' old new index n out) (stand : Stand) (m : Managed)
+      → DriverStands mine index stand m → MaySweepNow stand (length (candidates_of m)) None
       → DrivenUnderPeers mine locked2 mine2 old new index stand m (driver_entry n index op.Sweep (says.Swept out.marking out.freed) None) (sweep_of d.freed)
   with_sweep n out d stand m s now =
-      driven_peers locked mine mine1 locked2 mine2 order seat seat' old new index stand m (driver_entry n index op.Sweep (says.Swept out.marking out.freed) None) (sweep_of d.freed) pass owns refl refl short ks s
+      driven_peers locked mine mine1 locked2 mine2 order seat seat' old new index stand m
+      (driver_entry n index op.Sweep (says.Swept out.marking out.freed) None) (sweep_of d.freed) pass owns refl refl short ks s
       (λ u. subst (λ (c : ℕ). MaySweepNow stand c None) (count_same m u.state.managed.managed u.dead) now) l d.drew b
 
   pub sweep_made : (n : ℕ) (out : Swept) → DrawsSweep order seat seat' old new index n out → MakesSweep mine mine2 index n out
@@ -108,10 +114,12 @@ module _ (locked mine mine1 locked2 mine2 : View) (order : OrderId) (seat seat' 
   sweep_closes n out d = ap (λ (s : PeerReplay). s.marking) d.drew.goes.state ∙ sweep_leaves_none old.state None (sweep_of d.freed)
 
   -- the begin
-  with_begin : (n : ℕ) (j : Number) → Drew peer_rules 1 order seat seat' old new (driver_entry n index op.Begin (says.Mark j) None) nothing → (o : OpenSnap) (count : ℕ) (weakened swept : Bool) (m : Managed) → DriverStands mine index (weakening o count weakened swept) m
+  with_begin : (n : ℕ) (j : Number) → Drew peer_rules 1 order seat seat' old new (driver_entry n index op.Begin (says.Mark j) None) nothing
+      → (o : OpenSnap) (count : ℕ) (weakened swept : Bool) (m : Managed) → DriverStands mine index (weakening o count weakened swept) m
       → count ≡ length (candidates_of m) → DrivenUnderPeers mine locked2 mine2 old new index (weakening o count weakened swept) m (driver_entry n index op.Begin (says.Mark j) None) nothing
   with_begin n j d o count weakened swept m s all =
-      driven_peers locked mine mine1 locked2 mine2 order seat seat' old new index (weakening o count weakened swept) m (driver_entry n index op.Begin (says.Mark j) None) nothing pass owns refl refl short ks s
+      driven_peers locked mine mine1 locked2 mine2 order seat seat' old new index (weakening o count weakened swept) m
+      (driver_entry n index op.Begin (says.Mark j) None) nothing pass owns refl refl short ks s
       (λ u. (all ∙ count_same m u.state.managed.managed u.dead, refl)) l d b
 
   pub begin_made : (n : ℕ) (j : Number) → Drew peer_rules 1 order seat seat' old new (driver_entry n index op.Begin (says.Mark j) None) nothing → MakesBegin mine mine2 index n j
@@ -133,7 +141,15 @@ may_end_own v index w = record { stand = marked w.opened; seen = w.seen; stands 
 
 -- and then the own one may begin
 pub may_begin : (old between : View) (index : ℕ) (ended : Option (ℕ × Swept)) → EndsFirst old between index ended → MayMarkCycle old index → MayBeginMarking between index
-may_begin old between index None e w = record { opened = w.opened; count = w.count; weakened = w.weakened; swept = false; seen = w.seen; stands = e.stands index (weakening w.opened w.count w.weakened false) w.seen w.stands; all = w.all }
+may_begin old between index None e w = record {
+  opened = w.opened;
+  count = w.count;
+  weakened = w.weakened;
+  swept = false;
+  seen = w.seen;
+  stands = e.stands index (weakening w.opened w.count w.weakened false) w.seen w.stands;
+  all = w.all;
+}
 may_begin old between index (Some r) e w =
     let d = e (weakening w.opened w.count w.weakened false) w.seen w.stands (w.all, refl, refl) in
     record { opened = w.opened; count = w.count; weakened = true; swept = true; seen = w.seen; stands = d.stands; all = w.all }

@@ -46,7 +46,8 @@ pub record IsUnderPeers (side : PeerReplay) (stand : Stand) (seen : Managed) : T
   pub stood : state.control.stand ≡ stand
   pub dead : HasSameDeadPart seen state.managed.managed
 
-pub under_peers : (locked mine lent mine1 : View) (side : Side PeerReplay) (index : ℕ) (stand : Stand) (seen : Managed) → HoldsPass C mine → Owns locked 1 → PeerKnows locked side → DriverStands mine index stand seen → Lends C locked mine lent mine1 → IsUnderPeers side.state stand seen
+pub under_peers : (locked mine lent mine1 : View) (side : Side PeerReplay) (index : ℕ) (stand : Stand) (seen : Managed) → HoldsPass C mine
+    → Owns locked 1 → PeerKnows locked side → DriverStands mine index stand seen → Lends C locked mine lent mine1 → IsUnderPeers side.state stand seen
 under_peers locked mine lent mine1 side index stand seen pass owns ks s l =
     let j = lent_joined C locked mine lent mine1 l ks.known s.known in
     let at = driver_joined locked mine lent mine1 l ks.known pass index stand seen s in
@@ -71,15 +72,25 @@ pub record DrivenUnderPeers (mine locked2 mine2 : View) (old new : Side PeerRepl
   pub knows : PeerKnows locked2 new
   pub driven : DrivenPeers mine mine2 old new index stand seen e told
 
-driven_peers_by : (locked mine mine1 locked2 mine2 : View) (order : OrderId) (lent lent2 : Shown) (old new : Side PeerReplay) (e : Entry) (told : Told) (index : ℕ) (stand : Stand) (seen : Managed) → HoldsPass C mine → Owns locked 1 → e.made.caller ≡ C → e.made.index ≡ index → index < 2 ^ 32
-    → PeerKnows locked old → DriverStands mine index stand seen → ((u : IsUnderPeers old.state stand seen) → DriverAllows stand u.state.managed.managed u.state.peer.peers.issued e.made.op e.made.reply e.made.cites (bare_told told)) → Lends C locked mine lent.view mine1
+driven_peers_by : (locked mine mine1 locked2 mine2 : View) (order : OrderId) (lent lent2 : Shown) (old new : Side PeerReplay) (e : Entry) (told : Told) (index : ℕ) (stand : Stand) (seen : Managed)
+    → HoldsPass C mine → Owns locked 1 → e.made.caller ≡ C → e.made.index ≡ index → index < 2 ^ 32
+    → PeerKnows locked old → DriverStands mine index stand seen
+    → ((u : IsUnderPeers old.state stand seen) → DriverAllows stand u.state.managed.managed u.state.peer.peers.issued e.made.op e.made.reply e.made.cites (bare_told told))
+    → Lends C locked mine lent.view mine1
     → (d : Drew peer_rules 1 order lent lent2 old new e told) → Returns C lent2.view mine1 locked2 mine2 → DrivenUnderPeers mine locked2 mine2 old new index stand seen d.kept.entry told
 driven_peers_by locked mine mine1 locked2 mine2 order lent lent2 old new e told index stand seen pass owns caller at_index short ks s allows l d b =
     let j = lent_joined C locked mine lent.view mine1 l ks.known s.known in
     let at = driver_joined locked mine lent.view mine1 l ks.known pass index stand seen s in
     let past = j.joined.known.past in
     let k = d.kept in
-    let u : IsUnderPeers old.state stand seen = record { state = end_of past; kept = known_past_is_kept past j.joined.known.lawful; peer = j.peer_first (l.whole 1 owns) ∙ ks.state; stood = at.come; dead = at.dead } in
+    let u : IsUnderPeers old.state stand seen = record {
+      state = end_of past;
+      kept = known_past_is_kept past j.joined.known.lawful;
+      peer = j.peer_first (l.whole 1 owns)
+          ∙ ks.state;
+      stood = at.come;
+      dead = at.dead;
+    } in
     let may : MayNow C (end_of past) e.made told = record {
       last = subst (λ (i : ℕ). last_line (end_of past).control C ≤ i) (sym at_index) at.last;
       allows = subst (λ (z : Stand). DriverAllows z (end_of past).managed.managed (end_of past).peer.peers.issued e.made.op e.made.reply e.made.cites (bare_told told)) (sym at.come) (allows u);
@@ -89,7 +100,8 @@ driven_peers_by locked mine mine1 locked2 mine2 order lent lent2 old new e told 
     let goes = subst (λ (z : Entry). GoesOn peer_rules old.state z.made told new.state) (sym d.entry) d.goes in
     let plain = peer_unpinned old.state k.entry.made told goes.lawful.1 in
     let own = (peer_reads_none k.entry.made.caller k.entry.made.op goes.lawful.0.event goes.lawful.0.side).0 in
-    let managed : (end_of grown.known.known.past).managed ≡ (end_of past).managed = grown.managed ∙ ap (λ x. managed_past (end_of past).managed k.entry.made told x (is_read k.entry.made.op)) goes.lawful.0.side in
+    let managed : (end_of grown.known.known.past).managed ≡ (end_of past).managed = grown.managed
+    ∙ ap (λ x. managed_past (end_of past).managed k.entry.made told x (is_read k.entry.made.op)) goes.lawful.0.side in
     record {
       knows = w.knows;
       driven = record {
@@ -105,13 +117,17 @@ driven_peers_by locked mine mine1 locked2 mine2 order lent lent2 old new e told 
         };
         before = u.peer;
         told_now = bare_told grown.told;
-        plain = λ p. ap bare_told (grown.alike (subst (λ (z : Told). TellsPlainly (end_of past).control.stand k.entry.made.op z) (sym (plain_told told plain)) (subst (λ (z : Stand). TellsPlainly z k.entry.made.op told) (sym at.come) p))) ∙ plain_told told plain;
+        plain = λ p. ap bare_told (grown.alike (subst (λ (z : Told). TellsPlainly (end_of past).control.stand k.entry.made.op z)
+            (sym (plain_told told plain)) (subst (λ (z : Stand). TellsPlainly z k.entry.made.op told) (sym at.come) p))) ∙ plain_told told plain;
         stands = record {
           known = same_view lent2.view mine2 grown.known b.same;
           stands = record {
-            last = subst (λ (h : List Noted). last_line (end_of h).control C ≤ index) (sym grown.past_is) (let n = last_of_own past (note_of k.entry grown.told) C (ap (λ (z : Entry). z.made.caller) d.entry ∙ caller) tt in let m = ap (λ (z : Entry). z.made.index) d.entry in omega (arith, n, at_index, m));
+            last = subst (λ (h : List Noted). last_line (end_of h).control C ≤ index) (sym grown.past_is)
+                (let n = last_of_own past (note_of k.entry grown.told) C (ap (λ (z : Entry). z.made.caller) d.entry ∙ caller) tt in
+                let m = ap (λ (z : Entry). z.made.index) d.entry in omega (arith, n, at_index, m));
             come = ap (λ (h : List Noted). (end_of h).control.stand) grown.past_is
-                ∙ (stand_of_own past (note_of k.entry grown.told) (ap (λ (z : Entry). z.made.caller) d.entry ∙ caller) ∙ ap (λ (z : Stand). stand_after z k.entry.number k.entry.made.op k.entry.made.reply (bare_told grown.told)) at.come);
+                ∙ (stand_of_own past (note_of k.entry grown.told) (ap (λ (z : Entry). z.made.caller) d.entry ∙ caller)
+                ∙ ap (λ (z : Stand). stand_after z k.entry.number k.entry.made.op k.entry.made.reply (bare_told grown.told)) at.come);
             dead = subst (λ (r : ManagedReplay). HasSameDeadPart seen r.managed) (sym managed) at.dead;
           };
         };
@@ -120,8 +136,11 @@ driven_peers_by locked mine mine1 locked2 mine2 order lent lent2 old new e told 
     }
 
 -- after a draw
-pub driven_peers : (locked mine mine1 locked2 mine2 : View) (order : OrderId) (seat seat' : Shown) (old new : Side PeerReplay) (index : ℕ) (stand : Stand) (seen : Managed) (e : Entry) (told : Told) → HoldsPass C mine → Owns locked 1 → e.made.caller ≡ C → e.made.index ≡ index → index < 2 ^ 32
-    → PeerKnows locked old → DriverStands mine index stand seen → ((u : IsUnderPeers old.state stand seen) → DriverAllows stand u.state.managed.managed u.state.peer.peers.issued e.made.op e.made.reply e.made.cites (bare_told told)) → Lends C locked mine seat.view mine1
+pub driven_peers : (locked mine mine1 locked2 mine2 : View) (order : OrderId) (seat seat' : Shown) (old new : Side PeerReplay) (index : ℕ) (stand : Stand) (seen : Managed) (e : Entry) (told : Told)
+    → HoldsPass C mine → Owns locked 1 → e.made.caller ≡ C → e.made.index ≡ index → index < 2 ^ 32
+    → PeerKnows locked old → DriverStands mine index stand seen
+    → ((u : IsUnderPeers old.state stand seen) → DriverAllows stand u.state.managed.managed u.state.peer.peers.issued e.made.op e.made.reply e.made.cites (bare_told told))
+    → Lends C locked mine seat.view mine1
     → Drew peer_rules 1 order seat seat' old new e told → Returns C seat'.view mine1 locked2 mine2 → DrivenUnderPeers mine locked2 mine2 old new index stand seen e told
 driven_peers locked mine mine1 locked2 mine2 order seat seat' old new index stand seen e told pass owns caller at_index short ks s allows l d b =
     subst (λ (z : Entry). DrivenUnderPeers mine locked2 mine2 old new index stand seen z told) d.entry
@@ -132,7 +151,8 @@ pub record NotDrivenPeers (mine locked2 mine2 : View) (side : Side PeerReplay) :
   pub knows : PeerKnows locked2 side
   pub makes : DriverMakesNone mine mine2
 
-pub driven_peers_none : (locked mine lent mine1 locked2 mine2 : View) (side : Side PeerReplay) → HoldsPass C mine → Owns locked 1 → PeerKnows locked side → IsDrawnView mine → Lends C locked mine lent mine1 → Returns C lent mine1 locked2 mine2 → NotDrivenPeers mine locked2 mine2 side
+pub driven_peers_none : (locked mine lent mine1 locked2 mine2 : View) (side : Side PeerReplay) → HoldsPass C mine → Owns locked 1 → PeerKnows locked side
+    → IsDrawnView mine → Lends C locked mine lent mine1 → Returns C lent mine1 locked2 mine2 → NotDrivenPeers mine locked2 mine2 side
 driven_peers_none locked mine lent mine1 locked2 mine2 side pass owns ks m l b = record {
   knows = knows_peers_still C locked mine lent mine1 locked2 mine2 side owns ks m l b;
   makes = record {

@@ -41,13 +41,19 @@ may_snap side seen u = subst (λ (r : ManagedReplay). r.managed.cycle ≡ None) 
 abbrev cycle_of : ℕ → List ℕ → List ℕ → Option OpenCycle
 cycle_of k candidates dead = Some record { number = k; candidates = candidates; dead = dead }
 
-module _ (locked mine mine1 locked2 mine2 : View) (order : OrderId) (seat seat' : Shown) (old new : Side ManagedReplay) (index : ℕ) (pass : HoldsPass C mine) (owns : Owns locked 0) (short : index < 2 ^ 32) (ks : ManagedKnows locked old) (l : Lends C locked mine seat.view mine1) (b : Returns C seat'.view mine1 locked2 mine2) where
+module _ (locked mine mine1 locked2 mine2 : View) (order : OrderId) (seat seat' : Shown) (old new : Side ManagedReplay) (index : ℕ) (pass : HoldsPass C mine)
+    (owns : Owns locked 0) (short : index < 2 ^ 32) (ks : ManagedKnows locked old) (l : Lends C locked mine seat.view mine1) (b : Returns C seat'.view mine1 locked2 mine2) where
   with_snapshot_of : (out : Opened) (d : DrawsSnapshot order seat seat' old new index out) (m : Managed) → DriverStands mine index idle m
-      → DrivenUnder mine locked2 mine2 old new index idle m (driver_entry out.number index (op.Snap out.cycle) (snap_reply old.state.managed d.freed d.candidates) None) (kept_pins d.pins (snap_of d.freed d.candidates d.dead))
+      → DrivenUnder mine locked2 mine2 old new index idle m (driver_entry out.number index (op.Snap out.cycle) (snap_reply old.state.managed d.freed d.candidates) None)
+      (kept_pins d.pins (snap_of d.freed d.candidates d.dead))
   with_snapshot_of out d m s =
-      let drew = subst (λ (k : ℕ). Drew managed_rules 0 order seat seat' old new (driver_entry out.number index (op.Snap record { 0 = k }) (snap_reply old.state.managed d.freed d.candidates) None) (kept_pins d.pins (snap_of d.freed d.candidates d.dead))) (sym d.cycle)
-      (subst (λ (k : ℕ). Drew managed_rules 0 order seat seat' old new (driver_entry k index (op.Snap record { 0 = old.state.managed.cycles + 1 }) (snap_reply old.state.managed d.freed d.candidates) None) (kept_pins d.pins (snap_of d.freed d.candidates d.dead))) d.same_number d.drew) in
-      driven locked mine mine1 locked2 mine2 order seat seat' old new index idle m (driver_entry out.number index (op.Snap out.cycle) (snap_reply old.state.managed d.freed d.candidates) None) (kept_pins d.pins (snap_of d.freed d.candidates d.dead)) pass owns refl refl short ks s (λ issued. refl) d.stand l drew b
+      let drew = subst (λ (k : ℕ). Drew managed_rules 0 order seat seat' old new
+      (driver_entry out.number index (op.Snap record { 0 = k }) (snap_reply old.state.managed d.freed d.candidates) None) (kept_pins d.pins (snap_of d.freed d.candidates d.dead))) (sym d.cycle)
+      (subst (λ (k : ℕ). Drew managed_rules 0 order seat seat' old new
+      (driver_entry k index (op.Snap record { 0 = old.state.managed.cycles + 1 }) (snap_reply old.state.managed d.freed d.candidates) None)
+      (kept_pins d.pins (snap_of d.freed d.candidates d.dead))) d.same_number d.drew) in
+      driven locked mine mine1 locked2 mine2 order seat seat' old new index idle m (driver_entry out.number index (op.Snap out.cycle) (snap_reply old.state.managed d.freed d.candidates) None)
+      (kept_pins d.pins (snap_of d.freed d.candidates d.dead)) pass owns refl refl short ks s (λ issued. refl) d.stand l drew b
 
   pub snapshot_made : (out : Opened) → DrawsSnapshot order seat seat' old new index out → MakesSnapshot mine mine2 index out
   snapshot_made out d m s =
@@ -60,25 +66,31 @@ module _ (locked mine mine1 locked2 mine2 : View) (order : OrderId) (seat seat' 
         pins = d.pins;
         counted = d.counted;
         count = ap (λ (s : Span). s.count) d.span;
-        makes = subst (λ (r : Reply). DriverMakes mine mine2 idle m (driver_entry out.number index (op.Snap out.cycle) r None) (kept_pins d.pins (snap_of d.freed d.candidates d.dead))) (sym reply) w.makes;
+        makes = subst (λ (r : Reply). DriverMakes mine mine2 idle m (driver_entry out.number index (op.Snap out.cycle) r None) (kept_pins d.pins (snap_of d.freed d.candidates d.dead)))
+            (sym reply) w.makes;
         seen = new.state.managed;
         kept = subst (λ (r : ManagedReplay). IsManagedKept r.managed) w.after (known_past_is_kept w.known.known.past w.known.known.lawful).kept.managed.managed;
         opened = ap (λ (r : ManagedReplay). r.managed.cycle) d.drew.goes.state ∙ ap (λ (k : ℕ). cycle_of k d.candidates d.dead) (sym d.cycle);
         graph = d.graph;
-        stands = stands_anew mine mine2 old new index idle (snapped record { cycle = out.cycle.0; snap = out.number }) m (driver_entry out.number index (op.Snap out.cycle) (snap_reply old.state.managed d.freed d.candidates) None) (kept_pins d.pins (snap_of d.freed d.candidates d.dead)) w refl;
+        stands = stands_anew mine mine2 old new index idle (snapped record { cycle = out.cycle.0; snap = out.number }) m
+            (driver_entry out.number index (op.Snap out.cycle) (snap_reply old.state.managed d.freed d.candidates) None) (kept_pins d.pins (snap_of d.freed d.candidates d.dead)) w refl;
       }
 
-  pub snapshot_called : {E : Type 0} (result : Result Opened E) (w : DriverRests mine index) → IfOk result (λ o. DrawsSnapshot order seat seat' old new index o) → OnErr result (StaysSeated seat seat' × (new ≡ old)) → Called mine locked2 mine2 new result (λ o. MakesSnapshot mine mine2 index o)
-  snapshot_called result w d e = called locked mine mine1 locked2 mine2 order seat seat' old new index pass owns short ks l b (λ o. DrawsSnapshot order seat seat' old new index o) (λ o. MakesSnapshot mine mine2 index o) result w.stands.known
+  pub snapshot_called : {E : Type 0} (result : Result Opened E) (w : DriverRests mine index) → IfOk result (λ o. DrawsSnapshot order seat seat' old new index o)
+      → OnErr result (StaysSeated seat seat' × (new ≡ old)) → Called mine locked2 mine2 new result (λ o. MakesSnapshot mine mine2 index o)
+  snapshot_called result w d e = called locked mine mine1 locked2 mine2 order seat seat' old new index pass owns short ks l b
+      (λ o. DrawsSnapshot order seat seat' old new index o) (λ o. MakesSnapshot mine mine2 index o) result w.stands.known
       (λ o y. ((with_snapshot_of o y w.seen w.stands).knows, snapshot_made o y)) d e
 
 -- what the seat knew and owned after it
 module _ {E : Type 0} (order : OrderId) (seat seat' : Shown) (old new : Side ManagedReplay) (index : ℕ) where
-  pub snap_prefix : (result : Result Opened E) → IfOk result (λ o. DrawsSnapshot order seat seat' old new index o) → OnErr result (StaysSeated seat seat' × (new ≡ old)) → (i : ℕ) → IsPrefix (known seat.view i) (known seat'.view i)
+  pub snap_prefix : (result : Result Opened E) → IfOk result (λ o. DrawsSnapshot order seat seat' old new index o)
+      → OnErr result (StaysSeated seat seat' × (new ≡ old)) → (i : ℕ) → IsPrefix (known seat.view i) (known seat'.view i)
   snap_prefix (Ok o) d e i = grows_more seat.view seat'.view 0 d.drew.kept d.drew.appends.grows i
   snap_prefix (Err x) d e i = subst (IsPrefix (known seat.view i)) (sym (ap (λ ks. at [] ks i) e.0.known)) (prefix_refl (known seat.view i))
 
-  pub snap_keeps : (result : Result Opened E) → IfOk result (λ o. DrawsSnapshot order seat seat' old new index o) → OnErr result (StaysSeated seat seat' × (new ≡ old)) → (i : ℕ) → Owns seat.view i → Owns seat'.view i
+  pub snap_keeps : (result : Result Opened E) → IfOk result (λ o. DrawsSnapshot order seat seat' old new index o)
+      → OnErr result (StaysSeated seat seat' × (new ≡ old)) → (i : ℕ) → Owns seat.view i → Owns seat'.view i
   snap_keeps (Ok o) d e i w = owns_on seat.view seat'.view 0 d.drew.kept d.drew.appends.grows i w
   snap_keeps (Err x) d e i w = ap (λ os. at false os i) e.0.owns ∙ w
 
@@ -119,7 +131,8 @@ none_then_snap u v w index out a t m s =
       counted = o.counted;
       count = o.count;
       pins = o.pins;
-      makes = none_then_makes u v w idle m (driver_entry out.number index (op.Snap out.cycle) (says.Snapped out.candidates out.freed) None) (kept_pins o.pins (snap_of o.freed o.candidates o.dead)) a o.makes;
+      makes = none_then_makes u v w idle m (driver_entry out.number index (op.Snap out.cycle) (says.Snapped out.candidates out.freed) None)
+          (kept_pins o.pins (snap_of o.freed o.candidates o.dead)) a o.makes;
       seen = o.seen;
       kept = o.kept;
       opened = o.opened;

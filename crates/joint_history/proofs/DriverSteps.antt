@@ -42,24 +42,29 @@ use Rattle.joint_history.proofs.LockedSteps.{did_managed_by, lent_joined, own_to
 use Rattle.joint_history.proofs.Standing.{last_of_own}
 
 -- it stands so in whatever more is known of one history, as long as its own line is the same
-pub driver_in : (v w : View) (a : IsDrawnView v) (j : IsDrawnView w) → BeginsOneHistory w → ((i : ℕ) → IsPrefix (known v i) (known w i)) → line (caller_line C) j.known.past ≡ line (caller_line C) a.known.past → known w (caller_line C) ≡ known v (caller_line C) → (index : ℕ) (stand : Stand) (seen : Managed)
+pub driver_in : (v w : View) (a : IsDrawnView v) (j : IsDrawnView w) → BeginsOneHistory w → ((i : ℕ) → IsPrefix (known v i) (known w i))
+    → line (caller_line C) j.known.past ≡ line (caller_line C) a.known.past → known w (caller_line C) ≡ known v (caller_line C) → (index : ℕ) (stand : Stand) (seen : Managed)
     → IsDriverAt a.known.past index stand seen → IsDriverAt j.known.past index stand seen
 driver_in v w a j o more same whole index stand seen s =
     record {
       last = last_told C j.known.past a.known.past index same s.last;
       come = (lines_give_parts j.known.past a.known.past).stand same ∙ s.come;
       dead = dead_part_on seen (end_of a.known.past).managed.managed (end_of j.known.past).managed.managed s.dead
-          (dead_part_is_frozen (whole_kept o.whole) (λ i. of_drawn (drawn_lines v i)) (λ i. of_drawn (drawn_lines w i)) a.known j.known (whole_numbered 0 o.whole o.numbers) (drawn_begins w o v more) (drawn_begins w o w (λ i. prefix_refl (known w i))) (sym (ap (λ ks. of_drawn (map of_order ks)) whole)));
+          (dead_part_is_frozen (whole_kept o.whole) (λ i. of_drawn (drawn_lines v i)) (λ i. of_drawn (drawn_lines w i)) a.known j.known (whole_numbered 0 o.whole o.numbers)
+          (drawn_begins w o v more) (drawn_begins w o w (λ i. prefix_refl (known w i))) (sym (ap (λ ks. of_drawn (map of_order ks)) whole)));
     }
 
 -- its own line is whole in what is known together under a lock
-pub driver_joined : (locked mine lent mine1 : View) (l : Lends C locked mine lent mine1) (a : IsDrawnView locked) → HoldsPass C mine → (index : ℕ) (stand : Stand) (seen : Managed) (s : DriverStands mine index stand seen)
+pub driver_joined : (locked mine lent mine1 : View) (l : Lends C locked mine lent mine1) (a : IsDrawnView locked)
+    → HoldsPass C mine → (index : ℕ) (stand : Stand) (seen : Managed) (s : DriverStands mine index stand seen)
     → IsDriverAt (lent_joined C locked mine lent mine1 l a s.known).joined.known.past index stand seen
 driver_joined locked mine lent mine1 l a pass index stand seen s =
-    driver_in mine lent s.known (lent_joined C locked mine lent mine1 l a s.known).joined l.one_history l.heard (own_told C locked mine lent mine1 l a s.known pass) (l.own (caller_line C) (own_line C) (pass (caller_line C) (own_line C))) index stand seen s.stands
+    driver_in mine lent s.known (lent_joined C locked mine lent mine1 l a s.known).joined l.one_history l.heard
+    (own_told C locked mine lent mine1 l a s.known pass) (l.own (caller_line C) (own_line C) (pass (caller_line C) (own_line C))) index stand seen s.stands
 
 -- where the driver stands after its entry
-pub stand_of_own : (h : List Noted) (x : Noted) → x.entry.made.caller ≡ C → (end_of (x ∷ h)).control.stand ≡ stand_after (end_of h).control.stand x.entry.number x.entry.made.op x.entry.made.reply (bare_told x.told)
+pub stand_of_own : (h : List Noted) (x : Noted) → x.entry.made.caller ≡ C
+    → (end_of (x ∷ h)).control.stand ≡ stand_after (end_of h).control.stand x.entry.number x.entry.made.op x.entry.made.reply (bare_told x.told)
 stand_of_own h x e = ap (λ (u : Thread). (control_after (end_of h).control u x.entry.number x.entry.made.index x.entry.made.op x.entry.made.reply (bare_told x.told)).stand) e
 
 -- the driver made an entry under the managed lock: it stands where the definition puts it, by what was told if that was
@@ -84,8 +89,10 @@ pub side_comes : (s : Linkage) (n : Noted) → is_read n.entry.made.op ≡ false
 side_comes s n own c = subst (λ r. Comes r s n) own c
 
 -- after a draw, with pins that stand
-pub driven : (locked mine mine1 locked2 mine2 : View) (order : OrderId) (seat seat' : Shown) (old new : Side ManagedReplay) (index : ℕ) (stand : Stand) (seen : Managed) (e : Entry) (told : Told) → HoldsPass C mine → Owns locked 0 → e.made.caller ≡ C → e.made.index ≡ index → index < 2 ^ 32
-    → ManagedKnows locked old → DriverStands mine index stand seen → ((issued : List Issued) → DriverAllows stand old.state.managed issued e.made.op e.made.reply e.made.cites (bare_told told)) → PinsStand old.state.managed (pins_told told) → Lends C locked mine seat.view mine1
+pub driven : (locked mine mine1 locked2 mine2 : View) (order : OrderId) (seat seat' : Shown) (old new : Side ManagedReplay) (index : ℕ) (stand : Stand) (seen : Managed) (e : Entry) (told : Told)
+    → HoldsPass C mine → Owns locked 0 → e.made.caller ≡ C → e.made.index ≡ index → index < 2 ^ 32
+    → ManagedKnows locked old → DriverStands mine index stand seen → ((issued : List Issued) → DriverAllows stand old.state.managed issued e.made.op e.made.reply e.made.cites (bare_told told))
+    → PinsStand old.state.managed (pins_told told) → Lends C locked mine seat.view mine1
     → Drew managed_rules 0 order seat seat' old new e told → Returns C seat'.view mine1 locked2 mine2 → DrivenUnder mine locked2 mine2 old new index stand seen e told
 driven locked mine mine1 locked2 mine2 order seat seat' old new index stand seen e told pass owns caller at_index short ks s allows pins l d b =
     let j = lent_joined C locked mine seat.view mine1 l ks.known s.known in
@@ -118,11 +125,13 @@ driven locked mine mine1 locked2 mine2 order seat seat' old new index stand seen
         before = state;
         known = same_view seat'.view mine2 grown.known b.same;
         last = subst (λ (h : List Noted). last_line (end_of h).control C ≤ index) (sym grown.past_is)
-            (let l = last_of_own past (note_of k.entry grown.told) C (ap (λ (z : Entry). z.made.caller) d.entry ∙ caller) tt in let f : k.entry.made.index ≡ index = ap (λ (z : Entry). z.made.index) d.entry ∙ at_index in omega (arith, l, f));
+            (let l = last_of_own past (note_of k.entry grown.told) C (ap (λ (z : Entry). z.made.caller) d.entry ∙ caller) tt in
+            let f : k.entry.made.index ≡ index = ap (λ (z : Entry). z.made.index) d.entry ∙ at_index in omega (arith, l, f));
         told_now = grown.told;
         plain = λ p. grown.alike (subst (λ (z : Stand). TellsPlainly z k.entry.made.op (bare_told told)) (sym at.come) p);
         come = ap (λ (h : List Noted). (end_of h).control.stand) grown.past_is
-            ∙ (stand_of_own past (note_of k.entry grown.told) (ap (λ (z : Entry). z.made.caller) d.entry ∙ caller) ∙ ap (λ (z : Stand). stand_after z k.entry.number k.entry.made.op k.entry.made.reply (bare_told grown.told)) at.come);
+            ∙ (stand_of_own past (note_of k.entry grown.told) (ap (λ (z : Entry). z.made.caller) d.entry ∙ caller)
+            ∙ ap (λ (z : Stand). stand_after z k.entry.number k.entry.made.op k.entry.made.reply (bare_told grown.told)) at.come);
         after = w.after;
       };
     }
@@ -132,7 +141,8 @@ pub record NotDriven (mine locked2 mine2 : View) (side : Side ManagedReplay) : T
   pub knows : ManagedKnows locked2 side
   pub makes : DriverMakesNone mine mine2
 
-pub driven_none : (locked mine lent mine1 locked2 mine2 : View) (side : Side ManagedReplay) → HoldsPass C mine → Owns locked 0 → ManagedKnows locked side → IsDrawnView mine → Lends C locked mine lent mine1 → Returns C lent mine1 locked2 mine2 → NotDriven mine locked2 mine2 side
+pub driven_none : (locked mine lent mine1 locked2 mine2 : View) (side : Side ManagedReplay) → HoldsPass C mine → Owns locked 0
+    → ManagedKnows locked side → IsDrawnView mine → Lends C locked mine lent mine1 → Returns C lent mine1 locked2 mine2 → NotDriven mine locked2 mine2 side
 driven_none locked mine lent mine1 locked2 mine2 side pass owns ks m l b = record {
   knows = knows_still C locked mine lent mine1 locked2 mine2 side owns ks m l b;
   makes = record {
@@ -146,7 +156,8 @@ driven_none locked mine lent mine1 locked2 mine2 side pass owns ks m l b = recor
 }
 
 -- the objects after an entry that leaves the dead part as it was
-pub driver_still : (mine mine2 : View) (old new : Side ManagedReplay) (index : ℕ) (stand next : Stand) (seen : Managed) (e : Entry) (told : Told) (d : Driven mine mine2 old new index stand seen e told) → HasSameDeadPart old.state.managed new.state.managed
+pub driver_still : (mine mine2 : View) (old new : Side ManagedReplay) (index : ℕ) (stand next : Stand) (seen : Managed) (e : Entry)
+    (told : Told) (d : Driven mine mine2 old new index stand seen e told) → HasSameDeadPart old.state.managed new.state.managed
     → stand_after stand e.number e.made.op e.made.reply (bare_told d.told_now) ≡ next → DriverStands mine2 index next seen
 driver_still mine mine2 old new index stand next seen e told d same e2 = record {
   known = d.known;

@@ -124,8 +124,10 @@ waiter d t is waits s =
     }
 
 -- all threads' seats and reads are in
-pub all_in : (v w u x y : View) (l : Side ManagedReplay) (r : Side PeerReplay) (old mid new : List (List Entry)) (callers : List Pass) (d : Waiting) → ManagedKnows v l → PeerKnows w r → Owns v 0 → Owns w 1 → TakesIn v w u → BeginsOneHistory u → length old ≡ 10
-    → GathersAll u x old mid (threads_of callers) → GathersAll x y mid new (threads_of (present d.callers)) → HasAll d callers → ((i : ℕ) (o : Option Pass) → slice_get d.callers i ≡ Some o → WaitsAt i o) → AllAreIn y l r new
+pub all_in : (v w u x y : View) (l : Side ManagedReplay) (r : Side PeerReplay) (old mid new : List (List Entry)) (callers : List Pass) (d : Waiting)
+    → ManagedKnows v l → PeerKnows w r → Owns v 0 → Owns w 1 → TakesIn v w u → BeginsOneHistory u → length old ≡ 10
+    → GathersAll u x old mid (threads_of callers) → GathersAll x y mid new (threads_of (present d.callers))
+    → HasAll d callers → ((i : ℕ) (o : Option Pass) → slice_get d.callers i ≡ Some o → WaitsAt i o) → AllAreIn y l r new
 all_in v w u x y l r old mid new callers d a b m p k o ten first then has waits =
     let given = threads_of callers in
     let left = threads_of (present d.callers) in
@@ -143,10 +145,12 @@ made_is_known : (v : View) → IsDrawnView v → (w : AllKnown v.known) (t : Thr
 made_is_known v a w t is = sym (own_lines_are_made_by_callers v a w t is)
 
 -- so each caller that was taken in has just its own entries
-pub has_own : (v : View) → IsDrawnView v → (w : AllKnown v.known) (entries : List Entry) → entries ≡ entries_of w.whole → (p : Pass) → IsThread p.thread → line_known v (caller_line p.thread) ≡ own p → HasOwn entries p
+pub has_own : (v : View) → IsDrawnView v → (w : AllKnown v.known) (entries : List Entry) → entries ≡ entries_of w.whole
+    → (p : Pass) → IsThread p.thread → line_known v (caller_line p.thread) ≡ own p → HasOwn entries p
 has_own v a w entries e p is known_so = ap (made_by p.thread) e ∙ (made_is_known v a w p.thread is ∙ known_so)
 
-pub all_have_own : (v y : View) → IsDrawnView y → (w : AllKnown y.known) (entries : List Entry) → entries ≡ entries_of w.whole → (callers others : List Pass) → TakesOwn v y (callers ++ others) → All (HasOwn entries) callers
+pub all_have_own : (v y : View) → IsDrawnView y → (w : AllKnown y.known) (entries : List Entry) → entries ≡ entries_of w.whole
+    → (callers others : List Pass) → TakesOwn v y (callers ++ others) → All (HasOwn entries) callers
 all_have_own v y a w entries e callers others k =
     All-members (HasOwn entries) callers (λ p c. let m = k.each p (Contains-append_left callers others p c) in has_own y a w entries e p m.0 m.2)
 
@@ -160,7 +164,8 @@ begins_history v w entries e p b =
     let whole : line_known v 0 ≡ entries_in 0 entries = ap line_entries (w.each 0 (omega arith)) ∙ ((tell_lines w.whole w.numbers).lines 0 ∙ ap (entries_in 0) (sym e)) in
     subst (IsPrefix (line_known p.view 0)) whole (prefix_map (λ (k : KeptEntry). k.entry) (known p.view 0) (known v 0) (b 0))
 
-pub all_begin_history : (v y : View) (w : AllKnown y.known) (entries : List Entry) → entries ≡ entries_of w.whole → (callers others : List Pass) → TakesOwn v y (callers ++ others) → All (BeginsHistory entries) callers
+pub all_begin_history : (v y : View) (w : AllKnown y.known) (entries : List Entry) → entries ≡ entries_of w.whole
+    → (callers others : List Pass) → TakesOwn v y (callers ++ others) → All (BeginsHistory entries) callers
 all_begin_history v y w entries e callers others k =
     All-members (BeginsHistory entries) callers (λ p c. let m = k.each p (Contains-append_left callers others p c) in begins_history y w entries e p m.3)
 
@@ -186,5 +191,6 @@ waiting_knows_none v y d callers k waits t is s =
     let m = k.each q.pass (Contains-append_right callers (present d.callers) q.pass q.there) in
     subst (λ u. line_known y (caller_line u) ≡ []) q.thread (m.2 ∙ q.nothing)
 
-pub made_none : (y : View) → IsDrawnView y → (w : AllKnown y.known) (entries : List Entry) → entries ≡ entries_of w.whole → (t : Thread) → IsThread t → line_known y (caller_line t) ≡ [] → made_by t entries ≡ []
+pub made_none : (y : View) → IsDrawnView y → (w : AllKnown y.known) (entries : List Entry)
+    → entries ≡ entries_of w.whole → (t : Thread) → IsThread t → line_known y (caller_line t) ≡ [] → made_by t entries ≡ []
 made_none y a w entries e t is n = ap (made_by t) e ∙ (made_is_known y a w t is ∙ n)

@@ -24,9 +24,13 @@ reads_there : (n : ℕ) (es : List Entry) (lists : List (List Entry)) (w u : Vie
 reads_there n es lists w u is ten keeps same = let few = is.1 in get_or-set_same lists (1 + n) es [] (omega (arith, few, ten)) ∙ (sym keeps ∙ ap line_entries (sym same))
 
 -- one thread's reads more
-pub gather_reads : (t : Thread) (es : List Entry) (v w u : View) (lists : List (List Entry)) (ts : List Thread) → IsThread t → HoldsPass t w → KeepsReads t w es → ((s : Thread) → Contains ts s → HoldsPass s v) → TakesIn v w u
+pub gather_reads : (t : Thread) (es : List Entry) (v w u : View) (lists : List (List Entry)) (ts : List Thread)
+    → IsThread t → HoldsPass t w → KeepsReads t w es → ((s : Thread) → Contains ts s → HoldsPass s v) → TakesIn v w u
     → HasGatheredReads v lists ts → HasGatheredReads u (with_reads t es lists) (ts ++ t ∷ [])
-gather_reads t es v w u lists ts is pass keeps holds k g = record { ten = by t; reads = λ n c. ⊎_elim (λ h. earlier t is pass keeps n h) (λ e. last t is pass keeps n e) (Contains-push_cases ts t (M n) c) }
+gather_reads t es v w u lists ts is pass keeps holds k g = record {
+  ten = by t;
+  reads = λ n c. ⊎_elim (λ h. earlier t is pass keeps n h) (λ e. last t is pass keeps n e) (Contains-push_cases ts t (M n) c);
+}
   where
     by : (t : Thread) → length (with_reads t es lists) ≡ 10
     by (M m) = length-set lists (1 + m) es ∙ g.ten
@@ -56,7 +60,8 @@ gather_reads t es v w u lists ts is pass keeps holds k g = record { ten = by t; 
     last C is pass keeps n e = absurd (cc)
 
 -- with both sides' lists, once the reads of all threads are in
-pub all_lists_known : (v : View) (left right : List Entry) (lists : List (List Entry)) (ts : List Thread) → ((t : Thread) → IsThread t → Contains ts t) → line_known v 0 ≡ left → line_known v 1 ≡ right → HasGatheredReads v lists ts
+pub all_lists_known : (v : View) (left right : List Entry) (lists : List (List Entry)) (ts : List Thread)
+    → ((t : Thread) → IsThread t → Contains ts t) → line_known v 0 ≡ left → line_known v 1 ≡ right → HasGatheredReads v lists ts
     → AreListsOf v (all_lists left right lists)
 all_lists_known v left right lists ts all first second g = record {
   ten = length-set (slice_set lists 0 left) 1 right ∙ (length-set lists 0 left ∙ g.ten);
@@ -64,7 +69,8 @@ all_lists_known v left right lists ts all first second g = record {
       (λ (z : i ≡ 0). subst (λ j. slice_index_or (all_lists left right lists) j [] ≡ line_known v j) (sym z)
       (get_or-set_other (slice_set lists 0 left) 1 0 right [] (λ q. omega (arith, q)) ∙ (get_or-set_same lists 0 left [] (omega (arith, g.ten)) ∙ sym first)))
       (λ (n0 : i ≡ 0 → ⊥). ⊎_elim
-      (λ (z : i ≡ 1). subst (λ j. slice_index_or (all_lists left right lists) j [] ≡ line_known v j) (sym z) (get_or-set_same (slice_set lists 0 left) 1 right [] (let n = length-set lists 0 left in omega (arith, g.ten, n)) ∙ sym second))
+      (λ (z : i ≡ 1). subst (λ j. slice_index_or (all_lists left right lists) j [] ≡ line_known v j) (sym z)
+      (get_or-set_same (slice_set lists 0 left) 1 right [] (let n = length-set lists 0 left in omega (arith, g.ten, n)) ∙ sym second))
       (λ (n1 : i ≡ 1 → ⊥). get_or-set_other (slice_set lists 0 left) 1 i right [] n1 ∙ (get_or-set_other lists 0 i left [] n0 ∙ reader i few n0 n1))
       (cases_eq i 1))
       (cases_eq i 0);

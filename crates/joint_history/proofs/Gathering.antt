@@ -53,7 +53,8 @@ rests_so (P n) a b e d = tt
 rests_so C a b e d = (lines_give_parts a b).stand e ∙ d
 
 -- one thread's seat and reads more
-pub gather : (t : Thread) (es : List Entry) (v w u : View) (l : Side ManagedReplay) (r : Side PeerReplay) (lists : List (List Entry)) (ts : List Thread) → IsThread t → HasGatheredSeats v l r lists ts → AtRest t w es → TakesIn v w u → BeginsOneHistory u
+pub gather : (t : Thread) (es : List Entry) (v w u : View) (l : Side ManagedReplay) (r : Side PeerReplay) (lists : List (List Entry)) (ts : List Thread)
+    → IsThread t → HasGatheredSeats v l r lists ts → AtRest t w es → TakesIn v w u → BeginsOneHistory u
     → HasGatheredSeats u l r (with_reads t es lists) (ts ++ t ∷ [])
 gather t es v w u l r lists ts is g x k o =
     let j = views_join v w u g.known x.known k o in
@@ -69,7 +70,8 @@ gather t es v w u l r lists ts is g x k o =
       passes = λ s c. ⊎_elim (λ h i q. (k.owns i).0 (inl (g.passes s h i q))) (λ e i q. (k.owns i).0 (inr (subst (λ z. HoldsPass z w) e x.pass i q))) (Contains-push_cases ts t s c);
       rests = λ s c. ⊎_elim
           (λ h. rests_so s j.joined.known.past g.known.known.past (j.first (caller_line s) (k.owned (caller_line s) (g.passes s h (caller_line s) (own_line s)))) (g.rests s h))
-          (λ e. subst (λ z. Rests z (end_of j.joined.known.past)) e (rests_so t j.joined.known.past x.known.known.past (j.second (caller_line t) (k.taken (caller_line t) (x.pass (caller_line t) (own_line t)))) x.rests))
+          (λ e. subst (λ z. Rests z (end_of j.joined.known.past)) e (rests_so t j.joined.known.past x.known.known.past
+          (j.second (caller_line t) (k.taken (caller_line t) (x.pass (caller_line t) (own_line t)))) x.rests))
           (Contains-push_cases ts t s c);
     }
 
@@ -107,7 +109,8 @@ late_free : (h : List Noted) (t : ℕ) → 9 ≤ t → doing_at (end_of h).contr
 late_free h t l = ap (λ w. elim w as (λ x. Doing) [ None ↦ free | Some d ↦ d ]) (slice_get_past (end_of h).control.doing t (let w = (widths h).doings in omega arith))
 
 -- once all threads' seats are in, nothing has to follow
-all_rest : (v : View) (l : Side ManagedReplay) (r : Side PeerReplay) (lists : List (List Entry)) (ts : List Thread) (g : HasGatheredSeats v l r lists ts) → ((t : Thread) → IsThread t → Contains ts t) → IsWhole (end_of g.known.known.past)
+all_rest : (v : View) (l : Side ManagedReplay) (r : Side PeerReplay) (lists : List (List Entry)) (ts : List Thread) (g : HasGatheredSeats v l r lists ts)
+    → ((t : Thread) → IsThread t → Contains ts t) → IsWhole (end_of g.known.known.past)
 all_rest v l r lists ts g all = record {
   threads = λ t. ⊎_elim
       (λ (z : t ≡ 0). subst (λ k. IsDone (doing_at (end_of g.known.known.past).control k)) (sym z) (subst IsDone (sym (zero_free g.known.known.past g.known.known.lawful)) tt))
@@ -120,7 +123,8 @@ all_rest v l r lists ts g all = record {
 }
 
 -- a history that is linked by a past which ends in both sides' states is finished with these, but for the pins
-finished_with : (h : Finished) (past : List Noted) (l : ManagedReplay) (r : PeerReplay) → IsLinkedPast h past → (end_of past).managed ≡ l → (end_of past).peer ≡ r → managed_numbers h.notices ≡ (end_of past).managed.managed.notices → IsFinishedWith h l r
+finished_with : (h : Finished) (past : List Noted) (l : ManagedReplay) (r : PeerReplay) → IsLinkedPast h past → (end_of past).managed ≡ l
+    → (end_of past).peer ≡ r → managed_numbers h.notices ≡ (end_of past).managed.managed.notices → IsFinishedWith h l r
 finished_with h past l r is managed peer queued = record {
   noted = history_of past;
   finished = record { linked = is.linked; queued = queued ∙ ap (λ (x : Linkage). x.managed.managed.notices) (sym is.ends) };
@@ -130,12 +134,14 @@ finished_with h past l r is managed peer queued = record {
 }
 
 -- and the history of all lists is linked
-pub record Ends (past : List Noted) (l : Side ManagedReplay) (r : Side PeerReplay) (freed_managed : List MNum) (freed_peers : List PNum) (notices : List MNum) (w : List (List Entry)) (whole : List Entry) : Type 0 where
+pub record Ends (past : List Noted) (l : Side ManagedReplay) (r : Side PeerReplay) (freed_managed : List MNum)
+    (freed_peers : List PNum) (notices : List MNum) (w : List (List Entry)) (whole : List Entry) : Type 0 where
   pub joinable : IsJoinable w freed_managed freed_peers notices
   pub finished : (h : Finished) → IsShuffle w h.entries → h.freed_managed ≡ freed_managed → h.freed_peers ≡ freed_peers → h.notices ≡ notices → IsFinishedWith h l.state r.state × (h.entries ≡ whole)
   pub linked : (h : Finished) → IsShuffle w h.entries → h.freed_managed ≡ freed_managed → h.freed_peers ≡ freed_peers → h.notices ≡ notices → IsLinkedPast h past
 
-pub all_gathered : (v : View) (l : Side ManagedReplay) (r : Side PeerReplay) (lists : List (List Entry)) (ts : List Thread) (g : HasGatheredSeats v l r lists ts) → ((t : Thread) → IsThread t → Contains ts t) → (w : AllKnown v.known) → (freed_managed : List MNum) (freed_peers : List PNum) (notices : List MNum)
+pub all_gathered : (v : View) (l : Side ManagedReplay) (r : Side PeerReplay) (lists : List (List Entry)) (ts : List Thread) (g : HasGatheredSeats v l r lists ts)
+    → ((t : Thread) → IsThread t → Contains ts t) → (w : AllKnown v.known) → (freed_managed : List MNum) (freed_peers : List PNum) (notices : List MNum)
     → managed_numbers freed_managed ≡ l.state.managed.heap.freed → peer_numbers freed_peers ≡ r.state.peers.heap.freed → managed_numbers notices ≡ l.state.managed.notices
     → Ends g.known.known.past l r freed_managed freed_peers notices (all_lists l.entries r.entries lists) (entries_of w.whole)
 all_gathered v l r lists ts g all w freed_managed freed_peers notices fm fp ns =
@@ -147,7 +153,8 @@ all_gathered v l r lists ts g all w freed_managed freed_peers notices fm fp ns =
       freed_peers = fp ∙ ap (λ (p : PeerReplay). p.peers.heap.freed) (sym g.peer);
       notices = ap (λ ms. take s.managed.managed.taken ms) queued;
     } in
-    let j = whole_lists_are_joined v g.known w (all_lists l.entries r.entries lists) freed_managed freed_peers notices (all_lists_known v l.entries r.entries lists ts all g.managed_entries g.peer_entries g.reads) ended in
+    let j = whole_lists_are_joined v g.known w (all_lists l.entries r.entries lists) freed_managed freed_peers notices
+    (all_lists_known v l.entries r.entries lists ts all g.managed_entries g.peer_entries g.reads) ended in
     record {
       joinable = j.joinable;
       finished = λ h sh a b c. let is = j.linked h sh a b c in
@@ -156,7 +163,8 @@ all_gathered v l r lists ts g all w freed_managed freed_peers notices fm fp ns =
     }
 
 -- who has gathered all threads' seats owns every line
-pub owns_all : (v : View) (l : Side ManagedReplay) (r : Side PeerReplay) (lists : List (List Entry)) (ts : List Thread) → HasGatheredSeats v l r lists ts → ((t : Thread) → IsThread t → Contains ts t) → OwnsAll v
+pub owns_all : (v : View) (l : Side ManagedReplay) (r : Side PeerReplay) (lists : List (List Entry)) (ts : List Thread)
+    → HasGatheredSeats v l r lists ts → ((t : Thread) → IsThread t → Contains ts t) → OwnsAll v
 owns_all v l r lists ts g all i few = ⊎_elim
     (λ (z : i ≡ 0). subst (Owns v) (sym z) g.managed_role)
     (λ (n0 : i ≡ 0 → ⊥). ⊎_elim
@@ -178,12 +186,14 @@ owns_all v l r lists ts g all i few = ⊎_elim
     cases_lt' a b = ⊎_elim (λ s. inl s) (λ g'. inr (omega (arith, g'))) (cases_lt a b)
 
 -- a caller that has nothing to release, and is idle if it is the driver's, has come to rest
-pub caller_at_rest : (t : Thread) (v : View) (reads : Stock) → CallerKnows t v → HoldsPass t v → KeepsReads t v reads.entries → HasIdleDriver (record { thread = t; view = v; reads = reads }) → AtRest t v reads.entries
+pub caller_at_rest : (t : Thread) (v : View) (reads : Stock) → CallerKnows t v → HoldsPass t v
+    → KeepsReads t v reads.entries → HasIdleDriver (record { thread = t; view = v; reads = reads }) → AtRest t v reads.entries
 caller_at_rest (M n) v reads k h m i = record { known = k.known; pass = h; keeps = m; rests = k.released }
 caller_at_rest (P n) v reads k h m i = record { known = k.known; pass = h; keeps = m; rests = tt }
 caller_at_rest C v reads k h m i = let w = i tt in record { known = w.0; pass = h; keeps = m; rests = w.1 }
 
-pub gathers_one : (t : Thread) (es : List Entry) (v w u : View) (lists : List (List Entry)) → IsThread t → AtRest t w es → TakesIn v w u → BeginsOneHistory u → GathersAll v u lists (with_reads t es lists) (t ∷ [])
+pub gathers_one : (t : Thread) (es : List Entry) (v w u : View) (lists : List (List Entry)) → IsThread t
+    → AtRest t w es → TakesIn v w u → BeginsOneHistory u → GathersAll v u lists (with_reads t es lists) (t ∷ [])
 gathers_one t es v w u lists is x k o l r ts g = gather t es v w u l r lists ts is g x k o
 
 pub gathers_none : (v : View) (lists : List (List Entry)) → GathersAll v v lists lists []
@@ -193,7 +203,8 @@ pub gathers_then : (v w u : View) (old mid new : List (List Entry)) (xs ys : Lis
 gathers_then v w u old mid new xs ys a b l r ts g = subst (HasGatheredSeats u l r new) (append_assoc ts xs ys) (b l r (ts ++ xs) (a l r ts g))
 
 -- both sides' seats together
-pub gathered_first : (v w u : View) (l : Side ManagedReplay) (r : Side PeerReplay) (lists : List (List Entry)) → ManagedKnows v l → PeerKnows w r → Owns v 0 → Owns w 1 → TakesIn v w u → BeginsOneHistory u → length lists ≡ 10 → HasGatheredSeats u l r lists []
+pub gathered_first : (v w u : View) (l : Side ManagedReplay) (r : Side PeerReplay) (lists : List (List Entry)) → ManagedKnows v l
+    → PeerKnows w r → Owns v 0 → Owns w 1 → TakesIn v w u → BeginsOneHistory u → length lists ≡ 10 → HasGatheredSeats u l r lists []
 gathered_first v w u l r lists a b m p k o ten =
     let j = views_join v w u a.known b.known k o in
     record {

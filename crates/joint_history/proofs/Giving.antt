@@ -104,7 +104,8 @@ given_out d t place o k h at v =
     sym (if_so (has_thread d t) h (flat (slice_get d.callers (caller_place t))) None ∙ ap flat (subst (λ j. slice_get d.callers j ≡ Some o) at read))
 
 -- once its place is empty, each thread's caller still waits or was given out
-pub left_desk : (d : Waiting) (t : Thread) (place : ℕ) (o : Option Pass) (ps : List Pass) → IsDesk d → true ≡ has_thread d t → place ≡ caller_place t → o ≡ waits d t → HasAll d ps → (left : Option Pass) → left ≡ None → HasAll (record d { callers = slice_set d.callers place left }) (option_to_list o ++ ps)
+pub left_desk : (d : Waiting) (t : Thread) (place : ℕ) (o : Option Pass) (ps : List Pass) → IsDesk d → true ≡ has_thread d t → place ≡ caller_place t
+    → o ≡ waits d t → HasAll d ps → (left : Option Pass) → left ≡ None → HasAll (record d { callers = slice_set d.callers place left }) (option_to_list o ++ ps)
 left_desk d t place o ps k h at e all left empty =
     subst (λ q. HasAll (record d { callers = slice_set d.callers place q }) (option_to_list o ++ ps)) (sym empty)
     (subst (λ j. HasAll (record d { callers = slice_set d.callers j None }) (option_to_list o ++ ps)) (sym at)

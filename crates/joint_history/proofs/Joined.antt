@@ -39,7 +39,8 @@ pub record EndsRun (l : ManagedReplay) (r : PeerReplay) (callers : List Pass) (d
   pub few : length h.entries < 2 ^ 64
   pub known : IsKnownHistory callers h
 
-module _ (l : Side ManagedReplay) (r : Side PeerReplay) (readers : List (List Entry)) (d : Waiting) (callers : List Pass) (all : AllTaken l r readers d callers) (left right : List Entry) (same_left : left ≡ l.entries) (same_right : right ≡ r.entries) (freed_managed : List MNum) (freed_peers : List PNum) (notices : List MNum)
+module _ (l : Side ManagedReplay) (r : Side PeerReplay) (readers : List (List Entry)) (d : Waiting) (callers : List Pass) (all : AllTaken l r readers d callers)
+    (left right : List Entry) (same_left : left ≡ l.entries) (same_right : right ≡ r.entries) (freed_managed : List MNum) (freed_peers : List PNum) (notices : List MNum)
     (fm : managed_numbers freed_managed ≡ l.state.managed.heap.freed) (fp : peer_numbers freed_peers ≡ r.state.peers.heap.freed) (ns : managed_numbers notices ≡ l.state.managed.notices) where
   ends : Ends all.gathered.gathered.known.known.past l r freed_managed freed_peers notices (all_lists left right readers) (entries_of all.whole.whole)
   ends =
@@ -49,7 +50,8 @@ module _ (l : Side ManagedReplay) (r : Side PeerReplay) (readers : List (List En
   pub lists_join : IsJoinable (all_lists left right readers) freed_managed freed_peers notices
   lists_join = ends.joinable
 
-  pub run_ends : (h : Finished) → IsShuffle (all_lists left right readers) h.entries → h.freed_managed ≡ freed_managed → h.freed_peers ≡ freed_peers → h.notices ≡ notices → EndsRun l.state r.state callers d h
+  pub run_ends : (h : Finished) → IsShuffle (all_lists left right readers) h.entries → h.freed_managed ≡ freed_managed
+      → h.freed_peers ≡ freed_peers → h.notices ≡ notices → EndsRun l.state r.state callers d h
   run_ends h shuffle a b c =
       let e = ends.finished h shuffle a b c in
       let g = all.gathered in
@@ -69,7 +71,8 @@ module _ (l : Side ManagedReplay) (r : Side PeerReplay) (readers : List (List En
         };
       }
 
-  pub result_ends : {E : Type 0} (result : Result Finished E) → IfOk result (λ h. IsShuffle (all_lists left right readers) h.entries) → IfOk result (λ h. h.freed_managed ≡ freed_managed) → IfOk result (λ h. h.freed_peers ≡ freed_peers) → IfOk result (λ h. h.notices ≡ notices) → IfOk result (EndsRun l.state r.state callers d)
+  pub result_ends : {E : Type 0} (result : Result Finished E) → IfOk result (λ h. IsShuffle (all_lists left right readers) h.entries) → IfOk result (λ h. h.freed_managed ≡ freed_managed)
+      → IfOk result (λ h. h.freed_peers ≡ freed_peers) → IfOk result (λ h. h.notices ≡ notices) → IfOk result (EndsRun l.state r.state callers d)
   result_ends (Ok h) shuffle a b c = run_ends h shuffle a b c
   result_ends (Err x) shuffle a b c = tt
 

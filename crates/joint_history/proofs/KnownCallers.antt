@@ -47,7 +47,8 @@ pass_kept t old left right p h i q = p.stayed i (λ none. none) (h i q)
 pub pass_joined : (t : Thread) (mine other new : View) → TakesIn mine other new → HoldsPass t mine → HoldsPass t new
 pass_joined t mine other new k h i q = (k.owns i).0 (inl (h i q))
 
-pub hears : (t u : Thread) (es fs : Stock) (from left note mine new : View) → Parts IsOfNone from left note → TakesIn mine note new → HoldsPass t mine → Hears (record { thread = u; view = from; reads = es }) (record { thread = t; view = mine; reads = fs }) (record { thread = t; view = new; reads = fs })
+pub hears : (t u : Thread) (es fs : Stock) (from left note mine new : View) → Parts IsOfNone from left note → TakesIn mine note new → HoldsPass t mine
+    → Hears (record { thread = u; view = from; reads = es }) (record { thread = t; view = mine; reads = fs }) (record { thread = t; view = new; reads = fs })
 hears t u es fs from left note mine new p k h = record {
   thread = refl;
   reads = refl;

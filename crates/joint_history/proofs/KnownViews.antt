@@ -70,7 +70,8 @@ pub record JoinedViews (v w u : View) (a : IsDrawnView v) (b : IsDrawnView w) : 
   pub peer_second : known u 1 ≡ known w 1 → (end_of joined.known.past).peer ≡ (end_of b.known.past).peer
 
 -- of each line the one or the other list, which both begin
-pub lines_join : (v w u : View) (a : IsDrawnView v) (b : IsDrawnView w) → ((i : ℕ) → (known u i ≡ known v i) ⊎ (known u i ≡ known w i)) → ((i : ℕ) → IsPrefix (known v i) (known u i)) → ((i : ℕ) → IsPrefix (known w i) (known u i)) → BeginsOneHistory u → JoinedViews v w u a b
+pub lines_join : (v w u : View) (a : IsDrawnView v) (b : IsDrawnView w) → ((i : ℕ) → (known u i ≡ known v i) ⊎ (known u i ≡ known w i))
+    → ((i : ℕ) → IsPrefix (known v i) (known u i)) → ((i : ℕ) → IsPrefix (known w i) (known u i)) → BeginsOneHistory u → JoinedViews v w u a b
 lines_join v w u a b either knew heard o =
     let j = drawn_join v w u a b either knew heard o in
     record {

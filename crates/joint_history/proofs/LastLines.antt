@@ -68,12 +68,15 @@ place_small C is = omega arith
 last_of_past : (h : List Noted) → Lawful h → (t : Thread) → IsThread t → last_line (end_of h).control t ≡ last_index (entries (line (caller_line t) h))
 last_of_past [] l t is = index_zeros 17 (caller_place t)
 last_of_past (x ∷ h) l t is =
-    let after = ap (λ ls. slice_index ls (caller_place t)) (lines_after (end_of h).control x.entry.made.caller x.entry.number x.entry.made.index x.entry.made.op x.entry.made.reply (bare_told x.told)) in
+    let after = ap (λ ls. slice_index ls (caller_place t)) (lines_after (end_of h).control x.entry.made.caller x.entry.number x.entry.made.index x.entry.made.op x.entry.made.reply (bare_told x.told))
+    in
     ⊎_elim
     (λ (e : caller_place t ≡ caller_place x.entry.made.caller).
     let there : is_in (caller_line t) x ≡ true = subst (λ p. is_in (p + 10) x ≡ true) (sym e) (in_own x) in
-    after ∙ (subst (λ p. slice_index (slice_set (end_of h).control.lines p x.entry.made.index) (caller_place t) ≡ x.entry.made.index) e (index_set (end_of h).control.lines (caller_place t) x.entry.made.index (let w = (widths h).lines in let p = place_small t is in omega arith))
-    ∙ sym (ap (λ l. last_index (entries l)) (line_in (caller_line t) x h there) ∙ (ap last_index (entries_append (line (caller_line t) h) (x ∷ [])) ∙ last_snoc (entries (line (caller_line t) h)) x.entry))))
+    after ∙ (subst (λ p. slice_index (slice_set (end_of h).control.lines p x.entry.made.index) (caller_place t) ≡ x.entry.made.index) e
+    (index_set (end_of h).control.lines (caller_place t) x.entry.made.index (let w = (widths h).lines in let p = place_small t is in omega arith))
+    ∙ sym (ap (λ l. last_index (entries l)) (line_in (caller_line t) x h there)
+    ∙ (ap last_index (entries_append (line (caller_line t) h) (x ∷ [])) ∙ last_snoc (entries (line (caller_line t) h)) x.entry))))
     (λ (n : caller_place t ≡ caller_place x.entry.made.caller → ⊥).
     after ∙ (index_else (end_of h).control.lines (caller_place x.entry.made.caller) (caller_place t) x.entry.made.index n
     ∙ (last_of_past h l.1 t is ∙ sym (ap (λ l. last_index (entries l)) (line_out (caller_line t) x h (apart n))))))

@@ -17,7 +17,8 @@ use Rattle.joint_history.proofs.LockedSteps.{lent_joined}
 pub owns_lent : (t : Thread) (locked mine lent mine1 : View) → Owns locked 0 → HoldsPass t mine → Lends t locked mine lent mine1 → Owns lent 0 × Owns lent (caller_line t)
 owns_lent t locked mine lent mine1 owns pass l = (l.kept 0 owns, l.lines (caller_line t) (own_line t) (pass (caller_line t) (own_line t)))
 
-pub knows_lent : (t : Thread) (locked mine lent mine1 : View) (side : Side ManagedReplay) → Owns locked 0 → ManagedKnows locked side → IsDrawnView mine → Lends t locked mine lent mine1 → ManagedKnows lent side
+pub knows_lent : (t : Thread) (locked mine lent mine1 : View) (side : Side ManagedReplay) → Owns locked 0
+    → ManagedKnows locked side → IsDrawnView mine → Lends t locked mine lent mine1 → ManagedKnows lent side
 knows_lent t locked mine lent mine1 side owns ks m l =
     let j = lent_joined t locked mine lent mine1 l ks.known m in
     record { known = j.joined; entries = ap line_entries (l.whole 0 owns) ∙ ks.entries; state = j.managed_first (l.whole 0 owns) ∙ ks.state }

@@ -42,8 +42,10 @@ pub record CalledRead (t : Thread) (index : ℕ) (a : Act) (number : ℕ) (reply
   pub exact : ReadsExactly t mine mine2 a reply
   pub reads : KeepsReads t mine2 new.entries
 
-by_reader : (reader index : ℕ) (a : Act) (number : ℕ) (g : Got) (locked mine locked2 mine2 : View) (side : Side ManagedReplay) (old new : Stock) → 0 < reader → reader < 9 → IsRead a → index < 2 ^ 32 → Owns locked 0 → ManagedKnows locked side → ReadsLocked reader index a number g locked mine locked2 mine2 old new
-    → HoldsPass (M reader) mine → MayMake (M reader) mine index (op.Line a) None → KeepsReads (M reader) mine old.entries → CalledRead (M reader) index a number (reply_of g) mine locked2 mine2 side new
+by_reader : (reader index : ℕ) (a : Act) (number : ℕ) (g : Got) (locked mine locked2 mine2 : View) (side : Side ManagedReplay) (old new : Stock) → 0 < reader
+    → reader < 9 → IsRead a → index < 2 ^ 32 → Owns locked 0 → ManagedKnows locked side → ReadsLocked reader index a number g locked mine locked2 mine2 old new
+    → HoldsPass (M reader) mine → MayMake (M reader) mine index (op.Line a) None → KeepsReads (M reader) mine old.entries
+    → CalledRead (M reader) index a number (reply_of g) mine locked2 mine2 side new
 by_reader reader index a number g locked mine locked2 mine2 side old new pos low read short owns ks w pass may keeps =
     let k : KeptEntry = entry_of reader index a g number in
     let r = w.answers.reads in
@@ -67,11 +69,16 @@ by_reader reader index a number g locked mine locked2 mine2 side old new pos low
         answer = refl;
         exact = subst (λ (z : List KeptEntry × List KeptEntry). IsExact z.0 z.1 (cell_of a) g) (λ i. (sym (w.returns.same 0 ∙ managed_line) i, mine_line i)) (r.exact (w.lends.kept 0 owns));
       };
-      reads = ap line_entries (w.returns.same (1 + reader) ∙ r.grows.role) ∙ (entries_snoc (known w.lent (1 + reader)) k ∙ (ap (λ es. es ++ k.entry ∷ []) (ap line_entries (w.lends.own (1 + reader) (inr refl) (pass (1 + reader) (inr refl))) ∙ keeps) ∙ sym w.answers.entries));
+      reads = ap line_entries (w.returns.same (1 + reader) ∙ r.grows.role)
+          ∙ (entries_snoc (known w.lent (1 + reader)) k ∙ (ap (λ es. es ++ k.entry ∷ []) (ap line_entries (w.lends.own (1 + reader) (inr refl) (pass (1 + reader) (inr refl))) ∙ keeps)
+          ∙ sym w.answers.entries));
     }
 
-pub called_read : (t : Thread) (reader index : ℕ) (a : Act) (number : ℕ) (g : Got) (reply : Reply) (locked mine locked2 mine2 : View) (side : Side ManagedReplay) (old new : Stock) → IsManagedThread t → reader ≡ thread_number t → 0 < reader → reader < 9 → IsRead a → index < 2 ^ 32 → reply ≡ reply_of g → Owns locked 0
-    → ManagedKnows locked side → ReadsLocked reader index a number g locked mine locked2 mine2 old new → HoldsPass t mine → MayMake t mine index (op.Line a) None → KeepsReads t mine old.entries → CalledRead t index a number reply mine locked2 mine2 side new
+pub called_read : (t : Thread) (reader index : ℕ) (a : Act) (number : ℕ) (g : Got) (reply : Reply) (locked mine locked2 mine2 : View) (side : Side ManagedReplay) (old new : Stock)
+    → IsManagedThread t → reader ≡ thread_number t → 0 < reader → reader < 9 → IsRead a → index < 2 ^ 32 → reply ≡ reply_of g → Owns locked 0
+    → ManagedKnows locked side → ReadsLocked reader index a number g locked mine locked2 mine2 old new → HoldsPass t mine
+    → MayMake t mine index (op.Line a) None → KeepsReads t mine old.entries → CalledRead t index a number reply mine locked2 mine2 side new
 called_read t reader index a number g reply locked mine locked2 mine2 side old new is n pos low read short says owns ks w =
-    subst (λ (z : Thread × Reply). HoldsPass z.0 mine → MayMake z.0 mine index (op.Line a) None → KeepsReads z.0 mine old.entries → CalledRead z.0 index a number z.1 mine locked2 mine2 side new) (λ i. (sym (thread_of_reader t reader is n) i, sym says i))
+    subst (λ (z : Thread × Reply). HoldsPass z.0 mine → MayMake z.0 mine index (op.Line a) None → KeepsReads z.0 mine old.entries → CalledRead z.0 index a number z.1 mine locked2 mine2 side new)
+    (λ i. (sym (thread_of_reader t reader is n) i, sym says i))
     (by_reader reader index a number g locked mine locked2 mine2 side old new pos low read short owns ks w)

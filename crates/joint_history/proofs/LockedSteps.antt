@@ -54,7 +54,8 @@ pub lent_joined : (t : Thread) (locked mine lent mine1 : View) → Lends t locke
 lent_joined t locked mine lent mine1 l a b = lines_join locked mine lent a b l.either l.knew l.heard l.one_history
 
 -- the caller's own line is told as the caller knows it
-pub own_told : (t : Thread) (locked mine lent mine1 : View) (l : Lends t locked mine lent mine1) (a : IsDrawnView locked) (b : IsDrawnView mine) → HoldsPass t mine → line (caller_line t) (lent_joined t locked mine lent mine1 l a b).joined.known.past ≡ line (caller_line t) b.known.past
+pub own_told : (t : Thread) (locked mine lent mine1 : View) (l : Lends t locked mine lent mine1) (a : IsDrawnView locked) (b : IsDrawnView mine)
+    → HoldsPass t mine → line (caller_line t) (lent_joined t locked mine lent mine1 l a b).joined.known.past ≡ line (caller_line t) b.known.past
 own_told t locked mine lent mine1 l a b h = (lent_joined t locked mine lent mine1 l a b).second (caller_line t) (l.own (caller_line t) (own_line t) (h (caller_line t) (own_line t)))
 
 pub doing_told : (t : Thread) (a b : List Noted) → line (caller_line t) a ≡ line (caller_line t) b → doing_of t (end_of a).control ≡ doing_of t (end_of b).control
@@ -66,7 +67,8 @@ pub last_told : (t : Thread) (a b : List Noted) (index : ℕ) → line (caller_l
 last_told t a b index e l = subst (λ n. n ≤ index) (sym ((lines_give_parts a b).last t e)) l
 
 -- so the caller stands there as it stood
-pub stands_told : (t : Thread) (v w : View) (a : IsDrawnView w) (index : ℕ) (d : Doing) (s : Stands t v index d) → line (caller_line t) a.known.past ≡ line (caller_line t) s.known.known.past → Stands t w index d
+pub stands_told : (t : Thread) (v w : View) (a : IsDrawnView w) (index : ℕ) (d : Doing) (s : Stands t v index d)
+    → line (caller_line t) a.known.past ≡ line (caller_line t) s.known.known.past → Stands t w index d
 stands_told t v w a index d s e = record {
   known = a;
   last = last_told t a.known.past s.known.known.past index e s.last;
@@ -76,7 +78,8 @@ stands_told t v w a index d s e = record {
 pub stands_same : (t : Thread) (v w : View) (index : ℕ) (d : Doing) → ((i : ℕ) → known w i ≡ known v i) → Stands t v index d → Stands t w index d
 stands_same t v w index d same s = record { known = same_view v w s.known same; last = s.last; doing = s.doing }
 
-turn_allows : (t : Thread) (s : Linkage) (d : Doing) (index : ℕ) (o : Op) (reply : Reply) (cites : Option ℕ) (told : Told) → doing_of t s.control ≡ d → IsTurn t d index o cites → CallerAllows s.control s.managed.managed s.peer.peers.issued t index o reply cites told
+turn_allows : (t : Thread) (s : Linkage) (d : Doing) (index : ℕ) (o : Op) (reply : Reply) (cites : Option ℕ) (told : Told)
+    → doing_of t s.control ≡ d → IsTurn t d index o cites → CallerAllows s.control s.managed.managed s.peer.peers.issued t index o reply cites told
 turn_allows (M n) s d index o reply cites told e w = subst (λ z. ThreadAllows z (M n) index o cites) (sym e) w
 turn_allows (P n) s d index o reply cites told e w = w
 turn_allows C s d index o reply cites told e w = absurd w
@@ -93,7 +96,8 @@ pub record MayNow (t : Thread) (s : Linkage) (m : Made) (told : Told) : Type 0 w
   pub allows : CallerAllows s.control s.managed.managed s.peer.peers.issued t m.index m.op m.reply m.cites (bare_told told)
 
 -- of a thread it holds at each past that has the thread's line as its seat knows it
-pub thread_may : (t : Thread) (past : List Noted) (mine : View) (m : Made) (told : Told) (w : MayMake t mine m.index m.op m.cites) → line (caller_line t) past ≡ line (caller_line t) w.stands.known.known.past → MayNow t (end_of past) m told
+pub thread_may : (t : Thread) (past : List Noted) (mine : View) (m : Made) (told : Told) (w : MayMake t mine m.index m.op m.cites)
+    → line (caller_line t) past ≡ line (caller_line t) w.stands.known.known.past → MayNow t (end_of past) m told
 thread_may t past mine m told w same =
     let doing = doing_told t past w.stands.known.known.past same ∙ w.stands.doing in
     record {
@@ -103,8 +107,10 @@ thread_may t past mine m told w same =
 
 -- an entry that may come behind what the seat knows, as it is drawn there: the seat knows it then, and so the caller
 -- stands
-pub entered : (t : Thread) (mine lent lent2 : View) (r : ℕ) (k : KeptEntry) (told : Told) (j : IsDrawnView lent) → IsThread t → k.entry.made.caller ≡ t → GrowsByEntry lent lent2 r k → IsInRole r k.entry.made → ((i : ℕ) → IsBelow k.entry.number (known lent i))
-    → pins_of k.pins ≡ pins_told told → drawn (end_of j.known.past) (note_of k.entry told) ≡ of_drawing k → Comes (is_read k.entry.made.op) (end_of j.known.past) (note_of k.entry told) → Entered t mine lent2 j.known.past k told
+pub entered : (t : Thread) (mine lent lent2 : View) (r : ℕ) (k : KeptEntry) (told : Told) (j : IsDrawnView lent) → IsThread t
+    → k.entry.made.caller ≡ t → GrowsByEntry lent lent2 r k → IsInRole r k.entry.made → ((i : ℕ) → IsBelow k.entry.number (known lent i))
+    → pins_of k.pins ≡ pins_told told → drawn (end_of j.known.past) (note_of k.entry told) ≡ of_drawing k
+    → Comes (is_read k.entry.made.op) (end_of j.known.past) (note_of k.entry told) → Entered t mine lent2 j.known.past k told
 entered t mine lent lent2 r k told j thread caller grows role below pins draws comes =
     let g = drawn_views_grow lent lent2 r k j told grows role below pins draws comes in
     record {
@@ -138,16 +144,19 @@ not_side (P n) r is small e = omega arith
 not_side C r is small e = omega arith
 
 -- the caller's lines can be handed back
-pub more_back : (t : Thread) (locked mine lent mine1 lent2 : View) → Lends t locked mine lent mine1 → ((i : ℕ) → IsPrefix (known lent i) (known lent2 i)) → (i : ℕ) → IsPrefix (known mine1 i) (known lent2 i)
+pub more_back : (t : Thread) (locked mine lent mine1 lent2 : View) → Lends t locked mine lent mine1
+    → ((i : ℕ) → IsPrefix (known lent i) (known lent2 i)) → (i : ℕ) → IsPrefix (known mine1 i) (known lent2 i)
 more_back t locked mine lent mine1 lent2 l more i = prefix_trans (known mine1 i) (known lent i) (known lent2 i) (subst (λ x. IsPrefix x (known lent i)) (sym (l.same i)) (l.heard i)) (more i)
 
 -- after the entry and the handing back
-pub makes : (t : Thread) (locked mine lent mine1 lent2 locked2 mine2 : View) (r : ℕ) (k : KeptEntry) (told : Told) (j : IsDrawnView lent) → HoldsPass t mine → k.entry.made.caller ≡ t → Lends t locked mine lent mine1 → GrowsByEntry lent lent2 r k → ((i : ℕ) → IsBelow k.entry.number (known lent i))
+pub makes : (t : Thread) (locked mine lent mine1 lent2 locked2 mine2 : View) (r : ℕ) (k : KeptEntry) (told : Told) (j : IsDrawnView lent) → HoldsPass t mine
+    → k.entry.made.caller ≡ t → Lends t locked mine lent mine1 → GrowsByEntry lent lent2 r k → ((i : ℕ) → IsBelow k.entry.number (known lent i))
     → Entered t mine lent2 j.known.past k told → Returns t lent2 mine1 locked2 mine2 → Makes t mine mine2 k.entry
 makes t locked mine lent mine1 lent2 locked2 mine2 r k told j pass caller l g below e b =
     let own : known lent2 (caller_line t) ≡ known lent (caller_line t) ++ k ∷ [] = subst (λ u. known lent2 (caller_line u) ≡ known lent (caller_line u) ++ k ∷ []) caller g.caller in
     record {
-      own = ap line_entries (b.same (caller_line t) ∙ own) ∙ (entries_snoc (known lent (caller_line t)) k ∙ ap (λ es. es ++ k.entry ∷ []) (ap line_entries (l.own (caller_line t) (own_line t) (pass (caller_line t) (own_line t)))));
+      own = ap line_entries (b.same (caller_line t) ∙ own) ∙ (entries_snoc (known lent (caller_line t)) k
+          ∙ ap (λ es. es ++ k.entry ∷ []) (ap line_entries (l.own (caller_line t) (own_line t) (pass (caller_line t) (own_line t)))));
       more = λ i. subst (IsPrefix (known mine i)) (sym (b.same i)) (prefix_trans (known mine i) (known lent i) (known lent2 i) (l.heard i) (grows_more lent lent2 r k g i));
       above = λ i. below_begins k.entry.number (known mine i) (known lent i) (l.heard i) (below i);
       stands = stands_same t lent2 mine2 k.entry.made.index (doing_from t k.entry) b.same e.stands;
@@ -157,7 +166,8 @@ makes t locked mine lent mine1 lent2 locked2 mine2 r k told j pass caller l g be
     }
 
 -- an entry of a side is none of the thread's reader
-pub reads_stay : (t : Thread) (locked mine lent mine1 lent2 locked2 mine2 : View) (r : ℕ) (k : KeptEntry) → IsThread t → r < 2 → HoldsPass t mine → k.entry.made.caller ≡ t → Lends t locked mine lent mine1 → GrowsByEntry lent lent2 r k → Returns t lent2 mine1 locked2 mine2 → ReadsStay t mine mine2
+pub reads_stay : (t : Thread) (locked mine lent mine1 lent2 locked2 mine2 : View) (r : ℕ) (k : KeptEntry) → IsThread t → r < 2 → HoldsPass t mine
+    → k.entry.made.caller ≡ t → Lends t locked mine lent mine1 → GrowsByEntry lent lent2 r k → Returns t lent2 mine1 locked2 mine2 → ReadsStay t mine mine2
 reads_stay (M n) locked mine lent mine1 lent2 locked2 mine2 r k is small pass caller l g b =
     let few = is.0 in
     b.same (1 + n) ∙ (g.others (1 + n) (λ e. omega (arith, e)) (λ e. let f : 1 + n ≡ n + 10 = e ∙ ap caller_line caller in omega arith) ∙ l.own (1 + n) (inr refl) (pass (1 + n) (inr refl)))
@@ -191,13 +201,15 @@ pub record Did (t : Thread) (r : ℕ) (mine locked2 mine2 : View) : Type 0 where
   pub owns : Owns locked2 r
   pub pass : HoldsPass t mine2
 
-pub did : (t : Thread) (locked mine lent mine1 lent2 locked2 mine2 : View) (r : ℕ) → IsThread t → r < 2 → HoldsPass t mine → Owns locked r → Lends t locked mine lent mine1 → ((i : ℕ) → Owns lent i → Owns lent2 i) → Returns t lent2 mine1 locked2 mine2 → Did t r mine locked2 mine2
+pub did : (t : Thread) (locked mine lent mine1 lent2 locked2 mine2 : View) (r : ℕ) → IsThread t → r < 2 → HoldsPass t mine → Owns locked r
+    → Lends t locked mine lent mine1 → ((i : ℕ) → Owns lent i → Owns lent2 i) → Returns t lent2 mine1 locked2 mine2 → Did t r mine locked2 mine2
 did t locked mine lent mine1 lent2 locked2 mine2 r is small pass owns l on b = record {
   owns = b.kept r (not_side t r is small) (on r (l.kept r owns));
   pass = λ i g. b.lines i g (on i (l.lines i g (pass i g)));
 }
 
-pub makes_none : (t : Thread) (locked mine lent mine1 locked2 mine2 : View) → IsDrawnView locked → HoldsPass t mine → Lends t locked mine lent mine1 → Returns t lent mine1 locked2 mine2 → MakesNone t mine mine2
+pub makes_none : (t : Thread) (locked mine lent mine1 locked2 mine2 : View) → IsDrawnView locked
+    → HoldsPass t mine → Lends t locked mine lent mine1 → Returns t lent mine1 locked2 mine2 → MakesNone t mine mine2
 makes_none t locked mine lent mine1 locked2 mine2 a pass l b = record {
   own = ap line_entries (b.same (caller_line t) ∙ l.own (caller_line t) (own_line t) (pass (caller_line t) (own_line t)));
   more = λ i. subst (IsPrefix (known mine i)) (sym (b.same i)) (l.heard i);
@@ -214,7 +226,8 @@ pub record DidManagedBy (t : Thread) (mine lent2 locked2 mine2 : View) (past : L
   pub reads : ReadsStay t mine mine2
 
 -- an entry of the managed side's list, as it is drawn behind a past in which the managed side is as it was
-managed_draws : (s : Linkage) (old : ManagedReplay) (k : KeptEntry) (told : Told) → s.managed ≡ old → is_peer_event k.entry.made.caller k.entry.made.op ≡ false → k.target ≡ managed_rules.target old k.entry.made → k.freed ≡ managed_rules.frees told → drawn s (note_of k.entry told) ≡ of_drawing k
+managed_draws : (s : Linkage) (old : ManagedReplay) (k : KeptEntry) (told : Told) → s.managed ≡ old → is_peer_event k.entry.made.caller k.entry.made.op ≡ false
+    → k.target ≡ managed_rules.target old k.entry.made → k.freed ≡ managed_rules.frees told → drawn s (note_of k.entry told) ≡ of_drawing k
 managed_draws s old k told e side target freed =
     ap (λ b. if b then drawn_by peer_rules s.peer (note_of k.entry told) else drawn_by managed_rules s.managed (note_of k.entry told)) side
     ∙ (ap (λ (m : ManagedReplay). drawn_by managed_rules m (note_of k.entry told)) e ∙ (λ i. record { entry = k.entry; target = sym target i; freed = sym freed i }))
@@ -226,16 +239,20 @@ peer_draws s k told side target freed =
 
 -- the caller's entry may come behind what is known together: its line and its turn are the caller's, the rest is the
 -- side's promise
-comes_now : (t : Thread) (s : Linkage) (k : KeptEntry) (told : Told) → k.entry.made.caller ≡ t → MayNow t s k.entry.made told → k.entry.made.index < 2 ^ 32 → PinsStand s.managed.managed (pins_told told)
+comes_now : (t : Thread) (s : Linkage) (k : KeptEntry) (told : Told) → k.entry.made.caller ≡ t
+    → MayNow t s k.entry.made told → k.entry.made.index < 2 ^ 32 → PinsStand s.managed.managed (pins_told told)
     → managed_rules.lawful s.managed k.entry.made told ⊎ peer_rules.lawful s.peer k.entry.made told → Comes (is_read k.entry.made.op) s (note_of k.entry told)
 comes_now t s k told caller may short stand side = side_entry_comes s k.entry.number k.entry.made told
     (subst (λ u. last_line s.control u ≤ k.entry.made.index) (sym caller) may.last) short
     (subst (λ u. CallerAllows s.control s.managed.managed s.peer.peers.issued u k.entry.made.index k.entry.made.op k.entry.made.reply k.entry.made.cites (bare_told told)) (sym caller) may.allows)
     stand side
 
-pub did_managed_by : (t : Thread) (locked mine mine1 locked2 mine2 : View) (order : OrderId) (lent lent2 : Shown) (old new : Side ManagedReplay) (e : Entry) (told : Told) (m : IsDrawnView mine) → IsThread t → HoldsPass t mine → Owns locked 0 → e.made.caller ≡ t → e.made.index < 2 ^ 32
-    → (ks : ManagedKnows locked old) (l : Lends t locked mine lent.view mine1) → MayNow t (end_of (lent_joined t locked mine lent.view mine1 l ks.known m).joined.known.past) e.made told → PinsStand old.state.managed (pins_told told)
-    → (d : Drew managed_rules 0 order lent lent2 old new e told) → Returns t lent2.view mine1 locked2 mine2 → DidManagedBy t mine lent2.view locked2 mine2 (lent_joined t locked mine lent.view mine1 l ks.known m).joined.known.past new d.kept told
+pub did_managed_by : (t : Thread) (locked mine mine1 locked2 mine2 : View) (order : OrderId) (lent lent2 : Shown) (old new : Side ManagedReplay) (e : Entry) (told : Told) (m : IsDrawnView mine)
+    → IsThread t → HoldsPass t mine → Owns locked 0 → e.made.caller ≡ t → e.made.index < 2 ^ 32
+    → (ks : ManagedKnows locked old) (l : Lends t locked mine lent.view mine1)
+    → MayNow t (end_of (lent_joined t locked mine lent.view mine1 l ks.known m).joined.known.past) e.made told → PinsStand old.state.managed (pins_told told)
+    → (d : Drew managed_rules 0 order lent lent2 old new e told) → Returns t lent2.view mine1 locked2 mine2
+    → DidManagedBy t mine lent2.view locked2 mine2 (lent_joined t locked mine lent.view mine1 l ks.known m).joined.known.past new d.kept told
 did_managed_by t locked mine mine1 locked2 mine2 order lent lent2 old new e told m is pass owns caller' short' ks l may' stand d b =
     let k = d.kept in
     let caller = ap (λ (z : Entry). z.made.caller) d.entry ∙ caller' in
@@ -244,17 +261,21 @@ did_managed_by t locked mine mine1 locked2 mine2 order lent lent2 old new e told
     let goes = subst (λ (z : Entry). GoesOn managed_rules old.state z.made told new.state) (sym d.entry) d.goes in
     let side = goes.lawful.0.side in
     let own = goes.lawful.1.own in
-    let w = entered t mine lent.view lent2.view 0 k told j.joined is caller d.appends.grows (record { one = omega arith; managed = λ z. (own, side); peer = λ z. absurd (omega arith); reader = λ z. absurd (omega arith) }) d.appends.number d.pins
+    let w = entered t mine lent.view lent2.view 0 k told j.joined is caller d.appends.grows
+    (record { one = omega arith; managed = λ z. (own, side); peer = λ z. absurd (omega arith); reader = λ z. absurd (omega arith) }) d.appends.number d.pins
     (managed_draws (end_of j.joined.known.past) old.state k told state side (subst (λ (z : Entry). k.target ≡ managed_rules.target old.state z.made) (sym d.entry) d.target) d.freed)
-    (comes_now t (end_of j.joined.known.past) k told caller (subst (λ (z : Entry). MayNow t (end_of j.joined.known.past) z.made told) (sym d.entry) may') (subst (λ (z : Entry). z.made.index < 2 ^ 32) (sym d.entry) short')
+    (comes_now t (end_of j.joined.known.past) k told caller (subst (λ (z : Entry). MayNow t (end_of j.joined.known.past) z.made told) (sym d.entry) may')
+    (subst (λ (z : Entry). z.made.index < 2 ^ 32) (sym d.entry) short')
     (subst (λ (s : ManagedReplay). PinsStand s.managed (pins_told told)) (sym state) stand) (inl (subst (λ s. managed_rules.lawful s k.entry.made told) (sym state) goes.lawful))) in
     let after : (end_of w.grown.known.known.past).managed ≡ new.state =
-    w.grown.managed ∙ (ap (λ x. managed_past (end_of j.joined.known.past).managed k.entry.made told x (is_read k.entry.made.op)) side ∙ (ap (managed_past (end_of j.joined.known.past).managed k.entry.made told false) own ∙ (ap (λ (s : ManagedReplay). managed_rules.next s k.entry.made told) state ∙ sym goes.state))) in
+    w.grown.managed ∙ (ap (λ x. managed_past (end_of j.joined.known.past).managed k.entry.made told x (is_read k.entry.made.op)) side
+    ∙ (ap (managed_past (end_of j.joined.known.past).managed k.entry.made told false) own ∙ (ap (λ (s : ManagedReplay). managed_rules.next s k.entry.made told) state ∙ sym goes.state))) in
     record {
       entered = w;
       knows = record {
         known = same_view lent2.view locked2 w.grown.known b.stays;
-        entries = ap line_entries (b.stays 0 ∙ d.appends.grows.role) ∙ (entries_snoc (known lent.view 0) k ∙ (ap (λ es. es ++ k.entry ∷ []) (ap line_entries (l.whole 0 owns) ∙ ks.entries) ∙ (ap (λ z. old.entries ++ z ∷ []) d.entry ∙ sym d.added)));
+        entries = ap line_entries (b.stays 0 ∙ d.appends.grows.role)
+            ∙ (entries_snoc (known lent.view 0) k ∙ (ap (λ es. es ++ k.entry ∷ []) (ap line_entries (l.whole 0 owns) ∙ ks.entries) ∙ (ap (λ z. old.entries ++ z ∷ []) d.entry ∙ sym d.added)));
         state = after;
       };
       after = after;
@@ -262,7 +283,8 @@ did_managed_by t locked mine mine1 locked2 mine2 order lent lent2 old new e told
       reads = reads_stay t locked mine lent.view mine1 lent2.view locked2 mine2 0 k is (omega arith) pass caller l d.appends.grows b;
     }
 
-pub knows_still : (t : Thread) (locked mine lent mine1 locked2 mine2 : View) (side : Side ManagedReplay) → Owns locked 0 → ManagedKnows locked side → IsDrawnView mine → Lends t locked mine lent mine1 → Returns t lent mine1 locked2 mine2 → ManagedKnows locked2 side
+pub knows_still : (t : Thread) (locked mine lent mine1 locked2 mine2 : View) (side : Side ManagedReplay) → Owns locked 0
+    → ManagedKnows locked side → IsDrawnView mine → Lends t locked mine lent mine1 → Returns t lent mine1 locked2 mine2 → ManagedKnows locked2 side
 knows_still t locked mine lent mine1 locked2 mine2 side owns ks m l b =
     let j = lent_joined t locked mine lent mine1 l ks.known m in
     record {
@@ -276,7 +298,8 @@ pub record PeerEntered (t : Thread) (mine lent2 : View) (past : List Noted) (sid
   pub entered : Entered t mine lent2 past k told
   pub after : (end_of entered.grown.known.known.past).peer ≡ side.state
 
-pub peer_entered : (t : Thread) (mine : View) (order : OrderId) (lent lent2 : Shown) (old new : Side PeerReplay) (e : Entry) (told : Told) (j : IsDrawnView lent.view) → (end_of j.known.past).peer ≡ old.state → IsThread t → e.made.caller ≡ t → e.made.index < 2 ^ 32 → MayNow t (end_of j.known.past) e.made told
+pub peer_entered : (t : Thread) (mine : View) (order : OrderId) (lent lent2 : Shown) (old new : Side PeerReplay) (e : Entry) (told : Told) (j : IsDrawnView lent.view)
+    → (end_of j.known.past).peer ≡ old.state → IsThread t → e.made.caller ≡ t → e.made.index < 2 ^ 32 → MayNow t (end_of j.known.past) e.made told
     → (d : Drew peer_rules 1 order lent lent2 old new e told) → PeerEntered t mine lent2.view j.known.past new d.kept told
 peer_entered t mine order lent lent2 old new e told j state is caller' short' may' d =
     let k = d.kept in
@@ -286,17 +309,21 @@ peer_entered t mine order lent lent2 old new e told j state is caller' short' ma
     let side = goes.lawful.0.side in
     let own = (peer_reads_none k.entry.made.caller k.entry.made.op goes.lawful.0.event side).0 in
     let plain = peer_unpinned old.state k.entry.made told goes.lawful.1 in
-    let w = entered t mine lent.view lent2.view 1 k told j is caller d.appends.grows (record { one = omega arith; managed = λ z. absurd (omega arith); peer = λ z. (own, side); reader = λ z. absurd (omega arith) }) d.appends.number d.pins
+    let w = entered t mine lent.view lent2.view 1 k told j is caller d.appends.grows
+    (record { one = omega arith; managed = λ z. absurd (omega arith); peer = λ z. (own, side); reader = λ z. absurd (omega arith) }) d.appends.number d.pins
     (peer_draws (end_of past) k told side d.target d.freed)
     (comes_now t (end_of past) k told caller (subst (λ (z : Entry). MayNow t (end_of past) z.made told) (sym d.entry) may') (subst (λ (z : Entry). z.made.index < 2 ^ 32) (sym d.entry) short')
-    (subst (PinsStand (end_of past).managed.managed) (sym (plain_pins told plain)) (none_stand (end_of past).managed.managed)) (inr (subst (λ s. peer_rules.lawful s k.entry.made told) (sym state) goes.lawful))) in
+    (subst (PinsStand (end_of past).managed.managed) (sym (plain_pins told plain)) (none_stand (end_of past).managed.managed))
+    (inr (subst (λ s. peer_rules.lawful s k.entry.made told) (sym state) goes.lawful))) in
     record {
       entered = w;
-      after = w.grown.peer ∙ (ap (peer_after (end_of past).peer k.entry.made (bare_told told)) side ∙ ((λ i. (peer_answer (state i) k.entry.made.caller k.entry.made.op k.entry.made.cites (plain_told told plain i)).state) ∙ sym goes.state));
+      after = w.grown.peer ∙ (ap (peer_after (end_of past).peer k.entry.made (bare_told told)) side
+          ∙ ((λ i. (peer_answer (state i) k.entry.made.caller k.entry.made.op k.entry.made.cites (plain_told told plain i)).state) ∙ sym goes.state));
     }
 
 -- the side's list with the entry
-pub list_more : (lent lent2 : View) (r : ℕ) (k : KeptEntry) (e : Entry) (old new : List Entry) → k.entry ≡ e → GrowsByEntry lent lent2 r k → line_known lent r ≡ old → new ≡ old ++ e ∷ [] → line_known lent2 r ≡ new
+pub list_more : (lent lent2 : View) (r : ℕ) (k : KeptEntry) (e : Entry) (old new : List Entry) → k.entry ≡ e
+    → GrowsByEntry lent lent2 r k → line_known lent r ≡ old → new ≡ old ++ e ∷ [] → line_known lent2 r ≡ new
 list_more lent lent2 r k e old new is g same added = ap line_entries g.role ∙ (entries_snoc (known lent r) k ∙ (ap (λ es. es ++ k.entry ∷ []) same ∙ (ap (λ z. old ++ z ∷ []) is ∙ sym added)))
 
 -- under the peer lock, by what is known together after the caller's lines were handed over
@@ -307,9 +334,11 @@ pub record DidPeerBy (t : Thread) (mine lent2 locked2 mine2 : View) (past : List
   pub makes : Makes t mine mine2 k.entry
   pub reads : ReadsStay t mine mine2
 
-pub did_peer_by : (t : Thread) (locked mine mine1 locked2 mine2 : View) (order : OrderId) (lent lent2 : Shown) (old new : Side PeerReplay) (e : Entry) (told : Told) (m : IsDrawnView mine) → IsThread t → HoldsPass t mine → Owns locked 1 → e.made.caller ≡ t → e.made.index < 2 ^ 32
+pub did_peer_by : (t : Thread) (locked mine mine1 locked2 mine2 : View) (order : OrderId) (lent lent2 : Shown) (old new : Side PeerReplay) (e : Entry) (told : Told) (m : IsDrawnView mine)
+    → IsThread t → HoldsPass t mine → Owns locked 1 → e.made.caller ≡ t → e.made.index < 2 ^ 32
     → (ks : PeerKnows locked old) (l : Lends t locked mine lent.view mine1) → MayNow t (end_of (lent_joined t locked mine lent.view mine1 l ks.known m).joined.known.past) e.made told
-    → (d : Drew peer_rules 1 order lent lent2 old new e told) → Returns t lent2.view mine1 locked2 mine2 → DidPeerBy t mine lent2.view locked2 mine2 (lent_joined t locked mine lent.view mine1 l ks.known m).joined.known.past new d.kept told
+    → (d : Drew peer_rules 1 order lent lent2 old new e told) → Returns t lent2.view mine1 locked2 mine2
+    → DidPeerBy t mine lent2.view locked2 mine2 (lent_joined t locked mine lent.view mine1 l ks.known m).joined.known.past new d.kept told
 did_peer_by t locked mine mine1 locked2 mine2 order lent lent2 old new e told m is pass owns caller' short ks l may d b =
     let k = d.kept in
     let caller = ap (λ (z : Entry). z.made.caller) d.entry ∙ caller' in
@@ -327,7 +356,8 @@ did_peer_by t locked mine mine1 locked2 mine2 order lent lent2 old new e told m 
       reads = reads_stay t locked mine lent.view mine1 lent2.view locked2 mine2 1 k is (omega arith) pass caller l d.appends.grows b;
     }
 
-pub knows_peers_still : (t : Thread) (locked mine lent mine1 locked2 mine2 : View) (side : Side PeerReplay) → Owns locked 1 → PeerKnows locked side → IsDrawnView mine → Lends t locked mine lent mine1 → Returns t lent mine1 locked2 mine2 → PeerKnows locked2 side
+pub knows_peers_still : (t : Thread) (locked mine lent mine1 locked2 mine2 : View) (side : Side PeerReplay) → Owns locked 1
+    → PeerKnows locked side → IsDrawnView mine → Lends t locked mine lent mine1 → Returns t lent mine1 locked2 mine2 → PeerKnows locked2 side
 knows_peers_still t locked mine lent mine1 locked2 mine2 side owns ks m l b =
     let j = lent_joined t locked mine lent mine1 l ks.known m in
     record {
@@ -338,15 +368,18 @@ knows_peers_still t locked mine lent mine1 locked2 mine2 side owns ks m l b =
 
 -- after a side's call, whether it made an entry or none
 module _ {S E : Type 0} (rules : SideRules S) (r : ℕ) (order : OrderId) (seat seat' : Shown) (old new : Side S) (make : ℕ × Reply → Entry) (told : Told) where
-  pub drew_more : (result : Result (ℕ × Reply) E) → IfOk result (λ x. Drew rules r order seat seat' old new (make x) told) → OnErr result (StaysSeated seat seat' × (new ≡ old)) → (i : ℕ) → IsPrefix (known seat.view i) (known seat'.view i)
+  pub drew_more : (result : Result (ℕ × Reply) E) → IfOk result (λ x. Drew rules r order seat seat' old new (make x) told)
+      → OnErr result (StaysSeated seat seat' × (new ≡ old)) → (i : ℕ) → IsPrefix (known seat.view i) (known seat'.view i)
   drew_more (Ok x) d e i = grows_more seat.view seat'.view r d.kept d.appends.grows i
   drew_more (Err x) d e i = subst (IsPrefix (known seat.view i)) (sym (ap (λ ks. at [] ks i) e.0.known)) (prefix_refl (known seat.view i))
 
-  pub drew_owns : (result : Result (ℕ × Reply) E) → IfOk result (λ x. Drew rules r order seat seat' old new (make x) told) → OnErr result (StaysSeated seat seat' × (new ≡ old)) → (i : ℕ) → Owns seat.view i → Owns seat'.view i
+  pub drew_owns : (result : Result (ℕ × Reply) E) → IfOk result (λ x. Drew rules r order seat seat' old new (make x) told)
+      → OnErr result (StaysSeated seat seat' × (new ≡ old)) → (i : ℕ) → Owns seat.view i → Owns seat'.view i
   drew_owns (Ok x) d e i o = owns_on seat.view seat'.view r d.kept d.appends.grows i o
   drew_owns (Err x) d e i o = ap (λ os. at false os i) e.0.owns ∙ o
 
-  pub drew_order : (result : Result (ℕ × Reply) E) → IfOk result (λ x. Drew rules r order seat seat' old new (make x) told) → OnErr result (StaysSeated seat seat' × (new ≡ old)) → seat'.order ≡ seat.order
+  pub drew_order : (result : Result (ℕ × Reply) E) → IfOk result (λ x. Drew rules r order seat seat' old new (make x) told)
+      → OnErr result (StaysSeated seat seat' × (new ≡ old)) → seat'.order ≡ seat.order
   drew_order (Ok x) d e = d.appends.same
   drew_order (Err x) d e = e.0.order
 
@@ -362,14 +395,18 @@ pub record CalledManaged {E : Type 0} (t : Thread) (mine locked2 mine2 : View) (
   pub reads : ReadsStay t mine mine2
   pub err : OnErr result (MakesNone t mine mine2)
 
-pub called_managed : {E : Type 0} (t : Thread) (index : ℕ) (o : Op) (cites : Option ℕ) (told : ℕ × Reply → Told) (order : OrderId) (locked mine mine1 locked2 mine2 : View) (seat seat' : Shown) (old new : Side ManagedReplay) (result : Result (ℕ × Reply) E)
-    → IsThread t → HoldsPass t mine → Owns locked 0 → index < 2 ^ 32 → ManagedKnows locked old → MayMake t mine index o cites → IfOk result (λ x. PinsStand old.state.managed (pins_told (told x))) → Lends t locked mine seat.view mine1
-    → IfOk result (λ x. Drew managed_rules 0 order seat seat' old new (numbered x.0 (made_by t index o x.1 cites)) (told x)) → OnErr result (StaysSeated seat seat' × (new ≡ old)) → Returns t seat'.view mine1 locked2 mine2
+pub called_managed : {E : Type 0} (t : Thread) (index : ℕ) (o : Op) (cites : Option ℕ) (told : ℕ × Reply → Told) (order : OrderId)
+    (locked mine mine1 locked2 mine2 : View) (seat seat' : Shown) (old new : Side ManagedReplay) (result : Result (ℕ × Reply) E)
+    → IsThread t → HoldsPass t mine → Owns locked 0 → index < 2 ^ 32 → ManagedKnows locked old → MayMake t mine index o cites
+    → IfOk result (λ x. PinsStand old.state.managed (pins_told (told x))) → Lends t locked mine seat.view mine1
+    → IfOk result (λ x. Drew managed_rules 0 order seat seat' old new (numbered x.0 (made_by t index o x.1 cites)) (told x))
+    → OnErr result (StaysSeated seat seat' × (new ≡ old)) → Returns t seat'.view mine1 locked2 mine2
     → CalledManaged t mine locked2 mine2 new result (λ x. numbered x.0 (made_by t index o x.1 cites))
 called_managed t index o cites told order locked mine mine1 locked2 mine2 seat seat' old new (Ok x) is pass owns short ks may stand l d e b =
     let j = lent_joined t locked mine seat.view mine1 l ks.known may.stands.known in
     let now = thread_may t j.joined.known.past mine (made_by t index o x.1 cites) (told x) may (own_told t locked mine seat.view mine1 l ks.known may.stands.known pass) in
-    let w = did_managed_by t locked mine mine1 locked2 mine2 order seat seat' old new (numbered x.0 (made_by t index o x.1 cites)) (told x) may.stands.known is pass owns refl short ks l now stand d b in
+    let w = did_managed_by t locked mine mine1 locked2 mine2 order seat seat' old new
+    (numbered x.0 (made_by t index o x.1 cites)) (told x) may.stands.known is pass owns refl short ks l now stand d b in
     record { knows = w.knows; ok = subst (Makes t mine mine2) d.entry w.makes; reads = w.reads; err = tt }
 called_managed t index o cites told order locked mine mine1 locked2 mine2 seat seat' old new (Err x) is pass owns short ks may stand l d e b =
     let back = returns_seated t seat seat' mine1 locked2 mine2 e.0 b in
@@ -387,9 +424,11 @@ pub record CalledPeer {E : Type 0} (t : Thread) (mine locked2 mine2 : View) (sid
   pub reads : ReadsStay t mine mine2
   pub err : OnErr result (MakesNone t mine mine2)
 
-pub called_peer : {E : Type 0} (t : Thread) (index : ℕ) (o : Op) (cites : Option ℕ) (order : OrderId) (locked mine mine1 locked2 mine2 : View) (seat seat' : Shown) (old new : Side PeerReplay) (result : Result (ℕ × Reply) E)
+pub called_peer : {E : Type 0} (t : Thread) (index : ℕ) (o : Op) (cites : Option ℕ) (order : OrderId)
+    (locked mine mine1 locked2 mine2 : View) (seat seat' : Shown) (old new : Side PeerReplay) (result : Result (ℕ × Reply) E)
     → IsThread t → HoldsPass t mine → Owns locked 1 → index < 2 ^ 32 → PeerKnows locked old → MayMake t mine index o cites → Lends t locked mine seat.view mine1
-    → IfOk result (λ x. DrawsEvent order seat seat' old new (numbered x.0 (made_by t index o x.1 cites))) → OnErr result (StaysSeated seat seat' × (new ≡ old)) → Returns t seat'.view mine1 locked2 mine2
+    → IfOk result (λ x. DrawsEvent order seat seat' old new (numbered x.0 (made_by t index o x.1 cites)))
+    → OnErr result (StaysSeated seat seat' × (new ≡ old)) → Returns t seat'.view mine1 locked2 mine2
     → CalledPeer t mine locked2 mine2 new result (λ x. numbered x.0 (made_by t index o x.1 cites))
 called_peer t index o cites order locked mine mine1 locked2 mine2 seat seat' old new (Ok x) is pass owns short ks may l d e b =
     let j = lent_joined t locked mine seat.view mine1 l ks.known may.stands.known in
@@ -407,11 +446,13 @@ called_peer t index o cites order locked mine mine1 locked2 mine2 seat seat' old
 
 -- what the seat knew and owned after an event of the peer side
 module _ {E : Type 0} (order : OrderId) (seat seat' : Shown) (old new : Side PeerReplay) (make : ℕ × Reply → Entry) where
-  pub event_more : (result : Result (ℕ × Reply) E) → IfOk result (λ x. DrawsEvent order seat seat' old new (make x)) → OnErr result (StaysSeated seat seat' × (new ≡ old)) → (i : ℕ) → IsPrefix (known seat.view i) (known seat'.view i)
+  pub event_more : (result : Result (ℕ × Reply) E) → IfOk result (λ x. DrawsEvent order seat seat' old new (make x))
+      → OnErr result (StaysSeated seat seat' × (new ≡ old)) → (i : ℕ) → IsPrefix (known seat.view i) (known seat'.view i)
   event_more (Ok x) d e i = grows_more seat.view seat'.view 1 d.drew.kept d.drew.appends.grows i
   event_more (Err x) d e i = subst (IsPrefix (known seat.view i)) (sym (ap (λ ks. at [] ks i) e.0.known)) (prefix_refl (known seat.view i))
 
-  pub event_owns : (result : Result (ℕ × Reply) E) → IfOk result (λ x. DrawsEvent order seat seat' old new (make x)) → OnErr result (StaysSeated seat seat' × (new ≡ old)) → (i : ℕ) → Owns seat.view i → Owns seat'.view i
+  pub event_owns : (result : Result (ℕ × Reply) E) → IfOk result (λ x. DrawsEvent order seat seat' old new (make x))
+      → OnErr result (StaysSeated seat seat' × (new ≡ old)) → (i : ℕ) → Owns seat.view i → Owns seat'.view i
   event_owns (Ok x) d e i o = owns_on seat.view seat'.view 1 d.drew.kept d.drew.appends.grows i o
   event_owns (Err x) d e i o = ap (λ os. at false os i) e.0.owns ∙ o
 

@@ -45,7 +45,8 @@ read_alone (act.Read k) reply r = refl
 read_alone (act.Await k) reply r = refl
 read_alone a reply r = absurd r
 
-read_makes : (reader index : ℕ) (a : Act) (g : Got) (number : ℕ) (v w : View) → 0 < reader → reader < 9 → IsRead a → index < 2 ^ 32 → MayMake (M reader) v index (op.Line a) None → Reads reader index a g number v w → Makes (M reader) v w (entry_by (M reader) index number (op.Line a) (reply_of g) None)
+read_makes : (reader index : ℕ) (a : Act) (g : Got) (number : ℕ) (v w : View) → 0 < reader → reader < 9 → IsRead a → index < 2 ^ 32
+    → MayMake (M reader) v index (op.Line a) None → Reads reader index a g number v w → Makes (M reader) v w (entry_by (M reader) index number (op.Line a) (reply_of g) None)
 read_makes reader index a g number v w pos low read short may r =
     let k : KeptEntry = entry_of reader index a g number in
     let j = may.stands.known in
@@ -90,7 +91,8 @@ by_reader reader index a number g v w old new pos low read short x pass ks keeps
       spare = x.spare;
     }
 
-pub read_alone_by : (t : Thread) (reader index : ℕ) (a : Act) (number : ℕ) (g : Got) (v w : View) (old new : Stock) → IsManagedThread t → reader ≡ thread_number t → 0 < reader → reader < 9 → IsRead a → index < 2 ^ 32 → Answers reader index a number g v w old new
+pub read_alone_by : (t : Thread) (reader index : ℕ) (a : Act) (number : ℕ) (g : Got) (v w : View) (old new : Stock) → IsManagedThread t
+    → reader ≡ thread_number t → 0 < reader → reader < 9 → IsRead a → index < 2 ^ 32 → Answers reader index a number g v w old new
     → HoldsPass t v → CallerKnows t v → KeepsReads t v old.entries → last_index (own_in t v) ≤ index → ReadAlone t index a number g v w old new
 read_alone_by t reader index a number g v w old new is n pos low read short x =
     subst (λ u. HoldsPass u v → CallerKnows u v → KeepsReads u v old.entries → last_index (own_in u v) ≤ index → ReadAlone u index a number g v w old new) (sym (thread_of_reader t reader is n))

@@ -25,7 +25,8 @@ settled_looked v w s z = record {
   clear = s.owes ∙ z.clear;
   paid = λ c. ap (λ ds. at false ds c) s.debts ∙ z.paid c;
   stored = (s.fill ∙ z.stored.0, s.empty ∙ z.stored.1);
-  gate = λ o. subst (λ (p : ℕ × List (List KeptEntry)). ((p.0 ≡ 0) × IsClosed (at [] p.1 0)) ⊎ ((0 < p.0) × (stage (at [] p.1 0) ≡ 2 * p.0))) (λ i. (sym s.holds i, sym s.known i)) (z.gate (sym (ap (λ os. at false os 0) s.owns) ∙ o));
+  gate = λ o. subst (λ (p : ℕ × List (List KeptEntry)). ((p.0 ≡ 0) × IsClosed (at [] p.1 0)) ⊎ ((0 < p.0) × (stage (at [] p.1 0) ≡ 2 * p.0)))
+      (λ i. (sym s.holds i, sym s.known i)) (z.gate (sym (ap (λ os. at false os 0) s.owns) ∙ o));
 }
 
 pub knows_looked : (v w : View) (side : Side ManagedReplay) → StaysAs v w → ManagedKnows v side → ManagedKnows w side
@@ -58,7 +59,8 @@ appended_between order a b c d r k before h after = record {
     now : (i : ℕ) → known d.view i ≡ known c.view i
     now i = ap (λ ls. at [] ls i) after.known
 
-pub drew_between : {S : Type 0} (rules : SideRules S) (r : ℕ) (order : OrderId) (a b c d : Shown) (side side' : Side S) (e : Entry) (told : Told) → StaysSeated a b → Drew rules r order b c side side' e told → StaysSeated c d → Drew rules r order a d side side' e told
+pub drew_between : {S : Type 0} (rules : SideRules S) (r : ℕ) (order : OrderId) (a b c d : Shown) (side side' : Side S) (e : Entry) (told : Told)
+    → StaysSeated a b → Drew rules r order b c side side' e told → StaysSeated c d → Drew rules r order a d side side' e told
 drew_between rules r order a b c d side side' e told before w after = record {
   kept = w.kept;
   entry = w.entry;

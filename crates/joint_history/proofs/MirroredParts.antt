@@ -1,6 +1,7 @@
 -- The mirror edges of a contraction, read through the nodes of the dead part's graph: they lead between the same peers
 -- and temporaries, each handle of the graph is a candidate's, and there are as many of these as candidates.
-use Rattle.std.proofs.Common.{◌≡◌, inl, inr, ℕ, ◌+◌, ◌<◌, ◌≤◌, zero, suc, Bool, true, false, List, [], ◌∷◌, ◌++◌, length, length-append, map, get_or, Option, Some, None, refl, sym, ap, ◌∙◌, subst, arith, if◌then◌else◌}
+use Rattle.std.proofs.Common.{◌≡◌, inl, inr, ℕ, ◌+◌, ◌<◌, ◌≤◌, zero, suc, Bool, true, false, List, [], ◌∷◌, ◌++◌, length, length-append, map, get_or, Option, Some, None, refl, sym, ap, ◌∙◌, subst}
+use Rattle.std.proofs.Common.{arith, if◌then◌else◌}
 use Rattle.std.proofs.lemmas.Bool.{ltb-true}
 use Rattle.std.specs.Prelude.{◌-◌, nat_lt, All, Contains, IsSome, flat_map, slice_get}
 use Rattle.std.specs.Option.{option_and_then, option_map, option_to_list}
@@ -17,7 +18,8 @@ use Rattle.joint_machine.specs.Peers.{Issued, peer_of}
 use Rattle.joint_machine.specs.PeerReplay.{PeerReplay, row_of}
 use Rattle.joint_machine.proofs.Deciding.{none_some}
 use Rattle.joint_machine.proofs.HeapLemmas.{Holds-handle_of, candidates_of-open}
-use Rattle.joint_machine.proofs.Members.{All-members, Contains-at, Contains-cons_cases, Contains-here, Contains-flat_map, Contains-flat_map_cases, Contains-map, Contains-map_cases, Contains-nil, Rises-one, at-Contains}
+use Rattle.joint_machine.proofs.Members.{All-members, Contains-at, Contains-cons_cases, Contains-here, Contains-flat_map, Contains-flat_map_cases, Contains-map, Contains-map_cases, Contains-nil}
+use Rattle.joint_machine.proofs.Members.{Rises-one, at-Contains}
 use Rattle.joint_laws.specs.ManagedInvariants.{IsManagedKept}
 use Rattle.joint_laws.proofs.DriverPeerSteps.{holds-handle_of}
 use Rattle.known_laws.specs.Pasts.{HasSameDeadPart}
@@ -70,7 +72,8 @@ module _ (f : ℕ → ℕ) where
 
   -- the end of what is reported at an index
   end_at-map : (comps : List (List ℕ)) (i : ℕ) → All (λ members. 0 < length members) comps → end_at (map (map f) comps) i ≡ through (end_at comps i)
-  end_at-map comps i some = ap (λ n. if nat_lt i n then node (first_at (map (map f) comps) i) else temporary (i - n)) (length-map comps (map f)) ∙ by (nat_lt i (length comps)) (λ t. first_at-map comps i some (ltb-true i (length comps) t))
+  end_at-map comps i some = ap (λ n. if nat_lt i n then node (first_at (map (map f) comps) i) else temporary (i - n)) (length-map comps (map f))
+      ∙ by (nat_lt i (length comps)) (λ t. first_at-map comps i some (ltb-true i (length comps) t))
     where
       by : (b : Bool) → (b ≡ true → first_at (map (map f) comps) i ≡ f (first_at comps i))
           → (if b then node (first_at (map (map f) comps) i) else temporary (i - length comps)) ≡ through (if b then node (first_at comps i) else temporary (i - length comps))
@@ -153,9 +156,11 @@ module _ (t : Managed) (g : Part) (shows : ShowsHandles t g) where
   peer-same issued i = by (slice_get g.nodes i) refl
     where
       by : (o : Option Node) → slice_get g.nodes i ≡ o → peer_of_row t issued (number_at g i) ≡ peer_of_node issued g.nodes i
-      by None e = ap (λ m. peer_of_row t issued m) (number-past g.nodes i e) ∙ (ap (peer-of-held issued) (no-row t) ∙ sym (ap (λ o. peer-of-handle issued (option_and_then (λ (n : Node). n.handle) o)) e))
+      by None e = ap (λ m. peer_of_row t issued m) (number-past g.nodes i e)
+          ∙ (ap (peer-of-held issued) (no-row t) ∙ sym (ap (λ o. peer-of-handle issued (option_and_then (λ (n : Node). n.handle) o)) e))
       by (Some n) e =
-          ap (λ m. peer_of_row t issued m) (number-is g i n e) ∙ (ap (peer-of-held issued) (shows i n e) ∙ (peer-by issued n.handle ∙ sym (ap (λ o. peer-of-handle issued (option_and_then (λ (m : Node). m.handle) o)) e)))
+          ap (λ m. peer_of_row t issued m) (number-is g i n e) ∙ (ap (peer-of-held issued) (shows i n e)
+          ∙ (peer-by issued n.handle ∙ sym (ap (λ o. peer-of-handle issued (option_and_then (λ (m : Node). m.handle) o)) e)))
 
   -- so edges between nodes are carried where those between their rows are
   end-same : (issued : List Issued) (e : End) → node_end issued g.nodes e ≡ carried_end t issued (through (number_at g) e)
@@ -169,7 +174,8 @@ module _ (t : Managed) (g : Part) (shows : ShowsHandles t g) where
       ∙ (ap (λ (y : End). (carried_end t issued (through (number_at g) e.0), y) ∷ carried_to_peers issued g.nodes edges) (end-same issued e.1)
       ∙ ap (λ l. (carried_end t issued (through (number_at g) e.0), carried_end t issued (through (number_at g) e.1)) ∷ l) (carried-same issued edges))
 
-  pub carried-is : (issued : List Issued) (l : Listing) → IsListing l.comps l.heavy l.pairs → carried_to_peers issued g.nodes (mirror_edges l.comps l.pairs) ≡ carried_edges t issued (mirror_edges (numbered_comps g l.comps) l.pairs)
+  pub carried-is : (issued : List Issued) (l : Listing) → IsListing l.comps l.heavy l.pairs
+      → carried_to_peers issued g.nodes (mirror_edges l.comps l.pairs) ≡ carried_edges t issued (mirror_edges (numbered_comps g l.comps) l.pairs)
   carried-is issued l listing = carried-same issued (mirror_edges l.comps l.pairs) ∙ ap (carried_edges t issued) (sym (edges-map (number_at g) l.comps l.heavy l.pairs listing))
 
   -- a node whose row is a bridge row is a bridge node
@@ -251,7 +257,8 @@ module _ (t : Managed) (g : Part) (shows : ShowsHandles t g) (s : Managed) (c : 
       let at = at-Contains g.nodes n.0 n.1 in
       let held : handle_number n.0.handle ≡ Some w.1.0 = sym (shows at.0 n.0 at.1) ∙ (ap (handle_of t) n.2 ∙ Holds-handle_of t m w.1.0 w.1.1) in
       let k = named-handle n.0.handle w.1.0 held in
-      let one : Contains (number-if n.0) m = subst (Contains (number-if n.0)) n.2 (subst (λ (o : Option HNum). Contains (map (λ (h : HNum). n.0.number.0) (option_to_list o)) n.0.number.0) (sym k.1) (Contains-here n.0.number.0 [])) in
+      let one : Contains (number-if n.0) m = subst (Contains (number-if n.0)) n.2
+      (subst (λ (o : Option HNum). Contains (map (λ (h : HNum). n.0.number.0) (option_to_list o)) n.0.number.0) (sym k.1) (Contains-here n.0.number.0 [])) in
       Contains-flat_map number-if g.nodes n.0 m n.1 one
 
   numbered-candidate : (m : ℕ) → Contains (bridge-numbers g.nodes) m → Contains c.candidates m
@@ -265,5 +272,6 @@ module _ (t : Managed) (g : Part) (shows : ShowsHandles t g) (s : Managed) (c : 
 
   pub candidates-few : IsPart g.nodes g.edges → length (candidates_of t) ≤ length (handles_of g.nodes)
   candidates-few part =
-      let same : c.candidates ≡ bridge-numbers g.nodes = Rises-one c.candidates (bridge-numbers g.nodes) (kept.dead c opened).rise (numbers-rise g.nodes part.rising) candidate-numbered numbered-candidate in
+      let same : c.candidates ≡ bridge-numbers g.nodes = Rises-one c.candidates (bridge-numbers g.nodes)
+      (kept.dead c opened).rise (numbers-rise g.nodes part.rising) candidate-numbered numbered-candidate in
       omega (arith, ap length (candidates_of-open t c opened), ap length same, numbers-count g.nodes)

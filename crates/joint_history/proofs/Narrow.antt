@@ -18,11 +18,14 @@ use Rattle.joint_machine.specs.declared.events.Reply.{Reply}
 use Rattle.joint_machine.specs.declared.events.Reply.TheVariants as says
 use Rattle.joint_machine.specs.Components.{End}
 use Rattle.joint_machine.specs.Control.{Doing, gripped, doing_after, doing_at, control_after}
-use Rattle.joint_machine.specs.Heaps.{Heap, Answered, answer, slot, numbered_at, numbered_set, next_number, is_full, fields_of, with_var, with_field, with_object, copied, field_stored, field_set, read_into, field_got, stored}
+use Rattle.joint_machine.specs.Heaps.{Heap, Answered, answer, slot, numbered_at, numbered_set, next_number, is_full, fields_of, with_var, with_field, with_object, copied, field_stored, field_set}
+use Rattle.joint_machine.specs.Heaps.{read_into, field_got, stored}
 use Rattle.joint_machine.specs.Lines.{IsEvent, IsLine, is_peer_event}
 use Rattle.joint_machine.specs.Linked.{Linkage, MayCome, SideLawful, peer_after, linkage_after, opening_linkage}
-use Rattle.joint_machine.specs.Peers.{Peers, Strength, peer_line, peer_made, pair_made, peer_gripped, landed, name_given, globalised, name_freed, peer_read, name_read, peer_name, handle_name, next_handle, handles_full, with_peer, with_handle, sort_of, peer_of, held, raw, strong}
-use Rattle.joint_machine.specs.PeerReplay.{PeerReplay, Marking, TableRow, peer_answer, peer_thread_line, bring_by, sliced, begun, swept, swept_of, is_thread, restored_by, row_of, mirrored, table_target, renewed_on, withdrawn}
+use Rattle.joint_machine.specs.Peers.{Peers, Strength, peer_line, peer_made, pair_made, peer_gripped, landed, name_given, globalised, name_freed, peer_read, name_read, peer_name, handle_name}
+use Rattle.joint_machine.specs.Peers.{next_handle, handles_full, with_peer, with_handle, sort_of, peer_of, held, raw, strong}
+use Rattle.joint_machine.specs.PeerReplay.{PeerReplay, Marking, TableRow, peer_answer, peer_thread_line, bring_by, sliced, begun, swept, swept_of, is_thread, restored_by, row_of, mirrored}
+use Rattle.joint_machine.specs.PeerReplay.{table_target, renewed_on, withdrawn}
 use Rattle.joint_machine.specs.Run.{thread_number}
 use Rattle.joint_machine.specs.Told.{Told, Noted, references_of, slice_of, sweep_of}
 use Rattle.joint_machine.proofs.Deciding.{none_some}
@@ -47,7 +50,8 @@ row_narrow (Some gs) fs e l = subst (λ xs. length xs ≤ 16) (e gs refl) l
 field_narrow : (h : Heap) (x i : ℕ) (o : Option ℕ) → AreNarrow h → AreNarrow (with_field h x i o)
 field_narrow h x i o k y = ⊎_elim
     (λ (e : y ≡ x). subst (λ z. length (fields_of (with_field h x i o) z) ≤ 16) (sym e)
-    (row_narrow (numbered_at (with_field h x i o).fields x) (set (fields_of h x) i o) (λ gs q. numbered_set-same h.fields x (set (fields_of h x) i o) gs q) (let w = length-set (fields_of h x) i o in let b = k x in omega arith)))
+    (row_narrow (numbered_at (with_field h x i o).fields x) (set (fields_of h x) i o)
+    (λ gs q. numbered_set-same h.fields x (set (fields_of h x) i o) gs q) (let w = length-set (fields_of h x) i o in let b = k x in omega arith)))
     (λ (n : y ≡ x → ⊥). subst (λ fs. length fs ≤ 16) (sym (with_field-other h x i o y n)) (k y))
     (cases_eq y x)
 
@@ -87,7 +91,8 @@ module _ (h : Heap) (k : AreNarrow h) where
       ranged x true = k
       ranged x false = stored_narrow x i w
 
-      by : (o : Option ℕ) → AreNarrow (elim o as (λ z. Answered Heap) [ None ↦ answer says.Empty h | Some x ↦ if nat_le (length (fields_of h x)) i then answer says.Range h else field_stored h x i w ]).state
+      by : (o : Option ℕ) → AreNarrow (elim o as (λ z. Answered Heap)
+          [ None ↦ answer says.Empty h | Some x ↦ if nat_le (length (fields_of h x)) i then answer says.Range h else field_stored h x i w ]).state
       by None = k
       by (Some x) = ranged x (nat_le (length (fields_of h x)) i)
 
@@ -102,7 +107,8 @@ module _ (h : Heap) (k : AreNarrow h) where
       ranged x true = k
       ranged x false = into_narrow v (slot (fields_of h x) i)
 
-      by : (o : Option ℕ) → AreNarrow (elim o as (λ z. Answered Heap) [ None ↦ answer says.Empty h | Some x ↦ if nat_le (length (fields_of h x)) i then answer says.Range h else read_into peer_name h v (slot (fields_of h x) i) ]).state
+      by : (o : Option ℕ) → AreNarrow (elim o as (λ z. Answered Heap)
+          [ None ↦ answer says.Empty h | Some x ↦ if nat_le (length (fields_of h x)) i then answer says.Range h else read_into peer_name h v (slot (fields_of h x) i) ]).state
       by None = k
       by (Some x) = ranged x (nat_le (length (fields_of h x)) i)
 
@@ -130,14 +136,16 @@ module _ (s : Peers) (k : AreNarrow s.heap) where
   made_narrow : (v n : ℕ) → n ≤ 16 → AreNarrow (peer_made s v n).state.heap
   made_narrow v n l = by (is_full s.heap.fields)
     where
-      by : (b : Bool) → AreNarrow (if b then answer says.Full s else (let grown = with_peer s Framework n in answer (peer_name (next_number s.heap)) (record grown { heap = with_var grown.heap v (Some (next_number s.heap)) }))).state.heap
+      by : (b : Bool) → AreNarrow (if b then answer says.Full s else
+          (let grown = with_peer s Framework n in answer (peer_name (next_number s.heap)) (record grown { heap = with_var grown.heap v (Some (next_number s.heap)) }))).state.heap
       by true = k
       by false = object_narrow s.heap n l k
 
   pair_narrow : (sort : Sort) (n : ℕ) → n ≤ 16 → AreNarrow (pair_made s sort n).state.heap
   pair_narrow sort n l = by (is_full s.heap.fields || handles_full s)
     where
-      by : (b : Bool) → AreNarrow (if b then answer says.Full s else answer (says.Made record { 0 = next_number s.heap } record { 0 = next_handle s }) (with_handle (with_peer s sort n) (next_number s.heap) held strong)).state.heap
+      by : (b : Bool) → AreNarrow (if b then answer says.Full s else answer (says.Made record { 0 = next_number s.heap } record { 0 = next_handle s })
+          (with_handle (with_peer s sort n) (next_number s.heap) held strong)).state.heap
       by true = k
       by false = object_narrow s.heap n l k
 
@@ -145,7 +153,8 @@ module _ (s : Peers) (k : AreNarrow s.heap) where
   gripped_narrow None = k
   gripped_narrow (Some p) = by (handles_full s)
     where
-      by : (b : Bool) → AreNarrow (if b then answer says.Full s else answer (says.Gripped record { 0 = p } record { 0 = next_handle s } (sort_of s p) (length (fields_of s.heap p))) (with_handle s p held strong)).state.heap
+      by : (b : Bool) → AreNarrow (if b then answer says.Full s else answer
+          (says.Gripped record { 0 = p } record { 0 = next_handle s } (sort_of s p) (length (fields_of s.heap p))) (with_handle s p held strong)).state.heap
       by true = k
       by false = k
 
@@ -157,7 +166,8 @@ module _ (s : Peers) (k : AreNarrow s.heap) where
   named_narrow g p st (Some h) = k
   named_narrow g p st None = by (handles_full s)
     where
-      by : (b : Bool) → AreNarrow (if b then answer says.Full s else (let grown = with_handle s p raw st in answer (handle_name (next_handle s)) (record grown { names = slice_set s.names g (Some (next_handle s)) }))).state.heap
+      by : (b : Bool) → AreNarrow (if b then answer says.Full s else
+          (let grown = with_handle s p raw st in answer (handle_name (next_handle s)) (record grown { names = slice_set s.names g (Some (next_handle s)) }))).state.heap
       by true = k
       by false = k
 
@@ -213,7 +223,9 @@ sliced_narrow : (s : PeerReplay) (o : Option Marking) (t : Thread) (n : ℕ) (cl
 sliced_narrow s None t n closure k = k
 sliced_narrow s (Some mk) t n closure k = by (is_thread t mk.by)
   where
-    by : (b : Bool) → AreNarrow (if b then (let black = mk.blackened + min n (length closure - mk.blackened) in answer (if nat_lt black (length closure) then says.More else says.Done) (record s { marking = Some (record mk { blackened = black }) })) else answer (says.MarkOpen record { 0 = mk.number }) s).state.peers.heap
+    by : (b : Bool) → AreNarrow (if b then (let black = mk.blackened + min n (length closure - mk.blackened) in
+        answer (if nat_lt black (length closure) then says.More else says.Done) (record s { marking = Some (record mk { blackened = black }) })) else answer
+        (says.MarkOpen record { 0 = mk.number }) s).state.peers.heap
     by true = k
     by false = k
 
@@ -285,7 +297,8 @@ grips_few : (num line : ℕ) (s : Peers) (x : StaticNo) (o : Option ℕ) (reply 
 grips_few num line s x None reply k e = subst (λ z. GripsFew (doing_after num line (op.Grip x) z)) (sym e) tt
 grips_few num line s x (Some q) reply k e = by (handles_full s) e
   where
-    by : (b : Bool) → reply ≡ (if b then answer says.Full s else answer (says.Gripped record { 0 = q } record { 0 = next_handle s } (sort_of s q) (length (fields_of s.heap q))) (with_handle s q held strong)).reply → GripsFew (doing_after num line (op.Grip x) reply)
+    by : (b : Bool) → reply ≡ (if b then answer says.Full s else answer (says.Gripped record { 0 = q } record { 0 = next_handle s } (sort_of s q) (length (fields_of s.heap q)))
+        (with_handle s q held strong)).reply → GripsFew (doing_after num line (op.Grip x) reply)
     by true f = subst (λ z. GripsFew (doing_after num line (op.Grip x) z)) (sym f) tt
     by false f = subst (λ z. GripsFew (doing_after num line (op.Grip x) z)) (sym f) (k q)
 
@@ -331,4 +344,5 @@ none_made zero = omega arith
 none_made (suc x) = omega arith
 
 pub past_grips_few : (h : List Noted) → Lawful h → (t : ℕ) → GripsFew (doing_at (end_of h).control t)
-past_grips_few h l = (past-all HasFewFields (record { heap = none_made; grips = λ t. subst GripsFew (sym (opening-free 9 t)) tt }) few_step (λ s p w. record { heap = w.heap; grips = w.grips }) h l).grips
+past_grips_few h l = (past-all HasFewFields (record { heap = none_made; grips = λ t. subst GripsFew (sym (opening-free 9 t)) tt }) few_step
+    (λ s p w. record { heap = w.heap; grips = w.grips }) h l).grips

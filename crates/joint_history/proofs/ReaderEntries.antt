@@ -70,14 +70,17 @@ item_in i n (x ∷ xs) k r c = ⊎_elim
 in_its_list : (v w : View) (r : ℕ) (k : KeptEntry) → r < 10 → GrowsByEntry v w r k → BeginsOneHistory w → IsInRole r k.entry.made
 in_its_list v w r k small g o =
     let p = o.begins r in
-    let here : Contains (of_line r o.whole) k = subst (λ l. Contains l k) p.1 (Contains-append_left (known w r) p.0 k (subst (λ l. Contains l k) (sym g.role) (Contains-append_right (known v r) (k ∷ []) k (Contains-here k [])))) in
+    let here : Contains (of_line r o.whole) k = subst (λ l. Contains l k) p.1
+    (Contains-append_left (known w r) p.0 k (subst (λ l. Contains l k) (sym g.role) (Contains-append_right (known v r) (k ∷ []) k (Contains-here k [])))) in
     let x = item_in r 0 o.whole k o.numbers here in
     ⊎_elim
     (λ (e : r ≡ x.0.role). subst (λ (z : ℕ × KeptEntry). IsInRole z.0 z.1.entry.made) (λ i. (sym e i, x.1 i)) x.3)
     (λ (e : r ≡ caller_line x.0.kept.entry.made.caller). absurd (omega (arith, e, small)))
     (in_cases r x.0 x.2)
 
-module _ (reader index : ℕ) (a : Act) (g : Got) (number : ℕ) (mine before after : View) (j : IsDrawnView before) (pos : 0 < reader) (low : reader < 9) (read : IsRead a) (short : index < 2 ^ 32) (may : MayMake (M reader) mine index (op.Line a) None) (own : line (caller_line (M reader)) j.known.past ≡ line (caller_line (M reader)) may.stands.known.known.past) (r : Reads reader index a g number before after) where
+module _ (reader index : ℕ) (a : Act) (g : Got) (number : ℕ) (mine before after : View) (j : IsDrawnView before) (pos : 0 < reader)
+    (low : reader < 9) (read : IsRead a) (short : index < 2 ^ 32) (may : MayMake (M reader) mine index (op.Line a) None)
+    (own : line (caller_line (M reader)) j.known.past ≡ line (caller_line (M reader)) may.stands.known.known.past) (r : Reads reader index a g number before after) where
   is : IsManagedThread (M reader)
   is = (pos, omega (arith, low))
 
@@ -93,7 +96,8 @@ module _ (reader index : ℕ) (a : Act) (g : Got) (number : ℕ) (mine before af
       (subst IsDone (sym (doing_told (M reader) j.known.past may.stands.known.known.past own ∙ may.stands.doing)) (start_is_done may.doing may.turn)) refl
 
   pub reader_entered : Entered (M reader) mine after j.known.past k nothing
-  reader_entered = entered (M reader) mine before after (1 + reader) k nothing j is refl r.grows (in_its_list before after (1 + reader) k (omega (arith, low)) r.grows r.one_history) r.above refl draws comes
+  reader_entered = entered (M reader) mine before after (1 + reader) k nothing j is refl r.grows
+      (in_its_list before after (1 + reader) k (omega (arith, low)) r.grows r.one_history) r.above refl draws comes
 
   -- the managed side's state is what it was
   pub managed_stays : (end_of reader_entered.grown.known.known.past).managed ≡ (end_of j.known.past).managed

@@ -108,7 +108,8 @@ was_to_mark (snapped p) num (op.Contract k) reply (contraction_of comps heavy pa
 was_to_mark (contracted p comps heavy pairs) num (op.Mirror k) reply told n w = absurd n
 was_to_mark st num o reply told n w = absurd w
 
-own_due : (st : Stand) (m : Managed) (i : List Issued) (num : ℕ) (o : Op) (reply : Reply) (cites : Option ℕ) (told : Told) (due : Bool) → DriverAllows st m i o reply cites told → (IsToMark st → due ≡ true) → IsToMark (stand_after st num o reply told) → due_after C o due ≡ true
+own_due : (st : Stand) (m : Managed) (i : List Issued) (num : ℕ) (o : Op) (reply : Reply) (cites : Option ℕ) (told : Told) (due : Bool)
+    → DriverAllows st m i o reply cites told → (IsToMark st → due ≡ true) → IsToMark (stand_after st num o reply told) → due_after C o due ≡ true
 own_due st m i num (op.Mirror k) reply cites told due a f w = refl
 own_due (weakening p count x y) m i num op.Begin reply cites told due a f w = absurd w
 own_due st m i num op.Begin reply cites told due a f w = absurd w
@@ -122,10 +123,12 @@ due_at_end (x ∷ h) l w = due_line x h ∙ by x.entry.made.caller (due_at_end h
   where
     by : (t : Thread) → (IsToMark (end_of h).control.stand → is_marking_due (entries (line 1 h)) ≡ true)
         → CallerAllows (end_of h).control (end_of h).managed.managed (end_of h).peer.peers.issued t x.entry.made.index x.entry.made.op x.entry.made.reply x.entry.made.cites (bare_told x.told)
-        → IsToMark (control_after (end_of h).control t x.entry.number x.entry.made.index x.entry.made.op x.entry.made.reply (bare_told x.told)).stand → due_after t x.entry.made.op (is_marking_due (entries (line 1 h))) ≡ true
+        → IsToMark (control_after (end_of h).control t x.entry.number x.entry.made.index x.entry.made.op x.entry.made.reply (bare_told x.told)).stand
+        → due_after t x.entry.made.op (is_marking_due (entries (line 1 h))) ≡ true
     by (M n) f a v = f v
     by (P n) f a v = f v
-    by C f a v = own_due (end_of h).control.stand (end_of h).managed.managed (end_of h).peer.peers.issued x.entry.number x.entry.made.op x.entry.made.reply x.entry.made.cites (bare_told x.told) (is_marking_due (entries (line 1 h))) a f v
+    by C f a v = own_due (end_of h).control.stand (end_of h).managed.managed
+        (end_of h).peer.peers.issued x.entry.number x.entry.made.op x.entry.made.reply x.entry.made.cites (bare_told x.told) (is_marking_due (entries (line 1 h))) a f v
 
 -- more is known of one history
 pub record KnowsOn (v w : View) : Type 0 where
@@ -147,18 +150,25 @@ seated_on v seat seat' s k =
     let same : (i : ℕ) → known seat'.view i ≡ known seat.view i = λ i. ap (λ ks. at [] ks i) s.known in
     record { more = λ i. subst (IsPrefix (known v i)) (sym (same i)) (k.more i); one_history = same_history seat.view seat'.view same k.one_history }
 
-pub drew_on : (t : Thread) (locked mine mine1 : View) (order : OrderId) (seat seat' : Shown) (old new : PeerModel) (e : Entry) (told : Told) → Lends t locked mine seat.view mine1 → Drew peer_rules 1 order seat seat' (seen old) (seen new) e told → KnowsOn locked seat'.view
-drew_on t locked mine mine1 order seat seat' old new e told l d = record { more = λ i. prefix_trans (known locked i) (known seat.view i) (known seat'.view i) (l.knew i) (grows_more seat.view seat'.view 1 d.kept d.appends.grows i); one_history = d.appends.one_history }
+pub drew_on : (t : Thread) (locked mine mine1 : View) (order : OrderId) (seat seat' : Shown) (old new : PeerModel) (e : Entry) (told : Told)
+    → Lends t locked mine seat.view mine1 → Drew peer_rules 1 order seat seat' (seen old) (seen new) e told → KnowsOn locked seat'.view
+drew_on t locked mine mine1 order seat seat' old new e told l
+    d = record {
+      more = λ i. prefix_trans (known locked i) (known seat.view i) (known seat'.view i) (l.knew i) (grows_more seat.view seat'.view 1 d.kept d.appends.grows i);
+      one_history = d.appends.one_history;
+    }
 
 -- a mirror that stands stood before, and the handles weakened and those that may still be are no fewer
 abbrev pub KeepsRoom : PeerReplay → PeerReplay → ℕ → ℕ → Type 0
 KeepsRoom s t left left' = (n : Mirror) → t.mirror ≡ Some n → (m : Mirror) × (s.mirror ≡ Some m) × (m.snap ≡ n.snap) × (length m.weakened + left ≤ length n.weakened + left')
 
-pub room_stays : (v w : View) (a : IsDrawnView v) (b : IsDrawnView w) (left left' : ℕ) → KnowsOn v w → KeepsRoom (end_of a.known.past).peer (end_of b.known.past).peer left left' → HasRoomToWeaken (end_of a.known.past) left → HasRoomToWeaken (end_of b.known.past) left'
+pub room_stays : (v w : View) (a : IsDrawnView v) (b : IsDrawnView w) (left left' : ℕ) → KnowsOn v w
+    → KeepsRoom (end_of a.known.past).peer (end_of b.known.past).peer left left' → HasRoomToWeaken (end_of a.known.past) left → HasRoomToWeaken (end_of b.known.past) left'
 room_stays v w a b left left' on keeps room n e =
     let x = keeps n e in
     let whole = whole_kept on.one_history.whole in
-    let same = ap length (mirrored_candidates_stay whole (λ i. of_drawn (drawn_lines v i)) (λ i. of_drawn (drawn_lines w i)) a.known b.known (whole_numbered 0 on.one_history.whole on.one_history.numbers)
+    let same = ap length (mirrored_candidates_stay whole (λ i. of_drawn (drawn_lines v i))
+    (λ i. of_drawn (drawn_lines w i)) a.known b.known (whole_numbered 0 on.one_history.whole on.one_history.numbers)
     (drawn_begins w on.one_history v on.more) (drawn_begins w on.one_history w (λ i. prefix_refl (known w i))) x.0 n x.1 e x.2) in
     let enough = room x.0 x.1 in
     let more = x.3 in
@@ -174,13 +184,15 @@ pub reserves_on : (v w : View) (old new : PeerModel) → PeerKnows v (seen old) 
 reserves_on v w old new ks on k r = record {
   none_waits = k.waiting ∙ r.none_waits;
   room = λ b e. room_stays v w ks.known b old.reserve.left new.reserve.left on
-      (subst (λ (s : PeerReplay). KeepsRoom s (end_of b.known.past).peer old.reserve.left new.reserve.left) (sym ks.state) (subst (λ (s : PeerReplay). KeepsRoom old.state s old.reserve.left new.reserve.left) (sym e) k.room))
+      (subst (λ (s : PeerReplay). KeepsRoom s (end_of b.known.past).peer old.reserve.left new.reserve.left) (sym ks.state)
+      (subst (λ (s : PeerReplay). KeepsRoom old.state s old.reserve.left new.reserve.left) (sym e) k.room))
       (r.room ks.known ks.state);
   marking = k.marking r.marking;
 }
 
 -- by one past that is known it holds by all
-pub room_by_one : (v : View) (s : PeerReplay) (left : ℕ) (a : IsDrawnView v) → BeginsOneHistory v → (end_of a.known.past).peer ≡ s → HasRoomToWeaken (end_of a.known.past) left → (k : IsDrawnView v) → (end_of k.known.past).peer ≡ s → HasRoomToWeaken (end_of k.known.past) left
+pub room_by_one : (v : View) (s : PeerReplay) (left : ℕ) (a : IsDrawnView v) → BeginsOneHistory v → (end_of a.known.past).peer ≡ s
+    → HasRoomToWeaken (end_of a.known.past) left → (k : IsDrawnView v) → (end_of k.known.past).peer ≡ s → HasRoomToWeaken (end_of k.known.past) left
 room_by_one v s left a o e room k f = room_stays v v a k left left (record { more = λ i. prefix_refl (known v i); one_history = o })
     (λ n g. (n, ap (λ (r : PeerReplay). r.mirror) (e ∙ sym f) ∙ g, refl, (let same : length n.weakened + left ≡ length n.weakened + left = refl in omega (arith, same)))) room
 
@@ -201,7 +213,13 @@ module _ (order : OrderId) (seat seat' : Shown) (old new : PeerModel) (e : Entry
   pub quiet_kept : new.reserve ≡ old.reserve → IsUnmirroring e.made.op → ((due : Bool) → due_after e.made.caller e.made.op due ≡ due) → KeepsReserve old new
   quiet_kept r x quiet = record {
     waiting = ap (λ (x : Reserve). x.waiting) r;
-    room = λ n f. (n, sym (ap (λ (s : PeerReplay). s.mirror) d.goes.state ∙ (same_mirror_after old.state e.made told true x).mirror) ∙ f, refl, (let l = ap (λ (x : Reserve). x.left) r in omega (arith, l)));
+    room = λ n f. (
+      n,
+      sym (ap (λ (s : PeerReplay). s.mirror) d.goes.state ∙ (same_mirror_after old.state e.made told true x).mirror)
+          ∙ f,
+      refl,
+      (let l = ap (λ (x : Reserve). x.left) r in omega (arith, l)),
+    );
     marking = λ q. ap (λ (x : Reserve). x.marking) r ∙ (q ∙ sym (due_new ∙ quiet (is_marking_due old.entries)));
   }
 
@@ -218,14 +236,16 @@ renewed_on : (o : Option Mirror) (h g : ℕ) (n : Mirror) → with_given (with_r
 renewed_on None h g n e = absurd (none_some n e)
 renewed_on (Some m) h g n e = (m, refl, ap (λ (z : Mirror). z.snap) (same_Some _ n e), ap (λ (z : Mirror). length z.weakened) (same_Some _ n e))
 
-restored_keeps : (s : PeerReplay) (h : ℕ) (o : Option TableRow) (n : Mirror) → (restored_by s h o).state.mirror ≡ Some n → (m : Mirror) × (s.mirror ≡ Some m) × (m.snap ≡ n.snap) × (length m.weakened ≡ length n.weakened)
+restored_keeps : (s : PeerReplay) (h : ℕ) (o : Option TableRow) (n : Mirror) → (restored_by s h o).state.mirror ≡ Some n
+    → (m : Mirror) × (s.mirror ≡ Some m) × (m.snap ≡ n.snap) × (length m.weakened ≡ length n.weakened)
 restored_keeps s h o n e =
     restored-any (λ a. a.state.mirror ≡ Some n → (m : Mirror) × (s.mirror ≡ Some m) × (m.snap ≡ n.snap) × (length m.weakened ≡ length n.weakened)) s h o
     (λ f. (n, f, refl, refl)) (λ f. restored_on s.mirror h n f) (λ p f. renewed_on s.mirror h (next_handle s.peers) n f) e
 
 -- after a draw of the driver
 module _ (order : OrderId) (seat seat' : Shown) (old new : PeerModel) (n index : ℕ) where
-  pub weaken_kept : (h : HNum) (snap : ℕ) → Drew peer_rules 1 order seat seat' (seen old) (seen new) (driver_entry n index (op.Weaken h) says.Ok (Some snap)) nothing → new.reserve ≡ reserve_left old.reserve → 1 ≤ old.reserve.left → KeepsReserve old new
+  pub weaken_kept : (h : HNum) (snap : ℕ) → Drew peer_rules 1 order seat seat' (seen old) (seen new) (driver_entry n index (op.Weaken h) says.Ok (Some snap)) nothing
+      → new.reserve ≡ reserve_left old.reserve → 1 ≤ old.reserve.left → KeepsReserve old new
   weaken_kept h snap d r some =
       let left : new.reserve.left ≡ old.reserve.left - 1 = ap (λ (x : Reserve). x.left) r in
       record {
@@ -234,16 +254,19 @@ module _ (order : OrderId) (seat seat' : Shown) (old new : PeerModel) (n index :
         marking = λ q. ap (λ (x : Reserve). x.marking) r ∙ (q ∙ sym (due_new order seat seat' old new (driver_entry n index (op.Weaken h) says.Ok (Some snap)) nothing d));
       }
 
-  pub restore_kept : (h : HNum) (reply : Reply) → Drew peer_rules 1 order seat seat' (seen old) (seen new) (driver_entry n index (op.Restore h) reply None) nothing → new.reserve ≡ old.reserve → KeepsReserve old new
+  pub restore_kept : (h : HNum) (reply : Reply) → Drew peer_rules 1 order seat seat' (seen old) (seen new) (driver_entry n index (op.Restore h) reply None) nothing
+      → new.reserve ≡ old.reserve → KeepsReserve old new
   restore_kept h reply d r =
       let left : new.reserve.left ≡ old.reserve.left = ap (λ (x : Reserve). x.left) r in
       record {
         waiting = ap (λ (x : Reserve). x.waiting) r;
-        room = λ m f. (let x = restored_keeps old.state h.0 (row_of old.state h.0) m (sym (ap (λ (s : PeerReplay). s.mirror) d.goes.state) ∙ f) in let same = x.3 in (x.0, x.1, x.2, omega (arith, same, left)));
+        room = λ m f. (let x = restored_keeps old.state h.0 (row_of old.state h.0) m (sym (ap (λ (s : PeerReplay). s.mirror) d.goes.state) ∙ f) in
+            let same = x.3 in (x.0, x.1, x.2, omega (arith, same, left)));
         marking = λ q. ap (λ (x : Reserve). x.marking) r ∙ (q ∙ sym (due_new order seat seat' old new (driver_entry n index (op.Restore h) reply None) nothing d));
       }
 
-  pub clear_kept : (k : Cycle) → Drew peer_rules 1 order seat seat' (seen old) (seen new) (driver_entry n index (op.Clear k) says.Ok None) nothing → new.reserve ≡ reserve_over old.reserve → KeepsReserve old new
+  pub clear_kept : (k : Cycle) → Drew peer_rules 1 order seat seat' (seen old) (seen new) (driver_entry n index (op.Clear k) says.Ok None) nothing
+      → new.reserve ≡ reserve_over old.reserve → KeepsReserve old new
   clear_kept k d r = record {
     waiting = ap (λ (x : Reserve). x.waiting) r;
     room = λ m f. absurd (none_some m (sym (ap (λ (s : PeerReplay). s.mirror) d.goes.state) ∙ f));
@@ -251,18 +274,26 @@ module _ (order : OrderId) (seat seat' : Shown) (old new : PeerModel) (n index :
   }
 
   -- the own marking is begun
-  pub begin_kept : (reply : Reply) → Drew peer_rules 1 order seat seat' (seen old) (seen new) (driver_entry n index op.Begin reply None) nothing → old.reserve.marking ≡ true → new.reserve ≡ reserve_begun (is_own C old.reserve.marking) old.reserve → KeepsReserve old new
+  pub begin_kept : (reply : Reply) → Drew peer_rules 1 order seat seat' (seen old) (seen new) (driver_entry n index op.Begin reply None) nothing
+      → old.reserve.marking ≡ true → new.reserve ≡ reserve_begun (is_own C old.reserve.marking) old.reserve → KeepsReserve old new
   begin_kept reply d due r =
       let begun : new.reserve ≡ record old.reserve { marking = false } = r ∙ ap (λ b. reserve_begun b old.reserve) due in
       let left : new.reserve.left ≡ old.reserve.left = ap (λ (x : Reserve). x.left) begun in
       record {
         waiting = ap (λ (x : Reserve). x.waiting) begun;
-        room = λ m f. (m, sym (ap (λ (s : PeerReplay). s.mirror) d.goes.state ∙ (same_mirror_after old.state (driver_entry n index op.Begin reply None).made nothing true tt).mirror) ∙ f, refl, omega (arith, left));
+        room = λ m f. (
+          m,
+          sym (ap (λ (s : PeerReplay). s.mirror) d.goes.state ∙ (same_mirror_after old.state (driver_entry n index op.Begin reply None).made nothing true tt).mirror)
+              ∙ f,
+          refl,
+          omega (arith, left),
+        );
         marking = λ q. ap (λ (x : Reserve). x.marking) begun ∙ sym (due_new order seat seat' old new (driver_entry n index op.Begin reply None) nothing d);
       }
 
 -- the locked seat after a draw and the handing back
-pub drew_reserves : (t : Thread) (locked mine mine1 locked2 mine2 : View) (order : OrderId) (seat seat' : Shown) (old new : PeerModel) (e : Entry) (told : Told) → PeerKnows locked (seen old) → PeerReserves locked old → Lends t locked mine seat.view mine1
+pub drew_reserves : (t : Thread) (locked mine mine1 locked2 mine2 : View) (order : OrderId) (seat seat' : Shown) (old new : PeerModel) (e : Entry) (told : Told)
+    → PeerKnows locked (seen old) → PeerReserves locked old → Lends t locked mine seat.view mine1
     → Drew peer_rules 1 order seat seat' (seen old) (seen new) e told → Returns t seat'.view mine1 locked2 mine2 → KeepsReserve old new → PeerReserves locked2 new
 drew_reserves t locked mine mine1 locked2 mine2 order seat seat' old new e told ks r l d b k =
     reserves_on locked locked2 old new ks (back_on t locked seat'.view mine1 locked2 mine2 (drew_on t locked mine mine1 order seat seat' old new e told l d) b) k r
@@ -287,18 +318,22 @@ quiet_thread (M n) o due x = refl
 quiet_thread (P n) o due x = refl
 quiet_thread C o due x = absurd (x refl)
 
-pub step_reserves : {E : Type 0} (t : Thread) (index : ℕ) (o : Op) (cites : Option ℕ) (order : OrderId) (locked mine mine1 locked2 mine2 : View) (seat seat' : Shown) (old new : PeerModel) (result : Result (ℕ × Reply) E) → IsPeerCall t o → PeerKnows locked (seen old) → PeerReserves locked old
-    → Lends t locked mine seat.view mine1 → IfOk result (λ x. DrawsEvent order seat seat' (seen old) (seen new) (numbered x.0 (made_by t index o x.1 cites))) → OnErr result (StaysSeated seat seat' × (seen new ≡ seen old)) → new.reserve ≡ old.reserve
+pub step_reserves : {E : Type 0} (t : Thread) (index : ℕ) (o : Op) (cites : Option ℕ) (order : OrderId) (locked mine mine1 locked2 mine2 : View)
+    (seat seat' : Shown) (old new : PeerModel) (result : Result (ℕ × Reply) E) → IsPeerCall t o → PeerKnows locked (seen old) → PeerReserves locked old
+    → Lends t locked mine seat.view mine1 → IfOk result (λ x. DrawsEvent order seat seat' (seen old) (seen new) (numbered x.0 (made_by t index o x.1 cites)))
+    → OnErr result (StaysSeated seat seat' × (seen new ≡ seen old)) → new.reserve ≡ old.reserve
     → Returns t seat'.view mine1 locked2 mine2 → PeerReserves locked2 new
 step_reserves t index o cites order locked mine mine1 locked2 mine2 seat seat' old new (Ok x) is ks r l d e same b =
     let made = numbered x.0 (made_by t index o x.1 cites) in
     drew_reserves t locked mine mine1 locked2 mine2 order seat seat' old new made d.told ks r l d.drew b
     (quiet_kept order seat seat' old new made d.told d.drew same (unmirroring t o (not_driver t o is) d.drew.goes.lawful.0.event) (λ due. quiet_thread t o due (not_driver t o is)))
 step_reserves t index o cites order locked mine mine1 locked2 mine2 seat seat' old new (Err x) is ks r l d e same b =
-    reserves_on locked locked2 old new ks (back_on t locked seat'.view mine1 locked2 mine2 (seated_on locked seat seat' e.0 (lent_on t locked mine seat.view mine1 l)) b) (nothing_kept old new e.1 same) r
+    reserves_on locked locked2 old new ks (back_on t locked seat'.view mine1 locked2 mine2 (seated_on locked seat seat' e.0 (lent_on t locked mine seat.view mine1 l)) b)
+    (nothing_kept old new e.1 same) r
 
 -- before the driver's own marking begins there is room for it
-pub marking_is_due : (locked mine lent mine1 : View) (side : PeerModel) (index : ℕ) (o : OpenSnap) (count : ℕ) (weakened swept : Bool) (m : Managed) → HoldsPass C mine → Owns locked 1 → PeerKnows locked (seen side) → PeerReserves locked side → DriverStands mine index (weakening o count weakened swept) m
+pub marking_is_due : (locked mine lent mine1 : View) (side : PeerModel) (index : ℕ) (o : OpenSnap) (count : ℕ) (weakened swept : Bool) (m : Managed)
+    → HoldsPass C mine → Owns locked 1 → PeerKnows locked (seen side) → PeerReserves locked side → DriverStands mine index (weakening o count weakened swept) m
     → Lends C locked mine lent mine1 → side.reserve.marking ≡ true
 marking_is_due locked mine lent mine1 side index o count weakened swept m pass owns ks r s l =
     let j = lent_joined C locked mine lent mine1 l ks.known s.known in
@@ -307,7 +342,8 @@ marking_is_due locked mine lent mine1 side index o count weakened swept m pass o
     r.marking ∙ (ap is_marking_due same ∙ due_at_end j.joined.known.past j.joined.known.lawful (subst IsToMark (sym at.come) tt))
 
 -- before the driver weakens the next candidate's handle there is room for it
-pub weakening_has_room : (locked mine lent mine1 : View) (side : PeerModel) (index : ℕ) (o : OpenSnap) (count h : ℕ) (weakened swept : Bool) (m : Managed) → HoldsPass C mine → Owns locked 1 → PeerKnows locked (seen side) → PeerReserves locked side
+pub weakening_has_room : (locked mine lent mine1 : View) (side : PeerModel) (index : ℕ) (o : OpenSnap) (count h : ℕ) (weakened swept : Bool) (m : Managed)
+    → HoldsPass C mine → Owns locked 1 → PeerKnows locked (seen side) → PeerReserves locked side
     → DriverStands mine index (weakening o count weakened swept) m → IsCandidateHandle m count h → Lends C locked mine lent mine1 → 1 ≤ side.reserve.left
 weakening_has_room locked mine lent mine1 side index o count h weakened swept m pass owns ks r s cand l =
     let j = lent_joined C locked mine lent mine1 l ks.known s.known in
@@ -317,7 +353,8 @@ weakening_has_room locked mine lent mine1 side index o count h weakened swept m 
     let lent_r : PeerReserves lent side = reserves_on locked lent side side ks (lent_on C locked mine lent mine1 l) (nothing_kept side side refl refl) r in
     let room : HasRoomToWeaken (end_of past) side.reserve.left = lent_r.room j.joined (j.peer_first (l.whole 1 owns) ∙ ks.state) in
     let w : IsMirrorOf (end_of past).managed (end_of past).peer o count [] = subst (MirrorFits (end_of past).managed (end_of past).peer) at.come kept.mirror in
-    let few = fewer_are_weakened (end_of past) kept o count h weakened swept at.come (candidate_handle_on m (end_of past).managed.managed at.dead kept.kept.managed.managed count h cand) w.mirror w.stands in
+    let few = fewer_are_weakened (end_of past) kept o count h weakened swept at.come
+    (candidate_handle_on m (end_of past).managed.managed at.dead kept.kept.managed.managed count h cand) w.mirror w.stands in
     let enough = room w.mirror w.stands in
     omega (arith, few, enough)
 

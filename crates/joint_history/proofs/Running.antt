@@ -31,7 +31,8 @@ use Rattle.peer_heap.specs.Steps.{IsRelease}
 use Rattle.joint_history.specs.Callers.{CallerKnows, KeepsReads, last_index}
 use Rattle.joint_history.specs.Knowing.{line_known}
 use Rattle.joint_history.specs.Locked.{Makes, MakesNone, MayMake, doing_from, made_by}
-use Rattle.joint_history.specs.Operations.{AreAbove, StopsWithoutMemory, OpensOperation, IsEventLine, IsMadeByEvents, IsOwnThread, IsSideEvent, MakesAll, MayBegin, ReadsExactly, Runs, answer_of, cited_by, entry_by, first_of, second_of, third_of}
+use Rattle.joint_history.specs.Operations.{AreAbove, StopsWithoutMemory, OpensOperation, IsEventLine, IsMadeByEvents, IsOwnThread, IsSideEvent, MakesAll, MayBegin, ReadsExactly, Runs, answer_of}
+use Rattle.joint_history.specs.Operations.{cited_by, entry_by, first_of, second_of, third_of}
 use Rattle.joint_history.proofs.LastLines.{last_line_is}
 use Rattle.joint_history.proofs.Narrow.{GripsFew, past_grips_few}
 use Rattle.joint_history.proofs.Turning.{first_may, met_then_release, stands_knows, then_adopt, then_land, then_meet, then_release}
@@ -129,7 +130,8 @@ first_is_made (P n) a is = peer_first n a is.0 is.1
 first_is_made C a is = absurd is
 
 -- after an entry of a grip the peer has few fields
-grip_is_narrow : (n : ℕ) (old new : View) (k index : ℕ) (x : StaticNo) (p : PNum) (h : HNum) (sort : Sort) (f : ℕ) (cites : Option ℕ) → Makes (M n) old new (numbered k (made_by (M n) index (op.Grip x) (says.Gripped p h sort f) cites)) → f ≤ 16
+grip_is_narrow : (n : ℕ) (old new : View) (k index : ℕ) (x : StaticNo) (p : PNum) (h : HNum) (sort : Sort) (f : ℕ) (cites : Option ℕ)
+    → Makes (M n) old new (numbered k (made_by (M n) index (op.Grip x) (says.Gripped p h sort f) cites)) → f ≤ 16
 grip_is_narrow n old new k index x p h sort f cites m = subst GripsFew m.stands.doing (past_grips_few m.stands.known.known.past m.stands.known.known.lawful n)
 
 -- the second event follows the first, and is one that a side makes
@@ -137,7 +139,8 @@ pub record Follows (t : Thread) (v : View) (index n : ℕ) (o : Op) : Type 0 whe
   pub may : MayMake t v index o (Some n)
   pub made : IsSideEvent t o
 
-second_follows : (n : ℕ) (old new : View) (k index : ℕ) (a : Act) (answered : Reply) (o : Op) → IsLine (M n) a → Makes (M n) old new (entry_by (M n) index k (first_of a) answered None) → second_of a answered ≡ Some o → Follows (M n) new index k o
+second_follows : (n : ℕ) (old new : View) (k index : ℕ) (a : Act) (answered : Reply) (o : Op) → IsLine (M n) a
+    → Makes (M n) old new (entry_by (M n) index k (first_of a) answered None) → second_of a answered ≡ Some o → Follows (M n) new index k o
 second_follows n old new k index (act.Bridge v kind b sort f) (says.Made p h) o is m e = subst (Follows (M n) new index k) (some-same (op.Adopt v kind b p h) o e) (record {
   may = then_adopt n old new k index sort f p h None v kind b m is;
   made = record { peer = λ z. never_peer _ z; managed = λ z. ((is.0, is.1.0, (sort, is.1.1)), is.0) };
@@ -166,17 +169,20 @@ peers_have_none n (act.Dispose v) answered o is one e = is.1
 peers_have_none n act.Collect answered o is one e = one
 peers_have_none n a answered o is one e = none_some o e
 
-pub second_comes : (t : Thread) (old new : View) (k index : ℕ) (a : Act) (answered : Reply) (o : Op) → IsMadeByEvents t a → Makes t old new (entry_by t index k (first_of a) answered None) → second_of a answered ≡ Some o → Follows t new index k o
+pub second_comes : (t : Thread) (old new : View) (k index : ℕ) (a : Act) (answered : Reply) (o : Op) → IsMadeByEvents t a
+    → Makes t old new (entry_by t index k (first_of a) answered None) → second_of a answered ≡ Some o → Follows t new index k o
 second_comes (M n) old new k index a answered o is m e = second_follows n old new k index a answered o is m e
 second_comes (P n) old new k index a answered o is m e = absurd (peers_have_none n a answered o is.0 is.1 e)
 second_comes C old new k index a answered o is m e = absurd is
 
 -- only a meet has a third event after it
-met_by : (v : Var) (p : PNum) (h : HNum) (sort : Sort) (f : ℕ) (reply : Reply) (third : Op) → third_of (op.Meet v sort f p h) reply ≡ Some third → (op.Release h ≡ third) × ((k index : ℕ) → doing_after k index (op.Meet v sort f p h) reply ≡ met k index h.0)
+met_by : (v : Var) (p : PNum) (h : HNum) (sort : Sort) (f : ℕ) (reply : Reply) (third : Op) → third_of (op.Meet v sort f p h) reply ≡ Some third
+    → (op.Release h ≡ third) × ((k index : ℕ) → doing_after k index (op.Meet v sort f p h) reply ≡ met k index h.0)
 met_by v p h sort f (says.New m) third e = absurd (none_some third e)
 met_by v p h sort f reply third e = (some-same (op.Release h) third e, λ k index. refl)
 
-third_follows : (n : ℕ) (old new : View) (j k index : ℕ) (second : Op) (reply : Reply) (third : Op) → IsManagedThread (M n) → Makes (M n) old new (entry_by (M n) index k second reply (Some j)) → third_of second reply ≡ Some third → Follows (M n) new index k third
+third_follows : (n : ℕ) (old new : View) (j k index : ℕ) (second : Op) (reply : Reply) (third : Op) → IsManagedThread (M n)
+    → Makes (M n) old new (entry_by (M n) index k second reply (Some j)) → third_of second reply ≡ Some third → Follows (M n) new index k third
 third_follows n old new j k index (op.Meet v sort f p h) reply third is m e =
     let w = met_by v p h sort f reply third e in
     subst (Follows (M n) new index k) w.0 (record {
@@ -185,7 +191,8 @@ third_follows n old new j k index (op.Meet v sort f p h) reply third is m e =
     })
 third_follows n old new j k index second reply third is m e = absurd (none_some third e)
 
-pub third_comes : (t : Thread) (old new : View) (j k index : ℕ) (a : Act) (answered : Reply) (second : Op) (reply : Reply) (third : Op) → IsMadeByEvents t a → second_of a answered ≡ Some second → Makes t old new (entry_by t index k second reply (Some j)) → third_of second reply ≡ Some third → Follows t new index k third
+pub third_comes : (t : Thread) (old new : View) (j k index : ℕ) (a : Act) (answered : Reply) (second : Op) (reply : Reply) (third : Op) → IsMadeByEvents t a
+    → second_of a answered ≡ Some second → Makes t old new (entry_by t index k second reply (Some j)) → third_of second reply ≡ Some third → Follows t new index k third
 third_comes (M n) old new j k index a answered second reply third is f m e = third_follows n old new j k index second reply third is.0 m e
 third_comes (P n) old new j k index a answered second reply third is f m e = absurd (peers_have_none n a answered second is.0 is.1 f)
 third_comes C old new j k index a answered second reply third is f m e = absurd is
@@ -215,7 +222,8 @@ stays_first n k index (act.Dispose v) (says.H h) second e keeps = absurd (keeps 
 stays_first n k index act.Collect answered second e keeps = tt
 stays_first n k index a answered second e keeps = absurd (none_some second e)
 
-met_done : (k index : ℕ) (v : Var) (p : PNum) (h : HNum) (sort : Sort) (f : ℕ) (reply : Reply) → third_of (op.Meet v sort f p h) reply ≡ None → IsDone (doing_after k index (op.Meet v sort f p h) reply)
+met_done : (k index : ℕ) (v : Var) (p : PNum) (h : HNum) (sort : Sort) (f : ℕ) (reply : Reply)
+    → third_of (op.Meet v sort f p h) reply ≡ None → IsDone (doing_after k index (op.Meet v sort f p h) reply)
 met_done k index v p h sort f (says.New m) e = tt
 met_done k index v p h sort f reply e = absurd (none_some (op.Release h) (sym e))
 
@@ -267,7 +275,8 @@ cites_first (P n) a answered second first is e = absurd (peers_have_none n a ans
 cites_first C a answered second first is e = absurd is
 
 -- the ends of an operation, at the numbers and replies of its events
-module _ (t : Thread) (index : ℕ) (a : Act) (old one : View) (first : ℕ) (answered : Reply) (start : Op) (begins : start ≡ first_of a) (makes : Makes t old one (entry_by t index first start answered None)) where
+module _ (t : Thread) (index : ℕ) (a : Act) (old one : View) (first : ℕ) (answered : Reply) (start : Op)
+    (begins : start ≡ first_of a) (makes : Makes t old one (entry_by t index first start answered None)) where
   m : Makes t old one (entry_by t index first (first_of a) answered None)
   m = subst (λ o. Makes t old one (entry_by t index first o answered None)) begins makes
 
@@ -287,7 +296,11 @@ module _ (t : Thread) (index : ℕ) (a : Act) (old one : View) (first : ℕ) (an
   -- no memory for the second event
   module _ (new : View) (second : Op) (f : second_of a answered ≡ Some second) (none : MakesNone t one new) (keeps : IsRelease second → ⊥) where
     pub broken_begins : MayBegin t new index
-    broken_begins = record { doing = doing_from t (entry_by t index first (first_of a) answered None); stands = none.stands index _ m.stands; done = of_thread t _ (λ n q. stays_first n first index a answered second f keeps) }
+    broken_begins = record {
+      doing = doing_from t (entry_by t index first (first_of a) answered None);
+      stands = none.stands index _ m.stands;
+      done = of_thread t _ (λ n q. stays_first n first index a answered second f keeps);
+    }
 
     pub broken_off : StopsWithoutMemory t old new index a
     broken_off = record {
@@ -311,7 +324,14 @@ module _ (t : Thread) (index : ℕ) (a : Act) (old one : View) (first : ℕ) (an
         answered = answered;
         rest = entry_by t index number second reply (Some first) ∷ [];
         all = refl;
-        ends = inr (inl (record { second = second; reply = reply; follows = f; no_third = e; one_more = ap (λ c. entry_by t index number second reply c ∷ []) (sym (cites_first t a answered second first is f)); answer = refl }));
+        ends = inr (inl (record {
+          second = second;
+          reply = reply;
+          follows = f;
+          no_third = e;
+          one_more = ap (λ c. entry_by t index number second reply c ∷ []) (sym (cites_first t a answered second first is f));
+          answer = refl;
+        }));
       };
     }
 
@@ -368,7 +388,8 @@ peer_makes_none (P n) old new index a is line b = ⊎_elim
     b.begun
 peer_makes_none C old new index a is line b = absurd is
 
-pub breaks_none : {A E : Type 0} (t : Thread) (old new : View) (index : ℕ) (a : Act) (result : Result A E) → IsPeerThread t → IsMadeByEvents t a → OnErr result (StopsWithoutMemory t old new index a) → OnErr result (MakesAll t old new [])
+pub breaks_none : {A E : Type 0} (t : Thread) (old new : View) (index : ℕ) (a : Act) (result : Result A E) → IsPeerThread t
+    → IsMadeByEvents t a → OnErr result (StopsWithoutMemory t old new index a) → OnErr result (MakesAll t old new [])
 breaks_none t old new index a (Ok x) is line b = tt
 breaks_none t old new index a (Err x) is line b = peer_makes_none t old new index a is line b
 
@@ -386,7 +407,8 @@ line_bare (M n) v index a cites is may = starts_bare may.doing cites may.turn
 line_bare (P n) v index a cites is may = absurd is
 line_bare C v index a cites is may = absurd is
 
-pub exact_first : (t : Thread) (old new : View) (a : Act) (start : Op) (reply : Reply) → start ≡ first_of a → (is_peer_event t start ≡ false → (b : Act) → start ≡ op.Line b → ReadsExactly t old new b reply) → ReadsExactly t old new a reply
+pub exact_first : (t : Thread) (old new : View) (a : Act) (start : Op) (reply : Reply) → start ≡ first_of a
+    → (is_peer_event t start ≡ false → (b : Act) → start ≡ op.Line b → ReadsExactly t old new b reply) → ReadsExactly t old new a reply
 exact_first (M n) old new (act.Read k) start reply e f = λ r. f (ap (is_peer_event (M n)) e) (act.Read k) e r
 exact_first (M n) old new (act.Await k) start reply e f = λ r. f (ap (is_peer_event (M n)) e) (act.Await k) e r
 exact_first (M n) old new a start reply e f = λ r. absurd r

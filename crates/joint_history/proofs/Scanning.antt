@@ -58,7 +58,8 @@ word_there [] i m e = absurd (omega (arith, e))
 word_there (w ∷ ws) zero m e = ap Some e
 word_there (w ∷ ws) (suc i) m e = word_there ws i m e
 
-pub closes_gate : (old new : Shown) (cycle : ℕ) (ws : List ℕ) (pins : List (Option MNum)) → new.order ≡ old.order → ClosesFor old.view new.view cycle → new.view.scanned ≡ scanned_row ws → length ws ≡ 8 → pins_given pins ≡ pins_of (0 ∷ ws)
+pub closes_gate : (old new : Shown) (cycle : ℕ) (ws : List ℕ) (pins : List (Option MNum)) → new.order ≡ old.order
+    → ClosesFor old.view new.view cycle → new.view.scanned ≡ scanned_row ws → length ws ≡ 8 → pins_given pins ≡ pins_of (0 ∷ ws)
     → ((i m : ℕ) → i < 8 → slice_get ws i ≡ Some (m + 1) → IsHeld (known old.view 0) (i + 1) m) → ClosesGate old new cycle pins
 closes_gate old new cycle ws pins same closes scanned eight given held = record {
   same = same;
@@ -76,7 +77,8 @@ closes_gate old new cycle ws pins same closes scanned eight given held = record 
         subst (λ r. IsHeld (known old.view 0) r m) same_place (held i m (omega (arith, few)) (word_there ws i m (e ∙ sym same_word) ∙ ap Some same_word))
 
 -- so the pins stand, as who owns the managed list knows
-pub pins_stand : (old new : Shown) (side : Side ManagedReplay) (k : ℕ) (pins : List (Option MNum)) → ManagedKnows old.view side → ClosesGate old new k pins → PinsStand side.state.managed (pins_given pins)
+pub pins_stand : (old new : Shown) (side : Side ManagedReplay) (k : ℕ) (pins : List (Option MNum))
+    → ManagedKnows old.view side → ClosesGate old new k pins → PinsStand side.state.managed (pins_given pins)
 pins_stand old new side k pins ks g = subst (λ (r : ManagedReplay). PinsStand r.managed (pins_given pins)) ks.state
     (subst (PinsStand (end_of ks.known.known.past).managed.managed) g.given (pins_of_views_stand old.view ks.known (pin_row new.view.scanned) g.held))
 
@@ -95,14 +97,16 @@ gate_owns : (old new : Shown) (k : ℕ) (pins : List (Option MNum)) → ClosesGa
 gate_owns old new k pins g i o = ap (λ os. at false os i) g.closes.owns ∙ o
 
 -- and may open the cycle
-opens_next : (old new : Shown) (side : Side ManagedReplay) (pins : List (Option MNum)) → ManagedKnows old.view side → side.state.managed.cycle ≡ None → ClosesGate old new (side.state.managed.cycles + 1) pins → MayDo new.view (opens (side.state.managed.cycles + 1))
+opens_next : (old new : Shown) (side : Side ManagedReplay) (pins : List (Option MNum)) → ManagedKnows old.view side
+    → side.state.managed.cycle ≡ None → ClosesGate old new (side.state.managed.cycles + 1) pins → MayDo new.view (opens (side.state.managed.cycles + 1))
 opens_next old new side pins ks closed g = (
   ap (λ ls. stage (at [] ls 0) + 1) g.closes.known ∙ (cycle_next old.view side ks closed).1,
   g.closes.holds,
   g.all,
 )
 
-pub snap_may : (order order' : OrderId) (old new : Shown) (side : Side ManagedReplay) (pins : List (Option MNum)) → old.order ≡ order → order' ≡ order → Owns old.view 0 → Owns old.view (caller_line C) → Settled old.view → ManagedKnows old.view side → side.state.managed.cycle ≡ None
+pub snap_may : (order order' : OrderId) (old new : Shown) (side : Side ManagedReplay) (pins : List (Option MNum)) → old.order ≡ order
+    → order' ≡ order → Owns old.view 0 → Owns old.view (caller_line C) → Settled old.view → ManagedKnows old.view side → side.state.managed.cycle ≡ None
     → ClosesGate old new (side.state.managed.cycles + 1) pins → MayAppend order' new 0 C (snap_op side.state.managed) None
 snap_may order order' old new side pins same same' owns pass s ks closed g = driver_may order' new (snap_op side.state.managed) (g.same ∙ (same ∙ sym same')) refl refl refl
     (gate_owns old new _ pins g 0 owns) (gate_owns old new _ pins g (caller_line C) pass)
@@ -110,7 +114,8 @@ snap_may order order' old new side pins same same' owns pass s ks closed g = dri
     (opens_next old new side pins ks closed g)
 
 -- what was drawn by the seat with the gate closed was drawn by the seat
-drew_before : (order : OrderId) (old gate seat' : Shown) (side side' : Side ManagedReplay) (k : ℕ) (pins : List (Option MNum)) (e : Entry) (told : Told) → ClosesGate old gate k pins → Drew managed_rules 0 order gate seat' side side' e told → Drew managed_rules 0 order old seat' side side' e told
+drew_before : (order : OrderId) (old gate seat' : Shown) (side side' : Side ManagedReplay) (k : ℕ) (pins : List (Option MNum)) (e : Entry) (told : Told)
+    → ClosesGate old gate k pins → Drew managed_rules 0 order gate seat' side side' e told → Drew managed_rules 0 order old seat' side side' e told
 drew_before order old gate seat' side side' k pins e told g d =
     let line = gate_line old gate k pins g in
     let grows = d.appends.grows in
@@ -150,9 +155,11 @@ last_same : (es : List Entry) (e f : Entry) → es ++ e ∷ [] ≡ es ++ f ∷ [
 last_same [] e f s = cc
 last_same (x ∷ es) e f s = let tails : es ++ e ∷ [] ≡ es ++ f ∷ [] = cc in last_same es e f tails
 
-pub snap_drawn : {D : Type 0} (d : Drawing D) (before after : D) (order order' order'' : OrderId) (seat gate mid : Shown) (old new : Side ManagedReplay) (index : ℕ) (pins : List (Option MNum)) (out : Opened) → seat.order ≡ order → order' ≡ order → Owns seat.view 0 → ManagedKnows seat.view old → old.state.managed.cycle ≡ None
+pub snap_drawn : {D : Type 0} (d : Drawing D) (before after : D) (order order' order'' : OrderId) (seat gate mid : Shown) (old new : Side ManagedReplay) (index : ℕ)
+    (pins : List (Option MNum)) (out : Opened) → seat.order ≡ order → order' ≡ order → Owns seat.view 0 → ManagedKnows seat.view old → old.state.managed.cycle ≡ None
     → ClosesGate seat gate (old.state.managed.cycles + 1) pins → (o : OpensBySnap d before after old new index (pins_given pins) out)
-    → Appends order' order'' gate mid 0 (kept gate.view (snap_made old.state.managed index o.freed o.candidates) None (numbers_of o.freed) o.adds.draws.adds.number) → HasSnapped order seat mid old new index out
+    → Appends order' order'' gate mid 0 (kept gate.view (snap_made old.state.managed index o.freed o.candidates) None (numbers_of o.freed) o.adds.draws.adds.number)
+    → HasSnapped order seat mid old new index out
 snap_drawn d before after order order' order'' seat gate mid old new index pins out same same' owns ks closed g o a =
     let n = o.adds.draws.adds.number in
     let m = snap_made old.state.managed index o.freed o.candidates in
@@ -167,19 +174,22 @@ snap_drawn d before after order order' order'' seat gate mid old new index pins 
         same_number = ap (λ (e : Entry). e.number) (last_same old.entries (numbered n m) (numbered out.number m) (sym o.adds.draws.adds.added ∙ o.number));
         pins = pins_given pins;
         stand = pins_stand seat gate old (old.state.managed.cycles + 1) pins ks g;
-        drew = drew_before order seat gate mid old new (old.state.managed.cycles + 1) pins (numbered n m) told g (drew_managed order order'' gate mid old new m told n (appends_in order' order order'' gate mid k same' a) o.adds.goes o.adds.draws.adds.added g.given n refl);
+        drew = drew_before order seat gate mid old new (old.state.managed.cycles + 1) pins (numbered n m) told g
+            (drew_managed order order'' gate mid old new m told n (appends_in order' order order'' gate mid k same' a) o.adds.goes o.adds.draws.adds.added g.given n refl);
         cycle = o.cycle;
         counted = o.counted;
         span = o.span;
         graph = o.graph;
       };
-      settle = to_settle order order'' gate mid old new k (knows_gate seat gate old _ pins ks g) (gate_owns seat gate _ pins g 0 owns) (g.same ∙ same) g.closes.outside (appends_in order' order order'' gate mid k same' a) refl refl
+      settle = to_settle order order'' gate mid old new k (knows_gate seat gate old _ pins ks g) (gate_owns seat gate _ pins g 0 owns)
+          (g.same ∙ same) g.closes.outside (appends_in order' order order'' gate mid k same' a) refl refl
           (frees_these old.state new.state k o.freed (ap (λ (r : ManagedReplay). r.managed.heap) o.adds.goes.state) refl);
       opened = has_opened gate.view mid.view k (old.state.managed.cycles + 1) a.grows a.paid refl (opens_next seat gate old pins ks closed g);
     }
 
 -- and is so of the seat once it is settled
-pub snapshot_still : (order : OrderId) (seat mid seat' : Shown) (side side' : Side ManagedReplay) (index : ℕ) (out : Opened) → DrawsSnapshot order seat mid side side' index out → seat'.order ≡ mid.order → seat'.view.owns ≡ mid.view.owns → seat'.view.known ≡ mid.view.known
+pub snapshot_still : (order : OrderId) (seat mid seat' : Shown) (side side' : Side ManagedReplay) (index : ℕ) (out : Opened)
+    → DrawsSnapshot order seat mid side side' index out → seat'.order ≡ mid.order → seat'.view.owns ≡ mid.view.owns → seat'.view.known ≡ mid.view.known
     → DrawsSnapshot order seat seat' side side' index out
 snapshot_still order seat mid seat' side side' index out d same owns knows = record {
   freed = d.freed;

@@ -70,12 +70,15 @@ none_freed (op.Resolve k) = refl
 none_freed o = refl
 
 -- what was appended, without what is owed
-appended_by : (order order' : OrderId) (seat seat' : Shown) (r : ℕ) (m : Made) (target : Option MNum) (freed : List MNum) (n : ℕ) → Appends order order' seat seat' r (kept seat.view m target freed n) → HasAppended order seat seat' r (kept seat.view m target freed n)
+appended_by : (order order' : OrderId) (seat seat' : Shown) (r : ℕ) (m : Made) (target : Option MNum) (freed : List MNum) (n : ℕ)
+    → Appends order order' seat seat' r (kept seat.view m target freed n) → HasAppended order seat seat' r (kept seat.view m target freed n)
 appended_by order order' seat seat' r m target freed n a = record { same = a.same; grows = a.grows; number = a.number; one_history = a.one_history }
 
 -- the managed side's entry
-pub drew_managed : (order order' : OrderId) (seat seat' : Shown) (old new : Side ManagedReplay) (m : Made) (told : Told) (n : ℕ) → Appends order order' seat seat' 0 (kept seat.view m (managed_rules.target old.state m) (managed_rules.frees told) n)
-    → GoesOn managed_rules old.state m told new.state → new.entries ≡ old.entries ++ numbered n m ∷ [] → pins_of (pins_kept seat.view m.caller m.op) ≡ pins_told told → (last : ℕ) → last ≡ n → Drew managed_rules 0 order seat seat' old new (numbered last m) told
+pub drew_managed : (order order' : OrderId) (seat seat' : Shown) (old new : Side ManagedReplay) (m : Made) (told : Told) (n : ℕ)
+    → Appends order order' seat seat' 0 (kept seat.view m (managed_rules.target old.state m) (managed_rules.frees told) n)
+    → GoesOn managed_rules old.state m told new.state → new.entries ≡ old.entries ++ numbered n m ∷ []
+    → pins_of (pins_kept seat.view m.caller m.op) ≡ pins_told told → (last : ℕ) → last ≡ n → Drew managed_rules 0 order seat seat' old new (numbered last m) told
 drew_managed order order' seat seat' old new m told n a goes added pins last is = subst (λ l. Drew managed_rules 0 order seat seat' old new (numbered l m) told) (sym is) record {
   kept = kept seat.view m (managed_rules.target old.state m) (managed_rules.frees told) n;
   entry = refl;
@@ -110,9 +113,11 @@ drew_peer order order' seat seat' old new m told n a goes added last is = subst 
 }
 
 -- a peer's entry leaves the seat settled
-pub peer_settled : (order order' : OrderId) (seat seat' : Shown) (s : PeerReplay) (m : Made) (told : Told) (n : ℕ) → Appends order order' seat seat' 1 (kept seat.view m None [] n) → peer_rules.lawful s m told → Settled seat.view → Settled seat'.view
+pub peer_settled : (order order' : OrderId) (seat seat' : Shown) (s : PeerReplay) (m : Made) (told : Told) (n : ℕ)
+    → Appends order order' seat seat' 1 (kept seat.view m None [] n) → peer_rules.lawful s m told → Settled seat.view → Settled seat'.view
 peer_settled order order' seat seat' s m told n a w settled = plain_settled seat.view seat'.view 1 (kept seat.view m None [] n) (omega arith)
-    (record { one = omega arith; managed = λ z. absurd (omega arith); peer = λ z. ((peer_reads_none m.caller m.op w.0.event w.0.side).0, w.0.side); reader = λ z. absurd (omega arith) }) a.grows a.paid (inl refl) settled
+    (record { one = omega arith; managed = λ z. absurd (omega arith); peer = λ z. ((peer_reads_none m.caller m.op w.0.event w.0.side).0, w.0.side); reader = λ z. absurd (omega arith) }) a.grows a.paid
+    (inl refl) settled
 
 -- a managed event that does nothing to the cycles and to no pin, and with which no pins are told
 pub record IsPlainEvent (t : Thread) (o : Op) (r : Reply) : Type 0 where
@@ -140,7 +145,8 @@ step_is_plain t (op.Give v) r e = record { cycles = refl; pin = step_pin t (op.G
 step_is_plain t o r e = absurd e.1
 
 -- it leaves the seat settled
-pub plain_event_settled : (order order' : OrderId) (seat seat' : Shown) (s : ManagedReplay) (m : Made) (told : Told) (target : Option MNum) (freed : List MNum) (n : ℕ) → IsPlainEvent m.caller m.op m.reply → Appends order order' seat seat' 0 (kept seat.view m target freed n) → managed_rules.lawful s m told → Settled seat.view → Settled seat'.view
+pub plain_event_settled : (order order' : OrderId) (seat seat' : Shown) (s : ManagedReplay) (m : Made) (told : Told) (target : Option MNum) (freed : List MNum) (n : ℕ)
+    → IsPlainEvent m.caller m.op m.reply → Appends order order' seat seat' 0 (kept seat.view m target freed n) → managed_rules.lawful s m told → Settled seat.view → Settled seat'.view
 plain_event_settled order order' seat seat' s m told target freed n plain a w settled = plain_settled seat.view seat'.view 0 (kept seat.view m target freed n) (omega arith)
     (record { one = omega arith; managed = λ z. (w.1.own, w.0.side); peer = λ z. absurd (omega arith); reader = λ z. absurd (omega arith) }) a.grows a.paid
     (inr (record { frees = plain.frees freed; cycles = plain.cycles; pin = plain.pin })) settled

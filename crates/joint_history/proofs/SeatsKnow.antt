@@ -35,7 +35,8 @@ use Rattle.joint_history.specs.Knowing.{line_known}
 use Rattle.view_laws.specs.Knowing.{IsDrawnView}
 use Rattle.joint_history.specs.Locked.{ManagedKnows, PeerKnows}
 use Rattle.joint_history.proofs.KnownViews.{line_of_past}
-use Rattle.joint_history.specs.SeatFacts.{CitesKnown, CitesManaged, CitesPeers, HandlesLeft, ManagedListCites, NoneLeadsToClearedIn, NoneLeadsToFreedIn, PeerListCites, ResolvesFreed, ResolvesRenewed, WeakIsWaitingIn}
+use Rattle.joint_history.specs.SeatFacts.{CitesKnown, CitesManaged, CitesPeers, HandlesLeft, ManagedListCites, NoneLeadsToClearedIn, NoneLeadsToFreedIn, PeerListCites, ResolvesFreed, ResolvesRenewed}
+use Rattle.joint_history.specs.SeatFacts.{WeakIsWaitingIn}
 
 -- an entry of a past stands in the lines that it is in, and what stands in a line is one of the past
 to_line : (ns : List Noted) (x : Noted) → InPast ns x → Contains (entries ns) x.entry
@@ -73,7 +74,8 @@ pub peer_line : (e : Entry) → is_peer_event e.made.caller e.made.op ≡ true �
 peer_line e p = ap (λ (b : Bool). (1 == (if b then 1 else (if is_read e.made.op then reader_line e.made.caller else 0))) || (1 == caller_line e.made.caller)) p
 
 -- what an entry cites stands in the other side's line
-cited_by : (v : View) (i : ℕ) (a : IsDrawnView v) (e : Entry) (b : List Noted) (n : ℕ) (P : Made → Type 0) → ((x : Noted) → InPast b x → InPast a.known.past x) → ((m : Entry) → P m.made → stands_in i m ≡ true) → HasCited b e.made n P → CitesKnown v i e P
+cited_by : (v : View) (i : ℕ) (a : IsDrawnView v) (e : Entry) (b : List Noted) (n : ℕ) (P : Made → Type 0)
+    → ((x : Noted) → InPast b x → InPast a.known.past x) → ((m : Entry) → P m.made → stands_in i m ≡ true) → HasCited b e.made n P → CitesKnown v i e P
 cited_by v i a e b n P all side c = record {
   cited = c.cited.entry;
   there = entry_known v i a c.cited (all c.cited c.there) (side c.cited.entry c.as_said);
@@ -154,7 +156,8 @@ takes_peer e h w = ⊎_elim
 pub handles_left : (v : View) (s : Side PeerReplay) → PeerKnows v s → HandlesLeft s
 handles_left v s ks h held gone =
     let a = ks.known in
-    let w = handles_leave_so a.known.past a.known.lawful h (subst (λ (r : PeerReplay). IsHeldOne r h) (sym ks.state) held) (λ row t. gone row (subst (λ (r : PeerReplay). IsTabled r.table h row) ks.state t)) in
+    let w = handles_leave_so a.known.past a.known.lawful h (subst (λ (r : PeerReplay). IsHeldOne r h) (sym ks.state) held)
+    (λ row t. gone row (subst (λ (r : PeerReplay). IsTabled r.table h row) ks.state t)) in
     (w.0.entry, subst (λ es. Contains es w.0.entry) ks.entries (entry_known v 1 a w.0 w.1 (peer_line w.0.entry (takes_peer w.0.entry h w.2))), w.2)
 
 pub weak_waits : (v : View) (s : Side PeerReplay) → PeerKnows v s → WeakIsWaitingIn s.state

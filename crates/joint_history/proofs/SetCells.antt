@@ -48,7 +48,8 @@ unset_word v s c word ks is =
     let w = zero_word (target (known v 0) c) (is_freed (known v 0)) in
     ((λ e. sym cell ∙ w.0 (sym is ∙ e)), λ e. is ∙ w.1 (cell ∙ e))
 
-may_set : (n : ℕ) (v : View) (s : Side ManagedReplay) (k : Cell) (x : Var) (aim : Option MNum) → k.0 < 64 → ManagedKnows v s → length s.state.managed.heap.fields ≤ 65535 → ((m : MNum) → aim ≡ Some m → MaySetCell s.state (weak_op k x) m) → MaySet v (mark (weak_op k x) (target_told (M n) (weak_op k x) aim))
+may_set : (n : ℕ) (v : View) (s : Side ManagedReplay) (k : Cell) (x : Var) (aim : Option MNum) → k.0 < 64 → ManagedKnows v s → length s.state.managed.heap.fields ≤ 65535
+    → ((m : MNum) → aim ≡ Some m → MaySetCell s.state (weak_op k x) m) → MaySet v (mark (weak_op k x) (target_told (M n) (weak_op k x) aim))
 may_set n v s k x None small ks few may c m e = absurd (none_some (c, m) e)
 may_set n v s k x (Some y) small ks few may c m e =
     let says = says_side v s ks in
@@ -60,10 +61,13 @@ may_set n v s k x (Some y) small ks few may c m e =
       omega (arith, small, cell),
       (omega (arith, made.0, object), omega (arith, made.1, few, object)),
       says.cells c ∙ (ap (slot s.state.managed.cells) (sym cell) ∙ free.0),
-      ⊎_elim (λ (d : is_freed (known v 0) m ≡ true). absurd (free.1.kept (Contains-from_any (λ a b. same-number a b) y.0 s.state.managed.heap.freed (sym (says.freed y.0) ∙ (ap (is_freed (known v 0)) object ∙ d))))) (λ (d : is_freed (known v 0) m ≡ false). d) (cases_Bool (is_freed (known v 0) m)),
+      ⊎_elim (λ (d : is_freed (known v 0) m ≡ true). absurd (free.1.kept
+          (Contains-from_any (λ a b. same-number a b) y.0 s.state.managed.heap.freed (sym (says.freed y.0) ∙ (ap (is_freed (known v 0)) object ∙ d)))))
+          (λ (d : is_freed (known v 0) m ≡ false). d) (cases_Bool (is_freed (known v 0) m)),
     )
 
-pub weak_may : (order : OrderId) (seat : Shown) (s : Side ManagedReplay) (t : Thread) (k : Cell) (x : Var) (aim : Option MNum) → IsManagedThread t → k.0 < 64 → seat.order ≡ order → Owns seat.view 0 → Owns seat.view (caller_line t) → Settled seat.view → ManagedKnows seat.view s
+pub weak_may : (order : OrderId) (seat : Shown) (s : Side ManagedReplay) (t : Thread) (k : Cell) (x : Var) (aim : Option MNum) → IsManagedThread t
+    → k.0 < 64 → seat.order ≡ order → Owns seat.view 0 → Owns seat.view (caller_line t) → Settled seat.view → ManagedKnows seat.view s
     → length s.state.managed.heap.fields ≤ 65535 → ((m : MNum) → aim ≡ Some m → MaySetCell s.state (weak_op k x) m) → MayAppend order seat 0 t (weak_op k x) aim
 weak_may order seat s (M n) k x aim is small same owns pass settled ks few may = record {
   same = same;

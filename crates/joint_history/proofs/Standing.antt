@@ -40,7 +40,8 @@ last_after c (M u) n line o reply told w is = index_set c.lines u line (let l = 
 last_after c (P u) n line o reply told w is = index_set c.lines (8 + u) line (let l = w.lines in let b = is.1 in omega arith)
 last_after c C n line o reply told w is = index_set c.lines 0 line (let l = w.lines in omega arith)
 
-pub doing_put : (c : Control) (t : Thread) (n line : ℕ) (o : Op) (reply : Reply) (told : Told) (e : Entry) → doing_from t e ≡ doing_from t (record { number = n; made = record { caller = t; index = line; op = o; reply = reply; cites = None } }) → Widths c → IsThread t
+pub doing_put : (c : Control) (t : Thread) (n line : ℕ) (o : Op) (reply : Reply) (told : Told) (e : Entry)
+    → doing_from t e ≡ doing_from t (record { number = n; made = record { caller = t; index = line; op = o; reply = reply; cites = None } }) → Widths c → IsThread t
     → doing_of t (control_after c t n line o reply told) ≡ doing_from t e
 doing_put c (M u) n line o reply told e same w is =
     ap (λ z. elim z as (λ x. Doing) [ None ↦ free | Some d ↦ d ]) (slice_get-set_same c.doing u (doing_after n line o reply) (let l = w.doings in let b = is.1 in omega arith)) ∙ sym same
@@ -58,7 +59,10 @@ doing_of_own h x t e is =
     subst (λ u. doing_of t (control_after (end_of h).control u x.entry.number x.entry.made.index x.entry.made.op x.entry.made.reply (bare_told x.told)) ≡ doing_from t x.entry) (sym e)
     (doing_put (end_of h).control t x.entry.number x.entry.made.index x.entry.made.op x.entry.made.reply (bare_told x.told) x.entry (same t) (widths h) is)
   where
-    same : (u : Thread) → doing_from u x.entry ≡ doing_from u (record { number = x.entry.number; made = record { caller = u; index = x.entry.made.index; op = x.entry.made.op; reply = x.entry.made.reply; cites = None } })
+    same : (u : Thread) → doing_from u x.entry ≡ doing_from u (record {
+      number = x.entry.number;
+      made = record { caller = u; index = x.entry.made.index; op = x.entry.made.op; reply = x.entry.made.reply; cites = None };
+    })
     same (M v) = refl
     same (P v) = refl
     same C = refl

@@ -71,7 +71,8 @@ one_pin (suc (suc (suc (suc (suc (suc (suc (suc (suc n))))))))) w a b = absurd (
 given_is : (v : View) (reader : ℕ) (o : Option MNum) → 0 < reader → reader < 9 → FindsPin v reader o → pins_of (put 0 [] reader (pin (known v (reader + 10)))) ≡ pin_given reader o
 given_is v reader o pos low f = one_pin reader (pin (known v (reader + 10))) pos low ∙ ap (slice_set no_pins reader) (named v reader o f)
 
-pub taken_stands : (v : View) (s : Side ManagedReplay) (reader : ℕ) (o : Option MNum) → 0 < reader → reader < 9 → ManagedKnows v s → FindsPin v reader o → PinsStand s.state.managed (pin_given reader o)
+pub taken_stands : (v : View) (s : Side ManagedReplay) (reader : ℕ) (o : Option MNum) → 0 < reader
+    → reader < 9 → ManagedKnows v s → FindsPin v reader o → PinsStand s.state.managed (pin_given reader o)
 taken_stands v s reader o pos low ks f = subst (λ (r : ManagedReplay). PinsStand r.managed (pin_given reader o)) ks.state
     (subst (PinsStand (end_of ks.known.known.past).managed.managed) (given_is v reader o pos low f) (pins_of_views_stand v ks.known (put 0 [] reader w) words))
   where
@@ -84,7 +85,8 @@ taken_stands v s reader o pos low ks f = subst (λ (r : ManagedReplay). PinsStan
         (λ (other : r ≡ reader → ⊥). absurd (let z : 0 ≡ m + 1 = sym (at_put_else 0 [] reader r w other) ∙ e in omega arith))
         (cases_eq r reader)
 
-pub taken_told : (seat : Shown) (t : Thread) (x : Var) (reader : ℕ) (o : Option MNum) → IsManagedThread t → reader ≡ thread_number t → FindsPin seat.view reader o → pins_of (pins_kept seat.view t (take_op x)) ≡ pin_given (thread_number t) o
+pub taken_told : (seat : Shown) (t : Thread) (x : Var) (reader : ℕ) (o : Option MNum) → IsManagedThread t → reader ≡ thread_number t
+    → FindsPin seat.view reader o → pins_of (pins_kept seat.view t (take_op x)) ≡ pin_given (thread_number t) o
 taken_told seat (M n) x reader o is e f = given_is seat.view n o is.0 (omega (arith, is.1)) (subst (λ i. FindsPin seat.view i o) e f)
 taken_told seat (P n) x reader o is e f = absurd is
 taken_told seat C x reader o is e f = absurd is
@@ -94,7 +96,8 @@ pub record LeavesPin (w : View) (reader : ℕ) : Type 0 where
   pub empty : pin (known w (reader + 10)) ≡ 0
   pub owes : OwesClearing w reader
 
-pub leaves_pin : (order order' : OrderId) (seat seat' : Shown) (t : Thread) (index : ℕ) (x : Var) (r : Reply) (target : Option MNum) (freed : List MNum) (n reader : ℕ) → IsManagedThread t → reader ≡ thread_number t → Owns seat.view 0 → Settled seat.view
+pub leaves_pin : (order order' : OrderId) (seat seat' : Shown) (t : Thread) (index : ℕ) (x : Var) (r : Reply) (target : Option MNum) (freed : List MNum) (n reader : ℕ)
+    → IsManagedThread t → reader ≡ thread_number t → Owns seat.view 0 → Settled seat.view
     → Appends order order' seat seat' 0 (kept seat.view (step_made t index (take_op x) r None) target freed n) → LeavesPin seat'.view reader
 leaves_pin order order' seat seat' (M u) index x r target freed n reader is e owns settled a =
     let k : KeptEntry = kept seat.view (step_made (M u) index (take_op x) r None) target freed n in record {
@@ -105,7 +108,8 @@ leaves_pin order order' seat seat' (P u) index x r target freed n reader is e ow
 leaves_pin order order' seat seat' C index x r target freed n reader is e owns settled a = absurd is
 
 -- the seat may make it
-pub take_may : (order : OrderId) (seat : Shown) (t : Thread) (x : Var) (aim : Option MNum) → IsManagedThread t → seat.order ≡ order → Owns seat.view 0 → Owns seat.view (caller_line t) → Settled seat.view → MayAppend order seat 0 t (take_op x) aim
+pub take_may : (order : OrderId) (seat : Shown) (t : Thread) (x : Var) (aim : Option MNum) → IsManagedThread t → seat.order ≡ order
+    → Owns seat.view 0 → Owns seat.view (caller_line t) → Settled seat.view → MayAppend order seat 0 t (take_op x) aim
 take_may order seat (M n) x aim is same owns pass settled = record {
   same = same;
   thread = is;
@@ -127,6 +131,7 @@ pub record TookPin {E : Type 0} (order : OrderId) (seat seat' : Shown) (old new 
   pub stand : IfOk result (λ r. PinsStand old.state.managed (pins_told told))
   pub drew : IfOk result (λ r. Drew managed_rules 0 order seat seat' old new (numbered r.0 (made_by t index (take_op x) r.1 None)) told)
 
-pub took_pin : {E : Type 0} (order : OrderId) (seat seat' : Shown) (old new : Side ManagedReplay) (t : Thread) (index : ℕ) (x : Var) (result : Result (ℕ × Reply) E) → IfOk result (λ r. TakesPin order seat seat' old new t index x r) → TookPin order seat seat' old new t index x result
+pub took_pin : {E : Type 0} (order : OrderId) (seat seat' : Shown) (old new : Side ManagedReplay) (t : Thread) (index : ℕ) (x : Var) (result : Result (ℕ × Reply) E)
+    → IfOk result (λ r. TakesPin order seat seat' old new t index x r) → TookPin order seat seat' old new t index x result
 took_pin order seat seat' old new t index x (Ok r) d = record { told = kept_pins (pin_given (thread_number t) d.pin) nothing; stand = d.stands; drew = d.drew }
 took_pin order seat seat' old new t index x (Err e) d = record { told = nothing; stand = tt; drew = tt }

@@ -75,23 +75,28 @@ pub begins_still : (t : Thread) (old new : View) (index : ℕ) → MakesNone t o
 begins_still t old new index m b = record { doing = b.doing; stands = m.stands index b.doing b.stands; done = b.done }
 
 -- an `adopt` after its make
-pub then_adopt : (n : ℕ) (old new : View) (k index : ℕ) (sort : Sort) (f : ℕ) (p : PNum) (h : HNum) (cites : Option ℕ) (v : Var) (kind : Kind) (fields : ℕ) → Makes (M n) old new (numbered k (made_by (M n) index (op.Make sort f) (says.Made p h) cites)) → IsLine (M n) (act.Bridge v kind fields sort f)
+pub then_adopt : (n : ℕ) (old new : View) (k index : ℕ) (sort : Sort) (f : ℕ) (p : PNum) (h : HNum) (cites : Option ℕ) (v : Var) (kind : Kind) (fields : ℕ)
+    → Makes (M n) old new (numbered k (made_by (M n) index (op.Make sort f) (says.Made p h) cites)) → IsLine (M n) (act.Bridge v kind fields sort f)
     → MayMake (M n) new index (op.Adopt v kind fields p h) (Some k)
 then_adopt n old new k index sort f p h cites v kind fields m line = record { doing = made k index p.0 h.0 sort f; stands = m.stands; turn = (refl, refl, refl, refl, line) }
 
 -- a `land` after its lend
-pub then_land : (n : ℕ) (old new : View) (k index : ℕ) (v : Var) (x : StaticNo) (h : HNum) (cites : Option ℕ) → Makes (M n) old new (numbered k (made_by (M n) index (op.Lend v x) (says.H h) cites)) → MayMake (M n) new index (op.Land h x) (Some k)
+pub then_land : (n : ℕ) (old new : View) (k index : ℕ) (v : Var) (x : StaticNo) (h : HNum) (cites : Option ℕ)
+    → Makes (M n) old new (numbered k (made_by (M n) index (op.Lend v x) (says.H h) cites)) → MayMake (M n) new index (op.Land h x) (Some k)
 then_land n old new k index v x h cites m = record { doing = lent k index h.0 x.0; stands = m.stands; turn = (refl, refl, refl, refl) }
 
 -- a `meet` after its grip
-pub then_meet : (n : ℕ) (old new : View) (k index : ℕ) (x : StaticNo) (p : PNum) (h : HNum) (sort : Sort) (f : ℕ) (cites : Option ℕ) (v : Var) → Makes (M n) old new (numbered k (made_by (M n) index (op.Grip x) (says.Gripped p h sort f) cites)) → MayMake (M n) new index (op.Meet v sort f p h) (Some k)
+pub then_meet : (n : ℕ) (old new : View) (k index : ℕ) (x : StaticNo) (p : PNum) (h : HNum) (sort : Sort) (f : ℕ) (cites : Option ℕ) (v : Var)
+    → Makes (M n) old new (numbered k (made_by (M n) index (op.Grip x) (says.Gripped p h sort f) cites)) → MayMake (M n) new index (op.Meet v sort f p h) (Some k)
 then_meet n old new k index x p h sort f cites v m = record { doing = gripped k index p.0 h.0 sort f; stands = m.stands; turn = (refl, refl, refl, refl, refl, refl) }
 
 -- a `release` after its give
-pub then_release : (n : ℕ) (old new : View) (k index : ℕ) (v : Var) (h : HNum) (cites : Option ℕ) → Makes (M n) old new (numbered k (made_by (M n) index (op.Give v) (says.H h) cites)) → MayMake (M n) new index (op.Release h) (Some k)
+pub then_release : (n : ℕ) (old new : View) (k index : ℕ) (v : Var) (h : HNum) (cites : Option ℕ)
+    → Makes (M n) old new (numbered k (made_by (M n) index (op.Give v) (says.H h) cites)) → MayMake (M n) new index (op.Release h) (Some k)
 then_release n old new k index v h cites m = record { doing = given k index h.0; stands = m.stands; turn = (refl, refl, refl) }
 
 -- a `release` after a meet that took no handle
-pub met_then_release : (n : ℕ) (old new : View) (k index : ℕ) (v : Var) (p : PNum) (h : HNum) (sort : Sort) (f : ℕ) (reply : Reply) (cites : Option ℕ) → Makes (M n) old new (numbered k (made_by (M n) index (op.Meet v sort f p h) reply cites))
+pub met_then_release : (n : ℕ) (old new : View) (k index : ℕ) (v : Var) (p : PNum) (h : HNum) (sort : Sort) (f : ℕ) (reply : Reply) (cites : Option ℕ)
+    → Makes (M n) old new (numbered k (made_by (M n) index (op.Meet v sort f p h) reply cites))
     → doing_from (M n) (numbered k (made_by (M n) index (op.Meet v sort f p h) reply cites)) ≡ met k index h.0 → MayMake (M n) new index (op.Release h) (Some k)
 met_then_release n old new k index v p h sort f reply cites m e = record { doing = met k index h.0; stands = subst (Stands (M n) new index) e m.stands; turn = (refl, refl, refl) }

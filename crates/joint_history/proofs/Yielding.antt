@@ -35,7 +35,8 @@ waiting_is_idle : (i : ℕ) (p : Pass) → WaitsAt i (Some p) → HasIdleDriver 
 waiting_is_idle i p w driver = (no_view p.view (λ j. w.1 j), refl)
 
 pub next_waiting_is_idle : (all yielded left : List (Option Pass)) (p : Pass) → yielded ++ Some p ∷ left ≡ all → ((i : ℕ) (o : Option Pass) → slice_get all i ≡ Some o → WaitsAt i o) → HasIdleDriver p
-next_waiting_is_idle all yielded left p e waits = waiting_is_idle (length yielded) p (waits (length yielded) (Some p) (subst (λ xs. slice_get xs (length yielded) ≡ Some (Some p)) e (place_within yielded (Some p) left)))
+next_waiting_is_idle all yielded left p e waits = waiting_is_idle (length yielded) p
+    (waits (length yielded) (Some p) (subst (λ xs. slice_get xs (length yielded) ≡ Some (Some p)) e (place_within yielded (Some p) left)))
 
 threads_snoc : (ps : List Pass) (p : Pass) → threads_of ps ++ p.thread ∷ [] ≡ threads_of (ps ++ p ∷ [])
 threads_snoc [] p = refl
@@ -52,14 +53,17 @@ none_snoc (None ∷ os) = none_snoc os
 none_snoc (Some q ∷ os) = ap (λ ps. q ∷ ps) (none_snoc os)
 
 -- with the next caller taken in
-pub gathers_more : (v w u : View) (old mid new : List (List Entry)) (yielded : List Pass) (p : Pass) → GathersAll v w old mid (threads_of yielded) → GathersAll w u mid new (p.thread ∷ []) → GathersAll v u old new (threads_of (yielded ++ p ∷ []))
+pub gathers_more : (v w u : View) (old mid new : List (List Entry)) (yielded : List Pass) (p : Pass)
+    → GathersAll v w old mid (threads_of yielded) → GathersAll w u mid new (p.thread ∷ []) → GathersAll v u old new (threads_of (yielded ++ p ∷ []))
 gathers_more v w u old mid new yielded p a b = subst (GathersAll v u old new) (threads_snoc yielded p) (gathers_then v w u old mid new (threads_of yielded) (p.thread ∷ []) a b)
 
-pub gathers_waiting : (v w u : View) (old mid new : List (List Entry)) (yielded : List (Option Pass)) (p : Pass) → GathersAll v w old mid (threads_of (present yielded)) → GathersAll w u mid new (p.thread ∷ [])
+pub gathers_waiting : (v w u : View) (old mid new : List (List Entry)) (yielded : List (Option Pass)) (p : Pass)
+    → GathersAll v w old mid (threads_of (present yielded)) → GathersAll w u mid new (p.thread ∷ [])
     → GathersAll v u old new (threads_of (present (yielded ++ Some p ∷ [])))
 gathers_waiting v w u old mid new yielded p a b = subst (λ ps. GathersAll v u old new (threads_of ps)) (present_snoc yielded p) (gathers_more v w u old mid new (present yielded) p a b)
 
-pub gathers_nobody : (v w : View) (old mid : List (List Entry)) (yielded : List (Option Pass)) → GathersAll v w old mid (threads_of (present yielded)) → GathersAll v w old mid (threads_of (present (yielded ++ None ∷ [])))
+pub gathers_nobody : (v w : View) (old mid : List (List Entry)) (yielded : List (Option Pass))
+    → GathersAll v w old mid (threads_of (present yielded)) → GathersAll v w old mid (threads_of (present (yielded ++ None ∷ [])))
 gathers_nobody v w old mid yielded a = subst (λ ps. GathersAll v w old mid (threads_of ps)) (none_snoc yielded) a
 
 -- and its own line is known as it knew it

@@ -27,7 +27,8 @@ abbrev pub swept_at : Thread → ℕ → ℕ → Marking → Span → Entry
 swept_at t index n j freed = entry_by t index n op.Sweep (says.Swept j freed) None
 
 -- the side drew a whole collection: the begin and the sweep, one after the other
-pub record DrawsWhole (order : OrderId) (seat seat' : Shown) (side side' : Side PeerReplay) (t : Thread) (index : ℕ) (r : Receipt) : Type 0 where
+pub record DrawsWhole (order : OrderId) (seat seat' : Shown)
+    (side side' : Side PeerReplay) (t : Thread) (index : ℕ) (r : Receipt) : Type 0 where
   pub marking : Marking
   pub freed : Span
   pub gone : List ℕ
@@ -38,7 +39,8 @@ pub record DrawsWhole (order : OrderId) (seat seat' : Shown) (side side' : Side 
   pub answer : r.reply ≡ says.Swept marking freed
 
 -- the side drew a begin alone, since a marking is open
-pub record DrawsRefusal (order : OrderId) (seat seat' : Shown) (side side' : Side PeerReplay) (t : Thread) (index : ℕ) (r : Receipt) : Type 0 where
+pub record DrawsRefusal (order : OrderId) (seat seat' : Shown)
+    (side side' : Side PeerReplay) (t : Thread) (index : ℕ) (r : Receipt) : Type 0 where
   pub marking : Marking
   pub drew : Drew peer_rules 1 order seat seat' side side' (refused_at t index r.first marking) nothing
   pub last : r.last ≡ r.first
@@ -46,7 +48,8 @@ pub record DrawsRefusal (order : OrderId) (seat seat' : Shown) (side side' : Sid
 
 -- the one or the other
 abbrev pub DrawsCollect : OrderId → Shown → Shown → Side PeerReplay → Side PeerReplay → Thread → ℕ → Receipt → Type 0
-DrawsCollect order seat seat' side side' t index r = DrawsWhole order seat seat' side side' t index r ⊎ DrawsRefusal order seat seat' side side' t index r
+DrawsCollect order seat seat' side side' t index r = DrawsWhole order seat seat' side side' t index r
+    ⊎ DrawsRefusal order seat seat' side side' t index r
 
 -- a caller made a whole collection: it answers which marking was ended, and where the peers that it freed stand among
 -- all that were freed

@@ -13,7 +13,8 @@ use Rattle.joint_machine.specs.declared.events.Op.{Op}
 use Rattle.joint_machine.specs.declared.events.Op.TheVariants as op
 use Rattle.joint_machine.specs.declared.events.Reply.{Reply}
 use Rattle.joint_machine.specs.declared.events.Reply.TheVariants as says
-use Rattle.joint_machine.specs.Control.{OpenSnap, Stand, idle, snapped, contracted, weakening, restored, last_line, IsPhaseOf, IsAtRest}
+use Rattle.joint_machine.specs.Control.{OpenSnap, Stand, idle, snapped, contracted, weakening, restored, last_line}
+use Rattle.joint_machine.specs.Control.{IsPhaseOf, IsAtRest}
 use Rattle.joint_machine.specs.Cycles.{IsDeadContraction}
 use Rattle.joint_machine.specs.Draws.{numbered}
 use Rattle.joint_machine.specs.HistoryLines.{caller_line}
@@ -45,7 +46,8 @@ pub record DriverStands (v : View) (index : ℕ) (stand : Stand) (seen : Managed
 
 -- a seat that knows more has the driver where it stood
 abbrev pub StillStands : View → View → Type 0
-StillStands old new = (index : ℕ) (stand : Stand) (seen : Managed) → DriverStands old index stand seen → DriverStands new index stand seen
+StillStands old new = (index : ℕ) (stand : Stand) (seen : Managed)
+    → DriverStands old index stand seen → DriverStands new index stand seen
 
 -- the driver is idle
 pub record DriverRests (v : View) (index : ℕ) : Type 0 where
@@ -77,7 +79,8 @@ driver_entry n index o reply cites = numbered n (made_by C index o reply cites)
 
 -- these are the components, heavy classes and cross-references of the dead part's contraction, and their numbers; heavy
 -- classes count as components
-pub record HasContraction (seen : Managed) (sccs xrefs : ℕ) (comps : List (List ℕ)) (heavy : List ℕ) (pairs : List (ℕ × ℕ)) : Type 0 where
+pub record HasContraction (seen : Managed) (sccs xrefs : ℕ)
+    (comps : List (List ℕ)) (heavy : List ℕ) (pairs : List (ℕ × ℕ)) : Type 0 where
   pub exact : (c : OpenCycle) → seen.cycle ≡ Some c → IsDeadContraction seen c.dead comps heavy pairs
   pub components : sccs ≡ length comps + length heavy
   pub references : xrefs ≡ length pairs
@@ -95,8 +98,11 @@ pub record MayContractCycle (v : View) (index sccs xrefs : ℕ) : Type 0 where
 
 -- the driver made the contraction of its cycle, and stands there with the same dead part
 abbrev pub MakesContraction : View → View → ℕ → ℕ → ℕ → ℕ → Type 0
-MakesContraction old new index sccs xrefs n = (o : OpenSnap) (m : Managed) (comps : List (List ℕ)) (heavy : List ℕ) (pairs : List (ℕ × ℕ)) → DriverStands old index (snapped o) m → HasContraction m sccs xrefs comps heavy pairs
-    → DriverMakes old new (snapped o) m (driver_entry n index (op.Contract record { 0 = o.cycle }) (says.Sccs sccs xrefs) None) (contraction_of comps heavy pairs) × DriverStands new index (contracted o comps heavy pairs) m
+MakesContraction old new index sccs xrefs n = (o : OpenSnap) (m : Managed) (comps : List (List ℕ)) (heavy : List ℕ)
+    (pairs : List (ℕ × ℕ)) → DriverStands old index (snapped o) m → HasContraction m sccs xrefs comps heavy pairs
+    → DriverMakes old new (snapped o) m
+    (driver_entry n index (op.Contract record { 0 = o.cycle }) (says.Sccs sccs xrefs) None)
+    (contraction_of comps heavy pairs) × DriverStands new index (contracted o comps heavy pairs) m
 
 -- the driver's cycle is open, and not yet mirrored
 abbrev pub IsUnmirrored : Stand → OpenSnap → Type 0
@@ -114,8 +120,10 @@ pub record MayAbandonCycle (v : View) (index : ℕ) : Type 0 where
 
 -- the driver abandoned its cycle, and is idle
 abbrev pub MakesAbandon : View → View → ℕ → ℕ → Type 0
-MakesAbandon old new index n = (o : OpenSnap) (stand : Stand) (m : Managed) → DriverStands old index stand m → IsUnmirrored stand o
-    → DriverMakes old new stand m (driver_entry n index (op.Abandon record { 0 = o.cycle }) says.Ok None) nothing × DriverRests new index
+MakesAbandon old new index n = (o : OpenSnap) (stand : Stand) (m : Managed)
+    → DriverStands old index stand m → IsUnmirrored stand o
+    → DriverMakes old new stand m (driver_entry n index (op.Abandon record { 0 = o.cycle }) says.Ok None) nothing
+    × DriverRests new index
 
 -- all handles of the driver's cycle are restored, with these answers, and the references cleared by the entry with that
 -- number
@@ -125,14 +133,18 @@ pub record MayResolveCycle (v : View) (index clear : ℕ) (answers : List Answer
   pub stands : DriverStands v index (restored opened answers clear) seen
 
 -- the driver resolved its cycle: so many objects were freed, whose place among the freed ones is this; and it is idle
-pub record ResolvesCycle (old new : View) (index clear n : ℕ) (answers : List Answer) (span : Span) (o : OpenSnap) (m : Managed) : Type 0 where
+pub record ResolvesCycle (old new : View) (index clear n : ℕ)
+    (answers : List Answer) (span : Span) (o : OpenSnap) (m : Managed) : Type 0 where
   pub freed : List ℕ
   pub count : span.count ≡ length freed
-  pub makes : DriverMakes old new (restored o answers clear) m (driver_entry n index (op.Resolve record { 0 = o.cycle }) (says.Freed span) (Some clear)) (resolution_of answers freed)
+  pub makes : DriverMakes old new (restored o answers clear) m
+      (driver_entry n index (op.Resolve record { 0 = o.cycle }) (says.Freed span) (Some clear))
+      (resolution_of answers freed)
   pub rests : DriverRests new index
 
 abbrev pub MakesResolution : View → View → ℕ → ℕ → ℕ → List Answer → Span → Type 0
-MakesResolution old new index clear n answers span = (o : OpenSnap) (m : Managed) → DriverStands old index (restored o answers clear) m → ResolvesCycle old new index clear n answers span o m
+MakesResolution old new index clear n answers span = (o : OpenSnap) (m : Managed)
+    → DriverStands old index (restored o answers clear) m → ResolvesCycle old new index clear n answers span o m
 
 -- the driver is in that phase, in which the word is refused
 pub record MayRefuseWord (v : View) (index : ℕ) (w : PhaseWord) (phase : Phase) : Type 0 where
@@ -149,7 +161,8 @@ IsStillAt (weakening o count weakened swept) at.Weakened next = (seen : Bool) ×
 IsStillAt stand phase next = next ≡ stand
 
 -- the driver's word was refused
-pub record RefusesWord (old new : View) (index n : ℕ) (w : PhaseWord) (phase : Phase) (reply : Reply) (stand : Stand) (m : Managed) : Type 0 where
+pub record RefusesWord (old new : View) (index n : ℕ) (w : PhaseWord)
+    (phase : Phase) (reply : Reply) (stand : Stand) (m : Managed) : Type 0 where
   pub makes : DriverMakes old new stand m (driver_entry n index (op.Refused w) reply None) (phase_of phase)
   pub answers : reply ≡ refusal_to m phase w
   pub next : Stand
@@ -157,7 +170,8 @@ pub record RefusesWord (old new : View) (index n : ℕ) (w : PhaseWord) (phase :
   pub stands : DriverStands new index next m
 
 abbrev pub MakesRefusal : View → View → ℕ → ℕ → PhaseWord → Phase → Reply → Type 0
-MakesRefusal old new index n w phase reply = (stand : Stand) (m : Managed) → DriverStands old index stand m → IsPhaseOf stand (length (candidates_of m)) phase → RefusesWord old new index n w phase reply stand m
+MakesRefusal old new index n w phase reply = (stand : Stand) (m : Managed) → DriverStands old index stand m
+    → IsPhaseOf stand (length (candidates_of m)) phase → RefusesWord old new index n w phase reply stand m
 
 -- no phase of the driver is half done
 pub record MayFinalise (v : View) (index : ℕ) : Type 0 where
@@ -168,5 +182,7 @@ pub record MayFinalise (v : View) (index : ℕ) : Type 0 where
 
 -- the driver took notices, and stands where it stood
 abbrev pub MakesFinalise : View → View → ℕ → ℕ → ℕ → Reply → Type 0
-MakesFinalise old new index n count reply = (stand : Stand) (m : Managed) → DriverStands old index stand m → IsAtRest stand (length (candidates_of m))
-    → DriverMakes old new stand m (driver_entry n index (op.Line (act.Finalise count)) reply None) nothing × DriverStands new index stand m
+MakesFinalise old new index n count reply = (stand : Stand) (m : Managed)
+    → DriverStands old index stand m → IsAtRest stand (length (candidates_of m))
+    → DriverMakes old new stand m (driver_entry n index (op.Line (act.Finalise count)) reply None) nothing
+    × DriverStands new index stand m

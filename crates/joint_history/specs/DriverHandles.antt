@@ -27,8 +27,11 @@ pub record MayWeakenHandle (v : View) (index snap h : ℕ) : Type 0 where
 
 -- the driver weakened that handle
 abbrev pub MakesWeaken : View → View → ℕ → ℕ → HNum → ℕ → Type 0
-MakesWeaken old new index snap h n = (o : OpenSnap) (count : ℕ) (weakened : Bool) (m : Managed) → DriverStands old index (weakening o count weakened false) m → IsCandidateHandle m count h.0 → o.snap ≡ snap
-    → DriverMakes old new (weakening o count weakened false) m (driver_entry n index (op.Weaken h) says.Ok (Some snap)) nothing × DriverStands new index (weakening o (count + 1) true false) m
+MakesWeaken old new index snap h n = (o : OpenSnap) (count : ℕ) (weakened : Bool) (m : Managed)
+    → DriverStands old index (weakening o count weakened false) m → IsCandidateHandle m count h.0 → o.snap ≡ snap
+    → DriverMakes old new (weakening o count weakened false) m
+    (driver_entry n index (op.Weaken h) says.Ok (Some snap)) nothing
+    × DriverStands new index (weakening o (count + 1) true false) m
 
 -- the cycle's own marking is over and the handles of the first candidates are restored, with these answers; and this is
 -- the next one's
@@ -41,8 +44,10 @@ pub record MayRestoreHandle (v : View) (index h : ℕ) : Type 0 where
 
 -- the driver restored that handle, which is alive or cleared
 abbrev pub MakesRestore : View → View → ℕ → HNum → Back → ℕ → Type 0
-MakesRestore old new index h back n = (o : OpenSnap) (answers : List Answer) (m : Managed) → DriverStands old index (restoring o answers) m → IsCandidateHandle m (length answers) h.0
-    → DriverMakes old new (restoring o answers) m (driver_entry n index (op.Restore h) (reply_of back) None) nothing × DriverStands new index (restoring o (answers ++ answer_in (reply_of back) ∷ [])) m
+MakesRestore old new index h back n = (o : OpenSnap) (answers : List Answer) (m : Managed)
+    → DriverStands old index (restoring o answers) m → IsCandidateHandle m (length answers) h.0
+    → DriverMakes old new (restoring o answers) m (driver_entry n index (op.Restore h) (reply_of back) None) nothing
+    × DriverStands new index (restoring o (answers ++ answer_in (reply_of back) ∷ [])) m
 
 -- all handles of the driver's cycle, which is this one, are restored
 pub record MayClearCycle (v : View) (index k : ℕ) : Type 0 where
@@ -55,5 +60,7 @@ pub record MayClearCycle (v : View) (index k : ℕ) : Type 0 where
 
 -- the driver cleared the references of its cycle: no reference is mirrored any more
 abbrev pub MakesClear : View → View → ℕ → Cycle → ℕ → Type 0
-MakesClear old new index k n = (o : OpenSnap) (answers : List Answer) (m : Managed) → DriverStands old index (restoring o answers) m → length answers ≡ length (candidates_of m) → o.cycle ≡ k.0
-    → DriverMakes old new (restoring o answers) m (driver_entry n index (op.Clear k) says.Ok None) nothing × DriverStands new index (restored o answers n) m
+MakesClear old new index k n = (o : OpenSnap) (answers : List Answer) (m : Managed)
+    → DriverStands old index (restoring o answers) m → length answers ≡ length (candidates_of m) → o.cycle ≡ k.0
+    → DriverMakes old new (restoring o answers) m (driver_entry n index (op.Clear k) says.Ok None) nothing
+    × DriverStands new index (restored o answers n) m

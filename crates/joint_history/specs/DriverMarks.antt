@@ -17,9 +17,11 @@ use Rattle.joint_history.specs.Driven.{DriverMakes, DriverMakesNone, DriverStand
 use Rattle.joint_history.specs.Locked.{Drew}
 
 -- the side's open marking was ended by the driver: one entry, which tells the peers that were freed
-pub record DrawsSweep (order : OrderId) (seat seat' : Shown) (side side' : Side PeerReplay) (index n : ℕ) (out : Swept) : Type 0 where
+pub record DrawsSweep (order : OrderId) (seat seat' : Shown)
+    (side side' : Side PeerReplay) (index n : ℕ) (out : Swept) : Type 0 where
   pub freed : List ℕ
-  pub drew : Drew peer_rules 1 order seat seat' side side' (driver_entry n index op.Sweep (says.Swept out.marking out.freed) None) (sweep_of freed)
+  pub drew : Drew peer_rules 1 order seat seat' side side'
+      (driver_entry n index op.Sweep (says.Swept out.marking out.freed) None) (sweep_of freed)
 
 -- the driver may end a marking: all its candidates' handles are weakened and it hasn't ended one, or its own is begun
 pub record MayEndMarking (v : View) (index : ℕ) : Type 0 where
@@ -44,12 +46,14 @@ after_sweep stand = stand
 pub record DriverEndsMarking (old new : View) (index n : ℕ) (out : Swept) (stand : Stand) (m : Managed) : Type 0 where
   pub freed : List ℕ
   pub count : out.freed.count ≡ length freed
-  pub makes : DriverMakes old new stand m (driver_entry n index op.Sweep (says.Swept out.marking out.freed) None) (sweep_of freed)
+  pub makes : DriverMakes old new stand m
+      (driver_entry n index op.Sweep (says.Swept out.marking out.freed) None) (sweep_of freed)
   pub stands : DriverStands new index (after_sweep stand) m
 
 -- so it is from wherever the driver might end one
 abbrev pub MakesSweep : View → View → ℕ → ℕ → Swept → Type 0
-MakesSweep old new index n out = (stand : Stand) (m : Managed) → DriverStands old index stand m → MaySweepNow stand (length (candidates_of m)) None → DriverEndsMarking old new index n out stand m
+MakesSweep old new index n out = (stand : Stand) (m : Managed) → DriverStands old index stand m
+    → MaySweepNow stand (length (candidates_of m)) None → DriverEndsMarking old new index n out stand m
 
 -- all handles of the driver's cycle are weakened, and no marking was begun or ended in it
 pub record MayMarkCycle (v : View) (index : ℕ) : Type 0 where
@@ -71,13 +75,16 @@ pub record MayBeginMarking (v : View) (index : ℕ) : Type 0 where
   pub all : count ≡ length (candidates_of seen)
 
 -- the driver began its cycle's own marking, which has that number
-pub record DriverBeginsMarking (old new : View) (index n : ℕ) (j : Marking) (stand : Stand) (o : OpenSnap) (m : Managed) : Type 0 where
+pub record DriverBeginsMarking (old new : View) (index n : ℕ)
+    (j : Marking) (stand : Stand) (o : OpenSnap) (m : Managed) : Type 0 where
   pub makes : DriverMakes old new stand m (driver_entry n index op.Begin (says.Mark j) None) nothing
   pub stands : DriverStands new index (marked o) m
 
 -- so it is from wherever the driver might begin it
 abbrev pub MakesBegin : View → View → ℕ → ℕ → Marking → Type 0
-MakesBegin old new index n j = (o : OpenSnap) (count : ℕ) (weakened swept : Bool) (m : Managed) → DriverStands old index (weakening o count weakened swept) m → count ≡ length (candidates_of m) → DriverBeginsMarking old new index n j (weakening o count weakened swept) o m
+MakesBegin old new index n j = (o : OpenSnap) (count : ℕ) (weakened swept : Bool) (m : Managed)
+    → DriverStands old index (weakening o count weakened swept) m → count ≡ length (candidates_of m)
+    → DriverBeginsMarking old new index n j (weakening o count weakened swept) o m
 
 -- the driver ended a marking that was open, or there was none and it made nothing
 abbrev pub EndsFirst : View → View → ℕ → Option (ℕ × Swept) → Type 0

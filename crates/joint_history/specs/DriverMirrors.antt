@@ -29,7 +29,8 @@ numbered_comps g comps = map (map (number_at g)) comps
 
 -- the graph is that of the open cycle's dead part, and these components and cross-references are those that the listing
 -- has of its nodes, with as many heavy classes
-pub record IsListedBy (g : Part) (l : Listing) (seen : Managed) (comps : List (List ℕ)) (heavy : List ℕ) (pairs : List (ℕ × ℕ)) : Type 0 where
+pub record IsListedBy (g : Part) (l : Listing) (seen : Managed)
+    (comps : List (List ℕ)) (heavy : List ℕ) (pairs : List (ℕ × ℕ)) : Type 0 where
   pub cycle : OpenCycle
   pub opened : seen.cycle ≡ Some cycle
   pub graph : IsDeadGraph seen cycle.dead g
@@ -39,8 +40,11 @@ pub record IsListedBy (g : Part) (l : Listing) (seen : Managed) (comps : List (L
 
 -- the side drew the cycle's mirror: one entry, with the mirror edges of the graph's components, carried to the peers of
 -- its handles and to temporaries
-pub record DrawsMirror (order : OrderId) (seat seat' : Shown) (side side' : Side PeerReplay) (index : ℕ) (k : Cycle) (snap : ℕ) (g : Part) (l : Listing) (n refs : ℕ) : Type 0 where
-  pub drew : Drew peer_rules 1 order seat seat' side side' (driver_entry n index (op.Mirror k) (says.Refs refs) (Some snap)) (references_of (carried_to_peers side.state.peers.issued g.nodes (mirror_edges l.comps l.pairs)))
+pub record DrawsMirror (order : OrderId) (seat seat' : Shown) (side side' : Side PeerReplay)
+    (index : ℕ) (k : Cycle) (snap : ℕ) (g : Part) (l : Listing) (n refs : ℕ) : Type 0 where
+  pub drew : Drew peer_rules 1 order seat seat' side side'
+      (driver_entry n index (op.Mirror k) (says.Refs refs) (Some snap))
+      (references_of (carried_to_peers side.state.peers.issued g.nodes (mirror_edges l.comps l.pairs)))
   pub count : refs ≡ length (mirror_edges l.comps l.pairs)
 
 -- the driver has contracted its cycle, which is this one and was opened by the entry with that number, to what the
@@ -58,14 +62,19 @@ pub record MayMirrorCycle (v : View) (index k snap : ℕ) (g : Part) (l : Listin
 
 -- the driver mirrored its cycle, with so many references: they are the mirror edges, carried to the peers of the
 -- handles as both stood before the entry
-pub record MirrorsCycle (old new : View) (index n refs : ℕ) (k : Cycle) (o : OpenSnap) (comps : List (List ℕ)) (heavy : List ℕ) (pairs : List (ℕ × ℕ)) (m : Managed) : Type 0 where
+pub record MirrorsCycle (old new : View) (index n refs : ℕ) (k : Cycle) (o : OpenSnap)
+    (comps : List (List ℕ)) (heavy : List ℕ) (pairs : List (ℕ × ℕ)) (m : Managed) : Type 0 where
   pub told : List (End × End)
-  pub makes : DriverMakes old new (contracted o comps heavy pairs) m (driver_entry n index (op.Mirror k) (says.Refs refs) (Some o.snap)) (references_of told)
-  pub carried : told ≡ carried_edges makes.state.managed.managed makes.state.peer.peers.issued (mirror_edges comps pairs)
+  pub makes : DriverMakes old new (contracted o comps heavy pairs) m
+      (driver_entry n index (op.Mirror k) (says.Refs refs) (Some o.snap)) (references_of told)
+  pub carried : told ≡ carried_edges makes.state.managed.managed
+      makes.state.peer.peers.issued (mirror_edges comps pairs)
   pub count : refs ≡ length (mirror_edges comps pairs)
   pub stands : DriverStands new index (weakening o 0 false false) m
 
 -- so it is from wherever the driver might mirror it
 abbrev pub MakesMirror : View → View → ℕ → Cycle → ℕ → Part → Listing → ℕ → ℕ → Type 0
-MakesMirror old new index k snap g l refs n = (o : OpenSnap) (comps : List (List ℕ)) (heavy : List ℕ) (pairs : List (ℕ × ℕ)) (m : Managed) → DriverStands old index (contracted o comps heavy pairs) m → IsListedBy g l m comps heavy pairs → o.cycle ≡ k.0 → o.snap ≡ snap
+MakesMirror old new index k snap g l refs n = (o : OpenSnap) (comps : List (List ℕ))
+    (heavy : List ℕ) (pairs : List (ℕ × ℕ)) (m : Managed) → DriverStands old index (contracted o comps heavy pairs) m
+    → IsListedBy g l m comps heavy pairs → o.cycle ≡ k.0 → o.snap ≡ snap
     → MirrorsCycle old new index n refs k o comps heavy pairs m

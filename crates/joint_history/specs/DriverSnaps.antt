@@ -35,7 +35,8 @@ pub record ClosesGate (old new : Shown) (cycle : ℕ) (pins : List (Option MNum)
   pub held : (r m : ℕ) → 0 < r → r < 9 → at 0 (pin_row new.view.scanned) r ≡ m + 1 → IsHeld (known old.view 0) r m
 
 -- the snapshot by the pins of the readers: one entry, and what it answers
-pub record DrawsSnapshot (order : OrderId) (seat seat' : Shown) (side side' : Side ManagedReplay) (index : ℕ) (out : Opened) : Type 0 where
+pub record DrawsSnapshot (order : OrderId) (seat seat' : Shown)
+    (side side' : Side ManagedReplay) (index : ℕ) (out : Opened) : Type 0 where
   pub freed : List ℕ
   pub candidates : List ℕ
   pub dead : List ℕ
@@ -43,7 +44,9 @@ pub record DrawsSnapshot (order : OrderId) (seat seat' : Shown) (side side' : Si
   pub same_number : number ≡ out.number
   pub pins : List (Option ℕ)
   pub stand : PinsStand side.state.managed pins
-  pub drew : Drew managed_rules 0 order seat seat' side side' (numbered number (snap_made side.state.managed index freed candidates)) (kept_pins pins (snap_of freed candidates dead))
+  pub drew : Drew managed_rules 0 order seat seat' side side'
+      (numbered number (snap_made side.state.managed index freed candidates))
+      (kept_pins pins (snap_of freed candidates dead))
   pub cycle : out.cycle.0 ≡ side.state.managed.cycles + 1
   pub counted : out.candidates ≡ length candidates
   pub span : out.freed ≡ record { first = length side.state.managed.heap.freed; count = length freed }
@@ -58,7 +61,9 @@ pub record OpensCycle (old new : View) (index : ℕ) (out : Opened) (m : Managed
   pub counted : out.candidates ≡ length candidates
   pub count : out.freed.count ≡ length freed
   pub pins : List (Option ℕ)
-  pub makes : DriverMakes old new idle m (driver_entry out.number index (op.Snap out.cycle) (says.Snapped out.candidates out.freed) None) (kept_pins pins (snap_of freed candidates dead))
+  pub makes : DriverMakes old new idle m
+      (driver_entry out.number index (op.Snap out.cycle) (says.Snapped out.candidates out.freed) None)
+      (kept_pins pins (snap_of freed candidates dead))
   pub seen : Managed
   pub kept : IsManagedKept seen
   pub opened : seen.cycle ≡ Some record { number = out.cycle.0; candidates = candidates; dead = dead }

@@ -1,5 +1,6 @@
 -- The end of a run: all seats are taken into one.
-use Rattle.std.specs.Prelude.{◌≡◌, ◌⊎◌, ℕ, ◌+◌, List, [], ◌++◌, length, map, All, count_by, is_some, Contains, IsSome, Option, slice_get, slice_index_or, slice_set}
+use Rattle.std.specs.Prelude.{◌≡◌, ◌⊎◌, ℕ, ◌+◌, List, [], ◌++◌, length, map, All, count_by, is_some, Contains, IsSome}
+use Rattle.std.specs.Prelude.{Option, slice_get, slice_index_or, slice_set}
 use mathlib.Core.List.{IsPrefix}
 use Rattle.joint_machine.specs.declared.names.Thread.{Thread}
 use Rattle.joint_machine.specs.declared.names.Thread.TheVariants.{M, P, C}
@@ -54,7 +55,8 @@ pub record HasGatheredReads (v : View) (lists : List (List Entry)) (ts : List Th
   pub reads : (n : ℕ) → Contains ts (M n) → slice_index_or lists (1 + n) [] ≡ line_known v (1 + n)
 
 -- a seat that has taken in the seats of both sides and of these threads, which have come to rest
-pub record HasGatheredSeats (v : View) (l : Side ManagedReplay) (r : Side PeerReplay) (lists : List (List Entry)) (ts : List Thread) : Type 0 where
+pub record HasGatheredSeats (v : View) (l : Side ManagedReplay)
+    (r : Side PeerReplay) (lists : List (List Entry)) (ts : List Thread) : Type 0 where
   pub known : IsDrawnView v
   pub managed_role : Owns v 0
   pub peer_role : Owns v 1
@@ -78,7 +80,8 @@ HasIdleDriver p = IsDriver p.thread → (a : IsDrawnView p.view) × ((end_of a.k
 
 -- whatever was gathered, these threads' seats and reads are now too
 abbrev pub GathersAll : View → View → List (List Entry) → List (List Entry) → List Thread → Type 0
-GathersAll old new lists lists' more = (l : Side ManagedReplay) (r : Side PeerReplay) (ts : List Thread) → HasGatheredSeats old l r lists ts → HasGatheredSeats new l r lists' (ts ++ more)
+GathersAll old new lists lists' more = (l : Side ManagedReplay) (r : Side PeerReplay) (ts : List Thread)
+    → HasGatheredSeats old l r lists ts → HasGatheredSeats new l r lists' (ts ++ more)
 
 -- the threads of callers
 abbrev pub threads_of : List Pass → List Thread
@@ -93,7 +96,8 @@ BeginsView v w = (i : ℕ) → IsPrefix (known v i) (known w i)
 pub record TakesOwn (old new : View) (ps : List Pass) : Type 0 where
   pub kept : (i : ℕ) → Owns old i → Owns new i × (known new i ≡ known old i)
   pub knew : BeginsView old new
-  pub each : (p : Pass) → Contains ps p → IsThread p.thread × Owns new (caller_line p.thread) × (line_known new (caller_line p.thread) ≡ own p) × BeginsView p.view new
+  pub each : (p : Pass) → Contains ps p → IsThread p.thread × Owns new (caller_line p.thread)
+      × (line_known new (caller_line p.thread) ≡ own p) × BeginsView p.view new
 
 -- the thread's caller was given out to nobody
 abbrev pub StillWaits : Waiting → Thread → Type 0
@@ -142,7 +146,8 @@ pub record IsFinished (h : Finished) : Type 0 where
 
 -- the seats of both sides, of the callers that were given out and of those that still wait were taken into one, which
 -- knows the whole history
-pub record AllTaken (l : Side ManagedReplay) (r : Side PeerReplay) (lists : List (List Entry)) (d : Waiting) (callers : List Pass) : Type 0 where
+pub record AllTaken (l : Side ManagedReplay) (r : Side PeerReplay)
+    (lists : List (List Entry)) (d : Waiting) (callers : List Pass) : Type 0 where
   pub before : View
   pub seat : View
   pub gathered : AllAreIn seat l r lists

@@ -67,13 +67,15 @@ is_marking_due es = due_from false es
 -- while a cycle is mirrored, the handles that were weakened in it and those that may still be are together at least its
 -- candidates
 abbrev pub HasRoomToWeaken : Linkage → ℕ → Type 0
-HasRoomToWeaken s left = (m : Mirror) → s.peer.mirror ≡ Some m → length (candidates_of s.managed.managed) ≤ length m.weakened + left
+HasRoomToWeaken s left = (m : Mirror) → s.peer.mirror ≡ Some m
+    → length (candidates_of s.managed.managed) ≤ length m.weakened + left
 
 -- what is reserved on the peer side while its lock is free, by what its seat knows: no reference waits; each candidate
 -- of a mirrored cycle can be weakened; and there is room for the cycle's own marking as long as that is still to come
 pub record PeerReserves (v : View) (s : PeerModel) : Type 0 where
   pub none_waits : s.reserve.waiting ≡ []
-  pub room : (k : IsDrawnView v) → (end_of k.known.past).peer ≡ s.state → HasRoomToWeaken (end_of k.known.past) s.reserve.left
+  pub room : (k : IsDrawnView v) → (end_of k.known.past).peer ≡ s.state
+      → HasRoomToWeaken (end_of k.known.past) s.reserve.left
   pub marking : s.reserve.marking ≡ is_marking_due s.entries
 
 -- what a thread is in the midst of; only a managed thread's operations have more than one entry
@@ -141,7 +143,8 @@ pub record HasAppended (order : OrderId) (old new : Shown) (r : ℕ) (k : KeptEn
 
 -- the side drew one entry by its seat, with the object to which it sets a cell, the objects that it frees and the pins
 -- that are told, and put it last: the entry may come next in its list, and the side's state is the one after it
-pub record Drew {S : Type 0} (r : SideRules S) (line : ℕ) (order : OrderId) (seat seat' : Shown) (side side' : Side S) (e : Entry) (told : Told) : Type 0 where
+pub record Drew {S : Type 0} (r : SideRules S) (line : ℕ) (order : OrderId)
+    (seat seat' : Shown) (side side' : Side S) (e : Entry) (told : Told) : Type 0 where
   pub kept : KeptEntry
   pub entry : kept.entry ≡ e
   pub target : kept.target ≡ r.target side.state e.made
@@ -161,7 +164,9 @@ pub record UnderPeer : Type 0 where
   pub view : View
 
 -- the side drew a `take` of the object of its thread's pin, which is live and in no open cycle's dead part
-pub record TakesPin (order : OrderId) (seat seat' : Shown) (side side' : Side ManagedReplay) (t : Thread) (index : ℕ) (v : Var) (r : ℕ × Reply) : Type 0 where
+pub record TakesPin (order : OrderId) (seat seat' : Shown) (side side' : Side ManagedReplay)
+    (t : Thread) (index : ℕ) (v : Var) (r : ℕ × Reply) : Type 0 where
   pub pin : Option MNum
   pub stands : PinsStand side.state.managed (pin_given (thread_number t) pin)
-  pub drew : Drew managed_rules 0 order seat seat' side side' (numbered r.0 (made_by t index (take_op v) r.1 None)) (kept_pins (pin_given (thread_number t) pin) nothing)
+  pub drew : Drew managed_rules 0 order seat seat' side side'
+      (numbered r.0 (made_by t index (take_op v) r.1 None)) (kept_pins (pin_given (thread_number t) pin) nothing)

@@ -160,7 +160,8 @@ pub record EndsWithFirst (a : Act) (answered : Reply) (rest : List Entry) (r : R
   pub answer : r.reply ≡ answered
 
 -- it ended with its second event
-pub record EndsWithSecond (t : Thread) (index : ℕ) (a : Act) (answered : Reply) (rest : List Entry) (r : Receipt) : Type 0 where
+pub record EndsWithSecond (t : Thread) (index : ℕ) (a : Act)
+    (answered : Reply) (rest : List Entry) (r : Receipt) : Type 0 where
   pub second : Op
   pub reply : Reply
   pub follows : second_of a answered ≡ Some second
@@ -169,7 +170,8 @@ pub record EndsWithSecond (t : Thread) (index : ℕ) (a : Act) (answered : Reply
   pub answer : r.reply ≡ answer_of a answered reply
 
 -- it ended with its third event, which cites the second
-pub record EndsWithThird (t : Thread) (index : ℕ) (a : Act) (answered : Reply) (rest : List Entry) (r : Receipt) : Type 0 where
+pub record EndsWithThird (t : Thread) (index : ℕ) (a : Act)
+    (answered : Reply) (rest : List Entry) (r : Receipt) : Type 0 where
   pub second : Op
   pub reply : Reply
   pub number : ℕ
@@ -177,7 +179,8 @@ pub record EndsWithThird (t : Thread) (index : ℕ) (a : Act) (answered : Reply)
   pub released : Reply
   pub follows : second_of a answered ≡ Some second
   pub then_follows : third_of second reply ≡ Some third
-  pub two_more : rest ≡ entry_by t index number second reply (Some r.first) ∷ entry_by t index r.last third released (Some number) ∷ []
+  pub two_more : rest ≡ entry_by t index number second reply
+      (Some r.first) ∷ entry_by t index r.last third released (Some number) ∷ []
   pub answer : r.reply ≡ reply
 
 -- the entries are those of an operation, all of them in turn; the receipt has the numbers of the first and the last one
@@ -186,7 +189,8 @@ pub record IsOperation (t : Thread) (index : ℕ) (a : Act) (es : List Entry) (r
   pub answered : Reply
   pub rest : List Entry
   pub all : es ≡ entry_by t index r.first (first_of a) answered None ∷ rest
-  pub ends : EndsWithFirst a answered rest r ⊎ EndsWithSecond t index a answered rest r ⊎ EndsWithThird t index a answered rest r
+  pub ends : EndsWithFirst a answered rest r
+      ⊎ EndsWithSecond t index a answered rest r ⊎ EndsWithThird t index a answered rest r
 
 -- the first event alone of an operation that has a second one, which isn't a release
 pub record IsFirstAlone (t : Thread) (index : ℕ) (a : Act) (es : List Entry) : Type 0 where
@@ -215,4 +219,5 @@ pub record ReadsBy (old new : Pass) (index : ℕ) (a : Act) (g : Got) : Type 0 w
   pub number : ℕ
   pub reads : Reads (thread_number old.thread) index a g number old.view new.view
   pub runs : Runs old.thread old.view new.view index a (record { first = number; last = number; reply = reply_of g })
-  pub entries : new.reads.entries ≡ old.reads.entries ++ entry_by old.thread index number (op.Line a) (reply_of g) None ∷ []
+  pub entries : new.reads.entries ≡ old.reads.entries ++ entry_by old.thread index number
+      (op.Line a) (reply_of g) None ∷ []

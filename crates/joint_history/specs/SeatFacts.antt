@@ -18,7 +18,8 @@ use Rattle.joint_machine.specs.Replaying.{IsKept}
 use Rattle.joint_machine.specs.PinsTold.{bare_told}
 use Rattle.joint_laws.specs.LinkedInvariants.{HasStrength, IsHeldOne}
 use Rattle.joint_laws.specs.PeerInvariants.{IsTabled}
-use Rattle.known_laws.specs.Citations.{IsClearOf, IsGiveOf, IsGripOf, IsLendOf, IsMakeOf, IsMeetOf, IsSnapOf, StandsBehind, restores_in}
+use Rattle.known_laws.specs.Citations.{IsClearOf, IsGiveOf, IsGripOf, IsLendOf, IsMakeOf, IsMeetOf, IsSnapOf}
+use Rattle.known_laws.specs.Citations.{StandsBehind, restores_in}
 use Rattle.known_laws.specs.Facts.{IsAnswered, TakesHandle}
 use Rattle.known_laws.specs.Pasts.{end_of}
 use Rattle.known_laws.specs.PastEntries.{InPast}
@@ -59,37 +60,48 @@ ManagedListCites v es = (e : Entry) → Contains es e → CitesPeers v e e.made.
 
 -- a held handle left the table only by a release or by a restore
 abbrev pub HandlesLeft : Side PeerReplay → Type 0
-HandlesLeft s = (h : ℕ) → IsHeldOne s.state h → ((row : TableRow) → IsTabled s.state.table h row → ⊥) → (e : Entry) × Contains s.entries e × TakesHandle e.made h
+HandlesLeft s = (h : ℕ) → IsHeldOne s.state h → ((row : TableRow) → IsTabled s.state.table h row → ⊥)
+    → (e : Entry) × Contains s.entries e × TakesHandle e.made h
 
 -- a held handle is weak only where it was weakened in the mirrored cycle and isn't restored
 abbrev pub WeakIsWaitingIn : PeerReplay → Type 0
-WeakIsWaitingIn s = (h : ℕ) → HasStrength s h weak → IsHeldOne s h → (m : Mirror) × (s.mirror ≡ Some m) × Contains m.weakened h × (Contains m.restored h → ⊥)
+WeakIsWaitingIn s = (h : ℕ) → HasStrength s h weak → IsHeldOne s h → (m : Mirror)
+    × (s.mirror ≡ Some m) × Contains m.weakened h × (Contains m.restored h → ⊥)
 
 -- no field and no mirrored reference leads from an unfreed peer to a freed one
 abbrev pub NoneLeadsToFreedIn : PeerReplay → Type 0
-NoneLeadsToFreedIn s = (p q : ℕ) → IsLive s.peers.heap p → Contains (fields_of s.peers.heap p) (Some q) ⊎ Refers s.refs p q → IsLive s.peers.heap q
+NoneLeadsToFreedIn s = (p q : ℕ) → IsLive s.peers.heap p
+    → Contains (fields_of s.peers.heap p) (Some q) ⊎ Refers s.refs p q → IsLive s.peers.heap q
 
 -- no mirrored reference leads from a peer whose restore in the mirrored cycle answered alive to one whose restore
 -- answered cleared
 abbrev pub NoneLeadsToClearedIn : View → Type 0
-NoneLeadsToClearedIn v = (a : IsDrawnView v) (o : OpenSnap) (answers : List Answer) → (end_of a.known.past).control.stand ≡ restoring o answers → (p q : ℕ) → Refers (end_of a.known.past).peer.refs p q
-    → (alive : Answer) → IsKept alive → IsAnswered (end_of a.known.past) answers alive p → IsAnswered (end_of a.known.past) answers said_cleared q → ⊥
+NoneLeadsToClearedIn v = (a : IsDrawnView v) (o : OpenSnap) (answers : List Answer)
+    → (end_of a.known.past).control.stand ≡ restoring o answers → (p q : ℕ) → Refers (end_of a.known.past).peer.refs p q
+    → (alive : Answer) → IsKept alive → IsAnswered (end_of a.known.past) answers alive p
+    → IsAnswered (end_of a.known.past) answers said_cleared q → ⊥
 
 -- the latest entry of a past, where it is a resolve, freed of its candidates exactly those whose restore answered
 -- cleared
 abbrev pub ResolveFreed : Noted → List Noted → Type 0
-ResolveFreed x h = (k : Cycle) → x.entry.made.op ≡ op.Resolve k → (answers : List Answer) (freed : List ℕ) → bare_told x.told ≡ resolution_of answers freed
-    → (i g m : ℕ) (a : Answer) → slice_get (restores_in h) i ≡ Some (g, a) → slice_get (candidates_of (end_of h).managed.managed) i ≡ Some m → Contains freed m ↔ (a ≡ said_cleared)
+ResolveFreed x h = (k : Cycle) → x.entry.made.op ≡ op.Resolve k
+    → (answers : List Answer) (freed : List ℕ) → bare_told x.told ≡ resolution_of answers freed
+    → (i g m : ℕ) (a : Answer) → slice_get (restores_in h) i ≡ Some (g, a)
+    → slice_get (candidates_of (end_of h).managed.managed) i ≡ Some m → Contains freed m ↔ (a ≡ said_cleared)
 
 -- so did each resolve that the seat knows
 abbrev pub ResolvesFreed : View → Type 0
-ResolvesFreed v = (a : IsDrawnView v) (x : Noted) → InPast a.known.past x → (b : StandsBehind a.known.past x) × ResolveFreed x b.back
+ResolvesFreed v = (a : IsDrawnView v) (x : Noted) → InPast a.known.past x
+    → (b : StandsBehind a.known.past x) × ResolveFreed x b.back
 
 -- the latest entry of a past, where it is a resolve, gave each of its candidates whose restore answered alive the
 -- handle that this restore gave
 abbrev pub ResolveRenewed : Noted → List Noted → Type 0
-ResolveRenewed x h = (k : Cycle) → x.entry.made.op ≡ op.Resolve k → (i g m n : ℕ) → slice_get (restores_in h) i ≡ Some (g, said_alive n) → slice_get (candidates_of (end_of h).managed.managed) i ≡ Some m → Holds (end_of (x ∷ h)).managed.managed m n
+ResolveRenewed x h = (k : Cycle) → x.entry.made.op ≡ op.Resolve k → (i g m n : ℕ)
+    → slice_get (restores_in h) i ≡ Some (g, said_alive n)
+    → slice_get (candidates_of (end_of h).managed.managed) i ≡ Some m → Holds (end_of (x ∷ h)).managed.managed m n
 
 -- so did each resolve that the seat knows
 abbrev pub ResolvesRenewed : View → Type 0
-ResolvesRenewed v = (a : IsDrawnView v) (x : Noted) → InPast a.known.past x → (b : StandsBehind a.known.past x) × ResolveRenewed x b.back
+ResolvesRenewed v = (a : IsDrawnView v) (x : Noted) → InPast a.known.past x
+    → (b : StandsBehind a.known.past x) × ResolveRenewed x b.back

@@ -30,7 +30,8 @@ impl<N: OrderName> Model for WaitingPass<N> {
 
     ghost view = { λ p. record { thread = p.thread; view = p.seat.view; reads = reads_of p.thread p.reads } };
 
-    ghost invariant = { λ p. IsThread p.thread × (p.seat.order ≡ N.order) × HoldsPass p.thread p.seat.view × CallerKnows p.thread p.seat.view × Settled p.seat.view × KeepsReads p.thread p.seat.view p.reads.entries };
+    ghost invariant = { λ p. IsThread p.thread × (p.seat.order ≡ N.order) × HoldsPass p.thread p.seat.view
+        × CallerKnows p.thread p.seat.view × Settled p.seat.view × KeepsReads p.thread p.seat.view p.reads.entries };
 }
 
 /// A thread's pass, with what the thread knows, and of a managed thread the list of its reads, which it makes by
@@ -53,7 +54,9 @@ impl<N: OrderName> Model for Caller<N> {
 
     ghost view = { λ c. record { thread = c.thread; view = c.seat.view; reads = reads_of c.thread c.reads } };
 
-    ghost invariant = { λ c. IsOfRun N.managed N.peers c.thread × (c.seat.order ≡ N.order) × HoldsPass c.thread c.seat.view × CallerKnows c.thread c.seat.view × Settled c.seat.view × KeepsReads c.thread c.seat.view c.reads.entries };
+    ghost invariant = { λ c. IsOfRun N.managed N.peers c.thread × (c.seat.order ≡ N.order)
+        × HoldsPass c.thread c.seat.view × CallerKnows c.thread c.seat.view
+        × Settled c.seat.view × KeepsReads c.thread c.seat.view c.reads.entries };
 }
 
 /// What an operation's entries are: the numbers of its first and its last one, and its reply.

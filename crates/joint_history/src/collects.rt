@@ -38,7 +38,8 @@ fn collect_by(
     requires entries { line_known drawing.old.seat.now.view 1 ≡ side.old.entries }
     ensures settled { Settled drawing.new.seat.now.view }
     ensures same_reference { drawing.new.seat.ghost_name ≡ drawing.old.seat.ghost_name }
-    ensures drew { IfOk result (λ r. DrawsCollect drawing.old.order.now drawing.old.seat.now drawing.new.seat.now (seen side.old) (seen side.new) caller index r) }
+    ensures drew { IfOk result (λ r. DrawsCollect drawing.old.order.now drawing.old.seat.now drawing.new.seat.now
+        (seen side.old) (seen side.new) caller index r) }
     ensures err { OnErr result (StaysSeated drawing.old.seat.now drawing.new.seat.now × (seen side.new ≡ seen side.old)) }
     ensures reserve { side.new.reserve ≡ side.old.reserve }
     ensures threads { side.new.threads ≡ side.old.threads }
@@ -69,7 +70,8 @@ fn draw_collect(
     requires settled { Settled seat.old.view }
     requires entries { line_known seat.old.view 1 ≡ side.old.entries }
     ensures settled { Settled seat.new.view }
-    ensures drew { IfOk result (λ r. DrawsCollect order.now seat.old seat.new (seen side.old) (seen side.new) caller index r) }
+    ensures drew { IfOk result (λ r. DrawsCollect order.now seat.old seat.new
+        (seen side.old) (seen side.new) caller index r) }
     ensures err { OnErr result (StaysSeated seat.old seat.new × (seen side.new ≡ seen side.old)) }
     ensures reserve { side.new.reserve ≡ side.old.reserve }
     ensures threads { side.new.threads ≡ side.old.threads }

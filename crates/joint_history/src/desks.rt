@@ -1,6 +1,7 @@
 // The callers that weren't given out yet.
 
-ghost use Rattle.std.specs.Prelude.{◌≡◌, ◌≤◌, ◌<◌, ℕ, ◌++◌, IfOk, IfSome, List, Option, Some, option_to_list, slice_get, true};
+ghost use Rattle.std.specs.Prelude.{◌≡◌, ◌≤◌, ◌<◌, ℕ, ◌++◌, IfOk, IfSome, List, Option, Some, option_to_list};
+ghost use Rattle.std.specs.Prelude.{slice_get, true};
 ghost use Rattle.joint_machine.specs.Control.{caller_place};
 ghost use Rattle.joint_machine.specs.Lines.{IsThread};
 ghost use Rattle.order_table.specs.Allowed.{Settled};
@@ -32,7 +33,8 @@ impl<N: OrderName> Model for Desk<N> {
 
     ghost view = { λ d. record { managed = d.managed; peers = d.peers; callers = d.callers.items } };
 
-    ghost invariant = { λ d. IsDesk record { managed = d.managed; peers = d.peers; callers = d.callers.items } × (d.managed ≡ N.managed) × (d.peers ≡ N.peers) };
+    ghost invariant = { λ d. IsDesk record { managed = d.managed; peers = d.peers; callers = d.callers.items }
+        × (d.managed ≡ N.managed) × (d.peers ≡ N.peers) };
 }
 
 // The thread with that place: the driver, m1 to m8, p1 to p8.

@@ -18,7 +18,9 @@ ghost use Rattle.managed_heap.specs.Calls.{MayContractWith, contract_op};
 ghost use Rattle.managed_heap.specs.Resolving.{MayClose};
 ghost use Rattle.managed_heap.specs.Sides.{as_side};
 ghost use Rattle.joint_history.specs.Callers.{HoldsPass};
-ghost use Rattle.joint_history.specs.Driven.{DriverMakesNone, MakesAbandon, MakesContraction, MakesFinalise, MakesRefusal, MakesResolution, MayAbandonCycle, MayContractCycle, MayFinalise, MayRefuseWord, MayResolveCycle, driver_entry};
+ghost use Rattle.joint_history.specs.Driven.{DriverMakesNone, MakesAbandon, MakesContraction, MakesFinalise};
+ghost use Rattle.joint_history.specs.Driven.{MakesRefusal, MakesResolution, MayAbandonCycle, MayContractCycle};
+ghost use Rattle.joint_history.specs.Driven.{MayFinalise, MayRefuseWord, MayResolveCycle, driver_entry};
 ghost use Rattle.joint_history.specs.DriverDraws.{DrawsAbandon, DrawsContraction, DrawsResolution};
 ghost use Rattle.joint_history.specs.Knowing.{line_known};
 ghost use Rattle.joint_history.specs.Locked.{Drew, ManagedKnows, StaysSeated};
@@ -41,11 +43,13 @@ fn draw_contraction(
     xrefs: u32,
 ) -> u64
     requires contracted { MayContractWith side.old.state sccs xrefs }
-    requires may { (c : OpenCycle) → side.old.state.managed.cycle ≡ Some c → MayAppend order.now seat.old 0 C (contract_op c) None }
+    requires may { (c : OpenCycle) → side.old.state.managed.cycle ≡ Some c
+        → MayAppend order.now seat.old 0 C (contract_op c) None }
     requires settled { Settled seat.old.view }
     requires entries { line_known seat.old.view 0 ≡ side.old.entries }
     ensures settled { Settled seat.new.view }
-    ensures drew { DrawsContraction order.now seat.old seat.new (as_side side.old) (as_side side.new) index sccs xrefs result }
+    ensures drew { DrawsContraction order.now seat.old seat.new
+        (as_side side.old) (as_side side.new) index sccs xrefs result }
 {
     let mut drawing = SeatDrawing {
         order,
@@ -97,7 +101,8 @@ fn draw_resolution(
     requires settled { Settled seat.old.view }
     requires knows { ManagedKnows seat.old.view (as_side side.old) }
     ensures settled { Settled seat.new.view }
-    ensures drew { DrawsResolution order.now seat.old seat.new (as_side side.old) (as_side side.new) index cites result.0 alive.now.values result.1 }
+    ensures drew { DrawsResolution order.now seat.old seat.new (as_side side.old)
+        (as_side side.new) index cites result.0 alive.now.values result.1 }
 {
     let mut drawing = SeatDrawing {
         order,
@@ -126,7 +131,8 @@ fn draw_refusal(
     requires settled { Settled seat.old.view }
     requires entries { line_known seat.old.view 0 ≡ side.old.entries }
     ensures settled { Settled seat.new.view }
-    ensures drew { IfOk result (λ r. Drew managed_rules 0 order.now seat.old seat.new (as_side side.old) (as_side side.new) (driver_entry r.0 index (op.Refused word) r.1 None) (phase_of phase)) }
+    ensures drew { IfOk result (λ r. Drew managed_rules 0 order.now seat.old seat.new (as_side side.old)
+        (as_side side.new) (driver_entry r.0 index (op.Refused word) r.1 None) (phase_of phase)) }
     ensures threads { side.new.threads ≡ side.old.threads }
     ensures err { OnErr result (StaysSeated seat.old seat.new × (as_side side.new ≡ as_side side.old)) }
 {
@@ -203,7 +209,8 @@ impl<N: OrderName> LockedManaged<N> {
         ensures order { mine.new.order ≡ N.order }
         ensures settled { Settled mine.new.view }
         ensures pass { HoldsPass C mine.new.view }
-        ensures makes { MakesResolution mine.old.view mine.new.view index clear result.0 (answers_of alive.now.values) result.1.freed }
+        ensures makes { MakesResolution mine.old.view mine.new.view index clear result.0
+            (answers_of alive.now.values) result.1.freed }
         ensures kept { result.1.kept ≡ count_by is_some alive.now.values }
     {
         lend(order, &mut self.seat, mine, Thread::C);

@@ -5,8 +5,11 @@
 ghost use Rattle.std.specs.Prelude.{◌≡◌, ◌⊎◌, ◌≤◌, ℕ, IfErr, IfOk, OnErr, count_by, is_some};
 ghost use Rattle.joint_machine.specs.Lines.{IsDriver};
 ghost use Rattle.joint_model.specs.Listed.{answers_of};
-ghost use Rattle.joint_history.specs.Driven.{DriverMakesNone, DriverRests, MakesAbandon, MakesContraction, MakesFinalise, MakesRefusal, MakesResolution, MayAbandonCycle, MayContractCycle, MayFinalise, MayRefuseWord, MayResolveCycle};
-ghost use Rattle.joint_history.specs.DriverHandles.{MakesClear, MakesRestore, MakesWeaken, MayClearCycle, MayRestoreHandle, MayWeakenHandle};
+ghost use Rattle.joint_history.specs.Driven.{DriverMakesNone, DriverRests, MakesAbandon, MakesContraction};
+ghost use Rattle.joint_history.specs.Driven.{MakesFinalise, MakesRefusal, MakesResolution, MayAbandonCycle};
+ghost use Rattle.joint_history.specs.Driven.{MayContractCycle, MayFinalise, MayRefuseWord, MayResolveCycle};
+ghost use Rattle.joint_history.specs.DriverHandles.{MakesClear, MakesRestore, MakesWeaken, MayClearCycle};
+ghost use Rattle.joint_history.specs.DriverHandles.{MayRestoreHandle, MayWeakenHandle};
 ghost use Rattle.joint_history.specs.DriverMarks.{HasBegunMarking, MakesMark, MakesSweep, MayMarkCycle};
 ghost use Rattle.joint_history.specs.DriverSnaps.{MakesSnapshot};
 
@@ -73,7 +76,8 @@ impl<N: OrderName, K: Keeps<N>> Shared<N, K> {
         requires driver { IsDriver driver.old.thread }
         requires may { MayResolveCycle driver.old.view index clear (answers_of alive.now.values) }
         ensures thread { driver.new.thread ≡ driver.old.thread }
-        ensures makes { MakesResolution driver.old.view driver.new.view index clear result.0 (answers_of alive.now.values) result.1.freed }
+        ensures makes { MakesResolution driver.old.view driver.new.view index clear result.0
+            (answers_of alive.now.values) result.1.freed }
         ensures kept { result.1.kept ≡ count_by is_some alive.now.values }
     {
         self.managed

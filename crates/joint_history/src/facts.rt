@@ -5,7 +5,9 @@ ghost use Rattle.std.specs.Prelude.{◌≡◌};
 ghost use Rattle.peer_heap.specs.Sides.{seen};
 ghost use Rattle.joint_history.specs.Callers.{CallerKnows, IsOfRun, reads_of};
 ghost use Rattle.joint_history.specs.Locked.{ManagedKnows, PeerKnows, PeerReserves};
-ghost use Rattle.joint_history.specs.SeatFacts.{HandlesLeft, ManagedListCites, NoneLeadsToClearedIn, NoneLeadsToFreedIn, PeerListCites, ResolvesFreed, ResolvesRenewed, WeakIsWaitingIn};
+ghost use Rattle.joint_history.specs.SeatFacts.{HandlesLeft, ManagedListCites, NoneLeadsToClearedIn};
+ghost use Rattle.joint_history.specs.SeatFacts.{NoneLeadsToFreedIn, PeerListCites, ResolvesFreed, ResolvesRenewed};
+ghost use Rattle.joint_history.specs.SeatFacts.{WeakIsWaitingIn};
 
 use crate::callers::Caller;
 use crate::managed::LockedManaged;

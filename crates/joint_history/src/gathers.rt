@@ -11,7 +11,8 @@ ghost use Rattle.order_table.specs.Allowed.{Settled};
 ghost use Rattle.order_table.specs.Views.{Owns};
 ghost use Rattle.joint_history.specs.Callers.{Pass};
 ghost use Rattle.joint_history.specs.Desks.{WaitsAt, present};
-ghost use Rattle.joint_history.specs.Ending.{AllAreIn, GathersAll, HasAll, HasIdleDriver, StillWaits, TakesOwn, threads_of, with_reads};
+ghost use Rattle.joint_history.specs.Ending.{AllAreIn, GathersAll, HasAll, HasIdleDriver, StillWaits, TakesOwn};
+ghost use Rattle.joint_history.specs.Ending.{threads_of, with_reads};
 ghost use Rattle.joint_history.specs.Knowing.{line_known};
 ghost use Rattle.joint_history.specs.Locked.{ManagedKnows, PeerKnows};
 
@@ -43,7 +44,8 @@ fn take_in<N: OrderName>(
     requires idle { HasIdleDriver pass }
     ensures order { seat.new.order ≡ N.order }
     ensures settled { Settled seat.new.view }
-    ensures gathers { GathersAll seat.old.view seat.new.view (entry_lists lists.old) (entry_lists lists.new) (pass.thread ∷ []) }
+    ensures gathers { GathersAll seat.old.view seat.new.view
+        (entry_lists lists.old) (entry_lists lists.new) (pass.thread ∷ []) }
     ensures own { TakesOwn seat.old.view seat.new.view (pass ∷ []) }
 {
     let WaitingPass {
@@ -68,7 +70,8 @@ pub(crate) fn gather<N: OrderName>(
     requires idle { All HasIdleDriver callers.items }
     ensures order { seat.new.order ≡ N.order }
     ensures settled { Settled seat.new.view }
-    ensures gathers { GathersAll seat.old.view seat.new.view (entry_lists lists.old) (entry_lists lists.new) (threads_of callers.items) }
+    ensures gathers { GathersAll seat.old.view seat.new.view
+        (entry_lists lists.old) (entry_lists lists.new) (threads_of callers.items) }
     ensures own { TakesOwn seat.old.view seat.new.view callers.items }
 {
     for caller in callers {
@@ -88,7 +91,8 @@ pub(crate) fn gather_waiting<N: OrderName>(
     requires waits { (i : ℕ) (o : Option Pass) → slice_get callers.items i ≡ Some o → WaitsAt i o }
     ensures order { seat.new.order ≡ N.order }
     ensures settled { Settled seat.new.view }
-    ensures gathers { GathersAll seat.old.view seat.new.view (entry_lists lists.old) (entry_lists lists.new) (threads_of (present callers.items)) }
+    ensures gathers { GathersAll seat.old.view seat.new.view (entry_lists lists.old)
+        (entry_lists lists.new) (threads_of (present callers.items)) }
     ensures own { TakesOwn seat.old.view seat.new.view (present callers.items) }
 {
     for waiting in callers {
@@ -115,7 +119,9 @@ pub(crate) fn gather_all<N: OrderName>(
     requires idle { All HasIdleDriver callers.items }
     ensures order { seat.new.order ≡ N.order }
     ensures settled { Settled seat.new.view }
-    ensures gathers { (l : Side ManagedReplay) (r : Side PeerReplay) → ManagedKnows seat.old.view l → PeerKnows other.view r → Owns seat.old.view 0 → Owns other.view 1 → AllAreIn seat.new.view l r (entry_lists lists.new) }
+    ensures gathers { (l : Side ManagedReplay) (r : Side PeerReplay) → ManagedKnows seat.old.view l
+        → PeerKnows other.view r → Owns seat.old.view 0 → Owns other.view 1
+        → AllAreIn seat.new.view l r (entry_lists lists.new) }
     ensures own { TakesOwn seat.old.view seat.new.view (callers.items ++ present desk.callers) }
     ensures waiting { (t : Thread) → IsThread t → StillWaits desk t → line_known seat.new.view (caller_line t) ≡ [] }
 {

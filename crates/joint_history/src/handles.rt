@@ -14,7 +14,8 @@ ghost use Rattle.peer_heap.specs.Mirrors.{AreTargetsRestored};
 ghost use Rattle.peer_heap.specs.Sides.{seen};
 ghost use Rattle.joint_history.specs.Callers.{HoldsPass};
 ghost use Rattle.joint_history.specs.Driven.{driver_entry};
-ghost use Rattle.joint_history.specs.DriverHandles.{MakesClear, MakesRestore, MakesWeaken, MayClearCycle, MayRestoreHandle, MayWeakenHandle};
+ghost use Rattle.joint_history.specs.DriverHandles.{MakesClear, MakesRestore, MakesWeaken, MayClearCycle};
+ghost use Rattle.joint_history.specs.DriverHandles.{MayRestoreHandle, MayWeakenHandle};
 ghost use Rattle.joint_history.specs.Knowing.{line_known};
 ghost use Rattle.joint_history.specs.Locked.{Drew};
 ghost use Rattle.seat_calls.specs.Passing.{MayAppend};
@@ -43,7 +44,8 @@ fn draw_weaken(
     requires settled { Settled seat.old.view }
     requires entries { line_known seat.old.view 1 ≡ side.old.entries }
     ensures settled { Settled seat.new.view }
-    ensures drew { Drew peer_rules 1 order.now seat.old seat.new (seen side.old) (seen side.new) (driver_entry result index (op.Weaken h) says.Ok (Some snap)) nothing }
+    ensures drew { Drew peer_rules 1 order.now seat.old seat.new (seen side.old)
+        (seen side.new) (driver_entry result index (op.Weaken h) says.Ok (Some snap)) nothing }
     ensures reserve { side.new.reserve ≡ reserve_left side.old.reserve }
     ensures threads { side.new.threads ≡ side.old.threads }
 {
@@ -71,7 +73,8 @@ fn draw_restore(
     requires settled { Settled seat.old.view }
     requires entries { line_known seat.old.view 1 ≡ side.old.entries }
     ensures settled { Settled seat.new.view }
-    ensures drew { Drew peer_rules 1 order.now seat.old seat.new (seen side.old) (seen side.new) (driver_entry result.0 index (op.Restore h) (reply_of result.1) None) nothing }
+    ensures drew { Drew peer_rules 1 order.now seat.old seat.new (seen side.old) (seen side.new)
+        (driver_entry result.0 index (op.Restore h) (reply_of result.1) None) nothing }
     ensures reserve { side.new.reserve ≡ side.old.reserve }
     ensures threads { side.new.threads ≡ side.old.threads }
 {
@@ -94,7 +97,8 @@ fn draw_clear(side: &mut PeerSide, order: &Order, seat: &mut Seat, index: u32, c
     requires settled { Settled seat.old.view }
     requires entries { line_known seat.old.view 1 ≡ side.old.entries }
     ensures settled { Settled seat.new.view }
-    ensures drew { Drew peer_rules 1 order.now seat.old seat.new (seen side.old) (seen side.new) (driver_entry result index (op.Clear cycle) says.Ok None) nothing }
+    ensures drew { Drew peer_rules 1 order.now seat.old seat.new (seen side.old)
+        (seen side.new) (driver_entry result index (op.Clear cycle) says.Ok None) nothing }
     ensures reserve { side.new.reserve ≡ reserve_over side.old.reserve }
     ensures threads { side.new.threads ≡ side.old.threads }
 {

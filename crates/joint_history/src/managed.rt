@@ -17,7 +17,8 @@ ghost use Rattle.managed_heap.specs.Sides.{as_side};
 ghost use Rattle.managed_heap.specs.Steps.{CitesRightly, IsFresh, IsManagedStep, take_op, weak_op};
 ghost use Rattle.joint_history.specs.Callers.{HoldsPass, KeepsReads, KnowsNothing, ReadsStay};
 ghost use Rattle.joint_history.specs.Knowing.{line_known};
-ghost use Rattle.joint_history.specs.Locked.{Drew, Makes, MakesNone, ManagedKnows, MayMake, StaysSeated, TakesPin, made_by};
+ghost use Rattle.joint_history.specs.Locked.{Drew, Makes, MakesNone, ManagedKnows, MayMake, StaysSeated, TakesPin};
+ghost use Rattle.joint_history.specs.Locked.{made_by};
 ghost use Rattle.joint_history.specs.Operations.{ReadsExactly};
 
 use joint_model::{Act, Cell, Entries, Holding, MNum, Op, Reply, Thread, Var};
@@ -48,7 +49,8 @@ impl<N: OrderName> Model for LockedManaged<N> {
 
     ghost view = { λ l. record { side = as_side l.side; view = l.seat.view } };
 
-    ghost invariant = { λ l. (l.seat.order ≡ N.order) × Owns l.seat.view 0 × ManagedKnows l.seat.view (as_side l.side) × (l.side.threads ≡ N.managed) × Settled l.seat.view };
+    ghost invariant = { λ l. (l.seat.order ≡ N.order) × Owns l.seat.view 0
+        × ManagedKnows l.seat.view (as_side l.side) × (l.side.threads ≡ N.managed) × Settled l.seat.view };
 }
 
 /// Which managed objects are live.
@@ -86,7 +88,8 @@ pub(crate) fn draw_step(
     requires settled { Settled seat.old.view }
     requires entries { line_known seat.old.view 0 ≡ side.old.entries }
     ensures settled { Settled seat.new.view }
-    ensures drew { IfOk result (λ r. Drew managed_rules 0 order.now seat.old seat.new (as_side side.old) (as_side side.new) (numbered r.0 (made_by caller index op.now r.1 cites)) nothing) }
+    ensures drew { IfOk result (λ r. Drew managed_rules 0 order.now seat.old seat.new (as_side side.old)
+        (as_side side.new) (numbered r.0 (made_by caller index op.now r.1 cites)) nothing) }
     ensures threads { side.new.threads ≡ side.old.threads }
     ensures err { OnErr result (StaysSeated seat.old seat.new × (as_side side.new ≡ as_side side.old)) }
 {
@@ -119,7 +122,8 @@ fn draw_weak(
     requires owner { Owns seat.old.view 0 × Owns seat.old.view (caller_line caller) }
     requires settled { Settled seat.old.view }
     requires knows { ManagedKnows seat.old.view (as_side side.old) }
-    ensures drew { IfOk result (λ r. Drew managed_rules 0 order.now seat.old seat.new (as_side side.old) (as_side side.new) (numbered r.0 (made_by caller index (weak_op k v) r.1 None)) nothing) }
+    ensures drew { IfOk result (λ r. Drew managed_rules 0 order.now seat.old seat.new (as_side side.old)
+        (as_side side.new) (numbered r.0 (made_by caller index (weak_op k v) r.1 None)) nothing) }
     ensures settled { Settled seat.new.view }
     ensures threads { side.new.threads ≡ side.old.threads }
     ensures err { OnErr result (StaysSeated seat.old seat.new × (as_side side.new ≡ as_side side.old)) }
@@ -166,7 +170,8 @@ fn draw_take(
     requires owner { Owns seat.old.view 0 × Owns seat.old.view (caller_line caller) }
     requires settled { Settled seat.old.view }
     requires knows { ManagedKnows seat.old.view (as_side side.old) }
-    ensures drew { IfOk result (λ r. TakesPin order.now seat.old seat.new (as_side side.old) (as_side side.new) caller index v r) }
+    ensures drew { IfOk result (λ r. TakesPin
+        order.now seat.old seat.new (as_side side.old) (as_side side.new) caller index v r) }
     ensures settled { Settled seat.new.view }
     ensures threads { side.new.threads ≡ side.old.threads }
     ensures err { OnErr result (StaysSeated seat.old seat.new × (as_side side.new ≡ as_side side.old)) }
@@ -211,7 +216,8 @@ impl<N: OrderName> LockedManaged<N> {
     /// The side and its seat.
     pub(crate) fn into_parts(self) -> (ManagedSide, Seat)
         ensures side { as_side result.0 ≡ self.side }
-        ensures seat { (result.1.order ≡ N.order) × (result.1.view ≡ self.view) × Owns result.1.view 0 × Settled result.1.view }
+        ensures seat { (result.1.order ≡ N.order) × (result.1.view ≡ self.view)
+            × Owns result.1.view 0 × Settled result.1.view }
         ensures knows { ManagedKnows result.1.view (as_side result.0) }
     {
         let LockedManaged { side, seat, of: _ } = self;
@@ -239,7 +245,8 @@ impl<N: OrderName> LockedManaged<N> {
         ensures order { mine.new.order ≡ N.order }
         ensures settled { Settled mine.new.view }
         ensures pass { HoldsPass caller mine.new.view }
-        ensures ok { IfOk result (λ r. Makes caller mine.old.view mine.new.view (numbered r.0 (made_by caller index op.now r.1 cites))) }
+        ensures ok { IfOk result (λ r. Makes caller mine.old.view mine.new.view
+            (numbered r.0 (made_by caller index op.now r.1 cites))) }
         ensures reads { ReadsStay caller mine.old.view mine.new.view }
         ensures err { OnErr result (MakesNone caller mine.old.view mine.new.view) }
     {
@@ -276,7 +283,8 @@ impl<N: OrderName> LockedManaged<N> {
         ensures order { mine.new.order ≡ N.order }
         ensures settled { Settled mine.new.view }
         ensures pass { HoldsPass caller mine.new.view }
-        ensures ok { IfOk result (λ r. Makes caller mine.old.view mine.new.view (numbered r.0 (made_by caller index (take_op v) r.1 None))) }
+        ensures ok { IfOk result (λ r. Makes caller mine.old.view mine.new.view
+            (numbered r.0 (made_by caller index (take_op v) r.1 None))) }
         ensures reads { ReadsStay caller mine.old.view mine.new.view }
         ensures err { OnErr result (MakesNone caller mine.old.view mine.new.view) }
     {
@@ -308,7 +316,8 @@ impl<N: OrderName> LockedManaged<N> {
         ensures order { mine.new.order ≡ N.order }
         ensures settled { Settled mine.new.view }
         ensures pass { HoldsPass caller mine.new.view }
-        ensures ok { IfOk result (λ r. Makes caller mine.old.view mine.new.view (numbered r.0 (made_by caller index (weak_op k v) r.1 None))) }
+        ensures ok { IfOk result (λ r. Makes caller mine.old.view mine.new.view
+            (numbered r.0 (made_by caller index (weak_op k v) r.1 None))) }
         ensures reads { ReadsStay caller mine.old.view mine.new.view }
         ensures err { OnErr result (MakesNone caller mine.old.view mine.new.view) }
     {
@@ -340,7 +349,8 @@ impl<N: OrderName> LockedManaged<N> {
         ensures order { mine.new.order ≡ N.order }
         ensures settled { Settled mine.new.view }
         ensures pass { HoldsPass caller mine.new.view }
-        ensures makes { Makes caller mine.old.view mine.new.view (numbered result.0 (made_by caller index (op.Line act.now) result.1 None)) }
+        ensures makes { Makes caller mine.old.view mine.new.view
+            (numbered result.0 (made_by caller index (op.Line act.now) result.1 None)) }
         ensures exact { ReadsExactly caller mine.old.view mine.new.view act.now result.1 }
         ensures reads { KeepsReads caller mine.new.view reads.new.entries }
         ensures spare { reads.new.spare + 1 ≡ reads.old.spare }

@@ -12,7 +12,8 @@ ghost use Rattle.order_table.specs.Allowed.{Settled};
 ghost use Rattle.peer_heap.specs.Sides.{IsDrivers, is_own, reserve_begun, seen};
 ghost use Rattle.joint_history.specs.Callers.{HoldsPass};
 ghost use Rattle.joint_history.specs.Driven.{DriverMakesNone, driver_entry};
-ghost use Rattle.joint_history.specs.DriverMarks.{DrawsSweep, EndsFirst, HasBegunMarking, MakesBegin, MakesMark, MakesSweep, MayBeginMarking, MayEndMarking, MayMarkCycle};
+ghost use Rattle.joint_history.specs.DriverMarks.{DrawsSweep, EndsFirst, HasBegunMarking, MakesBegin, MakesMark};
+ghost use Rattle.joint_history.specs.DriverMarks.{MakesSweep, MayBeginMarking, MayEndMarking, MayMarkCycle};
 ghost use Rattle.joint_history.specs.Knowing.{line_known};
 ghost use Rattle.joint_history.specs.Locked.{Drew};
 ghost use Rattle.seat_calls.specs.Passing.{MayAppend};
@@ -82,7 +83,8 @@ fn draw_begin(side: &mut PeerSide, order: &Order, seat: &mut Seat, index: u32) -
     requires settled { Settled seat.old.view }
     requires entries { line_known seat.old.view 1 ≡ side.old.entries }
     ensures settled { Settled seat.new.view }
-    ensures drew { Drew peer_rules 1 order.now seat.old seat.new (seen side.old) (seen side.new) (driver_entry result.0 index op.Begin (says.Mark result.1) None) nothing }
+    ensures drew { Drew peer_rules 1 order.now seat.old seat.new (seen side.old)
+        (seen side.new) (driver_entry result.0 index op.Begin (says.Mark result.1) None) nothing }
     ensures reserve { side.new.reserve ≡ reserve_begun (is_own C side.old.reserve.marking) side.old.reserve }
     ensures threads { side.new.threads ≡ side.old.threads }
 {

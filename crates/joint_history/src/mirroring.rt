@@ -35,7 +35,8 @@ impl<N: OrderName, K: Keeps<N>> Shared<N, K> {
         requires driver { IsDriver driver.old.thread }
         requires may { MayMirrorCycle driver.old.view index cycle.0 snap graph.now comps.now }
         ensures thread { driver.new.thread ≡ driver.old.thread }
-        ensures ok { IfOk result (λ r. MakesMirror driver.old.view driver.new.view index cycle snap graph.now comps.now r.1 r.0) }
+        ensures ok { IfOk result (λ r. MakesMirror driver.old.view
+            driver.new.view index cycle snap graph.now comps.now r.1 r.0) }
         ensures err { OnErr result (DriverMakesNone driver.old.view driver.new.view) }
     {
         self.peers.hold(rt).value().mirror(

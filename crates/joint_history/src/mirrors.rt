@@ -48,7 +48,8 @@ fn draw_mirror(
     requires settled { Settled seat.old.view }
     requires entries { line_known seat.old.view 1 ≡ side.old.entries }
     ensures settled { Settled seat.new.view }
-    ensures drew { IfOk result (λ r. DrawsMirror order.now seat.old seat.new (seen side.old) (seen side.new) index cycle snap graph.now comps.now r.0 r.1) }
+    ensures drew { IfOk result (λ r. DrawsMirror order.now seat.old seat.new
+        (seen side.old) (seen side.new) index cycle snap graph.now comps.now r.0 r.1) }
     ensures reserve { OnOk result (side.new.reserve ≡ reserve_installed (length (handles_of graph.now.nodes))) }
     ensures part { IsPart graph.now.nodes graph.now.edges }
     ensures listing { IsListing comps.now.comps comps.now.heavy comps.now.pairs }
@@ -89,7 +90,8 @@ impl<N: OrderName> LockedPeer<N> {
         ensures order { mine.new.order ≡ N.order }
         ensures settled { Settled mine.new.view }
         ensures pass { HoldsPass C mine.new.view }
-        ensures ok { IfOk result (λ r. MakesMirror mine.old.view mine.new.view index cycle snap graph.now comps.now r.1 r.0) }
+        ensures ok { IfOk result (λ r. MakesMirror mine.old.view
+            mine.new.view index cycle snap graph.now comps.now r.1 r.0) }
         ensures err { OnErr result (DriverMakesNone mine.old.view mine.new.view) }
     {
         lend(order, &mut self.seat, mine, Thread::C);

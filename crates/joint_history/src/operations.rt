@@ -10,7 +10,9 @@ ghost use Rattle.peer_heap.specs.Steps.{IsRelease};
 ghost use Rattle.joint_history.specs.Callers.{HoldsPass, IsOfRun, KeepsReads, last_index, own};
 ghost use Rattle.joint_history.specs.Collecting.{Collects};
 ghost use Rattle.joint_history.specs.Locked.{MayMake, Makes, MakesNone};
-ghost use Rattle.joint_history.specs.Operations.{StopsWithoutMemory, IsMadeByEvents, IsOwnThread, IsCallBy, IsSideEvent, MakesAll, MayBegin, ReadsExactly, Runs, answer_of, call_of, entry_by, first_of, second_of, third_of};
+ghost use Rattle.joint_history.specs.Operations.{StopsWithoutMemory, IsMadeByEvents, IsOwnThread, IsCallBy};
+ghost use Rattle.joint_history.specs.Operations.{IsSideEvent, MakesAll, MayBegin, ReadsExactly, Runs, answer_of};
+ghost use Rattle.joint_history.specs.Operations.{call_of, entry_by, first_of, second_of, third_of};
 
 use crate::callers::{Caller, Receipt};
 use crate::keeping::{Keep, Keeps};
@@ -169,7 +171,8 @@ impl<N: OrderName, K: Keeps<N>> Shared<N, K> {
         ensures pass { HoldsPass t mine.new.view }
         ensures reads { KeepsReads t mine.new.view reads.new.entries }
         ensures ok { IfOk result (λ r. Makes t mine.old.view mine.new.view (entry_by t index r.0 op.now r.1 cites)) }
-        ensures exact { IfOk result (λ r. (a : Act) → op.now ≡ Op.Line a → ReadsExactly t mine.old.view mine.new.view a r.1) }
+        ensures exact { IfOk result (λ r. (a : Act) → op.now ≡ Op.Line a
+            → ReadsExactly t mine.old.view mine.new.view a r.1) }
         ensures err { OnErr result (MakesNone t mine.old.view mine.new.view) }
     {
         match call_of(op) {
@@ -224,7 +227,8 @@ impl<N: OrderName, K: Keeps<N>> Shared<N, K> {
         ensures pass { HoldsPass t mine.new.view }
         ensures reads { KeepsReads t mine.new.view reads.new.entries }
         ensures ok { IfOk result (λ r. Makes t mine.old.view mine.new.view (entry_by t index r.0 op.now r.1 cites)) }
-        ensures exact { is_peer_event t op.now ≡ false → IfOk result (λ r. (a : Act) → op.now ≡ Op.Line a → ReadsExactly t mine.old.view mine.new.view a r.1) }
+        ensures exact { is_peer_event t op.now ≡ false
+            → IfOk result (λ r. (a : Act) → op.now ≡ Op.Line a → ReadsExactly t mine.old.view mine.new.view a r.1) }
         ensures release { IsRelease op.now → IsOk result }
         ensures err { OnErr result (MakesNone t mine.old.view mine.new.view) }
     {
@@ -308,7 +312,8 @@ impl<N: OrderName, K: Keeps<N>> Shared<N, K> {
         ensures thread { caller.new.thread ≡ caller.old.thread }
         ensures index { last_index (own caller.new) ≤ index }
         ensures ok { IfOk result (λ r. Runs caller.old.thread caller.old.view caller.new.view index act.now r) }
-        ensures exact { IfOk result (λ r. ReadsExactly caller.old.thread caller.old.view caller.new.view act.now r.reply) }
+        ensures exact { IfOk result (λ r. ReadsExactly caller.old.thread
+            caller.old.view caller.new.view act.now r.reply) }
         ensures err { OnErr result (StopsWithoutMemory caller.old.thread caller.old.view caller.new.view index act.now) }
     {
         self.run(
@@ -339,7 +344,8 @@ impl<N: OrderName, K: Keeps<N>> Shared<N, K> {
         ensures thread { caller.new.thread ≡ caller.old.thread }
         ensures index { last_index (own caller.new) ≤ index }
         ensures ok { IfOk result (λ r. Runs caller.old.thread caller.old.view caller.new.view index act.now r) }
-        ensures collect { act.now ≡ Act.Collect → IfOk result (λ r. Collects caller.old.thread caller.old.view caller.new.view index r) }
+        ensures collect { act.now ≡ Act.Collect
+            → IfOk result (λ r. Collects caller.old.thread caller.old.view caller.new.view index r) }
         ensures err { OnErr result (MakesAll caller.old.thread caller.old.view caller.new.view []) }
     {
         if let Act::Collect = act {

@@ -45,7 +45,8 @@ impl<N: OrderName> Model for LockedPeer<N> {
 
     ghost view = { λ l. record { side = l.side; view = l.seat.view } };
 
-    ghost invariant = { λ l. (l.seat.order ≡ N.order) × Owns l.seat.view 1 × PeerKnows l.seat.view (seen l.side) × PeerReserves l.seat.view l.side × (l.side.threads ≡ N.peers) × Settled l.seat.view };
+    ghost invariant = { λ l. (l.seat.order ≡ N.order) × Owns l.seat.view 1 × PeerKnows l.seat.view (seen l.side)
+        × PeerReserves l.seat.view l.side × (l.side.threads ≡ N.peers) × Settled l.seat.view };
 }
 
 // The side draws by the seat: what is said here is what that leaves in both, and nothing else.
@@ -65,7 +66,8 @@ fn draw_step(
     requires settled { Settled seat.old.view }
     requires entries { line_known seat.old.view 1 ≡ side.old.entries }
     ensures settled { Settled seat.new.view }
-    ensures drew { IfOk result (λ r. Drew peer_rules 1 order.now seat.old seat.new (seen side.old) (seen side.new) (numbered r.0 (made_by caller index op.now r.1 cites)) nothing) }
+    ensures drew { IfOk result (λ r. Drew peer_rules 1 order.now seat.old seat.new (seen side.old)
+        (seen side.new) (numbered r.0 (made_by caller index op.now r.1 cites)) nothing) }
     ensures release { IsRelease op.now → IsOk result }
     ensures err { OnErr result (StaysSeated seat.old seat.new × (seen side.new ≡ seen side.old)) }
     ensures reserve { side.new.reserve ≡ side.old.reserve }
@@ -100,7 +102,8 @@ fn draw_event(
     requires settled { Settled seat.old.view }
     requires entries { line_known seat.old.view 1 ≡ side.old.entries }
     ensures settled { Settled seat.new.view }
-    ensures drew { IfOk result (λ r. DrawsEvent order.now seat.old seat.new (seen side.old) (seen side.new) (numbered r.0 (made_by caller index op.now r.1 cites))) }
+    ensures drew { IfOk result (λ r. DrawsEvent order.now seat.old seat.new (seen side.old)
+        (seen side.new) (numbered r.0 (made_by caller index op.now r.1 cites))) }
     ensures release { IsRelease op.now → IsOk result }
     ensures err { OnErr result (StaysSeated seat.old seat.new × (seen side.new ≡ seen side.old)) }
     ensures reserve { side.new.reserve ≡ side.old.reserve }
@@ -140,7 +143,8 @@ impl<N: OrderName> LockedPeer<N> {
     /// The side and its seat.
     pub(crate) fn into_parts(self) -> (PeerSide, Seat)
         ensures side { result.0 ≡ self.side }
-        ensures seat { (result.1.order ≡ N.order) × (result.1.view ≡ self.view) × Owns result.1.view 1 × Settled result.1.view }
+        ensures seat { (result.1.order ≡ N.order) × (result.1.view ≡ self.view)
+            × Owns result.1.view 1 × Settled result.1.view }
         ensures knows { PeerKnows result.1.view (seen result.0) }
     {
         let LockedPeer { side, seat, of: _ } = self;
@@ -168,7 +172,8 @@ impl<N: OrderName> LockedPeer<N> {
         ensures order { mine.new.order ≡ N.order }
         ensures settled { Settled mine.new.view }
         ensures pass { HoldsPass caller mine.new.view }
-        ensures ok { IfOk result (λ r. Makes caller mine.old.view mine.new.view (numbered r.0 (made_by caller index op.now r.1 cites))) }
+        ensures ok { IfOk result (λ r. Makes caller mine.old.view mine.new.view
+            (numbered r.0 (made_by caller index op.now r.1 cites))) }
         ensures reads { ReadsStay caller mine.old.view mine.new.view }
         ensures release { IsRelease op.now → IsOk result }
         ensures err { OnErr result (MakesNone caller mine.old.view mine.new.view) }

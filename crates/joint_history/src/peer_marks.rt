@@ -60,7 +60,8 @@ fn slice_by(
     requires entries { line_known drawing.old.seat.now.view 1 ≡ side.old.entries }
     ensures settled { Settled drawing.new.seat.now.view }
     ensures same_reference { drawing.new.seat.ghost_name ≡ drawing.old.seat.ghost_name }
-    ensures drew { IfOk result (λ r. DrawsEvent drawing.old.order.now drawing.old.seat.now drawing.new.seat.now (seen side.old) (seen side.new) (numbered r.0 (made_by caller index (op.Line (act.Slice n)) r.1 None))) }
+    ensures drew { IfOk result (λ r. DrawsEvent drawing.old.order.now drawing.old.seat.now drawing.new.seat.now
+        (seen side.old) (seen side.new) (numbered r.0 (made_by caller index (op.Line (act.Slice n)) r.1 None))) }
     ensures err { OnErr result (StaysSeated drawing.old.seat.now drawing.new.seat.now × (seen side.new ≡ seen side.old)) }
     ensures reserve { side.new.reserve ≡ side.old.reserve }
     ensures threads { side.new.threads ≡ side.old.threads }
@@ -85,7 +86,8 @@ pub(crate) fn draw_slice(
     requires settled { Settled seat.old.view }
     requires entries { line_known seat.old.view 1 ≡ side.old.entries }
     ensures settled { Settled seat.new.view }
-    ensures drew { IfOk result (λ r. DrawsEvent order.now seat.old seat.new (seen side.old) (seen side.new) (numbered r.0 (made_by caller index (op.Line (act.Slice n)) r.1 None))) }
+    ensures drew { IfOk result (λ r. DrawsEvent order.now seat.old seat.new (seen side.old)
+        (seen side.new) (numbered r.0 (made_by caller index (op.Line (act.Slice n)) r.1 None))) }
     ensures err { OnErr result (StaysSeated seat.old seat.new × (seen side.new ≡ seen side.old)) }
     ensures reserve { side.new.reserve ≡ side.old.reserve }
     ensures threads { side.new.threads ≡ side.old.threads }
@@ -117,7 +119,8 @@ fn mark_by(
     requires entries { line_known drawing.old.seat.now.view 1 ≡ side.old.entries }
     ensures settled { Settled drawing.new.seat.now.view }
     ensures same_reference { drawing.new.seat.ghost_name ≡ drawing.old.seat.ghost_name }
-    ensures drew { IfOk result (λ r. DrawsEvent drawing.old.order.now drawing.old.seat.now drawing.new.seat.now (seen side.old) (seen side.new) (numbered r.0 (made_by caller index op.now r.1 None))) }
+    ensures drew { IfOk result (λ r. DrawsEvent drawing.old.order.now drawing.old.seat.now drawing.new.seat.now
+        (seen side.old) (seen side.new) (numbered r.0 (made_by caller index op.now r.1 None))) }
     ensures err { OnErr result (StaysSeated drawing.old.seat.now drawing.new.seat.now × (seen side.new ≡ seen side.old)) }
     ensures reserve { side.new.reserve ≡ side.old.reserve }
     ensures threads { side.new.threads ≡ side.old.threads }
@@ -142,7 +145,8 @@ pub(crate) fn draw_mark(
     requires settled { Settled seat.old.view }
     requires entries { line_known seat.old.view 1 ≡ side.old.entries }
     ensures settled { Settled seat.new.view }
-    ensures drew { IfOk result (λ r. DrawsEvent order.now seat.old seat.new (seen side.old) (seen side.new) (numbered r.0 (made_by caller index op.now r.1 None))) }
+    ensures drew { IfOk result (λ r. DrawsEvent order.now seat.old seat.new (seen side.old)
+        (seen side.new) (numbered r.0 (made_by caller index op.now r.1 None))) }
     ensures err { OnErr result (StaysSeated seat.old seat.new × (seen side.new ≡ seen side.old)) }
     ensures reserve { side.new.reserve ≡ side.old.reserve }
     ensures threads { side.new.threads ≡ side.old.threads }

@@ -83,7 +83,8 @@ impl<N: OrderName, K: Keeps<N>> Shared<N, K> {
     /// `AllocError` where there is no memory, or where its list would pass its limit.
     pub fn reserve(&self, caller: &mut Caller<N>, n: u32) -> Result<(), AllocError>
         ensures room { IfOk result (λ _. IsManagedThread caller.old.thread → n ≤ caller.new.reads.spare) }
-        ensures rest { (caller.new.thread ≡ caller.old.thread) × (caller.new.view ≡ caller.old.view) × (caller.new.reads.entries ≡ caller.old.reads.entries) }
+        ensures rest { (caller.new.thread ≡ caller.old.thread) × (caller.new.view ≡ caller.old.view)
+            × (caller.new.reads.entries ≡ caller.old.reads.entries) }
         ensures err { OnErr result (caller.new ≡ caller.old) }
     {
         caller.reads.reserve(n)

@@ -13,7 +13,8 @@ ghost use Rattle.order_table.specs.Views.{Owns, OwnsAll};
 ghost use Rattle.joint_history.specs.Callers.{Hears, KnowsNothing, Tells};
 ghost use Rattle.joint_history.specs.Desks.{AreAll};
 ghost use Rattle.joint_history.specs.Driven.{StillStands};
-ghost use Rattle.joint_history.specs.Ending.{all_lists, AllTaken, BeginsHistory, HasAll, HasIdleDriver, HasOwn, HasEndNumbers, IsFinished, IsKnownHistory, StillWaits};
+ghost use Rattle.joint_history.specs.Ending.{all_lists, AllTaken, BeginsHistory, HasAll, HasIdleDriver, HasOwn};
+ghost use Rattle.joint_history.specs.Ending.{HasEndNumbers, IsFinished, IsKnownHistory, StillWaits};
 
 use crate::callers::{Caller, tell};
 use crate::desks::Desk;
@@ -54,8 +55,10 @@ fn join_lists(
     right: PeerLists,
     readers: [Entries; 10],
 ) -> Result<History, JoinFault>
-    requires { IsJoinable (all_lists left.entries.entries right.entries.entries (entry_lists readers)) left.freed.items right.freed.items left.notices.items }
-    ensures shuffle { IfOk result (λ h. IsShuffle (all_lists left.entries.entries right.entries.entries (entry_lists readers)) h.entries) }
+    requires { IsJoinable (all_lists left.entries.entries right.entries.entries (entry_lists readers))
+        left.freed.items right.freed.items left.notices.items }
+    ensures shuffle { IfOk result (λ h. IsShuffle
+        (all_lists left.entries.entries right.entries.entries (entry_lists readers)) h.entries) }
     ensures managed { IfOk result (λ h. h.freed_managed ≡ left.freed.items) }
     ensures peers { IfOk result (λ h. h.freed_peers ≡ right.freed.items) }
     ensures notices { IfOk result (λ h. h.notices ≡ left.notices.items) }
@@ -71,8 +74,10 @@ fn join_lists(
 
 // The same for proofs alone.
 fn join_past(left: ManagedLists, right: PeerLists, readers: [Entries; 10]) -> PastHistory
-    requires { IsJoinable (all_lists left.entries.entries right.entries.entries (entry_lists readers)) left.freed.items right.freed.items left.notices.items }
-    ensures shuffle { IsShuffle (all_lists left.entries.entries right.entries.entries (entry_lists readers)) result.entries }
+    requires { IsJoinable (all_lists left.entries.entries right.entries.entries (entry_lists readers))
+        left.freed.items right.freed.items left.notices.items }
+    ensures shuffle { IsShuffle (all_lists left.entries.entries right.entries.entries (entry_lists readers))
+        result.entries }
     ensures managed { result.freed_managed ≡ left.freed.items }
     ensures peers { result.freed_peers ≡ right.freed.items }
     ensures notices { result.notices ≡ left.notices.items }
@@ -118,7 +123,8 @@ impl<N: OrderName, K: Keeps<N>> Shared<N, K> {
         holding: Holding,
     ) -> Result<Shared<N, K>, AllocError>
         requires order { order ≡ N.order }
-        requires seat { (seat.order ≡ N.order) × Owns seat.view 0 × Owns seat.view 1 × KnowsNothing seat.view × Settled seat.view }
+        requires seat { (seat.order ≡ N.order) × Owns seat.view 0
+            × Owns seat.view 1 × KnowsNothing seat.view × Settled seat.view }
         requires counts { (managed ≤ 8) × (peers ≤ 8) }
         requires run { (managed ≡ N.managed) × (peers ≡ N.peers) }
     {

@@ -71,7 +71,8 @@ impl<'a> Draw for SeatGate<'a> {
       floor = λ g. floor_of g.seat.now.view;
       left = λ g. left_in g.seat.now.view 0;
       may = λ g t o m. MayAppend g.order.now g.seat.now 0 t o m;
-      drew = λ g e m freed g'. (g'.seat.ghost_name ≡ g.seat.ghost_name) × Appends g.order.now g'.order.now g.seat.now g'.seat.now 0 (kept g.seat.now.view e.made m freed e.number);
+      drew = λ g e m freed g'. (g'.seat.ghost_name ≡ g.seat.ghost_name)
+          × Appends g.order.now g'.order.now g.seat.now g'.seat.now 0 (kept g.seat.now.view e.made m freed e.number);
     } };
 
     fn draw(&mut self, made: &Made, target: Option<MNum>, freed: &[MNum]) -> u64 {
@@ -85,9 +86,11 @@ impl<'a> Closes for SeatGate<'a> {
     ghost use Rattle.order_table.specs.Views.{IsNext, Owns};
     ghost use Rattle.joint_history.specs.DriverSnaps.{ClosesGate};
 
-    ghost may_close = { λ g k. (g.seat.now.order ≡ g.order.now) × Owns g.seat.now.view 0 × Settled g.seat.now.view × IsNext g.seat.now.view k };
+    ghost may_close = { λ g k. (g.seat.now.order ≡ g.order.now)
+        × Owns g.seat.now.view 0 × Settled g.seat.now.view × IsNext g.seat.now.view k };
 
-    ghost closed = { λ g k pins g'. (g'.seat.ghost_name ≡ g.seat.ghost_name) × (g'.order.now ≡ g.order.now) × ClosesGate g.seat.now g'.seat.now k pins };
+    ghost closed = { λ g k pins g'. (g'.seat.ghost_name ≡ g.seat.ghost_name)
+        × (g'.order.now ≡ g.order.now) × ClosesGate g.seat.now g'.seat.now k pins };
 
     ghost refused = { λ g g'. (g'.seat.ghost_name ≡ g.seat.ghost_name) × (g'.seat.now ≡ g.seat.now) };
 
@@ -112,7 +115,8 @@ fn draw_snap(
     requires owner { Owns seat.old.view 0 × Owns seat.old.view (caller_line C) }
     requires settled { Settled seat.old.view }
     requires knows { ManagedKnows seat.old.view (as_side side.old) }
-    ensures drew { IfOk result (λ o. DrawsSnapshot order.now seat.old seat.new (as_side side.old) (as_side side.new) index o) }
+    ensures drew { IfOk result (λ o. DrawsSnapshot order.now seat.old seat.new
+        (as_side side.old) (as_side side.new) index o) }
     ensures settled { Settled seat.new.view }
     ensures fault { IfErr result (λ e. (e ≡ SnapFault.OutOfMemory) ⊎ (e ≡ SnapFault.NotClosed)) }
     ensures threads { side.new.threads ≡ side.old.threads }

@@ -207,6 +207,7 @@ module _ (s : ManagedReplay) (v : ℕ) (kind : Kind) (n p h : ℕ) (k : IsReplay
 
 -- an `adopt`, by whether there is room
 pub adopt-by : (s : ManagedReplay) (v : ℕ) (kind : Kind) (n p h : ℕ) (b : Bool) → IsReplayKept s → (Contains s.adopted h → ⊥)
-    → (let a = if b then answer says.Full s.managed else answer (managed_name (next_number s.managed.heap)) (with_row s.managed v kind n (Some h)) in IsReplayKept (adopt_by s p h a.state a.reply).state)
+    → (let a = if b then answer says.Full s.managed else answer (managed_name (next_number s.managed.heap)) (with_row s.managed v kind n (Some h)) in
+    IsReplayKept (adopt_by s p h a.state a.reply).state)
 adopt-by s v kind n p h true k w = k
 adopt-by s v kind n p h false k w = IsReplayKept-took s v kind n p h k w

@@ -22,7 +22,8 @@ use Rattle.joint_laws.proofs.Watching.{get-front}
 sweep-more : (past : List Moment) (m : Moment) (i number : ℕ) (freed : List ℕ) → SweepsAt past i number freed → SweepsAt (past ++ m ∷ []) i number freed
 sweep-more past m i number freed w = record { moment = w.moment; there = get-front past (m ∷ []) i w.moment w.there; event = w.event; span = w.span; reply = w.reply; frees = w.frees }
 
-module _ (s : Linkage) (n : Noted) (w : Stands s) (v : Stands (linkage_after s n)) (g : GoesOn s.managed.managed (linkage_after s n).managed.managed) (c : OpenCycle) (o : s.managed.managed.cycle ≡ Some c) where
+module _ (s : Linkage) (n : Noted) (w : Stands s) (v : Stands (linkage_after s n))
+    (g : GoesOn s.managed.managed (linkage_after s n).managed.managed) (c : OpenCycle) (o : s.managed.managed.cycle ≡ Some c) where
   abbrev t : Linkage
   t = linkage_after s n
 
@@ -37,7 +38,8 @@ module _ (s : Linkage) (n : Noted) (w : Stands s) (v : Stands (linkage_after s n
       record { handle = r.handle; holds = holds; row = i.0; is_issued = i.1; leads = ap (λ (z : Issued). z.peer) same ∙ r.leads }
 
   -- its peer stays freed
-  pub peer-stays : (x p : ℕ) → IsRowOf s.managed.managed s.peer.peers.issued x p → IsRowOf t.managed.managed t.peer.peers.issued x p → Contains s.peer.peers.heap.freed p → Contains t.peer.peers.heap.freed p
+  pub peer-stays : (x p : ℕ) → IsRowOf s.managed.managed s.peer.peers.issued x p
+      → IsRowOf t.managed.managed t.peer.peers.issued x p → Contains s.peer.peers.heap.freed p → Contains t.peer.peers.heap.freed p
   peer-stays x p before r f = elim (Contains-decided t.peer.peers.heap.freed p) [
     | inl q ↦ q
     | inr out ↦ (

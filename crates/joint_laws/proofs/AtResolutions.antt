@@ -47,7 +47,14 @@ module _ (s : Linkage) (w : Stands s) (past more : List Moment) (o : OpenSnap) (
   begins_there = record { moment = k.begins.moment; there = get-front past more k.begin k.begins.moment k.begins.there; caller = k.begins.caller; event = k.begins.event; reply = k.begins.reply }
 
   sweeps_there : SweepsAt (past ++ more) k.sweep k.marking k.swept
-  sweeps_there = record { moment = k.sweeps.moment; there = get-front past more k.sweep k.sweeps.moment k.sweeps.there; event = k.sweeps.event; span = k.sweeps.span; reply = k.sweeps.reply; frees = k.sweeps.frees }
+  sweeps_there = record {
+    moment = k.sweeps.moment;
+    there = get-front past more k.sweep k.sweeps.moment k.sweeps.there;
+    event = k.sweeps.event;
+    span = k.sweeps.span;
+    reply = k.sweeps.reply;
+    frees = k.sweeps.frees;
+  }
 
   pub complete-cycle : IsCompleteCycle (past ++ more) (length past) o.cycle resolved
   complete-cycle = record {

@@ -22,9 +22,12 @@ use Rattle.joint_laws.proofs.Watching.{IsSeen, IsWatched, get-front, get-last}
 made-at : (x : Moment) (p : ℕ) → IsTraced x → IsReached x.after (peer p) → IsMade x.after.graph.peers.heap p
 made-at x p tr r = subst (λ (z : Joint). IsMade z.graph.peers.heap p) (sym tr.after) (reached-made (linkage_after tr.state x.noted) tr.next p (subst (λ z. IsReached z (peer p)) tr.after r))
 
-module _ (s : Linkage) (n : Noted) (w : Stands s) (v : Stands (linkage_after s n)) (g : GoesOn s.managed.managed (linkage_after s n).managed.managed) (past : List Moment) (traced : (i : ℕ) (x : Moment) → slice_get past i ≡ Some x → IsTraced x)
-    (a : ℕ) (c : OpenCycle) (o : s.managed.managed.cycle ≡ Some c) (watched : IsWatched past a c.candidates (state_of s w)) (mk : Marking) (e0 : s.peer.marking ≡ Some mk) (k : IsMarkWatched past a c s mk)
-    (freed : List ℕ) (sw : IsSweep s.peer mk freed) (m : Moment) (after : m.after ≡ state_of (linkage_after s n) v) (grows : (linkage_after s n).peer.peers.heap.freed ≡ s.peer.peers.heap.freed ++ freed) (sweeps : SweepsAt (past ++ m ∷ []) (length past) mk.number freed) where
+module _ (s : Linkage) (n : Noted) (w : Stands s) (v : Stands (linkage_after s n)) (g : GoesOn s.managed.managed (linkage_after s n).managed.managed)
+    (past : List Moment) (traced : (i : ℕ) (x : Moment) → slice_get past i ≡ Some x → IsTraced x)
+    (a : ℕ) (c : OpenCycle) (o : s.managed.managed.cycle ≡ Some c) (watched : IsWatched past a c.candidates (state_of s w))
+    (mk : Marking) (e0 : s.peer.marking ≡ Some mk) (k : IsMarkWatched past a c s mk)
+    (freed : List ℕ) (sw : IsSweep s.peer mk freed) (m : Moment) (after : m.after ≡ state_of (linkage_after s n) v)
+    (grows : (linkage_after s n).peer.peers.heap.freed ≡ s.peer.peers.heap.freed ++ freed) (sweeps : SweepsAt (past ++ m ∷ []) (length past) mk.number freed) where
   abbrev longer : List Moment
   longer = past ++ m ∷ []
 
@@ -37,9 +40,11 @@ module _ (s : Linkage) (n : Noted) (w : Stands s) (v : Stands (linkage_after s n
   unseen-object : (x : ℕ) → ((i : ℕ) (y : Moment) → a ≤ i → i ≤ length past → slice_get longer i ≡ Some y → IsReached y.after (object x) → ⊥) → IsSeen past a (object x) → ⊥
   unseen-object x out seen = out seen.place seen.moment seen.from (before seen.place seen.moment seen.there) (get-front past (m ∷ []) seen.place seen.moment seen.there) seen.reached
 
-  unseen-peer : (p : ℕ) → ((i : ℕ) (y : Moment) → a ≤ i → i ≤ length past → slice_get longer i ≡ Some y → IsMade y.after.graph.peers.heap p → IsReached y.after (peer p) → ⊥) → IsSeen past a (peer p) → ⊥
+  unseen-peer : (p : ℕ) → ((i : ℕ) (y : Moment) → a ≤ i → i ≤ length past → slice_get longer i ≡ Some y → IsMade y.after.graph.peers.heap p → IsReached y.after (peer p) → ⊥)
+      → IsSeen past a (peer p) → ⊥
   unseen-peer p out seen =
-      out seen.place seen.moment seen.from (before seen.place seen.moment seen.there) (get-front past (m ∷ []) seen.place seen.moment seen.there) (made-at seen.moment p (traced seen.place seen.moment seen.there) seen.reached) seen.reached
+      out seen.place seen.moment seen.from (before seen.place seen.moment seen.there) (get-front past (m ∷ []) seen.place seen.moment seen.there)
+      (made-at seen.moment p (traced seen.place seen.moment seen.there) seen.reached) seen.reached
 
   made-now : (p : ℕ) → IsMadeBefore past k.begin p → IsMade s.peer.peers.heap p
   made-now p q = let l = k.made_then p q in (l.0, omega (arith, l.1, (w.kept.peer.marking mk e0).made))
@@ -60,6 +65,7 @@ module _ (s : Linkage) (n : Noted) (w : Stands s) (v : Stands (linkage_after s n
         record {
           moment = m;
           there = get-last past m;
-          freed = subst (λ (z : Joint). Contains z.graph.peers.heap.freed p) (sym after) (subst (λ fs. Contains fs p) (sym grows) (peer-swept s w past a c o watched mk k freed sw p (made-now p q) q (unseen-peer p out)));
+          freed = subst (λ (z : Joint). Contains z.graph.peers.heap.freed p) (sym after)
+              (subst (λ fs. Contains fs p) (sym grows) (peer-swept s w past a c o watched mk k freed sw p (made-now p q) q (unseen-peer p out)));
         });
   }

@@ -16,7 +16,8 @@ use Rattle.joint_machine.specs.Heaps.{Heap, InSlot, answer, slot, place}
 use Rattle.joint_machine.specs.Lines.{IsEvent, is_peer_event}
 use Rattle.joint_machine.specs.Linked.{Linkage, MayCome, linkage_after, peer_after}
 use Rattle.joint_machine.specs.Peers.{landed, peer_read}
-use Rattle.joint_machine.specs.PeerReplay.{PeerReplay, Marking, on_table, brings, untabled, peer_thread_line, is_thread, sliced, begun, swept_of, swept, mirrored, brought_to, peer_answer, table_target}
+use Rattle.joint_machine.specs.PeerReplay.{PeerReplay, Marking, on_table, brings, untabled, peer_thread_line, is_thread, sliced, begun, swept_of, swept, mirrored, brought_to, peer_answer}
+use Rattle.joint_machine.specs.PeerReplay.{table_target}
 use Rattle.joint_machine.specs.Told.{Told, Noted, references_of, slice_of, sweep_of}
 use Rattle.joint_machine.proofs.Deciding.{none_some}
 use Rattle.joint_laws.proofs.NewRows.{Contains-set_there}
@@ -132,10 +133,12 @@ module _ (s : PeerReplay) (vars : length s.peers.heap.vars ≡ 72) (statics : le
   answer-later t (op.Restore h) cites told e p r = absurd (r h refl)
   answer-later t _ cites told e p r = same-later s.marking _
 
-later-by : (s : Linkage) (m : Made) (told : Told) (b : Bool) → length s.peer.peers.heap.vars ≡ 72 → length s.peer.peers.heap.statics ≡ 16 → IsEvent m.caller m.op → is_peer_event m.caller m.op ≡ b → ((h : HNum) → m.op ≡ op.Restore h → ⊥)
+later-by : (s : Linkage) (m : Made) (told : Told) (b : Bool) → length s.peer.peers.heap.vars ≡ 72 → length s.peer.peers.heap.statics ≡ 16
+    → IsEvent m.caller m.op → is_peer_event m.caller m.op ≡ b → ((h : HNum) → m.op ≡ op.Restore h → ⊥)
     → MarksLater s.peer.marking (peer_after s.peer m told b).marking (peer_after s.peer m told b).peers.heap
 later-by s m told true vars statics e p r = answer-later s.peer vars statics m.caller m.op m.cites told e p r
 later-by s m told false vars statics e p r = same-later s.peer.marking s.peer.peers.heap
 
-pub later-entry : (s : Linkage) (n : Noted) → length s.peer.peers.heap.vars ≡ 72 → length s.peer.peers.heap.statics ≡ 16 → MayCome s n → ((h : HNum) → n.entry.made.op ≡ op.Restore h → ⊥) → MarksLater s.peer.marking (linkage_after s n).peer.marking (linkage_after s n).peer.peers.heap
+pub later-entry : (s : Linkage) (n : Noted) → length s.peer.peers.heap.vars ≡ 72 → length s.peer.peers.heap.statics ≡ 16 → MayCome s n
+    → ((h : HNum) → n.entry.made.op ≡ op.Restore h → ⊥) → MarksLater s.peer.marking (linkage_after s n).peer.marking (linkage_after s n).peer.peers.heap
 later-entry s n vars statics may r = later-by s n.entry.made n.told (is_peer_event n.entry.made.caller n.entry.made.op) vars statics may.event refl r

@@ -36,7 +36,8 @@ from_forth edge first x [] in_edge z c = elim (Contains-cons_cases x [] z c) [
 ]
 from_forth edge first x (y ∷ ys) in_edge z c = elim (Contains-cons_cases x (y ∷ ys) z c) [
   | inl e ↦ subst (λ w. Reaches edge x w) e (Reaches-self edge x)
-  | inr d ↦ Reaches-trans edge x y z (Reaches-edge edge x y (in_edge x y (Contains-here (x, y) (circle_from first y ys)))) (from_forth edge first y ys (λ a b t. in_edge a b (Contains-there (a, b) (x, y) (circle_from first y ys) t)) z d)
+  | inr d ↦ Reaches-trans edge x y z (Reaches-edge edge x y (in_edge x y (Contains-here (x, y) (circle_from first y ys))))
+      (from_forth edge first y ys (λ a b t. in_edge a b (Contains-there (a, b) (x, y) (circle_from first y ys) t)) z d)
 ]
 
 from_back : (edge : ℕ → ℕ → Type 0) (first x : ℕ) (ys : List ℕ) → ((a b : ℕ) → Contains (circle_from first x ys) (a, b) → edge a b) → (z : ℕ) → Contains (x ∷ ys) z → Reaches edge z first
@@ -47,7 +48,8 @@ from_back edge first x [] in_edge z c = elim (Contains-cons_cases x [] z c) [
 from_back edge first x (y ∷ ys) in_edge z c =
     let rest : (a b : ℕ) → Contains (circle_from first y ys) (a, b) → edge a b = λ a b t. in_edge a b (Contains-there (a, b) (x, y) (circle_from first y ys) t) in
     elim (Contains-cons_cases x (y ∷ ys) z c) [
-      | inl e ↦ subst (λ w. Reaches edge w first) e (Reaches-trans edge x y first (Reaches-edge edge x y (in_edge x y (Contains-here (x, y) (circle_from first y ys)))) (from_back edge first y ys rest y (Contains-here y ys)))
+      | inl e ↦ subst (λ w. Reaches edge w first) e (Reaches-trans edge x y first
+          (Reaches-edge edge x y (in_edge x y (Contains-here (x, y) (circle_from first y ys)))) (from_back edge first y ys rest y (Contains-here y ys)))
       | inr d ↦ from_back edge first y ys rest z d
     ]
 

@@ -67,7 +67,8 @@ module _ (past : List Moment) (s : Linkage) (w : Stands s) (n : Noted) (may : Ma
     ];
     vars = (heap-entry s n).vars ∙ known.vars;
     statics = (heap-entry s n).statics ∙ known.statics;
-    journey = journey-moves s w past n.entry.number n.entry.made.index n.entry.made.reply n.entry.made.cites known.vars known.statics known.traced n.entry.made.caller n.entry.made.op n.told may v j known.journey;
+    journey = journey-moves s w past n.entry.number n.entry.made.index n.entry.made.reply n.entry.made.cites
+        known.vars known.statics known.traced n.entry.made.caller n.entry.made.op n.told may v j known.journey;
   }
 
   -- after an entry that is none
@@ -89,7 +90,8 @@ module _ (past : List Moment) (s : Linkage) (w : Stands s) (n : Noted) (may : Ma
         let event = ap (λ (z : Moment). z.noted.entry.made.op) (sym same) ∙ r.event in
         let told = ap (λ (z : Moment). z.noted.told) (sym same) ∙ r.frees in
         subst (λ z. IsCompleteCycle (past ++ m ∷ more) z k freed) (sym e)
-        (journey-resolves s w past n.entry.number n.entry.made.index n.entry.made.reply n.entry.made.cites n.entry.made.caller n.entry.made.op n.told k r.alive freed (m ∷ more) may event told known.journey))
+        (journey-resolves s w past n.entry.number n.entry.made.index n.entry.made.reply n.entry.made.cites
+        n.entry.made.caller n.entry.made.op n.told k r.alive freed (m ∷ more) may event told known.journey))
     | inr ne ↦ (
         let far : length longer ≤ i = (let q = length-append past (m ∷ []) in omega (arith, l, ne)) in
         subst (λ z. IsCompleteCycle z i k freed) (append-one past m more) (later i k freed far (subst (λ z. ResolvesAt z i k freed) (sym (append-one past m more)) r)))
@@ -124,7 +126,13 @@ complete-from (n ∷ ns) past s w known may = by (enters s w n may.0) (λ longer
         }
     by (at_rest e v same) rest =
         let more = rest past v (known-rests past s w n may.0 v known e same) in
-        record { moments = more.moments; same = more.same ∙ sym (projected n ns false e); steps = subst (λ z. IsRunFrom z more.moments) same more.steps; traced = more.traced; complete = more.complete }
+        record {
+          moments = more.moments;
+          same = more.same ∙ sym (projected n ns false e);
+          steps = subst (λ z. IsRunFrom z more.moments) same more.steps;
+          traced = more.traced;
+          complete = more.complete;
+        }
 
 nothing-known : IsKnown [] opening_linkage Stands-opening
 nothing-known = record { traced = λ i x e. absurd (none_some x e); vars = refl; statics = refl; journey = tt }

@@ -52,7 +52,8 @@ module _ (s : Managed) (c : OpenCycle) (cut : IsCutOff s c) where
     mirror_edge-managed a b e = managed-walk a b (mirror_edge-walk bridge Dead comps heavy xrefs k a b e)
 
     pub mirror-managed : (a b : ℕ) → Reaches (MirrorEdge comps xrefs) a b → Reaches (ManagedEdge s) a b
-    mirror-managed a b r = Reaches-keeps (MirrorEdge comps xrefs) (λ x. Reaches (ManagedEdge s) a x) (λ x y e q. Reaches-trans (ManagedEdge s) a x y q (mirror_edge-managed x y e)) a b r (Reaches-self (ManagedEdge s) a)
+    mirror-managed a b r = Reaches-keeps (MirrorEdge comps xrefs) (λ x. Reaches (ManagedEdge s) a x)
+        (λ x y e q. Reaches-trans (ManagedEdge s) a x y q (mirror_edge-managed x y e)) a b r (Reaches-self (ManagedEdge s) a)
 
 pub dead_part_is_mirrored : DeadPartIsMirrored
 dead_part_is_mirrored s c comps heavy xrefs kept o k a b ca cb =

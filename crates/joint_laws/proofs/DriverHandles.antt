@@ -23,8 +23,10 @@ use Rattle.joint_machine.specs.Told.{said_alive, said_cleared, Answer}
 use Rattle.joint_machine.proofs.Members.{Rises-once}
 
 -- what threads have in hand, where slots, fields and the issued handles stay
-pub callers_same : (touched : ℕ → Type 0) (r : ManagedReplay) (s t : PeerReplay) → HandlesAlike touched s t → t.peers.issued ≡ s.peers.issued → ((p : ℕ) → InSlot t.peers.heap p → InSlot s.peers.heap p) → ((x : ℕ) → IsLive t.peers.heap x → IsLive s.peers.heap x)
-    → ((x p : ℕ) → Contains (fields_of t.peers.heap x) (Some p) → Contains (fields_of s.peers.heap x) (Some p)) → (ds : List Doing) → AreCallersKept r s ds → ((u h : ℕ) → HasInHand (doing_in ds u) h → touched h → ⊥) → AreCallersKept r t ds
+pub callers_same : (touched : ℕ → Type 0) (r : ManagedReplay) (s t : PeerReplay) → HandlesAlike touched s t → t.peers.issued ≡ s.peers.issued
+    → ((p : ℕ) → InSlot t.peers.heap p → InSlot s.peers.heap p) → ((x : ℕ) → IsLive t.peers.heap x → IsLive s.peers.heap x)
+    → ((x p : ℕ) → Contains (fields_of t.peers.heap x) (Some p) → Contains (fields_of s.peers.heap x) (Some p)) → (ds : List Doing)
+    → AreCallersKept r s ds → ((u h : ℕ) → HasInHand (doing_in ds u) h → touched h → ⊥) → AreCallersKept r t ds
 callers_same touched r s t a e slots live fields ds k n = record {
   loose = λ u h w. IsLoose-peer touched r s t a h (n u h w) (k.loose u h w);
   apart = k.apart;
@@ -42,7 +44,8 @@ callers_same touched r s t a e slots live fields ds k n = record {
 }
 
 -- the mirror stays, with its references
-pub mirrored_changed : (touched : ℕ → Type 0) (r : ManagedReplay) (s t : PeerReplay) (c : OpenCycle) → HandlesAlike touched s t → AreOwnersKept r s → t.refs ≡ s.refs → (t.mirror ≡ None → s.mirror ≡ None) → IsMirrored r s c → IsMirrored r t c
+pub mirrored_changed : (touched : ℕ → Type 0) (r : ManagedReplay) (s t : PeerReplay) (c : OpenCycle) → HandlesAlike touched s t
+    → AreOwnersKept r s → t.refs ≡ s.refs → (t.mirror ≡ None → s.mirror ≡ None) → IsMirrored r s c → IsMirrored r t c
 mirrored_changed touched r s t c a o refs stands m = record {
   comps = m.comps;
   heavy = m.heavy;
@@ -68,7 +71,8 @@ given-stands None h e = refl
 given-stands (Some m) h e = absurd (none_some _ (sym e))
 
 -- the handle h of the candidate at one place is touched
-module _ (r : ManagedReplay) (s t : PeerReplay) (c : OpenCycle) (place m h : ℕ) (k : IsReplayKept r) (o : AreOwnersKept r s) (e : r.managed.cycle ≡ Some c) (at : slice_get c.candidates place ≡ Some m) (q : Holds r.managed m h) (a : HandlesAlike (Only h) s t) where
+module _ (r : ManagedReplay) (s t : PeerReplay) (c : OpenCycle) (place m h : ℕ) (k : IsReplayKept r) (o : AreOwnersKept r s)
+    (e : r.managed.cycle ≡ Some c) (at : slice_get c.candidates place ≡ Some m) (q : Holds r.managed m h) (a : HandlesAlike (Only h) s t) where
   is_candidate : Contains (candidates_of r.managed) m
   is_candidate = subst (λ z. Contains z m) (sym (candidates_of-open r.managed c e)) (place, slice_get_within c.candidates place m at, get_or_from_slice_get c.candidates place m m at)
 
@@ -129,8 +133,10 @@ pushed-new : (answers : List Answer) (b : Answer) → slice_get (answers ++ b �
 pushed-new [] b = refl
 pushed-new (y ∷ ys) b = pushed-new ys b
 
-module _ (r : ManagedReplay) (s t : PeerReplay) (c : OpenCycle) (answers : List Answer) (m h : ℕ) (k : IsReplayKept r) (o : AreOwnersKept r s) (e : r.managed.cycle ≡ Some c) (at : slice_get c.candidates (length answers) ≡ Some m) (q : Holds r.managed m h) (a : HandlesAlike (Only h) s t) where
-  pub handles_restored : (b : Answer) → ((i g : ℕ) → slice_get answers i ≡ Some (said_alive g) → g ≡ h → ⊥) → ForCandidates r.managed c (IsRestoredBy s answers) → (((n : ℕ) × (b ≡ said_alive n) × IsReplaced t h n) ⊎ ((b ≡ said_cleared) × IsGone t h)) → ForCandidates r.managed c (IsRestoredBy t (answers ++ b ∷ []))
+module _ (r : ManagedReplay) (s t : PeerReplay) (c : OpenCycle) (answers : List Answer) (m h : ℕ) (k : IsReplayKept r) (o : AreOwnersKept r s)
+    (e : r.managed.cycle ≡ Some c) (at : slice_get c.candidates (length answers) ≡ Some m) (q : Holds r.managed m h) (a : HandlesAlike (Only h) s t) where
+  pub handles_restored : (b : Answer) → ((i g : ℕ) → slice_get answers i ≡ Some (said_alive g) → g ≡ h → ⊥) → ForCandidates r.managed c (IsRestoredBy s answers)
+      → (((n : ℕ) × (b ≡ said_alive n) × IsReplaced t h n) ⊎ ((b ≡ said_cleared) × IsGone t h)) → ForCandidates r.managed c (IsRestoredBy t (answers ++ b ∷ []))
   handles_restored b avoids all now l x g f w = elim (cases_eq g h) [
     | inl same ↦ here same
     | inr ne ↦ elim (all l x g f w) [

@@ -42,7 +42,8 @@ module _ (r u : ManagedReplay) (s : PeerReplay) (k : IsManagedKept r.managed) (g
   edge_back x y e = (record { live = cut.live x e.1; field = subst (λ fs. Contains fs (Some y)) (dead-fields r.managed u.managed k g c o x e.1) e.0.field; there = cut.live y e.2 }, e.1, e.2)
 
   contraction_on : (comps : List (List ℕ)) (heavy : List ℕ) (xrefs : List (ℕ × ℕ)) → IsDeadContraction r.managed c.dead comps heavy xrefs → IsDeadContraction u.managed c.dead comps heavy xrefs
-  contraction_on comps heavy xrefs w = contraction-same (λ m. Contains c.dead m × IsBridge r.managed m) (λ m. Contains c.dead m × IsBridge u.managed m) (DeadEdge r.managed c.dead) (DeadEdge u.managed c.dead) comps heavy xrefs bridge_same (λ x y. (edge_on x y, edge_back x y)) w
+  contraction_on comps heavy xrefs w = contraction-same (λ m. Contains c.dead m × IsBridge r.managed m) (λ m. Contains c.dead m × IsBridge u.managed m)
+      (DeadEdge r.managed c.dead) (DeadEdge u.managed c.dead) comps heavy xrefs bridge_same (λ x y. (edge_on x y, edge_back x y)) w
 
   row_on : (m p : ℕ) → Contains c.dead m → IsRowOf r.managed s.peers.issued m p → IsRowOf u.managed s.peers.issued m p
   row_on m p d w = record { handle = w.handle; holds = holds_on m w.handle d w.holds; row = w.row; is_issued = w.is_issued; leads = w.leads }
@@ -77,7 +78,8 @@ module _ (r u : ManagedReplay) (s : PeerReplay) (k : IsManagedKept r.managed) (g
   closed_on : LeadsToUnfreed r s c → LeadsToUnfreed u s c
   closed_on w a b p q ca cb walk ra rb live =
       let db = candidate_dead b cb in
-      let back : Reaches (ManagedEdge r.managed) a b = managed-walk r.managed c cut a b (Reaches-mono (DeadEdge u.managed c.dead) (DeadEdge r.managed c.dead) edge_back a b (dead-walk u.managed c after a b db walk)) in
+      let back : Reaches (ManagedEdge r.managed) a b = managed-walk r.managed c cut a b
+      (Reaches-mono (DeadEdge u.managed c.dead) (DeadEdge r.managed c.dead) edge_back a b (dead-walk u.managed c after a b db walk)) in
       w a b p q ca cb back (row_back a p (candidate_dead a ca) ra) (row_back b q db rb) live
 
 module _ (r u : ManagedReplay) (s : PeerReplay) (k : IsManagedKept r.managed) (g : GoesOn r.managed u.managed) where
@@ -95,7 +97,10 @@ module _ (r u : ManagedReplay) (s : PeerReplay) (k : IsManagedKept r.managed) (g
   pub driver_goes_on : (d : Stand) → IsDriverKept r s d → IsDriverKept u s d
   driver_goes_on idle w = record { closed = g.cycle ∙ w.closed; none = w.none }
   driver_goes_on (snapped o) w = before_on o w
-  driver_goes_on (contracted o comps heavy xrefs) w = record { before = before_on o w.before; contraction = contraction_on r u s k g w.before.cycle w.before.opened.cycle comps heavy xrefs w.contraction }
+  driver_goes_on (contracted o comps heavy xrefs) w = record {
+    before = before_on o w.before;
+    contraction = contraction_on r u s k g w.before.cycle w.before.opened.cycle comps heavy xrefs w.contraction;
+  }
   driver_goes_on (weakening o count seen swept) w = record {
     cycle = w.cycle;
     opened = opened_on o w.cycle w.opened;

@@ -60,7 +60,8 @@ peer_of_row-is s issued m p w =
 
 -- an edge between rows, carried to their peers
 -- the mirror comes to stand
-module _ (r : ManagedReplay) (s : PeerReplay) (op : OpenSnap) (comps : List (List ℕ)) (heavy : List ℕ) (xrefs : List (ℕ × ℕ)) (k : IsReplayKept r) (pk : IsPeerKept s) (o : AreOwnersKept r s) (d : IsContracted r s op comps heavy xrefs) where
+module _ (r : ManagedReplay) (s : PeerReplay) (op : OpenSnap) (comps : List (List ℕ)) (heavy : List ℕ) (xrefs : List (ℕ × ℕ))
+    (k : IsReplayKept r) (pk : IsPeerKept s) (o : AreOwnersKept r s) (d : IsContracted r s op comps heavy xrefs) where
   abbrev cyc : OpenCycle
   cyc = d.before.cycle
 
@@ -103,7 +104,8 @@ module _ (r : ManagedReplay) (s : PeerReplay) (op : OpenSnap) (comps : List (Lis
   pub strong-live : (p h : ℕ) (i : Issued) → IsIssued s.peers.issued h i → i.peer ≡ p → HasStrength s h strong → IsLive s.peers.heap p
   strong-live p h i e l t = subst (λ z. IsLive s.peers.heap z) l (pk.handles.uncleared h t.0 i t.1 e (pk.handles.sure h t.0 t.1 t.2))
 
-  pub carried-safe : (p q : ℕ) → Refers (carried_edges r.managed s.peers.issued (mirror_edges comps xrefs)) p q → IsLive s.peers.heap p × IsLive s.peers.heap q × ((mk : Marking) → s.marking ≡ Some mk → IsSpared mk q)
+  pub carried-safe : (p q : ℕ) → Refers (carried_edges r.managed s.peers.issued (mirror_edges comps xrefs)) p q
+      → IsLive s.peers.heap p × IsLive s.peers.heap q × ((mk : Marking) → s.marking ≡ Some mk → IsSpared mk q)
   carried-safe p q c =
       let w = (carried p q).0 c in
       let ends = edge-ends w.0 w.1 w.2 in
@@ -126,7 +128,8 @@ module _ (r : ManagedReplay) (s : PeerReplay) (op : OpenSnap) (comps : List (Lis
 abbrev pub Only : ℕ → ℕ → Type 0
 Only n h = h ≡ n
 
-pub HandlesAlike-only : (s t : PeerReplay) (n : ℕ) (x : Option TableRow) → t.table ≡ numbered_set s.table n x → t.peers.issued ≡ s.peers.issued → t.peers.heap.freed ≡ s.peers.heap.freed → HandlesAlike (Only n) s t
+pub HandlesAlike-only : (s t : PeerReplay) (n : ℕ) (x : Option TableRow) → t.table ≡ numbered_set s.table n x
+    → t.peers.issued ≡ s.peers.issued → t.peers.heap.freed ≡ s.peers.heap.freed → HandlesAlike (Only n) s t
 HandlesAlike-only s t n x e f g = record {
   issued_on = λ h i q. subst (λ z. IsIssued z h i) (sym f) q;
   count = omega (arith, ap length f);
@@ -137,7 +140,8 @@ HandlesAlike-only s t n x e f g = record {
 }
 
 -- the row of a handle after a sweep
-swept-at : (freed : List ℕ) (issued : List Issued) (table : List (Option TableRow)) (l : ℕ) (row : TableRow) (i : Issued) → slice_get table l ≡ Some (Some row) → slice_get issued l ≡ Some i → slice_get (cleared_rows freed issued table) l ≡ Some (Some (swept_row freed i row))
+swept-at : (freed : List ℕ) (issued : List Issued) (table : List (Option TableRow)) (l : ℕ) (row : TableRow) (i : Issued)
+    → slice_get table l ≡ Some (Some row) → slice_get issued l ≡ Some i → slice_get (cleared_rows freed issued table) l ≡ Some (Some (swept_row freed i row))
 swept-at freed [] table l row i a b = absurd (none_some i b)
 swept-at freed (j ∷ issued) [] l row i a b = absurd (none_some (Some row) a)
 swept-at freed (j ∷ issued) (None ∷ table) zero row i a b = absurd (let c : ⊥ = cc in c)
@@ -148,12 +152,14 @@ swept-at freed (j ∷ issued) (Some y ∷ table) zero row i a b =
 swept-at freed (j ∷ issued) (None ∷ table) (suc l) row i a b = swept-at freed issued table l row i a b
 swept-at freed (j ∷ issued) (Some y ∷ table) (suc l) row i a b = swept-at freed issued table l row i a b
 
-pub swept-tabled : (freed : List ℕ) (issued : List Issued) (table : List (Option TableRow)) (h : ℕ) (row : TableRow) (i : Issued) → IsTabled table h row → IsIssued issued h i → IsTabled (cleared_rows freed issued table) h (swept_row freed i row)
+pub swept-tabled : (freed : List ℕ) (issued : List Issued) (table : List (Option TableRow)) (h : ℕ) (row : TableRow) (i : Issued)
+    → IsTabled table h row → IsIssued issued h i → IsTabled (cleared_rows freed issued table) h (swept_row freed i row)
 swept-tabled freed issued table zero row i a b = absurd (none_some i b)
 swept-tabled freed issued table (suc l) row i a b = swept-at freed issued table l row i a b
 
 -- the handles of peers that stay keep their strength at a sweep
-pub HandlesAlike-swept : (s t : PeerReplay) (freed : List ℕ) → length s.table ≡ length s.peers.issued → t.table ≡ cleared_rows freed s.peers.issued s.table → t.peers.issued ≡ s.peers.issued → t.peers.heap.freed ≡ s.peers.heap.freed ++ freed → HandlesAlike nothing_touched s t
+pub HandlesAlike-swept : (s t : PeerReplay) (freed : List ℕ) → length s.table ≡ length s.peers.issued → t.table ≡ cleared_rows freed s.peers.issued s.table
+    → t.peers.issued ≡ s.peers.issued → t.peers.heap.freed ≡ s.peers.heap.freed ++ freed → HandlesAlike nothing_touched s t
 HandlesAlike-swept s t freed places e f g = record {
   issued_on = λ h i q. subst (λ z. IsIssued z h i) (sym f) q;
   count = omega (arith, ap length f);

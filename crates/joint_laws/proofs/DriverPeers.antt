@@ -14,7 +14,8 @@ use Rattle.joint_machine.specs.Peers.{Issued, strong, weak, peer_of}
 use Rattle.joint_machine.specs.PeerReplay.{PeerReplay, TableRow, Marking, row_of, table_target, Refers}
 use Rattle.joint_machine.proofs.Deciding.{none_some}
 use Rattle.joint_laws.specs.PeerInvariants.{IsIssued, IsPeerKept}
-use Rattle.joint_laws.specs.LinkedInvariants.{HasStrength, IsHeldOne, IsRowOf, AreOwnersKept, doing_in, HasInHand, HasPeer, HasMadePair, IsVirgin, AreCallersKept, ForCandidates, IsMirrored, IsWeakenedBy, IsRestoredBy, LeadsToUnfreed, IsBeforeMirror, IsDriverKept, given_at}
+use Rattle.joint_laws.specs.LinkedInvariants.{HasStrength, IsHeldOne, IsRowOf, AreOwnersKept, doing_in, HasInHand, HasPeer, HasMadePair, IsVirgin, AreCallersKept, ForCandidates, IsMirrored}
+use Rattle.joint_laws.specs.LinkedInvariants.{IsWeakenedBy, IsRestoredBy, LeadsToUnfreed, IsBeforeMirror, IsDriverKept, given_at}
 use Rattle.joint_laws.proofs.Fields.{IsLive-more, fields-past}
 use Rattle.joint_laws.proofs.HandlesAlike.{HandlesAlike, nothing_touched, row_of-on, row_of-back, AreOwnersKept-peer, IsLoose-peer, weakened-peer, restored-peer}
 use Rattle.joint_laws.proofs.PeerQuiet.{IsQuiet}
@@ -54,7 +55,8 @@ module _ (touched : ℕ → Type 0) (r : ManagedReplay) (s t : PeerReplay) (a : 
       handles = candidates_on b.cycle (λ l h. HasStrength s h strong) (λ l h. HasStrength t h strong) (λ l h n w q. a.on h strong w n q) b.handles;
     }
 
-    pub driver_on : (d : Stand) → ((i g : ℕ) → slice_get (given_at d) i ≡ Some (said_alive g) → touched g → ⊥) → ((o : OpenSnap) → d ≡ marked o → StillOwn s t) → StaysClosed r s t → IsDriverKept r s d → IsDriverKept r t d
+    pub driver_on : (d : Stand) → ((i g : ℕ) → slice_get (given_at d) i ≡ Some (said_alive g) → touched g → ⊥)
+        → ((o : OpenSnap) → d ≡ marked o → StillOwn s t) → StaysClosed r s t → IsDriverKept r s d → IsDriverKept r t d
     driver_on idle avoids own closed k = record { closed = k.closed; none = mirror ∙ k.none }
     driver_on (snapped o) avoids own closed k = before_on o k
     driver_on (contracted o comps heavy xrefs) avoids own closed k = record { before = before_on o k.before; contraction = k.contraction }
@@ -91,7 +93,8 @@ module _ (touched : ℕ → Type 0) (r : ManagedReplay) (s t : PeerReplay) (a : 
     }
 
 -- where a handle leads it was issued on
-target-by : (s : PeerReplay) (h p : ℕ) (o : Option TableRow) → elim o [ None ↦ None | Some row ↦ if row.cleared then None else peer_of s.peers.issued h ] ≡ Some p → (i : Issued) × IsIssued s.peers.issued h i × (i.peer ≡ p)
+target-by : (s : PeerReplay) (h p : ℕ) (o : Option TableRow) → elim o [ None ↦ None | Some row ↦ if row.cleared then None else peer_of s.peers.issued h ] ≡ Some p
+    → (i : Issued) × IsIssued s.peers.issued h i × (i.peer ≡ p)
 target-by s h p None q = absurd (none_some p q)
 target-by s h p (Some row) q = by row.cleared q
   where

@@ -15,7 +15,8 @@ use Rattle.joint_machine.specs.PeerReplay.{PeerReplay, TableRow}
 use Rattle.joint_machine.specs.Walks.{Reaches}
 use Rattle.joint_laws.specs.ManagedInvariants.{IsCutOff, IsReplayKept}
 use Rattle.joint_laws.specs.PeerInvariants.{IsPeerKept}
-use Rattle.joint_laws.specs.LinkedInvariants.{HasStrength, IsHeldOne, IsRowOf, IsReplaced, AreOwnersKept, AreCallersKept, IsIdle, IsBeforeMirror, IsRestored, doing_in, HasInHand, HasMadePair, put_hands}
+use Rattle.joint_laws.specs.LinkedInvariants.{HasStrength, IsHeldOne, IsRowOf, IsReplaced, AreOwnersKept, AreCallersKept, IsIdle, IsBeforeMirror, IsRestored, doing_in, HasInHand, HasMadePair}
+use Rattle.joint_laws.specs.LinkedInvariants.{put_hands}
 use Rattle.joint_machine.proofs.Members.{Contains-nil, Contains-at, Contains-decided, at-Contains}
 use Rattle.joint_machine.proofs.Deciding.{none_some}
 use Rattle.joint_machine.proofs.HeapLemmas.{IsLive-before, IsLive-left, candidates_of-open}
@@ -177,7 +178,8 @@ module _ (r : ManagedReplay) (s : PeerReplay) (op : OpenSnap) (answers : List An
     back-given m g h v q =
         let b = had m g v in
         let within = numbered-within r.managed.held m (Some b.0) b.1.held in
-        let now = renewed-given r.managed.held (candidates_of r.managed) answers m g (subst Rises (sym own_candidates) cut.rise) within.0 within.1 (subst (λ z. IsGivenTo z answers m g) (sym own_candidates) v) in
+        let now = renewed-given r.managed.held (candidates_of r.managed) answers m g
+        (subst Rises (sym own_candidates) cut.rise) within.0 within.1 (subst (λ z. IsGivenTo z answers m g) (sym own_candidates) v) in
         same_Some h g (same_Some (Some h) (Some g) (sym q.held ∙ now))
 
     on-given : (m g : ℕ) → (Contains freed m → ⊥) → IsGivenTo c.candidates answers m g → Holds closing.managed m g
@@ -186,7 +188,8 @@ module _ (r : ManagedReplay) (s : PeerReplay) (op : OpenSnap) (answers : List An
         let within = numbered-within r.managed.held m (Some b.0) b.1.held in
         record {
           live = IsLive-left r.managed.heap freed m b.1.live n;
-          held = renewed-given r.managed.held (candidates_of r.managed) answers m g (subst Rises (sym own_candidates) cut.rise) within.0 within.1 (subst (λ z. IsGivenTo z answers m g) (sym own_candidates) v);
+          held = renewed-given r.managed.held (candidates_of r.managed) answers m g
+              (subst Rises (sym own_candidates) cut.rise) within.0 within.1 (subst (λ z. IsGivenTo z answers m g) (sym own_candidates) v);
         }
 
     on-other : (m h : ℕ) → (Contains freed m → ⊥) → ((g : ℕ) → IsGivenTo c.candidates answers m g → ⊥) → Holds r.managed m h → Holds closing.managed m h
@@ -287,7 +290,11 @@ module _ (r : ManagedReplay) (s : PeerReplay) (op : OpenSnap) (answers : List An
     -- what threads have in hand no restore gave, so no row takes it
     pub callers_resolved : (ds : List Doing) → AreCallersKept r s (put_hands answers ds) → AreCallersKept closing s ds
     callers_resolved ds all = record {
-      loose = λ t h u. (let l = w.loose t h u in record { strong_one = l.strong_one; held_one = l.held_one; unowned = λ m q. elim (back m h q) [ inl old ↦ l.unowned m old | inr v ↦ given-apart r s answers ds all v.place h t v.answer u ] });
+      loose = λ t h u. (let l = w.loose t h u in record {
+        strong_one = l.strong_one;
+        held_one = l.held_one;
+        unowned = λ m q. elim (back m h q) [ inl old ↦ l.unowned m old | inr v ↦ given-apart r s answers ds all v.place h t v.answer u ];
+      });
       apart = w.apart;
       peers = w.peers;
       virgins = λ t h x u. (
@@ -332,7 +339,8 @@ module _ (r : ManagedReplay) (s : PeerReplay) (op : OpenSnap) (o : AreOwnersKept
       | inl cm ↦ candidate-strong m h cm (as_before m h q)
       | inr n ↦ o.strong_ones m h (as_before m h q) (λ w. n (subst (λ z. Contains z m) (candidates_of-open r.managed d.cycle d.opened.cycle) w))
     ];
-    weak_ones = λ h w q. (let t = o.weak_ones h w q in absurd (strength-one s h (candidate-strong t.0 h (subst (λ z. Contains z t.0) (candidates_of-open r.managed d.cycle d.opened.cycle) t.2) t.1) w));
+    weak_ones = λ h w q. (let t = o.weak_ones h w q in absurd (strength-one s h
+        (candidate-strong t.0 h (subst (λ z. Contains z t.0) (candidates_of-open r.managed d.cycle d.opened.cycle) t.2) t.1) w));
     registered = λ m x w. o.registered m x (record { handle = w.handle; holds = as_before m w.handle w.holds; row = w.row; is_issued = w.is_issued; leads = w.leads });
     pairs = λ x m w. (let v = o.pairs x m w in record { handle = v.handle; holds = as_after m v.handle v.holds; row = v.row; is_issued = v.is_issued; leads = v.leads });
     adopted = o.adopted;

@@ -32,11 +32,13 @@ replayed-further (n ∷ ns) s (suc i) more =
     subst (λ k. replayed s (take k (n ∷ ns)) ≡ replayed (replayed s (take (suc i) (n ∷ ns))) (take more (drop (suc i) (n ∷ ns)))) (sym e) (replayed-further ns (linkage_after s n) i more)
 
 -- at every state
-pub everywhere : (P : Linkage → Type 0) → P opening_linkage → ((s : Linkage) (n : Noted) → MayCome s n → P s → P (linkage_after s n)) → (ns : List Noted) → AllMayCome opening_linkage ns → (i : ℕ) → P (state_at ns i)
+pub everywhere : (P : Linkage → Type 0) → P opening_linkage → ((s : Linkage) (n : Noted) → MayCome s n → P s → P (linkage_after s n))
+    → (ns : List Noted) → AllMayCome opening_linkage ns → (i : ℕ) → P (state_at ns i)
 everywhere P first step ns a i = replayed-keeps P step (take i ns) opening_linkage (may_come-take ns opening_linkage i a) first
 
 -- from any state to any later one
-pub from_state : (P : Linkage → Type 0) → ((s : Linkage) (n : Noted) → MayCome s n → P s → P (linkage_after s n)) → (ns : List Noted) → AllMayCome opening_linkage ns → (i more : ℕ) → P (state_at ns i) → P (state_at ns (i + more))
+pub from_state : (P : Linkage → Type 0) → ((s : Linkage) (n : Noted) → MayCome s n → P s → P (linkage_after s n))
+    → (ns : List Noted) → AllMayCome opening_linkage ns → (i more : ℕ) → P (state_at ns i) → P (state_at ns (i + more))
 from_state P step ns a i more p =
     subst P (sym (replayed-further ns opening_linkage i more))
     (replayed-keeps P step (take more (drop i ns)) (state_at ns i) (may_come-take (drop i ns) (state_at ns i) more (may_come-drop ns opening_linkage i a)) p)

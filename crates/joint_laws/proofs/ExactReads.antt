@@ -32,7 +32,8 @@ module _ (s : Linkage) (number line : ℕ) (reply : Reply) (cites : Option ℕ) 
   abbrev entry : Thread → Op → Told → Noted
   entry t o told = record { entry = record { number = number; made = record { caller = t; index = line; op = o; reply = reply; cites = cites } }; told = told }
 
-  read : (t c : ℕ) (a : Act) (told : Told) → is_read (op.Line a) ≡ true → managed_line s.managed.managed t a ≡ read_cell s.managed.managed t c → ReaderMayCome s (entry (M t) (op.Line a) told) → reply ≡ (read_cell s.managed.managed t c).reply → Exact s (entry (M t) (op.Line a) told)
+  read : (t c : ℕ) (a : Act) (told : Told) → is_read (op.Line a) ≡ true → managed_line s.managed.managed t a ≡ read_cell s.managed.managed t c
+      → ReaderMayCome s (entry (M t) (op.Line a) told) → reply ≡ (read_cell s.managed.managed t c).reply → Exact s (entry (M t) (op.Line a) told)
   read t c a told e q w r = record {
     comes = record {
       event = w.event;
@@ -46,7 +47,8 @@ module _ (s : Linkage) (number line : ℕ) (reply : Reply) (cites : Option ℕ) 
         (ap (λ z. record s.managed.managed { pins = pins_after s.managed.managed.pins t z }) r ∙ (sym (read-filled s.managed.managed t c) ∙ sym (ap (λ (z : Answered Managed). z.state) q)));
   }
 
-  step : (t : Thread) (o : Op) (told : Told) (whole : List Noted) (cells : List (Option ℕ)) → EntryMayCome (is_read o) whole cells s (entry t o told) → ((k : ℕ) → ReadsCell o k → reply ≡ (read_cell s.managed.managed (thread_number t) k).reply) → Exact s (entry t o told)
+  step : (t : Thread) (o : Op) (told : Told) (whole : List Noted) (cells : List (Option ℕ)) → EntryMayCome (is_read o) whole cells s (entry t o told)
+      → ((k : ℕ) → ReadsCell o k → reply ≡ (read_cell s.managed.managed (thread_number t) k).reply) → Exact s (entry t o told)
   step (M t) (op.Line (act.Read c)) told whole cells w x = read t c.0 (act.Read c) told refl refl w.0 (x c.0 refl)
   step (M t) (op.Line (act.Await c)) told whole cells w x = read t c.0 (act.Await c) told refl refl w.0 (x c.0 refl)
   step (P t) (op.Line (act.Read c)) told whole cells w x = absurd w.0.event.0.1
@@ -55,7 +57,8 @@ module _ (s : Linkage) (number line : ℕ) (reply : Reply) (cites : Option ℕ) 
   step C (op.Line (act.Await c)) told whole cells w x = absurd w.0.event.0
   step t o told whole cells w x = record { comes = w; same = refl }
 
-exact : (s : Linkage) (n : Noted) (whole : List Noted) (cells : List (Option ℕ)) → EntryMayCome (is_read n.entry.made.op) whole cells s n → ((k : ℕ) → ReadsCell n.entry.made.op k → n.entry.made.reply ≡ (read_cell s.managed.managed (thread_number n.entry.made.caller) k).reply) → Exact s n
+exact : (s : Linkage) (n : Noted) (whole : List Noted) (cells : List (Option ℕ)) → EntryMayCome (is_read n.entry.made.op) whole cells s n
+    → ((k : ℕ) → ReadsCell n.entry.made.op k → n.entry.made.reply ≡ (read_cell s.managed.managed (thread_number n.entry.made.caller) k).reply) → Exact s n
 exact s n whole cells w x = step s n.entry.number n.entry.made.index n.entry.made.reply n.entry.made.cites n.entry.made.caller n.entry.made.op n.told whole cells w x
 
 record Along (s : Linkage) (ns : List Noted) : Type 0 where
@@ -80,4 +83,7 @@ no_cell _ k e r = r
 
 pub readless_is_exact : ReadlessIsExact
 readless_is_exact [] s a = tt
-readless_is_exact (n ∷ ns) s a = ((λ k r. absurd (no_cell n.entry.made.op k (All-head (λ (z : Noted). is_read z.entry.made.op ≡ false) n ns a) r)), readless_is_exact ns (entry_after s n) (All-tail (λ (z : Noted). is_read z.entry.made.op ≡ false) n ns a))
+readless_is_exact (n ∷ ns) s a = (
+  (λ k r. absurd (no_cell n.entry.made.op k (All-head (λ (z : Noted). is_read z.entry.made.op ≡ false) n ns a) r)),
+  readless_is_exact ns (entry_after s n) (All-tail (λ (z : Noted). is_read z.entry.made.op ≡ false) n ns a),
+)

@@ -88,7 +88,8 @@ spans ms ps ns (says.Took s) told w took = (let t = (took s refl).1 in let a = t
 spans ms ps ns _ told w took = tt
 
 -- all entries of a list fit if each does in its place
-all-fit : (ms : List MNum) (ps : List PNum) (ns : List MNum) (noted : List Noted) (entries : List Entry) → map (λ (n : Noted). n.entry) noted ≡ entries → ((i : ℕ) (n : Noted) → slice_get noted i ≡ Some n → FitsLists ms ps ns n.entry) → All (FitsLists ms ps ns) entries
+all-fit : (ms : List MNum) (ps : List PNum) (ns : List MNum) (noted : List Noted) (entries : List Entry) → map (λ (n : Noted). n.entry) noted ≡ entries
+    → ((i : ℕ) (n : Noted) → slice_get noted i ≡ Some n → FitsLists ms ps ns n.entry) → All (FitsLists ms ps ns) entries
 all-fit ms ps ns noted entries same fit = subst (λ z. All (FitsLists ms ps ns) z) same (All-members (FitsLists ms ps ns) (map (λ (n : Noted). n.entry) noted) (λ e c. (
     let n = Contains-map_cases (λ (n : Noted). n.entry) noted e c in
     let at = at-Contains noted n.0 n.1 in
@@ -102,7 +103,9 @@ pub linked_is_history : LinkedIsHistory
 linked_is_history h noted l = record {
   numbers = l.numbers;
   fits = all-fit h.freed_managed h.freed_peers h.notices noted h.entries l.same (λ i n e. record {
-    event = named-event n.entry.made.caller n.entry.made.op (event-of (is_read n.entry.made.op) noted (replayed_reading opening_linkage noted).managed.managed.cells (reading_at noted i) n (reading-comes noted (replayed_reading opening_linkage noted).managed.managed.cells noted opening_linkage i n l.lawful e));
-    spans = spans h.freed_managed h.freed_peers h.notices n.entry.made.reply n.told (told_is_named h noted l i n e) (λ s took. ((reading_at noted i).managed.managed, notices_are_named h noted l i n s e took));
+    event = named-event n.entry.made.caller n.entry.made.op (event-of (is_read n.entry.made.op) noted (replayed_reading opening_linkage noted).managed.managed.cells
+        (reading_at noted i) n (reading-comes noted (replayed_reading opening_linkage noted).managed.managed.cells noted opening_linkage i n l.lawful e));
+    spans = spans h.freed_managed h.freed_peers h.notices n.entry.made.reply n.told (told_is_named h noted l i n e)
+        (λ s took. ((reading_at noted i).managed.managed, notices_are_named h noted l i n s e took));
   });
 }

@@ -60,7 +60,8 @@ sweep-grows s t cites (sweep_of freed) = swept-grows s s.marking t freed
 sweep-grows s t cites _ = swept-grows s s.marking t []
 
 after-sweep : (s : Linkage) (m : Made) (told : Told) (o : Op) → m.op ≡ o → o ≡ op.Sweep → Grows s.peer.peers.heap.freed (peer_after s.peer m told (is_peer_event m.caller m.op)).peers.heap.freed
-after-sweep s m told o e f = subst (λ z. Grows s.peer.peers.heap.freed (peer_after s.peer (record m { op = z }) told (is_peer_event m.caller z)).peers.heap.freed) (sym (e ∙ f)) (sweep-grows s.peer m.caller m.cites told)
+after-sweep s m told o e f = subst (λ z. Grows s.peer.peers.heap.freed (peer_after s.peer (record m { op = z }) told (is_peer_event m.caller z)).peers.heap.freed)
+    (sym (e ∙ f)) (sweep-grows s.peer m.caller m.cites told)
 
 pub peers-grow : (s : Linkage) (n : Noted) → IsPeerKept s.peer → Grows s.peer.peers.heap.freed (linkage_after s n).peer.peers.heap.freed
 peers-grow s n k = elim (sweep-or n.entry.made.op) [

@@ -50,7 +50,8 @@ module _ (r : ManagedReplay) (k : IsReplayKept r) where
       same-as a.state _ (adopt_by-managed r p.0 h.0 a.state a.reply) (adopted-goes_on r.managed (place (thread_number t) v.0) kind f h.0 k.managed.places).freed
   answer-freed t (op.Meet v sort f p h) told n w =
       let a = met r.managed (place (thread_number t) v.0) h.0 sort f (registered r.registry p.0) in
-      same-as a.state _ (meet_by-managed r p.0 h.0 a.state a.reply) (met-goes_on r.managed (place (thread_number t) v.0) h.0 sort f (registered r.registry p.0) k.managed.places (λ m e. twin-live r p.0 m k e)).freed
+      same-as a.state _ (meet_by-managed r p.0 h.0 a.state a.reply)
+      (met-goes_on r.managed (place (thread_number t) v.0) h.0 sort f (registered r.registry p.0) k.managed.places (λ m e. twin-live r p.0 m k e)).freed
   answer-freed t (op.Give v) told n w =
       let u = place (thread_number t) v.0 in
       same-as (given_up r.managed u).state _ (give_by-managed r (slot r.managed.heap.vars u) (given_up r.managed u)) (given_up-goes_on r.managed u).freed
@@ -63,13 +64,15 @@ module _ (r : ManagedReplay) (k : IsReplayKept r) where
   answer-freed t _ told n w = refl
 
 -- so at an entry that is neither, the freed rows stay
-freed-by : (s : Linkage) (m : Made) (told : Told) (b : Bool) → IsReplayKept s.managed → (FreesRows m.op → ⊥) → SideLawful b s m told → (managed_after s.managed m told b).managed.heap.freed ≡ s.managed.managed.heap.freed
+freed-by : (s : Linkage) (m : Made) (told : Told) (b : Bool) → IsReplayKept s.managed → (FreesRows m.op → ⊥)
+    → SideLawful b s m told → (managed_after s.managed m told b).managed.heap.freed ≡ s.managed.managed.heap.freed
 freed-by s m told true k n l = refl
 freed-by s m told false k n l = answer-freed s.managed k m.caller m.op told n l.allowed
 
 module _ (s : Linkage) (k : Of s) (x h p : ℕ) (holds : Holds s.managed.managed x h) (leads : peer_of s.peer.peers.issued h ≡ Some p) where
   -- at a resolution by the answers
-  kept-answer : (c : ℕ) (alive : List Answer) (freed : List ℕ) (cites : Option ℕ) (st : Stand) → IsDriverKept s.managed s.peer st → MayResolveNow st c cites (resolution_of alive freed) → MayResolve s.managed c alive freed → Contains freed x → Contains s.peer.peers.heap.freed p
+  kept-answer : (c : ℕ) (alive : List Answer) (freed : List ℕ) (cites : Option ℕ) (st : Stand) → IsDriverKept s.managed s.peer st
+      → MayResolveNow st c cites (resolution_of alive freed) → MayResolve s.managed c alive freed → Contains freed x → Contains s.peer.peers.heap.freed p
   kept-answer c alive freed cites (restored o answers clear) d a w f =
       let same : w.cycle ≡ d.cycle = same_Some w.cycle d.cycle (sym w.open_cycle.0 ∙ d.opened.cycle) in
       let out = (w.resolution.frees x).0 f in
@@ -78,7 +81,11 @@ module _ (s : Linkage) (k : Of s) (x h p : ℕ) (holds : Holds s.managed.managed
       let at = at-Contains d.cycle.candidates x candidate in
       let i = peer_of-row s.peer.peers.issued h p leads in
       elim (d.handles at.0 x h at.1 holds) [
-        | inl t ↦ absurd (out.1 (x, (at.0, subst (λ (z : OpenCycle). slice_get z.candidates at.0 ≡ Some x) (sym same) at.1, (t.0, subst (λ z. slice_get z at.0 ≡ Some (said_alive t.0)) (sym a.2) t.1)), Reaches-self (ManagedEdge s.managed.managed) x))
+        | inl t ↦ absurd (out.1 (
+          x,
+          (at.0, subst (λ (z : OpenCycle). slice_get z.candidates at.0 ≡ Some x) (sym same) at.1, (t.0, subst (λ z. slice_get z at.0 ≡ Some (said_alive t.0)) (sym a.2) t.1)),
+          Reaches-self (ManagedEdge s.managed.managed) x,
+        ))
         | inr t ↦ elim t [
           | inl u ↦ subst (λ z. Contains s.peer.peers.heap.freed z) i.2 (u.1.freed i.0 i.1)
           | inr u ↦ absurd (omega (arith, u.0, slice_get_within d.cycle.candidates at.0 x at.1, d.all))
@@ -92,7 +99,8 @@ module _ (s : Linkage) (k : Of s) (x h p : ℕ) (holds : Holds s.managed.managed
   kept-answer c alive freed cites (restoring o answers) d a w f = absurd a
 
   module _ (line : ℕ) (reply : Reply) (cites : Option ℕ) where
-    stays-live : (t : Thread) (o : Op) (told : Told) → (FreesRows o → ⊥) → SideLawful (is_peer_event t o) s (entry t line o reply cites) told → Contains (managed_after s.managed (entry t line o reply cites) told (is_peer_event t o)).managed.heap.freed x → Contains s.peer.peers.heap.freed p
+    stays-live : (t : Thread) (o : Op) (told : Told) → (FreesRows o → ⊥) → SideLawful (is_peer_event t o) s (entry t line o reply cites) told
+        → Contains (managed_after s.managed (entry t line o reply cites) told (is_peer_event t o)).managed.heap.freed x → Contains s.peer.peers.heap.freed p
     stays-live t o told n w f = absurd (holds.live.kept (subst (λ z. Contains z x) (freed-by s (entry t line o reply cites) told (is_peer_event t o) k.managed n w) f))
 
     by : (t : Thread) (o : Op) (told : Told) → IsEvent t o → SideLawful (is_peer_event t o) s (entry t line o reply cites) told → Allows s (entry t line o reply cites) told
@@ -114,5 +122,6 @@ module _ (s : Linkage) (k : Of s) (x h p : ℕ) (holds : Holds s.managed.managed
     by t o told e w a f = stays-live t o told (λ z. z) w f
 
 -- a row that holds a handle and is freed at an entry has a freed peer before it
-pub freed-peer : (s : Linkage) (n : Noted) → MayCome s n → Of s → (x h p : ℕ) → Holds s.managed.managed x h → peer_of s.peer.peers.issued h ≡ Some p → Contains (linkage_after s n).managed.managed.heap.freed x → Contains s.peer.peers.heap.freed p
+pub freed-peer : (s : Linkage) (n : Noted) → MayCome s n → Of s → (x h p : ℕ) → Holds s.managed.managed x h
+    → peer_of s.peer.peers.issued h ≡ Some p → Contains (linkage_after s n).managed.managed.heap.freed x → Contains s.peer.peers.heap.freed p
 freed-peer s n may k x h p holds leads f = by s k x h p holds leads n.entry.made.index n.entry.made.reply n.entry.made.cites n.entry.made.caller n.entry.made.op n.told may.event may.lawful may.order f

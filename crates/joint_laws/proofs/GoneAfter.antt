@@ -99,7 +99,8 @@ after-next k m s n may w = by (ManagedStep-entry s n may w.kept.managed)
     by (abandoning p) = make (let e = ap (λ (z : Managed). z.cycles) p.is in let f = w.count in omega arith) (λ c e. absurd (none_some c (sym (ap (λ (z : Managed). z.cycle) p.is) ∙ e)))
 
 -- just after it
-resolved-after : (s : Linkage) (n : Noted) (k m : ℕ) (alive : List Answer) (freed : List ℕ) → MayCome s n → Of s → n.entry.made.op ≡ op.Resolve record { 0 = k } → n.told ≡ resolution_of alive freed → Contains freed m → IsAfter k m (linkage_after s n)
+resolved-after : (s : Linkage) (n : Noted) (k m : ℕ) (alive : List Answer) (freed : List ℕ) → MayCome s n → Of s
+    → n.entry.made.op ≡ op.Resolve record { 0 = k } → n.told ≡ resolution_of alive freed → Contains freed m → IsAfter k m (linkage_after s n)
 resolved-after s n k m alive freed may w e f c = record {
   kept = AreKept-entry s n may w;
   freed = subst (λ (z : ManagedReplay). Contains z.managed.heap.freed m) is (Contains-append_right s.managed.managed.heap.freed freed m c);
@@ -128,7 +129,8 @@ after-resolve noted may i j k m r l =
 read-reply : (s : Linkage) (n : Noted) (c : ℕ) → MayCome s n → ReadsCell n.entry.made.op c → n.entry.made.reply ≡ (read_cell s.managed.managed (thread_number n.entry.made.caller) c).reply
 read-reply s n c may r = by n.entry.made.caller n.entry.made.op may.event may.lawful r
   where
-    by : (t : Thread) (o : Op) → IsEvent t o → SideLawful (is_peer_event t o) s (record n.entry.made { caller = t; op = o }) n.told → ReadsCell o c → n.entry.made.reply ≡ (read_cell s.managed.managed (thread_number t) c).reply
+    by : (t : Thread) (o : Op) → IsEvent t o → SideLawful (is_peer_event t o) s (record n.entry.made { caller = t; op = o }) n.told
+        → ReadsCell o c → n.entry.made.reply ≡ (read_cell s.managed.managed (thread_number t) c).reply
     by (M u) (op.Line (act.Read x)) e w q = w.replies ∙ ap (λ z. (read_cell s.managed.managed u z).reply) q
     by (M u) (op.Line (act.Await x)) e w q = w.replies ∙ ap (λ z. (read_cell s.managed.managed u z).reply) q
     by (P u) (op.Line (act.Read x)) e w q = absurd e.0.1
@@ -140,10 +142,12 @@ read-reply s n c may r = by n.entry.made.caller n.entry.made.op may.event may.la
 pub reads_are_gone : ReadsAreGone
 reads_are_gone noted may i j k m n r l there w =
     let a = after-resolve noted may i j k m r l in
-    read-gone (state_at noted j).managed.managed n.entry.made.caller w.cell k m a.freed a.later w.target n.entry.made.reply (read-reply (state_at noted j) n w.cell (comes-at noted j n may there) w.reads)
+    read-gone (state_at noted j).managed.managed n.entry.made.caller w.cell k m a.freed a.later w.target n.entry.made.reply
+    (read-reply (state_at noted j) n w.cell (comes-at noted j n may there) w.reads)
 
 -- a peer that a sweep freed
-swept-frees : (s : Linkage) (n : Noted) (p : ℕ) (freed : List ℕ) → MayCome s n → n.entry.made.op ≡ op.Sweep → n.told ≡ sweep_of freed → Contains freed p → Contains (linkage_after s n).peer.peers.heap.freed p
+swept-frees : (s : Linkage) (n : Noted) (p : ℕ) (freed : List ℕ) → MayCome s n → n.entry.made.op ≡ op.Sweep
+    → n.told ≡ sweep_of freed → Contains freed p → Contains (linkage_after s n).peer.peers.heap.freed p
 swept-frees s n p freed may e f c = subst (λ (z : PeerReplay). Contains z.peers.heap.freed p) is (by s.peer.marking allowed)
   where
     after_by : Op → Told → PeerReplay
@@ -163,7 +167,8 @@ swept-frees s n p freed may e f c = subst (λ (z : PeerReplay). Contains z.peers
 
     by : (x : Option Marking) → SweepAllows s.peer x n.entry.made.caller (sweep_of freed) → Contains (swept s.peer x n.entry.made.caller freed).state.peers.heap.freed p
     by None a = absurd (none_to_end n.entry.made.caller a)
-    by (Some mk) a = subst (λ b. Contains (if b then swept_of s.peer mk freed else answer (says.MarkOpen record { 0 = mk.number }) s.peer).state.peers.heap.freed p) (sym (may-end n.entry.made.caller mk.by a.0)) (Contains-append_right s.peer.peers.heap.freed freed p c)
+    by (Some mk) a = subst (λ b. Contains (if b then swept_of s.peer mk freed else answer (says.MarkOpen record { 0 = mk.number }) s.peer).state.peers.heap.freed p)
+        (sym (may-end n.entry.made.caller mk.by a.0)) (Contains-append_right s.peer.peers.heap.freed freed p c)
 
 -- a weak read of a freed peer
 pub weak-read : (s : Linkage) (n : Noted) (p : ℕ) → IsPeerKept s.peer → Contains s.peer.peers.heap.freed p → MayCome s n → ReadsPeer s.peer n p → n.entry.made.reply ≡ says.Gone
@@ -177,15 +182,18 @@ weak-read s n p k freed may r = by n.entry.made.caller (subst (λ o. IsEvent n.e
       where
         at : (b : Bool) → row.cleared ≡ b → (if b then None else peer_of s.peer.peers.issued r.handle) ≡ None
         at true q = refl
-        at false q = absurd (let i = peer_of-row s.peer.peers.issued r.handle p r.leads in (k.handles.uncleared r.handle row i.0 (slot-named (numbered_at s.peer.table r.handle) row e) i.1 q).kept (subst (λ z. Contains s.peer.peers.heap.freed z) (sym i.2) freed))
+        at false q = absurd (let i = peer_of-row s.peer.peers.issued r.handle p r.leads in
+            (k.handles.uncleared r.handle row i.0 (slot-named (numbered_at s.peer.table r.handle) row e) i.1 q).kept (subst (λ z. Contains s.peer.peers.heap.freed z) (sym i.2) freed))
 
     target : table_target s.peer r.handle ≡ None
     target = row_leads (row_of s.peer r.handle) refl
 
-    by : (t : Thread) → IsEvent t (op.Line (act.WRead r.var r.name)) → SideLawful (is_peer_thread t) s (record n.entry.made { caller = t; op = op.Line (act.WRead r.var r.name) }) n.told → n.entry.made.reply ≡ says.Gone
+    by : (t : Thread) → IsEvent t (op.Line (act.WRead r.var r.name))
+        → SideLawful (is_peer_thread t) s (record n.entry.made { caller = t; op = op.Line (act.WRead r.var r.name) }) n.told → n.entry.made.reply ≡ says.Gone
     by (M u) e w = absurd e.0.1
     by C e w = absurd e.0
-    by (P u) e w = w.replies ∙ (bring-reply (on_table s.peer (name_read (table_target s.peer) s.peer.peers (place u r.var.0) r.name.0)) (name_read (table_target s.peer) s.peer.peers (place u r.var.0) r.name.0).reply
+    by (P u) e w = w.replies ∙ (bring-reply (on_table s.peer (name_read (table_target s.peer) s.peer.peers (place u r.var.0) r.name.0))
+        (name_read (table_target s.peer) s.peer.peers (place u r.var.0) r.name.0).reply
         ∙ (ap (λ o. (wread_by (table_target s.peer) s.peer.peers (place u r.var.0) o).reply) r.named ∙ ap (λ o. (peer_read s.peer.peers (place u r.var.0) o).reply) target))
 
 pub freed-since : (noted : List Noted) → AllMayCome opening_linkage noted → (i j p : ℕ) → SweepFrees noted i p → i < j → Contains (state_at noted j).peer.peers.heap.freed p
@@ -214,13 +222,16 @@ unmirrored-refs s n e out = elim (clear-or n.entry.made.op) [
 ]
 
 -- place by place, for states that each entry leads from one to the next
-pub none-stands : (noted : List Noted) (at : ℕ → Linkage) → ((p : ℕ) (n : Noted) → slice_get noted p ≡ Some n → ((k : Cycle) → n.entry.made.op ≡ op.Mirror k → ⊥) → (at p).peer.refs ≡ [] → (at (suc p)).peer.refs ≡ [])
-    → ((p : ℕ) → length noted ≤ p → (at (suc p)).peer.refs ≡ (at p).peer.refs) → (i more : ℕ) → NoMirrorBetween noted i (suc i + more) → (at (suc i)).peer.refs ≡ [] → (at (suc i + more)).peer.refs ≡ []
+pub none-stands : (noted : List Noted) (at : ℕ → Linkage) → ((p : ℕ) (n : Noted) → slice_get noted p ≡ Some n
+    → ((k : Cycle) → n.entry.made.op ≡ op.Mirror k → ⊥) → (at p).peer.refs ≡ [] → (at (suc p)).peer.refs ≡ [])
+    → ((p : ℕ) → length noted ≤ p → (at (suc p)).peer.refs ≡ (at p).peer.refs) → (i more : ℕ)
+    → NoMirrorBetween noted i (suc i + more) → (at (suc i)).peer.refs ≡ [] → (at (suc i + more)).peer.refs ≡ []
 none-stands noted at step past i zero out e = ap (λ p. (at p).peer.refs) (omega arith) ∙ e
 none-stands noted at step past i (suc more) out e =
     let before-it = none-stands noted at step past i more (λ x k l m. out x k l (omega (arith, m))) e in
     ap (λ p. (at p).peer.refs) (omega arith) ∙ (elim (cases_lt (suc i + more) (length noted)) [
-      | inl l ↦ (let n = numbered-made noted (suc (suc i + more)) (omega arith) (omega (arith, l)) in step (suc i + more) n.0 n.1 (λ k q. out (suc i + more) k.0 (omega arith) (omega arith) (record { entry = n.0; there = n.1; event = q })) before-it)
+      | inl l ↦ (let n = numbered-made noted (suc (suc i + more)) (omega arith) (omega (arith, l)) in
+          step (suc i + more) n.0 n.1 (λ k q. out (suc i + more) k.0 (omega arith) (omega arith) (record { entry = n.0; there = n.1; event = q })) before-it)
       | inr l ↦ past (suc i + more) l ∙ before-it
     ])
 

@@ -1,7 +1,8 @@
 -- The table of handles stays kept: as the heap grows, when a handle on an unfreed peer is issued, when a handle leaves
 -- the table, when a held one's strength changes, when a name comes to have a raw handle or none, and when the handles
 -- on swept peers are cleared.
-use Rattle.std.proofs.Common.{◌≡◌, ◌≢◌, ℕ, zero, suc, ◌⊎◌, inl, inr, Bool, true, false, ◌||◌, List, [], ◌∷◌, ◌++◌, length, Option, Some, None, set, replicate, refl, sym, ap, subst, ◌∙◌, arith, length-append, nat_eq}
+use Rattle.std.proofs.Common.{◌≡◌, ◌≢◌, ℕ, zero, suc, ◌⊎◌, inl, inr, Bool, true, false, ◌||◌, List, [], ◌∷◌, ◌++◌, length, Option, Some, None, set, replicate, refl, sym, ap, subst, ◌∙◌, arith}
+use Rattle.std.proofs.Common.{length-append, nat_eq}
 use Rattle.std.specs.Prelude.{Contains, slice_get}
 use Rattle.std.specs.List.{list_any}
 use Rattle.std.proofs.lemmas.Bool.{cases_eq, eqb-true}
@@ -59,7 +60,8 @@ AreHandlesKept-name h issued table names g o a r = record {
 }
 
 -- a row is written, or emptied
-pub tabled-set_cases : (table : List (Option TableRow)) (n : ℕ) (o : Option TableRow) (m : ℕ) (row : TableRow) → IsTabled (numbered_set table n o) m row → ((m ≡ n) × (o ≡ Some row)) ⊎ ((m ≢ n) × IsTabled table m row)
+pub tabled-set_cases : (table : List (Option TableRow)) (n : ℕ) (o : Option TableRow) (m : ℕ) (row : TableRow)
+    → IsTabled (numbered_set table n o) m row → ((m ≡ n) × (o ≡ Some row)) ⊎ ((m ≢ n) × IsTabled table m row)
 tabled-set_cases table n o m row t = elim (cases_eq m n) [
   | inl e ↦ inl (e, numbered_set-same table n o (Some row) (subst (λ z. numbered_at (numbered_set table n o) z ≡ Some (Some row)) e t))
   | inr ne ↦ inr (ne, sym (numbered_set-other table n m o ne) ∙ t)
@@ -68,7 +70,8 @@ tabled-set_cases table n o m row t = elim (cases_eq m n) [
 pub issued-same : (issued : List Issued) (n m : ℕ) (i j : Issued) → m ≡ n → IsIssued issued n i → IsIssued issued m j → i ≡ j
 issued-same issued n m i j e p q = same_Some i j (sym p ∙ (ap (λ z. numbered_at issued z) (sym e) ∙ q))
 
-pub AreHandlesKept-gone : (h : Heap) (issued : List Issued) (table : List (Option TableRow)) (names : List (Option ℕ)) (n : ℕ) → AreHandlesKept h issued table names → AreHandlesKept h issued (numbered_set table n None) names
+pub AreHandlesKept-gone : (h : Heap) (issued : List Issued) (table : List (Option TableRow)) (names : List (Option ℕ)) (n : ℕ)
+    → AreHandlesKept h issued table names → AreHandlesKept h issued (numbered_set table n None) names
 AreHandlesKept-gone h issued table names n a = record {
   places = numbered_set-length table n None ∙ a.places;
   peers = a.peers;
@@ -84,8 +87,10 @@ AreHandlesKept-gone h issued table names n a = record {
 
 -- a held handle's row changes its strength
 module _ (h : Heap) (issued : List Issued) (table : List (Option TableRow)) (names : List (Option ℕ)) (n : ℕ) (old new : TableRow) (j : Issued)
-    (a : AreHandlesKept h issued table names) (t : IsTabled table n old) (p : IsIssued issued n j) (hold : j.hold ≡ held) (same : new.cleared ≡ old.cleared) (sure : new.strength ≡ strong → new.cleared ≡ false) where
-  by : (Q : TableRow → ℕ → Type 0) → ((m : ℕ) → m ≡ n → Q new m) → ((m : ℕ) (row : TableRow) → IsTabled table m row → Q row m) → (m : ℕ) (row : TableRow) → IsTabled (numbered_set table n (Some new)) m row → Q row m
+    (a : AreHandlesKept h issued table names) (t : IsTabled table n old) (p : IsIssued issued n j)
+    (hold : j.hold ≡ held) (same : new.cleared ≡ old.cleared) (sure : new.strength ≡ strong → new.cleared ≡ false) where
+  by : (Q : TableRow → ℕ → Type 0) → ((m : ℕ) → m ≡ n → Q new m) → ((m : ℕ) (row : TableRow) → IsTabled table m row → Q row m)
+      → (m : ℕ) (row : TableRow) → IsTabled (numbered_set table n (Some new)) m row → Q row m
   by Q here there m row u = elim (tabled-set_cases table n (Some new) m row u) [
     | inl q ↦ subst (λ z. Q z m) (same_Some new row q.1) (here m q.0)
     | inr q ↦ there m row q.1
@@ -156,7 +161,8 @@ module _ (h : Heap) (issued : List Issued) (table : List (Option TableRow)) (nam
 abbrev pub swept_row : List ℕ → Issued → TableRow → TableRow
 swept_row freed i row = record row { cleared = row.cleared || list_any (nat_eq i.peer) freed }
 
-swept_at : (freed : List ℕ) (issued : List Issued) (table : List (Option TableRow)) (k : ℕ) (row : TableRow) → length table ≡ length issued → slice_get (cleared_rows freed issued table) k ≡ Some (Some row)
+swept_at : (freed : List ℕ) (issued : List Issued) (table : List (Option TableRow)) (k : ℕ) (row : TableRow)
+    → length table ≡ length issued → slice_get (cleared_rows freed issued table) k ≡ Some (Some row)
     → (i : Issued) × (old : TableRow) × (slice_get issued k ≡ Some i) × (slice_get table k ≡ Some (Some old)) × (swept_row freed i old ≡ row)
 swept_at freed [] [] k row l e = (let f : ⊥ = cc in absurd f)
 swept_at freed [] (x ∷ table) k row l e = absurd (omega arith)

@@ -94,7 +94,8 @@ module _ (touched : ℕ → Type 0) (r : ManagedReplay) (s t : PeerReplay) (a : 
     same = x.same;
   }
 
-  pub restored-peer : (answers : List Answer) (l h : ℕ) → ((i g : ℕ) → slice_get answers i ≡ Some (said_alive g) → touched g → ⊥) → (touched h → ⊥) → IsHeldOne s h → IsRestoredBy s answers l h → IsRestoredBy t answers l h
+  pub restored-peer : (answers : List Answer) (l h : ℕ) → ((i g : ℕ) → slice_get answers i ≡ Some (said_alive g) → touched g → ⊥)
+      → (touched h → ⊥) → IsHeldOne s h → IsRestoredBy s answers l h → IsRestoredBy t answers l h
   restored-peer answers l h given n w q = elim q [
     | inl b ↦ inl (b.0, b.1, IsReplaced-peer h b.0 n (given l b.0 b.1) w b.2)
     | inr b ↦ elim b [

@@ -151,7 +151,8 @@ AreCallersKept-threads r s answers ds k = record {
 }
 
 -- no thread has in hand what a restore gave
-pub given-apart : (r : ManagedReplay) (s : PeerReplay) (answers : List Answer) (ds : List Doing) → AreCallersKept r s (put_hands answers ds) → (i g t : ℕ) → slice_get answers i ≡ Some (said_alive g) → HasInHand (doing_in ds t) g → ⊥
+pub given-apart : (r : ManagedReplay) (s : PeerReplay) (answers : List Answer) (ds : List Doing)
+    → AreCallersKept r s (put_hands answers ds) → (i g t : ℕ) → slice_get answers i ≡ Some (said_alive g) → HasInHand (doing_in ds t) g → ⊥
 given-apart r s answers ds k i g t e w =
     let v = given-hand answers ds i g e in
     let same = k.apart v.0 (shift answers t) g v.2 (subst (λ z. HasInHand z g) (sym (put-doing answers ds t)) w) in
@@ -159,7 +160,8 @@ given-apart r s answers ds k i g t e w =
     omega (arith, v.1, same, more)
 
 -- one handle more comes into a hand
-pub AreCallersKept-cons : (r : ManagedReplay) (s : PeerReplay) (ds : List Doing) (h : ℕ) → AreCallersKept r s ds → IsLoose r s h → ((t : ℕ) → HasInHand (doing_in ds t) h → ⊥) → AreCallersKept r s (given 0 0 h ∷ ds)
+pub AreCallersKept-cons : (r : ManagedReplay) (s : PeerReplay) (ds : List Doing) (h : ℕ) → AreCallersKept r s ds
+    → IsLoose r s h → ((t : ℕ) → HasInHand (doing_in ds t) h → ⊥) → AreCallersKept r s (given 0 0 h ∷ ds)
 AreCallersKept-cons r s ds h k l n = record { loose = loose; apart = apart; peers = peers; virgins = virgins; lent_ones = lent }
   where
     loose : (t g : ℕ) → HasInHand (doing_in (given 0 0 h ∷ ds) t) g → IsLoose r s g

@@ -8,7 +8,8 @@ use Rattle.std.proofs.lemmas.Bool.{cases_eq}
 use Rattle.std.proofs.lemmas.Option.{same_Some}
 use Rattle.joint_machine.specs.declared.events.Reply.{Reply}
 use Rattle.joint_machine.specs.declared.events.Reply.TheVariants as says
-use Rattle.joint_machine.specs.Heaps.{Heap, InSlot, Answered, answer, slot, fields_of, with_var, with_static, with_field, copied, field_stored, field_set, read_into, field_got, dropped, loaded, stored}
+use Rattle.joint_machine.specs.Heaps.{Heap, InSlot, Answered, answer, slot, fields_of, with_var, with_static, with_field, copied, field_stored, field_set, read_into, field_got, dropped, loaded}
+use Rattle.joint_machine.specs.Heaps.{stored}
 use Rattle.joint_machine.proofs.Numbered.{Contains-set_cases, slot-Contains}
 use Rattle.joint_machine.proofs.Deciding.{none_some}
 use Rattle.joint_laws.proofs.Fields.{with_field-same, with_field-other, with_field-length}

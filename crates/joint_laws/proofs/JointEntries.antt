@@ -14,7 +14,8 @@ use Rattle.joint_machine.specs.declared.lines.Act.TheVariants as act
 use Rattle.joint_machine.specs.declared.events.Op.{Op}
 use Rattle.joint_machine.specs.declared.events.Op.TheVariants as op
 use Rattle.joint_machine.specs.declared.events.Reply.{Reply}
-use Rattle.joint_machine.specs.Control.{Doing, Stand, idle, snapped, contracted, weakening, marked, restoring, restored, control_after, stand_after, MayContractNow, MayMirrorNow, MayWeakenNow, MayBeginNow, MaySweepNow, MayClearNow, MayRestoreNow, MayResolveNow, MayAbandonNow}
+use Rattle.joint_machine.specs.Control.{Doing, Stand, idle, snapped, contracted, weakening, marked, restoring, restored, control_after, stand_after, MayContractNow, MayMirrorNow, MayWeakenNow}
+use Rattle.joint_machine.specs.Control.{MayBeginNow, MaySweepNow, MayClearNow, MayRestoreNow, MayResolveNow, MayAbandonNow}
 use Rattle.joint_machine.specs.Cycles.{IsResolution, IsAnsweredAlive, resolve_reply}
 use Rattle.joint_machine.specs.Heaps.{Answered, place, slot}
 use Rattle.joint_machine.specs.Joint.{Joint, JointMarking, twin_of}
@@ -42,7 +43,8 @@ use Rattle.joint_laws.proofs.LinkedDriver.{one_cycle}
 use Rattle.joint_laws.proofs.LinkedEntries.{Of, entry, Allows}
 
 -- an entry is a step of the joint machine, or leaves its state as it is
-pub data Outcome (m : Managed) (s : PeerReplay) (flags : Flags) (answers : List (Option Answer)) (jm : Option JointMarking) (t : Thread) (o : Op) (reply : Reply) (told : Told) (n : Managed) (u : PeerReplay) : Type 0 where
+pub data Outcome (m : Managed) (s : PeerReplay) (flags : Flags) (answers : List (Option Answer)) (jm : Option JointMarking)
+    (t : Thread) (o : Op) (reply : Reply) (told : Told) (n : Managed) (u : PeerReplay) : Type 0 where
   moves : is_joint o ≡ true → Steps m s flags answers jm t o reply told n u → Outcome m s flags answers jm t o reply told n u
   rests : is_joint o ≡ false → Rests m s flags jm n u → flags.answers ≡ answers → Outcome m s flags answers jm t o reply told n u
 
@@ -72,7 +74,8 @@ managed-slice u a e n f = (subst (λ z. IsEvent (M u) (op.Line z)) f e).0.1
 driver-slice : (a : Act) → IsEvent C (op.Line a) → (n : ℕ) → a ≡ act.Slice n → ⊥
 driver-slice a e n f = (subst (λ z. IsEvent C (op.Line z)) f e).0
 
-module _ (s : Linkage) (k : Of s) (flags : Flags) (jm : Option JointMarking) (ag : Agrees s.peer flags jm) (tl : AreTold s.control.stand s.managed.managed flags) (number line : ℕ) (reply : Reply) (cites : Option ℕ) where
+module _ (s : Linkage) (k : Of s) (flags : Flags) (jm : Option JointMarking) (ag : Agrees s.peer flags jm)
+    (tl : AreTold s.control.stand s.managed.managed flags) (number line : ℕ) (reply : Reply) (cites : Option ℕ) where
   abbrev r : ManagedReplay
   r = s.managed
 
@@ -93,10 +96,12 @@ module _ (s : Linkage) (k : Of s) (flags : Flags) (jm : Option JointMarking) (ag
   Then t o told m = answers_at (control_after s.control t number line o reply told).stand (length (candidates_of m))
 
   abbrev Out : Thread → Op → Told → Bool → Type 0
-  Out t o told b = Outcome r.managed q flags (Then t o told (managed_after r (entry t line o reply cites) told b).managed) jm t o reply told (managed_after r (entry t line o reply cites) told b).managed (peer_after q (entry t line o reply cites) told b)
+  Out t o told b = Outcome r.managed q flags (Then t o told (managed_after r (entry t line o reply cites) told b).managed) jm t o reply told
+      (managed_after r (entry t line o reply cites) told b).managed (peer_after q (entry t line o reply cites) told b)
 
   -- a managed entry that goes on
-  computed : (t : Thread) (o : Op) (told : Told) (u : ManagedReplay) → is_joint o ≡ true → GoesOn r.managed u.managed → answers_at d (length (candidates_of r.managed)) ≡ Then t o told r.managed → JointEvent j t o reply told (joint_as u.managed q flags jm) → Outcome r.managed q flags (Then t o told u.managed) jm t o reply told u.managed q
+  computed : (t : Thread) (o : Op) (told : Told) (u : ManagedReplay) → is_joint o ≡ true → GoesOn r.managed u.managed → answers_at d (length (candidates_of r.managed)) ≡ Then t o told r.managed
+      → JointEvent j t o reply told (joint_as u.managed q flags jm) → Outcome r.managed q flags (Then t o told u.managed) jm t o reply told u.managed q
   computed t o told u e g still event = moves e (record {
     flags_after = flags;
     told_after = tl ∙ still ∙ ap (λ c. answers_at (control_after s.control t number line o reply told).stand (length (candidates_by c))) (sym g.cycle);
@@ -111,12 +116,14 @@ module _ (s : Linkage) (k : Of s) (flags : Flags) (jm : Option JointMarking) (ag
   goes-as : (m n : Managed) → n ≡ m → GoesOn r.managed m → GoesOn r.managed n
   goes-as m n e g = subst (λ z. GoesOn r.managed z) (sym e) g
 
-  resolve-by : (x : Stand) (n : ℕ) (alive : List Answer) (freed : List ℕ) → AreKept r q ds x → AreTold x r.managed flags → MayResolveNow x n cites (resolution_of alive freed) → MayResolve r n alive freed → reply ≡ resolve_reply r.managed freed
+  resolve-by : (x : Stand) (n : ℕ) (alive : List Answer) (freed : List ℕ) → AreKept r q ds x → AreTold x r.managed flags
+      → MayResolveNow x n cites (resolution_of alive freed) → MayResolve r n alive freed → reply ≡ resolve_reply r.managed freed
       → (kn : Cycle) → kn.0 ≡ n → Steps r.managed q flags [] jm C (op.Resolve kn) reply (resolution_of alive freed) (resolved_state r.managed alive freed) q
   resolve-by (restored o answers clear) n alive freed kx tx w p e kn same_n =
       let same_cycle : p.cycle ≡ kx.driver.cycle = one_cycle r.managed p.cycle kx.driver.cycle p.open_cycle.0 kx.driver.opened.cycle in
       let exact : IsResolution r.managed kx.driver.cycle.dead (IsAnsweredAlive kx.driver.cycle.candidates answers) freed =
-      subst (λ (z : OpenCycle). IsResolution r.managed z.dead (IsAnsweredAlive z.candidates answers) freed) same_cycle (subst (λ z. IsResolution r.managed p.cycle.dead (IsAnsweredAlive p.cycle.candidates z) freed) w.2 p.resolution) in
+      subst (λ (z : OpenCycle). IsResolution r.managed z.dead (IsAnsweredAlive z.candidates answers) freed) same_cycle
+      (subst (λ z. IsResolution r.managed p.cycle.dead (IsAnsweredAlive p.cycle.candidates z) freed) w.2 p.resolution) in
       let all : length answers ≡ length (candidates_of r.managed) = kx.driver.all ∙ ap length (sym (candidates_of-open r.managed kx.driver.cycle kx.driver.opened.cycle)) in
       record {
         flags_after = record { removed = flags.removed; answers = [] };
@@ -141,7 +148,8 @@ module _ (s : Linkage) (k : Of s) (flags : Flags) (jm : Option JointMarking) (ag
   resolve-by (restoring o answers) n alive freed kx tx w p e kn same_n = absurd w
 
   -- a step that leaves what restores have answered
-  stepped : (t : Thread) (o : Op) (told : Told) (n : Managed) (u : PeerReplay) (answers : List (Option Answer)) → is_joint o ≡ true → flags.answers ≡ answers → Steps r.managed q flags flags.answers jm t o reply told n u → Outcome r.managed q flags answers jm t o reply told n u
+  stepped : (t : Thread) (o : Op) (told : Told) (n : Managed) (u : PeerReplay) (answers : List (Option Answer)) → is_joint o ≡ true
+      → flags.answers ≡ answers → Steps r.managed q flags flags.answers jm t o reply told n u → Outcome r.managed q flags answers jm t o reply told n u
   stepped t o told n u answers e f w = moves e (retold r.managed q flags flags.answers answers jm t o reply told n u f w)
 
   -- no restore has answered where a cycle may be abandoned
@@ -157,7 +165,10 @@ module _ (s : Linkage) (k : Of s) (flags : Flags) (jm : Option JointMarking) (ag
   abandon-told (restoring o answers) n tx w = absurd w
   abandon-told (restored o answers clear) n tx w = absurd w
 
-  restore-by : (x : Stand) (h : HNum) (told : Told) → AreKept r q ds x → AreTold x r.managed flags → MayRestoreNow x r.managed h.0 cites → MayRestore q h.0 → reply ≡ (restored_by q h.0 (row_of q h.0)).reply → Steps r.managed q flags (answers_at (stand_after x number (op.Restore h) reply nothing) (length (candidates_of r.managed))) jm C (op.Restore h) reply nothing r.managed (restored_by q h.0 (row_of q h.0)).state
+  restore-by : (x : Stand) (h : HNum) (told : Told) → AreKept r q ds x → AreTold x r.managed flags → MayRestoreNow x r.managed h.0 cites
+      → MayRestore q h.0 → reply ≡ (restored_by q h.0 (row_of q h.0)).reply
+      → Steps r.managed q flags (answers_at (stand_after x number (op.Restore h) reply nothing) (length (candidates_of r.managed))) jm C
+      (op.Restore h) reply nothing r.managed (restored_by q h.0 (row_of q h.0)).state
   restore-by (restoring o answers) h told kx tx w p e = step-restore r q ds o answers kx flags jm ag h.0 w.1 tx (row_of q h.0) p.row reply refl p.tabled e
   restore-by idle h told kx tx w p e = absurd w
   restore-by (snapped o) h told kx tx w p e = absurd w
@@ -177,7 +188,8 @@ module _ (s : Linkage) (k : Of s) (flags : Flags) (jm : Option JointMarking) (ag
   contract-told (restoring o answers) n c kn told w = absurd w
   contract-told (restored o answers clear) n c kn told w = absurd w
 
-  mirror-told : (x : Stand) (n : ℕ) (c : ℕ) (kn : Cycle) (told : Told) → MayMirrorNow x r.managed q.peers.issued n cites told → answers_at x c ≡ answers_at (stand_after x number (op.Mirror kn) reply told) c
+  mirror-told : (x : Stand) (n : ℕ) (c : ℕ) (kn : Cycle) (told : Told) → MayMirrorNow x r.managed q.peers.issued n cites told
+      → answers_at x c ≡ answers_at (stand_after x number (op.Mirror kn) reply told) c
   mirror-told (contracted o comps heavy xrefs) n c kn told w = refl
   mirror-told idle n c kn told w = absurd w
   mirror-told (snapped o) n c kn told w = absurd w
@@ -236,7 +248,8 @@ module _ (s : Linkage) (k : Of s) (flags : Flags) (jm : Option JointMarking) (ag
   peer-line u (act.Slice n) _ w = rests refl (rests-sliced r.managed q flags jm ag q.marking (P u) n [] refl) tl
   peer-line u a told w = stepped (P u) (op.Line a) told _ _ _ refl tl (step-line r q ds d k flags jm ag u a reply told (λ n e. (let f : ⊥ = cc in f)) w.replies)
 
-  thread-told : (t : Thread) (o : Op) (told : Told) → Allows s (entry t line o reply cites) told → (o ≡ op.Begin) ⊎ (o ≡ op.Sweep) → answers_at d (length (candidates_of r.managed)) ≡ Then t o told r.managed
+  thread-told : (t : Thread) (o : Op) (told : Told) → Allows s (entry t line o reply cites) told
+      → (o ≡ op.Begin) ⊎ (o ≡ op.Sweep) → answers_at d (length (candidates_of r.managed)) ≡ Then t o told r.managed
   thread-told (M u) o told x e = refl
   thread-told (P u) o told x e = refl
   thread-told C op.Begin told x e = begin-told d (length (candidates_of r.managed)) told x
@@ -247,25 +260,29 @@ module _ (s : Linkage) (k : Of s) (flags : Flags) (jm : Option JointMarking) (ag
   begin t told w x = stepped t op.Begin told _ _ _ refl (tl ∙ thread-told t op.Begin told x (inl refl)) (step-begin r q ds d k flags jm ag t reply told w.replies)
 
   sweep : (t : Thread) (told : Told) → IsEvent t op.Sweep → PeerLawful q (entry t line op.Sweep reply cites) told → Allows s (entry t line op.Sweep reply cites) told → Out t op.Sweep told true
-  sweep t (sweep_of freed) e w x = stepped t op.Sweep (sweep_of freed) _ _ _ refl (tl ∙ thread-told t op.Sweep (sweep_of freed) x (inr refl)) (step-sweep r q ds d k flags jm ag t reply (sweep_of freed) e w.allowed w.replies)
+  sweep t (sweep_of freed) e w x = stepped t op.Sweep (sweep_of freed) _ _ _ refl (tl ∙ thread-told t op.Sweep (sweep_of freed) x (inr refl))
+      (step-sweep r q ds d k flags jm ag t reply (sweep_of freed) e w.allowed w.replies)
   sweep t told e w x = stepped t op.Sweep told _ _ _ refl (tl ∙ thread-told t op.Sweep told x (inr refl)) (step-sweep r q ds d k flags jm ag t reply told e w.allowed w.replies)
 
   pub outcome : (t : Thread) (o : Op) (told : Told) → IsEvent t o → SideLawful (is_peer_event t o) s (entry t line o reply cites) told → Allows s (entry t line o reply cites) told
       → AreOwnersKept (managed_after r (entry t line o reply cites) told (is_peer_event t o)) (peer_after q (entry t line o reply cites) told (is_peer_event t o)) → Out t o told (is_peer_event t o)
   outcome (M u) (op.Line a) told e w x after =
       let no_slice = managed-slice u a e in
-      computed (M u) (op.Line a) told (record r { managed = (managed_line r.managed u a).state }) (joint-line a no_slice) (managed_line-goes_on r.managed u a k.managed.managed.places k.managed.managed.cells) refl (record { computed = computed-line a no_slice; replies = w.replies; state = refl })
+      computed (M u) (op.Line a) told (record r { managed = (managed_line r.managed u a).state }) (joint-line a no_slice)
+      (managed_line-goes_on r.managed u a k.managed.managed.places k.managed.managed.cells) refl (record { computed = computed-line a no_slice; replies = w.replies; state = refl })
   outcome (P u) (op.Line a) told e w x after = peer-line u a told w
   outcome C (op.Line a) told e w x after =
       let no_slice = driver-slice a e in
-      computed C (op.Line a) told (record r { managed = (managed_line r.managed 0 a).state }) (joint-line a no_slice) (managed_line-goes_on r.managed 0 a k.managed.managed.places k.managed.managed.cells) refl (record { computed = computed-line a no_slice; replies = w.replies; state = refl })
+      computed C (op.Line a) told (record r { managed = (managed_line r.managed 0 a).state }) (joint-line a no_slice)
+      (managed_line-goes_on r.managed 0 a k.managed.managed.places k.managed.managed.cells) refl (record { computed = computed-line a no_slice; replies = w.replies; state = refl })
   outcome (M u) (op.Make sort n) told e w x after = stepped (M u) (op.Make sort n) told _ _ _ refl tl (step-make r q ds d k flags jm ag u sort n reply told w.replies)
   outcome (P u) (op.Make sort n) told e w x after = absurd e.0
   outcome C (op.Make sort n) told e w x after = absurd e.0
   outcome (M u) (op.Adopt v kind n p h) told e w x after =
       let a : Answered Managed = adopted r.managed (place u v.0) kind n h.0 in
       let m = adopt_by-managed r p.0 h.0 a.state a.reply in
-      computed (M u) (op.Adopt v kind n p h) told (adopt_by r p.0 h.0 a.state a.reply).state refl (goes-as a.state _ m (adopted-goes_on r.managed (place u v.0) kind n h.0 k.managed.managed.places)) refl
+      computed (M u) (op.Adopt v kind n p h) told (adopt_by r p.0 h.0 a.state a.reply).state refl
+      (goes-as a.state _ m (adopted-goes_on r.managed (place u v.0) kind n h.0 k.managed.managed.places)) refl
       (record { computed = tt; replies = w.replies ∙ adopt_by-reply r p.0 h.0 a.state a.reply; state = same-managed _ a.state m })
   outcome (P u) (op.Adopt v kind n p h) told e w x after = absurd e.0
   outcome C (op.Adopt v kind n p h) told e w x after = absurd e.0
@@ -282,7 +299,8 @@ module _ (s : Linkage) (k : Of s) (flags : Flags) (jm : Option JointMarking) (ag
       let a : Answered Managed = met r.managed (place u v.0) h.0 sort n (registered r.registry p.0) in
       let m = meet_by-managed r p.0 h.0 a.state a.reply in
       let twin : registered r.registry p.0 ≡ twin_of j p.0 = sym (twin-same r q ds d k flags jm p.0) in
-      computed (M u) (op.Meet v sort n p h) told (meet_by r p.0 h.0 a.state a.reply).state refl (goes-as a.state _ m (met-goes_on r.managed (place u v.0) h.0 sort n (registered r.registry p.0) k.managed.managed.places (λ y f. twin-live r p.0 y k.managed f))) refl
+      computed (M u) (op.Meet v sort n p h) told (meet_by r p.0 h.0 a.state a.reply).state refl
+      (goes-as a.state _ m (met-goes_on r.managed (place u v.0) h.0 sort n (registered r.registry p.0) k.managed.managed.places (λ y f. twin-live r p.0 y k.managed f))) refl
       (record {
         computed = tt;
         replies = w.replies ∙ (meet_by-reply r p.0 h.0 a.state a.reply ∙ ap (λ z. (met r.managed (place u v.0) h.0 sort n z).reply) twin);
@@ -298,7 +316,8 @@ module _ (s : Linkage) (k : Of s) (flags : Flags) (jm : Option JointMarking) (ag
       (record { computed = tt; replies = w.replies ∙ give_by-reply r o a; state = same-managed _ a.state m })
   outcome (P u) (op.Give v) told e w x after = absurd e.0
   outcome C (op.Give v) told e w x after = absurd e.0
-  outcome (M u) (op.Release h) told e w x after = stepped (M u) (op.Release h) told _ _ _ refl tl (step-release r q ds d k flags jm ag u h reply told ((threads-callers r q ds d k).loose u h.0 (release-hand (doing_in ds u) line h.0 cites x)) w.replies)
+  outcome (M u) (op.Release h) told e w x after = stepped (M u) (op.Release h) told _ _ _ refl tl
+      (step-release r q ds d k flags jm ag u h reply told ((threads-callers r q ds d k).loose u h.0 (release-hand (doing_in ds u) line h.0 cites x)) w.replies)
   outcome (P u) (op.Release h) told e w x after = absurd e
   outcome C (op.Release h) told e w x after = absurd e
   outcome C (op.Snap n) (snap_of freed candidates dead) e w x after = moves refl (record {
@@ -311,11 +330,13 @@ module _ (s : Linkage) (k : Of s) (flags : Flags) (jm : Option JointMarking) (ag
   outcome C (op.Snap n) told e w x after = absurd w.allowed
   outcome (M u) (op.Snap n) told e w x after = absurd e
   outcome (P u) (op.Snap n) told e w x after = absurd e
-  outcome C (op.Contract n) (contraction_of comps heavy xrefs) e w x after = rests refl (rests-still r.managed q flags jm ag) (tl ∙ contract-told d n.0 (length (candidates_of r.managed)) n (contraction_of comps heavy xrefs) x)
+  outcome C (op.Contract n) (contraction_of comps heavy xrefs) e w x after = rests refl (rests-still r.managed q flags jm ag)
+      (tl ∙ contract-told d n.0 (length (candidates_of r.managed)) n (contraction_of comps heavy xrefs) x)
   outcome C (op.Contract n) told e w x after = absurd w.allowed
   outcome (M u) (op.Contract n) told e w x after = absurd e
   outcome (P u) (op.Contract n) told e w x after = absurd e
-  outcome C (op.Mirror n) (references_of refs) e w x after = rests refl (rests-mirrored r.managed q flags jm ag n.0 cites refs) (tl ∙ mirror-told d n.0 (length (candidates_of r.managed)) n (references_of refs) x)
+  outcome C (op.Mirror n) (references_of refs) e w x after = rests refl (rests-mirrored r.managed q flags jm ag n.0 cites refs)
+      (tl ∙ mirror-told d n.0 (length (candidates_of r.managed)) n (references_of refs) x)
   outcome C (op.Mirror n) told e w x after = absurd w.allowed
   outcome (M u) (op.Mirror n) told e w x after = absurd e
   outcome (P u) (op.Mirror n) told e w x after = absurd e

@@ -19,7 +19,8 @@ removed-issued [] [] = refl
 removed-issued [] (i ∷ news) = ap (λ z. false ∷ z) (removed-issued [] news)
 removed-issued (row ∷ rows) news = ap (λ z. is_untabled row ∷ z) (removed-issued rows news)
 
-pub AreFlags-issued : (s : PeerReplay) (k : Peers) (flags : Flags) → AreFlags s flags → AreFlags (record s { peers = k; table = s.table ++ map fresh_row (issued_since s.peers k) }) (issued_flags flags (issued_since s.peers k))
+pub AreFlags-issued : (s : PeerReplay) (k : Peers) (flags : Flags) → AreFlags s flags
+    → AreFlags (record s { peers = k; table = s.table ++ map fresh_row (issued_since s.peers k) }) (issued_flags flags (issued_since s.peers k))
 AreFlags-issued s k flags f = ap (λ z. z ++ map (λ (i : Issued). false) (issued_since s.peers k)) f ∙ sym (removed-issued s.table (issued_since s.peers k))
 
 -- a place of the table is written
@@ -74,7 +75,8 @@ removed-swept freed (i ∷ issued) (None ∷ rows) = ap (λ z. true ∷ z) (remo
 removed-swept freed (i ∷ issued) (Some row ∷ rows) = ap (λ z. false ∷ z) (removed-swept freed issued rows)
 
 -- the marking goes on as peers are brought back, or objects blackened
-pub IsSameMarking-later : (mk : Marking) (j : JointMarking) (brought : List ℕ) (black : ℕ) → ((x : ℕ) → Contains mk.brought x → Contains brought x) → IsSameMarking mk j → IsSameMarking (later mk brought black) j
+pub IsSameMarking-later : (mk : Marking) (j : JointMarking) (brought : List ℕ) (black : ℕ)
+    → ((x : ℕ) → Contains mk.brought x → Contains brought x) → IsSameMarking mk j → IsSameMarking (later mk brought black) j
 IsSameMarking-later mk j brought black more w = record { number = w.number; by = w.by; heap = w.heap; reached = λ p r. spared-later mk brought black p more (w.reached p r) }
 
 pub AreSameMarkings-brought : (x : Option Marking) (j : Option JointMarking) (p : ℕ) → AreSameMarkings x j → AreSameMarkings (brought_to x p) j

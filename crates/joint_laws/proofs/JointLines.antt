@@ -42,7 +42,8 @@ module _ (r : ManagedReplay) (s : PeerReplay) (ds : List Doing) (d : Stand) (k :
 
   -- a name loses its handle
   unglobal-by : (u : ℕ) (g : GName) (o : Option ℕ) (reply : Reply) → slot s.peers.names g.0 ≡ o → ((h : ℕ) → o ≡ Some h → IsRawOne s h) → reply ≡ (freed_by s.peers g.0 o).reply
-      → (after : Flags) × (after.answers ≡ flags.answers) × (joint_as r.managed (on_table (untabled s o) (freed_by s.peers g.0 o)).state after jm ≡ (on_peers (without j o) (freed_by s.peers g.0 o)).state) × Agrees (on_table (untabled s o) (freed_by s.peers g.0 o)).state after jm
+      → (after : Flags) × (after.answers ≡ flags.answers) × (joint_as r.managed (on_table (untabled s o) (freed_by s.peers g.0 o)).state after
+      jm ≡ (on_peers (without j o) (freed_by s.peers g.0 o)).state) × Agrees (on_table (untabled s o) (freed_by s.peers g.0 o)).state after jm
   unglobal-by u g None reply e w q = (more s.peers, refl, refl, agrees-peers r s ds d k flags jm ag s.peers (omega arith))
   unglobal-by u g (Some h) reply e w q =
       let names : Peers = record s.peers { names = set s.peers.names g.0 None } in
@@ -58,7 +59,8 @@ module _ (r : ManagedReplay) (s : PeerReplay) (ds : List Doing) (d : Stand) (k :
   named-raw g h e = k.peer.handles.named h (slot-Contains s.peers.names g h e)
 
   -- a weak read, which looks where its name's handle leads
-  step-wread : (u : ℕ) (v : Var) (g : GName) (reply : Reply) (told : Told) → reply ≡ (peer_thread_line s u (act.WRead v g)).reply → Steps r.managed s flags flags.answers jm (P u) (op.Line (act.WRead v g)) reply told r.managed (peer_thread_line s u (act.WRead v g)).state
+  step-wread : (u : ℕ) (v : Var) (g : GName) (reply : Reply) (told : Told) → reply ≡ (peer_thread_line s u (act.WRead v g)).reply
+      → Steps r.managed s flags flags.answers jm (P u) (op.Line (act.WRead v g)) reply told r.managed (peer_thread_line s u (act.WRead v g)).state
   step-wread u v g reply told q =
       let a : Answered Peers = peer_line (table_target s) s.peers u (act.WRead v g) in
       record {
@@ -79,7 +81,8 @@ module _ (r : ManagedReplay) (s : PeerReplay) (ds : List Doing) (d : Stand) (k :
           subst (λ (z : Peers). length s.peers.issued ≤ length z.issued) (bring-peers (on_table s a) a.reply) (quiet-line s u (act.WRead v g) k.peer).handles.count
 
   -- the other lines
-  pub step-line : (u : ℕ) (a : Act) (reply : Reply) (told : Told) → ((n : ℕ) → a ≡ act.Slice n → ⊥) → reply ≡ (peer_thread_line s u a).reply → Steps r.managed s flags flags.answers jm (P u) (op.Line a) reply told r.managed (peer_thread_line s u a).state
+  pub step-line : (u : ℕ) (a : Act) (reply : Reply) (told : Told) → ((n : ℕ) → a ≡ act.Slice n → ⊥) → reply ≡ (peer_thread_line s u a).reply
+      → Steps r.managed s flags flags.answers jm (P u) (op.Line a) reply told r.managed (peer_thread_line s u a).state
   step-line u (act.Slice n) reply told no_slice q = absurd (no_slice n refl)
   step-line u (act.WRead v g) reply told no_slice q = step-wread u v g reply told q
   step-line u (act.UnGlobal g) reply told no_slice q =
@@ -93,16 +96,19 @@ module _ (r : ManagedReplay) (s : PeerReplay) (ds : List Doing) (d : Stand) (k :
     agrees = agrees-peers r s ds d k flags jm ag (peer_line (table_target s) s.peers u a).state (quiet-line s u a k.peer).handles.count;
   }
 
-  pub step-make : (u : ℕ) (sort : Sort) (n : ℕ) (reply : Reply) (told : Told) → reply ≡ (pair_made s.peers sort n).reply → Steps r.managed s flags flags.answers jm (M u) (op.Make sort n) reply told r.managed (on_table s (pair_made s.peers sort n)).state
+  pub step-make : (u : ℕ) (sort : Sort) (n : ℕ) (reply : Reply) (told : Told) → reply ≡ (pair_made s.peers sort n).reply
+      → Steps r.managed s flags flags.answers jm (M u) (op.Make sort n) reply told r.managed (on_table s (pair_made s.peers sort n)).state
   step-make u sort n reply told q = record {
     flags_after = more (pair_made s.peers sort n).state;
     told_after = refl;
     marking_after = jm;
     event = record { computed = tt; replies = q; state = refl };
-    agrees = agrees-peers r s ds d k flags jm ag (pair_made s.peers sort n).state (quiet-pair (λ h. ⊥) s sort n (is_full s.peers.heap.fields || handles_full s.peers) k.peer.handles.places).handles.count;
+    agrees = agrees-peers r s ds d k flags jm ag (pair_made s.peers sort n).state
+        (quiet-pair (λ h. ⊥) s sort n (is_full s.peers.heap.fields || handles_full s.peers) k.peer.handles.places).handles.count;
   }
 
-  pub step-grip : (u : ℕ) (x : StaticNo) (reply : Reply) (told : Told) → reply ≡ (gripped s.peers x.0).reply → Steps r.managed s flags flags.answers jm (M u) (op.Grip x) reply told r.managed (on_table s (gripped s.peers x.0)).state
+  pub step-grip : (u : ℕ) (x : StaticNo) (reply : Reply) (told : Told) → reply ≡ (gripped s.peers x.0).reply
+      → Steps r.managed s flags flags.answers jm (M u) (op.Grip x) reply told r.managed (on_table s (gripped s.peers x.0)).state
   step-grip u x reply told q = record {
     flags_after = more (gripped s.peers x.0).state;
     told_after = refl;
@@ -111,7 +117,8 @@ module _ (r : ManagedReplay) (s : PeerReplay) (ds : List Doing) (d : Stand) (k :
     agrees = agrees-peers r s ds d k flags jm ag (gripped s.peers x.0).state (quiet-grip (λ h. ⊥) s x.0 (slot s.peers.heap.statics x.0) k.peer.handles.places refl).handles.count;
   }
 
-  pub step-land : (u : ℕ) (h : HNum) (x : StaticNo) (reply : Reply) (told : Told) → reply ≡ (brings (on_table s (landed s.peers x.0 (table_target s h.0)))).reply → Steps r.managed s flags flags.answers jm (M u) (op.Land h x) reply told r.managed (brings (on_table s (landed s.peers x.0 (table_target s h.0)))).state
+  pub step-land : (u : ℕ) (h : HNum) (x : StaticNo) (reply : Reply) (told : Told) → reply ≡ (brings (on_table s (landed s.peers x.0 (table_target s h.0)))).reply
+      → Steps r.managed s flags flags.answers jm (M u) (op.Land h x) reply told r.managed (brings (on_table s (landed s.peers x.0 (table_target s h.0)))).state
   step-land u h x reply told q =
       let a : Answered Peers = landed s.peers x.0 (table_target s h.0) in
       let same : table_target s h.0 ≡ joint_target j h.0 = λ i. (sym targets) i h.0 in
@@ -128,7 +135,8 @@ module _ (r : ManagedReplay) (s : PeerReplay) (ds : List Doing) (d : Stand) (k :
             (subst (λ (z : Peers). length s.peers.issued ≤ length z.issued) (bring-peers (on_table s a) a.reply) (quiet-land (λ g. g ≡ h.0) s x.0 h.0 (table_target s h.0) refl refl).handles.count);
       }
 
-  pub step-release : (u : ℕ) (h : HNum) (reply : Reply) (told : Told) → IsLoose r s h.0 → reply ≡ says.Ok → Steps r.managed s flags flags.answers jm (M u) (op.Release h) reply told r.managed (untabled s (Some h.0))
+  pub step-release : (u : ℕ) (h : HNum) (reply : Reply) (told : Told) → IsLoose r s h.0 → reply ≡ says.Ok
+      → Steps r.managed s flags flags.answers jm (M u) (op.Release h) reply told r.managed (untabled s (Some h.0))
   step-release u h reply told loose q = record {
     flags_after = gone_flags flags h.0;
     told_after = refl;

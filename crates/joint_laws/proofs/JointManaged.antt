@@ -18,7 +18,8 @@ use Rattle.joint_laws.specs.JointAgreement.{Flags, joint_as}
 use Rattle.joint_machine.specs.Told.{Answer}
 
 -- a resolution
-module _ (r : ManagedReplay) (s : PeerReplay) (ds : List Doing) (op : OpenSnap) (answers : List Answer) (clear : ℕ) (k : AreKept r s ds (restored op answers clear)) (flags : Flags) (jm : Option JointMarking) (freed : List ℕ) where
+module _ (r : ManagedReplay) (s : PeerReplay) (ds : List Doing) (op : OpenSnap) (answers : List Answer) (clear : ℕ)
+    (k : AreKept r s ds (restored op answers clear)) (flags : Flags) (jm : Option JointMarking) (freed : List ℕ) where
   abbrev v : IsRestored r s op answers
   v = k.driver
 

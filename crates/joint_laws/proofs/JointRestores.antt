@@ -43,7 +43,8 @@ answer-past true x a n = absurd (n refl)
 answer-past false x a n = refl
 
 -- the candidates behind the place keep what was answered: nothing
-answered-none : (s : Managed) (h : ℕ) (a : Answer) (cs : List ℕ) (n : ℕ) → n ≡ length cs → ((l m : ℕ) → slice_get cs l ≡ Some m → is_that_handle (handle_of s m) h ≡ true → ⊥) → answered_for s h a cs (replicate n None) ≡ replicate n None
+answered-none : (s : Managed) (h : ℕ) (a : Answer) (cs : List ℕ) (n : ℕ) → n ≡ length cs
+    → ((l m : ℕ) → slice_get cs l ≡ Some m → is_that_handle (handle_of s m) h ≡ true → ⊥) → answered_for s h a cs (replicate n None) ≡ replicate n None
 answered-none s h a [] n e none = refl
 answered-none s h a (c ∷ cs) zero e none = refl
 answered-none s h a (c ∷ cs) (suc n) e none =
@@ -52,8 +53,10 @@ answered-none s h a (c ∷ cs) (suc n) e none =
     λ k. first k ∷ rest k
 
 -- the candidate at the next place has the answer
-answered-at : (s : Managed) (h : ℕ) (a : Answer) (cs : List ℕ) (answers : List Answer) (n m : ℕ) → suc n + length answers ≡ length cs → slice_get cs (length answers) ≡ Some m → is_that_handle (handle_of s m) h ≡ true
-    → ((l x : ℕ) → slice_get cs l ≡ Some x → is_that_handle (handle_of s x) h ≡ true → l ≡ length answers) → answered_for s h a cs (map Some answers ++ replicate (suc n) None) ≡ map Some (answers ++ a ∷ []) ++ replicate n None
+answered-at : (s : Managed) (h : ℕ) (a : Answer) (cs : List ℕ) (answers : List Answer) (n m : ℕ)
+    → suc n + length answers ≡ length cs → slice_get cs (length answers) ≡ Some m → is_that_handle (handle_of s m) h ≡ true
+    → ((l x : ℕ) → slice_get cs l ≡ Some x → is_that_handle (handle_of s x) h ≡ true → l ≡ length answers)
+    → answered_for s h a cs (map Some answers ++ replicate (suc n) None) ≡ map Some (answers ++ a ∷ []) ++ replicate n None
 answered-at s h a [] answers n m len e t one = absurd (none_some m e)
 answered-at s h a (c ∷ cs) [] n m len e t one =
     let here : is_that_handle (handle_of s c) h ≡ true = subst (λ z. is_that_handle (handle_of s z) h ≡ true) (sym (same_Some c m e)) t in
@@ -65,7 +68,8 @@ answered-at s h a (c ∷ cs) (b ∷ answers) n m len e t one =
     let rest = answered-at s h a cs answers n m (omega (arith, len)) e t (λ l x f g. (let z : suc l ≡ suc (length answers) = one (suc l) x f g in omega (arith, z))) in
     λ k. first k ∷ rest k
 
-answered-next : (s : Managed) (h : ℕ) (a : Answer) (cs : List ℕ) (answers : List Answer) (m : ℕ) → slice_get cs (length answers) ≡ Some m → is_that_handle (handle_of s m) h ≡ true → ((l x : ℕ) → slice_get cs l ≡ Some x → is_that_handle (handle_of s x) h ≡ true → l ≡ length answers)
+answered-next : (s : Managed) (h : ℕ) (a : Answer) (cs : List ℕ) (answers : List Answer) (m : ℕ) → slice_get cs (length answers) ≡ Some m
+    → is_that_handle (handle_of s m) h ≡ true → ((l x : ℕ) → slice_get cs l ≡ Some x → is_that_handle (handle_of s x) h ≡ true → l ≡ length answers)
     → answered_for s h a cs (answers_so_far answers (length cs)) ≡ answers_so_far (answers ++ a ∷ []) (length cs)
 answered-next s h a cs answers m e t one =
     let within = slice_get_within cs (length answers) m e in
@@ -75,7 +79,8 @@ answered-next s h a cs answers m e t one =
     ap (λ n. answered_for s h a cs (map Some answers ++ replicate n None)) more
     ∙ (answered-at s h a cs answers left m (omega (arith, within)) e t one ∙ ap (λ n. map Some (answers ++ a ∷ []) ++ replicate n None) fewer)
 
-module _ (r : ManagedReplay) (s : PeerReplay) (ds : List Doing) (o : OpenSnap) (answers : List Answer) (k : AreKept r s ds (restoring o answers)) (flags : Flags) (jm : Option JointMarking) (ag : Agrees s flags jm) (h : ℕ) (w : IsCandidateHandle r.managed (length answers) h)
+module _ (r : ManagedReplay) (s : PeerReplay) (ds : List Doing) (o : OpenSnap) (answers : List Answer) (k : AreKept r s ds (restoring o answers))
+    (flags : Flags) (jm : Option JointMarking) (ag : Agrees s flags jm) (h : ℕ) (w : IsCandidateHandle r.managed (length answers) h)
     (told : flags.answers ≡ answers_so_far answers (length (candidates_of r.managed))) where
   v : IsRestoring r s o answers
   v = k.driver
@@ -138,10 +143,12 @@ module _ (r : ManagedReplay) (s : PeerReplay) (ds : List Doing) (o : OpenSnap) (
     }
 
     abbrev by_test : Bool → Answered Joint
-    by_test b = if b then answer says.Cleared (answered (without j (Some h)) h said_cleared) else answer (says.Renewed record { 0 = next_handle s.peers }) (answered (given_anew (without j (Some h)) i.0.peer) h (said_alive (next_handle s.peers)))
+    by_test b = if b then answer says.Cleared (answered (without j (Some h)) h said_cleared) else answer
+        (says.Renewed record { 0 = next_handle s.peers }) (answered (given_anew (without j (Some h)) i.0.peer) h (said_alive (next_handle s.peers)))
 
     Gives : Answered PeerReplay → Type 0
-    Gives a = (reply : Reply) → reply ≡ a.reply → Steps r.managed s flags (answers_so_far (answers ++ answer_in reply ∷ []) (length (candidates_of r.managed))) jm C (op.Restore record { 0 = h }) reply nothing r.managed a.state
+    Gives a = (reply : Reply) → reply ≡ a.reply → Steps r.managed s flags
+        (answers_so_far (answers ++ answer_in reply ∷ []) (length (candidates_of r.managed))) jm C (op.Restore record { 0 = h }) reply nothing r.managed a.state
 
     cleared : row.cleared ≡ true → Gives (answer says.Cleared (withdrawn s h))
     unfolding Gives
@@ -175,9 +182,11 @@ module _ (r : ManagedReplay) (s : PeerReplay) (ds : List Doing) (o : OpenSnap) (
         }
 
   pub step-restore : (x : Option TableRow) (row : TableRow) (reply : Reply) → row_of s h ≡ x → x ≡ Some row → reply ≡ (restored_by s h x).reply
-      → Steps r.managed s flags (answers_so_far (answers ++ answer_in reply ∷ []) (length (candidates_of r.managed))) jm C (op.Restore record { 0 = h }) reply nothing r.managed (restored_by s h x).state
+      → Steps r.managed s flags (answers_so_far (answers ++ answer_in reply ∷ []) (length (candidates_of r.managed))) jm C
+      (op.Restore record { 0 = h }) reply nothing r.managed (restored_by s h x).state
   unfolding Gives
-  step-restore x row reply e f q = restored-cases (λ a. (z : Reply) → z ≡ a.reply → Steps r.managed s flags (answers_so_far (answers ++ answer_in z ∷ []) (length (candidates_of r.managed))) jm C (op.Restore record { 0 = h }) z nothing r.managed a.state) s h x
+  step-restore x row reply e f q = restored-cases (λ a. (z : Reply) → z ≡ a.reply
+      → Steps r.managed s flags (answers_so_far (answers ++ answer_in z ∷ []) (length (candidates_of r.managed))) jm C (op.Restore record { 0 = h }) z nothing r.managed a.state) s h x
       (λ g. absurd (none_some row (sym g ∙ f)))
       (λ y g b. cleared y (slot-named (numbered_at s.table h) y (e ∙ g)) b)
       (λ g. absurd (none_some _ (sym g ∙ leads row (slot-named (numbered_at s.table h) row (e ∙ f)))))

@@ -63,11 +63,13 @@ module _ (m : Managed) (s : PeerReplay) (flags : Flags) (jm : Option JointMarkin
   rests-cleared = rests-references [] None s.mirrors
 
   -- a handle is weakened
-  pub rests-weakened : (h : ℕ) → row_of s h ≡ Some record { strength = strong; cleared = false } → Rests m s flags jm m (record s { table = numbered_set s.table h (Some record { strength = weak; cleared = false }); mirror = with_weakened s.mirror h })
+  pub rests-weakened : (h : ℕ) → row_of s h ≡ Some record { strength = strong; cleared = false }
+      → Rests m s flags jm m (record s { table = numbered_set s.table h (Some record { strength = weak; cleared = false }); mirror = with_weakened s.mirror h })
   rests-weakened h e = record {
     same = refl;
     agrees = record {
-      removed = ag.removed ∙ sym (removed-written s.table h (record { strength = strong; cleared = false }) (record { strength = weak; cleared = false }) (slot-named (numbered_at s.table h) (record { strength = strong; cleared = false }) e));
+      removed = ag.removed ∙ sym (removed-written s.table h (record { strength = strong; cleared = false })
+          (record { strength = weak; cleared = false }) (slot-named (numbered_at s.table h) (record { strength = strong; cleared = false }) e));
       markings = ag.markings;
     };
   }

@@ -36,8 +36,11 @@ pub record IsTraced (m : Moment) : Type 0 where
   pub next : Stands (linkage_after state m.noted)
   pub after : m.after ≡ state_of (linkage_after state m.noted) next
 
-pub outcome-of : (s : Linkage) (w : Stands s) (n : Noted) → MayCome s n → Outcome s.managed.managed s.peer w.flags (answers_at (linkage_after s n).control.stand (length (candidates_of (linkage_after s n).managed.managed))) w.marking n.entry.made.caller n.entry.made.op n.entry.made.reply n.told (linkage_after s n).managed.managed (linkage_after s n).peer
-outcome-of s w n may = outcome s w.kept w.flags w.marking w.agrees w.told n.entry.number n.entry.made.index n.entry.made.reply n.entry.made.cites n.entry.made.caller n.entry.made.op n.told may.event may.lawful may.order (AreKept-entry s n may w.kept).owners
+pub outcome-of : (s : Linkage) (w : Stands s) (n : Noted) → MayCome s n
+    → Outcome s.managed.managed s.peer w.flags (answers_at (linkage_after s n).control.stand (length (candidates_of (linkage_after s n).managed.managed)))
+    w.marking n.entry.made.caller n.entry.made.op n.entry.made.reply n.told (linkage_after s n).managed.managed (linkage_after s n).peer
+outcome-of s w n may = outcome s w.kept w.flags w.marking w.agrees w.told n.entry.number n.entry.made.index n.entry.made.reply
+    n.entry.made.cites n.entry.made.caller n.entry.made.op n.told may.event may.lawful may.order (AreKept-entry s n may w.kept).owners
 
 -- an entry that may come leads to a linked state with its joint state, by a step of the joint machine or with the same
 -- one
@@ -48,7 +51,8 @@ pub data Enters (s : Linkage) (w : Stands s) (n : Noted) : Type 0 where
 pub enters : (s : Linkage) (w : Stands s) (n : Noted) → MayCome s n → Enters s w n
 enters s w n may = by (outcome-of s w n may)
   where
-    by : Outcome s.managed.managed s.peer w.flags (answers_at (linkage_after s n).control.stand (length (candidates_of (linkage_after s n).managed.managed))) w.marking n.entry.made.caller n.entry.made.op n.entry.made.reply n.told (linkage_after s n).managed.managed (linkage_after s n).peer → Enters s w n
+    by : Outcome s.managed.managed s.peer w.flags (answers_at (linkage_after s n).control.stand (length (candidates_of (linkage_after s n).managed.managed)))
+        w.marking n.entry.made.caller n.entry.made.op n.entry.made.reply n.told (linkage_after s n).managed.managed (linkage_after s n).peer → Enters s w n
     by (moves e t) =
         let v : Stands (linkage_after s n) = record {
           kept = AreKept-entry s n may w.kept;
@@ -57,7 +61,8 @@ enters s w n may = by (outcome-of s w n may)
           marking = t.marking_after;
           agrees = t.agrees;
           since = since-entry s n w.flags t.flags_after w.marking t.marking_after n.entry.made.op n.entry.made.reply may w.kept (AreKept-entry s n may w.kept) w.agrees.markings w.since
-              (marking-case (state_of s w) (joint_as (linkage_after s n).managed.managed (linkage_after s n).peer t.flags_after t.marking_after) n.entry.made.caller n.entry.made.op n.entry.made.reply n.told t.event);
+              (marking-case (state_of s w) (joint_as (linkage_after s n).managed.managed (linkage_after s n).peer t.flags_after t.marking_after)
+              n.entry.made.caller n.entry.made.op n.entry.made.reply n.told t.event);
         } in
         by_step e v (record { event = may.event; step = t.event })
     by (rests e t f) =

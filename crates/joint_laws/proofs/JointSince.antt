@@ -48,7 +48,8 @@ candidate-before m n k (snapping p) x h c q =
 candidate-before m n k (resolving p) x h c q = absurd (no_candidates n x (ap (λ (z : Managed). z.cycle) p.is) c)
 candidate-before m n k (abandoning p) x h c q = absurd (no_candidates n x (ap (λ (z : Managed). z.cycle) p.is) c)
 
-pub held-before : (s : Linkage) (n : Noted) → MayCome s n → Of s → Of (linkage_after s n) → (x h : ℕ) → Holds (linkage_after s n).managed.managed x h → Holds s.managed.managed x h ⊎ HasStrength (linkage_after s n).peer h strong
+pub held-before : (s : Linkage) (n : Noted) → MayCome s n → Of s → Of (linkage_after s n) → (x h : ℕ)
+    → Holds (linkage_after s n).managed.managed x h → Holds s.managed.managed x h ⊎ HasStrength (linkage_after s n).peer h strong
 held-before s n may k after x h q = elim (Contains-decided (candidates_of (linkage_after s n).managed.managed) x) [
   | inr out ↦ inr (after.owners.strong_ones x h q out)
   | inl c ↦ inl (candidate-before s.managed.managed (linkage_after s n).managed.managed k.managed.managed (ManagedStep-entry s n may k.managed) x h c q)
@@ -70,8 +71,10 @@ open-there (Some mk) jm y w e = (mk, refl)
 pub since-opening : (m : Managed) (s : PeerReplay) → IsSince m s None
 since-opening m s y e mk f x h i q p = absurd (none_some y e)
 
-pub since-entry : (s : Linkage) (n : Noted) (flags flags' : Flags) (jm jm' : Option JointMarking) (o : Op) (reply : Reply) → MayCome s n → Of s → Of (linkage_after s n) → AreSameMarkings s.peer.marking jm → IsSince s.managed.managed s.peer jm
-    → MarkingCase (joint_as s.managed.managed s.peer flags jm) o reply (joint_as (linkage_after s n).managed.managed (linkage_after s n).peer flags' jm') → IsSince (linkage_after s n).managed.managed (linkage_after s n).peer jm'
+pub since-entry : (s : Linkage) (n : Noted) (flags flags' : Flags) (jm jm' : Option JointMarking) (o : Op) (reply : Reply)
+    → MayCome s n → Of s → Of (linkage_after s n) → AreSameMarkings s.peer.marking jm → IsSince s.managed.managed s.peer jm
+    → MarkingCase (joint_as s.managed.managed s.peer flags jm) o reply (joint_as (linkage_after s n).managed.managed (linkage_after s n).peer flags' jm')
+    → IsSince (linkage_after s n).managed.managed (linkage_after s n).peer jm'
 since-entry s n flags flags' jm jm' o reply may k after same since case y e mk f x h i q p = elim (held-before s n may k after x h q) [
   | inr t ↦ inr ((after.peer.marking mk f).strong_ones h t.0 i t.1 t.2 p)
   | inl old ↦ by case old
@@ -80,7 +83,8 @@ since-entry s n flags flags' jm jm' o reply may k after same since case y e mk f
     move : GoesOnSparing s.peer (linkage_after s n).peer
     move = peer-entry s n k
 
-    by : MarkingCase (joint_as s.managed.managed s.peer flags jm) o reply (joint_as (linkage_after s n).managed.managed (linkage_after s n).peer flags' jm') → Holds s.managed.managed x h → (Holds y.begun.managed x h × IsIssued y.begun.peers.issued h i) ⊎ IsSpared mk i.peer
+    by : MarkingCase (joint_as s.managed.managed s.peer flags jm) o reply (joint_as (linkage_after s n).managed.managed (linkage_after s n).peer flags' jm')
+        → Holds s.managed.managed x h → (Holds y.begun.managed x h × IsIssued y.begun.peers.issued h i) ⊎ IsSpared mk i.peer
     by (stays a) old =
         let was : jm ≡ Some y = sym a ∙ e in
         let open_before = open-there s.peer.marking jm y same was in

@@ -45,10 +45,12 @@ module _ (noted : List Noted) (may : AllMayCome opening_linkage noted) (i p : �
   step-spares k =
       let e : i + k + 1 ≡ i + suc k = omega arith in
       subst (λ z. StillSpares (state_at noted (i + k)).peer.marking (state_at noted z).peer.marking) e
-      (subst (λ (z : Linkage). StillSpares (state_at noted (i + k)).peer.marking z.peer.marking) (sym (replayed-further noted opening_linkage (i + k) 1)) (next-spares (drop (i + k) noted) (state_at noted (i + k)) (all_kept noted may (i + k))))
+      (subst (λ (z : Linkage). StillSpares (state_at noted (i + k)).peer.marking z.peer.marking)
+      (sym (replayed-further noted opening_linkage (i + k) 1)) (next-spares (drop (i + k) noted) (state_at noted (i + k)) (all_kept noted may (i + k))))
 
   -- what is spared stays so while the marking is open
-  spared-until : ((mk : Marking) → (state_at noted i).peer.marking ≡ Some mk → IsSpared mk p) → (more : ℕ) → IsOpenUntil noted i more → (now : Marking) → (state_at noted (i + more)).peer.marking ≡ Some now → IsSpared now p
+  spared-until : ((mk : Marking) → (state_at noted i).peer.marking ≡ Some mk → IsSpared mk p) → (more : ℕ)
+      → IsOpenUntil noted i more → (now : Marking) → (state_at noted (i + more)).peer.marking ≡ Some now → IsSpared now p
   spared-until first zero on now e =
       let q : i + 0 ≡ i = omega arith in
       first now (subst (λ z. (state_at noted z).peer.marking ≡ Some now) q e)

@@ -31,7 +31,8 @@ use Rattle.joint_laws.proofs.LinkedQuiet.{AreKept, kept-quiet}
 use Rattle.joint_machine.proofs.HeapLemmas.{same_thread, thread_itself}
 
 -- the step of an event, with the flags and the marking after it
-pub record Steps (m : Managed) (s : PeerReplay) (flags : Flags) (answers : List (Option Answer)) (jm : Option JointMarking) (t : Thread) (o : Op) (reply : Reply) (told : Told) (n : Managed) (u : PeerReplay) : Type 0 where
+pub record Steps (m : Managed) (s : PeerReplay) (flags : Flags) (answers : List (Option Answer)) (jm : Option JointMarking)
+    (t : Thread) (o : Op) (reply : Reply) (told : Told) (n : Managed) (u : PeerReplay) : Type 0 where
   pub flags_after : Flags
   pub told_after : flags_after.answers ≡ answers
   pub marking_after : Option JointMarking
@@ -39,7 +40,8 @@ pub record Steps (m : Managed) (s : PeerReplay) (flags : Flags) (answers : List 
   pub agrees : Agrees u flags_after marking_after
 
 -- the same with what was told alike
-pub retold : (m : Managed) (s : PeerReplay) (flags : Flags) (a b : List (Option Answer)) (jm : Option JointMarking) (t : Thread) (o : Op) (reply : Reply) (told : Told) (n : Managed) (u : PeerReplay) → a ≡ b → Steps m s flags a jm t o reply told n u → Steps m s flags b jm t o reply told n u
+pub retold : (m : Managed) (s : PeerReplay) (flags : Flags) (a b : List (Option Answer)) (jm : Option JointMarking) (t : Thread) (o : Op) (reply : Reply) (told : Told) (n : Managed) (u : PeerReplay)
+    → a ≡ b → Steps m s flags a jm t o reply told n u → Steps m s flags b jm t o reply told n u
 retold m s flags a b jm t o reply told n u e w = record { flags_after = w.flags_after; told_after = w.told_after ∙ e; marking_after = w.marking_after; event = w.event; agrees = w.agrees }
 
 -- brought back, a state has the same peers, table and count of markings
@@ -96,7 +98,8 @@ module _ (r : ManagedReplay) (s : PeerReplay) (ds : List Doing) (d : Stand) (k :
         markings = bring-same a reply jm ag.markings;
       }
 
-  pub joint-brought : (g : Peers) (reply : Reply) → joint_as r.managed (brings (on_table s (answer reply g))).state (more g) jm ≡ record j { graph = record j.graph { peers = g; removed = (more g).removed } }
+  pub joint-brought : (g : Peers) (reply : Reply) → joint_as r.managed (brings (on_table s (answer reply g))).state
+      (more g) jm ≡ record j { graph = record j.graph { peers = g; removed = (more g).removed } }
   joint-brought g reply =
       let a : Answered PeerReplay = on_table s (answer reply g) in
       λ i. record { graph = record { managed = r.managed; peers = bring-peers a reply i; removed = (more g).removed }; answers = flags.answers; marking = jm; markings = bring-markings a reply i }
@@ -106,11 +109,13 @@ module _ (r : ManagedReplay) (s : PeerReplay) (ds : List Doing) (d : Stand) (k :
   flags-gone h = AreFlags-gone s h flags ag.removed
 
   -- a marking begins: what is reached then is spared
-  begin-spared : (t : Thread) → s.marking ≡ None → (p : ℕ) → IsReachedIn j.graph (peer p) → IsSpared (record { number = s.markings + 1; by = t; heap = s.peers.heap; refs = s.refs; strong_peers = strong_peers s.peers.issued s.table; brought = []; blackened = 0 }) p
+  begin-spared : (t : Thread) → s.marking ≡ None → (p : ℕ) → IsReachedIn j.graph (peer p)
+      → IsSpared (record { number = s.markings + 1; by = t; heap = s.peers.heap; refs = s.refs; strong_peers = strong_peers s.peers.issued s.table; brought = []; blackened = 0 }) p
   begin-spared t e p w =
       let u : PeerReplay = (begun s None t).state in
       let now = kept-quiet (λ h. ⊥) r s u ds d k (quiet-begun (λ h. ⊥) s None t e) (begun-kept s None t k.peer e) (λ v h q g x y z. y) in
-      reached-spared r u ds d now (record { number = s.markings + 1; by = t; heap = s.peers.heap; refs = s.refs; strong_peers = strong_peers s.peers.issued s.table; brought = []; blackened = 0 }) refl flags jm ag.removed p w
+      reached-spared r u ds d now (record { number = s.markings + 1; by = t; heap = s.peers.heap; refs = s.refs; strong_peers = strong_peers s.peers.issued s.table; brought = []; blackened = 0 })
+      refl flags jm ag.removed p w
 
   begin-by : (x : Option Marking) (y : Option JointMarking) (t : Thread) (reply : Reply) → s.marking ≡ x → jm ≡ y → AreSameMarkings x y → reply ≡ (begun s x t).reply
       → (after : Option JointMarking) × JointBegin j y t reply (joint_as r.managed (begun s x t).state flags after) × Agrees (begun s x t).state flags after
@@ -122,12 +127,16 @@ module _ (r : ManagedReplay) (s : PeerReplay) (ds : List Doing) (d : Stand) (k :
       markings = record { number = refl; by = refl; heap = refl; reached = begin-spared t e };
     },
   )
-  begin-by (Some mk) (Some y) t reply e f w q =
-      (Some y, (q ∙ ap (λ n. says.MarkOpen record { 0 = n }) (sym w.number), ap (λ z. joint_as r.managed s flags z) (sym f)), record { removed = ag.removed; markings = subst (λ z. AreSameMarkings z (Some y)) (sym e) w })
+  begin-by (Some mk) (Some y) t reply e f w q = (
+    Some y,
+    (q ∙ ap (λ n. says.MarkOpen record { 0 = n }) (sym w.number), ap (λ z. joint_as r.managed s flags z) (sym f)),
+    record { removed = ag.removed; markings = subst (λ z. AreSameMarkings z (Some y)) (sym e) w },
+  )
   begin-by None (Some y) t reply e f w q = absurd w
   begin-by (Some mk) None t reply e f w q = absurd w
 
-  pub step-begin : (t : Thread) (reply : Reply) (told : Told) → reply ≡ (begun s s.marking t).reply → Steps r.managed s flags flags.answers jm t op.Begin reply told r.managed (begun s s.marking t).state
+  pub step-begin : (t : Thread) (reply : Reply) (told : Told) → reply ≡ (begun s s.marking t).reply
+      → Steps r.managed s flags flags.answers jm t op.Begin reply told r.managed (begun s s.marking t).state
   step-begin t reply told q = let w = begin-by s.marking jm t reply refl refl ag.markings q in record { flags_after = flags; told_after = refl; marking_after = w.0; event = w.1; agrees = w.2 }
 
   -- a sweep ends a marking that the thread may end, or leaves all as it is
@@ -141,7 +150,8 @@ module _ (r : ManagedReplay) (s : PeerReplay) (ds : List Doing) (d : Stand) (k :
   abbrev swept_by : Marking → List ℕ → Bool → Answered PeerReplay
   swept_by mk freed b = if b then swept_of s mk freed else answer (says.MarkOpen record { 0 = mk.number }) s
 
-  ends : (mk : Marking) (y : JointMarking) (t : Thread) (reply : Reply) (freed : List ℕ) (b : Bool) → s.marking ≡ Some mk → IsSameMarking mk y → ((t ≡ C) ⊎ (t ≡ mk.by)) × IsSweep s mk freed → b ≡ true → reply ≡ (swept_by mk freed b).reply
+  ends : (mk : Marking) (y : JointMarking) (t : Thread) (reply : Reply) (freed : List ℕ) (b : Bool) → s.marking ≡ Some mk
+      → IsSameMarking mk y → ((t ≡ C) ⊎ (t ≡ mk.by)) × IsSweep s mk freed → b ≡ true → reply ≡ (swept_by mk freed b).reply
       → (after : Option JointMarking) × JointSweep j (Some y) t reply (sweep_of freed) (joint_as r.managed (swept_by mk freed b).state flags after) × Agrees (swept_by mk freed b).state flags after
   ends mk y t reply freed false e w a q f = absurd (let g : ⊥ = cc in g)
   ends mk y t reply freed true e w a q f = (
@@ -168,17 +178,21 @@ module _ (r : ManagedReplay) (s : PeerReplay) (ds : List Doing) (d : Stand) (k :
   refuses mk y n reply true w t a q f = absurd (let g : ⊥ = cc in g)
   refuses mk y n reply false w t a q f = (jm, record { thread = t; other = λ c. a (c ∙ w.by); replies = f ∙ ap (λ z. says.MarkOpen record { 0 = z }) (sym w.number); state = refl }, ag)
 
-  sweep-by : (x : Option Marking) (y : Option JointMarking) (t : Thread) (told : Told) (reply : Reply) → s.marking ≡ x → jm ≡ y → AreSameMarkings x y → IsEvent t op.Sweep → SweepAllows s x t told → reply ≡ (swept s x t (swept_told told)).reply
+  sweep-by : (x : Option Marking) (y : Option JointMarking) (t : Thread) (told : Told) (reply : Reply) → s.marking ≡ x
+      → jm ≡ y → AreSameMarkings x y → IsEvent t op.Sweep → SweepAllows s x t told → reply ≡ (swept s x t (swept_told told)).reply
       → (after : Option JointMarking) × JointSweep j y t reply told (joint_as r.managed (swept s x t (swept_told told)).state flags after) × Agrees (swept s x t (swept_told told)).state flags after
   sweep-by None None (P n) nothing reply e f w ev a q = (jm, (elim ev [ inl x ↦ x | inr x ↦ absurd x ], q, refl), ag)
   sweep-by None None (P n) _ reply e f w ev a q = absurd a
   sweep-by None None (M n) told reply e f w ev a q = absurd (elim ev [ inl x ↦ x | inr x ↦ x ])
   sweep-by None None C told reply e f w ev a q = absurd a
   sweep-by (Some mk) (Some y) t (sweep_of freed) reply e f w ev a q = ends mk y t reply freed (is_thread t C || is_thread t mk.by) e w a (may-end t mk.by a.0) q
-  sweep-by (Some mk) (Some y) (P n) nothing reply e f w ev a q = refuses mk y n reply (is_thread (P n) mk.by) w (elim ev [ inl x ↦ x | inr x ↦ absurd x ]) a (may-not n mk.by (is_thread (P n) mk.by) refl a) q
+  sweep-by (Some mk) (Some y) (P n) nothing reply e f w ev a q = refuses mk y n reply (is_thread (P n) mk.by) w
+      (elim ev [ inl x ↦ x | inr x ↦ absurd x ]) a (may-not n mk.by (is_thread (P n) mk.by) refl a) q
   sweep-by (Some mk) (Some y) t told reply e f w ev a q = absurd a
   sweep-by None (Some y) t told reply e f w ev a q = absurd w
   sweep-by (Some mk) None t told reply e f w ev a q = absurd w
 
-  pub step-sweep : (t : Thread) (reply : Reply) (told : Told) → IsEvent t op.Sweep → SweepAllows s s.marking t told → reply ≡ (swept s s.marking t (swept_told told)).reply → Steps r.managed s flags flags.answers jm t op.Sweep reply told r.managed (swept s s.marking t (swept_told told)).state
-  step-sweep t reply told ev a q = let w = sweep-by s.marking jm t told reply refl refl ag.markings ev a q in record { flags_after = flags; told_after = refl; marking_after = w.0; event = w.1; agrees = w.2 }
+  pub step-sweep : (t : Thread) (reply : Reply) (told : Told) → IsEvent t op.Sweep → SweepAllows s s.marking t told → reply ≡ (swept s s.marking t (swept_told told)).reply
+      → Steps r.managed s flags flags.answers jm t op.Sweep reply told r.managed (swept s s.marking t (swept_told told)).state
+  step-sweep t reply told ev a q = let w = sweep-by s.marking jm t told reply refl refl ag.markings ev a q in
+      record { flags_after = flags; told_after = refl; marking_after = w.0; event = w.1; agrees = w.2 }

@@ -52,7 +52,8 @@ module _ (r : ManagedReplay) (s : PeerReplay) (ds : List Doing) (d : Stand) (k :
   peer-is h i e = ap (λ (o : Option Issued). elim o [ None ↦ None | Some j ↦ Some j.peer ]) e
 
   -- a handle in the table leads to its peer, or is cleared
-  tabled-target : (h : ℕ) (row : TableRow) (i : Issued) → IsTabled s.table h row → IsIssued s.peers.issued h i → (b : Bool) → row.cleared ≡ b → unfreed s (peer_of s.peers.issued h) ≡ (if b then None else peer_of s.peers.issued h)
+  tabled-target : (h : ℕ) (row : TableRow) (i : Issued) → IsTabled s.table h row → IsIssued s.peers.issued h i
+      → (b : Bool) → row.cleared ≡ b → unfreed s (peer_of s.peers.issued h) ≡ (if b then None else peer_of s.peers.issued h)
   tabled-target h row i t e true c =
       ap (unfreed s) (peer-is h i e) ∙ ap (λ (z : Bool). if z then None else Some i.peer) (Contains-is_freed s.peers.heap i.peer (k.peer.handles.cleared h row i t e c))
   tabled-target h row i t e false c =
@@ -90,13 +91,20 @@ module _ (r : ManagedReplay) (s : PeerReplay) (ds : List Doing) (d : Stand) (k :
     where
       by : (x : Option Issued) → numbered_at s.peers.issued h ≡ x → issued_by x ≡ true → IsRowOf r.managed s.peers.issued m p
       by None f u = (let g : ⊥ = cc in absurd g)
-      by (Some i) f u = record { handle = h; holds = holds-handle_of r.managed m h k.managed.managed.places e; row = i; is_issued = f; leads = (Decides-eqb i.peer p).0 (held-true i.hold (nat_eq i.peer p) u).1 }
+      by (Some i) f u = record {
+        handle = h;
+        holds = holds-handle_of r.managed m h k.managed.managed.places e;
+        row = i;
+        is_issued = f;
+        leads = (Decides-eqb i.peer p).0 (held-true i.hold (nat_eq i.peer p) u).1;
+      }
 
   row-twin : (m : ℕ) → IsRowOf r.managed s.peers.issued m p → is_twin j p m ≡ true
   row-twin m w =
       let i = k.owners.held_ones m w.handle w.holds in
       let same : i.0 ≡ w.row = same_Some i.0 w.row (sym i.1 ∙ w.is_issued) in
-      ap twin_by (Holds-handle_of r.managed m w.handle w.holds) ∙ (ap issued_by w.is_issued ∙ both w.row.hold (nat_eq w.row.peer p) (ap (λ (z : Issued). z.hold) (sym same) ∙ i.2) ((Decides-eqb w.row.peer p).1 w.leads))
+      ap twin_by (Holds-handle_of r.managed m w.handle w.holds) ∙
+      (ap issued_by w.is_issued ∙ both w.row.hold (nat_eq w.row.peer p) (ap (λ (z : Issued). z.hold) (sym same) ∙ i.2) ((Decides-eqb w.row.peer p).1 w.leads))
     where
       both : (x : Hold) (b : Bool) → x ≡ held → b ≡ true → (is_held x && b) ≡ true
       both held b e f = f

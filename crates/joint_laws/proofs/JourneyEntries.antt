@@ -11,7 +11,8 @@ use Rattle.joint_machine.specs.declared.lines.Act.{Act}
 use Rattle.joint_machine.specs.declared.events.Op.{Op}
 use Rattle.joint_machine.specs.declared.events.Op.TheVariants as op
 use Rattle.joint_machine.specs.declared.events.Reply.{Reply}
-use Rattle.joint_machine.specs.Control.{OpenSnap, Stand, idle, snapped, contracted, weakening, marked, restoring, restored, stand_after, MayContractNow, MayMirrorNow, MayWeakenNow, MayBeginNow, MaySweepNow, MayRestoreNow, MayClearNow, MayResolveNow}
+use Rattle.joint_machine.specs.Control.{OpenSnap, Stand, idle, snapped, contracted, weakening, marked, restoring, restored, stand_after, MayContractNow, MayMirrorNow, MayWeakenNow, MayBeginNow}
+use Rattle.joint_machine.specs.Control.{MaySweepNow, MayRestoreNow, MayClearNow, MayResolveNow}
 use Rattle.joint_machine.specs.Cycles.{IsResolution, IsAnsweredAlive}
 use Rattle.joint_machine.specs.Headline.{IsCompleteCycle}
 use Rattle.joint_machine.specs.Lines.{IsEvent}
@@ -61,16 +62,19 @@ module _ (s : Linkage) (w : Stands s) (past : List Moment) (number line : ℕ) (
   Kept t o told y = IsDriverKept (After t o told).managed (After t o told).peer y
 
   -- the begin of the own marking
-  none-open : (o : OpenSnap) (count : ℕ) (seen sw : Bool) (x : Option Marking) → reply ≡ (begun s.peer x C).reply → MayBeginNow (weakening o count seen sw) (length (candidates_of s.managed.managed)) reply cites → x ≡ None
+  none-open : (o : OpenSnap) (count : ℕ) (seen sw : Bool) (x : Option Marking) → reply ≡ (begun s.peer x C).reply
+      → MayBeginNow (weakening o count seen sw) (length (candidates_of s.managed.managed)) reply cites → x ≡ None
   none-open o count seen sw None e a = refl
   none-open o count seen sw (Some mk) e a = absurd (subst (λ z. MayBeginNow (weakening o count seen sw) (length (candidates_of s.managed.managed)) z cites) e a)
 
-  begin-by : length s.peer.peers.heap.vars ≡ 72 → length s.peer.peers.heap.statics ≡ 16 → (told : Told) → MayCome s (noted C op.Begin told) → (v : Stands (After C op.Begin told)) → (x : Stand) → MayBeginNow x (length (candidates_of s.managed.managed)) reply cites
+  begin-by : length s.peer.peers.heap.vars ≡ 72 → length s.peer.peers.heap.statics ≡ 16 → (told : Told) → MayCome s (noted C op.Begin told)
+      → (v : Stands (After C op.Begin told)) → (x : Stand) → MayBeginNow x (length (candidates_of s.managed.managed)) reply cites
       → Kept C op.Begin told (stand_after x number op.Begin reply told) → Journey past s w x → Next C op.Begin told v (stand_after x number op.Begin reply told)
   begin-by vars statics told may v (weakening o count seen sw) a to k =
       let none : s.peer.marking ≡ None = none-open o count seen sw s.peer.marking may.lawful.replies a in
       let goes = heap-entry s (noted C op.Begin told) in
-      begin-turn s (noted C op.Begin told) w v past o may to k (ap (λ z. (begun s.peer z C).state) none) refl refl (may.lawful.replies ∙ ap (λ z. (begun s.peer z C).reply) none) (goes.vars ∙ vars) (goes.statics ∙ statics)
+      begin-turn s (noted C op.Begin told) w v past o may to k (ap (λ z. (begun s.peer z C).state) none) refl refl
+      (may.lawful.replies ∙ ap (λ z. (begun s.peer z C).reply) none) (goes.vars ∙ vars) (goes.statics ∙ statics)
   begin-by vars statics told may v idle a to k = absurd a
   begin-by vars statics told may v (snapped o) a to k = absurd a
   begin-by vars statics told may v (contracted o comps heavy xrefs) a to k = absurd a
@@ -79,7 +83,8 @@ module _ (s : Linkage) (w : Stands s) (past : List Moment) (number line : ℕ) (
   begin-by vars statics told may v (restored o answers clear) a to k = absurd a
 
   -- a sweep of the driver's, of a peer thread's marking or of the own one
-  sweep-by : ((i : ℕ) (x : Moment) → slice_get past i ≡ Some x → IsTraced x) → (told : Told) → MayCome s (noted C op.Sweep told) → (v : Stands (After C op.Sweep told)) → (x : Stand) → MaySweepNow x (length (candidates_of s.managed.managed)) cites
+  sweep-by : ((i : ℕ) (x : Moment) → slice_get past i ≡ Some x → IsTraced x) → (told : Told) → MayCome s (noted C op.Sweep told)
+      → (v : Stands (After C op.Sweep told)) → (x : Stand) → MaySweepNow x (length (candidates_of s.managed.managed)) cites
       → Kept C op.Sweep told (stand_after x number op.Sweep reply told) → Journey past s w x → Next C op.Sweep told v (stand_after x number op.Sweep reply told)
   sweep-by traced told may v (weakening o count seen sw) a to k = way-next s (noted C op.Sweep told) may w v past o (moment_of s (noted C op.Sweep told) w v) refl to.cycle to.opened.cycle k
   sweep-by traced (sweep_of freed) may v (marked o) a to k =
@@ -101,7 +106,8 @@ module _ (s : Linkage) (w : Stands s) (past : List Moment) (number line : ℕ) (
   line-inside a = record { no_restore = λ h e. cc; no_mirror = λ k e. cc; no_clear = λ k e. cc }
 
   -- a restore, which is a step
-  restore-by : (h : HNum) (told : Told) → MayCome s (noted C (op.Restore h) told) → (v : Stands (After C (op.Restore h) told)) → (x : Stand) → MayRestoreNow x s.managed.managed h.0 cites → Kept C (op.Restore h) told (stand_after x number (op.Restore h) reply told) → Journey past s w x
+  restore-by : (h : HNum) (told : Told) → MayCome s (noted C (op.Restore h) told) → (v : Stands (After C (op.Restore h) told)) → (x : Stand)
+      → MayRestoreNow x s.managed.managed h.0 cites → Kept C (op.Restore h) told (stand_after x number (op.Restore h) reply told) → Journey past s w x
       → Next C (op.Restore h) told v (stand_after x number (op.Restore h) reply told)
   restore-by h told may v (restoring o answers) a to k = behind-next s (noted C (op.Restore h) told) may w v past o (moment_of s (noted C (op.Restore h) told) w v) to.cycle to.opened.cycle k
   restore-by h told may v idle a to k = absurd a
@@ -111,7 +117,8 @@ module _ (s : Linkage) (w : Stands s) (past : List Moment) (number line : ℕ) (
   restore-by h told may v (marked o) a to k = absurd a
   restore-by h told may v (restored o answers clear) a to k = absurd a
 
-  pub journey-moves : length s.peer.peers.heap.vars ≡ 72 → length s.peer.peers.heap.statics ≡ 16 → ((i : ℕ) (x : Moment) → slice_get past i ≡ Some x → IsTraced x) → (t : Thread) (o : Op) (told : Told) → MayCome s (noted t o told) → (v : Stands (After t o told)) → is_joint o ≡ true
+  pub journey-moves : length s.peer.peers.heap.vars ≡ 72 → length s.peer.peers.heap.statics ≡ 16 → ((i : ℕ) (x : Moment) → slice_get past i ≡ Some x → IsTraced x)
+      → (t : Thread) (o : Op) (told : Told) → MayCome s (noted t o told) → (v : Stands (After t o told)) → is_joint o ≡ true
       → Journey past s w d → Next t o told v (After t o told).control.stand
   journey-moves vars statics traced (M u) o told may v j k = stays (M u) o told (inside-managed u o may.event) may v v.kept.driver k
   journey-moves vars statics traced (P u) o told may v j k = stays (P u) o told (inside-peer u o may.event) may v v.kept.driver k
@@ -124,7 +131,8 @@ module _ (s : Linkage) (w : Stands s) (past : List Moment) (number line : ℕ) (
   journey-moves vars statics traced C (op.Meet x sort n p h) told may v j k = absurd may.event.0
   journey-moves vars statics traced C (op.Give x) told may v j k = absurd may.event.0
   journey-moves vars statics traced C (op.Release h) told may v j k = absurd may.event
-  journey-moves vars statics traced C (op.Snap c) (snap_of freed candidates dead) may v j k = snap-turn s (noted C (op.Snap c) (snap_of freed candidates dead)) w v past (record { cycle = c.0; snap = number }) c.0 freed candidates dead may.lawful.allowed refl refl refl refl
+  journey-moves vars statics traced C (op.Snap c) (snap_of freed candidates dead) may v j k = snap-turn s (noted C (op.Snap c) (snap_of freed candidates dead)) w v past
+      (record { cycle = c.0; snap = number }) c.0 freed candidates dead may.lawful.allowed refl refl refl refl
   journey-moves vars statics traced C (op.Snap c) told may v j k = absurd may.lawful.allowed
   journey-moves vars statics traced C op.Begin told may v j k = begin-by vars statics told may v d may.order v.kept.driver k
   journey-moves vars statics traced C op.Sweep told may v j k = sweep-by traced told may v d may.order v.kept.driver k
@@ -138,7 +146,8 @@ module _ (s : Linkage) (w : Stands s) (past : List Moment) (number line : ℕ) (
   journey-moves vars statics traced C (op.Refused x) told may v j k = (let f : false ≡ true = j in cc)
 
   -- the driver's entries that are no steps
-  contract-by : (c : Cycle) (comps : List (List ℕ)) (heavy : List ℕ) (xrefs : List (ℕ × ℕ)) (v : Stands (After C (op.Contract c) (contraction_of comps heavy xrefs))) → state_of (After C (op.Contract c) (contraction_of comps heavy xrefs)) v ≡ state_of s w → (x : Stand) → MayContractNow x c.0 cites
+  contract-by : (c : Cycle) (comps : List (List ℕ)) (heavy : List ℕ) (xrefs : List (ℕ × ℕ)) (v : Stands (After C (op.Contract c) (contraction_of comps heavy xrefs)))
+      → state_of (After C (op.Contract c) (contraction_of comps heavy xrefs)) v ≡ state_of s w → (x : Stand) → MayContractNow x c.0 cites
       → Journey past s w x → Rest C (op.Contract c) (contraction_of comps heavy xrefs) v (stand_after x number (op.Contract c) reply (contraction_of comps heavy xrefs))
   contract-by c comps heavy xrefs v same (snapped o) a k = way-rests s (After C (op.Contract c) (contraction_of comps heavy xrefs)) w v past o same k
   contract-by c comps heavy xrefs v same idle a k = absurd a
@@ -148,7 +157,8 @@ module _ (s : Linkage) (w : Stands s) (past : List Moment) (number line : ℕ) (
   contract-by c comps heavy xrefs v same (restoring o answers) a k = absurd a
   contract-by c comps heavy xrefs v same (restored o answers clear) a k = absurd a
 
-  mirror-by : (c : Cycle) (told : Told) (v : Stands (After C (op.Mirror c) told)) → state_of (After C (op.Mirror c) told) v ≡ state_of s w → (x : Stand) → MayMirrorNow x s.managed.managed s.peer.peers.issued c.0 cites told → Journey past s w x → Rest C (op.Mirror c) told v (stand_after x number (op.Mirror c) reply told)
+  mirror-by : (c : Cycle) (told : Told) (v : Stands (After C (op.Mirror c) told)) → state_of (After C (op.Mirror c) told) v ≡ state_of s w → (x : Stand)
+      → MayMirrorNow x s.managed.managed s.peer.peers.issued c.0 cites told → Journey past s w x → Rest C (op.Mirror c) told v (stand_after x number (op.Mirror c) reply told)
   mirror-by c told v same (contracted o comps heavy xrefs) a k = way-rests s (After C (op.Mirror c) told) w v past o same k
   mirror-by c told v same idle a k = absurd a
   mirror-by c told v same (snapped o) a k = absurd a
@@ -157,7 +167,8 @@ module _ (s : Linkage) (w : Stands s) (past : List Moment) (number line : ℕ) (
   mirror-by c told v same (restoring o answers) a k = absurd a
   mirror-by c told v same (restored o answers clear) a k = absurd a
 
-  weaken-by : (h : HNum) (told : Told) (v : Stands (After C (op.Weaken h) told)) → state_of (After C (op.Weaken h) told) v ≡ state_of s w → (x : Stand) → MayWeakenNow x s.managed.managed h.0 cites → Journey past s w x → Rest C (op.Weaken h) told v (stand_after x number (op.Weaken h) reply told)
+  weaken-by : (h : HNum) (told : Told) (v : Stands (After C (op.Weaken h) told)) → state_of (After C (op.Weaken h) told) v ≡ state_of s w → (x : Stand)
+      → MayWeakenNow x s.managed.managed h.0 cites → Journey past s w x → Rest C (op.Weaken h) told v (stand_after x number (op.Weaken h) reply told)
   weaken-by h told v same (weakening o count seen sw) a k = way-rests s (After C (op.Weaken h) told) w v past o same k
   weaken-by h told v same idle a k = absurd a
   weaken-by h told v same (snapped o) a k = absurd a
@@ -166,7 +177,8 @@ module _ (s : Linkage) (w : Stands s) (past : List Moment) (number line : ℕ) (
   weaken-by h told v same (restoring o answers) a k = absurd a
   weaken-by h told v same (restored o answers clear) a k = absurd a
 
-  clear-by : (c : Cycle) (told : Told) → MayCome s (noted C (op.Clear c) told) → (v : Stands (After C (op.Clear c) told)) → (x : Stand) → MayClearNow x (length (candidates_of s.managed.managed)) c.0 cites → Kept C (op.Clear c) told (stand_after x number (op.Clear c) reply told) → Journey past s w x
+  clear-by : (c : Cycle) (told : Told) → MayCome s (noted C (op.Clear c) told) → (v : Stands (After C (op.Clear c) told)) → (x : Stand)
+      → MayClearNow x (length (candidates_of s.managed.managed)) c.0 cites → Kept C (op.Clear c) told (stand_after x number (op.Clear c) reply told) → Journey past s w x
       → Rest C (op.Clear c) told v (stand_after x number (op.Clear c) reply told)
   clear-by c told may v (restoring o answers) a to k = behind-rests s (noted C (op.Clear c) told) may w v past o to.cycle to.opened.cycle k
   clear-by c told may v idle a to k = absurd a
@@ -176,13 +188,15 @@ module _ (s : Linkage) (w : Stands s) (past : List Moment) (number line : ℕ) (
   clear-by c told may v (marked o) a to k = absurd a
   clear-by c told may v (restored o answers clear) a to k = absurd a
 
-  rests : (t : Thread) (o : Op) (told : Told) → IsInside o → MayCome s (noted t o told) → (v : Stands (After t o told)) → state_of (After t o told) v ≡ state_of s w → (x : Stand) → Kept t o told x → Journey past s w x → Rest t o told v x
+  rests : (t : Thread) (o : Op) (told : Told) → IsInside o → MayCome s (noted t o told) → (v : Stands (After t o told))
+      → state_of (After t o told) v ≡ state_of s w → (x : Stand) → Kept t o told x → Journey past s w x → Rest t o told v x
   rests t o told i may v same x to k = stay-rests s (noted t o told) may w v i past same x to k
 
   refused-inside : (y : PhaseWord) → IsInside (op.Refused y)
   refused-inside y = record { no_restore = λ h e. cc; no_mirror = λ k e. cc; no_clear = λ k e. cc }
 
-  refused-by : (y : PhaseWord) (told : Told) → MayCome s (noted C (op.Refused y) told) → (v : Stands (After C (op.Refused y) told)) → state_of (After C (op.Refused y) told) v ≡ state_of s w → (x : Stand) → Kept C (op.Refused y) told (stand_after x number (op.Refused y) reply told) → Journey past s w x
+  refused-by : (y : PhaseWord) (told : Told) → MayCome s (noted C (op.Refused y) told) → (v : Stands (After C (op.Refused y) told))
+      → state_of (After C (op.Refused y) told) v ≡ state_of s w → (x : Stand) → Kept C (op.Refused y) told (stand_after x number (op.Refused y) reply told) → Journey past s w x
       → Rest C (op.Refused y) told v (stand_after x number (op.Refused y) reply told)
   refused-by y told may v same (weakening o count seen sw) to k = way-rests s (After C (op.Refused y) told) w v past o same k
   refused-by y told may v same idle to k = tt
@@ -192,7 +206,8 @@ module _ (s : Linkage) (w : Stands s) (past : List Moment) (number line : ℕ) (
   refused-by y told may v same (restoring o answers) to k = rests C (op.Refused y) told (refused-inside y) may v same (restoring o answers) to k
   refused-by y told may v same (restored o answers clear) to k = rests C (op.Refused y) told (refused-inside y) may v same (restored o answers clear) to k
 
-  pub journey-rests : (t : Thread) (o : Op) (told : Told) → MayCome s (noted t o told) → (v : Stands (After t o told)) → is_joint o ≡ false → state_of (After t o told) v ≡ state_of s w → Journey past s w d → Rest t o told v (After t o told).control.stand
+  pub journey-rests : (t : Thread) (o : Op) (told : Told) → MayCome s (noted t o told) → (v : Stands (After t o told))
+      → is_joint o ≡ false → state_of (After t o told) v ≡ state_of s w → Journey past s w d → Rest t o told v (After t o told).control.stand
   journey-rests (M u) o told may v j same k = rests (M u) o told (inside-managed u o may.event) may v same d v.kept.driver k
   journey-rests (P u) o told may v j same k = rests (P u) o told (inside-peer u o may.event) may v same d v.kept.driver k
   journey-rests C (op.Line a) told may v j same k = rests C (op.Line a) told (line-inside a) may v same d v.kept.driver k
@@ -218,11 +233,13 @@ module _ (s : Linkage) (w : Stands s) (past : List Moment) (number line : ℕ) (
   journey-rests C (op.Abandon c) told may v j same k = (let f : true ≡ false = j in cc)
 
   -- at a resolution
-  complete-by : (more : List Moment) (n : ℕ) (alive : List Answer) (freed : List ℕ) (x : Stand) → MayResolveNow x n cites (resolution_of alive freed) → MayResolve s.managed n alive freed → IsDriverKept s.managed s.peer x → Journey past s w x → IsCompleteCycle (past ++ more) (length past) n freed
+  complete-by : (more : List Moment) (n : ℕ) (alive : List Answer) (freed : List ℕ) (x : Stand) → MayResolveNow x n cites (resolution_of alive freed)
+      → MayResolve s.managed n alive freed → IsDriverKept s.managed s.peer x → Journey past s w x → IsCompleteCycle (past ++ more) (length past) n freed
   complete-by more n alive freed (restored o answers clear) a p kept k =
       let same_cycle : p.cycle ≡ kept.cycle = one_cycle s.managed.managed p.cycle kept.cycle p.open_cycle.0 kept.opened.cycle in
       let exact : IsResolution s.managed.managed kept.cycle.dead (IsAnsweredAlive kept.cycle.candidates answers) freed =
-      subst (λ (z : OpenCycle). IsResolution s.managed.managed z.dead (IsAnsweredAlive z.candidates answers) freed) same_cycle (subst (λ z. IsResolution s.managed.managed p.cycle.dead (IsAnsweredAlive p.cycle.candidates z) freed) a.2 p.resolution) in
+      subst (λ (z : OpenCycle). IsResolution s.managed.managed z.dead (IsAnsweredAlive z.candidates answers) freed) same_cycle
+      (subst (λ z. IsResolution s.managed.managed p.cycle.dead (IsAnsweredAlive p.cycle.candidates z) freed) a.2 p.resolution) in
       subst (λ z. IsCompleteCycle (past ++ more) (length past) z freed) a.0 (complete-cycle s w past more o answers kept k freed exact)
   complete-by more n alive freed idle a p kept k = absurd a
   complete-by more n alive freed (snapped o) a p kept k = absurd a
@@ -231,11 +248,13 @@ module _ (s : Linkage) (w : Stands s) (past : List Moment) (number line : ℕ) (
   complete-by more n alive freed (marked o) a p kept k = absurd a
   complete-by more n alive freed (restoring o answers) a p kept k = absurd a
 
-  resolved-by : (t : Thread) (c : Cycle) (alive : List Answer) (freed : List ℕ) (more : List Moment) → MayCome s (noted t (op.Resolve c) (resolution_of alive freed)) → Journey past s w d → IsCompleteCycle (past ++ more) (length past) c.0 freed
+  resolved-by : (t : Thread) (c : Cycle) (alive : List Answer) (freed : List ℕ) (more : List Moment)
+      → MayCome s (noted t (op.Resolve c) (resolution_of alive freed)) → Journey past s w d → IsCompleteCycle (past ++ more) (length past) c.0 freed
   resolved-by C c alive freed more may k = complete-by more c.0 alive freed d may.order may.lawful.allowed w.kept.driver k
   resolved-by (M u) c alive freed more may k = absurd may.event
   resolved-by (P u) c alive freed more may k = absurd may.event
 
-  pub journey-resolves : (t : Thread) (o : Op) (told : Told) (n : ℕ) (alive : List Answer) (freed : List ℕ) (more : List Moment) → MayCome s (noted t o told) → o ≡ op.Resolve record { 0 = n } → told ≡ resolution_of alive freed → Journey past s w d → IsCompleteCycle (past ++ more) (length past) n freed
+  pub journey-resolves : (t : Thread) (o : Op) (told : Told) (n : ℕ) (alive : List Answer) (freed : List ℕ) (more : List Moment) → MayCome s (noted t o told)
+      → o ≡ op.Resolve record { 0 = n } → told ≡ resolution_of alive freed → Journey past s w d → IsCompleteCycle (past ++ more) (length past) n freed
   journey-resolves t o told n alive freed more may e f k =
       resolved-by t (record { 0 = n }) alive freed more (subst (λ z. MayCome s (noted t (op.Resolve record { 0 = n }) z)) f (subst (λ z. MayCome s (noted t z told)) e may)) k

@@ -31,7 +31,8 @@ Journey past s w (restoring o answers) = IsBehindSweep past s o
 Journey past s w (restored o answers clear) = IsBehindSweep past s o
 
 -- behind the sweep, at a step of the joint machine and at an entry that is none
-pub behind-next : (s : Linkage) (n : Noted) (may : MayCome s n) (w : Stands s) (v : Stands (linkage_after s n)) (past : List Moment) (o : OpenSnap) (m : Moment) (e : OpenCycle) → (linkage_after s n).managed.managed.cycle ≡ Some e → IsBehindSweep past s o → IsBehindSweep (past ++ m ∷ []) (linkage_after s n) o
+pub behind-next : (s : Linkage) (n : Noted) (may : MayCome s n) (w : Stands s) (v : Stands (linkage_after s n)) (past : List Moment) (o : OpenSnap) (m : Moment) (e : OpenCycle)
+    → (linkage_after s n).managed.managed.cycle ≡ Some e → IsBehindSweep past s o → IsBehindSweep (past ++ m ∷ []) (linkage_after s n) o
 behind-next s n may w v past o m e q k =
     let g = goes-open s n may w k.cycle e k.open_now q in
     record {
@@ -43,7 +44,8 @@ behind-next s n may w v past o m e q k =
       swept = swept-moves s n w v g k.cycle k.open_now past k.snap m k.swept;
     }
 
-pub behind-rests : (s : Linkage) (n : Noted) (may : MayCome s n) (w : Stands s) (v : Stands (linkage_after s n)) (past : List Moment) (o : OpenSnap) (e : OpenCycle) → (linkage_after s n).managed.managed.cycle ≡ Some e → IsBehindSweep past s o → IsBehindSweep past (linkage_after s n) o
+pub behind-rests : (s : Linkage) (n : Noted) (may : MayCome s n) (w : Stands s) (v : Stands (linkage_after s n)) (past : List Moment) (o : OpenSnap) (e : OpenCycle)
+    → (linkage_after s n).managed.managed.cycle ≡ Some e → IsBehindSweep past s o → IsBehindSweep past (linkage_after s n) o
 behind-rests s n may w v past o e q k =
     let g = goes-open s n may w k.cycle e k.open_now q in
     record {

@@ -59,7 +59,8 @@ module _ (s : Linkage) (n : Noted) (may : MayCome s n) (w : Stands s) (v : Stand
       way = way-next s n may w v past o m after to.cycle to.opened.cycle k.way;
       own = later k.own is_later.brought is_later.black;
       open_mark = open_later;
-      watched = watch-next s n may w v goes past k.way.snap k.way.cycle k.way.open_now k.way.watched m after k.own k.open_mark k.watched is_later.brought is_later.black open_later is_later.back refs mirror;
+      watched = watch-next s n may w v goes past k.way.snap k.way.cycle k.way.open_now k.way.watched m after
+          k.own k.open_mark k.watched is_later.brought is_later.black open_later is_later.back refs mirror;
       vars = (heap-entry s n).vars ∙ k.vars;
       statics = (heap-entry s n).statics ∙ k.statics;
     }
@@ -76,7 +77,8 @@ module _ (s : Linkage) (n : Noted) (may : MayCome s n) (w : Stands s) (v : Stand
     }
 
   -- the stand stays
-  pub stay-next : IsInside n.entry.made.op → (past : List Moment) (m : Moment) → m.after ≡ state_of t v → (x : Stand) → IsDriverKept t.managed t.peer x → Journey past s w x → Journey (past ++ m ∷ []) t v x
+  pub stay-next : IsInside n.entry.made.op → (past : List Moment) (m : Moment) → m.after ≡ state_of t v
+      → (x : Stand) → IsDriverKept t.managed t.peer x → Journey past s w x → Journey (past ++ m ∷ []) t v x
   stay-next inside past m after idle to k = tt
   stay-next inside past m after (snapped o) to k = way-next s n may w v past o m after to.cycle to.opened.cycle k
   stay-next inside past m after (contracted o comps heavy xrefs) to k = way-next s n may w v past o m after to.before.cycle to.before.opened.cycle k

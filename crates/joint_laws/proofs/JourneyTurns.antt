@@ -41,7 +41,8 @@ module _ (s : Linkage) (n : Noted) (w : Stands s) (v : Stands (linkage_after s n
   abbrev longer : List Moment
   longer = past ++ m ∷ []
 
-  pub snap-turn : (k : ℕ) (freed candidates dead : List ℕ) → IsSnapshot s.managed.managed k freed candidates dead → t.managed.managed ≡ with_snapshot s.managed.managed freed candidates dead → n.entry.made.op ≡ op.Snap record { 0 = k } → n.told ≡ snap_of freed candidates dead → o.cycle ≡ k → IsOnTheWay longer t v o
+  pub snap-turn : (k : ℕ) (freed candidates dead : List ℕ) → IsSnapshot s.managed.managed k freed candidates dead → t.managed.managed ≡ with_snapshot s.managed.managed freed candidates dead
+      → n.entry.made.op ≡ op.Snap record { 0 = k } → n.told ≡ snap_of freed candidates dead → o.cycle ≡ k → IsOnTheWay longer t v o
   snap-turn k freed candidates dead p is event told same = record {
     snap = length past;
     freed = freed;
@@ -73,14 +74,31 @@ module _ (s : Linkage) (n : Noted) (w : Stands s) (v : Stands (linkage_after s n
         let same : q.moment ≡ m = same_Some q.moment m (sym q.there ∙ get-last past m) in
         subst (λ (z : PeerReplay). IsMade z.peers.heap p) (sym is) (subst (λ (z : Moment). IsMade z.before.graph.peers.heap p) same q.made)
 
-    pub begin-turn : n.entry.made.caller ≡ C → n.entry.made.op ≡ op.Begin → n.entry.made.reply ≡ says.Mark record { 0 = s.peer.markings + 1 } → length t.peer.peers.heap.vars ≡ 72 → length t.peer.peers.heap.statics ≡ 16 → IsUnderWay longer t v o
+    pub begin-turn : n.entry.made.caller ≡ C → n.entry.made.op ≡ op.Begin → n.entry.made.reply ≡ says.Mark record { 0 = s.peer.markings + 1 }
+        → length t.peer.peers.heap.vars ≡ 72 → length t.peer.peers.heap.statics ≡ 16 → IsUnderWay longer t v o
     unfolding way-next
     begin-turn caller event reply vars statics =
         let way : IsOnTheWay longer t v o = way-next s n may w v past o m refl to.cycle to.opened.cycle k in
         record {
           way = way;
-          own = record { number = s.peer.markings + 1; by = C; heap = t.peer.peers.heap; refs = t.peer.refs; strong_peers = strong_peers t.peer.peers.issued t.peer.table; brought = []; blackened = 0 };
-          open_mark = subst (λ (z : PeerReplay). z.marking ≡ Some record { number = s.peer.markings + 1; by = C; heap = z.peers.heap; refs = z.refs; strong_peers = strong_peers z.peers.issued z.table; brought = []; blackened = 0 }) (sym is) refl;
+          own = record {
+            number = s.peer.markings + 1;
+            by = C;
+            heap = t.peer.peers.heap;
+            refs = t.peer.refs;
+            strong_peers = strong_peers t.peer.peers.issued t.peer.table;
+            brought = [];
+            blackened = 0;
+          };
+          open_mark = subst (λ (z : PeerReplay). z.marking ≡ Some record {
+            number = s.peer.markings + 1;
+            by = C;
+            heap = z.peers.heap;
+            refs = z.refs;
+            strong_peers = strong_peers z.peers.issued z.table;
+            brought = [];
+            blackened = 0;
+          }) (sym is) refl;
           watched = watch-begin t v longer k.snap k.cycle open_there way.watched mirror all_weak (s.peer.markings + 1) (length past) C
               (record { moment = m; there = get-last past m; caller = caller; event = event; reply = reply }) k.watched.started made_then;
           vars = vars;
@@ -88,7 +106,8 @@ module _ (s : Linkage) (n : Noted) (w : Stands s) (v : Stands (linkage_after s n
         }
 
   -- the own sweep
-  pub sweep-turn : MayCome s n → ((i : ℕ) (x : Moment) → slice_get past i ≡ Some x → IsTraced x) → (to : IsRestoring t.managed t.peer o []) (k : IsUnderWay past s w o) (freed : List ℕ) (span : Span) → IsSweep s.peer k.own freed → t.peer.peers.heap.freed ≡ s.peer.peers.heap.freed ++ freed
+  pub sweep-turn : MayCome s n → ((i : ℕ) (x : Moment) → slice_get past i ≡ Some x → IsTraced x)
+      → (to : IsRestoring t.managed t.peer o []) (k : IsUnderWay past s w o) (freed : List ℕ) (span : Span) → IsSweep s.peer k.own freed → t.peer.peers.heap.freed ≡ s.peer.peers.heap.freed ++ freed
       → n.entry.made.op ≡ op.Sweep → n.entry.made.reply ≡ says.Swept record { 0 = k.own.number } span → n.told ≡ sweep_of freed → IsBehindSweep longer t o
   sweep-turn may traced to k freed span sw grows event reply told =
       let g = goes-open s n may w k.way.cycle to.cycle k.way.open_now to.opened.cycle in

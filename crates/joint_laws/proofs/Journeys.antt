@@ -93,7 +93,8 @@ pub refs-entry : (s : Linkage) (n : Noted) → ((k : Cycle) → n.entry.made.op 
 refs-entry s n p c = refs-by s n.entry.made n.told (is_peer_event n.entry.made.caller n.entry.made.op) p c
 
 -- while a cycle stays open the managed objects go on
-pub goes-open : (s : Linkage) (n : Noted) (may : MayCome s n) (w : Stands s) (c e : OpenCycle) → s.managed.managed.cycle ≡ Some c → (linkage_after s n).managed.managed.cycle ≡ Some e → GoesOn s.managed.managed (linkage_after s n).managed.managed
+pub goes-open : (s : Linkage) (n : Noted) (may : MayCome s n) (w : Stands s) (c e : OpenCycle) → s.managed.managed.cycle ≡ Some c
+    → (linkage_after s n).managed.managed.cycle ≡ Some e → GoesOn s.managed.managed (linkage_after s n).managed.managed
 goes-open s n may w c e o q = by (ManagedStep-entry s n may w.kept.managed)
   where
     by : ManagedStep s.managed.managed (linkage_after s n).managed.managed → GoesOn s.managed.managed (linkage_after s n).managed.managed
@@ -123,7 +124,8 @@ pub record IsBehindSweep (past : List Moment) (s : Linkage) (o : OpenSnap) : Typ
 pub snaps-more : (past more : List Moment) (a k : ℕ) (freed candidates : List ℕ) → SnapsAt past a k freed candidates → SnapsAt (past ++ more) a k freed candidates
 snaps-more past more a k freed candidates w = record { moment = w.moment; there = get-front past more a w.moment w.there; event = w.event; dead = w.dead; frees = w.frees }
 
-unfoldable pub way-next : (s : Linkage) (n : Noted) (may : MayCome s n) (w : Stands s) (v : Stands (linkage_after s n)) (past : List Moment) (o : OpenSnap) (m : Moment) → m.after ≡ state_of (linkage_after s n) v → (e : OpenCycle) → (linkage_after s n).managed.managed.cycle ≡ Some e
+unfoldable pub way-next : (s : Linkage) (n : Noted) (may : MayCome s n) (w : Stands s) (v : Stands (linkage_after s n)) (past : List Moment) (o : OpenSnap) (m : Moment)
+    → m.after ≡ state_of (linkage_after s n) v → (e : OpenCycle) → (linkage_after s n).managed.managed.cycle ≡ Some e
     → IsOnTheWay past s w o → IsOnTheWay (past ++ m ∷ []) (linkage_after s n) v o
 way-next s n may w v past o m after e q k =
     let g = goes-open s n may w k.cycle e k.open_now q in

@@ -17,7 +17,8 @@ use Rattle.joint_machine.specs.declared.events.Made.{Made}
 use Rattle.joint_machine.specs.Heaps.{Answered, answer, slot, place, is_full, with_var}
 use Rattle.joint_machine.specs.Lines.{IsEvent, is_peer_event, is_read}
 use Rattle.joint_machine.specs.Linked.{Linkage, opening_linkage, linkage_after, SideLawful, ManagedLawful, managed_after}
-use Rattle.joint_machine.specs.Managed.{Managed, OpenCycle, managed_name, managed_line, adopted, met, given_up, with_row, cell_set, weakened_to, pin_taken, without_handle, twin_met, twin_kind, twin_fields}
+use Rattle.joint_machine.specs.Managed.{Managed, OpenCycle, managed_name, managed_line, adopted, met, given_up, with_row, cell_set, weakened_to, pin_taken, without_handle, twin_met, twin_kind}
+use Rattle.joint_machine.specs.Managed.{twin_fields}
 use Rattle.joint_machine.specs.ManagedReplay.{ManagedReplay, opening_replay, registered}
 use Rattle.joint_machine.specs.Readers.{is_managed_entry, pins_after, reader_after, EntryMayCome, entry_after, replayed_reading, AllMayComeReading}
 use Rattle.joint_machine.specs.PinsTold.{AllKeptLawful, PinnedEntry, with_pins}
@@ -80,7 +81,8 @@ module _ (s : Managed) where
       by (Some x) = refl
 
 -- an operation of one line that is no read
-line-pins : (s : Managed) (t : Thread) (a : Act) → is_read (op.Line a) ≡ false → (managed_line s (thread_number t) a).state.pins ≡ pins_by s.pins t (op.Line a) (managed_line s (thread_number t) a).reply
+line-pins : (s : Managed) (t : Thread) (a : Act) → is_read (op.Line a) ≡ false
+    → (managed_line s (thread_number t) a).state.pins ≡ pins_by s.pins t (op.Line a) (managed_line s (thread_number t) a).reply
 line-pins s t (act.New v kind n) e = row-pins s (is_full s.heap.fields) _ (place (thread_number t) v.0) kind n None
 line-pins s t (act.Weak k v) e = weak-pins s k.0 (place (thread_number t) v.0)
 line-pins s t (act.Read k) e = absurd (let f : true ≡ false = e in cc)
@@ -111,7 +113,8 @@ module _ (s : Linkage) (line : ℕ) (reply : Reply) (cites : Option ℕ) where
   entry-pins (P t) (op.Line a) told e w f = peer-line t a told e f
   entry-pins t (op.Adopt v kind n p h) told e w f =
       let a = adopted s.managed.managed (place (thread_number t) v.0) kind n h.0 in
-      ap (λ (z : Managed). z.pins) (adopt_by-managed s.managed p.0 h.0 a.state a.reply) ∙ row-pins s.managed.managed (is_full s.managed.managed.heap.fields) _ (place (thread_number t) v.0) kind n (Some h.0)
+      ap (λ (z : Managed). z.pins) (adopt_by-managed s.managed p.0 h.0 a.state a.reply)
+      ∙ row-pins s.managed.managed (is_full s.managed.managed.heap.fields) _ (place (thread_number t) v.0) kind n (Some h.0)
   entry-pins t (op.Meet v sort n p h) told e w f =
       let a = met s.managed.managed (place (thread_number t) v.0) h.0 sort n (registered s.managed.registry p.0) in
       ap (λ (z : Managed). z.pins) (meet_by-managed s.managed p.0 h.0 a.state a.reply) ∙ met-pins s.managed.managed (place (thread_number t) v.0) h.0 sort n (registered s.managed.registry p.0)
@@ -145,7 +148,8 @@ IsBut r s = with_pins r (pins_of s) ≡ s.managed
 
 -- an entry of the managed side's list, or another
 data Turn (s : Linkage) (n : Noted) (r : ManagedReplay) : Type 0 where
-  own : is_managed_entry n ≡ true → ManagedLawful (with_pins r (pins_of s)) n.entry.made n.told → IsBut (managed_after (with_pins r (pins_of s)) n.entry.made n.told false) (entry_after s n) → Turn s n r
+  own : is_managed_entry n ≡ true → ManagedLawful (with_pins r (pins_of s)) n.entry.made n.told
+      → IsBut (managed_after (with_pins r (pins_of s)) n.entry.made n.told false) (entry_after s n) → Turn s n r
   another : is_managed_entry n ≡ false → IsBut r (entry_after s n) → Turn s n r
 
 module _ (whole : List Noted) (cells : List (Option ℕ)) (s : Linkage) (n : Noted) (r : ManagedReplay) (k : IsBut r s) where
@@ -161,10 +165,12 @@ module _ (whole : List Noted) (cells : List (Option ℕ)) (s : Linkage) (n : Not
   turn-by : (p q : Bool) → is_peer_event n.entry.made.caller n.entry.made.op ≡ p → is_read n.entry.made.op ≡ q → EntryMayCome q whole cells s n → Turn s n r
   turn-by true true e f w = another (managed-by true true e f) (subst (λ z. IsBut r z) (sym (after-read f)) (ap (λ z. with_pins z (pins_of (reader_after s n))) k))
   turn-by false true e f w = another (managed-by false true e f) (subst (λ z. IsBut r z) (sym (after-read f)) (ap (λ z. with_pins z (pins_of (reader_after s n))) k))
-  turn-by true false e f w = another (managed-by true false e f) (subst (λ z. IsBut r z) (sym (after-other f)) (subst (λ b. with_pins r (managed_after s.managed n.entry.made n.told b).managed.pins ≡ managed_after s.managed n.entry.made n.told b) (sym e) k))
+  turn-by true false e f w = another (managed-by true false e f)
+      (subst (λ z. IsBut r z) (sym (after-other f)) (subst (λ b. with_pins r (managed_after s.managed n.entry.made n.told b).managed.pins ≡ managed_after s.managed n.entry.made n.told b) (sym e) k))
   turn-by false false e f w = own (managed-by false false e f) (subst (λ z. ManagedLawful z n.entry.made n.told) (sym k) (subst (λ b. SideLawful b s n.entry.made n.told) e w.lawful))
       (subst (λ z. IsBut (managed_after (with_pins r (pins_of s)) n.entry.made n.told false) z) (sym (after-other f))
-      (subst (λ b. with_pins (managed_after (with_pins r (pins_of s)) n.entry.made n.told false) (managed_after s.managed n.entry.made n.told b).managed.pins ≡ managed_after s.managed n.entry.made n.told b) (sym e)
+      (subst (λ b. with_pins (managed_after (with_pins r (pins_of s)) n.entry.made n.told false)
+      (managed_after s.managed n.entry.made n.told b).managed.pins ≡ managed_after s.managed n.entry.made n.told b) (sym e)
       (ap (λ z. with_pins (managed_after z n.entry.made n.told false) (managed_after s.managed n.entry.made n.told false).managed.pins) k)))
 
   turn : EntryMayCome (is_read n.entry.made.op) whole cells s n → Turn s n r
@@ -187,11 +193,13 @@ record IsKeptAlong (r : ManagedReplay) (s : Linkage) (ns : List Noted) (list : L
   lawful : AllKeptLawful r list
   alike : IsBut (kept_replayed r list) (replayed_reading s ns)
 
-kept-along : (whole : List Noted) (cells : List (Option ℕ)) (ns : List Noted) (s : Linkage) (r : ManagedReplay) → IsBut r s → AllMayComeReading whole cells s ns → IsKeptAlong r s ns (kept_from (pins_of s) ns)
+kept-along : (whole : List Noted) (cells : List (Option ℕ)) (ns : List Noted) (s : Linkage) (r : ManagedReplay)
+    → IsBut r s → AllMayComeReading whole cells s ns → IsKeptAlong r s ns (kept_from (pins_of s) ns)
 kept-along whole cells [] s r k a = record { lawful = tt; alike = k }
 kept-along whole cells (n ∷ ns) s r k a = by (turn whole cells s n r k a.0) (λ u v. kept-along whole cells ns (entry_after s n) u v a.1) (pins-on whole cells s n r k a.0)
   where
-    by : Turn s n r → ((u : ManagedReplay) → IsBut u (entry_after s n) → IsKeptAlong u (entry_after s n) ns (kept_from (pins_of (entry_after s n)) ns)) → pins_of (entry_after s n) ≡ pins_by (pins_of s) n.entry.made.caller n.entry.made.op n.entry.made.reply → IsKeptAlong r s (n ∷ ns) (kept_from (pins_of s) (n ∷ ns))
+    by : Turn s n r → ((u : ManagedReplay) → IsBut u (entry_after s n) → IsKeptAlong u (entry_after s n) ns (kept_from (pins_of (entry_after s n)) ns))
+        → pins_of (entry_after s n) ≡ pins_by (pins_of s) n.entry.made.caller n.entry.made.op n.entry.made.reply → IsKeptAlong r s (n ∷ ns) (kept_from (pins_of s) (n ∷ ns))
     by (own e l v) rest p =
         let u = managed_after (with_pins r (pins_of s)) n.entry.made n.told false in
         let w = subst (λ z. IsKeptAlong u (entry_after s n) ns (kept_from z ns)) p (rest u v) in

@@ -31,7 +31,8 @@ use Rattle.joint_laws.proofs.LinkedQuiet.{AreKept, kept-alike, kept-doing, kept-
 
 module _ (r : ManagedReplay) (s : PeerReplay) (ds : List Doing) (d : Stand) (u number line : ℕ) (k : AreKept r s ds d) where
   -- a new row takes the handle that the thread has in hand, on a peer without a pair
-  take-by : (v : ℕ) (kind : Kind) (n p h : ℕ) (o : Option ℕ) → (Contains r.adopted h → ⊥) → HasInHand (doing_in ds u) h → (i : Issued) → IsIssued s.peers.issued h i → i.peer ≡ p → ((m : ℕ) → o ≡ Some m → ⊥) → registered r.registry p ≡ o
+  take-by : (v : ℕ) (kind : Kind) (n p h : ℕ) (o : Option ℕ) → (Contains r.adopted h → ⊥) → HasInHand (doing_in ds u) h
+      → (i : Issued) → IsIssued s.peers.issued h i → i.peer ≡ p → ((m : ℕ) → o ≡ Some m → ⊥) → registered r.registry p ≡ o
       → AreKept (record r { managed = with_row r.managed v kind n (Some h); registry = with_twin r.registry p (next_number r.managed.heap) o; adopted = r.adopted ++ h ∷ [] }) s (set ds u free) d
   take-by v kind n p h (Some m) virgin w i q e none f = absurd (none m refl)
   take-by v kind n p h None virgin w i q e none f =
@@ -41,13 +42,17 @@ module _ (r : ManagedReplay) (s : PeerReplay) (ds : List Doing) (d : Stand) (u n
         managed = took-by r v kind n p h k.managed virgin None f;
         peer = k.peer;
         owners = owners_taken r s v kind n p h k.managed virgin loose i q e k.owners;
-        callers = subst (AreCallersKept (record r { managed = with_row r.managed v kind n (Some h); registry = r.registry ++ (p, next_number r.managed.heap) ∷ []; adopted = r.adopted ++ h ∷ [] }) s) (sym (hands-set ds d u free))
-            (callers_taken r s v kind n p h k.managed virgin loose i q e (set (hands d ds) (place_in d u) free) (AreCallersKept-free r s (hands d ds) (place_in d u) k.callers) (put_down r s (hands d ds) (place_in d u) h k.callers at));
-        driver = driver_goes_on r (record r { managed = with_row r.managed v kind n (Some h); registry = r.registry ++ (p, next_number r.managed.heap) ∷ []; adopted = r.adopted ++ h ∷ [] }) s k.managed.managed (GoesOn-row r.managed v kind n (Some h) k.managed.managed.places) d k.driver;
+        callers = subst (AreCallersKept (record r { managed = with_row r.managed v kind n (Some h); registry = r.registry ++ (p, next_number r.managed.heap) ∷ []; adopted = r.adopted ++ h ∷ [] }) s)
+            (sym (hands-set ds d u free))
+            (callers_taken r s v kind n p h k.managed virgin loose i q e (set (hands d ds) (place_in d u) free)
+            (AreCallersKept-free r s (hands d ds) (place_in d u) k.callers) (put_down r s (hands d ds) (place_in d u) h k.callers at));
+        driver = driver_goes_on r (record r { managed = with_row r.managed v kind n (Some h); registry = r.registry ++ (p, next_number r.managed.heap) ∷ []; adopted = r.adopted ++ h ∷ [] })
+            s k.managed.managed (GoesOn-row r.managed v kind n (Some h) k.managed.managed.places) d k.driver;
       }
 
   adopt-by : (v : ℕ) (kind : Kind) (n p h : ℕ) (b : Bool) → HasMadePair (doing_in ds u) h p → (Contains r.adopted h → ⊥)
-      → (let a = if b then answer says.Full r.managed else answer (managed_name (next_number r.managed.heap)) (with_row r.managed v kind n (Some h)) in AreKept (adopt_by r p h a.state a.reply).state s (set ds u free) d)
+      → (let a = if b then answer says.Full r.managed else answer (managed_name (next_number r.managed.heap)) (with_row r.managed v kind n (Some h)) in
+      AreKept (adopt_by r p h a.state a.reply).state s (set ds u free) d)
   adopt-by v kind n p h true w virgin = kept-free r s ds d u k
   adopt-by v kind n p h false w virgin =
       let own = threads-callers r s ds d k in
@@ -55,7 +60,8 @@ module _ (r : ManagedReplay) (s : PeerReplay) (ds : List Doing) (d : Stand) (u n
       let fresh = own.virgins u h p w in
       take-by v kind n p h (registered r.registry p) virgin (made-in_hand (doing_in ds u) h p w) i.0 i.1 i.2 (λ m e. fresh.pairs m (registered-some r.registry p m e)) refl
 
-  pub kept-adopt : (v : ℕ) (kind : Kind) (n p h : ℕ) → HasMadePair (doing_in ds u) h p → (Contains r.adopted h → ⊥) → AreKept (adopt_by r p h (adopted r.managed v kind n h).state (adopted r.managed v kind n h).reply).state s (set ds u free) d
+  pub kept-adopt : (v : ℕ) (kind : Kind) (n p h : ℕ) → HasMadePair (doing_in ds u) h p → (Contains r.adopted h → ⊥)
+      → AreKept (adopt_by r p h (adopted r.managed v kind n h).state (adopted r.managed v kind n h).reply).state s (set ds u free) d
   kept-adopt v kind n p h w virgin = adopt-by v kind n p h (is_full r.managed.heap.fields) w virgin
 
 -- the thread has met, and keeps the handle in hand
@@ -68,12 +74,14 @@ kept-met r s ds d u number line h k w = kept-doing r s ds d u (met number line h
   lent_ones = λ g e. absurd e;
 })
 
-module _ (r : ManagedReplay) (s : PeerReplay) (ds : List Doing) (d : Stand) (u number line : ℕ) (k : AreKept r s ds d) (v : Var) (p : PNum) (h : HNum) (sort : Sort) (n place : ℕ) (w : HasInHand (doing_in ds u) h.0) (on : HasPeer (doing_in ds u) h.0 p.0) (virgin : Contains r.adopted h.0 → ⊥) where
+module _ (r : ManagedReplay) (s : PeerReplay) (ds : List Doing) (d : Stand) (u number line : ℕ) (k : AreKept r s ds d) (v : Var) (p : PNum) (h : HNum)
+    (sort : Sort) (n place : ℕ) (w : HasInHand (doing_in ds u) h.0) (on : HasPeer (doing_in ds u) h.0 p.0) (virgin : Contains r.adopted h.0 → ⊥) where
   abbrev Met : ManagedReplay → Reply → Type 0
   Met t reply = AreKept t s (set ds u (doing_after number line (op.Meet v sort n p h) reply)) d
 
   room : (b : Bool) → registered r.registry p.0 ≡ None
-      → (let a = if b then answer says.Full r.managed else answer (says.New record { 0 = next_number r.managed.heap }) (with_row r.managed place (twin_kind sort) (twin_fields sort n) (Some h.0)) in Met (meet_by r p.0 h.0 a.state a.reply).state a.reply)
+      → (let a = if b then answer says.Full r.managed else answer (says.New record { 0 = next_number r.managed.heap }) (with_row r.managed place (twin_kind sort) (twin_fields sort n) (Some h.0)) in
+      Met (meet_by r p.0 h.0 a.state a.reply).state a.reply)
   room true e = kept-met r s ds d u number line h.0 k w
   room false e =
       let i = (threads-callers r s ds d k).peers u h.0 p.0 on in
@@ -120,7 +128,8 @@ module _ (r : ManagedReplay) (s : PeerReplay) (ds : List Doing) (d : Stand) (u n
     driver = driver_goes_on r (without m) s k.managed.managed (emptied-goes_on r.managed place m e) d k.driver;
   }
 
-  by_handle : (m : ℕ) (o : Option ℕ) (reply : Reply) → slot r.managed.heap.vars place ≡ Some m → IsReplayKept (without m) → handle_of r.managed m ≡ o → reply ≡ elim o [ None ↦ says.Plain | Some h ↦ says.H record { 0 = h } ] → Gave (without m) reply
+  by_handle : (m : ℕ) (o : Option ℕ) (reply : Reply) → slot r.managed.heap.vars place ≡ Some m → IsReplayKept (without m)
+      → handle_of r.managed m ≡ o → reply ≡ elim o [ None ↦ says.Plain | Some h ↦ says.H record { 0 = h } ] → Gave (without m) reply
   by_handle m None reply e w q f = subst (λ z. Gave (without m) z) (sym f) (kept-free (without m) s ds d u (gave-kept m e w))
   by_handle m (Some h) reply e w q f =
       let had = holds-handle_of r.managed m h k.managed.managed.places q in
@@ -134,10 +143,13 @@ module _ (r : ManagedReplay) (s : PeerReplay) (ds : List Doing) (d : Stand) (u n
       }))
 
   by_row : (o : Option ℕ) (reply : Reply) → slot r.managed.heap.vars place ≡ o → IsReplayKept (give_by r o (answer reply (without_handle r.managed o))).state
-      → reply ≡ elim o [ None ↦ says.Empty | Some x ↦ elim (handle_of r.managed x) [ None ↦ says.Plain | Some h ↦ says.H record { 0 = h } ] ] → Gave (give_by r o (answer reply (without_handle r.managed o))).state reply
+      → reply ≡ elim o [ None ↦ says.Empty | Some x ↦ elim (handle_of r.managed x) [ None ↦ says.Plain | Some h ↦ says.H record { 0 = h } ] ]
+      → Gave (give_by r o (answer reply (without_handle r.managed o))).state reply
   by_row None reply e w f = subst (λ z. Gave r z) (sym f) (kept-free r s ds d u k)
   by_row (Some m) reply e w f = by_handle m (handle_of r.managed m) reply e w refl f
 
-  pub kept-give : (reply : Reply) → IsReplayKept (give_by r (slot r.managed.heap.vars place) (given_up r.managed place)).state → reply ≡ handle_reply r.managed place → Gave (give_by r (slot r.managed.heap.vars place) (given_up r.managed place)).state reply
+  pub kept-give : (reply : Reply) → IsReplayKept (give_by r (slot r.managed.heap.vars place) (given_up r.managed place)).state
+      → reply ≡ handle_reply r.managed place → Gave (give_by r (slot r.managed.heap.vars place) (given_up r.managed place)).state reply
   kept-give reply w e = subst (λ z. Gave (give_by r (slot r.managed.heap.vars place) (answer z (without_handle r.managed (slot r.managed.heap.vars place)))).state reply) e
-      (by_row (slot r.managed.heap.vars place) reply refl (subst (λ z. IsReplayKept (give_by r (slot r.managed.heap.vars place) (answer z (without_handle r.managed (slot r.managed.heap.vars place)))).state) (sym e) w) e)
+      (by_row (slot r.managed.heap.vars place) reply refl (subst (λ z. IsReplayKept
+      (give_by r (slot r.managed.heap.vars place) (answer z (without_handle r.managed (slot r.managed.heap.vars place)))).state) (sym e) w) e)

@@ -8,7 +8,8 @@ use Rattle.joint_machine.specs.declared.names.PhaseWord.{PhaseWord}
 use Rattle.joint_machine.specs.declared.events.Op.TheVariants as op
 use Rattle.joint_machine.specs.declared.events.Reply.{Reply}
 use Rattle.joint_machine.specs.Components.{End, mirror_edges}
-use Rattle.joint_machine.specs.Control.{Doing, OpenSnap, Stand, idle, snapped, contracted, weakening, marked, restoring, restored, carried_edges, stand_after, IsCandidateHandle, MaySnap, MayContractNow, MayMirrorNow, MayWeakenNow, MayResolveNow, MayAbandonNow}
+use Rattle.joint_machine.specs.Control.{Doing, OpenSnap, Stand, idle, snapped, contracted, weakening, marked, restoring, restored, carried_edges, stand_after, IsCandidateHandle, MaySnap}
+use Rattle.joint_machine.specs.Control.{MayContractNow, MayMirrorNow, MayWeakenNow, MayResolveNow, MayAbandonNow}
 use Rattle.joint_machine.specs.Cycles.{IsSnapshot, IsAnsweredAlive, IsResolution, IsDeadContraction}
 use Rattle.joint_machine.specs.Heaps.{numbered_at, numbered_set}
 use Rattle.joint_machine.specs.Managed.{Managed, OpenCycle, Holds, with_snapshot as snapped_state, resolved as resolved_state, abandoned as abandoned_state}
@@ -36,8 +37,10 @@ pub one_cycle : (s : Managed) (c d : OpenCycle) → s.cycle ≡ Some c → s.cyc
 one_cycle s c d e f = same_Some c d (sym e ∙ f)
 
 -- the managed side's events
-pub kept-snap : (r : ManagedReplay) (s : PeerReplay) (ds : List Doing) (d : Stand) (n number : ℕ) (freed candidates dead : List ℕ) (cites : Option ℕ) → AreKept r s ds d → MaySnap d cites → IsSnapshot r.managed n freed candidates dead
-    → IsReplayKept (record r { managed = snapped_state r.managed freed candidates dead; contracted = false }) → AreKept (record r { managed = snapped_state r.managed freed candidates dead; contracted = false }) s ds (snapped record { cycle = n; snap = number })
+pub kept-snap : (r : ManagedReplay) (s : PeerReplay) (ds : List Doing) (d : Stand) (n number : ℕ) (freed candidates dead : List ℕ) (cites : Option ℕ)
+    → AreKept r s ds d → MaySnap d cites → IsSnapshot r.managed n freed candidates dead
+    → IsReplayKept (record r { managed = snapped_state r.managed freed candidates dead; contracted = false })
+    → AreKept (record r { managed = snapped_state r.managed freed candidates dead; contracted = false }) s ds (snapped record { cycle = n; snap = number })
 kept-snap r s ds idle n number freed candidates dead cites k w p m = record {
   managed = m;
   peer = k.peer;
@@ -55,7 +58,8 @@ kept-snap r s ds (restored o answers clear) n number freed candidates dead cites
 OwnersAlike-contracted : (r : ManagedReplay) → OwnersAlike r (record r { contracted = true })
 OwnersAlike-contracted r = record { on = λ m h q. q; back = λ m h q. q; registry = refl; adopted = refl; cycle = refl }
 
-pub kept-contract : (r : ManagedReplay) (s : PeerReplay) (ds : List Doing) (d : Stand) (n number : ℕ) (c : Cycle) (reply : Reply) (comps : List (List ℕ)) (heavy : List ℕ) (xrefs : List (ℕ × ℕ)) (cites : Option ℕ) → AreKept r s ds d → MayContractNow d n cites → MayContract r n comps heavy xrefs
+pub kept-contract : (r : ManagedReplay) (s : PeerReplay) (ds : List Doing) (d : Stand) (n number : ℕ) (c : Cycle) (reply : Reply) (comps : List (List ℕ))
+    (heavy : List ℕ) (xrefs : List (ℕ × ℕ)) (cites : Option ℕ) → AreKept r s ds d → MayContractNow d n cites → MayContract r n comps heavy xrefs
     → IsReplayKept (record r { contracted = true }) → AreKept (record r { contracted = true }) s ds (stand_after d number (op.Contract c) reply (contraction_of comps heavy xrefs))
 kept-contract r s ds (snapped o) n number c reply comps heavy xrefs cites k w p m =
     let t : ManagedReplay = record r { contracted = true } in
@@ -76,12 +80,15 @@ kept-contract r s ds (marked o) n number c reply comps heavy xrefs cites k w p m
 kept-contract r s ds (restoring o answers) n number c reply comps heavy xrefs cites k w p m = absurd w
 kept-contract r s ds (restored o answers clear) n number c reply comps heavy xrefs cites k w p m = absurd w
 
-pub kept-resolve : (r : ManagedReplay) (s : PeerReplay) (ds : List Doing) (d : Stand) (n : ℕ) (alive : List Answer) (freed : List ℕ) (cites : Option ℕ) → AreKept r s ds d → MayResolveNow d n cites (resolution_of alive freed) → MayResolve r n alive freed
-    → IsReplayKept (record r { managed = resolved_state r.managed alive freed; registry = without_twins r.registry freed; adopted = r.adopted ++ handles_given alive }) → AreKept (record r { managed = resolved_state r.managed alive freed; registry = without_twins r.registry freed; adopted = r.adopted ++ handles_given alive }) s ds idle
+pub kept-resolve : (r : ManagedReplay) (s : PeerReplay) (ds : List Doing) (d : Stand) (n : ℕ) (alive : List Answer) (freed : List ℕ) (cites : Option ℕ)
+    → AreKept r s ds d → MayResolveNow d n cites (resolution_of alive freed) → MayResolve r n alive freed
+    → IsReplayKept (record r { managed = resolved_state r.managed alive freed; registry = without_twins r.registry freed; adopted = r.adopted ++ handles_given alive })
+    → AreKept (record r { managed = resolved_state r.managed alive freed; registry = without_twins r.registry freed; adopted = r.adopted ++ handles_given alive }) s ds idle
 kept-resolve r s ds (restored o answers clear) n alive freed cites k w p m =
     let same_cycle : p.cycle ≡ k.driver.cycle = one_cycle r.managed p.cycle k.driver.cycle p.open_cycle.0 k.driver.opened.cycle in
     let exact : IsResolution r.managed k.driver.cycle.dead (IsAnsweredAlive k.driver.cycle.candidates answers) freed =
-    subst (λ (z : OpenCycle). IsResolution r.managed z.dead (IsAnsweredAlive z.candidates answers) freed) same_cycle (subst (λ z. IsResolution r.managed p.cycle.dead (IsAnsweredAlive p.cycle.candidates z) freed) w.2 p.resolution) in
+    subst (λ (z : OpenCycle). IsResolution r.managed z.dead (IsAnsweredAlive z.candidates answers) freed) same_cycle
+    (subst (λ z. IsResolution r.managed p.cycle.dead (IsAnsweredAlive p.cycle.candidates z) freed) w.2 p.resolution) in
     subst (λ z. AreKept (record r { managed = resolved_state r.managed z freed; registry = without_twins r.registry freed; adopted = r.adopted ++ handles_given z }) s ds idle) (sym w.2) (record {
       managed = subst (λ z. IsReplayKept (record r { managed = resolved_state r.managed z freed; registry = without_twins r.registry freed; adopted = r.adopted ++ handles_given z })) w.2 m;
       peer = k.peer;
@@ -96,7 +103,8 @@ kept-resolve r s ds (weakening o count seen sw) n alive freed cites k w p m = ab
 kept-resolve r s ds (marked o) n alive freed cites k w p m = absurd w
 kept-resolve r s ds (restoring o answers) n alive freed cites k w p m = absurd w
 
-abandon-before : (r : ManagedReplay) (s : PeerReplay) (ds : List Doing) (d : Stand) (o : OpenSnap) → hands d ds ≡ ds → AreKept r s ds d → IsBeforeMirror r s o → IsReplayKept (record r { managed = abandoned_state r.managed }) → AreKept (record r { managed = abandoned_state r.managed }) s ds idle
+abandon-before : (r : ManagedReplay) (s : PeerReplay) (ds : List Doing) (d : Stand) (o : OpenSnap) → hands d ds ≡ ds → AreKept r s ds d → IsBeforeMirror r s o
+    → IsReplayKept (record r { managed = abandoned_state r.managed }) → AreKept (record r { managed = abandoned_state r.managed }) s ds idle
 abandon-before r s ds d o none k b m = record {
   managed = m;
   peer = k.peer;
@@ -105,7 +113,8 @@ abandon-before r s ds d o none k b m = record {
   driver = driver_abandoned r s o k.owners b;
 }
 
-pub kept-abandon : (r : ManagedReplay) (s : PeerReplay) (ds : List Doing) (d : Stand) (n : ℕ) (cites : Option ℕ) → AreKept r s ds d → MayAbandonNow d n cites → IsReplayKept (record r { managed = abandoned_state r.managed }) → AreKept (record r { managed = abandoned_state r.managed }) s ds idle
+pub kept-abandon : (r : ManagedReplay) (s : PeerReplay) (ds : List Doing) (d : Stand) (n : ℕ) (cites : Option ℕ) → AreKept r s ds d → MayAbandonNow d n cites
+    → IsReplayKept (record r { managed = abandoned_state r.managed }) → AreKept (record r { managed = abandoned_state r.managed }) s ds idle
 kept-abandon r s ds (snapped o) n cites k w m = abandon-before r s ds (snapped o) o refl k k.driver m
 kept-abandon r s ds (contracted o comps heavy xrefs) n cites k w m = abandon-before r s ds (contracted o comps heavy xrefs) o refl k k.driver.before m
 kept-abandon r s ds idle n cites k w m = absurd w
@@ -114,7 +123,8 @@ kept-abandon r s ds (marked o) n cites k w m = absurd w
 kept-abandon r s ds (restoring o answers) n cites k w m = absurd w
 kept-abandon r s ds (restored o answers clear) n cites k w m = absurd w
 
-pub kept-refused : (r : ManagedReplay) (s : PeerReplay) (ds : List Doing) (d : Stand) (number : ℕ) (x : PhaseWord) (reply : Reply) (told : Told) → AreKept r s ds d → AreKept r s ds (stand_after d number (op.Refused x) reply told)
+pub kept-refused : (r : ManagedReplay) (s : PeerReplay) (ds : List Doing) (d : Stand) (number : ℕ) (x : PhaseWord) (reply : Reply) (told : Told)
+    → AreKept r s ds d → AreKept r s ds (stand_after d number (op.Refused x) reply told)
 kept-refused r s ds idle number x reply told k = k
 kept-refused r s ds (snapped o) number x reply told k = k
 kept-refused r s ds (contracted o comps heavy xrefs) number x reply told k = k
@@ -124,8 +134,10 @@ kept-refused r s ds (restoring o answers) number x reply told k = k
 kept-refused r s ds (restored o answers clear) number x reply told k = k
 
 -- a mirror's references are safe
-pub safe-mirror : (r : ManagedReplay) (s : PeerReplay) (ds : List Doing) (d : Stand) (n : ℕ) (c : Cycle) (cites : Option ℕ) (told : Told) → AreKept r s ds d → MayMirrorNow d r.managed s.peers.issued n cites told → MirrorsSafely s (op.Mirror c) told
-safe-mirror r s ds (contracted o comps heavy xrefs) n c cites (references_of refs) k w = λ p q x. carried-safe r s o comps heavy xrefs k.managed k.peer k.owners k.driver p q (subst (λ z. Refers z p q) w.2 x)
+pub safe-mirror : (r : ManagedReplay) (s : PeerReplay) (ds : List Doing) (d : Stand) (n : ℕ) (c : Cycle) (cites : Option ℕ) (told : Told)
+    → AreKept r s ds d → MayMirrorNow d r.managed s.peers.issued n cites told → MirrorsSafely s (op.Mirror c) told
+safe-mirror r s ds (contracted o comps heavy xrefs) n c cites
+    (references_of refs) k w = λ p q x. carried-safe r s o comps heavy xrefs k.managed k.peer k.owners k.driver p q (subst (λ z. Refers z p q) w.2 x)
 safe-mirror r s ds (contracted o comps heavy xrefs) n c cites _ k w = absurd w
 safe-mirror r s ds idle n c cites told k w = absurd w
 safe-mirror r s ds (snapped o) n c cites told k w = absurd w
@@ -134,7 +146,8 @@ safe-mirror r s ds (marked o) n c cites told k w = absurd w
 safe-mirror r s ds (restoring o answers) n c cites told k w = absurd w
 safe-mirror r s ds (restored o answers clear) n c cites told k w = absurd w
 
-pub kept-mirrored : (r : ManagedReplay) (s : PeerReplay) (ds : List Doing) (d : Stand) (n number : ℕ) (c : Cycle) (reply : Reply) (cites : Option ℕ) (refs : List (End × End)) → AreKept r s ds d → MayMirrorNow d r.managed s.peers.issued n cites (references_of refs)
+pub kept-mirrored : (r : ManagedReplay) (s : PeerReplay) (ds : List Doing) (d : Stand) (n number : ℕ) (c : Cycle) (reply : Reply) (cites : Option ℕ) (refs : List (End × End))
+    → AreKept r s ds d → MayMirrorNow d r.managed s.peers.issued n cites (references_of refs)
     → IsPeerKept (mirrored s n cites refs) → AreKept r (mirrored s n cites refs) ds (stand_after d number (op.Mirror c) reply (references_of refs))
 kept-mirrored r s ds (contracted o comps heavy xrefs) n number c reply cites refs k w m =
     subst (λ z. AreKept r (mirrored s n cites z) ds (weakening o 0 false false)) (sym w.2) (subst (λ z. AreKept r (mirrored s n z edges) ds (weakening o 0 false false)) (sym w.1)
@@ -165,12 +178,15 @@ kept-mirrored r s ds (restoring o answers) n number c reply cites refs k w m = a
 kept-mirrored r s ds (restored o answers clear) n number c reply cites refs k w m = absurd w
 
 -- the candidate whose turn it is
-pub turn : (r : ManagedReplay) (c : OpenCycle) (i h : ℕ) → IsReplayKept r → r.managed.cycle ≡ Some c → IsCandidateHandle r.managed i h → (m : ℕ) × (slice_get c.candidates i ≡ Some m) × Holds r.managed m h
+pub turn : (r : ManagedReplay) (c : OpenCycle) (i h : ℕ) → IsReplayKept r → r.managed.cycle ≡ Some c
+    → IsCandidateHandle r.managed i h → (m : ℕ) × (slice_get c.candidates i ≡ Some m) × Holds r.managed m h
 turn r c i h k e w = (w.0, subst (λ z. slice_get z i ≡ Some w.0) (candidates_of-open r.managed c e) w.1, holds-handle_of r.managed w.0 h k.managed.places w.2)
 
-pub kept-weaken : (r : ManagedReplay) (s : PeerReplay) (ds : List Doing) (d : Stand) (number : ℕ) (h : HNum) (reply : Reply) (told : Told) (cites : Option ℕ) → AreKept r s ds d → MayWeakenNow d r.managed h.0 cites → MayWeaken s h.0 cites
+pub kept-weaken : (r : ManagedReplay) (s : PeerReplay) (ds : List Doing) (d : Stand) (number : ℕ) (h : HNum) (reply : Reply) (told : Told) (cites : Option ℕ)
+    → AreKept r s ds d → MayWeakenNow d r.managed h.0 cites → MayWeaken s h.0 cites
     → IsPeerKept (record s { table = numbered_set s.table h.0 (Some record { strength = weak; cleared = false }); mirror = with_weakened s.mirror h.0 })
-    → AreKept r (record s { table = numbered_set s.table h.0 (Some record { strength = weak; cleared = false }); mirror = with_weakened s.mirror h.0 }) ds (stand_after d number (op.Weaken h) reply told)
+    → AreKept r (record s { table = numbered_set s.table h.0 (Some record { strength = weak; cleared = false }); mirror = with_weakened s.mirror h.0 }) ds
+    (stand_after d number (op.Weaken h) reply told)
 kept-weaken r s ds (weakening o count seen sw) number h reply told cites k w p m =
     let t : PeerReplay = record s { table = numbered_set s.table h.0 (Some record { strength = weak; cleared = false }); mirror = with_weakened s.mirror h.0 } in
     let a = HandlesAlike-only s t h.0 (Some record { strength = weak; cleared = false }) refl refl refl in
@@ -186,7 +202,8 @@ kept-weaken r s ds (weakening o count seen sw) number h reply told cites k w p m
         opened = v.opened;
         mirror = mirrored_changed (Only h.0) r s t v.cycle a k.owners refl (weakened-stands s.mirror h.0) v.mirror;
         handles = handles_weakened r s t v.cycle count c.0 h.0 k.managed k.owners v.opened.cycle c.1 c.2 a v.handles
-            (written-strength s t h.0 (record { strength = strong; cleared = false }) (record { strength = weak; cleared = false }) (slot-named (numbered_at s.table h.0) (record { strength = strong; cleared = false }) p.strong_now) refl);
+            (written-strength s t h.0 (record { strength = strong; cleared = false }) (record { strength = weak; cleared = false })
+            (slot-named (numbered_at s.table h.0) (record { strength = strong; cleared = false }) p.strong_now) refl);
       };
     }
 kept-weaken r s ds idle number h reply told cites k w p m = absurd w

@@ -45,7 +45,8 @@ abbrev pub Of : Linkage → Type 0
 Of s = AreKept s.managed s.peer s.control.doing s.control.stand
 
 abbrev pub Then : Linkage → ℕ → Made → Told → Bool → Type 0
-Then s number m told b = AreKept (managed_after s.managed m told b) (peer_after s.peer m told b) (control_after s.control m.caller number m.index m.op m.reply told).doing (control_after s.control m.caller number m.index m.op m.reply told).stand
+Then s number m told b = AreKept (managed_after s.managed m told b) (peer_after s.peer m told b)
+    (control_after s.control m.caller number m.index m.op m.reply told).doing (control_after s.control m.caller number m.index m.op m.reply told).stand
 
 abbrev pub entry : Thread → ℕ → Op → Reply → Option ℕ → Made
 entry t line o reply cites = record { caller = t; index = line; op = o; reply = reply; cites = cites }
@@ -69,10 +70,12 @@ module _ (s : Linkage) (k : Of s) (number line : ℕ) (reply : Reply) (cites : O
 
   -- a peer thread's line
   peer_line : (u : ℕ) (a : Act) → AreKept s.managed (peer_thread_line s.peer u a).state ds d
-  peer_line u a = kept-quiet (IsRawOne s.peer) s.managed s.peer (peer_thread_line s.peer u a).state ds d k (quiet-line s.peer u a k.peer) (line-event s.peer u a k.peer) (raw_apart s.managed s.peer ds d k)
+  peer_line u a = kept-quiet (IsRawOne s.peer) s.managed s.peer (peer_thread_line s.peer u a).state ds d k
+      (quiet-line s.peer u a k.peer) (line-event s.peer u a k.peer) (raw_apart s.managed s.peer ds d k)
 
   slice : (u n : ℕ) (closure : List ℕ) → AreKept s.managed (sliced s.peer s.peer.marking (P u) n closure).state ds d
-  slice u n closure = kept-quiet (λ h. ⊥) s.managed s.peer (sliced s.peer s.peer.marking (P u) n closure).state ds d k (quiet-sliced (λ h. ⊥) s.peer s.peer.marking (P u) n closure refl) (sliced-kept s.peer s.peer.marking (P u) n closure k.peer refl) (λ v h p g x y z. y)
+  slice u n closure = kept-quiet (λ h. ⊥) s.managed s.peer (sliced s.peer s.peer.marking (P u) n closure).state ds d k
+      (quiet-sliced (λ h. ⊥) s.peer s.peer.marking (P u) n closure refl) (sliced-kept s.peer s.peer.marking (P u) n closure k.peer refl) (λ v h p g x y z. y)
 
   peer_thread : (u : ℕ) (a : Act) (told : Told) → Then s number (entry (P u) line (op.Line a) reply cites) told true
   peer_thread u (act.Slice n) (slice_of closure) = slice u n closure
@@ -81,25 +84,30 @@ module _ (s : Linkage) (k : Of s) (number line : ℕ) (reply : Reply) (cites : O
 
   -- a marking begins for a peer thread
   peer_begin : (u : ℕ) (told : Told) → Then s number (entry (P u) line op.Begin reply cites) told true
-  peer_begin u told = kept-quiet (λ h. ⊥) s.managed s.peer (begun s.peer s.peer.marking (P u)).state ds d k (quiet-begun (λ h. ⊥) s.peer s.peer.marking (P u) refl) (begun-kept s.peer s.peer.marking (P u) k.peer refl) (λ v h p g x y z. y)
+  peer_begin u told = kept-quiet (λ h. ⊥) s.managed s.peer (begun s.peer s.peer.marking (P u)).state ds d k
+      (quiet-begun (λ h. ⊥) s.peer s.peer.marking (P u) refl) (begun-kept s.peer s.peer.marking (P u) k.peer refl) (λ v h p g x y z. y)
 
   peer_sweep : (u : ℕ) (told : Told) → PeerLawful s.peer (entry (P u) line op.Sweep reply cites) told → Then s number (entry (P u) line op.Sweep reply cites) told true
   peer_sweep u (sweep_of freed) w = kept-peer_sweep s.managed s.peer _ ds d u k (sweep-case s.peer s.peer.marking (P u) (sweep_of freed) refl w.allowed)
   peer_sweep u told w = kept-peer_sweep s.managed s.peer _ ds d u k (sweep-case s.peer s.peer.marking (P u) told refl w.allowed)
 
-  own_sweep : (told : Told) → PeerLawful s.peer (entry C line op.Sweep reply cites) told → Allows s (entry C line op.Sweep reply cites) told → Then s number (entry C line op.Sweep reply cites) told true
+  own_sweep : (told : Told) → PeerLawful s.peer (entry C line op.Sweep reply cites) told
+      → Allows s (entry C line op.Sweep reply cites) told → Then s number (entry C line op.Sweep reply cites) told true
   own_sweep (sweep_of freed) w a = kept-own_sweep s.managed s.peer _ ds d number reply (sweep_of freed) (sweep_of freed) cites k a w.allowed refl
   own_sweep told w a = kept-own_sweep s.managed s.peer _ ds d number reply told told cites k a w.allowed refl
 
-  pub step : (t : Thread) (o : Op) (told : Told) → IsEvent t o → SideLawful (is_peer_event t o) s (entry t line o reply cites) told → Allows s (entry t line o reply cites) told → Then s number (entry t line o reply cites) told (is_peer_event t o)
+  pub step : (t : Thread) (o : Op) (told : Told) → IsEvent t o → SideLawful (is_peer_event t o) s (entry t line o reply cites) told
+      → Allows s (entry t line o reply cites) told → Then s number (entry t line o reply cites) told (is_peer_event t o)
   step (M u) (op.Line a) told e w x =
-      kept-free (record s.managed { managed = (managed_line s.managed.managed u a).state }) s.peer ds d u (kept-managed_line s.managed s.peer ds d u a k (IsReplayKept-step s.managed (M u) (op.Line a) told k.managed w.allowed))
+      kept-free (record s.managed { managed = (managed_line s.managed.managed u a).state }) s.peer ds d u
+      (kept-managed_line s.managed s.peer ds d u a k (IsReplayKept-step s.managed (M u) (op.Line a) told k.managed w.allowed))
   step (P u) (op.Line a) told e w x = peer_thread u a told
   step C (op.Line a) told e w x = kept-managed_line s.managed s.peer ds d 0 a k (IsReplayKept-step s.managed C (op.Line a) told k.managed w.allowed)
   step (M u) (op.Make sort n) told e w x = kept-make s.managed s.peer ds d u number line k sort n reply w.replies
   step (P u) (op.Make sort n) told e w x = absurd e.0
   step C (op.Make sort n) told e w x = absurd e.0
-  step (M u) (op.Adopt v kind n p h) nothing e w x = kept-adopt s.managed s.peer ds d u number line k (place u v.0) kind n p.0 h.0 (adopt-hand (doing_in ds u) (M u) line v kind n p h cites x) w.allowed
+  step (M u) (op.Adopt v kind n p h) nothing e w x = kept-adopt s.managed s.peer ds d u number line k
+      (place u v.0) kind n p.0 h.0 (adopt-hand (doing_in ds u) (M u) line v kind n p h cites x) w.allowed
   step (M u) (op.Adopt v kind n p h) told e w x = absurd w.allowed
   step (P u) (op.Adopt v kind n p h) told e w x = absurd e.0
   step C (op.Adopt v kind n p h) told e w x = absurd e.0
@@ -120,21 +128,25 @@ module _ (s : Linkage) (k : Of s) (number line : ℕ) (reply : Reply) (cites : O
   step (P u) (op.Meet v sort n p h) told e w x = absurd e.0
   step C (op.Meet v sort n p h) told e w x = absurd e.0
   step (M u) (op.Give v) told e w x =
-      kept-give s.managed s.peer ds d u number line k v (place u v.0) reply (IsReplayKept-step s.managed (M u) (op.Give v) told k.managed w.allowed) (w.replies ∙ give_by-reply s.managed (slot s.managed.managed.heap.vars (place u v.0)) (given_up s.managed.managed (place u v.0)))
+      kept-give s.managed s.peer ds d u number line k v (place u v.0) reply (IsReplayKept-step s.managed (M u) (op.Give v) told k.managed w.allowed)
+      (w.replies ∙ give_by-reply s.managed (slot s.managed.managed.heap.vars (place u v.0)) (given_up s.managed.managed (place u v.0)))
   step (P u) (op.Give v) told e w x = absurd e.0
   step C (op.Give v) told e w x = absurd e.0
   step (M u) (op.Release h) told e w x = kept-release s.managed s.peer ds d u number line k h.0 (release-hand (doing_in ds u) line h.0 cites x)
   step (P u) (op.Release h) told e w x = absurd e
   step C (op.Release h) told e w x = absurd e
-  step C (op.Snap n) (snap_of freed candidates dead) e w x = kept-snap s.managed s.peer ds d n.0 number freed candidates dead cites k x w.allowed (IsReplayKept-step s.managed C (op.Snap n) (snap_of freed candidates dead) k.managed w.allowed)
+  step C (op.Snap n) (snap_of freed candidates dead) e w x = kept-snap s.managed s.peer ds d n.0 number freed candidates dead cites k x w.allowed
+      (IsReplayKept-step s.managed C (op.Snap n) (snap_of freed candidates dead) k.managed w.allowed)
   step C (op.Snap n) told e w x = absurd w.allowed
   step (M u) (op.Snap n) told e w x = absurd e
   step (P u) (op.Snap n) told e w x = absurd e
-  step C (op.Contract n) (contraction_of comps heavy xrefs) e w x = kept-contract s.managed s.peer ds d n.0 number n reply comps heavy xrefs cites k x w.allowed (IsReplayKept-step s.managed C (op.Contract n) (contraction_of comps heavy xrefs) k.managed w.allowed)
+  step C (op.Contract n) (contraction_of comps heavy xrefs) e w x = kept-contract s.managed s.peer ds d n.0 number n reply comps heavy xrefs cites k x w.allowed
+      (IsReplayKept-step s.managed C (op.Contract n) (contraction_of comps heavy xrefs) k.managed w.allowed)
   step C (op.Contract n) told e w x = absurd w.allowed
   step (M u) (op.Contract n) told e w x = absurd e
   step (P u) (op.Contract n) told e w x = absurd e
-  step C (op.Mirror n) (references_of refs) e w x = kept-mirrored s.managed s.peer ds d n.0 number n reply cites refs k x (IsPeerKept-step s.peer C (op.Mirror n) cites (references_of refs) k.peer w.allowed (safe-mirror s.managed s.peer ds d n.0 n cites (references_of refs) k x))
+  step C (op.Mirror n) (references_of refs) e w x = kept-mirrored s.managed s.peer ds d n.0 number n reply cites refs k x
+      (IsPeerKept-step s.peer C (op.Mirror n) cites (references_of refs) k.peer w.allowed (safe-mirror s.managed s.peer ds d n.0 n cites (references_of refs) k x))
   step C (op.Mirror n) told e w x = absurd w.allowed
   step (M u) (op.Mirror n) told e w x = absurd e
   step (P u) (op.Mirror n) told e w x = absurd e
@@ -148,14 +160,16 @@ module _ (s : Linkage) (k : Of s) (number line : ℕ) (reply : Reply) (cites : O
   step (M u) op.Sweep told e w x = absurd (elim e [ inl f ↦ f | inr f ↦ f ])
   step (P u) op.Sweep told e w x = peer_sweep u told w
   step C op.Sweep told e w x = own_sweep told w x
-  step C (op.Restore h) nothing e w x = kept-restore s.managed s.peer ds d number h reply nothing cites k x w.allowed w.replies (IsPeerKept-step s.peer C (op.Restore h) cites nothing k.peer w.allowed tt)
+  step C (op.Restore h) nothing e w x = kept-restore s.managed s.peer ds d number h reply nothing cites k x w.allowed w.replies
+      (IsPeerKept-step s.peer C (op.Restore h) cites nothing k.peer w.allowed tt)
   step C (op.Restore h) told e w x = absurd w.allowed
   step (M u) (op.Restore h) told e w x = absurd e
   step (P u) (op.Restore h) told e w x = absurd e
   step C (op.Clear n) told e w x = kept-clear s.managed s.peer ds d n.0 number n reply told cites k x (cleared-kept s.peer k.peer)
   step (M u) (op.Clear n) told e w x = absurd e
   step (P u) (op.Clear n) told e w x = absurd e
-  step C (op.Resolve n) (resolution_of alive freed) e w x = kept-resolve s.managed s.peer ds d n.0 alive freed cites k x w.allowed (IsReplayKept-step s.managed C (op.Resolve n) (resolution_of alive freed) k.managed w.allowed)
+  step C (op.Resolve n) (resolution_of alive freed) e w x = kept-resolve s.managed s.peer ds d n.0 alive freed cites k x w.allowed
+      (IsReplayKept-step s.managed C (op.Resolve n) (resolution_of alive freed) k.managed w.allowed)
   step C (op.Resolve n) told e w x = absurd w.allowed
   step (M u) (op.Resolve n) told e w x = absurd e
   step (P u) (op.Resolve n) told e w x = absurd e

@@ -36,7 +36,8 @@ no_via ds u h p g w v e = v
 
 module _ (r : ManagedReplay) (s : PeerReplay) (ds : List Doing) (d : Stand) (u number line : ℕ) (k : AreKept r s ds d) where
   make-by : (sort : Sort) (n : ℕ) (b : Bool) (reply : Reply)
-      → (let a = if b then answer says.Full s.peers else answer (says.Made record { 0 = next_number s.peers.heap } record { 0 = next_handle s.peers }) (with_handle (with_peer s.peers sort n) (next_number s.peers.heap) held strong) in
+      → (let a = if b then answer says.Full s.peers else answer (says.Made record { 0 = next_number s.peers.heap } record { 0 = next_handle s.peers })
+      (with_handle (with_peer s.peers sort n) (next_number s.peers.heap) held strong) in
       reply ≡ a.reply → AreKept r (on_table s a).state (set ds u (doing_after number line (op.Make sort n) reply)) d)
   make-by sort n true reply e =
       let t : PeerReplay = on_peers s s.peers in
@@ -57,7 +58,8 @@ module _ (r : ManagedReplay) (s : PeerReplay) (ds : List Doing) (d : Stand) (u n
         lent_ones = λ x w. absurd w;
       }))
 
-  pub kept-make : (sort : Sort) (n : ℕ) (reply : Reply) → reply ≡ (pair_made s.peers sort n).reply → AreKept r (on_table s (pair_made s.peers sort n)).state (set ds u (doing_after number line (op.Make sort n) reply)) d
+  pub kept-make : (sort : Sort) (n : ℕ) (reply : Reply) → reply ≡ (pair_made s.peers sort n).reply
+      → AreKept r (on_table s (pair_made s.peers sort n)).state (set ds u (doing_after number line (op.Make sort n) reply)) d
   kept-make sort n reply e = make-by sort n (is_full s.peers.heap.fields || handles_full s.peers) reply e
 
   -- a grip, by what the static has and whether there is room
@@ -83,14 +85,16 @@ module _ (r : ManagedReplay) (s : PeerReplay) (ds : List Doing) (d : Stand) (u n
         lent_ones = λ y w. absurd w;
       }))
 
-  grip-at : (x : StaticNo) (o : Option ℕ) (reply : Reply) → slot s.peers.heap.statics x.0 ≡ o → reply ≡ (peer_gripped s.peers o).reply → AreKept r (on_table s (peer_gripped s.peers o)).state (set ds u (doing_after number line (op.Grip x) reply)) d
+  grip-at : (x : StaticNo) (o : Option ℕ) (reply : Reply) → slot s.peers.heap.statics x.0 ≡ o → reply ≡ (peer_gripped s.peers o).reply
+      → AreKept r (on_table s (peer_gripped s.peers o)).state (set ds u (doing_after number line (op.Grip x) reply)) d
   grip-at x None reply q e =
       let t : PeerReplay = on_peers s s.peers in
       let now = kept-quiet (λ h. ⊥) r s t ds d k (quiet-grip (λ h. ⊥) s x.0 None k.peer.handles.places q) (grip-event s x.0 None k.peer q) (no_via (hands d ds)) in
       subst (λ z. AreKept r t (set ds u (doing_after number line (op.Grip x) z)) d) (sym e) (kept-free r t ds d u now)
   grip-at x (Some p) reply q e = grip-by x p _ _ (handles_full s.peers) reply q (grip-event s x.0 (Some p) k.peer q) e
 
-  pub kept-grip : (x : StaticNo) (reply : Reply) → reply ≡ (peer_gripped s.peers (slot s.peers.heap.statics x.0)).reply → AreKept r (on_table s (peer_gripped s.peers (slot s.peers.heap.statics x.0))).state (set ds u (doing_after number line (op.Grip x) reply)) d
+  pub kept-grip : (x : StaticNo) (reply : Reply) → reply ≡ (peer_gripped s.peers (slot s.peers.heap.statics x.0)).reply
+      → AreKept r (on_table s (peer_gripped s.peers (slot s.peers.heap.statics x.0))).state (set ds u (doing_after number line (op.Grip x) reply)) d
   kept-grip x reply e = grip-at x (slot s.peers.heap.statics x.0) reply refl e
 
   -- a land reads a handle that was adopted, so it leads to no peer just made
@@ -101,7 +105,9 @@ module _ (r : ManagedReplay) (s : PeerReplay) (ds : List Doing) (d : Stand) (u n
       kept-free r _ ds d u now
 
   -- a lend tells a handle that a row holds, which was adopted
-  lend-reply : (v : Var) (x : StaticNo) (o : Option ℕ) (reply : Reply) → reply ≡ elim o [ None ↦ says.Empty | Some y ↦ elim (handle_of r.managed y) [ None ↦ says.Plain | Some h ↦ says.H record { 0 = h } ] ] → AreKept r s (set ds u (doing_after number line (op.Lend v x) reply)) d
+  lend-reply : (v : Var) (x : StaticNo) (o : Option ℕ) (reply : Reply)
+      → reply ≡ elim o [ None ↦ says.Empty | Some y ↦ elim (handle_of r.managed y) [ None ↦ says.Plain | Some h ↦ says.H record { 0 = h } ] ]
+      → AreKept r s (set ds u (doing_after number line (op.Lend v x) reply)) d
   lend-reply v x None reply e = subst (λ z. AreKept r s (set ds u (doing_after number line (op.Lend v x) z)) d) (sym e) (kept-free r s ds d u k)
   lend-reply v x (Some y) reply e = by (handle_of r.managed y) refl e
     where
@@ -133,7 +139,9 @@ module _ (r : ManagedReplay) (s : PeerReplay) (ds : List Doing) (d : Stand) (u n
         managed = k.managed;
         peer = kept-gone s h k.peer;
         owners = AreOwnersKept-peer (Only h) r s t a k.owners unowned (λ g q same. emptied-untabled s t h q.0 refl (subst (λ z. IsTabled t.table z q.0) same q.1));
-        callers = subst (AreCallersKept r t) (sym (hands-set ds d u free)) (callers_same (Only h) r s t a refl (λ p i. i) (λ x l. l) (λ x p c. c) (set (hands d ds) (place_in d u) free) (AreCallersKept-free r s (hands d ds) (place_in d u) k.callers)
+        callers = subst (AreCallersKept r t) (sym (hands-set ds d u free))
+            (callers_same (Only h) r s t a refl (λ p i. i) (λ x l. l) (λ x p c. c) (set (hands d ds) (place_in d u) free) (AreCallersKept-free r s (hands d ds) (place_in d u) k.callers)
             (λ v g x same. put_down r s (hands d ds) (place_in d u) h k.callers at v (subst (λ z. HasInHand (doing_in (set (hands d ds) (place_in d u) free) v) z) same x)));
-        driver = driver_on (Only h) r s t a k.owners unowned refl refl d (λ i g e same. given-apart r s (given_at d) ds k.callers i g u e (subst (λ z. HasInHand (doing_in ds u) z) (sym same) w)) (λ o e mk f q. (mk, f, q)) (λ c answers all handles closed x y p q cx cy walk rx ry l. closed x y p q cx cy walk rx ry l) k.driver;
+        driver = driver_on (Only h) r s t a k.owners unowned refl refl d (λ i g e same. given-apart r s (given_at d) ds k.callers i g u e (subst (λ z. HasInHand (doing_in ds u) z) (sym same) w))
+            (λ o e mk f q. (mk, f, q)) (λ c answers all handles closed x y p q cx cy walk rx ry l. closed x y p q cx cy walk rx ry l) k.driver;
       }

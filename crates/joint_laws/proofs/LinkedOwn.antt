@@ -9,12 +9,14 @@ use Rattle.joint_machine.specs.declared.names.Marking.{Marking as MarkingNumber}
 use Rattle.joint_machine.specs.declared.events.Op.TheVariants as op
 use Rattle.joint_machine.specs.declared.events.Reply.{Reply}
 use Rattle.joint_machine.specs.declared.events.Reply.TheVariants as says
-use Rattle.joint_machine.specs.Control.{Doing, OpenSnap, Stand, idle, snapped, contracted, weakening, marked, restoring, restored, stand_after, answer_in, IsCandidateHandle, MayBeginNow, MaySweepNow, MayRestoreNow, MayClearNow}
+use Rattle.joint_machine.specs.Control.{Doing, OpenSnap, Stand, idle, snapped, contracted, weakening, marked, restoring, restored, stand_after, answer_in, IsCandidateHandle, MayBeginNow, MaySweepNow}
+use Rattle.joint_machine.specs.Control.{MayRestoreNow, MayClearNow}
 use Rattle.joint_machine.specs.Managed.{candidates_of, Holds}
 use Rattle.joint_machine.specs.Heaps.{Answered, answer, numbered_at}
 use Rattle.joint_machine.specs.ManagedReplay.{ManagedReplay}
 use Rattle.joint_machine.specs.Peers.{Issued, held, strong, peer_of, next_handle}
-use Rattle.joint_machine.specs.PeerReplay.{PeerReplay, TableRow, Marking, row_of, begun, swept, swept_of, restored_by, with_restored, withdrawn, given_anew, fresh_row, MayRestore, SweepAllows, IsSweep, strong_peers}
+use Rattle.joint_machine.specs.PeerReplay.{PeerReplay, TableRow, Marking, row_of, begun, swept, swept_of, restored_by, with_restored, withdrawn, given_anew, fresh_row, MayRestore, SweepAllows}
+use Rattle.joint_machine.specs.PeerReplay.{IsSweep, strong_peers}
 use Rattle.joint_machine.specs.Told.{Told, sweep_of, said_alive, said_cleared, Answer}
 use Rattle.joint_laws.specs.PeerInvariants.{IsTabled, IsIssued, IsPeerKept}
 use Rattle.joint_laws.specs.LinkedInvariants.{HasStrength, IsHeldOne, IsReplaced, IsVirgin, IsLoose, AreOwnersKept, AreCallersKept, doing_in, HasInHand, hands, IsWeakening, IsRestoring}
@@ -34,7 +36,8 @@ use Rattle.joint_laws.proofs.LinkedSweeps.{kept-swept, kept-own_swept}
 use Rattle.joint_laws.proofs.LinkedDriver.{turn}
 
 -- the own marking begins: all candidates' handles are weak
-own_begin : (r : ManagedReplay) (s : PeerReplay) (ds : List Doing) (o : OpenSnap) (count : ℕ) (seen sw : Bool) (x : Option Marking) → AreKept r s ds (weakening o count seen sw) → s.marking ≡ x → count ≡ length (candidates_of r.managed) → x ≡ None
+own_begin : (r : ManagedReplay) (s : PeerReplay) (ds : List Doing) (o : OpenSnap) (count : ℕ) (seen sw : Bool) (x : Option Marking)
+    → AreKept r s ds (weakening o count seen sw) → s.marking ≡ x → count ≡ length (candidates_of r.managed) → x ≡ None
     → IsPeerKept (begun s x C).state → AreKept r (begun s x C).state ds (marked o)
 own_begin r s ds o count seen sw (Some mk) k e w n m = absurd (none_some mk (sym n))
 own_begin r s ds o count seen sw None k e w n m =
@@ -65,7 +68,8 @@ none-open : (s : PeerReplay) (x : Option Marking) (j : MarkingNumber) → says.M
 none-open s None j e = refl
 none-open s (Some mk) j e = (let f : ⊥ = cc in absurd f)
 
-pub kept-own_begin : (r : ManagedReplay) (s : PeerReplay) (ds : List Doing) (d : Stand) (number : ℕ) (reply : Reply) (told : Told) (cites : Option ℕ) → AreKept r s ds d → MayBeginNow d (length (candidates_of r.managed)) reply cites → reply ≡ (begun s s.marking C).reply
+pub kept-own_begin : (r : ManagedReplay) (s : PeerReplay) (ds : List Doing) (d : Stand) (number : ℕ) (reply : Reply) (told : Told) (cites : Option ℕ)
+    → AreKept r s ds d → MayBeginNow d (length (candidates_of r.managed)) reply cites → reply ≡ (begun s s.marking C).reply
     → IsPeerKept (begun s s.marking C).state → AreKept r (begun s s.marking C).state ds (stand_after d number op.Begin reply told)
 kept-own_begin r s ds (weakening o count seen sw) number (says.Mark j) told cites k w e m = own_begin r s ds o count seen sw s.marking k refl w.0 (none-open s s.marking j e) m
 kept-own_begin r s ds (weakening o count seen sw) number _ told cites k w e m = absurd w
@@ -83,7 +87,8 @@ driver-case s t None told e w f = absurd w
 driver-case s t (Some mk) (sweep_of freed) e w f = (mk, freed, e, w.1, f)
 driver-case s t (Some mk) _ e w f = absurd w
 
-pub kept-own_sweep : (r : ManagedReplay) (s t : PeerReplay) (ds : List Doing) (d : Stand) (number : ℕ) (reply : Reply) (told seen_told : Told) (cites : Option ℕ) → AreKept r s ds d → MaySweepNow d (length (candidates_of r.managed)) cites → SweepAllows s s.marking C told
+pub kept-own_sweep : (r : ManagedReplay) (s t : PeerReplay) (ds : List Doing) (d : Stand) (number : ℕ) (reply : Reply) (told seen_told : Told) (cites : Option ℕ)
+    → AreKept r s ds d → MaySweepNow d (length (candidates_of r.managed)) cites → SweepAllows s s.marking C told
     → t ≡ (swept s s.marking C (swept_told told)).state → AreKept r t ds (stand_after d number op.Sweep reply seen_told)
 kept-own_sweep r s t ds (weakening o count seen sw) number reply told seen_told cites k w a f =
     let c = driver-case s t s.marking told refl a f in
@@ -99,7 +104,8 @@ kept-own_sweep r s t ds (restoring o answers) number reply told seen_told cites 
 kept-own_sweep r s t ds (restored o answers clear) number reply told seen_told cites k w a f = absurd w
 
 -- a restore, by whether the handle's peer was freed
-module _ (r : ManagedReplay) (s : PeerReplay) (ds : List Doing) (o : OpenSnap) (answers : List Answer) (h : ℕ) (k : AreKept r s ds (restoring o answers)) (w : IsCandidateHandle r.managed (length answers) h) (row : TableRow) (u : IsTabled s.table h row) where
+module _ (r : ManagedReplay) (s : PeerReplay) (ds : List Doing) (o : OpenSnap) (answers : List Answer) (h : ℕ)
+    (k : AreKept r s ds (restoring o answers)) (w : IsCandidateHandle r.managed (length answers) h) (row : TableRow) (u : IsTabled s.table h row) where
   v : IsRestoring r s o answers
   v = k.driver
 
@@ -175,8 +181,12 @@ module _ (r : ManagedReplay) (s : PeerReplay) (ds : List Doing) (o : OpenSnap) (
 
     new-strong : HasStrength (given_anew (withdrawn s h) p) next strong
     new-strong =
-        let place : next ≡ length (withdrawn s h).table + 1 = omega (arith, places) in
-        (record { strength = strong; cleared = false }, subst (λ z. IsTabled ((withdrawn s h).table ++ fresh_row new ∷ []) z (record { strength = strong; cleared = false })) (sym place) (numbered-push_new (withdrawn s h).table (fresh_row new)), refl)
+        let place : next ≡ length (withdrawn s h).table + 1 = omega (arith, places) in (
+          record { strength = strong; cleared = false },
+          subst (λ z. IsTabled ((withdrawn s h).table ++ fresh_row new ∷ []) z (record { strength = strong; cleared = false }))
+              (sym place) (numbered-push_new (withdrawn s h).table (fresh_row new)),
+          refl,
+        )
 
     on_peer : held_row.0.peer ≡ p
     on_peer = same_Some held_row.0.peer p (sym (peer_of-issued s.peers.issued h held_row.0 held_row.1) ∙ leads)
@@ -237,13 +247,16 @@ module _ (r : ManagedReplay) (s : PeerReplay) (ds : List Doing) (o : OpenSnap) (
         cycle = v.cycle;
         opened = v.opened;
         mirror = mirrored_changed (Only h) r s (given_anew (withdrawn s h) p) v.cycle alike k.owners refl (λ q. restored-stands s.mirror h (given-stands (with_restored s.mirror h) next q)) v.mirror;
-        handles = handles_restored r s (given_anew (withdrawn s h) p) v.cycle answers c.0 h k.managed k.owners v.opened.cycle c.1 c.2 alike (said_alive next) avoids v.handles (inl (next, refl, replaced));
+        handles = handles_restored r s (given_anew (withdrawn s h) p) v.cycle answers c.0 h k.managed k.owners v.opened.cycle c.1 c.2 alike
+            (said_alive next) avoids v.handles (inl (next, refl, replaced));
       };
     }
 
-restored-at : (r : ManagedReplay) (s : PeerReplay) (ds : List Doing) (o : OpenSnap) (answers : List Answer) (h : ℕ) (x : Option TableRow) (row : TableRow) (reply : Reply) → AreKept r s ds (restoring o answers) → IsCandidateHandle r.managed (length answers) h → row_of s h ≡ x → x ≡ Some row
+restored-at : (r : ManagedReplay) (s : PeerReplay) (ds : List Doing) (o : OpenSnap) (answers : List Answer) (h : ℕ) (x : Option TableRow) (row : TableRow) (reply : Reply)
+    → AreKept r s ds (restoring o answers) → IsCandidateHandle r.managed (length answers) h → row_of s h ≡ x → x ≡ Some row
     → reply ≡ (restored_by s h x).reply → IsPeerKept (restored_by s h x).state → AreKept r (restored_by s h x).state ds (restoring o (answers ++ answer_in reply ∷ []))
-restored-at r s ds o answers h x row reply k w e f g m = subst (λ z. AreKept r (restored_by s h x).state ds (restoring o (answers ++ answer_in z ∷ []))) (sym g) (restored-cases Q s h x missing cleared unissued fresh m)
+restored-at r s ds o answers h x row reply k w e f g m = subst (λ z. AreKept r (restored_by s h x).state ds (restoring o (answers ++ answer_in z ∷ [])))
+    (sym g) (restored-cases Q s h x missing cleared unissued fresh m)
   where
     Q : Answered PeerReplay → Type 0
     Q a = IsPeerKept a.state → AreKept r a.state ds (restoring o (answers ++ answer_in a.reply ∷ []))
@@ -263,7 +276,8 @@ restored-at r s ds o answers h x row reply k w e f g m = subst (λ z. AreKept r 
     fresh : (y : TableRow) (p : ℕ) → x ≡ Some y → y.cleared ≡ false → peer_of s.peers.issued h ≡ Some p → Q (renewal s h p)
     fresh y p q c l n = renewed-at r s ds o answers h k w y (tabled y q) p l n
 
-pub kept-restore : (r : ManagedReplay) (s : PeerReplay) (ds : List Doing) (d : Stand) (number : ℕ) (h : HNum) (reply : Reply) (told : Told) (cites : Option ℕ) → AreKept r s ds d → MayRestoreNow d r.managed h.0 cites → MayRestore s h.0 → reply ≡ (restored_by s h.0 (row_of s h.0)).reply
+pub kept-restore : (r : ManagedReplay) (s : PeerReplay) (ds : List Doing) (d : Stand) (number : ℕ) (h : HNum) (reply : Reply) (told : Told) (cites : Option ℕ)
+    → AreKept r s ds d → MayRestoreNow d r.managed h.0 cites → MayRestore s h.0 → reply ≡ (restored_by s h.0 (row_of s h.0)).reply
     → IsPeerKept (restored_by s h.0 (row_of s h.0)).state → AreKept r (restored_by s h.0 (row_of s h.0)).state ds (stand_after d number (op.Restore h) reply told)
 kept-restore r s ds (restoring o answers) number h reply told cites k w p e m = restored-at r s ds o answers h.0 (row_of s h.0) p.row reply k w.1 refl p.tabled e m
 kept-restore r s ds idle number h reply told cites k w p e m = absurd w
@@ -274,7 +288,8 @@ kept-restore r s ds (marked o) number h reply told cites k w p e m = absurd w
 kept-restore r s ds (restored o answers clear) number h reply told cites k w p e m = absurd w
 
 -- the references go
-pub kept-clear : (r : ManagedReplay) (s : PeerReplay) (ds : List Doing) (d : Stand) (n number : ℕ) (c : Cycle) (reply : Reply) (told : Told) (cites : Option ℕ) → AreKept r s ds d → MayClearNow d (length (candidates_of r.managed)) n cites → IsPeerKept (record s { refs = []; mirror = None })
+pub kept-clear : (r : ManagedReplay) (s : PeerReplay) (ds : List Doing) (d : Stand) (n number : ℕ) (c : Cycle) (reply : Reply) (told : Told) (cites : Option ℕ)
+    → AreKept r s ds d → MayClearNow d (length (candidates_of r.managed)) n cites → IsPeerKept (record s { refs = []; mirror = None })
     → AreKept r (record s { refs = []; mirror = None }) ds (stand_after d number (op.Clear c) reply told)
 kept-clear r s ds (restoring o answers) n number c reply told cites k w m =
     let t : PeerReplay = record s { refs = []; mirror = None } in

@@ -59,7 +59,8 @@ pub hands-set : (ds : List Doing) (d : Stand) (t : ℕ) (now : Doing) → hands 
 hands-set ds d t now = put-set (given_at d) ds t now
 
 -- a thread goes on to something else
-pub kept-doing : (r : ManagedReplay) (s : PeerReplay) (ds : List Doing) (d : Stand) (t : ℕ) (now : Doing) → AreKept r s ds d → MayHave r s (hands d ds) (place_in d t) now → AreKept r s (set ds t now) d
+pub kept-doing : (r : ManagedReplay) (s : PeerReplay) (ds : List Doing) (d : Stand) (t : ℕ) (now : Doing)
+    → AreKept r s ds d → MayHave r s (hands d ds) (place_in d t) now → AreKept r s (set ds t now) d
 kept-doing r s ds d t now k m = record {
   managed = k.managed;
   peer = k.peer;

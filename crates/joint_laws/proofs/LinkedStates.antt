@@ -34,16 +34,19 @@ use Rattle.joint_laws.proofs.LinkedDriver.{one_cycle}
 use Rattle.joint_laws.proofs.LinkedEntries.{AreKept-entry, AreKept-opening}
 use Rattle.joint_laws.proofs.Everywhere.{everywhere}
 
-pub all_kept : (noted : List Noted) → AllMayCome opening_linkage noted → (i : ℕ) → AreKept (state_at noted i).managed (state_at noted i).peer (state_at noted i).control.doing (state_at noted i).control.stand
+pub all_kept : (noted : List Noted) → AllMayCome opening_linkage noted → (i : ℕ)
+    → AreKept (state_at noted i).managed (state_at noted i).peer (state_at noted i).control.doing (state_at noted i).control.stand
 all_kept noted a i = everywhere (λ s. AreKept s.managed s.peer s.control.doing s.control.stand) AreKept-opening AreKept-entry noted a i
 
 pub linkage_is_kept : LinkageIsKept
 linkage_is_kept noted a i = let k = all_kept noted a i in record { managed = k.managed; peer = k.peer; owners = k.owners; callers = k.callers; driver = k.driver }
 
-alive-to_alive : (r : ManagedReplay) (s : PeerReplay) (ds : List Doing) (o : OpenSnap) (answers : List Answer) (clear : ℕ) (c : OpenCycle) → AreKept r s ds (restored o answers clear) → r.managed.cycle ≡ Some c
+alive-to_alive : (r : ManagedReplay) (s : PeerReplay) (ds : List Doing) (o : OpenSnap) (answers : List Answer) (clear : ℕ) (c : OpenCycle)
+    → AreKept r s ds (restored o answers clear) → r.managed.cycle ≡ Some c
     → (a b : ℕ) → IsAnsweredAlive c.candidates answers a → Contains c.candidates b → Reaches (ManagedEdge r.managed) a b → IsAnsweredAlive c.candidates answers b
 alive-to_alive r s ds o answers clear c k e a b alive cb walk =
-    subst (λ (z : OpenCycle). IsAnsweredAlive z.candidates answers b) same (go (subst (λ (z : OpenCycle). IsAnsweredAlive z.candidates answers a) (sym same) alive) (subst (λ (z : OpenCycle). Contains z.candidates b) (sym same) cb))
+    subst (λ (z : OpenCycle). IsAnsweredAlive z.candidates answers b) same
+    (go (subst (λ (z : OpenCycle). IsAnsweredAlive z.candidates answers a) (sym same) alive) (subst (λ (z : OpenCycle). Contains z.candidates b) (sym same) cb))
   where
     v : IsRestored r s o answers
     v = k.driver
@@ -75,16 +78,20 @@ alive_lead_to_alive noted may i o answers clear c e f a b alive cb walk =
     alive-to_alive s.managed s.peer s.control.doing o answers clear c at f a b alive cb walk
 
 -- an `adopt` is of a managed thread that has made the pair
-no-twin : (s : Linkage) (t : Thread) (line : ℕ) (o : Op) (reply : Reply) (cites : Option ℕ) (told : Told) (v : Var) (kind : Kind) (n : ℕ) (p : PNum) (h : HNum) → AreKept s.managed s.peer s.control.doing s.control.stand → o ≡ op.Adopt v kind n p h → IsEvent t o
+no-twin : (s : Linkage) (t : Thread) (line : ℕ) (o : Op) (reply : Reply) (cites : Option ℕ) (told : Told) (v : Var) (kind : Kind) (n : ℕ) (p : PNum) (h : HNum)
+    → AreKept s.managed s.peer s.control.doing s.control.stand → o ≡ op.Adopt v kind n p h → IsEvent t o
     → CallerAllows s.control s.managed.managed s.peer.peers.issued t line o reply cites told → registered s.managed.registry p.0 ≡ None
-no-twin s t line o reply cites told v kind n p h k e ev w = by t (subst (λ z. IsEvent t z) e ev) (subst (λ z. CallerAllows s.control s.managed.managed s.peer.peers.issued t line z reply cites told) e w)
+no-twin s t line o reply cites told v kind n p h k e ev w = by t (subst (λ z. IsEvent t z) e ev)
+    (subst (λ z. CallerAllows s.control s.managed.managed s.peer.peers.issued t line z reply cites told) e w)
   where
     none : (x : Option ℕ) → registered s.managed.registry p.0 ≡ x → ((m : ℕ) → Contains s.managed.registry (p.0, m) → ⊥) → registered s.managed.registry p.0 ≡ None
     none None q out = q
     none (Some m) q out = absurd (out m (registered-some s.managed.registry p.0 m q))
 
-    by : (t : Thread) → IsEvent t (op.Adopt v kind n p h) → CallerAllows s.control s.managed.managed s.peer.peers.issued t line (op.Adopt v kind n p h) reply cites told → registered s.managed.registry p.0 ≡ None
-    by (M u) ev w = none (registered s.managed.registry p.0) refl ((threads-callers s.managed s.peer s.control.doing s.control.stand k).virgins u h.0 p.0 (adopt-hand (doing_in s.control.doing u) (M u) line v kind n p h cites w)).pairs
+    by : (t : Thread) → IsEvent t (op.Adopt v kind n p h) → CallerAllows s.control s.managed.managed s.peer.peers.issued t line (op.Adopt v kind n p h) reply cites told
+        → registered s.managed.registry p.0 ≡ None
+    by (M u) ev w = none (registered s.managed.registry p.0) refl
+        ((threads-callers s.managed s.peer s.control.doing s.control.stand k).virgins u h.0 p.0 (adopt-hand (doing_in s.control.doing u) (M u) line v kind n p h cites w)).pairs
     by (P u) ev w = absurd ev.0
     by C ev w = absurd ev.0
 

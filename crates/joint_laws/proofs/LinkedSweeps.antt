@@ -43,7 +43,8 @@ module _ (r : ManagedReplay) (s : PeerReplay) (ds : List Doing) (d : Stand) (k :
       let lq = closed a b p q ca cb walk ra rb (was p l) in
       let at = at-Contains c.candidates b cb in
       elim (handles at.0 b rb.handle at.1 rb.holds) [
-        | inl t ↦ still q lq (λ f. spared-stays s mk freed q w (subst (IsSpared mk) (replaced-peer s rb.handle t.0 rb.row t.2 rb.is_issued ∙ rb.leads) ((k.peer.marking mk e).strong_ones t.0 t.2.strong_one.0 t.2.new t.2.strong_one.1 t.2.strong_one.2 t.2.is)) f)
+        | inl t ↦ still q lq (λ f. spared-stays s mk freed q w (subst (IsSpared mk) (replaced-peer s rb.handle t.0 rb.row t.2 rb.is_issued ∙ rb.leads)
+            ((k.peer.marking mk e).strong_ones t.0 t.2.strong_one.0 t.2.new t.2.strong_one.1 t.2.strong_one.2 t.2.is)) f)
         | inr t ↦ elim t [
           | inl g ↦ absurd (lq.kept (subst (λ z. Contains s.peers.heap.freed z) rb.leads (g.1.freed rb.row rb.is_issued)))
           | inr g ↦ absurd (omega (arith, g.0, slice_get_within c.candidates at.0 b at.1, all))
@@ -83,7 +84,8 @@ pub data SweepCase (s : PeerReplay) (t : Thread) (after : PeerReplay) : Type 0 w
   same : after ≡ s → SweepCase s t after
   ends : (mk : Marking) (freed : List ℕ) → s.marking ≡ Some mk → (t ≡ C) ⊎ (t ≡ mk.by) → IsSweep s mk freed → after ≡ (swept_of s mk freed).state → SweepCase s t after
 
-if-case : (s : PeerReplay) (t : Thread) (mk : Marking) (freed : List ℕ) (b : Bool) → s.marking ≡ Some mk → (b ≡ true → ((t ≡ C) ⊎ (t ≡ mk.by)) × IsSweep s mk freed) → SweepCase s t (if b then swept_of s mk freed else answer (says.MarkOpen record { 0 = mk.number }) s).state
+if-case : (s : PeerReplay) (t : Thread) (mk : Marking) (freed : List ℕ) (b : Bool) → s.marking ≡ Some mk → (b ≡ true → ((t ≡ C) ⊎ (t ≡ mk.by)) × IsSweep s mk freed)
+    → SweepCase s t (if b then swept_of s mk freed else answer (says.MarkOpen record { 0 = mk.number }) s).state
 if-case s t mk freed true e w = let q = w refl in ends mk freed e q.0 q.1 refl
 if-case s t mk freed false e w = same refl
 

@@ -70,13 +70,16 @@ OwnersAlike-line r u k g same = record {
   cycle = g.cycle;
 }
 
-pub kept-managed_line : (r : ManagedReplay) (s : PeerReplay) (ds : List Doing) (d : Stand) (u : ℕ) (a : Act) → AreKept r s ds d → IsReplayKept (record r { managed = (managed_line r.managed u a).state }) → AreKept (record r { managed = (managed_line r.managed u a).state }) s ds d
+pub kept-managed_line : (r : ManagedReplay) (s : PeerReplay) (ds : List Doing) (d : Stand) (u : ℕ) (a : Act) → AreKept r s ds d
+    → IsReplayKept (record r { managed = (managed_line r.managed u a).state }) → AreKept (record r { managed = (managed_line r.managed u a).state }) s ds d
 kept-managed_line r s ds d u a k m =
     let g = managed_line-goes_on r.managed u a k.managed.managed.places k.managed.managed.cells in
-    kept-alike r (record r { managed = (managed_line r.managed u a).state }) s ds d k (OwnersAlike-line r (managed_line r.managed u a).state k.managed g (managed_line-same r.managed k.managed.managed u a)) g m
+    kept-alike r (record r { managed = (managed_line r.managed u a).state }) s ds d k
+    (OwnersAlike-line r (managed_line r.managed u a).state k.managed g (managed_line-same r.managed k.managed.managed u a)) g m
 
 -- a held handle was issued: it is loose
-module _ (r : ManagedReplay) (s : PeerReplay) (ds : List Doing) (d : Stand) (k : AreKept r s ds d) (p : ℕ) (g : Peers) (e : g.issued ≡ s.peers.issued ++ record { peer = p; hold = held; strength = strong } ∷ []) where
+module _ (r : ManagedReplay) (s : PeerReplay) (ds : List Doing) (d : Stand) (k : AreKept r s ds d) (p : ℕ)
+    (g : Peers) (e : g.issued ≡ s.peers.issued ++ record { peer = p; hold = held; strength = strong } ∷ []) where
   abbrev new : Issued
   new = record { peer = p; hold = held; strength = strong }
 
@@ -93,8 +96,12 @@ module _ (r : ManagedReplay) (s : PeerReplay) (ds : List Doing) (d : Stand) (k :
   in_table =
       let row : TableRow = record { strength = strong; cleared = false } in
       let same : grown.table ≡ s.table ++ Some row ∷ [] = table-issued s g new e in
-      let places : next_handle s.peers ≡ length s.table + 1 = omega (arith, k.peer.handles.places) in
-      (row, subst (λ z. numbered_at z (next_handle s.peers) ≡ Some (Some row)) (sym same) (subst (λ z. numbered_at (s.table ++ Some row ∷ []) z ≡ Some (Some row)) (sym places) (numbered-push_new s.table (Some row))), refl)
+      let places : next_handle s.peers ≡ length s.table + 1 = omega (arith, k.peer.handles.places) in (
+        row,
+        subst (λ z. numbered_at z (next_handle s.peers) ≡ Some (Some row)) (sym same)
+            (subst (λ z. numbered_at (s.table ++ Some row ∷ []) z ≡ Some (Some row)) (sym places) (numbered-push_new s.table (Some row))),
+        refl,
+      )
 
   pub new-loose : IsLoose r grown (next_handle s.peers)
   new-loose = record {
@@ -113,7 +120,8 @@ module _ (r : ManagedReplay) (s : PeerReplay) (ds : List Doing) (d : Stand) (k :
 -- a pair was made: its peer is named nowhere yet
 module _ (r : ManagedReplay) (s : PeerReplay) (ds : List Doing) (d : Stand) (sort : Sort) (n : ℕ) (k : AreKept r s ds d) where
   abbrev paired : PeerReplay
-  paired = (on_table s (answer (says.Made record { 0 = next_number s.peers.heap } record { 0 = next_handle s.peers }) (with_handle (with_peer s.peers sort n) (next_number s.peers.heap) held strong))).state
+  paired = (on_table s (answer (says.Made record { 0 = next_number s.peers.heap } record { 0 = next_handle s.peers })
+      (with_handle (with_peer s.peers sort n) (next_number s.peers.heap) held strong))).state
 
   unmade : (i : Issued) (h : ℕ) → IsIssued s.peers.issued h i → i.peer ≡ next_number s.peers.heap → ⊥
   unmade i h e q = omega (arith, (k.peer.handles.peers h i e).1, q)

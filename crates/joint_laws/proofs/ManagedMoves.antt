@@ -12,7 +12,8 @@ use Rattle.joint_machine.specs.declared.names.Sort.{Sort}
 use Rattle.joint_machine.specs.declared.lines.Act.{Act}
 use Rattle.joint_machine.specs.declared.events.Reply.TheVariants as says
 use Rattle.joint_machine.specs.Heaps.{Heap, IsMade, IsLive, Answered, answer, slot, numbered_at, numbered_set, fields_of, is_full, next_number, with_var, with_object}
-use Rattle.joint_machine.specs.Managed.{Managed, OpenCycle, IsManagedRoot, managed_name, with_row, adopted, without_handle, given_up, twin_kind, twin_fields, twin_met, met, managed_line, notices_taken}
+use Rattle.joint_machine.specs.Managed.{Managed, OpenCycle, IsManagedRoot, managed_name, with_row, adopted, without_handle, given_up, twin_kind, twin_fields, twin_met, met, managed_line}
+use Rattle.joint_machine.specs.Managed.{notices_taken}
 use Rattle.joint_machine.proofs.Numbered.{Contains-set_cases, slot-Contains, numbered_set-length, numbered_set-same, numbered_set-other, numbered-push_cases, numbered-push_old}
 use Rattle.joint_machine.proofs.Deciding.{none_some}
 use Rattle.joint_laws.proofs.Fields.{fields-past, with_object-old, with_object-new, with_object-length}
@@ -278,16 +279,20 @@ twinned-goes_on s v m o l = record {
   fields = λ x y c. inl c;
 }
 
-twin_met-goes_on : (s : Managed) (v h : ℕ) (sort : Sort) (n : ℕ) (twin : Option ℕ) → s.cycle ≡ None → length s.held ≡ length s.heap.fields → ((m : ℕ) → twin ≡ Some m → IsLive s.heap m) → GoesOn s (twin_met s v h sort n twin).state
+twin_met-goes_on : (s : Managed) (v h : ℕ) (sort : Sort) (n : ℕ) (twin : Option ℕ) → s.cycle ≡ None
+    → length s.held ≡ length s.heap.fields → ((m : ℕ) → twin ≡ Some m → IsLive s.heap m) → GoesOn s (twin_met s v h sort n twin).state
 twin_met-goes_on s v h sort n (Some m) o e l = twinned-goes_on s v m o (l m refl)
-twin_met-goes_on s v h sort n None o e l = if_full s (GoesOn s) (is_full s.heap.fields) (says.New record { 0 = next_number s.heap }) (with_row s v (twin_kind sort) (twin_fields sort n) (Some h)) (GoesOn-stay s) (GoesOn-row s v (twin_kind sort) (twin_fields sort n) (Some h) e)
+twin_met-goes_on s v h sort n None o e l = if_full s (GoesOn s) (is_full s.heap.fields) (says.New record { 0 = next_number s.heap })
+    (with_row s v (twin_kind sort) (twin_fields sort n) (Some h)) (GoesOn-stay s) (GoesOn-row s v (twin_kind sort) (twin_fields sort n) (Some h) e)
 
 abbrev pub met_by : Managed → ℕ → ℕ → Sort → ℕ → Option ℕ → Option OpenCycle → Answered Managed
 met_by s v h sort n twin c = elim c [ None ↦ twin_met s v h sort n twin | Some c ↦ answer (says.Pending record { 0 = c.number }) s ]
 
-met_by-goes_on : (s : Managed) (v h : ℕ) (sort : Sort) (n : ℕ) (twin : Option ℕ) (c : Option OpenCycle) → s.cycle ≡ c → length s.held ≡ length s.heap.fields → ((m : ℕ) → twin ≡ Some m → IsLive s.heap m) → GoesOn s (met_by s v h sort n twin c).state
+met_by-goes_on : (s : Managed) (v h : ℕ) (sort : Sort) (n : ℕ) (twin : Option ℕ) (c : Option OpenCycle) → s.cycle ≡ c
+    → length s.held ≡ length s.heap.fields → ((m : ℕ) → twin ≡ Some m → IsLive s.heap m) → GoesOn s (met_by s v h sort n twin c).state
 met_by-goes_on s v h sort n twin None o e l = twin_met-goes_on s v h sort n twin o e l
 met_by-goes_on s v h sort n twin (Some c) o e l = GoesOn-stay s
 
-pub met-goes_on : (s : Managed) (v h : ℕ) (sort : Sort) (n : ℕ) (twin : Option ℕ) → length s.held ≡ length s.heap.fields → ((m : ℕ) → twin ≡ Some m → IsLive s.heap m) → GoesOn s (met s v h sort n twin).state
+pub met-goes_on : (s : Managed) (v h : ℕ) (sort : Sort) (n : ℕ) (twin : Option ℕ) → length s.held ≡ length s.heap.fields
+    → ((m : ℕ) → twin ≡ Some m → IsLive s.heap m) → GoesOn s (met s v h sort n twin).state
 met-goes_on s v h sort n twin e l = met_by-goes_on s v h sort n twin s.cycle refl e l

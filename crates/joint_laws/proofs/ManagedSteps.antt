@@ -76,7 +76,8 @@ managed_step s t (op.Adopt v kind n p h) told k w =
 managed_step s t (op.Lend v x) told k w = stays s
 managed_step s t (op.Meet v sort n p h) told k w =
     let a = met s.managed (place (thread_number t) v.0) h.0 sort n (registered s.registry p.0) in
-    goes s.managed a.state _ (meet_by-managed s p.0 h.0 a.state a.reply) (met-goes_on s.managed (place (thread_number t) v.0) h.0 sort n (registered s.registry p.0) k.managed.places (λ m e. twin-live s p.0 m k e))
+    goes s.managed a.state _ (meet_by-managed s p.0 h.0 a.state a.reply)
+    (met-goes_on s.managed (place (thread_number t) v.0) h.0 sort n (registered s.registry p.0) k.managed.places (λ m e. twin-live s p.0 m k e))
 managed_step s t (op.Give v) told k w =
     let u = place (thread_number t) v.0 in
     goes s.managed (given_up s.managed u).state _ (give_by-managed s (slot s.managed.heap.vars u) (given_up s.managed u)) (given_up-goes_on s.managed u)

@@ -15,7 +15,8 @@ use Rattle.joint_laws.proofs.MarkWatching.{IsMarkWatched, slot-seen}
 use Rattle.joint_laws.proofs.Sparing.{later}
 use Rattle.joint_laws.proofs.Watching.{IsWatched}
 
-module _ (s t : Linkage) (w : Stands s) (v : Stands t) (same : state_of t v ≡ state_of s w) (past : List Moment) (a : ℕ) (c : OpenCycle) (o : s.managed.managed.cycle ≡ Some c) (watched : IsWatched past a c.candidates (state_of s w)) (mk : Marking) (k : IsMarkWatched past a c s mk)
+module _ (s t : Linkage) (w : Stands s) (v : Stands t) (same : state_of t v ≡ state_of s w) (past : List Moment) (a : ℕ) (c : OpenCycle)
+    (o : s.managed.managed.cycle ≡ Some c) (watched : IsWatched past a c.candidates (state_of s w)) (mk : Marking) (k : IsMarkWatched past a c s mk)
     (brought : List ℕ) (black : ℕ) (back : (p : ℕ) → Contains brought p → Contains mk.brought p ⊎ InSlot t.peer.peers.heap p) (refs : t.peer.refs ≡ s.peer.refs) where
   objects_same : t.managed.managed ≡ s.managed.managed
   objects_same = ap (λ (z : Joint). z.graph.managed) same

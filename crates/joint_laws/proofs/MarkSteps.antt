@@ -28,7 +28,8 @@ use Rattle.joint_laws.proofs.MarkWatching.{IsMarkWatched, marked-seen, reference
 abbrev begun_now : Linkage → ℕ → Thread → Marking
 begun_now s number by = record { number = number; by = by; heap = s.peer.peers.heap; refs = s.peer.refs; strong_peers = strong_peers s.peer.peers.issued s.peer.table; brought = []; blackened = 0 }
 
-pub watch-begin : (s : Linkage) (w : Stands s) (past : List Moment) (a : ℕ) (c : OpenCycle) (o : s.managed.managed.cycle ≡ Some c) → IsWatched past a c.candidates (state_of s w) → IsMirrored s.managed s.peer c → ForCandidates s.managed.managed c (λ l h. HasStrength s.peer h weak)
+pub watch-begin : (s : Linkage) (w : Stands s) (past : List Moment) (a : ℕ) (c : OpenCycle) (o : s.managed.managed.cycle ≡ Some c)
+    → IsWatched past a c.candidates (state_of s w) → IsMirrored s.managed s.peer c → ForCandidates s.managed.managed c (λ l h. HasStrength s.peer h weak)
     → (number b : ℕ) (by : Thread) → DriverBeginsAt past b number → a < b → ((p : ℕ) → IsMadeBefore past b p → IsMade s.peer.peers.heap p) → IsMarkWatched past a c s (begun_now s number by)
 watch-begin s w past a c o watched m all number b by begins ab made = record {
   begin = b;
@@ -61,9 +62,12 @@ made-front past m b number p w q =
     record { moment = w.moment; there = w.there; made = subst (λ (z : Moment). IsMade z.before.graph.peers.heap p) same q.made }
 
 -- at a later entry
-module _ (s : Linkage) (n : Noted) (may : MayCome s n) (w : Stands s) (v : Stands (linkage_after s n)) (g : GoesOn s.managed.managed (linkage_after s n).managed.managed) (past : List Moment) (a : ℕ) (c : OpenCycle) (o : s.managed.managed.cycle ≡ Some c)
-    (watched : IsWatched past a c.candidates (state_of s w)) (m : Moment) (after : m.after ≡ state_of (linkage_after s n) v) (mk : Marking) (e0 : s.peer.marking ≡ Some mk) (k : IsMarkWatched past a c s mk)
-    (brought : List ℕ) (black : ℕ) (e1 : (linkage_after s n).peer.marking ≡ Some (later mk brought black)) (back : (p : ℕ) → Contains brought p → Contains mk.brought p ⊎ InSlot (linkage_after s n).peer.peers.heap p)
+module _ (s : Linkage) (n : Noted) (may : MayCome s n) (w : Stands s) (v : Stands (linkage_after s n))
+    (g : GoesOn s.managed.managed (linkage_after s n).managed.managed) (past : List Moment) (a : ℕ) (c : OpenCycle) (o : s.managed.managed.cycle ≡ Some c)
+    (watched : IsWatched past a c.candidates (state_of s w)) (m : Moment) (after : m.after ≡ state_of (linkage_after s n) v)
+    (mk : Marking) (e0 : s.peer.marking ≡ Some mk) (k : IsMarkWatched past a c s mk)
+    (brought : List ℕ) (black : ℕ) (e1 : (linkage_after s n).peer.marking ≡ Some (later mk brought black))
+    (back : (p : ℕ) → Contains brought p → Contains mk.brought p ⊎ InSlot (linkage_after s n).peer.peers.heap p)
     (refs : (linkage_after s n).peer.refs ≡ s.peer.refs) (mirror : IsMirrored (linkage_after s n).managed (linkage_after s n).peer c) where
   abbrev t : Linkage
   t = linkage_after s n
@@ -86,7 +90,8 @@ module _ (s : Linkage) (n : Noted) (may : MayCome s n) (w : Stands s) (v : Stand
   field-next : (p q : ℕ) → HasField mk.heap p q → IsReached (state_of t v) (peer p) → (IsSeen past a (peer p) → ⊥) → IsSeen longer a (peer q)
   field-next p q f r out =
       let made : IsMade s.peer.peers.heap p = (let l = f.live.made in (l.0, omega (arith, l.1, (w.kept.peer.marking mk e0).made))) in
-      let no_slot : InSlot s.peer.peers.heap p → ⊥ = λ i. out (last-seen past a (state_of s w) (peer p) watched.last watched.started (Reached-start (IsJointRoot (state_of s w).graph) (JointEdge (state_of s w).graph) (peer p) (inl i))) in
+      let no_slot : InSlot s.peer.peers.heap p → ⊥ = λ i. out (last-seen past a (state_of s w) (peer p) watched.last watched.started
+      (Reached-start (IsJointRoot (state_of s w).graph) (JointEdge (state_of s w).graph) (peer p) (inl i))) in
       let same : fields_of mk.heap p ≡ fields_of t.peer.peers.heap p = k.fields p f.live out ∙ sym ((heap-entry s n).frozen p made no_slot) in
       now (peer q) (Reached-then (IsJointRoot (state_of t v).graph) (JointEdge (state_of t v).graph) (peer p) (peer q) r
       (record { live = existed p f.live; field = subst (λ fs. Contains fs (Some q)) same f.field; there = existed q f.there }))
@@ -134,7 +139,8 @@ module _ (s : Linkage) (n : Noted) (may : MayCome s n) (w : Stands s) (v : Stand
     fields = λ p l out. (
         let before : IsSeen past a (peer p) → ⊥ = λ q. out (seen-more past m a (peer p) q) in
         let made : IsMade s.peer.peers.heap p = (l.made.0, omega (arith, l.made.1, (w.kept.peer.marking mk e0).made)) in
-        let no_slot : InSlot s.peer.peers.heap p → ⊥ = λ i. before (last-seen past a (state_of s w) (peer p) watched.last watched.started (Reached-start (IsJointRoot (state_of s w).graph) (JointEdge (state_of s w).graph) (peer p) (inl i))) in
+        let no_slot : InSlot s.peer.peers.heap p → ⊥ = λ i. before
+        (last-seen past a (state_of s w) (peer p) watched.last watched.started (Reached-start (IsJointRoot (state_of s w).graph) (JointEdge (state_of s w).graph) (peer p) (inl i))) in
         k.fields p l before ∙ sym ((heap-entry s n).frozen p made no_slot));
   }
 
@@ -172,10 +178,13 @@ pub record IsSweptWatch (past : List Moment) (a : ℕ) (c : OpenCycle) (s : Link
   pub sweeps : SweepsAt past sweep marking swept
   pub later_on : a < begin
   pub in_order : begin < sweep
-  pub objects : (m p : ℕ) → Contains c.candidates m → IsRowOf s.managed.managed s.peer.peers.issued m p → ((i : ℕ) (x : Moment) → a ≤ i → i ≤ sweep → slice_get past i ≡ Some x → IsReached x.after (object m) → ⊥) → Contains s.peer.peers.heap.freed p
-  pub peers : (p : ℕ) → IsMadeBefore past begin p → ((i : ℕ) (x : Moment) → a ≤ i → i ≤ sweep → slice_get past i ≡ Some x → IsMade x.after.graph.peers.heap p → IsReached x.after (peer p) → ⊥) → IsPeerFreedAt past sweep p
+  pub objects : (m p : ℕ) → Contains c.candidates m → IsRowOf s.managed.managed s.peer.peers.issued m p
+      → ((i : ℕ) (x : Moment) → a ≤ i → i ≤ sweep → slice_get past i ≡ Some x → IsReached x.after (object m) → ⊥) → Contains s.peer.peers.heap.freed p
+  pub peers : (p : ℕ) → IsMadeBefore past begin p → ((i : ℕ) (x : Moment) → a ≤ i → i ≤ sweep → slice_get past i ≡ Some x → IsMade x.after.graph.peers.heap p → IsReached x.after (peer p) → ⊥)
+      → IsPeerFreedAt past sweep p
 
-module _ (s : Linkage) (w : Stands s) (past : List Moment) (a : ℕ) (c : OpenCycle) (o : s.managed.managed.cycle ≡ Some c) (watched : IsWatched past a c.candidates (state_of s w)) (mk : Marking) (k : IsMarkWatched past a c s mk) (freed : List ℕ) (sw : IsSweep s.peer mk freed) where
+module _ (s : Linkage) (w : Stands s) (past : List Moment) (a : ℕ) (c : OpenCycle) (o : s.managed.managed.cycle ≡ Some c)
+    (watched : IsWatched past a c.candidates (state_of s w)) (mk : Marking) (k : IsMarkWatched past a c s mk) (freed : List ℕ) (sw : IsSweep s.peer mk freed) where
   -- a peer of the begin that was never seen is freed by the sweep, if it isn't yet
   unseen-freed : (p : ℕ) → IsMade s.peer.peers.heap p → IsMade mk.heap p → (IsSeen past a (peer p) → ⊥) → Contains (s.peer.peers.heap.freed ++ freed) p
   unseen-freed p made made_then out = elim (Contains-decided s.peer.peers.heap.freed p) [

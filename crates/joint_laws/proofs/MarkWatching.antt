@@ -35,7 +35,8 @@ listed-at (j ∷ issued) [] p c = absurd (Contains-nil p c)
 listed-at (j ∷ issued) (None ∷ table) p c = let w = listed-at issued table p c in (suc w.0, w.1, w.2, w.3, w.4, w.5, w.6)
 listed-at (j ∷ issued) (Some r ∷ table) p c = by r.strength refl c (λ d. listed-at issued table p d)
   where
-    by : (x : Strength) → r.strength ≡ x → Contains (if is_strong x then j.peer ∷ strong_peers issued table else strong_peers issued table) p → (Contains (strong_peers issued table) p → IsListedBy issued table p) → IsListedBy (j ∷ issued) (Some r ∷ table) p
+    by : (x : Strength) → r.strength ≡ x → Contains (if is_strong x then j.peer ∷ strong_peers issued table else strong_peers issued table) p
+        → (Contains (strong_peers issued table) p → IsListedBy issued table p) → IsListedBy (j ∷ issued) (Some r ∷ table) p
     by weak e d rest = let w = rest d in (suc w.0, w.1, w.2, w.3, w.4, w.5, w.6)
     by strong e d rest = elim (Contains-cons_cases j.peer (strong_peers issued table) p d) [
       | inl q ↦ (0, r, j, refl, e, refl, q)
@@ -73,7 +74,8 @@ module _ (s : Linkage) (w : Stands s) (past : List Moment) (a : ℕ) (c : OpenCy
   not_removed h row t = ap (λ z. numbered_at z h) w.agrees.removed ∙ removed-at s.peer.table h (Some row) t
 
   -- the peer of a strong handle was seen, while all candidates' handles are weak
-  pub strong-seen : ForCandidates s.managed.managed c (λ l h. HasStrength s.peer h weak) → (h : ℕ) (row : TableRow) (i : Issued) → IsTabled s.peer.table h row → row.strength ≡ strong → IsIssued s.peer.peers.issued h i → Seen (peer i.peer)
+  pub strong-seen : ForCandidates s.managed.managed c (λ l h. HasStrength s.peer h weak) → (h : ℕ) (row : TableRow) (i : Issued)
+      → IsTabled s.peer.table h row → row.strength ≡ strong → IsIssued s.peer.peers.issued h i → Seen (peer i.peer)
   strong-seen all h row i t st e = by i.hold refl
     where
       live : IsLive s.peer.peers.heap i.peer
@@ -87,7 +89,15 @@ module _ (s : Linkage) (w : Stands s) (past : List Moment) (a : ℕ) (c : OpenCy
 
       by : (x : Hold) → i.hold ≡ x → Seen (peer i.peer)
       by raw f = now (peer i.peer) (Reached-start (IsJointRoot j.graph) (JointEdge j.graph) (peer i.peer)
-          (inr (inl (record { handle = h; row = i; is_handle = record { issued = e; kept = not_removed h row t }; raw_hold = f; strong_made = sym (w.kept.peer.handles.raws h row i t e f) ∙ st; leads = refl }))))
+          (inr (inl (record {
+            handle = h;
+            row = i;
+            is_handle = record { issued = e; kept = not_removed h row t };
+            raw_hold = f;
+            strong_made = sym (w.kept.peer.handles.raws h row i t e f)
+                ∙ st;
+            leads = refl;
+          }))))
       by held f = λ n. now (peer i.peer) (Reached-start (IsJointRoot j.graph) (JointEdge j.graph) (peer i.peer)
           (inr (inr (record { handle = h; row = i; is_handle = record { issued = e; kept = not_removed h row t }; held_hold = f; loose = λ m q. owned m q n; leads = refl })))) n
 

@@ -277,15 +277,16 @@ module _ (noted : List Noted) (may : AllMayCome opening_linkage noted) (i k : �
         (subst (λ t. CallerAllows s.control s.managed.managed s.peer.peers.issued t n.entry.made.index n.entry.made.op n.entry.made.reply n.entry.made.cites n.told) c comes.order)
 
     begins-here : NoBegin p → n.entry.made.caller ≡ C → n.entry.made.op ≡ op.Begin → HasOneBegin noted i (suc p)
-    begins-here f c b = let number = begin-number k n.entry.number s.managed.managed s.peer.peers.issued n.entry.made.reply n.entry.made.cites (stand_of s) _ n.entry.made.reply n.entry.made.cites (allows-begin c b) in record {
-      begin = p;
-      later = later;
-      earlier = omega arith;
-      begins = record { entry = n; there = there; caller = c; event = b };
-      marking = number.0;
-      replies = number.1;
-      alone = λ x l m d. elim (cases_lt x p) [ inl q ↦ absurd (f x l q d) | inr q ↦ omega (arith, m, q) ];
-    }
+    begins-here f c b = let number = begin-number k n.entry.number s.managed.managed s.peer.peers.issued n.entry.made.reply n.entry.made.cites
+        (stand_of s) _ n.entry.made.reply n.entry.made.cites (allows-begin c b) in record {
+          begin = p;
+          later = later;
+          earlier = omega arith;
+          begins = record { entry = n; there = there; caller = c; event = b };
+          marking = number.0;
+          replies = number.1;
+          alone = λ x l m d. elim (cases_lt x p) [ inl q ↦ absurd (f x l q d) | inr q ↦ omega (arith, m, q) ];
+        }
 
     -- an entry of another thread
     aside-next : (n.entry.made.caller ≡ C → ⊥) → Since p → Since (suc p)
@@ -308,7 +309,8 @@ module _ (noted : List Noted) (may : AllMayCome opening_linkage noted) (i k : �
       own-next (before e f) = elim (begin-or n.entry.made.op) [
         | inl b ↦ behind
             (to-stand (IsBehind k) (subst (λ o. IsBehind k (stand_after (stand_of s) n.entry.number o n.entry.made.reply n.told)) (sym b)
-            (before-begin k n.entry.number s.managed.managed s.peer.peers.issued n.entry.made.reply n.entry.made.cites (stand_of s) n.told (subst (λ o. DriverAllows (stand_of s) s.managed.managed s.peer.peers.issued o n.entry.made.reply n.entry.made.cites n.told) b allows) e)))
+            (before-begin k n.entry.number s.managed.managed s.peer.peers.issued n.entry.made.reply n.entry.made.cites (stand_of s) n.told
+            (subst (λ o. DriverAllows (stand_of s) s.managed.managed s.peer.peers.issued o n.entry.made.reply n.entry.made.cites n.told) b allows) e)))
             (begins-here f c b)
         | inr nb ↦ elim (before-on k n.entry.number s.managed.managed s.peer.peers.issued n.entry.made.reply n.entry.made.cites (stand_of s) n.entry.made.op n.told nb allows e) [
           | inl q ↦ before (to-stand (IsBefore k) q) (no-more f (λ x b. nb b))
@@ -322,7 +324,8 @@ module _ (noted : List Noted) (may : AllMayCome opening_linkage noted) (i k : �
             | inr q ↦ over (to-next (λ z. k ≤ cycles_of z) (grown (let l = behind-latest s k (kept-at p) (stand_of s) (kept-at p).driver e in omega (arith, l)))) (to-stand (IsElsewhere k) q)
           ])
       own-next (over l e) = over (to-next (λ z. k ≤ cycles_of z) (grown l)) (to-stand (IsElsewhere k)
-          (elsewhere-on k n.entry.number s.managed.managed s.peer.peers.issued n.entry.made.reply n.entry.made.cites (stand_of s) n.entry.made.op n.told (λ x f g. (let r = snap-number s n x comes f in omega (arith, r, g, l))) allows e))
+          (elsewhere-on k n.entry.number s.managed.managed s.peer.peers.issued n.entry.made.reply n.entry.made.cites
+          (stand_of s) n.entry.made.op n.told (λ x f g. (let r = snap-number s n x comes f in omega (arith, r, g, l))) allows e))
 
     next-place : Since p → Since (suc p)
     next-place w = elim (driver-or n.entry.made.caller) [ inl c ↦ own-next c w | inr o ↦ aside-next o w ]
@@ -350,7 +353,8 @@ resolves-behind : (noted : List Noted) (may : AllMayCome opening_linkage noted) 
 resolves-behind noted may k e w =
     let m = comes-at noted e w.entry may w.there in
     by w.entry.entry.made.caller (subst (λ o. IsEvent w.entry.entry.made.caller o) w.event m.event)
-    (subst (λ o. CallerAllows (state_at noted e).control (state_at noted e).managed.managed (state_at noted e).peer.peers.issued w.entry.entry.made.caller w.entry.entry.made.index o w.entry.entry.made.reply w.entry.entry.made.cites w.entry.told) w.event m.order)
+    (subst (λ o. CallerAllows (state_at noted e).control (state_at noted e).managed.managed
+    (state_at noted e).peer.peers.issued w.entry.entry.made.caller w.entry.entry.made.index o w.entry.entry.made.reply w.entry.entry.made.cites w.entry.told) w.event m.order)
   where
     stands : (st : Stand) (told : Told) → MayResolveNow st k w.entry.entry.made.cites told → IsBehind k st
     stands (restored o answers clear) (resolution_of alive freed) a = a.0
@@ -363,7 +367,8 @@ resolves-behind noted may k e w =
     stands (restoring o answers) told a = absurd a
 
     by : (t : Thread) → IsEvent t (op.Resolve record { 0 = k })
-        → CallerAllows (state_at noted e).control (state_at noted e).managed.managed (state_at noted e).peer.peers.issued t w.entry.entry.made.index (op.Resolve record { 0 = k }) w.entry.entry.made.reply w.entry.entry.made.cites w.entry.told → IsBehind k (state_at noted e).control.stand
+        → CallerAllows (state_at noted e).control (state_at noted e).managed.managed (state_at noted e).peer.peers.issued t w.entry.entry.made.index
+        (op.Resolve record { 0 = k }) w.entry.entry.made.reply w.entry.entry.made.cites w.entry.told → IsBehind k (state_at noted e).control.stand
     by (M u) f a = absurd f
     by (P u) f a = absurd f
     by C f a = stands (state_at noted e).control.stand w.entry.told a
@@ -400,7 +405,8 @@ snap-first noted may i e k sn rs = elim (cases_lt i e) [ inl l ↦ l | inr l ↦
     at_snap = snap-number (state_at noted i) sn.entry k (comes-at noted i sn.entry may sn.there) sn.event
 
     grows : (more : ℕ) → Of (state_at noted (e + more)) × (k ≤ cycles_of (state_at noted (e + more)))
-    grows more = from_state (λ s. Of s × (k ≤ cycles_of s)) (λ s n m w. (AreKept-entry s n m w.0, (let g = cycles-grow s n m w.0 in let h = w.1 in omega arith))) noted may e more (kept e, omega (arith, at_resolve))
+    grows more = from_state (λ s. Of s × (k ≤ cycles_of s)) (λ s n m w. (AreKept-entry s n m w.0, (let g = cycles-grow s n m w.0 in let h = w.1 in omega arith))) noted may e more
+        (kept e, omega (arith, at_resolve))
 
     late : e ≤ i → ⊥
     late l =
@@ -426,7 +432,8 @@ own_marking_is_one noted may i e k sn rs =
 -- in the run: its places are those of the list, in order
 module _ (noted : List Noted) (run : List Moment) (r : IsRun (machine_entries noted) run) where
   from : (i : ℕ) (m : Moment) → slice_get run i ≡ Some m → Origin (λ n. is_joint n.entry.made.op) noted i m.noted
-  from i m e = origin (λ n. is_joint n.entry.made.op) noted i m.noted (subst (λ z. slice_get z i ≡ Some m.noted) r.same (slice_get-map (λ (y : Moment). y.noted) run i ∙ ap (λ o. option_map (λ (y : Moment). y.noted) o) e))
+  from i m e = origin (λ n. is_joint n.entry.made.op) noted i m.noted
+      (subst (λ z. slice_get z i ≡ Some m.noted) r.same (slice_get-map (λ (y : Moment). y.noted) run i ∙ ap (λ o. option_map (λ (y : Moment). y.noted) o) e))
 
   in-order : (i j : ℕ) (x y : Noted) (a : Origin (λ n. is_joint n.entry.made.op) noted i x) (b : Origin (λ n. is_joint n.entry.made.op) noted j y) → i < j → a.place < b.place
   in-order i j x y a b l = elim (cases_lt a.place b.place) [
@@ -443,7 +450,10 @@ run_marks_once noted run may r a e k freed candidates resolved sn rs b c i j bi 
     let oe = from noted run r e rs.moment rs.there in
     let ob = from noted run r b bi.moment bi.there in
     let oc = from noted run r c cj.moment cj.there in
-    let w = own_marking_is_one noted may oa.place oe.place k (record { entry = sn.moment.noted; there = oa.there; event = sn.event }) (record { entry = rs.moment.noted; there = oe.there; event = rs.event }) in
-    let one : ob.place ≡ w.one.begin = w.one.alone ob.place (in-order noted run r a b _ _ oa ob ab) (in-order noted run r b e _ _ ob oe be) (record { entry = bi.moment.noted; there = ob.there; caller = bi.caller; event = bi.event }) in
-    let other : oc.place ≡ w.one.begin = w.one.alone oc.place (in-order noted run r a c _ _ oa oc ac) (in-order noted run r c e _ _ oc oe ce) (record { entry = cj.moment.noted; there = oc.there; caller = cj.caller; event = cj.event }) in
+    let w = own_marking_is_one noted may oa.place oe.place k (record { entry = sn.moment.noted; there = oa.there; event = sn.event })
+    (record { entry = rs.moment.noted; there = oe.there; event = rs.event }) in
+    let one : ob.place ≡ w.one.begin = w.one.alone ob.place (in-order noted run r a b _ _ oa ob ab) (in-order noted run r b e _ _ ob oe be)
+    (record { entry = bi.moment.noted; there = ob.there; caller = bi.caller; event = bi.event }) in
+    let other : oc.place ≡ w.one.begin = w.one.alone oc.place (in-order noted run r a c _ _ oa oc ac)
+    (in-order noted run r c e _ _ oc oe ce) (record { entry = cj.moment.noted; there = oc.there; caller = cj.caller; event = cj.event }) in
     same-place noted run r b c _ _ ob oc (one ∙ sym other)

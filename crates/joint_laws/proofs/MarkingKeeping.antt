@@ -80,7 +80,8 @@ module _ (h : Heap) (issued : List Issued) (table : List (Option TableRow)) (ref
   }
 
   -- the table changes, and what its strong handles lead to is spared
-  pub IsMarkingKept-table : (more : List Issued) (rows : List (Option TableRow)) → ((n : ℕ) (row : TableRow) (i : Issued) → IsTabled rows n row → row.strength ≡ strong → IsIssued more n i → IsSpared mk i.peer) → IsMarkingKept h more rows refs mk
+  pub IsMarkingKept-table : (more : List Issued) (rows : List (Option TableRow))
+      → ((n : ℕ) (row : TableRow) (i : Issued) → IsTabled rows n row → row.strength ≡ strong → IsIssued more n i → IsSpared mk i.peer) → IsMarkingKept h more rows refs mk
   IsMarkingKept-table more rows s = record { made = k.made; existed = k.existed; fields = k.fields; references = k.references; slots = k.slots; strong_ones = s }
 
   -- the references change, and what they lead to is spared
@@ -99,7 +100,8 @@ module _ (h : Heap) (issued : List Issued) (table : List (Option TableRow)) (ref
   }
 
 -- the peer of a strong handle of the table is in the list
-strong-at : (issued : List Issued) (table : List (Option TableRow)) (k : ℕ) (row : TableRow) (i : Issued) → slice_get table k ≡ Some (Some row) → row.strength ≡ strong → slice_get issued k ≡ Some i → Contains (strong_peers issued table) i.peer
+strong-at : (issued : List Issued) (table : List (Option TableRow)) (k : ℕ) (row : TableRow) (i : Issued)
+    → slice_get table k ≡ Some (Some row) → row.strength ≡ strong → slice_get issued k ≡ Some i → Contains (strong_peers issued table) i.peer
 strong-at [] table k row i t s e = absurd (none_some i e)
 strong-at (j ∷ issued) [] k row i t s e = absurd (none_some (Some row) t)
 strong-at (j ∷ issued) (None ∷ table) zero row i t s e = (let f : ⊥ = cc in absurd f)
@@ -108,19 +110,22 @@ strong-at (j ∷ issued) (Some r ∷ table) zero row i t s e =
     let same : j ≡ i = same_Some j i e in
     let rows : r ≡ row = same_Some r row (same_Some (Some r) (Some row) t) in
     subst (λ z. Contains (strong_peers (z ∷ issued) (Some r ∷ table)) i.peer) (sym same) (
-    subst (λ z. Contains (if is_strong z then i.peer ∷ strong_peers issued table else strong_peers issued table) i.peer) (sym (ap (λ (z : TableRow). z.strength) rows ∙ s)) (Contains-here i.peer (strong_peers issued table)))
+    subst (λ z. Contains (if is_strong z then i.peer ∷ strong_peers issued table else strong_peers issued table) i.peer)
+    (sym (ap (λ (z : TableRow). z.strength) rows ∙ s)) (Contains-here i.peer (strong_peers issued table)))
 strong-at (j ∷ issued) (Some r ∷ table) (suc k) row i t s e = by r.strength (strong-at issued table k row i t s e)
   where
     by : (z : Strength) → Contains (strong_peers issued table) i.peer → Contains (if is_strong z then j.peer ∷ strong_peers issued table else strong_peers issued table) i.peer
     by strong c = Contains-there i.peer j.peer (strong_peers issued table) c
     by weak c = c
 
-pub strong-listed : (issued : List Issued) (table : List (Option TableRow)) (n : ℕ) (row : TableRow) (i : Issued) → IsTabled table n row → row.strength ≡ strong → IsIssued issued n i → Contains (strong_peers issued table) i.peer
+pub strong-listed : (issued : List Issued) (table : List (Option TableRow)) (n : ℕ) (row : TableRow) (i : Issued)
+    → IsTabled table n row → row.strength ≡ strong → IsIssued issued n i → Contains (strong_peers issued table) i.peer
 strong-listed issued table zero row i t s e = absurd (none_some i e)
 strong-listed issued table (suc k) row i t s e = strong-at issued table k row i t s e
 
 -- a marking that begins
-pub IsMarkingKept-begun : (h : Heap) (issued : List Issued) (table : List (Option TableRow)) (refs : List (End × End)) (mirror : Option Mirror) (number : ℕ) (by : Thread) → IsHeapKept h → AreReferencesKept h issued refs mirror
+pub IsMarkingKept-begun : (h : Heap) (issued : List Issued) (table : List (Option TableRow)) (refs : List (End × End)) (mirror : Option Mirror) (number : ℕ) (by : Thread)
+    → IsHeapKept h → AreReferencesKept h issued refs mirror
     → IsMarkingKept h issued table refs (record { number = number; by = by; heap = h; refs = refs; strong_peers = strong_peers issued table; brought = []; blackened = 0 })
 IsMarkingKept-begun h issued table refs mirror number by heap r = record {
   made = omega arith;

@@ -13,7 +13,8 @@ use Rattle.std.proofs.lemmas.Option.{slice_get_within, same_Some, none-some}
 use Rattle.std.proofs.lemmas.Bool.{cases_eq, cases_lt, ltb-true, lt-ltb}
 use Rattle.joint_machine.proofs.Deciding.{true-false, false-from}
 use Rattle.joint_machine.specs.Walks.{Walks, Reaches, Mutual}
-use Rattle.joint_machine.specs.Components.{IsContraction, IsPlainClass, IsHeavy, IsUnreported, IsLeast, Leads, LeadsIn, LeadsOut, IsCrossReference, IsMember, End, node, temporary, end_at, stand_at, between_nodes, circle, first_of, first_at, mirror_edges}
+use Rattle.joint_machine.specs.Components.{IsContraction, IsPlainClass, IsHeavy, IsUnreported, IsLeast, Leads, LeadsIn, LeadsOut, IsCrossReference, IsMember, End, node, temporary, end_at, stand_at}
+use Rattle.joint_machine.specs.Components.{between_nodes, circle, first_of, first_at, mirror_edges}
 use Rattle.joint_machine.proofs.WalkLemmas.{Walks-join, Reaches-self, Reaches-edge, Reaches-trans, Reaches-keeps, Mutual-self, Mutual-sym, Mutual-trans}
 use Rattle.joint_machine.specs.PeerReplay.{LeadsOver}
 use Rattle.joint_laws.specs.Mirrors.{MirrorEdge, MirrorEdgesFollowWalks, WalksFollowMirrorEdges}
@@ -53,7 +54,8 @@ pub data EndIs (comps : List (List ℕ)) (i : ℕ) : Type 0 where
   comp : i < length comps → end_at comps i ≡ node (first_at comps i) → EndIs comps i
   weight : length comps ≤ i → end_at comps i ≡ temporary (i - length comps) → EndIs comps i
 
-end-by : (b : Bool) (comps : List (List ℕ)) (i : ℕ) → (b ≡ true → (if b then node (first_at comps i) else temporary (i - length comps)) ≡ node (first_at comps i)) × (b ≡ false → (if b then node (first_at comps i) else temporary (i - length comps)) ≡ temporary (i - length comps))
+end-by : (b : Bool) (comps : List (List ℕ)) (i : ℕ) → (b ≡ true → (if b then node (first_at comps i) else temporary (i - length comps)) ≡ node (first_at comps i))
+    × (b ≡ false → (if b then node (first_at comps i) else temporary (i - length comps)) ≡ temporary (i - length comps))
 end-by true comps i = (λ e. refl, λ e. absurd (true-false true refl e))
 end-by false comps i = (λ e. absurd (true-false true refl (sym e)), λ e. refl)
 
@@ -81,7 +83,8 @@ abbrev ends_of : List (List ℕ) → ℕ × ℕ → End × End
 ends_of comps p = (end_at comps p.0, end_at comps p.1)
 
 -- the two kinds of mirror edges
-circle_edge : (comps : List (List ℕ)) (xrefs : List (ℕ × ℕ)) (i : ℕ) (members : List ℕ) → slice_get comps i ≡ Some members → (a b : ℕ) → Contains (circle members) (a, b) → RefEdge (mirror_edges comps xrefs) (node a) (node b)
+circle_edge : (comps : List (List ℕ)) (xrefs : List (ℕ × ℕ)) (i : ℕ) (members : List ℕ) → slice_get comps i ≡ Some members
+    → (a b : ℕ) → Contains (circle members) (a, b) → RefEdge (mirror_edges comps xrefs) (node a) (node b)
 circle_edge comps xrefs i members e a b c =
     Contains-append_left (map between_nodes (flat_map circle comps)) (map (ends_of comps) xrefs) (node a, node b)
     (Contains-map between_nodes (flat_map circle comps) (a, b) (Contains-flat_map circle comps members (a, b) (Contains-at comps i members e) c))
@@ -211,10 +214,26 @@ module _ (bridge : ℕ → Type 0) (edge : ℕ → ℕ → Type 0) (comps : List
   plain-mutual x y m p b bb n = p b bb (Mutual-trans edge x y b m n)
 
   leads-to : (passed : ℕ → Type 0) (b x y : ℕ) → Mutual edge x y → Leads edge passed b x → Leads edge passed b y
-  leads-to passed b x y m l = record { from = l.from; between = l.between; to = l.to; leaves = l.leaves; arrives = Mutual-trans edge y x l.to (Mutual-sym edge x y m) l.arrives; walk = l.walk; plain = l.plain }
+  leads-to passed b x y m l = record {
+    from = l.from;
+    between = l.between;
+    to = l.to;
+    leaves = l.leaves;
+    arrives = Mutual-trans edge y x l.to (Mutual-sym edge x y m) l.arrives;
+    walk = l.walk;
+    plain = l.plain;
+  }
 
   leads-of : (passed : ℕ → Type 0) (b x y : ℕ) → Mutual edge x y → Leads edge passed x b → Leads edge passed y b
-  leads-of passed b x y m l = record { from = l.from; between = l.between; to = l.to; leaves = Mutual-trans edge y x l.from (Mutual-sym edge x y m) l.leaves; arrives = l.arrives; walk = l.walk; plain = l.plain }
+  leads-of passed b x y m l = record {
+    from = l.from;
+    between = l.between;
+    to = l.to;
+    leaves = Mutual-trans edge y x l.from (Mutual-sym edge x y m) l.leaves;
+    arrives = l.arrives;
+    walk = l.walk;
+    plain = l.plain;
+  }
 
   heavy-mutual : (x y : ℕ) → Mutual edge x y → IsHeavy bridge edge x → IsHeavy bridge edge y
   heavy-mutual x y m h = record {
@@ -251,7 +270,8 @@ module _ (bridge : ℕ → Type 0) (edge : ℕ → ℕ → Type 0) (comps : List
   Count = length comps + length heavy
 
   listed-heavy : (i : ℕ) → length comps ≤ i → i < Count → Contains heavy (stand i)
-  listed-heavy i l w = subst (Contains heavy) (sym (stand-heavy comps heavy i l)) (Contains-at heavy (i - length comps) (slice_index heavy (i - length comps)) (get-index heavy (i - length comps) (omega arith)))
+  listed-heavy i l w = subst (Contains heavy) (sym (stand-heavy comps heavy i l))
+      (Contains-at heavy (i - length comps) (slice_index heavy (i - length comps)) (get-index heavy (i - length comps) (omega arith)))
 
   heavy-at : (i : ℕ) → length comps ≤ i → i < Count → IsHeavy bridge edge (stand i) × IsLeast edge (stand i)
   heavy-at i l w = (k.heavies (stand i)).0 (listed-heavy i l w)
@@ -340,7 +360,12 @@ module _ (bridge : ℕ → Type 0) (edge : ℕ → ℕ → Type 0) (comps : List
 
   -- one edge further, from a node of what is reported or past an unreported class
   from_own : (a x y : ℕ) → Stands a x → edge x y → Came a y
-  from_own a x y s e = record { index = s.index; within = s.within; path = s.path; out = inr (record { from = x; between = []; leaves = s.here; walk = (e, refl); plain = All-nil (IsUnreported bridge edge) }) }
+  from_own a x y s e = record {
+    index = s.index;
+    within = s.within;
+    path = s.path;
+    out = inr (record { from = x; between = []; leaves = s.here; walk = (e, refl); plain = All-nil (IsUnreported bridge edge) });
+  }
 
   past_plain : (a x y : ℕ) → Came a x → IsUnreported bridge edge x → edge x y → Came a y
   past_plain a x y c p e = elim c.out [
@@ -383,7 +408,8 @@ module _ (bridge : ℕ → Type 0) (edge : ℕ → ℕ → Type 0) (comps : List
           let listed = at-Contains heavy w.0 ((k.heavies w.0).1 (w.1, w.2)) in
           let j : ℕ = length comps + listed.0 in
           let wj : j < Count = (let inside = slice_get_within heavy listed.0 w.0 listed.1 in omega (arith, inside)) in
-          let is : stand j ≡ w.0 = stand-heavy comps heavy j (omega arith) ∙ ap (slice_index heavy) (omega arith) ∙ same_Some _ _ (sym (get-index heavy listed.0 (slice_get_within heavy listed.0 w.0 listed.1)) ∙ listed.1) in
+          let is : stand j ≡ w.0 = stand-heavy comps heavy j (omega arith) ∙ ap (slice_index heavy) (omega arith)
+          ∙ same_Some _ _ (sym (get-index heavy listed.0 (slice_get_within heavy listed.0 w.0 listed.1)) ∙ listed.1) in
           n (from_own a x y (arrived a x j c wj (subst (λ z. Mutual edge z x) (sym is) w.3)) e))
 
       step : (x y : ℕ) → edge x y → ((Came a x → ⊥) → ⊥) → (Came a y → ⊥) → ⊥
@@ -393,7 +419,8 @@ module _ (bridge : ℕ → Type 0) (edge : ℕ → ℕ → Type 0) (comps : List
   to_itself : (a b : ℕ) → bridge b → Stands a b → Reaches E (node a) (node b)
   to_itself a b bb s =
       let o = own b bb in
-      let e : s.index ≡ o.0 = reported-apart s.index o.0 s.within (omega (arith, o.1)) (Mutual-trans edge (stand s.index) b (stand o.0) s.here (Mutual-sym edge (stand o.0) b (own-stands b o.0 o.1 o.2))) in
+      let e : s.index ≡ o.0 = reported-apart s.index o.0 s.within
+      (omega (arith, o.1)) (Mutual-trans edge (stand s.index) b (stand o.0) s.here (Mutual-sym edge (stand o.0) b (own-stands b o.0 o.1 o.2))) in
       let at : Reaches E (node a) (end_at comps o.0) = subst (λ z. Reaches E (node a) (end_at comps z)) e s.path in
       let first : Reaches E (node a) (node (first_at comps o.0)) = subst (λ z. Reaches E (node a) z) (comp-end comps o.0 o.1) at in
       Reaches-trans E (node a) (node (first_at comps o.0)) (node b) first (component-walks comps xrefs o.0 (first_at comps o.0) b (first_at-member comps o.0 b o.2) o.2)

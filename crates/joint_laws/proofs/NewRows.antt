@@ -15,7 +15,8 @@ use Rattle.joint_machine.specs.declared.events.Made.{Made}
 use Rattle.joint_machine.specs.Heaps.{IsMade, answer, slot, place, is_full, next_number, numbered_at, with_var}
 use Rattle.joint_machine.specs.Lines.{IsEvent, is_peer_event}
 use Rattle.joint_machine.specs.Linked.{Linkage, MayCome, SideLawful, linkage_after, managed_after}
-use Rattle.joint_machine.specs.Managed.{Managed, OpenCycle, Holds, IsManagedRoot, managed_name, with_row, adopted, twin_met, twin_kind, twin_fields, met, given_up, without_handle, managed_line, with_snapshot, resolved, abandoned, candidates_of}
+use Rattle.joint_machine.specs.Managed.{Managed, OpenCycle, Holds, IsManagedRoot, managed_name, with_row, adopted, twin_met, twin_kind, twin_fields, met, given_up, without_handle, managed_line}
+use Rattle.joint_machine.specs.Managed.{with_snapshot, resolved, abandoned, candidates_of}
 use Rattle.joint_machine.specs.ManagedReplay.{ManagedReplay, registered, managed_answer, ManagedAllows}
 use Rattle.joint_machine.specs.Run.{thread_number}
 use Rattle.joint_machine.specs.Told.{Told, Noted, nothing, snap_of, contraction_of, resolution_of, phase_of}
@@ -83,13 +84,15 @@ named-answer : (r : ManagedReplay) (k : IsReplayKept r) (t : Thread) (o : Op) (t
 named-answer r k t (op.Line a) told e w = named-line r.managed k.managed (thread_number t) a
 named-answer r k (M u) (op.Adopt v kind n p h) told e w =
     let a = adopted r.managed (place u v.0) kind n h.0 in
-    named-as r.managed a.state _ (adopt_by-managed r p.0 h.0 a.state a.reply) (named-room r.managed k.managed (is_full r.managed.heap.fields) (managed_name (next_number r.managed.heap)) (place u v.0) kind n (Some h.0) (place-bound u v.0 e.0.1 e.1))
+    named-as r.managed a.state _ (adopt_by-managed r p.0 h.0 a.state a.reply)
+    (named-room r.managed k.managed (is_full r.managed.heap.fields) (managed_name (next_number r.managed.heap)) (place u v.0) kind n (Some h.0) (place-bound u v.0 e.0.1 e.1))
 named-answer r k (P u) (op.Adopt v kind n p h) told e w = absurd e.0
 named-answer r k C (op.Adopt v kind n p h) told e w = absurd e.0
 named-answer r k t (op.Lend v x) told e w = named-same r.managed k.managed r.managed refl
 named-answer r k (M u) (op.Meet v sort n p h) told e w =
     let a = met r.managed (place u v.0) h.0 sort n (registered r.registry p.0) in
-    named-as r.managed a.state _ (meet_by-managed r p.0 h.0 a.state a.reply) (named-met r.managed k.managed (place u v.0) h.0 sort n (registered r.registry p.0) r.managed.cycle (place-bound u v.0 e.0.1 e.1))
+    named-as r.managed a.state _ (meet_by-managed r p.0 h.0 a.state a.reply)
+    (named-met r.managed k.managed (place u v.0) h.0 sort n (registered r.registry p.0) r.managed.cycle (place-bound u v.0 e.0.1 e.1))
 named-answer r k (P u) (op.Meet v sort n p h) told e w = absurd e.0
 named-answer r k C (op.Meet v sort n p h) told e w = absurd e.0
 named-answer r k t (op.Give v) told e w =
@@ -102,9 +105,11 @@ named-answer r k t (op.Abandon n) nothing e w = named-same r.managed k.managed (
 named-answer r k t (op.Refused y) (phase_of phase) e w = named-same r.managed k.managed r.managed refl
 named-answer r k t _ _ e w = absurd w
 
-named-by : (s : Linkage) (m : Made) (told : Told) (b : Bool) → IsReplayKept s.managed → IsEvent m.caller m.op → SideLawful b s m told → NewNamed s.managed.managed (managed_after s.managed m told b).managed
+named-by : (s : Linkage) (m : Made) (told : Told) (b : Bool) → IsReplayKept s.managed → IsEvent m.caller m.op
+    → SideLawful b s m told → NewNamed s.managed.managed (managed_after s.managed m told b).managed
 named-by s m told true k e w = named-same s.managed.managed k.managed s.managed.managed refl
 named-by s m told false k e w = named-answer s.managed k m.caller m.op told e w.allowed
 
-pub new-named : (s : Linkage) (n : Noted) → MayCome s n → IsReplayKept s.managed → (x h : ℕ) → (IsMade s.managed.managed.heap x → ⊥) → Holds (linkage_after s n).managed.managed x h → IsManagedRoot (linkage_after s n).managed.managed x
+pub new-named : (s : Linkage) (n : Noted) → MayCome s n → IsReplayKept s.managed → (x h : ℕ) → (IsMade s.managed.managed.heap x → ⊥)
+    → Holds (linkage_after s n).managed.managed x h → IsManagedRoot (linkage_after s n).managed.managed x
 new-named s n may k x h new q = named-by s n.entry.made n.told (is_peer_event n.entry.made.caller n.entry.made.op) k may.event may.lawful x h new q.held

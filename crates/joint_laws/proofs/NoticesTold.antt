@@ -1,7 +1,8 @@
 -- Notices are only put behind those that wait, by resolutions, and only taken from the front, so at most as many are
 -- taken as were queued. So those that an entry takes stand in the list of all that were ever queued where its span
 -- says; and that list is the history's own as far as notices were taken.
-use Rattle.std.proofs.Common.{◌≡◌, ℕ, zero, suc, ◌+◌, ◌-◌, ◌≤◌, Bool, true, false, ◌||◌, min, List, [], ◌∷◌, ◌++◌, length, take, drop, Option, Some, None, refl, sym, ap, subst, ◌∙◌, arith, length-append, length-take, length-drop}
+use Rattle.std.proofs.Common.{◌≡◌, ℕ, zero, suc, ◌+◌, ◌-◌, ◌≤◌, Bool, true, false, ◌||◌, min, List, [], ◌∷◌, ◌++◌, length, take, drop, Option, Some, None, refl, sym, ap, subst, ◌∙◌, arith}
+use Rattle.std.proofs.Common.{length-append, length-take, length-drop}
 use Rattle.std.specs.Prelude.{slice_get, slice_set, filter}
 use Rattle.std.proofs.lemmas.List.{take_all, take-append-le, drop-append-le, drop-take}
 use Rattle.std.proofs.lemmas.Option.{slice_get_within}
@@ -58,7 +59,8 @@ module _ (s : Managed) where
 
   target-keeps : (t : ℕ) (o : Option ℕ) → Keeps (target_read s t o)
   target-keeps t None = same s
-  target-keeps t (Some x) = test-cases Keeps (is_freed s.heap x) (answer says.Gone s) (answer (managed_name x) (record s { pins = slice_set s.pins t (Some x) })) (same s) (record { notices = refl; taken = refl })
+  target-keeps t (Some x) = test-cases Keeps (is_freed s.heap x) (answer says.Gone s)
+      (answer (managed_name x) (record s { pins = slice_set s.pins t (Some x) })) (same s) (record { notices = refl; taken = refl })
 
   open-keeps : (t k : ℕ) (o : Option OpenCycle) → Keeps (cell_read s t k o)
   open-keeps t k None = target-keeps t (slot s.cells k)
@@ -201,13 +203,15 @@ module _ (s : Linkage) (line : ℕ) (reply : Reply) (cites : Option ℕ) (sp : S
 
   swept-other : (x : Option Marking) (t : Thread) (freed : List ℕ) → NotTook (swept s.peer x t freed).reply
   swept-other None t freed = tt
-  swept-other (Some mk) t freed = test-cases (λ (a : Answered PeerReplay). NotTook a.reply) (is_thread t C || is_thread t mk.by) (swept_of s.peer mk freed) (answer (says.MarkOpen record { 0 = mk.number }) s.peer) tt tt
+  swept-other (Some mk) t freed = test-cases (λ (a : Answered PeerReplay). NotTook a.reply) (is_thread t C || is_thread t mk.by)
+      (swept_of s.peer mk freed) (answer (says.MarkOpen record { 0 = mk.number }) s.peer) tt tt
 
   sweep-other : (t : Thread) (told : Told) → NotTook (peer_answer s.peer t op.Sweep cites told).reply
   sweep-other t (sweep_of freed) = swept-other s.peer.marking t freed
   sweep-other t _ = swept-other s.peer.marking t []
 
-  takes : (t : Thread) (o : Op) (told : Told) → IsEvent t o → SideLawful (is_peer_event t o) s (entry t line o reply cites) told → Takes s.managed.managed (managed_after s.managed (entry t line o reply cites) told (is_peer_event t o)).managed sp
+  takes : (t : Thread) (o : Op) (told : Told) → IsEvent t o → SideLawful (is_peer_event t o) s (entry t line o reply cites) told
+      → Takes s.managed.managed (managed_after s.managed (entry t line o reply cites) told (is_peer_event t o)).managed sp
   takes C (op.Line (act.Finalise n)) nothing e w = (
       let same_span : sp ≡ record { first = s.managed.managed.taken; count = min n (length s.managed.managed.notices - s.managed.managed.taken) } = took-span sp _ (sym took ∙ w.replies) in
       let f = ap (λ (z : Span). z.first) same_span in
@@ -236,19 +240,23 @@ stretch-take xs n s l =
     ∙ (ap (λ z. take s.count z) (drop-take s.first (n - s.first) xs) ∙ take-less s.count (n - s.first) (drop s.first xs) (omega (arith, l)))
 
 -- in a place of a lawful list, for a list that is the queued notices as far as they were taken at the end
-pub notices-named : (noted : List Noted) → AllMayCome opening_linkage noted → (list : List ℕ) → take (replayed opening_linkage noted).managed.managed.taken list ≡ take (replayed opening_linkage noted).managed.managed.taken (replayed opening_linkage noted).managed.managed.notices
+pub notices-named : (noted : List Noted) → AllMayCome opening_linkage noted → (list : List ℕ)
+    → take (replayed opening_linkage noted).managed.managed.taken list ≡ take (replayed opening_linkage noted).managed.managed.taken (replayed opening_linkage noted).managed.managed.notices
     → (i : ℕ) (n : Noted) (s : Span) → slice_get noted i ≡ Some n → n.entry.made.reply ≡ says.Took s → TakesNamed list (state_at noted i).managed.managed s
 notices-named noted may list alike i n s there took =
     let st = state_at noted i in
     let comes = comes-at noted i n may there in
-    let w : Takes st.managed.managed (linkage_after st n).managed.managed s = takes st n.entry.made.index n.entry.made.reply n.entry.made.cites s took n.entry.made.caller n.entry.made.op n.told comes.event comes.lawful in
+    let w : Takes st.managed.managed (linkage_after st n).managed.managed s = takes st n.entry.made.index
+    n.entry.made.reply n.entry.made.cites s took n.entry.made.caller n.entry.made.op n.told comes.event comes.lawful in
     let queued = w.queued (taken-within noted may i) in
     let l = slice_get_within noted i n there in
     let more = length noted - suc i in
     let same_end : suc i + more ≡ length noted = omega (arith, l) in
-    let end : state_at noted (suc i + more) ≡ replayed opening_linkage noted = ap (λ k. state_at noted k) same_end ∙ ap (λ ns. replayed opening_linkage ns) (take_all (length noted) noted (omega arith)) in
+    let end : state_at noted (suc i + more) ≡ replayed opening_linkage noted = ap (λ k. state_at noted k) same_end
+    ∙ ap (λ ns. replayed opening_linkage ns) (take_all (length noted) noted (omega arith)) in
     let since : NoticesSince (linkage_after st n).managed.managed (replayed opening_linkage noted).managed.managed =
-    subst (λ (z : Linkage). NoticesSince (linkage_after st n).managed.managed z.managed.managed) end (subst (λ (z : Linkage). NoticesSince z.managed.managed (state_at noted (suc i + more)).managed.managed) (after-at noted i n there) (notices-since noted may (suc i) more)) in
+    subst (λ (z : Linkage). NoticesSince (linkage_after st n).managed.managed z.managed.managed) end
+    (subst (λ (z : Linkage). NoticesSince z.managed.managed (state_at noted (suc i + more)).managed.managed) (after-at noted i n there) (notices-since noted may (suc i) more)) in
     let grown = grows-then _ _ _ (notices-go st n).grows since.grows in
     let T = (replayed opening_linkage noted).managed.managed.taken in
     let below : s.first + s.count ≤ T = (let a = w.after in let b = since.taken in omega (arith, a, b)) in
@@ -258,7 +266,8 @@ notices-named noted may list alike i n s there took =
       first = w.first;
       queued = queued;
       stands = record {
-        within = (let a = ap length alike in let b = length-take T list in let c = length-take T (replayed opening_linkage noted).managed.managed.notices in let d = ap length grown.1 in let e = length-append st.managed.managed.notices grown.0 in omega (arith, a, b, c, d, e, below, queued));
+        within = (let a = ap length alike in let b = length-take T list in let c = length-take T (replayed opening_linkage noted).managed.managed.notices in
+            let d = ap length grown.1 in let e = length-append st.managed.managed.notices grown.0 in omega (arith, a, b, c, d, e, below, queued));
         named = sym there_at;
       };
     }

@@ -71,7 +71,8 @@ module _ (r u : ManagedReplay) (s : PeerReplay) (a : OwnersAlike r u) where
   }
 
 -- a new row takes a loose handle on a peer without a pair
-module _ (r : ManagedReplay) (s : PeerReplay) (v : ℕ) (kind : Kind) (n p h : ℕ) (k : IsReplayKept r) (virgin : Contains r.adopted h → ⊥) (loose : IsLoose r s h) (i : Issued) (q : IsIssued s.peers.issued h i) (on_peer : i.peer ≡ p) where
+module _ (r : ManagedReplay) (s : PeerReplay) (v : ℕ) (kind : Kind) (n p h : ℕ) (k : IsReplayKept r)
+    (virgin : Contains r.adopted h → ⊥) (loose : IsLoose r s h) (i : Issued) (q : IsIssued s.peers.issued h i) (on_peer : i.peer ≡ p) where
   abbrev taken : ManagedReplay
   taken = record r { managed = after r v kind n p h k virgin; registry = pushed r v kind n p h k virgin; adopted = r.adopted ++ h ∷ [] }
 
@@ -86,7 +87,8 @@ module _ (r : ManagedReplay) (s : PeerReplay) (v : ℕ) (kind : Kind) (n p h : �
 
   registered_taken : AreOwnersKept r s → (m x : ℕ) → IsRowOf taken.managed s.peers.issued m x → Contains taken.registry (x, m)
   registered_taken o m x w = elim (held-cases r v kind n p h k virgin m w.handle w.holds) [
-    | inl old ↦ Contains-append_left r.registry ((p, newest r v kind n p h k virgin) ∷ []) (x, m) (o.registered m x (record { handle = w.handle; holds = old; row = w.row; is_issued = w.is_issued; leads = w.leads }))
+    | inl old ↦ Contains-append_left r.registry ((p, newest r v kind n p h k virgin) ∷ []) (x, m)
+        (o.registered m x (record { handle = w.handle; holds = old; row = w.row; is_issued = w.is_issued; leads = w.leads }))
     | inr new ↦ (
         let same : i ≡ w.row = same_Some i w.row (sym q ∙ (ap (λ z. numbered_at s.peers.issued z) new.1 ∙ w.is_issued)) in
         let peers : p ≡ x = sym on_peer ∙ (ap (λ (z : Issued). z.peer) same ∙ w.leads) in
@@ -178,7 +180,13 @@ module _ (r : ManagedReplay) (s : PeerReplay) (v m : ℕ) (k : IsReplayKept r) (
     pairs = λ p x c. (
         let u = without_twins-parts r.registry (m ∷ []) p x c in
         let w = o.pairs p x u.0 in
-        record { handle = w.handle; holds = still x w.handle (λ same. u.1 (subst (λ z. Contains (m ∷ []) z) (sym same) (Contains-here m []))) w.holds; row = w.row; is_issued = w.is_issued; leads = w.leads });
+        record {
+          handle = w.handle;
+          holds = still x w.handle (λ same. u.1 (subst (λ z. Contains (m ∷ []) z) (sym same) (Contains-here m []))) w.holds;
+          row = w.row;
+          is_issued = w.is_issued;
+          leads = w.leads;
+        });
     adopted = o.adopted;
   }
 

@@ -46,14 +46,18 @@ with_twin-after : (r : ManagedReplay) (q p x m : ℕ) (o : Option ℕ) → Conta
 with_twin-after r q p x m (Some y) c = c
 with_twin-after r q p x m None c = Contains-append_left r.registry ((q, m) ∷ []) (p, x) c
 
-adopt-pairs : (r : ManagedReplay) (p h : ℕ) (after : Managed) (b : Bool) → PairsMove r (adopt_by r p h (if b then answer says.Full r.managed else answer (managed_name (next_number r.managed.heap)) after).state (if b then answer says.Full r.managed else answer (managed_name (next_number r.managed.heap)) after).reply).state
+adopt-pairs : (r : ManagedReplay) (p h : ℕ) (after : Managed) (b : Bool)
+    → PairsMove r (adopt_by r p h (if b then answer says.Full r.managed else answer (managed_name (next_number r.managed.heap)) after).state
+    (if b then answer says.Full r.managed else answer (managed_name (next_number r.managed.heap)) after).reply).state
 adopt-pairs r p h after true = pairs-stay r _ refl
 adopt-pairs r p h after false = record {
   before = λ q x m c. with_twin-before r p q x (registered r.registry p) m c;
   after = λ q x c n f. with_twin-after r p q x (next_number r.managed.heap) (registered r.registry p) c;
 }
 
-room-pairs : (r : ManagedReplay) (p h : ℕ) (after : Managed) (b : Bool) → PairsMove r (meet_by r p h (if b then answer says.Full r.managed else answer (says.New record { 0 = next_number r.managed.heap }) after).state (if b then answer says.Full r.managed else answer (says.New record { 0 = next_number r.managed.heap }) after).reply).state
+room-pairs : (r : ManagedReplay) (p h : ℕ) (after : Managed) (b : Bool)
+    → PairsMove r (meet_by r p h (if b then answer says.Full r.managed else answer (says.New record { 0 = next_number r.managed.heap }) after).state
+    (if b then answer says.Full r.managed else answer (says.New record { 0 = next_number r.managed.heap }) after).reply).state
 room-pairs r p h after true = pairs-stay r _ refl
 room-pairs r p h after false = record {
   before = λ q x m c. with_twin-before r p q x (registered r.registry p) m c;
@@ -64,11 +68,13 @@ twin-pairs : (r : ManagedReplay) (p v h : ℕ) (sort : Sort) (n : ℕ) (o : Opti
 twin-pairs r p v h sort n (Some m) = pairs-stay r _ refl
 twin-pairs r p v h sort n None = room-pairs r p h (with_row r.managed v (twin_kind sort) (twin_fields sort n) (Some h)) (is_full r.managed.heap.fields)
 
-meet-pairs : (r : ManagedReplay) (p v h : ℕ) (sort : Sort) (n : ℕ) (o : Option ℕ) (c : Option OpenCycle) → PairsMove r (meet_by r p h (met_by r.managed v h sort n o c).state (met_by r.managed v h sort n o c).reply).state
+meet-pairs : (r : ManagedReplay) (p v h : ℕ) (sort : Sort) (n : ℕ) (o : Option ℕ) (c : Option OpenCycle)
+    → PairsMove r (meet_by r p h (met_by r.managed v h sort n o c).state (met_by r.managed v h sort n o c).reply).state
 meet-pairs r p v h sort n o None = twin-pairs r p v h sort n o
 meet-pairs r p v h sort n o (Some c) = pairs-stay r _ refl
 
-without-pairs : (r u : ManagedReplay) (ms : List ℕ) → u.registry ≡ without_twins r.registry ms → ((x : ℕ) → Contains ms x → (IsManagedRoot r.managed x → ⊥) → (Contains u.managed.heap.freed x → ⊥) → ⊥) → PairsMove r u
+without-pairs : (r u : ManagedReplay) (ms : List ℕ) → u.registry ≡ without_twins r.registry ms
+    → ((x : ℕ) → Contains ms x → (IsManagedRoot r.managed x → ⊥) → (Contains u.managed.heap.freed x → ⊥) → ⊥) → PairsMove r u
 without-pairs r u ms e out = record {
   before = λ p x m c. (without_twins-parts r.registry ms p x (subst (λ z. Contains z (p, x)) e c)).0;
   after = λ p x c n f. subst (λ z. Contains z (p, x)) (sym e) (without_twins-keeps r.registry ms p x c (λ d. out x d n f));

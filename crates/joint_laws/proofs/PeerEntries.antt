@@ -14,7 +14,8 @@ use Rattle.joint_machine.specs.declared.events.Op.TheVariants as op
 use Rattle.joint_machine.specs.declared.events.Reply.TheVariants as says
 use Rattle.joint_machine.specs.Heaps.{IsLive, answer, slot, is_full, fields_of, numbered_at, numbered_set, with_freed}
 use Rattle.joint_machine.specs.Peers.{Issued, held, strong, weak, peer_of, next_handle, with_renewed, handles_full}
-use Rattle.joint_machine.specs.PeerReplay.{PeerReplay, TableRow, Marking, row_of, table_target, is_thread, sliced, begun, swept_of, swept, restored_by, mirrored, peer_answer, IsSweep, SweepAllows, PeerAllows, brought_to, withdrawn, given_anew, fresh_row, with_restored, with_given, with_weakened, Refers}
+use Rattle.joint_machine.specs.PeerReplay.{PeerReplay, TableRow, Marking, row_of, table_target, is_thread, sliced, begun, swept_of, swept, restored_by, mirrored, peer_answer, IsSweep, SweepAllows}
+use Rattle.joint_machine.specs.PeerReplay.{PeerAllows, brought_to, withdrawn, given_anew, fresh_row, with_restored, with_given, with_weakened, Refers}
 use Rattle.joint_machine.specs.Run.{thread_number}
 use Rattle.joint_machine.specs.Told.{Told, nothing, references_of, slice_of, sweep_of}
 use Rattle.joint_laws.specs.PeerInvariants.{IsTabled, IsIssued, IsMarkingKept, IsPeerKept}
@@ -103,7 +104,8 @@ module _ (s : PeerReplay) (mk : Marking) (freed : List ℕ) (k : IsPeerKept s) (
     marking = λ m q. absurd (none_some m q);
   }
 
-swept-by : (s : PeerReplay) (mk : Marking) (freed : List ℕ) (b : Bool) → IsPeerKept s → s.marking ≡ Some mk → (b ≡ true → IsSweep s mk freed) → IsPeerKept (if b then swept_of s mk freed else answer (says.MarkOpen record { 0 = mk.number }) s).state
+swept-by : (s : PeerReplay) (mk : Marking) (freed : List ℕ) (b : Bool) → IsPeerKept s → s.marking ≡ Some mk
+    → (b ≡ true → IsSweep s mk freed) → IsPeerKept (if b then swept_of s mk freed else answer (says.MarkOpen record { 0 = mk.number }) s).state
 swept-by s mk freed true k e w = swept_of-kept s mk freed k e (w refl)
 swept-by s mk freed false k e w = k
 
@@ -131,7 +133,8 @@ peer_of-issued issued n i e = by (numbered_at issued n) e
 
 -- the handle leaves the table
 withdrawn-kept : (s : PeerReplay) (h : ℕ) → IsPeerKept s → IsPeerKept (withdrawn s h)
-withdrawn-kept s h k = kept-mirror (record s { table = numbered_set s.table h None }) (with_restored s.mirror h) (kept-gone s h k) (AreReferencesKept-restored s.peers.heap s.peers.issued s.refs s.mirror h k.references)
+withdrawn-kept s h k = kept-mirror (record s { table = numbered_set s.table h None }) (with_restored s.mirror h)
+    (kept-gone s h k) (AreReferencesKept-restored s.peers.heap s.peers.issued s.refs s.mirror h k.references)
 
 -- a new handle comes into it, on an unfreed peer, which is brought back
 anew-kept : (s : PeerReplay) (p : ℕ) → IsPeerKept s → IsLive s.peers.heap p → IsPeerKept (given_anew s p)
@@ -159,11 +162,13 @@ weakened-kept : (s : PeerReplay) (h : ℕ) → IsPeerKept s → WasHeld s.peers.
 weakened-kept s h k w e =
     let weak_row : TableRow = record { strength = weak; cleared = false } in
     kept-mirror (record s { table = numbered_set s.table h (Some weak_row) }) (with_weakened s.mirror h)
-    (kept-reset s h (record { strength = strong; cleared = false }) weak_row w.0 k (slot-named (numbered_at s.table h) (record { strength = strong; cleared = false }) e) w.1 w.2 refl (λ q. refl) (λ q. absurd (let f : weak ≡ strong = q in cc)))
+    (kept-reset s h (record { strength = strong; cleared = false }) weak_row w.0 k
+    (slot-named (numbered_at s.table h) (record { strength = strong; cleared = false }) e) w.1 w.2 refl (λ q. refl) (λ q. absurd (let f : weak ≡ strong = q in cc)))
     (AreReferencesKept-weakened s.peers.heap s.peers.issued s.refs s.mirror h k.references w)
 
 -- references come to stand, and go
-mirrored-kept : (s : PeerReplay) (k : ℕ) (cites : Option ℕ) (refs : List (End × End)) → IsPeerKept s → ((p q : ℕ) → Refers refs p q → IsLive s.peers.heap p × IsLive s.peers.heap q × IsSafe s q) → IsPeerKept (mirrored s k cites refs)
+mirrored-kept : (s : PeerReplay) (k : ℕ) (cites : Option ℕ) (refs : List (End × End)) → IsPeerKept s
+    → ((p q : ℕ) → Refers refs p q → IsLive s.peers.heap p × IsLive s.peers.heap q × IsSafe s q) → IsPeerKept (mirrored s k cites refs)
 mirrored-kept s k None refs kept w = kept
 mirrored-kept s k (Some snap) refs kept w = record {
   heap = kept.heap;
@@ -180,7 +185,8 @@ cleared-kept s k = record {
   marking = λ mk e. IsMarkingKept-references s.peers.heap s.peers.issued s.table s.refs mk (k.marking mk e) [] (λ p q c. absurd (Refers-none p q c));
 }
 
-pub IsPeerKept-step : (s : PeerReplay) (t : Thread) (o : Op) (cites : Option ℕ) (told : Told) → IsPeerKept s → PeerAllows s t o cites told → MirrorsSafely s o told → IsPeerKept (peer_answer s t o cites told).state
+pub IsPeerKept-step : (s : PeerReplay) (t : Thread) (o : Op) (cites : Option ℕ) (told : Told) → IsPeerKept s
+    → PeerAllows s t o cites told → MirrorsSafely s o told → IsPeerKept (peer_answer s t o cites told).state
 IsPeerKept-step s t (op.Line (act.Slice n)) cites (slice_of closure) k w m = sliced-kept s s.marking t n closure k refl
 IsPeerKept-step s t (op.Line (act.Slice n)) cites _ k w m = sliced-kept s s.marking t n [] k refl
 IsPeerKept-step s t (op.Line a) cites told k w m = line-event s (thread_number t) a k

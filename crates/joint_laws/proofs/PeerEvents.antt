@@ -11,16 +11,19 @@ use Rattle.joint_machine.specs.declared.events.Reply.{Reply}
 use Rattle.joint_machine.specs.declared.events.Reply.TheVariants as says
 use Rattle.joint_machine.specs.Heaps.{Heap, IsLive, InSlot, Answered, answer, slot, place, is_full, next_number, numbered_at, numbered_set, with_var, with_static}
 use Rattle.joint_machine.specs.Managed.{place_or_none}
-use Rattle.joint_machine.specs.Peers.{Peers, Issued, held, raw, Strength, strong, weak, peer_name, handle_name, next_handle, with_handle, with_peer, peer_gripped, landed, name_given, peer_read, peer_of, issued_since, handles_full}
+use Rattle.joint_machine.specs.Peers.{Peers, Issued, held, raw, Strength, strong, weak, peer_name, handle_name, next_handle, with_handle, with_peer, peer_gripped, landed, name_given, peer_read}
+use Rattle.joint_machine.specs.Peers.{peer_of, issued_since, handles_full}
 use Rattle.joint_machine.specs.PeerReplay.{PeerReplay, TableRow, fresh_row, row_of, table_target, on_table, brings, untabled, peer_thread_line, brought_to}
 use Rattle.joint_laws.specs.PeerInvariants.{IsIssued, IsPeerKept}
 use Rattle.joint_machine.proofs.Numbered.{slot-Contains, slot-named, numbered-push_new}
 use Rattle.joint_machine.proofs.Deciding.{none_some}
 use Rattle.joint_laws.proofs.HeapMoves.{HasMoved, copied-moved, field_set-moved, field_got-moved, dropped-moved, loaded-moved, stored-moved}
-use Rattle.joint_laws.proofs.PeerMoves.{in_reach-safe, kept-heap, kept-peer, new-live, new-safe, kept-var, kept-static, kept-issue, kept-counted, kept-name, kept-gone, kept-brought, brought-safe, on_table-still, on_table-issued}
+use Rattle.joint_laws.proofs.PeerMoves.{in_reach-safe, kept-heap, kept-peer, new-live, new-safe, kept-var, kept-static, kept-issue, kept-counted, kept-name, kept-gone, kept-brought, brought-safe}
+use Rattle.joint_laws.proofs.PeerMoves.{on_table-still, on_table-issued}
 
 -- an operation of the heap
-heap-event : (s : PeerReplay) (g : Heap) → IsPeerKept s → HasMoved s.peers.heap g → IsPeerKept (record s { peers = record s.peers { heap = g }; table = s.table ++ map fresh_row (issued_since s.peers (record s.peers { heap = g })) })
+heap-event : (s : PeerReplay) (g : Heap) → IsPeerKept s → HasMoved s.peers.heap g
+    → IsPeerKept (record s { peers = record s.peers { heap = g }; table = s.table ++ map fresh_row (issued_since s.peers (record s.peers { heap = g })) })
 heap-event s g k v = on_table-still s (record s.peers { heap = g }) refl (kept-heap s g k v)
 
 stay-event : (s : PeerReplay) (r : Reply) → IsPeerKept s → IsPeerKept (on_table s (answer r s.peers)).state
@@ -28,7 +31,8 @@ stay-event s r k = on_table-still s s.peers refl k
 
 -- a further peer that a variable names
 made-event : (s : PeerReplay) (v n : ℕ) (b : Bool) → IsPeerKept s
-    → IsPeerKept (on_table s (if b then answer says.Full s.peers else answer (peer_name (next_number s.peers.heap)) (record (with_peer s.peers Framework n) { heap = with_var (with_peer s.peers Framework n).heap v (Some (next_number s.peers.heap)) }))).state
+    → IsPeerKept (on_table s (if b then answer says.Full s.peers else answer (peer_name (next_number s.peers.heap))
+    (record (with_peer s.peers Framework n) { heap = with_var (with_peer s.peers Framework n).heap v (Some (next_number s.peers.heap)) }))).state
 made-event s v n true k = stay-event s says.Full k
 made-event s v n false k =
     let grown : PeerReplay = record s { peers = with_peer s.peers Framework n } in
@@ -37,21 +41,25 @@ made-event s v n false k =
 
 -- a further peer with a held strong handle on it
 pub pair-event : (s : PeerReplay) (sort : Sort) (n : ℕ) (b : Bool) → IsPeerKept s
-    → IsPeerKept (on_table s (if b then answer says.Full s.peers else answer (says.Made record { 0 = next_number s.peers.heap } record { 0 = next_handle s.peers }) (with_handle (with_peer s.peers sort n) (next_number s.peers.heap) held strong))).state
+    → IsPeerKept (on_table s (if b then answer says.Full s.peers else answer (says.Made record { 0 = next_number s.peers.heap } record { 0 = next_handle s.peers })
+    (with_handle (with_peer s.peers sort n) (next_number s.peers.heap) held strong))).state
 pair-event s sort n true k = stay-event s says.Full k
 pair-event s sort n false k =
     let grown : PeerReplay = record s { peers = with_peer s.peers sort n } in
     let new : Issued = record { peer = next_number s.peers.heap; hold = held; strength = strong } in
     on_table-issued s (with_handle (with_peer s.peers sort n) (next_number s.peers.heap) held strong) new refl
-    (kept-counted (record s { peers = record (with_handle (with_peer s.peers sort n) (next_number s.peers.heap) held strong) { made = s.peers.made }; table = s.table ++ fresh_row new ∷ [] }) (s.peers.made + 1) (kept-issue grown new (kept-peer s sort n k) (new-live s n k) (new-safe s k)))
+    (kept-counted (record s { peers = record (with_handle (with_peer s.peers sort n) (next_number s.peers.heap) held strong) { made = s.peers.made }; table = s.table ++ fresh_row new ∷ [] })
+    (s.peers.made + 1) (kept-issue grown new (kept-peer s sort n k) (new-live s n k) (new-safe s k)))
 
 -- a held strong handle on the peer in a static
-grip-by : (s : PeerReplay) (p : ℕ) (b : Bool) (r : Reply) → IsPeerKept s → InSlot s.peers.heap p → IsPeerKept (on_table s (if b then answer says.Full s.peers else answer r (with_handle s.peers p held strong))).state
+grip-by : (s : PeerReplay) (p : ℕ) (b : Bool) (r : Reply) → IsPeerKept s → InSlot s.peers.heap p
+    → IsPeerKept (on_table s (if b then answer says.Full s.peers else answer r (with_handle s.peers p held strong))).state
 grip-by s p true r k i = stay-event s says.Full k
 grip-by s p false r k i =
     let new : Issued = record { peer = p; hold = held; strength = strong } in
     on_table-issued s (with_handle s.peers p held strong) new refl
-    (kept-counted (record s { peers = record (with_handle s.peers p held strong) { made = s.peers.made }; table = s.table ++ fresh_row new ∷ [] }) (s.peers.made + 1) (kept-issue s new k (k.heap.slots p i) (in_reach-safe s p k (inl i))))
+    (kept-counted (record s { peers = record (with_handle s.peers p held strong) { made = s.peers.made }; table = s.table ++ fresh_row new ∷ [] })
+    (s.peers.made + 1) (kept-issue s new k (k.heap.slots p i) (in_reach-safe s p k (inl i))))
 
 pub grip-event : (s : PeerReplay) (x : ℕ) (o : Option ℕ) → IsPeerKept s → slot s.peers.heap.statics x ≡ o → IsPeerKept (on_table s (peer_gripped s.peers o)).state
 grip-event s x None k e = stay-event s says.Null k
@@ -59,13 +67,15 @@ grip-event s x (Some p) k e = grip-by s p (handles_full s.peers) _ k (inr (slot-
 
 -- a name gets a raw handle
 name-by : (s : PeerReplay) (g p : ℕ) (strength : Strength) (b : Bool) → IsPeerKept s → InSlot s.peers.heap p
-    → IsPeerKept (on_table s (if b then answer says.Full s.peers else answer (handle_name (next_handle s.peers)) (record (with_handle s.peers p raw strength) { names = set s.peers.names g (Some (next_handle s.peers)) }))).state
+    → IsPeerKept (on_table s (if b then answer says.Full s.peers else answer (handle_name (next_handle s.peers))
+    (record (with_handle s.peers p raw strength) { names = set s.peers.names g (Some (next_handle s.peers)) }))).state
 name-by s g p strength true k i = stay-event s says.Full k
 name-by s g p strength false k i =
     let new : Issued = record { peer = p; hold = raw; strength = strength } in
     let grown : PeerReplay = record s { peers = with_handle s.peers p raw strength; table = s.table ++ Some record { strength = strength; cleared = false } ∷ [] } in
     on_table-issued s (record (with_handle s.peers p raw strength) { names = set s.peers.names g (Some (next_handle s.peers)) }) new refl
-    (kept-name grown g (Some (next_handle s.peers)) (kept-counted (record s { peers = record (with_handle s.peers p raw strength) { made = s.peers.made }; table = s.table ++ fresh_row new ∷ [] }) (s.peers.made + 1) (kept-issue s new k (k.heap.slots p i) (in_reach-safe s p k (inl i))))
+    (kept-name grown g (Some (next_handle s.peers)) (kept-counted (record s { peers = record (with_handle s.peers p raw strength) { made = s.peers.made }; table = s.table ++ fresh_row new ∷ [] })
+    (s.peers.made + 1) (kept-issue s new k (k.heap.slots p i) (in_reach-safe s p k (inl i))))
     (λ n e. (new, subst (λ z. IsIssued (s.peers.issued ++ new ∷ []) z new) (same_Some (next_handle s.peers) n e) (numbered-push_new s.peers.issued new), refl)))
 
 given-by : (s : PeerReplay) (g p : ℕ) (strength : Strength) (o : Option ℕ) → IsPeerKept s → InSlot s.peers.heap p → IsPeerKept (on_table s (name_given s.peers g p strength o)).state
@@ -90,7 +100,8 @@ unglobal-event s g (Some h) k =
     on_table-still gone (record s.peers { names = set s.peers.names g None }) refl (kept-name gone g None (kept-gone s h k) (λ n e. absurd (none_some n e)))
 
 -- where a handle leads is unfreed
-target-by : (s : PeerReplay) (h p : ℕ) (o : Option TableRow) → IsPeerKept s → row_of s h ≡ o → elim o [ None ↦ None | Some row ↦ if row.cleared then None else peer_of s.peers.issued h ] ≡ Some p → IsLive s.peers.heap p
+target-by : (s : PeerReplay) (h p : ℕ) (o : Option TableRow) → IsPeerKept s → row_of s h ≡ o
+    → elim o [ None ↦ None | Some row ↦ if row.cleared then None else peer_of s.peers.issued h ] ≡ Some p → IsLive s.peers.heap p
 target-by s h p None k e q = absurd (none_some p q)
 target-by s h p (Some row) k e q = by row.cleared refl q
   where

@@ -19,8 +19,10 @@ use Rattle.joint_machine.specs.Heaps.{Heap, IsMade, IsLive, InSlot, Answered, an
 use Rattle.joint_machine.specs.Lines.{is_peer_event}
 use Rattle.joint_machine.specs.Linked.{Linkage, linkage_after, peer_after}
 use Rattle.joint_machine.specs.Managed.{place_or_none}
-use Rattle.joint_machine.specs.Peers.{Peers, Strength, strong, weak, held, raw, peer_name, with_peer, with_handle, peer_gripped, landed, name_given, peer_read, peer_line, handle_name, next_handle, sort_of, handles_full}
-use Rattle.joint_machine.specs.PeerReplay.{PeerReplay, TableRow, Marking, row_of, on_table, bring_by, peer_thread_line, is_thread, sliced, begun, swept_of, swept, restored_by, mirrored, peer_answer, table_target}
+use Rattle.joint_machine.specs.Peers.{Peers, Strength, strong, weak, held, raw, peer_name, with_peer, with_handle, peer_gripped, landed, name_given, peer_read, peer_line, handle_name, next_handle}
+use Rattle.joint_machine.specs.Peers.{sort_of, handles_full}
+use Rattle.joint_machine.specs.PeerReplay.{PeerReplay, TableRow, Marking, row_of, on_table, bring_by, peer_thread_line, is_thread, sliced, begun, swept_of, swept, restored_by, mirrored, peer_answer}
+use Rattle.joint_machine.specs.PeerReplay.{table_target}
 use Rattle.joint_machine.specs.Run.{thread_number}
 use Rattle.joint_machine.specs.Told.{Told, Noted, references_of, slice_of, sweep_of}
 use Rattle.joint_laws.proofs.Fields.{with_object-old, with_object-length}
@@ -76,16 +78,31 @@ goes-var : (h : Heap) (v : ℕ) (o : Option ℕ) → HeapGoes h (with_var h v o)
 goes-var h v o = record { vars = length-set h.vars v o; statics = refl; made = omega arith; fields = λ x q c. inl c; frozen = λ x m n. refl; back = λ x m l. record { made = l.made; kept = l.kept } }
 
 goes-static : (h : Heap) (i : ℕ) (o : Option ℕ) → HeapGoes h (with_static h i o)
-goes-static h i o = record { vars = refl; statics = length-set h.statics i o; made = omega arith; fields = λ x q c. inl c; frozen = λ x m n. refl; back = λ x m l. record { made = l.made; kept = l.kept } }
+goes-static h i o = record {
+  vars = refl;
+  statics = length-set h.statics i o;
+  made = omega arith;
+  fields = λ x q c. inl c;
+  frozen = λ x m n. refl;
+  back = λ x m l. record { made = l.made; kept = l.kept };
+}
 
 goes-freed : (h : Heap) (xs : List ℕ) → HeapGoes h (with_freed h xs)
-goes-freed h xs = record { vars = refl; statics = refl; made = omega arith; fields = λ x q c. inl c; frozen = λ x m n. refl; back = λ x m l. record { made = l.made; kept = λ c. l.kept (Contains-append_left h.freed xs x c) } }
+goes-freed h xs = record {
+  vars = refl;
+  statics = refl;
+  made = omega arith;
+  fields = λ x q c. inl c;
+  frozen = λ x m n. refl;
+  back = λ x m l. record { made = l.made; kept = λ c. l.kept (Contains-append_left h.freed xs x c) };
+}
 
 abbrev Goes : PeerReplay → PeerReplay → Type 0
 Goes s t = HeapGoes s.peers.heap t.peers.heap
 
 module _ (s : PeerReplay) where
-  made-goes : (v n : ℕ) (b : Bool) → HeapGoes s.peers.heap (if b then answer says.Full s.peers else answer (peer_name (next_number s.peers.heap)) (record (with_peer s.peers Framework n) { heap = with_var (with_peer s.peers Framework n).heap v (Some (next_number s.peers.heap)) })).state.heap
+  made-goes : (v n : ℕ) (b : Bool) → HeapGoes s.peers.heap (if b then answer says.Full s.peers else answer (peer_name (next_number s.peers.heap))
+      (record (with_peer s.peers Framework n) { heap = with_var (with_peer s.peers Framework n).heap v (Some (next_number s.peers.heap)) })).state.heap
   made-goes v n true = goes-stay s.peers.heap
   made-goes v n false = goes-made s.peers.heap n v (next_number s.peers.heap)
 
@@ -93,7 +110,8 @@ module _ (s : PeerReplay) where
   name-goes g p strength (Some h) = goes-stay s.peers.heap
   name-goes g p strength None = by (handles_full s.peers)
     where
-      by : (b : Bool) → HeapGoes s.peers.heap (if b then answer says.Full s.peers else answer (handle_name (next_handle s.peers)) (record (with_handle s.peers p raw strength) { names = set s.peers.names g (Some (next_handle s.peers)) })).state.heap
+      by : (b : Bool) → HeapGoes s.peers.heap (if b then answer says.Full s.peers else answer (handle_name (next_handle s.peers))
+          (record (with_handle s.peers p raw strength) { names = set s.peers.names g (Some (next_handle s.peers)) })).state.heap
       by true = goes-stay s.peers.heap
       by false = goes-stay s.peers.heap
 
@@ -131,10 +149,12 @@ module _ (s : PeerReplay) where
   line-goes t (act.Global g v) = global-goes g.0 strong (slot s.peers.heap.vars (place t v.0))
   line-goes t (act.WGlobal g v) = global-goes g.0 weak (slot s.peers.heap.vars (place t v.0))
   line-goes t (act.UnGlobal g) = unglobal-goes g.0 (slot s.peers.names g.0)
-  line-goes t (act.WRead v g) = brought-goes (on_table s (peer_line (table_target s) s.peers t (act.WRead v g))) (peer_line (table_target s) s.peers t (act.WRead v g)).reply (wread-goes (place t v.0) (slot s.peers.names g.0))
+  line-goes t (act.WRead v g) = brought-goes (on_table s (peer_line (table_target s) s.peers t (act.WRead v g)))
+      (peer_line (table_target s) s.peers t (act.WRead v g)).reply (wread-goes (place t v.0) (slot s.peers.names g.0))
   line-goes t _ = goes-stay s.peers.heap
 
-  pair-goes : (b : Bool) (n : ℕ) (sort : Sort) (r : Reply) → HeapGoes s.peers.heap (if b then answer says.Full s.peers else answer r (with_handle (with_peer s.peers sort n) (next_number s.peers.heap) held strong)).state.heap
+  pair-goes : (b : Bool) (n : ℕ) (sort : Sort) (r : Reply) → HeapGoes s.peers.heap
+      (if b then answer says.Full s.peers else answer r (with_handle (with_peer s.peers sort n) (next_number s.peers.heap) held strong)).state.heap
   pair-goes true n sort r = goes-stay s.peers.heap
   pair-goes false n sort r = goes-object s.peers.heap n
 
@@ -142,7 +162,8 @@ module _ (s : PeerReplay) where
   grip-goes None = goes-stay s.peers.heap
   grip-goes (Some p) = by (handles_full s.peers)
     where
-      by : (b : Bool) → HeapGoes s.peers.heap (if b then answer says.Full s.peers else answer (says.Gripped record { 0 = p } record { 0 = next_handle s.peers } (sort_of s.peers p) (length (fields_of s.peers.heap p))) (with_handle s.peers p held strong)).state.heap
+      by : (b : Bool) → HeapGoes s.peers.heap (if b then answer says.Full s.peers else answer
+          (says.Gripped record { 0 = p } record { 0 = next_handle s.peers } (sort_of s.peers p) (length (fields_of s.peers.heap p))) (with_handle s.peers p held strong)).state.heap
       by true = goes-stay s.peers.heap
       by false = goes-stay s.peers.heap
 

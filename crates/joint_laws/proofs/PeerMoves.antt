@@ -17,7 +17,8 @@ use Rattle.joint_laws.specs.PeerInvariants.{IsTabled, IsIssued, AreReferencesKep
 use Rattle.joint_laws.proofs.Fields.{with_object-length}
 use Rattle.joint_laws.proofs.HeapMoves.{HasMoved, IsInReach}
 use Rattle.joint_laws.proofs.HeapKeeping.{IsHeapKept-opening, IsHeapKept-moved, IsHeapKept-object, IsHeapKept-var, IsHeapKept-static, moved-live, moved-was_live, object-new, object-was_live}
-use Rattle.joint_laws.proofs.HandleKeeping.{AreHandlesKept-opening, AreHandlesKept-heap, AreHandlesKept-name, AreHandlesKept-gone, AreHandlesKept-reset, AreHandlesKept-issue, both-cases, tabled-set_cases, issued-same}
+use Rattle.joint_laws.proofs.HandleKeeping.{AreHandlesKept-opening, AreHandlesKept-heap, AreHandlesKept-name, AreHandlesKept-gone, AreHandlesKept-reset, AreHandlesKept-issue, both-cases}
+use Rattle.joint_laws.proofs.HandleKeeping.{tabled-set_cases, issued-same}
 use Rattle.joint_laws.proofs.ReferenceKeeping.{AreReferencesKept-none, AreReferencesKept-heap, AreReferencesKept-issue}
 use Rattle.joint_laws.proofs.MarkingKeeping.{IsMarkingKept-moved, IsMarkingKept-object, IsMarkingKept-var, IsMarkingKept-static, IsMarkingKept-table, IsMarkingKept-later, in_reach-spared}
 use Rattle.joint_laws.proofs.Sparing.{spared-new, spared-brought, later}
@@ -98,7 +99,8 @@ kept-issue s new k l safe = record {
   marking = λ mk e. IsMarkingKept-table s.peers.heap s.peers.issued s.table s.refs mk (k.marking mk e) (s.peers.issued ++ new ∷ []) (s.table ++ fresh_row new ∷ []) (strong_spared mk e);
 }
   where
-    strong_spared : (mk : Marking) → s.marking ≡ Some mk → (n : ℕ) (row : TableRow) (i : Issued) → IsTabled (s.table ++ fresh_row new ∷ []) n row → row.strength ≡ strong → IsIssued (s.peers.issued ++ new ∷ []) n i → IsSpared mk i.peer
+    strong_spared : (mk : Marking) → s.marking ≡ Some mk → (n : ℕ) (row : TableRow) (i : Issued)
+        → IsTabled (s.table ++ fresh_row new ∷ []) n row → row.strength ≡ strong → IsIssued (s.peers.issued ++ new ∷ []) n i → IsSpared mk i.peer
     strong_spared mk e n row i t st q = elim (both-cases s.peers.heap s.peers.issued s.table s.peers.names new k.handles l n row i t q) [
       | inl w ↦ (k.marking mk e).strong_ones n row i w.0 st w.1
       | inr w ↦ subst (λ (z : Issued). IsSpared mk z.peer) w.1 (safe mk e)
@@ -109,7 +111,8 @@ pub kept-counted : (s : PeerReplay) (n : ℕ) → IsPeerKept s → IsPeerKept (r
 kept-counted s n k = record { heap = k.heap; handles = k.handles; references = k.references; marking = k.marking }
 
 -- a name comes to have a raw handle, or none
-pub kept-name : (s : PeerReplay) (g : ℕ) (o : Option ℕ) → IsPeerKept s → ((n : ℕ) → o ≡ Some n → (i : Issued) × IsIssued s.peers.issued n i × (i.hold ≡ raw)) → IsPeerKept (record s { peers = record s.peers { names = set s.peers.names g o } })
+pub kept-name : (s : PeerReplay) (g : ℕ) (o : Option ℕ) → IsPeerKept s → ((n : ℕ) → o ≡ Some n → (i : Issued) × IsIssued s.peers.issued n i × (i.hold ≡ raw))
+    → IsPeerKept (record s { peers = record s.peers { names = set s.peers.names g o } })
 kept-name s g o k r = record {
   heap = k.heap;
   handles = AreHandlesKept-name s.peers.heap s.peers.issued s.table s.peers.names g o k.handles r;
@@ -131,7 +134,8 @@ kept-gone s n k = record {
     was m row t = elim (tabled-set_cases s.table n None m row t) [ inl q ↦ absurd (none_some row q.1) | inr q ↦ q.1 ]
 
 -- a held handle's strength changes; where it becomes strong, its peer is safe
-pub kept-reset : (s : PeerReplay) (n : ℕ) (old new : TableRow) (j : Issued) → IsPeerKept s → IsTabled s.table n old → IsIssued s.peers.issued n j → j.hold ≡ held → new.cleared ≡ old.cleared → (new.strength ≡ strong → new.cleared ≡ false)
+pub kept-reset : (s : PeerReplay) (n : ℕ) (old new : TableRow) (j : Issued) → IsPeerKept s → IsTabled s.table n old
+    → IsIssued s.peers.issued n j → j.hold ≡ held → new.cleared ≡ old.cleared → (new.strength ≡ strong → new.cleared ≡ false)
     → (new.strength ≡ strong → IsSafe s j.peer) → IsPeerKept (record s { table = numbered_set s.table n (Some new) })
 kept-reset s n old new j k t p hold same sure safe = record {
   heap = k.heap;
@@ -140,14 +144,16 @@ kept-reset s n old new j k t p hold same sure safe = record {
   marking = λ mk e. IsMarkingKept-table s.peers.heap s.peers.issued s.table s.refs mk (k.marking mk e) s.peers.issued (numbered_set s.table n (Some new)) (strong_spared mk e);
 }
   where
-    strong_spared : (mk : Marking) → s.marking ≡ Some mk → (m : ℕ) (row : TableRow) (i : Issued) → IsTabled (numbered_set s.table n (Some new)) m row → row.strength ≡ strong → IsIssued s.peers.issued m i → IsSpared mk i.peer
+    strong_spared : (mk : Marking) → s.marking ≡ Some mk → (m : ℕ) (row : TableRow) (i : Issued)
+        → IsTabled (numbered_set s.table n (Some new)) m row → row.strength ≡ strong → IsIssued s.peers.issued m i → IsSpared mk i.peer
     strong_spared mk e m row i u st q = elim (tabled-set_cases s.table n (Some new) m row u) [
       | inl w ↦ subst (λ (z : Issued). IsSpared mk z.peer) (issued-same s.peers.issued n m j i w.0 p q) (safe (ap (λ (z : TableRow). z.strength) (same_Some new row w.1) ∙ st) mk e)
       | inr w ↦ (k.marking mk e).strong_ones m row i w.1 st q
     ]
 
 -- a peer is brought back
-brought-marking : (s : PeerReplay) (p : ℕ) (o : Option Marking) → ((mk : Marking) → o ≡ Some mk → IsMarkingKept s.peers.heap s.peers.issued s.table s.refs mk) → (mk : Marking) → brought_to o p ≡ Some mk
+brought-marking : (s : PeerReplay) (p : ℕ) (o : Option Marking)
+    → ((mk : Marking) → o ≡ Some mk → IsMarkingKept s.peers.heap s.peers.issued s.table s.refs mk) → (mk : Marking) → brought_to o p ≡ Some mk
     → IsMarkingKept s.peers.heap s.peers.issued s.table s.refs mk × IsSpared mk p
 brought-marking s p None k mk e = absurd (none_some mk e)
 brought-marking s p (Some m) k mk e =
@@ -174,7 +180,8 @@ pub kept-mirror : (s : PeerReplay) (mirror : Option Mirror) → IsPeerKept s →
 kept-mirror s mirror k r = record { heap = k.heap; handles = k.handles; references = r; marking = k.marking }
 
 -- events that issue no handle leave the table alone, and one that issues a handle puts it there
-pub on_table-still : (s : PeerReplay) (k : Peers) → k.issued ≡ s.peers.issued → IsPeerKept (record s { peers = k }) → IsPeerKept (record s { peers = k; table = s.table ++ map fresh_row (issued_since s.peers k) })
+pub on_table-still : (s : PeerReplay) (k : Peers) → k.issued ≡ s.peers.issued → IsPeerKept (record s { peers = k })
+    → IsPeerKept (record s { peers = k; table = s.table ++ map fresh_row (issued_since s.peers k) })
 on_table-still s k e kept =
     let none : issued_since s.peers k ≡ [] = ap (λ l. drop (length s.peers.issued) l) e ∙ drop-length s.peers.issued in
     let same : s.table ++ map fresh_row (issued_since s.peers k) ≡ s.table = ap (λ l. s.table ++ map fresh_row l) none ∙ append-nil s.table in

@@ -41,7 +41,8 @@ HandlesAlike-same s t e f g = record {
 }
 
 -- a handle is issued, and stands in the table; a held one is strong
-pub HandlesAlike-issued : (s t : PeerReplay) (new : Issued) → length s.table ≡ length s.peers.issued → t.table ≡ s.table ++ fresh_row new ∷ [] → t.peers.issued ≡ s.peers.issued ++ new ∷ [] → t.peers.heap.freed ≡ s.peers.heap.freed
+pub HandlesAlike-issued : (s t : PeerReplay) (new : Issued) → length s.table ≡ length s.peers.issued
+    → t.table ≡ s.table ++ fresh_row new ∷ [] → t.peers.issued ≡ s.peers.issued ++ new ∷ [] → t.peers.heap.freed ≡ s.peers.heap.freed
     → (new.hold ≡ held → new.strength ≡ strong) → HandlesAlike nothing_touched s t
 HandlesAlike-issued s t new places e f g strong_new = record {
   issued_on = λ h i q. subst (λ z. IsIssued z h i) (sym f) (numbered-push_old s.peers.issued new h (numbered-within s.peers.issued h i q).1 ∙ q);
@@ -65,7 +66,8 @@ HandlesAlike-issued s t new places e f g strong_new = record {
     ]
 
 -- a raw handle leaves the table
-pub HandlesAlike-raw_gone : (s t : PeerReplay) (n : ℕ) (j : Issued) → IsIssued s.peers.issued n j → j.hold ≡ raw → t.table ≡ numbered_set s.table n None → t.peers.issued ≡ s.peers.issued → t.peers.heap.freed ≡ s.peers.heap.freed → HandlesAlike nothing_touched s t
+pub HandlesAlike-raw_gone : (s t : PeerReplay) (n : ℕ) (j : Issued) → IsIssued s.peers.issued n j → j.hold ≡ raw
+    → t.table ≡ numbered_set s.table n None → t.peers.issued ≡ s.peers.issued → t.peers.heap.freed ≡ s.peers.heap.freed → HandlesAlike nothing_touched s t
 HandlesAlike-raw_gone s t n j p r e f g = record {
   issued_on = λ h i q. subst (λ z. IsIssued z h i) (sym f) q;
   count = omega (arith, ap length f);
@@ -111,7 +113,8 @@ abbrev pub FieldsFrom : PeerReplay → Heap → Type 0
 FieldsFrom s g = (x p : ℕ) → Contains (fields_of g x) (Some p) → Contains (fields_of s.peers.heap x) (Some p) ⊎ InSlot s.peers.heap p
 
 -- an event that issues no handle
-pub IsQuiet-still : (via : ℕ → Type 0) (s : PeerReplay) (k : Peers) (m : Option Marking) → k.issued ≡ s.peers.issued → k.heap.freed ≡ s.peers.heap.freed → length s.peers.heap.fields ≤ length k.heap.fields → StillOpen s.marking m
+pub IsQuiet-still : (via : ℕ → Type 0) (s : PeerReplay) (k : Peers) (m : Option Marking) → k.issued ≡ s.peers.issued
+    → k.heap.freed ≡ s.peers.heap.freed → length s.peers.heap.fields ≤ length k.heap.fields → StillOpen s.marking m
     → SlotsFrom via s k.heap → FieldsFrom s k.heap → IsQuiet via s (record s { peers = k; table = s.table ++ map fresh_row (issued_since s.peers k); marking = m })
 IsQuiet-still via s k m e f l o slots fields = record {
   handles = HandlesAlike-same s (record s { peers = k; table = s.table ++ map fresh_row (issued_since s.peers k); marking = m }) (table-still s k e) e f;
@@ -126,7 +129,8 @@ IsQuiet-still via s k m e f l o slots fields = record {
 }
 
 -- an event that issues one
-pub IsQuiet-issued : (via : ℕ → Type 0) (s : PeerReplay) (k : Peers) (new : Issued) → length s.table ≡ length s.peers.issued → k.issued ≡ s.peers.issued ++ new ∷ [] → k.heap.freed ≡ s.peers.heap.freed → length s.peers.heap.fields ≤ length k.heap.fields
+pub IsQuiet-issued : (via : ℕ → Type 0) (s : PeerReplay) (k : Peers) (new : Issued) → length s.table ≡ length s.peers.issued
+    → k.issued ≡ s.peers.issued ++ new ∷ [] → k.heap.freed ≡ s.peers.heap.freed → length s.peers.heap.fields ≤ length k.heap.fields
     → (new.hold ≡ held → new.strength ≡ strong) → (InSlot s.peers.heap new.peer ⊎ (IsMade s.peers.heap new.peer → ⊥)) → SlotsFrom via s k.heap → FieldsFrom s k.heap
     → IsQuiet via s (record s { peers = k; table = s.table ++ map fresh_row (issued_since s.peers k) })
 IsQuiet-issued via s k new places e f l st on slots fields = record {

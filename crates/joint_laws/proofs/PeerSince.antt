@@ -14,7 +14,8 @@ use Rattle.joint_machine.specs.declared.events.Reply.{Reply}
 use Rattle.joint_machine.specs.declared.events.Reply.TheVariants as says
 use Rattle.joint_machine.specs.Heaps.{Answered, answer, slot, is_full}
 use Rattle.joint_machine.specs.Peers.{Issued, handles_full}
-use Rattle.joint_machine.specs.PeerReplay.{PeerReplay, TableRow, Marking, row_of, bring_by, untabled, peer_thread_line, is_thread, sliced, begun, swept_of, swept, restored_by, mirrored, brought_to, peer_answer, table_target}
+use Rattle.joint_machine.specs.PeerReplay.{PeerReplay, TableRow, Marking, row_of, bring_by, untabled, peer_thread_line, is_thread, sliced, begun, swept_of, swept, restored_by, mirrored, brought_to}
+use Rattle.joint_machine.specs.PeerReplay.{peer_answer, table_target}
 use Rattle.joint_machine.specs.Run.{thread_number}
 use Rattle.joint_machine.specs.Told.{Told, references_of, slice_of, sweep_of}
 use Rattle.joint_machine.proofs.Deciding.{none_some}
@@ -38,7 +39,8 @@ pub spares-begun : (y : Option Marking) → StillSpares None y
 spares-begun y mk now e f p s = absurd (none_some mk e)
 
 spares-later : (m : Marking) (brought : List ℕ) (black : ℕ) → ((x : ℕ) → Contains m.brought x → Contains brought x) → StillSpares (Some m) (Some (later m brought black))
-spares-later m brought black more mk now e f p s = subst (λ z. IsSpared z p) (same_Some (later m brought black) now f) (spared-later m brought black p more (subst (λ z. IsSpared z p) (sym (same_Some m mk e)) s))
+spares-later m brought black more mk now e f p s = subst (λ z. IsSpared z p) (same_Some (later m brought black) now f)
+    (spared-later m brought black p more (subst (λ z. IsSpared z p) (sym (same_Some m mk e)) s))
 
 pub spares-brought : (x : Option Marking) (p : ℕ) → StillSpares x (brought_to x p)
 spares-brought None p = spares-begun None
@@ -107,7 +109,10 @@ module _ (s : PeerReplay) (k : IsPeerKept s) where
   peer-goes_on t (op.Line (act.Slice n)) cites (slice_of closure) = sliced-on s.marking t n closure refl
   peer-goes_on t (op.Line (act.Slice n)) cites _ = sliced-on s.marking t n [] refl
   peer-goes_on t (op.Line a) cites told = line-on (thread_number t) a
-  peer-goes_on t (op.Make sort n) cites told = record { issued_on = (quiet-pair (λ h. ⊥) s sort n (is_full s.peers.heap.fields || handles_full s.peers) k.handles.places).handles.issued_on; spares = spares-same s.marking }
+  peer-goes_on t (op.Make sort n) cites told = record {
+    issued_on = (quiet-pair (λ h. ⊥) s sort n (is_full s.peers.heap.fields || handles_full s.peers) k.handles.places).handles.issued_on;
+    spares = spares-same s.marking;
+  }
   peer-goes_on t (op.Land h x) cites told = record { issued_on = (quiet-land (λ g. g ≡ h.0) s x.0 h.0 (table_target s h.0) refl refl).handles.issued_on; spares = bring-spares _ _ }
   peer-goes_on t (op.Grip x) cites told = record { issued_on = (quiet-grip (λ h. ⊥) s x.0 (slot s.peers.heap.statics x.0) k.handles.places refl).handles.issued_on; spares = spares-same s.marking }
   peer-goes_on t (op.Release h) cites told = record { issued_on = λ g i f. f; spares = spares-same s.marking }

@@ -76,5 +76,6 @@ module _ {A : Type 0} (p : A → Bool) where
   destined (y ∷ xs) (suc i) x e t = by (p y) refl (destined xs i x e t)
     where
       by : (b : Bool) → p y ≡ b → Stands (filter p xs) (filter p (take i xs)) x → Stands (filter p (y ∷ xs)) (filter p (y ∷ take i xs)) x
-      by true f w = subst (λ z. Stands z (filter p (y ∷ take i xs)) x) (sym (cons-filter y xs true f)) (subst (λ z. Stands (y ∷ filter p xs) z x) (sym (cons-filter y (take i xs) true f)) (w.0, ap (λ z. y ∷ z) w.1))
+      by true f w = subst (λ z. Stands z (filter p (y ∷ take i xs)) x) (sym (cons-filter y xs true f))
+          (subst (λ z. Stands (y ∷ filter p xs) z x) (sym (cons-filter y (take i xs) true f)) (w.0, ap (λ z. y ∷ z) w.1))
       by false f w = subst (λ z. Stands z (filter p (y ∷ take i xs)) x) (sym (cons-filter y xs false f)) (subst (λ z. Stands (filter p xs) z x) (sym (cons-filter y (take i xs) false f)) w)

@@ -34,7 +34,8 @@ reading-take whole cells [] s (suc i) a = a
 reading-take whole cells (n ∷ ns) s zero a = tt
 reading-take whole cells (n ∷ ns) s (suc i) a = (a.0, reading-take whole cells ns (entry_after s n) i a.1)
 
-pub reading-comes : (whole : List Noted) (cells : List (Option ℕ)) (ns : List Noted) (s : Linkage) (i : ℕ) (n : Noted) → AllMayComeReading whole cells s ns → slice_get ns i ≡ Some n → EntryMayCome (is_read n.entry.made.op) whole cells (replayed_reading s (take i ns)) n
+pub reading-comes : (whole : List Noted) (cells : List (Option ℕ)) (ns : List Noted) (s : Linkage) (i : ℕ) (n : Noted)
+    → AllMayComeReading whole cells s ns → slice_get ns i ≡ Some n → EntryMayCome (is_read n.entry.made.op) whole cells (replayed_reading s (take i ns)) n
 reading-comes whole cells [] s i n a e = absurd (none_some n e)
 reading-comes whole cells (m ∷ ns) s zero n a e = subst (λ z. EntryMayCome (is_read z.entry.made.op) whole cells s z) (same_Some m n e) a.0
 reading-comes whole cells (m ∷ ns) s (suc i) n a e = reading-comes whole cells ns (entry_after s m) i n a.1 e
@@ -143,4 +144,5 @@ none_is_mirrored_reading noted w i j k c l out =
     ∙ none-stands noted (reading_at noted) (λ p n e o f. ap (λ (z : Linkage). z.peer.refs) (reading-after noted opening_linkage p n e) ∙ unmirrored-reading (reading_at noted p) n f o)
     (λ p q. ap (λ ns. (replayed_reading opening_linkage ns).peer.refs) (take_all (suc p) noted (omega (arith, q)) ∙ sym (take_all p noted q)))
     i (j - suc i) (subst (NoMirrorBetween noted i) (sym same) out)
-    (ap (λ (z : Linkage). z.peer.refs) (reading-after noted opening_linkage i c.entry c.there ∙ entry-by (reading_at noted i) c.entry false (ap is_read c.event)) ∙ cleared-refs (reading_at noted i) c.entry (record { 0 = k }) c.event)
+    (ap (λ (z : Linkage). z.peer.refs) (reading-after noted opening_linkage i c.entry c.there ∙ entry-by (reading_at noted i) c.entry false (ap is_read c.event))
+    ∙ cleared-refs (reading_at noted i) c.entry (record { 0 = k }) c.event)

@@ -57,7 +57,8 @@ module _ (noted : List Noted) (w : IsLawfulReading noted) (i : ℕ) (n : Noted) 
   all-told : TellsNamed (replayed_reading opening_linkage noted).managed.managed.heap.freed (replayed_reading opening_linkage noted).peer.peers.heap.freed n.entry.made.reply n.told
   all-told = by (is_aside n) refl
     where
-      by : (b : Bool) → is_aside n ≡ b → TellsNamed (replayed_reading opening_linkage noted).managed.managed.heap.freed (replayed_reading opening_linkage noted).peer.peers.heap.freed n.entry.made.reply n.told
+      by : (b : Bool) → is_aside n ≡ b → TellsNamed (replayed_reading opening_linkage noted).managed.managed.heap.freed
+          (replayed_reading opening_linkage noted).peer.peers.heap.freed n.entry.made.reply n.told
       by false e = told e
       by true e =
           let both = and-true (is_read n.entry.made.op) (is_set_aside n.entry.made.reply) e in

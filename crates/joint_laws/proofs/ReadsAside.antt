@@ -15,7 +15,8 @@ use Rattle.joint_machine.specs.declared.events.Op.TheVariants as op
 use Rattle.joint_machine.specs.declared.events.Reply.{Reply}
 use Rattle.joint_machine.specs.declared.events.Reply.TheVariants as says
 use Rattle.joint_machine.specs.declared.events.Made.{Made}
-use Rattle.joint_machine.specs.Control.{Doing, free, made, lent, gripped, given, met, Control, CallerAllows, ThreadAllows, DriverAllows, MayStart, IsDone, control_after, doing_after, doing_at, last_line, caller_place, stand_after}
+use Rattle.joint_machine.specs.Control.{Doing, free, made, lent, gripped, given, met, Control, CallerAllows, ThreadAllows, DriverAllows, MayStart, IsDone, control_after, doing_after, doing_at}
+use Rattle.joint_machine.specs.Control.{last_line, caller_place, stand_after}
 use Rattle.joint_machine.specs.Heaps.{Answered, answer, slot, is_freed}
 use Rattle.joint_machine.specs.Lines.{is_peer_event, is_read}
 use Rattle.joint_machine.specs.Linked.{Linkage, opening_linkage, linkage_after, MayCome, SideLawful, PeerLawful, ManagedLawful, managed_after, peer_after, is_joint}
@@ -27,7 +28,8 @@ use Rattle.joint_machine.specs.PeerReplay.{PeerReplay}
 use Rattle.joint_machine.specs.Readers.{is_set_aside, is_aside, IsReadReply, pins_after, reader_after, ReaderMayCome, EntryMayCome, entry_after, replayed_reading, AllMayComeReading}
 use Rattle.joint_machine.specs.Run.{IsRun, thread_number}
 use Rattle.joint_machine.specs.Told.{Told, Noted}
-use Rattle.joint_laws.specs.ReadingLaws.{without_aside, IsLawfulReading, ReadingIsLawful, ReadingLeadsToSame, ReadingProjectsSo, ReadingProjectionIsComplete, LinkedIsComplete, EveryReadingRunIsComplete}
+use Rattle.joint_laws.specs.ReadingLaws.{without_aside, IsLawfulReading, ReadingIsLawful, ReadingLeadsToSame, ReadingProjectsSo, ReadingProjectionIsComplete, LinkedIsComplete}
+use Rattle.joint_laws.specs.ReadingLaws.{EveryReadingRunIsComplete}
 use Rattle.joint_laws.proofs.CompleteRuns.{projection_is_complete, every_run_is_complete}
 use Rattle.joint_laws.proofs.Pairwise.{Pairwise, pairwise-same, pairwise-set, pairwise-left, pairwise-or, pairwise-at}
 
@@ -89,7 +91,8 @@ module _ (s u : Linkage) (k : AreAlike s u) where
   line-below : (t : Thread) (l : ℕ) → last_line s.control t ≤ l → last_line u.control t ≤ l
   line-below t l e = (let w : last_line u.control t ≤ last_line s.control t = pairwise-or IsLower s.control.lines u.control.lines (caller_place t) 0 k.lines (omega arith) in omega arith)
 
-  caller-allows : (t : Thread) (l : ℕ) (o : Op) (reply : Reply) (cites : Option ℕ) (told : Told) → CallerAllows s.control s.managed.managed s.peer.peers.issued t l o reply cites told → CallerAllows u.control u.managed.managed u.peer.peers.issued t l o reply cites told
+  caller-allows : (t : Thread) (l : ℕ) (o : Op) (reply : Reply) (cites : Option ℕ) (told : Told)
+      → CallerAllows s.control s.managed.managed s.peer.peers.issued t l o reply cites told → CallerAllows u.control u.managed.managed u.peer.peers.issued t l o reply cites told
   caller-allows (M t) l o reply cites told a = thread-allows (doing_at s.control t) (doing_at u.control t) (M t) l o cites (hand t) a
   caller-allows (P t) l o reply cites told a = a
   caller-allows C l o reply cites told a =
@@ -141,7 +144,8 @@ module _ (s u : Linkage) (k : AreAlike s u) where
       }
 
 -- the reply of a read that isn't set aside is that of the managed state
-pub standing-reply : (ns : List Noted) (cells : List (Option ℕ)) (s : Managed) (i : ℕ) (t : Thread) (k : ℕ) (r : Reply) → is_set_aside r ≡ false → IsReadReply ns cells s i t k r → r ≡ (read_cell s (thread_number t) k).reply
+pub standing-reply : (ns : List Noted) (cells : List (Option ℕ)) (s : Managed) (i : ℕ) (t : Thread) (k : ℕ) (r : Reply)
+    → is_set_aside r ≡ false → IsReadReply ns cells s i t k r → r ≡ (read_cell s (thread_number t) k).reply
 standing-reply ns cells s i t k (says.Pending c) e w = absurd (let f : true ≡ false = e in cc)
 standing-reply ns cells s i t k says.Unset e w = absurd (let f : true ≡ false = e in cc)
 standing-reply ns cells s i t k _ e w = w
@@ -197,13 +201,15 @@ module _ (s u : Linkage) (k : AreAlike s u) (number line : ℕ) (reply : Reply) 
   reading-lines : (t : Thread) → last_line s.control t ≤ line → (a b : ℕ) → slice_get s.control.lines (caller_place t) ≡ Some a → b ≤ a → b ≤ line
   reading-lines t may a b e l = (let q = get_or_from_slice_get s.control.lines (caller_place t) a 0 e in omega (arith, l, may, q))
 
-  read-dropped : (t : ℕ) (a : Act) (told : Told) → is_set_aside reply ≡ true → last_line s.control (M t) ≤ line → MayStart (doing_at s.control t) cites → doing_after number line (op.Line a) reply ≡ free → AreAlike (reader_after s (entry (M t) (op.Line a) told)) u
+  read-dropped : (t : ℕ) (a : Act) (told : Told) → is_set_aside reply ≡ true → last_line s.control (M t) ≤ line → MayStart (doing_at s.control t) cites
+      → doing_after number line (op.Line a) reply ≡ free → AreAlike (reader_after s (entry (M t) (op.Line a) told)) u
   read-dropped t a told e l m f = record {
     managed = ap (λ p. record s.managed { managed = record s.managed.managed { pins = p } }) (aside-pins s.managed.managed.pins t reply e) ∙ k.managed;
     peer = k.peer;
     stand = k.stand;
     lines = pairwise-left IsLower s.control.lines u.control.lines (caller_place (M t)) line k.lines (reading-lines (M t) l);
-    hands = pairwise-left AreHandsAlike s.control.doing u.control.doing t (doing_after number line (op.Line a) reply) k.hands (λ x y q r. subst (λ z. AreHandsAlike z y) (sym f) (reading-hands t m x y q r));
+    hands = pairwise-left AreHandsAlike s.control.doing u.control.doing t (doing_after number line (op.Line a) reply) k.hands
+        (λ x y q r. subst (λ z. AreHandsAlike z y) (sym f) (reading-hands t m x y q r));
   }
 
   -- a read that isn't set aside
@@ -235,7 +241,8 @@ module _ (s u : Linkage) (k : AreAlike s u) (number line : ℕ) (reply : Reply) 
           hands = w.hands;
         }
 
-    read-follows : (ns : List Noted) (cells : List (Option ℕ)) → is_read (op.Line a) ≡ true → doing_after number line (op.Line a) reply ≡ free → ThreadAllows (doing_at s.control t) (M t) line (op.Line a) cites ≡ MayStart (doing_at s.control t) cites
+    read-follows : (ns : List Noted) (cells : List (Option ℕ)) → is_read (op.Line a) ≡ true → doing_after number line (op.Line a) reply ≡ free
+        → ThreadAllows (doing_at s.control t) (M t) line (op.Line a) cites ≡ MayStart (doing_at s.control t) cites
         → ReaderMayCome s (entry (M t) (op.Line a) told) → IsReadReply ns cells s.managed.managed number (M t) c reply → Follows s u (entry (M t) (op.Line a) told)
     read-follows ns cells e f st may w = by (is_set_aside reply) refl
       where
@@ -247,7 +254,8 @@ module _ (s u : Linkage) (k : AreAlike s u) (number line : ℕ) (reply : Reply) 
 
         by : (b : Bool) → is_set_aside reply ≡ b → Follows s u (entry (M t) (op.Line a) told)
         by true q = dropped (aside-is true q) (subst (λ z. AreAlike z u) (sym after-is) (read-dropped t a told q may.line (subst (λ z. z) st may.order) f))
-        by false q = (let r = standing-reply ns cells s.managed.managed number (M t) c reply q w in comes_too (aside-is false q) (read-comes may r) (subst (λ z. AreAlike z (linkage_after u (entry (M t) (op.Line a) told))) (sym after-is) (read-alike r)))
+        by false q = (let r = standing-reply ns cells s.managed.managed number (M t) c reply q w in
+            comes_too (aside-is false q) (read-comes may r) (subst (λ z. AreAlike z (linkage_after u (entry (M t) (op.Line a) told))) (sym after-is) (read-alike r)))
 
   step : (t : Thread) (o : Op) (told : Told) (ns : List Noted) (cells : List (Option ℕ)) → EntryMayCome (is_read o) ns cells s (entry t o told) → Follows s u (entry t o told)
   step (M t) (op.Line (act.Read c)) told ns cells w = read-follows t c.0 (act.Read c) told (λ m. refl) ns cells refl refl refl w.0 (w.1 c.0 refl)
@@ -299,7 +307,8 @@ projection-is (n ∷ ns) = by (is_aside n) refl (projection-is ns)
 
     by : (b : Bool) → is_aside n ≡ b → machine_entries (without_aside ns) ≡ joint_projection ns → machine_entries (without_aside (n ∷ ns)) ≡ joint_projection (n ∷ ns)
     by true e rest = ap machine_entries (without-cons n ns true e) ∙ rest ∙ sym (ap (λ b. goes b (is_joint n.entry.made.op) (joint_projection ns)) e)
-    by false e rest = ap machine_entries (without-cons n ns false e) ∙ ap (λ z. goes false (is_joint n.entry.made.op) z) rest ∙ sym (ap (λ b. goes b (is_joint n.entry.made.op) (joint_projection ns)) e)
+    by false e rest = ap machine_entries (without-cons n ns false e) ∙ ap (λ z. goes false (is_joint n.entry.made.op) z) rest
+        ∙ sym (ap (λ b. goes b (is_joint n.entry.made.op) (joint_projection ns)) e)
 
 pub reading_projects_so : ReadingProjectsSo
 reading_projects_so noted = projection-is noted

@@ -39,11 +39,13 @@ AreReferencesKept-heap h k issued refs mirror r made back live = record {
   weakened = r.weakened;
 }
 
-pub AreReferencesKept-issue : (h : Heap) (issued : List Issued) (refs : List (End × End)) (mirror : Option Mirror) (new : Issued) → AreReferencesKept h issued refs mirror → AreReferencesKept h (issued ++ new ∷ []) refs mirror
+pub AreReferencesKept-issue : (h : Heap) (issued : List Issued) (refs : List (End × End)) (mirror : Option Mirror) (new : Issued)
+    → AreReferencesKept h issued refs mirror → AreReferencesKept h (issued ++ new ∷ []) refs mirror
 AreReferencesKept-issue h issued refs mirror new r = record { made = r.made; live = r.live; none = r.none; weakened = λ m n e c. WasHeld-push issued new n (r.weakened m n e c) }
 
 -- a handle is weakened, and restored, in the mirrored cycle
-pub AreReferencesKept-weakened : (h : Heap) (issued : List Issued) (refs : List (End × End)) (mirror : Option Mirror) (n : ℕ) → AreReferencesKept h issued refs mirror → WasHeld issued n → AreReferencesKept h issued refs (with_weakened mirror n)
+pub AreReferencesKept-weakened : (h : Heap) (issued : List Issued) (refs : List (End × End)) (mirror : Option Mirror) (n : ℕ)
+    → AreReferencesKept h issued refs mirror → WasHeld issued n → AreReferencesKept h issued refs (with_weakened mirror n)
 AreReferencesKept-weakened h issued refs None n r w = r
 AreReferencesKept-weakened h issued refs (Some m) n r w = record {
   made = r.made;
@@ -55,7 +57,8 @@ AreReferencesKept-weakened h issued refs (Some m) n r w = record {
   ];
 }
 
-pub AreReferencesKept-restored : (h : Heap) (issued : List Issued) (refs : List (End × End)) (mirror : Option Mirror) (n : ℕ) → AreReferencesKept h issued refs mirror → AreReferencesKept h issued refs (with_restored mirror n)
+pub AreReferencesKept-restored : (h : Heap) (issued : List Issued) (refs : List (End × End)) (mirror : Option Mirror) (n : ℕ)
+    → AreReferencesKept h issued refs mirror → AreReferencesKept h issued refs (with_restored mirror n)
 AreReferencesKept-restored h issued refs None n r = r
 AreReferencesKept-restored h issued refs (Some m) n r = record {
   made = r.made;
@@ -64,7 +67,8 @@ AreReferencesKept-restored h issued refs (Some m) n r = record {
   weakened = λ k x e c. r.weakened m x refl (subst (λ (z : Mirror). Contains z.weakened x) (sym (same_Some _ k e)) c);
 }
 
-pub AreReferencesKept-given : (h : Heap) (issued : List Issued) (refs : List (End × End)) (mirror : Option Mirror) (n : ℕ) → AreReferencesKept h issued refs mirror → AreReferencesKept h issued refs (with_given mirror n)
+pub AreReferencesKept-given : (h : Heap) (issued : List Issued) (refs : List (End × End)) (mirror : Option Mirror) (n : ℕ)
+    → AreReferencesKept h issued refs mirror → AreReferencesKept h issued refs (with_given mirror n)
 AreReferencesKept-given h issued refs None n r = r
 AreReferencesKept-given h issued refs (Some m) n r = record {
   made = r.made;

@@ -30,7 +30,8 @@ renewed-length held (c ∷ cs) (said_alive g ∷ answers) = renewed-length (numb
 renewed-length held (c ∷ cs) (said_cleared ∷ answers) = renewed-length held cs answers
 
 -- what a row holds then it held before, or its restore gave it
-pub renewed-cases : (held : List (Option ℕ)) (cs : List ℕ) (answers : List Answer) (m h : ℕ) → numbered_at (renewed held cs answers) m ≡ Some (Some h) → (numbered_at held m ≡ Some (Some h)) ⊎ IsGivenTo cs answers m h
+pub renewed-cases : (held : List (Option ℕ)) (cs : List ℕ) (answers : List Answer) (m h : ℕ)
+    → numbered_at (renewed held cs answers) m ≡ Some (Some h) → (numbered_at held m ≡ Some (Some h)) ⊎ IsGivenTo cs answers m h
 renewed-cases held [] answers m h e = inl e
 renewed-cases held (c ∷ cs) [] m h e = inl e
 renewed-cases held (c ∷ cs) (said_cleared ∷ answers) m h e = elim (renewed-cases held cs answers m h e) [
@@ -63,7 +64,8 @@ cleared-alive g e = cc
 same-alive : (k g : ℕ) → said_alive k ≡ said_alive g → k ≡ g
 same-alive k g e = cc
 
-given-place : (held : List (Option ℕ)) (cs : List ℕ) (answers : List Answer) (m g : ℕ) → Rises cs → 1 ≤ m → m ≤ length held → (i : ℕ) → slice_get cs i ≡ Some m → slice_get answers i ≡ Some (said_alive g) → numbered_at (renewed held cs answers) m ≡ Some (Some g)
+given-place : (held : List (Option ℕ)) (cs : List ℕ) (answers : List Answer) (m g : ℕ) → Rises cs → 1 ≤ m → m ≤ length held → (i : ℕ)
+    → slice_get cs i ≡ Some m → slice_get answers i ≡ Some (said_alive g) → numbered_at (renewed held cs answers) m ≡ Some (Some g)
 given-place held [] answers m g r one within i e f = absurd (none_some m e)
 given-place held (c ∷ cs) [] m g r one within i e f = absurd (none_some (said_alive g) f)
 given-place held (c ∷ cs) (said_cleared ∷ answers) m g r one within zero e f = absurd (cleared-alive g (same_Some said_cleared (said_alive g) f))
@@ -76,7 +78,8 @@ given-place held (c ∷ cs) (said_alive k ∷ answers) m g r one within zero e f
 given-place held (c ∷ cs) (said_alive k ∷ answers) m g r one within (suc i) e f =
     given-place (numbered_set held c (Some k)) cs answers m g r.1 one (subst (λ n. m ≤ n) (sym (numbered_set-length held c (Some k))) within) i e f
 
-pub renewed-given : (held : List (Option ℕ)) (cs : List ℕ) (answers : List Answer) (m g : ℕ) → Rises cs → 1 ≤ m → m ≤ length held → IsGivenTo cs answers m g → numbered_at (renewed held cs answers) m ≡ Some (Some g)
+pub renewed-given : (held : List (Option ℕ)) (cs : List ℕ) (answers : List Answer) (m g : ℕ) → Rises cs
+    → 1 ≤ m → m ≤ length held → IsGivenTo cs answers m g → numbered_at (renewed held cs answers) m ≡ Some (Some g)
 renewed-given held cs answers m g r one within w = given-place held cs answers m g r one within w.place w.candidate w.answer
 
 -- the handles that the answers gave
@@ -102,24 +105,28 @@ new-untaken taken (x ∷ hs) h n c d = elim (Contains-cons_cases x hs h c) [
   | inr w ↦ new-untaken (taken ++ x ∷ []) hs h n.1 w (Contains-append_left taken (x ∷ []) h d)
 ]
 
-pub new-once : (taken : List ℕ) (answers : List Answer) (i j h : ℕ) → AreNew taken (handles_given answers) → slice_get answers i ≡ Some (said_alive h) → slice_get answers j ≡ Some (said_alive h) → i ≡ j
+pub new-once : (taken : List ℕ) (answers : List Answer) (i j h : ℕ) → AreNew taken (handles_given answers)
+    → slice_get answers i ≡ Some (said_alive h) → slice_get answers j ≡ Some (said_alive h) → i ≡ j
 new-once taken [] i j h n e f = absurd (none_some (said_alive h) e)
 new-once taken (a ∷ answers) zero zero h n e f = refl
 new-once taken (a ∷ answers) zero (suc j) h n e f = absurd (apart a (same_Some a (said_alive h) e) n)
   where
     apart : (b : Answer) → b ≡ said_alive h → AreNew taken (handles_given (b ∷ answers)) → ⊥
-    apart (said_alive k) q m = (let same : k ≡ h = (let p : said_alive k ≡ said_alive h = q in cc) in new-untaken (taken ++ k ∷ []) (handles_given answers) h m.1 (at-given answers j h f) (subst (Contains (taken ++ k ∷ [])) same (Contains-push taken k)))
+    apart (said_alive k) q m = (let same : k ≡ h = (let p : said_alive k ≡ said_alive h = q in cc) in
+        new-untaken (taken ++ k ∷ []) (handles_given answers) h m.1 (at-given answers j h f) (subst (Contains (taken ++ k ∷ [])) same (Contains-push taken k)))
     apart said_cleared q m = (let p : said_cleared ≡ said_alive h = q in cc)
 new-once taken (a ∷ answers) (suc i) zero h n e f = absurd (apart a (same_Some a (said_alive h) f) n)
   where
     apart : (b : Answer) → b ≡ said_alive h → AreNew taken (handles_given (b ∷ answers)) → ⊥
-    apart (said_alive k) q m = (let same : k ≡ h = (let p : said_alive k ≡ said_alive h = q in cc) in new-untaken (taken ++ k ∷ []) (handles_given answers) h m.1 (at-given answers i h e) (subst (Contains (taken ++ k ∷ [])) same (Contains-push taken k)))
+    apart (said_alive k) q m = (let same : k ≡ h = (let p : said_alive k ≡ said_alive h = q in cc) in
+        new-untaken (taken ++ k ∷ []) (handles_given answers) h m.1 (at-given answers i h e) (subst (Contains (taken ++ k ∷ [])) same (Contains-push taken k)))
     apart said_cleared q m = (let p : said_cleared ≡ said_alive h = q in cc)
 new-once taken (said_alive k ∷ answers) (suc i) (suc j) h n e f = ap suc (new-once (taken ++ k ∷ []) answers i j h n.1 e f)
 new-once taken (said_cleared ∷ answers) (suc i) (suc j) h n e f = ap suc (new-once taken answers i j h n e f)
 
 -- whether a restore gave the row a handle
-given-first : (c : ℕ) (cs : List ℕ) (a : Answer) (answers : List Answer) (m : ℕ) → ((g : ℕ) → IsGivenTo cs answers m g → ⊥) → ((g : ℕ) → c ≡ m → a ≡ said_alive g → ⊥) → (g : ℕ) → IsGivenTo (c ∷ cs) (a ∷ answers) m g → ⊥
+given-first : (c : ℕ) (cs : List ℕ) (a : Answer) (answers : List Answer) (m : ℕ) → ((g : ℕ) → IsGivenTo cs answers m g → ⊥)
+    → ((g : ℕ) → c ≡ m → a ≡ said_alive g → ⊥) → (g : ℕ) → IsGivenTo (c ∷ cs) (a ∷ answers) m g → ⊥
 given-first c cs a answers m n no_first g w = at w.place w.candidate w.answer
   where
     at : (i : ℕ) → slice_get (c ∷ cs) i ≡ Some m → slice_get (a ∷ answers) i ≡ Some (said_alive g) → ⊥

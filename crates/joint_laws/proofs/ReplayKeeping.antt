@@ -33,10 +33,12 @@ twin-met : (s : ManagedReplay) (v p h : ℕ) (sort : Sort) (n : ℕ) (twin : Opt
     → (let a = twin_met s.managed v h sort n twin in IsReplayKept (meet_by s p h a.state a.reply).state)
 twin-met s v p h sort n (Some m) k w e o =
     let live : IsLive s.managed.heap m = (k.pairs p m (registered-some s.registry p m e)).1.live in
-    IsReplayKept-plainly s (record s.managed { heap = with_var s.managed.heap v (Some m) }) k (twinned-goes_on s.managed v m o live) (HoldsSame-as s.managed (record s.managed { heap = with_var s.managed.heap v (Some m) }) refl)
+    IsReplayKept-plainly s (record s.managed { heap = with_var s.managed.heap v (Some m) }) k (twinned-goes_on s.managed v m o live)
+    (HoldsSame-as s.managed (record s.managed { heap = with_var s.managed.heap v (Some m) }) refl)
 twin-met s v p h sort n None k w e o = room (is_full s.managed.heap.fields)
   where
-    room : (b : Bool) → (let a = if b then answer says.Full s.managed else answer (says.New record { 0 = next_number s.managed.heap }) (with_row s.managed v (twin_kind sort) (twin_fields sort n) (Some h)) in IsReplayKept (meet_by s p h a.state a.reply).state)
+    room : (b : Bool) → (let a = if b then answer says.Full s.managed else answer (says.New record { 0 = next_number s.managed.heap })
+        (with_row s.managed v (twin_kind sort) (twin_fields sort n) (Some h)) in IsReplayKept (meet_by s p h a.state a.reply).state)
     room true = k
     room false = IsReplayKept-took s v (twin_kind sort) (twin_fields sort n) p h k w
 
@@ -97,7 +99,8 @@ module _ (s : ManagedReplay) (t : Managed) (freed : List ℕ) (k : IsReplayKept 
     },
   )
 
-snapped-kept : (s : ManagedReplay) (n : ℕ) (freed candidates dead : List ℕ) → IsReplayKept s → IsSnapshot s.managed n freed candidates dead → IsReplayKept (record s { managed = with_snapshot s.managed freed candidates dead; contracted = false })
+snapped-kept : (s : ManagedReplay) (n : ℕ) (freed candidates dead : List ℕ) → IsReplayKept s → IsSnapshot s.managed n freed candidates dead
+    → IsReplayKept (record s { managed = with_snapshot s.managed freed candidates dead; contracted = false })
 snapped-kept s n freed candidates dead k p = record {
   managed = IsManagedKept-snapped s.managed n freed candidates dead k.managed p;
   adopted = λ x h q. k.adopted x h (was-held_there s t freed k refl refl x h q);
@@ -155,7 +158,8 @@ module _ (s : ManagedReplay) (n : ℕ) (answers : List Answer) (freed : List ℕ
   resolved-bridge x b out =
       let live : IsLive t.heap x = IsLive-left s.managed.heap freed x b.1.live out in
       elim (given-or cs answers x) [
-        | inl g ↦ (let in_list = numbered-within s.managed.held x (Some b.0) b.1.held in (g.0, record { live = live; held = renewed-given s.managed.held cs answers x g.0 cs-rise in_list.0 in_list.1 g.1 }))
+        | inl g ↦ (let in_list = numbered-within s.managed.held x (Some b.0) b.1.held in
+            (g.0, record { live = live; held = renewed-given s.managed.held cs answers x g.0 cs-rise in_list.0 in_list.1 g.1 }))
         | inr none ↦ (b.0, record { live = live; held = renewed-other s.managed.held cs answers x none ∙ b.1.held })
       ]
 
@@ -186,7 +190,8 @@ contracted-kept : (s : ManagedReplay) → IsReplayKept s → IsReplayKept (recor
 contracted-kept s k = record { managed = k.managed; adopted = k.adopted; alone = k.alone; pairs = k.pairs; one_row = k.one_row; one_peer = k.one_peer }
 
 pub IsReplayKept-step : (s : ManagedReplay) (t : Thread) (o : Op) (told : Told) → IsReplayKept s → ManagedAllows s o told → IsReplayKept (managed_answer s t o told).state
-IsReplayKept-step s t (op.Line a) told k w = IsReplayKept-plainly s _ k (managed_line-goes_on s.managed (thread_number t) a k.managed.places k.managed.cells) (managed_line-same s.managed k.managed (thread_number t) a)
+IsReplayKept-step s t (op.Line a) told k w = IsReplayKept-plainly s _ k
+    (managed_line-goes_on s.managed (thread_number t) a k.managed.places k.managed.cells) (managed_line-same s.managed k.managed (thread_number t) a)
 IsReplayKept-step s t (op.Adopt v kind n p h) nothing k w = adopt-by s (place (thread_number t) v.0) kind n p.0 h.0 (is_full s.managed.heap.fields) k w
 IsReplayKept-step s t (op.Lend v x) told k w = k
 IsReplayKept-step s t (op.Meet v sort n p h) nothing k w = meet-by s (place (thread_number t) v.0) p.0 h.0 sort n s.managed.cycle k w refl

@@ -12,8 +12,10 @@ renewal s h p = answer (says.Renewed record { 0 = next_handle s.peers }) (given_
 
 -- what is shown of each of the three answers holds of a restore; of the third it may be used that the handle isn't
 -- cleared
-pub restored-cases : (Q : Answered PeerReplay → Type 0) (s : PeerReplay) (h : ℕ) (o : Option TableRow) → (o ≡ None → Q (answer says.Cleared s)) → ((row : TableRow) → o ≡ Some row → row.cleared ≡ true → Q (answer says.Cleared (withdrawn s h)))
-    → (peer_of s.peers.issued h ≡ None → Q (answer says.Cleared (withdrawn s h))) → ((row : TableRow) (p : ℕ) → o ≡ Some row → row.cleared ≡ false → peer_of s.peers.issued h ≡ Some p → Q (renewal s h p)) → Q (restored_by s h o)
+pub restored-cases : (Q : Answered PeerReplay → Type 0) (s : PeerReplay) (h : ℕ) (o : Option TableRow)
+    → (o ≡ None → Q (answer says.Cleared s)) → ((row : TableRow) → o ≡ Some row → row.cleared ≡ true → Q (answer says.Cleared (withdrawn s h)))
+    → (peer_of s.peers.issued h ≡ None → Q (answer says.Cleared (withdrawn s h)))
+    → ((row : TableRow) (p : ℕ) → o ≡ Some row → row.cleared ≡ false → peer_of s.peers.issued h ≡ Some p → Q (renewal s h p)) → Q (restored_by s h o)
 restored-cases Q s h None missing cleared unissued new = missing refl
 restored-cases Q s h (Some row) missing cleared unissued new = by row.cleared refl
   where
@@ -26,5 +28,6 @@ restored-cases Q s h (Some row) missing cleared unissued new = by row.cleared re
     by false e = fresh (peer_of s.peers.issued h) refl e
 
 -- the same where nothing is used
-pub restored-any : (Q : Answered PeerReplay → Type 0) (s : PeerReplay) (h : ℕ) (o : Option TableRow) → Q (answer says.Cleared s) → Q (answer says.Cleared (withdrawn s h)) → ((p : ℕ) → Q (renewal s h p)) → Q (restored_by s h o)
+pub restored-any : (Q : Answered PeerReplay → Type 0) (s : PeerReplay) (h : ℕ) (o : Option TableRow)
+    → Q (answer says.Cleared s) → Q (answer says.Cleared (withdrawn s h)) → ((p : ℕ) → Q (renewal s h p)) → Q (restored_by s h o)
 restored-any Q s h o missing cleared new = restored-cases Q s h o (λ e. missing) (λ row e f. cleared) (λ e. cleared) (λ row p e f g. new p)

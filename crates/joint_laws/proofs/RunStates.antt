@@ -37,11 +37,13 @@ front-length n ns b e = ap length (projected n ns b e)
 
 -- what is known of a run from a later state on
 abbrev Goes : List Noted → Linkage → Noted → Type 0
-Goes ns t n = (v : Stands t) (k : Joint) (tail : List Moment) → k ≡ state_of t v → map (λ (m : Moment). m.noted) tail ≡ machine_entries ns → IsRunFrom k tail → (l : ℕ) → slice_get ns l ≡ Some n → AtPlace ns t tail l n
+Goes ns t n = (v : Stands t) (k : Joint) (tail : List Moment) → k ≡ state_of t v
+    → map (λ (m : Moment). m.noted) tail ≡ machine_entries ns → IsRunFrom k tail → (l : ℕ) → slice_get ns l ≡ Some n → AtPlace ns t tail l n
 
 module _ (n0 : Noted) (ns : List Noted) (s : Linkage) (w : Stands s) (n : Noted) (j : Joint) (from : j ≡ state_of s w) (v : Stands (linkage_after s n0)) (rest : Goes ns (linkage_after s n0) n) where
   -- a step
-  module _ (t : is_joint n0.entry.made.op ≡ true) (st : JointStep (state_of s w) n0 (state_of (linkage_after s n0) v)) (m : Moment) (ms : List Moment) (q : map (λ (x : Moment). x.noted) (m ∷ ms) ≡ n0 ∷ machine_entries ns) (u : IsRunFrom j (m ∷ ms)) where
+  module _ (t : is_joint n0.entry.made.op ≡ true) (st : JointStep (state_of s w) n0 (state_of (linkage_after s n0) v)) (m : Moment)
+      (ms : List Moment) (q : map (λ (x : Moment). x.noted) (m ∷ ms) ≡ n0 ∷ machine_entries ns) (u : IsRunFrom j (m ∷ ms)) where
     noted : m.noted ≡ n0
     noted = heads-same m.noted n0 (map (λ (x : Moment). x.noted) ms) (machine_entries ns) q
 
@@ -72,7 +74,8 @@ module _ (n0 : Noted) (ns : List Noted) (s : Linkage) (w : Stands s) (n : Noted)
         }
 
   -- an entry that is none
-  at-none : is_joint n0.entry.made.op ≡ false → is_joint n.entry.made.op ≡ true → state_of (linkage_after s n0) v ≡ state_of s w → (ms : List Moment) → map (λ (x : Moment). x.noted) ms ≡ machine_entries ns → IsRunFrom j ms → (l : ℕ) → slice_get (n0 ∷ ns) l ≡ Some n → AtPlace (n0 ∷ ns) s ms l n
+  at-none : is_joint n0.entry.made.op ≡ false → is_joint n.entry.made.op ≡ true → state_of (linkage_after s n0) v ≡ state_of s w → (ms : List Moment)
+      → map (λ (x : Moment). x.noted) ms ≡ machine_entries ns → IsRunFrom j ms → (l : ℕ) → slice_get (n0 ∷ ns) l ≡ Some n → AtPlace (n0 ∷ ns) s ms l n
   at-none t step stay ms q u zero x = absurd (let f : true ≡ false = sym step ∙ (sym (ap (λ (z : Noted). is_joint z.entry.made.op) (same_Some n0 n x)) ∙ t) in cc)
   at-none t step stay ms q u (suc l) x =
       let r = rest v j ms (from ∙ sym stay) q u l x in
@@ -84,7 +87,8 @@ module _ (n0 : Noted) (ns : List Noted) (s : Linkage) (w : Stands s) (n : Noted)
         after = r.after;
       }
 
-at-place : (ns : List Noted) (s : Linkage) (w : Stands s) (j : Joint) (run : List Moment) → AllMayCome s ns → j ≡ state_of s w → map (λ (m : Moment). m.noted) run ≡ machine_entries ns → IsRunFrom j run → (i : ℕ) (n : Noted) → slice_get ns i ≡ Some n → is_joint n.entry.made.op ≡ true → AtPlace ns s run i n
+at-place : (ns : List Noted) (s : Linkage) (w : Stands s) (j : Joint) (run : List Moment) → AllMayCome s ns → j ≡ state_of s w
+    → map (λ (m : Moment). m.noted) run ≡ machine_entries ns → IsRunFrom j run → (i : ℕ) (n : Noted) → slice_get ns i ≡ Some n → is_joint n.entry.made.op ≡ true → AtPlace ns s run i n
 at-place [] s w j run may from same r i n e step = absurd (none_some n e)
 at-place (n0 ∷ ns) s w j run may from same r i n e step = by (enters s w n0 may.0) (λ v k tail q u f l x. at-place ns (linkage_after s n0) v k tail may.1 q u f l n x step) run same r
   where

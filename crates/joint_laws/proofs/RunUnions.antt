@@ -69,11 +69,13 @@ module _ (m : Moment) (tr : IsTraced m) where
 
   gone-on : (x : Row) → IsGone m.before x → IsGone m.after x
   gone-on (peer p) f = f
-  gone-on (object x) f = subst (λ (z : Joint). Contains z.graph.managed.heap.freed x) (sym tr.after) (grows-Contains _ _ x (managed-grows s m.noted tr.may tr.stands.kept) (subst (λ (z : Joint). Contains z.graph.managed.heap.freed x) tr.before f))
+  gone-on (object x) f = subst (λ (z : Joint). Contains z.graph.managed.heap.freed x) (sym tr.after)
+      (grows-Contains _ _ x (managed-grows s m.noted tr.may tr.stands.kept) (subst (λ (z : Joint). Contains z.graph.managed.heap.freed x) tr.before f))
 
   reached-kept : (x : Row) → IsReached m.after x → IsGone m.after x → ⊥
   reached-kept (peer p) r f = f
-  reached-kept (object x) r f = reached-live t tr.next.flags.removed (object x) tr.next.kept (subst (λ z. IsReached z (object x)) tr.after r) (subst (λ (z : Joint). Contains z.graph.managed.heap.freed x) tr.after f)
+  reached-kept (object x) r f = reached-live t tr.next.flags.removed (object x) tr.next.kept
+      (subst (λ z. IsReached z (object x)) tr.after r) (subst (λ (z : Joint). Contains z.graph.managed.heap.freed x) tr.after f)
 
 module _ (noted : List Noted) (run : List Moment) (may : AllMayCome opening_linkage noted) (r : IsRun (machine_entries noted) run) where
   traced : (i : ℕ) (m : Moment) → slice_get run i ≡ Some m → IsTraced m
@@ -110,7 +112,8 @@ module _ (noted : List Noted) (run : List Moment) (may : AllMayCome opening_link
       ]
 
   -- on from a moment to a later one
-  on_to : (i d : ℕ) (p m : Moment) (x y : Row) → slice_get run i ≡ Some p → slice_get run (i + d) ≡ Some m → IsOpenInRun run i (i + d) → JointEdge p.after.graph x y → JointEdge m.after.graph x y ⊎ IsReachedInRun run i (i + d) y ⊎ IsGone m.after x
+  on_to : (i d : ℕ) (p m : Moment) (x y : Row) → slice_get run i ≡ Some p → slice_get run (i + d) ≡ Some m → IsOpenInRun run i (i + d)
+      → JointEdge p.after.graph x y → JointEdge m.after.graph x y ⊎ IsReachedInRun run i (i + d) y ⊎ IsGone m.after x
   on_to i zero p m x y e f on g =
       let same : i + 0 ≡ i = omega arith in
       inl (subst (λ (z : Moment). JointEdge z.after.graph x y) (same_Some p m (sym e ∙ (ap (λ k. slice_get run k) (sym same) ∙ f))) g)
@@ -141,7 +144,14 @@ module _ (noted : List Noted) (run : List Moment) (may : AllMayCome opening_link
         let same : w.place + d ≡ i = omega (arith, p) in
         elim (back w.place d w.moment m x y w.there (ap (λ z. slice_get run z) same ∙ there) e) [
           | inl f ↦ one a k w.place w.moment y w.later w.earlier w.there (Reached-then (IsJointRoot w.moment.after.graph) (JointEdge w.moment.after.graph) x y w.reached f)
-          | inr v ↦ record { place = v.place; later = (let q = v.later in let u = w.later in omega arith); earlier = (let q = v.earlier in omega (arith, q, same, h)); moment = v.moment; there = v.there; reached = v.reached }
+          | inr v ↦ record {
+            place = v.place;
+            later = (let q = v.later in let u = w.later in omega arith);
+            earlier = (let q = v.earlier in omega (arith, q, same, h));
+            moment = v.moment;
+            there = v.there;
+            reached = v.reached;
+          }
         ])
     | inr p ↦ (
         let d = w.place - i in
@@ -149,7 +159,14 @@ module _ (noted : List Noted) (run : List Moment) (may : AllMayCome opening_link
         elim (on_to i d m w.moment x y there (ap (λ z. slice_get run z) same ∙ w.there) (λ j z u v. on j z u (let q = w.earlier in omega (arith, v, same, q))) e) [
           | inl f ↦ one a k w.place w.moment y w.later w.earlier w.there (Reached-then (IsJointRoot w.moment.after.graph) (JointEdge w.moment.after.graph) x y w.reached f)
           | inr v ↦ elim v [
-            | inl f ↦ record { place = f.place; later = (let q = f.later in omega (arith, q, l)); earlier = (let q = f.earlier in let u = w.earlier in omega (arith, q, same, u)); moment = f.moment; there = f.there; reached = f.reached }
+            | inl f ↦ record {
+              place = f.place;
+              later = (let q = f.later in omega (arith, q, l));
+              earlier = (let q = f.earlier in let u = w.earlier in omega (arith, q, same, u));
+              moment = f.moment;
+              there = f.there;
+              reached = f.reached;
+            }
             | inr f ↦ absurd (reached-kept w.moment (traced w.place w.moment w.there) x w.reached f)
           ]
         ])
@@ -163,4 +180,5 @@ run_union_follows_marking noted run may r i mk b a k l h on p q w e =
     let n = b.event.entry in
     let at = steps_have_moments noted run may r i n b.event.there (ap is_joint b.event.event) in
     let walk : Reaches (JointEdge at.moment.after.graph) (peer p) (peer q) = subst (λ (g : Graph). Reaches (JointEdge g) (peer p) (peer q)) (sym at.after) (marking-walk noted may i mk b p q e) in
-    Reaches-keeps (JointEdge at.moment.after.graph) (λ z. IsReachedInRun run a k z) (λ x y f v. closed noted run may r a (length (machine_entries (take i noted))) k at.moment l h at.there on x y v f) (peer p) (peer q) walk w
+    Reaches-keeps (JointEdge at.moment.after.graph) (λ z. IsReachedInRun run a k z)
+    (λ x y f v. closed noted run may r a (length (machine_entries (take i noted))) k at.moment l h at.there on x y v f) (peer p) (peer q) walk w

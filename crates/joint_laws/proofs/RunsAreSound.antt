@@ -16,7 +16,8 @@ use Rattle.std.specs.Prelude.{slice_get, if◌then◌else◌}
 use Rattle.std.proofs.lemmas.Option.{same_Some}
 use Rattle.joint_machine.specs.declared.events.Op.TheVariants as op
 use Rattle.joint_machine.specs.Joint.{Joint, opening, object, IsReached, JointMarking, peer, IsReachedIn}
-use Rattle.joint_machine.specs.Run.{Moment, JointStep, JointEvent, JointSnap, IsRunFrom, JointBegin, JointSweep, EndsMarking, IsStored, JointComputed, joint_answer, joint_line, without, answered, given_anew}
+use Rattle.joint_machine.specs.Run.{Moment, JointStep, JointEvent, JointSnap, IsRunFrom, JointBegin, JointSweep, EndsMarking, IsStored, JointComputed, joint_answer, joint_line, without, answered}
+use Rattle.joint_machine.specs.Run.{given_anew}
 use Rattle.joint_machine.specs.Told.{snap_of, Told, sweep_of, resolution_of, said_alive, said_cleared}
 use Rattle.joint_machine.proofs.Deciding.{none_some}
 use Rattle.joint_laws.specs.RunLaws.{SnapshotsAreSound, SweepsAreSound}
@@ -31,9 +32,11 @@ step-at (x ∷ run) j zero m r e = subst (λ (z : Moment). JointStep z.before z.
 step-at (x ∷ run) j (suc i) m r e = step-at run x.after i m r.2 e
 
 -- a snapshot
-snap-event : (m : Moment) (k : ℕ) (freed candidates dead : List ℕ) → JointStep m.before m.noted m.after → m.noted.entry.made.op ≡ op.Snap record { 0 = k } → m.noted.told ≡ snap_of freed candidates dead → JointSnap m.before k freed candidates dead m.noted.entry.made.reply m.after
+snap-event : (m : Moment) (k : ℕ) (freed candidates dead : List ℕ) → JointStep m.before m.noted m.after → m.noted.entry.made.op ≡ op.Snap record { 0 = k }
+    → m.noted.told ≡ snap_of freed candidates dead → JointSnap m.before k freed candidates dead m.noted.entry.made.reply m.after
 snap-event m k freed candidates dead st e f =
-    subst (λ z. JointEvent m.before m.noted.entry.made.caller (op.Snap record { 0 = k }) m.noted.entry.made.reply z m.after) f (subst (λ z. JointEvent m.before m.noted.entry.made.caller z m.noted.entry.made.reply m.noted.told m.after) e st.step)
+    subst (λ z. JointEvent m.before m.noted.entry.made.caller (op.Snap record { 0 = k }) m.noted.entry.made.reply z m.after) f
+    (subst (λ z. JointEvent m.before m.noted.entry.made.caller z m.noted.entry.made.reply m.noted.told m.after) e st.step)
 
 pub snapshots_are_sound : SnapshotsAreSound
 snapshots_are_sound entries run r i k m freed candidates s c x e w =
@@ -99,7 +102,8 @@ computed-case b a t o reply w = stays (ap (λ (z : Joint). z.marking) w.state �
 
 -- a restore leaves the marking as it is
 restored-marking : (b : Joint) (h p : ℕ) (f : Bool)
-    → (if f then answer says.Cleared (answered (without b (Some h)) h said_cleared) else answer (says.Renewed record { 0 = next_handle b.graph.peers }) (answered (given_anew (without b (Some h)) p) h (said_alive (next_handle b.graph.peers)))).state.marking ≡ b.marking
+    → (if f then answer says.Cleared (answered (without b (Some h)) h said_cleared) else answer (says.Renewed record { 0 = next_handle b.graph.peers })
+    (answered (given_anew (without b (Some h)) p) h (said_alive (next_handle b.graph.peers)))).state.marking ≡ b.marking
 restored-marking b h p true = refl
 restored-marking b h p false = refl
 
@@ -130,9 +134,11 @@ origin run r (suc i) m e y f =
     let p = earlier-there run i m e in
     let next = next-before run opening i p.0 m r p.1 e in
     let st = step-at run opening i p.0 r p.1 in
-    by p.0 p.1 (ap (λ (z : Joint). z.marking) (sym next) ∙ f) (marking-case p.0.before p.0.after p.0.noted.entry.made.caller p.0.noted.entry.made.op p.0.noted.entry.made.reply p.0.noted.told st.step) (origin run r i p.0 p.1 y)
+    by p.0 p.1 (ap (λ (z : Joint). z.marking) (sym next) ∙ f) (marking-case p.0.before p.0.after p.0.noted.entry.made.caller p.0.noted.entry.made.op p.0.noted.entry.made.reply p.0.noted.told st.step)
+    (origin run r i p.0 p.1 y)
   where
-    by : (p : Moment) → slice_get run i ≡ Some p → p.after.marking ≡ Some y → MarkingCase p.before p.noted.entry.made.op p.noted.entry.made.reply p.after → (p.before.marking ≡ Some y → HasOrigin run i y) → HasOrigin run (suc i) y
+    by : (p : Moment) → slice_get run i ≡ Some p → p.after.marking ≡ Some y → MarkingCase p.before p.noted.entry.made.op p.noted.entry.made.reply p.after
+        → (p.before.marking ≡ Some y → HasOrigin run i y) → HasOrigin run (suc i) y
     by p there g (stays q) rest = later-origin run i y (rest (sym q ∙ g))
     by p there g (ends q) rest = absurd (none_some y (sym q ∙ g))
     by p there g (opens z o reply q w) rest =
@@ -150,7 +156,8 @@ swept_number (says.Swept j span) = j.0
 swept_number _ = 0
 
 -- a sweep that frees ends the open marking
-ends-of : (b a : Joint) (x : Option JointMarking) (t : Thread) (reply : Reply) (freed : List ℕ) (j : ℕ) (span : Span) → b.marking ≡ x → JointSweep b x t reply (sweep_of freed) a → reply ≡ says.Swept record { 0 = j } span
+ends-of : (b a : Joint) (x : Option JointMarking) (t : Thread) (reply : Reply) (freed : List ℕ) (j : ℕ) (span : Span)
+    → b.marking ≡ x → JointSweep b x t reply (sweep_of freed) a → reply ≡ says.Swept record { 0 = j } span
     → (y : JointMarking) × (b.marking ≡ Some y) × (y.number ≡ j) × EndsMarking b y t freed reply a
 ends-of b a None t reply freed j span e w q = absurd (let f : says.NoMark ≡ says.Swept record { 0 = j } span = sym w.1 ∙ q in cc)
 ends-of b a (Some y) t reply freed j span e w q = elim w [
@@ -158,12 +165,14 @@ ends-of b a (Some y) t reply freed j span e w q = elim w [
   | inr v ↦ absurd (let f : says.MarkOpen record { 0 = y.number } ≡ says.Swept record { 0 = j } span = sym v.replies ∙ q in cc)
 ]
 
-pub sweep-ends : (run : List Moment) → IsRunFrom opening run → (i j : ℕ) (freed : List ℕ) (s : SweepsAt run i j freed) → (y : JointMarking) × (s.moment.before.marking ≡ Some y) × (y.number ≡ j) × EndsMarking s.moment.before y s.moment.noted.entry.made.caller freed s.moment.noted.entry.made.reply s.moment.after
+pub sweep-ends : (run : List Moment) → IsRunFrom opening run → (i j : ℕ) (freed : List ℕ) (s : SweepsAt run i j freed) → (y : JointMarking)
+    × (s.moment.before.marking ≡ Some y) × (y.number ≡ j) × EndsMarking s.moment.before y s.moment.noted.entry.made.caller freed s.moment.noted.entry.made.reply s.moment.after
 sweep-ends run r i j freed s =
     let st = step-at run opening i s.moment r s.there in
     let m = s.moment in
     let w : JointSweep m.before m.before.marking m.noted.entry.made.caller m.noted.entry.made.reply (sweep_of freed) m.after =
-    subst (λ z. JointEvent m.before m.noted.entry.made.caller op.Sweep m.noted.entry.made.reply z m.after) s.frees (subst (λ z. JointEvent m.before m.noted.entry.made.caller z m.noted.entry.made.reply m.noted.told m.after) s.event st.step) in
+    subst (λ z. JointEvent m.before m.noted.entry.made.caller op.Sweep m.noted.entry.made.reply z m.after) s.frees
+    (subst (λ z. JointEvent m.before m.noted.entry.made.caller z m.noted.entry.made.reply m.noted.told m.after) s.event st.step) in
     ends-of m.before m.after m.before.marking m.noted.entry.made.caller m.noted.entry.made.reply freed j s.span refl w s.reply
 
 pub sweeps_are_sound : SweepsAreSound
@@ -175,6 +184,7 @@ sweeps_are_sound entries run r i j p freed s c =
       subst (λ z. BeginsAt run o.begin z) w.2 o.begins,
       record {
         at_begin = λ m e v. (All-contains (λ x. IsStored w.0 x) freed p w.3.stored c).unreached (subst (λ g. IsReachedIn g (peer p)) (o.graph m e) v);
-        before_sweep = λ m e v. All-contains (λ x. IsReached s.moment.before (peer x) → ⊥) freed p w.3.unreached c (subst (λ (z : Moment). IsReached z.before (peer p)) (same_Some m s.moment (sym e ∙ s.there)) v);
+        before_sweep = λ m e v. All-contains (λ x. IsReached s.moment.before (peer x) → ⊥) freed p w.3.unreached c
+            (subst (λ (z : Moment). IsReached z.before (peer p)) (same_Some m s.moment (sym e ∙ s.there)) v);
       },
     )

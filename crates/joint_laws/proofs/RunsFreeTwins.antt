@@ -50,8 +50,11 @@ lawful-sweep s n mk freed may e f g = w.1
     allowed : SweepAllows s.peer s.peer.marking n.entry.made.caller n.told
     allowed = by n.entry.made.op e may.lawful
       where
-        by : (o : Op) → o ≡ op.Sweep → SideLawful (is_peer_event n.entry.made.caller o) s (record { caller = n.entry.made.caller; index = n.entry.made.index; op = o; reply = n.entry.made.reply; cites = n.entry.made.cites }) n.told → SweepAllows s.peer s.peer.marking n.entry.made.caller n.told
-        by o q l = (subst (λ z. SideLawful (is_peer_event n.entry.made.caller z) s (record { caller = n.entry.made.caller; index = n.entry.made.index; op = z; reply = n.entry.made.reply; cites = n.entry.made.cites }) n.told) q l).allowed
+        by : (o : Op) → o ≡ op.Sweep → SideLawful (is_peer_event n.entry.made.caller o) s
+            (record { caller = n.entry.made.caller; index = n.entry.made.index; op = o; reply = n.entry.made.reply; cites = n.entry.made.cites }) n.told
+            → SweepAllows s.peer s.peer.marking n.entry.made.caller n.told
+        by o q l = (subst (λ z. SideLawful (is_peer_event n.entry.made.caller z) s
+            (record { caller = n.entry.made.caller; index = n.entry.made.index; op = z; reply = n.entry.made.reply; cites = n.entry.made.cites }) n.told) q l).allowed
 
     w : SweepAllows s.peer (Some mk) n.entry.made.caller (sweep_of freed)
     w = subst (λ z. SweepAllows s.peer (Some mk) n.entry.made.caller z) g (subst (λ z. SweepAllows s.peer z n.entry.made.caller n.told) f allowed)
@@ -61,12 +64,26 @@ abbrev pub TwinsSwept : List Moment → ℕ → Joint → Type 0
 TwinsSwept run i j = (x h p : ℕ) → Holds j.graph.managed x h → peer_of j.graph.peers.issued h ≡ Some p → Contains j.graph.peers.heap.freed p → IsSweptFor run i p (object x)
 
 later-limit : (run : List Moment) (i p x : ℕ) → IsSweptFor run i p (object x) → IsSweptFor run (suc i) p (object x)
-later-limit run i p x w = record { marking = w.marking; begin = w.begin; sweep = w.sweep; freed = w.freed; begins = w.begins; sweeps = w.sweeps; in_order = w.in_order; in_time = (let l = w.in_time in omega arith); frees = w.frees; row = w.row; itself = w.itself }
+later-limit run i p x w = record {
+  marking = w.marking;
+  begin = w.begin;
+  sweep = w.sweep;
+  freed = w.freed;
+  begins = w.begins;
+  sweeps = w.sweeps;
+  in_order = w.in_order;
+  in_time = (let l = w.in_time in omega arith);
+  frees = w.frees;
+  row = w.row;
+  itself = w.itself;
+}
 
 module _ (run : List Moment) (steps : IsRunFrom opening run) (traced : (m : Moment) → Contains run m → IsTraced m) where
   -- at a sweep that frees the peer
-  swept-now : (i : ℕ) (m : Moment) → slice_get run i ≡ Some m → (t : IsTraced m) → m.noted.entry.made.op ≡ op.Sweep → (y : JointMarking) (freed : List ℕ) → m.before.marking ≡ Some y → m.noted.told ≡ sweep_of freed → EndsMarking m.before y m.noted.entry.made.caller freed m.noted.entry.made.reply m.after
-      → (x h p : ℕ) (i0 : Issued) → Holds t.state.managed.managed x h → IsIssued t.state.peer.peers.issued h i0 → i0.peer ≡ p → IsLive t.state.peer.peers.heap p → Contains freed p → IsSweptFor run (suc i) p (object x)
+  swept-now : (i : ℕ) (m : Moment) → slice_get run i ≡ Some m → (t : IsTraced m) → m.noted.entry.made.op ≡ op.Sweep → (y : JointMarking) (freed : List ℕ)
+      → m.before.marking ≡ Some y → m.noted.told ≡ sweep_of freed → EndsMarking m.before y m.noted.entry.made.caller freed m.noted.entry.made.reply m.after
+      → (x h p : ℕ) (i0 : Issued) → Holds t.state.managed.managed x h → IsIssued t.state.peer.peers.issued h i0
+      → i0.peer ≡ p → IsLive t.state.peer.peers.heap p → Contains freed p → IsSweptFor run (suc i) p (object x)
   swept-now i m there t e y freed open_now told w x h p i0 q iss on live c =
       let o = origin run steps i m there y open_now in
       let stored = All-contains (IsStored y) freed p w.stored c in
@@ -91,7 +108,8 @@ module _ (run : List Moment) (steps : IsRunFrom opening run) (traced : (m : Mome
                 (record { handle = h; holds = then.0; leads = peer_of-issued y.begun.peers.issued h i0 then.1 ∙ ap Some on; live = stored.existed }))
           ];
           before_sweep = λ b at v. (
-              let here : IsReached (state_of t.state t.stands) (object x) = subst (λ z. IsReached z (object x)) t.before (subst (λ (z : Moment). IsReached z.before (object x)) (same_Some b m (sym at ∙ there)) v) in
+              let here : IsReached (state_of t.state t.stands) (object x) = subst (λ z. IsReached z (object x)) t.before
+              (subst (λ (z : Moment). IsReached z.before (object x)) (same_Some b m (sym at ∙ there)) v) in
               unreached (subst (λ z. IsReached z (peer p)) (sym t.before)
               (Reached-then (IsJointRoot (state_of t.state t.stands).graph) (JointEdge (state_of t.state t.stands).graph) (object x) (peer p) here
               (record { handle = h; holds = q; leads = peer_of-issued t.state.peer.peers.issued h i0 iss ∙ ap Some on; live = live }))));
@@ -125,11 +143,14 @@ module _ (run : List Moment) (steps : IsRunFrom opening run) (traced : (m : Mome
           let same : i0.0 ≡ row.0 = same_Some i0.0 row.0 (sym ((peer-entry t.state m.noted t.stands.kept).issued_on h i0.0 i0.1) ∙ row.1) in
           let on : i0.0.peer ≡ p = ap (λ (z : Issued). z.peer) same ∙ row.2 in
           elim (Contains-decided t.state.peer.peers.heap.freed p) [
-            | inl was ↦ later-limit run i p x (before x h p (subst (λ z. Holds z.graph.managed x h) (sym t.before) old) (subst (λ z. peer_of z.graph.peers.issued h ≡ Some p) (sym t.before) (peer_of-issued t.state.peer.peers.issued h i0.0 i0.1 ∙ ap Some on)) (subst (λ z. Contains z.graph.peers.heap.freed p) (sym t.before) was))
+            | inl was ↦ later-limit run i p x (before x h p (subst (λ z. Holds z.graph.managed x h) (sym t.before) old)
+                (subst (λ z. peer_of z.graph.peers.issued h ≡ Some p) (sym t.before) (peer_of-issued t.state.peer.peers.issued h i0.0 i0.1 ∙ ap Some on))
+                (subst (λ z. Contains z.graph.peers.heap.freed p) (sym t.before) was))
             | inr not_yet ↦ now old i0.0 i0.1 on not_yet
           ]
         where
-          now : Holds t.state.managed.managed x h → (i0 : Issued) → IsIssued t.state.peer.peers.issued h i0 → i0.peer ≡ p → (Contains t.state.peer.peers.heap.freed p → ⊥) → IsSweptFor run (suc i) p (object x)
+          now : Holds t.state.managed.managed x h → (i0 : Issued) → IsIssued t.state.peer.peers.issued h i0
+              → i0.peer ≡ p → (Contains t.state.peer.peers.heap.freed p → ⊥) → IsSweptFor run (suc i) p (object x)
           now old i0 iss on not_yet =
               let live : IsLive t.state.peer.peers.heap p = record { made = subst (λ z. IsMade t.state.peer.peers.heap z) on (t.stands.kept.peer.handles.peers h i0 iss); kept = not_yet } in
               elim (sweep-or m.noted.entry.made.op) [
@@ -138,9 +159,11 @@ module _ (run : List Moment) (steps : IsRunFrom opening run) (traced : (m : Mome
                     let st : JointSweep m.before m.before.marking m.noted.entry.made.caller m.noted.entry.made.reply m.noted.told m.after =
                     subst (λ z. JointEvent m.before m.noted.entry.made.caller z m.noted.entry.made.reply m.noted.told m.after) e (step-at run opening i m steps there).step in
                     elim (sweep-freed m.before m.after m.before.marking m.noted.entry.made.caller m.noted.entry.made.reply m.noted.told refl st) [
-                      | inl same_freed ↦ absurd (not_yet (subst (λ z. Contains z.graph.peers.heap.freed p) t.before (subst (λ z. Contains z p) same_freed (subst (λ z. Contains z.graph.peers.heap.freed p) (sym t.after) c))))
+                      | inl same_freed ↦ absurd (not_yet (subst (λ z. Contains z.graph.peers.heap.freed p) t.before
+                          (subst (λ z. Contains z p) same_freed (subst (λ z. Contains z.graph.peers.heap.freed p) (sym t.after) c))))
                       | inr v ↦ (
-                          let all : Contains (m.before.graph.peers.heap.freed ++ v.1) p = subst (λ (z : Joint). Contains z.graph.peers.heap.freed p) v.4.state (subst (λ z. Contains z.graph.peers.heap.freed p) (sym t.after) c) in
+                          let all : Contains (m.before.graph.peers.heap.freed ++ v.1) p = subst (λ (z : Joint). Contains z.graph.peers.heap.freed p) v.4.state
+                          (subst (λ z. Contains z.graph.peers.heap.freed p) (sym t.after) c) in
                           elim (Contains-append_cases m.before.graph.peers.heap.freed v.1 p all) [
                             | inl w ↦ absurd (not_yet (subst (λ z. Contains z.graph.peers.heap.freed p) t.before w))
                             | inr w ↦ swept-now i m there t e v.0 v.1 v.2 v.3 v.4 x h p i0 old iss on live w

@@ -39,8 +39,10 @@ module _ (bridge bridge' : ℕ → Type 0) (edge edge' : ℕ → ℕ → Type 0)
     outs = h.outs;
     ins_rise = h.ins_rise;
     outs_rise = h.outs_rise;
-    lead_in = All-weaker (LeadsIn bridge edge x) (LeadsIn bridge' edge' x) (λ c w. (first_same c w.0, leads_same (IsPlainClass bridge edge) (IsPlainClass bridge' edge') plain_same c x w.1)) h.ins h.lead_in;
-    lead_out = All-weaker (LeadsOut bridge edge x) (LeadsOut bridge' edge' x) (λ c w. (first_same c w.0, leads_same (IsPlainClass bridge edge) (IsPlainClass bridge' edge') plain_same x c w.1)) h.outs h.lead_out;
+    lead_in = All-weaker (LeadsIn bridge edge x) (LeadsIn bridge' edge' x)
+        (λ c w. (first_same c w.0, leads_same (IsPlainClass bridge edge) (IsPlainClass bridge' edge') plain_same c x w.1)) h.ins h.lead_in;
+    lead_out = All-weaker (LeadsOut bridge edge x) (LeadsOut bridge' edge' x)
+        (λ c w. (first_same c w.0, leads_same (IsPlainClass bridge edge) (IsPlainClass bridge' edge') plain_same x c w.1)) h.outs h.lead_out;
     some_in = h.some_in;
     some_out = h.some_out;
     many = h.many;
@@ -66,7 +68,8 @@ module _ (bridge bridge' : ℕ → Type 0) (edge edge' : ℕ → ℕ → Type 0)
   heavies_same : (x : ℕ) → IsHeavy bridge edge x × IsLeast edge x → IsHeavy bridge' edge' x × IsLeast edge' x
   heavies_same x w = (heavy_same bridge bridge' edge edge' b e x w.0, least_same bridge bridge' edge edge' b e x w.1)
 
-pub contraction-same : (bridge bridge' : ℕ → Type 0) (edge edge' : ℕ → ℕ → Type 0) (comps : List (List ℕ)) (heavy : List ℕ) (xrefs : List (ℕ × ℕ)) → ((x : ℕ) → bridge x ↔ bridge' x) → ((x y : ℕ) → edge x y ↔ edge' x y)
+pub contraction-same : (bridge bridge' : ℕ → Type 0) (edge edge' : ℕ → ℕ → Type 0) (comps : List (List ℕ)) (heavy : List ℕ) (xrefs : List (ℕ × ℕ))
+    → ((x : ℕ) → bridge x ↔ bridge' x) → ((x y : ℕ) → edge x y ↔ edge' x y)
     → IsContraction bridge edge comps heavy xrefs → IsContraction bridge' edge' comps heavy xrefs
 contraction-same bridge bridge' edge edge' comps heavy xrefs b e k = record {
   canonical = k.canonical;

@@ -51,10 +51,12 @@ module _ (run : List Moment) (steps : IsRunFrom opening run) (traced : (m : Mome
   resolved : (i k m : ℕ) (freed : List ℕ) → ResolvesAt run i k freed → Contains freed m → IsUnreachedBefore run i (object m)
   resolved i k m freed w c x e v =
       let r = resolve-event i k freed w in
-      resolution-unreached w.moment.before r.cycle freed (kept_before i w.moment w.there) r.open_cycle.0 r.resolution m c (subst (λ (z : Moment). IsReached z.before (object m)) (same_Some x w.moment (sym e ∙ w.there)) v)
+      resolution-unreached w.moment.before r.cycle freed (kept_before i w.moment w.there) r.open_cycle.0 r.resolution m c
+      (subst (λ (z : Moment). IsReached z.before (object m)) (same_Some x w.moment (sym e ∙ w.there)) v)
 
   -- a candidate that is freed has a freed peer
-  freed-peer : (j : Joint) (c : OpenCycle) (m h p : ℕ) (freed : List ℕ) → ((x : ℕ) → Contains freed x → (((y : ℕ) × IsKept j c y × Reaches (ManagedEdge j.graph.managed) y x) → ⊥)) → Contains freed m → Contains c.candidates m → Holds j.graph.managed m h → peer_of j.graph.peers.issued h ≡ Some p → Contains j.graph.peers.heap.freed p
+  freed-peer : (j : Joint) (c : OpenCycle) (m h p : ℕ) (freed : List ℕ) → ((x : ℕ) → Contains freed x → (((y : ℕ) × IsKept j c y × Reaches (ManagedEdge j.graph.managed) y x) → ⊥))
+      → Contains freed m → Contains c.candidates m → Holds j.graph.managed m h → peer_of j.graph.peers.issued h ≡ Some p → Contains j.graph.peers.heap.freed p
   freed-peer j c m h p freed frees f cm q l = elim (Contains-decided j.graph.peers.heap.freed p) [
     | inl w ↦ w
     | inr n ↦ absurd (frees m f (m, record { candidate = cm; handle = h; holds = q; peer = p; leads = l; unfreed = n }, Reaches-self (ManagedEdge j.graph.managed) m))
@@ -71,7 +73,8 @@ module _ (run : List Moment) (steps : IsRunFrom opening run) (traced : (m : Mome
       let b : IsBridge w.moment.before.graph.managed m = (((kept.dead r.cycle r.open_cycle.0).candidates m).0 cm).1 in
       let here : Holds t.state.managed.managed m b.0 = subst (λ (z : Joint). Holds z.graph.managed m b.0) t.before b.1 in
       let i0 = t.stands.kept.owners.held_ones m b.0 here in
-      let leads : peer_of w.moment.before.graph.peers.issued b.0 ≡ Some i0.0.peer = subst (λ (z : Joint). peer_of z.graph.peers.issued b.0 ≡ Some i0.0.peer) (sym t.before) (peer_of-issued t.state.peer.peers.issued b.0 i0.0 i0.1) in
+      let leads : peer_of w.moment.before.graph.peers.issued b.0 ≡ Some i0.0.peer = subst
+      (λ (z : Joint). peer_of z.graph.peers.issued b.0 ≡ Some i0.0.peer) (sym t.before) (peer_of-issued t.state.peer.peers.issued b.0 i0.0 i0.1) in
       record {
         moment = w.moment;
         there = w.there;

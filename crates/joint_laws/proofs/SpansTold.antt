@@ -34,7 +34,8 @@ use Rattle.joint_laws.proofs.LinkedEntries.{entry}
 use Rattle.joint_laws.proofs.ManagedSteps.{meet_by-reply, give_by-reply}
 use Rattle.joint_laws.proofs.PeerEntries.{refused-by}
 use Rattle.joint_laws.proofs.Places.{comes-at, after-at}
-use Rattle.joint_laws.proofs.PlainReplies.{IsPlain, SaysPlain, line-plain, handle-plain, met-plain, adopted-plain, refusal-plain, pair-plain, grip-plain, land-plain, peer_line-plain, sliced-plain, begun-plain, restored-plain}
+use Rattle.joint_laws.proofs.PlainReplies.{IsPlain, SaysPlain, line-plain, handle-plain, met-plain, adopted-plain, refusal-plain, pair-plain, grip-plain, land-plain, peer_line-plain, sliced-plain}
+use Rattle.joint_laws.proofs.PlainReplies.{begun-plain, restored-plain}
 
 -- what was put behind a list stands in each longer list where its span says
 pub stretch-put : (xs ys list : List ℕ) → Grows (xs ++ ys) list → IsStretch list (record { first = length xs; count = length ys }) ys
@@ -110,7 +111,8 @@ module _ (s : Linkage) (line : ℕ) (reply : Reply) (cites : Option ℕ) where
   plain-entry t (op.Grip x) told out w = absurd w.allowed
   plain-entry t (op.Meet v sort n p h) nothing out w =
       let a = met s.managed.managed (place (thread_number t) v.0) h.0 sort n (registered s.managed.registry p.0) in
-      by_plain a.reply nothing (w.replies ∙ meet_by-reply s.managed p.0 h.0 a.state a.reply) (met-plain s.managed.managed (place (thread_number t) v.0) h.0 sort n (registered s.managed.registry p.0)) tt
+      by_plain a.reply nothing (w.replies ∙ meet_by-reply s.managed p.0 h.0 a.state a.reply)
+      (met-plain s.managed.managed (place (thread_number t) v.0) h.0 sort n (registered s.managed.registry p.0)) tt
   plain-entry t (op.Meet v sort n p h) told out w = absurd w.allowed
   plain-entry t (op.Give v) nothing out w =
       let u = place (thread_number t) v.0 in
@@ -151,12 +153,15 @@ module _ (ms ps : List ℕ) (s : Linkage) (line : ℕ) (reply : Reply) (cites : 
   none_to_end (M u) freed a = a
   none_to_end C freed a = a
 
-  swept-by : (mk : Marking) (t : Thread) (freed : List ℕ) (b : Bool) → Rises freed → b ≡ true → reply ≡ (if b then swept_of s.peer mk freed else answer (says.MarkOpen record { 0 = mk.number }) s.peer).reply
+  swept-by : (mk : Marking) (t : Thread) (freed : List ℕ) (b : Bool) → Rises freed → b ≡ true
+      → reply ≡ (if b then swept_of s.peer mk freed else answer (says.MarkOpen record { 0 = mk.number }) s.peer).reply
       → Grows (if b then swept_of s.peer mk freed else answer (says.MarkOpen record { 0 = mk.number }) s.peer).state.peers.heap.freed ps → TellsNamed ms ps reply (sweep_of freed)
-  swept-by mk t freed true up e r g = subst (λ z. TellsNamed ms ps z (sweep_of freed)) (sym r) (record { freed = freed; is = refl; rises = up; stands = stretch-put s.peer.peers.heap.freed freed ps g })
+  swept-by mk t freed true up e r g = subst (λ z. TellsNamed ms ps z (sweep_of freed)) (sym r)
+      (record { freed = freed; is = refl; rises = up; stands = stretch-put s.peer.peers.heap.freed freed ps g })
   swept-by mk t freed false up e r g = absurd (let f : ⊥ = cc in f)
 
-  sweep-named : (x : Option Marking) (t : Thread) (freed : List ℕ) → SweepAllows s.peer x t (sweep_of freed) → reply ≡ (swept s.peer x t freed).reply → Grows (swept s.peer x t freed).state.peers.heap.freed ps → TellsNamed ms ps reply (sweep_of freed)
+  sweep-named : (x : Option Marking) (t : Thread) (freed : List ℕ) → SweepAllows s.peer x t (sweep_of freed)
+      → reply ≡ (swept s.peer x t freed).reply → Grows (swept s.peer x t freed).state.peers.heap.freed ps → TellsNamed ms ps reply (sweep_of freed)
   sweep-named None t freed a r g = absurd (none_to_end t freed a)
   sweep-named (Some mk) t freed a r g = swept-by mk t freed (is_thread t C || is_thread t mk.by) a.1.rise (may-end t mk.by a.0) r g
 
@@ -188,23 +193,27 @@ module _ (ms ps : List ℕ) (s : Linkage) (line : ℕ) (reply : Reply) (cites : 
   none_other (Some mk) C told o a = a
 
   -- the taking of notices frees nothing
-  took-named : (t : Thread) (n : ℕ) (told : Told) → IsEvent t (op.Line (act.Finalise n)) → SideLawful (is_peer_event t (op.Line (act.Finalise n))) s (entry t line (op.Line (act.Finalise n)) reply cites) told → TellsNamed ms ps reply told
+  took-named : (t : Thread) (n : ℕ) (told : Told) → IsEvent t (op.Line (act.Finalise n))
+      → SideLawful (is_peer_event t (op.Line (act.Finalise n))) s (entry t line (op.Line (act.Finalise n)) reply cites) told → TellsNamed ms ps reply told
   took-named C n nothing e w = subst (λ z. TellsNamed ms ps z nothing) (sym w.replies) tt
   took-named C n told e w = absurd w.allowed
   took-named (M u) n told e w = absurd e.0.1
   took-named (P u) n told e w = absurd e.0.1
 
-  named : (t : Thread) (o : Op) (told : Told) → IsEvent t o → SideLawful (is_peer_event t o) s (entry t line o reply cites) told → Grows (managed_after s.managed (entry t line o reply cites) told (is_peer_event t o)).managed.heap.freed ms
+  named : (t : Thread) (o : Op) (told : Told) → IsEvent t o → SideLawful (is_peer_event t o) s (entry t line o reply cites) told
+      → Grows (managed_after s.managed (entry t line o reply cites) told (is_peer_event t o)).managed.heap.freed ms
       → Grows (peer_after s.peer (entry t line o reply cites) told (is_peer_event t o)).peers.heap.freed ps → TellsNamed ms ps reply told
   named t (op.Line (act.Finalise n)) told e w f g = took-named t n told e w
   named t (op.Snap k) (snap_of freed candidates dead) e w f g =
-      subst (λ z. TellsNamed ms ps z (snap_of freed candidates dead)) (sym w.replies) (record { freed = freed; candidates = candidates; dead = dead; is = refl; counted = refl; rises = w.allowed.freed_rise; stands = stretch-put s.managed.managed.heap.freed freed ms f })
+      subst (λ z. TellsNamed ms ps z (snap_of freed candidates dead)) (sym w.replies)
+      (record { freed = freed; candidates = candidates; dead = dead; is = refl; counted = refl; rises = w.allowed.freed_rise; stands = stretch-put s.managed.managed.heap.freed freed ms f })
   named t (op.Snap k) told e w f g = absurd w.allowed
   named t op.Sweep (sweep_of freed) e w f g = sweep-named s.peer.marking t freed w.allowed w.replies g
   named t op.Sweep nothing e w f g = plainly reply nothing (record { plain = subst IsPlain (sym w.replies) (unswept-plain s.peer.marking t w.allowed); none = tt })
   named t op.Sweep told e w f g = absurd (none_other s.peer.marking t told tt w.allowed)
   named t (op.Resolve k) (resolution_of alive freed) e w f g =
-      subst (λ z. TellsNamed ms ps z (resolution_of alive freed)) (sym w.replies) (record { alive = alive; freed = freed; is = refl; rises = w.allowed.resolution.rise; stands = stretch-put s.managed.managed.heap.freed freed ms f })
+      subst (λ z. TellsNamed ms ps z (resolution_of alive freed)) (sym w.replies)
+      (record { alive = alive; freed = freed; is = refl; rises = w.allowed.resolution.rise; stands = stretch-put s.managed.managed.heap.freed freed ms f })
   named t (op.Resolve k) told e w f g = absurd w.allowed
   named t o told e w f g = plainly reply told (plain-entry s line reply cites t o told (λ z. z) w)
 
@@ -219,6 +228,9 @@ told-named noted may i n there =
     let same : suc i + more ≡ length noted = omega (arith, l) in
     let end : state_at noted (suc i + more) ≡ replayed opening_linkage noted = ap (λ k. state_at noted k) same ∙ ap (λ ns. replayed opening_linkage ns) (take_all (length noted) noted (omega arith)) in
     let next = after-at noted i n there in
-    named (replayed opening_linkage noted).managed.managed.heap.freed (replayed opening_linkage noted).peer.peers.heap.freed s n.entry.made.index n.entry.made.reply n.entry.made.cites n.entry.made.caller n.entry.made.op n.told comes.event comes.lawful
-    (subst (λ (z : Linkage). Grows (linkage_after s n).managed.managed.heap.freed z.managed.managed.heap.freed) end (subst (λ (z : Linkage). Grows z.managed.managed.heap.freed (state_at noted (suc i + more)).managed.managed.heap.freed) next (managed-grown noted may (suc i) more)))
-    (subst (λ (z : Linkage). Grows (linkage_after s n).peer.peers.heap.freed z.peer.peers.heap.freed) end (subst (λ (z : Linkage). Grows z.peer.peers.heap.freed (state_at noted (suc i + more)).peer.peers.heap.freed) next (peers-grown noted may (suc i) more)))
+    named (replayed opening_linkage noted).managed.managed.heap.freed (replayed opening_linkage noted).peer.peers.heap.freed s
+    n.entry.made.index n.entry.made.reply n.entry.made.cites n.entry.made.caller n.entry.made.op n.told comes.event comes.lawful
+    (subst (λ (z : Linkage). Grows (linkage_after s n).managed.managed.heap.freed z.managed.managed.heap.freed) end
+    (subst (λ (z : Linkage). Grows z.managed.managed.heap.freed (state_at noted (suc i + more)).managed.managed.heap.freed) next (managed-grown noted may (suc i) more)))
+    (subst (λ (z : Linkage). Grows (linkage_after s n).peer.peers.heap.freed z.peer.peers.heap.freed) end
+    (subst (λ (z : Linkage). Grows z.peer.peers.heap.freed (state_at noted (suc i + more)).peer.peers.heap.freed) next (peers-grown noted may (suc i) more)))

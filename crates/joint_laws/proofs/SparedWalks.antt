@@ -66,7 +66,8 @@ module _ (r : ManagedReplay) (s : PeerReplay) (ds : List Doing) (d : Stand) (k :
     cut : IsCutOff r.managed c
     cut = k.managed.managed.dead c o
 
-    by_mirror : IsMirrored r s c → (a b p q : ℕ) → Contains c.candidates a → Contains c.candidates b → Reaches (ManagedEdge r.managed) a b → IsRowOf r.managed s.peers.issued a p → IsRowOf r.managed s.peers.issued b q → IsLive s.peers.heap p → IsSpared mk p → IsSpared mk q
+    by_mirror : IsMirrored r s c → (a b p q : ℕ) → Contains c.candidates a → Contains c.candidates b → Reaches (ManagedEdge r.managed) a b
+        → IsRowOf r.managed s.peers.issued a p → IsRowOf r.managed s.peers.issued b q → IsLive s.peers.heap p → IsSpared mk p → IsSpared mk q
     by_mirror m a b p q ca cb walk ra rb live spared =
         (Reaches-keeps (MirrorEdge m.comps m.xrefs) Fine step a b (candidates-mirrored r.managed c cut m.comps m.heavy m.xrefs m.contraction a b ca cb walk)
         (λ y w. subst (λ z. IsLive s.peers.heap z × IsSpared mk z) (one_peer a p y ra w) (live, spared)) q rb).1
@@ -80,7 +81,8 @@ module _ (r : ManagedReplay) (s : PeerReplay) (ds : List Doing) (d : Stand) (k :
             let reference = (m.exact i.0.peer z).1 (x, y, e, rx, v) in
             (k.peer.references.live i.0.peer z reference f.0, spared-next mk i.0.peer z (mark.references i.0.peer z f.0 reference) f.1)
 
-    restored-spared : (answers : List Answer) (l b q : ℕ) (w : IsRowOf r.managed s.peers.issued b q) → IsRestoredBy s answers l w.handle → IsLive s.peers.heap q → (length answers ≤ l → HasStrength s w.handle weak → IsSpared mk q) → IsSpared mk q
+    restored-spared : (answers : List Answer) (l b q : ℕ) (w : IsRowOf r.managed s.peers.issued b q) → IsRestoredBy s answers l w.handle
+        → IsLive s.peers.heap q → (length answers ≤ l → HasStrength s w.handle weak → IsSpared mk q) → IsSpared mk q
     restored-spared answers l b q w t live later = elim t [
       | inl u ↦ strong-spared u.0 q u.2.new u.2.strong_one u.2.is (replaced-peer s w.handle u.0 w.row u.2 w.is_issued ∙ w.leads)
       | inr u ↦ elim u [
@@ -93,7 +95,8 @@ module _ (r : ManagedReplay) (s : PeerReplay) (ds : List Doing) (d : Stand) (k :
     same_cycle e f = same_Some e c (sym f ∙ o)
 
     -- a candidate that a spared, unfreed peer's candidate leads to
-    pub candidate-spared : (x : Stand) → IsDriverKept r s x → (a b p q : ℕ) → Contains c.candidates a → Contains c.candidates b → Reaches (ManagedEdge r.managed) a b → IsRowOf r.managed s.peers.issued a p → IsRowOf r.managed s.peers.issued b q → IsLive s.peers.heap p → IsLive s.peers.heap q → IsSpared mk p → IsSpared mk q
+    pub candidate-spared : (x : Stand) → IsDriverKept r s x → (a b p q : ℕ) → Contains c.candidates a → Contains c.candidates b → Reaches (ManagedEdge r.managed) a b
+        → IsRowOf r.managed s.peers.issued a p → IsRowOf r.managed s.peers.issued b q → IsLive s.peers.heap p → IsLive s.peers.heap q → IsSpared mk p → IsSpared mk q
     candidate-spared idle v a b p q ca cb walk ra rb lp lq sp = absurd (none_some c (sym v.closed ∙ o))
     candidate-spared (snapped op) v a b p q ca cb walk ra rb lp lq sp =
         let at = at-Contains v.cycle.candidates b (subst (λ (z : OpenCycle). Contains z.candidates b) (sym (same_cycle v.cycle v.opened.cycle)) cb) in
@@ -101,7 +104,8 @@ module _ (r : ManagedReplay) (s : PeerReplay) (ds : List Doing) (d : Stand) (k :
     candidate-spared (contracted op comps heavy xrefs) v a b p q ca cb walk ra rb lp lq sp =
         let at = at-Contains v.before.cycle.candidates b (subst (λ (z : OpenCycle). Contains z.candidates b) (sym (same_cycle v.before.cycle v.before.opened.cycle)) cb) in
         row-spared b q rb (v.before.handles at.0 b rb.handle at.1 rb.holds)
-    candidate-spared (weakening op count seen sw) v a b p q ca cb walk ra rb lp lq sp = by_mirror (subst (λ z. IsMirrored r s z) (same_cycle v.cycle v.opened.cycle) v.mirror) a b p q ca cb walk ra rb lp sp
+    candidate-spared (weakening op count seen sw) v a b p q ca cb walk ra rb lp lq sp = by_mirror
+        (subst (λ z. IsMirrored r s z) (same_cycle v.cycle v.opened.cycle) v.mirror) a b p q ca cb walk ra rb lp sp
     candidate-spared (marked op) v a b p q ca cb walk ra rb lp lq sp = by_mirror (subst (λ z. IsMirrored r s z) (same_cycle v.cycle v.opened.cycle) v.mirror) a b p q ca cb walk ra rb lp sp
     candidate-spared (restoring op answers) v a b p q ca cb walk ra rb lp lq sp = by_mirror (subst (λ z. IsMirrored r s z) (same_cycle v.cycle v.opened.cycle) v.mirror) a b p q ca cb walk ra rb lp sp
     candidate-spared (restored op answers clear) v a b p q ca cb walk ra rb lp lq sp =
@@ -111,7 +115,8 @@ module _ (r : ManagedReplay) (s : PeerReplay) (ds : List Doing) (d : Stand) (k :
   -- what is known of each row on a walk
   abbrev Known : Row → Type 0
   Known (peer p) = IsSpared mk p
-  Known (object m) = (c : OpenCycle) → r.managed.cycle ≡ Some c → Contains c.dead m → (b q : ℕ) → Contains c.candidates b → Reaches (ManagedEdge r.managed) m b → IsRowOf r.managed s.peers.issued b q → IsLive s.peers.heap q → IsSpared mk q
+  Known (object m) = (c : OpenCycle) → r.managed.cycle ≡ Some c → Contains c.dead m → (b q : ℕ) → Contains c.candidates b
+      → Reaches (ManagedEdge r.managed) m b → IsRowOf r.managed s.peers.issued b q → IsLive s.peers.heap q → IsSpared mk q
 
   module _ (flags : Flags) (jm : Option JointMarking) (fl : AreFlags s flags) where
     abbrev graph : Graph
@@ -145,7 +150,8 @@ module _ (r : ManagedReplay) (s : PeerReplay) (ds : List Doing) (d : Stand) (k :
       | inr t ↦ elim t [ inl e ↦ raw-spared p e | inr e ↦ loose-spared p e ]
     ]
 
-    candidate-by : (x : Option OpenCycle) → r.managed.cycle ≡ x → (m p : ℕ) → Contains (elim x [ None ↦ [] | Some c ↦ c.candidates ]) m → IsRowOf r.managed s.peers.issued m p → IsLive s.peers.heap p → Known (object m) → IsSpared mk p
+    candidate-by : (x : Option OpenCycle) → r.managed.cycle ≡ x → (m p : ℕ) → Contains (elim x [ None ↦ [] | Some c ↦ c.candidates ]) m
+        → IsRowOf r.managed s.peers.issued m p → IsLive s.peers.heap p → Known (object m) → IsSpared mk p
     candidate-by None e m p c w l known = absurd (Contains-nil m c)
     candidate-by (Some y) e m p c w l known = known y e ((((k.managed.managed.dead y e).candidates m).0 c).0) m p c (Reaches-self (ManagedEdge r.managed) m) w l
 

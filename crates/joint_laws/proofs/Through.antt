@@ -109,7 +109,8 @@ module _ (s : Managed) (issued : List Issued) where
         walk = (subst (λ z. Contains edges (r.0.0, z)) mid r.1, subst (λ z. LeadsOver edges z ts rest.to) on rest.walk);
       }
 
-  pub refers-carried : (edges : List (End × End)) (p q : ℕ) → Refers (carried_edges s issued edges) p q → (a : ℕ) × (b : ℕ) × (peer_of_row s issued a ≡ p) × (peer_of_row s issued b ≡ q) × Refers edges a b
+  pub refers-carried : (edges : List (End × End)) (p q : ℕ) → Refers (carried_edges s issued edges) p q
+      → (a : ℕ) × (b : ℕ) × (peer_of_row s issued a ≡ p) × (peer_of_row s issued b ≡ q) × Refers edges a b
   refers-carried edges p q r =
       let c = leads-carried edges (node p) r.through q r.walk in
       let first = ends-at c.from p c.starts in

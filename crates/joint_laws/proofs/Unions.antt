@@ -52,12 +52,15 @@ swept-still s (Some mk) t freed on = by (is_thread t C || is_thread t mk.by) on
     by true f = absurd (f refl)
     by false f = refl
 
-sweep-still : (s : PeerReplay) (t : Thread) (cites : Option ℕ) (told : Told) → ((peer_answer s t op.Sweep cites told).state.marking ≡ None → ⊥) → (peer_answer s t op.Sweep cites told).state.peers.heap.freed ≡ s.peers.heap.freed
+sweep-still : (s : PeerReplay) (t : Thread) (cites : Option ℕ) (told : Told) → ((peer_answer s t op.Sweep cites told).state.marking ≡ None → ⊥)
+    → (peer_answer s t op.Sweep cites told).state.peers.heap.freed ≡ s.peers.heap.freed
 sweep-still s t cites (sweep_of freed) on = swept-still s s.marking t freed on
 sweep-still s t cites _ on = swept-still s s.marking t [] on
 
-still-by : (s : Linkage) (m : Made) (told : Told) (o : Op) → m.op ≡ o → o ≡ op.Sweep → ((peer_after s.peer m told (is_peer_event m.caller m.op)).marking ≡ None → ⊥) → (peer_after s.peer m told (is_peer_event m.caller m.op)).peers.heap.freed ≡ s.peer.peers.heap.freed
-still-by s m told o e f = subst (λ z. ((peer_after s.peer (record m { op = z }) told (is_peer_event m.caller z)).marking ≡ None → ⊥) → (peer_after s.peer (record m { op = z }) told (is_peer_event m.caller z)).peers.heap.freed ≡ s.peer.peers.heap.freed) (sym (e ∙ f)) (sweep-still s.peer m.caller m.cites told)
+still-by : (s : Linkage) (m : Made) (told : Told) (o : Op) → m.op ≡ o → o ≡ op.Sweep → ((peer_after s.peer m told (is_peer_event m.caller m.op)).marking ≡ None → ⊥)
+    → (peer_after s.peer m told (is_peer_event m.caller m.op)).peers.heap.freed ≡ s.peer.peers.heap.freed
+still-by s m told o e f = subst (λ z. ((peer_after s.peer (record m { op = z }) told (is_peer_event m.caller z)).marking ≡ None → ⊥)
+    → (peer_after s.peer (record m { op = z }) told (is_peer_event m.caller z)).peers.heap.freed ≡ s.peer.peers.heap.freed) (sym (e ∙ f)) (sweep-still s.peer m.caller m.cites told)
 
 pub open-still : (s : Linkage) (n : Noted) → Of s → ((linkage_after s n).peer.marking ≡ None → ⊥) → (linkage_after s n).peer.peers.heap.freed ≡ s.peer.peers.heap.freed
 open-still s n k on = elim (sweep-or n.entry.made.op) [
@@ -102,7 +105,8 @@ module _ (noted : List Noted) (may : AllMayCome opening_linkage noted) where
     | inl n ↦ (
         let same = after-at noted p n.0 n.1 in
         subst (λ (z : Linkage). JointEdge (G p) x y ⊎ IsReachedIn (G p) y ⊎ IsReachedIn (graph_at z.managed.managed z.peer) y) (sym same)
-        (edge-before (at p) n.0 (comes-at noted p n.0 may n.1) (kept-at p) (subst Of same (kept-at (suc p))) _ _ x y (subst (λ (z : Linkage). JointEdge (graph_at z.managed.managed z.peer) x y) same e)))
+        (edge-before (at p) n.0 (comes-at noted p n.0 may n.1) (kept-at p) (subst Of same (kept-at (suc p))) _ _ x y
+        (subst (λ (z : Linkage). JointEdge (graph_at z.managed.managed z.peer) x y) same e)))
     | inr same ↦ inl (subst (λ (z : Linkage). JointEdge (graph_at z.managed.managed z.peer) x y) same e)
   ]
 
@@ -128,7 +132,8 @@ module _ (noted : List Noted) (may : AllMayCome opening_linkage noted) where
   freed-on : (p : ℕ) (x : Row) → IsFreed (at p) x → IsFreed (at (suc p)) x
   freed-on p (peer q) f = f
   freed-on p (object x) f = elim (next-or p) [
-    | inl n ↦ subst (λ (z : Linkage). Contains z.managed.managed.heap.freed x) (sym (after-at noted p n.0 n.1)) (grows-Contains _ _ x (managed-grows (at p) n.0 (comes-at noted p n.0 may n.1) (kept-at p)) f)
+    | inl n ↦ subst (λ (z : Linkage). Contains z.managed.managed.heap.freed x) (sym (after-at noted p n.0 n.1))
+        (grows-Contains _ _ x (managed-grows (at p) n.0 (comes-at noted p n.0 may n.1) (kept-at p)) f)
     | inr same ↦ subst (λ (z : Linkage). Contains z.managed.managed.heap.freed x) (sym same) f
   ]
 
@@ -178,7 +183,12 @@ module _ (noted : List Noted) (may : AllMayCome opening_linkage noted) where
         let d = w.place - i in
         let same : i + d ≡ w.place = omega (arith, p) in
         elim (on_from i d (λ k q. open_on k (let v = w.earlier in omega (arith, q, v, same))) x y e) [
-          | inl f ↦ record { place = w.place; later = w.later; earlier = w.earlier; reached = Reached-then (IsJointRoot (G w.place)) (JointEdge (G w.place)) x y w.reached (subst (λ q. JointEdge (G q) x y) same f) }
+          | inl f ↦ record {
+            place = w.place;
+            later = w.later;
+            earlier = w.earlier;
+            reached = Reached-then (IsJointRoot (G w.place)) (JointEdge (G w.place)) x y w.reached (subst (λ q. JointEdge (G q) x y) same f);
+          }
           | inr r ↦ elim r [
             | inl f ↦ record { place = f.place; later = (let q = f.later in omega (arith, q, l)); earlier = (let q = f.earlier in let v = w.earlier in omega (arith, q, v, same)); reached = f.reached }
             | inr f ↦ absurd (reached-live (at w.place) _ x (kept-at w.place) w.reached (subst (λ q. IsFreed (at q) x) same f))
@@ -202,7 +212,8 @@ module _ (s : Linkage) (k : Of s) (flags : List Bool) where
   row-joined : (a p : ℕ) → IsRowOf s.managed.managed s.peer.peers.issued a p → IsLive s.peer.peers.heap p → IsJoined (graph_with s flags) a p
   row-joined a p w l = record { handle = w.handle; holds = w.holds; leads = peer_of-issued s.peer.peers.issued w.handle w.row w.is_issued ∙ ap Some w.leads; live = l }
 
-  mirror-joint : (c : OpenCycle) → s.managed.managed.cycle ≡ Some c → IsMirrored s.managed s.peer c → (p q : ℕ) → HasReference s.peer.peers.heap s.peer.refs p q → Reaches (JointEdge (graph_with s flags)) (peer p) (peer q)
+  mirror-joint : (c : OpenCycle) → s.managed.managed.cycle ≡ Some c → IsMirrored s.managed s.peer c → (p q : ℕ)
+      → HasReference s.peer.peers.heap s.peer.refs p q → Reaches (JointEdge (graph_with s flags)) (peer p) (peer q)
   mirror-joint c o m p q e =
       let w = (m.exact p q).0 e.reference in
       let walk = mirror_edge-managed s.managed.managed c (k.managed.managed.dead c o) m.comps m.heavy m.xrefs m.contraction w.0 w.1 w.2 in
@@ -232,17 +243,21 @@ begun-keeps : (s : PeerReplay) (x : Option Marking) (t : Thread) (mk : Marking) 
 begun-keeps s None t mk e f = let g = same_Some _ mk f in record { heap = sym (ap (λ (z : Marking). z.heap) g); refs = sym (ap (λ (z : Marking). z.refs) g) }
 begun-keeps s (Some m) t mk e f = absurd (none_some m (sym e))
 
-begin-keeps : (s : Linkage) (m : Made) (told : Told) (mk : Marking) → m.op ≡ op.Begin → s.peer.marking ≡ None → (peer_after s.peer m told (is_peer_event m.caller m.op)).marking ≡ Some mk → KeepsBegin (peer_after s.peer m told (is_peer_event m.caller m.op)) mk
-begin-keeps s m told mk e f = subst (λ o. (peer_after s.peer (record m { op = o }) told (is_peer_event m.caller o)).marking ≡ Some mk → KeepsBegin (peer_after s.peer (record m { op = o }) told (is_peer_event m.caller o)) mk) (sym e) (begun-keeps s.peer s.peer.marking m.caller mk f)
+begin-keeps : (s : Linkage) (m : Made) (told : Told) (mk : Marking) → m.op ≡ op.Begin → s.peer.marking ≡ None
+    → (peer_after s.peer m told (is_peer_event m.caller m.op)).marking ≡ Some mk → KeepsBegin (peer_after s.peer m told (is_peer_event m.caller m.op)) mk
+begin-keeps s m told mk e f = subst (λ o. (peer_after s.peer (record m { op = o }) told (is_peer_event m.caller o)).marking ≡ Some mk
+    → KeepsBegin (peer_after s.peer (record m { op = o }) told (is_peer_event m.caller o)) mk) (sym e) (begun-keeps s.peer s.peer.marking m.caller mk f)
 
 -- so each edge of a marking is a joint walk at its begin
-pub marking-walk : (noted : List Noted) → AllMayCome opening_linkage noted → (i : ℕ) (mk : Marking) → BeginsMarking noted i mk → (p q : ℕ) → MarkingEdge mk p q → Reaches (JointEdge (graph_in noted (suc i))) (peer p) (peer q)
+pub marking-walk : (noted : List Noted) → AllMayCome opening_linkage noted → (i : ℕ) (mk : Marking)
+    → BeginsMarking noted i mk → (p q : ℕ) → MarkingEdge mk p q → Reaches (JointEdge (graph_in noted (suc i))) (peer p) (peer q)
 marking-walk noted may i mk b p q e =
     let s = state_at noted (suc i) in
     let kept : Of s = everywhere Of AreKept-opening AreKept-entry noted may (suc i) in
     let n = b.event.entry in
     let same = after-at noted i n b.event.there in
-    let begin : KeepsBegin s.peer mk = subst (λ (z : Linkage). KeepsBegin z.peer mk) (sym same) (begin-keeps (state_at noted i) n.entry.made n.told mk b.event.event b.closed (ap (λ (z : Linkage). z.peer.marking) (sym same) ∙ b.opened)) in
+    let begin : KeepsBegin s.peer mk = subst (λ (z : Linkage). KeepsBegin z.peer mk) (sym same)
+    (begin-keeps (state_at noted i) n.entry.made n.told mk b.event.event b.closed (ap (λ (z : Linkage). z.peer.marking) (sym same) ∙ b.opened)) in
     elim e [
       | inl f ↦ Reaches-edge (JointEdge (graph_in noted (suc i))) (peer p) (peer q) (subst (λ z. HasField z p q) begin.heap f)
       | inr f ↦ edge-joint s kept _ p q (subst (λ z. HasReference s.peer.peers.heap z p q) begin.refs (subst (λ z. HasReference z mk.refs p q) begin.heap f))

@@ -9,10 +9,12 @@ use Rattle.joint_laws.specs.ManagedInvariants.{IsManagedKept}
 
 -- no row that a snapshot frees is reached
 abbrev pub SnapshotFreesUnreached : Type 0
-SnapshotFreesUnreached = (j : Joint) (k m : ℕ) (freed candidates dead : List ℕ) → IsSnapshot j.graph.managed k freed candidates dead → Contains freed m → IsReached j (object m) → ⊥
+SnapshotFreesUnreached = (j : Joint) (k m : ℕ) (freed candidates dead : List ℕ)
+    → IsSnapshot j.graph.managed k freed candidates dead → Contains freed m → IsReached j (object m) → ⊥
 
 -- no row that a resolution frees is reached, where the managed part is kept, and the candidates that stay are those
 -- whose peer is unfreed
 abbrev pub ResolutionFreesUnreached : Type 0
-ResolutionFreesUnreached = (j : Joint) (c : OpenCycle) (m : ℕ) (freed : List ℕ) → IsManagedKept j.graph.managed → j.graph.managed.cycle ≡ Some c
+ResolutionFreesUnreached = (j : Joint) (c : OpenCycle) (m : ℕ) (freed : List ℕ)
+    → IsManagedKept j.graph.managed → j.graph.managed.cycle ≡ Some c
     → IsResolution j.graph.managed c.dead (IsKept j c) freed → Contains freed m → IsReached j (object m) → ⊥

@@ -23,7 +23,12 @@ pub record Flags : Type 0 where
 
 -- the joint state of both sides with these flags and that marking
 abbrev pub joint_as : Managed → PeerReplay → Flags → Option JointMarking → Joint
-joint_as m s flags jm = record { graph = record { managed = m; peers = s.peers; removed = flags.removed }; answers = flags.answers; marking = jm; markings = s.markings }
+joint_as m s flags jm = record {
+  graph = record { managed = m; peers = s.peers; removed = flags.removed };
+  answers = flags.answers;
+  marking = jm;
+  markings = s.markings;
+}
 
 -- further handles were issued, and one was removed
 abbrev pub issued_flags : Flags → List Issued → Flags

@@ -2,7 +2,8 @@
 -- each managed thread is in the midst of, and how far the driver has come.
 use Rattle.std.specs.Prelude.{◌≡◌, ℕ, ◌<◌, ◌≤◌, ◌↔◌, ◌⊎◌, List, [], ◌∷◌, length, Contains, Some, None, slice_get}
 use Rattle.joint_machine.specs.declared.names.Thread.TheVariants.{C}
-use Rattle.joint_machine.specs.Control.{Doing, free, made, lent, gripped, given, met, OpenSnap, Stand, idle, snapped, contracted, weakening, marked, restoring, restored}
+use Rattle.joint_machine.specs.Control.{Doing, free, made, lent, gripped, given, met, OpenSnap, Stand, idle, snapped}
+use Rattle.joint_machine.specs.Control.{contracted, weakening, marked, restoring, restored}
 use Rattle.joint_machine.specs.Cycles.{IsDeadContraction}
 use Rattle.joint_machine.specs.Heaps.{InSlot, IsLive, fields_of}
 use Rattle.joint_machine.specs.Linked.{Linkage}
@@ -36,8 +37,10 @@ pub record IsRowOf (m : Managed) (issued : List Issued) (x p : ℕ) : Type 0 whe
 -- a candidate's; and the registry has exactly the rows that hold a handle, with their peers
 pub record AreOwnersKept (r : ManagedReplay) (s : PeerReplay) : Type 0 where
   pub held_ones : (m h : ℕ) → Holds r.managed m h → IsHeldOne s h
-  pub strong_ones : (m h : ℕ) → Holds r.managed m h → (Contains (candidates_of r.managed) m → ⊥) → HasStrength s h strong
-  pub weak_ones : (h : ℕ) → HasStrength s h weak → IsHeldOne s h → (m : ℕ) × Holds r.managed m h × Contains (candidates_of r.managed) m
+  pub strong_ones : (m h : ℕ) → Holds r.managed m h
+      → (Contains (candidates_of r.managed) m → ⊥) → HasStrength s h strong
+  pub weak_ones : (h : ℕ) → HasStrength s h weak → IsHeldOne s h
+      → (m : ℕ) × Holds r.managed m h × Contains (candidates_of r.managed) m
   pub registered : (m p : ℕ) → IsRowOf r.managed s.peers.issued m p → Contains r.registry (p, m)
   pub pairs : (p m : ℕ) → Contains r.registry (p, m) → IsRowOf r.managed s.peers.issued m p
   pub adopted : (h : ℕ) → Contains r.adopted h → h ≤ length s.peers.issued
@@ -126,19 +129,23 @@ pub record IsMirrored (r : ManagedReplay) (s : PeerReplay) (c : OpenCycle) : Typ
   pub contraction : IsDeadContraction r.managed c.dead comps heavy xrefs
   pub stands : s.mirror ≡ None → ⊥
   pub exact : (p q : ℕ) → Refers s.refs p q
-      ↔ ((a : ℕ) × (b : ℕ) × MirrorEdge comps xrefs a b × IsRowOf r.managed s.peers.issued a p × IsRowOf r.managed s.peers.issued b q)
+      ↔ ((a : ℕ) × (b : ℕ) × MirrorEdge comps xrefs a b
+      × IsRowOf r.managed s.peers.issued a p × IsRowOf r.managed s.peers.issued b q)
 
 -- a candidate's handle while handles are weakened, and while they are restored
 abbrev pub IsWeakenedBy : PeerReplay → ℕ → ℕ → ℕ → Type 0
 IsWeakenedBy s count l h = ((l < count) × HasStrength s h weak) ⊎ ((count ≤ l) × HasStrength s h strong)
 
 abbrev pub IsRestoredBy : PeerReplay → List Answer → ℕ → ℕ → Type 0
-IsRestoredBy s answers l h = ((g : ℕ) × (slice_get answers l ≡ Some (said_alive g)) × IsReplaced s h g) ⊎ ((slice_get answers l ≡ Some said_cleared) × IsGone s h) ⊎ ((length answers ≤ l) × HasStrength s h weak)
+IsRestoredBy s answers l h = ((g : ℕ) × (slice_get answers l ≡ Some (said_alive g)) × IsReplaced s h g)
+    ⊎ ((slice_get answers l ≡ Some said_cleared) × IsGone s h) ⊎ ((length answers ≤ l) × HasStrength s h weak)
 
 -- a candidate whose peer is unfreed leads only to candidates whose peers are unfreed
 abbrev pub LeadsToUnfreed : ManagedReplay → PeerReplay → OpenCycle → Type 0
-LeadsToUnfreed r s c = (a b p q : ℕ) → Contains c.candidates a → Contains c.candidates b → Reaches (ManagedEdge r.managed) a b
-    → IsRowOf r.managed s.peers.issued a p → IsRowOf r.managed s.peers.issued b q → IsLive s.peers.heap p → IsLive s.peers.heap q
+LeadsToUnfreed r s c = (a b p q : ℕ) → Contains c.candidates a
+    → Contains c.candidates b → Reaches (ManagedEdge r.managed) a b
+    → IsRowOf r.managed s.peers.issued a p → IsRowOf r.managed s.peers.issued b q
+    → IsLive s.peers.heap p → IsLive s.peers.heap q
 
 -- how far the driver has come, and what is so then
 pub record IsIdle (r : ManagedReplay) (s : PeerReplay) : Type 0 where
@@ -151,7 +158,8 @@ pub record IsBeforeMirror (r : ManagedReplay) (s : PeerReplay) (o : OpenSnap) : 
   pub none : s.mirror ≡ None
   pub handles : ForCandidates r.managed cycle (λ l h. HasStrength s h strong)
 
-pub record IsContracted (r : ManagedReplay) (s : PeerReplay) (o : OpenSnap) (comps : List (List ℕ)) (heavy : List ℕ) (xrefs : List (ℕ × ℕ)) : Type 0 where
+pub record IsContracted (r : ManagedReplay) (s : PeerReplay) (o : OpenSnap)
+    (comps : List (List ℕ)) (heavy : List ℕ) (xrefs : List (ℕ × ℕ)) : Type 0 where
   pub before : IsBeforeMirror r s o
   pub contraction : IsDeadContraction r.managed before.cycle.dead comps heavy xrefs
 

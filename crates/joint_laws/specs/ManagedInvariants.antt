@@ -10,7 +10,8 @@ use Rattle.joint_machine.specs.ManagedReplay.{ManagedReplay}
 pub record IsCutOff (s : Managed) (c : OpenCycle) : Type 0 where
   pub live : (m : ℕ) → Contains c.dead m → IsLive s.heap m
   pub unnamed : (m : ℕ) → IsManagedRoot s m → Contains c.dead m → ⊥
-  pub unheld : (m n : ℕ) → IsLive s.heap m → (Contains c.dead m → ⊥) → Contains (fields_of s.heap m) (Some n) → Contains c.dead n → ⊥
+  pub unheld : (m n : ℕ) → IsLive s.heap m → (Contains c.dead m → ⊥)
+      → Contains (fields_of s.heap m) (Some n) → Contains c.dead n → ⊥
   pub candidates : (m : ℕ) → Contains c.candidates m ↔ (Contains c.dead m × IsBridge s m)
   pub latest : c.number ≡ s.cycles
   pub rise : Rises c.candidates

@@ -17,7 +17,8 @@ managed_at noted i = (state_at noted i).managed.managed
 
 -- what the managed side keeps holds at every state
 abbrev pub ManagedIsKept : Type 0
-ManagedIsKept = (noted : List Noted) → AllMayCome opening_linkage noted → (i : ℕ) → IsReplayKept (state_at noted i).managed
+ManagedIsKept = (noted : List Noted) → AllMayCome opening_linkage noted
+    → (i : ℕ) → IsReplayKept (state_at noted i).managed
 
 -- between two states the open cycle stayed, and no field and no handle of a row of its dead part changed; the dead part
 -- is cut off at the later one too
@@ -36,5 +37,7 @@ DeadPartIsFrozen = (noted : List Noted) → AllMayCome opening_linkage noted →
 -- in a managed state that is kept, between the candidates of an open cycle the mirror edges of its dead part lead
 -- exactly where managed fields lead
 abbrev pub DeadPartIsMirrored : Type 0
-DeadPartIsMirrored = (s : Managed) (c : OpenCycle) (comps : List (List ℕ)) (heavy : List ℕ) (xrefs : List (ℕ × ℕ)) → IsManagedKept s → s.cycle ≡ Some c → IsDeadContraction s c.dead comps heavy xrefs
-    → (a b : ℕ) → Contains c.candidates a → Contains c.candidates b → Reaches (ManagedEdge s) a b ↔ Reaches (MirrorEdge comps xrefs) a b
+DeadPartIsMirrored = (s : Managed) (c : OpenCycle) (comps : List (List ℕ)) (heavy : List ℕ) (xrefs : List (ℕ × ℕ))
+    → IsManagedKept s → s.cycle ≡ Some c → IsDeadContraction s c.dead comps heavy xrefs
+    → (a b : ℕ) → Contains c.candidates a → Contains c.candidates b
+    → Reaches (ManagedEdge s) a b ↔ Reaches (MirrorEdge comps xrefs) a b

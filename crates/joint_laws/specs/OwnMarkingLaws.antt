@@ -34,10 +34,13 @@ pub record IsMarkedOnce (noted : List Noted) (from to : ℕ) : Type 0 where
   pub one : HasOneBegin noted from to
 
 abbrev pub OwnMarkingIsOne : Type 0
-OwnMarkingIsOne = (noted : List Noted) → AllMayCome opening_linkage noted → (i e k : ℕ) → HasEventAt noted i (op.Snap record { 0 = k }) → HasEventAt noted e (op.Resolve record { 0 = k }) → IsMarkedOnce noted i e
+OwnMarkingIsOne = (noted : List Noted) → AllMayCome opening_linkage noted → (i e k : ℕ)
+    → HasEventAt noted i (op.Snap record { 0 = k })
+    → HasEventAt noted e (op.Resolve record { 0 = k }) → IsMarkedOnce noted i e
 
 -- and in its run no two places between them have a begin of the driver
 abbrev pub RunMarksOnce : Type 0
-RunMarksOnce = (noted : List Noted) (run : List Moment) → AllMayCome opening_linkage noted → IsRun (machine_entries noted) run
+RunMarksOnce = (noted : List Noted) (run : List Moment)
+    → AllMayCome opening_linkage noted → IsRun (machine_entries noted) run
     → (a e k : ℕ) (freed candidates resolved : List ℕ) → SnapsAt run a k freed candidates → ResolvesAt run e k resolved
     → (b c i j : ℕ) → DriverBeginsAt run b i → DriverBeginsAt run c j → a < b → b < e → a < c → c < e → b ≡ c

@@ -21,22 +21,28 @@ IsIssued issued n i = numbered_at issued n ≡ Some i
 
 -- a handle of the table is cleared exactly where its peer is freed, and a strong one isn't; a raw one has the strength
 -- that it was made with; and names have raw handles
-pub record AreHandlesKept (h : Heap) (issued : List Issued) (table : List (Option TableRow)) (names : List (Option ℕ)) : Type 0 where
+pub record AreHandlesKept (h : Heap) (issued : List Issued)
+    (table : List (Option TableRow)) (names : List (Option ℕ)) : Type 0 where
   pub places : length table ≡ length issued
   pub peers : (n : ℕ) (i : Issued) → IsIssued issued n i → IsMade h i.peer
-  pub uncleared : (n : ℕ) (row : TableRow) (i : Issued) → IsTabled table n row → IsIssued issued n i → row.cleared ≡ false → IsLive h i.peer
-  pub cleared : (n : ℕ) (row : TableRow) (i : Issued) → IsTabled table n row → IsIssued issued n i → row.cleared ≡ true → Contains h.freed i.peer
+  pub uncleared : (n : ℕ) (row : TableRow) (i : Issued) → IsTabled table n row
+      → IsIssued issued n i → row.cleared ≡ false → IsLive h i.peer
+  pub cleared : (n : ℕ) (row : TableRow) (i : Issued) → IsTabled table n row
+      → IsIssued issued n i → row.cleared ≡ true → Contains h.freed i.peer
   pub sure : (n : ℕ) (row : TableRow) → IsTabled table n row → row.strength ≡ strong → row.cleared ≡ false
-  pub raws : (n : ℕ) (row : TableRow) (i : Issued) → IsTabled table n row → IsIssued issued n i → i.hold ≡ raw → row.strength ≡ i.strength
+  pub raws : (n : ℕ) (row : TableRow) (i : Issued) → IsTabled table n row
+      → IsIssued issued n i → i.hold ≡ raw → row.strength ≡ i.strength
   pub named : (n : ℕ) → Contains names (Some n) → (i : Issued) × IsIssued issued n i × (i.hold ≡ raw)
 
 -- the source of a mirrored reference was made, and where it is unfreed so is the target; references stand only while a
 -- cycle is mirrored; and only held handles are weakened
-pub record AreReferencesKept (h : Heap) (issued : List Issued) (refs : List (End × End)) (mirror : Option Mirror) : Type 0 where
+pub record AreReferencesKept (h : Heap) (issued : List Issued)
+    (refs : List (End × End)) (mirror : Option Mirror) : Type 0 where
   pub made : (p q : ℕ) → Refers refs p q → IsMade h p
   pub live : (p q : ℕ) → Refers refs p q → IsLive h p → IsLive h q
   pub none : mirror ≡ None → (p q : ℕ) → Refers refs p q → ⊥
-  pub weakened : (m : Mirror) (n : ℕ) → mirror ≡ Some m → Contains m.weakened n → (i : Issued) × IsIssued issued n i × (i.hold ≡ held)
+  pub weakened : (m : Mirror) (n : ℕ) → mirror ≡ Some m → Contains m.weakened n
+      → (i : Issued) × IsIssued issued n i × (i.hold ≡ held)
 
 -- the marking's sweep will spare the peer: it was made since the begin, or the marking reaches it
 abbrev pub IsSpared : Marking → ℕ → Type 0
@@ -44,13 +50,15 @@ IsSpared mk p = IsLive mk.heap p → (IsMarked mk p → ⊥) → ⊥
 
 -- while a marking is open: the peers of its begin are unfreed; each edge of now is one of its begin, or leads to a
 -- spared peer; and peers in slots and under strong handles are spared
-pub record IsMarkingKept (h : Heap) (issued : List Issued) (table : List (Option TableRow)) (refs : List (End × End)) (mk : Marking) : Type 0 where
+pub record IsMarkingKept (h : Heap) (issued : List Issued)
+    (table : List (Option TableRow)) (refs : List (End × End)) (mk : Marking) : Type 0 where
   pub made : length mk.heap.fields ≤ length h.fields
   pub existed : (p : ℕ) → IsLive mk.heap p → IsLive h p
   pub fields : (p q : ℕ) → IsLive h p → Contains (fields_of h p) (Some q) → MarkingEdge mk p q ⊎ IsSpared mk q
   pub references : (p q : ℕ) → IsLive h p → Refers refs p q → MarkingEdge mk p q ⊎ IsSpared mk q
   pub slots : (p : ℕ) → InSlot h p → IsSpared mk p
-  pub strong_ones : (n : ℕ) (row : TableRow) (i : Issued) → IsTabled table n row → row.strength ≡ strong → IsIssued issued n i → IsSpared mk i.peer
+  pub strong_ones : (n : ℕ) (row : TableRow) (i : Issued) → IsTabled table n row
+      → row.strength ≡ strong → IsIssued issued n i → IsSpared mk i.peer
 
 -- all of it
 pub record IsPeerKept (s : PeerReplay) : Type 0 where

@@ -1,7 +1,8 @@
 -- Histories with lock-free reads: without the reads that are set aside each is a lawful list of entries, so its joint
 -- projection is a run of the joint machine, the only one, sound and complete. And what the managed side's own list is
 -- in such a history.
-use Rattle.std.specs.Prelude.{◌≡◌, ℕ, All, false, not, if◌then◌else◌, List, [], ◌∷◌, filter, Option, Some, None, slice_set}
+use Rattle.std.specs.Prelude.{◌≡◌, ℕ, All, false, not, if◌then◌else◌, List, [], ◌∷◌, filter, Option, Some, None}
+use Rattle.std.specs.Prelude.{slice_set}
 use Rattle.joint_machine.specs.declared.names.Thread.{Thread}
 use Rattle.joint_machine.specs.declared.lines.Act.TheVariants as act
 use Rattle.joint_machine.specs.declared.events.Op.{Op}
@@ -28,7 +29,8 @@ without_aside ns = filter (λ n. not (is_aside n)) ns
 
 -- a list of entries with lock-free reads is lawful
 abbrev pub IsLawfulReading : List Noted → Type 0
-IsLawfulReading noted = (whole : List Noted) × (cells : List (Option ℕ)) × AllMayComeReading whole cells opening_linkage noted
+IsLawfulReading noted = (whole : List Noted) × (cells : List (Option ℕ))
+    × AllMayComeReading whole cells opening_linkage noted
 
 -- without the reads that are set aside it is a lawful list of entries, whatever whole history they were judged by
 abbrev pub ReadingIsLawful : Type 0
@@ -36,7 +38,8 @@ ReadingIsLawful = (noted : List Noted) → IsLawfulReading noted → AllMayCome 
 
 -- which leads to the same state of both sides
 pub record LeadToSameSides (noted : List Noted) : Type 0 where
-  pub managed : (replayed_reading opening_linkage noted).managed ≡ (replayed opening_linkage (without_aside noted)).managed
+  pub managed : (replayed_reading opening_linkage noted).managed
+      ≡ (replayed opening_linkage (without_aside noted)).managed
   pub peer : (replayed_reading opening_linkage noted).peer ≡ (replayed opening_linkage (without_aside noted)).peer
 
 abbrev pub ReadingLeadsToSame : Type 0
@@ -57,7 +60,8 @@ LinkedIsComplete = (h : Finished) (noted : List Noted) → IsLinkedBy h noted �
 
 -- each run over it is sound and complete
 abbrev pub EveryReadingRunIsComplete : Type 0
-EveryReadingRunIsComplete = (noted : List Noted) (run : List Moment) → IsLawfulReading noted → IsRun (joint_projection noted) run → IsSoundRun run × IsCompleteRun run
+EveryReadingRunIsComplete = (noted : List Noted) (run : List Moment) → IsLawfulReading noted
+    → IsRun (joint_projection noted) run → IsSoundRun run × IsCompleteRun run
 
 -- the pins after an event: a read that names an object fills its caller's pin, a `take` that names one empties it
 abbrev pub pins_by : List (Option ℕ) → Thread → Op → Reply → List (Option ℕ)
@@ -76,7 +80,8 @@ kept_from pins (n ∷ ns) =
 
 -- that list is lawful
 abbrev pub KeptPinsAreLawful : Type 0
-KeptPinsAreLawful = (noted : List Noted) → IsLawfulReading noted → AllKeptLawful opening_replay (kept_from opening_managed.pins noted)
+KeptPinsAreLawful = (noted : List Noted) → IsLawfulReading noted
+    → AllKeptLawful opening_replay (kept_from opening_managed.pins noted)
 
 -- the state after all entries of such a list
 abbrev pub kept_replayed : ManagedReplay → List PinnedEntry → ManagedReplay
@@ -86,7 +91,8 @@ kept_replayed s (k ∷ ks) = kept_replayed (managed_after (with_pins s k.pins) k
 -- the list leads to the managed state of the history, but for the pins
 abbrev pub KeptPinsLeadToSame : Type 0
 KeptPinsLeadToSame = (noted : List Noted) → IsLawfulReading noted
-    → with_pins (kept_replayed opening_replay (kept_from opening_managed.pins noted)) (replayed_reading opening_linkage noted).managed.managed.pins ≡ (replayed_reading opening_linkage noted).managed
+    → with_pins (kept_replayed opening_replay (kept_from opening_managed.pins noted))
+    (replayed_reading opening_linkage noted).managed.managed.pins ≡ (replayed_reading opening_linkage noted).managed
 
 -- then the list is lawful with reads that are events of the one machine as all others are, and leads to the same state:
 -- so two such histories of one script, line after line, are one
@@ -95,8 +101,10 @@ pub record IsExactList (noted : List Noted) : Type 0 where
   pub ends : replayed_reading opening_linkage noted ≡ replayed opening_linkage noted
 
 abbrev pub ExactReadingsAreLawful : Type 0
-ExactReadingsAreLawful = (noted : List Noted) → IsLawfulReading noted → AreExact opening_linkage noted → IsExactList noted
+ExactReadingsAreLawful = (noted : List Noted) → IsLawfulReading noted
+    → AreExact opening_linkage noted → IsExactList noted
 
 -- a list without reads is exact
 abbrev pub ReadlessIsExact : Type 0
-ReadlessIsExact = (noted : List Noted) (s : Linkage) → All (λ n. is_read n.entry.made.op ≡ false) noted → AreExact s noted
+ReadlessIsExact = (noted : List Noted) (s : Linkage)
+    → All (λ n. is_read n.entry.made.op ≡ false) noted → AreExact s noted

@@ -17,4 +17,6 @@ HasReadingRun noted = (run : List Moment) × IsRun (joint_projection noted) run 
 -- each read answers as the one machine does at its number
 abbrev pub AreExact : Linkage → List Noted → Type 0
 AreExact s [] = Unit {0}
-AreExact s (n ∷ ns) = ((k : ℕ) → ReadsCell n.entry.made.op k → n.entry.made.reply ≡ (read_cell s.managed.managed (thread_number n.entry.made.caller) k).reply) × AreExact (entry_after s n) ns
+AreExact s (n ∷ ns) = ((k : ℕ) → ReadsCell n.entry.made.op k
+    → n.entry.made.reply ≡ (read_cell s.managed.managed (thread_number n.entry.made.caller) k).reply)
+    × AreExact (entry_after s n) ns

@@ -12,11 +12,13 @@ use Rattle.joint_laws.specs.Spans.{TakesNamed, TellsNamed}
 
 -- so it is at each entry of a linked history
 abbrev pub ToldIsNamed : Type 0
-ToldIsNamed = (h : Finished) (noted : List Noted) → IsLinkedBy h noted → (i : ℕ) (n : Noted) → slice_get noted i ≡ Some n
+ToldIsNamed = (h : Finished) (noted : List Noted) → IsLinkedBy h noted
+    → (i : ℕ) (n : Noted) → slice_get noted i ≡ Some n
     → TellsNamed (managed_numbers h.freed_managed) (peer_numbers h.freed_peers) n.entry.made.reply n.told
 
 abbrev pub NoticesAreNamed : Type 0
-NoticesAreNamed = (h : Finished) (noted : List Noted) → IsLinkedBy h noted → (i : ℕ) (n : Noted) (s : Span) → slice_get noted i ≡ Some n → n.entry.made.reply ≡ says.Took s
+NoticesAreNamed = (h : Finished) (noted : List Noted) → IsLinkedBy h noted
+    → (i : ℕ) (n : Noted) (s : Span) → slice_get noted i ≡ Some n → n.entry.made.reply ≡ says.Took s
     → TakesNamed (managed_numbers h.notices) (reading_at noted i).managed.managed s
 
 -- so the entries of a linked history fit its lists: it is a history as a value keeps one

@@ -27,8 +27,10 @@ pub record IsReachedBetween (noted : List Noted) (from to : ℕ) (x : Row) : Typ
 -- the union from state a to a later one is closed under the joint edges of a state between, from which on a marking is
 -- open
 abbrev pub UnionIsClosed : Type 0
-UnionIsClosed = (noted : List Noted) → AllMayCome opening_linkage noted → (a i more : ℕ) → a ≤ i → IsOpenUntil noted i more
-    → (x y : Row) → IsReachedBetween noted a (i + more) x → JointEdge (graph_in noted i) x y → IsReachedBetween noted a (i + more) y
+UnionIsClosed = (noted : List Noted) → AllMayCome opening_linkage noted
+    → (a i more : ℕ) → a ≤ i → IsOpenUntil noted i more
+    → (x y : Row) → IsReachedBetween noted a (i + more) x
+    → JointEdge (graph_in noted i) x y → IsReachedBetween noted a (i + more) y
 
 -- the entry in that place begins the marking, which is open after it
 pub record BeginsMarking (noted : List Noted) (i : ℕ) (mk : Marking) : Type 0 where
@@ -39,5 +41,7 @@ pub record BeginsMarking (noted : List Noted) (i : ℕ) (mk : Marking) : Type 0 
 -- so it is closed under the fields and the mirrored references that stood at the begin of a marking, while that is
 -- open: from the begin on, and from any earlier state on, such as the snapshot of the cycle
 abbrev pub UnionFollowsMarking : Type 0
-UnionFollowsMarking = (noted : List Noted) → AllMayCome opening_linkage noted → (a i more : ℕ) (mk : Marking) → BeginsMarking noted i mk → a ≤ suc i → IsOpenUntil noted (suc i) more
-    → (p q : ℕ) → IsReachedBetween noted a (suc i + more) (peer p) → MarkingEdge mk p q → IsReachedBetween noted a (suc i + more) (peer q)
+UnionFollowsMarking = (noted : List Noted) → AllMayCome opening_linkage noted
+    → (a i more : ℕ) (mk : Marking) → BeginsMarking noted i mk → a ≤ suc i → IsOpenUntil noted (suc i) more
+    → (p q : ℕ) → IsReachedBetween noted a (suc i + more) (peer p)
+    → MarkingEdge mk p q → IsReachedBetween noted a (suc i + more) (peer q)

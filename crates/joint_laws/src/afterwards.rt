@@ -1,6 +1,7 @@
 // Laws of what holds afterwards.
 
-ghost use Rattle.joint_laws.specs.AfterwardsLaws.{LockFreeReadsAreGone, NoneIsMirrored, NoneIsMirroredReading, ReadsAreGone, WeakReadsAreGone, WeakReadsAreGoneReading};
+ghost use Rattle.joint_laws.specs.AfterwardsLaws.{LockFreeReadsAreGone, NoneIsMirrored, NoneIsMirroredReading};
+ghost use Rattle.joint_laws.specs.AfterwardsLaws.{ReadsAreGone, WeakReadsAreGone, WeakReadsAreGoneReading};
 
 /// From `resolve k` on, a read of a cell whose target it freed answers gone, unless the caller's pin is filled or a
 /// later cycle is open, which the reply then names; in a history with lock-free reads, unless the read is set aside

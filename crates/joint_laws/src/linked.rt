@@ -1,6 +1,7 @@
 // Laws of both sides together.
 
-ghost use Rattle.joint_laws.specs.LinkedLaws.{AdoptedPeerHasNoTwin, AliveLeadToAlive, HeldByPhase, LinkageIsKept, ReachedIsNotSwept, ReachedIsSpared, TwinIsRegistered};
+ghost use Rattle.joint_laws.specs.LinkedLaws.{AdoptedPeerHasNoTwin, AliveLeadToAlive, HeldByPhase, LinkageIsKept};
+ghost use Rattle.joint_laws.specs.LinkedLaws.{ReachedIsNotSwept, ReachedIsSpared, TwinIsRegistered};
 
 /// At every state of a lawful list of entries: no slot and no field of an unfreed object names a freed object, on
 /// either side; a handle of the table is cleared exactly where its peer is freed; each handle that a managed row holds

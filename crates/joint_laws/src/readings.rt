@@ -1,6 +1,9 @@
 // Laws of histories with lock-free reads.
 
-ghost use Rattle.joint_laws.specs.ReadingLaws.{EveryReadingRunIsComplete, ExactReadingsAreLawful, ReadlessIsExact, KeptPinsAreLawful, KeptPinsLeadToSame, LinkedIsComplete, ReadingIsLawful, ReadingLeadsToSame, ReadingProjectionIsComplete, ReadingProjectsSo};
+ghost use Rattle.joint_laws.specs.ReadingLaws.{EveryReadingRunIsComplete, ExactReadingsAreLawful, ReadlessIsExact};
+ghost use Rattle.joint_laws.specs.ReadingLaws.{KeptPinsAreLawful, KeptPinsLeadToSame, LinkedIsComplete};
+ghost use Rattle.joint_laws.specs.ReadingLaws.{ReadingIsLawful, ReadingLeadsToSame, ReadingProjectionIsComplete};
+ghost use Rattle.joint_laws.specs.ReadingLaws.{ReadingProjectsSo};
 
 /// A history with lock-free reads, without those that are set aside, is a lawful list of entries, and leads to the same
 /// state of both sides, with the same joint projection. So this projection is a run of the joint machine, sound and

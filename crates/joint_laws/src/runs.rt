@@ -1,7 +1,8 @@
 // Laws on runs of the joint machine.
 
 ghost use Rattle.joint_laws.specs.RunStateLaws.{OthersKeepGraph, StepsHaveMoments};
-ghost use Rattle.joint_laws.specs.RunLaws.{EveryRunIsComplete, EveryRunIsSound, ProjectionIsComplete, ProjectionIsRun, ProjectionIsSound, RunIsOne, SnapshotsAreSound, SweepsAreSound};
+ghost use Rattle.joint_laws.specs.RunLaws.{EveryRunIsComplete, EveryRunIsSound, ProjectionIsComplete, ProjectionIsRun};
+ghost use Rattle.joint_laws.specs.RunLaws.{ProjectionIsSound, RunIsOne, SnapshotsAreSound, SweepsAreSound};
 
 /// The joint projection of each lawful list of entries is a run of the joint machine, word by word, whatever entries of
 /// other threads come between those of a cycle or of an operation; so is that of each linked history. No list of

@@ -6,7 +6,8 @@ use Rattle.joint_machine.specs.declared.events.Entry.{Entry}
 use Rattle.joint_machine.specs.Draws.{Drawn, DrewInTurn, CountDrew}
 use Rattle.joint_machine.specs.Histories.{NumberedFrom}
 
-pub DrewInTurn-append : {D : Type 0} (drew : D → Entry → Option MNum → List MNum → D → Type 0) → (a b c : D) (xs ys : List Drawn) → DrewInTurn drew a xs b → DrewInTurn drew b ys c → DrewInTurn drew a (xs ++ ys) c
+pub DrewInTurn-append : {D : Type 0} (drew : D → Entry → Option MNum → List MNum → D → Type 0)
+    → (a b c : D) (xs ys : List Drawn) → DrewInTurn drew a xs b → DrewInTurn drew b ys c → DrewInTurn drew a (xs ++ ys) c
 DrewInTurn-append drew a b c [] ys p q = subst (λ t. DrewInTurn drew t ys c) p q
 DrewInTurn-append drew a b c (x ∷ xs) ys p q = (p.0, p.1, DrewInTurn-append drew p.0 b c xs ys p.2 q)
 

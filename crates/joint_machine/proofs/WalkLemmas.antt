@@ -50,7 +50,8 @@ Walks-mono edge more m x (z ∷ rows) y w = (m x z w.0, Walks-mono edge more m z
 pub Reaches-mono : {A : Type 0} (edge more : A → A → Type 0) → ((x y : A) → edge x y → more x y) → (x y : A) → Reaches edge x y → Reaches more x y
 Reaches-mono edge more m x y r = record { rows = r.rows; walk = Walks-mono edge more m x r.rows y r.walk }
 
-pub Reached-mono : {A : Type 0} (start begin : A → Type 0) (edge more : A → A → Type 0) → ((x : A) → start x → begin x) → ((x y : A) → edge x y → more x y) → (y : A) → Reached start edge y → Reached begin more y
+pub Reached-mono : {A : Type 0} (start begin : A → Type 0) (edge more : A → A → Type 0) → ((x : A) → start x → begin x)
+    → ((x y : A) → edge x y → more x y) → (y : A) → Reached start edge y → Reached begin more y
 Reached-mono start begin edge more s m y r = record { root = r.root; starts = s r.root r.starts; reaches = Reaches-mono edge more m r.root y r.reaches }
 
 -- mutual reach is an equivalence

@@ -3,7 +3,8 @@
 -- cross-references; its Tarjan bridge reports a class without bridge objects where many components meet in it; the
 -- Xamarin.Android documentation has the references that a collection adds.)
 -- Believed: the clauses of the program's top call rest on all that stands here.
-use Rattle.std.specs.Prelude.{◌≡◌, ℕ, ◌<◌, ◌≤◌, ◌-◌, ◌*◌, ◌+◌, nat_lt, if◌then◌else◌, List, [], ◌∷◌, ◌++◌, ◌↔◌, ◌⊎◌, length, All, Contains, Some, map, flat_map, slice_get, slice_index}
+use Rattle.std.specs.Prelude.{◌≡◌, ℕ, ◌<◌, ◌≤◌, ◌-◌, ◌*◌, ◌+◌, nat_lt, if◌then◌else◌, List, [], ◌∷◌, ◌++◌, ◌↔◌, ◌⊎◌}
+use Rattle.std.specs.Prelude.{length, All, Contains, Some, map, flat_map, slice_get, slice_index}
 use Rattle.joint_machine.specs.Walks.{Walks, Mutual}
 
 -- no bridge node is in the strongly connected class of x
@@ -104,14 +105,16 @@ stand_at comps heavy i = slice_index (map first_of comps ++ heavy) i
 
 -- the components, heavy classes and cross-references of a graph, each in its place. Components with members come
 -- first; behind them come the heavy classes, by their least rows, without members.
-pub record IsContraction (bridge : ℕ → Type 0) (edge : ℕ → ℕ → Type 0) (comps : List (List ℕ)) (heavy : List ℕ) (xrefs : List (ℕ × ℕ)) : Type 0 where
+pub record IsContraction (bridge : ℕ → Type 0) (edge : ℕ → ℕ → Type 0)
+    (comps : List (List ℕ)) (heavy : List ℕ) (xrefs : List (ℕ × ℕ)) : Type 0 where
   pub canonical : IsCanonical comps xrefs
   pub members : (x : ℕ) → ((i : ℕ) × IsMember comps i x) ↔ bridge x
   pub together : (i j x y : ℕ) → IsMember comps i x → IsMember comps j y → (i ≡ j) ↔ Mutual edge x y
   pub heavy_rise : Rises heavy
   pub heavies : (x : ℕ) → Contains heavy x ↔ (IsHeavy bridge edge x × IsLeast edge x)
   pub references : (i j : ℕ) → Contains xrefs (i, j)
-      ↔ ((i < length comps + length heavy) × (j < length comps + length heavy) × IsCrossReference bridge edge (stand_at comps heavy i) (stand_at comps heavy j))
+      ↔ ((i < length comps + length heavy) × (j < length comps + length heavy)
+      × IsCrossReference bridge edge (stand_at comps heavy i) (stand_at comps heavy j))
 
 -- an end of a mirror edge: a node, or the temporary of the heavy class with that index among the heavy ones
 pub data End : Type 0 where
@@ -141,4 +144,5 @@ circle (x ∷ y ∷ ys) = circle_from x x (y ∷ ys)
 -- the mirror edges: the circles, component by component, and then for each cross-reference the edge from
 -- the end of its source to the end of its destination
 abbrev pub mirror_edges : List (List ℕ) → List (ℕ × ℕ) → List (End × End)
-mirror_edges comps xrefs = map between_nodes (flat_map circle comps) ++ map (λ p. (end_at comps p.0, end_at comps p.1)) xrefs
+mirror_edges comps xrefs = map between_nodes (flat_map circle comps) ++ map
+    (λ p. (end_at comps p.0, end_at comps p.1)) xrefs

@@ -2,7 +2,8 @@
 -- operation is half done, for the driver which phase it has come to. (The life of a bridge cycle is that of SGen's
 -- bridge header and the Xamarin.Android documentation.)
 -- Believed: the clauses of the program's top call rest on all that stands here.
-use Rattle.std.specs.Prelude.{◌≡◌, ℕ, ◌+◌, ◌⊎◌, Bool, true, false, List, [], ◌∷◌, ◌++◌, length, map, replicate, slice_get, slice_set, slice_index, Option, Some, None}
+use Rattle.std.specs.Prelude.{◌≡◌, ℕ, ◌+◌, ◌⊎◌, Bool, true, false, List, [], ◌∷◌, ◌++◌, length, map, replicate}
+use Rattle.std.specs.Prelude.{slice_get, slice_set, slice_index, Option, Some, None}
 use Rattle.joint_machine.specs.declared.names.Thread.{Thread}
 use Rattle.joint_machine.specs.declared.names.Thread.TheVariants.{M, P, C}
 use Rattle.joint_machine.specs.declared.names.Sort.{Sort}
@@ -17,7 +18,8 @@ use Rattle.joint_machine.specs.Components.{End, node, temporary, mirror_edges}
 use Rattle.joint_machine.specs.Lines.{IsLine}
 use Rattle.joint_machine.specs.Managed.{Managed, handle_of, candidates_of}
 use Rattle.joint_machine.specs.Peers.{Issued, peer_of}
-use Rattle.joint_machine.specs.Told.{Told, contraction_of, references_of, resolution_of, phase_of, said_alive, said_cleared, Answer}
+use Rattle.joint_machine.specs.Told.{Told, contraction_of, references_of, resolution_of, phase_of, said_alive}
+use Rattle.joint_machine.specs.Told.{said_cleared, Answer}
 
 -- what a managed thread is in the midst of, with the number and the line of the entry that the next one cites: it has
 -- made a pair, lent a handle, gripped a peer, given a handle up, or met a peer without taking the handle
@@ -79,7 +81,8 @@ MayStart (met n line h) cites = ⊥
 
 -- an `adopt` follows the make of its own line, which it cites, with its peer and handle; the line is a `bridge`
 abbrev pub MayAdopt : Doing → Thread → ℕ → Op → Option ℕ → Type 0
-MayAdopt (made n line p h sort f) t l (op.Adopt v kind k p' h') cites = (cites ≡ Some n) × (l ≡ line) × (p'.0 ≡ p) × (h'.0 ≡ h) × IsLine t (act.Bridge v kind k sort f)
+MayAdopt (made n line p h sort f) t l (op.Adopt v kind k p' h') cites = (cites ≡ Some n)
+    × (l ≡ line) × (p'.0 ≡ p) × (h'.0 ≡ h) × IsLine t (act.Bridge v kind k sort f)
 MayAdopt _ t l o cites = ⊥
 
 -- a `land` follows the lend of its own line, with its handle and static
@@ -89,7 +92,8 @@ MayLand _ l o cites = ⊥
 
 -- a `meet` follows the grip of its own line, with its peer, handle, sort and number of fields
 abbrev pub MayMeet : Doing → ℕ → Op → Option ℕ → Type 0
-MayMeet (gripped n line p h sort f) l (op.Meet v sort' f' p' h') cites = (cites ≡ Some n) × (l ≡ line) × (p'.0 ≡ p) × (h'.0 ≡ h) × (sort' ≡ sort) × (f' ≡ f)
+MayMeet (gripped n line p h sort f) l (op.Meet v sort' f' p' h') cites = (cites ≡ Some n)
+    × (l ≡ line) × (p'.0 ≡ p) × (h'.0 ≡ h) × (sort' ≡ sort) × (f' ≡ f)
 MayMeet _ l o cites = ⊥
 
 -- whose turn it is: a `release` follows the give of its own line, or the meet that didn't take the handle
@@ -167,7 +171,8 @@ MayMirrorNow _ s issued k cites told = ⊥
 
 -- the candidates' handles are weakened in order, each citing the snap
 abbrev pub MayWeakenNow : Stand → Managed → ℕ → Option ℕ → Type 0
-MayWeakenNow (weakening o count weakened swept) s h cites = (cites ≡ Some o.snap) × (swept ≡ false) × IsCandidateHandle s count h
+MayWeakenNow (weakening o count weakened swept) s h cites = (cites ≡ Some o.snap)
+    × (swept ≡ false) × IsCandidateHandle s count h
 MayWeakenNow _ s h cites = ⊥
 
 -- a begin of the driver opens the cycle's own marking, once all handles are weakened
@@ -192,7 +197,8 @@ MayClearNow _ c k cites = ⊥
 
 -- a resolve cites the clear of its cycle, and goes by the answers that the restores gave
 abbrev pub MayResolveNow : Stand → ℕ → Option ℕ → Told → Type 0
-MayResolveNow (restored o answers clear) k cites (resolution_of said freed) = (o.cycle ≡ k) × (cites ≡ Some clear) × (said ≡ answers)
+MayResolveNow (restored o answers clear) k cites (resolution_of said freed) = (o.cycle ≡ k)
+    × (cites ≡ Some clear) × (said ≡ answers)
 MayResolveNow _ k cites told = ⊥
 
 abbrev pub MayAbandonNow : Stand → ℕ → Option ℕ → Type 0
@@ -238,7 +244,8 @@ stand_after (contracted o comps heavy xrefs) n (op.Mirror k) reply told = weaken
 stand_after (weakening o count weakened swept) n (op.Weaken h) reply told = weakening o (count + 1) true swept
 stand_after (weakening o count weakened swept) n op.Sweep reply told = weakening o count true true
 stand_after (weakening o count weakened swept) n op.Begin reply told = marked o
-stand_after (weakening o count weakened swept) n (op.Refused w) reply told = weakening o count (seen_weakened weakened told) swept
+stand_after (weakening o count weakened swept) n
+    (op.Refused w) reply told = weakening o count (seen_weakened weakened told) swept
 stand_after (marked o) n op.Sweep reply told = restoring o []
 stand_after (restoring o answers) n (op.Restore h) reply told = restoring o (answers ++ answer_in reply ∷ [])
 stand_after (restoring o answers) n (op.Clear k) reply told = restored o answers n
@@ -254,9 +261,11 @@ CallerAllows s managed issued C line o reply cites told = DriverAllows s.stand m
 
 -- the control after an event
 abbrev pub control_after : Control → Thread → ℕ → ℕ → Op → Reply → Told → Control
-control_after s (M t) n line o reply told = record s { doing = slice_set s.doing t (doing_after n line o reply); lines = slice_set s.lines (caller_place (M t)) line }
+control_after s (M t) n line o reply told = record s
+    { doing = slice_set s.doing t (doing_after n line o reply); lines = slice_set s.lines (caller_place (M t)) line }
 control_after s (P t) n line o reply told = record s { lines = slice_set s.lines (caller_place (P t)) line }
-control_after s C n line o reply told = record s { lines = slice_set s.lines 0 line; stand = stand_after s.stand n o reply told }
+control_after s C n line o reply told = record s
+    { lines = slice_set s.lines 0 line; stand = stand_after s.stand n o reply told }
 
 -- the line of the caller's last entry; 0 before its first
 abbrev pub last_line : Control → Thread → ℕ

@@ -26,7 +26,8 @@ pub record IsSnapshot (s : Managed) (k : ℕ) (freed candidates dead : List ℕ)
 
 -- a snapshot's reply: the number of candidates, and where the freed rows stand in the list of freed ones
 abbrev pub snap_reply : Managed → List ℕ → List ℕ → Reply
-snap_reply s freed candidates = says.Snapped (length candidates) record { first = length s.heap.freed; count = length freed }
+snap_reply s freed candidates = says.Snapped (length candidates)
+    record { first = length s.heap.freed; count = length freed }
 
 -- one row of the dead part has another in a field
 abbrev pub DeadEdge : Managed → List ℕ → ℕ → ℕ → Type 0
@@ -34,7 +35,8 @@ DeadEdge s dead x y = HasField s.heap x y × Contains dead x × Contains dead y
 
 -- the lists are the components of the dead part, its heavy classes and its cross-references, with walks inside it
 abbrev pub IsDeadContraction : Managed → List ℕ → List (List ℕ) → List ℕ → List (ℕ × ℕ) → Type 0
-IsDeadContraction s dead comps heavy xrefs = IsContraction (λ m. Contains dead m × IsBridge s m) (DeadEdge s dead) comps heavy xrefs
+IsDeadContraction s dead comps heavy xrefs = IsContraction
+    (λ m. Contains dead m × IsBridge s m) (DeadEdge s dead) comps heavy xrefs
 
 -- a resolution frees exactly the rows of the dead part that no kept candidate reaches over managed fields; a kept
 -- candidate reaches itself

@@ -32,7 +32,8 @@ bare e = record { entry = e; target = None; freed = [] }
 -- the entries were drawn one after another, and nothing else was drawn
 abbrev pub DrewInTurn : {D : Type 0} → (D → Entry → Option MNum → List MNum → D → Type 0) → D → List Drawn → D → Type 0
 DrewInTurn drew before [] after = after ≡ before
-DrewInTurn {D} drew before (n ∷ ns) after = (mid : D) × drew before n.entry n.target n.freed mid × DrewInTurn drew mid ns after
+DrewInTurn {D} drew before (n ∷ ns) after = (mid : D)
+    × drew before n.entry n.target n.freed mid × DrewInTurn drew mid ns after
 
 -- a plain count drew the entry: its number is the count, which rose by one
 abbrev pub CountDrew : ℕ → Entry → Option MNum → List MNum → ℕ → Type 0
@@ -43,7 +44,8 @@ abbrev pub counting : Drawing ℕ
 counting = record { floor = λ c. c; left = λ c. 2 ^ 63 - c; may = λ c t o m. ⊤; drew = CountDrew }
 
 -- one entry was drawn and put last: what was made, with its number, its target and what it frees
-pub record Adds {D : Type 0} (drew : D → Entry → Option MNum → List MNum → D → Type 0) (before after : D) (old new : List Entry) (m : Made) (target : Option MNum) (freed : List MNum) : Type 0 where
+pub record Adds {D : Type 0} (drew : D → Entry → Option MNum → List MNum → D → Type 0) (before after : D)
+    (old new : List Entry) (m : Made) (target : Option MNum) (freed : List MNum) : Type 0 where
   pub number : ℕ
   pub drawn : drew before (numbered number m) target freed after
   pub added : new ≡ old ++ numbered number m ∷ []

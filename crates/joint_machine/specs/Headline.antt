@@ -108,12 +108,16 @@ pub record IsCandidateBefore (run : List Moment) (i m : ℕ) : Type 0 where
 pub record IsSoundRun (run : List Moment) : Type 0 where
   -- each candidate that a resolution frees held a handle whose peer a sweep freed, both unreached at its begin and just
   -- before it
-  pub candidates : (i k m : ℕ) (freed : List ℕ) → ResolvesAt run i k freed → Contains freed m → IsCandidateBefore run i m → IsFreedWithPeer run i m
+  pub candidates : (i k m : ℕ) (freed : List ℕ) → ResolvesAt run i k freed
+      → Contains freed m → IsCandidateBefore run i m → IsFreedWithPeer run i m
   -- each peer that a sweep frees was unreached at the begin of the marking and just before the sweep
-  pub peers : (i j p : ℕ) (freed : List ℕ) → SweepsAt run i j freed → Contains freed p → (begin : ℕ) × (begin < i) × BeginsAt run begin j × WasUnreached run begin i (peer p)
+  pub peers : (i j p : ℕ) (freed : List ℕ) → SweepsAt run i j freed → Contains freed p
+      → (begin : ℕ) × (begin < i) × BeginsAt run begin j × WasUnreached run begin i (peer p)
   -- no managed row that a snapshot or a resolution frees was reached in the state before
-  pub snapped : (i k m : ℕ) (freed candidates : List ℕ) → SnapsAt run i k freed candidates → Contains freed m → IsUnreachedBefore run i (object m)
-  pub resolved : (i k m : ℕ) (freed : List ℕ) → ResolvesAt run i k freed → Contains freed m → IsUnreachedBefore run i (object m)
+  pub snapped : (i k m : ℕ) (freed candidates : List ℕ) → SnapsAt run i k freed candidates
+      → Contains freed m → IsUnreachedBefore run i (object m)
+  pub resolved : (i k m : ℕ) (freed : List ℕ) → ResolvesAt run i k freed
+      → Contains freed m → IsUnreachedBefore run i (object m)
 
 -- the peer was made by the state just before place i
 pub record IsMadeBefore (run : List Moment) (i p : ℕ) : Type 0 where
@@ -129,7 +133,8 @@ pub record IsPeerFreedAt (run : List Moment) (i p : ℕ) : Type 0 where
 
 -- the peer isn't reached in the state at any entry from one place to another at which it exists
 abbrev pub IsPeerUnreachedThroughout : List Moment → ℕ → ℕ → ℕ → Type 0
-IsPeerUnreachedThroughout run from to p = (i : ℕ) → from ≤ i → i ≤ to → (m : Moment) → slice_get run i ≡ Some m → IsMade m.after.graph.peers.heap p → IsReached m.after (peer p) → ⊥
+IsPeerUnreachedThroughout run from to p = (i : ℕ) → from ≤ i → i ≤ to → (m : Moment)
+    → slice_get run i ≡ Some m → IsMade m.after.graph.peers.heap p → IsReached m.after (peer p) → ⊥
 
 -- a cycle that ends in the resolution at place `end` frees what was unreached throughout: it has its snapshot and its
 -- own marking, which the thread c begins between the two; each of its candidates that is unreached throughout from the
@@ -150,7 +155,8 @@ pub record IsCompleteCycle (run : List Moment) (end k : ℕ) (resolved : List �
   pub sweeps_later : begin < sweep
   pub ends_later : sweep < end
   pub objects : (m : ℕ) → Contains candidates m → IsUnreachedThroughout run snap sweep (object m) → Contains resolved m
-  pub peers : (p : ℕ) → IsMadeBefore run begin p → IsPeerUnreachedThroughout run snap sweep p → IsPeerFreedAt run sweep p
+  pub peers : (p : ℕ) → IsMadeBefore run begin p
+      → IsPeerUnreachedThroughout run snap sweep p → IsPeerFreedAt run sweep p
 
 -- complete: each cycle that is resolved leaves no candidate that was unreached from its snapshot to the sweep of its
 -- own marking, and no peer of that marking's begin that was. (A linked history has one begin of the driver between a

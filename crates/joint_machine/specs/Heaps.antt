@@ -2,7 +2,8 @@
 -- the operations that both heaps have. (The managed replay, the peer replay and the joint machine share
 -- these definitions, so that they can't disagree. Textbook; the operations are this project's own.)
 -- Believed: the clauses of the program's top call rest on all that stands here.
-use Rattle.std.specs.Prelude.{ℕ, zero, suc, ◌+◌, ◌*◌, ◌≤◌, ◌⊎◌, Bool, nat_le, nat_eq, if◌then◌else◌, List, [], ◌∷◌, ◌++◌, length, replicate, slice_get, slice_set, Contains, Option, Some, None}
+use Rattle.std.specs.Prelude.{ℕ, zero, suc, ◌+◌, ◌*◌, ◌≤◌, ◌⊎◌, Bool, nat_le, nat_eq, if◌then◌else◌, List, [], ◌∷◌}
+use Rattle.std.specs.Prelude.{◌++◌, length, replicate, slice_get, slice_set, Contains, Option, Some, None}
 use Rattle.std.specs.List.{list_any}
 use Rattle.joint_machine.specs.declared.events.Reply.{Reply}
 use Rattle.joint_machine.specs.declared.events.Reply.TheVariants as says
@@ -108,12 +109,14 @@ answer r s = record { reply = r; state = s }
 -- `copy V W`: V names W's object. In these operations `name` is how a reply names an object, and variables
 -- go by their places.
 abbrev pub copied : (ℕ → Reply) → Heap → ℕ → ℕ → Answered Heap
-copied name h v w = elim (slot h.vars w) [ None ↦ answer says.Empty h | Some x ↦ answer (name x) (with_var h v (Some x)) ]
+copied name h v w = elim (slot h.vars w)
+    [ None ↦ answer says.Empty h | Some x ↦ answer (name x) (with_var h v (Some x)) ]
 
 -- field i of object x gets the object of the variable at a place, or nothing
 abbrev pub field_stored : Heap → ℕ → ℕ → Option ℕ → Answered Heap
 field_stored h x i None = answer says.Ok (with_field h x i None)
-field_stored h x i (Some w) = elim (slot h.vars w) [ None ↦ answer says.Empty h | Some y ↦ answer says.Ok (with_field h x i (Some y)) ]
+field_stored h x i (Some w) = elim (slot h.vars w)
+    [ None ↦ answer says.Empty h | Some y ↦ answer says.Ok (with_field h x i (Some y)) ]
 
 -- `set V I W`: field I of V's object holds W's object, or nothing
 abbrev pub field_set : Heap → ℕ → ℕ → Option ℕ → Answered Heap
@@ -131,7 +134,8 @@ read_into name h v (Some y) = answer (name y) (with_var h v (Some y))
 abbrev pub field_got : (ℕ → Reply) → Heap → ℕ → ℕ → ℕ → Answered Heap
 field_got name h v w i = elim (slot h.vars w) [
   | None ↦ answer says.Empty h
-  | Some x ↦ if nat_le (length (fields_of h x)) i then answer says.Range h else read_into name h v (slot (fields_of h x) i)
+  | Some x ↦ if nat_le (length (fields_of h x)) i then answer
+      says.Range h else read_into name h v (slot (fields_of h x) i)
 ]
 
 -- `drop V`: V is emptied
@@ -145,4 +149,5 @@ loaded name h v s = read_into name h v (slot h.statics s)
 -- `store x V`: the static holds V's object, or nothing
 abbrev pub stored : Heap → ℕ → Option ℕ → Answered Heap
 stored h s None = answer says.Ok (with_static h s None)
-stored h s (Some v) = elim (slot h.vars v) [ None ↦ answer says.Empty h | Some x ↦ answer says.Ok (with_static h s (Some x)) ]
+stored h s (Some v) = elim (slot h.vars v)
+    [ None ↦ answer says.Empty h | Some x ↦ answer says.Ok (with_static h s (Some x)) ]

@@ -38,7 +38,12 @@ joint_marking (Some mk) begun = Some record { number = mk.number; by = mk.by; be
 
 -- the joint state of a managed and a peer state, with what restores answered, and the open marking
 abbrev pub joint_of : Managed → PeerReplay → List (Option Answer) → Option JointMarking → Joint
-joint_of s p answers marking = record { graph = graph_at s p; answers = answers; marking = marking; markings = p.markings }
+joint_of s p answers marking = record {
+  graph = graph_at s p;
+  answers = answers;
+  marking = marking;
+  markings = p.markings;
+}
 
 -- that state as both replays give it, with the graph that stood at the open marking's begin
 abbrev pub joint_since : Managed → PeerReplay → List (Option Answer) → Graph → Joint

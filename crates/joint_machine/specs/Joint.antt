@@ -1,6 +1,7 @@
 -- The joint machine's state, and its one graph that joins managed objects, peers and handles.
 -- Believed: the clauses of the program's top call rest on all that stands here.
-use Rattle.std.specs.Prelude.{◌≡◌, ℕ, ◌⊎◌, ◌+◌, Bool, false, ◌&&◌, nat_eq, if◌then◌else◌, List, [], ◌∷◌, Option, Some, None}
+use Rattle.std.specs.Prelude.{◌≡◌, ℕ, ◌⊎◌, ◌+◌, Bool, false, ◌&&◌, nat_eq, if◌then◌else◌, List, [], ◌∷◌, Option, Some}
+use Rattle.std.specs.Prelude.{None}
 use Rattle.joint_machine.specs.declared.names.Thread.{Thread}
 use Rattle.joint_machine.specs.Heaps.{IsLive, HasField, InSlot, numbered_at, is_freed}
 use Rattle.joint_machine.specs.Managed.{Managed, opening_managed, Holds, IsManagedRoot, handle_of}
@@ -31,7 +32,12 @@ pub record Joint : Type 0 where
 
 -- all lists are empty, and so is each slot
 abbrev pub opening : Joint
-opening = record { graph = record { managed = opening_managed; peers = opening_peers; removed = [] }; answers = []; marking = None; markings = 0 }
+opening = record {
+  graph = record { managed = opening_managed; peers = opening_peers; removed = [] };
+  answers = [];
+  marking = None;
+  markings = 0;
+}
 
 -- the state with another managed part
 abbrev pub with_managed : Joint → Managed → Joint
@@ -115,5 +121,6 @@ twin_of j p = twin_from j p 1 j.graph.managed.held
 abbrev pub joint_target : Joint → ℕ → Option ℕ
 joint_target j h = elim (numbered_at j.graph.removed h) [
   | None ↦ None
-  | Some gone ↦ if gone then None else elim (peer_of j.graph.peers.issued h) [ None ↦ None | Some p ↦ if is_freed j.graph.peers.heap p then None else Some p ]
+  | Some gone ↦ if gone then None else elim (peer_of j.graph.peers.issued h)
+      [ None ↦ None | Some p ↦ if is_freed j.graph.peers.heap p then None else Some p ]
 ]

@@ -7,7 +7,8 @@ use Rattle.joint_machine.specs.declared.lines.Act.TheVariants as act
 use Rattle.joint_machine.specs.declared.events.Op.{Op}
 use Rattle.joint_machine.specs.declared.events.Op.TheVariants as op
 use Rattle.joint_machine.specs.declared.events.Made.{Made}
-use Rattle.joint_machine.specs.Control.{Control, opening_control, CallerAllows, control_after, last_line, doing_at, IsDone, IsAtRest}
+use Rattle.joint_machine.specs.Control.{Control, opening_control, CallerAllows, control_after, last_line, doing_at}
+use Rattle.joint_machine.specs.Control.{IsDone, IsAtRest}
 use Rattle.joint_machine.specs.Lines.{IsEvent, is_peer_event}
 use Rattle.joint_machine.specs.Managed.{candidates_of}
 use Rattle.joint_machine.specs.ManagedReplay.{ManagedReplay, opening_replay, managed_answer, ManagedAllows}
@@ -45,7 +46,8 @@ pub record MayCome (s : Linkage) (n : Noted) : Type 0 where
   pub line : last_line s.control n.entry.made.caller ≤ n.entry.made.index
   pub short : n.entry.made.index < 2 ^ 32
   pub lawful : SideLawful (is_peer_event n.entry.made.caller n.entry.made.op) s n.entry.made n.told
-  pub order : CallerAllows s.control s.managed.managed s.peer.peers.issued n.entry.made.caller n.entry.made.index n.entry.made.op n.entry.made.reply n.entry.made.cites n.told
+  pub order : CallerAllows s.control s.managed.managed s.peer.peers.issued n.entry.made.caller
+      n.entry.made.index n.entry.made.op n.entry.made.reply n.entry.made.cites n.told
 
 -- the sides after an entry: its own side moves, the other stays
 abbrev pub managed_after : ManagedReplay → Made → Told → Bool → ManagedReplay
@@ -61,7 +63,8 @@ abbrev pub linkage_after : Linkage → Noted → Linkage
 linkage_after s n = record {
   managed = managed_after s.managed n.entry.made n.told (is_peer_event n.entry.made.caller n.entry.made.op);
   peer = peer_after s.peer n.entry.made n.told (is_peer_event n.entry.made.caller n.entry.made.op);
-  control = control_after s.control n.entry.made.caller n.entry.number n.entry.made.index n.entry.made.op n.entry.made.reply n.told;
+  control = control_after s.control n.entry.made.caller n.entry.number
+      n.entry.made.index n.entry.made.op n.entry.made.reply n.told;
 }
 
 -- no handle waits for its release, and the driver is at rest (a make, a lend or a grip may stand alone, as an operation

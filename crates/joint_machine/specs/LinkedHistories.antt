@@ -26,7 +26,8 @@ pub record IsLinkedBy (h : Finished) (noted : List Noted) : Type 0 where
   pub whole : IsWhole (linked_end noted)
   pub freed_managed : managed_numbers h.freed_managed ≡ (managed_end noted).heap.freed
   pub freed_peers : peer_numbers h.freed_peers ≡ (linked_end noted).peer.peers.heap.freed
-  pub notices : take (managed_end noted).taken (managed_numbers h.notices) ≡ take (managed_end noted).taken (managed_end noted).notices
+  pub notices : take (managed_end noted).taken (managed_numbers h.notices) ≡ take
+      (managed_end noted).taken (managed_end noted).notices
 
 -- a history is linked
 pub record IsLinked (h : Finished) : Type 0 where

@@ -3,7 +3,8 @@
 -- (The four kinds of class and the life of a cycle are those of SGen's bridge header; handles and `Dispose`
 -- are those of the Xamarin.Android documentation.)
 -- Believed: the clauses of the program's top call rest on all that stands here.
-use Rattle.std.specs.Prelude.{◌≡◌, ℕ, ◌+◌, ◌-◌, ◌⊎◌, Bool, true, false, min, if◌then◌else◌, List, [], ◌∷◌, ◌++◌, length, filter, replicate, slice_set, Contains, Option, Some, None}
+use Rattle.std.specs.Prelude.{◌≡◌, ℕ, ◌+◌, ◌-◌, ◌⊎◌, Bool, true, false, min, if◌then◌else◌, List, [], ◌∷◌, ◌++◌, length}
+use Rattle.std.specs.Prelude.{filter, replicate, slice_set, Contains, Option, Some, None}
 use Rattle.joint_machine.specs.declared.names.Kind.{Kind}
 use Rattle.joint_machine.specs.declared.names.Kind.TheVariants.{Bridge, LeafBridge}
 use Rattle.joint_machine.specs.declared.names.Sort.{Sort}
@@ -13,7 +14,9 @@ use Rattle.joint_machine.specs.declared.lines.Act.{Act}
 use Rattle.joint_machine.specs.declared.lines.Act.TheVariants as act
 use Rattle.joint_machine.specs.declared.events.Reply.{Reply}
 use Rattle.joint_machine.specs.declared.events.Reply.TheVariants as says
-use Rattle.joint_machine.specs.Heaps.{Heap, IsLive, HasField, InSlot, Answered, answer, opening_heap, slot, numbered_at, numbered_set, place, is_freed, is_full, next_number, with_var, with_object, with_freed, copied, field_set, field_got, dropped, loaded, stored}
+use Rattle.joint_machine.specs.Heaps.{Heap, IsLive, HasField, InSlot, Answered, answer, opening_heap, slot, numbered_at}
+use Rattle.joint_machine.specs.Heaps.{numbered_set, place, is_freed, is_full, next_number, with_var, with_object}
+use Rattle.joint_machine.specs.Heaps.{with_freed, copied, field_set, field_got, dropped, loaded, stored}
 use Rattle.joint_machine.specs.Told.{Answer, said_alive, said_cleared}
 use Rattle.joint_machine.specs.Walks.{Reached}
 
@@ -37,7 +40,17 @@ pub record Managed : Type 0 where
 
 -- nothing is there; a thread's pin has the thread's number, so the pin with number 0 is nobody's
 abbrev pub opening_managed : Managed
-opening_managed = record { heap = opening_heap; kinds = []; held = []; pins = replicate 9 None; cells = replicate 64 None; notices = []; taken = 0; cycle = None; cycles = 0 }
+opening_managed = record {
+  heap = opening_heap;
+  kinds = [];
+  held = [];
+  pins = replicate 9 None;
+  cells = replicate 64 None;
+  notices = [];
+  taken = 0;
+  cycle = None;
+  cycles = 0;
+}
 
 -- the candidates of the open cycle; none where no cycle is open
 abbrev pub candidates_of : Managed → List ℕ
@@ -82,15 +95,21 @@ on_heap s a = answer a.reply (record s { heap = a.state })
 
 -- a further object of that kind with so many fields, which holds a handle or none; the variable names it
 abbrev pub with_row : Managed → ℕ → Kind → ℕ → Option ℕ → Managed
-with_row s v kind n h = record s { heap = with_var (with_object s.heap n) v (Some (next_number s.heap)); kinds = s.kinds ++ kind ∷ []; held = s.held ++ h ∷ [] }
+with_row s v kind n h = record s {
+  heap = with_var (with_object s.heap n) v (Some (next_number s.heap));
+  kinds = s.kinds ++ kind ∷ [];
+  held = s.held ++ h ∷ [];
+}
 
 -- `new`: a further object without a handle, unless there are 65,535
 abbrev pub made_new : Managed → ℕ → Kind → ℕ → Answered Managed
-made_new s v kind n = if is_full s.heap.fields then answer says.Full s else answer (managed_name (next_number s.heap)) (with_row s v kind n None)
+made_new s v kind n = if is_full s.heap.fields then answer says.Full s else answer
+    (managed_name (next_number s.heap)) (with_row s v kind n None)
 
 -- `adopt`: a further object that holds the handle, unless there are 65,535
 abbrev pub adopted : Managed → ℕ → Kind → ℕ → ℕ → Answered Managed
-adopted s v kind n h = if is_full s.heap.fields then answer says.Full s else answer (managed_name (next_number s.heap)) (with_row s v kind n (Some h))
+adopted s v kind n h = if is_full s.heap.fields then answer says.Full s else answer
+    (managed_name (next_number s.heap)) (with_row s v kind n (Some h))
 
 -- the cell gets a target, unless it was ever set
 abbrev pub cell_set : Managed → ℕ → ℕ → Option ℕ → Answered Managed
@@ -104,7 +123,8 @@ weakened_to s k v = elim (slot s.heap.vars v) [ None ↦ answer says.Empty s | S
 -- the reader's pin holds the cell's target, if that isn't freed
 abbrev pub target_read : Managed → ℕ → Option ℕ → Answered Managed
 target_read s t None = answer says.Unset s
-target_read s t (Some x) = if is_freed s.heap x then answer says.Gone s else answer (managed_name x) (record s { pins = slice_set s.pins t (Some x) })
+target_read s t (Some x) = if is_freed s.heap x then answer says.Gone s else answer
+    (managed_name x) (record s { pins = slice_set s.pins t (Some x) })
 
 -- while a cycle is open a read is pending
 abbrev pub cell_read : Managed → ℕ → ℕ → Option OpenCycle → Answered Managed
@@ -113,7 +133,8 @@ cell_read s t k (Some c) = answer (says.Pending record { 0 = c.number }) s
 
 -- `read K` and `wait K`: a filled pin alone decides, then an open cycle
 abbrev pub read_cell : Managed → ℕ → ℕ → Answered Managed
-read_cell s t k = elim (slot s.pins t) [ None ↦ cell_read s t k s.cycle | Some x ↦ answer (says.Pinned record { 0 = x }) s ]
+read_cell s t k = elim (slot s.pins t)
+    [ None ↦ cell_read s t k s.cycle | Some x ↦ answer (says.Pinned record { 0 = x }) s ]
 
 -- `take V`: V names the pin's object, and the pin is emptied
 abbrev pub pin_taken : Managed → ℕ → ℕ → Answered Managed
@@ -152,11 +173,15 @@ twin_fields Framework n = 0
 abbrev pub twin_met : Managed → ℕ → ℕ → Sort → ℕ → Option ℕ → Answered Managed
 twin_met s v h sort n (Some m) = answer (says.Twin record { 0 = m }) (record s { heap = with_var s.heap v (Some m) })
 twin_met s v h sort n None = if is_full s.heap.fields then answer says.Full s
-    else answer (says.New record { 0 = next_number s.heap }) (with_row s v (twin_kind sort) (twin_fields sort n) (Some h))
+    else answer (says.New record { 0 = next_number s.heap })
+    (with_row s v (twin_kind sort) (twin_fields sort n) (Some h))
 
 -- `meet V p h SORT F`, given the twin that p has: while a cycle is open it is pending
 abbrev pub met : Managed → ℕ → ℕ → Sort → ℕ → Option ℕ → Answered Managed
-met s v h sort n twin = elim s.cycle [ None ↦ twin_met s v h sort n twin | Some c ↦ answer (says.Pending record { 0 = c.number }) s ]
+met s v h sort n twin = elim s.cycle [
+  | None ↦ twin_met s v h sort n twin
+  | Some c ↦ answer (says.Pending record { 0 = c.number }) s
+]
 
 -- `finalise N`: the oldest N of the waiting notices are taken, or all
 abbrev pub notices_taken : Managed → ℕ → Answered Managed
@@ -201,7 +226,12 @@ managed_line s t (act.PhaseLine word) = answer says.Ok s
 
 -- a snapshot: its rows are freed, and the next cycle is opened
 abbrev pub with_snapshot : Managed → List ℕ → List ℕ → List ℕ → Managed
-with_snapshot s freed candidates dead = record s { heap = with_freed s.heap freed; cycle = Some record { number = s.cycles + 1; candidates = candidates; dead = dead }; cycles = s.cycles + 1 }
+with_snapshot s freed candidates dead = record s {
+  heap = with_freed s.heap freed;
+  cycle = Some
+      record { number = s.cycles + 1; candidates = candidates; dead = dead };
+  cycles = s.cycles + 1;
+}
 
 -- whether an object holds a handle
 abbrev pub holds_handle : Managed → ℕ → Bool
@@ -217,7 +247,12 @@ renewed held (m ∷ ms) (said_cleared ∷ answers) = renewed held ms answers
 -- a resolution: its rows are freed, each kept candidate holds its new handle, a notice is queued for each freed bridge
 -- row, and the cycle is closed
 abbrev pub resolved : Managed → List Answer → List ℕ → Managed
-resolved s answers freed = record s { heap = with_freed s.heap freed; held = renewed s.held (candidates_of s) answers; notices = s.notices ++ filter (holds_handle s) freed; cycle = None }
+resolved s answers freed = record s {
+  heap = with_freed s.heap freed;
+  held = renewed s.held (candidates_of s) answers;
+  notices = s.notices ++ filter (holds_handle s) freed;
+  cycle = None;
+}
 
 -- the cycle is closed, and nothing is freed
 abbrev pub abandoned : Managed → Managed

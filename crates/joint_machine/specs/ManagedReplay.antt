@@ -1,7 +1,8 @@
 -- The managed side by itself: its entries, by rising number, replayed. Nothing of the peer heap enters but what the
 -- entries say of it. (The registry of peers' twins is that of the Xamarin.Android documentation.)
 -- Believed: the clauses of the program's top call rest on all that stands here.
-use Rattle.std.specs.Prelude.{◌≡◌, ℕ, ◌+◌, ◌↔◌, Bool, true, false, not, nat_eq, if◌then◌else◌, List, [], ◌∷◌, ◌++◌, length, filter, Contains, Option, Some, None}
+use Rattle.std.specs.Prelude.{◌≡◌, ℕ, ◌+◌, ◌↔◌, Bool, true, false, not, nat_eq, if◌then◌else◌, List, [], ◌∷◌, ◌++◌}
+use Rattle.std.specs.Prelude.{length, filter, Contains, Option, Some, None}
 use Rattle.std.specs.List.{list_any}
 use Rattle.joint_machine.specs.declared.names.Thread.{Thread}
 use Rattle.joint_machine.specs.declared.names.Phase.{Phase}
@@ -12,12 +13,15 @@ use Rattle.joint_machine.specs.declared.events.Op.{Op}
 use Rattle.joint_machine.specs.declared.events.Op.TheVariants as op
 use Rattle.joint_machine.specs.declared.events.Reply.{Reply}
 use Rattle.joint_machine.specs.declared.events.Reply.TheVariants as says
-use Rattle.joint_machine.specs.Cycles.{IsSnapshot, snap_reply, IsResolution, resolve_reply, IsOpen, IsDeadContraction, IsAnsweredAlive}
+use Rattle.joint_machine.specs.Cycles.{IsSnapshot, snap_reply, IsResolution, resolve_reply, IsOpen, IsDeadContraction}
+use Rattle.joint_machine.specs.Cycles.{IsAnsweredAlive}
 use Rattle.joint_machine.specs.Heaps.{Answered, answer, slot, place}
-use Rattle.joint_machine.specs.Managed.{Managed, OpenCycle, opening_managed, managed_line, adopted, met, given_up, handle_reply, with_snapshot, resolved, abandoned}
+use Rattle.joint_machine.specs.Managed.{Managed, OpenCycle, opening_managed, managed_line, adopted, met, given_up}
+use Rattle.joint_machine.specs.Managed.{handle_reply, with_snapshot, resolved, abandoned}
 use Rattle.joint_machine.specs.Phases.{next_phase}
 use Rattle.joint_machine.specs.Run.{thread_number}
-use Rattle.joint_machine.specs.Told.{Told, nothing, snap_of, contraction_of, resolution_of, phase_of, Answer, handles_given}
+use Rattle.joint_machine.specs.Told.{Told, nothing, snap_of, contraction_of, resolution_of, phase_of, Answer}
+use Rattle.joint_machine.specs.Told.{handles_given}
 
 -- beside the managed objects: the pairs of a peer and its twin, the handles that were ever adopted or given to a row by
 -- a resolution, and whether the open cycle's contraction was made
@@ -51,7 +55,12 @@ plainly s a = answer a.reply (record s { managed = a.state })
 
 -- a handle was adopted by a new row on its peer
 abbrev pub took_handle : ManagedReplay → ℕ → ℕ → ℕ → Managed → ManagedReplay
-took_handle s p h m after = record s { managed = after; registry = with_twin s.registry p m (registered s.registry p); adopted = s.adopted ++ h ∷ [] }
+took_handle s p h m after = record s {
+  managed = after;
+  registry = with_twin
+      s.registry p m (registered s.registry p);
+  adopted = s.adopted ++ h ∷ [];
+}
 
 -- an `adopt` by its answer: a new row is registered as the twin of its peer
 abbrev pub adopt_by : ManagedReplay → ℕ → ℕ → Managed → Reply → Answered ManagedReplay
@@ -82,13 +91,23 @@ refusal_to s phase _ = says.At phase
 -- the reply to each managed event, and the state after it, given what is told beside it
 abbrev pub managed_answer : ManagedReplay → Thread → Op → Told → Answered ManagedReplay
 managed_answer s t (op.Line a) told = plainly s (managed_line s.managed (thread_number t) a)
-managed_answer s t (op.Adopt v kind n p h) told = let a = adopted s.managed (place (thread_number t) v.0) kind n h.0 in adopt_by s p.0 h.0 a.state a.reply
+managed_answer s t (op.Adopt v kind n p h) told = let a = adopted s.managed (place (thread_number t) v.0) kind n h.0 in
+    adopt_by s p.0 h.0 a.state a.reply
 managed_answer s t (op.Lend v x) told = answer (handle_reply s.managed (place (thread_number t) v.0)) s
-managed_answer s t (op.Meet v sort n p h) told = let a = met s.managed (place (thread_number t) v.0) h.0 sort n (registered s.registry p.0) in meet_by s p.0 h.0 a.state a.reply
-managed_answer s t (op.Give v) told = let v' = place (thread_number t) v.0 in give_by s (slot s.managed.heap.vars v') (given_up s.managed v')
-managed_answer s t (op.Snap k) (snap_of freed candidates dead) = answer (snap_reply s.managed freed candidates) (record s { managed = with_snapshot s.managed freed candidates dead; contracted = false })
-managed_answer s t (op.Contract k) (contraction_of comps heavy xrefs) = answer (says.Sccs (length comps + length heavy) (length xrefs)) (record s { contracted = true })
-managed_answer s t (op.Resolve k) (resolution_of answers freed) = answer (resolve_reply s.managed freed) (record s { managed = resolved s.managed answers freed; registry = without_twins s.registry freed; adopted = s.adopted ++ handles_given answers })
+managed_answer s t (op.Meet v sort n p h) told = let a = met s.managed
+    (place (thread_number t) v.0) h.0 sort n (registered s.registry p.0) in meet_by s p.0 h.0 a.state a.reply
+managed_answer s t (op.Give v) told = let v' = place (thread_number t) v.0 in
+    give_by s (slot s.managed.heap.vars v') (given_up s.managed v')
+managed_answer s t (op.Snap k) (snap_of freed candidates dead) = answer (snap_reply s.managed freed candidates)
+    (record s { managed = with_snapshot s.managed freed candidates dead; contracted = false })
+managed_answer s t (op.Contract k) (contraction_of comps heavy xrefs) = answer
+    (says.Sccs (length comps + length heavy) (length xrefs)) (record s { contracted = true })
+managed_answer s t (op.Resolve k) (resolution_of answers freed) = answer
+    (resolve_reply s.managed freed) (record s {
+      managed = resolved s.managed answers freed;
+      registry = without_twins s.registry freed;
+      adopted = s.adopted ++ handles_given answers;
+    })
 managed_answer s t (op.Abandon k) told = answer says.Ok (record s { managed = abandoned s.managed })
 managed_answer s t (op.Refused w) (phase_of phase) = answer (refusal_to s.managed phase w) s
 managed_answer s t (op.Make sort n) told = answer says.Ok s
@@ -108,7 +127,8 @@ managed_answer s t (op.Refused w) told = answer says.Ok s
 
 -- cycle k is open, its contraction isn't made, and these are the components, heavy classes and cross-references of its
 -- dead part
-pub record MayContract (s : ManagedReplay) (k : ℕ) (comps : List (List ℕ)) (heavy : List ℕ) (xrefs : List (ℕ × ℕ)) : Type 0 where
+pub record MayContract (s : ManagedReplay) (k : ℕ) (comps : List (List ℕ))
+    (heavy : List ℕ) (xrefs : List (ℕ × ℕ)) : Type 0 where
   pub cycle : OpenCycle
   pub open_cycle : IsOpen s.managed k cycle
   pub once : s.contracted ≡ false

@@ -3,7 +3,8 @@
 -- between peers, makes the global references weak, collects, looks which are left, makes those strong again and
 -- removes the added references. Tri-colour marking is textbook.)
 -- Believed: the clauses of the program's top call rest on all that stands here.
-use Rattle.std.specs.Prelude.{◌≡◌, ℕ, ◌+◌, ◌-◌, ◌⊎◌, ◌↔◌, Bool, true, false, ◌||◌, min, nat_eq, nat_lt, if◌then◌else◌, List, [], ◌∷◌, ◌++◌, length, map, All, Contains, Option, Some, None}
+use Rattle.std.specs.Prelude.{◌≡◌, ℕ, ◌+◌, ◌-◌, ◌⊎◌, ◌↔◌, Bool, true, false, ◌||◌, min, nat_eq, nat_lt, if◌then◌else◌}
+use Rattle.std.specs.Prelude.{List, [], ◌∷◌, ◌++◌, length, map, All, Contains, Option, Some, None}
 use Rattle.std.specs.List.{list_any}
 use Rattle.joint_machine.specs.declared.names.Thread.{Thread}
 use Rattle.joint_machine.specs.declared.names.Thread.TheVariants.{M, P, C}
@@ -14,8 +15,11 @@ use Rattle.joint_machine.specs.declared.events.Op.TheVariants as op
 use Rattle.joint_machine.specs.declared.events.Reply.{Reply}
 use Rattle.joint_machine.specs.declared.events.Reply.TheVariants as says
 use Rattle.joint_machine.specs.Components.{Rises, End, node, temporary}
-use Rattle.joint_machine.specs.Heaps.{Heap, IsLive, HasField, InSlot, Answered, answer, slot, numbered_at, numbered_set, with_freed}
-use Rattle.joint_machine.specs.Peers.{Peers, opening_peers, peer_line, pair_made, gripped, landed, issued_since, peer_of, next_handle, with_renewed, Issued, held, Strength, strong, weak, is_strong}
+use Rattle.joint_machine.specs.Heaps.{Heap, IsLive, HasField, InSlot, Answered, answer, slot, numbered_at, numbered_set}
+use Rattle.joint_machine.specs.Heaps.{with_freed}
+use Rattle.joint_machine.specs.Peers.{Peers, opening_peers, peer_line, pair_made, gripped, landed, issued_since}
+use Rattle.joint_machine.specs.Peers.{peer_of, next_handle, with_renewed, Issued, held, Strength, strong, weak}
+use Rattle.joint_machine.specs.Peers.{is_strong}
 use Rattle.joint_machine.specs.Run.{thread_number}
 use Rattle.joint_machine.specs.Told.{Told, nothing, references_of, slice_of, sweep_of}
 use Rattle.joint_machine.specs.Walks.{Reached}
@@ -58,7 +62,15 @@ pub record PeerReplay : Type 0 where
 
 -- nothing is there
 abbrev pub opening_peer_replay : PeerReplay
-opening_peer_replay = record { peers = opening_peers; table = []; refs = []; mirror = None; mirrors = []; marking = None; markings = 0 }
+opening_peer_replay = record {
+  peers = opening_peers;
+  table = [];
+  refs = [];
+  mirror = None;
+  mirrors = [];
+  marking = None;
+  markings = 0;
+}
 
 -- the row of a handle; None where it isn't in the table
 abbrev pub row_of : PeerReplay → ℕ → Option TableRow
@@ -77,14 +89,16 @@ abbrev pub strong_peers : List Issued → List (Option TableRow) → List ℕ
 strong_peers [] rows = []
 strong_peers (i ∷ is) [] = []
 strong_peers (i ∷ is) (None ∷ rows) = strong_peers is rows
-strong_peers (i ∷ is) (Some row ∷ rows) = if is_strong row.strength then i.peer ∷ strong_peers is rows else strong_peers is rows
+strong_peers (i ∷ is) (Some row ∷ rows) = if is_strong row.strength
+    then i.peer ∷ strong_peers is rows else strong_peers is rows
 
 -- the table with each handle on one of these peers cleared
 abbrev pub cleared_rows : List ℕ → List Issued → List (Option TableRow) → List (Option TableRow)
 cleared_rows freed [] rows = rows
 cleared_rows freed (i ∷ is) [] = []
 cleared_rows freed (i ∷ is) (None ∷ rows) = None ∷ cleared_rows freed is rows
-cleared_rows freed (i ∷ is) (Some row ∷ rows) = Some (record row { cleared = row.cleared || list_any (nat_eq i.peer) freed }) ∷ cleared_rows freed is rows
+cleared_rows freed (i ∷ is) (Some row ∷ rows) = Some
+    (record row { cleared = row.cleared || list_any (nat_eq i.peer) freed }) ∷ cleared_rows freed is rows
 
 -- a root of the marking: a peer in a slot or under a strong handle at its begin, or brought back since
 abbrev pub IsMarkingRoot : Marking → ℕ → Type 0
@@ -118,7 +132,8 @@ pub record IsMarked (mk : Marking) (p : ℕ) : Type 0 where
 
 -- an event of the peers alone: the handles that it issues come into the table
 abbrev pub on_table : PeerReplay → Answered Peers → Answered PeerReplay
-on_table s a = answer a.reply (record s { peers = a.state; table = s.table ++ map fresh_row (issued_since s.peers a.state) })
+on_table s a = answer a.reply (record s
+    { peers = a.state; table = s.table ++ map fresh_row (issued_since s.peers a.state) })
 
 -- the marking with a further peer brought back
 abbrev pub brought_to : Option Marking → ℕ → Option Marking
@@ -141,7 +156,8 @@ untabled s (Some h) = record s { table = numbered_set s.table h None }
 
 -- an event of a peer thread's line
 abbrev pub peer_thread_line : PeerReplay → ℕ → Act → Answered PeerReplay
-peer_thread_line s t (act.UnGlobal g) = on_table (untabled s (slot s.peers.names g.0)) (peer_line (table_target s) s.peers t (act.UnGlobal g))
+peer_thread_line s t (act.UnGlobal g) = on_table (untabled s (slot s.peers.names g.0))
+    (peer_line (table_target s) s.peers t (act.UnGlobal g))
 peer_thread_line s t (act.WRead v g) = brings (on_table s (peer_line (table_target s) s.peers t (act.WRead v g)))
 peer_thread_line s t a = on_table s (peer_line (table_target s) s.peers t a)
 
@@ -157,29 +173,40 @@ abbrev pub sliced : PeerReplay → Option Marking → Thread → ℕ → List �
 sliced s None t n closure = answer says.NoMark s
 sliced s (Some mk) t n closure = if is_thread t mk.by
     then (let black = mk.blackened + min n (length closure - mk.blackened) in
-    answer (if nat_lt black (length closure) then says.More else says.Done) (record s { marking = Some (record mk { blackened = black }) }))
+    answer (if nat_lt black (length closure) then says.More else says.Done)
+    (record s { marking = Some (record mk { blackened = black }) }))
     else answer (says.MarkOpen record { 0 = mk.number }) s
 
 -- a begin: the next marking is opened, unless one is open
 abbrev pub begun : PeerReplay → Option Marking → Thread → Answered PeerReplay
 begun s None t = answer (says.Mark record { 0 = s.markings + 1 }) (record s {
-  marking = Some record { number = s.markings + 1; by = t; heap = s.peers.heap; refs = s.refs; strong_peers = strong_peers s.peers.issued s.table; brought = []; blackened = 0 };
+  marking = Some record {
+    number = s.markings + 1;
+    by = t;
+    heap = s.peers.heap;
+    refs = s.refs;
+    strong_peers = strong_peers s.peers.issued s.table;
+    brought = [];
+    blackened = 0;
+  };
   markings = s.markings + 1;
 })
 begun s (Some mk) t = answer (says.MarkOpen record { 0 = mk.number }) s
 
 -- peers are freed: the handles on them are cleared, and the marking ends
 abbrev pub swept_of : PeerReplay → Marking → List ℕ → Answered PeerReplay
-swept_of s mk freed = answer (says.Swept record { 0 = mk.number } record { first = length s.peers.heap.freed; count = length freed }) (record s {
-  peers = record s.peers { heap = with_freed s.peers.heap freed };
-  table = cleared_rows freed s.peers.issued s.table;
-  marking = None;
-})
+swept_of s mk freed = answer (says.Swept record { 0 = mk.number }
+    record { first = length s.peers.heap.freed; count = length freed }) (record s {
+      peers = record s.peers { heap = with_freed s.peers.heap freed };
+      table = cleared_rows freed s.peers.issued s.table;
+      marking = None;
+    })
 
 -- a sweep, which a peer thread is refused without a marking or during another thread's
 abbrev pub swept : PeerReplay → Option Marking → Thread → List ℕ → Answered PeerReplay
 swept s None t freed = answer says.NoMark s
-swept s (Some mk) t freed = if is_thread t C || is_thread t mk.by then swept_of s mk freed else answer (says.MarkOpen record { 0 = mk.number }) s
+swept s (Some mk) t freed = if is_thread t C || is_thread t mk.by then swept_of s mk freed else answer
+    (says.MarkOpen record { 0 = mk.number }) s
 
 -- the mirror with a further handle weakened, or restored
 abbrev pub with_weakened : Option Mirror → ℕ → Option Mirror
@@ -202,7 +229,12 @@ withdrawn s h = record s { table = numbered_set s.table h None; mirror = with_re
 -- a held strong handle on the peer comes into the table, in place of one that a restore removed, and the peer is
 -- brought back, if a marking is open
 abbrev pub given_anew : PeerReplay → ℕ → PeerReplay
-given_anew s p = record s { peers = with_renewed s.peers p; table = s.table ++ fresh_row record { peer = p; hold = held; strength = strong } ∷ []; mirror = with_given s.mirror (next_handle s.peers); marking = brought_to s.marking p }
+given_anew s p = record s {
+  peers = with_renewed s.peers p;
+  table = s.table ++ fresh_row record { peer = p; hold = held; strength = strong } ∷ [];
+  mirror = with_given s.mirror (next_handle s.peers);
+  marking = brought_to s.marking p;
+}
 
 -- a restore of a handle that isn't cleared, by its peer: the peer gets a handle with the next number
 abbrev pub renewed_on : PeerReplay → ℕ → Option ℕ → Answered PeerReplay
@@ -212,12 +244,17 @@ renewed_on s h (Some p) = answer (says.Renewed record { 0 = next_handle s.peers 
 -- a restore by the handle's row: the handle is removed, and its peer gets a new one unless it was cleared
 abbrev pub restored_by : PeerReplay → ℕ → Option TableRow → Answered PeerReplay
 restored_by s h None = answer says.Cleared s
-restored_by s h (Some row) = if row.cleared then answer says.Cleared (withdrawn s h) else renewed_on s h (peer_of s.peers.issued h)
+restored_by s h (Some row) = if row.cleared then answer says.Cleared
+    (withdrawn s h) else renewed_on s h (peer_of s.peers.issued h)
 
 -- the mirrored references come to stand
 abbrev pub mirrored : PeerReplay → ℕ → Option ℕ → List (End × End) → PeerReplay
 mirrored s k None refs = s
-mirrored s k (Some snap) refs = record s { refs = refs; mirror = Some record { cycle = k; snap = snap; weakened = []; restored = []; renewed = [] }; mirrors = s.mirrors ++ k ∷ [] }
+mirrored s k (Some snap) refs = record s {
+  refs = refs;
+  mirror = Some record { cycle = k; snap = snap; weakened = []; restored = []; renewed = [] };
+  mirrors = s.mirrors ++ k ∷ [];
+}
 
 -- the reply to each peer event, and the state after it, given what it cites and what is told beside it
 abbrev pub peer_answer : PeerReplay → Thread → Op → Option ℕ → Told → Answered PeerReplay
@@ -229,7 +266,11 @@ peer_answer s t (op.Land h x) cites told = brings (on_table s (landed s.peers x.
 peer_answer s t (op.Grip x) cites told = on_table s (gripped s.peers x.0)
 peer_answer s t (op.Release h) cites told = answer says.Ok (untabled s (Some h.0))
 peer_answer s t (op.Mirror k) cites (references_of refs) = answer (says.Refs (length refs)) (mirrored s k.0 cites refs)
-peer_answer s t (op.Weaken h) cites told = answer says.Ok (record s { table = numbered_set s.table h.0 (Some record { strength = weak; cleared = false }); mirror = with_weakened s.mirror h.0 })
+peer_answer s t (op.Weaken h) cites told = answer says.Ok
+    (record s {
+      table = numbered_set s.table h.0 (Some record { strength = weak; cleared = false });
+      mirror = with_weakened s.mirror h.0;
+    })
 peer_answer s t op.Begin cites told = begun s s.marking t
 peer_answer s t op.Sweep cites (sweep_of freed) = swept s s.marking t freed
 peer_answer s t op.Sweep cites _ = swept s s.marking t []

@@ -2,14 +2,17 @@
 -- side's own replay share, and how each event changes it. (Global and weak global references are those that the
 -- Xamarin.Android documentation describes.)
 -- Believed: the clauses of the program's top call rest on all that stands here.
-use Rattle.std.specs.Prelude.{ℕ, ◌+◌, nat_le, Bool, true, false, ◌||◌, if◌then◌else◌, List, [], ◌∷◌, ◌++◌, length, drop, replicate, slice_set, Option, Some, None}
+use Rattle.std.specs.Prelude.{ℕ, ◌+◌, nat_le, Bool, true, false, ◌||◌, if◌then◌else◌, List, [], ◌∷◌, ◌++◌, length, drop}
+use Rattle.std.specs.Prelude.{replicate, slice_set, Option, Some, None}
 use Rattle.joint_machine.specs.declared.names.Sort.{Sort}
 use Rattle.joint_machine.specs.declared.names.Sort.TheVariants.{Framework}
 use Rattle.joint_machine.specs.declared.lines.Act.{Act}
 use Rattle.joint_machine.specs.declared.lines.Act.TheVariants as act
 use Rattle.joint_machine.specs.declared.events.Reply.{Reply}
 use Rattle.joint_machine.specs.declared.events.Reply.TheVariants as says
-use Rattle.joint_machine.specs.Heaps.{Heap, Answered, answer, MOST, opening_heap, slot, numbered_at, place, is_full, next_number, with_var, with_static, with_object, fields_of, copied, field_set, field_got, dropped, loaded, stored}
+use Rattle.joint_machine.specs.Heaps.{Heap, Answered, answer, MOST, opening_heap, slot, numbered_at, place, is_full}
+use Rattle.joint_machine.specs.Heaps.{next_number, with_var, with_static, with_object, fields_of, copied, field_set}
+use Rattle.joint_machine.specs.Heaps.{field_got, dropped, loaded, stored}
 use Rattle.joint_machine.specs.Managed.{place_or_none}
 
 -- a handle is held, made for a managed object, or raw, made by a peer thread
@@ -77,7 +80,8 @@ handles_full s = nat_le MOST s.made
 
 -- a further handle on a peer
 abbrev pub with_handle : Peers → ℕ → Hold → Strength → Peers
-with_handle s p hold strength = record s { issued = s.issued ++ record { peer = p; hold = hold; strength = strength } ∷ []; made = s.made + 1 }
+with_handle s p hold strength = record s
+    { issued = s.issued ++ record { peer = p; hold = hold; strength = strength } ∷ []; made = s.made + 1 }
 
 -- a held strong handle on a peer, in place of one that a restore removes
 abbrev pub with_renewed : Peers → ℕ → Peers
@@ -104,13 +108,15 @@ peer_made s v n = if is_full s.heap.fields then answer says.Full s else
 -- `make SORT F`: a further peer and a held strong handle on it, unless there are 65,535 of either
 abbrev pub pair_made : Peers → Sort → ℕ → Answered Peers
 pair_made s sort n = if is_full s.heap.fields || handles_full s then answer says.Full s
-    else answer (says.Made record { 0 = next_number s.heap } record { 0 = next_handle s }) (with_handle (with_peer s sort n) (next_number s.heap) held strong)
+    else answer (says.Made record { 0 = next_number s.heap } record { 0 = next_handle s })
+    (with_handle (with_peer s sort n) (next_number s.heap) held strong)
 
 -- a held strong handle on a peer, unless there are 65,535 handles
 abbrev pub peer_gripped : Peers → Option ℕ → Answered Peers
 peer_gripped s None = answer says.Null s
 peer_gripped s (Some p) = if handles_full s then answer says.Full s
-    else answer (says.Gripped record { 0 = p } record { 0 = next_handle s } (sort_of s p) (length (fields_of s.heap p))) (with_handle s p held strong)
+    else answer (says.Gripped record { 0 = p } record { 0 = next_handle s } (sort_of s p) (length (fields_of s.heap p)))
+    (with_handle s p held strong)
 
 -- `grip x`: a held strong handle on the static's peer
 abbrev pub gripped : Peers → ℕ → Answered Peers
@@ -130,11 +136,13 @@ name_given s g p strength None = if handles_full s then answer says.Full s else
 
 -- `global G V` and `wglobal G V`: G names a raw handle on V's peer
 abbrev pub globalised : Peers → ℕ → ℕ → Strength → Answered Peers
-globalised s g v strength = elim (slot s.heap.vars v) [ None ↦ answer says.Empty s | Some p ↦ name_given s g p strength (slot s.names g) ]
+globalised s g v strength = elim (slot s.heap.vars v)
+    [ None ↦ answer says.Empty s | Some p ↦ name_given s g p strength (slot s.names g) ]
 
 -- `unglobal G`: the name is free again
 abbrev pub name_freed : Peers → ℕ → Answered Peers
-name_freed s g = elim (slot s.names g) [ None ↦ answer says.Unset s | Some h ↦ answer says.Ok (record s { names = slice_set s.names g None }) ]
+name_freed s g = elim (slot s.names g)
+    [ None ↦ answer says.Unset s | Some h ↦ answer says.Ok (record s { names = slice_set s.names g None }) ]
 
 -- V names the peer that the handle leads to
 abbrev pub peer_read : Peers → ℕ → Option ℕ → Answered Peers

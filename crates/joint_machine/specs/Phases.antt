@@ -29,7 +29,8 @@ next_phase phase w = None
 -- the phases that are left until the driver is idle
 abbrev pub phases_left : Phase → List PhaseWord
 phases_left at.Idle = []
-phases_left at.Snapped = word.Contract ∷ word.Mirror ∷ word.Weaken ∷ word.Mark ∷ word.Sweep ∷ word.Restore ∷ word.Resolve ∷ []
+phases_left at.Snapped = word.Contract ∷ word.Mirror ∷ word.Weaken
+    ∷ word.Mark ∷ word.Sweep ∷ word.Restore ∷ word.Resolve ∷ []
 phases_left at.Contracted = word.Mirror ∷ word.Weaken ∷ word.Mark ∷ word.Sweep ∷ word.Restore ∷ word.Resolve ∷ []
 phases_left at.Mirrored = word.Weaken ∷ word.Mark ∷ word.Sweep ∷ word.Restore ∷ word.Resolve ∷ []
 phases_left at.Weakened = word.Mark ∷ word.Sweep ∷ word.Restore ∷ word.Resolve ∷ []
@@ -109,7 +110,8 @@ candidates_after n (e ∷ es) = candidates_after (told_by n e.made.reply) es
 -- the events of phases, one after another
 abbrev pub ArePhases : ℕ → List PhaseWord → List Entry → Type 0
 ArePhases n [] entries = entries ≡ []
-ArePhases n (w ∷ ws) entries = (own : List Entry) × (rest : List Entry) × (entries ≡ own ++ rest) × ArePhase n w own × ArePhases (candidates_after n own) ws rest
+ArePhases n (w ∷ ws) entries = (own : List Entry) × (rest : List Entry)
+    × (entries ≡ own ++ rest) × ArePhase n w own × ArePhases (candidates_after n own) ws rest
 
 -- the reply names an open cycle
 abbrev pub NamesCycle : Reply → Type 0

@@ -44,4 +44,5 @@ with_pins s pins = record s { managed = record s.managed { pins = pins } }
 -- the managed side's own list in a history with readers: each entry is lawful with the pins that are kept with it
 abbrev pub AllKeptLawful : ManagedReplay → List PinnedEntry → Type 0
 AllKeptLawful s [] = Unit {0}
-AllKeptLawful s (k ∷ ks) = ManagedLawful (with_pins s k.pins) k.noted.entry.made k.noted.told × AllKeptLawful (managed_after (with_pins s k.pins) k.noted.entry.made k.noted.told false) ks
+AllKeptLawful s (k ∷ ks) = ManagedLawful (with_pins s k.pins) k.noted.entry.made k.noted.told
+    × AllKeptLawful (managed_after (with_pins s k.pins) k.noted.entry.made k.noted.told false) ks

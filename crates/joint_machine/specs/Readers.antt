@@ -2,7 +2,8 @@
 -- is what such an entry may answer, over a whole history, and when the entries of a list come so. (SGen's bridge
 -- header: while bridge processing is in progress, the reading of a weak link to a bridge object waits.)
 -- Believed: the clauses of the program's top call rest on all that stands here.
-use Rattle.std.specs.Prelude.{◌≡◌, ℕ, ◌<◌, ◌≤◌, ◌^◌, ◌⊎◌, Bool, true, false, not, ◌&&◌, if◌then◌else◌, List, [], ◌∷◌, Contains, Option, Some, None, slice_get, slice_set}
+use Rattle.std.specs.Prelude.{◌≡◌, ℕ, ◌<◌, ◌≤◌, ◌^◌, ◌⊎◌, Bool, true, false, not, ◌&&◌, if◌then◌else◌, List, [], ◌∷◌}
+use Rattle.std.specs.Prelude.{Contains, Option, Some, None, slice_get, slice_set}
 use Rattle.joint_machine.specs.declared.names.Thread.{Thread}
 use Rattle.joint_machine.specs.declared.lines.Act.TheVariants as act
 use Rattle.joint_machine.specs.declared.events.Op.{Op}
@@ -119,8 +120,12 @@ pins_after pins t _ = pins
 -- the state after a reader's entry: a pin may be filled, and the caller's line is known
 abbrev pub reader_after : Linkage → Noted → Linkage
 reader_after s n = record s {
-  managed = record s.managed { managed = record s.managed.managed { pins = pins_after s.managed.managed.pins (thread_number n.entry.made.caller) n.entry.made.reply } };
-  control = control_after s.control n.entry.made.caller n.entry.number n.entry.made.index n.entry.made.op n.entry.made.reply n.told;
+  managed = record s.managed {
+    managed = record s.managed.managed
+        { pins = pins_after s.managed.managed.pins (thread_number n.entry.made.caller) n.entry.made.reply };
+  };
+  control = control_after s.control n.entry.made.caller n.entry.number
+      n.entry.made.index n.entry.made.op n.entry.made.reply n.told;
 }
 
 -- a reader's entry may come next, whatever its number, but for its reply; its line is a number of 32 bits
@@ -128,12 +133,15 @@ pub record ReaderMayCome (s : Linkage) (n : Noted) : Type 0 where
   pub event : IsEvent n.entry.made.caller n.entry.made.op
   pub line : last_line s.control n.entry.made.caller ≤ n.entry.made.index
   pub short : n.entry.made.index < 2 ^ 32
-  pub order : CallerAllows s.control s.managed.managed s.peer.peers.issued n.entry.made.caller n.entry.made.index n.entry.made.op n.entry.made.reply n.entry.made.cites n.told
+  pub order : CallerAllows s.control s.managed.managed s.peer.peers.issued n.entry.made.caller
+      n.entry.made.index n.entry.made.op n.entry.made.reply n.entry.made.cites n.told
   pub bare : n.told ≡ nothing
 
 -- an entry of any list may come next, given the whole history and the cells at its end
 abbrev pub EntryMayCome : Bool → List Noted → List (Option ℕ) → Linkage → Noted → Type 0
-EntryMayCome true ns cells s n = ReaderMayCome s n × ((k : ℕ) → ReadsCell n.entry.made.op k → IsReadReply ns cells s.managed.managed n.entry.number n.entry.made.caller k n.entry.made.reply)
+EntryMayCome true ns cells s n = ReaderMayCome s n
+    × ((k : ℕ) → ReadsCell n.entry.made.op k
+    → IsReadReply ns cells s.managed.managed n.entry.number n.entry.made.caller k n.entry.made.reply)
 EntryMayCome false ns cells s n = MayCome s n
 
 -- the state after an entry of any list
@@ -147,7 +155,8 @@ replayed_reading s (n ∷ ns) = replayed_reading (entry_after s n) ns
 
 abbrev pub AllMayComeReading : List Noted → List (Option ℕ) → Linkage → List Noted → Type 0
 AllMayComeReading whole cells s [] = Unit {0}
-AllMayComeReading whole cells s (n ∷ ns) = EntryMayCome (is_read n.entry.made.op) whole cells s n × AllMayComeReading whole cells (entry_after s n) ns
+AllMayComeReading whole cells s (n ∷ ns) = EntryMayCome (is_read n.entry.made.op) whole cells s n
+    × AllMayComeReading whole cells (entry_after s n) ns
 
 -- whether the entry is a read that answered `pending` or `unset`, which is no step of the joint machine
 abbrev pub is_aside : Noted → Bool

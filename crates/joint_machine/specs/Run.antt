@@ -1,6 +1,7 @@
 -- The joint machine: one step for each entry, and its runs.
 -- Believed: the clauses of the program's top call rest on all that stands here.
-use Rattle.std.specs.Prelude.{◌≡◌, ℕ, ◌+◌, ◌⊎◌, Bool, true, false, if◌then◌else◌, List, [], ◌∷◌, ◌++◌, length, map, replicate, nat_eq, All, Contains, Option, Some, None}
+use Rattle.std.specs.Prelude.{◌≡◌, ℕ, ◌+◌, ◌⊎◌, Bool, true, false, if◌then◌else◌, List, [], ◌∷◌, ◌++◌, length, map}
+use Rattle.std.specs.Prelude.{replicate, nat_eq, All, Contains, Option, Some, None}
 use Rattle.joint_machine.specs.declared.names.Thread.{Thread}
 use Rattle.joint_machine.specs.declared.names.Thread.TheVariants.{M, P, C}
 use Rattle.joint_machine.specs.declared.lines.Act.{Act}
@@ -11,11 +12,15 @@ use Rattle.joint_machine.specs.declared.events.Reply.{Reply}
 use Rattle.joint_machine.specs.declared.events.Reply.TheVariants as says
 use Rattle.joint_machine.specs.Components.{Rises}
 use Rattle.joint_machine.specs.Cycles.{IsSnapshot, snap_reply, IsResolution, resolve_reply, IsOpen}
-use Rattle.joint_machine.specs.Heaps.{Answered, answer, slot, numbered_at, numbered_set, place, is_freed, IsLive, with_freed}
-use Rattle.joint_machine.specs.Joint.{Joint, JointMarking, opening, IsReached, IsReachedIn, with_managed, peer, joint_target, twin_of}
+use Rattle.joint_machine.specs.Heaps.{Answered, answer, slot, numbered_at, numbered_set, place, is_freed, IsLive}
+use Rattle.joint_machine.specs.Heaps.{with_freed}
+use Rattle.joint_machine.specs.Joint.{Joint, JointMarking, opening, IsReached, IsReachedIn, with_managed, peer}
+use Rattle.joint_machine.specs.Joint.{joint_target, twin_of}
 use Rattle.joint_machine.specs.Lines.{IsEvent, IsPeerThread}
-use Rattle.joint_machine.specs.Managed.{Managed, OpenCycle, managed_line, adopted, met, given_up, handle_reply, handle_of, candidates_of, Holds, with_snapshot, resolved, abandoned}
-use Rattle.joint_machine.specs.Peers.{Peers, peer_line, pair_made, gripped, landed, issued_since, peer_of, next_handle, with_renewed}
+use Rattle.joint_machine.specs.Managed.{Managed, OpenCycle, managed_line, adopted, met, given_up, handle_reply}
+use Rattle.joint_machine.specs.Managed.{handle_of, candidates_of, Holds, with_snapshot, resolved, abandoned}
+use Rattle.joint_machine.specs.Peers.{Peers, peer_line, pair_made, gripped, landed, issued_since, peer_of, next_handle}
+use Rattle.joint_machine.specs.Peers.{with_renewed}
 use Rattle.joint_machine.specs.Told.{Told, Answer, said_alive, said_cleared, snap_of, sweep_of, resolution_of, Noted}
 
 -- the number of a managed or a peer thread
@@ -30,7 +35,12 @@ on_managed j a = answer a.reply (with_managed j a.state)
 
 -- an event of the peers, as one of the joint machine: the handles that it issues aren't removed
 abbrev pub on_peers : Joint → Answered Peers → Answered Joint
-on_peers j a = answer a.reply (record j { graph = record j.graph { peers = a.state; removed = j.graph.removed ++ map (λ i. false) (issued_since j.graph.peers a.state) } })
+on_peers j a = answer a.reply (record j {
+  graph = record j.graph {
+    peers = a.state;
+    removed = j.graph.removed ++ map (λ i. false) (issued_since j.graph.peers a.state);
+  };
+})
 
 -- the handle is removed
 abbrev pub without : Joint → Option ℕ → Joint
@@ -39,7 +49,8 @@ without j (Some h) = record j { graph = record j.graph { removed = numbered_set 
 
 -- an event of a peer thread's line; `unglobal` removes the handle that its name had
 abbrev pub joint_peer_line : Joint → ℕ → Act → Answered Joint
-joint_peer_line j t (act.UnGlobal g) = on_peers (without j (slot j.graph.peers.names g.0)) (peer_line (joint_target j) j.graph.peers t (act.UnGlobal g))
+joint_peer_line j t (act.UnGlobal g) = on_peers (without j (slot j.graph.peers.names g.0))
+    (peer_line (joint_target j) j.graph.peers t (act.UnGlobal g))
 joint_peer_line j t a = on_peers j (peer_line (joint_target j) j.graph.peers t a)
 
 -- an event of one line
@@ -76,11 +87,13 @@ IsComputed (op.Release h) = Unit {0}
 abbrev pub joint_answer : Joint → Thread → Op → Answered Joint
 joint_answer j t (op.Line a) = joint_line j t a
 joint_answer j t (op.Make sort n) = on_peers j (pair_made j.graph.peers sort n)
-joint_answer j t (op.Adopt v kind n p h) = on_managed j (adopted j.graph.managed (place (thread_number t) v.0) kind n h.0)
+joint_answer j t (op.Adopt v kind n p h) = on_managed j
+    (adopted j.graph.managed (place (thread_number t) v.0) kind n h.0)
 joint_answer j t (op.Lend v x) = answer (handle_reply j.graph.managed (place (thread_number t) v.0)) j
 joint_answer j t (op.Land h x) = on_peers j (landed j.graph.peers x.0 (joint_target j h.0))
 joint_answer j t (op.Grip x) = on_peers j (gripped j.graph.peers x.0)
-joint_answer j t (op.Meet v sort n p h) = on_managed j (met j.graph.managed (place (thread_number t) v.0) h.0 sort n (twin_of j p.0))
+joint_answer j t (op.Meet v sort n p h) = on_managed j
+    (met j.graph.managed (place (thread_number t) v.0) h.0 sort n (twin_of j p.0))
 joint_answer j t (op.Give v) = on_managed j (given_up j.graph.managed (place (thread_number t) v.0))
 joint_answer j t (op.Release h) = answer says.Ok (without j (Some h.0))
 joint_answer j t (op.Snap k) = answer says.Ok j
@@ -99,12 +112,16 @@ joint_answer j t (op.Refused w) = answer says.Ok j
 pub record JointSnap (j : Joint) (k : ℕ) (freed candidates dead : List ℕ) (reply : Reply) (next : Joint) : Type 0 where
   pub snapshot : IsSnapshot j.graph.managed k freed candidates dead
   pub replies : reply ≡ snap_reply j.graph.managed freed candidates
-  pub state : next ≡ record (with_managed j (with_snapshot j.graph.managed freed candidates dead)) { answers = replicate (length candidates) None }
+  pub state : next ≡ record (with_managed j (with_snapshot j.graph.managed freed candidates dead))
+      { answers = replicate (length candidates) None }
 
 -- a further marking by the thread, which keeps the graph of now
 pub record OpensMarking (j : Joint) (t : Thread) (reply : Reply) (next : Joint) : Type 0 where
   pub replies : reply ≡ says.Mark record { 0 = j.markings + 1 }
-  pub state : next ≡ record j { marking = Some record { number = j.markings + 1; by = t; begun = j.graph }; markings = j.markings + 1 }
+  pub state : next ≡ record j {
+    marking = Some record { number = j.markings + 1; by = t; begun = j.graph };
+    markings = j.markings + 1;
+  }
 
 -- the peer is one of those that a marking may free: it existed unfreed and unreached at the begin
 pub record IsStored (m : JointMarking) (p : ℕ) : Type 0 where
@@ -117,13 +134,19 @@ JointBegin j None t reply next = OpensMarking j t reply next
 JointBegin j (Some m) t reply next = (reply ≡ says.MarkOpen record { 0 = m.number }) × (next ≡ j)
 
 -- a sweep ends the marking: each peer that it frees was unreached at the begin and isn't reached just before
-pub record EndsMarking (j : Joint) (m : JointMarking) (t : Thread) (freed : List ℕ) (reply : Reply) (next : Joint) : Type 0 where
+pub record EndsMarking (j : Joint) (m : JointMarking) (t : Thread)
+    (freed : List ℕ) (reply : Reply) (next : Joint) : Type 0 where
   pub allowed : (t ≡ C) ⊎ (t ≡ m.by)
   pub rise : Rises freed
   pub stored : All (IsStored m) freed
   pub unreached : All (λ p. IsReached j (peer p) → ⊥) freed
-  pub replies : reply ≡ says.Swept record { 0 = m.number } record { first = length j.graph.peers.heap.freed; count = length freed }
-  pub state : next ≡ record j { graph = record j.graph { peers = record j.graph.peers { heap = with_freed j.graph.peers.heap freed } }; marking = None }
+  pub replies : reply ≡ says.Swept record { 0 = m.number }
+      record { first = length j.graph.peers.heap.freed; count = length freed }
+  pub state : next ≡ record j {
+    graph = record j.graph
+        { peers = record j.graph.peers { heap = with_freed j.graph.peers.heap freed } };
+    marking = None;
+  }
 
 -- a peer thread's sweep during another thread's marking frees nothing
 pub record RefusesSweep (j : Joint) (m : JointMarking) (t : Thread) (reply : Reply) (next : Joint) : Type 0 where
@@ -147,7 +170,8 @@ is_that_handle (Some g) h = nat_eq g h
 abbrev pub answered_for : Managed → ℕ → Answer → List ℕ → List (Option Answer) → List (Option Answer)
 answered_for s h a [] xs = xs
 answered_for s h a (m ∷ ms) [] = []
-answered_for s h a (m ∷ ms) (x ∷ xs) = (if is_that_handle (handle_of s m) h then Some a else x) ∷ answered_for s h a ms xs
+answered_for s h a (m ∷ ms) (x ∷ xs) = (if is_that_handle (handle_of s m) h then Some a else x) ∷ answered_for
+    s h a ms xs
 
 -- the candidate that holds the handle has had its restore, which gave that answer
 abbrev pub answered : Joint → ℕ → Answer → Joint
@@ -155,14 +179,18 @@ answered j h a = record j { answers = answered_for j.graph.managed h a (candidat
 
 -- a held strong handle on the peer, under the next number
 abbrev pub given_anew : Joint → ℕ → Joint
-given_anew j p = record j { graph = record j.graph { peers = with_renewed j.graph.peers p; removed = j.graph.removed ++ false ∷ [] } }
+given_anew j p = record j {
+  graph = record j.graph
+      { peers = with_renewed j.graph.peers p; removed = j.graph.removed ++ false ∷ [] };
+}
 
 -- a restore of a candidate's handle, on that peer: the handle is removed, and the peer gets a new one unless it is
 -- freed
 abbrev pub joint_restored : Joint → ℕ → ℕ → Answered Joint
 joint_restored j h p = if is_freed j.graph.peers.heap p
     then answer says.Cleared (answered (without j (Some h)) h said_cleared)
-    else answer (says.Renewed record { 0 = next_handle j.graph.peers }) (answered (given_anew (without j (Some h)) p) h (said_alive (next_handle j.graph.peers)))
+    else answer (says.Renewed record { 0 = next_handle j.graph.peers })
+    (answered (given_anew (without j (Some h)) p) h (said_alive (next_handle j.graph.peers)))
 
 -- a restore: its handle is that of a candidate of the open cycle, and isn't removed
 pub record JointRestore (j : Joint) (h : ℕ) (reply : Reply) (next : Joint) : Type 0 where

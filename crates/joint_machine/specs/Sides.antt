@@ -1,7 +1,8 @@
 -- One form of contract for both sides of the bridge: what a side is seen as, what its own list of entries may be, what
 -- a call that makes entries asks of the draw, and what it promises. What a side has beside its list and its state, as
 -- room that was reserved, stands beside this as numbers.
-use Rattle.std.specs.Prelude.{◌≡◌, ℕ, ◌+◌, ◌≤◌, ◌↔◌, All, IsTrue, Bool, true, false, List, [], ◌∷◌, length, map, Option, Some, None}
+use Rattle.std.specs.Prelude.{◌≡◌, ℕ, ◌+◌, ◌≤◌, ◌↔◌, All, IsTrue, Bool, true, false, List, [], ◌∷◌, length, map, Option}
+use Rattle.std.specs.Prelude.{Some, None}
 use Rattle.joint_machine.specs.declared.names.MNum.{MNum}
 use Rattle.joint_machine.specs.declared.names.Thread.{Thread}
 use Rattle.joint_machine.specs.declared.names.Thread.TheVariants.{M, P}
@@ -68,7 +69,8 @@ object_or_none (Some x) = Some record { 0 = x }
 
 -- a `weak` that answers ok sets its cell to V's object
 abbrev pub cell_target : ManagedReplay → Thread → Op → Reply → Option MNum
-cell_target s t (op.Line (act.Weak k v)) says.Ok = object_or_none (slot s.managed.heap.vars (place (thread_number t) v.0))
+cell_target s t (op.Line (act.Weak k v)) says.Ok = object_or_none
+    (slot s.managed.heap.vars (place (thread_number t) v.0))
 cell_target s t o reply = None
 
 -- a snap and a resolve free the managed objects that are told
@@ -89,7 +91,8 @@ abbrev pub managed_rules : SideRules ManagedReplay
 managed_rules = record {
   opening = opening_replay;
   lawful = λ s m told. IsOfSide false m × IsOwnLawful s m told;
-  next = λ s m told. with_pins (managed_answer (with_pins s (pins_told told)) m.caller m.op (bare_told told)).state no_pins;
+  next = λ s m told. with_pins (managed_answer (with_pins s (pins_told told)) m.caller m.op (bare_told told)).state
+      no_pins;
   takes = TakesManaged;
   may_target = MaySetCell;
   target = λ s m. cell_target s m.caller m.op m.reply;
@@ -133,7 +136,8 @@ AreTaken r threads entries = All (λ e. r.takes threads e.made.caller) entries
 -- what a call asks for each event that it makes: the side takes the caller's events; and of the draw, that each number
 -- of the side's list lies below the floor, the list can be filled, and the caller may draw for the event, also with
 -- each object to which it may set a cell
-pub record MayDraw {S D : Type 0} (r : SideRules S) (d : Drawing D) (draw : D) (s : Side S) (t : Thread) (o : Op) : Type 0 where
+pub record MayDraw {S D : Type 0} (r : SideRules S) (d : Drawing D)
+    (draw : D) (s : Side S) (t : Thread) (o : Op) : Type 0 where
   pub takes : r.takes s.threads t
   pub below : AllBelow s.entries (d.floor draw)
   pub room : 4294967295 ≤ d.left draw + length s.entries
@@ -142,7 +146,8 @@ pub record MayDraw {S D : Type 0} (r : SideRules S) (d : Drawing D) (draw : D) (
 
 -- what a call promises of the draw: what was made was drawn, with a number that isn't below the floor, and put last,
 -- and nothing else was drawn; what was asked for the list holds again, and no peer event became more or less allowed
-pub record DrawsLast {D : Type 0} (d : Drawing D) (before after : D) (old new : List Entry) (m : Made) (target : Option MNum) (freed : List MNum) : Type 0 where
+pub record DrawsLast {D : Type 0} (d : Drawing D) (before after : D) (old new : List Entry)
+    (m : Made) (target : Option MNum) (freed : List MNum) : Type 0 where
   pub adds : Adds d.drew before after old new m target freed
   pub above : d.floor before ≤ adds.number
   pub below : AllBelow new (d.floor after)
@@ -151,7 +156,8 @@ pub record DrawsLast {D : Type 0} (d : Drawing D) (before after : D) (old new : 
 
 -- one entry: what was made was drawn and put last, it may come next, and the state is the one after it; the side is for
 -- as many threads as before
-pub record AddsLawful {S D : Type 0} (r : SideRules S) (d : Drawing D) (before after : D) (old new : Side S) (m : Made) (told : Told) : Type 0 where
+pub record AddsLawful {S D : Type 0} (r : SideRules S) (d : Drawing D)
+    (before after : D) (old new : Side S) (m : Made) (told : Told) : Type 0 where
   pub draws : DrawsLast d before after old.entries new.entries m (r.target old.state m) (r.frees told)
   pub goes : GoesOn r old.state m told new.state
   pub threads : new.threads ≡ old.threads
@@ -165,4 +171,5 @@ pub record Making : Type 0 where
 -- before.
 abbrev pub AddsInTurn : {S D : Type 0} → SideRules S → Drawing D → D → D → Side S → Side S → List Making → Type 0
 AddsInTurn r d before after old new [] = (after ≡ before) × (new ≡ old)
-AddsInTurn {S} {D} r d before after old new (m ∷ ms) = (draw : D) × (side : Side S) × AddsLawful r d before draw old side m.made m.told × AddsInTurn r d draw after side new ms
+AddsInTurn {S} {D} r d before after old new (m ∷ ms) = (draw : D) × (side : Side S)
+    × AddsLawful r d before draw old side m.made m.told × AddsInTurn r d draw after side new ms

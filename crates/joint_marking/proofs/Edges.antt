@@ -1,7 +1,8 @@
 -- Rows to which edges are added, over plain lists. One write adds one edge; what two calls add one after the
 -- other makes one addition, of both; so a loop over places or over rows has added the edges of those that it
 -- has passed.
-use Rattle.std.proofs.Common.{◌≡◌, ℕ, zero, suc, ◌+◌, ◌<◌, ◌≤◌, ◌↔◌, ◌⊎◌, inl, inr, List, [], ◌∷◌, ◌++◌, length, map, take, set, get_or, Option, Some, None, refl, sym, ap, subst, ◌∙◌, arith, length-append}
+use Rattle.std.proofs.Common.{◌≡◌, ℕ, zero, suc, ◌+◌, ◌<◌, ◌≤◌, ◌↔◌, ◌⊎◌, inl, inr, List, [], ◌∷◌, ◌++◌, length, map, take, set, get_or, Option, Some, None, refl, sym, ap, subst, ◌∙◌, arith}
+use Rattle.std.proofs.Common.{length-append}
 use Rattle.std.specs.Prelude.{Contains, slice_get}
 use Rattle.std.specs.Option.{option_map}
 use Rattle.std.proofs.Math.ListN.{length-set}
@@ -79,7 +80,8 @@ pub AddsEdges-none : (edge : ℕ → ℕ → Type 0) (a : List (List ℕ)) → (
 AddsEdges-none edge a none = record { len = refl; exact = λ k j. (λ c. inl c, λ h. elim h [ inl w ↦ w | inr w ↦ absurd (none k j w) ]) }
 
 -- the edges of two calls, one after the other
-pub AddsEdges-then : (p q edge : ℕ → ℕ → Type 0) (a b c : List (List ℕ)) → ((k j : ℕ) → edge k j → p k j ⊎ q k j) → ((k j : ℕ) → p k j → edge k j) → ((k j : ℕ) → q k j → edge k j) → AddsEdges p a b → AddsEdges q b c → AddsEdges edge a c
+pub AddsEdges-then : (p q edge : ℕ → ℕ → Type 0) (a b c : List (List ℕ)) → ((k j : ℕ) → edge k j → p k j ⊎ q k j)
+    → ((k j : ℕ) → p k j → edge k j) → ((k j : ℕ) → q k j → edge k j) → AddsEdges p a b → AddsEdges q b c → AddsEdges edge a c
 AddsEdges-then p q edge a b c split left right x y = record {
   len = y.len ∙ x.len;
   exact = λ k j. (
@@ -130,7 +132,8 @@ pub record PlacesBelow (live : ℕ → Type 0) (node : ℕ → ℕ) (x : ℕ) (f
   pub ends : IsPair (node x) (node target) k j
 
 -- one place more, which holds a target
-pub Places-push : (live : ℕ → Type 0) (node : ℕ → ℕ) (x : ℕ) (fields : List (Option ℕ)) (i y : ℕ) (a b c : List (List ℕ)) → i < length fields → slot fields i ≡ Some y → live y → AddsEdges (PlacesBelow live node x fields i) a b → AddsEdges (IsPair (node x) (node y)) b c → AddsEdges (PlacesBelow live node x fields (i + 1)) a c
+pub Places-push : (live : ℕ → Type 0) (node : ℕ → ℕ) (x : ℕ) (fields : List (Option ℕ)) (i y : ℕ) (a b c : List (List ℕ)) → i < length fields → slot fields i ≡ Some y
+    → live y → AddsEdges (PlacesBelow live node x fields i) a b → AddsEdges (IsPair (node x) (node y)) b c → AddsEdges (PlacesBelow live node x fields (i + 1)) a c
 Places-push live node x fields i y a b c l s v d f =
     let more = take-next fields i (Some y) (slot-at fields i (Some y) l s) in
     AddsEdges-then (PlacesBelow live node x fields i) (IsPair (node x) (node y)) (PlacesBelow live node x fields (i + 1)) a b c
@@ -138,12 +141,18 @@ Places-push live node x fields i y a b c l s v d f =
       | inl h ↦ inl (record { target = e.target; held = h; there = e.there; ends = e.ends })
       | inr h ↦ inr (subst (λ t. IsPair (node x) (node t) k j) (sym (some-same y e.target h)) e.ends)
     ])
-    (λ k j e. record { target = e.target; held = subst (λ t. Contains t (Some e.target)) (sym more) (Contains-append_left (take i fields) (Some y ∷ []) (Some e.target) e.held); there = e.there; ends = e.ends })
+    (λ k j e. record {
+      target = e.target;
+      held = subst (λ t. Contains t (Some e.target)) (sym more) (Contains-append_left (take i fields) (Some y ∷ []) (Some e.target) e.held);
+      there = e.there;
+      ends = e.ends;
+    })
     (λ k j e. record { target = y; held = subst (λ t. Contains t (Some y)) (sym more) (Contains-push (take i fields) (Some y)); there = v; ends = e })
     d f
 
 -- one place more, which is empty
-pub Places-skip : (live : ℕ → Type 0) (node : ℕ → ℕ) (x : ℕ) (fields : List (Option ℕ)) (i : ℕ) (a b : List (List ℕ)) → i < length fields → slot fields i ≡ None → AddsEdges (PlacesBelow live node x fields i) a b → AddsEdges (PlacesBelow live node x fields (i + 1)) a b
+pub Places-skip : (live : ℕ → Type 0) (node : ℕ → ℕ) (x : ℕ) (fields : List (Option ℕ)) (i : ℕ) (a b : List (List ℕ)) → i < length fields
+    → slot fields i ≡ None → AddsEdges (PlacesBelow live node x fields i) a b → AddsEdges (PlacesBelow live node x fields (i + 1)) a b
 Places-skip live node x fields i a b l s d =
     let more = take-next fields i None (slot-at fields i None l s) in
     AddsEdges-as (PlacesBelow live node x fields i) (PlacesBelow live node x fields (i + 1)) a b
@@ -151,11 +160,17 @@ Places-skip live node x fields i a b l s d =
       | inl h ↦ record { target = e.target; held = h; there = e.there; ends = e.ends }
       | inr h ↦ absurd (none_some e.target h)
     ])
-    (λ k j e. record { target = e.target; held = subst (λ t. Contains t (Some e.target)) (sym more) (Contains-append_left (take i fields) (None ∷ []) (Some e.target) e.held); there = e.there; ends = e.ends })
+    (λ k j e. record {
+      target = e.target;
+      held = subst (λ t. Contains t (Some e.target)) (sym more) (Contains-append_left (take i fields) (None ∷ []) (Some e.target) e.held);
+      there = e.there;
+      ends = e.ends;
+    })
     d
 
 -- all places of a live object: the edges over its fields
-pub Places-all : (h : Heap) (node : ℕ → ℕ) (x i : ℕ) (a b : List (List ℕ)) → IsLive h x → length (fields_of h x) ≤ i → AddsEdges (PlacesBelow (IsLive h) node x (fields_of h x) i) a b → AddsEdges (FieldEdge h node x) a b
+pub Places-all : (h : Heap) (node : ℕ → ℕ) (x i : ℕ) (a b : List (List ℕ)) → IsLive h x → length (fields_of h x) ≤ i
+    → AddsEdges (PlacesBelow (IsLive h) node x (fields_of h x) i) a b → AddsEdges (FieldEdge h node x) a b
 Places-all h node x i a b v l d =
     let whole = take_all i (fields_of h x) l in
     AddsEdges-as (PlacesBelow (IsLive h) node x (fields_of h x) i) (FieldEdge h node x) a b
@@ -164,7 +179,8 @@ Places-all h node x i a b v l d =
     d
 
 -- a managed object's fields, and then its twin
-pub Object-twin : (g : Graph) (x p : ℕ) (a b c : List (List ℕ)) → ((q : ℕ) → (Some p ≡ Some q) ↔ IsJoined g x q) → AddsEdges (ObjectField g x) a b → AddsEdges (IsRound x (objects_in g + p)) b c → AddsEdges (ObjectEdge g x) a c
+pub Object-twin : (g : Graph) (x p : ℕ) (a b c : List (List ℕ)) → ((q : ℕ) → (Some p ≡ Some q) ↔ IsJoined g x q)
+    → AddsEdges (ObjectField g x) a b → AddsEdges (IsRound x (objects_in g + p)) b c → AddsEdges (ObjectEdge g x) a c
 Object-twin g x p a b c t = AddsEdges-then (ObjectField g x) (IsRound x (objects_in g + p)) (ObjectEdge g x) a b c
     (λ k j e. elim e [
       | inl w ↦ inl w
@@ -192,7 +208,8 @@ Brought-push brings i a b c = AddsEdges-then (BroughtBelow brings i) (brings i) 
 pub Brought-skip : (brings : ℕ → ℕ → ℕ → Type 0) (i : ℕ) (a b : List (List ℕ)) → ((k j : ℕ) → brings i k j → ⊥) → AddsEdges (BroughtBelow brings i) a b → AddsEdges (BroughtBelow brings (i + 1)) a b
 Brought-skip brings i a b none d = Brought-push brings i a b b d (AddsEdges-none (brings i) b none)
 
-pub Brought-all : (brings : ℕ → ℕ → ℕ → Type 0) (i : ℕ) (a b : List (List ℕ)) → ((x k j : ℕ) → brings x k j → x < i) → AddsEdges (BroughtBelow brings i) a b → AddsEdges (λ k j. (x : ℕ) × brings x k j) a b
+pub Brought-all : (brings : ℕ → ℕ → ℕ → Type 0) (i : ℕ) (a b : List (List ℕ)) → ((x k j : ℕ) → brings x k j → x < i)
+    → AddsEdges (BroughtBelow brings i) a b → AddsEdges (λ k j. (x : ℕ) × brings x k j) a b
 Brought-all brings i a b all = AddsEdges-as (BroughtBelow brings i) (λ k j. (x : ℕ) × brings x k j) a b
     (λ k j e. (e.0, all e.0 k j e.1, e.1))
     (λ k j e. (e.0, e.2))

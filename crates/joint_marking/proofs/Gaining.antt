@@ -13,7 +13,8 @@ brought-later : (brings : ℕ → ℕ → Type 0) (n k : ℕ) → IsBrought brin
 brought-later brings n k w = record { by = w.by; below = omega (arith, w.below); brings_it = w.brings_it }
 
 -- the next one brings a number
-pub gains-push : (brings : ℕ → ℕ → Type 0) (n q : ℕ) (old now : List ℕ) → brings n q → ((k : ℕ) → brings n k → q ≡ k) → Gains (IsBrought brings n) old now → Gains (IsBrought brings (n + 1)) old (now ++ q ∷ [])
+pub gains-push : (brings : ℕ → ℕ → Type 0) (n q : ℕ) (old now : List ℕ) → brings n q → ((k : ℕ) → brings n k → q ≡ k)
+    → Gains (IsBrought brings n) old now → Gains (IsBrought brings (n + 1)) old (now ++ q ∷ [])
 gains-push brings n q old now b one g k = (
   λ c. elim (Contains-push_cases now q k c) [
     | inl h ↦ elim ((g k).0 h) [ inl o ↦ inl o | inr w ↦ inr (brought-later brings n k w) ]

@@ -16,7 +16,8 @@ use Rattle.joint_machine.proofs.WalkLemmas.{Reached-keeps, Reached-start, Reache
 use Rattle.joint_machine.proofs.Members.{Contains-map, Contains-map_cases, All-members}
 use Rattle.reachability.specs.Marks.{Leads, HasMark}
 use Rattle.joint_marking.specs.Gathered.{RisesWith}
-use Rattle.joint_marking.specs.Nodes.{AddsEdges, AreLive, HasEdges, HasNone, EdgesOfObjects, EdgesOfPeers, ObjectEdge, IsLiveRow, IsLiveRoot, IsRootNode, IsUnmarkedPeer, node_count, node_of, objects_in, targets_at}
+use Rattle.joint_marking.specs.Nodes.{AddsEdges, AreLive, HasEdges, HasNone, EdgesOfObjects, EdgesOfPeers, ObjectEdge, IsLiveRow, IsLiveRoot, IsRootNode, IsUnmarkedPeer, node_count, node_of}
+use Rattle.joint_marking.specs.Nodes.{objects_in, targets_at}
 
 -- the rows have the edges of both heaps, which were added one after the other
 pub HasEdges-from : (g : Graph) (a b c : List (List ℕ)) → HasNone (node_count g) a → AddsEdges (EdgesOfObjects g) a b → AddsEdges (EdgesOfPeers g) b c → HasEdges g c
@@ -90,7 +91,8 @@ place-target : (xs : List ℕ) (j : ℕ) → Contains (map Some xs) (Some j) →
 place-target xs j c = (let r = Contains-map_cases Some xs (Some j) c in let e : r.0 ≡ j = cc (r.2) in subst (Contains xs) e r.1)
 
 -- the nodes of the listed roots
-root-listed : (g : Graph) (objects : List MNum) (peers : List PNum) → ((x : ℕ) → Contains (managed_numbers objects) x ↔ IsLiveRoot g (object x)) → ((p : ℕ) → Contains (peer_numbers peers) p ↔ IsLiveRoot g (peer p))
+root-listed : (g : Graph) (objects : List MNum) (peers : List PNum) → ((x : ℕ) → Contains (managed_numbers objects) x ↔ IsLiveRoot g (object x))
+    → ((p : ℕ) → Contains (peer_numbers peers) p ↔ IsLiveRoot g (peer p))
     → (r : Row) → IsLiveRoot g r → Contains (managed_numbers objects ++ map (λ p. objects_in g + p.0) peers) (node_of g r)
 root-listed g objects peers h w (object x) r = Contains-append_left (managed_numbers objects) (map (λ p. objects_in g + p.0) peers) x ((h x).1 r)
 root-listed g objects peers h w (peer p) r =
@@ -98,7 +100,8 @@ root-listed g objects peers h w (peer p) r =
     Contains-append_right (managed_numbers objects) (map (λ p. objects_in g + p.0) peers) (objects_in g + p)
     (subst (λ t. Contains (map (λ p. objects_in g + p.0) peers) (objects_in g + t)) q.2 (Contains-map (λ (p : PNum). objects_in g + p.0) peers q.0 q.1))
 
-pub roots-exact : (g : Graph) (objects : List MNum) (peers : List PNum) (nodes : List ℕ) → ((x : ℕ) → Contains (managed_numbers objects) x ↔ IsLiveRoot g (object x)) → ((p : ℕ) → Contains (peer_numbers peers) p ↔ IsLiveRoot g (peer p))
+pub roots-exact : (g : Graph) (objects : List MNum) (peers : List PNum) (nodes : List ℕ)
+    → ((x : ℕ) → Contains (managed_numbers objects) x ↔ IsLiveRoot g (object x)) → ((p : ℕ) → Contains (peer_numbers peers) p ↔ IsLiveRoot g (peer p))
     → nodes ≡ managed_numbers objects ++ map (λ p. objects_in g + p.0) peers → (k : ℕ) → Contains nodes k ↔ IsRootNode g k
 roots-exact g objects peers nodes h w e k = rw e (
   λ c. elim (Contains-append_cases (managed_numbers objects) (map (λ p. objects_in g + p.0) peers) k c) [
@@ -142,20 +145,23 @@ stands-then g k j e s =
     }
 
 -- a live row is reached exactly if its node is
-reached-row : (g : Graph) (rows : List (List ℕ)) (roots : List ℕ) → HasEdges g rows → ((k : ℕ) → Contains roots k ↔ IsRootNode g k) → (r : Row) → IsLiveRow g r → Reached (Contains roots) (NodeLeads rows) (node_of g r) → IsReachedIn g r
+reached-row : (g : Graph) (rows : List (List ℕ)) (roots : List ℕ) → HasEdges g rows → ((k : ℕ) → Contains roots k ↔ IsRootNode g k)
+    → (r : Row) → IsLiveRow g r → Reached (Contains roots) (NodeLeads rows) (node_of g r) → IsReachedIn g r
 reached-row g rows roots h s r v m =
     let there : Stands g (node_of g r) = Reached-keeps (Contains roots) (NodeLeads rows) (Stands g) (λ k c. stands-root g k ((s k).0 c))
     (λ k j l w. stands-then g k j (rows-of g k j ((h.exact k j).0 (place-target (targets_at rows k) j l.1))) w) (node_of g r) m in
     subst (IsReachedIn g) (node-same g there.row r there.live v (sym there.at)) there.reached
 
-reached-node : (g : Graph) (rows : List (List ℕ)) (roots : List ℕ) → HasEdges g rows → ((k : ℕ) → Contains roots k ↔ IsRootNode g k) → (r : Row) → IsReachedIn g r → IsLiveRow g r → Reached (Contains roots) (NodeLeads rows) (node_of g r)
+reached-node : (g : Graph) (rows : List (List ℕ)) (roots : List ℕ) → HasEdges g rows → ((k : ℕ) → Contains roots k ↔ IsRootNode g k)
+    → (r : Row) → IsReachedIn g r → IsLiveRow g r → Reached (Contains roots) (NodeLeads rows) (node_of g r)
 reached-node g rows roots h s = Reached-keeps (IsJointRoot g) (JointEdge g) (λ r. IsLiveRow g r → Reached (Contains roots) (NodeLeads rows) (node_of g r))
     (λ r root v. Reached-start (Contains roots) (NodeLeads rows) (node_of g r) ((s (node_of g r)).1 (record { row = r; root = (v, root); at = refl })))
     (λ r t e w v. Reached-then (Contains roots) (NodeLeads rows) (node_of g r) (node_of g t) (w (edge-from g r t e))
     (omega (arith, node-within g r (edge-from g r t e), h.len), Contains-map Some (targets_at rows (node_of g r)) (node_of g t) ((h.exact (node_of g r) (node_of g t)).1 (nodes-of g r t e))))
 
 -- so the live peers whose nodes aren't marked are those that no joint root reaches
-pub AreUnreached-from : (g : Graph) (rows : List (List ℕ)) (roots : List ℕ) (marks : List Bool) (ps : List ℕ) → HasEdges g rows → ((k : ℕ) → Contains roots k ↔ IsRootNode g k) → ((k : ℕ) → HasMark marks k ↔ Reached (Contains roots) (NodeLeads rows) k)
+pub AreUnreached-from : (g : Graph) (rows : List (List ℕ)) (roots : List ℕ) (marks : List Bool) (ps : List ℕ) → HasEdges g rows
+    → ((k : ℕ) → Contains roots k ↔ IsRootNode g k) → ((k : ℕ) → HasMark marks k ↔ Reached (Contains roots) (NodeLeads rows) k)
     → RisesWith (IsUnmarkedPeer g marks) ps → AreUnreached g ps
 AreUnreached-from g rows roots marks ps h s m f = record {
   rise = f.rises;
@@ -171,7 +177,8 @@ mark-cases None = inr (λ e. cc)
 mark-cases (Some true) = inl refl
 mark-cases (Some false) = inr (λ e. cc)
 
-pub listed-or-reached : (g : Graph) (rows : List (List ℕ)) (roots : List ℕ) (marks : List Bool) (ps : List ℕ) → HasEdges g rows → ((k : ℕ) → Contains roots k ↔ IsRootNode g k) → ((k : ℕ) → HasMark marks k ↔ Reached (Contains roots) (NodeLeads rows) k)
+pub listed-or-reached : (g : Graph) (rows : List (List ℕ)) (roots : List ℕ) (marks : List Bool) (ps : List ℕ) → HasEdges g rows
+    → ((k : ℕ) → Contains roots k ↔ IsRootNode g k) → ((k : ℕ) → HasMark marks k ↔ Reached (Contains roots) (NodeLeads rows) k)
     → RisesWith (IsUnmarkedPeer g marks) ps → (p : ℕ) → IsLive g.peers.heap p → Contains ps p ⊎ IsReachedIn g (peer p)
 listed-or-reached g rows roots marks ps h s m f p v = elim (mark-cases (slice_get marks (objects_in g + p))) [
   | inl k ↦ inr (reached-row g rows roots h s (peer p) v ((m (objects_in g + p)).0 k))

@@ -8,11 +8,21 @@ use Rattle.joint_machine.specs.Peers.{Issued, held, strong}
 
 -- the three objects
 abbrev pub chain_objects : Heap
-chain_objects = record { fields = (None ∷ []) ∷ (Some 3 ∷ []) ∷ (None ∷ []) ∷ []; freed = []; vars = Some 1 ∷ []; statics = [] }
+chain_objects = record {
+  fields = (None ∷ []) ∷ (Some 3 ∷ []) ∷ (None ∷ []) ∷ [];
+  freed = [];
+  vars = Some 1 ∷ [];
+  statics = [];
+}
 
 -- the five peers
 abbrev pub chain_peers : Heap
-chain_peers = record { fields = (Some 2 ∷ []) ∷ (None ∷ []) ∷ (None ∷ []) ∷ (None ∷ []) ∷ (None ∷ []) ∷ []; freed = 5 ∷ []; vars = []; statics = [] }
+chain_peers = record {
+  fields = (Some 2 ∷ []) ∷ (None ∷ []) ∷ (None ∷ []) ∷ (None ∷ []) ∷ (None ∷ []) ∷ [];
+  freed = 5 ∷ [];
+  vars = [];
+  statics = [];
+}
 
 -- a held strong handle on a peer
 abbrev pub chain_handle : ℕ → Issued
@@ -21,7 +31,23 @@ chain_handle p = record { peer = p; hold = held; strength = strong }
 -- the graph
 abbrev pub chain : Graph
 chain = record {
-  managed = record { heap = chain_objects; kinds = []; held = Some 1 ∷ Some 2 ∷ Some 3 ∷ []; pins = []; cells = []; notices = []; taken = 0; cycle = None; cycles = 0 };
-  peers = record { heap = chain_peers; sorts = []; names = []; issued = chain_handle 1 ∷ chain_handle 2 ∷ chain_handle 3 ∷ []; made = 3 };
+  managed = record {
+    heap = chain_objects;
+    kinds = [];
+    held = Some 1 ∷ Some 2 ∷ Some 3 ∷ [];
+    pins = [];
+    cells = [];
+    notices = [];
+    taken = 0;
+    cycle = None;
+    cycles = 0;
+  };
+  peers = record {
+    heap = chain_peers;
+    sorts = [];
+    names = [];
+    issued = chain_handle 1 ∷ chain_handle 2 ∷ chain_handle 3 ∷ [];
+    made = 3;
+  };
   removed = false ∷ false ∷ false ∷ [];
 }

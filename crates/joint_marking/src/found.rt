@@ -25,7 +25,8 @@ pub fn unreached_peers<G: JointWalked>(
     requires objects { (x : ℕ) → Contains (managed_numbers objects.now) x ↔ IsLiveRoot (G.graph g.now) (object x) }
     requires peers { (p : ℕ) → Contains (peer_numbers peers.now) p ↔ IsLiveRoot (G.graph g.now) (peer p) }
     ensures exact { IfOk result (λ v. AreUnreached (G.graph g.now) (peer_numbers v.items)) }
-    ensures decides { IfOk result (λ v. (p : ℕ) → IsLive (G.graph g.now).peers.heap p → Contains (peer_numbers v.items) p ⊎ IsReachedIn (G.graph g.now) (peer p)) }
+    ensures decides { IfOk result (λ v. (p : ℕ) → IsLive (G.graph g.now).peers.heap p
+        → Contains (peer_numbers v.items) p ⊎ IsReachedIn (G.graph g.now) (peer p)) }
 {
     let rows = joint_rows(alloc, g)?;
     let roots = root_nodes(alloc, g, objects, peers)?;

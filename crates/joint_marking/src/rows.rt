@@ -2,7 +2,8 @@
 
 ghost use Rattle.std.specs.Prelude.{◌≡◌, ℕ, ◌+◌, ◌<◌, OnOk, IfOk, length, map, Some};
 ghost use Rattle.joint_machine.specs.Heaps.{IsLive};
-ghost use Rattle.joint_marking.specs.Nodes.{AddsEdges, HasEdges, ObjectEdge, PeerEdge, ObjectField, EdgesOfObjects, EdgesOfPeers, IsPair, IsRound, HasNone, node_count, objects_in, targets_at};
+ghost use Rattle.joint_marking.specs.Nodes.{AddsEdges, HasEdges, ObjectEdge, PeerEdge, ObjectField, EdgesOfObjects};
+ghost use Rattle.joint_marking.specs.Nodes.{EdgesOfPeers, IsPair, IsRound, HasNone, node_count, objects_in, targets_at};
 
 use crate::walked::JointWalked;
 use joint_machine::{MNum, PNum};

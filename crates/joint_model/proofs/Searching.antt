@@ -1,12 +1,14 @@
 -- The entry at a place of leaders and their followers, and the one with a number, where the numbers are in order. Both
 -- are found from the leader before it: what that one leads stands in the list right there.
-use Rattle.std.proofs.Common.{◌≡◌, ◌≢◌, inl, inr, Option, Some, None, slice_get, ℕ, zero, suc, ◌+◌, ◌-◌, ◌^◌, ◌<◌, ◌≤◌, List, [], ◌∷◌, ◌++◌, length, take, drop, sum_by, slice_index_or, slice_set, arith, subst, sym, ap, ◌∙◌}
+use Rattle.std.proofs.Common.{◌≡◌, ◌≢◌, inl, inr, Option, Some, None, slice_get, ℕ, zero, suc, ◌+◌, ◌-◌, ◌^◌, ◌<◌, ◌≤◌, List, [], ◌∷◌, ◌++◌, length, take, drop, sum_by, slice_index_or, slice_set}
+use Rattle.std.proofs.Common.{arith, subst, sym, ap, ◌∙◌}
 use Rattle.std.specs.Prelude.{All, Contains, MatchOption}
 use Rattle.std.specs.Ordering.{is_lt, nat_cmp, ordering_index}
 use Rattle.std.specs.declared.cmp.Ordering.TheVariants.{Less, Equal, Greater}
 use Rattle.std.specs.List.Sorted.{IsNonDecreasingBy, IsPartitionPoint, IsSortedBy}
 use Rattle.std.proofs.lemmas.Cmp.{nat_cmp_total}
-use Rattle.std.proofs.lemmas.List.{append_assoc, length-append, length-drop, nil_from_length, length-take-le, take-append-drop, take_all, take_more, take_more_set, length-set, get_or-drop, get_or-take, get_or_default}
+use Rattle.std.proofs.lemmas.List.{append_assoc, length-append, length-drop, nil_from_length, length-take-le, take-append-drop, take_all, take_more, take_more_set, length-set, get_or-drop}
+use Rattle.std.proofs.lemmas.List.{get_or-take, get_or_default}
 use Rattle.std.proofs.lemmas.Bool.{cases_lt}
 use Rattle.std.proofs.lemmas.Option.{same_Some, slice_get_cases, slice_get_past}
 use Rattle.std.proofs.lemmas.List.Elements.{All-nil, All-cons, All-append, All-contains, Contains-append_left, Contains-append_right}
@@ -63,7 +65,8 @@ around ls hs k d f starts within =
     let s = followers_in (take k ls) in
     let from : l.from ≡ s = starts-at 0 ls k d starts within ∙ omega arith in
     let whole : followers_in (take (k + 1) ls ++ drop (k + 1) ls) ≡ length hs = rw (take-append-drop (k + 1) ls) f in
-    let parts : followers_in (take (k + 1) ls ++ drop (k + 1) ls) ≡ followers_in (take (k + 1) ls) + followers_in (drop (k + 1) ls) = sum_by-append (λ (x : Leader). x.followers) (take (k + 1) ls) (drop (k + 1) ls) in
+    let parts : followers_in (take (k + 1) ls ++ drop (k + 1) ls) ≡ followers_in (take (k + 1) ls) + followers_in
+    (drop (k + 1) ls) = sum_by-append (λ (x : Leader). x.followers) (take (k + 1) ls) (drop (k + 1) ls) in
     let more : followers_in (take (k + 1) ls) ≡ s + l.followers = sum_by_more (λ (x : Leader). x.followers) ls k d within in
     let start : l.from + l.followers ≤ length hs = omega (arith, whole, parts, more, from) in
     let first : length (take l.from hs) ≡ l.from = length-take-le l.from hs (omega (arith, start)) in
@@ -137,8 +140,18 @@ at-place ls hs k place d f starts within low next =
         let w = around ls hs k d f starts within in
         let own = length-led l hs w.start in
         elim (cases_lt (k + 1) (length ls)) [
-          | inl more ↦ absurd (omega (arith, past, own, low, next more, starts-at 0 ls k d starts within, starts-at 0 ls (k + 1) d starts more, sum_by_more (λ (x : Leader). x.followers) ls k d within))
-          | inr last ↦ let none : length (spelled (drop (k + 1) ls) (drop l.followers (drop l.from hs))) ≡ 0 = ap (λ ms. length (spelled ms (drop l.followers (drop l.from hs)))) (nil_from_length (drop (k + 1) ls) (omega (arith, last, length-drop (k + 1) ls))) in
+          | inl more ↦ absurd (omega (
+            arith,
+            past,
+            own,
+            low,
+            next more,
+            starts-at 0 ls k d starts within,
+            starts-at 0 ls (k + 1) d starts more,
+            sum_by_more (λ (x : Leader). x.followers) ls k d within,
+          ))
+          | inr last ↦ let none : length (spelled (drop (k + 1) ls) (drop l.followers (drop l.from hs))) ≡ 0 = ap
+              (λ ms. length (spelled ms (drop l.followers (drop l.from hs)))) (nil_from_length (drop (k + 1) ls) (omega (arith, last, length-drop (k + 1) ls))) in
               let whole = ap length w.split ∙ (length-append (spelled (take k ls) (take l.from hs)) (led l hs ++ spelled (drop (k + 1) ls) (drop l.followers (drop l.from hs)))) in
               omega (arith, whole, length-append (led l hs) (spelled (drop (k + 1) ls) (drop l.followers (drop l.from hs))), none, own, past, low, w.place)
         ]
@@ -147,7 +160,8 @@ pub no-later : (ls : List Leader) (k place : ℕ) → k < length ls → ((d : Le
 no-later [] k place within before = absurd (omega (arith, within))
 no-later (l ∷ ls) k place within before = omega (arith, before l)
 
-pub leads-there : (ls : List Leader) (hs : List HNum) (k : ℕ) (d : Leader) → AreFollowed ls hs → Starts 0 ls → k < length ls → (slice_index_or ls k d).from + (slice_index_or ls k d).followers ≤ length hs
+pub leads-there : (ls : List Leader) (hs : List HNum) (k : ℕ) (d : Leader) → AreFollowed ls hs → Starts 0 ls
+    → k < length ls → (slice_index_or ls k d).from + (slice_index_or ls k d).followers ≤ length hs
 leads-there ls hs k d f starts within = (around ls hs k d f starts within).start
 
 -- what stands among those that a leader leads stands in the list
@@ -195,7 +209,8 @@ stands-nowhere ls hs k n l w a b past next =
     let under = below-next before e (followers_of e 1 own ++ rest) whole in
     let after : Ascends rest = ascends-after (followers_of e 1 own) rest (ascends-after before (e ∷ (followers_of e 1 own ++ rest)) whole).1 in
     let above : All P rest = high (drop (k + 1) ls) (drop l.followers (drop l.from hs)) n after
-    (λ d more. let there : n < (slice_index_or ls (k + 1 + 0) d).entry.number = subst (λ j. n < (slice_index_or ls j d).entry.number) (omega arith) (next d (omega (arith, more, length-drop (k + 1) ls))) in
+    (λ d more. let there : n < (slice_index_or ls (k + 1 + 0) d).entry.number = subst
+    (λ j. n < (slice_index_or ls j d).entry.number) (omega arith) (next d (omega (arith, more, length-drop (k + 1) ls))) in
     subst (λ (x : Leader). n < x.entry.number) (sym (get_or-drop (k + 1) ls 0 d)) there) in
     let between : All P (followers_of e 1 own) = low e 1 own n (omega (arith, w.own, past)) b in
     let first : All P before = λ j d h same. let small : n ≤ l.entry.number = subst (λ x. x ≤ l.entry.number) same (under j d h) in omega (arith, small, past) in
@@ -209,7 +224,8 @@ adjacent (m ∷ []) hs a k d low l = absurd (omega arith)
 adjacent (m ∷ l ∷ ls) hs a zero d low b =
     let own = followers_of m.entry 1 (take m.followers hs) in
     let rest = spelled (l ∷ ls) (drop m.followers hs) in
-    not-less l.entry.number m.entry.number (All-contains (λ (z : Entry). m.entry.number ≤ z.number) (own ++ rest) l.entry a.0 (Contains-append_right own rest l.entry (Contains-here l.entry (followers_of l.entry 1 (take l.followers (drop m.followers hs)) ++ spelled ls (drop l.followers (drop m.followers hs))))))
+    not-less l.entry.number m.entry.number (All-contains (λ (z : Entry). m.entry.number ≤ z.number) (own ++ rest) l.entry a.0
+    (Contains-append_right own rest l.entry (Contains-here l.entry (followers_of l.entry 1 (take l.followers (drop m.followers hs)) ++ spelled ls (drop l.followers (drop m.followers hs))))))
 adjacent (m ∷ l ∷ ls) hs a (suc k) d low b =
     let next : suc k + 1 ≡ suc (k + 1) = omega arith in
     let own = followers_of m.entry 1 (take m.followers hs) in
@@ -262,12 +278,14 @@ finds-follower ls hs n at d x is p f s small z b i =
     let w = around ls hs (at - 1) d f s (omega (arith, z, b)) in
     let under = lower ls n at d p z b in
     let h : HNum = record { 0 = 0 } in
-    let follower : x ≡ follower_of l.entry (n - l.entry.number) (slice_index_or hs (l.from + (n - l.entry.number) - 1) h) = same_Some _ _ (is ∙ led-follower l hs (n - l.entry.number) h w.start (omega (arith, under)) i) in
+    let follower : x ≡ follower_of l.entry (n - l.entry.number) (slice_index_or hs (l.from + (n - l.entry.number) - 1) h) = same_Some _ _
+    (is ∙ led-follower l hs (n - l.entry.number) h w.start (omega (arith, under)) i) in
     let number : x.number ≡ n = ap (λ (y : Entry). y.number) follower ∙ omega (arith, under, small) in
     (stands-led ls hs (at - 1) l x w (Contains-at (led l hs) (n - l.entry.number) x (sym is)), number)
 
 -- so what stands so many places after that leader is the entry with the number, or there is none
-pub finds-after : (ls : List Leader) (hs : List HNum) (n at : ℕ) (d : Leader) (found : Option Entry) → found ≡ slice_get (led (slice_index_or ls (at - 1) d) hs) (n - (slice_index_or ls (at - 1) d).entry.number)
+pub finds-after : (ls : List Leader) (hs : List HNum) (n at : ℕ) (d : Leader) (found : Option Entry)
+    → found ≡ slice_get (led (slice_index_or ls (at - 1) d) hs) (n - (slice_index_or ls (at - 1) d).entry.number)
     → Point ls n at → AreFollowed ls hs → Starts 0 ls → Ascends (spelled ls hs) → n < 2 ^ 64 → 0 < at → at ≤ length ls
     → MatchOption found (All (λ e. e.number ≢ n) (spelled ls hs)) (λ e. Contains (spelled ls hs) e × (e.number ≡ n))
 finds-after ls hs n at d None is p f s a small z b =

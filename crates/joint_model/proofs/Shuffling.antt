@@ -144,8 +144,11 @@ lines_are_shuffle whole numbers threads = record {
   numbers = numbers;
   rise = All-lines (λ list. Rises (map (λ (e : Entry). e.number) list)) 0 10 whole (λ i. line-rises i 0 whole numbers);
   placed = All-lines (λ list. All (IsPlaced whole) list) 0 10 whole (λ i. All-members (IsPlaced whole) (entries_in i whole) (λ e c. placed_all whole numbers e (line_from i whole e c)));
-  covered = All-members (λ e. (list : List Entry) × Contains (lines_from 0 10 whole) list × Contains list e) whole (λ e c. let few = side_line_is_one e (threads e c) in
-      (entries_in (side_line e) whole, has-line 0 10 (side_line e) whole (omega arith) few, line_to (side_line e) whole e c (in_side_line (side_line e) e few ∙ eq-eqb (side_line e) (side_line e) refl)));
+  covered = All-members (λ e. (list : List Entry) × Contains (lines_from 0 10 whole) list × Contains list e) whole (λ e c. let few = side_line_is_one e (threads e c) in (
+    entries_in (side_line e) whole,
+    has-line 0 10 (side_line e) whole (omega arith) few,
+    line_to (side_line e) whole e c (in_side_line (side_line e) e few ∙ eq-eqb (side_line e) (side_line e) refl),
+  ));
   count = lines-size whole (λ e c. side_line_is_one e (threads e c));
 }
 

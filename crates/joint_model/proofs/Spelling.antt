@@ -1,6 +1,7 @@
 -- How leaders and handles spell entries: what comes last, and how many there are.
 use Rattle.std.proofs.Common.{◌≡◌, ℕ, suc, ◌+◌, ◌-◌, ◌%◌, ◌^◌, ◌<◌, ◌≤◌, List, [], ◌∷◌, ◌++◌, length, take, drop, sum_by, Some, slice_index_or, slice_set, arith, refl, subst, sym, ap, ◌∙◌}
-use Rattle.std.proofs.lemmas.List.{append-nil, append_assoc, length-append, length-drop, take-append-le, drop-append-le, take-append-drop, take_all, length-take-le, take_more, take_more_set, length-set, nil_from_length}
+use Rattle.std.proofs.lemmas.List.{append-nil, append_assoc, length-append, length-drop, take-append-le, drop-append-le, take-append-drop, take_all, length-take-le, take_more, take_more_set}
+use Rattle.std.proofs.lemmas.List.{length-set, nil_from_length}
 use Rattle.std.proofs.lemmas.List.Sums.{sum_by-cons, sum_by_more}
 use Rattle.joint_machine.specs.declared.names.HNum.{HNum}
 use Rattle.joint_machine.specs.declared.events.Entry.{Entry}
@@ -91,12 +92,14 @@ follower-last ls hs k l m h n f there same one =
     let old : ls ≡ init ++ l ∷ [] = sym all ∙ w.leaders in
     let new : slice_set ls k m ≡ init ++ m ∷ [] = sym (take_all (k + 1) (slice_set ls k m) (omega (arith, n, length-set ls k m))) ∙ take_more_set ls k m (omega (arith, n)) in
     let handles : first ++ own ≡ hs = take-append-drop (length hs - l.followers) hs in
-    let before : spelled ls hs ≡ spelled init first ++ e ∷ followers_of e 1 own = ap (λ xs. spelled xs hs) old ∙ ap (spelled (init ++ l ∷ [])) (sym handles) ∙ spelled-last init l first own w.first w.own in
+    let before : spelled ls hs ≡ spelled init first ++ e ∷ followers_of e 1 own = ap (λ xs. spelled xs hs) old
+    ∙ ap (spelled (init ++ l ∷ [])) (sym handles) ∙ spelled-last init l first own w.first w.own in
     let size : m.followers ≡ length (own ++ h ∷ []) = omega (arith, one, w.own, length-append own (h ∷ [])) in
     let longer : hs ++ h ∷ [] ≡ first ++ (own ++ h ∷ []) = ap (λ gs. gs ++ h ∷ []) (sym handles) ∙ append_assoc first own (h ∷ []) in
     let after : spelled (slice_set ls k m) (hs ++ h ∷ []) ≡ spelled init first ++ m.entry ∷ followers_of m.entry 1 (own ++ h ∷ []) =
     ap (λ xs. spelled xs (hs ++ h ∷ [])) new ∙ ap (spelled (init ++ m ∷ [])) longer ∙ spelled-last init m first (own ++ h ∷ []) w.first size in
-    let last : followers_of e 1 (own ++ h ∷ []) ≡ followers_of e 1 own ++ follower_of e (l.followers + 1) h ∷ [] = followers-last e 1 own h ∙ ap (λ i. followers_of e 1 own ++ follower_of e i h ∷ []) (omega (arith, w.own)) in
+    let last : followers_of e 1 (own ++ h ∷ []) ≡ followers_of e 1 own ++ follower_of e (l.followers + 1) h ∷ [] = followers-last e 1 own h
+    ∙ ap (λ i. followers_of e 1 own ++ follower_of e i h ∷ []) (omega (arith, w.own)) in
     after ∙ (ap (λ x. spelled init first ++ x ∷ followers_of x 1 (own ++ h ∷ [])) same
     ∙ (ap (λ es. spelled init first ++ e ∷ es) last
     ∙ (sym (append_assoc (spelled init first) (e ∷ followers_of e 1 own) (follower_of e (l.followers + 1) h ∷ []))

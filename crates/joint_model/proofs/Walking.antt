@@ -16,7 +16,8 @@ takes-other [] ys y g = refl
 takes-other (x ∷ xs) ys y g = by (nat_lt y.number x.number) refl
   where
     by : (b : Bool) → nat_lt y.number x.number ≡ b
-        → (if b then y ∷ entries_below x.number ys else []) ++ x ∷ merged xs (if b then entries_from x.number ys else y ∷ ys) ≡ y ∷ (entries_below x.number ys ++ x ∷ merged xs (entries_from x.number ys))
+        → (if b then y ∷ entries_below x.number ys else []) ++ x ∷ merged xs
+        (if b then entries_from x.number ys else y ∷ ys) ≡ y ∷ (entries_below x.number ys ++ x ∷ merged xs (entries_from x.number ys))
     by true e = refl
     by false e = absurd (omega (arith, ltb-false y.number x.number e, g))
 
@@ -78,7 +79,8 @@ follow-other k e i (h ∷ hs) xs ys p n =
 pub leads-one : (xs ys zs : List Entry) (e : Entry) (hs : List HNum) → IsNumbered (merged xs ys) → xs ≡ e ∷ (followers_of e 1 hs ++ zs) → (GoesOnInOther xs ys → ⊥)
     → merged xs ys ≡ e ∷ (followers_of e 1 hs ++ merged zs ys)
 leads-one xs ys zs e hs n is g =
-    let first : merged xs ys ≡ e ∷ merged (followers_of e 1 hs ++ zs) ys = ap (λ ws. merged ws ys) is ∙ takes-one (followers_of e 1 hs ++ zs) ys e (λ h. g (subst (λ ws. GoesOnInOther ws ys) (sym is) h)) in
+    let first : merged xs ys ≡ e ∷ merged (followers_of e 1 hs ++ zs) ys = ap (λ ws. merged ws ys) is
+    ∙ takes-one (followers_of e 1 hs ++ zs) ys e (λ h. g (subst (λ ws. GoesOnInOther ws ys) (sym is) h)) in
     let numbered = subst (NumberedFrom n.0) first n.1 in
     first ∙ ap (λ ws. e ∷ ws) (follow-one (n.0 + 1) e 1 hs zs ys (omega (arith, numbered.0)) numbered.1)
 

@@ -23,7 +23,16 @@ reply_after r i = r
 
 -- the entry whose number is i higher, with that handle
 abbrev pub follower_of : Entry → ℕ → HNum → Entry
-follower_of e i h = record { number = (e.number + i) % 2 ^ 64; made = record { caller = e.made.caller; index = e.made.index; op = of_handle e.made.op h; reply = reply_after e.made.reply i; cites = e.made.cites } }
+follower_of e i h = record {
+  number = (e.number + i) % 2 ^ 64;
+  made = record {
+    caller = e.made.caller;
+    index = e.made.index;
+    op = of_handle e.made.op h;
+    reply = reply_after e.made.reply i;
+    cites = e.made.cites;
+  };
+}
 
 -- followers with these handles, from follower i on
 abbrev pub followers_of : Entry → ℕ → List HNum → List Entry

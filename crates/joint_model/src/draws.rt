@@ -1,6 +1,7 @@
 // Where the numbers of entries come from.
 
-ghost use Rattle.std.specs.Prelude.{◌≡◌, ℕ, ◌+◌, ◌-◌, ◌^◌, ◌≤◌, ◌<◌, ◌++◌, ◌↔◌, List, Option, None, IsTrue, map, length, ⊤};
+ghost use Rattle.std.specs.Prelude.{◌≡◌, ℕ, ◌+◌, ◌-◌, ◌^◌, ◌≤◌, ◌<◌, ◌++◌, ◌↔◌, List, Option, None, IsTrue, map};
+ghost use Rattle.std.specs.Prelude.{length, ⊤};
 ghost use Rattle.joint_machine.specs.declared.names.MNum.{MNum};
 ghost use Rattle.joint_machine.specs.declared.names.Thread.{Thread};
 ghost use Rattle.joint_machine.specs.declared.events.Entry.{Entry};
@@ -25,7 +26,8 @@ pub trait Draw {
         ensures low { rules.floor self.old ≤ result }
         ensures high { result < rules.floor self.new }
         ensures left { rules.left self.old ≤ rules.left self.new + 1 }
-        ensures may { (t : Thread) (o : Op) → IsTrue (is_peer_event t o) → (rules.may self.old t o None ↔ rules.may self.new t o None) }
+        ensures may { (t : Thread) (o : Op) → IsTrue (is_peer_event t o)
+            → (rules.may self.old t o None ↔ rules.may self.new t o None) }
         ensures drew { rules.drew self.old (numbered result made.now) target freed.now self.new };
 }
 
@@ -67,10 +69,12 @@ impl Draw for Counter {
 /// The law of the plain count: entries that it drew in turn have the numbers from the count before on, one
 /// after another, and nothing else was drawn, since the count rose by just as many.
 pub fn counted_in_turn()
-    ensures { (a b : ℕ) (ns : List Drawn) → DrewInTurn CountDrew a ns b → NumberedFrom a (map (λ n. n.entry) ns) × (b ≡ a + length ns) }
+    ensures { (a b : ℕ) (ns : List Drawn) → DrewInTurn CountDrew a ns b
+        → NumberedFrom a (map (λ n. n.entry) ns) × (b ≡ a + length ns) }
 {}
 
 /// The law of every draw: what was drawn in turn, and then more in turn, was drawn in turn as one list.
 pub fn drawn_in_turn<D: Draw>()
-    ensures { (a b c : D) (xs ys : List Drawn) → DrewInTurn D.rules.drew a xs b → DrewInTurn D.rules.drew b ys c → DrewInTurn D.rules.drew a (xs ++ ys) c }
+    ensures { (a b c : D) (xs ys : List Drawn) → DrewInTurn D.rules.drew a xs b
+        → DrewInTurn D.rules.drew b ys c → DrewInTurn D.rules.drew a (xs ++ ys) c }
 {}

@@ -1,6 +1,7 @@
 // Entries as they are kept: most of a large cycle as their handles alone.
 
-ghost use Rattle.std.specs.Prelude.{◌≡◌, ◌≢◌, All, Contains, MatchOption, ◌+◌, ◌≤◌, ◌<◌, ◌==◌, [], ◌∷◌, ◌++◌, length, slice_get, vec_len, vec_capacity, IfOk, OnErr, OnOk};
+ghost use Rattle.std.specs.Prelude.{◌≡◌, ◌≢◌, All, Contains, MatchOption, ◌+◌, ◌≤◌, ◌<◌, ◌==◌, [], ◌∷◌, ◌++◌, length};
+ghost use Rattle.std.specs.Prelude.{slice_get, vec_len, vec_capacity, IfOk, OnErr, OnOk};
 ghost use Rattle.joint_model.specs.Merged.{Ascends};
 
 use crate::leaders::{Leader, Rest, entry_at, entry_with, put_follower};
@@ -34,7 +35,10 @@ impl Model for Kept {
 
     ghost view = { λ s. record { entries = spelled s.leaders.items s.followers.items; spare = s.spare } };
 
-    ghost invariant = { λ s. AreFollowed s.leaders.items s.followers.items × Starts 0 s.leaders.items × (vec_len s.leaders + vec_len s.followers + s.spare ≤ 4294967295) × (vec_len s.leaders + s.spare ≤ vec_capacity s.leaders) × (vec_len s.followers + s.spare ≤ vec_capacity s.followers) };
+    ghost invariant = { λ s. AreFollowed s.leaders.items s.followers.items × Starts 0 s.leaders.items
+        × (vec_len s.leaders + vec_len s.followers + s.spare ≤ 4294967295)
+        × (vec_len s.leaders + s.spare ≤ vec_capacity s.leaders)
+        × (vec_len s.followers + s.spare ≤ vec_capacity s.followers) };
 }
 
 // Makes room for at least `n` more items, and for a whole block of them where there is memory for it. Answers
@@ -160,7 +164,8 @@ impl Kept {
     /// The entry with the number, where the numbers rise; None where none has it.
     pub(crate) fn with_number(&self, number: u64) -> Option<Entry>
         requires { Ascends self.now.entries }
-        ensures { MatchOption result (All (λ e. e.number ≢ number) self.now.entries) (λ e. Contains self.now.entries e × (e.number ≡ number)) }
+        ensures { MatchOption result (All (λ e. e.number ≢ number) self.now.entries)
+            (λ e. Contains self.now.entries e × (e.number ≡ number)) }
     {
         entry_with(self.leaders.as_slice(), self.followers.as_slice(), number)
     }

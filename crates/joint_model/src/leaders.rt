@@ -1,7 +1,9 @@
 // How a list keeps its entries: where one differs from the one before it by its number, one higher, and by the handle
 // that it weakens or restores, the handle alone is kept. A cycle over many candidates makes many such entries.
 
-ghost use Rattle.std.specs.Prelude.{◌≡◌, ◌≢◌, All, Contains, ◌+◌, ◌<◌, ◌≤◌, ◌^◌, ◌↔◌, List, [], ◌∷◌, ◌++◌, length, slice_get, slice_index_or, vec_len, vec_capacity, IfSome, IsTrue, IsFalse, MatchOption};
+ghost use Rattle.std.specs.Prelude.{◌≡◌, ◌≢◌, All, Contains, ◌+◌, ◌<◌, ◌≤◌, ◌^◌, ◌↔◌, List, [], ◌∷◌, ◌++◌, length};
+ghost use Rattle.std.specs.Prelude.{slice_get, slice_index_or, vec_len, vec_capacity, IfSome, IsTrue, IsFalse};
+ghost use Rattle.std.specs.Prelude.{MatchOption};
 ghost use Rattle.joint_model.specs.Leaders.{follower_of, followers_of, led, reply_after, spelled, AreFollowed, Starts};
 ghost use Rattle.joint_model.specs.Merged.{Ascends, IsNextInOther, first_number, merged, IsNumbered};
 
@@ -111,7 +113,8 @@ impl Leader {
     // The handle of an entry that is its next follower; None where it isn't.
     #[inline(always)]
     fn next_handle(&self, entry: &Entry) -> Option<HNum>
-        ensures { IfSome result (λ h. (self.now.followers < 4294967295) × (entry.now ≡ follower_of self.now.entry (self.now.followers + 1) h)) }
+        ensures { IfSome result (λ h. (self.now.followers < 4294967295)
+            × (entry.now ≡ follower_of self.now.entry (self.now.followers + 1) h)) }
     {
         next_handle(&self.entry.unpack(), self.followers, entry)
     }
@@ -141,10 +144,13 @@ pub(crate) fn put_follower(leaders: &mut Vec<Leader>, followers: &mut Vec<HNum>,
     requires room_of_followers { vec_len followers.old < vec_capacity followers.old }
     ensures followed { AreFollowed leaders.new.items followers.new.items }
     ensures starts { Starts 0 leaders.new.items }
-    ensures entries { spelled leaders.new.items followers.new.items ≡ spelled leaders.old.items followers.old.items ++ entry ∷ [] }
+    ensures entries { spelled leaders.new.items followers.new.items ≡ spelled
+        leaders.old.items followers.old.items ++ entry ∷ [] }
     ensures len { vec_len leaders.new + vec_len followers.new ≡ vec_len leaders.old + vec_len followers.old + 1 }
-    ensures fits { (vec_len leaders.new ≤ vec_len leaders.old + 1) × (vec_len followers.new ≤ vec_len followers.old + 1) }
-    ensures capacity { (vec_capacity leaders.new ≡ vec_capacity leaders.old) × (vec_capacity followers.new ≡ vec_capacity followers.old) }
+    ensures fits { (vec_len leaders.new ≤ vec_len leaders.old + 1)
+        × (vec_len followers.new ≤ vec_len followers.old + 1) }
+    ensures capacity { (vec_capacity leaders.new ≡ vec_capacity leaders.old)
+        × (vec_capacity followers.new ≡ vec_capacity followers.old) }
 {
     let n = leaders.len();
     if n > 0
@@ -162,7 +168,8 @@ pub(crate) fn entry_with(leaders: &[Leader], followers: &[HNum], number: u64) ->
     requires followed { AreFollowed leaders.now followers.now }
     requires starts { Starts 0 leaders.now }
     requires ascends { Ascends (spelled leaders.now followers.now) }
-    ensures { MatchOption result (All (λ e. e.number ≢ number) (spelled leaders.now followers.now)) (λ e. Contains (spelled leaders.now followers.now) e × (e.number ≡ number)) }
+    ensures { MatchOption result (All (λ e. e.number ≢ number) (spelled leaders.now followers.now))
+        (λ e. Contains (spelled leaders.now followers.now) e × (e.number ≡ number)) }
 {
     match leaders.binary_search_by_key(&number, |leader| leader.entry.number()) {
         Ok(at) => Some(leaders[at].entry.unpack()),
@@ -181,7 +188,8 @@ fn leader_before(leaders: &[Leader], place: usize) -> usize
     requires starts { Starts 0 leaders.now }
     ensures leader { result < length leaders.now }
     ensures before { (d : _) → result + (slice_index_or leaders.now result d).from ≤ place }
-    ensures next { (d : _) → result + 1 < length leaders.now → place < result + 1 + (slice_index_or leaders.now (result + 1) d).from }
+    ensures next { (d : _) → result + 1 < length leaders.now
+        → place < result + 1 + (slice_index_or leaders.now (result + 1) d).from }
 {
     let mut low = 0;
     let mut high = leaders.len();
@@ -258,7 +266,9 @@ impl<'a> Rest<'a> {
     // Takes the next leader, with the handles of its followers; None where none is left.
     #[inline(always)]
     pub(crate) fn next(&mut self) -> Option<(&'a Leader, &'a [HNum])>
-        ensures { MatchOption result ((self.old ≡ []) × (self.new ≡ [])) (λ next. (self.old ≡ next.0.now.entry ∷ (followers_of next.0.now.entry 1 next.1.now ++ self.new)) × (length next.1.now ≤ 4294967295)) }
+        ensures { MatchOption result ((self.old ≡ []) × (self.new ≡ []))
+            (λ next. (self.old ≡ next.0.now.entry ∷ (followers_of next.0.now.entry 1 next.1.now ++ self.new))
+            × (length next.1.now ≤ 4294967295)) }
     {
         let (leader, rest) = self.leaders.split_first()?;
         self.leaders = rest;
@@ -290,7 +300,9 @@ pub(crate) fn next_leader<'a>(
     other: &mut Rest<'a>,
 ) -> Option<(&'a Leader, &'a [HNum])>
     requires { IsNumbered (merged one.old other.old) }
-    ensures { MatchOption result ((merged one.old other.old ≡ []) × (merged one.new other.new ≡ [])) (λ next. (merged one.old other.old ≡ next.0.now.entry ∷ (followers_of next.0.now.entry 1 next.1.now ++ merged one.new other.new)) × (length next.1.now ≤ 4294967295)) }
+    ensures { MatchOption result ((merged one.old other.old ≡ []) × (merged one.new other.new ≡ []))
+        (λ next. (merged one.old other.old ≡ next.0.now.entry ∷
+        (followers_of next.0.now.entry 1 next.1.now ++ merged one.new other.new)) × (length next.1.now ≤ 4294967295)) }
 {
     if is_next_in_other(one.number(), other.number()) {
         other.next()

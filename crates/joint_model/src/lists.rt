@@ -1,7 +1,8 @@
 // Lists with room that is known: the entries of one side or one reader, and the answers of a cycle's
 // candidates.
 
-ghost use Rattle.std.specs.Prelude.{◌≡◌, ◌+◌, ◌<◌, ◌≤◌, ◌==◌, [], ◌∷◌, ◌++◌, length, slice_get, IfOk, IfSome, MatchOption, OnErr};
+ghost use Rattle.std.specs.Prelude.{◌≡◌, ◌+◌, ◌<◌, ◌≤◌, ◌==◌, [], ◌∷◌, ◌++◌, length, slice_get, IfOk, IfSome};
+ghost use Rattle.std.specs.Prelude.{MatchOption, OnErr};
 ghost use Rattle.joint_model.specs.declared.lists.Holding.TheVariants.{Every, Last};
 
 use crate::kept::{BLOCK, Kept, MOST};
@@ -41,9 +42,14 @@ impl Model for Entries {
 
     ghost Value = { Stock };
 
-    ghost view = { λ s. record { entries = passed s.past.items ++ s.kept.entries; spare = s.kept.spare; holding = s.holding } };
+    ghost view = { λ s. record {
+      entries = passed s.past.items ++ s.kept.entries;
+      spare = s.kept.spare;
+      holding = s.holding;
+    } };
 
-    ghost invariant = { λ s. (s.gone ≡ length (passed s.past.items)) × (s.gone + length s.kept.entries + s.kept.spare ≤ 4294967295) × (s.holding ≡ Every → s.gone ≡ 0) };
+    ghost invariant = { λ s. (s.gone ≡ length (passed s.past.items))
+        × (s.gone + length s.kept.entries + s.kept.spare ≤ 4294967295) × (s.holding ≡ Every → s.gone ≡ 0) };
 }
 
 /// An empty list, with room for `n` items where there is memory for it; else it grows as it needs. Room that nothing is

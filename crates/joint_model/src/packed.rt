@@ -26,7 +26,16 @@ impl Model for PackedEntry {
 
     ghost Value = { Entry };
 
-    ghost view = { λ p. record { number = p.number; made = record { caller = p.caller; index = p.index; op = p.op; reply = p.reply; cites = if p.cites then Some p.cited else None } } };
+    ghost view = { λ p. record {
+      number = p.number;
+      made = record {
+        caller = p.caller;
+        index = p.index;
+        op = p.op;
+        reply = p.reply;
+        cites = if p.cites then Some p.cited else None;
+      };
+    } };
 }
 
 // Whether a number is cited, and which; 0 where none is.

@@ -25,7 +25,12 @@ impl Model for PastHistory {
 
     ghost Value = { Finished };
 
-    ghost view = { λ h. record { entries = merged_all (entry_lists h.lists.value); freed_managed = h.freed_managed.value.items; freed_peers = h.freed_peers.value.items; notices = h.notices.value.items } };
+    ghost view = { λ h. record {
+      entries = merged_all (entry_lists h.lists.value);
+      freed_managed = h.freed_managed.value.items;
+      freed_peers = h.freed_peers.value.items;
+      notices = h.notices.value.items;
+    } };
 }
 
 impl PastHistory {

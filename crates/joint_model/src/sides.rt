@@ -15,8 +15,12 @@ use joint_machine::{Entry, MNum, Made};
 /// The law of a side's list: where one entry was put last that may come next, with a number above
 /// those before it, and the state is the one after it, the side is again the replay of its entries.
 pub fn replays_go_on()
-    ensures managed { (old new : Side ManagedReplay) (k : ℕ) (m : Made) (told : Told) → AllBelow old.entries k → new.entries ≡ old.entries ++ numbered k m ∷ [] → GoesOn managed_rules old.state m told new.state → IsReplayed managed_rules old.entries old.state → IsReplayed managed_rules new.entries new.state }
-    ensures peers { (old new : Side PeerReplay) (k : ℕ) (m : Made) (told : Told) → AllBelow old.entries k → new.entries ≡ old.entries ++ numbered k m ∷ [] → GoesOn peer_rules old.state m told new.state → IsReplayed peer_rules old.entries old.state → IsReplayed peer_rules new.entries new.state }
+    ensures managed { (old new : Side ManagedReplay) (k : ℕ) (m : Made) (told : Told) → AllBelow old.entries k
+        → new.entries ≡ old.entries ++ numbered k m ∷ [] → GoesOn managed_rules old.state m told new.state
+        → IsReplayed managed_rules old.entries old.state → IsReplayed managed_rules new.entries new.state }
+    ensures peers { (old new : Side PeerReplay) (k : ℕ) (m : Made) (told : Told) → AllBelow old.entries k
+        → new.entries ≡ old.entries ++ numbered k m ∷ [] → GoesOn peer_rules old.state m told new.state
+        → IsReplayed peer_rules old.entries old.state → IsReplayed peer_rules new.entries new.state }
 {}
 
 /// Draws a number for what was made, and puts its entry last. Answers the number. It takes no memory.

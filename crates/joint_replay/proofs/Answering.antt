@@ -25,7 +25,8 @@ put-later true y xs n a = refl
 put-later false y xs n a = refl
 
 -- one candidate more has had the answer, if it holds the handle
-pub answered-more : (s : Managed) (h : ℕ) (a : Answer) (ms : List ℕ) (m : ℕ) (xs : List (Option Answer)) → answered_for s h a (ms ++ m ∷ []) xs ≡ put_where (is_that_handle (handle_of s m) h) (answered_for s h a ms xs) (length ms) a
+pub answered-more : (s : Managed) (h : ℕ) (a : Answer) (ms : List ℕ) (m : ℕ) (xs : List (Option Answer))
+    → answered_for s h a (ms ++ m ∷ []) xs ≡ put_where (is_that_handle (handle_of s m) h) (answered_for s h a ms xs) (length ms) a
 answered-more s h a [] m [] = put-nil (is_that_handle (handle_of s m) h) 0 a
 answered-more s h a [] m (x ∷ xs) = put-first (is_that_handle (handle_of s m) h) x xs a
 answered-more s h a (k ∷ ms) m [] = put-nil (is_that_handle (handle_of s m) h) (suc (length ms)) a
@@ -34,7 +35,8 @@ answered-more s h a (k ∷ ms) m (x ∷ xs) =
     ap (λ l. y ∷ l) (answered-more s h a ms m xs) ∙ put-later (is_that_handle (handle_of s m) h) y (answered_for s h a ms xs) (length ms) a
 
 -- one candidate more holds its new handle
-pub renewed-more : (held : List (Option ℕ)) (ms : List ℕ) (m : ℕ) (xs : List (Option Answer)) → renewed_by held (ms ++ m ∷ []) xs ≡ renew_one (renewed_by held ms xs) m (handle_in (slice_get xs (length ms)))
+pub renewed-more : (held : List (Option ℕ)) (ms : List ℕ) (m : ℕ) (xs : List (Option Answer))
+    → renewed_by held (ms ++ m ∷ []) xs ≡ renew_one (renewed_by held ms xs) m (handle_in (slice_get xs (length ms)))
 renewed-more held [] m [] = refl
 renewed-more held [] m (x ∷ xs) = refl
 renewed-more held (k ∷ ms) m [] = refl

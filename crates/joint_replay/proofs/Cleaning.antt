@@ -21,7 +21,8 @@ clean-field h x y f =
 pub field-clean : (h : Heap) (x y : ℕ) → HasField h x y → HasField (cleaned h) x y
 field-clean h x y f = record {
   live = live-cleaned h x f.live;
-  field = subst (λ l. Contains l (Some y)) (sym (fields-cleaned h x)) (subst (Contains (map (kept_target h) (fields_of h x))) (live-kept h y f.there) (Contains-map (kept_target h) (fields_of h x) (Some y) f.field));
+  field = subst (λ l. Contains l (Some y)) (sym (fields-cleaned h x))
+      (subst (Contains (map (kept_target h) (fields_of h x))) (live-kept h y f.there) (Contains-map (kept_target h) (fields_of h x) (Some y) f.field));
   there = live-cleaned h y f.there;
 }
 
@@ -57,8 +58,22 @@ clean-root g (object x) r = r
 clean-root g (peer p) r = elim r [
   | inl s ↦ inl s
   | inr a ↦ inr (elim a [
-    | inl w ↦ inl (record { handle = w.handle; row = w.row; is_handle = record { issued = w.is_handle.issued; kept = w.is_handle.kept }; raw_hold = w.raw_hold; strong_made = w.strong_made; leads = w.leads })
-    | inr w ↦ inr (record { handle = w.handle; row = w.row; is_handle = record { issued = w.is_handle.issued; kept = w.is_handle.kept }; held_hold = w.held_hold; loose = λ m h. w.loose m (holds-clean g m w.handle h); leads = w.leads })
+    | inl w ↦ inl (record {
+      handle = w.handle;
+      row = w.row;
+      is_handle = record { issued = w.is_handle.issued; kept = w.is_handle.kept };
+      raw_hold = w.raw_hold;
+      strong_made = w.strong_made;
+      leads = w.leads;
+    })
+    | inr w ↦ inr (record {
+      handle = w.handle;
+      row = w.row;
+      is_handle = record { issued = w.is_handle.issued; kept = w.is_handle.kept };
+      held_hold = w.held_hold;
+      loose = λ m h. w.loose m (holds-clean g m w.handle h);
+      leads = w.leads;
+    })
   ])
 ]
 
@@ -67,8 +82,22 @@ root-clean g (object x) r = r
 root-clean g (peer p) r = elim r [
   | inl s ↦ inl s
   | inr a ↦ inr (elim a [
-    | inl w ↦ inl (record { handle = w.handle; row = w.row; is_handle = record { issued = w.is_handle.issued; kept = w.is_handle.kept }; raw_hold = w.raw_hold; strong_made = w.strong_made; leads = w.leads })
-    | inr w ↦ inr (record { handle = w.handle; row = w.row; is_handle = record { issued = w.is_handle.issued; kept = w.is_handle.kept }; held_hold = w.held_hold; loose = λ m h. w.loose m (clean-holds g m w.handle h); leads = w.leads })
+    | inl w ↦ inl (record {
+      handle = w.handle;
+      row = w.row;
+      is_handle = record { issued = w.is_handle.issued; kept = w.is_handle.kept };
+      raw_hold = w.raw_hold;
+      strong_made = w.strong_made;
+      leads = w.leads;
+    })
+    | inr w ↦ inr (record {
+      handle = w.handle;
+      row = w.row;
+      is_handle = record { issued = w.is_handle.issued; kept = w.is_handle.kept };
+      held_hold = w.held_hold;
+      loose = λ m h. w.loose m (clean-holds g m w.handle h);
+      leads = w.leads;
+    })
   ])
 ]
 

@@ -1,6 +1,7 @@
 -- What a snapshot finds. A marking over the open fields marks what is reached over fields of the heap: the open fields
 -- are those between live objects. A root that isn't live leads nowhere, so the live roots reach as much.
-use Rattle.std.proofs.Common.{◌≡◌, ℕ, zero, suc, ◌+◌, ◌↔◌, ◌⊎◌, inl, inr, Bool, true, false, List, [], ◌∷◌, ◌++◌, length, map, take, Option, Some, None, refl, sym, ap, subst, ◌∙◌, arith, if◌then◌else◌}
+use Rattle.std.proofs.Common.{◌≡◌, ℕ, zero, suc, ◌+◌, ◌↔◌, ◌⊎◌, inl, inr, Bool, true, false, List, [], ◌∷◌, ◌++◌, length, map, take, Option, Some, None, refl, sym, ap, subst, ◌∙◌, arith}
+use Rattle.std.proofs.Common.{if◌then◌else◌}
 use Rattle.std.specs.Prelude.{Contains, slice_get}
 use Rattle.std.specs.Option.{option_map}
 use Rattle.std.proofs.lemmas.List.{length-map}
@@ -70,7 +71,8 @@ HasField-open h x y = (
 )
 
 -- a marking from some roots marks what they reach
-pub marks-open : (h : Heap) (P : ℕ → Type 0) (roots : List ℕ) (marks : List Bool) → ((x : ℕ) → Contains roots x ↔ P x) → ((k : ℕ) → HasMark marks k ↔ Reached (Contains roots) (Leads (length h.fields + 1) (live_fields (cleaned h))) k) → (k : ℕ) → HasMark marks k ↔ Reached P (HasField h) k
+pub marks-open : (h : Heap) (P : ℕ → Type 0) (roots : List ℕ) (marks : List Bool) → ((x : ℕ) → Contains roots x ↔ P x)
+    → ((k : ℕ) → HasMark marks k ↔ Reached (Contains roots) (Leads (length h.fields + 1) (live_fields (cleaned h))) k) → (k : ℕ) → HasMark marks k ↔ Reached P (HasField h) k
 marks-open h P roots marks r m k = (
   λ i. Reached-mono (Contains roots) P (Leads (length h.fields + 1) (live_fields (cleaned h))) (HasField h) (λ x c. (r x).0 c) (λ x y e. (HasField-open h x y).1 e) k ((m k).0 i),
   λ i. (m k).1 (Reached-mono P (Contains roots) (HasField h) (Leads (length h.fields + 1) (live_fields (cleaned h))) (λ x p. (r x).1 p) (λ x y e. (HasField-open h x y).0 e) k i),
@@ -129,7 +131,8 @@ FindsRows-from h held pins slots bridges freed candidates dead s b f d c =
       decides = λ m l. decided (IsHandleReached h held m) bridges m (marked bridges m) refl (b m);
     }
 
-pub named-put : (h : Heap) (slots : List (Option ℕ)) (old now next : List ℕ) (i x : ℕ) → IsLive h x → slice_get slots i ≡ Some (Some x) → next ≡ now ++ x ∷ [] → Gains (IsNamedLive h (take i slots)) old now → Gains (IsNamedLive h (take (i + 1) slots)) old next
+pub named-put : (h : Heap) (slots : List (Option ℕ)) (old now next : List ℕ) (i x : ℕ) → IsLive h x → slice_get slots i ≡ Some (Some x)
+    → next ≡ now ++ x ∷ [] → Gains (IsNamedLive h (take i slots)) old now → Gains (IsNamedLive h (take (i + 1) slots)) old next
 named-put h slots old now next i x l at n g k =
     let more : take (i + 1) slots ≡ take i slots ++ Some x ∷ [] = take-next slots i (Some x) at in
     rw (n, more) (
@@ -146,7 +149,8 @@ named-put h slots old now next i x l at n g k =
       ],
     )
 
-pub named-skip : (h : Heap) (slots : List (Option ℕ)) (old now : List ℕ) (i : ℕ) (o : Option ℕ) → slice_get slots i ≡ Some o → ((k : ℕ) → o ≡ Some k → IsLive h k → ⊥) → Gains (IsNamedLive h (take i slots)) old now → Gains (IsNamedLive h (take (i + 1) slots)) old now
+pub named-skip : (h : Heap) (slots : List (Option ℕ)) (old now : List ℕ) (i : ℕ) (o : Option ℕ) → slice_get slots i ≡ Some o
+    → ((k : ℕ) → o ≡ Some k → IsLive h k → ⊥) → Gains (IsNamedLive h (take i slots)) old now → Gains (IsNamedLive h (take (i + 1) slots)) old now
 named-skip h slots old now i o at dead g k =
     let more : take (i + 1) slots ≡ take i slots ++ o ∷ [] = take-next slots i o at in
     rw more (
@@ -161,7 +165,8 @@ named-skip h slots old now i o at dead g k =
     )
 
 -- both tables of slots were read
-pub named-both : (h : Heap) (none first both : List ℕ) → none ≡ [] → Gains (IsNamedLive h h.vars) none first → Gains (IsNamedLive h h.statics) first both → (x : ℕ) → Contains both x ↔ (IsLive h x × InSlot h x)
+pub named-both : (h : Heap) (none first both : List ℕ) → none ≡ [] → Gains (IsNamedLive h h.vars) none first
+    → Gains (IsNamedLive h h.statics) first both → (x : ℕ) → Contains both x ↔ (IsLive h x × InSlot h x)
 named-both h none first both e v s x = (
   λ c. elim ((s x).0 c) [
     | inl f ↦ elim ((v x).0 f) [ inl n ↦ absurd (Contains-nil x (subst (λ z. Contains z x) e n)) | inr w ↦ (w.0, inl w.1) ]
@@ -171,7 +176,8 @@ named-both h none first both e v s x = (
 )
 
 -- the slots and the pins were read
-pub pinned-both : (h : Heap) (pins : List (Option ℕ)) (named all : List ℕ) → ((x : ℕ) → Contains named x ↔ (IsLive h x × InSlot h x)) → Gains (IsNamedLive h pins) named all → (x : ℕ) → Contains all x ↔ (IsLive h x × IsNamedOrPinned h pins x)
+pub pinned-both : (h : Heap) (pins : List (Option ℕ)) (named all : List ℕ) → ((x : ℕ) → Contains named x ↔ (IsLive h x × InSlot h x))
+    → Gains (IsNamedLive h pins) named all → (x : ℕ) → Contains all x ↔ (IsLive h x × IsNamedOrPinned h pins x)
 pinned-both h pins named all n g x = (
   λ c. elim ((g x).0 c) [ inl w ↦ (let u = (n x).0 w in (u.0, inl u.1)) | inr w ↦ (w.0, inr w.1) ],
   λ w. elim w.1 [ inl a ↦ (g x).1 (inl ((n x).1 (w.0, a))) | inr a ↦ (g x).1 (inr (w.0, a)) ],

@@ -1,6 +1,7 @@
 -- The flags of a heap in plain lists. They speak of how many objects there are and of which are freed, and of nothing
 -- else; so a write to a field or a slot leaves them right, and a further object has its flag up.
-use Rattle.std.proofs.Common.{◌≡◌, ℕ, zero, suc, ◌+◌, ◌-◌, ◌<◌, ◌≤◌, ◌↔◌, ◌⊎◌, inl, inr, Bool, true, false, not, ◌&&◌, List, [], ◌∷◌, ◌++◌, length, set, Some, IsTrue, refl, sym, ap, subst, ◌∙◌, arith, length-append}
+use Rattle.std.proofs.Common.{◌≡◌, ℕ, zero, suc, ◌+◌, ◌-◌, ◌<◌, ◌≤◌, ◌↔◌, ◌⊎◌, inl, inr, Bool, true, false, not, ◌&&◌, List, [], ◌∷◌, ◌++◌, length, set, Some, IsTrue, refl, sym, ap, subst, ◌∙◌, arith}
+use Rattle.std.proofs.Common.{length-append}
 use Rattle.std.specs.Prelude.{Contains, All, slice_get, nat_le}
 use Rattle.std.proofs.Math.ListN.{length-set}
 use Rattle.std.proofs.lemmas.Bool.{eqb-true, leb-true, le-leb}
@@ -20,7 +21,8 @@ le_or_lt : (a b : ℕ) → (a ≤ b) ⊎ (b < a)
 le_or_lt a b = grind arith
 
 -- a heap with as many objects, of which the same are freed
-pub IsFlagged-as : (h k : Heap) (flags : List Bool) → IsFlagged h flags → length k.fields ≡ length h.fields → k.freed ≡ h.freed → length k.vars ≡ length h.vars → length k.statics ≡ length h.statics → IsFlagged k flags
+pub IsFlagged-as : (h k : Heap) (flags : List Bool) → IsFlagged h flags → length k.fields ≡ length h.fields
+    → k.freed ≡ h.freed → length k.vars ≡ length h.vars → length k.statics ≡ length h.statics → IsFlagged k flags
 IsFlagged-as h k flags f len gone vars statics = record {
   most = omega (arith, f.most);
   vars = vars ∙ f.vars;
@@ -32,7 +34,8 @@ IsFlagged-as h k flags f len gone vars statics = record {
 }
 
 -- a further object
-pub IsFlagged-more : (h k : Heap) (flags more : List Bool) → IsFlagged h flags → length h.fields < MOST → length k.fields ≡ length h.fields + 1 → k.freed ≡ h.freed → k.vars ≡ h.vars → k.statics ≡ h.statics → more ≡ flags ++ true ∷ [] → IsFlagged k more
+pub IsFlagged-more : (h k : Heap) (flags more : List Bool) → IsFlagged h flags → length h.fields < MOST → length k.fields ≡ length h.fields + 1
+    → k.freed ≡ h.freed → k.vars ≡ h.vars → k.statics ≡ h.statics → more ≡ flags ++ true ∷ [] → IsFlagged k more
 IsFlagged-more h k flags more f few len gone vars statics e = record {
   most = omega (arith, few, len);
   vars = ap length vars ∙ f.vars;
@@ -110,7 +113,8 @@ same-test P false true f g = f.1 (g.0 refl)
 same-test P false false f g = refl
 
 -- the heap with further objects freed
-pub IsFlagged-freed : (h k : Heap) (flags down : List Bool) (xs : List ℕ) → IsFlagged h flags → All (IsMade h) xs → Lowers xs flags down → length k.fields ≡ length h.fields → k.freed ≡ h.freed ++ xs → k.vars ≡ h.vars → k.statics ≡ h.statics → IsFlagged k down
+pub IsFlagged-freed : (h k : Heap) (flags down : List Bool) (xs : List ℕ) → IsFlagged h flags → All (IsMade h) xs → Lowers xs flags down
+    → length k.fields ≡ length h.fields → k.freed ≡ h.freed ++ xs → k.vars ≡ h.vars → k.statics ≡ h.statics → IsFlagged k down
 IsFlagged-freed h k flags down xs f made low len gone vars statics = record {
   most = omega (arith, f.most, len);
   vars = ap length vars ∙ f.vars;

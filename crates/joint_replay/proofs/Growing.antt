@@ -1,5 +1,6 @@
 -- An event of the peers, as one of the joint state: no peer is freed, and the handles that it issues get their flags.
-use Rattle.std.proofs.Common.{◌≡◌, ◌≤◌, ℕ, Bool, true, false, List, [], ◌∷◌, ◌++◌, map, length, Option, Some, None, Result, Ok, Err, refl, sym, ap, subst, ◌∙◌, drop, replicate, arith, length-append, if◌then◌else◌}
+use Rattle.std.proofs.Common.{◌≡◌, ◌≤◌, ℕ, Bool, true, false, List, [], ◌∷◌, ◌++◌, map, length, Option, Some, None, Result, Ok, Err, refl, sym, ap, subst, ◌∙◌, drop, replicate, arith, length-append}
+use Rattle.std.proofs.Common.{if◌then◌else◌}
 use Rattle.std.specs.Prelude.{IfOk, OnErr, ◌||◌, slice_set}
 use Rattle.std.proofs.Math.Seq.{drop-length}
 use Rattle.std.proofs.lemmas.List.{append-nil}
@@ -9,7 +10,8 @@ use Rattle.joint_machine.specs.declared.events.Reply.{Reply}
 use Rattle.joint_machine.specs.declared.events.Reply.TheVariants as says
 use Rattle.joint_machine.specs.Heaps.{Answered, answer, slot, is_full, fields_of, with_var, next_number}
 use Rattle.joint_machine.specs.Joint.{Joint, JointMarking}
-use Rattle.joint_machine.specs.Peers.{Peers, Strength, held, raw, strong, sort_of, next_handle, handle_name, peer_name, with_handle, with_peer, handles_full, issued_since, peer_made, peer_read, landed, pair_made, peer_gripped, gripped, name_given, globalised}
+use Rattle.joint_machine.specs.Peers.{Peers, Strength, held, raw, strong, sort_of, next_handle, handle_name, peer_name, with_handle, with_peer, handles_full, issued_since, peer_made, peer_read}
+use Rattle.joint_machine.specs.Peers.{landed, pair_made, peer_gripped, gripped, name_given, globalised}
 use Rattle.joint_machine.specs.Run.{on_peers}
 use Rattle.joint_replay.specs.declared.state.Verdict.{Verdict}
 use Rattle.joint_replay.specs.declared.state.Verdict.TheVariants.{Lawful, Unlawful}
@@ -34,7 +36,8 @@ pub stored-then : (p q : Peers) (m : Option JointMarking) (a : Answered Peers) (
 stored-then p q m a reply Lawful g d k = subst (λ z. KeepsStored z m) (sym d.state) (stored-kept p a.state m g k)
 stored-then p q m a reply Unlawful g d k = subst (λ z. KeepsStored z m) (sym d.1) k
 
-pub stored-after : {E : Type 0} (p q : Peers) (m : Option JointMarking) (a : Answered Peers) (reply : Reply) (r : Result Verdict E) → Grows p a.state → IfOk r (λ d. Decides (Gives a reply) d p q) → OnErr r (q ≡ p) → KeepsStored p m → KeepsStored q m
+pub stored-after : {E : Type 0} (p q : Peers) (m : Option JointMarking) (a : Answered Peers) (reply : Reply) (r : Result Verdict E)
+    → Grows p a.state → IfOk r (λ d. Decides (Gives a reply) d p q) → OnErr r (q ≡ p) → KeepsStored p m → KeepsStored q m
 stored-after p q m a reply (Ok v) g d e k = stored-then p q m a reply v g d k
 stored-after p q m a reply (Err x) g d e k = subst (λ z. KeepsStored z m) (sym e) k
 
@@ -47,14 +50,25 @@ same-flags : (p : Peers) (flags next : List Bool) → Flags p p flags next → n
 same-flags p flags next f = (let n = drop-length p.issued in rw n at f) ∙ append-nil flags
 
 -- the verdict on an event of the peers is one on the joint state
-pub on-peers : (i : Joint) (a : Answered Peers) (reply : Reply) (q : Peers) (next : List Bool) (d : Verdict) → Flags i.graph.peers q i.graph.removed next → Decides (Gives a reply) d i.graph.peers q → Decides (Gives (on_peers i a) reply) d i (with_peers i q next)
-on-peers i a reply q next Lawful f d = record { replies = d.replies; state = ap (with_peers i q) f ∙ ap (λ (z : Peers). with_peers i z (i.graph.removed ++ map (λ x. false) (issued_since i.graph.peers z))) d.state }
-on-peers i a reply q next Unlawful f d = (λ n s. d.0 a.state (record { replies = s.replies; state = refl }), (let g : Flags i.graph.peers i.graph.peers i.graph.removed next = rw d.1 at f in ap (λ (z : Peers). with_peers i z next) d.1 ∙ ap (with_peers i i.graph.peers) (same-flags i.graph.peers i.graph.removed next g)))
+pub on-peers : (i : Joint) (a : Answered Peers) (reply : Reply) (q : Peers) (next : List Bool) (d : Verdict) → Flags i.graph.peers q i.graph.removed next
+    → Decides (Gives a reply) d i.graph.peers q → Decides (Gives (on_peers i a) reply) d i (with_peers i q next)
+on-peers i a reply q next Lawful f d = record {
+  replies = d.replies;
+  state = ap (with_peers i q) f
+      ∙ ap (λ (z : Peers). with_peers i z (i.graph.removed ++ map (λ x. false) (issued_since i.graph.peers z))) d.state;
+}
+on-peers i a reply q next Unlawful f d = (
+  λ n s. d.0 a.state (record { replies = s.replies; state = refl }),
+  (let g : Flags i.graph.peers i.graph.peers i.graph.removed next = rw d.1 at f in ap (λ (z : Peers). with_peers i z next) d.1
+      ∙ ap (with_peers i i.graph.peers) (same-flags i.graph.peers i.graph.removed next g)),
+)
 
 -- without memory nothing moves
-pub err-peers : {E : Type 0} (i : Joint) (q : Peers) (next : List Bool) (r : Result Verdict E) → Flags i.graph.peers q i.graph.removed next → OnErr r (q ≡ i.graph.peers) → OnErr r (with_peers i q next ≡ i)
+pub err-peers : {E : Type 0} (i : Joint) (q : Peers) (next : List Bool) (r : Result Verdict E)
+    → Flags i.graph.peers q i.graph.removed next → OnErr r (q ≡ i.graph.peers) → OnErr r (with_peers i q next ≡ i)
 err-peers i q next (Ok d) f e = e
-err-peers i q next (Err x) f e = (let g : Flags i.graph.peers i.graph.peers i.graph.removed next = rw e at f in ap (λ (z : Peers). with_peers i z next) e ∙ ap (with_peers i i.graph.peers) (same-flags i.graph.peers i.graph.removed next g))
+err-peers i q next (Err x) f e = (let g : Flags i.graph.peers i.graph.peers i.graph.removed next = rw e at f in ap (λ (z : Peers). with_peers i z next) e
+    ∙ ap (with_peers i i.graph.peers) (same-flags i.graph.peers i.graph.removed next g))
 
 pub err-peers-same : {E : Type 0} (i : Joint) (q : Peers) (r : Result Verdict E) → OnErr r (q ≡ i.graph.peers) → OnErr r (with_peers i q i.graph.removed ≡ i)
 err-peers-same i q (Ok d) e = e
@@ -64,14 +78,16 @@ err-peers-same i q (Err x) e = ap (λ (z : Peers). with_peers i z i.graph.remove
 pub Grows-pair_made : (s : Peers) (sort : Sort) (n : ℕ) → Grows s (pair_made s sort n).state
 Grows-pair_made s sort n = by (is_full s.heap.fields || handles_full s)
   where
-    by : (b : Bool) → Grows s (if b then answer says.Full s else answer (says.Made record { 0 = next_number s.heap } record { 0 = next_handle s }) (with_handle (with_peer s sort n) (next_number s.heap) held strong)).state
+    by : (b : Bool) → Grows s (if b then answer says.Full s else answer (says.Made record { 0 = next_number s.heap } record { 0 = next_handle s })
+        (with_handle (with_peer s sort n) (next_number s.heap) held strong)).state
     by true = Grows-refl s
     by false = record { made = omega (arith, length-append s.heap.fields (replicate n None ∷ [])); freed = refl }
 
 pub Grows-gripped : (s : Peers) (x : ℕ) → Grows s (gripped s x).state
 Grows-gripped s x = by (slot s.heap.statics x)
   where
-    got : (p : ℕ) (b : Bool) → Grows s (if b then answer says.Full s else answer (says.Gripped record { 0 = p } record { 0 = next_handle s } (sort_of s p) (length (fields_of s.heap p))) (with_handle s p held strong)).state
+    got : (p : ℕ) (b : Bool) → Grows s (if b then answer says.Full s else answer
+        (says.Gripped record { 0 = p } record { 0 = next_handle s } (sort_of s p) (length (fields_of s.heap p))) (with_handle s p held strong)).state
     got p true = Grows-refl s
     got p false = record { made = omega arith; freed = refl }
 
@@ -82,7 +98,8 @@ Grows-gripped s x = by (slot s.heap.statics x)
 pub Grows-globalised : (s : Peers) (g v : ℕ) (strength : Strength) → Grows s (globalised s g v strength).state
 Grows-globalised s g v strength = by (slot s.heap.vars v)
   where
-    got : (p : ℕ) (b : Bool) → Grows s (if b then answer says.Full s else let grown = with_handle s p raw strength in answer (handle_name (next_handle s)) (record grown { names = slice_set s.names g (Some (next_handle s)) })).state
+    got : (p : ℕ) (b : Bool) → Grows s (if b then answer says.Full s else let grown = with_handle s p raw strength in
+        answer (handle_name (next_handle s)) (record grown { names = slice_set s.names g (Some (next_handle s)) })).state
     got p true = Grows-refl s
     got p false = record { made = omega arith; freed = refl }
 
@@ -101,14 +118,16 @@ Issues-none p q flags e = sym (append-nil flags) ∙ ap (λ l. flags ++ map (λ 
 pub Grows-peer_made : (s : Peers) (v n : ℕ) → Grows s (peer_made s v n).state
 Grows-peer_made s v n = by (is_full s.heap.fields)
   where
-    by : (b : Bool) → Grows s (if b then answer says.Full s else let grown = with_peer s Framework n in answer (peer_name (next_number s.heap)) (record grown { heap = with_var grown.heap v (Some (next_number s.heap)) })).state
+    by : (b : Bool) → Grows s (if b then answer says.Full s else let grown = with_peer s Framework n in
+        answer (peer_name (next_number s.heap)) (record grown { heap = with_var grown.heap v (Some (next_number s.heap)) })).state
     by true = Grows-refl s
     by false = record { made = omega (arith, length-append s.heap.fields (replicate n None ∷ [])); freed = refl }
 
 pub issued-peer_made : (s : Peers) (v n : ℕ) → (peer_made s v n).state.issued ≡ s.issued
 issued-peer_made s v n = by (is_full s.heap.fields)
   where
-    by : (b : Bool) → (if b then answer says.Full s else let grown = with_peer s Framework n in answer (peer_name (next_number s.heap)) (record grown { heap = with_var grown.heap v (Some (next_number s.heap)) })).state.issued ≡ s.issued
+    by : (b : Bool) → (if b then answer says.Full s else let grown = with_peer s Framework n in
+        answer (peer_name (next_number s.heap)) (record grown { heap = with_var grown.heap v (Some (next_number s.heap)) })).state.issued ≡ s.issued
     by true = refl
     by false = refl
 
@@ -129,7 +148,8 @@ issued-peer_read s v None = refl
 issued-peer_read s v (Some p) = refl
 
 -- a verdict on an event that issues none
-pub on-peers-same : (i : Joint) (a : Answered Peers) (reply : Reply) (q : Peers) (d : Verdict) → a.state.issued ≡ i.graph.peers.issued → Decides (Gives a reply) d i.graph.peers q → Decides (Gives (on_peers i a) reply) d i (with_peers i q i.graph.removed)
+pub on-peers-same : (i : Joint) (a : Answered Peers) (reply : Reply) (q : Peers) (d : Verdict) → a.state.issued ≡ i.graph.peers.issued
+    → Decides (Gives a reply) d i.graph.peers q → Decides (Gives (on_peers i a) reply) d i (with_peers i q i.graph.removed)
 on-peers-same i a reply q d e x = on-peers i a reply q i.graph.removed d (Issues-none i.graph.peers q i.graph.removed (by d x)) x
   where
     by : (d : Verdict) → Decides (Gives a reply) d i.graph.peers q → q.issued ≡ i.graph.peers.issued

@@ -19,11 +19,13 @@ stretch-next f list first i place x now next e at so n =
     n ∙ (ap (λ l. l ++ f x ∷ []) so ∙ sym (ap (map f) (take-next (drop first list) i x here) ∙ map-append f (take i (drop first list)) (x ∷ [])))
 
 -- all places were read
-pub stretch-read : {X : Type 0} (f : X → ℕ) (list : List X) (first count i : ℕ) (now : List ℕ) → i ≡ count → length now ≡ i → now ≡ map f (take i (drop first list)) → (now ≡ map f (take count (drop first list))) × (length now ≡ count)
+pub stretch-read : {X : Type 0} (f : X → ℕ) (list : List X) (first count i : ℕ) (now : List ℕ) → i ≡ count → length now ≡ i
+    → now ≡ map f (take i (drop first list)) → (now ≡ map f (take count (drop first list))) × (length now ≡ count)
 stretch-read f list first count i now e l r = (subst (λ n. now ≡ map f (take n (drop first list))) e r, l ∙ e)
 
 -- one number more was put
-pub map-next : {X : Type 0} (f : X → ℕ) (xs : List ℕ) (i : ℕ) (x : X) (now next : List X) → map f now ≡ take i xs → i < length xs → f x ≡ get_or xs i 0 → next ≡ now ++ x ∷ [] → map f next ≡ take (i + 1) xs
+pub map-next : {X : Type 0} (f : X → ℕ) (xs : List ℕ) (i : ℕ) (x : X) (now next : List X) → map f now ≡ take i xs
+    → i < length xs → f x ≡ get_or xs i 0 → next ≡ now ++ x ∷ [] → map f next ≡ take (i + 1) xs
 map-next f xs i x now next so h e n =
     let here : slice_get xs i ≡ Some (f x) = slice_get-get_or xs i 0 h ∙ ap Some (sym e) in
     ap (map f) n ∙ (map-append f now (x ∷ []) ∙ (ap (λ l. l ++ f x ∷ []) so ∙ sym (take-next xs i (f x) here)))

@@ -31,7 +31,8 @@ some-or-none test (x ∷ xs) = ⊎_elim
     (λ f. ⊎_elim (λ w. inl (w.0, Contains-there w.0 x xs w.1, w.2)) (λ n. inr (All-cons (λ m. test m ≡ false) x xs f n)) (some-or-none test xs))
     (cases_Bool (test x))
 
-pub candidate-found : (s : Managed) (c : OpenCycle) (h : ℕ) (b : Bool) → s.cycle ≡ Some c → All (IsMade s.heap) c.candidates → IsTrue b ↔ All (λ m. is_that_handle (handle_of s m) h ≡ false) c.candidates → IsTrue (not b) ↔ HasCandidate s h
+pub candidate-found : (s : Managed) (c : OpenCycle) (h : ℕ) (b : Bool) → s.cycle ≡ Some c → All (IsMade s.heap) c.candidates
+    → IsTrue b ↔ All (λ m. is_that_handle (handle_of s m) h ≡ false) c.candidates → IsTrue (not b) ↔ HasCandidate s h
 candidate-found s c h b e made w = (λ t. found t (some-or-none (λ m. is_that_handle (handle_of s m) h) c.candidates), λ k. passes b refl k)
   where
     not-both : (b : Bool) → not b ≡ true → b ≡ true → ⊥
@@ -57,11 +58,24 @@ may-restore j h None w k e = λ reply next y. none_some y.peer (e ∙ y.leads)
 may-restore j h (Some p) w k e = record { candidate = w; kept = k; leads = sym e }
 
 -- a verdict on the answer is one on the step
-pub restored-decided : (j : Joint) (h p : ℕ) (reply : Reply) (d : Verdict) (new : Joint) → MayRestore j h p → Decides (Gives (joint_restored j h p) reply) d j new → Decides (JointRestore j h reply) d j new
+pub restored-decided : (j : Joint) (h p : ℕ) (reply : Reply) (d : Verdict) (new : Joint) → MayRestore j h p
+    → Decides (Gives (joint_restored j h p) reply) d j new → Decides (JointRestore j h reply) d j new
 restored-decided j h p reply d new m = Decides-as (Gives (joint_restored j h p) reply) (JointRestore j h reply) to from d j new
   where
     to : (n : Joint) → Gives (joint_restored j h p) reply n → JointRestore j h reply n
-    to n x = record { cycle = m.candidate.0; open_cycle = m.candidate.1; row = m.candidate.2.0; candidate = m.candidate.2.1; holds = m.candidate.2.2; kept = m.kept; peer = p; leads = m.leads; replies = x.replies; state = x.state }
+    to n x = record {
+      cycle = m.candidate.0;
+      open_cycle = m.candidate.1;
+      row = m.candidate.2.0;
+      candidate = m.candidate.2.1;
+      holds = m.candidate.2.2;
+      kept = m.kept;
+      peer = p;
+      leads = m.leads;
+      replies = x.replies;
+      state = x.state;
+    }
 
     from : (n : Joint) → JointRestore j h reply n → Gives (joint_restored j h p) reply n
-    from n y = (let same : y.peer ≡ p = some-same y.peer p (sym y.leads ∙ m.leads) in record { replies = subst (λ z. reply ≡ (joint_restored j h z).reply) same y.replies; state = subst (λ z. n ≡ (joint_restored j h z).state) same y.state })
+    from n y = (let same : y.peer ≡ p = some-same y.peer p (sym y.leads ∙ m.leads) in
+        record { replies = subst (λ z. reply ≡ (joint_restored j h z).reply) same y.replies; state = subst (λ z. n ≡ (joint_restored j h z).state) same y.state })

@@ -24,7 +24,8 @@ use Rattle.joint_replay.proofs.Cleaning.{live_root-clean, reached-clean}
 use Rattle.joint_replay.proofs.Finding.{live-cleaned, cleaned-live}
 
 -- the managed roots, in another list of the same numbers
-pub numbered-roots : (s : Managed) (xs ys : List ℕ) → ys ≡ xs → ((x : ℕ) → Contains xs x ↔ (IsLive s.heap x × IsNamedOrPinned s.heap s.pins x)) → (x : ℕ) → Contains ys x ↔ (IsLive s.heap x × IsManagedRoot s x)
+pub numbered-roots : (s : Managed) (xs ys : List ℕ) → ys ≡ xs → ((x : ℕ) → Contains xs x ↔ (IsLive s.heap x × IsNamedOrPinned s.heap s.pins x))
+    → (x : ℕ) → Contains ys x ↔ (IsLive s.heap x × IsManagedRoot s x)
 numbered-roots s xs ys same named x = rw same (named x)
 
 -- the objects among them
@@ -99,10 +100,12 @@ dead-clean g dead u p = (
 
 -- such a peer was made
 pub dead-within : (g : Graph) (dead : List PNum) (made : ℕ) → made ≡ length g.peers.heap.fields → AreUnreached (clean_graph g) (peer_numbers dead) → All (λ p. p.0 ≤ made) dead
-dead-within g dead made same u = All-members (λ (p : PNum). p.0 ≤ made) dead (λ p c. (let w = (dead-clean g (peer_numbers dead) u p.0).0 (Contains-map (λ (q : PNum). q.0) dead p c) in omega (arith, same, w.0.made.1)))
+dead-within g dead made same u = All-members (λ (p : PNum). p.0 ≤ made) dead
+    (λ p c. (let w = (dead-clean g (peer_numbers dead) u p.0).0 (Contains-map (λ (q : PNum). q.0) dead p c) in omega (arith, same, w.0.made.1)))
 
 -- one peer more is marked
-pub mark-more : (marks : List Bool) (dead : List PNum) (i : ℕ) (p : PNum) → slice_get dead i ≡ Some p → p.0 < length marks → ((k : ℕ) → HasMark marks k ↔ Contains (peer_numbers (take i dead)) k) → (k : ℕ) → HasMark (set marks p.0 true) k ↔ Contains (peer_numbers (take (i + 1) dead)) k
+pub mark-more : (marks : List Bool) (dead : List PNum) (i : ℕ) (p : PNum) → slice_get dead i ≡ Some p → p.0 < length marks
+    → ((k : ℕ) → HasMark marks k ↔ Contains (peer_numbers (take i dead)) k) → (k : ℕ) → HasMark (set marks p.0 true) k ↔ Contains (peer_numbers (take (i + 1) dead)) k
 mark-more marks dead i p at l before k =
     let more : peer_numbers (take (i + 1) dead) ≡ peer_numbers (take i dead) ++ p.0 ∷ [] = ap peer_numbers (take-next dead i p at) ∙ map-append (λ (q : PNum). q.0) (take i dead) (p ∷ []) in
     rw more (

@@ -33,7 +33,8 @@ use Rattle.joint_replay.proofs.Flags.{is_freed-exact}
 use Rattle.reachability.proofs.Marking.{unmarked_of-exact}
 
 -- what was found is a snapshot
-pub snapshot-found : (s : Managed) (k : ℕ) (freed candidates dead : List ℕ) → s.cycle ≡ None → k ≡ s.cycles + 1 → FindsRows s.heap s.held s.pins freed candidates dead → IsSnapshot s k freed candidates dead
+pub snapshot-found : (s : Managed) (k : ℕ) (freed candidates dead : List ℕ) → s.cycle ≡ None → k ≡ s.cycles + 1
+    → FindsRows s.heap s.held s.pins freed candidates dead → IsSnapshot s k freed candidates dead
 snapshot-found s k freed candidates dead o n f =
     let B : (m : ℕ) → IsBridgeReached s m ↔ IsHandleReached s.heap s.held m = λ m. handle-reached s m in
     record {
@@ -63,7 +64,8 @@ snapshot-found s k freed candidates dead o n f =
 pub found-freed : (h : Heap) (held pins : List (Option ℕ)) (freed candidates dead : List ℕ) → FindsRows h held pins freed candidates dead → All (IsMade h) freed
 found-freed h held pins freed candidates dead f = All-members (IsMade h) freed (λ m c. ((f.frees.exact m).0 c).0.made)
 
-pub found-owed : (h : Heap) (held pins : List (Option ℕ)) (freed candidates dead : List ℕ) (n k : ℕ) → length h.fields ≡ n → FindsRows h held pins freed candidates dead → OwesDead n (Some record { number = k; candidates = candidates; dead = dead })
+pub found-owed : (h : Heap) (held pins : List (Option ℕ)) (freed candidates dead : List ℕ) (n k : ℕ) → length h.fields ≡ n
+    → FindsRows h held pins freed candidates dead → OwesDead n (Some record { number = k; candidates = candidates; dead = dead })
 found-owed h held pins freed candidates dead n k e f = (
   f.leaves.rise,
   All-members (λ m. (1 ≤ m) × (m ≤ n)) dead (λ m c. (let l = ((f.leaves.exact m).0 c).0.made in (l.0, omega (arith, l.1, e)))),
@@ -78,23 +80,32 @@ snap-one s k l f c d g b e x y = (
 )
 
 -- what a snapshot's reply says
-says-snap : (s : Managed) (h : Finished) (reply : Reply) (freed candidates : List ℕ) → named_objects h reply ≡ freed → reply ≡ snap_reply s freed candidates → SaysSnap s.heap h reply freed (length candidates)
-says-snap s h reply freed candidates n e = subst (λ r. named_objects h r ≡ freed → SaysSnap s.heap h r freed (length candidates)) (sym e) (λ w. (refl, record { first = refl; count = refl; named = w })) n
+says-snap : (s : Managed) (h : Finished) (reply : Reply) (freed candidates : List ℕ) → named_objects h reply ≡ freed
+    → reply ≡ snap_reply s freed candidates → SaysSnap s.heap h reply freed (length candidates)
+says-snap s h reply freed candidates n e = subst (λ r. named_objects h r ≡ freed → SaysSnap s.heap h r freed (length candidates))
+    (sym e) (λ w. (refl, record { first = refl; count = refl; named = w })) n
 
 pub span-is : (span : Span) (a b : ℕ) → span.first ≡ a → span.count ≡ b → span ≡ record { first = a; count = b }
 span-is span a b e f = ap (λ x. let s : Span = record { first = x; count = span.count } in s) e ∙ ap (λ y. let s : Span = record { first = a; count = y } in s) f
 
-snap-said : (s : Managed) (h : Finished) (reply : Reply) (freed candidates : List ℕ) → SaysSnap s.heap h reply freed (length candidates) → (named_objects h reply ≡ freed) × (reply ≡ snap_reply s freed candidates)
-snap-said s h (says.Snapped n span) freed candidates w = (w.1.named, ap (λ m. says.Snapped m span) w.0 ∙ ap (says.Snapped (length candidates)) (span-is span (length s.heap.freed) (length freed) w.1.first w.1.count))
+snap-said : (s : Managed) (h : Finished) (reply : Reply) (freed candidates : List ℕ)
+    → SaysSnap s.heap h reply freed (length candidates) → (named_objects h reply ≡ freed) × (reply ≡ snap_reply s freed candidates)
+snap-said s h (says.Snapped n span) freed candidates w = (
+  w.1.named,
+  ap (λ m. says.Snapped m span) w.0
+      ∙ ap (says.Snapped (length candidates)) (span-is span (length s.heap.freed) (length freed) w.1.first w.1.count),
+)
 snap-said s h _ freed candidates w = absurd w
 
 -- a reply that says something else is no snapshot's
-pub snap-no : (s : Managed) (h : Finished) (reply : Reply) (k l : ℕ) (freed candidates dead : List ℕ) → IsSnapshot s k freed candidates dead → (SaysSnap s.heap h reply freed (length candidates) → ⊥) → (next : Managed) → SnapsManaged s l (named_objects h reply) reply next → ⊥
+pub snap-no : (s : Managed) (h : Finished) (reply : Reply) (k l : ℕ) (freed candidates dead : List ℕ) → IsSnapshot s k freed candidates dead
+    → (SaysSnap s.heap h reply freed (length candidates) → ⊥) → (next : Managed) → SnapsManaged s l (named_objects h reply) reply next → ⊥
 snap-no s h reply k l freed candidates dead x wrong next y =
     let one = snap-one s l k (named_objects h reply) y.candidates y.dead freed candidates dead y.snapshot x in
     wrong (says-snap s h reply freed candidates one.0 (y.replies ∙ (ap (λ f. snap_reply s f y.candidates) one.0 ∙ ap (snap_reply s freed) one.1)))
 
-pub snap-yes : (s : Managed) (h : Finished) (reply : Reply) (k : ℕ) (freed candidates dead : List ℕ) (next : Managed) → IsSnapshot s k freed candidates dead → SaysSnap s.heap h reply freed (length candidates) → next ≡ with_snapshot s freed candidates dead → SnapsManaged s k (named_objects h reply) reply next
+pub snap-yes : (s : Managed) (h : Finished) (reply : Reply) (k : ℕ) (freed candidates dead : List ℕ) (next : Managed) → IsSnapshot s k freed candidates dead
+    → SaysSnap s.heap h reply freed (length candidates) → next ≡ with_snapshot s freed candidates dead → SnapsManaged s k (named_objects h reply) reply next
 snap-yes s h reply k freed candidates dead next x w e =
     let r = snap-said s h reply freed candidates w in
     subst (λ f. SnapsManaged s k f reply next) (sym r.0) (record { candidates = candidates; dead = dead; snapshot = x; replies = r.1; state = e })
@@ -106,11 +117,13 @@ keeps-from s p m e = by (handle_of s m) refl e
     unfreed : (q : ℕ) → not (is_freed p.heap q) ≡ true → Contains p.heap.freed q → ⊥
     unfreed q n c = (let t : is_freed p.heap q ≡ true = (is_freed-exact p.heap q).1 c in let f : false ≡ true = rw t at n in cc)
 
-    then_peer : (h : ℕ) (o : Option ℕ) → peer_of p.issued h ≡ o → elim o [ None ↦ false | Some q ↦ not (is_freed p.heap q) ] ≡ true → (q : ℕ) × (peer_of p.issued h ≡ Some q) × (Contains p.heap.freed q → ⊥)
+    then_peer : (h : ℕ) (o : Option ℕ) → peer_of p.issued h ≡ o → elim o [ None ↦ false | Some q ↦ not (is_freed p.heap q) ] ≡ true
+        → (q : ℕ) × (peer_of p.issued h ≡ Some q) × (Contains p.heap.freed q → ⊥)
     then_peer h None l n = absurd (true-false false n refl)
     then_peer h (Some q) l n = (q, l, unfreed q n)
 
-    by : (o : Option ℕ) → handle_of s m ≡ o → elim o [ None ↦ false | Some h ↦ elim (peer_of p.issued h) [ None ↦ false | Some q ↦ not (is_freed p.heap q) ] ] ≡ true → (h : ℕ) × (handle_of s m ≡ Some h) × ((q : ℕ) × (peer_of p.issued h ≡ Some q) × (Contains p.heap.freed q → ⊥))
+    by : (o : Option ℕ) → handle_of s m ≡ o → elim o [ None ↦ false | Some h ↦ elim (peer_of p.issued h) [ None ↦ false | Some q ↦ not (is_freed p.heap q) ] ] ≡ true
+        → (h : ℕ) × (handle_of s m ≡ Some h) × ((q : ℕ) × (peer_of p.issued h ≡ Some q) × (Contains p.heap.freed q → ⊥))
     by None l n = absurd (true-false false n refl)
     by (Some h) l n = (h, l, then_peer h (peer_of p.issued h) refl n)
 
@@ -131,14 +144,23 @@ holds-made s m h made e = by (is_freed s.heap m) refl e
     by true t n = (let f : None ≡ Some h = n in cc)
     by false t n = record { live = record { made = made; kept = λ c. true-false (is_freed s.heap m) ((is_freed-exact s.heap m).1 c) t }; held = place (numbered_at s.held m) n }
 
-pub kept-exact : (j : Joint) (c : OpenCycle) (kept : List ℕ) → kept ≡ filter (keeps j.graph.managed j.graph.peers) c.candidates → All (IsMade j.graph.managed.heap) c.candidates → (m : ℕ) → Contains kept m ↔ IsKept j c m
+pub kept-exact : (j : Joint) (c : OpenCycle) (kept : List ℕ) → kept ≡ filter (keeps j.graph.managed j.graph.peers) c.candidates
+    → All (IsMade j.graph.managed.heap) c.candidates → (m : ℕ) → Contains kept m ↔ IsKept j c m
 kept-exact j c kept e made m = (
   λ k. (
       let w = Contains-filter_from (keeps j.graph.managed j.graph.peers) c.candidates m (subst (λ z. Contains z m) e k) in
       let r = keeps-from j.graph.managed j.graph.peers m w.1 in
-      record { candidate = w.0; handle = r.0; holds = holds-made j.graph.managed m r.0 (All-contains (IsMade j.graph.managed.heap) c.candidates m made w.0) r.1; peer = r.2.0; leads = r.2.1; unfreed = r.2.2 }
+      record {
+        candidate = w.0;
+        handle = r.0;
+        holds = holds-made j.graph.managed m r.0 (All-contains (IsMade j.graph.managed.heap) c.candidates m made w.0) r.1;
+        peer = r.2.0;
+        leads = r.2.1;
+        unfreed = r.2.2;
+      }
       ),
-  λ k. subst (λ z. Contains z m) (sym e) (Contains-filter_to (keeps j.graph.managed j.graph.peers) c.candidates m k.candidate (keeps-to j.graph.managed j.graph.peers m k.handle k.peer (Holds-handle_of j.graph.managed m k.handle k.holds) k.leads k.unfreed)),
+  λ k. subst (λ z. Contains z m) (sym e) (Contains-filter_to (keeps j.graph.managed j.graph.peers) c.candidates m k.candidate
+      (keeps-to j.graph.managed j.graph.peers m k.handle k.peer (Holds-handle_of j.graph.managed m k.handle k.holds) k.leads k.unfreed)),
 )
 
 -- what a resolution frees, by the marks of a marking from the kept candidates
@@ -165,7 +187,8 @@ settles-from j k c freed marks o owes m f =
     }
 
 pub kept-within : (s : Managed) (p : Peers) (candidates kept : List ℕ) → kept ≡ filter (keeps s p) candidates → All (IsMade s.heap) candidates → All (λ y. y < length s.heap.fields + 1) kept
-kept-within s p candidates kept e made = All-members (λ y. y < length s.heap.fields + 1) kept (λ y w. (let l = All-contains (IsMade s.heap) candidates y made (Contains-filter_from (keeps s p) candidates y (subst (λ z. Contains z y) e w)).0 in omega (arith, l.1)))
+kept-within s p candidates kept e made = All-members (λ y. y < length s.heap.fields + 1) kept
+    (λ y w. (let l = All-contains (IsMade s.heap) candidates y made (Contains-filter_from (keeps s p) candidates y (subst (λ z. Contains z y) e w)).0 in omega (arith, l.1)))
 
 resolution-one : (j : Joint) (k l : ℕ) (named freed : List ℕ) (reply : Reply) (next : Joint) → Settles j k freed → JointResolve j l named reply next → named ≡ freed
 resolution-one j k l named freed reply next x y =
@@ -178,7 +201,8 @@ pub says-freed : (s : Managed) (h : Finished) (reply : Reply) (freed : List ℕ)
 says-freed s h reply freed n e = subst (λ r. named_objects h r ≡ freed → SaysFreed s.heap h r freed) (sym e) (λ w. record { first = refl; count = refl; named = w }) n
 
 -- a reply that says something else is no resolution's
-pub resolve-no : (j : Joint) (h : Finished) (reply : Reply) (k : ℕ) (freed : List ℕ) → Settles j k freed → (SaysFreed j.graph.managed.heap h reply freed → ⊥) → (next : Joint) → JointResolve j k (named_objects h reply) reply next → ⊥
+pub resolve-no : (j : Joint) (h : Finished) (reply : Reply) (k : ℕ) (freed : List ℕ) → Settles j k freed
+    → (SaysFreed j.graph.managed.heap h reply freed → ⊥) → (next : Joint) → JointResolve j k (named_objects h reply) reply next → ⊥
 resolve-no j h reply k freed x wrong next y =
     let one = resolution-one j k k (named_objects h reply) freed reply next x y in
     wrong (says-freed j.graph.managed h reply freed one (y.replies ∙ ap (resolve_reply j.graph.managed) one))
@@ -188,14 +212,16 @@ freed-said s h (says.Freed span) freed w = (w.named, ap says.Freed (span-is span
 freed-said s h _ freed w = absurd w
 
 -- a reply that says so is the resolution's
-pub resolve-yes : (j : Joint) (h : Finished) (reply : Reply) (k : ℕ) (freed : List ℕ) → AreAnswered j → Settles j k freed → SaysFreed j.graph.managed.heap h reply freed → JointResolve j k (named_objects h reply) reply (closed j freed)
+pub resolve-yes : (j : Joint) (h : Finished) (reply : Reply) (k : ℕ) (freed : List ℕ) → AreAnswered j → Settles j k freed
+    → SaysFreed j.graph.managed.heap h reply freed → JointResolve j k (named_objects h reply) reply (closed j freed)
 resolve-yes j h reply k freed answered x w =
     let r = freed-said j.graph.managed h reply freed w in
     subst (λ f. JointResolve j k f reply (closed j freed)) (sym r.0)
     (record { cycle = x.cycle; open_cycle = x.open_cycle; answers = given_in j.answers; all_answered = all-answered j answered; resolution = x.resolution; replies = r.1; state = refl })
 
 -- a verdict on the managed snapshot is one on the joint one
-pub snap-decided : (j : Joint) (k : ℕ) (named : List ℕ) (reply : Reply) (d : Verdict) (m : Managed) (answers : List (Option Answer)) → Decides (SnapsManaged j.graph.managed k named reply) d j.graph.managed m → Awaits d (candidates_of m) j.answers answers
+pub snap-decided : (j : Joint) (k : ℕ) (named : List ℕ) (reply : Reply) (d : Verdict) (m : Managed) (answers : List (Option Answer))
+    → Decides (SnapsManaged j.graph.managed k named reply) d j.graph.managed m → Awaits d (candidates_of m) j.answers answers
     → Decides (SnapsJoint j k named reply) d j (record (with_managed j m) { answers = answers })
 snap-decided j k named reply Lawful m answers x w = record {
   candidates = x.candidates;
@@ -203,7 +229,8 @@ snap-decided j k named reply Lawful m answers x w = record {
   snap = record {
     snapshot = x.snapshot;
     replies = x.replies;
-    state = ap (λ (z : List (Option Answer)). record (with_managed j m) { answers = z }) w ∙ ap (λ (z : Managed). record (with_managed j z) { answers = replicate (length (candidates_of z)) None }) x.state;
+    state = ap (λ (z : List (Option Answer)). record (with_managed j m) { answers = z }) w
+        ∙ ap (λ (z : Managed). record (with_managed j z) { answers = replicate (length (candidates_of z)) None }) x.state;
   };
 }
 snap-decided j k named reply Unlawful m answers x w = (

@@ -28,7 +28,8 @@ use Rattle.joint_replay.proofs.Verdicts.{Decides-as}
 unrefused : (t : Thread) (m : JointMarking) → (t ≡ C) ⊎ (t ≡ m.by) → IsPeerThread t → (t ≡ m.by → ⊥) → ⊥
 unrefused t m allowed thread other = elim allowed [ inl c ↦ subst IsPeerThread c thread | inr b ↦ other b ]
 
-ends-from : (j : Joint) (t : Thread) (reply : Reply) (freed : List ℕ) (n : Joint) (mk : Option JointMarking) → j.marking ≡ mk → MayEndOpen j t → JointSweep j mk t reply (sweep_of freed) n → SweepsJoint j t freed reply n
+ends-from : (j : Joint) (t : Thread) (reply : Reply) (freed : List ℕ) (n : Joint) (mk : Option JointMarking)
+    → j.marking ≡ mk → MayEndOpen j t → JointSweep j mk t reply (sweep_of freed) n → SweepsJoint j t freed reply n
 ends-from j t reply freed n None none may s = (let f : Some may.marking ≡ None = sym may.opened ∙ none in cc)
 ends-from j t reply freed n (Some m) is_open may s =
     let same : may.marking ≡ m = some-same may.marking m (sym may.opened ∙ is_open) in
@@ -38,7 +39,8 @@ ends-from j t reply freed n (Some m) is_open may s =
     ]
 
 -- the caller may end the open marking
-pub sweep-ends : (j : Joint) (t : Thread) (reply : Reply) (freed : List ℕ) (d : Verdict) (new : Joint) → MayEndOpen j t → Decides (SweepsJoint j t freed reply) d j new → Decides (JointSweep j j.marking t reply (sweep_of freed)) d j new
+pub sweep-ends : (j : Joint) (t : Thread) (reply : Reply) (freed : List ℕ) (d : Verdict) (new : Joint) → MayEndOpen j t
+    → Decides (SweepsJoint j t freed reply) d j new → Decides (JointSweep j j.marking t reply (sweep_of freed)) d j new
 sweep-ends j t reply freed d new may = Decides-as (SweepsJoint j t freed reply) (JointSweep j j.marking t reply (sweep_of freed))
     (λ n s. subst (λ (mk : Option JointMarking). JointSweep j mk t reply (sweep_of freed) n) (sym s.opened) (inl s.sweep))
     (λ n s. ends-from j t reply freed n j.marking refl may s)
@@ -46,7 +48,8 @@ sweep-ends j t reply freed d new may = Decides-as (SweepsJoint j t freed reply) 
 
 -- the reply of a sweep
 sweep-said : (g : Heap) (h : Finished) (reply : Reply) (n : ℕ) → SaysSwept g h reply n → reply ≡ says.Swept record { 0 = n } record { first = length g.freed; count = length (named_peers h reply) }
-sweep-said g h (says.Swept k span) n w = ap (λ (x : ℕ). says.Swept record { 0 = x } span) w.0 ∙ ap (says.Swept record { 0 = n }) (span-is span (length g.freed) (length (peer_numbers (stretch h.freed_peers span))) w.1 (sym w.2))
+sweep-said g h (says.Swept k span) n w = ap (λ (x : ℕ). says.Swept record { 0 = x } span) w.0
+    ∙ ap (says.Swept record { 0 = n }) (span-is span (length g.freed) (length (peer_numbers (stretch h.freed_peers span))) w.1 (sym w.2))
 sweep-said g h _ n w = absurd w
 
 same-marking : (j : Joint) (a b : JointMarking) → j.marking ≡ Some a → j.marking ≡ Some b → a ≡ b
@@ -67,7 +70,8 @@ sweep-dead j m freed reply dead is_open keeps exact w = All-members (HasMark dea
 ))
 
 -- what the tests of a sweep say together
-pub may-sweep : (j : Joint) (m : JointMarking) (h : Finished) (reply : Reply) (freed : List ℕ) (dead : List Bool) → j.marking ≡ Some m → freed ≡ named_peers h reply → SaysSwept j.graph.peers.heap h reply m.number
+pub may-sweep : (j : Joint) (m : JointMarking) (h : Finished) (reply : Reply) (freed : List ℕ) (dead : List Bool)
+    → j.marking ≡ Some m → freed ≡ named_peers h reply → SaysSwept j.graph.peers.heap h reply m.number
     → Rises freed → All (IsStored m) freed → All (HasMark dead) freed → ((p : ℕ) → HasMark dead p ↔ (IsLive j.graph.peers.heap p × (IsReached j (peer p) → ⊥))) → MaySweep j freed reply
 may-sweep j m h reply freed dead is_open named said rise stored marked exact = record {
   marking = m;
@@ -75,9 +79,11 @@ may-sweep j m h reply freed dead is_open named said rise stored marked exact = r
   rise = rise;
   stored = stored;
   unreached = All-members (λ p. IsReached j (peer p) → ⊥) freed (λ p c. ((exact p).0 (All-contains (HasMark dead) freed p marked c)).1);
-  replies = sweep-said j.graph.peers.heap h reply m.number said ∙ ap (λ (l : List ℕ). says.Swept record { 0 = m.number } record { first = length j.graph.peers.heap.freed; count = length l }) (sym named);
+  replies = sweep-said j.graph.peers.heap h reply m.number said
+      ∙ ap (λ (l : List ℕ). says.Swept record { 0 = m.number } record { first = length j.graph.peers.heap.freed; count = length l }) (sym named);
 }
 
 -- what a sweep frees was made
 pub sweep-made : (j : Joint) (freed : List ℕ) (reply : Reply) → KeepsStored j.graph.peers j.marking → MaySweep j freed reply → All (IsMade j.graph.peers.heap) freed
-sweep-made j freed reply keeps w = All-members (IsMade j.graph.peers.heap) freed (λ p c. (stored-live j.graph.peers j.marking w.marking w.opened keeps p (All-contains (IsStored w.marking) freed p w.stored c)).made)
+sweep-made j freed reply keeps w = All-members (IsMade j.graph.peers.heap) freed
+    (λ p c. (stored-live j.graph.peers j.marking w.marking w.opened keeps p (All-contains (IsStored w.marking) freed p w.stored c)).made)

@@ -9,7 +9,8 @@ use Rattle.joint_machine.proofs.Deciding.{none_some, some-same}
 use Rattle.joint_machine.proofs.HeapLemmas.{Holds-handle_of}
 use Rattle.joint_replay.proofs.Snapping.{holds-made}
 
-pub twin-next : (j : Joint) (p m : ℕ) (hs : List (Option ℕ)) → 1 ≤ m → m ≤ length hs → twin_from j p m (drop (m - 1) hs) ≡ (if is_twin j p m then Some m else twin_from j p (m + 1) (drop (m + 1 - 1) hs))
+pub twin-next : (j : Joint) (p m : ℕ) (hs : List (Option ℕ)) → 1 ≤ m → m ≤ length hs
+    → twin_from j p m (drop (m - 1) hs) ≡ (if is_twin j p m then Some m else twin_from j p (m + 1) (drop (m + 1 - 1) hs))
 twin-next j p m hs low high =
     let at : m - 1 + 1 ≡ m + 1 - 1 = omega (arith, low) in
     at_drop_more (twin_from j p m) hs (m - 1) None (omega (arith, low, high)) ∙ ap (λ i. if is_twin j p m then Some m else twin_from j p (m + 1) (drop i hs)) at
@@ -32,7 +33,8 @@ joined-peer g x h q e j =
     ap (peer_of g.peers.issued) same ∙ j.leads
 
 -- the peer of the handle is the twin where it is live
-pub twin-live : (g : Graph) (x h p : ℕ) → IsMade g.managed.heap x → handle_of g.managed x ≡ Some h → peer_of g.peers.issued h ≡ Some p → IsLive g.peers.heap p → (q : ℕ) → (Some p ≡ Some q) ↔ IsJoined g x q
+pub twin-live : (g : Graph) (x h p : ℕ) → IsMade g.managed.heap x → handle_of g.managed x ≡ Some h
+    → peer_of g.peers.issued h ≡ Some p → IsLive g.peers.heap p → (q : ℕ) → (Some p ≡ Some q) ↔ IsJoined g x q
 twin-live g x h p made e l live q = (
   λ s. subst (IsJoined g x) (some-same p q s) (record { handle = h; holds = holds-made g.managed x h made e; leads = l; live = live }),
   λ j. sym l ∙ joined-peer g x h q e j,

@@ -63,7 +63,8 @@ computed : (j : Joint) (t : Thread) (o : Op) (reply : Reply) (a : Answered Joint
 computed j t o reply a next c e s = record { computed = c; replies = s.replies ∙ ap (λ (x : Answered Joint). x.reply) (sym e); state = s.state ∙ ap (λ (x : Answered Joint). x.state) (sym e) }
 
 -- a verdict on the steps of a computed event
-judged-computed : (h : Finished) (e : Entry) (j : Joint) (o : Op) → IsComputed o → ((told : Told) (n : Joint) → JointEvent j e.made.caller o e.made.reply told n → JointComputed j e.made.caller o e.made.reply n)
+judged-computed : (h : Finished) (e : Entry) (j : Joint) (o : Op) → IsComputed o
+    → ((told : Told) (n : Joint) → JointEvent j e.made.caller o e.made.reply told n → JointComputed j e.made.caller o e.made.reply n)
     → ((n : Joint) → JointComputed j e.made.caller o e.made.reply n → JointEvent j e.made.caller o e.made.reply nothing n)
     → e.made.op ≡ o → IsEvent e.made.caller e.made.op → (d : Verdict) (new : Joint) → Decides (Gives (joint_answer j e.made.caller o) e.made.reply) d j new → JudgesStep h e d j new
 judged-computed h e j o c from to same event = judged h e j o _ same event
@@ -85,21 +86,30 @@ IsOnHandles o = ((sort : Sort) × (n : ℕ) × (o ≡ op.Make sort n)) ⊎ (((h 
 
 pub judged-handles : (h : Finished) (e : Entry) (j : Joint) → IsOnHandles e.made.op → IsEvent e.made.caller e.made.op → (d : Verdict) (new : Joint)
     → Decides (Gives (joint_answer j e.made.caller e.made.op) e.made.reply) d j new → JudgesStep h e d j new
-judged-handles h e j (inl w) event d new x = judged-computed h e j (op.Make w.0 w.1) tt (λ told n s. s) (λ n s. s) w.2 event d new (subst (λ o. Decides (Gives (joint_answer j e.made.caller o) e.made.reply) d j new) w.2 x)
-judged-handles h e j (inr (inl w)) event d new x = judged-computed h e j (op.Land w.0 w.1) tt (λ told n s. s) (λ n s. s) w.2 event d new (subst (λ o. Decides (Gives (joint_answer j e.made.caller o) e.made.reply) d j new) w.2 x)
-judged-handles h e j (inr (inr (inl w))) event d new x = judged-computed h e j (op.Grip w.0) tt (λ told n s. s) (λ n s. s) w.1 event d new (subst (λ o. Decides (Gives (joint_answer j e.made.caller o) e.made.reply) d j new) w.1 x)
-judged-handles h e j (inr (inr (inr w))) event d new x = judged-computed h e j (op.Release w.0) tt (λ told n s. s) (λ n s. s) w.1 event d new (subst (λ o. Decides (Gives (joint_answer j e.made.caller o) e.made.reply) d j new) w.1 x)
+judged-handles h e j (inl w) event d new x = judged-computed h e j (op.Make w.0 w.1) tt (λ told n s. s)
+    (λ n s. s) w.2 event d new (subst (λ o. Decides (Gives (joint_answer j e.made.caller o) e.made.reply) d j new) w.2 x)
+judged-handles h e j (inr (inl w)) event d new x = judged-computed h e j (op.Land w.0 w.1) tt (λ told n s. s)
+    (λ n s. s) w.2 event d new (subst (λ o. Decides (Gives (joint_answer j e.made.caller o) e.made.reply) d j new) w.2 x)
+judged-handles h e j (inr (inr (inl w))) event d new x = judged-computed h e j (op.Grip w.0) tt (λ told n s. s)
+    (λ n s. s) w.1 event d new (subst (λ o. Decides (Gives (joint_answer j e.made.caller o) e.made.reply) d j new) w.1 x)
+judged-handles h e j (inr (inr (inr w))) event d new x = judged-computed h e j (op.Release w.0) tt (λ told n s. s)
+    (λ n s. s) w.1 event d new (subst (λ o. Decides (Gives (joint_answer j e.made.caller o) e.made.reply) d j new) w.1 x)
 
 -- an operation of a managed thread on the objects
 abbrev pub IsOnObjects : Op → Type 0
-IsOnObjects o = ((v : Var) × (kind : Kind) × (n : ℕ) × (p : PNum) × (h : HNum) × (o ≡ op.Adopt v kind n p h)) ⊎ (((v : Var) × (x : StaticNo) × (o ≡ op.Lend v x)) ⊎ (((v : Var) × (sort : Sort) × (n : ℕ) × (p : PNum) × (h : HNum) × (o ≡ op.Meet v sort n p h)) ⊎ ((v : Var) × (o ≡ op.Give v))))
+IsOnObjects o = ((v : Var) × (kind : Kind) × (n : ℕ) × (p : PNum) × (h : HNum) × (o ≡ op.Adopt v kind n p h))
+    ⊎ (((v : Var) × (x : StaticNo) × (o ≡ op.Lend v x)) ⊎ (((v : Var) × (sort : Sort) × (n : ℕ) × (p : PNum) × (h : HNum) × (o ≡ op.Meet v sort n p h)) ⊎ ((v : Var) × (o ≡ op.Give v))))
 
 pub judged-objects : (h : Finished) (e : Entry) (j : Joint) → IsOnObjects e.made.op → IsEvent e.made.caller e.made.op → (d : Verdict) (new : Joint)
     → Decides (Gives (joint_answer j e.made.caller e.made.op) e.made.reply) d j new → JudgesStep h e d j new
-judged-objects h e j (inl w) event d new x = judged-computed h e j (op.Adopt w.0 w.1 w.2 w.3 w.4) tt (λ told n s. s) (λ n s. s) w.5 event d new (subst (λ o. Decides (Gives (joint_answer j e.made.caller o) e.made.reply) d j new) w.5 x)
-judged-objects h e j (inr (inl w)) event d new x = judged-computed h e j (op.Lend w.0 w.1) tt (λ told n s. s) (λ n s. s) w.2 event d new (subst (λ o. Decides (Gives (joint_answer j e.made.caller o) e.made.reply) d j new) w.2 x)
-judged-objects h e j (inr (inr (inl w))) event d new x = judged-computed h e j (op.Meet w.0 w.1 w.2 w.3 w.4) tt (λ told n s. s) (λ n s. s) w.5 event d new (subst (λ o. Decides (Gives (joint_answer j e.made.caller o) e.made.reply) d j new) w.5 x)
-judged-objects h e j (inr (inr (inr w))) event d new x = judged-computed h e j (op.Give w.0) tt (λ told n s. s) (λ n s. s) w.1 event d new (subst (λ o. Decides (Gives (joint_answer j e.made.caller o) e.made.reply) d j new) w.1 x)
+judged-objects h e j (inl w) event d new x = judged-computed h e j (op.Adopt w.0 w.1 w.2 w.3 w.4) tt (λ told n s. s)
+    (λ n s. s) w.5 event d new (subst (λ o. Decides (Gives (joint_answer j e.made.caller o) e.made.reply) d j new) w.5 x)
+judged-objects h e j (inr (inl w)) event d new x = judged-computed h e j (op.Lend w.0 w.1) tt (λ told n s. s)
+    (λ n s. s) w.2 event d new (subst (λ o. Decides (Gives (joint_answer j e.made.caller o) e.made.reply) d j new) w.2 x)
+judged-objects h e j (inr (inr (inl w))) event d new x = judged-computed h e j (op.Meet w.0 w.1 w.2 w.3 w.4) tt (λ told n s. s)
+    (λ n s. s) w.5 event d new (subst (λ o. Decides (Gives (joint_answer j e.made.caller o) e.made.reply) d j new) w.5 x)
+judged-objects h e j (inr (inr (inr w))) event d new x = judged-computed h e j (op.Give w.0) tt (λ told n s. s)
+    (λ n s. s) w.1 event d new (subst (λ o. Decides (Gives (joint_answer j e.made.caller o) e.made.reply) d j new) w.1 x)
 
 pub judged-restore : (h : Finished) (e : Entry) (j : Joint) (g : HNum) → e.made.op ≡ op.Restore g → IsEvent e.made.caller e.made.op → (d : Verdict) (new : Joint)
     → Decides (JointRestore j g.0 e.made.reply) d j new → JudgesStep h e d j new
@@ -110,7 +120,8 @@ pub judged-abandon : (h : Finished) (e : Entry) (j : Joint) (k : Cycle) → e.ma
 judged-abandon h e j k same event = judged h e j (op.Abandon k) _ same event (λ n s. s.step) (λ n s. record { told = nothing; named = tt; step = s })
 
 -- a snapshot, with what its reply names
-snap-from : (h : Finished) (e : Entry) (j next : Joint) (k : Cycle) (told : Told) → IsTold h e.made.reply told → JointEvent j e.made.caller (op.Snap k) e.made.reply told next → SnapsJoint j k.0 (named_objects h e.made.reply) e.made.reply next
+snap-from : (h : Finished) (e : Entry) (j next : Joint) (k : Cycle) (told : Told) → IsTold h e.made.reply told
+    → JointEvent j e.made.caller (op.Snap k) e.made.reply told next → SnapsJoint j k.0 (named_objects h e.made.reply) e.made.reply next
 snap-from h e j next k (snap_of freed candidates dead) named s = record { candidates = candidates; dead = dead; snap = subst (λ l. JointSnap j k.0 l candidates dead e.made.reply next) named s }
 snap-from h e j next k (kept_pins pins told) named s = absurd s
 snap-from h e j next k nothing named s = absurd s
@@ -128,7 +139,8 @@ judged-snap h e j k same event = judged h e j (op.Snap k) _ same event
     (λ n s. record { told = snap_of (named_objects h e.made.reply) s.candidates s.dead; named = refl; step = s.snap })
 
 -- a resolution, with what its reply names
-resolve-from : (h : Finished) (e : Entry) (j next : Joint) (k : Cycle) (told : Told) → IsTold h e.made.reply told → JointEvent j e.made.caller (op.Resolve k) e.made.reply told next → JointResolve j k.0 (named_objects h e.made.reply) e.made.reply next
+resolve-from : (h : Finished) (e : Entry) (j next : Joint) (k : Cycle) (told : Told) → IsTold h e.made.reply told
+    → JointEvent j e.made.caller (op.Resolve k) e.made.reply told next → JointResolve j k.0 (named_objects h e.made.reply) e.made.reply next
 resolve-from h e j next k (resolution_of alive freed) named s = subst (λ l. JointResolve j k.0 l e.made.reply next) named s
 resolve-from h e j next k (kept_pins pins told) named s = absurd s
 resolve-from h e j next k nothing named s = absurd s
@@ -151,7 +163,8 @@ pub judged-begin : (h : Finished) (e : Entry) (j : Joint) → e.made.op ≡ op.B
 judged-begin h e j same event = judged h e j op.Begin _ same event (λ n s. s.step) (λ n s. record { told = nothing; named = tt; step = s })
 
 -- a sweep, with what its reply names
-sweep-from : (h : Finished) (t : Thread) (reply : Reply) (j next : Joint) (mk : Option JointMarking) (told : Told) → IsTold h reply told → JointSweep j mk t reply told next → JointSweep j mk t reply (sweep_of (named_peers h reply)) next
+sweep-from : (h : Finished) (t : Thread) (reply : Reply) (j next : Joint) (mk : Option JointMarking) (told : Told)
+    → IsTold h reply told → JointSweep j mk t reply told next → JointSweep j mk t reply (sweep_of (named_peers h reply)) next
 sweep-from h t reply j next None told named s = s
 sweep-from h t reply j next (Some m) (sweep_of freed) named s = subst (λ l. JointSweep j (Some m) t reply (sweep_of l) next) named s
 sweep-from h t reply j next (Some m) (kept_pins pins told) named s = inr s
@@ -170,7 +183,8 @@ judged-sweep h e j same event = judged h e j op.Sweep _ same event
     (λ n s. record { told = sweep_of (named_peers h e.made.reply); named = refl; step = s })
 
 -- a verdict on the managed part, as one on the joint state
-pub Decides-managed : (j : Joint) (p : Managed → Type 0) (q : Joint → Type 0) → ((m : Managed) → p m → q (with_managed j m)) → ((n : Joint) → q n → (m : Managed) × p m) → (d : Verdict) (m : Managed) → Decides p d j.graph.managed m → Decides q d j (with_managed j m)
+pub Decides-managed : (j : Joint) (p : Managed → Type 0) (q : Joint → Type 0) → ((m : Managed) → p m → q (with_managed j m))
+    → ((n : Joint) → q n → (m : Managed) × p m) → (d : Verdict) (m : Managed) → Decides p d j.graph.managed m → Decides q d j (with_managed j m)
 Decides-managed j p q to from Lawful m x = to m x
 Decides-managed j p q to from Unlawful m x = (λ n s. (let r = from n s in x.0 r.0 r.1), ap (λ (z : Managed). with_managed j z) x.1)
 

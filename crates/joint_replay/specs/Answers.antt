@@ -1,6 +1,7 @@
 -- What the restores of a cycle's candidates have answered, as the joint state keeps it, and what a resolution makes of
 -- it. (The definitions are the joint model's; here they stand candidate by candidate.)
-use Rattle.std.specs.Prelude.{◌≡◌, ℕ, Bool, true, false, List, [], ◌∷◌, map, replicate, slice_set, length, Option, Some, None}
+use Rattle.std.specs.Prelude.{◌≡◌, ℕ, Bool, true, false, List, [], ◌∷◌, map, replicate, slice_set, length, Option, Some}
+use Rattle.std.specs.Prelude.{None}
 use Rattle.std.specs.Option.{option_map}
 use Rattle.joint_machine.specs.Heaps.{numbered_set}
 use Rattle.joint_machine.specs.Joint.{Joint}

@@ -15,7 +15,11 @@ parts_graph s p removed = record { managed = s; peers = p; removed = removed }
 
 -- the graph with clean heaps
 abbrev pub clean_graph : Graph → Graph
-clean_graph g = record { managed = record g.managed { heap = cleaned g.managed.heap }; peers = record g.peers { heap = cleaned g.peers.heap }; removed = g.removed }
+clean_graph g = record {
+  managed = record g.managed { heap = cleaned g.managed.heap };
+  peers = record g.peers { heap = cleaned g.peers.heap };
+  removed = g.removed;
+}
 
 -- a handle that is issued so is a root by itself: a raw strong one, or a held one that isn't marked as a live object's
 abbrev pub IsRootHandle : List Bool → ℕ → Issued → Type 0

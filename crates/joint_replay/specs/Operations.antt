@@ -8,7 +8,8 @@ use Rattle.joint_machine.specs.declared.events.Op.{Op}
 use Rattle.joint_machine.specs.declared.events.Op.TheVariants as op
 use Rattle.joint_machine.specs.declared.events.Reply.{Reply}
 use Rattle.joint_machine.specs.declared.events.Reply.TheVariants as says
-use Rattle.joint_machine.specs.Heaps.{Heap, Answered, answer, place, copied, field_set, field_got, dropped, loaded, stored}
+use Rattle.joint_machine.specs.Heaps.{Heap, Answered, answer, place, copied, field_set, field_got, dropped, loaded}
+use Rattle.joint_machine.specs.Heaps.{stored}
 use Rattle.joint_machine.specs.Lines.{IsVar, IsVarOrNone, IsBridgeObject}
 use Rattle.joint_machine.specs.Managed.{managed_name, place_or_none}
 use Rattle.joint_machine.specs.Peers.{peer_name}

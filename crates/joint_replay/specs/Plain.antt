@@ -1,6 +1,7 @@
 -- A heap in plain lists, which nothing is asked of but its flags: a field may hold a freed object. (This project's
 -- own.)
-use Rattle.std.specs.Prelude.{◌≡◌, ℕ, ◌≤◌, ◌⊎◌, Bool, true, false, ◌&&◌, not, nat_le, if◌then◌else◌, List, [], map, Contains, Option, Some, None, length}
+use Rattle.std.specs.Prelude.{◌≡◌, ℕ, ◌≤◌, ◌⊎◌, Bool, true, false, ◌&&◌, not, nat_le, if◌then◌else◌, List, [], map}
+use Rattle.std.specs.Prelude.{Contains, Option, Some, None, length}
 use Rattle.joint_machine.specs.declared.events.Reply.{Reply}
 use Rattle.joint_machine.specs.declared.events.Reply.TheVariants as says
 use Rattle.joint_machine.specs.Heaps.{Heap, MOST, IsMade, is_freed, numbered_at}

@@ -1,6 +1,7 @@
 -- Snapshots, resolutions and sweeps, with the freed rows that are told. (The definitions are the joint model's; only
 -- their result is named here.)
-use Rattle.std.specs.Prelude.{◌≡◌, ℕ, ◌+◌, ◌≤◌, ◌⊎◌, Bool, false, not, List, [], Option, Some, None, All, Contains, filter, length}
+use Rattle.std.specs.Prelude.{◌≡◌, ℕ, ◌+◌, ◌≤◌, ◌⊎◌, Bool, false, not, List, [], Option, Some, None, All, Contains}
+use Rattle.std.specs.Prelude.{filter, length}
 use Rattle.joint_machine.specs.declared.names.Span.{Span}
 use Rattle.joint_machine.specs.declared.names.Thread.{Thread}
 use Rattle.joint_machine.specs.declared.names.Thread.TheVariants.{C}
@@ -53,7 +54,8 @@ SaysFreed g h _ freed = ⊥
 -- the dead part of an open cycle rises, and its rows and the candidates were made
 abbrev pub OwesDead : ℕ → Option OpenCycle → Type 0
 OwesDead made None = Unit {0}
-OwesDead made (Some c) = Rises c.dead × All (λ m. (1 ≤ m) × (m ≤ made)) c.dead × All (λ m. (1 ≤ m) × (m ≤ made)) c.candidates
+OwesDead made (Some c) = Rises c.dead × All (λ m. (1 ≤ m) × (m ≤ made)) c.dead
+    × All (λ m. (1 ≤ m) × (m ≤ made)) c.candidates
 
 -- whether an object is kept: it holds a handle whose peer isn't freed
 abbrev pub keeps : Managed → Peers → ℕ → Bool
@@ -64,7 +66,8 @@ keeps s p m = elim (handle_of s m) [
 
 -- a kept candidate of a list leads to the row
 abbrev pub IsKeptReached : Managed → Peers → List ℕ → ℕ → Type 0
-IsKeptReached s p candidates m = Reached (Contains (filter (keeps s p) candidates)) (Leads (length s.heap.fields + 1) (live_fields (cleaned s.heap))) m
+IsKeptReached s p candidates m = Reached (Contains (filter (keeps s p) candidates))
+    (Leads (length s.heap.fields + 1) (live_fields (cleaned s.heap))) m
 
 -- what a resolution of cycle k frees
 pub record Settles (j : Joint) (k : ℕ) (freed : List ℕ) : Type 0 where
@@ -89,7 +92,8 @@ pub record MayRestore (j : Joint) (h p : ℕ) : Type 0 where
 
 -- the reply is that of a sweep of marking n, and its span stands where the next freed peers come
 abbrev pub SaysSwept : Heap → Finished → Reply → ℕ → Type 0
-SaysSwept g h (says.Swept j span) n = (j.0 ≡ n) × (span.first ≡ length g.freed) × (length (peer_numbers (stretch h.freed_peers span)) ≡ span.count)
+SaysSwept g h (says.Swept j span) n = (j.0 ≡ n) × (span.first ≡ length g.freed)
+    × (length (peer_numbers (stretch h.freed_peers span)) ≡ span.count)
 SaysSwept g h _ n = ⊥
 
 -- the open marking may free these peers, and the reply says so
@@ -99,7 +103,8 @@ pub record MaySweep (j : Joint) (freed : List ℕ) (reply : Reply) : Type 0 wher
   pub rise : Rises freed
   pub stored : All (IsStored marking) freed
   pub unreached : All (λ p. IsReached j (peer p) → ⊥) freed
-  pub replies : reply ≡ says.Swept record { 0 = marking.number } record { first = length j.graph.peers.heap.freed; count = length freed }
+  pub replies : reply ≡ says.Swept record { 0 = marking.number }
+      record { first = length j.graph.peers.heap.freed; count = length freed }
 
 -- a sweep of the open marking by a caller that may end it, which frees these peers
 pub record SweepsJoint (j : Joint) (t : Thread) (freed : List ℕ) (reply : Reply) (next : Joint) : Type 0 where

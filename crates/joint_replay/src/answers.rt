@@ -2,7 +2,8 @@
 
 ghost use Rattle.std.specs.Prelude.{◌≡◌, ◌+◌, ◌<◌, ◌↔◌, IsTrue, IfOk, All, replicate, slice_get, None};
 ghost use Rattle.joint_machine.specs.Run.{answered_for};
-ghost use Rattle.joint_replay.specs.Answers.{said_as, answers_as, handle_in, put_where, renew_one, renewed_by, IsGiven, IsMissing};
+ghost use Rattle.joint_replay.specs.Answers.{said_as, answers_as, handle_in, put_where, renew_one, renewed_by, IsGiven};
+ghost use Rattle.joint_replay.specs.Answers.{IsMissing};
 
 use crate::managed::ManagedPart;
 use std::alloc::{AllocError, Global};
@@ -66,7 +67,8 @@ pub(crate) fn answer_each(
     said: Said,
     answers: &mut Vec<Option<Said>>,
 )
-    ensures { answers_as answers.new.items ≡ answered_for managed.now h (said_as said) candidates.now (answers_as answers.old.items) }
+    ensures { answers_as answers.new.items ≡ answered_for managed.now h
+        (said_as said) candidates.now (answers_as answers.old.items) }
 {
     for i in 0..candidates.len() {
         put_answer(managed.gives(candidates[i], h), i, said, answers);

@@ -3,7 +3,9 @@
 ghost use Rattle.std.specs.Prelude.{◌≡◌, ◌↔◌, ◌<◌, IsTrue, true, false};
 ghost use Rattle.std.specs.Option.{ForSome};
 ghost use Rattle.joint_machine.specs.Heaps.{place};
-ghost use Rattle.joint_machine.specs.Lines.{IsEvent, IsLine, IsOneEvent, IsManagedAct, IsPeerAct, IsDriverAct, IsManagedThread, IsPeerThread, IsThread, IsVar, IsVarOrNone, IsPlainObject, IsBridgeObject};
+ghost use Rattle.joint_machine.specs.Lines.{IsEvent, IsLine, IsOneEvent, IsManagedAct, IsPeerAct, IsDriverAct};
+ghost use Rattle.joint_machine.specs.Lines.{IsManagedThread, IsPeerThread, IsThread, IsVar, IsVarOrNone, IsPlainObject};
+ghost use Rattle.joint_machine.specs.Lines.{IsBridgeObject};
 ghost use Rattle.joint_machine.specs.Linked.{is_joint};
 ghost use Rattle.joint_machine.specs.Managed.{place_or_none};
 ghost use Rattle.joint_machine.specs.Run.{thread_number};

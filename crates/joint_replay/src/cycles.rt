@@ -28,7 +28,8 @@ impl JointState {
         k: Cycle,
         reply: &Reply,
     ) -> Result<Verdict, AllocError>
-        ensures ok { IfOk result (λ d. Decides (SnapsJoint self.old k.0 (named_objects h.now reply.now) reply.now) d self.old self.new) }
+        ensures ok { IfOk result (λ d. Decides
+            (SnapsJoint self.old k.0 (named_objects h.now reply.now) reply.now) d self.old self.new) }
         ensures err { OnErr result (self.new ≡ self.old) }
     {
         let verdict = self
@@ -44,7 +45,8 @@ impl JointState {
         k: Cycle,
         reply: &Reply,
     ) -> Result<Verdict, AllocError>
-        ensures ok { IfOk result (λ d. Decides (JointResolve self.old k.0 (named_objects h.now reply.now) reply.now) d self.old self.new) }
+        ensures ok { IfOk result (λ d. Decides
+            (JointResolve self.old k.0 (named_objects h.now reply.now) reply.now) d self.old self.new) }
         ensures err { OnErr result (self.new ≡ self.old) }
     {
         let Some(freed) = self.resolution(h, k, reply)? else {
@@ -61,7 +63,10 @@ impl JointState {
         k: Cycle,
         reply: &Reply,
     ) -> Result<Option<Vec<u32>>, AllocError>
-        ensures { IfOk result (λ o. MatchOption o ((next : Joint) → JointResolve self.now k.0 (named_objects h.now reply.now) reply.now next → ⊥) (λ v. JointResolve self.now k.0 (named_objects h.now reply.now) reply.now (closed self.now v.items) × All (IsMade self.now.graph.managed.heap) v.items × AreAnswered self.now)) }
+        ensures { IfOk result (λ o. MatchOption o
+            ((next : Joint) → JointResolve self.now k.0 (named_objects h.now reply.now) reply.now next → ⊥)
+            (λ v. JointResolve self.now k.0 (named_objects h.now reply.now) reply.now (closed self.now v.items)
+            × All (IsMade self.now.graph.managed.heap) v.items × AreAnswered self.now)) }
     {
         if !self.is_answered() {
             return Ok(None);
@@ -105,7 +110,8 @@ impl JointState {
 
     // What a resolution of cycle `k` frees; None where that cycle isn't open.
     fn settled(&self, k: Cycle) -> Result<Option<Vec<u32>>, AllocError>
-        ensures { IfOk result (λ o. MatchOption o (HasOpen self.now.graph.managed k.0 → ⊥) (λ v. Settles self.now k.0 v.items)) }
+        ensures { IfOk result (λ o. MatchOption o
+            (HasOpen self.now.graph.managed k.0 → ⊥) (λ v. Settles self.now k.0 v.items)) }
     {
         let Some(open) = self.managed.opened(k) else {
             return Ok(None);

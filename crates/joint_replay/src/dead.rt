@@ -1,6 +1,7 @@
 // The peers that no joint root reaches.
 
-ghost use Rattle.std.specs.Prelude.{◌≡◌, ℕ, ◌+◌, ◌<◌, ◌≤◌, ◌↔◌, ◌⊎◌, Contains, IfOk, OnOk, IsTrue, Some, All, length, map, true, false};
+ghost use Rattle.std.specs.Prelude.{◌≡◌, ℕ, ◌+◌, ◌<◌, ◌≤◌, ◌↔◌, ◌⊎◌, Contains, IfOk, OnOk, IsTrue, Some, All, length};
+ghost use Rattle.std.specs.Prelude.{map, true, false};
 ghost use Rattle.joint_machine.specs.Joint.{IsReachedIn, peer};
 ghost use Rattle.joint_machine.specs.Heaps.{IsLive, MOST, numbered_at};
 ghost use Rattle.joint_machine.specs.Histories.{peer_numbers};
@@ -27,7 +28,8 @@ pub(crate) fn dead_peers(
     peers: &PeerPart,
     removed: &[bool],
 ) -> Result<Vec<bool>, AllocError>
-    ensures { IfOk result (λ v. (p : ℕ) → HasMark v.items p ↔ (IsLive peers.now.heap p × (IsReachedIn (parts_graph managed.now peers.now removed.now) (peer p) → ⊥))) }
+    ensures { IfOk result (λ v. (p : ℕ) → HasMark v.items p
+        ↔ (IsLive peers.now.heap p × (IsReachedIn (parts_graph managed.now peers.now removed.now) (peer p) → ⊥))) }
 {
     let objects = managed.roots(alloc)?;
     let owned = owned_handles(alloc, managed, peers.handles())?;
@@ -77,7 +79,8 @@ fn owned_handles(
 fn mark_held(managed: &ManagedPart, m: u32, owned: &mut [bool])
     requires { IsLive managed.now.heap m }
     ensures len { length owned.new ≡ length owned.old }
-    ensures marks { (h : ℕ) → HasMark owned.new h ↔ (HasMark owned.old h ⊎ (Holds managed.now m h × (h < length owned.old))) }
+    ensures marks { (h : ℕ) → HasMark owned.new h
+        ↔ (HasMark owned.old h ⊎ (Holds managed.now m h × (h < length owned.old))) }
 {
     if let Some(h) = managed.handle(m) {
         if (h as usize) < owned.len() {

@@ -18,7 +18,8 @@ impl JointState {
     /// An event of a managed thread on the peers and handles.
     pub(crate) fn on_handles(&mut self, op: &Op, reply: &Reply) -> Result<Verdict, AllocError>
         requires { IsHandleEvent op.now }
-        ensures ok { IfOk result (λ d. (t : Thread) → Decides (Gives (joint_answer self.old t op.now) reply.now) d self.old self.new) }
+        ensures ok { IfOk result (λ d. (t : Thread)
+            → Decides (Gives (joint_answer self.old t op.now) reply.now) d self.old self.new) }
         ensures err { OnErr result (self.new ≡ self.old) }
     {
         match op {
@@ -32,7 +33,8 @@ impl JointState {
 
     // `make`: a further peer and a handle on it.
     fn make(&mut self, sort: Sort, fields: u8, reply: &Reply) -> Result<Verdict, AllocError>
-        ensures ok { IfOk result (λ d. Decides (Gives (on_peers self.old (pair_made self.old.graph.peers sort fields)) reply.now) d self.old self.new) }
+        ensures ok { IfOk result (λ d. Decides
+            (Gives (on_peers self.old (pair_made self.old.graph.peers sort fields)) reply.now) d self.old self.new) }
         ensures err { OnErr result (self.new ≡ self.old) }
     {
         self.peers.make_pair(sort, fields, &mut self.removed, reply)
@@ -41,7 +43,8 @@ impl JointState {
     // `land`: the static holds the peer to which the handle leads.
     fn land(&mut self, h: u32, x: usize, reply: &Reply) -> Verdict
         requires { x < 16 }
-        ensures { Decides (Gives (on_peers self.old (landed self.old.graph.peers x (joint_target self.old h))) reply.now) result self.old self.new }
+        ensures { Decides (Gives (on_peers self.old (landed self.old.graph.peers x (joint_target self.old h)))
+            reply.now) result self.old self.new }
     {
         let target = self.target(h);
         self.land_peer(x, target, reply)
@@ -50,7 +53,8 @@ impl JointState {
     // The static holds the peer to which a handle leads.
     fn land_peer(&mut self, x: usize, target: Option<u32>, reply: &Reply) -> Verdict
         requires { x < 16 }
-        ensures { Decides (Gives (on_peers self.old (landed self.old.graph.peers x target)) reply.now) result self.old self.new }
+        ensures { Decides (Gives (on_peers self.old (landed self.old.graph.peers x target)) reply.now)
+            result self.old self.new }
     {
         self.peers.land(x, target, reply)
     }
@@ -58,7 +62,8 @@ impl JointState {
     // `grip`: a held strong handle on the peer of the static.
     fn grip(&mut self, x: usize, reply: &Reply) -> Result<Verdict, AllocError>
         requires { x < 16 }
-        ensures ok { IfOk result (λ d. Decides (Gives (on_peers self.old (gripped self.old.graph.peers x)) reply.now) d self.old self.new) }
+        ensures ok { IfOk result (λ d. Decides
+            (Gives (on_peers self.old (gripped self.old.graph.peers x)) reply.now) d self.old self.new) }
         ensures err { OnErr result (self.new ≡ self.old) }
     {
         self.peers.grip(x, &mut self.removed, reply)

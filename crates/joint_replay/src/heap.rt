@@ -1,8 +1,11 @@
 // One heap in plain lists.
 
-ghost use Rattle.std.specs.Prelude.{◌≡◌, ℕ, ◌+◌, ◌<◌, ◌≤◌, ◌↔◌, ◌++◌, List, Contains, All, Some, None, IsTrue, IfOk, OnOk, OnErr, MatchResult, IfSome, length, take, vec_capacity};
+ghost use Rattle.std.specs.Prelude.{◌≡◌, ℕ, ◌+◌, ◌<◌, ◌≤◌, ◌↔◌, ◌++◌, List, Contains, All, Some, None, IsTrue, IfOk};
+ghost use Rattle.std.specs.Prelude.{OnOk, OnErr, MatchResult, IfSome, length, take, vec_capacity};
 ghost use Rattle.std.specs.Option.{ForSome};
-ghost use Rattle.joint_machine.specs.Heaps.{Heap, MOST, IsMade, IsLive, is_freed, answer, slot, fields_of, is_full, opening_heap, with_object, with_var, with_static, with_field, with_freed, field_set};
+ghost use Rattle.joint_machine.specs.Heaps.{Heap, MOST, IsMade, IsLive, is_freed, answer, slot, fields_of, is_full};
+ghost use Rattle.joint_machine.specs.Heaps.{opening_heap, with_object, with_var, with_static, with_field, with_freed};
+ghost use Rattle.joint_machine.specs.Heaps.{field_set};
 ghost use Rattle.heap_rules.specs.Tidy.{live_fields};
 ghost use Rattle.joint_replay.specs.Plain.{refusal_reply, is_live, kept_target, cleaned, Lowers};
 
@@ -42,9 +45,16 @@ impl Model for PlainHeap {
 
     ghost Value = { Heap };
 
-    ghost view = { λ s. record { fields = map (λ r. r.items) s.fields.items; freed = s.freed.items; vars = s.vars; statics = s.statics } };
+    ghost view = { λ s. record {
+      fields = map (λ r. r.items) s.fields.items;
+      freed = s.freed.items;
+      vars = s.vars;
+      statics = s.statics;
+    } };
 
-    ghost invariant = { λ s. let h : Heap = record { fields = map (λ r. r.items) s.fields.items; freed = s.freed.items; vars = s.vars; statics = s.statics } in IsFlagged h s.flags.items };
+    ghost invariant = { λ s. let h : Heap =
+        record { fields = map (λ r. r.items) s.fields.items; freed = s.freed.items; vars = s.vars; statics = s.statics }
+        in IsFlagged h s.flags.items };
 }
 
 impl PlainHeap {
@@ -254,8 +264,10 @@ impl PlainHeap {
     pub(crate) fn target(&self, v: usize, i: usize, w: Option<usize>) -> Result<FieldWrite, Refusal>
         requires v { v < 72 }
         requires w { ForSome w (λ place. place < 72) }
-        ensures ok { IfOk result (λ p. (field_set self.now v i w ≡ answer Reply.Ok (with_field self.now p.object p.field p.value)) × (p.field < length (fields_of self.now p.object))) }
-        ensures err { MatchResult result (λ p. Unit {0}) (λ r. field_set self.now v i w ≡ answer (refusal_reply r) self.now) }
+        ensures ok { IfOk result (λ p. (field_set self.now v i w ≡ answer Reply.Ok
+            (with_field self.now p.object p.field p.value)) × (p.field < length (fields_of self.now p.object))) }
+        ensures err { MatchResult result (λ p. Unit {0})
+            (λ r. field_set self.now v i w ≡ answer (refusal_reply r) self.now) }
     {
         let Some(x) = self.var(v) else {
             return Err(Refusal::Empty);

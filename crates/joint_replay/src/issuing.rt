@@ -2,7 +2,8 @@
 
 ghost use Rattle.std.specs.Prelude.{◌≡◌, ◌<◌, ◌++◌, ◌∷◌, [], ◌||◌, IfOk, OnErr, OnOk, Some, None, true, false, length};
 ghost use Rattle.joint_machine.specs.Heaps.{is_full, next_number};
-ghost use Rattle.joint_machine.specs.Peers.{handles_full, with_handle, with_peer, held, strong, pair_made, gripped, globalised};
+ghost use Rattle.joint_machine.specs.Peers.{handles_full, with_handle, with_peer, held, strong, pair_made, gripped};
+ghost use Rattle.joint_machine.specs.Peers.{globalised};
 ghost use Rattle.joint_replay.specs.Judging.{Decides, Flags, Gives};
 ghost use Rattle.joint_replay.specs.Plain.{hold_as, strength_as};
 
@@ -73,7 +74,8 @@ impl PeerPart {
     ) -> Result<Verdict, AllocError>
         requires g { g < 64 }
         requires v { v < 72 }
-        ensures ok { IfOk result (λ d. Decides (Gives (globalised self.old g v (strength_as strength)) reply.now) d self.old self.new) }
+        ensures ok { IfOk result (λ d. Decides
+            (Gives (globalised self.old g v (strength_as strength)) reply.now) d self.old self.new) }
         ensures err { OnErr result (self.new ≡ self.old) }
         ensures flags { Flags self.old self.new removed.old.items removed.new.items }
     {
@@ -105,7 +107,8 @@ impl PeerPart {
     ) -> Result<(), AllocError>
         requires full { handles_full self.old ≡ false }
         requires room { length self.old.issued < 4294967295 }
-        ensures ok { OnOk result ((self.new ≡ with_handle self.old peer (hold_as hold) (strength_as strength)) × (removed.new.items ≡ removed.old.items ++ false ∷ [])) }
+        ensures ok { OnOk result ((self.new ≡ with_handle self.old peer (hold_as hold) (strength_as strength))
+            × (removed.new.items ≡ removed.old.items ++ false ∷ [])) }
         ensures err { OnErr result ((self.new ≡ self.old) × (removed.new.items ≡ removed.old.items)) }
     {
         removed.reserve(1)?;

@@ -8,7 +8,8 @@ ghost use Rattle.joint_machine.specs.Joint.{joint_target};
 ghost use Rattle.joint_machine.specs.Lines.{IsLine, IsOneEvent, IsManagedAct, IsPeerAct, IsManagedThread, IsPeerThread};
 ghost use Rattle.joint_machine.specs.Linked.{is_joint};
 ghost use Rattle.joint_machine.specs.Managed.{managed_line, notices_taken};
-ghost use Rattle.joint_machine.specs.Peers.{globalised, name_freed, name_read, on_peer_heap, peer_made, peer_name, peer_read};
+ghost use Rattle.joint_machine.specs.Peers.{globalised, name_freed, name_read, on_peer_heap, peer_made, peer_name};
+ghost use Rattle.joint_machine.specs.Peers.{peer_read};
 ghost use Rattle.joint_machine.specs.Run.{on_managed, on_peers, without, thread_number, joint_line, joint_peer_line};
 ghost use Rattle.joint_replay.specs.Operations.{IsPlainAct, plain_line};
 ghost use Rattle.joint_replay.specs.Plain.{strength_as};
@@ -33,7 +34,8 @@ impl JointState {
         requires line { IsLine caller act.now }
         requires one { IsOneEvent act.now }
         requires joint { is_joint (Line act.now) ≡ true }
-        ensures ok { IfOk result (λ d. Decides (Gives (joint_line self.old caller act.now) reply.now) d self.old self.new) }
+        ensures ok { IfOk result (λ d. Decides
+            (Gives (joint_line self.old caller act.now) reply.now) d self.old self.new) }
         ensures err { OnErr result (self.new ≡ self.old) }
     {
         match caller {
@@ -56,7 +58,9 @@ impl JointState {
         requires thread { IsManagedThread caller }
         requires act { IsManagedAct act.now }
         requires one { IsOneEvent act.now }
-        ensures ok { IfOk result (λ d. Decides (Gives (on_managed self.old (managed_line self.old.graph.managed (thread_number caller) act.now)) reply.now) d self.old self.new) }
+        ensures ok { IfOk result (λ d. Decides
+            (Gives (on_managed self.old (managed_line self.old.graph.managed (thread_number caller) act.now)) reply.now)
+            d self.old self.new) }
         ensures err { OnErr result (self.new ≡ self.old) }
     {
         let verdict = self.managed.line(caller, act, reply)?;
@@ -65,7 +69,8 @@ impl JointState {
 
     // `finalise`: the oldest `n` of the waiting notices are taken.
     fn finalise(&mut self, n: u32, reply: &Reply) -> Verdict
-        ensures { Decides (Gives (on_managed self.old (notices_taken self.old.graph.managed n)) reply.now) result self.old self.new }
+        ensures { Decides (Gives (on_managed self.old (notices_taken self.old.graph.managed n)) reply.now)
+            result self.old self.new }
     {
         self.managed.finalise(n, reply)
     }
@@ -76,7 +81,8 @@ impl JointState {
         requires act { IsPeerAct act.now }
         requires one { IsOneEvent act.now }
         requires joint { is_joint (Line act.now) ≡ true }
-        ensures ok { IfOk result (λ d. Decides (Gives (joint_peer_line self.old (thread_number caller) act.now) reply.now) d self.old self.new) }
+        ensures ok { IfOk result (λ d. Decides
+            (Gives (joint_peer_line self.old (thread_number caller) act.now) reply.now) d self.old self.new) }
         ensures err { OnErr result (self.new ≡ self.old) }
     {
         match act {
@@ -99,7 +105,10 @@ impl JointState {
     fn plain_peer(&mut self, caller: Thread, act: &Act, reply: &Reply) -> Verdict
         requires thread { IsPeerThread caller }
         requires act { IsPlainAct act.now }
-        ensures { Decides (Gives (on_peers self.old (on_peer_heap self.old.graph.peers (plain_line peer_name self.old.graph.peers.heap (thread_number caller) act.now))) reply.now) result self.old self.new }
+        ensures { Decides (Gives (on_peers self.old
+            (on_peer_heap self.old.graph.peers
+            (plain_line peer_name self.old.graph.peers.heap (thread_number caller) act.now))) reply.now)
+            result self.old self.new }
     {
         self.peers.plain(caller, act, reply)
     }
@@ -107,7 +116,8 @@ impl JointState {
     // `new` of a peer thread.
     fn make_peer(&mut self, v: usize, fields: u8, reply: &Reply) -> Result<Verdict, AllocError>
         requires { v < 72 }
-        ensures ok { IfOk result (λ d. Decides (Gives (on_peers self.old (peer_made self.old.graph.peers v fields)) reply.now) d self.old self.new) }
+        ensures ok { IfOk result (λ d. Decides
+            (Gives (on_peers self.old (peer_made self.old.graph.peers v fields)) reply.now) d self.old self.new) }
         ensures err { OnErr result (self.new ≡ self.old) }
     {
         self.peers.make(v, fields, reply)
@@ -123,7 +133,9 @@ impl JointState {
     ) -> Result<Verdict, AllocError>
         requires g { g < 64 }
         requires v { v < 72 }
-        ensures ok { IfOk result (λ d. Decides (Gives (on_peers self.old (globalised self.old.graph.peers g v (strength_as strength))) reply.now) d self.old self.new) }
+        ensures ok { IfOk result (λ d. Decides
+            (Gives (on_peers self.old (globalised self.old.graph.peers g v (strength_as strength))) reply.now)
+            d self.old self.new) }
         ensures err { OnErr result (self.new ≡ self.old) }
     {
         self.peers
@@ -133,7 +145,8 @@ impl JointState {
     // `unglobal`: name `g` is free again, and its handle is removed.
     fn unglobal(&mut self, g: usize, reply: &Reply) -> Verdict
         requires { g < 64 }
-        ensures { Decides (Gives (on_peers (without self.old (slot self.old.graph.peers.names g)) (name_freed self.old.graph.peers g)) reply.now) result self.old self.new }
+        ensures { Decides (Gives (on_peers (without self.old (slot self.old.graph.peers.names g))
+            (name_freed self.old.graph.peers g)) reply.now) result self.old self.new }
     {
         let Some(h) = self.peers.name(g) else {
             return Verdict::of(Refusal::Unset.is_said(reply));
@@ -150,7 +163,8 @@ impl JointState {
     fn read_name(&mut self, v: usize, g: usize, reply: &Reply) -> Verdict
         requires v { v < 72 }
         requires g { g < 64 }
-        ensures { Decides (Gives (on_peers self.old (name_read (joint_target self.old) self.old.graph.peers v g)) reply.now) result self.old self.new }
+        ensures { Decides (Gives (on_peers self.old (name_read (joint_target self.old) self.old.graph.peers v g))
+            reply.now) result self.old self.new }
     {
         let Some(h) = self.peers.name(g) else {
             return Verdict::of(Refusal::Unset.is_said(reply));
@@ -162,7 +176,8 @@ impl JointState {
     // The variable at place `v` names the peer to which a handle leads.
     fn read_peer(&mut self, v: usize, target: Option<u32>, reply: &Reply) -> Verdict
         requires { v < 72 }
-        ensures { Decides (Gives (on_peers self.old (peer_read self.old.graph.peers v target)) reply.now) result self.old self.new }
+        ensures { Decides (Gives (on_peers self.old (peer_read self.old.graph.peers v target)) reply.now)
+            result self.old self.new }
     {
         self.peers.read(v, target, reply)
     }

@@ -4,7 +4,8 @@ ghost use Rattle.std.specs.Prelude.{◌≡◌, ℕ, ◌<◌, ◌≤◌, ◌↔�
 ghost use Rattle.joint_machine.specs.Heaps.{IsLive, MOST};
 ghost use Rattle.joint_machine.specs.Histories.{managed_numbers};
 ghost use Rattle.joint_machine.specs.Lines.{IsManagedAct, IsManagedThread, IsOneEvent};
-ghost use Rattle.joint_machine.specs.Managed.{opening_managed, on_heap, managed_name, managed_line, handle_of, IsManagedRoot};
+ghost use Rattle.joint_machine.specs.Managed.{opening_managed, on_heap, managed_name, managed_line, handle_of};
+ghost use Rattle.joint_machine.specs.Managed.{IsManagedRoot};
 ghost use Rattle.joint_machine.specs.Run.{thread_number, is_that_handle};
 ghost use Rattle.joint_replay.specs.Operations.{IsPlainAct, plain_line};
 ghost use Rattle.joint_replay.specs.Judging.{Decides, Gives};
@@ -42,9 +43,20 @@ impl Model for ManagedPart {
 
     ghost Value = { Managed };
 
-    ghost invariant = { λ s. OwesDead (length s.heap.fields) s.cycle × (length s.held.items ≡ length s.heap.fields) × (length s.pins ≡ 9) × (length s.cells ≡ 64) };
+    ghost invariant = { λ s. OwesDead (length s.heap.fields) s.cycle
+        × (length s.held.items ≡ length s.heap.fields) × (length s.pins ≡ 9) × (length s.cells ≡ 64) };
 
-    ghost view = { λ s. record { heap = s.heap; kinds = s.kinds.items; held = s.held.items; pins = s.pins; cells = s.cells; notices = s.notices.items; taken = s.taken; cycle = s.cycle; cycles = s.cycles } };
+    ghost view = { λ s. record {
+      heap = s.heap;
+      kinds = s.kinds.items;
+      held = s.held.items;
+      pins = s.pins;
+      cells = s.cells;
+      notices = s.notices.items;
+      taken = s.taken;
+      cycle = s.cycle;
+      cycles = s.cycles;
+    } };
 }
 
 impl ManagedPart {
@@ -76,7 +88,8 @@ impl ManagedPart {
         requires thread { IsManagedThread caller }
         requires act { IsManagedAct act.now }
         requires one { IsOneEvent act.now }
-        ensures ok { IfOk result (λ d. Decides (Gives (managed_line self.old (thread_number caller) act.now) reply.now) d self.old self.new) }
+        ensures ok { IfOk result (λ d. Decides
+            (Gives (managed_line self.old (thread_number caller) act.now) reply.now) d self.old self.new) }
         ensures err { OnErr result (self.new ≡ self.old) }
     {
         match act {
@@ -99,7 +112,9 @@ impl ManagedPart {
     fn plain(&mut self, caller: Thread, act: &Act, reply: &Reply) -> Verdict
         requires thread { IsManagedThread caller }
         requires act { IsPlainAct act.now }
-        ensures { Decides (Gives (on_heap self.old (plain_line managed_name self.old.heap (thread_number caller) act.now)) reply.now) result self.old self.new }
+        ensures { Decides (Gives (on_heap self.old
+            (plain_line managed_name self.old.heap (thread_number caller) act.now)) reply.now)
+            result self.old self.new }
     {
         self.heap.line(Naming::Objects, caller, act, reply)
     }
@@ -121,7 +136,8 @@ impl ManagedPart {
 
     /// The live objects that a variable, a static or a pin names. Answers `AllocError` where there is no memory.
     pub(crate) fn roots(&self, alloc: Global) -> Result<Vec<MNum>, AllocError>
-        ensures { IfOk result (λ v. (x : ℕ) → Contains (managed_numbers v.items) x ↔ (IsLive self.now.heap x × IsManagedRoot self.now x)) }
+        ensures { IfOk result (λ v. (x : ℕ) → Contains (managed_numbers v.items) x
+            ↔ (IsLive self.now.heap x × IsManagedRoot self.now x)) }
     {
         let named = pinned_roots(alloc, &self.heap, &self.pins)?;
         as_objects(alloc, &named)

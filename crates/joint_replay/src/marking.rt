@@ -36,9 +36,15 @@ impl Model for BegunMarking {
 
     ghost Value = { JointMarking };
 
-    ghost view = { λ s. record { number = s.number; by = s.by; begun = parts_graph s.managed.value s.peers.value s.removed.value.items } };
+    ghost view = { λ s. record {
+      number = s.number;
+      by = s.by;
+      begun = parts_graph s.managed.value s.peers.value s.removed.value.items;
+    } };
 
-    ghost invariant = { λ s. let m : JointMarking = record { number = s.number; by = s.by; begun = parts_graph s.managed.value s.peers.value s.removed.value.items } in (p : ℕ) → HasMark s.stored.items p ↔ IsStored m p };
+    ghost invariant = { λ s. let m : JointMarking =
+        record { number = s.number; by = s.by; begun = parts_graph s.managed.value s.peers.value s.removed.value.items }
+        in (p : ℕ) → HasMark s.stored.items p ↔ IsStored m p };
 }
 
 impl BegunMarking {
@@ -51,7 +57,8 @@ impl BegunMarking {
         peers: &PeerPart,
         removed: &Vec<bool>,
     ) -> Result<BegunMarking, AllocError>
-        ensures { IfOk result (λ m. (m.number ≡ number) × (m.by ≡ by) × (m.begun ≡ parts_graph managed.now peers.now removed.now.items)) }
+        ensures { IfOk result (λ m. (m.number ≡ number) × (m.by ≡ by)
+            × (m.begun ≡ parts_graph managed.now peers.now removed.now.items)) }
     {
         let stored = dead_peers(alloc, managed, peers, removed)?;
         Ok(BegunMarking {

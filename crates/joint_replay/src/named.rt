@@ -14,7 +14,9 @@ pub(crate) fn freed_objects(
     h: &History,
     span: Span,
 ) -> Result<Option<Vec<u32>>, AllocError>
-    ensures { IfOk result (λ o. MatchOption o (length (managed_numbers (stretch h.now.freed_managed span)) ≡ span.count → ⊥) (λ v. (v.items ≡ managed_numbers (stretch h.now.freed_managed span)) × (length v.items ≡ span.count))) }
+    ensures { IfOk result (λ o. MatchOption o
+        (length (managed_numbers (stretch h.now.freed_managed span)) ≡ span.count → ⊥)
+        (λ v. (v.items ≡ managed_numbers (stretch h.now.freed_managed span)) × (length v.items ≡ span.count))) }
 {
     let mut numbers = Vec::new(alloc);
     for i in 0..span.count {
@@ -37,7 +39,8 @@ pub(crate) fn freed_peers(
     h: &History,
     span: Span,
 ) -> Result<Option<Vec<u32>>, AllocError>
-    ensures { IfOk result (λ o. MatchOption o (length (peer_numbers (stretch h.now.freed_peers span)) ≡ span.count → ⊥) (λ v. (v.items ≡ peer_numbers (stretch h.now.freed_peers span)) × (length v.items ≡ span.count))) }
+    ensures { IfOk result (λ o. MatchOption o (length (peer_numbers (stretch h.now.freed_peers span)) ≡ span.count → ⊥)
+        (λ v. (v.items ≡ peer_numbers (stretch h.now.freed_peers span)) × (length v.items ≡ span.count))) }
 {
     let mut numbers = Vec::new(alloc);
     for i in 0..span.count {

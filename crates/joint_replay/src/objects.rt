@@ -2,7 +2,8 @@
 
 ghost use Rattle.std.specs.Prelude.{◌≡◌, ◌+◌, ◌<◌, ◌↔◌, false, IsTrue, IfOk, OnErr, OnOk, Some, None};
 ghost use Rattle.joint_machine.specs.Heaps.{answer, is_full, with_var};
-ghost use Rattle.joint_machine.specs.Managed.{made_new, adopted, handle_reply, given_up, met, twin_met, twin_kind, twin_fields, without_handle, with_row};
+ghost use Rattle.joint_machine.specs.Managed.{made_new, adopted, handle_reply, given_up, met, twin_met, twin_kind};
+ghost use Rattle.joint_machine.specs.Managed.{twin_fields, without_handle, with_row};
 ghost use Rattle.joint_replay.specs.Judging.{Decides, Gives};
 
 use crate::managed::{ManagedPart, names_cycle, names_object};
@@ -93,7 +94,8 @@ impl ManagedPart {
         reply: &Reply,
     ) -> Result<Verdict, AllocError>
         requires { v < 72 }
-        ensures ok { IfOk result (λ d. Decides (Gives (met self.old v h sort fields twin) reply.now) d self.old self.new) }
+        ensures ok { IfOk result (λ d. Decides
+            (Gives (met self.old v h sort fields twin) reply.now) d self.old self.new) }
         ensures err { OnErr result (self.new ≡ self.old) }
     {
         if let Some(open) = &self.cycle {
@@ -115,7 +117,8 @@ impl ManagedPart {
         reply: &Reply,
     ) -> Result<Verdict, AllocError>
         requires { v < 72 }
-        ensures ok { IfOk result (λ d. Decides (Gives (twin_met self.old v h sort fields None) reply.now) d self.old self.new) }
+        ensures ok { IfOk result (λ d. Decides
+            (Gives (twin_met self.old v h sort fields None) reply.now) d self.old self.new) }
         ensures err { OnErr result (self.new ≡ self.old) }
     {
         if self.heap.is_full() {
@@ -131,7 +134,8 @@ impl ManagedPart {
     // The variable at place `v` names the twin that there is.
     fn name_twin(&mut self, v: usize, m: u32, reply: &Reply) -> Verdict
         requires { v < 72 }
-        ensures { Decides (Gives (answer (Reply.Twin record { 0 = m }) (record self.old { heap = with_var self.old.heap v (Some m) })) reply.now) result self.old self.new }
+        ensures { Decides (Gives (answer (Reply.Twin record { 0 = m })
+            (record self.old { heap = with_var self.old.heap v (Some m) })) reply.now) result self.old self.new }
     {
         if !names_twin(reply, m) {
             return Verdict::Unlawful;

@@ -1,9 +1,11 @@
 // The open cycle of the managed part, and the notices that its end queues.
 
-ghost use Rattle.std.specs.Prelude.{◌≡◌, ◌++◌, ◌+◌, ◌<◌, ◌↔◌, false, IsTrue, IfOk, OnErr, OnOk, Some, None, MatchOption, All, filter, length, map};
+ghost use Rattle.std.specs.Prelude.{◌≡◌, ◌++◌, ◌+◌, ◌<◌, ◌↔◌, false, IsTrue, IfOk, OnErr, OnOk, Some, None};
+ghost use Rattle.std.specs.Prelude.{MatchOption, All, filter, length, map};
 ghost use Rattle.joint_machine.specs.Cycles.{IsOpen};
 ghost use Rattle.joint_machine.specs.Heaps.{IsMade, with_freed};
-ghost use Rattle.joint_machine.specs.Managed.{abandoned, candidates_of, handle_of, holds_handle, notices_taken, with_snapshot, resolved};
+ghost use Rattle.joint_machine.specs.Managed.{abandoned, candidates_of, handle_of, holds_handle, notices_taken};
+ghost use Rattle.joint_machine.specs.Managed.{with_snapshot, resolved};
 ghost use Rattle.joint_machine.specs.Run.{answered_for, is_that_handle};
 ghost use Rattle.joint_replay.specs.Answers.{said_as, answers_as, given_in, renewed_by, Awaits};
 ghost use Rattle.joint_replay.specs.Plain.{HasOpen};
@@ -74,7 +76,8 @@ impl ManagedPart {
 
     /// Cycle `k`, where it is open.
     pub(crate) fn opened(&self, k: Cycle) -> Option<&SnappedCycle>
-        ensures { MatchOption result (HasOpen self.now k.0 → ⊥) (λ o. IsOpen self.now k.0 o.now × OwesDead (length self.now.heap.fields) (Some o.now)) }
+        ensures { MatchOption result (HasOpen self.now k.0 → ⊥)
+            (λ o. IsOpen self.now k.0 o.now × OwesDead (length self.now.heap.fields) (Some o.now)) }
     {
         match &self.cycle {
             None => None,
@@ -117,8 +120,10 @@ impl ManagedPart {
         reply: &Reply,
         answers: &mut Vec<Option<Said>>,
     ) -> Result<Verdict, AllocError>
-        ensures ok { IfOk result (λ d. Decides (SnapsManaged self.old k.0 (named_objects h.now reply.now) reply.now) d self.old self.new) }
-        ensures answers { IfOk result (λ d. Awaits d (candidates_of self.new) (answers_as answers.old.items) (answers_as answers.new.items)) }
+        ensures ok { IfOk result (λ d. Decides
+            (SnapsManaged self.old k.0 (named_objects h.now reply.now) reply.now) d self.old self.new) }
+        ensures answers { IfOk result (λ d. Awaits d (candidates_of self.new)
+            (answers_as answers.old.items) (answers_as answers.new.items)) }
         ensures err { OnErr result (self.new ≡ self.old) }
         ensures kept { OnErr result (answers.new.items ≡ answers.old.items) }
     {
@@ -168,8 +173,10 @@ impl ManagedPart {
     // Opens cycle `k` with what was found, and frees what goes.
     fn open(&mut self, k: Cycle, found: SnapshotRows) -> Result<(), AllocError>
         requires next { k.0 ≡ self.old.cycles + 1 }
-        requires finds { FindsRows self.old.heap self.old.held self.old.pins found.freed.items found.candidates.items found.dead.items }
-        ensures ok { OnOk result (self.new ≡ with_snapshot self.old found.freed.items found.candidates.items found.dead.items) }
+        requires finds { FindsRows self.old.heap self.old.held self.old.pins
+            found.freed.items found.candidates.items found.dead.items }
+        ensures ok { OnOk result (self.new ≡ with_snapshot self.old
+            found.freed.items found.candidates.items found.dead.items) }
         ensures err { OnErr result (self.new ≡ self.old) }
     {
         let SnapshotRows {
@@ -210,7 +217,10 @@ impl ManagedPart {
     // part is then as before.
     fn free(&mut self, alloc: Global, freed: &[u32]) -> Result<(), AllocError>
         requires { All (IsMade self.old.heap) freed.now }
-        ensures ok { OnOk result (self.new ≡ record self.old { heap = with_freed self.old.heap freed.now; notices = self.old.notices ++ filter (holds_handle self.old) freed.now }) }
+        ensures ok { OnOk result (self.new ≡ record self.old {
+          heap = with_freed self.old.heap freed.now;
+          notices = self.old.notices ++ filter (holds_handle self.old) freed.now;
+        }) }
         ensures err { OnErr result (self.new ≡ self.old) }
     {
         let queued = self.holders(alloc, freed)?;
@@ -222,7 +232,8 @@ impl ManagedPart {
 
     // The open cycle is closed; each candidate that was answered alive holds the handle that its restore gave.
     fn end(&mut self, answers: &[Option<Said>])
-        ensures { self.new ≡ record self.old { held = renewed_by self.old.held (candidates_of self.old) (answers_as answers.now); cycle = None } }
+        ensures { self.new ≡ record self.old
+            { held = renewed_by self.old.held (candidates_of self.old) (answers_as answers.now); cycle = None } }
     {
         self.renew(answers);
         self.cycle = None;
@@ -230,7 +241,8 @@ impl ManagedPart {
 
     // Each candidate that was answered alive holds the handle that its restore gave.
     fn renew(&mut self, answers: &[Option<Said>])
-        ensures { self.new ≡ record self.old { held = renewed_by self.old.held (candidates_of self.old) (answers_as answers.now) } }
+        ensures { self.new ≡ record self.old
+            { held = renewed_by self.old.held (candidates_of self.old) (answers_as answers.now) } }
     {
         if let Some(open) = &self.cycle {
             renew_each(open.candidates(), answers, &mut self.held);
@@ -256,7 +268,8 @@ impl ManagedPart {
 
     /// Each candidate of the open cycle that holds handle `h` has had that answer.
     pub(crate) fn answer(&self, h: u32, said: Said, answers: &mut Vec<Option<Said>>)
-        ensures { answers_as answers.new.items ≡ answered_for self.now h (said_as said) (candidates_of self.now) (answers_as answers.old.items) }
+        ensures { answers_as answers.new.items ≡ answered_for self.now h
+            (said_as said) (candidates_of self.now) (answers_as answers.old.items) }
     {
         if let Some(open) = &self.cycle {
             answer_each(self, open.candidates(), h, said, answers);

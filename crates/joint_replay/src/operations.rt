@@ -2,7 +2,8 @@
 
 ghost use Rattle.std.specs.Prelude.{◌≡◌, ℕ, ◌<◌, ◌↔◌, IsTrue, Some, None, length};
 ghost use Rattle.std.specs.Option.{ForSome};
-ghost use Rattle.joint_machine.specs.Heaps.{answer, with_var, copied, field_set, read_into, field_got, dropped, loaded, stored};
+ghost use Rattle.joint_machine.specs.Heaps.{answer, with_var, copied, field_set, read_into, field_got, dropped, loaded};
+ghost use Rattle.joint_machine.specs.Heaps.{stored};
 ghost use Rattle.joint_machine.specs.Lines.{IsThread};
 ghost use Rattle.joint_machine.specs.Run.{thread_number};
 ghost use Rattle.joint_replay.specs.Judging.{Decides, Gives};
@@ -50,7 +51,8 @@ impl PlainHeap {
     ) -> Verdict
         requires thread { IsThread caller }
         requires act { IsPlainAct act.now }
-        ensures verdict { Decides (Gives (plain_line (name_of naming) self.old (thread_number caller) act.now) reply.now) result self.old self.new }
+        ensures verdict { Decides (Gives (plain_line (name_of naming) self.old (thread_number caller) act.now)
+            reply.now) result self.old self.new }
         ensures freed { self.new.freed ≡ self.old.freed }
         ensures made { length self.new.fields ≡ length self.old.fields }
     {
@@ -116,7 +118,8 @@ impl PlainHeap {
     fn get(&mut self, naming: Naming, v: usize, w: usize, i: usize, reply: &Reply) -> Verdict
         requires v { v < 72 }
         requires w { w < 72 }
-        ensures verdict { Decides (Gives (field_got (name_of naming) self.old v w i) reply.now) result self.old self.new }
+        ensures verdict { Decides (Gives (field_got (name_of naming) self.old v w i) reply.now)
+            result self.old self.new }
         ensures freed { self.new.freed ≡ self.old.freed }
         ensures made { length self.new.fields ≡ length self.old.fields }
     {
@@ -184,7 +187,8 @@ impl PlainHeap {
     // The variable at place `v` names what was read, or nothing.
     fn read(&mut self, naming: Naming, v: usize, found: Option<u32>, reply: &Reply) -> Verdict
         requires { v < 72 }
-        ensures verdict { Decides (Gives (read_into (name_of naming) self.old v found) reply.now) result self.old self.new }
+        ensures verdict { Decides (Gives (read_into (name_of naming) self.old v found) reply.now)
+            result self.old self.new }
         ensures freed { self.new.freed ≡ self.old.freed }
         ensures made { length self.new.fields ≡ length self.old.fields }
     {
@@ -201,7 +205,8 @@ impl PlainHeap {
     // The variable at place `v` names object `x`, and the reply says so.
     fn name(&mut self, naming: Naming, v: usize, x: u32, reply: &Reply) -> Verdict
         requires { v < 72 }
-        ensures verdict { Decides (Gives (answer (name_of naming x) (with_var self.old v (Some x))) reply.now) result self.old self.new }
+        ensures verdict { Decides (Gives (answer (name_of naming x) (with_var self.old v (Some x))) reply.now)
+            result self.old self.new }
         ensures freed { self.new.freed ≡ self.old.freed }
         ensures made { length self.new.fields ≡ length self.old.fields }
     {

@@ -1,10 +1,14 @@
 // The peers of the joint state, with the global names and the handles as they were issued.
 
-ghost use Rattle.std.specs.Prelude.{◌≡◌, ◌<◌, ◌≤◌, ◌↔◌, ◌||◌, IsTrue, IfOk, OnErr, OnOk, MatchOption, All, length, slice_set, false};
+ghost use Rattle.std.specs.Prelude.{◌≡◌, ◌<◌, ◌≤◌, ◌↔◌, ◌||◌, IsTrue, IfOk, OnErr, OnOk, MatchOption, All, length};
+ghost use Rattle.std.specs.Prelude.{slice_set, false};
 ghost use Rattle.std.specs.Option.{option_map};
-ghost use Rattle.joint_machine.specs.Heaps.{IsMade, is_full, next_number, numbered_at, slot, with_static, fields_of, with_freed};
+ghost use Rattle.joint_machine.specs.Heaps.{IsMade, is_full, next_number, numbered_at, slot, with_static, fields_of};
+ghost use Rattle.joint_machine.specs.Heaps.{with_freed};
 ghost use Rattle.joint_machine.specs.Lines.{IsPeerThread};
-ghost use Rattle.joint_machine.specs.Peers.{opening_peers, handles_full, with_handle, with_renewed, with_peer, held, strong, next_handle, peer_of, sort_of, on_peer_heap, peer_made, peer_name, peer_read, handle_name, landed};
+ghost use Rattle.joint_machine.specs.Peers.{opening_peers, handles_full, with_handle, with_renewed, with_peer, held};
+ghost use Rattle.joint_machine.specs.Peers.{strong, next_handle, peer_of, sort_of, on_peer_heap, peer_made, peer_name};
+ghost use Rattle.joint_machine.specs.Peers.{peer_read, handle_name, landed};
 ghost use Rattle.joint_machine.specs.Run.{thread_number};
 ghost use Rattle.joint_replay.specs.Judging.{Decides, Gives};
 ghost use Rattle.joint_replay.specs.Operations.{IsPlainAct, plain_line};
@@ -60,7 +64,13 @@ impl Model for PeerPart {
 
     ghost Value = { Peers };
 
-    ghost view = { λ s. record { heap = s.heap; sorts = s.sorts.items; names = s.names; issued = map issued_as s.handles.items; made = s.made } };
+    ghost view = { λ s. record {
+      heap = s.heap;
+      sorts = s.sorts.items;
+      names = s.names;
+      issued = map issued_as s.handles.items;
+      made = s.made;
+    } };
 
     ghost invariant = { λ s. (length s.handles.items ≤ 4294967295) × (length s.names ≡ 64) };
 }
@@ -174,7 +184,8 @@ impl PeerPart {
     /// Whether the reply names peer `p`, the next handle, and the peer's sort and number of fields.
     pub(crate) fn names_gripped(&self, p: u32, reply: &Reply) -> bool
         ensures room { IsTrue result → length self.now.issued < 4294967295 }
-        ensures says { IsTrue result ↔ (reply.now ≡ Reply.Gripped record { 0 = p } record { 0 = next_handle self.now } (sort_of self.now p) (length (fields_of self.now.heap p))) }
+        ensures says { IsTrue result ↔ (reply.now ≡ Reply.Gripped record { 0 = p }
+            record { 0 = next_handle self.now } (sort_of self.now p) (length (fields_of self.now.heap p))) }
     {
         match reply {
             Reply::Gripped(peer, h, sort, fields) => {
@@ -223,7 +234,8 @@ impl PeerPart {
     pub(crate) fn plain(&mut self, caller: Thread, act: &Act, reply: &Reply) -> Verdict
         requires thread { IsPeerThread caller }
         requires act { IsPlainAct act.now }
-        ensures verdict { Decides (Gives (on_peer_heap self.old (plain_line peer_name self.old.heap (thread_number caller) act.now)) reply.now) result self.old self.new }
+        ensures verdict { Decides (Gives (on_peer_heap self.old
+            (plain_line peer_name self.old.heap (thread_number caller) act.now)) reply.now) result self.old self.new }
         ensures issued { self.new.issued ≡ self.old.issued }
         ensures freed { self.new.heap.freed ≡ self.old.heap.freed }
         ensures made { length self.new.heap.fields ≡ length self.old.heap.fields }
@@ -297,7 +309,8 @@ impl PeerPart {
     /// Whether the reply names the next peer and the next handle.
     pub(crate) fn names_next(&self, reply: &Reply) -> bool
         ensures room { IsTrue result → length self.now.issued < 4294967295 }
-        ensures says { IsTrue result ↔ (reply.now ≡ Reply.Made record { 0 = next_number self.now.heap } record { 0 = next_handle self.now }) }
+        ensures says { IsTrue result ↔ (reply.now ≡ Reply.Made
+            record { 0 = next_number self.now.heap } record { 0 = next_handle self.now }) }
     {
         match reply {
             Reply::Made(p, h) => {
@@ -312,7 +325,8 @@ impl PeerPart {
     pub(crate) fn add_pair(&mut self, sort: Sort, fields: u8) -> Result<(), AllocError>
         requires full { (is_full self.old.heap.fields || handles_full self.old) ≡ false }
         requires room { length self.old.issued < 4294967295 }
-        ensures ok { OnOk result (self.new ≡ with_handle (with_peer self.old sort fields) (next_number self.old.heap) held strong) }
+        ensures ok { OnOk result (self.new ≡ with_handle
+            (with_peer self.old sort fields) (next_number self.old.heap) held strong) }
         ensures err { OnErr result (self.new ≡ self.old) }
     {
         let p = self.heap.made() + 1;
@@ -331,7 +345,9 @@ impl PeerPart {
 
     /// The handle that the reply of a restore names, where that is the next one.
     pub(crate) fn renewal(&self, reply: &Reply) -> Option<u32>
-        ensures { MatchOption result (reply.now ≡ Reply.Renewed record { 0 = next_handle self.now } → ⊥) (λ h. (h ≡ next_handle self.now) × (reply.now ≡ Reply.Renewed record { 0 = h }) × (length self.now.issued < 4294967295)) }
+        ensures { MatchOption result (reply.now ≡ Reply.Renewed record { 0 = next_handle self.now } → ⊥)
+            (λ h. (h ≡ next_handle self.now) × (reply.now ≡ Reply.Renewed record { 0 = h })
+            × (length self.now.issued < 4294967295)) }
     {
         match reply {
             Reply::Renewed(h) => {

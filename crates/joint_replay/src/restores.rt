@@ -31,7 +31,8 @@ impl JointState {
 
     // The peer of a handle that may be restored; None where it is no candidate's, or was removed.
     fn restorable(&self, h: u32) -> Option<u32>
-        ensures { MatchOption result ((reply : Reply) → (next : Joint) → JointRestore self.now h reply next → ⊥) (λ p. MayRestore self.now h p) }
+        ensures { MatchOption result ((reply : Reply) → (next : Joint) → JointRestore self.now h reply next → ⊥)
+            (λ p. MayRestore self.now h p) }
     {
         if !self.managed.has_candidate(h) || !is_kept(&self.removed, h) {
             return None;
@@ -52,7 +53,8 @@ impl JointState {
 
     // The handle is removed.
     fn clear_handle(&mut self, h: u32, reply: &Reply) -> Verdict
-        ensures { Decides (Gives (answer Reply.Cleared (answered (without self.old (Some h)) h said_cleared)) reply.now) result self.old self.new }
+        ensures { Decides (Gives (answer Reply.Cleared (answered (without self.old (Some h)) h said_cleared)) reply.now)
+            result self.old self.new }
     {
         if !matches!(reply, Reply::Cleared) {
             return Verdict::Unlawful;
@@ -65,7 +67,10 @@ impl JointState {
     // The handle is removed, and its peer gets a new one. Answers `AllocError` where there is no memory; the state is
     // then as before.
     fn renew_handle(&mut self, h: u32, p: u32, reply: &Reply) -> Result<Verdict, AllocError>
-        ensures ok { IfOk result (λ d. Decides (Gives (answer (Reply.Renewed record { 0 = next_handle self.old.graph.peers }) (answered (given_anew (without self.old (Some h)) p) h (said_alive (next_handle self.old.graph.peers)))) reply.now) d self.old self.new) }
+        ensures ok { IfOk result (λ d. Decides
+            (Gives (answer (Reply.Renewed record { 0 = next_handle self.old.graph.peers })
+            (answered (given_anew (without self.old (Some h)) p) h (said_alive (next_handle self.old.graph.peers))))
+            reply.now) d self.old self.new) }
         ensures err { OnErr result (self.new ≡ self.old) }
     {
         let Some(given) = self.peers.renewal(reply) else {

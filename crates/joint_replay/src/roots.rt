@@ -1,6 +1,7 @@
 // The roots of a marking.
 
-ghost use Rattle.std.specs.Prelude.{◌≡◌, ℕ, ◌+◌, ◌<◌, ◌≤◌, ◌↔◌, ◌⊎◌, Contains, IfOk, OnOk, IsTrue, Some, length, take, slice_get};
+ghost use Rattle.std.specs.Prelude.{◌≡◌, ℕ, ◌+◌, ◌<◌, ◌≤◌, ◌↔◌, ◌⊎◌, Contains, IfOk, OnOk, IsTrue, Some, length, take};
+ghost use Rattle.std.specs.Prelude.{slice_get};
 ghost use Rattle.joint_machine.specs.Heaps.{IsLive, InSlot};
 ghost use Rattle.joint_machine.specs.Histories.{managed_numbers};
 ghost use Rattle.joint_replay.specs.Found.{IsBridgeRow, has_handle, held_at};
@@ -27,7 +28,8 @@ pub(crate) fn pinned_roots(
     heap: &PlainHeap,
     pins: &[Option<u32>],
 ) -> Result<Vec<u32>, AllocError>
-    ensures { IfOk result (λ v. (x : ℕ) → Contains v.items x ↔ (IsLive heap.now x × IsNamedOrPinned heap.now pins.now x)) }
+    ensures { IfOk result (λ v. (x : ℕ) → Contains v.items x
+        ↔ (IsLive heap.now x × IsNamedOrPinned heap.now pins.now x)) }
 {
     let mut roots = named_roots(alloc, heap)?;
     push_named(heap, pins, &mut roots)?;

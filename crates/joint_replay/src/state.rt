@@ -57,7 +57,12 @@ impl Model for JointState {
 
     ghost Value = { Joint };
 
-    ghost view = { λ s. record { graph = record { managed = s.managed; peers = s.peers; removed = s.removed.items }; answers = answers_as s.answers.items; marking = s.marking; markings = s.markings } };
+    ghost view = { λ s. record {
+      graph = record { managed = s.managed; peers = s.peers; removed = s.removed.items };
+      answers = answers_as s.answers.items;
+      marking = s.marking;
+      markings = s.markings;
+    } };
 
     ghost invariant = { λ s. KeepsStored s.peers s.marking };
 }

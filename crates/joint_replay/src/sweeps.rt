@@ -18,7 +18,8 @@ use std::alloc::AllocError;
 impl JointState {
     /// `begin`: a further marking is opened, or the open one is named.
     pub(crate) fn begin(&mut self, caller: Thread, reply: &Reply) -> Result<Verdict, AllocError>
-        ensures ok { IfOk result (λ d. Decides (JointBegin self.old self.old.marking caller reply.now) d self.old self.new) }
+        ensures ok { IfOk result (λ d. Decides
+            (JointBegin self.old self.old.marking caller reply.now) d self.old self.new) }
         ensures err { OnErr result (self.new ≡ self.old) }
     {
         if let Some(marking) = &self.marking {
@@ -49,7 +50,9 @@ impl JointState {
         reply: &Reply,
     ) -> Result<Verdict, AllocError>
         requires caller { IsPeerThread caller ⊎ IsDriver caller }
-        ensures ok { IfOk result (λ d. Decides (JointSweep self.old self.old.marking caller reply.now (sweep_of (named_peers h.now reply.now))) d self.old self.new) }
+        ensures ok { IfOk result (λ d. Decides
+            (JointSweep self.old self.old.marking caller reply.now (sweep_of (named_peers h.now reply.now)))
+            d self.old self.new) }
         ensures err { OnErr result (self.new ≡ self.old) }
     {
         let Some(marking) = &self.marking else {
@@ -69,7 +72,8 @@ impl JointState {
         reply: &Reply,
     ) -> Result<Verdict, AllocError>
         requires caller { MayEndOpen self.old caller }
-        ensures ok { IfOk result (λ d. Decides (SweepsJoint self.old caller (named_peers h.now reply.now) reply.now) d self.old self.new) }
+        ensures ok { IfOk result (λ d. Decides
+            (SweepsJoint self.old caller (named_peers h.now reply.now) reply.now) d self.old self.new) }
         ensures err { OnErr result (self.new ≡ self.old) }
     {
         let Some(freed) = self.swept(h, reply)? else {
@@ -82,7 +86,8 @@ impl JointState {
 
     // The peers that the open marking frees by that reply; None where it is no sweep of that marking.
     fn swept(&self, h: &History, reply: &Reply) -> Result<Option<Vec<u32>>, AllocError>
-        ensures { IfOk result (λ o. MatchOption o (MaySweep self.now (named_peers h.now reply.now) reply.now → ⊥) (λ v. (v.items ≡ named_peers h.now reply.now) × MaySweep self.now v.items reply.now)) }
+        ensures { IfOk result (λ o. MatchOption o (MaySweep self.now (named_peers h.now reply.now) reply.now → ⊥)
+            (λ v. (v.items ≡ named_peers h.now reply.now) × MaySweep self.now v.items reply.now)) }
     {
         let Some(marking) = &self.marking else {
             return Ok(None);
@@ -100,7 +105,8 @@ impl JointState {
 
     // The peers that the reply of a sweep of marking `n` names; None where it is none, or stands elsewhere.
     fn named(&self, h: &History, reply: &Reply, n: u32) -> Result<Option<Vec<u32>>, AllocError>
-        ensures { IfOk result (λ o. MatchOption o (SaysSwept self.now.graph.peers.heap h.now reply.now n → ⊥) (λ v. (v.items ≡ named_peers h.now reply.now) × SaysSwept self.now.graph.peers.heap h.now reply.now n)) }
+        ensures { IfOk result (λ o. MatchOption o (SaysSwept self.now.graph.peers.heap h.now reply.now n → ⊥)
+            (λ v. (v.items ≡ named_peers h.now reply.now) × SaysSwept self.now.graph.peers.heap h.now reply.now n)) }
     {
         match reply {
             Reply::Swept(number, span) => {

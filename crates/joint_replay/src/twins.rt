@@ -24,7 +24,8 @@ impl JointState {
     ) -> Result<Verdict, AllocError>
         requires thread { IsManagedThread caller }
         requires event { IsObjectEvent op.now }
-        ensures ok { IfOk result (λ d. Decides (Gives (joint_answer self.old caller op.now) reply.now) d self.old self.new) }
+        ensures ok { IfOk result (λ d. Decides
+            (Gives (joint_answer self.old caller op.now) reply.now) d self.old self.new) }
         ensures err { OnErr result (self.new ≡ self.old) }
     {
         match op {
@@ -60,7 +61,9 @@ impl JointState {
         reply: &Reply,
     ) -> Result<Verdict, AllocError>
         requires { v < 72 }
-        ensures ok { IfOk result (λ d. Decides (Gives (on_managed self.old (adopted self.old.graph.managed v kind fields h)) reply.now) d self.old self.new) }
+        ensures ok { IfOk result (λ d. Decides
+            (Gives (on_managed self.old (adopted self.old.graph.managed v kind fields h)) reply.now)
+            d self.old self.new) }
         ensures err { OnErr result (self.new ≡ self.old) }
     {
         self.managed.adopt(v, kind, fields, h, reply)
@@ -77,7 +80,9 @@ impl JointState {
         reply: &Reply,
     ) -> Result<Verdict, AllocError>
         requires { v < 72 }
-        ensures ok { IfOk result (λ d. Decides (Gives (on_managed self.old (met self.old.graph.managed v h sort fields (twin_of self.old p))) reply.now) d self.old self.new) }
+        ensures ok { IfOk result (λ d. Decides
+            (Gives (on_managed self.old (met self.old.graph.managed v h sort fields (twin_of self.old p))) reply.now)
+            d self.old self.new) }
         ensures err { OnErr result (self.new ≡ self.old) }
     {
         let twin = self.twin(p);
@@ -95,7 +100,9 @@ impl JointState {
         reply: &Reply,
     ) -> Result<Verdict, AllocError>
         requires { v < 72 }
-        ensures ok { IfOk result (λ d. Decides (Gives (on_managed self.old (met self.old.graph.managed v h sort fields twin)) reply.now) d self.old self.new) }
+        ensures ok { IfOk result (λ d. Decides
+            (Gives (on_managed self.old (met self.old.graph.managed v h sort fields twin)) reply.now)
+            d self.old self.new) }
         ensures err { OnErr result (self.new ≡ self.old) }
     {
         self.managed.meet(v, h, sort, fields, twin, reply)
@@ -129,7 +136,8 @@ impl JointState {
     // `give`: the object of the variable at place `v` gives its handle up.
     fn give(&mut self, v: usize, reply: &Reply) -> Verdict
         requires { v < 72 }
-        ensures { Decides (Gives (on_managed self.old (given_up self.old.graph.managed v)) reply.now) result self.old self.new }
+        ensures { Decides (Gives (on_managed self.old (given_up self.old.graph.managed v)) reply.now)
+            result self.old self.new }
     {
         self.managed.give(v, reply)
     }

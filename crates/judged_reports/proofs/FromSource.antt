@@ -10,7 +10,8 @@ use Rattle.legal_reports.specs.Reports.{IsReportOfRun}
 use Rattle.judged_reports.specs.declared.judging.Judged.{Judged}
 use Rattle.judged_reports.specs.Judging.{JudgedReport}
 
-pub judged_of : FoundLegalIsReport → (most : ℕ) (left rest : Option (List ℕ)) (h : Finished) (j : Judged) → most < 4294967294 → TookReport most left rest h → j.count ≡ length h.entries → IsFinding h j.finding → JudgedReport most left rest j
+pub judged_of : FoundLegalIsReport → (most : ℕ) (left rest : Option (List ℕ)) (h : Finished) (j : Judged) → most < 4294967294
+    → TookReport most left rest h → j.count ≡ length h.entries → IsFinding h j.finding → JudgedReport most left rest j
 judged_of law most left rest h j few t n f =
     let size = t.size in
     let exact = law t.input h j.finding (omega (arith, few, size)) t.reads f in

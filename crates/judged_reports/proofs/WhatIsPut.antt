@@ -44,7 +44,8 @@ not-refused most input h r l (Refused fault) n (inl w) = w.none h r.canonical.va
 not-refused most input h r l (Refused fault) n (inr w) = (let long = w.0 in omega (arith, long, l))
 not-refused most input h r l (Long line) n w = (let long = w.0 in omega (arith, long, l))
 
-pub never_refused : (most : ℕ) (left rest : Option (List ℕ)) (input : List ℕ) (h : Finished) (error : TakeError) → left ≡ Some input → IsReadAs input h → length input ≤ most → (error ≡ OutOfMemory → ⊥) → TookWrong most left rest error → ⊥
+pub never_refused : (most : ℕ) (left rest : Option (List ℕ)) (input : List ℕ) (h : Finished) (error : TakeError)
+    → left ≡ Some input → IsReadAs input h → length input ≤ most → (error ≡ OutOfMemory → ⊥) → TookWrong most left rest error → ⊥
 never_refused most left rest input h error e r l n w =
     let same = all-taken most left rest input w.input e l w.took in
     not-refused most input h r l error n (subst (λ b. IsNoneWithin most b error) same w.wrong)

@@ -39,9 +39,11 @@ pub enum Answered {
 
 // Writes what was found.
 fn put_finding<K: Sink>(judged: Judged, out: &mut K) -> Answered
-    ensures found { result ≡ Answered.Found → Appends (K.held out.old) (K.held out.new) (finding_text judged.count judged.finding) }
+    ensures found { result ≡ Answered.Found
+        → Appends (K.held out.old) (K.held out.new) (finding_text judged.count judged.finding) }
     ensures write { result ≡ Answered.WriteFault → Rose (K.faults out.old) (K.faults out.new) }
-    ensures part { result ≡ Answered.WriteFault → AppendsPart (K.held out.old) (K.held out.new) (finding_text judged.count judged.finding) }
+    ensures part { result ≡ Answered.WriteFault
+        → AppendsPart (K.held out.old) (K.held out.new) (finding_text judged.count judged.finding) }
     ensures ends { (result ≡ Answered.Found) ⊎ (result ≡ Answered.WriteFault) }
 {
     match write_finding(judged.finding, judged.count, out) {
@@ -65,9 +67,11 @@ fn put_fault<K: Sink>(fault: ReportFault, out: &mut K) -> Answered
 
 // Writes which line holds the first byte behind the limit.
 fn put_length<K: Sink>(line: u32, out: &mut K) -> Answered
-    ensures refused { result ≡ Answered.Refused → Appends (K.held out.old) (K.held out.new) (fault_text record { line = line; cause = Bytes }) }
+    ensures refused { result ≡ Answered.Refused
+        → Appends (K.held out.old) (K.held out.new) (fault_text record { line = line; cause = Bytes }) }
     ensures write { result ≡ Answered.WriteFault → Rose (K.faults out.old) (K.faults out.new) }
-    ensures part { result ≡ Answered.WriteFault → AppendsPart (K.held out.old) (K.held out.new) (fault_text record { line = line; cause = Bytes }) }
+    ensures part { result ≡ Answered.WriteFault
+        → AppendsPart (K.held out.old) (K.held out.new) (fault_text record { line = line; cause = Bytes }) }
     ensures ends { (result ≡ Answered.Refused) ⊎ (result ≡ Answered.WriteFault) }
 {
     let fault = ScriptFault {
@@ -92,13 +96,21 @@ pub fn answer_report<S: Source, K: Sink>(
     most: usize,
 ) -> Answered
     requires { most < 4294967294 }
-    ensures found { result ≡ Answered.Found → FindingPut most (S.left src.old) (S.left src.new) (Appends (K.held out.old) (K.held out.new)) }
-    ensures refused { result ≡ Answered.Refused → RefusalPut most (S.left src.old) (S.left src.new) (Appends (K.held out.old) (K.held out.new)) }
-    ensures read { result ≡ Answered.ReadFault → Rose (S.faults src.old) (S.faults src.new) × Keeps (K.held out.old) (K.held out.new) }
+    ensures found { result ≡ Answered.Found
+        → FindingPut most (S.left src.old) (S.left src.new) (Appends (K.held out.old) (K.held out.new)) }
+    ensures refused { result ≡ Answered.Refused
+        → RefusalPut most (S.left src.old) (S.left src.new) (Appends (K.held out.old) (K.held out.new)) }
+    ensures read { result ≡ Answered.ReadFault → Rose (S.faults src.old) (S.faults src.new)
+        × Keeps (K.held out.old) (K.held out.new) }
     ensures write { result ≡ Answered.WriteFault → Rose (K.faults out.old) (K.faults out.new) }
-    ensures part { result ≡ Answered.WriteFault → FindingPut most (S.left src.old) (S.left src.new) (AppendsPart (K.held out.old) (K.held out.new)) ⊎ RefusalPut most (S.left src.old) (S.left src.new) (AppendsPart (K.held out.old) (K.held out.new)) }
+    ensures part { result ≡ Answered.WriteFault
+        → FindingPut most (S.left src.old) (S.left src.new) (AppendsPart (K.held out.old) (K.held out.new))
+        ⊎ RefusalPut most (S.left src.old) (S.left src.new) (AppendsPart (K.held out.old) (K.held out.new)) }
     ensures memory { result ≡ Answered.OutOfMemory → Keeps (K.held out.old) (K.held out.new) }
-    ensures complete { (input : List ℕ) (h : Finished) → S.left src.old ≡ Some input → IsReadAs input h → length input ≤ most → (Rose (S.faults src.old) (S.faults src.new) → ⊥) → (Rose (K.faults out.old) (K.faults out.new) → ⊥) → (result ≡ Answered.Found) ⊎ (result ≡ Answered.OutOfMemory) }
+    ensures complete { (input : List ℕ) (h : Finished) → S.left src.old ≡ Some input → IsReadAs input h
+        → length input ≤ most → (Rose (S.faults src.old) (S.faults src.new) → ⊥)
+        → (Rose (K.faults out.old) (K.faults out.new) → ⊥)
+        → (result ≡ Answered.Found) ⊎ (result ≡ Answered.OutOfMemory) }
 {
     match judge_report(alloc, src, most) {
         Ok(judged) => return put_finding(judged, out),

@@ -28,7 +28,8 @@ pub struct Judged {
 pub fn judge_report<S: Source>(alloc: Global, src: &mut S, most: usize) -> Result<Judged, TakeError>
     requires { most < 4294967294 }
     ensures ok { IfOk result (λ judged. JudgedReport most (S.left src.old) (S.left src.new) judged) }
-    ensures err { IfErr result (λ error. TookNone most (S.left src.old) (S.left src.new) (S.faults src.old) (S.faults src.new) error) }
+    ensures err { IfErr result (λ error. TookNone most (S.left src.old)
+        (S.left src.new) (S.faults src.old) (S.faults src.new) error) }
     ensures later { S.faults src.old ≤ S.faults src.new }
 {
     legal_is_report();

@@ -2,7 +2,8 @@
 -- latest, each line in which it stands is the same entries with the same notes. So the entry, with what the one past
 -- tells, may come after the other past too, and what may be told plainly of an entry at a state is one. So there is one
 -- whole run with notes of which both are pasts, and the join law of noted pasts holds of them.
-use Rattle.std.proofs.Common.{◌≡◌, inl, inr, ⊎_elim, ℕ, zero, suc, ◌+◌, ◌<◌, ◌≤◌, Bool, true, false, List, [], ◌∷◌, ◌++◌, length, map, Option, Some, None, refl, sym, ap, ◌∙◌, subst, arith, eqb, eq-eqb, ne_eqb, true≢false}
+use Rattle.std.proofs.Common.{◌≡◌, inl, inr, ⊎_elim, ℕ, zero, suc, ◌+◌, ◌<◌, ◌≤◌, Bool, true, false, List, [], ◌∷◌, ◌++◌, length, map, Option, Some, None, refl, sym, ap, ◌∙◌, subst, arith, eqb}
+use Rattle.std.proofs.Common.{eq-eqb, ne_eqb, true≢false}
 use Rattle.std.specs.Prelude.{if◌then◌else◌}
 use Rattle.std.proofs.lemmas.Bool.{cases_Bool, eqb-true}
 use Rattle.std.proofs.lemmas.Option.{same_Some}
@@ -38,7 +39,8 @@ tell a b w = or_else (find w.entry.number a) (or_else (find w.entry.number b) (b
 found : (k : ℕ) (h : List Noted) (x : Noted) → find k h ≡ Some x → InPast h x × (x.entry.number ≡ k)
 found k [] x e = absurd (cc)
 found k (y ∷ h) x e = ⊎_elim
-    (λ (t : eqb y.entry.number k ≡ true). let q : y ≡ x = same_Some _ _ (sym (ap (λ c. if c then Some y else find k h) t) ∙ e) in (inl q, sym (ap (λ (z : Noted). z.entry.number) q) ∙ eqb-true y.entry.number k t))
+    (λ (t : eqb y.entry.number k ≡ true). let q : y ≡ x = same_Some _ _ (sym (ap (λ c. if c then Some y else find k h) t) ∙ e) in
+    (inl q, sym (ap (λ (z : Noted). z.entry.number) q) ∙ eqb-true y.entry.number k t))
     (λ (f : eqb y.entry.number k ≡ false). let w = found k h x (sym (ap (λ c. if c then Some y else find k h) f) ∙ e) in (inr w.0, w.1))
     (cases_Bool (eqb y.entry.number k))
 
@@ -76,7 +78,8 @@ length_map f (x ∷ xs) = ap suc (length_map f xs)
 of_line_map : (f : Noted → Noted) (i : ℕ) (ws : List Noted) → ((w : Noted) → InPast ws w → (f w).entry ≡ w.entry) → of_line i (map f ws) ≡ map f (of_line i ws)
 of_line_map f i [] h = refl
 of_line_map f i (w ∷ ws) h =
-    ap (λ (e : Entry). if is_in i (record { entry = e; told = nothing }) then f w ∷ of_line i (map f ws) else of_line i (map f ws)) (h w (inl refl)) ∙ either_way (is_in i w) (of_line_map f i ws (λ x p. h x (inr p)))
+    ap (λ (e : Entry). if is_in i (record { entry = e; told = nothing }) then f w ∷ of_line i (map f ws) else of_line i (map f ws)) (h w (inl refl))
+    ∙ either_way (is_in i w) (of_line_map f i ws (λ x p. h x (inr p)))
   where
     either_way : (b : Bool) → of_line i (map f ws) ≡ map f (of_line i ws) → (if b then f w ∷ of_line i (map f ws) else of_line i (map f ws)) ≡ map f (if b then w ∷ of_line i ws else of_line i ws)
     either_way true e = λ k. f w ∷ e k
@@ -86,7 +89,8 @@ pub line_bare : (i : ℕ) (h : List Noted) → line i (map bare h) ≡ map bare 
 line_bare i [] = refl
 line_bare i (x ∷ h) = either_way (is_in i x) (line_bare i h)
   where
-    either_way : (b : Bool) → line i (map bare h) ≡ map bare (line i h) → (if b then line i (map bare h) ++ bare x ∷ [] else line i (map bare h)) ≡ map bare (if b then line i h ++ x ∷ [] else line i h)
+    either_way : (b : Bool) → line i (map bare h) ≡ map bare (line i h)
+        → (if b then line i (map bare h) ++ bare x ∷ [] else line i (map bare h)) ≡ map bare (if b then line i h ++ x ∷ [] else line i h)
     either_way true e = ap (λ l. l ++ bare x ∷ []) e ∙ sym (map_append bare (line i h) (x ∷ []))
     either_way false e = e
 
@@ -109,8 +113,10 @@ one_told s x y entry pins a p b q = by (is_read x.entry.made.op) (is_read y.entr
     by false true e a b = absurd (true≢false (sym e))
     by false false e a b =
         let w : MayBeTold (given s y.told) y.entry (bare_told y.told) = (b.comes, q) in
-        let v : MayBeTold (given s x.told) x.entry (bare_told y.told) = subst (λ z. MayBeTold (pinned s z) x.entry (bare_told y.told)) (sym pins) (subst (λ e. MayBeTold (given s y.told) e (bare_told y.told)) (sym entry) w) in
-        same_told x.told y.told (a.tells ∙ (ap (λ (e : Entry). is_pinned e.made.op) entry ∙ sym b.tells)) pins (told_is_one (given s x.told) x.entry (bare_told x.told) (bare_told y.told) (a.comes, p) v)
+        let v : MayBeTold (given s x.told) x.entry (bare_told y.told) = subst (λ z. MayBeTold (pinned s z) x.entry (bare_told y.told))
+        (sym pins) (subst (λ e. MayBeTold (given s y.told) e (bare_told y.told)) (sym entry) w) in
+        same_told x.told y.told (a.tells ∙ (ap (λ (e : Entry). is_pinned e.made.op) entry ∙ sym b.tells)) pins
+        (told_is_one (given s x.told) x.entry (bare_told x.told) (bare_told y.told) (a.comes, p) v)
 
 module _ (whole : List Noted) (runs : PastRunsFrom 0 whole) where
   rest_within : (x : Noted) (h : List Noted) → AreWithin whole (x ∷ h) → AreWithin whole h

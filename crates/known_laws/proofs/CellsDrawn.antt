@@ -5,7 +5,8 @@ use Rattle.known_laws.proofs.Coming.{event_of}
 use Rattle.known_laws.specs.Known.{Comes, given, managed_past}
 use Rattle.joint_machine.specs.Lines.{is_read, IsEvent, is_peer_event}
 use Rattle.joint_machine.specs.PinsTold.{bare_told, pins_told, with_pins}
-use Rattle.std.proofs.Common.{true≢false, ◌≡◌, ◌≢◌, ⊎_elim, ℕ, zero, suc, ◌<◌, Bool, true, false, List, [], ◌∷◌, length, replicate, Option, Some, None, refl, sym, ap, ◌∙◌, subst, arith, eq-eqb, ne_eqb}
+use Rattle.std.proofs.Common.{true≢false, ◌≡◌, ◌≢◌, ⊎_elim, ℕ, zero, suc, ◌<◌, Bool, true, false, List, [], ◌∷◌, length, replicate, Option, Some, None, refl, sym, ap, ◌∙◌, subst, arith, eq-eqb}
+use Rattle.std.proofs.Common.{ne_eqb}
 use Rattle.std.specs.Prelude.{if◌then◌else◌, slice_get, slice_set}
 use Rattle.std.proofs.lemmas.Bool.{cases_eq}
 use Rattle.std.proofs.Math.ListN.{length-set}
@@ -24,7 +25,8 @@ use Rattle.joint_machine.specs.declared.events.Reply.{Reply}
 use Rattle.joint_machine.specs.declared.events.Reply.TheVariants as says
 use Rattle.joint_machine.specs.Heaps.{Answered, answer, slot, place, is_full, is_freed}
 use Rattle.joint_machine.specs.Linked.{SideLawful}
-use Rattle.joint_machine.specs.Managed.{Managed, OpenCycle, managed_name, managed_line, adopted, met, given_up, with_row, cell_set, weakened_to, target_read, cell_read, read_cell, pin_taken, without_handle, twin_met, twin_kind, twin_fields}
+use Rattle.joint_machine.specs.Managed.{Managed, OpenCycle, managed_name, managed_line, adopted, met, given_up, with_row, cell_set, weakened_to, target_read, cell_read, read_cell, pin_taken}
+use Rattle.joint_machine.specs.Managed.{without_handle, twin_met, twin_kind, twin_fields}
 use Rattle.joint_machine.specs.ManagedReplay.{ManagedReplay, managed_answer, registered}
 use Rattle.joint_machine.specs.Run.{thread_number}
 use Rattle.joint_machine.specs.Sides.{managed_rules, peer_rules, object_or_none, cell_target}
@@ -52,7 +54,8 @@ abbrev aims_by : ℕ → Option ℕ → Reply → Option (ℕ × ℕ)
 aims_by k o says.Ok = aimed k (object_or_none o)
 aims_by k o r = None
 
-aims-is : (s : ManagedReplay) (t : Thread) (k : Cell) (v : Var) (r : Reply) → sets_by (op.Line (act.Weak k v)) (cell_target s t (op.Line (act.Weak k v)) r) ≡ aims_by k.0 (slot s.managed.heap.vars (place (thread_number t) v.0)) r
+aims-is : (s : ManagedReplay) (t : Thread) (k : Cell) (v : Var) (r : Reply)
+    → sets_by (op.Line (act.Weak k v)) (cell_target s t (op.Line (act.Weak k v)) r) ≡ aims_by k.0 (slot s.managed.heap.vars (place (thread_number t) v.0)) r
 aims-is s t k v says.Ok = refl
 aims-is s t k v r = refl
 
@@ -114,7 +117,8 @@ module _ (s : Managed) where
       by None = refl
       by (Some x) = refl
 
-line-cells : (s : ManagedReplay) (t : Thread) (a : Act) → (managed_line s.managed (thread_number t) a).state.cells ≡ cells_by s.managed.cells (sets_by (op.Line a) (cell_target s t (op.Line a) (managed_line s.managed (thread_number t) a).reply))
+line-cells : (s : ManagedReplay) (t : Thread) (a : Act) → (managed_line s.managed (thread_number t) a).state.cells ≡ cells_by s.managed.cells
+    (sets_by (op.Line a) (cell_target s t (op.Line a) (managed_line s.managed (thread_number t) a).reply))
 line-cells s t (act.Weak k v) =
     let u = place (thread_number t) v.0 in
     weakened-cells s.managed k.0 u ∙ ap (cells_by s.managed.cells) (sym (aims-is s t k v (weakened_to s.managed k.0 u).reply))
@@ -124,7 +128,8 @@ line-cells s t (act.Await k) = read-cells s.managed (thread_number t) k.0
 line-cells s t (act.Take v) = take-cells s.managed (thread_number t) (place (thread_number t) v.0)
 line-cells s t _ = refl
 
-cells-after : (s : ManagedReplay) (t : Thread) (o : Op) (told : Told) → (managed_answer s t o told).state.managed.cells ≡ cells_by s.managed.cells (sets_by o (cell_target s t o (managed_answer s t o told).reply))
+cells-after : (s : ManagedReplay) (t : Thread) (o : Op) (told : Told)
+    → (managed_answer s t o told).state.managed.cells ≡ cells_by s.managed.cells (sets_by o (cell_target s t o (managed_answer s t o told).reply))
 cells-after s t (op.Line a) told = line-cells s t a
 cells-after s t (op.Adopt v kind n p h) told =
     let a = adopted s.managed (place (thread_number t) v.0) kind n h.0 in
@@ -150,10 +155,12 @@ one-cell : (cells : List (Option ℕ)) (p : Option (ℕ × ℕ)) (c : ℕ) → (
 one-cell cells None c less = refl
 one-cell cells (Some q) c less = ⊎_elim
     (λ (e : q.0 ≡ c).
-    let there : slice_get (slice_set cells q.0 (Some q.1)) c ≡ Some (Some q.1) = subst (λ z. slice_get (slice_set cells q.0 (Some q.1)) z ≡ Some (Some q.1)) e (slice_get-set_same cells q.0 (Some q.1) (less q refl)) in
+    let there : slice_get (slice_set cells q.0 (Some q.1)) c ≡ Some (Some q.1) = subst
+    (λ z. slice_get (slice_set cells q.0 (Some q.1)) z ≡ Some (Some q.1)) e (slice_get-set_same cells q.0 (Some q.1) (less q refl)) in
     ap (λ (o : Option (Option ℕ)). elim o [ None ↦ None | Some x ↦ x ]) there ∙ ap (λ b. if b then Some q.1 else slot cells c) (sym (eq-eqb q.0 c e)))
     (λ (n : q.0 ≢ c).
-    ap (λ (o : Option (Option ℕ)). elim o [ None ↦ None | Some x ↦ x ]) (slice_get-set_other cells q.0 c (Some q.1) (λ e. n (sym e))) ∙ ap (λ b. if b then Some q.1 else slot cells c) (sym (ne_eqb q.0 c n)))
+    ap (λ (o : Option (Option ℕ)). elim o [ None ↦ None | Some x ↦ x ]) (slice_get-set_other cells q.0 c (Some q.1) (λ e. n (sym e)))
+    ∙ ap (λ b. if b then Some q.1 else slot cells c) (sym (ne_eqb q.0 c n)))
     (cases_eq q.0 c)
 
 as-many : (cells : List (Option ℕ)) (p : Option (ℕ × ℕ)) → length (cells_by cells p) ≡ length cells
@@ -196,23 +203,27 @@ module _ (x : Noted) (h : List Noted) (l : Lawful (x ∷ h)) (k : AreCelled h) w
   abbrev Drawn_by : Bool → Option (ℕ × ℕ)
   Drawn_by b = sets (if b then drawn_by peer_rules (end_of h).peer x else drawn_by managed_rules (end_of h).managed x)
 
-  cells-are : (b r : Bool) → is_peer_event x.entry.made.caller x.entry.made.op ≡ b → is_read x.entry.made.op ≡ r → Comes r (end_of h) x → (managed_past (end_of h).managed x.entry.made x.told b r).managed.cells ≡ cells_by (end_of h).managed.managed.cells (Drawn_by b)
+  cells-are : (b r : Bool) → is_peer_event x.entry.made.caller x.entry.made.op ≡ b → is_read x.entry.made.op ≡ r → Comes r (end_of h) x
+      → (managed_past (end_of h).managed x.entry.made x.told b r).managed.cells ≡ cells_by (end_of h).managed.managed.cells (Drawn_by b)
   cells-are true r e f w = ap (cells_by (end_of h).managed.managed.cells) (sym (untargeted x.entry.made.op))
   cells-are false true e f w = ap (cells_by (end_of h).managed.managed.cells) (sym (read-sets x.entry.made.op _ f))
   cells-are false false e f w = cells-after (given (end_of h) x.told).managed x.entry.made.caller x.entry.made.op (bare_told x.told)
-      ∙ ap (λ r. cells_by (end_of h).managed.managed.cells (sets_by x.entry.made.op (cell_target (given (end_of h) x.told).managed x.entry.made.caller x.entry.made.op r))) (sym (subst (λ c. SideLawful c (given (end_of h) x.told) x.entry.made (bare_told x.told)) e w.comes.lawful).replies)
+      ∙ ap (λ r. cells_by (end_of h).managed.managed.cells (sets_by x.entry.made.op (cell_target (given (end_of h) x.told).managed x.entry.made.caller x.entry.made.op r)))
+      (sym (subst (λ c. SideLawful c (given (end_of h) x.told) x.entry.made (bare_told x.told)) e w.comes.lawful).replies)
       ∙ ap (λ t. cells_by (end_of h).managed.managed.cells (sets_by x.entry.made.op t)) (target-same (end_of h).managed (pins_told x.told) x.entry.made.caller x.entry.made.op x.entry.made.reply)
 
   ranged : (b : Bool) (q : ℕ × ℕ) → Drawn_by b ≡ Some q → q.0 < 64
   ranged true q e = in-range x.entry.made.caller x.entry.made.op None q (event_of x h l) e
   ranged false q e = in-range x.entry.made.caller x.entry.made.op _ q (event_of x h l) e
 
-  celled-by : (b r : Bool) → is_peer_event x.entry.made.caller x.entry.made.op ≡ b → is_read x.entry.made.op ≡ r → Comes r (end_of h) x → (length (managed_past (end_of h).managed x.entry.made x.told b r).managed.cells ≡ 64)
+  celled-by : (b r : Bool) → is_peer_event x.entry.made.caller x.entry.made.op ≡ b → is_read x.entry.made.op ≡ r
+      → Comes r (end_of h) x → (length (managed_past (end_of h).managed x.entry.made x.told b r).managed.cells ≡ 64)
       × ((c : ℕ) → slot (managed_past (end_of h).managed x.entry.made x.told b r).managed.cells c ≡ aims_at c (target_in c h) (Drawn_by b))
   celled-by b r p q w =
       let e = cells-are b r p q w in (
         ap length e ∙ (as-many (end_of h).managed.managed.cells (Drawn_by b) ∙ k.long),
-        λ c. ap (λ z. slot z c) e ∙ (one-cell (end_of h).managed.managed.cells (Drawn_by b) c (λ q f. let r = ranged b q f in let n = k.long in omega (arith, r, n)) ∙ ap (λ z. aims_at c z (Drawn_by b)) (k.same c)),
+        λ c. ap (λ z. slot z c) e ∙ (one-cell (end_of h).managed.managed.cells (Drawn_by b) c (λ q f. let r = ranged b q f in let n = k.long in omega (arith, r, n))
+            ∙ ap (λ z. aims_at c z (Drawn_by b)) (k.same c)),
       )
 
 celled : (h : List Noted) → Lawful h → AreCelled h

@@ -24,7 +24,8 @@ use Rattle.known_laws.specs.Citations.{AddsMirrorEdges, MirrorsAddMirrorEdges, T
 use Rattle.known_laws.proofs.KnownPasts.{known_past_is_kept}
 use Rattle.known_laws.proofs.Later.{kept_end}
 
-mirror-adds : (s : Linkage) (st : Stand) (t : Thread) (k : Cycle) (reply : Reply) (cites : Option ℕ) (told : Told) → IsDriverKept s.managed s.peer st → MayMirrorNow st s.managed.managed s.peer.peers.issued k.0 cites told → reply ≡ (peer_answer s.peer t (op.Mirror k) cites told).reply → AddsMirrorEdges s told reply k.0
+mirror-adds : (s : Linkage) (st : Stand) (t : Thread) (k : Cycle) (reply : Reply) (cites : Option ℕ) (told : Told) → IsDriverKept s.managed s.peer st
+    → MayMirrorNow st s.managed.managed s.peer.peers.issued k.0 cites told → reply ≡ (peer_answer s.peer t (op.Mirror k) cites told).reply → AddsMirrorEdges s told reply k.0
 mirror-adds s (contracted o comps heavy xrefs) t k reply cites (references_of refs) d a e = record {
   cycle = d.before.cycle;
   open_cycle = (d.before.opened.cycle, d.before.opened.number ∙ a.0);
@@ -70,7 +71,11 @@ module _ (x : Noted) (h : List Noted) (l : Lawful (x ∷ h)) where
   weaken-of (P u) g v a = absurd v
 
   by-event : (o : Op) → is_read o ≡ false → x.entry.made.op ≡ o → IsEvent x.entry.made.caller o × Allows x.entry.made.caller o × Lawfully x.entry.made.caller o
-  by-event o r e = (subst (IsEvent x.entry.made.caller) e (event_of x h l), subst (Allows x.entry.made.caller) e (turn_of x h l), subst (Lawfully x.entry.made.caller) e (side_of x h l (ap is_read e ∙ r)).comes.lawful)
+  by-event o r e = (
+    subst (IsEvent x.entry.made.caller) e (event_of x h l),
+    subst (Allows x.entry.made.caller) e (turn_of x h l),
+    subst (Lawfully x.entry.made.caller) e (side_of x h l (ap is_read e ∙ r)).comes.lawful,
+  )
 
 pub mirrors_add_mirror_edges : MirrorsAddMirrorEdges
 mirrors_add_mirror_edges x h l k e = let w = by-event x h l (op.Mirror k) refl e in mirror-of x h l x.entry.made.caller k w.0 w.1 w.2

@@ -13,7 +13,8 @@ use Rattle.joint_machine.specs.declared.events.Op.TheVariants as op
 use Rattle.joint_machine.specs.declared.events.Reply.{Reply}
 use Rattle.joint_machine.specs.declared.events.Reply.TheVariants as says
 use Rattle.joint_machine.specs.declared.events.Made.{Made}
-use Rattle.joint_machine.specs.Control.{Doing, free, made, lent, gripped, given, met, Control, Stand, snapped, contracted, weakening, marked, restoring, restored, CallerAllows, doing_after, stand_after, control_after, doing_at, MayAdopt, MayLand, MayMeet, MayRelease, MayResolveNow}
+use Rattle.joint_machine.specs.Control.{Doing, free, made, lent, gripped, given, met, Control, Stand, snapped, contracted, weakening, marked, restoring, restored, CallerAllows, doing_after}
+use Rattle.joint_machine.specs.Control.{stand_after, control_after, doing_at, MayAdopt, MayLand, MayMeet, MayRelease, MayResolveNow}
 use Rattle.joint_machine.specs.Lines.{IsEvent}
 use Rattle.joint_machine.specs.Told.{Told, Noted, contraction_of, resolution_of}
 use Rattle.joint_machine.proofs.Deciding.{none_some}
@@ -277,12 +278,14 @@ snap-cited h l y z p q c e =
     by b f all o c w = absurd c
 
 -- the latest entry and an earlier one cite no entry together, but a snap
-latest : (w : Noted) (h : List Noted) → Lawful (w ∷ h) → (y z : Noted) → InPast h y → InPast (w ∷ h) z → w.entry.made.cites ≡ Some z.entry.number → y.entry.made.cites ≡ Some z.entry.number → IsSnapping z.entry.made.op
+latest : (w : Noted) (h : List Noted) → Lawful (w ∷ h) → (y z : Noted) → InPast h y → InPast (w ∷ h) z
+    → w.entry.made.cites ≡ Some z.entry.number → y.entry.made.cites ≡ Some z.entry.number → IsSnapping z.entry.made.op
 latest w h l y z p q e f =
     let s = each_stands_behind h l.1 y p in
     ⊎_elim
     (λ (a : CitesOnce w.entry.made.op). ⊎_elim
-    (λ (b : CitesOnce y.entry.made.op). absurd (uncited h l.1 y p b z.entry.number f w.entry.made.caller (citer-waits w h l z.entry.number e w.entry.made.caller w.entry.made.op a (event_of w h l) (turn_of w h l))))
+    (λ (b : CitesOnce y.entry.made.op). absurd (uncited h l.1 y p b z.entry.number f w.entry.made.caller
+    (citer-waits w h l z.entry.number e w.entry.made.caller w.entry.made.op a (event_of w h l) (turn_of w h l))))
     (λ (b : CitesSnap y.entry.made.op). snap-cited (w ∷ h) l y z (inr p) q b f)
     (citing s.back y.entry.made y.entry.number z.entry.number y.entry.made.op (pasts_cite y s.back s.lawful) f))
     (λ (a : CitesSnap w.entry.made.op). snap-cited (w ∷ h) l w z (inl refl) q a e)

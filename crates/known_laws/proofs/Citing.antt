@@ -18,7 +18,9 @@ use Rattle.joint_machine.specs.declared.events.Op.TheVariants as op
 use Rattle.joint_machine.specs.declared.events.Reply.{Reply}
 use Rattle.joint_machine.specs.declared.events.Reply.TheVariants as says
 use Rattle.joint_machine.specs.declared.events.Made.{Made}
-use Rattle.joint_machine.specs.Control.{Doing, free, made, lent, gripped, given, met, Stand, idle, snapped, contracted, weakening, marked, restoring, restored, CallerAllows, doing_after, stand_after, control_after, doing_at, MayStart, MayAdopt, MayLand, MayMeet, MayRelease, MaySnap, MayContractNow, MayMirrorNow, MayWeakenNow, MayBeginNow, MaySweepNow, MayRestoreNow, MayResolveNow, MayClearNow, MayAbandonNow, MayRefuseNow, DriverAllows}
+use Rattle.joint_machine.specs.Control.{Doing, free, made, lent, gripped, given, met, Stand, idle, snapped, contracted, weakening, marked, restoring, restored, CallerAllows, doing_after, stand_after}
+use Rattle.joint_machine.specs.Control.{control_after, doing_at, MayStart, MayAdopt, MayLand, MayMeet, MayRelease, MaySnap, MayContractNow, MayMirrorNow, MayWeakenNow, MayBeginNow, MaySweepNow}
+use Rattle.joint_machine.specs.Control.{MayRestoreNow, MayResolveNow, MayClearNow, MayAbandonNow, MayRefuseNow, DriverAllows}
 use Rattle.joint_machine.specs.Lines.{IsEvent}
 use Rattle.joint_machine.specs.Managed.{Managed, candidates_of}
 use Rattle.joint_machine.specs.Peers.{Issued}
@@ -58,7 +60,8 @@ begun_later x h t (given n line g) b = later x h t n _ b
 begun_later x h t (met n line g) b = later x h t n _ b
 
 -- what an entry begins
-begins : (x : Noted) (h : List Noted) (u : ℕ) (o : Op) (reply : Reply) → x.entry.made.caller ≡ M u → x.entry.made.op ≡ o → x.entry.made.reply ≡ reply → WasBegun (x ∷ h) (M u) (doing_after x.entry.number x.entry.made.index o reply)
+begins : (x : Noted) (h : List Noted) (u : ℕ) (o : Op) (reply : Reply) → x.entry.made.caller ≡ M u → x.entry.made.op ≡ o
+    → x.entry.made.reply ≡ reply → WasBegun (x ∷ h) (M u) (doing_after x.entry.number x.entry.made.index o reply)
 begins x h u (op.Make sort f) (says.Made p g) c e r = record { begun = x; there = inl refl; numbered = refl; same = c; as_said = (sort, f, refl, e, r) }
 begins x h u (op.Make sort f) _ c e r = tt
 begins x h u (op.Lend v y) (says.H g) c e r = record { begun = x; there = inl refl; numbered = refl; same = c; as_said = (v, refl, e, r) }
@@ -90,11 +93,13 @@ opened_later x h (marked o) b = tt
 opened_later x h (restoring o answers) b = tt
 opened_later x h (restored o answers clear) b = later x h C clear _ b
 
-clears : (x : Noted) (h : List Noted) (st : Stand) (c k : ℕ) (reply : Reply) (told : Told) (cites : Option ℕ) → x.entry.made.caller ≡ C → x.entry.made.op ≡ op.Clear record { 0 = k } → MayClearNow st c k cites → WasOpened (x ∷ h) (stand_after st x.entry.number (op.Clear record { 0 = k }) reply told)
+clears : (x : Noted) (h : List Noted) (st : Stand) (c k : ℕ) (reply : Reply) (told : Told) (cites : Option ℕ) → x.entry.made.caller ≡ C
+    → x.entry.made.op ≡ op.Clear record { 0 = k } → MayClearNow st c k cites → WasOpened (x ∷ h) (stand_after st x.entry.number (op.Clear record { 0 = k }) reply told)
 clears x h (restoring o answers) c k reply told cites e f a = record { begun = x; there = inl refl; numbered = refl; same = e; as_said = f ∙ (λ i. op.Clear record { 0 = sym a.2 i }) }
 clears x h _ c k reply told cites e f a = absurd a
 
-opens : (x : Noted) (h : List Noted) (st : Stand) (m : Managed) (i : List Issued) (line : ℕ) (o : Op) (reply : Reply) (cites : Option ℕ) (told : Told) → x.entry.made.caller ≡ C → x.entry.made.op ≡ o → ((k : Cycle) → o ≡ op.Clear k → (c : ℕ) × MayClearNow st c k.0 cites) → WasOpened h st → WasOpened (x ∷ h) (stand_after st x.entry.number o reply told)
+opens : (x : Noted) (h : List Noted) (st : Stand) (m : Managed) (i : List Issued) (line : ℕ) (o : Op) (reply : Reply) (cites : Option ℕ) (told : Told) → x.entry.made.caller ≡ C
+    → x.entry.made.op ≡ o → ((k : Cycle) → o ≡ op.Clear k → (c : ℕ) × MayClearNow st c k.0 cites) → WasOpened h st → WasOpened (x ∷ h) (stand_after st x.entry.number o reply told)
 opens x h st m i line (op.Snap k) reply cites told e f a b = record { begun = x; there = inl refl; numbered = refl; same = e; as_said = f }
 opens x h st m i line (op.Clear k) reply cites told e f a b = (let w = a k refl in clears x h st w.0 k.0 reply told cites e f w.1)
 opens x h st m i line (op.Resolve k) reply cites told e f a b = tt
@@ -133,7 +138,8 @@ backed-step x h l b = by x.entry.made.caller refl (turn_of x h l)
     by : (t : Thread) → x.entry.made.caller ≡ t → Allowed t → Backed (x ∷ h)
     by (M u) e a = given_back (M u) e (
       λ v. ⊎_elim
-          (λ z. subst (λ w. WasBegun (x ∷ h) (M w) (doing_at (control_after (end_of h).control (M u) x.entry.number x.entry.made.index x.entry.made.op x.entry.made.reply (bare_told x.told)) v)) (sym z.0) (subst (WasBegun (x ∷ h) (M u)) (sym z.1) (begins x h u x.entry.made.op x.entry.made.reply e refl refl)))
+          (λ z. subst (λ w. WasBegun (x ∷ h) (M w) (doing_at (control_after (end_of h).control (M u) x.entry.number x.entry.made.index x.entry.made.op x.entry.made.reply (bare_told x.told)) v))
+          (sym z.0) (subst (WasBegun (x ∷ h) (M u)) (sym z.1) (begins x h u x.entry.made.op x.entry.made.reply e refl refl)))
           (λ z. subst (WasBegun (x ∷ h) (M v)) (sym z.0) (begun_later x h (M v) (doing_in (end_of h).control.doing v) (b.hands v)))
           (doing-set_cases (end_of h).control.doing u (doing_after x.entry.number x.entry.made.index x.entry.made.op x.entry.made.reply) v),
       opened_later x h (end_of h).control.stand b.stand,
@@ -141,7 +147,12 @@ backed-step x h l b = by x.entry.made.caller refl (turn_of x h l)
     by (P u) e a = given_back (P u) e (λ v. begun_later x h (M v) (doing_at (end_of h).control v) (b.hands v), opened_later x h (end_of h).control.stand b.stand)
     by C e a = given_back C e (
       λ v. begun_later x h (M v) (doing_at (end_of h).control v) (b.hands v),
-      opens x h (end_of h).control.stand (end_of h).managed.managed (end_of h).peer.peers.issued x.entry.made.index x.entry.made.op x.entry.made.reply x.entry.made.cites (bare_told x.told) e refl (λ k q. (length (candidates_of (end_of h).managed.managed), subst (λ o. CallerAllows (end_of h).control (end_of h).managed.managed (end_of h).peer.peers.issued C x.entry.made.index o x.entry.made.reply x.entry.made.cites (bare_told x.told)) q a)) b.stand,
+      opens x h (end_of h).control.stand (end_of h).managed.managed (end_of h).peer.peers.issued x.entry.made.index x.entry.made.op x.entry.made.reply x.entry.made.cites
+          (bare_told x.told) e refl (λ k q. (
+            length (candidates_of (end_of h).managed.managed),
+            subst (λ o. CallerAllows (end_of h).control (end_of h).managed.managed (end_of h).peer.peers.issued C x.entry.made.index o x.entry.made.reply x.entry.made.cites (bare_told x.told)) q a,
+          ))
+          b.stand,
     )
 
 pub backed : (h : List Noted) → Lawful h → Backed h
@@ -149,8 +160,17 @@ backed [] l = record { hands = opening-begun; stand = tt }
 backed (x ∷ h) l = backed-step x h l (backed h l.1)
 
 -- what a backed stand or hand lets cite
-cited_by : (x : Noted) (h : List Noted) (t : Thread) (n : ℕ) (Q R : Made → Type 0) → Lawful (x ∷ h) → x.entry.made.caller ≡ t → x.entry.made.cites ≡ Some n → ((m : Made) → Q m → R m) → Began h t n Q → HasCited h x.entry.made x.entry.number R
-cited_by x h t n Q R l e c f b = record { cited = b.begun; there = b.there; by_number = c ∙ ap Some (sym b.numbered); earlier = below x h b.begun l.0 l.1 b.there; same = b.same ∙ sym e; as_said = f b.begun.entry.made b.as_said }
+cited_by : (x : Noted) (h : List Noted) (t : Thread) (n : ℕ) (Q R : Made → Type 0) → Lawful (x ∷ h) → x.entry.made.caller ≡ t
+    → x.entry.made.cites ≡ Some n → ((m : Made) → Q m → R m) → Began h t n Q → HasCited h x.entry.made x.entry.number R
+cited_by x h t n Q R l e c f b = record {
+  cited = b.begun;
+  there = b.there;
+  by_number = c
+      ∙ ap Some (sym b.numbered);
+  earlier = below x h b.begun l.0 l.1 b.there;
+  same = b.same ∙ sym e;
+  as_said = f b.begun.entry.made b.as_said;
+}
 
 -- every other event cites nothing
 start-none : (d : Doing) (c : Option ℕ) → MayStart d c → c ≡ None
@@ -218,37 +238,45 @@ driver-none st m i (op.Resolve k) r c told u w = absurd u
 driver-none st m i _ r c told u w = absurd w
 
 module _ (x : Noted) (h : List Noted) (l : Lawful (x ∷ h)) where
-  adopt-cites : (d : Doing) (u : ℕ) (v : Var) (kind : Kind) (k : ℕ) (p : PNum) (g : HNum) → x.entry.made.caller ≡ M u → WasBegun h (M u) d → MayAdopt d (M u) x.entry.made.index (op.Adopt v kind k p g) x.entry.made.cites → HasCited h x.entry.made x.entry.number (IsMakeOf x.entry.made.index p g)
+  adopt-cites : (d : Doing) (u : ℕ) (v : Var) (kind : Kind) (k : ℕ) (p : PNum) (g : HNum) → x.entry.made.caller ≡ M u → WasBegun h (M u) d
+      → MayAdopt d (M u) x.entry.made.index (op.Adopt v kind k p g) x.entry.made.cites → HasCited h x.entry.made x.entry.number (IsMakeOf x.entry.made.index p g)
   adopt-cites (made n line p' g' sort f) u v kind k p g e b a =
       cited_by x h (M u) n _ _ l e a.0 (λ m q. (q.0, q.1, q.2 ∙ sym a.1, q.3, q.4 ∙ (λ i. says.Made record { 0 = sym a.2 i } record { 0 = sym a.3 i }))) b
   adopt-cites _ u v kind k p g e b a = absurd a
 
-  land-cites : (d : Doing) (u : ℕ) (g : HNum) (y : StaticNo) → x.entry.made.caller ≡ M u → WasBegun h (M u) d → MayLand d x.entry.made.index (op.Land g y) x.entry.made.cites → HasCited h x.entry.made x.entry.number (IsLendOf x.entry.made.index g y)
-  land-cites (lent n line g' y') u g y e b a = cited_by x h (M u) n _ _ l e a.0 (λ m q. (q.0, q.1 ∙ sym a.1, q.2 ∙ (λ i. op.Lend q.0 record { 0 = sym a.3 i }), q.3 ∙ (λ i. says.H record { 0 = sym a.2 i }))) b
+  land-cites : (d : Doing) (u : ℕ) (g : HNum) (y : StaticNo) → x.entry.made.caller ≡ M u → WasBegun h (M u) d
+      → MayLand d x.entry.made.index (op.Land g y) x.entry.made.cites → HasCited h x.entry.made x.entry.number (IsLendOf x.entry.made.index g y)
+  land-cites (lent n line g' y') u g y e b a = cited_by x h (M u) n _ _ l e a.0
+      (λ m q. (q.0, q.1 ∙ sym a.1, q.2 ∙ (λ i. op.Lend q.0 record { 0 = sym a.3 i }), q.3 ∙ (λ i. says.H record { 0 = sym a.2 i }))) b
   land-cites _ u g y e b a = absurd a
 
-  meet-cites : (d : Doing) (u : ℕ) (v : Var) (p : PNum) (g : HNum) (sort : Sort) (f : ℕ) → x.entry.made.caller ≡ M u → WasBegun h (M u) d → MayMeet d x.entry.made.index (op.Meet v sort f p g) x.entry.made.cites → HasCited h x.entry.made x.entry.number (IsGripOf x.entry.made.index p g sort f)
+  meet-cites : (d : Doing) (u : ℕ) (v : Var) (p : PNum) (g : HNum) (sort : Sort) (f : ℕ) → x.entry.made.caller ≡ M u → WasBegun h (M u) d
+      → MayMeet d x.entry.made.index (op.Meet v sort f p g) x.entry.made.cites → HasCited h x.entry.made x.entry.number (IsGripOf x.entry.made.index p g sort f)
   meet-cites (gripped n line p' g' sort' f') u v p g sort f e b a =
       cited_by x h (M u) n _ _ l e a.0 (λ m q. (q.0, q.1 ∙ sym a.1, q.2, q.3 ∙ (λ i. says.Gripped record { 0 = sym a.2 i } record { 0 = sym a.3 i } (sym a.4 i) (sym a.5 i)))) b
   meet-cites _ u v p g sort f e b a = absurd a
 
-  taken : (line : ℕ) (g g' : HNum) (i : x.entry.made.index ≡ line) → g.0 ≡ g'.0 → (m : Made) → IsGiveOf line g' m ⊎ IsMeetOf line g' m → IsGiveOf x.entry.made.index g m ⊎ IsMeetOf x.entry.made.index g m
+  taken : (line : ℕ) (g g' : HNum) (i : x.entry.made.index ≡ line) → g.0 ≡ g'.0 → (m : Made)
+      → IsGiveOf line g' m ⊎ IsMeetOf line g' m → IsGiveOf x.entry.made.index g m ⊎ IsMeetOf x.entry.made.index g m
   taken line g g' i e m w = ⊎_elim
       (λ q. inl (q.0, q.1 ∙ sym i, q.2, q.3 ∙ (λ k. says.H record { 0 = sym e k })))
       (λ q. inr (q.0, q.1, q.2, q.3, q.4 ∙ sym i, q.5 ∙ (λ k. op.Meet q.0 q.2 q.3 q.1 record { 0 = sym e k }), q.6))
       w
 
-  release-cites : (d : Doing) (u : ℕ) (g : HNum) → x.entry.made.caller ≡ M u → WasBegun h (M u) d → MayRelease d x.entry.made.index g.0 x.entry.made.cites → HasCited h x.entry.made x.entry.number (λ m. IsGiveOf x.entry.made.index g m ⊎ IsMeetOf x.entry.made.index g m)
+  release-cites : (d : Doing) (u : ℕ) (g : HNum) → x.entry.made.caller ≡ M u → WasBegun h (M u) d → MayRelease d x.entry.made.index g.0 x.entry.made.cites
+      → HasCited h x.entry.made x.entry.number (λ m. IsGiveOf x.entry.made.index g m ⊎ IsMeetOf x.entry.made.index g m)
   release-cites (given n line g') u g e b a = cited_by x h (M u) n _ _ l e a.0 (taken line g record { 0 = g' } a.1 a.2) b
   release-cites (met n line g') u g e b a = cited_by x h (M u) n _ _ l e a.0 (taken line g record { 0 = g' } a.1 a.2) b
   release-cites _ u g e b a = absurd a
 
-  mirror-cites : (st : Stand) (m : Managed) (i : List Issued) (k : ℕ) (told : Told) → x.entry.made.caller ≡ C → WasOpened h st → MayMirrorNow st m i k x.entry.made.cites told → HasCited h x.entry.made x.entry.number (IsSnapOf k)
+  mirror-cites : (st : Stand) (m : Managed) (i : List Issued) (k : ℕ) (told : Told) → x.entry.made.caller ≡ C
+      → WasOpened h st → MayMirrorNow st m i k x.entry.made.cites told → HasCited h x.entry.made x.entry.number (IsSnapOf k)
   mirror-cites (contracted o comps heavy xrefs) m i k (references_of refs) e b a = cited_by x h C o.snap _ _ l e a.1 (λ m q. subst (λ c. IsSnapOf c m) a.0 q) b
   mirror-cites (contracted o comps heavy xrefs) m i k _ e b a = absurd a
   mirror-cites _ m i k told e b a = absurd a
 
-  weaken-cites : (st : Stand) (m : Managed) (g : ℕ) → x.entry.made.caller ≡ C → WasOpened h st → MayWeakenNow st m g x.entry.made.cites → HasCited h x.entry.made x.entry.number (λ m. (k : ℕ) × IsSnapOf k m)
+  weaken-cites : (st : Stand) (m : Managed) (g : ℕ) → x.entry.made.caller ≡ C → WasOpened h st
+      → MayWeakenNow st m g x.entry.made.cites → HasCited h x.entry.made x.entry.number (λ m. (k : ℕ) × IsSnapOf k m)
   weaken-cites (weakening o count y z) m g e b a = cited_by x h C o.snap _ _ l e a.0 (λ m q. (o.cycle, q)) b
   weaken-cites _ m g e b a = absurd a
 

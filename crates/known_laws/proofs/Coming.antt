@@ -28,8 +28,10 @@ abbrev pub Turn : Linkage → Noted → Type 0
 Turn s x = CallerAllows s.control s.managed.managed s.peer.peers.issued x.entry.made.caller x.entry.made.index x.entry.made.op x.entry.made.reply x.entry.made.cites (bare_told x.told)
 
 turn_by : (s : Linkage) (x : Noted) (r : Bool) → Comes r s x → Turn s x
-turn_by s x true w = subst (λ z. CallerAllows s.control s.managed.managed s.peer.peers.issued x.entry.made.caller x.entry.made.index x.entry.made.op x.entry.made.reply x.entry.made.cites z) (w.bare ∙ sym (ap bare_told w.bare)) w.order
-turn_by s x false w = turn_same s.managed.managed.pins s.control (given s x.told).managed.managed s.peer.peers.issued x.entry.made.caller x.entry.made.index x.entry.made.op x.entry.made.reply x.entry.made.cites (bare_told x.told) w.comes.order
+turn_by s x true w = subst (λ z. CallerAllows s.control s.managed.managed s.peer.peers.issued x.entry.made.caller x.entry.made.index x.entry.made.op x.entry.made.reply x.entry.made.cites z)
+    (w.bare ∙ sym (ap bare_told w.bare)) w.order
+turn_by s x false w = turn_same s.managed.managed.pins s.control (given s x.told).managed.managed s.peer.peers.issued
+    x.entry.made.caller x.entry.made.index x.entry.made.op x.entry.made.reply x.entry.made.cites (bare_told x.told) w.comes.order
 
 pub turn_of : (x : Noted) (h : List Noted) → Lawful (x ∷ h) → Turn (end_of h) x
 turn_of x h l = turn_by (end_of h) x (is_read x.entry.made.op) l.0.comes

@@ -50,10 +50,13 @@ read_drawn s x e = λ i. record { entry = x.entry; target = read_target s x.entr
 one_drawn : (whole a b : List Noted) (x : Noted) → Lawful (x ∷ a) → Lawful (x ∷ b) → Within whole (x ∷ a) → Within whole (x ∷ b) → drawn (end_of a) x ≡ drawn (end_of b) x
 one_drawn whole a b x la lb wa wb = by (is_peer_event x.entry.made.caller x.entry.made.op) (is_read x.entry.made.op) refl refl
   where
-    by : (c r : Bool) → is_peer_event x.entry.made.caller x.entry.made.op ≡ c → is_read x.entry.made.op ≡ r → (if c then drawn_by peer_rules (end_of a).peer x else drawn_by managed_rules (end_of a).managed x) ≡ (if c then drawn_by peer_rules (end_of b).peer x else drawn_by managed_rules (end_of b).managed x)
+    by : (c r : Bool) → is_peer_event x.entry.made.caller x.entry.made.op ≡ c → is_read x.entry.made.op ≡ r
+        → (if c then drawn_by peer_rules (end_of a).peer x else drawn_by managed_rules (end_of a).managed x)
+        ≡ (if c then drawn_by peer_rules (end_of b).peer x else drawn_by managed_rules (end_of b).managed x)
     by true r e f = refl
     by false true e f = read_drawn (end_of a).managed x f ∙ sym (read_drawn (end_of b).managed x f)
-    by false false e f = ap (λ (z : ManagedReplay). drawn_by managed_rules z x) (same_managed a b (one_behind whole 0 x a b la lb wa wb (subst (λ i. is_in i x ≡ true) (role_by x false false e f) (in_role x))))
+    by false false e f = ap (λ (z : ManagedReplay). drawn_by managed_rules z x)
+        (same_managed a b (one_behind whole 0 x a b la lb wa wb (subst (λ i. is_in i x ≡ true) (role_by x false false e f) (in_role x))))
 
 -- what is drawn is drawn of the entry
 pub drawn-entry : (s : Linkage) (n : Noted) → (drawn s n).entry ≡ n.entry
@@ -82,7 +85,8 @@ drawn_is_one whole ls ms a b numbered wa wb i j d e c f n =
     let r = one_run whole (λ k. of_drawn (ls k)) (λ k. of_drawn (ms k)) a.known b.known numbered wa wb in
     let t = a.told i d c in
     let u = b.told j e f in
-    let number : t.entry.entry.number ≡ u.entry.entry.number = sym (ap (λ (z : Drawn). z.entry.number) t.same ∙ ap (λ (e : Entry). e.number) (drawn-entry (end_of t.back) t.entry)) ∙ (n ∙ (ap (λ (z : Drawn). z.entry.number) u.same ∙ ap (λ (e : Entry). e.number) (drawn-entry (end_of u.back) u.entry))) in
+    let number : t.entry.entry.number ≡ u.entry.entry.number = sym (ap (λ (z : Drawn). z.entry.number) t.same ∙ ap (λ (e : Entry). e.number) (drawn-entry (end_of t.back) t.entry))
+    ∙ (n ∙ (ap (λ (z : Drawn). z.entry.number) u.same ∙ ap (λ (e : Entry). e.number) (drawn-entry (end_of u.back) u.entry))) in
     let one : t.entry ≡ u.entry = r.alike t.entry u.entry (told_there a.known.past d t) (told_there b.known.past e u) number in
     let la = behind_lawful t.front t.entry t.back (subst Lawful t.all a.known.lawful) in
     let lb = behind_lawful u.front u.entry u.back (subst Lawful u.all b.known.lawful) in
@@ -97,7 +101,8 @@ drawn_is_one whole ls ms a b numbered wa wb i j d e c f n =
 drawn_told : (s : Linkage) (n : Noted) (x : Told) → objects_freed (bare_told x) ≡ objects_freed (bare_told n.told) → drawn s (record { entry = n.entry; told = x }) ≡ drawn s n
 drawn_told s n x e = by (is_peer_event n.entry.made.caller n.entry.made.op)
   where
-    by : (c : Bool) → (if c then drawn_by peer_rules s.peer (record { entry = n.entry; told = x }) else drawn_by managed_rules s.managed (record { entry = n.entry; told = x })) ≡ (if c then drawn_by peer_rules s.peer n else drawn_by managed_rules s.managed n)
+    by : (c : Bool) → (if c then drawn_by peer_rules s.peer (record { entry = n.entry; told = x }) else drawn_by managed_rules s.managed (record { entry = n.entry; told = x }))
+        ≡ (if c then drawn_by peer_rules s.peer n else drawn_by managed_rules s.managed n)
     by true = refl
     by false = λ i. record { entry = n.entry; target = managed_rules.target s.managed n.entry.made; freed = e i }
 
@@ -135,7 +140,15 @@ drawn_lines_grow lines k n below may = record {
     by : (i : ℕ) (b : Bool) (e : KeptDrawn) → Contains (if b then lines i ++ d ∷ [] else lines i) e → IsToldIn (x ∷ k.known.past) e
     by i false e c = old i e c
     by i true e c = ⊎_elim (old i e)
-        (λ q. ⊎_elim (λ (s : d ≡ e). record { entry = x; front = []; back = k.known.past; all = refl; same = ap (λ (z : KeptDrawn). z.drawn) (sym s) ∙ same; pins = ap (λ (z : KeptDrawn). z.pins) (sym s) ∙ pins }) (λ z. absurd (Contains-nil e z)) (Contains-cons_cases d [] e q))
+        (λ q. ⊎_elim (λ (s : d ≡ e). record {
+          entry = x;
+          front = [];
+          back = k.known.past;
+          all = refl;
+          same = ap (λ (z : KeptDrawn). z.drawn) (sym s)
+              ∙ same;
+          pins = ap (λ (z : KeptDrawn). z.pins) (sym s) ∙ pins;
+        }) (λ z. absurd (Contains-nil e z)) (Contains-cons_cases d [] e q))
         (Contains-append_cases (lines i) (d ∷ []) e c)
 
 pub drawn_lines_join : DrawnLinesJoin
@@ -148,7 +161,8 @@ drawn_lines_join whole ls ms ns a b numbered wa wb e = record { joins = j; told 
     begins i = ⊎_elim (λ q. subst (λ l. IsPrefix (of_drawn l) (kept_in i whole)) (sym q) (wa i)) (λ q. subst (λ l. IsPrefix (of_drawn l) (kept_in i whole)) (sym q) (wb i)) (e.either i)
 
     -- what one of the two had
-    moved : (ks : ℕ → List KeptDrawn) (k : AreDrawn ks) → ((i : ℕ) → IsPrefix (of_drawn (ks i)) (kept_in i whole)) → ((x : Noted) → InPast k.known.past x → InPast j.joined.past x) → (i : ℕ) (d : KeptDrawn) → Contains (ks i) d → IsToldIn j.joined.past d
+    moved : (ks : ℕ → List KeptDrawn) (k : AreDrawn ks) → ((i : ℕ) → IsPrefix (of_drawn (ks i)) (kept_in i whole))
+        → ((x : Noted) → InPast k.known.past x → InPast j.joined.past x) → (i : ℕ) (d : KeptDrawn) → Contains (ks i) d → IsToldIn j.joined.past d
     moved ks k w stay i d c =
         let r = one_run whole (λ z. of_drawn (ks z)) (λ z. of_drawn (ns z)) k.known j.joined numbered w begins in
         let t = k.told i d c in
@@ -181,7 +195,8 @@ none_freed s (op.Refused v) _ u w = absurd w
 none_freed s o nothing u w = refl
 none_freed s o _ u w = absurd w
 
-managed_freed : (s : Linkage) (t : Thread) (l : ℕ) (o : Op) (r : Reply) (c : Option ℕ) (told : Told) → IsReplayKept s.managed → IsEvent t o → ManagedLawful s.managed (record { caller = t; index = l; op = o; reply = r; cites = c }) told → is_peer_event t o ≡ false
+managed_freed : (s : Linkage) (t : Thread) (l : ℕ) (o : Op) (r : Reply) (c : Option ℕ) (told : Told) → IsReplayKept s.managed
+    → IsEvent t o → ManagedLawful s.managed (record { caller = t; index = l; op = o; reply = r; cites = c }) told → is_peer_event t o ≡ false
     → (managed_answer s.managed t o told).state.managed.heap.freed ≡ s.managed.managed.heap.freed ++ managed_numbers (objects_freed told)
 managed_freed s C l (op.Snap k) r c (snap_of freed candidates dead) k' v w e = ap (λ z. s.managed.managed.heap.freed ++ z) (sym (numbers-of freed))
 managed_freed s C l (op.Snap k) r c told k' v w e = absurd w.allowed
@@ -196,9 +211,12 @@ managed_freed s C l (op.Abandon k) r c told k' v w e = none told w.allowed
     none : (told : Told) → ManagedAllows s.managed (op.Abandon k) told → s.managed.managed.heap.freed ≡ s.managed.managed.heap.freed ++ managed_numbers (objects_freed told)
     none nothing a = sym (append-nil s.managed.managed.heap.freed)
     none _ a = absurd a
-managed_freed s C l o r c told k' v w e = still s o told tt w.allowed (subst (λ b. (managed_after s.managed (record { caller = C; index = l; op = o; reply = r; cites = c }) told b).managed.heap.freed ≡ s.managed.managed.heap.freed) e (driver_goes s.managed l r c o told k' tt v).freed)
+managed_freed s C l o r c told k' v w e = still s o told tt w.allowed
+    (subst (λ b. (managed_after s.managed (record { caller = C; index = l; op = o; reply = r; cites = c }) told b).managed.heap.freed ≡ s.managed.managed.heap.freed) e
+    (driver_goes s.managed l r c o told k' tt v).freed)
   where
-    still : (s : Linkage) (o : Op) (told : Told) → IsUnfreeing o → ManagedAllows s.managed o told → (managed_answer s.managed C o told).state.managed.heap.freed ≡ s.managed.managed.heap.freed → (managed_answer s.managed C o told).state.managed.heap.freed ≡ s.managed.managed.heap.freed ++ managed_numbers (objects_freed told)
+    still : (s : Linkage) (o : Op) (told : Told) → IsUnfreeing o → ManagedAllows s.managed o told → (managed_answer s.managed C o told).state.managed.heap.freed ≡ s.managed.managed.heap.freed
+        → (managed_answer s.managed C o told).state.managed.heap.freed ≡ s.managed.managed.heap.freed ++ managed_numbers (objects_freed told)
     still s o told u a q = q ∙ (sym (append-nil s.managed.managed.heap.freed) ∙ ap (λ z. s.managed.managed.heap.freed ++ managed_numbers z) (sym (none_freed s.managed o told u a)))
 managed_freed s t l o r c told k' v w e =
     let q = (goes_on s.managed t o told (λ z. cc) v k' w.allowed).freed in
@@ -208,10 +226,12 @@ freed_step : (x : Noted) (h : List Noted) → Lawful (x ∷ h) → (end_of (x �
 freed_step x h l = by (is_peer_event x.entry.made.caller x.entry.made.op) (is_read x.entry.made.op) refl refl l.0.comes
   where
     by : (b r : Bool) → is_peer_event x.entry.made.caller x.entry.made.op ≡ b → is_read x.entry.made.op ≡ r → Comes r (end_of h) x
-        → (managed_past (end_of h).managed x.entry.made x.told b r).managed.heap.freed ≡ (end_of h).managed.managed.heap.freed ++ managed_numbers (if b then drawn_by peer_rules (end_of h).peer x else drawn_by managed_rules (end_of h).managed x).freed
+        → (managed_past (end_of h).managed x.entry.made x.told b r).managed.heap.freed ≡ (end_of h).managed.managed.heap.freed ++ managed_numbers
+        (if b then drawn_by peer_rules (end_of h).peer x else drawn_by managed_rules (end_of h).managed x).freed
     by true r e f w = sym (append-nil (end_of h).managed.managed.heap.freed)
     by false true e f w = sym (ap (λ z. (end_of h).managed.managed.heap.freed ++ managed_numbers (objects_freed (bare_told z))) w.bare ∙ append-nil (end_of h).managed.managed.heap.freed)
-    by false false e f w = managed_freed (given (end_of h) x.told) x.entry.made.caller x.entry.made.index x.entry.made.op x.entry.made.reply x.entry.made.cites (bare_told x.told) (kept_pinned (end_of h) _ w.stand (kept_end h l.1)).managed w.comes.event
+    by false false e f w = managed_freed (given (end_of h) x.told) x.entry.made.caller x.entry.made.index x.entry.made.op x.entry.made.reply x.entry.made.cites
+        (bare_told x.told) (kept_pinned (end_of h) _ w.stand (kept_end h l.1)).managed w.comes.event
         (subst (λ c. SideLawful c (given (end_of h) x.told) x.entry.made (bare_told x.told)) e w.comes.lawful) e
 
 pub freed_is_drawn : FreedIsDrawn

@@ -68,7 +68,8 @@ AreSmall h = (x : Noted) → InPast h x → role_of x < 10
 
 pub lawful_small : (h : List Noted) → Lawful h → (x : Noted) → InPast h x → role_of x < 10
 lawful_small [] l x p = absurd p
-lawful_small (y ∷ h) l x p = ⊎_elim (λ (q : y ≡ x). subst (λ z. role_of z < 10) q (role_bound y.entry.made.caller y.entry.made.op (event_of (is_read y.entry.made.op) l.0.comes))) (λ q. lawful_small h l.1 x q) p
+lawful_small (y ∷ h) l x p = ⊎_elim (λ (q : y ≡ x). subst (λ z. role_of z < 10) q (role_bound y.entry.made.caller y.entry.made.op (event_of (is_read y.entry.made.op) l.0.comes)))
+    (λ q. lawful_small h l.1 x q) p
   where
     event_of : (r : Bool) → Comes r (end_of h) y → IsEvent y.entry.made.caller y.entry.made.op
     event_of true w = w.event
@@ -84,7 +85,8 @@ here : (x : Noted) (h : List Noted) → line (role_of x) (x ∷ h) ≡ line (rol
 here x h = line_in (role_of x) x h (in_role x)
 
 stands : (x y : Noted) (h w : List Noted) → role_of x < 10 → line (role_of x) (x ∷ h) ≡ line (role_of x) (y ∷ w) → role_of x ≢ role_of y → InPast w x
-stands x y h w small e ne = in-line (role_of x) w x (subst (λ l. InPast l x) (sym (here x h) ∙ (e ∙ line_out (role_of x) y w (role_out (role_of x) y small ne))) (in_right (line (role_of x) h) (x ∷ []) x (inl refl)))
+stands x y h w small e ne = in-line (role_of x) w x (subst (λ l. InPast l x)
+    (sym (here x h) ∙ (e ∙ line_out (role_of x) y w (role_out (role_of x) y small ne))) (in_right (line (role_of x) h) (x ∷ []) x (inl refl)))
 
 same_whole : (h w : List Noted) → Fall h → FallByOne w → AreSmall h → AreSmall w → ((i : ℕ) → i < 10 → line i h ≡ line i w) → h ≡ w
 same_whole [] [] s d b c e = refl
@@ -153,7 +155,8 @@ bare_small h s x p = let z = in_bare h x p in subst (λ y. role_of y < 10) z.2 (
 
 pub known_whole_is_history : KnownWholeIsHistory
 known_whole_is_history whole lines k numbered all = record {
-  same = sym (shown_bare (turned [] k.past)) ∙ (ap all_shown (bare_turned [] k.past ∙ (ap (turned []) is ∙ (turned_twice [] [] (map untold whole) ∙ append-nil (map untold whole)))) ∙ shown_untold whole);
+  same = sym (shown_bare (turned [] k.past)) ∙ (ap all_shown (bare_turned [] k.past ∙ (ap (turned []) is ∙ (turned_twice [] [] (map untold whole) ∙ append-nil (map untold whole))))
+      ∙ shown_untold whole);
   lawful = all_come k.past [] k.lawful tt;
   ends = all_end k.past [];
 }

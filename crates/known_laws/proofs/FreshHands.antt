@@ -13,7 +13,8 @@ use Rattle.joint_machine.specs.declared.events.Op.TheVariants as op
 use Rattle.joint_machine.specs.declared.events.Made.{Made}
 use Rattle.joint_machine.specs.declared.events.Reply.{Reply}
 use Rattle.joint_machine.specs.declared.events.Reply.TheVariants as says
-use Rattle.joint_machine.specs.Control.{Stand, restored, restoring, idle, snapped, contracted, weakening, marked, DriverAllows, MayResolveNow, MayRestoreNow, CallerAllows, stand_after, answer_in, Doing, free, made, lent, gripped, given, met, doing_after, control_after, doing_at}
+use Rattle.joint_machine.specs.Control.{Stand, restored, restoring, idle, snapped, contracted, weakening, marked, DriverAllows, MayResolveNow, MayRestoreNow, CallerAllows, stand_after, answer_in}
+use Rattle.joint_machine.specs.Control.{Doing, free, made, lent, gripped, given, met, doing_after, control_after, doing_at}
 use Rattle.joint_machine.specs.Heaps.{Answered, answer, is_full, next_number, slot, fields_of}
 use Rattle.joint_machine.specs.Lines.{IsEvent, is_peer_event}
 use Rattle.joint_machine.specs.Linked.{Linkage, MayCome, SideLawful, opening_linkage, managed_after, linkage_after}
@@ -106,18 +107,22 @@ has_none num line (op.Meet v sort f q g) _ h p x w = w
 has_none num line _ reply h p x w = w
 
 -- and that handle is a new one
-made_new : (num line : ℕ) (s : Peers) (sort : Sort) (n : ℕ) (reply : Reply) (h p : ℕ) → reply ≡ (pair_made s sort n).reply → HasPeer (doing_after num line (op.Make sort n) reply) h p → next_handle s ≡ h
+made_new : (num line : ℕ) (s : Peers) (sort : Sort) (n : ℕ) (reply : Reply) (h p : ℕ)
+    → reply ≡ (pair_made s sort n).reply → HasPeer (doing_after num line (op.Make sort n) reply) h p → next_handle s ≡ h
 made_new num line s sort n reply h p e w = by (is_full s.heap.fields || handles_full s) e
   where
-    by : (b : Bool) → reply ≡ (if b then answer says.Full s else answer (says.Made record { 0 = next_number s.heap } record { 0 = next_handle s }) (with_handle (with_peer s sort n) (next_number s.heap) held strong)).reply → next_handle s ≡ h
+    by : (b : Bool) → reply ≡ (if b then answer says.Full s else answer (says.Made record { 0 = next_number s.heap } record { 0 = next_handle s })
+        (with_handle (with_peer s sort n) (next_number s.heap) held strong)).reply → next_handle s ≡ h
     by true f = absurd (subst (λ z. HasPeer (doing_after num line (op.Make sort n) z) h p) f w)
     by false f = (subst (λ z. HasPeer (doing_after num line (op.Make sort n) z) h p) f w).0
 
-grip_new : (num line : ℕ) (s : Peers) (x : StaticNo) (o : Option ℕ) (reply : Reply) (h p : ℕ) → reply ≡ (peer_gripped s o).reply → HasPeer (doing_after num line (op.Grip x) reply) h p → next_handle s ≡ h
+grip_new : (num line : ℕ) (s : Peers) (x : StaticNo) (o : Option ℕ) (reply : Reply) (h p : ℕ)
+    → reply ≡ (peer_gripped s o).reply → HasPeer (doing_after num line (op.Grip x) reply) h p → next_handle s ≡ h
 grip_new num line s x None reply h p e w = absurd (subst (λ z. HasPeer (doing_after num line (op.Grip x) z) h p) e w)
 grip_new num line s x (Some q) reply h p e w = by (handles_full s) e
   where
-    by : (b : Bool) → reply ≡ (if b then answer says.Full s else answer (says.Gripped record { 0 = q } record { 0 = next_handle s } (sort_of s q) (length (fields_of s.heap q))) (with_handle s q held strong)).reply → next_handle s ≡ h
+    by : (b : Bool) → reply ≡ (if b then answer says.Full s else answer
+        (says.Gripped record { 0 = q } record { 0 = next_handle s } (sort_of s q) (length (fields_of s.heap q))) (with_handle s q held strong)).reply → next_handle s ≡ h
     by true f = absurd (subst (λ z. HasPeer (doing_after num line (op.Grip x) z) h p) f w)
     by false f = (subst (λ z. HasPeer (doing_after num line (op.Grip x) z) h p) f w).0
 
@@ -129,14 +134,16 @@ peer_takes_none u (op.Resolve c) told h e d = absurd e
 peer_takes_none u _ told h e d = d
 
 -- the driver's resolve takes what the restores gave, which no thread has in hand
-resolve-takes : (r : ManagedReplay) (s : PeerReplay) (ds : List Doing) (st : Stand) (c : ℕ) (cites : Option ℕ) (told : Told) → AreCallersKept r s (hands st ds) → MayResolveNow st c cites told → (t h : ℕ) → HasInHand (doing_in ds t) h → IsTaking (op.Resolve record { 0 = c }) told h → ⊥
+resolve-takes : (r : ManagedReplay) (s : PeerReplay) (ds : List Doing) (st : Stand) (c : ℕ) (cites : Option ℕ) (told : Told) → AreCallersKept r s (hands st ds)
+    → MayResolveNow st c cites told → (t h : ℕ) → HasInHand (doing_in ds t) h → IsTaking (op.Resolve record { 0 = c }) told h → ⊥
 resolve-takes r s ds (restored o answers clear) c cites (resolution_of said freed) k a t h w x = (
     let at = given-at said h x in
     given-apart r s answers ds k at.0 h t (subst (λ z. slice_get z at.0 ≡ Some (said_alive h)) a.2 at.1) w)
 resolve-takes r s ds (restored o answers clear) c cites told k a t h w x = absurd a
 resolve-takes r s ds st c cites told k a t h w x = absurd a
 
-driver_takes : (s : Linkage) (reply : Reply) (cites : Option ℕ) → Of s → (o : Op) (told : Told) → IsEvent C o → DriverAllows s.control.stand s.managed.managed s.peer.peers.issued o reply cites told → (t h : ℕ) → HasInHand (doing_in s.control.doing t) h → IsTaking o told h → ⊥
+driver_takes : (s : Linkage) (reply : Reply) (cites : Option ℕ) → Of s → (o : Op) (told : Told) → IsEvent C o
+    → DriverAllows s.control.stand s.managed.managed s.peer.peers.issued o reply cites told → (t h : ℕ) → HasInHand (doing_in s.control.doing t) h → IsTaking o told h → ⊥
 driver_takes s reply cites k (op.Adopt v kind m p g) told e a t h w d = absurd e.0
 driver_takes s reply cites k (op.Meet v sort m p g) told e a t h w d = absurd e.0
 driver_takes s reply cites k (op.Resolve c) told e a t h w d = resolve-takes s.managed s.peer s.control.doing s.control.stand c.0 cites told k.callers a t h w d
@@ -168,18 +175,22 @@ fresh-step s n k may w = by n.entry.made.caller n.entry.made.op n.told may.event
 
     -- what a thread takes it has in hand
     hand : (u : ℕ) (o : Op) (told : Told) (h : ℕ) → IsEvent (M u) o → Allows (M u) o told → IsTaking o told h → HasInHand (doing_in s.control.doing u) h
-    hand u (op.Adopt v kind f p g) told h e a x = subst (HasInHand (doing_in s.control.doing u)) x (made-in_hand (doing_in s.control.doing u) g.0 p.0 (adopt-hand (doing_in s.control.doing u) (M u) line v kind f p g n.entry.made.cites a))
+    hand u (op.Adopt v kind f p g) told h e a x = subst (HasInHand (doing_in s.control.doing u)) x
+        (made-in_hand (doing_in s.control.doing u) g.0 p.0 (adopt-hand (doing_in s.control.doing u) (M u) line v kind f p g n.entry.made.cites a))
     hand u (op.Meet v sort f p g) told h e a x = subst (HasInHand (doing_in s.control.doing u)) x (meet-hand (doing_in s.control.doing u) line v p g sort f n.entry.made.cites a).0
     hand u (op.Resolve c) told h e a x = absurd e
     hand u _ told h e a x = absurd x
 
     -- what a thread is given is new
-    new : (u : ℕ) (o : Op) (told : Told) (h p : ℕ) → SideLawful (is_peer_event (M u) o) s (made_of (M u) o) told → HasPeer (doing_after num line o n.entry.made.reply) h p → Contains (R (M u) o told).adopted h → ⊥
+    new : (u : ℕ) (o : Op) (told : Told) (h p : ℕ) → SideLawful (is_peer_event (M u) o) s (made_of (M u) o) told
+        → HasPeer (doing_after num line o n.entry.made.reply) h p → Contains (R (M u) o told).adopted h → ⊥
     new u (op.Make sort f) told h p l x c = let a = k.owners.adopted h c in let e = made_new num line s.peer.peers sort f n.entry.made.reply h p l.replies x in omega (arith, a, e)
-    new u (op.Grip y) told h p l x c = let a = k.owners.adopted h c in let e = grip_new num line s.peer.peers y (slot s.peer.peers.heap.statics y.0) n.entry.made.reply h p l.replies x in omega (arith, a, e)
+    new u (op.Grip y) told h p l x c = let a = k.owners.adopted h c in
+        let e = grip_new num line s.peer.peers y (slot s.peer.peers.heap.statics y.0) n.entry.made.reply h p l.replies x in omega (arith, a, e)
     new u o told h p l x c = has_none num line o n.entry.made.reply h p (λ z. z) x
 
-    aside : (t : Thread) (o : Op) (told : Told) → ((v h : ℕ) → HasInHand (doing_in s.control.doing v) h → IsTaking o told h → ⊥) → (u h p : ℕ) → HasPeer (doing_at s.control u) h p → Contains (R t o told).adopted h → ⊥
+    aside : (t : Thread) (o : Op) (told : Told) → ((v h : ℕ) → HasInHand (doing_in s.control.doing v) h → IsTaking o told h → ⊥)
+        → (u h p : ℕ) → HasPeer (doing_at s.control u) h p → Contains (R t o told).adopted h → ⊥
     aside t o told x u h p q c = ⊎_elim (λ d. w u h p q d) (λ d. x u h (in_hand (doing_in s.control.doing u) h p q) d) (took_now t o told h c)
 
     own : AreCallersKept s.managed s.peer s.control.doing
@@ -205,7 +216,8 @@ fresh-first t h p w c = absurd (Contains-nil h c)
 nothing : (i : ℕ) (a : Answer) → slice_get [] i ≡ Some a → ⊥
 nothing i a e = none_some a e
 
-after-given : (st : Stand) (num : ℕ) (o : Op) (reply : Reply) (told : Told) → ((h : HNum) → o ≡ op.Restore h → ⊥) → (i : ℕ) (a : Answer) → slice_get (given_at (stand_after st num o reply told)) i ≡ Some a → slice_get (given_at st) i ≡ Some a
+after-given : (st : Stand) (num : ℕ) (o : Op) (reply : Reply) (told : Told) → ((h : HNum) → o ≡ op.Restore h → ⊥)
+    → (i : ℕ) (a : Answer) → slice_get (given_at (stand_after st num o reply told)) i ≡ Some a → slice_get (given_at st) i ≡ Some a
 after-given st num (op.Restore h) reply told x i a e = absurd (x h refl)
 after-given st num (op.Snap c) reply told x i a e = absurd (nothing i a e)
 after-given st num (op.Resolve c) reply told x i a e = absurd (nothing i a e)
@@ -225,7 +237,8 @@ pushed-answer [] b (suc i) a e = absurd (nothing i a e)
 pushed-answer (x ∷ answers) b zero a e = inl e
 pushed-answer (x ∷ answers) b (suc i) a e = pushed-answer answers b i a e
 
-restore-given : (st : Stand) (num : ℕ) (h : HNum) (reply : Reply) (told : Told) (i : ℕ) (a : Answer) → slice_get (given_at (stand_after st num (op.Restore h) reply told)) i ≡ Some a → (slice_get (given_at st) i ≡ Some a) ⊎ (answer_in reply ≡ a)
+restore-given : (st : Stand) (num : ℕ) (h : HNum) (reply : Reply) (told : Told) (i : ℕ) (a : Answer)
+    → slice_get (given_at (stand_after st num (op.Restore h) reply told)) i ≡ Some a → (slice_get (given_at st) i ≡ Some a) ⊎ (answer_in reply ≡ a)
 restore-given (restoring c answers) num h reply told i a e = pushed-answer answers (answer_in reply) i a e
 restore-given st num h reply told i a e = inl e
 
@@ -264,7 +277,8 @@ given-step s n k may w = by n.entry.made.caller n.entry.made.op n.told may.event
     apart : (i g t : ℕ) → slice_get (given_at s.control.stand) i ≡ Some (said_alive g) → HasInHand (doing_in s.control.doing t) g → ⊥
     apart i g t e x = given-apart s.managed s.peer (given_at s.control.stand) s.control.doing k.callers i g t e x
 
-    new : (h : HNum) (told : Told) (g : ℕ) → SideLawful (is_peer_event C (op.Restore h)) s (made_of C (op.Restore h)) told → answer_in n.entry.made.reply ≡ said_alive g → Contains s.managed.adopted g → ⊥
+    new : (h : HNum) (told : Told) (g : ℕ) → SideLawful (is_peer_event C (op.Restore h)) s (made_of C (op.Restore h)) told
+        → answer_in n.entry.made.reply ≡ said_alive g → Contains s.managed.adopted g → ⊥
     new h told g l f c = let a = k.owners.adopted g c in let e = restore-new s.peer h.0 g n.entry.made.reply l.replies f in omega (arith, a, e)
 
     driven : (o : Op) (told : Told) → IsEvent C o → SideLawful (is_peer_event C o) s (made_of C o) told → Allows C o told → Goal C o told
@@ -278,7 +292,8 @@ given-step s n k may w = by n.entry.made.caller n.entry.made.op n.told may.event
     by (M u) o told e l a i g f c = ⊎_elim (λ q. w i g f q) (λ q. apart i g u f (hand u o told e a q)) (took_now (M u) o told g c)
       where
         hand : (u : ℕ) (o : Op) (told : Told) → IsEvent (M u) o → Allows (M u) o told → IsTaking o told g → HasInHand (doing_in s.control.doing u) g
-        hand u (op.Adopt v kind f p h) told e a x = subst (HasInHand (doing_in s.control.doing u)) x (made-in_hand (doing_in s.control.doing u) h.0 p.0 (adopt-hand (doing_in s.control.doing u) (M u) line v kind f p h n.entry.made.cites a))
+        hand u (op.Adopt v kind f p h) told e a x = subst (HasInHand (doing_in s.control.doing u)) x
+            (made-in_hand (doing_in s.control.doing u) h.0 p.0 (adopt-hand (doing_in s.control.doing u) (M u) line v kind f p h n.entry.made.cites a))
         hand u (op.Meet v sort f p h) told e a x = subst (HasInHand (doing_in s.control.doing u)) x (meet-hand (doing_in s.control.doing u) line v p h sort f n.entry.made.cites a).0
         hand u (op.Resolve c) told e a x = absurd e
         hand u _ told e a x = absurd x

@@ -57,7 +57,8 @@ goes_on s t (op.Adopt v kind f p h) told n e k w =
 goes_on s t (op.Lend v x) told n e k w = GoesOn-stay s.managed
 goes_on s t (op.Meet v sort f p h) told n e k w =
     let a = met s.managed (place (thread_number t) v.0) h.0 sort f (registered s.registry p.0) in
-    subst (GoesOn s.managed) (sym (meet_by-managed s p.0 h.0 a.state a.reply)) (met-goes_on s.managed (place (thread_number t) v.0) h.0 sort f (registered s.registry p.0) k.managed.places (λ m q. twin-live s p.0 m k q))
+    subst (GoesOn s.managed) (sym (meet_by-managed s p.0 h.0 a.state a.reply))
+    (met-goes_on s.managed (place (thread_number t) v.0) h.0 sort f (registered s.registry p.0) k.managed.places (λ m q. twin-live s p.0 m k q))
 goes_on s t (op.Give v) told n e k w =
     let u = place (thread_number t) v.0 in
     subst (GoesOn s.managed) (sym (give_by-managed s (slot s.managed.heap.vars u) (given_up s.managed u))) (given_up-goes_on s.managed u)
@@ -73,7 +74,8 @@ goes_on s (M u) (op.Refused r) told n e k w = absurd e
 goes_on s (P u) (op.Refused r) told n e k w = absurd e
 goes_on s t _ told n e k w = absurd w
 
-pub goes_by : (s : ManagedReplay) (x : Made) (told : Told) (c : Bool) (full : Linkage) → full.managed ≡ s → (x.caller ≡ C → ⊥) → IsEvent x.caller x.op → IsReplayKept s → SideLawful c full x told → GoesOn s.managed (managed_after s x told c).managed
+pub goes_by : (s : ManagedReplay) (x : Made) (told : Told) (c : Bool) (full : Linkage) → full.managed ≡ s → (x.caller ≡ C → ⊥)
+    → IsEvent x.caller x.op → IsReplayKept s → SideLawful c full x told → GoesOn s.managed (managed_after s x told c).managed
 goes_by s x told true full q n e k w = GoesOn-stay s.managed
 goes_by s x told false full q n e k w = goes_on s x.caller x.op told n e k (subst (λ z. ManagedAllows z x.op told) q w.allowed)
 
@@ -103,7 +105,8 @@ alike_meet s t u (open_one e a b h) (open_one f c d g) =
 
 pub alike_on : (s u t : Managed) → IsManagedKept s → GoesOn s u → Alike s t → Alike u t
 alike_on s u t k g (closed a b) = closed (g.cycle ∙ a) b
-alike_on s u t k g (open_one c a b h) = open_one c (g.cycle ∙ a) b (λ m d. (handle-same s u m ((k.dead c a).live m d) ((cut_on s u k g c a).live m d) (dead-held s u k g c a m d) ∙ (h m d).0, dead-fields s u k g c a m d ∙ (h m d).1))
+alike_on s u t k g (open_one c a b h) = open_one c (g.cycle ∙ a) b
+    (λ m d. (handle-same s u m ((k.dead c a).live m d) ((cut_on s u k g c a).live m d) (dead-held s u k g c a m d) ∙ (h m d).0, dead-fields s u k g c a m d ∙ (h m d).1))
 
 -- pins are no part of it
 pub alike_pinned : (s : ManagedReplay) (t : Managed) (p : List (Option ℕ)) → Alike s.managed t → Alike (with_pins s p).managed t
@@ -115,7 +118,8 @@ alike_bare s t p (closed a b) = closed a b
 alike_bare s t p (open_one c a b h) = open_one c a b h
 
 -- an entry of a side's list that goes on, in the state with the pins that are told
-pub alike_goes : (s : Linkage) (x : Noted) (t : Managed) → Of s → is_read x.entry.made.op ≡ false → SideMayCome s x → GoesOn (given s x.told).managed.managed (linkage_after (given s x.told) (without_pins x)).managed.managed
+pub alike_goes : (s : Linkage) (x : Noted) (t : Managed) → Of s → is_read x.entry.made.op ≡ false → SideMayCome s x
+    → GoesOn (given s x.told).managed.managed (linkage_after (given s x.told) (without_pins x)).managed.managed
     → Alike s.managed.managed t → Alike (past_after s x).managed.managed t
 alike_goes s x t k e c g w =
     let f = side_after s x e in
@@ -130,7 +134,8 @@ alike_after a x t n l w = by (is_read x.entry.made.op) refl l.0.comes
     by true e c = subst (λ (z : ManagedReplay). Alike z.managed t) (sym (reads_leave (end_of a).managed x e)) w
     by false e c =
         let g = given (end_of a) x.told in
-        alike_goes (end_of a) x t (kept_end a l.1) e c (goes_by g.managed x.entry.made (bare_told x.told) (is_peer_event x.entry.made.caller x.entry.made.op) g refl (λ q. off (sym n ∙ subst (λ i. is_in i x ≡ true) (ap (λ z. caller_line z) q) (in_own x))) c.comes.event (kept_pinned (end_of a) _ c.stand (kept_end a l.1)).managed c.comes.lawful) w
+        alike_goes (end_of a) x t (kept_end a l.1) e c (goes_by g.managed x.entry.made (bare_told x.told) (is_peer_event x.entry.made.caller x.entry.made.op) g refl
+        (λ q. off (sym n ∙ subst (λ i. is_in i x ≡ true) (ap (λ z. caller_line z) q) (in_own x))) c.comes.event (kept_pinned (end_of a) _ c.stand (kept_end a l.1)).managed c.comes.lawful) w
 
 module _ (whole : List Noted) where
   -- where both pasts have one latest entry, what is behind it has one line of the managed side
@@ -142,23 +147,27 @@ module _ (whole : List Noted) where
       (shorter_begins (line i a) (line i b) (of_line i whole) (within_past whole x a wa i) (within_past whole x b wb i) n)
       (shorter_begins (line i b) (line i a) (of_line i whole) (within_past whole x b wb i) (within_past whole x a wa i) m)
 
-  both_had : (x : Noted) (a b : List Noted) → Lawful (x ∷ a) → Lawful (x ∷ b) → Within whole (x ∷ a) → Within whole (x ∷ b) → Alike (end_of a).managed.managed (end_of b).managed.managed → Alike (end_of (x ∷ a)).managed.managed (end_of (x ∷ b)).managed.managed
+  both_had : (x : Noted) (a b : List Noted) → Lawful (x ∷ a) → Lawful (x ∷ b) → Within whole (x ∷ a) → Within whole (x ∷ b)
+      → Alike (end_of a).managed.managed (end_of b).managed.managed → Alike (end_of (x ∷ a)).managed.managed (end_of (x ∷ b)).managed.managed
   both_had x a b la lb wa wb w = by (is_peer_event x.entry.made.caller x.entry.made.op) (is_read x.entry.made.op) refl refl
     where
-      by : (c r : Bool) → is_peer_event x.entry.made.caller x.entry.made.op ≡ c → is_read x.entry.made.op ≡ r → Alike (managed_past (end_of a).managed x.entry.made x.told c r).managed (managed_past (end_of b).managed x.entry.made x.told c r).managed
+      by : (c r : Bool) → is_peer_event x.entry.made.caller x.entry.made.op ≡ c → is_read x.entry.made.op ≡ r
+          → Alike (managed_past (end_of a).managed x.entry.made x.told c r).managed (managed_past (end_of b).managed x.entry.made x.told c r).managed
       by true r e f = w
       by false true e f = w
       by false false e f =
           let same = same_managed a b (one_behind 0 x a b la lb wa wb (subst (λ i. is_in i x ≡ true) (role_by x false false e f) (in_role x))) in
           subst (λ (z : ManagedReplay). Alike (managed_past (end_of a).managed x.entry.made x.told false false).managed (managed_past z x.entry.made x.told false false).managed) same (alike_self _)
 
-  alike : (k : ℕ) (a b : List Noted) → length a + length b ≤ k → Lawful a → Lawful b → Within whole a → Within whole b → line driver_line a ≡ line driver_line b → Alike (end_of a).managed.managed (end_of b).managed.managed
+  alike : (k : ℕ) (a b : List Noted) → length a + length b ≤ k → Lawful a → Lawful b → Within whole a → Within whole b
+      → line driver_line a ≡ line driver_line b → Alike (end_of a).managed.managed (end_of b).managed.managed
   alike k [] [] l la lb wa wb e = closed refl refl
   alike zero (x ∷ a) b l la lb wa wb e = absurd (omega arith)
   alike zero [] (y ∷ b) l la lb wa wb e = absurd (omega arith)
   alike (suc k) [] (y ∷ b) l la lb wa wb e = ⊎_elim
       (λ (t : is_in driver_line y ≡ true). absurd (snoc_some (line driver_line b) y (sym (line_in driver_line y b t) ∙ sym e)))
-      (λ (n : is_in driver_line y ≡ false). alike_flip _ _ (alike_after b y _ n lb (alike_flip _ _ (alike k [] b (omega arith) la lb.1 wa (within_past whole y b wb) (e ∙ line_out driver_line y b n)))))
+      (λ (n : is_in driver_line y ≡ false). alike_flip _ _ (alike_after b y _ n lb
+      (alike_flip _ _ (alike k [] b (omega arith) la lb.1 wa (within_past whole y b wb) (e ∙ line_out driver_line y b n)))))
       (cases_Bool (is_in driver_line y))
   alike (suc k) (x ∷ a) [] l la lb wa wb e = ⊎_elim
       (λ (t : is_in driver_line x ≡ true). absurd (snoc_some (line driver_line a) x (sym (line_in driver_line x a t) ∙ e)))
@@ -171,7 +180,8 @@ module _ (whole : List Noted) where
       let w = alike k a b (omega arith) la.1 lb.1 (within_past whole x a wa) (within_past whole y b wb) s.0 in
       subst (λ z. Alike (end_of (x ∷ a)).managed.managed (end_of (z ∷ b)).managed.managed) s.1
       (both_had x a b la (subst (λ z. Lawful (z ∷ b)) (sym s.1) lb) wa (subst (λ z. Within whole (z ∷ b)) (sym s.1) wb) w))
-      (λ (n : is_in driver_line y ≡ false). alike_flip _ _ (alike_after b y _ n lb (alike_flip _ _ (alike k (x ∷ a) b (omega arith) la lb.1 wa (within_past whole y b wb) (e ∙ line_out driver_line y b n)))))
+      (λ (n : is_in driver_line y ≡ false). alike_flip _ _ (alike_after b y _ n lb
+      (alike_flip _ _ (alike k (x ∷ a) b (omega arith) la lb.1 wa (within_past whole y b wb) (e ∙ line_out driver_line y b n)))))
       (cases_Bool (is_in driver_line y)))
       (λ (n : is_in driver_line x ≡ false). alike_after a x _ n la (alike k a (y ∷ b) (omega arith) la.1 lb (within_past whole x a wa) wb (sym (line_out driver_line x a n) ∙ e)))
       (cases_Bool (is_in driver_line x))
@@ -183,7 +193,8 @@ map_same f g (x ∷ xs) h = λ i. h x (Contains-here x xs) i ∷ map_same f g xs
 row_same : (s t : Managed) (issued : List Issued) (m : ℕ) → handle_of s m ≡ handle_of t m → peer_of_row s issued m ≡ peer_of_row t issued m
 row_same s t issued m e = ap (λ o. elim o [ None ↦ 0 | Some h ↦ elim (peer_of issued h) [ None ↦ 0 | Some p ↦ p ] ]) e
 
-end_same : (s t : Managed) (issued : List Issued) (bridge : ℕ → Type 0) (edge : ℕ → ℕ → Type 0) (comps : List (List ℕ)) (heavy : List ℕ) (xrefs : List (ℕ × ℕ)) (k : IsContraction bridge edge comps heavy xrefs) → ((m : ℕ) → bridge m → handle_of s m ≡ handle_of t m) → (e : End) → IsEnd bridge edge comps heavy xrefs k e
+end_same : (s t : Managed) (issued : List Issued) (bridge : ℕ → Type 0) (edge : ℕ → ℕ → Type 0) (comps : List (List ℕ)) (heavy : List ℕ) (xrefs : List (ℕ × ℕ))
+    (k : IsContraction bridge edge comps heavy xrefs) → ((m : ℕ) → bridge m → handle_of s m ≡ handle_of t m) → (e : End) → IsEnd bridge edge comps heavy xrefs k e
     → carried_end s issued e ≡ carried_end t issued e
 end_same s t issued bridge edge comps heavy xrefs k h (node m) w = ap node (row_same s t issued m (h m w))
 end_same s t issued bridge edge comps heavy xrefs k h (temporary i) w = refl
@@ -195,7 +206,8 @@ frozen_in whole a b la lb wa wb e = by (alike whole (length a + length b) a b (o
     by (closed x y) = record {
       candidates = ap (λ o. elim o [ None ↦ [] | Some c ↦ c.candidates ]) (x ∙ sym y);
       handles = λ i h w. absurd (none_get i w.0 (subst (λ (o : Option OpenCycle). slice_get (elim o [ None ↦ [] | Some c ↦ c.candidates ]) i ≡ Some w.0) x w.1));
-      edges = λ o comps heavy xrefs issued q. let d : IsContracted (end_of b).managed (end_of b).peer o comps heavy xrefs = subst (IsDriverKept (end_of b).managed (end_of b).peer) q (kept_end b lb).driver in
+      edges = λ o comps heavy xrefs issued q. let d : IsContracted (end_of b).managed
+          (end_of b).peer o comps heavy xrefs = subst (IsDriverKept (end_of b).managed (end_of b).peer) q (kept_end b lb).driver in
           absurd (none_some _ (sym y ∙ d.before.opened.cycle));
     }
       where
@@ -213,14 +225,18 @@ frozen_in whole a b la lb wa wb e = by (alike whole (length a + length b) a b (o
           map_same _ _ (mirror_edges comps xrefs) (λ g w.
           let ends = edge-ends _ _ comps heavy xrefs d.contraction g.0 g.1 w in
           let same = λ (m : ℕ) (q : Contains d.before.cycle.dead m × IsBridge (end_of b).managed.managed m). (h m (subst (λ (z : OpenCycle). Contains z.dead m) is q.0)).0 in
-          (λ k. (end_same (end_of a).managed.managed (end_of b).managed.managed issued _ _ comps heavy xrefs d.contraction same g.0 ends.0 k, end_same (end_of a).managed.managed (end_of b).managed.managed issued _ _ comps heavy xrefs d.contraction same g.1 ends.1 k)));
+          (λ k. (
+            end_same (end_of a).managed.managed (end_of b).managed.managed issued _ _ comps heavy xrefs d.contraction same g.0 ends.0 k,
+            end_same (end_of a).managed.managed (end_of b).managed.managed issued _ _ comps heavy xrefs d.contraction same g.1 ends.1 k,
+          )));
     }
 
 -- the graph of the dead part is the same, and so is its contraction
 bridge-on : (s t : Managed) (m : ℕ) → IsManagedKept t → handle_of s m ≡ handle_of t m → IsBridge s m → IsBridge t m
 bridge-on s t m k e b = (b.0, holds-handle_of t m b.0 k.places (sym e ∙ Holds-handle_of s m b.0 b.1))
 
-edge-on : (s t : Managed) (c : OpenCycle) → IsManagedKept t → t.cycle ≡ Some c → ((m : ℕ) → Contains c.dead m → fields_of s.heap m ≡ fields_of t.heap m) → (x y : ℕ) → DeadEdge s c.dead x y → DeadEdge t c.dead x y
+edge-on : (s t : Managed) (c : OpenCycle) → IsManagedKept t → t.cycle ≡ Some c
+    → ((m : ℕ) → Contains c.dead m → fields_of s.heap m ≡ fields_of t.heap m) → (x y : ℕ) → DeadEdge s c.dead x y → DeadEdge t c.dead x y
 edge-on s t c k o f x y e = (record { live = (k.dead c o).live x e.1; field = subst (λ fs. Contains fs (Some y)) (f x e.1) e.0.field; there = (k.dead c o).live y e.2 }, e.1, e.2)
 
 -- states that are so have the same dead part
@@ -236,15 +252,18 @@ dead_part-alike s t ks kt (open_one d x y h) = record { cycle = x ∙ sym y; han
     same : (c : OpenCycle) → s.cycle ≡ Some c → (m : ℕ) → Contains c.dead m → (handle_of s m ≡ handle_of t m) × (fields_of s.heap m ≡ fields_of t.heap m)
     same c o m w = h m (subst (λ (z : OpenCycle). Contains z.dead m) (same_Some c d (sym o ∙ x)) w)
 
-    contraction : (c : OpenCycle) → s.cycle ≡ Some c → (comps : List (List ℕ)) (heavy : List ℕ) (xrefs : List (ℕ × ℕ)) → IsDeadContraction s c.dead comps heavy xrefs → IsDeadContraction t c.dead comps heavy xrefs
+    contraction : (c : OpenCycle) → s.cycle ≡ Some c → (comps : List (List ℕ)) (heavy : List ℕ) (xrefs : List (ℕ × ℕ))
+        → IsDeadContraction s c.dead comps heavy xrefs → IsDeadContraction t c.dead comps heavy xrefs
     contraction c o comps heavy xrefs w =
         let oc : t.cycle ≡ Some c = y ∙ ap Some (same_Some d c (sym x ∙ o)) in
         contraction-same (λ m. Contains c.dead m × IsBridge s m) (λ m. Contains c.dead m × IsBridge t m) (DeadEdge s c.dead) (DeadEdge t c.dead) comps heavy xrefs
         (λ m. (λ q. (q.0, bridge-on s t m kt (same c o m q.0).0 q.1), λ q. (q.0, bridge-on t s m ks (sym (same c o m q.0).0) q.1)))
         (λ u v. (edge-on s t c kt oc (λ m q. (same c o m q).1) u v, edge-on t s c ks o (λ m q. sym (same c o m q).1) u v)) w
 
-pub same_dead_part : (whole a b : List Noted) → Lawful a → Lawful b → Within whole a → Within whole b → line driver_line a ≡ line driver_line b → HasSameDeadPart (end_of a).managed.managed (end_of b).managed.managed
-same_dead_part whole a b la lb wa wb e = dead_part-alike (end_of a).managed.managed (end_of b).managed.managed (kept_end a la).managed.managed (kept_end b lb).managed.managed (alike whole (length a + length b) a b (omega arith) la lb wa wb e)
+pub same_dead_part : (whole a b : List Noted) → Lawful a → Lawful b → Within whole a → Within whole b
+    → line driver_line a ≡ line driver_line b → HasSameDeadPart (end_of a).managed.managed (end_of b).managed.managed
+same_dead_part whole a b la lb wa wb e = dead_part-alike (end_of a).managed.managed (end_of b).managed.managed
+    (kept_end a la).managed.managed (kept_end b lb).managed.managed (alike whole (length a + length b) a b (omega arith) la lb wa wb e)
 
 pub known_pasts_join : KnownPastsJoin
 known_pasts_join whole a b runs la lb wa wb = pasts_join whole a b runs (frozen_in whole) la lb wa wb

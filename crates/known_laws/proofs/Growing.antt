@@ -21,7 +21,8 @@ use Rattle.known_laws.specs.PastEntries.{TellsPlainly, InPast, entries}
 use Rattle.known_laws.proofs.Bared.{unpinned_told, same_told, retell, retell_tells, retell_pins, retell_bare, plain_read}
 use Rattle.known_laws.specs.Telling.{MayBeTold}
 use Rattle.known_laws.specs.Pasts.{role_of, is_in, line, of_line, PastRunsFrom, end_of, Within, AreWithin, AreAlike, bare, Joined, driver_line, next_of}
-use Rattle.known_laws.specs.Growing.{Kept, shown, all_shown, entries_kept, kept_in, untold, AreKnown, NothingIsKnown, grown, AreBelow, HasGrown, KnownLinesGrow, Begin, KnownLinesJoin, LinesGiveParts, DeadPartStays}
+use Rattle.known_laws.specs.Growing.{Kept, shown, all_shown, entries_kept, kept_in, untold, AreKnown, NothingIsKnown, grown, AreBelow, HasGrown, KnownLinesGrow, Begin, KnownLinesJoin, LinesGiveParts}
+use Rattle.known_laws.specs.Growing.{DeadPartStays}
 use Rattle.known_laws.proofs.PastLines.{in_role, line-in, length_begins, shorter_begins, in-line, in_begins}
 use Rattle.known_laws.proofs.PastsJoin.{counted}
 use Rattle.known_laws.proofs.Parts.{same_managed, same_peer, same_control}
@@ -62,11 +63,13 @@ grown_line lines past n x i q e = ap (λ k. grown lines k i) q ∙ by (is_in i x
     by false = e
 
 -- what is told of a refusal changes no side
-told_twice : (s : Linkage) (n : Noted) (x : Told) → pins_told x ≡ pins_told n.told → (TellsPlainly s.control.stand n.entry.made.op (bare_told n.told) → x ≡ n.told) → IsEvent n.entry.made.caller n.entry.made.op
+told_twice : (s : Linkage) (n : Noted) (x : Told) → pins_told x ≡ pins_told n.told
+    → (TellsPlainly s.control.stand n.entry.made.op (bare_told n.told) → x ≡ n.told) → IsEvent n.entry.made.caller n.entry.made.op
     → ((past_after s (record { entry = n.entry; told = x })).managed ≡ (past_after s n).managed) × ((past_after s (record { entry = n.entry; told = x })).peer ≡ (past_after s n).peer)
 told_twice s n x p e v = by n.entry.made.op refl
   where
-    again : x ≡ n.told → ((past_after s (record { entry = n.entry; told = x })).managed ≡ (past_after s n).managed) × ((past_after s (record { entry = n.entry; told = x })).peer ≡ (past_after s n).peer)
+    again : x ≡ n.told → ((past_after s (record { entry = n.entry; told = x })).managed ≡ (past_after s n).managed)
+        × ((past_after s (record { entry = n.entry; told = x })).peer ≡ (past_after s n).peer)
     again q = (ap (λ z. (past_after s (record { entry = n.entry; told = z })).managed) q, ap (λ z. (past_after s (record { entry = n.entry; told = z })).peer) q)
 
     Both : Op → Type 0
@@ -74,7 +77,8 @@ told_twice s n x p e v = by n.entry.made.op refl
         (managed_past s.managed m x (is_peer_event m.caller o) (is_read o) ≡ managed_past s.managed m n.told (is_peer_event m.caller o) (is_read o))
         × (peer_after s.peer m (bare_told x) (is_peer_event m.caller o) ≡ peer_after s.peer m (bare_told n.told) (is_peer_event m.caller o))
 
-    by : (o : Op) → n.entry.made.op ≡ o → ((past_after s (record { entry = n.entry; told = x })).managed ≡ (past_after s n).managed) × ((past_after s (record { entry = n.entry; told = x })).peer ≡ (past_after s n).peer)
+    by : (o : Op) → n.entry.made.op ≡ o → ((past_after s (record { entry = n.entry; told = x })).managed ≡ (past_after s n).managed)
+        × ((past_after s (record { entry = n.entry; told = x })).peer ≡ (past_after s n).peer)
     by (op.Refused w) q = subst Both (sym q) (stays x ∙ (ap (λ z. with_pins (with_pins s.managed z) no_pins) p ∙ sym (stays n.told)), refl)
       where
         same : (z : ManagedReplay) (y : Told) → (managed_answer z n.entry.made.caller (op.Refused w) y).state ≡ z
@@ -89,7 +93,8 @@ pub known_lines_grow : KnownLinesGrow
 known_lines_grow lines k n below may = by (is_read n.entry.made.op) refl may
   where
     later : next_of k.past ≤ n.entry.number
-    later = counted n.entry.number k.past (λ e p. below_in n.entry.number (line (role_of e) k.past) e (subst (AreBelow n.entry.number) (k.same (role_of e)) (below (role_of e))) (line-in (role_of e) k.past e p (in_role e)))
+    later = counted n.entry.number k.past (λ e p. below_in n.entry.number (line (role_of e) k.past) e
+        (subst (AreBelow n.entry.number) (k.same (role_of e)) (below (role_of e))) (line-in (role_of e) k.past e p (in_role e)))
 
     by : (r : Bool) → is_read n.entry.made.op ≡ r → Comes r (end_of k.past) n → HasGrown lines k.past n
     by true e w = record {
@@ -104,7 +109,14 @@ known_lines_grow lines k n below may = by (is_read n.entry.made.op) refl may
     }
     by false e w = record {
       told = x;
-      lawful = (record { later = later; comes = subst (λ r. Comes r (end_of k.past) m) (sym e) comes; plain = subst (TellsPlainly (end_of k.past).control.stand n.entry.made.op) (sym (retell_bare n.told t.0 free)) t.1.1 }, k.lawful);
+      lawful = (
+        record {
+          later = later;
+          comes = subst (λ r. Comes r (end_of k.past) m) (sym e) comes;
+          plain = subst (TellsPlainly (end_of k.past).control.stand n.entry.made.op) (sym (retell_bare n.told t.0 free)) t.1.1;
+        },
+        k.lawful,
+      );
       same = λ i. grown_line lines k.past n m i (λ j. record { entry = n.entry; pins = sym pins j }) (k.same i);
       alike = alike;
       pins = pins;
@@ -135,7 +147,8 @@ known_lines_grow lines k n below may = by (is_read n.entry.made.op) refl may
         comes = record {
           tells = retell_tells n.told t.0 free ∙ w.tells;
           stand = subst (PinsStand (end_of k.past).managed.managed) (sym pins) w.stand;
-          comes = subst (λ z. MayCome (pinned (end_of k.past) z) (record { entry = n.entry; told = bare_told x })) (sym pins) (subst (λ z. MayCome s (record { entry = n.entry; told = z })) (sym (retell_bare n.told t.0 free)) t.1.0);
+          comes = subst (λ z. MayCome (pinned (end_of k.past) z) (record { entry = n.entry; told = bare_told x })) (sym pins)
+              (subst (λ z. MayCome s (record { entry = n.entry; told = z })) (sym (retell_bare n.told t.0 free)) t.1.0);
         }
 
         alike : TellsPlainly (end_of k.past).control.stand n.entry.made.op (bare_told n.told) → x ≡ n.told
@@ -172,7 +185,8 @@ pub of_line_untold : (i : ℕ) (xs : List Kept) → of_line i (map untold xs) �
 of_line_untold i [] = refl
 of_line_untold i (x ∷ xs) = by (is_in i (untold x)) (of_line_untold i xs)
   where
-    by : (b : Bool) → of_line i (map untold xs) ≡ map untold (kept_in i xs) → (if b then untold x ∷ of_line i (map untold xs) else of_line i (map untold xs)) ≡ map untold (if b then x ∷ kept_in i xs else kept_in i xs)
+    by : (b : Bool) → of_line i (map untold xs) ≡ map untold (kept_in i xs)
+        → (if b then untold x ∷ of_line i (map untold xs) else of_line i (map untold xs)) ≡ map untold (if b then x ∷ kept_in i xs else kept_in i xs)
     by true e = ap (λ l. untold x ∷ l) e
     by false e = e
 
@@ -191,7 +205,8 @@ runs_untold n (x ∷ xs) r = (r.0, runs_untold (n + 1) xs r.1)
 all_begins : (xs ys : List Noted) → IsPrefix xs ys → length ys ≤ length xs → ys ≡ xs
 all_begins xs ys p l = prefix_anti ys xs (shorter_begins ys xs ys (prefix_refl ys) p l) p
 
-longer_line : (xs ys zs : List Kept) (ps qs : List Noted) → (zs ≡ xs) ⊎ (zs ≡ ys) → length xs ≤ length zs → length ys ≤ length zs → length ps ≡ length xs → length qs ≡ length ys → (rs : List Noted) → (rs ≡ ps) ⊎ (rs ≡ qs) → length ps ≤ length rs → length qs ≤ length rs → length rs ≡ length zs
+longer_line : (xs ys zs : List Kept) (ps qs : List Noted) → (zs ≡ xs) ⊎ (zs ≡ ys) → length xs ≤ length zs → length ys ≤ length zs → length ps ≡ length xs
+    → length qs ≡ length ys → (rs : List Noted) → (rs ≡ ps) ⊎ (rs ≡ qs) → length ps ≤ length rs → length qs ≤ length rs → length rs ≡ length zs
 longer_line xs ys zs ps qs e a b c d rs f g h = ⊎_elim
     (λ (u : zs ≡ xs). ⊎_elim
     (λ (v : rs ≡ ps). ap length v ∙ (c ∙ ap length (sym u)))
@@ -242,8 +257,10 @@ known_lines_join whole ls ms ns a b numbered wa wb longer =
 
     same : (i : ℕ) → ns i ≡ all_shown (line i j.past)
     same i = ⊎_elim
-        (λ (e : ns i ≡ ls i). e ∙ (a.same i ∙ ap all_shown (sym (all_begins (line i a.past) (line i j.past) (j.first i) (let l = lengths i in let m = ap length e in let n = la i in omega (arith, l, m, n))))))
-        (λ (e : ns i ≡ ms i). e ∙ (b.same i ∙ ap all_shown (sym (all_begins (line i b.past) (line i j.past) (j.second i) (let l = lengths i in let m = ap length e in let n = lb i in omega (arith, l, m, n))))))
+        (λ (e : ns i ≡ ls i). e ∙ (a.same i ∙ ap all_shown (sym (all_begins (line i a.past) (line i j.past)
+        (j.first i) (let l = lengths i in let m = ap length e in let n = la i in omega (arith, l, m, n))))))
+        (λ (e : ns i ≡ ms i). e ∙ (b.same i ∙ ap all_shown (sym (all_begins (line i b.past) (line i j.past)
+        (j.second i) (let l = lengths i in let m = ap length e in let n = lb i in omega (arith, l, m, n))))))
         (longer.either i)
 
 pub lines_give_parts : LinesGiveParts
@@ -284,4 +301,5 @@ pub dead_part_is_frozen : DeadPartStays
 dead_part_is_frozen whole ls ms a b numbered wa wb e =
     let r = one_run whole ls ms a b numbered wa wb in
     let n = sym (length_shown (line driver_line a.past)) ∙ (ap length (sym (a.same driver_line) ∙ (e ∙ b.same driver_line)) ∙ length_shown (line driver_line b.past)) in
-    same_dead_part r.run a.past b.past a.lawful b.lawful r.first r.second (equal_begins (line driver_line a.past) (line driver_line b.past) (of_line driver_line r.run) (r.first driver_line) (r.second driver_line) n)
+    same_dead_part r.run a.past b.past a.lawful b.lawful r.first r.second
+    (equal_begins (line driver_line a.past) (line driver_line b.past) (of_line driver_line r.run) (r.first driver_line) (r.second driver_line) n)

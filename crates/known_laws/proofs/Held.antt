@@ -101,16 +101,20 @@ happens x h l = either (is_read x.entry.made.op) refl l.0.comes
             again (snaps k freed candidates dead u v w p q) = snaps k freed candidates dead u v w p q
             again (resolves c freed u v w d p q) = resolves c freed u v w d p q
 
-        goes : (t : Thread) (o : Op) (told : Told) → x.entry.made.caller ≡ t → x.entry.made.op ≡ o → bare_told x.told ≡ told → ((z : Option ℕ) → open_after o z ≡ z) → GoesOn s0.managed.managed (R t o told).managed → Goal (end_of (x ∷ h)).managed.managed
+        goes : (t : Thread) (o : Op) (told : Told) → x.entry.made.caller ≡ t → x.entry.made.op ≡ o → bare_told x.told ≡ told
+            → ((z : Option ℕ) → open_after o z ≡ z) → GoesOn s0.managed.managed (R t o told).managed → Goal (end_of (x ∷ h)).managed.managed
         goes t o told e f g d w = ends t o told e f g (stays (λ z. ap (λ y. open_after y z) f ∙ d z) w.freed w.cycle)
 
-        by : (t : Thread) (o : Op) (told : Told) → x.entry.made.caller ≡ t → x.entry.made.op ≡ o → bare_told x.told ≡ told → IsEvent t o → SideLawful (is_peer_event t o) s0 (made t o) told → Goal (end_of (x ∷ h)).managed.managed
+        by : (t : Thread) (o : Op) (told : Told) → x.entry.made.caller ≡ t → x.entry.made.op ≡ o → bare_told x.told ≡ told
+            → IsEvent t o → SideLawful (is_peer_event t o) s0 (made t o) told → Goal (end_of (x ∷ h)).managed.managed
         by (M u) o told e f g v w = goes (M u) o told e f g (still_open (M u) o (λ z. cc) v) (goes_by s0.managed (made (M u) o) told (is_peer_event (M u) o) s0 refl (λ z. cc) v k0 w)
         by (P u) o told e f g v w = goes (P u) o told e f g (still_open (P u) o (λ z. cc) v) (goes_by s0.managed (made (P u) o) told (is_peer_event (P u) o) s0 refl (λ z. cc) v k0 w)
-        by C (op.Snap k) (snap_of freed candidates dead) e f g v w = ends C (op.Snap k) (snap_of freed candidates dead) e f g (snaps k freed candidates dead f g w.allowed refl (λ i. Some record { number = sym w.allowed.next i; candidates = candidates; dead = dead }))
+        by C (op.Snap k) (snap_of freed candidates dead) e f g v w = ends C (op.Snap k) (snap_of freed candidates dead) e f g
+            (snaps k freed candidates dead f g w.allowed refl (λ i. Some record { number = sym w.allowed.next i; candidates = candidates; dead = dead }))
         by C (op.Snap k) told e f g v w = absurd w.allowed
         by C (op.Resolve k) (resolution_of alive freed) e f g v w = ends C (op.Resolve k) (resolution_of alive freed) e f g
-            (resolves w.allowed.cycle freed w.allowed.open_cycle.0 (λ m d. subst (λ z. FreesObject z m) (sym g) d) (λ m d. ((w.allowed.resolution.frees m).0 d).0) (λ z. ap (λ y. open_after y z) f) refl refl)
+            (resolves w.allowed.cycle freed w.allowed.open_cycle.0 (λ m d. subst (λ z. FreesObject z m) (sym g) d)
+            (λ m d. ((w.allowed.resolution.frees m).0 d).0) (λ z. ap (λ y. open_after y z) f) refl refl)
         by C (op.Resolve k) told e f g v w = absurd w.allowed
         by C (op.Abandon k) told e f g v w = ends C (op.Abandon k) told e f g (closes (λ z. ap (λ y. open_after y z) f) refl refl)
         by C o told e f g v w = goes C o told e f g (λ z. refl) (driver_goes s0.managed x.entry.made.index x.entry.made.reply x.entry.made.cites o told k0 tt v)
@@ -130,10 +134,12 @@ freed_by (x ∷ h) l m c = by (freed_by h l.1 m) (happens x h l)
     before : ((y : Noted) × InPast h y × FreesObject (bare_told y.told) m) → Found
     before w = (w.0, inr w.1, w.2)
 
-    by : (Contains (end_of h).managed.managed.heap.freed m → (y : Noted) × InPast h y × FreesObject (bare_told y.told) m) → Happens (end_of h).managed.managed (end_of (x ∷ h)).managed.managed x (given (end_of h) x.told).managed.managed → Found
+    by : (Contains (end_of h).managed.managed.heap.freed m → (y : Noted) × InPast h y × FreesObject (bare_told y.told) m)
+        → Happens (end_of h).managed.managed (end_of (x ∷ h)).managed.managed x (given (end_of h) x.told).managed.managed → Found
     by f (stays d p q) = before (f (subst (λ z. Contains z m) p c))
     by f (closes d p q) = before (f (subst (λ z. Contains z m) p c))
-    by f (snaps k freed candidates dead u v w p q) = ⊎_elim (λ d. before (f d)) (λ d. (x, inl refl, subst (λ z. FreesObject z m) (sym v) d)) (Contains-append_cases (end_of h).managed.managed.heap.freed freed m (subst (λ z. Contains z m) p c))
+    by f (snaps k freed candidates dead u v w p q) = ⊎_elim (λ d. before (f d)) (λ d. (x, inl refl, subst (λ z. FreesObject z m) (sym v) d))
+        (Contains-append_cases (end_of h).managed.managed.heap.freed freed m (subst (λ z. Contains z m) p c))
     by f (resolves o freed u v w d p q) = ⊎_elim (λ d. before (f d)) (λ d. (x, inl refl, v m d)) (Contains-append_cases (end_of h).managed.managed.heap.freed freed m (subst (λ z. Contains z m) p c))
 
 -- unfreed, and outside of an open cycle's dead part
@@ -141,7 +147,8 @@ pub record IsSpared (s : Managed) (m : ℕ) : Type 0 where
   pub unfreed : Contains s.heap.freed m → ⊥
   pub outside : (c : OpenCycle) → s.cycle ≡ Some c → Contains c.dead m → ⊥
 
-spared_step : (x : Noted) (h : List Noted) (r m : ℕ) → Lawful (x ∷ h) → ((k : Cycle) → x.entry.made.op ≡ op.Snap k → slot (pins_told x.told) r ≡ Some m) → IsSpared (end_of h).managed.managed m → IsSpared (end_of (x ∷ h)).managed.managed m
+spared_step : (x : Noted) (h : List Noted) (r m : ℕ) → Lawful (x ∷ h) → ((k : Cycle) → x.entry.made.op ≡ op.Snap k → slot (pins_told x.told) r ≡ Some m)
+    → IsSpared (end_of h).managed.managed m → IsSpared (end_of (x ∷ h)).managed.managed m
 spared_step x h r m l kept o = by (happens x h l)
   where
     s : Managed
@@ -169,9 +176,13 @@ spared_step x h r m l kept o = by (happens x h l)
             by_get : (o : Option (Option ℕ)) → slice_get pins r ≡ o → (elim o [ None ↦ None | Some x ↦ x ]) ≡ Some m → Contains pins (Some m)
             by_get None q w = absurd (none_some m w)
             by_get (Some x) q w = Contains-at pins r (Some m) (q ∙ ap Some w)
-    by (resolves c freed u v w y p q) = record { unfreed = λ d. ⊎_elim o.unfreed (λ d. o.outside c u (w m d)) (Contains-append_cases s.heap.freed freed m (subst (λ z. Contains z m) p d)); outside = closed q }
+    by (resolves c freed u v w y p q) = record {
+      unfreed = λ d. ⊎_elim o.unfreed (λ d. o.outside c u (w m d)) (Contains-append_cases s.heap.freed freed m (subst (λ z. Contains z m) p d));
+      outside = closed q;
+    }
 
-spared_end : (n r m : ℕ) (h : List Noted) → Lawful h → ((x : Noted) → InPast h x → n ≤ x.entry.number → (k : Cycle) → x.entry.made.op ≡ op.Snap k → slot (pins_told x.told) r ≡ Some m) → IsSpared (end_of (those_below n h)).managed.managed m → IsSpared (end_of h).managed.managed m
+spared_end : (n r m : ℕ) (h : List Noted) → Lawful h → ((x : Noted) → InPast h x → n ≤ x.entry.number → (k : Cycle) → x.entry.made.op ≡ op.Snap k → slot (pins_told x.told) r ≡ Some m)
+    → IsSpared (end_of (those_below n h)).managed.managed m → IsSpared (end_of h).managed.managed m
 spared_end n r m [] l kept o = o
 spared_end n r m (x ∷ h) l kept o = ⊎_elim
     (λ (e : nat_lt x.entry.number n ≡ true). subst (λ z. IsSpared (end_of z).managed.managed m) (ap (λ b. if b then x ∷ h else those_below n h) e) o)
@@ -230,7 +241,8 @@ held_pins_stand h pins l held = record {
 pub reads_are_exact : ReadsAreExact
 reads_are_exact s t k = by (slot s.pins t) s.cycle (slot s.cells k) refl refl
   where
-    by_freed : (m : ℕ) (b : Bool) → answers_by None None (if b then gone else object m) ≡ (let a : Answered Managed = (if b then answer says.Gone s else answer (managed_name m) (record s { pins = slice_set s.pins t (Some m) })) in a.reply)
+    by_freed : (m : ℕ) (b : Bool) → answers_by None None (if b then gone else object m)
+        ≡ (let a : Answered Managed = (if b then answer says.Gone s else answer (managed_name m) (record s { pins = slice_set s.pins t (Some m) })) in a.reply)
     by_freed m true = refl
     by_freed m false = refl
 
@@ -238,7 +250,8 @@ reads_are_exact s t k = by (slot s.pins t) s.cycle (slot s.cells k) refl refl
     target None = refl
     target (Some m) = by_freed m (is_freed s.heap m)
 
-    opened : (c : Option OpenCycle) (o : Option ℕ) → answers_by None (open_number c) (word_by s o) ≡ (let a : Answered Managed = elim c [ None ↦ target_read s t o | Some d ↦ answer (says.Pending record { 0 = d.number }) s ] in a.reply)
+    opened : (c : Option OpenCycle) (o : Option ℕ) → answers_by None (open_number c)
+        (word_by s o) ≡ (let a : Answered Managed = elim c [ None ↦ target_read s t o | Some d ↦ answer (says.Pending record { 0 = d.number }) s ] in a.reply)
     opened None o = target o
     opened (Some d) o = refl
 
@@ -246,16 +259,19 @@ reads_are_exact s t k = by (slot s.pins t) s.cycle (slot s.cells k) refl refl
     cell None = target (slot s.cells k)
     cell (Some d) = refl
 
-    by : (p : Option ℕ) (c : Option OpenCycle) (o : Option ℕ) → c ≡ s.cycle → o ≡ slot s.cells k → answers_by p (open_number c) (word_by s o) ≡ (let a : Answered Managed = elim p [ None ↦ cell_read s t k s.cycle | Some x ↦ answer (says.Pinned record { 0 = x }) s ] in a.reply)
+    by : (p : Option ℕ) (c : Option OpenCycle) (o : Option ℕ) → c ≡ s.cycle → o ≡ slot s.cells k
+        → answers_by p (open_number c) (word_by s o) ≡ (let a : Answered Managed = elim p [ None ↦ cell_read s t k s.cycle | Some x ↦ answer (says.Pinned record { 0 = x }) s ] in a.reply)
     by (Some x) c o e f = refl
-    by None c o e f = subst (λ z. answers_by None (open_number z) (word_by s o) ≡ (cell_read s t k s.cycle).reply) (sym e) (subst (λ z. answers_by None (open_number s.cycle) (word_by s z) ≡ (cell_read s t k s.cycle).reply) (sym f) (cell s.cycle))
+    by None c o e f = subst (λ z. answers_by None (open_number z) (word_by s o) ≡ (cell_read s t k s.cycle).reply) (sym e)
+        (subst (λ z. answers_by None (open_number s.cycle) (word_by s z) ≡ (cell_read s t k s.cycle).reply) (sym f) (cell s.cycle))
 
 -- the open cycle is as the events say
 pub cycles_are_drawn : CyclesAreDrawn
 cycles_are_drawn [] l = refl
 cycles_are_drawn (x ∷ h) l = by (cycles_are_drawn h l.1) (happens x h l)
   where
-    by : open_number (end_of h).managed.managed.cycle ≡ open_in h → Happens (end_of h).managed.managed (end_of (x ∷ h)).managed.managed x (given (end_of h) x.told).managed.managed → open_number (end_of (x ∷ h)).managed.managed.cycle ≡ open_after x.entry.made.op (open_in h)
+    by : open_number (end_of h).managed.managed.cycle ≡ open_in h → Happens (end_of h).managed.managed (end_of (x ∷ h)).managed.managed x (given (end_of h) x.told).managed.managed
+        → open_number (end_of (x ∷ h)).managed.managed.cycle ≡ open_after x.entry.made.op (open_in h)
     by e (stays d p q) = ap open_number q ∙ (e ∙ sym (d (open_in h)))
     by e (closes d p q) = ap open_number q ∙ sym (d (open_in h))
     by e (snaps k freed candidates dead u v w p q) = ap open_number q ∙ sym (ap (λ o. open_after o (open_in h)) u)

@@ -42,7 +42,8 @@ by_side s n p = record {
 }
 
 -- a read leaves the managed side alone
-pub reads_leave : (s : ManagedReplay) (n : Noted) → is_read n.entry.made.op ≡ true → managed_past s n.entry.made n.told (is_peer_event n.entry.made.caller n.entry.made.op) (is_read n.entry.made.op) ≡ s
+pub reads_leave : (s : ManagedReplay) (n : Noted) → is_read n.entry.made.op ≡ true
+    → managed_past s n.entry.made n.told (is_peer_event n.entry.made.caller n.entry.made.op) (is_read n.entry.made.op) ≡ s
 reads_leave s n e = subst (λ r. managed_past s n.entry.made n.told (is_peer_event n.entry.made.caller n.entry.made.op) r ≡ s) (sym e) (by (is_peer_event n.entry.made.caller n.entry.made.op))
   where
     by : (p : Bool) → managed_past s n.entry.made n.told p true ≡ s
@@ -124,7 +125,8 @@ kept_end [] l = AreKept-opening
 kept_end (x ∷ h) l = past_keeps (end_of h) x l.0.comes (kept_end h l.1)
 
 -- with what both sides keep at hand
-pub past-all : (Q : Linkage → Type 0) → Q opening_linkage → ((s : Linkage) (n : Noted) → Of s → MayCome s n → Q s → Q (linkage_after s n)) → ((s : Linkage) (pins : List (Option ℕ)) → Q s → Q (pinned s pins)) → (h : List Noted) → Lawful h → Q (end_of h)
+pub past-all : (Q : Linkage → Type 0) → Q opening_linkage → ((s : Linkage) (n : Noted) → Of s → MayCome s n → Q s → Q (linkage_after s n))
+    → ((s : Linkage) (pins : List (Option ℕ)) → Q s → Q (pinned s pins)) → (h : List Noted) → Lawful h → Q (end_of h)
 past-all Q first step pins [] l = first
 past-all Q first step pins (n ∷ h) l = by (past-all Q first step pins h l.1) (is_read n.entry.made.op) refl l.0.comes
   where

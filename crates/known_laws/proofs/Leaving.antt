@@ -1,6 +1,7 @@
 -- A held handle leaves the table by a release, or by a restore, alone: each other entry keeps the rows of the
 -- handles that were there, and each handle that is issued comes into the table.
-use Rattle.std.proofs.Common.{◌≡◌, ◌⊎◌, inl, inr, ⊎_elim, ℕ, zero, suc, ◌+◌, ◌-◌, ◌<◌, ◌≤◌, Bool, true, false, ◌||◌, List, [], ◌∷◌, ◌++◌, length, map, drop, Option, Some, None, refl, sym, ap, ◌∙◌, subst, arith, length-append}
+use Rattle.std.proofs.Common.{◌≡◌, ◌⊎◌, inl, inr, ⊎_elim, ℕ, zero, suc, ◌+◌, ◌-◌, ◌<◌, ◌≤◌, Bool, true, false, ◌||◌, List, [], ◌∷◌, ◌++◌, length, map, drop, Option, Some, None, refl, sym, ap, ◌∙◌}
+use Rattle.std.proofs.Common.{subst, arith, length-append}
 use Rattle.known_laws.proofs.Coming.{peer_of as peer_lawful}
 use Rattle.joint_machine.specs.Linked.{PeerLawful, Linkage, SideLawful, peer_after}
 use Rattle.joint_machine.specs.PinsTold.{bare_told}
@@ -19,7 +20,8 @@ use Rattle.joint_machine.specs.declared.events.Made.{Made}
 use Rattle.joint_machine.specs.Heaps.{Answered, answer, slot, numbered_set, is_full}
 use Rattle.joint_machine.specs.Lines.{is_peer_event}
 use Rattle.joint_machine.specs.Peers.{Peers, Issued, strong, weak, peer_of, peer_line, pair_made, landed, gripped as grip_static, handles_full, held}
-use Rattle.joint_machine.specs.PeerReplay.{PeerReplay, TableRow, Marking, fresh_row, row_of, table_target, on_table, bring_by, brings, untabled, peer_thread_line, is_thread, sliced, begun, swept_of, swept, restored_by, peer_answer, withdrawn, given_anew, with_restored, mirrored}
+use Rattle.joint_machine.specs.PeerReplay.{PeerReplay, TableRow, Marking, fresh_row, row_of, table_target, on_table, bring_by, brings, untabled, peer_thread_line, is_thread, sliced, begun, swept_of}
+use Rattle.joint_machine.specs.PeerReplay.{swept, restored_by, peer_answer, withdrawn, given_anew, with_restored, mirrored}
 use Rattle.joint_machine.specs.Run.{thread_number}
 use Rattle.joint_machine.specs.Told.{Told, Noted, references_of, slice_of, sweep_of}
 use Rattle.joint_machine.proofs.Numbered.{numbered-within, numbered-made, numbered_set-length, numbered-push_new}
@@ -70,13 +72,15 @@ map_row [] k l = absurd (omega (arith, l))
 map_row (i ∷ is) zero l = (record { strength = i.strength; cleared = false }, refl)
 map_row (i ∷ is) (suc k) l = map_row is k (omega (arith, l))
 
-tail_row : (table : List (Option TableRow)) (is : List Issued) (k : ℕ) → length table ≤ k → k < length is → (row : TableRow) × (slice_get (table ++ map fresh_row (drop (length table) is)) k ≡ Some (Some row))
+tail_row : (table : List (Option TableRow)) (is : List Issued) (k : ℕ) → length table ≤ k → k < length is
+    → (row : TableRow) × (slice_get (table ++ map fresh_row (drop (length table) is)) k ≡ Some (Some row))
 tail_row [] is k l m = map_row is k m
 tail_row (x ∷ table) [] k l m = absurd (omega (arith, m))
 tail_row (x ∷ table) (i ∷ is) zero l m = absurd (omega (arith, l))
 tail_row (x ∷ table) (i ∷ is) (suc k) l m = tail_row table is k (omega (arith, l)) (omega (arith, m))
 
-new_row : (table : List (Option TableRow)) (old : List Issued) (now : List Issued) (g : ℕ) → length table ≡ length old → length old < g → g ≤ length now → (row : TableRow) × IsTabled (table ++ map fresh_row (drop (length old) now)) g row
+new_row : (table : List (Option TableRow)) (old : List Issued) (now : List Issued) (g : ℕ) → length table ≡ length old
+    → length old < g → g ≤ length now → (row : TableRow) × IsTabled (table ++ map fresh_row (drop (length old) now)) g row
 new_row table old now zero e l m = absurd (omega (arith, l))
 new_row table old now (suc k) e l m = let w = tail_row table now k (omega (arith, e, l)) (omega (arith, m)) in (w.0, ap (λ n. slice_get (table ++ map fresh_row (drop n now)) k) (sym e) ∙ w.1)
 
@@ -99,13 +103,15 @@ brought-issued a _ = refl
 
 module _ (s : PeerReplay) (k : IsPeerKept s) (m : Made) (g : ℕ) where
   new_on : (x : PeerReplay) (a : Answered Peers) → x.peers ≡ s.peers → length x.table ≡ length s.table → length s.peers.issued < g → g ≤ length a.state.issued → HasRow (on_table x a).state g
-  new_on x a e f l n = new_row x.table x.peers.issued a.state.issued g (f ∙ (k.handles.places ∙ ap (λ (z : Peers). length z.issued) (sym e))) (let q = ap (λ (z : Peers). length z.issued) e in omega (arith, q, l)) n
+  new_on x a e f l n = new_row x.table x.peers.issued a.state.issued g (f ∙ (k.handles.places ∙ ap (λ (z : Peers). length z.issued) (sym e)))
+      (let q = ap (λ (z : Peers). length z.issued) e in omega (arith, q, l)) n
 
   new_brought : (a : Answered Peers) → length s.peers.issued < g → g ≤ length (brings (on_table s a)).state.peers.issued → HasRow (brings (on_table s a)).state g
   new_brought a l n = brought-row (on_table s a) a.reply g (new_on s a refl refl l (let q = ap length (brought-issued (on_table s a) a.reply) in omega (arith, q, n)))
 
   line_new : (u : ℕ) (a : Act) → length s.peers.issued < g → g ≤ length (peer_thread_line s u a).state.peers.issued → HasRow (peer_thread_line s u a).state g
-  line_new u (act.UnGlobal x) l n = new_on (untabled s (slot s.peers.names x.0)) (peer_line (table_target s) s.peers u (act.UnGlobal x)) (untabled-peers s (slot s.peers.names x.0)) (untabled-length s (slot s.peers.names x.0)) l n
+  line_new u (act.UnGlobal x) l n = new_on (untabled s (slot s.peers.names x.0)) (peer_line (table_target s) s.peers u (act.UnGlobal x))
+      (untabled-peers s (slot s.peers.names x.0)) (untabled-length s (slot s.peers.names x.0)) l n
   line_new u (act.WRead v x) l n = new_brought (peer_line (table_target s) s.peers u (act.WRead v x)) l n
   line_new u a l n = new_on s (peer_line (table_target s) s.peers u a) refl refl l n
 
@@ -156,8 +162,11 @@ module _ (s : PeerReplay) (k : IsPeerKept s) (m : Made) (g : ℕ) where
       (HandlesAlike-issued (withdrawn s h) (given_anew (withdrawn s h) p) (new p) (numbered_set-length s.table h None ∙ k.handles.places) refl refl refl (λ z. refl)))
       (λ same w. inr (inr (e ∙ (λ i. op.Restore record { 0 = sym same i }))))
       (cases_eq g h)
-      (λ l n. let at : g ≡ length (withdrawn s h).table + 1 = omega (arith, l, n, length-append s.peers.issued (new p ∷ []), numbered_set-length s.table h None, k.handles.places) in
-      (record { strength = strong; cleared = false }, subst (λ z. IsTabled ((withdrawn s h).table ++ fresh_row (new p) ∷ []) z (record { strength = strong; cleared = false })) (sym at) (numbered-push_new (withdrawn s h).table (fresh_row (new p))))))
+      (λ l n. let at : g ≡ length (withdrawn s h).table + 1 = omega (arith, l, n, length-append s.peers.issued (new p ∷ []), numbered_set-length s.table h None, k.handles.places) in (
+        record { strength = strong; cleared = false },
+        subst (λ z. IsTabled ((withdrawn s h).table ++ fresh_row (new p) ∷ []) z (record { strength = strong; cleared = false }))
+            (sym at) (numbered-push_new (withdrawn s h).table (fresh_row (new p))),
+      )))
     where
       new : ℕ → Issued
       new p = record { peer = p; hold = held; strength = strong }
@@ -169,13 +178,15 @@ module _ (s : PeerReplay) (k : IsPeerKept s) (m : Made) (g : ℕ) where
   answer_follows t (op.Line (act.Slice n)) (slice_of closure) e r = slice_follows s.marking t n closure
   answer_follows t (op.Line (act.Slice n)) _ e r = slice_follows s.marking t n []
   answer_follows t (op.Line a) told e r = quietly _ (quiet-line s (thread_number t) a k).handles (line_new (thread_number t) a)
-  answer_follows t (op.Make sort n) told e r = quietly _ (quiet-pair (λ h. ⊥) s sort n (is_full s.peers.heap.fields || handles_full s.peers) k.handles.places).handles (new_on s (pair_made s.peers sort n) refl refl)
+  answer_follows t (op.Make sort n) told e r = quietly _ (quiet-pair (λ h. ⊥) s sort n (is_full s.peers.heap.fields || handles_full s.peers) k.handles.places).handles
+      (new_on s (pair_made s.peers sort n) refl refl)
   answer_follows t (op.Land h x) told e r = quietly _ (quiet-land (Only h.0) s x.0 h.0 (table_target s h.0) refl refl).handles (new_brought (landed s.peers x.0 (table_target s h.0)))
   answer_follows t (op.Grip x) told e r = quietly _ (quiet-grip (λ h. ⊥) s x.0 (slot s.peers.heap.statics x.0) k.handles.places refl).handles (new_on s (grip_static s.peers x.0) refl refl)
   answer_follows t (op.Release h) told e r = only_follows (peer_answer s t (op.Release h) m.cites told).state h.0 None refl refl (λ same w. inr (inl (e ∙ (λ i. op.Release record { 0 = sym same i }))))
   answer_follows t (op.Mirror c) (references_of refs) e r = mirror_follows c.0 m.cites refs
   answer_follows t (op.Mirror c) _ e r = still s s m g refl refl
-  answer_follows t (op.Weaken h) told e r = only_follows (peer_answer s t (op.Weaken h) m.cites told).state h.0 (Some (record { strength = weak; cleared = false })) refl refl (written (peer_answer s t (op.Weaken h) m.cites told).state h.0 (record { strength = weak; cleared = false }) refl)
+  answer_follows t (op.Weaken h) told e r = only_follows (peer_answer s t (op.Weaken h) m.cites told).state h.0 (Some (record { strength = weak; cleared = false })) refl refl
+      (written (peer_answer s t (op.Weaken h) m.cites told).state h.0 (record { strength = weak; cleared = false }) refl)
   answer_follows t op.Begin told e r = begin_follows s.marking t
   answer_follows t op.Sweep (sweep_of freed) e r = sweep_follows s.marking t freed
   answer_follows t op.Sweep _ e r = sweep_follows s.marking t []

@@ -63,9 +63,17 @@ managed-list (x ∷ h) l = by (is_peer_event x.entry.made.caller x.entry.made.op
         (sym (in_list 0 (reader_line x.entry.made.caller) x (omega arith) (role_by x false true e f) ∙ reader_apart 0 x.entry.made.caller x.entry.made.op (event_of x h l) f (omega arith))) p
     by false false e f p =
         let w = side_of x h l f in
-        subst (λ c. LeadsTo managed_rules opening_replay (if c then line 0 h ++ x ∷ [] else line 0 h) (managed_past (end_of h).managed x.entry.made x.told false false)) (sym (in_list 0 0 x (omega arith) (role_by x false false e f)))
+        subst (λ c. LeadsTo managed_rules opening_replay (if c then line 0 h ++ x ∷ [] else line 0 h) (managed_past (end_of h).managed x.entry.made x.told false false))
+        (sym (in_list 0 0 x (omega arith) (role_by x false false e f)))
         (LeadsTo-push managed_rules opening_replay (line 0 h) (end_of h).managed x (managed_past (end_of h).managed x.entry.made x.told false false) p record {
-          lawful = (record { event = w.comes.event; side = e }, record { own = f; tells = w.tells; lawful = subst (λ b. SideLawful b (given (end_of h) x.told) x.entry.made (bare_told x.told)) e w.comes.lawful });
+          lawful = (
+            record { event = w.comes.event; side = e },
+            record {
+              own = f;
+              tells = w.tells;
+              lawful = subst (λ b. SideLawful b (given (end_of h) x.told) x.entry.made (bare_told x.told)) e w.comes.lawful;
+            },
+          );
           state = refl;
         })
 
@@ -77,8 +85,10 @@ peer-list (x ∷ h) l = by (is_peer_event x.entry.made.caller x.entry.made.op) (
         → LeadsTo peer_rules opening_peer_replay (if is_in 1 x then line 1 h ++ x ∷ [] else line 1 h) (peer_after (end_of h).peer x.entry.made (bare_told x.told) b)
     by false true e f p = subst (λ c. LeadsTo peer_rules opening_peer_replay (if c then line 1 h ++ x ∷ [] else line 1 h) (end_of h).peer)
         (sym (in_list 1 (reader_line x.entry.made.caller) x (omega arith) (role_by x false true e f) ∙ reader_apart 1 x.entry.made.caller x.entry.made.op (event_of x h l) f (omega arith))) p
-    by false false e f p = subst (λ c. LeadsTo peer_rules opening_peer_replay (if c then line 1 h ++ x ∷ [] else line 1 h) (end_of h).peer) (sym (in_list 1 0 x (omega arith) (role_by x false false e f))) p
-    by true r e f p = subst (λ c. LeadsTo peer_rules opening_peer_replay (if c then line 1 h ++ x ∷ [] else line 1 h) (peer_after (end_of h).peer x.entry.made (bare_told x.told) true)) (sym (in_list 1 1 x (omega arith) (role_by x true r e f)))
+    by false false e f p = subst (λ c. LeadsTo peer_rules opening_peer_replay (if c then line 1 h ++ x ∷ [] else line 1 h) (end_of h).peer)
+        (sym (in_list 1 0 x (omega arith) (role_by x false false e f))) p
+    by true r e f p = subst (λ c. LeadsTo peer_rules opening_peer_replay (if c then line 1 h ++ x ∷ [] else line 1 h) (peer_after (end_of h).peer x.entry.made (bare_told x.told) true))
+        (sym (in_list 1 1 x (omega arith) (role_by x true r e f)))
         (LeadsTo-push peer_rules opening_peer_replay (line 1 h) (end_of h).peer x (peer_after (end_of h).peer x.entry.made (bare_told x.told) true) p record {
           lawful = (record { event = event_of x h l; side = e }, subst (PeerLawful (end_of h).peer x.entry.made) (peer_told_whole x h l e) (peer_of x h l e));
           state = ap (λ z. peer_after (end_of h).peer x.entry.made z true) (peer_told_whole x h l e);
@@ -101,7 +111,8 @@ line-rises i [] l = tt
 line-rises i (x ∷ h) l = by (is_in i x) (line-rises i h l.1)
   where
     by : (b : Bool) → Rises (numbers (line i h)) → Rises (numbers (if b then line i h ++ x ∷ [] else line i h))
-    by true r = subst Rises (sym (numbers-append (line i h) (x ∷ []))) (Rises-push (numbers (line i h)) x.entry.number r (all-numbers x.entry.number (line i h) (λ e p. below x h e l.0 l.1 (in-line i h e p))))
+    by true r = subst Rises (sym (numbers-append (line i h) (x ∷ [])))
+        (Rises-push (numbers (line i h)) x.entry.number r (all-numbers x.entry.number (line i h) (λ e p. below x h e l.0 l.1 (in-line i h e p))))
     by false r = r
 
 pub known_lists_are_lawful : KnownListsAreLawful
@@ -141,7 +152,8 @@ ten_more a b = either (cases_eq a b)
     either (inr n) = ne_eqb (a + 10) (b + 10) (λ q. n (omega (arith, q))) ∙ sym (ne_eqb a b n)
 
 in_own_line : (e : Entry) (t : Thread) → IsThread e.made.caller → IsThread t → list_line e.made.caller e.made.op < 10 → stands_in (caller_line t) e ≡ is_thread e.made.caller t
-in_own_line e t x y l = ap (λ c. c || nat_eq (caller_line t) (caller_line e.made.caller)) (ne_eqb (caller_line t) (list_line e.made.caller e.made.op) (λ q. omega (arith, q, l))) ∙ (ten_more (caller_place t) (caller_place e.made.caller) ∙ place-tells e.made.caller t x y)
+in_own_line e t x y l = ap (λ c. c || nat_eq (caller_line t) (caller_line e.made.caller)) (ne_eqb (caller_line t) (list_line e.made.caller e.made.op) (λ q. omega (arith, q, l)))
+    ∙ (ten_more (caller_place t) (caller_place e.made.caller) ∙ place-tells e.made.caller t x y)
 
 -- callers are threads
 abbrev AreThreads : List Entry → Type 0
@@ -181,9 +193,11 @@ threads (x ∷ h) acc l a = threads h (x ∷ acc) l.1 ((event-thread x.entry.mad
 own_line : (whole : List Kept) → AreThreads (entries_kept whole) → (t : Thread) → IsThread t → entries_kept (kept_in (caller_line t) whole) ≡ made_by t (entries_kept whole)
 own_line [] all t y = refl
 own_line (k ∷ whole) all t y =
-    ap (λ b. entries_kept (if b then k ∷ kept_in (caller_line t) whole else kept_in (caller_line t) whole)) (in_own_line k.entry t all.0.0 y all.0.1) ∙ by (is_thread k.entry.made.caller t) (own_line whole all.1 t y)
+    ap (λ b. entries_kept (if b then k ∷ kept_in (caller_line t) whole else kept_in (caller_line t) whole)) (in_own_line k.entry t all.0.0 y all.0.1)
+    ∙ by (is_thread k.entry.made.caller t) (own_line whole all.1 t y)
   where
-    by : (b : Bool) → entries_kept (kept_in (caller_line t) whole) ≡ made_by t (entries_kept whole) → entries_kept (if b then k ∷ kept_in (caller_line t) whole else kept_in (caller_line t) whole) ≡ (if b then k.entry ∷ made_by t (entries_kept whole) else made_by t (entries_kept whole))
+    by : (b : Bool) → entries_kept (kept_in (caller_line t) whole) ≡ made_by t (entries_kept whole)
+        → entries_kept (if b then k ∷ kept_in (caller_line t) whole else kept_in (caller_line t) whole) ≡ (if b then k.entry ∷ made_by t (entries_kept whole) else made_by t (entries_kept whole))
     by true q = ap (λ l. k.entry ∷ l) q
     by false q = q
 

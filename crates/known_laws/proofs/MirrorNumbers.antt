@@ -56,17 +56,20 @@ cycles-grow s t (snapping p) = let e = ap (λ (z : Managed). z.cycles) p.is in o
 cycles-grow s t (resolving p) = let e = ap (λ (z : Managed). z.cycles) p.is in omega (arith, e)
 cycles-grow s t (abandoning p) = let e = ap (λ (z : Managed). z.cycles) p.is in omega (arith, e)
 
-contract-later : (st : Stand) (ms : List ℕ) (num k : ℕ) (reply : Reply) (cites : Option ℕ) (comps : List (List ℕ)) (heavy : List ℕ) (xrefs : List (ℕ × ℕ)) → MayContractNow st k cites → IsLater st ms → IsLater (stand_after st num (op.Contract record { 0 = k }) reply (contraction_of comps heavy xrefs)) ms
+contract-later : (st : Stand) (ms : List ℕ) (num k : ℕ) (reply : Reply) (cites : Option ℕ) (comps : List (List ℕ)) (heavy : List ℕ) (xrefs : List (ℕ × ℕ))
+    → MayContractNow st k cites → IsLater st ms → IsLater (stand_after st num (op.Contract record { 0 = k }) reply (contraction_of comps heavy xrefs)) ms
 contract-later (snapped o) ms num k reply cites comps heavy xrefs a l = l
 contract-later _ ms num k reply cites comps heavy xrefs a l = absurd a
 
-mirror-later : (st : Stand) (m : Managed) (i : List Issued) (ms : List ℕ) (num k : ℕ) (reply : Reply) (cites : Option ℕ) (told : Told) → MayMirrorNow st m i k cites told → IsLater (stand_after st num (op.Mirror record { 0 = k }) reply told) ms
+mirror-later : (st : Stand) (m : Managed) (i : List Issued) (ms : List ℕ) (num k : ℕ) (reply : Reply) (cites : Option ℕ) (told : Told)
+    → MayMirrorNow st m i k cites told → IsLater (stand_after st num (op.Mirror record { 0 = k }) reply told) ms
 mirror-later (contracted o comps heavy xrefs) m i ms num k reply cites (references_of refs) a = tt
 mirror-later (contracted o comps heavy xrefs) m i ms num k reply cites _ a = absurd a
 mirror-later _ m i ms num k reply cites told a = absurd a
 
 -- the open cycle's number is the last one opened
-mirror-opened : (r : ManagedReplay) (s : PeerReplay) (st : Stand) (k : ℕ) (cites : Option ℕ) (told : Told) → IsReplayKept r → IsDriverKept r s st → MayMirrorNow st r.managed s.peers.issued k cites told → k ≤ r.managed.cycles
+mirror-opened : (r : ManagedReplay) (s : PeerReplay) (st : Stand) (k : ℕ) (cites : Option ℕ) (told : Told)
+    → IsReplayKept r → IsDriverKept r s st → MayMirrorNow st r.managed s.peers.issued k cites told → k ≤ r.managed.cycles
 mirror-opened r s (contracted o comps heavy xrefs) k cites (references_of refs) kept d a =
     let c = d.before.opened in
     let l = (kept.managed.dead d.before.cycle c.cycle).latest in
@@ -78,10 +81,12 @@ mirror-opened r s _ k cites told kept d a = absurd a
 
 mirrored-list : (s : PeerReplay) (k : ℕ) (cites : Option ℕ) (refs : List (End × End)) (n : ℕ) → Contains (mirrored s k cites refs).mirrors n → Contains s.mirrors n ⊎ (k ≡ n)
 mirrored-list s k None refs n c = inl c
-mirrored-list s k (Some snap) refs n c = ⊎_elim (λ p. inl p) (λ p. ⊎_elim (λ (e : k ≡ n). inr e) (λ q. absurd (Contains-nil n q)) (Contains-cons_cases k [] n p)) (Contains-append_cases s.mirrors (k ∷ []) n c)
+mirrored-list s k (Some snap) refs n c = ⊎_elim (λ p. inl p) (λ p. ⊎_elim (λ (e : k ≡ n). inr e) (λ q. absurd (Contains-nil n q)) (Contains-cons_cases k [] n p))
+    (Contains-append_cases s.mirrors (k ∷ []) n c)
 
 pub numbers-step : (s : Linkage) (n : Noted) → Of s → MayCome s n → AreMirrorsOpened s → AreMirrorsOpened (linkage_after s n)
-numbers-step s n k may w = by n.entry.made.caller n.entry.made.op n.told may.event may.lawful may.order (cycles-grow s.managed.managed (linkage_after s n).managed.managed (ManagedStep-entry s n may k.managed))
+numbers-step s n k may w = by n.entry.made.caller n.entry.made.op n.told may.event may.lawful may.order
+    (cycles-grow s.managed.managed (linkage_after s n).managed.managed (ManagedStep-entry s n may k.managed))
   where
     num : ℕ
     num = n.entry.number
@@ -116,7 +121,8 @@ numbers-step s n k may w = by n.entry.made.caller n.entry.made.op n.told may.eve
     rest : (o : Op) (told : Told) → IsNoMirror o → IsRest o → s.managed.managed.cycles ≤ (R C o told).managed.cycles → AreMirrorsOpened (After C o told)
     rest o told x y l = record { opened = opened C o told x l; later = stays C o told _ x (later_on s.control.stand s.peer.mirrors num o n.entry.made.reply told y w.later) }
 
-    by : (t : Thread) (o : Op) (told : Told) → IsEvent t o → SideLawful (is_peer_event t o) s (made t o) told → Allows t o told → s.managed.managed.cycles ≤ (R t o told).managed.cycles → AreMirrorsOpened (After t o told)
+    by : (t : Thread) (o : Op) (told : Told) → IsEvent t o → SideLawful (is_peer_event t o) s (made t o) told
+        → Allows t o told → s.managed.managed.cycles ≤ (R t o told).managed.cycles → AreMirrorsOpened (After t o told)
     by (M u) o told e l a g = let x = others (M u) o (λ z. cc) e in record { opened = opened (M u) o told x g; later = stays (M u) o told s.control.stand x w.later }
     by (P u) o told e l a g = let x = others (P u) o (λ z. cc) e in record { opened = opened (P u) o told x g; later = stays (P u) o told s.control.stand x w.later }
     by C (op.Snap c) (snap_of freed candidates dead) e l a g = record {

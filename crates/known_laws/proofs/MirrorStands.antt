@@ -12,7 +12,8 @@ use Rattle.joint_machine.specs.declared.events.Op.TheVariants as op
 use Rattle.joint_machine.specs.declared.events.Made.{Made}
 use Rattle.joint_machine.specs.declared.events.Reply.{Reply}
 use Rattle.joint_machine.specs.declared.events.Reply.TheVariants as says
-use Rattle.joint_machine.specs.Control.{CallerAllows, OpenSnap, Stand, idle, snapped, contracted, weakening, marked, restoring, restored, stand_after, control_after, IsCandidateHandle, answer_in, MayContractNow, MayMirrorNow, MayWeakenNow, MayBeginNow, MaySweepNow, MayRestoreNow, MayClearNow}
+use Rattle.joint_machine.specs.Control.{CallerAllows, OpenSnap, Stand, idle, snapped, contracted, weakening, marked, restoring, restored, stand_after, control_after, IsCandidateHandle, answer_in}
+use Rattle.joint_machine.specs.Control.{MayContractNow, MayMirrorNow, MayWeakenNow, MayBeginNow, MaySweepNow, MayRestoreNow, MayClearNow}
 use Rattle.joint_machine.specs.Lines.{IsEvent, is_peer_event}
 use Rattle.joint_machine.specs.Linked.{Linkage, MayCome, SideLawful, managed_after, peer_after, linkage_after}
 use Rattle.joint_machine.specs.Managed.{Managed, OpenCycle, handle_of, candidates_of}
@@ -64,7 +65,8 @@ goes-same s u k g = record {
     handle : (m : ℕ) → Contains (candidates_of s) m → handle_of u m ≡ handle_of s m
     handle m c = by s.cycle refl m c
 
-mirror_on : (r r' : ManagedReplay) (s s' : PeerReplay) (o : OpenSnap) (a : ℕ) (b : List Answer) → SameCandidates r.managed r'.managed → s'.mirror ≡ s.mirror → IsMirrorOf r s o a b → IsMirrorOf r' s' o a b
+mirror_on : (r r' : ManagedReplay) (s s' : PeerReplay) (o : OpenSnap) (a : ℕ) (b : List Answer)
+    → SameCandidates r.managed r'.managed → s'.mirror ≡ s.mirror → IsMirrorOf r s o a b → IsMirrorOf r' s' o a b
 mirror_on r r' s s' o a b c e m = record {
   mirror = m.mirror;
   stands = e ∙ m.stands;
@@ -86,7 +88,8 @@ fits_on r r' s s' (contracted o comps heavy xrefs) c e m = tt
 fits_on r r' s s' (restored o answers clear) c e m = tt
 
 -- the next candidate's handle is put into a list
-pushed : (m : Managed) (xs : List ℕ) (n h : ℕ) → ((g : ℕ) → Contains xs g ↔ ((l : ℕ) × (l < n) × IsCandidateHandle m l g)) → IsCandidateHandle m n h → (g : ℕ) → Contains (xs ++ h ∷ []) g ↔ ((l : ℕ) × (l < n + 1) × IsCandidateHandle m l g)
+pushed : (m : Managed) (xs : List ℕ) (n h : ℕ) → ((g : ℕ) → Contains xs g ↔ ((l : ℕ) × (l < n) × IsCandidateHandle m l g))
+    → IsCandidateHandle m n h → (g : ℕ) → Contains (xs ++ h ∷ []) g ↔ ((l : ℕ) × (l < n + 1) × IsCandidateHandle m l g)
 pushed m xs n h f c g = (
   λ w. ⊎_elim
       (λ p. let z = (f g).0 p in let l = z.1 in (z.0, omega (arith, l), z.2))
@@ -136,7 +139,8 @@ module _ (r : ManagedReplay) (s : PeerReplay) where
     given = refl;
   })
 
-  weakened_mirror : (t : PeerReplay) (o : OpenSnap) (n : ℕ) (b : List Answer) (h : ℕ) → ((m : Mirror) → s.mirror ≡ Some m → t.mirror ≡ Some (record m { weakened = m.weakened ++ h ∷ [] })) → IsCandidateHandle r.managed n h → IsMirrorOf r s o n b → IsMirrorOf r t o (n + 1) b
+  weakened_mirror : (t : PeerReplay) (o : OpenSnap) (n : ℕ) (b : List Answer) (h : ℕ) → ((m : Mirror) → s.mirror ≡ Some m → t.mirror ≡ Some (record m { weakened = m.weakened ++ h ∷ [] }))
+      → IsCandidateHandle r.managed n h → IsMirrorOf r s o n b → IsMirrorOf r t o (n + 1) b
   weakened_mirror t o n b h e c m = record {
     mirror = record m.mirror { weakened = m.mirror.weakened ++ h ∷ [] };
     stands = e m.mirror m.stands;
@@ -148,7 +152,9 @@ module _ (r : ManagedReplay) (s : PeerReplay) where
     given = m.given;
   }
 
-  restored_mirror : (t : PeerReplay) (o : OpenSnap) (a : ℕ) (answers : List Answer) (b : Answer) (h : ℕ) → ((m : Mirror) → s.mirror ≡ Some m → (n : Mirror) × (t.mirror ≡ Some n) × IsRestoredOf m n h b) → IsCandidateHandle r.managed (length answers) h → IsMirrorOf r s o a answers → IsMirrorOf r t o a (answers ++ b ∷ [])
+  restored_mirror : (t : PeerReplay) (o : OpenSnap) (a : ℕ) (answers : List Answer) (b : Answer) (h : ℕ)
+      → ((m : Mirror) → s.mirror ≡ Some m → (n : Mirror) × (t.mirror ≡ Some n) × IsRestoredOf m n h b)
+      → IsCandidateHandle r.managed (length answers) h → IsMirrorOf r s o a answers → IsMirrorOf r t o a (answers ++ b ∷ [])
   restored_mirror t o a answers b h e c m =
       let now = e m.mirror m.stands in
       let n : Mirror = now.0 in
@@ -161,13 +167,15 @@ module _ (r : ManagedReplay) (s : PeerReplay) where
         snap = x.snap ∙ m.snap;
         weak_ones = subst (λ ws. (g : ℕ) → Contains ws g ↔ ((l : ℕ) × (l < a) × IsCandidateHandle r.managed l g)) (sym x.weakened) m.weak_ones;
         back = subst (λ ws. (g : ℕ) → Contains ws g ↔ ((l : ℕ) × (l < length (answers ++ b ∷ [])) × IsCandidateHandle r.managed l g)) (sym x.restored)
-            (subst (λ k. (g : ℕ) → Contains (m.mirror.restored ++ h ∷ []) g ↔ ((l : ℕ) × (l < k) × IsCandidateHandle r.managed l g)) (sym one) (pushed r.managed m.mirror.restored (length answers) h m.back c));
+            (subst (λ k. (g : ℕ) → Contains (m.mirror.restored ++ h ∷ []) g ↔ ((l : ℕ) × (l < k) × IsCandidateHandle r.managed l g))
+            (sym one) (pushed r.managed m.mirror.restored (length answers) h m.back c));
         weak_count = ap length x.weakened ∙ m.weak_count;
         given = x.renewed ∙ (ap (λ z. z ++ given_by b) m.given ∙ sym (given-more answers b));
       }
 
 -- what a restore does to the mirror
-restored-mirror : (s : PeerReplay) (h : ℕ) (x : Option TableRow) (row : TableRow) (reply : Reply) → x ≡ Some row → reply ≡ (restored_by s h x).reply → (m : Mirror) → s.mirror ≡ Some m → (n : Mirror) × ((restored_by s h x).state.mirror ≡ Some n) × IsRestoredOf m n h (answer_in reply)
+restored-mirror : (s : PeerReplay) (h : ℕ) (x : Option TableRow) (row : TableRow) (reply : Reply) → x ≡ Some row → reply ≡ (restored_by s h x).reply
+    → (m : Mirror) → s.mirror ≡ Some m → (n : Mirror) × ((restored_by s h x).state.mirror ≡ Some n) × IsRestoredOf m n h (answer_in reply)
 restored-mirror s h x row reply e q m f = restored-cases (λ a. reply ≡ a.reply → (n : Mirror) × (a.state.mirror ≡ Some n) × IsRestoredOf m n h (answer_in reply)) s h x
     (λ g r. absurd (none_some row (sym g ∙ e)))
     (λ y g c r. out r)
@@ -188,15 +196,18 @@ restored-mirror s h x row reply e q m f = restored-cases (λ a. reply ≡ a.repl
 
 -- the driver's entries
 module _ (r : ManagedReplay) (s t : PeerReplay) (num : ℕ) (reply : Reply) (cites : Option ℕ) (told : Told) where
-  mirror-fits : (st : Stand) (k : ℕ) (refs : List (End × End)) → t ≡ mirrored s k cites refs → MayMirrorNow st r.managed s.peers.issued k cites (references_of refs) → MirrorFits r t (stand_after st num (op.Mirror record { 0 = k }) reply told)
+  mirror-fits : (st : Stand) (k : ℕ) (refs : List (End × End)) → t ≡ mirrored s k cites refs
+      → MayMirrorNow st r.managed s.peers.issued k cites (references_of refs) → MirrorFits r t (stand_after st num (op.Mirror record { 0 = k }) reply told)
   mirror-fits (contracted o comps heavy xrefs) k refs e a = subst (λ z. IsMirrorOf r z o 0 []) (sym e) (begun_mirror r s o k refs cites a.0 a.1)
   mirror-fits _ k refs e a = absurd a
 
-  weaken-fits : (st : Stand) (h : ℕ) → ((m : Mirror) → s.mirror ≡ Some m → t.mirror ≡ Some (record m { weakened = m.weakened ++ h ∷ [] })) → MayWeakenNow st r.managed h cites → MirrorFits r s st → MirrorFits r t (stand_after st num (op.Weaken record { 0 = h }) reply told)
+  weaken-fits : (st : Stand) (h : ℕ) → ((m : Mirror) → s.mirror ≡ Some m → t.mirror ≡ Some (record m { weakened = m.weakened ++ h ∷ [] }))
+      → MayWeakenNow st r.managed h cites → MirrorFits r s st → MirrorFits r t (stand_after st num (op.Weaken record { 0 = h }) reply told)
   weaken-fits (weakening o count x y) h e a m = weakened_mirror r s t o count [] h e a.2 m
   weaken-fits _ h e a m = absurd a
 
-  begin-fits : (st : Stand) (reply : Reply) → t.mirror ≡ s.mirror → MayBeginNow st (length (candidates_of r.managed)) reply cites → MirrorFits r s st → MirrorFits r t (stand_after st num op.Begin reply told)
+  begin-fits : (st : Stand) (reply : Reply) → t.mirror ≡ s.mirror → MayBeginNow st (length (candidates_of r.managed)) reply cites
+      → MirrorFits r s st → MirrorFits r t (stand_after st num op.Begin reply told)
   begin-fits (weakening o count x y) (says.Mark j) e a m = subst (λ n. IsMirrorOf r t o n []) a.0 (mirror_on r r s t o count [] (same_candidates r.managed) e m)
   begin-fits (weakening o count x y) _ e a m = absurd a
   begin-fits _ reply e a m = absurd a
@@ -206,7 +217,8 @@ module _ (r : ManagedReplay) (s t : PeerReplay) (num : ℕ) (reply : Reply) (cit
   sweep-fits (marked o) e a m = mirror_on r r s t o _ [] (same_candidates r.managed) e m
   sweep-fits _ e a m = absurd a
 
-  restore-fits : (st : Stand) (h : ℕ) → ((m : Mirror) → s.mirror ≡ Some m → (n : Mirror) × (t.mirror ≡ Some n) × IsRestoredOf m n h (answer_in reply)) → MayRestoreNow st r.managed h cites → MirrorFits r s st → MirrorFits r t (stand_after st num (op.Restore record { 0 = h }) reply told)
+  restore-fits : (st : Stand) (h : ℕ) → ((m : Mirror) → s.mirror ≡ Some m → (n : Mirror) × (t.mirror ≡ Some n) × IsRestoredOf m n h (answer_in reply))
+      → MayRestoreNow st r.managed h cites → MirrorFits r s st → MirrorFits r t (stand_after st num (op.Restore record { 0 = h }) reply told)
   restore-fits (restoring o answers) h e a m = restored_mirror r s t o _ answers (answer_in reply) h e a.1 m
   restore-fits _ h e a m = absurd a
 
@@ -214,11 +226,13 @@ module _ (r : ManagedReplay) (s t : PeerReplay) (num : ℕ) (reply : Reply) (cit
   clear-fits (restoring o answers) k a = tt
   clear-fits _ k a = absurd a
 
-contract-fits : (r : ManagedReplay) (s : PeerReplay) (num : ℕ) (reply : Reply) (cites : Option ℕ) (comps : List (List ℕ)) (heavy : List ℕ) (xrefs : List (ℕ × ℕ)) (st : Stand) (k : ℕ) → MayContractNow st k cites → MirrorFits r s (stand_after st num (op.Contract record { 0 = k }) reply (contraction_of comps heavy xrefs))
+contract-fits : (r : ManagedReplay) (s : PeerReplay) (num : ℕ) (reply : Reply) (cites : Option ℕ) (comps : List (List ℕ)) (heavy : List ℕ) (xrefs : List (ℕ × ℕ)) (st : Stand) (k : ℕ)
+    → MayContractNow st k cites → MirrorFits r s (stand_after st num (op.Contract record { 0 = k }) reply (contraction_of comps heavy xrefs))
 contract-fits r s num reply cites comps heavy xrefs (snapped o) k a = tt
 contract-fits r s num reply cites comps heavy xrefs _ k a = absurd a
 
-pub mirror-step : (s : Linkage) (n : Noted) → Of s → MayCome s n → MirrorFits s.managed s.peer s.control.stand → MirrorFits (linkage_after s n).managed (linkage_after s n).peer (linkage_after s n).control.stand
+pub mirror-step : (s : Linkage) (n : Noted) → Of s → MayCome s n → MirrorFits s.managed s.peer s.control.stand
+    → MirrorFits (linkage_after s n).managed (linkage_after s n).peer (linkage_after s n).control.stand
 mirror-step s n k may fits = by n.entry.made.caller n.entry.made.op n.told may.event may.lawful may.order
   where
     num : ℕ
@@ -248,15 +262,20 @@ mirror-step s n k may fits = by n.entry.made.caller n.entry.made.op n.told may.e
     by (M x) o told e l a = others (M x) o told (λ z. cc) e l
     by (P x) o told e l a = others (P x) o told (λ z. cc) e l
     by C (op.Line x) told e l a = fits_on s.managed (R C (op.Line x) told) s.peer s.peer s.control.stand
-        (goes-same s.managed.managed (R C (op.Line x) told).managed k.managed.managed (managed_line-goes_on s.managed.managed (thread_number C) x k.managed.managed.places k.managed.managed.cells)) refl fits
+        (goes-same s.managed.managed (R C (op.Line x) told).managed k.managed.managed (managed_line-goes_on s.managed.managed (thread_number C) x k.managed.managed.places k.managed.managed.cells))
+        refl fits
     by C (op.Snap c) told e l a = tt
     by C (op.Contract c) (contraction_of comps heavy xrefs) e l a = contract-fits _ s.peer num n.entry.made.reply n.entry.made.cites comps heavy xrefs s.control.stand c.0 a
     by C (op.Contract c) told e l a = absurd l.allowed
-    by C (op.Mirror c) (references_of refs) e l a = mirror-fits s.managed s.peer (S C (op.Mirror c) (references_of refs)) num n.entry.made.reply n.entry.made.cites (references_of refs) s.control.stand c.0 refs refl a
+    by C (op.Mirror c) (references_of refs) e l a = mirror-fits s.managed s.peer
+        (S C (op.Mirror c) (references_of refs)) num n.entry.made.reply n.entry.made.cites (references_of refs) s.control.stand c.0 refs refl a
     by C (op.Mirror c) told e l a = absurd l.allowed
-    by C (op.Weaken h) told e l a = weaken-fits s.managed s.peer (S C (op.Weaken h) told) num n.entry.made.reply n.entry.made.cites told s.control.stand h.0 (λ m q. ap (λ z. with_weakened z h.0) q) a fits
-    by C op.Begin told e l a = begin-fits s.managed s.peer (S C op.Begin told) num n.entry.made.reply n.entry.made.cites told s.control.stand n.entry.made.reply (same_mirror_after s.peer (made C op.Begin) told true tt).mirror a fits
-    by C op.Sweep told e l a = sweep-fits s.managed s.peer (S C op.Sweep told) num n.entry.made.reply n.entry.made.cites told s.control.stand (same_mirror_after s.peer (made C op.Sweep) told true tt).mirror a fits
+    by C (op.Weaken h) told e l a = weaken-fits s.managed s.peer
+        (S C (op.Weaken h) told) num n.entry.made.reply n.entry.made.cites told s.control.stand h.0 (λ m q. ap (λ z. with_weakened z h.0) q) a fits
+    by C op.Begin told e l a = begin-fits s.managed s.peer (S C op.Begin told) num n.entry.made.reply n.entry.made.cites told s.control.stand n.entry.made.reply
+        (same_mirror_after s.peer (made C op.Begin) told true tt).mirror a fits
+    by C op.Sweep told e l a = sweep-fits s.managed s.peer (S C op.Sweep told) num n.entry.made.reply n.entry.made.cites told s.control.stand
+        (same_mirror_after s.peer (made C op.Sweep) told true tt).mirror a fits
     by C (op.Restore h) nothing e l a = restore-fits s.managed s.peer (S C (op.Restore h) nothing) num n.entry.made.reply n.entry.made.cites nothing s.control.stand h.0
         (restored-mirror s.peer h.0 (row_of s.peer h.0) l.allowed.row n.entry.made.reply l.allowed.tabled l.replies) a fits
     by C (op.Restore h) told e l a = absurd l.allowed

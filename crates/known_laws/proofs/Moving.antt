@@ -11,7 +11,8 @@ use Rattle.joint_machine.specs.declared.events.Op.{Op}
 use Rattle.joint_machine.specs.declared.events.Op.TheVariants as op
 use Rattle.joint_machine.specs.declared.events.Reply.{Reply}
 use Rattle.joint_machine.specs.Components.{mirror_edges}
-use Rattle.joint_machine.specs.Control.{free, Stand, OpenSnap, contracted, weakening, restoring, caller_place, carried_edges, IsCandidateHandle, CallerAllows, DriverAllows, ThreadAllows, IsAtRest, MayMirrorNow, MayWeakenNow, MayBeginNow, MaySweepNow, MayRestoreNow, MayClearNow, MayRefuseNow}
+use Rattle.joint_machine.specs.Control.{free, Stand, OpenSnap, contracted, weakening, restoring, caller_place, carried_edges, IsCandidateHandle, CallerAllows, DriverAllows, ThreadAllows, IsAtRest}
+use Rattle.joint_machine.specs.Control.{MayMirrorNow, MayWeakenNow, MayBeginNow, MaySweepNow, MayRestoreNow, MayClearNow, MayRefuseNow}
 use Rattle.joint_machine.specs.Lines.{IsEvent, is_peer_event, is_read}
 use Rattle.joint_machine.specs.PinsTold.{is_pinned, bare_told, no_pins, pins_told, tells_pins, with_pins}
 use Rattle.joint_machine.specs.Linked.{SideLawful, PeerLawful, ManagedLawful}
@@ -32,9 +33,11 @@ use Rattle.known_laws.proofs.Parts.{SameAt, role_by, same_managed, same_peer, sa
 pub record Alike (st : Stand) (m m' : Managed) : Type 0 where
   pub candidates : candidates_of m ≡ candidates_of m'
   pub handles : (i h : ℕ) → IsCandidateHandle m i h → IsCandidateHandle m' i h
-  pub edges : (o : OpenSnap) (comps : List (List ℕ)) (heavy : List ℕ) (xrefs : List (ℕ × ℕ)) (issued : List Issued) → st ≡ contracted o comps heavy xrefs → carried_edges m issued (mirror_edges comps xrefs) ≡ carried_edges m' issued (mirror_edges comps xrefs)
+  pub edges : (o : OpenSnap) (comps : List (List ℕ)) (heavy : List ℕ) (xrefs : List (ℕ × ℕ)) (issued : List Issued)
+      → st ≡ contracted o comps heavy xrefs → carried_edges m issued (mirror_edges comps xrefs) ≡ carried_edges m' issued (mirror_edges comps xrefs)
 
-mirror_move : (st : Stand) (m m' : Managed) (i i' : List Issued) (k : ℕ) (cites : Option ℕ) (told : Told) → Alike st m m' → i ≡ i' → MayMirrorNow st m i k cites told → MayMirrorNow st m' i' k cites told
+mirror_move : (st : Stand) (m m' : Managed) (i i' : List Issued) (k : ℕ) (cites : Option ℕ) (told : Told)
+    → Alike st m m' → i ≡ i' → MayMirrorNow st m i k cites told → MayMirrorNow st m' i' k cites told
 mirror_move (contracted o comps heavy xrefs) m m' i i' k cites (references_of refs) a e w =
     (w.0, w.1, w.2 ∙ (a.edges o comps heavy xrefs i refl ∙ ap (λ z. carried_edges m' z (mirror_edges comps xrefs)) e))
 mirror_move (contracted o comps heavy xrefs) m m' i i' k cites _ a e w = absurd w
@@ -48,7 +51,8 @@ restore_move : (st : Stand) (m m' : Managed) (h : ℕ) (cites : Option ℕ) → 
 restore_move (restoring o answers) m m' h cites a w = (w.0, a.handles (length answers) h w.1)
 restore_move _ m m' h cites a w = absurd w
 
-pub driver_move : (st : Stand) (m m' : Managed) (i i' : List Issued) (o : Op) (reply : Reply) (cites : Option ℕ) (told : Told) → Alike st m m' → (is_peer_event C o ≡ true → i ≡ i') → DriverAllows st m i o reply cites told → DriverAllows st m' i' o reply cites told
+pub driver_move : (st : Stand) (m m' : Managed) (i i' : List Issued) (o : Op) (reply : Reply) (cites : Option ℕ) (told : Told)
+    → Alike st m m' → (is_peer_event C o ≡ true → i ≡ i') → DriverAllows st m i o reply cites told → DriverAllows st m' i' o reply cites told
 driver_move st m m' i i' (op.Line x) reply cites told a e w = (subst (λ z. IsAtRest st (length z)) a.candidates w.0, w.1)
 driver_move st m m' i i' (op.Snap k) reply cites told a e w = w
 driver_move st m m' i i' (op.Contract k) reply cites told a e w = w
@@ -64,7 +68,11 @@ driver_move st m m' i i' (op.Refused r) reply cites told a e w = subst (λ z. Ma
 driver_move st m m' i i' _ reply cites told a e w = absurd w
 
 alike_same : (st : Stand) (m m' : Managed) → m ≡ m' → Alike st m m'
-alike_same st m m' e = record { candidates = ap candidates_of e; handles = λ i h w. subst (λ z. IsCandidateHandle z i h) e w; edges = λ o comps heavy xrefs issued q. ap (λ z. carried_edges z issued (mirror_edges comps xrefs)) e }
+alike_same st m m' e = record {
+  candidates = ap candidates_of e;
+  handles = λ i h w. subst (λ z. IsCandidateHandle z i h) e w;
+  edges = λ o comps heavy xrefs issued q. ap (λ z. carried_edges z issued (mirror_edges comps xrefs)) e;
+}
 
 -- a peer's event tells no pins
 no_pins_told : (t : Thread) (o : Op) (told : Told) → IsEvent t o → is_peer_event t o ≡ true → tells_pins told ≡ is_pinned o → pins_told told ≡ no_pins
@@ -105,7 +113,8 @@ may_move a b x frozen role own later may = record {
     manageds r e = same_managed a b (subst (λ r. line r a ≡ line r b) (role_by x false false e r) role)
 
     -- only the driver's entries tell by where it stands
-    plain_move : (t : Thread) → x.entry.made.caller ≡ t → (o : Op) → IsEvent x.entry.made.caller o → TellsPlainly (end_of a).control.stand o (bare_told x.told) → TellsPlainly (end_of b).control.stand o (bare_told x.told)
+    plain_move : (t : Thread) → x.entry.made.caller ≡ t → (o : Op) → IsEvent x.entry.made.caller o
+        → TellsPlainly (end_of a).control.stand o (bare_told x.told) → TellsPlainly (end_of b).control.stand o (bare_told x.told)
     plain_move C e o v w = subst (λ st. TellsPlainly st o (bare_told x.told)) (at.stand (ap caller_place e)) w
     plain_move (M u) e (op.Refused r) v w = absurd (subst (λ t. IsEvent t (op.Refused r)) e v)
     plain_move (P u) e (op.Refused r) v w = absurd (subst (λ t. IsEvent t (op.Refused r)) e v)
@@ -115,7 +124,8 @@ may_move a b x frozen role own later may = record {
     Allowed h t told = CallerAllows (end_of h).control (end_of h).managed.managed (end_of h).peer.peers.issued t x.entry.made.index x.entry.made.op x.entry.made.reply x.entry.made.cites told
 
     With : List Noted → Thread → Type 0
-    With h t = CallerAllows (end_of h).control (given (end_of h) x.told).managed.managed (end_of h).peer.peers.issued t x.entry.made.index x.entry.made.op x.entry.made.reply x.entry.made.cites (bare_told x.told)
+    With h t = CallerAllows (end_of h).control (given (end_of h) x.told).managed.managed
+        (end_of h).peer.peers.issued t x.entry.made.index x.entry.made.op x.entry.made.reply x.entry.made.cites (bare_told x.told)
 
     thread_move : (u : ℕ) (told : Told) → x.entry.made.caller ≡ M u → Allowed a (M u) told → Allowed b (M u) told
     thread_move u told e w = subst (λ d. ThreadAllows (elim d [ None ↦ free | Some z ↦ z ]) (M u) x.entry.made.index x.entry.made.op x.entry.made.cites)
@@ -131,10 +141,12 @@ may_move a b x frozen role own later may = record {
         let n : Managed = (given (end_of b) x.told).managed.managed in
         subst (λ st. DriverAllows st n (end_of b).peer.peers.issued x.entry.made.op x.entry.made.reply x.entry.made.cites (bare_told x.told)) stand
         (⊎_elim
-        (λ (p : is_peer_event x.entry.made.caller x.entry.made.op ≡ true). driver_move (end_of a).control.stand m n (end_of a).peer.peers.issued (end_of b).peer.peers.issued x.entry.made.op x.entry.made.reply x.entry.made.cites (bare_told x.told)
+        (λ (p : is_peer_event x.entry.made.caller x.entry.made.op ≡ true). driver_move (end_of a).control.stand m n
+        (end_of a).peer.peers.issued (end_of b).peer.peers.issued x.entry.made.op x.entry.made.reply x.entry.made.cites (bare_told x.told)
         record { candidates = same.candidates; handles = same.handles; edges = λ o comps heavy xrefs issued q. same.edges o comps heavy xrefs issued (sym stand ∙ q) }
         (λ q. ap (λ (z : PeerReplay). z.peers.issued) (peers p)) w)
-        (λ (p : is_peer_event x.entry.made.caller x.entry.made.op ≡ false). driver_move (end_of a).control.stand m n (end_of a).peer.peers.issued (end_of b).peer.peers.issued x.entry.made.op x.entry.made.reply x.entry.made.cites (bare_told x.told)
+        (λ (p : is_peer_event x.entry.made.caller x.entry.made.op ≡ false). driver_move (end_of a).control.stand m n
+        (end_of a).peer.peers.issued (end_of b).peer.peers.issued x.entry.made.op x.entry.made.reply x.entry.made.cites (bare_told x.told)
         (alike_same (end_of a).control.stand m n (ap (λ (z : ManagedReplay). (with_pins z (pins_told x.told)).managed) (manageds r p)))
         (λ q. absurd (true≢false (sym q ∙ (ap (λ t. is_peer_event t x.entry.made.op) (sym e) ∙ p)))) w)
         (cases_Bool (is_peer_event x.entry.made.caller x.entry.made.op)))
@@ -154,10 +166,12 @@ may_move a b x frozen role own later may = record {
     }
       where
         stand_move : (c : Bool) → is_peer_event x.entry.made.caller x.entry.made.op ≡ c → PinsStand (end_of b).managed.managed (pins_told x.told)
-        stand_move true e = subst (λ z. PinsStand (end_of b).managed.managed z) (sym (no_pins_told x.entry.made.caller x.entry.made.op x.told w.comes.event e w.tells)) (none_stand (end_of b).managed.managed)
+        stand_move true e = subst (λ z. PinsStand (end_of b).managed.managed z)
+            (sym (no_pins_told x.entry.made.caller x.entry.made.op x.told w.comes.event e w.tells)) (none_stand (end_of b).managed.managed)
         stand_move false e = subst (λ (z : ManagedReplay). PinsStand z.managed (pins_told x.told)) (manageds r e) w.stand
 
-        lawful_move : (c : Bool) → is_peer_event x.entry.made.caller x.entry.made.op ≡ c → SideLawful c (given (end_of a) x.told) x.entry.made (bare_told x.told) → SideLawful c (given (end_of b) x.told) x.entry.made (bare_told x.told)
+        lawful_move : (c : Bool) → is_peer_event x.entry.made.caller x.entry.made.op ≡ c
+            → SideLawful c (given (end_of a) x.told) x.entry.made (bare_told x.told) → SideLawful c (given (end_of b) x.told) x.entry.made (bare_told x.told)
         lawful_move true e l = subst (λ p. PeerLawful p x.entry.made (bare_told x.told)) (peers e) l
         lawful_move false e l = subst (λ m. ManagedLawful (with_pins m (pins_told x.told)) x.entry.made (bare_told x.told)) (manageds r e) l
 

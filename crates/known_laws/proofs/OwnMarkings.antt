@@ -26,7 +26,8 @@ IsAside op.Sweep = ⊥
 IsAside _ = Unit {0}
 
 -- in the marked phase the driver's other events leave it there
-stays : (w : OpenSnap) (m : Managed) (i : List Issued) (num : ℕ) (o : Op) (reply : Reply) (cites : Option ℕ) (told : Told) → IsAside o → DriverAllows (marked w) m i o reply cites told → stand_after (marked w) num o reply told ≡ marked w
+stays : (w : OpenSnap) (m : Managed) (i : List Issued) (num : ℕ) (o : Op) (reply : Reply) (cites : Option ℕ) (told : Told)
+    → IsAside o → DriverAllows (marked w) m i o reply cites told → stand_after (marked w) num o reply told ≡ marked w
 stays w m i num (op.Line x) reply cites told y a = refl
 stays w m i num (op.Refused r) reply cites told y a = refl
 stays w m i num op.Begin reply cites told y a = absurd y
@@ -64,8 +65,12 @@ marking-step s n k may w = by n.entry.made.caller n.entry.made.op n.told may.ord
     own : (o : Op) (told : Told) → IsAside o → Allows C o told → Goal C o told
     own o told x a mk e c =
         let z = marking_before s.peer (made C o) told (is_peer_event C o) (λ q r. not_begin o x q) mk e c in
-        let m = w z.0 z.1 z.2 in
-        (m.0, ap (λ st. stand_after st num o n.entry.made.reply told) m.1 ∙ stays m.0 s.managed.managed s.peer.peers.issued num o n.entry.made.reply n.entry.made.cites told x (subst (λ st. DriverAllows st s.managed.managed s.peer.peers.issued o n.entry.made.reply n.entry.made.cites told) m.1 a))
+        let m = w z.0 z.1 z.2 in (
+          m.0,
+          ap (λ st. stand_after st num o n.entry.made.reply told) m.1
+              ∙ stays m.0 s.managed.managed s.peer.peers.issued num o n.entry.made.reply n.entry.made.cites told x
+              (subst (λ st. DriverAllows st s.managed.managed s.peer.peers.issued o n.entry.made.reply n.entry.made.cites told) m.1 a),
+        )
 
     by : (t : Thread) (o : Op) (told : Told) → Allows t o told → Goal t o told
     by (M u) o told a mk e c = others (M u) o told (λ z. cc) mk e c

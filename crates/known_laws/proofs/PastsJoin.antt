@@ -42,7 +42,8 @@ module _ (whole : List Noted) where
       (λ (l : length ys ≤ length xs). l)
       (cases_lt (length xs) (length ys))
 
-  pub behind_past : (i : ℕ) (x : Noted) (a b : List Noted) → Within whole (x ∷ a) → Within whole b → ((e : Noted) → InPast b e → e.entry.number < x.entry.number) → is_in i x ≡ true → length (line i b) ≤ length (line i a)
+  pub behind_past : (i : ℕ) (x : Noted) (a b : List Noted) → Within whole (x ∷ a) → Within whole b
+      → ((e : Noted) → InPast b e → e.entry.number < x.entry.number) → is_in i x ≡ true → length (line i b) ≤ length (line i a)
   behind_past i x a b wa wb later t = not_longer_past (line i a) (of_line i whole) (line i b) x (subst (λ l. IsPrefix l (of_line i whole)) (line_in i x a t) (wa i)) (wb i)
       (λ p. let l = later x (in-line i b x p) in omega arith)
 
@@ -63,12 +64,14 @@ module _ (whole : List Noted) (runs : PastRunsFrom 0 whole) (frozen : IsFrozenIn
   joined_within a b j wa wb i = ⊎_elim (λ e. subst (λ l. IsPrefix l (of_line i whole)) (sym e) (wa i)) (λ e. subst (λ l. IsPrefix l (of_line i whole)) (sym e) (wb i)) (j.longer_one i)
 
   -- the first past's latest entry is put in front of what is joined behind it
-  put_first : (x : Noted) (a b : List Noted) → Lawful (x ∷ a) → Lawful b → Within whole (x ∷ a) → Within whole b → ((e : Noted) → InPast b e → e.entry.number < x.entry.number) → Both a b → Both (x ∷ a) b
+  put_first : (x : Noted) (a b : List Noted) → Lawful (x ∷ a) → Lawful b → Within whole (x ∷ a)
+      → Within whole b → ((e : Noted) → InPast b e → e.entry.number < x.entry.number) → Both a b → Both (x ∷ a) b
   put_first x a b la lb wa wb later k = record {
     joined = record {
       past = x ∷ j.past;
       lawful = (
-        may_move a j.past x (λ e. frozen a j.past la.1 j.lawful (within_past whole x a wa) (joined_within a b j (within_past whole x a wa) wb) (sym (subst (λ i. line i j.past ≡ line i a) e (here (own_of x) (in_own x)))))
+        may_move a j.past x (λ e. frozen a j.past la.1 j.lawful (within_past whole x a wa)
+            (joined_within a b j (within_past whole x a wa) wb) (sym (subst (λ i. line i j.past ≡ line i a) e (here (own_of x) (in_own x)))))
             (sym (here (role_of x) (in_role x))) (sym (here (own_of x) (in_own x))) (counted x.entry.number j.past (λ e p. ⊎_elim (λ q. below x a e la.0 la.1 q) (λ q. later e q) (k.either e p))) la.0,
         j.lawful,
       );
@@ -81,7 +84,8 @@ module _ (whole : List Noted) (runs : PastRunsFrom 0 whole) (frozen : IsFrozenIn
           (λ (f : is_in i x ≡ false). subst (λ l. IsPrefix l (line i (x ∷ j.past))) (sym (line_out i x a f)) (subst (IsPrefix (line i a)) (sym (line_out i x j.past f)) (j.first i)))
           (cases_Bool (is_in i x));
       second = λ i. ⊎_elim
-          (λ (t : is_in i x ≡ true). subst (IsPrefix (line i b)) (sym (line_in i x j.past t)) (prefix_trans (line i b) (line i j.past) (line i j.past ++ x ∷ []) (j.second i) (snoc_begins (line i j.past) x)))
+          (λ (t : is_in i x ≡ true). subst (IsPrefix (line i b)) (sym (line_in i x j.past t))
+          (prefix_trans (line i b) (line i j.past) (line i j.past ++ x ∷ []) (j.second i) (snoc_begins (line i j.past) x)))
           (λ (f : is_in i x ≡ false). subst (IsPrefix (line i b)) (sym (line_out i x j.past f)) (j.second i))
           (cases_Bool (is_in i x));
     };
@@ -112,7 +116,8 @@ module _ (whole : List Noted) (runs : PastRunsFrom 0 whole) (frozen : IsFrozenIn
           (λ (f : is_in i x ≡ false). ⊎_elim (λ e. inl (e ∙ sym (line_out i x a f))) (λ e. inr e) (j.longer_one i))
           (cases_Bool (is_in i x));
       first = λ i. ⊎_elim
-          (λ (t : is_in i x ≡ true). subst (IsPrefix (line i (x ∷ a))) (sym (there i t)) (shorter_begins (line i (x ∷ a)) (line i (y ∷ b)) (of_line i whole) (wa i) (wb i) (let c = longs i t in omega (arith, c.0, c.1, c.2))))
+          (λ (t : is_in i x ≡ true). subst (IsPrefix (line i (x ∷ a))) (sym (there i t))
+          (shorter_begins (line i (x ∷ a)) (line i (y ∷ b)) (of_line i whole) (wa i) (wb i) (let c = longs i t in omega (arith, c.0, c.1, c.2))))
           (λ (f : is_in i x ≡ false). subst (λ l. IsPrefix l (line i j.past)) (sym (line_out i x a f)) (j.first i))
           (cases_Bool (is_in i x));
       second = j.second;
@@ -135,22 +140,32 @@ module _ (whole : List Noted) (runs : PastRunsFrom 0 whole) (frozen : IsFrozenIn
 
       there : (i : ℕ) → is_in i x ≡ true → line i j.past ≡ line i (y ∷ b)
       there i t = ⊎_elim
-          (λ (e : line i j.past ≡ line i a). let c = longs i t in let s = length_begins (line i (y ∷ b)) (line i a) (subst (IsPrefix (line i (y ∷ b))) e (j.second i)) in absurd (omega (arith, c.1, c.2, s)))
+          (λ (e : line i j.past ≡ line i a). let c = longs i t in let s = length_begins (line i (y ∷ b)) (line i a) (subst (IsPrefix (line i (y ∷ b))) e (j.second i)) in
+          absurd (omega (arith, c.1, c.2, s)))
           (λ e. e) (j.longer_one i)
 
   join : (k : ℕ) (a b : List Noted) → length a + length b ≤ k → Lawful a → Lawful b → Within whole a → Within whole b → Both a b
-  join k [] b l la lb wa wb = record { joined = record { past = b; lawful = lb; longer_one = λ i. inr refl; first = λ i. (line i b, refl); second = λ i. prefix_refl (line i b) }; either = λ e p. inr p }
-  join k (x ∷ a) [] l la lb wa wb = record { joined = record { past = x ∷ a; lawful = la; longer_one = λ i. inl refl; first = λ i. prefix_refl (line i (x ∷ a)); second = λ i. (line i (x ∷ a), refl) }; either = λ e p. inl p }
+  join k [] b l la lb wa wb = record {
+    joined = record { past = b; lawful = lb; longer_one = λ i. inr refl; first = λ i. (line i b, refl); second = λ i. prefix_refl (line i b) };
+    either = λ e p. inr p;
+  }
+  join k (x ∷ a) [] l la lb wa wb = record {
+    joined = record { past = x ∷ a; lawful = la; longer_one = λ i. inl refl; first = λ i. prefix_refl (line i (x ∷ a)); second = λ i. (line i (x ∷ a), refl) };
+    either = λ e p. inl p;
+  }
   join zero (x ∷ a) (y ∷ b) l la lb wa wb = absurd (omega arith)
   join (suc k) (x ∷ a) (y ∷ b) l la lb wa wb = ⊎_elim
-      (λ (same : x.entry.number ≡ y.entry.number). same_first x y a b (one-number 0 whole x y runs (in_whole_past whole x (x ∷ a) (inl refl) wa) (in_whole_past whole y (y ∷ b) (inl refl) wb) same) la lb wa wb
+      (λ (same : x.entry.number ≡ y.entry.number). same_first x y a b
+      (one-number 0 whole x y runs (in_whole_past whole x (x ∷ a) (inl refl) wa) (in_whole_past whole y (y ∷ b) (inl refl) wb) same) la lb wa wb
       (join k a (y ∷ b) (omega arith) la.1 lb (within_past whole x a wa) wb))
       (λ differ. ⊎_elim
       (λ (less : x.entry.number < y.entry.number). flip (y ∷ b) (x ∷ a) (put_first y b (x ∷ a) lb la wb wa
-      (λ e p. ⊎_elim (λ (q : x ≡ e). let z : x.entry.number ≡ e.entry.number = ap (λ (w : Noted). w.entry.number) q in omega (arith, z, less)) (λ q. let z = below x a e la.0 la.1 q in omega (arith, z, less)) p)
+      (λ e p. ⊎_elim (λ (q : x ≡ e). let z : x.entry.number ≡ e.entry.number = ap (λ (w : Noted). w.entry.number) q in omega (arith, z, less))
+      (λ q. let z = below x a e la.0 la.1 q in omega (arith, z, less)) p)
       (flip (x ∷ a) b (join k (x ∷ a) b (omega arith) la lb.1 wa (within_past whole y b wb)))))
       (λ (more : y.entry.number < x.entry.number). put_first x a (y ∷ b) la lb wa wb
-      (λ e p. ⊎_elim (λ (q : y ≡ e). let z : y.entry.number ≡ e.entry.number = ap (λ (w : Noted). w.entry.number) q in omega (arith, z, more)) (λ q. let z = below y b e lb.0 lb.1 q in omega (arith, z, more)) p)
+      (λ e p. ⊎_elim (λ (q : y ≡ e). let z : y.entry.number ≡ e.entry.number = ap (λ (w : Noted). w.entry.number) q in omega (arith, z, more))
+      (λ q. let z = below y b e lb.0 lb.1 q in omega (arith, z, more)) p)
       (join k a (y ∷ b) (omega arith) la.1 lb (within_past whole x a wa) wb))
       differ)
       (cases_order x.entry.number y.entry.number)

@@ -40,8 +40,10 @@ module _ (r : ManagedReplay) (pins : List (Option ℕ)) where
   row_back : (issued : List Issued) (m p : ℕ) → IsRowOf q.managed issued m p → IsRowOf r.managed issued m p
   row_back issued m p w = record { handle = w.handle; holds = holds_back m w.handle w.holds; row = w.row; is_issued = w.is_issued; leads = w.leads }
 
-  pub contraction_to : (dead : List ℕ) (comps : List (List ℕ)) (heavy : List ℕ) (xrefs : List (ℕ × ℕ)) → IsDeadContraction r.managed dead comps heavy xrefs → IsDeadContraction q.managed dead comps heavy xrefs
-  contraction_to dead comps heavy xrefs w = contraction-same (λ m. Contains dead m × IsBridge r.managed m) (λ m. Contains dead m × IsBridge q.managed m) (DeadEdge r.managed dead) (DeadEdge q.managed dead) comps heavy xrefs
+  pub contraction_to : (dead : List ℕ) (comps : List (List ℕ)) (heavy : List ℕ) (xrefs : List (ℕ × ℕ))
+      → IsDeadContraction r.managed dead comps heavy xrefs → IsDeadContraction q.managed dead comps heavy xrefs
+  contraction_to dead comps heavy xrefs w = contraction-same (λ m. Contains dead m × IsBridge r.managed m)
+      (λ m. Contains dead m × IsBridge q.managed m) (DeadEdge r.managed dead) (DeadEdge q.managed dead) comps heavy xrefs
       (λ m. ((λ z. (z.0, bridge_to m z.1)), (λ z. (z.0, bridge_back m z.1)))) (λ x y. ((λ z. z), (λ z. z))) w
 
   module _ (st : PinsStand r.managed pins) where
@@ -121,8 +123,21 @@ module _ (r : ManagedReplay) (pins : List (Option ℕ)) where
   driver_to s idle w = record { closed = w.closed; none = w.none }
   driver_to s (snapped o) w = before_to s o w
   driver_to s (contracted o comps heavy xrefs) w = record { before = before_to s o w.before; contraction = contraction_to w.before.cycle.dead comps heavy xrefs w.contraction }
-  driver_to s (weakening o count weakened swept) w = record { cycle = w.cycle; opened = opened_to o w.cycle w.opened; mirror = mirrored_to s w.cycle w.mirror; handles = candidates_to w.cycle _ w.handles }
-  driver_to s (marked o) w = record { cycle = w.cycle; opened = opened_to o w.cycle w.opened; mirror = mirrored_to s w.cycle w.mirror; handles = candidates_to w.cycle _ w.handles; marking = w.marking; own = w.own; by_driver = w.by_driver }
+  driver_to s (weakening o count weakened swept) w = record {
+    cycle = w.cycle;
+    opened = opened_to o w.cycle w.opened;
+    mirror = mirrored_to s w.cycle w.mirror;
+    handles = candidates_to w.cycle _ w.handles;
+  }
+  driver_to s (marked o) w = record {
+    cycle = w.cycle;
+    opened = opened_to o w.cycle w.opened;
+    mirror = mirrored_to s w.cycle w.mirror;
+    handles = candidates_to w.cycle _ w.handles;
+    marking = w.marking;
+    own = w.own;
+    by_driver = w.by_driver;
+  }
   driver_to s (restoring o answers) w = record { cycle = w.cycle; opened = opened_to o w.cycle w.opened; mirror = mirrored_to s w.cycle w.mirror; handles = candidates_to w.cycle _ w.handles }
   driver_to s (restored o answers clear) w = record {
     cycle = w.cycle;

@@ -40,7 +40,10 @@ record Moves (r : ManagedReplay) (p q : List (Option ℕ)) (m : Made) (told : To
   same : (x : List (Option ℕ)) → with_pins (managed_answer (with_pins r q) m.caller m.op told).state x ≡ with_pins (managed_answer (with_pins r p) m.caller m.op told).state x
 
 moves_same : (r : ManagedReplay) (p q : List (Option ℕ)) (m : Made) (told : Told) → p ≡ q → Moves r p q m told
-moves_same r p q m told e = record { lawful = λ w. subst (λ z. ManagedLawful (with_pins r z) m told) e w; same = λ x. ap (λ z. with_pins (managed_answer (with_pins r z) m.caller m.op told).state x) (sym e) }
+moves_same r p q m told e = record {
+  lawful = λ w. subst (λ z. ManagedLawful (with_pins r z) m told) e w;
+  same = λ x. ap (λ z. with_pins (managed_answer (with_pins r z) m.caller m.op told).state x) (sym e);
+}
 
 -- a `take` asks for its caller's pin alone
 abbrev take_by : Managed → ℕ → ℕ → Option ℕ → Answered Managed
@@ -55,7 +58,8 @@ take_is s t v = by (slot s.pins t)
     by (Some x) = refl
 
 take_reply : (s : Managed) (p q : List (Option ℕ)) (t v : ℕ) → slot p t ≡ slot q t → (pin_taken (record s { pins = p }) t v).reply ≡ (pin_taken (record s { pins = q }) t v).reply
-take_reply s p q t v e = ap (λ (z : Answered Managed). z.reply) (take_is (record s { pins = p }) t v) ∙ (by (slot p t) (slot q t) e ∙ sym (ap (λ (z : Answered Managed). z.reply) (take_is (record s { pins = q }) t v)))
+take_reply s p q t v e = ap (λ (z : Answered Managed). z.reply) (take_is (record s { pins = p }) t v)
+    ∙ (by (slot p t) (slot q t) e ∙ sym (ap (λ (z : Answered Managed). z.reply) (take_is (record s { pins = q }) t v)))
   where
     same : (o : Option ℕ) → (take_by (record s { pins = p }) t v o).reply ≡ (take_by (record s { pins = q }) t v o).reply
     same None = refl
@@ -64,8 +68,10 @@ take_reply s p q t v e = ap (λ (z : Answered Managed). z.reply) (take_is (recor
     by : (o u : Option ℕ) → o ≡ u → (take_by (record s { pins = p }) t v o).reply ≡ (take_by (record s { pins = q }) t v u).reply
     by o u e = same o ∙ ap (λ z. (take_by (record s { pins = q }) t v z).reply) e
 
-take_state : (s : Managed) (p q x : List (Option ℕ)) (t v : ℕ) → slot p t ≡ slot q t → record (pin_taken (record s { pins = q }) t v).state { pins = x } ≡ record (pin_taken (record s { pins = p }) t v).state { pins = x }
-take_state s p q x t v e = ap (λ (z : Answered Managed). record z.state { pins = x }) (take_is (record s { pins = q }) t v) ∙ (by (slot p t) (slot q t) e ∙ sym (ap (λ (z : Answered Managed). record z.state { pins = x }) (take_is (record s { pins = p }) t v)))
+take_state : (s : Managed) (p q x : List (Option ℕ)) (t v : ℕ) → slot p t ≡ slot q t
+    → record (pin_taken (record s { pins = q }) t v).state { pins = x } ≡ record (pin_taken (record s { pins = p }) t v).state { pins = x }
+take_state s p q x t v e = ap (λ (z : Answered Managed). record z.state { pins = x }) (take_is (record s { pins = q }) t v)
+    ∙ (by (slot p t) (slot q t) e ∙ sym (ap (λ (z : Answered Managed). record z.state { pins = x }) (take_is (record s { pins = p }) t v)))
   where
     same : (o : Option ℕ) → record (take_by (record s { pins = q }) t v o).state { pins = x } ≡ record (take_by (record s { pins = p }) t v o).state { pins = x }
     same None = refl
@@ -148,7 +154,8 @@ goes whole cells s q n w o = by (is_read n.entry.made.op) refl w
           line = w.line;
           short = w.short;
           order = turn_same q s.control s.managed.managed s.peer.peers.issued n.entry.made.caller n.entry.made.index n.entry.made.op n.entry.made.reply n.entry.made.cites (bare_told n.told)
-              (subst (λ z. CallerAllows s.control s.managed.managed s.peer.peers.issued n.entry.made.caller n.entry.made.index n.entry.made.op n.entry.made.reply n.entry.made.cites z) (w.bare ∙ sym (ap bare_told w.bare)) w.order);
+              (subst (λ z. CallerAllows s.control s.managed.managed s.peer.peers.issued n.entry.made.caller n.entry.made.index n.entry.made.op n.entry.made.reply n.entry.made.cites z)
+              (w.bare ∙ sym (ap bare_told w.bare)) w.order);
           bare = ap bare_told w.bare;
         },
         o.reply e,
@@ -165,9 +172,11 @@ goes whole cells s q n w o = by (is_read n.entry.made.op) refl w
         line = w.comes.line;
         short = w.comes.short;
         lawful = l;
-        order = turn_same q s.control (given s n.told).managed.managed s.peer.peers.issued n.entry.made.caller n.entry.made.index n.entry.made.op n.entry.made.reply n.entry.made.cites (bare_told n.told) w.comes.order;
+        order = turn_same q s.control (given s n.told).managed.managed s.peer.peers.issued n.entry.made.caller
+            n.entry.made.index n.entry.made.op n.entry.made.reply n.entry.made.cites (bare_told n.told) w.comes.order;
       });
-      after = after_other e ∙ (subst (λ r. linked (is_peer_event n.entry.made.caller n.entry.made.op) ≡ pinned (by_past s n (is_peer_event n.entry.made.caller n.entry.made.op) r) (linked (is_peer_event n.entry.made.caller n.entry.made.op)).managed.managed.pins) (sym e) (after (is_peer_event n.entry.made.caller n.entry.made.op))
+      after = after_other e ∙ (subst (λ r. linked (is_peer_event n.entry.made.caller n.entry.made.op) ≡ pinned (by_past s n (is_peer_event n.entry.made.caller n.entry.made.op) r)
+          (linked (is_peer_event n.entry.made.caller n.entry.made.op)).managed.managed.pins) (sym e) (after (is_peer_event n.entry.made.caller n.entry.made.op))
           ∙ ap (pinned (past_after s n)) (entry-pins (pinned s q) n.entry.made.index n.entry.made.reply n.entry.made.cites n.entry.made.caller n.entry.made.op (bare_told n.told) w.comes.event l e));
     }
       where

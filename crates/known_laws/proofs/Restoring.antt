@@ -21,7 +21,8 @@ use Rattle.joint_machine.specs.declared.events.Op.{Op}
 use Rattle.joint_machine.specs.declared.events.Op.TheVariants as op
 use Rattle.joint_machine.specs.declared.events.Reply.{Reply}
 use Rattle.joint_machine.specs.declared.events.Made.{Made}
-use Rattle.joint_machine.specs.Control.{Stand, idle, snapped, contracted, weakening, marked, restoring, restored, CallerAllows, stand_after, control_after, answer_in, IsCandidateHandle, MayRestoreNow, MayResolveNow}
+use Rattle.joint_machine.specs.Control.{Stand, idle, snapped, contracted, weakening, marked, restoring, restored, CallerAllows, stand_after, control_after, answer_in, IsCandidateHandle, MayRestoreNow}
+use Rattle.joint_machine.specs.Control.{MayResolveNow}
 use Rattle.joint_machine.specs.Cycles.{IsAnsweredAlive}
 use Rattle.joint_machine.specs.Managed.{Managed, OpenCycle, Holds, handle_of, candidates_of, resolved}
 use Rattle.joint_machine.specs.Components.{Rises}
@@ -69,7 +70,8 @@ none-restored : (m : Managed) (rs : List (ℕ × Answer)) → rs ≡ [] → AreR
 none-restored m rs e = subst (λ z. AreRestored m z []) (sym e) (record { same = refl; in_turn = λ i g a q. absurd (cc) })
 
 -- one restore more
-restore-push : (m : Managed) (rs : List (ℕ × Answer)) (answers : List Answer) (h : ℕ) (a : Answer) → AreRestored m rs answers → IsCandidateHandle m (length answers) h → AreRestored m (rs ++ (h, a) ∷ []) (answers ++ a ∷ [])
+restore-push : (m : Managed) (rs : List (ℕ × Answer)) (answers : List Answer) (h : ℕ) (a : Answer)
+    → AreRestored m rs answers → IsCandidateHandle m (length answers) h → AreRestored m (rs ++ (h, a) ∷ []) (answers ++ a ∷ [])
 restore-push m rs answers h a r c = record {
   same = map-append (λ (z : ℕ × Answer). z.1) rs ((h, a) ∷ []) ∙ ap (λ l. l ++ a ∷ []) r.same;
   in_turn = λ i g b e. ⊎_elim
@@ -81,7 +83,8 @@ restore-push m rs answers h a r c = record {
       (push-at_cases rs (h, a) i (g, b) e);
 }
 
-restore-by : (m : Managed) (rs : List (ℕ × Answer)) (num : ℕ) (reply : Reply) (cites : Option ℕ) (told : Told) (st : Stand) (h : ℕ) → MayRestoreNow st m h cites → RestoredBy m rs st → RestoredBy m (rs ++ (h, answer_in reply) ∷ []) (stand_after st num (op.Restore record { 0 = h }) reply told)
+restore-by : (m : Managed) (rs : List (ℕ × Answer)) (num : ℕ) (reply : Reply) (cites : Option ℕ) (told : Told) (st : Stand) (h : ℕ) → MayRestoreNow st m h cites
+    → RestoredBy m rs st → RestoredBy m (rs ++ (h, answer_in reply) ∷ []) (stand_after st num (op.Restore record { 0 = h }) reply told)
 restore-by m rs num reply cites told (restoring o answers) h a r = restore-push m rs answers h (answer_in reply) r a.1
 restore-by m rs num reply cites told _ h a r = absurd a
 
@@ -142,9 +145,11 @@ restored-step s n rs k may r = by n.entry.made.caller n.entry.made.op n.told may
     Allows : Thread → Op → Told → Type 0
     Allows t o told = CallerAllows s.control s.managed.managed s.peer.peers.issued t n.entry.made.index o n.entry.made.reply n.entry.made.cites told
 
-    others : (t : Thread) (o : Op) (told : Told) → (t ≡ C → ⊥) → IsEvent t o → SideLawful (is_peer_event t o) s (made t o) told → RestoredBy (R t o told).managed (restores_after o n.entry.made.reply rs) s.control.stand
+    others : (t : Thread) (o : Op) (told : Told) → (t ≡ C → ⊥) → IsEvent t o → SideLawful (is_peer_event t o) s (made t o) told
+        → RestoredBy (R t o told).managed (restores_after o n.entry.made.reply rs) s.control.stand
     others t o told x e l = subst (λ z. RestoredBy (R t o told).managed z s.control.stand) (sym (restores-still o n.entry.made.reply rs (other-still t o x e)))
-        (by-on s.managed.managed (R t o told).managed rs s.control.stand (goes-same s.managed.managed (R t o told).managed k.managed.managed (goes_by s.managed (made t o) told (is_peer_event t o) s refl x e k.managed l)) r)
+        (by-on s.managed.managed (R t o told).managed rs s.control.stand
+        (goes-same s.managed.managed (R t o told).managed k.managed.managed (goes_by s.managed (made t o) told (is_peer_event t o) s refl x e k.managed l)) r)
 
     still : (o : Op) (told : Told) → IsStill o → RestoredBy s.managed.managed rs (stand_after s.control.stand n.entry.number o n.entry.made.reply told)
     still o told i = still-by s.managed.managed rs n.entry.number n.entry.made.reply s.control.stand o told i r
@@ -193,13 +198,16 @@ restored_in (x ∷ h) l = by (restored_in h l.1) (is_read x.entry.made.op) refl 
         let a = reader_after_is s x e w in
         let z : Goal (linkage_after s a.note) (restores_after a.note.entry.made.op a.note.entry.made.reply (restores_in h)) = restored-step s a.note (restores_in h) (kept_end h l.1) a.comes q in
         subst (λ z. Goal z (restores_in (x ∷ h))) (sym a.same)
-        (subst (Goal (linkage_after s a.note)) (ap (λ o. restores_after o a.note.entry.made.reply (restores_in h)) a.line.1 ∙ sym (restores-read x.entry.made.op x.entry.made.reply (restores_in h) e)) z)
+        (subst (Goal (linkage_after s a.note)) (ap (λ o. restores_after o a.note.entry.made.reply (restores_in h)) a.line.1 ∙ sym (restores-read x.entry.made.op x.entry.made.reply (restores_in h) e))
+        z)
     by q false e w =
         let a = side_after s x e in
         let g = given s x.told in
         let m = linkage_after g (without_pins x) in
-        let z = restored-step g (without_pins x) (restores_in h) (kept_pinned s _ w.stand (kept_end h l.1)) w.comes (by-on s.managed.managed g.managed.managed (restores_in h) s.control.stand (pinned_candidates s.managed.managed _) q) in
-        subst (λ z. Goal z (restores_in (x ∷ h))) (sym a.same) (by-on m.managed.managed (pinned m a.pins).managed.managed (restores_in (x ∷ h)) m.control.stand (pinned_candidates m.managed.managed a.pins) z)
+        let z = restored-step g (without_pins x) (restores_in h) (kept_pinned s _ w.stand (kept_end h l.1)) w.comes
+        (by-on s.managed.managed g.managed.managed (restores_in h) s.control.stand (pinned_candidates s.managed.managed _) q) in
+        subst (λ z. Goal z (restores_in (x ∷ h))) (sym a.same) (by-on m.managed.managed (pinned m a.pins).managed.managed
+        (restores_in (x ∷ h)) m.control.stand (pinned_candidates m.managed.managed a.pins) z)
 
 -- the restore in a place, by the answer in it
 restore-at : (rs : List (ℕ × Answer)) (i : ℕ) (a : Answer) → slice_get (map (λ r. r.1) rs) i ≡ Some a → (g : ℕ) × (slice_get rs i ≡ Some (g, a))
@@ -218,7 +226,15 @@ module _ (m : Managed) (c : OpenCycle) (o : m.cycle ≡ Some c) (rs : List (ℕ 
       let g = restore-at rs w.0 (said_alive w.2.0) (ap (λ l. slice_get l w.0) r.same ∙ w.2.1) in
       let h = r.in_turn w.0 g.0 (said_alive w.2.0) g.1 in
       let at : slice_get (candidates_of m) w.0 ≡ Some x = ap (λ l. slice_get l w.0) (candidates_of-open m c o) ∙ w.1 in
-      record { place = w.0; handle = g.0; candidate = at; holds = subst (λ z. handle_of m z ≡ Some g.0) (same_Some _ _ (sym h.1 ∙ at)) h.2; answer = said_alive w.2.0; answered = g.1; kept = (w.2.0, refl) }
+      record {
+        place = w.0;
+        handle = g.0;
+        candidate = at;
+        holds = subst (λ z. handle_of m z ≡ Some g.0) (same_Some _ _ (sym h.1 ∙ at)) h.2;
+        answer = said_alive w.2.0;
+        answered = g.1;
+        kept = (w.2.0, refl);
+      }
 
   alive-from : (x : ℕ) → WasRestoredAlive m rs x → IsAnsweredAlive c.candidates answers x
   alive-from x w = (
@@ -227,7 +243,8 @@ module _ (m : Managed) (c : OpenCycle) (o : m.cycle ≡ Some c) (rs : List (ℕ 
     (w.kept.0, ap (λ l. slice_get l w.place) (sym r.same) ∙ (slice_get-map (λ (z : ℕ × Answer). z.1) rs w.place ∙ (ap (option_map (λ (z : ℕ × Answer). z.1)) w.answered ∙ ap (λ z. Some z) w.kept.1))),
   )
 
-resolve-by : (s : ManagedReplay) (rs : List (ℕ × Answer)) (st : Stand) (k : Cycle) (cites : Option ℕ) (told : Told) → RestoredBy s.managed rs st → MayResolveNow st k.0 cites told → ManagedAllows s (op.Resolve k) told → FreesByRestores s.managed rs told k.0
+resolve-by : (s : ManagedReplay) (rs : List (ℕ × Answer)) (st : Stand) (k : Cycle) (cites : Option ℕ) (told : Told)
+    → RestoredBy s.managed rs st → MayResolveNow st k.0 cites told → ManagedAllows s (op.Resolve k) told → FreesByRestores s.managed rs told k.0
 resolve-by s rs (restored o answers clear) k cites (resolution_of alive freed) r a w =
     let q : AreRestored s.managed rs alive = subst (AreRestored s.managed rs) (sym a.2) r in
     record {
@@ -252,20 +269,26 @@ resolve_allowed x h l k e =
     let w = side_of x h l (ap is_read e) in
     let p : is_peer_event x.entry.made.caller x.entry.made.op ≡ false = ap (is_peer_event x.entry.made.caller) e in
     let a : ManagedLawful (given (end_of h) x.told).managed x.entry.made (bare_told x.told) = subst (λ b. SideLawful b (given (end_of h) x.told) x.entry.made (bare_told x.told)) p w.comes.lawful in
-    allows_same (end_of h).managed.managed.pins (given (end_of h) x.told).managed (op.Resolve k) (bare_told x.told) refl (subst (λ o. ManagedAllows (given (end_of h) x.told).managed o (bare_told x.told)) e a.allowed)
+    allows_same (end_of h).managed.managed.pins (given (end_of h) x.told).managed (op.Resolve k) (bare_told x.told) refl
+    (subst (λ o. ManagedAllows (given (end_of h) x.told).managed o (bare_told x.told)) e a.allowed)
 
 pub resolves_free_by_restores : ResolvesFreeByRestores
-resolves_free_by_restores x h l k e = by x.entry.made.caller (subst (IsEvent x.entry.made.caller) e (event_of x h l)) (subst (λ o. CallerAllows (end_of h).control (end_of h).managed.managed (end_of h).peer.peers.issued x.entry.made.caller x.entry.made.index o x.entry.made.reply x.entry.made.cites (bare_told x.told)) e (turn_of x h l))
+resolves_free_by_restores x h l k e = by x.entry.made.caller (subst (IsEvent x.entry.made.caller) e (event_of x h l))
+    (subst (λ o. CallerAllows (end_of h).control (end_of h).managed.managed
+    (end_of h).peer.peers.issued x.entry.made.caller x.entry.made.index o x.entry.made.reply x.entry.made.cites (bare_told x.told)) e (turn_of x h l))
   where
-    by : (t : Thread) → IsEvent t (op.Resolve k) → CallerAllows (end_of h).control (end_of h).managed.managed (end_of h).peer.peers.issued t x.entry.made.index (op.Resolve k) x.entry.made.reply x.entry.made.cites (bare_told x.told)
+    by : (t : Thread) → IsEvent t (op.Resolve k) → CallerAllows (end_of h).control (end_of h).managed.managed
+        (end_of h).peer.peers.issued t x.entry.made.index (op.Resolve k) x.entry.made.reply x.entry.made.cites (bare_told x.told)
         → FreesByRestores (end_of h).managed.managed (restores_in h) (bare_told x.told) k.0
     by C v a = resolve-by (end_of h).managed (restores_in h) (end_of h).control.stand k x.entry.made.cites (bare_told x.told) (restored_in h l.1) a (resolve_allowed x h l k e)
     by (M u) v a = absurd v
     by (P u) v a = absurd v
 
 -- the resolve of a past, by where the driver stands behind it
-cleared-by : (s : Linkage) → IsPastKept s → (rs : List (ℕ × Answer)) (st : Stand) (k : Cycle) (cites : Option ℕ) (answers : List Answer) (freed : List ℕ) → s.control.stand ≡ st → RestoredBy s.managed.managed rs st → MayResolveNow st k.0 cites (resolution_of answers freed)
-    → ManagedAllows s.managed (op.Resolve k) (resolution_of answers freed) → (i g m : ℕ) (a : Answer) → slice_get rs i ≡ Some (g, a) → slice_get (candidates_of s.managed.managed) i ≡ Some m → Contains freed m ↔ (a ≡ said_cleared)
+cleared-by : (s : Linkage) → IsPastKept s → (rs : List (ℕ × Answer)) (st : Stand) (k : Cycle) (cites : Option ℕ) (answers : List Answer) (freed : List ℕ)
+    → s.control.stand ≡ st → RestoredBy s.managed.managed rs st → MayResolveNow st k.0 cites (resolution_of answers freed)
+    → ManagedAllows s.managed (op.Resolve k) (resolution_of answers freed) → (i g m : ℕ) (a : Answer)
+    → slice_get rs i ≡ Some (g, a) → slice_get (candidates_of s.managed.managed) i ≡ Some m → Contains freed m ↔ (a ≡ said_cleared)
 cleared-by s kept rs (restored o told clear) k cites answers freed e r w v i g m a at c =
     let v' : MayResolve s.managed k.0 told freed = subst (λ z. MayResolve s.managed k.0 z freed) w.2 v in
     let answered : slice_get told i ≡ Some a = ap (λ l. slice_get l i) (sym r.same) ∙ (slice_get-map (λ (z : ℕ × Answer). z.1) rs i ∙ ap (option_map (λ (z : ℕ × Answer). z.1)) at) in
@@ -275,20 +298,27 @@ cleared-by s kept rs st k cites answers freed e r w v i g m a at c = absurd w
 
 pub resolves_free_cleared : ResolvesFreeCleared
 resolves_free_cleared x h l k e answers freed t = by x.entry.made.caller (subst (IsEvent x.entry.made.caller) e (event_of x h l))
-    (subst (λ o. CallerAllows (end_of h).control (end_of h).managed.managed (end_of h).peer.peers.issued x.entry.made.caller x.entry.made.index o x.entry.made.reply x.entry.made.cites (resolution_of answers freed)) e (subst (λ z. CallerAllows (end_of h).control (end_of h).managed.managed (end_of h).peer.peers.issued x.entry.made.caller x.entry.made.index x.entry.made.op x.entry.made.reply x.entry.made.cites z) t (turn_of x h l)))
+    (subst (λ o. CallerAllows (end_of h).control (end_of h).managed.managed (end_of h).peer.peers.issued x.entry.made.caller x.entry.made.index o x.entry.made.reply x.entry.made.cites
+    (resolution_of answers freed)) e (subst (λ z. CallerAllows (end_of h).control (end_of h).managed.managed
+    (end_of h).peer.peers.issued x.entry.made.caller x.entry.made.index x.entry.made.op x.entry.made.reply x.entry.made.cites z) t (turn_of x h l)))
   where
     Frees : Type 0
     Frees = (i g m : ℕ) (a : Answer) → slice_get (restores_in h) i ≡ Some (g, a) → slice_get (candidates_of (end_of h).managed.managed) i ≡ Some m → Contains freed m ↔ (a ≡ said_cleared)
 
-    by : (u : Thread) → IsEvent u (op.Resolve k) → CallerAllows (end_of h).control (end_of h).managed.managed (end_of h).peer.peers.issued u x.entry.made.index (op.Resolve k) x.entry.made.reply x.entry.made.cites (resolution_of answers freed) → Frees
-    by C v a = cleared-by (end_of h) (known_past_is_kept h l.1) (restores_in h) (end_of h).control.stand k x.entry.made.cites answers freed refl (restored_in h l.1) a (subst (ManagedAllows (end_of h).managed (op.Resolve k)) t (resolve_allowed x h l k e))
+    by : (u : Thread) → IsEvent u (op.Resolve k) → CallerAllows (end_of h).control (end_of h).managed.managed
+        (end_of h).peer.peers.issued u x.entry.made.index (op.Resolve k) x.entry.made.reply x.entry.made.cites (resolution_of answers freed) → Frees
+    by C v a = cleared-by (end_of h) (known_past_is_kept h l.1) (restores_in h) (end_of h).control.stand k x.entry.made.cites answers freed refl
+        (restored_in h l.1) a (subst (ManagedAllows (end_of h).managed (op.Resolve k)) t (resolve_allowed x h l k e))
     by (M u) v a = absurd v
     by (P u) v a = absurd v
 
 -- after the resolve each candidate whose restore answered alive holds the handle that the restore gave
-resolved_holds : (h : List Noted) (x : Noted) (k : Cycle) (answers : List Answer) (freed : List ℕ) (m n : ℕ) → bare_told x.told ≡ resolution_of answers freed → (t : Thread) → IsEvent t (op.Resolve k) → Holds (resolved (end_of h).managed.managed answers freed) m n
-    → Holds (managed_past (end_of h).managed (record { caller = t; index = x.entry.made.index; op = op.Resolve k; reply = x.entry.made.reply; cites = x.entry.made.cites }) x.told (is_peer_event t (op.Resolve k)) false).managed m n
-resolved_holds h x k answers freed m n e C v w = subst (λ z. Holds (with_pins (managed_answer (with_pins (end_of h).managed (pins_told x.told)) C (op.Resolve k) z).state no_pins).managed m n) (sym e) (record { live = w.live; held = w.held })
+resolved_holds : (h : List Noted) (x : Noted) (k : Cycle) (answers : List Answer) (freed : List ℕ) (m n : ℕ)
+    → bare_told x.told ≡ resolution_of answers freed → (t : Thread) → IsEvent t (op.Resolve k) → Holds (resolved (end_of h).managed.managed answers freed) m n
+    → Holds (managed_past (end_of h).managed (record { caller = t; index = x.entry.made.index; op = op.Resolve k; reply = x.entry.made.reply; cites = x.entry.made.cites }) x.told
+    (is_peer_event t (op.Resolve k)) false).managed m n
+resolved_holds h x k answers freed m n e C v w = subst (λ z. Holds (with_pins (managed_answer (with_pins (end_of h).managed (pins_told x.told)) C (op.Resolve k) z).state no_pins).managed m n)
+    (sym e) (record { live = w.live; held = w.held })
 resolved_holds h x k answers freed m n e (M u) v w = absurd v
 resolved_holds h x k answers freed m n e (P u) v w = absurd v
 
@@ -302,8 +332,10 @@ restored_hold_the_new x h l k e i g m n at c =
     let own : candidates_of s ≡ f.cycle.candidates = candidates_of-open s f.cycle f.open_cycle.0 in
     let b = ((cut.candidates m).0 (Contains-at f.cycle.candidates i m (subst (λ z. slice_get z i ≡ Some m) own c))).1 in
     let within = numbered-within s.held m (Some b.0) b.1.held in
-    let answered : slice_get f.answers i ≡ Some (said_alive n) = ap (λ z. slice_get z i) (sym f.restored.same) ∙ (slice_get-map (λ (z : ℕ × Answer). z.1) (restores_in h) i ∙ ap (option_map (λ (z : ℕ × Answer). z.1)) at) in
-    subst (λ o. Holds (managed_past (end_of h).managed (record { caller = x.entry.made.caller; index = x.entry.made.index; op = o; reply = x.entry.made.reply; cites = x.entry.made.cites }) x.told (is_peer_event x.entry.made.caller o) (is_read o)).managed m n) (sym e)
+    let answered : slice_get f.answers i ≡ Some (said_alive n) = ap (λ z. slice_get z i) (sym f.restored.same)
+    ∙ (slice_get-map (λ (z : ℕ × Answer). z.1) (restores_in h) i ∙ ap (option_map (λ (z : ℕ × Answer). z.1)) at) in
+    subst (λ o. Holds (managed_past (end_of h).managed (record { caller = x.entry.made.caller; index = x.entry.made.index; op = o; reply = x.entry.made.reply; cites = x.entry.made.cites }) x.told
+    (is_peer_event x.entry.made.caller o) (is_read o)).managed m n) (sym e)
     (resolved_holds h x k f.answers f.freed m n f.tells x.entry.made.caller (subst (IsEvent x.entry.made.caller) e (event_of x h l)) (record {
       live = IsLive-left s.heap f.freed m b.1.live (λ q. not_cleared n (freed.0 q));
       held = renewed-given s.held (candidates_of s) f.answers m n (subst Rises (sym own) cut.rise) within.0 within.1 (record { place = i; candidate = c; answer = answered });

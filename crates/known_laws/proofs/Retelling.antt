@@ -44,7 +44,8 @@ abbrev pub with_stand : Linkage → Stand → Linkage
 with_stand s y = record s { control = record s.control { stand = y } }
 
 -- a driver's event but a refusal asks for the same at both
-drive : (q : OpenSnap) (m : Managed) (i : List Issued) (o : Op) (r : Reply) (c : Option ℕ) (x : Told) → IsTelling o → DriverAllows (weakening q 0 true false) m i o r c x → DriverAllows (weakening q 0 false false) m i o r c x
+drive : (q : OpenSnap) (m : Managed) (i : List Issued) (o : Op) (r : Reply) (c : Option ℕ) (x : Told) → IsTelling o
+    → DriverAllows (weakening q 0 true false) m i o r c x → DriverAllows (weakening q 0 false false) m i o r c x
 drive q m i (op.Refused w) r c x t a = absurd t
 drive q m i o r c x t a = a
 
@@ -65,7 +66,8 @@ go q n o r x t = inr (q, refl, refl)
 
 go-near : (y z : Stand) (n : ℕ) (o : Op) (r : Reply) (x : Told) → Near y z → IsTelling o → Near (stand_after y n o r x) (stand_after z n o r x)
 go-near y z n o r x (inl e) t = inl (ap (λ w. stand_after w n o r x) e)
-go-near y z n o r x (inr e) t = subst (λ w. Near (stand_after w n o r x) (stand_after z n o r x)) (sym e.1) (subst (λ w. Near (stand_after (weakening e.0 0 true false) n o r x) (stand_after w n o r x)) (sym e.2) (go e.0 n o r x t))
+go-near y z n o r x (inr e) t = subst (λ w. Near (stand_after w n o r x) (stand_after z n o r x)) (sym e.1)
+    (subst (λ w. Near (stand_after (weakening e.0 0 true false) n o r x) (stand_after w n o r x)) (sym e.2) (go e.0 n o r x t))
 
 -- what a refusal is told instead
 record Refuses (s : ManagedReplay) (y z : Stand) (c n : ℕ) (w : PhaseWord) (r : Reply) (p : Phase) : Type 0 where
@@ -84,7 +86,8 @@ plain-mirrored : (z : Stand) (w : PhaseWord) → TellsPlainly z (op.Refused w) (
 plain-mirrored z w = plainly_by z w at.Mirrored (λ e. absurd (cc))
 
 -- where the mirrored phase is told in place of p
-mirrored-near : (y : Stand) (c n : ℕ) (w : PhaseWord) (r : Reply) (p : Phase) → IsPhaseOf y c at.Mirrored → Near (stand_after y n (op.Refused w) r (phase_of p)) (stand_after y n (op.Refused w) r (phase_of at.Mirrored))
+mirrored-near : (y : Stand) (c n : ℕ) (w : PhaseWord) (r : Reply) (p : Phase) → IsPhaseOf y c at.Mirrored
+    → Near (stand_after y n (op.Refused w) r (phase_of p)) (stand_after y n (op.Refused w) r (phase_of at.Mirrored))
 mirrored-near (weakening o count weakened swept) c n w r p h = ⊎_elim
     (λ u. subst (λ (z : ℕ). Near (weakening o z (seen_weakened weakened (phase_of p)) swept) (weakening o z weakened swept)) (sym u.1)
     (subst (λ (z : Bool). Near (weakening o 0 (seen_weakened z (phase_of p)) swept) (weakening o 0 z swept)) (sym u.2)
@@ -112,10 +115,18 @@ seen-true p = refl
 weak-phase : (o : OpenSnap) (c : ℕ) (p : Phase) → IsPhaseOf (weakening o 0 true false) c p → IsPhaseOf (weakening o 0 false false) c p
 weak-phase o c p a = (a.0, ⊎_elim (λ u. absurd (true≢false u.2)) (λ u. inr u) a.1)
 
-refuse-seen : (s : ManagedReplay) (o : OpenSnap) (c n : ℕ) (w : PhaseWord) (r : Reply) (p : Phase) → IsPhaseOf (weakening o 0 true false) c p → MayRefuse s w p → Refuses s (weakening o 0 true false) (weakening o 0 false false) c n w r p
+refuse-seen : (s : ManagedReplay) (o : OpenSnap) (c n : ℕ) (w : PhaseWord) (r : Reply) (p : Phase)
+    → IsPhaseOf (weakening o 0 true false) c p → MayRefuse s w p → Refuses s (weakening o 0 true false) (weakening o 0 false false) c n w r p
 refuse-seen s o c n w r p a m =
     let k = refuse-same s (weakening o 0 false false) c n w r p (weak-phase o c p a) m in
-    record { phase = k.phase; is = k.is; may = k.may; reply = k.reply; plain = k.plain; near = subst (λ (z : Bool). Near (weakening o 0 z false) (weakening o 0 (seen_weakened false (phase_of k.phase)) false)) (sym (seen-true p)) (back o k.phase) }
+    record {
+      phase = k.phase;
+      is = k.is;
+      may = k.may;
+      reply = k.reply;
+      plain = k.plain;
+      near = subst (λ (z : Bool). Near (weakening o 0 z false) (weakening o 0 (seen_weakened false (phase_of k.phase)) false)) (sym (seen-true p)) (back o k.phase);
+    }
   where
     back : (o : OpenSnap) (q : Phase) → Near (weakening o 0 true false) (weakening o 0 (seen_weakened false (phase_of q)) false)
     back o at.Weakened = inl refl
@@ -123,7 +134,8 @@ refuse-seen s o c n w r p a m =
 
 refuse-near : (s : ManagedReplay) (y z : Stand) (c n : ℕ) (w : PhaseWord) (r : Reply) (p : Phase) → Near y z → IsPhaseOf y c p → MayRefuse s w p → Refuses s y z c n w r p
 refuse-near s y z c n w r p (inl e) a m = subst (λ x. Refuses s y x c n w r p) e (refuse-same s y c n w r p a m)
-refuse-near s y z c n w r p (inr e) a m = subst (λ x. Refuses s x z c n w r p) (sym e.1) (subst (λ x. Refuses s (weakening e.0 0 true false) x c n w r p) (sym e.2) (refuse-seen s e.0 c n w r p (subst (λ x. IsPhaseOf x c p) e.1 a) m))
+refuse-near s y z c n w r p (inr e) a m = subst (λ x. Refuses s x z c n w r p) (sym e.1)
+    (subst (λ x. Refuses s (weakening e.0 0 true false) x c n w r p) (sym e.2) (refuse-seen s e.0 c n w r p (subst (λ x. IsPhaseOf x c p) e.1 a) m))
 
 -- an entry with something told plainly beside it, at a near stand
 pub record Plainly (s : Linkage) (z : Stand) (n : Noted) : Type 0 where
@@ -134,7 +146,8 @@ pub record Plainly (s : Linkage) (z : Stand) (n : Noted) : Type 0 where
   pub near : Near (linkage_after s n).control.stand stand
   pub after : linkage_after (with_stand s z) note ≡ with_stand (linkage_after s n) stand
 
-pub plainly : (s : Linkage) (z : Stand) (k : ℕ) (t : Thread) (l : ℕ) (o : Op) (r : Reply) (c : Option ℕ) (x : Told) → Near s.control.stand z → MayCome s (noting k t l o r c x) → Plainly s z (noting k t l o r c x)
+pub plainly : (s : Linkage) (z : Stand) (k : ℕ) (t : Thread) (l : ℕ) (o : Op) (r : Reply) (c : Option ℕ) (x : Told)
+    → Near s.control.stand z → MayCome s (noting k t l o r c x) → Plainly s z (noting k t l o r c x)
 plainly s z k (M t) l (op.Refused w) r c x e a = absurd a.event
 plainly s z k (P t) l (op.Refused w) r c x e a = absurd a.event
 plainly s z k C l (op.Refused w) r c (phase_of p) e a =

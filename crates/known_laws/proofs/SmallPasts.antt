@@ -28,7 +28,8 @@ use Rattle.known_laws.proofs.Pinned.{none_stand}
 use Rattle.known_laws.specs.Driving.{IsPastKept}
 use Rattle.known_laws.proofs.KnownPasts.{known_past_is_kept}
 use Rattle.known_laws.specs.Pasts.{HasSameDeadPart, Joined, Lawful, PastRunsFrom, Within, end_of, line, driver_line}
-use Rattle.known_laws.specs.Worked.{a_read, a_take, a_drop, a_peer_drop, a_refusal, a_release, a_give, a_snap, lines_of, released_twice, turned_numbers, two_drops, without_candidates, wrong_lines, wrongly_drawn}
+use Rattle.known_laws.specs.Worked.{a_read, a_take, a_drop, a_peer_drop, a_refusal, a_release, a_give, a_snap, lines_of, released_twice, turned_numbers, two_drops, without_candidates, wrong_lines}
+use Rattle.known_laws.specs.Worked.{wrongly_drawn}
 use Rattle.known_laws.proofs.CitedOnce.{none_is_cited_twice}
 use Rattle.known_laws.proofs.PastLines.{in-line, in_begins, one-number}
 use Rattle.known_laws.proofs.PastsJoin.{in_whole_past}
@@ -36,16 +37,40 @@ use Rattle.known_laws.proofs.SnapTold.{numbers_are_once}
 
 -- two entries with one number
 pub one : Lawful (a_drop 5 ∷ [])
-one = (record { later = omega arith; comes = record { tells = refl; stand = none_stand _; comes = record { event = (((omega arith, omega arith), omega arith), tt); line = omega arith; short = omega arith; lawful = record { allowed = tt; replies = refl }; order = refl } }; plain = tt }, tt)
+one = (
+  record {
+    later = omega arith;
+    comes = record {
+      tells = refl;
+      stand = none_stand _;
+      comes = record { event = (((omega arith, omega arith), omega arith), tt); line = omega arith; short = omega arith; lawful = record { allowed = tt; replies = refl }; order = refl };
+    };
+    plain = tt;
+  },
+  tt,
+)
 
 pub other : Lawful (a_peer_drop 5 ∷ [])
-other = (record { later = omega arith; comes = record { tells = refl; stand = none_stand _; comes = record { event = (((omega arith, omega arith), omega arith), tt); line = omega arith; short = omega arith; lawful = record { allowed = tt; replies = refl }; order = refl } }; plain = tt }, tt)
+other = (
+  record {
+    later = omega arith;
+    comes = record {
+      tells = refl;
+      stand = none_stand _;
+      comes = record { event = (((omega arith, omega arith), omega arith), tt); line = omega arith; short = omega arith; lawful = record { allowed = tt; replies = refl }; order = refl };
+    };
+    plain = tt;
+  },
+  tt,
+)
 
 callers-differ : (x y : Noted) → x ≡ y → x.entry.made.caller ≡ M 1 → y.entry.made.caller ≡ P 1 → ⊥
 callers-differ x y e p q = let s : M 1 ≡ P 1 = sym p ∙ (ap (λ (z : Noted). z.entry.made.caller) e ∙ q) in cc
 
 pub no_run : (whole : List Noted) → PastRunsFrom 0 whole → Within whole (a_drop 5 ∷ []) → Within whole (a_peer_drop 5 ∷ []) → ⊥
-no_run whole runs a b = callers-differ (a_drop 5) (a_peer_drop 5) (one-number 0 whole (a_drop 5) (a_peer_drop 5) runs (in_whole_past whole (a_drop 5) (a_drop 5 ∷ []) (inl refl) a) (in_whole_past whole (a_peer_drop 5) (a_peer_drop 5 ∷ []) (inl refl) b) refl) refl refl
+no_run whole runs a b = callers-differ (a_drop 5) (a_peer_drop 5)
+    (one-number 0 whole (a_drop 5) (a_peer_drop 5) runs (in_whole_past whole (a_drop 5) (a_drop 5 ∷ []) (inl refl) a) (in_whole_past whole (a_peer_drop 5) (a_peer_drop 5 ∷ []) (inl refl) b) refl)
+    refl refl
 
 pub no_join : Joined (a_drop 5 ∷ []) (a_peer_drop 5 ∷ []) → ⊥
 no_join j =
@@ -54,7 +79,17 @@ no_join j =
     callers-differ (a_drop 5) (a_peer_drop 5) (numbers_are_once j.past j.lawful (a_drop 5) (a_peer_drop 5) x y refl) refl refl
 
 pub comes : Comes false (end_of (a_drop 5 ∷ [])) (a_peer_drop 5)
-comes = record { tells = refl; stand = none_stand _; comes = record { event = (((omega arith, omega arith), omega arith), tt); line = omega arith; short = omega arith; lawful = record { allowed = tt; replies = refl }; order = refl } }
+comes = record {
+  tells = refl;
+  stand = none_stand _;
+  comes = record {
+    event = (((omega arith, omega arith), omega arith), tt);
+    line = omega arith;
+    short = omega arith;
+    lawful = record { allowed = tt; replies = refl };
+    order = refl;
+  };
+}
 
 in_shown : (xs : List Noted) (k : Kept) → all_shown xs ≡ k ∷ [] → (n : Noted) × InPast xs n × (n.entry ≡ k.entry)
 in_shown [] k q = absurd (cc)
@@ -69,13 +104,33 @@ unknown k =
     let x = in_shown (line 0 k.past) (shown (a_drop 5)) (sym (k.same 0)) in
     let y = in_shown (line 1 k.past) (shown (a_peer_drop 5)) (sym (k.same 1)) in
     let number : x.0.entry.number ≡ y.0.entry.number = ap (λ (e : Entry). e.number) x.2 ∙ sym (ap (λ (e : Entry). e.number) y.2) in
-    callers-differ x.0 y.0 (numbers_are_once k.past k.lawful x.0 y.0 (in-line 0 k.past x.0 x.1) (in-line 1 k.past y.0 y.1) number) (ap (λ (e : Entry). e.made.caller) x.2) (ap (λ (e : Entry). e.made.caller) y.2)
+    callers-differ x.0 y.0 (numbers_are_once k.past k.lawful x.0 y.0 (in-line 0 k.past x.0 x.1) (in-line 1 k.past y.0 y.1) number)
+    (ap (λ (e : Entry). e.made.caller) x.2) (ap (λ (e : Entry). e.made.caller) y.2)
 
 -- a number left out
 pub lawful : Lawful two_drops
 lawful = (
-  record { later = omega arith; comes = record { tells = refl; stand = none_stand _; comes = record { event = (((omega arith, omega arith), omega arith), tt); line = omega arith; short = omega arith; lawful = record { allowed = tt; replies = refl }; order = refl } }; plain = tt },
-  (record { later = omega arith; comes = record { tells = refl; stand = none_stand _; comes = record { event = (((omega arith, omega arith), omega arith), tt); line = omega arith; short = omega arith; lawful = record { allowed = tt; replies = refl }; order = refl } }; plain = tt }, tt),
+  record {
+    later = omega arith;
+    comes = record {
+      tells = refl;
+      stand = none_stand _;
+      comes = record { event = (((omega arith, omega arith), omega arith), tt); line = omega arith; short = omega arith; lawful = record { allowed = tt; replies = refl }; order = refl };
+    };
+    plain = tt;
+  },
+  (
+    record {
+      later = omega arith;
+      comes = record {
+        tells = refl;
+        stand = none_stand _;
+        comes = record { event = (((omega arith, omega arith), omega arith), tt); line = omega arith; short = omega arith; lawful = record { allowed = tt; replies = refl }; order = refl };
+      };
+      plain = tt;
+    },
+    tt,
+  ),
 )
 
 pub unnumbered : NumberedFrom 0 (entries_kept turned_numbers) → ⊥
@@ -108,7 +163,18 @@ snapshot = record {
 }
 
 pub snap-lawful : Lawful (a_snap ∷ [])
-snap-lawful = (record { later = omega arith; comes = record { tells = refl; stand = none_stand _; comes = record { event = tt; line = omega arith; short = omega arith; lawful = record { allowed = snapshot; replies = refl }; order = refl } }; plain = tt }, tt)
+snap-lawful = (
+  record {
+    later = omega arith;
+    comes = record {
+      tells = refl;
+      stand = none_stand _;
+      comes = record { event = tt; line = omega arith; short = omega arith; lawful = record { allowed = snapshot; replies = refl }; order = refl };
+    };
+    plain = tt;
+  },
+  tt,
+)
 
 pub other_line : line driver_line [] ≡ line driver_line (a_snap ∷ []) → ⊥
 other_line e = cc
@@ -121,10 +187,22 @@ other_state e = let f : 0 ≡ 1 = ap (λ (z : ManagedReplay). z.managed.cycles) 
 
 -- a refusal in a cycle without candidates
 pub mirrored : MayCome without_candidates (a_refusal at.Mirrored)
-mirrored = record { event = tt; line = omega arith; short = omega arith; lawful = record { allowed = record { refused = refl; idle = (λ e. absurd (cc), λ e. absurd (cc)) }; replies = refl }; order = ((refl, inl (refl, refl, refl)), refl) }
+mirrored = record {
+  event = tt;
+  line = omega arith;
+  short = omega arith;
+  lawful = record { allowed = record { refused = refl; idle = (λ e. absurd (cc), λ e. absurd (cc)) }; replies = refl };
+  order = ((refl, inl (refl, refl, refl)), refl);
+}
 
 pub weakened : MayCome without_candidates (a_refusal at.Weakened)
-weakened = record { event = tt; line = omega arith; short = omega arith; lawful = record { allowed = record { refused = refl; idle = (λ e. absurd (cc), λ e. absurd (cc)) }; replies = refl }; order = ((refl, inr (refl, refl)), refl) }
+weakened = record {
+  event = tt;
+  line = omega arith;
+  short = omega arith;
+  lawful = record { allowed = record { refused = refl; idle = (λ e. absurd (cc), λ e. absurd (cc)) }; replies = refl };
+  order = ((refl, inr (refl, refl)), refl);
+}
 
 pub told_differ : phase_of at.Mirrored ≡ phase_of at.Weakened → ⊥
 told_differ e = cc
@@ -185,4 +263,7 @@ unstanding l = no-live 1 (l.0.comes.stand.live 1 (Contains-there (Some 1) None (
 
 -- a read with a reply that no history has
 pub unjudged : Lawful (a_read ∷ [])
-unjudged = (record { later = omega arith; comes = record { event = (((omega arith, omega arith), omega arith), tt); line = omega arith; short = omega arith; order = refl; bare = refl }; plain = tt }, tt)
+unjudged = (
+  record { later = omega arith; comes = record { event = (((omega arith, omega arith), omega arith), tt); line = omega arith; short = omega arith; order = refl; bare = refl }; plain = tt },
+  tt,
+)

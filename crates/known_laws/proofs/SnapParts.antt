@@ -81,10 +81,12 @@ keeps y h l o e later = either (is_read y.entry.made.op) refl l.0.comes
         k0 : IsReplayKept s0.managed
         k0 = (kept_pinned (end_of h) _ w.stand (kept_end h l.1)).managed
 
-        goes : (t : Thread) (p : Op) → y.entry.made.caller ≡ t → y.entry.made.op ≡ p → GoesOn s0.managed.managed (R t p) → (z : Managed) → Alike (end_of h).managed.managed z → Alike (end_of (y ∷ h)).managed.managed z
+        goes : (t : Thread) (p : Op) → y.entry.made.caller ≡ t → y.entry.made.op ≡ p → GoesOn s0.managed.managed (R t p)
+            → (z : Managed) → Alike (end_of h).managed.managed z → Alike (end_of (y ∷ h)).managed.managed z
         goes t p c f g z = alike_goes (end_of h) y z (kept_end h l.1) r w (subst (GoesOn s0.managed.managed) (λ i. R (sym c i) (sym f i)) g)
 
-        others : (t : Thread) (p : Op) → y.entry.made.caller ≡ t → y.entry.made.op ≡ p → (t ≡ C → ⊥) → IsEvent t p → SideLawful (is_peer_event t p) s0 (made t p) (bare_told y.told) → (z : Managed) → Alike (end_of h).managed.managed z → Alike (end_of (y ∷ h)).managed.managed z
+        others : (t : Thread) (p : Op) → y.entry.made.caller ≡ t → y.entry.made.op ≡ p → (t ≡ C → ⊥) → IsEvent t p
+            → SideLawful (is_peer_event t p) s0 (made t p) (bare_told y.told) → (z : Managed) → Alike (end_of h).managed.managed z → Alike (end_of (y ∷ h)).managed.managed z
         others t p c f n v s = goes t p c f (goes_by s0.managed (made t p) (bare_told y.told) (is_peer_event t p) s0 refl n v k0 s)
 
         by : (t : Thread) (p : Op) → y.entry.made.caller ≡ t → y.entry.made.op ≡ p → IsEvent t p → SideLawful (is_peer_event t p) s0 (made t p) (bare_told y.told) → Keeps y h o
@@ -110,7 +112,8 @@ keeps y h l o e later = either (is_read y.entry.made.op) refl l.0.comes
         reader (P u) f = stood (P u) y.entry.made.op f refl
     either false q w = side q w
 
-stays_alike : (h front back : List Noted) (x : Noted) → Lawful h → h ≡ front ++ x ∷ back → (o : OpenSnap) → opened_of (end_of h).control.stand ≡ Some o → x.entry.number ≡ o.snap → Alike (end_of h).managed.managed (end_of (x ∷ back)).managed.managed
+stays_alike : (h front back : List Noted) (x : Noted) → Lawful h → h ≡ front ++ x ∷ back → (o : OpenSnap)
+    → opened_of (end_of h).control.stand ≡ Some o → x.entry.number ≡ o.snap → Alike (end_of h).managed.managed (end_of (x ∷ back)).managed.managed
 stays_alike h [] back x l e o q n = subst (λ z. Alike (end_of z).managed.managed (end_of (x ∷ back)).managed.managed) (sym e) (alike_self _)
 stays_alike [] (y ∷ front) back x l e o q n = absurd (cc)
 stays_alike (y ∷ h) (z ∷ front) back x l e o q n =
@@ -126,14 +129,16 @@ behind_lawful (y ∷ front) x back l = behind_lawful front x back l.1
 
 pub dead_part_is_of_snap : DeadPartIsOfSnap
 dead_part_is_of_snap h front back x l e o q n =
-    dead_part-alike (end_of h).managed.managed (end_of (x ∷ back)).managed.managed (kept_end h l).managed.managed (kept_end (x ∷ back) (behind_lawful front x back (subst Lawful e l))).managed.managed (stays_alike h front back x l e o q n)
+    dead_part-alike (end_of h).managed.managed (end_of (x ∷ back)).managed.managed (kept_end h l).managed.managed
+    (kept_end (x ∷ back) (behind_lawful front x back (subst Lawful e l))).managed.managed (stays_alike h front back x l e o q n)
 
 pub within_front : (whole front : List Noted) (x : Noted) (back : List Noted) → Within whole (front ++ x ∷ back) → Within whole (x ∷ back)
 within_front whole [] x back w = w
 within_front whole (y ∷ front) x back w = within_front whole front x back (within_past whole y (front ++ x ∷ back) w)
 
 -- the managed side just after one snap is one
-one_snap : (whole : List Noted) (x : Noted) (a b : List Noted) (k : ℕ) → x.entry.made.op ≡ op.Snap record { 0 = k } → Lawful (x ∷ a) → Lawful (x ∷ b) → Within whole (x ∷ a) → Within whole (x ∷ b) → (end_of (x ∷ a)).managed ≡ (end_of (x ∷ b)).managed
+one_snap : (whole : List Noted) (x : Noted) (a b : List Noted) (k : ℕ) → x.entry.made.op ≡ op.Snap record { 0 = k } → Lawful (x ∷ a)
+    → Lawful (x ∷ b) → Within whole (x ∷ a) → Within whole (x ∷ b) → (end_of (x ∷ a)).managed ≡ (end_of (x ∷ b)).managed
 one_snap whole x a b k e la lb wa wb =
     let r : role_of x ≡ 0 = role_by x false false (ap (is_peer_event x.entry.made.caller) e) (ap is_read e) in
     let same = same_managed a b (one_behind whole 0 x a b la lb wa wb (subst (λ i. is_in i x ≡ true) r (in_role x))) in

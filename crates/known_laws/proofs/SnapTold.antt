@@ -81,7 +81,8 @@ later : (x : Noted) (h : List Noted) (o : OpenSnap) → (end_of (x ∷ h)).manag
 later x h o e s = record { cycle = s.cycle; open_cycle = e ∙ s.open_cycle; freed = s.freed; entry = s.entry; there = inr s.there; number = s.number; event = s.event; tells = s.tells }
 
 -- where the driver stands, it stays by another's entry
-stood_else : (s : Linkage) (x : Noted) (t : Thread) (o : Op) (told : Told) → x.entry.made.caller ≡ t → (t ≡ C → ⊥) → (control_after s.control x.entry.made.caller x.entry.number x.entry.made.index x.entry.made.op x.entry.made.reply told).stand ≡ s.control.stand
+stood_else : (s : Linkage) (x : Noted) (t : Thread) (o : Op) (told : Told) → x.entry.made.caller ≡ t → (t ≡ C → ⊥)
+    → (control_after s.control x.entry.made.caller x.entry.number x.entry.made.index x.entry.made.op x.entry.made.reply told).stand ≡ s.control.stand
 stood_else s x t o told e n = subst (λ z. (control_after s.control z x.entry.number x.entry.made.index x.entry.made.op x.entry.made.reply told).stand ≡ s.control.stand) (sym e) (by t n)
   where
     by : (t : Thread) → (t ≡ C → ⊥) → (control_after s.control t x.entry.number x.entry.made.index x.entry.made.op x.entry.made.reply told).stand ≡ s.control.stand
@@ -89,7 +90,8 @@ stood_else s x t o told e n = subst (λ z. (control_after s.control z x.entry.nu
     by (P u) n = refl
     by C n = absurd (n refl)
 
-step : (x : Noted) (h : List Noted) → Lawful (x ∷ h) → ((o : OpenSnap) → opened_of (end_of h).control.stand ≡ Some o → HasSnap h o) → (o : OpenSnap) → opened_of (end_of (x ∷ h)).control.stand ≡ Some o → HasSnap (x ∷ h) o
+step : (x : Noted) (h : List Noted) → Lawful (x ∷ h) → ((o : OpenSnap) → opened_of (end_of h).control.stand ≡ Some o → HasSnap h o)
+    → (o : OpenSnap) → opened_of (end_of (x ∷ h)).control.stand ≡ Some o → HasSnap (x ∷ h) o
 step x h l b = either (is_read x.entry.made.op) refl l.0.comes
   where
     s0 : Linkage
@@ -104,7 +106,8 @@ step x h l b = either (is_read x.entry.made.op) refl l.0.comes
     Stood : Thread → Op → Told → OpenSnap → Type 0
     Stood t o told w = opened_of (control_after (end_of h).control t x.entry.number x.entry.made.index o x.entry.made.reply told).stand ≡ Some w
 
-    stood_is : (t : Thread) (o : Op) (told : Told) (w : OpenSnap) → x.entry.made.caller ≡ t → x.entry.made.op ≡ o → bare_told x.told ≡ told → opened_of (end_of (x ∷ h)).control.stand ≡ Some w → Stood t o told w
+    stood_is : (t : Thread) (o : Op) (told : Told) (w : OpenSnap) → x.entry.made.caller ≡ t → x.entry.made.op ≡ o
+        → bare_told x.told ≡ told → opened_of (end_of (x ∷ h)).control.stand ≡ Some w → Stood t o told w
     stood_is t o told w e f g q = subst (λ z. z ≡ Some w) (λ i. opened_of (control_after (end_of h).control (e i) x.entry.number x.entry.made.index (f i) x.entry.made.reply (g i)).stand) q
 
     -- an entry of a side's list
@@ -118,10 +121,12 @@ step x h l b = either (is_read x.entry.made.op) refl l.0.comes
         cycle_is : (t : Thread) (o : Op) (told : Told) → x.entry.made.caller ≡ t → x.entry.made.op ≡ o → bare_told x.told ≡ told → (end_of (x ∷ h)).managed.managed.cycle ≡ (R t o told).managed.cycle
         cycle_is t o told e f g = ap (λ (z : Linkage). z.managed.managed.cycle) (side_after (end_of h) x r).same ∙ (λ i. (R (e i) (f i) (g i)).managed.cycle)
 
-        others : (t : Thread) (o : Op) (told : Told) → x.entry.made.caller ≡ t → x.entry.made.op ≡ o → bare_told x.told ≡ told → (t ≡ C → ⊥) → IsEvent t o → SideLawful (is_peer_event t o) s0 (made t o) told → (w : OpenSnap) → opened_of (end_of h).control.stand ≡ Some w → HasSnap (x ∷ h) w
+        others : (t : Thread) (o : Op) (told : Told) → x.entry.made.caller ≡ t → x.entry.made.op ≡ o → bare_told x.told ≡ told → (t ≡ C → ⊥) → IsEvent t o
+            → SideLawful (is_peer_event t o) s0 (made t o) told → (w : OpenSnap) → opened_of (end_of h).control.stand ≡ Some w → HasSnap (x ∷ h) w
         others t o told e f g n v s w q = later x h w (cycle_is t o told e f g ∙ (goes_by s0.managed (made t o) told (is_peer_event t o) s0 refl n v k0 s).cycle) (b w q)
 
-        by : (t : Thread) (o : Op) (told : Told) → x.entry.made.caller ≡ t → x.entry.made.op ≡ o → bare_told x.told ≡ told → IsEvent t o → SideLawful (is_peer_event t o) s0 (made t o) told → (w : OpenSnap) → opened_of (end_of (x ∷ h)).control.stand ≡ Some w → HasSnap (x ∷ h) w
+        by : (t : Thread) (o : Op) (told : Told) → x.entry.made.caller ≡ t → x.entry.made.op ≡ o → bare_told x.told ≡ told → IsEvent t o
+            → SideLawful (is_peer_event t o) s0 (made t o) told → (w : OpenSnap) → opened_of (end_of (x ∷ h)).control.stand ≡ Some w → HasSnap (x ∷ h) w
         by (M u) o told e f g v s w q = others (M u) o told e f g (λ z. cc) v s w (stood_is (M u) o told w e f g q)
         by (P u) o told e f g v s w q = others (P u) o told e f g (λ z. cc) v s w (stood_is (P u) o told w e f g q)
         by C (op.Snap k) (snap_of freed candidates dead) e f g v s w q =
@@ -166,7 +171,8 @@ numbers_are_once (z ∷ h) l x y p q e = ⊎_elim
     (λ b. numbers_are_once h l.1 x y a b e) q)
     p
 
-opened_by : (r : ManagedReplay) (s : PeerReplay) (o : OpenSnap) (a : ℕ) (b : List Answer) (m : Mirror) → IsMirrorOf r s o a b → s.mirror ≡ Some m → Some o ≡ Some record { cycle = m.cycle; snap = m.snap }
+opened_by : (r : ManagedReplay) (s : PeerReplay) (o : OpenSnap) (a : ℕ) (b : List Answer) (m : Mirror)
+    → IsMirrorOf r s o a b → s.mirror ≡ Some m → Some o ≡ Some record { cycle = m.cycle; snap = m.snap }
 opened_by r s o a b m f e =
     let same : f.mirror ≡ m = same_Some _ _ (sym f.stands ∙ e) in
     let c : o.cycle ≡ m.cycle = sym f.cycle ∙ ap (λ (z : Mirror). z.cycle) same in
@@ -174,7 +180,8 @@ opened_by r s o a b m f e =
     λ i. Some record { cycle = c i; snap = n i }
 
 -- while a mirror stands it is that of the driver's cycle
-mirror-opened : (r : ManagedReplay) (s : PeerReplay) (st : Stand) (m : Mirror) → IsDriverKept r s st → MirrorFits r s st → s.mirror ≡ Some m → opened_of st ≡ Some record { cycle = m.cycle; snap = m.snap }
+mirror-opened : (r : ManagedReplay) (s : PeerReplay) (st : Stand) (m : Mirror) → IsDriverKept r s st
+    → MirrorFits r s st → s.mirror ≡ Some m → opened_of st ≡ Some record { cycle = m.cycle; snap = m.snap }
 mirror-opened r s idle m d f e = absurd (none_some m (sym d.none ∙ e))
 mirror-opened r s (snapped o) m d f e = absurd (none_some m (sym d.none ∙ e))
 mirror-opened r s (contracted o comps heavy xrefs) m d f e = absurd (none_some m (sym d.before.none ∙ e))
@@ -193,6 +200,7 @@ pub mirrored_candidates_stay : MirroredCandidatesStay
 mirrored_candidates_stay whole ls ms a b numbered wa wb m n e f same =
     let x = mirror_cites_a_snap a.past a.lawful m e in
     let y = mirror_cites_a_snap b.past b.lawful n f in
-    let one : x.entry ≡ y.entry = pasts_agree (map untold whole) a.past b.past (runs_untold 0 whole numbered) a.lawful b.lawful (within_by whole ls a wa) (within_by whole ms b wb) x.entry y.entry x.there y.there (x.number ∙ (same ∙ sym y.number)) in
+    let one : x.entry ≡ y.entry = pasts_agree (map untold whole) a.past b.past (runs_untold 0 whole numbered) a.lawful b.lawful
+    (within_by whole ls a wa) (within_by whole ms b wb) x.entry y.entry x.there y.there (x.number ∙ (same ∙ sym y.number)) in
     let c = told-candidates x.freed x.cycle.candidates x.cycle.dead y.freed y.cycle.candidates y.cycle.dead (sym x.tells ∙ (ap (λ (z : Noted). bare_told z.told) one ∙ y.tells)) in
     candidates_of-open (end_of a.past).managed.managed x.cycle x.open_cycle ∙ (c ∙ sym (candidates_of-open (end_of b.past).managed.managed y.cycle y.open_cycle))

@@ -88,7 +88,8 @@ managed_told cu m (op.Resolve k) (resolution_of alive freed) (resolution_of aliv
         let v' : MayResolve m k.0 alive freed' = subst (λ z. MayResolve m k.0 z freed') (sym e) v in
         let c : w.cycle ≡ v'.cycle = same_Some _ _ (sym w.open_cycle.0 ∙ v'.open_cycle.0) in
         let f = one freed freed' _ w.resolution.rise v'.resolution.rise w.resolution.frees
-        (subst (λ (z : OpenCycle). (x : ℕ) → Contains freed' x ↔ (Contains z.dead x × (((y : ℕ) × IsAnsweredAlive z.candidates alive y × Reaches (ManagedEdge m.managed) y x) → ⊥))) (sym c) v'.resolution.frees) in
+        (subst (λ (z : OpenCycle). (x : ℕ) → Contains freed' x ↔ (Contains z.dead x × (((y : ℕ) × IsAnsweredAlive z.candidates alive y × Reaches (ManagedEdge m.managed) y x) → ⊥)))
+        (sym c) v'.resolution.frees) in
         λ i. resolution_of (e i) (f i)
 managed_told cu m (op.Resolve k) (resolution_of alive freed) _ n w v r = absurd v
 managed_told cu m (op.Resolve k) _ u n w v r = absurd w
@@ -142,7 +143,8 @@ peer_told s t o cites nothing nothing w v r = refl
 peer_told s t o cites nothing _ w v r = absurd v
 peer_told s t o cites _ b w v r = absurd w
 
-pub mirrors : (st : Stand) (m : Managed) (i : List Issued) (k : ℕ) (cites : Option ℕ) (xs ys : List (End × End)) → MayMirrorNow st m i k cites (references_of xs) → MayMirrorNow st m i k cites (references_of ys) → xs ≡ ys
+pub mirrors : (st : Stand) (m : Managed) (i : List Issued) (k : ℕ) (cites : Option ℕ) (xs ys : List (End × End))
+    → MayMirrorNow st m i k cites (references_of xs) → MayMirrorNow st m i k cites (references_of ys) → xs ≡ ys
 mirrors (contracted o comps heavy xrefs) m i k cites xs ys w v = w.2 ∙ sym v.2
 mirrors _ m i k cites xs ys w v = absurd w
 
@@ -161,7 +163,8 @@ telling_is_one cu s e t u n a b = by (is_peer_event e.made.caller e.made.op) a.l
     refs (M z) k xs ys v w x = absurd v
     refs (P z) k xs ys v w x = absurd v
 
-    answers : (c : Thread) (k : Cycle) (x y : List Answer) (f g : List ℕ) → IsEvent c (op.Resolve k) → Allowed c (op.Resolve k) (resolution_of x f) → Allowed c (op.Resolve k) (resolution_of y g) → x ≡ y
+    answers : (c : Thread) (k : Cycle) (x y : List Answer) (f g : List ℕ) → IsEvent c (op.Resolve k)
+        → Allowed c (op.Resolve k) (resolution_of x f) → Allowed c (op.Resolve k) (resolution_of y g) → x ≡ y
     answers C k x y f g v w z = resolves_alike s.control.stand k.0 e.made.cites x y f g w z
     answers (M j) k x y f g v w z = absurd v
     answers (P j) k x y f g v w z = absurd v
@@ -202,7 +205,8 @@ seen-cycle stand p w e = subst (λ z. TellsPlainly stand (op.Refused word.Cycle)
 pub seen-snap : (stand : Stand) (p : Phase) → TellsPlainly stand (op.Refused word.Snap) (phase_of p) → p ≡ at.Weakened → IsSeen stand
 seen-snap stand p w e = subst (λ z. TellsPlainly stand (op.Refused word.Snap) (phase_of z)) e w
 
-refusals : (s : ManagedReplay) (stand : Stand) (c : ℕ) (w : PhaseWord) (r : Reply) (p q : Phase) → IsPhaseOf stand c p → IsPhaseOf stand c q → r ≡ refusal_to s.managed p w → r ≡ refusal_to s.managed q w
+refusals : (s : ManagedReplay) (stand : Stand) (c : ℕ) (w : PhaseWord) (r : Reply) (p q : Phase)
+    → IsPhaseOf stand c p → IsPhaseOf stand c q → r ≡ refusal_to s.managed p w → r ≡ refusal_to s.managed q w
     → TellsPlainly stand (op.Refused w) (phase_of p) → TellsPlainly stand (op.Refused w) (phase_of q) → p ≡ q
 refusals s stand c word.Cycle r p q a b e f x y = phases stand c p q a b (seen-cycle stand p x) (seen-cycle stand q y)
 refusals s stand c word.Snap r p q a b e f x y = phases stand c p q a b (seen-snap stand p x) (seen-snap stand q y)
@@ -221,7 +225,8 @@ told_is_one s e t u a b = by e.made.caller e.made.op a b
     entry c o = record { number = e.number; made = record { caller = c; index = e.made.index; op = o; reply = e.made.reply; cites = e.made.cites } }
 
     refused : (w : PhaseWord) (t u : Told) → MayBeTold s (entry C (op.Refused w)) t → MayBeTold s (entry C (op.Refused w)) u → t ≡ u
-    refused w (phase_of p) (phase_of q) a b = ap phase_of (refusals s.managed s.control.stand (length (candidates_of s.managed.managed)) w e.made.reply p q a.0.order.0 b.0.order.0 a.0.lawful.replies b.0.lawful.replies a.1 b.1)
+    refused w (phase_of p) (phase_of q) a b = ap phase_of (refusals s.managed s.control.stand
+        (length (candidates_of s.managed.managed)) w e.made.reply p q a.0.order.0 b.0.order.0 a.0.lawful.replies b.0.lawful.replies a.1 b.1)
     refused w (phase_of p) _ a b = absurd b.0.lawful.allowed
     refused w _ u a b = absurd a.0.lawful.allowed
 
@@ -275,7 +280,10 @@ plain_may_be_told s n a = by n.entry.made.caller n.entry.made.op n.told a
         (λ plain. (phase_of p, (a, plain)))
         (λ z. (
           phase_of at.Mirrored,
-          (record { event = a.event; line = a.line; short = a.short; lawful = record { allowed = z.1; replies = a.lawful.replies ∙ z.2 }; order = (z.0, a.order.1) }, plainly_by s.control.stand w at.Mirrored (λ e. absurd (cc))),
+          (
+            record { event = a.event; line = a.line; short = a.short; lawful = record { allowed = z.1; replies = a.lawful.replies ∙ z.2 }; order = (z.0, a.order.1) },
+            plainly_by s.control.stand w at.Mirrored (λ e. absurd (cc)),
+          ),
         ))
         (retold s.managed s.control.stand (length (candidates_of s.managed.managed)) w p a.order.0 a.lawful.allowed)
     by (M u) (op.Refused w) t a = absurd a.event

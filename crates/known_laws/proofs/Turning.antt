@@ -32,7 +32,13 @@ side_entry_comes s number m told line short order stand side = ⊎_elim
     subst (λ r. Comes r s n) (sym none.0) (record {
       tells = free ∙ sym none.1;
       stand = stand;
-      comes = record { event = w.0.event; line = line; short = short; lawful = subst (λ b. SideLawful b (given_pins s told) m (bare_told told)) (sym w.0.side) (subst (PeerLawful s.peer m) (sym (plain_told told free)) w.1); order = turn };
+      comes = record {
+        event = w.0.event;
+        line = line;
+        short = short;
+        lawful = subst (λ b. SideLawful b (given_pins s told) m (bare_told told)) (sym w.0.side) (subst (PeerLawful s.peer m) (sym (plain_told told free)) w.1);
+        order = turn;
+      };
     }))
     side
   where
@@ -54,7 +60,8 @@ starts (met n line h) w = absurd w
 doing-put : (s : Linkage) (t line : ℕ) (o : Op) (cites : Option ℕ) (d : Doing) → doing_at s.control t ≡ d → ThreadAllows d (M t) line o cites → ThreadTurn s t line o cites
 doing-put s t line o cites d e w = subst (λ z. ThreadAllows z (M t) line o cites) (sym e) w
 
-stand-put : (s : Linkage) (o : Op) (reply : Reply) (cites : Option ℕ) (told : Told) (st : Stand) → s.control.stand ≡ st → DriverAllows st s.managed.managed s.peer.peers.issued o reply cites told → DriverTurn s o reply cites told
+stand-put : (s : Linkage) (o : Op) (reply : Reply) (cites : Option ℕ) (told : Told) (st : Stand) → s.control.stand ≡ st
+    → DriverAllows st s.managed.managed s.peer.peers.issued o reply cites told → DriverTurn s o reply cites told
 stand-put s o reply cites told st e w = subst (λ z. DriverAllows z s.managed.managed s.peer.peers.issued o reply cites told) (sym e) w
 
 pub threads_have_turns : ThreadsHaveTurns
@@ -91,8 +98,10 @@ reader_entry_comes s number m v e line short done cites = subst (λ r. Comes r s
     n : Noted
     n = record { entry = record { number = number; made = m }; told = nothing }
 
-    by : (t : Thread) (o : Op) → m.op ≡ o → IsEvent t o → is_read o ≡ true → IsDone (doing_at s.control (thread_number t)) → CallerAllows s.control s.managed.managed s.peer.peers.issued t m.index m.op m.reply m.cites nothing
-    by (M u) (op.Line a) f v e d = subst (λ z. ThreadAllows (doing_at s.control u) (M u) m.index z m.cites) (sym f) (subst (MayStart (doing_at s.control u)) (sym cites) (starts (doing_at s.control u) d))
+    by : (t : Thread) (o : Op) → m.op ≡ o → IsEvent t o → is_read o ≡ true → IsDone (doing_at s.control (thread_number t))
+        → CallerAllows s.control s.managed.managed s.peer.peers.issued t m.index m.op m.reply m.cites nothing
+    by (M u) (op.Line a) f v e d = subst (λ z. ThreadAllows (doing_at s.control u) (M u) m.index z m.cites)
+        (sym f) (subst (MayStart (doing_at s.control u)) (sym cites) (starts (doing_at s.control u) d))
     by (P u) o f v e d = cites
     by C o f v e d = absurd (driver_reads o v e)
     by (M u) o f v e d = absurd (true≢false (sym e))

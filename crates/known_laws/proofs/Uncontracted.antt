@@ -92,7 +92,8 @@ uncontracted-step s n may u = by n.entry.made.caller n.entry.made.op n.told may.
     made t o = record { caller = t; index = n.entry.made.index; op = o; reply = n.entry.made.reply; cites = n.entry.made.cites }
 
     Goal : Thread → Op → Told → Type 0
-    Goal t o told = (w : OpenSnap) → (control_after s.control t num n.entry.made.index o n.entry.made.reply told).stand ≡ snapped w → (managed_after s.managed (made t o) told (is_peer_event t o)).contracted ≡ false
+    Goal t o told = (w : OpenSnap) → (control_after s.control t num n.entry.made.index o n.entry.made.reply told).stand ≡ snapped w
+        → (managed_after s.managed (made t o) told (is_peer_event t o)).contracted ≡ false
 
     Allows : Thread → Op → Told → Type 0
     Allows t o told = CallerAllows s.control s.managed.managed s.peer.peers.issued t n.entry.made.index o n.entry.made.reply n.entry.made.cites told

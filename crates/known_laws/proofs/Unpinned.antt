@@ -37,7 +37,8 @@ module _ (q : List (Option ℕ)) where
   Same f s = f (put s) ≡ answer (f s).reply (put (f s).state)
 
   row-same : (s : Managed) (r : Reply) (v : ℕ) (kind : Kind) (n : ℕ) (h : Option ℕ) (b : Bool)
-      → (if b then answer says.Full (put s) else answer r (with_row (put s) v kind n h)) ≡ (let a : Answered Managed = (if b then answer says.Full s else answer r (with_row s v kind n h)) in answer a.reply (put a.state))
+      → (if b then answer says.Full (put s) else answer r (with_row (put s) v kind n h))
+      ≡ (let a : Answered Managed = (if b then answer says.Full s else answer r (with_row s v kind n h)) in answer a.reply (put a.state))
   row-same s r v kind n h true = refl
   row-same s r v kind n h false = refl
 
@@ -48,7 +49,8 @@ module _ (q : List (Option ℕ)) where
   weak-same : (s : Managed) (k v : ℕ) → Same (λ z. weakened_to z k v) s
   weak-same s k v = by (slot s.heap.vars v)
     where
-      by : (o : Option ℕ) → (elim o [ None ↦ answer says.Empty (put s) | Some x ↦ cell_set (put s) k x (slot s.cells k) ]) ≡ (let a : Answered Managed = elim o [ None ↦ answer says.Empty s | Some x ↦ cell_set s k x (slot s.cells k) ] in answer a.reply (put a.state))
+      by : (o : Option ℕ) → (elim o [ None ↦ answer says.Empty (put s) | Some x ↦ cell_set (put s) k x (slot s.cells k) ])
+          ≡ (let a : Answered Managed = elim o [ None ↦ answer says.Empty s | Some x ↦ cell_set s k x (slot s.cells k) ] in answer a.reply (put a.state))
       by None = refl
       by (Some x) = cell-same s k x (slot s.cells k)
 
@@ -89,18 +91,22 @@ module _ (q : List (Option ℕ)) where
   give-by-same r (Some x) y m = refl
 
   -- the answer to an entry that asks for no pins
-  pub answers_same : (r : ManagedReplay) (t : Thread) (o : Op) (told : Told) → is_read o ≡ false → is_pinned o ≡ false → managed_answer (with_pins r q) t o told ≡ pinned_answer (managed_answer r t o told) q
+  pub answers_same : (r : ManagedReplay) (t : Thread) (o : Op) (told : Told) → is_read o ≡ false
+      → is_pinned o ≡ false → managed_answer (with_pins r q) t o told ≡ pinned_answer (managed_answer r t o told) q
   answers_same r t (op.Line a) told e f = ap (plainly (with_pins r q)) (line-same r.managed (thread_number t) a e f)
   answers_same r t (op.Adopt v kind n p h) told e f =
       let a = adopted r.managed (place (thread_number t) v.0) kind n h.0 in
-      ap (λ (z : Answered Managed). adopt_by (with_pins r q) p.0 h.0 z.state z.reply) (row-same r.managed (managed_name (next_number r.managed.heap)) (place (thread_number t) v.0) kind n (Some h.0) (is_full r.managed.heap.fields))
+      ap (λ (z : Answered Managed). adopt_by (with_pins r q) p.0 h.0 z.state z.reply)
+      (row-same r.managed (managed_name (next_number r.managed.heap)) (place (thread_number t) v.0) kind n (Some h.0) (is_full r.managed.heap.fields))
       ∙ adopt-by-same r p.0 h.0 a.state a.reply
   answers_same r t (op.Meet v sort n p h) told e f =
       let a = met r.managed (place (thread_number t) v.0) h.0 sort n (registered r.registry p.0) in
-      ap (λ (z : Answered Managed). meet_by (with_pins r q) p.0 h.0 z.state z.reply) (met-same r.managed (place (thread_number t) v.0) h.0 sort n (registered r.registry p.0)) ∙ meet-by-same r p.0 h.0 a.state a.reply
+      ap (λ (z : Answered Managed). meet_by (with_pins r q) p.0 h.0 z.state z.reply) (met-same r.managed (place (thread_number t) v.0) h.0 sort n (registered r.registry p.0))
+      ∙ meet-by-same r p.0 h.0 a.state a.reply
   answers_same r t (op.Give v) told e f =
       let u = place (thread_number t) v.0 in
-      ap (λ m. give_by (with_pins r q) (slot r.managed.heap.vars u) (answer (handle_reply r.managed u) m)) (give-same r.managed (slot r.managed.heap.vars u)) ∙ give-by-same r (slot r.managed.heap.vars u) (handle_reply r.managed u) (without_handle r.managed (slot r.managed.heap.vars u))
+      ap (λ m. give_by (with_pins r q) (slot r.managed.heap.vars u) (answer (handle_reply r.managed u) m)) (give-same r.managed (slot r.managed.heap.vars u))
+      ∙ give-by-same r (slot r.managed.heap.vars u) (handle_reply r.managed u) (without_handle r.managed (slot r.managed.heap.vars u))
   answers_same r t (op.Snap k) told e f = absurd (true≢false f)
   answers_same r t (op.Contract k) (contraction_of comps heavy xrefs) e f = refl
   answers_same r t (op.Contract k) _ e f = refl
@@ -123,9 +129,11 @@ module _ (q : List (Option ℕ)) where
   allows_same r (op.Give v) nothing f w = tt
   allows_same r (op.Give v) _ f w = absurd w
   allows_same r (op.Snap k) told f w = absurd (true≢false f)
-  allows_same r (op.Contract k) (contraction_of comps heavy xrefs) f w = record { cycle = w.cycle; open_cycle = w.open_cycle; once = w.once; exact = contraction_to r q w.cycle.dead comps heavy xrefs w.exact }
+  allows_same r (op.Contract k) (contraction_of comps heavy xrefs) f
+      w = record { cycle = w.cycle; open_cycle = w.open_cycle; once = w.once; exact = contraction_to r q w.cycle.dead comps heavy xrefs w.exact }
   allows_same r (op.Contract k) _ f w = absurd w
-  allows_same r (op.Resolve k) (resolution_of alive freed) f w = record { cycle = w.cycle; open_cycle = w.open_cycle; answers = w.answers; new = w.new; resolution = record { rise = w.resolution.rise; frees = w.resolution.frees } }
+  allows_same r (op.Resolve k) (resolution_of alive freed) f w =
+      record { cycle = w.cycle; open_cycle = w.open_cycle; answers = w.answers; new = w.new; resolution = record { rise = w.resolution.rise; frees = w.resolution.frees } }
   allows_same r (op.Resolve k) _ f w = absurd w
   allows_same r (op.Abandon k) nothing f w = w
   allows_same r (op.Abandon k) _ f w = absurd w
@@ -134,7 +142,9 @@ module _ (q : List (Option ℕ)) where
   allows_same r _ told f w = absurd w
 
   -- a caller's turn asks for no pins
-  pub turn_same : (c : Control) (m : Managed) (issued : List Issued) (t : Thread) (line : ℕ) (o : Op) (reply : Reply) (cites : Option ℕ) (told : Told) → CallerAllows c m issued t line o reply cites told → CallerAllows c (put m) issued t line o reply cites told
+  pub turn_same : (c : Control) (m : Managed) (issued : List Issued) (t : Thread) (line : ℕ) (o : Op) (reply : Reply) (cites : Option ℕ) (told : Told)
+      → CallerAllows c m issued t line o reply cites told → CallerAllows c (put m) issued t line o reply cites told
   turn_same c m issued (M t) line o reply cites told w = w
   turn_same c m issued (P t) line o reply cites told w = w
-  turn_same c m issued C line o reply cites told w = driver_move c.stand m (put m) issued issued o reply cites told (record { candidates = refl; handles = λ i h x. x; edges = λ p comps heavy xrefs i x. refl }) (λ x. refl) w
+  turn_same c m issued C line o reply cites told w = driver_move c.stand m (put m) issued issued o reply cites told
+      (record { candidates = refl; handles = λ i h x. x; edges = λ p comps heavy xrefs i x. refl }) (λ x. refl) w

@@ -1,6 +1,7 @@
 -- Citations. The later event of an operation cites the earlier one, a mirror and a weaken cite the snap of their cycle,
 -- a resolve its clear. What an entry cites agrees with its data, and no entry is cited twice, but a snap.
-use Rattle.std.specs.Prelude.{◌≡◌, ℕ, ◌<◌, ◌↔◌, ◌⊎◌, List, [], ◌∷◌, ◌++◌, length, map, Contains, Option, Some, None, slice_get}
+use Rattle.std.specs.Prelude.{◌≡◌, ℕ, ◌<◌, ◌↔◌, ◌⊎◌, List, [], ◌∷◌, ◌++◌, length, map, Contains, Option, Some, None}
+use Rattle.std.specs.Prelude.{slice_get}
 use Rattle.joint_machine.specs.declared.names.Sort.{Sort}
 use Rattle.joint_machine.specs.declared.names.Var.{Var}
 use Rattle.joint_machine.specs.declared.names.StaticNo.{StaticNo}
@@ -44,7 +45,8 @@ IsLendOf line h x m = (v : Var) × (m.index ≡ line) × (m.op ≡ op.Lend v x) 
 
 -- the grip that named that peer with its handle, sort and number of fields
 abbrev pub IsGripOf : ℕ → PNum → HNum → Sort → ℕ → Made → Type 0
-IsGripOf line p h sort f m = (x : StaticNo) × (m.index ≡ line) × (m.op ≡ op.Grip x) × (m.reply ≡ says.Gripped p h sort f)
+IsGripOf line p h sort f m = (x : StaticNo) × (m.index ≡ line)
+    × (m.op ≡ op.Grip x) × (m.reply ≡ says.Gripped p h sort f)
 
 -- a reply that isn't new
 abbrev pub IsNotNew : Reply → Type 0
@@ -57,7 +59,8 @@ IsGiveOf line h m = (v : Var) × (m.index ≡ line) × (m.op ≡ op.Give v) × (
 
 -- a meet that didn't take that handle, on that line
 abbrev pub IsMeetOf : ℕ → HNum → Made → Type 0
-IsMeetOf line h m = (v : Var) × (p : PNum) × (sort : Sort) × (f : ℕ) × (m.index ≡ line) × (m.op ≡ op.Meet v sort f p h) × IsNotNew m.reply
+IsMeetOf line h m = (v : Var) × (p : PNum) × (sort : Sort) × (f : ℕ)
+    × (m.index ≡ line) × (m.op ≡ op.Meet v sort f p h) × IsNotNew m.reply
 
 -- the snap of that cycle
 abbrev pub IsSnapOf : ℕ → Made → Type 0
@@ -89,7 +92,9 @@ IsSnapping o = ⊥
 
 -- no entry of a past is cited by two, but a snap
 abbrev pub NoneIsCitedTwice : Type 0
-NoneIsCitedTwice = (h : List Noted) → Lawful h → (x y z : Noted) → InPast h x → InPast h y → InPast h z → x.entry.made.cites ≡ Some z.entry.number → y.entry.made.cites ≡ Some z.entry.number → (x ≡ y) ⊎ IsSnapping z.entry.made.op
+NoneIsCitedTwice = (h : List Noted) → Lawful h → (x y z : Noted) → InPast h x → InPast h y → InPast h z
+    → x.entry.made.cites ≡ Some z.entry.number
+    → y.entry.made.cites ≡ Some z.entry.number → (x ≡ y) ⊎ IsSnapping z.entry.made.op
 
 -- a mirror adds exactly the mirror edges of its cycle's dead part, carried to the peers of the handles, and replies
 -- their number
@@ -107,7 +112,8 @@ pub record AddsMirrorEdges (s : Linkage) (told : Told) (reply : Reply) (k : ℕ)
 
 -- so does each mirror of a past
 abbrev pub MirrorsAddMirrorEdges : Type 0
-MirrorsAddMirrorEdges = (x : Noted) (h : List Noted) → Lawful (x ∷ h) → (k : Cycle) → x.entry.made.op ≡ op.Mirror k → AddsMirrorEdges (end_of h) (bare_told x.told) x.entry.made.reply k.0
+MirrorsAddMirrorEdges = (x : Noted) (h : List Noted) → Lawful (x ∷ h) → (k : Cycle)
+    → x.entry.made.op ≡ op.Mirror k → AddsMirrorEdges (end_of h) (bare_told x.told) x.entry.made.reply k.0
 
 -- a weaken takes the handle of the next candidate, by how many were weakened in the mirrored cycle, whose snap it cites
 pub record TakesNext (s : Linkage) (cites : Option ℕ) (g : ℕ) : Type 0 where
@@ -118,7 +124,8 @@ pub record TakesNext (s : Linkage) (cites : Option ℕ) (g : ℕ) : Type 0 where
 
 -- so does each weaken of a past
 abbrev pub WeakensTakeNext : Type 0
-WeakensTakeNext = (x : Noted) (h : List Noted) → Lawful (x ∷ h) → (g : HNum) → x.entry.made.op ≡ op.Weaken g → TakesNext (end_of h) x.entry.made.cites g.0
+WeakensTakeNext = (x : Noted) (h : List Noted) → Lawful (x ∷ h) → (g : HNum)
+    → x.entry.made.op ≡ op.Weaken g → TakesNext (end_of h) x.entry.made.cites g.0
 
 -- the restores of a past since its latest snap, earliest first: the handle of each, and what it answered
 abbrev pub restores_after : Op → Reply → List (ℕ × Answer) → List (ℕ × Answer)
@@ -156,21 +163,27 @@ pub record FreesByRestores (s : Managed) (restores : List (ℕ × Answer)) (told
   pub tells : told ≡ resolution_of answers freed
   pub restored : AreRestored s restores answers
   pub one_each : length restores ≡ length cycle.candidates
-  pub frees : (m : ℕ) → Contains freed m ↔ (Contains cycle.dead m × (((c : ℕ) × WasRestoredAlive s restores c × Reaches (ManagedEdge s) c m) → ⊥))
+  pub frees : (m : ℕ) → Contains freed m
+      ↔ (Contains cycle.dead m × (((c : ℕ) × WasRestoredAlive s restores c × Reaches (ManagedEdge s) c m) → ⊥))
 
 -- so does each resolve of a past
 abbrev pub ResolvesFreeByRestores : Type 0
-ResolvesFreeByRestores = (x : Noted) (h : List Noted) → Lawful (x ∷ h) → (k : Cycle) → x.entry.made.op ≡ op.Resolve k → FreesByRestores (end_of h).managed.managed (restores_in h) (bare_told x.told) k.0
+ResolvesFreeByRestores = (x : Noted) (h : List Noted) → Lawful (x ∷ h) → (k : Cycle)
+    → x.entry.made.op ≡ op.Resolve k → FreesByRestores (end_of h).managed.managed (restores_in h) (bare_told x.told) k.0
 
 -- so a resolve frees, of its candidates, exactly those whose restore in the past answered cleared
 abbrev pub ResolvesFreeCleared : Type 0
-ResolvesFreeCleared = (x : Noted) (h : List Noted) → Lawful (x ∷ h) → (k : Cycle) → x.entry.made.op ≡ op.Resolve k → (answers : List Answer) (freed : List ℕ) → bare_told x.told ≡ resolution_of answers freed
-    → (i g m : ℕ) (a : Answer) → slice_get (restores_in h) i ≡ Some (g, a) → slice_get (candidates_of (end_of h).managed.managed) i ≡ Some m → Contains freed m ↔ (a ≡ said_cleared)
+ResolvesFreeCleared = (x : Noted) (h : List Noted) → Lawful (x ∷ h) → (k : Cycle) → x.entry.made.op ≡ op.Resolve k
+    → (answers : List Answer) (freed : List ℕ) → bare_told x.told ≡ resolution_of answers freed
+    → (i g m : ℕ) (a : Answer) → slice_get (restores_in h) i ≡ Some (g, a)
+    → slice_get (candidates_of (end_of h).managed.managed) i ≡ Some m → Contains freed m ↔ (a ≡ said_cleared)
 
 -- a restore that answered alive ends in the new handle of its row: after the resolve the candidate holds the handle
 -- that it gave
 abbrev pub RestoredHoldTheNew : Type 0
-RestoredHoldTheNew = (x : Noted) (h : List Noted) → Lawful (x ∷ h) → (k : Cycle) → x.entry.made.op ≡ op.Resolve k → (i g m n : ℕ) → slice_get (restores_in h) i ≡ Some (g, said_alive n) → slice_get (candidates_of (end_of h).managed.managed) i ≡ Some m → Holds (end_of (x ∷ h)).managed.managed m n
+RestoredHoldTheNew = (x : Noted) (h : List Noted) → Lawful (x ∷ h) → (k : Cycle) → x.entry.made.op ≡ op.Resolve k
+    → (i g m n : ℕ) → slice_get (restores_in h) i ≡ Some (g, said_alive n)
+    → slice_get (candidates_of (end_of h).managed.managed) i ≡ Some m → Holds (end_of (x ∷ h)).managed.managed m n
 
 -- each entry of a past stands behind a past, so each of these laws is about every entry
 pub record StandsBehind (h : List Noted) (x : Noted) : Type 0 where

@@ -1,6 +1,7 @@
 -- Lines with what is drawn beside each entry: the object to which it sets a cell, and the objects that it frees; and
 -- the pins that are kept with it.
-use Rattle.std.specs.Prelude.{◌≡◌, ℕ, ◌⊎◌, nat_eq, if◌then◌else◌, List, [], ◌∷◌, ◌++◌, map, Contains, Option, Some, None}
+use Rattle.std.specs.Prelude.{◌≡◌, ℕ, ◌⊎◌, nat_eq, if◌then◌else◌, List, [], ◌∷◌, ◌++◌, map, Contains, Option, Some}
+use Rattle.std.specs.Prelude.{None}
 use Rattle.joint_machine.specs.declared.names.MNum.{MNum}
 use Rattle.joint_machine.specs.declared.lines.Act.TheVariants as act
 use Rattle.joint_machine.specs.declared.events.Op.{Op}
@@ -16,7 +17,8 @@ use Rattle.joint_machine.specs.Told.{Noted}
 use Rattle.joint_machine.specs.PinsTold.{pins_told}
 use Rattle.known_laws.specs.Held.{open_number}
 use Rattle.known_laws.specs.Pasts.{Lawful, end_of, is_in}
-use Rattle.known_laws.specs.Growing.{Kept, entries_kept, AreKnown, AreBelow, Begin, AreLonger, AreJoined, HasGrown, untold}
+use Rattle.known_laws.specs.Growing.{Kept, entries_kept, AreKnown, AreBelow, Begin, AreLonger, AreJoined, HasGrown}
+use Rattle.known_laws.specs.Growing.{untold}
 
 -- the entry as a side draws it in a state: with the object to which it sets a cell and the objects that it frees
 abbrev pub drawn_by : {S : Type 0} → SideRules S → S → Noted → Drawn
@@ -24,7 +26,8 @@ drawn_by r s n = record { entry = n.entry; target = r.target s n.entry.made; fre
 
 -- as its own side draws it
 abbrev pub drawn : Linkage → Noted → Drawn
-drawn s n = if is_peer_event n.entry.made.caller n.entry.made.op then drawn_by peer_rules s.peer n else drawn_by managed_rules s.managed n
+drawn s n = if is_peer_event n.entry.made.caller n.entry.made.op then
+    drawn_by peer_rules s.peer n else drawn_by managed_rules s.managed n
 
 -- what a line keeps of a drawn entry
 pub record KeptDrawn : Type 0 where
@@ -55,12 +58,15 @@ NothingIsDrawn = AreDrawn (λ i. [])
 
 -- what two seats of one run have of an entry is one: its target and the objects that it frees too
 abbrev pub DrawnIsOne : Type 0
-DrawnIsOne = (whole : List Kept) (ls ms : ℕ → List KeptDrawn) (a : AreDrawn ls) (b : AreDrawn ms) → NumberedFrom 0 (entries_kept whole) → Begin whole (λ i. of_drawn (ls i)) → Begin whole (λ i. of_drawn (ms i))
-    → (i j : ℕ) (d e : KeptDrawn) → Contains (ls i) d → Contains (ms j) e → d.drawn.entry.number ≡ e.drawn.entry.number → d ≡ e
+DrawnIsOne = (whole : List Kept) (ls ms : ℕ → List KeptDrawn) (a : AreDrawn ls) (b : AreDrawn ms)
+    → NumberedFrom 0 (entries_kept whole) → Begin whole (λ i. of_drawn (ls i)) → Begin whole (λ i. of_drawn (ms i))
+    → (i j : ℕ) (d e : KeptDrawn) → Contains (ls i) d → Contains (ms j) e
+    → d.drawn.entry.number ≡ e.drawn.entry.number → d ≡ e
 
 -- the drawn lines with a further entry
 abbrev pub drawn_on : (ℕ → List KeptDrawn) → KeptDrawn → ℕ → List KeptDrawn
-drawn_on lines d i = if is_in i (untold record { entry = d.drawn.entry; pins = d.pins }) then lines i ++ d ∷ [] else lines i
+drawn_on lines d i = if is_in i (untold record { entry = d.drawn.entry; pins = d.pins })
+    then lines i ++ d ∷ [] else lines i
 
 -- the entry as it is drawn in a state, with the pins that are told
 abbrev pub kept_drawn : Linkage → Noted → KeptDrawn
@@ -70,10 +76,13 @@ kept_drawn s n = record { drawn = drawn s n; pins = pins_told n.told }
 -- known
 pub record DrawnGrow (lines : ℕ → List KeptDrawn) (past : List Noted) (n : Noted) : Type 0 where
   pub grows : HasGrown (λ i. of_drawn (lines i)) past n
-  pub told : (i : ℕ) (d : KeptDrawn) → Contains (drawn_on lines (kept_drawn (end_of past) n) i) d → IsToldIn (record { entry = n.entry; told = grows.told } ∷ past) d
+  pub told : (i : ℕ) (d : KeptDrawn) → Contains (drawn_on lines (kept_drawn (end_of past) n) i) d
+      → IsToldIn (record { entry = n.entry; told = grows.told } ∷ past) d
 
 abbrev pub DrawnLinesGrow : Type 0
-DrawnLinesGrow = (lines : ℕ → List KeptDrawn) (k : AreDrawn lines) (n : Noted) → ((i : ℕ) → AreBelow n.entry.number (of_drawn (lines i))) → Comes (is_read n.entry.made.op) (end_of k.known.past) n → DrawnGrow lines k.known.past n
+DrawnLinesGrow = (lines : ℕ → List KeptDrawn) (k : AreDrawn lines) (n : Noted)
+    → ((i : ℕ) → AreBelow n.entry.number (of_drawn (lines i)))
+    → Comes (is_read n.entry.made.op) (end_of k.known.past) n → DrawnGrow lines k.known.past n
 
 -- of each line the one or the other
 pub record AreEither (ls ms ns : ℕ → List KeptDrawn) : Type 0 where
@@ -86,7 +95,9 @@ pub record DrawnJoin (a b : List Noted) (ls ms ns : ℕ → List KeptDrawn) : Ty
   pub told : (i : ℕ) (d : KeptDrawn) → Contains (ns i) d → IsToldIn joins.joined.past d
 
 abbrev pub DrawnLinesJoin : Type 0
-DrawnLinesJoin = (whole : List Kept) (ls ms ns : ℕ → List KeptDrawn) (a : AreDrawn ls) (b : AreDrawn ms) → NumberedFrom 0 (entries_kept whole) → Begin whole (λ i. of_drawn (ls i)) → Begin whole (λ i. of_drawn (ms i)) → AreEither ls ms ns
+DrawnLinesJoin = (whole : List Kept) (ls ms ns : ℕ → List KeptDrawn) (a : AreDrawn ls) (b : AreDrawn ms)
+    → NumberedFrom 0 (entries_kept whole) → Begin whole (λ i. of_drawn (ls i))
+    → Begin whole (λ i. of_drawn (ms i)) → AreEither ls ms ns
     → DrawnJoin a.known.past b.known.past ls ms ns
 
 -- the objects that the entries of a past are drawn with as freed, earliest first

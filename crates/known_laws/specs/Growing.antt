@@ -70,12 +70,16 @@ pub record HasGrown (lines : ℕ → List Kept) (past : List Noted) (n : Noted) 
   pub alike : TellsPlainly (end_of past).control.stand n.entry.made.op (bare_told n.told) → told ≡ n.told
   pub pins : pins_told told ≡ pins_told n.told
   pub freed : objects_freed (bare_told told) ≡ objects_freed (bare_told n.told)
-  pub managed : (past_after (end_of past) (record { entry = n.entry; told = told })).managed ≡ (past_after (end_of past) n).managed
-  pub peer : (past_after (end_of past) (record { entry = n.entry; told = told })).peer ≡ (past_after (end_of past) n).peer
+  pub managed : (past_after (end_of past) (record { entry = n.entry; told = told })).managed
+      ≡ (past_after (end_of past) n).managed
+  pub peer : (past_after (end_of past) (record { entry = n.entry; told = told })).peer
+      ≡ (past_after (end_of past) n).peer
 
 -- an entry of any list may be added that may come after the past and whose number is above all that is known
 abbrev pub KnownLinesGrow : Type 0
-KnownLinesGrow = (lines : ℕ → List Kept) (k : AreKnown lines) (n : Noted) → ((i : ℕ) → AreBelow n.entry.number (lines i)) → Comes (is_read n.entry.made.op) (end_of k.past) n → HasGrown lines k.past n
+KnownLinesGrow = (lines : ℕ → List Kept) (k : AreKnown lines) (n : Noted)
+    → ((i : ℕ) → AreBelow n.entry.number (lines i))
+    → Comes (is_read n.entry.made.op) (end_of k.past) n → HasGrown lines k.past n
 
 -- the lines are beginnings of those of the whole
 abbrev pub Begin : List Kept → (ℕ → List Kept) → Type 0
@@ -102,7 +106,9 @@ pub record AreJoined (a b : List Noted) (ls ms ns : ℕ → List Kept) : Type 0 
 
 -- two seats of one run know of each line together what the one or the other knows
 abbrev pub KnownLinesJoin : Type 0
-KnownLinesJoin = (whole : List Kept) (ls ms ns : ℕ → List Kept) (a : AreKnown ls) (b : AreKnown ms) → NumberedFrom 0 (entries_kept whole) → Begin whole ls → Begin whole ms → AreLonger ls ms ns → AreJoined a.past b.past ls ms ns
+KnownLinesJoin = (whole : List Kept) (ls ms ns : ℕ → List Kept) (a : AreKnown ls) (b : AreKnown ms)
+    → NumberedFrom 0 (entries_kept whole) → Begin whole ls → Begin whole ms
+    → AreLonger ls ms ns → AreJoined a.past b.past ls ms ns
 
 -- the managed line gives the managed side's state, the peer line the peer side's, and each caller's line what that
 -- caller does
@@ -110,8 +116,10 @@ pub record GivesParts (a b : List Noted) : Type 0 where
   pub managed : line 0 a ≡ line 0 b → (end_of a).managed ≡ (end_of b).managed
   pub peer : line 1 a ≡ line 1 b → (end_of a).peer ≡ (end_of b).peer
   pub stand : line driver_line a ≡ line driver_line b → (end_of a).control.stand ≡ (end_of b).control.stand
-  pub doing : (t : ℕ) → line (caller_line (M t)) a ≡ line (caller_line (M t)) b → doing_at (end_of a).control t ≡ doing_at (end_of b).control t
-  pub last : (t : Thread) → line (caller_line t) a ≡ line (caller_line t) b → last_line (end_of a).control t ≡ last_line (end_of b).control t
+  pub doing : (t : ℕ) → line (caller_line (M t)) a ≡ line (caller_line (M t)) b
+      → doing_at (end_of a).control t ≡ doing_at (end_of b).control t
+  pub last : (t : Thread) → line (caller_line t) a ≡ line (caller_line t) b
+      → last_line (end_of a).control t ≡ last_line (end_of b).control t
 
 -- so it is of any two pasts
 abbrev pub LinesGiveParts : Type 0
@@ -119,13 +127,16 @@ LinesGiveParts = (a b : List Noted) → GivesParts a b
 
 -- while the driver's line stays, the open cycle's dead part is what it was, whatever the others did
 abbrev pub DeadPartStays : Type 0
-DeadPartStays = (whole : List Kept) (ls ms : ℕ → List Kept) (a : AreKnown ls) (b : AreKnown ms) → NumberedFrom 0 (entries_kept whole) → Begin whole ls → Begin whole ms → ls driver_line ≡ ms driver_line
+DeadPartStays = (whole : List Kept) (ls ms : ℕ → List Kept) (a : AreKnown ls) (b : AreKnown ms)
+    → NumberedFrom 0 (entries_kept whole) → Begin whole ls → Begin whole ms → ls driver_line ≡ ms driver_line
     → HasSameDeadPart (end_of a.past).managed.managed (end_of b.past).managed.managed
 
 -- what two seats know of one mirrored cycle has the same candidates
 abbrev pub MirroredCandidatesStay : Type 0
-MirroredCandidatesStay = (whole : List Kept) (ls ms : ℕ → List Kept) (a : AreKnown ls) (b : AreKnown ms) → NumberedFrom 0 (entries_kept whole) → Begin whole ls → Begin whole ms
-    → (m n : Mirror) → (end_of a.past).peer.mirror ≡ Some m → (end_of b.past).peer.mirror ≡ Some n → m.snap ≡ n.snap → candidates_of (end_of a.past).managed.managed ≡ candidates_of (end_of b.past).managed.managed
+MirroredCandidatesStay = (whole : List Kept) (ls ms : ℕ → List Kept) (a : AreKnown ls) (b : AreKnown ms)
+    → NumberedFrom 0 (entries_kept whole) → Begin whole ls → Begin whole ms
+    → (m n : Mirror) → (end_of a.past).peer.mirror ≡ Some m → (end_of b.past).peer.mirror ≡ Some n → m.snap ≡ n.snap
+    → candidates_of (end_of a.past).managed.managed ≡ candidates_of (end_of b.past).managed.managed
 
 -- the state after the entries of a past, earliest first, and that each may come when it comes
 abbrev pub past_replayed : Linkage → List Noted → Linkage
@@ -147,4 +158,5 @@ abbrev pub AreWhole : List Kept → (ℕ → List Kept) → Type 0
 AreWhole whole lines = (i : ℕ) → lines i ≡ kept_in i whole
 
 abbrev pub KnownWholeIsHistory : Type 0
-KnownWholeIsHistory = (whole : List Kept) (lines : ℕ → List Kept) (k : AreKnown lines) → NumberedFrom 0 (entries_kept whole) → AreWhole whole lines → IsTurnedPast whole k.past
+KnownWholeIsHistory = (whole : List Kept) (lines : ℕ → List Kept) (k : AreKnown lines)
+    → NumberedFrom 0 (entries_kept whole) → AreWhole whole lines → IsTurnedPast whole k.past

@@ -28,11 +28,13 @@ pub record IsHeld (h : List Noted) (r m : ℕ) : Type 0 where
   pub from : ℕ
   pub alive : (x : Noted) → InPast h x → x.entry.number < from → FreesObject (bare_told x.told) m → ⊥
   pub closed : (end_of (those_below from h)).managed.managed.cycle ≡ None
-  pub kept : (x : Noted) → InPast h x → from ≤ x.entry.number → (k : Cycle) → x.entry.made.op ≡ op.Snap k → slot (pins_told x.told) r ≡ Some m
+  pub kept : (x : Noted) → InPast h x → from ≤ x.entry.number → (k : Cycle)
+      → x.entry.made.op ≡ op.Snap k → slot (pins_told x.told) r ≡ Some m
 
 -- pins in which each object has been held stand
 abbrev pub HeldPinsStand : Type 0
-HeldPinsStand = (h : List Noted) (pins : List (Option ℕ)) → Lawful h → ((r m : ℕ) → slot pins r ≡ Some m → IsHeld h r m) → PinsStand (end_of h).managed.managed pins
+HeldPinsStand = (h : List Noted) (pins : List (Option ℕ)) → Lawful h
+    → ((r m : ℕ) → slot pins r ≡ Some m → IsHeld h r m) → PinsStand (end_of h).managed.managed pins
 
 -- what a reader answers that finds so of its own pin, of the gate and of the cell's word: a filled pin alone decides,
 -- then a held gate, and then the word, 0 for unset, 1 for gone and else the object's number and 1
@@ -59,4 +61,5 @@ word_by s (Some m) = if is_freed s.heap m then gone else object m
 
 -- so a reader that finds of each what the managed objects say answers as the one machine does
 abbrev pub ReadsAreExact : Type 0
-ReadsAreExact = (s : Managed) (t k : ℕ) → answers_by (slot s.pins t) (open_number s.cycle) (word_by s (slot s.cells k)) ≡ (read_cell s t k).reply
+ReadsAreExact = (s : Managed) (t k : ℕ)
+    → answers_by (slot s.pins t) (open_number s.cycle) (word_by s (slot s.cells k)) ≡ (read_cell s t k).reply

@@ -52,12 +52,15 @@ pub record MayComeLater (next : ℕ) (s : Linkage) (n : Noted) : Type 0 where
 abbrev pub managed_past : ManagedReplay → Made → Told → Bool → Bool → ManagedReplay
 managed_past s m told true read = s
 managed_past s m told false true = s
-managed_past s m told false false = with_pins (managed_answer (with_pins s (pins_told told)) m.caller m.op (bare_told told)).state no_pins
+managed_past s m told false false = with_pins
+    (managed_answer (with_pins s (pins_told told)) m.caller m.op (bare_told told)).state no_pins
 
 -- the state after an entry of a past: a reader's changes its caller's control alone
 abbrev pub past_after : Linkage → Noted → Linkage
 past_after s n = record {
-  managed = managed_past s.managed n.entry.made n.told (is_peer_event n.entry.made.caller n.entry.made.op) (is_read n.entry.made.op);
+  managed = managed_past s.managed n.entry.made n.told
+      (is_peer_event n.entry.made.caller n.entry.made.op) (is_read n.entry.made.op);
   peer = peer_after s.peer n.entry.made (bare_told n.told) (is_peer_event n.entry.made.caller n.entry.made.op);
-  control = control_after s.control n.entry.made.caller n.entry.number n.entry.made.index n.entry.made.op n.entry.made.reply (bare_told n.told);
+  control = control_after s.control n.entry.made.caller n.entry.number
+      n.entry.made.index n.entry.made.op n.entry.made.reply (bare_told n.told);
 }

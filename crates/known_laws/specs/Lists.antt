@@ -33,5 +33,7 @@ made_by t es = filter (λ e. is_thread e.made.caller t) es
 
 -- once both sides' lines are known whole, the whole line of a thread has exactly the entries that this thread made
 abbrev pub OwnLineIsMadeByCaller : Type 0
-OwnLineIsMadeByCaller = (whole : List Kept) (lines : ℕ → List Kept) → AreKnown lines → NumberedFrom 0 (entries_kept whole) → AreWhole whole lines
-    → (t : Thread) → IsThread t → lines (caller_line t) ≡ kept_in (caller_line t) whole → entries_kept (lines (caller_line t)) ≡ made_by t (entries_kept whole)
+OwnLineIsMadeByCaller = (whole : List Kept) (lines : ℕ → List Kept)
+    → AreKnown lines → NumberedFrom 0 (entries_kept whole) → AreWhole whole lines
+    → (t : Thread) → IsThread t → lines (caller_line t) ≡ kept_in (caller_line t) whole
+    → entries_kept (lines (caller_line t)) ≡ made_by t (entries_kept whole)

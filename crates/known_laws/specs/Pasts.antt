@@ -68,24 +68,30 @@ Within whole h = (i : ℕ) → IsPrefix (line i h) (of_line i whole)
 pub record HasSameDeadPart (s t : Managed) : Type 0 where
   pub cycle : s.cycle ≡ t.cycle
   pub handles : (c : OpenCycle) → s.cycle ≡ Some c → (m : ℕ) → Contains c.dead m → handle_of s m ≡ handle_of t m
-  pub fields : (c : OpenCycle) → s.cycle ≡ Some c → (m : ℕ) → Contains c.dead m → fields_of s.heap m ≡ fields_of t.heap m
-  pub contraction : (c : OpenCycle) → s.cycle ≡ Some c → (comps : List (List ℕ)) (heavy : List ℕ) (xrefs : List (ℕ × ℕ)) → IsDeadContraction s c.dead comps heavy xrefs → IsDeadContraction t c.dead comps heavy xrefs
+  pub fields : (c : OpenCycle) → s.cycle ≡ Some c → (m : ℕ)
+      → Contains c.dead m → fields_of s.heap m ≡ fields_of t.heap m
+  pub contraction : (c : OpenCycle) → s.cycle ≡ Some c → (comps : List (List ℕ)) (heavy : List ℕ) (xrefs : List (ℕ × ℕ))
+      → IsDeadContraction s c.dead comps heavy xrefs → IsDeadContraction t c.dead comps heavy xrefs
 
 -- two states have the same for the driver: the candidates, their handles, and where the mirror edges lead
 pub record IsSameForDriver (s t : Linkage) : Type 0 where
   pub candidates : candidates_of s.managed.managed ≡ candidates_of t.managed.managed
   pub handles : (i h : ℕ) → IsCandidateHandle s.managed.managed i h → IsCandidateHandle t.managed.managed i h
-  pub edges : (o : OpenSnap) (comps : List (List ℕ)) (heavy : List ℕ) (xrefs : List (ℕ × ℕ)) (issued : List Issued) → t.control.stand ≡ contracted o comps heavy xrefs
-      → carried_edges s.managed.managed issued (mirror_edges comps xrefs) ≡ carried_edges t.managed.managed issued (mirror_edges comps xrefs)
+  pub edges : (o : OpenSnap) (comps : List (List ℕ)) (heavy : List ℕ) (xrefs : List (ℕ × ℕ)) (issued : List Issued)
+      → t.control.stand ≡ contracted o comps heavy xrefs
+      → carried_edges s.managed.managed issued
+      (mirror_edges comps xrefs) ≡ carried_edges t.managed.managed issued (mirror_edges comps xrefs)
 
 -- the open cycle's dead part is frozen: two pasts in which the driver did the same have the same for the driver
 abbrev pub IsFrozenIn : List Noted → Type 0
-IsFrozenIn whole = (a b : List Noted) → Lawful a → Lawful b → Within whole a → Within whole b → line driver_line a ≡ line driver_line b → IsSameForDriver (end_of a) (end_of b)
+IsFrozenIn whole = (a b : List Noted) → Lawful a → Lawful b → Within whole a → Within whole b
+    → line driver_line a ≡ line driver_line b → IsSameForDriver (end_of a) (end_of b)
 
 -- an entry that may come after one past of a run may come after another that has the same line of its list and of its
 -- caller
 abbrev pub EntryMayMove : Type 0
-EntryMayMove = (whole a b : List Noted) → Lawful a → Lawful b → Within whole a → Within whole b → (x : Noted) → line (role_of x) a ≡ line (role_of x) b → line (own_of x) a ≡ line (own_of x) b
+EntryMayMove = (whole a b : List Noted) → Lawful a → Lawful b → Within whole a → Within whole b
+    → (x : Noted) → line (role_of x) a ≡ line (role_of x) b → line (own_of x) a ≡ line (own_of x) b
     → next_of b ≤ x.entry.number → MayComeLater (next_of a) (end_of a) x → MayComeLater (next_of b) (end_of b) x
 
 -- what two pasts of one run know together is a past of it
@@ -98,11 +104,13 @@ pub record Joined (a b : List Noted) : Type 0 where
 
 -- two pasts of one run join, where the open cycle is frozen
 abbrev pub PastsJoin : Type 0
-PastsJoin = (whole a b : List Noted) → PastRunsFrom 0 whole → IsFrozenIn whole → Lawful a → Lawful b → Within whole a → Within whole b → Joined a b
+PastsJoin = (whole a b : List Noted) → PastRunsFrom 0 whole → IsFrozenIn whole
+    → Lawful a → Lawful b → Within whole a → Within whole b → Joined a b
 
 -- in any run
 abbrev pub KnownPastsJoin : Type 0
-KnownPastsJoin = (whole a b : List Noted) → PastRunsFrom 0 whole → Lawful a → Lawful b → Within whole a → Within whole b → Joined a b
+KnownPastsJoin = (whole a b : List Noted) → PastRunsFrom 0 whole
+    → Lawful a → Lawful b → Within whole a → Within whole b → Joined a b
 
 -- a note of which nothing is told but the pins
 abbrev pub bare : Noted → Noted
@@ -118,8 +126,10 @@ AreAlike a b = (x y : Noted) → InPast a x → InPast b y → x.entry.number �
 
 -- so are any two pasts of one run of entries
 abbrev pub PastsAgree : Type 0
-PastsAgree = (whole a b : List Noted) → PastRunsFrom 0 whole → Lawful a → Lawful b → AreWithin whole a → AreWithin whole b → AreAlike a b
+PastsAgree = (whole a b : List Noted) → PastRunsFrom 0 whole → Lawful a
+    → Lawful b → AreWithin whole a → AreWithin whole b → AreAlike a b
 
 -- of two pasts whose entries are those of one run
 abbrev pub EntryPastsJoin : Type 0
-EntryPastsJoin = (whole a b : List Noted) → PastRunsFrom 0 whole → Lawful a → Lawful b → AreWithin whole a → AreWithin whole b → Joined a b
+EntryPastsJoin = (whole a b : List Noted) → PastRunsFrom 0 whole
+    → Lawful a → Lawful b → AreWithin whole a → AreWithin whole b → Joined a b

@@ -27,13 +27,16 @@ ArePinsOf pins t o told = Unit {0}
 
 -- what the order promises of an entry that stands behind a past with this state, where the reads and takes before it
 -- leave these pins: the pins that are told with it are these, and a read has the reply that whole histories allow
-pub record IsAsOrdered (whole : List Noted) (cells : List (Option ℕ)) (s : Linkage) (pins : List (Option ℕ)) (n : Noted) : Type 0 where
+pub record IsAsOrdered (whole : List Noted) (cells : List (Option ℕ))
+    (s : Linkage) (pins : List (Option ℕ)) (n : Noted) : Type 0 where
   pub kept : ArePinsOf pins n.entry.made.caller n.entry.made.op n.told
-  pub reply : is_read n.entry.made.op ≡ true → (k : ℕ) → ReadsCell n.entry.made.op k → IsReadReply whole cells (pinned s pins).managed.managed n.entry.number n.entry.made.caller k n.entry.made.reply
+  pub reply : is_read n.entry.made.op ≡ true → (k : ℕ) → ReadsCell n.entry.made.op k
+      → IsReadReply whole cells (pinned s pins).managed.managed n.entry.number n.entry.made.caller k n.entry.made.reply
 
 abbrev pub AllOrdered : List Noted → List (Option ℕ) → Linkage → List (Option ℕ) → List Noted → Type 0
 AllOrdered whole cells s pins [] = Unit {0}
-AllOrdered whole cells s pins (n ∷ ns) = IsAsOrdered whole cells s pins n × AllOrdered whole cells (past_after s n) (pins_by pins n.entry.made.caller n.entry.made.op n.entry.made.reply) ns
+AllOrdered whole cells s pins (n ∷ ns) = IsAsOrdered whole cells s pins n
+    × AllOrdered whole cells (past_after s n) (pins_by pins n.entry.made.caller n.entry.made.op n.entry.made.reply) ns
 
 -- the entries of a past, earliest first, without the pins that were told
 abbrev pub history_of : List Noted → List Noted
@@ -46,14 +49,16 @@ pub record IsReadList (whole : List Noted) (cells : List (Option ℕ)) (ns : Lis
   pub ends : replayed_reading opening_linkage (map without_pins ns) ≡ pinned (past_replayed opening_linkage ns) pins
 
 abbrev pub PastsAreReadLists : Type 0
-PastsAreReadLists = (whole : List Noted) (cells : List (Option ℕ)) (ns : List Noted) → AllCome opening_linkage ns → AllOrdered whole cells opening_linkage no_pins ns → IsReadList whole cells ns
+PastsAreReadLists = (whole : List Noted) (cells : List (Option ℕ)) (ns : List Noted)
+    → AllCome opening_linkage ns → AllOrdered whole cells opening_linkage no_pins ns → IsReadList whole cells ns
 
 -- nothing has to follow, and the freed lists and notices are the sides'
 pub record HasEnded (h : Finished) (s : Linkage) : Type 0 where
   pub whole : IsWhole s
   pub freed_managed : managed_numbers h.freed_managed ≡ s.managed.managed.heap.freed
   pub freed_peers : peer_numbers h.freed_peers ≡ s.peer.peers.heap.freed
-  pub notices : take s.managed.managed.taken (managed_numbers h.notices) ≡ take s.managed.managed.taken s.managed.managed.notices
+  pub notices : take s.managed.managed.taken
+      (managed_numbers h.notices) ≡ take s.managed.managed.taken s.managed.managed.notices
 
 -- so a past that has ended so, with all lines whole, makes the history linked by its notes, as the order promises it of
 -- each entry; and the history ends in the past's state, but for the pins
@@ -63,5 +68,7 @@ pub record IsLinkedPast (h : Finished) (past : List Noted) : Type 0 where
   pub ends : linked_end (history_of past) ≡ pinned (end_of past) pins
 
 abbrev pub KnownWholeIsLinked : Type 0
-KnownWholeIsLinked = (h : Finished) (whole : List Kept) (lines : ℕ → List Kept) (k : AreKnown lines) → entries_kept whole ≡ h.entries → NumberedFrom 0 h.entries → AreWhole whole lines
-    → AllOrdered (history_of k.past) (end_of k.past).managed.managed.cells opening_linkage no_pins (turned [] k.past) → HasEnded h (end_of k.past) → IsLinkedPast h k.past
+KnownWholeIsLinked = (h : Finished) (whole : List Kept) (lines : ℕ → List Kept) (k : AreKnown lines)
+    → entries_kept whole ≡ h.entries → NumberedFrom 0 h.entries → AreWhole whole lines
+    → AllOrdered (history_of k.past) (end_of k.past).managed.managed.cells opening_linkage no_pins (turned [] k.past)
+    → HasEnded h (end_of k.past) → IsLinkedPast h k.past

@@ -22,7 +22,14 @@ use Rattle.known_laws.specs.Pasts.{is_in, line}
 
 -- an entry with what is told beside it
 abbrev pub note : ℕ → Thread → ℕ → Op → Reply → Option ℕ → Told → Noted
-note number t index o reply cites told = record { entry = record { number = number; made = record { caller = t; index = index; op = o; reply = reply; cites = cites } }; told = told }
+note number t index o reply cites told =
+    record {
+      entry = record {
+        number = number;
+        made = record { caller = t; index = index; op = o; reply = reply; cites = cites };
+      };
+      told = told;
+    }
 
 -- m1 lets its variable a go
 abbrev pub a_drop : ℕ → Noted
@@ -34,11 +41,13 @@ a_peer_drop number = note number (P 1) 1 (op.Line (act.Drop record { 0 = 0 })) s
 
 -- the driver opens cycle 1 where nothing is
 abbrev pub a_snap : Noted
-a_snap = note 0 C 1 (op.Snap record { 0 = 1 }) (says.Snapped 0 record { first = 0; count = 0 }) None (kept_pins no_pins (snap_of [] [] []))
+a_snap = note 0 C 1 (op.Snap record { 0 = 1 })
+    (says.Snapped 0 record { first = 0; count = 0 }) None (kept_pins no_pins (snap_of [] [] []))
 
 -- m1 takes what its pin is said to hold, object 1, where no object was ever made
 abbrev pub a_take : Noted
-a_take = note 0 (M 1) 1 (op.Line (act.Take record { 0 = 0 })) (says.M record { 0 = 1 }) None (kept_pins (None ∷ Some 1 ∷ []) nothing)
+a_take = note 0 (M 1) 1 (op.Line (act.Take record { 0 = 0 }))
+    (says.M record { 0 = 1 }) None (kept_pins (None ∷ Some 1 ∷ []) nothing)
 
 -- m1 reads a cell that was never set, and says that its object is gone
 abbrev pub a_read : Noted
@@ -70,7 +79,10 @@ turned_numbers = shown (a_peer_drop 5) ∷ shown (a_drop 3) ∷ []
 
 -- an entry that is drawn with a target which it doesn't have
 abbrev pub wrongly_drawn : KeptDrawn
-wrongly_drawn = record { drawn = record { entry = (a_drop 0).entry; target = Some record { 0 = 1 }; freed = [] }; pins = no_pins }
+wrongly_drawn = record {
+  drawn = record { entry = (a_drop 0).entry; target = Some record { 0 = 1 }; freed = [] };
+  pins = no_pins;
+}
 
 -- the lines of that entry alone
 abbrev pub wrong_lines : ℕ → List KeptDrawn
@@ -79,8 +91,16 @@ wrong_lines i = if is_in i (a_drop 0) then wrongly_drawn ∷ [] else []
 -- cycle 1 is mirrored and has no candidate
 abbrev pub without_candidates : Linkage
 without_candidates = record {
-  managed = record opening_replay { managed = record opening_managed { cycle = Some record { number = 1; candidates = []; dead = [] }; cycles = 1 }; contracted = true };
-  peer = record opening_peer_replay { mirror = Some record { cycle = 1; snap = 0; weakened = []; restored = []; renewed = [] }; mirrors = 1 ∷ [] };
+  managed = record opening_replay {
+    managed = record opening_managed
+        { cycle = Some record { number = 1; candidates = []; dead = [] }; cycles = 1 };
+    contracted = true;
+  };
+  peer = record opening_peer_replay {
+    mirror = Some
+        record { cycle = 1; snap = 0; weakened = []; restored = []; renewed = [] };
+    mirrors = 1 ∷ [];
+  };
   control = record opening_control { stand = weakening record { cycle = 1; snap = 0 } 0 false false };
 }
 

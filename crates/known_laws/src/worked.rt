@@ -15,14 +15,17 @@ ghost use Rattle.known_laws.specs.Drawn.{AreDrawn};
 ghost use Rattle.known_laws.specs.Growing.{AreKnown, IsTurnedPast, entries_kept, grown, kept_in, shown};
 ghost use Rattle.known_laws.specs.Known.{Comes};
 ghost use Rattle.known_laws.specs.PastEntries.{TellsPlainly};
-ghost use Rattle.known_laws.specs.Pasts.{HasSameDeadPart, Joined, Lawful, PastRunsFrom, Within, end_of, line, driver_line};
-ghost use Rattle.known_laws.specs.Worked.{a_drop, a_peer_drop, a_read, a_refusal, a_snap, a_take, lines_of, released_twice, turned_numbers, two_drops, without_candidates, wrong_lines};
+ghost use Rattle.known_laws.specs.Pasts.{HasSameDeadPart, Joined, Lawful, PastRunsFrom, Within, end_of, line};
+ghost use Rattle.known_laws.specs.Pasts.{driver_line};
+ghost use Rattle.known_laws.specs.Worked.{a_drop, a_peer_drop, a_read, a_refusal, a_snap, a_take, lines_of};
+ghost use Rattle.known_laws.specs.Worked.{released_twice, turned_numbers, two_drops, without_candidates, wrong_lines};
 
 /// Two pasts with one number for two entries are joined by none, and are pasts of no one run.
 pub fn numbers_must_differ()
     ensures one { Lawful (a_drop 5 ∷ []) }
     ensures other { Lawful (a_peer_drop 5 ∷ []) }
-    ensures no_run { (whole : List Noted) → PastRunsFrom 0 whole → Within whole (a_drop 5 ∷ []) → Within whole (a_peer_drop 5 ∷ []) → ⊥ }
+    ensures no_run { (whole : List Noted) → PastRunsFrom 0 whole
+        → Within whole (a_drop 5 ∷ []) → Within whole (a_peer_drop 5 ∷ []) → ⊥ }
     ensures no_join { Joined (a_drop 5 ∷ []) (a_peer_drop 5 ∷ []) → ⊥ }
 {}
 
@@ -54,7 +57,8 @@ pub fn refusals_must_be_told_plainly()
     ensures mirrored { MayCome without_candidates (a_refusal at.Mirrored) }
     ensures weakened { MayCome without_candidates (a_refusal at.Weakened) }
     ensures differ { phase_of at.Mirrored ≡ phase_of at.Weakened → ⊥ }
-    ensures not_plain { TellsPlainly without_candidates.control.stand (a_refusal at.Weakened).entry.made.op (phase_of at.Weakened) → ⊥ }
+    ensures not_plain { TellsPlainly without_candidates.control.stand
+        (a_refusal at.Weakened).entry.made.op (phase_of at.Weakened) → ⊥ }
 {}
 
 /// A list in which two releases cite one give is no past.
@@ -73,7 +77,8 @@ pub fn targets_must_be_told()
 pub fn calls_need_their_stand()
     ensures kept { IsPastKept opening_linkage }
     ensures release { (h : ℕ) → MayRelease opening_peer_replay h → ⊥ }
-    ensures contracted { (k : ℕ) (comps : List (List ℕ)) (heavy : List ℕ) (xrefs : List (ℕ × ℕ)) → MayContract opening_replay k comps heavy xrefs → ⊥ }
+    ensures contracted { (k : ℕ) (comps : List (List ℕ)) (heavy : List ℕ) (xrefs : List (ℕ × ℕ))
+        → MayContract opening_replay k comps heavy xrefs → ⊥ }
     ensures weaken { (h : ℕ) → MayWeaken opening_peer_replay h None → ⊥ }
     ensures restore { (h : ℕ) → MayRestore opening_peer_replay h → ⊥ }
     ensures clear { (k : ℕ) → MayClear opening_peer_replay k → ⊥ }

@@ -22,7 +22,8 @@ read-linked bytes h r f = subst IsLinked (named_is_same h r.canonical.just) ((le
 
 -- a linked history whose report is read as this one
 shown-linked : (bytes : List ℕ) (h : Finished) → length bytes < 2 ^ 32 → IsReadAs bytes h → (w : IsReportOfRun bytes (length h.entries)) → as_shown w.history ≡ h
-shown-linked bytes h few r w = one_history bytes (as_shown w.history) h (subst (λ z. IsReadAs z (as_shown w.history)) (sym w.text) (linked_is_read w.history w.linked w.value (subst (λ z. length z < 2 ^ 32) w.text few))) r
+shown-linked bytes h few r w = one_history bytes (as_shown w.history) h
+    (subst (λ z. IsReadAs z (as_shown w.history)) (sym w.text) (linked_is_read w.history w.linked w.value (subst (λ z. length z < 2 ^ 32) w.text few))) r
 
 read-legal : (bytes : List ℕ) (h : Finished) → length bytes < 2 ^ 32 → IsReadAs bytes h → IsReportOfRun bytes (length h.entries) → IsFinding h finding.Legal
 read-legal bytes h few r w =

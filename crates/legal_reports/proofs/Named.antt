@@ -31,7 +31,8 @@ all-objects e [] = omega arith
 all-objects e (x ∷ xs) =
     let first = goes-objects e x.made.reply in
     let rest : (ends_of e (x ∷ xs)).managed ≡ (ends_after e x.made.reply).managed + sum_by (λ y. objects_in y.made.reply) xs = all-objects (ends_after e x.made.reply) xs in
-    let sum : sum_by (λ (y : Entry). objects_in y.made.reply) (x ∷ xs) ≡ objects_in x.made.reply + sum_by (λ y. objects_in y.made.reply) xs = sum_by-cons (λ (y : Entry). objects_in y.made.reply) x xs in
+    let sum : sum_by (λ (y : Entry). objects_in y.made.reply) (x ∷ xs) ≡ objects_in
+    x.made.reply + sum_by (λ y. objects_in y.made.reply) xs = sum_by-cons (λ (y : Entry). objects_in y.made.reply) x xs in
     omega (arith, first, rest, sum)
 
 all-peers : (e : Ends) (es : List Entry) → (ends_of e es).peers ≡ e.peers + sum_by (λ x. peers_in x.made.reply) es

@@ -9,8 +9,10 @@ use Rattle.legal_reports.specs.Reports.{IsReportOfRun}
 
 -- the history that bytes are read as is legal exactly where they are such a report
 abbrev pub LegalIsReport : Type 0
-LegalIsReport = (bytes : List ℕ) (h : Finished) → length bytes < 2 ^ 32 → IsReadAs bytes h → IsFinding h finding.Legal ↔ IsReportOfRun bytes (length h.entries)
+LegalIsReport = (bytes : List ℕ) (h : Finished) → length bytes < 2 ^ 32
+    → IsReadAs bytes h → IsFinding h finding.Legal ↔ IsReportOfRun bytes (length h.entries)
 
 -- so whatever it is found to be, that is legal exactly there
 abbrev pub FoundLegalIsReport : Type 0
-FoundLegalIsReport = (bytes : List ℕ) (h : Finished) (f : Finding) → length bytes < 2 ^ 32 → IsReadAs bytes h → IsFinding h f → (f ≡ finding.Legal) ↔ IsReportOfRun bytes (length h.entries)
+FoundLegalIsReport = (bytes : List ℕ) (h : Finished) (f : Finding) → length bytes < 2 ^ 32
+    → IsReadAs bytes h → IsFinding h f → (f ≡ finding.Legal) ↔ IsReportOfRun bytes (length h.entries)

@@ -79,7 +79,8 @@ module _ (most : ℕ) (bytes before : List ℕ) (cut : IsFrontOf most bytes befo
       let lines = ap lines_in same ∙ of-front k.texts true k.lines in
       record { before = before; cut = cut; texts = k.texts; lines = k.lines; ended = true; same = same; number_is = omega (arith, c, lines) }
 
-  pub answered : (fault : ReportFault) (count : ℕ) (result : TakeError) → count ≡ lines_in before → IsReportFault before fault → (fault.line ≤ count → result ≡ Refused fault) → (count < fault.line → result ≡ Long fault.line) → IsLongRefusal most bytes result
+  pub answered : (fault : ReportFault) (count : ℕ) (result : TakeError) → count ≡ lines_in before → IsReportFault before fault
+      → (fault.line ≤ count → result ≡ Refused fault) → (count < fault.line → result ≡ Long fault.line) → IsLongRefusal most bytes result
   answered fault count result c f here behind = elim (cases_lt count fault.line) [
     | inl l ↦ subst (IsLongRefusal most bytes) (sym (behind l)) (none-wrong fault (omega (arith, c, l)) f)
     | inr l ↦ subst (IsLongRefusal most bytes) (sym (here l)) (fault-before fault (omega (arith, c, l)) f)

@@ -35,7 +35,8 @@ pub record IsWrongReport (most : ℕ) (bytes : List ℕ) (fault : ReportFault) :
 abbrev pub IsNoneWithin : ℕ → List ℕ → TakeError → Type 0
 IsNoneWithin most bytes OutOfMemory = Unit {0}
 IsNoneWithin most bytes ReadFault = ⊥
-IsNoneWithin most bytes (Refused fault) = IsWrongReport most bytes fault ⊎ ((most < length bytes) × IsFaultBefore most bytes fault)
+IsNoneWithin most bytes (Refused fault) = IsWrongReport most bytes fault
+    ⊎ ((most < length bytes) × IsFaultBefore most bytes fault)
 IsNoneWithin most bytes (Long line) = (most < length bytes) × IsLongLine most bytes line
 
 -- the source was read to its end or up to one byte past the limit, and what was taken gives no report

@@ -83,7 +83,8 @@ pub fn read_within(alloc: Global, bytes: &[u8], most: usize) -> Result<History, 
 pub fn take_report<S: Source>(alloc: Global, src: &mut S, most: usize) -> Result<History, TakeError>
     requires { most < 4294967294 }
     ensures ok { IfOk result (λ h. TookReport most (S.left src.old) (S.left src.new) h) }
-    ensures err { IfErr result (λ error. TookNone most (S.left src.old) (S.left src.new) (S.faults src.old) (S.faults src.new) error) }
+    ensures err { IfErr result (λ error. TookNone most (S.left src.old)
+        (S.left src.new) (S.faults src.old) (S.faults src.new) error) }
     ensures later { S.faults src.old ≤ S.faults src.new }
 {
     match read_up_to(alloc, src, most) {

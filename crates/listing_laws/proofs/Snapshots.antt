@@ -65,7 +65,8 @@ phase_is_none n word.Mark es d a = ⊎_elim
     (λ t. ap snaps_of t.all ∙ (none_first t.sweep (t.begin ∷ []) (ap is_snap t.sweeps) ∙ none_first t.begin [] (event_is_none word.Mark t.begin.made.op d t.begins)))
     a
 phase_is_none n word.Restore es d a =
-    ap snaps_of a.all ∙ (snaps-append a.restores (a.clear ∷ []) ∙ (ap (λ l. l ++ snaps_of (a.clear ∷ [])) (each_is_none word.Restore a.restores d a.times.each) ∙ none_first a.clear [] (clear_is_none a.clear.made.op a.clears)))
+    ap snaps_of a.all ∙ (snaps-append a.restores (a.clear ∷ [])
+    ∙ (ap (λ l. l ++ snaps_of (a.clear ∷ [])) (each_is_none word.Restore a.restores d a.times.each) ∙ none_first a.clear [] (clear_is_none a.clear.made.op a.clears)))
 phase_is_none n word.Weaken es d a = each_is_none word.Weaken es d a.each
 phase_is_none n word.Cycle es d a = each_is_none word.Cycle es d a.each
 phase_is_none n word.Contract es d a = each_is_none word.Contract es d a.each
@@ -152,7 +153,8 @@ all_are whole cells s [] a = tt
 all_are whole cells s (n ∷ ns) a =
     (snap_is_the_drivers n.entry.made.caller n.entry.made.op (event_of whole cells s n (is_read n.entry.made.op) a.0), all_are whole cells (entry_after s n) ns a.1)
 
-one_of_the_driver : (e : Entry) (es : List Entry) → (is_snap e.made.op ≡ true → is_thread e.made.caller C ≡ true) → snaps_of (made_by C es) ≡ snaps_of es → snaps_of (made_by C (e ∷ es)) ≡ snaps_of (e ∷ es)
+one_of_the_driver : (e : Entry) (es : List Entry) → (is_snap e.made.op ≡ true → is_thread e.made.caller C ≡ true)
+    → snaps_of (made_by C es) ≡ snaps_of es → snaps_of (made_by C (e ∷ es)) ≡ snaps_of (e ∷ es)
 one_of_the_driver e es a rest = by (is_thread e.made.caller C) refl
   where
     chosen : Bool → List Entry

@@ -28,10 +28,12 @@ pub goes_nowhere : {E : Type 0} (held : Option (List ℕ)) (f : ℕ) (r : Result
 goes_nowhere {E} held f r start first ls w = let F : List Listed → Type 0 = λ l. Writes {E = E} start held first f r (cycles_text l) in subst F (sym (append-nil ls)) w
 
 -- the lines of one cycle more were, or the sink failed in them
-pub goes_one : {E : Type 0} (held now : Option (List ℕ)) (f g : ℕ) (u : Unit {0}) (r : Result (Unit {0}) E) (c : Listed) → Writes {E = E} held now f g r (cycle_lines c) → GoesOn {E = E} held now f g (Ok u) r (c ∷ [])
+pub goes_one : {E : Type 0} (held now : Option (List ℕ)) (f g : ℕ) (u : Unit {0}) (r : Result (Unit {0}) E) (c : Listed)
+    → Writes {E = E} held now f g r (cycle_lines c) → GoesOn {E = E} held now f g (Ok u) r (c ∷ [])
 goes_one {E} held now f g u r c v start first ls w =
     let F : List ℕ → Type 0 = λ t. Writes {E = E} start now first g r t in
-    subst F (sym (cycles-append ls (c ∷ []) ∙ ap (λ t. cycles_text ls ++ t) (append-nil (cycle_lines c)))) (Writes-after start held now first f g r (cycles_text ls) (cycle_lines c) w.whole w.cause.later v)
+    subst F (sym (cycles-append ls (c ∷ []) ∙ ap (λ t. cycles_text ls ++ t) (append-nil (cycle_lines c))))
+    (Writes-after start held now first f g r (cycles_text ls) (cycle_lines c) w.whole w.cause.later v)
 
 -- after a failure nothing more is
 pub goes_failed : {E : Type 0} (held : Option (List ℕ)) (f : ℕ) (e : E) (cs : List Listed) → GoesOn {E = E} held held f f (Err e) (Err e) cs
@@ -44,7 +46,8 @@ wrote_none n r held f = record { goes_on = goes_nowhere held f r; counted = omeg
 
 pub wrote_then : WritingGoesOn
 wrote_then a b c r s t held mid now f g h cs ds p q = record {
-  goes_on = λ start first ls w. let F : List Listed → Type 0 = λ l. Writes {E = Failed} start now first h t (cycles_text l) in subst F (append_assoc ls cs ds) (q.goes_on start first (ls ++ cs) (p.goes_on start first ls w));
+  goes_on = λ start first ls w. let F : List Listed → Type 0 = λ l. Writes {E = Failed} start now first h t (cycles_text l) in
+      subst F (append_assoc ls cs ds) (q.goes_on start first (ls ++ cs) (p.goes_on start first ls w));
   counted = (let x = p.counted in let y = q.counted in omega (arith, x, y, length-append cs ds));
 }
 
@@ -59,10 +62,12 @@ part_of a b f g (Ok u) x w = record { part = x; rest = []; whole = sym (append-n
 part_of a b f g (Err e) x w = w.part
 
 -- the last line behind all cycles, or nothing behind a failure
-pub ends_listing : {E : Type 0} (held now : Option (List ℕ)) (f g k : ℕ) (u : Unit {0}) (r : Result (Unit {0}) E) (start : Option (List ℕ)) (cs : List Listed) (n : ℕ) → n ≡ length cs → Writes {E = E} start held f g (Ok u) (cycles_text cs) → Writes {E = E} held now g k r (end_text n) → Writes {E = E} start now f k r (listing_text cs)
+pub ends_listing : {E : Type 0} (held now : Option (List ℕ)) (f g k : ℕ) (u : Unit {0}) (r : Result (Unit {0}) E) (start : Option (List ℕ)) (cs : List Listed) (n : ℕ)
+    → n ≡ length cs → Writes {E = E} start held f g (Ok u) (cycles_text cs) → Writes {E = E} held now g k r (end_text n) → Writes {E = E} start now f k r (listing_text cs)
 ends_listing {E} held now f g k u r start cs n e w v =
     let F : ℕ → Type 0 = λ m. Writes {E = E} start now f k r (cycles_text cs ++ end_text m) in
     subst F e (Writes-after start held now f g k r (cycles_text cs) (end_text n) w.whole w.cause.later v)
 
-pub ends_failed : {E : Type 0} (held : Option (List ℕ)) (f g : ℕ) (e : E) (start : Option (List ℕ)) (cs : List Listed) → Writes {E = E} start held f g (Err e) (cycles_text cs) → Writes {E = E} start held f g (Err e) (listing_text cs)
+pub ends_failed : {E : Type 0} (held : Option (List ℕ)) (f g : ℕ) (e : E) (start : Option (List ℕ)) (cs : List Listed)
+    → Writes {E = E} start held f g (Err e) (cycles_text cs) → Writes {E = E} start held f g (Err e) (listing_text cs)
 ends_failed held f g e start cs w = Writes-short start held f g e (cycles_text cs) (end_text (length cs)) w

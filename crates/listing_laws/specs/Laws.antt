@@ -29,18 +29,21 @@ abbrev pub SnapsAreTheDrivers : Type 0
 SnapsAreTheDrivers = (h : Finished) → IsLinked h → snaps_of (made_by C h.entries) ≡ snaps_of h.entries
 
 abbrev pub LinesOpenNone : Type 0
-LinesOpenNone = (s : Standing) (number : ℕ) (a : Act) (es : List Entry) → OpensNone a s.phase → AreLine s number (C, a) es → snaps_of es ≡ []
+LinesOpenNone = (s : Standing) (number : ℕ) (a : Act) (es : List Entry)
+    → OpensNone a s.phase → AreLine s number (C, a) es → snaps_of es ≡ []
 
 abbrev pub LeftPhasesOpenNone : Type 0
 LeftPhasesOpenNone = (n : ℕ) (phase : Phase) (es : List Entry) → ArePhases n (phases_left phase) es → snaps_of es ≡ []
 
 -- a driver whose last entry is a snapshot has its cycle open
 abbrev pub LastSnapIsOpen : Type 0
-LastSnapIsOpen = (past : List Noted) (before : List Entry) (e : Entry) (k : Cycle) → Lawful past → entries (line driver_line past) ≡ before ++ e ∷ []
+LastSnapIsOpen = (past : List Noted) (before : List Entry) (e : Entry) (k : Cycle)
+    → Lawful past → entries (line driver_line past) ≡ before ++ e ∷ []
     → e.made.op ≡ op.Snap k → opened_of (end_of past).control.stand ≡ Some record { cycle = k.0; snap = e.number }
 
 abbrev pub SeenStaysSeen : Type 0
-SeenStaysSeen = (lines more : ℕ → List Kept) (snaps : List Entry) (cycles : List Listed) → ((i : ℕ) → IsPrefix (lines i) (more i))
+SeenStaysSeen = (lines more : ℕ → List Kept) (snaps : List Entry) (cycles : List Listed)
+    → ((i : ℕ) → IsPrefix (lines i) (more i))
     → AreSeen lines snaps cycles → AreSeen more snaps cycles
 
 -- the states that the snapshots of a history leave are one, whatever notes link it
@@ -55,5 +58,6 @@ SeenIsListed = (h : Finished) (past : List Noted) (cycles : List Listed) → Law
     → AreSeen (λ i. all_shown (line i past)) (snaps_of h.entries) cycles → IsListedIn h cycles
 
 abbrev pub WritingGoesOn : Type 0
-WritingGoesOn = (a b c : ℕ) (r s t : Result (Unit {0}) Failed) (held mid now : Option (List ℕ)) (f g h : ℕ) (cs ds : List Listed)
+WritingGoesOn = (a b c : ℕ) (r s t : Result (Unit {0}) Failed)
+    (held mid now : Option (List ℕ)) (f g h : ℕ) (cs ds : List Listed)
     → Wrote a b r s held mid f g cs → Wrote b c s t mid now g h ds → Wrote a c r t held now f h (cs ++ ds)

@@ -1,6 +1,7 @@
 // The laws, each the contract of a function that does nothing.
 
-ghost use Rattle.listing_laws.specs.Laws.{LastSnapIsOpen, LeftPhasesOpenNone, LinesOpenNone, SeenIsListed, SeenStaysSeen, SnapsAreTheDrivers, StatesAreOne, WritingGoesOn};
+ghost use Rattle.listing_laws.specs.Laws.{LastSnapIsOpen, LeftPhasesOpenNone, LinesOpenNone, SeenIsListed};
+ghost use Rattle.listing_laws.specs.Laws.{SeenStaysSeen, SnapsAreTheDrivers, StatesAreOne, WritingGoesOn};
 
 /// The snapshots of a linked history are those of its driver, in order. A line of the driver that opens no cycle makes
 /// none, and neither do the phases that are left of a cycle; and after one that it makes the driver has its cycle open.

@@ -22,7 +22,13 @@ plain-mark WPlus = plain-code (codes "+w+") refl
 plain-mark WMinus = plain-code (codes "-w-") refl
 
 plain-line : (l : LogLine) → AllPlain (line_words l)
-plain-line l = (plain-mark l.mark, (plain-lettered 104 l.h.0 refl, (plain-lettered 112 l.p.0 refl, (plain-code (codes "grefc") refl, (plain-decimal l.grefc, (plain-code (codes "gwrefc") refl, (plain-decimal l.gwrefc, (plain-lettered 64 l.entry refl, tt))))))))
+plain-line l = (
+  plain-mark l.mark,
+  (
+    plain-lettered 104 l.h.0 refl,
+    (plain-lettered 112 l.p.0 refl, (plain-code (codes "grefc") refl, (plain-decimal l.grefc, (plain-code (codes "gwrefc") refl, (plain-decimal l.gwrefc, (plain-lettered 64 l.entry refl, tt)))))),
+  ),
+)
 
 plain-end : (n : ℕ) → AllPlain (end_words n)
 plain-end n = (plain-code (codes "end") refl, (plain-decimal n, tt))

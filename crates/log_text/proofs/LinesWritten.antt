@@ -6,7 +6,8 @@ use Rattle.log_text.specs.declared.lines.LogLine.{LogLine}
 use Rattle.log_text.specs.Text.{line_text, lines_text, end_text}
 
 -- pieces that are put one behind another
-pieces-joined : (o m a h p b g d w e i k : List ℕ) → ((((((((((o ++ (m ++ a)) ++ h) ++ b) ++ p) ++ d) ++ g) ++ e) ++ w) ++ i) ++ k) ++ 10 ∷ [] ≡ o ++ ((m ++ (a ++ (h ++ (b ++ (p ++ (d ++ (g ++ (e ++ (w ++ (i ++ k)))))))))) ++ 10 ∷ [])
+pieces-joined : (o m a h p b g d w e i k : List ℕ) → ((((((((((o ++ (m ++ a)) ++ h) ++ b) ++ p) ++ d) ++ g) ++ e) ++ w) ++ i) ++ k)
+    ++ 10 ∷ [] ≡ o ++ ((m ++ (a ++ (h ++ (b ++ (p ++ (d ++ (g ++ (e ++ (w ++ (i ++ k)))))))))) ++ 10 ∷ [])
 pieces-joined o m a h p b g d w e i k = simp (append_assoc)
 
 -- a line, as it is put together
@@ -30,14 +31,16 @@ none-wrote ls a p = record { text = []; whole = refl; so_far = BuffersText-none 
 line-first : (l : LogLine) (ls : List LogLine) → lines_text (l ∷ ls) ≡ (line_text l ++ 10 ∷ []) ++ lines_text ls
 line-first l ls = sym (append_assoc (line_text l) (10 ∷ []) (lines_text ls))
 
-pub one-more : (ls : List LogLine) (l : LogLine) (left : List LogLine) (a b c : Option (List ℕ)) (p q r : List ℕ) → Wrote ls (l ∷ left) a b p q → BuffersText b c q r (line_text l ++ 10 ∷ []) → Wrote ls left a c p r
+pub one-more : (ls : List LogLine) (l : LogLine) (left : List LogLine) (a b c : Option (List ℕ)) (p q r : List ℕ)
+    → Wrote ls (l ∷ left) a b p q → BuffersText b c q r (line_text l ++ 10 ∷ []) → Wrote ls left a c p r
 one-more ls l left a b c p q r w v = record {
   text = w.text ++ (line_text l ++ 10 ∷ []);
   whole = w.whole ∙ (ap (λ t. w.text ++ t) (line-first l left) ∙ sym (append_assoc w.text (line_text l ++ 10 ∷ []) (lines_text left)));
   so_far = BuffersText-then a b c p q r w.text (line_text l ++ 10 ∷ []) w.so_far v;
 }
 
-pub not-wrote : {E : Type 0} (ls : List LogLine) (l : LogLine) (left : List LogLine) (a b c : Option (List ℕ)) (p q r : List ℕ) (f g k : ℕ) (z : E) → Wrote ls (l ∷ left) a b p q → f ≤ g → Sends {E = E} b c q r g k (Err z) (line_text l ++ 10 ∷ []) → Sends {E = E} a c p r f k (Err z) (lines_text ls)
+pub not-wrote : {E : Type 0} (ls : List LogLine) (l : LogLine) (left : List LogLine) (a b c : Option (List ℕ)) (p q r : List ℕ) (f g k : ℕ) (z : E)
+    → Wrote ls (l ∷ left) a b p q → f ≤ g → Sends {E = E} b c q r g k (Err z) (line_text l ++ 10 ∷ []) → Sends {E = E} a c p r f k (Err z) (lines_text ls)
 not-wrote ls l left a b c p q r f g k z w h v =
     let line = line_text l ++ 10 ∷ [] in
     Sends-into a b c p q r f g k z w.text line (lines_text left) (lines_text ls) (w.whole ∙ (ap (λ t. w.text ++ t) (line-first l left) ∙ sym (append_assoc w.text line (lines_text left)))) w.so_far h v

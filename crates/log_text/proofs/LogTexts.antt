@@ -26,7 +26,8 @@ pub record Begins (before ls : List LogLine) (front end : List ℕ) : Type 0 whe
   pub rest : front ≡ lines_text more ++ end
 
 -- what stands behind the first lines of a text that ends with a last line
-pub begins : (before ls : List LogLine) (front : List ℕ) (n : ℕ) (left : List ℕ) → AllFit before → AllFit ls → lines_text before ++ front ≡ lines_text ls ++ (end_text n ++ (10 ∷ left)) → Begins before ls front (end_text n ++ (10 ∷ left))
+pub begins : (before ls : List LogLine) (front : List ℕ) (n : ℕ) (left : List ℕ) → AllFit before → AllFit ls
+    → lines_text before ++ front ≡ lines_text ls ++ (end_text n ++ (10 ∷ left)) → Begins before ls front (end_text n ++ (10 ∷ left))
 begins [] ls front n left f g e = record { more = ls; whole = refl; rest = e }
 begins (b ∷ before) [] front n left f g e =
     let r = cut_once 10 (line_text b) (end_text n) (lines_text before ++ front) left (line-whole b) (end-whole n) (sym (append_assoc (line_text b) (10 ∷ lines_text before) front) ∙ e) in
@@ -66,11 +67,13 @@ count-le v l = by l.mark
     by WMinus = (omega arith, omega arith)
 
 -- what is kept of the lines so far, after one line more
-pub noted : (ls : List LogLine) (v w : Behind) (l : LogLine) (n : ℕ) → v ≡ behind_all none_live ls → w ≡ behind v l → v.grefc ≤ n → v.gwrefc ≤ n → (w ≡ behind_all none_live (ls ++ l ∷ [])) × (w.grefc ≤ n + 1) × (w.gwrefc ≤ n + 1)
+pub noted : (ls : List LogLine) (v w : Behind) (l : LogLine) (n : ℕ) → v ≡ behind_all none_live ls → w ≡ behind v l
+    → v.grefc ≤ n → v.gwrefc ≤ n → (w ≡ behind_all none_live (ls ++ l ∷ [])) × (w.grefc ≤ n + 1) × (w.gwrefc ≤ n + 1)
 noted ls v w l n e f g k = (let c = count-le v l in
     (f ∙ (ap (λ z. behind z l) e ∙ sym (behind-push none_live ls l)), omega (arith, c.0, g, ap (λ (z : Behind). z.grefc) f), omega (arith, c.1, k, ap (λ (z : Behind). z.gwrefc) f)))
 
-pub grown : (ls new : List LogLine) (v w : Behind) (l : LogLine) → IsGrowing ls v → Fits l → MayStand v l.mark l.h.0 l.p.0 → HasCounts (behind v l) l → new ≡ ls ++ l ∷ [] → w ≡ behind v l → IsGrowing new w
+pub grown : (ls new : List LogLine) (v w : Behind) (l : LogLine) → IsGrowing ls v → Fits l
+    → MayStand v l.mark l.h.0 l.p.0 → HasCounts (behind v l) l → new ≡ ls ++ l ∷ [] → w ≡ behind v l → IsGrowing new w
 grown ls new v w l k f s c e g =
     let n = noted ls v w l (length ls) k.behind g k.strong k.weak in
     let one : AreLawful v (l ∷ []) = (record { fits = f; stands = s; counts = c }, tt) in
@@ -90,5 +93,6 @@ one-log bytes a b s t =
     by : (more : List LogLine) → b ≡ a ++ more → end_text (length a) ++ 10 ∷ [] ≡ lines_text more ++ (end_text (length b) ++ 10 ∷ []) → a ≡ b
     by [] e r = sym (e ∙ append-nil a)
     by (m ∷ more) e r =
-        let c = cut_once 10 (end_text (length a)) (line_text m) [] (lines_text more ++ (end_text (length b) ++ 10 ∷ [])) (end-whole (length a)) (line-whole m) (r ∙ append_assoc (line_text m) (10 ∷ lines_text more) (end_text (length b) ++ 10 ∷ [])) in
+        let c = cut_once 10 (end_text (length a)) (line_text m) [] (lines_text more ++ (end_text (length b) ++ 10 ∷ []))
+        (end-whole (length a)) (line-whole m) (r ∙ append_assoc (line_text m) (10 ∷ lines_text more) (end_text (length b) ++ 10 ∷ [])) in
         absurd (line-end m (length a) (sym c.0))

@@ -22,8 +22,10 @@ module _ {X : Type 0} (piece : X → List ℕ) (xs : List X) where
   }
 
   -- one that couldn't be written
-  pub not-sent : {E : Type 0} (x : X) (left : List X) (a b c : Option (List ℕ)) (p q r : List ℕ) (f g k : ℕ) (z : E) (whole : List ℕ) → whole ≡ pieces piece xs → Sent piece xs (x ∷ left) a b p q → f ≤ g → Sends {E = E} b c q r g k (Err z) (piece x) → Sends {E = E} a c p r f k (Err z) whole
-  not-sent x left a b c p q r f g k z whole e w h v = Sends-into a b c p q r f g k z w.text (piece x) (pieces piece left) whole (e ∙ (w.whole ∙ sym (append_assoc w.text (piece x) (pieces piece left)))) w.so_far h v
+  pub not-sent : {E : Type 0} (x : X) (left : List X) (a b c : Option (List ℕ)) (p q r : List ℕ) (f g k : ℕ) (z : E) (whole : List ℕ)
+      → whole ≡ pieces piece xs → Sent piece xs (x ∷ left) a b p q → f ≤ g → Sends {E = E} b c q r g k (Err z) (piece x) → Sends {E = E} a c p r f k (Err z) whole
+  not-sent x left a b c p q r f g k z whole e w h v = Sends-into a b c p q r f g k z w.text (piece x)
+      (pieces piece left) whole (e ∙ (w.whole ∙ sym (append_assoc w.text (piece x) (pieces piece left)))) w.so_far h v
 
   -- all of them
   pub all-sent : (a b : Option (List ℕ)) (p q : List ℕ) (whole : List ℕ) → whole ≡ pieces piece xs → Sent piece xs [] a b p q → BuffersText a b p q whole

@@ -1,6 +1,7 @@
 -- Line after line, what was read is the text of the log so far, and what is left is the rest; where a line is wrong,
 -- the bytes are the text of no log.
-use Rattle.std.proofs.Common.{◌≡◌, ℕ, ◌+◌, ◌*◌, ◌<◌, ◌≤◌, Bool, true, false, List, [], ◌∷◌, ◌++◌, length, Result, Ok, Err, IfOk, IfErr, MatchResult, refl, sym, ap, subst, ◌∙◌, inl, inr, arith, append_assoc, append-nil, length-append}
+use Rattle.std.proofs.Common.{◌≡◌, ℕ, ◌+◌, ◌*◌, ◌<◌, ◌≤◌, Bool, true, false, List, [], ◌∷◌, ◌++◌, length, Result, Ok, Err, IfOk, IfErr, MatchResult, refl, sym, ap, subst, ◌∙◌, inl, inr, arith}
+use Rattle.std.proofs.Common.{append_assoc, append-nil, length-append}
 use Rattle.text_words.specs.Placed.{IsCut, IsFirstLine}
 use Rattle.log_text.specs.declared.lines.Mark.{Mark}
 use Rattle.log_text.specs.declared.lines.Mark.TheVariants.{GPlus, GMinus, WPlus, WMinus}
@@ -53,7 +54,8 @@ module _ (bytes : List ℕ) (small : length bytes < 4294967295) (ls : List LogLi
   -- there is no last line
   pub ended : rest ≡ [] → (error : LogError) → error ≡ Refused (length ls + 1) cause.End → IsLogRefusal bytes error
   ended none error e =
-      let f : IsLogFault bytes (length ls + 1) cause.End = inr (inr (record { before = ls; whole = whole ∙ (ap (λ t. lines_text ls ++ t) none ∙ append-nil (lines_text ls)); lawful = lawful; number_is = refl })) in
+      let f : IsLogFault bytes (length ls + 1) cause.End = inr (inr
+      (record { before = ls; whole = whole ∙ (ap (λ t. lines_text ls ++ t) none ∙ append-nil (lines_text ls)); lawful = lawful; number_is = refl })) in
       subst (IsLogRefusal bytes) (sym e) (f, no-log bytes (omega arith) (length ls + 1) cause.End f)
 
   module _ (text left : List ℕ) (closed : Bool) (first : IsFirstLine rest text closed left) (c : closed ≡ true) where
@@ -64,13 +66,15 @@ module _ (bytes : List ℕ) (small : length bytes < 4294967295) (ls : List LogLi
     pub grew : (new : List LogLine) → GrowsBy ls new text → bytes ≡ lines_text new ++ left
     grew new g =
         let line : text ++ (10 ∷ left) ≡ (line_text g.line ++ 10 ∷ []) ++ left = ap (λ t. t ++ (10 ∷ left)) (sym g.same) ∙ sym (append_assoc (line_text g.line) (10 ∷ []) left) in
-        whole ∙ (ap (λ t. lines_text ls ++ t) (cut ∙ line) ∙ (sym (append_assoc (lines_text ls) (line_text g.line ++ 10 ∷ []) left) ∙ ap (λ t. t ++ left) (sym (lines-push ls g.line) ∙ ap lines_text (sym g.grown))))
+        whole ∙ (ap (λ t. lines_text ls ++ t) (cut ∙ line) ∙ (sym (append_assoc (lines_text ls) (line_text g.line ++ 10 ∷ []) left)
+        ∙ ap (λ t. t ++ left) (sym (lines-push ls g.line) ∙ ap lines_text (sym g.grown))))
 
     -- it ends there
     last-whole : (new : List LogLine) → EndsBy ls new text → bytes ≡ lines_text new ++ (end_text (length new) ++ (10 ∷ left))
     last-whole new g = subst (λ k. bytes ≡ lines_text k ++ (end_text (length k) ++ (10 ∷ left))) (sym g.kept) (whole ∙ ap (λ t. lines_text ls ++ t) (cut ∙ ap (λ t. t ++ (10 ∷ left)) (sym g.same)))
 
-    pub finished : (new : List LogLine) (r : Result (List LogLine) LogError) → EndsBy ls new text → IsLog new → MatchResult r (λ log. (log ≡ new) × (left ≡ [])) (λ e. Finishes new left e) → IfOk r (λ log. IsLogText bytes log)
+    pub finished : (new : List LogLine) (r : Result (List LogLine) LogError) → EndsBy ls new text → IsLog new
+        → MatchResult r (λ log. (log ≡ new) × (left ≡ [])) (λ e. Finishes new left e) → IfOk r (λ log. IsLogText bytes log)
     finished new (Ok log) g a e = record {
       text = subst (λ k. bytes ≡ log_text k) (sym e.0) (last-whole new g ∙ ap (λ t. lines_text new ++ (end_text (length new) ++ (10 ∷ t))) e.1);
       lawful = subst IsLog (sym e.0) a;
@@ -84,6 +88,7 @@ module _ (bytes : List ℕ) (small : length bytes < 4294967295) (ls : List LogLi
         (w, no-log bytes (omega arith) line cause.End w)
     refused new (Refused line why) g a f = absurd f
 
-    pub not-finished : (new : List LogLine) (r : Result (List LogLine) LogError) → EndsBy ls new text → IsLog new → MatchResult r (λ log. (log ≡ new) × (left ≡ [])) (λ e. Finishes new left e) → IfErr r (λ e. IsLogRefusal bytes e)
+    pub not-finished : (new : List LogLine) (r : Result (List LogLine) LogError) → EndsBy ls new text → IsLog new
+        → MatchResult r (λ log. (log ≡ new) × (left ≡ [])) (λ e. Finishes new left e) → IfErr r (λ e. IsLogRefusal bytes e)
     not-finished new (Ok log) g a h = tt
     not-finished new (Err e) g a h = refused new e g a h

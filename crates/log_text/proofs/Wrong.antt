@@ -64,7 +64,8 @@ module _ (bytes : List ℕ) (small : length bytes < 2 ^ 64) where
       by (m ∷ more) e r =
           let a = lawful-behind none_live w.before (m ∷ more) (subst (λ k. AreLawful none_live k) e t.lawful) in
           let end = end_text (length ls) ++ 10 ∷ [] in
-          no-cause-line v (length w.before) m c a.0 (has (line_text m) (first-is w.rest w.text (line_text m) w.left (lines_text more ++ end) w.closed w.first (line-whole m) (r ∙ append_assoc (line_text m) (10 ∷ lines_text more) end)))
+          no-cause-line v (length w.before) m c a.0 (has (line_text m)
+          (first-is w.rest w.text (line_text m) w.left (lines_text more ++ end) w.closed w.first (line-whole m) (r ∙ append_assoc (line_text m) (10 ∷ lines_text more) end)))
 
   goes-on : (number : ℕ) → GoesOn bytes number → IsNoLogText bytes
   goes-on number w ls t =
@@ -75,7 +76,8 @@ module _ (bytes : List ℕ) (small : length bytes < 2 ^ 64) where
       by [] r = w.more (cut_once 10 (end_text (length w.before)) (end_text (length ls)) w.left [] (end-whole (length w.before)) (end-whole (length ls)) r).1
       by (m ∷ more) r =
           let end = end_text (length ls) ++ 10 ∷ [] in
-          line-end m (length w.before) (sym (cut_once 10 (end_text (length w.before)) (line_text m) w.left (lines_text more ++ end) (end-whole (length w.before)) (line-whole m) (r ∙ append_assoc (line_text m) (10 ∷ lines_text more) end)).0)
+          line-end m (length w.before) (sym (cut_once 10 (end_text (length w.before)) (line_text m) w.left (lines_text more ++ end)
+          (end-whole (length w.before)) (line-whole m) (r ∙ append_assoc (line_text m) (10 ∷ lines_text more) end)).0)
 
   lacks-end : (number : ℕ) → LacksEnd bytes number → IsNoLogText bytes
   lacks-end number w ls t =

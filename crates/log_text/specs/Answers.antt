@@ -21,7 +21,8 @@ cause_name cause.End = codes "end"
 
 -- the line that names a fault: `line N: cause C NAME`, with its newline
 abbrev pub refusal_text : ℕ → LogCause → List ℕ
-refusal_text line why = codes "line " ++ decimal line ++ codes ": cause " ++ decimal (cause_number why) ++ codes " " ++ cause_name why ++ codes "\n"
+refusal_text line why = codes "line " ++ decimal line ++ codes ": cause " ++ decimal
+    (cause_number why) ++ codes " " ++ cause_name why ++ codes "\n"
 
 -- texts one after another
 abbrev pub pieces : {X : Type 0} → (X → List ℕ) → List X → List ℕ

@@ -11,4 +11,5 @@ OneLog = (bytes : List ℕ) (a b : List LogLine) → IsLogText bytes a → IsLog
 
 -- bytes with a fault are the text of none
 abbrev pub FaultsAreRefused : Type 0
-FaultsAreRefused = (bytes : List ℕ) (line : ℕ) (why : LogCause) → length bytes < 2 ^ 64 → IsLogFault bytes line why → IsNoLogText bytes
+FaultsAreRefused = (bytes : List ℕ) (line : ℕ) (why : LogCause)
+    → length bytes < 2 ^ 64 → IsLogFault bytes line why → IsNoLogText bytes

@@ -8,7 +8,12 @@ use Rattle.log_text.specs.Behind.{Behind}
 
 -- what stands behind the lines that were noted
 abbrev pub shown : LiveHandles → Behind
-shown v = record { strong = λ h. get nat_cmp v.strong h; weak = λ h. get nat_cmp v.weak h; grefc = v.grefc; gwrefc = v.gwrefc }
+shown v = record {
+  strong = λ h. get nat_cmp v.strong h;
+  weak = λ h. get nat_cmp v.weak h;
+  grefc = v.grefc;
+  gwrefc = v.gwrefc;
+}
 
 -- numbers, as handles
 abbrev pub handles_of : List ℕ → List HNum

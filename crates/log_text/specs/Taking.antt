@@ -35,7 +35,8 @@ Takes false old new text = EndsBy old new text
 -- why a log doesn't go on with a line: no memory, or the line's cause
 abbrev pub Stops : List LogLine → List ℕ → Bool → LogError → Type 0
 Stops old text closed OutOfMemory = Unit {0}
-Stops old text closed (Refused line why) = (line ≡ length old + 1) × Has (behind_all none_live old) (length old) text closed why
+Stops old text closed (Refused line why) = (line ≡ length old + 1)
+    × Has (behind_all none_live old) (length old) text closed why
 
 -- the live handles that are kept are those behind the lines, and each count is at most as great as the number of lines
 pub record IsGrowing (ls : List LogLine) (live : Behind) : Type 0 where
@@ -47,8 +48,10 @@ pub record IsGrowing (ls : List LogLine) (live : Behind) : Type 0 where
 -- why a log doesn't go on with a line that was read: no memory, or its mark, or else its counts
 abbrev pub StopsAt : List LogLine → LogLine → LogError → Type 0
 StopsAt old l OutOfMemory = Unit {0}
-StopsAt old l (Refused line cause.Mark) = (line ≡ length old + 1) × (MayStand (behind_all none_live old) l.mark l.h.0 l.p.0 → ⊥)
-StopsAt old l (Refused line cause.Count) = (line ≡ length old + 1) × MayStand (behind_all none_live old) l.mark l.h.0 l.p.0 × (HasCounts (behind (behind_all none_live old) l) l → ⊥)
+StopsAt old l (Refused line cause.Mark) = (line ≡ length old + 1)
+    × (MayStand (behind_all none_live old) l.mark l.h.0 l.p.0 → ⊥)
+StopsAt old l (Refused line cause.Count) = (line ≡ length old + 1)
+    × MayStand (behind_all none_live old) l.mark l.h.0 l.p.0 × (HasCounts (behind (behind_all none_live old) l) l → ⊥)
 StopsAt old l (Refused line why) = ⊥
 
 -- why a log isn't at its end behind its last line: another line stands there

@@ -16,7 +16,8 @@ mark_text WMinus = codes "-w-"
 
 -- the words behind a line's mark: the handle, the peer, both counts and the entry
 abbrev pub number_words : LogLine → List (List ℕ)
-number_words l = (codes "h" ++ decimal l.h.0) ∷ (codes "p" ++ decimal l.p.0) ∷ codes "grefc" ∷ decimal l.grefc ∷ codes "gwrefc" ∷ decimal l.gwrefc ∷ (codes "@" ++ decimal l.entry) ∷ []
+number_words l = (codes "h" ++ decimal l.h.0) ∷ (codes "p" ++ decimal l.p.0) ∷ codes
+    "grefc" ∷ decimal l.grefc ∷ codes "gwrefc" ∷ decimal l.gwrefc ∷ (codes "@" ++ decimal l.entry) ∷ []
 
 -- a line, without its newline: MARK h p grefc N gwrefc N @ENTRY
 abbrev pub line_words : LogLine → List (List ℕ)

@@ -3,7 +3,8 @@
 ghost use Rattle.std.specs.Prelude.{◌≡◌, ◌++◌, ◌≤◌, length};
 ghost use Rattle.byte_streams.specs.Sending.{Sends};
 ghost use Rattle.byte_streams.specs.Streams.{Writes};
-ghost use Rattle.log_text.specs.Answers.{cause_name, cause_number, handle_text, list_text, pieces, refusal_text, unreleased_text};
+ghost use Rattle.log_text.specs.Answers.{cause_name, cause_number, handle_text, list_text, pieces, refusal_text};
+ghost use Rattle.log_text.specs.Answers.{unreleased_text};
 
 use crate::lines::LogCause;
 use crate::lists::Unreleased;
@@ -40,7 +41,8 @@ impl LogCause {
 /// portions the sink takes. [`Failed`] comes only where the sink's count of faults rose; then a beginning of the line
 /// was written.
 pub fn write_log_refusal<K: Sink>(number: u32, cause: LogCause, out: &mut K) -> Result<(), Failed>
-    ensures { Writes (K.held out.old) (K.held out.new) (K.faults out.old) (K.faults out.new) result (refusal_text number cause) }
+    ensures { Writes (K.held out.old) (K.held out.new) (K.faults out.old)
+        (K.faults out.new) result (refusal_text number cause) }
 {
     let mut line = Line::new();
     line.text(b"line ");
@@ -55,7 +57,8 @@ pub fn write_log_refusal<K: Sink>(number: u32, cause: LogCause, out: &mut K) -> 
 
 // Writes a handle with a space before it.
 fn write_handle<K: Sink>(h: HNum, line: &mut Line, out: &mut K) -> Result<(), Failed>
-    ensures { Sends (K.held out.old) (K.held out.new) line.old.text line.new.text (K.faults out.old) (K.faults out.new) result (handle_text h) }
+    ensures { Sends (K.held out.old) (K.held out.new) line.old.text line.new.text
+        (K.faults out.old) (K.faults out.new) result (handle_text h) }
 {
     line.make_room(out)?;
     line.lettered(b'h', h.0 as u64);
@@ -64,7 +67,8 @@ fn write_handle<K: Sink>(h: HNum, line: &mut Line, out: &mut K) -> Result<(), Fa
 
 // Writes handles, each with a space before it.
 fn write_handles<K: Sink>(handles: &[HNum], line: &mut Line, out: &mut K) -> Result<(), Failed>
-    ensures { Sends (K.held out.old) (K.held out.new) line.old.text line.new.text (K.faults out.old) (K.faults out.new) result (pieces handle_text handles.now) }
+    ensures { Sends (K.held out.old) (K.held out.new) line.old.text line.new.text
+        (K.faults out.old) (K.faults out.new) result (pieces handle_text handles.now) }
 {
     for h in handles {
         write_handle(*h, line, out)?;
@@ -75,7 +79,8 @@ fn write_handles<K: Sink>(handles: &[HNum], line: &mut Line, out: &mut K) -> Res
 // Writes a text of at most 512 bytes.
 fn write_piece<K: Sink>(piece: &[u8], line: &mut Line, out: &mut K) -> Result<(), Failed>
     requires { length piece.now ≤ 512 }
-    ensures { Sends (K.held out.old) (K.held out.new) line.old.text line.new.text (K.faults out.old) (K.faults out.new) result piece.now }
+    ensures { Sends (K.held out.old) (K.held out.new) line.old.text line.new.text
+        (K.faults out.old) (K.faults out.new) result piece.now }
 {
     line.make_room(out)?;
     line.text(piece);
@@ -84,7 +89,8 @@ fn write_piece<K: Sink>(piece: &[u8], line: &mut Line, out: &mut K) -> Result<()
 
 // Writes a list of handles: `-` where there is none.
 fn write_list<K: Sink>(handles: &[HNum], line: &mut Line, out: &mut K) -> Result<(), Failed>
-    ensures { Sends (K.held out.old) (K.held out.new) line.old.text line.new.text (K.faults out.old) (K.faults out.new) result (list_text handles.now) }
+    ensures { Sends (K.held out.old) (K.held out.new) line.old.text line.new.text
+        (K.faults out.old) (K.faults out.new) result (list_text handles.now) }
 {
     if handles.is_empty() {
         return write_piece(b" -", line, out);
@@ -100,7 +106,8 @@ fn write_strength<K: Sink>(
     out: &mut K,
 ) -> Result<(), Failed>
     requires { length word.now ≤ 512 }
-    ensures { Sends (K.held out.old) (K.held out.new) line.old.text line.new.text (K.faults out.old) (K.faults out.new) result (word.now ++ list_text handles.now) }
+    ensures { Sends (K.held out.old) (K.held out.new) line.old.text line.new.text
+        (K.faults out.old) (K.faults out.new) result (word.now ++ list_text handles.now) }
 {
     write_piece(word, line, out)?;
     write_list(handles, line, out)
@@ -108,7 +115,8 @@ fn write_strength<K: Sink>(
 
 // Writes both lines.
 fn write_both<K: Sink>(left: &Unreleased, line: &mut Line, out: &mut K) -> Result<(), Failed>
-    ensures { Sends (K.held out.old) (K.held out.new) line.old.text line.new.text (K.faults out.old) (K.faults out.new) result (unreleased_text left.now.strong.items left.now.weak.items) }
+    ensures { Sends (K.held out.old) (K.held out.new) line.old.text line.new.text (K.faults out.old)
+        (K.faults out.new) result (unreleased_text left.now.strong.items left.now.weak.items) }
 {
     write_strength(b"strong", &left.strong, line, out)?;
     write_strength(b"\nweak", &left.weak, line, out)?;
@@ -119,7 +127,8 @@ fn write_both<K: Sink>(left: &Unreleased, line: &mut Line, out: &mut K) -> Resul
 /// is left. The sink gets it in pieces of at most 16 KiB. It takes no memory. [`Failed`] only where the sink's count of
 /// faults rose, and then a beginning of the text was written.
 pub fn write_unreleased<K: Sink>(left: &Unreleased, out: &mut K) -> Result<(), Failed>
-    ensures { Writes (K.held out.old) (K.held out.new) (K.faults out.old) (K.faults out.new) result (unreleased_text left.now.strong.items left.now.weak.items) }
+    ensures { Writes (K.held out.old) (K.held out.new) (K.faults out.old)
+        (K.faults out.new) result (unreleased_text left.now.strong.items left.now.weak.items) }
 {
     let mut line = Line::new();
     write_both(left, &mut line, out)?;

@@ -39,7 +39,8 @@ impl LiveHandles {
     /// Whether a line may stand: a plus line where its handle isn't live in that strength, a minus line where it is, on
     /// that peer.
     pub fn may_stand(&self, line: &LogLine) -> bool
-        ensures { MatchBool result (MayStand (shown self.now) line.now.mark line.now.h.0 line.now.p.0) (MayStand (shown self.now) line.now.mark line.now.h.0 line.now.p.0 → ⊥) }
+        ensures { MatchBool result (MayStand (shown self.now) line.now.mark line.now.h.0 line.now.p.0)
+            (MayStand (shown self.now) line.now.mark line.now.h.0 line.now.p.0 → ⊥) }
     {
         match line.mark {
             Mark::GPlus => is_free(&self.strong, line.h.0),
@@ -81,7 +82,8 @@ impl LiveHandles {
     pub fn will_have_counts(&self, line: &LogLine) -> bool
         requires strong { self.now.grefc + 1 < 2 ^ 64 }
         requires weak { self.now.gwrefc + 1 < 2 ^ 64 }
-        ensures { MatchBool result (HasCounts (behind (shown self.now) line.now) line.now) (HasCounts (behind (shown self.now) line.now) line.now → ⊥) }
+        ensures { MatchBool result (HasCounts (behind (shown self.now) line.now) line.now)
+            (HasCounts (behind (shown self.now) line.now) line.now → ⊥) }
     {
         let (grefc, gwrefc) = match line.mark {
             Mark::GPlus => (self.grefc + 1, self.gwrefc),

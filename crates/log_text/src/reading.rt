@@ -82,7 +82,9 @@ impl Growing {
     fn take(&mut self, line: PlacedLine) -> Result<bool, LogError>
         requires { length self.old + 2 < 2 ^ 32 }
         ensures log { IsLog self.old }
-        ensures line { MatchResult result (λ grew. (line.entry.closed ≡ true) × Takes grew self.old self.new line.entry.text) (λ error. Stops self.old line.entry.text line.entry.closed error) }
+        ensures line { MatchResult result (λ grew. (line.entry.closed ≡ true)
+            × Takes grew self.old self.new line.entry.text)
+            (λ error. Stops self.old line.entry.text line.entry.closed error) }
     {
         let _ = &self.lines;
         if !line.closed {
@@ -108,7 +110,8 @@ impl Growing {
     fn finish(self, left: PlacedLines) -> Result<Log, LogError>
         requires { length self + 2 < 2 ^ 32 }
         ensures log { IsLog self }
-        ensures end { MatchResult result (λ log. (log ≡ self) × (left.entry ≡ [])) (λ error. Finishes self left.entry error) }
+        ensures end { MatchResult result (λ log. (log ≡ self) × (left.entry ≡ []))
+            (λ error. Finishes self left.entry error) }
     {
         let mut left = left;
         let Growing { lines, .. } = self;

@@ -40,7 +40,8 @@ fn mark_of(word: &[u8]) -> Option<Mark>
 // Takes a letter and a number of 32 bits.
 #[inline(always)]
 fn take_lettered(words: &mut Words, letter: u8) -> Option<u32>
-    ensures { MatchOption result ((n : ℕ) (rest : List (List ℕ)) → n < 2 ^ 32 → words.old ≢ (letter ∷ decimal n) ∷ rest) (λ n. (n < 2 ^ 32) × (words.old ≡ (letter ∷ decimal n) ∷ words.new)) }
+    ensures { MatchOption result ((n : ℕ) (rest : List (List ℕ)) → n < 2 ^ 32 → words.old ≢ (letter ∷ decimal n) ∷ rest)
+        (λ n. (n < 2 ^ 32) × (words.old ≡ (letter ∷ decimal n) ∷ words.new)) }
 {
     let n = lettered(words.next()?, letter, 4_294_967_296)?;
     Some(n as u32)
@@ -49,7 +50,8 @@ fn take_lettered(words: &mut Words, letter: u8) -> Option<u32>
 // Takes a word and a number of 32 bits behind it.
 #[inline(always)]
 fn take_count(words: &mut Words, name: &[u8]) -> Option<u32>
-    ensures { MatchOption result ((n : ℕ) (rest : List (List ℕ)) → n < 2 ^ 32 → words.old ≢ name.now ∷ decimal n ∷ rest) (λ n. (n < 2 ^ 32) × (words.old ≡ name.now ∷ decimal n ∷ words.new)) }
+    ensures { MatchOption result ((n : ℕ) (rest : List (List ℕ)) → n < 2 ^ 32 → words.old ≢ name.now ∷ decimal n ∷ rest)
+        (λ n. (n < 2 ^ 32) × (words.old ≡ name.now ∷ decimal n ∷ words.new)) }
 {
     if !is_same(words.next()?, name) {
         return None;
@@ -65,7 +67,8 @@ fn take_count(words: &mut Words, name: &[u8]) -> Option<u32>
 // Takes the number of an entry: `@` and a number of 64 bits.
 #[inline(always)]
 fn take_entry(words: &mut Words) -> Option<u64>
-    ensures { MatchOption result ((n : ℕ) (rest : List (List ℕ)) → n < 2 ^ 64 → words.old ≢ (64 ∷ decimal n) ∷ rest) (λ n. (n < 2 ^ 64) × (words.old ≡ (64 ∷ decimal n) ∷ words.new)) }
+    ensures { MatchOption result ((n : ℕ) (rest : List (List ℕ)) → n < 2 ^ 64 → words.old ≢ (64 ∷ decimal n) ∷ rest)
+        (λ n. (n < 2 ^ 64) × (words.old ≡ (64 ∷ decimal n) ∷ words.new)) }
 {
     let word = words.next()?;
     if word.is_empty() || word[0] != b'@' {
@@ -76,7 +79,8 @@ fn take_entry(words: &mut Words) -> Option<u64>
 
 // The line with that mark whose other words these are.
 fn line_of(mark: Mark, words: &mut Words) -> Option<LogLine>
-    ensures { MatchOption result ((l : LogLine) → Fits l → words.old ≢ number_words l) (λ l. Fits l × (l.mark ≡ mark) × (words.old ≡ number_words l)) }
+    ensures { MatchOption result ((l : LogLine) → Fits l → words.old ≢ number_words l)
+        (λ l. Fits l × (l.mark ≡ mark) × (words.old ≡ number_words l)) }
 {
     let h = take_lettered(words, b'h')?;
     let p = take_lettered(words, b'p')?;
@@ -98,7 +102,8 @@ fn line_of(mark: Mark, words: &mut Words) -> Option<LogLine>
 
 // The number of a last line whose words behind `end` these are.
 fn end_of(words: &mut Words) -> Option<u64>
-    ensures { MatchOption result ((n : ℕ) → n < 2 ^ 64 → words.old ≢ decimal n ∷ []) (λ n. (n < 2 ^ 64) × (words.old ≡ decimal n ∷ [])) }
+    ensures { MatchOption result ((n : ℕ) → n < 2 ^ 64 → words.old ≢ decimal n ∷ [])
+        (λ n. (n < 2 ^ 64) × (words.old ≡ decimal n ∷ [])) }
 {
     let n = number(words.next()?)?;
     if words.is_empty() { Some(n) } else { None }

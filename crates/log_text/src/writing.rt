@@ -104,7 +104,8 @@ pub fn write_line<K: Sink>(
     line: &mut Line,
     out: &mut K,
 ) -> Result<(), Failed>
-    ensures { Sends (K.held out.old) (K.held out.new) line.old.text line.new.text (K.faults out.old) (K.faults out.new) result (line_text entry.now ++ 10 ∷ []) }
+    ensures { Sends (K.held out.old) (K.held out.new) line.old.text line.new.text
+        (K.faults out.old) (K.faults out.new) result (line_text entry.now ++ 10 ∷ []) }
 {
     line.make_room(out)?;
     add_line(line, entry, last);
@@ -118,7 +119,8 @@ fn write_lines<K: Sink>(
     line: &mut Line,
     out: &mut K,
 ) -> Result<(), Failed>
-    ensures { Sends (K.held out.old) (K.held out.new) line.old.text line.new.text (K.faults out.old) (K.faults out.new) result (lines_text entries.now) }
+    ensures { Sends (K.held out.old) (K.held out.new) line.old.text line.new.text
+        (K.faults out.old) (K.faults out.new) result (lines_text entries.now) }
 {
     for entry in entries {
         write_line(entry, last, line, out)?;
@@ -129,7 +131,8 @@ fn write_lines<K: Sink>(
 /// Writes the last line of a log, with the number of lines, behind what is pending in the draft. [`Failed`] only where
 /// the sink's count of faults rose; then it got a beginning of both.
 pub fn write_end<K: Sink>(count: u64, line: &mut Line, out: &mut K) -> Result<(), Failed>
-    ensures { Sends (K.held out.old) (K.held out.new) line.old.text line.new.text (K.faults out.old) (K.faults out.new) result (end_text count ++ 10 ∷ []) }
+    ensures { Sends (K.held out.old) (K.held out.new) line.old.text line.new.text
+        (K.faults out.old) (K.faults out.new) result (end_text count ++ 10 ∷ []) }
 {
     line.make_room(out)?;
     line.text(b"end");

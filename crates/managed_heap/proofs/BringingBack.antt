@@ -49,7 +49,8 @@ handle-shown None e = (let f : ⊥ = cc in absurd f)
 handle-shown (Some h) e = (h, refl)
 
 -- one answer more
-alive-next : (cs : List ℕ) (alive : List (Option HNum)) (i c : ℕ) (b : Option HNum) → slice_get cs i ≡ Some c → slice_get alive i ≡ Some b → (z : ℕ) → IsAliveBelow (i + 1) cs alive z ↔ (IsAliveBelow i cs alive z ⊎ ((is_some b ≡ true) × (c ≡ z)))
+alive-next : (cs : List ℕ) (alive : List (Option HNum)) (i c : ℕ) (b : Option HNum) → slice_get cs i ≡ Some c
+    → slice_get alive i ≡ Some b → (z : ℕ) → IsAliveBelow (i + 1) cs alive z ↔ (IsAliveBelow i cs alive z ⊎ ((is_some b ≡ true) × (c ≡ z)))
 alive-next cs alive i c b at said z = (
   λ a. elim (last-or a.0 i a.1) [
     | inl l ↦ inl (a.0, l, a.2, a.3)
@@ -71,7 +72,8 @@ edges-same v w x y e h = subst (λ (u : HeapRows). EdgeOf u x y) (sym e) h
 pub bring-none : (v : HeapRows) (cs : List ℕ) (alive : List (Option HNum)) (k : ℕ) → HasMark v.marks k ↔ (HasMark v.marks k ⊎ Reached (IsAliveBelow 0 cs alive) (EdgeOf v) k)
 bring-none v cs alive k = (λ m. inl m, elim [ inl m ↦ m | inr r ↦ absurd (omega (arith, r.starts.1)) ])
 
-pub bring-next : (v w u : HeapRows) (cs : List ℕ) (alive : List (Option HNum)) (i c : ℕ) (b : Option HNum) → w ≡ record v { marks = w.marks; links = w.links } → slice_get cs i ≡ Some c → slice_get alive i ≡ Some b
+pub bring-next : (v w u : HeapRows) (cs : List ℕ) (alive : List (Option HNum)) (i c : ℕ) (b : Option HNum)
+    → w ≡ record v { marks = w.marks; links = w.links } → slice_get cs i ≡ Some c → slice_get alive i ≡ Some b
     → ((k : ℕ) → HasMark w.marks k ↔ (HasMark v.marks k ⊎ Reached (IsAliveBelow i cs alive) (EdgeOf v) k))
     → ((k : ℕ) → HasMark u.marks k ↔ (HasMark w.marks k ⊎ Reached (λ z. (is_some b ≡ true) × (c ≡ z)) (EdgeOf w) k))
     → (k : ℕ) → HasMark u.marks k ↔ (HasMark v.marks k ⊎ Reached (IsAliveBelow (i + 1) cs alive) (EdgeOf v) k)

@@ -1,6 +1,7 @@
 -- The graph of a dead part. The places of rising rows are written one after another, and none is written twice; each
 -- row has a node, and each field that leads to a row with a place has an edge.
-use Rattle.std.proofs.Common.{◌≡◌, ◌≢◌, ℕ, zero, suc, ◌+◌, ◌-◌, ◌<◌, ◌≤◌, ◌↔◌, ◌⊎◌, inl, inr, true, nat_eq, if◌then◌else◌, List, [], ◌∷◌, ◌++◌, length, map, take, set, get_or, option_map, Option, Some, None, refl, sym, ap, subst, ◌∙◌, arith}
+use Rattle.std.proofs.Common.{◌≡◌, ◌≢◌, ℕ, zero, suc, ◌+◌, ◌-◌, ◌<◌, ◌≤◌, ◌↔◌, ◌⊎◌, inl, inr, true, nat_eq, if◌then◌else◌, List, [], ◌∷◌, ◌++◌, length, map, take, set, get_or, option_map, Option}
+use Rattle.std.proofs.Common.{Some, None, refl, sym, ap, subst, ◌∙◌, arith}
 use Rattle.std.specs.Prelude.{Contains, All, slice_get}
 use Rattle.std.proofs.lemmas.Bool.{cases_eq, eqb-true}
 use Rattle.std.proofs.lemmas.List.{length-map, get_or-map, get_or-set_same, get_or-set_other, nil_from_length}
@@ -60,16 +61,19 @@ pub number-at : (ms : List MNum) (k : ℕ) (x : MNum) → slice_get ms k ≡ Som
 number-at ms k x e = slice_get-map (λ (m : MNum). m.0) ms k ∙ ap (option_map (λ (m : MNum). m.0)) e
 
 -- the numbers of the nodes so far lie below the next one
-pub nodes-below : (h : Heap) (held : List (Option ℕ)) (ms : List MNum) (i : ℕ) (d : MNum) → Rises (managed_numbers ms) → i < length ms → All (λ (n : Node). n.number.0 < (get_or ms i d).0) (map (node_of h held) (take i ms))
+pub nodes-below : (h : Heap) (held : List (Option ℕ)) (ms : List MNum) (i : ℕ) (d : MNum) → Rises (managed_numbers ms)
+    → i < length ms → All (λ (n : Node). n.number.0 < (get_or ms i d).0) (map (node_of h held) (take i ms))
 nodes-below h held ms i d r l =
     All-map (λ (n : Node). n.number.0 < (get_or ms i d).0) (node_of h held) (take i ms)
-    (take-all (λ (m : MNum). m.0 < (get_or ms i d).0) ms i (λ k x w e. Rises-order (managed_numbers ms) k i x.0 (get_or ms i d).0 r (number-at ms k x e) (number-at ms i (get_or ms i d) (slice_get-get_or ms i d l)) w))
+    (take-all (λ (m : MNum). m.0 < (get_or ms i d).0) ms i (λ k x w e. Rises-order (managed_numbers ms) k i x.0
+    (get_or ms i d).0 r (number-at ms k x e) (number-at ms i (get_or ms i d) (slice_get-get_or ms i d l)) w))
 
 -- a row of edges gets one more
 pub leads-more : (es : List (List ℕ)) (from to a k : ℕ) → from < length es → NodeLeads (set es from (get_or es from [] ++ to ∷ [])) a k ↔ (NodeLeads es a k ⊎ ((a ≡ from) × (k ≡ to)))
 leads-more es from to a k l = elim (cases_eq a from) [
   | inl s ↦ (
-      let row : get_or (set es from (get_or es from [] ++ to ∷ [])) a [] ≡ get_or es a [] ++ to ∷ [] = ap (λ z. get_or (set es from (get_or es from [] ++ to ∷ [])) z []) s ∙ (get_or-set_same es from (get_or es from [] ++ to ∷ []) [] l ∙ ap (λ z. get_or es z [] ++ to ∷ []) (sym s)) in (
+      let row : get_or (set es from (get_or es from [] ++ to ∷ [])) a [] ≡ get_or es a [] ++ to ∷ [] = ap (λ z. get_or (set es from (get_or es from [] ++ to ∷ [])) z []) s
+      ∙ (get_or-set_same es from (get_or es from [] ++ to ∷ []) [] l ∙ ap (λ z. get_or es z [] ++ to ∷ []) (sym s)) in (
         λ c. elim (Contains-push_cases (get_or es a []) to k (subst (λ xs. Contains xs k) row c)) [ inl o ↦ inl o | inr e ↦ inr (s, sym e) ],
         λ c. subst (λ xs. Contains xs k) (sym row) (elim c [
           | inl o ↦ Contains-append_left (get_or es a []) (to ∷ []) k o
@@ -154,27 +158,31 @@ rows-more h dead places i x old mid new p at f g a k = (
   ],
 )
 
-pub rows-all : (h : Heap) (dead : List ℕ) (n : ℕ) (old new : List (List ℕ)) → length dead ≤ n → ((a k : ℕ) → NodeLeads new a k ↔ (NodeLeads old a k ⊎ ((a < n) × HasDeadField h dead a k))) → (a k : ℕ) → NodeLeads new a k ↔ (NodeLeads old a k ⊎ HasDeadField h dead a k)
+pub rows-all : (h : Heap) (dead : List ℕ) (n : ℕ) (old new : List (List ℕ)) → length dead ≤ n
+    → ((a k : ℕ) → NodeLeads new a k ↔ (NodeLeads old a k ⊎ ((a < n) × HasDeadField h dead a k))) → (a k : ℕ) → NodeLeads new a k ↔ (NodeLeads old a k ⊎ HasDeadField h dead a k)
 rows-all h dead n old new l f a k = (
   λ c. elim ((f a k).0 c) [ inl o ↦ inl o | inr d ↦ inr d.1 ],
   λ c. (f a k).1 (elim c [ inl o ↦ inl o | inr d ↦ inr (omega (arith, l, slice_get_within dead a d.from d.here), d) ]),
 )
 
 -- from rows without edges
-pub edges-all : (h : Heap) (dead : List ℕ) (old new : List (List ℕ)) → ((a : ℕ) → get_or old a [] ≡ []) → ((a k : ℕ) → NodeLeads new a k ↔ (NodeLeads old a k ⊎ HasDeadField h dead a k)) → (a k : ℕ) → NodeLeads new a k ↔ HasDeadField h dead a k
+pub edges-all : (h : Heap) (dead : List ℕ) (old new : List (List ℕ)) → ((a : ℕ) → get_or old a [] ≡ [])
+    → ((a k : ℕ) → NodeLeads new a k ↔ (NodeLeads old a k ⊎ HasDeadField h dead a k)) → (a k : ℕ) → NodeLeads new a k ↔ HasDeadField h dead a k
 edges-all h dead old new none f a k = (
   λ c. elim ((f a k).0 c) [ inl o ↦ absurd (Contains-nil k (subst (λ xs. Contains xs k) (none a) o)) | inr d ↦ d ],
   λ d. (f a k).1 (inr d),
 )
 
 -- a row without fields is opaque, and no other
-pub opaque-row : (h : Heap) (held : List (Option ℕ)) (ms : List MNum) (i : ℕ) (x : MNum) (nodes : List Node) → nodes ≡ map (node_of h held) ms → slice_get ms i ≡ Some x → opaque_at nodes i ≡ true → fields_of h x.0 ≡ []
+pub opaque-row : (h : Heap) (held : List (Option ℕ)) (ms : List MNum) (i : ℕ) (x : MNum) (nodes : List Node)
+    → nodes ≡ map (node_of h held) ms → slice_get ms i ≡ Some x → opaque_at nodes i ≡ true → fields_of h x.0 ≡ []
 opaque-row h held ms i x nodes is at o =
     let within = slice_get_within ms i x at in
     let few : i < length (map (node_of h held) ms) = omega (arith, within, length-map ms (node_of h held)) in
     let node : get_or (map (λ (n : Node). n.opaque) (map (node_of h held) ms)) i true ≡ nat_eq (length (fields_of h (get_or ms i x).0)) 0 =
     get_or-map (λ (n : Node). n.opaque) (map (node_of h held) ms) i (node_of h held x) true few ∙ ap (λ (n : Node). n.opaque) (get_or-map (node_of h held) ms i x (node_of h held x) within) in
-    let test : nat_eq (length (fields_of h x.0)) 0 ≡ true = sym (node ∙ ap (λ (m : MNum). nat_eq (length (fields_of h m.0)) 0) (get_or_from_slice_get ms i x x at)) ∙ subst (λ (ns : List Node). opaque_at ns i ≡ true) is o in
+    let test : nat_eq (length (fields_of h x.0)) 0 ≡ true = sym (node ∙ ap (λ (m : MNum). nat_eq (length (fields_of h m.0)) 0) (get_or_from_slice_get ms i x x at))
+    ∙ subst (λ (ns : List Node). opaque_at ns i ≡ true) is o in
     nil_from_length (fields_of h x.0) (eqb-true (length (fields_of h x.0)) 0 test)
 
 -- the graph as it is promised
@@ -186,7 +194,8 @@ named-back : (o : Option ℕ) → handle_number (handle_named o) ≡ o
 named-back None = refl
 named-back (Some h) = refl
 
-handles-nodes : (s : Managed) (h : Heap) (ms : List MNum) → ((m : ℕ) → Contains (managed_numbers ms) m → handle_of s m ≡ held_at s.held m) → map (λ (n : Node). handle_number n.handle) (map (node_of h s.held) ms) ≡ map (handle_of s) (managed_numbers ms)
+handles-nodes : (s : Managed) (h : Heap) (ms : List MNum) → ((m : ℕ) → Contains (managed_numbers ms) m → handle_of s m ≡ held_at s.held m)
+    → map (λ (n : Node). handle_number n.handle) (map (node_of h s.held) ms) ≡ map (handle_of s) (managed_numbers ms)
 handles-nodes s h [] e = refl
 handles-nodes s h (m ∷ ms) e =
     let first : handle_number (handle_named (held_at s.held m.0)) ≡ handle_of s m.0 = named-back (held_at s.held m.0) ∙ sym (e m.0 (Contains-here m.0 (managed_numbers ms))) in
@@ -197,7 +206,8 @@ handle-live : (s : Managed) (m : ℕ) → IsLive s.heap m → handle_of s m ≡ 
 handle-live s m l = ap (λ b. if b then None else held_at s.held m) (is_freed-live s.heap m l)
 
 -- `h` is the heap over which the graph was made; the state has the same fields, and the rows are live in it
-pub IsDeadGraph-made : (s : Managed) (h : Heap) (ms : List MNum) (g : Part) → s.heap.fields ≡ h.fields → ((m : ℕ) → Contains (managed_numbers ms) m → IsLive s.heap m) → g.nodes ≡ map (node_of h s.held) ms
+pub IsDeadGraph-made : (s : Managed) (h : Heap) (ms : List MNum) (g : Part) → s.heap.fields ≡ h.fields
+    → ((m : ℕ) → Contains (managed_numbers ms) m → IsLive s.heap m) → g.nodes ≡ map (node_of h s.held) ms
     → ((a k : ℕ) → NodeLeads g.edges a k ↔ HasDeadField h (managed_numbers ms) a k) → IsDeadGraph s (managed_numbers ms) g
 IsDeadGraph-made s h ms g same live nodes edges =
     let row : (x : ℕ) → fields_of s.heap x ≡ fields_of h x = λ x. ap (λ (fs : List (List (Option ℕ))). elim (numbered_at fs x) [ None ↦ [] | Some f ↦ f ]) same in

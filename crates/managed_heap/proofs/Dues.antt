@@ -19,7 +19,8 @@ live-as h k m len freed l = record {
 }
 
 -- the same objects are live, with the same marks
-pub AreDues-as : (cycle : Option OpenCycle) (v w : HeapRows) (spare : ℕ) → length w.heap.fields ≡ length v.heap.fields → w.heap.freed ≡ v.heap.freed → w.marks ≡ v.marks → AreDues cycle v spare → AreDues cycle w spare
+pub AreDues-as : (cycle : Option OpenCycle) (v w : HeapRows) (spare : ℕ) → length w.heap.fields ≡ length v.heap.fields
+    → w.heap.freed ≡ v.heap.freed → w.marks ≡ v.marks → AreDues cycle v spare → AreDues cycle w spare
 AreDues-as cycle v w spare len freed marks a = λ c e. (
     let d = a c e in
     record {
@@ -36,7 +37,8 @@ pub AreDues-var : (cycle : Option OpenCycle) (v w : HeapRows) (spare p : ℕ) (o
 AreDues-var cycle v w spare p o e a = AreDues-as cycle v w spare (ap (λ (u : HeapRows). length u.heap.fields) e) (ap (λ (u : HeapRows). u.heap.freed) e) (ap (λ (u : HeapRows). u.marks) e) a
 
 -- an operation of the heap
-pub AreDues-moved : (cycle : Option OpenCycle) (v w : HeapRows) (spare : ℕ) (a : Answered Heap) (r : Reply) → HasMoved v.heap a.state → a ≡ answer r w.heap → w ≡ record v { heap = w.heap } → AreDues cycle v spare → AreDues cycle w spare
+pub AreDues-moved : (cycle : Option OpenCycle) (v w : HeapRows) (spare : ℕ) (a : Answered Heap) (r : Reply)
+    → HasMoved v.heap a.state → a ≡ answer r w.heap → w ≡ record v { heap = w.heap } → AreDues cycle v spare → AreDues cycle w spare
 AreDues-moved cycle v w spare a r moved is e d =
     let same : a.state ≡ w.heap = ap (λ (z : Answered Heap). z.state) is in
     AreDues-as cycle v w spare (subst (λ h. length h.fields ≡ length v.heap.fields) same moved.made) (subst (λ h. h.freed ≡ v.heap.freed) same moved.freed) (ap (λ (u : HeapRows). u.marks) e) d

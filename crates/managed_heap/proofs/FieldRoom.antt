@@ -36,7 +36,8 @@ fields-after h (suc d) k (x ∷ xs) end r a l =
     let next = after-next h.fields k (omega (arith, here.made.1, high)) in
     let end' : length h.fields ≤ suc k + d = omega (arith, end) in
     elim (cases_lt (suc k) x) [
-      | inl above ↦ (let b = fields-after h d (suc k) (x ∷ xs) end' r (All-cons (λ y. suc k < y) x xs above (All-weaker (λ y. x < y) (λ y. suc k < y) (λ y h. omega (arith, h, above)) xs r.0)) l in omega (arith, b, next))
+      | inl above ↦ (let b = fields-after h d (suc k) (x ∷ xs) end' r (All-cons (λ y. suc k < y) x xs above (All-weaker (λ y. x < y) (λ y. suc k < y) (λ y h. omega (arith, h, above)) xs r.0)) l in
+          omega (arith, b, next))
       | inr low ↦ (
           let same : x ≡ suc k = omega (arith, high, low) in
           let first : length (fields_of h x) ≡ length (fields_of h (suc k)) = ap (λ y. length (fields_of h y)) same in

@@ -71,15 +71,18 @@ peer-there (Some None) e = (let f : ⊥ = cc in absurd f)
 peer-there (Some (Some p)) e = (p, refl)
 
 -- of the pairs stay those of the rows that aren't cleared
-pub pairs-left : (ps : List (PNum × MNum)) (infos others : List Held) (ms : List ℕ) → ArePeers ps infos → AreCleared (peers_of infos) (peers_of others) ms → pairs_of (filter (λ (q : PNum × MNum). has_peer (peers_of others) q.1.0) ps) ≡ without_twins (pairs_of ps) ms
+pub pairs-left : (ps : List (PNum × MNum)) (infos others : List Held) (ms : List ℕ) → ArePeers ps infos → AreCleared (peers_of infos) (peers_of others) ms
+    → pairs_of (filter (λ (q : PNum × MNum). has_peer (peers_of others) q.1.0) ps) ≡ without_twins (pairs_of ps) ms
 pairs-left ps infos others ms a cleared =
     map-filter (λ (q : PNum × MNum). (q.0.0, q.1.0)) (λ (q : ℕ × ℕ). has_peer (peers_of others) q.1) ps
     ∙ filter-agree (λ (q : ℕ × ℕ). has_peer (peers_of others) q.1) (λ (q : ℕ × ℕ). not (list_any (nat_eq q.1) ms)) (pairs_of ps) (λ q c. agree q.0 q.1 c)
   where
     agree : (p m : ℕ) → Contains (pairs_of ps) (p, m) → has_peer (peers_of others) m ≡ not (list_any (nat_eq m) ms)
     agree p m c = elim (Contains-decided ms m) [
-      | inl w ↦ false-from (has_peer (peers_of others) m) (λ t. let r = peer-there (numbered_at (peers_of others) m) t in ((cleared r.0 m).0 r.1).1 w) ∙ ap not (sym (list_any-from_Contains nat_eq_equiv m ms w))
-      | inr n ↦ ap (λ (o : Option (Option ℕ)). is_some (elim o [ None ↦ None | Some x ↦ x ])) ((cleared p m).1 ((a p m).0 c, n)) ∙ sym (not-from (list_any (nat_eq m) ms) (λ t. n (Contains-from_any eqb-true m ms t)))
+      | inl w ↦ false-from (has_peer (peers_of others) m) (λ t. let r = peer-there (numbered_at (peers_of others) m) t in ((cleared r.0 m).0 r.1).1 w)
+          ∙ ap not (sym (list_any-from_Contains nat_eq_equiv m ms w))
+      | inr n ↦ ap (λ (o : Option (Option ℕ)). is_some (elim o [ None ↦ None | Some x ↦ x ])) ((cleared p m).1 ((a p m).0 c, n))
+          ∙ sym (not-from (list_any (nat_eq m) ms) (λ t. n (Contains-from_any eqb-true m ms t)))
     ]
 
 -- where no row had a peer, no pair goes
@@ -88,7 +91,8 @@ pairs-same ps infos ms a cleared = sym (filter-whole (λ (q : ℕ × ℕ). not (
     not-from (list_any (nat_eq q.1) ms) (λ t. ((cleared q.0 q.1).0 ((a q.0 q.1).0 c)).1 (Contains-from_any eqb-true q.1 ms t))))
 
 -- beside the rows stand the peers of the pairs that are left
-pub ArePeers-left : (ps qs : List (PNum × MNum)) (infos others : List Held) (ms : List ℕ) → ArePeers ps infos → AreCleared (peers_of infos) (peers_of others) ms → pairs_of qs ≡ without_twins (pairs_of ps) ms → ArePeers qs others
+pub ArePeers-left : (ps qs : List (PNum × MNum)) (infos others : List Held) (ms : List ℕ) → ArePeers ps infos
+    → AreCleared (peers_of infos) (peers_of others) ms → pairs_of qs ≡ without_twins (pairs_of ps) ms → ArePeers qs others
 ArePeers-left ps qs infos others ms a cleared is = λ p m. (
   (λ c.
       let r = without_twins-parts (pairs_of ps) ms p m (subst (λ z. Contains z (p, m)) is c) in

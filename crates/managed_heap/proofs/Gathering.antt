@@ -63,11 +63,13 @@ roots-exact h pins x = (
 )
 
 -- one row more passes the test, and is put
-pub filter-push : (p : ℕ → Bool) (ms : List MNum) (xs ys : List ℕ) (i : ℕ) (d : MNum) → i < length ms → xs ≡ filter p (managed_numbers (take i ms)) → p (get_or ms i d).0 ≡ true → ys ≡ xs ++ (get_or ms i d).0 ∷ [] → ys ≡ filter p (managed_numbers (take (i + 1) ms))
+pub filter-push : (p : ℕ → Bool) (ms : List MNum) (xs ys : List ℕ) (i : ℕ) (d : MNum) → i < length ms → xs ≡ filter p (managed_numbers (take i ms))
+    → p (get_or ms i d).0 ≡ true → ys ≡ xs ++ (get_or ms i d).0 ∷ [] → ys ≡ filter p (managed_numbers (take (i + 1) ms))
 filter-push p ms xs ys i d l e t is = rw (numbers-more ms i d l, filter-append p (managed_numbers (take i ms)) ((get_or ms i d).0 ∷ []), t, is, e) refl
 
 -- one row more doesn't pass
-pub filter-skip : (p : ℕ → Bool) (ms : List MNum) (xs : List ℕ) (i : ℕ) (d : MNum) → i < length ms → xs ≡ filter p (managed_numbers (take i ms)) → p (get_or ms i d).0 ≡ false → xs ≡ filter p (managed_numbers (take (i + 1) ms))
+pub filter-skip : (p : ℕ → Bool) (ms : List MNum) (xs : List ℕ) (i : ℕ) (d : MNum) → i < length ms
+    → xs ≡ filter p (managed_numbers (take i ms)) → p (get_or ms i d).0 ≡ false → xs ≡ filter p (managed_numbers (take (i + 1) ms))
 filter-skip p ms xs i d l e t = rw (numbers-more ms i d l, filter-append p (managed_numbers (take i ms)) ((get_or ms i d).0 ∷ []), t, e) (sym (append-nil (filter p (managed_numbers (take i ms)))))
 
 -- one row more is brought back
@@ -97,13 +99,16 @@ slots-greying v b s p pins g k e none slots held =
 
 -- what is marked at its end is what they reach
 pub slots-marked : (v w : HeapRows) (before after : List Bool) (pins : List (Option ℕ)) → w.heap ≡ v.heap → w.follows ≡ false → ((x : ℕ) → HasMark before x → ⊥)
-    → ((x : ℕ) → HasMark after x ↔ (HasMark before x ⊎ Reached (Contains (roots_of v.heap pins)) (EdgeOf w) x)) → (x : ℕ) → HasMark after x ↔ Reached (λ z. InSlot v.heap z ⊎ Contains pins (Some z)) (HasField v.heap) x
+    → ((x : ℕ) → HasMark after x ↔ (HasMark before x ⊎ Reached (Contains (roots_of v.heap pins)) (EdgeOf w) x))
+    → (x : ℕ) → HasMark after x ↔ Reached (λ z. InSlot v.heap z ⊎ Contains pins (Some z)) (HasField v.heap) x
 slots-marked v w before after pins e plain none marks x = (
   λ m. elim ((marks x).0 m) [
     | inl o ↦ absurd (none x o)
-    | inr r ↦ Reached-mono (Contains (roots_of v.heap pins)) (λ z. InSlot v.heap z ⊎ Contains pins (Some z)) (EdgeOf w) (HasField v.heap) (λ y c. (roots-exact v.heap pins y).0 c) (λ y z f. subst (λ (h : Heap). HasField h y z) e (edge-field w y z plain f)) x r
+    | inr r ↦ Reached-mono (Contains (roots_of v.heap pins)) (λ z. InSlot v.heap z ⊎ Contains pins (Some z)) (EdgeOf w) (HasField v.heap)
+        (λ y c. (roots-exact v.heap pins y).0 c) (λ y z f. subst (λ (h : Heap). HasField h y z) e (edge-field w y z plain f)) x r
   ],
-  λ r. (marks x).1 (inr (Reached-mono (λ z. InSlot v.heap z ⊎ Contains pins (Some z)) (Contains (roots_of v.heap pins)) (HasField v.heap) (EdgeOf w) (λ y c. (roots-exact v.heap pins y).1 c) (λ y z f. inl (subst (λ (h : Heap). HasField h y z) (sym e) f)) x r)),
+  λ r. (marks x).1 (inr (Reached-mono (λ z. InSlot v.heap z ⊎ Contains pins (Some z)) (Contains (roots_of v.heap pins)) (HasField v.heap)
+      (EdgeOf w) (λ y c. (roots-exact v.heap pins y).1 c) (λ y z f. inl (subst (λ (h : Heap). HasField h y z) (sym e) f)) x r)),
 )
 
 -- what is picked of the white rows is live

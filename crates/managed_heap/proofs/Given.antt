@@ -53,7 +53,8 @@ none-left (e ∷ es) x none =
     ∙ ap (λ z. e ∷ z) (none-left es x (λ q c. none q (Contains-there (q, x) e es c)))
 
 -- the pair of a peer is the pair of a row
-pub without-is : (ps : List (PNum × MNum)) (p : PNum) (x : ℕ) → PeersDistinct ps → ((q n : ℕ) → Contains (pairs_of ps) (q, n) → (n ≡ x → q ≡ p.0) × (q ≡ p.0 → n ≡ x)) → pairs_of (without ps p) ≡ without_twins (pairs_of ps) (x ∷ [])
+pub without-is : (ps : List (PNum × MNum)) (p : PNum) (x : ℕ) → PeersDistinct ps
+    → ((q n : ℕ) → Contains (pairs_of ps) (q, n) → (n ≡ x → q ≡ p.0) × (q ≡ p.0 → n ≡ x)) → pairs_of (without ps p) ≡ without_twins (pairs_of ps) (x ∷ [])
 without-is [] p x d alike = refl
 without-is (e ∷ es) p x d alike = by (nat_eq p.0 e.0.0) refl (without-is es p x d.1 rest)
   where
@@ -73,10 +74,12 @@ without-is (e ∷ es) p x d alike = by (nat_eq p.0 e.0.0) refl (without-is es p 
         ∙ none-left (pairs_of es) x (others same))
     by false t w =
         ap (λ z. (e.0.0, e.1.0) ∷ z) w
-        ∙ sym (ap (λ b. cond b ((e.0.0, e.1.0) ∷ without_twins (pairs_of es) (x ∷ [])) (without_twins (pairs_of es) (x ∷ []))) (stays-other x e.1.0 (λ s. true-false (nat_eq p.0 e.0.0) (eq-eqb p.0 e.0.0 (sym (first.0 s))) t)))
+        ∙ sym (ap (λ b. cond b ((e.0.0, e.1.0) ∷ without_twins (pairs_of es) (x ∷ [])) (without_twins (pairs_of es) (x ∷ [])))
+        (stays-other x e.1.0 (λ s. true-false (nat_eq p.0 e.0.0) (eq-eqb p.0 e.0.0 (sym (first.0 s))) t)))
 
 -- beside the row stands no peer any more, where the registry's pairs are those of the other rows
-pub ArePeers-given : (pairs pairs' : List (PNum × MNum)) (infos : List Held) (x : ℕ) (i : Held) → 1 ≤ x → i.peer ≡ None → pairs_of pairs' ≡ without_twins (pairs_of pairs) (x ∷ []) → ArePeers pairs infos → ArePeers pairs' (set infos (x - 1) i)
+pub ArePeers-given : (pairs pairs' : List (PNum × MNum)) (infos : List Held) (x : ℕ) (i : Held) → 1 ≤ x → i.peer ≡ None
+    → pairs_of pairs' ≡ without_twins (pairs_of pairs) (x ∷ []) → ArePeers pairs infos → ArePeers pairs' (set infos (x - 1) i)
 ArePeers-given pairs pairs' infos x i low none left a = λ q n. (forward q n, back q n)
   where
     peers : peers_of (set infos (x - 1) i) ≡ numbered_set (peers_of infos) x i.peer
@@ -95,8 +98,10 @@ ArePeers-given pairs pairs' infos x i low none left a = λ q n. (forward q n, ba
     back q n e =
         let at : numbered_at (numbered_set (peers_of infos) x i.peer) n ≡ Some (Some q) = subst (λ z. numbered_at z n ≡ Some (Some q)) peers e in
         elim (cases_eq n x) [
-          | inl same ↦ absurd (none_some q (sym none ∙ numbered_set-same (peers_of infos) x i.peer (Some q) (subst (λ z. numbered_at (numbered_set (peers_of infos) x i.peer) z ≡ Some (Some q)) same at)))
-          | inr ne ↦ subst (λ z. Contains z (q, n)) (sym left) (without_twins-keeps (pairs_of pairs) (x ∷ []) q n ((a q n).1 (sym (numbered_set-other (peers_of infos) x n i.peer ne) ∙ at)) (λ c. ne (only n c)))
+          | inl same ↦ absurd (none_some q (sym none ∙ numbered_set-same (peers_of infos) x i.peer (Some q)
+              (subst (λ z. numbered_at (numbered_set (peers_of infos) x i.peer) z ≡ Some (Some q)) same at)))
+          | inr ne ↦ subst (λ z. Contains z (q, n)) (sym left) (without_twins-keeps (pairs_of pairs) (x ∷ []) q n
+              ((a q n).1 (sym (numbered_set-other (peers_of infos) x n i.peer ne) ∙ at)) (λ c. ne (only n c)))
         ]
 
 -- the registry after the row left it
@@ -124,10 +129,13 @@ set-same (x ∷ xs) (suc zero) y e = ap (λ z. z ∷ xs) (sym (some-same x y e))
 set-same (x ∷ xs) (suc (suc k)) y e = ap (λ z. x ∷ z) (set-same xs (suc k) y e)
 
 -- the rows after the row gave its handle up
-pub given-state : (heap : Heap) (infos : List Held) (pairs pairs' : List (PNum × MNum)) (cells pins : List (Option ℕ)) (queue : Queue) (cycle : Option OpenCycle) (cycles : ℕ) (contracted : Bool) (x : ℕ) (i : Held)
+pub given-state : (heap : Heap) (infos : List Held) (pairs pairs' : List (PNum × MNum)) (cells pins : List (Option ℕ))
+    (queue : Queue) (cycle : Option OpenCycle) (cycles : ℕ) (contracted : Bool) (x : ℕ) (i : Held)
     → 1 ≤ x → numbered_at (map (λ (j : Held). j.kind) infos) x ≡ Some i.kind → i.handle ≡ None → pairs_of pairs' ≡ without_twins (pairs_of pairs) (x ∷ [])
     → (give_row (rows_of heap infos pairs cells pins queue cycle cycles contracted) x).state ≡ rows_of heap (set infos (x - 1) i) pairs' cells pins queue cycle cycles contracted
 given-state heap infos pairs pairs' cells pins queue cycle cycles contracted x i low kind none left =
-    let kinds : map (λ (j : Held). j.kind) (set infos (x - 1) i) ≡ map (λ (j : Held). j.kind) infos = map-set_number (λ (j : Held). j.kind) infos x i low ∙ set-same (map (λ (j : Held). j.kind) infos) x i.kind kind in
-    let held : map (λ (j : Held). j.handle) (set infos (x - 1) i) ≡ numbered_set (map (λ (j : Held). j.handle) infos) x None = map-set_number (λ (j : Held). j.handle) infos x i low ∙ ap (λ z. numbered_set (map (λ (j : Held). j.handle) infos) x z) none in
+    let kinds : map (λ (j : Held). j.kind) (set infos (x - 1) i) ≡ map (λ (j : Held). j.kind) infos = map-set_number (λ (j : Held). j.kind) infos x i low
+    ∙ set-same (map (λ (j : Held). j.kind) infos) x i.kind kind in
+    let held : map (λ (j : Held). j.handle) (set infos (x - 1) i) ≡ numbered_set (map (λ (j : Held). j.handle) infos) x None = map-set_number (λ (j : Held). j.handle) infos x i low
+    ∙ ap (λ z. numbered_set (map (λ (j : Held). j.handle) infos) x z) none in
     rw (kinds, held, left) refl

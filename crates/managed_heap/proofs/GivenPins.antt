@@ -34,14 +34,17 @@ pub pin-held : (t : ℕ) (m : MNum) → t < 9 → Contains (pin_given t (Some m)
 pin-held t m l = slot-Contains (pin_given t (Some m)) t m.0 (pin-slot t (Some m) l)
 
 -- one pin more is done: it holds a row, which is marked
-pub greyed-some : (xs : List (Option MNum)) (i : ℕ) (m : MNum) (a : List Bool) (k : List ℕ) (h : ℕ) (b : List Bool) (l : List ℕ) (j : ℕ) (c : List Bool) (n : List ℕ) (g : ℕ) → slice_get xs i ≡ Some (Some m)
+pub greyed-some : (xs : List (Option MNum)) (i : ℕ) (m : MNum) (a : List Bool) (k : List ℕ) (h : ℕ) (b : List Bool) (l : List ℕ) (j : ℕ) (c : List Bool) (n : List ℕ) (g : ℕ)
+    → slice_get xs i ≡ Some (Some m)
     → Greyed (λ z. Contains (pins_given (take i xs)) (Some z)) a k h b l j → Greyed (λ z. z ≡ m.0) b l j c n g → Greyed (λ z. Contains (pins_given (take (i + 1) xs)) (Some z)) a k h c n g
-greyed-some xs i m a k h b l j c n g e v w = subst (λ (zs : List (Option ℕ)). Greyed (λ z. Contains zs (Some z)) a k h c n g) (sym (pins-next xs i (Some m) e)) (Greyed-push_some (pins_given (take i xs)) m.0 a k h b l j c n g v w)
+greyed-some xs i m a k h b l j c n g e v w = subst (λ (zs : List (Option ℕ)). Greyed (λ z. Contains zs (Some z)) a k h c n g)
+    (sym (pins-next xs i (Some m) e)) (Greyed-push_some (pins_given (take i xs)) m.0 a k h b l j c n g v w)
 
 -- or it holds none
 pub greyed-none : (xs : List (Option MNum)) (i : ℕ) (a : List Bool) (k : List ℕ) (h : ℕ) (b : List Bool) (l : List ℕ) (j : ℕ) → slice_get xs i ≡ Some None
     → Greyed (λ z. Contains (pins_given (take i xs)) (Some z)) a k h b l j → Greyed (λ z. Contains (pins_given (take (i + 1) xs)) (Some z)) a k h b l j
-greyed-none xs i a k h b l j e v = subst (λ (zs : List (Option ℕ)). Greyed (λ z. Contains zs (Some z)) a k h b l j) (sym (pins-next xs i None e)) (Greyed-push_none (pins_given (take i xs)) a k h b l j v)
+greyed-none xs i a k h b l j e v = subst (λ (zs : List (Option ℕ)). Greyed (λ z. Contains zs (Some z)) a k h b l j)
+    (sym (pins-next xs i None e)) (Greyed-push_none (pins_given (take i xs)) a k h b l j v)
 
 pub greyed-all : (xs : List (Option MNum)) (i : ℕ) (a : List Bool) (k : List ℕ) (h : ℕ) (b : List Bool) (l : List ℕ) (j : ℕ) → length xs ≤ i
     → Greyed (λ z. Contains (pins_given (take i xs)) (Some z)) a k h b l j → Greyed (λ z. Contains (pins_given xs) (Some z)) a k h b l j

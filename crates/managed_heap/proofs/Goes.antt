@@ -112,12 +112,14 @@ weak-of (P n) index k v r t cell in_range = absurd t
 weak-of C index k v r t cell in_range = absurd t
 
 -- what was answered as the replay answers may come next, if it asks for no pins: the state has none
-pub goes-answered : (s next : ManagedReplay) (m : Made) (told : Told) → s.managed.pins ≡ no_pins → AsksNoPins m.op told → IsOfSide false m → ManagedAllows s m.op told → managed_answer s m.caller m.op told ≡ answer m.reply next → GoesOn managed_rules s m told next
+pub goes-answered : (s next : ManagedReplay) (m : Made) (told : Told) → s.managed.pins ≡ no_pins → AsksNoPins m.op told → IsOfSide false m
+    → ManagedAllows s m.op told → managed_answer s m.caller m.op told ≡ answer m.reply next → GoesOn managed_rules s m told next
 goes-answered s next m told none bare of allowed is =
     let here : with_pins s (pins_told told) ≡ s = ap (λ z. with_pins s z) (plain_pins told bare.2 ∙ sym none) in
     let plain : bare_told told ≡ told = plain_told told bare.2 in
     let lawful : ManagedLawful s m told = record { allowed = allowed; replies = ap (λ a. a.reply) (sym is) } in
-    let same : managed_answer (with_pins s (pins_told told)) m.caller m.op (bare_told told) ≡ managed_answer s m.caller m.op told = ap (λ z. managed_answer z m.caller m.op (bare_told told)) here ∙ ap (λ z. managed_answer s m.caller m.op z) plain in
+    let same : managed_answer (with_pins s (pins_told told)) m.caller m.op (bare_told told) ≡ managed_answer s m.caller m.op told = ap (λ z. managed_answer z m.caller m.op (bare_told told)) here
+    ∙ ap (λ z. managed_answer s m.caller m.op z) plain in
     let emptied : managed_answer s m.caller m.op told ≡ answer (managed_answer s m.caller m.op told).reply (with_pins (managed_answer s m.caller m.op told).state no_pins) =
     ap (λ z. managed_answer (with_pins s z) m.caller m.op told) none ∙ answers_same no_pins s m.caller m.op told bare.0 bare.1 in
     record {
@@ -130,15 +132,19 @@ pub taken_in-push : (taken : List (List ℕ)) (hs : List ℕ) → taken_in (take
 taken_in-push taken hs = flat_map-append (λ (x : List ℕ). x) taken (hs ∷ []) ∙ ap (λ z. taken_in taken ++ z) (append-nil hs)
 
 -- from a side to the side with one entry more, which gave these handles to rows
-pub side-gives : (es : List Entry) (taken after : List (List ℕ)) (rows next : ManagedReplay) (given : List ℕ) (m : Made) (told : Told) → IsReplayed managed_rules es (state_of taken rows) → AsksNoPins m.op told → IsOfSide false m → ManagedAllows (state_of taken rows) m.op told
-    → after ≡ taken ++ given ∷ [] → ((hs : List ℕ) → managed_answer (with_adopted rows hs) m.caller m.op told ≡ answer m.reply (with_adopted next (hs ++ given))) → GoesOn managed_rules (state_of taken rows) m told (state_of after next)
+pub side-gives : (es : List Entry) (taken after : List (List ℕ)) (rows next : ManagedReplay) (given : List ℕ) (m : Made) (told : Told)
+    → IsReplayed managed_rules es (state_of taken rows) → AsksNoPins m.op told → IsOfSide false m → ManagedAllows (state_of taken rows) m.op told
+    → after ≡ taken ++ given ∷ [] → ((hs : List ℕ) → managed_answer (with_adopted rows hs) m.caller m.op told ≡ answer m.reply (with_adopted next (hs ++ given)))
+    → GoesOn managed_rules (state_of taken rows) m told (state_of after next)
 side-gives es taken after rows next given m told r bare of allowed added answers =
     goes-answered (state_of taken rows) (state_of after next) m told (no-pins es (state_of taken rows) r) bare of allowed
     (answers (taken_in taken) ∙ ap (λ z. answer m.reply (with_adopted next z)) (sym (ap taken_in added ∙ taken_in-push taken given)))
 
 -- the same where it gave none
-pub side-goes : (es : List Entry) (taken : List (List ℕ)) (rows next : ManagedReplay) (m : Made) (told : Told) → IsReplayed managed_rules es (state_of taken rows) → AsksNoPins m.op told → IsOfSide false m → ManagedAllows (state_of taken rows) m.op told
-    → ((hs : List ℕ) → managed_answer (with_adopted rows hs) m.caller m.op told ≡ answer m.reply (with_adopted next (hs ++ []))) → GoesOn managed_rules (state_of taken rows) m told (state_of taken next)
+pub side-goes : (es : List Entry) (taken : List (List ℕ)) (rows next : ManagedReplay) (m : Made) (told : Told)
+    → IsReplayed managed_rules es (state_of taken rows) → AsksNoPins m.op told → IsOfSide false m → ManagedAllows (state_of taken rows) m.op told
+    → ((hs : List ℕ) → managed_answer (with_adopted rows hs) m.caller m.op told ≡ answer m.reply (with_adopted next (hs ++ [])))
+    → GoesOn managed_rules (state_of taken rows) m told (state_of taken next)
 side-goes es taken rows next m told r bare of allowed answers =
     goes-answered (state_of taken rows) (state_of taken next) m told (no-pins es (state_of taken rows) r) bare of allowed
     (answers (taken_in taken) ∙ ap (λ z. answer m.reply (with_adopted next z)) (append-nil (taken_in taken)))
@@ -153,7 +159,8 @@ pub goes-pinned : (es : List Entry) (taken : List (List ℕ)) (rows next after :
     → with_pins (with_adopted after (taken_in taken)) no_pins ≡ with_pins (managed_answer (with_pins (state_of taken rows) pins) m.caller m.op told).state no_pins
     → GoesOn managed_rules (state_of taken rows) m (kept_pins pins told) (state_of taken next)
 goes-pinned es taken rows next after m pins told r of read pinned lawful is same answers =
-    let bare : with_adopted after (taken_in taken) ≡ with_pins (with_adopted after (taken_in taken)) no_pins = bare-state (with_adopted after (taken_in taken)) (same ∙ no-pins es (state_of taken rows) r) in
+    let bare : with_adopted after (taken_in taken) ≡ with_pins (with_adopted after (taken_in taken)) no_pins = bare-state
+    (with_adopted after (taken_in taken)) (same ∙ no-pins es (state_of taken rows) r) in
     record {
       lawful = (of, record { own = read; tells = sym pinned; lawful = lawful });
       state = ap (λ z. with_adopted z (taken_in taken)) is ∙ (bare ∙ answers);
@@ -164,12 +171,15 @@ above-all : (es : List Entry) (floor k : ℕ) → AllBelow es floor → floor �
 above-all es floor k b l = All-weaker (λ e. e.number < floor) (λ e. e.number < k) (λ e h. omega (arith, h, l)) es b
 
 -- the side with one entry more is the replay of its entries
-pub side-replayed : (es es' : List Entry) (taken after : List (List ℕ)) (rows next : ManagedReplay) (k floor : ℕ) (m : Made) (told : Told) → AllBelow es floor → floor ≤ k → es' ≡ es ++ numbered k m ∷ []
+pub side-replayed : (es es' : List Entry) (taken after : List (List ℕ)) (rows next : ManagedReplay) (k floor : ℕ) (m : Made) (told : Told)
+    → AllBelow es floor → floor ≤ k → es' ≡ es ++ numbered k m ∷ []
     → GoesOn managed_rules (state_of taken rows) m told (state_of after next) → IsReplayed managed_rules es (state_of taken rows) → IsReplayed managed_rules es' (state_of after next)
-side-replayed es es' taken after rows next k floor m told below above added goes r = IsReplayed-push managed_rules es es' (state_of taken rows) (state_of after next) k m told (above-all es floor k below above) added goes r
+side-replayed es es' taken after rows next k floor m told below above added goes r = IsReplayed-push managed_rules es es'
+    (state_of taken rows) (state_of after next) k m told (above-all es floor k below above) added goes r
 
 -- and keeps what every side keeps, if the pins stand that are told with the entry
-pub side-kept : (es es' : List Entry) (taken after : List (List ℕ)) (rows next : ManagedReplay) (k : ℕ) (m : Made) (told : Told) → PinsStand rows.managed (pins_told told) → es' ≡ es ++ numbered k m ∷ []
+pub side-kept : (es es' : List Entry) (taken after : List (List ℕ)) (rows next : ManagedReplay) (k : ℕ) (m : Made) (told : Told)
+    → PinsStand rows.managed (pins_told told) → es' ≡ es ++ numbered k m ∷ []
     → GoesOn managed_rules (state_of taken rows) m told (state_of after next) → IsSideKept es (state_of taken rows) → IsSideKept es' (state_of after next)
 side-kept es es' taken after rows next k m told st added goes k' =
     let s = state_of taken rows in
@@ -187,7 +197,8 @@ pub kept-rows : (es : List Entry) (taken : List (List ℕ)) (rows : ManagedRepla
 kept-rows es taken rows k = (taken_in taken, k.kept)
 
 -- each of the things that gave handles to rows has an entry
-pub takings-more : (es es' : List Entry) (taken after : List (List ℕ)) (given : List ℕ) (k : ℕ) (m : Made) → after ≡ taken ++ given ∷ [] → es' ≡ es ++ numbered k m ∷ [] → length taken ≤ length es → length after ≤ length es'
+pub takings-more : (es es' : List Entry) (taken after : List (List ℕ)) (given : List ℕ) (k : ℕ) (m : Made)
+    → after ≡ taken ++ given ∷ [] → es' ≡ es ++ numbered k m ∷ [] → length taken ≤ length es → length after ≤ length es'
 takings-more es es' taken after given k m more added few = omega (arith, ap length more, ap length added, length-append taken (given ∷ []), length-append es (numbered k m ∷ []), few)
 
 pub takings-few : (es es' : List Entry) (taken : List (List ℕ)) (k : ℕ) (m : Made) → es' ≡ es ++ numbered k m ∷ [] → length taken ≤ length es → length taken ≤ length es'
@@ -207,9 +218,11 @@ HasRoom-two s spare two = λ c o. owed s.contracted
     owed false = two
 
 -- a line that the managed objects answered, with the handles that were adopted
-pub line-answers : (old new : ManagedReplay) (t : Thread) (a : Act) (r : Reply) (hs : List ℕ) → managed_line old.managed (thread_number t) a ≡ answer r new.managed → new ≡ record old { managed = new.managed }
+pub line-answers : (old new : ManagedReplay) (t : Thread) (a : Act) (r : Reply) (hs : List ℕ)
+    → managed_line old.managed (thread_number t) a ≡ answer r new.managed → new ≡ record old { managed = new.managed }
     → managed_answer (with_adopted old hs) t (op.Line a) nothing ≡ answer r (with_adopted new (hs ++ adopted_by (op.Line a) r))
-line-answers old new t a r hs is rest = ap (λ x. plainly (with_adopted old hs) x) is ∙ ap (λ z. answer r z) (ap (λ z. with_adopted z hs) (sym rest) ∙ ap (λ z. with_adopted new z) (sym (append-nil hs)))
+line-answers old new t a r hs is rest = ap (λ x. plainly (with_adopted old hs) x) is
+    ∙ ap (λ z. answer r z) (ap (λ z. with_adopted z hs) (sym rest) ∙ ap (λ z. with_adopted new z) (sym (append-nil hs)))
 
 -- a reply that changes nothing
 pub same-answers : (old : ManagedReplay) (r said : Reply) (hs : List ℕ) → said ≡ r → answer said (with_adopted old hs) ≡ answer r (with_adopted old (hs ++ []))
@@ -225,6 +238,7 @@ may-set s hs (op.Line a) m w = line a w
 may-set s hs _ m w = w
 
 -- the caller may draw for the event, also with an object to which it may set a cell
-pub may-target : {D : Type 0} (d : Drawing D) (draw : D) (s : ManagedReplay) (t : Thread) (o : Op) (m : Option MNum) → d.may draw t o None → ((x : MNum) → MaySetCell s o x → d.may draw t o (Some x)) → ((x : MNum) → m ≡ Some x → MaySetCell s o x) → d.may draw t o m
+pub may-target : {D : Type 0} (d : Drawing D) (draw : D) (s : ManagedReplay) (t : Thread) (o : Op) (m : Option MNum) → d.may draw t o None
+    → ((x : MNum) → MaySetCell s o x → d.may draw t o (Some x)) → ((x : MNum) → m ≡ Some x → MaySetCell s o x) → d.may draw t o m
 may-target d draw s t o None bare targets at = bare
 may-target d draw s t o (Some x) bare targets at = targets x (at x refl)

@@ -54,7 +54,8 @@ step-cycles s t (resolving p) = (let e = ap (λ (z : Managed). z.cycles) p.is in
 step-cycles s t (abandoning p) = (let e = ap (λ (z : Managed). z.cycles) p.is in omega arith)
 
 -- and opens one cycle at most
-pub few-next : (s : ManagedReplay) (m : Made) (told : Told) → PinsStand s.managed (pins_told told) → managed_rules.lawful s m told → IsReplayKept s → (managed_rules.next s m told).managed.cycles ≤ s.managed.cycles + 1
+pub few-next : (s : ManagedReplay) (m : Made) (told : Told) → PinsStand s.managed (pins_told told)
+    → managed_rules.lawful s m told → IsReplayKept s → (managed_rules.next s m told).managed.cycles ≤ s.managed.cycles + 1
 few-next s m told st l k =
     let p = with_pins s (pins_told told) in
     step-cycles p.managed (managed_answer p m.caller m.op (bare_told told)).state.managed (managed_step p m.caller m.op (bare_told told) (kept-pinned s (pins_told told) st k) l.1.lawful.allowed)

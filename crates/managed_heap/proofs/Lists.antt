@@ -30,7 +30,8 @@ pub map-filter : {X Y : Type 0} (f : X → Y) (p : Y → Bool) (xs : List X) →
 map-filter f p [] = refl
 map-filter {X} {Y} f p (x ∷ xs) = by (p (f x)) (map-filter f p xs)
   where
-    by : (b : Bool) → map f (filter (λ y. p (f y)) xs) ≡ filter p (map f xs) → map f (cond b (x ∷ filter (λ y. p (f y)) xs) (filter (λ y. p (f y)) xs)) ≡ cond b (f x ∷ filter p (map f xs)) (filter p (map f xs))
+    by : (b : Bool) → map f (filter (λ y. p (f y)) xs) ≡ filter p (map f xs)
+        → map f (cond b (x ∷ filter (λ y. p (f y)) xs) (filter (λ y. p (f y)) xs)) ≡ cond b (f x ∷ filter p (map f xs)) (filter p (map f xs))
     by true e = ap (λ zs. f x ∷ zs) e
     by false e = e
 

@@ -25,7 +25,8 @@ peers-push infos i = map-append (λ (j : Held). j.peer) infos (i ∷ [])
 
 -- a further row keeps the peers beside the others
 peers-kept : (infos : List Held) (i : Held) (m p : ℕ) → numbered_at (peers_of infos) m ≡ Some (Some p) → numbered_at (peers_of (infos ++ i ∷ [])) m ≡ Some (Some p)
-peers-kept infos i m p at = subst (λ z. numbered_at z m ≡ Some (Some p)) (sym (peers-push infos i)) (numbered-push_old (peers_of infos) i.peer m (numbered-within (peers_of infos) m (Some p) at).1 ∙ at)
+peers-kept infos i m p at = subst (λ z. numbered_at z m ≡ Some (Some p)) (sym (peers-push infos i))
+    (numbered-push_old (peers_of infos) i.peer m (numbered-within (peers_of infos) m (Some p) at).1 ∙ at)
 
 pub ArePeers-row : (pairs : List (PNum × MNum)) (infos : List Held) (i : Held) → i.peer ≡ None → ArePeers pairs infos → ArePeers pairs (infos ++ i ∷ [])
 ArePeers-row pairs infos i none a = λ p m. (
@@ -36,7 +37,8 @@ ArePeers-row pairs infos i none a = λ p m. (
   ]),
 )
 
-pub ArePeers-pair : (pairs : List (PNum × MNum)) (infos : List Held) (i : Held) (p : PNum) (m : MNum) → i.peer ≡ Some p.0 → m.0 ≡ length infos + 1 → ArePeers pairs infos → ArePeers (pairs ++ (p, m) ∷ []) (infos ++ i ∷ [])
+pub ArePeers-pair : (pairs : List (PNum × MNum)) (infos : List Held) (i : Held) (p : PNum) (m : MNum)
+    → i.peer ≡ Some p.0 → m.0 ≡ length infos + 1 → ArePeers pairs infos → ArePeers (pairs ++ (p, m) ∷ []) (infos ++ i ∷ [])
 ArePeers-pair pairs infos i p m peer next a = λ q n. (forward q n, back q n)
   where
     all : pairs_of (pairs ++ (p, m) ∷ []) ≡ pairs_of pairs ++ (p.0, m.0) ∷ []
@@ -46,7 +48,8 @@ ArePeers-pair pairs infos i p m peer next a = λ q n. (forward q n, back q n)
     place = omega (arith, length-map infos (λ (j : Held). j.peer), next)
 
     here : numbered_at (peers_of (infos ++ i ∷ [])) m.0 ≡ Some (Some p.0)
-    here = subst (λ z. numbered_at z m.0 ≡ Some (Some p.0)) (sym (peers-push infos i)) (subst (λ z. numbered_at (peers_of infos ++ i.peer ∷ []) z ≡ Some (Some p.0)) place (numbered-push_new (peers_of infos) i.peer ∙ ap Some peer))
+    here = subst (λ z. numbered_at z m.0 ≡ Some (Some p.0)) (sym (peers-push infos i))
+        (subst (λ z. numbered_at (peers_of infos ++ i.peer ∷ []) z ≡ Some (Some p.0)) place (numbered-push_new (peers_of infos) i.peer ∙ ap Some peer))
 
     forward : (q n : ℕ) → Contains (pairs_of (pairs ++ (p, m) ∷ [])) (q, n) → numbered_at (peers_of (infos ++ i ∷ [])) n ≡ Some (Some q)
     forward q n c = elim (Contains-push_cases (pairs_of pairs) (p.0, m.0) (q, n) (subst (λ z. Contains z (q, n)) all c)) [
@@ -61,8 +64,10 @@ ArePeers-pair pairs infos i p m peer next a = λ q n. (forward q n, back q n)
     ])
 
 -- the handle of a live row is the one that stands beside it
-pub handle-is : (s : Managed) (infos : List Held) (x : ℕ) (i : Held) → s.held ≡ map (λ (j : Held). j.handle) infos → IsLive s.heap x → x ≤ length infos → i ≡ get_or infos (x - 1) i → handle_of s x ≡ i.handle
+pub handle-is : (s : Managed) (infos : List Held) (x : ℕ) (i : Held) → s.held ≡ map (λ (j : Held). j.handle) infos
+    → IsLive s.heap x → x ≤ length infos → i ≡ get_or infos (x - 1) i → handle_of s x ≡ i.handle
 handle-is s infos x i held live within e =
-    let at : numbered_at s.held x ≡ Some i.handle = ap (λ z. numbered_at z x) held ∙ numbered-read (λ (j : Held). j.handle) infos x i live.made.0 (omega (arith, within, length-map infos (λ (j : Held). j.handle))) e in
+    let at : numbered_at s.held x ≡ Some i.handle = ap (λ z. numbered_at z x) held
+    ∙ numbered-read (λ (j : Held). j.handle) infos x i live.made.0 (omega (arith, within, length-map infos (λ (j : Held). j.handle))) e in
     let unfreed = is_freed-live s.heap x live in
     rw (unfreed, at, handle_of) refl

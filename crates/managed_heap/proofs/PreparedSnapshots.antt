@@ -31,14 +31,16 @@ use Rattle.managed_heap.proofs.TakingSnapshots.{AreSlotMarks, IsSnapshot-found, 
 slot-marks : (s : Managed) (w : HeapRows) (freed candidates dead : List ℕ) → (p : Prepares s.heap s.pins s.held w freed candidates dead) → AreSlotMarks p.marked s
 slot-marks s w freed candidates dead p = record { heap = p.same; plain = p.plain; marks = p.slots }
 
-pub prepared-snapshot : (s : Managed) (w : HeapRows) (freed candidates dead : List ℕ) → s.cycle ≡ None → Prepares s.heap s.pins s.held w freed candidates dead → IsSnapshot s (s.cycles + 1) freed candidates dead
+pub prepared-snapshot : (s : Managed) (w : HeapRows) (freed candidates dead : List ℕ) → s.cycle ≡ None
+    → Prepares s.heap s.pins s.held w freed candidates dead → IsSnapshot s (s.cycles + 1) freed candidates dead
 prepared-snapshot s w freed candidates dead closed p = IsSnapshot-found p.marked w s freed candidates dead closed (slot-marks s w freed candidates dead p) p.finds
 
 pub prepared-free : (s : Managed) (w : HeapRows) (freed candidates dead : List ℕ) → w.heap ≡ s.heap → Prepares s.heap s.pins s.held w freed candidates dead → CanFree w.heap freed
 prepared-free s w freed candidates dead e p = CanFree-found p.marked w s freed candidates dead (e ∙ sym p.same) (slot-marks s w freed candidates dead p) p.finds
 
 -- a pin is a root, so what it holds isn't freed
-pub pins-left : (s : Managed) (w : HeapRows) (freed candidates dead : List ℕ) → s.cycle ≡ None → ((x : ℕ) → Contains s.pins (Some x) → IsLive s.heap x) → Prepares s.heap s.pins s.held w freed candidates dead → (x : ℕ) → Contains s.pins (Some x) → IsLive (with_freed s.heap freed) x
+pub pins-left : (s : Managed) (w : HeapRows) (freed candidates dead : List ℕ) → s.cycle ≡ None → ((x : ℕ) → Contains s.pins (Some x) → IsLive s.heap x)
+    → Prepares s.heap s.pins s.held w freed candidates dead → (x : ℕ) → Contains s.pins (Some x) → IsLive (with_freed s.heap freed) x
 pins-left s w freed candidates dead closed live p x c =
     let root : IsManagedRoot s x = inr c in
     IsLive-left s.heap freed x (live x c)
@@ -50,7 +52,8 @@ pub prepared-due : (s : Managed) (w u : HeapRows) (freed candidates dead : List 
 prepared-due s w u freed candidates dead spare n p eu marks l = HasDue-found p.marked w u s freed candidates dead spare n (slot-marks s w freed candidates dead p) p.finds eu marks l
 
 -- the graph was made over the objects before, and its rows stay
-pub prepared-graph : (s : Managed) (pins : List (Option ℕ)) (w : HeapRows) (freed candidates : List ℕ) (ds : List MNum) (g : Part) → s.cycle ≡ None → Prepares s.heap pins s.held w freed candidates (managed_numbers ds) → g.nodes ≡ map (node_of s.heap s.held) ds
+pub prepared-graph : (s : Managed) (pins : List (Option ℕ)) (w : HeapRows) (freed candidates : List ℕ) (ds : List MNum) (g : Part)
+    → s.cycle ≡ None → Prepares s.heap pins s.held w freed candidates (managed_numbers ds) → g.nodes ≡ map (node_of s.heap s.held) ds
     → ((a k : ℕ) → NodeLeads g.edges a k ↔ HasDeadField s.heap (managed_numbers ds) a k) → IsDeadGraph (with_snapshot s freed candidates (managed_numbers ds)) (managed_numbers ds) g
 prepared-graph s pins w freed candidates ds g closed p nodes edges =
     let snapshot = prepared-snapshot (record s { pins = pins }) w freed candidates (managed_numbers ds) closed p in
@@ -58,7 +61,8 @@ prepared-graph s pins w freed candidates ds g closed p nodes edges =
     (λ m c. (let l = (snapshot.leaves m).0 c in IsLive-left s.heap freed m l.0 l.2)) nodes edges
 
 -- the snapshot, from the parts of a side
-pub takes-prepared : (h k : Heap) (infos : List Held) (ps : List (PNum × MNum)) (cells pins : List (Option ℕ)) (q r : Queue) (cycle after : Option OpenCycle) (n : ℕ) (b : Bool) (w : HeapRows) (freed candidates : List ℕ) (ds : List MNum) (first count : ℕ) (g : Part)
+pub takes-prepared : (h k : Heap) (infos : List Held) (ps : List (PNum × MNum)) (cells pins : List (Option ℕ)) (q r : Queue)
+    (cycle after : Option OpenCycle) (n : ℕ) (b : Bool) (w : HeapRows) (freed candidates : List ℕ) (ds : List MNum) (first count : ℕ) (g : Part)
     → cycle ≡ None → Prepares h pins (map (λ (i : Held). i.handle) infos) w freed candidates (managed_numbers ds) → k ≡ with_freed h freed → r.queued ≡ q.queued → r.taken ≡ q.taken
     → after ≡ Some record { number = n + 1; candidates = candidates; dead = managed_numbers ds } → first ≡ length h.freed → count ≡ length candidates
     → g.nodes ≡ map (node_of h (map (λ (i : Held). i.handle) infos)) ds → ((a k : ℕ) → NodeLeads g.edges a k ↔ HasDeadField h (managed_numbers ds) a k)

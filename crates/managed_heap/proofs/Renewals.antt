@@ -18,5 +18,7 @@ renewed-append held (c ∷ cs) ds (said_cleared ∷ us) bs e = renewed-append he
 pub renewed-more : (held : List (Option ℕ)) (cs : List ℕ) (alive : List (Option HNum)) (i : ℕ) → i < length cs → i < length alive
     → renewed held (take (i + 1) cs) (answers_of (take (i + 1) alive)) ≡ renewed (renewed held (take i cs) (answers_of (take i alive))) (get_or cs i 0 ∷ []) (answer_of (get_or alive i None) ∷ [])
 renewed-more held cs alive i a b =
-    let same : length (take i cs) ≡ length (answers_of (take i alive)) = length-take-le i cs (omega (arith, a)) ∙ sym (length-map (take i alive) answer_of ∙ length-take-le i alive (omega (arith, b))) in
-    rw (take_more cs i 0 a, take_more alive i None b, map-append answer_of (take i alive) (get_or alive i None ∷ [])) (renewed-append held (take i cs) (get_or cs i 0 ∷ []) (answers_of (take i alive)) (answer_of (get_or alive i None) ∷ []) same)
+    let same : length (take i cs) ≡ length (answers_of (take i alive)) = length-take-le i cs (omega (arith, a))
+    ∙ sym (length-map (take i alive) answer_of ∙ length-take-le i alive (omega (arith, b))) in
+    rw (take_more cs i 0 a, take_more alive i None b, map-append answer_of (take i alive) (get_or alive i None ∷ []))
+    (renewed-append held (take i cs) (get_or cs i 0 ∷ []) (answers_of (take i alive)) (answer_of (get_or alive i None) ∷ []) same)

@@ -2,7 +2,8 @@
 -- part, and nothing outside leads into it, so the marks are closed under the edges; a marking that goes on from the
 -- kept candidates marks what these reach, and what it leaves out of the dead part is named and held by nothing that
 -- stays.
-use Rattle.std.proofs.Common.{◌≡◌, ℕ, suc, ◌+◌, ◌<◌, ◌≤◌, ◌↔◌, ◌⊎◌, inl, inr, Bool, true, false, not, List, [], ◌∷◌, ◌++◌, length, map, cond, nat_eq, Option, Some, None, refl, sym, ap, subst, ◌∙◌, arith}
+use Rattle.std.proofs.Common.{◌≡◌, ℕ, suc, ◌+◌, ◌<◌, ◌≤◌, ◌↔◌, ◌⊎◌, inl, inr, Bool, true, false, not, List, [], ◌∷◌, ◌++◌, length, map, cond, nat_eq, Option, Some, None, refl, sym, ap, subst, ◌∙◌}
+use Rattle.std.proofs.Common.{arith}
 use Rattle.std.specs.Prelude.{Contains, All, filter, is_some}
 use Rattle.std.specs.List.{list_any}
 use Rattle.std.proofs.lemmas.Bool.{eqb-true}
@@ -53,9 +54,11 @@ shut-open v spare s c eh ef d cut x y e m =
     ]
 
 -- what the marking leaves out of the dead part may be freed
-pub can-free : (v w : HeapRows) (s : Managed) (c : OpenCycle) (freed : List ℕ) → v.heap ≡ s.heap → w.heap ≡ v.heap → Rises c.dead → IsCutOff s c → IsClosed (EdgeOf v) w.marks → freed ≡ unmarked_of w.marks c.dead → CanFree w.heap freed
+pub can-free : (v w : HeapRows) (s : Managed) (c : OpenCycle) (freed : List ℕ) → v.heap ≡ s.heap → w.heap ≡ v.heap
+    → Rises c.dead → IsCutOff s c → IsClosed (EdgeOf v) w.marks → freed ≡ unmarked_of w.marks c.dead → CanFree w.heap freed
 can-free v w s c freed eh ew rise cut shut is =
-    let exact : (m : ℕ) → Contains freed m ↔ (Contains c.dead m × (HasMark w.marks m → ⊥)) = λ m. subst (λ xs. Contains xs m ↔ (Contains c.dead m × (HasMark w.marks m → ⊥))) (sym is) (unmarked_of-exact w.marks c.dead m) in
+    let exact : (m : ℕ) → Contains freed m ↔ (Contains c.dead m × (HasMark w.marks m → ⊥)) = λ m. subst
+    (λ xs. Contains xs m ↔ (Contains c.dead m × (HasMark w.marks m → ⊥))) (sym is) (unmarked_of-exact w.marks c.dead m) in
     let e : w.heap ≡ s.heap = ew ∙ eh in
     record {
       live = All-members (IsLive w.heap) freed (λ x k. subst (λ h. IsLive h x) (sym e) (cut.live x ((exact x).0 k).0));
@@ -67,7 +70,11 @@ can-free v w s c freed eh ew rise cut shut is =
           let fx : Contains (fields_of s.heap x) (Some y) = subst (λ h. Contains (fields_of h x) (Some y)) e f in
           elim (Contains-decided c.dead x) [
             | inl d ↦ elim (marked-or w.marks x) [
-              | inl m ↦ u.1 (shut x y (inl (record { live = subst (λ h. IsLive h x) (sym eh) lx; field = subst (λ h. Contains (fields_of h x) (Some y)) (sym eh) fx; there = subst (λ h. IsLive h y) (sym eh) (cut.live y u.0) })) m)
+              | inl m ↦ u.1 (shut x y (inl (record {
+                live = subst (λ h. IsLive h x) (sym eh) lx;
+                field = subst (λ h. Contains (fields_of h x) (Some y)) (sym eh) fx;
+                there = subst (λ h. IsLive h y) (sym eh) (cut.live y u.0);
+              })) m)
               | inr m ↦ n ((exact x).1 (d, m))
             ]
             | inr d ↦ cut.unheld x y lx d fx u.0
@@ -79,11 +86,16 @@ pub resolution-is : (v w : HeapRows) (spare : ℕ) (s : Managed) (c : OpenCycle)
     → ((k : ℕ) → HasMark w.marks k ↔ (HasMark v.marks k ⊎ Reached (IsAnsweredAlive c.candidates (answers_of alive)) (EdgeOf v) k)) → freed ≡ unmarked_of w.marks c.dead
     → IsResolution s c.dead (IsAnsweredAlive c.candidates (answers_of alive)) freed
 resolution-is v w spare s c alive freed eh ef d marks is =
-    let exact : (m : ℕ) → Contains freed m ↔ (Contains c.dead m × (HasMark w.marks m → ⊥)) = λ m. subst (λ xs. Contains xs m ↔ (Contains c.dead m × (HasMark w.marks m → ⊥))) (sym is) (unmarked_of-exact w.marks c.dead m) in
+    let exact : (m : ℕ) → Contains freed m ↔ (Contains c.dead m × (HasMark w.marks m → ⊥)) = λ m. subst
+    (λ xs. Contains xs m ↔ (Contains c.dead m × (HasMark w.marks m → ⊥))) (sym is) (unmarked_of-exact w.marks c.dead m) in
     record {
       rise = subst Rises (sym is) (Rises-filter (λ m. not (marked w.marks m)) c.dead d.rise);
       frees = λ m. (
-        λ k. (let u = (exact m).0 k in (u.0, λ q. u.1 ((marks m).1 (inr (record { root = q.0; starts = q.1; reaches = Reaches-mono (ManagedEdge s) (EdgeOf v) (λ x y f. inl (subst (λ h. HasField h x y) (sym eh) f)) q.0 m q.2 }))))),
+        λ k. (let u = (exact m).0 k in (
+          u.0,
+          λ q. u.1 ((marks m).1
+              (inr (record { root = q.0; starts = q.1; reaches = Reaches-mono (ManagedEdge s) (EdgeOf v) (λ x y f. inl (subst (λ h. HasField h x y) (sym eh) f)) q.0 m q.2 }))),
+        )),
         λ u. (exact m).1 (
           u.0,
           λ h. elim ((marks m).0 h) [
@@ -112,7 +124,8 @@ Rises-within xs ys rx ry h =
     subst (λ zs. length zs ≤ length ys) is (shorter p ys)
 
 -- each row of the dead part that holds a handle is a candidate, and has room for its notice
-pub notices-fit : (s : Managed) (c : OpenCycle) (freed : List ℕ) (spare : ℕ) → IsCutOff s c → length c.candidates ≤ spare → Rises freed → ((m : ℕ) → Contains freed m → Contains c.dead m) → length (filter (has_handle s.held) freed) ≤ spare
+pub notices-fit : (s : Managed) (c : OpenCycle) (freed : List ℕ) (spare : ℕ) → IsCutOff s c → length c.candidates ≤ spare
+    → Rises freed → ((m : ℕ) → Contains freed m → Contains c.dead m) → length (filter (has_handle s.held) freed) ≤ spare
 notices-fit s c freed spare cut l rise within =
     let fits = Rises-within (filter (has_handle s.held) freed) c.candidates (Rises-filter (has_handle s.held) freed rise) cut.rise (λ m k. (
     let r = Contains-filter_from (has_handle s.held) freed m k in
@@ -136,10 +149,14 @@ pub filter-live : (s : Managed) (xs : List ℕ) → ((x : ℕ) → Contains xs x
 filter-live s xs l = filter-agree (has_handle s.held) (holds_handle s) xs (λ x c. sym (holds_handle-live s x (l x c)))
 
 -- the state after a resolution, from its parts
-pub resolved-is : (h k : Heap) (infos others : List Held) (ps qs : List (PNum × MNum)) (cells pins : List (Option ℕ)) (q p : Queue) (cycle : Option OpenCycle) (n : ℕ) (b : Bool) (answers : List Answer) (freed : List ℕ)
-    → k ≡ with_freed h freed → map (λ (i : Held). i.kind) others ≡ map (λ (i : Held). i.kind) infos → map (λ (i : Held). i.handle) others ≡ renewed (map (λ (i : Held). i.handle) infos) (candidates_of (rows_of h infos ps cells pins q cycle n b).managed) answers → pairs_of qs ≡ without_twins (pairs_of ps) freed
+pub resolved-is : (h k : Heap) (infos others : List Held) (ps qs : List (PNum × MNum)) (cells pins : List (Option ℕ))
+    (q p : Queue) (cycle : Option OpenCycle) (n : ℕ) (b : Bool) (answers : List Answer) (freed : List ℕ)
+    → k ≡ with_freed h freed → map (λ (i : Held). i.kind) others ≡ map (λ (i : Held). i.kind) infos
+    → map (λ (i : Held). i.handle) others ≡ renewed (map (λ (i : Held). i.handle) infos) (candidates_of (rows_of h infos ps cells pins q cycle n b).managed) answers
+    → pairs_of qs ≡ without_twins (pairs_of ps) freed
     → managed_numbers p.queued ≡ managed_numbers q.queued ++ filter (holds_handle (rows_of h infos ps cells pins q cycle n b).managed) freed → p.taken ≡ q.taken
-    → rows_of k others qs cells pins p None n b ≡ record (rows_of h infos ps cells pins q cycle n b) { managed = resolved (rows_of h infos ps cells pins q cycle n b).managed answers freed; registry = without_twins (pairs_of ps) freed }
+    → rows_of k others qs cells pins p None n b ≡ record (rows_of h infos ps cells pins q cycle n b)
+    { managed = resolved (rows_of h infos ps cells pins q cycle n b).managed answers freed; registry = without_twins (pairs_of ps) freed }
 resolved-is h k infos others ps qs cells pins q p cycle n b answers freed e kinds held pairs queued taken = rw (e, kinds, held, pairs, queued, taken) refl
 
 -- a rising list of numbers from `low` on and below n has few
@@ -154,5 +171,6 @@ rises-few_from (x ∷ xs) low n r a b l =
 -- rising live rows are at most as many as were made
 pub rows-few : (h : Heap) (xs : List ℕ) → Rises xs → ((x : ℕ) → Contains xs x → IsLive h x) → length xs ≤ length h.fields
 rows-few h xs r l =
-    let few = rises-few_from xs 1 (length h.fields + 1) r (All-members (λ y. 1 ≤ y) xs (λ x c. (l x c).made.0)) (All-members (λ y. y < length h.fields + 1) xs (λ x c. omega (arith, (l x c).made.1))) (omega arith) in
+    let few = rises-few_from xs 1 (length h.fields + 1) r (All-members (λ y. 1 ≤ y) xs (λ x c. (l x c).made.0))
+    (All-members (λ y. y < length h.fields + 1) xs (λ x c. omega (arith, (l x c).made.1))) (omega arith) in
     omega (arith, few)

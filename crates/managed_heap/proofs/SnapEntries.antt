@@ -13,9 +13,11 @@ use Rattle.managed_heap.specs.Sides.{state_of}
 use Rattle.managed_heap.specs.Snapping.{TakesSnapshot}
 use Rattle.managed_heap.proofs.Goes.{goes-pinned}
 
-pub snap-goes : (es : List Entry) (taken : List (List ℕ)) (rows next : ManagedReplay) (pins : List (Option ℕ)) (index number first count : ℕ) (freed : List ℕ) (graph : Part) → IsReplayed managed_rules es (state_of taken rows) → (t : TakesSnapshot rows next pins freed number first count graph)
+pub snap-goes : (es : List Entry) (taken : List (List ℕ)) (rows next : ManagedReplay) (pins : List (Option ℕ)) (index number first count : ℕ) (freed : List ℕ) (graph : Part)
+    → IsReplayed managed_rules es (state_of taken rows) → (t : TakesSnapshot rows next pins freed number first count graph)
     → GoesOn managed_rules (state_of taken rows) (snap_made rows.managed index freed t.candidates) (kept_pins pins (snap_of freed t.candidates t.dead)) (state_of taken next)
 snap-goes es taken rows next pins index number first count freed graph r t =
-    goes-pinned es taken rows next (record rows { managed = with_snapshot rows.managed freed t.candidates t.dead; contracted = false }) (snap_made rows.managed index freed t.candidates) pins (snap_of freed t.candidates t.dead) r
+    goes-pinned es taken rows next (record rows { managed = with_snapshot rows.managed freed t.candidates t.dead; contracted = false })
+    (snap_made rows.managed index freed t.candidates) pins (snap_of freed t.candidates t.dead) r
     (record { event = tt; side = refl }) refl refl
     (record { allowed = subst (λ k. IsSnapshot (with_pins rows pins).managed k freed t.candidates t.dead) t.snapshot.next t.snapshot; replies = refl }) t.state refl refl

@@ -53,14 +53,16 @@ after : (s : ManagedReplay) (hs : List ℕ) (pins : List (Option ℕ)) (t v : �
 after s hs pins t v None = refl
 after s hs pins t v (Some m) = refl
 
-pub take-goes : (es : List Entry) (taken : List (List ℕ)) (rows next : ManagedReplay) (t : Thread) (index : ℕ) (v : Var) (pin : Option MNum) → IsReplayed managed_rules es (state_of taken rows) → IsManagedThread t → IsVar v
+pub take-goes : (es : List Entry) (taken : List (List ℕ)) (rows next : ManagedReplay) (t : Thread) (index : ℕ) (v : Var) (pin : Option MNum)
+    → IsReplayed managed_rules es (state_of taken rows) → IsManagedThread t → IsVar v
     → next ≡ with_taken rows (place (thread_number t) v.0) pin
     → GoesOn managed_rules (state_of taken rows) (step_made t index (take_op v) (pin_reply pin) None) (kept_pins (pin_given (thread_number t) pin) nothing) (state_of taken next)
 take-goes es taken rows next t index v pin r thread in_range is =
     let i = thread_number t in
     let p = place i v.0 in
     let pins = pin_given i pin in
-    let is-taken : pin_taken (with_pins rows pins).managed i p ≡ taken_by (with_pins rows pins).managed i p pin = taken-by (with_pins rows pins).managed i p pin (pin-slot i pin (number-low t thread)) in
+    let is-taken : pin_taken (with_pins rows pins).managed i p ≡ taken_by (with_pins rows pins).managed i p pin = taken-by (with_pins rows pins).managed i p pin
+    (pin-slot i pin (number-low t thread)) in
     goes-pinned es taken rows next (with_taken rows p pin) (step_made t index (take_op v) (pin_reply pin) None) pins nothing r (take-of t index v (pin_reply pin) thread in_range) refl refl
     (record { allowed = tt; replies = replies (with_pins rows pins).managed i p pin ∙ ap (λ (z : Answered Managed). z.reply) (sym is-taken) }) is (same-pins rows p pin)
     (after rows (taken_in taken) pins i p pin ∙ ap (λ (z : Answered Managed). with_pins (plainly (with_pins (state_of taken rows) pins) z).state no_pins) (sym is-taken))

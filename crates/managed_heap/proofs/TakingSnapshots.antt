@@ -47,26 +47,31 @@ field-edge v s x y e f = inl (subst (λ h. HasField h x y) (sym e) f)
 edge-fields : (v : HeapRows) (s : Managed) (x y : ℕ) → v.heap ≡ s.heap → v.follows ≡ false → EdgeOf v x y → HasField s.heap x y
 edge-fields v s x y e p f = subst (λ h. HasField h x y) e (edge-field v x y p f)
 
-white-is : (v w : HeapRows) (s : Managed) (freed candidates dead : List ℕ) → AreSlotMarks v s → (f : PartsUnmarked v w s.held freed candidates dead) → (m : ℕ) → Contains f.white m ↔ (IsLive s.heap m × (IsManagedReached s m → ⊥))
+white-is : (v w : HeapRows) (s : Managed) (freed candidates dead : List ℕ) → AreSlotMarks v s
+    → (f : PartsUnmarked v w s.held freed candidates dead) → (m : ℕ) → Contains f.white m ↔ (IsLive s.heap m × (IsManagedReached s m → ⊥))
 white-is v w s freed candidates dead a f m = (
   λ c. (let u = (f.are_white.exact m).0 c in (subst (λ h. IsLive h m) a.heap u.0, λ r. u.1 ((a.marks m).1 r))),
   λ u. (f.are_white.exact m).1 (subst (λ h. IsLive h m) (sym a.heap) u.0, λ k. u.1 ((a.marks m).0 k)),
 )
 
-picked-is : (v w : HeapRows) (s : Managed) (freed candidates dead : List ℕ) → AreSlotMarks v s → PartsUnmarked v w s.held freed candidates dead → (m : ℕ) → Contains candidates m ↔ (IsBridge s m × (IsManagedReached s m → ⊥))
+picked-is : (v w : HeapRows) (s : Managed) (freed candidates dead : List ℕ) → AreSlotMarks v s
+    → PartsUnmarked v w s.held freed candidates dead → (m : ℕ) → Contains candidates m ↔ (IsBridge s m × (IsManagedReached s m → ⊥))
 picked-is v w s freed candidates dead a f m = (
   λ c. (
       let r = Contains-filter_from (has_handle s.held) f.white m (subst (λ xs. Contains xs m) f.picked c) in
       let u = (white-is v w s freed candidates dead a f m).0 r.0 in
       ((bridge-test s m u.0).0 r.1, u.1)),
-  λ u. subst (λ xs. Contains xs m) (sym f.picked) (Contains-filter_to (has_handle s.held) f.white m ((white-is v w s freed candidates dead a f m).1 (u.0.1.live, u.1)) ((bridge-test s m u.0.1.live).1 u.0)),
+  λ u. subst (λ xs. Contains xs m) (sym f.picked) (Contains-filter_to (has_handle s.held) f.white m
+      ((white-is v w s freed candidates dead a f m).1 (u.0.1.live, u.1)) ((bridge-test s m u.0.1.live).1 u.0)),
 )
 
 -- what is marked then is what slots or bridge rows reach
-reached-marked : (v w : HeapRows) (s : Managed) (freed candidates dead : List ℕ) → AreSlotMarks v s → PartsUnmarked v w s.held freed candidates dead → (m : ℕ) → HasMark w.marks m → IsManagedReached s m ⊎ IsBridgeReached s m
+reached-marked : (v w : HeapRows) (s : Managed) (freed candidates dead : List ℕ) → AreSlotMarks v s
+    → PartsUnmarked v w s.held freed candidates dead → (m : ℕ) → HasMark w.marks m → IsManagedReached s m ⊎ IsBridgeReached s m
 reached-marked v w s freed candidates dead a f m k = elim ((f.marks m).0 k) [
   | inl o ↦ inl ((a.marks m).0 o)
-  | inr r ↦ inr (Reached-mono (Contains candidates) (IsBridge s) (EdgeOf v) (ManagedEdge s) (λ x c. ((picked-is v w s freed candidates dead a f x).0 c).0) (λ x y e. edge-fields v s x y a.heap a.plain e) m r)
+  | inr r ↦ inr (Reached-mono (Contains candidates) (IsBridge s) (EdgeOf v) (ManagedEdge s)
+      (λ x c. ((picked-is v w s freed candidates dead a f x).0 c).0) (λ x y e. edge-fields v s x y a.heap a.plain e) m r)
 ]
 
 marked-bridge : (v w : HeapRows) (s : Managed) (freed candidates dead : List ℕ) → AreSlotMarks v s → PartsUnmarked v w s.held freed candidates dead → (m : ℕ) → IsBridgeReached s m → HasMark w.marks m
@@ -77,10 +82,12 @@ marked-bridge v w s freed candidates dead a f m r = elim (marked-or v.marks r.ro
       (λ x y e. field-edge v s x y a.heap e) m (record { root = r.root; starts = refl; reaches = r.reaches })))
 ]
 
-freed-is : (v w : HeapRows) (held : List (Option ℕ)) (freed candidates dead : List ℕ) → (f : PartsUnmarked v w held freed candidates dead) → (m : ℕ) → Contains freed m ↔ (Contains f.white m × (HasMark w.marks m → ⊥))
+freed-is : (v w : HeapRows) (held : List (Option ℕ)) (freed candidates dead : List ℕ)
+    → (f : PartsUnmarked v w held freed candidates dead) → (m : ℕ) → Contains freed m ↔ (Contains f.white m × (HasMark w.marks m → ⊥))
 freed-is v w held freed candidates dead f m = subst (λ xs. Contains xs m ↔ (Contains f.white m × (HasMark w.marks m → ⊥))) (sym f.goes) (unmarked_of-exact w.marks f.white m)
 
-dead-is : (v w : HeapRows) (held : List (Option ℕ)) (freed candidates dead : List ℕ) → (f : PartsUnmarked v w held freed candidates dead) → (m : ℕ) → Contains dead m ↔ (Contains f.white m × HasMark w.marks m)
+dead-is : (v w : HeapRows) (held : List (Option ℕ)) (freed candidates dead : List ℕ)
+    → (f : PartsUnmarked v w held freed candidates dead) → (m : ℕ) → Contains dead m ↔ (Contains f.white m × HasMark w.marks m)
 dead-is v w held freed candidates dead f m = (
   λ c. (let r = Contains-filter_from (marked w.marks) f.white m (subst (λ xs. Contains xs m) f.left c) in (r.0, IsMarked-test w.marks m r.1)),
   λ u. subst (λ xs. Contains xs m) (sym f.left) (Contains-filter_to (marked w.marks) f.white m u.0 (test-IsMarked w.marks m u.1)),
@@ -105,7 +112,8 @@ freed-live v w held freed candidates dead f m c = ((f.are_white.exact m).0 ((fre
 pub candidates-live : (v w : HeapRows) (held : List (Option ℕ)) (freed candidates dead : List ℕ) → PartsUnmarked v w held freed candidates dead → (m : ℕ) → Contains candidates m → IsLive v.heap m
 candidates-live v w held freed candidates dead f m c = ((f.are_white.exact m).0 (Contains-filter_from (has_handle held) f.white m (subst (λ xs. Contains xs m) f.picked c)).0).0
 
-pub IsSnapshot-found : (v w : HeapRows) (s : Managed) (freed candidates dead : List ℕ) → s.cycle ≡ None → AreSlotMarks v s → PartsUnmarked v w s.held freed candidates dead → IsSnapshot s (s.cycles + 1) freed candidates dead
+pub IsSnapshot-found : (v w : HeapRows) (s : Managed) (freed candidates dead : List ℕ) → s.cycle ≡ None
+    → AreSlotMarks v s → PartsUnmarked v w s.held freed candidates dead → IsSnapshot s (s.cycles + 1) freed candidates dead
 IsSnapshot-found v w s freed candidates dead o a f = record {
   closed = o;
   next = refl;
@@ -115,7 +123,10 @@ IsSnapshot-found v w s freed candidates dead o a f = record {
         let r = (freed-is v w s.held freed candidates dead f m).0 c in
         let u = (white-is v w s freed candidates dead a f m).0 r.0 in
         (u.0, u.1, λ b. r.1 (marked-bridge v w s freed candidates dead a f m b))),
-    λ u. (freed-is v w s.held freed candidates dead f m).1 ((white-is v w s freed candidates dead a f m).1 (u.0, u.1), λ k. elim (reached-marked v w s freed candidates dead a f m k) [ inl r ↦ u.1 r | inr r ↦ u.2 r ]),
+    λ u. (freed-is v w s.held freed candidates dead f m).1 (
+      (white-is v w s freed candidates dead a f m).1 (u.0, u.1),
+      λ k. elim (reached-marked v w s freed candidates dead a f m k) [ inl r ↦ u.1 r | inr r ↦ u.2 r ],
+    ),
   );
   candidates_rise = candidates-rise v w s.held freed candidates dead f;
   picks = picked-is v w s freed candidates dead a f;
@@ -140,7 +151,8 @@ CanFree-found v w s freed candidates dead ew a f =
     record {
       live = All-members (IsLive w.heap) freed (λ x c. subst (λ h. IsLive h x) (sym ew) (freed-live v w s.held freed candidates dead f x c));
       rises = freed-rises v w s.held freed candidates dead f;
-      unnamed = λ x c p. ((white-is v w s freed candidates dead a f x).0 ((freed-is v w s.held freed candidates dead f x).0 c).0).1 (Reached-start (IsManagedRoot s) (ManagedEdge s) x (inl (subst (λ h. InSlot h x) e p)));
+      unnamed = λ x c p. ((white-is v w s freed candidates dead a f x).0 ((freed-is v w s.held freed candidates dead f x).0 c).0).1
+          (Reached-start (IsManagedRoot s) (ManagedEdge s) x (inl (subst (λ h. InSlot h x) e p)));
       unheld = λ x y l n c g. (
           let lx : IsLive s.heap x = subst (λ h. IsLive h x) e l in
           let ry = (freed-is v w s.held freed candidates dead f y).0 c in
@@ -154,19 +166,26 @@ CanFree-found v w s freed candidates dead ew a f =
     }
 
 -- once these rows are freed, what slots and pins reach is what they reached before
-reached-still : (h : Heap) (P : ℕ → Type 0) (freed : List ℕ) → ((m : ℕ) → Contains freed m → Reached P (HasField h) m → ⊥) → (m : ℕ) → Reached P (HasField h) m ↔ Reached P (HasField (with_freed h freed)) m
+reached-still : (h : Heap) (P : ℕ → Type 0) (freed : List ℕ) → ((m : ℕ) → Contains freed m → Reached P (HasField h) m → ⊥)
+    → (m : ℕ) → Reached P (HasField h) m ↔ Reached P (HasField (with_freed h freed)) m
 reached-still h P freed out m = (
   λ r. (Reached-keeps P (HasField h) (λ z. Reached P (HasField h) z × Reached P (HasField (with_freed h freed)) z)
       (λ x s. (Reached-start P (HasField h) x s, Reached-start P (HasField (with_freed h freed)) x s))
       (λ x y e q. (
-      let ry : Reached P (HasField h) y = Reached-then P (HasField h) x y q.0 e in
-      (ry, Reached-then P (HasField (with_freed h freed)) x y q.1 (record { live = IsLive-left h freed x e.live (λ c. out x c q.0); field = e.field; there = IsLive-left h freed y e.there (λ c. out y c ry) })))) m r).1,
-  λ r. Reached-mono P P (HasField (with_freed h freed)) (HasField h) (λ x s. s) (λ x y e. record { live = IsLive-before h freed x e.live; field = e.field; there = IsLive-before h freed y e.there }) m r,
+      let ry : Reached P (HasField h) y = Reached-then P (HasField h) x y q.0 e in (
+        ry,
+        Reached-then P (HasField (with_freed h freed)) x y q.1
+            (record { live = IsLive-left h freed x e.live (λ c. out x c q.0); field = e.field; there = IsLive-left h freed y e.there (λ c. out y c ry) }),
+      ))) m r).1,
+  λ r. Reached-mono P P (HasField (with_freed h freed)) (HasField h) (λ x s. s)
+      (λ x y e. record { live = IsLive-before h freed x e.live; field = e.field; there = IsLive-before h freed y e.there }) m r,
 )
 
 -- what the cycle owes is ready
-pub HasDue-found : (v w u : HeapRows) (s : Managed) (freed candidates dead : List ℕ) (spare n : ℕ) → AreSlotMarks v s → PartsUnmarked v w s.held freed candidates dead → u.heap ≡ with_freed s.heap freed
-    → ((x : ℕ) → HasMark u.marks x ↔ Reached (λ z. InSlot (with_freed s.heap freed) z ⊎ Contains s.pins (Some z)) (HasField (with_freed s.heap freed)) x) → length candidates ≤ spare → HasDue u spare (record { number = n; candidates = candidates; dead = dead })
+pub HasDue-found : (v w u : HeapRows) (s : Managed) (freed candidates dead : List ℕ) (spare n : ℕ)
+    → AreSlotMarks v s → PartsUnmarked v w s.held freed candidates dead → u.heap ≡ with_freed s.heap freed
+    → ((x : ℕ) → HasMark u.marks x ↔ Reached (λ z. InSlot (with_freed s.heap freed) z ⊎ Contains s.pins (Some z)) (HasField (with_freed s.heap freed)) x)
+    → length candidates ≤ spare → HasDue u spare (record { number = n; candidates = candidates; dead = dead })
 HasDue-found v w u s freed candidates dead spare n a f eu marks l =
     let out : (m : ℕ) → Contains freed m → IsManagedReached s m → ⊥ = λ m c. ((white-is v w s freed candidates dead a f m).0 ((freed-is v w s.held freed candidates dead f m).0 c).0).1 in
     let still : (m : ℕ) → IsManagedReached s m ↔ Reached (IsManagedRoot s) (HasField (with_freed s.heap freed)) m = λ m. reached-still s.heap (IsManagedRoot s) freed out m in
@@ -190,7 +209,9 @@ HasDue-found v w u s freed candidates dead spare n a f eu marks l =
     }
 
 -- the state after a snapshot, from its parts
-pub snapped-is : (h k : Heap) (infos : List Held) (ps : List (PNum × MNum)) (cells pins : List (Option ℕ)) (q p : Queue) (cycle after : Option OpenCycle) (n : ℕ) (b : Bool) (freed candidates dead : List ℕ)
+pub snapped-is : (h k : Heap) (infos : List Held) (ps : List (PNum × MNum)) (cells pins : List (Option ℕ))
+    (q p : Queue) (cycle after : Option OpenCycle) (n : ℕ) (b : Bool) (freed candidates dead : List ℕ)
     → k ≡ with_freed h freed → p.queued ≡ q.queued → p.taken ≡ q.taken → after ≡ Some record { number = n + 1; candidates = candidates; dead = dead }
-    → rows_of k infos ps cells pins p after (n + 1) false ≡ record (rows_of h infos ps cells pins q cycle n b) { managed = with_snapshot (rows_of h infos ps cells pins q cycle n b).managed freed candidates dead; contracted = false }
+    → rows_of k infos ps cells pins p after (n + 1) false ≡ record (rows_of h infos ps cells pins q cycle n b)
+    { managed = with_snapshot (rows_of h infos ps cells pins q cycle n b).managed freed candidates dead; contracted = false }
 snapped-is h k infos ps cells pins q p cycle after n b freed candidates dead e queued taken o = rw (e, queued, taken, o) refl

@@ -25,7 +25,8 @@ abbrev weak_by : Managed → ℕ → Option ℕ → Option ℕ → Answered Mana
 weak_by s k None y = answer says.Empty s
 weak_by s k (Some x) y = cell_set s k x y
 
-target-by : (s : Managed) (t : Thread) (k : Cell) (v : Var) (r : ManagedReplay) (o y : Option ℕ) → slot r.managed.heap.vars (place (thread_number t) v.0) ≡ o → cell_target r t (weak_op k v) (weak_by s k.0 o y).reply ≡ unset_target y o
+target-by : (s : Managed) (t : Thread) (k : Cell) (v : Var) (r : ManagedReplay) (o y : Option ℕ)
+    → slot r.managed.heap.vars (place (thread_number t) v.0) ≡ o → cell_target r t (weak_op k v) (weak_by s k.0 o y).reply ≡ unset_target y o
 target-by s t k v r None None e = refl
 target-by s t k v r None (Some y) e = refl
 target-by s t k v r (Some x) None e = ap object_or_none e
@@ -35,13 +36,15 @@ weak-is : (s : Managed) (k v : ℕ) (o : Option ℕ) → slot s.heap.vars v ≡ 
 weak-is s k v None e = ap (λ o. elim o [ None ↦ answer says.Empty s | Some x ↦ cell_set s k x (slot s.cells k) ]) e
 weak-is s k v (Some x) e = ap (λ o. elim o [ None ↦ answer says.Empty s | Some x ↦ cell_set s k x (slot s.cells k) ]) e
 
-pub target-is : (r : ManagedReplay) (t : Thread) (k : Cell) (v : Var) → cell_target r t (weak_op k v) (weakened_to r.managed k.0 (place (thread_number t) v.0)).reply ≡ weak_target r k.0 (place (thread_number t) v.0)
+pub target-is : (r : ManagedReplay) (t : Thread) (k : Cell) (v : Var)
+    → cell_target r t (weak_op k v) (weakened_to r.managed k.0 (place (thread_number t) v.0)).reply ≡ weak_target r k.0 (place (thread_number t) v.0)
 target-is r t k v =
     let o = slot r.managed.heap.vars (place (thread_number t) v.0) in
     ap (λ (a : Answered Managed). cell_target r t (weak_op k v) a.reply) (weak-is r.managed k.0 (place (thread_number t) v.0) o refl) ∙ target-by r.managed t k v r o (slot r.managed.cells k.0) refl
 
 -- the cell may be set to it
-pub target-may : (r : ManagedReplay) (k : Cell) (v : Var) (m : Option MNum) → IfSome m (λ x. slot r.managed.cells k.0 ≡ None) → IfSome m (λ x. IsLive r.managed.heap x.0) → (x : MNum) → m ≡ Some x → MaySetCell r (weak_op k v) x
+pub target-may : (r : ManagedReplay) (k : Cell) (v : Var) (m : Option MNum) → IfSome m (λ x. slot r.managed.cells k.0 ≡ None)
+    → IfSome m (λ x. IsLive r.managed.heap x.0) → (x : MNum) → m ≡ Some x → MaySetCell r (weak_op k v) x
 target-may r k v None unset live x e = (let f : ⊥ = cc in absurd f)
 target-may r k v (Some y) unset live x e = (unset, subst (λ (o : Option MNum). IfSome o (λ z. IsLive r.managed.heap z.0)) e live)
 

@@ -39,7 +39,8 @@ abandon_made c index = step_made C index (abandon_op c) says.Ok None
 
 -- these numbers are those of the components, with the heavy classes, and of the cross-references of the open cycle's
 -- dead part
-pub record IsContractedBy (s : ManagedReplay) (c : OpenCycle) (sccs xrefs : ℕ) (comps : List (List ℕ)) (heavy : List ℕ) (pairs : List (ℕ × ℕ)) : Type 0 where
+pub record IsContractedBy (s : ManagedReplay) (c : OpenCycle) (sccs xrefs : ℕ)
+    (comps : List (List ℕ)) (heavy : List ℕ) (pairs : List (ℕ × ℕ)) : Type 0 where
   pub may : MayContract s c.number comps heavy pairs
   pub components : sccs ≡ length comps + length heavy
   pub references : xrefs ≡ length pairs
@@ -54,20 +55,28 @@ pub record MayContractWith (s : ManagedReplay) (sccs xrefs : ℕ) : Type 0 where
   pub contracted : IsContractedBy s cycle sccs xrefs comps heavy pairs
 
 -- a contraction of the open cycle makes one entry, which may come by each contraction with these numbers
-pub record Contracts {D : Type 0} (d : Drawing D) (before after : D) (old new : Side ManagedReplay) (index sccs xrefs : ℕ) (c : OpenCycle) : Type 0 where
-  pub adds : (comps : List (List ℕ)) (heavy : List ℕ) (pairs : List (ℕ × ℕ)) → IsContractedBy old.state c sccs xrefs comps heavy pairs → AddsLawful managed_rules d before after old new (contract_made c index sccs xrefs) (contraction_of comps heavy pairs)
+pub record Contracts {D : Type 0} (d : Drawing D) (before after : D)
+    (old new : Side ManagedReplay) (index sccs xrefs : ℕ) (c : OpenCycle) : Type 0 where
+  pub adds : (comps : List (List ℕ)) (heavy : List ℕ) (pairs : List (ℕ × ℕ))
+      → IsContractedBy old.state c sccs xrefs comps heavy pairs
+      → AddsLawful managed_rules d before after old new
+      (contract_made c index sccs xrefs) (contraction_of comps heavy pairs)
 
 -- a resolution closes the open cycle and makes one entry; of the rows with a handle it frees exactly the candidates
 -- that weren't answered alive, where none that was leads to one
-pub record Resolves {D : Type 0} (d : Drawing D) (before after : D) (old new : Side ManagedReplay) (index cites : ℕ) (alive : List (Option HNum)) (out : ResolveOut) : Type 0 where
+pub record Resolves {D : Type 0} (d : Drawing D) (before after : D) (old new : Side ManagedReplay)
+    (index cites : ℕ) (alive : List (Option HNum)) (out : ResolveOut) : Type 0 where
   pub cycle : OpenCycle
   pub opened : old.state.managed.cycle ≡ Some cycle
   pub freed : List ℕ
-  pub adds : AddsLawful managed_rules d before after old new (resolve_made old.state.managed cycle index freed cites) (resolution_of (answers_of alive) freed)
-  pub exact : IsAliveClosed old.state.managed cycle.candidates (answers_of alive) → FreesUnanswered old.state.managed cycle.candidates (answers_of alive) freed
+  pub adds : AddsLawful managed_rules d before after old new
+      (resolve_made old.state.managed cycle index freed cites) (resolution_of (answers_of alive) freed)
+  pub exact : IsAliveClosed old.state.managed cycle.candidates (answers_of alive)
+      → FreesUnanswered old.state.managed cycle.candidates (answers_of alive) freed
   pub span : out.freed ≡ record { first = length old.state.managed.heap.freed; count = length freed }
   pub kept : out.kept ≡ count_by is_some alive
 
 -- an abandoning closes the open cycle and makes one entry
-abbrev pub Abandons : {D : Type 0} → Drawing D → D → D → Side ManagedReplay → Side ManagedReplay → ℕ → OpenCycle → Type 0
+abbrev pub Abandons : {D : Type 0} → Drawing D → D → D
+    → Side ManagedReplay → Side ManagedReplay → ℕ → OpenCycle → Type 0
 Abandons d before after old new index c = AddsLawful managed_rules d before after old new (abandon_made c index) nothing

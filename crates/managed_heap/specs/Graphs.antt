@@ -21,7 +21,8 @@ handle_named (Some h) = Some record { 0 = h }
 pub record IsDeadGraph (s : Managed) (dead : List ℕ) (g : Part) : Type 0 where
   pub numbers : numbers_of g.nodes ≡ dead
   pub handles : map (λ n. handle_number n.handle) g.nodes ≡ map (handle_of s) dead
-  pub edges : (i k x y : ℕ) → slice_get dead i ≡ Some x → slice_get dead k ≡ Some y → NodeLeads g.edges i k ↔ HasField s.heap x y
+  pub edges : (i k x y : ℕ) → slice_get dead i ≡ Some x
+      → slice_get dead k ≡ Some y → NodeLeads g.edges i k ↔ HasField s.heap x y
 
 -- the handle beside a row of a list of held handles
 abbrev pub held_at : List (Option ℕ) → ℕ → Option ℕ
@@ -29,7 +30,11 @@ held_at held m = elim (numbered_at held m) [ None ↦ None | Some h ↦ h ]
 
 -- the node of a row; a row without fields is opaque, since there is nothing to look at
 abbrev pub node_of : Heap → List (Option ℕ) → MNum → Node
-node_of h held m = record { number = m; handle = handle_named (held_at held m.0); opaque = nat_eq (length (fields_of h m.0)) 0 }
+node_of h held m = record {
+  number = m;
+  handle = handle_named (held_at held m.0);
+  opaque = nat_eq (length (fields_of h m.0)) 0;
+}
 
 -- the places, counted from 1, at which the first n rows of a list stand; 0 stands at each other number
 pub record ArePlaces (n : ℕ) (dead places : List ℕ) : Type 0 where

@@ -27,19 +27,23 @@ snap_made s index freed candidates = step_made C index (snap_op s) (snap_reply s
 
 -- a snapshot opens the next cycle and makes one entry, with which the pins are told that were given, and whose number
 -- it answers and what the entry replies; the graph is the dead part's
-pub record OpensBySnap {D : Type 0} (d : Drawing D) (before after : D) (old new : Side ManagedReplay) (index : ℕ) (pins : List (Option ℕ)) (out : Opened) : Type 0 where
+pub record OpensBySnap {D : Type 0} (d : Drawing D) (before after : D)
+    (old new : Side ManagedReplay) (index : ℕ) (pins : List (Option ℕ)) (out : Opened) : Type 0 where
   pub freed : List ℕ
   pub candidates : List ℕ
   pub dead : List ℕ
-  pub adds : AddsLawful managed_rules d before after old new (snap_made old.state.managed index freed candidates) (kept_pins pins (snap_of freed candidates dead))
+  pub adds : AddsLawful managed_rules d before after old new
+      (snap_made old.state.managed index freed candidates) (kept_pins pins (snap_of freed candidates dead))
   pub cycle : out.cycle.0 ≡ old.state.managed.cycles + 1
   pub counted : out.candidates ≡ length candidates
   pub span : out.freed ≡ record { first = length old.state.managed.heap.freed; count = length freed }
-  pub number : new.entries ≡ old.entries ++ numbered out.number (snap_made old.state.managed index freed candidates) ∷ []
+  pub number : new.entries ≡ old.entries ++ numbered out.number
+      (snap_made old.state.managed index freed candidates) ∷ []
   pub graph : IsDeadGraph new.state.managed dead out.graph
 
 -- the gate was closed for the next cycle, which gave the pins, and by these the snapshot was taken
-pub record OpensByClosing {D : Type 0} (closed : D → ℕ → List (Option MNum) → D → Type 0) (d : Drawing D) (before after : D) (old new : Side ManagedReplay) (index : ℕ) (out : Opened) : Type 0 where
+pub record OpensByClosing {D : Type 0} (closed : D → ℕ → List (Option MNum) → D → Type 0) (d : Drawing D)
+    (before after : D) (old new : Side ManagedReplay) (index : ℕ) (out : Opened) : Type 0 where
   pub gate : D
   pub pins : List (Option MNum)
   pub closes : closed before (old.state.managed.cycles + 1) pins gate

@@ -20,9 +20,20 @@ number_or_none None = None
 number_or_none (Some m) = Some m.0
 
 -- the state of the rows, without the handles that they ever took
-abbrev pub rows_of : Heap → List Held → List (PNum × MNum) → List (Option ℕ) → List (Option ℕ) → Queue → Option OpenCycle → ℕ → Bool → ManagedReplay
+abbrev pub rows_of : Heap → List Held → List (PNum × MNum) → List (Option ℕ)
+    → List (Option ℕ) → Queue → Option OpenCycle → ℕ → Bool → ManagedReplay
 rows_of heap infos pairs cells pins queue cycle cycles contracted = record {
-  managed = record { heap = heap; kinds = map (λ i. i.kind) infos; held = map (λ i. i.handle) infos; pins = pins; cells = cells; notices = managed_numbers queue.queued; taken = queue.taken; cycle = cycle; cycles = cycles };
+  managed = record {
+    heap = heap;
+    kinds = map (λ i. i.kind) infos;
+    held = map (λ i. i.handle) infos;
+    pins = pins;
+    cells = cells;
+    notices = managed_numbers queue.queued;
+    taken = queue.taken;
+    cycle = cycle;
+    cycles = cycles;
+  };
   registry = pairs_of pairs;
   adopted = [];
   contracted = contracted;
@@ -34,7 +45,8 @@ with_adopted s hs = record s { adopted = hs }
 
 -- beside each row stands the peer with which the registry has it
 abbrev pub ArePeers : List (PNum × MNum) → List Held → Type 0
-ArePeers pairs infos = (p m : ℕ) → Contains (pairs_of pairs) (p, m) ↔ (numbered_at (map (λ i. i.peer) infos) m ≡ Some (Some p))
+ArePeers pairs infos = (p m : ℕ) → Contains (pairs_of pairs) (p, m)
+    ↔ (numbered_at (map (λ i. i.peer) infos) m ≡ Some (Some p))
 
 -- the rows are those of a lawful list of entries
 abbrev pub AreKept : ManagedReplay → Type 0

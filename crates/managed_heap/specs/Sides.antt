@@ -40,7 +40,8 @@ ready_after (Err (fault.CycleOpen c)) ready = ready
 -- a side for so many managed threads, by its entries, the handles that were given to rows, and its rows; and with
 -- whether it is ready
 abbrev pub model_of : ℕ → List Entry → List (List ℕ) → ManagedReplay → Bool → ManagedModel
-model_of threads entries takings rows ready = record { threads = threads; entries = entries; state = state_of takings rows; ready = ready }
+model_of threads entries takings rows
+    ready = record { threads = threads; entries = entries; state = state_of takings rows; ready = ready }
 
 abbrev pub side_of : ℕ → List Entry → List (List ℕ) → ManagedReplay → Side ManagedReplay
 side_of threads entries takings rows = record { threads = threads; entries = entries; state = state_of takings rows }

@@ -8,7 +8,8 @@ use Rattle.bridge_graph.specs.Parts.{Part}
 use Rattle.managed_heap.specs.Graphs.{IsDeadGraph}
 
 -- the snapshot that opens the next cycle, with the pins that are given, the state after it, and what the caller is told
-pub record TakesSnapshot (s next : ManagedReplay) (pins : List (Option ℕ)) (freed : List ℕ) (number first count : ℕ) (graph : Part) : Type 0 where
+pub record TakesSnapshot (s next : ManagedReplay) (pins : List (Option ℕ))
+    (freed : List ℕ) (number first count : ℕ) (graph : Part) : Type 0 where
   pub candidates : List ℕ
   pub dead : List ℕ
   pub snapshot : IsSnapshot (with_pins s pins).managed number freed candidates dead

@@ -19,7 +19,8 @@ pub record PartsUnmarked (v w : HeapRows) (held : List (Option ℕ)) (freed cand
   pub goes : freed ≡ unmarked_of w.marks white
 
 -- some marking of these objects marks what slots and pins reach, and what it leaves out is parted so
-pub record Prepares (h : Heap) (pins held : List (Option ℕ)) (w : HeapRows) (freed candidates dead : List ℕ) : Type 0 where
+pub record Prepares (h : Heap) (pins held : List (Option ℕ))
+    (w : HeapRows) (freed candidates dead : List ℕ) : Type 0 where
   pub marked : HeapRows
   pub same : marked.heap ≡ h
   pub plain : marked.follows ≡ false

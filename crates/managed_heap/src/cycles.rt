@@ -4,7 +4,8 @@ ghost use Rattle.std.specs.Prelude.{◌≡◌, ℕ, List, Some, IsSome, false};
 ghost use Rattle.joint_machine.specs.declared.names.Thread.TheVariants.{C};
 ghost use Rattle.joint_machine.specs.Managed.{OpenCycle};
 ghost use Rattle.joint_machine.specs.Sides.{MayDraw, managed_rules};
-ghost use Rattle.managed_heap.specs.Calls.{Abandons, Contracts, MayContractWith, Resolves, abandon_op, contract_op, resolve_op};
+ghost use Rattle.managed_heap.specs.Calls.{Abandons, Contracts, MayContractWith, Resolves, abandon_op, contract_op};
+ghost use Rattle.managed_heap.specs.Calls.{resolve_op};
 ghost use Rattle.managed_heap.specs.Resolving.{MayClose};
 ghost use Rattle.managed_heap.specs.Sides.{as_side};
 
@@ -24,8 +25,10 @@ impl ManagedSide {
     /// One entry is drawn and put last. It takes no memory.
     pub fn contracted<D: Draw>(&mut self, draw: &mut D, index: u32, sccs: u32, xrefs: u32)
         requires contracted { MayContractWith self.old.state sccs xrefs }
-        requires may { (c : OpenCycle) → self.old.state.managed.cycle ≡ Some c → MayDraw managed_rules D.rules draw.old (as_side self.old) C (contract_op c) }
-        ensures contracts { (c : OpenCycle) → self.old.state.managed.cycle ≡ Some c → Contracts D.rules draw.old draw.new (as_side self.old) (as_side self.new) index sccs xrefs c }
+        requires may { (c : OpenCycle) → self.old.state.managed.cycle ≡ Some c
+            → MayDraw managed_rules D.rules draw.old (as_side self.old) C (contract_op c) }
+        ensures contracts { (c : OpenCycle) → self.old.state.managed.cycle ≡ Some c
+            → Contracts D.rules draw.old draw.new (as_side self.old) (as_side self.new) index sccs xrefs c }
         ensures used { self.new.ready ≡ false }
     {
         let cycle = Cycle(self.rows.contract());
@@ -56,8 +59,10 @@ impl ManagedSide {
         alive: &Alive,
     ) -> ResolveOut
         requires close { MayClose self.old.state alive.now.values }
-        requires may { (c : OpenCycle) → self.old.state.managed.cycle ≡ Some c → MayDraw managed_rules D.rules draw.old (as_side self.old) C (resolve_op c) }
-        ensures resolves { Resolves D.rules draw.old draw.new (as_side self.old) (as_side self.new) index cites alive.now.values result }
+        requires may { (c : OpenCycle) → self.old.state.managed.cycle ≡ Some c
+            → MayDraw managed_rules D.rules draw.old (as_side self.old) C (resolve_op c) }
+        ensures resolves { Resolves D.rules draw.old draw.new (as_side self.old)
+            (as_side self.new) index cites alive.now.values result }
         ensures used { self.new.ready ≡ false }
     {
         let resolution = self.rows.resolve(alive);
@@ -87,8 +92,10 @@ impl ManagedSide {
     /// Closes the open cycle; nothing is freed. One entry is drawn and put last. It takes no memory.
     pub fn abandon<D: Draw>(&mut self, draw: &mut D, index: u32)
         requires open { IsSome self.old.state.managed.cycle }
-        requires may { (c : OpenCycle) → self.old.state.managed.cycle ≡ Some c → MayDraw managed_rules D.rules draw.old (as_side self.old) C (abandon_op c) }
-        ensures abandons { (c : OpenCycle) → self.old.state.managed.cycle ≡ Some c → Abandons D.rules draw.old draw.new (as_side self.old) (as_side self.new) index c }
+        requires may { (c : OpenCycle) → self.old.state.managed.cycle ≡ Some c
+            → MayDraw managed_rules D.rules draw.old (as_side self.old) C (abandon_op c) }
+        ensures abandons { (c : OpenCycle) → self.old.state.managed.cycle ≡ Some c
+            → Abandons D.rules draw.old draw.new (as_side self.old) (as_side self.new) index c }
         ensures used { self.new.ready ≡ false }
     {
         let cycle = Cycle(self.rows.abandon());

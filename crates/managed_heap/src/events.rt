@@ -22,7 +22,8 @@ impl ManagedRows {
         requires act { IsManagedAct act.now }
         requires line { IsStepAct act.now }
         requires kept { AreKept self.old }
-        ensures answer { IfOk result (λ r. managed_line self.old.managed (thread_number caller) act.now ≡ answer r self.new.managed) }
+        ensures answer { IfOk result (λ r. managed_line self.old.managed
+            (thread_number caller) act.now ≡ answer r self.new.managed) }
         ensures rest { self.new ≡ record self.old { managed = self.new.managed } }
         ensures err { OnErr result (self.new ≡ self.old) }
     {
@@ -49,7 +50,9 @@ impl ManagedRows {
     pub(crate) fn step(&mut self, caller: Thread, op: &Op) -> Result<Reply, AllocError>
         requires step { IsManagedStep caller op.now }
         requires kept { AreKept self.old }
-        ensures answer { IfOk result (λ r. (hs : List ℕ) → managed_answer (with_adopted self.old hs) caller op.now nothing ≡ answer r (with_adopted self.new (hs ++ adopted_by op.now r))) }
+        ensures answer { IfOk result (λ r. (hs : List ℕ)
+            → managed_answer (with_adopted self.old hs) caller op.now nothing ≡ answer r
+            (with_adopted self.new (hs ++ adopted_by op.now r))) }
         ensures err { OnErr result (self.new ≡ self.old) }
     {
         match op {

@@ -1,13 +1,15 @@
 // The dead part of a snapshot as a graph value: its rows are the nodes, and their fields that lead to one another the
 // edges.
 
-ghost use Rattle.std.specs.Prelude.{◌≡◌, ℕ, ◌+◌, ◌<◌, ◌≤◌, ◌↔◌, ◌⊎◌, [], All, Contains, Option, Some, None, IfSome, IsOk, OnOk, List, length, map, replicate, slice_get, sum, true, nat_eq};
+ghost use Rattle.std.specs.Prelude.{◌≡◌, ℕ, ◌+◌, ◌<◌, ◌≤◌, ◌↔◌, ◌⊎◌, [], All, Contains, Option, Some, None, IfSome};
+ghost use Rattle.std.specs.Prelude.{IsOk, OnOk, List, length, map, replicate, slice_get, sum, true, nat_eq};
 ghost use Rattle.joint_machine.specs.Components.{Rises};
 ghost use Rattle.joint_machine.specs.Heaps.{IsLive, fields_of};
 ghost use Rattle.joint_machine.specs.Histories.{managed_numbers};
 ghost use Rattle.bridge_graph.specs.Parts.{NodeLeads, opaque_at, row_at};
 ghost use Rattle.managed_heap.specs.Rooms.{fields_in};
-ghost use Rattle.managed_heap.specs.Graphs.{ArePlaces, HasDeadField, HasPlaced, IsPlaceOf, held_at, handle_named, node_of};
+ghost use Rattle.managed_heap.specs.Graphs.{ArePlaces, HasDeadField, HasPlaced, IsPlaceOf, held_at, handle_named};
+ghost use Rattle.managed_heap.specs.Graphs.{node_of};
 
 use crate::rows::Held;
 use bridge_graph::{DeadGraph, GraphBuilder};
@@ -54,7 +56,8 @@ fn add_nodes(
     requires rise { Rises (managed_numbers dead.now) }
     requires nodes { builder.old.nodes ≡ [] }
     requires edges { builder.old.edges ≡ [] }
-    ensures nodes { OnOk result (builder.new.nodes ≡ map (node_of heap.now.heap (map (λ i. i.handle) infos.now)) dead.now) }
+    ensures nodes { OnOk result (builder.new.nodes ≡ map
+        (node_of heap.now.heap (map (λ i. i.handle) infos.now)) dead.now) }
     ensures edges { OnOk result ((a : ℕ) → row_at builder.new.edges a ≡ []) }
     ensures ready { length dead.now ≤ builder.old.spare_nodes → IsOk result }
     ensures spare { builder.new.spare_edges ≡ builder.old.spare_edges }
@@ -77,7 +80,8 @@ fn add_edge(
     requires named { IfSome field (λ y. y < length places.now) }
     requires within { (y k : ℕ) → slice_get places.now y ≡ Some (k + 1) → k < length builder.old.nodes }
     ensures nodes { builder.new.nodes ≡ builder.old.nodes }
-    ensures edges { OnOk result ((a k : ℕ) → NodeLeads builder.new.edges a k ↔ (NodeLeads builder.old.edges a k ⊎ ((a ≡ i) × IsPlaceOf places.now field k))) }
+    ensures edges { OnOk result ((a k : ℕ) → NodeLeads builder.new.edges a k
+        ↔ (NodeLeads builder.old.edges a k ⊎ ((a ≡ i) × IsPlaceOf places.now field k))) }
     ensures ready { 1 ≤ builder.old.spare_edges → IsOk result }
     ensures spare { OnOk result (builder.old.spare_edges ≤ builder.new.spare_edges + 1) }
 {
@@ -106,9 +110,11 @@ fn add_row(
     requires places { length places.now ≡ length heap.now.heap.fields + 1 }
     requires within { (y k : ℕ) → slice_get places.now y ≡ Some (k + 1) → k < length builder.old.nodes }
     ensures nodes { builder.new.nodes ≡ builder.old.nodes }
-    ensures edges { OnOk result ((a k : ℕ) → NodeLeads builder.new.edges a k ↔ (NodeLeads builder.old.edges a k ⊎ ((a ≡ i) × HasPlaced places.now (fields_of heap.now.heap x.0) k))) }
+    ensures edges { OnOk result ((a k : ℕ) → NodeLeads builder.new.edges a k
+        ↔ (NodeLeads builder.old.edges a k ⊎ ((a ≡ i) × HasPlaced places.now (fields_of heap.now.heap x.0) k))) }
     ensures ready { length (fields_of heap.now.heap x.0) ≤ builder.old.spare_edges → IsOk result }
-    ensures spare { OnOk result (builder.old.spare_edges ≤ builder.new.spare_edges + length (fields_of heap.now.heap x.0)) }
+    ensures spare { OnOk result (builder.old.spare_edges ≤ builder.new.spare_edges + length
+        (fields_of heap.now.heap x.0)) }
 {
     for j in 0..heap.fields_len(x.0) {
         add_edge(places, heap.field(x.0, j), i, builder)?;
@@ -129,7 +135,8 @@ fn add_edges(
     requires len { length places.now ≡ length heap.now.heap.fields + 1 }
     requires places { ArePlaces (length dead.now) (managed_numbers dead.now) places.now }
     ensures nodes { builder.new.nodes ≡ builder.old.nodes }
-    ensures edges { OnOk result ((a k : ℕ) → NodeLeads builder.new.edges a k ↔ (NodeLeads builder.old.edges a k ⊎ HasDeadField heap.now.heap (managed_numbers dead.now) a k)) }
+    ensures edges { OnOk result ((a k : ℕ) → NodeLeads builder.new.edges a k
+        ↔ (NodeLeads builder.old.edges a k ⊎ HasDeadField heap.now.heap (managed_numbers dead.now) a k)) }
     ensures ready { fields_in heap.now.heap (managed_numbers dead.now) ≤ builder.old.spare_edges → IsOk result }
 {
     for i in 0..dead.len() {

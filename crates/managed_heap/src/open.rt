@@ -19,7 +19,11 @@ impl Model for OpenParts {
 
     ghost Value = { OpenCycle };
 
-    ghost view = { λ s. record { number = s.number; candidates = s.candidates.items; dead = managed_numbers s.dead.items } };
+    ghost view = { λ s. record {
+      number = s.number;
+      candidates = s.candidates.items;
+      dead = managed_numbers s.dead.items;
+    } };
 }
 
 impl OpenParts {

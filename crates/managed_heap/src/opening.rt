@@ -1,7 +1,8 @@
 // A snapshot, which closes the gate, opens a cycle and makes one entry of the driver, and the call that takes its
 // memory.
 
-ghost use Rattle.std.specs.Prelude.{◌≡◌, ℕ, ◌+◌, List, Option, Some, None, Err, IfOk, IfErr, IfSome, IsOk, OnErr, OnOk, true, false};
+ghost use Rattle.std.specs.Prelude.{◌≡◌, ℕ, ◌+◌, List, Option, Some, None, Err, IfOk, IfErr, IfSome, IsOk, OnErr, OnOk};
+ghost use Rattle.std.specs.Prelude.{true, false};
 ghost use Rattle.std.specs.Option.{IfNone};
 ghost use Rattle.joint_machine.specs.declared.names.MNum.{MNum};
 ghost use Rattle.joint_machine.specs.declared.names.Thread.TheVariants.{C};
@@ -76,12 +77,20 @@ impl ManagedSide {
     /// the gate wasn't closed, which leaves the side ready. The side is else as before, and but for `NotClosed` so is
     /// `gate`. From here on closing the cycle takes no memory.
     pub fn snap<G: Draw + Closes>(&mut self, gate: &mut G, index: u32) -> Result<Opened, SnapFault>
-        requires close { self.old.state.managed.cycle ≡ None → G.may_close gate.old (self.old.state.managed.cycles + 1) }
-        requires stand { (pins : List (Option MNum)) (g : G) → G.closed gate.old (self.old.state.managed.cycles + 1) pins g → PinsStand self.old.state.managed (pins_given pins) }
-        requires may { (pins : List (Option MNum)) (g : G) → G.closed gate.old (self.old.state.managed.cycles + 1) pins g → MayDraw managed_rules G.rules g (as_side self.old) C (snap_op self.old.state.managed) }
-        ensures snaps { IfOk result (λ o. OpensByClosing G.closed G.rules gate.old gate.new (as_side self.old) (as_side self.new) index o) }
-        ensures busy { (c : OpenCycle) → self.old.state.managed.cycle ≡ Some c → result ≡ Err (SnapFault.CycleOpen record { 0 = c.number }) }
-        ensures fault { IfErr result (λ e. BySnapFault e self.old.state.managed.cycle (gate.new ≡ gate.old) (G.refused gate.old gate.new)) }
+        requires close { self.old.state.managed.cycle ≡ None
+            → G.may_close gate.old (self.old.state.managed.cycles + 1) }
+        requires stand { (pins : List (Option MNum)) (g : G)
+            → G.closed gate.old (self.old.state.managed.cycles + 1) pins g
+            → PinsStand self.old.state.managed (pins_given pins) }
+        requires may { (pins : List (Option MNum)) (g : G)
+            → G.closed gate.old (self.old.state.managed.cycles + 1) pins g
+            → MayDraw managed_rules G.rules g (as_side self.old) C (snap_op self.old.state.managed) }
+        ensures snaps { IfOk result (λ o. OpensByClosing G.closed G.rules gate.old gate.new
+            (as_side self.old) (as_side self.new) index o) }
+        ensures busy { (c : OpenCycle) → self.old.state.managed.cycle ≡ Some c
+            → result ≡ Err (SnapFault.CycleOpen record { 0 = c.number }) }
+        ensures fault { IfErr result (λ e. BySnapFault e self.old.state.managed.cycle
+            (gate.new ≡ gate.old) (G.refused gate.old gate.new)) }
         ensures never { self.old.ready ≡ true → result ≡ Err SnapFault.OutOfMemory → ⊥ }
         ensures ready { self.new.ready ≡ ready_after result self.old.ready }
         ensures err { OnErr result (as_side self.new ≡ as_side self.old) }
@@ -103,9 +112,14 @@ impl ManagedSide {
         requires ready { self.old.ready ≡ true }
         requires closed { self.old.state.managed.cycle ≡ None }
         requires close { G.may_close gate.old (self.old.state.managed.cycles + 1) }
-        requires stand { (pins : List (Option MNum)) (g : G) → G.closed gate.old (self.old.state.managed.cycles + 1) pins g → PinsStand self.old.state.managed (pins_given pins) }
-        requires may { (pins : List (Option MNum)) (g : G) → G.closed gate.old (self.old.state.managed.cycles + 1) pins g → MayDraw managed_rules G.rules g (as_side self.old) C (snap_op self.old.state.managed) }
-        ensures snaps { IfSome result (λ o. OpensByClosing G.closed G.rules gate.old gate.new (as_side self.old) (as_side self.new) index o) }
+        requires stand { (pins : List (Option MNum)) (g : G)
+            → G.closed gate.old (self.old.state.managed.cycles + 1) pins g
+            → PinsStand self.old.state.managed (pins_given pins) }
+        requires may { (pins : List (Option MNum)) (g : G)
+            → G.closed gate.old (self.old.state.managed.cycles + 1) pins g
+            → MayDraw managed_rules G.rules g (as_side self.old) C (snap_op self.old.state.managed) }
+        ensures snaps { IfSome result (λ o. OpensByClosing G.closed G.rules gate.old gate.new
+            (as_side self.old) (as_side self.new) index o) }
         ensures used { IfSome result (λ o. self.new.ready ≡ false) }
         ensures refused { IfNone result ((self.new ≡ self.old) × G.refused gate.old gate.new) }
     {

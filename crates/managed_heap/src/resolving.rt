@@ -4,7 +4,8 @@
 // left them out, and what is made since has its mark from the start. So a marking that goes on from the kept candidates
 // stays within the dead part, and all that it leaves out of it goes.
 
-ghost use Rattle.std.specs.Prelude.{◌≡◌, ℕ, ◌+◌, ◌<◌, ◌≤◌, ◌↔◌, ◌⊎◌, ◌∷◌, [], ◌++◌, Bool, true, false, not, Some, IsSome, is_some, Contains, All, IsTrue, length, map, filter, count_by, slice_get};
+ghost use Rattle.std.specs.Prelude.{◌≡◌, ℕ, ◌+◌, ◌<◌, ◌≤◌, ◌↔◌, ◌⊎◌, ◌∷◌, [], ◌++◌, Bool, true, false, not, Some};
+ghost use Rattle.std.specs.Prelude.{IsSome, is_some, Contains, All, IsTrue, length, map, filter, count_by, slice_get};
 ghost use Rattle.joint_machine.specs.Cycles.{IsAnsweredAlive};
 ghost use Rattle.joint_machine.specs.Heaps.{IsLive};
 ghost use Rattle.joint_machine.specs.Histories.{managed_numbers};
@@ -74,7 +75,8 @@ impl ManagedRows {
     pub(crate) fn resolve(&mut self, alive: &Alive) -> Resolution
         requires kept { AreKept self.old }
         requires open { HasAnswers self.old alive.now.values }
-        ensures resolution { TakesResolution self.old self.new alive.now.values (managed_numbers result.freed.items) result.cycle result.first result.kept }
+        ensures resolution { TakesResolution self.old self.new alive.now.values
+            (managed_numbers result.freed.items) result.cycle result.first result.kept }
         ensures few { length result.freed.items ≤ 65535 }
     {
         let first = self.heap.made() - self.heap.live();
@@ -100,7 +102,8 @@ impl ManagedRows {
 fn bring_back_if(heap: &mut RowHeap<MNum>, x: u32, kept: bool)
     requires live { IsLive heap.old.heap x }
     requires shut { IsClosed (EdgeOf heap.old) heap.old.marks }
-    ensures marks { (k : ℕ) → HasMark heap.new.marks k ↔ (HasMark heap.old.marks k ⊎ Reached (λ z. (kept ≡ true) × (x ≡ z)) (EdgeOf heap.old) k) }
+    ensures marks { (k : ℕ) → HasMark heap.new.marks k
+        ↔ (HasMark heap.old.marks k ⊎ Reached (λ z. (kept ≡ true) × (x ≡ z)) (EdgeOf heap.old) k) }
     ensures shut { IsClosed (EdgeOf heap.old) heap.new.marks }
     ensures rest { heap.new ≡ record heap.old { marks = heap.new.marks; links = heap.new.links } }
 {
@@ -135,7 +138,9 @@ fn bring_back_kept(heap: &mut RowHeap<MNum>, candidates: &[u32], alive: &Alive)
     requires live { (m : ℕ) → Contains candidates.now m → IsLive heap.old.heap m }
     requires shut { IsClosed (EdgeOf heap.old) heap.old.marks }
     requires answers { length alive.now.values ≡ length candidates.now }
-    ensures marks { (k : ℕ) → HasMark heap.new.marks k ↔ (HasMark heap.old.marks k ⊎ Reached (IsAnsweredAlive candidates.now (answers_of alive.now.values)) (EdgeOf heap.old) k) }
+    ensures marks { (k : ℕ) → HasMark heap.new.marks k
+        ↔ (HasMark heap.old.marks k ⊎ Reached
+        (IsAnsweredAlive candidates.now (answers_of alive.now.values)) (EdgeOf heap.old) k) }
     ensures shut { IsClosed (EdgeOf heap.old) heap.new.marks }
     ensures rest { heap.new ≡ record heap.old { marks = heap.new.marks; links = heap.new.links } }
 {
@@ -167,7 +172,9 @@ fn settle(cycle: OpenParts, heap: &mut RowHeap<MNum>, alive: &Alive) -> (Vec<u32
     requires answers { length alive.now.values ≡ length cycle.candidates }
     ensures candidates { result.0.items ≡ cycle.candidates }
     ensures freed { managed_numbers result.1.items ≡ unmarked_of heap.new.marks cycle.dead }
-    ensures marks { (k : ℕ) → HasMark heap.new.marks k ↔ (HasMark heap.old.marks k ⊎ Reached (IsAnsweredAlive cycle.candidates (answers_of alive.now.values)) (EdgeOf heap.old) k) }
+    ensures marks { (k : ℕ) → HasMark heap.new.marks k
+        ↔ (HasMark heap.old.marks k ⊎ Reached
+        (IsAnsweredAlive cycle.candidates (answers_of alive.now.values)) (EdgeOf heap.old) k) }
     ensures shut { IsClosed (EdgeOf heap.old) heap.new.marks }
     ensures rest { heap.new ≡ record heap.old { marks = heap.new.marks; links = heap.new.links } }
 {
@@ -193,8 +200,10 @@ pub(crate) fn holds(infos: &[Held], m: MNum) -> bool
 
 // Queues a notice for each row of a list that holds a handle. It takes no memory.
 fn notify(rows: &[MNum], infos: &[Held], notices: &mut Notices)
-    requires room { length (filter (has_handle (map (λ i. i.handle) infos.now)) (managed_numbers rows.now)) ≤ notices.old.spare }
-    ensures queued { managed_numbers notices.new.queued ≡ managed_numbers notices.old.queued ++ filter (has_handle (map (λ i. i.handle) infos.now)) (managed_numbers rows.now) }
+    requires room { length (filter (has_handle (map (λ i. i.handle) infos.now)) (managed_numbers rows.now))
+        ≤ notices.old.spare }
+    ensures queued { managed_numbers notices.new.queued ≡ managed_numbers notices.old.queued ++ filter
+        (has_handle (map (λ i. i.handle) infos.now)) (managed_numbers rows.now) }
     ensures taken { notices.new.taken ≡ notices.old.taken }
 {
     for m in rows {
@@ -235,7 +244,8 @@ fn clear_peer(m: MNum, infos: &mut Vec<Held>) -> bool
 // Clears the peers beside the rows of a list. Answers false only where there was none. It takes no memory.
 fn clear_peers(rows: &[MNum], infos: &mut Vec<Held>) -> bool
     requires rows { All (λ m. (1 ≤ m.0) × (m.0 ≤ length infos.old.items)) rows.now }
-    ensures cleared { AreCleared (map (λ i. i.peer) infos.old.items) (map (λ i. i.peer) infos.new.items) (managed_numbers rows.now) }
+    ensures cleared { AreCleared (map (λ i. i.peer) infos.old.items)
+        (map (λ i. i.peer) infos.new.items) (managed_numbers rows.now) }
     ensures none { result ≡ false → infos.new.items ≡ infos.old.items }
     ensures kinds { map (λ i. i.kind) infos.new.items ≡ map (λ i. i.kind) infos.old.items }
     ensures handles { map (λ i. i.handle) infos.new.items ≡ map (λ i. i.handle) infos.old.items }
@@ -268,7 +278,8 @@ fn forget_pairs(rows: &[MNum], infos: &mut Vec<Held>, registry: &mut Registry)
 // A candidate holds the handle that its restore gave, if it gave one.
 fn renew_row(m: u32, back: Option<HNum>, infos: &mut Vec<Held>)
     requires row { (1 ≤ m) × (m ≤ length infos.old.items) }
-    ensures handles { map (λ i. i.handle) infos.new.items ≡ renewed (map (λ i. i.handle) infos.old.items) (m ∷ []) (answer_of back ∷ []) }
+    ensures handles { map (λ i. i.handle) infos.new.items ≡ renewed
+        (map (λ i. i.handle) infos.old.items) (m ∷ []) (answer_of back ∷ []) }
     ensures kinds { map (λ i. i.kind) infos.new.items ≡ map (λ i. i.kind) infos.old.items }
     ensures peers { map (λ i. i.peer) infos.new.items ≡ map (λ i. i.peer) infos.old.items }
     ensures len { length infos.new.items ≡ length infos.old.items }
@@ -282,7 +293,8 @@ fn renew_row(m: u32, back: Option<HNum>, infos: &mut Vec<Held>)
 fn renew(candidates: &[u32], alive: &Alive, infos: &mut Vec<Held>)
     requires rows { All (λ m. (1 ≤ m) × (m ≤ length infos.old.items)) candidates.now }
     requires answers { length alive.now.values ≡ length candidates.now }
-    ensures handles { map (λ i. i.handle) infos.new.items ≡ renewed (map (λ i. i.handle) infos.old.items) candidates.now (answers_of alive.now.values) }
+    ensures handles { map (λ i. i.handle) infos.new.items ≡ renewed
+        (map (λ i. i.handle) infos.old.items) candidates.now (answers_of alive.now.values) }
     ensures kinds { map (λ i. i.kind) infos.new.items ≡ map (λ i. i.kind) infos.old.items }
     ensures peers { map (λ i. i.peer) infos.new.items ≡ map (λ i. i.peer) infos.old.items }
 {

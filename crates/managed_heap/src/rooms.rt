@@ -28,7 +28,8 @@ impl Room {
     /// Room for a snapshot of these rows.
     pub(crate) fn of(alloc: Global, heap: &RowHeap<MNum>) -> Result<Room, AllocError>
         ensures freed { IfOk result (λ r. (r.freed.items ≡ []) × (length heap.now.heap.fields ≤ vec_capacity r.freed)) }
-        ensures candidates { IfOk result (λ r. (r.candidates.items ≡ []) × (length heap.now.heap.fields ≤ vec_capacity r.candidates)) }
+        ensures candidates { IfOk result (λ r. (r.candidates.items ≡ [])
+            × (length heap.now.heap.fields ≤ vec_capacity r.candidates)) }
         ensures dead { IfOk result (λ r. (r.dead.items ≡ []) × (length heap.now.heap.fields ≤ vec_capacity r.dead)) }
         ensures places { IfOk result (λ r. r.places.items ≡ replicate (length heap.now.heap.fields + 1) 0) }
         ensures graph { IfOk result (λ r. (r.graph.nodes ≡ []) × (r.graph.edges ≡ [])) }

@@ -1,9 +1,11 @@
 // The rows of a side: its objects with the handles that they hold, its slots, registry, the targets of its cells, and
 // notices. It has no pins.
 
-ghost use Rattle.std.specs.Prelude.{◌≡◌, ℕ, ◌+◌, ◌<◌, ◌≤◌, ◌↔◌, ◌++◌, ◌∷◌, [], Some, None, IfOk, OnOk, OnErr, IsTrue, MatchOption, length, map, false};
+ghost use Rattle.std.specs.Prelude.{◌≡◌, ℕ, ◌+◌, ◌<◌, ◌≤◌, ◌↔◌, ◌++◌, ◌∷◌, [], Some, None, IfOk, OnOk, OnErr, IsTrue};
+ghost use Rattle.std.specs.Prelude.{MatchOption, length, map, false};
 ghost use Rattle.std.specs.Option.{ForSome};
-ghost use Rattle.joint_machine.specs.Heaps.{IsLive, MOST, answer, copied, dropped, field_got, field_set, is_full, loaded, next_number, slot, stored};
+ghost use Rattle.joint_machine.specs.Heaps.{IsLive, MOST, answer, copied, dropped, field_got, field_set, is_full};
+ghost use Rattle.joint_machine.specs.Heaps.{loaded, next_number, slot, stored};
 ghost use Rattle.joint_machine.specs.Histories.{managed_numbers};
 ghost use Rattle.joint_machine.specs.Managed.{OpenCycle, made_new, managed_name, on_heap, with_row};
 ghost use Rattle.joint_machine.specs.ManagedReplay.{opening_replay, refusal_to};
@@ -49,9 +51,11 @@ impl Model for ManagedRows {
 
     ghost Value = { ManagedReplay };
 
-    ghost view = { λ s. rows_of s.heap.heap s.infos.items s.registry s.cells no_pins s.notices s.cycle s.cycles s.contracted };
+    ghost view = { λ s. rows_of s.heap.heap s.infos.items s.registry
+        s.cells no_pins s.notices s.cycle s.cycles s.contracted };
 
-    ghost invariant = { λ s. ArePeers s.registry s.infos.items × (s.heap.refs ≡ []) × (s.heap.follows ≡ false) × AreDues s.cycle s.heap s.notices.spare };
+    ghost invariant = { λ s. ArePeers s.registry s.infos.items × (s.heap.refs ≡ [])
+        × (s.heap.follows ≡ false) × AreDues s.cycle s.heap s.notices.spare };
 }
 
 impl ManagedRows {
@@ -73,7 +77,8 @@ impl ManagedRows {
 
     /// The open cycle; None exactly where none is open.
     pub(crate) fn open_cycle(&self) -> Option<Cycle>
-        ensures { MatchOption result (self.now.managed.cycle ≡ None) (λ k. (c : OpenCycle) × (self.now.managed.cycle ≡ Some c) × (c.number ≡ k.0)) }
+        ensures { MatchOption result (self.now.managed.cycle ≡ None)
+            (λ k. (c : OpenCycle) × (self.now.managed.cycle ≡ Some c) × (c.number ≡ k.0)) }
     {
         match &self.cycle {
             None => None,
@@ -98,7 +103,8 @@ impl ManagedRows {
     pub(crate) fn copy(&mut self, v: usize, w: usize) -> Reply
         requires v { v < 72 }
         requires w { w < 72 }
-        ensures answer { on_heap self.old.managed (copied managed_name self.old.managed.heap v w) ≡ answer result self.new.managed }
+        ensures answer { on_heap self.old.managed
+            (copied managed_name self.old.managed.heap v w) ≡ answer result self.new.managed }
         ensures rest { self.new ≡ record self.old { managed = self.new.managed } }
     {
         let done = self.heap.copy(v, w);
@@ -109,7 +115,8 @@ impl ManagedRows {
     pub(crate) fn set(&mut self, v: usize, i: usize, w: Option<usize>) -> Reply
         requires v { v < 72 }
         requires w { ForSome w (λ place. place < 72) }
-        ensures answer { on_heap self.old.managed (field_set self.old.managed.heap v i w) ≡ answer result self.new.managed }
+        ensures answer { on_heap self.old.managed
+            (field_set self.old.managed.heap v i w) ≡ answer result self.new.managed }
         ensures rest { self.new ≡ record self.old { managed = self.new.managed } }
     {
         let done = self.heap.set(v, i, w);
@@ -120,7 +127,8 @@ impl ManagedRows {
     pub(crate) fn get(&mut self, v: usize, w: usize, i: usize) -> Reply
         requires v { v < 72 }
         requires w { w < 72 }
-        ensures answer { on_heap self.old.managed (field_got managed_name self.old.managed.heap v w i) ≡ answer result self.new.managed }
+        ensures answer { on_heap self.old.managed
+            (field_got managed_name self.old.managed.heap v w i) ≡ answer result self.new.managed }
         ensures rest { self.new ≡ record self.old { managed = self.new.managed } }
     {
         let done = self.heap.get(v, w, i);
@@ -141,7 +149,8 @@ impl ManagedRows {
     pub(crate) fn load(&mut self, v: usize, s: usize) -> Reply
         requires v { v < 72 }
         requires number { s < 16 }
-        ensures answer { on_heap self.old.managed (loaded managed_name self.old.managed.heap v s) ≡ answer result self.new.managed }
+        ensures answer { on_heap self.old.managed
+            (loaded managed_name self.old.managed.heap v s) ≡ answer result self.new.managed }
         ensures rest { self.new ≡ record self.old { managed = self.new.managed } }
     {
         let done = self.heap.load(v, s);

@@ -1,6 +1,7 @@
 // The managed side: its rows with the entries that it has made.
 
-ghost use Rattle.std.specs.Prelude.{◌≡◌, ℕ, ◌+◌, ◌<◌, ◌≤◌, ◌↔◌, [], Some, None, IfOk, OnErr, IsTrue, MatchOption, length, slice_get, false};
+ghost use Rattle.std.specs.Prelude.{◌≡◌, ℕ, ◌+◌, ◌<◌, ◌≤◌, ◌↔◌, [], Some, None, IfOk, OnErr, IsTrue, MatchOption};
+ghost use Rattle.std.specs.Prelude.{length, slice_get, false};
 ghost use Rattle.joint_machine.specs.declared.names.Thread.TheVariants.{C};
 ghost use Rattle.joint_machine.specs.declared.events.Op.TheVariants as op;
 ghost use Rattle.joint_machine.specs.Heaps.{IsLive, slot};
@@ -53,7 +54,10 @@ impl Model for ManagedSide {
 
     ghost view = { λ s. model_of s.threads s.entries.entries s.takings s.rows (is_some s.room) };
 
-    ghost invariant = { λ s. IsReplayed managed_rules s.entries.entries (state_of s.takings s.rows) × HasRoom s.rows s.entries.spare × AreTaken managed_rules s.threads s.entries.entries × IsSideKept s.entries.entries (state_of s.takings s.rows) × (length s.takings ≤ length s.entries.entries) × HasThree s.room s.entries.spare × IsEnough s.room s.rows.managed };
+    ghost invariant = { λ s. IsReplayed managed_rules s.entries.entries (state_of s.takings s.rows)
+        × HasRoom s.rows s.entries.spare × AreTaken managed_rules s.threads s.entries.entries
+        × IsSideKept s.entries.entries (state_of s.takings s.rows) × (length s.takings ≤ length s.entries.entries)
+        × HasThree s.room s.entries.spare × IsEnough s.room s.rows.managed };
 }
 
 /// The lists that a side ends with: its entries, its freed objects and its notices.
@@ -123,7 +127,8 @@ impl ManagedSide {
         requires fresh { IsFresh self.old.state op.now }
         requires cites { CitesRightly op.now cites }
         requires may { MayDraw managed_rules D.rules draw.old (as_side self.old) caller op.now }
-        ensures adds { IfOk result (λ r. AddsLawful managed_rules D.rules draw.old draw.new (as_side self.old) (as_side self.new) (step_made caller index op.now r cites) nothing) }
+        ensures adds { IfOk result (λ r. AddsLawful managed_rules D.rules draw.old draw.new
+            (as_side self.old) (as_side self.new) (step_made caller index op.now r cites) nothing) }
         ensures used { IfOk result (λ r. self.new.ready ≡ false) }
         ensures err { OnErr result ((self.new ≡ self.old) × (draw.new ≡ draw.old)) }
     {
@@ -160,7 +165,8 @@ impl ManagedSide {
         requires var { IsVar v }
         requires word { (word ≡ 0) ↔ (slot self.old.state.managed.cells k.0 ≡ None) }
         requires may { MayDraw managed_rules D.rules draw.old (as_side self.old) caller (weak_op k v) }
-        ensures adds { IfOk result (λ r. AddsLawful managed_rules D.rules draw.old draw.new (as_side self.old) (as_side self.new) (step_made caller index (weak_op k v) r None) nothing) }
+        ensures adds { IfOk result (λ r. AddsLawful managed_rules D.rules draw.old draw.new
+            (as_side self.old) (as_side self.new) (step_made caller index (weak_op k v) r None) nothing) }
         ensures used { IfOk result (λ r. self.new.ready ≡ false) }
         ensures err { OnErr result ((self.new ≡ self.old) × (draw.new ≡ draw.old)) }
     {
@@ -194,7 +200,9 @@ impl ManagedSide {
         requires var { IsVar v }
         requires stands { PinsStand self.old.state.managed (pin_given (thread_number caller) pin) }
         requires may { MayDraw managed_rules D.rules draw.old (as_side self.old) caller (take_op v) }
-        ensures adds { IfOk result (λ r. AddsLawful managed_rules D.rules draw.old draw.new (as_side self.old) (as_side self.new) (step_made caller index (take_op v) r None) (kept_pins (pin_given (thread_number caller) pin) nothing)) }
+        ensures adds { IfOk result (λ r. AddsLawful managed_rules D.rules draw.old draw.new
+            (as_side self.old) (as_side self.new) (step_made caller index (take_op v) r None)
+            (kept_pins (pin_given (thread_number caller) pin) nothing)) }
         ensures used { IfOk result (λ r. self.new.ready ≡ false) }
         ensures err { OnErr result ((self.new ≡ self.old) × (draw.new ≡ draw.old)) }
     {
@@ -224,7 +232,8 @@ impl ManagedSide {
     ) -> Result<Reply, AllocError>
         requires refused { MayRefuse self.old.state word phase }
         requires may { MayDraw managed_rules D.rules draw.old (as_side self.old) C (op.Refused word) }
-        ensures adds { IfOk result (λ r. AddsLawful managed_rules D.rules draw.old draw.new (as_side self.old) (as_side self.new) (step_made C index (op.Refused word) r None) (phase_of phase)) }
+        ensures adds { IfOk result (λ r. AddsLawful managed_rules D.rules draw.old draw.new (as_side self.old)
+            (as_side self.new) (step_made C index (op.Refused word) r None) (phase_of phase)) }
         ensures used { IfOk result (λ r. self.new.ready ≡ false) }
         ensures err { OnErr result ((self.new ≡ self.old) × (draw.new ≡ draw.old)) }
     {
@@ -324,7 +333,8 @@ impl ManagedSide {
 
     /// The open cycle; None exactly where none is open.
     pub fn open_cycle(&self) -> Option<Cycle>
-        ensures { MatchOption result (self.now.state.managed.cycle ≡ None) (λ k. (c : OpenCycle) × (self.now.state.managed.cycle ≡ Some c) × (c.number ≡ k.0)) }
+        ensures { MatchOption result (self.now.state.managed.cycle ≡ None)
+            (λ k. (c : OpenCycle) × (self.now.state.managed.cycle ≡ Some c) × (c.number ≡ k.0)) }
     {
         self.rows.open_cycle()
     }

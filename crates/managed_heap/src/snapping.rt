@@ -48,7 +48,8 @@ impl ManagedRows {
         requires count { self.old.managed.cycles < 4294967295 }
         requires stand { PinsStand self.old.managed (pins_given pins.now.at) }
         requires fits { FitsSnap room self.old.managed }
-        ensures snapshot { TakesSnapshot self.old self.new (pins_given pins.now.at) (managed_numbers result.freed.items) result.cycle result.first result.candidates result.graph }
+        ensures snapshot { TakesSnapshot self.old self.new (pins_given pins.now.at)
+            (managed_numbers result.freed.items) result.cycle result.first result.candidates result.graph }
         ensures few { length result.freed.items ≤ 65535 }
     {
         let SnapRoom { rows, notices } = room;

@@ -5,7 +5,8 @@
 // end the marks are again those of what slots and pins reach, so that the live rows without a mark are exactly the dead
 // part.
 
-ghost use Rattle.std.specs.Prelude.{◌≡◌, ℕ, ◌↔◌, ◌⊎◌, ◌≤◌, ◌<◌, ◌∷◌, [], Bool, false, Some, None, Contains, IsTrue, length, map, filter, replicate, sum, vec_capacity, ◌+◌};
+ghost use Rattle.std.specs.Prelude.{◌≡◌, ℕ, ◌↔◌, ◌⊎◌, ◌≤◌, ◌<◌, ◌∷◌, [], Bool, false, Some, None, Contains, IsTrue};
+ghost use Rattle.std.specs.Prelude.{length, map, filter, replicate, sum, vec_capacity, ◌+◌};
 ghost use Rattle.joint_machine.specs.Heaps.{HasField, InSlot, IsLive};
 ghost use Rattle.joint_machine.specs.Histories.{managed_numbers};
 ghost use Rattle.joint_machine.specs.Walks.{Reached};
@@ -31,7 +32,8 @@ use row_marking::visit;
 // Marks what pins hold.
 fn visit_pins(heap: &mut RowHeap<MNum>, pins: &Pins, grey: &mut u32)
     requires live { (x : ℕ) → Contains (pins_given pins.now.at) (Some x) → IsLive heap.old.heap x }
-    ensures greyed { Greyed (λ x. Contains (pins_given pins.now.at) (Some x)) heap.old.marks heap.old.links grey.old heap.new.marks heap.new.links grey.new }
+    ensures greyed { Greyed (λ x. Contains (pins_given pins.now.at) (Some x))
+        heap.old.marks heap.old.links grey.old heap.new.marks heap.new.links grey.new }
     ensures rest { heap.new ≡ record heap.old { marks = heap.new.marks; links = heap.new.links } }
 {
     for t in 0..8usize {
@@ -44,7 +46,9 @@ fn visit_pins(heap: &mut RowHeap<MNum>, pins: &Pins, grey: &mut u32)
 /// Marks what slots and pins reach, and nothing else. It takes no memory.
 pub(crate) fn mark_slots(heap: &mut RowHeap<MNum>, pins: &Pins)
     requires live { (x : ℕ) → Contains (pins_given pins.now.at) (Some x) → IsLive heap.old.heap x }
-    ensures marks { (x : ℕ) → HasMark heap.new.marks x ↔ Reached (λ z. InSlot heap.old.heap z ⊎ Contains (pins_given pins.now.at) (Some z)) (HasField heap.old.heap) x }
+    ensures marks { (x : ℕ) → HasMark heap.new.marks x
+        ↔ Reached (λ z. InSlot heap.old.heap z ⊎ Contains (pins_given pins.now.at) (Some z))
+        (HasField heap.old.heap) x }
     ensures shut { IsClosed (EdgeOf heap.new) heap.new.marks }
     ensures rest { heap.new ≡ record heap.old { follows = false; marks = heap.new.marks; links = heap.new.links } }
 {
@@ -101,7 +105,8 @@ pub(crate) fn marked_rows(heap: &RowHeap<MNum>, rows: &[MNum], mut found: Vec<MN
 pub(crate) fn bring_back_all(heap: &mut RowHeap<MNum>, rows: &[u32])
     requires live { (m : ℕ) → Contains rows.now m → IsLive heap.old.heap m }
     requires shut { IsClosed (EdgeOf heap.old) heap.old.marks }
-    ensures marks { (k : ℕ) → HasMark heap.new.marks k ↔ (HasMark heap.old.marks k ⊎ Reached (Contains rows.now) (EdgeOf heap.old) k) }
+    ensures marks { (k : ℕ) → HasMark heap.new.marks k
+        ↔ (HasMark heap.old.marks k ⊎ Reached (Contains rows.now) (EdgeOf heap.old) k) }
     ensures shut { IsClosed (EdgeOf heap.old) heap.new.marks }
     ensures rest { heap.new ≡ record heap.old { marks = heap.new.marks; links = heap.new.links } }
 {
@@ -127,9 +132,11 @@ fn find(
     dead: Vec<MNum>,
 ) -> SnapshotParts
     requires empty { (freed.items ≡ []) × (candidates.items ≡ []) × (dead.items ≡ []) }
-    requires room { (length heap.old.heap.fields ≤ vec_capacity freed) × (length heap.old.heap.fields ≤ vec_capacity candidates) × (length heap.old.heap.fields ≤ vec_capacity dead) }
+    requires room { (length heap.old.heap.fields ≤ vec_capacity freed)
+        × (length heap.old.heap.fields ≤ vec_capacity candidates) × (length heap.old.heap.fields ≤ vec_capacity dead) }
     requires shut { IsClosed (EdgeOf heap.old) heap.old.marks }
-    ensures finds { PartsUnmarked heap.old heap.new (map (λ i. i.handle) infos.now) (managed_numbers result.freed.items) result.candidates.items (managed_numbers result.dead.items) }
+    ensures finds { PartsUnmarked heap.old heap.new (map (λ i. i.handle) infos.now)
+        (managed_numbers result.freed.items) result.candidates.items (managed_numbers result.dead.items) }
     ensures rest { heap.new ≡ record heap.old { marks = heap.new.marks; links = heap.new.links } }
 {
     let mut freed = whites(heap, freed);
@@ -156,15 +163,22 @@ pub(crate) fn prepare(heap: &mut RowHeap<MNum>, infos: &[Held], pins: &Pins, roo
     requires live { (x : ℕ) → Contains (pins_given pins.now.at) (Some x) → IsLive heap.old.heap x }
     requires infos { length infos.now ≡ length heap.old.heap.fields }
     requires empty { (room.freed.items ≡ []) × (room.candidates.items ≡ []) × (room.dead.items ≡ []) }
-    requires room { (length heap.old.heap.fields ≤ vec_capacity room.freed) × (length heap.old.heap.fields ≤ vec_capacity room.candidates) × (length heap.old.heap.fields ≤ vec_capacity room.dead) }
+    requires room { (length heap.old.heap.fields ≤ vec_capacity room.freed)
+        × (length heap.old.heap.fields ≤ vec_capacity room.candidates)
+        × (length heap.old.heap.fields ≤ vec_capacity room.dead) }
     requires zeros { room.places.items ≡ replicate (length heap.old.heap.fields + 1) 0 }
     requires bare { (room.graph.nodes ≡ []) × (room.graph.edges ≡ []) }
     requires rows { length heap.old.heap.fields ≤ room.graph.spare_nodes }
     requires fields { sum (map length heap.old.heap.fields) ≤ room.graph.spare_edges }
-    ensures prepares { Prepares heap.old.heap (pins_given pins.now.at) (map (λ i. i.handle) infos.now) heap.new (managed_numbers result.found.freed.items) result.found.candidates.items (managed_numbers result.found.dead.items) }
-    ensures nodes { result.graph.nodes ≡ map (node_of heap.old.heap (map (λ i. i.handle) infos.now)) result.found.dead.items }
-    ensures edges { (a k : ℕ) → NodeLeads result.graph.edges a k ↔ HasDeadField heap.old.heap (managed_numbers result.found.dead.items) a k }
-    ensures few { (length result.found.freed.items ≤ 65535) × (length result.found.candidates.items ≤ length heap.old.heap.fields) }
+    ensures prepares { Prepares heap.old.heap (pins_given pins.now.at) (map (λ i. i.handle) infos.now) heap.new
+        (managed_numbers result.found.freed.items) result.found.candidates.items
+        (managed_numbers result.found.dead.items) }
+    ensures nodes { result.graph.nodes ≡ map
+        (node_of heap.old.heap (map (λ i. i.handle) infos.now)) result.found.dead.items }
+    ensures edges { (a k : ℕ) → NodeLeads result.graph.edges a k
+        ↔ HasDeadField heap.old.heap (managed_numbers result.found.dead.items) a k }
+    ensures few { (length result.found.freed.items ≤ 65535)
+        × (length result.found.candidates.items ≤ length heap.old.heap.fields) }
     ensures rest { heap.new ≡ record heap.old { follows = false; marks = heap.new.marks; links = heap.new.links } }
 {
     let _ = heap.made();

@@ -1,6 +1,7 @@
 // Objects that are made, the handles that they hold, and the registry of the peers' twins.
 
-ghost use Rattle.std.specs.Prelude.{◌≡◌, ℕ, ◌+◌, ◌<◌, ◌≤◌, List, ◌++◌, ◌∷◌, [], Some, None, IfOk, OnOk, OnErr, IfSome, length, true};
+ghost use Rattle.std.specs.Prelude.{◌≡◌, ℕ, ◌+◌, ◌<◌, ◌≤◌, List, ◌++◌, ◌∷◌, [], Some, None, IfOk, OnOk, OnErr, IfSome};
+ghost use Rattle.std.specs.Prelude.{length, true};
 ghost use Rattle.joint_machine.specs.Heaps.{IsLive, MOST, answer, is_full, next_number, slot, with_object, with_var};
 ghost use Rattle.instance_registry.specs.Pairs.{PeersDistinct};
 ghost use Rattle.joint_machine.specs.Managed.{handle_of, handle_reply, made_new, twin_fields, twin_kind, with_row};
@@ -28,7 +29,8 @@ impl ManagedRows {
         requires v { v < 72 }
         requires few { length self.old.managed.heap.fields < MOST }
         ensures number { IfOk result (λ x. x ≡ next_number self.old.managed.heap) }
-        ensures ok { OnOk result (self.new ≡ record self.old { managed = with_row self.old.managed v kind fields handle }) }
+        ensures ok { OnOk result (self.new ≡ record self.old
+            { managed = with_row self.old.managed v kind fields handle }) }
         ensures err { OnErr result (self.new ≡ self.old) }
     {
         self.heap.marks_len();
@@ -102,7 +104,10 @@ impl ManagedRows {
         requires alone { registered self.old.registry p.0 ≡ None }
         requires kept { AreKept self.old }
         ensures number { IfOk result (λ x. x ≡ next_number self.old.managed.heap) }
-        ensures ok { OnOk result (self.new ≡ record self.old { managed = with_row self.old.managed v kind fields (Some h.0); registry = self.old.registry ++ (p.0, next_number self.old.managed.heap) ∷ [] }) }
+        ensures ok { OnOk result (self.new ≡ record self.old {
+          managed = with_row self.old.managed v kind fields (Some h.0);
+          registry = self.old.registry ++ (p.0, next_number self.old.managed.heap) ∷ [];
+        }) }
         ensures err { OnErr result (self.new ≡ self.old) }
     {
         self.heap.marks_len();
@@ -136,7 +141,11 @@ impl ManagedRows {
         requires few { length self.old.managed.heap.fields < MOST }
         requires kept { AreKept self.old }
         ensures number { IfOk result (λ x. x ≡ next_number self.old.managed.heap) }
-        ensures ok { OnOk result (self.new ≡ record self.old { managed = with_row self.old.managed v kind fields (Some h.0); registry = with_twin self.old.registry p.0 (next_number self.old.managed.heap) (registered self.old.registry p.0) }) }
+        ensures ok { OnOk result (self.new ≡ record self.old {
+          managed = with_row self.old.managed v kind fields (Some h.0);
+          registry = with_twin
+              self.old.registry p.0 (next_number self.old.managed.heap) (registered self.old.registry p.0);
+        }) }
         ensures err { OnErr result (self.new ≡ self.old) }
     {
         match self.twin(p) {
@@ -157,7 +166,9 @@ impl ManagedRows {
     ) -> Result<Reply, AllocError>
         requires v { v < 72 }
         requires kept { AreKept self.old }
-        ensures answer { IfOk result (λ r. (hs : List ℕ) → adopt_at (with_adopted self.old hs) v kind fields p h ≡ answer r (with_adopted self.new (hs ++ by_adopt h r))) }
+        ensures answer { IfOk result (λ r. (hs : List ℕ)
+            → adopt_at (with_adopted self.old hs) v kind fields p h ≡ answer r
+            (with_adopted self.new (hs ++ by_adopt h r))) }
         ensures err { OnErr result (self.new ≡ self.old) }
     {
         if self.heap.is_full() {
@@ -181,7 +192,9 @@ impl ManagedRows {
         requires none { self.old.managed.cycle ≡ None }
         requires alone { registered self.old.registry p.0 ≡ None }
         requires kept { AreKept self.old }
-        ensures answer { IfOk result (λ r. (hs : List ℕ) → meet_at (with_adopted self.old hs) v p h sort fields None ≡ answer r (with_adopted self.new (hs ++ by_meet h r))) }
+        ensures answer { IfOk result (λ r. (hs : List ℕ)
+            → meet_at (with_adopted self.old hs) v p h sort fields None ≡ answer r
+            (with_adopted self.new (hs ++ by_meet h r))) }
         ensures err { OnErr result (self.new ≡ self.old) }
     {
         if self.heap.is_full() {
@@ -204,7 +217,9 @@ impl ManagedRows {
         requires v { v < 72 }
         requires none { self.old.managed.cycle ≡ None }
         requires kept { AreKept self.old }
-        ensures answer { IfOk result (λ r. (hs : List ℕ) → meet_at (with_adopted self.old hs) v p h sort fields (registered self.old.registry p.0) ≡ answer r (with_adopted self.new (hs ++ by_meet h r))) }
+        ensures answer { IfOk result (λ r. (hs : List ℕ)
+            → meet_at (with_adopted self.old hs) v p h sort fields
+            (registered self.old.registry p.0) ≡ answer r (with_adopted self.new (hs ++ by_meet h r))) }
         ensures err { OnErr result (self.new ≡ self.old) }
     {
         match self.twin(p) {
@@ -228,7 +243,9 @@ impl ManagedRows {
     ) -> Result<Reply, AllocError>
         requires v { v < 72 }
         requires kept { AreKept self.old }
-        ensures answer { IfOk result (λ r. (hs : List ℕ) → meet_at (with_adopted self.old hs) v p h sort fields (registered self.old.registry p.0) ≡ answer r (with_adopted self.new (hs ++ by_meet h r))) }
+        ensures answer { IfOk result (λ r. (hs : List ℕ)
+            → meet_at (with_adopted self.old hs) v p h sort fields
+            (registered self.old.registry p.0) ≡ answer r (with_adopted self.new (hs ++ by_meet h r))) }
         ensures err { OnErr result (self.new ≡ self.old) }
     {
         match self.open_cycle() {
@@ -279,7 +296,11 @@ fn add_object(
     requires v { v < 72 }
     requires few { length heap.old.heap.fields < MOST }
     ensures number { IfOk result (λ x. x ≡ next_number heap.old.heap) }
-    ensures heap { OnOk result (heap.new ≡ record heap.old { heap = with_var (with_object heap.old.heap fields) v (Some (next_number heap.old.heap)); marks = heap.old.marks ++ true ∷ []; links = heap.old.links ++ 0 ∷ [] }) }
+    ensures heap { OnOk result (heap.new ≡ record heap.old {
+      heap = with_var (with_object heap.old.heap fields) v (Some (next_number heap.old.heap));
+      marks = heap.old.marks ++ true ∷ [];
+      links = heap.old.links ++ 0 ∷ [];
+    }) }
     ensures infos { OnOk result (infos.new.items ≡ infos.old.items ++ held ∷ []) }
     ensures err { OnErr result ((heap.new ≡ heap.old) × (infos.new.items ≡ infos.old.items)) }
 {

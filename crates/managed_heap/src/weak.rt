@@ -30,7 +30,8 @@ impl ManagedRows {
     fn weak_to(&mut self, k: usize, x: u32, word: u64) -> Reply
         requires k { k < 64 }
         requires word { (word ≡ 0) ↔ (slot self.old.managed.cells k ≡ None) }
-        ensures answer { cell_set self.old.managed k x (slot self.old.managed.cells k) ≡ answer result self.new.managed }
+        ensures answer { cell_set self.old.managed k x
+            (slot self.old.managed.cells k) ≡ answer result self.new.managed }
         ensures rest { self.new ≡ record self.old { managed = self.new.managed } }
     {
         if word != 0 {

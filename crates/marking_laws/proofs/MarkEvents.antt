@@ -28,7 +28,8 @@ use Rattle.marking_laws.proofs.MarkFacts.{edge-existed, spared-existed, spared-m
 -- the begin: exactly what the roots reach over the edges of now is marked
 pub marks-begun : (s : PeerReplay) (t : Thread) (mk : Marking) (marks : List Bool) → (begun s None t).state.marking ≡ Some mk
     → ((p : ℕ) → HasMark marks p ↔ Reached (IsRootNow s) (EdgeNow s true) p) → AreMarksExact (begun s None t).state mk true marks
-marks-begun s t mk marks opened new = marks-begun_as s (begun s None t).state mk marks refl refl (ap (λ o. elim o [ None ↦ s.peers.heap | Some k ↦ k.heap ]) (sym opened)) (ap (λ o. elim o [ None ↦ s.refs | Some k ↦ k.refs ]) (sym opened))
+marks-begun s t mk marks opened new = marks-begun_as s (begun s None t).state mk marks refl refl
+    (ap (λ o. elim o [ None ↦ s.peers.heap | Some k ↦ k.heap ]) (sym opened)) (ap (λ o. elim o [ None ↦ s.refs | Some k ↦ k.refs ]) (sym opened))
     (λ p r. elim r [
       | inl a ↦ inl (subst (λ h. InSlot h p) (sym (ap (λ o. elim o [ None ↦ s.peers.heap | Some k ↦ k.heap ]) (sym opened))) a)
       | inr b ↦ inr (inl (subst (λ l. Contains l p) (ap (λ o. elim o [ None ↦ [] | Some k ↦ k.strong_peers ]) opened) b))
@@ -101,10 +102,13 @@ marks-written s mk follows marks x i y side held =
     }
 
 -- fields, freed peers and mirrored references stay
-pub marks-same : (s t : PeerReplay) (mk : Marking) (follows : Bool) (marks : List Bool) → t.peers.heap.fields ≡ s.peers.heap.fields → t.peers.heap.freed ≡ s.peers.heap.freed → t.refs ≡ s.refs → AreMarksExact s mk follows marks → AreMarksExact t mk follows marks
+pub marks-same : (s t : PeerReplay) (mk : Marking) (follows : Bool) (marks : List Bool) → t.peers.heap.fields ≡ s.peers.heap.fields
+    → t.peers.heap.freed ≡ s.peers.heap.freed → t.refs ≡ s.refs → AreMarksExact s mk follows marks → AreMarksExact t mk follows marks
 marks-same s t mk follows marks fields freed refs m =
-    let was : (p : ℕ) → IsLive t.peers.heap p → IsLive s.peers.heap p = λ p l. record { made = (l.made.0, subst (λ f. p ≤ length f) fields l.made.1); kept = λ c. l.kept (subst (λ f. Contains f p) (sym freed) c) } in
-    let live : (p : ℕ) → IsLive s.peers.heap p → IsLive t.peers.heap p = λ p l. record { made = (l.made.0, subst (λ f. p ≤ length f) (sym fields) l.made.1); kept = λ c. l.kept (subst (λ f. Contains f p) freed c) } in
+    let was : (p : ℕ) → IsLive t.peers.heap p → IsLive s.peers.heap p = λ p l.
+    record { made = (l.made.0, subst (λ f. p ≤ length f) fields l.made.1); kept = λ c. l.kept (subst (λ f. Contains f p) (sym freed) c) } in
+    let live : (p : ℕ) → IsLive s.peers.heap p → IsLive t.peers.heap p = λ p l.
+    record { made = (l.made.0, subst (λ f. p ≤ length f) (sym fields) l.made.1); kept = λ c. l.kept (subst (λ f. Contains f p) freed c) } in
     let still : (p : ℕ) → fields_of t.peers.heap p ≡ fields_of s.peers.heap p = λ p. ap (λ f. elim (numbered_at f p) [ None ↦ [] | Some fs ↦ fs ]) fields in
     record {
       older = λ p c. subst (λ f. Contains f p) (sym freed) (m.older p c);
@@ -134,7 +138,14 @@ marks-new s mk follows marks after sort n side other here =
       older = m.older;
       fresh = λ p l x. elim (cases_eq p (next_number s.peers.heap)) [
         | inl e ↦ subst (HasMark after) (sym e) here
-        | inr d ↦ (other p d).1 (m.fresh p record { made = (l.made.0, let b : p ≤ length (s.peers.heap.fields ++ replicate n None ∷ []) = l.made.1 in omega (arith, b, length-append s.peers.heap.fields (replicate n None ∷ []), d)); kept = l.kept } x)
+        | inr d ↦ (other p d).1 (m.fresh p record {
+          made = (
+            l.made.0,
+            let b : p ≤ length (s.peers.heap.fields ++ replicate n None ∷ []) = l.made.1 in
+                omega (arith, b, length-append s.peers.heap.fields (replicate n None ∷ []), d),
+          );
+          kept = l.kept;
+        } x)
       ];
       exact = λ p e. ((λ u. (m.exact p e).0 ((other p (old p e)).0 u)), (λ w. (other p (old p e)).1 ((m.exact p e).1 w)));
       unmarked = λ p q e. let ends = edge-existed mk p q e in elim (m.unmarked p q e) [
@@ -142,7 +153,11 @@ marks-new s mk follows marks after sort n side other here =
         | inr w ↦ inr (
           (λ u. w.0 ((other p (old p ends.0)).0 u)),
           elim w.1 [
-            | inl f ↦ inl record { live = IsLive-later s.peers.heap n p f.live; field = subst (λ fs. Contains fs (Some q)) (sym (with_object-old s.peers.heap n p f.live.made.1)) f.field; there = IsLive-later s.peers.heap n q f.there }
+            | inl f ↦ inl record {
+              live = IsLive-later s.peers.heap n p f.live;
+              field = subst (λ fs. Contains fs (Some q)) (sym (with_object-old s.peers.heap n p f.live.made.1)) f.field;
+              there = IsLive-later s.peers.heap n q f.there;
+            }
             | inr r ↦ inr (r.0, record { live = IsLive-later s.peers.heap n p r.1.live; reference = r.1.reference; there = IsLive-later s.peers.heap n q r.1.there })
           ],
         )
@@ -157,8 +172,10 @@ marks-brought s mk follows marks after x side new =
     let m = side.right in
     let more : Marking = record mk { brought = mk.brought ++ x ∷ [] } in
     let k = side.kept.marking mk side.opened in
-    let root : (z : ℕ) → IsMarkingRoot mk z → IsMarkingRoot more z = λ z r. elim r [ inl a ↦ inl a | inr t ↦ elim t [ inl b ↦ inr (inl b) | inr c ↦ inr (inr (Contains-append_left mk.brought (x ∷ []) z c)) ] ] in
-    let wider : (z : ℕ) → IsMarked mk z → IsMarked more z = λ z w. record { existed = w.existed; reached = Reached-mono (IsMarkingRoot mk) (IsMarkingRoot more) (MarkingEdge mk) (MarkingEdge more) root (λ a b e. e) z w.reached } in
+    let root : (z : ℕ) → IsMarkingRoot mk z → IsMarkingRoot more z = λ z r. elim r
+    [ inl a ↦ inl a | inr t ↦ elim t [ inl b ↦ inr (inl b) | inr c ↦ inr (inr (Contains-append_left mk.brought (x ∷ []) z c)) ] ] in
+    let wider : (z : ℕ) → IsMarked mk z → IsMarked more z = λ z w.
+    record { existed = w.existed; reached = Reached-mono (IsMarkingRoot mk) (IsMarkingRoot more) (MarkingEdge mk) (MarkingEdge more) root (λ a b e. e) z w.reached } in
     let next : (a b : ℕ) → EdgeNow s follows a b → MarkingEdge mk a b ⊎ IsSpared mk b = λ a b n. elim n [ inl f ↦ k.fields a b f.live f.field | inr r ↦ k.references a b r.1.live r.1.reference ] in
     let down : (z : ℕ) → IsLive mk.heap z → HasMark after z → IsMarked more z = λ z e u. elim ((new z).0 u) [
       | inl w ↦ wider z ((m.exact z e).0 w)
@@ -199,7 +216,8 @@ marks-brought s mk follows marks after x side new =
     }
 
 -- the marking doesn't follow references that come to stand
-pub marks-stood : (s : PeerReplay) (mk : Marking) (follows : Bool) (marks : List Bool) (cycle snap : ℕ) (refs : List (End × End)) → s.refs ≡ [] → AreMarksExact s mk follows marks → AreMarksExact (mirrored s cycle (Some snap) refs) mk false marks
+pub marks-stood : (s : PeerReplay) (mk : Marking) (follows : Bool) (marks : List Bool) (cycle snap : ℕ) (refs : List (End × End))
+    → s.refs ≡ [] → AreMarksExact s mk follows marks → AreMarksExact (mirrored s cycle (Some snap) refs) mk false marks
 marks-stood s mk follows marks cycle snap refs none m = record {
   older = m.older;
   fresh = m.fresh;
@@ -211,7 +229,8 @@ marks-stood s mk follows marks cycle snap refs none m = record {
 }
 
 -- the references go, and what they led to has a mark
-pub marks-cleared : (s : PeerReplay) (mk : Marking) (follows : Bool) (marks : List Bool) → ((p q : ℕ) → HasReference s.peers.heap s.refs p q → IsSpared mk q) → AreMarksExact s mk follows marks → AreMarksExact (record s { refs = []; mirror = None }) mk follows marks
+pub marks-cleared : (s : PeerReplay) (mk : Marking) (follows : Bool) (marks : List Bool) → ((p q : ℕ) → HasReference s.peers.heap s.refs p q → IsSpared mk q)
+    → AreMarksExact s mk follows marks → AreMarksExact (record s { refs = []; mirror = None }) mk follows marks
 marks-cleared s mk follows marks spared m = record {
   older = m.older;
   fresh = m.fresh;

@@ -82,7 +82,8 @@ counted-none Q [] h = refl
 counted-none Q (x ∷ xs) h = inr (h x (Contains-here x xs), counted-none Q xs (λ y d. h y (Contains-there y x xs d)))
 
 -- a longer list, none of whose further members is such
-counted-more : (Q : ℕ → Type 0) (xs ys : List ℕ) (n : ℕ) → Rises xs → Rises ys → ((x : ℕ) → Contains xs x → Contains ys x) → ((y : ℕ) → Contains ys y → (Contains xs y → ⊥) → Q y → ⊥) → Counted Q xs n → Counted Q ys n
+counted-more : (Q : ℕ → Type 0) (xs ys : List ℕ) (n : ℕ) → Rises xs → Rises ys → ((x : ℕ) → Contains xs x → Contains ys x)
+    → ((y : ℕ) → Contains ys y → (Contains xs y → ⊥) → Q y → ⊥) → Counted Q xs n → Counted Q ys n
 counted-more Q [] ys n rx ry sub h c = subst (Counted Q ys) (sym c) (counted-none Q ys (λ y d. h y d (Contains-nil y)))
 counted-more Q (x ∷ xs) [] n rx ry sub h c = absurd (Contains-nil x (sub x (Contains-here x xs)))
 counted-more Q (x ∷ xs) (y ∷ ys) n rx ry sub h c = elim (cases_eq x y) [
@@ -122,8 +123,10 @@ spared-in mk closure p c l s = elim (member-or p closure) [ inl w ↦ w | inr n 
 
 pub done-black : DoneIsAllBlack
 done-black s mk follows marks greys closure count m b = (
-  λ e. counted-all (IsBlack marks greys) closure count (λ p c. (going-all s mk follows marks (subst (AreMarksGoing s mk follows marks) e m) p ((b.closed.exact p).0 c), λ g. Contains-nil p (subst (λ z. Contains z p) e g))) b.counted,
-  λ e. empty greys (λ x g. let l = counted-less (IsBlack marks greys) x closure count (spared-in mk closure x b.closed (m.existed x g) (m.sound x (m.grey x g))) (λ q. q.1 g) b.counted in omega (arith, l, e)),
+  λ e. counted-all (IsBlack marks greys) closure count (λ p c.
+      (going-all s mk follows marks (subst (AreMarksGoing s mk follows marks) e m) p ((b.closed.exact p).0 c), λ g. Contains-nil p (subst (λ z. Contains z p) e g))) b.counted,
+  λ e. empty greys (λ x g. let l = counted-less (IsBlack marks greys) x closure count (spared-in mk closure x b.closed (m.existed x g) (m.sound x (m.grey x g))) (λ q. q.1 g) b.counted in
+      omega (arith, l, e)),
 )
   where
     empty : (xs : List ℕ) → ((x : ℕ) → Contains xs x → ⊥) → xs ≡ []
@@ -148,7 +151,12 @@ black-counts s mk follows marks after greys waits closure x count black side c s
 }
 
 pub shading-counts : ShadingCounts
-shading-counts seen mk marks after greys waits closure count sh b = record { closed = b.closed; counted = counted-same (IsBlack marks greys) (IsBlack after waits) closure count (λ p d. black-as (Contains seen) none marks after greys waits p sh (λ z. z)) b.counted }
+shading-counts seen mk marks after greys waits closure count sh
+    b = record {
+      closed = b.closed;
+      counted = counted-same (IsBlack marks greys) (IsBlack after waits) closure count
+          (λ p d. black-as (Contains seen) none marks after greys waits p sh (λ z. z)) b.counted;
+    }
 
 pub brought-counts : BringingBackCounts
 brought-counts s mk follows marks after greys waits closure more x count side sh closed b = record {
@@ -162,6 +170,7 @@ brought-counts s mk follows marks after greys waits closure more x count side sh
     wider : (p : ℕ) → IsMarked mk p → IsMarked (record mk { brought = mk.brought ++ x ∷ []; blackened = mk.blackened }) p
     wider p w = record {
       existed = w.existed;
-      reached = Reached-mono (IsMarkingRoot mk) (IsMarkingRoot (record mk { brought = mk.brought ++ x ∷ []; blackened = mk.blackened })) (MarkingEdge mk) (MarkingEdge (record mk { brought = mk.brought ++ x ∷ []; blackened = mk.blackened }))
+      reached = Reached-mono (IsMarkingRoot mk) (IsMarkingRoot (record mk { brought = mk.brought ++ x ∷ []; blackened = mk.blackened }))
+          (MarkingEdge mk) (MarkingEdge (record mk { brought = mk.brought ++ x ∷ []; blackened = mk.blackened }))
           (λ z r. elim r [ inl a ↦ inl a | inr t ↦ elim t [ inl d ↦ inr (inl d) | inr e ↦ inr (inr (Contains-append_left mk.brought (x ∷ []) z e)) ] ]) (λ a d e. e) p w.reached;
     }

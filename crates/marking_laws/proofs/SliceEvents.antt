@@ -27,7 +27,8 @@ use Rattle.heap_rules.specs.Tidy.{CanFree}
 use Rattle.reachability.specs.Marks.{HasMark, IsClosed}
 use Rattle.reachability.proofs.Marking.{marked-or}
 use Rattle.marking_laws.specs.Marks.{EdgeNow, IsRootNow, IsWithoutMark}
-use Rattle.marking_laws.specs.Slices.{AreMarksGoing, IsGoingSide, Shades, none, BeginGreysRoots, BlackeningGoesOn, ShadedWritesGoOn, BringingBackGoesOn, NewPeersGoOn, StandingGoesOn, ClearingGoesOn, OtherEventsGoOn, NoneGreyIsAll, SweepIsExactThen, MarksAreShutThen, SweepIsSafeThen}
+use Rattle.marking_laws.specs.Slices.{AreMarksGoing, IsGoingSide, Shades, none, BeginGreysRoots, BlackeningGoesOn, ShadedWritesGoOn, BringingBackGoesOn, NewPeersGoOn, StandingGoesOn, ClearingGoesOn}
+use Rattle.marking_laws.specs.Slices.{OtherEventsGoOn, NoneGreyIsAll, SweepIsExactThen, MarksAreShutThen, SweepIsSafeThen}
 use Rattle.marking_laws.proofs.MarkFacts.{edge-existed}
 
 -- an unfreed peer was unfreed at the begin, or was made since
@@ -50,9 +51,11 @@ going-begun s t mk marks greys opened new all = subst (λ m. AreMarksGoing (begu
 }
 
 -- what is shaded: it is spared and unfreed, and all that a peer that is made black leads to now is
-module _ (s : PeerReplay) (mk : Marking) (follows : Bool) (marks after : List Bool) (greys waits brought : List ℕ) (black : ℕ) (seen gone : ℕ → Type 0) (m : AreMarksGoing s mk follows marks greys) (sh : Shades seen gone marks greys after waits) where
+module _ (s : PeerReplay) (mk : Marking) (follows : Bool) (marks after : List Bool) (greys waits brought : List ℕ) (black : ℕ)
+    (seen gone : ℕ → Type 0) (m : AreMarksGoing s mk follows marks greys) (sh : Shades seen gone marks greys after waits) where
   pub shaded : ((k : ℕ) → Contains mk.brought k → Contains brought k) → ((k : ℕ) → Contains brought k → Contains mk.brought k ⊎ seen k) → ((k : ℕ) → seen k → IsSpared (later mk brought black) k)
-      → ((k : ℕ) → seen k → IsLive s.peers.heap k) → ((k : ℕ) → gone k ⊎ (gone k → ⊥)) → ((p q : ℕ) → gone p → EdgeNow s follows p q → seen q) → AreMarksGoing s (later mk brought black) follows after waits
+      → ((k : ℕ) → seen k → IsLive s.peers.heap k) → ((k : ℕ) → gone k ⊎ (gone k → ⊥))
+      → ((p q : ℕ) → gone p → EdgeNow s follows p q → seen q) → AreMarksGoing s (later mk brought black) follows after waits
   shaded more back spared live parted black_one = record {
     older = m.older;
     fresh = λ p l n. (sh.marked p).1 (inl (m.fresh p l n));
@@ -81,8 +84,10 @@ module _ (s : PeerReplay) (mk : Marking) (follows : Bool) (marks after : List Bo
 -- fields, freed peers and mirrored references stay
 pub going-same : OtherEventsGoOn
 going-same s t mk follows marks greys fields freed refs m =
-    let was : (p : ℕ) → IsLive t.peers.heap p → IsLive s.peers.heap p = λ p l. record { made = (l.made.0, subst (λ f. p ≤ length f) fields l.made.1); kept = λ c. l.kept (subst (λ f. Contains f p) (sym freed) c) } in
-    let live : (p : ℕ) → IsLive s.peers.heap p → IsLive t.peers.heap p = λ p l. record { made = (l.made.0, subst (λ f. p ≤ length f) (sym fields) l.made.1); kept = λ c. l.kept (subst (λ f. Contains f p) freed c) } in
+    let was : (p : ℕ) → IsLive t.peers.heap p → IsLive s.peers.heap p = λ p l.
+    record { made = (l.made.0, subst (λ f. p ≤ length f) fields l.made.1); kept = λ c. l.kept (subst (λ f. Contains f p) (sym freed) c) } in
+    let live : (p : ℕ) → IsLive s.peers.heap p → IsLive t.peers.heap p = λ p l.
+    record { made = (l.made.0, subst (λ f. p ≤ length f) (sym fields) l.made.1); kept = λ c. l.kept (subst (λ f. Contains f p) freed c) } in
     let still : (p : ℕ) → fields_of t.peers.heap p ≡ fields_of s.peers.heap p = λ p. ap (λ f. elim (numbered_at f p) [ None ↦ [] | Some fs ↦ fs ]) fields in
     record {
       older = λ p c. subst (λ f. Contains f p) (sym freed) (m.older p c);
@@ -108,7 +113,8 @@ pub going-black : BlackeningGoesOn
 going-black s mk follows marks after greys waits x black side c sh =
     let k = side.kept.marking mk side.opened in
     let m = side.right in
-    going-same s (record s { marking = Some (later mk mk.brought black) }) (later mk mk.brought black) follows after waits refl refl refl (shaded s mk follows marks after greys waits mk.brought black (EdgeNow s follows x) (λ k. k ≡ x) m sh (λ k d. d) (λ k d. inl d)
+    going-same s (record s { marking = Some (later mk mk.brought black) }) (later mk mk.brought black) follows after waits refl refl refl
+    (shaded s mk follows marks after greys waits mk.brought black (EdgeNow s follows x) (λ k. k ≡ x) m sh (λ k d. d) (λ k d. inl d)
     (λ q e. spared-later mk mk.brought black q (λ z d. d) (elim e [
       | inl f ↦ spared-next mk x q (k.fields x q f.live f.field) (m.sound x (m.grey x c))
       | inr r ↦ spared-next mk x q (k.references x q r.1.live r.1.reference) (m.sound x (m.grey x c))
@@ -119,7 +125,8 @@ going-black s mk follows marks after greys waits x black side c sh =
 
 -- what is brought back
 pub going-brought : BringingBackGoesOn
-going-brought s mk follows marks after greys waits x side live sh = going-same s (record s { marking = Some (later mk (mk.brought ++ x ∷ []) mk.blackened) }) (later mk (mk.brought ++ x ∷ []) mk.blackened) follows after waits refl refl refl (shaded s mk follows marks after greys waits (mk.brought ++ x ∷ []) mk.blackened (λ k. k ≡ x) none side.right sh
+going-brought s mk follows marks after greys waits x side live sh = going-same s (record s { marking = Some (later mk (mk.brought ++ x ∷ []) mk.blackened) })
+    (later mk (mk.brought ++ x ∷ []) mk.blackened) follows after waits refl refl refl (shaded s mk follows marks after greys waits (mk.brought ++ x ∷ []) mk.blackened (λ k. k ≡ x) none side.right sh
     (λ k c. Contains-append_left mk.brought (x ∷ []) k c)
     (λ k c. elim (Contains-push_cases mk.brought x k c) [ inl d ↦ inl d | inr d ↦ inr (sym d) ])
     (λ k e. spared-root (later mk (mk.brought ++ x ∷ []) mk.blackened) k (inr (inr (Contains-append_right mk.brought (x ∷ []) k (subst (Contains (x ∷ [])) (sym e) (Contains-here x []))))))
@@ -177,7 +184,14 @@ going-new s mk follows marks after greys sort n side other here =
       older = m.older;
       fresh = λ p l x. elim (cases_eq p (next_number s.peers.heap)) [
         | inl e ↦ subst (HasMark after) (sym e) here
-        | inr d ↦ (other p d).1 (m.fresh p record { made = (l.made.0, let b : p ≤ length (s.peers.heap.fields ++ replicate n None ∷ []) = l.made.1 in omega (arith, b, length-append s.peers.heap.fields (replicate n None ∷ []), d)); kept = l.kept } x)
+        | inr d ↦ (other p d).1 (m.fresh p record {
+          made = (
+            l.made.0,
+            let b : p ≤ length (s.peers.heap.fields ++ replicate n None ∷ []) = l.made.1 in
+                omega (arith, b, length-append s.peers.heap.fields (replicate n None ∷ []), d),
+          );
+          kept = l.kept;
+        } x)
       ];
       sound = λ p u l z. m.sound p ((other p (old p l)).0 u) l z;
       roots = λ p r l. (other p (old p l)).1 (m.roots p r l);
@@ -188,7 +202,11 @@ going-new s mk follows marks after greys sort n side other here =
         | inr w ↦ inr (
           (λ u. w.0 ((other p (old p ends.0)).0 u)),
           elim w.1 [
-            | inl f ↦ inl record { live = IsLive-later s.peers.heap n p f.live; field = subst (λ fs. Contains fs (Some q)) (sym (with_object-old s.peers.heap n p f.live.made.1)) f.field; there = IsLive-later s.peers.heap n q f.there }
+            | inl f ↦ inl record {
+              live = IsLive-later s.peers.heap n p f.live;
+              field = subst (λ fs. Contains fs (Some q)) (sym (with_object-old s.peers.heap n p f.live.made.1)) f.field;
+              there = IsLive-later s.peers.heap n q f.there;
+            }
             | inr r ↦ inr (r.0, record { live = IsLive-later s.peers.heap n p r.1.live; reference = r.1.reference; there = IsLive-later s.peers.heap n q r.1.there })
           ],
         )

@@ -1,6 +1,8 @@
 // Laws of the events that come while a marking is open.
 
-ghost use Rattle.marking_laws.specs.MarkingLaws.{BeginMakesMarksExact, BringingBackKeepsMarks, ClearingKeepsMarks, NewPeersKeepMarks, OtherEventsKeepMarks, StandingKeepsMarks, WritesKeepMarks};
+ghost use Rattle.marking_laws.specs.MarkingLaws.{BeginMakesMarksExact, BringingBackKeepsMarks, ClearingKeepsMarks};
+ghost use Rattle.marking_laws.specs.MarkingLaws.{NewPeersKeepMarks, OtherEventsKeepMarks, StandingKeepsMarks};
+ghost use Rattle.marking_laws.specs.MarkingLaws.{WritesKeepMarks};
 
 /// The begin makes the marks exact, where just what the roots reach over the edges of now has a mark.
 pub fn begin_makes_marks_exact()

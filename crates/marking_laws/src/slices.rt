@@ -1,6 +1,9 @@
 // Laws of a marking that goes on in slices.
 
-ghost use Rattle.marking_laws.specs.Slices.{BeginGreysRoots, BlackeningCounts, BlackeningGoesOn, BringingBackCounts, BringingBackGoesOn, ClearingGoesOn, DoneIsAllBlack, MarksAreShutThen, NewPeersGoOn, NoneGreyIsAll, OtherEventsGoOn, ShadedWritesGoOn, ShadingCounts, StandingGoesOn, SweepIsExactThen, SweepIsSafeThen};
+ghost use Rattle.marking_laws.specs.Slices.{BeginGreysRoots, BlackeningCounts, BlackeningGoesOn, BringingBackCounts};
+ghost use Rattle.marking_laws.specs.Slices.{BringingBackGoesOn, ClearingGoesOn, DoneIsAllBlack, MarksAreShutThen};
+ghost use Rattle.marking_laws.specs.Slices.{NewPeersGoOn, NoneGreyIsAll, OtherEventsGoOn, ShadedWritesGoOn};
+ghost use Rattle.marking_laws.specs.Slices.{ShadingCounts, StandingGoesOn, SweepIsExactThen, SweepIsSafeThen};
 
 /// The begin greys the roots. Then a grey peer is made black, where all that it leads to now is shaded; a write shades
 /// what it overwrites; what is brought back is shaded; a new peer is black; references may come to stand; those that go

@@ -174,7 +174,16 @@ pub record EntryAt (whole : List Item) (j : ℕ) (n : Noted) : Type 0 where
   pub fits : Fits (first_of j whole) item
 
 entry_at : (whole : List Item) (ns : List Noted) → Noticed whole ns → (j : ℕ) (n : Noted) → slice_get ns j ≡ Some n → EntryAt whole j n
-entry_at whole ns g j n e = let t = note_item whole ns g.notes j n e in record { item = t.0; there = t.1; note = t.2; is = item_at (runs_at 0 whole j t.0 g.runs t.1); number = (runs_at 0 whole j t.0 g.runs t.1).number ∙ omega arith; fits = fits_at [] whole j t.0 g.fits t.1 }
+entry_at whole ns g j n e = let t = note_item whole ns g.notes j n e in
+    record {
+      item = t.0;
+      there = t.1;
+      note = t.2;
+      is = item_at (runs_at 0 whole j t.0 g.runs t.1);
+      number = (runs_at 0 whole j t.0 g.runs t.1).number
+          ∙ omega arith;
+      fits = fits_at [] whole j t.0 g.fits t.1;
+    }
   where
     item_at : {x : Item} → IsItem (0 + j) x → IsItem j x
     item_at is = record { number = is.number ∙ omega arith; caller = is.caller; stands = is.stands }
@@ -206,7 +215,8 @@ none_from whole ns g t i j below h =
     let c = h.3 in
     let x = entry_at whole ns g h.0 c.entry c.there in
     let mine : is_in (caller_line t) x.item ≡ true = caller_in (caller_line t) x.item (ap caller_line (sym c.caller ∙ ap (λ (y : Entry). y.made.caller) x.note.entry)) in
-    let less = stands_below j (of_line (caller_line t) (first_of i whole)) x.item.kept below (item_stands (caller_line t) (first_of i whole) h.0 x.item (in_first i whole h.0 x.item h.2 x.there) mine) in
+    let less = stands_below j (of_line (caller_line t) (first_of i whole)) x.item.kept below
+    (item_stands (caller_line t) (first_of i whole) h.0 x.item (in_first i whole h.0 x.item h.2 x.there) mine) in
     let number = x.number in let from = h.1 in omega arith
 
 pending_right : (whole : List Item) (ns : List Noted) → Noticed whole ns → (i : ℕ) (t : Thread) (k : ℕ) → IsSnappedBefore (of_line 0 whole) i k
@@ -243,13 +253,15 @@ unset_right whole ns g cells same i t c reads = record {
       let at_k = x.number in let at_j = z.number in let from = h.1 in let before = h.2 in
       let sets = z.note.set c s.event s.set in
       none_from whole ns g t i k (subst (λ q. IsBelow q (of_line (caller_line t) (first_of i whole))) at_k
-      (reads.unknown refl z.item.kept x.item.kept (early whole s.entry j i z (omega arith) (setter whole s.entry j c z sets)) sets (early whole m.entry k i x (omega arith) (managed_role whole m.entry k x m.managed)) (omega arith))) h;
+      (reads.unknown refl z.item.kept x.item.kept (early whole s.entry j i z (omega arith) (setter whole s.entry j c z sets)) sets
+      (early whole m.entry k i x (omega arith) (managed_role whole m.entry k x m.managed)) (omega arith))) h;
   not_own = λ j s l mine.
       let z = entry_at whole ns g j s.entry s.there in
       let y = entry_at whole ns g j mine.entry mine.there in
       let one : y.item ≡ z.item = some-injective y.item z.item (sym y.there ∙ z.there) in
       let caller : z.item.kept.entry.made.caller ≡ t = ap (λ (q : Item). q.kept.entry.made.caller) (sym one) ∙ (ap (λ (q : Entry). q.made.caller) (sym y.note.entry) ∙ mine.caller) in
-      reads.not_own refl z.item.kept (item_stands (caller_line t) (first_of i whole) j z.item (in_first i whole j z.item l z.there) (caller_in (caller_line t) z.item (ap caller_line (sym caller)))) (z.note.set c s.event s.set);
+      reads.not_own refl z.item.kept (item_stands (caller_line t) (first_of i whole) j z.item (in_first i whole j z.item l z.there) (caller_in (caller_line t) z.item (ap caller_line (sym caller))))
+      (z.note.set c s.event s.set);
   target_unfreed = λ m j is f l.
       let z = entry_at whole ns g j f.entry f.there in
       let frees = z.note.freed m f.frees in
@@ -261,7 +273,8 @@ unset_right whole ns g cells same i t c reads = record {
       both_ways (has z.item.kept.freed m) (not_freed (of_line 0 (first_of q whole)) z.item.kept m alive (early whole f.entry j q z less first)) frees in
       ⊎_elim
       (λ (less : y.0 < i). not_before i l (reads.alive refl m
-      (set_once [] (first_of i whole) (fits_first i [] whole g.fits) (λ _ _ a s. absurd (some-ne-none a (sym s.1))) c m y.1.kept (item_stands 0 (first_of i whole) y.0 y.1 (in_first i whole y.0 y.1 less y.2) y.3) sets)))
+      (set_once [] (first_of i whole) (fits_first i [] whole g.fits) (λ _ _ a s. absurd (some-ne-none a (sym s.1))) c m y.1.kept
+      (item_stands 0 (first_of i whole) y.0 y.1 (in_first i whole y.0 y.1 less y.2) y.3) sets)))
       (λ (more : i ≤ y.0). let role = sym (⊎_elim (λ q. q) (λ q. absurd (let far : 0 ≡ caller_line y.1.kept.entry.made.caller = q in omega arith)) (in_cases 0 y.1 y.3)) in
       not_before y.0 (omega arith) ((fits_at [] whole y.0 y.1 g.fits y.2).sets role c m sets).2)
       (cases_lt y.0 i);
@@ -308,7 +321,8 @@ replies_are_right whole runs fits pending ns cells notes same i x at_i reader s 
     role = at_place.stands.reader reader
 
     pins : slot s.pins (thread_number t) ≡ object_of (pin (of_line (caller_line t) before))
-    pins = subst (λ z. slot s.pins (thread_number z) ≡ object_of (pin (of_line (caller_line z) before))) (sym role.1) (state.pins (x.role - 1) (omega arith) (let small = at_place.stands.one in omega arith))
+    pins = subst (λ z. slot s.pins (thread_number z) ≡ object_of (pin (of_line (caller_line z) before)))
+        (sym role.1) (state.pins (x.role - 1) (omega arith) (let small = at_place.stands.one in omega arith))
 
     empty : ((m : ℕ) → x.kept.entry.made.reply ≡ says.Pinned record { 0 = m } → ⊥) → slot s.pins (thread_number t) ≡ None
     empty other = pins ∙ ap object_of (fit.unfilled reader other)
@@ -325,11 +339,14 @@ replies_are_right whole runs fits pending ns cells notes same i x at_i reader s 
       pending_right whole ns g i t c.0 (subst (λ n. IsSnappedBefore (of_line 0 whole) n c.0) number (pending i x at_i reader c.0 e)) (fit.pending reader c.0 e),
     )
     by_reply says.Unset e a = (empty (not_pinned 0 (ap word_of e)), unset_right whole ns g cells same i t k (word 0 (ap word_of e)).1)
-    by_reply (says.Pinned m) e a = sym (pinned_reply s (thread_number t) k m.0 (pins ∙ ap object_of (let p = fit.filled reader m.0 e in let q : pin (of_line (caller_line t) before) ≡ suc m.0 = omega arith in q)))
+    by_reply (says.Pinned m) e a = sym (pinned_reply s (thread_number t) k m.0
+        (pins ∙ ap object_of (let p = fit.filled reader m.0 e in let q : pin (of_line (caller_line t) before) ≡ suc m.0 = omega arith in q)))
     by_reply says.Gone e a = let w = word 1 (ap word_of e) in let gone = w.1.gone refl in
-        sym (target_reply s (thread_number t) k gone.0 (empty (not_pinned 1 (ap word_of e))) (state.open_cycle w.0) (state.cells k ∙ gone.1) ∙ if_true (heap.is_freed s.heap gone.0) says.Gone (managed_name gone.0) (state.freed gone.0 ∙ gone.2))
+        sym (target_reply s (thread_number t) k gone.0 (empty (not_pinned 1 (ap word_of e))) (state.open_cycle w.0) (state.cells k ∙ gone.1)
+        ∙ if_true (heap.is_freed s.heap gone.0) says.Gone (managed_name gone.0) (state.freed gone.0 ∙ gone.2))
     by_reply (says.M m) e a = let w = word (m.0 + 1) (ap word_of e) in let object = w.1.object m.0 a.0 refl in
-        sym (target_reply s (thread_number t) k m.0 (empty (not_pinned (m.0 + 1) (ap word_of e))) (state.open_cycle w.0) (state.cells k ∙ object.0) ∙ if_false (heap.is_freed s.heap m.0) says.Gone (managed_name m.0) (state.freed m.0 ∙ object.1))
+        sym (target_reply s (thread_number t) k m.0 (empty (not_pinned (m.0 + 1) (ap word_of e))) (state.open_cycle w.0) (state.cells k ∙ object.0)
+        ∙ if_false (heap.is_freed s.heap m.0) says.Gone (managed_name m.0) (state.freed m.0 ∙ object.1))
     by_reply _ e a = absurd a
 
 pub kept_pins_are_right : (whole : List Item) → EachFits [] whole → KeptPinsAreRight whole

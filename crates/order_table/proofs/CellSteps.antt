@@ -1,5 +1,6 @@
 -- The steps on the cells' words keep the rule.
-use Rattle.std.proofs.Common.{◌≡◌, ◌≢◌, inl, ⊎_elim, ℕ, ◌+◌, ◌-◌, ◌/◌, ◌<◌, ◌≤◌, Bool, true, false, ◌&&◌, List, [], ◌∷◌, length, get_or, set, refl, sym, ap, ◌∙◌, subst, arith, length-set, get_or-set_same, get_or-set_other}
+use Rattle.std.proofs.Common.{◌≡◌, ◌≢◌, inl, ⊎_elim, ℕ, ◌+◌, ◌-◌, ◌/◌, ◌<◌, ◌≤◌, Bool, true, false, ◌&&◌, List, [], ◌∷◌, length, get_or, set, refl, sym, ap, ◌∙◌, subst, arith, length-set}
+use Rattle.std.proofs.Common.{get_or-set_same, get_or-set_other}
 use Rattle.std.specs.Prelude.{◌==◌, nat_lt}
 use Rattle.std.proofs.lemmas.Bool.{cases_Bool, both_ways, and_parts, ltb-true, cases_eq}
 use mathlib.Core.Option.{none, some}
@@ -29,14 +30,18 @@ M = Me (Unit {0}) View
 
 -- a step by a seat whose lists and gate stay, on the word of a cell
 cell_step : (s : St) (r : Ordered s) (id c word : ℕ) (w : View) → Knows r.whole r.owner id w → Gates r.gate (get_or s.words 1 0) w → Waits r.whole r.gate w
-    → Celled (of_line 0 r.whole) r.gate (set s.words (2 + c) word) (set s.views id w) → c < 64 → (v : View) → get_elem? s.views id ≡ some v → ((i : ℕ) → Holds v i → Holds w i) → w.fill ≡ v.fill → w.empty ≡ v.empty → Scans r.whole w → Ordered record { words = set s.words (2 + c) word; homes = s.homes; views = set s.views id w }
+    → Celled (of_line 0 r.whole) r.gate (set s.words (2 + c) word) (set s.views id w) → c < 64 → (v : View) → get_elem? s.views id ≡ some v → ((i : ℕ) → Holds v i → Holds w i)
+    → w.fill ≡ v.fill → w.empty ≡ v.empty → Scans r.whole w → Ordered record { words = set s.words (2 + c) word; homes = s.homes; views = set s.views id w }
 cell_step s r id c word w knows gates waits celled small v here still fill empty scans = record {
   each_line = λ i l. owner_set s.views i (r.owner i) id v w here (still i) (r.each_line i l);
   scanned = seats (λ j. Scans r.whole) s.views id w scans (λ j u _ at_j. r.scanned j u at_j);
-  pinned = subst (λ b. Pinned r.whole r.owner r.gate b (set s.words (2 + c) word) (set s.views id w)) (sym gate_word) (pinned_keep r.whole r.whole r.owner r.owner r.gate r.gate (get_or s.words 1 0) (get_or s.words 1 0) s.words (set s.words (2 + c) word) s.views (set s.views id w) r.pinned (λ k. refl)
-      (λ k l. get_or-set_other s.words (2 + c) (65 + k) word 0 (λ e. omega arith)) (λ k o. let t = r.pinned.storing k o in (t.2, t.3, refl, refl)) (λ k o. (refl, refl)) (let l = length-set s.views id w in omega arith)
+  pinned = subst (λ b. Pinned r.whole r.owner r.gate b (set s.words (2 + c) word) (set s.views id w)) (sym gate_word)
+      (pinned_keep r.whole r.whole r.owner r.owner r.gate r.gate (get_or s.words 1 0) (get_or s.words 1 0) s.words (set s.words (2 + c) word) s.views (set s.views id w) r.pinned (λ k. refl)
+      (λ k l. get_or-set_other s.words (2 + c) (65 + k) word 0 (λ e. omega arith))
+      (λ k o. let t = r.pinned.storing k o in (t.2, t.3, refl, refl)) (λ k o. (refl, refl)) (let l = length-set s.views id w in omega arith)
       (seats (λ i x. (k : ℕ) → r.pinned.stores k ≡ true → r.owner (k + 10) ≡ i → x.fill ≡ k) s.views id w (λ k o e. fill ∙ r.pinned.filler id v here k o e) (λ i x _ at_i. r.pinned.filler i x at_i))
-      (seats (λ i x. (k : ℕ) → r.pinned.clears k ≡ true → r.owner (k + 10) ≡ i → x.empty ≡ k) s.views id w (λ k o e. empty ∙ r.pinned.clearer id v here k o e) (λ i x _ at_i. r.pinned.clearer i x at_i)));
+      (seats (λ i x. (k : ℕ) → r.pinned.clears k ≡ true → r.owner (k + 10) ≡ i → x.empty ≡ k) s.views id w
+      (λ k o e. empty ∙ r.pinned.clearer id v here k o e) (λ i x _ at_i. r.pinned.clearer i x at_i)));
   whole = r.whole;
   owner = r.owner;
   gate = r.gate;
@@ -46,7 +51,8 @@ cell_step s r id c word w knows gates waits celled small v here still fill empty
   limit = r.limit;
   each_seat = seats (Knows r.whole r.owner) s.views id w knows (λ j u _ at_j. r.each_seat j u at_j);
   held = r.held;
-  each_gate = subst (λ b. (j : ℕ) (v : View) → get_elem? (set s.views id w) j ≡ some v → Gates r.gate b v) (sym gate_word) (seats (λ j. Gates r.gate (get_or s.words 1 0)) s.views id w gates (λ j u _ at_j. r.each_gate j u at_j));
+  each_gate = subst (λ b. (j : ℕ) (v : View) → get_elem? (set s.views id w) j ≡ some v → Gates r.gate b v) (sym gate_word)
+      (seats (λ j. Gates r.gate (get_or s.words 1 0)) s.views id w gates (λ j u _ at_j. r.each_gate j u at_j));
   waiting = waiting_views r.whole r.gate s.views (set s.views id w) r.waiting (seats (λ j. Waits r.whole r.gate) s.views id w waits (λ j u _ at_j. r.waiting.each_wait j u at_j));
   celled = celled;
 }
@@ -74,17 +80,23 @@ loads_cell slots id c me small bare s r _ here _ =
     let test : Bool = nat_lt 0 v.inside && owes_none v in
     ⊎_elim
     (λ (e : test ≡ true). let w : View = record v { loads = (c, n) ∷ v.loads } in
-    let parts = and_parts (nat_lt 0 v.inside) (owes_none v) e in let paid : NoDebt v = no_debt_in v.debts (and_parts (none_owed_in v.debts) ((v.fill == 0) && (v.empty == 0)) parts.1).0 in let within = ltb-true 0 v.inside parts.0 in (
+    let parts = and_parts (nat_lt 0 v.inside) (owes_none v) e in let paid : NoDebt v = no_debt_in
+    v.debts (and_parts (none_owed_in v.debts) ((v.fill == 0) && (v.empty == 0)) parts.1).0 in let within = ltb-true 0 v.inside parts.0 in (
       w,
       keeps,
       tt,
       cell_step s r id c n w record { begins = knows.begins; heard = knows.heard; owned = knows.owned; heard_owned = knows.heard_owned }
-          record { owner = g.owner; other = g.other; heard_owner = g.heard_owner; heard_other = g.heard_other; inside = g.inside; owes = g.owes; one = g.one } record { snap = t.snap; unknown = t.unknown }
-          (celled_same (of_line 0 r.whole) r.gate r.gate s.words (set s.words (2 + c) n) s.views (set s.views id w) r.celled (λ k. ap (λ ws. get_or ws (2 + k) 0) (set-get_or s.words (2 + c) 0)) (λ k o h. h)
-          (seats (λ j. Debts (of_line 0 r.whole) r.celled.debt) s.views id w record { owner = d.owner; heard_owner = d.heard_owner; secret = d.secret; heard_secret = d.heard_secret; mine = d.mine; heard_mine = d.heard_mine } (λ j u _ at_j. r.celled.each_debt j u at_j))
+          record { owner = g.owner; other = g.other; heard_owner = g.heard_owner; heard_other = g.heard_other; inside = g.inside; owes = g.owes; one = g.one }
+          record { snap = t.snap; unknown = t.unknown }
+          (celled_same (of_line 0 r.whole) r.gate r.gate s.words (set s.words (2 + c) n) s.views
+          (set s.views id w) r.celled (λ k. ap (λ ws. get_or ws (2 + k) 0) (set-get_or s.words (2 + c) 0)) (λ k o h. h)
+          (seats (λ j. Debts (of_line 0 r.whole) r.celled.debt) s.views id w
+          record { owner = d.owner; heard_owner = d.heard_owner; secret = d.secret; heard_secret = d.heard_secret; mine = d.mine; heard_mine = d.heard_mine }
+          (λ j u _ at_j. r.celled.each_debt j u at_j))
           (seats (λ j x. 0 < x.inside → EachLoad (of_line 0 r.whole) x x.loads) s.views id w
           (λ l. (
-            (λ k o. loaded_word (of_line 0 r.whole) (known v (k + 10)) (known v 0) r.gate c n (r.celled.debt c) (g.inside within).1 cell (λ m e. (r.celled.real c m e).0) (knows.begins 0) (secret paid) (λ y st f. d.mine k o y st c f)),
+            (λ k o. loaded_word (of_line 0 r.whole) (known v (k + 10)) (known v 0) r.gate c n (r.celled.debt c)
+                (g.inside within).1 cell (λ m e. (r.celled.real c m e).0) (knows.begins 0) (secret paid) (λ y st f. d.mine k o y st c f)),
             same_loads (of_line 0 r.whole) v w v.loads refl refl (r.celled.each_load id v here l),
           ))
           (λ j u _ at_j. r.celled.each_load j u at_j))) small v here (λ i o. o) refl refl (r.scanned id v here),
@@ -95,9 +107,11 @@ loads_cell slots id c me small bare s r _ here _ =
       keeps,
       tt,
       cell_step s r id c n v knows g t
-          (celled_same (of_line 0 r.whole) r.gate r.gate s.words (set s.words (2 + c) n) s.views (set s.views id v) r.celled (λ k. ap (λ ws. get_or ws (2 + k) 0) (set-get_or s.words (2 + c) 0)) (λ k o h. h)
+          (celled_same (of_line 0 r.whole) r.gate r.gate s.words (set s.words (2 + c) n) s.views
+          (set s.views id v) r.celled (λ k. ap (λ ws. get_or ws (2 + k) 0) (set-get_or s.words (2 + c) 0)) (λ k o h. h)
           (seats (λ j. Debts (of_line 0 r.whole) r.celled.debt) s.views id v d (λ j u _ at_j. r.celled.each_debt j u at_j))
-          (seats (λ j x. 0 < x.inside → EachLoad (of_line 0 r.whole) x x.loads) s.views id v (r.celled.each_load id v here) (λ j u _ at_j. r.celled.each_load j u at_j))) small v here (λ i o. o) refl refl (r.scanned id v here),
+          (seats (λ j x. 0 < x.inside → EachLoad (of_line 0 r.whole) x x.loads) s.views id v (r.celled.each_load id v here) (λ j u _ at_j. r.celled.each_load j u at_j))) small v here
+          (λ i o. o) refl refl (r.scanned id v here),
       (refl, sym (if_false test (record v { loads = (2 + c - 2, n) ∷ v.loads }) v e), told_owner, told_unset, told_small),
     ))
     (cases_Bool test)
@@ -109,7 +123,8 @@ loads_cell slots id c me small bare s r _ here _ =
       same_loads ml v w ls owns kn e.1,
     )
 
-pub stores_cell : (slots id c word : ℕ) (me : M) → c < 64 → me.0.heard_owns ≡ [] → Owns me.0 0 → word ≡ says_word (known me.0 0) c → Allows Ordered slots id me (2 + c) (λ _. word) (λ _. StoredCell (step slots (2 + c) word 0 none) me word)
+pub stores_cell : (slots id c word : ℕ) (me : M) → c < 64 → me.0.heard_owns ≡ [] → Owns me.0 0 → word ≡ says_word (known me.0 0) c
+    → Allows Ordered slots id me (2 + c) (λ _. word) (λ _. StoredCell (step slots (2 + c) word 0 none) me word)
 stores_cell slots id c word me small bare owns is s r _ here _ =
     let v : View = me.0 in
     let w : View = storing c v in
@@ -128,14 +143,16 @@ stores_cell slots id c word me small bare owns is s r _ here _ =
       keeps,
       tt,
       cell_step s r id c word w record { begins = knows.begins; heard = knows.heard; owned = knows.owned; heard_owned = knows.heard_owned }
-          record { owner = g.owner; other = g.other; heard_owner = g.heard_owner; heard_other = g.heard_other; inside = g.inside; owes = g.owes; one = g.one } record { snap = t.snap; unknown = t.unknown }
+          record { owner = g.owner; other = g.other; heard_owner = g.heard_owner; heard_other = g.heard_other; inside = g.inside; owes = g.owes; one = g.one }
+          record { snap = t.snap; unknown = t.unknown }
           record {
             debt = debt;
             nonempty = λ k o. r.celled.nonempty k (was k o);
             cells = λ k l. ⊎_elim
                 (λ (same : k ≡ c). subst (λ j. CellIs ml r.gate (debt j) j (get_or (set s.words (2 + c) word) (2 + j) 0)) (sym same)
                 (inl (get_or-set_same s.words (2 + c) word 0 (let z = r.words.0 in omega arith) ∙ (is ∙ ap (λ ks. says_word ks c) (knows.owned 0 owns).1))))
-                (λ other. subst (λ (z : Bool × ℕ). CellIs ml r.gate z.0 k z.1) (λ i. (sym (else_same k other) i, sym (get_or-set_other s.words (2 + c) (2 + k) word 0 (λ e. other (omega arith))) i)) (r.celled.cells k l))
+                (λ other. subst (λ (z : Bool × ℕ). CellIs ml r.gate z.0 k z.1)
+                (λ i. (sym (else_same k other) i, sym (get_or-set_other s.words (2 + c) (2 + k) word 0 (λ e. other (omega arith))) i)) (r.celled.cells k l))
                 (cases_eq k c);
             real = r.celled.real;
             each_debt = seats (λ j. Debts ml debt) s.views id w
@@ -155,7 +172,8 @@ stores_cell slots id c word me small bare owns is s r _ here _ =
                   mine = h.mine;
                   heard_mine = h.heard_mine;
                 });
-            each_load = seats (λ j x. 0 < x.inside → EachLoad ml x x.loads) s.views id w (λ l. same_loads ml v w v.loads refl refl (r.celled.each_load id v here l)) (λ j u _ at_j. r.celled.each_load j u at_j);
+            each_load = seats (λ j x. 0 < x.inside → EachLoad ml x x.loads) s.views id w
+                (λ l. same_loads ml v w v.loads refl refl (r.celled.each_load id v here l)) (λ j u _ at_j. r.celled.each_load j u at_j);
           } small v here (λ i o. o) refl refl (r.scanned id v here),
       (refl, ap (λ k. storing k v) (sym place)),
     )

@@ -1,5 +1,6 @@
 -- The words of the cells, what is owed of them, and what was loaded.
-use Rattle.std.proofs.Common.{◌≡◌, ◌⊎◌, inl, inr, ⊎_elim, ℕ, zero, suc, ◌+◌, ◌<◌, ◌≤◌, Bool, true, false, not, ◌||◌, List, [], ◌∷◌, ◌++◌, length, refl, sym, ap, ◌∙◌, subst, arith, true≢false, length-append, Option, Some, None, eq-eqb, ne_eqb}
+use Rattle.std.proofs.Common.{◌≡◌, ◌⊎◌, inl, inr, ⊎_elim, ℕ, zero, suc, ◌+◌, ◌<◌, ◌≤◌, Bool, true, false, not, ◌||◌, List, [], ◌∷◌, ◌++◌, length, refl, sym, ap, ◌∙◌, subst, arith, true≢false}
+use Rattle.std.proofs.Common.{length-append, Option, Some, None, eq-eqb, ne_eqb}
 use Rattle.std.specs.Prelude.{if◌then◌else◌, ◌==◌, slice_index}
 use Rattle.std.proofs.lemmas.Bool.{cases_Bool, cases_lt, both_ways, cases_eq, eqb-true, and_parts, or_cases, not-true}
 use Rattle.joint_machine.specs.declared.names.MNum.{MNum}
@@ -28,7 +29,8 @@ both_false : (b c : Bool) → b ≡ false → c ≡ false → (b || c) ≡ false
 both_false b c e f = ap (λ z. z || c) e ∙ f
 
 -- what a word says to a caller stays right when a managed entry comes that frees nothing
-pub reads_more : (ml own : List KeptEntry) (k : KeptEntry) (n c w : ℕ) → k.entry.number ≡ n → IsBelow n ml → IsBelow n own → ((d m : ℕ) → marked k ≡ Some (d, m) → (target ml d ≡ None) × (is_freed ml m ≡ false))
+pub reads_more : (ml own : List KeptEntry) (k : KeptEntry) (n c w : ℕ) → k.entry.number ≡ n → IsBelow n ml
+    → IsBelow n own → ((d m : ℕ) → marked k ≡ Some (d, m) → (target ml d ≡ None) × (is_freed ml m ≡ false))
     → ((x : ℕ) → has k.freed x ≡ false) → ReadsWord ml own c w → ReadsWord (ml ++ k ∷ []) own c w
 reads_more ml own k n c w is below own_below sets frees r =
     let not_set : (m : ℕ) → target ml c ≡ Some m → (x : ℕ) → marked k ≡ Some (c, x) → ⊥ = λ m e x f. none_not m (sym (sets c x f).0 ∙ e) in
@@ -108,7 +110,8 @@ pub stands_begins : (ks ls : List KeptEntry) (y : KeptEntry) → IsPrefix ks ls 
 stands_begins ks ls y p s = (s.0, subst (λ l. get_elem? l s.0 ≡ some y) p.1 (at_longer ks p.0 s.0 y s.1))
 
 -- what is loaded by a seat that is inside and owes nothing
-pub loaded_word : (ml own kn : List KeptEntry) (gate c w : ℕ) (owed : Bool) → gate ≡ 0 → CellIs ml gate owed c w → ((m : ℕ) → target ml c ≡ Some m → 0 < m) → IsPrefix kn ml → (owed ≡ true → length kn < length ml)
+pub loaded_word : (ml own kn : List KeptEntry) (gate c w : ℕ) (owed : Bool) → gate ≡ 0 → CellIs ml gate owed c w
+    → ((m : ℕ) → target ml c ≡ Some m → 0 < m) → IsPrefix kn ml → (owed ≡ true → length kn < length ml)
     → ((y : KeptEntry) → Stands own y → SetsCell y c → Stands kn y) → ReadsWord ml own c w
 loaded_word ml own kn gate c w owed is_open cell real begins secret mine = ⊎_elim settled (λ t. ⊎_elim (fresh t.0) stale t.1) cell
   where
@@ -124,7 +127,8 @@ loaded_word ml own kn gate c w owed is_open cell real begins secret mine = ⊎_e
           unknown = λ z a b sa e sb lt. ⊎_elim
               (λ (ta : Stands f.init a). absurd (in_init a ta e))
               (λ (same : f.last ≡ a). ⊎_elim
-              (λ (tb : Stands f.init b). let l = stands_below f.last.entry.number f.init b f.below tb in let m : f.last.entry.number ≡ a.entry.number = ap (λ (y : KeptEntry). y.entry.number) same in absurd (omega arith))
+              (λ (tb : Stands f.init b). let l = stands_below f.last.entry.number f.init b f.below tb in
+              let m : f.last.entry.number ≡ a.entry.number = ap (λ (y : KeptEntry). y.entry.number) same in absurd (omega arith))
               (λ (same' : f.last ≡ b). let m : a.entry.number ≡ b.entry.number = ap (λ (y : KeptEntry). y.entry.number) (sym same ∙ same') in absurd (omega arith))
               (stands_cases f.init f.last b (subst (λ l. Stands l b) f.whole sb)))
               (stands_cases f.init f.last a (subst (λ l. Stands l a) f.whole sa));
@@ -163,7 +167,8 @@ loaded_word ml own kn gate c w owed is_open cell real begins secret mine = ⊎_e
             (cases_Bool (is_freed ml m))
 
 -- loads of another seat stay right
-pub loads_more : (ml : List KeptEntry) (k : KeptEntry) (n : ℕ) (u : View) (ls : List (ℕ × ℕ)) → k.entry.number ≡ n → IsBelow n ml → ((i : ℕ) → IsBelow n (known u i)) → ((d m : ℕ) → marked k ≡ Some (d, m) → (target ml d ≡ None) × (is_freed ml m ≡ false))
+pub loads_more : (ml : List KeptEntry) (k : KeptEntry) (n : ℕ) (u : View) (ls : List (ℕ × ℕ)) → k.entry.number ≡ n → IsBelow n ml
+    → ((i : ℕ) → IsBelow n (known u i)) → ((d m : ℕ) → marked k ≡ Some (d, m) → (target ml d ≡ None) × (is_freed ml m ≡ false))
     → ((x : ℕ) → has k.freed x ≡ false) → EachLoad ml u ls → EachLoad (ml ++ k ∷ []) u ls
 loads_more ml k n u [] is below own sets frees e = tt
 loads_more ml k n u (l ∷ ls) is below own sets frees e = (
@@ -185,7 +190,8 @@ pub settled_cell : (ml : List KeptEntry) (gate : ℕ) (owed : Bool) (c w : ℕ) 
 settled_cell ml gate owed c w no_debt cell = ⊎_elim (λ e. e) (λ t. absurd (both_ways owed no_debt t.0)) cell
 
 -- who owns no managed list, in a longer one
-pub debts_more : (ml : List KeptEntry) (k : KeptEntry) (debt debt' : ℕ → Bool) (u : View) → Debts ml debt u → (Owns u 0 → ⊥) → (at false u.heard_owns 0 ≡ true → ⊥) → IsPrefix (known u 0) ml → IsPrefix (at [] u.heard 0) ml → Debts (ml ++ k ∷ []) debt' u
+pub debts_more : (ml : List KeptEntry) (k : KeptEntry) (debt debt' : ℕ → Bool) (u : View) → Debts ml debt u → (Owns u 0 → ⊥)
+    → (at false u.heard_owns 0 ≡ true → ⊥) → IsPrefix (known u 0) ml → IsPrefix (at [] u.heard 0) ml → Debts (ml ++ k ∷ []) debt' u
 debts_more ml k debt debt' u d stranger heard_stranger begins heard = record {
   owner = λ o. absurd (stranger o);
   heard_owner = λ o. absurd (heard_stranger o);
@@ -244,7 +250,8 @@ debts_learned ml debt v some_there d owned taken knew heard = record {
   heard_owner = λ o. absurd (true≢false (sym o));
   secret = λ c o z. let parts = neither_one (at false v.owns 0) (at false v.heard_owns 0) (sym (at_joined v.owns v.heard_owns 0) ∙ z) in
       subst (λ ks. length ks < length ml) (sym (at_longest v.known v.heard 0))
-      (⊎_elim (λ t. subst (λ ks. length ks < length ml) (sym t.0) (d.heard_secret c o parts.1)) (λ t. subst (λ ks. length ks < length ml) (sym t.0) (d.secret c o parts.0)) (longer_cases (known v 0) (at [] v.heard 0)));
+      (⊎_elim (λ t. subst (λ ks. length ks < length ml) (sym t.0) (d.heard_secret c o parts.1))
+      (λ t. subst (λ ks. length ks < length ml) (sym t.0) (d.secret c o parts.0)) (longer_cases (known v 0) (at [] v.heard 0)));
   heard_secret = λ c o z. some_there c o;
   mine = λ t o y s c e. ⊎_elim
       (λ a. stands_begins (known v 0) (known (learned v) 0) y knew (d.mine t a y (subst (λ ks. Stands ks y) (owned (t + 10) a) s) c e))
@@ -258,7 +265,8 @@ debts_learned ml debt v some_there d owned taken knew heard = record {
     neither_one false c e = (refl, e)
 
 -- only the views change, and the words of the cells are the same
-pub celled_bounded : (ml : List KeptEntry) (gate gate' : ℕ) (words words' : List ℕ) (vs ws : List View) (r : Celled ml gate words vs) → ((c : ℕ) → c < 64 → slice_index words' (2 + c) ≡ slice_index words (2 + c))
+pub celled_bounded : (ml : List KeptEntry) (gate gate' : ℕ) (words words' : List ℕ) (vs ws : List View) (r : Celled ml gate words vs)
+    → ((c : ℕ) → c < 64 → slice_index words' (2 + c) ≡ slice_index words (2 + c))
     → ((c : ℕ) → r.debt c ≡ true → 0 < gate → 0 < gate')
     → ((j : ℕ) (v : View) → get_elem? ws j ≡ some v → Debts ml r.debt v) → ((j : ℕ) (v : View) → get_elem? ws j ≡ some v → 0 < v.inside → EachLoad ml v v.loads) → Celled ml gate' words' ws
 celled_bounded ml gate gate' words words' vs ws r same held debts loads = record {
@@ -286,7 +294,8 @@ no_debt_in (d ∷ ds) e zero = not-true d (and_parts (not d) (none_owed_in ds) e
 no_debt_in (d ∷ ds) e (suc c) = no_debt_in ds (and_parts (not d) (none_owed_in ds) e).1 c
 
 -- a word 0 isn't found by who knows the cell as set, and owes nothing
-pub known_unset : (ml kn : List KeptEntry) (gate c w : ℕ) (owed : Bool) → CellIs ml gate owed c w → ((m : ℕ) → target ml c ≡ Some m → 0 < m) → IsPrefix kn ml → (owed ≡ true → length kn < length ml) → w ≡ 0 → (y : KeptEntry) → Stands kn y → SetsCell y c → ⊥
+pub known_unset : (ml kn : List KeptEntry) (gate c w : ℕ) (owed : Bool) → CellIs ml gate owed c w → ((m : ℕ) → target ml c ≡ Some m → 0 < m)
+    → IsPrefix kn ml → (owed ≡ true → length kn < length ml) → w ≡ 0 → (y : KeptEntry) → Stands kn y → SetsCell y c → ⊥
 known_unset ml kn gate c w owed cell real begins secret z y s e = ⊎_elim
     (λ is. let t = target_set c ml y (stands_begins kn ml y begins s) e in ⊎_elim
     (λ f. let one = says_gone c t.0 ml t.1 f in omega arith)
@@ -301,7 +310,8 @@ known_unset ml kn gate c w owed cell real begins secret z y s e = ⊎_elim
 pub paid_more : (v : View) (r : ℕ) (k : KeptEntry) → marked k ≡ None → k.freed ≡ [] → NoDebt v → NoDebt (appended v r k)
 paid_more v r k unmarked frees paid c = ⊎_elim
     (λ (e : (r == 0) ≡ true). ap (λ d. at false d c) (if_true (r == 0) (by_place 64 (owes_after (known v 0) k)) v.debts e) ∙ ⊎_elim
-    (λ (l : c < 64). at_by_place 64 (owes_after (known v 0) k) c l ∙ (ap (λ o. sets_cell o c || frees_target (target (known v 0) c) k.freed) unmarked ∙ (ap (frees_target (target (known v 0) c)) frees ∙ no_target (target (known v 0) c))))
+    (λ (l : c < 64). at_by_place 64 (owes_after (known v 0) k) c l
+    ∙ (ap (λ o. sets_cell o c || frees_target (target (known v 0) c) k.freed) unmarked ∙ (ap (frees_target (target (known v 0) c)) frees ∙ no_target (target (known v 0) c))))
     (λ (l : 64 ≤ c). at_row_past 64 (owes_after (known v 0) k) c l) (cases_lt c 64))
     (λ (e : (r == 0) ≡ false). ap (λ d. at false d c) (if_false (r == 0) (by_place 64 (owes_after (known v 0) k)) v.debts e) ∙ paid c)
     (cases_Bool (r == 0))
@@ -323,11 +333,13 @@ owes_one v r k c m first marks frees i other = ap (λ d. at false d i) (if_true 
     none_freed (Some x) = refl
 
 pub pays_last : (v : View) (c : ℕ) → OwesOnly v c → NoDebt (storing c v)
-pays_last v c only i = ⊎_elim (λ (e : i ≡ c). subst (λ k. at false (put false v.debts c false) k ≡ false) (sym e) (at_put_here false v.debts c false)) (λ other. at_put_else false v.debts c i false other ∙ only i other) (cases_eq i c)
+pays_last v c only i = ⊎_elim (λ (e : i ≡ c). subst (λ k. at false (put false v.debts c false) k ≡ false) (sym e) (at_put_here false v.debts c false))
+    (λ other. at_put_else false v.debts c i false other ∙ only i other) (cases_eq i c)
 
 -- the cells whose words are owed after a managed entry
 pub owes_more : (v : View) (r : ℕ) (k : KeptEntry) (c : ℕ) → r ≡ 0 → at false (appended v r k).debts c ≡ true → (c < 64) × (owes_after (known v 0) k c ≡ true)
-owes_more v r k c first o = let row : at false (by_place 64 (owes_after (known v 0) k)) c ≡ true = ap (λ d. at false d c) (sym (if_true (r == 0) (by_place 64 (owes_after (known v 0) k)) v.debts (eq-eqb r 0 first))) ∙ o in ⊎_elim
+owes_more v r k c first o = let row : at false (by_place 64 (owes_after (known v 0) k)) c ≡ true = ap (λ d. at false d c)
+    (sym (if_true (r == 0) (by_place 64 (owes_after (known v 0) k)) v.debts (eq-eqb r 0 first))) ∙ o in ⊎_elim
     (λ (l : c < 64). (l, sym (at_by_place 64 (owes_after (known v 0) k) c l) ∙ row))
     (λ (l : 64 ≤ c). absurd (both_ways (at false (by_place 64 (owes_after (known v 0) k)) c) (at_row_past 64 (owes_after (known v 0) k) c l) row)) (cases_lt c 64)
 

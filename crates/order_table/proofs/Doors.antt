@@ -1,5 +1,6 @@
 -- The steps on the gate word keep the rule.
-use Rattle.std.proofs.Common.{◌≡◌, ◌≢◌, ⊎_elim, ℕ, ◌+◌, ◌-◌, ◌*◌, ◌/◌, ◌^◌, ◌<◌, Bool, true, false, List, [], get_or, set, refl, sym, ap, ◌∙◌, subst, arith, length-set, get_or-set_same, get_or-set_other, eq-eqb, ne_eqb}
+use Rattle.std.proofs.Common.{◌≡◌, ◌≢◌, ⊎_elim, ℕ, ◌+◌, ◌-◌, ◌*◌, ◌/◌, ◌^◌, ◌<◌, Bool, true, false, List, [], get_or, set, refl, sym, ap, ◌∙◌, subst, arith, length-set, get_or-set_same}
+use Rattle.std.proofs.Common.{get_or-set_other, eq-eqb, ne_eqb}
 use Rattle.std.specs.Prelude.{◌==◌, bit_or, bit_and}
 use Rattle.std.specs.Int.{bit_at}
 use Rattle.std.proofs.lemmas.Bool.{cases_Bool, both_ways, eqb-true, eqb-false}
@@ -29,8 +30,10 @@ abbrev M : Type 0
 M = Me (Unit {0}) View
 
 -- a step on the gate word by a seat whose lists stay
-gate_step : (s : St) (r : Ordered s) (id : ℕ) (v : View) → get_elem? s.views id ≡ some v → (gate word : ℕ) (w : View) → ((i : ℕ) → Holds v i → Holds w i) → gate < 4294967296 → word / 512 ≡ gate → IsHeldFor gate (stage (of_line 0 r.whole)) → Knows r.whole r.owner id w → Gates gate word w
-    → ((j : ℕ) (u : View) → j ≢ id → get_elem? s.views j ≡ some u → Gates gate word u) → Waiting r.whole gate (set s.views id w) → Celled (of_line 0 r.whole) gate (set s.words 1 word) (set s.views id w) → Pinned r.whole r.owner gate word (set s.words 1 word) (set s.views id w) → Scans r.whole w
+gate_step : (s : St) (r : Ordered s) (id : ℕ) (v : View) → get_elem? s.views id ≡ some v → (gate word : ℕ) (w : View) → ((i : ℕ) → Holds v i → Holds w i)
+    → gate < 4294967296 → word / 512 ≡ gate → IsHeldFor gate (stage (of_line 0 r.whole)) → Knows r.whole r.owner id w → Gates gate word w
+    → ((j : ℕ) (u : View) → j ≢ id → get_elem? s.views j ≡ some u → Gates gate word u) → Waiting r.whole gate (set s.views id w)
+    → Celled (of_line 0 r.whole) gate (set s.words 1 word) (set s.views id w) → Pinned r.whole r.owner gate word (set s.words 1 word) (set s.views id w) → Scans r.whole w
     → Ordered record { words = set s.words 1 word; homes = s.homes; views = set s.views id w }
 gate_step s r id v here gate word w still small is held knows mine others waiting celled pinned scans = record {
   each_line = λ i l. owner_set s.views i (r.owner i) id v w here (still i) (r.each_line i l);
@@ -55,16 +58,20 @@ gate_step s r id v here gate word w still small is held knows mine others waitin
 
 -- the same where the gate stays, and the seat waits as before
 -- the cells where the gate stays, or no word is owed; the seat goes on with its debts
-cells_stay : (s : St) (r : Ordered s) (id gate word : ℕ) (w : View) → ((c : ℕ) → r.celled.debt c ≡ true → 0 < r.gate → 0 < gate) → Debts (of_line 0 r.whole) r.celled.debt w → (0 < w.inside → EachLoad (of_line 0 r.whole) w w.loads)
+cells_stay : (s : St) (r : Ordered s) (id gate word : ℕ) (w : View) → ((c : ℕ) → r.celled.debt c ≡ true → 0 < r.gate → 0 < gate)
+    → Debts (of_line 0 r.whole) r.celled.debt w → (0 < w.inside → EachLoad (of_line 0 r.whole) w w.loads)
     → Celled (of_line 0 r.whole) gate (set s.words 1 word) (set s.views id w)
-cells_stay s r id gate word w held debts loads = celled_same (of_line 0 r.whole) r.gate gate s.words (set s.words 1 word) s.views (set s.views id w) r.celled (λ c. get_or-set_other s.words 1 (2 + c) word 0 (λ e. omega arith)) held
+cells_stay s r id gate word w held debts loads = celled_same (of_line 0 r.whole) r.gate gate s.words (set s.words 1 word) s.views
+    (set s.views id w) r.celled (λ c. get_or-set_other s.words 1 (2 + c) word 0 (λ e. omega arith)) held
     (seats (λ j. Debts (of_line 0 r.whole) r.celled.debt) s.views id w debts (λ j u other at_j. r.celled.each_debt j u at_j))
     (seats (λ j x. 0 < x.inside → EachLoad (of_line 0 r.whole) x x.loads) s.views id w loads (λ j u other at_j. r.celled.each_load j u at_j))
 
 -- the pins where the bits of those who owe stay, and they owe only while the gate is open
-pins_stay : (s : St) (r : Ordered s) (id gate word : ℕ) (v w : View) → get_elem? s.views id ≡ some v → w.fill ≡ v.fill → w.empty ≡ v.empty → ((k : ℕ) → r.pinned.stores k ≡ true → (bit_at word k ≡ 1) × (gate ≡ 0))
+pins_stay : (s : St) (r : Ordered s) (id gate word : ℕ) (v w : View) → get_elem? s.views id ≡ some v
+    → w.fill ≡ v.fill → w.empty ≡ v.empty → ((k : ℕ) → r.pinned.stores k ≡ true → (bit_at word k ≡ 1) × (gate ≡ 0))
     → Pinned r.whole r.owner gate word (set s.words 1 word) (set s.views id w)
-pins_stay s r id gate word v w here fill empty bits = pinned_keep r.whole r.whole r.owner r.owner r.gate gate (get_or s.words 1 0) word s.words (set s.words 1 word) s.views (set s.views id w) r.pinned (λ k. refl)
+pins_stay s r id gate word v w here fill empty bits = pinned_keep r.whole r.whole r.owner r.owner r.gate gate
+    (get_or s.words 1 0) word s.words (set s.words 1 word) s.views (set s.views id w) r.pinned (λ k. refl)
     (λ k l. get_or-set_other s.words 1 (65 + k) word 0 (λ e. omega arith)) (λ k o. let t = bits k o in (t.0, t.1, refl, refl)) (λ k o. (refl, refl)) (let l = length-set s.views id w in omega arith)
     (seats (λ i x. (k : ℕ) → r.pinned.stores k ≡ true → r.owner (k + 10) ≡ i → x.fill ≡ k) s.views id w (λ k o e. fill ∙ r.pinned.filler id v here k o e) (λ i x _ at_i. r.pinned.filler i x at_i))
     (seats (λ i x. (k : ℕ) → r.pinned.clears k ≡ true → r.owner (k + 10) ≡ i → x.empty ≡ k) s.views id w (λ k o e. empty ∙ r.pinned.clearer id v here k o e) (λ i x _ at_i. r.pinned.clearer i x at_i))
@@ -101,9 +108,18 @@ enters slots id me reader pos small settled owns s r _ here _ =
       keeps,
       tt,
       gate_step s r id v here r.gate (bit_or n bit) w (λ i o. o) r.small word_is r.held record { begins = knows.begins; heard = knows.heard; owned = knows.owned; heard_owned = knows.heard_owned }
-          record { owner = g.owner; other = g.other; heard_owner = g.heard_owner; heard_other = g.heard_other; inside = λ _. (has, is_open); owes = no_bit v.owes settled.clear; one = λ _. settled.clear } others
+          record {
+            owner = g.owner;
+            other = g.other;
+            heard_owner = g.heard_owner;
+            heard_other = g.heard_other;
+            inside = λ _. (has, is_open);
+            owes = no_bit v.owes settled.clear;
+            one = λ _. settled.clear;
+          } others
           (still_waits s r id w (let t = r.waiting.each_wait id v here in record { snap = t.snap; unknown = t.unknown }))
-          (cells_stay s r id r.gate (bit_or n bit) w (λ c o h. h) (let d = r.celled.each_debt id v here in record { owner = d.owner; heard_owner = d.heard_owner; secret = d.secret; heard_secret = d.heard_secret; mine = d.mine; heard_mine = d.heard_mine }) (λ l. tt))
+          (cells_stay s r id r.gate (bit_or n bit) w (λ c o h. h) (let d = r.celled.each_debt id v here in
+          record { owner = d.owner; heard_owner = d.heard_owner; secret = d.secret; heard_secret = d.heard_secret; mine = d.mine; heard_mine = d.heard_mine }) (λ l. tt))
           (pins_stay s r id r.gate (bit_or n bit) v w here refl refl (λ k o. let t = r.pinned.storing k o in (or_keeps n bit k t.2, t.3))) (r.scanned id v here),
       (refl, sym (if_true (n / 512 == 0) w (record v { owes = bit; found = n / 512 }) e), told.0, told.1, told.2),
     ))
@@ -112,15 +128,26 @@ enters slots id me reader pos small settled owns s r _ here _ =
       keeps,
       tt,
       gate_step s r id v here r.gate (bit_or n bit) w (λ i o. o) r.small word_is r.held record { begins = knows.begins; heard = knows.heard; owned = knows.owned; heard_owned = knows.heard_owned }
-          record { owner = g.owner; other = g.other; heard_owner = g.heard_owner; heard_other = g.heard_other; inside = no_bit v.inside settled.outside; owes = λ _. has; one = no_bit v.inside settled.outside } others
-          (still_waits s r id w (waits_found r.whole r.gate s.views w r.waiting r.held (let not_open : n / 512 ≡ 0 → ⊥ = eqb-false (n / 512) 0 e in let g_is = r.words.2 in omega (arith, not_open)) r.words.2))
-          (cells_stay s r id r.gate (bit_or n bit) w (λ c o h. h) (let d = r.celled.each_debt id v here in record { owner = d.owner; heard_owner = d.heard_owner; secret = d.secret; heard_secret = d.heard_secret; mine = d.mine; heard_mine = d.heard_mine }) (no_bit v.inside settled.outside))
+          record {
+            owner = g.owner;
+            other = g.other;
+            heard_owner = g.heard_owner;
+            heard_other = g.heard_other;
+            inside = no_bit v.inside settled.outside;
+            owes = λ _. has;
+            one = no_bit v.inside settled.outside;
+          } others
+          (still_waits s r id w (waits_found r.whole r.gate s.views w r.waiting r.held
+          (let not_open : n / 512 ≡ 0 → ⊥ = eqb-false (n / 512) 0 e in let g_is = r.words.2 in omega (arith, not_open)) r.words.2))
+          (cells_stay s r id r.gate (bit_or n bit) w (λ c o h. h) (let d = r.celled.each_debt id v here in
+          record { owner = d.owner; heard_owner = d.heard_owner; secret = d.secret; heard_secret = d.heard_secret; mine = d.mine; heard_mine = d.heard_mine }) (no_bit v.inside settled.outside))
           (pins_stay s r id r.gate (bit_or n bit) v w here refl refl (λ k o. let t = r.pinned.storing k o in (or_keeps n bit k t.2, t.3))) (r.scanned id v here),
       (refl, sym (if_false (n / 512 == 0) (record v { inside = bit; loads = [] }) w e), told.0, told.1, told.2),
     ))
     (cases_Bool (n / 512 == 0))
 
-pub gives_back : (slots id : ℕ) (me : M) → 0 < me.0.owes → me.0.inside ≡ 0 → me.0.fill ≡ 0 → Allows Ordered slots id me 1 (λ n. bit_and n (2 ^ 64 - 1 - me.0.owes)) (GaveBack (step slots 1 (2 ^ 64 - 1 - me.0.owes) 0 none) me)
+pub gives_back : (slots id : ℕ) (me : M) → 0 < me.0.owes → me.0.inside ≡ 0 → me.0.fill ≡ 0
+    → Allows Ordered slots id me 1 (λ n. bit_and n (2 ^ 64 - 1 - me.0.owes)) (GaveBack (step slots 1 (2 ^ 64 - 1 - me.0.owes) 0 none) me)
 gives_back slots id me owing out nothing s r _ here fits =
     let n : ℕ = get_or s.words 1 0 in
     let v : View = me.0 in
@@ -135,16 +162,32 @@ gives_back slots id me owing out nothing s r _ here fits =
       keeps,
       tt,
       subst (λ b. Ordered record { words = set s.words 1 (bit_and n (2 ^ 64 - 1 - b)); homes = s.homes; views = set s.views id w }) (sym has.is)
-          (gate_step s r id v here r.gate (bit_and n (2 ^ 64 - 1 - 2 ^ k)) w (λ i o. o) r.small word_is r.held record { begins = knows.begins; heard = knows.heard; owned = knows.owned; heard_owned = knows.heard_owned }
+          (gate_step s r id v here r.gate (bit_and n (2 ^ 64 - 1 - 2 ^ k)) w (λ i o. o) r.small word_is r.held
+          record { begins = knows.begins; heard = knows.heard; owned = knows.owned; heard_owned = knows.heard_owned }
           record { owner = g.owner; other = g.other; heard_owner = g.heard_owner; heard_other = g.heard_other; inside = no_bit v.inside out; owes = λ l. absurd (omega arith); one = λ l. refl }
           (λ j u other at_j. gates_cleared r.gate n k u small (λ o. stranger s r id j (1 + k) v u here at_j other has.role o) (r.each_gate j u at_j))
           (still_waits s r id w (let t = r.waiting.each_wait id v here in record { snap = t.snap; unknown = t.unknown }))
-          (cells_stay s r id r.gate (bit_and n (2 ^ 64 - 1 - 2 ^ k)) w (λ c o h. h) (let d = r.celled.each_debt id v here in record { owner = d.owner; heard_owner = d.heard_owner; secret = d.secret; heard_secret = d.heard_secret; mine = d.mine; heard_mine = d.heard_mine }) (no_bit v.inside out))
-          (pins_stay s r id r.gate (bit_and n (2 ^ 64 - 1 - 2 ^ k)) v w here refl refl (λ j o. let t = r.pinned.storing j o in (clear_keeps n k j small t.1 (λ e. not_storing r.whole r.owner r.gate n s.words s.views r.pinned id v here nothing j o (sym t.4 ∙ (ap (λ z. r.owner (1 + z)) e ∙ (knows.owned (1 + k) has.role).0))) ∙ t.2, t.3))) (r.scanned id v here)),
+          (cells_stay s r id r.gate (bit_and n (2 ^ 64 - 1 - 2 ^ k)) w (λ c o h. h)
+          (let d = r.celled.each_debt id v here in record {
+            owner = d.owner;
+            heard_owner = d.heard_owner;
+            secret = d.secret;
+            heard_secret = d.heard_secret;
+            mine = d.mine;
+            heard_mine = d.heard_mine;
+          }) (no_bit v.inside out))
+          (pins_stay s r id r.gate (bit_and n (2 ^ 64 - 1 - 2 ^ k)) v w here refl refl
+          (λ j o. let t = r.pinned.storing j o in (
+            clear_keeps n k j small t.1
+                (λ e. not_storing r.whole r.owner r.gate n s.words s.views r.pinned id v here nothing j o (sym t.4 ∙ (ap (λ z. r.owner (1 + z)) e ∙ (knows.owned (1 + k) has.role).0))) ∙ t.2,
+            t.3,
+          )))
+          (r.scanned id v here)),
       (refl, refl),
     )
 
-pub leaves : (slots id : ℕ) (me : M) → 0 < me.0.inside → me.0.fill ≡ 0 → Allows Ordered slots id me 1 (λ n. bit_and n (2 ^ 64 - 1 - me.0.inside)) (Left (step slots 1 (2 ^ 64 - 1 - me.0.inside) 0 none) me)
+pub leaves : (slots id : ℕ) (me : M) → 0 < me.0.inside → me.0.fill ≡ 0
+    → Allows Ordered slots id me 1 (λ n. bit_and n (2 ^ 64 - 1 - me.0.inside)) (Left (step slots 1 (2 ^ 64 - 1 - me.0.inside) 0 none) me)
 leaves slots id me within nothing s r _ here fits =
     let n : ℕ = get_or s.words 1 0 in
     let v : View = me.0 in
@@ -159,12 +202,35 @@ leaves slots id me within nothing s r _ here fits =
       keeps,
       tt,
       subst (λ b. Ordered record { words = set s.words 1 (bit_and n (2 ^ 64 - 1 - b)); homes = s.homes; views = set s.views id w }) (sym has.is)
-          (gate_step s r id v here r.gate (bit_and n (2 ^ 64 - 1 - 2 ^ k)) w (λ i o. o) r.small word_is r.held record { begins = knows.begins; heard = knows.heard; owned = knows.owned; heard_owned = knows.heard_owned }
-          record { owner = g.owner; other = g.other; heard_owner = g.heard_owner; heard_other = g.heard_other; inside = λ l. absurd (omega arith); owes = no_bit v.owes (g.one within); one = λ l. g.one within }
+          (gate_step s r id v here r.gate (bit_and n (2 ^ 64 - 1 - 2 ^ k)) w (λ i o. o) r.small word_is r.held
+          record { begins = knows.begins; heard = knows.heard; owned = knows.owned; heard_owned = knows.heard_owned }
+          record {
+            owner = g.owner;
+            other = g.other;
+            heard_owner = g.heard_owner;
+            heard_other = g.heard_other;
+            inside = λ l. absurd (omega arith);
+            owes = no_bit v.owes (g.one within);
+            one = λ l. g.one within;
+          }
           (λ j u other at_j. gates_cleared r.gate n k u small (λ o. stranger s r id j (1 + k) v u here at_j other has.role o) (r.each_gate j u at_j))
           (still_waits s r id w (let t = r.waiting.each_wait id v here in record { snap = t.snap; unknown = t.unknown }))
-          (cells_stay s r id r.gate (bit_and n (2 ^ 64 - 1 - 2 ^ k)) w (λ c o h. h) (let d = r.celled.each_debt id v here in record { owner = d.owner; heard_owner = d.heard_owner; secret = d.secret; heard_secret = d.heard_secret; mine = d.mine; heard_mine = d.heard_mine }) (λ l. absurd (omega arith)))
-          (pins_stay s r id r.gate (bit_and n (2 ^ 64 - 1 - 2 ^ k)) v w here refl refl (λ j o. let t = r.pinned.storing j o in (clear_keeps n k j small t.1 (λ e. not_storing r.whole r.owner r.gate n s.words s.views r.pinned id v here nothing j o (sym t.4 ∙ (ap (λ z. r.owner (1 + z)) e ∙ (knows.owned (1 + k) has.role).0))) ∙ t.2, t.3))) (r.scanned id v here)),
+          (cells_stay s r id r.gate (bit_and n (2 ^ 64 - 1 - 2 ^ k)) w (λ c o h. h)
+          (let d = r.celled.each_debt id v here in record {
+            owner = d.owner;
+            heard_owner = d.heard_owner;
+            secret = d.secret;
+            heard_secret = d.heard_secret;
+            mine = d.mine;
+            heard_mine = d.heard_mine;
+          }) (λ l. absurd (omega arith)))
+          (pins_stay s r id r.gate (bit_and n (2 ^ 64 - 1 - 2 ^ k)) v w here refl refl
+          (λ j o. let t = r.pinned.storing j o in (
+            clear_keeps n k j small t.1
+                (λ e. not_storing r.whole r.owner r.gate n s.words s.views r.pinned id v here nothing j o (sym t.4 ∙ (ap (λ z. r.owner (1 + z)) e ∙ (knows.owned (1 + k) has.role).0))) ∙ t.2,
+            t.3,
+          )))
+          (r.scanned id v here)),
       (refl, refl),
     )
 
@@ -188,7 +254,8 @@ closes slots id me cycle bare bare' owns idle low next s r _ here fits =
       keeps,
       tt,
       subst (λ b. Ordered record { words = set s.words 1 (either b (512 * cycle) n); homes = s.homes; views = set s.views id w }) (sym e)
-          (gate_step s r id v here cycle (512 * cycle) w (λ i o. o) low (omega arith) ((λ z. absurd (omega arith)), λ z. (omega arith, omega arith)) record { begins = knows.begins; heard = knows.heard; owned = knows.owned; heard_owned = knows.heard_owned }
+          (gate_step s r id v here cycle (512 * cycle) w (λ i o. o) low (omega arith) ((λ z. absurd (omega arith)), λ z. (omega arith, omega arith))
+          record { begins = knows.begins; heard = knows.heard; owned = knows.owned; heard_owned = knows.heard_owned }
           record {
             owner = λ o. refl;
             other = λ o. absurd (both_ways (at false v.owns 0) o owns);
@@ -217,8 +284,17 @@ closes slots id me cycle bare bare' owns idle low next s r _ here fits =
           waiting_closed r.whole cycle s.views (set s.views id w) next' (subst (λ z. Waiting r.whole z s.views) was_open r.waiting)
           (seats (λ j. Waits r.whole cycle) s.views id w (let t = waits_gate r.whole r.gate cycle v (none_due v) (r.waiting.each_wait id v here) in record { snap = t.snap; unknown = t.unknown })
           (λ j u other at_j. waits_gate r.whole r.gate cycle u (none_due u) (r.waiting.each_wait j u at_j))))
-          (cells_stay s r id cycle (512 * cycle) w (λ c o h. omega arith) (let d = r.celled.each_debt id v here in record { owner = d.owner; heard_owner = d.heard_owner; secret = d.secret; heard_secret = d.heard_secret; mine = d.mine; heard_mine = d.heard_mine }) (λ l. no_reader v.owns v.inside (subst (λ b. HasBit b v.owns v.inside) empty (g.inside l).0)))
-          (pins_stay s r id cycle (512 * cycle) v w here refl refl (λ k o. absurd (let t = (r.pinned.storing k o).2 in let z = bit_at-zero k in let e : bit_at n k ≡ bit_at 0 k = ap (λ b. bit_at b k) empty in omega arith))) (no_scans r.whole w refl)),
+          (cells_stay s r id cycle (512 * cycle) w (λ c o h. omega arith)
+          (let d = r.celled.each_debt id v here in record {
+            owner = d.owner;
+            heard_owner = d.heard_owner;
+            secret = d.secret;
+            heard_secret = d.heard_secret;
+            mine = d.mine;
+            heard_mine = d.heard_mine;
+          }) (λ l. no_reader v.owns v.inside (subst (λ b. HasBit b v.owns v.inside) empty (g.inside l).0)))
+          (pins_stay s r id cycle (512 * cycle) v w here refl refl (λ k o. absurd
+          (let t = (r.pinned.storing k o).2 in let z = bit_at-zero k in let e : bit_at n k ≡ bit_at 0 k = ap (λ b. bit_at b k) empty in omega arith))) (no_scans r.whole w refl)),
       (refl, sym (if_true (n == 0) w v e), omega arith),
     ))
     (λ (e : (n == 0) ≡ false). (
@@ -254,7 +330,8 @@ opens_gate slots id me bare bare' owns holding ended paid s r _ here _ =
       w,
       keeps,
       tt,
-      gate_step s r id v here 0 (bit_and n 511) w (λ i o. o) (omega arith) (open_gate n) ((λ _. (v.holds, omega arith)), λ z. absurd (omega arith)) record { begins = knows.begins; heard = knows.heard; owned = knows.owned; heard_owned = knows.heard_owned }
+      gate_step s r id v here 0 (bit_and n 511) w (λ i o. o) (omega arith) (open_gate n) ((λ _. (v.holds, omega arith)), λ z. absurd (omega arith))
+          record { begins = knows.begins; heard = knows.heard; owned = knows.owned; heard_owned = knows.heard_owned }
           record {
             owner = λ o. refl;
             other = λ o. absurd (both_ways (at false v.owns 0) o owns);
@@ -277,8 +354,17 @@ opens_gate slots id me bare bare' owns holding ended paid s r _ here _ =
           waiting_opened r.whole r.gate s.views (set s.views id w) (omega arith) r.waiting
           (seats (λ j. Waits r.whole 0) s.views id w (let t = waits_gate r.whole r.gate 0 v (none_due v) (r.waiting.each_wait id v here) in record { snap = t.snap; unknown = t.unknown })
           (λ j u other at_j. waits_gate r.whole r.gate 0 u (none_due u) (r.waiting.each_wait j u at_j))))
-          (cells_stay s r id 0 (bit_and n 511) w (λ c o h. absurd (both_ways (r.celled.debt c) (none_owed (of_line 0 r.whole) r.celled.debt v (r.celled.each_debt id v here) owns paid c) o)) (let d = r.celled.each_debt id v here in record { owner = d.owner; heard_owner = d.heard_owner; secret = d.secret; heard_secret = d.heard_secret; mine = d.mine; heard_mine = d.heard_mine }) (λ l. absurd (let z = (g.inside l).1 in omega arith)))
-          (pins_stay s r id 0 (bit_and n 511) v w here refl refl (λ k o. let t = r.pinned.storing k o in (open_keeps n k t.1 ∙ t.2, refl))) (λ _ z. absurd (let z' : stage (known v 0) + 1 ≡ 2 * 0 = z in omega arith)),
+          (cells_stay s r id 0 (bit_and n 511) w (λ c o h. absurd (both_ways (r.celled.debt c) (none_owed (of_line 0 r.whole) r.celled.debt v (r.celled.each_debt id v here) owns paid c) o))
+          (let d = r.celled.each_debt id v here in record {
+            owner = d.owner;
+            heard_owner = d.heard_owner;
+            secret = d.secret;
+            heard_secret = d.heard_secret;
+            mine = d.mine;
+            heard_mine = d.heard_mine;
+          }) (λ l. absurd (let z = (g.inside l).1 in omega arith)))
+          (pins_stay s r id 0 (bit_and n 511) v w here refl refl (λ k o. let t = r.pinned.storing k o in (open_keeps n k t.1 ∙ t.2, refl)))
+          (λ _ z. absurd (let z' : stage (known v 0) + 1 ≡ 2 * 0 = z in omega arith)),
       (refl, refl),
     )
 

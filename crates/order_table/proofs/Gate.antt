@@ -64,7 +64,8 @@ pub stage_more : (ks : List KeptEntry) (k : KeptEntry) → stage (ks ++ k ∷ []
 stage_more ks k = stage_append 1 ks (k ∷ [])
 
 pub stage_begins : (ks ls : List KeptEntry) → IsPrefix ks ls → stage ks ≤ stage ls
-stage_begins ks ls p = let a = stage_grows (stage ks) p.0 in let e : stage (ks ++ p.0) ≡ stage_from (stage ks) p.0 = stage_append 1 ks p.0 in let f : stage (ks ++ p.0) ≡ stage ls = ap stage p.1 in omega arith
+stage_begins ks ls p = let a = stage_grows (stage ks) p.0 in let e : stage (ks ++ p.0) ≡ stage_from (stage ks) p.0 = stage_append 1 ks p.0 in
+    let f : stage (ks ++ p.0) ≡ stage ls = ap stage p.1 in omega arith
 
 -- an entry of the owner leaves the gate held as it must be
 pub held_more : (v : View) (gate : ℕ) (d : Deed) → IsHeldFor gate (stage (known v 0)) → v.holds ≡ gate → MayDo v d → IsHeldFor gate (stage_after (stage (known v 0)) d)
@@ -92,7 +93,8 @@ pub others_stage : (gate word : ℕ) (v : View) → Gates gate word v → Free v
 others_stage gate word v g s pos = ⊎_elim (λ o. settled_stage gate word v g s o pos) (λ o. (g.other o).1 pos) (cases_Bool (at false v.owns 0))
 
 -- a settled seat heard nothing
-pub nothing_heard : (gate : ℕ) (v : View) → Free v → (at false v.heard_owns 0 ≡ true → v.heard_holds ≡ gate) × (at false v.heard_owns 0 ≡ false → (v.heard_holds ≡ 0) × (0 < gate → stage (at [] v.heard 0) ≤ 2 * gate))
+pub nothing_heard : (gate : ℕ) (v : View) → Free v → (at false v.heard_owns 0 ≡ true → v.heard_holds ≡ gate)
+    × (at false v.heard_owns 0 ≡ false → (v.heard_holds ≡ 0) × (0 < gate → stage (at [] v.heard 0) ≤ 2 * gate))
 nothing_heard gate v s = (
   (λ o. absurd (both_ways (at false v.heard_owns 0) (ap (λ l. at false l 0) s.compared.1) o)),
   λ o. (s.compared.2, λ pos. let e : stage (at [] v.heard 0) ≡ 1 = ap (λ h. stage (at [] h 0)) s.compared.0 in omega arith),
@@ -168,7 +170,8 @@ gates_learned gate word v g = record {
   other = λ o. let parts = neither_one (at false v.owns 0) (at false v.heard_owns 0) (sym (at_joined v.owns v.heard_owns 0) ∙ o) in (
     if_false (at false v.owns 0) v.holds v.heard_holds parts.0 ∙ (g.heard_other parts.1).0,
     λ pos. subst (λ ks. stage ks ≤ 2 * gate) (sym (at_longest v.known v.heard 0))
-        (⊎_elim (λ t. subst (λ ks. stage ks ≤ 2 * gate) (sym t.0) ((g.heard_other parts.1).1 pos)) (λ t. subst (λ ks. stage ks ≤ 2 * gate) (sym t.0) ((g.other parts.0).1 pos)) (longer_cases (known v 0) (at [] v.heard 0))),
+        (⊎_elim (λ t. subst (λ ks. stage ks ≤ 2 * gate) (sym t.0) ((g.heard_other parts.1).1 pos))
+        (λ t. subst (λ ks. stage ks ≤ 2 * gate) (sym t.0) ((g.other parts.0).1 pos)) (longer_cases (known v 0) (at [] v.heard 0))),
   );
   heard_owner = λ o. absurd (true≢false (sym o));
   heard_other = λ o. (refl, λ pos. omega arith);
@@ -185,7 +188,14 @@ gates_learned gate word v g = record {
     left_in b c e = ap (λ a. a || c) e
 
     more : (bit : ℕ) → HasBit word v.owns bit → HasBit word (joined v.owns v.heard_owns) bit
-    more bit h = record { reader = h.reader; is = h.is; range = h.range; role = at_joined v.owns v.heard_owns (1 + h.reader) ∙ left_in (at false v.owns (1 + h.reader)) (at false v.heard_owns (1 + h.reader)) h.role; set = h.set }
+    more bit h = record {
+      reader = h.reader;
+      is = h.is;
+      range = h.range;
+      role = at_joined v.owns v.heard_owns (1 + h.reader)
+          ∙ left_in (at false v.owns (1 + h.reader)) (at false v.heard_owns (1 + h.reader)) h.role;
+      set = h.set;
+    }
 
 -- bits that stay set
 pub gates_word : (gate n m : ℕ) (v : View) → ((j : ℕ) → j < 9 → bit_at n j ≡ 1 → bit_at m j ≡ 1) → Gates gate n v → Gates gate m v
@@ -223,7 +233,8 @@ gates_cleared gate n r v small stranger g = record {
       set = clear_keeps n r h.reader small h.range.1 (λ e. stranger (subst (λ j. at false v.owns (1 + j) ≡ true) e h.role)) ∙ h.set;
     }
 
-pub gates_appended : (gate word : ℕ) (v : View) (ks : List (List KeptEntry)) (ds : List Bool) (f e : ℕ) → Gates gate word v → (at false v.owns 0 ≡ false → at [] ks 0 ≡ known v 0) → Gates gate word (record v { known = ks; found = 0; loads = []; scanned = []; debts = ds; fill = f; empty = e })
+pub gates_appended : (gate word : ℕ) (v : View) (ks : List (List KeptEntry)) (ds : List Bool) (f e : ℕ) → Gates gate word v
+    → (at false v.owns 0 ≡ false → at [] ks 0 ≡ known v 0) → Gates gate word (record v { known = ks; found = 0; loads = []; scanned = []; debts = ds; fill = f; empty = e })
 gates_appended gate word v ks ds f e g same = record {
   owner = g.owner;
   other = λ o. ((g.other o).0, λ pos. subst (λ ls. stage ls ≤ 2 * gate) (sym (same o)) ((g.other o).1 pos));

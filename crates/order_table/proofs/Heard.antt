@@ -41,10 +41,12 @@ stays_if true v w e = e
 stays_if false v w e = record { owns = refl; known = refl; inside = refl; owes = refl; found = refl; holds = refl; debts = refl; fill = refl; empty = refl }
 
 pub stays_loading : (c n : ℕ) (v : View) → StaysAs v (loading c n v)
-stays_loading c n v = stays_if (nat_lt 0 v.inside && owes_none v) v (record v { loads = (c, n) ∷ v.loads }) record { owns = refl; known = refl; inside = refl; owes = refl; found = refl; holds = refl; debts = refl; fill = refl; empty = refl }
+stays_loading c n v = stays_if (nat_lt 0 v.inside && owes_none v) v (record v { loads = (c, n) ∷ v.loads })
+    record { owns = refl; known = refl; inside = refl; owes = refl; found = refl; holds = refl; debts = refl; fill = refl; empty = refl }
 
 pub stays_scanning : (r n : ℕ) (v : View) → StaysAs v (scanning r n v)
-stays_scanning r n v = stays_if (nat_lt 0 v.holds && owes_none v) v (record v { scanned = put None v.scanned r (Some n) }) record { owns = refl; known = refl; inside = refl; owes = refl; found = refl; holds = refl; debts = refl; fill = refl; empty = refl }
+stays_scanning r n v = stays_if (nat_lt 0 v.holds && owes_none v) v (record v { scanned = put None v.scanned r (Some n) })
+    record { owns = refl; known = refl; inside = refl; owes = refl; found = refl; holds = refl; debts = refl; fill = refl; empty = refl }
 
 -- who is inside and owes nothing keeps what it loads
 none_owed : (bs : List Bool) → ((c : ℕ) → at false bs c ≡ false) → none_owed_in bs ≡ true

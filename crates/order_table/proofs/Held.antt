@@ -66,10 +66,12 @@ held_more before x r m pos small fit number pinned old =
         cell = h.cell;
         aims = target_kept h.cell ml k (λ o s. none_not m (sym (fit.sets first h.cell o s).1 ∙ h.aims)) ∙ h.aims;
         from = h.from;
-        alive = λ y s less. ⊎_elim (λ t. h.alive y t less) (λ (same : k ≡ y). absurd (let n : y.entry.number ≡ length before = ap (λ (z : KeptEntry). z.entry.number) (sym same) ∙ number in omega arith)) (stands_cases ml k y s);
+        alive = λ y s less. ⊎_elim (λ t. h.alive y t less) (λ (same : k ≡ y). absurd
+            (let n : y.entry.number ≡ length before = ap (λ (z : KeptEntry). z.entry.number) (sym same) ∙ number in omega arith)) (stands_cases ml k y s);
         closed = subst IsClosed (sym (those_more h.from ml k (omega arith))) h.closed;
         kept = λ y s more c f. ⊎_elim (λ t. h.kept y t more c f)
-            (λ (same : k ≡ y). subst (λ (z : KeptEntry). at 0 z.pins r ≡ m + 1) same (fit.snapped first c (ap (λ (z : KeptEntry). z.entry.made.op) same ∙ f) r pos small ∙ pinned)) (stands_cases ml k y s);
+            (λ (same : k ≡ y). subst (λ (z : KeptEntry). at 0 z.pins r ≡ m + 1) same (fit.snapped first c (ap (λ (z : KeptEntry). z.entry.made.op) same ∙ f) r pos small ∙ pinned))
+            (stands_cases ml k y s);
       },
       omega arith,
     ))
@@ -80,9 +82,12 @@ held_more before x r m pos small fit number pinned old =
 word_is : (a b : ℕ) → fills a ≡ fills b → a ≡ b
 word_is a b e = ap (λ d. elim d [ fills z ↦ z | empties ↦ 0 | stays ↦ 0 ]) e
 
-pub fills_read : (t : Thread) (o : Op) (y : Reply) (w : ℕ) → pin_deed t o y ≡ fills w → (c : ℕ) × (read_of o ≡ Some c) × (word_of y ≡ Some w) × (is_read o ≡ true) × (IsAnswer y → (1 < w) × (w ≤ 4294967296))
-fills_read (M n) (op.Line (act.Read c)) (says.M m) w e = let s : m.0 + 1 ≡ w = word_is (m.0 + 1) w e in (c.0, refl, ap (λ z. Some z) s, refl, λ a. let low = a.0 in let high = a.1 in (omega arith, omega arith))
-fills_read (M n) (op.Line (act.Await c)) (says.M m) w e = let s : m.0 + 1 ≡ w = word_is (m.0 + 1) w e in (c.0, refl, ap (λ z. Some z) s, refl, λ a. let low = a.0 in let high = a.1 in (omega arith, omega arith))
+pub fills_read : (t : Thread) (o : Op) (y : Reply) (w : ℕ) → pin_deed t o y ≡ fills w → (c : ℕ)
+    × (read_of o ≡ Some c) × (word_of y ≡ Some w) × (is_read o ≡ true) × (IsAnswer y → (1 < w) × (w ≤ 4294967296))
+fills_read (M n) (op.Line (act.Read c)) (says.M m) w e = let s : m.0 + 1 ≡ w = word_is (m.0 + 1) w e in
+    (c.0, refl, ap (λ z. Some z) s, refl, λ a. let low = a.0 in let high = a.1 in (omega arith, omega arith))
+fills_read (M n) (op.Line (act.Await c)) (says.M m) w e = let s : m.0 + 1 ≡ w = word_is (m.0 + 1) w e in
+    (c.0, refl, ap (λ z. Some z) s, refl, λ a. let low = a.0 in let high = a.1 in (omega arith, omega arith))
 fills_read (M n) (op.Line (act.Take v)) y w e = absurd (true≢false (ap (λ d. elim d [ fills z ↦ false | empties ↦ true | stays ↦ true ]) e))
 fills_read _ _ _ w e = absurd (true≢false (ap (λ d. elim d [ fills z ↦ false | empties ↦ true | stays ↦ true ]) e))
 
@@ -101,9 +106,11 @@ pin_small_after p n x l item stays e = l
 
 pin_small_from : (i p n : ℕ) (xs : List Item) → p ≤ 4294967296 → RunsFrom n xs → pin_from p (of_line i xs) ≤ 4294967296
 pin_small_from i p n [] l r = l
-pin_small_from i p n (x ∷ xs) l r = either_way (is_in i x) (pin_small_from i (pin_after p (deed_of_pin x.kept)) (n + 1) xs (pin_small_after p n x l r.0 (deed_of_pin x.kept) refl) r.1) (pin_small_from i p (n + 1) xs l r.1)
+pin_small_from i p n (x ∷ xs) l r = either_way (is_in i x) (pin_small_from i (pin_after p (deed_of_pin x.kept)) (n + 1) xs (pin_small_after p n x l r.0 (deed_of_pin x.kept) refl) r.1)
+    (pin_small_from i p (n + 1) xs l r.1)
   where
-    either_way : (b : Bool) → pin_from (pin_after p (deed_of_pin x.kept)) (of_line i xs) ≤ 4294967296 → pin_from p (of_line i xs) ≤ 4294967296 → pin_from p (if b then x.kept ∷ of_line i xs else of_line i xs) ≤ 4294967296
+    either_way : (b : Bool) → pin_from (pin_after p (deed_of_pin x.kept)) (of_line i xs) ≤ 4294967296
+        → pin_from p (of_line i xs) ≤ 4294967296 → pin_from p (if b then x.kept ∷ of_line i xs else of_line i xs) ≤ 4294967296
     either_way true here there = here
     either_way false here there = there
 
@@ -124,7 +131,8 @@ held_filled before x r m runs fit item e =
     let some_object : 1 < m + 1 = (t.4 (item.stands.reader reader).2).0 in
     let object = says_it.1.object m (omega arith) refl in
     let below = below_line 0 0 n before runs (omega arith) in
-    let out : is_in 0 x ≡ false = ⊎_elim (λ z. absurd (⊎_elim (λ c. not_managed (sym c)) (λ c. let c' : 0 ≡ caller_place x.kept.entry.made.caller + 10 = c in omega arith) (in_cases 0 x z))) (λ z. z) (cases_Bool (is_in 0 x)) in
+    let out : is_in 0 x ≡ false = ⊎_elim (λ z. absurd (⊎_elim (λ c. not_managed (sym c)) (λ c. let c' : 0 ≡ caller_place x.kept.entry.made.caller + 10 = c in omega arith) (in_cases 0 x z)))
+    (λ z. z) (cases_Bool (is_in 0 x)) in
     subst (λ ks. Held ks r m (n + 1)) (sym (of_line_out 0 before x out)) (
       record {
         cell = t.0;
@@ -156,7 +164,8 @@ held_step before x r pos small runs fit item old m pinned =
 held_all : (before xs : List Item) (r : ℕ) → 0 < r → r < 9 → RunsFrom 0 before → RunsFrom (length before) xs → EachFits before xs → EachHeld r before → EachHeld r (before ++ xs)
 held_all before [] r pos small runs next fits old = subst (EachHeld r) (sym (append-nil before)) old
 held_all before (x ∷ xs) r pos small runs next fits old = subst (EachHeld r) (append_assoc before (x ∷ []) xs)
-    (held_all (before ++ x ∷ []) xs r pos small (runs_more 0 before x runs record { number = next.0.number ∙ omega arith; caller = next.0.caller; stands = next.0.stands }) (subst (λ n. RunsFrom n xs) (sym (length-append before (x ∷ []))) next.1) fits.1
+    (held_all (before ++ x ∷ []) xs r pos small (runs_more 0 before x runs record { number = next.0.number ∙ omega arith; caller = next.0.caller; stands = next.0.stands })
+    (subst (λ n. RunsFrom n xs) (sym (length-append before (x ∷ []))) next.1) fits.1
     (held_step before x r pos small runs fits.0 next.0 old))
 
 pub is_held : (whole : List Item) (r m : ℕ) → 0 < r → r < 9 → RunsFrom 0 whole → EachFits [] whole → pin (of_line (r + 10) whole) ≡ m + 1 → IsHeld (of_line 0 whole) r m

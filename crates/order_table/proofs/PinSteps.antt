@@ -1,5 +1,6 @@
 -- The steps on the pins' words keep the rule.
-use Rattle.std.proofs.Common.{◌≡◌, ◌≢◌, inl, ⊎_elim, ℕ, ◌+◌, ◌-◌, ◌/◌, ◌<◌, ◌≤◌, ◌⊎◌, Bool, true, false, List, [], ◌∷◌, get_or, set, refl, sym, ap, ◌∙◌, subst, arith, length-set, get_or-set_same, get_or-set_other, eq-eqb, ne_eqb}
+use Rattle.std.proofs.Common.{◌≡◌, ◌≢◌, inl, ⊎_elim, ℕ, ◌+◌, ◌-◌, ◌/◌, ◌<◌, ◌≤◌, ◌⊎◌, Bool, true, false, List, [], ◌∷◌, get_or, set, refl, sym, ap, ◌∙◌, subst, arith, length-set, get_or-set_same}
+use Rattle.std.proofs.Common.{get_or-set_other, eq-eqb, ne_eqb}
 use Rattle.std.specs.Prelude.{if◌then◌else◌, ◌==◌, ◌&&◌, nat_lt, Option, None, Some}
 use Rattle.std.proofs.lemmas.Bool.{cases_Bool, both_ways, and_parts, ltb-true, eqb-true, cases_eq}
 use Rattle.std.specs.Int.{bit_at}
@@ -54,13 +55,26 @@ only_scans s o id v scanned here scans =
       numbers = o.numbers;
       limit = o.limit;
       each_line = λ i l. owner_set s.views i (o.owner i) id v w here (λ z. z) (o.each_line i l);
-      each_seat = seats (Knows o.whole o.owner) s.views id w record { begins = knows.begins; heard = knows.heard; owned = knows.owned; heard_owned = knows.heard_owned } (λ j u _ at_j. o.each_seat j u at_j);
+      each_seat = seats (Knows o.whole o.owner) s.views id w record { begins = knows.begins; heard = knows.heard; owned = knows.owned; heard_owned = knows.heard_owned }
+          (λ j u _ at_j. o.each_seat j u at_j);
       held = o.held;
-      each_gate = seats (λ j. Gates o.gate W) s.views id w record { owner = g.owner; other = g.other; heard_owner = g.heard_owner; heard_other = g.heard_other; inside = g.inside; owes = g.owes; one = g.one } (λ j u _ at_j. o.each_gate j u at_j);
-      waiting = waiting_views o.whole o.gate s.views (set s.views id w) o.waiting (seats (λ j. Waits o.whole o.gate) s.views id w record { snap = t.snap; unknown = t.unknown } (λ j u _ at_j. o.waiting.each_wait j u at_j));
+      each_gate = seats (λ j. Gates o.gate W) s.views id w record {
+        owner = g.owner;
+        other = g.other;
+        heard_owner = g.heard_owner;
+        heard_other = g.heard_other;
+        inside = g.inside;
+        owes = g.owes;
+        one = g.one;
+      } (λ j u _ at_j. o.each_gate j u at_j);
+      waiting = waiting_views o.whole o.gate s.views (set s.views id w) o.waiting
+          (seats (λ j. Waits o.whole o.gate) s.views id w record { snap = t.snap; unknown = t.unknown } (λ j u _ at_j. o.waiting.each_wait j u at_j));
       celled = celled_bounded (of_line 0 o.whole) o.gate o.gate s.words s.words s.views (set s.views id w) o.celled (λ c l. refl) (λ c z h. h)
-          (seats (λ j. Debts (of_line 0 o.whole) o.celled.debt) s.views id w record { owner = d.owner; heard_owner = d.heard_owner; secret = d.secret; heard_secret = d.heard_secret; mine = d.mine; heard_mine = d.heard_mine } (λ j u _ at_j. o.celled.each_debt j u at_j))
-          (seats (λ j x. 0 < x.inside → EachLoad (of_line 0 o.whole) x x.loads) s.views id w (λ l. same_loads (of_line 0 o.whole) v w v.loads refl refl (o.celled.each_load id v here l)) (λ j u _ at_j. o.celled.each_load j u at_j));
+          (seats (λ j. Debts (of_line 0 o.whole) o.celled.debt) s.views id w
+          record { owner = d.owner; heard_owner = d.heard_owner; secret = d.secret; heard_secret = d.heard_secret; mine = d.mine; heard_mine = d.heard_mine }
+          (λ j u _ at_j. o.celled.each_debt j u at_j))
+          (seats (λ j x. 0 < x.inside → EachLoad (of_line 0 o.whole) x x.loads) s.views id w
+          (λ l. same_loads (of_line 0 o.whole) v w v.loads refl refl (o.celled.each_load id v here l)) (λ j u _ at_j. o.celled.each_load j u at_j));
       pinned = pinned_keep o.whole o.whole o.owner o.owner o.gate o.gate W W s.words s.words s.views (set s.views id w) o.pinned (λ k. refl) (λ k l. refl)
           (λ k z. let q = o.pinned.storing k z in (q.2, q.3, refl, refl)) (λ k z. (refl, refl)) (let l = length-set s.views id w in omega arith)
           (seats (λ i x. (k : ℕ) → o.pinned.stores k ≡ true → o.owner (k + 10) ≡ i → x.fill ≡ k) s.views id w (o.pinned.filler id v here) (λ i x _ at_i. o.pinned.filler i x at_i))
@@ -79,7 +93,8 @@ loads_pin slots id r me pos small s o _ here _ =
     let same : r ≡ k = omega arith in let mine = (o.each_seat id v here).owned (k + 10) owns in
     (⊎_elim (λ z. z) (λ z. absurd (⊎_elim
     (λ t. not_storing o.whole o.owner o.gate W s.words s.views o.pinned id v here fill r t.0 (ap (λ j. o.owner (j + 10)) same ∙ mine.0))
-    (λ t. not_clearing o.whole o.owner o.gate W s.words s.views o.pinned id v here empty r t.0 (ap (λ j. o.owner (j + 10)) same ∙ mine.0)) z)) now) ∙ (ap (λ j. pin (of_line (j + 10) o.whole)) same ∙ ap pin (sym mine.1)) in
+    (λ t. not_clearing o.whole o.owner o.gate W s.words s.views o.pinned id v here empty r t.0 (ap (λ j. o.owner (j + 10)) same ∙ mine.0)) z)) now)
+    ∙ (ap (λ j. pin (of_line (j + 10) o.whole)) same ∙ ap pin (sym mine.1)) in
     let held : (k m : ℕ) → 65 + r ≡ 65 + k → 0 < k → k < 9 → Owns v 0 → v.empty ≡ 0 → n ≡ m + 1 → IsHeld (known v 0) k m = λ k m e _ _ owns empty is.
     let all = (o.each_seat id v here).owned 0 owns in
     subst (λ (z : List KeptEntry × ℕ). IsHeld z.0 z.1 m) (λ i. (sym all.1 i, (let same : r ≡ k = omega arith in same) i))
@@ -103,7 +118,8 @@ loads_pin slots id r me pos small s o _ here _ =
     (λ (same : k ≡ r). Some_injective (sym at_k ∙ (ap (at None kept) same ∙ at_put_here None v.scanned r (Some n))) ∙ (⊎_elim (λ z. z)
     (λ z. absurd (⊎_elim
     (λ t. let shut = (o.pinned.storing r t.0).3 in let held = (o.each_gate id v here).owner owns in omega arith)
-    (λ t. not_clearing o.whole o.owner o.gate W s.words s.views o.pinned id v here empty r t.0 (sym (o.pinned.clearing r t.0).1 ∙ ((o.each_seat id v here).owned 0 owns).0)) z)) now ∙ ap (λ j. pin (of_line (j + 10) o.whole)) (sym same)))
+    (λ t. not_clearing o.whole o.owner o.gate W s.words s.views o.pinned id v here empty r t.0 (sym (o.pinned.clearing r t.0).1 ∙ ((o.each_seat id v here).owned 0 owns).0)) z)) now
+    ∙ ap (λ j. pin (of_line (j + 10) o.whole)) (sym same)))
     (λ other. o.scanned id v here owns next k w pos' small' (sym (at_put_else None v.scanned r k (Some n) other) ∙ at_k))
     (cases_eq k r) in (
       record v { scanned = kept },
@@ -124,7 +140,8 @@ loads_pin slots id r me pos small s o _ here _ =
     Some_injective : {a b : ℕ} → Some a ≡ Some b → a ≡ b
     Some_injective e = ap word_or_zero e
 
-pub stores_pin : (slots id r word : ℕ) (me : M) → 0 < r → r < 9 → Owns me.0 (r + 10) → word ≡ pin (known me.0 (r + 10)) → Allows Ordered slots id me (65 + r) (λ _. word) (λ _. StoredPin (step slots (65 + r) word 0 none) me word)
+pub stores_pin : (slots id r word : ℕ) (me : M) → 0 < r → r < 9 → Owns me.0 (r + 10) → word ≡ pin (known me.0 (r + 10))
+    → Allows Ordered slots id me (65 + r) (λ _. word) (λ _. StoredPin (step slots (65 + r) word 0 none) me word)
 stores_pin slots id r word me pos small own is s o _ here _ =
     let v : View = me.0 in
     let w : View = storing_pin r v in
@@ -154,14 +171,20 @@ stores_pin slots id r word me pos small own is s o _ here _ =
         numbers = o.numbers;
         limit = o.limit;
         each_line = λ i l. owner_set s.views i (o.owner i) id v w here (λ z. z) (o.each_line i l);
-        each_seat = seats (Knows o.whole o.owner) s.views id w record { begins = knows.begins; heard = knows.heard; owned = knows.owned; heard_owned = knows.heard_owned } (λ j u _ at_j. o.each_seat j u at_j);
+        each_seat = seats (Knows o.whole o.owner) s.views id w record { begins = knows.begins; heard = knows.heard; owned = knows.owned; heard_owned = knows.heard_owned }
+            (λ j u _ at_j. o.each_seat j u at_j);
         held = o.held;
         each_gate = subst (λ b. (j : ℕ) (v : View) → get_elem? (set s.views id w) j ≡ some v → Gates o.gate b v) (sym gate_word) (seats (λ j. Gates o.gate W) s.views id w
             record { owner = g.owner; other = g.other; heard_owner = g.heard_owner; heard_other = g.heard_other; inside = g.inside; owes = g.owes; one = g.one } (λ j u _ at_j. o.each_gate j u at_j));
-        waiting = waiting_views o.whole o.gate s.views (set s.views id w) o.waiting (seats (λ j. Waits o.whole o.gate) s.views id w record { snap = t.snap; unknown = t.unknown } (λ j u _ at_j. o.waiting.each_wait j u at_j));
-        celled = celled_bounded (of_line 0 o.whole) o.gate o.gate s.words (set s.words (65 + r) word) s.views (set s.views id w) o.celled (λ c l. get_or-set_other s.words (65 + r) (2 + c) word 0 (λ e. omega arith)) (λ c z h. h)
-            (seats (λ j. Debts (of_line 0 o.whole) o.celled.debt) s.views id w record { owner = d.owner; heard_owner = d.heard_owner; secret = d.secret; heard_secret = d.heard_secret; mine = d.mine; heard_mine = d.heard_mine } (λ j u _ at_j. o.celled.each_debt j u at_j))
-            (seats (λ j x. 0 < x.inside → EachLoad (of_line 0 o.whole) x x.loads) s.views id w (λ l. same_loads (of_line 0 o.whole) v w v.loads refl refl (o.celled.each_load id v here l)) (λ j u _ at_j. o.celled.each_load j u at_j));
+        waiting = waiting_views o.whole o.gate s.views (set s.views id w) o.waiting
+            (seats (λ j. Waits o.whole o.gate) s.views id w record { snap = t.snap; unknown = t.unknown } (λ j u _ at_j. o.waiting.each_wait j u at_j));
+        celled = celled_bounded (of_line 0 o.whole) o.gate o.gate s.words (set s.words (65 + r) word) s.views
+            (set s.views id w) o.celled (λ c l. get_or-set_other s.words (65 + r) (2 + c) word 0 (λ e. omega arith)) (λ c z h. h)
+            (seats (λ j. Debts (of_line 0 o.whole) o.celled.debt) s.views id w
+            record { owner = d.owner; heard_owner = d.heard_owner; secret = d.secret; heard_secret = d.heard_secret; mine = d.mine; heard_mine = d.heard_mine }
+            (λ j u _ at_j. o.celled.each_debt j u at_j))
+            (seats (λ j x. 0 < x.inside → EachLoad (of_line 0 o.whole) x x.loads) s.views id w
+            (λ l. same_loads (of_line 0 o.whole) v w v.loads refl refl (o.celled.each_load id v here l)) (λ j u _ at_j. o.celled.each_load j u at_j));
         scanned = seats (λ j. Scans o.whole) s.views id w (o.scanned id v here) (λ j u _ at_j. o.scanned j u at_j);
         pinned = record {
           stores = but o.pinned.stores;
@@ -178,9 +201,11 @@ stores_pin slots id r word me pos small own is s o _ here _ =
           storing = λ k e. let z = o.pinned.storing k (was o.pinned.stores k e) in let l = z.5 in (z.0, z.1, ap (λ b. bit_at b k) gate_word ∙ z.2, z.3, z.4, omega arith);
           clearing = λ k e. let z = o.pinned.clearing k (was o.pinned.clears k e) in let l = z.2 in (z.0, z.1, omega arith);
           filler = seats (λ i x. (k : ℕ) → but o.pinned.stores k ≡ true → o.owner (k + 10) ≡ i → x.fill ≡ k) s.views id w
-              (λ k e q. stays_at v.fill k (o.pinned.filler id v here k (was o.pinned.stores k e) q) (not_r o.pinned.stores k e)) (λ i x _ at_i k e q. o.pinned.filler i x at_i k (was o.pinned.stores k e) q);
+              (λ k e q. stays_at v.fill k (o.pinned.filler id v here k (was o.pinned.stores k e) q) (not_r o.pinned.stores k e))
+              (λ i x _ at_i k e q. o.pinned.filler i x at_i k (was o.pinned.stores k e) q);
           clearer = seats (λ i x. (k : ℕ) → but o.pinned.clears k ≡ true → o.owner (k + 10) ≡ i → x.empty ≡ k) s.views id w
-              (λ k e q. stays_at v.empty k (o.pinned.clearer id v here k (was o.pinned.clears k e) q) (not_r o.pinned.clears k e)) (λ i x _ at_i k e q. o.pinned.clearer i x at_i k (was o.pinned.clears k e) q);
+              (λ k e q. stays_at v.empty k (o.pinned.clearer id v here k (was o.pinned.clears k e) q) (not_r o.pinned.clears k e))
+              (λ i x _ at_i k e q. o.pinned.clearer i x at_i k (was o.pinned.clears k e) q);
         };
       },
       (refl, ap (λ k. storing_pin k v) (sym place)),

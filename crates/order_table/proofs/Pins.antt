@@ -1,5 +1,6 @@
 -- The words of the pins, and who owes them.
-use Rattle.std.proofs.Common.{◌≡◌, ◌≢◌, ◌⊎◌, inl, inr, ⊎_elim, ℕ, zero, suc, ◌+◌, ◌*◌, ◌^◌, ◌<◌, ◌≤◌, Bool, true, false, List, [], ◌∷◌, ◌++◌, length, refl, sym, ap, ◌∙◌, subst, arith, true≢false, eq-eqb, ne_eqb}
+use Rattle.std.proofs.Common.{◌≡◌, ◌≢◌, ◌⊎◌, inl, inr, ⊎_elim, ℕ, zero, suc, ◌+◌, ◌*◌, ◌^◌, ◌<◌, ◌≤◌, Bool, true, false, List, [], ◌∷◌, ◌++◌, length, refl, sym, ap, ◌∙◌, subst, arith, true≢false}
+use Rattle.std.proofs.Common.{eq-eqb, ne_eqb}
 use Rattle.std.specs.Prelude.{if◌then◌else◌, ◌==◌, slice_index, Option, None, Some}
 use Rattle.std.specs.Int.{bit_at}
 use Rattle.std.proofs.lemmas.Bool.{cases_Bool, and_parts, eqb-true, cases_eq}
@@ -24,7 +25,8 @@ pin_more ks k = pin_append 0 ks (k ∷ [])
 
 -- a bit that is a power of 2 is that reader's
 pub same_bit : (a b : ℕ) → 2 ^ a ≡ 2 ^ b → a ≡ b
-same_bit a b e = ⊎_elim (λ s. s) (λ n. absurd (let x = bit_at-pow_same b in let y = bit_at-pow_other a b (λ z. n (sym z)) in let z : bit_at (2 ^ a) b ≡ bit_at (2 ^ b) b = ap (λ k. bit_at k b) e in omega arith)) (cases_eq a b)
+same_bit a b e = ⊎_elim (λ s. s) (λ n. absurd (let x = bit_at-pow_same b in let y = bit_at-pow_other a b (λ z. n (sym z)) in
+    let z : bit_at (2 ^ a) b ≡ bit_at (2 ^ b) b = ap (λ k. bit_at k b) e in omega arith)) (cases_eq a b)
 
 -- a step that owes no more and pays nothing
 pub pinned_keep : (whole whole' : List Item) (owner owner' : ℕ → ℕ) (gate gate' word word' : ℕ) (words words' : List ℕ) (vs vs' : List View) (r : Pinned whole owner gate word words vs)
@@ -44,19 +46,24 @@ pinned_keep whole whole' owner owner' gate gate' word word' words words' vs vs' 
 }
 
 -- a seat that owes nothing owns no line whose store or clearing is owed
-pub not_storing : (whole : List Item) (owner : ℕ → ℕ) (gate word : ℕ) (words : List ℕ) (vs : List View) (r : Pinned whole owner gate word words vs) (id : ℕ) (v : View) → get_elem? vs id ≡ some v → v.fill ≡ 0 → (k : ℕ) → r.stores k ≡ true → owner (k + 10) ≡ id → ⊥
+pub not_storing : (whole : List Item) (owner : ℕ → ℕ) (gate word : ℕ) (words : List ℕ) (vs : List View) (r : Pinned whole owner gate word words vs) (id : ℕ) (v : View)
+    → get_elem? vs id ≡ some v → v.fill ≡ 0 → (k : ℕ) → r.stores k ≡ true → owner (k + 10) ≡ id → ⊥
 not_storing whole owner gate word words vs r id v here paid k o own = let a = r.filler id v here k o own in let b = (r.storing k o).0 in omega arith
 
-pub not_clearing : (whole : List Item) (owner : ℕ → ℕ) (gate word : ℕ) (words : List ℕ) (vs : List View) (r : Pinned whole owner gate word words vs) (id : ℕ) (v : View) → get_elem? vs id ≡ some v → v.empty ≡ 0 → (k : ℕ) → r.clears k ≡ true → owner (k + 10) ≡ id → ⊥
+pub not_clearing : (whole : List Item) (owner : ℕ → ℕ) (gate word : ℕ) (words : List ℕ) (vs : List View) (r : Pinned whole owner gate word words vs) (id : ℕ) (v : View)
+    → get_elem? vs id ≡ some v → v.empty ≡ 0 → (k : ℕ) → r.clears k ≡ true → owner (k + 10) ≡ id → ⊥
 not_clearing whole owner gate word words vs r id v here paid k o own = let a = r.clearer id v here k o own in let b = (r.clearing k o).0 in omega arith
 
 -- an entry of the seat id, which owns the line of its caller at this place
-pub pinned_entry : (whole whole' : List Item) (owner : ℕ → ℕ) (gate word : ℕ) (words words' : List ℕ) (vs vs' : List View) (r : Pinned whole owner gate word words vs) (id role place : ℕ) (v w : View) (d : PinDeed)
-    → get_elem? vs id ≡ some v → id < length vs → owner (place + 10) ≡ id → owner role ≡ id → ((role ≡ 1 → ⊥) → (v.fill ≡ 0) × (v.empty ≡ 0)) → MayPin v role place d → known v (place + 10) ≡ of_line (place + 10) whole → HasBit word v.owns v.inside ⊎ (d ≡ stays ⊎ d ≡ empties) → (d ≡ stays ⊎ (d ≡ empties ⊎ gate ≡ 0))
+pub pinned_entry : (whole whole' : List Item) (owner : ℕ → ℕ) (gate word : ℕ) (words words' : List ℕ)
+    (vs vs' : List View) (r : Pinned whole owner gate word words vs) (id role place : ℕ) (v w : View) (d : PinDeed)
+    → get_elem? vs id ≡ some v → id < length vs → owner (place + 10) ≡ id → owner role ≡ id → ((role ≡ 1 → ⊥) → (v.fill ≡ 0) × (v.empty ≡ 0)) → MayPin v role place d
+    → known v (place + 10) ≡ of_line (place + 10) whole → HasBit word v.owns v.inside ⊎ (d ≡ stays ⊎ d ≡ empties) → (d ≡ stays ⊎ (d ≡ empties ⊎ gate ≡ 0))
     → ((k : ℕ) → k ≢ place → of_line (k + 10) whole' ≡ of_line (k + 10) whole) → pin (of_line (place + 10) whole') ≡ pin_after (pin (of_line (place + 10) whole)) d
     → ((k : ℕ) → slice_index words' (65 + k) ≡ slice_index words (65 + k)) → length vs ≤ length vs'
     → w.fill ≡ fill_after d place v.fill → w.empty ≡ empty_after d place v.empty
-    → ((K : ℕ → View → Type 0) → K id w → ((j : ℕ) (u : View) → j ≢ id → get_elem? vs j ≡ some u → K j u) → (j : ℕ) (u : View) → get_elem? vs' j ≡ some u → K j u) → Pinned whole' owner gate word words' vs'
+    → ((K : ℕ → View → Type 0) → K id w → ((j : ℕ) (u : View) → j ≢ id → get_elem? vs j ≡ some u → K j u) → (j : ℕ) (u : View) → get_elem? vs' j ≡ some u → K j u)
+    → Pinned whole' owner gate word words' vs'
 pinned_entry whole whole' owner gate word words words' vs vs' r id role place v w stays here inside own own_role stored may all bit unheld lines now same longer_by fill empty seats =
     let same_lines : (k : ℕ) → pin (of_line (k + 10) whole') ≡ pin (of_line (k + 10) whole) = λ k. ⊎_elim
     (λ (e : k ≡ place). subst (λ j. pin (of_line (j + 10) whole') ≡ pin (of_line (j + 10) whole)) (sym e) now) (λ e. ap pin (lines k e)) (cases_eq k place) in

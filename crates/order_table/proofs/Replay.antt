@@ -1,5 +1,6 @@
 -- The pins of the replayed managed state are those that the lines leave.
-use Rattle.std.proofs.Common.{map, ◌≡◌, ◌≢◌, ◌⊎◌, inl, inr, ⊎_elim, ℕ, zero, suc, ◌+◌, ◌-◌, ◌<◌, ◌≤◌, Bool, true, false, List, [], ◌∷◌, ◌++◌, length, refl, sym, ap, ◌∙◌, subst, arith, true≢false, length-append, length-set}
+use Rattle.std.proofs.Common.{map, ◌≡◌, ◌≢◌, ◌⊎◌, inl, inr, ⊎_elim, ℕ, zero, suc, ◌+◌, ◌-◌, ◌<◌, ◌≤◌, Bool, true, false, List, [], ◌∷◌, ◌++◌, length, refl, sym, ap, ◌∙◌, subst, arith, true≢false}
+use Rattle.std.proofs.Common.{length-append, length-set}
 use Rattle.std.specs.Prelude.{if◌then◌else◌, slice_set, replicate, Option, Some, None}
 use Rattle.std.proofs.lemmas.Bool.{cases_Bool, both_ways}
 use mathlib.Core.List.{append-nil, append_assoc}
@@ -127,7 +128,8 @@ met_pins : (s : Managed) (v h : ℕ) (sort : Sort) (n : ℕ) (twin : Option ℕ)
 met_pins s v h sort n twin None = twin_pins s v h sort n twin
 met_pins s v h sort n twin (Some c) = refl
 
-answer_pins : (s : ManagedReplay) (c : Thread) (o : Op) (told : Told) (y : Reply) → is_read o ≡ false → (managed_answer s c o told).state.managed.pins ≡ by_deed s.managed.pins (thread_number c) (any_deed o y)
+answer_pins : (s : ManagedReplay) (c : Thread) (o : Op) (told : Told) (y : Reply) → is_read o ≡ false
+    → (managed_answer s c o told).state.managed.pins ≡ by_deed s.managed.pins (thread_number c) (any_deed o y)
 answer_pins s c (op.Line a) told y e = line_pins s.managed (thread_number c) a y e
 answer_pins s c (op.Adopt v kind n p h) told y e = let a = adopted s.managed (place (thread_number c) v.0) kind n h.0 in
     ap (λ (m : Managed). m.pins) (adopt_state s p.0 h.0 a.state a.reply) ∙ if_pins (is_full s.managed.heap.fields) _ _ s.managed.pins refl refl
@@ -201,14 +203,17 @@ deed_else ps t r empties n = by_slot (slot ps t)
 deed_else ps t r stays n = refl
 
 -- an entry that does to the pins what its deed says, but for an entry that does nothing
-pub pins_step : (before : List Item) (x : Item) (ps : List (Option ℕ)) → x.role < 10 → IsThread x.kept.entry.made.caller → (any_deed x.kept.entry.made.op x.kept.entry.made.reply ≡ stays) ⊎ ((n : ℕ) × (x.kept.entry.made.caller ≡ M n)) ⊎ (x.kept.entry.made.caller ≡ C)
+pub pins_step : (before : List Item) (x : Item) (ps : List (Option ℕ)) → x.role < 10 → IsThread x.kept.entry.made.caller
+    → (any_deed x.kept.entry.made.op x.kept.entry.made.reply ≡ stays) ⊎ ((n : ℕ) × (x.kept.entry.made.caller ≡ M n)) ⊎ (x.kept.entry.made.caller ≡ C)
     → Pins ps before → Pins (by_deed ps (thread_number x.kept.entry.made.caller) (any_deed x.kept.entry.made.op x.kept.entry.made.reply)) (before ++ x ∷ [])
 pins_step before x ps small ok who h = (
   deed_length ps t d ∙ h.0,
   λ r pos low. ⊎_elim
       (λ (e : is_in (r + 10) x ≡ true). let is = thread_of c ok r low (place_is r pos low e) pos in let t_is : t ≡ r = ap thread_number is in
       subst (λ k. slot (by_deed ps k d) r ≡ object_of (pin (of_line (r + 10) (before ++ x ∷ [])))) (sym t_is)
-      (deed_here ps r (pin (of_line (r + 10) before)) d (let l = h.0 in omega arith) (h.1 r pos low) ∙ ap object_of (sym (ap pin (of_line_in (r + 10) before x e) ∙ (pin_more (of_line (r + 10) before) x.kept ∙ ap (pin_after (pin (of_line (r + 10) before))) (ap (λ k. pin_deed k o y) is ∙ same_deed r o y))))))
+      (deed_here ps r (pin (of_line (r + 10) before)) d (let l = h.0 in omega arith) (h.1 r pos low)
+      ∙ ap object_of (sym (ap pin (of_line_in (r + 10) before x e)
+      ∙ (pin_more (of_line (r + 10) before) x.kept ∙ ap (pin_after (pin (of_line (r + 10) before))) (ap (λ k. pin_deed k o y) is ∙ same_deed r o y))))))
       (λ (e : is_in (r + 10) x ≡ false). ⊎_elim
       (λ (s : d ≡ stays). ap (λ z. slot (by_deed ps t z) r) s)
       (λ w. deed_else ps t r d (λ same. both_ways (is_in (r + 10) x) e (caller_in (r + 10) x (far r pos same w)))) who
@@ -239,7 +244,8 @@ pins_step before x ps small ok who h = (
     far r pos same (inr w) = absurd (let z : t ≡ 0 = ap thread_number w in omega arith)
 
 -- an entry of a peer thread
-pub pins_apart : (before : List Item) (x : Item) (ps : List (Option ℕ)) → x.role < 10 → IsThread x.kept.entry.made.caller → (n : ℕ) → x.kept.entry.made.caller ≡ P n → Pins ps before → Pins ps (before ++ x ∷ [])
+pub pins_apart : (before : List Item) (x : Item) (ps : List (Option ℕ)) → x.role < 10 → IsThread x.kept.entry.made.caller
+    → (n : ℕ) → x.kept.entry.made.caller ≡ P n → Pins ps before → Pins ps (before ++ x ∷ [])
 pins_apart before x ps small ok n is h = (
   h.0,
   λ r pos low. h.1 r pos low ∙ ap object_of (sym (ap pin (of_line_out (r + 10) before x (⊎_elim
@@ -261,7 +267,8 @@ entry_step before x told s i item h = ⊎_elim
     let not_peer : x.role ≡ 1 → ⊥ = λ z. both_ways (is_read o) (item.stands.peer z).0 e in
     subst (λ ps. Pins ps (before ++ x ∷ [])) (sym (ap (λ (l : Linkage). l.managed.managed.pins) (if_true (is_read o) (reader_after s n) (linkage_after s n) e) ∙ read_pins now (thread_number c) o y e))
     (pins_step before x now small ok (inr (inl (x.role - 1, (item.stands.reader (omega (arith, not_managed, not_peer))).1))) h))
-    (λ (e : is_read o ≡ false). subst (λ ps. Pins ps (before ++ x ∷ [])) (sym (ap (λ (l : Linkage). l.managed.managed.pins) (if_false (is_read o) (reader_after s n) (linkage_after s n) e))) (⊎_elim (peer e) (managed e) (cases_Bool (is_peer_event c o))))
+    (λ (e : is_read o ≡ false). subst (λ ps. Pins ps (before ++ x ∷ []))
+    (sym (ap (λ (l : Linkage). l.managed.managed.pins) (if_false (is_read o) (reader_after s n) (linkage_after s n) e))) (⊎_elim (peer e) (managed e) (cases_Bool (is_peer_event c o))))
     (cases_Bool (is_read o))
   where
     small : x.role < 10
@@ -303,7 +310,8 @@ entry_step before x told s i item h = ⊎_elim
         (λ z. ⊎_elim (λ w. inl (managed_stays w.0 o y (subst (λ t. is_peer_event t o ≡ false) w.1 p) e)) (λ w. inr (inr w)) z)
         (whose c)) h))
 
-pins_replayed : (before xs : List Item) (ns : List Noted) (s : Linkage) → RunsFrom (length before) xs → map (λ n. n.entry) ns ≡ entries_of xs → Pins s.managed.managed.pins before → Pins (replayed_reading s ns).managed.managed.pins (before ++ xs)
+pins_replayed : (before xs : List Item) (ns : List Noted) (s : Linkage) → RunsFrom (length before) xs → map (λ n. n.entry) ns ≡ entries_of xs
+    → Pins s.managed.managed.pins before → Pins (replayed_reading s ns).managed.managed.pins (before ++ xs)
 pins_replayed before [] [] s runs same h = subst (Pins s.managed.managed.pins) (sym (append-nil before)) h
 pins_replayed before [] (n ∷ ns) s runs same h = absurd (cc)
 pins_replayed before (x ∷ xs) [] s runs same h = absurd (cc)

@@ -5,7 +5,8 @@
 -- stay beginnings. A split and a join change owners alone. A join keeps both views side by side; the load after it
 -- compares them, and takes of each line the longer list, since both are beginnings of one line; where one of the two
 -- owned the line, it knew it whole, and so the longer list is that one's.
-use Rattle.std.proofs.Common.{◌≡◌, ◌≢◌, ◌⊎◌, inl, inr, ⊎_elim, ℕ, zero, suc, ◌+◌, ◌*◌, ◌/◌, ◌%◌, ◌^◌, ◌<◌, ◌≤◌, Bool, true, false, not, ◌&&◌, List, [], ◌∷◌, ◌++◌, length, get_or, set, refl, sym, ap, ◌∙◌, subst, arith, length-append, length-set, get_or-set_same, get_or-set_other, eq-eqb, ne_eqb, true≢false}
+use Rattle.std.proofs.Common.{◌≡◌, ◌≢◌, ◌⊎◌, inl, inr, ⊎_elim, ℕ, zero, suc, ◌+◌, ◌*◌, ◌/◌, ◌%◌, ◌^◌, ◌<◌, ◌≤◌, Bool, true, false, not, ◌&&◌, List, [], ◌∷◌, ◌++◌, length, get_or, set, refl, sym, ap}
+use Rattle.std.proofs.Common.{◌∙◌, subst, arith, length-append, length-set, get_or-set_same, get_or-set_other, eq-eqb, ne_eqb, true≢false}
 use Rattle.std.specs.Prelude.{if◌then◌else◌, ◌==◌, Option, Some, None, replicate}
 use Rattle.std.proofs.lemmas.Bool.{cases_Bool, cases_eq, and_parts, or_cases, not-true, both_ways}
 use mathlib.Core.Option.{none, some, some-injective, some-ne-none}
@@ -27,20 +28,24 @@ use Rattle.joint_machine.specs.HistoryLines.{caller_line}
 use Rattle.order_table.specs.Rows.{at, longer}
 use Rattle.order_table.specs.Stages.{IsClosed, opens, deed, stage_after, stage}
 use Rattle.order_table.specs.Owed.{PinDeed, fills, empties, pin_deed, owing, pin, pin_after, marked, target, has, is_freed, by_place, owes_after, stays, fill_after, empty_after}
-use Rattle.order_table.specs.Views.{IsNext, IsCompared, IsInRole, lines_of_none, pins_kept, pin_owed, OwnsAll, IsOpen, kept, known, Owns, first_view, spent_view, appended, giving, given, hearing, learned}
+use Rattle.order_table.specs.Views.{IsNext, IsCompared, IsInRole, lines_of_none, pins_kept, pin_owed, OwnsAll, IsOpen, kept, known, Owns, first_view, spent_view, appended, giving, given, hearing}
+use Rattle.order_table.specs.Views.{learned}
 use Rattle.order_table.specs.Allowed.{Settled, NoDebt, MaySet, SaysPending, MayDo, MayMake, IsQuiet}
-use Rattle.order_table.specs.Rule.{HasOwner, HasBit, Scans, Pinned, ReadsWord, CellIs, Debts, EachLoad, Celled, Unknown, IsSnapped, Waits, IsPending, IsDue, Stands, Item, is_in, of_line, RunsFrom, IsBelow, Knows, Gates, IsHeldFor, Ordered, AreLinesOfOneHistory}
+use Rattle.order_table.specs.Rule.{HasOwner, HasBit, Scans, Pinned, ReadsWord, CellIs, Debts, EachLoad, Celled, Unknown, IsSnapped, Waits, IsPending, IsDue, Stands, Item, is_in, of_line, RunsFrom}
+use Rattle.order_table.specs.Rule.{IsBelow, Knows, Gates, IsHeldFor, Ordered, AreLinesOfOneHistory}
 use Rattle.order_table.specs.Tells.{Appended, Compared, Compares}
 use Rattle.joint_machine.specs.Lines.{IsThread}
 use Rattle.order_table.proofs.Gate.{no_bit, if_true, if_false, stage_more, held_more, gates_giving, gates_given, gates_spent, gates_hearing, gates_learned, gates_appended}
 use Rattle.std.proofs.Math.Nat.{one-le-pow}
 use Rattle.order_table.proofs.Pins.{no_scans, scans_more, pin_at, scanned_at, pin_more, owing_after, pinned_keep, not_storing, not_clearing, pinned_entry, filling, filling_last}
 use Rattle.order_table.proofs.Says.{at_by_place, none_not, target_cases}
-use Rattle.order_table.proofs.Cells.{paid_more, cell_after, settled_cell, none_owed, loads_more, load_there, debts_more, debts_giving, debts_given, debts_spent, debts_hearing, debts_learned, celled_same}
+use Rattle.order_table.proofs.Cells.{paid_more, cell_after, settled_cell, none_owed, loads_more, load_there, debts_more, debts_giving, debts_given, debts_spent, debts_hearing, debts_learned}
+use Rattle.order_table.proofs.Cells.{celled_same}
 use Rattle.order_table.proofs.Waits.{stands_cases, stands_more, stands_last, stands_below, waits_more, waits_same, waits_not, waiting_views, waiting_other, waiting_managed}
 use Rattle.order_table.proofs.Free.{Free, peer_stays, may_pin, frees_held, sets_frees_none, others_mark, others_free}
 use Rattle.order_table.proofs.Lines.{of_line_in, of_line_out, runs_more, below_line, below_begins, bounded, in_cases, role_in, caller_in, appended_in, appended_out}
-use Rattle.order_table.proofs.Places.{at_put_here, begins_more, longer_begins, first_begins_longer, second_begins_longer, whole_longer, longer_whole, at_longest, at_joined, at_common, at_without, or_true}
+use Rattle.order_table.proofs.Places.{at_put_here, begins_more, longer_begins, first_begins_longer, second_begins_longer, whole_longer, longer_whole, at_longest, at_joined, at_common, at_without}
+use Rattle.order_table.proofs.Places.{or_true}
 
 abbrev St : Type 0
 St = State (Unit {0}) View
@@ -132,8 +137,10 @@ appended_cases v x i y small st = ⊎_elim
 no_free : (freed : List MNum) → ((m : ℕ) → has freed m ≡ true → ⊥) → (x : ℕ) → has freed x ≡ false
 no_free freed f x = ⊎_elim (λ e. absurd (f x e)) (λ e. e) (cases_Bool (has freed x))
 
-celled_managed : (s : St) (r : Ordered s) (id : ℕ) (v : View) (x : Item) → x.role ≡ 0 → v.heard_owns ≡ [] → v.heard ≡ [] → Owns v x.role → Owns v (caller_line x.kept.entry.made.caller) → get_elem? s.views id ≡ some v
-    → IsBelow x.kept.entry.number (of_line 0 r.whole) → ((i : ℕ) → IsBelow x.kept.entry.number (of_line i r.whole)) → NoDebt v → MaySet v (marked x.kept) → ((c m : ℕ) → marked x.kept ≡ Some (c, m) → (y : ℕ) → has x.kept.freed y ≡ false) → ((m : ℕ) → has x.kept.freed m ≡ true → 0 < r.gate)
+celled_managed : (s : St) (r : Ordered s) (id : ℕ) (v : View) (x : Item) → x.role ≡ 0 → v.heard_owns ≡ []
+    → v.heard ≡ [] → Owns v x.role → Owns v (caller_line x.kept.entry.made.caller) → get_elem? s.views id ≡ some v
+    → IsBelow x.kept.entry.number (of_line 0 r.whole) → ((i : ℕ) → IsBelow x.kept.entry.number (of_line i r.whole)) → NoDebt v → MaySet v (marked x.kept)
+    → ((c m : ℕ) → marked x.kept ≡ Some (c, m) → (y : ℕ) → has x.kept.freed y ≡ false) → ((m : ℕ) → has x.kept.freed m ≡ true → 0 < r.gate)
     → (words' : List ℕ) → ((c : ℕ) → get_or words' (2 + c) 0 ≡ get_or s.words (2 + c) 0) → x.role < 10
     → Celled (of_line 0 r.whole ++ x.kept ∷ []) r.gate words' (set s.views id (appended v x.role x.kept))
 celled_managed s r id v x first bare bare' a b here below all_below paid may clean frees words' same small =
@@ -144,7 +151,8 @@ celled_managed s r id v x first bare bare' a b here below all_below paid may cle
     let owns = subst (Owns v) first a in
     let all : known v 0 ≡ ml = (mine.owned 0 owns).1 in
     let my_debts = r.celled.each_debt id v here in
-    let row_is : (c : ℕ) → c < 64 → at false w.debts c ≡ owes_after ml k c = λ c l. ap (λ d. at false d c) (if_true (x.role == 0) (by_place 64 (owes_after (known v 0) k)) v.debts (eq-eqb x.role 0 first))
+    let row_is : (c : ℕ) → c < 64 → at false w.debts c ≡ owes_after ml k c = λ c l. ap (λ d. at false d c)
+    (if_true (x.role == 0) (by_place 64 (owes_after (known v 0) k)) v.debts (eq-eqb x.role 0 first))
     ∙ (at_by_place 64 (owes_after (known v 0) k) c l ∙ ap (λ ks. owes_after ks k c) all) in
     let sets : (d m : ℕ) → marked k ≡ Some (d, m) → (target ml d ≡ None) × (is_freed ml m ≡ false) × ((y : ℕ) → has k.freed y ≡ false) = λ d m e. let t = may d m e in
     (subst (λ ks. target ks d ≡ None) all t.2, subst (λ ks. is_freed ks m ≡ false) all t.3, clean d m e) in
@@ -154,7 +162,8 @@ celled_managed s r id v x first bare bare' a b here below all_below paid may cle
       debt = λ c. at false w.debts c;
       nonempty = λ c o. omega arith;
       cells = λ c l. subst (λ (z : Bool × ℕ). CellIs (ml ++ k ∷ []) r.gate z.0 c z.1) (λ i. (sym (row_is c l) i, sym (same c) i))
-          (cell_after ml k r.gate c (get_or s.words (2 + c) 0) below (settled_cell ml r.gate (r.celled.debt c) c (get_or s.words (2 + c) 0) (none_owed ml r.celled.debt v my_debts owns paid c) (r.celled.cells c l))
+          (cell_after ml k r.gate c (get_or s.words (2 + c) 0) below
+          (settled_cell ml r.gate (r.celled.debt c) c (get_or s.words (2 + c) 0) (none_owed ml r.celled.debt v my_debts owns paid c) (r.celled.cells c l))
           sets frees);
       real = λ c m e. ⊎_elim (λ t. r.celled.real c m t) (λ t. (may c m t).1) (target_cases c m ml k e);
       each_debt = seats (λ j. Debts (ml ++ k ∷ []) (λ c. at false w.debts c)) s.views id w
@@ -173,12 +182,15 @@ celled_managed s r id v x first bare bare' a b here below all_below paid may cle
           (λ o. other (sym (theirs.owned 0 o).0 ∙ (mine.owned 0 owns).0)) (λ o. other (sym (theirs.heard_owned 0 o).0 ∙ (mine.owned 0 owns).0)) (theirs.begins 0) (theirs.heard 0));
       each_load = seats (λ j u. 0 < u.inside → EachLoad (ml ++ k ∷ []) u u.loads) s.views id w (λ l. tt)
           (λ j u other at_j l. let theirs = r.each_seat j u at_j in let is_open = ((r.each_gate j u at_j).inside l).1 in
-          loads_more ml k k.entry.number u u.loads refl below (λ i. below_begins k.entry.number (known u i) (of_line i r.whole) (theirs.begins i) (all_below i)) (λ d m e. let t = sets d m e in (t.0, t.1))
+          loads_more ml k k.entry.number u u.loads refl below (λ i. below_begins k.entry.number (known u i) (of_line i r.whole) (theirs.begins i) (all_below i))
+          (λ d m e. let t = sets d m e in (t.0, t.1))
           (no_free k.freed (λ m h. let p = frees m h in omega arith)) (r.celled.each_load j u at_j l));
     }
 
-celled_other : (s : St) (r : Ordered s) (id : ℕ) (v : View) (x : Item) → is_in 0 x ≡ false → v.heard_owns ≡ [] → v.heard ≡ [] → Owns v x.role → Owns v (caller_line x.kept.entry.made.caller) → get_elem? s.views id ≡ some v
-    → marked x.kept ≡ None → (words' : List ℕ) → ((c : ℕ) → get_or words' (2 + c) 0 ≡ get_or s.words (2 + c) 0) → x.role < 10 → Celled (of_line 0 r.whole) r.gate words' (set s.views id (appended v x.role x.kept))
+celled_other : (s : St) (r : Ordered s) (id : ℕ) (v : View) (x : Item) → is_in 0 x ≡ false → v.heard_owns ≡ []
+    → v.heard ≡ [] → Owns v x.role → Owns v (caller_line x.kept.entry.made.caller) → get_elem? s.views id ≡ some v
+    → marked x.kept ≡ None → (words' : List ℕ) → ((c : ℕ) → get_or words' (2 + c) 0 ≡ get_or s.words (2 + c) 0)
+    → x.role < 10 → Celled (of_line 0 r.whole) r.gate words' (set s.views id (appended v x.role x.kept))
 celled_other s r id v x out bare bare' a b here unmarked words' same small =
     let w : View = appended v x.role x.kept in
     let my_debts = r.celled.each_debt id v here in
@@ -202,7 +214,8 @@ celled_other s r id v x out bare bare' a b here unmarked words' same small =
     (seats (λ j u. 0 < u.inside → EachLoad (of_line 0 r.whole) u u.loads) s.views id w (λ l. tt) (λ j u other at_j. r.celled.each_load j u at_j))
 
 -- an append: the word rises by one, and the seat's entry has the number found
-pub appends : (slots id : ℕ) (me : M) (role : ℕ) (made : Made) (aim : Option MNum) (freed : List MNum) → IsCompared me.0 → IsThread made.caller → IsInRole role made → Owns me.0 role → Owns me.0 (caller_line made.caller)
+pub appends : (slots id : ℕ) (me : M) (role : ℕ) (made : Made) (aim : Option MNum) (freed : List MNum)
+    → IsCompared me.0 → IsThread made.caller → IsInRole role made → Owns me.0 role → Owns me.0 (caller_line made.caller)
     → length (known me.0 role) < 4294967295 → MayMake me.0 role made aim → Allows Ordered slots id me 0 (λ n. (n + 1) % 2 ^ 64) (Appended role made aim freed (step slots 0 1 0 none) me)
 appends slots id me role made aim freed compared caller stands a b room may s r _ here _ =
     let bare : me.0.heard_owns ≡ [] = compared.owns in
@@ -225,9 +238,15 @@ appends slots id me role made aim freed compared caller stands a b room may s r 
     let place : ℕ = caller_place made.caller in
     let d : PinDeed = pin_owed me.0 made in
     let mine_own = mine.owned (caller_line made.caller) b in
-    let held_bit : (y : ℕ) → d ≡ fills y → HasBit (get_or s.words 1 0) me.0.owns me.0.inside × (r.gate ≡ 0) = λ y e. my_gate.inside (let f = (may_pins.fills y e).3 in let l = one-le-pow place 2 (omega arith) in omega arith) in
-    let apart : (k : ℕ) → k ≢ place → of_line (k + 10) (r.whole ++ x ∷ []) ≡ of_line (k + 10) r.whole = λ k other. of_line_out (k + 10) r.whole x (⊎_elim (λ e. absurd (⊎_elim (λ c. omega arith) (λ c. let c' : k + 10 ≡ place + 10 = c in other (omega arith)) (in_cases (k + 10) x e))) (λ e. e) (cases_Bool (is_in (k + 10) x))) in
-    let now : pin (of_line (place + 10) (r.whole ++ x ∷ [])) ≡ pin_after (pin (of_line (place + 10) r.whole)) d = ap pin (of_line_in (caller_line made.caller) r.whole x (caller_in (caller_line made.caller) x refl)) ∙ (pin_more (of_line (caller_line made.caller) r.whole) x.kept ∙ (sym (owing_after (pin (of_line (caller_line made.caller) r.whole)) (pin_deed made.caller made.op made.reply)) ∙ ap (λ ks. pin_after (pin (of_line (caller_line made.caller) r.whole)) (owing (pin ks) (pin_deed made.caller made.op made.reply))) (sym mine_own.1))) in
+    let held_bit : (y : ℕ) → d ≡ fills y → HasBit (get_or s.words 1 0) me.0.owns me.0.inside
+    × (r.gate ≡ 0) = λ y e. my_gate.inside (let f = (may_pins.fills y e).3 in let l = one-le-pow place 2 (omega arith) in omega arith) in
+    let apart : (k : ℕ) → k ≢ place → of_line (k + 10) (r.whole ++ x ∷ []) ≡ of_line (k + 10) r.whole = λ k other. of_line_out (k + 10) r.whole x
+    (⊎_elim (λ e. absurd (⊎_elim (λ c. omega arith) (λ c. let c' : k + 10 ≡ place + 10 = c in other (omega arith)) (in_cases (k + 10) x e))) (λ e. e) (cases_Bool (is_in (k + 10) x))) in
+    let now : pin (of_line (place + 10) (r.whole ++ x ∷ [])) ≡ pin_after (pin (of_line (place + 10) r.whole)) d = ap pin
+    (of_line_in (caller_line made.caller) r.whole x (caller_in (caller_line made.caller) x refl))
+    ∙ (pin_more (of_line (caller_line made.caller) r.whole) x.kept
+    ∙ (sym (owing_after (pin (of_line (caller_line made.caller) r.whole)) (pin_deed made.caller made.op made.reply))
+    ∙ ap (λ ks. pin_after (pin (of_line (caller_line made.caller) r.whole)) (owing (pin ks) (pin_deed made.caller made.op made.reply))) (sym mine_own.1))) in
     let taken : (y : Var) → made.op ≡ op.Line (act.Take y) → at 0 x.kept.pins place ≡ pin (of_line (caller_line made.caller) r.whole) = λ y f.
     ap (λ o. at 0 (pins_kept me.0 made.caller o) place) f ∙ (at_put_here 0 [] place (pin (known me.0 (caller_line made.caller))) ∙ ap pin mine_own.1) in
     let all_below : (i : ℕ) → IsBelow n (of_line i r.whole) = λ i. below_line i 0 n r.whole r.numbers (omega arith) in (
@@ -239,7 +258,12 @@ appends slots id me role made aim freed compared caller stands a b room may s r 
         owner = r.owner;
         gate = r.gate;
         small = r.small;
-        words = (length-set s.words 0 ((n + 1) % 2 ^ 64) ∙ r.words.0, get_or-set_same s.words 0 ((n + 1) % 2 ^ 64) 0 (let l = r.words.0 in omega arith) ∙ omega arith, ap (λ n. n / 512) gate_word ∙ r.words.2);
+        words = (
+          length-set s.words 0 ((n + 1) % 2 ^ 64) ∙ r.words.0,
+          get_or-set_same s.words 0 ((n + 1) % 2 ^ 64) 0 (let l = r.words.0 in omega arith)
+              ∙ omega arith,
+          ap (λ n. n / 512) gate_word ∙ r.words.2,
+        );
         numbers = numbers;
         limit = λ i l. ⊎_elim
             (λ e. let longer_by : length (of_line i (r.whole ++ x ∷ [])) ≡ length (of_line i r.whole) + 1 = ap length (of_line_in i r.whole x e) ∙ length-append (of_line i r.whole) (x.kept ∷ []) in
@@ -290,12 +314,17 @@ appends slots id me role made aim freed compared caller stands a b room may s r 
             (λ e. waiting_other r.whole r.gate s.views (set s.views id w) x (of_line_out 0 r.whole x e) r.waiting
             record {
               sets = λ first. absurd (both_ways (is_in 0 x) e (role_in 0 x (sym first)));
-              others = λ other. (others_mark role made.caller made.op aim (λ z. (stands.peer z).1) (λ z. (stands.reader z).0) small other, others_free role made.caller made.op freed (λ z. (stands.peer z).1) (λ z. (stands.reader z).0) other);
-              pending = (λ reader k p. let t = may.pending reader k p in subst (λ (z : List KeptEntry × ℕ). Unknown (of_line 0 r.whole) z.0 z.1) (λ i. ((mine.owned (caller_line made.caller) b).1 i, t.1 i))
+              others = λ other. (
+                others_mark role made.caller made.op aim (λ z. (stands.peer z).1) (λ z. (stands.reader z).0) small other,
+                others_free role made.caller made.op freed (λ z. (stands.peer z).1) (λ z. (stands.reader z).0) other,
+              );
+              pending = (λ reader k p. let t = may.pending reader k p in
+                  subst (λ (z : List KeptEntry × ℕ). Unknown (of_line 0 r.whole) z.0 z.1) (λ i. ((mine.owned (caller_line made.caller) b).1 i, t.1 i))
                   (my_wait.unknown (let l = t.0 in let same = t.1 in omega arith) (caller_place made.caller) b));
               read = λ reader c w e f. let t = may.reads reader c w e f in let gate_is = (my_gate.inside t.0).1 in (
                 r.held.0 gate_is,
-                subst (λ ks. ReadsWord (of_line 0 r.whole) ks c w) (mine.owned (caller_line made.caller) b).1 (load_there (of_line 0 r.whole) me.0 me.0.loads c w (r.celled.each_load id me.0 here t.0) t.1 (caller_place made.caller) b),
+                subst (λ ks. ReadsWord (of_line 0 r.whole) ks c w) (mine.owned (caller_line made.caller) b).1
+                    (load_there (of_line 0 r.whole) me.0 me.0.loads c w (r.celled.each_load id me.0 here t.0) t.1 (caller_place made.caller) b),
               );
               filled = λ reader m e. sym (ap pin (mine.owned (caller_line made.caller) b).1) ∙ (may.pinned reader).0 m e;
               unfilled = λ reader e. sym (ap pin (mine.owned (caller_line made.caller) b).1) ∙ (may.pinned reader).1 e;
@@ -315,8 +344,10 @@ appends slots id me role made aim freed compared caller stands a b room may s r 
             (λ z. inr ((r.each_gate j u at_j).owner o ∙ z)) z) (filling_last d (r.gate ≡ 0) (λ y e. (held_bit y e).1)))
             apart now (r.scanned j u at_j));
         pinned = subst (λ b. Pinned (r.whole ++ x ∷ []) r.owner r.gate b (set s.words 0 ((n + 1) % 2 ^ 64)) (set s.views id w)) (sym gate_word)
-            (pinned_entry r.whole (r.whole ++ x ∷ []) r.owner r.gate (get_or s.words 1 0) s.words (set s.words 0 ((n + 1) % 2 ^ 64)) s.views (set s.views id w) r.pinned id role place me.0 w d here (within s.views id me.0 here)
-            mine_own.0 (mine.owned role a).0 (λ reads. let t = may.paid reads in (t.1, t.2)) may_pins mine_own.1 (filling d (HasBit (get_or s.words 1 0) me.0.owns me.0.inside) (λ y e. (held_bit y e).0)) (filling_last d (r.gate ≡ 0) (λ y e. (held_bit y e).1))
+            (pinned_entry r.whole (r.whole ++ x ∷ []) r.owner r.gate (get_or s.words 1 0) s.words (set s.words 0 ((n + 1) % 2 ^ 64)) s.views
+            (set s.views id w) r.pinned id role place me.0 w d here (within s.views id me.0 here)
+            mine_own.0 (mine.owned role a).0 (λ reads. let t = may.paid reads in (t.1, t.2)) may_pins mine_own.1
+            (filling d (HasBit (get_or s.words 1 0) me.0.owns me.0.inside) (λ y e. (held_bit y e).0)) (filling_last d (r.gate ≡ 0) (λ y e. (held_bit y e).1))
             apart
             now
             (λ k. get_or-set_other s.words 0 (65 + k) ((n + 1) % 2 ^ 64) 0 (λ z. omega arith)) (let l = length-set s.views id w in omega arith) refl refl
@@ -324,10 +355,13 @@ appends slots id me role made aim freed compared caller stands a b room may s r 
         celled = ⊎_elim
             (λ e. let first : role ≡ 0 = sym (⊎_elim (λ c. c) (λ c. absurd (let c' : 0 ≡ caller_place made.caller + 10 = c in omega arith)) (in_cases 0 x e)) in
             subst (λ ks. Celled ks r.gate (set s.words 0 ((n + 1) % 2 ^ 64)) (set s.views id w)) (sym (of_line_in 0 r.whole x e))
-            (celled_managed s r id me.0 x first bare bare' a b here (all_below 0) all_below (may.paid (λ z. omega arith)).0 (may.cells first) (λ c m e y. ap (λ ms. has ms y) (sets_frees_none made.op made.caller aim freed c m e))
-            (frees_held me.0 r.gate made.op freed (my_gate.owner (subst (Owns me.0) first a)) (subst (λ ks. IsHeldFor r.gate (stage ks)) (sym (mine.owned 0 (subst (Owns me.0) first a)).1) r.held) (may.cycles first)) (set s.words 0 ((n + 1) % 2 ^ 64)) (λ c. get_or-set_other s.words 0 (2 + c) ((n + 1) % 2 ^ 64) 0 (λ z. omega arith)) small))
+            (celled_managed s r id me.0 x first bare bare' a b here (all_below 0) all_below (may.paid (λ z. omega arith)).0
+            (may.cells first) (λ c m e y. ap (λ ms. has ms y) (sets_frees_none made.op made.caller aim freed c m e))
+            (frees_held me.0 r.gate made.op freed (my_gate.owner (subst (Owns me.0) first a)) (subst (λ ks. IsHeldFor r.gate (stage ks)) (sym (mine.owned 0 (subst (Owns me.0) first a)).1) r.held)
+            (may.cycles first)) (set s.words 0 ((n + 1) % 2 ^ 64)) (λ c. get_or-set_other s.words 0 (2 + c) ((n + 1) % 2 ^ 64) 0 (λ z. omega arith)) small))
             (λ e. subst (λ ks. Celled ks r.gate (set s.words 0 ((n + 1) % 2 ^ 64)) (set s.views id w)) (sym (of_line_out 0 r.whole x e))
-            (celled_other s r id me.0 x e bare bare' a b here (others_mark role made.caller made.op aim (λ z. (stands.peer z).1) (λ z. (stands.reader z).0) small (λ z. both_ways (is_in 0 x) e (role_in 0 x (sym z)))) (set s.words 0 ((n + 1) % 2 ^ 64)) (λ c. get_or-set_other s.words 0 (2 + c) ((n + 1) % 2 ^ 64) 0 (λ z. omega arith)) small))
+            (celled_other s r id me.0 x e bare bare' a b here (others_mark role made.caller made.op aim (λ z. (stands.peer z).1) (λ z. (stands.reader z).0) small
+            (λ z. both_ways (is_in 0 x) e (role_in 0 x (sym z)))) (set s.words 0 ((n + 1) % 2 ^ 64)) (λ c. get_or-set_other s.words 0 (2 + c) ((n + 1) % 2 ^ 64) 0 (λ z. omega arith)) small))
             (cases_Bool (is_in 0 x));
       },
       (
@@ -419,7 +453,15 @@ opens_order = record {
     only_load (suc j) v e = absurd (some-ne-none v (sym e))
 
     fresh_gate : Gates 0 0 first_view
-    fresh_gate = record { owner = λ o. refl; other = λ o. (refl, λ l. absurd (omega arith)); heard_owner = λ o. refl; heard_other = λ o. (refl, λ l. absurd (omega arith)); inside = λ l. absurd (omega arith); owes = λ l. absurd (omega arith); one = λ l. refl }
+    fresh_gate = record {
+      owner = λ o. refl;
+      other = λ o. (refl, λ l. absurd (omega arith));
+      heard_owner = λ o. refl;
+      heard_other = λ o. (refl, λ l. absurd (omega arith));
+      inside = λ l. absurd (omega arith);
+      owes = λ l. absurd (omega arith);
+      one = λ l. refl;
+    }
 
     only_gate : (j : ℕ) (v : View) → get_elem? (first_view ∷ []) j ≡ some v → Gates 0 0 v
     only_gate zero v e = subst (Gates 0 0) (some-injective first_view v e) fresh_gate
@@ -496,7 +538,8 @@ cuts id v lines settled s r here =
       each_line = λ i l. ⊎_elim
           (λ (e : test i ≡ true). record {
             view = given lines v;
-            there = subst (λ k. get_elem? (set s.views id (giving lines v) ++ given lines v ∷ []) k ≡ some (given lines v)) (sym (took test new r.owner i e)) (at_last (set s.views id (giving lines v)) (given lines v) new (length-set s.views id (giving lines v)));
+            there = subst (λ k. get_elem? (set s.views id (giving lines v) ++ given lines v ∷ []) k ≡ some (given lines v))
+                (sym (took test new r.owner i e)) (at_last (set s.views id (giving lines v)) (given lines v) new (length-set s.views id (giving lines v)));
             owns = inl (at_common v.owns lines i ∙ e);
           })
           (λ (e : test i ≡ false).
@@ -519,25 +562,32 @@ cuts id v lines settled s r here =
       pinned = (let W : ℕ = get_or s.words 1 0 in
           let not_mine : (k : ℕ) → r.pinned.stores k ≡ true → r.owner (k + 10) ≡ id → ⊥ = not_storing r.whole r.owner r.gate W s.words s.views r.pinned id v here settled.stored.0 in
           let not_mine' : (k : ℕ) → r.pinned.clears k ≡ true → r.owner (k + 10) ≡ id → ⊥ = not_clearing r.whole r.owner r.gate W s.words s.views r.pinned id v here settled.stored.1 in
-          let still : (i : ℕ) → (r.owner i ≡ id → ⊥) → owner i ≡ r.owner i = λ i z. ⊎_elim (λ e. absurd (z (mine.owned i (and_parts (at false v.owns i) (at false lines i) e).0).0)) (λ e. left_alone test new r.owner i e) (cases_Bool (test i)) in
-          let long : length (set s.views id (giving lines v) ++ given lines v ∷ []) ≡ length s.views + 1 = length-append (set s.views id (giving lines v)) (given lines v ∷ []) ∙ ap (λ l. l + 1) (length-set s.views id (giving lines v)) in
+          let still : (i : ℕ) → (r.owner i ≡ id → ⊥) → owner i ≡ r.owner i = λ i z. ⊎_elim
+          (λ e. absurd (z (mine.owned i (and_parts (at false v.owns i) (at false lines i) e).0).0)) (λ e. left_alone test new r.owner i e) (cases_Bool (test i)) in
+          let long : length (set s.views id (giving lines v) ++ given lines v ∷ []) ≡ length s.views + 1 = length-append (set s.views id (giving lines v)) (given lines v ∷ [])
+          ∙ ap (λ l. l + 1) (length-set s.views id (giving lines v)) in
           pinned_keep r.whole r.whole r.owner owner r.gate r.gate W W s.words s.words s.views (set s.views id (giving lines v) ++ given lines v ∷ []) r.pinned (λ k. refl) (λ k l. refl)
           (λ k o. let t = r.pinned.storing k o in (t.2, t.3, still (1 + k) (λ z. not_mine k o (sym t.4 ∙ z)), still (k + 10) (not_mine k o)))
           (λ k o. let t = r.pinned.clearing k o in (still 0 (λ z. not_mine' k o (sym t.1 ∙ z)), still (k + 10) (not_mine' k o))) (omega arith)
           (λ j u e. ⊎_elim
           (λ (t : (j < length (set s.views id (giving lines v))) × (get_elem? (set s.views id (giving lines v)) j ≡ some u)).
-          seats (λ i x. (k : ℕ) → r.pinned.stores k ≡ true → r.owner (k + 10) ≡ i → x.fill ≡ k) s.views id (giving lines v) (λ k o z. absurd (not_mine k o z)) (λ i x other at_i. r.pinned.filler i x at_i) j u t.1)
-          (λ (t : (j ≡ length (set s.views id (giving lines v))) × (given lines v ≡ u)). λ k o z. absurd (let l = (r.pinned.storing k o).5 in let e' = t.0 in let e'' = length-set s.views id (giving lines v) in omega arith))
+          seats (λ i x. (k : ℕ) → r.pinned.stores k ≡ true → r.owner (k + 10) ≡ i → x.fill ≡ k) s.views id
+          (giving lines v) (λ k o z. absurd (not_mine k o z)) (λ i x other at_i. r.pinned.filler i x at_i) j u t.1)
+          (λ (t : (j ≡ length (set s.views id (giving lines v))) × (given lines v ≡ u)). λ k o z. absurd
+          (let l = (r.pinned.storing k o).5 in let e' = t.0 in let e'' = length-set s.views id (giving lines v) in omega arith))
           (at_end (set s.views id (giving lines v)) (given lines v) u j e))
           (λ j u e. ⊎_elim
           (λ (t : (j < length (set s.views id (giving lines v))) × (get_elem? (set s.views id (giving lines v)) j ≡ some u)).
-          seats (λ i x. (k : ℕ) → r.pinned.clears k ≡ true → r.owner (k + 10) ≡ i → x.empty ≡ k) s.views id (giving lines v) (λ k o z. absurd (not_mine' k o z)) (λ i x other at_i. r.pinned.clearer i x at_i) j u t.1)
-          (λ (t : (j ≡ length (set s.views id (giving lines v))) × (given lines v ≡ u)). λ k o z. absurd (let l = (r.pinned.clearing k o).2 in let e' = t.0 in let e'' = length-set s.views id (giving lines v) in omega arith))
+          seats (λ i x. (k : ℕ) → r.pinned.clears k ≡ true → r.owner (k + 10) ≡ i → x.empty ≡ k) s.views id
+          (giving lines v) (λ k o z. absurd (not_mine' k o z)) (λ i x other at_i. r.pinned.clearer i x at_i) j u t.1)
+          (λ (t : (j ≡ length (set s.views id (giving lines v))) × (given lines v ≡ u)). λ k o z. absurd
+          (let l = (r.pinned.clearing k o).2 in let e' = t.0 in let e'' = length-set s.views id (giving lines v) in omega arith))
           (at_end (set s.views id (giving lines v)) (given lines v) u j e)));
       celled = celled_same (of_line 0 r.whole) r.gate r.gate s.words s.words s.views (set s.views id (giving lines v) ++ given lines v ∷ []) r.celled (λ c. refl) (λ c o h. h)
           (λ j u e. ⊎_elim
           (λ (t : (j < length (set s.views id (giving lines v))) × (get_elem? (set s.views id (giving lines v)) j ≡ some u)).
-          seats (λ k. Debts (of_line 0 r.whole) r.celled.debt) s.views id (giving lines v) (debts_giving (of_line 0 r.whole) r.celled.debt v lines (r.celled.each_debt id v here) settled) (λ k w other at_k. r.celled.each_debt k w at_k) j u t.1)
+          seats (λ k. Debts (of_line 0 r.whole) r.celled.debt) s.views id (giving lines v)
+          (debts_giving (of_line 0 r.whole) r.celled.debt v lines (r.celled.each_debt id v here) settled) (λ k w other at_k. r.celled.each_debt k w at_k) j u t.1)
           (λ (t : (j ≡ length (set s.views id (giving lines v))) × (given lines v ≡ u)).
           subst (Debts (of_line 0 r.whole) r.celled.debt) t.1 (debts_given (of_line 0 r.whole) r.celled.debt v lines (r.celled.each_debt id v here) settled))
           (at_end (set s.views id (giving lines v)) (given lines v) u j e))
@@ -596,7 +646,8 @@ takes_in id v other w settled settled' s r here apart there' =
             heard_owned = λ i o. (took test id r.owner i o, (theirs.owned i o).1);
           })
           (λ k x not_id at_k not_other'. let k_knows = r.each_seat k x at_k in
-          let still : (i : ℕ) → r.owner i ≡ k → owner i ≡ k = λ i t. ⊎_elim (λ e. absurd (not_other' (sym t ∙ (theirs.owned i e).0))) (λ e. left_alone test id r.owner i e ∙ t) (cases_Bool (test i)) in record {
+          let still : (i : ℕ) → r.owner i ≡ k → owner i ≡ k = λ i t. ⊎_elim (λ e. absurd (not_other' (sym t ∙ (theirs.owned i e).0))) (λ e. left_alone test id r.owner i e ∙ t) (cases_Bool (test i)) in
+          record {
             begins = k_knows.begins;
             heard = k_knows.heard;
             owned = λ i o. let t = k_knows.owned i o in (still i t.0, t.1);
@@ -631,15 +682,19 @@ takes_in id v other w settled settled' s r here apart there' =
           (λ k o. let t = r.pinned.clearing k o in (still 0 (λ z. not_theirs' k o (sym t.1 ∙ z)), still (k + 10) (not_theirs' k o)))
           (let a = length-set (set s.views id (hearing v w)) other spent_view in let b = length-set s.views id (hearing v w) in omega arith)
           (seats (λ i x. (k : ℕ) → r.pinned.stores k ≡ true → r.owner (k + 10) ≡ i → x.fill ≡ k) (set s.views id (hearing v w)) other spent_view (λ k o z. absurd (not_theirs k o z))
-          (λ j u _ at_j. seats (λ i x. (k : ℕ) → r.pinned.stores k ≡ true → r.owner (k + 10) ≡ i → x.fill ≡ k) s.views id (hearing v w) (λ k o z. absurd (not_mine k o z)) (λ i x _ at_i. r.pinned.filler i x at_i) j u at_j))
+          (λ j u _ at_j. seats (λ i x. (k : ℕ) → r.pinned.stores k ≡ true → r.owner (k + 10) ≡ i → x.fill ≡ k) s.views id
+          (hearing v w) (λ k o z. absurd (not_mine k o z)) (λ i x _ at_i. r.pinned.filler i x at_i) j u at_j))
           (seats (λ i x. (k : ℕ) → r.pinned.clears k ≡ true → r.owner (k + 10) ≡ i → x.empty ≡ k) (set s.views id (hearing v w)) other spent_view (λ k o z. absurd (not_theirs' k o z))
-          (λ j u _ at_j. seats (λ i x. (k : ℕ) → r.pinned.clears k ≡ true → r.owner (k + 10) ≡ i → x.empty ≡ k) s.views id (hearing v w) (λ k o z. absurd (not_mine' k o z)) (λ i x _ at_i. r.pinned.clearer i x at_i) j u at_j)));
+          (λ j u _ at_j. seats (λ i x. (k : ℕ) → r.pinned.clears k ≡ true → r.owner (k + 10) ≡ i → x.empty ≡ k) s.views id
+          (hearing v w) (λ k o z. absurd (not_mine' k o z)) (λ i x _ at_i. r.pinned.clearer i x at_i) j u at_j)));
       celled = celled_same (of_line 0 r.whole) r.gate r.gate s.words s.words s.views (set (set s.views id (hearing v w)) other spent_view) r.celled (λ c. refl) (λ c o h. h)
           (seats (λ j. Debts (of_line 0 r.whole) r.celled.debt) (set s.views id (hearing v w)) other spent_view (debts_spent (of_line 0 r.whole) r.celled.debt r.celled.nonempty)
           (λ j u _ at_j. seats (λ k. Debts (of_line 0 r.whole) r.celled.debt) s.views id (hearing v w)
-          (debts_hearing (of_line 0 r.whole) r.celled.debt v w (r.celled.each_debt id v here) (r.celled.each_debt other w theirs_at) settled settled') (λ k x _ at_k. r.celled.each_debt k x at_k) j u at_j))
+          (debts_hearing (of_line 0 r.whole) r.celled.debt v w (r.celled.each_debt id v here) (r.celled.each_debt other w theirs_at) settled settled')
+          (λ k x _ at_k. r.celled.each_debt k x at_k) j u at_j))
           (seats (λ j x. 0 < x.inside → EachLoad (of_line 0 r.whole) x x.loads) (set s.views id (hearing v w)) other spent_view (λ l. tt)
-          (λ j u _ at_j. seats (λ k x. 0 < x.inside → EachLoad (of_line 0 r.whole) x x.loads) s.views id (hearing v w) (no_bit v.inside settled.outside) (λ k x _ at_k. r.celled.each_load k x at_k) j u at_j));
+          (λ j u _ at_j. seats (λ k x. 0 < x.inside → EachLoad (of_line 0 r.whole) x x.loads) s.views id
+          (hearing v w) (no_bit v.inside settled.outside) (λ k x _ at_k. r.celled.each_load k x at_k) j u at_j));
       scanned = seats (λ j. Scans r.whole) (set s.views id (hearing v w)) other spent_view (no_scans r.whole spent_view refl)
           (λ j u _ at_j. seats (λ k. Scans r.whole) s.views id (hearing v w) (no_scans r.whole (hearing v w) refl) (λ k x _ at_k. r.scanned k x at_k) j u at_j);
       waiting = waiting_views r.whole r.gate s.views (set (set s.views id (hearing v w)) other spent_view) r.waiting
@@ -653,8 +708,10 @@ compares slots id me out s r _ here _ =
     let mine = r.each_seat id me.0 here in
     let w : View = learned me.0 in
     let is : (i : ℕ) → known w i ≡ longer (known me.0 i) (at [] me.0.heard i) = λ i. at_longest me.0.known me.0.heard i in
-    let owned_is : (i : ℕ) → Owns me.0 i → known w i ≡ known me.0 i = λ i o. let t = (mine.owned i o).1 in is i ∙ (ap (λ ks. longer ks (at [] me.0.heard i)) t ∙ (whole_longer (of_line i r.whole) (at [] me.0.heard i) (mine.heard i) ∙ sym t)) in
-    let taken_is : (i : ℕ) → at false me.0.heard_owns i ≡ true → known w i ≡ at [] me.0.heard i = λ i o. let t = (mine.heard_owned i o).1 in is i ∙ (ap (longer (known me.0 i)) t ∙ (longer_whole (known me.0 i) (of_line i r.whole) (mine.begins i) ∙ sym t)) in (
+    let owned_is : (i : ℕ) → Owns me.0 i → known w i ≡ known me.0 i = λ i o. let t = (mine.owned i o).1 in is i
+    ∙ (ap (λ ks. longer ks (at [] me.0.heard i)) t ∙ (whole_longer (of_line i r.whole) (at [] me.0.heard i) (mine.heard i) ∙ sym t)) in
+    let taken_is : (i : ℕ) → at false me.0.heard_owns i ≡ true → known w i ≡ at [] me.0.heard i = λ i o. let t = (mine.heard_owned i o).1 in is i
+    ∙ (ap (longer (known me.0 i)) t ∙ (longer_whole (known me.0 i) (of_line i r.whole) (mine.begins i) ∙ sym t)) in (
       w,
       keeps,
       tt,
@@ -678,7 +735,8 @@ compares slots id me out s r _ here _ =
               heard_owned = λ i o. absurd (true≢false (sym o));
             }
             (λ j u other at_j. r.each_seat j u at_j);
-        each_line = λ i l. owner_set s.views i (r.owner i) id me.0 w here (λ o. inl (at_joined me.0.owns me.0.heard_owns i ∙ or_true (at false me.0.owns i) (at false me.0.heard_owns i) o)) (r.each_line i l);
+        each_line = λ i l. owner_set s.views i (r.owner i) id me.0 w here
+            (λ o. inl (at_joined me.0.owns me.0.heard_owns i ∙ or_true (at false me.0.owns i) (at false me.0.heard_owns i) o)) (r.each_line i l);
         each_gate = seats (λ j. Gates r.gate (get_or s.words 1 0)) s.views id w
             (gates_learned r.gate (get_or s.words 1 0) me.0 (r.each_gate id me.0 here)) (λ j u other at_j. r.each_gate j u at_j);
         pinned = pinned_keep r.whole r.whole r.owner r.owner r.gate r.gate (get_or s.words 1 0) (get_or s.words 1 0) s.words s.words s.views (set s.views id w) r.pinned (λ k. refl) (λ k l. refl)
@@ -686,7 +744,8 @@ compares slots id me out s r _ here _ =
             (seats (λ i x. (k : ℕ) → r.pinned.stores k ≡ true → r.owner (k + 10) ≡ i → x.fill ≡ k) s.views id w (r.pinned.filler id me.0 here) (λ i x _ at_i. r.pinned.filler i x at_i))
             (seats (λ i x. (k : ℕ) → r.pinned.clears k ≡ true → r.owner (k + 10) ≡ i → x.empty ≡ k) s.views id w (r.pinned.clearer id me.0 here) (λ i x _ at_i. r.pinned.clearer i x at_i));
         celled = celled_same (of_line 0 r.whole) r.gate r.gate s.words s.words s.views (set s.views id w) r.celled (λ c. refl) (λ c o h. h)
-            (seats (λ j. Debts (of_line 0 r.whole) r.celled.debt) s.views id w (debts_learned (of_line 0 r.whole) r.celled.debt me.0 r.celled.nonempty (r.celled.each_debt id me.0 here) owned_is taken_is
+            (seats (λ j. Debts (of_line 0 r.whole) r.celled.debt) s.views id w
+            (debts_learned (of_line 0 r.whole) r.celled.debt me.0 r.celled.nonempty (r.celled.each_debt id me.0 here) owned_is taken_is
             (subst (IsPrefix (known me.0 0)) (sym (is 0)) (first_begins_longer (known me.0 0) (at [] me.0.heard 0) (of_line 0 r.whole) (mine.begins 0) (mine.heard 0)))
             (subst (IsPrefix (at [] me.0.heard 0)) (sym (is 0)) (second_begins_longer (known me.0 0) (at [] me.0.heard 0) (of_line 0 r.whole) (mine.begins 0) (mine.heard 0))))
             (λ j u other at_j. r.celled.each_debt j u at_j))
@@ -760,16 +819,19 @@ settled_learned v w u s t told = subst Settled (sym told.is) record {
   paid = s.paid;
   stored = s.stored;
   gate = λ o. ⊎_elim
-      (λ (e : at false v.owns 0 ≡ true). subst (λ h. ((h ≡ 0) × IsClosed (known (learned (hearing v w)) 0)) ⊎ ((0 < h) × IsOpen (learned (hearing v w)) h)) (sym (if_true (at false v.owns 0) v.holds w.holds e))
+      (λ (e : at false v.owns 0 ≡ true). subst (λ h. ((h ≡ 0) × IsClosed (known (learned (hearing v w)) 0)) ⊎ ((0 < h) × IsOpen (learned (hearing v w)) h))
+      (sym (if_true (at false v.owns 0) v.holds w.holds e))
       (subst (λ ks. ((v.holds ≡ 0) × IsClosed ks) ⊎ ((0 < v.holds) × (stage ks ≡ 2 * v.holds))) (sym (told.owned 0 e) ∙ ap (λ x. known x 0) told.is) (s.gate e)))
-      (λ (e : at false v.owns 0 ≡ false). let e' = ⊎_elim (λ a. absurd (both_ways (at false v.owns 0) e a)) (λ a. a) (or_cases (at false v.owns 0) (at false w.owns 0) (sym (at_joined v.owns w.owns 0) ∙ o)) in
+      (λ (e : at false v.owns 0 ≡ false). let e' = ⊎_elim (λ a. absurd (both_ways (at false v.owns 0) e a))
+      (λ a. a) (or_cases (at false v.owns 0) (at false w.owns 0) (sym (at_joined v.owns w.owns 0) ∙ o)) in
       subst (λ h. ((h ≡ 0) × IsClosed (known (learned (hearing v w)) 0)) ⊎ ((0 < h) × IsOpen (learned (hearing v w)) h)) (sym (if_false (at false v.owns 0) v.holds w.holds e))
       (subst (λ ks. ((w.holds ≡ 0) × IsClosed ks) ⊎ ((0 < w.holds) × (stage ks ≡ 2 * w.holds))) (sym (told.taken 0 e') ∙ ap (λ x. known x 0) told.is) (t.gate e')))
       (cases_Bool (at false v.owns 0));
 }
 
 -- so is who has made a peer's entry, or one that leaves nothing to be done
-pub settled_appended : (v : View) (r : ℕ) (made : Made) (aim : Option MNum) (freed : List MNum) (n : ℕ) → IsInRole r made → (r ≡ 1) ⊎ IsQuiet (kept v made aim freed n) → Settled v → Settled (appended v r (kept v made aim freed n))
+pub settled_appended : (v : View) (r : ℕ) (made : Made) (aim : Option MNum) (freed : List MNum) (n : ℕ) → IsInRole r made
+    → (r ≡ 1) ⊎ IsQuiet (kept v made aim freed n) → Settled v → Settled (appended v r (kept v made aim freed n))
 settled_appended v r made aim freed n stands quiet s = record {
   outside = s.outside;
   clear = s.clear;

@@ -63,7 +63,8 @@ due_done v gate c (opens k) own may due = let a = may.1 in let b = due.0 in ap o
 due_done v gate c (ends k) own may due = let a : stage (known v 0) ≡ 2 * k = may in let b = due.1 in absurd (omega arith)
 due_done v gate c neither own may due = let b = due.1 in let e = due.0 in ⊎_elim (λ z. absurd (omega arith)) (λ (z : stage (known v 0) ≡ 2 * v.holds). absurd (omega arith)) may
 
-pub snapped_more : (v : View) (gate : ℕ) (k : KeptEntry) → v.holds ≡ gate → MayDo v (deed k.entry.made.op) → IsHeldFor gate (stage (known v 0)) → (0 < gate → 2 * gate ≤ stage (known v 0) → IsSnapped (known v 0) gate)
+pub snapped_more : (v : View) (gate : ℕ) (k : KeptEntry) → v.holds ≡ gate → MayDo v (deed k.entry.made.op)
+    → IsHeldFor gate (stage (known v 0)) → (0 < gate → 2 * gate ≤ stage (known v 0) → IsSnapped (known v 0) gate)
     → 0 < gate → 2 * gate ≤ stage (known v 0 ++ k ∷ []) → IsSnapped (known v 0 ++ k ∷ []) gate
 snapped_more v gate k own may held old pos far = by_deed (deed k.entry.made.op) refl may
   where
@@ -160,13 +161,15 @@ waiting_other whole gate vs ws x line w fit says each = record {
 }
 
 -- a managed entry
-pub waiting_managed : (whole : List Item) (gate n : ℕ) (vs ws : List View) (v : View) (x : Item) → Fits whole x → of_line 0 (whole ++ x ∷ []) ≡ known v 0 ++ x.kept ∷ [] → known v 0 ≡ of_line 0 whole → Waiting whole gate vs
+pub waiting_managed : (whole : List Item) (gate n : ℕ) (vs ws : List View) (v : View) (x : Item) → Fits whole x
+    → of_line 0 (whole ++ x ∷ []) ≡ known v 0 ++ x.kept ∷ [] → known v 0 ≡ of_line 0 whole → Waiting whole gate vs
     → x.role ≡ 0 → x.kept.entry.number ≡ n → IsBelow n (known v 0) → v.holds ≡ gate → MayDo v (deed x.kept.entry.made.op) → IsHeldFor gate (stage (known v 0))
     → ((j : ℕ) (v : View) → get_elem? ws j ≡ some v → Waits (whole ++ x ∷ []) gate v) → Waiting (whole ++ x ∷ []) gate ws
 waiting_managed whole gate n vs ws v x fit line all w managed is below own may held each = record {
   snapped = subst (λ ks. 0 < gate → 2 * gate ≤ stage ks → IsSnapped ks gate) (sym line)
       (snapped_more v gate x.kept own may held (subst (λ ks. 0 < gate → 2 * gate ≤ stage ks → IsSnapped ks gate) (sym all) w.snapped));
-  quiet = subst (λ ks. 0 < gate → (a b : KeptEntry) → Stands ks a → deed a.entry.made.op ≡ ends gate → Stands ks b → b.entry.number ≤ a.entry.number) (sym line) (quiet_more v gate n x.kept is below own may held);
+  quiet = subst (λ ks. 0 < gate → (a b : KeptEntry) → Stands ks a → deed a.entry.made.op ≡ ends gate → Stands ks b → b.entry.number ≤ a.entry.number)
+      (sym line) (quiet_more v gate n x.kept is below own may held);
   fits = fits_more [] whole x w.fits fit;
   pending = λ i y at_i reader k e. subst (λ ks. IsPending ks gate y.kept.entry.number k) (sym line) (⊎_elim
       (λ t. pending_more v gate n y.kept.entry.number k x.kept is below own may (subst (λ ks. IsPending ks gate y.kept.entry.number k) (sym all) (w.pending i y t reader k e)))
@@ -176,7 +179,8 @@ waiting_managed whole gate n vs ws v x fit line all w managed is below own may h
 }
 
 -- the gate is closed for the next cycle, or opened after the end of one
-pub waiting_closed : (whole : List Item) (k : ℕ) (vs ws : List View) → stage (of_line 0 whole) + 1 ≡ 2 * k → Waiting whole 0 vs → ((j : ℕ) (v : View) → get_elem? ws j ≡ some v → Waits whole k v) → Waiting whole k ws
+pub waiting_closed : (whole : List Item) (k : ℕ) (vs ws : List View) → stage (of_line 0 whole) + 1 ≡ 2 * k
+    → Waiting whole 0 vs → ((j : ℕ) (v : View) → get_elem? ws j ≡ some v → Waits whole k v) → Waiting whole k ws
 waiting_closed whole k vs ws next w each = record {
   snapped = λ pos far. absurd (omega arith);
   quiet = λ pos a b sa e sb. absurd (let l = ended_stage (of_line 0 whole) a k sa e in omega arith);
@@ -185,7 +189,8 @@ waiting_closed whole k vs ws next w each = record {
   each_wait = each;
 }
 
-pub waiting_opened : (whole : List Item) (g : ℕ) (vs ws : List View) → stage (of_line 0 whole) ≡ 2 * g + 1 → Waiting whole g vs → ((j : ℕ) (v : View) → get_elem? ws j ≡ some v → Waits whole 0 v) → Waiting whole 0 ws
+pub waiting_opened : (whole : List Item) (g : ℕ) (vs ws : List View) → stage (of_line 0 whole) ≡ 2 * g + 1
+    → Waiting whole g vs → ((j : ℕ) (v : View) → get_elem? ws j ≡ some v → Waits whole 0 v) → Waiting whole 0 ws
 waiting_opened whole g vs ws ended w each = record {
   snapped = λ pos far. absurd (omega arith);
   quiet = λ pos a b sa e sb. absurd (omega arith);

@@ -65,7 +65,8 @@ record Placed (n : ℕ) (xs : List Item) (x : Item) : Type 0 where
 
 placed : (n : ℕ) (xs : List Item) (x : Item) → RunsFrom n xs → Has xs x → Placed n xs x
 placed n [] x r h = absurd h
-placed n (y ∷ ys) x r (inl e) = let number = r.0.number in subst (Placed n (y ∷ ys)) e record { low = omega arith; high = omega arith; is = record { number = refl; caller = r.0.caller; stands = r.0.stands } }
+placed n (y ∷ ys) x r (inl e) = let number = r.0.number in subst (Placed n (y ∷ ys)) e
+    record { low = omega arith; high = omega arith; is = record { number = refl; caller = r.0.caller; stands = r.0.stands } }
 placed n (y ∷ ys) x r (inr h) = let p = placed (n + 1) ys x r.1 h in let low = p.low in let high = p.high in record { low = omega arith; high = omega arith; is = p.is }
 
 one_number : (n : ℕ) (xs : List Item) (x y : Item) → RunsFrom n xs → Has xs x → Has xs y → x.kept.entry.number ≡ y.kept.entry.number → x ≡ y
@@ -137,7 +138,8 @@ keeps_lists s r = record {
     stands = goes f.item.role r.whole f.item f.there (role_in f.item.role f.item refl);
     number = f.number ∙ omega arith;
   };
-  below = λ q a l st. let c = comes q r.whole a st in let high = (placed 0 r.whole c.item r.numbers c.there).high in let is = r.words.1 in let same = ap (λ (k : KeptEntry). k.entry.number) c.same in omega arith;
+  below = λ q a l st. let c = comes q r.whole a st in let high = (placed 0 r.whole c.item r.numbers c.there).high in
+      let is = r.words.1 in let same = ap (λ (k : KeptEntry). k.entry.number) c.same in omega arith;
   once = λ q p a b lq lp sa sb e. let c = comes q r.whole a sa in let d = comes p r.whole b sb in
       let same = one_number 0 r.whole c.item d.item r.numbers c.there d.there (ap (λ (k : KeptEntry). k.entry.number) c.same ∙ (e ∙ sym (ap (λ (k : KeptEntry). k.entry.number) d.same))) in
       (of_role q c.item lq c.into ∙ (ap (λ x. x.role) same ∙ sym (of_role p d.item lp d.into)), sym c.same ∙ (ap (λ x. x.kept) same ∙ d.same));
@@ -162,7 +164,8 @@ role_told q m s = let one = s.one in ⊎_elim
     (λ n. ⊎_elim
     (λ (e : q ≡ 1). e ∙ sym (ap (λ b. if b then 1 else if is_read m.op then reader_line m.caller else 0) (s.peer e).1))
     (λ n'. let t = s.reader (omega (arith, n, n')) in let here : q ≡ reader_line (M (q - 1)) = omega (arith, n) in
-    here ∙ sym (ap (λ (b : Bool × Bool × Thread). if b.0 then 1 else if b.1 then reader_line b.2 else 0) (λ i. ((ap (λ u. is_peer_event u m.op) t.1 ∙ read_of_managed (q - 1) m.op t.0) i, t.0 i, t.1 i))))
+    here ∙ sym (ap (λ (b : Bool × Bool × Thread). if b.0 then 1 else if b.1 then reader_line b.2 else 0)
+    (λ i. ((ap (λ u. is_peer_event u m.op) t.1 ∙ read_of_managed (q - 1) m.op t.0) i, t.0 i, t.1 i))))
     (cases_eq q 1))
     (cases_eq q 0)
 
@@ -173,7 +176,8 @@ numbered_from n (x ∷ xs) r = (r.0.number, numbered_from (n + 1) xs r.1)
 lines_told : (i n : ℕ) (xs : List Item) → RunsFrom n xs → line_entries (of_line i xs) ≡ entries_in i (entries_of xs)
 lines_told i n [] r = refl
 lines_told i n (x ∷ xs) r = let rest = lines_told i (n + 1) xs r.1 in
-    either_way (is_in i x) rest ∙ ap (λ b. if b then x.kept.entry ∷ entries_in i (entries_of xs) else entries_in i (entries_of xs)) (ap (λ q. (i == q) || (i == caller_line x.kept.entry.made.caller)) (role_told x.role x.kept.entry.made r.0.stands))
+    either_way (is_in i x) rest ∙ ap (λ b. if b then x.kept.entry ∷ entries_in i (entries_of xs) else entries_in i (entries_of xs))
+    (ap (λ q. (i == q) || (i == caller_line x.kept.entry.made.caller)) (role_told x.role x.kept.entry.made r.0.stands))
   where
     either_way : (b : Bool) → line_entries (of_line i xs) ≡ entries_in i (entries_of xs)
         → line_entries (if b then x.kept ∷ of_line i xs else of_line i xs) ≡ (if b then x.kept.entry ∷ entries_in i (entries_of xs) else entries_in i (entries_of xs))

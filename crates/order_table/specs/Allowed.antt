@@ -9,7 +9,8 @@ use Rattle.order_table.specs.declared.views.View.{View}
 use Rattle.joint_machine.specs.HistoryLines.{caller_line}
 use Rattle.order_table.specs.Rows.{at}
 use Rattle.order_table.specs.Stages.{IsClosed, Deed, opens, ends, neither, deed}
-use Rattle.order_table.specs.Owed.{IsNumber, fills, mark, marked, target, target_told, is_freed, read_of, word_of, IsLoaded, all_scanned, stays, deed_of_pin, pin}
+use Rattle.order_table.specs.Owed.{IsNumber, fills, mark, marked, target, target_told, is_freed, read_of, word_of}
+use Rattle.order_table.specs.Owed.{IsLoaded, all_scanned, stays, deed_of_pin, pin}
 use Rattle.order_table.specs.Views.{known, pin_owed, IsOpen, IsNext}
 
 -- no cell's word is owed, or none but that of one cell
@@ -45,7 +46,8 @@ MayDo v neither = (v.holds ≡ 0) ⊎ IsOpen v v.holds
 
 -- it may set a cell that isn't set, to an object that isn't freed
 abbrev pub MaySet : View → Option (ℕ × ℕ) → Type 0
-MaySet v p = (c m : ℕ) → p ≡ Some (c, m) → (c < 64) × IsNumber m × (target (known v 0) c ≡ None) × (is_freed (known v 0) m ≡ false)
+MaySet v p = (c m : ℕ) → p ≡ Some (c, m) → (c < 64) × IsNumber m
+    × (target (known v 0) c ≡ None) × (is_freed (known v 0) m ≡ false)
 
 -- the reply says that the cycle is pending
 abbrev pub SaysPending : Reply → ℕ → Type 0

@@ -46,13 +46,16 @@ pub record HasWholeLists (s : State (Unit {0}) View) : Type 0 where
   pub begins : (j : ℕ) (v : View) → get_elem? s.views j ≡ some v → (i : ℕ) → IsPrefix (known v i) (lists i)
   pub longest : (i : ℕ) → i < 27 → IsKnownBySomeSeat s.views i (lists i)
   pub whole : (j : ℕ) (v : View) → get_elem? s.views j ≡ some v → (i : ℕ) → Owns v i → known v i ≡ lists i
-  pub owner : (j k : ℕ) (v w : View) → get_elem? s.views j ≡ some v → get_elem? s.views k ≡ some w → (i : ℕ) → Owns v i → Owns w i → j ≡ k
+  pub owner : (j k : ℕ) (v w : View) → get_elem? s.views j ≡ some v
+      → get_elem? s.views k ≡ some w → (i : ℕ) → Owns v i → Owns w i → j ≡ k
   pub counted : (n : ℕ) → n < slice_index s.words 0 → IsNumberIn lists n
   pub below : (r : ℕ) (a : KeptEntry) → r < 10 → In (lists r) a → a.entry.number < slice_index s.words 0
-  pub once : (q r : ℕ) (a b : KeptEntry) → q < 10 → r < 10 → In (lists q) a → In (lists r) b → a.entry.number ≡ b.entry.number → (q ≡ r) × (a ≡ b)
+  pub once : (q r : ℕ) (a b : KeptEntry) → q < 10 → r < 10 → In (lists q) a
+      → In (lists r) b → a.entry.number ≡ b.entry.number → (q ≡ r) × (a ≡ b)
   pub limit : (r : ℕ) → r < 10 → length (lists r) ≤ 4294967295
   pub unwrapped : slice_index s.words 0 ≤ 42949672950
-  pub own : (t : Thread) (a : KeptEntry) → IsThread t → In (lists (caller_line t)) a → (a.entry.made.caller ≡ t) × ((r : ℕ) × (r < 10) × In (lists r) a)
+  pub own : (t : Thread) (a : KeptEntry) → IsThread t → In (lists (caller_line t)) a
+      → (a.entry.made.caller ≡ t) × ((r : ℕ) × (r < 10) × In (lists r) a)
   pub made : (r : ℕ) (a : KeptEntry) → r < 10 → In (lists r) a → In (lists (caller_line a.entry.made.caller)) a
 
 abbrev pub RuleKeepsLists : Type 0

@@ -26,7 +26,8 @@ use Rattle.order_table.specs.Owed as lists
 pub record IsNoteOf (x : Item) (n : Noted) : Type 0 where
   pub entry : n.entry ≡ x.kept.entry
   pub freed : (m : ℕ) → FreesObject n.told m → has x.kept.freed m ≡ true
-  pub set : (c : ℕ) → SetsCell n.entry.made.op c → n.entry.made.reply ≡ says.Ok → (m : ℕ) × (marked x.kept ≡ Some (c, m))
+  pub set : (c : ℕ) → SetsCell n.entry.made.op c
+      → n.entry.made.reply ≡ says.Ok → (m : ℕ) × (marked x.kept ≡ Some (c, m))
 
 abbrev pub AreNotes : List Item → List Noted → Type 0
 AreNotes [] [] = Unit {0}
@@ -54,19 +55,25 @@ pub record IsStateOf (before : List Item) (s : Managed) : Type 0 where
 
 -- each reader's entry has a reply that linked histories allow
 abbrev pub RepliesAreRight : List Item → Type 0
-RepliesAreRight whole = (ns : List Noted) (cells : List (Option ℕ)) → AreNotes whole ns → ((c : ℕ) → slot cells c ≡ target (of_line 0 whole) c)
+RepliesAreRight whole = (ns : List Noted) (cells : List (Option ℕ))
+    → AreNotes whole ns → ((c : ℕ) → slot cells c ≡ target (of_line 0 whole) c)
     → (i : ℕ) (x : Item) → get_elem? whole i ≡ some x → 2 ≤ x.role → (s : Managed) → IsStateOf (first_of i whole) s
-    → (k : ℕ) → ReadsCell x.kept.entry.made.op k → IsReadReply ns cells s i x.kept.entry.made.caller k x.kept.entry.made.reply
+    → (k : ℕ) → ReadsCell x.kept.entry.made.op k
+    → IsReadReply ns cells s i x.kept.entry.made.caller k x.kept.entry.made.reply
 
 -- the managed state that replays the first of these entries has the pins that their lines leave
 abbrev pub PinsAreReplayed : List Item → Type 0
 PinsAreReplayed whole = (ns : List Noted) → map (λ n. n.entry) ns ≡ entries_of whole → (i r : ℕ) → 0 < r → r < 9
-    → slot (replayed_reading opening_linkage (first_of i ns)).managed.managed.pins r ≡ object_of (pin (of_line (r + 10) (first_of i whole)))
+    → slot (replayed_reading opening_linkage (first_of i ns)).managed.managed.pins r ≡ object_of
+    (pin (of_line (r + 10) (first_of i whole)))
 
 -- the pins that are kept with a snapshot and with a `take` are those that the lines before it leave
 pub record KeepsPins (before : List Item) (x : Item) : Type 0 where
-  pub snapped : x.role ≡ 0 → (k : Cycle) → x.kept.entry.made.op ≡ op.Snap k → (r : ℕ) → 0 < r → r < 9 → at 0 x.kept.pins r ≡ pin (of_line (r + 10) before)
-  pub taken : (v : Var) → x.kept.entry.made.op ≡ op.Line (act.Take v) → at 0 x.kept.pins (caller_place x.kept.entry.made.caller) ≡ pin (of_line (caller_line x.kept.entry.made.caller) before)
+  pub snapped : x.role ≡ 0 → (k : Cycle) → x.kept.entry.made.op ≡ op.Snap k
+      → (r : ℕ) → 0 < r → r < 9 → at 0 x.kept.pins r ≡ pin (of_line (r + 10) before)
+  pub taken : (v : Var) → x.kept.entry.made.op ≡ op.Line (act.Take v)
+      → at 0 x.kept.pins (caller_place x.kept.entry.made.caller) ≡ pin
+      (of_line (caller_line x.kept.entry.made.caller) before)
 
 abbrev pub KeptPinsAreRight : List Item → Type 0
 KeptPinsAreRight whole = (i : ℕ) (x : Item) → get_elem? whole i ≡ some x → KeepsPins (first_of i whole) x

@@ -2,7 +2,8 @@
 -- on, and whose length is the sequencer word. Each line is what this history has of it, so of what two views know of a
 -- line the one begins the other. The words of the gate, the cells and the pins are what the lines say, but for what a
 -- seat still owes; and what readers answered is right by what stands before.
-use Rattle.std.specs.Prelude.{◌≡◌, ℕ, ◌+◌, ◌*◌, ◌/◌, ◌^◌, ◌<◌, ◌≤◌, ◌==◌, false, ◌||◌, nat_lt, Bool, true, if◌then◌else◌, ◌⊎◌, List, [], ◌∷◌, ◌++◌, Some, None, length, slice_index}
+use Rattle.std.specs.Prelude.{◌≡◌, ℕ, ◌+◌, ◌*◌, ◌/◌, ◌^◌, ◌<◌, ◌≤◌, ◌==◌, false, ◌||◌, nat_lt, Bool, true}
+use Rattle.std.specs.Prelude.{if◌then◌else◌, ◌⊎◌, List, [], ◌∷◌, ◌++◌, Some, None, length, slice_index}
 use Rattle.std.specs.Int.{bit_at}
 use mathlib.Core.Option.{some}
 use mathlib.Core.List.{IsPrefix}
@@ -75,7 +76,8 @@ pub record Gates (gate word : ℕ) (v : View) : Type 0 where
   pub owner : Owns v 0 → v.holds ≡ gate
   pub other : at false v.owns 0 ≡ false → (v.holds ≡ 0) × (0 < gate → stage (known v 0) ≤ 2 * gate)
   pub heard_owner : at false v.heard_owns 0 ≡ true → v.heard_holds ≡ gate
-  pub heard_other : at false v.heard_owns 0 ≡ false → (v.heard_holds ≡ 0) × (0 < gate → stage (at [] v.heard 0) ≤ 2 * gate)
+  pub heard_other : at false v.heard_owns 0 ≡ false → (v.heard_holds ≡ 0)
+      × (0 < gate → stage (at [] v.heard 0) ≤ 2 * gate)
   pub inside : 0 < v.inside → HasBit word v.owns v.inside × (gate ≡ 0)
   pub owes : 0 < v.owes → HasBit word v.owns v.owes
   pub one : 0 < v.inside → v.owes ≡ 0
@@ -83,7 +85,8 @@ pub record Gates (gate word : ℕ) (v : View) : Type 0 where
 -- the gate is held for the next cycle, for the open one, or for the one that has ended last; while a cycle is open it
 -- is held
 abbrev pub IsHeldFor : ℕ → ℕ → Type 0
-IsHeldFor gate stage = (gate ≡ 0 → (q : ℕ) × (stage ≡ 2 * q + 1)) × (0 < gate → (2 * gate ≤ stage + 1) × (stage ≤ 2 * gate + 1))
+IsHeldFor gate stage = (gate ≡ 0 → (q : ℕ) × (stage ≡ 2 * q + 1))
+    × (0 < gate → (2 * gate ≤ stage + 1) × (stage ≤ 2 * gate + 1))
 
 -- an entry stands in a list
 abbrev pub Stands : List KeptEntry → KeptEntry → Type 0
@@ -95,7 +98,8 @@ IsSnapped ml k = (a : KeptEntry) × Stands ml a × (deed a.entry.made.op ≡ ope
 
 -- the same, and each entry before it has a smaller number than n
 abbrev pub IsSnappedBefore : List KeptEntry → ℕ → ℕ → Type 0
-IsSnappedBefore ml n k = (a : KeptEntry) × Stands ml a × (deed a.entry.made.op ≡ opens k) × ((b : KeptEntry) → Stands ml b → b.entry.number < a.entry.number → b.entry.number < n)
+IsSnappedBefore ml n k = (a : KeptEntry) × Stands ml a × (deed a.entry.made.op ≡ opens k)
+    × ((b : KeptEntry) → Stands ml b → b.entry.number < a.entry.number → b.entry.number < n)
 
 -- the gate is held for the cycle, whose snap is still owed
 abbrev pub IsDue : ℕ → ℕ → ℕ → Type 0
@@ -103,7 +107,8 @@ IsDue gate stage k = (gate ≡ k) × (stage + 1 ≡ 2 * k)
 
 -- none of a caller's own entries stands at or after a managed entry later than the end of the cycle
 abbrev pub Unknown : List KeptEntry → List KeptEntry → ℕ → Type 0
-Unknown ml own k = (a b : KeptEntry) → Stands ml a → deed a.entry.made.op ≡ ends k → Stands ml b → a.entry.number < b.entry.number → IsBelow b.entry.number own
+Unknown ml own k = (a b : KeptEntry) → Stands ml a → deed a.entry.made.op ≡ ends k
+    → Stands ml b → a.entry.number < b.entry.number → IsBelow b.entry.number own
 
 -- an entry sets the cell
 abbrev pub SetsCell : KeptEntry → ℕ → Type 0
@@ -112,7 +117,8 @@ SetsCell k c = (m : ℕ) × (marked k ≡ Some (c, m))
 -- what a word of a cell says to a caller with these own entries: 0, that it is unset as far as the caller can know; 1,
 -- that its target is freed; another, that its target is the object, which isn't freed
 pub record ReadsWord (ml own : List KeptEntry) (c w : ℕ) : Type 0 where
-  pub unknown : w ≡ 0 → (a b : KeptEntry) → Stands ml a → SetsCell a c → Stands ml b → a.entry.number < b.entry.number → IsBelow b.entry.number own
+  pub unknown : w ≡ 0 → (a b : KeptEntry) → Stands ml a → SetsCell a c
+      → Stands ml b → a.entry.number < b.entry.number → IsBelow b.entry.number own
   pub not_own : w ≡ 0 → (y : KeptEntry) → Stands own y → SetsCell y c → ⊥
   pub alive : w ≡ 0 → (m : ℕ) → target ml c ≡ Some m → is_freed ml m ≡ false
   pub gone : w ≡ 1 → (m : ℕ) × (target ml c ≡ Some m) × (is_freed ml m ≡ true)
@@ -120,15 +126,23 @@ pub record ReadsWord (ml own : List KeptEntry) (c w : ℕ) : Type 0 where
 
 -- what may be said of an entry, by what stands before it
 pub record Fits (before : List Item) (x : Item) : Type 0 where
-  pub sets : x.role ≡ 0 → (c m : ℕ) → marked x.kept ≡ Some (c, m) → IsNumber m × (target (of_line 0 before) c ≡ None) × (is_freed (of_line 0 before) m ≡ false)
+  pub sets : x.role ≡ 0 → (c m : ℕ) → marked x.kept ≡ Some (c, m) → IsNumber m
+      × (target (of_line 0 before) c ≡ None) × (is_freed (of_line 0 before) m ≡ false)
   pub others : (x.role ≡ 0 → ⊥) → (marked x.kept ≡ None) × (x.kept.freed ≡ [])
-  pub pending : 2 ≤ x.role → (k : ℕ) → SaysPending x.kept.entry.made.reply k → Unknown (of_line 0 before) (of_line (caller_line x.kept.entry.made.caller) before) k
+  pub pending : 2 ≤ x.role → (k : ℕ) → SaysPending x.kept.entry.made.reply k
+      → Unknown (of_line 0 before) (of_line (caller_line x.kept.entry.made.caller) before) k
   pub read : 2 ≤ x.role → (c w : ℕ) → read_of x.kept.entry.made.op ≡ Some c → word_of x.kept.entry.made.reply ≡ Some w
-      → IsClosed (of_line 0 before) × ReadsWord (of_line 0 before) (of_line (caller_line x.kept.entry.made.caller) before) c w
-  pub filled : 2 ≤ x.role → (m : ℕ) → x.kept.entry.made.reply ≡ says.Pinned record { 0 = m } → pin (of_line (caller_line x.kept.entry.made.caller) before) ≡ m + 1
-  pub unfilled : 2 ≤ x.role → ((m : ℕ) → x.kept.entry.made.reply ≡ says.Pinned record { 0 = m } → ⊥) → pin (of_line (caller_line x.kept.entry.made.caller) before) ≡ 0
-  pub snapped : x.role ≡ 0 → (k : Cycle) → x.kept.entry.made.op ≡ op.Snap k → (r : ℕ) → 0 < r → r < 9 → at 0 x.kept.pins r ≡ pin (of_line (r + 10) before)
-  pub taken : (v : Var) → x.kept.entry.made.op ≡ op.Line (act.Take v) → at 0 x.kept.pins (caller_place x.kept.entry.made.caller) ≡ pin (of_line (caller_line x.kept.entry.made.caller) before)
+      → IsClosed (of_line 0 before) × ReadsWord (of_line 0 before)
+      (of_line (caller_line x.kept.entry.made.caller) before) c w
+  pub filled : 2 ≤ x.role → (m : ℕ) → x.kept.entry.made.reply ≡ says.Pinned record { 0 = m }
+      → pin (of_line (caller_line x.kept.entry.made.caller) before) ≡ m + 1
+  pub unfilled : 2 ≤ x.role → ((m : ℕ) → x.kept.entry.made.reply ≡ says.Pinned record { 0 = m } → ⊥)
+      → pin (of_line (caller_line x.kept.entry.made.caller) before) ≡ 0
+  pub snapped : x.role ≡ 0 → (k : Cycle) → x.kept.entry.made.op ≡ op.Snap k
+      → (r : ℕ) → 0 < r → r < 9 → at 0 x.kept.pins r ≡ pin (of_line (r + 10) before)
+  pub taken : (v : Var) → x.kept.entry.made.op ≡ op.Line (act.Take v)
+      → at 0 x.kept.pins (caller_place x.kept.entry.made.caller) ≡ pin
+      (of_line (caller_line x.kept.entry.made.caller) before)
 
 abbrev pub EachFits : List Item → List Item → Type 0
 EachFits before [] = Unit {0}
@@ -145,9 +159,11 @@ IsPending ml gate n k = IsSnappedBefore ml n k ⊎ (IsDue gate (stage ml) k × I
 
 pub record Waiting (whole : List Item) (gate : ℕ) (views : List View) : Type 0 where
   pub snapped : 0 < gate → 2 * gate ≤ stage (of_line 0 whole) → IsSnapped (of_line 0 whole) gate
-  pub quiet : 0 < gate → (a b : KeptEntry) → Stands (of_line 0 whole) a → deed a.entry.made.op ≡ ends gate → Stands (of_line 0 whole) b → b.entry.number ≤ a.entry.number
+  pub quiet : 0 < gate → (a b : KeptEntry) → Stands (of_line 0 whole) a
+      → deed a.entry.made.op ≡ ends gate → Stands (of_line 0 whole) b → b.entry.number ≤ a.entry.number
   pub fits : EachFits [] whole
-  pub pending : (i : ℕ) (x : Item) → get_elem? whole i ≡ some x → 2 ≤ x.role → (k : ℕ) → SaysPending x.kept.entry.made.reply k → IsPending (of_line 0 whole) gate x.kept.entry.number k
+  pub pending : (i : ℕ) (x : Item) → get_elem? whole i ≡ some x → 2 ≤ x.role → (k : ℕ)
+      → SaysPending x.kept.entry.made.reply k → IsPending (of_line 0 whole) gate x.kept.entry.number k
   pub each_wait : (j : ℕ) (v : View) → get_elem? views j ≡ some v → Waits whole gate v
 
 -- the owner of the managed list has just set the cell, and has yet to store its word
@@ -181,8 +197,10 @@ pub record Debts (ml : List KeptEntry) (debt : ℕ → Bool) (v : View) : Type 0
   pub heard_owner : at false v.heard_owns 0 ≡ true → (c : ℕ) → at false v.debts c ≡ debt c
   pub secret : (c : ℕ) → debt c ≡ true → at false v.owns 0 ≡ false → length (known v 0) < length ml
   pub heard_secret : (c : ℕ) → debt c ≡ true → at false v.heard_owns 0 ≡ false → length (at [] v.heard 0) < length ml
-  pub mine : (t : ℕ) → Owns v (t + 10) → (y : KeptEntry) → Stands (known v (t + 10)) y → (c : ℕ) → SetsCell y c → Stands (known v 0) y
-  pub heard_mine : (t : ℕ) → at false v.heard_owns (t + 10) ≡ true → (y : KeptEntry) → Stands (at [] v.heard (t + 10)) y → (c : ℕ) → SetsCell y c → Stands (at [] v.heard 0) y
+  pub mine : (t : ℕ) → Owns v (t + 10) → (y : KeptEntry)
+      → Stands (known v (t + 10)) y → (c : ℕ) → SetsCell y c → Stands (known v 0) y
+  pub heard_mine : (t : ℕ) → at false v.heard_owns (t + 10) ≡ true → (y : KeptEntry)
+      → Stands (at [] v.heard (t + 10)) y → (c : ℕ) → SetsCell y c → Stands (at [] v.heard 0) y
 
 -- what a seat that is inside has loaded is still right
 abbrev pub EachLoad : List KeptEntry → View → List (ℕ × ℕ) → Type 0
@@ -202,14 +220,19 @@ abbrev pub PinIs : ℕ → Bool → Bool → ℕ → Type 0
 PinIs p stores clears w = (w ≡ p) ⊎ (((stores ≡ true) × (w ≡ 0)) ⊎ ((clears ≡ true) × (p ≡ 0)))
 
 -- whose store is owed has its bit in the word; who owns its line owes it
-pub record Pinned (whole : List Item) (owner : ℕ → ℕ) (gate word : ℕ) (words : List ℕ) (views : List View) : Type 0 where
+pub record Pinned (whole : List Item) (owner : ℕ → ℕ)
+    (gate word : ℕ) (words : List ℕ) (views : List View) : Type 0 where
   pub stores : ℕ → Bool
   pub clears : ℕ → Bool
-  pub pins : (r : ℕ) → 0 < r → r < 9 → PinIs (pin (of_line (r + 10) whole)) (stores r) (clears r) (slice_index words (65 + r))
-  pub storing : (r : ℕ) → stores r ≡ true → (0 < r) × (r < 9) × (bit_at word r ≡ 1) × (gate ≡ 0) × (owner (1 + r) ≡ owner (r + 10)) × (owner (r + 10) < length views)
+  pub pins : (r : ℕ) → 0 < r → r < 9 → PinIs (pin (of_line (r + 10) whole))
+      (stores r) (clears r) (slice_index words (65 + r))
+  pub storing : (r : ℕ) → stores r ≡ true → (0 < r) × (r < 9) × (bit_at word r ≡ 1)
+      × (gate ≡ 0) × (owner (1 + r) ≡ owner (r + 10)) × (owner (r + 10) < length views)
   pub clearing : (r : ℕ) → clears r ≡ true → (0 < r) × (owner 0 ≡ owner (r + 10)) × (owner (r + 10) < length views)
-  pub filler : (j : ℕ) (v : View) → get_elem? views j ≡ some v → (r : ℕ) → stores r ≡ true → owner (r + 10) ≡ j → v.fill ≡ r
-  pub clearer : (j : ℕ) (v : View) → get_elem? views j ≡ some v → (r : ℕ) → clears r ≡ true → owner (r + 10) ≡ j → v.empty ≡ r
+  pub filler : (j : ℕ) (v : View) → get_elem? views j ≡ some v
+      → (r : ℕ) → stores r ≡ true → owner (r + 10) ≡ j → v.fill ≡ r
+  pub clearer : (j : ℕ) (v : View) → get_elem? views j ≡ some v
+      → (r : ℕ) → clears r ≡ true → owner (r + 10) ≡ j → v.empty ≡ r
 
 -- the entries of a list with a number below n
 abbrev pub those_below : ℕ → List KeptEntry → List KeptEntry
@@ -224,11 +247,13 @@ pub record IsHeld (ml : List KeptEntry) (r m : ℕ) : Type 0 where
   pub from : ℕ
   pub alive : (k : KeptEntry) → Stands ml k → k.entry.number < from → has k.freed m ≡ false
   pub closed : IsClosed (those_below from ml)
-  pub kept : (k : KeptEntry) → Stands ml k → from ≤ k.entry.number → (c : Cycle) → k.entry.made.op ≡ op.Snap c → at 0 k.pins r ≡ m + 1
+  pub kept : (k : KeptEntry) → Stands ml k → from ≤ k.entry.number
+      → (c : Cycle) → k.entry.made.op ≡ op.Snap c → at 0 k.pins r ≡ m + 1
 
 -- until its snap has its entry, who holds the gate has scanned what the pins' lines say
 abbrev pub Scans : List Item → View → Type 0
-Scans whole v = Owns v 0 → IsNext v v.holds → (r w : ℕ) → 0 < r → r < 9 → at None v.scanned r ≡ Some w → w ≡ pin (of_line (r + 10) whole)
+Scans whole v = Owns v 0 → IsNext v v.holds → (r w : ℕ) → 0 < r → r < 9
+    → at None v.scanned r ≡ Some w → w ≡ pin (of_line (r + 10) whole)
 
 -- the line's owner is a seat that there is or was: it owns the line, or has taken in a seat that did, and not yet
 -- compared
@@ -263,4 +288,5 @@ pub record AreLinesOfOneHistory (lines : List (List KeptEntry)) : Type 0 where
   pub numbers : RunsFrom 0 whole
   pub each : (i : ℕ) → i < 27 → at [] lines i ≡ of_line i whole
   pub fits : EachFits [] whole
-  pub pending : (i : ℕ) (x : Item) → get_elem? whole i ≡ some x → 2 ≤ x.role → (k : ℕ) → SaysPending x.kept.entry.made.reply k → IsSnappedBefore (of_line 0 whole) x.kept.entry.number k
+  pub pending : (i : ℕ) (x : Item) → get_elem? whole i ≡ some x → 2 ≤ x.role → (k : ℕ)
+      → SaysPending x.kept.entry.made.reply k → IsSnappedBefore (of_line 0 whole) x.kept.entry.number k

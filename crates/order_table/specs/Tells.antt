@@ -1,5 +1,6 @@
 -- What each step tells its caller, and what the calls promise.
-use Rattle.std.specs.Prelude.{◌≡◌, ◌⊎◌, ℕ, ◌+◌, ◌-◌, ◌/◌, ◌<◌, ◌≤◌, ◌==◌, if◌then◌else◌, true, false, List, [], ◌∷◌, ◌++◌, Option}
+use Rattle.std.specs.Prelude.{◌≡◌, ◌⊎◌, ℕ, ◌+◌, ◌-◌, ◌/◌, ◌<◌, ◌≤◌, ◌==◌, if◌then◌else◌, true, false, List, [], ◌∷◌}
+use Rattle.std.specs.Prelude.{◌++◌, Option}
 use mathlib.Core.List.{IsPrefix}
 use Rattle.atomic_table.specs.Table.{Step, Me}
 use Rattle.joint_machine.specs.declared.names.MNum.{MNum}
@@ -13,7 +14,8 @@ use Rattle.joint_machine.specs.HistoryLines.{caller_line}
 use Rattle.order_table.specs.Rows.{at}
 use Rattle.order_table.specs.Stages.{IsClosed}
 use Rattle.order_table.specs.Owed.{pin}
-use Rattle.order_table.specs.Views.{role_line, kept, known, Owns, appended, learned, storing_pin, scanning, loading, storing, IsEnded, entered}
+use Rattle.order_table.specs.Views.{role_line, kept, known, Owns, appended, learned, storing_pin, scanning, loading}
+use Rattle.order_table.specs.Views.{storing, IsEnded, entered}
 use Rattle.order_table.specs.Allowed.{NoDebt}
 use Rattle.order_table.specs.Rule.{Item, RunsFrom, of_line, IsBelow, IsHeld, Stands, SetsCell, CellIs}
 
@@ -25,8 +27,10 @@ pub record BeginsOneHistory (w : View) : Type 0 where
 
 -- the entry has the number found, which is greater than all that the seat knew and which no other entry of the one
 -- history has
-abbrev pub Appended : ℕ → Made → Option MNum → List MNum → Step (Unit {0}) → Me (Unit {0}) View → ℕ → Me (Unit {0}) View → Type 0
-Appended role made target freed st m n m' = (m'.1 ≡ m.1) × (m'.0 ≡ appended m.0 role (kept m.0 made target freed n)) × ((i : ℕ) → IsBelow n (known m.0 i)) × BeginsOneHistory m'.0
+abbrev pub Appended : ℕ → Made → Option MNum → List MNum
+    → Step (Unit {0}) → Me (Unit {0}) View → ℕ → Me (Unit {0}) View → Type 0
+Appended role made target freed st m n m' = (m'.1 ≡ m.1) × (m'.0 ≡ appended m.0 role (kept m.0 made target freed n))
+    × ((i : ℕ) → IsBelow n (known m.0 i)) × BeginsOneHistory m'.0
 
 -- an entry more in the line of its role and in that of its caller; all else is known as before, and owned as before
 pub record GrowsByEntry (v w : View) (r : ℕ) (k : KeptEntry) : Type 0 where
@@ -91,7 +95,8 @@ pub record TakesIn (old other new : View) : Type 0 where
 -- the seat is inside, or found the gate held for a cycle that it doesn't know as ended; the owner of the managed list
 -- finds what it says itself
 abbrev pub Entered : Step (Unit {0}) → Me (Unit {0}) View → ℕ → Me (Unit {0}) View → Type 0
-Entered st m n m' = (m'.1 ≡ m.1) × (m'.0 ≡ entered st.first n m.0) × (0 < n / 512 → ¬ IsEnded m.0 (n / 512)) × (Owns m.0 0 → (n / 512 ≡ m.0.holds) × (n / 512 ≡ 0 → IsClosed (known m.0 0))) × (n / 512 < 4294967296)
+Entered st m n m' = (m'.1 ≡ m.1) × (m'.0 ≡ entered st.first n m.0) × (0 < n / 512 → ¬ IsEnded m.0 (n / 512))
+    × (Owns m.0 0 → (n / 512 ≡ m.0.holds) × (n / 512 ≡ 0 → IsClosed (known m.0 0))) × (n / 512 < 4294967296)
 
 abbrev pub GaveBack : Step (Unit {0}) → Me (Unit {0}) View → ℕ → Me (Unit {0}) View → Type 0
 GaveBack st m n m' = (m'.1 ≡ m.1) × (m'.0 ≡ record m.0 { owes = 0 })
@@ -101,7 +106,8 @@ Left st m n m' = (m'.1 ≡ m.1) × (m'.0 ≡ record m.0 { inside = 0 })
 
 -- the gate is held for the cycle where the word was 0; else the word has readers' bits alone, and nothing changed
 abbrev pub Closed : ℕ → Step (Unit {0}) → Me (Unit {0}) View → ℕ → Me (Unit {0}) View → Type 0
-Closed cycle st m n m' = (m'.1 ≡ m.1) × (m'.0 ≡ (if n == 0 then record m.0 { holds = cycle; scanned = [] } else m.0)) × (n < 512)
+Closed cycle st m n m' = (m'.1 ≡ m.1)
+    × (m'.0 ≡ (if n == 0 then record m.0 { holds = cycle; scanned = [] } else m.0)) × (n < 512)
 
 abbrev pub Opened : Step (Unit {0}) → Me (Unit {0}) View → ℕ → Me (Unit {0}) View → Type 0
 Opened st m n m' = (m'.1 ≡ m.1) × (m'.0 ≡ record m.0 { holds = 0 })
@@ -109,7 +115,8 @@ Opened st m n m' = (m'.1 ≡ m.1) × (m'.0 ≡ record m.0 { holds = 0 })
 -- what a loaded word tells: the owner, that it is what its managed list says, or what it was before where it is still
 -- to be stored; anybody who owes nothing, that it isn't 0 where it knows the cell as set
 abbrev pub LoadedCell : Step (Unit {0}) → Me (Unit {0}) View → ℕ → Me (Unit {0}) View → Type 0
-LoadedCell st m n m' = (m'.1 ≡ m.1) × (m'.0 ≡ loading (st.word - 2) n m.0) × (Owns m.0 0 → CellIs (known m.0 0) m.0.holds (at false m.0.debts (st.word - 2)) (st.word - 2) n)
+LoadedCell st m n m' = (m'.1 ≡ m.1) × (m'.0 ≡ loading (st.word - 2) n m.0)
+    × (Owns m.0 0 → CellIs (known m.0 0) m.0.holds (at false m.0.debts (st.word - 2)) (st.word - 2) n)
     × (NoDebt m.0 → n ≡ 0 → (y : KeptEntry) → Stands (known m.0 0) y → SetsCell y (st.word - 2) → ⊥) × (n ≤ 4294967296)
 
 abbrev pub StoredCell : Step (Unit {0}) → Me (Unit {0}) View → ℕ → Me (Unit {0}) View → Type 0
@@ -118,7 +125,9 @@ StoredCell st m n m' = (m'.1 ≡ m.1) × (m'.0 ≡ storing (st.word - 2) m.0)
 -- who owes nothing finds of its own pin what its own entries leave; the owner of the managed list, that the object has
 -- been held
 abbrev pub LoadedPin : Step (Unit {0}) → Me (Unit {0}) View → ℕ → Me (Unit {0}) View → Type 0
-LoadedPin st m n m' = (m'.1 ≡ m.1) × (m'.0 ≡ scanning (st.word - 65) n m.0) × ((r : ℕ) → st.word ≡ 65 + r → 0 < r → r < 9 → Owns m.0 (r + 10) → m.0.fill ≡ 0 → m.0.empty ≡ 0 → n ≡ pin (known m.0 (r + 10)))
+LoadedPin st m n m' = (m'.1 ≡ m.1) × (m'.0 ≡ scanning (st.word - 65) n m.0)
+    × ((r : ℕ) → st.word ≡ 65 + r → 0 < r → r < 9 → Owns m.0 (r + 10)
+    → m.0.fill ≡ 0 → m.0.empty ≡ 0 → n ≡ pin (known m.0 (r + 10)))
     × ((r o : ℕ) → st.word ≡ 65 + r → 0 < r → r < 9 → Owns m.0 0 → m.0.empty ≡ 0 → n ≡ o + 1 → IsHeld (known m.0 0) r o)
     × ((r : ℕ) → st.word ≡ 65 + r → 0 < r → r < 9 → Owns m.0 0 ⊎ Owns m.0 (r + 10) → m.0.empty ≡ 0 → n ≤ 4294967296)
 

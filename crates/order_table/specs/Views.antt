@@ -1,7 +1,8 @@
 -- What a seat knows. A line is the list of one role's entries or of one caller's: the lines 0 to 9 are those of the
 -- roles, and the lines from 10 on those of the callers. A seat that owns a role's line owns the role; one that owns a
 -- caller's line holds that caller's pass.
-use Rattle.std.specs.Prelude.{◌≡◌, ℕ, ◌+◌, ◌-◌, ◌*◌, ◌/◌, ◌<◌, ◌≤◌, ◌==◌, ◌&&◌, not, nat_lt, if◌then◌else◌, Bool, true, false, List, [], ◌∷◌, ◌++◌, replicate, Option, Some, None}
+use Rattle.std.specs.Prelude.{◌≡◌, ℕ, ◌+◌, ◌-◌, ◌*◌, ◌/◌, ◌<◌, ◌≤◌, ◌==◌, ◌&&◌, not, nat_lt, if◌then◌else◌, Bool, true}
+use Rattle.std.specs.Prelude.{false, List, [], ◌∷◌, ◌++◌, replicate, Option, Some, None}
 use Rattle.atomic_table.specs.Seated.{TableId}
 use Rattle.joint_machine.specs.declared.names.MNum.{MNum}
 use Rattle.joint_machine.specs.declared.names.Thread.{Thread}
@@ -22,7 +23,8 @@ use Rattle.order_table.specs.declared.views.View.{View}
 use Rattle.joint_machine.specs.HistoryLines.{caller_line}
 use Rattle.order_table.specs.Rows.{at, put, longest, joined, common, without}
 use Rattle.order_table.specs.Stages.{stage}
-use Rattle.order_table.specs.Owed.{IsNumber, PinDeed, pin_deed, pin, owing, fill_after, empty_after, owes_after, by_place, pin_row, target_told, freed_told}
+use Rattle.order_table.specs.Owed.{IsNumber, PinDeed, pin_deed, pin, owing, fill_after, empty_after, owes_after}
+use Rattle.order_table.specs.Owed.{by_place, pin_row, target_told, freed_told}
 
 -- which order it is: the name of the table that its word lies in
 abbrev pub OrderId : Type 0
@@ -93,7 +95,12 @@ pins_kept v t _ = []
 
 -- what is kept of an entry that a seat with this view draws
 abbrev pub kept : View → Made → Option MNum → List MNum → ℕ → KeptEntry
-kept v m target freed n = record { entry = numbered n m; target = target_told m.caller m.op target; freed = freed_told m.op freed; pins = pins_kept v m.caller m.op }
+kept v m target freed n = record {
+  entry = numbered n m;
+  target = target_told m.caller m.op target;
+  freed = freed_told m.op freed;
+  pins = pins_kept v m.caller m.op;
+}
 
 -- what an entry leaves to be stored at its caller's pin
 abbrev pub pin_owed : View → Made → PinDeed
@@ -101,11 +108,41 @@ pin_owed v m = owing (pin (known v (caller_line m.caller))) (pin_deed m.caller m
 
 -- the view of the first seat: it owns all lines, and they are empty
 abbrev pub first_view : View
-first_view = record { owns = replicate 27 true; known = []; heard = []; heard_owns = []; heard_holds = 0; inside = 0; owes = 0; found = 0; holds = 0; loads = []; debts = []; fill = 0; empty = 0; scanned = [] }
+first_view = record {
+  owns = replicate 27 true;
+  known = [];
+  heard = [];
+  heard_owns = [];
+  heard_holds = 0;
+  inside = 0;
+  owes = 0;
+  found = 0;
+  holds = 0;
+  loads = [];
+  debts = [];
+  fill = 0;
+  empty = 0;
+  scanned = [];
+}
 
 -- the view of a seat that was taken in
 abbrev pub spent_view : View
-spent_view = record { owns = []; known = []; heard = []; heard_owns = []; heard_holds = 0; inside = 0; owes = 0; found = 0; holds = 0; loads = []; debts = []; fill = 0; empty = 0; scanned = [] }
+spent_view = record {
+  owns = [];
+  known = [];
+  heard = [];
+  heard_owns = [];
+  heard_holds = 0;
+  inside = 0;
+  owes = 0;
+  found = 0;
+  holds = 0;
+  loads = [];
+  debts = [];
+  fill = 0;
+  empty = 0;
+  scanned = [];
+}
 
 -- an entry more in one line
 abbrev pub grown : List (List KeptEntry) → ℕ → KeptEntry → List (List KeptEntry)
@@ -128,7 +165,12 @@ abbrev pub giving : List Bool → View → View
 giving lines v = record v { owns = without v.owns lines; holds = if at false lines 0 then 0 else v.holds; scanned = [] }
 
 abbrev pub given : List Bool → View → View
-given lines v = record v { owns = common v.owns lines; found = 0; holds = if at false lines 0 then v.holds else 0; scanned = [] }
+given lines v = record v {
+  owns = common v.owns lines;
+  found = 0;
+  holds = if at false lines 0 then v.holds else 0;
+  scanned = [];
+}
 
 -- a view that took another in, and hasn't yet compared what both know
 abbrev pub hearing : View → View → View
@@ -179,7 +221,8 @@ owes_none v = none_owed_in v.debts && ((v.fill == 0) && (v.empty == 0))
 
 -- a view after the step that enters, by the word found: it is inside, or owes its bit and found the gate held
 abbrev pub entered : ℕ → ℕ → View → View
-entered bit n v = if n / 512 == 0 then record v { inside = bit; loads = [] } else record v { owes = bit; found = n / 512 }
+entered bit n v = if n / 512 == 0 then record v { inside = bit; loads = [] } else
+    record v { owes = bit; found = n / 512 }
 
 -- a view after it loaded a cell: inside, and owing nothing, it keeps the word
 abbrev pub loading : ℕ → ℕ → View → View

@@ -1,6 +1,7 @@
 // The order and its calls.
 
-ghost use Rattle.std.specs.Prelude.{◌≡◌, ◌⊎◌, ◌<◌, ◌≤◌, ◌+◌, ◌^◌, ◌==◌, if◌then◌else◌, ℕ, Bool, true, false, [], Some, None, length, slice_get, IfOk, OnOk, IfErr, MatchResult, count_ones};
+ghost use Rattle.std.specs.Prelude.{◌≡◌, ◌⊎◌, ◌<◌, ◌≤◌, ◌+◌, ◌^◌, ◌==◌, if◌then◌else◌, ℕ, Bool, true, false, [], Some};
+ghost use Rattle.std.specs.Prelude.{None, length, slice_get, IfOk, OnOk, IfErr, MatchResult, count_ones};
 ghost use Rattle.joint_machine.specs.declared.names.Thread.{Thread};
 ghost use Rattle.joint_machine.specs.Lines.{IsThread};
 ghost use Rattle.order_table.specs.declared.views.View.{View};
@@ -8,11 +9,16 @@ ghost use Rattle.order_table.specs.declared.views.KeptEntry.{KeptEntry};
 ghost use Rattle.joint_machine.specs.HistoryLines.{caller_line};
 ghost use Rattle.order_table.specs.Rows.{at, put};
 ghost use Rattle.order_table.specs.Stages.{IsClosed};
-ghost use Rattle.order_table.specs.Owed.{IsLoaded, all_scanned, marked, owes_after, pin, says_word, pin_row, scanned_row};
-ghost use Rattle.order_table.specs.Views.{IsRole, IsInRole, IsNext, IsOpen, IsEnded, role_line, kept, known, Owns, OwnsAll, first_view, appended, giving, given, hearing, learned, lines_of_role, lines_of_caller, lines_of_none, loading, scanning, storing, storing_pin};
+ghost use Rattle.order_table.specs.Owed.{IsLoaded, all_scanned, marked, owes_after, pin, says_word, pin_row};
+ghost use Rattle.order_table.specs.Owed.{scanned_row};
+ghost use Rattle.order_table.specs.Views.{IsRole, IsInRole, IsNext, IsOpen, IsEnded, role_line, kept, known, Owns};
+ghost use Rattle.order_table.specs.Views.{OwnsAll, first_view, appended, giving, given, hearing, learned};
+ghost use Rattle.order_table.specs.Views.{lines_of_role, lines_of_caller, lines_of_none, loading, scanning, storing};
+ghost use Rattle.order_table.specs.Views.{storing_pin};
 ghost use Rattle.order_table.specs.Allowed.{IsQuiet, MayMake, NoDebt, OwesNone, OwesOnly, Settled};
 ghost use Rattle.order_table.specs.Rule.{IsBelow, IsHeld, CellIs, Stands, SetsCell, AreLinesOfOneHistory};
-ghost use Rattle.order_table.specs.Tells.{GrowsByEntry, Parts, IsOfRole, IsOfCaller, IsOfNone, TakesIn, StaysAs, BeginsOneHistory};
+ghost use Rattle.order_table.specs.Tells.{GrowsByEntry, Parts, IsOfRole, IsOfCaller, IsOfNone, TakesIn, StaysAs};
+ghost use Rattle.order_table.specs.Tells.{BeginsOneHistory};
 
 use crate::finished::Linked;
 use crate::plays::{
@@ -93,14 +99,21 @@ impl Order {
         requires may { MayMake seat.old.view W.role W.made W.target }
         requires role { Owns seat.old.view W.role × Owns seat.old.view (caller_line W.made.caller) }
         requires room { length (known seat.old.view W.role) < 4294967295 }
-        ensures seat { (seat.new.order ≡ seat.old.order) × (seat.new.view ≡ appended seat.old.view W.role (kept seat.old.view W.made W.target W.freed result)) }
-        ensures grows { GrowsByEntry seat.old.view seat.new.view W.role (kept seat.old.view W.made W.target W.freed result) }
+        ensures seat { (seat.new.order ≡ seat.old.order)
+            × (seat.new.view ≡ appended seat.old.view W.role (kept seat.old.view W.made W.target W.freed result)) }
+        ensures grows { GrowsByEntry seat.old.view seat.new.view W.role
+            (kept seat.old.view W.made W.target W.freed result) }
         ensures number { (i : ℕ) → IsBelow result (known seat.old.view i) }
         ensures one_history { BeginsOneHistory seat.new.view }
-        ensures settled { ((W.role ≡ 1) ⊎ IsQuiet (kept seat.old.view W.made W.target W.freed result)) → Settled seat.old.view → Settled seat.new.view }
-        ensures paid { marked (kept seat.old.view W.made W.target W.freed result) ≡ None → (kept seat.old.view W.made W.target W.freed result).freed ≡ [] → NoDebt seat.old.view → NoDebt seat.new.view }
-        ensures owes_one { (c m : ℕ) → W.role ≡ 0 → marked (kept seat.old.view W.made W.target W.freed result) ≡ Some (c, m) → OwesOnly seat.new.view c }
-        ensures owes { W.role ≡ 0 → (c : ℕ) → at false seat.new.view.debts c ≡ true → (c < 64) × (owes_after (known seat.old.view 0) (kept seat.old.view W.made W.target W.freed result) c ≡ true) }
+        ensures settled { ((W.role ≡ 1) ⊎ IsQuiet (kept seat.old.view W.made W.target W.freed result))
+            → Settled seat.old.view → Settled seat.new.view }
+        ensures paid { marked (kept seat.old.view W.made W.target W.freed result) ≡ None
+            → (kept seat.old.view W.made W.target W.freed result).freed ≡ []
+            → NoDebt seat.old.view → NoDebt seat.new.view }
+        ensures owes_one { (c m : ℕ) → W.role ≡ 0
+            → marked (kept seat.old.view W.made W.target W.freed result) ≡ Some (c, m) → OwesOnly seat.new.view c }
+        ensures owes { W.role ≡ 0 → (c : ℕ) → at false seat.new.view.debts c ≡ true → (c < 64)
+            × (owes_after (known seat.old.view 0) (kept seat.old.view W.made W.target W.freed result) c ≡ true) }
     {
         self.table
             .shared
@@ -129,14 +142,22 @@ impl Order {
         requires may { MayMake seat.old.view (role_line role) made.now target }
         requires role { Owns seat.old.view (role_line role) × Owns seat.old.view (caller_line made.now.caller) }
         requires room { length (known seat.old.view (role_line role)) < 4294967295 }
-        ensures seat { (seat.new.order ≡ seat.old.order) × (seat.new.view ≡ appended seat.old.view (role_line role) (kept seat.old.view made.now target freed.now result)) }
-        ensures grows { GrowsByEntry seat.old.view seat.new.view (role_line role) (kept seat.old.view made.now target freed.now result) }
+        ensures seat { (seat.new.order ≡ seat.old.order)
+            × (seat.new.view ≡ appended seat.old.view (role_line role)
+            (kept seat.old.view made.now target freed.now result)) }
+        ensures grows { GrowsByEntry seat.old.view seat.new.view
+            (role_line role) (kept seat.old.view made.now target freed.now result) }
         ensures number { (i : ℕ) → IsBelow result (known seat.old.view i) }
         ensures one_history { BeginsOneHistory seat.new.view }
-        ensures settled { ((role_line role ≡ 1) ⊎ IsQuiet (kept seat.old.view made.now target freed.now result)) → Settled seat.old.view → Settled seat.new.view }
-        ensures paid { marked (kept seat.old.view made.now target freed.now result) ≡ None → (kept seat.old.view made.now target freed.now result).freed ≡ [] → NoDebt seat.old.view → NoDebt seat.new.view }
-        ensures owes_one { (c m : ℕ) → role_line role ≡ 0 → marked (kept seat.old.view made.now target freed.now result) ≡ Some (c, m) → OwesOnly seat.new.view c }
-        ensures owes { role_line role ≡ 0 → (c : ℕ) → at false seat.new.view.debts c ≡ true → (c < 64) × (owes_after (known seat.old.view 0) (kept seat.old.view made.now target freed.now result) c ≡ true) }
+        ensures settled { ((role_line role ≡ 1) ⊎ IsQuiet (kept seat.old.view made.now target freed.now result))
+            → Settled seat.old.view → Settled seat.new.view }
+        ensures paid { marked (kept seat.old.view made.now target freed.now result) ≡ None
+            → (kept seat.old.view made.now target freed.now result).freed ≡ []
+            → NoDebt seat.old.view → NoDebt seat.new.view }
+        ensures owes_one { (c m : ℕ) → role_line role ≡ 0
+            → marked (kept seat.old.view made.now target freed.now result) ≡ Some (c, m) → OwesOnly seat.new.view c }
+        ensures owes { role_line role ≡ 0 → (c : ℕ) → at false seat.new.view.debts c ≡ true → (c < 64)
+            × (owes_after (known seat.old.view 0) (kept seat.old.view made.now target freed.now result) c ≡ true) }
     {
         self.append_as::<Brand>(seat, role, made, target, freed)
     }
@@ -220,7 +241,8 @@ impl Order {
         requires seat { seat.old.order ≡ self.now }
         requires settled { Settled seat.old.view }
         requires other { (other.order ≡ self.now) × Settled other.view }
-        ensures seat { (seat.new.order ≡ seat.old.order) × (seat.new.view ≡ learned (hearing seat.old.view other.view)) }
+        ensures seat { (seat.new.order ≡ seat.old.order)
+            × (seat.new.view ≡ learned (hearing seat.old.view other.view)) }
         ensures takes { TakesIn seat.old.view other.view seat.new.view }
         ensures one_history { BeginsOneHistory seat.new.view }
         ensures settled { Settled seat.new.view }
@@ -241,9 +263,12 @@ impl Order {
         requires reader { (0 < reader) × (reader < 9) × Owns seat.old.view (1 + reader) }
         ensures seat { seat.new.order ≡ seat.old.order }
         ensures ok { OnOk result (seat.new.view ≡ record seat.old.view { inside = 2 ^ reader; loads = [] }) }
-        ensures err { IfErr result (λ p. (seat.new.view ≡ record seat.old.view { found = p.cycle.0 }) × ¬ IsEnded seat.old.view p.cycle.0) }
+        ensures err { IfErr result (λ p. (seat.new.view ≡ record seat.old.view { found = p.cycle.0 })
+            × ¬ IsEnded seat.old.view p.cycle.0) }
         ensures cycle { IfErr result (λ p. 0 < p.cycle.0) }
-        ensures owner { Owns seat.old.view 0 → MatchResult result (λ _. (seat.old.view.holds ≡ 0) × IsClosed (known seat.old.view 0)) (λ p. (p.cycle.0 ≡ seat.old.view.holds) × IsOpen seat.old.view p.cycle.0) }
+        ensures owner { Owns seat.old.view 0
+            → MatchResult result (λ _. (seat.old.view.holds ≡ 0) × IsClosed (known seat.old.view 0))
+            (λ p. (p.cycle.0 ≡ seat.old.view.holds) × IsOpen seat.old.view p.cycle.0) }
     {
         let bit = bit_of(reader);
         let found = self.table.shared.fetch_or::<Enter>(&mut seat.inner, 1, bit);
@@ -277,7 +302,8 @@ impl Order {
         requires owner { Owns seat.old.view 0 × (seat.old.view.holds ≡ 0) }
         requires next { (W.cycle ≡ cycle.0) × IsNext seat.old.view cycle.0 }
         ensures seat { seat.new.order ≡ seat.old.order }
-        ensures view { seat.new.view ≡ (if result == 0 then record seat.old.view { holds = cycle.0; scanned = [] } else seat.old.view) }
+        ensures view { seat.new.view ≡ (if result == 0 then
+            record seat.old.view { holds = cycle.0; scanned = [] } else seat.old.view) }
         ensures readers { result < 512 }
     {
         self.table
@@ -293,7 +319,8 @@ impl Order {
         requires next { IsNext seat.old.view cycle.0 }
         ensures seat { seat.new.order ≡ seat.old.order }
         ensures ok { OnOk result (seat.new.view ≡ record seat.old.view { holds = cycle.0; scanned = [] }) }
-        ensures err { IfErr result (λ r. (seat.new.view ≡ seat.old.view) × ((word : ℕ) × (0 < word) × (word < 512) × (r.count ≡ count_ones word))) }
+        ensures err { IfErr result (λ r. (seat.new.view ≡ seat.old.view)
+            × ((word : ℕ) × (0 < word) × (word < 512) × (r.count ≡ count_ones word))) }
     {
         let word = self.close_as::<Brand>(seat, cycle);
         if word == 0 {
@@ -324,11 +351,14 @@ impl Order {
         requires cell { cell.0 < 64 }
         ensures seat { (seat.new.order ≡ seat.old.order) × (seat.new.view ≡ loading cell.0 result seat.old.view) }
         ensures stays { StaysAs seat.old.view seat.new.view }
-        ensures loaded { 0 < seat.old.view.inside → OwesNone seat.old.view → IsLoaded seat.new.view.loads cell.0 result }
+        ensures loaded { 0 < seat.old.view.inside → OwesNone seat.old.view
+            → IsLoaded seat.new.view.loads cell.0 result }
         ensures says { Owns seat.old.view 0 → NoDebt seat.old.view → result ≡ says_word (known seat.old.view 0) cell.0 }
-        ensures owner { Owns seat.old.view 0 → CellIs (known seat.old.view 0) seat.old.view.holds (at false seat.old.view.debts cell.0) cell.0 result }
+        ensures owner { Owns seat.old.view 0
+            → CellIs (known seat.old.view 0) seat.old.view.holds (at false seat.old.view.debts cell.0) cell.0 result }
         ensures small { result ≤ 4294967296 }
-        ensures unset { NoDebt seat.old.view → result ≡ 0 → (y : KeptEntry) → Stands (known seat.old.view 0) y → SetsCell y cell.0 → ⊥ }
+        ensures unset { NoDebt seat.old.view → result ≡ 0 → (y : KeptEntry)
+            → Stands (known seat.old.view 0) y → SetsCell y cell.0 → ⊥ }
     {
         self.table
             .shared
@@ -342,7 +372,8 @@ impl Order {
         requires owner { Owns seat.old.view 0 }
         requires word { word ≡ says_word (known seat.old.view 0) cell.0 }
         ensures seat { (seat.new.order ≡ seat.old.order) × (seat.new.view ≡ storing cell.0 seat.old.view) }
-        ensures stored { (at false seat.new.view.debts cell.0 ≡ false) × ((c : ℕ) → (c ≡ cell.0 → ⊥) → at false seat.new.view.debts c ≡ at false seat.old.view.debts c) }
+        ensures stored { (at false seat.new.view.debts cell.0 ≡ false)
+            × ((c : ℕ) → (c ≡ cell.0 → ⊥) → at false seat.new.view.debts c ≡ at false seat.old.view.debts c) }
         ensures paid { OwesOnly seat.old.view cell.0 → NoDebt seat.new.view }
     {
         self.table
@@ -358,10 +389,14 @@ impl Order {
         requires reader { (0 < reader) × (reader < 9) }
         ensures seat { (seat.new.order ≡ seat.old.order) × (seat.new.view ≡ scanning reader result seat.old.view) }
         ensures stays { StaysAs seat.old.view seat.new.view }
-        ensures scans { 0 < seat.old.view.holds → OwesNone seat.old.view → seat.new.view.scanned ≡ put None seat.old.view.scanned reader (Some result) }
-        ensures own { Owns seat.old.view (reader + 10) → seat.old.view.fill ≡ 0 → seat.old.view.empty ≡ 0 → result ≡ pin (known seat.old.view (reader + 10)) }
-        ensures small { Owns seat.old.view 0 ⊎ Owns seat.old.view (reader + 10) → seat.old.view.empty ≡ 0 → result ≤ 4294967296 }
-        ensures held { Owns seat.old.view 0 → seat.old.view.empty ≡ 0 → (m : ℕ) → result ≡ m + 1 → IsHeld (known seat.old.view 0) reader m }
+        ensures scans { 0 < seat.old.view.holds → OwesNone seat.old.view
+            → seat.new.view.scanned ≡ put None seat.old.view.scanned reader (Some result) }
+        ensures own { Owns seat.old.view (reader + 10) → seat.old.view.fill ≡ 0
+            → seat.old.view.empty ≡ 0 → result ≡ pin (known seat.old.view (reader + 10)) }
+        ensures small { Owns seat.old.view 0 ⊎ Owns seat.old.view (reader + 10)
+            → seat.old.view.empty ≡ 0 → result ≤ 4294967296 }
+        ensures held { Owns seat.old.view 0 → seat.old.view.empty ≡ 0
+            → (m : ℕ) → result ≡ m + 1 → IsHeld (known seat.old.view 0) reader m }
     {
         self.table
             .shared
@@ -380,7 +415,8 @@ impl Order {
         ensures all { all_scanned 8 seat.new.view.scanned ≡ true }
         ensures kept { (i w : ℕ) → slice_get result i ≡ Some w → at 0 (pin_row seat.new.view.scanned) (i + 1) ≡ w }
         ensures small { (i w : ℕ) → slice_get result i ≡ Some w → w ≤ 4294967296 }
-        ensures held { (i m : ℕ) → i < 8 → slice_get result i ≡ Some (m + 1) → IsHeld (known seat.old.view 0) (i + 1) m }
+        ensures held { (i m : ℕ) → i < 8 → slice_get result i ≡ Some (m + 1)
+            → IsHeld (known seat.old.view 0) (i + 1) m }
     {
         let one = self.load_pin(seat, 1);
         let two = self.load_pin(seat, 2);

@@ -8,7 +8,8 @@ ghost use Rattle.joint_machine.specs.declared.events.Op.TheVariants as op;
 ghost use Rattle.joint_machine.specs.declared.events.Reply.TheVariants as says;
 ghost use Rattle.order_table.specs.Views.{first_view, giving, given, hearing, lines_of_none, spent_view};
 ghost use Rattle.order_table.specs.Rule.{Ordered};
-ghost use Rattle.order_table.specs.Tells.{Appended, Compared, Entered, GaveBack, Left, Closed, Opened, LoadedCell, StoredCell, LoadedPin, StoredPin};
+ghost use Rattle.order_table.specs.Tells.{Appended, Compared, Entered, GaveBack, Left, Closed, Opened, LoadedCell};
+ghost use Rattle.order_table.specs.Tells.{StoredCell, LoadedPin, StoredPin};
 
 use crate::views::View;
 use atomic_table::{Join, Play, Split, TableRule};

@@ -76,13 +76,16 @@ impl<N: OrderName> Model for Side<N> {
 
     ghost view = { λ s. s.role };
 
-    ghost invariant = { λ s. IsRole s.role × (role_line s.role < 2) × IsThread s.caller × (s.seat.order ≡ N.order) × Settled s.seat.view × Owns s.seat.view (role_line s.role) × Owns s.seat.view (caller_line s.caller) × (length (known s.seat.view (role_line s.role)) ≡ s.drawn) };
+    ghost invariant = { λ s. IsRole s.role × (role_line s.role < 2) × IsThread s.caller
+        × (s.seat.order ≡ N.order) × Settled s.seat.view × Owns s.seat.view (role_line s.role)
+        × Owns s.seat.view (caller_line s.caller) × (length (known s.seat.view (role_line s.role)) ≡ s.drawn) };
 }
 
 impl<N: OrderName> Side<N> {
     fn new(role: Role, caller: Thread, seat: Seat) -> Side<N>
         requires role { IsRole role × (role_line role < 2) × IsThread caller }
-        requires seat { (seat.order ≡ N.order) × Settled seat.view × Owns seat.view (role_line role) × Owns seat.view (caller_line caller) × (known seat.view (role_line role) ≡ []) }
+        requires seat { (seat.order ≡ N.order) × Settled seat.view × Owns seat.view (role_line role)
+            × Owns seat.view (caller_line caller) × (known seat.view (role_line role) ≡ []) }
     {
         Side {
             role,

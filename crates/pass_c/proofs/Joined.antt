@@ -120,8 +120,32 @@ module _ (bridge : ℕ → Type 0) (edge : ℕ → ℕ → Type 0) (comps : List
     outs = h.outs;
     ins_rise = h.ins_rise;
     outs_rise = h.outs_rise;
-    lead_in = All-weaker (LeadsIn bridge edge x) (LeadsIn bridge edge y) (λ b w. (w.0, record { from = w.1.from; between = w.1.between; to = w.1.to; leaves = w.1.leaves; arrives = Mutual-trans edge y x w.1.to (Mutual-sym edge x y m) w.1.arrives; walk = w.1.walk; plain = w.1.plain })) h.ins h.lead_in;
-    lead_out = All-weaker (LeadsOut bridge edge x) (LeadsOut bridge edge y) (λ b w. (w.0, record { from = w.1.from; between = w.1.between; to = w.1.to; leaves = Mutual-trans edge y x w.1.from (Mutual-sym edge x y m) w.1.leaves; arrives = w.1.arrives; walk = w.1.walk; plain = w.1.plain })) h.outs h.lead_out;
+    lead_in = All-weaker (LeadsIn bridge edge x) (LeadsIn bridge edge y)
+        (λ b w. (
+          w.0,
+          record {
+            from = w.1.from;
+            between = w.1.between;
+            to = w.1.to;
+            leaves = w.1.leaves;
+            arrives = Mutual-trans edge y x w.1.to (Mutual-sym edge x y m) w.1.arrives;
+            walk = w.1.walk;
+            plain = w.1.plain;
+          },
+        )) h.ins h.lead_in;
+    lead_out = All-weaker (LeadsOut bridge edge x) (LeadsOut bridge edge y)
+        (λ b w. (
+          w.0,
+          record {
+            from = w.1.from;
+            between = w.1.between;
+            to = w.1.to;
+            leaves = Mutual-trans edge y x w.1.from (Mutual-sym edge x y m) w.1.leaves;
+            arrives = w.1.arrives;
+            walk = w.1.walk;
+            plain = w.1.plain;
+          },
+        )) h.outs h.lead_out;
     some_in = h.some_in;
     some_out = h.some_out;
     many = h.many;

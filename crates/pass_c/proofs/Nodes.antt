@@ -1,6 +1,7 @@
 -- The nodes of the kinds, one by one: their numbers rise, none is opaque, and the bridge nodes are those whose kinds
 -- aren't 0.
-use Rattle.std.proofs.Common.{◌≡◌, ◌≢◌, ℕ, zero, suc, ◌+◌, ◌<◌, ◌≤◌, ◌↔◌, ◌⊎◌, inl, inr, Bool, true, List, [], ◌∷◌, ◌++◌, length, map, get_or, slice_get, false, cond, Some, None, refl, sym, ap, subst, ◌∙◌, arith}
+use Rattle.std.proofs.Common.{◌≡◌, ◌≢◌, ℕ, zero, suc, ◌+◌, ◌<◌, ◌≤◌, ◌↔◌, ◌⊎◌, inl, inr, Bool, true, List, [], ◌∷◌, ◌++◌, length, map, get_or, slice_get, false, cond, Some, None, refl, sym, ap, subst}
+use Rattle.std.proofs.Common.{◌∙◌, arith}
 use Rattle.std.specs.Prelude.{All, Contains, IsSome, is_some}
 use Rattle.std.proofs.Math.Dec.{eqb}
 use Rattle.std.proofs.lemmas.Bool.Decides.{nat_tests}
@@ -32,7 +33,8 @@ nodes-more kinds n nodes h = record {
   count = (let e = length_push nodes (node_at kinds n) in omega (arith, e, h.count));
   each = λ x l. elim (last-or x n l) [
     | inl m ↦ push-at_old nodes (node_at kinds n) x (omega (arith, m, h.count)) ∙ h.each x m
-    | inr e ↦ subst (λ k. slice_get (nodes ++ node_at kinds n ∷ []) k ≡ Some (node_at kinds k)) (sym e) (subst (λ k. slice_get (nodes ++ node_at kinds n ∷ []) k ≡ Some (node_at kinds n)) h.count (push-at_new nodes (node_at kinds n)))
+    | inr e ↦ subst (λ k. slice_get (nodes ++ node_at kinds n ∷ []) k ≡ Some (node_at kinds k)) (sym e)
+        (subst (λ k. slice_get (nodes ++ node_at kinds n ∷ []) k ≡ Some (node_at kinds n)) h.count (push-at_new nodes (node_at kinds n)))
   ];
   rising = subst Rises (sym (map_push (λ (m : Node). m.number.0) nodes (node_at kinds n)))
       (Rises-push (numbers_of nodes) (n + 1) h.rising (All-map (λ y. y < n + 1) (λ (m : Node). m.number.0) nodes (nodes-below kinds n nodes h)));

@@ -1,5 +1,6 @@
 -- The graph of the arrays, as it is made.
-use Rattle.std.specs.Prelude.{◌≡◌, ◌≢◌, ℕ, ◌+◌, ◌<◌, ◌≤◌, ◌⊎◌, ◌↔◌, List, length, Option, Some, None, false, if◌then◌else◌, nat_eq, slice_get, slice_index}
+use Rattle.std.specs.Prelude.{◌≡◌, ◌≢◌, ℕ, ◌+◌, ◌<◌, ◌≤◌, ◌⊎◌, ◌↔◌, List, length, Option, Some, None, false}
+use Rattle.std.specs.Prelude.{if◌then◌else◌, nat_eq, slice_get, slice_index}
 use Rattle.joint_machine.specs.declared.names.HNum.{HNum}
 use Rattle.bridge_graph.specs.declared.graph.Node.{Node}
 use Rattle.bridge_graph.specs.Parts.{IsBridgeNode, NodeLeads, numbers_of}
@@ -9,7 +10,8 @@ use Rattle.pass_c.specs.Found.{AreCounted, AreShort, AreWritten, all_of}
 use Rattle.joint_machine.specs.Components.{Rises}
 
 -- a made graph has those bridge nodes and edges
-pub record IsMade (bridge : ℕ → Type 0) (edge : ℕ → ℕ → Type 0) (nodes : List Node) (rows : List (List ℕ)) : Type 0 where
+pub record IsMade (bridge : ℕ → Type 0) (edge : ℕ → ℕ → Type 0)
+    (nodes : List Node) (rows : List (List ℕ)) : Type 0 where
   pub bridges : (x : ℕ) → IsBridgeNode nodes x ↔ bridge x
   pub leads : (x y : ℕ) → NodeLeads rows x y ↔ edge x y
 
@@ -22,7 +24,11 @@ handle_by kind number = if nat_eq kind 0 then None else Some record { 0 = number
 
 -- the node with that index
 abbrev pub node_at : List ℕ → ℕ → Node
-node_at kinds x = record { number = record { 0 = x + 1 }; handle = handle_by (slice_index kinds x) (x + 1); opaque = false }
+node_at kinds x = record {
+  number = record { 0 = x + 1 };
+  handle = handle_by (slice_index kinds x) (x + 1);
+  opaque = false;
+}
 
 -- the nodes of the first n kinds, whose numbers rise
 pub record HasNodes (kinds : List ℕ) (n : ℕ) (nodes : List Node) : Type 0 where
@@ -32,7 +38,8 @@ pub record HasNodes (kinds : List ℕ) (n : ℕ) (nodes : List Node) : Type 0 wh
 
 -- what an answer says of components and pairs: they stand in the arrays, or these are too short, and their numbers are
 -- told
-pub record Gives (comps : List (List ℕ)) (heavy : ℕ) (pairs : List (ℕ × ℕ)) (status : ℕ) (starts members : List ℕ) (xrefs : List Link) (counts : PassCounts) : Type 0 where
+pub record Gives (comps : List (List ℕ)) (heavy : ℕ) (pairs : List (ℕ × ℕ)) (status : ℕ)
+    (starts members : List ℕ) (xrefs : List Link) (counts : PassCounts) : Type 0 where
   pub counted : status ≢ 4 → AreCounted comps heavy pairs counts
   pub written : status ≡ 0 → AreWritten (all_of comps heavy) pairs starts members xrefs
   pub short : status ≡ 3 → AreShort starts members xrefs counts

@@ -22,7 +22,8 @@ Passes starts targets n x z = (n ≤ x) × LeadsInRow starts targets x z
 -- the pairs from the components below i
 pub record AreExpandedBelow (starts targets : List ℕ) (n i : ℕ) (out : List (ℕ × ℕ)) : Type 0 where
   pub rising : PairsRise out
-  pub exact : (a b : ℕ) → Contains out (a, b) ↔ ((a < i) × (b < n) × (a ≢ b) × Reached (LeadsInRow starts targets a) (Passes starts targets n) b)
+  pub exact : (a b : ℕ) → Contains out (a, b)
+      ↔ ((a < i) × (b < n) × (a ≢ b) × Reached (LeadsInRow starts targets a) (Passes starts targets n) b)
 
 -- whether it is another component below n
 abbrev pub is_other : ℕ → ℕ → ℕ → Bool
@@ -34,14 +35,17 @@ abbrev pub IsJoined : (ℕ → Type 0) → (ℕ → ℕ → Type 0) → ℕ → 
 IsJoined bridge edge a b = (Mutual edge a b → ⊥) × Leads edge (IsPlainClass bridge edge) a b
 
 -- the components of a graph and their cross-references where heavy classes aren't reported, each in its place
-pub record IsExpansion (bridge : ℕ → Type 0) (edge : ℕ → ℕ → Type 0) (comps : List (List ℕ)) (pairs : List (ℕ × ℕ)) : Type 0 where
+pub record IsExpansion (bridge : ℕ → Type 0) (edge : ℕ → ℕ → Type 0)
+    (comps : List (List ℕ)) (pairs : List (ℕ × ℕ)) : Type 0 where
   pub canonical : IsCanonical comps pairs
   pub members : (x : ℕ) → ((i : ℕ) × IsMember comps i x) ↔ bridge x
   pub together : (i j x y : ℕ) → IsMember comps i x → IsMember comps j y → (i ≡ j) ↔ Mutual edge x y
-  pub references : (i j : ℕ) → Contains pairs (i, j) ↔ ((i < length comps) × (j < length comps) × IsJoined bridge edge (first_at comps i) (first_at comps j))
+  pub references : (i j : ℕ) → Contains pairs (i, j)
+      ↔ ((i < length comps) × (j < length comps) × IsJoined bridge edge (first_at comps i) (first_at comps j))
 
 -- what was found is the expansion of the graph, and stands in the arrays with its numbers
-pub record FoundExpanded (bridge : ℕ → Type 0) (edge : ℕ → ℕ → Type 0) (starts members : List ℕ) (xrefs : List Link) (counts : PassCounts) : Type 0 where
+pub record FoundExpanded (bridge : ℕ → Type 0) (edge : ℕ → ℕ → Type 0)
+    (starts members : List ℕ) (xrefs : List Link) (counts : PassCounts) : Type 0 where
   pub comps : List (List ℕ)
   pub pairs : List (ℕ × ℕ)
   pub exact : IsExpansion bridge edge comps pairs
@@ -49,7 +53,8 @@ pub record FoundExpanded (bridge : ℕ → Type 0) (edge : ℕ → ℕ → Type 
   pub written : AreWritten (all_of comps 0) pairs starts members xrefs
 
 -- an array has too few places for the expansion of the graph, of which the numbers are told
-pub record LacksExpanded (bridge : ℕ → Type 0) (edge : ℕ → ℕ → Type 0) (starts members : List ℕ) (xrefs : List Link) (counts : PassCounts) : Type 0 where
+pub record LacksExpanded (bridge : ℕ → Type 0) (edge : ℕ → ℕ → Type 0)
+    (starts members : List ℕ) (xrefs : List Link) (counts : PassCounts) : Type 0 where
   pub comps : List (List ℕ)
   pub pairs : List (ℕ × ℕ)
   pub exact : IsExpansion bridge edge comps pairs

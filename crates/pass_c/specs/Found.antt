@@ -1,5 +1,6 @@
 -- What the arrays of a call say: a graph before it, and components with their cross-references behind it.
-use Rattle.std.specs.Prelude.{◌≡◌, ◌≢◌, ℕ, ◌+◌, ◌<◌, ◌≤◌, ◌⊎◌, List, [], ◌∷◌, ◌++◌, length, map, take, replicate, All, Contains, Some, slice_get, slice_index, slice_index_or, slice_range}
+use Rattle.std.specs.Prelude.{◌≡◌, ◌≢◌, ℕ, ◌+◌, ◌<◌, ◌≤◌, ◌⊎◌, List, [], ◌∷◌, ◌++◌, length, map, take, replicate, All}
+use Rattle.std.specs.Prelude.{Contains, Some, slice_get, slice_index, slice_index_or, slice_range}
 use Rattle.joint_machine.specs.Components.{IsContraction}
 use Rattle.bridge_graph.specs.declared.packing.Link.{Link}
 use Rattle.pass_c.specs.declared.arrays.PassCounts.{PassCounts}
@@ -19,7 +20,8 @@ AreEdges nodes edges = All (λ e. (e.from < nodes) × (e.to < nodes)) edges
 -- an edge leads from x to y, in rows: y stands in the targets from the start of row x on, up to that of the next row,
 -- or up to the end
 abbrev pub LeadsInRow : List ℕ → List ℕ → ℕ → ℕ → Type 0
-LeadsInRow starts targets x y = (x < length starts) × Contains (slice_range targets (slice_index starts x) (slice_index_or starts (x + 1) (length targets))) y
+LeadsInRow starts targets x y = (x < length starts)
+    × Contains (slice_range targets (slice_index starts x) (slice_index_or starts (x + 1) (length targets))) y
 
 -- each row starts where the next one does, or before it, and none behind the end
 pub record AreInOrder (starts : List ℕ) (end : ℕ) : Type 0 where
@@ -53,17 +55,20 @@ pub record AreCounted (comps : List (List ℕ)) (heavy : ℕ) (pairs : List (ℕ
 
 -- components and cross-references stand in the arrays: each component starts where those before it end, and their
 -- members stand one behind another
-pub record AreWritten (comps : List (List ℕ)) (pairs : List (ℕ × ℕ)) (starts members : List ℕ) (xrefs : List Link) : Type 0 where
+pub record AreWritten (comps : List (List ℕ)) (pairs : List (ℕ × ℕ))
+    (starts members : List ℕ) (xrefs : List Link) : Type 0 where
   pub starts_at : (c : ℕ) → c < length comps → slice_get starts c ≡ Some (length (flat (take c comps)))
   pub members_at : take (length (flat comps)) members ≡ flat comps
   pub xrefs_at : map pair_of (take (length pairs) xrefs) ≡ pairs
 
 -- an array has fewer places than are needed
 abbrev pub AreShort : List ℕ → List ℕ → List Link → PassCounts → Type 0
-AreShort starts members xrefs counts = (length starts < counts.comps) ⊎ (length members < counts.members) ⊎ (length xrefs < counts.xrefs)
+AreShort starts members xrefs counts = (length starts < counts.comps)
+    ⊎ (length members < counts.members) ⊎ (length xrefs < counts.xrefs)
 
 -- what was found is the contraction of the graph, and stands in the arrays with its numbers
-pub record Found (bridge : ℕ → Type 0) (edge : ℕ → ℕ → Type 0) (starts members : List ℕ) (xrefs : List Link) (counts : PassCounts) : Type 0 where
+pub record Found (bridge : ℕ → Type 0) (edge : ℕ → ℕ → Type 0)
+    (starts members : List ℕ) (xrefs : List Link) (counts : PassCounts) : Type 0 where
   pub comps : List (List ℕ)
   pub heavy : List ℕ
   pub pairs : List (ℕ × ℕ)
@@ -72,7 +77,8 @@ pub record Found (bridge : ℕ → Type 0) (edge : ℕ → ℕ → Type 0) (star
   pub written : AreWritten (all_of comps (length heavy)) pairs starts members xrefs
 
 -- an array has too few places for the contraction of the graph, of which the numbers are told
-pub record Lacks (bridge : ℕ → Type 0) (edge : ℕ → ℕ → Type 0) (starts members : List ℕ) (xrefs : List Link) (counts : PassCounts) : Type 0 where
+pub record Lacks (bridge : ℕ → Type 0) (edge : ℕ → ℕ → Type 0)
+    (starts members : List ℕ) (xrefs : List Link) (counts : PassCounts) : Type 0 where
   pub comps : List (List ℕ)
   pub heavy : List ℕ
   pub pairs : List (ℕ × ℕ)

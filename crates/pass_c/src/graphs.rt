@@ -43,7 +43,8 @@ pub(crate) fn graph_of_rows(
 ) -> Result<DeadGraph, Stop>
     ensures made { IfOk result (λ g. IsMade (IsBridgeAt kinds.now) (LeadsInRow starts.now targets.now) g.nodes g.edges) }
     ensures graph { (result ≡ Err Stop.Graph) ↔ (AreRows (length kinds.now) starts.now targets.now → ⊥) }
-    ensures many { IsTooLong (length kinds.now) (length targets.now) → AreRows (length kinds.now) starts.now targets.now → result ≡ Err Stop.TooMany }
+    ensures many { IsTooLong (length kinds.now) (length targets.now)
+        → AreRows (length kinds.now) starts.now targets.now → result ≡ Err Stop.TooMany }
 {
     if !are_rows(kinds.len(), starts, targets) {
         return Err(Stop::Graph);
@@ -61,7 +62,8 @@ pub(crate) fn graph_of_rows(
 pub(crate) fn graph_of_pairs(alloc: Global, kinds: &[u8], edges: &[Link]) -> Result<DeadGraph, Stop>
     ensures made { IfOk result (λ g. IsMade (IsBridgeAt kinds.now) (HasEdge edges.now) g.nodes g.edges) }
     ensures graph { (result ≡ Err Stop.Graph) ↔ (AreEdges (length kinds.now) edges.now → ⊥) }
-    ensures many { IsTooLong (length kinds.now) (length edges.now) → AreEdges (length kinds.now) edges.now → result ≡ Err Stop.TooMany }
+    ensures many { IsTooLong (length kinds.now) (length edges.now)
+        → AreEdges (length kinds.now) edges.now → result ≡ Err Stop.TooMany }
 {
     if !are_edges(kinds.len(), edges) {
         return Err(Stop::Graph);

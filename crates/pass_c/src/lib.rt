@@ -77,12 +77,21 @@ pub extern "C" fn pass_rows(
     counts: &mut PassCounts,
 ) -> u32
     ensures status { result ≤ 4 }
-    ensures done { pairs_for_heavy ≡ 0 → result ≡ 0 → Found (IsBridgeAt kinds.now) (LeadsInRow row_starts.now targets.now) starts.new members.new xrefs.new counts.new }
-    ensures no_room { pairs_for_heavy ≡ 0 → result ≡ 3 → Lacks (IsBridgeAt kinds.now) (LeadsInRow row_starts.now targets.now) starts.new members.new xrefs.new counts.new }
-    ensures done_in_pairs { pairs_for_heavy ≢ 0 → result ≡ 0 → FoundExpanded (IsBridgeAt kinds.now) (LeadsInRow row_starts.now targets.now) starts.new members.new xrefs.new counts.new }
-    ensures no_room_in_pairs { pairs_for_heavy ≢ 0 → result ≡ 3 → LacksExpanded (IsBridgeAt kinds.now) (LeadsInRow row_starts.now targets.now) starts.new members.new xrefs.new counts.new }
+    ensures done { pairs_for_heavy ≡ 0 → result ≡ 0
+        → Found (IsBridgeAt kinds.now) (LeadsInRow row_starts.now targets.now)
+        starts.new members.new xrefs.new counts.new }
+    ensures no_room { pairs_for_heavy ≡ 0 → result ≡ 3
+        → Lacks (IsBridgeAt kinds.now) (LeadsInRow row_starts.now targets.now)
+        starts.new members.new xrefs.new counts.new }
+    ensures done_in_pairs { pairs_for_heavy ≢ 0 → result ≡ 0
+        → FoundExpanded (IsBridgeAt kinds.now)
+        (LeadsInRow row_starts.now targets.now) starts.new members.new xrefs.new counts.new }
+    ensures no_room_in_pairs { pairs_for_heavy ≢ 0 → result ≡ 3
+        → LacksExpanded (IsBridgeAt kinds.now)
+        (LeadsInRow row_starts.now targets.now) starts.new members.new xrefs.new counts.new }
     ensures no_graph { (result ≡ 2) ↔ (AreRows (length kinds.now) row_starts.now targets.now → ⊥) }
-    ensures too_many { IsTooLong (length kinds.now) (length targets.now) → AreRows (length kinds.now) row_starts.now targets.now → result ≡ 4 }
+    ensures too_many { IsTooLong (length kinds.now) (length targets.now)
+        → AreRows (length kinds.now) row_starts.now targets.now → result ≡ 4 }
     ensures kept { result ≢ 0 → (starts.new ≡ starts.old) × (members.new ≡ members.old) × (xrefs.new ≡ xrefs.old) }
     ensures untold { result ≢ 0 → result ≢ 3 → counts.new ≡ counts.old }
 {
@@ -114,12 +123,17 @@ pub extern "C" fn pass_pairs(
     counts: &mut PassCounts,
 ) -> u32
     ensures status { result ≤ 4 }
-    ensures done { pairs_for_heavy ≡ 0 → result ≡ 0 → Found (IsBridgeAt kinds.now) (HasEdge edges.now) starts.new members.new xrefs.new counts.new }
-    ensures no_room { pairs_for_heavy ≡ 0 → result ≡ 3 → Lacks (IsBridgeAt kinds.now) (HasEdge edges.now) starts.new members.new xrefs.new counts.new }
-    ensures done_in_pairs { pairs_for_heavy ≢ 0 → result ≡ 0 → FoundExpanded (IsBridgeAt kinds.now) (HasEdge edges.now) starts.new members.new xrefs.new counts.new }
-    ensures no_room_in_pairs { pairs_for_heavy ≢ 0 → result ≡ 3 → LacksExpanded (IsBridgeAt kinds.now) (HasEdge edges.now) starts.new members.new xrefs.new counts.new }
+    ensures done { pairs_for_heavy ≡ 0 → result ≡ 0
+        → Found (IsBridgeAt kinds.now) (HasEdge edges.now) starts.new members.new xrefs.new counts.new }
+    ensures no_room { pairs_for_heavy ≡ 0 → result ≡ 3
+        → Lacks (IsBridgeAt kinds.now) (HasEdge edges.now) starts.new members.new xrefs.new counts.new }
+    ensures done_in_pairs { pairs_for_heavy ≢ 0 → result ≡ 0
+        → FoundExpanded (IsBridgeAt kinds.now) (HasEdge edges.now) starts.new members.new xrefs.new counts.new }
+    ensures no_room_in_pairs { pairs_for_heavy ≢ 0 → result ≡ 3
+        → LacksExpanded (IsBridgeAt kinds.now) (HasEdge edges.now) starts.new members.new xrefs.new counts.new }
     ensures no_graph { (result ≡ 2) ↔ (AreEdges (length kinds.now) edges.now → ⊥) }
-    ensures too_many { IsTooLong (length kinds.now) (length edges.now) → AreEdges (length kinds.now) edges.now → result ≡ 4 }
+    ensures too_many { IsTooLong (length kinds.now) (length edges.now)
+        → AreEdges (length kinds.now) edges.now → result ≡ 4 }
     ensures kept { result ≢ 0 → (starts.new ≡ starts.old) × (members.new ≡ members.old) × (xrefs.new ≡ xrefs.old) }
     ensures untold { result ≢ 0 → result ≢ 3 → counts.new ≡ counts.old }
 {
@@ -162,10 +176,16 @@ fn answer(
     counts: &mut PassCounts,
 ) -> u32
     ensures status { (result ≤ 4) × (result ≢ 2) }
-    ensures done { pairs_for_heavy ≡ 0 → result ≡ 0 → Found (IsBridgeNode graph.now.nodes) (NodeLeads graph.now.edges) starts.new members.new xrefs.new counts.new }
-    ensures no_room { pairs_for_heavy ≡ 0 → result ≡ 3 → Lacks (IsBridgeNode graph.now.nodes) (NodeLeads graph.now.edges) starts.new members.new xrefs.new counts.new }
-    ensures done_in_pairs { pairs_for_heavy ≢ 0 → result ≡ 0 → FoundExpanded (IsBridgeNode graph.now.nodes) (NodeLeads graph.now.edges) starts.new members.new xrefs.new counts.new }
-    ensures no_room_in_pairs { pairs_for_heavy ≢ 0 → result ≡ 3 → LacksExpanded (IsBridgeNode graph.now.nodes) (NodeLeads graph.now.edges) starts.new members.new xrefs.new counts.new }
+    ensures done { pairs_for_heavy ≡ 0 → result ≡ 0
+        → Found (IsBridgeNode graph.now.nodes) (NodeLeads graph.now.edges) starts.new members.new xrefs.new counts.new }
+    ensures no_room { pairs_for_heavy ≡ 0 → result ≡ 3
+        → Lacks (IsBridgeNode graph.now.nodes) (NodeLeads graph.now.edges) starts.new members.new xrefs.new counts.new }
+    ensures done_in_pairs { pairs_for_heavy ≢ 0 → result ≡ 0
+        → FoundExpanded (IsBridgeNode graph.now.nodes)
+        (NodeLeads graph.now.edges) starts.new members.new xrefs.new counts.new }
+    ensures no_room_in_pairs { pairs_for_heavy ≢ 0 → result ≡ 3
+        → LacksExpanded (IsBridgeNode graph.now.nodes)
+        (NodeLeads graph.now.edges) starts.new members.new xrefs.new counts.new }
     ensures kept { result ≢ 0 → (starts.new ≡ starts.old) × (members.new ≡ members.old) × (xrefs.new ≡ xrefs.old) }
     ensures untold { result ≢ 0 → result ≢ 3 → counts.new ≡ counts.old }
 {
@@ -195,8 +215,10 @@ fn present(
     counts: &mut PassCounts,
 ) -> u32
     ensures status { (result ≤ 4) × (result ≢ 2) }
-    ensures plain { pairs_for_heavy ≡ 0 → Gives found.now.comps found.now.heavy found.now.pairs result starts.new members.new xrefs.new counts.new }
-    ensures in_pairs { pairs_for_heavy ≢ 0 → result ≢ 1 → (out : List (ℕ × ℕ)) × AreExpanded found.now.pairs (length found.now.comps) out
+    ensures plain { pairs_for_heavy ≡ 0
+        → Gives found.now.comps found.now.heavy found.now.pairs result starts.new members.new xrefs.new counts.new }
+    ensures in_pairs { pairs_for_heavy ≢ 0 → result ≢ 1 → (out : List (ℕ × ℕ))
+        × AreExpanded found.now.pairs (length found.now.comps) out
         × Gives found.now.comps 0 out result starts.new members.new xrefs.new counts.new }
     ensures kept { result ≢ 0 → (starts.new ≡ starts.old) × (members.new ≡ members.old) × (xrefs.new ≡ xrefs.old) }
     ensures untold { result ≢ 0 → result ≢ 3 → counts.new ≡ counts.old }

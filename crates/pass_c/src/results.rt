@@ -18,7 +18,8 @@ pub(crate) fn give(
     counts: &mut PassCounts,
 ) -> u32
     ensures status { (result ≡ 0) ⊎ (result ≡ 3) ⊎ (result ≡ 4) }
-    ensures gives { Gives found.now.comps found.now.heavy found.now.pairs result starts.new members.new xrefs.new counts.new }
+    ensures gives { Gives found.now.comps found.now.heavy
+        found.now.pairs result starts.new members.new xrefs.new counts.new }
     ensures kept { result ≢ 0 → (starts.new ≡ starts.old) × (members.new ≡ members.old) × (xrefs.new ≡ xrefs.old) }
     ensures untold { result ≡ 4 → counts.new ≡ counts.old }
 {
@@ -99,8 +100,10 @@ fn write_members(found: &Components, heavy: u32, starts: &mut [u32], members: &m
     requires starts { length (all_of found.now.comps heavy) ≤ length starts.old }
     requires members { length (flat (all_of found.now.comps heavy)) ≤ length members.old }
     requires few { length (flat (all_of found.now.comps heavy)) < 4294967296 }
-    ensures starts { (c : ℕ) → c < length (all_of found.now.comps heavy) → slice_get starts.new c ≡ Some (length (flat (take c (all_of found.now.comps heavy)))) }
-    ensures members { take (length (flat (all_of found.now.comps heavy))) members.new ≡ flat (all_of found.now.comps heavy) }
+    ensures starts { (c : ℕ) → c < length (all_of found.now.comps heavy)
+        → slice_get starts.new c ≡ Some (length (flat (take c (all_of found.now.comps heavy)))) }
+    ensures members { take (length (flat (all_of found.now.comps heavy))) members.new ≡ flat
+        (all_of found.now.comps heavy) }
 {
     let mut at = 0usize;
     for c in 0..found.len() - found.heavy() + heavy {

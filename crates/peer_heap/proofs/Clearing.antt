@@ -1,7 +1,8 @@
 -- Handles on peers that were freed are cleared, one peer after another. A row that is cleared keeps its number, its
 -- peer and its strength, so what is to be cleared for the next peer stays to be found; and the table shows at each
 -- number what the definition's clearing leaves there.
-use Rattle.std.proofs.Common.{◌≡◌, ℕ, zero, suc, ◌+◌, ◌≤◌, Bool, true, false, ◌||◌, eqb, List, [], ◌∷◌, ◌++◌, map, length, take, Option, Some, None, if◌then◌else◌, nat_eq, refl, sym, ap, subst, ◌∙◌, arith}
+use Rattle.std.proofs.Common.{◌≡◌, ℕ, zero, suc, ◌+◌, ◌≤◌, Bool, true, false, ◌||◌, eqb, List, [], ◌∷◌, ◌++◌, map, length, take, Option, Some, None, if◌then◌else◌, nat_eq, refl, sym, ap, subst, ◌∙◌}
+use Rattle.std.proofs.Common.{arith}
 use Rattle.std.specs.List.{list_any}
 use Rattle.std.specs.Option.{option_map}
 use Rattle.std.specs.Prelude.{All}
@@ -52,12 +53,14 @@ one-more : (xs : List ℕ) (p : PNum) (r : HandleRow) → (if eqb p.0 (cleared_o
 one-more xs p r = by (list_any (nat_eq r.peer.0) xs) refl
   where
     by : (a : Bool) → list_any (nat_eq r.peer.0) xs ≡ a → (if eqb p.0 (cleared_on xs r).peer.0 then cleared_row (cleared_on xs r) else cleared_on xs r) ≡ cleared_on (xs ++ p.0 ∷ []) r
-    by true e = ap (λ (q : HandleRow). if eqb p.0 q.peer.0 then cleared_row q else q) (on-true xs r e) ∙ (twice (eqb p.0 r.peer.0) ∙ sym (on-true (xs ++ p.0 ∷ []) r (any-push r.peer.0 xs p.0 ∙ ap (λ b. b || nat_eq r.peer.0 p.0) e)))
+    by true e = ap (λ (q : HandleRow). if eqb p.0 q.peer.0 then cleared_row q else q) (on-true xs r e)
+        ∙ (twice (eqb p.0 r.peer.0) ∙ sym (on-true (xs ++ p.0 ∷ []) r (any-push r.peer.0 xs p.0 ∙ ap (λ b. b || nat_eq r.peer.0 p.0) e)))
       where
         twice : (b : Bool) → (if b then cleared_row (cleared_row r) else cleared_row r) ≡ cleared_row r
         twice true = refl
         twice false = refl
-    by false e = ap (λ (q : HandleRow). if eqb p.0 q.peer.0 then cleared_row q else q) (on-false xs r e) ∙ ap (λ (b : Bool). if b then cleared_row r else r) (sym (any-push r.peer.0 xs p.0 ∙ (ap (λ b. b || nat_eq r.peer.0 p.0) e ∙ eq-turned r.peer.0 p.0)))
+    by false e = ap (λ (q : HandleRow). if eqb p.0 q.peer.0 then cleared_row q else q) (on-false xs r e)
+        ∙ ap (λ (b : Bool). if b then cleared_row r else r) (sym (any-push r.peer.0 xs p.0 ∙ (ap (λ b. b || nat_eq r.peer.0 p.0) e ∙ eq-turned r.peer.0 p.0)))
 
 pub cleared-next : (xs : List ℕ) (p : PNum) (rows : List HandleRow) → cleared_for p (map (cleared_on xs) rows) ≡ map (cleared_on (xs ++ p.0 ∷ [])) rows
 cleared-next xs p [] = refl
@@ -89,7 +92,8 @@ cleared_seen xs i (Some row) = Some (record row { cleared = row.cleared || list_
 
 row_in-mapped : (xs : List ℕ) (rows : List HandleRow) (h : HNum) → row_in (map (cleared_on xs) rows) h ≡ option_map (cleared_on xs) (row_in rows h)
 row_in-mapped xs [] h = refl
-row_in-mapped xs (r ∷ rows) h = ap (λ n. if eqb h.0 n then Some (cleared_on xs r) else row_in (map (cleared_on xs) rows) h) (number (list_any (nat_eq r.peer.0) xs)) ∙ (ap (λ o. if eqb h.0 r.number.0 then Some (cleared_on xs r) else o) (row_in-mapped xs rows h) ∙ out (eqb h.0 r.number.0))
+row_in-mapped xs (r ∷ rows) h = ap (λ n. if eqb h.0 n then Some (cleared_on xs r) else row_in (map (cleared_on xs) rows) h) (number (list_any (nat_eq r.peer.0) xs))
+    ∙ (ap (λ o. if eqb h.0 r.number.0 then Some (cleared_on xs r) else o) (row_in-mapped xs rows h) ∙ out (eqb h.0 r.number.0))
   where
     number : (b : Bool) → (if b then cleared_row r else r).number.0 ≡ r.number.0
     number true = refl
@@ -99,7 +103,8 @@ row_in-mapped xs (r ∷ rows) h = ap (λ n. if eqb h.0 n then Some (cleared_on x
     out true = refl
     out false = refl
 
-seen-cleared : (xs : List ℕ) (o : Option HandleRow) (i : Issued) → ((r : HandleRow) → o ≡ Some r → i.peer ≡ r.peer.0) → option_map row_as (option_map (cleared_on xs) o) ≡ cleared_seen xs i (option_map row_as o)
+seen-cleared : (xs : List ℕ) (o : Option HandleRow) (i : Issued) → ((r : HandleRow) → o ≡ Some r → i.peer ≡ r.peer.0)
+    → option_map row_as (option_map (cleared_on xs) o) ≡ cleared_seen xs i (option_map row_as o)
 seen-cleared xs None i same = refl
 seen-cleared xs (Some r) i same = by (list_any (nat_eq r.peer.0) xs) refl ∙ ap (λ n. cleared_seen xs (record i { peer = n }) (Some (row_as r))) (sym (same r refl))
   where
@@ -118,7 +123,8 @@ seen-cleared xs (Some r) i same = by (list_any (nat_eq r.peer.0) xs) refl ∙ ap
     by true e = ap (λ (q : HandleRow). Some (row_as q)) (on-true xs r e) ∙ ap (λ (b : Bool). Some (record (row_as r) { cleared = b })) (sym (ap (λ b. r.cleared || b) e ∙ or-true r.cleared))
     by false e = ap (λ (q : HandleRow). Some (row_as q)) (on-false xs r e) ∙ ap (λ (b : Bool). Some (record (row_as r) { cleared = b })) (sym (ap (λ b. r.cleared || b) e ∙ or-false r.cleared))
 
-cleared_rows-push : (xs : List ℕ) (is : List Issued) (rows : List (Option TableRow)) (i : Issued) (o : Option TableRow) → length rows ≡ length is → cleared_rows xs (is ++ i ∷ []) (rows ++ o ∷ []) ≡ cleared_rows xs is rows ++ cleared_seen xs i o ∷ []
+cleared_rows-push : (xs : List ℕ) (is : List Issued) (rows : List (Option TableRow)) (i : Issued) (o : Option TableRow)
+    → length rows ≡ length is → cleared_rows xs (is ++ i ∷ []) (rows ++ o ∷ []) ≡ cleared_rows xs is rows ++ cleared_seen xs i o ∷ []
 cleared_rows-push xs [] [] i None len = refl
 cleared_rows-push xs [] [] i (Some row) len = refl
 cleared_rows-push xs [] (r ∷ rows) i o len = absurd (omega (arith, len))
@@ -126,7 +132,8 @@ cleared_rows-push xs (j ∷ is) [] i o len = absurd (omega (arith, len))
 cleared_rows-push xs (j ∷ is) (None ∷ rows) i o len = ap (λ l. None ∷ l) (cleared_rows-push xs is rows i o (omega (arith, len)))
 cleared_rows-push xs (j ∷ is) (Some row ∷ rows) i o len = ap (λ l. cleared_seen xs j (Some row) ∷ l) (cleared_rows-push xs is rows i o (omega (arith, len)))
 
-pub table-cleared : (xs : List ℕ) (rows : List HandleRow) (issued : List Issue) (n : ℕ) → n ≤ length issued → AreRowsIssued rows issued → table_to (map (cleared_on xs) rows) n ≡ cleared_rows xs (map issued_as (take n issued)) (table_to rows n)
+pub table-cleared : (xs : List ℕ) (rows : List HandleRow) (issued : List Issue) (n : ℕ) → n ≤ length issued → AreRowsIssued rows issued
+    → table_to (map (cleared_on xs) rows) n ≡ cleared_rows xs (map issued_as (take n issued)) (table_to rows n)
 table-cleared xs rows issued zero le own = none (take 0 issued)
   where
     none : (l : List Issue) → [] ≡ cleared_rows xs (map issued_as l) []
@@ -135,10 +142,13 @@ table-cleared xs rows issued zero le own = none (take 0 issued)
 table-cleared xs rows issued (suc n) le own =
     let at = numbered-made issued (suc n) (omega arith) le in
     let next : suc n ≡ n + 1 = omega arith in
-    let more : map issued_as (take (suc n) issued) ≡ map issued_as (take n issued) ++ issued_as at.0 ∷ [] = ap (map issued_as) (ap (λ k. take k issued) next ∙ take-next issued n at.0 at.1) ∙ map-append issued_as (take n issued) (at.0 ∷ []) in
+    let more : map issued_as (take (suc n) issued) ≡ map issued_as (take n issued) ++ issued_as at.0 ∷ [] = ap (map issued_as) (ap (λ k. take k issued) next ∙ take-next issued n at.0 at.1)
+    ∙ map-append issued_as (take n issued) (at.0 ∷ []) in
     let before = table-cleared xs rows issued n (omega (arith, le)) own in
-    let same : (r : HandleRow) → row_in rows record { 0 = suc n } ≡ Some r → at.0.peer.0 ≡ r.peer.0 = λ r e. (let w = own record { 0 = suc n } r e in ap (λ (i : Issue). i.peer.0) (same_Some at.0 w.0 (sym at.1 ∙ w.1)) ∙ ap (λ (q : PNum). q.0) w.2) in
-    let last : seen_in (map (cleared_on xs) rows) (suc n) ≡ cleared_seen xs (issued_as at.0) (seen_in rows (suc n)) = ap (option_map row_as) (row_in-mapped xs rows record { 0 = suc n }) ∙ seen-cleared xs (row_in rows record { 0 = suc n }) (issued_as at.0) same in
+    let same : (r : HandleRow) → row_in rows record { 0 = suc n } ≡ Some r
+    → at.0.peer.0 ≡ r.peer.0 = λ r e. (let w = own record { 0 = suc n } r e in ap (λ (i : Issue). i.peer.0) (same_Some at.0 w.0 (sym at.1 ∙ w.1)) ∙ ap (λ (q : PNum). q.0) w.2) in
+    let last : seen_in (map (cleared_on xs) rows) (suc n) ≡ cleared_seen xs (issued_as at.0) (seen_in rows (suc n)) = ap (option_map row_as) (row_in-mapped xs rows record { 0 = suc n })
+    ∙ seen-cleared xs (row_in rows record { 0 = suc n }) (issued_as at.0) same in
     let len : length (table_to rows n) ≡ length (map issued_as (take n issued)) = table_to-count rows n ∙ (sym (taken issued n (omega (arith, le))) ∙ sym (length-map (take n issued) issued_as)) in
     ap (λ t. t ++ seen_in (map (cleared_on xs) rows) (suc n) ∷ []) before
     ∙ (ap (λ z. cleared_rows xs (map issued_as (take n issued)) (table_to rows n) ++ z ∷ []) last

@@ -9,7 +9,8 @@ use Rattle.joint_machine.specs.Components.{End, Rises, node, temporary}
 use Rattle.joint_machine.specs.Heaps.{Heap, HasField, IsLive, fields_of}
 use Rattle.joint_machine.specs.PeerReplay.{IsClosure, IsMarked, IsMarkingRoot, LeadsOver, Marking, MarkingEdge}
 use Rattle.joint_machine.specs.Walks.{Reaches, Walks}
-use Rattle.joint_machine.proofs.Members.{All-members, Contains-cons_cases, Contains-decided, Contains-flat_map, Contains-flat_map_cases, Contains-here, Contains-map, Contains-map_cases, Contains-nil, Contains-there, Rises-push}
+use Rattle.joint_machine.proofs.Members.{All-members, Contains-cons_cases, Contains-decided, Contains-flat_map, Contains-flat_map_cases, Contains-here, Contains-map, Contains-map_cases, Contains-nil}
+use Rattle.joint_machine.proofs.Members.{Contains-there, Rises-push}
 use Rattle.joint_machine.proofs.WalkLemmas.{Reaches-edge, Reaches-keeps, Reaches-self, Reaches-trans}
 use Rattle.joint_laws.proofs.FiniteReach.{reach_decided}
 use Rattle.joint_laws.proofs.Through.{RefEdge, Refers-one, same-node}
@@ -147,7 +148,10 @@ module _ (mk : Marking) where
   step-field x y f =
       let at = (live-ones.exact x).1 (f.live.made.0, f.live.made.1, f.live) in
       let there = Contains-map (field_from x) (named (fields_of mk.heap x)) y (named-to (fields_of mk.heap x) y f.field) in
-      (listing.1 (node x, node y)).1 (Contains-append_left (flat_map fields_at live-ones.these) mk.refs (node x, node y) (Contains-flat_map fields_at live-ones.these x (node x, node y) at there), (f.live, f.there))
+      (listing.1 (node x, node y)).1 (
+        Contains-append_left (flat_map fields_at live-ones.these) mk.refs (node x, node y) (Contains-flat_map fields_at live-ones.these x (node x, node y) at there),
+        (f.live, f.there),
+      )
 
   step-ref : (a b : End) → Contains mk.refs (a, b) → IsThere a → IsThere b → Contains steps (a, b)
   step-ref a b c u v = (listing.1 (a, b)).1 (Contains-append_right (flat_map fields_at live-ones.these) mk.refs (a, b) c, (u, v))
@@ -176,7 +180,8 @@ module _ (mk : Marking) where
   edge-walk x y e = elim e [ inl f ↦ Reaches-edge (RefEdge steps) (node x) (node y) (step-field x y f) | inr r ↦ over (node x) r.reference.through y r.live r.there r.reference.walk ]
 
   walk-to : (a b : ℕ) → Reaches (MarkingEdge mk) a b → Reaches (RefEdge steps) (node a) (node b)
-  walk-to a b r = Reaches-keeps (MarkingEdge mk) (λ v. Reaches (RefEdge steps) (node a) (node v)) (λ u v e q. Reaches-trans (RefEdge steps) (node a) (node u) (node v) q (edge-walk u v e)) a b r (Reaches-self (RefEdge steps) (node a))
+  walk-to a b r = Reaches-keeps (MarkingEdge mk) (λ v. Reaches (RefEdge steps) (node a) (node v))
+      (λ u v e q. Reaches-trans (RefEdge steps) (node a) (node u) (node v) q (edge-walk u v e)) a b r (Reaches-self (RefEdge steps) (node a))
 
   -- and a walk over them from peer to peer is one over edges of the marking
   abbrev Onward : End → ℕ → Type 0
@@ -191,7 +196,12 @@ module _ (mk : Marking) where
   one-edge x y c =
       let w = step-cases (node x) (node y) c in
       elim w.0 [
-        | inl f ↦ inl (record { live = w.1; field = subst (λ u. Contains (fields_of mk.heap u) (Some y)) (same-node f.0 x f.2) (subst (λ v. Contains (fields_of mk.heap f.0) (Some v)) (same-node f.1 y f.3) f.4); there = w.2 })
+        | inl f ↦ inl (record {
+          live = w.1;
+          field = subst (λ u. Contains (fields_of mk.heap u) (Some y)) (same-node f.0 x f.2)
+              (subst (λ v. Contains (fields_of mk.heap f.0) (Some v)) (same-node f.1 y f.3) f.4);
+          there = w.2;
+        })
         | inr d ↦ inr (record { live = w.1; reference = Refers-one mk.refs x y d; there = w.2 })
       ]
 
@@ -221,15 +231,19 @@ module _ (mk : Marking) where
   root-in p r = elim r [
     | inl slot ↦ elim slot [
       | inl c ↦ Contains-append_left (named mk.heap.vars) (named mk.heap.statics ++ (mk.strong_peers ++ mk.brought)) p (named-to mk.heap.vars p c)
-      | inr c ↦ Contains-append_right (named mk.heap.vars) (named mk.heap.statics ++ (mk.strong_peers ++ mk.brought)) p (Contains-append_left (named mk.heap.statics) (mk.strong_peers ++ mk.brought) p (named-to mk.heap.statics p c))
+      | inr c ↦ Contains-append_right (named mk.heap.vars) (named mk.heap.statics ++ (mk.strong_peers ++ mk.brought)) p
+          (Contains-append_left (named mk.heap.statics) (mk.strong_peers ++ mk.brought) p (named-to mk.heap.statics p c))
     ]
-    | inr more ↦ Contains-append_right (named mk.heap.vars) (named mk.heap.statics ++ (mk.strong_peers ++ mk.brought)) p (Contains-append_right (named mk.heap.statics) (mk.strong_peers ++ mk.brought) p (elim more [ inl c ↦ Contains-append_left mk.strong_peers mk.brought p c | inr c ↦ Contains-append_right mk.strong_peers mk.brought p c ]))
+    | inr more ↦ Contains-append_right (named mk.heap.vars) (named mk.heap.statics ++ (mk.strong_peers ++ mk.brought)) p
+        (Contains-append_right (named mk.heap.statics) (mk.strong_peers ++ mk.brought) p
+        (elim more [ inl c ↦ Contains-append_left mk.strong_peers mk.brought p c | inr c ↦ Contains-append_right mk.strong_peers mk.brought p c ]))
   ]
 
   root-from : (p : ℕ) → Contains roots p → IsMarkingRoot mk p
   root-from p c = elim (Contains-append_cases (named mk.heap.vars) (named mk.heap.statics ++ (mk.strong_peers ++ mk.brought)) p c) [
     | inl a ↦ inl (inl (named-from mk.heap.vars p a))
-    | inr d ↦ elim (Contains-append_cases (named mk.heap.statics) (mk.strong_peers ++ mk.brought) p d) [ inl a ↦ inl (inr (named-from mk.heap.statics p a)) | inr e ↦ inr (Contains-append_cases mk.strong_peers mk.brought p e) ]
+    | inr d ↦ elim (Contains-append_cases (named mk.heap.statics) (mk.strong_peers ++ mk.brought) p d)
+        [ inl a ↦ inl (inr (named-from mk.heap.statics p a)) | inr e ↦ inr (Contains-append_cases mk.strong_peers mk.brought p e) ]
   ]
 
   -- whether one of these reaches a peer

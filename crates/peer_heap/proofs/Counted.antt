@@ -60,7 +60,8 @@ counted-same (Some o) v w head marks links c = λ other.
     (subst (λ m. IsCount b m (greys v.links (length m) head) o.blackened) (sym marks) (c other))
 
 -- where peers are shaded
-pub counted-shaded : (o : Option OpenMarking) (these : ℕ → Type 0) (v : HeapRows) (before : ℕ) (w : HeapRows) (after : ℕ) → Greyed (λ k. (is_some o ≡ true) × these k) v.marks v.links before w.marks w.links after → IsGreyList v.marks v.links before
+pub counted-shaded : (o : Option OpenMarking) (these : ℕ → Type 0) (v : HeapRows) (before : ℕ) (w : HeapRows) (after : ℕ)
+    → Greyed (λ k. (is_some o ≡ true) × these k) v.marks v.links before w.marks w.links after → IsGreyList v.marks v.links before
     → AreCounted o (colours_of v before) → AreCounted o (colours_of w after)
 counted-shaded None these v before w after sh list c = tt
 counted-shaded (Some o) these v before w after sh list c = λ other.
@@ -76,13 +77,15 @@ IsSince None x = Unit {0}
 IsSince (Some o) x = IsLive o.begin.value.rows.heap x → ⊥
 
 -- where one that wasn't there at the begin gets a mark
-counted-new : (o : Option OpenMarking) (v w : HeapRows) (head x : ℕ) → IsMarkedToo v w x → IsSince o x → IsGreyList v.marks v.links head → AreCounted o (colours_of v head) → AreCounted o (colours_of w head)
+counted-new : (o : Option OpenMarking) (v w : HeapRows) (head x : ℕ) → IsMarkedToo v w x → IsSince o x
+    → IsGreyList v.marks v.links head → AreCounted o (colours_of v head) → AreCounted o (colours_of w head)
 counted-new None v w head x more since list c = tt
 counted-new (Some o) v w head x more since list c = λ other.
     let b = o.begin.value.rows.heap in
     let xs = list.0 in
     let was : IsCount b v.marks xs o.blackened = subst (λ l. IsCount b v.marks l o.blackened) (grey-list v.marks v.links head xs list.1) (c other) in
-    let same : (p : ℕ) → IsLive b p → IsBlack v.marks xs p ↔ IsBlack w.marks xs p = λ p l. (let d : p ≢ x = λ e. since (subst (IsLive b) e l) in ((λ q. ((more.others p d).1 q.0, q.1)), (λ q. ((more.others p d).0 q.0, q.1)))) in
+    let same : (p : ℕ) → IsLive b p → IsBlack v.marks xs p ↔ IsBlack w.marks xs p = λ p l.
+    (let d : p ≢ x = λ e. since (subst (IsLive b) e l) in ((λ q. ((more.others p d).1 q.0, q.1)), (λ q. ((more.others p d).0 q.0, q.1)))) in
     subst (λ l. IsCount b w.marks l o.blackened) (sym (grey-list w.marks w.links head xs (more.chained head xs list.1))) (counted-as b v.marks xs w.marks xs o.blackened same was)
 
 -- the peers that an event makes
@@ -104,7 +107,8 @@ made-next : (s : PeerReplay) (t : Thread) (o : Op) (cites : Option ℕ) (x : ℕ
 made-next s t (op.Line (act.NewPeer v n)) cites x c = by (is_full s.peers.heap.fields) c
   where
     made : Answered Peers
-    made = (let more = with_peer s.peers Framework n in answer (peer_name (next_number s.peers.heap)) (record more { heap = with_var more.heap (place (thread_number t) v.0) (Some (next_number s.peers.heap)) }))
+    made = (let more = with_peer s.peers Framework n in answer (peer_name (next_number s.peers.heap))
+        (record more { heap = with_var more.heap (place (thread_number t) v.0) (Some (next_number s.peers.heap)) }))
 
     by : (b : Bool) → Contains (made_in (on_table s (if b then answer says.Full s.peers else made)).reply) x → x ≡ next_number s.peers.heap
     by true c = absurd (Contains-nil x c)
@@ -120,30 +124,38 @@ made-next s t (op.Make sort n) cites x c = by (is_full s.peers.heap.fields || ha
 made-next s t _ cites x c = absurd (Contains-nil x c)
 
 -- an event of a step
-still : (o : Option OpenMarking) (old : HeapRows) (before : ℕ) (new : HeapRows) (after : ℕ) → AreMarksSame old new → after ≡ before → AreCounted o (colours_of old before) → AreCounted o (colours_of new after)
-still o old before new after same at c = subst (λ k. AreCounted o (colours_of new k)) (sym at) (counted-same o old new before (ap (λ (v : HeapRows). v.marks) same) (ap (λ (v : HeapRows). v.links) same) c)
+still : (o : Option OpenMarking) (old : HeapRows) (before : ℕ) (new : HeapRows) (after : ℕ) → AreMarksSame old new
+    → after ≡ before → AreCounted o (colours_of old before) → AreCounted o (colours_of new after)
+still o old before new after same at c = subst (λ k. AreCounted o (colours_of new k)) (sym at)
+    (counted-same o old new before (ap (λ (v : HeapRows). v.marks) same) (ap (λ (v : HeapRows). v.links) same) c)
 
-made : (o : Option OpenMarking) (old : HeapRows) (before : ℕ) (r : Reply) (new : HeapRows) (after : ℕ) → MarksNew old r new → after ≡ before → ((x : ℕ) → Contains (made_in r) x → IsSince o x) → IsGreyList old.marks old.links before → AreCounted o (colours_of old before) → AreCounted o (colours_of new after)
+made : (o : Option OpenMarking) (old : HeapRows) (before : ℕ) (r : Reply) (new : HeapRows) (after : ℕ) → MarksNew old r new → after ≡ before
+    → ((x : ℕ) → Contains (made_in r) x → IsSince o x) → IsGreyList old.marks old.links before → AreCounted o (colours_of old before) → AreCounted o (colours_of new after)
 made o old before (says.P p) new after m at since list c = subst (λ k. AreCounted o (colours_of new k)) (sym at) (counted-new o old new before p.0 m (since p.0 (Contains-here p.0 [])) list c)
 made o old before (says.Made p h) new after m at since list c = subst (λ k. AreCounted o (colours_of new k)) (sym at) (counted-new o old new before p.0 m (since p.0 (Contains-here p.0 [])) list c)
 made o old before _ new after m at since list c = still o old before new after m at c
 
-brought : (o : Option OpenMarking) (old : HeapRows) (before : ℕ) (r : Reply) (new : HeapRows) (after : ℕ) → MarksBrought (is_some o) old before r new after → IsGreyList old.marks old.links before → AreCounted o (colours_of old before) → AreCounted o (colours_of new after)
+brought : (o : Option OpenMarking) (old : HeapRows) (before : ℕ) (r : Reply) (new : HeapRows) (after : ℕ) → MarksBrought (is_some o) old before r new after
+    → IsGreyList old.marks old.links before → AreCounted o (colours_of old before) → AreCounted o (colours_of new after)
 brought o old before (says.P p) new after m list c = counted-shaded o (λ k. k ≡ p.0) old before new after m.shaded list c
 brought o old before _ new after m list c = still o old before new after m.0 m.1 c
 
-counted-after : (o : Option OpenMarking) (t : Thread) (old : HeapRows) (before : ℕ) (e : Op) (r : Reply) (new : HeapRows) (after : ℕ) → MarksAfter (is_some o) t old before e r new after → ((x : ℕ) → Contains (made_at e r) x → IsSince o x) → IsGreyList old.marks old.links before
+counted-after : (o : Option OpenMarking) (t : Thread) (old : HeapRows) (before : ℕ) (e : Op) (r : Reply) (new : HeapRows) (after : ℕ)
+    → MarksAfter (is_some o) t old before e r new after → ((x : ℕ) → Contains (made_at e r) x → IsSince o x) → IsGreyList old.marks old.links before
     → AreCounted o (colours_of old before) → AreCounted o (colours_of new after)
 counted-after o t old before (op.Line (act.NewPeer v n)) r new after m since list c = made o old before r new after m.0 m.1 since list c
 counted-after o t old before (op.Make sort n) r new after m since list c = made o old before r new after m.0 m.1 since list c
-counted-after o t old before (op.Line (act.Set v i w)) r new after m since list c = counted-shaded o (λ k. overwritten old.heap (place (thread_number t) v.0) i (place_or_none (thread_number t) w) ≡ Some k) old before new after m.shaded list c
+counted-after o t old before (op.Line (act.Set v i w)) r new after m since list c = counted-shaded o
+    (λ k. overwritten old.heap (place (thread_number t) v.0) i (place_or_none (thread_number t) w) ≡ Some k) old before new after m.shaded list c
 counted-after o t old before (op.Line (act.WRead v g)) r new after m since list c = brought o old before r new after m list c
 counted-after o t old before (op.Land h x) r new after m since list c = brought o old before r new after m list c
 counted-after o t old before _ r new after m since list c = still o old before new after m.0 m.1 c
 
-pub counted-next : (old new : Rows) (o : Option OpenMarking) (head next n : ℕ) (m : Mirrors) (stock : Stock) (made : Made) → IsSide old o n m stock → GoesBy old made.caller made.op made.reply new → MarksAfter (is_some o) made.caller old.rows head made.op made.reply new.rows next → AreGoing old o head n m stock.entries
+pub counted-next : (old new : Rows) (o : Option OpenMarking) (head next n : ℕ) (m : Mirrors) (stock : Stock) (made : Made) → IsSide old o n m stock
+    → GoesBy old made.caller made.op made.reply new → MarksAfter (is_some o) made.caller old.rows head made.op made.reply new.rows next → AreGoing old o head n m stock.entries
     → AreCounted o (colours_of old.rows head) → AreCounted o (colours_of new.rows next)
-counted-next old new o head next n m stock made side goes marks going c = counted-after o made.caller old.rows head made.op made.reply new.rows next marks (λ x d. since o side x (number x d)) going.list c
+counted-next old new o head next n m stock made side goes marks going c = counted-after o made.caller
+    old.rows head made.op made.reply new.rows next marks (λ x d. since o side x (number x d)) going.list c
   where
     number : (x : ℕ) → Contains (made_at made.op made.reply) x → x ≡ next_number old.rows.heap
     number x d =
@@ -155,7 +167,8 @@ counted-next old new o head next n m stock made side goes marks going c = counte
     since (Some b) side x e = λ l. (let k = side.kept.marking (marking_as old.issued stock.entries b) refl in omega (arith, e, k.made, l.made.1))
 
 -- where a restore gives another handle
-pub counted-restored : (o : Option OpenMarking) (old : Rows) (head h : ℕ) (back : Back) (w : Rows) (next : ℕ) → RestoresHandle (is_some o) old head h back w next → IsGreyList old.rows.marks old.rows.links head → AreCounted o (colours_of old.rows head) → AreCounted o (colours_of w.rows next)
+pub counted-restored : (o : Option OpenMarking) (old : Rows) (head h : ℕ) (back : Back) (w : Rows) (next : ℕ) → RestoresHandle (is_some o) old head h back w next
+    → IsGreyList old.rows.marks old.rows.links head → AreCounted o (colours_of old.rows head) → AreCounted o (colours_of w.rows next)
 counted-restored o old head h Cleared w next (r, at) list c =
     let rows = ap (λ (z : Rows). z.rows) r.rest in
     subst (λ k. AreCounted o (colours_of w.rows k)) (sym at) (counted-same o old.rows w.rows head (ap (λ (v : HeapRows). v.marks) rows) (ap (λ (v : HeapRows). v.links) rows) c)
@@ -179,5 +192,6 @@ counted-drivers issued es None c drivers = tt
 counted-drivers issued es (Some o) c drivers = λ other. absurd (other drivers)
 
 -- where there is room for more references
-pub roomy-counted : (rows w : Rows) (o : Option OpenMarking) (head all temps : ℕ) → w ≡ record rows { rows = record rows.rows { room = all; temps = temps } } → AreCounted o (colours_of rows.rows head) → AreCounted o (colours_of w.rows head)
+pub roomy-counted : (rows w : Rows) (o : Option OpenMarking) (head all temps : ℕ) → w ≡ record rows { rows = record rows.rows { room = all; temps = temps } }
+    → AreCounted o (colours_of rows.rows head) → AreCounted o (colours_of w.rows head)
 roomy-counted rows w o head all temps roomy c = counted-same o rows.rows w.rows head (ap (λ (z : Rows). z.rows.marks) roomy) (ap (λ (z : Rows). z.rows.links) roomy) c

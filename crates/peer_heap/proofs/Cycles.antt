@@ -26,7 +26,8 @@ use Rattle.peer_heap.specs.Cycles.{mirrors}
 use Rattle.peer_heap.specs.Marks.{IsGoing}
 use Rattle.peer_heap.specs.Mirroring.{with_stood}
 use Rattle.peer_heap.specs.MirrorLaws.{HasFurther, fresh_mirror, state_of}
-use Rattle.peer_heap.specs.Mirrors.{Mirrors, AreEndsStrong, HasEnd, MayStand, IsDue, given_at, given_since, mirror_as, mirror_in, mirrors_in, mirrored_at, weakened_at, restored_at, owed_by, owed_next, told_since}
+use Rattle.peer_heap.specs.Mirrors.{Mirrors, AreEndsStrong, HasEnd, MayStand, IsDue, given_at, given_since, mirror_as, mirror_in, mirrors_in, mirrored_at, weakened_at, restored_at, owed_by, owed_next}
+use Rattle.peer_heap.specs.Mirrors.{told_since}
 use Rattle.peer_heap.specs.Rows.{Rows}
 use Rattle.peer_heap.specs.Sides.{AreGoing, IsSide, IsFrom, IsKnown, brought_at, brought_since, marking_as, marking_in, owed, state_with}
 use Rattle.peer_heap.proofs.Dues.{IsDue-none, mirror-next, told-push}
@@ -50,21 +51,28 @@ module _ (es after : List Entry) (e : Entry) (added : after ≡ es ++ e ∷ []) 
   pub cycles-next : mirrors_in after ≡ mirrors_in es ++ mirrored_at e.made.op
   cycles-next = ap (λ l. mirrors_in l) added ∙ told-push mirrored_at 0 es e (omega arith)
 
-  pub cycle-next : (m : OpenMirror) → m.from ≤ length es → mirror_as after m ≡ record (mirror_as es m) { weakened = told_since weakened_at m.from es ++ weakened_at e.made.op; restored = told_since restored_at m.from es ++ restored_at e.made.op; renewed = given_since m.from es ++ given_at e.made.op e.made.reply }
+  pub cycle-next : (m : OpenMirror) → m.from ≤ length es → mirror_as after m ≡ record (mirror_as es m) {
+    weakened = told_since weakened_at m.from es ++ weakened_at e.made.op;
+    restored = told_since restored_at m.from es ++ restored_at e.made.op;
+    renewed = given_since m.from es ++ given_at e.made.op e.made.reply;
+  }
   cycle-next m le = ap (λ l. mirror_as l m) added ∙ mirror-next es e m le
 
-  marking-told : (issued : List Issued) (o : OpenMarking) → All (IsKnown issued) es → o.from ≤ length es → marking_as issued after o ≡ record (marking_as issued es o) { brought = brought_since issued o.from es ++ brought_at issued e.made.op e.made.reply }
+  marking-told : (issued : List Issued) (o : OpenMarking) → All (IsKnown issued) es → o.from ≤ length es
+      → marking_as issued after o ≡ record (marking_as issued es o) { brought = brought_since issued o.from es ++ brought_at issued e.made.op e.made.reply }
   marking-told issued o known from = ap (λ l. marking_as issued l o) added ∙ marking-push issued issued es e o (not-grown issued issued refl) known from
 
   -- an entry that brings nothing back leaves the marking
-  pub marking-same : (issued : List Issued) (o : Option OpenMarking) → All (IsKnown issued) es → IsFrom o (length es) → brought_at issued e.made.op e.made.reply ≡ [] → marking_in issued after o ≡ marking_in issued es o
+  pub marking-same : (issued : List Issued) (o : Option OpenMarking) → All (IsKnown issued) es → IsFrom o (length es)
+      → brought_at issued e.made.op e.made.reply ≡ [] → marking_in issued after o ≡ marking_in issued es o
   marking-same issued None known from none = refl
   marking-same issued (Some o) known from none =
       let with-back : List ℕ → Marking = λ l. record (marking_as issued es o) { brought = l } in
       ap (λ z. Some z) (marking-told issued o known from ∙ (ap (λ l. with-back (brought_since issued o.from es ++ l)) none ∙ ap with-back (append-nil (brought_since issued o.from es))))
 
   -- and one that brings a peer back has it last, whatever further handle was issued
-  pub marking-grown : (issued new : List Issued) (o : Option OpenMarking) (p : ℕ) → HasFurther issued new → All (IsKnown issued) es → IsFrom o (length es) → brought_at new e.made.op e.made.reply ≡ p ∷ [] → marking_in new after o ≡ brought_to (marking_in issued es o) p
+  pub marking-grown : (issued new : List Issued) (o : Option OpenMarking) (p : ℕ) → HasFurther issued new → All (IsKnown issued) es
+      → IsFrom o (length es) → brought_at new e.made.op e.made.reply ≡ p ∷ [] → marking_in new after o ≡ brought_to (marking_in issued es o) p
   marking-grown issued new None p grown known from one = refl
   marking-grown issued new (Some o) p grown known from one =
       let with-back : List ℕ → Marking = λ l. record (marking_as issued es o) { brought = l } in
@@ -87,7 +95,8 @@ end-referred refs p q r = by r.through (node p) r.walk
     by (t ∷ ts) e w = by ts (temporary t) w.1
 
 -- the references that wait may stand
-pub waiting-refer : (rows : Rows) (o : Option OpenMarking) (n : ℕ) (m : Mirrors) (stock : Stock) → IsSide rows o n m stock → AreEndsStrong (state_with stock.entries rows o n m) m.waiting → All (MayReferBoth rows.rows) m.waiting
+pub waiting-refer : (rows : Rows) (o : Option OpenMarking) (n : ℕ) (m : Mirrors) (stock : Stock) → IsSide rows o n m stock
+    → AreEndsStrong (state_with stock.entries rows o n m) m.waiting → All (MayReferBoth rows.rows) m.waiting
 waiting-refer rows o n m stock side ends = λ k d l. (let e = get_or m.waiting k d in let there = Contains-get_or m.waiting k d l in (one e.0 (e.1, inl there), one e.1 (e.0, inr there)))
   where
     one : (e : End) → (f : End) × (Contains m.waiting (e, f) ⊎ Contains m.waiting (f, e)) → MayRefer rows.rows e
@@ -95,7 +104,8 @@ waiting-refer rows o n m stock side ends = λ k d l. (let e = get_or m.waiting k
     one (temporary t) w = side.temps_within t w.0 w.1
 
 -- a further reference waits
-pub IsSide-pushed : (rows : Rows) (o : Option OpenMarking) (n : ℕ) (m mm : Mirrors) (stock : Stock) (from to : End) → IsSide rows o n m stock → 1 ≤ m.room → MayStand rows.rows.heap m.temps from → MayStand rows.rows.heap m.temps to
+pub IsSide-pushed : (rows : Rows) (o : Option OpenMarking) (n : ℕ) (m mm : Mirrors) (stock : Stock) (from to : End)
+    → IsSide rows o n m stock → 1 ≤ m.room → MayStand rows.rows.heap m.temps from → MayStand rows.rows.heap m.temps to
     → mm ≡ record m { waiting = m.waiting ++ (from, to) ∷ []; room = m.room - 1 } → IsSide rows o n mm stock
 IsSide-pushed rows o n m mm stock from to side some a b is = rw is (record {
   replayed = side.replayed;
@@ -110,7 +120,10 @@ IsSide-pushed rows o n m mm stock from to side some a b is = rw is (record {
   bare = side.bare;
   refs_room = omega (arith, side.refs_room, some, length_push m.waiting (from, to));
   temps_room = side.temps_room;
-  temps_within = λ t e c. elim c [ inl w ↦ last t (temporary t, e) (inl refl) (λ k. side.temps_within t e (inl k)) w | inr w ↦ last t (e, temporary t) (inr refl) (λ k. side.temps_within t e (inr k)) w ];
+  temps_within = λ t e c. elim c [
+    | inl w ↦ last t (temporary t, e) (inl refl) (λ k. side.temps_within t e (inl k)) w
+    | inr w ↦ last t (e, temporary t) (inr refl) (λ k. side.temps_within t e (inr k)) w
+  ];
   few_refs = side.few_refs;
 })
   where
@@ -143,7 +156,8 @@ module _ (old w : Rows) (o : Option OpenMarking) (n : ℕ) (m : Mirrors) (stock 
   fresh =
       let empty : (at : Op → List ℕ) → told_since at (length after) after ≡ [] = λ at. ap (flat_map (λ (e : Entry). at e.made.op)) (drop_all (length after) after (omega arith)) in
       let gave : given_since (length after) after ≡ [] = ap (flat_map (λ (e : Entry). given_at e.made.op e.made.reply)) (drop_all (length after) after (omega arith)) in
-      ap (λ l. (let z : Mirror = record { cycle = cycle.0; snap = snap; weakened = l; restored = told_since restored_at (length after) after; renewed = given_since (length after) after } in z)) (empty weakened_at)
+      ap (λ l. (let z : Mirror = record { cycle = cycle.0; snap = snap; weakened = l; restored = told_since restored_at (length after) after; renewed = given_since (length after) after } in z))
+      (empty weakened_at)
       ∙ (ap (λ l. (let z : Mirror = record { cycle = cycle.0; snap = snap; weakened = []; restored = l; renewed = given_since (length after) after } in z)) (empty restored_at)
       ∙ ap (λ l. (let z : Mirror = record { cycle = cycle.0; snap = snap; weakened = []; restored = []; renewed = l } in z)) gave)
 
@@ -151,21 +165,27 @@ module _ (old w : Rows) (o : Option OpenMarking) (n : ℕ) (m : Mirrors) (stock 
   issued-same = ap (λ (z : Rows). z.issued) put
 
   marking-stays : marking_in w.issued after o ≡ marking_in old.issued stock.entries o
-  marking-stays = ap (λ is. marking_in is after o) issued-same ∙ marking-same stock.entries after (numbered k (mirrors index cycle (length m.waiting) snap)) added old.issued o side.known side.from refl
+  marking-stays = ap (λ is. marking_in is after o) issued-same
+      ∙ marking-same stock.entries after (numbered k (mirrors index cycle (length m.waiting) snap)) added old.issued o side.known side.from refl
 
-  told : peer_answer (state_with stock.entries old o n m) C (op.Mirror cycle) (Some snap) (references_of m.waiting) ≡ answer (says.Refs (length m.waiting)) (state_with after w o n (stood_mirrors m cycle snap (length after) handles))
+  told : peer_answer (state_with stock.entries old o n m) C (op.Mirror cycle) (Some snap) (references_of m.waiting) ≡ answer
+      (says.Refs (length m.waiting)) (state_with after w o n (stood_mirrors m cycle snap (length after) handles))
   told =
       let es = stock.entries in
       let mk = marking_in old.issued es o in
       ap (λ x. peer_answer (state_of old x (mirrors_in es) mk n) C (op.Mirror cycle) (Some snap) (references_of m.waiting)) closed
       ∙ (stood-answer old w (mirrors_in es) mk n cycle snap m.waiting no-refs put
-      ∙ ap (λ z. answer (says.Refs (length m.waiting)) z) (sym (state-eq w (Some (mirror_as after (stood_mirror cycle snap (length after) handles))) (Some (fresh_mirror cycle.0 snap)) (mirrors_in after) (mirrors_in es ++ cycle.0 ∷ []) (marking_in w.issued after o) mk n
+      ∙ ap (λ z. answer (says.Refs (length m.waiting)) z) (sym (state-eq w (Some (mirror_as after (stood_mirror cycle snap (length after) handles)))
+      (Some (fresh_mirror cycle.0 snap)) (mirrors_in after) (mirrors_in es ++ cycle.0 ∷ []) (marking_in w.issued after o) mk n
       (ap (λ z. Some z) fresh) (cycles-next es after (numbered k (mirrors index cycle (length m.waiting) snap)) added) marking-stays)))
 
   -- the entry may come next
-  pub stood-goes : (Contains (mirrors_in stock.entries) cycle.0 → ⊥) → GoesOn peer_rules (state_with stock.entries old o n m) (mirrors index cycle (length m.waiting) snap) (references_of m.waiting) (state_with after w o n (stood_mirrors m cycle snap (length after) handles))
+  pub stood-goes : (Contains (mirrors_in stock.entries) cycle.0 → ⊥)
+      → GoesOn peer_rules (state_with stock.entries old o n m) (mirrors index cycle (length m.waiting) snap)
+      (references_of m.waiting) (state_with after w o n (stood_mirrors m cycle snap (length after) handles))
   stood-goes once =
-      goes-told (state_with stock.entries old o n m) (state_with after w o n (stood_mirrors m cycle snap (length after) handles)) (mirrors index cycle (length m.waiting) snap) (references_of m.waiting)
+      goes-told (state_with stock.entries old o n m) (state_with after w o n (stood_mirrors m cycle snap (length after) handles))
+      (mirrors index cycle (length m.waiting) snap) (references_of m.waiting)
       (record { event = tt; side = refl }) (record { none_stands = closed; once = once; snap = snap; cited = refl }) told
 
   -- an open marking goes on, and doesn't follow them
@@ -188,8 +208,10 @@ module _ (old w : Rows) (o : Option OpenMarking) (n : ℕ) (m : Mirrors) (stock 
       (strong-live s side.kept p from, strong-live s side.kept q to, strong-safe s side.kept q to))
 
 -- the side after it
-pub IsSide-stood : (old w : Rows) (o : Option OpenMarking) (n : ℕ) (m : Mirrors) (stock later : Stock) (k floor index : ℕ) (cycle : Cycle) (snap handles : ℕ) → IsSide old o n m stock → later.entries ≡ stock.entries ++ numbered k (mirrors index cycle (length m.waiting) snap) ∷ [] → AllBelow stock.entries floor → floor ≤ k
-    → w ≡ with_stood old m.waiting → mirror_in stock.entries m.mirror ≡ None → m.next ≡ Some handles → (Contains (mirrors_in stock.entries) cycle.0 → ⊥) → AreEndsStrong (state_with stock.entries old o n m) m.waiting → length m.waiting ≤ 4294967295 → later.spare + 1 ≡ stock.spare
+pub IsSide-stood : (old w : Rows) (o : Option OpenMarking) (n : ℕ) (m : Mirrors) (stock later : Stock) (k floor index : ℕ) (cycle : Cycle) (snap handles : ℕ)
+    → IsSide old o n m stock → later.entries ≡ stock.entries ++ numbered k (mirrors index cycle (length m.waiting) snap) ∷ [] → AllBelow stock.entries floor → floor ≤ k
+    → w ≡ with_stood old m.waiting → mirror_in stock.entries m.mirror ≡ None → m.next ≡ Some handles → (Contains (mirrors_in stock.entries) cycle.0 → ⊥)
+    → AreEndsStrong (state_with stock.entries old o n m) m.waiting → length m.waiting ≤ 4294967295 → later.spare + 1 ≡ stock.spare
     → IsSide w o n (stood_mirrors m cycle snap (length later.entries) handles) later
 IsSide-stood old w o n m stock later k floor index cycle snap handles side added below above put closed next once ends few spare =
     let made = mirrors index cycle (length m.waiting) snap in

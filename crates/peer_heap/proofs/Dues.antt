@@ -29,12 +29,29 @@ told-still at n es e le none = told-push at n es e le ∙ (ap (λ l. told_since 
 
 -- the mirrored cycle after an entry
 pub mirror-next : (es : List Entry) (e : Entry) (m : OpenMirror) → m.from ≤ length es
-    → mirror_as (es ++ e ∷ []) m ≡ record (mirror_as es m) { weakened = told_since weakened_at m.from es ++ weakened_at e.made.op; restored = told_since restored_at m.from es ++ restored_at e.made.op; renewed = given_since m.from es ++ given_at e.made.op e.made.reply }
+    → mirror_as (es ++ e ∷ []) m ≡ record (mirror_as es m) {
+      weakened = told_since weakened_at m.from es ++ weakened_at e.made.op;
+      restored = told_since restored_at m.from es ++ restored_at e.made.op;
+      renewed = given_since m.from es ++ given_at e.made.op e.made.reply;
+    }
 mirror-next es e m le =
     let all = es ++ e ∷ [] in
-    ap (λ (l : List ℕ). (let z : Mirror = record { cycle = m.cycle.0; snap = m.snap; weakened = l; restored = told_since restored_at m.from all; renewed = given_since m.from all } in z)) (told-push weakened_at m.from es e le)
-    ∙ (ap (λ (l : List ℕ). (let z : Mirror = record { cycle = m.cycle.0; snap = m.snap; weakened = told_since weakened_at m.from es ++ weakened_at e.made.op; restored = l; renewed = given_since m.from all } in z)) (told-push restored_at m.from es e le)
-    ∙ ap (λ (l : List ℕ). (let z : Mirror = record { cycle = m.cycle.0; snap = m.snap; weakened = told_since weakened_at m.from es ++ weakened_at e.made.op; restored = told_since restored_at m.from es ++ restored_at e.made.op; renewed = l } in z)) (given-push m.from es e le))
+    ap (λ (l : List ℕ). (let z : Mirror = record { cycle = m.cycle.0; snap = m.snap; weakened = l; restored = told_since restored_at m.from all; renewed = given_since m.from all } in z))
+    (told-push weakened_at m.from es e le)
+    ∙ (ap (λ (l : List ℕ). (let z : Mirror = record {
+      cycle = m.cycle.0;
+      snap = m.snap;
+      weakened = told_since weakened_at m.from es ++ weakened_at e.made.op;
+      restored = l;
+      renewed = given_since m.from all;
+    } in z)) (told-push restored_at m.from es e le)
+    ∙ ap (λ (l : List ℕ). (let z : Mirror = record {
+      cycle = m.cycle.0;
+      snap = m.snap;
+      weakened = told_since weakened_at m.from es ++ weakened_at e.made.op;
+      restored = told_since restored_at m.from es ++ restored_at e.made.op;
+      renewed = l;
+    } in z)) (given-push m.from es e le))
 
 -- one place fewer, where one number less has to be there
 record IsFewer (xs : List ℕ) (h : ℕ) : Type 0 where
@@ -80,7 +97,8 @@ IsDue-restored m due h d c n =
     record {
       weak_ones = w.left;
       count = omega (arith, w.count, d.count);
-      there = λ x there' gone. w.there x (d.there x there' (λ r. gone (Contains-append_left m.restored (h ∷ []) x r))) (λ e. gone (subst (Contains (m.restored ++ h ∷ [])) (sym e) (Contains-push m.restored h)));
+      there = λ x there' gone. w.there x (d.there x there' (λ r. gone (Contains-append_left m.restored (h ∷ []) x r)))
+          (λ e. gone (subst (Contains (m.restored ++ h ∷ [])) (sym e) (Contains-push m.restored h)));
     }
 
 -- a cycle that comes to be mirrored owes no restore

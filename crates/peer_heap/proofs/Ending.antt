@@ -92,13 +92,19 @@ module _ (old w : Rows) (o : Option OpenMarking) (n : ℕ) (m : Mirrors) (x : Op
       let mk = marking_in old.issued es o in
       ap (λ y. peer_answer (state_of old (mirror_in es y) (mirrors_in es) mk n) C (op.Clear cycle) None nothing) here
       ∙ (gone-answer old w (mirror_as es x) (mirrors_in es) mk n cycle None put
-      ∙ ap (λ z. answer says.Ok z) (sym (state-eq w None None (mirrors_in after) (mirrors_in es) (marking_in w.issued after o) mk n refl (cycles-next es after (numbered k (clears index cycle)) added ∙ append-nil (mirrors_in es)) marking-stays)))
+      ∙ ap (λ z. answer says.Ok z) (sym (state-eq w None None (mirrors_in after) (mirrors_in es) (marking_in w.issued after o) mk n refl
+      (cycles-next es after (numbered k (clears index cycle)) added ∙ append-nil (mirrors_in es)) marking-stays)))
 
   pub clear-goes : MayClear (state_with stock.entries old o n m) cycle.0 → GoesOn peer_rules (state_with stock.entries old o n m) (clears index cycle) nothing (state_with after w o n (over m))
   clear-goes may = goes-told (state_with stock.entries old o n m) (state_with after w o n (over m)) (clears index cycle) nothing (record { event = tt; side = refl }) may told
 
-  pub clear-going : (head next : ℕ) → Greyed (λ k. (is_some o ≡ true) × IsReferred old.rows k) old.rows.marks old.rows.links head w.rows.marks w.rows.links next → AreTargetsRestored (state_with stock.entries old o n m) → AreGoing old o head n m stock.entries → AreGoing w o next n (over m) after
-  clear-going head next shaded targets going = record { list = greyed-list (λ k. (is_some o ≡ true) × IsReferred old.rows k) old.rows.marks old.rows.links head w.rows.marks w.rows.links next shaded going.list; going = goes-on }
+  pub clear-going : (head next : ℕ) → Greyed (λ k. (is_some o ≡ true) × IsReferred old.rows k) old.rows.marks old.rows.links head w.rows.marks w.rows.links next
+      → AreTargetsRestored (state_with stock.entries old o n m) → AreGoing old o head n m stock.entries → AreGoing w o next n (over m) after
+  clear-going head next shaded targets going = record {
+    list = greyed-list
+        (λ k. (is_some o ≡ true) × IsReferred old.rows k) old.rows.marks old.rows.links head w.rows.marks w.rows.links next shaded going.list;
+    going = goes-on;
+  }
     where
       goes-on : (mk : Marking) → marking_in w.issued after o ≡ Some mk → IsGoing (state_with after w o n (over m)) mk w.rows next
       goes-on mk q =
@@ -106,15 +112,20 @@ module _ (old w : Rows) (o : Option OpenMarking) (n : ℕ) (m : Mirrors) (x : Op
           let t = state_with after w o n (over m) in
           let open' = sym marking-stays ∙ q in
           let g = going.going mk open' in
-          let y = open-shades (is_some o) (IsReferred old.rows) old.rows.marks old.rows.links head w.rows.marks w.rows.links next (some-open old.issued stock.entries o mk open') shaded g.greys g.chained in
-          let spared : (a b : ℕ) → HasReference s.peers.heap s.refs a b → IsSpared mk b = λ a b r. (let z = mirror_as stock.entries x in restored-spared s z b mk side.kept open' (targets z (ap (mirror_in stock.entries) here) a b r)) in
+          let y = open-shades (is_some o) (IsReferred old.rows) old.rows.marks old.rows.links head w.rows.marks w.rows.links next
+          (some-open old.issued stock.entries o mk open') shaded g.greys g.chained in
+          let spared : (a b : ℕ) → HasReference s.peers.heap s.refs a b
+          → IsSpared mk b = λ a b r. (let z = mirror_as stock.entries x in restored-spared s z b mk side.kept open' (targets z (ap (mirror_in stock.entries) here) a b r)) in
           let gone = going-cleared s mk old.rows.follows old.rows.marks w.rows.marks g.greys y.waits spared g.right y.shades in
           let moved : AreMarksGoing t mk old.rows.follows w.rows.marks y.waits =
-          going-same (record s { refs = []; mirror = None }) t mk old.rows.follows w.rows.marks y.waits (ap (λ (z : Rows). z.rows.heap.fields) put) (ap (λ (z : Rows). z.rows.heap.freed) put) (ap (λ (z : Rows). z.rows.refs) put) gone in
+          going-same (record s { refs = []; mirror = None }) t mk old.rows.follows w.rows.marks y.waits
+          (ap (λ (z : Rows). z.rows.heap.fields) put) (ap (λ (z : Rows). z.rows.heap.freed) put) (ap (λ (z : Rows). z.rows.refs) put) gone in
           record { greys = y.waits; chained = y.chained; right = subst (λ f. AreMarksGoing t mk f w.rows.marks y.waits) (sym (ap (λ (z : Rows). z.rows.follows) put)) moved }
 
-pub IsSide-cleared : (old w : Rows) (o : Option OpenMarking) (n : ℕ) (m : Mirrors) (x : OpenMirror) (stock later : Stock) (k floor index : ℕ) (cycle : Cycle) → IsSide old o n m stock → later.entries ≡ stock.entries ++ numbered k (clears index cycle) ∷ [] → AllBelow stock.entries floor → floor ≤ k
-    → w ≡ with_cleared old w.rows → m.mirror ≡ Some x → MayClear (state_with stock.entries old o n m) cycle.0 → AreTargetsRestored (state_with stock.entries old o n m) → later.spare + 1 ≡ stock.spare → IsSide w o n (over m) later
+pub IsSide-cleared : (old w : Rows) (o : Option OpenMarking) (n : ℕ) (m : Mirrors) (x : OpenMirror) (stock later : Stock) (k floor index : ℕ) (cycle : Cycle)
+    → IsSide old o n m stock → later.entries ≡ stock.entries ++ numbered k (clears index cycle) ∷ [] → AllBelow stock.entries floor → floor ≤ k
+    → w ≡ with_cleared old w.rows → m.mirror ≡ Some x → MayClear (state_with stock.entries old o n m) cycle.0
+    → AreTargetsRestored (state_with stock.entries old o n m) → later.spare + 1 ≡ stock.spare → IsSide w o n (over m) later
 IsSide-cleared old w o n m x stock later k floor index cycle side added below above put here may targets spare =
     let made = clears index cycle in
     let e : Entry = numbered k made in

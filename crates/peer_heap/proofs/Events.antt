@@ -35,7 +35,8 @@ pub answers-still : (old new : Rows) (a : Answered Peers) (r : Reply) → a ≡ 
 answers-still old new a r e issued table = record { peers = e; table = table ∙ sym (table-still (with_rows opening_peer_replay old) (peers_in new) issued) }
 
 -- the heap's own events
-pub answers-heap : (old : Rows) (rows : HeapRows) (operation : (ℕ → Reply) → Answered Heap) (d : Done) (r : Reply) → Did operation d rows.heap → r ≡ say peer_name d → PeersAnswer old (on_peer_heap (peers_in old) (operation peer_name)) r (record old { rows = rows })
+pub answers-heap : (old : Rows) (rows : HeapRows) (operation : (ℕ → Reply) → Answered Heap) (d : Done) (r : Reply) → Did operation d rows.heap
+    → r ≡ say peer_name d → PeersAnswer old (on_peer_heap (peers_in old) (operation peer_name)) r (record old { rows = rows })
 answers-heap old rows operation d r did said = answers-still old (record old { rows = rows }) _ r
     (ap (on_peer_heap (peers_in old)) (did peer_name) ∙ ap (λ z. answer z (record (peers_in old) { heap = rows.heap })) (sym said)) refl refl
 
@@ -44,17 +45,20 @@ pub goes-answers : (old new : Rows) (a : Answered Peers) (r : Reply) → PeersAn
 goes-answers old new a r w s = ap (on_table (with_rows s old)) w.peers ∙ ap (λ t. answer r (record s { peers = peers_in new; table = t })) (sym w.table)
 
 -- `global` and `wglobal`: of a variable that names a peer, refused, or done
-pub globalised-some : (old : Rows) (g v p : ℕ) (st : Strength) → slot old.rows.heap.vars v ≡ Some p → globalised (peers_in old) g v (strength_as st) ≡ name_given (peers_in old) g p (strength_as st) (slot old.names g)
+pub globalised-some : (old : Rows) (g v p : ℕ) (st : Strength) → slot old.rows.heap.vars v ≡ Some p
+    → globalised (peers_in old) g v (strength_as st) ≡ name_given (peers_in old) g p (strength_as st) (slot old.names g)
 globalised-some old g v p st var = ap (λ o. elim o [ None ↦ answer says.Empty (peers_in old) | Some q ↦ name_given (peers_in old) g q (strength_as st) (slot old.names g) ]) var
 
 pub answers-taken : (old : Rows) (g p : ℕ) (st : Strength) (o : Option ℕ) (h : ℕ) → o ≡ Some h → PeersAnswer old (name_given (peers_in old) g p (strength_as st) o) says.Taken old
 answers-taken old g p st o h name = answers-still old old (name_given (peers_in old) g p (strength_as st) o) says.Taken (rw name refl) refl refl
 
-pub answers-no_handle : (old : Rows) (g p : ℕ) (st : Strength) (o : Option ℕ) → o ≡ None → handles_full (peers_in old) ≡ true → PeersAnswer old (name_given (peers_in old) g p (strength_as st) o) says.Full old
+pub answers-no_handle : (old : Rows) (g p : ℕ) (st : Strength) (o : Option ℕ) → o ≡ None
+    → handles_full (peers_in old) ≡ true → PeersAnswer old (name_given (peers_in old) g p (strength_as st) o) says.Full old
 answers-no_handle old g p st o name full = answers-still old old (name_given (peers_in old) g p (strength_as st) o) says.Full (rw (name, full) refl) refl refl
 
 pub answers-named : (old : Rows) (g : ℕ) (p : PNum) (st : Strength) (o : Option ℕ) (h : HNum) → o ≡ None → handles_full (peers_in old) ≡ false → h.0 ≡ length old.issued + 1
-    → PeersAnswer old (name_given (peers_in old) g p.0 (strength_as st) o) (says.H h) (record (issued_to old record { peer = p; hold = Raw; strength = st }) { names = slice_set old.names g (Some h.0) })
+    → PeersAnswer old (name_given (peers_in old) g p.0 (strength_as st) o) (says.H h)
+    (record (issued_to old record { peer = p; hold = Raw; strength = st }) { names = slice_set old.names g (Some h.0) })
 answers-named old g p st o h name full number =
     let i : Issue = record { peer = p; hold = Raw; strength = st } in
     let new : Rows = record (issued_to old i) { names = slice_set old.names g (Some h.0) } in
@@ -62,15 +66,20 @@ answers-named old g p st o h name full number =
     record { peers = rw (name, full, handle) refl; table = sym (table-issued (with_rows opening_peer_replay old) (peers_in new) (issued_as i) refl) }
 
 -- `unglobal`: refused, or done
-pub goes-unset : (old : Rows) (g : ℕ) → slot old.names g ≡ None → (s : PeerReplay) → on_table (untabled (with_rows s old) (slot old.names g)) (name_freed (peers_in old) g) ≡ answer says.Unset (with_rows s old)
+pub goes-unset : (old : Rows) (g : ℕ) → slot old.names g ≡ None → (s : PeerReplay)
+    → on_table (untabled (with_rows s old) (slot old.names g)) (name_freed (peers_in old) g) ≡ answer says.Unset (with_rows s old)
 goes-unset old g none s = rw (none, name_freed) (ap (λ t. answer says.Unset (record s { peers = peers_in old; table = t })) (table-still (with_rows s old) (peers_in old) refl))
 
-pub goes-unnamed : (old : Rows) (g h n : ℕ) → slot old.names g ≡ Some h → (s : PeerReplay) → on_table (untabled (with_rows s old) (slot old.names g)) (name_freed (peers_in old) g) ≡ answer says.Ok (with_rows s (record old { names = slice_set old.names g None; table = numbered_set old.table h None; tabled = n }))
+pub goes-unnamed : (old : Rows) (g h n : ℕ) → slot old.names g ≡ Some h → (s : PeerReplay)
+    → on_table (untabled (with_rows s old) (slot old.names g)) (name_freed (peers_in old) g) ≡ answer says.Ok
+    (with_rows s (record old { names = slice_set old.names g None; table = numbered_set old.table h None; tabled = n }))
 goes-unnamed old g h n some s =
     let new : Rows = record old { names = slice_set old.names g None; table = numbered_set old.table h None; tabled = n } in
-    rw (some, name_freed) (ap (λ t. answer says.Ok (record s { peers = peers_in new; table = t })) (table-still (with_rows s (record old { table = numbered_set old.table h None })) (peers_in new) refl))
+    rw (some, name_freed) (ap (λ t. answer says.Ok (record s { peers = peers_in new; table = t }))
+    (table-still (with_rows s (record old { table = numbered_set old.table h None })) (peers_in new) refl))
 
-pub answers-pair : (old : Rows) (rows : HeapRows) (sorts : List Sort) (sort : Sort) (n : ℕ) (p : PNum) (h : HNum) → (is_full old.rows.heap.fields || handles_full (peers_in old)) ≡ false → p.0 ≡ next_number old.rows.heap → h.0 ≡ length old.issued + 1
+pub answers-pair : (old : Rows) (rows : HeapRows) (sorts : List Sort) (sort : Sort) (n : ℕ) (p : PNum) (h : HNum)
+    → (is_full old.rows.heap.fields || handles_full (peers_in old)) ≡ false → p.0 ≡ next_number old.rows.heap → h.0 ≡ length old.issued + 1
     → rows.heap ≡ with_object old.rows.heap n → sorts ≡ old.sorts ++ sort ∷ []
     → PeersAnswer old (pair_made (peers_in old) sort n) (says.Made p h) (record (issued_to old record { peer = p; hold = Held; strength = Strong }) { rows = rows; sorts = sorts })
 answers-pair old rows sorts sort n p h room number next grown more =
@@ -80,7 +89,8 @@ answers-pair old rows sorts sort n p h room number next grown more =
     let handle : h ≡ record { 0 = length old.issued + 1 } = ap (λ (m : ℕ). (let q : HNum = record { 0 = m } in q)) next in
     record { peers = rw (room, grown, more, peer, handle) refl; table = sym (table-issued (with_rows opening_peer_replay old) (peers_in new) (issued_as i) refl) }
 
-pub answers-gripped : (old : Rows) (x : ℕ) (p : PNum) (h : HNum) (sort : Sort) (n : ℕ) → slot old.rows.heap.statics x ≡ Some p.0 → handles_full (peers_in old) ≡ false → h.0 ≡ length old.issued + 1 → sort ≡ sort_of (peers_in old) p.0 → n ≡ length (fields_of old.rows.heap p.0)
+pub answers-gripped : (old : Rows) (x : ℕ) (p : PNum) (h : HNum) (sort : Sort) (n : ℕ) → slot old.rows.heap.statics x ≡ Some p.0
+    → handles_full (peers_in old) ≡ false → h.0 ≡ length old.issued + 1 → sort ≡ sort_of (peers_in old) p.0 → n ≡ length (fields_of old.rows.heap p.0)
     → PeersAnswer old (gripped (peers_in old) x) (says.Gripped p h sort n) (issued_to old record { peer = p; hold = Held; strength = Strong })
 answers-gripped old x p h sort n some full number kind len =
     let i : Issue = record { peer = p; hold = Held; strength = Strong } in
@@ -98,14 +108,16 @@ name_read-some old target v g h name = ap (λ o. elim o [ None ↦ answer says.U
 pub answers-no_read : (old : Rows) (v : ℕ) (o : Option ℕ) → o ≡ None → PeersAnswer old (peer_read (peers_in old) v o) says.Gone old
 answers-no_read old v o none = answers-still old old (peer_read (peers_in old) v o) says.Gone (rw none refl) refl refl
 
-pub answers-read : (old : Rows) (rows : HeapRows) (v : ℕ) (o : Option ℕ) (p : PNum) → o ≡ Some p.0 → rows.heap ≡ with_var old.rows.heap v (Some p.0) → PeersAnswer old (peer_read (peers_in old) v o) (says.P p) (record old { rows = rows })
+pub answers-read : (old : Rows) (rows : HeapRows) (v : ℕ) (o : Option ℕ) (p : PNum) → o ≡ Some p.0
+    → rows.heap ≡ with_var old.rows.heap v (Some p.0) → PeersAnswer old (peer_read (peers_in old) v o) (says.P p) (record old { rows = rows })
 answers-read old rows v o p some named = answers-still old (record old { rows = rows }) (peer_read (peers_in old) v o) (says.P p) (rw (some, named) refl) refl refl
 
 -- `land`: refused, or done
 pub answers-no_land : (old : Rows) (x : ℕ) (o : Option ℕ) → o ≡ None → PeersAnswer old (landed (peers_in old) x o) says.Gone old
 answers-no_land old x o none = answers-still old old (landed (peers_in old) x o) says.Gone (rw none refl) refl refl
 
-pub answers-landed : (old : Rows) (rows : HeapRows) (x : ℕ) (o : Option ℕ) (p : PNum) → o ≡ Some p.0 → rows.heap ≡ with_static old.rows.heap x (Some p.0) → PeersAnswer old (landed (peers_in old) x o) (says.P p) (record old { rows = rows })
+pub answers-landed : (old : Rows) (rows : HeapRows) (x : ℕ) (o : Option ℕ) (p : PNum) → o ≡ Some p.0
+    → rows.heap ≡ with_static old.rows.heap x (Some p.0) → PeersAnswer old (landed (peers_in old) x o) (says.P p) (record old { rows = rows })
 answers-landed old rows x o p some named = answers-still old (record old { rows = rows }) (landed (peers_in old) x o) (says.P p) (rw (some, named) refl) refl refl
 
 -- what a name or a handle gave is brought back
@@ -114,17 +126,21 @@ brings-answer s (says.P p) = refl
 brings-answer s _ = refl
 
 -- the events of `wread` and `land`
-pub goes-read : (old new : Rows) (t : Thread) (o : Op) (v : Var) (g : GName) (r : Reply) (at : ℕ) → o ≡ op.Line (act.WRead v g) → at ≡ place (thread_number t) v.0 → PeersAnswer old (name_read (table_target (with_rows opening_peer_replay old)) (peers_in old) at g.0) r new → GoesBy old t o r new
+pub goes-read : (old new : Rows) (t : Thread) (o : Op) (v : Var) (g : GName) (r : Reply) (at : ℕ) → o ≡ op.Line (act.WRead v g) → at ≡ place (thread_number t) v.0
+    → PeersAnswer old (name_read (table_target (with_rows opening_peer_replay old)) (peers_in old) at g.0) r new → GoesBy old t o r new
 goes-read old new t o v g r at is place' w = λ s cites.
     let target = table_target (with_rows opening_peer_replay old) in
     let here : PeersAnswer old (name_read target (peers_in old) (place (thread_number t) v.0) g.0) r new = subst (λ z. PeersAnswer old (name_read target (peers_in old) z g.0) r new) place' w in
     let done : on_table (with_rows s old) (name_read target (peers_in old) (place (thread_number t) v.0) g.0) ≡ answer r (with_rows s new) = goes-answers old new _ r here s in
-    subst (λ z. peer_answer (with_rows s old) t z cites nothing ≡ answer r (record (with_rows s new) { marking = marking_after s.marking z r })) (sym is) (ap brings done ∙ brings-answer (with_rows s new) r)
+    subst (λ z. peer_answer (with_rows s old) t z cites nothing ≡ answer r (record (with_rows s new) { marking = marking_after s.marking z r }))
+    (sym is) (ap brings done ∙ brings-answer (with_rows s new) r)
 
-pub goes-landed : (old new : Rows) (t : Thread) (o : Op) (h : HNum) (x : StaticNo) (r : Reply) → o ≡ op.Land h x → PeersAnswer old (landed (peers_in old) x.0 (table_target (with_rows opening_peer_replay old) h.0)) r new → GoesBy old t o r new
+pub goes-landed : (old new : Rows) (t : Thread) (o : Op) (h : HNum) (x : StaticNo) (r : Reply) → o ≡ op.Land h x
+    → PeersAnswer old (landed (peers_in old) x.0 (table_target (with_rows opening_peer_replay old) h.0)) r new → GoesBy old t o r new
 goes-landed old new t o h x r is w = λ s cites.
     let done : on_table (with_rows s old) (landed (peers_in old) x.0 (table_target (with_rows opening_peer_replay old) h.0)) ≡ answer r (with_rows s new) = goes-answers old new _ r w s in
-    subst (λ z. peer_answer (with_rows s old) t z cites nothing ≡ answer r (record (with_rows s new) { marking = marking_after s.marking z r })) (sym is) (ap brings done ∙ brings-answer (with_rows s new) r)
+    subst (λ z. peer_answer (with_rows s old) t z cites nothing ≡ answer r (record (with_rows s new) { marking = marking_after s.marking z r }))
+    (sym is) (ap brings done ∙ brings-answer (with_rows s new) r)
 
 -- the sort of a peer, as it stands among those of all peers
 pub sort-read : (v : Rows) (p : ℕ) (s : Sort) → 1 ≤ p → slice_get v.sorts (p - 1) ≡ Some s → s ≡ sort_of (peers_in v) p

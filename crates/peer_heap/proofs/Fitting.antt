@@ -12,7 +12,8 @@ use Rattle.peer_heap.specs.Marking.{cleared_on}
 use Rattle.peer_heap.specs.Rows.{AreShort, ArePeerRows, Rows, issued_as, rows_with, table_to}
 use Rattle.peer_heap.proofs.Clearing.{issued-cleared}
 
-pub ArePeerRows-marked : (v w : HeapRows) (sorts : List Sort) (issued : List Issue) (table : Table) → w.heap.fields ≡ v.heap.fields → ArePeerRows v sorts issued table → ArePeerRows w sorts issued table
+pub ArePeerRows-marked : (v w : HeapRows) (sorts : List Sort) (issued : List Issue) (table : Table)
+    → w.heap.fields ≡ v.heap.fields → ArePeerRows v sorts issued table → ArePeerRows w sorts issued table
 ArePeerRows-marked v w sorts issued table same a = record {
   rising = a.rising;
   places = a.places;
@@ -22,7 +23,8 @@ ArePeerRows-marked v w sorts issued table same a = record {
 }
 
 -- and where handles on some peers were cleared
-pub ArePeerRows-cleared : (v w : HeapRows) (sorts : List Sort) (issued : List Issue) (old new : Table) (xs : List ℕ) → w.heap.fields ≡ v.heap.fields → new.rows ≡ map (cleared_on xs) old.rows → new.last ≡ old.last → IsRising new
+pub ArePeerRows-cleared : (v w : HeapRows) (sorts : List Sort) (issued : List Issue) (old new : Table) (xs : List ℕ)
+    → w.heap.fields ≡ v.heap.fields → new.rows ≡ map (cleared_on xs) old.rows → new.last ≡ old.last → IsRising new
     → ArePeerRows v sorts issued old → ArePeerRows w sorts issued new
 ArePeerRows-cleared v w sorts issued old new xs same rows last rising a = record {
   rising = rising;
@@ -33,17 +35,21 @@ ArePeerRows-cleared v w sorts issued old new xs same rows last rising a = record
 }
 
 -- the end of the list of freed peers, as numbers
-pub freed-end : (before after : List PNum) (old new : List ℕ) → peer_numbers before ≡ old → peer_numbers after ≡ new → peer_numbers (take (length after - length before) (drop (length before) after)) ≡ drop (length old) new
+pub freed-end : (before after : List PNum) (old new : List ℕ) → peer_numbers before ≡ old → peer_numbers after ≡ new
+    → peer_numbers (take (length after - length before) (drop (length before) after)) ≡ drop (length old) new
 freed-end before after old new b a =
-    let whole : take (length after - length before) (drop (length before) after) ≡ drop (length before) after = take_all (length after - length before) (drop (length before) after) (omega (arith, length-drop (length before) after)) in
+    let whole : take (length after - length before) (drop (length before) after) ≡ drop (length before) after = take_all
+    (length after - length before) (drop (length before) after) (omega (arith, length-drop (length before) after)) in
     let count : length before ≡ length old = sym (length-map before (λ (p : PNum). p.0)) ∙ ap length b in
     ap peer_numbers whole ∙ (sym (drop-map (λ (p : PNum). p.0) (length before) after) ∙ (ap (drop (length before)) a ∙ ap (λ n. drop n new) count))
 
 -- the parts as they are seen
-pub rows-as : (v w u : HeapRows) (sorts : List Sort) (names : List (Option ℕ)) (issued : List Issue) (old new : Table) (table : List (Option TableRow)) → w ≡ u → new.made ≡ old.made → table_to new.rows new.last ≡ table → length new.rows ≡ length old.rows
+pub rows-as : (v w u : HeapRows) (sorts : List Sort) (names : List (Option ℕ)) (issued : List Issue) (old new : Table) (table : List (Option TableRow))
+    → w ≡ u → new.made ≡ old.made → table_to new.rows new.last ≡ table → length new.rows ≡ length old.rows
     → rows_with w sorts names issued new ≡ record (rows_with v sorts names issued old) { rows = u; table = table }
 rows-as v w u sorts names issued old new table e made t n =
-    ap (λ (z : HeapRows). let q : Rows = record { rows = z; sorts = sorts; names = names; issued = map issued_as issued; made = new.made; table = table_to new.rows new.last; tabled = length new.rows } in q) e
+    ap (λ (z : HeapRows). let q : Rows = record { rows = z; sorts = sorts; names = names; issued = map issued_as issued; made = new.made; table = table_to new.rows new.last; tabled = length new.rows }
+    in q) e
     ∙ (ap (λ (z : ℕ). let q : Rows = record { rows = u; sorts = sorts; names = names; issued = map issued_as issued; made = z; table = table_to new.rows new.last; tabled = length new.rows } in q) made
     ∙ (ap (λ (z : List (Option TableRow)). let q : Rows = record { rows = u; sorts = sorts; names = names; issued = map issued_as issued; made = old.made; table = z; tabled = length new.rows } in q) t
     ∙ ap (λ (z : ℕ). let q : Rows = record { rows = u; sorts = sorts; names = names; issued = map issued_as issued; made = old.made; table = table; tabled = z } in q) n))

@@ -35,7 +35,8 @@ pub record IsIssued (issued after : List Issue) (old new : Table) (i : Issue) (h
   pub more : after ≡ issued ++ i ∷ []
 
 -- the same where room was taken first
-pub issued-reserved : (issued mid after : List Issue) (old ready new : Table) (i : Issue) (h : HNum) → mid ≡ issued → ready ≡ record old { room = 1 } → IsIssued mid after ready new i h → IsIssued issued after old new i h
+pub issued-reserved : (issued mid after : List Issue) (old ready new : Table) (i : Issue) (h : HNum) → mid ≡ issued
+    → ready ≡ record old { room = 1 } → IsIssued mid after ready new i h → IsIssued issued after old new i h
 issued-reserved issued mid after old ready new i h e r w = record {
   number = w.number ∙ ap (λ (t : Table). t.last + 1) r;
   rows = w.rows ∙ ap (λ (t : Table). t.rows ++ fresh_row h i.peer i.hold i.strength ∷ []) r;
@@ -46,13 +47,15 @@ issued-reserved issued mid after old ready new i h e r w = record {
 }
 
 -- a further peer fits
-pub peer-fits : (old mid new : HeapRows) (h : Heap) (sorts after : List Sort) (sort : Sort) (issued : List Issue) (table : Table) (n : ℕ) → n < 256 → mid ≡ with_new old n → new ≡ record mid { heap = h } → h.fields ≡ mid.heap.fields → after ≡ sorts ++ sort ∷ []
+pub peer-fits : (old mid new : HeapRows) (h : Heap) (sorts after : List Sort) (sort : Sort) (issued : List Issue) (table : Table) (n : ℕ)
+    → n < 256 → mid ≡ with_new old n → new ≡ record mid { heap = h } → h.fields ≡ mid.heap.fields → after ≡ sorts ++ sort ∷ []
     → ArePeerRows old sorts issued table → ArePeerRows new after issued table
 peer-fits old mid new h sorts after sort issued table n short made named same more kept =
     new-keeps old new sorts after sort issued table n (omega (arith, short)) (ap (λ (v : HeapRows). v.heap.fields) named ∙ (same ∙ ap (λ (v : HeapRows). v.heap.fields) made)) more kept
 
 -- and so does one with a handle
-pub pair-fits : (old new : HeapRows) (sorts after : List Sort) (sort : Sort) (issued further : List Issue) (table table' : Table) (i : Issue) (h : HNum) (n : ℕ) → n < 256 → new ≡ with_new old n → after ≡ sorts ++ sort ∷ [] → IsIssued issued further table table' i h
+pub pair-fits : (old new : HeapRows) (sorts after : List Sort) (sort : Sort) (issued further : List Issue) (table table' : Table) (i : Issue) (h : HNum) (n : ℕ)
+    → n < 256 → new ≡ with_new old n → after ≡ sorts ++ sort ∷ [] → IsIssued issued further table table' i h
     → ArePeerRows old sorts issued table → ArePeerRows new after further table'
 pair-fits old new sorts after sort issued further table table' i h n short made more w kept =
     let grown = peer-fits old new new new.heap sorts after sort issued table n short made refl refl more kept in
@@ -65,16 +68,20 @@ pair-fits old new sorts after sort issued further table table' i h n short made 
     }
 
 -- it has its mark
-pub further-marked : (v : Rows) (old mid new : HeapRows) (h : Heap) (sorts : List Sort) (names : List (Option ℕ)) (issued : List Issue) (table : Table) (x n : ℕ) → rows_with old sorts names issued table ≡ v → x ≡ next_number old.heap → length old.marks ≡ length old.heap.fields + 1
+pub further-marked : (v : Rows) (old mid new : HeapRows) (h : Heap) (sorts : List Sort) (names : List (Option ℕ)) (issued : List Issue) (table : Table) (x n : ℕ)
+    → rows_with old sorts names issued table ≡ v → x ≡ next_number old.heap → length old.marks ≡ length old.heap.fields + 1
     → mid ≡ with_new old n → new ≡ record mid { heap = h } → IsMarkedToo v.rows new x
 further-marked v old mid new h sorts names issued table x n view number len made named =
     subst (λ (z : Rows). IsMarkedToo z.rows new x) view
-    (marked-too old new x number len (ap (λ (z : HeapRows). z.refs) named ∙ ap (λ (z : HeapRows). z.refs) made) (ap (λ (z : HeapRows). z.follows) named ∙ ap (λ (z : HeapRows). z.follows) made) (ap (λ (z : HeapRows). z.room) named ∙ ap (λ (z : HeapRows). z.room) made) (ap (λ (z : HeapRows). z.temps) named ∙ ap (λ (z : HeapRows). z.temps) made)
+    (marked-too old new x number len (ap (λ (z : HeapRows). z.refs) named ∙ ap (λ (z : HeapRows). z.refs) made) (ap (λ (z : HeapRows). z.follows) named ∙ ap (λ (z : HeapRows). z.follows) made)
+    (ap (λ (z : HeapRows). z.room) named ∙ ap (λ (z : HeapRows). z.room) made) (ap (λ (z : HeapRows). z.temps) named ∙ ap (λ (z : HeapRows). z.temps) made)
     (ap (λ (z : HeapRows). z.marks) named ∙ ap (λ (z : HeapRows). z.marks) made) (ap (λ (z : HeapRows). z.links) named ∙ ap (λ (z : HeapRows). z.links) made))
 
 -- the replay makes the peer, which the variable names
-pub peer-answers : (v : Rows) (old mid new : HeapRows) (sorts after : List Sort) (names : List (Option ℕ)) (issued : List Issue) (table : Table) (p : PNum) (at n : ℕ) → rows_with old sorts names issued table ≡ v → is_full old.heap.fields ≡ false → p.0 ≡ next_number old.heap
-    → mid ≡ with_new old n → new ≡ record mid { heap = with_var mid.heap at (Some p.0) } → after ≡ sorts ++ Framework ∷ [] → PeersAnswer v (peer_made (peers_in v) at n) (says.P p) (rows_with new after names issued table)
+pub peer-answers : (v : Rows) (old mid new : HeapRows) (sorts after : List Sort) (names : List (Option ℕ)) (issued : List Issue) (table : Table) (p : PNum) (at n : ℕ)
+    → rows_with old sorts names issued table ≡ v → is_full old.heap.fields ≡ false → p.0 ≡ next_number old.heap
+    → mid ≡ with_new old n → new ≡ record mid { heap = with_var mid.heap at (Some p.0) } → after ≡ sorts ++ Framework ∷ []
+    → PeersAnswer v (peer_made (peers_in v) at n) (says.P p) (rows_with new after names issued table)
 peer-answers v old mid new sorts after names issued table p at n view room number made named more =
     let before : Rows = rows_with old sorts names issued table in
     let peer : p ≡ record { 0 = next_number old.heap } = ap (λ (m : ℕ). (let q : PNum = record { 0 = m } in q)) number in
@@ -83,14 +90,17 @@ peer-answers v old mid new sorts after names issued table p at n view room numbe
     (answers-still before (rows_with new after names issued table) (peer_made (peers_in before) at n) (says.P p) (rw (room, grown, more, peer) refl) refl refl)
 
 -- the replay makes the pair
-pub pair-answers : (v : Rows) (old new : HeapRows) (sorts after : List Sort) (sort : Sort) (names : List (Option ℕ)) (issued further : List Issue) (table table' : Table) (p : PNum) (h : HNum) (n : ℕ) → rows_with old sorts names issued table ≡ v
-    → (is_full v.rows.heap.fields || handles_full (peers_in v)) ≡ false → p.0 ≡ next_number old.heap → new ≡ with_new old n → after ≡ sorts ++ sort ∷ [] → IsIssued issued further table table' record { peer = p; hold = Held; strength = Strong } h → ArePeerRows old sorts issued table
+pub pair-answers : (v : Rows) (old new : HeapRows) (sorts after : List Sort) (sort : Sort) (names : List (Option ℕ)) (issued further : List Issue) (table table' : Table) (p : PNum) (h : HNum) (n : ℕ)
+    → rows_with old sorts names issued table ≡ v
+    → (is_full v.rows.heap.fields || handles_full (peers_in v)) ≡ false → p.0 ≡ next_number old.heap → new ≡ with_new old n → after ≡ sorts ++ sort ∷ []
+    → IsIssued issued further table table' record { peer = p; hold = Held; strength = Strong } h → ArePeerRows old sorts issued table
     → PeersAnswer v (pair_made (peers_in v) sort n) (says.Made p h) (rows_with new after names further table')
 pair-answers v old new sorts after sort names issued further table table' p h n view left number made more w kept =
     let old-rows : Rows = rows_with old sorts names issued table in
     let seen = rows-issued new after names issued further table table' record { peer = p; hold = Held; strength = Strong } h w.more w.number w.rows w.made w.last kept.rising in
     let next : h.0 ≡ length old-rows.issued + 1 = omega (arith, w.number, kept.places, length-map issued issued_as) in
-    subst (λ (z : Rows). (is_full z.rows.heap.fields || handles_full (peers_in z)) ≡ false → PeersAnswer z (pair_made (peers_in z) sort n) (says.Made p h) (rows_with new after names further table')) view
+    subst (λ (z : Rows). (is_full z.rows.heap.fields || handles_full (peers_in z)) ≡ false → PeersAnswer z (pair_made (peers_in z) sort n) (says.Made p h) (rows_with new after names further table'))
+    view
     (λ room. subst (λ (z : Rows). PeersAnswer old-rows (pair_made (peers_in old-rows) sort n) (says.Made p h) z) (sym seen)
     (answers-pair old-rows new after sort n p h room number next (ap (λ (z : HeapRows). z.heap) made) more))
     left
@@ -100,11 +110,14 @@ pub ready-fits : (v : HeapRows) (sorts : List Sort) (issued : List Issue) (table
 ready-fits v sorts issued table a = record { rising = a.rising; places = a.places; rows_issued = a.rows_issued; sorted = a.sorted; short = a.short }
 
 -- the table has as many handles as before, or one more
-pub tabled-still : (v : Rows) (old : HeapRows) (sorts : List Sort) (names : List (Option ℕ)) (issued : List Issue) (table ready : Table) → rows_with old sorts names issued table ≡ v → ready.rows ≡ table.rows → length ready.rows ≤ v.tabled + 1
+pub tabled-still : (v : Rows) (old : HeapRows) (sorts : List Sort) (names : List (Option ℕ)) (issued : List Issue) (table ready : Table)
+    → rows_with old sorts names issued table ≡ v → ready.rows ≡ table.rows → length ready.rows ≤ v.tabled + 1
 tabled-still v old sorts names issued table ready view same = omega (arith, ap length same, ap (λ (z : Rows). z.tabled) view)
 
-pub tabled-more : (v : Rows) (old : HeapRows) (sorts : List Sort) (names : List (Option ℕ)) (issued after : List Issue) (table new : Table) (i : Issue) (h : HNum) → rows_with old sorts names issued table ≡ v → IsIssued issued after table new i h → length new.rows ≤ v.tabled + 1
-tabled-more v old sorts names issued after table new i h view w = omega (arith, ap length w.rows, length-append table.rows (fresh_row h i.peer i.hold i.strength ∷ []), ap (λ (z : Rows). z.tabled) view)
+pub tabled-more : (v : Rows) (old : HeapRows) (sorts : List Sort) (names : List (Option ℕ)) (issued after : List Issue) (table new : Table) (i : Issue) (h : HNum)
+    → rows_with old sorts names issued table ≡ v → IsIssued issued after table new i h → length new.rows ≤ v.tabled + 1
+tabled-more v old sorts names issued after table new i h view w = omega
+    (arith, ap length w.rows, length-append table.rows (fresh_row h i.peer i.hold i.strength ∷ []), ap (λ (z : Rows). z.tabled) view)
 
 -- where the rows of the heap are as before, so are their marks
 pub marks-same : (old new : HeapRows) → new ≡ old → AreMarksSame old new

@@ -56,7 +56,8 @@ pub record ShadedTo (these : ℕ → Type 0) (m : List Bool) (xs : List ℕ) (m'
   pub chained : Chained m' l' h' waits
   pub shades : Shades these none m xs m' waits
 
-pub open-shades : (b : Bool) (these : ℕ → Type 0) (m : List Bool) (l : List ℕ) (h : ℕ) (m' : List Bool) (l' : List ℕ) (h' : ℕ) → b ≡ true → Greyed (λ k. (b ≡ true) × these k) m l h m' l' h' → (xs : List ℕ) → Chained m l h xs → ShadedTo these m xs m' l' h'
+pub open-shades : (b : Bool) (these : ℕ → Type 0) (m : List Bool) (l : List ℕ) (h : ℕ) (m' : List Bool) (l' : List ℕ) (h' : ℕ)
+    → b ≡ true → Greyed (λ k. (b ≡ true) × these k) m l h m' l' h' → (xs : List ℕ) → Chained m l h xs → ShadedTo these m xs m' l' h'
 open-shades b these m l h m' l' h' up y xs c =
     let g = y xs c in
     let own : ℕ → Type 0 = λ k. (b ≡ true) × these k in
@@ -67,20 +68,24 @@ pub greyed-list : (row : ℕ → Type 0) (m : List Bool) (l : List ℕ) (h : ℕ
 greyed-list row m l h m' l' h' y (xs, c) = ((y xs c).waits, (y xs c).chained)
 
 -- one grey peer after the other is made black
-pub going-blackens : (s : PeerReplay) (mk : Marking) (follows : Bool) (n : ℕ) (m m' : List Bool) (xs ys : List ℕ) → IsPeerKept s → s.marking ≡ Some mk → Blackens (EdgeNow s follows) n m xs m' ys → AreMarksGoing s mk follows m xs → AreMarksGoing s mk follows m' ys
+pub going-blackens : (s : PeerReplay) (mk : Marking) (follows : Bool) (n : ℕ) (m m' : List Bool) (xs ys : List ℕ) → IsPeerKept s
+    → s.marking ≡ Some mk → Blackens (EdgeNow s follows) n m xs m' ys → AreMarksGoing s mk follows m xs → AreMarksGoing s mk follows m' ys
 going-blackens s mk follows zero m m' xs ys kept opened (a, b) g = subst (λ zs. AreMarksGoing s mk follows m' zs) (sym b) (subst (λ z. AreMarksGoing s mk follows z xs) (sym a) g)
 going-blackens s mk follows (suc n) m m' xs ys kept opened (mid, x, rest, before, step) g =
     let was = going-blackens s mk follows n m mid xs (x ∷ rest) kept opened before g in
     let later : PeerReplay = record s { marking = Some (record mk { brought = mk.brought; blackened = mk.blackened }) } in
-    let black = going-black s mk follows mid m' (x ∷ rest) ys x mk.blackened (record { kept = kept; opened = opened; right = was }) (Contains-here x rest) (blackened-shades (EdgeNow s follows x) mid x rest m' ys step) in
+    let black = going-black s mk follows mid m' (x ∷ rest) ys x mk.blackened (record { kept = kept; opened = opened; right = was })
+    (Contains-here x rest) (blackened-shades (EdgeNow s follows x) mid x rest m' ys step) in
     going-same later s mk follows m' ys refl refl refl black
 
 -- the colours of the marks stay, in a state with the same peers and references
-pub going-still : (s t : PeerReplay) (mk : Marking) (v w : HeapRows) (head : ℕ) → t.peers.heap.fields ≡ s.peers.heap.fields → t.peers.heap.freed ≡ s.peers.heap.freed → t.refs ≡ s.refs → w.marks ≡ v.marks → w.links ≡ v.links → w.follows ≡ v.follows → IsGoing s mk v head → IsGoing t mk w head
+pub going-still : (s t : PeerReplay) (mk : Marking) (v w : HeapRows) (head : ℕ) → t.peers.heap.fields ≡ s.peers.heap.fields → t.peers.heap.freed ≡ s.peers.heap.freed
+    → t.refs ≡ s.refs → w.marks ≡ v.marks → w.links ≡ v.links → w.follows ≡ v.follows → IsGoing s mk v head → IsGoing t mk w head
 going-still s t mk v w head fields freed refs marks links follows g = record {
   greys = g.greys;
   chained = subst (λ l. Chained w.marks l head g.greys) (sym links) (subst (λ m. Chained m v.links head g.greys) (sym marks) g.chained);
-  right = going-same s t mk w.follows w.marks g.greys fields freed refs (subst (λ f. AreMarksGoing s mk f w.marks g.greys) (sym follows) (subst (λ m. AreMarksGoing s mk v.follows m g.greys) (sym marks) g.right));
+  right = going-same s t mk w.follows w.marks g.greys fields freed refs
+      (subst (λ f. AreMarksGoing s mk f w.marks g.greys) (sym follows) (subst (λ m. AreMarksGoing s mk v.follows m g.greys) (sym marks) g.right));
 }
 
 -- the list of grey peers stays one where lists get longer
@@ -111,5 +116,6 @@ chained-some m l h [] c e = c.chain
 chained-some m l h (x ∷ xs) c e = (let f : ⊥ = cc in absurd f)
 
 -- a list of grey peers stays one where some are made black, or others shaded
-pub list-blackened : (edge : ℕ → ℕ → Type 0) (n : ℕ) (m : List Bool) (l : List ℕ) (h : ℕ) (m' : List Bool) (l' : List ℕ) (h' : ℕ) → IsGreyList m l h → ((xs : List ℕ) → Chained m l h xs → BlackensTo edge n m xs m' l' h') → IsGreyList m' l' h'
+pub list-blackened : (edge : ℕ → ℕ → Type 0) (n : ℕ) (m : List Bool) (l : List ℕ) (h : ℕ) (m' : List Bool) (l' : List ℕ) (h' : ℕ)
+    → IsGreyList m l h → ((xs : List ℕ) → Chained m l h xs → BlackensTo edge n m xs m' l' h') → IsGreyList m' l' h'
 list-blackened edge n m l h m' l' h' (xs, c) steps = ((steps xs c).waits, (steps xs c).chained)

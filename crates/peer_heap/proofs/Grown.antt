@@ -11,7 +11,8 @@ use Rattle.joint_machine.specs.declared.events.Op.TheVariants as op
 use Rattle.joint_machine.specs.declared.events.Reply.{Reply}
 use Rattle.joint_machine.specs.declared.events.Reply.TheVariants as says
 use Rattle.joint_machine.specs.Heaps.{Answered, answer, slot, place, is_full, next_number, fields_of, with_var}
-use Rattle.joint_machine.specs.Peers.{Peers, Issued, Strength, strong, weak, held, raw, peer_name, handle_name, next_handle, handles_full, with_peer, with_handle, peer_line, peer_gripped, peer_read, name_given, globalised, landed, sort_of}
+use Rattle.joint_machine.specs.Peers.{Peers, Issued, Strength, strong, weak, held, raw, peer_name, handle_name, next_handle, handles_full, with_peer, with_handle, peer_line, peer_gripped, peer_read}
+use Rattle.joint_machine.specs.Peers.{name_given, globalised, landed, sort_of}
 use Rattle.joint_machine.specs.PeerReplay.{PeerReplay, bring_by, on_table, peer_answer, table_target}
 use Rattle.joint_machine.specs.Run.{thread_number}
 use Rattle.joint_machine.specs.Told.{nothing}
@@ -46,7 +47,8 @@ read s v (Some p) = stays s.issued
 held-one : (s : Peers) (o : Option ℕ) → Grows s (peer_gripped s o)
 held-one s None = stays s.issued
 held-one s (Some p) =
-    test-cases (Grows s) (handles_full s) (answer says.Full s) (answer (says.Gripped record { 0 = p } record { 0 = next_handle s } (sort_of s p) (length (fields_of s.heap p))) (with_handle s p held strong))
+    test-cases (Grows s) (handles_full s) (answer says.Full s) (answer
+    (says.Gripped record { 0 = p } record { 0 = next_handle s } (sort_of s p) (length (fields_of s.heap p))) (with_handle s p held strong))
     (stays s.issued) (record { peer = p; hold = held; strength = strong } ∷ [], refl, omega arith)
 
 put : (s : Peers) (x : ℕ) (o : Option ℕ) → Grows s (landed s x o)
@@ -60,11 +62,15 @@ brought-by is a _ w = w
 
 line-grows : (target : ℕ → Option ℕ) (s : Peers) (t : ℕ) (a : Act) → Grows s (peer_line target s t a)
 line-grows target s t (act.NewPeer v n) =
-    test-cases (Grows s) (is_full s.heap.fields) (answer says.Full s) (let grown = with_peer s Framework n in answer (peer_name (next_number s.heap)) (record grown { heap = with_var grown.heap (place t v.0) (Some (next_number s.heap)) })) (stays s.issued) (stays s.issued)
+    test-cases (Grows s) (is_full s.heap.fields) (answer says.Full s)
+    (let grown = with_peer s Framework n in answer (peer_name (next_number s.heap)) (record grown { heap = with_var grown.heap (place t v.0) (Some (next_number s.heap)) }))
+    (stays s.issued) (stays s.issued)
 line-grows target s t (act.Global g v) = named s g.0 (place t v.0) strong
 line-grows target s t (act.WGlobal g v) = named s g.0 (place t v.0) weak
-line-grows target s t (act.UnGlobal g) = option-cases (Grows s) (answer says.Unset s) (λ h. answer says.Ok (record s { names = slice_set s.names g.0 None })) (slot s.names g.0) (stays s.issued) (λ h. stays s.issued)
-line-grows target s t (act.WRead v g) = option-cases (Grows s) (answer says.Unset s) (λ h. peer_read s (place t v.0) (target h)) (slot s.names g.0) (stays s.issued) (λ h. read s (place t v.0) (target h))
+line-grows target s t (act.UnGlobal g) = option-cases (Grows s) (answer says.Unset s)
+    (λ h. answer says.Ok (record s { names = slice_set s.names g.0 None })) (slot s.names g.0) (stays s.issued) (λ h. stays s.issued)
+line-grows target s t (act.WRead v g) = option-cases (Grows s) (answer says.Unset s)
+    (λ h. peer_read s (place t v.0) (target h)) (slot s.names g.0) (stays s.issued) (λ h. read s (place t v.0) (target h))
 line-grows target s t _ = stays s.issued
 
 pub issued-grows : (s : PeerReplay) (t : Thread) (o : Op) (cites : Option ℕ) → IsPeerStep t o → HasFurther s.peers.issued (peer_answer s t o cites nothing).state.peers.issued
@@ -75,7 +81,8 @@ issued-grows s t (op.Line (act.WRead v g)) cites step =
     brought-by s.peers.issued a a.reply (line-grows (table_target s) s.peers (thread_number t) (act.WRead v g))
 issued-grows s t (op.Line a) cites step = line-grows (table_target s) s.peers (thread_number t) a
 issued-grows s t (op.Make sort n) cites step =
-    test-cases (Grows s.peers) (is_full s.peers.heap.fields || handles_full s.peers) (answer says.Full s.peers) (answer (says.Made record { 0 = next_number s.peers.heap } record { 0 = next_handle s.peers }) (with_handle (with_peer s.peers sort n) (next_number s.peers.heap) held strong))
+    test-cases (Grows s.peers) (is_full s.peers.heap.fields || handles_full s.peers) (answer says.Full s.peers)
+    (answer (says.Made record { 0 = next_number s.peers.heap } record { 0 = next_handle s.peers }) (with_handle (with_peer s.peers sort n) (next_number s.peers.heap) held strong))
     (stays s.peers.issued) (record { peer = next_number s.peers.heap; hold = held; strength = strong } ∷ [], refl, omega arith)
 issued-grows s t (op.Land h x) cites step = (let a = on_table s (landed s.peers x.0 (table_target s h.0)) in brought-by s.peers.issued a a.reply (put s.peers x.0 (table_target s h.0)))
 issued-grows s t (op.Grip x) cites step = held-one s.peers (slot s.peers.heap.statics x.0)
@@ -123,7 +130,8 @@ room-brought : (b : Bool) (old : HeapRows) (before : ℕ) (r : Reply) (new : Hea
 room-brought b old before (says.P p) new after m = (m.room, m.temps)
 room-brought b old before _ new after m = (ap (λ (v : HeapRows). v.room) m.0, ap (λ (v : HeapRows). v.temps) m.0)
 
-pub room-after : (b : Bool) (t : Thread) (old : HeapRows) (before : ℕ) (o : Op) (r : Reply) (new : HeapRows) (after : ℕ) → MarksAfter b t old before o r new after → (new.room ≡ old.room) × (new.temps ≡ old.temps)
+pub room-after : (b : Bool) (t : Thread) (old : HeapRows) (before : ℕ) (o : Op) (r : Reply) (new : HeapRows) (after : ℕ)
+    → MarksAfter b t old before o r new after → (new.room ≡ old.room) × (new.temps ≡ old.temps)
 room-after b t old before (op.Line (act.NewPeer v n)) r new after m = room-new old r new m.0
 room-after b t old before (op.Make sort n) r new after m = room-new old r new m.0
 room-after b t old before (op.Line (act.Set v i w)) r new after m = (m.room, m.temps)

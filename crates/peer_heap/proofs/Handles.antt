@@ -50,7 +50,8 @@ table_to-push rows r n number rises =
     rw (before, here) refl
 
 -- the row of one number changes, and the others stay
-pub table_to-set : (old new : List HandleRow) (h n : ℕ) (x : Option TableRow) → ((k : ℕ) → k ≢ h → row_in new record { 0 = k } ≡ row_in old record { 0 = k }) → seen_in new h ≡ x → table_to new n ≡ numbered_set (table_to old n) h x
+pub table_to-set : (old new : List HandleRow) (h n : ℕ) (x : Option TableRow)
+    → ((k : ℕ) → k ≢ h → row_in new record { 0 = k } ≡ row_in old record { 0 = k }) → seen_in new h ≡ x → table_to new n ≡ numbered_set (table_to old n) h x
 table_to-set old new zero zero x others here = refl
 table_to-set old new zero (suc n) x others here =
     let before : table_to new n ≡ table_to old n = table_to-set old new zero n x others here in
@@ -68,18 +69,21 @@ table_to-set old new (suc i) (suc n) x others here =
           ap (λ t. t ++ seen_in new (suc n) ∷ []) (before ∙ past) ∙ (ap (λ y. table_to old n ++ y ∷ []) last ∙ (sym seam ∙ ap (λ k. set (table_to old n ++ seen_in old (suc n) ∷ []) k x) at))
       | inr (inl less) ↦
           let last : seen_in new (suc n) ≡ seen_in old (suc n) = ap (λ r. option_map row_as r) (others (suc n) (omega arith)) in
-          let left : set (table_to old n ++ seen_in old (suc n) ∷ []) i x ≡ set (table_to old n) i x ++ seen_in old (suc n) ∷ [] = set-append_left (table_to old n) (seen_in old (suc n) ∷ []) i x (omega (arith, table_to-count old n)) in
+          let left : set (table_to old n ++ seen_in old (suc n) ∷ []) i x ≡ set (table_to old n) i x ++ seen_in
+          old (suc n) ∷ [] = set-append_left (table_to old n) (seen_in old (suc n) ∷ []) i x (omega (arith, table_to-count old n)) in
           ap (λ t. t ++ seen_in new (suc n) ∷ []) before ∙ (ap (λ y. set (table_to old n) i x ++ y ∷ []) last ∙ sym left)
       | inr (inr more) ↦
           let last : seen_in new (suc n) ≡ seen_in old (suc n) = ap (λ r. option_map row_as r) (others (suc n) (omega arith)) in
           let past : set (table_to old n) i x ≡ table_to old n = set_past (table_to old n) i x (omega (arith, table_to-count old n)) in
-          let all : set (table_to old n ++ seen_in old (suc n) ∷ []) i x ≡ table_to old n ++ seen_in old (suc n) ∷ [] = set_past (table_to old n ++ seen_in old (suc n) ∷ []) i x (omega (arith, table_to-count old n, length-append (table_to old n) (seen_in old (suc n) ∷ []))) in
+          let all : set (table_to old n ++ seen_in old (suc n) ∷ []) i x ≡ table_to old n ++ seen_in
+          old (suc n) ∷ [] = set_past (table_to old n ++ seen_in old (suc n) ∷ []) i x (omega (arith, table_to-count old n, length-append (table_to old n) (seen_in old (suc n) ∷ []))) in
           ap (λ t. t ++ seen_in new (suc n) ∷ []) (before ∙ past) ∙ (ap (λ y. table_to old n ++ y ∷ []) last ∙ sym all)
     ]
 
 -- to remove a row empties its place
 pub table_to-without : (rows : List HandleRow) (h n : ℕ) → table_to (without record { 0 = h } rows) n ≡ numbered_set (table_to rows n) h None
-table_to-without rows h n = table_to-set rows (without record { 0 = h } rows) h n None (λ k apart. row_in-without_other rows record { 0 = h } record { 0 = k } apart) (ap (λ r. option_map row_as r) (row_in-without_same rows record { 0 = h }))
+table_to-without rows h n = table_to-set rows (without record { 0 = h } rows) h n None
+    (λ k apart. row_in-without_other rows record { 0 = h } record { 0 = k } apart) (ap (λ r. option_map row_as r) (row_in-without_same rows record { 0 = h }))
 
 -- what is seen of a row is seen of one that is there
 mapped : (o : Option HandleRow) (row : TableRow) → option_map row_as o ≡ Some row → (r : HandleRow) × (o ≡ Some r)
@@ -119,28 +123,36 @@ length-without_le (x ∷ rs) h = by (eqb h.0 x.number.0) refl (length-without_le
     by false e rest = rw e (omega arith)
 
 -- a handle is issued
-pub rows-issued : (rows : HeapRows) (sorts : List Sort) (names : List (Option ℕ)) (issued after : List Issue) (old new : Table) (i : Issue) (h : HNum) → after ≡ issued ++ i ∷ [] → h.0 ≡ old.last + 1 → new.rows ≡ old.rows ++ fresh_row h i.peer i.hold i.strength ∷ [] → new.made ≡ old.made + 1 → new.last ≡ old.last + 1 → IsRising old
+pub rows-issued : (rows : HeapRows) (sorts : List Sort) (names : List (Option ℕ)) (issued after : List Issue) (old new : Table) (i : Issue) (h : HNum) → after ≡ issued ++ i ∷ []
+    → h.0 ≡ old.last + 1 → new.rows ≡ old.rows ++ fresh_row h i.peer i.hold i.strength ∷ [] → new.made ≡ old.made + 1 → new.last ≡ old.last + 1 → IsRising old
     → rows_with rows sorts names after new ≡ issued_to (rows_with rows sorts names issued old) i
 rows-issued rows sorts names issued after old new i h e number put made last rises =
     let r = fresh_row h i.peer i.hold i.strength in
     let next : new.last ≡ suc old.last = omega (arith, last) in
-    let table : table_to new.rows new.last ≡ table_to old.rows old.last ++ Some (row_as r) ∷ [] = ap (λ z. table_to z new.last) put ∙ (ap (λ n. table_to (old.rows ++ r ∷ []) n) next ∙ table_to-push old.rows r old.last (omega (arith, number)) rises) in
+    let table : table_to new.rows new.last ≡ table_to old.rows old.last ++ Some (row_as r) ∷ [] = ap (λ z. table_to z new.last) put
+    ∙ (ap (λ n. table_to (old.rows ++ r ∷ []) n) next ∙ table_to-push old.rows r old.last (omega (arith, number)) rises) in
     let count : length new.rows ≡ length old.rows + 1 = ap length put ∙ length-append old.rows (r ∷ []) in
     let list : map issued_as after ≡ map issued_as issued ++ issued_as i ∷ [] = ap (map issued_as) e ∙ map-append issued_as issued (i ∷ []) in
     rw (table, count, list, made) refl
 
 -- a handle is removed
-pub rows-removed : (rows : HeapRows) (sorts : List Sort) (names : List (Option ℕ)) (issued : List Issue) (old new : Table) (h : HNum) → new.rows ≡ without h old.rows → new.made ≡ old.made → new.last ≡ old.last
+pub rows-removed : (rows : HeapRows) (sorts : List Sort) (names : List (Option ℕ)) (issued : List Issue) (old new : Table) (h : HNum)
+    → new.rows ≡ without h old.rows → new.made ≡ old.made → new.last ≡ old.last
     → rows_with rows sorts names issued new ≡ record (rows_with rows sorts names issued old) { table = numbered_set (table_to old.rows old.last) h.0 None; tabled = length new.rows }
 rows-removed rows sorts names issued old new h left made last =
-    let table : table_to new.rows new.last ≡ numbered_set (table_to old.rows old.last) h.0 None = ap (λ z. table_to z new.last) left ∙ (ap (λ n. table_to (without h old.rows) n) last ∙ table_to-without old.rows h.0 old.last) in
+    let table : table_to new.rows new.last ≡ numbered_set (table_to old.rows old.last) h.0 None = ap (λ z. table_to z new.last) left
+    ∙ (ap (λ n. table_to (without h old.rows) n) last ∙ table_to-without old.rows h.0 old.last) in
     ap (λ (k : ℕ). record (rows_with rows sorts names issued old) { made = k; table = table_to new.rows new.last; tabled = length new.rows }) made
     ∙ ap (λ (t : List (Option TableRow)). record (rows_with rows sorts names issued old) { table = t; tabled = length new.rows }) table
 
 -- a handle is removed, and one on its peer comes in its place
-pub rows-renewed : (rows : HeapRows) (sorts : List Sort) (names : List (Option ℕ)) (issued after : List Issue) (old new : Table) (h g : HNum) (p : PNum) → after ≡ issued ++ record { peer = p; hold = Held; strength = Strong } ∷ [] → target_in old.rows h ≡ Some p → g.0 ≡ old.last + 1 → new.rows ≡ renewed h g old.rows
+pub rows-renewed : (rows : HeapRows) (sorts : List Sort) (names : List (Option ℕ)) (issued after : List Issue) (old new : Table) (h g : HNum) (p : PNum)
+    → after ≡ issued ++ record { peer = p; hold = Held; strength = Strong } ∷ [] → target_in old.rows h ≡ Some p → g.0 ≡ old.last + 1 → new.rows ≡ renewed h g old.rows
     → new.made ≡ old.made → new.last ≡ old.last + 1 → IsRising old → length new.rows ≡ length old.rows
-    → rows_with rows sorts names after new ≡ record (rows_with rows sorts names issued old) { issued = map issued_as issued ++ record { peer = p.0; hold = held; strength = strong } ∷ []; table = numbered_set (table_to old.rows old.last) h.0 None ++ Some record { strength = strong; cleared = false } ∷ [] }
+    → rows_with rows sorts names after new ≡ record (rows_with rows sorts names issued old) {
+      issued = map issued_as issued ++ record { peer = p.0; hold = held; strength = strong } ∷ [];
+      table = numbered_set (table_to old.rows old.last) h.0 None ++ Some record { strength = strong; cleared = false } ∷ [];
+    }
 rows-renewed rows sorts names issued after old new h g p e there number put made last rises count =
     let i : Issue = record { peer = p; hold = Held; strength = Strong } in
     let r : HandleRow = fresh_row g p Held Strong in
@@ -149,7 +161,8 @@ rows-renewed rows sorts names issued after old new h g p e there number put made
     let all : new.rows ≡ left ++ r ∷ [] = put ∙ ap (λ o. left ++ renewed_rows g o) there in
     let still : RisesBetween 0 old.last left = RisesBetween-without h 0 old.last old.rows rises in
     let table : table_to new.rows new.last ≡ numbered_set (table_to old.rows old.last) h.0 None ++ Some (row_as r) ∷ [] =
-    ap (λ z. table_to z new.last) all ∙ (ap (λ n. table_to (left ++ r ∷ []) n) next ∙ (table_to-push left r old.last (omega (arith, number)) still ∙ ap (λ t. t ++ Some (row_as r) ∷ []) (table_to-without old.rows h.0 old.last))) in
+    ap (λ z. table_to z new.last) all ∙ (ap (λ n. table_to (left ++ r ∷ []) n) next
+    ∙ (table_to-push left r old.last (omega (arith, number)) still ∙ ap (λ t. t ++ Some (row_as r) ∷ []) (table_to-without old.rows h.0 old.last))) in
     let list : map issued_as after ≡ map issued_as issued ++ issued_as i ∷ [] = ap (map issued_as) e ∙ map-append issued_as issued (i ∷ []) in
     rw (table, count, list, made) refl
 
@@ -184,20 +197,23 @@ peer_of-issued issued n i at = ap (λ o. elim o [ None ↦ None | Some j ↦ Som
 -- a handle leads where its row does
 pub target-shown : (rows : HeapRows) (sorts : List Sort) (names : List (Option ℕ)) (issued : List Issue) (table : Table) (h : HNum) → IsRising table → AreRowsIssued table.rows issued
     → table_target (with_rows opening_peer_replay (rows_with rows sorts names issued table)) h.0 ≡ number_of (target_in table.rows h)
-target-shown rows sorts names issued table h rises all = ap (λ z. elim z [ None ↦ None | Some row ↦ if row.cleared then None else peer_of (map issued_as issued) h.0 ]) (row-shown table.rows h.0 table.last rises) ∙ by (row_in table.rows h) refl
+target-shown rows sorts names issued table h rises all = ap (λ z. elim z [ None ↦ None | Some row ↦ if row.cleared then None else peer_of (map issued_as issued) h.0 ])
+    (row-shown table.rows h.0 table.last rises) ∙ by (row_in table.rows h) refl
   where
     shut : (b : Bool) (p : PNum) → peer_of (map issued_as issued) h.0 ≡ Some p.0 → (if b then None else peer_of (map issued_as issued) h.0) ≡ number_of (if b then None else Some p)
     shut true p e = refl
     shut false p e = e
 
-    by : (o : Option HandleRow) → row_in table.rows h ≡ o → elim (option_map row_as o) [ None ↦ None | Some row ↦ if row.cleared then None else peer_of (map issued_as issued) h.0 ] ≡ number_of (option_and_then (λ r. if r.cleared then None else Some r.peer) o)
+    by : (o : Option HandleRow) → row_in table.rows h ≡ o → elim (option_map row_as o)
+        [ None ↦ None | Some row ↦ if row.cleared then None else peer_of (map issued_as issued) h.0 ] ≡ number_of (option_and_then (λ r. if r.cleared then None else Some r.peer) o)
     by None e = refl
     by (Some r) e =
         let found = all h r e in
         shut r.cleared r.peer (peer_of-issued issued h.0 found.0 found.1 ∙ ap (λ (q : PNum). Some q.0) found.2)
 
 -- the rows of the table stay those of issued handles, where one is issued or removed
-pub AreRowsIssued-pushed : (issued after : List Issue) (old new : Table) (i : Issue) (h : HNum) → after ≡ issued ++ i ∷ [] → h.0 ≡ old.last + 1 → new.rows ≡ old.rows ++ fresh_row h i.peer i.hold i.strength ∷ [] → old.last ≡ length issued → IsRising old
+pub AreRowsIssued-pushed : (issued after : List Issue) (old new : Table) (i : Issue) (h : HNum) → after ≡ issued ++ i ∷ []
+    → h.0 ≡ old.last + 1 → new.rows ≡ old.rows ++ fresh_row h i.peer i.hold i.strength ∷ [] → old.last ≡ length issued → IsRising old
     → AreRowsIssued old.rows issued → AreRowsIssued new.rows after
 AreRowsIssued-pushed issued after old new i h e number put places rises all = λ k r at. elim (cases_eq k.0 h.0) [
   | inl same ↦
@@ -227,7 +243,8 @@ AreRowsIssued-removed issued old new h left all = λ k r at.
       | inr other ↦ all k r (sym (row_in-without_other old.rows h k other) ∙ there)
     ]
 
-pub AreRowsIssued-renewed : (issued after : List Issue) (old new : Table) (i : Issue) (h g : HNum) → after ≡ issued ++ i ∷ [] → g.0 ≡ old.last + 1 → new.rows ≡ without h old.rows ++ fresh_row g i.peer i.hold i.strength ∷ [] → old.last ≡ length issued → IsRising old
+pub AreRowsIssued-renewed : (issued after : List Issue) (old new : Table) (i : Issue) (h g : HNum) → after ≡ issued ++ i ∷ []
+    → g.0 ≡ old.last + 1 → new.rows ≡ without h old.rows ++ fresh_row g i.peer i.hold i.strength ∷ [] → old.last ≡ length issued → IsRising old
     → AreRowsIssued old.rows issued → AreRowsIssued new.rows after
 AreRowsIssued-renewed issued after old new i h g e number put places rises all =
     let left : Table = record old { rows = without h old.rows } in

@@ -9,7 +9,8 @@ use Rattle.std.proofs.lemmas.Option.{slice_get_within, get_or_from_slice_get}
 use Rattle.joint_machine.specs.declared.names.Sort.{Sort}
 use Rattle.joint_machine.specs.declared.events.Reply.{Reply}
 use Rattle.joint_machine.specs.declared.events.Reply.TheVariants as says
-use Rattle.joint_machine.specs.Heaps.{Heap, Answered, answer, fields_of, slot, with_var, with_static, with_field, with_object, copied, field_set, field_stored, read_into, field_got, dropped, loaded, stored}
+use Rattle.joint_machine.specs.Heaps.{Heap, Answered, answer, fields_of, slot, with_var, with_static, with_field, with_object, copied, field_set, field_stored, read_into, field_got, dropped, loaded}
+use Rattle.joint_machine.specs.Heaps.{stored}
 use Rattle.joint_machine.specs.Peers.{peer_name}
 use Rattle.joint_machine.proofs.Deciding.{option-cases, test-cases}
 use Rattle.joint_laws.proofs.Fields.{with_field-length}
@@ -53,8 +54,10 @@ read-fields name h v None = refl
 read-fields name h v (Some y) = refl
 
 pub got-fields : (name : ℕ → Reply) (h : Heap) (v w i : ℕ) → (field_got name h v w i).state.fields ≡ h.fields
-got-fields name h v w i = option-cases (λ (a : Answered Heap). a.state.fields ≡ h.fields) (answer says.Empty h) (λ x. if nat_le (length (fields_of h x)) i then answer says.Range h else read_into name h v (slot (fields_of h x) i)) (slot h.vars w) refl
-    (λ x. test-cases (λ (a : Answered Heap). a.state.fields ≡ h.fields) (nat_le (length (fields_of h x)) i) (answer says.Range h) (read_into name h v (slot (fields_of h x) i)) refl (read-fields name h v (slot (fields_of h x) i)))
+got-fields name h v w i = option-cases (λ (a : Answered Heap). a.state.fields ≡ h.fields) (answer says.Empty h)
+    (λ x. if nat_le (length (fields_of h x)) i then answer says.Range h else read_into name h v (slot (fields_of h x) i)) (slot h.vars w) refl
+    (λ x. test-cases (λ (a : Answered Heap). a.state.fields ≡ h.fields) (nat_le (length (fields_of h x)) i)
+    (answer says.Range h) (read_into name h v (slot (fields_of h x) i)) refl (read-fields name h v (slot (fields_of h x) i)))
 
 pub stored-fields : (h : Heap) (s : ℕ) (v : Option ℕ) → (stored h s v).state.fields ≡ h.fields
 stored-fields h s None = refl
@@ -65,7 +68,8 @@ abbrev IsLike : Heap → Answered Heap → Type 0
 IsLike h a = AreShort a.state × (length a.state.fields ≡ length h.fields)
 
 field_set-like : (h : Heap) (v i : ℕ) (w : Option ℕ) → AreShort h → IsLike h (field_set h v i w)
-field_set-like h v i w short = option-cases (IsLike h) (answer says.Empty h) (λ x. if nat_le (length (fields_of h x)) i then answer says.Range h else field_stored h x i w) (slot h.vars v) (short, refl)
+field_set-like h v i w short = option-cases (IsLike h) (answer says.Empty h)
+    (λ x. if nat_le (length (fields_of h x)) i then answer says.Range h else field_stored h x i w) (slot h.vars v) (short, refl)
     (λ x. test-cases (IsLike h) (nat_le (length (fields_of h x)) i) (answer says.Range h) (field_stored h x i w) (short, refl) (written x w))
   where
     written : (x : ℕ) (w : Option ℕ) → IsLike h (field_stored h x i w)
@@ -76,22 +80,32 @@ field_set-like h v i w short = option-cases (IsLike h) (answer says.Empty h) (λ
 did-fields : (operation : (ℕ → Reply) → Answered Heap) (d : Done) (old new : Heap) → Did operation d new → (operation peer_name).state.fields ≡ old.fields → new.fields ≡ old.fields
 did-fields operation d old new did same = ap (λ (a : Answered Heap). a.state.fields) (sym (did peer_name)) ∙ same
 
-pub copy-keeps : (old new : HeapRows) (sorts : List Sort) (issued : List Issue) (table : Table) (d : Done) (v w : ℕ) → Did (λ name. copied name old.heap v w) d new.heap → ArePeerRows old sorts issued table → ArePeerRows new sorts issued table
-copy-keeps old new sorts issued table d v w did kept = ArePeerRows-marked old new sorts issued table (did-fields (λ name. copied name old.heap v w) d old.heap new.heap did (copied-fields peer_name old.heap v w)) kept
+pub copy-keeps : (old new : HeapRows) (sorts : List Sort) (issued : List Issue) (table : Table) (d : Done) (v w : ℕ)
+    → Did (λ name. copied name old.heap v w) d new.heap → ArePeerRows old sorts issued table → ArePeerRows new sorts issued table
+copy-keeps old new sorts issued table d v w did kept = ArePeerRows-marked old new sorts issued table
+    (did-fields (λ name. copied name old.heap v w) d old.heap new.heap did (copied-fields peer_name old.heap v w)) kept
 
-pub get-keeps : (old new : HeapRows) (sorts : List Sort) (issued : List Issue) (table : Table) (d : Done) (v w i : ℕ) → Did (λ name. field_got name old.heap v w i) d new.heap → ArePeerRows old sorts issued table → ArePeerRows new sorts issued table
-get-keeps old new sorts issued table d v w i did kept = ArePeerRows-marked old new sorts issued table (did-fields (λ name. field_got name old.heap v w i) d old.heap new.heap did (got-fields peer_name old.heap v w i)) kept
+pub get-keeps : (old new : HeapRows) (sorts : List Sort) (issued : List Issue) (table : Table) (d : Done) (v w i : ℕ)
+    → Did (λ name. field_got name old.heap v w i) d new.heap → ArePeerRows old sorts issued table → ArePeerRows new sorts issued table
+get-keeps old new sorts issued table d v w i did kept = ArePeerRows-marked old new sorts issued table
+    (did-fields (λ name. field_got name old.heap v w i) d old.heap new.heap did (got-fields peer_name old.heap v w i)) kept
 
-pub load-keeps : (old new : HeapRows) (sorts : List Sort) (issued : List Issue) (table : Table) (d : Done) (v x : ℕ) → Did (λ name. loaded name old.heap v x) d new.heap → ArePeerRows old sorts issued table → ArePeerRows new sorts issued table
-load-keeps old new sorts issued table d v x did kept = ArePeerRows-marked old new sorts issued table (did-fields (λ name. loaded name old.heap v x) d old.heap new.heap did (read-fields peer_name old.heap v (slot old.heap.statics x))) kept
+pub load-keeps : (old new : HeapRows) (sorts : List Sort) (issued : List Issue) (table : Table) (d : Done) (v x : ℕ)
+    → Did (λ name. loaded name old.heap v x) d new.heap → ArePeerRows old sorts issued table → ArePeerRows new sorts issued table
+load-keeps old new sorts issued table d v x did kept = ArePeerRows-marked old new sorts issued table
+    (did-fields (λ name. loaded name old.heap v x) d old.heap new.heap did (read-fields peer_name old.heap v (slot old.heap.statics x))) kept
 
-pub store-keeps : (old new : HeapRows) (sorts : List Sort) (issued : List Issue) (table : Table) (d : Done) (x : ℕ) (v : Option ℕ) → Did (λ name. stored old.heap x v) d new.heap → ArePeerRows old sorts issued table → ArePeerRows new sorts issued table
-store-keeps old new sorts issued table d x v did kept = ArePeerRows-marked old new sorts issued table (did-fields (λ name. stored old.heap x v) d old.heap new.heap did (stored-fields old.heap x v)) kept
+pub store-keeps : (old new : HeapRows) (sorts : List Sort) (issued : List Issue) (table : Table) (d : Done) (x : ℕ) (v : Option ℕ)
+    → Did (λ name. stored old.heap x v) d new.heap → ArePeerRows old sorts issued table → ArePeerRows new sorts issued table
+store-keeps old new sorts issued table d x v did kept = ArePeerRows-marked old new sorts issued table
+    (did-fields (λ name. stored old.heap x v) d old.heap new.heap did (stored-fields old.heap x v)) kept
 
-pub drop-keeps : (old new : HeapRows) (sorts : List Sort) (issued : List Issue) (table : Table) (d : Done) (v : ℕ) → Did (λ name. dropped old.heap v) d new.heap → ArePeerRows old sorts issued table → ArePeerRows new sorts issued table
+pub drop-keeps : (old new : HeapRows) (sorts : List Sort) (issued : List Issue) (table : Table) (d : Done) (v : ℕ)
+    → Did (λ name. dropped old.heap v) d new.heap → ArePeerRows old sorts issued table → ArePeerRows new sorts issued table
 drop-keeps old new sorts issued table d v did kept = ArePeerRows-marked old new sorts issued table (did-fields (λ name. dropped old.heap v) d old.heap new.heap did refl) kept
 
-pub set-keeps : (old new : HeapRows) (sorts : List Sort) (issued : List Issue) (table : Table) (d : Done) (v i : ℕ) (w : Option ℕ) → Did (λ name. field_set old.heap v i w) d new.heap → ArePeerRows old sorts issued table → ArePeerRows new sorts issued table
+pub set-keeps : (old new : HeapRows) (sorts : List Sort) (issued : List Issue) (table : Table) (d : Done) (v i : ℕ) (w : Option ℕ)
+    → Did (λ name. field_set old.heap v i w) d new.heap → ArePeerRows old sorts issued table → ArePeerRows new sorts issued table
 set-keeps old new sorts issued table d v i w did kept =
     let like = field_set-like old.heap v i w kept.short in
     let same = ap (λ (a : Answered Heap). a.state) (did peer_name) in
@@ -104,7 +118,8 @@ set-keeps old new sorts issued table d v i w did kept =
     }
 
 -- a further peer has a sort, and 255 fields at most
-pub new-keeps : (old new : HeapRows) (sorts after : List Sort) (sort : Sort) (issued : List Issue) (table : Table) (n : ℕ) → n ≤ 255 → new.heap.fields ≡ (with_object old.heap n).fields → after ≡ sorts ++ sort ∷ []
+pub new-keeps : (old new : HeapRows) (sorts after : List Sort) (sort : Sort) (issued : List Issue) (table : Table) (n : ℕ)
+    → n ≤ 255 → new.heap.fields ≡ (with_object old.heap n).fields → after ≡ sorts ++ sort ∷ []
     → ArePeerRows old sorts issued table → ArePeerRows new after issued table
 new-keeps old new sorts after sort issued table n le grown more kept = record {
   rising = kept.rising;

@@ -25,15 +25,19 @@ use Rattle.peer_heap.specs.Sides.{begins, ends, MarkingIsEnded, IsMarkingOf}
 use Rattle.joint_machine.proofs.HeapLemmas.{same_thread}
 
 -- one entry is one in turn
-pub turn-one : {D : Type 0} (d : Drawing D) (before after : D) (old new : Side PeerReplay) (m : Made) (told : Told) → AddsLawful peer_rules d before after old new m told → AddsInTurn peer_rules d before after old new (record { made = m; told = told } ∷ [])
+pub turn-one : {D : Type 0} (d : Drawing D) (before after : D) (old new : Side PeerReplay) (m : Made) (told : Told)
+    → AddsLawful peer_rules d before after old new m told → AddsInTurn peer_rules d before after old new (record { made = m; told = told } ∷ [])
 turn-one d before after old new m told w = (after, new, w, (refl, refl))
 
 -- where an event that changes nothing was made, it is what was to be made
-pub turn-refused : {D : Type 0} (d : Drawing D) (before after : D) (old new : Side PeerReplay) (t : Thread) (i : ℕ) (o : Op) (reply : Reply) (result : Result Reply AllocError) (ms : Reply → List Making) → ms reply ≡ record { made = record { caller = t; index = i; op = o; reply = reply; cites = None }; told = nothing } ∷ []
-    → IfOk result (λ r. r ≡ reply) → OnOk result (AddsLawful peer_rules d before after old new (record { caller = t; index = i; op = o; reply = reply; cites = None }) nothing) → IfOk result (λ r. AddsInTurn peer_rules d before after old new (ms r))
+pub turn-refused : {D : Type 0} (d : Drawing D) (before after : D) (old new : Side PeerReplay) (t : Thread) (i : ℕ) (o : Op) (reply : Reply) (result : Result Reply AllocError)
+    (ms : Reply → List Making) → ms reply ≡ record { made = record { caller = t; index = i; op = o; reply = reply; cites = None }; told = nothing } ∷ []
+    → IfOk result (λ r. r ≡ reply) → OnOk result (AddsLawful peer_rules d before after old new (record { caller = t; index = i; op = o; reply = reply; cites = None }) nothing)
+    → IfOk result (λ r. AddsInTurn peer_rules d before after old new (ms r))
 turn-refused d before after old new t i o reply (Err e) ms same is adds = tt
 turn-refused d before after old new t i o reply (Ok r) ms same is adds =
-    subst (λ l. AddsInTurn peer_rules d before after old new l) (sym same ∙ ap ms (sym is)) (turn-one d before after old new (record { caller = t; index = i; op = o; reply = reply; cites = None }) nothing adds)
+    subst (λ l. AddsInTurn peer_rules d before after old new l) (sym same ∙ ap ms (sym is))
+    (turn-one d before after old new (record { caller = t; index = i; op = o; reply = reply; cites = None }) nothing adds)
 
 -- a begin leaves the peers
 begun-peers : (s : PeerReplay) (o : Option Marking) (t : Thread) → (begun s o t).state.peers ≡ s.peers
@@ -41,8 +45,10 @@ begun-peers s None t = refl
 begun-peers s (Some mk) t = refl
 
 -- a begin and the sweep of its marking, in turn
-pub turn-collect : {D : Type 0} (d : Drawing D) (before mid after : D) (old opened new : Side PeerReplay) (t : Thread) (i : ℕ) (j : Number) (span : Span) → AddsLawful peer_rules d before mid old opened (begins t i j) nothing
-    → AddsLawful peer_rules d mid after opened new (ends t i j span) (sweep_of (gone_since opened.state new.state)) → AddsInTurn peer_rules d before after old new (collect_makings t i (says.Swept j span) (gone_since old.state new.state))
+pub turn-collect : {D : Type 0} (d : Drawing D) (before mid after : D) (old opened new : Side PeerReplay) (t : Thread) (i : ℕ) (j : Number) (span : Span)
+    → AddsLawful peer_rules d before mid old opened (begins t i j) nothing
+    → AddsLawful peer_rules d mid after opened new (ends t i j span) (sweep_of (gone_since opened.state new.state))
+    → AddsInTurn peer_rules d before after old new (collect_makings t i (says.Swept j span) (gone_since old.state new.state))
 turn-collect d before mid after old opened new t i j span first last =
     let same : opened.state.peers ≡ old.state.peers = ap (λ (s : PeerReplay). s.peers) first.goes.state ∙ begun-peers old.state old.state.marking t in
     let freed : gone_since opened.state new.state ≡ gone_since old.state new.state = ap (λ (p : Peers). drop (length p.heap.freed) new.state.peers.heap.freed) same in
@@ -60,7 +66,8 @@ begun-ended s t thread i j goes = subst (λ (z : PeerReplay). MarkingIsEnded z.m
     by (Some mk) e = absurd (let f : ⊥ = cc in f)
 
 -- after an entry the caller may draw as before it
-pub draws-on : {D : Type 0} (d : Drawing D) (before after : D) (old new : Side PeerReplay) (m : Made) (told : Told) (t : Thread) (o : Op) → AddsLawful peer_rules d before after old new m told → is_peer_event t o ≡ true → MayDraw peer_rules d before old t o → MayDraw peer_rules d after new t o
+pub draws-on : {D : Type 0} (d : Drawing D) (before after : D) (old new : Side PeerReplay) (m : Made) (told : Told) (t : Thread) (o : Op)
+    → AddsLawful peer_rules d before after old new m told → is_peer_event t o ≡ true → MayDraw peer_rules d before old t o → MayDraw peer_rules d after new t o
 draws-on d before after old new m told t o adds peer may = record {
   takes = subst (λ n. TakesPeer n t) (sym adds.threads) may.takes;
   below = adds.draws.below;
@@ -70,7 +77,8 @@ draws-on d before after old new m told t o adds peer may = record {
 }
 
 -- a begin is refused where a marking is open
-pub begin-passes : (s : PeerReplay) (t : Thread) (i : ℕ) (p : Number × Thread) → IsMarkingOf (Some p) s.marking → (IsPeerThread t ⊎ IsDriver t) → RefusesMarking s (record { caller = t; index = i; op = op.Begin; reply = says.MarkOpen p.0; cites = None })
+pub begin-passes : (s : PeerReplay) (t : Thread) (i : ℕ) (p : Number × Thread) → IsMarkingOf (Some p) s.marking
+    → (IsPeerThread t ⊎ IsDriver t) → RefusesMarking s (record { caller = t; index = i; op = op.Begin; reply = says.MarkOpen p.0; cites = None })
 begin-passes s t i p w caller = record { caller = caller; event = tt; allowed = tt; answers = by s.marking w }
   where
     by : (o : Option Marking) → IsMarkingOf (Some p) o → begun s o t ≡ answer (says.MarkOpen p.0) s
@@ -78,7 +86,8 @@ begin-passes s t i p w caller = record { caller = caller; event = tt; allowed = 
     by (Some mk) w = ap (λ (k : ℕ). answer (says.MarkOpen record { 0 = k }) s) (sym w.0)
 
 -- a sweep of a peer thread is refused where none is open
-pub none-passes : (s : PeerReplay) (t : Thread) (i : ℕ) → IsMarkingOf None s.marking → (IsPeerThread t ⊎ IsDriver t) → (IsDriver t → IsSome s.marking) → RefusesMarking s (record { caller = t; index = i; op = op.Sweep; reply = says.NoMark; cites = None })
+pub none-passes : (s : PeerReplay) (t : Thread) (i : ℕ) → IsMarkingOf None s.marking → (IsPeerThread t ⊎ IsDriver t)
+    → (IsDriver t → IsSome s.marking) → RefusesMarking s (record { caller = t; index = i; op = op.Sweep; reply = says.NoMark; cites = None })
 none-passes s t i w caller open' = record { caller = caller; event = tt; allowed = allows t s.marking w caller open'; answers = by s.marking w }
   where
     allows : (t : Thread) (o : Option Marking) → IsMarkingOf None o → (IsPeerThread t ⊎ IsDriver t) → (IsDriver t → IsSome o) → SweepAllows s o t nothing

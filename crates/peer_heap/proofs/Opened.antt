@@ -20,12 +20,14 @@ begun_with n by v = record { number = n; by = by; heap = v.rows.heap; refs = v.r
 abbrev pub with_begun : Rows → HeapRows → Rows
 with_begun v w = record v { rows = record v.rows { follows = true; marks = w.marks; links = w.links } }
 
-pub opened-state : (s : PeerReplay) (v w kept : Rows) (n : ℕ) (by : Thread) → kept ≡ v → w ≡ with_begun v w.rows → (begun (with_marking s v None n) None by).state ≡ with_marking s w (Some (begun_with (n + 1) by kept)) (n + 1)
+pub opened-state : (s : PeerReplay) (v w kept : Rows) (n : ℕ) (by : Thread) → kept ≡ v → w ≡ with_begun v w.rows
+    → (begun (with_marking s v None n) None by).state ≡ with_marking s w (Some (begun_with (n + 1) by kept)) (n + 1)
 opened-state s v w kept n by same rest =
     let here : (begun (with_marking s v None n) None by).state ≡ with_marking s (with_begun v w.rows) (Some (begun_with (n + 1) by v)) (n + 1) = refl in
     here ∙ (ap (λ z. with_marking s z (Some (begun_with (n + 1) by v)) (n + 1)) (sym rest) ∙ ap (λ z. with_marking s w (Some (begun_with (n + 1) by z)) (n + 1)) (sym same))
 
-pub opened-going : (s : PeerReplay) (v w : Rows) (n head : ℕ) (by : Thread) (mk : Marking) → w ≡ with_begun v w.rows → AreRootsGrey (IsRoot v.rows.heap (strong_peers v.issued v.table)) w.rows.marks w.rows.links head → ((p : ℕ) → IsRoot v.rows.heap (strong_peers v.issued v.table) p → IsLive v.rows.heap p)
+pub opened-going : (s : PeerReplay) (v w : Rows) (n head : ℕ) (by : Thread) (mk : Marking) → w ≡ with_begun v w.rows
+    → AreRootsGrey (IsRoot v.rows.heap (strong_peers v.issued v.table)) w.rows.marks w.rows.links head → ((p : ℕ) → IsRoot v.rows.heap (strong_peers v.issued v.table) p → IsLive v.rows.heap p)
     → (begun (with_marking s v None n) None by).state.marking ≡ Some mk → IsGoing (begun (with_marking s v None n) None by).state mk w.rows head
 opened-going s v w n head by mk rest roots live e =
     let t = with_marking s v None n in
@@ -35,12 +37,15 @@ opened-going s v w n head by mk rest roots live e =
 
 -- the rows after a sweep
 abbrev pub with_swept : Rows → HeapRows → Rows
-with_swept v w = (let freed = drop (length v.rows.heap.freed) w.heap.freed in record v { rows = record v.rows { heap = with_freed v.rows.heap freed; links = w.links }; table = cleared_rows freed v.issued v.table })
+with_swept v w = (let freed = drop (length v.rows.heap.freed) w.heap.freed in
+    record v { rows = record v.rows { heap = with_freed v.rows.heap freed; links = w.links }; table = cleared_rows freed v.issued v.table })
 
-pub closed-state : (s : PeerReplay) (v w : Rows) (o : Option Marking) (n : ℕ) (mk : Marking) → w ≡ with_swept v w.rows → (swept_of (with_marking s v o n) mk (drop (length v.rows.heap.freed) w.rows.heap.freed)).state ≡ with_marking s w None n
+pub closed-state : (s : PeerReplay) (v w : Rows) (o : Option Marking) (n : ℕ) (mk : Marking) → w ≡ with_swept v w.rows
+    → (swept_of (with_marking s v o n) mk (drop (length v.rows.heap.freed) w.rows.heap.freed)).state ≡ with_marking s w None n
 closed-state s v w o n mk rest =
     let here : (swept_of (with_marking s v o n) mk (drop (length v.rows.heap.freed) w.rows.heap.freed)).state ≡ with_marking s (with_swept v w.rows) None n = refl in
     here ∙ ap (λ z. with_marking s z None n) (sym rest)
 
-pub closed-sweep : (s : PeerReplay) (v : Rows) (o : Option Marking) (n : ℕ) (mk : Marking) (freed : List ℕ) → AreMarksGoing (with_marking s v o n) mk v.rows.follows v.rows.marks [] → AreWhite v.rows freed → IsSweep (with_marking s v o n) mk freed
+pub closed-sweep : (s : PeerReplay) (v : Rows) (o : Option Marking) (n : ℕ) (mk : Marking) (freed : List ℕ)
+    → AreMarksGoing (with_marking s v o n) mk v.rows.follows v.rows.marks [] → AreWhite v.rows freed → IsSweep (with_marking s v o n) mk freed
 closed-sweep s v o n mk freed right white = going-sweep (with_marking s v o n) mk v.rows.follows v.rows.marks freed right white.rises white.exact

@@ -44,8 +44,10 @@ mark-quiet _ w = absurd w
 mirror-still : (es : List Entry) (e : Entry) (m : OpenMirror) → m.from ≤ length es → IsQuiet e.made.op → mirror_as (es ++ e ∷ []) m ≡ mirror_as es m
 mirror-still es e m le q =
     let all = es ++ e ∷ [] in
-    ap (λ (l : List ℕ). (let z : Mirror = record { cycle = m.cycle.0; snap = m.snap; weakened = l; restored = told_since restored_at m.from all; renewed = given_since m.from all } in z)) (told-still weakened_at m.from es e le q.weakens)
-    ∙ (ap (λ (l : List ℕ). (let z : Mirror = record { cycle = m.cycle.0; snap = m.snap; weakened = told_since weakened_at m.from es; restored = l; renewed = given_since m.from all } in z)) (told-still restored_at m.from es e le q.restores)
+    ap (λ (l : List ℕ). (let z : Mirror = record { cycle = m.cycle.0; snap = m.snap; weakened = l; restored = told_since restored_at m.from all; renewed = given_since m.from all } in z))
+    (told-still weakened_at m.from es e le q.weakens)
+    ∙ (ap (λ (l : List ℕ). (let z : Mirror = record { cycle = m.cycle.0; snap = m.snap; weakened = told_since weakened_at m.from es; restored = l; renewed = given_since m.from all } in z))
+    (told-still restored_at m.from es e le q.restores)
     ∙ ap (λ (l : List ℕ). (let z : Mirror = record { cycle = m.cycle.0; snap = m.snap; weakened = told_since weakened_at m.from es; restored = told_since restored_at m.from es; renewed = l } in z))
     (given-push m.from es e le ∙ (ap (λ l. given_since m.from es ++ l) (q.gives e.made.reply) ∙ append-nil (given_since m.from es))))
 
@@ -91,7 +93,8 @@ revived-more : (issued more : List Issued) (h : ℕ) (r : Reply) → ((i : Issue
 revived-more issued more h (says.Renewed g) w = ap (λ o. peers_at (elim o [ None ↦ None | Some i ↦ Some i.peer ])) (numbered-more issued more h w.0 w.1 ∙ sym w.1)
 revived-more issued more h _ w = refl
 
-one-more : (issued more : List Issued) (o : Op) (r : Reply) → ((h : ℕ) → Contains (restored_at o) h → (i : Issued) × (numbered_at issued h ≡ Some i)) → brought_at (issued ++ more) o r ≡ brought_at issued o r
+one-more : (issued more : List Issued) (o : Op) (r : Reply) → ((h : ℕ) → Contains (restored_at o) h → (i : Issued) × (numbered_at issued h ≡ Some i))
+    → brought_at (issued ++ more) o r ≡ brought_at issued o r
 one-more issued more (op.Restore h) r k = revived-more issued more h.0 r (k h.0 (Contains-here h.0 []))
 one-more issued more (op.Line (act.WRead v g)) r k = refl
 one-more issued more (op.Land h x) r k = refl

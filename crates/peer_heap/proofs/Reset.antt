@@ -47,8 +47,10 @@ strong-as Strong e = refl
 strong-as Weak e = absurd (let f : weak ≡ strong = e in cc)
 
 -- the row of one handle is another now
-pub rows-set : (rows : HeapRows) (sorts : List Sort) (names : List (Option ℕ)) (issued : List Issue) (old new : Table) (h : ℕ) (x : Option TableRow) → ((k : ℕ) → k ≢ h → row_in new.rows record { 0 = k } ≡ row_in old.rows record { 0 = k }) → option_map row_as (row_in new.rows record { 0 = h }) ≡ x
-    → new.made ≡ old.made → new.last ≡ old.last → length new.rows ≡ length old.rows → rows_with rows sorts names issued new ≡ record (rows_with rows sorts names issued old) { table = numbered_set (table_to old.rows old.last) h x }
+pub rows-set : (rows : HeapRows) (sorts : List Sort) (names : List (Option ℕ)) (issued : List Issue) (old new : Table) (h : ℕ) (x : Option TableRow)
+    → ((k : ℕ) → k ≢ h → row_in new.rows record { 0 = k } ≡ row_in old.rows record { 0 = k }) → option_map row_as (row_in new.rows record { 0 = h }) ≡ x
+    → new.made ≡ old.made → new.last ≡ old.last → length new.rows ≡ length old.rows
+    → rows_with rows sorts names issued new ≡ record (rows_with rows sorts names issued old) { table = numbered_set (table_to old.rows old.last) h x }
 rows-set rows sorts names issued old new h x others here made last count =
     let shown : table_to new.rows new.last ≡ numbered_set (table_to old.rows old.last) h x = ap (table_to new.rows) last ∙ table_to-set old.rows new.rows h old.last x others here in
     ap (λ (k : ℕ). record (rows_with rows sorts names issued old) { made = k; table = table_to new.rows new.last; tabled = length new.rows }) made
@@ -66,7 +68,8 @@ module _ (s : Strength) (old new : Table) (h : HNum) (r : HandleRow) (at : row_i
   pub rows-reset : (rows : HeapRows) (sorts : List Sort) (names : List (Option ℕ)) (issued : List Issue) → new.made ≡ old.made → new.last ≡ old.last
       → rows_with rows sorts names issued new ≡ record (rows_with rows sorts names issued old) { table = numbered_set (table_to old.rows old.last) h.0 (Some (row_as (with_strength s r))) }
   rows-reset rows sorts names issued made last =
-      rows-set rows sorts names issued old new h.0 (Some (row_as (with_strength s r))) reset-other (ap (option_map row_as) reset-seen) made last (ap length put ∙ length-map old.rows (λ (x : HandleRow). if h.0 == x.number.0 then with_strength s x else x))
+      rows-set rows sorts names issued old new h.0 (Some (row_as (with_strength s r))) reset-other (ap (option_map row_as) reset-seen) made last
+      (ap length put ∙ length-map old.rows (λ (x : HandleRow). if h.0 == x.number.0 then with_strength s x else x))
 
   -- and each row still has the peer of its handle
   pub issued-reset : (issued : List Issue) → AreRowsIssued old.rows issued → AreRowsIssued new.rows issued
@@ -83,12 +86,14 @@ module _ (s : Strength) (old new : Table) (h : HNum) (r : HandleRow) (at : row_i
 weak-as : (r : HandleRow) → row_as r ≡ strong_row → row_as (with_strength Weak r) ≡ weak_row
 weak-as r e = ap (λ (b : Bool). (let t : TableRow = record { strength = weak; cleared = b } in t)) (ap (λ (t : TableRow). t.cleared) e)
 
-pub weakened-strong : (rows : HeapRows) (sorts : List Sort) (names : List (Option ℕ)) (issued : List Issue) (table : Table) (h : HNum) → IsRising table → row_at (rows_with rows sorts names issued table) h.0 ≡ Some strong_row → strength_in table.rows h ≡ Some Strong
+pub weakened-strong : (rows : HeapRows) (sorts : List Sort) (names : List (Option ℕ)) (issued : List Issue) (table : Table) (h : HNum)
+    → IsRising table → row_at (rows_with rows sorts names issued table) h.0 ≡ Some strong_row → strength_in table.rows h ≡ Some Strong
 weakened-strong rows sorts names issued table h rises shown =
     let there = row-there rows sorts names issued table h rises strong_row shown in
     ap (option_map (λ (r : HandleRow). r.strength)) there.1 ∙ ap (λ (s : Strength). Some s) (strong-as there.0.strength (ap (λ (t : TableRow). t.strength) there.2))
 
-pub rows-weakened : (rows : HeapRows) (sorts : List Sort) (names : List (Option ℕ)) (issued : List Issue) (old new : Table) (h : HNum) → IsRising old → row_at (rows_with rows sorts names issued old) h.0 ≡ Some strong_row → new.rows ≡ changed (with_strength Weak) h old.rows → new.made ≡ old.made → new.last ≡ old.last
+pub rows-weakened : (rows : HeapRows) (sorts : List Sort) (names : List (Option ℕ)) (issued : List Issue) (old new : Table) (h : HNum) → IsRising old
+    → row_at (rows_with rows sorts names issued old) h.0 ≡ Some strong_row → new.rows ≡ changed (with_strength Weak) h old.rows → new.made ≡ old.made → new.last ≡ old.last
     → rows_with rows sorts names issued new ≡ with_row (rows_with rows sorts names issued old) h.0 weak_row
 rows-weakened rows sorts names issued old new h rises shown put made last =
     let there = row-there rows sorts names issued old h rises strong_row shown in
@@ -116,7 +121,8 @@ target-some v h p row at leads = by row.cleared refl
     by false e = (e, sym (ap (λ (b : Bool). if b then None else peer_of v.issued h) e) ∙ chosen)
 
 -- a handle of the table was issued
-pub row-issued : (rows : HeapRows) (sorts : List Sort) (names : List (Option ℕ)) (issued : List Issue) (table : Table) (h : ℕ) (row : TableRow) → IsRising table → AreRowsIssued table.rows issued → row_at (rows_with rows sorts names issued table) h ≡ Some row → (p : ℕ) × (peer_of (map issued_as issued) h ≡ Some p)
+pub row-issued : (rows : HeapRows) (sorts : List Sort) (names : List (Option ℕ)) (issued : List Issue) (table : Table) (h : ℕ) (row : TableRow) → IsRising table
+    → AreRowsIssued table.rows issued → row_at (rows_with rows sorts names issued table) h ≡ Some row → (p : ℕ) × (peer_of (map issued_as issued) h ≡ Some p)
 row-issued rows sorts names issued table h row rises own shown =
     let there = row-there rows sorts names issued table record { 0 = h } rises row shown in
     let found = own record { 0 = h } there.0 there.1 in
@@ -156,7 +162,8 @@ abbrev led-by : HandleRow → Option PNum
 led-by r = if r.cleared then None else Some r.peer
 
 -- a row that was made weak is renewed as it would have been
-pub renewed-loosened : (old mid : List HandleRow) (h g : HNum) (r : HandleRow) → row_in old h ≡ Some r → row_in mid h ≡ Some (with_strength Weak r) → without h mid ≡ without h old → renewed h g mid ≡ renewed h g old
+pub renewed-loosened : (old mid : List HandleRow) (h g : HNum) (r : HandleRow) → row_in old h ≡ Some r
+    → row_in mid h ≡ Some (with_strength Weak r) → without h mid ≡ without h old → renewed h g mid ≡ renewed h g old
 renewed-loosened old mid h g r at loose others =
     ap (λ l. l ++ renewed_rows g (target_in mid h)) others
     ∙ (ap (λ o. without h old ++ renewed_rows g (option_and_then led-by o)) loose ∙ ap (λ o. without h old ++ renewed_rows g (option_and_then led-by o)) (sym at))
@@ -176,7 +183,8 @@ kept-loose rows h g r at says = by r.cleared refl
     by false e = e
 
 -- a cleared handle is removed
-pub removed-row : (rows : HeapRows) (sorts : List Sort) (names : List (Option ℕ)) (issued : List Issue) (old new : Table) (h : HNum) (r : HandleRow) → IsRising old → row_in old.rows h ≡ Some r → r.cleared ≡ true → new.rows ≡ without h old.rows → new.made ≡ old.made → new.last ≡ old.last
+pub removed-row : (rows : HeapRows) (sorts : List Sort) (names : List (Option ℕ)) (issued : List Issue) (old new : Table) (h : HNum) (r : HandleRow)
+    → IsRising old → row_in old.rows h ≡ Some r → r.cleared ≡ true → new.rows ≡ without h old.rows → new.made ≡ old.made → new.last ≡ old.last
     → IsRemoved (rows_with rows sorts names issued old) h.0 (rows_with rows sorts names issued new)
 removed-row rows sorts names issued old new h r rises at cleared left made last = record {
   row = row_as r;
@@ -187,13 +195,20 @@ removed-row rows sorts names issued old new h r rises at cleared left made last 
 }
 
 -- another one is removed, and one on its peer comes in its place
-pub renewed-row : (rows : HeapRows) (sorts : List Sort) (names : List (Option ℕ)) (issued after : List Issue) (old new : Table) (h g : HNum) (r : HandleRow) → IsRising old → AreRowsIssued old.rows issued → old.last ≡ length issued → row_in old.rows h ≡ Some r → r.cleared ≡ false
-    → after ≡ issued ++ record { peer = r.peer; hold = Held; strength = Strong } ∷ [] → new.rows ≡ renewed h g old.rows → g.0 ≡ old.last + 1 → new.made ≡ old.made → new.last ≡ old.last + 1 → IsRenewed (rows_with rows sorts names issued old) h.0 g (rows_with rows sorts names after new)
+pub renewed-row : (rows : HeapRows) (sorts : List Sort) (names : List (Option ℕ)) (issued after : List Issue) (old new : Table) (h g : HNum) (r : HandleRow)
+    → IsRising old → AreRowsIssued old.rows issued → old.last ≡ length issued → row_in old.rows h ≡ Some r → r.cleared ≡ false
+    → after ≡ issued ++ record { peer = r.peer; hold = Held; strength = Strong } ∷ [] → new.rows ≡ renewed h g old.rows → g.0 ≡ old.last + 1
+    → new.made ≡ old.made → new.last ≡ old.last + 1 → IsRenewed (rows_with rows sorts names issued old) h.0 g (rows_with rows sorts names after new)
 renewed-row rows sorts names issued after old new h g r rises own places at kept e put number made last =
     let found = own h r at in
     let leads : target_in old.rows h ≡ Some r.peer = ap (option_and_then led-by) at ∙ ap (λ (b : Bool). (let o : Option PNum = if b then None else Some r.peer in o)) kept in
     let all : new.rows ≡ without h old.rows ++ fresh_row g r.peer Held Strong ∷ [] = put ∙ ap (λ o. without h old.rows ++ renewed_rows g o) leads in
-    let count : length new.rows ≡ length old.rows = omega (arith, ap length all, length-append (without h old.rows) (fresh_row g r.peer Held Strong ∷ []), length-without 0 old.last old.rows h r rises at) in
+    let count : length new.rows ≡ length old.rows = omega (
+      arith,
+      ap length all,
+      length-append (without h old.rows) (fresh_row g r.peer Held Strong ∷ []),
+      length-without 0 old.last old.rows h r rises at,
+    ) in
     record {
       row = row_as r;
       tabled = row-seen rows sorts names issued old h rises ∙ ap (option_map row_as) at;
@@ -205,12 +220,14 @@ renewed-row rows sorts names issued after old new h g r rises own places at kept
     }
 
 -- a handle that leads nowhere is cleared, so it is removed
-pub restored-none : (b : Bool) (old new : Rows) (head h : ℕ) (back : Back) → table_target (with_rows opening_peer_replay old) h ≡ None → RestoresRow old h back new → RestoresHandle b old head h back new head
+pub restored-none : (b : Bool) (old new : Rows) (head h : ℕ) (back : Back)
+    → table_target (with_rows opening_peer_replay old) h ≡ None → RestoresRow old h back new → RestoresHandle b old head h back new head
 restored-none b old new head h Cleared none r = (r, refl)
 restored-none b old new head h (Alive g) none r = absurd (true_false (sym (target-none old h r.0.peer r.0.row r.0.tabled r.0.issued none) ∙ r.0.kept))
 
 -- one that leads somewhere isn't, and its peer was shaded before
-pub restored-some : (b : Bool) (old mid new : Rows) (before after h p : ℕ) (back : Back) → table_target (with_rows opening_peer_replay old) h ≡ Some p → mid ≡ record old { rows = record old.rows { marks = mid.rows.marks; links = mid.rows.links } }
+pub restored-some : (b : Bool) (old mid new : Rows) (before after h p : ℕ) (back : Back) → table_target (with_rows opening_peer_replay old) h ≡ Some p
+    → mid ≡ record old { rows = record old.rows { marks = mid.rows.marks; links = mid.rows.links } }
     → Greyed (λ k. (b ≡ true) × (k ≡ p)) old.rows.marks old.rows.links before mid.rows.marks mid.rows.links after → RestoresRow mid h back new → RestoresHandle b old before h back new after
 restored-some b old mid new before after h p Cleared leads is shaded r =
     let there : row_at old h ≡ Some r.row = sym (ap (λ (z : Rows). row_at z h) is) ∙ r.tabled in
@@ -229,7 +246,11 @@ restored-some b old mid new before after h p (Alive g) leads is shaded r =
       issued = own;
       number = was.number ∙ ap (λ (z : Rows). length z.issued + 1) is;
       rest = was.rest
-          ∙ ap (λ (z : Rows). record z { rows = record z.rows { marks = new.rows.marks; links = new.rows.links }; issued = z.issued ++ record { peer = was.peer; hold = held; strength = strong } ∷ []; table = numbered_set z.table h None ++ Some strong_row ∷ [] }) is;
+          ∙ ap (λ (z : Rows). record z {
+            rows = record z.rows { marks = new.rows.marks; links = new.rows.links };
+            issued = z.issued ++ record { peer = was.peer; hold = held; strength = strong } ∷ [];
+            table = numbered_set z.table h None ++ Some strong_row ∷ [];
+          }) is;
     } in
     let seen : IsShaded b (λ k. k ≡ was.peer) old.rows before new.rows after = subst (λ (v : HeapRows). IsShaded b (λ k. k ≡ was.peer) old.rows before v after) (sym r.1) record {
       refs = ap (λ (v : HeapRows). v.refs) rows;

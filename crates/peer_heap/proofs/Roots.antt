@@ -49,7 +49,8 @@ strong_in-append [] ys = refl
 strong_in-append (r ∷ xs) ys = ap (λ l. strong_on r.strength r.peer.0 ++ l) (strong_in-append xs ys) ∙ sym (append_assoc (strong_on r.strength r.peer.0) (strong_in xs) (strong_in ys))
 
 -- one row more is done
-pub Greyed-row : (rows : List HandleRow) (i : ℕ) (r : HandleRow) (a : List Bool) (k : List ℕ) (h : ℕ) (b : List Bool) (l : List ℕ) (j : ℕ) (c : List Bool) (n : List ℕ) (m : ℕ) → slice_get rows i ≡ Some r
+pub Greyed-row : (rows : List HandleRow) (i : ℕ) (r : HandleRow) (a : List Bool) (k : List ℕ) (h : ℕ) (b : List Bool) (l : List ℕ) (j : ℕ) (c : List Bool) (n : List ℕ) (m : ℕ)
+    → slice_get rows i ≡ Some r
     → Greyed (Contains (strong_in (take i rows))) a k h b l j → Greyed (Contains (strong_in (r ∷ []))) b l j c n m → Greyed (Contains (strong_in (take (i + 1) rows))) a k h c n m
 Greyed-row rows i r a k h b l j c n m at v w =
     let before = strong_in (take i rows) in
@@ -59,7 +60,8 @@ Greyed-row rows i r a k h b l j c n m at v w =
     (λ x d. Contains-append_cases before here x d) (λ x d. Contains-append_left before here x d) (λ x d. Contains-append_right before here x d) v w)
 
 -- what one row adds
-pub Greyed-one : (r : HandleRow) (a : List Bool) (k : List ℕ) (h : ℕ) (b : List Bool) (l : List ℕ) (i : ℕ) → r.strength ≡ Strong → Greyed (λ z. z ≡ r.peer.0) a k h b l i → Greyed (Contains (strong_in (r ∷ []))) a k h b l i
+pub Greyed-one : (r : HandleRow) (a : List Bool) (k : List ℕ) (h : ℕ) (b : List Bool) (l : List ℕ) (i : ℕ)
+    → r.strength ≡ Strong → Greyed (λ z. z ≡ r.peer.0) a k h b l i → Greyed (Contains (strong_in (r ∷ []))) a k h b l i
 Greyed-one r a k h b l i e g =
     let is : strong_in (r ∷ []) ≡ r.peer.0 ∷ [] = ap (λ s. strong_on s r.peer.0 ++ []) e in
     subst (λ ps. Greyed (Contains ps) a k h b l i) (sym is) (Greyed-as (λ z. z ≡ r.peer.0) (Contains (r.peer.0 ∷ [])) a k h b l i
@@ -93,7 +95,8 @@ pub strong-in : (rows : List HandleRow) (k : ℕ) (r : HandleRow) → slice_get 
 strong-in [] k r at e = absurd (none-some r at)
 strong-in (x ∷ rows) zero r at e =
     let here : x ≡ r = same_Some x r at in
-    Contains-append_left (strong_on x.strength x.peer.0) (strong_in rows) r.peer.0 (subst (λ (q : HandleRow). Contains (strong_on q.strength q.peer.0) r.peer.0) (sym here) (subst (λ z. Contains (strong_on z r.peer.0) r.peer.0) (sym e) (Contains-here r.peer.0 [])))
+    Contains-append_left (strong_on x.strength x.peer.0) (strong_in rows) r.peer.0
+    (subst (λ (q : HandleRow). Contains (strong_on q.strength q.peer.0) r.peer.0) (sym here) (subst (λ z. Contains (strong_on z r.peer.0) r.peer.0) (sym e) (Contains-here r.peer.0 [])))
 strong-in (x ∷ rows) (suc k) r at e = Contains-append_right (strong_on x.strength x.peer.0) (strong_in rows) r.peer.0 (strong-in rows k r at e)
 
 -- once slots and strong handles are visited, just these have marks, and all of them are grey
@@ -114,12 +117,14 @@ begins-grey h named a k b l i c n j none slots handles =
 pub roots-as : (p q : ℕ → Type 0) (m : List Bool) (l : List ℕ) (h : ℕ) → ((x : ℕ) → p x → q x) → ((x : ℕ) → q x → p x) → AreRootsGrey p m l h → AreRootsGrey q m l h
 roots-as p q m l h to back g = record { greys = g.greys; chained = g.chained; marked = λ x. ((λ u. to x ((g.marked x).0 u)), (λ r. (g.marked x).1 (back x r))); grey = g.grey }
 
-pub named-roots : (h : Heap) (ps qs : List ℕ) (m : List Bool) (l : List ℕ) (k : ℕ) → ((x : ℕ) → Contains ps x → Contains qs x) → ((x : ℕ) → Contains qs x → Contains ps x) → AreRootsGrey (IsRoot h ps) m l k → AreRootsGrey (IsRoot h qs) m l k
+pub named-roots : (h : Heap) (ps qs : List ℕ) (m : List Bool) (l : List ℕ) (k : ℕ) → ((x : ℕ) → Contains ps x → Contains qs x)
+    → ((x : ℕ) → Contains qs x → Contains ps x) → AreRootsGrey (IsRoot h ps) m l k → AreRootsGrey (IsRoot h qs) m l k
 named-roots h ps qs m l k to back g = roots-as (IsRoot h ps) (IsRoot h qs) m l k (λ x r. turned ps qs to x r) (λ x r. turned qs ps back x r) g
   where
     turned : (xs ys : List ℕ) → ((x : ℕ) → Contains xs x → Contains ys x) → (x : ℕ) → IsRoot h xs x → IsRoot h ys x
     turned xs ys f x r = elim r [ inl i ↦ inl i | inr c ↦ inr (f x c) ]
 
 -- what the calls of a begin leave of the rows
-pub rest-begun : (v a b c : HeapRows) → a ≡ record v { follows = true; marks = a.marks } → b ≡ record a { marks = b.marks; links = b.links } → c ≡ record b { marks = c.marks; links = c.links } → c ≡ record v { follows = true; marks = c.marks; links = c.links }
+pub rest-begun : (v a b c : HeapRows) → a ≡ record v { follows = true; marks = a.marks } → b ≡ record a { marks = b.marks; links = b.links }
+    → c ≡ record b { marks = c.marks; links = c.links } → c ≡ record v { follows = true; marks = c.marks; links = c.links }
 rest-begun v a b c p q r = r ∙ ap (λ (w : HeapRows). record w { marks = c.marks; links = c.links }) (q ∙ ap (λ (w : HeapRows). record w { marks = b.marks; links = b.links }) p)

@@ -1,7 +1,8 @@
 -- A slice of a peer thread. Where another thread's marking is open, or none, its entry changes nothing. In its own so
 -- many grey peers are made black, of those that the marking reaches so far: the count grows by them, and none is left
 -- exactly where all that it reaches are black.
-use Rattle.std.proofs.Common.{◌≡◌, ◌≢◌, ℕ, zero, suc, ◌+◌, ◌-◌, ◌≤◌, ◌<◌, ◌⊎◌, ◌↔◌, inl, inr, Bool, true, false, List, [], ◌∷◌, ◌++◌, length, min, nat_lt, if◌then◌else◌, Option, Some, None, refl, sym, ap, subst, ◌∙◌, arith}
+use Rattle.std.proofs.Common.{◌≡◌, ◌≢◌, ℕ, zero, suc, ◌+◌, ◌-◌, ◌≤◌, ◌<◌, ◌⊎◌, ◌↔◌, inl, inr, Bool, true, false, List, [], ◌∷◌, ◌++◌, length, min, nat_lt, if◌then◌else◌, Option, Some, None, refl, sym}
+use Rattle.std.proofs.Common.{ap, subst, ◌∙◌, arith}
 use Rattle.std.specs.Prelude.{All, Contains}
 use Rattle.std.proofs.Math.Nat.{min-eq_left, min-eq_right}
 use Rattle.std.proofs.lemmas.Bool.{cases_eq, cases_lt, ltb-true, lt-ltb}
@@ -58,7 +59,12 @@ record IsWith (x : ℕ) (xs : List ℕ) : Type 0 where
   many : length all ≡ suc (length xs)
 
 with-one : (x : ℕ) (xs : List ℕ) → Rises xs → (Contains xs x → ⊥) → IsWith x xs
-with-one x [] r out = record { all = x ∷ []; rise = (All-members (λ z. x < z) [] (λ z c. absurd (Contains-nil z c)), tt); exact = λ p. ((λ c. Contains-cons_cases x [] p c), (λ w. elim w [ inl e ↦ subst (Contains (x ∷ [])) e (Contains-here x []) | inr c ↦ absurd (Contains-nil p c) ])); many = refl }
+with-one x [] r out = record {
+  all = x ∷ [];
+  rise = (All-members (λ z. x < z) [] (λ z c. absurd (Contains-nil z c)), tt);
+  exact = λ p. ((λ c. Contains-cons_cases x [] p c), (λ w. elim w [ inl e ↦ subst (Contains (x ∷ [])) e (Contains-here x []) | inr c ↦ absurd (Contains-nil p c) ]));
+  many = refl;
+}
 with-one x (y ∷ ys) r out = elim (cases_lt x y) [
   | inl l ↦ record {
     all = x ∷ y ∷ ys;
@@ -73,7 +79,10 @@ with-one x (y ∷ ys) r out = elim (cases_lt x y) [
         all = y ∷ w.all;
         rise = (below x y ys w (omega (arith, le, apart)) r.0, w.rise);
         exact = λ p. (
-          (λ c. elim (Contains-cons_cases y w.all p c) [ inl e ↦ inr (subst (Contains (y ∷ ys)) e (Contains-here y ys)) | inr d ↦ elim ((w.exact p).0 d) [ inl e ↦ inl e | inr f ↦ inr (Contains-there p y ys f) ] ]),
+          (λ c. elim (Contains-cons_cases y w.all p c) [
+            | inl e ↦ inr (subst (Contains (y ∷ ys)) e (Contains-here y ys))
+            | inr d ↦ elim ((w.exact p).0 d) [ inl e ↦ inl e | inr f ↦ inr (Contains-there p y ys f) ]
+          ]),
           (λ z. elim z [
             | inl e ↦ Contains-there p y w.all ((w.exact p).1 (inl e))
             | inr c ↦ elim (Contains-cons_cases y ys p c) [ inl e ↦ subst (Contains (y ∷ w.all)) e (Contains-here y w.all) | inr d ↦ Contains-there p y w.all ((w.exact p).1 (inr d)) ]
@@ -84,7 +93,8 @@ with-one x (y ∷ ys) r out = elim (cases_lt x y) [
 ]
   where
     above : (x y : ℕ) (ys : List ℕ) → x < y → Rises (y ∷ ys) → All (λ z. x < z) (y ∷ ys)
-    above x y ys l r = All-members (λ z. x < z) (y ∷ ys) (λ z c. elim (Contains-cons_cases y ys z c) [ inl e ↦ omega (arith, l, e) | inr d ↦ (let m = All-contains (λ z. y < z) ys z r.0 d in omega (arith, l, m)) ])
+    above x y ys l r = All-members (λ z. x < z) (y ∷ ys) (λ z c. elim (Contains-cons_cases y ys z c)
+        [ inl e ↦ omega (arith, l, e) | inr d ↦ (let m = All-contains (λ z. y < z) ys z r.0 d in omega (arith, l, m)) ])
 
     below : (x y : ℕ) (ys : List ℕ) → (w : IsWith x ys) → y < x → All (λ z. y < z) ys → All (λ z. y < z) w.all
     below x y ys w l r = All-members (λ z. y < z) w.all (λ z c. elim ((w.exact z).0 c) [ inl e ↦ omega (arith, l, e) | inr d ↦ All-contains (λ z. y < z) ys z r d ])
@@ -113,7 +123,8 @@ black-one b row m m' x rest ys n step live c =
     }
 
 -- and one after the other
-black-more : (s : PeerReplay) (mk : Marking) (follows : Bool) (k : ℕ) (m m' : List Bool) (xs ys : List ℕ) (n : ℕ) → IsPeerKept s → s.marking ≡ Some mk → Blackens (EdgeNow s follows) k m xs m' ys → AreMarksGoing s mk follows m xs → IsCount mk.heap m xs n → IsCount mk.heap m' ys (n + k)
+black-more : (s : PeerReplay) (mk : Marking) (follows : Bool) (k : ℕ) (m m' : List Bool) (xs ys : List ℕ) (n : ℕ) → IsPeerKept s → s.marking ≡ Some mk
+    → Blackens (EdgeNow s follows) k m xs m' ys → AreMarksGoing s mk follows m xs → IsCount mk.heap m xs n → IsCount mk.heap m' ys (n + k)
 black-more s mk follows zero m m' xs ys n kept opened (a, b) g c =
     let same : n ≡ n + 0 = omega arith in
     subst (IsCount mk.heap m' ys) same (subst (λ l. IsCount mk.heap m' l n) (sym b) (subst (λ z. IsCount mk.heap z xs n) (sym a) c))
@@ -127,7 +138,10 @@ black-more s mk follows (suc k) m m' xs ys n kept opened (mid, x, rest, before, 
 members-counted : (Q : ℕ → Type 0) (xs ys : List ℕ) → Rises xs → Rises ys → ((p : ℕ) → Contains xs p → Contains ys p) → ((p : ℕ) → Contains ys p → Q p ↔ Contains xs p) → Counted Q ys (length xs)
 members-counted Q [] [] rx ry sub same = refl
 members-counted Q (x ∷ xs) [] rx ry sub same = absurd (Contains-nil x (sub x (Contains-here x xs)))
-members-counted Q [] (y ∷ ys) rx ry sub same = inr ((λ q. Contains-nil y ((same y (Contains-here y ys)).0 q)), members-counted Q [] ys rx ry.1 (λ p c. absurd (Contains-nil p c)) (λ p c. same p (Contains-there p y ys c)))
+members-counted Q [] (y ∷ ys) rx ry sub same = inr (
+  (λ q. Contains-nil y ((same y (Contains-here y ys)).0 q)),
+  members-counted Q [] ys rx ry.1 (λ p c. absurd (Contains-nil p c)) (λ p c. same p (Contains-there p y ys c)),
+)
 members-counted Q (x ∷ xs) (y ∷ ys) rx ry sub same = elim (cases_eq x y) [
   | inl e ↦ inl (
     (same y (Contains-here y ys)).1 (subst (Contains (x ∷ xs)) e (Contains-here x xs)),
@@ -152,10 +166,12 @@ members-counted Q (x ∷ xs) (y ∷ ys) rx ry sub same = elim (cases_eq x y) [
 ]
 
 -- the black peers of the begin are among those that the marking reaches
-counted-black : (s : PeerReplay) (mk : Marking) (follows : Bool) (m : List Bool) (xs closure : List ℕ) (n : ℕ) → AreMarksGoing s mk follows m xs → IsClosure mk closure → IsCount mk.heap m xs n → AreBlack mk m xs closure n
+counted-black : (s : PeerReplay) (mk : Marking) (follows : Bool) (m : List Bool) (xs closure : List ℕ) (n : ℕ)
+    → AreMarksGoing s mk follows m xs → IsClosure mk closure → IsCount mk.heap m xs n → AreBlack mk m xs closure n
 counted-black s mk follows m xs closure n g closed c = record {
   closed = closed;
-  counted = subst (Counted (IsBlack m xs) closure) c.many (members-counted (IsBlack m xs) c.dark closure c.rise closed.rise inside (λ p d. ((λ q. (c.exact p).1 (((closed.exact p).0 d).existed, q)), (λ k. ((c.exact p).0 k).1))));
+  counted = subst (Counted (IsBlack m xs) closure) c.many (members-counted (IsBlack m xs) c.dark closure c.rise closed.rise inside
+      (λ p d. ((λ q. (c.exact p).1 (((closed.exact p).0 d).existed, q)), (λ k. ((c.exact p).0 k).1))));
 }
   where
     inside : (p : ℕ) → Contains c.dark p → Contains closure p
@@ -200,7 +216,8 @@ sliced_by s mk k closure b = if b
     answer (if nat_lt black (length closure) then says.More else says.Done) (record s { marking = Some (record mk { blackened = black }) }))
     else answer (says.MarkOpen record { 0 = mk.number }) s
 
-module _ (rows : Rows) (n : ℕ) (m : Mirrors) (stock : Stock) (after : List Entry) (number : ℕ) (t : Thread) (i k : ℕ) (r : Reply) (added : after ≡ stock.entries ++ numbered number (slices t i k r) ∷ []) (caller : IsPeerThread t) (few : (1 ≤ k) × (k ≤ 65535)) where
+module _ (rows : Rows) (n : ℕ) (m : Mirrors) (stock : Stock) (after : List Entry) (number : ℕ) (t : Thread) (i k : ℕ) (r : Reply)
+    (added : after ≡ stock.entries ++ numbered number (slices t i k r) ∷ []) (caller : IsPeerThread t) (few : (1 ≤ k) × (k ≤ 65535)) where
   mirror-stays : (o : Option OpenMarking) → IsSide rows o n m stock → mirror_state after m ≡ mirror_state stock.entries m
   mirror-stays o side = ap (λ l. mirror_state l m) added ∙ state-still stock.entries (numbered number (slices t i k r)) m side.mirrored (slice-quiet k)
 
@@ -211,11 +228,14 @@ module _ (rows : Rows) (n : ℕ) (m : Mirrors) (stock : Stock) (after : List Ent
   state-stays o side = ap (λ z. with_marking z rows (marking_in rows.issued after o) n) (mirror-stays o side) ∙ ap (λ mk. with_marking (mirror_state stock.entries m) rows mk n) (marking-stays o side)
 
   -- a slice that changes nothing
-  passes : (o : Option OpenMarking) (head : ℕ) → IsSide rows o n m stock → AreGoing rows o head n m stock.entries → AreCounted o (colours_of rows.rows head) → PeerAllows (state_with stock.entries rows o n m) t (op.Line (act.Slice k)) None nothing
-      → peer_answer (state_with stock.entries rows o n m) t (op.Line (act.Slice k)) None nothing ≡ answer r (state_with stock.entries rows o n m) → IsSlicedTo rows rows o o head n m stock.entries after (slices t i k r)
+  passes : (o : Option OpenMarking) (head : ℕ) → IsSide rows o n m stock → AreGoing rows o head n m stock.entries
+      → AreCounted o (colours_of rows.rows head) → PeerAllows (state_with stock.entries rows o n m) t (op.Line (act.Slice k)) None nothing
+      → peer_answer (state_with stock.entries rows o n m) t (op.Line (act.Slice k)) None nothing ≡ answer r (state_with stock.entries rows o n m)
+      → IsSlicedTo rows rows o o head n m stock.entries after (slices t i k r)
   passes o head side going counted allowed e = record {
     told = nothing;
-    goes = goes-told (state_with stock.entries rows o n m) (state_with after rows o n m) (slices t i k r) nothing (slice-side t i k r caller few) allowed (e ∙ ap (λ z. answer r z) (sym (state-stays o side)));
+    goes = goes-told (state_with stock.entries rows o n m) (state_with after rows o n m) (slices t i k r) nothing
+        (slice-side t i k r caller few) allowed (e ∙ ap (λ z. answer r z) (sym (state-stays o side)));
     safe = tt;
     rest = refl;
     owes = refl;
@@ -227,7 +247,8 @@ module _ (rows : Rows) (n : ℕ) (m : Mirrors) (stock : Stock) (after : List Ent
   passes-none : (head : ℕ) → IsSide rows None n m stock → AreGoing rows None head n m stock.entries → r ≡ says.NoMark → IsSlicedTo rows rows None None head n m stock.entries after (slices t i k r)
   passes-none head side going e = passes None head side going tt tt (ap (λ z. answer z (state_with stock.entries rows None n m)) (sym e))
 
-  passes-other : (o : OpenMarking) (head : ℕ) → IsSide rows (Some o) n m stock → AreGoing rows (Some o) head n m stock.entries → AreCounted (Some o) (colours_of rows.rows head) → t ≢ o.by → r ≡ says.MarkOpen o.number → IsSlicedTo rows rows (Some o) (Some o) head n m stock.entries after (slices t i k r)
+  passes-other : (o : OpenMarking) (head : ℕ) → IsSide rows (Some o) n m stock → AreGoing rows (Some o) head n m stock.entries → AreCounted (Some o) (colours_of rows.rows head)
+      → t ≢ o.by → r ≡ says.MarkOpen o.number → IsSlicedTo rows rows (Some o) (Some o) head n m stock.entries after (slices t i k r)
   passes-other o head side going counted apart e =
       let s = state_with stock.entries rows (Some o) n m in
       let mk = marking_as rows.issued stock.entries o in
@@ -257,8 +278,10 @@ rising-short (x ∷ xs) a b le r h =
     omega (arith, rest, low)
 
 -- a slice of the thread's own marking
-module _ (rows : Rows) (n : ℕ) (m : Mirrors) (stock : Stock) (after : List Entry) (number : ℕ) (t : Thread) (i k : ℕ) (r : Reply) (added : after ≡ stock.entries ++ numbered number (slices t i k r) ∷ []) (caller : IsPeerThread t) (few : (1 ≤ k) × (k ≤ 65535))
-    (o : OpenMarking) (head next : ℕ) (w : Rows) (o' : OpenMarking) (side : IsSide rows (Some o) n m stock) (going : AreGoing rows (Some o) head n m stock.entries) (counted : AreCounted (Some o) (colours_of rows.rows head)) (own : t ≡ o.by) (b : BlackensBy k rows head o w next o' r) where
+module _ (rows : Rows) (n : ℕ) (m : Mirrors) (stock : Stock) (after : List Entry) (number : ℕ) (t : Thread) (i k : ℕ) (r : Reply)
+    (added : after ≡ stock.entries ++ numbered number (slices t i k r) ∷ []) (caller : IsPeerThread t) (few : (1 ≤ k) × (k ≤ 65535))
+    (o : OpenMarking) (head next : ℕ) (w : Rows) (o' : OpenMarking) (side : IsSide rows (Some o) n m stock) (going : AreGoing rows (Some o) head n m stock.entries)
+    (counted : AreCounted (Some o) (colours_of rows.rows head)) (own : t ≡ o.by) (b : BlackensBy k rows head o w next o' r) where
   abbrev before : PeerReplay
   before = state_with stock.entries rows (Some o) n m
 
@@ -301,7 +324,8 @@ module _ (rows : Rows) (n : ℕ) (m : Mirrors) (stock : Stock) (after : List Ent
   short : length closure.0 ≤ 65535
   short =
       let made = (side.kept.marking mk refl).made in
-      let all-made = rising-short closure.0 0 (length mk.heap.fields) (omega arith) closure.1.rise (λ p c. (let l = ((closure.1.exact p).0 c).existed.made in let one = l.0 in (omega (arith, one), l.1))) in
+      let all-made = rising-short closure.0 0 (length mk.heap.fields) (omega arith) closure.1.rise
+      (λ p c. (let l = ((closure.1.exact p).0 c).existed.made in let one = l.0 in (omega (arith, one), l.1))) in
       omega (arith, made, all-made, b.made)
 
   sum : o'.blackened ≡ o.blackened + b.count
@@ -327,7 +351,8 @@ module _ (rows : Rows) (n : ℕ) (m : Mirrors) (stock : Stock) (after : List Ent
   replies = elim (cases_eq next 0) [
     | inl e ↦ (
         let full = all.0 (none-left e) in
-        let not-less : nat_lt o'.blackened (length closure.0) ≡ false = false-from (nat_lt o'.blackened (length closure.0)) (λ z. (let l = ltb-true o'.blackened (length closure.0) z in omega (arith, l, full, sum))) in
+        let not-less : nat_lt o'.blackened (length closure.0) ≡ false = false-from (nat_lt o'.blackened (length closure.0))
+        (λ z. (let l = ltb-true o'.blackened (length closure.0) z in omega (arith, l, full, sum))) in
         ap (λ z. if z then says.More else says.Done) not-less ∙ sym (b.done e))
     | inr d ↦ (
         let apart : o.blackened + b.count ≢ length closure.0 = λ q. d (chained-some w.rows.marks w.rows.links next to.waits to.chained (all.1 q)) in
@@ -336,7 +361,8 @@ module _ (rows : Rows) (n : ℕ) (m : Mirrors) (stock : Stock) (after : List Ent
   ]
 
   later-marking : marking_in w.issued after (Some later-open) ≡ Some later-mk
-  later-marking = ap (λ is. marking_in is after (Some later-open)) (ap (λ (z : Rows). z.issued) b.rest) ∙ marking-same stock.entries after (numbered number (slices t i k r)) added rows.issued (Some later-open) side.known side.from refl
+  later-marking = ap (λ is. marking_in is after (Some later-open)) (ap (λ (z : Rows). z.issued) b.rest)
+      ∙ marking-same stock.entries after (numbered number (slices t i k r)) added rows.issued (Some later-open) side.known side.from refl
 
   later-state : record before { marking = Some later-mk } ≡ state_with after w (Some later-open) n m
   later-state =
@@ -362,13 +388,15 @@ module _ (rows : Rows) (n : ℕ) (m : Mirrors) (stock : Stock) (after : List Ent
     owes = refl;
     from = side.from;
     going = record { list = (to.waits, to.chained); going = goes-on };
-    counted = λ other. subst (λ l. IsCount mk.heap w.rows.marks l o'.blackened) (sym (grey-list w.rows.marks w.rows.links next to.waits to.chained)) (subst (IsCount mk.heap w.rows.marks to.waits) (sym sum) black);
+    counted = λ other. subst (λ l. IsCount mk.heap w.rows.marks l o'.blackened)
+        (sym (grey-list w.rows.marks w.rows.links next to.waits to.chained)) (subst (IsCount mk.heap w.rows.marks to.waits) (sym sum) black);
   }
     where
       goes-on : (z : Marking) → marking_in w.issued after (Some later-open) ≡ Some z → IsGoing (state_with after w (Some later-open) n m) z w.rows next
       goes-on z q =
           let s = state_with after w (Some later-open) n m in
-          let moved = going-same before s later-mk rows.rows.follows w.rows.marks to.waits (ap (λ (v : Rows). v.rows.heap.fields) b.rest) (ap (λ (v : Rows). v.rows.heap.freed) b.rest) (ap (λ (v : Rows). v.rows.refs) b.rest) (recounted before mk rows.rows.follows w.rows.marks to.waits o'.blackened right) in
+          let moved = going-same before s later-mk rows.rows.follows w.rows.marks to.waits (ap (λ (v : Rows). v.rows.heap.fields) b.rest)
+          (ap (λ (v : Rows). v.rows.heap.freed) b.rest) (ap (λ (v : Rows). v.rows.refs) b.rest) (recounted before mk rows.rows.follows w.rows.marks to.waits o'.blackened right) in
           subst (λ y. IsGoing s y w.rows next) (same_Some later-mk z (sym later-marking ∙ q)) record {
             greys = to.waits;
             chained = to.chained;
@@ -376,22 +404,27 @@ module _ (rows : Rows) (n : ℕ) (m : Mirrors) (stock : Stock) (after : List Ent
           }
 
 -- whatever marking is open
-pub sliced-to : (rows w : Rows) (o o' : Option OpenMarking) (head next n : ℕ) (m : Mirrors) (stock : Stock) (after : List Entry) (number : ℕ) (t : Thread) (i k : ℕ) (r : Reply) → after ≡ stock.entries ++ numbered number (slices t i k r) ∷ [] → IsPeerThread t → (1 ≤ k) × (k ≤ 65535) → SlicesOpen k t rows head o w next o' r
+pub sliced-to : (rows w : Rows) (o o' : Option OpenMarking) (head next n : ℕ) (m : Mirrors) (stock : Stock) (after : List Entry) (number : ℕ) (t : Thread) (i k : ℕ) (r : Reply)
+    → after ≡ stock.entries ++ numbered number (slices t i k r) ∷ [] → IsPeerThread t → (1 ≤ k) × (k ≤ 65535) → SlicesOpen k t rows head o w next o' r
     → IsSide rows o n m stock → AreGoing rows o head n m stock.entries → AreCounted o (colours_of rows.rows head) → IsSlicedTo rows w o o' next n m stock.entries after (slices t i k r)
 sliced-to rows w None None head next n m stock after number t i k r added caller few (e, same, at) side going counted =
     subst (λ z. IsSlicedTo rows z None None next n m stock.entries after (slices t i k r)) (sym same)
     (subst (λ h. IsSlicedTo rows rows None None h n m stock.entries after (slices t i k r)) (sym at) (passes-none rows n m stock after number t i k r added caller few head side going e))
 sliced-to rows w (Some o) (Some o') head next n m stock after number t i k r added caller few s side going counted = elim s [
-  | inl p ↦ subst (λ z. IsSlicedTo rows w (Some o) (Some z) next n m stock.entries after (slices t i k r)) (sym p.1.counted) (owned rows n m stock after number t i k r added caller few o head next w o' side going counted p.0 p.1)
+  | inl p ↦ subst (λ z. IsSlicedTo rows w (Some o) (Some z) next n m stock.entries after (slices t i k r)) (sym p.1.counted)
+      (owned rows n m stock after number t i k r added caller few o head next w o' side going counted p.0 p.1)
   | inr q ↦ subst (λ z. IsSlicedTo rows w (Some o) (Some z) next n m stock.entries after (slices t i k r)) (sym q.4)
       (subst (λ z. IsSlicedTo rows z (Some o) (Some o) next n m stock.entries after (slices t i k r)) (sym q.2)
-      (subst (λ h. IsSlicedTo rows rows (Some o) (Some o) h n m stock.entries after (slices t i k r)) (sym q.3) (passes-other rows n m stock after number t i k r added caller few o head side going counted q.0 q.1)))
+      (subst (λ h. IsSlicedTo rows rows (Some o) (Some o) h n m stock.entries after (slices t i k r)) (sym q.3)
+      (passes-other rows n m stock after number t i k r added caller few o head side going counted q.0 q.1)))
 ]
 sliced-to rows w None (Some o') head next n m stock after number t i k r added caller few s side going counted = absurd s
 sliced-to rows w (Some o) None head next n m stock after number t i k r added caller few s side going counted = absurd s
 
 -- the side after a slice
-pub IsSide-sliced : (rows w : Rows) (o o' : Option OpenMarking) (next n : ℕ) (m : Mirrors) (stock later : Stock) (number floor : ℕ) (t : Thread) (i k : ℕ) (r : Reply) → IsSlicedTo rows w o o' next n m stock.entries later.entries (slices t i k r) → later.entries ≡ stock.entries ++ numbered number (slices t i k r) ∷ [] → AllBelow stock.entries floor → floor ≤ number
+pub IsSide-sliced : (rows w : Rows) (o o' : Option OpenMarking) (next n : ℕ) (m : Mirrors) (stock later : Stock) (number floor : ℕ) (t : Thread) (i k : ℕ) (r : Reply)
+    → IsSlicedTo rows w o o' next n m stock.entries later.entries (slices t i k r)
+    → later.entries ≡ stock.entries ++ numbered number (slices t i k r) ∷ [] → AllBelow stock.entries floor → floor ≤ number
     → rows.tabled + owed o + owes m ≤ later.spare → length later.entries + later.spare ≤ 4294967295 → IsSide rows o n m stock → IsSide w o' n m later
 IsSide-sliced rows w o o' next n m stock later number floor t i k r s added below above room limit side =
     IsSide-next rows w o o' n n m stock later number floor (slices t i k r) s.told added below above s.goes s.safe (omega (arith, room, s.owes, ap (λ (z : Rows). z.tabled) s.rest)) limit (omega arith)

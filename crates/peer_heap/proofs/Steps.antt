@@ -139,17 +139,20 @@ safe-nothing s (op.Abandon k) = tt
 safe-nothing s (op.Refused w) = tt
 
 -- the event is the replay's
-pub goes-told : (s t : PeerReplay) (m : Made) (told : Told) → IsOfSide true m → PeerAllows s m.caller m.op m.cites told → peer_answer s m.caller m.op m.cites told ≡ answer m.reply t → GoesOn peer_rules s m told t
+pub goes-told : (s t : PeerReplay) (m : Made) (told : Told) → IsOfSide true m → PeerAllows s m.caller m.op m.cites told
+    → peer_answer s m.caller m.op m.cites told ≡ answer m.reply t → GoesOn peer_rules s m told t
 goes-told s t m told side allowed e = record {
   lawful = (side, record { allowed = allowed; replies = sym (ap (λ (a : Answered PeerReplay). a.reply) e) });
   state = sym (ap (λ (a : Answered PeerReplay). a.state) e);
 }
 
-pub goes-step : (s t : PeerReplay) (m : Made) → IsOfSide true m → PeerAllows s m.caller m.op m.cites nothing → peer_answer s m.caller m.op m.cites nothing ≡ answer m.reply t → GoesOn peer_rules s m nothing t
+pub goes-step : (s t : PeerReplay) (m : Made) → IsOfSide true m → PeerAllows s m.caller m.op m.cites nothing
+    → peer_answer s m.caller m.op m.cites nothing ≡ answer m.reply t → GoesOn peer_rules s m nothing t
 goes-step s t m side allowed e = goes-told s t m nothing side allowed e
 
 -- the side stays the replay of its entries
-pub replayed-told : (es es' : List Entry) (old new : PeerReplay) (k floor : ℕ) (m : Made) (told : Told) → AllBelow es floor → floor ≤ k → es' ≡ es ++ numbered k m ∷ [] → GoesOn peer_rules old m told new → IsReplayed peer_rules es old → IsReplayed peer_rules es' new
+pub replayed-told : (es es' : List Entry) (old new : PeerReplay) (k floor : ℕ) (m : Made) (told : Told) → AllBelow es floor → floor ≤ k
+    → es' ≡ es ++ numbered k m ∷ [] → GoesOn peer_rules old m told new → IsReplayed peer_rules es old → IsReplayed peer_rules es' new
 replayed-told es es' old new k floor m told below above added goes replayed = IsReplayed-push peer_rules es es' old new k m told (AllBelow-more es floor k above below) added goes replayed
 
 -- and its state is kept

@@ -41,7 +41,8 @@ rises-at low high (x ∷ rs) (suc k) r rises at = (let w = rises-at x.number.0 h
 -- a row is found under its number
 row-found : (low high : ℕ) (rows : List HandleRow) (k : ℕ) (r : HandleRow) → RisesBetween low high rows → slice_get rows k ≡ Some r → row_in rows r.number ≡ Some r
 row-found low high [] k r rises at = absurd (none-some r at)
-row-found low high (x ∷ rs) zero r rises at = subst (λ (q : HandleRow). row_in (x ∷ rs) q.number ≡ Some q) (same_Some x r at) (ap (λ (b : Bool). if b then Some x else row_in rs x.number) (here x.number.0))
+row-found low high (x ∷ rs) zero r rises at = subst (λ (q : HandleRow). row_in (x ∷ rs) q.number ≡ Some q)
+    (same_Some x r at) (ap (λ (b : Bool). if b then Some x else row_in rs x.number) (here x.number.0))
   where
     here : (n : ℕ) → eqb n n ≡ true
     here n = grind (arith, nat_tests)
@@ -51,7 +52,8 @@ row-found low high (x ∷ rs) (suc k) r rises at =
     ap (λ (b : Bool). if b then Some x else row_in rs r.number) (neq-eqb r.number.0 x.number.0 apart) ∙ row-found x.number.0 high rs k r rises.1 at
 
 -- the peer of a strong row is one of those that strong handles name
-pub strong-row : (rows : List HandleRow) (issued : List Issue) (n k : ℕ) (r : HandleRow) → RisesBetween 0 n rows → n ≡ length issued → AreRowsIssued rows issued → slice_get rows k ≡ Some r → r.strength ≡ Strong
+pub strong-row : (rows : List HandleRow) (issued : List Issue) (n k : ℕ) (r : HandleRow) → RisesBetween 0 n rows
+    → n ≡ length issued → AreRowsIssued rows issued → slice_get rows k ≡ Some r → r.strength ≡ Strong
     → Contains (strong_peers (map issued_as issued) (table_to rows n)) r.peer.0
 strong-row rows issued n k r rises len own at s =
     let found = row-found 0 n rows k r rises at in
@@ -84,7 +86,8 @@ strong-at (i ∷ is) [] p c = absurd (Contains-nil p c)
 strong-at (i ∷ is) (None ∷ rows) p c = (let w = strong-at is rows p c in record { place = suc w.place; row = w.row; issue = w.issue; tabled = w.tabled; sure = w.sure; made = w.made; peer = w.peer })
 strong-at (i ∷ is) (Some row ∷ rows) p c = by row.strength refl c (strong-at is rows p)
   where
-    by : (x : JointStrength) → row.strength ≡ x → Contains (if is_strong x then i.peer ∷ strong_peers is rows else strong_peers is rows) p → (Contains (strong_peers is rows) p → IsStrongAt is rows p) → IsStrongAt (i ∷ is) (Some row ∷ rows) p
+    by : (x : JointStrength) → row.strength ≡ x → Contains (if is_strong x then i.peer ∷ strong_peers is rows else strong_peers is rows) p
+        → (Contains (strong_peers is rows) p → IsStrongAt is rows p) → IsStrongAt (i ∷ is) (Some row ∷ rows) p
     by strong e d rest = elim (Contains-cons_cases i.peer (strong_peers is rows) p d) [
       | inl q ↦ record { place = 0; row = row; issue = i; tabled = refl; sure = e; made = refl; peer = q }
       | inr q ↦ (let w = rest q in record { place = suc w.place; row = w.row; issue = w.issue; tabled = w.tabled; sure = w.sure; made = w.made; peer = w.peer })
@@ -92,7 +95,8 @@ strong-at (i ∷ is) (Some row ∷ rows) p c = by row.strength refl c (strong-at
     by weak e d rest = (let w = rest d in record { place = suc w.place; row = w.row; issue = w.issue; tabled = w.tabled; sure = w.sure; made = w.made; peer = w.peer })
 
 -- and the other way round
-pub strong-named : (rows : List HandleRow) (issued : List Issue) (n p : ℕ) → AreRowsIssued rows issued → Contains (strong_peers (map issued_as issued) (table_to rows n)) p → Contains (strong_in rows) p
+pub strong-named : (rows : List HandleRow) (issued : List Issue) (n p : ℕ) → AreRowsIssued rows issued
+    → Contains (strong_peers (map issued_as issued) (table_to rows n)) p → Contains (strong_in rows) p
 strong-named rows issued n p own c =
     let w = strong-at (map issued_as issued) (table_to rows n) p c in
     let found = row_in-shown rows (suc w.place) n w.row w.tabled in
@@ -108,14 +112,16 @@ strong-named rows issued n p own c =
     is-strong Strong e = refl
     is-strong Weak e = (let f : ⊥ = cc in absurd f)
 
-pub strong-listed_too : (rows : List HandleRow) (issued : List Issue) (n p : ℕ) → RisesBetween 0 n rows → n ≡ length issued → AreRowsIssued rows issued → Contains (strong_in rows) p → Contains (strong_peers (map issued_as issued) (table_to rows n)) p
+pub strong-listed_too : (rows : List HandleRow) (issued : List Issue) (n p : ℕ) → RisesBetween 0 n rows → n ≡ length issued
+    → AreRowsIssued rows issued → Contains (strong_in rows) p → Contains (strong_peers (map issued_as issued) (table_to rows n)) p
 strong-listed_too rows issued n p rises len own c =
     let w = strong-of rows p c in
     subst (Contains (strong_peers (map issued_as issued) (table_to rows n))) w.4 (strong-row rows issued n w.0 w.1 rises len own w.2 w.3)
 
 -- so where each of those has a mark, the handles on peers without one are weak
 pub weak-rows : (marks : List Bool) (rows : List HandleRow) (issued : List Issue) (n : ℕ) (freed : List PNum) → RisesBetween 0 n rows → n ≡ length issued → AreRowsIssued rows issued
-    → ((p : ℕ) → Contains (strong_peers (map issued_as issued) (table_to rows n)) p → HasMark marks p) → ((p : ℕ) → Contains (peer_numbers freed) p → HasMark marks p → ⊥) → All (λ p. All (IsWeakFor p) rows) freed
+    → ((p : ℕ) → Contains (strong_peers (map issued_as issued) (table_to rows n)) p → HasMark marks p)
+    → ((p : ℕ) → Contains (peer_numbers freed) p → HasMark marks p → ⊥) → All (λ p. All (IsWeakFor p) rows) freed
 weak-rows marks rows issued n freed rises len own up white k p l j r m = λ same. by (get_or rows j r).strength refl same
   where
     at : slice_get rows j ≡ Some (get_or rows j r)
@@ -126,7 +132,8 @@ weak-rows marks rows issued n freed rises len own up white k p l j r m = λ same
 
     by : (x : Strength) → (get_or rows j r).strength ≡ x → (get_or rows j r).peer ≡ get_or freed k p → (get_or rows j r).strength ≡ Weak
     by Weak e same = e
-    by Strong e same = absurd (white (get_or freed k p).0 in' (up (get_or freed k p).0 (subst (Contains (strong_peers (map issued_as issued) (table_to rows n))) (ap (λ (q : PNum). q.0) same) (strong-row rows issued n j (get_or rows j r) rises len own at e))))
+    by Strong e same = absurd (white (get_or freed k p).0 in' (up (get_or freed k p).0
+        (subst (Contains (strong_peers (map issued_as issued) (table_to rows n))) (ap (λ (q : PNum). q.0) same) (strong-row rows issued n j (get_or rows j r) rises len own at e))))
 
 -- it is live
 pub strong-live : (s : PeerReplay) → IsPeerKept s → (p : ℕ) → Contains (strong_peers s.peers.issued s.table) p → IsLive s.peers.heap p
@@ -141,7 +148,8 @@ strong-safe s k p c = λ mk e.
     subst (IsSpared mk) w.peer ((k.marking mk e).strong_ones (suc w.place) w.row w.issue w.tabled w.sure w.made)
 
 -- and has a mark once none is grey
-pub strong-marked : (s : PeerReplay) (mk : Marking) (follows : Bool) (marks : List Bool) → IsGoingSide s mk follows marks [] → (p : ℕ) → Contains (strong_peers s.peers.issued s.table) p → HasMark marks p
+pub strong-marked : (s : PeerReplay) (mk : Marking) (follows : Bool) (marks : List Bool)
+    → IsGoingSide s mk follows marks [] → (p : ℕ) → Contains (strong_peers s.peers.issued s.table) p → HasMark marks p
 strong-marked s mk follows marks side p c =
     let w = strong-at s.peers.issued s.table p c in
     let spared = (side.kept.marking mk side.opened).strong_ones (suc w.place) w.row w.issue w.tabled w.sure w.made in

@@ -19,7 +19,13 @@ reply_of Cleared = says.Cleared
 
 -- the entries of a cycle, without their numbers
 abbrev pub mirrors : ℕ → Cycle → ℕ → ℕ → Made
-mirrors index k refs snap = record { caller = C; index = index; op = op.Mirror k; reply = says.Refs refs; cites = Some snap }
+mirrors index k refs snap = record {
+  caller = C;
+  index = index;
+  op = op.Mirror k;
+  reply = says.Refs refs;
+  cites = Some snap;
+}
 
 abbrev pub weakens : ℕ → HNum → ℕ → Made
 weakens index h snap = record { caller = C; index = index; op = op.Weaken h; reply = says.Ok; cites = Some snap }

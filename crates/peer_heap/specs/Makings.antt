@@ -34,7 +34,8 @@ MayStep s t o cites = PeerAllows s t o cites nothing
 
 -- what a step asks of the draw: a collect draws for a begin and for a sweep
 abbrev pub MayDrawStep : {D : Type 0} → Drawing D → D → Side PeerReplay → Thread → Op → Type 0
-MayDrawStep d draw s t (op.Line act.Collect) = MayDraw peer_rules d draw s t op.Begin × MayDraw peer_rules d draw s t op.Sweep
+MayDrawStep d draw s t (op.Line act.Collect) = MayDraw peer_rules d draw s t op.Begin
+    × MayDraw peer_rules d draw s t op.Sweep
 MayDrawStep d draw s t o = MayDraw peer_rules d draw s t o
 
 -- the peers that were freed from one state to the other
@@ -48,7 +49,10 @@ told_at o r gone = nothing
 
 -- one event with its reply
 abbrev pub one_making : Thread → ℕ → Op → Option ℕ → Reply → List ℕ → List Making
-one_making t index o cites r gone = record { made = record { caller = t; index = index; op = o; reply = r; cites = cites }; told = told_at o r gone } ∷ []
+one_making t index o cites r gone = record {
+  made = record { caller = t; index = index; op = o; reply = r; cites = cites };
+  told = told_at o r gone;
+} ∷ []
 
 -- the number that a sweep's reply has
 abbrev pub number_in : Reply → Number
@@ -58,7 +62,9 @@ number_in r = record { 0 = 0 }
 -- a collect, by its last reply: a begin that was refused, or a begin that gave a number and the sweep of that marking
 abbrev pub collect_makings : Thread → ℕ → Reply → List ℕ → List Making
 collect_makings t index (says.MarkOpen j) gone = one_making t index op.Begin None (says.MarkOpen j) gone
-collect_makings t index r gone = record { made = begins t index (number_in r); told = nothing } ∷ record { made = record { caller = t; index = index; op = op.Sweep; reply = r; cites = None }; told = sweep_of gone } ∷ []
+collect_makings t index r gone = record { made = begins t index (number_in r); told = nothing } ∷
+    record { made = record { caller = t; index = index; op = op.Sweep; reply = r; cites = None }; told = sweep_of gone }
+    ∷ []
 
 -- what a step makes
 abbrev pub step_makings : Thread → ℕ → Op → Option ℕ → Reply → List ℕ → List Making

@@ -47,4 +47,5 @@ cleared_on freed r = if list_any (nat_eq r.peer.0) freed then cleared_row r else
 
 -- a state of the replay with these peers and handles, with the references of the rows, and with this marking
 abbrev pub with_marking : PeerReplay → Rows → Option Marking → ℕ → PeerReplay
-with_marking s v marking markings = record s { peers = peers_in v; table = v.table; refs = v.rows.refs; marking = marking; markings = markings }
+with_marking s v marking markings = record s
+    { peers = peers_in v; table = v.table; refs = v.rows.refs; marking = marking; markings = markings }

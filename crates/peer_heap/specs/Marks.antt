@@ -33,10 +33,12 @@ pub record IsMarkedToo (old new : HeapRows) (x : ℕ) : Type 0 where
   pub temps : new.temps ≡ old.temps
   pub marked : HasMark new.marks x
   pub others : (k : ℕ) → k ≢ x → (HasMark new.marks k ↔ HasMark old.marks k)
-  pub chained : (head : ℕ) (greys : List ℕ) → Chained old.marks old.links head greys → Chained new.marks new.links head greys
+  pub chained : (head : ℕ) (greys : List ℕ)
+      → Chained old.marks old.links head greys → Chained new.marks new.links head greys
 
 -- these objects are shaded, if a marking is open: each has a mark, and is grey where it had none
-pub record IsShaded (is_open : Bool) (these : ℕ → Type 0) (old : HeapRows) (before : ℕ) (new : HeapRows) (after : ℕ) : Type 0 where
+pub record IsShaded (is_open : Bool) (these : ℕ → Type 0)
+    (old : HeapRows) (before : ℕ) (new : HeapRows) (after : ℕ) : Type 0 where
   pub refs : new.refs ≡ old.refs
   pub follows : new.follows ≡ old.follows
   pub room : new.room ≡ old.room
@@ -62,7 +64,8 @@ MarksWritten is_open old before over new after = IsShaded is_open (λ k. over �
 abbrev pub MarksAfter : Bool → Thread → HeapRows → ℕ → Op → Reply → HeapRows → ℕ → Type 0
 MarksAfter is_open t old before (op.Line (act.NewPeer v n)) r new after = MarksNew old r new × (after ≡ before)
 MarksAfter is_open t old before (op.Make sort n) r new after = MarksNew old r new × (after ≡ before)
-MarksAfter is_open t old before (op.Line (act.Set v i w)) r new after = MarksWritten is_open old before (overwritten old.heap (place (thread_number t) v.0) i (place_or_none (thread_number t) w)) new after
+MarksAfter is_open t old before (op.Line (act.Set v i w)) r new after = MarksWritten is_open old before
+    (overwritten old.heap (place (thread_number t) v.0) i (place_or_none (thread_number t) w)) new after
 MarksAfter is_open t old before (op.Line (act.WRead v g)) r new after = MarksBrought is_open old before r new after
 MarksAfter is_open t old before (op.Land h x) r new after = MarksBrought is_open old before r new after
 MarksAfter is_open t old before o r new after = AreMarksSame old new × (after ≡ before)
@@ -86,5 +89,9 @@ pub record IsGoing (s : PeerReplay) (mk : Marking) (v : HeapRows) (head : ℕ) :
 
 -- the marking goes on over each event of a step, where the rows did to the marks what the event asks for
 abbrev pub StepsGoOn : Type 0
-StepsGoOn = (s : PeerReplay) (mk : Marking) (old new : HeapRows) (before after : ℕ) (t : Thread) (o : Op) (cites : Option ℕ) → IsPeerStep t o → s.peers.heap ≡ old.heap → IsPeerKept s → s.marking ≡ Some mk → IsGoing s mk old before
-    → MarksAfter true t old before o (peer_answer s t o cites nothing).reply new after → IsGoing (peer_answer s t o cites nothing).state (mark_after mk o (peer_answer s t o cites nothing).reply) new after
+StepsGoOn = (s : PeerReplay) (mk : Marking) (old new : HeapRows) (before after : ℕ) (t : Thread) (o : Op)
+    (cites : Option ℕ) → IsPeerStep t o → s.peers.heap ≡ old.heap
+    → IsPeerKept s → s.marking ≡ Some mk → IsGoing s mk old before
+    → MarksAfter true t old before o (peer_answer s t o cites nothing).reply new after
+    → IsGoing (peer_answer s t o cites nothing).state
+    (mark_after mk o (peer_answer s t o cites nothing).reply) new after

@@ -1,6 +1,7 @@
 -- The laws of a mirrored cycle: what the rows do is what the replay does, an open marking goes on, and each restore is
 -- owed. (This project's own.)
-use Rattle.std.specs.Prelude.{◌≡◌, ℕ, ◌+◌, ◌-◌, ◌≤◌, Bool, true, List, [], ◌∷◌, ◌++◌, length, Contains, Option, Some, None}
+use Rattle.std.specs.Prelude.{◌≡◌, ℕ, ◌+◌, ◌-◌, ◌≤◌, Bool, true, List, [], ◌∷◌, ◌++◌, length, Contains, Option, Some}
+use Rattle.std.specs.Prelude.{None}
 use Rattle.joint_machine.specs.declared.names.Cycle.{Cycle}
 use Rattle.joint_machine.specs.declared.names.HNum.{HNum}
 use Rattle.joint_machine.specs.declared.names.Thread.{Thread}
@@ -24,7 +25,16 @@ use Rattle.peer_heap.specs.Steps.{IsPeerStep}
 
 -- a state with these parts
 abbrev pub state_of : Rows → Option Mirror → List ℕ → Option Marking → ℕ → PeerReplay
-state_of v mirror mirrors marking markings = record { peers = peers_in v; table = v.table; refs = v.rows.refs; mirror = mirror; mirrors = mirrors; marking = marking; markings = markings }
+state_of v mirror mirrors marking markings =
+    record {
+      peers = peers_in v;
+      table = v.table;
+      refs = v.rows.refs;
+      mirror = mirror;
+      mirrors = mirrors;
+      marking = marking;
+      markings = markings;
+    }
 
 -- a cycle that just came to be mirrored; one with a further handle weakened; one with a further handle restored; and
 -- one where that gave another
@@ -42,29 +52,47 @@ renewed_more m h given = record m { restored = m.restored ++ h ∷ []; renewed =
 
 -- what the rows do is what the replay does
 pub record MirroredRowsGoOn : Type 0 where
-  pub stands : (v w : Rows) (ms : List ℕ) (mk : Option Marking) (n : ℕ) (k : Cycle) (snap : ℕ) (refs : List (End × End)) → v.rows.refs ≡ [] → w ≡ with_stood v refs
-      → peer_answer (state_of v None ms mk n) C (op.Mirror k) (Some snap) (references_of refs) ≡ answer (says.Refs (length refs)) (state_of w (Some (fresh_mirror k.0 snap)) (ms ++ k.0 ∷ []) mk n)
-  pub weakens : (v w : Rows) (m : Mirror) (ms : List ℕ) (mk : Option Marking) (n : ℕ) (h : HNum) (cites : Option ℕ) → w ≡ with_row v h.0 weak_row
-      → peer_answer (state_of v (Some m) ms mk n) C (op.Weaken h) cites nothing ≡ answer says.Ok (state_of w (Some (weakened_more m h.0)) ms mk n)
-  pub removes : (v w : Rows) (m : Mirror) (ms : List ℕ) (mk : Option Marking) (n : ℕ) (h : HNum) (cites : Option ℕ) → IsRemoved v h.0 w
-      → peer_answer (state_of v (Some m) ms mk n) C (op.Restore h) cites nothing ≡ answer says.Cleared (state_of w (Some (restored_more m h.0)) ms mk n)
-  pub restores : (v w : Rows) (m : Mirror) (ms : List ℕ) (mk : Option Marking) (n : ℕ) (h g : HNum) (cites : Option ℕ) (r : IsRenewed v h.0 g w)
-      → peer_answer (state_of v (Some m) ms mk n) C (op.Restore h) cites nothing ≡ answer (says.Renewed g) (state_of w (Some (renewed_more m h.0 g.0)) ms (brought_to mk r.peer) n)
-  pub clears : (v w : Rows) (m : Mirror) (ms : List ℕ) (mk : Option Marking) (n : ℕ) (k : Cycle) (cites : Option ℕ) → w ≡ with_cleared v w.rows
-      → peer_answer (state_of v (Some m) ms mk n) C (op.Clear k) cites nothing ≡ answer says.Ok (state_of w None ms mk n)
+  pub stands : (v w : Rows) (ms : List ℕ) (mk : Option Marking) (n : ℕ) (k : Cycle) (snap : ℕ) (refs : List (End × End))
+      → v.rows.refs ≡ [] → w ≡ with_stood v refs
+      → peer_answer (state_of v None ms mk n) C (op.Mirror k) (Some snap) (references_of refs) ≡ answer
+      (says.Refs (length refs)) (state_of w (Some (fresh_mirror k.0 snap)) (ms ++ k.0 ∷ []) mk n)
+  pub weakens : (v w : Rows) (m : Mirror) (ms : List ℕ) (mk : Option Marking) (n : ℕ) (h : HNum) (cites : Option ℕ)
+      → w ≡ with_row v h.0 weak_row
+      → peer_answer (state_of v (Some m) ms mk n) C (op.Weaken h) cites nothing ≡ answer says.Ok
+      (state_of w (Some (weakened_more m h.0)) ms mk n)
+  pub removes : (v w : Rows) (m : Mirror) (ms : List ℕ) (mk : Option Marking) (n : ℕ) (h : HNum) (cites : Option ℕ)
+      → IsRemoved v h.0 w
+      → peer_answer (state_of v (Some m) ms mk n) C (op.Restore h) cites nothing ≡ answer says.Cleared
+      (state_of w (Some (restored_more m h.0)) ms mk n)
+  pub restores : (v w : Rows) (m : Mirror) (ms : List ℕ) (mk : Option Marking)
+      (n : ℕ) (h g : HNum) (cites : Option ℕ) (r : IsRenewed v h.0 g w)
+      → peer_answer (state_of v (Some m) ms mk n) C (op.Restore h) cites nothing ≡ answer
+      (says.Renewed g) (state_of w (Some (renewed_more m h.0 g.0)) ms (brought_to mk r.peer) n)
+  pub clears : (v w : Rows) (m : Mirror) (ms : List ℕ) (mk : Option Marking) (n : ℕ) (k : Cycle) (cites : Option ℕ)
+      → w ≡ with_cleared v w.rows
+      → peer_answer (state_of v (Some m) ms mk n) C
+      (op.Clear k) cites nothing ≡ answer says.Ok (state_of w None ms mk n)
 
 -- a marking goes on: where references come to stand, none of which it follows; and where a restored peer is shaded
 pub record MirrorsGoOn : Type 0 where
-  pub standing : (v w : Rows) (m : Option Mirror) (ms : List ℕ) (mk : Marking) (o : Option Marking) (n head k snap : ℕ) (refs : List (End × End)) → v.rows.refs ≡ [] → w ≡ with_stood v refs → IsGoing (state_of v m ms o n) mk v.rows head → IsGoing (mirrored (state_of v m ms o n) k (Some snap) refs) mk w.rows head
-  pub restoring : (v w : Rows) (m later : Option Mirror) (ms : List ℕ) (mk : Marking) (n before after h : ℕ) (g : HNum) (r : IsRenewed v h g w) → IsShaded true (λ k. k ≡ r.peer) v.rows before w.rows after → IsLive v.rows.heap r.peer → IsPeerKept (state_of v m ms (Some mk) n) → IsGoing (state_of v m ms (Some mk) n) mk v.rows before
-      → IsGoing (state_of w later ms (brought_to (Some mk) r.peer) n) (record mk { brought = mk.brought ++ r.peer ∷ [] }) w.rows after
+  pub standing : (v w : Rows) (m : Option Mirror) (ms : List ℕ) (mk : Marking) (o : Option Marking)
+      (n head k snap : ℕ) (refs : List (End × End)) → v.rows.refs ≡ [] → w ≡ with_stood v refs
+      → IsGoing (state_of v m ms o n) mk v.rows head
+      → IsGoing (mirrored (state_of v m ms o n) k (Some snap) refs) mk w.rows head
+  pub restoring : (v w : Rows) (m later : Option Mirror) (ms : List ℕ) (mk : Marking) (n before after h : ℕ)
+      (g : HNum) (r : IsRenewed v h g w) → IsShaded true (λ k. k ≡ r.peer) v.rows before w.rows after
+      → IsLive v.rows.heap r.peer → IsPeerKept (state_of v m ms (Some mk) n)
+      → IsGoing (state_of v m ms (Some mk) n) mk v.rows before
+      → IsGoing (state_of w later ms (brought_to (Some mk) r.peer) n)
+      (record mk { brought = mk.brought ++ r.peer ∷ [] }) w.rows after
 
 -- a mirrored cycle owes no restore at first, one more after a weaken, and one less after a restore, where one is owed
 pub record RestoresAreOwed : Type 0 where
   pub first : (k snap : ℕ) → IsDue (fresh_mirror k snap) 0
   pub weakens : (m : Mirror) (due h : ℕ) → IsDue m due → IsDue (weakened_more m h) (due + 1)
   pub some : (m : Mirror) (due h : ℕ) → IsDue m due → Contains m.weakened h → (Contains m.restored h → ⊥) → 1 ≤ due
-  pub restores : (m : Mirror) (due h : ℕ) → IsDue m due → Contains m.weakened h → (Contains m.restored h → ⊥) → IsDue (restored_more m h) (due - 1)
+  pub restores : (m : Mirror) (due h : ℕ) → IsDue m due → Contains m.weakened h
+      → (Contains m.restored h → ⊥) → IsDue (restored_more m h) (due - 1)
 
 -- a list of issued handles has at most one after it
 abbrev pub HasFurther : List Issued → List Issued → Type 0
@@ -73,8 +101,10 @@ HasFurther old new = (more : List Issued) × (new ≡ old ++ more) × (length mo
 -- a step leaves a mirrored cycle as it is: handles stay as they were issued, the room for references stays, and its
 -- entry mirrors no cycle, and weakens and restores no handle
 pub record StepsLeaveMirrors : Type 0 where
-  pub issued : (s : PeerReplay) (t : Thread) (o : Op) (cites : Option ℕ) → IsPeerStep t o → HasFurther s.peers.issued (peer_answer s t o cites nothing).state.peers.issued
-  pub room : (b : Bool) (t : Thread) (old : HeapRows) (before : ℕ) (o : Op) (r : Reply) (new : HeapRows) (after : ℕ) → MarksAfter b t old before o r new after → (new.room ≡ old.room) × (new.temps ≡ old.temps)
+  pub issued : (s : PeerReplay) (t : Thread) (o : Op) (cites : Option ℕ) → IsPeerStep t o
+      → HasFurther s.peers.issued (peer_answer s t o cites nothing).state.peers.issued
+  pub room : (b : Bool) (t : Thread) (old : HeapRows) (before : ℕ) (o : Op) (r : Reply) (new : HeapRows) (after : ℕ)
+      → MarksAfter b t old before o r new after → (new.room ≡ old.room) × (new.temps ≡ old.temps)
   pub mirrors : (t : Thread) (o : Op) → IsPeerStep t o → mirrored_at o ≡ []
   pub weakens : (t : Thread) (o : Op) → IsPeerStep t o → weakened_at o ≡ []
   pub restores : (t : Thread) (o : Op) → IsPeerStep t o → restored_at o ≡ []

@@ -38,7 +38,10 @@ end_of (Temp t) = temporary t
 
 -- these references stand after those that stood, in room that was taken, and no marking that is open follows references
 abbrev pub with_stood : Rows → List (End × End) → Rows
-with_stood v refs = record v { rows = record v.rows { refs = v.rows.refs ++ refs; follows = false; room = v.rows.room - length refs } }
+with_stood v refs = record v {
+  rows = record v.rows
+      { refs = v.rows.refs ++ refs; follows = false; room = v.rows.room - length refs };
+}
 
 -- a restored handle was cleared, and left the table
 pub record IsRemoved (old : Rows) (h : ℕ) (new : Rows) : Type 0 where
@@ -70,7 +73,8 @@ RestoresRow old h (Alive given) new = IsRenewed old h given new × (new.rows ≡
 -- what a restore does to the rows: the peer of a new handle is shaded, if a marking is open
 abbrev pub RestoresHandle : Bool → Rows → ℕ → ℕ → Back → Rows → ℕ → Type 0
 RestoresHandle is_open old before h Cleared new after = IsRemoved old h new × (after ≡ before)
-RestoresHandle is_open old before h (Alive given) new after = (r : IsRenewed old h given new) × IsShaded is_open (λ k. k ≡ r.peer) old.rows before new.rows after
+RestoresHandle is_open old before h (Alive given) new after = (r : IsRenewed old h given new)
+    × IsShaded is_open (λ k. k ≡ r.peer) old.rows before new.rows after
 
 -- the references go
 abbrev pub with_cleared : Rows → HeapRows → Rows

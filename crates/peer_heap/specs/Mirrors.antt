@@ -1,6 +1,7 @@
 -- The mirrored cycle, as the peer side keeps it: what stands is read off the rows and the entries, and beside it there
 -- is what was reserved and what waits. (This project's own.)
-use Rattle.std.specs.Prelude.{◌≡◌, ℕ, ◌+◌, ◌-◌, ◌*◌, ◌≤◌, ◌<◌, ◌⊎◌, Bool, true, false, if◌then◌else◌, List, [], ◌∷◌, length, drop, flat_map, Contains, Option, Some, None}
+use Rattle.std.specs.Prelude.{◌≡◌, ℕ, ◌+◌, ◌-◌, ◌*◌, ◌≤◌, ◌<◌, ◌⊎◌, Bool, true, false, if◌then◌else◌, List, [], ◌∷◌}
+use Rattle.std.specs.Prelude.{length, drop, flat_map, Contains, Option, Some, None}
 use Rattle.std.specs.Option.{option_map}
 use Rattle.joint_machine.specs.declared.events.Entry.{Entry}
 use Rattle.joint_machine.specs.declared.events.Op.{Op}
@@ -47,7 +48,13 @@ mirrors_in es = told_since mirrored_at 0 es
 -- the mirrored cycle: the handles that it weakened and restored, and those that its restores gave, stand in the entries
 -- after its mirror entry
 abbrev pub mirror_as : List Entry → OpenMirror → Mirror
-mirror_as es m = record { cycle = m.cycle.0; snap = m.snap; weakened = told_since weakened_at m.from es; restored = told_since restored_at m.from es; renewed = given_since m.from es }
+mirror_as es m = record {
+  cycle = m.cycle.0;
+  snap = m.snap;
+  weakened = told_since weakened_at m.from es;
+  restored = told_since restored_at m.from es;
+  renewed = given_since m.from es;
+}
 
 abbrev pub mirror_in : List Entry → Option OpenMirror → Option Mirror
 mirror_in es o = option_map (mirror_as es) o
@@ -131,7 +138,8 @@ pub record HasRestoredHandle (s : PeerReplay) (m : Mirror) (p : ℕ) : Type 0 wh
 
 -- each unfreed peer that a mirrored reference leads to, directly or over temporaries, is restored strong
 abbrev pub AreTargetsRestored : PeerReplay → Type 0
-AreTargetsRestored s = (m : Mirror) → s.mirror ≡ Some m → (p q : ℕ) → HasReference s.peers.heap s.refs p q → HasRestoredHandle s m q
+AreTargetsRestored s = (m : Mirror) → s.mirror ≡ Some m → (p q : ℕ)
+    → HasReference s.peers.heap s.refs p q → HasRestoredHandle s m q
 
 -- the peer is an end of one of these references
 abbrev pub HasEnd : List (End × End) → ℕ → Type 0

@@ -1,7 +1,8 @@
 -- What is seen of the peers' part of a side: the rows of the heap, the sorts, the names, and the handles as they were
 -- issued and as the table has them now. (The global references of the Xamarin.Android documentation; the rest is this
 -- project's own.)
-use Rattle.std.specs.Prelude.{◌≡◌, ℕ, ◌+◌, ◌≤◌, zero, suc, ◌++◌, List, [], ◌∷◌, All, Option, Some, None, length, map, replicate}
+use Rattle.std.specs.Prelude.{◌≡◌, ℕ, ◌+◌, ◌≤◌, zero, suc, ◌++◌, List, [], ◌∷◌, All, Option, Some, None, length, map}
+use Rattle.std.specs.Prelude.{replicate}
 use Rattle.std.specs.Option.{option_map}
 use Rattle.joint_machine.specs.declared.names.HNum.{HNum}
 use Rattle.joint_machine.specs.declared.names.PNum.{PNum}
@@ -13,8 +14,10 @@ use Rattle.joint_machine.specs.declared.events.Op.TheVariants as op
 use Rattle.joint_machine.specs.declared.events.Reply.{Reply}
 use Rattle.joint_machine.specs.declared.events.Reply.TheVariants as says
 use Rattle.joint_machine.specs.Heaps.{Heap, IsLive, Answered, answer, numbered_at}
-use Rattle.joint_machine.specs.Peers.{Peers, Issued, issued_since, Hold as JointHold, held, raw, Strength as JointStrength, strong, weak}
-use Rattle.joint_machine.specs.PeerReplay.{PeerReplay, TableRow, Marking, opening_peer_replay, fresh_row, peer_answer, brought_to, table_target}
+use Rattle.joint_machine.specs.Peers.{Peers, Issued, issued_since, Hold as JointHold, held, raw}
+use Rattle.joint_machine.specs.Peers.{Strength as JointStrength, strong, weak}
+use Rattle.joint_machine.specs.PeerReplay.{PeerReplay, TableRow, Marking, opening_peer_replay, fresh_row, peer_answer}
+use Rattle.joint_machine.specs.PeerReplay.{brought_to, table_target}
 use Rattle.joint_machine.specs.Told.{nothing}
 use Rattle.global_handles.specs.Rows.{Table, row_in, IsRising}
 use Rattle.global_handles.specs.declared.HandleRow.{HandleRow}
@@ -37,7 +40,15 @@ pub record Rows : Type 0 where
 
 -- no peer, no name and no handle
 abbrev pub no_rows : Rows
-no_rows = record { rows = opening_rows; sorts = []; names = replicate 64 None; issued = []; made = 0; table = []; tabled = 0 }
+no_rows = record {
+  rows = opening_rows;
+  sorts = [];
+  names = replicate 64 None;
+  issued = [];
+  made = 0;
+  table = [];
+  tabled = 0;
+}
 
 -- the peers, as the definition has them
 abbrev pub peers_in : Rows → Peers
@@ -95,7 +106,8 @@ number_of p = option_map (λ q. q.0) p
 
 -- a row of the table has the peer on which its handle was issued
 abbrev pub AreRowsIssued : List HandleRow → List Issue → Type 0
-AreRowsIssued rows issued = (h : HNum) (r : HandleRow) → row_in rows h ≡ Some r → (i : Issue) × (numbered_at issued h.0 ≡ Some i) × (i.peer ≡ r.peer)
+AreRowsIssued rows issued = (h : HNum) (r : HandleRow) → row_in rows h ≡ Some r
+    → (i : Issue) × (numbered_at issued h.0 ≡ Some i) × (i.peer ≡ r.peer)
 
 -- what holds of the parts together: the table's rows rise, each of a handle that was issued, and on its peer; each peer
 -- has a sort; and no peer has more fields than a reply can say
@@ -112,7 +124,12 @@ AreTargetsLive v = (h p : ℕ) → table_target (with_rows opening_peer_replay v
 
 -- the rows with a further handle
 abbrev pub issued_to : Rows → Issue → Rows
-issued_to v i = record v { issued = v.issued ++ issued_as i ∷ []; made = v.made + 1; table = v.table ++ fresh_row (issued_as i) ∷ []; tabled = v.tabled + 1 }
+issued_to v i = record v {
+  issued = v.issued ++ issued_as i ∷ [];
+  made = v.made + 1;
+  table = v.table ++ fresh_row (issued_as i) ∷ [];
+  tabled = v.tabled + 1;
+}
 
 -- an event of the peers has this reply and leads to these rows, and the handles that it issues come into the table
 pub record PeersAnswer (old : Rows) (a : Answered Peers) (r : Reply) (new : Rows) : Type 0 where
@@ -133,4 +150,6 @@ marking_after mk o r = mk
 -- the event has this reply in the replay and leads to these rows, whatever else the state has; what it gave is brought
 -- back
 abbrev pub GoesBy : Rows → Thread → Op → Reply → Rows → Type 0
-GoesBy old t o r new = (s : PeerReplay) (cites : Option ℕ) → peer_answer (with_rows s old) t o cites nothing ≡ answer r (record (with_rows s new) { marking = marking_after s.marking o r })
+GoesBy old t o r new = (s : PeerReplay) (cites : Option ℕ)
+    → peer_answer (with_rows s old) t o cites nothing ≡ answer r
+    (record (with_rows s new) { marking = marking_after s.marking o r })

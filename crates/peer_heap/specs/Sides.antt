@@ -1,6 +1,7 @@
 -- The peer side, as its contracts see it: for how many threads it is, its entries, and the state of their replay. (This
 -- project's own.)
-use Rattle.std.specs.Prelude.{◌≡◌, ◌≢◌, ℕ, ◌+◌, ◌≤◌, ◌<◌, ◌⊎◌, ◌↔◌, All, Bool, true, false, Contains, List, length, [], ◌∷◌, drop, flat_map, Option, Some, None, ◌%◌, ◌^◌}
+use Rattle.std.specs.Prelude.{◌≡◌, ◌≢◌, ℕ, ◌+◌, ◌≤◌, ◌<◌, ◌⊎◌, ◌↔◌, All, Bool, true, false, Contains, List, length, []}
+use Rattle.std.specs.Prelude.{◌∷◌, drop, flat_map, Option, Some, None, ◌%◌, ◌^◌}
 use Rattle.std.specs.Option.{option_map}
 use Rattle.joint_machine.specs.declared.names.Marking.{Marking as Number}
 use Rattle.joint_machine.specs.declared.names.Span.{Span}
@@ -57,7 +58,14 @@ is_to_mark None = false
 is_to_mark (Some m) = m.marking
 
 abbrev pub reserve_of : Mirrors → Reserve
-reserve_of m = record { waiting = m.waiting; refs = m.room; temps = m.temps; next = m.next; left = left_of m.mirror; marking = is_to_mark m.mirror }
+reserve_of m = record {
+  waiting = m.waiting;
+  refs = m.room;
+  temps = m.temps;
+  next = m.next;
+  left = left_of m.mirror;
+  marking = is_to_mark m.mirror;
+}
 
 -- a begin is that of the mirrored cycle's own marking: the driver makes it, and it is still to come
 abbrev pub is_own : Thread → Bool → Bool
@@ -97,7 +105,13 @@ seen m = record { threads = m.threads; entries = m.entries; state = m.state }
 
 -- a side for so many threads, on which nothing was made
 abbrev pub opening_side : ℕ → PeerModel
-opening_side threads = record { threads = threads; entries = []; state = opening_peer_replay; reserve = no_reserve; colours = colours_of opening_rows 0 }
+opening_side threads = record {
+  threads = threads;
+  entries = [];
+  state = opening_peer_replay;
+  reserve = no_reserve;
+  colours = colours_of opening_rows 0;
+}
 
 -- the peer that a reply names
 abbrev pub named_in : Reply → List ℕ
@@ -151,11 +165,19 @@ mirror_state es m = record opening_peer_replay { mirror = mirror_in es m.mirror;
 
 -- the state that the parts show
 abbrev pub state_with : List Entry → Rows → Option OpenMarking → ℕ → Mirrors → PeerReplay
-state_with es rows o markings m = record (with_rows (mirror_state es m) rows) { refs = rows.rows.refs; marking = marking_in rows.issued es o; markings = markings }
+state_with es rows o markings m = record (with_rows (mirror_state es m) rows)
+    { refs = rows.rows.refs; marking = marking_in rows.issued es o; markings = markings }
 
 -- the side that they show
 abbrev pub model_with : ℕ → List Entry → Rows → Option OpenMarking → ℕ → ℕ → Mirrors → PeerModel
-model_with threads es rows o head markings m = record { threads = threads; entries = es; state = state_with es rows o markings m; reserve = reserve_of m; colours = colours_of rows.rows head }
+model_with threads es rows o head markings
+    m = record {
+      threads = threads;
+      entries = es;
+      state = state_with es rows o markings m;
+      reserve = reserve_of m;
+      colours = colours_of rows.rows head;
+    }
 
 -- the handle that an entry restores was issued
 abbrev pub IsKnown : List Issued → Entry → Type 0
@@ -221,9 +243,11 @@ pub record IsSide (rows : Rows) (o : Option OpenMarking) (markings : ℕ) (m : M
   pub few_refs : length rows.rows.refs ≤ 4294967295
 
 -- the list of grey peers is one, and the open marking goes on with it
-pub record AreGoing (rows : Rows) (o : Option OpenMarking) (head markings : ℕ) (m : Mirrors) (es : List Entry) : Type 0 where
+pub record AreGoing (rows : Rows) (o : Option OpenMarking)
+    (head markings : ℕ) (m : Mirrors) (es : List Entry) : Type 0 where
   pub list : IsGreyList rows.rows.marks rows.rows.links head
-  pub going : (mk : Marking) → marking_in rows.issued es o ≡ Some mk → IsGoing (state_with es rows o markings m) mk rows.rows head
+  pub going : (mk : Marking) → marking_in rows.issued es o ≡ Some mk
+      → IsGoing (state_with es rows o markings m) mk rows.rows head
 
 -- the open marking, if one is open, was begun by the driver
 abbrev pub IsDrivers : Option Marking → Type 0
@@ -244,11 +268,13 @@ IsEndOf Done greys = greys ≡ []
 IsEndOf More greys = greys ≢ []
 
 -- so many grey peers were made black by a slice of a thread, and counted
-pub record BlackensBy (n : ℕ) (old : Rows) (before : ℕ) (o : OpenMarking) (new : Rows) (after : ℕ) (o' : OpenMarking) (r : Reply) : Type 0 where
+pub record BlackensBy (n : ℕ) (old : Rows) (before : ℕ) (o : OpenMarking)
+    (new : Rows) (after : ℕ) (o' : OpenMarking) (r : Reply) : Type 0 where
   pub count : ℕ
   pub most : count ≤ n
   pub made : length old.rows.heap.fields ≤ 65535
-  pub steps : (greys : List ℕ) → Chained old.rows.marks old.rows.links before greys → BlackensTo (EdgeOf old.rows) count old.rows.marks greys new.rows.marks new.rows.links after
+  pub steps : (greys : List ℕ) → Chained old.rows.marks old.rows.links before greys
+      → BlackensTo (EdgeOf old.rows) count old.rows.marks greys new.rows.marks new.rows.links after
   pub left : count < n → after ≡ 0
   pub rest : new ≡ record old { rows = record old.rows { marks = new.rows.marks; links = new.rows.links } }
   pub counted : o' ≡ record o { blackened = o'.blackened }
@@ -258,7 +284,8 @@ pub record BlackensBy (n : ℕ) (old : Rows) (before : ℕ) (o : OpenMarking) (n
 
 -- a slice of a thread, by the open marking: only its own is carried on
 abbrev pub SlicesMarking : ℕ → Thread → Rows → ℕ → OpenMarking → Rows → ℕ → OpenMarking → Reply → Type 0
-SlicesMarking n t old before o new after o' r = ((t ≡ o.by) × BlackensBy n old before o new after o' r) ⊎ ((t ≢ o.by) × (r ≡ says.MarkOpen o.number) × (new ≡ old) × (after ≡ before) × (o' ≡ o))
+SlicesMarking n t old before o new after o' r = ((t ≡ o.by) × BlackensBy n old before o new after o' r)
+    ⊎ ((t ≢ o.by) × (r ≡ says.MarkOpen o.number) × (new ≡ old) × (after ≡ before) × (o' ≡ o))
 
 -- and where one may be open
 abbrev pub SlicesOpen : ℕ → Thread → Rows → ℕ → Option OpenMarking → Rows → ℕ → Option OpenMarking → Reply → Type 0

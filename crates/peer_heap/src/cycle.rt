@@ -3,7 +3,8 @@
 //
 // All memory is taken by `reserve_refs`, before; so no call here that makes an entry takes any.
 
-ghost use Rattle.std.specs.Prelude.{◌≡◌, ℕ, ◌+◌, ◌-◌, ◌*◌, ◌^◌, ◌≤◌, ◌++◌, ◌↔◌, [], ◌∷◌, None, Some, IsSome, Contains, length, true, OnErr, OnOk};
+ghost use Rattle.std.specs.Prelude.{◌≡◌, ℕ, ◌+◌, ◌-◌, ◌*◌, ◌^◌, ◌≤◌, ◌++◌, ◌↔◌, [], ◌∷◌, None, Some, IsSome, Contains};
+ghost use Rattle.std.specs.Prelude.{length, true, OnErr, OnOk};
 ghost use Rattle.joint_machine.specs.Draws.{AllBelow, numbered};
 ghost use Rattle.joint_machine.specs.declared.names.HNum.{HNum};
 ghost use Rattle.joint_machine.specs.Heaps.{IsLive};
@@ -11,7 +12,8 @@ ghost use Rattle.joint_machine.specs.Peers.{next_handle};
 ghost use Rattle.joint_machine.specs.PeerReplay.{MayClear, MayRestore, MayWeaken, Mirror, Refers, TableRow, row_of};
 ghost use Rattle.joint_machine.specs.Sides.{peer_rules, AddsLawful, DrawsLast, MayDraw};
 ghost use Rattle.joint_machine.specs.Told.{nothing, references_of};
-ghost use Rattle.peer_heap.specs.Cycles.{clears, mirrors, reply_of, reserve_left, reserve_more, reserve_over, reserve_pushed, reserve_stood, restores, weakens};
+ghost use Rattle.peer_heap.specs.Cycles.{clears, mirrors, reply_of, reserve_left, reserve_more, reserve_over};
+ghost use Rattle.peer_heap.specs.Cycles.{reserve_pushed, reserve_stood, restores, weakens};
 ghost use Rattle.peer_heap.specs.Mirroring.{end_of};
 ghost use Rattle.peer_heap.specs.Mirrors.{AreEndsStrong, AreTargetsRestored, HasRestoredHandle, MayStand};
 ghost use Rattle.peer_heap.specs.Sides.{seen};
@@ -32,7 +34,8 @@ impl PeerSide {
     /// Answers `AllocError`, with the side as before, where there is no memory, for more than 1,073,741,824 handles or
     /// 4,294,901,760 temporaries, or where a list would pass 4,294,967,295.
     pub fn reserve_refs(&mut self, refs: u32, temps: u32, handles: u32) -> Result<(), AllocError>
-        ensures ok { OnOk result (self.new ≡ record self.old { reserve = reserve_more self.old.reserve refs temps handles }) }
+        ensures ok { OnOk result (self.new ≡ record self.old
+            { reserve = reserve_more self.old.reserve refs temps handles }) }
         ensures err { OnErr result (self.new ≡ self.old) }
     {
         let kept = kept(&self.rows, &self.marking, &self.mirroring);
@@ -66,7 +69,8 @@ impl PeerSide {
         requires strong_ends { AreEndsStrong self.old.state self.old.reserve.waiting }
         requires may { MayDraw peer_rules D.rules draw.old (seen self.old) Thread.C (Op.Mirror cycle) }
         ensures number { result ≡ length self.old.reserve.waiting }
-        ensures adds { AddsLawful peer_rules D.rules draw.old draw.new (seen self.old) (seen self.new) (mirrors index cycle result cites) (references_of self.old.reserve.waiting) }
+        ensures adds { AddsLawful peer_rules D.rules draw.old draw.new (seen self.old)
+            (seen self.new) (mirrors index cycle result cites) (references_of self.old.reserve.waiting) }
         ensures reserve { self.new.reserve ≡ reserve_stood self.old.reserve }
     {
         let Some(handles) = self.mirroring.next() else {
@@ -94,7 +98,8 @@ impl PeerSide {
         requires left { 1 ≤ self.old.reserve.left }
         requires weakens { MayWeaken self.old.state h.0 (Some cites) }
         requires may { MayDraw peer_rules D.rules draw.old (seen self.old) Thread.C (Op.Weaken h) }
-        ensures adds { AddsLawful peer_rules D.rules draw.old draw.new (seen self.old) (seen self.new) (weakens index h cites) nothing }
+        ensures adds { AddsLawful peer_rules D.rules draw.old draw.new
+            (seen self.old) (seen self.new) (weakens index h cites) nothing }
         ensures reserve { self.new.reserve ≡ reserve_left self.old.reserve }
     {
         self.rows.weaken(h);
@@ -119,8 +124,10 @@ impl PeerSide {
     pub fn restore<D: Draw>(&mut self, draw: &mut D, index: u32, h: HNum) -> Back
         requires restores { MayRestore self.old.state h.0 }
         requires may { MayDraw peer_rules D.rules draw.old (seen self.old) Thread.C (Op.Restore h) }
-        ensures adds { AddsLawful peer_rules D.rules draw.old draw.new (seen self.old) (seen self.new) (restores index h result) nothing }
-        ensures cleared { (row : TableRow) → row_of self.old.state h.0 ≡ Some row → ((result ≡ Back.Cleared) ↔ (row.cleared ≡ true)) }
+        ensures adds { AddsLawful peer_rules D.rules draw.old draw.new
+            (seen self.old) (seen self.new) (restores index h result) nothing }
+        ensures cleared { (row : TableRow) → row_of self.old.state h.0 ≡ Some row
+            → ((result ≡ Back.Cleared) ↔ (row.cleared ≡ true)) }
         ensures number { (g : HNum) → result ≡ Back.Alive g → g.0 ≡ next_handle self.old.state.peers }
         ensures reserve { self.new.reserve ≡ self.old.reserve }
     {
@@ -151,10 +158,12 @@ impl PeerSide {
         requires clears { MayClear self.old.state cycle.0 }
         requires targets { AreTargetsRestored self.old.state }
         requires may { MayDraw peer_rules D.rules draw.old (seen self.old) Thread.C (Op.Clear cycle) }
-        ensures adds { AddsLawful peer_rules D.rules draw.old draw.new (seen self.old) (seen self.new) (clears index cycle) nothing }
+        ensures adds { AddsLawful peer_rules D.rules draw.old draw.new
+            (seen self.old) (seen self.new) (clears index cycle) nothing }
         ensures number { self.new.entries ≡ self.old.entries ++ numbered result (clears index cycle) ∷ [] }
         ensures none { self.new.state.refs ≡ [] }
-        ensures kept { (m : Mirror) (p q : ℕ) → self.old.state.mirror ≡ Some m → Refers self.old.state.refs p q → HasRestoredHandle self.old.state m p → IsLive self.old.state.peers.heap q }
+        ensures kept { (m : Mirror) (p q : ℕ) → self.old.state.mirror ≡ Some m → Refers self.old.state.refs p q
+            → HasRestoredHandle self.old.state m p → IsLive self.old.state.peers.heap q }
         ensures reserve { self.new.reserve ≡ reserve_over self.old.reserve }
     {
         let is_open = self.marking.is_some();
@@ -217,8 +226,10 @@ fn note<D: Draw>(
     requires below { AllBelow entries.old.entries (D.rules.floor draw.old) }
     requires room { 4294967295 ≤ D.rules.left draw.old + length entries.old.entries }
     requires may { D.rules.may draw.old Thread.C op None }
-    ensures draws { DrawsLast D.rules draw.old draw.new entries.old.entries entries.new.entries (record { caller = Thread.C; index = index; op = op; reply = reply; cites = cites }) None [] }
-    ensures number { entries.new.entries ≡ entries.old.entries ++ numbered result (record { caller = Thread.C; index = index; op = op; reply = reply; cites = cites }) ∷ [] }
+    ensures draws { DrawsLast D.rules draw.old draw.new entries.old.entries entries.new.entries
+        (record { caller = Thread.C; index = index; op = op; reply = reply; cites = cites }) None [] }
+    ensures number { entries.new.entries ≡ entries.old.entries ++ numbered result
+        (record { caller = Thread.C; index = index; op = op; reply = reply; cites = cites }) ∷ [] }
     ensures spare { entries.new.spare + 1 ≡ entries.old.spare }
 {
     let made = Made {

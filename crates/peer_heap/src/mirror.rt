@@ -12,7 +12,8 @@ ghost use Rattle.row_marking.specs.Traces.{Greyed};
 ghost use Rattle.row_heap.specs.Marks.{AreEndsLive, IsReferred};
 ghost use Rattle.row_heap.specs.Ends.{ends_of};
 ghost use Rattle.row_heap.specs.Rows.{MayReferBoth};
-ghost use Rattle.peer_heap.specs.Mirroring.{RestoresHandle, RestoresRow, row_at, strong_row, weak_row, with_cleared, with_row, with_stood};
+ghost use Rattle.peer_heap.specs.Mirroring.{RestoresHandle, RestoresRow, row_at, strong_row, weak_row, with_cleared};
+ghost use Rattle.peer_heap.specs.Mirroring.{with_row, with_stood};
 ghost use Rattle.peer_heap.specs.Rows.{AreTargetsLive, with_rows};
 
 use crate::issues::Issue;
@@ -26,7 +27,8 @@ impl PeerRows {
     /// Takes room for so many more references, and for so many temporaries, if there is room for fewer. Answers
     /// `AllocError`, with nothing changed, where there is no memory.
     pub(crate) fn reserve_refs(&mut self, refs: u32, temps: u32) -> Result<(), AllocError>
-        ensures ok { OnOk result (self.new ≡ record self.old { rows = record self.old.rows { room = refs; temps = max self.old.rows.temps temps } }) }
+        ensures ok { OnOk result (self.new ≡ record self.old
+            { rows = record self.old.rows { room = refs; temps = max self.old.rows.temps temps } }) }
         ensures err { OnErr result (self.new ≡ self.old) }
     {
         self.heap.reserve_references(refs, temps)
@@ -53,7 +55,8 @@ impl PeerRows {
     pub(crate) fn clear_refs(&mut self, is_open: bool, grey: &mut u32)
         requires { AreEndsLive self.old.rows }
         ensures rest { self.new ≡ with_cleared self.old self.new.rows }
-        ensures shaded { Greyed (λ k. IsTrue is_open × IsReferred self.old.rows k) self.old.rows.marks self.old.rows.links grey.old self.new.rows.marks self.new.rows.links grey.new }
+        ensures shaded { Greyed (λ k. IsTrue is_open × IsReferred self.old.rows k) self.old.rows.marks
+            self.old.rows.links grey.old self.new.rows.marks self.new.rows.links grey.new }
     {
         self.shade_refs(is_open, grey);
         self.heap.clear_references();
@@ -62,8 +65,10 @@ impl PeerRows {
     // Shades what the references of live peers lead to, if a marking is open.
     fn shade_refs(&mut self, is_open: bool, grey: &mut u32)
         requires { AreEndsLive self.old.rows }
-        ensures rest { self.new ≡ record self.old { rows = record self.old.rows { marks = self.new.rows.marks; links = self.new.rows.links } } }
-        ensures shaded { Greyed (λ k. IsTrue is_open × IsReferred self.old.rows k) self.old.rows.marks self.old.rows.links grey.old self.new.rows.marks self.new.rows.links grey.new }
+        ensures rest { self.new ≡ record self.old
+            { rows = record self.old.rows { marks = self.new.rows.marks; links = self.new.rows.links } } }
+        ensures shaded { Greyed (λ k. IsTrue is_open × IsReferred self.old.rows k) self.old.rows.marks
+            self.old.rows.links grey.old self.new.rows.marks self.new.rows.links grey.new }
     {
         if !is_open {
             return;
@@ -99,7 +104,8 @@ impl PeerRows {
 
     // A handle of the table was issued on a peer, for the proofs of callers. It does nothing.
     fn issued_rows(&self)
-        ensures { (h : ℕ) (row : TableRow) → row_at self.now h ≡ Some row → (p : ℕ) × (peer_of self.now.issued h ≡ Some p) }
+        ensures { (h : ℕ) (row : TableRow) → row_at self.now h ≡ Some row
+            → (p : ℕ) × (peer_of self.now.issued h ≡ Some p) }
     {
         let _ = &self.table;
     }

@@ -53,7 +53,13 @@ impl Model for Mirroring {
 
     ghost Value = { Mirrors };
 
-    ghost view = { λ s. record { mirror = s.mirror; waiting = map ends_of s.waiting.items; room = s.ready; temps = s.temps; next = s.next } };
+    ghost view = { λ s. record {
+      mirror = s.mirror;
+      waiting = map ends_of s.waiting.items;
+      room = s.ready;
+      temps = s.temps;
+      next = s.next;
+    } };
 
     ghost invariant = { λ s. IsMirroring s.mirror (length s.waiting.items) s.ready (vec_capacity s.waiting) };
 }
@@ -136,7 +142,8 @@ impl Mirroring {
     /// Adds a reference that waits. It takes no memory.
     pub(crate) fn push(&mut self, from: RefEnd, to: RefEnd)
         requires { 1 ≤ self.old.room }
-        ensures { self.new ≡ record self.old { waiting = self.old.waiting ++ (end_of from, end_of to) ∷ []; room = self.old.room - 1 } }
+        ensures { self.new ≡ record self.old
+            { waiting = self.old.waiting ++ (end_of from, end_of to) ∷ []; room = self.old.room - 1 } }
     {
         self.waiting.push_reserved((from.end(), to.end()));
         self.ready -= 1;
@@ -144,7 +151,19 @@ impl Mirroring {
 
     /// A cycle is mirrored, over so many handles, and no reference waits any more.
     pub(crate) fn stand(&mut self, cycle: Cycle, snap: u64, from: u32, handles: u32)
-        ensures { self.new ≡ record self.old { mirror = Some (record { cycle = cycle; snap = snap; from = from; left = handles; due = 0; marking = true }); waiting = []; temps = 0; next = None } }
+        ensures { self.new ≡ record self.old {
+          mirror = Some (record {
+            cycle = cycle;
+            snap = snap;
+            from = from;
+            left = handles;
+            due = 0;
+            marking = true;
+          });
+          waiting = [];
+          temps = 0;
+          next = None;
+        } }
     {
         self.mirror = Some(OpenMirror {
             cycle,

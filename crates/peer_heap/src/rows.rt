@@ -1,21 +1,26 @@
 // The peers with their sorts, slots and names, and the handles on them. Each call here is one event of the definition,
 // without its entry.
 
-ghost use Rattle.std.specs.Prelude.{◌≡◌, ℕ, ◌+◌, ◌<◌, ◌≤◌, Some, None, IfOk, IsOk, OnErr, OnOk, length, count_by, is_some, ◌⊎◌, ◌↔◌, ◌||◌, ◌++◌, [], ◌∷◌, IsTrue, true, false};
+ghost use Rattle.std.specs.Prelude.{◌≡◌, ℕ, ◌+◌, ◌<◌, ◌≤◌, Some, None, IfOk, IsOk, OnErr, OnOk, length, count_by};
+ghost use Rattle.std.specs.Prelude.{is_some, ◌⊎◌, ◌↔◌, ◌||◌, ◌++◌, [], ◌∷◌, IsTrue, true, false};
 ghost use Rattle.std.specs.Option.{ForSome, option_map};
-ghost use Rattle.joint_machine.specs.Heaps.{IsLive, answer, is_full, next_number, slot, with_object, numbered_at, numbered_set, copied, field_set, field_got, dropped, loaded, stored, place};
+ghost use Rattle.joint_machine.specs.Heaps.{IsLive, answer, is_full, next_number, slot, with_object, numbered_at};
+ghost use Rattle.joint_machine.specs.Heaps.{numbered_set, copied, field_set, field_got, dropped, loaded, stored, place};
 ghost use Rattle.joint_machine.specs.Histories.{peer_numbers};
 ghost use Rattle.joint_machine.specs.Lines.{IsPeerThread, IsVar, IsVarOrNone};
 ghost use Rattle.joint_machine.specs.Managed.{place_or_none};
-ghost use Rattle.joint_machine.specs.Peers.{peer_name, on_peer_heap, peer_made, handles_full, pair_made, gripped, landed, globalised, name_given, name_freed, name_read, peer_read};
-ghost use Rattle.joint_machine.specs.PeerReplay.{PeerReplay, TableRow, opening_peer_replay, on_table, untabled, row_of, table_target};
+ghost use Rattle.joint_machine.specs.Peers.{peer_name, on_peer_heap, peer_made, handles_full, pair_made, gripped};
+ghost use Rattle.joint_machine.specs.Peers.{landed, globalised, name_given, name_freed, name_read, peer_read};
+ghost use Rattle.joint_machine.specs.PeerReplay.{PeerReplay, TableRow, opening_peer_replay, on_table, untabled, row_of};
+ghost use Rattle.joint_machine.specs.PeerReplay.{table_target};
 ghost use Rattle.joint_machine.specs.Run.{thread_number};
 ghost use Rattle.row_marking.specs.Traces.{Greyed};
 ghost use Rattle.row_heap.specs.Marks.{overwritten};
 ghost use Rattle.peer_heap.specs.Marks.{AreMarksSame, MarksNew, MarksBrought, MarksAfter, MarksWritten};
 ghost use Rattle.global_handles.specs.Rows.{IsRising, fresh_row, row_in, target_in};
 ghost use Rattle.heap_rules.specs.Done.{say};
-ghost use Rattle.peer_heap.specs.Rows.{PeersAnswer, AreTargetsLive, GoesBy, issued_to, number_of, row_as, strength_as, no_rows, peers_in, with_rows};
+ghost use Rattle.peer_heap.specs.Rows.{PeersAnswer, AreTargetsLive, GoesBy, issued_to, number_of, row_as, strength_as};
+ghost use Rattle.peer_heap.specs.Rows.{no_rows, peers_in, with_rows};
 ghost use Rattle.peer_heap.specs.Steps.{IsPeerStep, IsRelease, ReleasesTabled, room_for};
 
 use crate::issues::{Issue, Issues};
@@ -116,8 +121,10 @@ impl PeerRows {
     /// The handles: what the replay has as the row of a handle is the row here, and a handle leads here where it leads
     /// in the replay.
     pub(crate) fn handles(&self) -> &HandleTable
-        ensures rows { (h : ℕ) → row_of (with_rows opening_peer_replay self.now) h ≡ option_map row_as (row_in result.now.rows (record { 0 = h })) }
-        ensures targets { (h : HNum) → table_target (with_rows opening_peer_replay self.now) h.0 ≡ number_of (target_in result.now.rows h) }
+        ensures rows { (h : ℕ) → row_of (with_rows opening_peer_replay self.now) h ≡ option_map row_as
+            (row_in result.now.rows (record { 0 = h })) }
+        ensures targets { (h : HNum) → table_target
+            (with_rows opening_peer_replay self.now) h.0 ≡ number_of (target_in result.now.rows h) }
     {
         &self.table
     }
@@ -126,7 +133,8 @@ impl PeerRows {
     fn copy(&mut self, v: usize, w: usize) -> Reply
         requires v { v < 72 }
         requires w { w < 72 }
-        ensures answers { PeersAnswer self.old (on_peer_heap (peers_in self.old) (copied peer_name self.old.rows.heap v w)) result self.new }
+        ensures answers { PeersAnswer self.old
+            (on_peer_heap (peers_in self.old) (copied peer_name self.old.rows.heap v w)) result self.new }
         ensures marks { AreMarksSame self.old.rows self.new.rows }
         ensures tabled { self.new.tabled ≡ self.old.tabled }
     {
@@ -138,8 +146,10 @@ impl PeerRows {
     fn set(&mut self, v: usize, i: usize, w: Option<usize>, is_open: bool, grey: &mut u32) -> Reply
         requires v { v < 72 }
         requires w { ForSome w (λ place. place < 72) }
-        ensures answers { PeersAnswer self.old (on_peer_heap (peers_in self.old) (field_set self.old.rows.heap v i w)) result self.new }
-        ensures marks { MarksWritten is_open self.old.rows grey.old (overwritten self.old.rows.heap v i w) self.new.rows grey.new }
+        ensures answers { PeersAnswer self.old
+            (on_peer_heap (peers_in self.old) (field_set self.old.rows.heap v i w)) result self.new }
+        ensures marks { MarksWritten is_open self.old.rows grey.old
+            (overwritten self.old.rows.heap v i w) self.new.rows grey.new }
         ensures tabled { self.new.tabled ≡ self.old.tabled }
     {
         self.shade_field(v, i, w, is_open, grey);
@@ -152,8 +162,10 @@ impl PeerRows {
     fn shade_field(&mut self, v: usize, i: usize, w: Option<usize>, is_open: bool, grey: &mut u32)
         requires v { v < 72 }
         requires w { ForSome w (λ place. place < 72) }
-        ensures rest { self.new ≡ record self.old { rows = record self.old.rows { marks = self.new.rows.marks; links = self.new.rows.links } } }
-        ensures shaded { Greyed (λ k. IsTrue is_open × (overwritten self.old.rows.heap v i w ≡ Some k)) self.old.rows.marks self.old.rows.links grey.old self.new.rows.marks self.new.rows.links grey.new }
+        ensures rest { self.new ≡ record self.old
+            { rows = record self.old.rows { marks = self.new.rows.marks; links = self.new.rows.links } } }
+        ensures shaded { Greyed (λ k. IsTrue is_open × (overwritten self.old.rows.heap v i w ≡ Some k))
+            self.old.rows.marks self.old.rows.links grey.old self.new.rows.marks self.new.rows.links grey.new }
     {
         if !is_open {
             return;
@@ -168,7 +180,8 @@ impl PeerRows {
     fn get(&mut self, v: usize, w: usize, i: usize) -> Reply
         requires v { v < 72 }
         requires w { w < 72 }
-        ensures answers { PeersAnswer self.old (on_peer_heap (peers_in self.old) (field_got peer_name self.old.rows.heap v w i)) result self.new }
+        ensures answers { PeersAnswer self.old
+            (on_peer_heap (peers_in self.old) (field_got peer_name self.old.rows.heap v w i)) result self.new }
         ensures marks { AreMarksSame self.old.rows self.new.rows }
         ensures tabled { self.new.tabled ≡ self.old.tabled }
     {
@@ -179,7 +192,8 @@ impl PeerRows {
     // `drop V`.
     fn drop_var(&mut self, v: usize) -> Reply
         requires { v < 72 }
-        ensures answers { PeersAnswer self.old (on_peer_heap (peers_in self.old) (dropped self.old.rows.heap v)) result self.new }
+        ensures answers { PeersAnswer self.old
+            (on_peer_heap (peers_in self.old) (dropped self.old.rows.heap v)) result self.new }
         ensures marks { AreMarksSame self.old.rows self.new.rows }
         ensures tabled { self.new.tabled ≡ self.old.tabled }
     {
@@ -191,7 +205,8 @@ impl PeerRows {
     fn load(&mut self, v: usize, x: usize) -> Reply
         requires v { v < 72 }
         requires x { x < 16 }
-        ensures answers { PeersAnswer self.old (on_peer_heap (peers_in self.old) (loaded peer_name self.old.rows.heap v x)) result self.new }
+        ensures answers { PeersAnswer self.old
+            (on_peer_heap (peers_in self.old) (loaded peer_name self.old.rows.heap v x)) result self.new }
         ensures marks { AreMarksSame self.old.rows self.new.rows }
         ensures tabled { self.new.tabled ≡ self.old.tabled }
     {
@@ -203,7 +218,8 @@ impl PeerRows {
     fn store(&mut self, x: usize, v: Option<usize>) -> Reply
         requires x { x < 16 }
         requires v { ForSome v (λ place. place < 72) }
-        ensures answers { PeersAnswer self.old (on_peer_heap (peers_in self.old) (stored self.old.rows.heap x v)) result self.new }
+        ensures answers { PeersAnswer self.old
+            (on_peer_heap (peers_in self.old) (stored self.old.rows.heap x v)) result self.new }
         ensures marks { AreMarksSame self.old.rows self.new.rows }
         ensures tabled { self.new.tabled ≡ self.old.tabled }
     {
@@ -232,7 +248,8 @@ impl PeerRows {
         requires live { IsLive self.old.rows.heap p.0 }
         requires last { length self.old.issued < 4294967295 }
         ensures number { IfOk result (λ h. h.0 ≡ length self.old.issued + 1) }
-        ensures issued { OnOk result (self.new ≡ issued_to self.old (record { peer = p; hold = hold; strength = strength })) }
+        ensures issued { OnOk result (self.new ≡ issued_to self.old
+            (record { peer = p; hold = hold; strength = strength })) }
         ensures err { OnErr result (self.new ≡ self.old) }
     {
         self.heap.tidy();
@@ -279,7 +296,8 @@ impl PeerRows {
         requires g { g < 64 }
         requires v { v < 72 }
         requires last { length self.old.issued < 4294967295 }
-        ensures answers { IfOk result (λ r. PeersAnswer self.old (globalised (peers_in self.old) g v (strength_as strength)) r self.new) }
+        ensures answers { IfOk result (λ r. PeersAnswer self.old
+            (globalised (peers_in self.old) g v (strength_as strength)) r self.new) }
         ensures marks { AreMarksSame self.old.rows self.new.rows }
         ensures tabled { self.new.tabled ≤ self.old.tabled + 1 }
         ensures err { OnErr result (self.new ≡ self.old) }
@@ -295,7 +313,8 @@ impl PeerRows {
         requires g { g < 64 }
         requires live { IsLive self.old.rows.heap p.0 }
         requires last { length self.old.issued < 4294967295 }
-        ensures answers { IfOk result (λ r. PeersAnswer self.old (name_given (peers_in self.old) g p.0 (strength_as strength) (slot self.old.names g)) r self.new) }
+        ensures answers { IfOk result (λ r. PeersAnswer self.old
+            (name_given (peers_in self.old) g p.0 (strength_as strength) (slot self.old.names g)) r self.new) }
         ensures marks { AreMarksSame self.old.rows self.new.rows }
         ensures tabled { self.new.tabled ≤ self.old.tabled + 1 }
         ensures err { OnErr result (self.new ≡ self.old) }
@@ -372,8 +391,10 @@ impl PeerRows {
     #[inline(always)]
     pub(crate) fn bring_back(&mut self, p: PNum, is_open: bool, grey: &mut u32)
         requires live { IsLive self.old.rows.heap p.0 }
-        ensures rest { self.new ≡ record self.old { rows = record self.old.rows { marks = self.new.rows.marks; links = self.new.rows.links } } }
-        ensures shaded { Greyed (λ k. IsTrue is_open × (k ≡ p.0)) self.old.rows.marks self.old.rows.links grey.old self.new.rows.marks self.new.rows.links grey.new }
+        ensures rest { self.new ≡ record self.old
+            { rows = record self.old.rows { marks = self.new.rows.marks; links = self.new.rows.links } } }
+        ensures shaded { Greyed (λ k. IsTrue is_open × (k ≡ p.0)) self.old.rows.marks
+            self.old.rows.links grey.old self.new.rows.marks self.new.rows.links grey.new }
     {
         if !is_open {
             return;
@@ -386,7 +407,9 @@ impl PeerRows {
         requires v { v < 72 }
         requires g { g < 64 }
         requires live { AreTargetsLive self.old }
-        ensures answers { PeersAnswer self.old (name_read (table_target (with_rows opening_peer_replay self.old)) (peers_in self.old) v g) result self.new }
+        ensures answers { PeersAnswer self.old
+            (name_read (table_target (with_rows opening_peer_replay self.old)) (peers_in self.old) v g)
+            result self.new }
         ensures marks { MarksBrought is_open self.old.rows grey.old result self.new.rows grey.new }
         ensures tabled { self.new.tabled ≡ self.old.tabled }
     {
@@ -400,7 +423,9 @@ impl PeerRows {
     fn read_handle(&mut self, v: usize, h: HNum, is_open: bool, grey: &mut u32) -> Reply
         requires v { v < 72 }
         requires live { AreTargetsLive self.old }
-        ensures answers { PeersAnswer self.old (peer_read (peers_in self.old) v (table_target (with_rows opening_peer_replay self.old) h.0)) result self.new }
+        ensures answers { PeersAnswer self.old
+            (peer_read (peers_in self.old) v (table_target (with_rows opening_peer_replay self.old) h.0))
+            result self.new }
         ensures marks { MarksBrought is_open self.old.rows grey.old result self.new.rows grey.new }
         ensures tabled { self.new.tabled ≡ self.old.tabled }
     {
@@ -418,7 +443,8 @@ impl PeerRows {
     fn land(&mut self, h: HNum, x: usize, is_open: bool, grey: &mut u32) -> Reply
         requires x { x < 16 }
         requires live { AreTargetsLive self.old }
-        ensures answers { PeersAnswer self.old (landed (peers_in self.old) x (table_target (with_rows opening_peer_replay self.old) h.0)) result self.new }
+        ensures answers { PeersAnswer self.old
+            (landed (peers_in self.old) x (table_target (with_rows opening_peer_replay self.old) h.0)) result self.new }
         ensures marks { MarksBrought is_open self.old.rows grey.old result self.new.rows grey.new }
         ensures tabled { self.new.tabled ≡ self.old.tabled }
     {
@@ -435,7 +461,8 @@ impl PeerRows {
     // `unglobal G`: the name is free, and its handle leaves the table.
     fn free_name(&mut self, g: usize) -> Reply
         requires { g < 64 }
-        ensures goes { (s : PeerReplay) → on_table (untabled (with_rows s self.old) (slot self.old.names g)) (name_freed (peers_in self.old) g) ≡ answer result (with_rows s self.new) }
+        ensures goes { (s : PeerReplay) → on_table (untabled (with_rows s self.old) (slot self.old.names g))
+            (name_freed (peers_in self.old) g) ≡ answer result (with_rows s self.new) }
         ensures marks { AreMarksSame self.old.rows self.new.rows }
         ensures tabled { self.new.tabled ≤ self.old.tabled }
     {
@@ -451,9 +478,11 @@ impl PeerRows {
 
     /// Removes a handle from the table, if it is there.
     pub(crate) fn remove(&mut self, h: HNum)
-        ensures rows { self.new ≡ record self.old { table = numbered_set self.old.table h.0 None; tabled = self.new.tabled } }
+        ensures rows { self.new ≡ record self.old
+            { table = numbered_set self.old.table h.0 None; tabled = self.new.tabled } }
         ensures fewer { self.new.tabled ≤ self.old.tabled }
-        ensures tabled { (row : TableRow) → numbered_at self.old.table h.0 ≡ Some (Some row) → self.new.tabled + 1 ≡ self.old.tabled }
+        ensures tabled { (row : TableRow) → numbered_at self.old.table h.0 ≡ Some (Some row)
+            → self.new.tabled + 1 ≡ self.old.tabled }
     {
         let _ = self.table.release(h);
     }
@@ -474,7 +503,8 @@ impl PeerRows {
         requires live { AreTargetsLive self.old }
         requires last { (IsRelease op.now → ⊥) → length self.old.issued < 4294967295 }
         ensures goes { IfOk result (λ r. GoesBy self.old caller op.now r self.new) }
-        ensures marks { IfOk result (λ r. MarksAfter is_open caller self.old.rows grey.old op.now r self.new.rows grey.new) }
+        ensures marks { IfOk result (λ r. MarksAfter is_open caller
+            self.old.rows grey.old op.now r self.new.rows grey.new) }
         ensures room { OnOk result (self.new.tabled + 1 ≤ room_for op.now self.old.tabled) }
         ensures release { IsRelease op.now → IsOk result }
         ensures err { OnErr result ((self.new ≡ self.old) × (grey.new ≡ grey.old)) }
@@ -504,7 +534,8 @@ impl PeerRows {
         requires live { AreTargetsLive self.old }
         requires last { length self.old.issued < 4294967295 }
         ensures goes { IfOk result (λ r. GoesBy self.old caller (Op.Line act.now) r self.new) }
-        ensures marks { IfOk result (λ r. MarksAfter is_open caller self.old.rows grey.old (Op.Line act.now) r self.new.rows grey.new) }
+        ensures marks { IfOk result (λ r. MarksAfter is_open caller self.old.rows grey.old
+            (Op.Line act.now) r self.new.rows grey.new) }
         ensures tabled { self.new.tabled ≤ self.old.tabled + 1 }
         ensures err { OnErr result ((self.new ≡ self.old) × (grey.new ≡ grey.old)) }
     {
@@ -548,7 +579,11 @@ fn add_peer(
     requires { length heap.old.heap.fields < 65535 }
     ensures number { IfOk result (λ p. p.0 ≡ next_number heap.old.heap) }
     ensures live { IfOk result (λ p. IsLive heap.new.heap p.0) }
-    ensures heap { OnOk result (heap.new ≡ record heap.old { heap = with_object heap.old.heap fields; marks = heap.old.marks ++ true ∷ []; links = heap.old.links ++ 0 ∷ [] }) }
+    ensures heap { OnOk result (heap.new ≡ record heap.old {
+      heap = with_object heap.old.heap fields;
+      marks = heap.old.marks ++ true ∷ [];
+      links = heap.old.links ++ 0 ∷ [];
+    }) }
     ensures sorts { OnOk result (sorts.new.items ≡ sorts.old.items ++ sort ∷ []) }
     ensures err { OnErr result ((heap.new ≡ heap.old) × (sorts.new.items ≡ sorts.old.items)) }
 {

@@ -1,6 +1,7 @@
 // The peer side: its peers and handles, with the entries of what was done.
 
-ghost use Rattle.std.specs.Prelude.{◌≡◌, ◌≢◌, ℕ, ◌+◌, ◌≤◌, ◌^◌, ◌⊎◌, ◌↔◌, None, Some, IsSome, MatchBool, map, length, count_by, is_some, drop, true, IfErr, IfOk, IsOk, OnErr, OnOk};
+ghost use Rattle.std.specs.Prelude.{◌≡◌, ◌≢◌, ℕ, ◌+◌, ◌≤◌, ◌^◌, ◌⊎◌, ◌↔◌, None, Some, IsSome, MatchBool, map, length};
+ghost use Rattle.std.specs.Prelude.{count_by, is_some, drop, true, IfErr, IfOk, IsOk, OnErr, OnOk};
 ghost use Rattle.std.specs.Option.{option_map};
 ghost use Rattle.joint_machine.specs.declared.names.HNum.{HNum};
 ghost use Rattle.joint_machine.specs.Draws.{AllBelow};
@@ -12,9 +13,12 @@ ghost use Rattle.joint_machine.specs.Told.{Told, nothing, sweep_of};
 ghost use Rattle.joint_laws.specs.PeerInvariants.{IsPeerKept};
 ghost use Rattle.global_handles.specs.Rows.{row_in, target_in};
 ghost use Rattle.peer_heap.specs.Rows.{number_of, row_as};
-ghost use Rattle.peer_heap.specs.Makings.{IsSideStep, MayDrawStep, MayStep, RefusesMarking, collect_makings, gone_since, step_makings, IsMarkEvent};
+ghost use Rattle.peer_heap.specs.Makings.{IsSideStep, MayDrawStep, MayStep, RefusesMarking, collect_makings};
+ghost use Rattle.peer_heap.specs.Makings.{gone_since, step_makings, IsMarkEvent};
 ghost use Rattle.marking_laws.specs.Slices.{AreMarksGoing};
-ghost use Rattle.peer_heap.specs.Sides.{begins, ends, is_own, is_to_mark, opening_side, owed, reserve_begun, seen, MarkingIsEnded, IsDrivers, IsEndOf, IsFaultAt, IsMarkingOf, IsSliced, MayEnd, SlicesMarking, SlicesOpen};
+ghost use Rattle.peer_heap.specs.Sides.{begins, ends, is_own, is_to_mark, opening_side, owed, reserve_begun, seen};
+ghost use Rattle.peer_heap.specs.Sides.{MarkingIsEnded, IsDrivers, IsEndOf, IsFaultAt, IsMarkingOf, IsSliced, MayEnd};
+ghost use Rattle.peer_heap.specs.Sides.{SlicesMarking, SlicesOpen};
 ghost use Rattle.row_marking.specs.Traces.{IsGreyList};
 ghost use Rattle.peer_heap.specs.Mirrors.{mirrors_begun, owes};
 ghost use Rattle.peer_heap.specs.Steps.{IsPeerStep, IsRelease, room_for};
@@ -94,7 +98,10 @@ impl Model for PeerSide {
 
     ghost view = { λ s. model_with s.threads s.entries.entries s.rows s.marking s.grey s.markings s.mirroring };
 
-    ghost invariant = { λ s. IsSide s.rows s.marking s.markings s.mirroring s.entries × AreTaken peer_rules s.threads s.entries.entries × AreGoing s.rows s.marking s.grey s.markings s.mirroring s.entries.entries × AreCounted s.marking (colours_of s.rows.rows s.grey) };
+    ghost invariant = { λ s. IsSide s.rows s.marking s.markings s.mirroring s.entries
+        × AreTaken peer_rules s.threads s.entries.entries
+        × AreGoing s.rows s.marking s.grey s.markings s.mirroring s.entries.entries
+        × AreCounted s.marking (colours_of s.rows.rows s.grey) };
 }
 
 impl PeerSide {
@@ -151,7 +158,8 @@ impl PeerSide {
         requires step { IsSideStep caller op.now }
         requires allowed { MayStep self.old.state caller op.now cites }
         requires may { MayDrawStep D.rules draw.old (seen self.old) caller op.now }
-        ensures adds { IfOk result (λ r. AddsInTurn peer_rules D.rules draw.old draw.new (seen self.old) (seen self.new) (step_makings caller index op.now cites r (gone_since self.old.state self.new.state))) }
+        ensures adds { IfOk result (λ r. AddsInTurn peer_rules D.rules draw.old draw.new (seen self.old)
+            (seen self.new) (step_makings caller index op.now cites r (gone_since self.old.state self.new.state))) }
         ensures release { IsRelease op.now → IsOk result }
         ensures err { OnErr result ((self.new ≡ self.old) × (draw.new ≡ draw.old)) }
         ensures reserve { self.new.reserve ≡ self.old.reserve }
@@ -178,7 +186,8 @@ impl PeerSide {
         requires step { IsSideStep caller op.now }
         requires allowed { MayStep self.old.state caller op.now None }
         requires may { MayDrawStep D.rules draw.old (seen self.old) caller op.now }
-        ensures adds { IfOk result (λ r. AddsInTurn peer_rules D.rules draw.old draw.new (seen self.old) (seen self.new) (step_makings caller index op.now None r (gone_since self.old.state self.new.state))) }
+        ensures adds { IfOk result (λ r. AddsInTurn peer_rules D.rules draw.old draw.new (seen self.old)
+            (seen self.new) (step_makings caller index op.now None r (gone_since self.old.state self.new.state))) }
         ensures err { OnErr result ((self.new ≡ self.old) × (draw.new ≡ draw.old)) }
         ensures reserve { self.new.reserve ≡ self.old.reserve }
     {
@@ -201,7 +210,8 @@ impl PeerSide {
         requires step { IsSideStep caller (Op.Line act.now) }
         requires allowed { MayStep self.old.state caller (Op.Line act.now) cites }
         requires may { MayDrawStep D.rules draw.old (seen self.old) caller (Op.Line act.now) }
-        ensures adds { IfOk result (λ r. AddsInTurn peer_rules D.rules draw.old draw.new (seen self.old) (seen self.new) (step_makings caller index (Op.Line act.now) cites r (gone_since self.old.state self.new.state))) }
+        ensures adds { IfOk result (λ r. AddsInTurn peer_rules D.rules draw.old draw.new (seen self.old) (seen self.new)
+            (step_makings caller index (Op.Line act.now) cites r (gone_since self.old.state self.new.state))) }
         ensures err { OnErr result ((self.new ≡ self.old) × (draw.new ≡ draw.old)) }
         ensures reserve { self.new.reserve ≡ self.old.reserve }
     {
@@ -227,7 +237,8 @@ impl PeerSide {
         requires step { IsPeerStep caller op.now }
         requires allowed { PeerAllows self.old.state caller op.now cites nothing }
         requires may { MayDraw peer_rules D.rules draw.old (seen self.old) caller op.now }
-        ensures adds { IfOk result (λ r. AddsLawful peer_rules D.rules draw.old draw.new (seen self.old) (seen self.new) (record { caller = caller; index = index; op = op.now; reply = r; cites = cites }) nothing) }
+        ensures adds { IfOk result (λ r. AddsLawful peer_rules D.rules draw.old draw.new (seen self.old)
+            (seen self.new) (record { caller = caller; index = index; op = op.now; reply = r; cites = cites }) nothing) }
         ensures release { IsRelease op.now → IsOk result }
         ensures err { OnErr result ((self.new ≡ self.old) × (draw.new ≡ draw.old)) }
         ensures reserve { self.new.reserve ≡ self.old.reserve }
@@ -256,7 +267,8 @@ impl PeerSide {
     ) -> Result<Reply, AllocError>
         requires caller { IsPeerThread caller ⊎ IsDriver caller }
         requires may { MayDraw peer_rules D.rules draw.old (seen self.old) caller Op.Begin }
-        ensures adds { IfOk result (λ r. AddsInTurn peer_rules D.rules draw.old draw.new (seen self.old) (seen self.new) (step_makings caller index Op.Begin None r (gone_since self.old.state self.new.state))) }
+        ensures adds { IfOk result (λ r. AddsInTurn peer_rules D.rules draw.old draw.new (seen self.old)
+            (seen self.new) (step_makings caller index Op.Begin None r (gone_since self.old.state self.new.state))) }
         ensures err { OnErr result ((self.new ≡ self.old) × (draw.new ≡ draw.old)) }
         ensures reserve { self.new.reserve ≡ self.old.reserve }
     {
@@ -281,7 +293,8 @@ impl PeerSide {
         requires caller { IsPeerThread caller ⊎ IsDriver caller }
         requires open { IsDriver caller → IsSome self.old.state.marking }
         requires may { MayDraw peer_rules D.rules draw.old (seen self.old) caller Op.Sweep }
-        ensures adds { IfOk result (λ r. AddsInTurn peer_rules D.rules draw.old draw.new (seen self.old) (seen self.new) (step_makings caller index Op.Sweep None r (gone_since self.old.state self.new.state))) }
+        ensures adds { IfOk result (λ r. AddsInTurn peer_rules D.rules draw.old draw.new (seen self.old)
+            (seen self.new) (step_makings caller index Op.Sweep None r (gone_since self.old.state self.new.state))) }
         ensures err { OnErr result ((self.new ≡ self.old) × (draw.new ≡ draw.old)) }
         ensures reserve { self.new.reserve ≡ self.old.reserve }
     {
@@ -312,7 +325,8 @@ impl PeerSide {
         requires caller { IsPeerThread caller }
         requires may_begin { MayDraw peer_rules D.rules draw.old (seen self.old) caller Op.Begin }
         requires may_sweep { MayDraw peer_rules D.rules draw.old (seen self.old) caller Op.Sweep }
-        ensures adds { IfOk result (λ r. AddsInTurn peer_rules D.rules draw.old draw.new (seen self.old) (seen self.new) (collect_makings caller index r (gone_since self.old.state self.new.state))) }
+        ensures adds { IfOk result (λ r. AddsInTurn peer_rules D.rules draw.old draw.new (seen self.old)
+            (seen self.new) (collect_makings caller index r (gone_since self.old.state self.new.state))) }
         ensures err { OnErr result ((self.new ≡ self.old) × (draw.new ≡ draw.old)) }
         ensures reserve { self.new.reserve ≡ self.old.reserve }
     {
@@ -337,10 +351,12 @@ impl PeerSide {
         op: Op,
         reply: Reply,
     ) -> Result<Reply, AllocError>
-        requires passes { RefusesMarking self.old.state (record { caller = caller; index = index; op = op; reply = reply; cites = None }) }
+        requires passes { RefusesMarking self.old.state
+            (record { caller = caller; index = index; op = op; reply = reply; cites = None }) }
         requires may { MayDraw peer_rules D.rules draw.old (seen self.old) caller op }
         ensures reply { IfOk result (λ r. r ≡ reply) }
-        ensures adds { OnOk result (AddsLawful peer_rules D.rules draw.old draw.new (seen self.old) (seen self.new) (record { caller = caller; index = index; op = op; reply = reply; cites = None }) nothing) }
+        ensures adds { OnOk result (AddsLawful peer_rules D.rules draw.old draw.new (seen self.old) (seen self.new)
+            (record { caller = caller; index = index; op = op; reply = reply; cites = None }) nothing) }
         ensures err { OnErr result ((self.new ≡ self.old) × (draw.new ≡ draw.old)) }
         ensures reserve { self.new.reserve ≡ self.old.reserve }
     {
@@ -372,11 +388,13 @@ impl PeerSide {
     ) -> Result<Marking, BeginFault>
         requires caller { IsPeerThread caller ⊎ IsDriver caller }
         requires may { MayDraw peer_rules D.rules draw.old (seen self.old) caller Op.Begin }
-        ensures begun { IfOk result (λ j. AddsLawful peer_rules D.rules draw.old draw.new (seen self.old) (seen self.new) (begins caller index j) nothing) }
+        ensures begun { IfOk result (λ j. AddsLawful peer_rules D.rules draw.old draw.new
+            (seen self.old) (seen self.new) (begins caller index j) nothing) }
         ensures fault { IfErr result (λ f. IsFaultAt f self.old.state.marking) }
         ensures own { is_own caller self.old.reserve.marking ≡ true → self.old.state.marking ≡ None → IsOk result }
         ensures err { OnErr result ((self.new ≡ self.old) × (draw.new ≡ draw.old)) }
-        ensures reserve { OnOk result (self.new.reserve ≡ reserve_begun (is_own caller self.old.reserve.marking) self.old.reserve) }
+        ensures reserve { OnOk result (self.new.reserve ≡ reserve_begun
+            (is_own caller self.old.reserve.marking) self.old.reserve) }
     {
         let own = self.own(caller);
         match self.marking() {
@@ -411,7 +429,8 @@ impl PeerSide {
         requires closed { self.old.state.marking ≡ None }
         requires own { own ≡ true → self.old.reserve.marking ≡ true }
         requires may { MayDraw peer_rules D.rules draw.old (seen self.old) caller Op.Begin }
-        ensures begun { IfOk result (λ j. AddsLawful peer_rules D.rules draw.old draw.new (seen self.old) (seen self.new) (begins caller index j) nothing) }
+        ensures begun { IfOk result (λ j. AddsLawful peer_rules D.rules draw.old draw.new
+            (seen self.old) (seen self.new) (begins caller index j) nothing) }
         ensures own { own ≡ true → IsOk result }
         ensures err { OnErr result ((self.new ≡ self.old) × (draw.new ≡ draw.old)) }
         ensures reserve { OnOk result (self.new.reserve ≡ reserve_begun own self.old.reserve) }
@@ -491,7 +510,9 @@ impl PeerSide {
         requires caller { IsPeerThread caller }
         requires count { (1 ≤ n) × (n ≤ 65535) }
         requires may { MayDraw peer_rules D.rules draw.old (seen self.old) caller (Op.Line (Act.Slice n)) }
-        ensures adds { IfOk result (λ r. (told : Told) × AddsLawful peer_rules D.rules draw.old draw.new (seen self.old) (seen self.new) (record { caller = caller; index = index; op = Op.Line (Act.Slice n); reply = r; cites = None }) told) }
+        ensures adds { IfOk result (λ r. (told : Told)
+            × AddsLawful peer_rules D.rules draw.old draw.new (seen self.old) (seen self.new)
+            (record { caller = caller; index = index; op = Op.Line (Act.Slice n); reply = r; cites = None }) told) }
         ensures err { OnErr result ((self.new ≡ self.old) × (draw.new ≡ draw.old)) }
         ensures reserve { self.new.reserve ≡ self.old.reserve }
     {
@@ -512,7 +533,8 @@ impl PeerSide {
     /// What holds of an open marking, for the proofs of callers: its marks and grey peers are those of a marking that
     /// goes on. It does nothing.
     pub fn goes(&self)
-        ensures { (mk : MarkingState) → self.now.state.marking ≡ Some mk → AreMarksGoing self.now.state mk self.now.colours.follows self.now.colours.marks self.now.colours.greys }
+        ensures { (mk : MarkingState) → self.now.state.marking ≡ Some mk
+            → AreMarksGoing self.now.state mk self.now.colours.follows self.now.colours.marks self.now.colours.greys }
     {
         let _ = &self.rows;
     }
@@ -531,7 +553,9 @@ impl PeerSide {
         requires caller { IsPeerThread caller ⊎ IsDriver caller }
         requires own { MayEnd self.old.state.marking caller }
         requires may { MayDraw peer_rules D.rules draw.old (seen self.old) caller Op.Sweep }
-        ensures swept { IfOk result (λ w. AddsLawful peer_rules D.rules draw.old draw.new (seen self.old) (seen self.new) (ends caller index w.marking w.freed) (sweep_of (drop (length self.old.state.peers.heap.freed) self.new.state.peers.heap.freed))) }
+        ensures swept { IfOk result (λ w. AddsLawful peer_rules D.rules draw.old draw.new
+            (seen self.old) (seen self.new) (ends caller index w.marking w.freed)
+            (sweep_of (drop (length self.old.state.peers.heap.freed) self.new.state.peers.heap.freed))) }
         ensures err { OnErr result ((self.old.state.marking ≡ None) × (self.new ≡ self.old) × (draw.new ≡ draw.old)) }
         ensures reserve { self.new.reserve ≡ self.old.reserve }
     {
@@ -558,7 +582,9 @@ impl PeerSide {
         requires caller { IsPeerThread caller ⊎ IsDriver caller }
         requires ended { MarkingIsEnded self.old.state.marking caller marking }
         requires may { MayDraw peer_rules D.rules draw.old (seen self.old) caller Op.Sweep }
-        ensures swept { AddsLawful peer_rules D.rules draw.old draw.new (seen self.old) (seen self.new) (ends caller index marking result) (sweep_of (drop (length self.old.state.peers.heap.freed) self.new.state.peers.heap.freed)) }
+        ensures swept { AddsLawful peer_rules D.rules draw.old draw.new (seen self.old)
+            (seen self.new) (ends caller index marking result)
+            (sweep_of (drop (length self.old.state.peers.heap.freed) self.new.state.peers.heap.freed)) }
         ensures reserve { self.new.reserve ≡ self.old.reserve }
     {
         let _ = self.rows.blacken(&mut self.grey, u32::MAX);
@@ -633,7 +659,8 @@ impl PeerSide {
     /// The handles: what the state has as the row of a handle is the row here, and a handle leads here where it leads
     /// in the state.
     pub fn handles(&self) -> &HandleTable
-        ensures rows { (h : ℕ) → row_of self.now.state h ≡ option_map row_as (row_in result.now.rows (record { 0 = h })) }
+        ensures rows { (h : ℕ) → row_of self.now.state h ≡ option_map row_as
+            (row_in result.now.rows (record { 0 = h })) }
         ensures targets { (h : HNum) → table_target self.now.state h.0 ≡ number_of (target_in result.now.rows h) }
     {
         self.rows.handles()

@@ -20,7 +20,12 @@ impl PeerRows {
     pub(crate) fn sweep(&mut self)
         requires { IsWholeMarking self.old }
         ensures white { AreWhite self.old.rows (drop (length self.old.rows.heap.freed) self.new.rows.heap.freed) }
-        ensures rest { let freed = drop (length self.old.rows.heap.freed) self.new.rows.heap.freed in self.new ≡ record self.old { rows = record self.old.rows { heap = with_freed self.old.rows.heap freed; links = self.new.rows.links }; table = cleared_rows freed self.old.issued self.old.table } }
+        ensures rest { let freed = drop (length self.old.rows.heap.freed) self.new.rows.heap.freed in
+            self.new ≡ record self.old {
+              rows = record self.old.rows
+                  { heap = with_freed self.old.rows.heap freed; links = self.new.rows.links };
+              table = cleared_rows freed self.old.issued self.old.table;
+            } }
     {
         let before = self.heap.freed().len();
         self.heap.sweep();
@@ -36,7 +41,10 @@ fn clear_freed(table: &mut HandleTable, freed: &[PNum])
     ensures made { table.new.made ≡ table.old.made }
     ensures last { table.new.last ≡ table.old.last }
     ensures rising { IsRising table.new }
-    ensures cleared { (issued : List Issue) → table.old.last ≡ length issued → AreRowsIssued table.old.rows issued → table_to table.new.rows table.new.last ≡ cleared_rows (peer_numbers freed.now) (map issued_as issued) (table_to table.old.rows table.old.last) }
+    ensures cleared { (issued : List Issue) → table.old.last ≡ length issued
+        → AreRowsIssued table.old.rows issued
+        → table_to table.new.rows table.new.last ≡ cleared_rows (peer_numbers freed.now)
+        (map issued_as issued) (table_to table.old.rows table.old.last) }
 {
     for p in freed {
         table.clear_target(*p);

@@ -25,7 +25,8 @@ use Rattle.peer_mirror.specs.Carried.{AreBridgeNodes, AreHandlesStrong, IsEdgeEn
 use Rattle.peer_mirror.proofs.Nodes.{peer_of_node-is, strong-node}
 
 -- the end of what is reported at an index is a bridge node, or the temporary of a heavy class
-end-there : (nodes : List Node) (comps : List (List ℕ)) (heavy i : ℕ) → All (λ members. 0 < length members) comps → AreBridgeNodes nodes comps → i < length comps + heavy → IsEdgeEnd nodes heavy (end_at comps i)
+end-there : (nodes : List Node) (comps : List (List ℕ)) (heavy i : ℕ) → All (λ members. 0 < length members) comps
+    → AreBridgeNodes nodes comps → i < length comps + heavy → IsEdgeEnd nodes heavy (end_at comps i)
 end-there nodes comps heavy i some members l = by (end-is comps i)
   where
     by : EndIs comps i → IsEdgeEnd nodes heavy (end_at comps i)
@@ -33,7 +34,8 @@ end-there nodes comps heavy i some members l = by (end-is comps i)
     by (weight past e) = subst (IsEdgeEnd nodes heavy) (sym e) (omega (arith, past, l))
 
 -- so is each end of a mirror edge
-pub edge-ends : (nodes : List Node) (comps : List (List ℕ)) (heavy : ℕ) (pairs : List (ℕ × ℕ)) → IsListing comps heavy pairs → AreBridgeNodes nodes comps → (a b : End) → Contains (mirror_edges comps pairs) (a, b) → IsEdgeEnd nodes heavy a × IsEdgeEnd nodes heavy b
+pub edge-ends : (nodes : List Node) (comps : List (List ℕ)) (heavy : ℕ) (pairs : List (ℕ × ℕ)) → IsListing comps heavy pairs
+    → AreBridgeNodes nodes comps → (a b : End) → Contains (mirror_edges comps pairs) (a, b) → IsEdgeEnd nodes heavy a × IsEdgeEnd nodes heavy b
 edge-ends nodes comps heavy pairs l members a b c = elim (Contains-append_cases (map between_nodes (flat_map circle comps)) (map (λ (p : ℕ × ℕ). (end_at comps p.0, end_at comps p.1)) pairs) (a, b) c) [
   | inl d ↦ (
       let r = Contains-map_cases between_nodes (flat_map circle comps) (a, b) d in
@@ -44,7 +46,8 @@ edge-ends nodes comps heavy pairs l members a b c = elim (Contains-append_cases 
   | inr d ↦ (
       let r = Contains-map_cases (λ (p : ℕ × ℕ). (end_at comps p.0, end_at comps p.1)) pairs (a, b) d in
       let w : IsBetween (length comps + heavy) r.0 = All-contains (IsBetween (length comps + heavy)) pairs r.0 l.ends r.1 in
-      subst (λ (p : End × End). IsEdgeEnd nodes heavy p.0 × IsEdgeEnd nodes heavy p.1) r.2 (end-there nodes comps heavy r.0.0 l.canonical.some members w.source, end-there nodes comps heavy r.0.1 l.canonical.some members w.destination))
+      subst (λ (p : End × End). IsEdgeEnd nodes heavy p.0 × IsEdgeEnd nodes heavy p.1) r.2
+      (end-there nodes comps heavy r.0.0 l.canonical.some members w.source, end-there nodes comps heavy r.0.1 l.canonical.some members w.destination))
 ]
 
 -- which of these the answered end is
@@ -70,14 +73,16 @@ end-more nodes heavy temps (node i) l w = w
 end-more nodes heavy temps (temporary t) l w = omega (arith, l, w)
 
 -- a peer that an end is carried to is under a strong handle
-end-strong : (s : PeerReplay) (nodes : List Node) (heavy : ℕ) (e : End) (p : ℕ) → IsPeerKept s → AreHandlesStrong s nodes → IsEdgeEnd nodes heavy e → carried_end s.peers.issued nodes e ≡ node p → Contains (strong_peers s.peers.issued s.table) p
+end-strong : (s : PeerReplay) (nodes : List Node) (heavy : ℕ) (e : End) (p : ℕ) → IsPeerKept s → AreHandlesStrong s nodes
+    → IsEdgeEnd nodes heavy e → carried_end s.peers.issued nodes e ≡ node p → Contains (strong_peers s.peers.issued s.table) p
 end-strong s nodes heavy (node i) p k all w is =
     let n = strong-node s nodes i k all w in
     let same : peer_of_node s.peers.issued nodes i ≡ p = cc in
     subst (Contains (strong_peers s.peers.issued s.table)) (sym (peer_of_node-is s nodes i n) ∙ same) n.listed
 end-strong s nodes heavy (temporary t) p k all w is = (let f : ⊥ = cc in absurd f)
 
-pub carried-strong : (s : PeerReplay) (nodes : List Node) (comps : List (List ℕ)) (heavy : ℕ) (pairs : List (ℕ × ℕ)) → IsPeerKept s → AreHandlesStrong s nodes → IsListing comps heavy pairs → AreBridgeNodes nodes comps → AreEndsStrong s (carried_to_peers s.peers.issued nodes (mirror_edges comps pairs))
+pub carried-strong : (s : PeerReplay) (nodes : List Node) (comps : List (List ℕ)) (heavy : ℕ) (pairs : List (ℕ × ℕ)) → IsPeerKept s → AreHandlesStrong s nodes
+    → IsListing comps heavy pairs → AreBridgeNodes nodes comps → AreEndsStrong s (carried_to_peers s.peers.issued nodes (mirror_edges comps pairs))
 carried-strong s nodes comps heavy pairs k all l members p end = elim end.1 [
   | inl c ↦ (
       let r = Contains-map_cases carry (mirror_edges comps pairs) (node p, end.0) c in
@@ -93,18 +98,22 @@ carried-strong s nodes comps heavy pairs k all l members p end = elim end.1 [
     carry e = (carried_end s.peers.issued nodes e.0, carried_end s.peers.issued nodes e.1)
 
 -- the mirror edge that is answered at an index
-pub edge-at : (count : ℕ) (edges : List (End × End)) (i : ℕ) (y : Answered × Answered) → slice_get (map (ends_of count) edges) i ≡ Some y → (e : End × End) × (slice_get edges i ≡ Some e) × (ends_of count e ≡ y)
+pub edge-at : (count : ℕ) (edges : List (End × End)) (i : ℕ) (y : Answered × Answered)
+    → slice_get (map (ends_of count) edges) i ≡ Some y → (e : End × End) × (slice_get edges i ≡ Some e) × (ends_of count e ≡ y)
 edge-at count [] i y at = (let f : ⊥ = cc in absurd f)
 edge-at count (e ∷ edges) zero y at = (e, refl, same_Some (ends_of count e) y at)
 edge-at count (e ∷ edges) (suc i) y at = edge-at count edges i y at
 
 -- the reference of one edge more waits
-pub pushed-next : (old mid new : PeerModel) (nodes : List Node) (edges : List (End × End)) (i : ℕ) (e : End × End) (from to : End) → slice_get edges i ≡ Some e → mid ≡ with_pushed old (carried_to_peers old.state.peers.issued nodes (take i edges))
-    → from ≡ carried_end mid.state.peers.issued nodes e.0 → to ≡ carried_end mid.state.peers.issued nodes e.1 → new ≡ record mid { reserve = reserve_pushed mid.reserve from to } → new ≡ with_pushed old (carried_to_peers old.state.peers.issued nodes (take (i + 1) edges))
+pub pushed-next : (old mid new : PeerModel) (nodes : List Node) (edges : List (End × End)) (i : ℕ) (e : End × End) (from to : End)
+    → slice_get edges i ≡ Some e → mid ≡ with_pushed old (carried_to_peers old.state.peers.issued nodes (take i edges))
+    → from ≡ carried_end mid.state.peers.issued nodes e.0 → to ≡ carried_end mid.state.peers.issued nodes e.1
+    → new ≡ record mid { reserve = reserve_pushed mid.reserve from to } → new ≡ with_pushed old (carried_to_peers old.state.peers.issued nodes (take (i + 1) edges))
 pushed-next old mid new nodes edges i e from to at so_far is-from is-to put =
     let issued = old.state.peers.issued in
     let carry : End × End → End × End = λ z. (carried_end issued nodes z.0, carried_end issued nodes z.1) in
-    let refs : carried_to_peers issued nodes (take (i + 1) edges) ≡ carried_to_peers issued nodes (take i edges) ++ carry e ∷ [] = ap (map carry) (take-next edges i e at) ∙ map-append carry (take i edges) (e ∷ []) in
+    let refs : carried_to_peers issued nodes (take (i + 1) edges) ≡ carried_to_peers issued nodes (take i edges) ++ carry e ∷ [] = ap (map carry) (take-next edges i e at)
+    ∙ map-append carry (take i edges) (e ∷ []) in
     let before : List (End × End) = carried_to_peers issued nodes (take i edges) in
     let room : old.reserve.refs - length before - 1 ≡ old.reserve.refs - length (before ++ carry e ∷ []) = omega (arith, length-append before (carry e ∷ [])) in
     put
@@ -115,8 +124,10 @@ pushed-next old mid new nodes edges i e from to at so_far is-from is-to put =
     ∙ ap (with_pushed old) (sym refs)))))
 
 -- so the ends of those that wait are, where the state is as before
-pub installed-ends : (old mid new : PeerModel) (r : Reserve) (nodes : List Node) (edges : List (End × End)) → mid ≡ record old { reserve = r } → new ≡ with_pushed mid (carried_to_peers mid.state.peers.issued nodes edges)
+pub installed-ends : (old mid new : PeerModel) (r : Reserve) (nodes : List Node) (edges : List (End × End))
+    → mid ≡ record old { reserve = r } → new ≡ with_pushed mid (carried_to_peers mid.state.peers.issued nodes edges)
     → AreEndsStrong old.state (carried_to_peers old.state.peers.issued nodes edges) → AreEndsStrong new.state new.reserve.waiting
 installed-ends old mid new r nodes edges reserved pushed ends =
-    let all : new ≡ with_pushed (record old { reserve = r }) (carried_to_peers old.state.peers.issued nodes edges) = pushed ∙ ap (λ (z : PeerModel). with_pushed z (carried_to_peers z.state.peers.issued nodes edges)) reserved in
+    let all : new ≡ with_pushed (record old { reserve = r }) (carried_to_peers old.state.peers.issued nodes edges) = pushed
+    ∙ ap (λ (z : PeerModel). with_pushed z (carried_to_peers z.state.peers.issued nodes edges)) reserved in
     subst (λ (z : PeerModel). AreEndsStrong z.state z.reserve.waiting) (sym all) ends

@@ -47,7 +47,8 @@ issued-of s k (suc n) row t =
 pub strong-node : (s : PeerReplay) (nodes : List Node) (i : ℕ) → IsPeerKept s → AreHandlesStrong s nodes → IsBridgeNode nodes i → IsStrongNode s nodes i
 strong-node s nodes i k all b =
     let h = some-there b.node.handle b.held in
-    let there : Contains (handles_of nodes) h.0 = Contains-flat_map (λ (n : Node). option_to_list n.handle) nodes b.node h.0 (Contains-at nodes i b.node b.there) (subst (λ o. Contains (option_to_list o) h.0) (sym h.1) (Contains-here h.0 [])) in
+    let there : Contains (handles_of nodes) h.0 = Contains-flat_map (λ (n : Node). option_to_list n.handle) nodes b.node h.0
+    (Contains-at nodes i b.node b.there) (subst (λ o. Contains (option_to_list o) h.0) (sym h.1) (Contains-here h.0 [])) in
     let row : row_of s h.0.0 ≡ Some strong_row = All-contains (λ (z : HNum). row_of s z.0 ≡ Some strong_row) (handles_of nodes) h.0 all there in
     let tabled : IsTabled s.table h.0.0 strong_row = row-tabled (numbered_at s.table h.0.0) strong_row row in
     let issue = issued-of s k h.0.0 strong_row tabled in
@@ -75,8 +76,10 @@ handle-target s nodes i h n at =
     ap (λ (z : HNum). table_target s z.0) (sym same) ∙ n.target
 
 -- so the table leads to that peer
-pub target-is : (s : PeerReplay) (nodes : List Node) (i : ℕ) (h : HNum) (o : Option PNum) (n : IsStrongNode s nodes i) → HasNode nodes i (λ m. m.handle ≡ Some h) → table_target s h.0 ≡ number_of o → number_of o ≡ Some n.peer
+pub target-is : (s : PeerReplay) (nodes : List Node) (i : ℕ) (h : HNum) (o : Option PNum) (n : IsStrongNode s nodes i)
+    → HasNode nodes i (λ m. m.handle ≡ Some h) → table_target s h.0 ≡ number_of o → number_of o ≡ Some n.peer
 target-is s nodes i h o n at shown = sym shown ∙ handle-target s nodes i h n at
 
-pub same-peer : (s : PeerReplay) (nodes : List Node) (i : ℕ) (h : HNum) (o : Option PNum) (n : IsStrongNode s nodes i) → HasNode nodes i (λ m. m.handle ≡ Some h) → table_target s h.0 ≡ number_of o → (p : PNum) → o ≡ Some p → p.0 ≡ n.peer
+pub same-peer : (s : PeerReplay) (nodes : List Node) (i : ℕ) (h : HNum) (o : Option PNum) (n : IsStrongNode s nodes i)
+    → HasNode nodes i (λ m. m.handle ≡ Some h) → table_target s h.0 ≡ number_of o → (p : PNum) → o ≡ Some p → p.0 ≡ n.peer
 same-peer s nodes i h o n at shown p is = same_Some p.0 n.peer (ap number_of (sym is) ∙ target-is s nodes i h o n at shown)

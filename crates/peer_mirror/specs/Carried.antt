@@ -16,7 +16,8 @@ use Rattle.peer_heap.specs.Sides.{PeerModel, Reserve}
 
 -- the peer of the handle of the node with that index; 0 where there is none
 abbrev pub peer_of_node : List Issued → List Node → ℕ → ℕ
-peer_of_node issued nodes i = elim (handle_at nodes i) [ None ↦ 0 | Some h ↦ elim (peer_of issued h.0) [ None ↦ 0 | Some p ↦ p ] ]
+peer_of_node issued nodes i = elim (handle_at nodes i)
+    [ None ↦ 0 | Some h ↦ elim (peer_of issued h.0) [ None ↦ 0 | Some p ↦ p ] ]
 
 -- an end of an edge, carried to the peer of the node's handle; a temporary stays
 abbrev pub carried_end : List Issued → List Node → exact.End → exact.End
@@ -34,7 +35,8 @@ IsEdgeEnd nodes temps (exact.temporary t) = t < temps
 
 -- the answered end of an edge is carried to that end of a reference, which may stand
 abbrev pub IsCarried : PeerModel → List Node → ℕ → Answered → exact.End → Type 0
-IsCarried side nodes members end ref = ((e : exact.End) → end ≡ end_of members e → ref ≡ carried_end side.state.peers.issued nodes e) × MayStand side.state.peers.heap side.reserve.temps ref
+IsCarried side nodes members end ref = ((e : exact.End) → end ≡ end_of members e
+    → ref ≡ carried_end side.state.peers.issued nodes e) × MayStand side.state.peers.heap side.reserve.temps ref
 
 -- each member of a component is a bridge node
 abbrev pub AreBridgeNodes : List Node → List (List ℕ) → Type 0

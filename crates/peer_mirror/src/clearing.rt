@@ -23,10 +23,12 @@ pub fn clear<D: Draw>(side: &mut PeerSide, draw: &mut D, index: u32, cycle: Cycl
     requires clears { MayClear side.old.state cycle.0 }
     requires targets { AreTargetsRestored side.old.state }
     requires may { MayDraw peer_rules D.rules draw.old (seen side.old) Thread.C (Op.Clear cycle) }
-    ensures adds { AddsLawful peer_rules D.rules draw.old draw.new (seen side.old) (seen side.new) (clears index cycle) nothing }
+    ensures adds { AddsLawful peer_rules D.rules draw.old draw.new
+        (seen side.old) (seen side.new) (clears index cycle) nothing }
     ensures number { side.new.entries ≡ side.old.entries ++ numbered result (clears index cycle) ∷ [] }
     ensures none { side.new.state.refs ≡ [] }
-    ensures kept { (m : Mirror) (p q : ℕ) → side.old.state.mirror ≡ Some m → Refers side.old.state.refs p q → HasRestoredHandle side.old.state m p → IsLive side.old.state.peers.heap q }
+    ensures kept { (m : Mirror) (p q : ℕ) → side.old.state.mirror ≡ Some m → Refers side.old.state.refs p q
+        → HasRestoredHandle side.old.state m p → IsLive side.old.state.peers.heap q }
     ensures peers { side.new.state.peers ≡ side.old.state.peers }
     ensures reserve { side.new.reserve ≡ reserve_over side.old.reserve }
 {

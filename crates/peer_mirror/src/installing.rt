@@ -14,7 +14,8 @@ ghost use Rattle.peer_heap.specs.Cycles.{mirrors};
 ghost use Rattle.peer_heap.specs.Mirroring.{end_of as ref_end};
 ghost use Rattle.peer_heap.specs.Mirrors.{MayStand};
 ghost use Rattle.peer_heap.specs.Sides.{seen};
-ghost use Rattle.peer_mirror.specs.Carried.{IsCarried, IsEdgeEnd, carried_end, carried_to_peers, peer_of_node, reserve_installed, with_pushed, AreBridgeNodes, AreHandlesStrong};
+ghost use Rattle.peer_mirror.specs.Carried.{IsCarried, IsEdgeEnd, carried_end, carried_to_peers, peer_of_node};
+ghost use Rattle.peer_mirror.specs.Carried.{reserve_installed, with_pushed, AreBridgeNodes, AreHandlesStrong};
 
 use bridge_graph::DeadGraph;
 use joint_model::{Cycle, Draw, Op, PNum, Thread};
@@ -44,9 +45,13 @@ pub fn install<D: Draw>(
     requires none_waits { side.old.reserve.waiting ≡ [] }
     requires mirrors { MayMirror side.old.state cycle.0 (Some cites) }
     requires may { MayDraw peer_rules D.rules draw.old (seen side.old) Thread.C (Op.Mirror cycle) }
-    ensures adds { IfOk result (λ refs. AddsLawful peer_rules D.rules draw.old draw.new (seen side.old) (seen side.new) (mirrors index cycle refs cites) (references_of (carried_to_peers side.old.state.peers.issued graph.now.nodes (mirror_edges comps.now.comps comps.now.pairs)))) }
+    ensures adds { IfOk result (λ refs. AddsLawful peer_rules D.rules draw.old draw.new (seen side.old)
+        (seen side.new) (mirrors index cycle refs cites)
+        (references_of (carried_to_peers side.old.state.peers.issued graph.now.nodes
+        (mirror_edges comps.now.comps comps.now.pairs)))) }
     ensures number { IfOk result (λ refs. refs ≡ length (mirror_edges comps.now.comps comps.now.pairs)) }
-    ensures refs { OnOk result (side.new.state.refs ≡ carried_to_peers side.old.state.peers.issued graph.now.nodes (mirror_edges comps.now.comps comps.now.pairs)) }
+    ensures refs { OnOk result (side.new.state.refs ≡ carried_to_peers side.old.state.peers.issued graph.now.nodes
+        (mirror_edges comps.now.comps comps.now.pairs)) }
     ensures peers { side.new.state.peers ≡ side.old.state.peers }
     ensures reserve { OnOk result (side.new.reserve ≡ reserve_installed (length (handles_of graph.now.nodes))) }
     ensures err { OnErr result ((side.new ≡ side.old) × (draw.new ≡ draw.old)) }
@@ -80,7 +85,8 @@ fn push_edges(side: &mut PeerSide, graph: &DeadGraph, comps: &Components)
     requires none_waits { side.old.reserve.waiting ≡ [] }
     requires room { length (mirror_edges comps.now.comps comps.now.pairs) ≤ side.old.reserve.refs }
     requires temps { comps.now.heavy ≤ side.old.reserve.temps }
-    ensures { side.new ≡ with_pushed side.old (carried_to_peers side.old.state.peers.issued graph.now.nodes (mirror_edges comps.now.comps comps.now.pairs)) }
+    ensures { side.new ≡ with_pushed side.old
+        (carried_to_peers side.old.state.peers.issued graph.now.nodes (mirror_edges comps.now.comps comps.now.pairs)) }
 {
     let members = comps.len() - comps.heavy();
     let mut last = None;
@@ -105,7 +111,8 @@ fn from_end(
     requires end { (e : exact.End) × (end ≡ end_of members e) × IsEdgeEnd graph.now.nodes side.now.reserve.temps e }
     requires strong_ones { AreHandlesStrong side.now.state graph.now.nodes }
     requires last { IfSome last (λ z. IsCarried side.now graph.now.nodes members z.0 (ref_end z.1)) }
-    ensures carried { (e : exact.End) → end ≡ end_of members e → ref_end result ≡ carried_end side.now.state.peers.issued graph.now.nodes e }
+    ensures carried { (e : exact.End) → end ≡ end_of members e
+        → ref_end result ≡ carried_end side.now.state.peers.issued graph.now.nodes e }
     ensures stands { MayStand side.now.state.peers.heap side.now.reserve.temps (ref_end result) }
 {
     match last {
@@ -119,7 +126,8 @@ fn from_end(
 fn ref_end(side: &PeerSide, graph: &DeadGraph, end: End, members: u32) -> RefEnd
     requires end { (e : exact.End) × (end ≡ end_of members e) × IsEdgeEnd graph.now.nodes side.now.reserve.temps e }
     requires strong_ones { AreHandlesStrong side.now.state graph.now.nodes }
-    ensures carried { (e : exact.End) → end ≡ end_of members e → ref_end result ≡ carried_end side.now.state.peers.issued graph.now.nodes e }
+    ensures carried { (e : exact.End) → end ≡ end_of members e
+        → ref_end result ≡ carried_end side.now.state.peers.issued graph.now.nodes e }
     ensures stands { MayStand side.now.state.peers.heap side.now.reserve.temps (ref_end result) }
 {
     match end {

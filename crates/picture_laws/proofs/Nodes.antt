@@ -32,7 +32,8 @@ pub keys : {A : Type 0} (p : ℕ → Bool) (g : ℕ → A) (key : A → ℕ) →
 keys p g key k [] = refl
 keys {A} p g key k (x ∷ xs) = by (p x) (keys p g key k xs)
   where
-    by : (b : Bool) → map key (flat_map (λ x. if p x then g x ∷ [] else []) xs) ≡ filter p xs → map key ((if b then g x ∷ [] else []) ++ flat_map (λ x. if p x then g x ∷ [] else []) xs) ≡ cond b (x ∷ filter p xs) (filter p xs)
+    by : (b : Bool) → map key (flat_map (λ x. if p x then g x ∷ [] else []) xs) ≡ filter p xs
+        → map key ((if b then g x ∷ [] else []) ++ flat_map (λ x. if p x then g x ∷ [] else []) xs) ≡ cond b (x ∷ filter p xs) (filter p xs)
     by true e = rw (k x, e) refl
     by false e = e
 
@@ -64,10 +65,20 @@ module _ {A : Type 0} (a b c d e f : List A) (x : A) where
   in4 h = Contains-append_right a (b ++ (c ++ (d ++ (e ++ f)))) x (Contains-append_right b (c ++ (d ++ (e ++ f))) x (Contains-append_right c (d ++ (e ++ f)) x (Contains-append_left d (e ++ f) x h)))
 
   pub in5 : Contains e x → Contains (a ++ (b ++ (c ++ (d ++ (e ++ f))))) x
-  in5 h = Contains-append_right a (b ++ (c ++ (d ++ (e ++ f)))) x (Contains-append_right b (c ++ (d ++ (e ++ f))) x (Contains-append_right c (d ++ (e ++ f)) x (Contains-append_right d (e ++ f) x (Contains-append_left e (f) x h))))
+  in5 h = Contains-append_right a (b ++ (c ++ (d ++ (e ++ f)))) x
+      (Contains-append_right b (c ++ (d ++ (e ++ f))) x (Contains-append_right c (d ++ (e ++ f)) x (Contains-append_right d (e ++ f) x (Contains-append_left e (f) x h))))
 
   pub in6 : Contains f x → Contains (a ++ (b ++ (c ++ (d ++ (e ++ f))))) x
-  in6 h = Contains-append_right a (b ++ (c ++ (d ++ (e ++ f)))) x (Contains-append_right b (c ++ (d ++ (e ++ f))) x (Contains-append_right c (d ++ (e ++ f)) x (Contains-append_right d (e ++ f) x (Contains-append_right e (f) x h))))
+  in6 h = Contains-append_right a (b ++ (c ++ (d ++ (e ++ f)))) x
+      (Contains-append_right b (c ++ (d ++ (e ++ f))) x (Contains-append_right c (d ++ (e ++ f)) x (Contains-append_right d (e ++ f) x (Contains-append_right e (f) x h))))
 
-  pub six_cases : {P : Type 0} → (Contains a x → P) → (Contains b x → P) → (Contains c x → P) → (Contains d x → P) → (Contains e x → P) → (Contains f x → P) → Contains (a ++ (b ++ (c ++ (d ++ (e ++ f))))) x → P
-  six_cases p1 p2 p3 p4 p5 p6 h0 = elim (Contains-append_cases a (b ++ (c ++ (d ++ (e ++ f)))) x h0) [ inl k ↦ p1 k | inr h1 ↦ elim (Contains-append_cases b (c ++ (d ++ (e ++ f))) x h1) [ inl k ↦ p2 k | inr h2 ↦ elim (Contains-append_cases c (d ++ (e ++ f)) x h2) [ inl k ↦ p3 k | inr h3 ↦ elim (Contains-append_cases d (e ++ f) x h3) [ inl k ↦ p4 k | inr h4 ↦ elim (Contains-append_cases e f x h4) [ inl k ↦ p5 k | inr k ↦ p6 k ] ] ] ] ]
+  pub six_cases : {P : Type 0} → (Contains a x → P) → (Contains b x → P) → (Contains c x → P) → (Contains d x → P)
+      → (Contains e x → P) → (Contains f x → P) → Contains (a ++ (b ++ (c ++ (d ++ (e ++ f))))) x → P
+  six_cases p1 p2 p3 p4 p5 p6 h0 = elim (Contains-append_cases a (b ++ (c ++ (d ++ (e ++ f)))) x h0) [
+    | inl k ↦ p1 k
+    | inr h1 ↦ elim (Contains-append_cases b (c ++ (d ++ (e ++ f))) x h1) [
+      | inl k ↦ p2 k
+      | inr h2 ↦ elim (Contains-append_cases c (d ++ (e ++ f)) x h2)
+          [ inl k ↦ p3 k | inr h3 ↦ elim (Contains-append_cases d (e ++ f) x h3) [ inl k ↦ p4 k | inr h4 ↦ elim (Contains-append_cases e f x h4) [ inl k ↦ p5 k | inr k ↦ p6 k ] ] ]
+    ]
+  ]

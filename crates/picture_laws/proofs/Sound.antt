@@ -28,7 +28,8 @@ use Rattle.heap_pictures.specs.declared.pictures.Spot.{Spot}
 use Rattle.heap_pictures.specs.declared.pictures.Spot.TheVariants.{Object, Peer, Handle, Slot, Temporary}
 use Rattle.heap_pictures.specs.declared.pictures.Style.{Style}
 use Rattle.heap_pictures.specs.declared.pictures.Style.TheVariants.{Full, Weak, Cleared, Gone}
-use Rattle.heap_pictures.specs.Drawing.{all_slots, arrows_of, box_arrow, box_of, boxes, drawing_of, field_arrow, field_arrows, grip_style, handle_list, held_arrow, is_box, is_tabled, is_there, numbers_to, object_arrows, owned, ref_arrow, ref_arrows, slot_arrow, slot_arrows, spot_of, target_of, tie, ties}
+use Rattle.heap_pictures.specs.Drawing.{all_slots, arrows_of, box_arrow, box_of, boxes, drawing_of, field_arrow, field_arrows, grip_style, handle_list, held_arrow, is_box, is_tabled, is_there}
+use Rattle.heap_pictures.specs.Drawing.{numbers_to, object_arrows, owned, ref_arrow, ref_arrows, slot_arrow, slot_arrows, spot_of, target_of, tie, ties}
 use Rattle.heap_pictures.specs.Flags.{is_in}
 use Rattle.picture_laws.specs.Paths.{BeginsAt, IsBox, IsPathTo, IsWay, Leads, spot_of_row}
 use Rattle.picture_laws.proofs.Nodes.{in_range, in_one, end_walk, six_cases}
@@ -65,7 +66,8 @@ field_shown side h a c =
     let t = Contains-flat_map_cases (field_arrow side h x) (range_with_len 0 (length (fields_of h x))) a s.1 in
     by x t.0 ((is_live-exact h x).0 s.0) (kept_target h (slot (fields_of h x) t.0)) refl t.2
   where
-    by : (x i : ℕ) → IsLive h x → (o : Option ℕ) → kept_target h (slot (fields_of h x) i) ≡ o → Contains (elim o [ None ↦ [] | Some y ↦ arrow.Field (spot_of side x) i (spot_of side y) ∷ [] ]) a → FieldShown side h a
+    by : (x i : ℕ) → IsLive h x → (o : Option ℕ) → kept_target h (slot (fields_of h x) i) ≡ o
+        → Contains (elim o [ None ↦ [] | Some y ↦ arrow.Field (spot_of side x) i (spot_of side y) ∷ [] ]) a → FieldShown side h a
     by x i l None e c = absurd (Contains-nil a c)
     by x i l (Some y) e c =
         let k = kept-live h (slot (fields_of h x) i) y e in
@@ -123,7 +125,8 @@ module _ (v : View) (len : length v.joint.graph.managed.held ≡ length v.joint.
       let r = Contains-flat_map_cases (tie v) (numbers_to (length g.managed.heap.fields)) a c in
       by r.0 (handle_of g.managed r.0) refl r.2
     where
-      shown : (m h p : ℕ) → handle_of g.managed m ≡ Some h → peer_of g.peers.issued h ≡ Some p → (b : Bool) → is_live g.peers.heap p ≡ b → (s t : Style) → Contains (if b then arrow.Held m h p s ∷ [] else arrow.Faded m h t ∷ []) a → Sound g a
+      shown : (m h p : ℕ) → handle_of g.managed m ≡ Some h → peer_of g.peers.issued h ≡ Some p → (b : Bool) → is_live g.peers.heap p ≡ b
+          → (s t : Style) → Contains (if b then arrow.Held m h p s ∷ [] else arrow.Faded m h t ∷ []) a → Sound g a
       shown m h p e f true l s t c =
           subst (Sound g) (single _ a c) record { handle = h; holds = holds-handle_of g.managed m h len e; leads = f; live = (is_live-exact g.peers.heap p).0 l }
       shown m h p e f false l s t c = subst (Sound g) (single _ a c) tt
@@ -146,7 +149,8 @@ module _ (v : View) (len : length v.joint.graph.managed.held ≡ length v.joint.
       by i (Some x) e c = (let t = in_one (is_there v.joint (target_of s x)) (arrow.Names (Slot s i) (target_of s x)) a c in subst (Sound g) t.1 (tt, root x (filled xs i x e)))
 
   all_slots_sound : (a : Arrow) → Contains (all_slots v.joint) a → Sound g a
-  all_slots_sound a c = six_cases (slot_arrows v.joint slots.ManagedVars g.managed.heap.vars) (slot_arrows v.joint slots.ManagedStatics g.managed.heap.statics) (slot_arrows v.joint slots.Pins g.managed.pins)
+  all_slots_sound a c = six_cases (slot_arrows v.joint slots.ManagedVars g.managed.heap.vars)
+      (slot_arrows v.joint slots.ManagedStatics g.managed.heap.statics) (slot_arrows v.joint slots.Pins g.managed.pins)
       (slot_arrows v.joint slots.PeerVars g.peers.heap.vars) (slot_arrows v.joint slots.PeerStatics g.peers.heap.statics) (slot_arrows v.joint slots.Names g.peers.names) a
       (slots_sound slots.ManagedVars g.managed.heap.vars (λ x k. inl (inl k)) a)
       (slots_sound slots.ManagedStatics g.managed.heap.statics (λ x k. inl (inr k)) a)
@@ -161,7 +165,8 @@ module _ (v : View) (len : length v.joint.graph.managed.held ≡ length v.joint.
       let r = Contains-flat_map_cases (λ h. box_of v.joint (owned v.joint) h (numbered_at g.peers.issued h)) (numbers_to (length g.peers.issued)) a c in
       by r.0 (numbered_at g.peers.issued r.0) refl r.2
     where
-      root : (h : ℕ) (i : Issued) → numbered_at g.peers.issued h ≡ Some i → numbered_at g.removed h ≡ Some false → is_box (owned v.joint) h i ≡ true → (hd : Hold) → i.hold ≡ hd → (st : Strength) → i.strength ≡ st
+      root : (h : ℕ) (i : Issued) → numbered_at g.peers.issued h ≡ Some i → numbered_at g.removed h ≡ Some false
+          → is_box (owned v.joint) h i ≡ true → (hd : Hold) → i.hold ≡ hd → (st : Strength) → i.strength ≡ st
           → Sound g (arrow.Grips h i.peer (if is_held hd then Full else if is_strong st then Full else Weak))
       root h i e r b held eh st es = inr (inr record {
         handle = h;
@@ -174,7 +179,8 @@ module _ (v : View) (len : length v.joint.graph.managed.held ≡ length v.joint.
       root h i e r b raw eh strong es = inr (inl record { handle = h; row = i; is_handle = record { issued = e; kept = r }; raw_hold = eh; strong_made = es; leads = refl })
       root h i e r b raw eh weak es = tt
 
-      box : (h : ℕ) (i : Issued) → numbered_at g.peers.issued h ≡ Some i → numbered_at g.removed h ≡ Some false → is_box (owned v.joint) h i ≡ true → (b : Bool) → Contains (if b then arrow.Grips h i.peer (grip_style i) ∷ [] else arrow.Stub h ∷ []) a → Sound g a
+      box : (h : ℕ) (i : Issued) → numbered_at g.peers.issued h ≡ Some i → numbered_at g.removed h ≡ Some false → is_box (owned v.joint) h i ≡ true
+          → (b : Bool) → Contains (if b then arrow.Grips h i.peer (grip_style i) ∷ [] else arrow.Stub h ∷ []) a → Sound g a
       box h i e r b true c = subst (Sound g) (single _ a c) (root h i e r b i.hold refl i.strength refl)
       box h i e r b false c = subst (Sound g) (single _ a c) tt
 

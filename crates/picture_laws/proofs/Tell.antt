@@ -19,10 +19,12 @@ use Rattle.picture_laws.proofs.Sound.{path_reached}
 use Rattle.picture_laws.proofs.Full.{reached_path}
 
 objects_are : (v : View) → map (λ (n : ObjectNode). n.m) (drawing_of v).objects ≡ filter (is_live v.joint.graph.managed.heap) (numbers_to (length v.joint.graph.managed.heap.fields))
-objects_are v = keys (is_live v.joint.graph.managed.heap) (λ m. record { m = m; kind = numbered_at v.joint.graph.managed.kinds m }) (λ (n : ObjectNode). n.m) (λ x. refl) (numbers_to (length v.joint.graph.managed.heap.fields))
+objects_are v = keys (is_live v.joint.graph.managed.heap) (λ m. record { m = m; kind = numbered_at v.joint.graph.managed.kinds m })
+    (λ (n : ObjectNode). n.m) (λ x. refl) (numbers_to (length v.joint.graph.managed.heap.fields))
 
 peers_are : (v : View) → map (λ (n : PeerNode). n.p) (drawing_of v).peers ≡ filter (is_live v.joint.graph.peers.heap) (numbers_to (length v.joint.graph.peers.heap.fields))
-peers_are v = keys (is_live v.joint.graph.peers.heap) (λ p. record { p = p; sort = sort_of v.joint.graph.peers p }) (λ (n : PeerNode). n.p) (λ x. refl) (numbers_to (length v.joint.graph.peers.heap.fields))
+peers_are v = keys (is_live v.joint.graph.peers.heap) (λ p. record { p = p; sort = sort_of v.joint.graph.peers p })
+    (λ (n : PeerNode). n.p) (λ x. refl) (numbers_to (length v.joint.graph.peers.heap.fields))
 
 live_in : (h : Heap) (x : ℕ) → Contains (filter (is_live h) (numbers_to (length h.fields))) x ↔ IsLive h x
 live_in h x = (

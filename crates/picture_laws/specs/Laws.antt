@@ -29,4 +29,5 @@ PathsAreReached v = (x : Row) → HasNode (drawing_of v) x → IsPathTo (drawing
 -- so it is of each state in which every managed object has a place for a handle, as every state of the joint machine
 -- has
 abbrev pub PicturesTell : Type 0
-PicturesTell = (v : View) → length v.joint.graph.managed.held ≡ length v.joint.graph.managed.heap.fields → NodesAreUnfreed v × HasOneNodeEach v × PathsAreReached v
+PicturesTell = (v : View) → length v.joint.graph.managed.held ≡ length v.joint.graph.managed.heap.fields
+    → NodesAreUnfreed v × HasOneNodeEach v × PathsAreReached v

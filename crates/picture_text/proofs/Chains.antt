@@ -16,8 +16,10 @@ c5 o a b c d e n1 n2 n3 n4 n5 p1 p2 p3 p4 p5 = c2 o a (b ++ (c ++ (d ++ e))) n1 
 pub c6 : (o a b c d e f n1 n2 n3 n4 n5 n6 : List ℕ) → n1 ≡ o ++ a → n2 ≡ n1 ++ b → n3 ≡ n2 ++ c → n4 ≡ n3 ++ d → n5 ≡ n4 ++ e → n6 ≡ n5 ++ f → n6 ≡ o ++ (a ++ (b ++ (c ++ (d ++ (e ++ f)))))
 c6 o a b c d e f n1 n2 n3 n4 n5 n6 p1 p2 p3 p4 p5 p6 = c2 o a (b ++ (c ++ (d ++ (e ++ f)))) n1 n6 p1 (c5 n1 b c d e f n2 n3 n4 n5 n6 p2 p3 p4 p5 p6)
 
-pub c7 : (o a b c d e f g n1 n2 n3 n4 n5 n6 n7 : List ℕ) → n1 ≡ o ++ a → n2 ≡ n1 ++ b → n3 ≡ n2 ++ c → n4 ≡ n3 ++ d → n5 ≡ n4 ++ e → n6 ≡ n5 ++ f → n7 ≡ n6 ++ g → n7 ≡ o ++ (a ++ (b ++ (c ++ (d ++ (e ++ (f ++ g))))))
+pub c7 : (o a b c d e f g n1 n2 n3 n4 n5 n6 n7 : List ℕ) → n1 ≡ o ++ a → n2 ≡ n1 ++ b → n3 ≡ n2 ++ c → n4 ≡ n3 ++ d
+    → n5 ≡ n4 ++ e → n6 ≡ n5 ++ f → n7 ≡ n6 ++ g → n7 ≡ o ++ (a ++ (b ++ (c ++ (d ++ (e ++ (f ++ g))))))
 c7 o a b c d e f g n1 n2 n3 n4 n5 n6 n7 p1 p2 p3 p4 p5 p6 p7 = c2 o a (b ++ (c ++ (d ++ (e ++ (f ++ g))))) n1 n7 p1 (c6 n1 b c d e f g n2 n3 n4 n5 n6 n7 p2 p3 p4 p5 p6 p7)
 
-pub c8 : (o a b c d e f g h n1 n2 n3 n4 n5 n6 n7 n8 : List ℕ) → n1 ≡ o ++ a → n2 ≡ n1 ++ b → n3 ≡ n2 ++ c → n4 ≡ n3 ++ d → n5 ≡ n4 ++ e → n6 ≡ n5 ++ f → n7 ≡ n6 ++ g → n8 ≡ n7 ++ h → n8 ≡ o ++ (a ++ (b ++ (c ++ (d ++ (e ++ (f ++ (g ++ h)))))))
+pub c8 : (o a b c d e f g h n1 n2 n3 n4 n5 n6 n7 n8 : List ℕ) → n1 ≡ o ++ a → n2 ≡ n1 ++ b → n3 ≡ n2 ++ c → n4 ≡ n3 ++ d
+    → n5 ≡ n4 ++ e → n6 ≡ n5 ++ f → n7 ≡ n6 ++ g → n8 ≡ n7 ++ h → n8 ≡ o ++ (a ++ (b ++ (c ++ (d ++ (e ++ (f ++ (g ++ h)))))))
 c8 o a b c d e f g h n1 n2 n3 n4 n5 n6 n7 n8 p1 p2 p3 p4 p5 p6 p7 p8 = c2 o a (b ++ (c ++ (d ++ (e ++ (f ++ (g ++ h)))))) n1 n8 p1 (c7 n1 b c d e f g h n2 n3 n4 n5 n6 n7 n8 p2 p3 p4 p5 p6 p7 p8)

@@ -1,5 +1,6 @@
 -- The text of a picture, in DOT.
-use Rattle.std.specs.Prelude.{ℕ, ◌+◌, ◌/◌, ◌%◌, ◌==◌, ◌||◌, if◌then◌else◌, List, [], ◌∷◌, ◌++◌, codes, decimal, Option, Some, None}
+use Rattle.std.specs.Prelude.{ℕ, ◌+◌, ◌/◌, ◌%◌, ◌==◌, ◌||◌, if◌then◌else◌, List, [], ◌∷◌, ◌++◌, codes, decimal, Option}
+use Rattle.std.specs.Prelude.{Some, None}
 use Rattle.std.specs.List.{flat_map}
 use Rattle.joint_machine.specs.declared.names.Kind.{Kind}
 use Rattle.joint_machine.specs.declared.names.Kind.TheVariants as kind
@@ -68,7 +69,8 @@ sort_word sort.Framework = codes "framework"
 
 -- a node with its name and a word
 abbrev pub node_text : ℕ → ℕ → List ℕ → List ℕ
-node_text letter n word = codes "    " ++ (named letter n ++ (codes " [label=\"" ++ (named letter n ++ 32 ∷ (word ++ codes "\"];\n"))))
+node_text letter n word = codes "    " ++
+    (named letter n ++ (codes " [label=\"" ++ (named letter n ++ 32 ∷ (word ++ codes "\"];\n"))))
 
 abbrev pub object_text : ObjectNode → List ℕ
 object_text n = node_text 109 n.m (kind_word n.kind)
@@ -99,12 +101,18 @@ point_text _ = []
 -- the lines of an arrow: a box or a point has its shape on a line before it
 abbrev pub arrow_text : Arrow → List ℕ
 arrow_text (arrow.Field from i to) = way_text from to ++ (codes " [label=\"" ++ (decimal i ++ codes "\"];\n"))
-arrow_text (arrow.Held m h p s) = way_text (spot.Object m) (spot.Peer p) ++ (codes " [dir=both,penwidth=2,label=\"h" ++ (decimal h ++ 34 ∷ (style_text s ++ codes "];\n")))
-arrow_text (arrow.Faded m h s) = shape_text (spot.Handle h) (codes " [shape=plaintext,fontcolor=gray];\n") ++ (way_text (spot.Object m) (spot.Handle h) ++ (codes " [penwidth=2" ++ (style_text s ++ codes "];\n")))
+arrow_text (arrow.Held m h p s) = way_text (spot.Object m)
+    (spot.Peer p) ++ (codes " [dir=both,penwidth=2,label=\"h" ++ (decimal h ++ 34 ∷ (style_text s ++ codes "];\n")))
+arrow_text (arrow.Faded m h s) = shape_text (spot.Handle h)
+    (codes " [shape=plaintext,fontcolor=gray];\n") ++
+    (way_text (spot.Object m) (spot.Handle h) ++ (codes " [penwidth=2" ++ (style_text s ++ codes "];\n")))
 arrow_text (arrow.Names from to) = shape_text from (codes " [shape=box];\n") ++ (way_text from to ++ codes ";\n")
-arrow_text (arrow.Grips h p s) = shape_text (spot.Handle h) (codes " [shape=box];\n") ++ (way_text (spot.Handle h) (spot.Peer p) ++ (codes " [penwidth=2" ++ (style_text s ++ codes "];\n")))
+arrow_text (arrow.Grips h p s) = shape_text (spot.Handle h)
+    (codes " [shape=box];\n") ++ (way_text (spot.Handle h)
+    (spot.Peer p) ++ (codes " [penwidth=2" ++ (style_text s ++ codes "];\n")))
 arrow_text (arrow.Stub h) = shape_text (spot.Handle h) (codes " [shape=box,color=gray,fontcolor=gray];\n")
-arrow_text (arrow.Refers from to) = point_text from ++ (point_text to ++ (way_text from to ++ codes " [color=\"#0072b2\"];\n"))
+arrow_text (arrow.Refers from to) = point_text
+    from ++ (point_text to ++ (way_text from to ++ codes " [color=\"#0072b2\"];\n"))
 
 -- objects get a mark
 abbrev pub mark_text : List ℕ → ℕ → List ℕ
@@ -115,7 +123,8 @@ marked_text mark ms = flat_map (mark_text mark) ms
 
 -- the frame of the dead part, where there is one
 abbrev pub frame_text : List ℕ → List ℕ
-frame_text dead = codes "    subgraph cluster_dead {\n    label=\"dead part\";\n    style=dashed;\n" ++ (marked_text (codes ";\n") dead ++ codes "    }\n")
+frame_text dead = codes "    subgraph cluster_dead {\n    label=\"dead part\";\n    style=dashed;\n"
+    ++ (marked_text (codes ";\n") dead ++ codes "    }\n")
 
 abbrev pub dead_text : List ℕ → List ℕ
 dead_text [] = []
@@ -123,10 +132,13 @@ dead_text (m ∷ ms) = frame_text (m ∷ ms)
 
 -- the frames of both heaps: candidates have a double border
 abbrev pub managed_text : Drawing → List ℕ
-managed_text d = codes "  subgraph cluster_managed {\n    label=\"managed heap\";\n" ++ (flat_map object_text d.objects ++ (marked_text (codes " [peripheries=2];\n") d.candidates ++ (dead_text d.dead ++ codes "  }\n")))
+managed_text d = codes "  subgraph cluster_managed {\n    label=\"managed heap\";\n" ++
+    (flat_map object_text d.objects ++ (marked_text
+    (codes " [peripheries=2];\n") d.candidates ++ (dead_text d.dead ++ codes "  }\n")))
 
 abbrev pub peers_text : Drawing → List ℕ
-peers_text d = codes "  subgraph cluster_peers {\n    label=\"peer heap\";\n" ++ (flat_map peer_text d.peers ++ codes "  }\n")
+peers_text d = codes "  subgraph cluster_peers {\n    label=\"peer heap\";\n"
+    ++ (flat_map peer_text d.peers ++ codes "  }\n")
 
 -- the first lines, with the title
 abbrev pub head_text : List ℕ → List ℕ
@@ -134,4 +146,5 @@ head_text title = codes "digraph heaps {\n  label=\"" ++ (quoted title ++ codes 
 
 -- the whole
 abbrev pub picture_text : List ℕ → Drawing → List ℕ
-picture_text title d = head_text title ++ (managed_text d ++ (peers_text d ++ (flat_map arrow_text d.arrows ++ codes "}\n")))
+picture_text title d = head_text title ++
+    (managed_text d ++ (peers_text d ++ (flat_map arrow_text d.arrows ++ codes "}\n")))

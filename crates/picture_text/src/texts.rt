@@ -2,7 +2,8 @@
 
 ghost use Rattle.std.specs.Prelude.{◌≡◌, ◌++◌, IfOk, OnOk, codes};
 ghost use Rattle.std.specs.List.{flat_map};
-ghost use Rattle.picture_text.specs.Texts.{arrow_text, dead_text, frame_text, head_text, managed_text, mark_text, marked_text, node_text, object_text, peer_text, peers_text, picture_text};
+ghost use Rattle.picture_text.specs.Texts.{arrow_text, dead_text, frame_text, head_text, managed_text, mark_text};
+ghost use Rattle.picture_text.specs.Texts.{marked_text, node_text, object_text, peer_text, peers_text, picture_text};
 
 use crate::arrows::put_arrow;
 use crate::pieces::{put, put_byte, put_named, put_quoted};
@@ -124,7 +125,8 @@ fn put_drawn_objects(picture: &Picture, text: &mut Vec<u8>) -> Result<(), AllocE
 
 // Of its candidates.
 fn put_drawn_candidates(picture: &Picture, text: &mut Vec<u8>) -> Result<(), AllocError>
-    ensures { OnOk result (text.new.items ≡ text.old.items ++ marked_text (codes " [peripheries=2];\n") picture.now.candidates) }
+    ensures { OnOk result (text.new.items ≡ text.old.items ++ marked_text
+        (codes " [peripheries=2];\n") picture.now.candidates) }
 {
     put_marked(picture.candidates(), b" [peripheries=2];\n", text)
 }

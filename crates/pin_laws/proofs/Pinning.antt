@@ -60,7 +60,8 @@ count-by ps t (op.Line (act.Take v)) _ = refl
 count-by ps t _ r = refl
 
 -- a pin stays as it is, unless its thread's read gives an object or its thread takes
-stays-by : (ps : List (Option ℕ)) (u : ℕ) (t : Thread) (o : Op) (r : Reply) → ((x : MNum) → is_read o ≡ true → r ≡ says.M x → u ≡ thread_number t → ⊥) → ((v : Var) → o ≡ op.Line (act.Take v) → u ≡ thread_number t → ⊥)
+stays-by : (ps : List (Option ℕ)) (u : ℕ) (t : Thread) (o : Op) (r : Reply)
+    → ((x : MNum) → is_read o ≡ true → r ≡ says.M x → u ≡ thread_number t → ⊥) → ((v : Var) → o ≡ op.Line (act.Take v) → u ≡ thread_number t → ⊥)
     → slot (pins_by ps t o r) u ≡ slot ps u
 stays-by ps u t (op.Line (act.Read k)) (says.M m) reads takes = slot-other ps (thread_number t) u (Some m.0) (reads m refl refl)
 stays-by ps u t (op.Line (act.Read k)) _ reads takes = refl
@@ -123,7 +124,8 @@ module _ (whole : List Noted) (cells : List (Option ℕ)) where
       by false w = w.event
 
   -- a filled pin stays, unless its thread takes
-  pin-stays : (s : Linkage) (n : Noted) (u m : ℕ) → Comes s n → slot (pins_of s) u ≡ Some m → ((v : Var) → n.entry.made.caller ≡ M u → n.entry.made.op ≡ op.Line (act.Take v) → ⊥) → slot (pins_of (entry_after s n)) u ≡ Some m
+  pin-stays : (s : Linkage) (n : Noted) (u m : ℕ) → Comes s n → slot (pins_of s) u ≡ Some m
+      → ((v : Var) → n.entry.made.caller ≡ M u → n.entry.made.op ≡ op.Line (act.Take v) → ⊥) → slot (pins_of (entry_after s n)) u ≡ Some m
   pin-stays s n u m may h takes = ap (λ ps. slot ps u) (pins-after s n may) ∙ (stays-by (pins_of s) u n.entry.made.caller n.entry.made.op n.entry.made.reply gives
       (λ v e q. takes v (taker n.entry.made.caller v (subst (IsEvent n.entry.made.caller) e (event-of s n may)) ∙ ap (λ z. M z) (sym q)) e) ∙ h)
     where
@@ -131,13 +133,15 @@ module _ (whole : List Noted) (cells : List (Option ℕ)) where
       gives x e r q =
           let k = reads-some n.entry.made.op e in
           let w = (subst (λ b. EntryMayCome b whole cells s n) e may).1 k.0 k.1 in
-          let a : says.M x ≡ (read_cell s.managed.managed (thread_number n.entry.made.caller) k.0).reply = subst (λ z. IsReadReply whole cells s.managed.managed n.entry.number n.entry.made.caller k.0 z) r w in
+          let a : says.M x ≡ (read_cell s.managed.managed (thread_number n.entry.made.caller) k.0).reply = subst
+          (λ z. IsReadReply whole cells s.managed.managed n.entry.number n.entry.made.caller k.0 z) r w in
           let b = filled s.managed.managed (thread_number n.entry.made.caller) k.0 m (ap (λ z. slot (pins_of s) z) (sym q) ∙ h) in
           let f : true ≡ false = ap gives_object (a ∙ b) in
           cc
 
   -- a read that gives an object fills its thread's pin
-  pin-filled : (s : Linkage) (n : Noted) (u k m : ℕ) → Comes s n → length (pins_of s) ≡ 9 → n.entry.made.caller ≡ M u → ReadsCell n.entry.made.op k → n.entry.made.reply ≡ says.M record { 0 = m } → slot (pins_of (entry_after s n)) u ≡ Some m
+  pin-filled : (s : Linkage) (n : Noted) (u k m : ℕ) → Comes s n → length (pins_of s) ≡ 9 → n.entry.made.caller ≡ M u
+      → ReadsCell n.entry.made.op k → n.entry.made.reply ≡ says.M record { 0 = m } → slot (pins_of (entry_after s n)) u ≡ Some m
   pin-filled s n u k m may nine t r e =
       let is = is-read n.entry.made.op k r in
       let few = reader-few u n.entry.made.op is (subst (λ z. IsEvent z n.entry.made.op) t (event-of s n may)) in
@@ -182,17 +186,20 @@ module _ (noted : List Noted) (w : IsLawfulReading noted) where
         (λ c. ap (λ s. slot (pins_of s) t) (reading-after noted opening_linkage (suc i + more) c.0 c.2)
         ∙ pin-stays w.0 w.1 (reading_at noted (suc i + more)) c.0 t m (reading-comes w.0 w.1 noted opening_linkage (suc i + more) c.0 w.2 c.2) before
         (λ v e f. none (suc i + more) (omega arith) (omega arith) (record { entry = c.0; there = c.2; caller = e; var = v; event = f })))
-        (λ c. ap (λ ns. slot (pins_of (replayed_reading opening_linkage ns)) t) (take_all (suc (suc i + more)) noted (let l = c.0 in omega (arith, l)) ∙ sym (take_all (suc i + more) noted c.0)) ∙ before)
+        (λ c. ap (λ ns. slot (pins_of (replayed_reading opening_linkage ns)) t) (take_all (suc (suc i + more)) noted (let l = c.0 in omega (arith, l)) ∙ sym (take_all (suc i + more) noted c.0))
+        ∙ before)
         (slice_get_cases noted (suc i + more)).1
 
     pinned-at : (j : ℕ) → i < j → NoTakeBetween noted t i j → IsPinnedAt noted j t m
     pinned-at j l none =
         let same : suc i + (j - suc i) ≡ j = omega (arith, l) in
-        let p : slot (pins_of (reading_at noted j)) t ≡ Some m = subst (λ z. slot (pins_of (reading_at noted z)) t ≡ Some m) same (pin-since (j - suc i) (subst (NoTakeBetween noted t i) (sym same) none)) in
+        let p : slot (pins_of (reading_at noted j)) t ≡ Some m = subst (λ z. slot (pins_of (reading_at noted z)) t ≡ Some m) same
+        (pin-since (j - suc i) (subst (NoTakeBetween noted t i) (sym same) none)) in
         record { pin = p; live = (kept j).roots m (inr (slot-Contains (pins_of (reading_at noted j)) t m p)) }
 
     -- an entry that is no read and no take leaves the object in the pin: what it frees isn't that
-    after-it : (j : ℕ) (n : Noted) (o : Op) (told : Told) → i < j → NoTakeBetween noted t i j → slice_get noted j ≡ Some n → n.entry.made.op ≡ o → n.told ≡ told → is_read o ≡ false → ((v : Var) → o ≡ op.Line (act.Take v) → ⊥)
+    after-it : (j : ℕ) (n : Noted) (o : Op) (told : Told) → i < j → NoTakeBetween noted t i j → slice_get noted j ≡ Some n
+        → n.entry.made.op ≡ o → n.told ≡ told → is_read o ≡ false → ((v : Var) → o ≡ op.Line (act.Take v) → ⊥)
         → Contains (managed_after (reading_at noted j).managed (record n.entry.made { op = o }) told (is_peer_event n.entry.made.caller o)).managed.heap.freed m → ⊥
     after-it j n o told l none there e f is_none no_take c =
         (pinned-at (suc j) (omega (arith, l)) still).live.kept (subst (λ (z : ManagedReplay). Contains z.managed.heap.freed m) (sym after) c)
@@ -216,7 +223,8 @@ pinned_objects_live noted w i j t m g l none = pinned-at noted w i t m g j l non
 pub given_objects_live : GivenObjectsLive
 given_objects_live noted w i t m g =
     let p = pinned-at noted w i t m g (suc i) (omega arith) (λ x l k takes. omega (arith, l, k)) in
-    let same = ap (λ (s : Linkage). s.managed.managed.heap) (reading-after noted opening_linkage i g.entry g.there ∙ entry-by (reading_at noted i) g.entry true (is-read g.entry.entry.made.op g.cell g.reads)) in
+    let same = ap (λ (s : Linkage). s.managed.managed.heap) (reading-after noted opening_linkage i g.entry g.there
+    ∙ entry-by (reading_at noted i) g.entry true (is-read g.entry.entry.made.op g.cell g.reads)) in
     subst (λ h. IsLive h m) same p.live
 
 abbrev frees_objects : Op → Bool

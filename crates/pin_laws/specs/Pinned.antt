@@ -43,11 +43,13 @@ pub record IsPinnedAt (noted : List Noted) (j t m : ℕ) : Type 0 where
 
 -- so it is from the read that gave the object up to the thread's next `take`, this one's own place among them
 abbrev pub PinnedObjectsLive : Type 0
-PinnedObjectsLive = (noted : List Noted) → IsLawfulReading noted → (i j t m : ℕ) → GivesAt noted i t m → i < j → NoTakeBetween noted t i j → IsPinnedAt noted j t m
+PinnedObjectsLive = (noted : List Noted) → IsLawfulReading noted → (i j t m : ℕ)
+    → GivesAt noted i t m → i < j → NoTakeBetween noted t i j → IsPinnedAt noted j t m
 
 -- no read gives an object that is freed
 abbrev pub GivenObjectsLive : Type 0
-GivenObjectsLive = (noted : List Noted) → IsLawfulReading noted → (i t m : ℕ) → GivesAt noted i t m → IsLive (reading_at noted i).managed.managed.heap m
+GivenObjectsLive = (noted : List Noted) → IsLawfulReading noted → (i t m : ℕ)
+    → GivesAt noted i t m → IsLive (reading_at noted i).managed.managed.heap m
 
 -- the entry in that place is a snapshot that frees the object
 pub record SnapFrees (noted : List Noted) (i k m : ℕ) : Type 0 where
@@ -62,8 +64,10 @@ pub record SnapFrees (noted : List Noted) (i k m : ℕ) : Type 0 where
 
 -- no snapshot and no resolution between frees it
 abbrev pub NoneFreesPinned : Type 0
-NoneFreesPinned = (noted : List Noted) → IsLawfulReading noted → (i j t m k : ℕ) → GivesAt noted i t m → i < j → NoTakeBetween noted t i j → SnapFrees noted j k m ⊎ ResolveFrees noted j k m → ⊥
+NoneFreesPinned = (noted : List Noted) → IsLawfulReading noted → (i j t m k : ℕ) → GivesAt noted i t m
+    → i < j → NoTakeBetween noted t i j → SnapFrees noted j k m ⊎ ResolveFrees noted j k m → ⊥
 
 -- and so it is in each linked history
 abbrev pub LinkedPinsHold : Type 0
-LinkedPinsHold = (h : Finished) (noted : List Noted) → IsLinkedBy h noted → (i j t m : ℕ) → GivesAt noted i t m → i < j → NoTakeBetween noted t i j → IsPinnedAt noted j t m
+LinkedPinsHold = (h : Finished) (noted : List Noted) → IsLinkedBy h noted → (i j t m : ℕ)
+    → GivesAt noted i t m → i < j → NoTakeBetween noted t i j → IsPinnedAt noted j t m

@@ -3,7 +3,8 @@
 -- is marked was marked before or is reached, the roots are marked, and a marked node waits or has all its
 -- targets marked. Once none waits, the marks are closed under the edges, so each reached node is marked, by
 -- an induction along its walk.
-use Rattle.std.proofs.Common.{◌≡◌, ℕ, zero, suc, ◌+◌, ◌<◌, ◌≤◌, ◌↔◌, ◌⊎◌, inl, inr, Bool, true, false, List, [], ◌∷◌, ◌++◌, length, Option, Some, None, set, get_or, replicate, refl, sym, ap, subst, ◌∙◌, arith, length-append, not}
+use Rattle.std.proofs.Common.{◌≡◌, ℕ, zero, suc, ◌+◌, ◌<◌, ◌≤◌, ◌↔◌, ◌⊎◌, inl, inr, Bool, true, false, List, [], ◌∷◌, ◌++◌, length, Option, Some, None, set, get_or, replicate, refl, sym, ap, subst}
+use Rattle.std.proofs.Common.{◌∙◌, arith, length-append, not}
 use Rattle.std.specs.Prelude.{Contains, slice_get}
 use Rattle.std.proofs.Math.ListN.{length-set}
 use Rattle.std.proofs.lemmas.List.Elements.{Contains-push, Contains-push_cases, Contains-append_left}
@@ -87,7 +88,8 @@ Scans-new y m s new l = record {
 }
 
 -- two steps make one, of a row that has the nodes of both
-pub Scans-then : (p q row : ℕ → Type 0) (a : List Bool) (s : List ℕ) (b : List Bool) (t : List ℕ) (c : List Bool) (u : List ℕ) → ((k : ℕ) → row k → p k ⊎ q k) → ((k : ℕ) → p k → row k) → ((k : ℕ) → q k → row k) → Scans p a s b t → Scans q b t c u → Scans row a s c u
+pub Scans-then : (p q row : ℕ → Type 0) (a : List Bool) (s : List ℕ) (b : List Bool) (t : List ℕ) (c : List Bool) (u : List ℕ)
+    → ((k : ℕ) → row k → p k ⊎ q k) → ((k : ℕ) → p k → row k) → ((k : ℕ) → q k → row k) → Scans p a s b t → Scans q b t c u → Scans row a s c u
 Scans-then p q row a s b t c u split left right x y = record {
   len = y.len ∙ x.len;
   kept = λ k h. y.kept k (x.kept k h);
@@ -110,20 +112,23 @@ pub Scans-as : (p row : ℕ → Type 0) (a : List Bool) (s : List ℕ) (b : List
 Scans-as p row a s b t there back x = Scans-then p (λ k. ⊥) row a s b t b t (λ k r. inl (there k r)) back (λ k r. absurd r) x (Scans-none (λ k. ⊥) b t (λ k r. r))
 
 -- a list's nodes and one more node
-pub Scans-push : (xs : List ℕ) (y : ℕ) (a : List Bool) (s : List ℕ) (b : List Bool) (t : List ℕ) (c : List Bool) (u : List ℕ) → Scans (Contains xs) a s b t → Scans (λ z. z ≡ y) b t c u → Scans (Contains (xs ++ y ∷ [])) a s c u
+pub Scans-push : (xs : List ℕ) (y : ℕ) (a : List Bool) (s : List ℕ) (b : List Bool) (t : List ℕ) (c : List Bool) (u : List ℕ)
+    → Scans (Contains xs) a s b t → Scans (λ z. z ≡ y) b t c u → Scans (Contains (xs ++ y ∷ [])) a s c u
 Scans-push xs y a s b t c u v w = Scans-then (Contains xs) (λ z. z ≡ y) (Contains (xs ++ y ∷ [])) a s b t c u
     (λ k r. elim (Contains-push_cases xs y k r) [ inl h ↦ inl h | inr h ↦ inr (sym h) ])
     (λ k h. Contains-append_left xs (y ∷ []) k h)
     (λ k h. subst (Contains (xs ++ y ∷ [])) (sym h) (Contains-push xs y)) v w
 
 -- the same for the places of a node: one with a target, and one that is empty
-pub Scans-push_some : (xs : List (Option ℕ)) (y : ℕ) (a : List Bool) (s : List ℕ) (b : List Bool) (t : List ℕ) (c : List Bool) (u : List ℕ) → Scans (λ k. Contains xs (Some k)) a s b t → Scans (λ z. z ≡ y) b t c u → Scans (λ k. Contains (xs ++ Some y ∷ []) (Some k)) a s c u
+pub Scans-push_some : (xs : List (Option ℕ)) (y : ℕ) (a : List Bool) (s : List ℕ) (b : List Bool) (t : List ℕ) (c : List Bool) (u : List ℕ)
+    → Scans (λ k. Contains xs (Some k)) a s b t → Scans (λ z. z ≡ y) b t c u → Scans (λ k. Contains (xs ++ Some y ∷ []) (Some k)) a s c u
 Scans-push_some xs y a s b t c u v w = Scans-then (λ k. Contains xs (Some k)) (λ z. z ≡ y) (λ k. Contains (xs ++ Some y ∷ []) (Some k)) a s b t c u
     (λ k r. elim (Contains-push_cases xs (Some y) (Some k) r) [ inl h ↦ inl h | inr h ↦ inr (let e : k ≡ y = cc in e) ])
     (λ k h. Contains-append_left xs (Some y ∷ []) (Some k) h)
     (λ k h. subst (λ j. Contains (xs ++ Some y ∷ []) (Some j)) (sym h) (Contains-push xs (Some y))) v w
 
-pub Scans-push_none : (xs : List (Option ℕ)) (a : List Bool) (s : List ℕ) (b : List Bool) (t : List ℕ) → Scans (λ k. Contains xs (Some k)) a s b t → Scans (λ k. Contains (xs ++ None ∷ []) (Some k)) a s b t
+pub Scans-push_none : (xs : List (Option ℕ)) (a : List Bool) (s : List ℕ) (b : List Bool) (t : List ℕ)
+    → Scans (λ k. Contains xs (Some k)) a s b t → Scans (λ k. Contains (xs ++ None ∷ []) (Some k)) a s b t
 Scans-push_none xs a s b t v = Scans-as (λ k. Contains xs (Some k)) (λ k. Contains (xs ++ None ∷ []) (Some k)) a s b t
     (λ k r. elim (Contains-push_cases xs None (Some k) r) [ inl h ↦ h | inr h ↦ (let e : ⊥ = cc in absurd e) ])
     (λ k h. Contains-append_left xs (None ∷ []) (Some k) h) v
@@ -149,7 +154,8 @@ pub record Marking (start : ℕ → Type 0) (edge : ℕ → ℕ → Type 0) (bef
   pub room : unmarked marks + length waits ≤ unmarked before
 
 -- it stays where one waiting node is taken and its targets are marked
-pub Marking-goes : (start : ℕ → Type 0) (edge : ℕ → ℕ → Type 0) (before marks marks' : List Bool) (x : ℕ) (waits waits' : List ℕ) → IsClosed edge before → Marking start edge before marks (waits ++ x ∷ []) → Scans (edge x) marks waits marks' waits' → Marking start edge before marks' waits'
+pub Marking-goes : (start : ℕ → Type 0) (edge : ℕ → ℕ → Type 0) (before marks marks' : List Bool) (x : ℕ) (waits waits' : List ℕ) → IsClosed edge before
+    → Marking start edge before marks (waits ++ x ∷ []) → Scans (edge x) marks waits marks' waits' → Marking start edge before marks' waits'
 Marking-goes start edge before marks marks' x waits waits' closed i y =
     let here : HasMark marks x = i.marked x (Contains-push waits x) in
     record {

@@ -1,7 +1,8 @@
 -- Marks of nodes, and what a marking of a graph says. A graph is told by the number of its nodes, which are
 -- the numbers below it, and by the targets of each node, where None stands for an empty place. (Textbook:
 -- the marking of a tracing collector.)
-use Rattle.std.specs.Prelude.{◌≡◌, ℕ, ◌+◌, ◌<◌, Bool, true, false, List, [], ◌∷◌, Option, Some, Contains, slice_get, None, not, filter}
+use Rattle.std.specs.Prelude.{◌≡◌, ℕ, ◌+◌, ◌<◌, Bool, true, false, List, [], ◌∷◌, Option, Some, Contains, slice_get}
+use Rattle.std.specs.Prelude.{None, not, filter}
 
 -- node x has node y among its targets
 abbrev pub Leads : ℕ → (ℕ → List (Option ℕ)) → ℕ → ℕ → Type 0

@@ -3,7 +3,8 @@ use Rattle.std.specs.Prelude.{◌≡◌, ℕ, ◌+◌, ◌≤◌, ◌⊎◌, Boo
 use Rattle.reachability.specs.Marks.{HasMark, unmarked}
 
 -- the nodes of `row` were marked: `new` and `waits` are the marks and the waiting nodes afterwards
-pub record Scans (row : ℕ → Type 0) (old : List Bool) (waited : List ℕ) (new : List Bool) (waits : List ℕ) : Type 0 where
+pub record Scans (row : ℕ → Type 0) (old : List Bool)
+    (waited : List ℕ) (new : List Bool) (waits : List ℕ) : Type 0 where
   pub len : length new ≡ length old
   pub kept : (k : ℕ) → HasMark old k → HasMark new k
   pub done : (k : ℕ) → row k → HasMark new k

@@ -18,7 +18,8 @@
 // marked before.
 #![tactic(auto)]
 
-ghost use Rattle.std.specs.Prelude.{◌≡◌, ℕ, ◌+◌, ◌*◌, ◌%◌, ◌<◌, ◌≤◌, ◌↔◌, ◌⊎◌, List, [], ◌∷◌, Option, Some, None, All, Contains, IfOk, IfSome, length, take, slice_get, vec_capacity, vec_len};
+ghost use Rattle.std.specs.Prelude.{◌≡◌, ℕ, ◌+◌, ◌*◌, ◌%◌, ◌<◌, ◌≤◌, ◌↔◌, ◌⊎◌, List, [], ◌∷◌, Option, Some, None, All};
+ghost use Rattle.std.specs.Prelude.{Contains, IfOk, IfSome, length, take, slice_get, vec_capacity, vec_len};
 ghost use Rattle.joint_machine.specs.Walks.{Reached};
 ghost use Rattle.reachability.specs.Marks.{Leads, HasMark, IsClosed, unmarked};
 ghost use Rattle.reachability.specs.Scans.{Scans};
@@ -59,7 +60,8 @@ pub fn mark_reached<G: Walked>(g: &G, roots: &[u32], marks: &mut [bool], waiting
     requires roots { All (λ y. y < G.nodes g.now) roots.now }
     requires empty { waiting.old.items ≡ [] }
     requires room { G.nodes g.now ≤ vec_capacity waiting.old }
-    ensures marks { (k : ℕ) → HasMark marks.new k ↔ (HasMark marks.old k ⊎ Reached (Contains roots.now) (Leads (G.nodes g.now) (G.targets g.now)) k) }
+    ensures marks { (k : ℕ) → HasMark marks.new k
+        ↔ (HasMark marks.old k ⊎ Reached (Contains roots.now) (Leads (G.nodes g.now) (G.targets g.now)) k) }
     ensures closed { IsClosed (Leads (G.nodes g.now) (G.targets g.now)) marks.new }
     ensures empty { waiting.new.items ≡ [] }
     ensures room { vec_capacity waiting.new ≡ vec_capacity waiting.old }
@@ -75,7 +77,8 @@ pub fn mark_reached<G: Walked>(g: &G, roots: &[u32], marks: &mut [bool], waiting
 pub fn reached<G: Walked>(alloc: Global, g: &G, roots: &[u32]) -> Result<Vec<bool>, AllocError>
     requires roots { All (λ y. y < G.nodes g.now) roots.now }
     ensures len { IfOk result (λ v. length v.items ≡ G.nodes g.now) }
-    ensures marks { IfOk result (λ v. (k : ℕ) → HasMark v.items k ↔ Reached (Contains roots.now) (Leads (G.nodes g.now) (G.targets g.now)) k) }
+    ensures marks { IfOk result (λ v. (k : ℕ) → HasMark v.items k
+        ↔ Reached (Contains roots.now) (Leads (G.nodes g.now) (G.targets g.now)) k) }
 {
     let mut marks = vec![in alloc; false; g.len()]?;
     let mut waiting = Vec::with_capacity(alloc, g.len())?;
@@ -113,7 +116,8 @@ fn scan<G: Walked>(g: &G, x: usize, marks: &mut [bool], waiting: &mut Vec<u32>)
     requires node { x < G.nodes g.now }
     requires len { length marks.old ≡ G.nodes g.now }
     requires room { unmarked marks.old + length waiting.old.items ≤ vec_capacity waiting.old }
-    ensures scans { Scans (λ y. Contains (G.targets g.now x) (Some y)) marks.old waiting.old.items marks.new waiting.new.items }
+    ensures scans { Scans (λ y. Contains (G.targets g.now x) (Some y))
+        marks.old waiting.old.items marks.new waiting.new.items }
     ensures capacity { vec_capacity waiting.new ≡ vec_capacity waiting.old }
 {
     for i in 0..g.degree(x) {

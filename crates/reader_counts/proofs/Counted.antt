@@ -1,5 +1,6 @@
 -- The counts go on as entries come, and the tests over them are those over the past.
-use Rattle.std.proofs.Common.{◌≡◌, inl, inr, ℕ, zero, suc, ◌+◌, ◌-◌, ◌<◌, ◌≤◌, Bool, true, false, List, [], ◌∷◌, ◌++◌, length, replicate, Option, Some, None, refl, sym, ap, ◌∙◌, subst, arith, eq-eqb, ne_eqb, if◌then◌else◌}
+use Rattle.std.proofs.Common.{◌≡◌, inl, inr, ℕ, zero, suc, ◌+◌, ◌-◌, ◌<◌, ◌≤◌, Bool, true, false, List, [], ◌∷◌, ◌++◌, length, replicate, Option, Some, None, refl, sym, ap, ◌∙◌, subst, arith, eq-eqb}
+use Rattle.std.proofs.Common.{ne_eqb, if◌then◌else◌}
 use Rattle.std.specs.Prelude.{◌↔◌, nat_eq, slice_get, slice_set, slice_index, is_some}
 use Rattle.std.proofs.Math.ListN.{length-set}
 use Rattle.std.proofs.lemmas.Bool.{cases_eq, eqb-true}
@@ -44,7 +45,8 @@ most-so : (past : List Noted) (c : Counts) (t : Thread) → seen_by c t ≡ seen
 most-so past c t e a None q = (λ z. tt, λ z. subst (AtMostSeen c t) (sym q) tt)
 most-so past c t e a (Some n) q = (λ z. subst (λ x. x ≤ n) e (subst (AtMostSeen c t) q z), λ z. subst (AtMostSeen c t) (sym q) (subst (λ x. x ≤ n) (sym e) z))
 
-unknown-so : (past : List Noted) (c : Counts) (t : Thread) → seen_by c t ≡ seen past t → (a : Option CellSet) (b : Option Setting) → a ≡ kept_setting b → IsUnknownBy c t a ↔ IsUnknown t (seen past t) b
+unknown-so : (past : List Noted) (c : Counts) (t : Thread) → seen_by c t ≡ seen past t
+    → (a : Option CellSet) (b : Option Setting) → a ≡ kept_setting b → IsUnknownBy c t a ↔ IsUnknown t (seen past t) b
 unknown-so past c t e a None q = (λ z. tt, λ z. subst (IsUnknownBy c t) (sym q) tt)
 unknown-so past c t e a (Some w) q = (
   λ z. let y = subst (IsUnknownBy c t) q z in (y.0, subst (λ x. x ≤ w.count) e y.1),
@@ -82,15 +84,18 @@ place-low (P n) x = omega (arith, x)
 place-low C x = omega arith
 
 -- how many a caller has seen
-seen-go : (seen_list : List ℕ) (past : List Noted) (n : Noted) (m : ℕ) → length seen_list ≡ 17 → IsThread n.entry.made.caller → m ≡ managed_count (n ∷ past) → (t : Thread) → IsThread t → slice_index seen_list (caller_place t) ≡ seen past t
+seen-go : (seen_list : List ℕ) (past : List Noted) (n : Noted) (m : ℕ) → length seen_list ≡ 17 → IsThread n.entry.made.caller
+    → m ≡ managed_count (n ∷ past) → (t : Thread) → IsThread t → slice_index seen_list (caller_place t) ≡ seen past t
     → slice_index (slice_set seen_list (caller_place n.entry.made.caller) m) (caller_place t) ≡ seen (n ∷ past) t
 seen-go seen_list past n m long th e t tt' old = by (is_thread n.entry.made.caller t) refl
   where
-    by : (b : Bool) → is_thread n.entry.made.caller t ≡ b → slice_index (slice_set seen_list (caller_place n.entry.made.caller) m) (caller_place t) ≡ (if b then managed_count (n ∷ past) else seen past t)
+    by : (b : Bool) → is_thread n.entry.made.caller t ≡ b → slice_index (slice_set seen_list (caller_place n.entry.made.caller) m)
+        (caller_place t) ≡ (if b then managed_count (n ∷ past) else seen past t)
     by true q =
         let same = same_thread n.entry.made.caller t q in
         let low = place-low n.entry.made.caller th in
-        subst (λ z. slice_index (slice_set seen_list (caller_place n.entry.made.caller) m) (caller_place z) ≡ managed_count (n ∷ past)) same (get_or-set_same seen_list (caller_place n.entry.made.caller) m 0 (omega (arith, low, long)) ∙ e)
+        subst (λ z. slice_index (slice_set seen_list (caller_place n.entry.made.caller) m) (caller_place z) ≡ managed_count (n ∷ past)) same
+        (get_or-set_same seen_list (caller_place n.entry.made.caller) m 0 (omega (arith, low, long)) ∙ e)
     by false q = get_or-set_other seen_list (caller_place n.entry.made.caller) (caller_place t) m 0 (λ f. apart (place-one t n.entry.made.caller tt' th f)) ∙ old
       where
         apart : t ≡ n.entry.made.caller → ⊥
@@ -111,7 +116,8 @@ cells-go : (cells : List (Option CellSet)) (t : Thread) (m : ℕ) (o : Op) (r : 
 cells-go cells t m (op.Line (act.Weak c v)) says.Ok k w long low e = elim (cases_eq c.0 k) [
   | inl same ↦ (
       let there : slice_get (slice_set cells c.0 (Some record { by = t; count = m })) k ≡ Some (Some record { by = t; count = m }) =
-      subst (λ z. slice_get (slice_set cells c.0 (Some record { by = t; count = m })) z ≡ Some (Some record { by = t; count = m })) same (slice_get-set_same cells c.0 (Some record { by = t; count = m }) (omega (arith, low, long, same))) in
+      subst (λ z. slice_get (slice_set cells c.0 (Some record { by = t; count = m })) z ≡ Some (Some record { by = t; count = m })) same
+      (slice_get-set_same cells c.0 (Some record { by = t; count = m }) (omega (arith, low, long, same))) in
       ap (λ (o : Option (Option CellSet)). elim o [ None ↦ None | Some x ↦ x ]) there ∙ ap (λ b. kept_setting (if b then Some record { caller = t; count = m } else w)) (sym (eq-eqb c.0 k same)))
   | inr other ↦ (
       ap (λ (o : Option (Option CellSet)). elim o [ None ↦ None | Some x ↦ x ]) (slice_get-set_other cells c.0 k (Some record { by = t; count = m }) (λ f. other (sym f)))
@@ -129,7 +135,8 @@ cells-many cells t m o r = refl
 abbrev place_in : List (Option ℕ) → ℕ → Option ℕ
 place_in ends k = elim (slice_get ends (k - 1)) [ None ↦ None | Some o ↦ o ]
 
-set-end : (ends : List (Option ℕ)) (j k m : ℕ) (w : Option ℕ) → 1 ≤ j → j ≤ length ends → 1 ≤ k → place_in ends k ≡ w → place_in (slice_set ends (j - 1) (Some m)) k ≡ (if nat_eq j k then Some m else w)
+set-end : (ends : List (Option ℕ)) (j k m : ℕ) (w : Option ℕ) → 1 ≤ j → j ≤ length ends → 1 ≤ k
+    → place_in ends k ≡ w → place_in (slice_set ends (j - 1) (Some m)) k ≡ (if nat_eq j k then Some m else w)
 set-end ends j k m w low high lowk e = elim (cases_eq j k) [
   | inl same ↦ (
       let there : slice_get (slice_set ends (j - 1) (Some m)) (k - 1) ≡ Some (Some m) =
@@ -203,7 +210,8 @@ module _ (n : Noted) (past : List Noted) (c : Counts) (w : AllComeBehind (n ∷ 
       let same = same-cycles q e no_snap in
       let long = k.cycles in (
         ap length is ∙ (length-set c.ended (j.0 - 1) (Some m) ∙ (long ∙ sym same)),
-        λ i low high. ap (λ z. place_in z i) is ∙ (set-end c.ended j.0 i m (ended past i) open_now.0 (let b = open_now.1 in omega (arith, b, long)) low (k.ends i low (omega (arith, high, same))) ∙ ap (λ b. if b then Some m else ended past i) (sym (test i))),
+        λ i low high. ap (λ z. place_in z i) is ∙ (set-end c.ended j.0 i m (ended past i) open_now.0 (let b = open_now.1 in omega (arith, b, long)) low (k.ends i low (omega (arith, high, same)))
+            ∙ ap (λ b. if b then Some m else ended past i) (sym (test i))),
       )
 
   last-cycle : (j : ℕ) → Ends o j → (1 ≤ j) × (j ≡ cycles)

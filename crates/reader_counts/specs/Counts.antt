@@ -1,5 +1,6 @@
 -- Counts of managed entries, and what a read may answer by them.
-use Rattle.std.specs.Prelude.{◌≡◌, ℕ, ◌+◌, ◌-◌, ◌≤◌, ◌⊎◌, Bool, false, not, ◌&&◌, if◌then◌else◌, List, [], ◌∷◌, ◌++◌, length, replicate, slice_get, slice_set, slice_index, Option, Some, None}
+use Rattle.std.specs.Prelude.{◌≡◌, ℕ, ◌+◌, ◌-◌, ◌≤◌, ◌⊎◌, Bool, false, not, ◌&&◌, if◌then◌else◌, List, [], ◌∷◌, ◌++◌}
+use Rattle.std.specs.Prelude.{length, replicate, slice_get, slice_set, slice_index, Option, Some, None}
 use Rattle.joint_machine.specs.declared.names.Thread.{Thread}
 use Rattle.joint_machine.specs.declared.lines.Act.TheVariants as act
 use Rattle.joint_machine.specs.declared.events.Made.{Made}
@@ -39,7 +40,8 @@ AtMostSeen c t (Some n) = seen_by c t ≤ n
 
 -- a thread may answer `pending k` where so many cycles were snapped and one is open or none
 abbrev pub IsPendingIn : Counts → Thread → ℕ → ℕ → Bool → Type 0
-IsPendingIn c t k cycles is_open = ((is_open ≡ false) × (k ≡ cycles + 1)) ⊎ ((1 ≤ k) × (k ≤ cycles) × AtMostSeen c t (end_in c k))
+IsPendingIn c t k cycles is_open = ((is_open ≡ false) × (k ≡ cycles + 1))
+    ⊎ ((1 ≤ k) × (k ≤ cycles) × AtMostSeen c t (end_in c k))
 
 -- a thread knows nothing of the setting of a cell
 abbrev pub IsUnknownBy : Counts → Thread → Option CellSet → Type 0

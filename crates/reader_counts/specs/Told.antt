@@ -8,7 +8,8 @@ use Rattle.check_laws.specs.Counts.{Setting, ended, setting, IsUnknown}
 use Rattle.check_laws.specs.Known.{managed_count, seen}
 use Rattle.check_laws.specs.Reads.{AllComeBehind, AreInPlace, AllReadBehind}
 use Rattle.reader_counts.specs.declared.counts.CellSet.{CellSet}
-use Rattle.reader_counts.specs.Counts.{Counts, opening_counts, seen_by, end_in, set_in, IsPendingIn, IsUnknownIn, counts_after, EndsWithin}
+use Rattle.reader_counts.specs.Counts.{Counts, opening_counts, seen_by, end_in, set_in, IsPendingIn, IsUnknownIn}
+use Rattle.reader_counts.specs.Counts.{counts_after, EndsWithin}
 
 -- a setting as it is kept
 abbrev pub kept_setting : Option Setting → Option CellSet
@@ -27,11 +28,13 @@ pub record AreCountsOf (past : List Noted) (c : Counts) : Type 0 where
 
 -- what a read may answer by them is what it may answer by the entries before it
 pub record AreTold (past : List Noted) (c : Counts) (t : Thread) (k : ℕ) : Type 0 where
-  pub pending : IsPendingIn c t k (state_of past).managed.managed.cycles (is_some (state_of past).managed.managed.cycle) ↔ MayBePendingBehind past (state_of past).managed.managed (length past) t k
+  pub pending : IsPendingIn c t k (state_of past).managed.managed.cycles (is_some (state_of past).managed.managed.cycle)
+      ↔ MayBePendingBehind past (state_of past).managed.managed (length past) t k
   pub unknown : k < 64 → IsUnknownIn c t k ↔ IsUnknown t (seen past t) (setting past k)
 
 abbrev pub ReadsAreTold : Type 0
-ReadsAreTold = (past : List Noted) (c : Counts) → AllComeBehind past → AllReadBehind past → AreInPlace past → AreCountsOf past c → (t : Thread) (k : ℕ) → IsThread t → AreTold past c t k
+ReadsAreTold = (past : List Noted) (c : Counts) → AllComeBehind past → AllReadBehind past
+    → AreInPlace past → AreCountsOf past c → (t : Thread) (k : ℕ) → IsThread t → AreTold past c t k
 
 -- so they are before the first entry, and after each further one
 pub record GoOn (n : Noted) (past : List Noted) (c : Counts) : Type 0 where
@@ -40,4 +43,5 @@ pub record GoOn (n : Noted) (past : List Noted) (c : Counts) : Type 0 where
 
 pub record CountsGoOn : Type 0 where
   pub first : AreCountsOf [] opening_counts
-  pub next : (n : Noted) (past : List Noted) (c : Counts) → AllComeBehind (n ∷ past) → AllReadBehind (n ∷ past) → AreCountsOf past c → GoOn n past c
+  pub next : (n : Noted) (past : List Noted) (c : Counts) → AllComeBehind (n ∷ past)
+      → AllReadBehind (n ∷ past) → AreCountsOf past c → GoOn n past c

@@ -3,7 +3,8 @@
 ghost use Rattle.std.specs.Prelude.{◌≡◌, ◌<◌, ◌^◌, ◌↔◌, IsTrue, OnErr, OnOk, Some, length, slice_set};
 ghost use Rattle.joint_machine.specs.Control.{caller_place};
 ghost use Rattle.joint_machine.specs.Lines.{IsNamed, IsThread, is_peer_event, is_read};
-ghost use Rattle.reader_counts.specs.Counts.{AtMostSeen, EndsWithin, IsNoSnap, IsPendingIn, IsUnknownBy, IsUnknownIn, cells_after, counts_after, ended_after, more_managed, opening_counts};
+ghost use Rattle.reader_counts.specs.Counts.{AtMostSeen, EndsWithin, IsNoSnap, IsPendingIn, IsUnknownBy, IsUnknownIn};
+ghost use Rattle.reader_counts.specs.Counts.{cells_after, counts_after, ended_after, more_managed, opening_counts};
 
 use joint_machine::{Act, Cell, Cycle, Entry, Op, Reply, Thread};
 use std::alloc::{AllocError, Global};
@@ -167,7 +168,8 @@ impl ReadCounts {
     // What an event sets: the cell's place comes to have its caller and the count.
     fn set(&mut self, caller: Thread, op: &Op, reply: &Reply)
         requires { IsNamed caller op.now }
-        ensures { self.new ≡ record self.old { cells = cells_after self.old.cells self.old.managed caller op.now reply.now } }
+        ensures { self.new ≡ record self.old
+            { cells = cells_after self.old.cells self.old.managed caller op.now reply.now } }
     {
         if let Op::Line(Act::Weak { k, .. }) = *op
             && let Reply::Ok = *reply
@@ -183,7 +185,10 @@ impl ReadCounts {
     fn count(&mut self, caller: Thread, op: &Op)
         requires thread { IsThread caller }
         requires count { self.old.managed < 2 ^ 63 }
-        ensures { self.new ≡ record self.old { managed = more_managed self.old caller op.now; seen = slice_set self.old.seen (caller_place caller) (more_managed self.old caller op.now) } }
+        ensures { self.new ≡ record self.old {
+          managed = more_managed self.old caller op.now;
+          seen = slice_set self.old.seen (caller_place caller) (more_managed self.old caller op.now);
+        } }
     {
         if !is_peers(caller, op) && !reads(op) {
             self.managed += 1;

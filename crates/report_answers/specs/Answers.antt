@@ -23,4 +23,5 @@ finding_text count finding.Unfinished = codes "illegal end\n"
 
 -- the line that names a fault: `line N: cause C NAME`, with its newline
 abbrev pub refusal_text : ReportFault → List ℕ
-refusal_text f = codes "line " ++ decimal f.line ++ codes ": cause " ++ decimal (cause_number f.cause) ++ codes " " ++ cause_name f.cause ++ codes "\n"
+refusal_text f = codes "line " ++ decimal f.line ++ codes ": cause " ++ decimal
+    (cause_number f.cause) ++ codes " " ++ cause_name f.cause ++ codes "\n"

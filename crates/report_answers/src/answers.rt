@@ -47,7 +47,8 @@ fn put_finding(finding: Finding, count: u64, line: &mut Line)
 /// `cite` or `reply`, or `illegal end` where something has to follow. [`Failed`] comes only where the sink's count of
 /// faults rose; then a beginning of the line was written. It takes no memory.
 pub fn write_finding<K: Sink>(finding: Finding, count: u64, out: &mut K) -> Result<(), Failed>
-    ensures { Writes (K.held out.old) (K.held out.new) (K.faults out.old) (K.faults out.new) result (finding_text count finding) }
+    ensures { Writes (K.held out.old) (K.held out.new) (K.faults out.old)
+        (K.faults out.new) result (finding_text count finding) }
 {
     let mut line = Line::new();
     put_finding(finding, count, &mut line);
@@ -58,7 +59,8 @@ pub fn write_finding<K: Sink>(finding: Finding, count: u64, out: &mut K) -> Resu
 /// portions the sink takes. [`Failed`] comes only where the sink's count of faults rose; then a beginning of the line
 /// was written. It takes no memory.
 pub fn write_report_refusal<K: Sink>(fault: ReportFault, out: &mut K) -> Result<(), Failed>
-    ensures { Writes (K.held out.old) (K.held out.new) (K.faults out.old) (K.faults out.new) result (refusal_text fault) }
+    ensures { Writes (K.held out.old) (K.held out.new)
+        (K.faults out.old) (K.faults out.new) result (refusal_text fault) }
 {
     let mut line = Line::new();
     line.text(b"line ");

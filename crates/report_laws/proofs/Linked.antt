@@ -47,7 +47,9 @@ with_aside : (e last : Ends) (ns : List Noted) → Runs e last (entries_of (with
 with_aside e last [] r = r
 with_aside e last (n ∷ ns) r = by (with_aside e last ns) (with_aside (ends_after e n.entry.made.reply) last ns) (is_aside n) refl r
   where
-    by : (Runs e last (entries_of (without_aside ns)) → Runs e last (entries_of ns)) → (Runs (ends_after e n.entry.made.reply) last (entries_of (without_aside ns)) → Runs (ends_after e n.entry.made.reply) last (entries_of ns)) → (b : Bool) → is_aside n ≡ b → Runs e last (entries_of (cond (not b) (n ∷ without_aside ns) (without_aside ns))) → Runs e last (n.entry ∷ entries_of ns)
+    by : (Runs e last (entries_of (without_aside ns)) → Runs e last (entries_of ns))
+        → (Runs (ends_after e n.entry.made.reply) last (entries_of (without_aside ns)) → Runs (ends_after e n.entry.made.reply) last (entries_of ns))
+        → (b : Bool) → is_aside n ≡ b → Runs e last (entries_of (cond (not b) (n ∷ without_aside ns) (without_aside ns))) → Runs e last (n.entry ∷ entries_of ns)
     by stays goes true q k =
         let both = and-true (is_read n.entry.made.op) (is_set_aside n.entry.made.reply) q in
         let p = aside-plain n.entry.made.reply both.1 in
@@ -63,7 +65,8 @@ with_aside e last (n ∷ ns) r = by (with_aside e last ns) (with_aside (ends_aft
         record {
           spans = (k.spans.0, rest.spans);
           ends = rest.ends;
-          meant = All-cons (λ (x : Entry). IsMeant x.made.op x.made.reply) n.entry (entries_of ns) (All-head (λ (x : Entry). IsMeant x.made.op x.made.reply) n.entry (entries_of (without_aside ns)) k.meant) rest.meant;
+          meant = All-cons (λ (x : Entry). IsMeant x.made.op x.made.reply) n.entry (entries_of ns)
+              (All-head (λ (x : Entry). IsMeant x.made.op x.made.reply) n.entry (entries_of (without_aside ns)) k.meant) rest.meant;
         }
 
 -- the history's own entries
@@ -74,7 +77,8 @@ linked-runs h noted l =
     let same = reading_leads_to_same noted w in
     let m = same.managed in
     let p = same.peer in
-    let ends : ends_at (replayed opening_linkage (without_aside noted)) ≡ ends_at (linked_end noted) = (λ i. record { managed = length (sym m i).managed.heap.freed; peers = length (sym p i).peers.heap.freed; notices = (sym m i).managed.taken }) in
+    let ends : ends_at (replayed opening_linkage (without_aside noted)) ≡ ends_at
+    (linked_end noted) = (λ i. record { managed = length (sym m i).managed.heap.freed; peers = length (sym p i).peers.heap.freed; notices = (sym m i).managed.taken }) in
     let r = with_aside no_ends (ends_at (replayed opening_linkage (without_aside noted))) noted k in
     let r2 : Runs no_ends (ends_at (linked_end noted)) (entries_of noted) = subst (λ (z : Ends). Runs no_ends z (entries_of noted)) ends r in
     subst (λ (z : List Entry). Runs no_ends (ends_at (linked_end noted)) z) l.same r2
@@ -103,7 +107,8 @@ named_is_linked h noted l =
     let lp = ap length l.freed_peers in
     let all_managed : take (ends_of no_ends h.entries).managed h.freed_managed ≡ h.freed_managed = take_all (ends_of no_ends h.entries).managed h.freed_managed (omega (arith, managed, sizes, lm)) in
     let all_peers : take (ends_of no_ends h.entries).peers h.freed_peers ≡ h.freed_peers = take_all (ends_of no_ends h.entries).peers h.freed_peers (omega (arith, peers, sizep, lp)) in
-    let cut : managed_numbers (take (ends_of no_ends h.entries).notices h.notices) ≡ take T (managed_numbers h.notices) = ap (λ k. managed_numbers (take k h.notices)) notices ∙ sym (take-map (λ (m : MNum). m.0) T h.notices) in
+    let cut : managed_numbers (take (ends_of no_ends h.entries).notices h.notices) ≡ take T (managed_numbers h.notices) = ap (λ k. managed_numbers (take k h.notices)) notices
+    ∙ sym (take-map (λ (m : MNum). m.0) T h.notices) in
     record {
       same = l.same;
       numbers = l.numbers;

@@ -79,7 +79,9 @@ module _ (s : Linkage) (k : Of s) (line : ℕ) (cites : Option ℕ) where
   same-taken m told false n = answer-keeps s.managed m.caller m.op told n
 
   -- an entry whose reply has no span
-  plainly : (t : Thread) (o : Op) (told : Told) (r : Reply) → (FreesRows o → ⊥) → (IsTaking o → ⊥) → (peer_after s.peer (entry t line o r cites) told (is_peer_event t o)).peers.heap.freed ≡ s.peer.peers.heap.freed → SideLawful (is_peer_event t o) s (entry t line o r cites) told → IsPlain r → With t o told r
+  plainly : (t : Thread) (o : Op) (told : Told) (r : Reply) → (FreesRows o → ⊥) → (IsTaking o → ⊥)
+      → (peer_after s.peer (entry t line o r cites) told (is_peer_event t o)).peers.heap.freed ≡ s.peer.peers.heap.freed
+      → SideLawful (is_peer_event t o) s (entry t line o r cites) told → IsPlain r → With t o told r
   plainly t o told r n out same l p =
       let e = plain-ends (ends_at s) r p in
       record {
@@ -103,11 +105,13 @@ module _ (s : Linkage) (k : Of s) (line : ℕ) (cites : Option ℕ) where
   none-swept (M u) freed a = a
   none-swept C freed a = a
 
-  swept-by : (mk : Marking) (t : Thread) (freed : List ℕ) (b : Bool) → b ≡ true → (is_thread t C || is_thread t mk.by) ≡ b → SweptSo t (Some mk) freed (if b then swept_of s.peer mk freed else answer (reply.MarkOpen record { 0 = mk.number }) s.peer).reply
+  swept-by : (mk : Marking) (t : Thread) (freed : List ℕ) (b : Bool) → b ≡ true → (is_thread t C || is_thread t mk.by) ≡ b
+      → SweptSo t (Some mk) freed (if b then swept_of s.peer mk freed else answer (reply.MarkOpen record { 0 = mk.number }) s.peer).reply
   swept-by mk t freed true e q = record {
     starts = refl;
     managed = refl;
-    peers = sym (length-append s.peer.peers.heap.freed freed) ∙ ap (λ c. length (if c then swept_of s.peer mk freed else answer (reply.MarkOpen record { 0 = mk.number }) s.peer).state.peers.heap.freed) (sym q);
+    peers = sym (length-append s.peer.peers.heap.freed freed) ∙ ap
+        (λ c. length (if c then swept_of s.peer mk freed else answer (reply.MarkOpen record { 0 = mk.number }) s.peer).state.peers.heap.freed) (sym q);
     notices = refl;
     meant = tt;
   }
@@ -117,7 +121,8 @@ module _ (s : Linkage) (k : Of s) (line : ℕ) (cites : Option ℕ) where
   sweeps None t freed a = absurd (none-swept t freed a)
   sweeps (Some mk) t freed a = swept-by mk t freed (is_thread t C || is_thread t mk.by) (may-end t mk.by a.0) refl
 
-  refused-so : (mk : Marking) (t : Thread) (b : Bool) → (b ≡ true → ⊥) → (is_thread t C || is_thread t mk.by) ≡ b → SweptSo t (Some mk) [] (if b then swept_of s.peer mk [] else answer (reply.MarkOpen record { 0 = mk.number }) s.peer).reply
+  refused-so : (mk : Marking) (t : Thread) (b : Bool) → (b ≡ true → ⊥) → (is_thread t C || is_thread t mk.by) ≡ b
+      → SweptSo t (Some mk) [] (if b then swept_of s.peer mk [] else answer (reply.MarkOpen record { 0 = mk.number }) s.peer).reply
   refused-so mk t true f q = absurd (f refl)
   refused-so mk t false f q = record {
     starts = tt;
@@ -152,13 +157,16 @@ module _ (s : Linkage) (k : Of s) (line : ℕ) (cites : Option ℕ) where
 
   -- each entry
   step-by : (t : Thread) (o : Op) (told : Told) (r : Reply) → IsEvent t o → SideLawful (is_peer_event t o) s (entry t line o r cites) told → With t o told r
-  step-by C (op.Line (act.Finalise n)) nothing r e w = subst (With C (op.Line (act.Finalise n)) nothing) (sym w.replies) (record { starts = refl; managed = refl; peers = refl; notices = refl; meant = tt })
+  step-by C (op.Line (act.Finalise n)) nothing r e w = subst (With C (op.Line (act.Finalise n)) nothing)
+      (sym w.replies) (record { starts = refl; managed = refl; peers = refl; notices = refl; meant = tt })
   step-by C (op.Line (act.Finalise n)) told r e w = absurd w.allowed
   step-by (M u) (op.Line (act.Finalise n)) told r e w = absurd e.0.1
   step-by (P u) (op.Line (act.Finalise n)) told r e w = absurd e.0.1
-  step-by t (op.Snap c) (snap_of freed candidates dead) r e w = subst (With t (op.Snap c) (snap_of freed candidates dead)) (sym w.replies) (record { starts = refl; managed = sym (length-append s.managed.managed.heap.freed freed); peers = refl; notices = refl; meant = tt })
+  step-by t (op.Snap c) (snap_of freed candidates dead) r e w = subst (With t (op.Snap c) (snap_of freed candidates dead)) (sym w.replies)
+      (record { starts = refl; managed = sym (length-append s.managed.managed.heap.freed freed); peers = refl; notices = refl; meant = tt })
   step-by t (op.Snap c) told r e w = absurd w.allowed
-  step-by t (op.Resolve c) (resolution_of alive freed) r e w = subst (With t (op.Resolve c) (resolution_of alive freed)) (sym w.replies) (record { starts = refl; managed = sym (length-append s.managed.managed.heap.freed freed); peers = refl; notices = refl; meant = tt })
+  step-by t (op.Resolve c) (resolution_of alive freed) r e w = subst (With t (op.Resolve c) (resolution_of alive freed)) (sym w.replies)
+      (record { starts = refl; managed = sym (length-append s.managed.managed.heap.freed freed); peers = refl; notices = refl; meant = tt })
   step-by t (op.Resolve c) told r e w = absurd w.allowed
   step-by t op.Sweep (sweep_of freed) r e w =
       let k = sweeps s.peer.marking t freed w.allowed in

@@ -47,7 +47,11 @@ up_all e [] = record { managed = omega arith; peers = omega arith; notices = ome
 up_all e (x ∷ es) =
     let a = up_by e x.made.reply in
     let b = up_all (ends_after e x.made.reply) es in
-    record { managed = (let p = a.managed in let q = b.managed in omega (arith, p, q)); peers = (let p = a.peers in let q = b.peers in omega (arith, p, q)); notices = (let p = a.notices in let q = b.notices in omega (arith, p, q)) }
+    record {
+      managed = (let p = a.managed in let q = b.managed in omega (arith, p, q));
+      peers = (let p = a.peers in let q = b.peers in omega (arith, p, q));
+      notices = (let p = a.notices in let q = b.notices in omega (arith, p, q));
+    }
 
 -- objects become numbers, and numbers objects again
 managed_back : (ms : List MNum) → as_managed (managed_numbers ms) ≡ ms
@@ -64,7 +68,8 @@ record CutsAt {A : Type 0} (number : A → ℕ) (put : List ℕ → List A) (lis
   count : s.count ≡ length (stretch (take 4294967296 (map number list)) s)
   grows : take (k + s.count) list ≡ take k list ++ put (stretch (take 4294967296 (map number list)) s)
 
-cuts_at : {A : Type 0} (number : A → ℕ) (put : List ℕ → List A) → ((xs : List A) → put (map number xs) ≡ xs) → (list : List A) (k : ℕ) (s : Span) → s.first ≡ k → k + s.count ≤ length list → k + s.count ≤ 4294967295 → CutsAt number put list k s
+cuts_at : {A : Type 0} (number : A → ℕ) (put : List ℕ → List A) → ((xs : List A) → put (map number xs) ≡ xs)
+    → (list : List A) (k : ℕ) (s : Span) → s.first ≡ k → k + s.count ≤ length list → k + s.count ≤ 4294967295 → CutsAt number put list k s
 cuts_at number put back list k s e l few =
     let whole = length-take s.count (drop s.first (map number list)) in
     let all : stretch (take 4294967296 (map number list)) s ≡ stretch (map number list) s =
@@ -121,7 +126,8 @@ next h e (reply.Took s) b u =
     record { begins = (c.first, c.count); grows = ap (with_notices (cut_to h e)) c.grows }
 next h e r b u = record { begins = tt; grows = refl }
 
-back : (h : Finished) (n : ℕ) (e : Ends) (es : List Entry) → IsValue h → NumberedFrom n es → All FitsTypes es → All (FitsLists h.freed_managed h.freed_peers h.notices) es → All (λ x. IsMeant x.made.op x.made.reply) es → SpansRun e es → AllInside h e es
+back : (h : Finished) (n : ℕ) (e : Ends) (es : List Entry) → IsValue h → NumberedFrom n es → All FitsTypes es
+    → All (FitsLists h.freed_managed h.freed_peers h.notices) es → All (λ x. IsMeant x.made.op x.made.reply) es → SpansRun e es → AllInside h e es
     → ReadsLines n (cut_to h e) es (entries_text h es) (cut_to h (ends_of e es))
 back h n e [] v o t f m s j = (refl, refl)
 back h n e (x ∷ es) v o t f m s j =
@@ -130,8 +136,22 @@ back h n e (x ∷ es) v o t f m s j =
     let k = next h e r s.0 j.0 in
     let own = own_line h x v record { types = All-head FitsTypes x es t; fits = All-head (FitsLists h.freed_managed h.freed_peers h.notices) x es f } in
     let text : entry_text h x ++ entries_text h es ≡ line ++ (10 ∷ entries_text h es) = ap (λ z. z ++ entries_text h es) (entry_spaced h x) ∙ append_assoc line (10 ∷ []) (entries_text h es) in
-    let more = back h (n + 1) (ends_after e r) es v o.1 (All-tail FitsTypes x es t) (All-tail (FitsLists h.freed_managed h.freed_peers h.notices) x es f) (All-tail (λ (y : Entry). IsMeant y.made.op y.made.reply) x es m) s.1 j.1 in
-    (line, entries_text h es, cut_to h (ends_after e r), text, record { numbers = named_in h r; line = own; same = o.0; meant = All-head (λ (y : Entry). IsMeant y.made.op y.made.reply) x es m; begins = k.begins; grows = k.grows }, more)
+    let more = back h (n + 1) (ends_after e r) es v o.1 (All-tail FitsTypes x es t)
+    (All-tail (FitsLists h.freed_managed h.freed_peers h.notices) x es f) (All-tail (λ (y : Entry). IsMeant y.made.op y.made.reply) x es m) s.1 j.1 in (
+      line,
+      entries_text h es,
+      cut_to h (ends_after e r),
+      text,
+      record {
+        numbers = named_in h r;
+        line = own;
+        same = o.0;
+        meant = All-head (λ (y : Entry). IsMeant y.made.op y.made.reply) x es m;
+        begins = k.begins;
+        grows = k.grows;
+      },
+      more,
+    )
 
 -- where the lists end with what is named, all of it is inside
 inside_by : (h : Finished) (e last : Ends) → Up e last → HasJust h last → Inside h e
@@ -145,7 +165,14 @@ inside_by h e last u j =
     let fm = j.few_managed in
     let fp = j.few_peers in
     let fn = j.few_notices in
-    record { managed = omega (arith, a, m); peers = omega (arith, b, p); notices = omega (arith, c, n); few_managed = omega (arith, a, fm); few_peers = omega (arith, b, fp); few_notices = omega (arith, c, fn) }
+    record {
+      managed = omega (arith, a, m);
+      peers = omega (arith, b, p);
+      notices = omega (arith, c, n);
+      few_managed = omega (arith, a, fm);
+      few_peers = omega (arith, b, fp);
+      few_notices = omega (arith, c, fn);
+    }
 
 all_inside : (h : Finished) (e : Ends) (es : List Entry) → HasJust h (ends_of e es) → AllInside h e es
 all_inside h e [] j = tt
@@ -168,7 +195,8 @@ read_of h c =
 -- bytes are read as one history
 pub one_history : ReportsAreOne
 one_history bytes g h a b =
-    let s = same_read 0 no_lists g.entries h.entries (entries_text g g.entries) (entries_text h h.entries) (lists_of g) (lists_of h) (length g.entries) (length h.entries) (read_of g a.canonical) (read_of h b.canonical) (sym a.text ∙ b.text) in
+    let s = same_read 0 no_lists g.entries h.entries (entries_text g g.entries) (entries_text h h.entries) (lists_of g)
+    (lists_of h) (length g.entries) (length h.entries) (read_of g a.canonical) (read_of h b.canonical) (sym a.text ∙ b.text) in
     let es = s.entries in
     let l = s.lists in
     λ i. record { entries = es i; freed_managed = (l i).managed; freed_peers = (l i).peers; notices = (l i).notices }
@@ -199,30 +227,43 @@ stays_inside h e (reply.Snapped n s) i b w l =
     let a = k.count in
     let f = k.few in
     let g = w.0 in
-    record { inside = record { managed = omega (arith, b, g); peers = i.peers; notices = i.notices; few_managed = omega (arith, b, f); few_peers = i.few_peers; few_notices = i.few_notices }; grows = omega (arith, a) }
+    record {
+      inside = record { managed = omega (arith, b, g); peers = i.peers; notices = i.notices; few_managed = omega (arith, b, f); few_peers = i.few_peers; few_notices = i.few_notices };
+      grows = omega (arith, a);
+    }
 stays_inside h e (reply.Freed s) i b w l =
     let size = length-map h.freed_managed (λ (m : MNum). m.0) in
     let k = shown_all (managed_numbers h.freed_managed) s (let a = w.0 in omega (arith, a, size)) (omega (arith, b, l)) in
     let a = k.count in
     let f = k.few in
     let g = w.0 in
-    record { inside = record { managed = omega (arith, b, g); peers = i.peers; notices = i.notices; few_managed = omega (arith, b, f); few_peers = i.few_peers; few_notices = i.few_notices }; grows = omega (arith, a) }
+    record {
+      inside = record { managed = omega (arith, b, g); peers = i.peers; notices = i.notices; few_managed = omega (arith, b, f); few_peers = i.few_peers; few_notices = i.few_notices };
+      grows = omega (arith, a);
+    }
 stays_inside h e (reply.Swept j s) i b w l =
     let size = length-map h.freed_peers (λ (p : PNum). p.0) in
     let k = shown_all (peer_numbers h.freed_peers) s (let a = w.0 in omega (arith, a, size)) (omega (arith, b, l)) in
     let a = k.count in
     let f = k.few in
     let g = w.0 in
-    record { inside = record { managed = i.managed; peers = omega (arith, b, g); notices = i.notices; few_managed = i.few_managed; few_peers = omega (arith, b, f); few_notices = i.few_notices }; grows = omega (arith, a) }
+    record {
+      inside = record { managed = i.managed; peers = omega (arith, b, g); notices = i.notices; few_managed = i.few_managed; few_peers = omega (arith, b, f); few_notices = i.few_notices };
+      grows = omega (arith, a);
+    }
 stays_inside h e (reply.Took s) i b w l =
     let size = length-map h.notices (λ (m : MNum). m.0) in
     let k = shown_all (managed_numbers h.notices) s (omega (arith, w, size)) (omega (arith, b, l)) in
     let a = k.count in
     let f = k.few in
-    record { inside = record { managed = i.managed; peers = i.peers; notices = omega (arith, b, w); few_managed = i.few_managed; few_peers = i.few_peers; few_notices = omega (arith, b, f) }; grows = omega (arith, a) }
+    record {
+      inside = record { managed = i.managed; peers = i.peers; notices = omega (arith, b, w); few_managed = i.few_managed; few_peers = i.few_peers; few_notices = omega (arith, b, f) };
+      grows = omega (arith, a);
+    }
 stays_inside h e r i b w l = record { inside = i; grows = omega arith }
 
-inside_all : (h : Finished) (e : Ends) (es : List Entry) → All (FitsLists h.freed_managed h.freed_peers h.notices) es → SpansRun e es → Inside h e → total e + length (entries_text h es) < 4294967296 → AllInside h e es
+inside_all : (h : Finished) (e : Ends) (es : List Entry) → All (FitsLists h.freed_managed h.freed_peers h.notices) es
+    → SpansRun e es → Inside h e → total e + length (entries_text h es) < 4294967296 → AllInside h e es
 inside_all h e [] f s i l = tt
 inside_all h e (x ∷ es) f s i l =
     let r = x.made.reply in

@@ -1,6 +1,7 @@
 -- The report of each history is read: line by line as the reply that is meant by the event, whose list stands behind
 -- those before it. There are fewer numbers than bytes, so each place fits a span.
-use Rattle.std.proofs.Common.{◌≡◌, ◌≢◌, ℕ, ◌+◌, ◌<◌, ◌≤◌, ◌^◌, Bool, true, false, ◌⊎◌, inl, inr, List, [], ◌∷◌, ◌++◌, length, codes, decimal, refl, sym, ap, ◌∙◌, arith, append_assoc, length-append, true≢false}
+use Rattle.std.proofs.Common.{◌≡◌, ◌≢◌, ℕ, ◌+◌, ◌<◌, ◌≤◌, ◌^◌, Bool, true, false, ◌⊎◌, inl, inr, List, [], ◌∷◌, ◌++◌, length, codes, decimal, refl, sym, ap, ◌∙◌, arith, append_assoc, length-append}
+use Rattle.std.proofs.Common.{true≢false}
 use Rattle.std.proofs.lemmas.List.Elements.{All-cons, All-nil, All-head}
 use Rattle.joint_machine.specs.declared.names.MNum.{MNum}
 use Rattle.joint_machine.specs.declared.names.Marking.{Marking}
@@ -110,19 +111,55 @@ reread_one o l m ns true e f k = record {
 }
 
 took_as : (o : Op) (l : Lists) (s : Span) (ns : List ℕ) → IsShown (reply.Took s) ns → IsRoom l ns → (takes o ≡ true) ⊎ (length ns ≢ 1) → Reread o l (reply.Took s) ns
-took_as o l s ns w k h = record { reply = reply.Took (behind_notices l ns); numbers = ns; same = refl; fits = (k.notices, k.more); shown = record { short = w.short; rises = w.rises }; meant = means_took o (behind_notices l ns) h; begins = (refl, refl); reading = tt }
+took_as o l s ns w k h = record {
+  reply = reply.Took (behind_notices l ns);
+  numbers = ns;
+  same = refl;
+  fits = (k.notices, k.more);
+  shown = record { short = w.short; rises = w.rises };
+  meant = means_took o (behind_notices l ns) h;
+  begins = (refl, refl);
+  reading = tt;
+}
 
 reread_took : (o : Op) (l : Lists) (s : Span) (ns : List ℕ) (b : Bool) → takes o ≡ b → IsShown (reply.Took s) ns → IsRoom l ns → Reread o l (reply.Took s) ns
 reread_took o l s ns true e w k = took_as o l s ns w k (inl e)
 reread_took o l s [] false e w k = took_as o l s [] w k (inr (λ q. omega (arith, q)))
-reread_took o l s (n ∷ []) false e w k = record { reply = reply.M record { 0 = n }; numbers = []; same = refl; fits = All-head Short n [] w.short; shown = tt; meant = means_one o record { 0 = n } e; begins = tt; reading = tt }
+reread_took o l s (n ∷ []) false e w k = record {
+  reply = reply.M record { 0 = n };
+  numbers = [];
+  same = refl;
+  fits = All-head Short n [] w.short;
+  shown = tt;
+  meant = means_one o record { 0 = n } e;
+  begins = tt;
+  reading = tt;
+}
 reread_took o l s (n ∷ m ∷ ns) false e w k = took_as o l s (n ∷ m ∷ ns) w k (inr (λ q. omega (arith, q)))
 
 snapped_as : (o : Op) (l : Lists) (n : ℕ) (s : Span) (ns : List ℕ) → Short n → IsShown (reply.Snapped n s) ns → IsRoom l ns → (sweeps o ≡ false) ⊎ (length ns ≢ 0) → Reread o l (reply.Snapped n s) ns
-snapped_as o l n s ns f w k h = record { reply = reply.Snapped n (behind_managed l ns); numbers = ns; same = refl; fits = (f, (k.managed, k.more)); shown = record { short = w.short; rises = w.rises }; meant = means_snapped o n (behind_managed l ns) h; begins = (refl, refl); reading = refl }
+snapped_as o l n s ns f w k h = record {
+  reply = reply.Snapped n (behind_managed l ns);
+  numbers = ns;
+  same = refl;
+  fits = (f, (k.managed, k.more));
+  shown = record { short = w.short; rises = w.rises };
+  meant = means_snapped o n (behind_managed l ns) h;
+  begins = (refl, refl);
+  reading = refl;
+}
 
 swept_as : (o : Op) (l : Lists) (j : Marking) (s : Span) (ns : List ℕ) → Short j.0 → IsShown (reply.Swept j s) ns → IsRoom l ns → (sweeps o ≡ true) ⊎ (length ns ≢ 0) → Reread o l (reply.Swept j s) ns
-swept_as o l j s ns f w k h = record { reply = reply.Swept j (behind_peers l ns); numbers = ns; same = refl; fits = (f, (k.peers, k.more)); shown = record { short = w.short; rises = w.rises }; meant = means_swept o j (behind_peers l ns) h; begins = (refl, refl); reading = refl }
+swept_as o l j s ns f w k h = record {
+  reply = reply.Swept j (behind_peers l ns);
+  numbers = ns;
+  same = refl;
+  fits = (f, (k.peers, k.more));
+  shown = record { short = w.short; rises = w.rises };
+  meant = means_swept o j (behind_peers l ns) h;
+  begins = (refl, refl);
+  reading = refl;
+}
 
 reread_snapped : (o : Op) (l : Lists) (n : ℕ) (s : Span) (ns : List ℕ) (b : Bool) → sweeps o ≡ b → Short n → IsShown (reply.Snapped n s) ns → IsRoom l ns → Reread o l (reply.Snapped n s) ns
 reread_snapped o l n s ns false e f w k = snapped_as o l n s ns f w k (inl e)
@@ -153,7 +190,16 @@ reread_swept o l j s [] false e f w k = record {
 reread_swept o l j s (m ∷ ns) false e f w k = swept_as o l j s (m ∷ ns) f w k (inr (λ q. omega (arith, q)))
 
 reread_freed : (o : Op) (l : Lists) (s : Span) (ns : List ℕ) → IsShown (reply.Freed s) ns → IsRoom l ns → Reread o l (reply.Freed s) ns
-reread_freed o l s ns w k = record { reply = reply.Freed (behind_managed l ns); numbers = ns; same = refl; fits = (k.managed, k.more); shown = record { short = w.short; rises = w.rises }; meant = means_other o (reply.Freed (behind_managed l ns)) tt; begins = (refl, refl); reading = tt }
+reread_freed o l s ns w k = record {
+  reply = reply.Freed (behind_managed l ns);
+  numbers = ns;
+  same = refl;
+  fits = (k.managed, k.more);
+  shown = record { short = w.short; rises = w.rises };
+  meant = means_other o (reply.Freed (behind_managed l ns)) tt;
+  begins = (refl, refl);
+  reading = tt;
+}
 
 stays_other : (o : Op) (l : Lists) (r : Reply) (ns : List ℕ) → FitsReply r → IsOther r → IsShown r ns → BeginsAt l r ns → IsReading r r → Reread o l r ns
 stays_other o l r ns f h w b g = record { reply = r; numbers = ns; same = refl; fits = f; shown = w; meant = means_other o r h; begins = b; reading = g }
@@ -189,7 +235,8 @@ again h n l (x ∷ es) v o few =
     let whole = ap length cut in
     let split = length-append text (10 ∷ entries_text h es) in
     let words = list_within x ns in
-    let room : IsRoom l ns = record { managed = omega (arith, few); peers = omega (arith, few); notices = omega (arith, few); more = omega (arith, few, whole, split, words, numbers_within h m.reply) } in
+    let room : IsRoom l ns = record { managed = omega (arith, few); peers = omega (arith, few); notices = omega (arith, few); more = omega (arith, few, whole, split, words, numbers_within h m.reply) }
+    in
     let k = reread m.op l m.reply ns line.fits.reply line.shown room in
     let y : Entry = record { number = x.number; made = record { caller = m.caller; index = m.index; op = m.op; reply = k.reply; cites = m.cites } } in
     let same : text ≡ spaced (line_words y k.numbers) = ap (with_said x) (sym k.same) in
@@ -208,7 +255,12 @@ again h n l (x ∷ es) v o few =
         cut,
         record {
           numbers = k.numbers;
-          line = record { fits = record { number = line.fits.number; line = line.fits.line; event = line.fits.event; reply = k.fits; cites = line.fits.cites }; event = line.event; shown = k.shown; same = same };
+          line = record {
+            fits = record { number = line.fits.number; line = line.fits.line; event = line.fits.event; reply = k.fits; cites = line.fits.cites };
+            event = line.event;
+            shown = k.shown;
+            same = same;
+          };
           same = o.numbers.0;
           meant = k.meant;
           begins = k.begins;

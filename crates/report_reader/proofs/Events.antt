@@ -71,11 +71,13 @@ read-phase word.Resolve = refl
 -- a step by its first word; and whether words begin as a step's
 abbrev step_by : List ℕ → List (List ℕ) → Op
 step_by w ws = if is_word w (codes "make") then op.Make (sort_of (word_at ws 0)) (number_of (word_at ws 1))
-    else (if is_word w (codes "adopt") then op.Adopt (var_of (word_at ws 0)) (kind_of (word_at ws 1)) (number_of (word_at ws 2)) record { 0 = number_in (word_at ws 3) } record { 0 = number_in (word_at ws 4) }
+    else (if is_word w (codes "adopt") then op.Adopt (var_of (word_at ws 0)) (kind_of (word_at ws 1))
+    (number_of (word_at ws 2)) record { 0 = number_in (word_at ws 3) } record { 0 = number_in (word_at ws 4) }
     else (if is_word w (codes "lend") then op.Lend (var_of (word_at ws 0)) (static_of (word_at ws 1))
     else (if is_word w (codes "land") then op.Land record { 0 = number_in (word_at ws 0) } (static_of (word_at ws 1))
     else (if is_word w (codes "grip") then op.Grip (static_of (word_at ws 0))
-    else (if is_word w (codes "meet") then op.Meet (var_of (word_at ws 0)) (sort_of (word_at ws 3)) (number_of (word_at ws 4)) record { 0 = number_in (word_at ws 1) } record { 0 = number_in (word_at ws 2) }
+    else (if is_word w (codes "meet") then op.Meet (var_of (word_at ws 0)) (sort_of (word_at ws 3))
+    (number_of (word_at ws 4)) record { 0 = number_in (word_at ws 1) } record { 0 = number_in (word_at ws 2) }
     else (if is_word w (codes "give") then op.Give (var_of (word_at ws 0))
     else (if is_word w (codes "release") then op.Release record { 0 = number_in (word_at ws 0) }
     else (if is_word w (codes "snap") then op.Snap record { 0 = number_of (word_at ws 0) }
@@ -99,7 +101,8 @@ is_among w [] = false
 is_among w (v ∷ vs) = cond (is_word w v) true (is_among w vs)
 
 abbrev is_step_word : List ℕ → Bool
-is_step_word w = is_among w (codes "make" ∷ codes "adopt" ∷ codes "lend" ∷ codes "land" ∷ codes "grip" ∷ codes "meet" ∷ codes "give" ∷ codes "release" ∷ codes "snap" ∷ codes "contract" ∷ codes "mirror" ∷ codes "weaken" ∷ codes "begin" ∷ codes "sweep" ∷ codes "restore" ∷ codes "clear" ∷ codes "resolve" ∷ codes "abandon" ∷ codes "refused" ∷ [])
+is_step_word w = is_among w (codes "make" ∷ codes "adopt" ∷ codes "lend" ∷ codes "land" ∷ codes "grip" ∷ codes "meet" ∷ codes "give" ∷ codes "release" ∷ codes "snap" ∷ codes
+    "contract" ∷ codes "mirror" ∷ codes "weaken" ∷ codes "begin" ∷ codes "sweep" ∷ codes "restore" ∷ codes "clear" ∷ codes "resolve" ∷ codes "abandon" ∷ codes "refused" ∷ [])
 
 abbrev is_step : Op → Bool
 is_step (op.Line a) = false
@@ -113,11 +116,13 @@ few_fields k n h = omega (arith, h)
 read_back : (t : Thread) (o : Op) → is_step o ≡ true → IsReadable t o → read_step (event_words t o) ≡ o
 read_back t (op.Line a) s g = absurd (true≢false (sym s))
 read_back t (op.Make s n) q g = (let l = g.0.1 in λ i. op.Make (read-sort s i) (read-number n (omega (arith, l)) i))
-read_back t (op.Adopt v k n p h) q g = λ i. op.Adopt (read-var v g.0.1 i) (read-kind k i) (read-number n (few_fields k n g.0.2) i) record { 0 = read-number p.0 (wide p.0 g.1.0) i } record { 0 = read-number h.0 (wide h.0 g.1.1) i }
+read_back t (op.Adopt v k n p h) q g = λ i. op.Adopt (read-var v g.0.1 i) (read-kind k i) (read-number n (few_fields k n g.0.2) i)
+    record { 0 = read-number p.0 (wide p.0 g.1.0) i } record { 0 = read-number h.0 (wide h.0 g.1.1) i }
 read_back t (op.Lend v x) q g = λ i. op.Lend (read-var v g.0.1 i) (read-static x g.0.2 i)
 read_back t (op.Land h x) q g = λ i. op.Land record { 0 = read-number h.0 (wide h.0 g.1) i } (read-static x g.0.1 i)
 read_back t (op.Grip x) q g = λ i. op.Grip (read-static x g.0.1 i)
-read_back t (op.Meet v s n p h) q g = (let l = g.0.2 in λ i. op.Meet (read-var v g.0.1 i) (read-sort s i) (read-number n (omega (arith, l)) i) record { 0 = read-number p.0 (wide p.0 g.1.0) i } record { 0 = read-number h.0 (wide h.0 g.1.1) i })
+read_back t (op.Meet v s n p h) q g = (let l = g.0.2 in λ i. op.Meet (read-var v g.0.1 i) (read-sort s i)
+    (read-number n (omega (arith, l)) i) record { 0 = read-number p.0 (wide p.0 g.1.0) i } record { 0 = read-number h.0 (wide h.0 g.1.1) i })
 read_back t (op.Give v) q g = λ i. op.Give (read-var v g.0.1 i)
 read_back t (op.Release h) q g = λ i. op.Release record { 0 = read-number h.0 (wide h.0 g.1) i }
 read_back t (op.Snap k) q g = λ i. op.Snap record { 0 = read-number k.0 (wide k.0 g.1) i }

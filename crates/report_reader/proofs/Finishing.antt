@@ -36,7 +36,8 @@ one_list es h = record {
 }
 
 -- the only list of a run
-pub joins : (stocks : List Stock) (s : Stock) (r : Read) (ms : List MNum) (ps : List PNum) (ns : List MNum) → stocks ≡ s ∷ [] → s.entries ≡ r.entries → ms ≡ r.lists.managed → ps ≡ r.lists.peers → ns ≡ r.lists.notices → IsHistory (history_of r) → IsJoinable (entry_lists stocks) ms ps ns
+pub joins : (stocks : List Stock) (s : Stock) (r : Read) (ms : List MNum) (ps : List PNum) (ns : List MNum) → stocks ≡ s ∷ [] → s.entries ≡ r.entries
+    → ms ≡ r.lists.managed → ps ≡ r.lists.peers → ns ≡ r.lists.notices → IsHistory (history_of r) → IsJoinable (entry_lists stocks) ms ps ns
 joins stocks s r ms ps ns one same a b c h = rw (one, same, a, b, c) record { whole = r.entries; shuffle = one_list r.entries h.numbers; fits = h.fits }
 
 pub joined : (stocks : List Stock) (s : Stock) (r : Read) (es : List Entry) → stocks ≡ s ∷ [] → s.entries ≡ r.entries → IsHistory (history_of r) → IsShuffle (entry_lists stocks) es → es ≡ r.entries

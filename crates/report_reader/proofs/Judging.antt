@@ -1,6 +1,7 @@
 -- A refusal is right: if the bytes were the report of a history, the lines before the faulty one would be those of its
 -- first entries, and the faulty one would be the line of the next, or the last line.
-use Rattle.std.proofs.Common.{◌≡◌, ◌≢◌, ℕ, zero, suc, ◌+◌, ◌-◌, ◌<◌, ◌≤◌, ◌^◌, ◌⊎◌, inl, inr, Bool, true, false, List, [], ◌∷◌, ◌++◌, length, take, drop, All, codes, decimal, refl, sym, ap, ◌∙◌, subst, arith, append_assoc, append-nil, length-append, true≢false}
+use Rattle.std.proofs.Common.{◌≡◌, ◌≢◌, ℕ, zero, suc, ◌+◌, ◌-◌, ◌<◌, ◌≤◌, ◌^◌, ◌⊎◌, inl, inr, Bool, true, false, List, [], ◌∷◌, ◌++◌, length, take, drop, All, codes, decimal, refl, sym, ap, ◌∙◌}
+use Rattle.std.proofs.Common.{subst, arith, append_assoc, append-nil, length-append, true≢false}
 use Rattle.std.proofs.lemmas.List.{append_cancel_right, drop-take, take-map, drop-map}
 use Rattle.std.proofs.lemmas.List.Elements.{All-head, All-tail, All-take, All-drop, All-map, recursion_from_All}
 use Rattle.joint_machine.specs.declared.names.MNum.{MNum}
@@ -65,9 +66,18 @@ short_peers ps h = All-map Short (λ (p : PNum). p.0) ps h
 
 -- so the line of an entry in a history is an entry's line
 pub shows : (h : Finished) (r : Reply) → IsValue h → FitsReply r → HasSpans h.freed_managed h.freed_peers h.notices r → IsShown r (named_in h r)
-shows h (reply.Snapped n s) v f k = record { short = shown_short (managed_numbers h.freed_managed) s (short_managed h.freed_managed v.managed); rises = λ z. shown_rises (managed_numbers h.freed_managed) s f.1.0 (subst Rises (managed_stretch h.freed_managed s) k.1) }
-shows h (reply.Freed s) v f k = record { short = shown_short (managed_numbers h.freed_managed) s (short_managed h.freed_managed v.managed); rises = λ z. shown_rises (managed_numbers h.freed_managed) s f.0 (subst Rises (managed_stretch h.freed_managed s) k.1) }
-shows h (reply.Swept j s) v f k = record { short = shown_short (peer_numbers h.freed_peers) s (short_peers h.freed_peers v.peers); rises = λ z. shown_rises (peer_numbers h.freed_peers) s f.1.0 (subst Rises (peer_stretch h.freed_peers s) k.1) }
+shows h (reply.Snapped n s) v f k = record {
+  short = shown_short (managed_numbers h.freed_managed) s (short_managed h.freed_managed v.managed);
+  rises = λ z. shown_rises (managed_numbers h.freed_managed) s f.1.0 (subst Rises (managed_stretch h.freed_managed s) k.1);
+}
+shows h (reply.Freed s) v f k = record {
+  short = shown_short (managed_numbers h.freed_managed) s (short_managed h.freed_managed v.managed);
+  rises = λ z. shown_rises (managed_numbers h.freed_managed) s f.0 (subst Rises (managed_stretch h.freed_managed s) k.1);
+}
+shows h (reply.Swept j s) v f k = record {
+  short = shown_short (peer_numbers h.freed_peers) s (short_peers h.freed_peers v.peers);
+  rises = λ z. shown_rises (peer_numbers h.freed_peers) s f.1.0 (subst Rises (peer_stretch h.freed_peers s) k.1);
+}
 shows h (reply.Took s) v f k = record { short = shown_short (managed_numbers h.notices) s (short_managed h.notices v.notices); rises = λ z. absurd (true≢false (sym z)) }
 shows h r v f k = tt
 
@@ -106,13 +116,15 @@ record Left (h : Finished) (n : ℕ) (count k : ℕ) (behind : List ℕ) : Type 
   text : behind ≡ entries_text h rest ++ end_text k
   size : count ≡ n + length rest
 
-peel : (h : Finished) (k : ℕ) (es : List Entry) (n : ℕ) (texts : List (List ℕ)) (behind : List ℕ) → AreOwn h n es → AreEntryLines n texts → closed_lines texts ++ behind ≡ entries_text h es ++ end_text k → Left h (n + length texts) (n + length es) k behind
+peel : (h : Finished) (k : ℕ) (es : List Entry) (n : ℕ) (texts : List (List ℕ)) (behind : List ℕ) → AreOwn h n es → AreEntryLines n texts
+    → closed_lines texts ++ behind ≡ entries_text h es ++ end_text k → Left h (n + length texts) (n + length es) k behind
 peel h k es n [] behind o l e =
     let z : n ≡ n + 0 = omega arith in
     record { rest = es; own = subst (λ i. AreOwn h i es) z o; text = e; size = omega arith }
 peel h k [] n (t ∷ ts) behind o l e = absurd (not_last n t ((10 ∷ closed_lines ts) ++ behind) _ l.0 (sym (append_assoc t (10 ∷ closed_lines ts) behind) ∙ e))
 peel h k (x ∷ es) n (t ∷ ts) behind o l e =
-    let lines : t ++ (10 ∷ (closed_lines ts ++ behind)) ≡ line_of h x ++ (10 ∷ (entries_text h es ++ end_text k)) = sym (append_assoc t (10 ∷ closed_lines ts) behind) ∙ (e ∙ line-first h x es (end_text k)) in
+    let lines : t ++ (10 ∷ (closed_lines ts ++ behind)) ≡ line_of h x ++ (10 ∷ (entries_text h es ++ end_text k)) = sym (append_assoc t (10 ∷ closed_lines ts) behind)
+    ∙ (e ∙ line-first h x es (end_text k)) in
     let cut = cut-first 10 t (line_of h x) (closed_lines ts ++ behind) (entries_text h es ++ end_text k) (text_lacks n t l.0) (line-whole h x) lines in
     let w = peel h k es (n + 1) ts behind (own_tail h n x es o) l.1 cut.1 in
     let here : (n + 1) + length ts ≡ n + length (t ∷ ts) = omega arith in
@@ -123,7 +135,8 @@ end_split : (k : ℕ) → end_text k ≡ (codes "end " ++ decimal k) ++ (10 ∷ 
 end_split k = sym (append_assoc (codes "end ") (decimal k) (10 ∷ []))
 
 end_lacks : (k : ℕ) → Lacks 10 (codes "end " ++ decimal k)
-end_lacks k = every-append (λ (x : ℕ). (x ≡ 10) → ⊥) (codes "end ") (decimal k) ((λ q. omega (arith, q)), ((λ q. omega (arith, q)), ((λ q. omega (arith, q)), ((λ q. omega (arith, q)), tt)))) (no-byte 10 (omega arith) (decimal k) (plain-decimal k))
+end_lacks k = every-append (λ (x : ℕ). (x ≡ 10) → ⊥) (codes "end ") (decimal k)
+    ((λ q. omega (arith, q)), ((λ q. omega (arith, q)), ((λ q. omega (arith, q)), ((λ q. omega (arith, q)), tt)))) (no-byte 10 (omega arith) (decimal k) (plain-decimal k))
 
 -- a first line before its newline
 first_end : (k : ℕ) (text rest : List ℕ) → Lacks 10 text → text ++ (10 ∷ rest) ≡ end_text k → (text ++ 10 ∷ [] ≡ end_text k) × (rest ≡ [])
@@ -162,7 +175,8 @@ lacks_of : (text : List ℕ) → All (λ b. b ≢ 10) text → Lacks 10 text
 lacks_of text h = recursion_from_All (λ b. b ≢ 10) text h
 
 -- a line that is faulty before the last line
-form_wrong : (h : Finished) (count k : ℕ) (behind : List ℕ) (l : Placed) → k < 2 ^ 64 → IsValue h → Left h l.before count k behind → All (λ b. b ≢ 10) l.text → StandsFirst l behind → (l.closed ≡ false) ⊎ ((IsEntryText l.before l.text → ⊥) × ((n : ℕ) → IsEndText n l.text → ⊥)) → ⊥
+form_wrong : (h : Finished) (count k : ℕ) (behind : List ℕ) (l : Placed) → k < 2 ^ 64 → IsValue h → Left h l.before count k behind
+    → All (λ b. b ≢ 10) l.text → StandsFirst l behind → (l.closed ≡ false) ⊎ ((IsEntryText l.before l.text → ⊥) × ((n : ℕ) → IsEndText n l.text → ⊥)) → ⊥
 form_wrong h count k behind l few v w all (inr s) c = no_open h w.rest k l.text (lacks_of l.text all) (sym s.2 ∙ w.text)
 form_wrong h count k behind l few v w all (inl s) (inl c) = true≢false (sym s.1 ∙ c)
 form_wrong h count k behind l few v w all (inl s) (inr c) = elim (next_line h l.before count k behind l.text s.0 v w (lacks_of l.text all) s.2).is [
@@ -170,7 +184,8 @@ form_wrong h count k behind l few v w all (inl s) (inr c) = elim (next_line h l.
   | inr t ↦ c.1 k (few, t.0)
 ]
 
-ending_wrong : (h : Finished) (count k : ℕ) (behind : List ℕ) (l : Placed) → k ≡ count → IsValue h → Left h l.before count k behind → All (λ b. b ≢ 10) l.text → StandsFirst l behind → ((l.closed ≡ true) × ((n : ℕ) × IsEndText n l.text × (n ≢ l.before))) → ⊥
+ending_wrong : (h : Finished) (count k : ℕ) (behind : List ℕ) (l : Placed) → k ≡ count → IsValue h → Left h l.before count k behind
+    → All (λ b. b ≢ 10) l.text → StandsFirst l behind → ((l.closed ≡ true) × ((n : ℕ) × IsEndText n l.text × (n ≢ l.before))) → ⊥
 ending_wrong h count k behind l same v w all (inr s) c = true≢false (sym c.0 ∙ s.0)
 ending_wrong h count k behind l same v w all (inl s) c = elim (next_line h l.before count k behind l.text s.0 v w (lacks_of l.text all) s.2).is [
   | inl t ↦ both l.before c.1.0 l.text t c.1.1.1
@@ -229,7 +244,8 @@ whole h bytes texts behind v e l c =
     let n : 0 + length texts ≡ length texts = omega arith in
     record { left = record { rest = w.rest; own = subst (λ i. AreOwn h i w.rest) n w.own; text = w.text; size = (let s = w.size in omega (arith, s)) } }
 
-here_wrong : (h : Finished) (texts : List (List ℕ)) (behind : List ℕ) (fault : ReportFault) → length h.entries < 2 ^ 64 → IsValue h → Left h (length texts) (length h.entries) (length h.entries) behind → IsFaultHere (length texts) false behind fault → ⊥
+here_wrong : (h : Finished) (texts : List (List ℕ)) (behind : List ℕ) (fault : ReportFault) → length h.entries < 2 ^ 64 → IsValue h
+    → Left h (length texts) (length h.entries) (length h.entries) behind → IsFaultHere (length texts) false behind fault → ⊥
 here_wrong h texts behind fault few v w f = by fault.cause f.has
   where
     k : ℕ

@@ -7,7 +7,8 @@ use Rattle.entry_reader.specs.Tailing.{ReadsEntry}
 use Rattle.report_reader.specs.Faults.{AreEntryLines, closed_lines}
 use Rattle.report_reader.specs.Steps.{ReadsLines}
 
-pub lines_push : (n : ℕ) (l : Lists) (es : List Entry) (text : List ℕ) (m : Lists) (line : List ℕ) (m' : Lists) (e : Entry) → ReadsLines n l es text m → ReadsEntry line (n + length es) m m' e → ReadsLines n l (es ++ e ∷ []) (text ++ (line ++ 10 ∷ [])) m'
+pub lines_push : (n : ℕ) (l : Lists) (es : List Entry) (text : List ℕ) (m : Lists) (line : List ℕ) (m' : Lists) (e : Entry)
+    → ReadsLines n l es text m → ReadsEntry line (n + length es) m m' e → ReadsLines n l (es ++ e ∷ []) (text ++ (line ++ 10 ∷ [])) m'
 lines_push n l [] text m line m' e r w =
     let F : Lists → ℕ → Type 0 = λ z k. ReadsEntry line k z m' e in
     let number : n + 0 ≡ n = omega arith in

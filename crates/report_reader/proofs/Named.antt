@@ -27,10 +27,12 @@ pub record InList {A : Type 0} (number : A → ℕ) (list : List A) (ns : List �
   pub within : IsWithin s (length list)
   pub same : map number (stretch list s) ≡ ns
 
-pub in_list : {A : Type 0} (number : A → ℕ) (put : List ℕ → List A) (ns : List ℕ) → map number (put ns) ≡ ns → (list xs more : List A) (s : Span) → list ≡ (xs ++ put ns) ++ more → length list ≤ 4294967295 → Spans (length xs) s ns → InList number list ns s
+pub in_list : {A : Type 0} (number : A → ℕ) (put : List ℕ → List A) (ns : List ℕ) → map number (put ns) ≡ ns → (list xs more : List A) (s : Span)
+    → list ≡ (xs ++ put ns) ++ more → length list ≤ 4294967295 → Spans (length xs) s ns → InList number list ns s
 in_list number put ns back list xs more s e few w =
     let size : length (put ns) ≡ length ns = sym (length-map (put ns) number) ∙ ap length back in
-    let numbers : map number list ≡ (map number xs ++ ns) ++ map number more = ap (λ z. map number z) e ∙ (map-append number (xs ++ put ns) more ∙ ap (λ z. z ++ map number more) (map-append number xs (put ns) ∙ ap (λ z. map number xs ++ z) back)) in
+    let numbers : map number list ≡ (map number xs ++ ns) ++ map number more = ap (λ z. map number z) e
+    ∙ (map-append number (xs ++ put ns) more ∙ ap (λ z. z ++ map number more) (map-append number xs (put ns) ∙ ap (λ z. map number xs ++ z) back)) in
     let all : take 4294967296 (map number list) ≡ map number list = take_all 4294967296 (map number list) (let l = length-map list number in omega (arith, l, few)) in
     let first : s.first ≡ length (map number xs) = w.0 ∙ sym (length-map xs number) in
     record {

@@ -1,5 +1,6 @@
 -- A line is read as one entry, behind the same lists. So lines are read as one list of entries.
-use Rattle.std.proofs.Common.{◌≡◌, ◌≢◌, ℕ, ◌+◌, Bool, true, false, List, [], ◌∷◌, ◌++◌, get_or, drop, length, Option, Some, None, codes, decimal, refl, sym, ap, ◌∙◌, subst, arith, append_assoc, true≢false}
+use Rattle.std.proofs.Common.{◌≡◌, ◌≢◌, ℕ, ◌+◌, Bool, true, false, List, [], ◌∷◌, ◌++◌, get_or, drop, length, Option, Some, None, codes, decimal, refl, sym, ap, ◌∙◌, subst, arith, append_assoc}
+use Rattle.std.proofs.Common.{true≢false}
 use Rattle.joint_machine.specs.declared.names.Thread.{Thread}
 use Rattle.joint_machine.specs.declared.names.MNum.{MNum}
 use Rattle.joint_machine.specs.declared.names.Marking.{Marking}
@@ -124,7 +125,8 @@ same_entry line n l a b e f x y =
     let tf = said f.made.reply y.numbers ++ cite_words f.made.cites in
     let cut = cut-first (codes "=") ve vf te tf (no-equals ve (plain-event t e.made.op)) (no-equals vf (plain-event f.made.caller f.made.op)) (ap (drop 2) words) in
     let event = one_event t e.made.op f.made.op he.2 readable (cut.0 ∙ ap (λ (z : Thread). event_words z f.made.op) (sym at.0)) in
-    let tails = cut_cites (said e.made.reply x.numbers) (said f.made.reply y.numbers) e.made.cites f.made.cites (unsigned e.made.reply x.numbers x.line.fits.reply) (unsigned f.made.reply y.numbers y.line.fits.reply) cut.1 in
+    let tails = cut_cites (said e.made.reply x.numbers) (said f.made.reply y.numbers) e.made.cites f.made.cites
+    (unsigned e.made.reply x.numbers x.line.fits.reply) (unsigned f.made.reply y.numbers y.line.fits.reply) cut.1 in
     let meant = subst (λ (z : Op). IsMeant z f.made.reply) (sym event) y.meant in
     let told = one_reply (takes e.made.op) (sweeps e.made.op) e.made.reply f.made.reply x.numbers y.numbers x.line.fits.reply y.line.fits.reply x.line.shown y.line.shown
     (meant_by e.made.op l e.made.reply x.numbers x.meant x.begins) (meant_by e.made.op l f.made.reply y.numbers meant y.begins) tails.0 in
@@ -147,9 +149,11 @@ pub record SameRead (es fs : List Entry) (a b : Lists) : Type 0 where
 pub same_read : (n : ℕ) (l : Lists) (es fs : List Entry) (s t : List ℕ) (a b : Lists) (j k : ℕ) → ReadsLines n l es s a → ReadsLines n l fs t b → s ++ end_text j ≡ t ++ end_text k → SameRead es fs a b
 same_read n l [] [] s t a b j k x y e = record { entries = refl; lists = x.1 ∙ sym y.1 }
 same_read n l [] (f ∷ fs) s t a b j k x y e =
-    absurd (not_last n y.0 ((10 ∷ y.1) ++ end_text k) _ (entry_of y.0 n l y.2 f y.4) (sym (append_assoc y.0 (10 ∷ y.1) (end_text k)) ∙ (sym (ap (λ z. z ++ end_text k) y.3) ∙ (sym e ∙ ap (λ z. z ++ end_text j) x.0))))
+    absurd (not_last n y.0 ((10 ∷ y.1) ++ end_text k) _ (entry_of y.0 n l y.2 f y.4)
+    (sym (append_assoc y.0 (10 ∷ y.1) (end_text k)) ∙ (sym (ap (λ z. z ++ end_text k) y.3) ∙ (sym e ∙ ap (λ z. z ++ end_text j) x.0))))
 same_read n l (e ∷ es) [] s t a b j k x y q =
-    absurd (not_last n x.0 ((10 ∷ x.1) ++ end_text j) _ (entry_of x.0 n l x.2 e x.4) (sym (append_assoc x.0 (10 ∷ x.1) (end_text j)) ∙ (sym (ap (λ z. z ++ end_text j) x.3) ∙ (q ∙ ap (λ z. z ++ end_text k) y.0))))
+    absurd (not_last n x.0 ((10 ∷ x.1) ++ end_text j) _ (entry_of x.0 n l x.2 e x.4)
+    (sym (append_assoc x.0 (10 ∷ x.1) (end_text j)) ∙ (sym (ap (λ z. z ++ end_text j) x.3) ∙ (q ∙ ap (λ z. z ++ end_text k) y.0))))
 same_read n l (e ∷ es) (f ∷ fs) s t a b j k x y q =
     let split : x.0 ++ (10 ∷ (x.1 ++ end_text j)) ≡ y.0 ++ (10 ∷ (y.1 ++ end_text k)) =
     sym (append_assoc x.0 (10 ∷ x.1) (end_text j)) ∙ (sym (ap (λ z. z ++ end_text j) x.3) ∙ (q ∙ (ap (λ z. z ++ end_text k) y.3 ∙ append_assoc y.0 (10 ∷ y.1) (end_text k)))) in

@@ -1,5 +1,6 @@
 -- Where a line stands that is refused, and why it is.
-use Rattle.std.proofs.Common.{◌≡◌, ◌≢◌, ℕ, zero, suc, ◌+◌, ◌-◌, ◌<◌, ◌^◌, ◌⊎◌, inl, inr, true, false, List, [], ◌∷◌, ◌++◌, get_or, length, take, drop, All, codes, decimal, refl, sym, ap, ◌∙◌, subst, arith, append_assoc, true≢false}
+use Rattle.std.proofs.Common.{◌≡◌, ◌≢◌, ℕ, zero, suc, ◌+◌, ◌-◌, ◌<◌, ◌^◌, ◌⊎◌, inl, inr, true, false, List, [], ◌∷◌, ◌++◌, get_or, length, take, drop, All, codes, decimal, refl, sym, ap, ◌∙◌, subst}
+use Rattle.std.proofs.Common.{arith, append_assoc, true≢false}
 use Rattle.std.specs.Prelude.{nat_eq}
 use Rattle.std.proofs.lemmas.List.{take_all, append_cancel_right}
 use Rattle.std.proofs.lemmas.List.Elements.{All-cons, All-nil}
@@ -48,7 +49,8 @@ no_end : (n : ℕ) (text left : List ℕ) → (get_or (text ++ (10 ∷ left)) 0 
 no_end n [] left k e = (let q = first_same (10 ∷ []) (end_text n) e.1 in omega (arith, q))
 no_end n (b ∷ text) left k e = k (first_same (b ∷ (text ++ 10 ∷ [])) (end_text n) e.1)
 
-pub unread : (before : ℕ) (bytes text left : List ℕ) → All (λ b. b ≢ 10) text → bytes ≡ text ++ (10 ∷ left) → (get_or bytes 0 0 ≡ 101 → ⊥) → ((e : Entry) (ns : List ℕ) → e.number ≡ before → IsLineOf text e ns → ⊥)
+pub unread : (before : ℕ) (bytes text left : List ℕ) → All (λ b. b ≢ 10) text → bytes ≡ text ++ (10 ∷ left)
+    → (get_or bytes 0 0 ≡ 101 → ⊥) → ((e : Entry) (ns : List ℕ) → e.number ≡ before → IsLineOf text e ns → ⊥)
     → IsFaultHere before false bytes record { line = before + 1; cause = cause.Form }
 unread before bytes text left all cut other none = record {
   here = closed text before;
@@ -77,7 +79,8 @@ end_is n text e = ap (λ z. z ++ 10 ∷ []) (sym e) ∙ append_assoc (codes "end
 end_from : (n : ℕ) (text : List ℕ) → text ++ 10 ∷ [] ≡ end_text n → IsEnd text n
 end_from n text e = append_cancel_right (codes "end " ++ decimal n) text (10 ∷ []) (append_assoc (codes "end ") (decimal n) (10 ∷ []) ∙ sym e)
 
-pub unended : (before : ℕ) (bytes text left : List ℕ) → All (λ b. b ≢ 10) text → bytes ≡ text ++ (10 ∷ left) → get_or bytes 0 0 ≡ 101 → ((n : ℕ) → n < 2 ^ 64 → IsEnd text n → ⊥) → IsFaultHere before false bytes record { line = before + 1; cause = cause.Form }
+pub unended : (before : ℕ) (bytes text left : List ℕ) → All (λ b. b ≢ 10) text → bytes ≡ text ++ (10 ∷ left) → get_or bytes 0 0 ≡ 101
+    → ((n : ℕ) → n < 2 ^ 64 → IsEnd text n → ⊥) → IsFaultHere before false bytes record { line = before + 1; cause = cause.Form }
 unended before bytes text left all cut first none = record {
   here = closed text before;
   count = refl;
@@ -88,7 +91,8 @@ unended before bytes text left all cut first none = record {
   has = (refl, inr (no_entry before bytes text left cut first, λ n e. none n e.0 (end_from n text e.1)));
 }
 
-pub misended : (before : ℕ) (bytes text left : List ℕ) (n : ℕ) → All (λ b. b ≢ 10) text → bytes ≡ text ++ (10 ∷ left) → n < 2 ^ 64 → IsEnd text n → n ≢ before → IsFaultHere before false bytes record { line = before + 1; cause = cause.Ending }
+pub misended : (before : ℕ) (bytes text left : List ℕ) (n : ℕ) → All (λ b. b ≢ 10) text → bytes ≡ text ++ (10 ∷ left)
+    → n < 2 ^ 64 → IsEnd text n → n ≢ before → IsFaultHere before false bytes record { line = before + 1; cause = cause.Ending }
 misended before bytes text left n all cut few e other = record {
   here = closed text before;
   count = refl;

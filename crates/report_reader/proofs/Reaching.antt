@@ -57,14 +57,22 @@ front_refused old bytes (error.Refused fault) none few f =
     let fault_is : IsReportFault bytes fault = inl record { texts = k.texts; lines = k.lines; ended = false; behind = g.left; cut = g.reads.cut ∙ ap (λ z. z ++ g.left) k.whole; found = here } in
     (fault_is, no_report bytes fault few fault_is)
 
-pub end_refused : (old new : Read) (bytes left : List ℕ) (e : ReportError) → Nothing old → length bytes < 4294967295 → ReadsTo old new bytes left → IsEndError (length new.entries) left e → IsReportRefusal bytes e
+pub end_refused : (old new : Read) (bytes left : List ℕ) (e : ReportError) → Nothing old → length bytes < 4294967295
+    → ReadsTo old new bytes left → IsEndError (length new.entries) left e → IsReportRefusal bytes e
 end_refused old new bytes left error.OutOfMemory none few r f = tt
 end_refused old new bytes left (error.Refused fault) none few r f =
     let g = subst (λ (z : Read). ReadsTo z new bytes left) none r in
     let k = entry_lines 0 no_lists new.entries g.text new.lists g.lines in
     let cut : bytes ≡ closed_lines k.texts ++ left = g.cut ∙ ap (λ z. z ++ left) k.whole in
     let fault_is : IsReportFault bytes fault = elim f [
-      | inl a ↦ inr record { texts = k.texts; lines = k.lines; all = cut ∙ (ap (λ z. closed_lines k.texts ++ z) a.none ∙ append-nil (closed_lines k.texts)); number = a.number ∙ ap (λ n. n + 1) (sym k.count); cause = a.cause }
+      | inl a ↦ inr record {
+        texts = k.texts;
+        lines = k.lines;
+        all = cut
+            ∙ (ap (λ z. closed_lines k.texts ++ z) a.none ∙ append-nil (closed_lines k.texts));
+        number = a.number ∙ ap (λ n. n + 1) (sym k.count);
+        cause = a.cause;
+      }
       | inr b ↦ elim b [
         | inl h ↦ inl record { texts = k.texts; lines = k.lines; ended = false; behind = left; cut = cut; found = subst (λ n. IsFaultHere n false left fault) (sym k.count) h }
         | inr m ↦ inl record {

@@ -158,7 +158,8 @@ read-number n l = (decimal_is_IsNumeral n l).1
 -- a first word that is a number, and one that is a letter with a number
 number_first : (takes sweeps : Bool) (n : ℕ) (ws : List (List ℕ)) → n < 2 ^ 64 → read takes sweeps (decimal n ∷ ws) ≡ by_number sweeps n ws
 number_first takes sweeps n ws l =
-    ap (λ t. cond t (by_number sweeps (number_of (decimal n)) ws) (cond (is_digit (get_or (decimal n) 1 0)) (by_letter takes (byte_of (decimal n)) (number_in (decimal n)) ws) (by_word (decimal n) ws))) (first_digit n l)
+    ap (λ t. cond t (by_number sweeps (number_of (decimal n)) ws)
+    (cond (is_digit (get_or (decimal n) 1 0)) (by_letter takes (byte_of (decimal n)) (number_in (decimal n)) ws) (by_word (decimal n) ws))) (first_digit n l)
     ∙ ap (λ k. by_number sweeps k ws) (read-number n l)
 
 letter_first : (takes sweeps : Bool) (b n : ℕ) (ws : List (List ℕ)) → is_digit b ≡ false → n < 2 ^ 64 → read takes sweeps ((b ∷ decimal n) ∷ ws) ≡ by_letter takes b n ws
@@ -197,13 +198,15 @@ took_read false sweeps s (n ∷ []) h m = absurd (m refl refl)
 took_read takes sweeps s (n ∷ k ∷ ns) h m =
     letter_first takes sweeps 109 n (lettered 109 (k ∷ ns)) refl (wide n (All-head Short n (k ∷ ns) h)) ∙ ap (λ z. (reply.Took no_span, n ∷ z)) (list_read 109 (k ∷ ns) (All-tail Short n (k ∷ ns) h))
 
-snapped_read : (takes sweeps : Bool) (n : ℕ) (s : Span) (ns : List ℕ) → Short n → All Short ns → (sweeps ≡ true → length ns ≢ 0) → read takes sweeps (said (reply.Snapped n s) ns) ≡ (reply.Snapped n no_span, ns)
+snapped_read : (takes sweeps : Bool) (n : ℕ) (s : Span) (ns : List ℕ) → Short n → All Short ns
+    → (sweeps ≡ true → length ns ≢ 0) → read takes sweeps (said (reply.Snapped n s) ns) ≡ (reply.Snapped n no_span, ns)
 snapped_read takes false n s [] l h m = number_first takes false n (codes "freed" ∷ codes "-" ∷ []) (wide n l)
 snapped_read takes true n s [] l h m = absurd (m refl refl)
 snapped_read takes sweeps n s (k ∷ ns) l h m =
     number_first takes sweeps n (codes "freed" ∷ lettered 109 (k ∷ ns)) (wide n l) ∙ ap (λ z. (reply.Snapped n no_span, z)) (list_read 109 (k ∷ ns) h)
 
-swept_read : (takes sweeps : Bool) (n : ℕ) (s : Span) (ns : List ℕ) → Short n → All Short ns → (sweeps ≡ false → length ns ≢ 0) → read takes sweeps (said (reply.Swept record { 0 = n } s) ns) ≡ (reply.Swept record { 0 = n } no_span, ns)
+swept_read : (takes sweeps : Bool) (n : ℕ) (s : Span) (ns : List ℕ) → Short n → All Short ns → (sweeps ≡ false → length ns ≢ 0)
+    → read takes sweeps (said (reply.Swept record { 0 = n } s) ns) ≡ (reply.Swept record { 0 = n } no_span, ns)
 swept_read takes true n s [] l h m = number_first takes true n (codes "freed" ∷ codes "-" ∷ []) (wide n l)
 swept_read takes false n s [] l h m = absurd (m refl refl)
 swept_read takes sweeps n s (k ∷ ns) l h m =
@@ -264,7 +267,8 @@ read_back takes sweeps reply.Done ns f w g = refl
 read_back takes sweeps reply.Cleared ns f w g = refl
 
 -- so replies with the same words are one, but for where their spans stand
-pub one_reply : (takes sweeps : Bool) (r r' : Reply) (ns ns' : List ℕ) → FitsReply r → FitsReply r' → IsShown r ns → IsShown r' ns' → MeantBy takes sweeps r ns → MeantBy takes sweeps r' ns' → said r ns ≡ said r' ns' → (bare r ≡ bare r') × (shown_by r ns ≡ shown_by r' ns')
+pub one_reply : (takes sweeps : Bool) (r r' : Reply) (ns ns' : List ℕ) → FitsReply r → FitsReply r' → IsShown r ns → IsShown r' ns'
+    → MeantBy takes sweeps r ns → MeantBy takes sweeps r' ns' → said r ns ≡ said r' ns' → (bare r ≡ bare r') × (shown_by r ns ≡ shown_by r' ns')
 one_reply takes sweeps r r' ns ns' f f' w w' g g' e =
     let q = sym (read_back takes sweeps r ns f w g) ∙ (ap (read takes sweeps) e ∙ read_back takes sweeps r' ns' f' w' g') in
     (ap (λ (z : Reply × List ℕ). z.0) q, ap (λ (z : Reply × List ℕ). z.1) q)

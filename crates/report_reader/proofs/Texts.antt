@@ -41,16 +41,19 @@ words_same h e =
     let r = reply_words e.made.reply in
     let s = shown h (list_of e.made.reply) in
     let c = cite_words e.made.cites in
-    ap (λ z. place_text e.made.caller e.made.index ∷ z) (append_assoc v (codes "=" ∷ r) (s ++ c) ∙ ap (λ z. v ++ (codes "=" ∷ z)) (sym (append_assoc r s c) ∙ ap (λ z. (r ++ z) ++ c) (shown_said h (list_of e.made.reply))))
+    ap (λ z. place_text e.made.caller e.made.index ∷ z) (append_assoc v (codes "=" ∷ r) (s ++ c)
+    ∙ ap (λ z. v ++ (codes "=" ∷ z)) (sym (append_assoc r s c) ∙ ap (λ z. (r ++ z) ++ c) (shown_said h (list_of e.made.reply))))
 
 pub entry_spaced : (h : Finished) (e : Entry) → entry_text h e ≡ spaced (line_words e (named_in h e.made.reply)) ++ 10 ∷ []
-entry_spaced h e = entry-line h e ∙ ap (λ t. t ++ 10 ∷ []) (ap (λ ws. decimal e.number ++ after_spaces ws) (words_same h e) ∙ sym (spaced_after (decimal e.number) (place_words e (named_in h e.made.reply))))
+entry_spaced h e = entry-line h e ∙ ap (λ t. t ++ 10 ∷ []) (ap (λ ws. decimal e.number ++ after_spaces ws) (words_same h e)
+    ∙ sym (spaced_after (decimal e.number) (place_words e (named_in h e.made.reply))))
 
 -- it has no newline
 line_lacks : (e : Entry) (ns : List ℕ) → Lacks 10 (spaced (line_words e ns))
 line_lacks e ns =
     let l = words_lack 10 (omega arith) e ns in
-    subst (Lacks 10) (sym (spaced_after (decimal e.number) (place_words e ns))) (every-append (λ (x : ℕ). (x ≡ 10) → ⊥) (decimal e.number) (after_spaces (place_words e ns)) l.0 (after-lack 10 (omega arith) (place_words e ns) l.1))
+    subst (Lacks 10) (sym (spaced_after (decimal e.number) (place_words e ns)))
+    (every-append (λ (x : ℕ). (x ≡ 10) → ⊥) (decimal e.number) (after_spaces (place_words e ns)) l.0 (after-lack 10 (omega arith) (place_words e ns) l.1))
 
 pub text_lacks : (n : ℕ) (text : List ℕ) → IsEntryText n text → Lacks 10 text
 text_lacks n text t = subst (Lacks 10) (sym t.line.same) (line_lacks t.entry t.numbers)

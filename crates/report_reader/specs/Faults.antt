@@ -31,7 +31,8 @@ pub record Placed : Type 0 where
 
 -- its cause: a line behind the last one has that of the ending alone
 abbrev pub Has : Placed → ReportCause → Type 0
-Has l cause.Form = (l.ended ≡ false) × ((l.closed ≡ false) ⊎ ((IsEntryText l.before l.text → ⊥) × ((n : ℕ) → IsEndText n l.text → ⊥)))
+Has l cause.Form = (l.ended ≡ false) × ((l.closed ≡ false)
+    ⊎ ((IsEntryText l.before l.text → ⊥) × ((n : ℕ) → IsEndText n l.text → ⊥)))
 Has l cause.Ending = (l.ended ≡ true) ⊎ ((l.closed ≡ true) × ((n : ℕ) × IsEndText n l.text × (n ≢ l.before)))
 
 -- lines of entries, numbered from there on, one behind another
@@ -56,7 +57,8 @@ front_count texts true = length texts + 1
 
 -- the line is the first of these bytes: one with a newline, or the bytes that there are where none of them is one
 abbrev pub StandsFirst : Placed → List ℕ → Type 0
-StandsFirst l bytes = ((rest : List ℕ) × (l.closed ≡ true) × (bytes ≡ l.text ++ (10 ∷ rest))) ⊎ ((l.closed ≡ false) × (0 < length l.text) × (bytes ≡ l.text))
+StandsFirst l bytes = ((rest : List ℕ) × (l.closed ≡ true) × (bytes ≡ l.text ++ (10 ∷ rest)))
+    ⊎ ((l.closed ≡ false) × (0 < length l.text) × (bytes ≡ l.text))
 
 -- the fault names the first line of these bytes, behind so many others, and its cause
 pub record IsFaultHere (before : ℕ) (ended : Bool) (bytes : List ℕ) (fault : ReportFault) : Type 0 where

@@ -53,4 +53,5 @@ EachIsReadBack = (h : Finished) → IsValue h → length (report h) < 2 ^ 32 →
 -- a history whose replies are those that their events have, and whose spans stand one behind another, is read of its
 -- report as itself, but for what stands in its lists behind the last number that is named
 abbrev pub NamedIsRead : Type 0
-NamedIsRead = (h : Finished) → IsValue h → All (λ e. IsMeant e.made.op e.made.reply) h.entries → SpansRun no_ends h.entries → length (report h) < 2 ^ 32 → IsReadAs (report h) (as_named h)
+NamedIsRead = (h : Finished) → IsValue h → All (λ e. IsMeant e.made.op e.made.reply) h.entries
+    → SpansRun no_ends h.entries → length (report h) < 2 ^ 32 → IsReadAs (report h) (as_named h)

@@ -22,13 +22,19 @@ no_lists = record { managed = []; peers = []; notices = [] }
 
 -- the history of what was read
 abbrev pub history_of : Read → Finished
-history_of r = record { entries = r.entries; freed_managed = r.lists.managed; freed_peers = r.lists.peers; notices = r.lists.notices }
+history_of r = record {
+  entries = r.entries;
+  freed_managed = r.lists.managed;
+  freed_peers = r.lists.peers;
+  notices = r.lists.notices;
+}
 
 -- the entries were read from the lines of a text, each numbered by the lines before it, and their lists put behind
 -- those before
 abbrev pub ReadsLines : ℕ → Lists → List Entry → List ℕ → Lists → Type 0
 ReadsLines n before [] text after = (text ≡ []) × (after ≡ before)
-ReadsLines n before (e ∷ es) text after = (line : List ℕ) × (rest : List ℕ) × (mid : Lists) × (text ≡ line ++ (10 ∷ rest)) × ReadsEntry line n before mid e × ReadsLines (n + 1) mid es rest after
+ReadsLines n before (e ∷ es) text after = (line : List ℕ) × (rest : List ℕ) × (mid : Lists)
+    × (text ≡ line ++ (10 ∷ rest)) × ReadsEntry line n before mid e × ReadsLines (n + 1) mid es rest after
 
 -- one more line was read as the next entry, and these bytes are left
 pub record ReadsLine (old new : Read) (bytes left : List ℕ) : Type 0 where
@@ -79,4 +85,5 @@ pub record LeavesMore (before : ℕ) (bytes : List ℕ) (fault : ReportFault) : 
 -- why the bytes behind so many entries' lines aren't the last line
 abbrev pub IsEndError : ℕ → List ℕ → ReportError → Type 0
 IsEndError before bytes error.OutOfMemory = ⊥
-IsEndError before bytes (error.Refused fault) = LeavesNone before bytes fault ⊎ (IsFaultHere before false bytes fault ⊎ LeavesMore before bytes fault)
+IsEndError before bytes (error.Refused fault) = LeavesNone before bytes fault
+    ⊎ (IsFaultHere before false bytes fault ⊎ LeavesMore before bytes fault)

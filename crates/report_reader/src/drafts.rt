@@ -1,6 +1,7 @@
 // What was read so far: the entries of the lines, and the lists that they name.
 
-ghost use Rattle.std.specs.Prelude.{◌≡◌, ◌≢◌, ◌+◌, ◌<◌, ◌≤◌, ◌++◌, ℕ, [], ◌∷◌, All, length, slice_index, IfOk, IfErr, MatchOption};
+ghost use Rattle.std.specs.Prelude.{◌≡◌, ◌≢◌, ◌+◌, ◌<◌, ◌≤◌, ◌++◌, ℕ, [], ◌∷◌, All, length, slice_index, IfOk, IfErr};
+ghost use Rattle.std.specs.Prelude.{MatchOption};
 ghost use Rattle.joint_machine.specs.Histories.{IsHistory};
 ghost use Rattle.report_reader.specs.Steps.{ReadsLine, IsLineError, history_of, no_lists};
 
@@ -55,7 +56,8 @@ fn line_end(bytes: &[u8]) -> usize
 /// The first line without its newline, and what stands behind it; None where there is no newline.
 #[inline(always)]
 pub(crate) fn cut_line<'a>(bytes: &'a [u8]) -> Option<(Stretch<'a>, &'a [u8])>
-    ensures { MatchOption result (All (λ b. b ≢ 10) bytes.now) (λ cut. All (λ b. b ≢ 10) cut.0 × (bytes.now ≡ cut.0 ++ (10 ∷ cut.1.now))) }
+    ensures { MatchOption result (All (λ b. b ≢ 10) bytes.now)
+        (λ cut. All (λ b. b ≢ 10) cut.0 × (bytes.now ≡ cut.0 ++ (10 ∷ cut.1.now))) }
 {
     let len = line_end(bytes);
     if len == bytes.len() {

@@ -1,6 +1,7 @@
 // The last line of a report.
 
-ghost use Rattle.std.specs.Prelude.{◌≡◌, ◌≢◌, ℕ, ◌+◌, ◌<◌, ◌≤◌, ◌⊎◌, ◌^◌, ◌++◌, [], length, slice_index, codes, decimal, MatchOption, MatchResult};
+ghost use Rattle.std.specs.Prelude.{◌≡◌, ◌≢◌, ℕ, ◌+◌, ◌<◌, ◌≤◌, ◌⊎◌, ◌^◌, ◌++◌, [], length, slice_index, codes};
+ghost use Rattle.std.specs.Prelude.{decimal, MatchOption, MatchResult};
 ghost use Rattle.history_report.specs.Report.{end_text};
 ghost use Rattle.report_reader.specs.Steps.{IsEndError, IsMoreError};
 
@@ -10,7 +11,8 @@ use text_words::{is_same, number};
 
 // The number behind `end `, where the line is that and no more.
 fn end_number(text: &[u8]) -> Option<u64>
-    ensures { MatchOption result ((n : ℕ) → n < 2 ^ 64 → codes "end " ++ decimal n ≢ text.now) (λ n. (n < 2 ^ 64) × (codes "end " ++ decimal n ≡ text.now)) }
+    ensures { MatchOption result ((n : ℕ) → n < 2 ^ 64 → codes "end " ++ decimal n ≢ text.now)
+        (λ n. (n < 2 ^ 64) × (codes "end " ++ decimal n ≡ text.now)) }
 {
     if text.len() < 4 || !is_same(&text[..4], b"end ") {
         return None;

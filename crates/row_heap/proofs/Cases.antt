@@ -16,7 +16,8 @@ got-range name h v w i x e l =
     ap (λ o. elim o [ None ↦ answer says.Empty h | Some x ↦ if nat_le (length (fields_of h x)) i then answer says.Range h else read_into name h v (slot (fields_of h x) i) ]) e
     ∙ ap (λ b. if b then answer says.Range h else read_into name h v (slot (fields_of h x) i)) (le-leb (length (fields_of h x)) i l)
 
-pub got-read : (name : ℕ → Reply) (h : Heap) (v w i x : ℕ) (y : Option ℕ) → slot h.vars w ≡ Some x → i < length (fields_of h x) → slot (fields_of h x) i ≡ y → field_got name h v w i ≡ read_into name h v y
+pub got-read : (name : ℕ → Reply) (h : Heap) (v w i x : ℕ) (y : Option ℕ) → slot h.vars w ≡ Some x
+    → i < length (fields_of h x) → slot (fields_of h x) i ≡ y → field_got name h v w i ≡ read_into name h v y
 got-read name h v w i x y e l read =
     ap (λ o. elim o [ None ↦ answer says.Empty h | Some x ↦ if nat_le (length (fields_of h x)) i then answer says.Range h else read_into name h v (slot (fields_of h x) i) ]) e
     ∙ (ap (λ b. if b then answer says.Range h else read_into name h v (slot (fields_of h x) i)) (lt-leb (length (fields_of h x)) i l) ∙ ap (read_into name h v) read)
@@ -41,7 +42,8 @@ field-none old new x i w e is = ap (field_stored old.heap x i) e ∙ ap (λ (v :
 pub field-empty : (h : Heap) (x i : ℕ) (w : Option ℕ) (p : ℕ) → w ≡ Some p → slot h.vars p ≡ None → field_stored h x i w ≡ answer says.Empty h
 field-empty h x i w p e at = ap (field_stored h x i) e ∙ ap (λ o. elim o [ None ↦ answer says.Empty h | Some y ↦ answer says.Ok (with_field h x i (Some y)) ]) at
 
-pub field-some : (old new : HeapRows) (x i : ℕ) (w : Option ℕ) (p y : ℕ) → w ≡ Some p → slot old.heap.vars p ≡ Some y → new ≡ record old { heap = with_field old.heap x i (Some y) } → field_stored old.heap x i w ≡ answer says.Ok new.heap
+pub field-some : (old new : HeapRows) (x i : ℕ) (w : Option ℕ) (p y : ℕ) → w ≡ Some p → slot old.heap.vars p ≡ Some y
+    → new ≡ record old { heap = with_field old.heap x i (Some y) } → field_stored old.heap x i w ≡ answer says.Ok new.heap
 field-some old new x i w p y e at is =
     ap (field_stored old.heap x i) e
     ∙ (ap (λ o. elim o [ None ↦ answer says.Empty old.heap | Some y ↦ answer says.Ok (with_field old.heap x i (Some y)) ]) at ∙ ap (λ (v : HeapRows). answer says.Ok v.heap) (sym is))
@@ -52,7 +54,8 @@ static-none old new s w e is = ap (stored old.heap s) e ∙ ap (λ (v : HeapRows
 pub static-empty : (h : Heap) (s : ℕ) (w : Option ℕ) (p : ℕ) → w ≡ Some p → slot h.vars p ≡ None → stored h s w ≡ answer says.Empty h
 static-empty h s w p e at = ap (stored h s) e ∙ ap (λ o. elim o [ None ↦ answer says.Empty h | Some y ↦ answer says.Ok (with_static h s (Some y)) ]) at
 
-pub static-some : (old new : HeapRows) (s : ℕ) (w : Option ℕ) (p y : ℕ) → w ≡ Some p → slot old.heap.vars p ≡ Some y → new ≡ record old { heap = with_static old.heap s (Some y) } → stored old.heap s w ≡ answer says.Ok new.heap
+pub static-some : (old new : HeapRows) (s : ℕ) (w : Option ℕ) (p y : ℕ) → w ≡ Some p → slot old.heap.vars p ≡ Some y
+    → new ≡ record old { heap = with_static old.heap s (Some y) } → stored old.heap s w ≡ answer says.Ok new.heap
 static-some old new s w p y e at is =
     ap (stored old.heap s) e
     ∙ (ap (λ o. elim o [ None ↦ answer says.Empty old.heap | Some y ↦ answer says.Ok (with_static old.heap s (Some y)) ]) at ∙ ap (λ (v : HeapRows). answer says.Ok v.heap) (sym is))

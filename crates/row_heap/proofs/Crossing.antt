@@ -22,7 +22,8 @@ abbrev pub IsLed : List (End × End) → List End → ℕ → Type 0
 IsLed refs done y = (e : End) × Contains done e × Contains refs (e, node y)
 
 -- a marking goes through what row x refers to: these ends are done, and these temporaries wait
-pub record Crossing (refs : List (End × End)) (x : ℕ) (before : List Bool) (m0 : List Bool) (k0 : List ℕ) (h0 : ℕ) (seen : List Bool) (links : List ℕ) (through : ℕ) (m : List Bool) (k : List ℕ) (h : ℕ) : Type 0 where
+pub record Crossing (refs : List (End × End)) (x : ℕ) (before : List Bool) (m0 : List Bool) (k0 : List ℕ)
+    (h0 : ℕ) (seen : List Bool) (links : List ℕ) (through : ℕ) (m : List Bool) (k : List ℕ) (h : ℕ) : Type 0 where
   pub done : List End
   pub waits : List ℕ
   pub chained : Chained seen links through waits
@@ -54,8 +55,10 @@ pub Raises-none : (p : ℕ → Type 0) (a : List Bool) → ((k : ℕ) → p k �
 Raises-none p a none = record { kept = λ k m. m; done = λ k w. absurd (none k w) }
 
 -- the row's own references are done
-pub crossing-begins : (refs : List (End × End)) (x : ℕ) (before : List Bool) (l0 : List ℕ) (m0 : List Bool) (k0 : List ℕ) (h0 : ℕ) (seen : List Bool) (links : List ℕ) (through : ℕ) (m : List Bool) (k : List ℕ) (h : ℕ)
-    → Raises (λ y. Contains refs (node x, node y)) m0 m → Greyed (λ y. Contains refs (node x, node y)) m0 k0 h0 m k h → Greyed (Sees refs (node x)) before l0 0 seen links through → Crossing refs x before m0 k0 h0 seen links through m k h
+pub crossing-begins : (refs : List (End × End)) (x : ℕ) (before : List Bool) (l0 : List ℕ) (m0 : List Bool)
+    (k0 : List ℕ) (h0 : ℕ) (seen : List Bool) (links : List ℕ) (through : ℕ) (m : List Bool) (k : List ℕ) (h : ℕ)
+    → Raises (λ y. Contains refs (node x, node y)) m0 m → Greyed (λ y. Contains refs (node x, node y)) m0 k0 h0 m k h
+    → Greyed (Sees refs (node x)) before l0 0 seen links through → Crossing refs x before m0 k0 h0 seen links through m k h
 crossing-begins refs x before l0 m0 k0 h0 seen links through m k h raised greyed sight =
     let g = sight [] record { chain = refl; marked = λ t w. absurd (Contains-nil t w) } in
     let own : (y : ℕ) → IsLed refs (node x ∷ []) y → Contains refs (node x, node y) = λ y w. subst (λ e. Contains refs (e, node y)) (only w.0 w.1) w.2 in
@@ -72,7 +75,8 @@ crossing-begins refs x before l0 m0 k0 h0 seen links through m k h raised greyed
       parted = λ t s. elim (g.scans.fresh (suc t) s) [ inl w ↦ inl w | inr w ↦ inr (inl w.1) ];
       on = λ e u c r. g.scans.done (suc u) (sees refs (node x) u (subst (λ d. Contains refs (d, temporary u)) (only e c) r));
       raised = record { kept = raised.kept; done = λ y w. raised.done y (own y w) };
-      greyed = Greyed-then (λ y. Contains refs (node x, node y)) (λ y. ⊥) (IsLed refs (node x ∷ [])) _ _ _ _ _ _ _ _ _ (λ y w. inl (own y w)) (λ y c. (node x, Contains-here (node x) [], c)) (λ y f. absurd f) greyed (still m k h);
+      greyed = Greyed-then (λ y. Contains refs (node x, node y)) (λ y. ⊥) (IsLed refs (node x ∷ [])) _ _ _ _ _ _ _ _ _
+          (λ y w. inl (own y w)) (λ y c. (node x, Contains-here (node x) [], c)) (λ y f. absurd f) greyed (still m k h);
       len = g.scans.len;
       room = omega (arith, g.scans.same);
     }
@@ -89,7 +93,8 @@ crossing-begins refs x before l0 m0 k0 h0 seen links through m k h raised greyed
     }
 
 -- the first temporary that waits is seen, and the row leads over it
-module _ (refs : List (End × End)) (x : ℕ) (before : List Bool) (m0 : List Bool) (k0 : List ℕ) (h0 : ℕ) (seen : List Bool) (links : List ℕ) (t : ℕ) (m : List Bool) (k : List ℕ) (h : ℕ) (i : Crossing refs x before m0 k0 h0 seen links (suc t) m k h) where
+module _ (refs : List (End × End)) (x : ℕ) (before : List Bool) (m0 : List Bool) (k0 : List ℕ) (h0 : ℕ) (seen : List Bool)
+    (links : List ℕ) (t : ℕ) (m : List Bool) (k : List ℕ) (h : ℕ) (i : Crossing refs x before m0 k0 h0 seen links (suc t) m k h) where
   first-waits : Contains i.waits (suc t)
   first-waits = by i.waits i.chained.chain
     where
@@ -104,8 +109,10 @@ module _ (refs : List (End × End)) (x : ℕ) (before : List Bool) (m0 : List Bo
   crossing-over y c = i.ahead t [] y first-waits c
 
 -- the first temporary that waits is gone through
-pub crossing-goes : (refs : List (End × End)) (x : ℕ) (before : List Bool) (m0 : List Bool) (k0 : List ℕ) (h0 : ℕ) (seen : List Bool) (links : List ℕ) (t next : ℕ) (m : List Bool) (k : List ℕ) (h : ℕ) (seen' : List Bool) (links' : List ℕ) (through' : ℕ) (m' : List Bool) (k' : List ℕ) (h' : ℕ)
-    → Crossing refs x before m0 k0 h0 seen links (suc t) m k h → slice_get links (suc t) ≡ Some next → Raises (λ y. Contains refs (temporary t, node y)) m m' → Greyed (λ y. Contains refs (temporary t, node y)) m k h m' k' h' → Greyed (Sees refs (temporary t)) seen links next seen' links' through'
+pub crossing-goes : (refs : List (End × End)) (x : ℕ) (before : List Bool) (m0 : List Bool) (k0 : List ℕ) (h0 : ℕ) (seen : List Bool) (links : List ℕ)
+    (t next : ℕ) (m : List Bool) (k : List ℕ) (h : ℕ) (seen' : List Bool) (links' : List ℕ) (through' : ℕ) (m' : List Bool) (k' : List ℕ) (h' : ℕ)
+    → Crossing refs x before m0 k0 h0 seen links (suc t) m k h → slice_get links (suc t) ≡ Some next → Raises (λ y. Contains refs (temporary t, node y)) m m'
+    → Greyed (λ y. Contains refs (temporary t, node y)) m k h m' k' h' → Greyed (Sees refs (temporary t)) seen links next seen' links' through'
     → Crossing refs x before m0 k0 h0 seen' links' through' m' k' h'
 crossing-goes refs x before m0 k0 h0 seen links t next m k h seen' links' through' m' k' h' i at raised greyed sight = by i.waits i.chained.chain refl
   where
@@ -157,23 +164,27 @@ crossing-goes refs x before m0 k0 h0 seen links t next m k h seen' links' throug
         split y w = elim (Contains-push_cases i.done (temporary t) w.0 w.1) [ inl v ↦ inl (w.0, v, w.2) | inr v ↦ inr (subst (λ q. Contains refs (q, node y)) (sym v) w.2) ]
 
 -- each turn makes the measure smaller
-pub crossing-smaller : (refs : List (End × End)) (x : ℕ) (before : List Bool) (m0 : List Bool) (k0 : List ℕ) (h0 : ℕ) (seen : List Bool) (links : List ℕ) (t next : ℕ) (m : List Bool) (k : List ℕ) (h : ℕ) (seen' : List Bool) (links' : List ℕ) (through' : ℕ)
+pub crossing-smaller : (refs : List (End × End)) (x : ℕ) (before : List Bool) (m0 : List Bool) (k0 : List ℕ) (h0 : ℕ) (seen : List Bool)
+    (links : List ℕ) (t next : ℕ) (m : List Bool) (k : List ℕ) (h : ℕ) (seen' : List Bool) (links' : List ℕ) (through' : ℕ)
     → Crossing refs x before m0 k0 h0 seen links (suc t) m k h → slice_get links (suc t) ≡ Some next → Greyed (Sees refs (temporary t)) seen links next seen' links' through'
     → unmarked seen' + length (greys links' (length seen') through') < unmarked seen + length (greys links (length seen) (suc t))
 crossing-smaller refs x before m0 k0 h0 seen links t next m k h seen' links' through' i at sight = by i.waits i.chained.chain i.chained.marked i.room
   where
-    by : (waits : List ℕ) → GreyChain links (suc t) waits → ((u : ℕ) → Contains waits u → HasMark seen u) → unmarked seen + length waits ≤ unmarked before → unmarked seen' + length (greys links' (length seen') through') < unmarked seen + length (greys links (length seen) (suc t))
+    by : (waits : List ℕ) → GreyChain links (suc t) waits → ((u : ℕ) → Contains waits u → HasMark seen u) → unmarked seen + length waits ≤ unmarked before
+        → unmarked seen' + length (greys links' (length seen') through') < unmarked seen + length (greys links (length seen) (suc t))
     by [] c marked room = absurd (omega (arith, c))
     by (z ∷ rest) (ez, oz, (n, atz, tail)) marked room =
         let same : n ≡ next = (let q : Some n ≡ Some next = sym atz ∙ (ap (slice_get links) (sym ez) ∙ at) in cc) in
         let there : Chained seen links next rest = record { chain = subst (λ d. GreyChain links d rest) same tail; marked = λ u w. marked u (Contains-there u z rest w) } in
         let g = sight rest there in
         let old : greys links (length seen) (suc t) ≡ z ∷ rest = greys-of links (length seen) (suc t) (z ∷ rest) (ez, oz, (n, atz, tail)) (omega (arith, room, unmarked-le before, i.len)) in
-        let new : greys links' (length seen') through' ≡ g.waits = greys-of links' (length seen') through' g.waits g.chained.chain (omega (arith, g.scans.same, g.scans.len, room, unmarked-le before, i.len)) in
+        let new : greys links' (length seen') through' ≡ g.waits = greys-of links' (length seen') through' g.waits g.chained.chain
+        (omega (arith, g.scans.same, g.scans.len, room, unmarked-le before, i.len)) in
         rw (old, new) (omega (arith, g.scans.same))
 
 -- once none waits, what a done end leads to is marked
-module _ (refs : List (End × End)) (x : ℕ) (before : List Bool) (m0 : List Bool) (k0 : List ℕ) (h0 : ℕ) (seen : List Bool) (links : List ℕ) (m : List Bool) (k : List ℕ) (h : ℕ) (up : ℕ → Type 0) (i : Crossing refs x before m0 k0 h0 seen links 0 m k h)
+module _ (refs : List (End × End)) (x : ℕ) (before : List Bool) (m0 : List Bool) (k0 : List ℕ) (h0 : ℕ) (seen : List Bool)
+    (links : List ℕ) (m : List Bool) (k : List ℕ) (h : ℕ) (up : ℕ → Type 0) (i : Crossing refs x before m0 k0 h0 seen links 0 m k h)
     (sights : (t : ℕ) (ts : List ℕ) (y : ℕ) → HasMark before (suc t) → LeadsOver refs (temporary t) ts y → up y → HasMark m0 y) where
   none-waits : (t : ℕ) → Contains i.waits t → ⊥
   none-waits t c = Contains-nil t (subst (λ l. Contains l t) (GreyChain-one links 0 i.waits [] i.chained.chain refl) c)

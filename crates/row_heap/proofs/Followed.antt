@@ -21,7 +21,8 @@ abbrev pub SeenFrom : List (End × End) → ℕ → End → ℕ → Type 0
 SeenFrom refs r e n = (f : End) × LeadsFrom refs r e f × IsTemporary f n
 
 -- the references from place r on are done, and the last one below it, if it is one, is the end's
-pub record Following (refs : List (End × End)) (e : End) (r : ℕ) (m0 : List Bool) (k0 : List ℕ) (h0 : ℕ) (s0 : List Bool) (l0 : List ℕ) (t0 : ℕ) (m : List Bool) (k : List ℕ) (h : ℕ) (s : List Bool) (l : List ℕ) (t : ℕ) : Type 0 where
+pub record Following (refs : List (End × End)) (e : End) (r : ℕ) (m0 : List Bool) (k0 : List ℕ) (h0 : ℕ) (s0 : List Bool)
+    (l0 : List ℕ) (t0 : ℕ) (m : List Bool) (k : List ℕ) (h : ℕ) (s : List Bool) (l : List ℕ) (t : ℕ) : Type 0 where
   pub below : r ≤ length refs
   pub there : 1 ≤ r → (f : End) × (slice_get refs (r - 1) ≡ Some (e, f))
   pub raised : Raises (λ y. LeadsFrom refs r e (node y)) m0 m
@@ -29,7 +30,8 @@ pub record Following (refs : List (End × End)) (e : End) (r : ℕ) (m0 : List B
   pub sees : Greyed (SeenFrom refs r e) s0 l0 t0 s l t
 
 -- behind the last one stands none
-pub following-begins : (refs : List (End × End)) (e : End) (r : ℕ) (m : List Bool) (k : List ℕ) (h : ℕ) (s : List Bool) (l : List ℕ) (t : ℕ) → IsLastBelow refs e (length refs) r → Following refs e r m k h s l t m k h s l t
+pub following-begins : (refs : List (End × End)) (e : End) (r : ℕ) (m : List Bool) (k : List ℕ) (h : ℕ) (s : List Bool) (l : List ℕ) (t : ℕ)
+    → IsLastBelow refs e (length refs) r → Following refs e r m k h s l t m k h s l t
 following-begins refs e r m k h s l t last = record {
   below = last.below;
   there = last.there;
@@ -42,7 +44,8 @@ following-begins refs e r m k h s l t last = record {
     none f w = last.none w.0 f w.1 (slice_get_within refs w.0 (e, f) w.2) w.2
 
 -- the reference below place r
-module _ (refs : List (End × End)) (e : End) (r : ℕ) (m0 : List Bool) (k0 : List ℕ) (h0 : ℕ) (s0 : List Bool) (l0 : List ℕ) (t0 : ℕ) (m : List Bool) (k : List ℕ) (h : ℕ) (s : List Bool) (l : List ℕ) (t : ℕ) (i : Following refs e r m0 k0 h0 s0 l0 t0 m k h s l t) (d f : End)
+module _ (refs : List (End × End)) (e : End) (r : ℕ) (m0 : List Bool) (k0 : List ℕ) (h0 : ℕ) (s0 : List Bool) (l0 : List ℕ) (t0 : ℕ)
+    (m : List Bool) (k : List ℕ) (h : ℕ) (s : List Bool) (l : List ℕ) (t : ℕ) (i : Following refs e r m0 k0 h0 s0 l0 t0 m k h s l t) (d f : End)
     (one : 1 ≤ r) (at : slice_get refs (r - 1) ≡ Some (d, f)) where
   own : d ≡ e
   own = (let w = i.there one in pair-from d f e w.0 (sym at ∙ w.1))
@@ -54,7 +57,8 @@ module _ (refs : List (End × End)) (e : End) (r : ℕ) (m0 : List Bool) (k0 : L
   following-contains = Contains-at refs (r - 1) (e, f) here
 
   -- it is done, with what follows it
-  pub following-goes : (next : ℕ) (m' : List Bool) (k' : List ℕ) (h' : ℕ) (s' : List Bool) (l' : List ℕ) (t' : ℕ) → IsLastBelow refs d (r - 1) next → Raises (λ y. f ≡ node y) m m' → Greyed (λ y. f ≡ node y) m k h m' k' h' → Greyed (IsTemporary f) s l t s' l' t'
+  pub following-goes : (next : ℕ) (m' : List Bool) (k' : List ℕ) (h' : ℕ) (s' : List Bool) (l' : List ℕ) (t' : ℕ) → IsLastBelow refs d (r - 1) next
+      → Raises (λ y. f ≡ node y) m m' → Greyed (λ y. f ≡ node y) m k h m' k' h' → Greyed (IsTemporary f) s l t s' l' t'
       → Following refs e next m0 k0 h0 s0 l0 t0 m' k' h' s' l' t'
   following-goes next m' k' h' s' l' t' last raised greyed sees = record {
     below = omega (arith, last.below, i.below);
@@ -85,7 +89,8 @@ module _ (refs : List (End × End)) (e : End) (r : ℕ) (m0 : List Bool) (k0 : L
       least g q = (r - 1, last.below, subst (λ z. slice_get refs (r - 1) ≡ Some (e, z)) q here)
 
 -- at the first place all are done
-module _ (refs : List (End × End)) (e : End) (m0 : List Bool) (k0 : List ℕ) (h0 : ℕ) (s0 : List Bool) (l0 : List ℕ) (t0 : ℕ) (m : List Bool) (k : List ℕ) (h : ℕ) (s : List Bool) (l : List ℕ) (t : ℕ) (i : Following refs e 0 m0 k0 h0 s0 l0 t0 m k h s l t) where
+module _ (refs : List (End × End)) (e : End) (m0 : List Bool) (k0 : List ℕ) (h0 : ℕ) (s0 : List Bool) (l0 : List ℕ) (t0 : ℕ)
+    (m : List Bool) (k : List ℕ) (h : ℕ) (s : List Bool) (l : List ℕ) (t : ℕ) (i : Following refs e 0 m0 k0 h0 s0 l0 t0 m k h s l t) where
   all : (f : End) → Contains refs (e, f) → LeadsFrom refs 0 e f
   all f c = (let w = at-Contains refs (e, f) c in (w.0, omega arith, w.1))
 

@@ -30,12 +30,14 @@ pub RowsFreed-none : (rows : List Seen) → RowsFreed [] rows rows
 RowsFreed-none rows = record { flags = TakesDown-none (stands_in rows); fields = refl; others = λ x e. refl }
 
 -- one more row of a list is removed
-pub RowsFreed-next : {A : Type 0} (f : A → ℕ) (xs : List A) (i : ℕ) (x : A) (n : ℕ) (old mid new : List Seen) → RowsFreed (map f (take i xs)) old mid → All (IsUp (stands_in old)) (map f xs) → Rises (map f xs) → i < length xs → x ≡ get_or xs i x → n ≡ f x
+pub RowsFreed-next : {A : Type 0} (f : A → ℕ) (xs : List A) (i : ℕ) (x : A) (n : ℕ) (old mid new : List Seen)
+    → RowsFreed (map f (take i xs)) old mid → All (IsUp (stands_in old)) (map f xs) → Rises (map f xs) → i < length xs → x ≡ get_or xs i x → n ≡ f x
     → new ≡ numbered_set mid n (gone (row_at mid n).fields) → RowsFreed (map f (take (i + 1) xs)) old new
 RowsFreed-next f xs i x n old mid new r up rises l e m is =
     let h = TakesDown-here f xs i x n (stands_in old) (stands_in mid) r.flags up rises l e m in
     let put : RowsFreed (map f (take (i + 1) xs)) old (numbered_set mid n (gone (row_at mid n).fields)) = record {
-      flags = subst (TakesDown (map f (take (i + 1) xs)) (stands_in old)) (numbered_set-index (stands_in mid) n false h.2 ∙ sym (map-written (λ (q : Seen). q.stands) mid n (gone (row_at mid n).fields)))
+      flags = subst (TakesDown (map f (take (i + 1) xs)) (stands_in old))
+          (numbered_set-index (stands_in mid) n false h.2 ∙ sym (map-written (λ (q : Seen). q.stands) mid n (gone (row_at mid n).fields)))
           (TakesDown-next f xs i x n (stands_in old) (stands_in mid) r.flags up rises l e m);
       fields = map-kept (λ (q : Seen). q.fields) mid n (gone (row_at mid n).fields) refl ∙ r.fields;
       others = λ z s. (let same = row_at-removed mid n (row_at mid n).fields z s in same ∙ r.others z (sym (ap (λ (q : Seen). q.stands) same) ∙ s));
@@ -43,14 +45,16 @@ RowsFreed-next f xs i x n old mid new r up rises l e m is =
     subst (RowsFreed (map f (take (i + 1) xs)) old) (sym is) put
 
 -- the row of an element whose turn comes still stands
-pub RowsFreed-here : {A : Type 0} (f : A → ℕ) (xs : List A) (i : ℕ) (x : A) (n : ℕ) (old mid : List Seen) → RowsFreed (map f (take i xs)) old mid → All (IsUp (stands_in old)) (map f xs) → Rises (map f xs) → i < length xs → x ≡ get_or xs i x → n ≡ f x
+pub RowsFreed-here : {A : Type 0} (f : A → ℕ) (xs : List A) (i : ℕ) (x : A) (n : ℕ) (old mid : List Seen)
+    → RowsFreed (map f (take i xs)) old mid → All (IsUp (stands_in old)) (map f xs) → Rises (map f xs) → i < length xs → x ≡ get_or xs i x → n ≡ f x
     → ((row_at mid n).stands ≡ true) × (1 ≤ up_count (stands_in mid))
 RowsFreed-here f xs i x n old mid r up rises l e m =
     let h = TakesDown-here f xs i x n (stands_in old) (stands_in mid) r.flags up rises l e m in
     (flag-stands mid n true (r.flags.other n h.1 ∙ h.0), h.4)
 
 -- the heap without the rows of a list, whose references lead to no row of the list
-pub IsRowHeap-freed : (old new : List Seen) (freed after xs : List ℕ) (vars statics : List (Option ℕ)) (refs : Linked) (follows : Bool) (c e : ℕ) (v : HeapRows) → rows_of old freed vars statics refs follows ≡ v → IsRowHeap old freed vars statics refs follows c
+pub IsRowHeap-freed : (old new : List Seen) (freed after xs : List ℕ) (vars statics : List (Option ℕ)) (refs : Linked) (follows : Bool) (c e : ℕ) (v : HeapRows)
+    → rows_of old freed vars statics refs follows ≡ v → IsRowHeap old freed vars statics refs follows c
     → RowsFreed xs old new → CanFree v.heap xs → NoneRefers v xs → after ≡ freed ++ xs → e ≡ c → IsRowHeap new after vars statics refs follows e
 IsRowHeap-freed old new freed after xs vars statics refs follows c e v view s r can none is space =
     let can' : CanFree (heap_of old freed vars statics) xs = subst (λ (w : HeapRows). CanFree w.heap xs) (sym view) can in
@@ -66,7 +70,8 @@ IsRowHeap-freed old new freed after xs vars statics refs follows c e v view s r 
           s.references;
     }
 
-pub seen-freed : (old new : List Seen) (freed after xs : List ℕ) (vars statics : List (Option ℕ)) (refs : Linked) (follows : Bool) (v : HeapRows) → rows_of old freed vars statics refs follows ≡ v → RowsFreed xs old new → after ≡ freed ++ xs
+pub seen-freed : (old new : List Seen) (freed after xs : List ℕ) (vars statics : List (Option ℕ)) (refs : Linked) (follows : Bool) (v : HeapRows)
+    → rows_of old freed vars statics refs follows ≡ v → RowsFreed xs old new → after ≡ freed ++ xs
     → heap_of new after vars statics ≡ with_freed v.heap xs
 seen-freed old new freed after xs vars statics refs follows v view r is =
     ap (λ (fs : List (List (Option ℕ))). let h : Heap = record { fields = fs; freed = after; vars = vars; statics = statics } in h) r.fields

@@ -42,7 +42,8 @@ gone-next h n g made dead x one le = elim (Contains-decided h.freed x) [
         dead (subst (IsLive h) at record { made = (one, omega (arith, made, at)); kept = out })
 
 -- none of the first ones stands
-pub fallen : (rows : List Seen) (freed : List ℕ) (vars statics : List (Option ℕ)) (cap n : ℕ) → IsSound (heap_of rows freed vars statics) (stands_in rows) cap → AreGone n freed → (x : ℕ) → x ≤ n → (row_at rows x).stands ≡ true → ⊥
+pub fallen : (rows : List Seen) (freed : List ℕ) (vars statics : List (Option ℕ)) (cap n : ℕ)
+    → IsSound (heap_of rows freed vars statics) (stands_in rows) cap → AreGone n freed → (x : ℕ) → x ≤ n → (row_at rows x).stands ≡ true → ⊥
 fallen rows freed vars statics cap n s g x le up = (stands-live rows freed vars statics cap x s up).kept (g x (stands-within rows x up).0 le)
 
 -- they were made

@@ -1,6 +1,7 @@
 -- The rows that an index shows, where one place of it, or one row of the slab, changes. A key stands in the index once,
 -- so what happens under it is seen at one number alone; and a key that was vacant stands nowhere in the index.
-use Rattle.std.proofs.Common.{◌≡◌, ◌≢◌, ℕ, zero, suc, ◌-◌, ◌≤◌, ◌⊎◌, inl, inr, true, false, List, [], ◌∷◌, ◌++◌, map, length, Option, Some, None, is_some, set, get_or, refl, sym, ap, subst, ◌∙◌, arith}
+use Rattle.std.proofs.Common.{◌≡◌, ◌≢◌, ℕ, zero, suc, ◌-◌, ◌≤◌, ◌⊎◌, inl, inr, true, false, List, [], ◌∷◌, ◌++◌, map, length, Option, Some, None, is_some, set, get_or, refl, sym, ap, subst, ◌∙◌}
+use Rattle.std.proofs.Common.{arith}
 use Rattle.std.specs.Prelude.{slice_get, slice_index_or}
 use Rattle.std.proofs.lemmas.Bool.{cases_eq}
 use Rattle.std.proofs.lemmas.List.{length-map, map-append}
@@ -29,13 +30,17 @@ stands-within (r ∷ rows) (suc zero) e = (omega arith, omega arith)
 stands-within (r ∷ rows) (suc (suc i)) e = (let w = stands-within rows (suc i) e in (omega arith, omega (arith, w.1)))
 
 -- the row at a place that was read
-pub read-row : (s : Slab Row) (places : List RowPlace) (rows : List Seen) (x : ℕ) (r p : RowPlace) → map (seen_at s) places ≡ rows → 1 ≤ x → x ≤ length rows → r ≡ p → r ≡ get_or places (x - 1) r → row_at rows x ≡ seen_at s p
+pub read-row : (s : Slab Row) (places : List RowPlace) (rows : List Seen) (x : ℕ) (r p : RowPlace)
+    → map (seen_at s) places ≡ rows → 1 ≤ x → x ≤ length rows → r ≡ p → r ≡ get_or places (x - 1) r → row_at rows x ≡ seen_at s p
 read-row s places rows x r p view one le is e =
-    row_at-is rows x (seen_at s p) (subst (λ l. numbered_at l x ≡ Some (seen_at s p)) view (numbered-read (seen_at s) places x r one (subst (λ l. x ≤ length l) (sym view) le) e ∙ ap (λ z. Some (seen_at s z)) is))
+    row_at-is rows x (seen_at s p) (subst (λ l. numbered_at l x ≡ Some (seen_at s p)) view
+    (numbered-read (seen_at s) places x r one (subst (λ l. x ≤ length l) (sym view) le) e ∙ ap (λ z. Some (seen_at s z)) is))
 
 -- and the place itself
-pub read-place : (s : Slab Row) (places : List RowPlace) (rows : List Seen) (x : ℕ) (r p : RowPlace) → map (seen_at s) places ≡ rows → 1 ≤ x → x ≤ length rows → r ≡ p → r ≡ get_or places (x - 1) r → slice_get places (x - 1) ≡ Some p
-read-place s places rows x r p view one le is e = slice_get_read places (length places) (x - 1) r refl (let l : x ≤ length (map (seen_at s) places) = subst (λ t. x ≤ length t) (sym view) le in omega (arith, l, length-map places (seen_at s), one)) e ∙ ap (λ z. Some z) is
+pub read-place : (s : Slab Row) (places : List RowPlace) (rows : List Seen) (x : ℕ) (r p : RowPlace)
+    → map (seen_at s) places ≡ rows → 1 ≤ x → x ≤ length rows → r ≡ p → r ≡ get_or places (x - 1) r → slice_get places (x - 1) ≡ Some p
+read-place s places rows x r p view one le is e = slice_get_read places (length places) (x - 1) r refl
+    (let l : x ≤ length (map (seen_at s) places) = subst (λ t. x ≤ length t) (sym view) le in omega (arith, l, length-map places (seen_at s), one)) e ∙ ap (λ z. Some z) is
 
 pub seen-row : (s : Slab Row) (key : ℕ) (r : Row) → get s key ≡ Some r → seen_at s (At key) ≡ standing r
 seen-row s key r e = ap (λ o. elim o [ None ↦ gone [] | Some q ↦ standing q ]) e
@@ -54,7 +59,8 @@ map-set_others {A} f g (y ∷ xs) zero new same = ap (λ z. g new ∷ z) (map-as
     map-as : (ys : List A) → ((j : ℕ) (w : A) → slice_get ys j ≡ Some w → g w ≡ f w) → map g ys ≡ map f ys
     map-as [] h = refl
     map-as (w ∷ ys) h = ap (λ z. g w ∷ z) (map-as ys (λ j v q. h (suc j) v q)) ∙ ap (λ z. z ∷ map f ys) (h 0 w refl)
-map-set_others f g (y ∷ xs) (suc i) new same = ap (λ z. g y ∷ z) (map-set_others f g xs i new (λ j w n q. same (suc j) w (λ z. n (omega (arith, z))) q)) ∙ ap (λ z. z ∷ set (map f xs) i (g new)) (same 0 y (λ z. omega (arith, z)) refl)
+map-set_others f g (y ∷ xs) (suc i) new same = ap (λ z. g y ∷ z) (map-set_others f g xs i new (λ j w n q. same (suc j) w (λ z. n (omega (arith, z))) q))
+    ∙ ap (λ z. z ∷ set (map f xs) i (g new)) (same 0 y (λ z. omega (arith, z)) refl)
 
 pub set-self : {A : Type 0} (xs : List A) (i : ℕ) (x : A) → slice_get xs i ≡ Some x → set xs i x ≡ xs
 set-self [] i x e = refl
@@ -65,7 +71,8 @@ set-self (y ∷ xs) (suc i) x e = ap (λ z. y ∷ z) (set-self xs i x e)
 pub others-same : (s t : Slab Row) (places : List RowPlace) (i key : ℕ) (slot : Option Row) → IsIndex s places → slice_get places i ≡ Some (At key) → Updates s t key slot
     → (j : ℕ) (p : RowPlace) → j ≢ i → slice_get places j ≡ Some p → seen_at t p ≡ seen_at s p
 others-same s t places i key slot index at u j (Gone kept) n e = refl
-others-same s t places i key slot index at u j (At k) n e = ap (λ o. elim o [ None ↦ gone [] | Some r ↦ standing r ]) (u.others k (λ q. n (index.once j i key (subst (λ z. slice_get places j ≡ Some (At z)) q e) at)))
+others-same s t places i key slot index at u j (At k) n e = ap (λ o. elim o [ None ↦ gone [] | Some r ↦ standing r ])
+    (u.others k (λ q. n (index.once j i key (subst (λ z. slice_get places j ≡ Some (At z)) q e) at)))
 
 pub key-there : (s : Slab Row) (places : List RowPlace) (i key : ℕ) → IsIndex s places → slice_get places i ≡ Some (At key) → is_some (get s key) ≡ true
 key-there s places i key index at = (let w = index.there i key at in ap is_some w.1)
@@ -82,7 +89,8 @@ IsIndex-written s places key r has index =
       once = index.once;
     }
 
-pub shown-written : (s : Slab Row) (places : List RowPlace) (rows : List Seen) (x key : ℕ) (r : Row) (new : Seen) → map (seen_at s) places ≡ rows → IsIndex s places → 1 ≤ x → slice_get places (x - 1) ≡ Some (At key) → standing r ≡ new
+pub shown-written : (s : Slab Row) (places : List RowPlace) (rows : List Seen) (x key : ℕ) (r : Row) (new : Seen)
+    → map (seen_at s) places ≡ rows → IsIndex s places → 1 ≤ x → slice_get places (x - 1) ≡ Some (At key) → standing r ≡ new
     → map (seen_at (with_value s key r)) places ≡ numbered_set rows x new
 shown-written s places rows x key r new view index one at is =
     let t = with_value s key r in
@@ -93,7 +101,8 @@ shown-written s places rows x key r new view index one at is =
     ∙ (ap (λ z. set z (x - 1) new) view ∙ numbered_set-index rows x new one)))
 
 -- a row is removed, and its place keeps the fields
-pub IsIndex-freed : (s t : Slab Row) (places : List RowPlace) (i key : ℕ) (kept : Snapshot Fields) → IsIndex s places → slice_get places i ≡ Some (At key) → Updates s t key None → IsIndex t (set places i (Gone kept))
+pub IsIndex-freed : (s t : Slab Row) (places : List RowPlace) (i key : ℕ) (kept : Snapshot Fields) → IsIndex s places
+    → slice_get places i ≡ Some (At key) → Updates s t key None → IsIndex t (set places i (Gone kept))
 IsIndex-freed s t places i key kept index at u = record {
   there = λ j k e. elim (set-at_or places i (Gone kept) j (At k) e) [
     | inl w ↦ (let d : ⊥ = cc in absurd d)
@@ -115,7 +124,8 @@ IsIndex-freed s t places i key kept index at u = record {
     set-at_or (z ∷ xs) (suc i) x zero y e = inr ((λ q. omega (arith, q)), e)
     set-at_or (z ∷ xs) (suc i) x (suc j) y e = elim (set-at_or xs i x j y e) [ inl w ↦ inl w | inr w ↦ inr ((λ q. w.0 (omega (arith, q))), w.1) ]
 
-pub shown-freed : (s t : Slab Row) (places : List RowPlace) (rows : List Seen) (x key : ℕ) (kept : Snapshot Fields) (new : Seen) → map (seen_at s) places ≡ rows → IsIndex s places → 1 ≤ x → slice_get places (x - 1) ≡ Some (At key) → Updates s t key None
+pub shown-freed : (s t : Slab Row) (places : List RowPlace) (rows : List Seen) (x key : ℕ) (kept : Snapshot Fields) (new : Seen)
+    → map (seen_at s) places ≡ rows → IsIndex s places → 1 ≤ x → slice_get places (x - 1) ≡ Some (At key) → Updates s t key None
     → gone kept.value ≡ new → map (seen_at t) (set places (x - 1) (Gone kept)) ≡ numbered_set rows x new
 shown-freed s t places rows x key kept new view index one at u is =
     map-set_others (seen_at s) (seen_at t) places (x - 1) (Gone kept) (others-same s t places (x - 1) key None index at u)
@@ -146,15 +156,18 @@ IsIndex-pushed s t places key r index vacant u = record {
   ];
 }
 
-pub shown-pushed : (s t : Slab Row) (places : List RowPlace) (rows : List Seen) (key : ℕ) (r : Row) → IsIndex s places → map (seen_at s) places ≡ rows → get s key ≡ None → Updates s t key (Some r) → map (seen_at t) (places ++ At key ∷ []) ≡ rows ++ standing r ∷ []
+pub shown-pushed : (s t : Slab Row) (places : List RowPlace) (rows : List Seen) (key : ℕ) (r : Row) → IsIndex s places
+    → map (seen_at s) places ≡ rows → get s key ≡ None → Updates s t key (Some r) → map (seen_at t) (places ++ At key ∷ []) ≡ rows ++ standing r ∷ []
 shown-pushed s t places rows key r index view vacant u =
-    map-append (seen_at t) places (At key ∷ []) ∙ (ap (λ o. map (seen_at t) places ++ elim o [ None ↦ gone [] | Some q ↦ standing q ] ∷ []) u.changed ∙ ap (λ l. l ++ standing r ∷ []) (kept places (λ i k e. index.there i k e) ∙ view))
+    map-append (seen_at t) places (At key ∷ []) ∙ (ap (λ o. map (seen_at t) places ++ elim o [ None ↦ gone [] | Some q ↦ standing q ] ∷ []) u.changed
+    ∙ ap (λ l. l ++ standing r ∷ []) (kept places (λ i k e. index.there i k e) ∙ view))
   where
     kept : (ps : List RowPlace) → ((i k : ℕ) → slice_get ps i ≡ Some (At k) → (q : Row) × (get s k ≡ Some q)) → map (seen_at t) ps ≡ map (seen_at s) ps
     kept [] there = refl
     kept (Gone fs ∷ ps) there = ap (λ l. gone fs.value ∷ l) (kept ps (λ i k e. there (suc i) k e))
     kept (At k ∷ ps) there = ap (λ l. seen_at t (At k) ∷ l) (kept ps (λ i k' e. there (suc i) k' e))
-        ∙ ap (λ o. elim o [ None ↦ gone [] | Some q ↦ standing q ] ∷ map (seen_at s) ps) (u.others k (λ e. (let w = there 0 k refl in let z : Some w.0 ≡ None = sym w.1 ∙ (ap (get s) e ∙ vacant) in cc)))
+        ∙ ap (λ o. elim o [ None ↦ gone [] | Some q ↦ standing q ] ∷ map (seen_at s) ps)
+        (u.others k (λ e. (let w = there 0 k refl in let z : Some w.0 ≡ None = sym w.1 ∙ (ap (get s) e ∙ vacant) in cc)))
 
 -- more room changes no row
 pub IsIndex-grown : (s t : Slab Row) (places : List RowPlace) → t.slots ≡ s.slots → IsIndex s places → IsIndex t places
@@ -163,23 +176,29 @@ IsIndex-grown s t places e index = record { there = λ i k a. (let w = index.the
 pub shown-grown : (s t : Slab Row) (places : List RowPlace) → t.slots ≡ s.slots → map (seen_at t) places ≡ map (seen_at s) places
 shown-grown s t [] e = refl
 shown-grown s t (Gone kept ∷ places) e = ap (λ r. gone kept.value ∷ r) (shown-grown s t places e)
-shown-grown s t (At k ∷ places) e = ap (λ r. seen_at t (At k) ∷ r) (shown-grown s t places e) ∙ ap (λ o. elim o [ None ↦ gone [] | Some q ↦ standing q ] ∷ map (seen_at s) places) (ap (λ l. slice_index_or l k None) e)
+shown-grown s t (At k ∷ places) e = ap (λ r. seen_at t (At k) ∷ r) (shown-grown s t places e)
+    ∙ ap (λ o. elim o [ None ↦ gone [] | Some q ↦ standing q ] ∷ map (seen_at s) places) (ap (λ l. slice_index_or l k None) e)
 
 -- a row that stands has a key, by which it is the slab's row
-pub at-key : (s : Slab Row) (places : List RowPlace) (rows : List Seen) (x : ℕ) (r : RowPlace) (key : ℕ) → map (seen_at s) places ≡ rows → (row_at rows x).stands ≡ true → r ≡ At key → r ≡ get_or places (x - 1) r → slice_get places (x - 1) ≡ Some (At key)
+pub at-key : (s : Slab Row) (places : List RowPlace) (rows : List Seen) (x : ℕ) (r : RowPlace) (key : ℕ) → map (seen_at s) places ≡ rows
+    → (row_at rows x).stands ≡ true → r ≡ At key → r ≡ get_or places (x - 1) r → slice_get places (x - 1) ≡ Some (At key)
 at-key s places rows x r key view up is e = (let w = stands-within rows x up in read-place s places rows x r (At key) view w.0 w.1 is e)
 
-pub row-of : (s : Slab Row) (places : List RowPlace) (rows : List Seen) (x : ℕ) (r : RowPlace) (key : ℕ) (row : Row) → map (seen_at s) places ≡ rows → (row_at rows x).stands ≡ true → r ≡ At key → r ≡ get_or places (x - 1) r → get s key ≡ Some row → row_at rows x ≡ standing row
+pub row-of : (s : Slab Row) (places : List RowPlace) (rows : List Seen) (x : ℕ) (r : RowPlace) (key : ℕ) (row : Row) → map (seen_at s) places ≡ rows
+    → (row_at rows x).stands ≡ true → r ≡ At key → r ≡ get_or places (x - 1) r → get s key ≡ Some row → row_at rows x ≡ standing row
 row-of s places rows x r key row view up is e got = (let w = stands-within rows x up in read-row s places rows x r (At key) view w.0 w.1 is e ∙ seen-row s key row got)
 
-pub not-gone : (s : Slab Row) (places : List RowPlace) (rows : List Seen) (x : ℕ) (r : RowPlace) (kept : Snapshot Fields) → map (seen_at s) places ≡ rows → (row_at rows x).stands ≡ true → r ≡ Gone kept → r ≡ get_or places (x - 1) r → ⊥
+pub not-gone : (s : Slab Row) (places : List RowPlace) (rows : List Seen) (x : ℕ) (r : RowPlace) (kept : Snapshot Fields)
+    → map (seen_at s) places ≡ rows → (row_at rows x).stands ≡ true → r ≡ Gone kept → r ≡ get_or places (x - 1) r → ⊥
 not-gone s places rows x r kept view up is e = (let w = stands-within rows x up in stands-gone kept s (row_at rows x) (read-row s places rows x r (Gone kept) view w.0 w.1 is e) up)
 
 -- its row is written
-pub index-written : (s : Slab Row) (places : List RowPlace) (rows : List Seen) (x : ℕ) (r : RowPlace) (key : ℕ) (new : Row) → map (seen_at s) places ≡ rows → (row_at rows x).stands ≡ true → r ≡ At key → r ≡ get_or places (x - 1) r → IsIndex s places → IsIndex (with_value s key new) places
+pub index-written : (s : Slab Row) (places : List RowPlace) (rows : List Seen) (x : ℕ) (r : RowPlace) (key : ℕ) (new : Row) → map (seen_at s) places ≡ rows
+    → (row_at rows x).stands ≡ true → r ≡ At key → r ≡ get_or places (x - 1) r → IsIndex s places → IsIndex (with_value s key new) places
 index-written s places rows x r key new view up is e index = IsIndex-written s places key new (key-there s places (x - 1) key index (at-key s places rows x r key view up is e)) index
 
-pub rows-written : (s : Slab Row) (places : List RowPlace) (rows : List Seen) (x : ℕ) (r : RowPlace) (key : ℕ) (new : Row) (seen : Seen) → map (seen_at s) places ≡ rows → (row_at rows x).stands ≡ true → r ≡ At key → r ≡ get_or places (x - 1) r → IsIndex s places
+pub rows-written : (s : Slab Row) (places : List RowPlace) (rows : List Seen) (x : ℕ) (r : RowPlace) (key : ℕ) (new : Row) (seen : Seen)
+    → map (seen_at s) places ≡ rows → (row_at rows x).stands ≡ true → r ≡ At key → r ≡ get_or places (x - 1) r → IsIndex s places
     → standing new ≡ seen → map (seen_at (with_value s key new)) places ≡ numbered_set rows x seen
 rows-written s places rows x r key new seen view up is e index same = shown-written s places rows x key new seen view index (stands-within rows x up).0 (at-key s places rows x r key view up is e) same
 

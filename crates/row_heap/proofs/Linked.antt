@@ -1,7 +1,8 @@
 -- References of each end as a linked list. A further reference stands last, and the one of its end before it is the one
 -- that the end said: between them stands none of the end's. The lists of other ends go on as they were, since each
 -- speaks of the places below one of its own.
-use Rattle.std.proofs.Common.{◌≡◌, ◌≢◌, ℕ, zero, suc, ◌+◌, ◌-◌, ◌≤◌, ◌⊎◌, inl, inr, Bool, false, List, [], ◌∷◌, ◌++◌, map, length, replicate, take, Option, Some, None, refl, sym, ap, subst, ◌∙◌, arith, length-append}
+use Rattle.std.proofs.Common.{◌≡◌, ◌≢◌, ℕ, zero, suc, ◌+◌, ◌-◌, ◌≤◌, ◌⊎◌, inl, inr, Bool, false, List, [], ◌∷◌, ◌++◌, map, length, replicate, take, Option, Some, None, refl, sym, ap, subst, ◌∙◌}
+use Rattle.std.proofs.Common.{arith, length-append}
 use Rattle.std.specs.Prelude.{Contains, slice_get, slice_index_or}
 use Rattle.std.proofs.lemmas.Bool.{cases_eq, cases_lt}
 use Rattle.std.proofs.lemmas.List.{get_or-replicate, get_or_past, length-map, length-replicate, map-append, take_all}
@@ -35,12 +36,15 @@ pub pairs-len : (list : List Reference) → length (pairs_in list) ≡ length li
 pairs-len list = length-map list pair_of
 
 -- where an end's references begin, as it is seen
-pub last-at : (list : List Reference) (objects temporaries : List ℕ) (seen : List Bool) (links : List ℕ) (room capacity : ℕ) (v : Linked) (e : exact.End) (n : ℕ) → linked_of list temporaries seen links room ≡ v → AreLinked list objects temporaries seen links room capacity → n ≡ first_in objects temporaries e
+pub last-at : (list : List Reference) (objects temporaries : List ℕ) (seen : List Bool) (links : List ℕ) (room capacity : ℕ) (v : Linked) (e : exact.End) (n : ℕ)
+    → linked_of list temporaries seen links room ≡ v → AreLinked list objects temporaries seen links room capacity → n ≡ first_in objects temporaries e
     → IsLastBelow v.refs e (length v.refs) n
 last-at list objects temporaries seen links room capacity v e n view a is =
-    subst (λ (l : Linked). IsLastBelow l.refs e (length l.refs) n) view (subst (λ k. IsLastBelow (pairs_in list) e k n) (sym (pairs-len list)) (subst (λ k. IsLastBelow (pairs_in list) e (length list) k) (sym is) (a.firsts e)))
+    subst (λ (l : Linked). IsLastBelow l.refs e (length l.refs) n) view
+    (subst (λ k. IsLastBelow (pairs_in list) e k n) (sym (pairs-len list)) (subst (λ k. IsLastBelow (pairs_in list) e (length list) k) (sym is) (a.firsts e)))
 
-pub last-from : (list : List Reference) (temporaries : List ℕ) (seen : List Bool) (links : List ℕ) (room : ℕ) (v : Linked) (e : exact.End) (n : ℕ) → linked_of list temporaries seen links room ≡ v → IsLastBelow v.refs e (length v.refs) n → IsLastBelow (pairs_in list) e (length list) n
+pub last-from : (list : List Reference) (temporaries : List ℕ) (seen : List Bool) (links : List ℕ) (room : ℕ) (v : Linked) (e : exact.End) (n : ℕ)
+    → linked_of list temporaries seen links room ≡ v → IsLastBelow v.refs e (length v.refs) n → IsLastBelow (pairs_in list) e (length list) n
 last-from list temporaries seen links room v e n view l = subst (λ k. IsLastBelow (pairs_in list) e k n) (pairs-len list) (subst (λ (w : Linked). IsLastBelow w.refs e (length w.refs) n) (sym view) l)
 
 -- a further reference changes nothing below the places before it
@@ -84,9 +88,12 @@ end-longer temps more (exact.node x) a w = w
 end-longer temps more (exact.temporary t) a w = omega (arith, w, a)
 
 -- a reference is pushed
-pub AreLinked-pushed : (list after : List Reference) (objects reaching temporaries others : List ℕ) (seen : List Bool) (links : List ℕ) (room capacity more : ℕ) (r : Reference) → AreLinked list objects temporaries seen links room capacity → 1 ≤ room
-    → HasPlace (length objects) (length temporaries) (end_of r.from) → IsEnd (length temporaries) (end_of r.to) → IsLastBelow (pairs_in list) (end_of r.from) (length list) r.next → after ≡ list ++ r ∷ [] → (length reaching ≡ length objects) × (length others ≡ length temporaries)
-    → first_in reaching others (end_of r.from) ≡ length list + 1 → ((e : exact.End) → e ≢ end_of r.from → first_in reaching others e ≡ first_in objects temporaries e) → more ≡ capacity → AreLinked after reaching others seen links (room - 1) more
+pub AreLinked-pushed : (list after : List Reference) (objects reaching temporaries others : List ℕ) (seen : List Bool) (links : List ℕ) (room capacity more : ℕ) (r : Reference)
+    → AreLinked list objects temporaries seen links room capacity → 1 ≤ room
+    → HasPlace (length objects) (length temporaries) (end_of r.from) → IsEnd (length temporaries) (end_of r.to)
+    → IsLastBelow (pairs_in list) (end_of r.from) (length list) r.next → after ≡ list ++ r ∷ [] → (length reaching ≡ length objects) × (length others ≡ length temporaries)
+    → first_in reaching others (end_of r.from) ≡ length list + 1 → ((e : exact.End) → e ≢ end_of r.from → first_in reaching others e ≡ first_in objects temporaries e)
+    → more ≡ capacity → AreLinked after reaching others seen links (room - 1) more
 AreLinked-pushed list after objects reaching temporaries others seen links room capacity more r a one from to next is len here rest cap =
     let p : exact.End × exact.End = (end_of r.from, end_of r.to) in
     let count : length (pairs_in list) ≡ length list = pairs-len list in
@@ -97,18 +104,22 @@ AreLinked-pushed list after objects reaching temporaries others seen links room 
       firsts = λ e. subst (λ (l : List (exact.End × exact.End)). IsLastBelow l e (length (list ++ r ∷ [])) (first_in reaching others e)) (sym pairs)
           (subst (λ n. IsLastBelow (pairs_in list ++ p ∷ []) e n (first_in reaching others e)) longer (elim (end-or e (end_of r.from)) [
             | inl same ↦ subst (λ z. IsLastBelow (pairs_in list ++ p ∷ []) z (length (pairs_in list ++ p ∷ [])) (first_in reaching others z)) (sym same)
-                (subst (λ n. IsLastBelow (pairs_in list ++ p ∷ []) (end_of r.from) (length (pairs_in list ++ p ∷ [])) n) (ap (λ n. n + 1) count ∙ sym here) (last-own (pairs_in list) (end_of r.from) (end_of r.to)))
+                (subst (λ n. IsLastBelow (pairs_in list ++ p ∷ []) (end_of r.from) (length (pairs_in list ++ p ∷ [])) n)
+                (ap (λ n. n + 1) count ∙ sym here) (last-own (pairs_in list) (end_of r.from) (end_of r.to)))
             | inr other ↦ subst (λ n. IsLastBelow (pairs_in list ++ p ∷ []) e (length (pairs_in list ++ p ∷ [])) n) (sym (rest e other))
-                (last-other (pairs_in list) (end_of r.from) (end_of r.to) e (first_in objects temporaries e) other (subst (λ n. IsLastBelow (pairs_in list) e n (first_in objects temporaries e)) (sym count) (a.firsts e)))
+                (last-other (pairs_in list) (end_of r.from) (end_of r.to) e (first_in objects temporaries e) other
+                (subst (λ n. IsLastBelow (pairs_in list) e n (first_in objects temporaries e)) (sym count) (a.firsts e)))
           ]));
       nexts = λ i q at. subst (λ (l : List (exact.End × exact.End)). IsLastBelow l (end_of q.from) i q.next) (sym pairs) (elim (push-at_cases list r i q at) [
         | inl old ↦ last-longer (pairs_in list) p (end_of q.from) i q.next (omega (arith, slice_get_within list i q old, count)) (a.nexts i q old)
-        | inr new ↦ last-longer (pairs_in list) p (end_of q.from) i q.next (omega (arith, new.0, count)) (subst (λ k. IsLastBelow (pairs_in list) (end_of q.from) k q.next) (sym new.0) (subst (λ (k : Reference). IsLastBelow (pairs_in list) (end_of k.from) (length list) k.next) new.1 next))
+        | inr new ↦ last-longer (pairs_in list) p (end_of q.from) i q.next (omega (arith, new.0, count))
+            (subst (λ k. IsLastBelow (pairs_in list) (end_of q.from) k q.next) (sym new.0) (subst (λ (k : Reference). IsLastBelow (pairs_in list) (end_of k.from) (length list) k.next) new.1 next))
       ]);
-      from = λ i q at. place-longer (length objects) (length temporaries) (length reaching) (length others) (end_of q.from) (omega (arith, len.0)) (omega (arith, len.1)) (elim (push-at_cases list r i q at) [
-        | inl old ↦ a.from i q old
-        | inr new ↦ subst (λ (k : Reference). HasPlace (length objects) (length temporaries) (end_of k.from)) new.1 from
-      ]);
+      from = λ i q at. place-longer (length objects) (length temporaries) (length reaching) (length others)
+          (end_of q.from) (omega (arith, len.0)) (omega (arith, len.1)) (elim (push-at_cases list r i q at) [
+            | inl old ↦ a.from i q old
+            | inr new ↦ subst (λ (k : Reference). HasPlace (length objects) (length temporaries) (end_of k.from)) new.1 from
+          ]);
       to = λ i q at. end-longer (length temporaries) (length others) (end_of q.to) (omega (arith, len.1)) (elim (push-at_cases list r i q at) [
         | inl old ↦ a.to i q old
         | inr new ↦ subst (λ (k : Reference). IsEnd (length temporaries) (end_of k.to)) new.1 to
@@ -121,7 +132,8 @@ AreLinked-pushed list after objects reaching temporaries others seen links room 
       most = omega (arith, a.most, one, whole);
     }
 
-pub seen-pushed : (list after : List Reference) (temporaries others : List ℕ) (seen : List Bool) (links : List ℕ) (room : ℕ) (r : Reference) (v : Linked) → linked_of list temporaries seen links room ≡ v → after ≡ list ++ r ∷ [] → length others ≡ length temporaries
+pub seen-pushed : (list after : List Reference) (temporaries others : List ℕ) (seen : List Bool) (links : List ℕ) (room : ℕ) (r : Reference) (v : Linked)
+    → linked_of list temporaries seen links room ≡ v → after ≡ list ++ r ∷ [] → length others ≡ length temporaries
     → linked_of after others seen links (room - 1) ≡ record v { refs = v.refs ++ (end_of r.from, end_of r.to) ∷ []; room = v.room - 1 }
 seen-pushed list after temporaries others seen links room r v view is len =
     let pairs : pairs_in after ≡ pairs_in list ++ pair_of r ∷ [] = ap pairs_in is ∙ map-append pair_of list (r ∷ []) in
@@ -130,7 +142,8 @@ seen-pushed list after temporaries others seen links room r v view is len =
     ∙ ap (λ (w : Linked). record w { refs = w.refs ++ pair_of r ∷ []; room = w.room - 1 }) view)
 
 -- no reference
-pub AreLinked-none : (list : List Reference) (objects temporaries : List ℕ) (seen : List Bool) (links : List ℕ) (capacity : ℕ) → list ≡ [] → objects ≡ [] → temporaries ≡ [] → seen ≡ [] → links ≡ [] → AreLinked list objects temporaries seen links 0 capacity
+pub AreLinked-none : (list : List Reference) (objects temporaries : List ℕ) (seen : List Bool) (links : List ℕ) (capacity : ℕ)
+    → list ≡ [] → objects ≡ [] → temporaries ≡ [] → seen ≡ [] → links ≡ [] → AreLinked list objects temporaries seen links 0 capacity
 AreLinked-none list objects temporaries seen links capacity l o t s k = rw (l, o, t, s, k) record {
   firsts = λ e. record { below = none e; none = λ i f from to at. absurd (omega (arith, to)); there = λ one. absurd (omega (arith, one, none e)) };
   nexts = λ i r at. (let f : ⊥ = cc in absurd f);
@@ -162,21 +175,25 @@ firsts-filled old new n m le is x = rw (is, take_all) (by old x)
     by (y ∷ l) (suc x) = by l x
 
 -- more room, for references and temporaries
-pub AreLinked-roomy : (list after : List Reference) (objects reaching temporaries others : List ℕ) (seen flags : List Bool) (links chains : List ℕ) (room more capacity space : ℕ) → AreLinked list objects temporaries seen links room capacity → after ≡ list
-    → ((x : ℕ) → slice_index_or reaching x 0 ≡ slice_index_or objects x 0) → length objects ≤ length reaching → ((t : ℕ) → slice_index_or others t 0 ≡ slice_index_or temporaries t 0) → length temporaries ≤ length others
-    → length flags ≡ length others → length chains ≡ length others → length others ≤ 4294901760 → (1 ≤ more → 65536 ≤ length reaching) → length list + more ≤ space → length list + more ≤ 4294967295 → AreLinked after reaching others flags chains more space
-AreLinked-roomy list after objects reaching temporaries others seen flags links chains room more capacity space a is reached longer kept more_temps fs cs few reach fits most = subst (λ l. AreLinked l reaching others flags chains more space) (sym is) record {
-  firsts = λ e. subst (λ n. IsLastBelow (pairs_in list) e (length list) n) (sym (same e)) (a.firsts e);
-  nexts = a.nexts;
-  from = λ i r at. place-longer (length objects) (length temporaries) (length reaching) (length others) (end_of r.from) longer more_temps (a.from i r at);
-  to = λ i r at. end-longer (length temporaries) (length others) (end_of r.to) more_temps (a.to i r at);
-  flags = fs;
-  chains = cs;
-  few = few;
-  reach = reach;
-  space = fits;
-  most = most;
-}
+pub AreLinked-roomy : (list after : List Reference) (objects reaching temporaries others : List ℕ) (seen flags : List Bool) (links chains : List ℕ) (room more capacity space : ℕ)
+    → AreLinked list objects temporaries seen links room capacity → after ≡ list
+    → ((x : ℕ) → slice_index_or reaching x 0 ≡ slice_index_or objects x 0) → length objects ≤ length reaching
+    → ((t : ℕ) → slice_index_or others t 0 ≡ slice_index_or temporaries t 0) → length temporaries ≤ length others
+    → length flags ≡ length others → length chains ≡ length others → length others ≤ 4294901760 → (1 ≤ more → 65536 ≤ length reaching)
+    → length list + more ≤ space → length list + more ≤ 4294967295 → AreLinked after reaching others flags chains more space
+AreLinked-roomy list after objects reaching temporaries others seen flags links chains room more capacity space a is reached longer
+    kept more_temps fs cs few reach fits most = subst (λ l. AreLinked l reaching others flags chains more space) (sym is) record {
+      firsts = λ e. subst (λ n. IsLastBelow (pairs_in list) e (length list) n) (sym (same e)) (a.firsts e);
+      nexts = a.nexts;
+      from = λ i r at. place-longer (length objects) (length temporaries) (length reaching) (length others) (end_of r.from) longer more_temps (a.from i r at);
+      to = λ i r at. end-longer (length temporaries) (length others) (end_of r.to) more_temps (a.to i r at);
+      flags = fs;
+      chains = cs;
+      few = few;
+      reach = reach;
+      space = fits;
+      most = most;
+    }
   where
     same : (e : exact.End) → first_in reaching others e ≡ first_in objects temporaries e
     same (exact.node x) = reached x
@@ -187,7 +204,8 @@ pub FirstsCleared-none : (old : exact.End → ℕ) → FirstsCleared [] old old
 FirstsCleared-none old = record { cleared = λ e c. absurd (Contains-nil e c); others = λ e. inr refl }
 
 -- one more is
-pub FirstsCleared-next : (ends : List exact.End) (e : exact.End) (old mid new : exact.End → ℕ) → FirstsCleared ends old mid → new e ≡ 0 → ((f : exact.End) → f ≢ e → new f ≡ mid f) → FirstsCleared (ends ++ e ∷ []) old new
+pub FirstsCleared-next : (ends : List exact.End) (e : exact.End) (old mid new : exact.End → ℕ) → FirstsCleared ends old mid
+    → new e ≡ 0 → ((f : exact.End) → f ≢ e → new f ≡ mid f) → FirstsCleared (ends ++ e ∷ []) old new
 FirstsCleared-next ends e old mid new c here rest = record {
   cleared = λ f h. elim (end-or f e) [
     | inl same ↦ ap new same ∙ here
@@ -202,11 +220,13 @@ FirstsCleared-next ends e old mid new c here rest = record {
 -- the end that a reference leads from
 from-Contains : (list : List Reference) (i : ℕ) (e f : exact.End) → slice_get (pairs_in list) i ≡ Some (e, f) → Contains (map (λ (r : Reference). end_of r.from) list) e
 from-Contains [] i e f at = (let z : ⊥ = cc in absurd z)
-from-Contains (r ∷ list) zero e f at = subst (Contains (end_of r.from ∷ map (λ (q : Reference). end_of q.from) list)) (pair-from (end_of r.from) (end_of r.to) e f at) (Contains-here (end_of r.from) (map (λ (q : Reference). end_of q.from) list))
+from-Contains (r ∷ list) zero e f at = subst (Contains (end_of r.from ∷ map (λ (q : Reference). end_of q.from) list))
+    (pair-from (end_of r.from) (end_of r.to) e f at) (Contains-here (end_of r.from) (map (λ (q : Reference). end_of q.from) list))
 from-Contains (r ∷ list) (suc i) e f at = Contains-there e (end_of r.from) (map (λ (q : Reference). end_of q.from) list) (from-Contains list i e f at)
 
 -- the references are gone, and no end has one
-pub AreLinked-cleared : (list after : List Reference) (objects reaching temporaries others : List ℕ) (seen : List Bool) (links : List ℕ) (room capacity more : ℕ) → AreLinked list objects temporaries seen links room capacity → after ≡ [] → (length reaching ≡ length objects) × (length others ≡ length temporaries)
+pub AreLinked-cleared : (list after : List Reference) (objects reaching temporaries others : List ℕ) (seen : List Bool) (links : List ℕ) (room capacity more : ℕ)
+    → AreLinked list objects temporaries seen links room capacity → after ≡ [] → (length reaching ≡ length objects) × (length others ≡ length temporaries)
     → FirstsCleared (map (λ (r : Reference). end_of r.from) list) (first_in objects temporaries) (first_in reaching others) → more ≡ capacity → AreLinked after reaching others seen links room more
 AreLinked-cleared list after objects reaching temporaries others seen links room capacity more a is len c cap = subst (λ l. AreLinked l reaching others seen links room more) (sym is) record {
   firsts = λ e. record { below = omega (arith, none e); none = λ i f from to at. absurd (omega (arith, to)); there = λ one. absurd (omega (arith, one, none e)) };

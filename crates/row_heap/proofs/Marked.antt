@@ -2,7 +2,8 @@
 -- so a write to a row of the slab is a write to the row as it is seen; a write to all three lists at one place writes
 -- the row with both. A row with a mark stands as long as each row that is written is such a row, and a marking through
 -- the fields of a row marks rows that stand.
-use Rattle.std.proofs.Common.{◌≡◌, ℕ, zero, suc, ◌-◌, ◌≤◌, ◌<◌, ◌⊎◌, inl, inr, Bool, true, false, List, [], ◌∷◌, ◌++◌, map, length, replicate, drop, get_or, set, Option, Some, None, refl, sym, ap, subst, ◌∙◌, arith, length-append}
+use Rattle.std.proofs.Common.{◌≡◌, ℕ, zero, suc, ◌-◌, ◌≤◌, ◌<◌, ◌⊎◌, inl, inr, Bool, true, false, List, [], ◌∷◌, ◌++◌, map, length, replicate, drop, get_or, set, Option, Some, None, refl, sym, ap}
+use Rattle.std.proofs.Common.{subst, ◌∙◌, arith, length-append}
 use Rattle.std.specs.Prelude.{Contains, slice_get}
 use Rattle.std.proofs.Math.ListN.{length-set}
 use Rattle.std.proofs.lemmas.List.{length-map}
@@ -20,19 +21,22 @@ use Rattle.row_heap.specs.declared.places.Row.{Row}
 use Rattle.row_heap.specs.declared.places.RowPlace.{RowPlace}
 use Rattle.row_heap.specs.declared.places.RowPlace.TheVariants.{At, Gone}
 use Rattle.row_heap.specs.Places.{Seen, AreRows, DoMarkedStand, IsIndex, bare, gone, marks_in, links_in, row_at, seen_at, standing, unmarked_row, with_marks}
-use Rattle.row_heap.proofs.Indexed.{IsIndex-freed, IsIndex-grown, IsIndex-pushed, index-written, read-place, read-row, row-of, rows-self, rows-written, seen-stands, shown-freed, shown-grown, shown-pushed, stands-within}
+use Rattle.row_heap.proofs.Indexed.{IsIndex-freed, IsIndex-grown, IsIndex-pushed, index-written, read-place, read-row, row-of, rows-self, rows-written, seen-stands, shown-freed, shown-grown}
+use Rattle.row_heap.proofs.Indexed.{shown-pushed, stands-within}
 use Rattle.row_heap.specs.Ends.{Raises}
 use Rattle.row_heap.proofs.Edges.{unmarked-none}
 use Rattle.row_heap.proofs.Walked.{marked-row, row-marked}
 
 -- what marks and links don't touch
-pub row_at-under : {A : Type 0} (f : Seen → A) → ((r : Seen) (m : Bool) (l : ℕ) → f (record r { marked = m; link = l }) ≡ f r) → (rows : List Seen) (marks : List Bool) (links : List ℕ) (x : ℕ) → f (row_at (with_marks rows marks links) x) ≡ f (row_at rows x)
+pub row_at-under : {A : Type 0} (f : Seen → A) → ((r : Seen) (m : Bool) (l : ℕ) → f (record r { marked = m; link = l }) ≡ f r)
+    → (rows : List Seen) (marks : List Bool) (links : List ℕ) (x : ℕ) → f (row_at (with_marks rows marks links) x) ≡ f (row_at rows x)
 row_at-under f same rows marks links zero = refl
 row_at-under f same [] marks links (suc i) = refl
 row_at-under f same (r ∷ rows) marks links (suc zero) = same r (get_or marks 0 false) (get_or links 0 0)
 row_at-under f same (r ∷ rows) marks links (suc (suc i)) = row_at-under f same rows (drop 1 marks) (drop 1 links) (suc i)
 
-pub map-under : {A : Type 0} (f : Seen → A) → ((r : Seen) (m : Bool) (l : ℕ) → f (record r { marked = m; link = l }) ≡ f r) → (rows : List Seen) (marks : List Bool) (links : List ℕ) → map f (with_marks rows marks links) ≡ map f rows
+pub map-under : {A : Type 0} (f : Seen → A) → ((r : Seen) (m : Bool) (l : ℕ) → f (record r { marked = m; link = l }) ≡ f r)
+    → (rows : List Seen) (marks : List Bool) (links : List ℕ) → map f (with_marks rows marks links) ≡ map f rows
 map-under f same [] marks links = refl
 map-under f same (r ∷ rows) marks links =
     ap (λ z. z ∷ map f (with_marks rows (drop 1 marks) (drop 1 links))) (same r (get_or marks 0 false) (get_or links 0 0)) ∙ ap (λ z. f r ∷ z) (map-under f same rows (drop 1 marks) (drop 1 links))
@@ -55,7 +59,8 @@ links-with (r ∷ rows) marks [] e = absurd (omega (arith, e))
 links-with (r ∷ rows) marks (l ∷ links) e = ap (λ z. l ∷ z) (links-with rows (drop 1 marks) links (omega (arith, e)))
 
 -- a row is written in what isn't mark or link
-with_marks-written : (g : Seen → Seen) → ((r : Seen) (m : Bool) (l : ℕ) → g (record r { marked = m; link = l }) ≡ record (g r) { marked = m; link = l }) → (rows : List Seen) (marks : List Bool) (links : List ℕ) (x : ℕ)
+with_marks-written : (g : Seen → Seen) → ((r : Seen) (m : Bool) (l : ℕ) → g (record r { marked = m; link = l }) ≡ record (g r) { marked = m; link = l })
+    → (rows : List Seen) (marks : List Bool) (links : List ℕ) (x : ℕ)
     → with_marks (numbered_set rows x (g (row_at rows x))) marks links ≡ numbered_set (with_marks rows marks links) x (g (row_at (with_marks rows marks links) x))
 with_marks-written g apart rows marks links zero = refl
 with_marks-written g apart [] marks links (suc i) = refl
@@ -76,7 +81,8 @@ with_marks-set (q ∷ rows) (n ∷ marks) (k ∷ links) (suc (suc i)) r m l em e
     let p : Seen = record q { marked = n; link = k } in
     ap (λ z. p ∷ z) (with_marks-set rows marks links (suc i) r m l (omega (arith, em)) (omega (arith, el)))
 
-pub shown-set : (base shown rows : List Seen) (marks : List Bool) (links : List ℕ) (x : ℕ) (r : Seen) (m : Bool) (l : ℕ) → with_marks base marks links ≡ rows → length marks ≡ length base → length links ≡ length base → 1 ≤ x → shown ≡ numbered_set base x r
+pub shown-set : (base shown rows : List Seen) (marks : List Bool) (links : List ℕ) (x : ℕ) (r : Seen) (m : Bool) (l : ℕ)
+    → with_marks base marks links ≡ rows → length marks ≡ length base → length links ≡ length base → 1 ≤ x → shown ≡ numbered_set base x r
     → with_marks shown (set marks (x - 1) m) (set links (x - 1) l) ≡ numbered_set rows x (record r { marked = m; link = l })
 shown-set base shown rows marks links x r m l view em el one is =
     ap (λ ms. with_marks shown ms (set links (x - 1) l)) (numbered_set-index marks x m one)
@@ -84,20 +90,23 @@ shown-set base shown rows marks links x r m l view em el one is =
     ∙ (ap (λ b. with_marks b (numbered_set marks x m) (numbered_set links x l)) is
     ∙ (with_marks-set base marks links x r m l em el ∙ ap (λ z. numbered_set z x (record r { marked = m; link = l })) view)))
 
-pub shown-marked : (base rows : List Seen) (marks : List Bool) (links : List ℕ) (x : ℕ) (l : ℕ) → with_marks base marks links ≡ rows → length marks ≡ length base → length links ≡ length base → 1 ≤ x → x ≤ length base
+pub shown-marked : (base rows : List Seen) (marks : List Bool) (links : List ℕ) (x : ℕ) (l : ℕ)
+    → with_marks base marks links ≡ rows → length marks ≡ length base → length links ≡ length base → 1 ≤ x → x ≤ length base
     → with_marks base (set marks (x - 1) true) (set links (x - 1) l) ≡ numbered_set rows x (record (row_at rows x) { marked = true; link = l })
 shown-marked base rows marks links x l view em el one le =
     let with_mark : Seen → Seen = λ r. record r { marked = true; link = l } in
     shown-set base base rows marks links x (row_at base x) true l view em el one (sym (rows-self base x (row_at base x) one le refl))
     ∙ ap (numbered_set rows x) (sym (row_at-under with_mark (λ r m k. refl) base marks links x) ∙ ap (λ z. with_mark (row_at z x)) view)
 
-pub shown-changed : (g : Seen → Seen) → ((r : Seen) (m : Bool) (l : ℕ) → g (record r { marked = m; link = l }) ≡ record (g r) { marked = m; link = l }) → (base shown rows : List Seen) (marks : List Bool) (links : List ℕ) (x : ℕ) → with_marks base marks links ≡ rows → shown ≡ numbered_set base x (g (row_at base x))
+pub shown-changed : (g : Seen → Seen) → ((r : Seen) (m : Bool) (l : ℕ) → g (record r { marked = m; link = l }) ≡ record (g r) { marked = m; link = l })
+    → (base shown rows : List Seen) (marks : List Bool) (links : List ℕ) (x : ℕ) → with_marks base marks links ≡ rows → shown ≡ numbered_set base x (g (row_at base x))
     → with_marks shown marks links ≡ numbered_set rows x (g (row_at rows x))
 shown-changed g apart base shown rows marks links x view is =
     ap (λ b. with_marks b marks links) is ∙ (with_marks-written g apart base marks links x ∙ ap (λ z. numbered_set z x (g (row_at z x))) view)
 
 -- a further row
-pub with_marks-push : (rows : List Seen) (marks : List Bool) (links : List ℕ) (r : Seen) (m : Bool) (l : ℕ) → length marks ≡ length rows → length links ≡ length rows → with_marks (rows ++ r ∷ []) (marks ++ m ∷ []) (links ++ l ∷ []) ≡ with_marks rows marks links ++ record r { marked = m; link = l } ∷ []
+pub with_marks-push : (rows : List Seen) (marks : List Bool) (links : List ℕ) (r : Seen) (m : Bool) (l : ℕ) → length marks ≡ length rows → length links ≡ length rows
+    → with_marks (rows ++ r ∷ []) (marks ++ m ∷ []) (links ++ l ∷ []) ≡ with_marks rows marks links ++ record r { marked = m; link = l } ∷ []
 with_marks-push [] [] [] r m l em el = refl
 with_marks-push [] (n ∷ marks) links r m l em el = absurd (omega (arith, em))
 with_marks-push [] [] (k ∷ links) r m l em el = absurd (omega (arith, el))
@@ -121,7 +130,8 @@ with_marks-down (r ∷ rows) (suc n) marks links =
 pub stand-set : (rows : List Seen) (x : ℕ) (y : Seen) → (y.marked ≡ true → y.stands ≡ true) → DoMarkedStand rows → DoMarkedStand (numbered_set rows x y)
 stand-set rows x y up all z e = stand-at rows x z (all z) e
   where
-    stand-at : (rows : List Seen) (x z : ℕ) → ((row_at rows z).marked ≡ true → (row_at rows z).stands ≡ true) → (row_at (numbered_set rows x y) z).marked ≡ true → (row_at (numbered_set rows x y) z).stands ≡ true
+    stand-at : (rows : List Seen) (x z : ℕ) → ((row_at rows z).marked ≡ true → (row_at rows z).stands ≡ true)
+        → (row_at (numbered_set rows x y) z).marked ≡ true → (row_at (numbered_set rows x y) z).stands ≡ true
     stand-at rows zero z h e = h e
     stand-at [] (suc i) z h e = h e
     stand-at (r ∷ rows) (suc zero) zero h e = h e
@@ -145,7 +155,8 @@ pub stand-down : (rows : List Seen) → DoMarkedStand (map unmarked_row rows)
 stand-down rows z e = absurd (unmarked-none rows z (row-marked (map unmarked_row rows) z e))
 
 -- the rows as they are after a change
-pub AreRows-as : (s : Slab Row) (places : List RowPlace) (marks : List Bool) (links : List ℕ) (rows : List Seen) → IsIndex s places → length marks ≡ length places → length links ≡ length places → with_marks (map (seen_at s) places) marks links ≡ rows → DoMarkedStand rows → AreRows s places marks links
+pub AreRows-as : (s : Slab Row) (places : List RowPlace) (marks : List Bool) (links : List ℕ) (rows : List Seen) → IsIndex s places → length marks ≡ length places
+    → length links ≡ length places → with_marks (map (seen_at s) places) marks links ≡ rows → DoMarkedStand rows → AreRows s places marks links
 AreRows-as s places marks links rows index em el view up = record { index = index; marks_len = em; links_len = el; up = subst DoMarkedStand (sym view) up }
 
 pub greyed-row : (y : ℕ) (marks : List Bool) (links : List ℕ) (h : ℕ) → 1 ≤ y → y ≤ length marks → length links ≡ length marks → get_or marks (y - 1) false ≡ false
@@ -156,7 +167,8 @@ greyed-row y marks links h one le el down =
     subst (λ n. Greyed (λ z. z ≡ n) (false ∷ marks) (0 ∷ links) h (false ∷ set marks i true) (0 ∷ set links i h) n) e
     (Greyed-new (suc i) (false ∷ marks) (0 ∷ links) h (read-mark marks i false (omega arith) down) (omega arith) (omega (arith, el)))
 
-pub greyed-seen : (y : ℕ) (marks : List Bool) (links : List ℕ) (h : ℕ) → 1 ≤ y → y ≤ length marks → get_or marks (y - 1) false ≡ true → Greyed (λ z. z ≡ y) (false ∷ marks) links h (false ∷ marks) links h
+pub greyed-seen : (y : ℕ) (marks : List Bool) (links : List ℕ) (h : ℕ) → 1 ≤ y → y ≤ length marks
+    → get_or marks (y - 1) false ≡ true → Greyed (λ z. z ≡ y) (false ∷ marks) links h (false ∷ marks) links h
 greyed-seen y marks links h one le there waited c =
     let i : ℕ = y - 1 in
     let e : suc i ≡ y = omega arith in
@@ -179,7 +191,8 @@ raises-seen y marks one le there =
 
 -- the rows of fields are marked by the lists, and all of them stand
 pub stand-visited : (base rows : List Seen) (marks others : List Bool) (links after : List ℕ) (fields : List (Option ℕ)) → with_marks base marks links ≡ rows → length others ≡ length base
-    → ((k : ℕ) → HasMark (false ∷ others) k → HasMark (false ∷ marks) k ⊎ Contains fields (Some k)) → length marks ≡ length base → ((y : ℕ) → Contains fields (Some y) → (row_at rows y).stands ≡ true) → DoMarkedStand rows → DoMarkedStand (with_marks base others after)
+    → ((k : ℕ) → HasMark (false ∷ others) k → HasMark (false ∷ marks) k ⊎ Contains fields (Some k)) → length marks ≡ length base
+    → ((y : ℕ) → Contains fields (Some y) → (row_at rows y).stands ≡ true) → DoMarkedStand rows → DoMarkedStand (with_marks base others after)
 stand-visited base rows marks others links after fields view len fresh em held up z e =
     let stands : (r : Seen) (m : Bool) (l : ℕ) → (record r { marked = m; link = l }).stands ≡ r.stands = λ r m l. refl in
     let mark : HasMark (false ∷ others) z = subst (λ (ms : List Bool). HasMark (false ∷ ms) z) (marks-with base others after len) (row-marked (with_marks base others after) z e) in
@@ -187,10 +200,13 @@ stand-visited base rows marks others links after fields view len fresh em held u
       | inl w ↦ up z (marked-row rows z (subst (λ (ms : List Bool). HasMark (false ∷ ms) z) (sym (ap (map (λ (r : Seen). r.marked)) (sym view) ∙ marks-with base marks links em)) w))
       | inr w ↦ held z w
     ] in
-    row_at-under (λ r. r.stands) (λ r m l. refl) base others after z ∙ (sym (row_at-under (λ r. r.stands) (λ r m l. refl) base marks links z) ∙ (ap (λ (l : List Seen). (row_at l z).stands) view ∙ old))
+    row_at-under (λ r. r.stands) (λ r m l. refl) base others after z
+    ∙ (sym (row_at-under (λ r. r.stands) (λ r m l. refl) base marks links z) ∙ (ap (λ (l : List Seen). (row_at l z).stands) view ∙ old))
 
-pub greyed-rows : (row : ℕ → Type 0) (base rows : List Seen) (marks others written : List Bool) (links after put : List ℕ) (h i : ℕ) → with_marks base marks links ≡ rows → written ≡ others → put ≡ after → length marks ≡ length base → length links ≡ length base → length others ≡ length base → length after ≡ length base
-    → Greyed row (false ∷ marks) (0 ∷ links) h (false ∷ others) (0 ∷ after) i → Greyed row (marks_in rows) (links_in rows) h (marks_in (with_marks base written put)) (links_in (with_marks base written put)) i
+pub greyed-rows : (row : ℕ → Type 0) (base rows : List Seen) (marks others written : List Bool) (links after put : List ℕ) (h i : ℕ) → with_marks base marks links ≡ rows
+    → written ≡ others → put ≡ after → length marks ≡ length base → length links ≡ length base → length others ≡ length base → length after ≡ length base
+    → Greyed row (false ∷ marks) (0 ∷ links) h (false ∷ others) (0 ∷ after) i
+    → Greyed row (marks_in rows) (links_in rows) h (marks_in (with_marks base written put)) (links_in (with_marks base written put)) i
 greyed-rows row base rows marks others written links after put h i view is set_links em el om ol y =
     let new : List Seen = with_marks base written put in
     let next : with_marks base others after ≡ new = ap (λ ms. with_marks base ms after) (sym is) ∙ ap (λ ls. with_marks base written ls) (sym set_links) in
@@ -199,14 +215,16 @@ greyed-rows row base rows marks others written links after put h i view is set_l
     (subst (λ (ms : List Bool). Greyed row (false ∷ marks) (0 ∷ links) h (false ∷ ms) (links_in new) i) (sym (ap (map (λ (r : Seen). r.marked)) (sym next) ∙ marks-with base others after om))
     (subst (λ (ls : List ℕ). Greyed row (false ∷ marks) (0 ∷ links) h (false ∷ others) (0 ∷ ls) i) (sym (ap (map (λ (r : Seen). r.link)) (sym next) ∙ links-with base others after ol)) y)))
 
-pub marks-rows : (p : List Bool → List Bool → Type 0) (base rows : List Seen) (marks others written : List Bool) (links put : List ℕ) → with_marks base marks links ≡ rows → written ≡ others → length marks ≡ length base → length others ≡ length base → p (false ∷ marks) (false ∷ others)
+pub marks-rows : (p : List Bool → List Bool → Type 0) (base rows : List Seen) (marks others written : List Bool) (links put : List ℕ)
+    → with_marks base marks links ≡ rows → written ≡ others → length marks ≡ length base → length others ≡ length base → p (false ∷ marks) (false ∷ others)
     → p (marks_in rows) (marks_in (with_marks base written put))
 marks-rows p base rows marks others written links put view is em om y =
     subst (λ (ms : List Bool). p (false ∷ ms) (marks_in (with_marks base written put))) (sym (ap (map (λ (r : Seen). r.marked)) (sym view) ∙ marks-with base marks links em))
     (subst (λ (ms : List Bool). p (false ∷ marks) (false ∷ ms)) (sym (marks-with base written put (ap length is ∙ om) ∙ is)) y)
 
 -- a further field is done
-pub fresh-push : (fields : List (Option ℕ)) (f : Option ℕ) (a b c : List Bool) → ((k : ℕ) → HasMark b k → HasMark a k ⊎ Contains fields (Some k)) → ((k : ℕ) → HasMark c k → HasMark b k ⊎ (f ≡ Some k)) → (k : ℕ) → HasMark c k → HasMark a k ⊎ Contains (fields ++ f ∷ []) (Some k)
+pub fresh-push : (fields : List (Option ℕ)) (f : Option ℕ) (a b c : List Bool) → ((k : ℕ) → HasMark b k → HasMark a k ⊎ Contains fields (Some k))
+    → ((k : ℕ) → HasMark c k → HasMark b k ⊎ (f ≡ Some k)) → (k : ℕ) → HasMark c k → HasMark a k ⊎ Contains (fields ++ f ∷ []) (Some k)
 fresh-push fields f a b c old new k m = elim (new k m) [
   | inl w ↦ elim (old k w) [ inl v ↦ inl v | inr v ↦ inr (Contains-append_left fields (f ∷ []) (Some k) v) ]
   | inr w ↦ inr (subst (Contains (fields ++ f ∷ [])) w (Contains-push fields f))
@@ -226,31 +244,39 @@ len-under s places rows marks links view = sym (ap length view) ∙ (length-with
 pub up-under : (base rows : List Seen) (marks : List Bool) (links : List ℕ) (x : ℕ) → with_marks base marks links ≡ rows → (row_at rows x).stands ≡ true → (row_at base x).stands ≡ true
 up-under base rows marks links x view up = sym (row_at-under (λ r. r.stands) (λ r m l. refl) base marks links x) ∙ (ap (λ (l : List Seen). (row_at l x).stands) view ∙ up)
 
-pub key-up : (s : Slab Row) (places : List RowPlace) (x : ℕ) (r : RowPlace) (key : ℕ) → IsIndex s places → 1 ≤ x → x ≤ length places → r ≡ At key → r ≡ get_or places (x - 1) r → (row_at (map (seen_at s) places) x).stands ≡ true
+pub key-up : (s : Slab Row) (places : List RowPlace) (x : ℕ) (r : RowPlace) (key : ℕ) → IsIndex s places → 1 ≤ x
+    → x ≤ length places → r ≡ At key → r ≡ get_or places (x - 1) r → (row_at (map (seen_at s) places) x).stands ≡ true
 key-up s places x r key index one le is e =
     let le' : x ≤ length (map (seen_at s) places) = omega (arith, le, length-map places (seen_at s)) in
-    ap (λ z. z.stands) (read-row s places (map (seen_at s) places) x r (At key) refl one le' is e) ∙ seen-stands s places (x - 1) key index (read-place s places (map (seen_at s) places) x r (At key) refl one le' is e)
+    ap (λ z. z.stands) (read-row s places (map (seen_at s) places) x r (At key) refl one le' is e)
+    ∙ seen-stands s places (x - 1) key index (read-place s places (map (seen_at s) places) x r (At key) refl one le' is e)
 
 -- the row under one key is written
-pub changed-rows : (g : Seen → Seen) → ((r : Seen) (m : Bool) (l : ℕ) → g (record r { marked = m; link = l }) ≡ record (g r) { marked = m; link = l }) → (s : Slab Row) (places : List RowPlace) (rows : List Seen) (marks : List Bool) (links : List ℕ) (x : ℕ) (r : RowPlace) (key : ℕ) (old new : Row)
-    → with_marks (map (seen_at s) places) marks links ≡ rows → IsIndex s places → (row_at (map (seen_at s) places) x).stands ≡ true → r ≡ At key → r ≡ get_or places (x - 1) r → get s key ≡ Some old → standing new ≡ g (standing old)
+pub changed-rows : (g : Seen → Seen) → ((r : Seen) (m : Bool) (l : ℕ) → g (record r { marked = m; link = l }) ≡ record (g r) { marked = m; link = l })
+    → (s : Slab Row) (places : List RowPlace) (rows : List Seen) (marks : List Bool) (links : List ℕ) (x : ℕ) (r : RowPlace) (key : ℕ) (old new : Row)
+    → with_marks (map (seen_at s) places) marks links ≡ rows → IsIndex s places → (row_at (map (seen_at s) places) x).stands ≡ true
+    → r ≡ At key → r ≡ get_or places (x - 1) r → get s key ≡ Some old → standing new ≡ g (standing old)
     → with_marks (map (seen_at (with_value s key new)) places) marks links ≡ numbered_set rows x (g (row_at rows x))
 changed-rows g apart s places rows marks links x r key old new view index up is e got same =
     let base = map (seen_at s) places in
     shown-changed g apart base (map (seen_at (with_value s key new)) places) rows marks links x view
     (rows-written s places base x r key new (g (row_at base x)) refl up is e index (same ∙ ap g (sym (row-of s places base x r key old refl up is e got))))
 
-pub changed-are : (g : Seen → Seen) → ((r : Seen) (m : Bool) (l : ℕ) → g (record r { marked = m; link = l }) ≡ record (g r) { marked = m; link = l }) → ((r : Seen) → (g r).stands ≡ r.stands) → (s : Slab Row) (places : List RowPlace) (rows : List Seen) (marks : List Bool) (links : List ℕ) (x : ℕ) (r : RowPlace) (key : ℕ) (old new : Row)
-    → with_marks (map (seen_at s) places) marks links ≡ rows → AreRows s places marks links → (row_at (map (seen_at s) places) x).stands ≡ true → r ≡ At key → r ≡ get_or places (x - 1) r → get s key ≡ Some old → standing new ≡ g (standing old)
+pub changed-are : (g : Seen → Seen) → ((r : Seen) (m : Bool) (l : ℕ) → g (record r { marked = m; link = l }) ≡ record (g r) { marked = m; link = l })
+    → ((r : Seen) → (g r).stands ≡ r.stands) → (s : Slab Row) (places : List RowPlace) (rows : List Seen) (marks : List Bool) (links : List ℕ) (x : ℕ) (r : RowPlace) (key : ℕ) (old new : Row)
+    → with_marks (map (seen_at s) places) marks links ≡ rows → AreRows s places marks links → (row_at (map (seen_at s) places) x).stands ≡ true
+    → r ≡ At key → r ≡ get_or places (x - 1) r → get s key ≡ Some old → standing new ≡ g (standing old)
     → AreRows (with_value s key new) places marks links
 changed-are g apart stays s places rows marks links x r key old new view a up is e got same =
     let base = map (seen_at s) places in
     AreRows-as (with_value s key new) places marks links (numbered_set rows x (g (row_at rows x))) (index-written s places base x r key new refl up is e a.index) a.marks_len a.links_len
     (changed-rows g apart s places rows marks links x r key old new view a.index up is e got same)
-    (stand-set rows x (g (row_at rows x)) (λ m. stays (row_at rows x) ∙ (sym (ap (λ (l : List Seen). (row_at l x).stands) view) ∙ (row_at-under (λ q. q.stands) (λ q n l. refl) base marks links x ∙ up))) (subst DoMarkedStand view a.up))
+    (stand-set rows x (g (row_at rows x)) (λ m. stays (row_at rows x)
+    ∙ (sym (ap (λ (l : List Seen). (row_at l x).stands) view) ∙ (row_at-under (λ q. q.stands) (λ q n l. refl) base marks links x ∙ up))) (subst DoMarkedStand view a.up))
 
 -- a row is removed
-pub freed-rows : (s t : Slab Row) (places : List RowPlace) (rows : List Seen) (marks : List Bool) (links : List ℕ) (x key : ℕ) (kept : Snapshot Fields) → with_marks (map (seen_at s) places) marks links ≡ rows → AreRows s places marks links → 1 ≤ x → slice_get places (x - 1) ≡ Some (At key) → Updates s t key None
+pub freed-rows : (s t : Slab Row) (places : List RowPlace) (rows : List Seen) (marks : List Bool) (links : List ℕ) (x key : ℕ) (kept : Snapshot Fields)
+    → with_marks (map (seen_at s) places) marks links ≡ rows → AreRows s places marks links → 1 ≤ x → slice_get places (x - 1) ≡ Some (At key) → Updates s t key None
     → kept.value ≡ (row_at (map (seen_at s) places) x).fields
     → with_marks (map (seen_at t) (set places (x - 1) (Gone kept))) (set marks (x - 1) false) (set links (x - 1) 0) ≡ numbered_set rows x (gone (row_at rows x).fields)
 freed-rows s t places rows marks links x key kept view a one at u had =
@@ -260,16 +286,19 @@ freed-rows s t places rows marks links x key kept view a one at u had =
     (shown-freed s t places base x key kept (gone (row_at base x).fields) refl a.index one at u (ap gone had))
     ∙ ap (λ fs. numbered_set rows x (gone fs)) (sym (row_at-under (λ q. q.fields) (λ q n l. refl) base marks links x) ∙ ap (λ (l : List Seen). (row_at l x).fields) view)
 
-pub freed-are : (s t : Slab Row) (places : List RowPlace) (rows : List Seen) (marks : List Bool) (links : List ℕ) (x key : ℕ) (kept : Snapshot Fields) → with_marks (map (seen_at s) places) marks links ≡ rows → AreRows s places marks links → 1 ≤ x → slice_get places (x - 1) ≡ Some (At key) → Updates s t key None
+pub freed-are : (s t : Slab Row) (places : List RowPlace) (rows : List Seen) (marks : List Bool) (links : List ℕ) (x key : ℕ) (kept : Snapshot Fields)
+    → with_marks (map (seen_at s) places) marks links ≡ rows → AreRows s places marks links → 1 ≤ x → slice_get places (x - 1) ≡ Some (At key) → Updates s t key None
     → kept.value ≡ (row_at (map (seen_at s) places) x).fields → AreRows t (set places (x - 1) (Gone kept)) (set marks (x - 1) false) (set links (x - 1) 0)
 freed-are s t places rows marks links x key kept view a one at u had =
     let len : length (set places (x - 1) (Gone kept)) ≡ length places = length-set places (x - 1) (Gone kept) in
-    AreRows-as t (set places (x - 1) (Gone kept)) (set marks (x - 1) false) (set links (x - 1) 0) (numbered_set rows x (gone (row_at rows x).fields)) (IsIndex-freed s t places (x - 1) key kept a.index at u)
+    AreRows-as t (set places (x - 1) (Gone kept)) (set marks (x - 1) false) (set links (x - 1) 0)
+    (numbered_set rows x (gone (row_at rows x).fields)) (IsIndex-freed s t places (x - 1) key kept a.index at u)
     (length-set marks (x - 1) false ∙ (a.marks_len ∙ sym len)) (length-set links (x - 1) 0 ∙ (a.links_len ∙ sym len))
     (freed-rows s t places rows marks links x key kept view a one at u had) (stand-set rows x (gone (row_at rows x).fields) (λ m. (let f : ⊥ = cc in absurd f)) (subst DoMarkedStand view a.up))
 
 -- a mark and a link, and the rest of a row, at its number
-pub bare-under : (s : Slab Row) (places : List RowPlace) (rows : List Seen) (marks : List Bool) (links : List ℕ) (x : ℕ) → with_marks (map (seen_at s) places) marks links ≡ rows → bare (row_at rows x) ≡ row_at (map (seen_at s) places) x
+pub bare-under : (s : Slab Row) (places : List RowPlace) (rows : List Seen) (marks : List Bool) (links : List ℕ) (x : ℕ)
+    → with_marks (map (seen_at s) places) marks links ≡ rows → bare (row_at rows x) ≡ row_at (map (seen_at s) places) x
 bare-under s places rows marks links x view = ap (λ (l : List Seen). bare (row_at l x)) (sym view) ∙ (row_at-under bare (λ r m l. refl) (map (seen_at s) places) marks links x ∙ bare-base places x)
   where
     bare-place : (p : RowPlace) → bare (seen_at s p) ≡ seen_at s p
@@ -286,9 +315,11 @@ bare-under s places rows marks links x view = ap (λ (l : List Seen). bare (row_
     bare-base (p ∷ ps) (suc zero) = bare-place p
     bare-base (p ∷ ps) (suc (suc i)) = bare-base ps (suc i)
 
-pub mark-under : (s : Slab Row) (places : List RowPlace) (rows : List Seen) (marks : List Bool) (links : List ℕ) (x : ℕ) (d : Bool) → with_marks (map (seen_at s) places) marks links ≡ rows → 1 ≤ x → x ≤ length rows → length marks ≡ length places → (row_at rows x).marked ≡ get_or marks (x - 1) d
+pub mark-under : (s : Slab Row) (places : List RowPlace) (rows : List Seen) (marks : List Bool) (links : List ℕ) (x : ℕ) (d : Bool)
+    → with_marks (map (seen_at s) places) marks links ≡ rows → 1 ≤ x → x ≤ length rows → length marks ≡ length places → (row_at rows x).marked ≡ get_or marks (x - 1) d
 mark-under s places rows marks links x d view one le em =
-    sym (ap (λ (l : List Seen). (row_at l x).marked) view) ∙ mark-at (map (seen_at s) places) marks links x one (omega (arith, le, em, len-under s places rows marks links view)) (em ∙ sym (length-map places (seen_at s)))
+    sym (ap (λ (l : List Seen). (row_at l x).marked) view) ∙ mark-at (map (seen_at s) places) marks links x one
+    (omega (arith, le, em, len-under s places rows marks links view)) (em ∙ sym (length-map places (seen_at s)))
   where
     at : (base : List Seen) (ms : List Bool) (ls : List ℕ) (i : ℕ) → i < length ms → length ms ≡ length base → (row_at (with_marks base ms ls) (suc i)).marked ≡ get_or ms i d
     at base [] ls i lt e = absurd (omega arith)
@@ -300,9 +331,11 @@ mark-under s places rows marks links x d view one le em =
     mark-at base ms ls zero o l e = absurd (omega arith)
     mark-at base ms ls (suc i) o l e = (let same : suc i - 1 ≡ i = omega arith in rw same (at base ms ls i (omega arith) e))
 
-pub link-under : (s : Slab Row) (places : List RowPlace) (rows : List Seen) (marks : List Bool) (links : List ℕ) (x : ℕ) (d : ℕ) → with_marks (map (seen_at s) places) marks links ≡ rows → 1 ≤ x → x ≤ length rows → length links ≡ length places → (row_at rows x).link ≡ get_or links (x - 1) d
+pub link-under : (s : Slab Row) (places : List RowPlace) (rows : List Seen) (marks : List Bool) (links : List ℕ) (x : ℕ) (d : ℕ)
+    → with_marks (map (seen_at s) places) marks links ≡ rows → 1 ≤ x → x ≤ length rows → length links ≡ length places → (row_at rows x).link ≡ get_or links (x - 1) d
 link-under s places rows marks links x d view one le el =
-    sym (ap (λ (l : List Seen). (row_at l x).link) view) ∙ link-at (map (seen_at s) places) marks links x one (omega (arith, le, el, len-under s places rows marks links view)) (el ∙ sym (length-map places (seen_at s)))
+    sym (ap (λ (l : List Seen). (row_at l x).link) view) ∙ link-at (map (seen_at s) places) marks links x one
+    (omega (arith, le, el, len-under s places rows marks links view)) (el ∙ sym (length-map places (seen_at s)))
   where
     at : (base : List Seen) (ms : List Bool) (ls : List ℕ) (i : ℕ) → i < length ls → length ls ≡ length base → (row_at (with_marks base ms ls) (suc i)).link ≡ get_or ls i d
     at base ms [] i lt e = absurd (omega arith)
@@ -315,26 +348,32 @@ link-under s places rows marks links x d view one le el =
     link-at base ms ls (suc i) o l e = (let same : suc i - 1 ≡ i = omega arith in rw same (at base ms ls i (omega arith) e))
 
 -- a row is marked, and all marks are taken down
-pub marked-rows : (s : Slab Row) (places : List RowPlace) (rows : List Seen) (marks : List Bool) (links : List ℕ) (x l : ℕ) → with_marks (map (seen_at s) places) marks links ≡ rows → AreRows s places marks links → (row_at rows x).stands ≡ true
+pub marked-rows : (s : Slab Row) (places : List RowPlace) (rows : List Seen) (marks : List Bool) (links : List ℕ) (x l : ℕ)
+    → with_marks (map (seen_at s) places) marks links ≡ rows → AreRows s places marks links → (row_at rows x).stands ≡ true
     → with_marks (map (seen_at s) places) (set marks (x - 1) true) (set links (x - 1) l) ≡ numbered_set rows x (record (row_at rows x) { marked = true; link = l })
 marked-rows s places rows marks links x l view a up =
     let w = stands-within rows x up in
     let len : length (map (seen_at s) places) ≡ length places = length-map places (seen_at s) in
     shown-marked (map (seen_at s) places) rows marks links x l view (a.marks_len ∙ sym len) (a.links_len ∙ sym len) w.0 (omega (arith, w.1, len, len-under s places rows marks links view))
 
-pub marked-are : (s : Slab Row) (places : List RowPlace) (rows : List Seen) (marks : List Bool) (links : List ℕ) (x l : ℕ) → with_marks (map (seen_at s) places) marks links ≡ rows → AreRows s places marks links → (row_at rows x).stands ≡ true
+pub marked-are : (s : Slab Row) (places : List RowPlace) (rows : List Seen) (marks : List Bool) (links : List ℕ) (x l : ℕ)
+    → with_marks (map (seen_at s) places) marks links ≡ rows → AreRows s places marks links → (row_at rows x).stands ≡ true
     → AreRows s places (set marks (x - 1) true) (set links (x - 1) l)
 marked-are s places rows marks links x l view a up =
-    AreRows-as s places (set marks (x - 1) true) (set links (x - 1) l) (numbered_set rows x (record (row_at rows x) { marked = true; link = l })) a.index (length-set marks (x - 1) true ∙ a.marks_len) (length-set links (x - 1) l ∙ a.links_len)
+    AreRows-as s places (set marks (x - 1) true) (set links (x - 1) l) (numbered_set rows x (record (row_at rows x) { marked = true; link = l })) a.index
+    (length-set marks (x - 1) true ∙ a.marks_len) (length-set links (x - 1) l ∙ a.links_len)
     (marked-rows s places rows marks links x l view a up) (stand-set rows x (record (row_at rows x) { marked = true; link = l }) (λ m. up) (subst DoMarkedStand view a.up))
 
-pub unmarked-rows : (s : Slab Row) (places : List RowPlace) (rows : List Seen) (marks others : List Bool) (links : List ℕ) → with_marks (map (seen_at s) places) marks links ≡ rows → others ≡ replicate (length marks) false
+pub unmarked-rows : (s : Slab Row) (places : List RowPlace) (rows : List Seen) (marks others : List Bool) (links : List ℕ)
+    → with_marks (map (seen_at s) places) marks links ≡ rows → others ≡ replicate (length marks) false
     → with_marks (map (seen_at s) places) others links ≡ map unmarked_row rows
 unmarked-rows s places rows marks others links view is =
     ap (λ ms. with_marks (map (seen_at s) places) ms links) is ∙ (with_marks-down (map (seen_at s) places) (length marks) marks links ∙ ap (map unmarked_row) view)
 
-pub visited-are : (s : Slab Row) (places : List RowPlace) (rows : List Seen) (marks others : List Bool) (links after : List ℕ) (fields : List (Option ℕ)) → with_marks (map (seen_at s) places) marks links ≡ rows → AreRows s places marks links → length others ≡ length marks → length after ≡ length links
-    → ((k : ℕ) → HasMark (false ∷ others) k → HasMark (false ∷ marks) k ⊎ Contains fields (Some k)) → ((y : ℕ) → Contains fields (Some y) → (row_at rows y).stands ≡ true) → AreRows s places others after
+pub visited-are : (s : Slab Row) (places : List RowPlace) (rows : List Seen) (marks others : List Bool) (links after : List ℕ) (fields : List (Option ℕ))
+    → with_marks (map (seen_at s) places) marks links ≡ rows → AreRows s places marks links → length others ≡ length marks → length after ≡ length links
+    → ((k : ℕ) → HasMark (false ∷ others) k → HasMark (false ∷ marks) k ⊎ Contains fields (Some k))
+    → ((y : ℕ) → Contains fields (Some y) → (row_at rows y).stands ≡ true) → AreRows s places others after
 visited-are s places rows marks others links after fields view a em el fresh held =
     let len : length (map (seen_at s) places) ≡ length places = length-map places (seen_at s) in
     record {
@@ -345,7 +384,8 @@ visited-are s places rows marks others links after fields view a em el fresh hel
     }
 
 -- the fields of a row that stands
-pub fields-under : (s : Slab Row) (places : List RowPlace) (rows : List Seen) (marks : List Bool) (links : List ℕ) (x : ℕ) (r : RowPlace) (key : ℕ) (row : Row) → with_marks (map (seen_at s) places) marks links ≡ rows → (row_at rows x).stands ≡ true → r ≡ At key → r ≡ get_or places (x - 1) r → get s key ≡ Some row
+pub fields-under : (s : Slab Row) (places : List RowPlace) (rows : List Seen) (marks : List Bool) (links : List ℕ) (x : ℕ) (r : RowPlace) (key : ℕ) (row : Row)
+    → with_marks (map (seen_at s) places) marks links ≡ rows → (row_at rows x).stands ≡ true → r ≡ At key → r ≡ get_or places (x - 1) r → get s key ≡ Some row
     → (row_at rows x).fields ≡ row.fields
 fields-under s places rows marks links x r key row view up is e got =
     ap (λ z. z.fields) (bare-under s places rows marks links x view ∙ row-of s places (map (seen_at s) places) x r key row refl (up-under (map (seen_at s) places) rows marks links x view up) is e got)
@@ -353,16 +393,20 @@ fields-under s places rows marks links x r key row view up is e got =
 -- more room, and a further row
 pub grown-are : (s t : Slab Row) (places : List RowPlace) (marks : List Bool) (links : List ℕ) → t.slots ≡ s.slots → AreRows s places marks links → AreRows t places marks links
 grown-are s t places marks links e a =
-    AreRows-as t places marks links (with_marks (map (seen_at s) places) marks links) (IsIndex-grown s t places e a.index) a.marks_len a.links_len (ap (λ b. with_marks b marks links) (shown-grown s t places e)) a.up
+    AreRows-as t places marks links (with_marks (map (seen_at s) places) marks links)
+    (IsIndex-grown s t places e a.index) a.marks_len a.links_len (ap (λ b. with_marks b marks links) (shown-grown s t places e)) a.up
 
 -- the rows of lists that hold the same
-pub kept-rows : (s t : Slab Row) (places more : List RowPlace) (marks ups : List Bool) (links ends : List ℕ) → t.slots ≡ s.slots → more ≡ places → ups ≡ marks → ends ≡ links → with_marks (map (seen_at t) more) ups ends ≡ with_marks (map (seen_at s) places) marks links
+pub kept-rows : (s t : Slab Row) (places more : List RowPlace) (marks ups : List Bool) (links ends : List ℕ) → t.slots ≡ s.slots
+    → more ≡ places → ups ≡ marks → ends ≡ links → with_marks (map (seen_at t) more) ups ends ≡ with_marks (map (seen_at s) places) marks links
 kept-rows s t places more marks ups links ends e p m l = rw (p, m, l) (ap (λ b. with_marks b marks links) (shown-grown s t places e))
 
-pub kept-are : (s t : Slab Row) (places more : List RowPlace) (marks ups : List Bool) (links ends : List ℕ) → t.slots ≡ s.slots → more ≡ places → ups ≡ marks → ends ≡ links → AreRows s places marks links → AreRows t more ups ends
+pub kept-are : (s t : Slab Row) (places more : List RowPlace) (marks ups : List Bool) (links ends : List ℕ)
+    → t.slots ≡ s.slots → more ≡ places → ups ≡ marks → ends ≡ links → AreRows s places marks links → AreRows t more ups ends
 kept-are s t places more marks ups links ends e p m l a = rw (p, m, l) (grown-are s t places marks links e a)
 
-pub pushed-rows : (s t : Slab Row) (places : List RowPlace) (rows : List Seen) (marks : List Bool) (links : List ℕ) (key : ℕ) (r : Row) → with_marks (map (seen_at s) places) marks links ≡ rows → AreRows s places marks links → get s key ≡ None → Updates s t key (Some r)
+pub pushed-rows : (s t : Slab Row) (places : List RowPlace) (rows : List Seen) (marks : List Bool) (links : List ℕ) (key : ℕ) (r : Row)
+    → with_marks (map (seen_at s) places) marks links ≡ rows → AreRows s places marks links → get s key ≡ None → Updates s t key (Some r)
     → with_marks (map (seen_at t) (places ++ At key ∷ [])) (marks ++ true ∷ []) (links ++ 0 ∷ []) ≡ rows ++ record (standing r) { marked = true; link = 0 } ∷ []
 pushed-rows s t places rows marks links key r view a vacant u =
     let base = map (seen_at s) places in
@@ -370,7 +414,8 @@ pushed-rows s t places rows marks links key r view a vacant u =
     ap (λ b. with_marks b (marks ++ true ∷ []) (links ++ 0 ∷ [])) (shown-pushed s t places base key r a.index refl vacant u)
     ∙ (with_marks-push base marks links (standing r) true 0 (a.marks_len ∙ sym len) (a.links_len ∙ sym len) ∙ ap (λ z. z ++ record (standing r) { marked = true; link = 0 } ∷ []) view)
 
-pub pushed-are : (s t : Slab Row) (places : List RowPlace) (marks : List Bool) (links : List ℕ) (key : ℕ) (r : Row) → AreRows s places marks links → get s key ≡ None → Updates s t key (Some r) → AreRows t (places ++ At key ∷ []) (marks ++ true ∷ []) (links ++ 0 ∷ [])
+pub pushed-are : (s t : Slab Row) (places : List RowPlace) (marks : List Bool) (links : List ℕ) (key : ℕ) (r : Row) → AreRows s places marks links
+    → get s key ≡ None → Updates s t key (Some r) → AreRows t (places ++ At key ∷ []) (marks ++ true ∷ []) (links ++ 0 ∷ [])
 pushed-are s t places marks links key r a vacant u =
     let rows : List Seen = with_marks (map (seen_at s) places) marks links in
     let new : Seen = record (standing r) { marked = true; link = 0 } in

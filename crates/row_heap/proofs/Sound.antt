@@ -1,7 +1,8 @@
 -- A heap of rows stays sound. The lemmas of `heap_rules` on a heap with flags are used as they are: its flags are which
 -- rows stand. Slots and fields are written between rows that stand, so no row comes or goes, and no reference is
 -- touched. A further row stands last, and no reference is its own.
-use Rattle.std.proofs.Common.{◌≡◌, ℕ, zero, suc, ◌+◌, ◌≤◌, ◌<◌, ◌⊎◌, inl, inr, Bool, true, false, List, [], ◌∷◌, ◌++◌, map, length, replicate, Option, Some, None, get_or, set, refl, sym, ap, subst, ◌∙◌, arith, length-append}
+use Rattle.std.proofs.Common.{◌≡◌, ℕ, zero, suc, ◌+◌, ◌≤◌, ◌<◌, ◌⊎◌, inl, inr, Bool, true, false, List, [], ◌∷◌, ◌++◌, map, length, replicate, Option, Some, None, get_or, set, refl, sym, ap, subst}
+use Rattle.std.proofs.Common.{◌∙◌, arith, length-append}
 use Rattle.std.specs.Prelude.{All, Contains, OnErr, OnOk, Result, Ok, Err, max}
 use Rattle.std.specs.Option.{ForSome}
 use Rattle.std.proofs.lemmas.Bool.{cases_lt}
@@ -36,10 +37,12 @@ stands-flag (r ∷ rows) (suc zero) e = ap (λ b. Some b) e
 stands-flag (r ∷ rows) (suc (suc i)) e = stands-flag rows (suc i) e
 
 -- so a row stands exactly where its object is live
-pub live-stands : (rows : List Seen) (freed : List ℕ) (vars statics : List (Option ℕ)) (cap x : ℕ) → IsSound (heap_of rows freed vars statics) (stands_in rows) cap → IsLive (heap_of rows freed vars statics) x → (row_at rows x).stands ≡ true
+pub live-stands : (rows : List Seen) (freed : List ℕ) (vars statics : List (Option ℕ)) (cap x : ℕ)
+    → IsSound (heap_of rows freed vars statics) (stands_in rows) cap → IsLive (heap_of rows freed vars statics) x → (row_at rows x).stands ≡ true
 live-stands rows freed vars statics cap x s l = flag-stands rows x true (IsUp-live (heap_of rows freed vars statics) (stands_in rows) x s.flags l)
 
-pub stands-live : (rows : List Seen) (freed : List ℕ) (vars statics : List (Option ℕ)) (cap x : ℕ) → IsSound (heap_of rows freed vars statics) (stands_in rows) cap → (row_at rows x).stands ≡ true → IsLive (heap_of rows freed vars statics) x
+pub stands-live : (rows : List Seen) (freed : List ℕ) (vars statics : List (Option ℕ)) (cap x : ℕ)
+    → IsSound (heap_of rows freed vars statics) (stands_in rows) cap → (row_at rows x).stands ≡ true → IsLive (heap_of rows freed vars statics) x
 stands-live rows freed vars statics cap x s e = s.flags.up x (stands-flag rows x e)
 
 -- the fields of an object are those of its row
@@ -49,10 +52,12 @@ fields-at [] (suc i) = refl
 fields-at (r ∷ rows) (suc zero) = refl
 fields-at (r ∷ rows) (suc (suc i)) = fields-at rows (suc i)
 
-pub fields-seen : (rows : List Seen) (freed : List ℕ) (vars statics : List (Option ℕ)) (refs : Linked) (follows : Bool) (v : HeapRows) (x : ℕ) → rows_of rows freed vars statics refs follows ≡ v → fields_of v.heap x ≡ (row_at rows x).fields
+pub fields-seen : (rows : List Seen) (freed : List ℕ) (vars statics : List (Option ℕ)) (refs : Linked) (follows : Bool) (v : HeapRows) (x : ℕ)
+    → rows_of rows freed vars statics refs follows ≡ v → fields_of v.heap x ≡ (row_at rows x).fields
 fields-seen rows freed vars statics refs follows v x e = ap (λ (w : HeapRows). fields_of w.heap x) (sym e) ∙ fields-at rows x
 
-pub tidy-seen : (rows : List Seen) (freed : List ℕ) (vars statics : List (Option ℕ)) (refs : Linked) (follows : Bool) (v : HeapRows) (cap : ℕ) → rows_of rows freed vars statics refs follows ≡ v → IsSound (heap_of rows freed vars statics) (stands_in rows) cap → IsTidy v.heap
+pub tidy-seen : (rows : List Seen) (freed : List ℕ) (vars statics : List (Option ℕ)) (refs : Linked) (follows : Bool) (v : HeapRows) (cap : ℕ)
+    → rows_of rows freed vars statics refs follows ≡ v → IsSound (heap_of rows freed vars statics) (stands_in rows) cap → IsTidy v.heap
 tidy-seen rows freed vars statics refs follows v cap e s = subst (λ (w : HeapRows). IsTidy w.heap) e s.tidy
 
 -- what a write to one row leaves: a part of the row that stays is as it was everywhere
@@ -77,7 +82,8 @@ map-written f rows zero y = refl
 map-written f rows (suc i) y = map-set f rows i y
 
 -- what had a mark has one still, where the row that is written does
-pub row_at-raised : (rows : List Seen) (x : ℕ) (y : Seen) → ((row_at rows x).marked ≡ true → y.marked ≡ true) → (z : ℕ) → (row_at rows z).marked ≡ true → (row_at (numbered_set rows x y) z).marked ≡ true
+pub row_at-raised : (rows : List Seen) (x : ℕ) (y : Seen) → ((row_at rows x).marked ≡ true → y.marked ≡ true)
+    → (z : ℕ) → (row_at rows z).marked ≡ true → (row_at (numbered_set rows x y) z).marked ≡ true
 row_at-raised rows zero y e z m = m
 row_at-raised [] (suc i) y e z m = m
 row_at-raised (r ∷ rows) (suc zero) y e zero m = m
@@ -96,7 +102,8 @@ refers-from refs p q r = by r.through r.walk
     by (t ∷ ts) w = (temporary t, w.0)
 
 -- references over rows that stand, and have marks, where they did
-pub AreReferences-as : (rows others : List Seen) (refs : Linked) (follows : Bool) → length others ≡ length rows → ((z : ℕ) → (row_at others z).stands ≡ true → ((row_at rows z).stands ≡ true) × ((row_at rows z).marked ≡ true → (row_at others z).marked ≡ true))
+pub AreReferences-as : (rows others : List Seen) (refs : Linked) (follows : Bool) → length others ≡ length rows
+    → ((z : ℕ) → (row_at others z).stands ≡ true → ((row_at rows z).stands ≡ true) × ((row_at rows z).marked ≡ true → (row_at others z).marked ≡ true))
     → (follows ≡ true → (p q : ℕ) → Refers refs.refs p q → (row_at others p).stands ≡ true → (row_at rows q).stands ≡ true → (row_at others q).stands ≡ true)
     → AreReferences rows refs follows → AreReferences others refs follows
 AreReferences-as rows others refs follows len back on a = record {
@@ -106,7 +113,8 @@ AreReferences-as rows others refs follows len back on a = record {
 }
 
 -- one row is written, and stands as before, with a mark if it had one
-pub AreReferences-written : (rows : List Seen) (refs : Linked) (follows : Bool) (x : ℕ) (y : Seen) → y.stands ≡ (row_at rows x).stands → ((row_at rows x).marked ≡ true → y.marked ≡ true) → AreReferences rows refs follows → AreReferences (numbered_set rows x y) refs follows
+pub AreReferences-written : (rows : List Seen) (refs : Linked) (follows : Bool) (x : ℕ) (y : Seen) → y.stands ≡ (row_at rows x).stands
+    → ((row_at rows x).marked ≡ true → y.marked ≡ true) → AreReferences rows refs follows → AreReferences (numbered_set rows x y) refs follows
 AreReferences-written rows refs follows x y up raised a = AreReferences-as rows (numbered_set rows x y) refs follows (numbered_set-length rows x y)
     (λ z e. (sym (row_at-kept (λ r. r.stands) rows x y up z) ∙ e, row_at-raised rows x y raised z))
     (λ f p q c e l. row_at-kept (λ r. r.stands) rows x y up q ∙ l) a
@@ -120,23 +128,52 @@ heap-written rows freed vars statics x i o =
     (map-written (λ r. r.fields) rows x y ∙ ap (λ (l : List (Option ℕ)). numbered_set (map (λ (r : Seen). r.fields) rows) x (set l i o)) (sym (fields-at rows x)))
 
 -- other rows with another heap, and the marks and links as they were
-pub seen-heap : (rows others : List Seen) (freed : List ℕ) (vars statics : List (Option ℕ)) (refs : Linked) (follows : Bool) (h : Heap) → heap_of others freed vars statics ≡ h → map (λ (r : Seen). r.marked) others ≡ map (λ (r : Seen). r.marked) rows → map (λ (r : Seen). r.link) others ≡ map (λ (r : Seen). r.link) rows
+pub seen-heap : (rows others : List Seen) (freed : List ℕ) (vars statics : List (Option ℕ)) (refs : Linked) (follows : Bool) (h : Heap) → heap_of others freed vars statics ≡ h
+    → map (λ (r : Seen). r.marked) others ≡ map (λ (r : Seen). r.marked) rows → map (λ (r : Seen). r.link) others ≡ map (λ (r : Seen). r.link) rows
     → rows_of others freed vars statics refs follows ≡ record (rows_of rows freed vars statics refs follows) { heap = h }
 seen-heap rows others freed vars statics refs follows h e m l =
-    ap (λ (z : Heap). let v : HeapRows = record { heap = z; refs = refs.refs; follows = follows; room = refs.room; temps = refs.temps; marks = false ∷ map (λ (r : Seen). r.marked) others; links = 0 ∷ map (λ (r : Seen). r.link) others } in v) e
-    ∙ (ap (λ (z : List Bool). let v : HeapRows = record { heap = h; refs = refs.refs; follows = follows; room = refs.room; temps = refs.temps; marks = false ∷ z; links = 0 ∷ map (λ (r : Seen). r.link) others } in v) m
-    ∙ ap (λ (z : List ℕ). let v : HeapRows = record { heap = h; refs = refs.refs; follows = follows; room = refs.room; temps = refs.temps; marks = false ∷ map (λ (r : Seen). r.marked) rows; links = 0 ∷ z } in v) l)
+    ap (λ (z : Heap). let v : HeapRows = record {
+      heap = z;
+      refs = refs.refs;
+      follows = follows;
+      room = refs.room;
+      temps = refs.temps;
+      marks = false ∷ map (λ (r : Seen). r.marked) others;
+      links = 0 ∷ map (λ (r : Seen). r.link) others;
+    } in v) e
+    ∙ (ap (λ (z : List Bool). let v : HeapRows = record {
+      heap = h;
+      refs = refs.refs;
+      follows = follows;
+      room = refs.room;
+      temps = refs.temps;
+      marks = false ∷ z;
+      links = 0 ∷ map (λ (r : Seen). r.link) others;
+    } in v) m
+    ∙ ap (λ (z : List ℕ). let v : HeapRows = record {
+      heap = h;
+      refs = refs.refs;
+      follows = follows;
+      room = refs.room;
+      temps = refs.temps;
+      marks = false ∷ map (λ (r : Seen). r.marked) rows;
+      links = 0 ∷ z;
+    } in v) l)
 
-pub seen-written : (rows others : List Seen) (freed : List ℕ) (vars statics : List (Option ℕ)) (refs : Linked) (follows : Bool) (v : HeapRows) (x i : ℕ) (o : Option ℕ) → rows_of rows freed vars statics refs follows ≡ v
+pub seen-written : (rows others : List Seen) (freed : List ℕ) (vars statics : List (Option ℕ)) (refs : Linked) (follows : Bool) (v : HeapRows) (x i : ℕ) (o : Option ℕ)
+    → rows_of rows freed vars statics refs follows ≡ v
     → others ≡ numbered_set rows x (record (row_at rows x) { fields = set (row_at rows x).fields i o }) → rows_of others freed vars statics refs follows ≡ record v { heap = with_field v.heap x i o }
 seen-written rows others freed vars statics refs follows v x i o view e =
     let y : Seen = record (row_at rows x) { fields = set (row_at rows x).fields i o } in
     ap (λ (l : List Seen). rows_of l freed vars statics refs follows) e
-    ∙ (seen-heap rows (numbered_set rows x y) freed vars statics refs follows (with_field (heap_of rows freed vars statics) x i o) (heap-written rows freed vars statics x i o) (map-kept (λ r. r.marked) rows x y refl) (map-kept (λ r. r.link) rows x y refl)
+    ∙ (seen-heap rows (numbered_set rows x y) freed vars statics refs follows (with_field (heap_of rows freed vars statics) x i o)
+    (heap-written rows freed vars statics x i o) (map-kept (λ r. r.marked) rows x y refl) (map-kept (λ r. r.link) rows x y refl)
     ∙ ap (λ (w : HeapRows). record w { heap = with_field w.heap x i o }) view)
 
-pub IsRowHeap-written : (rows : List Seen) (freed : List ℕ) (vars statics : List (Option ℕ)) (refs : Linked) (follows : Bool) (c x i : ℕ) (o : Option ℕ) → IsRowHeap rows freed vars statics refs follows c
-    → IsLive (heap_of rows freed vars statics) x → ForSome o (IsLive (heap_of rows freed vars statics)) → IsRowHeap (numbered_set rows x (record (row_at rows x) { fields = set (row_at rows x).fields i o })) freed vars statics refs follows c
+pub IsRowHeap-written : (rows : List Seen) (freed : List ℕ) (vars statics : List (Option ℕ)) (refs : Linked) (follows : Bool) (c x i : ℕ) (o : Option ℕ)
+    → IsRowHeap rows freed vars statics refs follows c
+    → IsLive (heap_of rows freed vars statics) x → ForSome o (IsLive (heap_of rows freed vars statics))
+    → IsRowHeap (numbered_set rows x (record (row_at rows x) { fields = set (row_at rows x).fields i o })) freed vars statics refs follows c
 IsRowHeap-written rows freed vars statics refs follows c x i o s l p =
     let y : Seen = record (row_at rows x) { fields = set (row_at rows x).fields i o } in
     record {
@@ -147,7 +184,8 @@ IsRowHeap-written rows freed vars statics refs follows c x i o s l p =
     }
 
 -- no object
-pub IsRowHeap-empty : (rows : List Seen) (freed : List ℕ) (vars statics : List (Option ℕ)) (refs : Linked) (c : ℕ) → rows ≡ [] → freed ≡ [] → vars ≡ replicate 72 None → statics ≡ replicate 16 None → refs ≡ no_references → IsRowHeap rows freed vars statics refs false c
+pub IsRowHeap-empty : (rows : List Seen) (freed : List ℕ) (vars statics : List (Option ℕ)) (refs : Linked) (c : ℕ) → rows ≡ [] → freed ≡ []
+    → vars ≡ replicate 72 None → statics ≡ replicate 16 None → refs ≡ no_references → IsRowHeap rows freed vars statics refs false c
 IsRowHeap-empty rows freed vars statics refs c r f v t e = record {
   sound = IsSound-empty (map (λ q. q.fields) rows) freed (stands_in rows) vars statics c (ap (map (λ q. q.fields)) r) f (ap stands_in r) v t;
   references = record {
@@ -158,24 +196,28 @@ IsRowHeap-empty rows freed vars statics refs c r f v t e = record {
 }
 
 -- other references, and nothing else
-pub IsRowHeap-other : (rows : List Seen) (freed : List ℕ) (vars statics : List (Option ℕ)) (refs new : Linked) (follows after : Bool) (c : ℕ) → IsRowHeap rows freed vars statics refs follows c → AreReferences rows new after → IsRowHeap rows freed vars statics new after c
+pub IsRowHeap-other : (rows : List Seen) (freed : List ℕ) (vars statics : List (Option ℕ)) (refs new : Linked) (follows after : Bool) (c : ℕ)
+    → IsRowHeap rows freed vars statics refs follows c → AreReferences rows new after → IsRowHeap rows freed vars statics new after c
 IsRowHeap-other rows freed vars statics refs new follows after c s a = record { sound = s.sound; references = a }
 
 -- more room
-pub AreReferences-roomy : (rows : List Seen) (refs new : Linked) (follows : Bool) → new.refs ≡ refs.refs → ((k : ℕ) → HasMark new.seen k → HasMark refs.seen k) → AreReferences rows refs follows → AreReferences rows new follows
+pub AreReferences-roomy : (rows : List Seen) (refs new : Linked) (follows : Bool) → new.refs ≡ refs.refs
+    → ((k : ℕ) → HasMark new.seen k → HasMark refs.seen k) → AreReferences rows refs follows → AreReferences rows new follows
 AreReferences-roomy rows refs new follows is seen a = record {
   made = λ p f h. a.made p f (subst (λ l. Contains l (node p, f)) is h);
   ends = λ f p q h e. a.ends f p q (subst (λ l. Refers l p q) is h) e;
   sights = λ f t through y h w e. a.sights f t through y (seen (suc t) h) (subst (λ l. LeadsOver l (temporary t) through y) is w) e;
 }
 
-pub seen-roomy : {T E : Type 0} (r : Result T E) (n t : ℕ) (rows : List Seen) (freed : List ℕ) (vars statics : List (Option ℕ)) (refs new : Linked) (follows : Bool) (v : HeapRows) → rows_of rows freed vars statics refs follows ≡ v → new.refs ≡ refs.refs → OnOk r (new.room ≡ n)
+pub seen-roomy : {T E : Type 0} (r : Result T E) (n t : ℕ) (rows : List Seen) (freed : List ℕ) (vars statics : List (Option ℕ)) (refs new : Linked) (follows : Bool) (v : HeapRows)
+    → rows_of rows freed vars statics refs follows ≡ v → new.refs ≡ refs.refs → OnOk r (new.room ≡ n)
     → OnOk r (new.temps ≡ max refs.temps t) → OnOk r (rows_of rows freed vars statics new follows ≡ record v { room = n; temps = max v.temps t })
 seen-roomy (Ok x) n t rows freed vars statics refs new follows v view is room temps =
     subst (λ (w : HeapRows). rows_of rows freed vars statics new follows ≡ record w { room = n; temps = max w.temps t }) view (rw (is, room, temps) refl)
 seen-roomy (Err e) n t rows freed vars statics refs new follows v view is room temps = tt
 
-pub seen-err : {T E : Type 0} (r : Result T E) (rows : List Seen) (freed : List ℕ) (vars statics : List (Option ℕ)) (refs new : Linked) (follows : Bool) (v : HeapRows) → rows_of rows freed vars statics refs follows ≡ v → OnErr r (new ≡ refs) → OnErr r (rows_of rows freed vars statics new follows ≡ v)
+pub seen-err : {T E : Type 0} (r : Result T E) (rows : List Seen) (freed : List ℕ) (vars statics : List (Option ℕ)) (refs new : Linked) (follows : Bool) (v : HeapRows)
+    → rows_of rows freed vars statics refs follows ≡ v → OnErr r (new ≡ refs) → OnErr r (rows_of rows freed vars statics new follows ≡ v)
 seen-err (Ok x) rows freed vars statics refs new follows v view is = tt
 seen-err (Err e) rows freed vars statics refs new follows v view is = ap (λ (l : Linked). rows_of rows freed vars statics l follows) is ∙ view
 
@@ -192,7 +234,8 @@ AreReferences-none rows refs follows is = record {
     none (t ∷ ts) e y w = Contains-nil (e, temporary t) w.0
 
 -- further ones, which nothing follows
-pub AreReferences-added : (rows : List Seen) (refs new : Linked) (more : List (End × End)) (follows : Bool) → new.refs ≡ refs.refs ++ more → ((p : ℕ) (f : End) → Contains more (node p, f) → p ≤ length rows) → AreReferences rows refs follows → AreReferences rows new false
+pub AreReferences-added : (rows : List Seen) (refs new : Linked) (more : List (End × End)) (follows : Bool) → new.refs ≡ refs.refs ++ more
+    → ((p : ℕ) (f : End) → Contains more (node p, f) → p ≤ length rows) → AreReferences rows refs follows → AreReferences rows new false
 AreReferences-added rows refs new more follows is made a = record {
   made = λ p f h. elim (Contains-append_cases refs.refs more (node p, f) (subst (λ l. Contains l (node p, f)) is h)) [ inl w ↦ a.made p f w | inr w ↦ made p f w ];
   ends = λ b. (let z : ⊥ = cc in absurd z);
@@ -241,8 +284,10 @@ AreReferences-pushed rows n refs follows marked a =
       ];
     }
 
-pub IsRowHeap-added : (rows others : List Seen) (freed after : List ℕ) (vars statics : List (Option ℕ)) (refs : Linked) (follows : Bool) (c e k : ℕ) (n : Seen) → IsRowHeap rows freed vars statics refs follows c
-    → length rows < MOST → length rows + 1 ≤ e → others ≡ rows ++ n ∷ [] → n.fields ≡ replicate k None → n.stands ≡ true → n.marked ≡ true → after ≡ freed → IsRowHeap others after vars statics refs follows e
+pub IsRowHeap-added : (rows others : List Seen) (freed after : List ℕ) (vars statics : List (Option ℕ)) (refs : Linked) (follows : Bool) (c e k : ℕ) (n : Seen)
+    → IsRowHeap rows freed vars statics refs follows c
+    → length rows < MOST → length rows + 1 ≤ e → others ≡ rows ++ n ∷ [] → n.fields ≡ replicate k None
+    → n.stands ≡ true → n.marked ≡ true → after ≡ freed → IsRowHeap others after vars statics refs follows e
 IsRowHeap-added rows others freed after vars statics refs follows c e k n s few space is fields up marked same =
     let h : Heap = heap_of rows freed vars statics in
     let len : length h.fields ≡ length rows = length-map rows (λ r. r.fields) in
@@ -253,22 +298,28 @@ IsRowHeap-added rows others freed after vars statics refs follows c e k n s few 
       references = subst (λ l. AreReferences l refs follows) (sym is) (AreReferences-pushed rows n refs follows marked s.references);
     }
 
-pub seen-added : (rows others : List Seen) (freed after : List ℕ) (vars statics : List (Option ℕ)) (refs : Linked) (follows : Bool) (v : HeapRows) (k : ℕ) (fs : List (Option ℕ)) → rows_of rows freed vars statics refs follows ≡ v
-    → others ≡ rows ++ record { fields = fs; marked = true; link = 0; stands = true } ∷ [] → fs ≡ replicate k None → after ≡ freed → rows_of others after vars statics refs follows ≡ record v { heap = with_object v.heap k; marks = v.marks ++ true ∷ []; links = v.links ++ 0 ∷ [] }
+pub seen-added : (rows others : List Seen) (freed after : List ℕ) (vars statics : List (Option ℕ)) (refs : Linked) (follows : Bool) (v : HeapRows) (k : ℕ) (fs : List (Option ℕ))
+    → rows_of rows freed vars statics refs follows ≡ v
+    → others ≡ rows ++ record { fields = fs; marked = true; link = 0; stands = true } ∷ [] → fs ≡ replicate k None → after ≡ freed
+    → rows_of others after vars statics refs follows ≡ record v { heap = with_object v.heap k; marks = v.marks ++ true ∷ []; links = v.links ++ 0 ∷ [] }
 seen-added rows others freed after vars statics refs follows v k fs view is fields same =
-    subst (λ (w : HeapRows). rows_of others after vars statics refs follows ≡ record w { heap = with_object w.heap k; marks = w.marks ++ true ∷ []; links = w.links ++ 0 ∷ [] }) view (rw (is, fields, same) (simp map-append))
+    subst (λ (w : HeapRows). rows_of others after vars statics refs follows ≡ record w { heap = with_object w.heap k; marks = w.marks ++ true ∷ []; links = w.links ++ 0 ∷ [] }) view
+    (rw (is, fields, same) (simp map-append))
 
 -- how many rows there are, and how many of them stand
-pub made-seen : (rows : List Seen) (freed : List ℕ) (vars statics : List (Option ℕ)) (refs : Linked) (follows : Bool) (v : HeapRows) → rows_of rows freed vars statics refs follows ≡ v → length v.heap.fields ≡ length rows
+pub made-seen : (rows : List Seen) (freed : List ℕ) (vars statics : List (Option ℕ)) (refs : Linked) (follows : Bool) (v : HeapRows)
+    → rows_of rows freed vars statics refs follows ≡ v → length v.heap.fields ≡ length rows
 made-seen rows freed vars statics refs follows v view = ap (λ (w : HeapRows). length w.heap.fields) (sym view) ∙ length-map rows (λ r. r.fields)
 
 pub rows-most : (rows : List Seen) (freed : List ℕ) (vars statics : List (Option ℕ)) (cap : ℕ) → IsSound (heap_of rows freed vars statics) (stands_in rows) cap → length rows ≤ MOST
 rows-most rows freed vars statics cap s = omega (arith, s.tidy.most, length-map rows (λ r. r.fields))
 
-pub stand-count : {A : Type 0} (f : A → ℕ) (rows : List Seen) (freed : List A) (vars statics : List (Option ℕ)) (cap : ℕ) → IsSound (heap_of rows (map f freed) vars statics) (stands_in rows) cap → length freed + up_count (stands_in rows) ≡ length rows
+pub stand-count : {A : Type 0} (f : A → ℕ) (rows : List Seen) (freed : List A) (vars statics : List (Option ℕ)) (cap : ℕ)
+    → IsSound (heap_of rows (map f freed) vars statics) (stands_in rows) cap → length freed + up_count (stands_in rows) ≡ length rows
 stand-count f rows freed vars statics cap s = omega (arith, s.flags.count, length-map rows (λ r. r.fields), length-map freed f)
 
-pub stand-room : {A : Type 0} (f : A → ℕ) (rows : List Seen) (freed : List A) (vars statics : List (Option ℕ)) (cap : ℕ) → IsSound (heap_of rows (map f freed) vars statics) (stands_in rows) cap → length freed + up_count (stands_in rows) ≤ cap
+pub stand-room : {A : Type 0} (f : A → ℕ) (rows : List Seen) (freed : List A) (vars statics : List (Option ℕ)) (cap : ℕ)
+    → IsSound (heap_of rows (map f freed) vars statics) (stands_in rows) cap → length freed + up_count (stands_in rows) ≤ cap
 stand-room f rows freed vars statics cap s = omega (arith, s.flags.count, s.room, length-map freed f)
 
 -- what is read at a slot
@@ -277,5 +328,7 @@ slot-here os i within = slot-read os i (get_or os i None) within (get_or_default
 
 -- what is seen of a heap whose rows alone changed
 pub rest-freed : (rows others : List Seen) (freed after : List ℕ) (vars statics : List (Option ℕ)) (refs : Linked) (follows : Bool) (v : HeapRows) → rows_of rows freed vars statics refs follows ≡ v
-    → rows_of others after vars statics refs follows ≡ record v { heap = heap_of others after vars statics; marks = false ∷ map (λ (r : Seen). r.marked) others; links = 0 ∷ map (λ (r : Seen). r.link) others }
-rest-freed rows others freed after vars statics refs follows v view = ap (λ (w : HeapRows). record w { heap = heap_of others after vars statics; marks = false ∷ map (λ (r : Seen). r.marked) others; links = 0 ∷ map (λ (r : Seen). r.link) others }) view
+    → rows_of others after vars statics refs follows ≡ record v
+    { heap = heap_of others after vars statics; marks = false ∷ map (λ (r : Seen). r.marked) others; links = 0 ∷ map (λ (r : Seen). r.link) others }
+rest-freed rows others freed after vars statics refs follows v view = ap
+    (λ (w : HeapRows). record w { heap = heap_of others after vars statics; marks = false ∷ map (λ (r : Seen). r.marked) others; links = 0 ∷ map (λ (r : Seen). r.link) others }) view

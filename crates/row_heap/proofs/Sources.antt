@@ -33,7 +33,8 @@ pub sources-begin : (refs : List (End × End)) (seen : List Seen) (m : List Bool
 sources-begin refs seen m l h = Greyed-none (IsLedBelow refs seen 0) m l h (λ q w. omega (arith, w.2, w.3))
 
 -- one more place has its turn
-pub sources-go : (refs : List (End × End)) (rows : List Seen) (i : ℕ) (e f : End) (m : List Bool) (l : List ℕ) (h : ℕ) (m' : List Bool) (l' : List ℕ) (h' : ℕ) (m'' : List Bool) (l'' : List ℕ) (h'' : ℕ) → slice_get refs i ≡ Some (e, f)
+pub sources-go : (refs : List (End × End)) (rows : List Seen) (i : ℕ) (e f : End) (m : List Bool) (l : List ℕ) (h : ℕ)
+    (m' : List Bool) (l' : List ℕ) (h' : ℕ) (m'' : List Bool) (l'' : List ℕ) (h'' : ℕ) → slice_get refs i ≡ Some (e, f)
     → Greyed (IsLedBelow refs rows i) m l h m' l' h' → Greyed (IsLedFrom refs rows e (i + 1)) m' l' h' m'' l'' h'' → Greyed (IsLedBelow refs rows (i + 1)) m l h m'' l'' h''
 sources-go refs rows i e f m l h m' l' h' m'' l'' h'' at one two = Greyed-then (IsLedBelow refs rows i) (IsLedFrom refs rows e (i + 1)) (IsLedBelow refs rows (i + 1)) m l h m' l' h' m'' l'' h'' split
     (λ q w. (w.0, w.1, w.2, omega (arith, w.3), w.4, w.5, w.6))
@@ -51,7 +52,8 @@ sources-go refs rows i e f m l h m' l' h' m'' l'' h'' at one two = Greyed-then (
     ]
 
 -- after the last place all is marked
-pub sources-end : (refs : List (End × End)) (rows : List Seen) (n : ℕ) (last : (p : ℕ) → (r : ℕ) × IsLastBelow refs (node p) (length refs) r) (m : List Bool) (l : List ℕ) (h : ℕ) (m' : List Bool) (l' : List ℕ) (h' : ℕ) → n ≡ length refs
+pub sources-end : (refs : List (End × End)) (rows : List Seen) (n : ℕ) (last : (p : ℕ) → (r : ℕ) × IsLastBelow refs (node p) (length refs) r)
+    (m : List Bool) (l : List ℕ) (h : ℕ) (m' : List Bool) (l' : List ℕ) (h' : ℕ) → n ≡ length refs
     → Greyed (IsLedBelow refs rows n) m l h m' l' h' → Greyed (IsLedTo refs rows) m l h m' l' h'
 sources-end refs rows n last m l h m' l' h' all y = Greyed-as (IsLedBelow refs rows n) (IsLedTo refs rows) m l h m' l' h' there (λ q w. (w.0, w.5, w.6)) y
   where
@@ -65,7 +67,8 @@ sources-end refs rows n last m l h m' l' h' all y = Greyed-as (IsLedBelow refs r
         (p, r.0, some, omega (arith, r.1.below, all), r.1, up, w)
 
 -- what one source leads to
-pub source-led : (refs : List (End × End)) (rows : List Seen) (x r : ℕ) (m : List Bool) (l : List ℕ) (h : ℕ) (m' : List Bool) (l' : List ℕ) (h' : ℕ) → IsLastBelow refs (node x) (length refs) r → (row_at rows x).stands ≡ true → Greyed (Refers refs x) m l h m' l' h'
+pub source-led : (refs : List (End × End)) (rows : List Seen) (x r : ℕ) (m : List Bool) (l : List ℕ) (h : ℕ) (m' : List Bool) (l' : List ℕ) (h' : ℕ)
+    → IsLastBelow refs (node x) (length refs) r → (row_at rows x).stands ≡ true → Greyed (Refers refs x) m l h m' l' h'
     → Greyed (IsLedFrom refs rows (node x) r) m l h m' l' h'
 source-led refs rows x r m l h m' l' h' last up y = Greyed-as (Refers refs x) (IsLedFrom refs rows (node x) r) m l h m' l' h'
     (λ q w. (let same : x ≡ w.0 = node-one x w.0 w.1 in subst (λ z. Refers refs z q) (sym same) w.4)) (λ q w. (x, refl, last, up, w)) y
@@ -74,8 +77,10 @@ source-led refs rows x r m l h m' l' h' last up y = Greyed-as (Refers refs x) (I
     node-one a b e = cc
 
 -- nothing, where the row isn't one
-pub source-none : (refs : List (End × End)) (rows : List Seen) (x r : ℕ) (m : List Bool) (l : List ℕ) (h : ℕ) → (IsLastBelow refs (node x) (length refs) r → (row_at rows x).stands ≡ true → ⊥) → Greyed (IsLedFrom refs rows (node x) r) m l h m l h
-source-none refs rows x r m l h none = Greyed-none (IsLedFrom refs rows (node x) r) m l h (λ q w. (let same : w.0 ≡ x = node-one w.0 x (sym w.1) in none (subst (λ z. IsLastBelow refs (node z) (length refs) r) same w.2) (subst (λ z. (row_at rows z).stands ≡ true) same w.3)))
+pub source-none : (refs : List (End × End)) (rows : List Seen) (x r : ℕ) (m : List Bool) (l : List ℕ) (h : ℕ)
+    → (IsLastBelow refs (node x) (length refs) r → (row_at rows x).stands ≡ true → ⊥) → Greyed (IsLedFrom refs rows (node x) r) m l h m l h
+source-none refs rows x r m l h none = Greyed-none (IsLedFrom refs rows (node x) r) m l h
+    (λ q w. (let same : w.0 ≡ x = node-one w.0 x (sym w.1) in none (subst (λ z. IsLastBelow refs (node z) (length refs) r) same w.2) (subst (λ z. (row_at rows z).stands ≡ true) same w.3)))
   where
     node-one : (a b : ℕ) → node a ≡ node b → a ≡ b
     node-one a b e = cc

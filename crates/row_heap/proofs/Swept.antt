@@ -1,6 +1,7 @@
 -- A sweep over the rows: those without a mark are removed one after another. A row whose turn hasn't come is as it was,
 -- so what the sweep looks at is what stood before it. A removed row had no mark, so the marks stay.
-use Rattle.std.proofs.Common.{◌≡◌, ℕ, zero, suc, ◌+◌, ◌≤◌, ◌<◌, ◌⊎◌, ◌↔◌, inl, inr, Bool, true, false, not, ◌&&◌, List, [], ◌∷◌, ◌++◌, map, length, drop, Option, Some, if◌then◌else◌, refl, sym, ap, subst, ◌∙◌, arith, append_assoc}
+use Rattle.std.proofs.Common.{◌≡◌, ℕ, zero, suc, ◌+◌, ◌≤◌, ◌<◌, ◌⊎◌, ◌↔◌, inl, inr, Bool, true, false, not, ◌&&◌, List, [], ◌∷◌, ◌++◌, map, length, drop, Option, Some, if◌then◌else◌, refl, sym, ap}
+use Rattle.std.proofs.Common.{subst, ◌∙◌, arith, append_assoc}
 use Rattle.std.specs.Prelude.{Contains}
 use Rattle.std.proofs.Math.Seq.{drop-append_seam}
 use Rattle.std.proofs.lemmas.List.Elements.{Contains-push, Contains-push_cases, Contains-append_left}
@@ -57,7 +58,8 @@ up-row rows zero e = (let f : ⊥ = cc in absurd f)
 up-row rows (suc i) e = omega (arith, up_count-down (stands_in rows) i (stands-flag rows (suc i) e))
 
 -- one more row is removed
-RowsFreed-push : (xs : List ℕ) (x : ℕ) (old mid : List Seen) → RowsFreed xs old mid → (row_at old x).stands ≡ true → (Contains xs x → ⊥) → RowsFreed (xs ++ x ∷ []) old (numbered_set mid x (gone (row_at mid x).fields))
+RowsFreed-push : (xs : List ℕ) (x : ℕ) (old mid : List Seen) → RowsFreed xs old mid → (row_at old x).stands ≡ true
+    → (Contains xs x → ⊥) → RowsFreed (xs ++ x ∷ []) old (numbered_set mid x (gone (row_at mid x).fields))
 RowsFreed-push xs x old mid r up out = record {
   flags = subst (TakesDown (xs ++ x ∷ []) (stands_in old)) (sym (map-written (λ (q : Seen). q.stands) mid x (gone (row_at mid x).fields)))
       (TakesDown-push xs x (stands_in old) (stands_in mid) r.flags (stands-flag old x up) out);
@@ -84,7 +86,8 @@ RowsSwept-none n rows before after none e = record {
 pub RowsSwept-here : (i : ℕ) (old mid : List Seen) (before mids : List ℕ) (x : ℕ) → RowsSwept i old mid before mids → x ≡ i + 1 → is_white (row_at mid x) ≡ is_white (row_at old x)
 RowsSwept-here i old mid before mids x s e = white-same s.swept old mid x s.rows (λ c. omega (arith, ((s.exact x).0 c).0, e))
 
-pub RowsSwept-next : (i : ℕ) (old mid new : List Seen) (before mids after : List ℕ) (x : ℕ) → RowsSwept i old mid before mids → x ≡ i + 1 → new ≡ (if is_white (row_at mid x) then numbered_set mid x (gone (row_at mid x).fields) else mid)
+pub RowsSwept-next : (i : ℕ) (old mid new : List Seen) (before mids after : List ℕ) (x : ℕ) → RowsSwept i old mid before mids
+    → x ≡ i + 1 → new ≡ (if is_white (row_at mid x) then numbered_set mid x (gone (row_at mid x).fields) else mid)
     → after ≡ (if is_white (row_at mid x) then mids ++ x ∷ [] else mids) → RowsSwept (i + 1) old new before after
 RowsSwept-next i old mid new before mids after x s e is list =
     let here = RowsSwept-here i old mid before mids x s e in
@@ -134,7 +137,8 @@ RowsSwept-next i old mid new before mids after x s e is list =
         cases (suc i) (suc y) = elim (cases i y) [ inl w ↦ inl (omega (arith, w)) | inr w ↦ inr (omega (arith, w)) ]
 
 -- the white rows are the live objects without a mark
-pub white-seen : (rows : List Seen) (freed : List ℕ) (vars statics : List (Option ℕ)) (refs : Linked) (follows : Bool) (cap : ℕ) (v : HeapRows) (x : ℕ) → rows_of rows freed vars statics refs follows ≡ v → IsSound (heap_of rows freed vars statics) (stands_in rows) cap
+pub white-seen : (rows : List Seen) (freed : List ℕ) (vars statics : List (Option ℕ)) (refs : Linked) (follows : Bool) (cap : ℕ) (v : HeapRows) (x : ℕ)
+    → rows_of rows freed vars statics refs follows ≡ v → IsSound (heap_of rows freed vars statics) (stands_in rows) cap
     → ((x ≤ length rows) × (is_white (row_at rows x) ≡ true)) ↔ (IsLive v.heap x × (HasMark v.marks x → ⊥))
 white-seen rows freed vars statics refs follows cap v x view s = (
   (λ w. (let t = white-stands (row_at rows x) w.1 in (
@@ -147,7 +151,8 @@ white-seen rows freed vars statics refs follows cap v x view s = (
   ))),
 )
 
-pub AreWhite-swept : (old new : List Seen) (freed after : List ℕ) (vars statics : List (Option ℕ)) (refs : Linked) (follows : Bool) (cap : ℕ) (v : HeapRows) → rows_of old freed vars statics refs follows ≡ v → IsSound (heap_of old freed vars statics) (stands_in old) cap
+pub AreWhite-swept : (old new : List Seen) (freed after : List ℕ) (vars statics : List (Option ℕ)) (refs : Linked) (follows : Bool) (cap : ℕ) (v : HeapRows)
+    → rows_of old freed vars statics refs follows ≡ v → IsSound (heap_of old freed vars statics) (stands_in old) cap
     → (s : RowsSwept (length old) old new freed after) → AreWhite v s.swept
 AreWhite-swept old new freed after vars statics refs follows cap v view sound s = record {
   rises = s.rises;
@@ -180,14 +185,16 @@ white-none_refers v xs w shut follows p q reference live stays c = elim (marked-
 ]
 
 -- what is seen afterwards
-pub seen-swept : (old new : List Seen) (freed after : List ℕ) (vars statics : List (Option ℕ)) (refs : Linked) (follows : Bool) (v : HeapRows) → rows_of old freed vars statics refs follows ≡ v → map (λ (r : Seen). r.marked) new ≡ map (λ (r : Seen). r.marked) old
+pub seen-swept : (old new : List Seen) (freed after : List ℕ) (vars statics : List (Option ℕ)) (refs : Linked) (follows : Bool) (v : HeapRows)
+    → rows_of old freed vars statics refs follows ≡ v → map (λ (r : Seen). r.marked) new ≡ map (λ (r : Seen). r.marked) old
     → rows_of new after vars statics refs follows ≡ record v { heap = heap_of new after vars statics; links = 0 ∷ map (λ (r : Seen). r.link) new }
 seen-swept old new freed after vars statics refs follows v view marks =
     ap (λ (m : List Bool). record (rows_of new after vars statics refs follows) { marks = false ∷ m }) marks
     ∙ ap (λ (w : HeapRows). record w { heap = heap_of new after vars statics; links = 0 ∷ map (λ (r : Seen). r.link) new }) view
 
 -- what marks `free` leaves
-pub marks-freed : (old new : List Seen) (freed : List ℕ) (vars statics : List (Option ℕ)) (refs : Linked) (follows : Bool) (v : HeapRows) (xs : List ℕ) → rows_of old freed vars statics refs follows ≡ v → RowsFreed xs old new
+pub marks-freed : (old new : List Seen) (freed : List ℕ) (vars statics : List (Option ℕ)) (refs : Linked) (follows : Bool) (v : HeapRows) (xs : List ℕ)
+    → rows_of old freed vars statics refs follows ≡ v → RowsFreed xs old new
     → ((x : ℕ) → (row_at old x).marked ≡ true → (row_at old x).stands ≡ true) → ((x : ℕ) → (row_at new x).marked ≡ true → (row_at new x).stands ≡ true)
     → (x : ℕ) → HasMark (false ∷ map (λ (r : Seen). r.marked) new) x ↔ (HasMark v.marks x × (Contains xs x → ⊥))
 marks-freed old new freed vars statics refs follows v xs view r up upper x = (

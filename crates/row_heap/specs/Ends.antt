@@ -1,6 +1,7 @@
 -- References between ends. An end is an object, or a temporary, which only references lead to and from. (The temporary
 -- Java objects of Mono's bridge, which stand for components without peers.)
-use Rattle.std.specs.Prelude.{◌≡◌, ℕ, ◌+◌, ◌-◌, ◌≤◌, ◌<◌, ◌⊎◌, suc, Bool, false, List, [], ◌∷◌, Some, Contains, length, map, slice_get, slice_index_or}
+use Rattle.std.specs.Prelude.{◌≡◌, ℕ, ◌+◌, ◌-◌, ◌≤◌, ◌<◌, ◌⊎◌, suc, Bool, false, List, [], ◌∷◌, Some, Contains, length}
+use Rattle.std.specs.Prelude.{map, slice_get, slice_index_or}
 use Rattle.joint_machine.specs.Components as exact
 use Rattle.reachability.specs.Marks.{HasMark}
 use Rattle.row_heap.specs.declared.references.End.{End}
@@ -34,7 +35,14 @@ abbrev pub no_references : Linked
 no_references = record { refs = []; temps = 0; room = 0; seen = false ∷ []; links = 0 ∷ [] }
 
 abbrev pub linked_of : List Reference → List ℕ → List Bool → List ℕ → ℕ → Linked
-linked_of list temporaries seen links room = record { refs = pairs_in list; temps = length temporaries; room = room; seen = false ∷ seen; links = 0 ∷ links }
+linked_of list temporaries seen links
+    room = record {
+      refs = pairs_in list;
+      temps = length temporaries;
+      room = room;
+      seen = false ∷ seen;
+      links = 0 ∷ links;
+    }
 
 -- an end that may have references: the number of an object, or of a temporary for which there is room
 abbrev pub IsEnd : ℕ → exact.End → Type 0
@@ -62,10 +70,12 @@ HasPlace objects temporaries (exact.temporary t) = t < temporaries
 
 -- the references of each end are linked, the last one first, and each of their ends has a place; the temporaries have
 -- their flags and links; and the list has the room that is said
-pub record AreLinked (list : List Reference) (objects temporaries : List ℕ) (seen : List Bool) (links : List ℕ) (room capacity : ℕ) : Type 0 where
+pub record AreLinked (list : List Reference) (objects temporaries : List ℕ)
+    (seen : List Bool) (links : List ℕ) (room capacity : ℕ) : Type 0 where
   pub firsts : (e : exact.End) → IsLastBelow (pairs_in list) e (length list) (first_in objects temporaries e)
   pub nexts : (i : ℕ) (r : Reference) → slice_get list i ≡ Some r → IsLastBelow (pairs_in list) (end_of r.from) i r.next
-  pub from : (i : ℕ) (r : Reference) → slice_get list i ≡ Some r → HasPlace (length objects) (length temporaries) (end_of r.from)
+  pub from : (i : ℕ) (r : Reference) → slice_get list i ≡ Some r
+      → HasPlace (length objects) (length temporaries) (end_of r.from)
   pub to : (i : ℕ) (r : Reference) → slice_get list i ≡ Some r → IsEnd (length temporaries) (end_of r.to)
   pub flags : length seen ≡ length temporaries
   pub chains : length links ≡ length temporaries

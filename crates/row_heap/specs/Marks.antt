@@ -1,5 +1,6 @@
 -- What a marking of a heap of rows follows, and what it leaves as it is. (Textbook: the edges of a tracing collector.)
-use Rattle.std.specs.Prelude.{◌≡◌, ℕ, ◌⊎◌, ◌↔◌, Bool, true, if◌then◌else◌, nat_le, List, [], Option, Some, None, Contains, length}
+use Rattle.std.specs.Prelude.{◌≡◌, ℕ, ◌⊎◌, ◌↔◌, Bool, true, if◌then◌else◌, nat_le, List, [], Option, Some, None}
+use Rattle.std.specs.Prelude.{Contains, length}
 use Rattle.std.specs.Option.{is_some}
 use Rattle.joint_machine.specs.Components.{Rises}
 use Rattle.joint_machine.specs.Heaps.{Heap, IsLive, HasField, fields_of, slot}
@@ -39,4 +40,8 @@ is_given h (Some w) = is_some (slot h.vars w)
 
 -- what `set V I W` takes out of the field that it writes
 abbrev pub overwritten : Heap → ℕ → ℕ → Option ℕ → Option ℕ
-overwritten h v i w = elim (slot h.vars v) [ None ↦ None | Some x ↦ if nat_le (length (fields_of h x)) i then None else if is_given h w then slot (fields_of h x) i else None ]
+overwritten h v i w = elim (slot h.vars v) [
+  | None ↦ None
+  | Some x ↦ if nat_le (length (fields_of h x)) i then
+      None else if is_given h w then slot (fields_of h x) i else None
+]

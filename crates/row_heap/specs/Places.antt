@@ -1,7 +1,8 @@
 -- Rows by number: an index from each number to the key under which a slab has the row. A removed row's memory serves
 -- the next row, and its fields are still seen. Marks and links are lists beside the rows. (This project's own; the
 -- index is the object table of a Smalltalk heap.)
-use Rattle.std.specs.Prelude.{◌≡◌, ℕ, Bool, true, false, not, ◌&&◌, List, [], ◌∷◌, Option, Some, None, drop, get_or, length, map, slice_get}
+use Rattle.std.specs.Prelude.{◌≡◌, ℕ, Bool, true, false, not, ◌&&◌, List, [], ◌∷◌, Option, Some, None, drop, get_or}
+use Rattle.std.specs.Prelude.{length, map, slice_get}
 use Rattle.joint_machine.specs.Heaps.{numbered_at}
 use Rattle.slab.specs.Slab.{Slab, get}
 use Rattle.row_heap.specs.declared.places.Row.{Row}
@@ -35,7 +36,8 @@ row_at rows x = elim (numbered_at rows x) [ None ↦ gone [] | Some r ↦ r ]
 -- each row with the mark and the link at its place in the lists; none, and the link 0, where they are too short
 abbrev pub with_marks : List Seen → List Bool → List ℕ → List Seen
 with_marks [] marks links = []
-with_marks (r ∷ rows) marks links = record r { marked = get_or marks 0 false; link = get_or links 0 0 } ∷ with_marks rows (drop 1 marks) (drop 1 links)
+with_marks (r ∷ rows) marks links = record r
+    { marked = get_or marks 0 false; link = get_or links 0 0 } ∷ with_marks rows (drop 1 marks) (drop 1 links)
 
 -- the marks of the rows, and their links, where the number 0 is no row
 abbrev pub marks_in : List Seen → List Bool

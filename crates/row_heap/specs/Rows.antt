@@ -1,6 +1,7 @@
 -- A heap whose objects are rows that can be marked: the heap of the definition, and beside it marks, links and
 -- references. (This project's own.)
-use Rattle.std.specs.Prelude.{◌≡◌, ℕ, ◌*◌, ◌≤◌, ◌<◌, ◌↔◌, Bool, true, false, List, [], ◌∷◌, ◌++◌, map, length, sum, Option, Contains, suc}
+use Rattle.std.specs.Prelude.{◌≡◌, ℕ, ◌*◌, ◌≤◌, ◌<◌, ◌↔◌, Bool, true, false, List, [], ◌∷◌, ◌++◌, map, length, sum}
+use Rattle.std.specs.Prelude.{Option, Contains, suc}
 use Rattle.joint_machine.specs.Components.{Rises, End, node, temporary}
 use Rattle.joint_machine.specs.PeerReplay.{LeadsOver, Refers}
 use Rattle.joint_machine.specs.Heaps.{Heap, IsLive, opening_heap}
@@ -23,11 +24,24 @@ pub record HeapRows : Type 0 where
 
 -- no object, and no reference
 abbrev pub opening_rows : HeapRows
-opening_rows = record { heap = opening_heap; refs = []; follows = false; room = 0; temps = 0; marks = false ∷ []; links = 0 ∷ [] }
+opening_rows = record {
+  heap = opening_heap;
+  refs = [];
+  follows = false;
+  room = 0;
+  temps = 0;
+  marks = false ∷ [];
+  links = 0 ∷ [];
+}
 
 -- the heap of some rows
 abbrev pub heap_of : List Seen → List ℕ → List (Option ℕ) → List (Option ℕ) → Heap
-heap_of rows freed vars statics = record { fields = map (λ r. r.fields) rows; freed = freed; vars = vars; statics = statics }
+heap_of rows freed vars statics = record {
+  fields = map (λ r. r.fields) rows;
+  freed = freed;
+  vars = vars;
+  statics = statics;
+}
 
 -- which rows stand
 abbrev pub stands_in : List Seen → List Bool
@@ -47,7 +61,8 @@ rows_of rows freed vars statics refs follows = record {
 
 -- what a temporary that the marking has seen leads to has a mark, directly or through others
 abbrev pub AreSightsMarked : Linked → List Seen → Type 0
-AreSightsMarked refs rows = (t : ℕ) (through : List ℕ) (y : ℕ) → HasMark refs.seen (suc t) → LeadsOver refs.refs (temporary t) through y → (row_at rows y).stands ≡ true → (row_at rows y).marked ≡ true
+AreSightsMarked refs rows = (t : ℕ) (through : List ℕ) (y : ℕ) → HasMark refs.seen (suc t)
+    → LeadsOver refs.refs (temporary t) through y → (row_at rows y).stands ≡ true → (row_at rows y).marked ≡ true
 
 -- the references of a row that stands lead to that one, directly or over temporaries
 abbrev pub IsLedTo : List (End × End) → List Seen → ℕ → Type 0
@@ -55,13 +70,15 @@ IsLedTo refs rows q = (p : ℕ) × ((row_at rows p).stands ≡ true) × Refers r
 
 -- and the row is that end, and its last reference stands at place r, counted from 1
 abbrev pub IsLedFrom : List (End × End) → List Seen → End → ℕ → ℕ → Type 0
-IsLedFrom refs rows e r q = (p : ℕ) × (e ≡ node p) × IsLastBelow refs (node p) (length refs) r × ((row_at rows p).stands ≡ true) × Refers refs p q
+IsLedFrom refs rows e r q = (p : ℕ) × (e ≡ node p) × IsLastBelow refs (node p) (length refs) r
+    × ((row_at rows p).stands ≡ true) × Refers refs p q
 
 -- references lead from rows that were made; where a marking follows them, what a standing row's reference leads to
 -- stands, and what a temporary leads to that the marking has seen is marked
 pub record AreReferences (rows : List Seen) (refs : Linked) (follows : Bool) : Type 0 where
   pub made : (p : ℕ) (f : End) → Contains refs.refs (node p, f) → p ≤ length rows
-  pub ends : follows ≡ true → (p q : ℕ) → Refers refs.refs p q → (row_at rows p).stands ≡ true → (row_at rows q).stands ≡ true
+  pub ends : follows ≡ true → (p q : ℕ) → Refers refs.refs p q
+      → (row_at rows p).stands ≡ true → (row_at rows q).stands ≡ true
   pub sights : follows ≡ true → AreSightsMarked refs rows
 
 -- the first n objects are freed
@@ -74,7 +91,8 @@ pub record IsFieldCount (n : ℕ) (rows : List Seen) : Type 0 where
   pub most : n ≤ 255 * length rows
 
 -- the heap is sound, where its flags are which rows stand, and so are the references
-pub record IsRowHeap (rows : List Seen) (freed : List ℕ) (vars statics : List (Option ℕ)) (refs : Linked) (follows : Bool) (freed_capacity : ℕ) : Type 0 where
+pub record IsRowHeap (rows : List Seen) (freed : List ℕ) (vars statics : List (Option ℕ))
+    (refs : Linked) (follows : Bool) (freed_capacity : ℕ) : Type 0 where
   pub sound : IsSound (heap_of rows freed vars statics) (stands_in rows) freed_capacity
   pub references : AreReferences rows refs follows
 
@@ -96,7 +114,8 @@ pub record RowsSwept (to : ℕ) (old new : List Seen) (before after : List ℕ) 
 
 -- where a marking follows the references, none leads from an object that stays to one of a list
 abbrev pub NoneRefers : HeapRows → List ℕ → Type 0
-NoneRefers v xs = v.follows ≡ true → (p q : ℕ) → Refers v.refs p q → IsLive v.heap p → (Contains xs p → ⊥) → Contains xs q → ⊥
+NoneRefers v xs = v.follows ≡ true → (p q : ℕ) → Refers v.refs p q
+    → IsLive v.heap p → (Contains xs p → ⊥) → Contains xs q → ⊥
 
 -- an end that a further reference may have: a live object, or a temporary for which there is room
 abbrev pub MayRefer : HeapRows → End → Type 0

@@ -4,7 +4,8 @@
 // vector. So most new objects cost no call of the allocator, and a marking finds their fields where the row is. A place
 // that no field has is empty: so a marking looks at both places, and doesn't ask how many fields there are.
 
-ghost use Rattle.std.specs.Prelude.{◌≡◌, ℕ, ◌<◌, ◌≤◌, ◌⊎◌, ◌∷◌, Some, None, false, Contains, IfOk, IsOk, length, replicate, slice_set};
+ghost use Rattle.std.specs.Prelude.{◌≡◌, ℕ, ◌<◌, ◌≤◌, ◌⊎◌, ◌∷◌, Some, None, false, Contains, IfOk, IsOk, length};
+ghost use Rattle.std.specs.Prelude.{replicate, slice_set};
 ghost use Rattle.reachability.specs.Marks.{HasMark};
 ghost use Rattle.row_marking.specs.Traces.{Greyed};
 
@@ -80,9 +81,11 @@ impl Fields {
         requires held { (y : ℕ) → Contains self.now (Some y) → (1 ≤ y) × (y ≤ length marks.old) }
         requires len { length links.old ≡ length marks.old }
         ensures len { (length marks.new ≡ length marks.old) × (length links.new ≡ length links.old) }
-        ensures fresh { (k : ℕ) → HasMark (false ∷ marks.new) k → HasMark (false ∷ marks.old) k ⊎ Contains self.now (Some k) }
+        ensures fresh { (k : ℕ) → HasMark (false ∷ marks.new) k
+            → HasMark (false ∷ marks.old) k ⊎ Contains self.now (Some k) }
         ensures raised { (k : ℕ) → HasMark (false ∷ marks.old) k → HasMark (false ∷ marks.new) k }
-        ensures greyed { Greyed (λ y. Contains self.now (Some y)) (false ∷ marks.old) (0 ∷ links.old) grey.old (false ∷ marks.new) (0 ∷ links.new) grey.new }
+        ensures greyed { Greyed (λ y. Contains self.now (Some y)) (false ∷ marks.old)
+            (0 ∷ links.old) grey.old (false ∷ marks.new) (0 ∷ links.new) grey.new }
     {
         match &self.cells {
             Cells::Few(_, cells) => {

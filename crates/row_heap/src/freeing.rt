@@ -20,8 +20,10 @@ impl<N: Number> RowHeap<N> {
         requires can { CanFree self.old.heap (map N.number xs.now) }
         requires ends { NoneRefers self.old (map N.number xs.now) }
         ensures heap { self.new.heap ≡ with_freed self.old.heap (map N.number xs.now) }
-        ensures marks { (x : ℕ) → HasMark self.new.marks x ↔ (HasMark self.old.marks x × (Contains (map N.number xs.now) x → ⊥)) }
-        ensures rest { self.new ≡ record self.old { heap = self.new.heap; marks = self.new.marks; links = self.new.links } }
+        ensures marks { (x : ℕ) → HasMark self.new.marks x
+            ↔ (HasMark self.old.marks x × (Contains (map N.number xs.now) x → ⊥)) }
+        ensures rest { self.new ≡ record self.old
+            { heap = self.new.heap; marks = self.new.marks; links = self.new.links } }
     {
         self.rows.marked_stand();
         free_rows(xs, &mut self.rows, &mut self.freed);

@@ -1,8 +1,10 @@
 // The heap of one side: its objects as rows, and the operations that both sides have.
 
-ghost use Rattle.std.specs.Prelude.{◌≡◌, ℕ, ◌+◌, ◌<◌, ◌≤◌, ◌↔◌, ◌++◌, [], ◌∷◌, List, map, Contains, All, Option, Some, None, IsTrue, true, IfOk, OnOk, OnErr, IfSome, length, sum, vec_capacity};
+ghost use Rattle.std.specs.Prelude.{◌≡◌, ℕ, ◌+◌, ◌<◌, ◌≤◌, ◌↔◌, ◌++◌, [], ◌∷◌, List, map, Contains, All, Option, Some};
+ghost use Rattle.std.specs.Prelude.{None, IsTrue, true, IfOk, OnOk, OnErr, IfSome, length, sum, vec_capacity};
 ghost use Rattle.std.specs.Option.{ForSome};
-ghost use Rattle.joint_machine.specs.Heaps.{Heap, MOST, IsMade, IsLive, InSlot, slot, fields_of, is_full, opening_heap, next_number, with_object, with_var, with_static, with_field, with_freed};
+ghost use Rattle.joint_machine.specs.Heaps.{Heap, MOST, IsMade, IsLive, InSlot, slot, fields_of, is_full, opening_heap};
+ghost use Rattle.joint_machine.specs.Heaps.{next_number, with_object, with_var, with_static, with_field, with_freed};
 ghost use Rattle.heap_rules.specs.Tidy.{IsTidy, CanFree};
 ghost use Rattle.row_heap.specs.Rows.{HeapRows, opening_rows};
 
@@ -41,7 +43,8 @@ impl<N: Number> Model for RowHeap<N> {
 
     ghost view = { λ s. rows_of s.rows (map N.number s.freed.items) s.vars s.statics s.references s.follows };
 
-    ghost invariant = { λ s. IsRowHeap s.rows (map N.number s.freed.items) s.vars s.statics s.references s.follows (vec_capacity s.freed) × AreGone s.gone (map N.number s.freed.items) × IsFieldCount s.fields s.rows };
+    ghost invariant = { λ s. IsRowHeap s.rows (map N.number s.freed.items) s.vars s.statics s.references s.follows
+        (vec_capacity s.freed) × AreGone s.gone (map N.number s.freed.items) × IsFieldCount s.fields s.rows };
 }
 
 impl<N: Number> RowHeap<N> {
@@ -170,7 +173,11 @@ impl<N: Number> RowHeap<N> {
     pub fn add_object(&mut self, fields: u8) -> Result<u32, AllocError>
         requires { length self.old.heap.fields < MOST }
         ensures number { IfOk result (λ x. x ≡ next_number self.old.heap) }
-        ensures ok { OnOk result (self.new ≡ record self.old { heap = with_object self.old.heap fields; marks = self.old.marks ++ true ∷ []; links = self.old.links ++ 0 ∷ [] }) }
+        ensures ok { OnOk result (self.new ≡ record self.old {
+          heap = with_object self.old.heap fields;
+          marks = self.old.marks ++ true ∷ [];
+          links = self.old.links ++ 0 ∷ [];
+        }) }
         ensures live { IfOk result (IsLive self.new.heap) }
         ensures err { OnErr result (self.new ≡ self.old) }
     {

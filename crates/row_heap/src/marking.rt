@@ -8,7 +8,8 @@
 // a time, and whatever might be missed is shaded, which is to `visit` it: so is what a write takes out of a field
 // (`overwritten`, before), and so is, by `shade_references`, what the references lead to before they go.
 
-ghost use Rattle.std.specs.Prelude.{◌≡◌, ℕ, ◌+◌, ◌<◌, ◌≤◌, ◌↔◌, ◌⊎◌, List, [], ◌∷◌, Bool, Contains, IsTrue, Option, Some, length};
+ghost use Rattle.std.specs.Prelude.{◌≡◌, ℕ, ◌+◌, ◌<◌, ◌≤◌, ◌↔◌, ◌⊎◌, List, [], ◌∷◌, Bool, Contains, IsTrue, Option};
+ghost use Rattle.std.specs.Prelude.{Some, length};
 ghost use Rattle.joint_machine.specs.Heaps.{InSlot, IsLive};
 ghost use Rattle.joint_machine.specs.Walks.{Reached};
 ghost use Rattle.reachability.specs.Marks.{IsClosed, HasMark};
@@ -66,7 +67,8 @@ impl<N: Number> RowHeap<N> {
 
     /// Marks what variables and statics name.
     pub fn visit_slots(&mut self, grey: &mut u32)
-        ensures greyed { Greyed (InSlot self.old.heap) self.old.marks self.old.links grey.old self.new.marks self.new.links grey.new }
+        ensures greyed { Greyed (InSlot self.old.heap) self.old.marks
+            self.old.links grey.old self.new.marks self.new.links grey.new }
         ensures rest { self.new ≡ record self.old { marks = self.new.marks; links = self.new.links } }
     {
         self.visit_vars(grey);
@@ -76,7 +78,9 @@ impl<N: Number> RowHeap<N> {
     /// Carries a marking to its end.
     pub fn finish_marking(&mut self, grey: u32)
         requires { IsGreying (EdgeOf self.old) self.old.marks self.old.links grey }
-        ensures marks { (roots : List ℕ) (before : List Bool) → Greying roots (EdgeOf self.old) before self.old.marks self.old.links grey → (x : ℕ) → HasMark self.new.marks x ↔ (HasMark before x ⊎ Reached (Contains roots) (EdgeOf self.old) x) }
+        ensures marks { (roots : List ℕ) (before : List Bool)
+            → Greying roots (EdgeOf self.old) before self.old.marks self.old.links grey → (x : ℕ)
+            → HasMark self.new.marks x ↔ (HasMark before x ⊎ Reached (Contains roots) (EdgeOf self.old) x) }
         ensures shut { IsClosed (EdgeOf self.old) self.new.marks }
         ensures rest { self.new ≡ record self.old { marks = self.new.marks; links = self.new.links } }
     {
@@ -91,7 +95,8 @@ impl<N: Number> RowHeap<N> {
     /// fewer, none is grey. The heap may have changed since the marking began. It takes no memory.
     pub fn mark_some(&mut self, grey: &mut u32, most: u32) -> u32
         requires { IsGreyList self.old.marks self.old.links grey.old }
-        ensures steps { (greys : List ℕ) → Chained self.old.marks self.old.links grey.old greys → BlackensTo (EdgeOf self.old) result self.old.marks greys self.new.marks self.new.links grey.new }
+        ensures steps { (greys : List ℕ) → Chained self.old.marks self.old.links grey.old greys
+            → BlackensTo (EdgeOf self.old) result self.old.marks greys self.new.marks self.new.links grey.new }
         ensures most { result ≤ most }
         ensures few { result ≤ length self.old.marks }
         ensures end { result < most → grey.new ≡ 0 }
@@ -110,7 +115,8 @@ impl<N: Number> RowHeap<N> {
     /// its time goes by the references.
     pub fn shade_references(&mut self, grey: &mut u32)
         requires { AreEndsLive self.old }
-        ensures greyed { Greyed (IsReferred self.old) self.old.marks self.old.links grey.old self.new.marks self.new.links grey.new }
+        ensures greyed { Greyed (IsReferred self.old) self.old.marks
+            self.old.links grey.old self.new.marks self.new.links grey.new }
         ensures rest { self.new ≡ record self.old { marks = self.new.marks; links = self.new.links } }
     {
         self.references.forget();
@@ -121,7 +127,8 @@ impl<N: Number> RowHeap<N> {
     pub fn bring_back(&mut self, x: u32)
         requires live { IsLive self.old.heap x }
         requires shut { IsClosed (EdgeOf self.old) self.old.marks }
-        ensures marks { (k : ℕ) → HasMark self.new.marks k ↔ (HasMark self.old.marks k ⊎ Reached (Contains (x ∷ [])) (EdgeOf self.old) k) }
+        ensures marks { (k : ℕ) → HasMark self.new.marks k
+            ↔ (HasMark self.old.marks k ⊎ Reached (Contains (x ∷ [])) (EdgeOf self.old) k) }
         ensures shut { IsClosed (EdgeOf self.old) self.new.marks }
         ensures rest { self.new ≡ record self.old { marks = self.new.marks; links = self.new.links } }
     {
@@ -141,7 +148,8 @@ impl<N: Number> RowHeap<N> {
 
     // Marks what variables name.
     fn visit_vars(&mut self, grey: &mut u32)
-        ensures greyed { Greyed (λ x. Contains self.old.heap.vars (Some x)) self.old.marks self.old.links grey.old self.new.marks self.new.links grey.new }
+        ensures greyed { Greyed (λ x. Contains self.old.heap.vars (Some x))
+            self.old.marks self.old.links grey.old self.new.marks self.new.links grey.new }
         ensures rest { self.new ≡ record self.old { marks = self.new.marks; links = self.new.links } }
     {
         self.tidy();
@@ -154,7 +162,8 @@ impl<N: Number> RowHeap<N> {
 
     // Marks what statics hold.
     fn visit_statics(&mut self, grey: &mut u32)
-        ensures greyed { Greyed (λ x. Contains self.old.heap.statics (Some x)) self.old.marks self.old.links grey.old self.new.marks self.new.links grey.new }
+        ensures greyed { Greyed (λ x. Contains self.old.heap.statics (Some x))
+            self.old.marks self.old.links grey.old self.new.marks self.new.links grey.new }
         ensures rest { self.new ≡ record self.old { marks = self.new.marks; links = self.new.links } }
     {
         self.tidy();

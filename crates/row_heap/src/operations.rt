@@ -2,7 +2,8 @@
 
 ghost use Rattle.std.specs.Prelude.{◌≡◌, ◌<◌, IfSome, length};
 ghost use Rattle.std.specs.Option.{ForSome};
-ghost use Rattle.joint_machine.specs.Heaps.{IsLive, fields_of, copied, field_set, field_stored, field_got, read_into, dropped, loaded, stored};
+ghost use Rattle.joint_machine.specs.Heaps.{IsLive, fields_of, copied, field_set, field_stored, field_got, read_into};
+ghost use Rattle.joint_machine.specs.Heaps.{dropped, loaded, stored};
 ghost use Rattle.heap_rules.specs.Done.{Did};
 ghost use Rattle.row_heap.specs.Marks.{is_given, overwritten};
 

@@ -7,7 +7,8 @@
 // index keeps its fields for proofs alone, in no bytes: so the heap of the definition, which never forgets the fields
 // of a freed object, is still what contracts see.
 
-ghost use Rattle.std.specs.Prelude.{All, take, replicate, ◌≡◌, ℕ, ◌≤◌, ◌<◌, ◌⊎◌, ◌++◌, [], ◌∷◌, Some, None, Contains, MatchBool, true, false, length, map, slice_set, vec_len, vec_capacity, OnOk, OnErr};
+ghost use Rattle.std.specs.Prelude.{All, take, replicate, ◌≡◌, ℕ, ◌≤◌, ◌<◌, ◌⊎◌, ◌++◌, [], ◌∷◌, Some, None, Contains};
+ghost use Rattle.std.specs.Prelude.{MatchBool, true, false, length, map, slice_set, vec_len, vec_capacity, OnOk, OnErr};
 ghost use Rattle.joint_machine.specs.Heaps.{numbered_set};
 ghost use Rattle.reachability.specs.Marks.{HasMark};
 ghost use Rattle.row_marking.specs.Traces.{Greyed};
@@ -141,7 +142,8 @@ impl Rows {
     pub(crate) fn set_field(&mut self, x: usize, i: usize, y: Option<u32>)
         requires stands { (row_at self.old x).stands ≡ true }
         requires index { i < length (row_at self.old x).fields }
-        ensures { self.new ≡ numbered_set self.old x (record (row_at self.old x) { fields = slice_set (row_at self.old x).fields i y }) }
+        ensures { self.new ≡ numbered_set self.old x
+            (record (row_at self.old x) { fields = slice_set (row_at self.old x).fields i y }) }
     {
         match self.places[x - 1] {
             RowPlace::At(key) => self.slab[key as usize].fields.set(i, y),
@@ -165,7 +167,8 @@ impl Rows {
         requires held { (y : ℕ) → Contains (row_at self.old x).fields (Some y) → (row_at self.old y).stands ≡ true }
         ensures kept { map bare self.new ≡ map bare self.old }
         ensures raised { (k : ℕ) → HasMark (marks_in self.old) k → HasMark (marks_in self.new) k }
-        ensures greyed { Greyed (λ y. Contains (row_at self.old x).fields (Some y)) (marks_in self.old) (links_in self.old) grey.old (marks_in self.new) (links_in self.new) grey.new }
+        ensures greyed { Greyed (λ y. Contains (row_at self.old x).fields (Some y)) (marks_in self.old)
+            (links_in self.old) grey.old (marks_in self.new) (links_in self.new) grey.new }
     {
         match self.places[x - 1] {
             RowPlace::At(key) => {
@@ -182,7 +185,8 @@ impl Rows {
         requires { (row_at self.old y).stands ≡ true }
         ensures kept { map bare self.new ≡ map bare self.old }
         ensures raised { Raises (λ z. z ≡ y) (marks_in self.old) (marks_in self.new) }
-        ensures greyed { Greyed (λ z. z ≡ y) (marks_in self.old) (links_in self.old) grey.old (marks_in self.new) (links_in self.new) grey.new }
+        ensures greyed { Greyed (λ z. z ≡ y) (marks_in self.old)
+            (links_in self.old) grey.old (marks_in self.new) (links_in self.new) grey.new }
     {
         visit_row(y, &mut self.marks, &mut self.links, grey);
     }
@@ -216,7 +220,8 @@ impl Rows {
     /// before, where there is no memory.
     #[inline(always)]
     pub(crate) fn add(&mut self, alloc: Global, fields: u8) -> Result<(), AllocError>
-        ensures ok { OnOk result (self.new ≡ self.old ++ record { fields = replicate fields None; marked = true; link = 0; stands = true } ∷ []) }
+        ensures ok { OnOk result (self.new ≡ self.old ++
+            record { fields = replicate fields None; marked = true; link = 0; stands = true } ∷ []) }
         ensures err { OnErr result (self.new ≡ self.old) }
     {
         take_room(
@@ -259,8 +264,10 @@ fn take_room(
     marks: &mut Vec<bool>,
     links: &mut Vec<u32>,
 ) -> Result<(), AllocError>
-    ensures kept { (slab.new.slots ≡ slab.old.slots) × (places.new.items ≡ places.old.items) × (marks.new.items ≡ marks.old.items) × (links.new.items ≡ links.old.items) }
-    ensures room { OnOk result (HasRoomFor slab.new 1 × (vec_len places.new < vec_capacity places.new) × (vec_len marks.new < vec_capacity marks.new) × (vec_len links.new < vec_capacity links.new)) }
+    ensures kept { (slab.new.slots ≡ slab.old.slots) × (places.new.items ≡ places.old.items)
+        × (marks.new.items ≡ marks.old.items) × (links.new.items ≡ links.old.items) }
+    ensures room { OnOk result (HasRoomFor slab.new 1 × (vec_len places.new < vec_capacity places.new)
+        × (vec_len marks.new < vec_capacity marks.new) × (vec_len links.new < vec_capacity links.new)) }
     ensures key { OnOk result (slab.new.vacant_key ≤ 4294967295) }
 {
     if slab.vacant_key() > u32::MAX as usize {
@@ -299,9 +306,11 @@ pub(crate) fn visit_fields(
     requires held { (y : ℕ) → Contains fields.now (Some y) → (1 ≤ y) × (y ≤ length marks.old) }
     requires len { length links.old ≡ length marks.old }
     ensures len { (length marks.new ≡ length marks.old) × (length links.new ≡ length links.old) }
-    ensures fresh { (k : ℕ) → HasMark (false ∷ marks.new) k → HasMark (false ∷ marks.old) k ⊎ Contains fields.now (Some k) }
+    ensures fresh { (k : ℕ) → HasMark (false ∷ marks.new) k
+        → HasMark (false ∷ marks.old) k ⊎ Contains fields.now (Some k) }
     ensures raised { (k : ℕ) → HasMark (false ∷ marks.old) k → HasMark (false ∷ marks.new) k }
-    ensures greyed { Greyed (λ y. Contains fields.now (Some y)) (false ∷ marks.old) (0 ∷ links.old) grey.old (false ∷ marks.new) (0 ∷ links.new) grey.new }
+    ensures greyed { Greyed (λ y. Contains fields.now (Some y)) (false ∷ marks.old)
+        (0 ∷ links.old) grey.old (false ∷ marks.new) (0 ∷ links.new) grey.new }
 {
     for field in fields {
         visit_field(*field, marks, links, grey);
@@ -315,7 +324,8 @@ pub(crate) fn visit_field(field: Option<u32>, marks: &mut [bool], links: &mut [u
     ensures len { (length marks.new ≡ length marks.old) × (length links.new ≡ length links.old) }
     ensures fresh { (k : ℕ) → HasMark (false ∷ marks.new) k → HasMark (false ∷ marks.old) k ⊎ (field ≡ Some k) }
     ensures raised { (k : ℕ) → HasMark (false ∷ marks.old) k → HasMark (false ∷ marks.new) k }
-    ensures greyed { Greyed (λ y. field ≡ Some y) (false ∷ marks.old) (0 ∷ links.old) grey.old (false ∷ marks.new) (0 ∷ links.new) grey.new }
+    ensures greyed { Greyed (λ y. field ≡ Some y) (false ∷ marks.old)
+        (0 ∷ links.old) grey.old (false ∷ marks.new) (0 ∷ links.new) grey.new }
 {
     if let Some(y) = field {
         visit_row(y, marks, links, grey);
@@ -329,7 +339,8 @@ pub(crate) fn visit_row(y: u32, marks: &mut [bool], links: &mut [u32], grey: &mu
     ensures len { (length marks.new ≡ length marks.old) × (length links.new ≡ length links.old) }
     ensures fresh { (k : ℕ) → HasMark (false ∷ marks.new) k → HasMark (false ∷ marks.old) k ⊎ (k ≡ y) }
     ensures raised { Raises (λ z. z ≡ y) (false ∷ marks.old) (false ∷ marks.new) }
-    ensures greyed { Greyed (λ z. z ≡ y) (false ∷ marks.old) (0 ∷ links.old) grey.old (false ∷ marks.new) (0 ∷ links.new) grey.new }
+    ensures greyed { Greyed (λ z. z ≡ y) (false ∷ marks.old)
+        (0 ∷ links.old) grey.old (false ∷ marks.new) (0 ∷ links.new) grey.new }
 {
     let place = y as usize - 1;
     if !marks[place] {

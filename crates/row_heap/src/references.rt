@@ -8,7 +8,9 @@
 // a temporary once: it keeps a flag for each that it has seen, and a link in the list of those that it still has to go
 // through.
 
-ghost use Rattle.std.specs.Prelude.{◌≡◌, ◌≢◌, ℕ, ◌+◌, ◌-◌, ◌≤◌, ◌<◌, ◌++◌, [], ◌∷◌, List, Option, Some, Contains, false, OnOk, OnErr, All, nat_le, length, map, max, slice_get, slice_index_or, vec_capacity};
+ghost use Rattle.std.specs.Prelude.{◌≡◌, ◌≢◌, ℕ, ◌+◌, ◌-◌, ◌≤◌, ◌<◌, ◌++◌, [], ◌∷◌, List, Option, Some, Contains};
+ghost use Rattle.std.specs.Prelude.{false, OnOk, OnErr, All, nat_le, length, map, max, slice_get, slice_index_or};
+ghost use Rattle.std.specs.Prelude.{vec_capacity};
 ghost use Rattle.joint_machine.specs.Components as exact;
 ghost use Rattle.reachability.specs.Marks.{HasMark};
 ghost use Rattle.row_marking.specs.Traces.{Greyed};
@@ -143,7 +145,8 @@ impl Model for References {
 
     ghost view = { λ s. linked_of s.list.items s.temporaries.items s.seen.items s.links.items s.ready };
 
-    ghost invariant = { λ s. AreLinked s.list.items s.objects.items s.temporaries.items s.seen.items s.links.items s.ready (vec_capacity s.list) };
+    ghost invariant = { λ s. AreLinked s.list.items s.objects.items
+        s.temporaries.items s.seen.items s.links.items s.ready (vec_capacity s.list) };
 }
 
 impl References {
@@ -200,7 +203,8 @@ impl References {
         requires room { 1 ≤ self.old.room }
         requires from { IsEnd self.old.temps (end_of from) }
         requires to { IsEnd self.old.temps (end_of to) }
-        ensures { self.new ≡ record self.old { refs = self.old.refs ++ (end_of from, end_of to) ∷ []; room = self.old.room - 1 } }
+        ensures { self.new ≡ record self.old
+            { refs = self.old.refs ++ (end_of from, end_of to) ∷ []; room = self.old.room - 1 } }
     {
         let next = self.first(from);
         let packed = PackedReference::pack(Reference { from, to, next });
@@ -265,7 +269,8 @@ impl References {
     pub(crate) fn see(&mut self, t: u32, through: &mut u32)
         requires { t < self.old.temps }
         ensures rest { self.new ≡ record self.old { seen = self.new.seen; links = self.new.links } }
-        ensures greyed { Greyed (λ n. n ≡ t + 1) self.old.seen self.old.links through.old self.new.seen self.new.links through.new }
+        ensures greyed { Greyed (λ n. n ≡ t + 1) self.old.seen self.old.links
+            through.old self.new.seen self.new.links through.new }
     {
         let seen = &mut self.seen;
         visit_row(t + 1, seen, &mut self.links, through);
@@ -315,7 +320,8 @@ fn make_temporaries(
     ensures firsts { (t : ℕ) → slice_index_or temporaries.new.items t 0 ≡ slice_index_or temporaries.old.items t 0 }
     ensures seen { (k : ℕ) → HasMark seen.new.items k → HasMark seen.old.items k }
     ensures few { length temporaries.old.items ≤ 4294901760 → length temporaries.new.items ≤ 4294901760 }
-    ensures err { OnErr result ((temporaries.new.items ≡ temporaries.old.items) × (seen.new.items ≡ seen.old.items) × (links.new.items ≡ links.old.items)) }
+    ensures err { OnErr result ((temporaries.new.items ≡ temporaries.old.items)
+        × (seen.new.items ≡ seen.old.items) × (links.new.items ≡ links.old.items)) }
 {
     let len = temporaries.len();
     if temps as usize <= len {
@@ -346,9 +352,11 @@ fn first_at(firsts: &[u32], i: u32) -> u32
 // The references from an end begin at another place.
 fn set_first(objects: &mut Vec<u32>, temporaries: &mut Vec<u32>, e: End, first: u32)
     requires { HasPlace (length objects.old.items) (length temporaries.old.items) (end_of e) }
-    ensures len { (length objects.new.items ≡ length objects.old.items) × (length temporaries.new.items ≡ length temporaries.old.items) }
+    ensures len { (length objects.new.items ≡ length objects.old.items)
+        × (length temporaries.new.items ≡ length temporaries.old.items) }
     ensures here { first_in objects.new.items temporaries.new.items (end_of e) ≡ first }
-    ensures others { (f : exact.End) → f ≢ end_of e → first_in objects.new.items temporaries.new.items f ≡ first_in objects.old.items temporaries.old.items f }
+    ensures others { (f : exact.End) → f ≢ end_of e
+        → first_in objects.new.items temporaries.new.items f ≡ first_in objects.old.items temporaries.old.items f }
 {
     match e {
         End::Object(x) => objects[x as usize] = first,
@@ -359,8 +367,10 @@ fn set_first(objects: &mut Vec<u32>, temporaries: &mut Vec<u32>, e: End, first: 
 // The ends that references lead from have none.
 fn clear_firsts(list: &[PackedReference], objects: &mut Vec<u32>, temporaries: &mut Vec<u32>)
     requires { All (λ r. HasPlace (length objects.old.items) (length temporaries.old.items) (end_of r.from)) list.now }
-    ensures len { (length objects.new.items ≡ length objects.old.items) × (length temporaries.new.items ≡ length temporaries.old.items) }
-    ensures cleared { FirstsCleared (map (λ r. end_of r.from) list.now) (first_in objects.old.items temporaries.old.items) (first_in objects.new.items temporaries.new.items) }
+    ensures len { (length objects.new.items ≡ length objects.old.items)
+        × (length temporaries.new.items ≡ length temporaries.old.items) }
+    ensures cleared { FirstsCleared (map (λ r. end_of r.from) list.now)
+        (first_in objects.old.items temporaries.old.items) (first_in objects.new.items temporaries.new.items) }
 {
     for packed in list {
         let reference = packed.unpack();

@@ -35,7 +35,8 @@ impl<N: Number> RowHeap<N> {
     pub fn add_references(&mut self, refs: &[(End, End)])
         requires ends { All (MayReferBoth self.old) (map ends_of refs.now) }
         requires room { length refs.now ≤ self.old.room }
-        ensures { self.new ≡ record self.old { refs = self.old.refs ++ map ends_of refs.now; follows = false; room = self.old.room - length refs.now } }
+        ensures { self.new ≡ record self.old
+            { refs = self.old.refs ++ map ends_of refs.now; follows = false; room = self.old.room - length refs.now } }
     {
         push_all(&mut self.references, refs);
         self.follows = false;
@@ -54,7 +55,8 @@ impl<N: Number> RowHeap<N> {
 fn push_all(references: &mut References, refs: &[(End, End)])
     requires ends { All (AreEnds references.old.temps) (map ends_of refs.now) }
     requires room { length refs.now ≤ references.old.room }
-    ensures { references.new ≡ record references.old { refs = references.old.refs ++ map ends_of refs.now; room = references.old.room - length refs.now } }
+    ensures { references.new ≡ record references.old
+        { refs = references.old.refs ++ map ends_of refs.now; room = references.old.room - length refs.now } }
 {
     for reference in refs {
         references.push(reference.0, reference.1);

@@ -1,7 +1,8 @@
 // Sweeping: the live rows without a mark are removed, in rising order, and their numbers come last in the list of freed
 // objects.
 
-ghost use Rattle.std.specs.Prelude.{◌≡◌, ℕ, ◌+◌, ◌≤◌, ◌++◌, [], ◌∷◌, true, if◌then◌else◌, map, length, drop, vec_capacity};
+ghost use Rattle.std.specs.Prelude.{◌≡◌, ℕ, ◌+◌, ◌≤◌, ◌++◌, [], ◌∷◌, true, if◌then◌else◌, map, length, drop};
+ghost use Rattle.std.specs.Prelude.{vec_capacity};
 ghost use Rattle.joint_machine.specs.Heaps.{InSlot, MOST, numbered_set, with_freed};
 ghost use Rattle.heap_rules.specs.Flags.{up_count};
 ghost use Rattle.reachability.specs.Marks.{IsClosed, HasMark};
@@ -21,7 +22,8 @@ impl<N: Number> RowHeap<N> {
         requires slots { (x : ℕ) → InSlot self.old.heap x → HasMark self.old.marks x }
         requires shut { IsClosed (EdgeOf self.old) self.old.marks }
         ensures white { AreWhite self.old (drop (length self.old.heap.freed) self.new.heap.freed) }
-        ensures heap { self.new.heap ≡ with_freed self.old.heap (drop (length self.old.heap.freed) self.new.heap.freed) }
+        ensures heap { self.new.heap ≡ with_freed self.old.heap
+            (drop (length self.old.heap.freed) self.new.heap.freed) }
         ensures rest { self.new ≡ record self.old { heap = self.new.heap; links = self.new.links } }
     {
         sweep_rows(self.gone as usize, &mut self.rows, &mut self.freed);
@@ -35,7 +37,8 @@ fn sweep_rows<N: Number>(from: usize, rows: &mut Rows, freed: &mut Vec<N>)
     requires before { (x : ℕ) → x ≤ from → is_white (row_at rows.old x) ≡ true → ⊥ }
     requires most { length rows.old ≤ MOST }
     requires room { length freed.old.items + up_count (stands_in rows.old) ≤ vec_capacity freed.old }
-    ensures swept { RowsSwept (length rows.old) rows.old rows.new (map N.number freed.old.items) (map N.number freed.new.items) }
+    ensures swept { RowsSwept (length rows.old) rows.old rows.new
+        (map N.number freed.old.items) (map N.number freed.new.items) }
     ensures capacity { vec_capacity freed.new ≡ vec_capacity freed.old }
 {
     for i in from..rows.made() {
@@ -48,8 +51,11 @@ fn sweep_row<N: Number>(x: usize, rows: &mut Rows, freed: &mut Vec<N>)
     requires row { (1 ≤ x) × (x ≤ length rows.old) }
     requires number { x ≤ MOST }
     requires room { is_white (row_at rows.old x) ≡ true → length freed.old.items + 1 ≤ vec_capacity freed.old }
-    ensures rows { rows.new ≡ (if is_white (row_at rows.old x) then numbered_set rows.old x (gone (row_at rows.old x).fields) else rows.old) }
-    ensures freed { map N.number freed.new.items ≡ (if is_white (row_at rows.old x) then map N.number freed.old.items ++ x ∷ [] else map N.number freed.old.items) }
+    ensures rows { rows.new ≡ (if is_white (row_at rows.old x) then numbered_set rows.old x
+        (gone (row_at rows.old x).fields) else rows.old) }
+    ensures freed { map N.number freed.new.items
+        ≡ (if is_white (row_at rows.old x) then map N.number
+        freed.old.items ++ x ∷ [] else map N.number freed.old.items) }
     ensures capacity { vec_capacity freed.new ≡ vec_capacity freed.old }
 {
     if rows.is_white(x) {

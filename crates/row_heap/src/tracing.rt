@@ -59,12 +59,14 @@ impl<N: Number> Traced for RowHeap<N> {
 
 /// Marks what the references of all rows that stand lead to, directly and over temporaries.
 pub(crate) fn mark_sources(references: &mut References, rows: &mut Rows, grey: &mut u32)
-    requires ends { (x y : ℕ) → Refers references.old.refs x y → (row_at rows.old x).stands ≡ true → (row_at rows.old y).stands ≡ true }
+    requires ends { (x y : ℕ) → Refers references.old.refs x y
+        → (row_at rows.old x).stands ≡ true → (row_at rows.old y).stands ≡ true }
     requires sights { AreSightsMarked references.old rows.old }
     ensures kept { map bare rows.new ≡ map bare rows.old }
     ensures rest { references.new ≡ record references.old { seen = references.new.seen; links = references.new.links } }
     ensures sights { AreSightsMarked references.new rows.new }
-    ensures greyed { Greyed (IsLedTo references.old.refs rows.old) (marks_in rows.old) (links_in rows.old) grey.old (marks_in rows.new) (links_in rows.new) grey.new }
+    ensures greyed { Greyed (IsLedTo references.old.refs rows.old) (marks_in rows.old)
+        (links_in rows.old) grey.old (marks_in rows.new) (links_in rows.new) grey.new }
 {
     references.lasts();
     for i in 0..references.len() {
@@ -76,12 +78,14 @@ pub(crate) fn mark_sources(references: &mut References, rows: &mut Rows, grey: &
 
 // Marks what the references of a row lead to, if the row stands and its last reference is that of the place.
 fn mark_source(references: &mut References, rows: &mut Rows, from: End, r: u32, grey: &mut u32)
-    requires ends { (x y : ℕ) → Refers references.old.refs x y → (row_at rows.old x).stands ≡ true → (row_at rows.old y).stands ≡ true }
+    requires ends { (x y : ℕ) → Refers references.old.refs x y
+        → (row_at rows.old x).stands ≡ true → (row_at rows.old y).stands ≡ true }
     requires sights { AreSightsMarked references.old rows.old }
     ensures kept { map bare rows.new ≡ map bare rows.old }
     ensures rest { references.new ≡ record references.old { seen = references.new.seen; links = references.new.links } }
     ensures sights { AreSightsMarked references.new rows.new }
-    ensures greyed { Greyed (IsLedFrom references.old.refs rows.old (end_of from) r) (marks_in rows.old) (links_in rows.old) grey.old (marks_in rows.new) (links_in rows.new) grey.new }
+    ensures greyed { Greyed (IsLedFrom references.old.refs rows.old (end_of from) r)
+        (marks_in rows.old) (links_in rows.old) grey.old (marks_in rows.new) (links_in rows.new) grey.new }
 {
     match from {
         End::Temporary(_) => {}
@@ -95,8 +99,10 @@ fn mark_source(references: &mut References, rows: &mut Rows, from: End, r: u32, 
 
 // Whether a row stands, and its last reference is that of the place.
 fn is_source(references: &References, rows: &Rows, x: u32, r: u32) -> bool
-    ensures source { IsTrue result → IsLastBelow references.now.refs (exact.node x) (length references.now.refs) r × ((row_at rows.now x).stands ≡ true) }
-    ensures other { result ≡ false → IsLastBelow references.now.refs (exact.node x) (length references.now.refs) r → (row_at rows.now x).stands ≡ true → ⊥ }
+    ensures source { IsTrue result → IsLastBelow references.now.refs (exact.node x) (length references.now.refs) r
+        × ((row_at rows.now x).stands ≡ true) }
+    ensures other { result ≡ false → IsLastBelow references.now.refs (exact.node x) (length references.now.refs) r
+        → (row_at rows.now x).stands ≡ true → ⊥ }
 {
     if references.first(End::Object(x)) == r {
         rows.is_standing(x)
@@ -113,7 +119,8 @@ fn mark_led(references: &mut References, rows: &mut Rows, x: u32, grey: &mut u32
     ensures kept { map bare rows.new ≡ map bare rows.old }
     ensures rest { references.new ≡ record references.old { seen = references.new.seen; links = references.new.links } }
     ensures sights { AreSightsMarked references.new rows.new }
-    ensures greyed { Greyed (Refers references.old.refs x) (marks_in rows.old) (links_in rows.old) grey.old (marks_in rows.new) (links_in rows.new) grey.new }
+    ensures greyed { Greyed (Refers references.old.refs x) (marks_in rows.old)
+        (links_in rows.old) grey.old (marks_in rows.new) (links_in rows.new) grey.new }
 {
     if references.lead_from(x) {
         mark_references(references, rows, x, grey);
@@ -127,7 +134,8 @@ fn mark_references(references: &mut References, rows: &mut Rows, x: u32, grey: &
     ensures kept { map bare rows.new ≡ map bare rows.old }
     ensures rest { references.new ≡ record references.old { seen = references.new.seen; links = references.new.links } }
     ensures sights { AreSightsMarked references.new rows.new }
-    ensures greyed { Greyed (Refers references.old.refs x) (marks_in rows.old) (links_in rows.old) grey.old (marks_in rows.new) (links_in rows.new) grey.new }
+    ensures greyed { Greyed (Refers references.old.refs x) (marks_in rows.old)
+        (links_in rows.old) grey.old (marks_in rows.new) (links_in rows.new) grey.new }
 {
     let mut through = 0;
     visit_ends(references, rows, End::Object(x), &mut through, grey);
@@ -149,9 +157,12 @@ fn visit_ends(
     requires { (y : ℕ) → Contains references.old.refs (end_of from, exact.node y) → (row_at rows.old y).stands ≡ true }
     ensures kept { map bare rows.new ≡ map bare rows.old }
     ensures rest { references.new ≡ record references.old { seen = references.new.seen; links = references.new.links } }
-    ensures raised { Raises (λ y. Contains references.old.refs (end_of from, exact.node y)) (marks_in rows.old) (marks_in rows.new) }
-    ensures greyed { Greyed (λ y. Contains references.old.refs (end_of from, exact.node y)) (marks_in rows.old) (links_in rows.old) grey.old (marks_in rows.new) (links_in rows.new) grey.new }
-    ensures sees { Greyed (Sees references.old.refs (end_of from)) references.old.seen references.old.links through.old references.new.seen references.new.links through.new }
+    ensures raised { Raises (λ y. Contains references.old.refs (end_of from, exact.node y))
+        (marks_in rows.old) (marks_in rows.new) }
+    ensures greyed { Greyed (λ y. Contains references.old.refs (end_of from, exact.node y))
+        (marks_in rows.old) (links_in rows.old) grey.old (marks_in rows.new) (links_in rows.new) grey.new }
+    ensures sees { Greyed (Sees references.old.refs (end_of from)) references.old.seen
+        references.old.links through.old references.new.seen references.new.links through.new }
 {
     let mut r = references.first(from);
     while r != 0 {
@@ -174,8 +185,10 @@ fn visit_end(
     ensures kept { map bare rows.new ≡ map bare rows.old }
     ensures rest { references.new ≡ record references.old { seen = references.new.seen; links = references.new.links } }
     ensures raised { Raises (λ y. end_of to ≡ exact.node y) (marks_in rows.old) (marks_in rows.new) }
-    ensures greyed { Greyed (λ y. end_of to ≡ exact.node y) (marks_in rows.old) (links_in rows.old) grey.old (marks_in rows.new) (links_in rows.new) grey.new }
-    ensures sees { Greyed (IsTemporary (end_of to)) references.old.seen references.old.links through.old references.new.seen references.new.links through.new }
+    ensures greyed { Greyed (λ y. end_of to ≡ exact.node y) (marks_in rows.old)
+        (links_in rows.old) grey.old (marks_in rows.new) (links_in rows.new) grey.new }
+    ensures sees { Greyed (IsTemporary (end_of to)) references.old.seen
+        references.old.links through.old references.new.seen references.new.links through.new }
 {
     match to {
         End::Object(y) => rows.visit(y, grey),

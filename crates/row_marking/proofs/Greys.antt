@@ -64,7 +64,10 @@ Greyed-new y m l h new one fits waited c =
         ];
       };
       scans = Scans-first y m waited new (slice_get_within m y false new);
-      anew = λ k w. elim (Contains-cons_cases y waited k w) [ inl e ↦ inr (λ (u : HasMark m k). (let q : Some false ≡ Some true = sym new ∙ subst (HasMark m) (sym e) u in cc), sym e) | inr d ↦ inl d ];
+      anew = λ k w. elim (Contains-cons_cases y waited k w) [
+        | inl e ↦ inr (λ (u : HasMark m k). (let q : Some false ≡ Some true = sym new ∙ subst (HasMark m) (sym e) u in cc), sym e)
+        | inr d ↦ inl d
+      ];
     }
 
 pub Greyed-then : (p q row : ℕ → Type 0) (a : List Bool) (k : List ℕ) (h : ℕ) (b : List Bool) (l : List ℕ) (i : ℕ) (c : List Bool) (n : List ℕ) (j : ℕ)
@@ -82,7 +85,8 @@ Greyed-then p q row a k h b l i c n j split left right x y waited w =
       ];
     }
 
-pub Greyed-as : (p row : ℕ → Type 0) (a : List Bool) (k : List ℕ) (h : ℕ) (b : List Bool) (l : List ℕ) (i : ℕ) → ((x : ℕ) → row x → p x) → ((x : ℕ) → p x → row x) → Greyed p a k h b l i → Greyed row a k h b l i
+pub Greyed-as : (p row : ℕ → Type 0) (a : List Bool) (k : List ℕ) (h : ℕ) (b : List Bool) (l : List ℕ) (i : ℕ)
+    → ((x : ℕ) → row x → p x) → ((x : ℕ) → p x → row x) → Greyed p a k h b l i → Greyed row a k h b l i
 Greyed-as p row a k h b l i there back x = Greyed-then p (λ z. ⊥) row a k h b l i b l i (λ z r. inl (there z r)) back (λ z r. absurd r) x (Greyed-none (λ z. ⊥) b l i (λ z r. r))
 
 -- a further place of a row's fields
@@ -93,7 +97,8 @@ Greyed-push_some xs y a k h b l i c n j v w = Greyed-then (λ z. Contains xs (So
     (λ z g. Contains-append_left xs (Some y ∷ []) (Some z) g)
     (λ z g. subst (λ t. Contains (xs ++ Some y ∷ []) (Some t)) (sym g) (Contains-push xs (Some y))) v w
 
-pub Greyed-push_none : (xs : List (Option ℕ)) (a : List Bool) (k : List ℕ) (h : ℕ) (b : List Bool) (l : List ℕ) (i : ℕ) → Greyed (λ z. Contains xs (Some z)) a k h b l i → Greyed (λ z. Contains (xs ++ None ∷ []) (Some z)) a k h b l i
+pub Greyed-push_none : (xs : List (Option ℕ)) (a : List Bool) (k : List ℕ) (h : ℕ) (b : List Bool) (l : List ℕ) (i : ℕ)
+    → Greyed (λ z. Contains xs (Some z)) a k h b l i → Greyed (λ z. Contains (xs ++ None ∷ []) (Some z)) a k h b l i
 Greyed-push_none xs a k h b l i v = Greyed-as (λ z. Contains xs (Some z)) (λ z. Contains (xs ++ None ∷ []) (Some z)) a k h b l i
     (λ z r. elim (Contains-push_cases xs None (Some z) r) [ inl g ↦ g | inr g ↦ (let e : ⊥ = cc in absurd e) ])
     (λ z g. Contains-append_left xs (None ∷ []) (Some z) g) v
@@ -155,7 +160,8 @@ Greying-closes roots edge before m l i x y d h =
     let none : i.waits ≡ [] = GreyChain-one l 0 i.waits [] i.chained.chain refl in
     elim (i.closed x h) [ inl w ↦ absurd (Contains-nil x (subst (λ t. Contains t x) none w)) | inr w ↦ w y d ]
 
-pub Greying-ends : (roots : List ℕ) (edge : ℕ → ℕ → Type 0) (before m : List Bool) (l : List ℕ) → Greying roots edge before m l 0 → (k : ℕ) → HasMark m k ↔ (HasMark before k ⊎ Reached (Contains roots) edge k)
+pub Greying-ends : (roots : List ℕ) (edge : ℕ → ℕ → Type 0) (before m : List Bool) (l : List ℕ)
+    → Greying roots edge before m l 0 → (k : ℕ) → HasMark m k ↔ (HasMark before k ⊎ Reached (Contains roots) edge k)
 Greying-ends roots edge before m l i k =
     (i.sound k, λ h. elim h [ inl w ↦ i.kept k w | inr w ↦ Reached-keeps (Contains roots) edge (HasMark m) i.roots_marked (Greying-closes roots edge before m l i) k w ])
 
@@ -176,13 +182,15 @@ grey-head m l x one i = by i.0 i.1.chain i.1.marked
     by (z ∷ rest) c marked = subst (HasMark m) (sym c.0) (marked z (Contains-here z rest))
 
 -- the rest of a list of grey rows
-rest-chained : (m : List Bool) (l : List ℕ) (x next : ℕ) → 1 ≤ x → slice_get l x ≡ Some next → (waits : List ℕ) → GreyChain l x waits → ((k : ℕ) → Contains waits k → HasMark m k) → (z : ℕ) × (rest : List ℕ) × (waits ≡ z ∷ rest) × (x ≡ z) × Chained m l next rest
+rest-chained : (m : List Bool) (l : List ℕ) (x next : ℕ) → 1 ≤ x → slice_get l x ≡ Some next → (waits : List ℕ) → GreyChain l x waits
+    → ((k : ℕ) → Contains waits k → HasMark m k) → (z : ℕ) × (rest : List ℕ) × (waits ≡ z ∷ rest) × (x ≡ z) × Chained m l next rest
 rest-chained m l x next one at [] c marked = absurd (omega (arith, c, one))
 rest-chained m l x next one at (z ∷ rest) (ez, oz, (n, atz, tail)) marked =
     let same : n ≡ next = (let q : Some n ≡ Some next = sym atz ∙ (ap (slice_get l) (sym ez) ∙ at) in cc) in
     (z, rest, refl, ez, record { chain = subst (λ t. GreyChain l t rest) same tail; marked = λ k w. marked k (Contains-there k z rest w) })
 
-pub grey-goes : (row : ℕ → Type 0) (m : List Bool) (l : List ℕ) (x next : ℕ) (m' : List Bool) (l' : List ℕ) (h' : ℕ) → 1 ≤ x → slice_get l x ≡ Some next → IsGreyList m l x → Greyed row m l next m' l' h' → IsGreyList m' l' h'
+pub grey-goes : (row : ℕ → Type 0) (m : List Bool) (l : List ℕ) (x next : ℕ) (m' : List Bool) (l' : List ℕ) (h' : ℕ)
+    → 1 ≤ x → slice_get l x ≡ Some next → IsGreyList m l x → Greyed row m l next m' l' h' → IsGreyList m' l' h'
 grey-goes row m l x next m' l' h' one at i y = let r = rest-chained m l x next one at i.0 i.1.chain i.1.marked in let g = y r.1 r.4 in (g.waits, g.chained)
 
 -- a row stands in a list of grey rows once
@@ -210,7 +218,13 @@ blackens-goes edge n m0 g0 m l x next m' l' h' one at i y =
     record {
       waits = g.waits;
       chained = g.chained;
-      steps = subst (λ k. Blackens edge k m0 g0 m' g.waits) more (m, x, r.1, subst (Blackens edge n m0 g0 m) (r.2 ∙ ap (λ z. z ∷ r.1) (sym r.3)) i.steps, record { grey = grey-head m l x one (i.waits, i.chained); once = chain-once l x next r.1 one at r.4.chain; scans = g.scans; anew = g.anew });
+      steps = subst (λ k. Blackens edge k m0 g0 m' g.waits) more (
+        m,
+        x,
+        r.1,
+        subst (Blackens edge n m0 g0 m) (r.2 ∙ ap (λ z. z ∷ r.1) (sym r.3)) i.steps,
+        record { grey = grey-head m l x one (i.waits, i.chained); once = chain-once l x next r.1 one at r.4.chain; scans = g.scans; anew = g.anew },
+      );
     }
 
 -- the unmarked rows and the grey ones are one fewer with each
@@ -262,7 +276,8 @@ Greyed-push xs y a k h b l i c n j v w = Greyed-then (Contains xs) (λ z. z ≡ 
     (λ z g. subst (Contains (xs ++ y ∷ [])) (sym g) (Contains-push xs y)) v w
 
 -- once the roots are marked, the marking is on its way
-pub Greying-begins : (roots : List ℕ) (edge : ℕ → ℕ → Type 0) (before : List Bool) (l : List ℕ) (m : List Bool) (l' : List ℕ) (h' : ℕ) → IsClosed edge before → Greyed (Contains roots) before l 0 m l' h' → Greying roots edge before m l' h'
+pub Greying-begins : (roots : List ℕ) (edge : ℕ → ℕ → Type 0) (before : List Bool) (l : List ℕ) (m : List Bool) (l' : List ℕ) (h' : ℕ)
+    → IsClosed edge before → Greyed (Contains roots) before l 0 m l' h' → Greying roots edge before m l' h'
 Greying-begins roots edge before l m l' h' shut y =
     let g = y [] record { chain = refl; marked = λ k w. absurd (Contains-nil k w) } in
     record {

@@ -25,7 +25,8 @@
 // once no row is grey, marked is exactly what is reached from the roots or was marked before.
 #![tactic(auto)]
 
-ghost use Rattle.std.specs.Prelude.{◌≡◌, ℕ, ◌+◌, ◌-◌, ◌<◌, ◌≤◌, ◌⊎◌, ◌↔◌, List, Option, Some, Contains, All, Bool, length, slice_get, slice_set, IfSome, IsTrue, true};
+ghost use Rattle.std.specs.Prelude.{◌≡◌, ℕ, ◌+◌, ◌-◌, ◌<◌, ◌≤◌, ◌⊎◌, ◌↔◌, List, Option, Some, Contains, All, Bool};
+ghost use Rattle.std.specs.Prelude.{length, slice_get, slice_set, IfSome, IsTrue, true};
 ghost use Rattle.joint_machine.specs.Walks.{Reached};
 ghost use Rattle.reachability.specs.Marks.{HasMark, IsClosed};
 ghost use Rattle.row_marking.specs.Traces.{BlackensTo, Chained, Greyed, Greying, IsGreyList, IsGreying};
@@ -69,7 +70,8 @@ pub trait Traced {
     fn scan(&mut self, x: usize, grey: &mut u32)
         requires { is_row (kept self.old) x }
         ensures kept { kept self.new ≡ kept self.old }
-        ensures greyed { Greyed (leads (kept self.old) x) (marks self.old) (links self.old) grey.old (marks self.new) (links self.new) grey.new };
+        ensures greyed { Greyed (leads (kept self.old) x) (marks self.old)
+            (links self.old) grey.old (marks self.new) (links self.new) grey.new };
 }
 
 /// Marks row `y`; one that wasn't marked comes first in the list of grey rows.
@@ -77,7 +79,8 @@ pub fn visit<G: Traced>(g: &mut G, y: u32, grey: &mut u32)
     requires some { 1 ≤ y }
     requires row { G.is_row (G.kept g.old) y }
     ensures kept { G.kept g.new ≡ G.kept g.old }
-    ensures greyed { Greyed (λ z. z ≡ y) (G.marks g.old) (G.links g.old) grey.old (G.marks g.new) (G.links g.new) grey.new }
+    ensures greyed { Greyed (λ z. z ≡ y) (G.marks g.old)
+        (G.links g.old) grey.old (G.marks g.new) (G.links g.new) grey.new }
 {
     if !g.is_marked(y as usize) {
         g.mark(y as usize, *grey);
@@ -89,7 +92,9 @@ pub fn visit<G: Traced>(g: &mut G, y: u32, grey: &mut u32)
 pub fn finish<G: Traced>(g: &mut G, grey: u32)
     requires { IsGreying (G.leads (G.kept g.old)) (G.marks g.old) (G.links g.old) grey }
     ensures kept { G.kept g.new ≡ G.kept g.old }
-    ensures marks { (roots : List ℕ) (before : List Bool) → Greying roots (G.leads (G.kept g.old)) before (G.marks g.old) (G.links g.old) grey → (k : ℕ) → HasMark (G.marks g.new) k ↔ (HasMark before k ⊎ Reached (Contains roots) (G.leads (G.kept g.old)) k) }
+    ensures marks { (roots : List ℕ) (before : List Bool)
+        → Greying roots (G.leads (G.kept g.old)) before (G.marks g.old) (G.links g.old) grey → (k : ℕ)
+        → HasMark (G.marks g.new) k ↔ (HasMark before k ⊎ Reached (Contains roots) (G.leads (G.kept g.old)) k) }
     ensures closed { IsClosed (G.leads (G.kept g.new)) (G.marks g.new) }
 {
     let mut head = grey;
@@ -106,7 +111,8 @@ pub fn finish<G: Traced>(g: &mut G, grey: u32)
 pub fn scan_some<G: Traced>(g: &mut G, grey: u32, most: u32) -> (u32, u32)
     requires { IsGreyList (G.marks g.old) (G.links g.old) grey }
     ensures kept { G.kept g.new ≡ G.kept g.old }
-    ensures steps { (greys : List ℕ) → Chained (G.marks g.old) (G.links g.old) grey greys → BlackensTo (G.leads (G.kept g.old)) result.1 (G.marks g.old) greys (G.marks g.new) (G.links g.new) result.0 }
+    ensures steps { (greys : List ℕ) → Chained (G.marks g.old) (G.links g.old) grey greys
+        → BlackensTo (G.leads (G.kept g.old)) result.1 (G.marks g.old) greys (G.marks g.new) (G.links g.new) result.0 }
     ensures most { result.1 ≤ most }
     ensures few { result.1 ≤ length (G.marks g.old) }
     ensures end { result.1 < most → result.0 ≡ 0 }
@@ -126,7 +132,8 @@ pub fn scan_some<G: Traced>(g: &mut G, grey: u32, most: u32) -> (u32, u32)
 fn mark_roots<G: Traced>(g: &mut G, roots: &[u32], grey: &mut u32)
     requires roots { All (λ y. (1 ≤ y) × G.is_row (G.kept g.old) y) roots.now }
     ensures kept { G.kept g.new ≡ G.kept g.old }
-    ensures greyed { Greyed (Contains roots.now) (G.marks g.old) (G.links g.old) grey.old (G.marks g.new) (G.links g.new) grey.new }
+    ensures greyed { Greyed (Contains roots.now) (G.marks g.old)
+        (G.links g.old) grey.old (G.marks g.new) (G.links g.new) grey.new }
 {
     for y in roots {
         visit(g, *y, grey);
@@ -139,7 +146,8 @@ pub fn mark_from<G: Traced>(g: &mut G, roots: &[u32])
     requires roots { All (λ y. (1 ≤ y) × G.is_row (G.kept g.old) y) roots.now }
     requires shut { IsClosed (G.leads (G.kept g.old)) (G.marks g.old) }
     ensures kept { G.kept g.new ≡ G.kept g.old }
-    ensures marks { (k : ℕ) → HasMark (G.marks g.new) k ↔ (HasMark (G.marks g.old) k ⊎ Reached (Contains roots.now) (G.leads (G.kept g.old)) k) }
+    ensures marks { (k : ℕ) → HasMark (G.marks g.new) k
+        ↔ (HasMark (G.marks g.old) k ⊎ Reached (Contains roots.now) (G.leads (G.kept g.old)) k) }
     ensures closed { IsClosed (G.leads (G.kept g.new)) (G.marks g.new) }
 {
     let mut grey = 0;

@@ -114,7 +114,8 @@ module _ (h : Finished) (past : List Noted) (old : Replay) (k : Cycle) (index : 
       made = abandoning k index says.Ok
 
       named : AddsLawful managed_rules drawing old.draw draw (as_side old.managed) (as_side managed) made nothing
-      named = subst (λ n. AddsLawful managed_rules drawing old.draw draw (as_side old.managed) (as_side managed) (abandoning (record { 0 = n }) index says.Ok) nothing) (abandon_open.number ∙ same) adds
+      named = subst (λ n. AddsLawful managed_rules drawing old.draw draw (as_side old.managed) (as_side managed) (abandoning (record { 0 = n }) index says.Ok) nothing)
+          (abandon_open.number ∙ same) adds
 
       lawful : IsMadeIn s.managed made nothing managed.state
       lawful = plain-made s.managed made nothing refl old.managed.state managed.state may.sides.managed.state named.goes
@@ -133,8 +134,10 @@ module _ (h : Finished) (past : List Noted) (old : Replay) (k : Cycle) (index : 
         replies = replies_by s (length past) made nothing refl lawful.lawful (subst (AbandonData s.control.stand) same abandon_open.data_is);
         sides = record {
           drawn = counted past old.draw draw (as_side old.managed) (as_side managed) made nothing may.sides.drawn named;
-          managed = managed-longer past made nothing refl refl old.managed managed draw.counter may.sides.managed named.threads named.draws.below (counted past old.draw draw (as_side old.managed) (as_side managed) made nothing may.sides.drawn named) lawful;
-          peers = peers-longer past made nothing refl refl old.peers may.sides.peers (subst (λ z. LeftFits z (length (candidates_of (state_of longer).managed.managed)) old.peers.reserve.left) (sym idle) tt);
+          managed = managed-longer past made nothing refl refl old.managed managed draw.counter may.sides.managed named.threads named.draws.below
+              (counted past old.draw draw (as_side old.managed) (as_side managed) made nothing may.sides.drawn named) lawful;
+          peers = peers-longer past made nothing refl refl old.peers may.sides.peers
+              (subst (λ z. LeftFits z (length (candidates_of (state_of longer).managed.managed)) old.peers.reserve.left) (sym idle) tt);
           stores = stores-longer past made nothing refl refl old.readers refl refl may.sides.stores;
           cycle = idle;
         };

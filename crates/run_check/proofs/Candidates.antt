@@ -8,7 +8,8 @@ use Rattle.joint_machine.specs.declared.names.HNum.{HNum}
 use Rattle.joint_machine.specs.Components.{Rises}
 use Rattle.joint_machine.specs.Managed.{Managed, OpenCycle, handle_of, candidates_of, IsBridge as IsBridgeRow}
 use Rattle.joint_machine.proofs.HeapLemmas.{candidates_of-open}
-use Rattle.joint_machine.proofs.Members.{All-members, Contains-at, Contains-cons_cases, Contains-flat_map, Contains-flat_map_cases, Contains-here, Contains-map, Contains-nil, Contains-there, Rises-one, at-Contains}
+use Rattle.joint_machine.proofs.Members.{All-members, Contains-at, Contains-cons_cases, Contains-flat_map, Contains-flat_map_cases, Contains-here, Contains-map, Contains-nil, Contains-there}
+use Rattle.joint_machine.proofs.Members.{Rises-one, at-Contains}
 use Rattle.joint_laws.specs.ManagedInvariants.{IsManagedKept}
 use Rattle.bridge_graph.specs.declared.graph.Node.{Node}
 use Rattle.bridge_graph.specs.Parts.{Part, IsPart, numbers_of}
@@ -39,7 +40,8 @@ as_many (n ∷ ns) = one_more n ns n.handle (as_many ns)
 abbrev Paired : List Node → ℕ → HNum → List ℕ → Type 0
 Paired ns i h rows = (k : Node) × Contains ns k × (k.handle ≡ Some h) × (slice_get rows i ≡ Some k.number.0)
 
-pair_first : (n : Node) (ns : List Node) (h : HNum) (o : Option HNum) → n.handle ≡ o → ((i : ℕ) → slice_get (handles_of ns) i ≡ Some h → Paired ns i h (rows_of ns)) → (i : ℕ) → slice_get (option_to_list o ++ handles_of ns) i ≡ Some h
+pair_first : (n : Node) (ns : List Node) (h : HNum) (o : Option HNum) → n.handle ≡ o
+    → ((i : ℕ) → slice_get (handles_of ns) i ≡ Some h → Paired ns i h (rows_of ns)) → (i : ℕ) → slice_get (option_to_list o ++ handles_of ns) i ≡ Some h
     → Paired (n ∷ ns) i h (row_of o n.number.0 ++ rows_of ns)
 pair_first n ns h None q later i e = let t = later i e in (t.0, Contains-there t.0 n ns t.1, t.2, t.3)
 pair_first n ns h (Some x) q later zero e = (n, Contains-here n ns, q ∙ e, refl)
@@ -91,7 +93,8 @@ module _ (s : Managed) (c : OpenCycle) (g : Part) (k : IsManagedKept s) (opened 
       let t = r.bridge_from m b in
       let n = r.bridge_back t.0 t.1 (subst (λ (z : ℕ). Contains c.dead z × IsBridgeRow s z) (sym t.2) b) in
       let e : n.node.number.0 ≡ m = sym (number_is t.0 n.node n.there) ∙ t.2 in
-      subst (Contains (rows_of g.nodes)) e (Contains-flat_map (λ (n : Node). row_of n.handle n.number.0) g.nodes n.node n.node.number.0 (Contains-at g.nodes t.0 n.node n.there) (row_to n.node.handle n.node.number.0 n.held))
+      subst (Contains (rows_of g.nodes)) e (Contains-flat_map (λ (n : Node). row_of n.handle n.number.0) g.nodes n.node n.node.number.0
+      (Contains-at g.nodes t.0 n.node n.there) (row_to n.node.handle n.node.number.0 n.held))
 
   rows_are : rows_of g.nodes ≡ candidates_of s
   rows_are = Rises-one (rows_of g.nodes) c.candidates (rises g.nodes p.rising) (k.dead c opened).rise into from ∙ sym (candidates_of-open s c opened)

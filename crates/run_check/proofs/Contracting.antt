@@ -109,11 +109,13 @@ module _ (h : Finished) (past : List Noted) (old : Replay) (k : Cycle) (index : 
 
       may_contract : MayContract (with_pins s.managed no_pins) now.snap.cycle comps heavy l.pairs
       may_contract = snapped_may_be_contracted (pinned s no_pins) (past_kept h past may.next.so_far) now.snap now.stood comps heavy l.pairs
-          (λ c e. subst (λ (z : OpenCycle). IsDeadContraction (with_pins s.managed no_pins).managed z.dead comps heavy l.pairs) (same_Some here.cycle c (sym here.opened ∙ e)) (contraction_to s.managed no_pins here.cycle.dead comps heavy l.pairs exact))
+          (λ c e. subst (λ (z : OpenCycle). IsDeadContraction (with_pins s.managed no_pins).managed z.dead comps heavy l.pairs)
+          (same_Some here.cycle c (sym here.opened ∙ e)) (contraction_to s.managed no_pins here.cycle.dead comps heavy l.pairs exact))
 
       by_cycle : IsContractedBy old.managed.state may_contract.cycle sccs xrefs comps heavy l.pairs
       by_cycle = record {
-        may = subst (λ (z : ManagedReplay). MayContract z may_contract.cycle.number comps heavy l.pairs) (sym may.sides.managed.state) (subst (λ n. MayContract (with_pins s.managed no_pins) n comps heavy l.pairs) (sym may_contract.open_cycle.1) may_contract);
+        may = subst (λ (z : ManagedReplay). MayContract z may_contract.cycle.number comps heavy l.pairs) (sym may.sides.managed.state)
+            (subst (λ n. MayContract (with_pins s.managed no_pins) n comps heavy l.pairs) (sym may_contract.open_cycle.1) may_contract);
         components = (let a = length-map l.comps (map (number_at o.graph)) in let b = length-map w.heavy (number_at o.graph) in omega (arith, a, b, w.components, w.many));
         references = w.references;
       }
@@ -165,7 +167,10 @@ module _ (h : Finished) (past : List Noted) (old : Replay) (k : Cycle) (index : 
           graph = subst (λ z. IsDeadGraph z here.cycle.dead o.graph) (sym objects) here.graph;
           part = here.part;
           count = here.count;
-          stands = subst (λ st. HasCycle st kept) (sym stood) (now.names, record { listing = l; there = refl; listed = w.listed; comps_same = refl; pairs_same = refl; heavy_count = length-map w.heavy (number_at o.graph) ∙ w.many });
+          stands = subst (λ st. HasCycle st kept) (sym stood) (
+            now.names,
+            record { listing = l; there = refl; listed = w.listed; comps_same = refl; pairs_same = refl; heavy_count = length-map w.heavy (number_at o.graph) ∙ w.many },
+          );
           next = subst (λ st. IsAtHandle o.graph.nodes o.place (next_place st)) (sym stood) (subst (λ st. IsAtHandle o.graph.nodes o.place (next_place st)) now.stood here.next);
           given = subst (λ st. answers_of o.alive.values ≡ given_at st) (sym stood) (subst (λ st. answers_of o.alive.values ≡ given_at st) now.stood here.given);
           room = here.room;
@@ -176,8 +181,10 @@ module _ (h : Finished) (past : List Noted) (old : Replay) (k : Cycle) (index : 
           replies = replies_by s (length past) made told refl lawful.lawful (subst (λ st. ContractData st k.0) (sym now.stood) (sym now.names ∙ names));
           sides = record {
             drawn = counted past old.draw draw (as_side old.managed) (as_side managed) made told may.sides.drawn adds;
-            managed = managed-longer past made told refl refl old.managed managed draw.counter may.sides.managed adds.threads adds.draws.below (counted past old.draw draw (as_side old.managed) (as_side managed) made told may.sides.drawn adds) lawful;
-            peers = peers-longer past made told refl refl old.peers may.sides.peers (subst (λ z. LeftFits z (length (candidates_of (state_of longer).managed.managed)) old.peers.reserve.left) (sym stood) tt);
+            managed = managed-longer past made told refl refl old.managed managed draw.counter may.sides.managed adds.threads adds.draws.below
+                (counted past old.draw draw (as_side old.managed) (as_side managed) made told may.sides.drawn adds) lawful;
+            peers = peers-longer past made told refl refl old.peers may.sides.peers
+                (subst (λ z. LeftFits z (length (candidates_of (state_of longer).managed.managed)) old.peers.reserve.left) (sym stood) tt);
             stores = stores-longer past made told refl refl old.readers refl refl may.sides.stores;
             cycle = follows;
           };

@@ -64,7 +64,8 @@ module _ (s : Managed) (dead : List ℕ) (g : Part) (k : IsManagedKept s) (p : I
   -- the handle of a node is the one that its row holds
   pub handle_at_node : (x : ℕ) (n : Node) → slice_get g.nodes x ≡ Some n → handle_of s (number_at g x) ≡ handle_number n.handle
   handle_at_node x n e =
-      let t = get_back (handle_of s) dead x (handle_number n.handle) (subst (λ os. slice_get os x ≡ Some (handle_number n.handle)) d.handles (get_map (λ (n : Node). handle_number n.handle) g.nodes x n e)) in
+      let t = get_back (handle_of s) dead x (handle_number n.handle)
+      (subst (λ os. slice_get os x ≡ Some (handle_number n.handle)) d.handles (get_map (λ (n : Node). handle_number n.handle) g.nodes x n e)) in
       let same : t.0 ≡ number_at g x = same_Some _ _ (sym t.1 ∙ dead_at x (slice_get_within g.nodes x n e)) in
       subst (λ (m : ℕ). handle_of s m ≡ handle_number n.handle) same t.2
 

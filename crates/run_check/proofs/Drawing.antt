@@ -61,5 +61,6 @@ may_draw past r t o f few e = record {
 }
 
 -- the count rises by one
-pub counted : (past : List Noted) (a b : Recorder) (old new : Side ManagedReplay) (m : Made) (told : Told) → a.counter ≡ length past → AddsLawful managed_rules drawing a b old new m told → b.counter ≡ suc (length past)
+pub counted : (past : List Noted) (a b : Recorder) (old new : Side ManagedReplay) (m : Made) (told : Told)
+    → a.counter ≡ length past → AddsLawful managed_rules drawing a b old new m told → b.counter ≡ suc (length past)
 counted past a b old new m told e w = (let d = w.draws.adds.drawn.0.1 in omega (arith, d, e))

@@ -35,7 +35,8 @@ pub resolution_stands : (ms ps : List ℕ) (s : Span) (answers : List Answer) (f
 unfolding freed_of
 resolution_stands ms ps s answers freed w = subst (IsStretch ms s) (sym (ap freed_of w.is)) w.stands
 
-pub snap_named : (ms ps : List ℕ) (s : Span) (freed candidates dead : List ℕ) → Rises freed → IsStretch ms s freed → TellsNamed ms ps (says.Snapped (length candidates) s) (snap_of freed candidates dead)
+pub snap_named : (ms ps : List ℕ) (s : Span) (freed candidates dead : List ℕ) → Rises freed
+    → IsStretch ms s freed → TellsNamed ms ps (says.Snapped (length candidates) s) (snap_of freed candidates dead)
 snap_named ms ps s freed candidates dead r w = record { freed = freed; candidates = candidates; dead = dead; is = refl; counted = refl; rises = r; stands = w }
 
 pub snap_stands : (ms ps : List ℕ) (n : ℕ) (s : Span) (freed candidates dead : List ℕ) → TellsNamed ms ps (says.Snapped n s) (snap_of freed candidates dead) → IsStretch ms s freed

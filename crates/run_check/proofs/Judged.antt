@@ -93,7 +93,8 @@ module _ (h : Finished) (past : List Noted) (e : Entry) (old : Replay) (w : IsJu
     ends-within = on.ends
 
     pub count-low : mid.readers.counts.managed < 2 ^ 63
-    count-low = (let a = counts-are.managed in let b = managed-few past in let c : length past < 4611686018427387904 = w.so_far.few in let goal : mid.readers.counts.managed < 9223372036854775808 = omega (arith, a, b, c) in goal)
+    count-low = (let a = counts-are.managed in let b = managed-few past in let c : length past < 4611686018427387904 = w.so_far.few in
+        let goal : mid.readers.counts.managed < 9223372036854775808 = omega (arith, a, b, c) in goal)
 
     pub has-count : HasCount mid.turns.stand
     has-count = subst (λ (z : Callers). HasCount z.stand) (sym (r.rest.turns ∙ turns-are)) (count-few s old.cycle w.follows.sides.cycle)

@@ -44,7 +44,8 @@ module _ (past : List Noted) (m : Made) (told : Told) (p : is_peer_event m.calle
   pub control-next : next.control ≡ control_after here.control m.caller (length past) m.index m.op m.reply told
   control-next = ap (λ (z : Linkage). z.control) (after-other here note e)
 
-  pub managed-longer : (old new : ManagedModel) (after : ℕ) → ManagedFollows past old → new.threads ≡ old.threads → AllBelow new.entries after → after ≡ suc (length past) → IsMadeIn here.managed m told new.state → ManagedFollows (note ∷ past) new
+  pub managed-longer : (old new : ManagedModel) (after : ℕ) → ManagedFollows past old → new.threads ≡ old.threads
+      → AllBelow new.entries after → after ≡ suc (length past) → IsMadeIn here.managed m told new.state → ManagedFollows (note ∷ past) new
   managed-longer old new after f t b c w = record {
     threads = t ∙ f.threads;
     below = subst (AllBelow new.entries) c b;
@@ -60,7 +61,8 @@ module _ (past : List Noted) (m : Made) (told : Told) (p : is_peer_event m.calle
   }
 
   -- the pins and the cells, where the entry changes none
-  pub stores-longer : (x : Readers) → (managed_answer here.managed m.caller m.op told).state.managed.pins ≡ here.managed.managed.pins → (managed_answer here.managed m.caller m.op told).state.managed.cells ≡ here.managed.managed.cells
+  pub stores-longer : (x : Readers) → (managed_answer here.managed m.caller m.op told).state.managed.pins ≡ here.managed.managed.pins
+      → (managed_answer here.managed m.caller m.op told).state.managed.cells ≡ here.managed.managed.cells
       → StoresFollow past x → StoresFollow (note ∷ past) x
   stores-longer x ps cs f = record {
     nine = f.nine;

@@ -44,12 +44,15 @@ line-notices s t (act.Read k) e = absurd (true≢false e)
 line-notices s t (act.Await k) e = absurd (true≢false e)
 line-notices s t a e = (line-leaves s t a tt e).notices
 
-stepped-few : (s : ManagedReplay) (c : Thread) (o : Op) (told : Told) → IsReplayKept s → IsEvent c o → is_peer_event c o ≡ false → is_read o ≡ false → IsStepped o → ManagedAllows s o told → AreFew s.managed → AreFew (managed_answer s c o told).state.managed
+stepped-few : (s : ManagedReplay) (c : Thread) (o : Op) (told : Told) → IsReplayKept s → IsEvent c o → is_peer_event c o ≡ false
+    → is_read o ≡ false → IsStepped o → ManagedAllows s o told → AreFew s.managed → AreFew (managed_answer s c o told).state.managed
 stepped-few s c o told k v p e w a l = few-same s.managed (managed_answer s c o told).state.managed (stepped-leaves s c o told w e).notices (stepped-goes_on s c o told k v p w a).freed l
 
-few-on : (s : ManagedReplay) (c : Thread) (o : Op) (told : Told) → IsReplayKept s → IsEvent c o → is_peer_event c o ≡ false → is_read o ≡ false → ManagedAllows s o told → AreFew s.managed → AreFew (managed_answer s c o told).state.managed
+few-on : (s : ManagedReplay) (c : Thread) (o : Op) (told : Told) → IsReplayKept s → IsEvent c o → is_peer_event c o ≡ false
+    → is_read o ≡ false → ManagedAllows s o told → AreFew s.managed → AreFew (managed_answer s c o told).state.managed
 few-on s c (op.Line x) told k v p e a l =
-    few-same s.managed (managed_answer s c (op.Line x) told).state.managed (line-notices s.managed (thread_number c) x e) (managed_line-goes_on s.managed (thread_number c) x k.managed.places k.managed.cells).freed l
+    few-same s.managed (managed_answer s c (op.Line x) told).state.managed (line-notices s.managed (thread_number c) x e)
+    (managed_line-goes_on s.managed (thread_number c) x k.managed.places k.managed.cells).freed l
 few-on s c (op.Snap z) (snap_of freed candidates dead) k v p e a l = (let q = length-append s.managed.heap.freed freed in omega (arith, q, l))
 few-on s c (op.Snap z) told k v p e a l = absurd a
 few-on s c (op.Contract z) (contraction_of comps heavy xrefs) k v p e a l = l
@@ -66,12 +69,14 @@ few-on s c (op.Refused z) (phase_of phase) k v p e a l = l
 few-on s c (op.Refused z) told k v p e a l = absurd a
 few-on s c o told k v p e a l = stepped-few s c o told k v p e tt a l
 
-few-by : (s : Linkage) (n : Noted) (b : Bool) → is_peer_event n.entry.made.caller n.entry.made.op ≡ b → IsReplayKept s.managed → IsEvent n.entry.made.caller n.entry.made.op → is_read n.entry.made.op ≡ false → SideLawful b s n.entry.made n.told
+few-by : (s : Linkage) (n : Noted) (b : Bool) → is_peer_event n.entry.made.caller n.entry.made.op ≡ b → IsReplayKept s.managed
+    → IsEvent n.entry.made.caller n.entry.made.op → is_read n.entry.made.op ≡ false → SideLawful b s n.entry.made n.told
     → AreFew s.managed.managed → AreFew (managed_after s.managed n.entry.made n.told b).managed
 few-by s n true p k v e w l = l
 few-by s n false p k v e w l = few-on s.managed n.entry.made.caller n.entry.made.op n.told k v p e w.allowed l
 
-fit-on : (h : Finished) (past : List Noted) (n : Noted) → AllInOrder h (n ∷ past) → (b : Bool) → is_read n.entry.made.op ≡ b → NoticesFit (state_of past).managed.managed → NoticesFit (state_of (n ∷ past)).managed.managed
+fit-on : (h : Finished) (past : List Noted) (n : Noted) → AllInOrder h (n ∷ past) → (b : Bool) → is_read n.entry.made.op ≡ b
+    → NoticesFit (state_of past).managed.managed → NoticesFit (state_of (n ∷ past)).managed.managed
 fit-on h past n o true e w = subst (λ (z : Linkage). NoticesFit z.managed.managed) (sym (after-read (state_of past) n e)) (record { taken = w.taken; few = w.few })
 fit-on h past n o false e w =
     let s = state_of past in

@@ -35,7 +35,8 @@ told_plainly stand _ told n = tt
 pub one_reply : (s : Linkage) (k : ℕ) (m : Made) (r : Reply) (t u : Told) → IsNoRefusal m.op → IsTurn s m → CitesSo s m → RepliesSo s (record { entry = numbered k (answered m r); told = t })
     → RepliesSo s (record { entry = numbered k m; told = u }) → (r ≡ m.reply) × (t ≡ u)
 one_reply s k m r t u n turn cites a b = replies_one s m.caller m.index m.op m.cites k k r m.reply t u n
-    ((order_tested s (record { entry = numbered k (answered m r); told = t })).0 (record { turn = record { event = turn.event; line = turn.line; short = turn.short; turn = turn.turn }; cites = cites; replies = a }))
+    ((order_tested s (record { entry = numbered k (answered m r); told = t })).0
+    (record { turn = record { event = turn.event; line = turn.line; short = turn.short; turn = turn.turn }; cites = cites; replies = a }))
     ((order_tested s (record { entry = numbered k m; told = u })).0 (record { turn = turn; cites = cites; replies = b }))
 
 -- what a call of a side has made is the next entry with its own reply, and the replay follows the past that is longer
@@ -75,7 +76,8 @@ module _ (h : Finished) (past : List Noted) (m : Made) (r : Reply) (told : Told)
       differ (record { reply = one.0; names = subst (λ z. NamesSo h (state_of past).managed.managed (next_noted past m z)) (sym one.1) s.names })
 
 -- the entry of a managed call is lawful on its own side
-pub replies_by : (s : Linkage) (k : ℕ) (m : Made) (told : Told) → is_peer_event m.caller m.op ≡ false → ManagedLawful s.managed m told → CallersData s m.caller m.op m.reply told → RepliesSo s (record { entry = numbered k m; told = told })
+pub replies_by : (s : Linkage) (k : ℕ) (m : Made) (told : Told) → is_peer_event m.caller m.op ≡ false → ManagedLawful s.managed m told
+    → CallersData s m.caller m.op m.reply told → RepliesSo s (record { entry = numbered k m; told = told })
 replies_by s k m told p l d = record { lawful = subst (λ b. SideLawful b s m told) (sym p) l; driven = d }
 
 -- what a call has made, and when its answer is yes
@@ -86,6 +88,7 @@ pub record Judges (h : Finished) (past : List Noted) (m : Made) (old new : Repla
   pub if_true : b ≡ true → IsSame h past m reply told
   pub if_same : IsSame h past m reply told → b ≡ true
 
-pub answers_rightly : (h : Finished) (m : Made) (old new : Replay) (b : Bool) → is_read m.op ≡ false → IsNoRefusal m.op → ((past : List Noted) → MayReply h past old m → Judges h past m old new b) → AnswersRightly h m old new b
+pub answers_rightly : (h : Finished) (m : Made) (old new : Replay) (b : Bool) → is_read m.op ≡ false → IsNoRefusal m.op
+    → ((past : List Noted) → MayReply h past old m → Judges h past m old new b) → AnswersRightly h m old new b
 answers_rightly h m old new true e n j = λ past may. let w = j past may in (w.told, is_right h past m w.reply w.told old new may e n w.made (w.if_true refl))
 answers_rightly h m old new false e n j = λ past may. let w = j past may in is_wrong h past m w.reply w.told old new may e n w.made.replies (λ q. true≢false (sym (w.if_same q)))

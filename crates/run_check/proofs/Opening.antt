@@ -96,7 +96,8 @@ module _ (h : Finished) (past : List Noted) (old : Replay) (k : Cycle) (index : 
   pub snap_other : (k.0 ≡ old.managed.state.managed.cycles + 1 → ⊥) → MayNotReply h past (snapping k index reply)
   snap_other differ u q = differ (snap_next s.managed k u q.replies.lawful.allowed ∙ ap (λ n. n + 1) (sym same-cycles))
 
-  module _ (is_next : k.0 ≡ old.managed.state.managed.cycles + 1) (draw : Recorder) (managed : ManagedModel) (pins : List (Option ℕ)) (freed candidates dead : List ℕ) (threads : managed.threads ≡ old.managed.threads)
+  module _ (is_next : k.0 ≡ old.managed.state.managed.cycles + 1) (draw : Recorder) (managed : ManagedModel)
+      (pins : List (Option ℕ)) (freed candidates dead : List ℕ) (threads : managed.threads ≡ old.managed.threads)
       (below : AllBelow managed.entries draw.counter) (one : draw.counter ≡ suc (length past)) (given : pins ≡ shown_pins old.readers.pins)
       (goes : GoesOn managed_rules old.managed.state (snap_made old.managed.state.managed index freed candidates) (kept_pins pins (snap_of freed candidates dead)) managed.state)
       (g : Part) (pictured : IsDeadGraph managed.state.managed dead g) (o : Kept) (opened : IsJustOpened o k (length candidates) g) where
@@ -153,8 +154,10 @@ module _ (h : Finished) (past : List Noted) (old : Replay) (k : Cycle) (index : 
       sides = record {
         drawn = one;
         managed = managed-longer past made told refl refl old.managed managed draw.counter may.sides.managed threads below one lawful;
-        peers = peers-longer past made told refl refl old.peers may.sides.peers (subst (λ z. LeftFits z (length (candidates_of (state_of longer).managed.managed)) old.peers.reserve.left) (sym stood) tt);
-        stores = stores-longer past made told refl refl kept refl refl (record { nine = may.sides.stores.nine; pins = may.sides.stores.pins; many = may.sides.stores.many; cells = may.sides.stores.cells });
+        peers = peers-longer past made told refl refl old.peers may.sides.peers
+            (subst (λ z. LeftFits z (length (candidates_of (state_of longer).managed.managed)) old.peers.reserve.left) (sym stood) tt);
+        stores = stores-longer past made told refl refl kept refl refl
+            (record { nine = may.sides.stores.nine; pins = may.sides.stores.pins; many = may.sides.stores.many; cells = may.sides.stores.cells });
         cycle = follows;
       };
       rest = record { turns = refl; counts = refl; owed = refl };
@@ -164,7 +167,8 @@ module _ (h : Finished) (past : List Noted) (old : Replay) (k : Cycle) (index : 
     snap_freed = ap (λ (z : ManagedReplay). z.managed.heap.freed) lawful.after
 
     pub snap_judges : (b : Bool) → (b ≡ true → (reply ≡ says_so) × StandsInList (managed_numbers h.freed_managed) (put_span s.managed.managed.heap.freed freed) managed.state.managed.heap.freed)
-        → (reply ≡ says_so → StandsInList (managed_numbers h.freed_managed) (put_span s.managed.managed.heap.freed freed) managed.state.managed.heap.freed → b ≡ true) → Judges h past (snapping k index reply) old new b
+        → (reply ≡ says_so → StandsInList (managed_numbers h.freed_managed) (put_span s.managed.managed.heap.freed freed) managed.state.managed.heap.freed → b ≡ true)
+        → Judges h past (snapping k index reply) old new b
     snap_judges b right back = record {
       reply = says_so;
       told = told;
@@ -174,7 +178,8 @@ module _ (h : Finished) (past : List Noted) (old : Replay) (k : Cycle) (index : 
         names = record {
           freed = subst (λ r. TellsNamed (managed_numbers h.freed_managed) (peer_numbers h.freed_peers) r told) (sym (right e).0)
               (snap_named (managed_numbers h.freed_managed) (peer_numbers h.freed_peers) (put_span s.managed.managed.heap.freed freed) freed candidates dead lawful.lawful.allowed.freed_rise
-              (put_stands (managed_numbers h.freed_managed) s.managed.managed.heap.freed freed (subst (StandsInList (managed_numbers h.freed_managed) (put_span s.managed.managed.heap.freed freed)) snap_freed (right e).1)));
+              (put_stands (managed_numbers h.freed_managed) s.managed.managed.heap.freed freed
+              (subst (StandsInList (managed_numbers h.freed_managed) (put_span s.managed.managed.heap.freed freed)) snap_freed (right e).1)));
           taken = λ span q. absurd (let f = sym (right e).0 ∙ q in cc);
         };
       };

@@ -53,7 +53,8 @@ module _ (past : List Noted) (n : Noted) where
   keep-none : NoneNew → ((j : ℕ) → WaitsForSnap past j → ⊥) → (j : ℕ) → WaitsForSnap (n ∷ past) j → ⊥
   keep-none new w j x = elim (waits-cases j x) [ inl r ↦ new j r.0 r.1 x | inr y ↦ w j y ]
 
-  keep : ((j : ℕ) → n.entry.made.op ≡ op.Snap record { 0 = j } → ⊥) → NoneNew → (state_of (n ∷ past)).managed.managed.cycle ≡ (state_of past).managed.managed.cycle → (state_of (n ∷ past)).managed.managed.cycles ≡ (state_of past).managed.managed.cycles
+  keep : ((j : ℕ) → n.entry.made.op ≡ op.Snap record { 0 = j } → ⊥) → NoneNew → (state_of (n ∷ past)).managed.managed.cycle ≡ (state_of past).managed.managed.cycle
+      → (state_of (n ∷ past)).managed.managed.cycles ≡ (state_of past).managed.managed.cycles
       → (owed : Option Cycle) → OwedFollows past owed → OwedFollows (n ∷ past) owed
   keep deny new same count None w = keep-none new w
   keep deny new same count (Some k) w = record {
@@ -96,9 +97,16 @@ module _ (past : List Noted) (n : Noted) where
     named : (c : Cycle) (j : ℕ) → n.entry.made.reply ≡ says.Pending c → n.entry.made.reply ≡ says.Pending record { 0 = j } → j ≡ c.0
     named c j q r = sym (ap cycle-in r) ∙ ap cycle-in q
 
-    waits-now : (c : Cycle) → n.entry.made.reply ≡ says.Pending c → (state_of past).managed.managed.cycle ≡ None → c.0 ≡ (state_of past).managed.managed.cycles + 1 → (owed : Option Cycle) → OwedFollows past owed → IsOwed (n ∷ past) c.0
+    waits-now : (c : Cycle) → n.entry.made.reply ≡ says.Pending c → (state_of past).managed.managed.cycle ≡ None
+        → c.0 ≡ (state_of past).managed.managed.cycles + 1 → (owed : Option Cycle) → OwedFollows past owed → IsOwed (n ∷ past) c.0
     waits-now c q shut next owed w = record {
-      waits = record { entry = n; there = inl refl; read = e; reply = q; unsnapped = λ m i r. elim i [ inl same ↦ read-no c.0 (ap (λ (z : Noted). z.entry.made.op) same ∙ r) | inr j ↦ (let l = snapped-few c.0 (m, j, r) in absurd (omega (arith, l, next))) ] };
+      waits = record {
+        entry = n;
+        there = inl refl;
+        read = e;
+        reply = q;
+        unsnapped = λ m i r. elim i [ inl same ↦ read-no c.0 (ap (λ (z : Noted). z.entry.made.op) same ∙ r) | inr j ↦ (let l = snapped-few c.0 (m, j, r) in absurd (omega (arith, l, next))) ];
+      };
       shut = shut-same ∙ shut;
       next = next ∙ sym (ap (λ z. z + 1) count-same);
       alone = λ j x. elim (waits-cases j x) [ inl r ↦ named c j q r.1 | inr y ↦ before owed w j y ];
@@ -108,17 +116,20 @@ module _ (past : List Noted) (n : Noted) where
         before None w j y = absurd (w j y)
         before (Some k) w j y = (let a = w.alone j y in let b = w.next in omega (arith, a, b, next))
 
-    pending-more : (c : Cycle) → n.entry.made.reply ≡ says.Pending c → (owed : Option Cycle) → OwedFollows past owed → OwedFollows (n ∷ past) (if nat_lt (state_of past).managed.managed.cycles c.0 then Some c else owed)
+    pending-more : (c : Cycle) → n.entry.made.reply ≡ says.Pending c → (owed : Option Cycle) → OwedFollows past owed
+        → OwedFollows (n ∷ past) (if nat_lt (state_of past).managed.managed.cycles c.0 then Some c else owed)
     pending-more c q owed w = by (nat_lt (state_of past).managed.managed.cycles c.0) refl (pending c q)
       where
-        by : (b : Bool) → nat_lt (state_of past).managed.managed.cycles c.0 ≡ b → Snapped past c.0 ⊎ (((state_of past).managed.managed.cycle ≡ None) × (c.0 ≡ (state_of past).managed.managed.cycles + 1)) → OwedFollows (n ∷ past) (if b then Some c else owed)
+        by : (b : Bool) → nat_lt (state_of past).managed.managed.cycles c.0 ≡ b → Snapped past c.0
+            ⊎ (((state_of past).managed.managed.cycle ≡ None) × (c.0 ≡ (state_of past).managed.managed.cycles + 1)) → OwedFollows (n ∷ past) (if b then Some c else owed)
         by true t (inl x) = (let l = snapped-few c.0 x in let m = ltb-true (state_of past).managed.managed.cycles c.0 t in absurd (omega (arith, l, m)))
         by true t (inr x) = waits-now c q x.0 x.1 owed w
         by false t (inl x) = keep read-no (λ j r p y. y.unsnapped x.0 (inr x.1) (x.2 ∙ ap (λ z. op.Snap record { 0 = z }) (sym (named c j q p)))) shut-same count-same owed w
         by false t (inr x) = absurd (true≢false (sym (lt-ltb (state_of past).managed.managed.cycles c.0 (let z = x.1 in omega (arith, z))) ∙ t))
 
     -- any reply
-    read-more : (r : Reply) → n.entry.made.reply ≡ r → (owed : Option Cycle) → OwedFollows past owed → OwedFollows (n ∷ past) (owed_after (state_of past).managed.managed.cycles (op.Line (act.Read record { 0 = 0 })) r owed)
+    read-more : (r : Reply) → n.entry.made.reply ≡ r → (owed : Option Cycle) → OwedFollows past owed
+        → OwedFollows (n ∷ past) (owed_after (state_of past).managed.managed.cycles (op.Line (act.Read record { 0 = 0 })) r owed)
     read-more (says.Pending c) q owed w = pending-more c q owed w
     read-more r q owed w = keep read-no (λ j x p y. absurd (let f = sym q ∙ p in cc)) shut-same count-same owed w
 

@@ -44,7 +44,8 @@ module _ (s : ManagedReplay) (m : Made) (told : Told) (f : is_pinned m.op ≡ fa
   pub pins-stay : is_read m.op ≡ false → (managed_answer s m.caller m.op told).state.managed.pins ≡ s.managed.pins
   pins-stay e = ap (λ (z : Answered ManagedReplay). z.state.managed.pins) (same-but-pins e)
 
-  bare-next : IsOwnLawful bare m told → with_pins (managed_answer (with_pins s (pins_told told)) m.caller m.op (bare_told told)).state no_pins ≡ with_pins (managed_answer bare m.caller m.op told).state no_pins
+  bare-next : IsOwnLawful bare m told → with_pins (managed_answer (with_pins s (pins_told told)) m.caller m.op (bare_told told)).state no_pins ≡ with_pins
+      (managed_answer bare m.caller m.op told).state no_pins
   bare-next w = let t = w.tells ∙ f in λ i. with_pins (managed_answer (with_pins s (plain_pins told t i)) m.caller m.op (plain_told told t i)).state no_pins
 
   bare-made : (new : ManagedReplay) → GoesOn managed_rules bare m told new → IsMadeIn s m told new
@@ -60,9 +61,11 @@ module _ (s : ManagedReplay) (m : Made) (told : Told) (f : is_pinned m.op ≡ fa
   plain-made old new e g = bare-made new (subst (λ z. GoesOn managed_rules z m told new) e g)
 
 -- a snap, to which the state's own pins were given
-pub snap-made : (s : ManagedReplay) (m : Made) (told : Told) (pins : List (Option ℕ)) (old new : ManagedReplay) → old ≡ with_pins s no_pins → pins ≡ s.managed.pins → GoesOn managed_rules old m (kept_pins pins told) new → IsMadeIn s m told new
+pub snap-made : (s : ManagedReplay) (m : Made) (told : Told) (pins : List (Option ℕ)) (old new : ManagedReplay)
+    → old ≡ with_pins s no_pins → pins ≡ s.managed.pins → GoesOn managed_rules old m (kept_pins pins told) new → IsMadeIn s m told new
 snap-made s m told pins old new e p g =
-    let h : GoesOn managed_rules (with_pins s no_pins) m (kept_pins s.managed.pins told) new = subst (λ z. GoesOn managed_rules (with_pins s no_pins) m (kept_pins z told) new) p (subst (λ z. GoesOn managed_rules z m (kept_pins pins told) new) e g) in
+    let h : GoesOn managed_rules (with_pins s no_pins) m (kept_pins s.managed.pins told) new = subst
+    (λ z. GoesOn managed_rules (with_pins s no_pins) m (kept_pins z told) new) p (subst (λ z. GoesOn managed_rules z m (kept_pins pins told) new) e g) in
     record { lawful = h.lawful.1.lawful; after = h.state }
 
 -- a `take`, to which its thread's own pin was given
@@ -77,10 +80,12 @@ take-alike s pins t v (Some x) = record { reply = refl; state = refl }
 take-same : (s : Managed) (pins : List (Option ℕ)) (t v : ℕ) → slot pins t ≡ slot s.pins t → TakesAlike s pins (pin_taken (record s { pins = pins }) t v) (pin_taken s t v)
 take-same s pins t v e = subst (λ o. TakesAlike s pins (take_by (record s { pins = pins }) t v o) (take_by s t v (slot s.pins t))) (sym e) (take-alike s pins t v (slot s.pins t))
 
-pub take-made : (s : ManagedReplay) (c : Thread) (index : ℕ) (v : Var) (r : Reply) (pins : List (Option ℕ)) (old new : ManagedReplay) → old ≡ with_pins s no_pins → slot pins (thread_number c) ≡ slot s.managed.pins (thread_number c)
+pub take-made : (s : ManagedReplay) (c : Thread) (index : ℕ) (v : Var) (r : Reply) (pins : List (Option ℕ)) (old new : ManagedReplay)
+    → old ≡ with_pins s no_pins → slot pins (thread_number c) ≡ slot s.managed.pins (thread_number c)
     → GoesOn managed_rules old (step_made c index (take_op v) r None) (kept_pins pins nothing) new → IsMadeIn s (step_made c index (take_op v) r None) nothing new
 take-made s c index v r pins old new e p g =
-    let h : GoesOn managed_rules (with_pins s no_pins) (step_made c index (take_op v) r None) (kept_pins pins nothing) new = subst (λ z. GoesOn managed_rules z (step_made c index (take_op v) r None) (kept_pins pins nothing) new) e g in
+    let h : GoesOn managed_rules (with_pins s no_pins) (step_made c index (take_op v) r None) (kept_pins pins nothing) new = subst
+    (λ z. GoesOn managed_rules z (step_made c index (take_op v) r None) (kept_pins pins nothing) new) e g in
     let t = take-same s.managed pins (thread_number c) (place (thread_number c) v.0) p in
     record {
       lawful = record { allowed = tt; replies = h.lawful.1.lawful.replies ∙ t.reply };

@@ -93,7 +93,8 @@ module _ (s : Linkage) (k : IsPastKept (pinned s no_pins)) where
         let p = place-handle o.graph.nodes o.place (next_place s.control.stand) w.next in
         ((λ e. are.each (next_place s.control.stand) h (sym p ∙ e)), λ c. p ∙ candidate (next_place s.control.stand) h c)
 
-    pub some-part : (next : Option HNum) → next ≡ handle_at o.graph.nodes o.place → (b : Bool) → b ≡ is_some s.peer.marking → IsPartOf s (record { candidates = o.candidates; next = next; marking = b })
+    pub some-part : (next : Option HNum) → next ≡ handle_at o.graph.nodes o.place → (b : Bool)
+        → b ≡ is_some s.peer.marking → IsPartOf s (record { candidates = o.candidates; next = next; marking = b })
     some-part next e b m = record {
       candidates = w.count ∙ sym (ap length (candidates_of-open s.managed.managed w.cycle w.opened));
       next = λ h. ((λ q. (next-so h).0 (sym e ∙ q)), λ c. e ∙ (next-so h).1 c);

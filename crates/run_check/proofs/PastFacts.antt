@@ -37,7 +37,8 @@ driver_is (M i) w = absurd w
 driver_is (P i) w = absurd w
 
 -- the driver's entry, by its event and what it cites
-pub driver_made : (s : Linkage) (m : Made) (o : Op) (cites : Option ℕ) → m.op ≡ o → (IsEvent m.caller o → IsDriver m.caller) → (CitesBy s C o m.cites → m.cites ≡ cites) → IsTurn s m → CitesSo s m → m ≡ step_made C m.index o m.reply cites
+pub driver_made : (s : Linkage) (m : Made) (o : Op) (cites : Option ℕ) → m.op ≡ o → (IsEvent m.caller o → IsDriver m.caller)
+    → (CitesBy s C o m.cites → m.cites ≡ cites) → IsTurn s m → CitesSo s m → m ≡ step_made C m.index o m.reply cites
 driver_made s m o cites e d q turn c =
     let t = driver_is m.caller (d (subst (IsEvent m.caller) e turn.event)) in
     let x = q (subst (λ z. CitesBy s z o m.cites) t (subst (λ z. CitesBy s m.caller z m.cites) e c)) in

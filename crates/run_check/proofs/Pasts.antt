@@ -31,11 +31,13 @@ pub known : (h : Finished) (past : List Noted) → IsSoFar h past → AreKnown p
 known h past s = pasts_known h past s.numbers s.order
 
 -- the entry is in order behind it
-pub in-order : (h : Finished) (past : List Noted) (m : Made) (told : Told) → IsNext h past m → RepliesBehind (is_read m.op) h past (next_noted past m told) → IsInOrderBehind h past (next_noted past m told)
+pub in-order : (h : Finished) (past : List Noted) (m : Made) (told : Told) → IsNext h past m
+    → RepliesBehind (is_read m.op) h past (next_noted past m told) → IsInOrderBehind h past (next_noted past m told)
 in-order h past m told w r = record { turn = w.turn; cites = w.cites; replies = r }
 
 -- the longer past is in order, and known
-pub order-more : (h : Finished) (past : List Noted) (m : Made) (told : Told) → IsNext h past m → RepliesBehind (is_read m.op) h past (next_noted past m told) → AllInOrder h (next_noted past m told ∷ past)
+pub order-more : (h : Finished) (past : List Noted) (m : Made) (told : Told) → IsNext h past m
+    → RepliesBehind (is_read m.op) h past (next_noted past m told) → AllInOrder h (next_noted past m told ∷ past)
 order-more h past m told w r = (in-order h past m told w r, w.so_far.order)
 
 pub known-more : (h : Finished) (past : List Noted) (m : Made) (told : Told) → IsNext h past m → RepliesBehind (is_read m.op) h past (next_noted past m told) → AreKnown (next_noted past m told ∷ past)

@@ -206,7 +206,8 @@ module _ (h : Finished) (past : List Noted) (m : Made) (old : Replay) (ready : M
       -- an event whose reply can have no span names nothing
       pub names_none : (HasSpan m.op → ⊥) → NamesSo h s.managed.managed here
       names_none out =
-          let plain : IsPlainEntry m.reply told = plain-entry s m.index m.reply m.cites m.caller m.op told out (subst (λ b. SideLawful b s m told) (sym peer) (subst (λ r. PeerLawful s.peer (record m { reply = r }) told) same by_side)) in
+          let plain : IsPlainEntry m.reply told = plain-entry s m.index m.reply m.cites m.caller m.op told out
+          (subst (λ b. SideLawful b s m told) (sym peer) (subst (λ r. PeerLawful s.peer (record m { reply = r }) told) same by_side)) in
           record { freed = plain-named (managed_numbers h.freed_managed) (peer_numbers h.freed_peers) m.reply told plain; taken = λ span e. absurd (subst IsPlain e plain.plain) }
 
 -- the answer of a call that compares its own reply

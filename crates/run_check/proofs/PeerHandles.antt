@@ -347,7 +347,8 @@ module _ (h : Finished) (m : Made) (old : Replay) (k : Cycle) (is : m.op ≡ op.
     clear-answers new p b adds keeps there rest first reserve same =
         compared h m old new says.Ok b same
         (λ past ready e. (let a = clear-at past ready in
-        let stated : DriverData (state_of past).control.stand (state_of past).managed.managed (state_of past).peer.peers.issued (op.Clear k) says.Ok nothing = subst (λ d. ClearData d k.0) (sym a.stands) (clear-same past ready) in (
+        let stated : DriverData (state_of past).control.stand (state_of past).managed.managed (state_of past).peer.peers.issued
+        (op.Clear k) says.Ok nothing = subst (λ d. ClearData d k.0) (sym a.stands) (clear-same past ready) in (
           nothing,
           driver-right h past m old ready (op.Clear k) is (clear-driver past ready) refl says.Ok nothing new None (clear-cites past ready) adds tt stated e keeps
               (driver-names h past m old ready (op.Clear k) is (clear-driver past ready) refl says.Ok nothing new None (clear-cites past ready) adds tt stated e (λ x. x))

@@ -1,5 +1,6 @@
 -- The begin and the sweep of a marking, by the driver or by a peer thread.
-use Rattle.std.proofs.Common.{◌≡◌, ◌⊎◌, inl, inr, ℕ, ◌+◌, ◌≤◌, Bool, true, false, ◌||◌, List, [], ◌∷◌, ◌++◌, length, length-append, drop, Option, Some, None, refl, sym, ap, ◌∙◌, subst, arith, true≢false}
+use Rattle.std.proofs.Common.{◌≡◌, ◌⊎◌, inl, inr, ℕ, ◌+◌, ◌≤◌, Bool, true, false, ◌||◌, List, [], ◌∷◌, ◌++◌, length, length-append, drop, Option, Some, None, refl, sym, ap, ◌∙◌, subst, arith}
+use Rattle.std.proofs.Common.{true≢false}
 use Rattle.std.specs.Prelude.{◌↔◌, ◌-◌, IsSome, IsTrue, if◌then◌else◌}
 use Rattle.joint_machine.specs.declared.names.Marking.{Marking as Number}
 use Rattle.joint_machine.specs.declared.names.Span.{Span}
@@ -134,7 +135,8 @@ module _ (h : Finished) (m : Made) (old : Replay) (is : m.op ≡ op.Begin) where
     pub begin-answers : (new : Replay) (j : Number) (b : Bool) → AddsLawful peer_rules recorder old.draw new.draw (seen old.peers) (seen new.peers) (begins m.caller m.index j) nothing
         → Keeps old new → HasBegun old.cycle new.cycle → new.peers.reserve.waiting ≡ old.peers.reserve.waiting → (IsTrue b ↔ (m.reply ≡ says.Mark j)) → AnswersRightly h m old new b
     begin-answers new j b adds keeps begun waits same =
-        let mine : AddsLawful peer_rules recorder old.draw new.draw (seen old.peers) (seen new.peers) (begins C m.index j) nothing = subst (λ t. AddsLawful peer_rules recorder old.draw new.draw (seen old.peers) (seen new.peers) (begins t m.index j) nothing) driver adds in
+        let mine : AddsLawful peer_rules recorder old.draw new.draw (seen old.peers) (seen new.peers) (begins C m.index j) nothing = subst
+        (λ t. AddsLawful peer_rules recorder old.draw new.draw (seen old.peers) (seen new.peers) (begins t m.index j) nothing) driver adds in
         compared h m old new (says.Mark j) b same
         (λ past ready e. (let a = begin-at past ready in (
           nothing,

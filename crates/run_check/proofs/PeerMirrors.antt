@@ -129,7 +129,8 @@ module _ (h : Finished) (m : Made) (old : Replay) (k : Cycle) (is : m.op ≡ op.
           (subst (λ cs. IsDeadContraction t may.cycle.dead cs a.heavy a.xrefs) comps-are may.contraction)
 
       -- the references are those that the definition has
-      refs-are : carried_to_peers old.peers.state.peers.issued o.graph.nodes (mirror_edges l.comps l.pairs) ≡ carried_edges (state_of past).managed.managed (state_of past).peer.peers.issued (mirror_edges a.comps a.xrefs)
+      refs-are : carried_to_peers old.peers.state.peers.issued o.graph.nodes (mirror_edges l.comps l.pairs) ≡ carried_edges
+          (state_of past).managed.managed (state_of past).peer.peers.issued (mirror_edges a.comps a.xrefs)
       refs-are =
           let issued = (state_of past).peer.peers.issued in
           ap (λ (p : PeerReplay). carried_to_peers p.peers.issued o.graph.nodes (mirror_edges l.comps l.pairs)) ready.sides.peers.state
@@ -160,7 +161,8 @@ module _ (h : Finished) (m : Made) (old : Replay) (k : Cycle) (is : m.op ≡ op.
         (references_of (carried_to_peers old.peers.state.peers.issued o.graph.nodes (mirror_edges l.comps l.pairs)))) (sym (a past ready).stands) (refs-are past ready)
 
     pub mirror-answers : (new : Replay) (refs : ℕ) (b : Bool)
-        → AddsLawful peer_rules recorder old.draw new.draw (seen old.peers) (seen new.peers) (mirrors m.index k refs cites) (references_of (carried_to_peers old.peers.state.peers.issued o.graph.nodes (mirror_edges l.comps l.pairs)))
+        → AddsLawful peer_rules recorder old.draw new.draw (seen old.peers) (seen new.peers) (mirrors m.index k refs cites)
+        (references_of (carried_to_peers old.peers.state.peers.issued o.graph.nodes (mirror_edges l.comps l.pairs)))
         → Keeps old new → new.cycle ≡ old.cycle → new.peers.reserve ≡ reserve_installed (length (handles_of o.graph.nodes)) → (IsTrue b ↔ (m.reply ≡ says.Refs refs)) → AnswersRightly h m old new b
     mirror-answers new refs b adds keeps cycle reserve same =
         let told = references_of (carried_to_peers old.peers.state.peers.issued o.graph.nodes (mirror_edges l.comps l.pairs)) in
@@ -173,7 +175,8 @@ module _ (h : Finished) (m : Made) (old : Replay) (k : Cycle) (is : m.op ≡ op.
               (driver-names h past m old ready (op.Mirror k) is (mirror-driver past ready) refl (says.Refs refs) told new (Some cites) cited adds tt (mirror-data past ready) e (λ x. x)) d
               (ap (λ z. stand_after z (length past) (op.Mirror k) m.reply told) at.stands) (ap (λ (r : Reserve). r.waiting) reserve)
               (let left = ap (λ (r : Reserve). r.left) reserve in
-              let many = candidates-same (t past ready) o.graph (shows past ready) (t past ready) (open_here past ready).cycle (graph past ready) (mirror-kept past ready).kept.managed.managed (open_here past ready).opened (open_here past ready).part in
+              let many = candidates-same (t past ready) o.graph (shows past ready) (t past ready) (open_here past ready).cycle
+              (graph past ready) (mirror-kept past ready).kept.managed.managed (open_here past ready).opened (open_here past ready).part in
               omega (arith, left, many))
               (λ u managed stands. subst (CycleFollows u) (sym (cycle ∙ kept)) (let f = open_here past ready in
               opened-on s u managed o o f refl refl (subst (λ z. HasCycle z o) (sym stands) (has-listing past ready o kept).0)

@@ -141,7 +141,8 @@ step-allowed s k t _ cites p c = absurd p
 
 module _ (h : Finished) (past : List Noted) (m : Made) (old : Replay) (ready : MayReply h past old m) (peer : is_peer_event m.caller m.op ≡ true) where
   -- what the driver has stays
-  pub thread-named : (reply : Reply) (told : Told) (new : Replay) (own : Made) (alike : own ≡ record m { reply = reply }) (adds : AddsLawful peer_rules recorder old.draw new.draw (seen old.peers) (seen new.peers) own told)
+  pub thread-named : (reply : Reply) (told : Told) (new : Replay) (own : Made) (alike : own ≡ record m { reply = reply })
+      (adds : AddsLawful peer_rules recorder old.draw new.draw (seen old.peers) (seen new.peers) own told)
       → (none : IsNoRefusal m.op) → (m.caller ≡ C → ⊥) → CallersData (state_of past) m.caller m.op reply told → Keeps old new → new.cycle ≡ old.cycle → new.peers.reserve ≡ old.peers.reserve
       → reply ≡ m.reply
       → NamesSo h (state_of past).managed.managed (next_noted past m told) → Replied h past m old new told
@@ -151,14 +152,16 @@ module _ (h : Finished) (past : List Noted) (m : Made) (old : Replay) (ready : M
       let like : own ≡ record m { reply = own.reply } = alike ∙ ap (λ r. record m { reply = r }) (sym mine) in
       let stated : CallersData s m.caller m.op own.reply told = subst (λ r. CallersData s m.caller m.op r told) (sym mine) driven in
       let managed = managed_is h past m old ready peer own told new like adds none stated (mine ∙ same) in
-      let stands = ap (λ (k : Control). k.stand) (control_is h past m old ready peer own told new like adds none stated (mine ∙ same)) ∙ thread-stands s.control m.caller (length past) m.index m.op m.reply told thread in
+      let stands = ap (λ (k : Control). k.stand) (control_is h past m old ready peer own told new like adds none stated (mine ∙ same))
+      ∙ thread-stands s.control m.caller (length past) m.index m.op m.reply told thread in
       let next = state_of (next_noted past m told ∷ past) in
       right h past m old ready peer own told new like adds none stated (mine ∙ same) keeps names
       (subst (ReserveFollows next) (sym reserve) (reserved s next managed stands old.peers.reserve ready.sides.peers.reserve))
       (subst (CycleFollows next) (sym cycle) (stays s next managed stands old.cycle ready.sides.cycle))
 
   -- and an event whose reply has no span names nothing
-  pub thread-right : (reply : Reply) (told : Told) (new : Replay) (own : Made) (alike : own ≡ record m { reply = reply }) (adds : AddsLawful peer_rules recorder old.draw new.draw (seen old.peers) (seen new.peers) own told)
+  pub thread-right : (reply : Reply) (told : Told) (new : Replay) (own : Made) (alike : own ≡ record m { reply = reply })
+      (adds : AddsLawful peer_rules recorder old.draw new.draw (seen old.peers) (seen new.peers) own told)
       → (none : IsNoRefusal m.op) → (m.caller ≡ C → ⊥) → CallersData (state_of past) m.caller m.op reply told → (HasSpan m.op → ⊥) → Keeps old new → new.cycle ≡ old.cycle
       → new.peers.reserve ≡ old.peers.reserve → reply ≡ m.reply → Replied h past m old new told
   thread-right reply told new own alike adds none thread driven out keeps cycle reserve same =
@@ -220,7 +223,8 @@ pub no-driver : (t : Thread) → IsPeerThread t → t ≡ C → ⊥
 no-driver t p e = subst IsPeerThread e p
 
 -- the side's entry but for its reply
-pub alike-made : (m : Made) (o : Op) (cites : Option ℕ) (reply : Reply) → m.op ≡ o → m.cites ≡ cites → record { caller = m.caller; index = m.index; op = o; reply = reply; cites = cites } ≡ record m { reply = reply }
+pub alike-made : (m : Made) (o : Op) (cites : Option ℕ) (reply : Reply) → m.op ≡ o → m.cites ≡ cites
+    → record { caller = m.caller; index = m.index; op = o; reply = reply; cites = cites } ≡ record m { reply = reply }
 alike-made m o cites reply e f = λ i. record { caller = m.caller; index = m.index; op = sym e i; reply = reply; cites = sym f i }
 
 module _ (h : Finished) (m : Made) (old : Replay) (n : ℕ) (is : m.op ≡ op.Line (act.Slice n)) (peer : is_peer_event m.caller m.op ≡ true) where
@@ -239,7 +243,9 @@ module _ (h : Finished) (m : Made) (old : Replay) (n : ℕ) (is : m.op ≡ op.Li
   pub slice-draws : ((past : List Noted) × MayReply h past old m) → MayDraw peer_rules recorder old.draw (seen old.peers) m.caller (op.Line (act.Slice n))
   slice-draws w = may_draw h w.0 m old w.1 peer m.caller (op.Line (act.Slice n)) (peer-takes m.caller (slice-caller w))
 
-  pub slice-answers : (new : Replay) (reply : Reply) (b : Bool) → ((told : Told) × AddsLawful peer_rules recorder old.draw new.draw (seen old.peers) (seen new.peers) (record { caller = m.caller; index = m.index; op = op.Line (act.Slice n); reply = reply; cites = None }) told)
+  pub slice-answers : (new : Replay) (reply : Reply) (b : Bool)
+      → ((told : Told) × AddsLawful peer_rules recorder old.draw new.draw (seen old.peers) (seen new.peers)
+      (record { caller = m.caller; index = m.index; op = op.Line (act.Slice n); reply = reply; cites = None }) told)
       → Keeps old new → new.cycle ≡ old.cycle → new.peers.reserve ≡ old.peers.reserve → (IsTrue b ↔ (m.reply ≡ reply)) → AnswersRightly h m old new b
   slice-answers new reply b adds keeps cycle reserve same =
       compared h m old new reply b same

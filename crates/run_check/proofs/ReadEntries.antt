@@ -122,7 +122,8 @@ module _ (h : Finished) (past : List Noted) (m : Made) (old : Replay) (may : May
     room = f.room;
   }
 
-  pub read-replied : (d : Recorder) (x : Readers) → d.counter ≡ old.draw.counter + 1 → x ≡ record old.readers { pins = pins_read old.readers.pins (thread_number m.caller) m.reply; owed = owed_by_read old.managed.state.managed.cycles m.reply old.readers.owed }
+  pub read-replied : (d : Recorder) (x : Readers) → d.counter ≡ old.draw.counter + 1
+      → x ≡ record old.readers { pins = pins_read old.readers.pins (thread_number m.caller) m.reply; owed = owed_by_read old.managed.state.managed.cycles m.reply old.readers.owed }
       → IsReplyBehind past s.managed.managed (length past) m.caller k m.reply → Replied h past m old (record old { draw = d; readers = x }) nothing
   read-replied d x drawn is w = record {
     replies = replies w;
@@ -145,7 +146,8 @@ module _ (h : Finished) (past : List Noted) (m : Made) (old : Replay) (may : May
       };
       stores = record {
         nine = ap (λ (z : Readers). length z.pins) is ∙ (pins-many old.readers.pins (thread_number m.caller) m.reply ∙ may.sides.stores.nine);
-        pins = ap (λ (z : Readers). shown_pins z.pins) is ∙ (pins-go old.readers.pins m.caller m.reply thread ∙ (ap (λ z. pins_after z (thread_number m.caller) m.reply) may.sides.stores.pins ∙ ap (λ (z : Linkage). z.managed.managed.pins) (sym after)));
+        pins = ap (λ (z : Readers). shown_pins z.pins) is ∙ (pins-go old.readers.pins m.caller m.reply thread
+            ∙ (ap (λ z. pins_after z (thread_number m.caller) m.reply) may.sides.stores.pins ∙ ap (λ (z : Linkage). z.managed.managed.pins) (sym after)));
         many = ap (λ (z : Readers). length z.targets) is ∙ may.sides.stores.many;
         cells = ap (λ (z : Readers). map number_or_none z.targets) is ∙ (may.sides.stores.cells ∙ ap (λ (z : Linkage). z.managed.managed.cells) (sym after));
       };
@@ -154,6 +156,7 @@ module _ (h : Finished) (past : List Noted) (m : Made) (old : Replay) (may : May
     rest = record {
       turns = refl;
       counts = ap (λ (z : Readers). z.counts) is;
-      owed = ap (λ (z : Readers). z.owed) is ∙ (ap (λ z. owed_by_read z.managed.cycles m.reply old.readers.owed) may.sides.managed.state ∙ sym (owed-read m.op k s.managed.managed.cycles m.reply cell old.readers.owed));
+      owed = ap (λ (z : Readers). z.owed) is ∙ (ap (λ z. owed_by_read z.managed.cycles m.reply old.readers.owed) may.sides.managed.state
+          ∙ sym (owed-read m.op k s.managed.managed.cycles m.reply cell old.readers.owed));
     };
   }

@@ -90,13 +90,16 @@ pinned-only past s i t k r m e = ((λ w. there r w), λ q. subst (IsReplyBehind 
     there q w = w ∙ read
 
 -- and with an empty one as the rules say
-pub unpinned-only : (past : List Noted) (t : Thread) (k : ℕ) (r : Reply) → slot (state_of past).managed.managed.pins (thread_number t) ≡ None → IsReplyBehind past (state_of past).managed.managed (length past) t k r ↔ IsReplyUnpinned past t k r
+pub unpinned-only : (past : List Noted) (t : Thread) (k : ℕ) (r : Reply) → slot (state_of past).managed.managed.pins (thread_number t) ≡ None
+    → IsReplyBehind past (state_of past).managed.managed (length past) t k r ↔ IsReplyUnpinned past t k r
 unpinned-only past t k (says.Pending c) e = ((λ w. w.1), λ w. (e, w))
 unpinned-only past t k says.Unset e = ((λ w. w.1), λ w. (e, w))
 unpinned-only past t k r e = ((λ w. w ∙ read), λ w. w ∙ sym read)
   where
     read : (read_cell (state_of past).managed.managed (thread_number t) k).reply ≡ (cell_read (state_of past).managed.managed (thread_number t) k (state_of past).managed.managed.cycle).reply
-    read = ap (λ (o : Option ℕ). (let a : Answered Managed = elim o [ None ↦ cell_read (state_of past).managed.managed (thread_number t) k (state_of past).managed.managed.cycle | Some x ↦ answer (says.Pinned record { 0 = x }) (state_of past).managed.managed ] in a.reply)) e
+    read = ap (λ (o : Option ℕ). (let a : Answered Managed = elim o
+        [ None ↦ cell_read (state_of past).managed.managed (thread_number t) k (state_of past).managed.managed.cycle | Some x ↦ answer (says.Pinned record { 0 = x }) (state_of past).managed.managed ]
+        in a.reply)) e
 
 module _ (h : Finished) (past : List Noted) (r : Replay) (w : IsBehind h past r) where
   told-by : (t : Thread) (k : ℕ) → IsThread t → AreTold past r.readers.counts t k
@@ -118,9 +121,12 @@ module _ (h : Finished) (past : List Noted) (r : Replay) (w : IsBehind h past r)
   pub ends-many : length r.readers.counts.ended ≡ r.managed.state.managed.cycles
   ends-many = w.follows.callers.counts.cycles ∙ sym cycles-are
 
-  pub pending-so : (t : Thread) (k : ℕ) → IsThread t → IsPendingIn r.readers.counts t k r.managed.state.managed.cycles (is_some r.managed.state.managed.cycle) ↔ MayBePendingBehind past (state_of past).managed.managed (length past) t k
-  pending-so t k i = subst (λ n. IsPendingIn r.readers.counts t k n (is_some r.managed.state.managed.cycle) ↔ MayBePendingBehind past (state_of past).managed.managed (length past) t k) (sym cycles-are)
-      (subst (λ (c : Option OpenCycle). IsPendingIn r.readers.counts t k (state_of past).managed.managed.cycles (is_some c) ↔ MayBePendingBehind past (state_of past).managed.managed (length past) t k) (sym cycle-is) (told-by t k i).pending)
+  pub pending-so : (t : Thread) (k : ℕ) → IsThread t → IsPendingIn r.readers.counts t k r.managed.state.managed.cycles (is_some r.managed.state.managed.cycle)
+      ↔ MayBePendingBehind past (state_of past).managed.managed (length past) t k
+  pending-so t k i = subst (λ n. IsPendingIn r.readers.counts t k n (is_some r.managed.state.managed.cycle) ↔ MayBePendingBehind past (state_of past).managed.managed (length past) t k)
+      (sym cycles-are)
+      (subst (λ (c : Option OpenCycle). IsPendingIn r.readers.counts t k (state_of past).managed.managed.cycles (is_some c) ↔ MayBePendingBehind past (state_of past).managed.managed (length past) t k)
+      (sym cycle-is) (told-by t k i).pending)
 
   -- the target of a cell
   pub cell-is : (k : ℕ) (o : Option MNum) → slice_get r.readers.targets k ≡ Some o → slot (state_of past).managed.managed.cells k ≡ number_or_none o
@@ -136,13 +142,15 @@ module _ (h : Finished) (past : List Noted) (r : Replay) (w : IsBehind h past r)
   live-kept m l = (subst (λ (x : Heap). IsLive x m) heap-is l).kept
 
   -- `unset`
-  pub unset-none : (t : Thread) (k : ℕ) → IsThread t → k < 64 → slice_get r.readers.targets k ≡ Some None → IsUnknownIn r.readers.counts t k ↔ MayBeUnset (in_turn past) (state_of past).managed.managed.cells (length past) t k
+  pub unset-none : (t : Thread) (k : ℕ) → IsThread t → k < 64 → slice_get r.readers.targets k ≡ Some None
+      → IsUnknownIn r.readers.counts t k ↔ MayBeUnset (in_turn past) (state_of past).managed.managed.cells (length past) t k
   unset-none t k i l e =
       let u = (told-by t k i).unknown l in
       let c = (counted-by t k).unset in
       ((λ x. c.0 (record { unknown = u.0 x; unfreed = λ m q f. none_some m (sym (cell-is k None e) ∙ q) })), λ x. u.1 (c.1 x).unknown)
 
-  pub unset-live : (t : Thread) (k : ℕ) (m : MNum) → IsThread t → k < 64 → slice_get r.readers.targets k ≡ Some (Some m) → (IsLive r.managed.state.managed.heap m.0 × IsUnknownIn r.readers.counts t k) ↔ MayBeUnset (in_turn past) (state_of past).managed.managed.cells (length past) t k
+  pub unset-live : (t : Thread) (k : ℕ) (m : MNum) → IsThread t → k < 64 → slice_get r.readers.targets k ≡ Some (Some m)
+      → (IsLive r.managed.state.managed.heap m.0 × IsUnknownIn r.readers.counts t k) ↔ MayBeUnset (in_turn past) (state_of past).managed.managed.cells (length past) t k
   unset-live t k m i l e =
       let u = (told-by t k i).unknown l in
       let c = (counted-by t k).unset in (
@@ -173,10 +181,12 @@ module _ (h : Finished) (past : List Noted) (r : Replay) (w : IsBehind h past r)
   read-by t m true e = ap (λ (z : Bool). (let a : Answered Managed = (if z then answer says.Gone s else answer (managed_name m.0) (record s { pins = slice_set s.pins t (Some m.0) })) in a.reply)) e
   read-by t m false e = ap (λ (z : Bool). (let a : Answered Managed = (if z then answer says.Gone s else answer (managed_name m.0) (record s { pins = slice_set s.pins t (Some m.0) })) in a.reply)) e
 
-  pub set-live : (t k : ℕ) (m : MNum) → r.managed.state.managed.cycle ≡ None → slice_get r.readers.targets k ≡ Some (Some m) → IsLive r.managed.state.managed.heap m.0 → (cell_read s t k s.cycle).reply ≡ says.M m
+  pub set-live : (t k : ℕ) (m : MNum) → r.managed.state.managed.cycle ≡ None → slice_get r.readers.targets k ≡ Some (Some m)
+      → IsLive r.managed.state.managed.heap m.0 → (cell_read s t k s.cycle).reply ≡ says.M m
   set-live t k m e g l = shut-read t k (Some m) e g ∙ read-by t m false (is_freed-live s.heap m.0 (subst (λ (x : Heap). IsLive x m.0) heap-is l))
 
-  pub set-gone : (t k : ℕ) (m : MNum) → r.managed.state.managed.cycle ≡ None → slice_get r.readers.targets k ≡ Some (Some m) → (IsLive r.managed.state.managed.heap m.0 → ⊥) → (cell_read s t k s.cycle).reply ≡ says.Gone
+  pub set-gone : (t k : ℕ) (m : MNum) → r.managed.state.managed.cycle ≡ None → slice_get r.readers.targets k ≡ Some (Some m)
+      → (IsLive r.managed.state.managed.heap m.0 → ⊥) → (cell_read s t k s.cycle).reply ≡ says.Gone
   set-gone t k m e g not-live = shut-read t k (Some m) e g ∙ by (is_freed s.heap m.0) refl
     where
       by : (b : Bool) → is_freed s.heap m.0 ≡ b → (target_read s t (Some m.0)).reply ≡ says.Gone

@@ -56,11 +56,13 @@ apart n = by (nat_eq (suc n) 0) refl
     by false q = q
 
 -- the phase that is told is the driver's
-weakening-sound : (q : control.OpenSnap) (count : ℕ) (weakened swept : Bool) (c : ℕ) (p : Phase) → weakening_phase count weakened swept c ≡ Some p → IsPhaseOf (control.weakening q count weakened swept) c p
+weakening-sound : (q : control.OpenSnap) (count : ℕ) (weakened swept : Bool) (c : ℕ) (p : Phase)
+    → weakening_phase count weakened swept c ≡ Some p → IsPhaseOf (control.weakening q count weakened swept) c p
 weakening-sound q count weakened true c p e = absurd (none_some p e)
 weakening-sound q count weakened false c p e = by (nat_eq count 0) weakened (nat_eq count c) refl refl refl e
   where
-    by : (a w b : Bool) → nat_eq count 0 ≡ a → weakened ≡ w → nat_eq count c ≡ b → (if a && not w then Some at.Mirrored else if b then Some at.Weakened else None) ≡ Some p → IsPhaseOf (control.weakening q count weakened false) c p
+    by : (a w b : Bool) → nat_eq count 0 ≡ a → weakened ≡ w → nat_eq count c ≡ b
+        → (if a && not w then Some at.Mirrored else if b then Some at.Weakened else None) ≡ Some p → IsPhaseOf (control.weakening q count weakened false) c p
     by true false b x y z e = (refl, inl (sym (same_Some at.Mirrored p e), eqb-true count 0 x, y))
     by true true true x y z e = (refl, inr (sym (same_Some at.Weakened p e), eqb-true count c z))
     by true true false x y z e = absurd (none_some p e)
@@ -102,31 +104,37 @@ told-open d c (Some x) = refl
 -- where the mirror stands and no handle is left the plain phase is the weakened one, once it was seen
 seen-plain : (o : control.OpenSnap) (count : ℕ) (weakened : Bool) (c : ℕ) → count ≡ c → (count ≡ 0 → weakened ≡ true) → weakening_phase count weakened false c ≡ Some at.Weakened
 seen-plain o zero weakened c e w = ap (λ b. if not b then Some at.Mirrored else if nat_eq 0 c then Some at.Weakened else None) (w refl) ∙ ap (λ b. if b then Some at.Weakened else None) (eq-eqb 0 c e)
-seen-plain o (suc n) weakened c e w = ap (λ b. if b && not weakened then Some at.Mirrored else if nat_eq (suc n) c then Some at.Weakened else None) (apart n) ∙ ap (λ b. if b then Some at.Weakened else None) (eq-eqb (suc n) c e)
+seen-plain o (suc n) weakened c e w = ap (λ b. if b && not weakened then Some at.Mirrored else if nat_eq (suc n) c then Some at.Weakened else None) (apart n)
+    ∙ ap (λ b. if b then Some at.Weakened else None) (eq-eqb (suc n) c e)
 
 mirrored-plain : (count : ℕ) (weakened : Bool) (c : ℕ) → count ≡ 0 → weakened ≡ false → weakening_phase count weakened false c ≡ Some at.Mirrored
-mirrored-plain count weakened c e w = ap (λ b. if nat_eq count 0 && not b then Some at.Mirrored else if nat_eq count c then Some at.Weakened else None) w ∙ ap (λ n. if nat_eq n 0 && true then Some at.Mirrored else if nat_eq n c then Some at.Weakened else None) e
+mirrored-plain count weakened c e w = ap (λ b. if nat_eq count 0 && not b then Some at.Mirrored else if nat_eq count c then Some at.Weakened else None) w
+    ∙ ap (λ n. if nat_eq n 0 && true then Some at.Mirrored else if nat_eq n c then Some at.Weakened else None) e
 
 -- each phase in which a reply is right, told plainly, is the one that is told by it
-phase-at : (m : Managed) (o : control.OpenSnap) (count : ℕ) (weakened : Bool) (c : ℕ) (w : PhaseWord) → count ≡ c → TellsPlainly (control.weakening o count weakened false) (op.Refused w) (phase_of at.Weakened)
+phase-at : (m : Managed) (o : control.OpenSnap) (count : ℕ) (weakened : Bool) (c : ℕ) (w : PhaseWord)
+    → count ≡ c → TellsPlainly (control.weakening o count weakened false) (op.Refused w) (phase_of at.Weakened)
     → told_phase (stand_of (control.weakening o count weakened false)) c (refusal_to m at.Weakened w) ≡ Some at.Weakened
 phase-at m o count weakened c word.Cycle e t = told-open (control.weakening o count weakened false) c m.cycle ∙ seen-plain o count weakened c e t
 phase-at m o count weakened c word.Snap e t = told-open (control.weakening o count weakened false) c m.cycle ∙ seen-plain o count weakened c e t
 phase-at m o count weakened c w e t = ap (λ b. if b then Some at.Weakened else weakening_phase count weakened false c) (eq-eqb count c e)
 
-mirrored-at : (m : Managed) (o : control.OpenSnap) (count : ℕ) (weakened : Bool) (c : ℕ) (w : PhaseWord) → count ≡ 0 → weakened ≡ false → told_phase (stand_of (control.weakening o count weakened false)) c (refusal_to m at.Mirrored w) ≡ Some at.Mirrored
+mirrored-at : (m : Managed) (o : control.OpenSnap) (count : ℕ) (weakened : Bool) (c : ℕ) (w : PhaseWord) → count ≡ 0 → weakened ≡ false
+    → told_phase (stand_of (control.weakening o count weakened false)) c (refusal_to m at.Mirrored w) ≡ Some at.Mirrored
 mirrored-at m o count weakened c word.Cycle e t = told-open (control.weakening o count weakened false) c m.cycle ∙ mirrored-plain count weakened c e t
 mirrored-at m o count weakened c word.Snap e t = told-open (control.weakening o count weakened false) c m.cycle ∙ mirrored-plain count weakened c e t
 mirrored-at m o count weakened c w e t = mirrored-plain count weakened c e t
 
-pub phase-full : (m : Managed) (d : control.Stand) (c : ℕ) (w : PhaseWord) (p : Phase) → IsPhaseOf d c p → TellsPlainly d (op.Refused w) (phase_of p) → told_phase (stand_of d) c (refusal_to m p w) ≡ Some p
+pub phase-full : (m : Managed) (d : control.Stand) (c : ℕ) (w : PhaseWord) (p : Phase) → IsPhaseOf d c p
+    → TellsPlainly d (op.Refused w) (phase_of p) → told_phase (stand_of d) c (refusal_to m p w) ≡ Some p
 phase-full m control.idle c w p i t = told-plain control.idle c (refusal_to m p w) refl ∙ ap Some (sym i)
 phase-full m (control.snapped o) c w p i t = told-plain (control.snapped o) c (refusal_to m p w) refl ∙ ap Some (sym i)
 phase-full m (control.contracted o comps heavy xrefs) c w p i t = told-plain (control.contracted o comps heavy xrefs) c (refusal_to m p w) refl ∙ ap Some (sym i)
 phase-full m (control.weakening o count weakened true) c w p i t = absurd (true≢false i.0)
 phase-full m (control.weakening o count weakened false) c w p i t = elim i.1 [
   | inl x ↦ subst (λ z. told_phase (stand_of (control.weakening o count weakened false)) c (refusal_to m z w) ≡ Some z) (sym x.0) (mirrored-at m o count weakened c w x.1 x.2)
-  | inr x ↦ subst (λ z. told_phase (stand_of (control.weakening o count weakened false)) c (refusal_to m z w) ≡ Some z) (sym x.0) (phase-at m o count weakened c w x.1 (subst (λ z. TellsPlainly (control.weakening o count weakened false) (op.Refused w) (phase_of z)) x.0 t))
+  | inr x ↦ subst (λ z. told_phase (stand_of (control.weakening o count weakened false)) c (refusal_to m z w) ≡ Some z) (sym x.0)
+      (phase-at m o count weakened c w x.1 (subst (λ z. TellsPlainly (control.weakening o count weakened false) (op.Refused w) (phase_of z)) x.0 t))
 ]
 phase-full m (control.marked o) c w p i t = told-plain (control.marked o) c (refusal_to m p w) refl ∙ ap Some (sym i)
 phase-full m (control.restoring o []) c w p i t = told-plain (control.restoring o []) c (refusal_to m p w) refl ∙ ap Some (sym i.1)
@@ -236,7 +244,8 @@ module _ (h : Finished) (past : List Noted) (old : Replay) (w : PhaseWord) (inde
   only : (told : Told) → SideReplies h past (next_noted past (refusing w index reply) told) → Tells
   only (phase_of p) r = record {
     phase = p;
-    told = ap (told_phase (stand_of s.control.stand) (length (candidates_of s.managed.managed))) r.replies.lawful.replies ∙ phase-full s.managed.managed s.control.stand (length (candidates_of s.managed.managed)) w p r.replies.driven r.plain;
+    told = ap (told_phase (stand_of s.control.stand) (length (candidates_of s.managed.managed))) r.replies.lawful.replies
+        ∙ phase-full s.managed.managed s.control.stand (length (candidates_of s.managed.managed)) w p r.replies.driven r.plain;
     refused = r.replies.lawful.allowed.refused;
     replies = r.replies.lawful.replies;
   }
@@ -312,9 +321,11 @@ module _ (h : Finished) (past : List Noted) (old : Replay) (w : PhaseWord) (inde
         refusal-replied = record {
           replies = record {
             replies = replies_by s (length past) m (phase_of p) refl made-same.lawful is-phase;
-            plain = plainly-told s.managed.managed s.control.stand (length (candidates_of s.managed.managed)) w p (subst (λ z. told_phase (stand_of s.control.stand) (length (candidates_of s.managed.managed)) z ≡ Some p) reply-is at-is);
+            plain = plainly-told s.managed.managed s.control.stand (length (candidates_of s.managed.managed)) w p
+                (subst (λ z. told_phase (stand_of s.control.stand) (length (candidates_of s.managed.managed)) z ≡ Some p) reply-is at-is);
             names = record {
-              freed = subst (λ z. TellsNamed (managed_numbers h.freed_managed) (peer_numbers h.freed_peers) z (phase_of p)) (sym reply-is) (refusal-named s.managed.managed p w (managed_numbers h.freed_managed) (peer_numbers h.freed_peers));
+              freed = subst (λ z. TellsNamed (managed_numbers h.freed_managed) (peer_numbers h.freed_peers) z (phase_of p))
+                  (sym reply-is) (refusal-named s.managed.managed p w (managed_numbers h.freed_managed) (peer_numbers h.freed_peers));
               taken = λ span e. absurd (refusal-took s.managed.managed p w span (sym reply-is ∙ e));
             };
             snap = may.snap;
@@ -325,7 +336,8 @@ module _ (h : Finished) (past : List Noted) (old : Replay) (w : PhaseWord) (inde
                 (counted past old.draw d (as_side old.managed) (as_side side) (refusing w index r) (phase_of p) may.sides.drawn adds) made-same;
             peers = peers-longer past m (phase_of p) refl refl old.peers may.sides.peers
                 (subst (λ (z : ManagedReplay). LeftFits (state_of (note ∷ past)).control.stand (length (candidates_of z.managed)) old.peers.reserve.left) (sym managed-same)
-                (subst (λ z. LeftFits z (length (candidates_of s.managed.managed)) old.peers.reserve.left) (sym next-stand) (refused-left s.control.stand (length past) w reply (phase_of p) (length (candidates_of s.managed.managed)) old.peers.reserve.left may.sides.peers.reserve.left)));
+                (subst (λ z. LeftFits z (length (candidates_of s.managed.managed)) old.peers.reserve.left) (sym next-stand)
+                (refused-left s.control.stand (length past) w reply (phase_of p) (length (candidates_of s.managed.managed)) old.peers.reserve.left may.sides.peers.reserve.left)));
             stores = stores-longer past m (phase_of p) refl refl old.readers refl refl may.sides.stores;
             cycle = cycle-on old.cycle may.sides.cycle;
           };

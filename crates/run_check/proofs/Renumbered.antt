@@ -9,7 +9,8 @@ use Rattle.std.proofs.lemmas.List.{length-map, map-append}
 use Rattle.std.proofs.lemmas.List.Elements.{All-contains, All-head, All-tail, Contains-append_cases}
 use Rattle.std.proofs.lemmas.Option.{same_Some, slice_get-get_or}
 use Rattle.joint_machine.specs.Walks.{Walks, Reaches, Mutual}
-use Rattle.joint_machine.specs.Components.{IsContraction, IsCanonical, IsCrossReference, IsFirst, IsHeavy, IsLeast, IsMember, IsPlainClass, IsUnreported, Leads, LeadsIn, LeadsOut, Rises, first_of, stand_at}
+use Rattle.joint_machine.specs.Components.{IsContraction, IsCanonical, IsCrossReference, IsFirst, IsHeavy, IsLeast, IsMember, IsPlainClass, IsUnreported, Leads, LeadsIn, LeadsOut, Rises, first_of}
+use Rattle.joint_machine.specs.Components.{stand_at}
 use Rattle.joint_machine.proofs.Members.{All-members, Contains-at, Contains-cons_cases, Contains-here, Contains-map, Contains-map_cases, Contains-nil, Contains-there}
 
 pub get_map : {A B : Type 0} (v : A → B) (xs : List A) (i : ℕ) (x : A) → slice_get xs i ≡ Some x → slice_get (map v xs) i ≡ Some (v x)
@@ -107,7 +108,8 @@ module _ (node bridge bridge' : ℕ → Type 0) (edge edge' : ℕ → ℕ → Ty
   plain_back x i p b is m = p (f b) (r.bridge_on b is) (mutual_on x b i (r.bridge_in b is) m)
 
   -- a walk over some nodes to a last one
-  path_back : (x : ℕ) (between : List ℕ) (to m : ℕ) → node x → Walks edge' (f x) (between ++ to ∷ []) m → (rows : List ℕ) × (y : ℕ) × node y × (f y ≡ to) × (map f rows ≡ between) × Walks edge x (rows ++ y ∷ []) y
+  path_back : (x : ℕ) (between : List ℕ) (to m : ℕ) → node x → Walks edge' (f x) (between ++ to ∷ []) m
+      → (rows : List ℕ) × (y : ℕ) × node y × (f y ≡ to) × (map f rows ≡ between) × Walks edge x (rows ++ y ∷ []) y
   path_back x [] to m i w =
       let u = r.edge_from (f x) to w.0 in
       ([], u.0, u.1, u.2, refl, (r.edge_back x u.0 i u.1 (subst (λ (z : ℕ). edge' (f x) z) (sym u.2) w.0), refl))
@@ -368,7 +370,8 @@ module _ (node bridge bridge' : ℕ → Type 0) (edge edge' : ℕ → ℕ → Ty
     stand_in i l = ⊎_elim
         (λ c. firsts_in (stand_at comps heavy i) c)
         (λ c. heavy_in (stand_at comps heavy i) c)
-        (Contains-append_cases (map first_of comps) heavy (stand_at comps heavy i) (Contains-at (map first_of comps ++ heavy) i (stand_at comps heavy i) (slice_get-get_or (map first_of comps ++ heavy) i 0 (within_stands i l))))
+        (Contains-append_cases (map first_of comps) heavy (stand_at comps heavy i)
+        (Contains-at (map first_of comps ++ heavy) i (stand_at comps heavy i) (slice_get-get_or (map first_of comps ++ heavy) i 0 (within_stands i l))))
 
     heavies_on : (y : ℕ) → Contains (map f heavy) y ↔ (IsHeavy bridge' edge' y × IsLeast edge' y)
     heavies_on y = (
@@ -418,12 +421,14 @@ module _ (node bridge bridge' : ℕ → Type 0) (edge edge' : ℕ → ℕ → Ty
           let q = cross_on (stand_at comps heavy i) (stand_at comps heavy j) (stand_in i a) (stand_in j b) w.2 in (
             omega (arith, count, a),
             omega (arith, count, b),
-            subst (λ (z : ℕ). IsCrossReference bridge' edge' z (stand_at (map (map f) comps) (map f heavy) j)) (sym (stand_is i a)) (subst (λ (z : ℕ). IsCrossReference bridge' edge' (f (stand_at comps heavy i)) z) (sym (stand_is j b)) q),
+            subst (λ (z : ℕ). IsCrossReference bridge' edge' z (stand_at (map (map f) comps) (map f heavy) j)) (sym (stand_is i a))
+                (subst (λ (z : ℕ). IsCrossReference bridge' edge' (f (stand_at comps heavy i)) z) (sym (stand_is j b)) q),
           )),
       (λ w.
           let a : i < length comps + length heavy = (let l = w.0 in omega (arith, count, l)) in
           let b : j < length comps + length heavy = (let l = w.1 in omega (arith, count, l)) in
-          let q = subst (λ (z : ℕ). IsCrossReference bridge' edge' (f (stand_at comps heavy i)) z) (stand_is j b) (subst (λ (z : ℕ). IsCrossReference bridge' edge' z (stand_at (map (map f) comps) (map f heavy) j)) (stand_is i a) w.2) in
+          let q = subst (λ (z : ℕ). IsCrossReference bridge' edge' (f (stand_at comps heavy i)) z) (stand_is j b)
+          (subst (λ (z : ℕ). IsCrossReference bridge' edge' z (stand_at (map (map f) comps) (map f heavy) j)) (stand_is i a) w.2) in
           (k.references i j).1 (a, b, cross_back (stand_at comps heavy i) (stand_at comps heavy j) (stand_in i a) (stand_in j b) q)),
     )
 

@@ -66,7 +66,8 @@ pub record AllRestored (s : Linkage) (o : Kept) (k : ℕ) (cites : Option ℕ) :
   pub names : o.cycle.0 ≡ k
   pub cited : cites ≡ Some clear
 
-all_restored : (s : Linkage) (o : Kept) (k : ℕ) (cites : Option ℕ) → ResolveTurn s.control.stand → ResolveCites s.control.stand k cites → HasCycle s.control.stand o → answers_of o.alive.values ≡ given_at s.control.stand → AllRestored s o k cites
+all_restored : (s : Linkage) (o : Kept) (k : ℕ) (cites : Option ℕ) → ResolveTurn s.control.stand → ResolveCites s.control.stand k cites
+    → HasCycle s.control.stand o → answers_of o.alive.values ≡ given_at s.control.stand → AllRestored s o k cites
 all_restored s o k cites turn c has given = by s.control.stand refl turn c has given
   where
     by : (st : Stand) → s.control.stand ≡ st → ResolveTurn st → ResolveCites st k cites → HasCycle st o → answers_of o.alive.values ≡ given_at st → AllRestored s o k cites
@@ -79,7 +80,8 @@ all_restored s o k cites turn c has given = by s.control.stand refl turn c has g
     by (control.restoring p answers) e t w h g = absurd t
 
 -- what the call asks for
-pub may_close : (s : Linkage) → IsPastKept (pinned s no_pins) → (o : OpenSnap) (alive : List (Option HNum)) (clear : ℕ) → s.control.stand ≡ control.restored o (answers_of alive) clear → (r : ManagedReplay) → r.managed.cycle ≡ s.managed.managed.cycle
+pub may_close : (s : Linkage) → IsPastKept (pinned s no_pins) → (o : OpenSnap) (alive : List (Option HNum)) (clear : ℕ)
+    → s.control.stand ≡ control.restored o (answers_of alive) clear → (r : ManagedReplay) → r.managed.cycle ≡ s.managed.managed.cycle
     → r.adopted ≡ s.managed.adopted → MayClose r alive
 may_close s k o alive clear stood r same taken =
     let w = restored_may_be_resolved (pinned s no_pins) k o (answers_of alive) clear stood in
@@ -89,7 +91,8 @@ may_close s k o alive clear stood r same taken =
     }
 
 -- the driver's cycle has its number
-number_is : (s : Linkage) → IsPastKept (pinned s no_pins) → (o : OpenSnap) (answers : List Answer) (clear : ℕ) → s.control.stand ≡ control.restored o answers clear → (c : OpenCycle) → s.managed.managed.cycle ≡ Some c → c.number ≡ o.cycle
+number_is : (s : Linkage) → IsPastKept (pinned s no_pins) → (o : OpenSnap) (answers : List Answer) (clear : ℕ)
+    → s.control.stand ≡ control.restored o answers clear → (c : OpenCycle) → s.managed.managed.cycle ≡ Some c → c.number ≡ o.cycle
 number_is s k o answers clear stood c e =
     let w = restored_may_be_resolved (pinned s no_pins) k o answers clear stood in
     ap (λ (z : OpenCycle). z.number) (same_Some c w.cycle (sym e ∙ w.open_cycle.0)) ∙ w.open_cycle.1
@@ -118,10 +121,12 @@ module _ (h : Finished) (past : List Noted) (old : Replay) (k : Cycle) (index : 
     resolve_cites e = none_some resolve_all.clear (sym e ∙ resolve_all.cited)
 
     pub resolve_may : MayClose old.managed.state o.alive.values
-    resolve_may = may_close s (past_kept h past may.next.so_far) resolve_all.snap o.alive.values resolve_all.clear resolve_all.stood old.managed.state (ap (λ z. z.managed.cycle) may.sides.managed.state) (ap (λ z. z.adopted) may.sides.managed.state)
+    resolve_may = may_close s (past_kept h past may.next.so_far) resolve_all.snap o.alive.values resolve_all.clear resolve_all.stood old.managed.state
+        (ap (λ z. z.managed.cycle) may.sides.managed.state) (ap (λ z. z.adopted) may.sides.managed.state)
 
     module _ (draw : Recorder) (managed : ManagedModel) (cycle : OpenCycle) (opened : old.managed.state.managed.cycle ≡ Some cycle) (freed : List ℕ) (n : ℕ) (cited : cites ≡ Some n)
-        (adds : AddsLawful managed_rules drawing old.draw draw (as_side old.managed) (as_side managed) (resolve_made old.managed.state.managed cycle index freed n) (resolution_of (answers_of o.alive.values) freed)) where
+        (adds : AddsLawful managed_rules drawing old.draw draw (as_side old.managed) (as_side managed)
+        (resolve_made old.managed.state.managed cycle index freed n) (resolution_of (answers_of o.alive.values) freed)) where
       abbrev told : Told
       told = resolution_of (answers_of o.alive.values) freed
 
@@ -163,8 +168,10 @@ module _ (h : Finished) (past : List Noted) (old : Replay) (k : Cycle) (index : 
         replies = replies_by s (length past) made told refl lawful.lawful driven;
         sides = record {
           drawn = counted past old.draw draw (as_side old.managed) (as_side managed) made told may.sides.drawn named;
-          managed = managed-longer past made told refl refl old.managed managed draw.counter may.sides.managed named.threads named.draws.below (counted past old.draw draw (as_side old.managed) (as_side managed) made told may.sides.drawn named) lawful;
-          peers = peers-longer past made told refl refl old.peers may.sides.peers (subst (λ z. LeftFits z (length (candidates_of (state_of longer).managed.managed)) old.peers.reserve.left) (sym idle) tt);
+          managed = managed-longer past made told refl refl old.managed managed draw.counter may.sides.managed named.threads named.draws.below
+              (counted past old.draw draw (as_side old.managed) (as_side managed) made told may.sides.drawn named) lawful;
+          peers = peers-longer past made told refl refl old.peers may.sides.peers
+              (subst (λ z. LeftFits z (length (candidates_of (state_of longer).managed.managed)) old.peers.reserve.left) (sym idle) tt);
           stores = stores-longer past made told refl refl old.readers refl refl may.sides.stores;
           cycle = idle;
         };
@@ -176,7 +183,8 @@ module _ (h : Finished) (past : List Noted) (old : Replay) (k : Cycle) (index : 
       resolve_freed = ap (λ z. z.managed.heap.freed) lawful.after
 
       pub resolve_judges : (b : Bool) → (b ≡ true → (reply ≡ says_so) × StandsInList (managed_numbers h.freed_managed) (put_span s.managed.managed.heap.freed freed) managed.state.managed.heap.freed)
-          → (reply ≡ says_so → StandsInList (managed_numbers h.freed_managed) (put_span s.managed.managed.heap.freed freed) managed.state.managed.heap.freed → b ≡ true) → Judges h past (resolving k index reply cites) old new b
+          → (reply ≡ says_so → StandsInList (managed_numbers h.freed_managed) (put_span s.managed.managed.heap.freed freed) managed.state.managed.heap.freed → b ≡ true)
+          → Judges h past (resolving k index reply cites) old new b
       resolve_judges b right back = record {
         reply = says_so;
         told = told;
@@ -185,8 +193,10 @@ module _ (h : Finished) (past : List Noted) (old : Replay) (k : Cycle) (index : 
           reply = sym (right e).0;
           names = record {
             freed = subst (λ r. TellsNamed (managed_numbers h.freed_managed) (peer_numbers h.freed_peers) r told) (sym (right e).0)
-                (resolution_named (managed_numbers h.freed_managed) (peer_numbers h.freed_peers) (put_span s.managed.managed.heap.freed freed) (answers_of o.alive.values) freed lawful.lawful.allowed.resolution.rise
-                (put_stands (managed_numbers h.freed_managed) s.managed.managed.heap.freed freed (subst (StandsInList (managed_numbers h.freed_managed) (put_span s.managed.managed.heap.freed freed)) resolve_freed (right e).1)));
+                (resolution_named (managed_numbers h.freed_managed) (peer_numbers h.freed_peers)
+                (put_span s.managed.managed.heap.freed freed) (answers_of o.alive.values) freed lawful.lawful.allowed.resolution.rise
+                (put_stands (managed_numbers h.freed_managed) s.managed.managed.heap.freed freed
+                (subst (StandsInList (managed_numbers h.freed_managed) (put_span s.managed.managed.heap.freed freed)) resolve_freed (right e).1)));
             taken = λ span q. absurd (let f = sym (right e).0 ∙ q in cc);
           };
         };
@@ -197,7 +207,8 @@ module _ (h : Finished) (past : List Noted) (old : Replay) (k : Cycle) (index : 
       }
 
       -- the same with the span as the call tells it
-      pub resolve_answers : (out : Span) → out ≡ put_span old.managed.state.managed.heap.freed freed → (b : Bool) → (b ≡ true → (reply ≡ says.Freed out) × StandsInList (managed_numbers h.freed_managed) out managed.state.managed.heap.freed)
+      pub resolve_answers : (out : Span) → out ≡ put_span old.managed.state.managed.heap.freed freed → (b : Bool)
+          → (b ≡ true → (reply ≡ says.Freed out) × StandsInList (managed_numbers h.freed_managed) out managed.state.managed.heap.freed)
           → (reply ≡ says.Freed out → StandsInList (managed_numbers h.freed_managed) out managed.state.managed.heap.freed → b ≡ true) → Judges h past (resolving k index reply cites) old new b
       resolve_answers out e b = subst (λ (sp : Span). (b ≡ true → (reply ≡ says.Freed sp) × StandsInList (managed_numbers h.freed_managed) sp managed.state.managed.heap.freed)
           → (reply ≡ says.Freed sp → StandsInList (managed_numbers h.freed_managed) sp managed.state.managed.heap.freed → b ≡ true) → Judges h past (resolving k index reply cites) old new b)

@@ -26,7 +26,8 @@ use Rattle.run_check.proofs.OwnEntries.{IsMadeIn}
 use Rattle.run_check.proofs.PastFacts.{replay_kept}
 use Rattle.run_check.proofs.StaysOpen.{candidates_stay, cycle_stays}
 
-module _ (h : Finished) (past : List Noted) (m : Made) (old : Replay) (may : MayReply h past old m) (p : is_peer_event m.caller m.op ≡ false) (e : is_read m.op ≡ false) (r : Reply) (draw : Recorder) (managed : ManagedModel) (readers : Readers) (told : Told) where
+module _ (h : Finished) (past : List Noted) (m : Made) (old : Replay) (may : MayReply h past old m) (p : is_peer_event m.caller m.op ≡ false)
+    (e : is_read m.op ≡ false) (r : Reply) (draw : Recorder) (managed : ManagedModel) (readers : Readers) (told : Told) where
   abbrev s : Linkage
   s = state_of past
 
@@ -40,7 +41,8 @@ module _ (h : Finished) (past : List Noted) (m : Made) (old : Replay) (may : May
   longer = next_noted past made told ∷ past
 
   pub stays_made : managed.threads ≡ old.managed.threads → AllBelow managed.entries draw.counter → draw.counter ≡ suc (length past) → IsMadeIn s.managed made told managed.state
-      → GoesOn s.managed.managed (managed_answer s.managed m.caller m.op told).state.managed → (control_after s.control m.caller (length past) m.index m.op r told).stand ≡ s.control.stand → CallersData s m.caller m.op r told
+      → GoesOn s.managed.managed (managed_answer s.managed m.caller m.op told).state.managed
+      → (control_after s.control m.caller (length past) m.index m.op r told).stand ≡ s.control.stand → CallersData s m.caller m.op r told
       → StoresFollow longer readers → KeepsRest past made old new → HasMade past m r told old new
   stays_made threads below one lawful goes stand driven stores rest =
       let there : GoesOn s.managed.managed (state_of longer).managed.managed = subst (λ (z : ManagedReplay). GoesOn s.managed.managed z.managed) (sym (managed-next past made told p e)) goes in

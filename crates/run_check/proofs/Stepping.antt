@@ -46,7 +46,8 @@ no_driver : (t : Thread) → (IsDriver t → ⊥) → t ≡ C → ⊥
 no_driver t w e = w (subst IsDriver (sym e) tt)
 
 -- it goes on
-pub stepped-goes_on : (s : ManagedReplay) (c : Thread) (o : Op) (told : Told) → IsReplayKept s → IsEvent c o → is_peer_event c o ≡ false → IsStepped o → ManagedAllows s o told → GoesOn s.managed (managed_answer s c o told).state.managed
+pub stepped-goes_on : (s : ManagedReplay) (c : Thread) (o : Op) (told : Told) → IsReplayKept s → IsEvent c o
+    → is_peer_event c o ≡ false → IsStepped o → ManagedAllows s o told → GoesOn s.managed (managed_answer s c o told).state.managed
 stepped-goes_on s (M i) o told k e p w a = goes_on s (M i) o told (no_driver (M i) (λ x. x)) e k a
 stepped-goes_on s (P i) o told k e p w a = goes_on s (P i) o told (no_driver (P i) (λ x. x)) e k a
 stepped-goes_on s C (op.Line x) told k e p w a = managed_line-goes_on s.managed (thread_number C) x k.managed.places k.managed.cells
@@ -75,7 +76,8 @@ line_stand (control.marked o) n a reply told = refl
 line_stand (control.restoring o answers) n a reply told = refl
 line_stand (control.restored o answers clear) n a reply told = refl
 
-pub stepped-stand : (k : Control) (c : Thread) (n l : ℕ) (o : Op) (reply : Reply) (told : Told) → IsEvent c o → is_peer_event c o ≡ false → IsStepped o → (control_after k c n l o reply told).stand ≡ k.stand
+pub stepped-stand : (k : Control) (c : Thread) (n l : ℕ) (o : Op) (reply : Reply) (told : Told) → IsEvent c o
+    → is_peer_event c o ≡ false → IsStepped o → (control_after k c n l o reply told).stand ≡ k.stand
 stepped-stand k (M i) n l o reply told e p w = refl
 stepped-stand k (P i) n l o reply told e p w = refl
 stepped-stand k C n l (op.Line a) reply told e p w = line_stand k.stand n a reply told
@@ -175,7 +177,8 @@ adopts_new s k t (control.gripped n line p h sort f) q g cites e w c = w
 adopts_new s k t (control.given n line h) q g cites e w c = w
 adopts_new s k t (control.met n line h) q g cites e w c = w
 
-meets_new : (s : Linkage) → IsPastKept (pinned s no_pins) → (t : ℕ) (d : Doing) (v : Var) (kind : Sort) (fields : ℕ) (q : PNum) (r : HNum) (cites : Option ℕ) → doing_at s.control t ≡ d → MeetCites d (op.Meet v kind fields q r) cites
+meets_new : (s : Linkage) → IsPastKept (pinned s no_pins) → (t : ℕ) (d : Doing) (v : Var) (kind : Sort) (fields : ℕ) (q : PNum) (r : HNum) (cites : Option ℕ)
+    → doing_at s.control t ≡ d → MeetCites d (op.Meet v kind fields q r) cites
     → Contains s.managed.adopted r.0 → ⊥
 meets_new s k t (control.gripped n line p g sort f) v kind fields q r cites e w c = gripped_is_new (pinned s no_pins) k t n line p g sort f e (subst (λ z. Contains s.managed.adopted z) w.2 c)
 meets_new s k t control.free v kind fields q r cites e w c = w
@@ -184,7 +187,8 @@ meets_new s k t (control.lent n line g x) v kind fields q r cites e w c = w
 meets_new s k t (control.given n line g) v kind fields q r cites e w c = w
 meets_new s k t (control.met n line g) v kind fields q r cites e w c = w
 
-pub stepped-fresh : (s : Linkage) → IsPastKept (pinned s no_pins) → (r : ManagedReplay) → r ≡ with_pins s.managed no_pins → (c : Thread) (o : Op) (cites : Option ℕ) → IsEvent c o → CitesBy s c o cites → IsFresh r o
+pub stepped-fresh : (s : Linkage) → IsPastKept (pinned s no_pins) → (r : ManagedReplay) → r ≡ with_pins s.managed no_pins
+    → (c : Thread) (o : Op) (cites : Option ℕ) → IsEvent c o → CitesBy s c o cites → IsFresh r o
 stepped-fresh s k r e c o cites v w = subst (λ z. IsFresh z o) (sym e) (by c o v w)
   where
     by : (c : Thread) (o : Op) → IsEvent c o → CitesBy s c o cites → IsFresh (with_pins s.managed no_pins) o
@@ -275,7 +279,8 @@ taken_span s n sp e =
     let g = ap (λ (z : Span). z.count) same in
     record { first = f; within = λ l. omega (arith, f, g, l) }
 
-pub stepped-took : (s : Linkage) (m : Made) (sp : Span) → is_peer_event m.caller m.op ≡ false → IsStepped m.op → ManagedLawful s.managed m nothing → m.reply ≡ says.Took sp → TakesSpan s.managed.managed sp
+pub stepped-took : (s : Linkage) (m : Made) (sp : Span) → is_peer_event m.caller m.op ≡ false → IsStepped m.op
+    → ManagedLawful s.managed m nothing → m.reply ≡ says.Took sp → TakesSpan s.managed.managed sp
 stepped-took s m sp p w l took = by m.op refl w
   where
     side : SideLawful (is_peer_event m.caller m.op) s m nothing

@@ -59,7 +59,8 @@ module _ (h : Finished) (past : List Noted) (m : Made) (old : Replay) (may : May
     goes = stepped-goes_on s.managed m.caller m.op nothing (replay_kept h past may.next.so_far.order) may.next.turn.event p w lawful.lawful.allowed
 
     pub step_made_so : HasMade past m r nothing old new
-    step_made_so = stays_made h past m old may p e r draw managed old.readers nothing adds.threads adds.draws.below (counted past old.draw draw (as_side old.managed) (as_side managed) made nothing may.sides.drawn adds)
+    step_made_so = stays_made h past m old may p e r draw managed old.readers nothing adds.threads adds.draws.below
+        (counted past old.draw draw (as_side old.managed) (as_side managed) made nothing may.sides.drawn adds)
         lawful goes (stepped-stand s.control m.caller (length past) m.index m.op r nothing may.next.turn.event p w) (stepped-data s m.caller m.op r nothing p w)
         (stores-longer past made nothing p e old.readers (pins-stay s.managed made nothing (stepped-unpinned m.op w) e) (stepped-leaves s.managed m.caller m.op nothing w e).cells may.sides.stores)
         (record { turns = refl; counts = refl; owed = sym (stepped-owed s.managed.managed.cycles m.op r old.readers.owed w e) })
@@ -72,7 +73,8 @@ module _ (h : Finished) (past : List Noted) (m : Made) (old : Replay) (may : May
     freed_now = ap (λ (z : ManagedReplay). z.managed.heap.freed) lawful.after ∙ goes.freed
 
     pub notices_few : length managed.state.managed.notices ≤ length managed.state.managed.heap.freed
-    notices_few = subst (λ z. length z ≤ length managed.state.managed.heap.freed) (sym notices_now) (subst (λ z. length s.managed.managed.notices ≤ length z) (sym freed_now) (notices_fit h past may.next.so_far.order).few)
+    notices_few = subst (λ z. length z ≤ length managed.state.managed.heap.freed) (sym notices_now)
+        (subst (λ z. length s.managed.managed.notices ≤ length z) (sym freed_now) (notices_fit h past may.next.so_far.order).few)
 
     took : (sp : Span) → r ≡ says.Took sp → TakesSpan s.managed.managed sp
     took sp q = stepped-took s made sp p w lawful.lawful q
@@ -91,7 +93,8 @@ module _ (h : Finished) (past : List Noted) (m : Made) (old : Replay) (may : May
     names_so q has = record {
       reply = q;
       names = record {
-        freed = subst (λ x. TellsNamed (managed_numbers h.freed_managed) (peer_numbers h.freed_peers) x nothing) q (stepped-named (managed_numbers h.freed_managed) (peer_numbers h.freed_peers) s made p w lawful.lawful);
+        freed = subst (λ x. TellsNamed (managed_numbers h.freed_managed) (peer_numbers h.freed_peers) x nothing) q
+            (stepped-named (managed_numbers h.freed_managed) (peer_numbers h.freed_peers) s made p w lawful.lawful);
         taken = λ sp t. (let k = took sp (q ∙ t) in record {
           first = k.first;
           queued = k.within (notices_fit h past may.next.so_far.order).taken;

@@ -1,6 +1,7 @@
 -- The stretches of two lists that a span names are the same exactly where both lists have the same at each of its
 -- places.
-use Rattle.std.proofs.Common.{◌≡◌, ⊎_elim, ℕ, ◌+◌, ◌-◌, ◌<◌, ◌≤◌, Bool, true, false, IsTrue, List, length, get_or, take, drop, Some, refl, sym, ap, subst, ◌∙◌, arith, length-take, length-drop, get_or-drop, true≢false}
+use Rattle.std.proofs.Common.{◌≡◌, ⊎_elim, ℕ, ◌+◌, ◌-◌, ◌<◌, ◌≤◌, Bool, true, false, IsTrue, List, length, get_or, take, drop, Some, refl, sym, ap, subst, ◌∙◌, arith, length-take, length-drop}
+use Rattle.std.proofs.Common.{get_or-drop, true≢false}
 use Rattle.std.specs.Prelude.{◌↔◌, map, slice_get}
 use Rattle.std.specs.Option.{option_map}
 use Rattle.std.proofs.lemmas.Bool.{cases_lt}
@@ -55,7 +56,8 @@ module _ (xs ys : List ℕ) (s : Span) (w : IsWithin s (length ys)) where
 
 -- one place more was compared
 pub alike_more : (xs ys : List ℕ) (first i : ℕ) → AreAlikeFrom xs ys first i → slice_get xs i ≡ slice_get ys i → AreAlikeFrom xs ys first (i + 1)
-alike_more xs ys first i alike e k low high = ⊎_elim (λ (less : k < i). alike k low less) (λ (more : i ≤ k). let q : i ≡ k = omega (arith, more, high) in subst (λ j. slice_get xs j ≡ slice_get ys j) q e) (cases_lt k i)
+alike_more xs ys first i alike e k low high = ⊎_elim (λ (less : k < i). alike k low less)
+    (λ (more : i ≤ k). let q : i ≡ k = omega (arith, more, high) in subst (λ j. slice_get xs j ≡ slice_get ys j) q e) (cases_lt k i)
 
 -- what a list has from the span's first place on is the stretch of the span that ends where the list does
 module _ (xs ys : List ℕ) (s : Span) (w : s.first ≤ length ys) where

@@ -77,7 +77,8 @@ thread_line s m a e peers driver turn c = by m.caller refl
     by C q = absurd (driver (event C q).0)
 
 -- an answer without a span is right exactly where it is the same
-plain_judges : (h : Finished) (past : List Noted) (m : Made) (old new : Replay) (r : Reply) (b : Bool) → IsPlainEntry r nothing → HasMade past m r nothing old new → (b ≡ true → r ≡ m.reply) → (r ≡ m.reply → b ≡ true) → Judges h past m old new b
+plain_judges : (h : Finished) (past : List Noted) (m : Made) (old new : Replay) (r : Reply) (b : Bool) → IsPlainEntry r nothing
+    → HasMade past m r nothing old new → (b ≡ true → r ≡ m.reply) → (r ≡ m.reply → b ≡ true) → Judges h past m old new b
 plain_judges h past m old new r b plain made right back = record {
   reply = r;
   told = nothing;
@@ -85,7 +86,8 @@ plain_judges h past m old new r b plain made right back = record {
   if_true = λ e. record {
     reply = right e;
     names = record {
-      freed = subst (λ z. TellsNamed (managed_numbers h.freed_managed) (peer_numbers h.freed_peers) z nothing) (right e) (plainly_named (managed_numbers h.freed_managed) (peer_numbers h.freed_peers) r nothing plain);
+      freed = subst (λ z. TellsNamed (managed_numbers h.freed_managed) (peer_numbers h.freed_peers) z nothing)
+          (right e) (plainly_named (managed_numbers h.freed_managed) (peer_numbers h.freed_peers) r nothing plain);
       taken = λ span q. absurd (subst IsPlain (right e ∙ q) plain.plain);
     };
   };
@@ -100,7 +102,8 @@ unset_back : (ts : List (Option MNum)) (k : ℕ) (o : Option MNum) → slice_get
 unset_back ts k None e q = e
 unset_back ts k (Some m) e q = absurd (none_some m.0 (sym q ∙ slot_of ts k (Some m) e))
 
-word_is : (ts : List (Option MNum)) (cells : List (Option ℕ)) (k word : ℕ) → map number_or_none ts ≡ cells → k < length ts → (word ≡ 0) ↔ (slice_get ts k ≡ Some None) → (word ≡ 0) ↔ (slot cells k ≡ None)
+word_is : (ts : List (Option MNum)) (cells : List (Option ℕ)) (k word : ℕ) → map number_or_none ts ≡ cells
+    → k < length ts → (word ≡ 0) ↔ (slice_get ts k ≡ Some None) → (word ≡ 0) ↔ (slot cells k ≡ None)
 word_is ts cells k word e l w = subst (λ z. (word ≡ 0) ↔ (slot z k ≡ None)) e (
   λ zero. slot_of ts k None (w.0 zero),
   λ unset. w.1 (unset_back ts k (get_or ts k None) (slice_get-get_or ts k None l) unset),
@@ -119,7 +122,8 @@ aimed_is : (s : ManagedReplay) (t : Thread) (k : Cell) (v : Var) (r : Reply) →
 aimed_is s t k v says.Ok = refl
 aimed_is s t k v _ = refl
 
-kept_cells : (s : Managed) (k : ℕ) (ts : List (Option MNum)) → map number_or_none ts ≡ s.cells → (o set : Option ℕ) → map number_or_none (targets_after ts k (weak_two s k o set).reply (aimed (weak_two s k o set).reply o)) ≡ (weak_two s k o set).state.cells
+kept_cells : (s : Managed) (k : ℕ) (ts : List (Option MNum)) → map number_or_none ts ≡ s.cells → (o set : Option ℕ)
+    → map number_or_none (targets_after ts k (weak_two s k o set).reply (aimed (weak_two s k o set).reply o)) ≡ (weak_two s k o set).state.cells
 kept_cells s k ts e None set = e
 kept_cells s k ts e (Some x) None = map-set number_or_none ts k (Some record { 0 = x }) ∙ ap (λ z. slice_set z k (Some x)) e
 kept_cells s k ts e (Some x) (Some y) = e
@@ -136,7 +140,8 @@ weak_is s k v = by (slot s.heap.vars v)
     by None = refl
     by (Some x) = refl
 
-weak_cells : (s : Managed) (k v : ℕ) (ts : List (Option MNum)) (r : Reply) → map number_or_none ts ≡ s.cells → r ≡ (weakened_to s k v).reply → map number_or_none (targets_after ts k r (aimed r (slot s.heap.vars v))) ≡ (weakened_to s k v).state.cells
+weak_cells : (s : Managed) (k v : ℕ) (ts : List (Option MNum)) (r : Reply) → map number_or_none ts ≡ s.cells → r ≡ (weakened_to s k v).reply
+    → map number_or_none (targets_after ts k r (aimed r (slot s.heap.vars v))) ≡ (weakened_to s k v).state.cells
 weak_cells s k v ts r e q =
     let two = weak_two s k (slot s.heap.vars v) (slot s.cells k) in
     subst (λ z. map number_or_none (targets_after ts k z (aimed z (slot s.heap.vars v))) ≡ (weakened_to s k v).state.cells) (sym (q ∙ ap (λ (a : Answered Managed). a.reply) (weak_is s k v)))
@@ -168,7 +173,8 @@ module _ (h : Finished) (past : List Noted) (old : Replay) (i index : ℕ) (k : 
     target = adds.draws.adds.drawn.1 ∙ (aimed_is old.managed.state (M i) k v r ∙ ap (λ (z : ManagedReplay). aimed r (slot z.managed.heap.vars (place i v.0))) may.sides.managed.state)
 
     cells : map number_or_none kept.targets ≡ (weakened_to s.managed.managed k.0 (place i v.0)).state.cells
-    cells = ap (λ z. map number_or_none (targets_after old.readers.targets k.0 r z)) target ∙ weak_cells s.managed.managed k.0 (place i v.0) old.readers.targets r may.sides.stores.cells lawful.lawful.replies
+    cells = ap (λ z. map number_or_none (targets_after old.readers.targets k.0 r z)) target
+        ∙ weak_cells s.managed.managed k.0 (place i v.0) old.readers.targets r may.sides.stores.cells lawful.lawful.replies
 
     stores : StoresFollow (next_noted past made nothing ∷ past) kept
     stores = record {
@@ -181,8 +187,10 @@ module _ (h : Finished) (past : List Noted) (old : Replay) (i index : ℕ) (k : 
     pub weak_judges : (b : Bool) → (b ≡ true → r ≡ reply) → (r ≡ reply → b ≡ true) → Judges h past (weakly i index k v reply) old (record old { managed = managed; draw = draw; readers = kept }) b
     weak_judges b right back = plain_judges h past (weakly i index k v reply) old (record old { managed = managed; draw = draw; readers = kept }) r b
         (plain-entry s index r None (M i) (weak_op k v) nothing (λ z. z) lawful.lawful)
-        (stays_made h past (weakly i index k v reply) old may refl refl r draw managed kept nothing adds.threads adds.draws.below (counted past old.draw draw (as_side old.managed) (as_side managed) made nothing may.sides.drawn adds) lawful
-        (managed_line-goes_on s.managed.managed i (act.Weak k v) (replay_kept h past may.next.so_far.order).managed.places (replay_kept h past may.next.so_far.order).managed.cells) refl tt stores (record { turns = refl; counts = refl; owed = refl }))
+        (stays_made h past (weakly i index k v reply) old may refl refl r draw managed kept nothing adds.threads adds.draws.below
+        (counted past old.draw draw (as_side old.managed) (as_side managed) made nothing may.sides.drawn adds) lawful
+        (managed_line-goes_on s.managed.managed i (act.Weak k v) (replay_kept h past may.next.so_far.order).managed.places (replay_kept h past may.next.so_far.order).managed.cells) refl tt stores
+        (record { turns = refl; counts = refl; owed = refl }))
         right back
 
 -- `take`
@@ -196,7 +204,8 @@ taken_pins s t v = by (slot s.pins t) refl
     by None e = sym (emptied s.pins t e)
     by (Some x) e = refl
 
-module _ (h : Finished) (past : List Noted) (old : Replay) (i index : ℕ) (v : Var) (reply : Reply) (may : MayReply h past old (takingly i index v reply)) (pin : Option MNum) (has : slice_get old.readers.pins i ≡ Some pin) where
+module _ (h : Finished) (past : List Noted) (old : Replay) (i index : ℕ) (v : Var) (reply : Reply)
+    (may : MayReply h past old (takingly i index v reply)) (pin : Option MNum) (has : slice_get old.readers.pins i ≡ Some pin) where
   abbrev take_s : Linkage
   take_s = state_of past
 
@@ -207,7 +216,8 @@ module _ (h : Finished) (past : List Noted) (old : Replay) (i index : ℕ) (v : 
   take_stands = subst (λ (z : ManagedReplay). PinsStand z.managed (pin_given i pin)) (sym may.sides.managed.state)
       (stand_bare take_s.managed.managed (pin_given i pin) no_pins (pin_stands take_s.managed.managed (replay_kept h past may.next.so_far.order).managed i pin own))
 
-  module _ (draw : Recorder) (managed : ManagedModel) (r : Reply) (adds : AddsLawful managed_rules drawing old.draw draw (as_side old.managed) (as_side managed) (takingly i index v r) (kept_pins (pin_given i pin) nothing)) where
+  module _ (draw : Recorder) (managed : ManagedModel) (r : Reply)
+      (adds : AddsLawful managed_rules drawing old.draw draw (as_side old.managed) (as_side managed) (takingly i index v r) (kept_pins (pin_given i pin) nothing)) where
     abbrev take_made : Made
     take_made = takingly i index v r
 
@@ -232,5 +242,6 @@ module _ (h : Finished) (past : List Noted) (old : Replay) (i index : ℕ) (v : 
         (plain-entry take_s index r None (M i) (take_op v) nothing (λ z. z) take_lawful.lawful)
         (stays_made h past (takingly i index v reply) old may refl refl r draw managed take_kept nothing adds.threads adds.draws.below
         (counted past old.draw draw (as_side old.managed) (as_side managed) take_made (kept_pins (pin_given i pin) nothing) may.sides.drawn adds) take_lawful
-        (managed_line-goes_on take_s.managed.managed i (act.Take v) (replay_kept h past may.next.so_far.order).managed.places (replay_kept h past may.next.so_far.order).managed.cells) refl tt take_stores (record { turns = refl; counts = refl; owed = refl }))
+        (managed_line-goes_on take_s.managed.managed i (act.Take v) (replay_kept h past may.next.so_far.order).managed.places (replay_kept h past may.next.so_far.order).managed.cells)
+        refl tt take_stores (record { turns = refl; counts = refl; owed = refl }))
         right back

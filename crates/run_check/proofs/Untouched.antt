@@ -16,7 +16,8 @@ use Rattle.joint_machine.specs.declared.events.Reply.TheVariants as says
 use Rattle.joint_machine.specs.Heaps.{Answered, answer, is_full, next_number, place, slot}
 use Rattle.joint_machine.specs.Lines.{is_peer_event, is_read}
 use Rattle.joint_machine.specs.Linked.{Linkage, MayCome, linkage_after, managed_after}
-use Rattle.joint_machine.specs.Managed.{Managed, OpenCycle, adopted, cell_set, given_up, holds_handle, managed_line, managed_name, met, pin_taken, twin_fields, twin_kind, twin_met, weakened_to, with_row, without_handle}
+use Rattle.joint_machine.specs.Managed.{Managed, OpenCycle, adopted, cell_set, given_up, holds_handle, managed_line, managed_name, met, pin_taken, twin_fields, twin_kind, twin_met, weakened_to}
+use Rattle.joint_machine.specs.Managed.{with_row, without_handle}
 use Rattle.joint_machine.specs.ManagedReplay.{ManagedReplay, managed_answer, registered}
 use Rattle.joint_machine.specs.Readers.{entry_after, reader_after}
 use Rattle.joint_machine.specs.Run.{thread_number}
@@ -80,7 +81,8 @@ pub stepped-leaves : (s : ManagedReplay) (t : Thread) (o : Op) (told : Told) →
 stepped-leaves s t (op.Line a) told w e = line-leaves s.managed (thread_number t) a w e
 stepped-leaves s t (op.Adopt v kind n p h) told w e =
     let a = adopted s.managed (place (thread_number t) v.0) kind n h.0 in
-    untouched-as s.managed a.state _ (adopt_by-managed s p.0 h.0 a.state a.reply) (row-leaves s.managed (is_full s.managed.heap.fields) (managed_name (next_number s.managed.heap)) (place (thread_number t) v.0) kind n (Some h.0))
+    untouched-as s.managed a.state _ (adopt_by-managed s p.0 h.0 a.state a.reply)
+    (row-leaves s.managed (is_full s.managed.heap.fields) (managed_name (next_number s.managed.heap)) (place (thread_number t) v.0) kind n (Some h.0))
 stepped-leaves s t (op.Meet v sort n p h) told w e =
     let a = met s.managed (place (thread_number t) v.0) h.0 sort n (registered s.registry p.0) in
     untouched-as s.managed a.state _ (meet_by-managed s p.0 h.0 a.state a.reply) (met-leaves s.managed (place (thread_number t) v.0) h.0 sort n (registered s.registry p.0))

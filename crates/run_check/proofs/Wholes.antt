@@ -112,8 +112,10 @@ tells-phase h past c l (op.Contract k) r x told phase n w = absurd w.replies.law
 tells-phase h past c l (op.Refused z) r x told phase n w = absurd n
 tells-phase h past c l o r x told phase n w = tt
 
-pub tells-so : (h : Finished) (m : Made) (old new : Replay) (b : Bool) (y : Option Phase) → IsNoRefusal m.op → (b ≡ true → y ≡ Some at.Idle) → (b ≡ false → y ≡ None) → AnswersRightly h m old new b → TellsRightly h m old new y
-tells-so h m old new true y n some none a = subst (TellsRightly h m old new) (sym (some refl)) (λ past w. let t = a past w in (t.0, t.1, tells-phase h past m.caller m.index m.op m.reply m.cites t.0 at.Idle n t.1.replies))
+pub tells-so : (h : Finished) (m : Made) (old new : Replay) (b : Bool) (y : Option Phase) → IsNoRefusal m.op
+    → (b ≡ true → y ≡ Some at.Idle) → (b ≡ false → y ≡ None) → AnswersRightly h m old new b → TellsRightly h m old new y
+tells-so h m old new true y n some none a = subst (TellsRightly h m old new) (sym (some refl))
+    (λ past w. let t = a past w in (t.0, t.1, tells-phase h past m.caller m.index m.op m.reply m.cites t.0 at.Idle n t.1.replies))
 tells-so h m old new false y n some none a = subst (TellsRightly h m old new) (sym (none refl)) a
 
 abbrev pub snap-number : Op → ℕ

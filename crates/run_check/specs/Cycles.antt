@@ -1,6 +1,7 @@
 -- What is kept of the open cycle, in the state of a linked history: the dead part's graph, which candidate is next, the
 -- components that the contraction told, and what the restores have answered.
-use Rattle.std.specs.Prelude.{◌≡◌, ℕ, ◌+◌, ◌<◌, ◌≤◌, List, [], length, map, slice_index, drop, IsSome, Option, Some, None}
+use Rattle.std.specs.Prelude.{◌≡◌, ℕ, ◌+◌, ◌<◌, ◌≤◌, List, [], length, map, slice_index, drop, IsSome, Option, Some}
+use Rattle.std.specs.Prelude.{None}
 use Rattle.joint_machine.specs.Control as control
 use Rattle.joint_machine.specs.Control.{Stand}
 use Rattle.joint_machine.specs.Linked.{Linkage}

@@ -1,7 +1,8 @@
 -- What a replay keeps of the entries so far, given as a past, the latest first: both sides with the open cycle, the
 -- pins and the cells, which the entry's own call makes longer; and the callers with the readers' counts, which are
 -- noted once the entry is found in order.
-use Rattle.std.specs.Prelude.{◌≡◌, ℕ, ◌+◌, ◌<◌, ◌^◌, nat_lt, if◌then◌else◌, List, [], ◌∷◌, drop, length, map, slice_set, Option, Some, None}
+use Rattle.std.specs.Prelude.{◌≡◌, ℕ, ◌+◌, ◌<◌, ◌^◌, nat_lt, if◌then◌else◌, List, [], ◌∷◌, drop, length, map, slice_set}
+use Rattle.std.specs.Prelude.{Option, Some, None}
 use Rattle.joint_machine.specs.declared.names.Cycle.{Cycle}
 use Rattle.joint_machine.specs.declared.names.MNum.{MNum}
 use Rattle.joint_machine.specs.declared.lines.Act.TheVariants as act

@@ -9,7 +9,8 @@ use Rattle.run_check.specs.Cycles.{IsAtHandle}
 -- it goes on to its next candidate, and nothing else of it changes
 pub record GoesOnTo (old new : Kept) : Type 0 where
   pub rest : new ≡ record old { place = new.place }
-  pub next : (n : ℕ) → n < length (handles_of old.graph.nodes) → IsAtHandle old.graph.nodes old.place n → IsAtHandle old.graph.nodes new.place (n + 1)
+  pub next : (n : ℕ) → n < length (handles_of old.graph.nodes)
+      → IsAtHandle old.graph.nodes old.place n → IsAtHandle old.graph.nodes new.place (n + 1)
 
 -- if there is one
 abbrev pub HasGoneOn : Option Kept → Option Kept → Type 0
@@ -31,4 +32,5 @@ HasPut (Some o) new back = (p : Kept) × (new ≡ Some p) × PutsLast o p back
 -- the place is the first one again
 abbrev pub HasBegun : Option Kept → Option Kept → Type 0
 HasBegun None new = new ≡ None
-HasBegun (Some o) new = (p : Kept) × (new ≡ Some p) × (p ≡ record o { place = p.place }) × IsAtHandle p.graph.nodes p.place 0
+HasBegun (Some o) new = (p : Kept) × (new ≡ Some p)
+    × (p ≡ record o { place = p.place }) × IsAtHandle p.graph.nodes p.place 0

@@ -20,5 +20,7 @@ pub record AreCandidates (seen : Managed) (nodes : List Node) : Type 0 where
 
 -- the contraction of a dead part's graph is, by the nodes' numbers, the contraction of the dead part
 abbrev pub GraphsContractionIsDeadParts : Type 0
-GraphsContractionIsDeadParts = (s : Managed) (dead : List ℕ) (g : Part) (comps : List (List ℕ)) (heavy : List ℕ) (pairs : List (ℕ × ℕ)) → IsManagedKept s → IsPart g.nodes g.edges → IsDeadGraph s dead g
-    → IsContraction (IsBridgeNode g.nodes) (NodeLeads g.edges) comps heavy pairs → IsDeadContraction s dead (numbered_comps g comps) (map (number_at g) heavy) pairs
+GraphsContractionIsDeadParts = (s : Managed) (dead : List ℕ) (g : Part) (comps : List (List ℕ))
+    (heavy : List ℕ) (pairs : List (ℕ × ℕ)) → IsManagedKept s → IsPart g.nodes g.edges → IsDeadGraph s dead g
+    → IsContraction (IsBridgeNode g.nodes) (NodeLeads g.edges) comps heavy pairs
+    → IsDeadContraction s dead (numbered_comps g comps) (map (number_at g) heavy) pairs

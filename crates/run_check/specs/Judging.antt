@@ -21,7 +21,8 @@ use Rattle.known_laws.specs.PastEntries.{entries}
 use Rattle.check_laws.specs.declared.findings.Finding.{Finding}
 use Rattle.check_laws.specs.declared.findings.Finding.TheVariants as finding
 use Rattle.check_laws.specs.declared.findings.Why.{Why}
-use Rattle.check_laws.specs.Behind.{in_turn, state_of, AllInOrder, GivesSnap, IsInOrderBehind, MayBePendingBehind, RepliesBehind}
+use Rattle.check_laws.specs.Behind.{in_turn, state_of, AllInOrder, GivesSnap, IsInOrderBehind, MayBePendingBehind}
+use Rattle.check_laws.specs.Behind.{RepliesBehind}
 use Rattle.check_laws.specs.Findings.{FailsBy, IsFinding, NothingFollows}
 use Rattle.check_laws.specs.Order.{IsTurn, CitesSo}
 use Rattle.caller_turns.specs.Shapes.{TellsPhase}
@@ -67,12 +68,14 @@ MayNotReply h past m = (told : Told) → RepliesBehind (is_read m.op) h past (ne
 
 -- the answer of an entry's call is right
 abbrev pub AnswersRightly : Finished → Made → Replay → Replay → Bool → Type 0
-AnswersRightly h m old new true = (past : List Noted) → MayReply h past old m → (told : Told) × Replied h past m old new told
+AnswersRightly h m old new true = (past : List Noted)
+    → MayReply h past old m → (told : Told) × Replied h past m old new told
 AnswersRightly h m old new false = (past : List Noted) → MayReply h past old m → MayNotReply h past m
 
 -- so is one that names the phase of a refusal
 abbrev pub TellsRightly : Finished → Made → Replay → Replay → Option Phase → Type 0
-TellsRightly h m old new (Some phase) = (past : List Noted) → MayReply h past old m → (told : Told) × Replied h past m old new told × TellsPhase m.op told phase
+TellsRightly h m old new (Some phase) = (past : List Noted) → MayReply h past old m
+    → (told : Told) × Replied h past m old new told × TellsPhase m.op told phase
 TellsRightly h m old new None = (past : List Noted) → MayReply h past old m → MayNotReply h past m
 
 -- the event is one that the managed side's plain step makes, or the peer side's
@@ -108,7 +111,8 @@ HasPast r = (h : Finished) × (past : List Noted) × IsBehind h past r
 abbrev pub IsReplyUnpinned : List Noted → Thread → ℕ → Reply → Type 0
 IsReplyUnpinned past t k (says.Pending c) = MayBePendingBehind past (state_of past).managed.managed (length past) t c.0
 IsReplyUnpinned past t k says.Unset = MayBeUnset (in_turn past) (state_of past).managed.managed.cells (length past) t k
-IsReplyUnpinned past t k reply = reply ≡ (cell_read (state_of past).managed.managed (thread_number t) k (state_of past).managed.managed.cycle).reply
+IsReplyUnpinned past t k reply = reply
+    ≡ (cell_read (state_of past).managed.managed (thread_number t) k (state_of past).managed.managed.cycle).reply
 
 -- the history's entry behind a past that a replay follows
 pub record IsJudged (h : Finished) (past : List Noted) (r : Replay) (e : Entry) : Type 0 where
@@ -135,7 +139,8 @@ pub record IsWalked (h : Finished) (past : List Noted) (r : Replay) (n : ℕ) : 
 
 -- the entry that comes with a number is in order, or a test fails
 abbrev pub GoesOnFrom : Finished → Entry → Replay → Replay → ℕ → Option Why → Type 0
-GoesOnFrom h e old new n None = (e.number ≡ n) × (n < 2 ^ 62) × ((past : List Noted) → IsWalked h past old n → GoesOn h past e new)
+GoesOnFrom h e old new n None = (e.number ≡ n) × (n < 2 ^ 62)
+    × ((past : List Noted) → IsWalked h past old n → GoesOn h past e new)
 GoesOnFrom h e old new n (Some why) = (past : List Noted) → IsWalked h past old n → FailsBy why h past e
 
 -- behind a past with all entries

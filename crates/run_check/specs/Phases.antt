@@ -18,7 +18,8 @@ is_weakened _ candidates = false
 -- between the mirror and the own marking the phase is the mirrored one until the weakened one was seen
 abbrev pub weakening_phase : ℕ → Bool → Bool → ℕ → Option Phase
 weakening_phase count weakened swept candidates =
-    if not swept && nat_eq count 0 && not weakened then Some at.Mirrored else if not swept && nat_eq count candidates then Some at.Weakened else None
+    if not swept && nat_eq count 0 && not weakened then Some at.Mirrored else
+    if not swept && nat_eq count candidates then Some at.Weakened else None
 
 -- the driver's phase; none where a phase is half done
 abbrev pub plain_phase : Stand → ℕ → Option Phase
@@ -32,7 +33,8 @@ plain_phase (stand.Restored o clear) candidates = Some at.Restored
 
 -- the phase that is told
 abbrev pub told_phase : Stand → ℕ → Reply → Option Phase
-told_phase d candidates (says.At at.Weakened) = if is_weakened d candidates then Some at.Weakened else plain_phase d candidates
+told_phase d candidates (says.At at.Weakened) = if is_weakened d
+    candidates then Some at.Weakened else plain_phase d candidates
 told_phase d candidates reply = plain_phase d candidates
 
 -- the word is refused in it

@@ -79,7 +79,9 @@ impl OpenCycle {
 
     /// Goes on to the next candidate.
     pub(crate) fn go_on(&mut self)
-        ensures next { (n : ℕ) → n < length (handles_of self.old.graph.nodes) → IsAtHandle self.old.graph.nodes self.old.place n → IsAtHandle self.new.graph.nodes self.new.place (n + 1) }
+        ensures next { (n : ℕ) → n < length (handles_of self.old.graph.nodes)
+            → IsAtHandle self.old.graph.nodes self.old.place n
+            → IsAtHandle self.new.graph.nodes self.new.place (n + 1) }
         ensures rest { self.new ≡ record self.old { place = self.new.place } }
     {
         if self.place < self.graph.nodes() {

@@ -80,7 +80,8 @@ impl Replay {
     // Keeps the target of a cell that a `weak` has set, if it answered ok.
     fn keep_target(&mut self, k: Cell, reply: Reply, target: Option<MNum>)
         requires { k.0 < 64 }
-        ensures { self.new ≡ record self.old { readers = record self.old.readers { targets = targets_after self.old.readers.targets k.0 reply target } } }
+        ensures { self.new ≡ record self.old
+            { readers = record self.old.readers { targets = targets_after self.old.readers.targets k.0 reply target } } }
     {
         if let (Reply::Ok, Some(target)) = (reply, target) {
             self.readers.set_target(k, target);
@@ -131,7 +132,8 @@ impl Replay {
 
     // Keeps the components of the open cycle.
     fn keep_listing(&mut self, comps: Components)
-        ensures { (o : KeptCycle) → self.old.cycle ≡ Some o → self.new ≡ record self.old { cycle = Some (record o { comps = Some comps }) } }
+        ensures { (o : KeptCycle) → self.old.cycle ≡ Some o
+            → self.new ≡ record self.old { cycle = Some (record o { comps = Some comps }) } }
     {
         if let Some(open) = &mut self.cycle {
             open.comps = Some(comps);
@@ -180,7 +182,8 @@ impl Replay {
     // Whether the objects that were freed, from the place of a span on, are the ones that the history names there.
     fn frees_as_named(&self, h: &History, span: Span) -> bool
         requires { span.first ≤ length self.now.managed.state.managed.heap.freed }
-        ensures { IsTrue result ↔ StandsInList (managed_numbers h.now.freed_managed) span self.now.managed.state.managed.heap.freed }
+        ensures { IsTrue result ↔ StandsInList
+            (managed_numbers h.now.freed_managed) span self.now.managed.state.managed.heap.freed }
     {
         let _made = self.managed.made();
         let _live = self.managed.live();

@@ -1,7 +1,8 @@
 // Which callers and events an entry can name.
 
 ghost use Rattle.std.specs.Prelude.{◌≤◌, ◌↔◌, IsTrue};
-ghost use Rattle.joint_machine.specs.Lines.{IsAdoptable, IsDriverAct, IsLine, IsManagedAct, IsNamed, IsOneEvent, IsPeerAct, IsPlainObject, IsThread, IsVarOrNone};
+ghost use Rattle.joint_machine.specs.Lines.{IsAdoptable, IsDriverAct, IsLine, IsManagedAct, IsNamed, IsOneEvent};
+ghost use Rattle.joint_machine.specs.Lines.{IsPeerAct, IsPlainObject, IsThread, IsVarOrNone};
 
 use joint_model::{Act, Kind, Op, Thread, Var};
 

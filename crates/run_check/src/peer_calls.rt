@@ -252,7 +252,8 @@ impl Replay {
     // Whether the peers that were freed from the place of a span on are the ones that the history has there.
     fn peers_freed_so(&self, h: &History, span: Span) -> bool
         requires { span.first ≤ length self.now.peers.state.peers.heap.freed }
-        ensures { IsTrue result ↔ StandsInList (peer_numbers h.now.freed_peers) span self.now.peers.state.peers.heap.freed }
+        ensures { IsTrue result ↔ StandsInList
+            (peer_numbers h.now.freed_peers) span self.now.peers.state.peers.heap.freed }
     {
         let _made = self.peers.made();
         let _live = self.peers.live();

@@ -1,7 +1,8 @@
 // What readers' entries may answer: the pins, the targets of cells, the counts, and the cycle whose snap a read waits
 // for.
 
-ghost use Rattle.std.specs.Prelude.{◌≡◌, ◌<◌, ◌^◌, ◌↔◌, IsTrue, None, OnErr, OnOk, Some, drop, length, replicate, slice_get, slice_set};
+ghost use Rattle.std.specs.Prelude.{◌≡◌, ◌<◌, ◌^◌, ◌↔◌, IsTrue, None, OnErr, OnOk, Some, drop, length, replicate};
+ghost use Rattle.std.specs.Prelude.{slice_get, slice_set};
 ghost use Rattle.joint_machine.specs.Lines.{IsManagedThread, IsNamed, IsThread};
 ghost use Rattle.joint_machine.specs.Run.{thread_number};
 ghost use Rattle.reader_counts.specs.Counts.{EndsWithin, IsPendingIn, IsUnknownIn, counts_after, opening_counts};
@@ -23,7 +24,12 @@ pub(crate) struct Readers {
 impl Readers {
     /// Before the first entry.
     pub(crate) fn new(alloc: Global) -> Readers
-        ensures { result ≡ record { pins = replicate 9 None; targets = replicate 64 None; counts = opening_counts; owed = None } }
+        ensures { result ≡ record {
+          pins = replicate 9 None;
+          targets = replicate 64 None;
+          counts = opening_counts;
+          owed = None;
+        } }
     {
         Readers {
             pins: [None; 9],

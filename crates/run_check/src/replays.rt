@@ -1,6 +1,7 @@
 // The replay of a history by both sides' own calls.
 
-ghost use Rattle.std.specs.Prelude.{◌≡◌, ◌+◌, ◌<◌, ◌^◌, length, true, false, [], IfOk, IsTrue, OnOk, List, MatchOption, None, Some, ◌↔◌, ℕ};
+ghost use Rattle.std.specs.Prelude.{◌≡◌, ◌+◌, ◌<◌, ◌^◌, length, true, false, [], IfOk, IsTrue, OnOk, List, MatchOption};
+ghost use Rattle.std.specs.Prelude.{None, Some, ◌↔◌, ℕ};
 ghost use Rattle.std.specs.Bool.{OnTrue};
 ghost use Rattle.joint_machine.specs.declared.names.PhaseWord.{PhaseWord};
 ghost use Rattle.joint_machine.specs.Lines.{IsManagedThread, IsNamed, is_peer_event as made_by_peers, is_read};
@@ -9,7 +10,8 @@ ghost use Rattle.joint_machine.specs.Managed.{cell_read};
 ghost use Rattle.joint_machine.specs.Readers.{MayBeUnset, ReadsCell, is_set_aside};
 ghost use Rattle.joint_machine.specs.Run.{thread_number};
 ghost use Rattle.joint_machine.specs.Told.{Noted, nothing};
-ghost use Rattle.check_laws.specs.Behind.{GivesSnap, IsReplyBehind, MayBePendingBehind, WaitsForSnap, in_turn, state_of};
+ghost use Rattle.check_laws.specs.Behind.{GivesSnap, IsReplyBehind, MayBePendingBehind, WaitsForSnap, in_turn};
+ghost use Rattle.check_laws.specs.Behind.{state_of};
 ghost use Rattle.check_laws.specs.Findings.{NothingFollows};
 ghost use Rattle.check_laws.specs.Knows.{AreKnown};
 ghost use Rattle.caller_turns.specs.Shapes.{IsPartOf};
@@ -17,7 +19,8 @@ ghost use Rattle.run_check.specs.Follows.{Follows, OwedFollows, SidesFollow, owe
 ghost use Rattle.caller_turns.specs.Turns.{HasCount, IsTheirTurn};
 ghost use Rattle.reader_counts.specs.Counts.{EndsWithin};
 ghost use Rattle.run_check.specs.Noting.{noted_in};
-ghost use Rattle.run_check.specs.Judging.{next_noted, AnswersRightly, HasPast, IsBehind, IsJudged, IsReady, IsReplyUnpinned, JudgesRightly, TellsRightly};
+ghost use Rattle.run_check.specs.Judging.{next_noted, AnswersRightly, HasPast, IsBehind, IsJudged, IsReady};
+ghost use Rattle.run_check.specs.Judging.{IsReplyUnpinned, JudgesRightly, TellsRightly};
 
 use crate::cycles::OpenCycle;
 use crate::draws::Recorder;
@@ -177,7 +180,8 @@ impl Replay {
 
     // Whether an entry is no managed one, or the snap that a read waits for, if one does.
     fn gives(&self, made: &Made) -> bool
-        ensures { (past : List Noted) → OwedFollows past self.now.readers.owed → (IsTrue result ↔ GivesSnap past (next_noted past made.now nothing)) }
+        ensures { (past : List Noted) → OwedFollows past self.now.readers.owed
+            → (IsTrue result ↔ GivesSnap past (next_noted past made.now nothing)) }
     {
         if is_peer_event(made.caller, &made.op) {
             return true;
@@ -190,7 +194,8 @@ impl Replay {
 
     // Whether a managed entry is the snap that a read waits for, if one does.
     fn gives_snap(&self, op: &Op) -> bool
-        ensures { (past : List Noted) → OwedFollows past self.now.readers.owed → (IsTrue result ↔ ((k : ℕ) → WaitsForSnap past k → op.now ≡ Op.Snap record { 0 = k })) }
+        ensures { (past : List Noted) → OwedFollows past self.now.readers.owed
+            → (IsTrue result ↔ ((k : ℕ) → WaitsForSnap past k → op.now ≡ Op.Snap record { 0 = k })) }
     {
         match self.readers.owed() {
             None => true,
@@ -240,7 +245,8 @@ impl Replay {
         requires count { self.old.draw.counter < 2 ^ 62 }
         requires caller { IsManagedThread made.now.caller }
         ensures drawn { self.new.draw.counter ≡ self.old.draw.counter + 1 }
-        ensures pins { self.new.readers ≡ record self.old.readers { pins = pins_read self.old.readers.pins (thread_number made.now.caller) made.now.reply } }
+        ensures pins { self.new.readers ≡ record self.old.readers
+            { pins = pins_read self.old.readers.pins (thread_number made.now.caller) made.now.reply } }
         ensures rest { self.new ≡ record self.old { draw = self.new.draw; readers = self.new.readers } }
     {
         self.draw.draw(made, None, &[]);
@@ -254,8 +260,13 @@ impl Replay {
         requires ready { HasPast self.old }
         requires caller { IsManagedThread made.now.caller }
         requires cell { k.0 < 64 }
-        ensures right { (h : Finished) (past : List Noted) → IsBehind h past self.old → (IsTrue result ↔ IsReplyBehind past (state_of past).managed.managed (length past) made.now.caller k.0 made.now.reply) }
-        ensures rest { OnTrue result (self.new ≡ record self.old { readers = record self.old.readers { owed = owed_by_read self.old.managed.state.managed.cycles made.now.reply self.old.readers.owed } }) }
+        ensures right { (h : Finished) (past : List Noted) → IsBehind h past self.old
+            → (IsTrue result ↔ IsReplyBehind past (state_of past).managed.managed
+            (length past) made.now.caller k.0 made.now.reply) }
+        ensures rest { OnTrue result (self.new ≡ record self.old {
+          readers = record self.old.readers
+              { owed = owed_by_read self.old.managed.state.managed.cycles made.now.reply self.old.readers.owed };
+        }) }
     {
         match self.readers.pin(made.caller) {
             Some(m) => is_same(&made.reply, &Reply::Pinned(m)),
@@ -268,8 +279,12 @@ impl Replay {
         requires ready { HasPast self.old }
         requires caller { IsManagedThread made.now.caller }
         requires cell { k.0 < 64 }
-        ensures right { (h : Finished) (past : List Noted) → IsBehind h past self.old → (IsTrue result ↔ IsReplyUnpinned past made.now.caller k.0 made.now.reply) }
-        ensures rest { OnTrue result (self.new ≡ record self.old { readers = record self.old.readers { owed = owed_by_read self.old.managed.state.managed.cycles made.now.reply self.old.readers.owed } }) }
+        ensures right { (h : Finished) (past : List Noted) → IsBehind h past self.old
+            → (IsTrue result ↔ IsReplyUnpinned past made.now.caller k.0 made.now.reply) }
+        ensures rest { OnTrue result (self.new ≡ record self.old {
+          readers = record self.old.readers
+              { owed = owed_by_read self.old.managed.state.managed.cycles made.now.reply self.old.readers.owed };
+        }) }
     {
         match made.reply {
             Reply::Pending(c) => self.reads_pending(made.caller, c),
@@ -282,8 +297,12 @@ impl Replay {
     fn reads_pending(&mut self, caller: Thread, c: Cycle) -> bool
         requires ready { HasPast self.old }
         requires caller { IsManagedThread caller }
-        ensures right { (h : Finished) (past : List Noted) → IsBehind h past self.old → (IsTrue result ↔ MayBePendingBehind past (state_of past).managed.managed (length past) caller c.0) }
-        ensures rest { OnTrue result (self.new ≡ record self.old { readers = record self.old.readers { owed = owed_by_read self.old.managed.state.managed.cycles (Reply.Pending c) self.old.readers.owed } }) }
+        ensures right { (h : Finished) (past : List Noted) → IsBehind h past self.old
+            → (IsTrue result ↔ MayBePendingBehind past (state_of past).managed.managed (length past) caller c.0) }
+        ensures rest { OnTrue result (self.new ≡ record self.old {
+          readers = record self.old.readers
+              { owed = owed_by_read self.old.managed.state.managed.cycles (Reply.Pending c) self.old.readers.owed };
+        }) }
     {
         let cycles = self.managed.cycles();
         let is_open = self.managed.open_cycle().is_some();
@@ -298,7 +317,8 @@ impl Replay {
     fn reads_unset(&self, caller: Thread, k: Cell) -> bool
         requires caller { IsManagedThread caller }
         requires cell { k.0 < 64 }
-        ensures { (h : Finished) (past : List Noted) → IsBehind h past self.now → (IsTrue result ↔ MayBeUnset (in_turn past) (state_of past).managed.managed.cells (length past) caller k.0) }
+        ensures { (h : Finished) (past : List Noted) → IsBehind h past self.now
+            → (IsTrue result ↔ MayBeUnset (in_turn past) (state_of past).managed.managed.cells (length past) caller k.0) }
     {
         let live = match self.readers.target(k) {
             None => true,
@@ -311,7 +331,9 @@ impl Replay {
     fn reads_set(&self, reply: &Reply, k: Cell) -> bool
         requires cell { k.0 < 64 }
         requires reply { is_set_aside reply.now ≡ false }
-        ensures { (h : Finished) (past : List Noted) (t : ℕ) → IsBehind h past self.now → (IsTrue result ↔ (reply.now ≡ (cell_read (state_of past).managed.managed t k.0 (state_of past).managed.managed.cycle).reply)) }
+        ensures { (h : Finished) (past : List Noted) (t : ℕ) → IsBehind h past self.now
+            → (IsTrue result ↔ (reply.now ≡ (cell_read (state_of past).managed.managed t k.0
+            (state_of past).managed.managed.cycle).reply)) }
     {
         if self.managed.open_cycle().is_some() {
             return false;

@@ -209,7 +209,8 @@ fn is_notice_at(h: &History, side: &ManagedSide, i: u32) -> bool
 pub(crate) fn taken_as_named(h: &History, side: &ManagedSide, span: Span) -> bool
     requires within { IsWithin span (length side.now.state.managed.notices) }
     requires few { length side.now.state.managed.notices ≤ length side.now.state.managed.heap.freed }
-    ensures { IsTrue result ↔ IsStretch (managed_numbers h.now.notices) span (stretch side.now.state.managed.notices span) }
+    ensures { IsTrue result ↔ IsStretch (managed_numbers h.now.notices) span
+        (stretch side.now.state.managed.notices span) }
 {
     let _made = side.made();
     let _live = side.live();

@@ -62,7 +62,8 @@ in-past (n ∷ ns) f c = ⊎_elim (λ (e : n.entry ≡ f). (n, inl refl, e)) (λ
 
 in-entries : (ns : List Noted) (x : Noted) → InPast ns x → Contains (entries ns) x.entry
 in-entries [] x p = absurd p
-in-entries (n ∷ ns) x p = ⊎_elim (λ (e : n ≡ x). subst (λ (z : Noted). Contains (entries (n ∷ ns)) z.entry) e (Contains-here n.entry (entries ns))) (λ q. Contains-there x.entry n.entry (entries ns) (in-entries ns x q)) p
+in-entries (n ∷ ns) x p = ⊎_elim (λ (e : n ≡ x). subst (λ (z : Noted). Contains (entries (n ∷ ns)) z.entry) e (Contains-here n.entry (entries ns)))
+    (λ q. Contains-there x.entry n.entry (entries ns) (in-entries ns x q)) p
 
 -- what is known of any line stands in the managed list, if it belongs there
 pub known-in-list : (v : View) (a : IsDrawnView v) (i : ℕ) (f : Entry) → Contains (line_known v i) f → stands_in 0 f ≡ true → Contains (line_known v 0) f
@@ -84,11 +85,13 @@ open-line [] = refl
 open-line (x ∷ h) = by (is_in 0 x) refl (open-line h)
   where
     by : (b : Bool) → is_in 0 x ≡ b → open_among (entries (line 0 h)) ≡ open_in h → open_among (entries (line 0 (x ∷ h))) ≡ open_after x.entry.made.op (open_in h)
-    by true e r = ap (λ l. open_among (entries l)) (line_in 0 x h e) ∙ (ap open_among (entries_append (line 0 h) (x ∷ [])) ∙ (open-more None (entries (line 0 h)) x.entry ∙ ap (open_after x.entry.made.op) r))
+    by true e r = ap (λ l. open_among (entries l)) (line_in 0 x h e)
+        ∙ (ap open_among (entries_append (line 0 h) (x ∷ [])) ∙ (open-more None (entries (line 0 h)) x.entry ∙ ap (open_after x.entry.made.op) r))
     by false e r = ap (λ l. open_among (entries l)) (line_out 0 x h e) ∙ (r ∙ sym (else-open x.entry.made.caller x.entry.made.op (sym (stands-by x.entry) ∙ e) (open_in h)))
 
 -- an entry that set a cell was drawn with its target
-set-by : (s : ManagedReplay) (pins : List (Option ℕ)) (t : Thread) (o : Op) (r : Reply) (told : Told) (c : ℕ) → r ≡ (managed_answer (with_pins s pins) t o told).reply → SetsCell o c → r ≡ says.Ok → (m : ℕ) × (sets_by o (cell_target s t o r) ≡ Some (c, m))
+set-by : (s : ManagedReplay) (pins : List (Option ℕ)) (t : Thread) (o : Op) (r : Reply) (told : Told) (c : ℕ)
+    → r ≡ (managed_answer (with_pins s pins) t o told).reply → SetsCell o c → r ≡ says.Ok → (m : ℕ) × (sets_by o (cell_target s t o r) ≡ Some (c, m))
 set-by s pins t (op.Line (act.Weak k v)) r told c a q ok = by (slot s.managed.heap.vars u) refl
   where
     u : ℕ
@@ -264,9 +267,11 @@ operations_are_answered (M n) index a es r old new before after own o makes exac
       alone = w.alone;
       list = line_known new 0;
       begins = ([], append-nil (line_known new 0));
-      has = λ g d st. (let p = entries_begin (known old 0) (known new 0) (makes.more 0) in subst (λ l. Contains l g) p.1 (Contains-append_left (line_known old 0) p.0 g (known-in-list old before (caller_line g.made.caller) g d st)));
+      has = λ g d st. (let p = entries_begin (known old 0) (known new 0) (makes.more 0) in
+          subst (λ l. Contains l g) p.1 (Contains-append_left (line_known old 0) p.0 g (known-in-list old before (caller_line g.made.caller) g d st)));
       exact = λ k q. subst (λ z. IsAsideBy (line_known new 0) k z) (sym (w.reply ∙ x.answer))
-          (subst (λ z. IsAsideBy (line_known new 0) z (reply_of x.got)) (f.1 k (subst (λ z. ReadsCell z k) w.first q)) (exact-aside new after (known old (caller_line (M n))) (cell_of a) x.got x.exact));
+          (subst (λ z. IsAsideBy (line_known new 0) z (reply_of x.got)) (f.1 k (subst (λ z. ReadsCell z k) w.first q))
+          (exact-aside new after (known old (caller_line (M n))) (cell_of a) x.got x.exact));
     }
 operations_are_answered (P n) index a es r old new before after own o makes exact is e c read = absurd is
 operations_are_answered C index a es r old new before after own o makes exact is e c read = absurd is

@@ -27,7 +27,8 @@ use Rattle.run_laws.specs.Threads.{thread_lines, HoldsItsLines, OthersLinesPass,
 next-line : (script : List (Thread × Act)) (n : ℕ) (line : Thread × Act) → slice_get script n ≡ Some line → take (n + 1) script ≡ take n script ++ line ∷ []
 next-line script n line e = take_more script n line (slice_get_within script n line e) ∙ ap (λ z. take n script ++ z ∷ []) (get_or_from_slice_get script n line line e)
 
-pub numbered-next : (script : List (Thread × Act)) (n : ℕ) (line : Thread × Act) → slice_get script n ≡ Some line → numbered_from 1 (take (n + 1) script) ≡ numbered_from 1 (take n script) ++ (n + 1, line) ∷ []
+pub numbered-next : (script : List (Thread × Act)) (n : ℕ) (line : Thread × Act) → slice_get script n ≡ Some line
+    → numbered_from 1 (take (n + 1) script) ≡ numbered_from 1 (take n script) ++ (n + 1, line) ∷ []
 numbered-next script n line e =
     ap (numbered_from 1) (next-line script n line e)
     ∙ (numbers_go_on 1 (take n script) line

@@ -56,18 +56,21 @@ above-less old new (e ∷ es) p a = (λ i. below_front e.number (known old i) (p
 pub told_callers_add : ToldCallersAdd
 told_callers_add driver told heard before after ended left es tells hears same makes answered tells' hears' =
     let line = caller_line before.thread in
-    let own_left : own left ≡ line_known ended.view (caller_line after.thread) = ap line_entries (tells'.same (caller_line left.thread)) ∙ ap (λ t. line_known ended.view (caller_line t)) (tells'.thread ∙ same) in
+    let own_left : own left ≡ line_known ended.view (caller_line after.thread) = ap line_entries (tells'.same (caller_line left.thread))
+    ∙ ap (λ t. line_known ended.view (caller_line t)) (tells'.thread ∙ same) in
     record {
       more = λ i. subst (λ l. IsPrefix l (known heard.view i)) (tells.same i) (hears'.knew i);
       above = above-less driver.view after.view es hears.heard makes.above;
       own_more = own_left ∙ (makes.own_more ∙ ap (λ l. l ++ es) hears.own_stay);
-      heard = subst (λ l. IsPrefix l (line_known heard.view line)) (sym (own_left ∙ ap (λ t. line_known ended.view (caller_line t)) hears.thread)) (prefix-map (λ (k : KeptEntry). k.entry) (known ended.view line) (known heard.view line) (hears'.heard line));
+      heard = subst (λ l. IsPrefix l (line_known heard.view line)) (sym (own_left ∙ ap (λ t. line_known ended.view (caller_line t)) hears.thread))
+          (prefix-map (λ (k : KeptEntry). k.entry) (known ended.view line) (known heard.view line) (hears'.heard line));
       reads = λ is e c r.
           let w = answered (subst IsManagedThread (sym hears.thread) is) e c r in
           record {
             alone = w.alone;
             list = w.list;
-            begins = prefix-then w.list (line_known ended.view 0) (line_known heard.view 0) w.begins (prefix-map (λ (k : KeptEntry). k.entry) (known ended.view 0) (known heard.view 0) (hears'.heard 0));
+            begins = prefix-then w.list (line_known ended.view 0) (line_known heard.view 0) w.begins
+                (prefix-map (λ (k : KeptEntry). k.entry) (known ended.view 0) (known heard.view 0) (hears'.heard 0));
             has = λ f d st. w.has f (told-in f (caller_line f.made.caller) d) st;
             exact = w.exact;
           };
@@ -95,7 +98,8 @@ below-in n (k ∷ ks) e b c = ⊎_elim (λ (q : k.entry ≡ e). subst (λ z. z.n
 
 pub above-in : (v : View) (es : List Entry) (e f : Entry) (i : ℕ) → AreAbove v es → Contains (line_known v i) e → Contains es f → e.number < f.number
 above-in v [] e f i a c d = absurd (Contains-nil f d)
-above-in v (x ∷ es) e f i a c d = ⊎_elim (λ (q : x ≡ f). subst (λ z. e.number < z.number) q (below-in x.number (known v i) e (a.0 i) c)) (λ d'. above-in v es e f i a.1 c d') (Contains-cons_cases x es f d)
+above-in v (x ∷ es) e f i a c d = ⊎_elim (λ (q : x ≡ f). subst (λ z. e.number < z.number) q (below-in x.number (known v i) e (a.0 i) c))
+    (λ d'. above-in v es e f i a.1 c d') (Contains-cons_cases x es f d)
 
 -- lists that rise, and a list behind one with greater numbers
 pub rises-first : (xs ys : List Entry) → Rises (numbers_of (xs ++ ys)) → Rises (numbers_of xs)
@@ -103,7 +107,8 @@ rises-first [] ys r = tt
 rises-first (x ∷ xs) ys r = (All-members (λ m. x.number < m) (numbers_of xs) (λ m c. All-contains (λ y. x.number < y) (numbers_of (xs ++ ys)) m r.0 (number-left xs ys m c)), rises-first xs ys r.1)
   where
     number-left : (xs ys : List Entry) (m : ℕ) → Contains (numbers_of xs) m → Contains (numbers_of (xs ++ ys)) m
-    number-left xs ys m c = let w = Contains-map_cases (λ (e : Entry). e.number) xs m c in subst (Contains (numbers_of (xs ++ ys))) w.2 (Contains-map (λ (e : Entry). e.number) (xs ++ ys) w.0 (Contains-append_left xs ys w.0 w.1))
+    number-left xs ys m c = let w = Contains-map_cases (λ (e : Entry). e.number) xs m c in
+        subst (Contains (numbers_of (xs ++ ys))) w.2 (Contains-map (λ (e : Entry). e.number) (xs ++ ys) w.0 (Contains-append_left xs ys w.0 w.1))
 
 pub rises-last : (xs ys : List Entry) → Rises (numbers_of (xs ++ ys)) → Rises (numbers_of ys)
 rises-last [] ys r = r
@@ -134,7 +139,8 @@ pub own-without : (number : ℕ) (t u : Thread) (made es : List Entry) → is_th
 own-without number t u made es other a = filter-append (λ e. is_thread t e.made.caller) made es ∙ (ap (λ l. entries_by t made ++ l) (none-by number t u es other a) ∙ append-nil (entries_by t made))
 
 -- what was read before stays right: what is made now has numbers above all that was known
-pub reads-on : (v w : View) (before ns es : List Entry) → IsPrefix (line_known v 0) (line_known w 0) → AreAbove v es → AllReadBy v before ns → AllReadBy w (before ++ ns) es → AllReadBy w before (ns ++ es)
+pub reads-on : (v w : View) (before ns es : List Entry) → IsPrefix (line_known v 0) (line_known w 0)
+    → AreAbove v es → AllReadBy v before ns → AllReadBy w (before ++ ns) es → AllReadBy w before (ns ++ es)
 reads-on v w before [] es p above q r = subst (λ l. AllReadBy w l es) (append-nil before) r
 reads-on v w before (n ∷ ns) es p above q r = (
   λ is m.
@@ -159,7 +165,8 @@ no-reads v before (e ∷ es) n = (λ r m. absurd (n e (Contains-here e es) r m),
 
 -- one thread's entries more, which are known now
 module _ (driver heard : View) (t : Thread) (mine mine' made es : List Entry) (number : ℕ) (a : CallerAdds driver heard t mine mine' es) (on : AreOnLine number t es) where
-  pub heard-all : ((e : Entry) → Contains made e → Contains (line_known driver (caller_line e.made.caller)) e) → (e : Entry) → Contains (made ++ es) e → Contains (line_known heard (caller_line e.made.caller)) e
+  pub heard-all : ((e : Entry) → Contains made e → Contains (line_known driver (caller_line e.made.caller)) e)
+      → (e : Entry) → Contains (made ++ es) e → Contains (line_known heard (caller_line e.made.caller)) e
   heard-all known_so e c = ⊎_elim
       (λ d. prefix-in (line_known driver (caller_line e.made.caller)) (line_known heard (caller_line e.made.caller)) e
       (prefix-map (λ (k : KeptEntry). k.entry) (known driver (caller_line e.made.caller)) (known heard (caller_line e.made.caller)) (a.more (caller_line e.made.caller))) (known_so e d))
@@ -167,7 +174,8 @@ module _ (driver heard : View) (t : Thread) (mine mine' made es : List Entry) (n
       (prefix-in mine' (line_known heard (caller_line t)) e a.heard (subst (λ l. Contains l e) (sym a.own_more) (Contains-append_right mine es e d))))
       (Contains-append_cases made es e c)
 
-  pub all-rise : ((e : Entry) → Contains made e → Contains (line_known driver (caller_line e.made.caller)) e) → (((u : Thread) → IsThread u → Rises (numbers_of (entries_by u made))) → Rises (numbers_of made))
+  pub all-rise : ((e : Entry) → Contains made e → Contains (line_known driver (caller_line e.made.caller)) e)
+      → (((u : Thread) → IsThread u → Rises (numbers_of (entries_by u made))) → Rises (numbers_of made))
       → IsThread t → ((u : Thread) → IsThread u → Rises (numbers_of (entries_by u (made ++ es)))) → Rises (numbers_of (made ++ es))
   all-rise known_so before is each =
       rises-both made es
@@ -188,7 +196,8 @@ module _ (driver heard : View) (t : Thread) (mine mine' made es : List Entry) (n
       there : (y : Entry) (ys : List Entry) → es ≡ y ∷ ys → Contains es y
       there y ys q = subst (λ l. Contains l y) (sym q) (Contains-here y ys)
   reads-now (x ∷ y ∷ ns) e known_so = no-reads heard made (x ∷ y ∷ ns)
-      (λ z c r m. let c' = subst (λ l. Contains l z) (sym e) c in let w = a.reads (subst IsManagedThread (by-one number t es z on c') m) z c' r in absurd (let n = ap length (sym e ∙ w.alone) in omega (arith, n)))
+      (λ z c r m. let c' = subst (λ l. Contains l z) (sym e) c in let w = a.reads (subst IsManagedThread (by-one number t es z on c') m) z c' r in
+      absurd (let n = ap length (sym e ∙ w.alone) in omega (arith, n)))
 
   pub all-reads : ((e : Entry) → Contains made e → Contains (line_known driver (caller_line e.made.caller)) e) → AllReadBy driver [] made → AllReadBy heard [] (made ++ es)
   all-reads known_so r =

@@ -22,7 +22,8 @@ use Rattle.joint_machine.specs.LinkedHistories.{IsLinkedBy, managed_end}
 use Rattle.joint_machine.specs.Readers.{AllMayComeReading, EntryMayCome, ReadsCell, entry_after}
 use Rattle.joint_machine.specs.PeerReplay.{is_thread}
 use Rattle.joint_machine.specs.Told.{Noted}
-use Rattle.joint_machine.proofs.Members.{All-members, Contains-at, at-Contains, Contains-here, Contains-nil, Contains-cons_cases, Contains-map, Contains-map_cases, Contains-filter_from, Contains-filter_to}
+use Rattle.joint_machine.proofs.Members.{All-members, Contains-at, at-Contains, Contains-here, Contains-nil, Contains-cons_cases, Contains-map, Contains-map_cases, Contains-filter_from}
+use Rattle.joint_machine.proofs.Members.{Contains-filter_to}
 use Rattle.joint_model.proofs.Merging.{NumberedFrom-high}
 use Rattle.joint_machine.proofs.HeapLemmas.{thread_itself}
 use Rattle.known_laws.specs.PastEntries.{entries}
@@ -96,7 +97,8 @@ filter-rise f (x ∷ es) r = by (f x) (filter-rise f es r.1)
     by false w = w
 
 -- an entry of a linked history is an event that its caller can make, and so one of a thread's
-pub linked-events : (whole : List Noted) (cells : List (Option ℕ)) (s : Linkage) (ns : List Noted) → AllMayComeReading whole cells s ns → (e : Entry) → Contains (entries ns) e → IsEvent e.made.caller e.made.op
+pub linked-events : (whole : List Noted) (cells : List (Option ℕ)) (s : Linkage) (ns : List Noted)
+    → AllMayComeReading whole cells s ns → (e : Entry) → Contains (entries ns) e → IsEvent e.made.caller e.made.op
 linked-events whole cells s [] a e c = absurd (Contains-nil e c)
 linked-events whole cells s (n ∷ ns) a e c = ⊎_elim
     (λ (q : n.entry ≡ e). subst (λ (z : Entry). IsEvent z.made.caller z.made.op) q (by (is_read n.entry.made.op) a.0))
@@ -141,7 +143,8 @@ in-filter (e ∷ es) = ap (λ l. if stands_in 0 e then e ∷ l else l) (in-filte
 
 -- the list by which a read was answered is the managed list before it: it begins the whole one, has all that was made
 -- before, and nothing that was made after
-module _ (v : View) (all : List Entry) (rises : Rises (numbers_of all)) (begins : IsPrefix (line_known v 0) (entries_in 0 all)) (events : (e : Entry) → Contains all e → IsEvent e.made.caller e.made.op) where
+module _ (v : View) (all : List Entry) (rises : Rises (numbers_of all)) (begins : IsPrefix (line_known v 0) (entries_in 0 all))
+    (events : (e : Entry) → Contains all e → IsEvent e.made.caller e.made.op) where
   list-rises : (list : List Entry) → IsPrefix list (line_known v 0) → Rises (numbers_of list)
   list-rises list p =
       let whole : Rises (numbers_of (entries_in 0 all)) = subst (λ l. Rises (numbers_of l)) (sym (in-filter all)) (filter-rise (stands_in 0) all rises) in
@@ -190,7 +193,8 @@ module _ (v : View) (all : List Entry) (rises : Rises (numbers_of all)) (begins 
   )
 
 pub runs_hold_script : RunsHoldScript
-runs_hold_script script h s driver after others left k oth same adds left_are r owns begins = record { lines = subst (HoldsInOrder script) (sym one) held; asides = subst (AsidesAreExact []) (sym one) asides }
+runs_hold_script script h s driver after others left k oth same adds left_are r owns
+    begins = record { lines = subst (HoldsInOrder script) (sym one) held; asides = subst (AsidesAreExact []) (sym one) asides }
   where
     made : List Entry
     made = r.made ++ left
@@ -231,9 +235,11 @@ runs_hold_script script h s driver after others left k oth same adds left_are r 
         (λ u is. subst (λ l. Rises (numbers_of l)) (each-same u is) (filter-rise (λ e. is_thread u e.made.caller) h.entries history-rises))
 
     one : h.entries ≡ made
-    one = rising_entries_are_one h.entries made history-rises made-rises (λ e. (same-in h.entries made each-same (history-threads h k.noted k.linked) e, same-in made h.entries (λ t is. sym (each-same t is)) made-threads e))
+    one = rising_entries_are_one h.entries made history-rises made-rises
+        (λ e. (same-in h.entries made each-same (history-threads h k.noted k.linked) e, same-in made h.entries (λ t is. sym (each-same t is)) made-threads e))
 
     asides : AsidesAreExact [] made
     asides =
-        asides-from after.view made made-rises (subst (λ l. IsPrefix (line_known after.view 0) (entries_in 0 l)) one begins) (λ e c. history-events h k.noted k.linked e (subst (λ l. Contains l e) (sym one) c))
+        asides-from after.view made made-rises (subst (λ l. IsPrefix (line_known after.view 0) (entries_in 0 l)) one begins)
+        (λ e c. history-events h k.noted k.linked e (subst (λ l. Contains l e) (sym one) c))
         [] made refl (all-reads driver.view after.view C (own driver) (own after) r.made left s.line adds left_are.places r.heard r.reads)

@@ -51,7 +51,8 @@ abbrev IsLastOrBelow : List Entry → Entry → Type 0
 IsLastOrBelow last e = Contains last e ⊎ ((f : Entry) → Contains last f → e.number < f.number)
 
 -- a list whose numbers rise ends with those of its entries that are above all others
-split : (es last : List Entry) → Rises (numbers_of es) → Rises (numbers_of last) → ((e : Entry) → Contains last e → Contains es e) → ((e : Entry) → Contains es e → IsLastOrBelow last e) → (before : List Entry) × (es ≡ before ++ last)
+split : (es last : List Entry) → Rises (numbers_of es) → Rises (numbers_of last) → ((e : Entry) → Contains last e → Contains es e)
+    → ((e : Entry) → Contains es e → IsLastOrBelow last e) → (before : List Entry) × (es ≡ before ++ last)
 split [] [] r q among each = ([], refl)
 split [] (y ∷ ys) r q among each = absurd (Contains-nil y (among y (Contains-here y ys)))
 split (x ∷ es) last r q among each = ⊎_elim
@@ -102,10 +103,18 @@ cycle-idle s number es i = subst (λ (p : Phase). phase_after p (next_phase p wo
 cycle-ends : (number : ℕ) (es : List Entry) → AreWholeCycle number es → AllCyclesEnd es
 cycle-ends number es w =
     subst (λ p. EndsFrom p es) w.idle
-    (lines-end ((number, cycle_line) ∷ []) w.standing es (es, [], sym (append-nil es), w.line, idle_leaves_nothing (standing_after w.standing number cycle_line.1 es) (cycle-idle w.standing number es w.idle)))
+    (lines-end ((number, cycle_line) ∷ []) w.standing es (
+      es,
+      [],
+      sym (append-nil es),
+      w.line,
+      idle_leaves_nothing (standing_after w.standing number cycle_line.1 es) (cycle-idle w.standing number es w.idle),
+    ))
 
-module _ (script : List (Thread × Act)) (h : Finished) (d : Waiting) (others : List Pass) (before after : Pass) (fin : IsFinished h) (few : length h.entries < 2 ^ 64) (lawful : (line : Thread × Act) → Contains script line → IsLine line.0 line.1)
-    (all : HasAll d (others ++ after ∷ [])) (owns : All (HasOwn h.entries) (others ++ after ∷ [])) (none : (t : Thread) → IsThread t → StillWaits d t → made_by t h.entries ≡ []) (left : NoneIsLeft script d)
+module _ (script : List (Thread × Act)) (h : Finished) (d : Waiting) (others : List Pass) (before after : Pass) (fin : IsFinished h)
+    (few : length h.entries < 2 ^ 64) (lawful : (line : Thread × Act) → Contains script line → IsLine line.0 line.1)
+    (all : HasAll d (others ++ after ∷ [])) (owns : All (HasOwn h.entries) (others ++ after ∷ []))
+    (none : (t : Thread) → IsThread t → StillWaits d t → made_by t h.entries ≡ []) (left : NoneIsLeft script d)
     (held : All (HoldsItsLines script) others) (drove : HoldsItsLines script before) (w : EndsWithCycle (length script + 1) before after others) where
   abbrev callers : List Pass
   callers = others ++ after ∷ []
@@ -181,7 +190,8 @@ module _ (script : List (Thread × Act)) (h : Finished) (d : Waiting) (others : 
   nothing-held t a b = subst (λ l. HoldsLines opening_standing l (entries_by t parts.0)) (sym a) (subst (HoldsLines opening_standing []) (sym b) (record { places = tt; events = refl }))
 
   holds-driver : Holds C
-  holds-driver = subst (HoldsLines opening_standing (lines_of C (numbered_from 1 script))) (sym by-driver) (subst (λ t. HoldsLines opening_standing (lines_of t (numbered_from 1 script)) (own before)) w.driver drove)
+  holds-driver = subst (HoldsLines opening_standing (lines_of C (numbered_from 1 script))) (sym by-driver)
+      (subst (λ t. HoldsLines opening_standing (lines_of t (numbered_from 1 script)) (own before)) w.driver drove)
 
   holds-other : (t : Thread) → IsThread t → is_thread t C ≡ false → Holds t
   holds-other t is n = ⊎_elim
@@ -256,7 +266,8 @@ held-before s (x ∷ lines) line es h =
     }
 
 -- where the driver only runs cycles it is idle after each line
-line-idle : (s : Standing) (number : ℕ) (line : Thread × Act) (es : List Entry) → (line.0 ≡ C → line ≡ cycle_line) → IsLine line.0 line.1 → s.phase ≡ at.Idle → (standing_after s number line.1 es).phase ≡ at.Idle
+line-idle : (s : Standing) (number : ℕ) (line : Thread × Act) (es : List Entry) → (line.0 ≡ C → line ≡ cycle_line)
+    → IsLine line.0 line.1 → s.phase ≡ at.Idle → (standing_after s number line.1 es).phase ≡ at.Idle
 line-idle s number line es cycles lawful i = by line.0 refl
   where
     by : (t : Thread) → line.0 ≡ t → (standing_after s number line.1 es).phase ≡ at.Idle
@@ -274,7 +285,8 @@ line-idle s number line es cycles lawful i = by line.0 refl
         others-stay (act.Finalise k) l = absurd l.1
         others-stay a l = refl
 
-so-far-idle : (script : List (Thread × Act)) (number : ℕ) (s t : Standing) (es : List Entry) → DrivesCycles script → HoldsSoFar s (numbered_from number script) es t → s.phase ≡ at.Idle → t.phase ≡ at.Idle
+so-far-idle : (script : List (Thread × Act)) (number : ℕ) (s t : Standing) (es : List Entry)
+    → DrivesCycles script → HoldsSoFar s (numbered_from number script) es t → s.phase ≡ at.Idle → t.phase ≡ at.Idle
 so-far-idle [] number s t es cycles h i = ap (λ (z : Standing). z.phase) h.1 ∙ i
 so-far-idle (line ∷ script) number s t es cycles h i =
     so-far-idle script (number + 1) (standing_after s number line.1 h.0) t h.1 (λ l c. cycles l (Contains-there l line script c)) h.4
@@ -285,9 +297,11 @@ cycle_lines_end_runs script h cycles r =
     let held = subst (λ l. HoldsLines opening_standing l h.entries) (numbers_go_on 1 script cycle_line) r.lines in
     let w = held-before opening_standing (numbered_from 1 script) (1 + length script, cycle_line) h.entries held in
     let idle = so-far-idle script 1 opening_standing w.mid w.first cycles w.before refl in
-    let rest : w.rest ≡ [] = subst (λ (p : Phase). ArePhases (standing_after w.mid (1 + length script) cycle_line.1 w.own).candidates (phases_left p) w.rest) (cycle-idle w.mid (1 + length script) w.own idle) w.left.events in
+    let rest : w.rest ≡ [] = subst (λ (p : Phase). ArePhases (standing_after w.mid (1 + length script) cycle_line.1 w.own).candidates (phases_left p) w.rest)
+    (cycle-idle w.mid (1 + length script) w.own idle) w.left.events in
     let first : HoldsLines opening_standing (numbered_from 1 script) w.first =
-    subst (HoldsLines opening_standing (numbered_from 1 script)) (append-nil w.first) (held_lines_end opening_standing w.mid (numbered_from 1 script) w.first w.before [] (idle_leaves_nothing w.mid idle))
+    subst (HoldsLines opening_standing (numbered_from 1 script)) (append-nil w.first)
+    (held_lines_end opening_standing w.mid (numbered_from 1 script) w.first w.before [] (idle_leaves_nothing w.mid idle))
     in
     record {
       noted = r.noted;

@@ -115,7 +115,11 @@ operations_are_lines s t index a es r o k =
     let p = operation-plain t a o in
     let w = ⊎_elim (one-event t index a k.answered k.rest r p) (λ z. ⊎_elim (two-events t index a k.answered k.rest r p) (three-events t index a k.answered k.rest r p) z) k.ends in
     subst (AreLine s index (t, a)) (sym k.all)
-    (record { lawful = own-line t a o; places = (record { caller = refl; line = refl }, w.1); events = events-are s a (entry_by t index r.first (first_of a) k.answered None ∷ k.rest) p (first-is a p, w.0) })
+    (record {
+      lawful = own-line t a o;
+      places = (record { caller = refl; line = refl }, w.1);
+      events = events-are s a (entry_by t index r.first (first_of a) k.answered None ∷ k.rest) p (first-is a p, w.0);
+    })
 
 pub others_keep_standing : OthersKeepStanding
 others_keep_standing s t index a es o = stays a (operation-plain t a o)

@@ -14,7 +14,8 @@ use Rattle.joint_machine.specs.LinkedHistories.{IsLinked, IsLinkedBy, HasQueued,
 use Rattle.joint_machine.specs.Readers.{is_aside}
 use Rattle.joint_machine.specs.Run.{Moment, IsRun}
 use Rattle.joint_machine.specs.Told.{Noted}
-use Rattle.joint_laws.specs.Afterwards.{IsGoneAfter, NoMirrorBetween, ReadsObject, ReadsPeer, ResolveFrees, SweepFrees, reading_at}
+use Rattle.joint_laws.specs.Afterwards.{IsGoneAfter, NoMirrorBetween, ReadsObject, ReadsPeer, ResolveFrees, SweepFrees}
+use Rattle.joint_laws.specs.Afterwards.{reading_at}
 use Rattle.joint_laws.specs.EventsAt.{HasEventAt}
 use Rattle.joint_laws.specs.Readings.{AreExact}
 use Rattle.history_report.specs.Report.{report}
@@ -26,16 +27,19 @@ use Rattle.run_laws.specs.Waits.{WaitsEnd}
 -- from its resolve on, a read of a cell whose target was freed answers gone, unless it is set aside, the caller's pin
 -- is filled, or a later cycle is open
 abbrev pub FreedReadsAreGone : List Noted → Type 0
-FreedReadsAreGone noted = (i j k m : ℕ) (n : Noted) → ResolveFrees noted i k m → i < j → slice_get noted j ≡ Some n → ReadsObject (reading_at noted j).managed.managed n m
+FreedReadsAreGone noted = (i j k m : ℕ) (n : Noted) → ResolveFrees noted i k m → i < j
+    → slice_get noted j ≡ Some n → ReadsObject (reading_at noted j).managed.managed n m
     → (is_aside n ≡ true) ⊎ IsGoneAfter (reading_at noted j).managed.managed n.entry.made.caller k n.entry.made.reply
 
 -- from its sweep on, a weak read of a freed peer answers gone
 abbrev pub FreedPeersAreGone : List Noted → Type 0
-FreedPeersAreGone noted = (i j p : ℕ) (n : Noted) → SweepFrees noted i p → i < j → slice_get noted j ≡ Some n → ReadsPeer (reading_at noted j).peer n p → n.entry.made.reply ≡ says.Gone
+FreedPeersAreGone noted = (i j p : ℕ) (n : Noted) → SweepFrees noted i p → i < j
+    → slice_get noted j ≡ Some n → ReadsPeer (reading_at noted j).peer n p → n.entry.made.reply ≡ says.Gone
 
 -- from a clear to the next mirror no mirrored reference stands
 abbrev pub ClearsLeaveNone : List Noted → Type 0
-ClearsLeaveNone noted = (i j k : ℕ) → HasEventAt noted i (op.Clear record { 0 = k }) → i < j → NoMirrorBetween noted i j → (reading_at noted j).peer.refs ≡ []
+ClearsLeaveNone noted = (i j k : ℕ) → HasEventAt noted i (op.Clear record { 0 = k })
+    → i < j → NoMirrorBetween noted i j → (reading_at noted j).peer.refs ≡ []
 
 -- what the history of every run has, with what is told beside its entries
 pub record IsBridgeRun (h : Finished) (noted : List Noted) : Type 0 where
@@ -55,7 +59,8 @@ pub record IsBridgeRun (h : Finished) (noted : List Noted) : Type 0 where
   pub peers_gone : FreedPeersAreGone noted
   pub cleared : ClearsLeaveNone noted
   -- every linked history with the same text is this one
-  pub named : (other : Finished) (theirs : IsLinked other) → report other ≡ report h → IsOneHistory other h theirs record { noted = noted; linked = linked }
+  pub named : (other : Finished) (theirs : IsLinked other) → report other ≡ report h
+      → IsOneHistory other h theirs record { noted = noted; linked = linked }
 
 -- the history of a script's run on one thread: it holds the script's lines in their order, and each read answers as the
 -- one machine does, `pending` and `unset` included; every linked history that does both is this one
@@ -64,7 +69,8 @@ pub record IsRunInOrder (script : List (Thread × Act)) (h : Finished) : Type 0 
   pub kept : IsBridgeRun h noted
   pub lines : HoldsInOrder script h.entries
   pub exact : AreExact opening_linkage noted
-  pub only : (other : Finished) (theirs : IsLinked other) → AreExact opening_linkage theirs.noted → HoldsInOrder script other.entries → IsOneHistory other h theirs record { noted = noted; linked = kept.linked }
+  pub only : (other : Finished) (theirs : IsLinked other) → AreExact opening_linkage theirs.noted
+      → HoldsInOrder script other.entries → IsOneHistory other h theirs record { noted = noted; linked = kept.linked }
 
 -- the history of a script's run on many threads: of each thread it holds the lines in their order, and no wait answers
 -- `pending`

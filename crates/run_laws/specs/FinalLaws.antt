@@ -12,8 +12,10 @@ use Rattle.run_laws.specs.Final.{IsRunByThreads, IsRunInOrder}
 -- a linked history with all that was queued, which has fewer than 2^64 entries and holds a script's lines in order with
 -- exact reads, is the history of its run
 abbrev pub HeldInOrderIsRun : Type 0
-HeldInOrderIsRun = (script : List (Thread × Act)) (h : Finished) → IsFinished h → length h.entries < 2 ^ 64 → HoldsExactly script h.entries → IsRunInOrder script h
+HeldInOrderIsRun = (script : List (Thread × Act)) (h : Finished) → IsFinished h
+    → length h.entries < 2 ^ 64 → HoldsExactly script h.entries → IsRunInOrder script h
 
 -- and so it is thread by thread
 abbrev pub HeldByThreadsIsRun : Type 0
-HeldByThreadsIsRun = (script : List (Thread × Act)) (h : Finished) → IsFinished h → length h.entries < 2 ^ 64 → HoldsPerThread script h.entries → WaitsEnd h.entries → IsRunByThreads script h
+HeldByThreadsIsRun = (script : List (Thread × Act)) (h : Finished) → IsFinished h
+    → length h.entries < 2 ^ 64 → HoldsPerThread script h.entries → WaitsEnd h.entries → IsRunByThreads script h

@@ -39,9 +39,12 @@ pub record EndsWithCycle (number : ℕ) (before after : Pass) (others : List Pas
 -- where each caller that was given out has run its thread's lines, nobody else has any, and the driver then made a
 -- cycle more, the finished history is that of the script's run with one cycle more
 abbrev pub CyclesEndRuns : Type 0
-CyclesEndRuns = (script : List (Thread × Act)) (h : Finished) (d : Waiting) (others : List Pass) (before after : Pass) → IsFinished h → length h.entries < 2 ^ 64 → ((line : Thread × Act) → Contains script line → IsLine line.0 line.1)
-    → HasAll d (others ++ after ∷ []) → All (HasOwn h.entries) (others ++ after ∷ []) → ((t : Thread) → IsThread t → StillWaits d t → made_by t h.entries ≡ []) → NoneIsLeft script d
-    → All (HoldsItsLines script) others → HoldsItsLines script before → EndsWithCycle (length script + 1) before after others → IsRunThenCycle script h
+CyclesEndRuns = (script : List (Thread × Act)) (h : Finished) (d : Waiting) (others : List Pass) (before after : Pass)
+    → IsFinished h → length h.entries < 2 ^ 64 → ((line : Thread × Act) → Contains script line → IsLine line.0 line.1)
+    → HasAll d (others ++ after ∷ []) → All (HasOwn h.entries) (others ++ after ∷ [])
+    → ((t : Thread) → IsThread t → StillWaits d t → made_by t h.entries ≡ []) → NoneIsLeft script d
+    → All (HoldsItsLines script) others → HoldsItsLines script before
+    → EndsWithCycle (length script + 1) before after others → IsRunThenCycle script h
 
 -- all lines of the driver are whole cycles
 abbrev pub DrivesCycles : List (Thread × Act) → Type 0
@@ -49,4 +52,5 @@ DrivesCycles script = (line : Thread × Act) → Contains script line → line.0
 
 -- then a run line after line whose last line is a cycle is the run of the lines before it with one cycle more
 abbrev pub CycleLinesEndRuns : Type 0
-CycleLinesEndRuns = (script : List (Thread × Act)) (h : Finished) → DrivesCycles script → IsRunInOrder (script ++ cycle_line ∷ []) h → IsRunThenCycle script h
+CycleLinesEndRuns = (script : List (Thread × Act)) (h : Finished) → DrivesCycles script
+    → IsRunInOrder (script ++ cycle_line ∷ []) h → IsRunThenCycle script h

@@ -12,14 +12,17 @@ use Rattle.run_laws.specs.Serial.{ReadsAreAnswered}
 
 -- the entries of a thread's operation are those of its line, wherever the driver stands
 abbrev pub OperationsAreLines : Type 0
-OperationsAreLines = (s : Standing) (t : Thread) (index : ℕ) (a : Act) (es : List Entry) (r : Receipt) → IsOperationOf t a → IsOperation t index a es r → AreLine s index (t, a) es
+OperationsAreLines = (s : Standing) (t : Thread) (index : ℕ) (a : Act) (es : List Entry) (r : Receipt)
+    → IsOperationOf t a → IsOperation t index a es r → AreLine s index (t, a) es
 
 -- and leave the driver where it stands
 abbrev pub OthersKeepStanding : Type 0
-OthersKeepStanding = (s : Standing) (t : Thread) (index : ℕ) (a : Act) (es : List Entry) → IsOperationOf t a → standing_after s index a es ≡ s
+OthersKeepStanding = (s : Standing) (t : Thread) (index : ℕ) (a : Act) (es : List Entry)
+    → IsOperationOf t a → standing_after s index a es ≡ s
 
 -- a read among them, whose answer is exact by what the caller knows then, is answered by the managed list that the
 -- caller knows
 abbrev pub OperationsAreAnswered : Type 0
-OperationsAreAnswered = (t : Thread) (index : ℕ) (a : Act) (es : List Entry) (r : Receipt) (old new : View) → IsDrawnView old → IsDrawnView new → IsOperationOf t a → IsOperation t index a es r
+OperationsAreAnswered = (t : Thread) (index : ℕ) (a : Act) (es : List Entry) (r : Receipt) (old new : View)
+    → IsDrawnView old → IsDrawnView new → IsOperationOf t a → IsOperation t index a es r
     → MakesAll t old new es → ReadsExactly t old new a r.reply → ReadsAreAnswered t old new es

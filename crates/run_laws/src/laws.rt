@@ -3,8 +3,10 @@
 ghost use Rattle.run_laws.specs.FinalLaws.{HeldByThreadsIsRun, HeldInOrderIsRun};
 ghost use Rattle.run_laws.specs.LastCycle.{CycleLinesEndRuns, CyclesEndRuns};
 ghost use Rattle.run_laws.specs.Lines.{OperationsAreAnswered, OperationsAreLines, OthersKeepStanding};
-ghost use Rattle.run_laws.specs.Serial.{AllAreGiven, DriverRunsOn, DriversAdd, NothingIsRun, OthersRunOn, RunsHoldScript, ToldCallersAdd};
-ghost use Rattle.run_laws.specs.Threads.{CallersWaitsEnd, MoreWaitsEnd, OperationsWaitsEnd, OthersLinesPass, OwnLinesAdd, OwnLinesEnd, ThreadsHoldScript};
+ghost use Rattle.run_laws.specs.Serial.{AllAreGiven, DriverRunsOn, DriversAdd, NothingIsRun, OthersRunOn};
+ghost use Rattle.run_laws.specs.Serial.{RunsHoldScript, ToldCallersAdd};
+ghost use Rattle.run_laws.specs.Threads.{CallersWaitsEnd, MoreWaitsEnd, OperationsWaitsEnd, OthersLinesPass};
+ghost use Rattle.run_laws.specs.Threads.{OwnLinesAdd, OwnLinesEnd, ThreadsHoldScript};
 
 /// The entries of a thread's operation are those of its line, and leave the driver where it stands; a read among them
 /// that is exact by what its caller knows is answered by the managed list that it knows.

@@ -8,15 +8,18 @@ use Rattle.run_summary.specs.declared.tallies.Tally.{Tally}
 
 -- ` managed A peers B handles H`, with its newline
 abbrev pub objects_text : Objects → List ℕ
-objects_text o = codes " managed " ++ decimal o.managed ++ codes " peers " ++ decimal o.peers ++ codes " handles " ++ decimal o.handles ++ codes "\n"
+objects_text o = codes " managed " ++ decimal o.managed ++ codes
+    " peers " ++ decimal o.peers ++ codes " handles " ++ decimal o.handles ++ codes "\n"
 
 -- `seed SEED size SIZE mode MODE`
 abbrev pub command_text : ℕ → ℕ → Mode → List ℕ
-command_text seed size mode = codes "seed " ++ decimal seed ++ codes " size " ++ decimal size ++ codes " mode " ++ mode_text mode ++ codes "\n"
+command_text seed size mode = codes "seed " ++ decimal seed ++ codes
+    " size " ++ decimal size ++ codes " mode " ++ mode_text mode ++ codes "\n"
 
 -- `lines L cycles C`, `made ..` and `live ..`
 abbrev pub counts_text : ℕ → Tally → List ℕ
-counts_text lines t = codes "lines " ++ decimal lines ++ codes " cycles " ++ decimal t.cycles ++ codes "\nmade" ++ objects_text t.made ++ codes "live" ++ objects_text t.left
+counts_text lines t = codes "lines " ++ decimal lines ++ codes " cycles " ++ decimal
+    t.cycles ++ codes "\nmade" ++ objects_text t.made ++ codes "live" ++ objects_text t.left
 
 -- the four lines
 abbrev pub summary_text : ℕ → ℕ → Mode → ℕ → Tally → List ℕ

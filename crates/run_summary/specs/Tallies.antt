@@ -90,15 +90,27 @@ freed_peers _ = 0
 
 -- with what an event made
 abbrev pub more : Objects → Op → Reply → Objects
-more o e r = record { managed = o.managed + one (makes_managed e r); peers = o.peers + one (makes_peer e r); handles = o.handles + one (makes_handle e r) }
+more o e r = record {
+  managed = o.managed + one (makes_managed e r);
+  peers = o.peers + one (makes_peer e r);
+  handles = o.handles + one (makes_handle e r);
+}
 
 -- without what an event freed or removed
 abbrev pub less : Objects → Op → Reply → Objects
-less o e r = record { managed = o.managed - freed_managed r; peers = o.peers - freed_peers r; handles = o.handles - one (removes_handle e r) }
+less o e r = record {
+  managed = o.managed - freed_managed r;
+  peers = o.peers - freed_peers r;
+  handles = o.handles - one (removes_handle e r);
+}
 
 -- the tally after a further event and its reply
 abbrev pub tallied : Tally → Op → Reply → Tally
-tallied t e r = record { cycles = t.cycles + one (opens_cycle e); made = more t.made e r; left = less (more t.left e r) e r }
+tallied t e r = record {
+  cycles = t.cycles + one (opens_cycle e);
+  made = more t.made e r;
+  left = less (more t.left e r) e r;
+}
 
 -- the tally after further entries
 abbrev pub tally_from : Tally → List Entry → Tally

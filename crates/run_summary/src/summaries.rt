@@ -76,7 +76,8 @@ pub fn write_summary<K: Sink>(
     tally: &Tally,
     out: &mut K,
 ) -> Result<(), Failed>
-    ensures { Writes (K.held out.old) (K.held out.new) (K.faults out.old) (K.faults out.new) result (summary_text seed size mode lines tally.now) }
+    ensures { Writes (K.held out.old) (K.held out.new) (K.faults out.old)
+        (K.faults out.new) result (summary_text seed size mode lines tally.now) }
 {
     let mut line = Line::new();
     add_command(&mut line, seed, size, mode);

@@ -49,7 +49,8 @@ append_cycles xs ys =
     ∙ ap (λ n. cycles_of xs + n) (length-filter is_cycle ys)
 
 -- the numbers of one family more
-line_step : (seed i before own more : ℕ) → before ≡ 6 * i + 3 * circles_of seed i + i / 100 → ((shape_of seed i ≡ 0) × (own ≡ 9)) ⊎ ((0 < shape_of seed i) × (own ≡ 6)) → ((i % 100 ≡ 99) × (more ≡ 1)) ⊎ ((i % 100 ≡ 99 → ⊥) × (more ≡ 0)) → before + own + more ≡ 6 * suc i + 3 * circles_of seed (suc i) + suc i / 100
+line_step : (seed i before own more : ℕ) → before ≡ 6 * i + 3 * circles_of seed i + i / 100 → ((shape_of seed i ≡ 0) × (own ≡ 9)) ⊎ ((0 < shape_of seed i) × (own ≡ 6))
+    → ((i % 100 ≡ 99) × (more ≡ 1)) ⊎ ((i % 100 ≡ 99 → ⊥) × (more ≡ 0)) → before + own + more ≡ 6 * suc i + 3 * circles_of seed (suc i) + suc i / 100
 line_step seed i before own more b (inl o) (inl m) = omega arith
 line_step seed i before own more b (inl o) (inr m) = omega arith
 line_step seed i before own more b (inr o) (inl m) = omega arith
@@ -74,13 +75,15 @@ pub generated_length : (seed size : ℕ) → length (generated seed size) ≡ 6 
 generated_length seed zero = omega arith
 generated_length seed (suc i) =
     parts (generated seed i) (family seed i) (cycle_after i)
-    ∙ line_step seed i (length (generated seed i)) (length (family seed i)) (length (cycle_after i)) (generated_length seed i) (shape_length (shape_of seed i) (thread_of i) (static_of i)) (after_length i)
+    ∙ line_step seed i (length (generated seed i)) (length (family seed i)) (length (cycle_after i))
+    (generated_length seed i) (shape_length (shape_of seed i) (thread_of i) (static_of i)) (after_length i)
 
 pub generated_cycles : (seed size : ℕ) → cycles_of (generated seed size) ≡ size / 100
 generated_cycles seed zero = refl
 generated_cycles seed (suc i) =
     append_cycles (generated seed i ++ family seed i) (cycle_after i)
-    ∙ ap (λ n. n + cycles_of (cycle_after i)) (append_cycles (generated seed i) (family seed i) ∙ ap (λ n. cycles_of (generated seed i) + n) (shape_cycles (shape_of seed i) (thread_of i) (static_of i)))
+    ∙ ap (λ n. n + cycles_of (cycle_after i)) (append_cycles (generated seed i) (family seed i)
+    ∙ ap (λ n. cycles_of (generated seed i) + n) (shape_cycles (shape_of seed i) (thread_of i) (static_of i)))
     ∙ (let induction = generated_cycles seed i in let last = after_cycles i in omega arith)
 
 -- as many families as there are shapes, or a multiple of that

@@ -44,7 +44,8 @@ four_families_text =
 pub record HasKnownTexts : Type 0 where
   pub one : script_text_of (generated 3 1) ≡ one_family_text
   pub four : script_text_of (generated 0 4) ≡ four_families_text
-  pub hundredth : script_text_of (family 2 99 ++ cycle_after 99) ≡ codes "m4 bridge a leafbridge 0 framework 1\nm4 new b plain 1\nm4 set b 0 a\nm4 store g3 b\nm4 drop a\nm4 drop b\nc cycle\n"
+  pub hundredth : script_text_of (family 2 99 ++ cycle_after 99) ≡ codes
+      "m4 bridge a leafbridge 0 framework 1\nm4 new b plain 1\nm4 set b 0 a\nm4 store g3 b\nm4 drop a\nm4 drop b\nc cycle\n"
   pub great : family (2 ^ 64 - 1) 2 ≡ lines_by (M 3) (cached_leaf record { 0 = 2 })
 
 -- what the generator makes of at most 2,800 families is a script

@@ -1,7 +1,9 @@
 // The families of lines, each put behind the lines so far.
 
 ghost use Rattle.std.specs.Prelude.{◌≡◌, ◌≤◌, ◌++◌, OnOk};
-ghost use Rattle.script_generator.specs.Families.{bridge_circle as bridge_circle_acts, cached_leaf as cached_leaf_acts, passed_bridge as passed_bridge_acts, peer_circle as peer_circle_acts, lines_by};
+ghost use Rattle.script_generator.specs.Families.{bridge_circle as bridge_circle_acts, cached_leaf as cached_leaf_acts};
+ghost use Rattle.script_generator.specs.Families.{passed_bridge as passed_bridge_acts, peer_circle as peer_circle_acts};
+ghost use Rattle.script_generator.specs.Families.{lines_by};
 ghost use Rattle.script_generator.specs.Generated.{family, cycle_after};
 
 use joint_model::{Act, Kind, PhaseWord, Sort, StaticNo, Thread, Var};

@@ -1,6 +1,7 @@
 // Laws on generated scripts, each the contract of a function that does nothing.
 
-ghost use Rattle.script_generator.specs.Laws.{HasLines, HasCycles, HasKnownLengths, HasKnownTexts, AreScripts, WritesAreApart};
+ghost use Rattle.script_generator.specs.Laws.{HasLines, HasCycles, HasKnownLengths, HasKnownTexts, AreScripts};
+ghost use Rattle.script_generator.specs.Laws.{WritesAreApart};
 
 /// How many lines and how many cycles a generated script has. One of at most 2,800 families is a script.
 pub fn generated_scripts_fit()

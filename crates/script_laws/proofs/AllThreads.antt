@@ -46,7 +46,8 @@ no-lines t k (x ∷ script) n l =
 no-entries : (whole : List Noted) (cells : List (Option ℕ)) (t : Thread) (s : Linkage) (ns : List Noted) → (IsThread t → ⊥) → AllMayComeReading whole cells s ns → entries_by t (entries ns) ≡ []
 no-entries whole cells t s [] n a = refl
 no-entries whole cells t s (x ∷ ns) n a =
-    ap (λ b. if b then x.entry ∷ entries_by t (entries ns) else entries_by t (entries ns)) (not-it t x.entry.made.caller n (event-thread x.entry.made.caller x.entry.made.op (event-of (is_read x.entry.made.op) whole cells s x a.0)))
+    ap (λ b. if b then x.entry ∷ entries_by t (entries ns) else entries_by t (entries ns))
+    (not-it t x.entry.made.caller n (event-thread x.entry.made.caller x.entry.made.op (event-of (is_read x.entry.made.op) whole cells s x a.0)))
     ∙ no-entries whole cells t (entry_after s x) ns n a.1
 
 pub each_thread_is_all : EachThreadIsAll

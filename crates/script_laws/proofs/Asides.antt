@@ -52,11 +52,13 @@ record IsListOf (ml : List Entry) (s : Managed) : Type 0 where
   cells : (c : ℕ) → ((e : Entry) → Contains ml e → HasSet c e → ⊥) → slot s.cells c ≡ None
 
 -- a read that is set aside answers as the machine does
-aside-reply : (whole : List Noted) (cells : List (Option ℕ)) (s : Managed) (ml : List Entry) (i : ℕ) (t : Thread) (k : ℕ) (r : Reply) → IsListOf ml s → IsReadReply whole cells s i t k r → IsAsideBy ml k r → r ≡ (read_cell s (thread_number t) k).reply
+aside-reply : (whole : List Noted) (cells : List (Option ℕ)) (s : Managed) (ml : List Entry) (i : ℕ) (t : Thread) (k : ℕ) (r : Reply)
+    → IsListOf ml s → IsReadReply whole cells s i t k r → IsAsideBy ml k r → r ≡ (read_cell s (thread_number t) k).reply
 aside-reply whole cells s ml i t k r l may by_list = by r may by_list
   where
     answers : (p o : Option ℕ) → slot s.pins (thread_number t) ≡ p → open_number s.cycle ≡ o → answers_by p o (word_by s (slot s.cells k)) ≡ (read_cell s (thread_number t) k).reply
-    answers p o e f = subst (λ z. answers_by z o (word_by s (slot s.cells k)) ≡ (read_cell s (thread_number t) k).reply) e (subst (λ z. answers_by (slot s.pins (thread_number t)) z (word_by s (slot s.cells k)) ≡ (read_cell s (thread_number t) k).reply) f (reads_are_exact s (thread_number t) k))
+    answers p o e f = subst (λ z. answers_by z o (word_by s (slot s.cells k)) ≡ (read_cell s (thread_number t) k).reply) e
+        (subst (λ z. answers_by (slot s.pins (thread_number t)) z (word_by s (slot s.cells k)) ≡ (read_cell s (thread_number t) k).reply) f (reads_are_exact s (thread_number t) k))
 
     by : (r : Reply) → IsReadReply whole cells s i t k r → IsAsideBy ml k r → r ≡ (read_cell s (thread_number t) k).reply
     by (says.Pending c) m b = answers None (Some c.0) m.0 (l.cycle ∙ b)
@@ -94,14 +96,17 @@ list-more ml e s t g l = record {
 }
 
 -- after each entry it is so again
-list-after : (whole : List Noted) (cells : List (Option ℕ)) (s : Linkage) (n : Noted) (ml : List Entry) (b : Bool) → is_read n.entry.made.op ≡ b → EntryMayCome b whole cells s n → IsListOf ml s.managed.managed
+list-after : (whole : List Noted) (cells : List (Option ℕ)) (s : Linkage) (n : Noted) (ml : List Entry) (b : Bool)
+    → is_read n.entry.made.op ≡ b → EntryMayCome b whole cells s n → IsListOf ml s.managed.managed
     → IsListOf (ml ++ entries_in 0 (n.entry ∷ [])) (entry_after s n).managed.managed
 list-after whole cells s n ml true r w l =
     subst (λ z. IsListOf z (entry_after s n).managed.managed) (sym (other-list ml n.entry (read-line n.entry.made.caller n.entry.made.op w.0.event r)))
     (subst (λ (z : Linkage). IsListOf ml z.managed.managed) (ap (λ b. if b then reader_after s n else linkage_after s n) (sym r)) (record { cycle = l.cycle; cells = l.cells }))
-list-after whole cells s n ml false r w l = subst (λ (z : Linkage). IsListOf (ml ++ entries_in 0 (n.entry ∷ [])) z.managed.managed) (ap (λ b. if b then reader_after s n else linkage_after s n) (sym r)) (by (is_peer_event n.entry.made.caller n.entry.made.op) refl w.lawful)
+list-after whole cells s n ml false r w l = subst (λ (z : Linkage). IsListOf (ml ++ entries_in 0 (n.entry ∷ [])) z.managed.managed)
+    (ap (λ b. if b then reader_after s n else linkage_after s n) (sym r)) (by (is_peer_event n.entry.made.caller n.entry.made.op) refl w.lawful)
   where
-    by : (b : Bool) → is_peer_event n.entry.made.caller n.entry.made.op ≡ b → SideLawful b s n.entry.made n.told → IsListOf (ml ++ entries_in 0 (n.entry ∷ [])) (managed_after s.managed n.entry.made n.told b).managed
+    by : (b : Bool) → is_peer_event n.entry.made.caller n.entry.made.op ≡ b → SideLawful b s n.entry.made n.told
+        → IsListOf (ml ++ entries_in 0 (n.entry ∷ [])) (managed_after s.managed n.entry.made n.told b).managed
     by true p v = subst (λ z. IsListOf z s.managed.managed) (sym (other-list ml n.entry (ap (λ b. 0 == (if b then 1 else if is_read n.entry.made.op then reader_line n.entry.made.caller else 0)) p))) l
     by false p v =
         let side : (0 == side_line n.entry) ≡ true = (λ i. 0 == (if p i then 1 else if r i then reader_line n.entry.made.caller else 0)) in
@@ -110,14 +115,16 @@ list-after whole cells s n ml false r w l = subst (λ (z : Linkage). IsListOf (m
         (list-more ml n.entry s.managed.managed (managed_answer s.managed n.entry.made.caller n.entry.made.op n.told).state.managed
         (subst (HasGone s.managed.managed (managed_answer s.managed n.entry.made.caller n.entry.made.op n.told).state.managed n.entry.made.op) (sym v.replies) gone) l)
 
-exact-from : (whole : List Noted) (cells : List (Option ℕ)) (s : Linkage) (ns : List Noted) (ml : List Entry) → AllMayComeReading whole cells s ns → IsListOf ml s.managed.managed → AsidesAreExact ml (entries ns) → AreExact s ns
+exact-from : (whole : List Noted) (cells : List (Option ℕ)) (s : Linkage) (ns : List Noted) (ml : List Entry)
+    → AllMayComeReading whole cells s ns → IsListOf ml s.managed.managed → AsidesAreExact ml (entries ns) → AreExact s ns
 exact-from whole cells s [] ml a l x = tt
 exact-from whole cells s (n ∷ ns) ml a l x = (
   λ k c. by (is_read n.entry.made.op) refl a.0 k c,
   exact-from whole cells (entry_after s n) ns (ml ++ entries_in 0 (n.entry ∷ [])) a.1 (list-after whole cells s n ml (is_read n.entry.made.op) refl a.0 l) x.1,
 )
   where
-    by : (b : Bool) → is_read n.entry.made.op ≡ b → EntryMayCome b whole cells s n → (k : ℕ) → ReadsCell n.entry.made.op k → n.entry.made.reply ≡ (read_cell s.managed.managed (thread_number n.entry.made.caller) k).reply
+    by : (b : Bool) → is_read n.entry.made.op ≡ b → EntryMayCome b whole cells s n → (k : ℕ) → ReadsCell n.entry.made.op k
+        → n.entry.made.reply ≡ (read_cell s.managed.managed (thread_number n.entry.made.caller) k).reply
     by true r w k c = aside-reply whole cells s.managed.managed ml n.entry.number n.entry.made.caller k n.entry.made.reply l (w.1 k c) (x.0 k c)
     by false r w k c = absurd (no-cell n.entry.made.op k r c)
 

@@ -18,7 +18,8 @@ use Rattle.joint_machine.specs.declared.events.Reply.{Reply}
 use Rattle.joint_machine.specs.declared.events.Reply.TheVariants as says
 use Rattle.joint_machine.specs.declared.events.Entry.{Entry}
 use Rattle.joint_machine.specs.Phases.{next_phase, phases_left, phases_of, IsEventOf, IsClear, AreEach, AreTimes, AreMarkAfterSweep, ArePhase, candidates_after, ArePhases}
-use Rattle.script_laws.specs.Holding.{next_event, AreEventsAfter, Standing, AreWord, AreEvents, phase_after, standing_after, HoldsLines, HoldsInOrder, HoldsPerThread, opening_standing, numbered_from, lines_of, entries_by}
+use Rattle.script_laws.specs.Holding.{next_event, AreEventsAfter, Standing, AreWord, AreEvents, phase_after, standing_after, HoldsLines, HoldsInOrder, HoldsPerThread, opening_standing, numbered_from}
+use Rattle.script_laws.specs.Holding.{lines_of, entries_by}
 use Rattle.script_laws.specs.Ending.{ResolvesLater, ResolveComes, IsEnded, AllCyclesEnd}
 
 -- neither opens nor ends a cycle
@@ -212,7 +213,8 @@ word-leads p word.Sweep q e = (q, e, refl)
 word-leads p word.Restore q e = (q, e, refl)
 word-leads p word.Resolve q e = (q, e, refl)
 
-word-ends : (s : Standing) (w : PhaseWord) (next : Option Phase) (es rest : List Entry) → next_phase s.phase w ≡ next → AreWord s w next es → EndsFrom (phase_after s.phase next) rest → EndsFrom s.phase (es ++ rest)
+word-ends : (s : Standing) (w : PhaseWord) (next : Option Phase) (es rest : List Entry) → next_phase s.phase w ≡ next
+    → AreWord s w next es → EndsFrom (phase_after s.phase next) rest → EndsFrom s.phase (es ++ rest)
 word-ends s w None es rest e a b = calm-from s.phase es rest (subst AreCalm (sym a.all) (subst IsCalm (sym a.refuses) tt, tt)) b
 word-ends s w (Some q) es rest e a b = phases-end s.candidates s.phase (phases_of w) q es rest (word-leads s.phase w q e) a b
 

@@ -220,7 +220,8 @@ abandon-one (contracted o comps heavy xrefs) k k' c c' a b = sym a.0 ∙ b.0
 abandon-one stand k k' c c' a b = absurd a
 
 -- the driver's own events
-driver-one : (s : Linkage) (l l' : ℕ) (o o' : Op) (r r' : Reply) (c c' : Option ℕ) (x y : Told) → tag_of o ≡ tag_of o' → event_words C o ≡ event_words C o' → Comes s l o r c x → Comes s l' o' r' c' y → (tag_of o ≡ 0 → ⊥) → o ≡ o'
+driver-one : (s : Linkage) (l l' : ℕ) (o o' : Op) (r r' : Reply) (c c' : Option ℕ) (x y : Told) → tag_of o ≡ tag_of o'
+    → event_words C o ≡ event_words C o' → Comes s l o r c x → Comes s l' o' r' c' y → (tag_of o ≡ 0 → ⊥) → o ≡ o'
 driver-one s l l' (op.Snap k) (op.Snap k') r r' c c' x y t e a b z = phase-op word.Snap s l l' (op.Snap k) (op.Snap k') r r' c c' x y tt tt a b
 driver-one s l l' (op.Contract k) (op.Contract k') r r' c c' x y t e a b z = phase-op word.Contract s l l' (op.Contract k) (op.Contract k') r r' c c' x y tt tt a b
 driver-one s l l' (op.Mirror k) (op.Mirror k') r r' c c' x y t e a b z = phase-op word.Mirror s l l' (op.Mirror k) (op.Mirror k') r r' c c' x y tt tt a b
@@ -284,14 +285,16 @@ views o o' e (sweeps p) (takes m k q) = absurd (let z = first-same o o' op.Sweep
 views o o' e (takes m k p) (sweeps q) = absurd (let z = first-same o o' (op.Line (act.Finalise m)) op.Sweep e p q in omega (arith, z))
 
 -- two events of one state and caller with the same words
-driver-same : (s : Linkage) (l l' : ℕ) (o o' : Op) (r r' : Reply) (c c' : Option ℕ) (x y : Told) → IsEvent C o → IsEvent C o' → event_words C o ≡ event_words C o' → Comes s l o r c x → Comes s l' o' r' c' y → o ≡ o'
+driver-same : (s : Linkage) (l l' : ℕ) (o o' : Op) (r r' : Reply) (c c' : Option ℕ) (x y : Told) → IsEvent C o
+    → IsEvent C o' → event_words C o ≡ event_words C o' → Comes s l o r c x → Comes s l' o' r' c' y → o ≡ o'
 driver-same s l l' o o' r r' c c' x y v v' e a b = by (tag_of o) refl
   where
     by : (n : ℕ) → tag_of o ≡ n → o ≡ o'
     by zero z = views o o' e (view s l o r c x z v a) (view s l' o' r' c' y (sym (same-tag C o o' v v' e) ∙ z) v' b)
     by (suc n) z = driver-one s l l' o o' r r' c c' x y (same-tag C o o' v v' e) e a b (λ q. omega (arith, q, z))
 
-pub words-same : (t : Thread) (s : Linkage) (l l' : ℕ) (o o' : Op) (r r' : Reply) (c c' : Option ℕ) (x y : Told) → IsEvent t o → IsEvent t o' → event_words t o ≡ event_words t o' → Allowed s t l o r c x → Allowed s t l' o' r' c' y
+pub words-same : (t : Thread) (s : Linkage) (l l' : ℕ) (o o' : Op) (r r' : Reply) (c c' : Option ℕ) (x y : Told)
+    → IsEvent t o → IsEvent t o' → event_words t o ≡ event_words t o' → Allowed s t l o r c x → Allowed s t l' o' r' c' y
     → (t ≡ C → Comes s l o r c x × Comes s l' o' r' c' y) → o ≡ o'
 words-same C s l l' o o' r r' c c' x y v v' e a b d = driver-same s l l' o o' r r' c c' x y v v' e (d refl).0 (d refl).1
 words-same (M n) s l l' o o' r r' c c' x y v v' e a b d = same-event (names_of s (M n)) (M n) o o' (managed-known s n l o r c x v a) (managed-known s n l' o' r' c' y v' b) e

@@ -52,11 +52,13 @@ no-mark s l l' o o' r r' c c' x y p q a b = p
 
 one-not : (number : ℕ) (e e' : Entry) → IsEventOf word.Mark e.made.op → e'.made.op ≡ op.Sweep → OneOn number C e e'
 one-not number e e' p q s n n' d i i' u u' a b =
-    absurd (no-mark s e.made.index e'.made.index e.made.op e'.made.op e.made.reply e'.made.reply e.made.cites e'.made.cites n.told n'.told p q (comes-of s n e i u.caller a) (comes-of s n' e' i' u'.caller b))
+    absurd (no-mark s e.made.index e'.made.index e.made.op e'.made.op e.made.reply e'.made.reply e.made.cites e'.made.cites n.told n'.told p q
+    (comes-of s n e i u.caller a) (comes-of s n' e' i' u'.caller b))
 
 one-not-back : (number : ℕ) (e e' : Entry) → e.made.op ≡ op.Sweep → IsEventOf word.Mark e'.made.op → OneOn number C e e'
 one-not-back number e e' q p s n n' d i i' u u' a b =
-    absurd (no-mark s e'.made.index e.made.index e'.made.op e.made.op e'.made.reply e.made.reply e'.made.cites e.made.cites n'.told n.told p q (comes-of s n' e' i' u'.caller b) (comes-of s n e i u.caller a))
+    absurd (no-mark s e'.made.index e.made.index e'.made.op e.made.op e'.made.reply e.made.reply e'.made.cites e.made.cites n'.told n.told p q
+    (comes-of s n' e' i' u'.caller b) (comes-of s n e i u.caller a))
 
 mark-differs : (o o' : Op) → IsEventOf word.Mark o → o' ≡ op.Sweep → o ≡ o' → ⊥
 mark-differs op.Begin o' p q e = cc
@@ -64,11 +66,13 @@ mark-differs o o' p q e = p
 
 first-shares : (number : ℕ) (es : List Entry) (e' : Entry) (es' : List Entry) → AreTimes word.Mark 1 es → e'.made.op ≡ op.Sweep → Shares number C es (e' ∷ es')
 first-shares number [] e' es' a q = absurd (let z = a.count in cc)
-first-shares number (e ∷ es) e' es' a q = shares-cons number C e e' es es' (one-not number e e' a.each.0 q) (λ same. absurd (mark-differs e.made.op e'.made.op a.each.0 q (ap (λ (x : Entry). x.made.op) same)))
+first-shares number (e ∷ es) e' es' a q = shares-cons number C e e' es es' (one-not number e e' a.each.0 q)
+    (λ same. absurd (mark-differs e.made.op e'.made.op a.each.0 q (ap (λ (x : Entry). x.made.op) same)))
 
 first-shares-back : (number : ℕ) (e : Entry) (es es' : List Entry) → e.made.op ≡ op.Sweep → AreTimes word.Mark 1 es' → Shares number C (e ∷ es) es'
 first-shares-back number e es [] q a = absurd (let z = a.count in cc)
-first-shares-back number e es (e' ∷ es') q a = shares-cons number C e e' es es' (one-not-back number e e' q a.each.0) (λ same. absurd (mark-differs e'.made.op e.made.op a.each.0 q (sym (ap (λ (x : Entry). x.made.op) same))))
+first-shares-back number e es (e' ∷ es') q a = shares-cons number C e e' es es' (one-not-back number e e' q a.each.0)
+    (λ same. absurd (mark-differs e'.made.op e.made.op a.each.0 q (sym (ap (λ (x : Entry). x.made.op) same))))
 
 one-sweep : (number : ℕ) (e e' : Entry) → e.made.op ≡ op.Sweep → e'.made.op ≡ op.Sweep → OneOn number C e e'
 one-sweep number e e' p p' = one-op number C e e' (p ∙ sym p') (subst (λ (o : Op). Agree o e.made.reply e'.made.reply) (sym p) tt)
@@ -153,7 +157,8 @@ none-left [] e = refl
 none-left (n ∷ ns) e = absurd (cc)
 
 -- all lines, and what is left at the end
-pub lines-one : (lines : List (ℕ × (Thread × Act))) (st : Standing) (es es' : List Entry) (k : ℕ) (s : Linkage) (ns ns' : List Noted) → HoldsLines st lines es → HoldsLines st lines es' → entries ns ≡ es → entries ns' ≡ es'
+pub lines-one : (lines : List (ℕ × (Thread × Act))) (st : Standing) (es es' : List Entry) (k : ℕ) (s : Linkage) (ns ns' : List Noted)
+    → HoldsLines st lines es → HoldsLines st lines es' → entries ns ≡ es → entries ns' ≡ es'
     → NumberedFrom k (entries ns) → NumberedFrom k (entries ns')
     → AllPlain s ns → AllPlain s ns' → ns ≡ ns'
 lines-one [] st es es' k s ns ns' h h' e e' d d' c c' =

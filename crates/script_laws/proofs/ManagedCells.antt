@@ -13,7 +13,8 @@ use Rattle.joint_machine.specs.declared.events.Op.TheVariants as op
 use Rattle.joint_machine.specs.declared.events.Reply.{Reply}
 use Rattle.joint_machine.specs.declared.events.Reply.TheVariants as says
 use Rattle.joint_machine.specs.Heaps.{Answered, answer, slot, place, is_full, is_freed}
-use Rattle.joint_machine.specs.Managed.{Managed, OpenCycle, managed_name, managed_line, adopted, met, given_up, with_row, cell_set, target_read, cell_read, read_cell, pin_taken, without_handle, twin_met, twin_kind, twin_fields}
+use Rattle.joint_machine.specs.Managed.{Managed, OpenCycle, managed_name, managed_line, adopted, met, given_up, with_row, cell_set, target_read, cell_read, read_cell, pin_taken, without_handle}
+use Rattle.joint_machine.specs.Managed.{twin_met, twin_kind, twin_fields}
 use Rattle.joint_machine.specs.ManagedReplay.{ManagedReplay, ManagedAllows, managed_answer, registered}
 use Rattle.joint_machine.specs.Readers.{SetsCell}
 use Rattle.joint_machine.specs.Run.{thread_number}

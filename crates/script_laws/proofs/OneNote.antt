@@ -13,7 +13,9 @@ use Rattle.joint_machine.specs.declared.events.Op.TheVariants as op
 use Rattle.joint_machine.specs.declared.events.Reply.{Reply}
 use Rattle.joint_machine.specs.declared.events.Reply.TheVariants as says
 use Rattle.joint_machine.specs.Components.{End}
-use Rattle.joint_machine.specs.Control.{Doing, free, made, lent, gripped, given, met, Stand, idle, snapped, contracted, weakening, marked, restoring, restored, doing_at, MayStart, MayAdopt, MayLand, MayMeet, MayRelease, ThreadAllows, MaySnap, MayContractNow, MayMirrorNow, MayWeakenNow, MayBeginNow, MaySweepNow, MayRestoreNow, MayClearNow, MayResolveNow, MayAbandonNow, MayRefuseNow, DriverAllows, CallerAllows, IsPhaseOf}
+use Rattle.joint_machine.specs.Control.{Doing, free, made, lent, gripped, given, met, Stand, idle, snapped, contracted, weakening, marked, restoring, restored, doing_at, MayStart, MayAdopt, MayLand}
+use Rattle.joint_machine.specs.Control.{MayMeet, MayRelease, ThreadAllows, MaySnap, MayContractNow, MayMirrorNow, MayWeakenNow, MayBeginNow, MaySweepNow, MayRestoreNow, MayClearNow, MayResolveNow}
+use Rattle.joint_machine.specs.Control.{MayAbandonNow, MayRefuseNow, DriverAllows, CallerAllows, IsPhaseOf}
 use Rattle.joint_machine.specs.Lines.{IsEvent, is_peer_event}
 use Rattle.joint_machine.specs.Linked.{Linkage, SideLawful}
 use Rattle.joint_machine.specs.Managed.{Managed, candidates_of}
@@ -140,7 +142,8 @@ Agree (op.Refused word.Snap) r r' = Unit {0}
 Agree (op.Refused w) r r' = (p q : Phase) → r ≡ says.At p → r' ≡ says.At q → p ≡ q
 Agree o r r' = Unit {0}
 
-refusals-one : (s : ManagedReplay) (stand : Stand) (n : ℕ) (w : PhaseWord) (r r' : Reply) (p q : Phase) → IsPhaseOf stand n p → IsPhaseOf stand n q → r ≡ refusal_to s.managed p w → r' ≡ refusal_to s.managed q w
+refusals-one : (s : ManagedReplay) (stand : Stand) (n : ℕ) (w : PhaseWord) (r r' : Reply) (p q : Phase)
+    → IsPhaseOf stand n p → IsPhaseOf stand n q → r ≡ refusal_to s.managed p w → r' ≡ refusal_to s.managed q w
     → TellsPlainly stand (op.Refused w) (phase_of p) → TellsPlainly stand (op.Refused w) (phase_of q) → Agree (op.Refused w) r r' → p ≡ q
 refusals-one s stand n word.Cycle r r' p q a b e f x y g = phases stand n p q a b (seen-cycle stand p x) (seen-cycle stand q y)
 refusals-one s stand n word.Snap r r' p q a b e f x y g = phases stand n p q a b (seen-snap stand p x) (seen-snap stand q y)
@@ -152,12 +155,14 @@ refusals-one s stand n word.Sweep r r' p q a b e f x y g = g p q e f
 refusals-one s stand n word.Restore r r' p q a b e f x y g = g p q e f
 refusals-one s stand n word.Resolve r r' p q a b e f x y g = g p q e f
 
-mirror-told : (s : Linkage) (t : Thread) (l : ℕ) (k : Cycle) (r r' : Reply) (c : Option ℕ) (xs ys : List (End × End)) → IsEvent t (op.Mirror k) → Allowed s t l (op.Mirror k) r c (references_of xs) → Allowed s t l (op.Mirror k) r' c (references_of ys) → xs ≡ ys
+mirror-told : (s : Linkage) (t : Thread) (l : ℕ) (k : Cycle) (r r' : Reply) (c : Option ℕ) (xs ys : List (End × End))
+    → IsEvent t (op.Mirror k) → Allowed s t l (op.Mirror k) r c (references_of xs) → Allowed s t l (op.Mirror k) r' c (references_of ys) → xs ≡ ys
 mirror-told s C l k r r' c xs ys v w x = mirrors s.control.stand s.managed.managed s.peer.peers.issued k.0 c xs ys w x
 mirror-told s (M z) l k r r' c xs ys v w x = absurd v
 mirror-told s (P z) l k r r' c xs ys v w x = absurd v
 
-resolve-told : (s : Linkage) (t : Thread) (l : ℕ) (k : Cycle) (r r' : Reply) (c : Option ℕ) (x y : List Answer) (f g : List ℕ) → IsEvent t (op.Resolve k) → Allowed s t l (op.Resolve k) r c (resolution_of x f) → Allowed s t l (op.Resolve k) r' c (resolution_of y g) → x ≡ y
+resolve-told : (s : Linkage) (t : Thread) (l : ℕ) (k : Cycle) (r r' : Reply) (c : Option ℕ) (x y : List Answer) (f g : List ℕ)
+    → IsEvent t (op.Resolve k) → Allowed s t l (op.Resolve k) r c (resolution_of x f) → Allowed s t l (op.Resolve k) r' c (resolution_of y g) → x ≡ y
 resolve-told s C l k r r' c x y f g v w z = resolves_alike s.control.stand k.0 c x y f g w z
 resolve-told s (M j) l k r r' c x y f g v w z = absurd v
 resolve-told s (P j) l k r r' c x y f g v w z = absurd v
@@ -172,13 +177,16 @@ side-told false s t l o r r' c x y n ev a b w v = managed_told is_one_contractio
     (subst (λ (z : Op × Told). Allowed s t l z.0 r c z.1) (λ i. (e i, p i)) a) (subst (λ (z : Op × Told). Allowed s t l z.0 r' c z.1) (λ i. (e i, q i)) b))
 
 refused-told : (s : Linkage) (l : ℕ) (w : PhaseWord) (r r' : Reply) (c : Option ℕ) (x y : Told) → Allowed s C l (op.Refused w) r c x → Allowed s C l (op.Refused w) r' c y
-    → SideLawful false s (making C l (op.Refused w) r c) x → SideLawful false s (making C l (op.Refused w) r' c) y → TellsPlainly s.control.stand (op.Refused w) x → TellsPlainly s.control.stand (op.Refused w) y → Agree (op.Refused w) r r' → x ≡ y
-refused-told s l w r r' c (phase_of p) (phase_of q) a b d f x y g = ap phase_of (refusals-one s.managed s.control.stand (length (candidates_of s.managed.managed)) w r r' p q a.0 b.0 d.replies f.replies x y g)
+    → SideLawful false s (making C l (op.Refused w) r c) x → SideLawful false s (making C l (op.Refused w) r' c) y
+    → TellsPlainly s.control.stand (op.Refused w) x → TellsPlainly s.control.stand (op.Refused w) y → Agree (op.Refused w) r r' → x ≡ y
+refused-told s l w r r' c (phase_of p) (phase_of q) a b d f x y g = ap phase_of
+    (refusals-one s.managed s.control.stand (length (candidates_of s.managed.managed)) w r r' p q a.0 b.0 d.replies f.replies x y g)
 refused-told s l w r r' c (phase_of p) y a b d f u v g = absurd f.allowed
 refused-told s l w r r' c x y a b d f u v g = absurd d.allowed
 
 one-told : (s : Linkage) (t : Thread) (l : ℕ) (o : Op) (r r' : Reply) (c : Option ℕ) (x y : Told) → IsEvent t o → Allowed s t l o r c x → Allowed s t l o r' c y
-    → SideLawful (is_peer_event t o) s (making t l o r c) x → SideLawful (is_peer_event t o) s (making t l o r' c) y → TellsPlainly s.control.stand o x → TellsPlainly s.control.stand o y → Agree o r r' → x ≡ y
+    → SideLawful (is_peer_event t o) s (making t l o r c) x → SideLawful (is_peer_event t o) s (making t l o r' c) y
+    → TellsPlainly s.control.stand o x → TellsPlainly s.control.stand o y → Agree o r r' → x ≡ y
 one-told s C l (op.Refused w) r r' c x y ev a b d f u v g = refused-told s l w r r' c x y a b d f u v g
 one-told s (M n) l (op.Refused w) r r' c x y ev a b d f u v g = absurd ev
 one-told s (P n) l (op.Refused w) r r' c x y ev a b d f u v g = absurd ev
@@ -189,7 +197,8 @@ side-reply : (side : Bool) (s : Linkage) (t : Thread) (l : ℕ) (o : Op) (r r' :
 side-reply true s t l o r r' c x y ex a b = a.replies ∙ (ap (λ (z : Told). (peer_answer s.peer t o c z).reply) ex ∙ sym b.replies)
 side-reply false s t l o r r' c x y ex a b = a.replies ∙ (ap (λ (z : Told). (managed_answer s.managed t o z).reply) ex ∙ sym b.replies)
 
-one-noted : (s : Linkage) (t : Thread) (l : ℕ) (o : Op) (n n' : ℕ) (r r' : Reply) (c c' : Option ℕ) (x y : Told) → n ≡ n' → PlainComes s (noting n t l o r c x) → PlainComes s (noting n' t l o r' c' y) → Agree o r r' → noting n t l o r c x ≡ noting n' t l o r' c' y
+one-noted : (s : Linkage) (t : Thread) (l : ℕ) (o : Op) (n n' : ℕ) (r r' : Reply) (c c' : Option ℕ) (x y : Told) → n ≡ n'
+    → PlainComes s (noting n t l o r c x) → PlainComes s (noting n' t l o r' c' y) → Agree o r r' → noting n t l o r c x ≡ noting n' t l o r' c' y
 one-noted s t l o n n' r r' c c' x y en a b g =
     let ec : c ≡ c' = caller-cites s t l o r r' c c' x y a.0.order b.0.order in
     let b' : PlainComes s (noting n' t l o r' c y) = subst (λ (z : Option ℕ). PlainComes s (noting n' t l o r' z y)) (sym ec) b in
@@ -198,7 +207,8 @@ one-noted s t l o n n' r r' c c' x y en a b g =
     λ i. noting (en i) t l o (er i) (ec i) (ex i)
 
 -- two entries that may come in one state, and have the same number, caller, line and event
-pub one-note : (s : Linkage) (a b : Noted) → a.entry.number ≡ b.entry.number → a.entry.made.caller ≡ b.entry.made.caller → a.entry.made.index ≡ b.entry.made.index → a.entry.made.op ≡ b.entry.made.op → Agree a.entry.made.op a.entry.made.reply b.entry.made.reply
+pub one-note : (s : Linkage) (a b : Noted) → a.entry.number ≡ b.entry.number → a.entry.made.caller ≡ b.entry.made.caller
+    → a.entry.made.index ≡ b.entry.made.index → a.entry.made.op ≡ b.entry.made.op → Agree a.entry.made.op a.entry.made.reply b.entry.made.reply
     → PlainComes s a → PlainComes s b → a ≡ b
 one-note s a b en et el eo g p q =
     let t = a.entry.made.caller in

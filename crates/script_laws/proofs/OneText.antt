@@ -1,7 +1,8 @@
 -- Two linked histories with one text are one. Line by line, the text gives the caller and the line, and the event's
 -- words; these and the state give the event; of a refusal the reply's words give its phase, and of a read that is set
 -- aside what it answers. Then the entry and what is told plainly of it are one.
-use Rattle.std.proofs.Common.{◌≡◌, ℕ, suc, ◌<◌, ◌≤◌, ◌^◌, ◌⊎◌, inl, inr, Bool, true, false, List, [], ◌∷◌, ◌++◌, get_or, codes, decimal, length, ◌+◌, refl, sym, ◌∙◌, ap, subst, arith, lit≤, true≢false}
+use Rattle.std.proofs.Common.{◌≡◌, ℕ, suc, ◌<◌, ◌≤◌, ◌^◌, ◌⊎◌, inl, inr, Bool, true, false, List, [], ◌∷◌, ◌++◌, get_or, codes, decimal, length, ◌+◌, refl, sym, ◌∙◌, ap, subst, arith, lit≤}
+use Rattle.std.proofs.Common.{true≢false}
 use Rattle.std.proofs.lemmas.List.{append_cancel_left, length-map}
 use Rattle.joint_machine.specs.declared.names.Phase.{Phase}
 use Rattle.joint_machine.specs.declared.names.Phase.TheVariants as at
@@ -60,7 +61,8 @@ phase-read at.Swept ws = refl
 phase-read at.Restored ws = refl
 
 names-one : (r r' : Reply) (vs ws : List (List ℕ)) → reply_words r ++ vs ≡ reply_words r' ++ ws → (p q : Phase) → r ≡ says.At p → r' ≡ says.At q → p ≡ q
-names-one r r' vs ws e p q a b = sym (phase-read p vs) ∙ (ap (λ (z : Reply). phase_in (reply_words z ++ vs)) (sym a) ∙ (ap phase_in e ∙ (ap (λ (z : Reply). phase_in (reply_words z ++ ws)) b ∙ phase-read q ws)))
+names-one r r' vs ws e p q a b = sym (phase-read p vs) ∙ (ap (λ (z : Reply). phase_in (reply_words z ++ vs)) (sym a)
+    ∙ (ap phase_in e ∙ (ap (λ (z : Reply). phase_in (reply_words z ++ ws)) b ∙ phase-read q ws)))
 
 agreeing : (o : Op) (r r' : Reply) → ((p q : Phase) → r ≡ says.At p → r' ≡ says.At q → p ≡ q) → Agree o r r'
 agreeing (op.Refused word.Cycle) r r' f = tt
@@ -126,7 +128,8 @@ record IsOneEvent (h h' : Finished) (n n' : Noted) : Type 0 where
   event : n.entry.made.op ≡ n'.entry.made.op
   words : reply_words n.entry.made.reply ++ rest_words h n.entry ≡ reply_words n'.entry.made.reply ++ rest_words h' n'.entry
 
-one-event : (h h' : Finished) (s : Linkage) (n n' : Noted) → n.entry.number ≡ n'.entry.number → InTurn s n → InTurn s n' → (is_read n.entry.made.op ≡ true) ⊎ (is_read n'.entry.made.op ≡ true) → line_of h n.entry ≡ line_of h' n'.entry → IsOneEvent h h' n n'
+one-event : (h h' : Finished) (s : Linkage) (n n' : Noted) → n.entry.number ≡ n'.entry.number → InTurn s n → InTurn s n'
+    → (is_read n.entry.made.op ≡ true) ⊎ (is_read n'.entry.made.op ≡ true) → line_of h n.entry ≡ line_of h' n'.entry → IsOneEvent h h' n n'
 one-event h h' s n n' number a b r q =
     let e = n.entry in
     let e' = n'.entry in
@@ -148,7 +151,8 @@ one-event h h' s n n' number a b r q =
     }
 
 -- two reads that may come in one state, of one line
-read-one : (h h' : Finished) (b b' : ℕ) (s : Linkage) (n n' : Noted) → b' ≤ 2 ^ 64 → n.entry.number ≡ n'.entry.number → is_read n.entry.made.op ≡ true → ReadComes b s n → ReadComes b' s n' → IsOneEvent h h' n n' → n ≡ n'
+read-one : (h h' : Finished) (b b' : ℕ) (s : Linkage) (n n' : Noted) → b' ≤ 2 ^ 64 → n.entry.number ≡ n'.entry.number
+    → is_read n.entry.made.op ≡ true → ReadComes b s n → ReadComes b' s n' → IsOneEvent h h' n n' → n ≡ n'
 read-one h h' b b' s n n' few number e x y w =
     let m = n.entry.made in
     let m' = n'.entry.made in
@@ -163,7 +167,8 @@ read-one h h' b b' s n n' few number e x y w =
     λ i. noting (number i) (w.caller i) (w.index i) (w.event i) (reply i) (cites i) (told i)
 
 -- two entries of any kind
-entry-one : (h h' : Finished) (b b' : ℕ) (s : Linkage) (n n' : Noted) → b' ≤ 2 ^ 64 → n.entry.number ≡ n'.entry.number → PlainEntry b (is_read n.entry.made.op) s n → PlainEntry b' (is_read n'.entry.made.op) s n' → line_of h n.entry ≡ line_of h' n'.entry → n ≡ n'
+entry-one : (h h' : Finished) (b b' : ℕ) (s : Linkage) (n n' : Noted) → b' ≤ 2 ^ 64 → n.entry.number ≡ n'.entry.number
+    → PlainEntry b (is_read n.entry.made.op) s n → PlainEntry b' (is_read n'.entry.made.op) s n' → line_of h n.entry ≡ line_of h' n'.entry → n ≡ n'
 entry-one h h' b b' s n n' few number x y q = by (is_read n.entry.made.op) refl (is_read n'.entry.made.op) refl x y
   where
     turn : InTurn s n
@@ -178,7 +183,8 @@ entry-one h h' b b' s n n' few number x y q = by (is_read n.entry.made.op) refl 
     by true e false e' u v = absurd (let w = one-event h h' s n n' number turn turn' (inl e) q in true≢false (sym e ∙ (ap is_read w.event ∙ e')))
     by false e true e' u v = absurd (let w = one-event h h' s n n' number turn turn' (inr e') q in true≢false (sym e' ∙ (sym (ap is_read w.event) ∙ e)))
 
-texts-one : (h h' : Finished) (k k' count b b' : ℕ) (s : Linkage) (ns ns' : List Noted) → b' ≤ 2 ^ 64 → NumberedFrom count (entries ns) → NumberedFrom count (entries ns') → AllPlainEntries b s ns → AllPlainEntries b' s ns'
+texts-one : (h h' : Finished) (k k' count b b' : ℕ) (s : Linkage) (ns ns' : List Noted) → b' ≤ 2 ^ 64
+    → NumberedFrom count (entries ns) → NumberedFrom count (entries ns') → AllPlainEntries b s ns → AllPlainEntries b' s ns'
     → entries_text h (entries ns) ++ end_text k ≡ entries_text h' (entries ns') ++ end_text k' → ns ≡ ns'
 texts-one h h' k k' count b b' s [] [] few d d' c c' q = refl
 texts-one h h' k k' count b b' s [] (n ∷ ns) few d d' c c' q = absurd (no-entry h' n.entry (entries ns) (end_text k') _ (sym q))

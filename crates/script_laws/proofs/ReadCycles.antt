@@ -77,7 +77,8 @@ own-with (n ∷ ns) r = by (is_aside n) refl (own-with ns)
   where
     by : (b : Bool) → is_aside n ≡ b → (OwnCyclesEnd (entries (without_aside ns)) → OwnCyclesEnd (entries ns)) → OwnCyclesEnd (entries (n ∷ ns))
     by true e f = (read-own n.entry.made.op (entries ns) (aside-read n e), f (subst (λ z. OwnCyclesEnd (entries z)) (without-cons n ns true e) r))
-    by false e f = (let w = subst (λ z. OwnCyclesEnd (entries z)) (without-cons n ns false e) r in (own-more n.entry.made.op (entries (without_aside ns)) (entries ns) (λ k. resolve-with k ns) w.0, f w.1))
+    by false e f = (let w = subst (λ z. OwnCyclesEnd (entries z)) (without-cons n ns false e) r in
+        (own-more n.entry.made.op (entries (without_aside ns)) (entries ns) (λ k. resolve-with k ns) w.0, f w.1))
 
 pub linked-end : (h : Finished) (noted : List Noted) → IsLinkedBy h noted → AllCyclesEnd h.entries → OwnCyclesEnd h.entries
 linked-end h noted l a =

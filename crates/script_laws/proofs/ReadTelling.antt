@@ -92,7 +92,8 @@ module _ (bound : ℕ) (whole : List Noted) (cells : List (Option ℕ)) (few : (
             ∙ (p.after ∙ sym (ap (λ b. with_stand (if b then reader_after s n else linkage_after s n) p.stand) e));
       }
 
-  one : (s : Linkage) (z : Stand) (k : ℕ) (t : Thread) (l : ℕ) (o : Op) (r : Reply) (c : Option ℕ) (x : Told) → Near s.control.stand z → EntryMayCome (is_read o) whole cells s (noting k t l o r c x) → One s z (noting k t l o r c x)
+  one : (s : Linkage) (z : Stand) (k : ℕ) (t : Thread) (l : ℕ) (o : Op) (r : Reply) (c : Option ℕ) (x : Told)
+      → Near s.control.stand z → EntryMayCome (is_read o) whole cells s (noting k t l o r c x) → One s z (noting k t l o r c x)
   one s z k (M t) l (op.Line (act.Read y)) r c x near w = read s z k t l (op.Line (act.Read y)) r c x refl near w
   one s z k (M t) l (op.Line (act.Await y)) r c x near w = read s z k t l (op.Line (act.Await y)) r c x refl near w
   one s z k (P t) l (op.Line (act.Read y)) r c x near w = absurd w.0.event.0.1

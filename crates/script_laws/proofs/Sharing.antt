@@ -15,7 +15,8 @@ use Rattle.joint_machine.specs.declared.events.Op.TheVariants as op
 use Rattle.joint_machine.specs.declared.events.Reply.{Reply}
 use Rattle.joint_machine.specs.declared.events.Reply.TheVariants as says
 use Rattle.joint_machine.specs.declared.events.Entry.{Entry}
-use Rattle.joint_machine.specs.Control.{Stand, snapped, contracted, weakening, restoring, restored, MayContractNow, MayMirrorNow, MayWeakenNow, MayRestoreNow, MayClearNow, MayResolveNow, IsCandidateHandle}
+use Rattle.joint_machine.specs.Control.{Stand, snapped, contracted, weakening, restoring, restored, MayContractNow, MayMirrorNow, MayWeakenNow, MayRestoreNow, MayClearNow, MayResolveNow}
+use Rattle.joint_machine.specs.Control.{IsCandidateHandle}
 use Rattle.joint_machine.specs.Histories.{NumberedFrom}
 use Rattle.joint_machine.specs.Lines.{is_peer_event}
 use Rattle.joint_machine.specs.Linked.{Linkage, linkage_after, SideLawful}
@@ -82,7 +83,8 @@ pub record Comes (s : Linkage) (l : ℕ) (o : Op) (r : Reply) (c : Option ℕ) (
 pub phase-op : (w : PhaseWord) (s : Linkage) (l l' : ℕ) (o o' : Op) (r r' : Reply) (c c' : Option ℕ) (x y : Told) → IsEventOf w o → IsEventOf w o' → Comes s l o r c x → Comes s l' o' r' c' y → o ≡ o'
 phase-op word.Snap s l l' (op.Snap k) (op.Snap k') r r' c c' x y p q a b = ap op.Snap (same-cycle k k' (snap-one s.managed k k' x y a.lawful.allowed b.lawful.allowed))
 phase-op word.Contract s l l' (op.Contract k) (op.Contract k') r r' c c' x y p q a b = ap op.Contract (same-cycle k k' (contract-one s.control.stand k.0 k'.0 c c' a.order b.order))
-phase-op word.Mirror s l l' (op.Mirror k) (op.Mirror k') r r' c c' x y p q a b = ap op.Mirror (same-cycle k k' (mirror-one s.control.stand s.managed.managed s.peer.peers.issued k.0 k'.0 c c' x y a.order b.order))
+phase-op word.Mirror s l l' (op.Mirror k) (op.Mirror k') r r' c c' x y p q a b = ap op.Mirror
+    (same-cycle k k' (mirror-one s.control.stand s.managed.managed s.peer.peers.issued k.0 k'.0 c c' x y a.order b.order))
 phase-op word.Weaken s l l' (op.Weaken h) (op.Weaken h') r r' c c' x y p q a b = ap op.Weaken (same-handle h h' (weaken-one s.control.stand s.managed.managed h.0 h'.0 c c' a.order b.order))
 phase-op word.Mark s l l' op.Begin op.Begin r r' c c' x y p q a b = refl
 phase-op word.Sweep s l l' op.Sweep op.Sweep r r' c c' x y p q a b = refl
@@ -145,7 +147,8 @@ next-no a rs o e = tt
 
 -- one note for two entries on one line
 abbrev pub OneOn : ℕ → Thread → Entry → Entry → Type 0
-OneOn number t e e' = (s : Linkage) (n n' : Noted) → n.entry.number ≡ n'.entry.number → n.entry ≡ e → n'.entry ≡ e' → IsOnLine number t e → IsOnLine number t e' → PlainComes s n → PlainComes s n' → n ≡ n'
+OneOn number t e e' = (s : Linkage) (n n' : Noted) → n.entry.number ≡ n'.entry.number → n.entry ≡ e
+    → n'.entry ≡ e' → IsOnLine number t e → IsOnLine number t e' → PlainComes s n → PlainComes s n' → n ≡ n'
 
 pub one-op : (number : ℕ) (t : Thread) (e e' : Entry) → e.made.op ≡ e'.made.op → Agree e.made.op e.made.reply e'.made.reply → OneOn number t e e'
 one-op number t e e' o g s n n' d i i' p p' a b =
@@ -159,19 +162,22 @@ one-op number t e e' o g s n n' d i i' p p' a b =
 pub comes-of : (s : Linkage) (n : Noted) (e : Entry) → n.entry ≡ e → e.made.caller ≡ C → PlainComes s n → Comes s e.made.index e.made.op e.made.reply e.made.cites n.told
 comes-of s n e i c a = by e.made.caller c (subst (λ (x : Entry). PlainComes s (record { entry = x; told = n.told })) i a)
   where
-    by : (t : Thread) → t ≡ C → PlainComes s (record { entry = record { number = e.number; made = making t e.made.index e.made.op e.made.reply e.made.cites }; told = n.told }) → Comes s e.made.index e.made.op e.made.reply e.made.cites n.told
+    by : (t : Thread) → t ≡ C → PlainComes s (record { entry = record { number = e.number; made = making t e.made.index e.made.op e.made.reply e.made.cites }; told = n.told })
+        → Comes s e.made.index e.made.op e.made.reply e.made.cites n.told
     by C c a = record { order = a.0.order; lawful = a.0.lawful }
     by (M k) c a = absurd (cc)
     by (P k) c a = absurd (cc)
 
 pub one-phase : (number : ℕ) (w : PhaseWord) (e e' : Entry) → IsEventOf w e.made.op → IsEventOf w e'.made.op → OneOn number C e e'
 one-phase number w e e' p p' s n n' d i i' q q' a b =
-    let o = phase-op w s e.made.index e'.made.index e.made.op e'.made.op e.made.reply e'.made.reply e.made.cites e'.made.cites n.told n'.told p p' (comes-of s n e i q.caller a) (comes-of s n' e' i' q'.caller b) in
+    let o = phase-op w s e.made.index e'.made.index e.made.op e'.made.op e.made.reply e'.made.reply e.made.cites e'.made.cites n.told n'.told p p'
+    (comes-of s n e i q.caller a) (comes-of s n' e' i' q'.caller b) in
     one-op number C e e' o (agree e.made.op e.made.reply e'.made.reply (phase-no w e.made.op p)) s n n' d i i' q q' a b
 
 pub one-clear : (number : ℕ) (e e' : Entry) → IsClear e.made.op → IsClear e'.made.op → OneOn number C e e'
 one-clear number e e' p p' s n n' d i i' q q' a b =
-    let o = clear-op s e.made.index e'.made.index e.made.op e'.made.op e.made.reply e'.made.reply e.made.cites e'.made.cites n.told n'.told p p' (comes-of s n e i q.caller a) (comes-of s n' e' i' q'.caller b) in
+    let o = clear-op s e.made.index e'.made.index e.made.op e'.made.op e.made.reply e'.made.reply e.made.cites e'.made.cites n.told n'.told p p'
+    (comes-of s n e i q.caller a) (comes-of s n' e' i' q'.caller b) in
     one-op number C e e' o (agree e.made.op e.made.reply e'.made.reply (clear-no e.made.op p)) s n n' d i i' q q' a b
 
 -- both lists begin with the same notes, whose entries are the given ones, and go on with the same number
@@ -191,10 +197,12 @@ pub record Share (s : Linkage) (ns ns' : List Noted) (own own' rest rest' : List
   pub come' : AllPlain (replayed s front) back'
 
 abbrev pub Shares : ℕ → Thread → List Entry → List Entry → Type 0
-Shares number t own own' = (k : ℕ) (s : Linkage) (ns ns' : List Noted) (rest rest' : List Entry) → NumberedFrom k (entries ns) → NumberedFrom k (entries ns') → AreOnLine number t own → AreOnLine number t own' → entries ns ≡ own ++ rest → entries ns' ≡ own' ++ rest' → AllPlain s ns → AllPlain s ns' → Share s ns ns' own own' rest rest'
+Shares number t own own' = (k : ℕ) (s : Linkage) (ns ns' : List Noted) (rest rest' : List Entry) → NumberedFrom k (entries ns) → NumberedFrom k (entries ns')
+    → AreOnLine number t own → AreOnLine number t own' → entries ns ≡ own ++ rest → entries ns' ≡ own' ++ rest' → AllPlain s ns → AllPlain s ns' → Share s ns ns' own own' rest rest'
 
 pub shares-none : (number : ℕ) (t : Thread) → Shares number t [] []
-shares-none number t k s ns ns' rest rest' d d' p p' i i' a b = record { front = []; back = ns; back' = ns'; here = refl; there = refl; one = refl; left = i; left' = i'; next = k; counts = d; counts' = d'; come = a; come' = b }
+shares-none number t k s ns ns' rest rest' d d' p p' i i' a b =
+    record { front = []; back = ns; back' = ns'; here = refl; there = refl; one = refl; left = i; left' = i'; next = k; counts = d; counts' = d'; come = a; come' = b }
 
 pub shares-cons : (number : ℕ) (t : Thread) (e e' : Entry) (es es' : List Entry) → OneOn number t e e' → (e ≡ e' → Shares number t es es') → Shares number t (e ∷ es) (e' ∷ es')
 shares-cons number t e e' es es' one next k s [] ns' rest rest' d d' p p' i i' a b = absurd (cc)

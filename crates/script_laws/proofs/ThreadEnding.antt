@@ -61,7 +61,8 @@ comes-among : (es : List Entry) → AreAllEvents es → ResolveComes (entries_by
 comes-among [] a r = r
 comes-among (e ∷ es) a r = by e.made.caller a.0 (comes-among es a.1) r
   where
-    by : (t : Thread) → IsEvent t e.made.op → (ResolveComes (entries_by C es) → ResolveComes es) → ResolveComes (if is_thread C t then e ∷ entries_by C es else entries_by C es) → ResolvesLater e.made.op (ResolveComes es)
+    by : (t : Thread) → IsEvent t e.made.op → (ResolveComes (entries_by C es) → ResolveComes es)
+        → ResolveComes (if is_thread C t then e ∷ entries_by C es else entries_by C es) → ResolvesLater e.made.op (ResolveComes es)
     by C v f r = resolves-more e.made.op (ResolveComes (entries_by C es)) (ResolveComes es) f r
     by (M u) v f r = other-resolves (M u) e.made.op (ResolveComes es) (λ z. cc) v (f r)
     by (P u) v f r = other-resolves (P u) e.made.op (ResolveComes es) (λ z. cc) v (f r)
@@ -70,7 +71,8 @@ ended-among : (es : List Entry) → AreAllEvents es → AllCyclesEnd (entries_by
 ended-among [] a d = tt
 ended-among (e ∷ es) a d = by e.made.caller a.0 (ended-among es a.1) d
   where
-    by : (t : Thread) → IsEvent t e.made.op → (AllCyclesEnd (entries_by C es) → AllCyclesEnd es) → AllCyclesEnd (if is_thread C t then e ∷ entries_by C es else entries_by C es) → IsEnded e.made.op es × AllCyclesEnd es
+    by : (t : Thread) → IsEvent t e.made.op → (AllCyclesEnd (entries_by C es) → AllCyclesEnd es)
+        → AllCyclesEnd (if is_thread C t then e ∷ entries_by C es else entries_by C es) → IsEnded e.made.op es × AllCyclesEnd es
     by C v f d = (ended-more e.made.op (entries_by C es) es (comes-among es a.1) d.0, f d.1)
     by (M u) v f d = (other-ended (M u) e.made.op es (λ z. cc) v, f d)
     by (P u) v f d = (other-ended (P u) e.made.op es (λ z. cc) v, f d)

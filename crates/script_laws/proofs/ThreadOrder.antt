@@ -63,20 +63,24 @@ other-fit (P k) u number a s s' es n l f = f
 
 left-fit : (t : Thread) (s s' : Standing) (es : List Entry) → Fits t s s' → AreLeft s es → AreLeft s' (entries_by t es)
 left-fit C s s' es f a = subst (AreLeft s') (sym (all-by s.line C es a.places)) (subst (λ z. AreLeft z es) f a)
-left-fit (M k) s s' es f a = subst (λ z. AreLeft z (entries_by (M k) es)) (sym f) (subst (AreLeft opening_standing) (sym (none-by s.line (M k) C es refl a.places)) (record { places = tt; events = refl }))
-left-fit (P k) s s' es f a = subst (λ z. AreLeft z (entries_by (P k) es)) (sym f) (subst (AreLeft opening_standing) (sym (none-by s.line (P k) C es refl a.places)) (record { places = tt; events = refl }))
+left-fit (M k) s s' es f a = subst (λ z. AreLeft z (entries_by (M k) es)) (sym f)
+    (subst (AreLeft opening_standing) (sym (none-by s.line (M k) C es refl a.places)) (record { places = tt; events = refl }))
+left-fit (P k) s s' es f a = subst (λ z. AreLeft z (entries_by (P k) es)) (sym f)
+    (subst (AreLeft opening_standing) (sym (none-by s.line (P k) C es refl a.places)) (record { places = tt; events = refl }))
 
 own-line : (s s' : Standing) (number : ℕ) (t : Thread) (a : Act) (es : List Entry) → Fits t s s' → AreLine s number (t, a) es → AreLine s' number (t, a) es
 own-line s s' number t a es f l = record { lawful = l.lawful; places = l.places; events = events-fit t a s s' es l.lawful f l.events }
 
 -- one line of either kind before the others, of whose lines it is known
-one-line : (b : Bool) (t : Thread) (line : ℕ × (Thread × Act)) (lines : List (ℕ × (Thread × Act))) (s s' : Standing) (own rest : List Entry) → is_thread t line.1.0 ≡ b → Fits t s s' → AreLine s line.0 line.1 own
+one-line : (b : Bool) (t : Thread) (line : ℕ × (Thread × Act)) (lines : List (ℕ × (Thread × Act))) (s s' : Standing) (own rest : List Entry)
+    → is_thread t line.1.0 ≡ b → Fits t s s' → AreLine s line.0 line.1 own
     → ((z : Standing) → Fits t (standing_after s line.0 line.1.1 own) z → HoldsLines z (lines_of t lines) (entries_by t rest))
     → HoldsLines s' (if b then line ∷ lines_of t lines else lines_of t lines) (entries_by t own ++ entries_by t rest)
 one-line true t line lines s s' own rest e f l more =
     let same : t ≡ line.1.0 = same_thread t line.1.0 e in
     let g : Fits line.1.0 s s' = subst (λ u. Fits u s s') same f in
-    let after : Fits t (standing_after s line.0 line.1.1 own) (standing_after s' line.0 line.1.1 own) = subst (λ u. Fits u (standing_after s line.0 line.1.1 own) (standing_after s' line.0 line.1.1 own)) (sym same) (own-fit line.1.0 line.0 line.1.1 s s' own l.lawful g) in
+    let after : Fits t (standing_after s line.0 line.1.1 own) (standing_after s' line.0 line.1.1 own) = subst
+    (λ u. Fits u (standing_after s line.0 line.1.1 own) (standing_after s' line.0 line.1.1 own)) (sym same) (own-fit line.1.0 line.0 line.1.1 s s' own l.lawful g) in
     let mine : entries_by t own ≡ own = ap (λ u. entries_by u own) same ∙ all-by line.0 line.1.0 own l.places in
     (own, entries_by t rest, ap (λ z. z ++ entries_by t rest) mine, own-line s s' line.0 line.1.0 line.1.1 own g l, more (standing_after s' line.0 line.1.1 own) after)
 one-line false t line lines s s' own rest e f l more =

@@ -31,11 +31,23 @@ none-left : Picked false false false two_threads managed_first
 none-left = record { places = tt; events = refl }
 
 one-drop : (b : Bool) → Picked b false false two_threads managed_first
-one-drop true = (take 1 managed_first, [], refl, record { lawful = ((omega arith, omega arith), omega arith); places = (record { caller = refl; line = refl }, tt); events = (refl, refl) }, record { places = tt; events = refl })
+one-drop true = (
+  take 1 managed_first,
+  [],
+  refl,
+  record { lawful = ((omega arith, omega arith), omega arith); places = (record { caller = refl; line = refl }, tt); events = (refl, refl) },
+  record { places = tt; events = refl },
+)
 one-drop false = record { places = tt; events = refl }
 
 peer-drop : (b : Bool) → Picked false b false two_threads managed_first
-peer-drop true = (drop 1 managed_first, [], refl, record { lawful = ((omega arith, omega arith), omega arith); places = (record { caller = refl; line = refl }, tt); events = (refl, refl) }, record { places = tt; events = refl })
+peer-drop true = (
+  drop 1 managed_first,
+  [],
+  refl,
+  record { lawful = ((omega arith, omega arith), omega arith); places = (record { caller = refl; line = refl }, tt); events = (refl, refl) },
+  record { places = tt; events = refl },
+)
 peer-drop false = record { places = tt; events = refl }
 
 pub one_held : HoldsPerThread two_threads managed_first
@@ -44,11 +56,23 @@ one_held (P n) = peer-drop (nat_eq n 1)
 one_held C = none-left
 
 later-drop : (b : Bool) → Picked b false false two_threads peer_first
-later-drop true = (drop 1 peer_first, [], refl, record { lawful = ((omega arith, omega arith), omega arith); places = (record { caller = refl; line = refl }, tt); events = (refl, refl) }, record { places = tt; events = refl })
+later-drop true = (
+  drop 1 peer_first,
+  [],
+  refl,
+  record { lawful = ((omega arith, omega arith), omega arith); places = (record { caller = refl; line = refl }, tt); events = (refl, refl) },
+  record { places = tt; events = refl },
+)
 later-drop false = record { places = tt; events = refl }
 
 first-drop : (b : Bool) → Picked false b false two_threads peer_first
-first-drop true = (take 1 peer_first, [], refl, record { lawful = ((omega arith, omega arith), omega arith); places = (record { caller = refl; line = refl }, tt); events = (refl, refl) }, record { places = tt; events = refl })
+first-drop true = (
+  take 1 peer_first,
+  [],
+  refl,
+  record { lawful = ((omega arith, omega arith), omega arith); places = (record { caller = refl; line = refl }, tt); events = (refl, refl) },
+  record { places = tt; events = refl },
+)
 first-drop false = record { places = tt; events = refl }
 
 pub other_held : HoldsPerThread two_threads peer_first
@@ -62,7 +86,13 @@ in_order = (
   drop 1 managed_first,
   refl,
   record { lawful = ((omega arith, omega arith), omega arith); places = (record { caller = refl; line = refl }, tt); events = (refl, refl) },
-  (drop 1 managed_first, [], refl, record { lawful = ((omega arith, omega arith), omega arith); places = (record { caller = refl; line = refl }, tt); events = (refl, refl) }, record { places = tt; events = refl }),
+  (
+    drop 1 managed_first,
+    [],
+    refl,
+    record { lawful = ((omega arith, omega arith), omega arith); places = (record { caller = refl; line = refl }, tt); events = (refl, refl) },
+    record { places = tt; events = refl },
+  ),
 )
 
 -- the first line's own entry isn't the first entry
@@ -137,13 +167,83 @@ abbrev last : Entry
 last = entry 6 C 1 (op.Clear first_cycle) says.Ok None
 
 cycle-held : Picked false false true a_cycle_and_a_thread a_thread_meanwhile
-cycle-held = (own_entries, [], refl, record { lawful = tt; places = places; events = (cut 0 1, cut 1 6, refl, record { each = (tt, tt); count = refl }, (cut 1 1, cut 2 5, refl, record { each = (tt, tt); count = refl }, (cut 2 1, cut 3 4, refl, record { each = (tt, tt); count = refl }, (cut 3 0, cut 3 4, refl, record { each = tt; count = refl }, (cut 3 1, cut 4 3, refl, inl record { each = (tt, tt); count = refl }, (cut 4 1, cut 5 2, refl, record { each = (tt, tt); count = refl }, (cut 5 1, cut 6 1, refl, record { restores = []; clear = last; all = refl; times = record { each = tt; count = refl }; clears = tt }, (cut 6 1, [], refl, record { each = (tt, tt); count = refl }, refl)))))))) }, record { places = tt; events = refl })
+cycle-held = (
+  own_entries,
+  [],
+  refl,
+  record {
+    lawful = tt;
+    places = places;
+    events = (
+      cut 0 1,
+      cut 1 6,
+      refl,
+      record { each = (tt, tt); count = refl },
+      (
+        cut 1 1,
+        cut 2 5,
+        refl,
+        record { each = (tt, tt); count = refl },
+        (
+          cut 2 1,
+          cut 3 4,
+          refl,
+          record { each = (tt, tt); count = refl },
+          (
+            cut 3 0,
+            cut 3 4,
+            refl,
+            record { each = tt; count = refl },
+            (
+              cut 3 1,
+              cut 4 3,
+              refl,
+              inl record { each = (tt, tt); count = refl },
+              (
+                cut 4 1,
+                cut 5 2,
+                refl,
+                record { each = (tt, tt); count = refl },
+                (
+                  cut 5 1,
+                  cut 6 1,
+                  refl,
+                  record { restores = []; clear = last; all = refl; times = record { each = tt; count = refl }; clears = tt },
+                  (cut 6 1, [], refl, record { each = (tt, tt); count = refl }, refl),
+                ),
+              ),
+            ),
+          ),
+        ),
+      ),
+    );
+  },
+  record { places = tt; events = refl },
+)
   where
     places : AreOnLine 1 C own_entries
-    places = (record { caller = refl; line = refl }, (record { caller = refl; line = refl }, (record { caller = refl; line = refl }, (record { caller = refl; line = refl }, (record { caller = refl; line = refl }, (record { caller = refl; line = refl }, (record { caller = refl; line = refl }, tt)))))))
+    places = (
+      record { caller = refl; line = refl },
+      (
+        record { caller = refl; line = refl },
+        (
+          record { caller = refl; line = refl },
+          (
+            record { caller = refl; line = refl },
+            (record { caller = refl; line = refl }, (record { caller = refl; line = refl }, (record { caller = refl; line = refl }, tt))),
+          ),
+        ),
+      ),
+    )
 
 meanwhile : (b : Bool) → Picked false b false a_cycle_and_a_thread a_thread_meanwhile
-meanwhile true = (entry 2 (P 1) 2 (op.Line (act.Drop a_variable)) says.Ok None ∷ [], [], refl, record { lawful = ((omega arith, omega arith), omega arith); places = (record { caller = refl; line = refl }, tt); events = (refl, refl) }, record { places = tt; events = refl })
+meanwhile true = (
+  entry 2 (P 1) 2 (op.Line (act.Drop a_variable)) says.Ok None ∷ [],
+  [],
+  refl,
+  record { lawful = ((omega arith, omega arith), omega arith); places = (record { caller = refl; line = refl }, tt); events = (refl, refl) },
+  record { places = tt; events = refl },
+)
 meanwhile false = record { places = tt; events = refl }
 
 pub among_held : HoldsPerThread a_cycle_and_a_thread a_thread_meanwhile

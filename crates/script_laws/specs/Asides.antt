@@ -36,8 +36,10 @@ IsAsideBy ml k _ = Unit {0}
 -- so each read of these entries answers, where this is the managed list before them
 abbrev pub AsidesAreExact : List Entry → List Entry → Type 0
 AsidesAreExact ml [] = Unit {0}
-AsidesAreExact ml (e ∷ es) = ((k : ℕ) → ReadsCell e.made.op k → IsAsideBy ml k e.made.reply) × AsidesAreExact (ml ++ entries_in 0 (e ∷ [])) es
+AsidesAreExact ml (e ∷ es) = ((k : ℕ) → ReadsCell e.made.op k → IsAsideBy ml k e.made.reply)
+    × AsidesAreExact (ml ++ entries_in 0 (e ∷ [])) es
 
 -- then each read of a linked history answers as the one machine does
 abbrev pub ExactAsidesAreReplies : Type 0
-ExactAsidesAreReplies = (h : Finished) (noted : List Noted) → IsLinkedBy h noted → AsidesAreExact [] h.entries → AreExact opening_linkage noted
+ExactAsidesAreReplies = (h : Finished) (noted : List Noted) → IsLinkedBy h noted
+    → AsidesAreExact [] h.entries → AreExact opening_linkage noted

@@ -12,17 +12,21 @@ use Rattle.script_laws.specs.Ending.{AllCyclesEnd, OwnCyclesEnd}
 
 -- a history that holds a script's lines in order ends each cycle
 abbrev pub HeldCyclesEnd : Type 0
-HeldCyclesEnd = (script : List (Thread × Act)) (entries : List Entry) → HoldsInOrder script entries → AllCyclesEnd entries
+HeldCyclesEnd = (script : List (Thread × Act)) (entries : List Entry)
+    → HoldsInOrder script entries → AllCyclesEnd entries
 
 -- and so do the driver's entries of a history that holds them thread by thread
 abbrev pub HeldThreadCyclesEnd : Type 0
-HeldThreadCyclesEnd = (script : List (Thread × Act)) (entries : List Entry) → HoldsPerThread script entries → AllCyclesEnd (entries_by C entries)
+HeldThreadCyclesEnd = (script : List (Thread × Act)) (entries : List Entry)
+    → HoldsPerThread script entries → AllCyclesEnd (entries_by C entries)
 
 -- in a linked history it is its own resolve that comes after each snap
 abbrev pub LinkedCyclesEnd : Type 0
-LinkedCyclesEnd = (h : Finished) (noted : List Noted) → IsLinkedBy h noted → AllCyclesEnd h.entries → OwnCyclesEnd h.entries
+LinkedCyclesEnd = (h : Finished) (noted : List Noted)
+    → IsLinkedBy h noted → AllCyclesEnd h.entries → OwnCyclesEnd h.entries
 
 -- so a linked history that holds a script's lines thread by thread ends each cycle too, whatever the others do
 -- meanwhile
 abbrev pub ThreadHistoryEnds : Type 0
-ThreadHistoryEnds = (script : List (Thread × Act)) (h : Finished) (noted : List Noted) → IsLinkedBy h noted → HoldsPerThread script h.entries → AllCyclesEnd h.entries
+ThreadHistoryEnds = (script : List (Thread × Act)) (h : Finished) (noted : List Noted)
+    → IsLinkedBy h noted → HoldsPerThread script h.entries → AllCyclesEnd h.entries

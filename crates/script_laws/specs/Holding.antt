@@ -41,7 +41,8 @@ next_event a replies = None
 -- the entries are the events of an operation that follow those replies, all of them and in their order
 abbrev pub AreEventsAfter : Act → List Reply → List Entry → Type 0
 AreEventsAfter a replies [] = next_event a replies ≡ None
-AreEventsAfter a replies (e ∷ es) = (next_event a replies ≡ Some e.made.op) × AreEventsAfter a (replies ++ e.made.reply ∷ []) es
+AreEventsAfter a replies (e ∷ es) = (next_event a replies ≡ Some e.made.op)
+    × AreEventsAfter a (replies ++ e.made.reply ∷ []) es
 
 -- where the driver stands by its lines: its phase, the candidates of the last snap, and its last line
 pub record Standing : Type 0 where
@@ -70,7 +71,12 @@ phase_after phase (Some next) = next
 
 -- where the driver stands after a line with that number and those entries
 abbrev pub standing_after : Standing → ℕ → Act → List Entry → Standing
-standing_after s number (act.PhaseLine w) entries = record { phase = phase_after s.phase (next_phase s.phase w); candidates = candidates_after s.candidates entries; line = number }
+standing_after s number (act.PhaseLine w)
+    entries = record {
+      phase = phase_after s.phase (next_phase s.phase w);
+      candidates = candidates_after s.candidates entries;
+      line = number;
+    }
 standing_after s number (act.Finalise n) entries = record s { line = number }
 standing_after s number a entries = s
 
@@ -99,7 +105,8 @@ pub record AreLeft (s : Standing) (entries : List Entry) : Type 0 where
 -- later line; and then those of the phases left open
 abbrev pub HoldsLines : Standing → List (ℕ × (Thread × Act)) → List Entry → Type 0
 HoldsLines s [] entries = AreLeft s entries
-HoldsLines s (line ∷ lines) entries = (own : List Entry) × (rest : List Entry) × (entries ≡ own ++ rest) × AreLine s line.0 line.1 own × HoldsLines (standing_after s line.0 line.1.1 own) lines rest
+HoldsLines s (line ∷ lines) entries = (own : List Entry) × (rest : List Entry) × (entries ≡ own ++ rest)
+    × AreLine s line.0 line.1 own × HoldsLines (standing_after s line.0 line.1.1 own) lines rest
 
 -- the lines with their numbers
 abbrev pub numbered_from : ℕ → List (Thread × Act) → List (ℕ × (Thread × Act))
@@ -120,4 +127,5 @@ entries_by t entries = filter (λ e. is_thread t e.made.caller) entries
 
 -- as `threads` runs a script: each thread's lines in their order
 abbrev pub HoldsPerThread : List (Thread × Act) → List Entry → Type 0
-HoldsPerThread script entries = (t : Thread) → HoldsLines opening_standing (lines_of t (numbered_from 1 script)) (entries_by t entries)
+HoldsPerThread script entries = (t : Thread)
+    → HoldsLines opening_standing (lines_of t (numbered_from 1 script)) (entries_by t entries)

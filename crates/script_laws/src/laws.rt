@@ -2,7 +2,8 @@
 
 ghost use Rattle.script_laws.specs.Asides.{ExactAsidesAreReplies};
 ghost use Rattle.script_laws.specs.EndingLaws.{HeldCyclesEnd, HeldThreadCyclesEnd, LinkedCyclesEnd, ThreadHistoryEnds};
-ghost use Rattle.script_laws.specs.Growing.{EachThreadIsAll, HeldLinesEnd, HeldLinesGrow, IdleLeavesNothing, LinesOfGoOn, NumbersGoOn, RisingEntriesAreOne};
+ghost use Rattle.script_laws.specs.Growing.{EachThreadIsAll, HeldLinesEnd, HeldLinesGrow, IdleLeavesNothing};
+ghost use Rattle.script_laws.specs.Growing.{LinesOfGoOn, NumbersGoOn, RisingEntriesAreOne};
 ghost use Rattle.script_laws.specs.Laws.{HasOneHistory, HasOneText, LineOrderGivesThreadOrder};
 
 /// A script has at most one history in line order: two linked histories that hold its lines are the same in their

@@ -45,9 +45,11 @@ pub record StillThere (d : Waiting) (t u : Thread) : Type 0 where
 
 pub still_there : (d : Waiting) (t u : Thread) → has_thread d t ≡ true → StillWaits (without_caller d t) u → StillThere d t u
 still_there d t u has s =
-    let s' : IsSome (flat (slice_get (slice_set d.callers (caller_place t) None) (caller_place u))) = subst (λ (w : Waiting). StillWaits w u) (ap (λ b. if b then record d { callers = slice_set d.callers (caller_place t) None } else d) has) s in
+    let s' : IsSome (flat (slice_get (slice_set d.callers (caller_place t) None) (caller_place u))) = subst
+    (λ (w : Waiting). StillWaits w u) (ap (λ b. if b then record d { callers = slice_set d.callers (caller_place t) None } else d) has) s in
     ⊎_elim
-    (λ (e : caller_place u ≡ caller_place t). absurd (nothing-there (flat (slice_get (slice_set d.callers (caller_place t) None) (caller_place u))) (ap (λ i. flat (slice_get (slice_set d.callers (caller_place t) None) i)) e ∙ none_there d.callers (caller_place t)) s'))
+    (λ (e : caller_place u ≡ caller_place t). absurd (nothing-there (flat (slice_get (slice_set d.callers (caller_place t) None) (caller_place u)))
+    (ap (λ i. flat (slice_get (slice_set d.callers (caller_place t) None) i)) e ∙ none_there d.callers (caller_place t)) s'))
     (λ other. record { waited = subst (λ z. IsSome (flat z)) (slice_get-set_other d.callers (caller_place t) (caller_place u) None other) s'; another = other })
     (same_or_not (caller_place u) (caller_place t))
   where
@@ -62,7 +64,8 @@ NoneIsLeftBelow script d n = (t : Thread) → IsThread t → caller_place t < n 
 pub nobody_asked : (script : List (Thread × Act)) (d : Waiting) → NoneIsLeftBelow script d 0
 nobody_asked script d t is l = absurd (omega (arith, l))
 
-pub one_asked : (script : List (Thread × Act)) (d : Waiting) (n : ℕ) → n < 17 → has_thread d (thread_of n) ≡ true → NoneIsLeftBelow script d n → NoneIsLeftBelow script (without_caller d (thread_of n)) (n + 1)
+pub one_asked : (script : List (Thread × Act)) (d : Waiting) (n : ℕ) → n < 17 → has_thread d (thread_of n) ≡ true
+    → NoneIsLeftBelow script d n → NoneIsLeftBelow script (without_caller d (thread_of n)) (n + 1)
 one_asked script d n few has below u is l s =
     let w = still_there d (thread_of n) u has s in
     let e = (thread_is n few).1 in
@@ -94,7 +97,8 @@ has_all_last d p ps all t is = ⊎_elim (λ w. inl w) (λ c.
 pub counts_stay : (d : Waiting) (t : Thread) → ((without_caller d t).managed ≡ d.managed) × ((without_caller d t).peers ≡ d.peers)
 counts_stay d t = by (has_thread d t)
   where
-    by : (b : Bool) → ((if b then record d { callers = slice_set d.callers (caller_place t) None } else d).managed ≡ d.managed) × ((if b then record d { callers = slice_set d.callers (caller_place t) None } else d).peers ≡ d.peers)
+    by : (b : Bool) → ((if b then record d { callers = slice_set d.callers (caller_place t) None } else d).managed ≡ d.managed)
+        × ((if b then record d { callers = slice_set d.callers (caller_place t) None } else d).peers ≡ d.peers)
     by true = (refl, refl)
     by false = (refl, refl)
 
@@ -112,7 +116,8 @@ module _ (script : List (Thread × Act)) (d d' : Waiting) (callers : List Pass) 
       let k = counts_stay d (thread_of n) in
       (ap (λ (z : Waiting). z.managed) is ∙ (k.0 ∙ w.1), ap (λ (z : Waiting). z.peers) is ∙ (k.1 ∙ w.2), subst (λ z. NoneIsLeftBelow script z (n + 1)) (sym is) (one_asked script d n few has w.3))
 
-  pub given_out : (r : Option Pass) (p : Pass) → d' ≡ without_caller d (thread_of n) → ((ps : List Pass) → HasAll d ps → HasAll d' (option_to_list r ++ ps)) → r ≡ Some p → p.thread ≡ thread_of n → KnowsNothing p.view → Working script d' (callers ++ p ∷ []) (n + 1)
+  pub given_out : (r : Option Pass) (p : Pass) → d' ≡ without_caller d (thread_of n) → ((ps : List Pass) → HasAll d ps → HasAll d' (option_to_list r ++ ps))
+      → r ≡ Some p → p.thread ≡ thread_of n → KnowsNothing p.view → Working script d' (callers ++ p ∷ []) (n + 1)
   given_out r p is all some thread new =
       let a = asked_for is in (
         has_all_last d' p callers (subst (λ o. HasAll d' (option_to_list o ++ callers)) some (all callers w.0)),
@@ -144,7 +149,8 @@ others_stay callers p n low few thread w = record {
   is_driver = w.is_driver;
   others_are = λ q c. ⊎_elim
       (λ o. w.others_are q o)
-      (λ o. ⊎_elim (λ (e : p ≡ q). λ is. no-driver (thread_of n) (thread_is n few).1 (subst IsDriver (ap (λ (z : Pass). z.thread) (sym e) ∙ thread) is)) (λ z. absurd (Contains-nil q z)) (Contains-cons_cases p [] q o))
+      (λ o. ⊎_elim (λ (e : p ≡ q). λ is. no-driver (thread_of n) (thread_is n few).1 (subst IsDriver (ap (λ (z : Pass). z.thread) (sym e) ∙ thread) is))
+      (λ z. absurd (Contains-nil q z)) (Contains-cons_cases p [] q o))
       (Contains-append_cases w.others (p ∷ []) q c);
 }
   where

@@ -63,13 +63,15 @@ hears_none d others = record {
   stands = refl;
 }
 
-pub hears_next : (n : ℕ) (old mid new : Progress) (before others : List Pass) (p q : Pass) → slice_get others n ≡ Some p → Tells p q → Hears p (pass_of mid) (pass_of new) → new ≡ record mid { view = new.view } → HearsFirst n old mid before others → HearsFirst (n + 1) old new before (slice_set others n q)
+pub hears_next : (n : ℕ) (old mid new : Progress) (before others : List Pass) (p q : Pass) → slice_get others n ≡ Some p → Tells p q → Hears p (pass_of mid) (pass_of new)
+    → new ≡ record mid { view = new.view } → HearsFirst n old mid before others → HearsFirst (n + 1) old new before (slice_set others n q)
 hears_next n old mid new before others p q at tells hears stays h =
     let few = slice_get_within others n p at in
     let own_q : own q ≡ own p = ap line_entries (tells.same (caller_line q.thread)) ∙ ap (λ t. line_known p.view (caller_line t)) tells.thread in
     let knows : (i : ℕ) → IsPrefix (known old.view i) (known new.view i) = λ i. prefix-then (known old.view i) (known mid.view i) (known new.view i) (h.knew i) (hears.knew i) in
     let told : HasHeardOf new.view q =
-    subst (λ t. IsPrefix (own q) (line_known new.view (caller_line t))) (sym tells.thread) (subst (λ es. IsPrefix es (line_known new.view (caller_line p.thread))) (sym own_q) (prefix-known p.view new.view (caller_line p.thread) (hears.heard (caller_line p.thread))))
+    subst (λ t. IsPrefix (own q) (line_known new.view (caller_line t))) (sym tells.thread)
+    (subst (λ es. IsPrefix es (line_known new.view (caller_line p.thread))) (sym own_q) (prefix-known p.view new.view (caller_line p.thread) (hears.heard (caller_line p.thread))))
     in
     record {
       same = record {
@@ -117,10 +119,12 @@ is-c p driver = by p.thread driver
     by t d = absurd d
 
 -- it has made what its caller has made
-pub own-first : (p : Pass) (first heard : Progress) (before others : List Pass) → first ≡ record { view = p.view; phase = Idle; cycle = record { 0 = 0 }; candidates = 0 } → IsDriver p.thread → HearsAll first heard before others → own (pass_of heard) ≡ own p
+pub own-first : (p : Pass) (first heard : Progress) (before others : List Pass) → first ≡ record { view = p.view; phase = Idle; cycle = record { 0 = 0 }; candidates = 0 }
+    → IsDriver p.thread → HearsAll first heard before others → own (pass_of heard) ≡ own p
 own-first p first heard before others new driver h = h.own_stay ∙ (ap (λ (z : Progress). line_known z.view (caller_line C)) new ∙ ap (λ t. line_known p.view (caller_line t)) (sym (is-c p driver)))
 
-module _ (number : ℕ) (p : Pass) (first heard last : Progress) (before others : List Pass) (new : first ≡ record { view = p.view; phase = Idle; cycle = record { 0 = 0 }; candidates = 0 }) (driver : IsDriver p.thread)
+module _ (number : ℕ) (p : Pass) (first heard last : Progress) (before others : List Pass)
+    (new : first ≡ record { view = p.view; phase = Idle; cycle = record { 0 = 0 }; candidates = 0 }) (driver : IsDriver p.thread)
     (h : HearsAll first heard before others) (k : DrivesLine heard last number cycle_line.1) where
   at-first : StandsAs opened heard
   at-first = record {
@@ -148,7 +152,8 @@ module _ (number : ℕ) (p : Pass) (first heard last : Progress) (before others 
   idle_again = sym (k.stands opened at-first).phase
 
 -- the threads ended: these are their callers, the driver's first
-module _ (script : List (Thread × Act)) (d : Waiting) (jobs callers rest : List Pass) (p : Pass) (ran : AllRan script jobs callers) (first : DriverIsFirst jobs) (all : HasAll d jobs) (are : callers ≡ p ∷ rest) where
+module _ (script : List (Thread × Act)) (d : Waiting) (jobs callers rest : List Pass) (p : Pass)
+    (ran : AllRan script jobs callers) (first : DriverIsFirst jobs) (all : HasAll d jobs) (are : callers ≡ p ∷ rest) where
   ran-first : AllRan script (first.driver ∷ first.others) (p ∷ rest)
   ran-first = subst (λ js. AllRan script js (p ∷ rest)) first.all (subst (AllRan script jobs) are ran)
 
@@ -234,9 +239,11 @@ can_run_cycle script lines is can room = record {
 }
 
 -- and its run line after line is that of the script with one cycle more
-pub serial_then_cycle : {E : Type 0} (r : Result RunEnd E) (script lines : List (Thread × Act)) → lines ≡ script ++ cycle_line ∷ [] → DrivesCycles script → IfOk r (λ e. IsRunInOrder lines e.history) → IfOk r (λ e. IsRunThenCycle script e.history)
+pub serial_then_cycle : {E : Type 0} (r : Result RunEnd E) (script lines : List (Thread × Act)) → lines ≡ script ++ cycle_line ∷ []
+    → DrivesCycles script → IfOk r (λ e. IsRunInOrder lines e.history) → IfOk r (λ e. IsRunThenCycle script e.history)
 serial_then_cycle (Ok e) script lines is cycles run = cycle_lines_end_runs script e.history cycles (subst (λ l. IsRunInOrder l e.history) is run)
 serial_then_cycle (Err x) script lines is cycles run = tt
 
-pub serial_in_order : {E : Type 0} (r : Result RunEnd E) (script lines : List (Thread × Act)) → lines ≡ script ++ cycle_line ∷ [] → IfOk r (λ e. IsRunInOrder lines e.history) → IfOk r (λ e. IsRunInOrder (script ++ cycle_line ∷ []) e.history)
+pub serial_in_order : {E : Type 0} (r : Result RunEnd E) (script lines : List (Thread × Act)) → lines ≡ script ++ cycle_line ∷ []
+    → IfOk r (λ e. IsRunInOrder lines e.history) → IfOk r (λ e. IsRunInOrder (script ++ cycle_line ∷ []) e.history)
 serial_in_order r script lines is run = subst (λ l. IfOk r (λ e. IsRunInOrder l e.history)) is run

@@ -45,7 +45,8 @@ pub record ListedSoFar (old new : Listing) (held now : Option (List ℕ)) (befor
 pub listed_none : (l : Listing) (held : Option (List ℕ)) (f : ℕ) (d : Progress) → HasNoSnap d → ListedSoFar l l held held f f d 0
 listed_none l held f d none = record { cycles = []; wrote = wrote_none l.cycles l.written held f; all = subst (λ es. AreSeen (lines_seen d.view) es []) (sym none) tt; few = omega arith }
 
-pub listed_more : {T E : Type 0} (r : Result T E) (t : T) (a b c : Listing) (held mid now : Option (List ℕ)) (f g h : ℕ) (d e : Progress) (n : ℕ) → r ≡ Ok t → ListedSoFar a b held mid f g d n → Lists {T = T} {E = E} r b c mid now g h (λ t cycles. ListsLine d e cycles) → ListedSoFar a c held now f h e (n + 1)
+pub listed_more : {T E : Type 0} (r : Result T E) (t : T) (a b c : Listing) (held mid now : Option (List ℕ)) (f g h : ℕ) (d e : Progress) (n : ℕ) → r ≡ Ok t
+    → ListedSoFar a b held mid f g d n → Lists {T = T} {E = E} r b c mid now g h (λ t cycles. ListsLine d e cycles) → ListedSoFar a c held now f h e (n + 1)
 listed_more r t a b c held mid now f g h d e n is l m =
     let line = ok_has r t (ListsLine d e m.cycles) is m.listed in
     record {
@@ -63,5 +64,6 @@ listed_more r t a b c held mid now f g h d e n is l m =
 pub nothing_put : (held : Option (List ℕ)) → (cycles : List Listed) × AppendsPart held held (cycles_text cycles)
 nothing_put held = let r : Result (Unit {0}) Failed = Ok tt in ([], part_of held held 0 0 r [] (Writes-nothing held 0 tt))
 
-pub part_put : {T E : Type 0} (r : Result T E) (old new : Listing) (held now : Option (List ℕ)) (f g : ℕ) (P : T → List Listed → Type 0) → old.written ≡ Ok tt → Lists {T = T} {E = E} r old new held now f g P → (cycles : List Listed) × AppendsPart held now (cycles_text cycles)
+pub part_put : {T E : Type 0} (r : Result T E) (old new : Listing) (held now : Option (List ℕ)) (f g : ℕ) (P : T → List Listed → Type 0)
+    → old.written ≡ Ok tt → Lists {T = T} {E = E} r old new held now f g P → (cycles : List Listed) × AppendsPart held now (cycles_text cycles)
 part_put r old new held now f g P fine l = (l.cycles, part_of held now f g new.written (cycles_text l.cycles) (l.wrote.goes_on held f [] (rw fine (Writes-nothing held f tt))))

@@ -28,13 +28,15 @@ runs_line t old new index a r o k = record {
   still = λ s. others_keep_standing s t index a k.entries o;
 }
 
-pub answers_line : (t : Thread) (old new : View) (index : ℕ) (a : Act) (r : Receipt) → IsOperationOf t a → Runs t old new index a r → (IsManagedThread t → ReadsExactly t old new a r.reply) → AnswersLine t old new index a
+pub answers_line : (t : Thread) (old new : View) (index : ℕ) (a : Act) (r : Receipt) → IsOperationOf t a
+    → Runs t old new index a r → (IsManagedThread t → ReadsExactly t old new a r.reply) → AnswersLine t old new index a
 answers_line t old new index a r o k exact = record {
   made_line = runs_line t old new index a r o k;
   answered = λ before after is. operations_are_answered t index a k.entries r old new before after o k.operation k.made (exact is) is;
 }
 
-pub waits_line : (t : Thread) (old new : View) (index : ℕ) (a : Act) (r : Receipt) → IsOperationOf t a → Runs t old new index a r → (IsManagedThread t → (k : Cell) (c : Cycle) → a ≡ act.Await k → r.reply ≡ says.Pending c → ⊥) → WaitsLine t old new index a
+pub waits_line : (t : Thread) (old new : View) (index : ℕ) (a : Act) (r : Receipt) → IsOperationOf t a → Runs t old new index a r
+    → (IsManagedThread t → (k : Cell) (c : Cycle) → a ≡ act.Await k → r.reply ≡ says.Pending c → ⊥) → WaitsLine t old new index a
 waits_line t old new index a r o k never = record { made_line = runs_line t old new index a r o k; waits = λ is. operations_waits_end t index a k.entries r k.operation (never is) }
 
 -- who knows the same before it makes its line

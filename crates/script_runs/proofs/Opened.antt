@@ -198,7 +198,8 @@ lists_nothing d = record { snaps = []; all = sym (append-nil (snaps_of (own (pas
 pub lists_none : (old new : Progress) (index : ℕ) (a : Act) → OpensNone a old.phase → DrivesLine old new index a → ListsLine old new []
 lists_none old new index a none k =
     lists_on old old new k.entries [] (lists_nothing old) k.made
-    (lines_open_none (record { phase = old.phase; candidates = old.candidates; line = index }) index a k.entries none (k.line (record { phase = old.phase; candidates = old.candidates; line = index }) (record { phase = refl; candidates = refl })))
+    (lines_open_none (record { phase = old.phase; candidates = old.candidates; line = index }) index a k.entries none
+    (k.line (record { phase = old.phase; candidates = old.candidates; line = index }) (record { phase = refl; candidates = refl })))
 
 -- the phases that are left
 pub lists_left : (old mid new : Progress) (index : ℕ) (cycles : List Listed) → ListsLine old mid cycles → RunsWords mid new index (phases_left mid.phase) → ListsLine old new cycles

@@ -38,20 +38,26 @@ pub first_in_order : (script : List (Thread × Act)) (p : Pass) → p.thread ≡
 first_in_order script p e =
     let at : caller_place p.thread ≡ 0 = ap caller_place e in
     record {
-      are = record { rise = (All-nil (λ y. caller_place p.thread < y), tt); each = All-push (λ (q : Pass). IsDriver q.thread ⊎ HasLine script q.thread) [] p (All-nil (λ (q : Pass). IsDriver q.thread ⊎ HasLine script q.thread)) (inl (subst IsDriver (sym e) tt)) };
+      are = record {
+        rise = (All-nil (λ y. caller_place p.thread < y), tt);
+        each = All-push (λ (q : Pass). IsDriver q.thread ⊎ HasLine script q.thread) [] p (All-nil (λ (q : Pass). IsDriver q.thread ⊎ HasLine script q.thread)) (inl (subst IsDriver (sym e) tt));
+      };
       below = All-push (λ y. y < 1) [] (caller_place p.thread) (All-nil (λ y. y < 1)) (omega (arith, at));
     }
 
-pub next_in_order : (script : List (Thread × Act)) (callers : List Pass) (p : Pass) (n : ℕ) → n < 17 → p.thread ≡ thread_of n → HasLine script (thread_of n) → InOrder script callers n → InOrder script (callers ++ p ∷ []) (n + 1)
+pub next_in_order : (script : List (Thread × Act)) (callers : List Pass) (p : Pass) (n : ℕ) → n < 17 → p.thread ≡ thread_of n
+    → HasLine script (thread_of n) → InOrder script callers n → InOrder script (callers ++ p ∷ []) (n + 1)
 next_in_order script callers p n few is has o =
     let at : caller_place p.thread ≡ n = ap caller_place is ∙ (thread_is n few).1 in
     let all = map-append (λ (q : Pass). caller_place q.thread) callers (p ∷ []) in
     record {
       are = record {
-        rise = subst Rises (sym all) (Rises-push (map (λ (q : Pass). caller_place q.thread) callers) (caller_place p.thread) o.are.rise (subst (λ k. All (λ y. y < k) (map (λ (q : Pass). caller_place q.thread) callers)) (sym at) o.below));
+        rise = subst Rises (sym all) (Rises-push (map (λ (q : Pass). caller_place q.thread) callers) (caller_place p.thread) o.are.rise
+            (subst (λ k. All (λ y. y < k) (map (λ (q : Pass). caller_place q.thread) callers)) (sym at) o.below));
         each = All-push (λ q. IsDriver q.thread ⊎ HasLine script q.thread) callers p o.are.each (inr (subst (HasLine script) (sym is) has));
       };
-      below = subst (All (λ y. y < n + 1)) (sym all) (All-push (λ y. y < n + 1) (map (λ (q : Pass). caller_place q.thread) callers) (caller_place p.thread) (All-weaker (λ y. y < n) (λ y. y < n + 1) (λ y l. omega (arith, l)) (map (λ (q : Pass). caller_place q.thread) callers) o.below) (omega (arith, at)));
+      below = subst (All (λ y. y < n + 1)) (sym all) (All-push (λ y. y < n + 1) (map (λ (q : Pass). caller_place q.thread) callers) (caller_place p.thread)
+          (All-weaker (λ y. y < n) (λ y. y < n + 1) (λ y l. omega (arith, l)) (map (λ (q : Pass). caller_place q.thread) callers) o.below) (omega (arith, at)));
     }
 
 pub passed_in_order : (script : List (Thread × Act)) (callers : List Pass) (n : ℕ) → InOrder script callers n → InOrder script callers (n + 1)

@@ -31,7 +31,8 @@ pub own_nothing : (p : Pass) → KnowsNothing p.view → own p ≡ []
 own_nothing p k = ap line_entries (k (caller_line p.thread))
 
 -- a line more of a thread that isn't the driver's
-pub own_holds : (script : List (Thread × Act)) (n : ℕ) (p q : Pass) (line : Thread × Act) → slice_get script n ≡ Some line → is_thread p.thread line.0 ≡ true → q.thread ≡ p.thread → MakesLine p.thread p.view q.view (n + 1) line.1
+pub own_holds : (script : List (Thread × Act)) (n : ℕ) (p q : Pass) (line : Thread × Act) → slice_get script n ≡ Some line
+    → is_thread p.thread line.0 ≡ true → q.thread ≡ p.thread → MakesLine p.thread p.view q.view (n + 1) line.1
     → HoldsItsFirst script n p opening_standing → HoldsItsFirst script (n + 1) q opening_standing
 own_holds script n p q line e is same k h =
     let its : line.0 ≡ p.thread = sym (same_thread p.thread line.0 is) in
@@ -40,7 +41,8 @@ own_holds script n p q line e is same k h =
     subst (HoldsItsFirst script (n + 1) q) (k.still opening_standing) (own_lines_add script n p q opening_standing line k.entries e its same more are h)
 
 -- and with it no wait is pending
-pub own_waits : (p q : Pass) (index : ℕ) (a : Act) → q.thread ≡ p.thread → WaitsLine p.thread p.view q.view index a → (IsManagedThread p.thread → WaitsEnd (own p)) → IsManagedThread q.thread → WaitsEnd (own q)
+pub own_waits : (p q : Pass) (index : ℕ) (a : Act) → q.thread ≡ p.thread → WaitsLine p.thread p.view q.view index a
+    → (IsManagedThread p.thread → WaitsEnd (own p)) → IsManagedThread q.thread → WaitsEnd (own q)
 own_waits p q index a same k before is =
     let is' = subst IsManagedThread same is in
     let more : own q ≡ own p ++ k.made_line.entries = ap (λ t. line_known q.view (caller_line t)) same ∙ k.made_line.made.own_more in
@@ -49,10 +51,12 @@ own_waits p q index a same k before is =
 pub none_waits : (p : Pass) → KnowsNothing p.view → IsManagedThread p.thread → WaitsEnd (own p)
 none_waits p k is e c w = Contains-nil e (subst (λ es. Contains es e) (own_nothing p k) c)
 
-pub other_holds : (script : List (Thread × Act)) (n : ℕ) (p : Pass) (line : Thread × Act) → slice_get script n ≡ Some line → is_thread p.thread line.0 ≡ false → HoldsItsFirst script n p opening_standing → HoldsItsFirst script (n + 1) p opening_standing
+pub other_holds : (script : List (Thread × Act)) (n : ℕ) (p : Pass) (line : Thread × Act) → slice_get script n ≡ Some line
+    → is_thread p.thread line.0 ≡ false → HoldsItsFirst script n p opening_standing → HoldsItsFirst script (n + 1) p opening_standing
 other_holds script n p line e other h = others_lines_pass script n p opening_standing line e other h
 
-pub own_ends : (script : List (Thread × Act)) (p : Pass) → IsOwnThread p.thread → last_index (own p) ≤ length script → HoldsItsFirst script (length script) p opening_standing → (IsManagedThread p.thread → WaitsEnd (own p)) → HasRunLines script p.thread p
+pub own_ends : (script : List (Thread × Act)) (p : Pass) → IsOwnThread p.thread → last_index (own p) ≤ length script
+    → HoldsItsFirst script (length script) p opening_standing → (IsManagedThread p.thread → WaitsEnd (own p)) → HasRunLines script p.thread p
 own_ends script p o up h waits = record {
   thread = refl;
   holds = own_lines_end script p p opening_standing [] refl (sym (append-nil (own p))) (idle_leaves_nothing opening_standing refl) h;
@@ -68,7 +72,8 @@ pub record DriverHolds (script : List (Thread × Act)) (n last : ℕ) (d : Progr
   pub stands : StandsAs standing d
   pub line : standing.line ≡ last
 
-pub driver_holds : (script : List (Thread × Act)) (n last : ℕ) (d f : Progress) (line : Thread × Act) → slice_get script n ≡ Some line → is_thread C line.0 ≡ true → DrivesLine d f (n + 1) line.1 → DriverHolds script n last d → DriverHolds script (n + 1) (n + 1) f
+pub driver_holds : (script : List (Thread × Act)) (n last : ℕ) (d f : Progress) (line : Thread × Act) → slice_get script n ≡ Some line
+    → is_thread C line.0 ≡ true → DrivesLine d f (n + 1) line.1 → DriverHolds script n last d → DriverHolds script (n + 1) (n + 1) f
 driver_holds script n last d f line e is k h =
     let its : line.0 ≡ C = sym (same_thread C line.0 is) in
     let are : AreLine h.standing (n + 1) line k.entries = subst (λ t. AreLine h.standing (n + 1) (t, line.1) k.entries) (sym its) (k.line h.standing h.stands) in
@@ -79,10 +84,12 @@ driver_holds script n last d f line e is k h =
       line = k.last h.standing;
     }
 
-pub driver_passes : (script : List (Thread × Act)) (n last : ℕ) (d : Progress) (line : Thread × Act) → slice_get script n ≡ Some line → is_thread C line.0 ≡ false → DriverHolds script n last d → DriverHolds script (n + 1) last d
+pub driver_passes : (script : List (Thread × Act)) (n last : ℕ) (d : Progress) (line : Thread × Act)
+    → slice_get script n ≡ Some line → is_thread C line.0 ≡ false → DriverHolds script n last d → DriverHolds script (n + 1) last d
 driver_passes script n last d line e other h = record { standing = h.standing; holds = others_lines_pass script n (pass_of d) h.standing line e other h.holds; stands = h.stands; line = h.line }
 
-pub driver_ends : (script : List (Thread × Act)) (last : ℕ) (d f : Progress) (p : Pass) → p ≡ pass_of f → HasIdleDriver p → last_index (own (pass_of f)) ≤ length script → DrivesLeft d f last → DriverHolds script (length script) last d → HasRunLines script C p
+pub driver_ends : (script : List (Thread × Act)) (last : ℕ) (d f : Progress) (p : Pass) → p ≡ pass_of f → HasIdleDriver p
+    → last_index (own (pass_of f)) ≤ length script → DrivesLeft d f last → DriverHolds script (length script) last d → HasRunLines script C p
 driver_ends script last d f p is idle up k h = record {
   thread = ap (λ (q : Pass). q.thread) is;
   holds = subst (HoldsItsLines script) (sym is) (own_lines_end script (pass_of d) (pass_of f) h.standing k.entries refl k.made.own_more (k.left h.standing h.stands h.line) h.holds);

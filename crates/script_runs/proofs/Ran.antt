@@ -70,7 +70,8 @@ ran-waits script (j ∷ js) (p ∷ ps) r = All-cons (λ (q : Pass). IsManagedThr
 pub ran_all : (script : List (Thread × Act)) (d : Waiting) (jobs callers : List Pass) → AllRan script jobs callers → HasAll d jobs → HasAll d callers
 ran_all script d jobs callers r all = has_all_same d jobs callers (ran_threads script jobs callers r) all
 
-pub threads_end : (script : List (Thread × Act)) (h : Finished) (d : Waiting) (jobs callers : List Pass) → CanRun script → IsLinked h → IsFinished h → length h.entries < 2 ^ 64 → AllRan script jobs callers → HasAll d jobs → NoneIsLeft script d
+pub threads_end : (script : List (Thread × Act)) (h : Finished) (d : Waiting) (jobs callers : List Pass) → CanRun script
+    → IsLinked h → IsFinished h → length h.entries < 2 ^ 64 → AllRan script jobs callers → HasAll d jobs → NoneIsLeft script d
     → All (HasOwn h.entries) callers → ((t : Thread) → IsThread t → StillWaits d t → made_by t h.entries ≡ []) → IsRunByThreads script h
 threads_end script h d jobs callers can linked finished few r all left owns none =
     held_by_threads_is_run script h finished few
@@ -78,6 +79,7 @@ threads_end script h d jobs callers can linked finished few r all left owns none
     (callers_waits_end h d callers linked (ran_all script d jobs callers r all) owns none (ran-waits script jobs callers r))
 
 -- what is so of each such history is so of the one that `finish` answers
-pub threads_give : {X : Type 0} (r : Result Finished X) (A B C D E F : Finished → Type 0) → ((h : Finished) → A h → B h → C h → D h → E h → F h) → IfOk r A → IfOk r B → IfOk r C → IfOk r D → IfOk r E → IfOk r F
+pub threads_give : {X : Type 0} (r : Result Finished X) (A B C D E F : Finished → Type 0)
+    → ((h : Finished) → A h → B h → C h → D h → E h → F h) → IfOk r A → IfOk r B → IfOk r C → IfOk r D → IfOk r E → IfOk r F
 threads_give (Ok h) A B C D E F give a b c d e = give h a b c d e
 threads_give (Err x) A B C D E F give a b c d e = tt

@@ -29,7 +29,8 @@ there script i l = slice_get-get_or script i no_line l
 pub runnable : (script : List (Thread × Act)) (i : ℕ) → i < length script → CanRun script → IsScriptLine (line_of script i)
 runnable script i l can = All-contains IsScriptLine script (line_of script i) can.each (Contains-at script i (line_of script i) (there script i l))
 
-pub none_so_far : (script : List (Thread × Act)) (i : ℕ) (t : Thread) → i < length script → is_thread t (line_of script i).0 ≡ false → thread_lines t (take i script) ≡ [] → thread_lines t (take (i + 1) script) ≡ []
+pub none_so_far : (script : List (Thread × Act)) (i : ℕ) (t : Thread) → i < length script
+    → is_thread t (line_of script i).0 ≡ false → thread_lines t (take i script) ≡ [] → thread_lines t (take (i + 1) script) ≡ []
 none_so_far script i t l other none =
     lines-next t script i (line_of script i) (there script i l)
     ∙ (ap (λ b. thread_lines t (take i script) ++ (if b then (i + 1, line_of script i) ∷ [] else [])) other ∙ (append-nil (thread_lines t (take i script)) ∙ none))

@@ -31,7 +31,8 @@ use Rattle.script_runs.proofs.Desked.{has_every}
 use Rattle.script_runs.proofs.Owned.{own_nothing}
 
 -- before the first line
-pub come_first : (d : Progress) (others : List Pass) → KnowsNothing d.view → Idle ≡ d.phase → 0 ≡ d.candidates → ((i : ℕ) (p : Pass) → slice_get others i ≡ Some p → KnowsNothing p.view) → HasCome [] 0 d others
+pub come_first : (d : Progress) (others : List Pass) → KnowsNothing d.view → Idle ≡ d.phase → 0 ≡ d.candidates
+    → ((i : ℕ) (p : Pass) → slice_get others i ≡ Some p → KnowsNothing p.view) → HasCome [] 0 d others
 come_first d others k idle none each = record {
   standing = opening_standing;
   run = nothing_is_run (pass_of d) others refl (own_nothing (pass_of d) k) (λ i p at. own_nothing p (each i p at));
@@ -40,9 +41,11 @@ come_first d others k idle none each = record {
 }
 
 -- a line more
-pub come_on : (script : List (Thread × Act)) (n last : ℕ) (d f : Progress) (others others' : List Pass) (line : Thread × Act) → slice_get script n ≡ Some line → RunsOn (n + 1) line.0 line.1 d f others others'
+pub come_on : (script : List (Thread × Act)) (n last : ℕ) (d f : Progress) (others others' : List Pass) (line : Thread × Act)
+    → slice_get script n ≡ Some line → RunsOn (n + 1) line.0 line.1 d f others others'
     → HasCome (numbered_from 1 (take n script)) last d others → HasCome (numbered_from 1 (take (n + 1) script)) (last_after last (n + 1) line.0) f others'
-come_on script n last d f others others' line e runs h = subst (λ l. HasCome l (last_after last (n + 1) line.0) f others') (sym (numbered-next script n line e)) (runs (numbered_from 1 (take n script)) last h)
+come_on script n last d f others others' line e runs h = subst (λ l. HasCome l (last_after last (n + 1) line.0) f others')
+    (sym (numbered-next script n line e)) (runs (numbered_from 1 (take n script)) last h)
 
 pub later_up_to : (m n : ℕ) (others : List Pass) → m ≤ n → AreUpTo m others → AreUpTo n others
 later_up_to m n others l up i p at = let a = up i p at in omega (arith, a, l)
@@ -51,7 +54,8 @@ pub first_up_to : (n : ℕ) (others : List Pass) → ((i : ℕ) (p : Pass) → s
 first_up_to n others each i p at = subst (λ es. last_index es ≤ n) (sym (own_nothing p (each i p at))) (omega arith)
 
 -- all lines
-pub come_through : (script : List (Thread × Act)) (last : ℕ) (d : Progress) (others : List Pass) → HasCome (numbered_from 1 (take (length script) script)) last d others → AreOthers others → last_index (own (pass_of d)) ≤ last → HasComeThrough script last d others
+pub come_through : (script : List (Thread × Act)) (last : ℕ) (d : Progress) (others : List Pass)
+    → HasCome (numbered_from 1 (take (length script) script)) last d others → AreOthers others → last_index (own (pass_of d)) ≤ last → HasComeThrough script last d others
 come_through script last d others h oth driven = record {
   come = subst (λ l. HasCome (numbered_from 1 l) last d others) (take_all (length script) script (omega arith)) h;
   others_are = oth;
@@ -74,18 +78,22 @@ all_idle others p oth idle = All-members HasIdleDriver (others ++ p ∷ []) (λ 
     other C i e is = omega (arith, e)
 
 -- the finished history is that of the script's run
-pub run_ends : (script : List (Thread × Act)) (h : Finished) (last : ℕ) (d f : Progress) (others : List Pass) (p : Pass) → IsLinked h → IsFinished h → length h.entries < 2 ^ 64 → HasComeThrough script last d others → DrivesLeft d f last → p ≡ pass_of f
+pub run_ends : (script : List (Thread × Act)) (h : Finished) (last : ℕ) (d f : Progress) (others : List Pass) (p : Pass)
+    → IsLinked h → IsFinished h → length h.entries < 2 ^ 64 → HasComeThrough script last d others → DrivesLeft d f last → p ≡ pass_of f
     → All (HasOwn h.entries) (others ++ p ∷ []) → All (BeginsHistory h.entries) (others ++ p ∷ []) → IsRunInOrder script h
 run_ends script h last d f others p linked finished few come k is owns begins =
     let c = come.come in
     held_in_order_is_run script h finished few
-    (runs_hold_script script h c.standing (pass_of d) (pass_of f) others k.entries linked come.others_are refl (drivers_add (pass_of d) (pass_of f) k.entries refl refl k.made) (k.left c.standing c.stands c.line) c.run
+    (runs_hold_script script h c.standing (pass_of d) (pass_of f) others k.entries linked come.others_are refl
+    (drivers_add (pass_of d) (pass_of f) k.entries refl refl k.made) (k.left c.standing c.stands c.line) c.run
     (subst (λ q. All (HasOwn h.entries) (others ++ q ∷ [])) is owns)
     (subst (BeginsHistory h.entries) is (All-contains (BeginsHistory h.entries) (others ++ p ∷ []) p begins (Contains-append_right others (p ∷ []) p (Contains-here p [])))))
 
 -- so it is of what `finish` answers
-pub run_gives : {E : Type 0} (r : Result Finished E) (script : List (Thread × Act)) (all : List Pass) → ((h : Finished) → IsLinked h → IsFinished h → length h.entries < 2 ^ 64 → All (HasOwn h.entries) all → All (BeginsHistory h.entries) all → IsRunInOrder script h)
-    → IfOk r (λ h. IsLinked h) → IfOk r (λ h. IsFinished h) → IfOk r (λ h. length h.entries < 2 ^ 64) → IfOk r (λ h. All (HasOwn h.entries) all) → IfOk r (λ h. All (BeginsHistory h.entries) all) → IfOk r (IsRunInOrder script)
+pub run_gives : {E : Type 0} (r : Result Finished E) (script : List (Thread × Act)) (all : List Pass)
+    → ((h : Finished) → IsLinked h → IsFinished h → length h.entries < 2 ^ 64 → All (HasOwn h.entries) all → All (BeginsHistory h.entries) all → IsRunInOrder script h)
+    → IfOk r (λ h. IsLinked h) → IfOk r (λ h. IsFinished h) → IfOk r (λ h. length h.entries < 2 ^ 64)
+    → IfOk r (λ h. All (HasOwn h.entries) all) → IfOk r (λ h. All (BeginsHistory h.entries) all) → IfOk r (IsRunInOrder script)
 run_gives (Ok h) script all ran linked finished few owns begins = ran h linked finished few owns begins
 run_gives (Err e) script all ran linked finished few owns begins = tt
 
@@ -119,7 +127,8 @@ pub record AreFirstOthers (others : List Pass) : Type 0 where
 
 pub one_other : (others : List Pass) (p : Pass) (n : ℕ) → length others + 1 ≡ n → p.thread ≡ thread_of n → KnowsNothing p.view → AreFirstOthers others → AreFirstOthers (others ++ p ∷ [])
 one_other others p n e thread new h = record {
-  thread = λ i q at. ⊎_elim (λ w. h.thread i q w) (λ w. ap (λ (z : Pass). z.thread) (sym w.1) ∙ (thread ∙ ap thread_of (let same : n ≡ i + 1 = (let a = w.0 in omega (arith, a, e)) in same))) (push_cases others p i q at);
+  thread = λ i q at. ⊎_elim (λ w. h.thread i q w) (λ w. ap (λ (z : Pass). z.thread) (sym w.1) ∙ (thread ∙ ap thread_of (let same : n ≡ i + 1 = (let a = w.0 in omega (arith, a, e)) in same)))
+      (push_cases others p i q at);
   new = λ i q at. ⊎_elim (λ w. h.new i q w) (λ w. subst (λ (z : Pass). KnowsNothing z.view) w.1 new) (push_cases others p i q at);
 }
   where

@@ -23,7 +23,8 @@ use Rattle.run_laws.proofs.InOrder.{told_callers_add, drivers_add, others_run_on
 use Rattle.script_runs.specs.Running.{AnswersLine, AreUpTo, DrivesLine, HasCome, RunsOn, StandsAs, TellsLine, last_after}
 use Rattle.joint_machine.proofs.Deciding.{some-same}
 
-pub tells_line : (a b d : Progress) (p q r t : Pass) (index : ℕ) (o : Act) → Tells (pass_of a) (pass_of b) → Hears (pass_of a) p q → b ≡ record a { view = b.view } → r.thread ≡ q.thread → AnswersLine q.thread q.view r.view index o → IsDrawnView q.view → IsDrawnView r.view
+pub tells_line : (a b d : Progress) (p q r t : Pass) (index : ℕ) (o : Act) → Tells (pass_of a) (pass_of b) → Hears (pass_of a) p q
+    → b ≡ record a { view = b.view } → r.thread ≡ q.thread → AnswersLine q.thread q.view r.view index o → IsDrawnView q.view → IsDrawnView r.view
     → Tells r t → Hears r (pass_of b) (pass_of d) → d ≡ record b { view = d.view } → TellsLine a d p t index o
 tells_line a b d p q r t index o tells hears same thread w before after left heard still = let k = w.made_line in record {
   entries = k.entries;
@@ -42,7 +43,8 @@ driver_on number a t old new others is oth k lines last h =
     subst (λ u. HasCome (lines ++ (number, (u, a)) ∷ []) (last_after last number u) new others) (sym is)
     (record {
       standing = standing_after h.standing number a k.entries;
-      run = driver_runs_on lines h.standing (pass_of old) (pass_of new) others number a k.entries oth refl (drivers_add (pass_of old) (pass_of new) k.entries refl refl k.made) (k.line h.standing h.stands) h.run;
+      run = driver_runs_on lines h.standing (pass_of old) (pass_of new) others number a k.entries oth refl
+          (drivers_add (pass_of old) (pass_of new) k.entries refl refl k.made) (k.line h.standing h.stands) h.run;
       stands = k.stands h.standing h.stands;
       line = k.last h.standing;
     })
@@ -81,7 +83,8 @@ module _ (others : List Pass) (i : ℕ) (p q : Pass) (at : slice_get others i �
   pub still_up_to : (n : ℕ) → AreUpTo n others → last_index (own q) ≤ n → AreUpTo n (slice_set others i q)
   still_up_to n up l j r there = ⊎_elim (λ w. subst (λ (z : Pass). last_index (own z) ≤ n) (sym w.1) l) (λ w. up j r w) (replaced j r there)
 
-  pub other_on : (number : ℕ) (a : Act) (t : Thread) (old new : Progress) → AreOthers others → p.thread ≡ t → q.thread ≡ p.thread → TellsLine old new p q number a → RunsOn number t a old new others (slice_set others i q)
+  pub other_on : (number : ℕ) (a : Act) (t : Thread) (old new : Progress) → AreOthers others → p.thread ≡ t
+      → q.thread ≡ p.thread → TellsLine old new p q number a → RunsOn number t a old new others (slice_set others i q)
   other_on number a t old new oth is same k lines last h =
       subst (λ u. HasCome (lines ++ (number, (u, a)) ∷ []) (last_after last number u) new (slice_set others i q)) is
       (record {

@@ -32,7 +32,8 @@ opening_of (act.PhaseLine word.Cycle) at.Idle = opens.Cycle
 opening_of a phase = opens.Other
 
 -- a call listed cycles, of which that holds if it found memory
-pub record Lists {T E : Type 0} (result : Result T E) (old new : Listing) (held now : Option (List ℕ)) (before after : ℕ) (P : T → List Listed → Type 0) : Type 0 where
+pub record Lists {T E : Type 0} (result : Result T E) (old new : Listing)
+    (held now : Option (List ℕ)) (before after : ℕ) (P : T → List Listed → Type 0) : Type 0 where
   pub cycles : List Listed
   pub wrote : Wrote old.cycles new.cycles old.written new.written held now before after cycles
   pub listed : IfOk result (λ r. P r cycles)
@@ -69,5 +70,8 @@ AreAllListed d cycles = AreSeen (lines_seen d.view) (snaps_of (own (pass_of d)))
 
 -- the last line of a listing of so many cycles was written behind the lines of as many: all of it, or a beginning, or
 -- nothing where the sink had failed before
-abbrev pub EndsListing : {E : Type 0} → ℕ → Option (List ℕ) → Option (List ℕ) → ℕ → ℕ → Result (Unit {0}) E → Result (Unit {0}) E → Type 0
-EndsListing count held now before after written result = (start : Option (List ℕ)) (first : ℕ) (cycles : List Listed) → count ≡ length cycles → Writes start held first before written (cycles_text cycles) → Writes start now first after result (listing_text cycles)
+abbrev pub EndsListing : {E : Type 0} → ℕ → Option (List ℕ) → Option (List ℕ)
+    → ℕ → ℕ → Result (Unit {0}) E → Result (Unit {0}) E → Type 0
+EndsListing count held now before after written result = (start : Option (List ℕ)) (first : ℕ) (cycles : List Listed)
+    → count ≡ length cycles → Writes start held first before written (cycles_text cycles)
+    → Writes start now first after result (listing_text cycles)

@@ -1,5 +1,6 @@
 -- Which lines can be run, and what running them makes.
-use Rattle.std.specs.Prelude.{◌≡◌, ℕ, ◌≤◌, ◌⊎◌, if◌then◌else◌, List, [], ◌∷◌, ◌++◌, All, Contains, Result, IfOk, length, map, Some, slice_get}
+use Rattle.std.specs.Prelude.{◌≡◌, ℕ, ◌≤◌, ◌⊎◌, if◌then◌else◌, List, [], ◌∷◌, ◌++◌, All, Contains, Result, IfOk, length}
+use Rattle.std.specs.Prelude.{map, Some, slice_get}
 use mathlib.Core.List.{IsPrefix}
 use Rattle.joint_machine.specs.declared.names.Thread.{Thread}
 use Rattle.joint_machine.specs.declared.names.Thread.TheVariants.{C}
@@ -138,7 +139,8 @@ last_after last number t = if is_thread C t then number else last
 
 -- a line was run: whatever had come before, it comes behind it
 abbrev pub RunsOn : ℕ → Thread → Act → Progress → Progress → List Pass → List Pass → Type 0
-RunsOn number t a old new others others' = (lines : List (ℕ × (Thread × Act))) (last : ℕ) → HasCome lines last old others → HasCome (lines ++ (number, (t, a)) ∷ []) (last_after last number t) new others'
+RunsOn number t a old new others others' = (lines : List (ℕ × (Thread × Act))) (last : ℕ)
+    → HasCome lines last old others → HasCome (lines ++ (number, (t, a)) ∷ []) (last_after last number t) new others'
 
 -- none of the others has come past the line
 abbrev pub AreUpTo : ℕ → List Pass → Type 0

@@ -25,7 +25,8 @@ ghost use Rattle.graph_listing.specs.Numbers.{AreOfNodes, listed_of};
 ghost use Rattle.script_runs.specs.Running.{AreUpTo, CanRun, DrivesLine, HasCome, HasComeThrough, RunsOn, last_after};
 ghost use Rattle.listing_laws.specs.Listings.{IsListedIn};
 ghost use Rattle.listing_laws.specs.Writing.{GoesOn, WroteListing};
-ghost use Rattle.script_runs.specs.Listed.{AreAllListed, EndsListing, HasNoSnap, Lists, ListsLine, ListsOne, opening_of};
+ghost use Rattle.script_runs.specs.Listed.{AreAllListed, EndsListing, HasNoSnap, Lists, ListsLine, ListsOne};
+ghost use Rattle.script_runs.specs.Listed.{opening_of};
 
 use crate::lines::{drive_left, drive_line};
 use crate::places::{is_thread, place_among};
@@ -94,7 +95,8 @@ fn write_next<O: Sink>(
     out: &mut O,
 ) -> Result<(), Failed>
     requires nodes { AreOfNodes graph.now.nodes comps.now.comps }
-    ensures { GoesOn (O.held out.old) (O.held out.new) (O.faults out.old) (O.faults out.new) written result (listed_of cycle.0 graph.now comps.now ∷ []) }
+    ensures { GoesOn (O.held out.old) (O.held out.new) (O.faults out.old)
+        (O.faults out.new) written result (listed_of cycle.0 graph.now comps.now ∷ []) }
 {
     match written {
         Ok(()) => write_listing(graph, comps, cycle, out),
@@ -112,7 +114,8 @@ fn list_cycle<N: OrderName, O: Sink>(
 ) -> Result<(), AllocError>
     requires busy { ¬ (driver.now.phase ≡ Idle) }
     requires few { listing.old.cycles < 4294967295 }
-    ensures { Lists result listing.old listing.new (O.held out.old) (O.held out.new) (O.faults out.old) (O.faults out.new) (λ _ cycles. ListsOne driver.now cycles) }
+    ensures { Lists result listing.old listing.new (O.held out.old) (O.held out.new)
+        (O.faults out.old) (O.faults out.new) (λ _ cycles. ListsOne driver.now cycles) }
 {
     let Some(graph) = driver.graph() else {
         unreachable!()
@@ -141,7 +144,8 @@ fn open_listed<N: OrderName, O: Sink>(
     requires few { listing.old.cycles < 4294967295 }
     ensures index { line_of driver.new ≤ index }
     ensures runs { OnOk result (RunsWords driver.old driver.new index (word.Snap ∷ [])) }
-    ensures lists { Lists result listing.old listing.new (O.held out.old) (O.held out.new) (O.faults out.old) (O.faults out.new) (λ _ cycles. ListsLine driver.old driver.new cycles) }
+    ensures lists { Lists result listing.old listing.new (O.held out.old) (O.held out.new)
+        (O.faults out.old) (O.faults out.new) (λ _ cycles. ListsLine driver.old driver.new cycles) }
 {
     let Ok(()) = driver.snap(rt, alloc, shared, index) else {
         return Err(AllocError);
@@ -164,7 +168,8 @@ fn cycle_listed<N: OrderName, O: Sink>(
     requires few { listing.old.cycles < 4294967295 }
     ensures index { line_of driver.new ≤ index }
     ensures runs { OnOk result (RunsWords driver.old driver.new index (phases_of word.Cycle)) }
-    ensures lists { Lists result listing.old listing.new (O.held out.old) (O.held out.new) (O.faults out.old) (O.faults out.new) (λ _ cycles. ListsLine driver.old driver.new cycles) }
+    ensures lists { Lists result listing.old listing.new (O.held out.old) (O.held out.new)
+        (O.faults out.old) (O.faults out.new) (λ _ cycles. ListsLine driver.old driver.new cycles) }
 {
     let Ok(()) = open_listed(rt, alloc, shared, driver, index, listing, out) else {
         return Err(AllocError);
@@ -188,7 +193,8 @@ fn drive_listed<N: OrderName, O: Sink>(
     requires few { listing.old.cycles < 4294967295 }
     ensures index { line_of driver.new ≤ index }
     ensures ok { OnOk result (DrivesLine driver.old driver.new index act.now) }
-    ensures lists { Lists result listing.old listing.new (O.held out.old) (O.held out.new) (O.faults out.old) (O.faults out.new) (λ _ cycles. ListsLine driver.old driver.new cycles) }
+    ensures lists { Lists result listing.old listing.new (O.held out.old) (O.held out.new)
+        (O.faults out.old) (O.faults out.new) (λ _ cycles. ListsLine driver.old driver.new cycles) }
 {
     match opening_by(act, driver.phase()) {
         Opening::Snap => open_listed(rt, alloc, shared, driver, index, listing, out),
@@ -219,8 +225,10 @@ fn run_next_listed<N: OrderName, O: Sink>(
     ensures up_to { OnOk result (AreUpTo number others.new.items) }
     ensures driven { IfOk result (λ last. (line_of driver.new ≤ last) × (last ≤ number)) }
     ensures last { IfOk result (λ r. r ≡ last_after last number line.now.0) }
-    ensures runs { OnOk result (RunsOn number line.now.0 line.now.1 driver.old driver.new others.old.items others.new.items) }
-    ensures lists { Lists result listing.old listing.new (O.held out.old) (O.held out.new) (O.faults out.old) (O.faults out.new) (λ _ cycles. ListsLine driver.old driver.new cycles) }
+    ensures runs { OnOk result (RunsOn number line.now.0 line.now.1
+        driver.old driver.new others.old.items others.new.items) }
+    ensures lists { Lists result listing.old listing.new (O.held out.old) (O.held out.new)
+        (O.faults out.old) (O.faults out.new) (λ _ cycles. ListsLine driver.old driver.new cycles) }
 {
     let (thread, act) = line;
     if is_thread(Thread::C, *thread) {
@@ -261,7 +269,8 @@ fn run_all_listed<N: OrderName, O: Sink>(
     requires no_snap { HasNoSnap driver.old }
     requires none { listing.old.cycles ≡ 0 }
     ensures come { IfOk result (λ last. HasComeThrough script.now last driver.new others.new.items) }
-    ensures lists { Lists result listing.old listing.new (O.held out.old) (O.held out.new) (O.faults out.old) (O.faults out.new) (λ _ cycles. AreAllListed driver.new cycles) }
+    ensures lists { Lists result listing.old listing.new (O.held out.old) (O.held out.new)
+        (O.faults out.old) (O.faults out.new) (λ _ cycles. AreAllListed driver.new cycles) }
 {
     let mut last = 0;
     let mut number = 0;
@@ -292,8 +301,12 @@ fn compare_by_desk<N: OrderName, O: Sink>(
     requires none { listing.old.cycles ≡ 0 }
     ensures all { IfOk result (λ v. HasAll desk.new v.items) }
     ensures idle { IfOk result (λ v. All HasIdleDriver v.items) }
-    ensures ran { IfOk result (λ v. (h : Finished) → IsLinked h → IsFinished h → length h.entries < 2 ^ 64 → All (HasOwn h.entries) v.items → All (BeginsHistory h.entries) v.items → IsRunInOrder script.now h) }
-    ensures lists { Lists result listing.old listing.new (O.held out.old) (O.held out.new) (O.faults out.old) (O.faults out.new) (λ v cycles. (h : Finished) → IsLinked h → All (HasOwn h.entries) v.items → IsKnownHistory v.items h → IsListedIn h cycles) }
+    ensures ran { IfOk result (λ v. (h : Finished) → IsLinked h → IsFinished h → length h.entries < 2 ^ 64
+        → All (HasOwn h.entries) v.items → All (BeginsHistory h.entries) v.items → IsRunInOrder script.now h) }
+    ensures lists { Lists result listing.old listing.new (O.held out.old) (O.held out.new)
+        (O.faults out.old) (O.faults out.new)
+        (λ v cycles. (h : Finished) → IsLinked h → All (HasOwn h.entries) v.items
+        → IsKnownHistory v.items h → IsListedIn h cycles) }
 {
     let Some(caller) = desk.caller(Thread::C) else {
         unreachable!()
@@ -325,7 +338,8 @@ fn compare_by_desk<N: OrderName, O: Sink>(
 
 // Writes the last line of a listing, unless the sink failed before.
 fn write_last<O: Sink>(listing: Listing, out: &mut O) -> Result<(), Failed>
-    ensures { EndsListing listing.cycles (O.held out.old) (O.held out.new) (O.faults out.old) (O.faults out.new) listing.written result }
+    ensures { EndsListing listing.cycles (O.held out.old) (O.held out.new)
+        (O.faults out.old) (O.faults out.new) listing.written result }
 {
     match listing.written {
         Ok(()) => write_end(listing.cycles as u64, out),
@@ -347,8 +361,10 @@ fn compare_named<N: OrderName, O: Sink>(
     requires seat { (seat.order ≡ N.order) × OwnsAll seat.view × KnowsNothing seat.view × Settled seat.view }
     requires lines { CanRun script.now }
     ensures history { IfOk result (λ c. IsRunInOrder script.now c.history) }
-    ensures listing { IfOk result (λ c. WroteListing c.history (O.held out.old) (O.held out.new) (O.faults out.old) (O.faults out.new) c.written) }
-    ensures memory { OnErr result ((cycles : List Listed) × AppendsPart (O.held out.old) (O.held out.new) (cycles_text cycles)) }
+    ensures listing { IfOk result (λ c. WroteListing c.history (O.held out.old)
+        (O.held out.new) (O.faults out.old) (O.faults out.new) c.written) }
+    ensures memory { OnErr result ((cycles : List Listed)
+        × AppendsPart (O.held out.old) (O.held out.new) (cycles_text cycles)) }
 {
     let Ok((shared, mut desk)) = Shared::<N, Alone>::new(alloc, order, seat, 8, 8, Holding::Every)
     else {
@@ -383,8 +399,10 @@ pub fn run_compared<O: Sink>(
 ) -> Result<Compared, AllocError>
     requires lines { CanRun script.now }
     ensures history { IfOk result (λ c. IsRunInOrder script.now c.history) }
-    ensures listing { IfOk result (λ c. WroteListing c.history (O.held out.old) (O.held out.new) (O.faults out.old) (O.faults out.new) c.written) }
-    ensures memory { OnErr result ((cycles : List Listed) × AppendsPart (O.held out.old) (O.held out.new) (cycles_text cycles)) }
+    ensures listing { IfOk result (λ c. WroteListing c.history (O.held out.old)
+        (O.held out.new) (O.faults out.old) (O.faults out.new) c.written) }
+    ensures memory { OnErr result ((cycles : List Listed)
+        × AppendsPart (O.held out.old) (O.held out.new) (cycles_text cycles)) }
 {
     let Ok((order, seat)) = Order::new(alloc, 8) else {
         return Err(AllocError);

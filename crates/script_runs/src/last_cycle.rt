@@ -84,7 +84,9 @@ fn run_by_desk<N: OrderName + Send + Sync, R: Threads + Wait + Sync, T: Turnstil
     requires room { length script.now < 4294967295 }
     ensures all { IfOk result (λ v. HasAll desk.new v.items) }
     ensures idle { IfOk result (λ v. All HasIdleDriver v.items) }
-    ensures ran { IfOk result (λ v. (h : Finished) → IsFinished h → length h.entries < 2 ^ 64 → All (HasOwn h.entries) v.items → ((t : Thread) → IsThread t → StillWaits desk.new t → made_by t h.entries ≡ []) → IsRunThenCycle script.now h) }
+    ensures ran { IfOk result (λ v. (h : Finished) → IsFinished h → length h.entries < 2 ^ 64
+        → All (HasOwn h.entries) v.items → ((t : Thread) → IsThread t
+        → StillWaits desk.new t → made_by t h.entries ≡ []) → IsRunThenCycle script.now h) }
 {
     let jobs = workers(alloc, desk, script)?;
     let ended = run_jobs(rt, alloc, shared, script, turn, jobs)?;

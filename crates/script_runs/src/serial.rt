@@ -90,7 +90,8 @@ fn run_next<N: OrderName>(
     ensures up_to { OnOk result (AreUpTo number others.new.items) }
     ensures driven { IfOk result (λ last. (line_of driver.new ≤ last) × (last ≤ number)) }
     ensures last { IfOk result (λ r. r ≡ last_after last number line.now.0) }
-    ensures runs { OnOk result (RunsOn number line.now.0 line.now.1 driver.old driver.new others.old.items others.new.items) }
+    ensures runs { OnOk result (RunsOn number line.now.0 line.now.1
+        driver.old driver.new others.old.items others.new.items) }
 {
     let (thread, act) = line;
     if is_thread(Thread::C, *thread) {
@@ -145,7 +146,8 @@ fn run_by_desk<N: OrderName>(
     requires lines { CanRun script.now }
     ensures all { IfOk result (λ v. HasAll desk.new v.items) }
     ensures idle { IfOk result (λ v. All HasIdleDriver v.items) }
-    ensures ran { IfOk result (λ v. (h : Finished) → IsLinked h → IsFinished h → length h.entries < 2 ^ 64 → All (HasOwn h.entries) v.items → All (BeginsHistory h.entries) v.items → IsRunInOrder script.now h) }
+    ensures ran { IfOk result (λ v. (h : Finished) → IsLinked h → IsFinished h → length h.entries < 2 ^ 64
+        → All (HasOwn h.entries) v.items → All (BeginsHistory h.entries) v.items → IsRunInOrder script.now h) }
 {
     let Some(caller) = desk.caller(Thread::C) else {
         unreachable!()
@@ -174,7 +176,8 @@ fn run_lines<N: OrderName>(
     requires lines { CanRun script.now }
     ensures all { IfOk result (λ r. HasAll r.1 r.2.items) }
     ensures idle { IfOk result (λ r. All HasIdleDriver r.2.items) }
-    ensures ran { IfOk result (λ r. (h : Finished) → IsLinked h → IsFinished h → length h.entries < 2 ^ 64 → All (HasOwn h.entries) r.2.items → All (BeginsHistory h.entries) r.2.items → IsRunInOrder script.now h) }
+    ensures ran { IfOk result (λ r. (h : Finished) → IsLinked h → IsFinished h → length h.entries < 2 ^ 64
+        → All (HasOwn h.entries) r.2.items → All (BeginsHistory h.entries) r.2.items → IsRunInOrder script.now h) }
 {
     let (shared, mut desk) = Shared::<N, Alone>::new(alloc, order, seat, 8, 8, holding)?;
     match run_by_desk(rt, alloc, &shared, &mut desk, script) {

@@ -50,7 +50,8 @@ pub(crate) fn run_jobs<N: OrderName + Send + Sync, R: Threads + Wait + Sync, T: 
     requires lines { CanRun script.now }
     requires jobs { All (λ p. IsThread p.thread × KnowsNothing p.view) jobs.items }
     ensures len { IfOk result (λ v. vec_len v ≡ vec_len jobs) }
-    ensures each { IfOk result (λ v. (i : ℕ) (d : _) (e : _) → i < vec_len jobs → EndsSo script.now (slice_index_or jobs.items i d) (slice_index_or v.items i e)) }
+    ensures each { IfOk result (λ v. (i : ℕ) (d : _) (e : _) → i < vec_len jobs
+        → EndsSo script.now (slice_index_or jobs.items i d) (slice_index_or v.items i e)) }
 {
     thread::map_vec(
         rt,
@@ -77,7 +78,9 @@ fn run_by_desk<N: OrderName + Send + Sync, R: Threads + Wait + Sync, T: Turnstil
     requires lines { CanRun script.now }
     ensures all { IfOk result (λ v. HasAll desk.new v.items) }
     ensures idle { IfOk result (λ v. All HasIdleDriver v.items) }
-    ensures ran { IfOk result (λ v. (h : Finished) → IsLinked h → IsFinished h → length h.entries < 2 ^ 64 → All (HasOwn h.entries) v.items → ((t : Thread) → IsThread t → StillWaits desk.new t → made_by t h.entries ≡ []) → IsRunByThreads script.now h) }
+    ensures ran { IfOk result (λ v. (h : Finished) → IsLinked h → IsFinished h
+        → length h.entries < 2 ^ 64 → All (HasOwn h.entries) v.items
+        → ((t : Thread) → IsThread t → StillWaits desk.new t → made_by t h.entries ≡ []) → IsRunByThreads script.now h) }
 {
     let jobs = workers(alloc, desk, script)?;
     let ended = run_jobs(rt, alloc, shared, script, turn, jobs)?;

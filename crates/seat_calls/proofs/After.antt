@@ -27,7 +27,8 @@ still_owes v w r k p e = let still : pin_owed v k.entry.made ≡ stays = ap (owi
 
 -- nothing is owed of cells after an entry that frees nothing
 none_owed : (v w : View) (k : KeptEntry) → IsPaid v w 0 k → k.freed ≡ [] → NoDebt w
-none_owed v w k p frees c = ⊎_elim (λ o. absurd (no_target (target (known v 0) c) (ap (frees_target (target (known v 0) c)) (sym frees) ∙ (p.debts refl c o).1))) (λ e. e) (cases_Bool (at false w.debts c))
+none_owed v w k p frees c = ⊎_elim (λ o. absurd (no_target (target (known v 0) c) (ap (frees_target (target (known v 0) c)) (sym frees) ∙ (p.debts refl c o).1)))
+    (λ e. e) (cases_Bool (at false w.debts c))
   where
     no_target : (o : Option ℕ) → frees_target o [] ≡ true → ⊥
     no_target None e = true≢false (sym e)
@@ -97,12 +98,14 @@ pub has_ended : (v w : View) (k : KeptEntry) (c : ℕ) → GrowsByEntry v w 0 k 
 has_ended v w k c g p d may holds =
     let open' : stage (known v 0) ≡ 2 * c = may in
     let now : stage (known w 0) ≡ max (stage (known v 0)) (2 * c + 1) = ap stage g.role ∙ (stage_more (known v 0) k ∙ ap (stage_after (stage (known v 0))) d) in
-    let same : (0 < v.holds) × (v.holds ≡ c) = ⊎_elim (λ z. absurd (let q : stage (known v 0) ≡ 2 * z.1.0 + 1 = z.1.1 in omega arith)) (λ z. let q : stage (known v 0) ≡ 2 * v.holds = z.1 in (z.0, omega arith)) holds in
+    let same : (0 < v.holds) × (v.holds ≡ c) = ⊎_elim (λ z. absurd (let q : stage (known v 0) ≡ 2 * z.1.0 + 1 = z.1.1 in omega arith))
+    (λ z. let q : stage (known v 0) ≡ 2 * v.holds = z.1 in (z.0, omega arith)) holds in
     let held : w.holds ≡ v.holds = p.holds in
     let pos = same.0 in let is = same.1 in (omega arith, omega arith, (c, omega arith))
 
 -- a `take` leaves the pin empty, and nothing to be done but its clearing
-pub owes_clearing : (v w : View) (k : KeptEntry) (reader : ℕ) → caller_place k.entry.made.caller ≡ reader → GrowsByEntry v w 0 k → IsPaid v w 0 k → deed_of_pin k ≡ empties → k.freed ≡ [] → deed k.entry.made.op ≡ neither → HoldsOpen v → Settled v → OwesClearing w reader
+pub owes_clearing : (v w : View) (k : KeptEntry) (reader : ℕ) → caller_place k.entry.made.caller ≡ reader → GrowsByEntry v w 0 k
+    → IsPaid v w 0 k → deed_of_pin k ≡ empties → k.freed ≡ [] → deed k.entry.made.op ≡ neither → HoldsOpen v → Settled v → OwesClearing w reader
 owes_clearing v w k reader place g p takes frees quiet holds s =
     let same = stage_now v w 0 k g (omega arith) (inr quiet) in
     let p0 : ℕ = pin (known v (caller_line k.entry.made.caller)) in
@@ -125,9 +128,11 @@ owes_clearing v w k reader place g p takes frees quiet holds s =
         either_way true = refl
         either_way false = refl
 
-    by_pin : (q : ℕ) → (empty_after (owing q empties) (caller_place k.entry.made.caller) v.empty ≡ v.empty) ⊎ (empty_after (owing q empties) (caller_place k.entry.made.caller) v.empty ≡ caller_place k.entry.made.caller)
+    by_pin : (q : ℕ) → (empty_after (owing q empties) (caller_place k.entry.made.caller) v.empty ≡ v.empty)
+        ⊎ (empty_after (owing q empties) (caller_place k.entry.made.caller) v.empty ≡ caller_place k.entry.made.caller)
     by_pin q = either_way (q == 0)
       where
-        either_way : (b : Bool) → (empty_after (if b then stays else empties) (caller_place k.entry.made.caller) v.empty ≡ v.empty) ⊎ (empty_after (if b then stays else empties) (caller_place k.entry.made.caller) v.empty ≡ caller_place k.entry.made.caller)
+        either_way : (b : Bool) → (empty_after (if b then stays else empties) (caller_place k.entry.made.caller) v.empty ≡ v.empty)
+            ⊎ (empty_after (if b then stays else empties) (caller_place k.entry.made.caller) v.empty ≡ caller_place k.entry.made.caller)
         either_way true = inl refl
         either_way false = inr refl

@@ -24,14 +24,16 @@ lends t locked mine locked' mine' pass p k o = record {
   one_history = o;
 }
 
-pub returns : (t : Thread) (locked mine locked' mine' pass : View) → Parts (IsOfCaller t) locked locked' pass → TakesIn mine pass mine' → ((i : ℕ) → IsPrefix (known mine i) (known locked i)) → Returns t locked mine locked' mine'
+pub returns : (t : Thread) (locked mine locked' mine' pass : View) → Parts (IsOfCaller t) locked locked' pass
+    → TakesIn mine pass mine' → ((i : ℕ) → IsPrefix (known mine i) (known locked i)) → Returns t locked mine locked' mine'
 returns t locked mine locked' mine' pass p k more = record {
   kept = λ i n q. p.stayed i n q;
   lines = λ i g q. (k.owns i).0 (inr (p.went i g q));
   more = λ i q. (k.owns i).0 (inl q);
   stays = λ i. (p.know i).0;
   same = λ i. ⊎_elim
-      (λ (e : known mine' i ≡ known mine i). e ∙ prefix_anti (known mine i) (known locked i) (more i) (subst (λ l. IsPrefix l (known mine i)) (p.know i).1 (subst (λ l. IsPrefix (known pass i) l) e (k.heard i))))
+      (λ (e : known mine' i ≡ known mine i). e ∙ prefix_anti (known mine i) (known locked i) (more i)
+      (subst (λ l. IsPrefix l (known mine i)) (p.know i).1 (subst (λ l. IsPrefix (known pass i) l) e (k.heard i))))
       (λ e. e ∙ (p.know i).1)
       (k.either i);
 }

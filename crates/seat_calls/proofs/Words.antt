@@ -38,7 +38,8 @@ pub managed_first : (r : ℕ) (b : Bool) → r < 2 → (r ≡ 1 → b ≡ true) 
 managed_first r b small peer e = ⊎_elim (λ z. z) (λ n. absurd (let one : r ≡ 1 = omega (arith, n) in both_ways b e (peer one))) (cases_eq r 0)
 
 -- a word that is stored over is that of a cell whose target is freed
-pub gone_word : (v : View) (live : ℕ → Type 0) (gate c w : ℕ) (owed : Bool) → Agrees v live → CellIs (known v 0) gate owed c w → (w ≡ 1) ⊎ ((m : ℕ) × (0 < m) × (w ≡ m + 1) × (live m → ⊥)) → says_word (known v 0) c ≡ 1
+pub gone_word : (v : View) (live : ℕ → Type 0) (gate c w : ℕ) (owed : Bool) → Agrees v live
+    → CellIs (known v 0) gate owed c w → (w ≡ 1) ⊎ ((m : ℕ) × (0 < m) × (w ≡ m + 1) × (live m → ⊥)) → says_word (known v 0) c ≡ 1
 gone_word v live gate c w owed agrees cell which = ⊎_elim
     (λ (is : w ≡ says_word (known v 0) c). ⊎_elim (λ (e : w ≡ 1). sym is ∙ e)
     (λ t. absurd (let t' : w ≡ t.0 + 1 = t.2 in t.3 (living t.0 t.1 (sym is ∙ t.2)))) which)

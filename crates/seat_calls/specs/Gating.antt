@@ -44,7 +44,8 @@ pub record OwesClearing (v : View) (reader : ℕ) : Type 0 where
 
 -- a read under the managed lock: the caller's lines are lent, the read is made by the locked seat, and they are given
 -- back
-pub record ReadsLocked (reader index : ℕ) (a : Act) (number : ℕ) (g : Got) (locked mine locked' mine' : View) (old new : Stock) : Type 0 where
+pub record ReadsLocked (reader index : ℕ) (a : Act) (number : ℕ) (g : Got)
+    (locked mine locked' mine' : View) (old new : Stock) : Type 0 where
   pub lent : View
   pub left : View
   pub made : View

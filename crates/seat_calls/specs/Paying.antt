@@ -22,7 +22,8 @@ pub record IsPaid (v w : View) (r : ℕ) (k : KeptEntry) : Type 0 where
   pub fill : w.fill ≡ fill_after (pin_owed v k.entry.made) (caller_place k.entry.made.caller) v.fill
   pub empty : w.empty ≡ empty_after (pin_owed v k.entry.made) (caller_place k.entry.made.caller) v.empty
   pub others : (r ≡ 0 → ⊥) → w.debts ≡ v.debts
-  pub debts : r ≡ 0 → (c : ℕ) → at false w.debts c ≡ true → (c < 64) × (frees_target (target (known v 0) c) k.freed ≡ true)
+  pub debts : r ≡ 0 → (c : ℕ) → at false w.debts c ≡ true
+      → (c < 64) × (frees_target (target (known v 0) c) k.freed ≡ true)
 
 -- of the cells' targets a side has as live just those that its list doesn't free
 abbrev pub Agrees : View → (ℕ → Type 0) → Type 0
@@ -30,7 +31,8 @@ Agrees v live = (c m : ℕ) → target (known v 0) c ≡ Some m → (live m ↔ 
 
 -- the words that are owed are those of cells whose target is freed
 abbrev pub OwesFreed : View → Type 0
-OwesFreed v = (c : ℕ) → at false v.debts c ≡ true → (c < 64) × ((m : ℕ) × (target (known v 0) c ≡ Some m) × (is_freed (known v 0) m ≡ true))
+OwesFreed v = (c : ℕ) → at false v.debts c ≡ true → (c < 64)
+    × ((m : ℕ) × (target (known v 0) c ≡ Some m) × (is_freed (known v 0) m ≡ true))
 
 -- all is as before but the words that are owed, and what was found, loaded and scanned
 pub record StillAs (v w : View) : Type 0 where

@@ -1,6 +1,7 @@
 // The words of cells, after an entry that sets one or frees the targets of some.
 
-ghost use Rattle.std.specs.Prelude.{◌≡◌, ◌⊎◌, ℕ, ◌+◌, ◌<◌, ◌≤◌, ◌↔◌, Bool, true, false, IsTrue, MatchBool, Option, None, Some, IfNone, IfSome, length};
+ghost use Rattle.std.specs.Prelude.{◌≡◌, ◌⊎◌, ℕ, ◌+◌, ◌<◌, ◌≤◌, ◌↔◌, Bool, true, false, IsTrue, MatchBool, Option};
+ghost use Rattle.std.specs.Prelude.{None, Some, IfNone, IfSome, length};
 ghost use Rattle.joint_machine.specs.declared.names.MNum.{MNum};
 ghost use Rattle.joint_machine.specs.HistoryLines.{caller_line};
 ghost use Rattle.joint_machine.specs.Lines.{IsThread, is_peer_event};
@@ -17,9 +18,11 @@ use order_table::{Order, Role, Seat};
 
 // The cell that an entry sets where it is told an object: that of a managed thread's `weak`.
 fn cell_set(made: &Made) -> Option<Cell>
-    ensures some { IfSome result (λ k. (m : MNum) → mark made.now.op (target_told made.now.caller made.now.op (Some m)) ≡ Some (k.0, m.0)) }
+    ensures some { IfSome result (λ k. (m : MNum)
+        → mark made.now.op (target_told made.now.caller made.now.op (Some m)) ≡ Some (k.0, m.0)) }
     ensures side { IfSome result (λ _. is_peer_event made.now.caller made.now.op ≡ false) }
-    ensures none { IfNone result ((aim : Option MNum) → mark made.now.op (target_told made.now.caller made.now.op aim) ≡ None) }
+    ensures none { IfNone result ((aim : Option MNum)
+        → mark made.now.op (target_told made.now.caller made.now.op aim) ≡ None) }
 {
     match (made.caller, made.op) {
         (Thread::M(_), Op::Line(Act::Weak { k, v: _ })) => Some(k),
@@ -46,10 +49,12 @@ pub fn append_paid(
     requires role { Owns seat.old.view (role_line role) × Owns seat.old.view (caller_line made.now.caller) }
     requires room { length (known seat.old.view (role_line role)) < 4294967295 }
     ensures order { seat.new.order ≡ order.now }
-    ensures grows { GrowsByEntry seat.old.view seat.new.view (role_line role) (kept seat.old.view made.now target freed.now result) }
+    ensures grows { GrowsByEntry seat.old.view seat.new.view
+        (role_line role) (kept seat.old.view made.now target freed.now result) }
     ensures number { (i : ℕ) → IsBelow result (known seat.old.view i) }
     ensures one_history { BeginsOneHistory seat.new.view }
-    ensures paid { IsPaid seat.old.view seat.new.view (role_line role) (kept seat.old.view made.now target freed.now result) }
+    ensures paid { IsPaid seat.old.view seat.new.view (role_line role)
+        (kept seat.old.view made.now target freed.now result) }
 {
     let number = order.append(seat, role, made, target, freed);
     let Some(m) = target else {
@@ -73,7 +78,8 @@ pub trait Lives {
 // Whether a cell's word says that its target is gone, or names an object that isn't live.
 fn is_gone<L: Lives>(side: &L, word: u64) -> bool
     requires { word ≤ 4294967296 }
-    ensures { MatchBool result ((word ≡ 1) ⊎ ((m : ℕ) × (0 < m) × (word ≡ m + 1) × (L.live side.now m → ⊥))) ((word ≡ 0) ⊎ ((m : ℕ) × (0 < m) × (word ≡ m + 1) × L.live side.now m)) }
+    ensures { MatchBool result ((word ≡ 1) ⊎ ((m : ℕ) × (0 < m) × (word ≡ m + 1) × (L.live side.now m → ⊥)))
+        ((word ≡ 0) ⊎ ((m : ℕ) × (0 < m) × (word ≡ m + 1) × L.live side.now m)) }
 {
     if word == 1 {
         return true;
@@ -92,7 +98,8 @@ fn pay_cell<L: Lives>(order: &Order, seat: &mut Seat, side: &L, cell: Cell)
     requires freed { OwesFreed seat.old.view }
     ensures seat { seat.new.order ≡ order.now }
     ensures still { StillAs seat.old.view seat.new.view }
-    ensures paid { (c : ℕ) → at false seat.new.view.debts c ≡ true → (at false seat.old.view.debts c ≡ true) × (c ≡ cell.0 → ⊥) }
+    ensures paid { (c : ℕ) → at false seat.new.view.debts c ≡ true
+        → (at false seat.old.view.debts c ≡ true) × (c ≡ cell.0 → ⊥) }
 {
     let word = order.load_cell(seat, cell);
     if is_gone(side, word) {

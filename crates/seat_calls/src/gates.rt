@@ -22,7 +22,8 @@ pub fn close_and_scan(order: &Order, seat: &mut Seat, cycle: Cycle) -> Result<[u
     ensures closes { OnOk result (ClosesFor seat.old.view seat.new.view cycle.0) }
     ensures scanned { IfOk result (λ ws. seat.new.view.scanned ≡ scanned_row ws) }
     ensures small { IfOk result (λ ws. (i w : ℕ) → slice_get ws i ≡ Some w → w ≤ 4294967296) }
-    ensures held { IfOk result (λ ws. (i m : ℕ) → i < 8 → slice_get ws i ≡ Some (m + 1) → IsHeld (known seat.old.view 0) (i + 1) m) }
+    ensures held { IfOk result (λ ws. (i m : ℕ) → i < 8
+        → slice_get ws i ≡ Some (m + 1) → IsHeld (known seat.old.view 0) (i + 1) m) }
     ensures err { OnErr result (seat.new.view ≡ seat.old.view) }
 {
     match order.try_close_gate(seat, cycle) {
@@ -68,7 +69,8 @@ pub fn own_pin(order: &Order, seat: &mut Seat, reader: u8) -> Option<MNum>
     requires settled { Settled seat.old.view }
     ensures order { seat.new.order ≡ order.now }
     ensures stays { StaysAs seat.old.view seat.new.view }
-    ensures pin { MatchOption result (pin (known seat.old.view (reader + 10)) ≡ 0) (λ m. (pin (known seat.old.view (reader + 10)) ≡ m.0 + 1) × IsHeld (known seat.old.view 0) reader m.0) }
+    ensures pin { MatchOption result (pin (known seat.old.view (reader + 10)) ≡ 0)
+        (λ m. (pin (known seat.old.view (reader + 10)) ≡ m.0 + 1) × IsHeld (known seat.old.view 0) reader m.0) }
 {
     let word = order.load_pin(seat, reader);
     if word == 0 {

@@ -32,7 +32,8 @@ pub fn read_locked(
     requires spare { 1 ≤ entries.old.spare }
     ensures order { (locked.new.order ≡ order.now) × (mine.new.order ≡ order.now) }
     ensures settled { Settled locked.new.view × Settled mine.new.view }
-    ensures reads { ReadsLocked reader index act.now result.0 result.1 locked.old.view mine.old.view locked.new.view mine.new.view entries.old entries.new }
+    ensures reads { ReadsLocked reader index act.now result.0 result.1 locked.old.view
+        mine.old.view locked.new.view mine.new.view entries.old entries.new }
 {
     let thread = Thread::M(reader);
     lend(order, locked, mine, thread);

@@ -59,7 +59,9 @@ impl<'a> Draw for SeatDrawing<'a> {
       floor = λ d. floor_of d.seat.now.view;
       left = λ d. left_in d.seat.now.view (role_line d.role);
       may = λ d t o m. MayAppend d.order.now d.seat.now (role_line d.role) t o m;
-      drew = λ d e m freed d'. (d'.seat.ghost_name ≡ d.seat.ghost_name) × (d'.role ≡ d.role) × (d'.last ≡ e.number) × Appends d.order.now d'.order.now d.seat.now d'.seat.now (role_line d.role) (kept d.seat.now.view e.made m freed e.number) × (d'.first ≡ Some (unwrap_or d.first e.number));
+      drew = λ d e m freed d'. (d'.seat.ghost_name ≡ d.seat.ghost_name) × (d'.role ≡ d.role)
+          × (d'.last ≡ e.number) × Appends d.order.now d'.order.now d.seat.now d'.seat.now (role_line d.role)
+          (kept d.seat.now.view e.made m freed e.number) × (d'.first ≡ Some (unwrap_or d.first e.number));
     } };
 
     fn draw(&mut self, made: &Made, target: Option<MNum>, freed: &[MNum]) -> u64 {

@@ -24,7 +24,8 @@ last_too (q ∷ ps) p t c = ⊎_elim
     (Contains-cons_cases q.thread (threads_of ps) t w))
     (Contains-cons_cases p.thread (q.thread ∷ threads_of ps) t c)
 
-pub one_given : (old new : Waiting) (r : Option Pass) (p : Pass) (ps : List Pass) → r ≡ Some p → ((qs : List Pass) → HasAll old qs → HasAll new (option_to_list r ++ qs)) → HasAll old ps → HasAll new (ps ++ p ∷ [])
+pub one_given : (old new : Waiting) (r : Option Pass) (p : Pass) (ps : List Pass) → r ≡ Some p
+    → ((qs : List Pass) → HasAll old qs → HasAll new (option_to_list r ++ qs)) → HasAll old ps → HasAll new (ps ++ p ∷ [])
 one_given old new r p ps e gives all t is = ⊎_elim inl (λ c. inr (last_too ps p t c)) (subst (λ o. HasAll new (option_to_list o ++ ps)) e (gives ps all) t is)
 
 pub none_given : (old new : Waiting) (r : Option Pass) (ps : List Pass) → r ≡ None → ((qs : List Pass) → HasAll old qs → HasAll new (option_to_list r ++ qs)) → HasAll old ps → HasAll new ps
@@ -38,7 +39,8 @@ same_threads : (js rs : List Pass) → length rs ≡ length js → HaveGoneOn js
 same_threads [] [] e w = refl
 same_threads [] (r ∷ rs) e w = absurd (omega (arith, e))
 same_threads (j ∷ js) [] e w = absurd (omega (arith, e))
-same_threads (j ∷ js) (r ∷ rs) e w = ap (λ t. t ∷ threads_of js) (sym (w 0 j (omega arith))) ∙ ap (λ ts. r.thread ∷ ts) (same_threads js rs (omega (arith, e)) (λ i d l. w (suc i) d (omega (arith, l))))
+same_threads (j ∷ js) (r ∷ rs) e w = ap (λ t. t ∷ threads_of js) (sym (w 0 j (omega arith)))
+    ∙ ap (λ ts. r.thread ∷ ts) (same_threads js rs (omega (arith, e)) (λ i d l. w (suc i) d (omega (arith, l))))
 
 pub gone_have_all : (d : Waiting) (js rs : List Pass) → length rs ≡ length js → HaveGoneOn js rs → HasAll d js → HasAll d rs
 gone_have_all d js rs e w all = has_all_same d js rs (same_threads js rs e w) all
@@ -53,6 +55,7 @@ gone_are_idle (j ∷ js) (r ∷ rs) e w all =
     (gone_are_idle js rs (omega (arith, e)) (λ i d l. w (suc i) d (omega (arith, l))) (All-tail IsStarting j js all))
 
 -- one caller was given out, and went on
-pub one_goes_on : (old new : Waiting) (r : Option Pass) (a b : Pass) (t : Thread) (ps : List Pass) → HasAll old [] → ((qs : List Pass) → HasAll old qs → HasAll new (option_to_list r ++ qs)) → r ≡ Some a → a.thread ≡ t → b.thread ≡ t → ps ≡ b ∷ [] → HasAll new ps
+pub one_goes_on : (old new : Waiting) (r : Option Pass) (a b : Pass) (t : Thread) (ps : List Pass) → HasAll old []
+    → ((qs : List Pass) → HasAll old qs → HasAll new (option_to_list r ++ qs)) → r ≡ Some a → a.thread ≡ t → b.thread ≡ t → ps ≡ b ∷ [] → HasAll new ps
 one_goes_on old new r a b t ps all gives e at_a at_b is =
     subst (HasAll new) (sym is) (has_all_same new (a ∷ []) (b ∷ []) (ap (λ x. x ∷ []) (at_a ∙ sym at_b)) (one_given old new r a [] e gives all))

@@ -248,7 +248,8 @@ fn make_jobs<N: OrderName + Send + Sync, R: Threads + Wait + Sync>(
 ) -> Result<Vec<Result<Caller<N>, AllocError>>, AllocError>
     requires { All IsWaiting jobs.items }
     ensures len { IfOk result (λ v. vec_len v ≡ vec_len jobs) }
-    ensures each { IfOk result (λ v. (i : ℕ) (d : _) (e : _) → i < vec_len jobs → EndsIdle (slice_index_or jobs.items i d) (slice_index_or v.items i e)) }
+    ensures each { IfOk result (λ v. (i : ℕ) (d : _) (e : _) → i < vec_len jobs
+        → EndsIdle (slice_index_or jobs.items i d) (slice_index_or v.items i e)) }
 {
     thread::map_vec(
         rt,

@@ -152,7 +152,8 @@ fn make_all<N: OrderName + Send + Sync, R: Threads + Wait + Sync>(
 ) -> Result<Vec<Caller<N>>, AllocError>
     requires { All IsStarting callers.items }
     ensures len { IfOk result (λ v. vec_len v ≡ vec_len callers) }
-    ensures threads { IfOk result (λ v. (i : ℕ) (d : Pass) → i < vec_len callers → (slice_index_or v.items i d).thread ≡ (slice_index_or callers.items i d).thread) }
+    ensures threads { IfOk result (λ v. (i : ℕ) (d : Pass) → i < vec_len callers
+        → (slice_index_or v.items i d).thread ≡ (slice_index_or callers.items i d).thread) }
 {
     thread::map_vec(
         rt,

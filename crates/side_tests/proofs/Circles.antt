@@ -1,5 +1,6 @@
 -- What is asked of the sides of the circle, and what their calls leave.
-use Rattle.std.proofs.Common.{◌≡◌, ◌≢◌, ◌⊎◌, inl, inr, ℕ, zero, suc, ◌+◌, ◌<◌, ◌≤◌, Bool, true, false, ◌&&◌, List, [], ◌∷◌, ◌++◌, length, Option, Some, None, refl, sym, ap, ◌∙◌, subst, add-one, arith, length-append}
+use Rattle.std.proofs.Common.{◌≡◌, ◌≢◌, ◌⊎◌, inl, inr, ℕ, zero, suc, ◌+◌, ◌<◌, ◌≤◌, Bool, true, false, ◌&&◌, List, [], ◌∷◌, ◌++◌, length, Option, Some, None, refl, sym, ap, ◌∙◌, subst, add-one, arith}
+use Rattle.std.proofs.Common.{length-append}
 use Rattle.std.specs.Prelude.{All, AllPairs, Contains, is_some, slice_get}
 use Rattle.std.proofs.lemmas.List.Elements.{All-cons, All-nil}
 use Rattle.std.proofs.lemmas.List.Kept.{AllPairs-cons}
@@ -53,7 +54,8 @@ circle-first m count k e r = record {
 }
 
 -- a call that leaves the cycle and what is reserved for it as they are
-pub circle-stays : (old new : PeerModel) (before after : ℕ) (mirrored standing kept : Bool) (w b : ℕ) → StaysAlike old.state new.state → IsCounted (seen new) after → new.reserve.waiting ≡ old.reserve.waiting → new.reserve.left ≡ old.reserve.left → IsCircle old before mirrored standing kept w b → IsCircle new after mirrored standing kept w b
+pub circle-stays : (old new : PeerModel) (before after : ℕ) (mirrored standing kept : Bool) (w b : ℕ) → StaysAlike old.state new.state → IsCounted (seen new) after
+    → new.reserve.waiting ≡ old.reserve.waiting → new.reserve.left ≡ old.reserve.left → IsCircle old before mirrored standing kept w b → IsCircle new after mirrored standing kept w b
 circle-stays old new before after mirrored standing kept w b a k waits left c = record {
   counted = k;
   later = c.later;
@@ -72,8 +74,10 @@ circle-stays old new before after mirrored standing kept w b a k waits left c = 
 }
 
 -- a refusal changes nothing
-pub circle-same : (old new : PeerModel) (before after : ℕ) (mirrored standing kept : Bool) (w b : ℕ) → (new ≡ old) × (after ≡ before) → IsCircle old before mirrored standing kept w b → IsCircle new after mirrored standing kept w b
-circle-same old new before after mirrored standing kept w b e c = subst (λ n. IsCircle new n mirrored standing kept w b) (sym e.1) (subst (λ z. IsCircle z before mirrored standing kept w b) (sym e.0) c)
+pub circle-same : (old new : PeerModel) (before after : ℕ) (mirrored standing kept : Bool) (w b : ℕ) → (new ≡ old)
+    × (after ≡ before) → IsCircle old before mirrored standing kept w b → IsCircle new after mirrored standing kept w b
+circle-same old new before after mirrored standing kept w b e c = subst (λ n. IsCircle new n mirrored standing kept w b)
+    (sym e.1) (subst (λ z. IsCircle z before mirrored standing kept w b) (sym e.0) c)
 
 -- the handles of the nodes
 handles-are : handles_of nodes ≡ one ∷ two ∷ []
@@ -90,7 +94,8 @@ pub handles-count : (ns : List Node) → ns ≡ nodes → length (handles_of ns)
 handles-count ns e = ap (λ (l : List Node). length (handles_of l)) e ∙ ap (λ (l : List HNum). length l) handles-are
 
 both-apart : AllPairs (λ h k. h.0 ≢ k.0) (handles_of nodes)
-both-apart = subst (AllPairs (λ h k. h.0 ≢ k.0)) (sym handles-are) (AllPairs-cons (λ (h k : HNum). h.0 ≢ k.0) one (two ∷ []) (All-cons (λ (k : HNum). one.0 ≢ k.0) two [] (λ e. (let f : 1 ≡ 2 = e in absurd (omega arith))) (All-nil (λ (k : HNum). one.0 ≢ k.0)))
+both-apart = subst (AllPairs (λ h k. h.0 ≢ k.0)) (sym handles-are)
+    (AllPairs-cons (λ (h k : HNum). h.0 ≢ k.0) one (two ∷ []) (All-cons (λ (k : HNum). one.0 ≢ k.0) two [] (λ e. (let f : 1 ≡ 2 = e in absurd (omega arith))) (All-nil (λ (k : HNum). one.0 ≢ k.0)))
     (AllPairs-cons (λ (h k : HNum). h.0 ≢ k.0) two [] (All-nil (λ (k : HNum). two.0 ≢ k.0)) (λ i j d l m. absurd (omega arith))))
 
 pub apart : (ns : List Node) → ns ≡ nodes → AllPairs (λ h k. h.0 ≢ k.0) (handles_of ns)
@@ -150,28 +155,33 @@ is-held s (suc zero) later e low high = (_, ap (λ z. numbered_at z 1) e, refl)
 is-held s (suc (suc zero)) later e low high = (_, ap (λ z. numbered_at z 2) e, refl)
 is-held s (suc (suc (suc h))) later e low high = absurd (omega (arith, high))
 
-pub may-weaken : (m : PeerModel) (count : ℕ) (mirrored kept : Bool) (w b h : ℕ) → IsCircle m count mirrored true kept w b → 1 ≤ h → h ≤ 2 → row_of m.state h ≡ Some strong_row → MayWeaken m.state h (Some 0)
+pub may-weaken : (m : PeerModel) (count : ℕ) (mirrored kept : Bool) (w b h : ℕ) → IsCircle m count mirrored true kept w b
+    → 1 ≤ h → h ≤ 2 → row_of m.state h ≡ Some strong_row → MayWeaken m.state h (Some 0)
 may-weaken m count mirrored kept w b h c low high row = record { mirror = _; stands = c.mirror; cited = refl; is_held = is-held m.state h c.later c.issued low high; strong_now = row }
 
 up-more : (n : ℕ) → up_to (n + 1) ≡ up_to n ++ (n + 1) ∷ []
 up-more n = rw add-one refl
 
 -- by the tests
-pub circle-at : (m : PeerModel) (count : ℕ) (mirrored standing kept : Bool) (w b u v : ℕ) → standing ≡ true → w ≡ u → b ≡ v → IsCircle m count mirrored standing kept w b → IsCircle m count mirrored true kept u v
-circle-at m count mirrored standing kept w b u v e f g c = subst (λ z. IsCircle m count mirrored z kept u v) e (subst (λ z. IsCircle m count mirrored standing kept z v) f (subst (λ z. IsCircle m count mirrored standing kept w z) g c))
+pub circle-at : (m : PeerModel) (count : ℕ) (mirrored standing kept : Bool) (w b u v : ℕ) → standing ≡ true
+    → w ≡ u → b ≡ v → IsCircle m count mirrored standing kept w b → IsCircle m count mirrored true kept u v
+circle-at m count mirrored standing kept w b u v e f g c = subst (λ z. IsCircle m count mirrored z kept u v) e
+    (subst (λ z. IsCircle m count mirrored standing kept z v) f (subst (λ z. IsCircle m count mirrored standing kept w z) g c))
 
 pub circle-stood : (m : PeerModel) (count : ℕ) (mirrored standing kept : Bool) (w b : ℕ) → standing ≡ true → IsCircle m count mirrored true kept w b → IsCircle m count mirrored standing kept w b
 circle-stood m count mirrored standing kept w b e c = subst (λ z. IsCircle m count mirrored z kept w b) (sym e) c
 
 -- one more handle was weakened
 pub circle-weakened : (old new : PeerModel) (before after : ℕ) (mirrored kept : Bool) (w b h index : ℕ) → h ≡ w + 1 → h ≤ 2
-    → AddsLawful peer_rules counting before after (seen old) (seen new) (weakens index (record { 0 = h }) 0) nothing → new.reserve ≡ reserve_left old.reserve → IsCircle old before mirrored true kept w b → IsCircle new after mirrored true kept h b
+    → AddsLawful peer_rules counting before after (seen old) (seen new) (weakens index (record { 0 = h }) 0) nothing
+    → new.reserve ≡ reserve_left old.reserve → IsCircle old before mirrored true kept w b → IsCircle new after mirrored true kept h b
 circle-weakened old new before after mirrored kept w b h index is few a r c = record {
   counted = counted-once peer_rules (seen old) (seen new) before after _ _ a c.counted;
   later = c.later;
   issued = ap (λ (s : PeerReplay). s.peers.issued) a.goes.state ∙ c.issued;
   given = c.given;
-  mirror = ap (λ (s : PeerReplay). s.mirror) a.goes.state ∙ (rw (c.mirror, is) (ap (λ z. Some (let m : Mirror = record { cycle = 1; snap = 0; weakened = z; restored = up_to b; renewed = c.given } in m)) (sym (up-more w))));
+  mirror = ap (λ (s : PeerReplay). s.mirror) a.goes.state ∙ (rw (c.mirror, is)
+      (ap (λ z. Some (let m : Mirror = record { cycle = 1; snap = 0; weakened = z; restored = up_to b; renewed = c.given } in m)) (sym (up-more w))));
   all = c.all;
   fresh = c.fresh;
   mirrors = ap (λ (s : PeerReplay). s.mirrors) a.goes.state ∙ c.mirrors;
@@ -198,10 +208,12 @@ up-has (suc (suc (suc n))) h low high few = absurd (omega (arith, few))
 up-most : (n h : ℕ) → n ≤ 2 → Contains (up_to n) h → h ≤ n
 up-most zero h few c = absurd (Contains-nil h c)
 up-most (suc zero) h few c = elim (Contains-cons_cases 1 [] h c) [ inl e ↦ omega (arith, e) | inr d ↦ absurd (Contains-nil h d) ]
-up-most (suc (suc zero)) h few c = elim (Contains-cons_cases 1 (2 ∷ []) h c) [ inl e ↦ omega (arith, e) | inr d ↦ elim (Contains-cons_cases 2 [] h d) [ inl e ↦ omega (arith, e) | inr f ↦ absurd (Contains-nil h f) ] ]
+up-most (suc (suc zero)) h few c = elim (Contains-cons_cases 1 (2 ∷ []) h c)
+    [ inl e ↦ omega (arith, e) | inr d ↦ elim (Contains-cons_cases 2 [] h d) [ inl e ↦ omega (arith, e) | inr f ↦ absurd (Contains-nil h f) ] ]
 up-most (suc (suc (suc n))) h few c = absurd (omega (arith, few))
 
-pub may-restore : (m : PeerModel) (count : ℕ) (mirrored kept : Bool) (w b h : ℕ) → IsCircle m count mirrored true kept w b → b < h → h ≤ w → ((row : TableRow) × (row_of m.state h ≡ Some row)) → MayRestore m.state h
+pub may-restore : (m : PeerModel) (count : ℕ) (mirrored kept : Bool) (w b h : ℕ) → IsCircle m count mirrored true kept w b
+    → b < h → h ≤ w → ((row : TableRow) × (row_of m.state h ≡ Some row)) → MayRestore m.state h
 may-restore m count mirrored kept w b h c low high row = record {
   mirror = _;
   stands = c.mirror;
@@ -235,13 +247,15 @@ peer-at later (suc zero) p low high e = sym (same_Some 1 p e)
 peer-at later (suc (suc zero)) p low high e = sym (same_Some 2 p e)
 peer-at later (suc (suc (suc h))) p low high e = absurd (omega (arith, high))
 
-next-circle : (s t : PeerReplay) (back : Back) (w b h : ℕ) (was : List Issued) (had : List ℕ) → h ≡ b + 1 → h ≤ 2 → RestoredTo s (reply_of back) t h → s.peers.issued ≡ two_issued ++ was → s.mirror ≡ mirror_at true w b had
+next-circle : (s t : PeerReplay) (back : Back) (w b h : ℕ) (was : List Issued) (had : List ℕ) → h ≡ b + 1 → h ≤ 2
+    → RestoredTo s (reply_of back) t h → s.peers.issued ≡ two_issued ++ was → s.mirror ≡ mirror_at true w b had
     → NextCircle s t (is_alive back) w b h was had
 next-circle s t back w b h was had is few (inl gone) issued mirror = record {
   later = was;
   issued = ap (λ (z : PeerReplay). z.peers.issued) gone.1 ∙ issued;
   given = had;
-  mirror = ap (λ (z : PeerReplay). z.mirror) gone.1 ∙ (rw (mirror, is) (ap (λ z. Some (let m : Mirror = record { cycle = 1; snap = 0; weakened = up_to w; restored = z; renewed = had } in m)) (sym (up-more b))));
+  mirror = ap (λ (z : PeerReplay). z.mirror) gone.1 ∙ (rw (mirror, is)
+      (ap (λ z. Some (let m : Mirror = record { cycle = 1; snap = 0; weakened = up_to w; restored = z; renewed = had } in m)) (sym (up-more b))));
   all = λ k e f. absurd (not-cleared back gone.0 k);
   mirrors = ap (λ (z : PeerReplay). z.mirrors) gone.1;
   refs = ap (λ (z : PeerReplay). z.refs) gone.1;
@@ -270,16 +284,20 @@ next-circle s t back w b h was had is few (inr new) issued mirror =
     }
 
 -- what an entry of a restore leads to
-restored-entry : (old new : Side PeerReplay) (before after index h : ℕ) (back : Back) → AddsLawful peer_rules counting before after old new (restores index (record { 0 = h }) back) nothing → RestoredTo old.state (reply_of back) new.state h
+restored-entry : (old new : Side PeerReplay) (before after index h : ℕ) (back : Back)
+    → AddsLawful peer_rules counting before after old new (restores index (record { 0 = h }) back) nothing → RestoredTo old.state (reply_of back) new.state h
 restored-entry old new before after index h back a =
     let l = a.goes.lawful.1 in
-    subst (λ (z : PeerReplay). RestoredTo old.state (reply_of back) z h) (sym a.goes.state) (subst (λ r. RestoredTo old.state r (restored_by old.state h (row_of old.state h)).state h) (sym l.replies) (restored old.state h l.allowed))
+    subst (λ (z : PeerReplay). RestoredTo old.state (reply_of back) z h) (sym a.goes.state)
+    (subst (λ r. RestoredTo old.state r (restored_by old.state h (row_of old.state h)).state h) (sym l.replies) (restored old.state h l.allowed))
 
 -- one more handle was restored
 pub circle-restored : (old new : PeerModel) (before after : ℕ) (mirrored kept keeps : Bool) (w b h index : ℕ) (back : Back) → h ≡ b + 1 → h ≤ w → keeps ≡ (kept && is_alive back)
-    → AddsLawful peer_rules counting before after (seen old) (seen new) (restores index (record { 0 = h }) back) nothing → new.reserve ≡ old.reserve → IsCircle old before mirrored true kept w b → IsCircle new after mirrored true keeps w h
+    → AddsLawful peer_rules counting before after (seen old) (seen new) (restores index (record { 0 = h }) back) nothing
+    → new.reserve ≡ old.reserve → IsCircle old before mirrored true kept w b → IsCircle new after mirrored true keeps w h
 circle-restored old new before after mirrored kept keeps w b h index back is few so a r c =
-    let n = next-circle old.state new.state back w b h c.later c.given is (let m = c.most in omega (arith, few, m)) (restored-entry (seen old) (seen new) before after index h back a) c.issued c.mirror in
+    let n = next-circle old.state new.state back w b h c.later c.given is (let m = c.most in omega (arith, few, m))
+    (restored-entry (seen old) (seen new) before after index h back a) c.issued c.mirror in
     record {
       counted = counted-once peer_rules (seen old) (seen new) before after _ _ a c.counted;
       later = n.later;
@@ -299,10 +317,12 @@ circle-restored old new before after mirrored kept keeps w b h index back is few
 
 -- both were weakened, and both were restored
 pub circle-weakened_all : (old new : PeerModel) (before after : ℕ) (mirrored kept : Bool) (b index : ℕ) (ns : List Node) → ns ≡ nodes
-    → AddsInTurn peer_rules counting before after (seen old) (seen new) (weakenings index 0 (handles_of ns)) → new.reserve ≡ reserve_weakened old.reserve (length (handles_of ns)) → IsCircle old before mirrored true kept 0 b → IsCircle new after mirrored true kept 2 b
+    → AddsInTurn peer_rules counting before after (seen old) (seen new) (weakenings index 0 (handles_of ns))
+    → new.reserve ≡ reserve_weakened old.reserve (length (handles_of ns)) → IsCircle old before mirrored true kept 0 b → IsCircle new after mirrored true kept 2 b
 circle-weakened_all old new before after mirrored kept b index ns is a r c =
     let hs : handles_of ns ≡ one ∷ two ∷ [] = ap handles_of is ∙ handles-are in
-    let adds : AddsInTurn peer_rules counting before after (seen old) (seen new) (weakenings index 0 (one ∷ two ∷ [])) = subst (λ l. AddsInTurn peer_rules counting before after (seen old) (seen new) (weakenings index 0 l)) hs a in
+    let adds : AddsInTurn peer_rules counting before after (seen old) (seen new) (weakenings index 0 (one ∷ two ∷ [])) = subst
+    (λ l. AddsInTurn peer_rules counting before after (seen old) (seen new) (weakenings index 0 l)) hs a in
     let mid = adds.1 in
     let first = adds.2.goes.state in
     let second = adds.3.2.goes.state in
@@ -313,7 +333,8 @@ circle-weakened_all old new before after mirrored kept b index ns is a r c =
       given = c.given;
       all = c.all;
       fresh = c.fresh;
-      mirror = ap (λ (s : PeerReplay). s.mirror) last ∙ (ap (λ (s : PeerReplay). s.mirror) second ∙ ap (λ m. with_weakened m 2) (ap (λ (s : PeerReplay). s.mirror) first ∙ ap (λ m. with_weakened m 1) c.mirror));
+      mirror = ap (λ (s : PeerReplay). s.mirror) last ∙ (ap (λ (s : PeerReplay). s.mirror) second
+          ∙ ap (λ m. with_weakened m 2) (ap (λ (s : PeerReplay). s.mirror) first ∙ ap (λ m. with_weakened m 1) c.mirror));
       mirrors = ap (λ (s : PeerReplay). s.mirrors) last ∙ (ap (λ (s : PeerReplay). s.mirrors) second ∙ (ap (λ (s : PeerReplay). s.mirrors) first ∙ c.mirrors));
       refs = ap (λ (s : PeerReplay). s.refs) last ∙ (ap (λ (s : PeerReplay). s.refs) second ∙ (ap (λ (s : PeerReplay). s.refs) first ∙ c.refs));
       waiting = ap (λ (z : Reserve). z.waiting) r ∙ c.waiting;
@@ -337,7 +358,8 @@ is-alive : (x : Option HNum) → is_some x ≡ true → is_alive (back_of x) ≡
 is-alive (Some h) e = refl
 is-alive None e = (let f : false ≡ true = e in absurd cc)
 
-restored-twice : (old new : Side PeerReplay) (before after index : ℕ) (x y : Option HNum) (was : List Issued) (had : List ℕ) → AddsInTurn peer_rules counting before after old new (restorings index (one ∷ two ∷ []) (x ∷ y ∷ []))
+restored-twice : (old new : Side PeerReplay) (before after index : ℕ) (x y : Option HNum) (was : List Issued) (had : List ℕ)
+    → AddsInTurn peer_rules counting before after old new (restorings index (one ∷ two ∷ []) (x ∷ y ∷ []))
     → old.state.peers.issued ≡ two_issued ++ was → old.state.mirror ≡ mirror_at true 2 0 had → Twice old.state new.state x y was had
 restored-twice old new before after index x y was had a issued mirror =
     let t = next-circle old.state a.1.state (back_of x) 2 0 1 was had (omega arith) (omega arith) (restored-entry old a.1 before a.0 index 1 (back_of x) a.2) issued mirror in
@@ -370,10 +392,12 @@ given-there None e = (let f : false ≡ true = e in absurd cc)
 
 pub circle-restored_all : (old new : PeerModel) (before after : ℕ) (mirrored kept keeps : Bool) (index : ℕ) (ns : List Node) (values later : List (Option HNum)) → ns ≡ nodes → values ≡ []
     → keeps ≡ (kept && (is_given (slice_get later 0) && is_given (slice_get later 1)))
-    → RestoresInTurn counting before after (seen old) (seen new) index (handles_of ns) values later → new.reserve ≡ old.reserve → IsCircle old before mirrored true kept 2 0 → IsCircle new after mirrored true keeps 2 2
+    → RestoresInTurn counting before after (seen old) (seen new) index (handles_of ns) values later
+    → new.reserve ≡ old.reserve → IsCircle old before mirrored true kept 2 0 → IsCircle new after mirrored true keeps 2 2
 circle-restored_all old new before after mirrored kept keeps index ns values later is none so r reserve c =
     let hs : handles_of ns ≡ one ∷ two ∷ [] = ap handles_of is ∙ handles-are in
-    let adds : AddsInTurn peer_rules counting before after (seen old) (seen new) (restorings index (one ∷ two ∷ []) r.answers) = subst (λ l. AddsInTurn peer_rules counting before after (seen old) (seen new) (restorings index l r.answers)) hs r.adds in
+    let adds : AddsInTurn peer_rules counting before after (seen old) (seen new) (restorings index (one ∷ two ∷ []) r.answers) = subst
+    (λ l. AddsInTurn peer_rules counting before after (seen old) (seen new) (restorings index l r.answers)) hs r.adds in
     let w = two-answers r.answers (r.each ∙ ap (λ (l : List HNum). length l) hs) in
     let put : later ≡ w.first ∷ w.second ∷ [] = r.put ∙ (ap (λ l. l ++ r.answers) none ∙ w.are) in
     let both = subst (λ l. AddsInTurn peer_rules counting before after (seen old) (seen new) (restorings index (one ∷ two ∷ []) l)) w.are adds in
@@ -387,7 +411,8 @@ circle-restored_all old new before after mirrored kept keeps index ns values lat
       all = λ k.
           let each = and-true kept (is_given (slice_get later 0) && is_given (slice_get later 1)) (sym so ∙ k) in
           let answered = and-true (is_given (slice_get later 0)) (is_given (slice_get later 1)) each.1 in
-          t.all (given-there w.first (ap (λ (l : List (Option HNum)). is_given (slice_get l 0)) (sym put) ∙ answered.0)) (given-there w.second (ap (λ (l : List (Option HNum)). is_given (slice_get l 1)) (sym put) ∙ answered.1)) (c.all each.0);
+          t.all (given-there w.first (ap (λ (l : List (Option HNum)). is_given (slice_get l 0)) (sym put) ∙ answered.0))
+          (given-there w.second (ap (λ (l : List (Option HNum)). is_given (slice_get l 1)) (sym put) ∙ answered.1)) (c.all each.0);
       fresh = λ f. (let g : true ≡ false = c.once f in absurd cc);
       mirrors = t.mirrors ∙ c.mirrors;
       refs = t.refs ∙ c.refs;
@@ -399,7 +424,8 @@ circle-restored_all old new before after mirrored kept keeps index ns values lat
     }
 
 both-up : All (Contains (up_to 2)) (up_to 2)
-both-up = All-cons (Contains (up_to 2)) 1 (2 ∷ []) (up-has 2 1 (omega arith) (omega arith) (omega arith)) (All-cons (Contains (up_to 2)) 2 [] (up-has 2 2 (omega arith) (omega arith) (omega arith)) (All-nil (Contains (up_to 2))))
+both-up = All-cons (Contains (up_to 2)) 1 (2 ∷ []) (up-has 2 1 (omega arith) (omega arith) (omega arith))
+    (All-cons (Contains (up_to 2)) 2 [] (up-has 2 2 (omega arith) (omega arith) (omega arith)) (All-nil (Contains (up_to 2))))
 
 pub may-clear : (m : PeerModel) (count : ℕ) (mirrored kept : Bool) (w : ℕ) → IsCircle m count mirrored true kept w 2 → MayClear m.state 1
 may-clear m count mirrored kept w c =
@@ -408,7 +434,8 @@ may-clear m count mirrored kept w c =
     let e : w ≡ 2 = omega (arith, most, order) in
     record { mirror = _; stands = c.mirror; same = refl; all = subst (λ z. All (Contains (up_to 2)) (up_to z)) (sym e) both-up }
 
-strong-again : (m : PeerModel) (count : ℕ) (mirrored : Bool) (w h p : ℕ) (x : Mirror) → IsCircle m count mirrored true true w 2 → m.state.mirror ≡ Some x → Contains (given_handles 2) h → row_of m.state h ≡ Some strong_row → peer_of (two_issued ++ given_ones 2) h ≡ Some p → HasRestoredHandle m.state x p
+strong-again : (m : PeerModel) (count : ℕ) (mirrored : Bool) (w h p : ℕ) (x : Mirror) → IsCircle m count mirrored true true w 2 → m.state.mirror ≡ Some x
+    → Contains (given_handles 2) h → row_of m.state h ≡ Some strong_row → peer_of (two_issued ++ given_ones 2) h ≡ Some p → HasRestoredHandle m.state x p
 strong-again m count mirrored w h p x c is k row peer =
     let all = c.all refl in
     record {
@@ -451,7 +478,8 @@ target-is p q r = by r.through r.walk
     ]
 
 -- both peers have a handle that a restore gave, and it is strong
-pub targets-are : (m : PeerModel) (count : ℕ) (mirrored : Bool) (w : ℕ) → IsCircle m count mirrored true true w 2 → row_of m.state 3 ≡ Some strong_row → row_of m.state 4 ≡ Some strong_row → AreTargetsRestored m.state
+pub targets-are : (m : PeerModel) (count : ℕ) (mirrored : Bool) (w : ℕ) → IsCircle m count mirrored true true w 2
+    → row_of m.state 3 ≡ Some strong_row → row_of m.state 4 ≡ Some strong_row → AreTargetsRestored m.state
 targets-are m count mirrored w c a b x is p q r = elim (target-is p q (subst (λ z. Refers z p q) c.refs r.reference)) [
   | inl e ↦ subst (HasRestoredHandle m.state x) (sym e) (strong-again m count mirrored w 4 2 x c is (Contains-there 4 3 (4 ∷ []) (Contains-here 4 [])) b refl)
   | inr e ↦ subst (HasRestoredHandle m.state x) (sym e) (strong-again m count mirrored w 3 1 x c is (Contains-here 3 (4 ∷ [])) a refl)
@@ -459,7 +487,8 @@ targets-are m count mirrored w c a b x is p q r = elim (target-is p q (subst (λ
 
 -- the references went
 pub circle-cleared : (old new : PeerModel) (before after : ℕ) (mirrored kept : Bool) (w b index : ℕ)
-    → AddsLawful peer_rules counting before after (seen old) (seen new) (clears index (record { 0 = 1 })) nothing → new.reserve ≡ reserve_over old.reserve → IsCircle old before mirrored true kept w b → IsCircle new after mirrored false kept w b
+    → AddsLawful peer_rules counting before after (seen old) (seen new) (clears index (record { 0 = 1 })) nothing
+    → new.reserve ≡ reserve_over old.reserve → IsCircle old before mirrored true kept w b → IsCircle new after mirrored false kept w b
 circle-cleared old new before after mirrored kept w b index a r c = record {
   counted = counted-once peer_rules (seen old) (seen new) before after _ _ a c.counted;
   later = c.later;

@@ -14,7 +14,8 @@ pub counted-may : {S : Type 0} (r : SideRules S) (s : Side S) (count : ℕ) (t :
 counted-may r s count t o takes k = record { takes = subst (λ n. r.takes n t) (sym k.2) takes; below = k.0; room = k.1; bare = tt; targets = λ m may. tt }
 
 -- a call that draws once
-pub counted-once : {S : Type 0} (r : SideRules S) (old new : Side S) (before after : ℕ) (m : Made) (told : Told) → AddsLawful r counting before after old new m told → IsCounted old before → IsCounted new after
+pub counted-once : {S : Type 0} (r : SideRules S) (old new : Side S) (before after : ℕ) (m : Made) (told : Told)
+    → AddsLawful r counting before after old new m told → IsCounted old before → IsCounted new after
 counted-once r old new before after m told a k = (a.draws.below, a.draws.room, a.threads ∙ k.2)
 
 -- a refusal changes nothing
@@ -22,6 +23,7 @@ pub counted-same : {S : Type 0} (old new : Side S) (before after : ℕ) → (new
 counted-same old new before after e k = subst (λ n. IsCounted new n) (sym e.1) (subst (λ z. IsCounted z before) (sym e.0) k)
 
 -- a call that draws in turn
-pub counted-in-turn : {S : Type 0} (r : SideRules S) (ms : List Making) (old new : Side S) (before after : ℕ) → AddsInTurn r counting before after old new ms → IsCounted old before → IsCounted new after
+pub counted-in-turn : {S : Type 0} (r : SideRules S) (ms : List Making) (old new : Side S) (before after : ℕ)
+    → AddsInTurn r counting before after old new ms → IsCounted old before → IsCounted new after
 counted-in-turn r [] old new before after a k = counted-same old new before after (a.1, a.0) k
 counted-in-turn r (m ∷ ms) old new before after a k = counted-in-turn r ms a.1 new a.0 after a.3 (counted-once r old a.1 before a.0 m.made m.told a.2 k)

@@ -37,7 +37,8 @@ HasWaiting cycle waiting = (c : OpenCycle) → cycle ≡ Some c → length c.can
 
 -- a call after which each handle that a row took is below the next one, and which leaves so many candidates
 pub driven-below : (old new : Side ManagedReplay) (before after waiting waits answered answers : ℕ) (m : Made) (told : Told) → AddsLawful managed_rules counting before after old new m told
-    → ((h : ℕ) → Contains (managed_rules.next old.state m told).adopted h → h < length old.entries + 1 + answers) → HasWaiting (managed_rules.next old.state m told).managed.cycle waits → IsDriven old before waiting answered → IsDriven new after waits answers
+    → ((h : ℕ) → Contains (managed_rules.next old.state m told).adopted h → h < length old.entries + 1 + answers)
+    → HasWaiting (managed_rules.next old.state m told).managed.cycle waits → IsDriven old before waiting answered → IsDriven new after waits answers
 driven-below old new before after waiting waits answered answers m told a below left d =
     let longer : length new.entries ≡ length old.entries + 1 = ap length a.draws.adds.added ∙ length-append old.entries (numbered a.draws.adds.number m ∷ []) in record {
       counted = counted-once managed_rules old new before after m told a d.counted;
@@ -47,7 +48,8 @@ driven-below old new before after waiting waits answered answers m told a below 
 
 -- a call that adopts no handle but the next one, and leaves so many candidates
 pub driven-on : (old new : Side ManagedReplay) (before after waiting waits answered : ℕ) (m : Made) (told : Told) → AddsLawful managed_rules counting before after old new m told
-    → AdoptsNext old.state (managed_rules.next old.state m told) (length old.entries + answered) → HasWaiting (managed_rules.next old.state m told).managed.cycle waits → IsDriven old before waiting answered → IsDriven new after waits answered
+    → AdoptsNext old.state (managed_rules.next old.state m told) (length old.entries + answered)
+    → HasWaiting (managed_rules.next old.state m told).managed.cycle waits → IsDriven old before waiting answered → IsDriven new after waits answered
 driven-on old new before after waiting waits answered m told a named left d =
     driven-below old new before after waiting waits answered answered m told a
     (λ h c. elim (named h c) [ inl o ↦ (let l = d.adopts h o in omega (arith, l)) | inr e ↦ omega (arith, e) ]) left d
@@ -102,7 +104,8 @@ step-cycle s t _ k b = absurd b
 
 -- a call that leaves an open cycle as it is
 pub driven-still : (old new : Side ManagedReplay) (before after waiting answered : ℕ) (m : Made) (told : Told) → AddsLawful managed_rules counting before after old new m told
-    → AdoptsNext old.state (managed_rules.next old.state m told) (length old.entries + answered) → (managed_rules.next old.state m told).managed.cycle ≡ old.state.managed.cycle → IsDriven old before waiting answered → IsDriven new after waiting answered
+    → AdoptsNext old.state (managed_rules.next old.state m told) (length old.entries + answered)
+    → (managed_rules.next old.state m told).managed.cycle ≡ old.state.managed.cycle → IsDriven old before waiting answered → IsDriven new after waiting answered
 driven-still old new before after waiting answered m told a named same d = driven-on old new before after waiting waiting answered m told a named (λ c o. d.waits c (sym same ∙ o)) d
 
 -- a side for all eight threads takes each step

@@ -12,7 +12,8 @@ use Rattle.joint_machine.specs.declared.events.Reply.TheVariants as says
 use Rattle.joint_machine.specs.Heaps.{Answered, answer}
 use Rattle.joint_machine.specs.Lines.{IsPeerThread}
 use Rattle.joint_machine.specs.Peers.{landed, next_handle, peer_of}
-use Rattle.joint_machine.specs.PeerReplay.{PeerReplay, Marking, TableRow, MayRestore, peer_answer, on_table, brings, begun, given_anew, renewed_on, swept, swept_of, is_thread, restored_by, row_of, table_target, withdrawn}
+use Rattle.joint_machine.specs.PeerReplay.{PeerReplay, Marking, TableRow, MayRestore, peer_answer, on_table, brings, begun, given_anew, renewed_on, swept, swept_of, is_thread, restored_by, row_of}
+use Rattle.joint_machine.specs.PeerReplay.{table_target, withdrawn}
 use Rattle.joint_machine.proofs.Deciding.{test-cases}
 use Rattle.joint_machine.specs.declared.events.Made.{Made}
 use Rattle.joint_machine.specs.Sides.{Side, Making, AddsInTurn, AddsLawful, peer_rules}
@@ -76,7 +77,8 @@ AreStill (m ∷ ms) = IsStill m.made.op × AreStill ms
 pub still-in-turn : (before after : ℕ) (old new : Side PeerReplay) (ms : List Making) → AddsInTurn peer_rules counting before after old new ms → AreStill ms → StaysAlike old.state new.state
 still-in-turn before after old new [] a k = subst (λ (z : Side PeerReplay). StaysAlike old.state z.state) (sym a.1) (alike-same old.state)
 still-in-turn before after old new (m ∷ ms) a k =
-    alike-then old.state a.1.state new.state (subst (StaysAlike old.state) (sym a.2.goes.state) (still old.state m.made.caller m.made.op m.made.cites m.told k.0)) (still-in-turn a.0 after a.1 new ms a.3 k.1)
+    alike-then old.state a.1.state new.state (subst (StaysAlike old.state) (sym a.2.goes.state) (still old.state m.made.caller m.made.op m.made.cites m.told k.0))
+    (still-in-turn a.0 after a.1 new ms a.3 k.1)
 
 pub still-once : (before after : ℕ) (old new : Side PeerReplay) (m : Made) (told : Told) → AddsLawful peer_rules counting before after old new m told → IsStill m.op → StaysAlike old.state new.state
 still-once before after old new m told a k = subst (StaysAlike old.state) (sym a.goes.state) (still old.state m.caller m.op m.cites told k)
@@ -128,7 +130,8 @@ plain-may s t (op.Line (act.Store x v)) k = tt
 plain-may s t (op.Line (act.Drop v)) k = tt
 plain-may s t _ k = absurd k
 
-pub plain-state : (before after : ℕ) (old new : Side PeerReplay) (t : Thread) (index : ℕ) (o : Op) (r : Reply) (gone : List ℕ) → IsPlainOp o → AddsInTurn peer_rules counting before after old new (step_makings t index o None r gone) → new.state ≡ (peer_answer old.state t o None nothing).state
+pub plain-state : (before after : ℕ) (old new : Side PeerReplay) (t : Thread) (index : ℕ) (o : Op) (r : Reply) (gone : List ℕ) → IsPlainOp o
+    → AddsInTurn peer_rules counting before after old new (step_makings t index o None r gone) → new.state ≡ (peer_answer old.state t o None nothing).state
 plain-state before after old new t index (op.Make sort n) r gone k a = ap (λ (z : Side PeerReplay). z.state) a.3.1 ∙ a.2.goes.state
 plain-state before after old new t index (op.Grip x) r gone k a = ap (λ (z : Side PeerReplay). z.state) a.3.1 ∙ a.2.goes.state
 plain-state before after old new t index (op.Line (act.NewPeer v n)) r gone k a = ap (λ (z : Side PeerReplay). z.state) a.3.1 ∙ a.2.goes.state

@@ -40,7 +40,8 @@ none-open : (o : Option OpenCycle) (waiting : ℕ) → o ≡ None → HasWaiting
 none-open o waiting e c q = absurd cc
 
 -- what draws by a count is seen as the count
-as-counted : {D : Type 0} (d : Drawing D) (before after : D) (old new : Side ManagedReplay) (m : Made) (told : Told) → AddsLawful managed_rules d before after old new m told → (count : D → ℕ) → ((x : D) → d.floor x ≡ count x) → ((x : D) → d.left x ≡ 2 ^ 63 - count x)
+as-counted : {D : Type 0} (d : Drawing D) (before after : D) (old new : Side ManagedReplay) (m : Made) (told : Told)
+    → AddsLawful managed_rules d before after old new m told → (count : D → ℕ) → ((x : D) → d.floor x ≡ count x) → ((x : D) → d.left x ≡ 2 ^ 63 - count x)
     → ((x y : D) (e : Entry) (o : Option MNum) (f : List MNum) → d.drew x e o f y → CountDrew (count x) e o f (count y)) → AddsLawful managed_rules counting (count before) (count after) old new m told
 as-counted d before after old new m told a count floors lefts drews = record {
   draws = record {
@@ -54,7 +55,8 @@ as-counted d before after old new m told a count floors lefts drews = record {
   threads = a.threads;
 }
 
-pub snap-counted : {D : Type 0} (d : Drawing D) (before after : D) (old new : Side ManagedReplay) (index : ℕ) (pins : List (Option ℕ)) (out : Opened) → OpensBySnap d before after old new index pins out → (count : D → ℕ) → ((x : D) → d.floor x ≡ count x) → ((x : D) → d.left x ≡ 2 ^ 63 - count x)
+pub snap-counted : {D : Type 0} (d : Drawing D) (before after : D) (old new : Side ManagedReplay) (index : ℕ) (pins : List (Option ℕ)) (out : Opened)
+    → OpensBySnap d before after old new index pins out → (count : D → ℕ) → ((x : D) → d.floor x ≡ count x) → ((x : D) → d.left x ≡ 2 ^ 63 - count x)
     → ((x y : D) (e : Entry) (o : Option MNum) (f : List MNum) → d.drew x e o f y → CountDrew (count x) e o f (count y)) → OpensBySnap counting (count before) (count after) old new index pins out
 snap-counted d before after old new index pins out s count floors lefts drews = record {
   freed = s.freed;
@@ -69,8 +71,10 @@ snap-counted d before after old new index pins out s count floors lefts drews = 
 }
 
 -- a snapshot opens a cycle with as many candidates as it tells
-pub snapped-on : (before after waiting answered : ℕ) (old new : Side ManagedReplay) (index : ℕ) (pins : List (Option ℕ)) (out : Opened) → OpensBySnap counting before after old new index pins out → IsDriven old before waiting answered → IsDriven new after out.candidates answered
-snapped-on before after waiting answered old new index pins out s d = driven-on old new before after waiting out.candidates answered _ _ s.adds (λ h k. inl k) (λ c o. ap (λ (z : OpenCycle). length z.candidates) (only-open _ _ c refl o) ∙ sym s.counted) d
+pub snapped-on : (before after waiting answered : ℕ) (old new : Side ManagedReplay) (index : ℕ) (pins : List (Option ℕ)) (out : Opened)
+    → OpensBySnap counting before after old new index pins out → IsDriven old before waiting answered → IsDriven new after out.candidates answered
+snapped-on before after waiting answered old new index pins out s d = driven-on old new before after waiting out.candidates answered _ _ s.adds
+    (λ h k. inl k) (λ c o. ap (λ (z : OpenCycle). length z.candidates) (only-open _ _ c refl o) ∙ sym s.counted) d
 
 -- the handles of answers from a number on are all different, at least that number, and below what comes behind them
 pub new-from : (n : ℕ) (taken : List ℕ) (backs : List (Option HNum)) → AreFrom n backs → ((h : ℕ) → Contains taken h → h < n) → AreNew taken (handles_given (answers_of backs))
@@ -110,7 +114,8 @@ from-more n (Some g ∷ backs) back f e = (f.0, from-more (n + 1) backs back f.1
     next (Some h) e = omega (arith, e)
 
 -- a resolution and an abandoning close the cycle
-pub resolved-on : (before after waiting answered answers : ℕ) (old new : Side ManagedReplay) (index cites : ℕ) (alive : List (Option HNum)) (out : ResolveOut) → AreFrom (length old.entries + answered) alive → length alive ≡ waiting → answers ≡ answered + waiting
+pub resolved-on : (before after waiting answered answers : ℕ) (old new : Side ManagedReplay) (index cites : ℕ) (alive : List (Option HNum)) (out : ResolveOut)
+    → AreFrom (length old.entries + answered) alive → length alive ≡ waiting → answers ≡ answered + waiting
     → Resolves counting before after old new index cites alive out → IsDriven old before waiting answered → IsDriven new after waiting answers
 resolved-on before after waiting answered answers old new index cites alive out from long more r d = driven-below old new before after waiting waiting answered answers _ _ r.adds
     (λ h c. elim (Contains-append_cases old.state.adopted (handles_given (answers_of alive)) h c) [
@@ -119,12 +124,17 @@ resolved-on before after waiting answered answers old new index cites alive out 
     ])
     (none-open None waiting refl) d
 
-pub abandoned-on : (before after waiting answered : ℕ) (old new : Side ManagedReplay) (index : ℕ) (c : OpenCycle) → Abandons counting before after old new index c → IsDriven old before waiting answered → IsDriven new after waiting answered
+pub abandoned-on : (before after waiting answered : ℕ) (old new : Side ManagedReplay) (index : ℕ) (c : OpenCycle)
+    → Abandons counting before after old new index c → IsDriven old before waiting answered → IsDriven new after waiting answered
 abandoned-on before after waiting answered old new index c a d = driven-on old new before after waiting waiting answered _ nothing a (λ h k. inl k) (none-open None waiting refl) d
 
 -- so many answers may close the open cycle
-pub may-close : (s : Side ManagedReplay) (count waiting answered : ℕ) (c : OpenCycle) (alive : List (Option HNum)) → IsDriven s count waiting answered → s.state.managed.cycle ≡ Some c → length alive ≡ waiting → AreFrom (length s.entries + answered) alive → MayClose s.state alive
-may-close s count waiting answered c alive d o l from = record { answers = record { cycle = c; opened = o; one_each = l ∙ sym (d.waits c o) }; new = new-from (length s.entries + answered) s.state.adopted alive from d.adopts }
+pub may-close : (s : Side ManagedReplay) (count waiting answered : ℕ) (c : OpenCycle) (alive : List (Option HNum)) → IsDriven s count waiting answered
+    → s.state.managed.cycle ≡ Some c → length alive ≡ waiting → AreFrom (length s.entries + answered) alive → MayClose s.state alive
+may-close s count waiting answered c alive d o l from = record {
+  answers = record { cycle = c; opened = o; one_each = l ∙ sym (d.waits c o) };
+  new = new-from (length s.entries + answered) s.state.adopted alive from d.adopts;
+}
 
 nothing-at : (i : ℕ) (xs : List ℕ) (comps : List (List ℕ)) → comps ≡ [] → slice_get comps i ≡ Some xs → ⊥
 nothing-at i xs comps e q = let f : length comps ≡ 0 = ap (λ (l : List (List ℕ)). length l) e in let l = slice_get_within comps i xs q in absurd (omega (arith, f, l))
@@ -145,7 +155,8 @@ nothing-dead s dead e = record {
     none-leads x (b ∷ bs) a l = Contains-nil b (subst (λ xs. Contains xs b) e (All-head (LeadsIn (λ m. Contains dead m × IsBridge s m) (DeadEdge s dead) x) b bs a).0.member.0)
 
 -- so a cycle with nothing dead may be contracted
-pub may-contract : (before after : ℕ) (old new : Side ManagedReplay) (index : ℕ) (pins : List (Option ℕ)) (out : Opened) → OpensBySnap counting before after old new index pins out → length out.graph.nodes ≡ 0 → MayContractWith new.state 0 0
+pub may-contract : (before after : ℕ) (old new : Side ManagedReplay) (index : ℕ) (pins : List (Option ℕ)) (out : Opened)
+    → OpensBySnap counting before after old new index pins out → length out.graph.nodes ≡ 0 → MayContractWith new.state 0 0
 may-contract before after old new index pins out s none =
     let c : OpenCycle = record { number = old.state.managed.cycles + 1; candidates = s.candidates; dead = s.dead } in
     let opened : new.state.managed.cycle ≡ Some c = ap (λ (z : ManagedReplay). z.managed.cycle) s.adds.goes.state in
@@ -163,8 +174,11 @@ may-contract before after old new index pins out s none =
     }
 
 -- a contraction and a refusal leave an open cycle as it is
-pub contracted-on : (before after waiting answered : ℕ) (old new : Side ManagedReplay) (index : ℕ) (x : MayContractWith old.state 0 0) → ((c : OpenCycle) → old.state.managed.cycle ≡ Some c → Contracts counting before after old new index 0 0 c) → IsDriven old before waiting answered → IsDriven new after waiting answered
-contracted-on before after waiting answered old new index x made d = driven-still old new before after waiting answered _ _ ((made x.cycle x.opened).adds x.comps x.heavy x.pairs x.contracted) (λ h k. inl k) refl d
+pub contracted-on : (before after waiting answered : ℕ) (old new : Side ManagedReplay) (index : ℕ) (x : MayContractWith old.state 0 0)
+    → ((c : OpenCycle) → old.state.managed.cycle ≡ Some c → Contracts counting before after old new index 0 0 c) → IsDriven old before waiting answered → IsDriven new after waiting answered
+contracted-on before after waiting answered old new index x made d = driven-still old new before after waiting answered _ _
+    ((made x.cycle x.opened).adds x.comps x.heavy x.pairs x.contracted) (λ h k. inl k) refl d
 
-pub refused-on : (before after waiting answered : ℕ) (old new : Side ManagedReplay) (index : ℕ) (word : PhaseWord) (r : Reply) (phase : Phase) → AddsLawful managed_rules counting before after old new (step_made C index (op.Refused word) r None) (phase_of phase) → IsDriven old before waiting answered → IsDriven new after waiting answered
+pub refused-on : (before after waiting answered : ℕ) (old new : Side ManagedReplay) (index : ℕ) (word : PhaseWord) (r : Reply) (phase : Phase)
+    → AddsLawful managed_rules counting before after old new (step_made C index (op.Refused word) r None) (phase_of phase) → IsDriven old before waiting answered → IsDriven new after waiting answered
 refused-on before after waiting answered old new index word r phase a d = driven-still old new before after waiting answered _ (phase_of phase) a (λ h k. inl k) refl d

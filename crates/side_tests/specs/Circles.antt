@@ -1,5 +1,6 @@
 -- A mirrored cycle of two peers that lie on a circle, as the tests drive it.
-use Rattle.std.specs.Prelude.{◌≡◌, ℕ, zero, suc, ◌-◌, ◌<◌, ◌≤◌, Bool, true, false, List, [], ◌∷◌, ◌++◌, Option, Some, None}
+use Rattle.std.specs.Prelude.{◌≡◌, ℕ, zero, suc, ◌-◌, ◌<◌, ◌≤◌, Bool, true, false, List, [], ◌∷◌, ◌++◌, Option, Some}
+use Rattle.std.specs.Prelude.{None}
 use Rattle.joint_machine.specs.declared.names.HNum.{HNum}
 use Rattle.joint_machine.specs.declared.names.Sort.TheVariants.{Framework}
 use Rattle.joint_machine.specs.declared.names.Thread.{Thread}
@@ -28,14 +29,16 @@ two = record { 0 = 2 }
 
 -- the dead part's nodes, and its only component
 unfoldable pub nodes : List Node
-nodes = record { number = record { 0 = 1 }; handle = Some one; opaque = false } ∷ record { number = record { 0 = 2 }; handle = Some two; opaque = false } ∷ []
+nodes = record { number = record { 0 = 1 }; handle = Some one; opaque = false }
+    ∷ record { number = record { 0 = 2 }; handle = Some two; opaque = false } ∷ []
 
 unfoldable pub circle : List (List ℕ)
 circle = (0 ∷ 1 ∷ []) ∷ []
 
 -- the handles as they were issued: each on the peer of its number
 abbrev pub two_issued : List Issued
-two_issued = record { peer = 1; hold = held; strength = strong } ∷ record { peer = 2; hold = held; strength = strong } ∷ []
+two_issued = record { peer = 1; hold = held; strength = strong }
+    ∷ record { peer = 2; hold = held; strength = strong } ∷ []
 
 -- the handles that the first so many restores gave, where each gave one: each on the peer of the handle in whose place
 -- it came; and their numbers
@@ -62,7 +65,8 @@ up_to (suc n) = up_to n ++ suc n ∷ []
 -- that restores gave; the cycles that were ever mirrored; its references; and for how many more handles there is room
 abbrev pub mirror_at : Bool → ℕ → ℕ → List ℕ → Option Mirror
 mirror_at false weak back given = None
-mirror_at true weak back given = Some record { cycle = 1; snap = 0; weakened = up_to weak; restored = up_to back; renewed = given }
+mirror_at true weak back given = Some
+    record { cycle = 1; snap = 0; weakened = up_to weak; restored = up_to back; renewed = given }
 
 abbrev pub mirrors_at : Bool → List ℕ
 mirrors_at false = []

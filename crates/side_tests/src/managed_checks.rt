@@ -24,7 +24,8 @@ pub(crate) fn is_refused(word: PhaseWord, phase: Phase) -> bool
 
 /// Whether a pin may hold this object, or none: it is live, and no cycle is open.
 pub(crate) fn may_hold(side: &ManagedSide, pin: Option<MNum>) -> bool
-    ensures { IsTrue result → IfSome pin (λ m. IsLive side.now.state.managed.heap m.0 × (side.now.state.managed.cycle ≡ None)) }
+    ensures { IsTrue result → IfSome pin
+        (λ m. IsLive side.now.state.managed.heap m.0 × (side.now.state.managed.cycle ≡ None)) }
 {
     match pin {
         None => true,

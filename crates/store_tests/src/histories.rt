@@ -150,7 +150,12 @@ fn single(
     caller: Thread,
     op: Op,
 ) -> Result<Entries, AllocError>
-    ensures { IfOk result (λ s. s.entries ≡ record { number = number; made = record { caller = caller; index = 7; op = op; reply = Reply.Gone; cites = None } } ∷ []) }
+    ensures { IfOk result (λ s. s.entries
+        ≡ record {
+          number = number;
+          made =
+              record { caller = caller; index = 7; op = op; reply = Reply.Gone; cites = None };
+        } ∷ []) }
 {
     let made = Made {
         caller,

@@ -33,7 +33,11 @@ pub record HasNumbers (t u : Tally) : Type 0 where
   pub handles_left : t.left.handles ≡ u.left.handles
 
 pub same_tally : (t u : Tally) → HasNumbers t u → t ≡ u
-same_tally t u h = λ i. record { cycles = h.cycles i; made = record { managed = h.managed i; peers = h.peers i; handles = h.handles i }; left = record { managed = h.managed_left i; peers = h.peers_left i; handles = h.handles_left i } }
+same_tally t u h = λ i. record {
+  cycles = h.cycles i;
+  made = record { managed = h.managed i; peers = h.peers i; handles = h.handles i };
+  left = record { managed = h.managed_left i; peers = h.peers_left i; handles = h.handles_left i };
+}
 
 -- the numbers of two sides
 abbrev pub sides : ManagedReplay → PeerReplay → Tally
@@ -50,7 +54,8 @@ module _ (s : Linkage) (m : Made) (told : Told) (k : Of s) (named : Named s.peer
   own-managed : is_peer_event m.caller m.op ≡ false → SideLawful false s m told → freed_peers m.reply ≡ 0 → Steps s m told false
   own-managed b w none =
       let a = managed_after s.managed m told false in
-      let c : ManagedCounts s.managed.managed a.managed m.op m.reply = subst (λ z. ManagedCounts s.managed.managed a.managed m.op z) (sym w.replies) (answer-counts s.managed m.caller m.op told k.managed w.allowed) in
+      let c : ManagedCounts s.managed.managed a.managed m.op m.reply = subst (λ z. ManagedCounts s.managed.managed a.managed m.op z)
+      (sym w.replies) (answer-counts s.managed m.caller m.op told k.managed w.allowed) in
       let l = managed-leaves m.caller m.op m.reply event b in
       let e = ap one l.makes in
       let f = ap one l.gives in
@@ -73,7 +78,8 @@ module _ (s : Linkage) (m : Made) (told : Told) (k : Of s) (named : Named s.peer
   own-peer : is_peer_event m.caller m.op ≡ true → SideLawful true s m told → freed_managed m.reply ≡ 0 → Steps s m told true
   own-peer b w none =
       let a = peer_after s.peer m told true in
-      let c : PeerCounts s.peer a.peers a.table m.op m.reply = subst (λ z. PeerCounts s.peer a.peers a.table m.op z) (sym w.replies) (peer-counts s.peer k.peer named m.caller m.op m.cites told w.allowed) in
+      let c : PeerCounts s.peer a.peers a.table m.op m.reply = subst (λ z. PeerCounts s.peer a.peers a.table m.op z)
+      (sym w.replies) (peer-counts s.peer k.peer named m.caller m.op m.cites told w.allowed) in
       let l = peers-leave m.caller m.op m.reply event b in
       let e = ap one l.makes in
       let f = ap one l.opens in
@@ -108,7 +114,8 @@ counted (n ∷ ns) s a k named =
     let t = step s n a.0 k named in
     ap (λ u. tally_from u (map (λ n. n.entry) ns)) t.tally ∙ counted ns (linkage_after s n) a.1 (AreKept-entry s n a.0 k) t.names
 
-add_up : (ns : List Noted) (s : Linkage) → AllMayCome s ns → Of s → Named s.peer → AddsUp s.managed.managed.heap → AddsUp s.peer.peers.heap → AddsUp (replayed s ns).managed.managed.heap × AddsUp (replayed s ns).peer.peers.heap
+add_up : (ns : List Noted) (s : Linkage) → AllMayCome s ns → Of s → Named s.peer → AddsUp s.managed.managed.heap
+    → AddsUp s.peer.peers.heap → AddsUp (replayed s ns).managed.managed.heap × AddsUp (replayed s ns).peer.peers.heap
 add_up [] s a k named m p = (m, p)
 add_up (n ∷ ns) s a k named m p =
     let t = step s n a.0 k named in

@@ -16,7 +16,12 @@ pub record HeapCounts (h k : Heap) (new gone : ℕ) : Type 0 where
 
 -- nothing was made or freed
 pub counts-alike : (h k : Heap) → length k.fields ≡ length h.fields → k.freed ≡ h.freed → HeapCounts h k 0 0
-counts-alike h k e f = record { made = omega (arith, e); left = (let same : unfreed k ≡ unfreed h = ap (λ n. others_up_to k.freed n) e ∙ ap (λ z. others_up_to z (length h.fields)) f in omega (arith, same)); freed = omega (arith, ap length f) }
+counts-alike h k e f = record {
+  made = omega (arith, e);
+  left = (let same : unfreed k ≡ unfreed h = ap (λ n. others_up_to k.freed n) e
+      ∙ ap (λ z. others_up_to z (length h.fields)) f in omega (arith, same));
+  freed = omega (arith, ap length f);
+}
 
 pub counts-stay : (h : Heap) → HeapCounts h h 0 0
 counts-stay h = counts-alike h h refl refl
@@ -32,7 +37,8 @@ counts-object h k e f made = record { made = e; left = omega (arith, count); fre
     next = omega arith
 
     count : unfreed k ≡ unfreed h + 1
-    count = ap (λ n. others_up_to k.freed n) (e ∙ next) ∙ (ap (λ z. others_up_to z (suc (length h.fields))) f ∙ grown-by_one h.freed (length h.fields) (λ c. absurd (omega (arith, (made (suc (length h.fields)) c).1))))
+    count = ap (λ n. others_up_to k.freed n) (e ∙ next) ∙ (ap (λ z. others_up_to z (suc (length h.fields))) f
+        ∙ grown-by_one h.freed (length h.fields) (λ c. absurd (omega (arith, (made (suc (length h.fields)) c).1))))
 
 -- unfreed objects were freed
 pub counts-freed : (h k : Heap) (xs : List ℕ) → length k.fields ≡ length h.fields → k.freed ≡ h.freed ++ xs → Rises xs → ((x : ℕ) → Contains xs x → IsLive h x) → HeapCounts h k 0 (length xs)

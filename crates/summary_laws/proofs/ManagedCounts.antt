@@ -11,7 +11,8 @@ use Rattle.joint_machine.specs.declared.events.Op.TheVariants as op
 use Rattle.joint_machine.specs.declared.events.Reply.{Reply}
 use Rattle.joint_machine.specs.declared.events.Reply.TheVariants as says
 use Rattle.joint_machine.specs.Heaps.{Heap, IsMade, Answered, answer, slot, place, is_full, is_freed}
-use Rattle.joint_machine.specs.Managed.{Managed, OpenCycle, managed_name, managed_line, with_row, adopted, cell_set, target_read, cell_read, read_cell, without_handle, given_up, twin_met, met, place_or_none}
+use Rattle.joint_machine.specs.Managed.{Managed, OpenCycle, managed_name, managed_line, with_row, adopted, cell_set, target_read, cell_read, read_cell, without_handle, given_up, twin_met, met}
+use Rattle.joint_machine.specs.Managed.{place_or_none}
 use Rattle.joint_machine.specs.ManagedReplay.{ManagedReplay, registered, managed_answer, ManagedAllows}
 use Rattle.joint_machine.specs.Run.{thread_number}
 use Rattle.joint_machine.specs.Told.{Told, nothing, snap_of, contraction_of, resolution_of, phase_of}
@@ -105,7 +106,8 @@ module _ (s : Managed) where
   line-same t _ e = same-stay s
 
 -- a further row
-row-counts : (s : Managed) (o : Op) (v : ℕ) (kind : Kind) (n : ℕ) (h : Option ℕ) (r : Reply) → ((x : ℕ) → Contains s.heap.freed x → IsMade s.heap x) → makes_managed o r ≡ true → opens_cycle o ≡ false → IsPlain r → ManagedCounts s (with_row s v kind n h) o r
+row-counts : (s : Managed) (o : Op) (v : ℕ) (kind : Kind) (n : ℕ) (h : Option ℕ) (r : Reply) → ((x : ℕ) → Contains s.heap.freed x → IsMade s.heap x)
+    → makes_managed o r ≡ true → opens_cycle o ≡ false → IsPlain r → ManagedCounts s (with_row s v kind n h) o r
 row-counts s o v kind n h r made m q p = by_object s o (with_row s v kind n h) r (with_object-length s.heap n) refl refl made m q p
 
 module _ (s : Managed) (made : (x : ℕ) → Contains s.heap.freed x → IsMade s.heap x) where
@@ -116,18 +118,21 @@ module _ (s : Managed) (made : (x : ℕ) → Contains s.heap.freed x → IsMade 
   line-counts t (act.Finalise n) = record { heap = counts-alike _ _ refl refl; cycles = omega arith }
   line-counts t a = by_same s (op.Line a) _ _ (line-same s t a tt) refl refl (line-plain s t a tt)
 
-  adopt-counts : (v : ℕ) (kind : Kind) (n h : ℕ) (o : Op) → makes_managed o says.Full ≡ false → ((m : ℕ) → makes_managed o (managed_name m) ≡ true) → opens_cycle o ≡ false → Counts s o (adopted s v kind n h)
+  adopt-counts : (v : ℕ) (kind : Kind) (n h : ℕ) (o : Op) → makes_managed o says.Full ≡ false
+      → ((m : ℕ) → makes_managed o (managed_name m) ≡ true) → opens_cycle o ≡ false → Counts s o (adopted s v kind n h)
   adopt-counts v kind n h o f m q = test-cases (Counts s o) (is_full s.heap.fields) _ _
       (by_same s o s says.Full (same-stay s) f q tt)
       (row-counts s o v kind n (Some h) _ made (m _) q tt)
 
-  twin-counts : (v h : ℕ) (sort : Sort) (n : ℕ) (twin : Option ℕ) (o : Op) → makes_managed o says.Full ≡ false → ((m : ℕ) → makes_managed o (says.Twin record { 0 = m }) ≡ false) → ((m : ℕ) → makes_managed o (says.New record { 0 = m }) ≡ true) → opens_cycle o ≡ false → Counts s o (twin_met s v h sort n twin)
+  twin-counts : (v h : ℕ) (sort : Sort) (n : ℕ) (twin : Option ℕ) (o : Op) → makes_managed o says.Full ≡ false → ((m : ℕ) → makes_managed o (says.Twin record { 0 = m }) ≡ false)
+      → ((m : ℕ) → makes_managed o (says.New record { 0 = m }) ≡ true) → opens_cycle o ≡ false → Counts s o (twin_met s v h sort n twin)
   twin-counts v h sort n (Some m) o f t w q = by_same s o _ (says.Twin record { 0 = m }) (counts-alike _ _ refl refl, refl) (t m) q tt
   twin-counts v h sort n None o f t w q = test-cases (Counts s o) (is_full s.heap.fields) _ _
       (by_same s o s says.Full (same-stay s) f q tt)
       (row-counts s o v _ _ (Some h) _ made (w _) q tt)
 
-  meet-counts : (v h : ℕ) (sort : Sort) (n : ℕ) (twin : Option ℕ) (c : Option OpenCycle) (o : Op) → makes_managed o says.Full ≡ false → ((m : ℕ) → makes_managed o (says.Twin record { 0 = m }) ≡ false) → ((m : ℕ) → makes_managed o (says.New record { 0 = m }) ≡ true) → opens_cycle o ≡ false
+  meet-counts : (v h : ℕ) (sort : Sort) (n : ℕ) (twin : Option ℕ) (c : Option OpenCycle) (o : Op) → makes_managed o says.Full ≡ false
+      → ((m : ℕ) → makes_managed o (says.Twin record { 0 = m }) ≡ false) → ((m : ℕ) → makes_managed o (says.New record { 0 = m }) ≡ true) → opens_cycle o ≡ false
       → ((k : ℕ) → makes_managed o (says.Pending record { 0 = k }) ≡ false) → Counts s o (elim c [ None ↦ twin_met s v h sort n twin | Some c ↦ answer (says.Pending record { 0 = c.number }) s ])
   meet-counts v h sort n twin None o f t w q p = twin-counts v h sort n twin o f t w q
   meet-counts v h sort n twin (Some c) o f t w q p = by_same s o s _ (same-stay s) (p c.number) q tt
@@ -140,21 +145,25 @@ module _ (s : Managed) (made : (x : ℕ) → Contains s.heap.freed x → IsMade 
 through : (s t u : Managed) (o : Op) (r q : Reply) → u ≡ t → q ≡ r → ManagedCounts s t o r → ManagedCounts s u o q
 through s t u o r q e f c = subst (λ z. ManagedCounts s z o q) (sym e) (subst (λ z. ManagedCounts s t o z) (sym f) c)
 
-pub answer-counts : (s : ManagedReplay) (t : Thread) (o : Op) (told : Told) → IsReplayKept s → ManagedAllows s o told → ManagedCounts s.managed (managed_answer s t o told).state.managed o (managed_answer s t o told).reply
+pub answer-counts : (s : ManagedReplay) (t : Thread) (o : Op) (told : Told) → IsReplayKept s → ManagedAllows s o told
+    → ManagedCounts s.managed (managed_answer s t o told).state.managed o (managed_answer s t o told).reply
 answer-counts s t (op.Line a) told k w = line-counts s.managed k.managed.freed (thread_number t) a
 answer-counts s t (op.Adopt v kind n p h) told k w =
     let a = adopted s.managed (place (thread_number t) v.0) kind n h.0 in
-    through s.managed a.state _ (op.Adopt v kind n p h) a.reply _ (adopt_by-managed s p.0 h.0 a.state a.reply) (adopt_by-reply s p.0 h.0 a.state a.reply) (adopt-counts s.managed k.managed.freed (place (thread_number t) v.0) kind n h.0 (op.Adopt v kind n p h) refl (λ m. refl) refl)
+    through s.managed a.state _ (op.Adopt v kind n p h) a.reply _ (adopt_by-managed s p.0 h.0 a.state a.reply) (adopt_by-reply s p.0 h.0 a.state a.reply)
+    (adopt-counts s.managed k.managed.freed (place (thread_number t) v.0) kind n h.0 (op.Adopt v kind n p h) refl (λ m. refl) refl)
 answer-counts s t (op.Lend v x) told k w = by_same s.managed (op.Lend v x) s.managed _ (same-stay s.managed) refl refl (handle-plain s.managed (place (thread_number t) v.0))
 answer-counts s t (op.Meet v sort n p h) told k w =
     let o = op.Meet v sort n p h in
     let twin = registered s.registry p.0 in
     let a = met s.managed (place (thread_number t) v.0) h.0 sort n twin in
-    through s.managed a.state _ o a.reply _ (meet_by-managed s p.0 h.0 a.state a.reply) (meet_by-reply s p.0 h.0 a.state a.reply) (meet-counts s.managed k.managed.freed (place (thread_number t) v.0) h.0 sort n twin s.managed.cycle o refl (λ m. refl) (λ m. refl) refl (λ m. refl))
+    through s.managed a.state _ o a.reply _ (meet_by-managed s p.0 h.0 a.state a.reply) (meet_by-reply s p.0 h.0 a.state a.reply)
+    (meet-counts s.managed k.managed.freed (place (thread_number t) v.0) h.0 sort n twin s.managed.cycle o refl (λ m. refl) (λ m. refl) refl (λ m. refl))
 answer-counts s t (op.Give v) told k w =
     let u = place (thread_number t) v.0 in
     let x = slot s.managed.heap.vars u in
-    through s.managed (given_up s.managed u).state _ (op.Give v) (given_up s.managed u).reply _ (give_by-managed s x (given_up s.managed u)) (give_by-reply s x (given_up s.managed u)) (by_same s.managed (op.Give v) _ _ (given-same s.managed k.managed.freed x) refl refl (handle-plain s.managed u))
+    through s.managed (given_up s.managed u).state _ (op.Give v) (given_up s.managed u).reply _ (give_by-managed s x (given_up s.managed u))
+    (give_by-reply s x (given_up s.managed u)) (by_same s.managed (op.Give v) _ _ (given-same s.managed k.managed.freed x) refl refl (handle-plain s.managed u))
 answer-counts s t (op.Snap n) (snap_of freed candidates dead) k w = record { heap = counts-freed s.managed.heap _ freed refl refl w.freed_rise (λ x c. ((w.frees x).0 c).0); cycles = refl }
 answer-counts s t (op.Contract n) (contraction_of comps heavy xrefs) k w = by_same s.managed (op.Contract n) s.managed _ (same-stay s.managed) refl refl tt
 answer-counts s t (op.Resolve n) (resolution_of alive freed) k w = record {

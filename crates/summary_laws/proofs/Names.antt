@@ -7,7 +7,8 @@ use Rattle.joint_machine.specs.Heaps.{slot, numbered_set}
 use Rattle.joint_machine.specs.Peers.{Issued}
 use Rattle.joint_machine.specs.PeerReplay.{TableRow, cleared_rows}
 use Rattle.joint_machine.proofs.Deciding.{none_some}
-use Rattle.joint_machine.proofs.Numbered.{set-at_same, set-at_other, numbered-within, numbered-push_old, numbered-push_new, numbered_set-here, numbered_set-other, slot-named, slot-Contains, replicate-none}
+use Rattle.joint_machine.proofs.Numbered.{set-at_same, set-at_other, numbered-within, numbered-push_old, numbered-push_new, numbered_set-here, numbered_set-other, slot-named, slot-Contains}
+use Rattle.joint_machine.proofs.Numbered.{replicate-none}
 use Rattle.joint_laws.specs.PeerInvariants.{IsTabled}
 use Rattle.summary_laws.proofs.TableRows.{tabled-stays}
 

@@ -15,8 +15,10 @@ use Rattle.joint_machine.specs.declared.events.Reply.TheVariants as says
 use Rattle.joint_machine.specs.Components.{Rises, End}
 use Rattle.joint_machine.specs.Heaps.{Heap, IsLive, Answered, answer, slot, place, is_full, numbered_set}
 use Rattle.joint_machine.specs.Managed.{place_or_none}
-use Rattle.joint_machine.specs.Peers.{with_renewed, peer_of, Peers, Issued, Strength, strong, weak, held, raw, peer_name, pair_made, peer_gripped, landed, name_given, peer_read, name_read, on_peer_heap, peer_line, issued_since, handles_full}
-use Rattle.joint_machine.specs.PeerReplay.{PeerReplay, TableRow, Marking, row_of, fresh_row, table_target, on_table, bring_by, untabled, peer_thread_line, is_thread, sliced, begun, swept, restored_by, renewed_on, mirrored, peer_answer, PeerAllows, SweepAllows, IsHeld}
+use Rattle.joint_machine.specs.Peers.{with_renewed, peer_of, Peers, Issued, Strength, strong, weak, held, raw, peer_name, pair_made, peer_gripped, landed, name_given, peer_read, name_read}
+use Rattle.joint_machine.specs.Peers.{on_peer_heap, peer_line, issued_since, handles_full}
+use Rattle.joint_machine.specs.PeerReplay.{PeerReplay, TableRow, Marking, row_of, fresh_row, table_target, on_table, bring_by, untabled, peer_thread_line, is_thread, sliced, begun, swept, restored_by}
+use Rattle.joint_machine.specs.PeerReplay.{renewed_on, mirrored, peer_answer, PeerAllows, SweepAllows, IsHeld}
 use Rattle.joint_machine.specs.Run.{thread_number}
 use Rattle.joint_machine.specs.Told.{Told, nothing, references_of, slice_of, sweep_of}
 use Rattle.joint_machine.proofs.Deciding.{none_some, option-cases, test-cases}
@@ -57,7 +59,8 @@ module _ (s : PeerReplay) (k : IsPeerKept s) (names : AreNamesKept s.peers.names
     takes : removes_handle o r ≡ removed
     none : freed_peers r ≡ 0
 
-  counted : (p : Peers) (table : List (Option TableRow)) (o : Op) (r : Reply) (x y z : Bool) → Says o r x y z → HeapCounts s.peers.heap p.heap (one x) 0 → p.made ≡ s.peers.made + one y → rows table + one z ≡ rows s.table + one y → AreNamesKept p.names table → PeerCounts s p table o r
+  counted : (p : Peers) (table : List (Option TableRow)) (o : Op) (r : Reply) (x y z : Bool) → Says o r x y z → HeapCounts s.peers.heap p.heap (one x) 0
+      → p.made ≡ s.peers.made + one y → rows table + one z ≡ rows s.table + one y → AreNamesKept p.names table → PeerCounts s p table o r
   counted p table o r x y z w heap made count kept = record {
     heap = subst (λ b. HeapCounts s.peers.heap p.heap (one b) (freed_peers r)) (sym w.makes) (subst (λ n. HeapCounts s.peers.heap p.heap (one x) n) (sym w.none) heap);
     made = subst (λ b. p.made ≡ s.peers.made + one b) (sym w.gives) made;
@@ -69,27 +72,34 @@ module _ (s : PeerReplay) (k : IsPeerKept s) (names : AreNamesKept s.peers.names
   OnTable o a = PeerCounts s a.state (s.table ++ map fresh_row (issued_since s.peers a.state)) o a.reply
 
   -- no handle is issued
-  still : (o : Op) (a : Answered Peers) (x : Bool) → Says o a.reply x false false → HeapCounts s.peers.heap a.state.heap (one x) 0 → a.state.issued ≡ s.peers.issued → a.state.made ≡ s.peers.made → a.state.names ≡ s.peers.names → OnTable o a
+  still : (o : Op) (a : Answered Peers) (x : Bool) → Says o a.reply x false false → HeapCounts s.peers.heap a.state.heap (one x) 0
+      → a.state.issued ≡ s.peers.issued → a.state.made ≡ s.peers.made → a.state.names ≡ s.peers.names → OnTable o a
   still o a x w heap e l n =
       let same = table-still s a.state e in
-      counted a.state _ o a.reply x false false w heap (omega (arith, l)) (let q = ap rows same in omega (arith, q)) (subst (λ z. AreNamesKept z (s.table ++ map fresh_row (issued_since s.peers a.state))) (sym n) (subst (λ z. AreNamesKept s.peers.names z) (sym same) names))
+      counted a.state _ o a.reply x false false w heap (omega (arith, l)) (let q = ap rows same in omega (arith, q))
+      (subst (λ z. AreNamesKept z (s.table ++ map fresh_row (issued_since s.peers a.state))) (sym n) (subst (λ z. AreNamesKept s.peers.names z) (sym same) names))
 
   stays : (o : Op) (r : Reply) → Says o r false false false → OnTable o (answer r s.peers)
   stays o r w = still o (answer r s.peers) false w (counts-stay s.peers.heap) refl refl refl
 
   -- one is issued
-  issues : (o : Op) (a : Answered Peers) (x : Bool) (new : Issued) → Says o a.reply x true false → HeapCounts s.peers.heap a.state.heap (one x) 0 → a.state.issued ≡ s.peers.issued ++ new ∷ [] → a.state.made ≡ s.peers.made + 1 → AreNamesKept a.state.names (s.table ++ fresh_row new ∷ []) → OnTable o a
+  issues : (o : Op) (a : Answered Peers) (x : Bool) (new : Issued) → Says o a.reply x true false → HeapCounts s.peers.heap a.state.heap (one x) 0
+      → a.state.issued ≡ s.peers.issued ++ new ∷ [] → a.state.made ≡ s.peers.made + 1 → AreNamesKept a.state.names (s.table ++ fresh_row new ∷ []) → OnTable o a
   issues o a x new w heap e l kept =
       let same = table-issued s a.state new e in
-      counted a.state _ o a.reply x true false w heap (omega (arith, l)) (let q = ap rows same in let put = rows-put s.table (record { strength = new.strength; cleared = false }) in omega (arith, q, put)) (subst (λ z. AreNamesKept a.state.names z) (sym same) kept)
+      counted a.state _ o a.reply x true false w heap (omega (arith, l))
+      (let q = ap rows same in let put = rows-put s.table (record { strength = new.strength; cleared = false }) in omega (arith, q, put))
+      (subst (λ z. AreNamesKept a.state.names z) (sym same) kept)
 
   -- the peer and its handle
   pair-counts : (sort : Sort) (n : ℕ) → OnTable (op.Make sort n) (pair_made s.peers sort n)
   pair-counts sort n = test-cases (OnTable (op.Make sort n)) (is_full s.peers.heap.fields || handles_full s.peers) _ _
       (stays (op.Make sort n) says.Full (record { makes = refl; gives = refl; takes = refl; none = refl }))
-      (issues (op.Make sort n) _ true _ (record { makes = refl; gives = refl; takes = refl; none = refl }) (counts-object s.peers.heap _ (with_object-length s.peers.heap n) refl k.heap.freed) refl refl (names-grown s.peers.names s.table names _))
+      (issues (op.Make sort n) _ true _ (record { makes = refl; gives = refl; takes = refl; none = refl })
+      (counts-object s.peers.heap _ (with_object-length s.peers.heap n) refl k.heap.freed) refl refl (names-grown s.peers.names s.table names _))
 
-  grip-counts : (x : Op) (o : Option ℕ) → ((r : Reply) → makes_peer x r ≡ false) → makes_handle x says.Null ≡ false → makes_handle x says.Full ≡ false → ((r : Reply) → removes_handle x r ≡ false) → ((p h : ℕ) (sort : Sort) (n : ℕ) → makes_handle x (says.Gripped record { 0 = p } record { 0 = h } sort n) ≡ true) → OnTable x (peer_gripped s.peers o)
+  grip-counts : (x : Op) (o : Option ℕ) → ((r : Reply) → makes_peer x r ≡ false) → makes_handle x says.Null ≡ false → makes_handle x says.Full ≡ false → ((r : Reply) → removes_handle x r ≡ false)
+      → ((p h : ℕ) (sort : Sort) (n : ℕ) → makes_handle x (says.Gripped record { 0 = p } record { 0 = h } sort n) ≡ true) → OnTable x (peer_gripped s.peers o)
   grip-counts x None p n f t g = stays x says.Null (record { makes = p _; gives = n; takes = t _; none = refl })
   grip-counts x (Some q) p n f t g = test-cases (OnTable x) (handles_full s.peers) _ _
       (stays x says.Full (record { makes = p _; gives = f; takes = t _; none = refl }))
@@ -101,10 +111,13 @@ module _ (s : PeerReplay) (k : IsPeerKept s) (names : AreNamesKept s.peers.names
     given-counts name q strength (Some h) = stays x says.Taken (record { makes = p _; gives = g _; takes = t _; none = refl })
     given-counts name q strength None = test-cases (OnTable x) (handles_full s.peers) _ _
         (stays x says.Full (record { makes = p _; gives = g _; takes = t _; none = refl }))
-        (issues x _ false (record { peer = q; hold = raw; strength = strength }) (record { makes = p _; gives = g _; takes = t _; none = refl }) (counts-stay s.peers.heap) refl refl (names-given s.peers.names s.table names name _ _ (let l = k.handles.places in omega (arith, l))))
+        (issues x _ false (record { peer = q; hold = raw; strength = strength }) (record { makes = p _; gives = g _; takes = t _; none = refl })
+        (counts-stay s.peers.heap) refl refl (names-given s.peers.names s.table names name _ _ (let l = k.handles.places in omega (arith, l))))
 
-    global-counts : (name v : ℕ) (strength : Strength) → OnTable x (elim (slot s.peers.heap.vars v) [ None ↦ answer says.Empty s.peers | Some q ↦ name_given s.peers name q strength (slot s.peers.names name) ])
-    global-counts name v strength = option-cases (OnTable x) _ _ (slot s.peers.heap.vars v) (stays x says.Empty (record { makes = p _; gives = g _; takes = t _; none = refl })) (λ q. given-counts name q strength (slot s.peers.names name))
+    global-counts : (name v : ℕ) (strength : Strength) → OnTable x
+        (elim (slot s.peers.heap.vars v) [ None ↦ answer says.Empty s.peers | Some q ↦ name_given s.peers name q strength (slot s.peers.names name) ])
+    global-counts name v strength = option-cases (OnTable x) _ _ (slot s.peers.heap.vars v)
+        (stays x says.Empty (record { makes = p _; gives = g _; takes = t _; none = refl })) (λ q. given-counts name q strength (slot s.peers.names name))
 
   -- a name is freed, and its handle leaves the table
   unglobal-counts : (g : ℕ) (u : GName) (o : Option ℕ) → slot s.peers.names g ≡ o
@@ -116,11 +129,13 @@ module _ (s : PeerReplay) (k : IsPeerKept s) (names : AreNamesKept s.peers.names
       let same = table-still gone (record s.peers { names = set s.peers.names g None }) refl in
       let q = ap rows same in
       let count = rows-set s.table h t.0 None t.1 in
-      counted (record s.peers { names = set s.peers.names g None }) _ (op.Line (act.UnGlobal u)) says.Ok false false true (record { makes = refl; gives = refl; takes = refl; none = refl }) (counts-stay s.peers.heap) (omega arith) (omega (arith, q, count))
+      counted (record s.peers { names = set s.peers.names g None }) _ (op.Line (act.UnGlobal u)) says.Ok false false true
+      (record { makes = refl; gives = refl; takes = refl; none = refl }) (counts-stay s.peers.heap) (omega arith) (omega (arith, q, count))
       (subst (λ z. AreNamesKept (set s.peers.names g None) z) (sym same) (names-freed s.peers.names s.table names g h e))
 
   -- a slot comes to name where a handle leads
-  brought : (a : Answered PeerReplay) (r : Reply) (o : Op) → PeerCounts s a.state.peers a.state.table o a.reply → PeerCounts s (bring_by a r).state.peers (bring_by a r).state.table o (bring_by a r).reply
+  brought : (a : Answered PeerReplay) (r : Reply) (o : Op) → PeerCounts s a.state.peers a.state.table o a.reply
+      → PeerCounts s (bring_by a r).state.peers (bring_by a r).state.table o (bring_by a r).reply
   brought a (says.P p) o c = c
   brought a _ o c = c
 
@@ -146,17 +161,24 @@ module _ (s : PeerReplay) (k : IsPeerKept s) (names : AreNamesKept s.peers.names
   line-counts : (t : ℕ) (a : Act) → PeerCounts s (peer_thread_line s t a).state.peers (peer_thread_line s t a).state.table (op.Line a) (peer_thread_line s t a).reply
   line-counts t (act.NewPeer v n) = test-cases (OnTable (op.Line (act.NewPeer v n))) (is_full s.peers.heap.fields) _ _
       (stays (op.Line (act.NewPeer v n)) says.Full (record { makes = refl; gives = refl; takes = refl; none = refl }))
-      (still (op.Line (act.NewPeer v n)) _ true (record { makes = refl; gives = refl; takes = refl; none = refl }) (counts-object s.peers.heap _ (with_object-length s.peers.heap n) refl k.heap.freed) refl refl refl)
-  line-counts t (act.Copy v w) = moved-counts (op.Line (act.Copy v w)) (λ r. refl) (λ r. refl) (λ r. refl) _ (copied-moved peer_name s.peers.heap (place t v.0) (place t w.0)) (peer_line-plain s.peers (table_target s) t (act.Copy v w))
-  line-counts t (act.Set v i w) = moved-counts (op.Line (act.Set v i w)) (λ r. refl) (λ r. refl) (λ r. refl) _ (field_set-moved s.peers.heap (place t v.0) i (place_or_none t w)) (peer_line-plain s.peers (table_target s) t (act.Set v i w))
-  line-counts t (act.Get v w i) = moved-counts (op.Line (act.Get v w i)) (λ r. refl) (λ r. refl) (λ r. refl) _ (field_got-moved peer_name s.peers.heap (place t v.0) (place t w.0) i) (peer_line-plain s.peers (table_target s) t (act.Get v w i))
+      (still (op.Line (act.NewPeer v n)) _ true (record { makes = refl; gives = refl; takes = refl; none = refl })
+      (counts-object s.peers.heap _ (with_object-length s.peers.heap n) refl k.heap.freed) refl refl refl)
+  line-counts t (act.Copy v w) = moved-counts (op.Line (act.Copy v w)) (λ r. refl) (λ r. refl) (λ r. refl) _
+      (copied-moved peer_name s.peers.heap (place t v.0) (place t w.0)) (peer_line-plain s.peers (table_target s) t (act.Copy v w))
+  line-counts t (act.Set v i w) = moved-counts (op.Line (act.Set v i w)) (λ r. refl) (λ r. refl) (λ r. refl) _
+      (field_set-moved s.peers.heap (place t v.0) i (place_or_none t w)) (peer_line-plain s.peers (table_target s) t (act.Set v i w))
+  line-counts t (act.Get v w i) = moved-counts (op.Line (act.Get v w i)) (λ r. refl) (λ r. refl) (λ r. refl) _
+      (field_got-moved peer_name s.peers.heap (place t v.0) (place t w.0) i) (peer_line-plain s.peers (table_target s) t (act.Get v w i))
   line-counts t (act.Drop v) = moved-counts (op.Line (act.Drop v)) (λ r. refl) (λ r. refl) (λ r. refl) _ (dropped-moved s.peers.heap (place t v.0)) tt
-  line-counts t (act.Load v x) = moved-counts (op.Line (act.Load v x)) (λ r. refl) (λ r. refl) (λ r. refl) _ (loaded-moved peer_name s.peers.heap (place t v.0) x.0) (peer_line-plain s.peers (table_target s) t (act.Load v x))
-  line-counts t (act.Store x v) = moved-counts (op.Line (act.Store x v)) (λ r. refl) (λ r. refl) (λ r. refl) _ (stored-moved s.peers.heap x.0 (place_or_none t v)) (peer_line-plain s.peers (table_target s) t (act.Store x v))
+  line-counts t (act.Load v x) = moved-counts (op.Line (act.Load v x)) (λ r. refl) (λ r. refl) (λ r. refl) _
+      (loaded-moved peer_name s.peers.heap (place t v.0) x.0) (peer_line-plain s.peers (table_target s) t (act.Load v x))
+  line-counts t (act.Store x v) = moved-counts (op.Line (act.Store x v)) (λ r. refl) (λ r. refl) (λ r. refl) _
+      (stored-moved s.peers.heap x.0 (place_or_none t v)) (peer_line-plain s.peers (table_target s) t (act.Store x v))
   line-counts t (act.Global g v) = global-counts (op.Line (act.Global g v)) (λ r. refl) (λ r. refl) (λ r. refl) g.0 (place t v.0) strong
   line-counts t (act.WGlobal g v) = global-counts (op.Line (act.WGlobal g v)) (λ r. refl) (λ r. refl) (λ r. refl) g.0 (place t v.0) weak
   line-counts t (act.UnGlobal g) = unglobal-counts g.0 g (slot s.peers.names g.0) refl
-  line-counts t (act.WRead v g) = brought (on_table s (peer_line (table_target s) s.peers t (act.WRead v g))) (peer_line (table_target s) s.peers t (act.WRead v g)).reply (op.Line (act.WRead v g)) (wread-counts (op.Line (act.WRead v g)) (λ r. refl) (λ r. refl) (λ r. refl) (place t v.0) g.0)
+  line-counts t (act.WRead v g) = brought (on_table s (peer_line (table_target s) s.peers t (act.WRead v g))) (peer_line (table_target s) s.peers t (act.WRead v g)).reply
+      (op.Line (act.WRead v g)) (wread-counts (op.Line (act.WRead v g)) (λ r. refl) (λ r. refl) (λ r. refl) (place t v.0) g.0)
   line-counts t a = stays (op.Line a) says.Ok (record { makes = refl; gives = refl; takes = refl; none = refl })
 
   -- neither the peers nor the table change
@@ -171,18 +193,21 @@ module _ (s : PeerReplay) (k : IsPeerKept s) (names : AreNamesKept s.peers.names
   sliced-table None t n closure = refl
   sliced-table (Some mk) t n closure = test-cases (λ (a : Answered PeerReplay). a.state.table ≡ s.table) (is_thread t mk.by) _ _ refl refl
 
-  sliced-counts : (x : Option Marking) (t : Thread) (n m : ℕ) (closure : List ℕ) → PeerCounts s (sliced s x t n closure).state.peers (sliced s x t n closure).state.table (op.Line (act.Slice m)) (sliced s x t n closure).reply
+  sliced-counts : (x : Option Marking) (t : Thread) (n m : ℕ) (closure : List ℕ)
+      → PeerCounts s (sliced s x t n closure).state.peers (sliced s x t n closure).state.table (op.Line (act.Slice m)) (sliced s x t n closure).reply
   sliced-counts x t n m closure =
       let r = (sliced s x t n closure).reply in
       let c = here (op.Line (act.Slice m)) r (record { makes = refl; gives = refl; takes = refl; none = plain-none r (sliced-plain s x t n closure) }) in
-      subst (λ z. PeerCounts s z (sliced s x t n closure).state.table (op.Line (act.Slice m)) r) (sym (sliced-peers x t n closure)) (subst (λ z. PeerCounts s s.peers z (op.Line (act.Slice m)) r) (sym (sliced-table x t n closure)) c)
+      subst (λ z. PeerCounts s z (sliced s x t n closure).state.table (op.Line (act.Slice m)) r) (sym (sliced-peers x t n closure))
+      (subst (λ z. PeerCounts s s.peers z (op.Line (act.Slice m)) r) (sym (sliced-table x t n closure)) c)
 
   begun-counts : (x : Option Marking) (t : Thread) → PeerCounts s (begun s x t).state.peers (begun s x t).state.table op.Begin (begun s x t).reply
   begun-counts None t = here op.Begin _ (record { makes = refl; gives = refl; takes = refl; none = refl })
   begun-counts (Some mk) t = here op.Begin _ (record { makes = refl; gives = refl; takes = refl; none = refl })
 
   -- a sweep
-  swept-counts : (x : Option Marking) (t : Thread) (freed : List ℕ) → Rises freed → ((p : ℕ) → Contains freed p → IsLive s.peers.heap p) → PeerCounts s (swept s x t freed).state.peers (swept s x t freed).state.table op.Sweep (swept s x t freed).reply
+  swept-counts : (x : Option Marking) (t : Thread) (freed : List ℕ) → Rises freed → ((p : ℕ) → Contains freed p → IsLive s.peers.heap p)
+      → PeerCounts s (swept s x t freed).state.peers (swept s x t freed).state.table op.Sweep (swept s x t freed).reply
   swept-counts None t freed up live = here op.Sweep says.NoMark (record { makes = refl; gives = refl; takes = refl; none = refl })
   swept-counts (Some mk) t freed up live = test-cases (λ (a : Answered PeerReplay). PeerCounts s a.state.peers a.state.table op.Sweep a.reply) (is_thread t C || is_thread t mk.by) _ _
       (record {
@@ -198,7 +223,8 @@ module _ (s : PeerReplay) (k : IsPeerKept s) (names : AreNamesKept s.peers.names
   none_to_end (M u) freed a = a
   none_to_end C freed a = a
 
-  sweeps : (x : Option Marking) (t : Thread) (freed : List ℕ) → SweepAllows s x t (sweep_of freed) → PeerCounts s (swept s x t freed).state.peers (swept s x t freed).state.table op.Sweep (swept s x t freed).reply
+  sweeps : (x : Option Marking) (t : Thread) (freed : List ℕ) → SweepAllows s x t (sweep_of freed)
+      → PeerCounts s (swept s x t freed).state.peers (swept s x t freed).state.table op.Sweep (swept s x t freed).reply
   sweeps None t freed a = absurd (none_to_end t freed a)
   sweeps (Some mk) t freed a = swept-counts (Some mk) t freed a.1.rise (λ p c. ((a.1.exact p).0 c).0)
 
@@ -211,10 +237,12 @@ module _ (s : PeerReplay) (k : IsPeerKept s) (names : AreNamesKept s.peers.names
       let r = k.handles.named h (slot-Contains s.peers.names g h e) in
       held-raw r.0 (subst (λ (z : Issued). z.hold ≡ held) (issued-same s.peers.issued h h w.0 r.0 refl w.1 r.1) w.2) r.2
 
-  removed-counts : (o : Op) (r : Reply) (h : ℕ) (row : TableRow) → makes_peer o r ≡ false → makes_handle o r ≡ false → removes_handle o r ≡ true → freed_peers r ≡ 0 → IsTabled s.table h row → IsHeld s h → PeerCounts s s.peers (numbered_set s.table h None) o r
+  removed-counts : (o : Op) (r : Reply) (h : ℕ) (row : TableRow) → makes_peer o r ≡ false → makes_handle o r ≡ false → removes_handle o r ≡ true
+      → freed_peers r ≡ 0 → IsTabled s.table h row → IsHeld s h → PeerCounts s s.peers (numbered_set s.table h None) o r
   removed-counts o r h row a b c d e w =
       let count = rows-set s.table h row None e in
-      counted s.peers _ o r false false true (record { makes = a; gives = b; takes = c; none = d }) (counts-stay s.peers.heap) (omega arith) (omega (arith, count)) (names-gone s.peers.names s.table names h (not-named h w))
+      counted s.peers _ o r false false true (record { makes = a; gives = b; takes = c; none = d }) (counts-stay s.peers.heap)
+      (omega arith) (omega (arith, count)) (names-gone s.peers.names s.table names h (not-named h w))
 
   reset-counts : (o : Op) (r : Reply) (h : ℕ) (row now : TableRow) → Says o r false false false → IsTabled s.table h row → PeerCounts s s.peers (numbered_set s.table h (Some now)) o r
   reset-counts o r h row now w e =
@@ -222,30 +250,36 @@ module _ (s : PeerReplay) (k : IsPeerKept s) (names : AreNamesKept s.peers.names
       counted s.peers _ o r false false false w (counts-stay s.peers.heap) (omega arith) (omega (arith, count)) (names-reset s.peers.names s.table names h row now e)
 
   -- the handle goes, and one comes on its peer
-  renewed-counts : (n : HNum) (row : TableRow) → IsTabled s.table n.0 row → IsHeld s n.0 → (x : Option ℕ) → PeerCounts s (renewed_on s n.0 x).state.peers (renewed_on s n.0 x).state.table (op.Restore n) (renewed_on s n.0 x).reply
+  renewed-counts : (n : HNum) (row : TableRow) → IsTabled s.table n.0 row → IsHeld s n.0 → (x : Option ℕ)
+      → PeerCounts s (renewed_on s n.0 x).state.peers (renewed_on s n.0 x).state.table (op.Restore n) (renewed_on s n.0 x).reply
   renewed-counts n row e w None = removed-counts (op.Restore n) says.Cleared n.0 row refl refl refl refl e w
   renewed-counts n row e w (Some p) =
       let gone = rows-set s.table n.0 row None e in
       let put = rows-put (numbered_set s.table n.0 None) (record { strength = strong; cleared = false }) in
-      counted (with_renewed s.peers p) _ (op.Restore n) _ false false false (record { makes = refl; gives = refl; takes = refl; none = refl }) (counts-alike _ _ refl refl) (omega arith) (omega (arith, gone, put))
+      counted (with_renewed s.peers p) _ (op.Restore n) _ false false false (record { makes = refl; gives = refl; takes = refl; none = refl })
+      (counts-alike _ _ refl refl) (omega arith) (omega (arith, gone, put))
       (names-grown s.peers.names (numbered_set s.table n.0 None) (names-gone s.peers.names s.table names n.0 (not-named n.0 w)) _)
 
-  restored-counts : (n : HNum) (x : Option TableRow) → row_of s n.0 ≡ x → IsHeld s n.0 → (row : TableRow) → row_of s n.0 ≡ Some row → PeerCounts s (restored_by s n.0 x).state.peers (restored_by s n.0 x).state.table (op.Restore n) (restored_by s n.0 x).reply
+  restored-counts : (n : HNum) (x : Option TableRow) → row_of s n.0 ≡ x → IsHeld s n.0 → (row : TableRow) → row_of s n.0 ≡ Some row
+      → PeerCounts s (restored_by s n.0 x).state.peers (restored_by s n.0 x).state.table (op.Restore n) (restored_by s n.0 x).reply
   restored-counts n None e w row q = absurd (none_some row (sym e ∙ q))
   restored-counts n (Some old) e w row q = test-cases (λ (a : Answered PeerReplay). PeerCounts s a.state.peers a.state.table (op.Restore n) a.reply) old.cleared _ _
       (removed-counts (op.Restore n) says.Cleared n.0 old refl refl refl refl (tabled_row s n.0 old e) w)
       (renewed-counts n old (tabled_row s n.0 old e) w (peer_of s.peers.issued n.0))
 
-  mirrored-counts : (n : ℕ) (cites : Option ℕ) (refs : List (End × End)) (o : Op) (r : Reply) → Says o r false false false → PeerCounts s (mirrored s n cites refs).peers (mirrored s n cites refs).table o r
+  mirrored-counts : (n : ℕ) (cites : Option ℕ) (refs : List (End × End)) (o : Op) (r : Reply)
+      → Says o r false false false → PeerCounts s (mirrored s n cites refs).peers (mirrored s n cites refs).table o r
   mirrored-counts n None refs o r w = here o r w
   mirrored-counts n (Some snap) refs o r w = here o r w
 
-  pub peer-counts : (t : Thread) (o : Op) (cites : Option ℕ) (told : Told) → PeerAllows s t o cites told → PeerCounts s (peer_answer s t o cites told).state.peers (peer_answer s t o cites told).state.table o (peer_answer s t o cites told).reply
+  pub peer-counts : (t : Thread) (o : Op) (cites : Option ℕ) (told : Told) → PeerAllows s t o cites told
+      → PeerCounts s (peer_answer s t o cites told).state.peers (peer_answer s t o cites told).state.table o (peer_answer s t o cites told).reply
   peer-counts t (op.Line (act.Slice n)) cites (slice_of closure) w = sliced-counts s.marking t n n closure
   peer-counts t (op.Line (act.Slice n)) cites _ w = sliced-counts s.marking t n n []
   peer-counts t (op.Line a) cites told w = line-counts (thread_number t) a
   peer-counts t (op.Make sort n) cites told w = pair-counts sort n
-  peer-counts t (op.Land h x) cites told w = brought (on_table s (landed s.peers x.0 (table_target s h.0))) (landed s.peers x.0 (table_target s h.0)).reply (op.Land h x) (land-counts (op.Land h x) (λ r. refl) (λ r. refl) (λ r. refl) x.0 (table_target s h.0))
+  peer-counts t (op.Land h x) cites told w = brought (on_table s (landed s.peers x.0 (table_target s h.0)))
+      (landed s.peers x.0 (table_target s h.0)).reply (op.Land h x) (land-counts (op.Land h x) (λ r. refl) (λ r. refl) (λ r. refl) x.0 (table_target s h.0))
   peer-counts t (op.Grip x) cites told w = grip-counts (op.Grip x) (slot s.peers.heap.statics x.0) (λ r. refl) refl refl (λ r. refl) (λ p h sort n. refl)
   peer-counts t (op.Release h) cites nothing w = removed-counts (op.Release h) says.Ok h.0 w.row refl refl refl refl (tabled_row s h.0 w.row w.tabled) w.is_held
   peer-counts t (op.Mirror n) cites (references_of refs) w = mirrored-counts n.0 cites refs (op.Mirror n) _ (record { makes = refl; gives = refl; takes = refl; none = refl })

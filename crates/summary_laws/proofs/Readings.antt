@@ -26,7 +26,15 @@ use Rattle.joint_machine.proofs.Deciding.{and-true}
 
 -- nothing is added and nothing taken away
 nothing_counted : (t : Tally) → tallied t (op.Line (act.Read record { 0 = 0 })) says.Unset ≡ t
-nothing_counted t = same_tally _ _ (record { cycles = omega arith; managed = omega arith; peers = omega arith; handles = omega arith; managed_left = omega arith; peers_left = omega arith; handles_left = omega arith })
+nothing_counted t = same_tally _ _ (record {
+  cycles = omega arith;
+  managed = omega arith;
+  peers = omega arith;
+  handles = omega arith;
+  managed_left = omega arith;
+  peers_left = omega arith;
+  handles_left = omega arith;
+})
 
 read_skips : (t : Tally) (o : Op) (r : Reply) → is_read o ≡ true → is_set_aside r ≡ true → tallied t o r ≡ t
 read_skips t (op.Line (act.Read k)) (says.Pending c) e f = nothing_counted t
@@ -56,7 +64,8 @@ pub tallies_of_linked : TalliesOfLinked
 tallies_of_linked h noted l =
     let w : IsLawfulReading noted = (noted, (replayed_reading opening_linkage noted).managed.managed.cells, l.lawful) in
     let k = reading_leads_to_same noted w in
-    let end : tally_in (replayed_reading opening_linkage noted) ≡ tally_in (replayed opening_linkage (without_aside noted)) = ap (λ m. sides m (replayed_reading opening_linkage noted).peer) k.managed ∙ ap (λ p. sides (replayed opening_linkage (without_aside noted)).managed p) k.peer in
+    let end : tally_in (replayed_reading opening_linkage noted) ≡ tally_in (replayed opening_linkage (without_aside noted)) = ap (λ m. sides m (replayed_reading opening_linkage noted).peer) k.managed
+    ∙ ap (λ p. sides (replayed opening_linkage (without_aside noted)).managed p) k.peer in
     ap tally_of (sym l.same) ∙ (aside-tally noted nothing_yet ∙ (tallies_are_of_states (without_aside noted) (reading_is_lawful noted w) ∙ sym end))
 
 -- the entries but for the reads that are set aside lead to the same state of both sides

@@ -38,7 +38,8 @@ below-same xs y (suc n) l =
 last-cases : (y n : ℕ) → y ≤ suc n → (y ≡ suc n) ⊎ (y ≤ n)
 last-cases y n b = grind arith
 
-put-last : (xs : List ℕ) (y n : ℕ) → stands_in xs y ≡ false → (y ≤ n → others_up_to (xs ++ y ∷ []) n + 1 ≡ others_up_to xs n) → (y ≡ suc n) ⊎ (y ≤ n) → others_up_to (xs ++ y ∷ []) (suc n) + 1 ≡ others_up_to xs (suc n)
+put-last : (xs : List ℕ) (y n : ℕ) → stands_in xs y ≡ false → (y ≤ n → others_up_to (xs ++ y ∷ []) n + 1 ≡ others_up_to xs n)
+    → (y ≡ suc n) ⊎ (y ≤ n) → others_up_to (xs ++ y ∷ []) (suc n) + 1 ≡ others_up_to xs (suc n)
 put-last xs y n e rest (inl q) =
     let here : stands_in (xs ++ y ∷ []) (suc n) ≡ true = subst (λ z. stands_in (xs ++ y ∷ []) z ≡ true) q (put-here xs y) in
     let out : stands_in xs (suc n) ≡ false = subst (λ z. stands_in xs z ≡ false) q e in
@@ -74,7 +75,8 @@ outside xs y n = by (stands_in xs y) refl
     by true e = absurd (n (is_freed-Contains (record { fields = []; freed = xs; vars = []; statics = [] }) y e))
     by false e = refl
 
-later_ones : (xs ys : List ℕ) (y n : ℕ) → All (λ x. y < x) ys → ((z : ℕ) → Contains ys z → (1 ≤ z) × (z ≤ n) × (Contains xs z → ⊥)) → (z : ℕ) → Contains ys z → (1 ≤ z) × (z ≤ n) × (Contains (xs ++ y ∷ []) z → ⊥)
+later_ones : (xs ys : List ℕ) (y n : ℕ) → All (λ x. y < x) ys → ((z : ℕ) → Contains ys z → (1 ≤ z) × (z ≤ n) × (Contains xs z → ⊥))
+    → (z : ℕ) → Contains ys z → (1 ≤ z) × (z ≤ n) × (Contains (xs ++ y ∷ []) z → ⊥)
 later_ones xs ys y n r f z c =
     let there = f z c in
     let over : y < z = All-contains (λ x. y < x) ys z r c in (

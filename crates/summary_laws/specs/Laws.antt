@@ -16,16 +16,21 @@ AddsUp h = unfreed h + length h.freed ≡ length h.fields
 
 -- the tally of the entries of a lawful list is that of the state after it
 abbrev pub TalliesAreOfStates : Type 0
-TalliesAreOfStates = (noted : List Noted) → AllMayCome opening_linkage noted → tally_of (map (λ n. n.entry) noted) ≡ tally_in (replayed opening_linkage noted)
+TalliesAreOfStates = (noted : List Noted) → AllMayCome opening_linkage noted
+    → tally_of (map (λ n. n.entry) noted) ≡ tally_in (replayed opening_linkage noted)
 
 -- after a lawful list both heaps add up
 abbrev pub HeapsAddUp : Type 0
-HeapsAddUp = (noted : List Noted) → AllMayCome opening_linkage noted → AddsUp (replayed opening_linkage noted).managed.managed.heap × AddsUp (replayed opening_linkage noted).peer.peers.heap
+HeapsAddUp = (noted : List Noted) → AllMayCome opening_linkage noted
+    → AddsUp (replayed opening_linkage noted).managed.managed.heap
+    × AddsUp (replayed opening_linkage noted).peer.peers.heap
 
 -- so the tally of a linked history's entries is that of its last state
 abbrev pub TalliesOfLinked : Type 0
-TalliesOfLinked = (h : Finished) (noted : List Noted) → IsLinkedBy h noted → tally_of h.entries ≡ tally_in (linked_end noted)
+TalliesOfLinked = (h : Finished) (noted : List Noted)
+    → IsLinkedBy h noted → tally_of h.entries ≡ tally_in (linked_end noted)
 
 -- and in that state both heaps add up
 abbrev pub HeapsOfLinked : Type 0
-HeapsOfLinked = (h : Finished) (noted : List Noted) → IsLinkedBy h noted → AddsUp (linked_end noted).managed.managed.heap × AddsUp (linked_end noted).peer.peers.heap
+HeapsOfLinked = (h : Finished) (noted : List Noted) → IsLinkedBy h noted
+    → AddsUp (linked_end noted).managed.managed.heap × AddsUp (linked_end noted).peer.peers.heap

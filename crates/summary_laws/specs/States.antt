@@ -23,11 +23,19 @@ unfreed h = others_up_to h.freed (length h.fields)
 
 -- what was made up to a state: the objects of both heaps, and the handles, without those that restores gave
 abbrev pub made_in : Linkage → Objects
-made_in s = record { managed = length s.managed.managed.heap.fields; peers = length s.peer.peers.heap.fields; handles = s.peer.peers.made }
+made_in s = record {
+  managed = length s.managed.managed.heap.fields;
+  peers = length s.peer.peers.heap.fields;
+  handles = s.peer.peers.made;
+}
 
 -- what is left: the objects that aren't freed, and the handles in the table
 abbrev pub left_in : Linkage → Objects
-left_in s = record { managed = unfreed s.managed.managed.heap; peers = unfreed s.peer.peers.heap; handles = count_by is_some s.peer.table }
+left_in s = record {
+  managed = unfreed s.managed.managed.heap;
+  peers = unfreed s.peer.peers.heap;
+  handles = count_by is_some s.peer.table;
+}
 
 -- the numbers of a state
 abbrev pub tally_in : Linkage → Tally

@@ -44,7 +44,8 @@ closed-behind bytes front [] (inl c) e n = absurd (n refl)
 closed-behind bytes front (b ∷ behind) (inl c) e n = (let l = ap length (sym c ∙ e) in let m = length-append front (b ∷ behind) in absurd (omega (arith, l, m)))
 
 -- the lines before the limit, by where they end
-pub front-of : (bytes : List ℕ) (most at : ℕ) → most < length bytes → at ≤ length (take most bytes) → AreClosed (take at (take most bytes)) → All (λ b. b ≢ 10) (drop at (take most bytes)) → IsFrontOf most bytes (take at bytes)
+pub front-of : (bytes : List ℕ) (most at : ℕ) → most < length bytes → at ≤ length (take most bytes)
+    → AreClosed (take at (take most bytes)) → All (λ b. b ≢ 10) (drop at (take most bytes)) → IsFrontOf most bytes (take at bytes)
 front-of bytes most at m f c a =
     let low : at ≤ most = (let n = length-take-le most bytes (omega (arith, m)) in omega (arith, n, f)) in
     let same : take at (take most bytes) ≡ take at bytes = take-take at most bytes low in

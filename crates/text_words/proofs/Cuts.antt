@@ -38,7 +38,8 @@ first_part c n bs l h e = ap (slice_split (λ b. eqb b c)) (cut_at c n bs l e) �
 pub split-join : (c : ℕ) (words : List (List ℕ)) → 0 < length words → All (All (λ b. b ≢ c)) words → slice_split (λ b. eqb b c) (join_with_byte c words) ≡ words
 split-join c [] l h = absurd (omega arith)
 split-join c (w ∷ []) l h = one_part c w (All-head (All (λ b. b ≢ c)) w [] h)
-split-join c (w ∷ x ∷ ws) l h = slice_split_at (λ b. eqb b c) w c (join_with_byte c (x ∷ ws)) (free_fails c w (All-head (All (λ b. b ≢ c)) w (x ∷ ws) h)) (same_passes c) ∙ ap (λ t. w ∷ t) (split-join c (x ∷ ws) (omega arith) (All-tail (All (λ b. b ≢ c)) w (x ∷ ws) h))
+split-join c (w ∷ x ∷ ws) l h = slice_split_at (λ b. eqb b c) w c (join_with_byte c (x ∷ ws)) (free_fails c w (All-head (All (λ b. b ≢ c)) w (x ∷ ws) h)) (same_passes c)
+    ∙ ap (λ t. w ∷ t) (split-join c (x ∷ ws) (omega arith) (All-tail (All (λ b. b ≢ c)) w (x ∷ ws) h))
 
 -- a line has at least one word
 pub words_of_done : (done : Bool) (bs : List ℕ) (words : List (List ℕ)) → cond done [] (slice_split (λ b. eqb b 32) bs) ≡ words → MatchBool done (words ≡ []) (words ≢ [])

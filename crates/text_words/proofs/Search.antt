@@ -30,7 +30,8 @@ run_is n bs byte r h e =
       found = λ l. eqb-true (get_or bs r 0) byte (rw start at (run_in_chunk_stops p bs 0 n r 0 long e l));
     }
 
-counted : (n : ℕ) (bs : List ℕ) (byte : ℕ) → n ≤ 64 → n ≤ length bs → cond (eqb (bits_of n bs byte) 0) n (count_trailing_zeros 64 (bits_of n bs byte)) ≡ prefix_len (λ x. not (eqb x byte)) (chunk 0 n bs)
+counted : (n : ℕ) (bs : List ℕ) (byte : ℕ) → n ≤ 64 → n ≤ length bs
+    → cond (eqb (bits_of n bs byte) 0) n (count_trailing_zeros 64 (bits_of n bs byte)) ≡ prefix_len (λ x. not (eqb x byte)) (chunk 0 n bs)
 counted n bs byte small h =
     let long = length-chunk 0 n bs (omega (arith, h)) in
     rw (bitmask_splat w8 eqb (chunk 0 n bs) n byte long small) (first_set_mask_l (λ x. eqb x byte) (chunk 0 n bs) n long small)
@@ -39,7 +40,8 @@ pub run_none : (n : ℕ) (bs : List ℕ) (byte : ℕ) → n ≤ 64 → n ≤ len
 run_none n bs byte small h z = run_is n bs byte n h (rw z at (counted n bs byte small h))
 
 pub run_some : (n : ℕ) (bs : List ℕ) (byte : ℕ) → n ≤ 64 → n ≤ length bs → bits_of n bs byte ≢ 0 → Run n bs byte (count_trailing_zeros 64 (bits_of n bs byte))
-run_some n bs byte small h z = run_is n bs byte (count_trailing_zeros 64 (bits_of n bs byte)) h (ap (λ b. cond b n (count_trailing_zeros 64 (bits_of n bs byte))) (sym (ne_eqb (bits_of n bs byte) 0 z)) ∙ counted n bs byte small h)
+run_some n bs byte small h z = run_is n bs byte (count_trailing_zeros 64 (bits_of n bs byte)) h
+    (ap (λ b. cond b n (count_trailing_zeros 64 (bits_of n bs byte))) (sym (ne_eqb (bits_of n bs byte) 0 z)) ∙ counted n bs byte small h)
 
 -- behind the first n, none of which is the byte, the search goes on
 pub further : (n r byte : ℕ) (bs : List ℕ) → ((k : ℕ) → k < n → get_or bs k 0 ≢ byte) → ((k : ℕ) → k < r → get_or (drop n bs) k 0 ≢ byte) → (k : ℕ) → k < n + r → get_or bs k 0 ≢ byte

@@ -39,7 +39,8 @@ impl<'a> PlacedLines<'a> {
 
     /// Takes the next line; None where no byte is left.
     pub fn next(&mut self) -> Option<PlacedLine<'a>>
-        ensures { MatchOption result ((self.old ≡ []) × (self.new ≡ [])) (λ line. IsFirstLine self.old line.text line.closed self.new) }
+        ensures { MatchOption result ((self.old ≡ []) × (self.new ≡ []))
+            (λ line. IsFirstLine self.old line.text line.closed self.new) }
     {
         let bytes = self.left;
         if bytes.is_empty() {

@@ -11,7 +11,8 @@ const FEW: usize = 19;
 /// The number that a word writes, in decimal digits without a needless zero and below 2^64.
 #[inline(always)]
 pub fn number(word: &[u8]) -> Option<u64>
-    ensures { MatchOption result ((n : ℕ) → n < 2 ^ 64 → decimal n ≢ word.now) (λ n. (n < 2 ^ 64) × (decimal n ≡ word.now)) }
+    ensures { MatchOption result ((n : ℕ) → n < 2 ^ 64 → decimal n ≢ word.now)
+        (λ n. (n < 2 ^ 64) × (decimal n ≡ word.now)) }
 {
     if word.len() == 1 {
         return digit(word[0]);
@@ -25,7 +26,8 @@ pub fn number(word: &[u8]) -> Option<u64>
 // The number that a word of this one byte writes.
 #[inline(always)]
 fn digit(byte: u8) -> Option<u64>
-    ensures { MatchOption result ((n : ℕ) → n < 2 ^ 64 → decimal n ≢ byte ∷ []) (λ n. (n < 2 ^ 64) × (decimal n ≡ byte ∷ [])) }
+    ensures { MatchOption result ((n : ℕ) → n < 2 ^ 64 → decimal n ≢ byte ∷ [])
+        (λ n. (n < 2 ^ 64) × (decimal n ≡ byte ∷ [])) }
 {
     if byte < b'0' || byte > b'9' {
         return None;
@@ -37,7 +39,8 @@ fn digit(byte: u8) -> Option<u64>
 fn short_number(word: &[u8]) -> Option<u64>
     requires some { 1 < length word.now }
     requires few { length word.now ≤ 19 }
-    ensures { MatchOption result ((n : ℕ) → n < 2 ^ 64 → decimal n ≢ word.now) (λ n. (n < 2 ^ 64) × (decimal n ≡ word.now)) }
+    ensures { MatchOption result ((n : ℕ) → n < 2 ^ 64 → decimal n ≢ word.now)
+        (λ n. (n < 2 ^ 64) × (decimal n ≡ word.now)) }
 {
     if word[0] < b'1' || word[0] > b'9' {
         return None;
@@ -55,7 +58,8 @@ fn short_number(word: &[u8]) -> Option<u64>
 
 // The number that a word of any length writes.
 fn long_number(word: &[u8]) -> Option<u64>
-    ensures { MatchOption result ((n : ℕ) → n < 2 ^ 64 → decimal n ≢ word.now) (λ n. (n < 2 ^ 64) × (decimal n ≡ word.now)) }
+    ensures { MatchOption result ((n : ℕ) → n < 2 ^ 64 → decimal n ≢ word.now)
+        (λ n. (n < 2 ^ 64) × (decimal n ≡ word.now)) }
 {
     let Ok(text) = str::from_utf8(word) else {
         return None;
@@ -72,7 +76,8 @@ fn long_number(word: &[u8]) -> Option<u64>
 
 /// The number behind a letter, below a limit: `g15`, where the letter is `g` and the limit at least 16.
 pub fn lettered(word: &[u8], letter: u8, below: u64) -> Option<u64>
-    ensures { MatchOption result ((n : ℕ) → n < below → letter ∷ decimal n ≢ word.now) (λ n. (n < below) × (letter ∷ decimal n ≡ word.now)) }
+    ensures { MatchOption result ((n : ℕ) → n < below → letter ∷ decimal n ≢ word.now)
+        (λ n. (n < below) × (letter ∷ decimal n ≡ word.now)) }
 {
     if word.is_empty() || word[0] != letter {
         return None;

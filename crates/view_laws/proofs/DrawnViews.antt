@@ -58,23 +58,27 @@ drawn_views_grow v w r k a told g s below pins draws may = record {
     again i = ap (λ z. grown (lines_of v) z i) one ∙ sym (ap (λ l. if stands_in i k.entry then l ++ shown n ∷ [] else l) (kept-drawn (known v i)))
 
     lines : (i : ℕ) → drawn_lines w i ≡ drawn_on (drawn_lines v) (kept_drawn (end_of a.known.past) n) i
-    lines i = grown_by v w r k g s i (drawn_lines v i ++ of_order k ∷ []) (drawn_lines v i) (λ z. map of_order (known w i) ≡ z) (λ q. ap (map of_order) q ∙ snoc-order (known v i) k) (λ q. ap (map of_order) q) ∙ sym (ap (λ z. drawn_on (drawn_lines v) z i) d)
+    lines i = grown_by v w r k g s i (drawn_lines v i ++ of_order k ∷ []) (drawn_lines v i) (λ z. map of_order (known w i) ≡ z)
+        (λ q. ap (map of_order) q ∙ snoc-order (known v i) k) (λ q. ap (map of_order) q) ∙ sym (ap (λ z. drawn_on (drawn_lines v) z i) d)
 
 -- what is known of one history begins its lines
 pub drawn_begins : (u : View) (o : BeginsOneHistory u) (x : View) → ((i : ℕ) → IsPrefix (known x i) (known u i)) → Begin (whole_kept o.whole) (λ i. of_drawn (drawn_lines x i))
-drawn_begins u o x more i = subst (λ l. IsPrefix l (kept_in i (whole_kept o.whole))) (sym (kept-drawn (known x i))) (prefix_trans (lines_of x i) (lines_of u i) (kept_in i (whole_kept o.whole)) (kept_begin (known x i) (known u i) (more i)) (view_begins u o i))
+drawn_begins u o x more i = subst (λ l. IsPrefix l (kept_in i (whole_kept o.whole))) (sym (kept-drawn (known x i)))
+    (prefix_trans (lines_of x i) (lines_of u i) (kept_in i (whole_kept o.whole)) (kept_begin (known x i) (known u i) (more i)) (view_begins u o i))
 
 -- of each line the one or the other list, which both begin
-pub drawn_join : (v w u : View) (a : IsDrawnView v) (b : IsDrawnView w) → ((i : ℕ) → (known u i ≡ known v i) ⊎ (known u i ≡ known w i)) → ((i : ℕ) → IsPrefix (known v i) (known u i)) → ((i : ℕ) → IsPrefix (known w i) (known u i)) → BeginsOneHistory u
+pub drawn_join : (v w u : View) (a : IsDrawnView v) (b : IsDrawnView w) → ((i : ℕ) → (known u i ≡ known v i) ⊎ (known u i ≡ known w i))
+    → ((i : ℕ) → IsPrefix (known v i) (known u i)) → ((i : ℕ) → IsPrefix (known w i) (known u i)) → BeginsOneHistory u
     → DrawnJoin a.known.past b.known.past (drawn_lines v) (drawn_lines w) (drawn_lines u)
-drawn_join v w u a b either knew heard o = drawn_lines_join (whole_kept o.whole) (drawn_lines v) (drawn_lines w) (drawn_lines u) a b (whole_numbered 0 o.whole o.numbers) (drawn_begins u o v knew) (drawn_begins u o w heard) record {
-  either = λ i. ⊎_elim (λ e. inl (ap (map of_order) e)) (λ e. inr (ap (map of_order) e)) (either i);
-  longer = record {
-    either = λ i. ⊎_elim (λ e. inl (ap (λ l. of_drawn (map of_order l)) e)) (λ e. inr (ap (λ l. of_drawn (map of_order l)) e)) (either i);
-    first = λ i. longer (known v i) (known u i) (knew i);
-    second = λ i. longer (known w i) (known u i) (heard i);
-  };
-}
+drawn_join v w u a b either knew heard o = drawn_lines_join (whole_kept o.whole) (drawn_lines v) (drawn_lines w)
+    (drawn_lines u) a b (whole_numbered 0 o.whole o.numbers) (drawn_begins u o v knew) (drawn_begins u o w heard) record {
+      either = λ i. ⊎_elim (λ e. inl (ap (map of_order) e)) (λ e. inr (ap (map of_order) e)) (either i);
+      longer = record {
+        either = λ i. ⊎_elim (λ e. inl (ap (λ l. of_drawn (map of_order l)) e)) (λ e. inr (ap (λ l. of_drawn (map of_order l)) e)) (either i);
+        first = λ i. longer (known v i) (known u i) (knew i);
+        second = λ i. longer (known w i) (known u i) (heard i);
+      };
+    }
   where
     longer : (xs ys : List KeptEntry) → IsPrefix xs ys → IsPrefix (of_drawn (map of_order xs)) (of_drawn (map of_order ys))
     longer xs ys p = subst (λ l. IsPrefix l (of_drawn (map of_order ys))) (sym (kept-drawn xs)) (subst (IsPrefix (map of_kept xs)) (sym (kept-drawn ys)) (kept_begin xs ys p))

@@ -74,7 +74,8 @@ tail-one x y a b e = ap (λ (l : List Noted). rest l) e
     rest [] = a
     rest (z ∷ l) = l
 
-pub place-one : (front front' back back' : List Noted) (y y' : Noted) → Lawful (front ++ y ∷ back) → front ++ y ∷ back ≡ front' ++ y' ∷ back' → y.entry.number ≡ y'.entry.number → (y ≡ y') × (back ≡ back')
+pub place-one : (front front' back back' : List Noted) (y y' : Noted) → Lawful (front ++ y ∷ back)
+    → front ++ y ∷ back ≡ front' ++ y' ∷ back' → y.entry.number ≡ y'.entry.number → (y ≡ y') × (back ≡ back')
 place-one [] [] back back' y y' l e q = (head-one y y' back back' e, tail-one y y' back back' e)
 place-one [] (z ∷ front') back back' y y' l e q =
     let t = tail-one y z back (front' ++ y' ∷ back') e in
@@ -93,7 +94,8 @@ turned-front (m ∷ ns) h n =
     let r = turned-front ns (n ∷ h) m in
     (r.0 ++ m ∷ [], r.1 ∙ sym (append_assoc r.0 (m ∷ []) (n ∷ h)))
 
-all-told : (past : List Noted) (xs : List Item) (h ns : List Noted) → Lawful past → past ≡ turned h ns → all_shown ns ≡ whole_kept xs → ((x : Item) → Contains xs x → IsToldIn past (of_order x.kept)) → AllTold h xs ns
+all-told : (past : List Noted) (xs : List Item) (h ns : List Noted) → Lawful past → past ≡ turned h ns
+    → all_shown ns ≡ whole_kept xs → ((x : Item) → Contains xs x → IsToldIn past (of_order x.kept)) → AllTold h xs ns
 all-told past [] h [] l e s t = tt
 all-told past [] h (n ∷ ns) l e s t = absurd (let f : 1 ≤ 0 = subst (λ z. 1 ≤ length z) s (omega arith) in omega (arith, f))
 all-told past (x ∷ xs) h [] l e s t = absurd (let f : 1 ≤ 0 = subst (λ z. 1 ≤ length z) (sym s) (omega arith) in omega (arith, f))
@@ -178,7 +180,8 @@ module _ (h : List Noted) (x : Item) (n : Noted) (l : Lawful (n ∷ h)) (item : 
     where
       none : is_peer_event n.entry.made.caller n.entry.made.op ≡ true → (b : Bool) → Comes b (end_of h) n → ⊥
       none p true c = subst (λ z. FreesObject (bare_told z) m) c.bare f
-      none p false c = (let w = subst (λ b. SideLawful b (given (end_of h) n.told) n.entry.made (bare_told n.told)) p c.comes.lawful in peer-none (end_of h).peer n.entry.made.caller n.entry.made.op n.entry.made.cites (bare_told n.told) m w.allowed f)
+      none p false c = (let w = subst (λ b. SideLawful b (given (end_of h) n.told) n.entry.made (bare_told n.told)) p c.comes.lawful in
+          peer-none (end_of h).peer n.entry.made.caller n.entry.made.op n.entry.made.cites (bare_told n.told) m w.allowed f)
 
       by : (b : Bool) → is_peer_event n.entry.made.caller n.entry.made.op ≡ b → has (drawn (end_of h) n).freed m ≡ true
       by true p = absurd (none p (is_read n.entry.made.op) l.0.comes)
@@ -191,16 +194,29 @@ module _ (h : List Noted) (x : Item) (n : Noted) (l : Lawful (n ∷ h)) (item : 
   Sets o r t c = (m : ℕ) × (mark o t ≡ Some (c, m))
 
   set-by : (t : Thread) (o : Op) (r : Reply) (told : Told) (c : ℕ) → SetsCell o c → r ≡ says.Ok → IsEvent t o
-      → Comes (is_read o) (end_of h) (record { entry = record { number = n.entry.number; made = record { caller = t; index = n.entry.made.index; op = o; reply = r; cites = n.entry.made.cites } }; told = told })
-      → Sets o r (drawn (end_of h) (record { entry = record { number = n.entry.number; made = record { caller = t; index = n.entry.made.index; op = o; reply = r; cites = n.entry.made.cites } }; told = told })).target c
+      → Comes (is_read o) (end_of h) (record {
+        entry = record { number = n.entry.number; made = record { caller = t; index = n.entry.made.index; op = o; reply = r; cites = n.entry.made.cites } };
+        told = told;
+      })
+      → Sets o r (drawn (end_of h) (record {
+        entry = record { number = n.entry.number; made = record { caller = t; index = n.entry.made.index; op = o; reply = r; cites = n.entry.made.cites } };
+        told = told;
+      })).target c
   set-by (M u) (op.Line (act.Weak k v)) r told c s ok a w = by (slot (end_of h).managed.managed.heap.vars (place u v.0)) refl
     where
       answer_by : Option ℕ → Answered Managed
-      answer_by o = elim o [ None ↦ answer says.Empty (given (end_of h) told).managed.managed | Some y ↦ cell_set (given (end_of h) told).managed.managed k.0 y (slot (end_of h).managed.managed.cells k.0) ]
+      answer_by o = elim o [
+        | None ↦ answer says.Empty (given (end_of h) told).managed.managed
+        | Some y ↦ cell_set (given (end_of h) told).managed.managed k.0 y (slot (end_of h).managed.managed.cells k.0)
+      ]
 
       by : (o : Option ℕ) → slot (end_of h).managed.managed.heap.vars (place u v.0) ≡ o → Sets (op.Line (act.Weak k v)) r (cell_target (end_of h).managed (M u) (op.Line (act.Weak k v)) r) c
       by None e = absurd (let f : says.Ok ≡ says.Empty = sym ok ∙ (w.comes.lawful.replies ∙ ap (λ o. (answer_by o).reply) e) in cc)
-      by (Some y) e = (y, ap (λ z. mark (op.Line (act.Weak k v)) (cell_target (end_of h).managed (M u) (op.Line (act.Weak k v)) z)) ok ∙ (ap (λ z. mark (op.Line (act.Weak k v)) (object_or_none z)) e ∙ ap (λ z. Some (z, y)) s))
+      by (Some y) e = (
+        y,
+        ap (λ z. mark (op.Line (act.Weak k v)) (cell_target (end_of h).managed (M u) (op.Line (act.Weak k v)) z)) ok
+            ∙ (ap (λ z. mark (op.Line (act.Weak k v)) (object_or_none z)) e ∙ ap (λ z. Some (z, y)) s),
+      )
   set-by (P u) (op.Line (act.Weak k v)) r told c s ok a w = absurd a.0.1
   set-by C (op.Line (act.Weak k v)) r told c s ok a w = absurd a.0
   set-by t (op.Line z) r told c s ok a w = absurd s
@@ -226,19 +242,22 @@ notes-are [] h (n ∷ ns) l t = absurd t
 notes-are (x ∷ xs) h [] l t = absurd t
 notes-are (x ∷ xs) h (n ∷ ns) l t = (note-is h x n (lawful-front ns (n ∷ h) l) t.0, notes-are xs (n ∷ h) ns l t.1)
 
-says-all : (before xs : List Item) (h ns : List Noted) (k : ℕ) → RunsFrom k xs → EachFits before xs → Lawful (turned h ns) → AllTold h xs ns → SaysState (of_line 0 before) h → SaysState (of_line 0 (before ++ xs)) (turned h ns)
+says-all : (before xs : List Item) (h ns : List Noted) (k : ℕ) → RunsFrom k xs → EachFits before xs → Lawful (turned h ns)
+    → AllTold h xs ns → SaysState (of_line 0 before) h → SaysState (of_line 0 (before ++ xs)) (turned h ns)
 says-all before [] h [] k runs fits l t w = subst (λ z. SaysState (of_line 0 z) h) (sym (append-nil before)) w
 says-all before [] h (n ∷ ns) k runs fits l t w = absurd t
 says-all before (x ∷ xs) h [] k runs fits l t w = absurd t
 says-all before (x ∷ xs) h (n ∷ ns) k runs fits l t w =
     subst (λ z. SaysState (of_line 0 z) (turned (n ∷ h) ns)) (append_assoc before (x ∷ []) xs)
-    (says-all (before ++ x ∷ []) xs (n ∷ h) ns (k + 1) runs.1 fits.1 l t.1 (says-more before x h n (lawful-front ns (n ∷ h) l) w (role_told x.role x.kept.entry.made runs.0.stands) t.0.entry t.0.drawn_so fits.0.others))
+    (says-all (before ++ x ∷ []) xs (n ∷ h) ns (k + 1) runs.1 fits.1 l t.1
+    (says-more before x h n (lawful-front ns (n ∷ h) l) w (role_told x.role x.kept.entry.made runs.0.stands) t.0.entry t.0.drawn_so fits.0.others))
 
 -- each item stands in the line of its role
 item-in : (xs : List Item) (x : Item) → Contains xs x → Contains (of_line x.role xs) x.kept
 item-in [] x c = absurd (Contains-nil x c)
 item-in (y ∷ xs) x c = ⊎_elim
-    (λ (e : y ≡ x). subst (λ ks. Contains ks x.kept) (sym (ap (λ b. if b then y.kept ∷ of_line x.role xs else of_line x.role xs) (role_in x.role y (ap (λ (z : Item). z.role) (sym e))))) (subst (λ (z : Item). Contains (z.kept ∷ of_line x.role xs) x.kept) (sym e) (Contains-here x.kept (of_line x.role xs))))
+    (λ (e : y ≡ x). subst (λ ks. Contains ks x.kept) (sym (ap (λ b. if b then y.kept ∷ of_line x.role xs else of_line x.role xs) (role_in x.role y (ap (λ (z : Item). z.role) (sym e)))))
+    (subst (λ (z : Item). Contains (z.kept ∷ of_line x.role xs) x.kept) (sym e) (Contains-here x.kept (of_line x.role xs))))
     (λ (d : Contains xs x). more (rule.is_in x.role y) (item-in xs x d))
     (Contains-cons_cases y xs x c)
   where
@@ -294,14 +313,16 @@ entries-kept (x ∷ xs) = ap (λ l. x.kept.entry ∷ l) (entries-kept xs)
 -- so all lines of a view are whole
 lines-whole : (v : View) (a : IsDrawnView v) (w : AreLinesOfOneHistory v.known) → AreWhole (whole_kept w.whole) (λ i. of_drawn (drawn_lines v i))
 lines-whole v a w i = ⊎_elim
-    (λ (l : 26 < i). a.known.same i ∙ (ap all_shown (far-past i a.known.past a.known.lawful (omega (arith, l))) ∙ (sym (ap (map of_kept) (far-items i 0 w.whole w.numbers (omega (arith, l)))) ∙ line_kept i 0 w.whole w.numbers)))
+    (λ (l : 26 < i). a.known.same i ∙ (ap all_shown (far-past i a.known.past a.known.lawful (omega (arith, l)))
+    ∙ (sym (ap (map of_kept) (far-items i 0 w.whole w.numbers (omega (arith, l)))) ∙ line_kept i 0 w.whole w.numbers)))
     (λ (l : i ≤ 26). kept-drawn (known v i) ∙ (ap (map of_kept) (w.each i (omega (arith, l))) ∙ line_kept i 0 w.whole w.numbers))
     (cases_lt 26 i)
 
 -- and the line of a thread has just its entries
 pub own_lines_are_made_by_callers : OwnLinesAreMadeByCallers
 own_lines_are_made_by_callers v a w t is =
-    let made = own_line_is_made_by_caller (whole_kept w.whole) (λ i. of_drawn (drawn_lines v i)) a.known (whole_numbered 0 w.whole w.numbers) (lines-whole v a w) t is (lines-whole v a w (caller_line t)) in
+    let made = own_line_is_made_by_caller (whole_kept w.whole) (λ i. of_drawn (drawn_lines v i)) a.known
+    (whole_numbered 0 w.whole w.numbers) (lines-whole v a w) t is (lines-whole v a w (caller_line t)) in
     sym (ap entries_kept (kept-drawn (known v (caller_line t))) ∙ entries-of (known v (caller_line t))) ∙ (made ∙ ap (made_by t) (entries-kept w.whole))
   where
     entries-of : (ks : List KeptEntry) → entries_kept (map of_kept ks) ≡ line_entries ks

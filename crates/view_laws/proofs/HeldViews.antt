@@ -1,6 +1,7 @@
 -- What a pin's word tells the owner of the managed list says the same of its past: so pins that hold such objects
 -- stand.
-use Rattle.std.proofs.Common.{◌≡◌, inl, inr, ⊎_elim, ℕ, zero, suc, ◌+◌, ◌<◌, ◌≤◌, Bool, true, false, List, [], ◌∷◌, ◌++◌, length, map, Option, Some, None, refl, sym, ap, ◌∙◌, subst, arith, true≢false, append_assoc}
+use Rattle.std.proofs.Common.{◌≡◌, inl, inr, ⊎_elim, ℕ, zero, suc, ◌+◌, ◌<◌, ◌≤◌, Bool, true, false, List, [], ◌∷◌, ◌++◌, length, map, Option, Some, None, refl, sym, ap, ◌∙◌, subst, arith, true≢false}
+use Rattle.std.proofs.Common.{append_assoc}
 use Rattle.std.specs.Prelude.{if◌then◌else◌, nat_eq, nat_lt, Contains}
 use Rattle.std.specs.List.{list_any}
 use Rattle.std.proofs.lemmas.Bool.{cases_Bool, cases_lt, ltb-true, ltb-false}
@@ -174,7 +175,8 @@ module _ (known : List Noted) (lawful : Lawful known) where
           let w = again ks (sym (ap (λ b. all_shown (if b then line 0 h ++ n ∷ [] else line 0 h)) b) ∙ s) t in
           let x = item_of h n in
           let o = other-draws h n l z in
-          let m = says-more (as_items ks) x h n l (subst (λ z. SaysState z h) (sym (items-line ks)) w) refl refl (λ i. record { entry = drawn-entry (end_of h) n i; target = (drawn (end_of h) n).target; freed = (drawn (end_of h) n).freed }) (λ q. o) in
+          let m = says-more (as_items ks) x h n l (subst (λ z. SaysState z h) (sym (items-line ks)) w) refl refl
+          (λ i. record { entry = drawn-entry (end_of h) n i; target = (drawn (end_of h) n).target; freed = (drawn (end_of h) n).freed }) (λ q. o) in
           subst (λ z. SaysState z (n ∷ h)) (line-out (as_items ks) x z ∙ items-line ks) m
 
 -- members of lists and of pasts
@@ -248,11 +250,14 @@ those-same n (x ∷ h) ks l s = by (nat_lt x.entry.number n) refl (λ ls t. thos
         again r.front r.same ∙ sym (ap (λ z. map of_kept (rule.those_below n z)) r.all ∙ ap (map of_kept) (those_more n r.front r.last high))
     skip f again false b = again ks (sym (ap (λ b. all_shown (if b then line 0 h ++ x ∷ [] else line 0 h)) b) ∙ s)
 
-    by : (b : Bool) → nat_lt x.entry.number n ≡ b → ((ls : List KeptEntry) → all_shown (line 0 h) ≡ map of_kept ls → Same ls) → all_shown (line 0 (if b then x ∷ h else past.those_below n h)) ≡ map of_kept (rule.those_below n ks)
-    by true t again = s ∙ sym (ap (map of_kept) (those_all n ks (each-below n ks (λ k c. (let w = listed (x ∷ h) ks s k c in subst (λ (e : Entry). e.number < n) (ap (λ (z : Kept). z.entry) w.2) (less t w.0 w.1))))))
+    by : (b : Bool) → nat_lt x.entry.number n ≡ b → ((ls : List KeptEntry) → all_shown (line 0 h) ≡ map of_kept ls → Same ls)
+        → all_shown (line 0 (if b then x ∷ h else past.those_below n h)) ≡ map of_kept (rule.those_below n ks)
+    by true t again = s ∙ sym (ap (map of_kept) (those_all n ks
+        (each-below n ks (λ k c. (let w = listed (x ∷ h) ks s k c in subst (λ (e : Entry). e.number < n) (ap (λ (z : Kept). z.entry) w.2) (less t w.0 w.1))))))
     by false f again = skip f again (is_in 0 x) refl
 
-module _ (known : List Noted) (lawful : Lawful known) (ks : List KeptEntry) (s : all_shown (line 0 known) ≡ map of_kept ks) (t : (k : KeptEntry) → Contains ks k → IsToldIn known (of_order k)) (r m : ℕ) (pos : 0 < r) (low : r < 9) (held : rule.IsHeld ks r m) where
+module _ (known : List Noted) (lawful : Lawful known) (ks : List KeptEntry) (s : all_shown (line 0 known) ≡ map of_kept ks)
+    (t : (k : KeptEntry) → Contains ks k → IsToldIn known (of_order k)) (r m : ℕ) (pos : 0 < r) (low : r < 9) (held : rule.IsHeld ks r m) where
   w : SaysState ks known
   w = says-line known lawful [] known ks refl lawful s t
 
@@ -268,14 +273,16 @@ module _ (known : List Noted) (lawful : Lawful known) (ks : List KeptEntry) (s :
 
       by : (p : Bool) → is_peer_event x.entry.made.caller x.entry.made.op ≡ p → (b : Bool) → is_read x.entry.made.op ≡ b → Comes b (end_of at_x.1) x → role_of x ≡ 0
       by p q true e c = absurd (subst (λ z. FreesObject (bare_told z) m) c.bare f)
-      by true q false e c = absurd (let v = subst (λ b. SideLawful b (given (end_of at_x.1) x.told) x.entry.made (bare_told x.told)) q c.comes.lawful in peer-none (end_of at_x.1).peer x.entry.made.caller x.entry.made.op x.entry.made.cites (bare_told x.told) m v.allowed f)
+      by true q false e c = absurd (let v = subst (λ b. SideLawful b (given (end_of at_x.1) x.told) x.entry.made (bare_told x.told)) q c.comes.lawful in
+          peer-none (end_of at_x.1).peer x.entry.made.caller x.entry.made.op x.entry.made.cites (bare_told x.told) m v.allowed f)
       by false q false e c = λ i. if q i then 1 else (if e i then reader_line x.entry.made.caller else 0)
 
   freer-has : (x : Noted) → InPast known x → FreesObject (bare_told x.told) m → (k : KeptEntry) → Contains ks k → of_kept k ≡ shown x → has k.freed m ≡ true
   freer-has x p f k c one =
       let at_x = suffix-at known x p in
       let told = t k c in
-      let number : told.entry.entry.number ≡ x.entry.number = ap (λ (z : Entry). z.number) (sym (drawn-entry (end_of told.back) told.entry) ∙ (sym (ap (λ d. d.entry) told.same) ∙ ap (λ (z : Kept). z.entry) one)) in
+      let number : told.entry.entry.number ≡ x.entry.number = ap (λ (z : Entry). z.number)
+      (sym (drawn-entry (end_of told.back) told.entry) ∙ (sym (ap (λ d. d.entry) told.same) ∙ ap (λ (z : Kept). z.entry) one)) in
       let place = place-one told.front at_x.0 told.back at_x.1 told.entry x (subst Lawful told.all lawful) (sym told.all ∙ at_x.2) number in
       let freed : k.freed ≡ (drawn (end_of at_x.1) x).freed = ap (λ (d : Drawn). d.freed) told.same ∙ (λ i. (drawn (end_of (place.1 i)) (place.0 i)).freed) in
       subst (λ z. has z m ≡ true) (sym freed) (own at_x.1 (is_peer_event x.entry.made.caller x.entry.made.op) refl)
@@ -297,11 +304,13 @@ module _ (known : List Noted) (lawful : Lawful known) (ks : List KeptEntry) (s :
       part = those-suffix held.from known
 
       w' : SaysState (rule.those_below held.from ks) h'
-      w' = says-line known lawful part.0 h' (rule.those_below held.from ks) part.1 (lawful-back part.0 h' (subst Lawful part.1 lawful)) (those-same held.from known ks lawful s) (λ k c. t k (those-in held.from ks k c))
+      w' = says-line known lawful part.0 h' (rule.those_below held.from ks) part.1 (lawful-back part.0 h' (subst Lawful part.1 lawful))
+          (those-same held.from known ks lawful s) (λ k c. t k (those-in held.from ks k c))
 
       by : (o : Option OpenCycle) → (end_of h').managed.managed.cycle ≡ o → (end_of h').managed.managed.cycle ≡ None
       by None e = e
-      by (Some y) e = absurd (let q = w'.opened y.number (sym (cycles_are_drawn h' (lawful-back part.0 h' (subst Lawful part.1 lawful))) ∙ ap open_number e) in let z = held.closed.1 in omega (arith, q, z))
+      by (Some y) e = absurd (let q = w'.opened y.number (sym (cycles_are_drawn h' (lawful-back part.0 h' (subst Lawful part.1 lawful))) ∙ ap open_number e) in
+          let z = held.closed.1 in omega (arith, q, z))
 
   pub held_view : past.IsHeld known r m
   held_view = record {
@@ -376,7 +385,8 @@ views_say_states v a = record {
 
 pub targets_agree : TargetsAgree
 targets_agree v a c m aims = (
-  (λ l. ⊎_elim (λ (e : is_freed (known_by v 0) m ≡ true). absurd (l.kept (Contains-from_any (λ x y. same-number x y) m (end_of h).managed.managed.heap.freed (sym (st.freed m) ∙ e)))) (λ (e : is_freed (known_by v 0) m ≡ false). e) (cases_Bool (is_freed (known_by v 0) m))),
+  (λ l. ⊎_elim (λ (e : is_freed (known_by v 0) m ≡ true). absurd (l.kept (Contains-from_any (λ x y. same-number x y) m (end_of h).managed.managed.heap.freed (sym (st.freed m) ∙ e))))
+      (λ (e : is_freed (known_by v 0) m ≡ false). e) (cases_Bool (is_freed (known_by v 0) m))),
   (λ e. record {
     made = (kept_end h a.known.lawful).managed.managed.cells m (slot-Contains (end_of h).managed.managed.cells c m (sym (st.cells c) ∙ aims));
     kept = λ d. true≢false (sym (list_any-from_Contains nat_eq_equiv m (end_of h).managed.managed.heap.freed d) ∙ (sym (st.freed m) ∙ e));

@@ -37,7 +37,8 @@ pub first_is_known : FirstIsKnown
 first_is_known = nothing_is_known
 
 -- a line after an entry: longer by it where it stands there, else as before
-pub grown_by : (v w : View) (r : ℕ) (k : KeptEntry) → GrowsByEntry v w r k → IsInRole r k.entry.made → (i : ℕ) {X : Type 0} (xs ys : X) (P : X → Type 0) → (known w i ≡ known v i ++ k ∷ [] → P xs) → (known w i ≡ known v i → P ys) → P (if stands_in i k.entry then xs else ys)
+pub grown_by : (v w : View) (r : ℕ) (k : KeptEntry) → GrowsByEntry v w r k → IsInRole r k.entry.made → (i : ℕ) {X : Type 0} (xs ys : X) (P : X → Type 0)
+    → (known w i ≡ known v i ++ k ∷ [] → P xs) → (known w i ≡ known v i → P ys) → P (if stands_in i k.entry then xs else ys)
 grown_by v w r k g s i xs ys P here there =
     let x : Item = record { role = side_line k.entry; kept = k } in
     let e : r ≡ side_line k.entry = role_told r k.entry.made s in
@@ -47,7 +48,8 @@ grown_by v w r k g s i xs ys P here there =
     (λ (q : i ≡ side_line k.entry). subst (λ j. known w j ≡ known v j ++ k ∷ []) (sym q) role_line)
     (λ (q : i ≡ caller_line k.entry.made.caller). subst (λ j. known w j ≡ known v j ++ k ∷ []) (sym q) g.caller)
     (in_cases i x t))))
-    (λ (f : stands_in i k.entry ≡ false). subst (λ b. P (if b then xs else ys)) (sym f) (there (g.others i (λ q. both_ways (stands_in i k.entry) f (role_in i x (q ∙ e))) (λ q. both_ways (stands_in i k.entry) f (caller_in i x q)))))
+    (λ (f : stands_in i k.entry ≡ false). subst (λ b. P (if b then xs else ys)) (sym f)
+    (there (g.others i (λ q. both_ways (stands_in i k.entry) f (role_in i x (q ∙ e))) (λ q. both_ways (stands_in i k.entry) f (caller_in i x q)))))
     (cases_Bool (stands_in i k.entry))
 
 pub grown_view : (v w : View) (r : ℕ) (k : KeptEntry) → GrowsByEntry v w r k → IsInRole r k.entry.made → (i : ℕ) → lines_of w i ≡ grown (lines_of v) (of_kept k) i
@@ -75,7 +77,8 @@ pub line_kept : (i n : ℕ) (xs : List Item) → RunsFrom n xs → map of_kept (
 line_kept i n [] r = refl
 line_kept i n (x ∷ xs) r =
     either_way (is_in i x) (line_kept i (n + 1) xs r.1)
-    ∙ ap (λ b. if b then of_kept x.kept ∷ kept_in i (whole_kept xs) else kept_in i (whole_kept xs)) (ap (λ q. (i == q) || (i == caller_line x.kept.entry.made.caller)) (role_told x.role x.kept.entry.made r.0.stands))
+    ∙ ap (λ b. if b then of_kept x.kept ∷ kept_in i (whole_kept xs) else kept_in i (whole_kept xs))
+    (ap (λ q. (i == q) || (i == caller_line x.kept.entry.made.caller)) (role_told x.role x.kept.entry.made r.0.stands))
   where
     either_way : (b : Bool) → map of_kept (of_line i xs) ≡ kept_in i (whole_kept xs)
         → map of_kept (if b then x.kept ∷ of_line i xs else of_line i xs) ≡ (if b then of_kept x.kept ∷ kept_in i (whole_kept xs) else kept_in i (whole_kept xs))

@@ -71,7 +71,8 @@ first-at : (before xs : List Item) → first_of (length before) (before ++ xs) �
 first-at [] xs = refl
 first-at (y ∷ before) xs = ap (λ l. y ∷ l) (first-at before xs)
 
-module _ (before : List Item) (x : Item) (h : List Noted) (n : Noted) (l : Lawful (n ∷ h)) (w : SaysState (of_line 0 before) h) (item : TellsItem h x n) (fits : Fits before x) (role : x.role ≡ list_line n.entry.made.caller n.entry.made.op) where
+module _ (before : List Item) (x : Item) (h : List Noted) (n : Noted) (l : Lawful (n ∷ h)) (w : SaysState (of_line 0 before) h)
+    (item : TellsItem h x n) (fits : Fits before x) (role : x.role ≡ list_line n.entry.made.caller n.entry.made.op) where
   -- what an entry's pins are
   kept-by : (t : Thread) (o : Op) → x.kept.entry.made.caller ≡ t → x.kept.entry.made.op ≡ o → IsEvent t o → x.role ≡ list_line t o → ArePinsOf (said before) t o n.told
   kept-by t (op.Snap k) e f v r = sym item.pins ∙ row-ext (λ i. object_of (at 0 x.kept.pins i)) (λ i. object_of (word_at before i)) (λ i p q. ap object_of (fits.snapped r k f i p q))
@@ -101,7 +102,8 @@ module _ (before : List Item) (x : Item) (h : List Noted) (n : Noted) (l : Lawfu
   kept = kept-by n.entry.made.caller n.entry.made.op caller-is op-is event-is role
 
   -- what a take answers
-  take-by : (t : Thread) (o : Op) (told : Told) → IsEvent t o → Comes (is_read o) (end_of h) (record { entry = record { number = n.entry.number; made = record { caller = t; index = n.entry.made.index; op = o; reply = n.entry.made.reply; cites = n.entry.made.cites } }; told = told })
+  take-by : (t : Thread) (o : Op) (told : Told) → IsEvent t o → Comes (is_read o) (end_of h)
+      (record { entry = record { number = n.entry.number; made = record { caller = t; index = n.entry.made.index; op = o; reply = n.entry.made.reply; cites = n.entry.made.cites } }; told = told })
       → ArePinsOf (said before) t o told → TakeAnswers (said before) t o n.entry.made.reply
   take-by (M m) (op.Line (act.Take v)) told a c k = (
     λ e. c.comes.lawful.replies ∙ ap (λ o. (taken_by (given (end_of h) told).managed.managed m (place m v.0) o).reply) (k ∙ e),
@@ -140,8 +142,10 @@ module _ (before : List Item) (x : Item) (h : List Noted) (n : Noted) (l : Lawfu
       by t (op.Line z) e a r = absurd (true≢false (sym e))
       by t o e a r = absurd (true≢false (sym e))
 
-module _ (whole : List Item) (right : RepliesAreRight whole) (notes : List Noted) (are : AreNotes whole notes) (cells : List (Option ℕ)) (ends : (c : ℕ) → slot cells c ≡ target (of_line 0 whole) c) where
-  along : (before xs : List Item) (h ns : List Noted) → whole ≡ before ++ xs → RunsFrom (length before) xs → EachFits before xs → Lawful (turned h ns) → AllTold h xs ns → SaysState (of_line 0 before) h → AllOrdered notes cells (end_of h) (said before) ns
+module _ (whole : List Item) (right : RepliesAreRight whole) (notes : List Noted) (are : AreNotes whole notes)
+    (cells : List (Option ℕ)) (ends : (c : ℕ) → slot cells c ≡ target (of_line 0 whole) c) where
+  along : (before xs : List Item) (h ns : List Noted) → whole ≡ before ++ xs → RunsFrom (length before) xs → EachFits before xs
+      → Lawful (turned h ns) → AllTold h xs ns → SaysState (of_line 0 before) h → AllOrdered notes cells (end_of h) (said before) ns
   along before [] h [] same runs fits l told w = tt
   along before [] h (n ∷ ns) same runs fits l told w = absurd told
   along before (x ∷ xs) h [] same runs fits l told w = absurd told
@@ -151,7 +155,8 @@ module _ (whole : List Item) (right : RepliesAreRight whole) (notes : List Noted
       let stands = runs.0.stands in
       let role : x.role ≡ list_line n.entry.made.caller n.entry.made.op = role_told x.role x.kept.entry.made stands ∙ ap (λ (e : Entry). list_line e.made.caller e.made.op) (sym item.entry) in
       let event' : IsEvent x.kept.entry.made.caller x.kept.entry.made.op = subst (λ (e : Entry). IsEvent e.made.caller e.made.op) item.entry (event-is before x h n here w item fits.0 role) in
-      let takes' : TakeAnswers (said before) x.kept.entry.made.caller x.kept.entry.made.op x.kept.entry.made.reply = subst (λ (e : Entry). TakeAnswers (said before) e.made.caller e.made.op e.made.reply) item.entry (takes before x h n here w item fits.0 role) in
+      let takes' : TakeAnswers (said before) x.kept.entry.made.caller x.kept.entry.made.op x.kept.entry.made.reply = subst
+      (λ (e : Entry). TakeAnswers (said before) e.made.caller e.made.op e.made.reply) item.entry (takes before x h n here w item fits.0 role) in
       let next : pins_by (said before) n.entry.made.caller n.entry.made.op n.entry.made.reply ≡ said (before ++ x ∷ []) =
       ap (λ (e : Entry). pins_by (said before) e.made.caller e.made.op e.made.reply) item.entry ∙ said-more before x stands runs.0.caller event' takes' in
       let rest = along (before ++ x ∷ []) xs (n ∷ h) ns (same ∙ sym (append_assoc before (x ∷ []) xs)) (subst (λ k. RunsFrom k xs) (one-more before x) runs.1) fits.1 l told.1
@@ -172,12 +177,14 @@ module _ (whole : List Item) (right : RepliesAreRight whole) (notes : List Noted
       reply-of two state item k reads =
           let there : get_elem? whole (length before) ≡ some x = ap (λ z. get_elem? z (length before)) same ∙ get-at before xs x in
           let front : first_of (length before) whole ≡ before = ap (first_of (length before)) same ∙ first-at before (x ∷ xs) in
-          let answer = right notes cells are ends (length before) x there two (pinned (end_of h) (said before)).managed.managed (subst (λ z. IsStateOf z (pinned (end_of h) (said before)).managed.managed) (sym front) state) k
+          let answer = right notes cells are ends (length before) x there two (pinned (end_of h) (said before)).managed.managed
+          (subst (λ z. IsStateOf z (pinned (end_of h) (said before)).managed.managed) (sym front) state) k
           (subst (λ (e : Entry). ReadsCell e.made.op k) item.entry reads) in
           subst (λ (e : Entry). IsReadReply notes cells (pinned (end_of h) (said before)).managed.managed e.number e.made.caller k e.made.reply) (sym item.entry)
           (subst (λ i. IsReadReply notes cells (pinned (end_of h) (said before)).managed.managed i x.kept.entry.made.caller k x.kept.entry.made.reply) (sym runs.0.number) answer)
 
 -- the whole
-pub all_ordered : (whole : List Item) → RepliesAreRight whole → RunsFrom 0 whole → EachFits [] whole → (notes : List Noted) → AreNotes whole notes → (cells : List (Option ℕ)) → ((c : ℕ) → slot cells c ≡ target (of_line 0 whole) c)
+pub all_ordered : (whole : List Item) → RepliesAreRight whole → RunsFrom 0 whole → EachFits [] whole → (notes : List Noted)
+    → AreNotes whole notes → (cells : List (Option ℕ)) → ((c : ℕ) → slot cells c ≡ target (of_line 0 whole) c)
     → (ns : List Noted) → Lawful (turned [] ns) → AllTold [] whole ns → SaysState [] [] → AllOrdered notes cells opening_linkage (said []) ns
 all_ordered whole right runs fits notes are cells ends ns l told first = along whole right notes are cells ends [] whole [] ns refl runs fits l told first

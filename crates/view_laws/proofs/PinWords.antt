@@ -25,7 +25,8 @@ use Rattle.view_laws.specs.Knowing.{row}
 
 -- rows
 pub row-ext : (f g : ℕ → Option ℕ) → ((r : ℕ) → 0 < r → r < 9 → f r ≡ g r) → row f ≡ row g
-row-ext f g e = λ i. None ∷ e 1 (omega arith) (omega arith) i ∷ e 2 (omega arith) (omega arith) i ∷ e 3 (omega arith) (omega arith) i ∷ e 4 (omega arith) (omega arith) i ∷ e 5 (omega arith) (omega arith) i ∷ e 6 (omega arith) (omega arith) i ∷ e 7 (omega arith) (omega arith) i ∷ e 8 (omega arith) (omega arith) i ∷ []
+row-ext f g e = λ i. None ∷ e 1 (omega arith) (omega arith) i ∷ e 2 (omega arith) (omega arith) i ∷ e 3 (omega arith) (omega arith) i ∷ e 4 (omega arith)
+    (omega arith) i ∷ e 5 (omega arith) (omega arith) i ∷ e 6 (omega arith) (omega arith) i ∷ e 7 (omega arith) (omega arith) i ∷ e 8 (omega arith) (omega arith) i ∷ []
 
 pub row-slot : (f : ℕ → Option ℕ) (n : ℕ) → 0 < n → n < 9 → slot (row f) n ≡ f n
 row-slot f zero a b = absurd (omega (arith, a))
@@ -69,17 +70,21 @@ other-number a b n = ⊎_elim (λ (e : nat_eq a b ≡ true). absurd (n (same-num
 
 -- an item more
 word-more : (before : List Item) (x : Item) → IsInRole x.role x.kept.entry.made → (r : ℕ) → 0 < r
-    → word_at (before ++ x ∷ []) r ≡ (if nat_eq r (caller_place x.kept.entry.made.caller) then pin_after (word_at before r) (pin_deed x.kept.entry.made.caller x.kept.entry.made.op x.kept.entry.made.reply) else word_at before r)
+    → word_at (before ++ x ∷ []) r ≡ (if nat_eq r (caller_place x.kept.entry.made.caller) then pin_after (word_at before r)
+    (pin_deed x.kept.entry.made.caller x.kept.entry.made.op x.kept.entry.made.reply) else word_at before r)
 word-more before x s r pos = ⊎_elim
     (λ (e : is_in (r + 10) x ≡ true). (
     let same : nat_eq r (caller_place x.kept.entry.made.caller) ≡ true = ⊎_elim
     (λ (q : r + 10 ≡ x.role). absurd (let l = s.one in omega (arith, l, q)))
     (λ (q : r + 10 ≡ caller_line x.kept.entry.made.caller). is-same r (caller_place x.kept.entry.made.caller) (omega (arith, q)))
     (in_cases (r + 10) x e) in
-    ap pin (of_line_in (r + 10) before x e) ∙ (pin_more (of_line (r + 10) before) x.kept ∙ sym (ap (λ b. if b then pin_after (word_at before r) (pin_deed x.kept.entry.made.caller x.kept.entry.made.op x.kept.entry.made.reply) else word_at before r) same))))
+    ap pin (of_line_in (r + 10) before x e) ∙ (pin_more (of_line (r + 10) before) x.kept
+    ∙ sym (ap (λ b. if b then pin_after (word_at before r) (pin_deed x.kept.entry.made.caller x.kept.entry.made.op x.kept.entry.made.reply) else word_at before r) same))))
     (λ (e : is_in (r + 10) x ≡ false). (
-    let other : nat_eq r (caller_place x.kept.entry.made.caller) ≡ false = other-number r (caller_place x.kept.entry.made.caller) (λ q. both_ways (is_in (r + 10) x) e (caller_in (r + 10) x (ap (λ z. z + 10) q))) in
-    ap pin (of_line_out (r + 10) before x e) ∙ sym (ap (λ b. if b then pin_after (word_at before r) (pin_deed x.kept.entry.made.caller x.kept.entry.made.op x.kept.entry.made.reply) else word_at before r) other)))
+    let other : nat_eq r (caller_place x.kept.entry.made.caller) ≡ false = other-number r
+    (caller_place x.kept.entry.made.caller) (λ q. both_ways (is_in (r + 10) x) e (caller_in (r + 10) x (ap (λ z. z + 10) q))) in
+    ap pin (of_line_out (r + 10) before x e) ∙ sym (ap (λ b. if b then pin_after (word_at before r)
+    (pin_deed x.kept.entry.made.caller x.kept.entry.made.op x.kept.entry.made.reply) else word_at before r) other)))
     (cases_Bool (is_in (r + 10) x))
   where
     is-same : (a b : ℕ) → a ≡ b → nat_eq a b ≡ true
@@ -131,7 +136,8 @@ module _ (f : ℕ → ℕ) where
   step : (t : Thread) (o : Op) (y : Reply) → IsThread t → IsEvent t o → TakeAnswers pins t o y → pins_by pins t o y ≡ after t o y
   step (M n) (op.Line (act.Read c)) (says.M m) w e k = sets n (m.0 + 1) (Some m.0) (omega (arith, w.0)) (omega (arith, w.1)) (object-more m.0)
   step (M n) (op.Line (act.Await c)) (says.M m) w e k = sets n (m.0 + 1) (Some m.0) (omega (arith, w.0)) (omega (arith, w.1)) (object-more m.0)
-  step (M n) (op.Line (act.Take v)) y w e k = taking n (op.Line (act.Take v)) y (omega (arith, w.0)) (omega (arith, w.1)) (slot pins n) refl k.0 k.1 (λ z. pins_by pins (M n) (op.Line (act.Take v)) z) refl (λ m. refl)
+  step (M n) (op.Line (act.Take v)) y w e k = taking n (op.Line (act.Take v)) y (omega (arith, w.0))
+      (omega (arith, w.1)) (slot pins n) refl k.0 k.1 (λ z. pins_by pins (M n) (op.Line (act.Take v)) z) refl (λ m. refl)
   step (M n) (op.Line (act.Read c)) y w e k = leaves n
   step (M n) (op.Line (act.Await c)) y w e k = leaves n
   step (M n) o y w e k = leaves n
@@ -150,4 +156,6 @@ pub said-more : (before : List Item) (x : Item) → IsInRole x.role x.kept.entry
     → pins_by (said before) x.kept.entry.made.caller x.kept.entry.made.op x.kept.entry.made.reply ≡ said (before ++ x ∷ [])
 said-more before x s w e k =
     step (word_at before) x.kept.entry.made.caller x.kept.entry.made.op x.kept.entry.made.reply w e k
-    ∙ row-ext (λ r. object_of (if nat_eq r (caller_place x.kept.entry.made.caller) then pin_after (word_at before r) (pin_deed x.kept.entry.made.caller x.kept.entry.made.op x.kept.entry.made.reply) else word_at before r)) (λ r. object_of (word_at (before ++ x ∷ []) r)) (λ r p q. ap object_of (sym (word-more before x s r p)))
+    ∙ row-ext (λ r. object_of (if nat_eq r (caller_place x.kept.entry.made.caller) then pin_after (word_at before r)
+    (pin_deed x.kept.entry.made.caller x.kept.entry.made.op x.kept.entry.made.reply) else word_at before r))
+    (λ r. object_of (word_at (before ++ x ∷ []) r)) (λ r p q. ap object_of (sym (word-more before x s r p)))

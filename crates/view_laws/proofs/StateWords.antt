@@ -82,7 +82,8 @@ any-append : (m : ℕ) (xs ys : List ℕ) → list_any (nat_eq m) (xs ++ ys) ≡
 any-append m [] ys = refl
 any-append m (x ∷ xs) ys = by (nat_eq m x) (any-append m xs ys)
   where
-    by : (b : Bool) → list_any (nat_eq m) (xs ++ ys) ≡ (list_any (nat_eq m) xs || list_any (nat_eq m) ys) → (b || list_any (nat_eq m) (xs ++ ys)) ≡ ((b || list_any (nat_eq m) xs) || list_any (nat_eq m) ys)
+    by : (b : Bool) → list_any (nat_eq m) (xs ++ ys) ≡ (list_any (nat_eq m) xs || list_any (nat_eq m) ys)
+        → (b || list_any (nat_eq m) (xs ++ ys)) ≡ ((b || list_any (nat_eq m) xs) || list_any (nat_eq m) ys)
     by true e = refl
     by false e = e
 
@@ -100,7 +101,8 @@ cycles-more x h l = by (is_read x.entry.made.op) refl l.0.comes
     by : (r : Bool) → is_read x.entry.made.op ≡ r → Comes r s x → s.managed.managed.cycles ≤ (end_of (x ∷ h)).managed.managed.cycles
     by true e c = subst (λ (z : ManagedReplay). s.managed.managed.cycles ≤ z.managed.cycles) (sym (reads_leave s.managed x e)) (omega arith)
     by false e c = subst (λ (z : Linkage). s.managed.managed.cycles ≤ z.managed.managed.cycles) (sym (side_after s x e).same)
-        (cycles-grow (given s x.told).managed.managed (linkage_after (given s x.told) (without_pins x)).managed.managed (ManagedStep-entry (given s x.told) (without_pins x) c.comes (kept_pinned s _ c.stand (kept_end h l.1)).managed))
+        (cycles-grow (given s x.told).managed.managed (linkage_after (given s x.told) (without_pins x)).managed.managed
+        (ManagedStep-entry (given s x.told) (without_pins x) c.comes (kept_pinned s _ c.stand (kept_end h l.1)).managed))
 
 -- an entry after which no cycle is open counts no cycle
 step-shut : (s t : Managed) → ManagedStep s t → t.cycle ≡ None → t.cycles ≡ s.cycles
@@ -129,21 +131,27 @@ cycles-shut x h l o = by (is_read x.entry.made.op) refl l.0.comes
         ap (λ (z : Linkage). z.managed.managed.cycles) same ∙ step-shut (given s x.told).managed.managed (linkage_after (given s x.told) (without_pins x)).managed.managed
         (ManagedStep-entry (given s x.told) (without_pins x) c.comes (kept_pinned s _ c.stand (kept_end h l.1)).managed) (sym (ap (λ (z : Linkage). z.managed.managed.cycle) same) ∙ shut)
 
-ends-number : (x : Noted) (h : List Noted) (k : Cycle) → Lawful (x ∷ h) → (x.entry.made.op ≡ op.Resolve k) ⊎ (x.entry.made.op ≡ op.Abandon k) → (c : OpenCycle) × ((end_of h).managed.managed.cycle ≡ Some c) × (c.number ≡ k.0)
+ends-number : (x : Noted) (h : List Noted) (k : Cycle) → Lawful (x ∷ h) → (x.entry.made.op ≡ op.Resolve k)
+    ⊎ (x.entry.made.op ≡ op.Abandon k) → (c : OpenCycle) × ((end_of h).managed.managed.cycle ≡ Some c) × (c.number ≡ k.0)
 ends-number x h k l w = by x.entry.made.caller x.entry.made.op (bare_told x.told) w l.0.comes
   where
     Found : Type 0
     Found = (c : OpenCycle) × ((end_of h).managed.managed.cycle ≡ Some c) × (c.number ≡ k.0)
 
-    here : (t : Thread) (o : Op) (told : Told) → (o ≡ op.Resolve k) ⊎ (o ≡ op.Abandon k) → SideLawful (is_peer_event t o) (given (end_of h) x.told) (record { caller = t; index = x.entry.made.index; op = o; reply = x.entry.made.reply; cites = x.entry.made.cites }) told → Found
-    here t o told (inl e) v = resolve told (subst (λ z. SideLawful (is_peer_event t z) (given (end_of h) x.told) (record { caller = t; index = x.entry.made.index; op = z; reply = x.entry.made.reply; cites = x.entry.made.cites }) told) e v)
+    here : (t : Thread) (o : Op) (told : Told) → (o ≡ op.Resolve k) ⊎ (o ≡ op.Abandon k)
+        → SideLawful (is_peer_event t o) (given (end_of h) x.told) (record { caller = t; index = x.entry.made.index; op = o; reply = x.entry.made.reply; cites = x.entry.made.cites }) told → Found
+    here t o told (inl e) v = resolve told (subst (λ z. SideLawful (is_peer_event t z) (given (end_of h) x.told)
+        (record { caller = t; index = x.entry.made.index; op = z; reply = x.entry.made.reply; cites = x.entry.made.cites }) told) e v)
       where
-        resolve : (told : Told) → SideLawful false (given (end_of h) x.told) (record { caller = t; index = x.entry.made.index; op = op.Resolve k; reply = x.entry.made.reply; cites = x.entry.made.cites }) told → Found
+        resolve : (told : Told) → SideLawful false (given (end_of h) x.told)
+            (record { caller = t; index = x.entry.made.index; op = op.Resolve k; reply = x.entry.made.reply; cites = x.entry.made.cites }) told → Found
         resolve (resolution_of alive freed) v = (v.allowed.cycle, v.allowed.open_cycle.0, v.allowed.open_cycle.1)
         resolve _ v = absurd v.allowed
-    here t o told (inr e) v = abandon told (subst (λ z. SideLawful (is_peer_event t z) (given (end_of h) x.told) (record { caller = t; index = x.entry.made.index; op = z; reply = x.entry.made.reply; cites = x.entry.made.cites }) told) e v)
+    here t o told (inr e) v = abandon told (subst (λ z. SideLawful (is_peer_event t z) (given (end_of h) x.told)
+        (record { caller = t; index = x.entry.made.index; op = z; reply = x.entry.made.reply; cites = x.entry.made.cites }) told) e v)
       where
-        abandon : (told : Told) → SideLawful false (given (end_of h) x.told) (record { caller = t; index = x.entry.made.index; op = op.Abandon k; reply = x.entry.made.reply; cites = x.entry.made.cites }) told → Found
+        abandon : (told : Told) → SideLawful false (given (end_of h) x.told)
+            (record { caller = t; index = x.entry.made.index; op = op.Abandon k; reply = x.entry.made.reply; cites = x.entry.made.cites }) told → Found
         abandon nothing v = (v.allowed.0, v.allowed.1.0, v.allowed.1.1)
         abandon _ v = absurd v.allowed
 
@@ -178,7 +186,8 @@ ending (op.Abandon k) d = (k, inr refl)
 ending _ d = absurd (let f : Some 0 ≡ None = d (Some 0) in cc)
 
 -- a further item, which is the entry as it is drawn behind the past
-module _ (before : List Item) (x : Item) (h : List Noted) (n : Noted) (l : Lawful (n ∷ h)) (w : SaysState (of_line 0 before) h) (s : x.role ≡ list_line x.kept.entry.made.caller x.kept.entry.made.op) (same : n.entry ≡ x.kept.entry)
+module _ (before : List Item) (x : Item) (h : List Noted) (n : Noted) (l : Lawful (n ∷ h)) (w : SaysState (of_line 0 before) h)
+    (s : x.role ≡ list_line x.kept.entry.made.caller x.kept.entry.made.op) (same : n.entry ≡ x.kept.entry)
     (told : drawn (end_of h) n ≡ of_drawing x.kept) (others : (x.role ≡ 0 → ⊥) → (marked x.kept ≡ None) × (x.kept.freed ≡ [])) where
   abbrev ks : List KeptEntry
   ks = of_line 0 before
@@ -200,8 +209,12 @@ module _ (before : List Item) (x : Item) (h : List Noted) (n : Noted) (l : Lawfu
 
   freed-more-in : (m : ℕ) → is_freed more m ≡ list_any (nat_eq m) (freed_in (n ∷ h))
   freed-more-in m = ⊎_elim
-      (λ (z : x.role ≡ 0). ap (λ z. is_freed z m) (line-in before x z) ∙ (freed_more ks x.kept m ∙ ((λ i. w.freed m i || has-same x.kept.freed m i) ∙ sym (any-append m (freed_in h) (managed_numbers x.kept.freed)) ∙ sym (ap (λ ys. list_any (nat_eq m) (freed_in h ++ ys)) freed-is))))
-      (λ (z : x.role ≡ 0 → ⊥). ap (λ z. is_freed z m) (line-out before x z) ∙ (w.freed m ∙ sym (ap (λ ys. list_any (nat_eq m) (freed_in h ++ ys)) (freed-is ∙ ap managed_numbers (others z).1) ∙ (any-append m (freed_in h) [] ∙ or-none (list_any (nat_eq m) (freed_in h))))))
+      (λ (z : x.role ≡ 0). ap (λ z. is_freed z m) (line-in before x z)
+      ∙ (freed_more ks x.kept m ∙ ((λ i. w.freed m i || has-same x.kept.freed m i)
+      ∙ sym (any-append m (freed_in h) (managed_numbers x.kept.freed)) ∙ sym (ap (λ ys. list_any (nat_eq m) (freed_in h ++ ys)) freed-is))))
+      (λ (z : x.role ≡ 0 → ⊥). ap (λ z. is_freed z m) (line-out before x z)
+      ∙ (w.freed m ∙ sym (ap (λ ys. list_any (nat_eq m) (freed_in h ++ ys)) (freed-is ∙ ap managed_numbers (others z).1)
+      ∙ (any-append m (freed_in h) [] ∙ or-none (list_any (nat_eq m) (freed_in h))))))
       (cases_eq x.role 0)
 
   stage-in : x.role ≡ 0 → stage more ≡ stage_after (stage ks) (deed n.entry.made.op)

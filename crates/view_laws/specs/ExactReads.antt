@@ -15,5 +15,7 @@ use Rattle.view_laws.specs.Knowing.{IsDrawnView}
 -- an answer that is exact by the managed list and by the reader's own pin is the reply of the state at the end of the
 -- past, with that pin
 abbrev pub ExactReadsAreReplies : Type 0
-ExactReadsAreReplies = (v : View) (a : IsDrawnView v) (own : List KeptEntry) (t c : ℕ) (g : Got) (pins : List (Option ℕ)) → slot pins t ≡ object_of (pin own) → IsExact (known v 0) own c g
-    → (let s : Managed = record (end_of a.known.past).managed.managed { pins = pins } in reply_of g ≡ (read_cell s t c).reply)
+ExactReadsAreReplies = (v : View) (a : IsDrawnView v) (own : List KeptEntry) (t c : ℕ) (g : Got)
+    (pins : List (Option ℕ)) → slot pins t ≡ object_of (pin own) → IsExact (known v 0) own c g
+    → (let s : Managed = record (end_of a.known.past).managed.managed { pins = pins } in
+    reply_of g ≡ (read_cell s t c).reply)

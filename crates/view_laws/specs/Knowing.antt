@@ -1,6 +1,7 @@
 -- What a seat knows is a past of the one run, with the pins that were given to snaps and takes beside these. It stays
 -- so where the seat makes an entry, takes another seat in, or gives lines away.
-use Rattle.std.specs.Prelude.{◌≡◌, ◌↔◌, false, ℕ, ◌+◌, ◌<◌, List, [], ◌∷◌, length, map, slice_index_or, Option, Some, None}
+use Rattle.std.specs.Prelude.{◌≡◌, ◌↔◌, false, ℕ, ◌+◌, ◌<◌, List, [], ◌∷◌, length, map, slice_index_or, Option, Some}
+use Rattle.std.specs.Prelude.{None}
 use Rattle.joint_machine.specs.declared.names.MNum.{MNum}
 use Rattle.joint_machine.specs.declared.names.PNum.{PNum}
 use Rattle.joint_machine.specs.declared.names.Thread.{Thread}
@@ -74,13 +75,15 @@ pub record KnowsMore (past : List Noted) (n : Noted) (w : View) : Type 0 where
 -- a seat that made an entry which may come after its past, with a number above all that it knew and the pins that it is
 -- told with, knows that past with the entry
 abbrev pub ViewsGrow : Type 0
-ViewsGrow = (v w : View) (r : ℕ) (k : KeptEntry) (a : IsKnownView v) (told : Told) → GrowsByEntry v w r k → IsInRole r k.entry.made → ((i : ℕ) → IsBelow k.entry.number (known v i)) → pins_of k.pins ≡ pins_told told
+ViewsGrow = (v w : View) (r : ℕ) (k : KeptEntry) (a : IsKnownView v) (told : Told) → GrowsByEntry v w r k
+    → IsInRole r k.entry.made → ((i : ℕ) → IsBelow k.entry.number (known v i)) → pins_of k.pins ≡ pins_told told
     → Comes (is_read k.entry.made.op) (end_of a.past) (note_of k told) → KnowsMore a.past (note_of k told) w
 
 -- a seat that took another one in knows a past again, in which each line, and what it gives, is that of the one or of
 -- the other
 abbrev pub ViewsJoin : Type 0
-ViewsJoin = (v w u : View) (a : IsKnownView v) (b : IsKnownView w) → TakesIn v w u → BeginsOneHistory u → AreJoined a.past b.past (lines_of v) (lines_of w) (lines_of u)
+ViewsJoin = (v w u : View) (a : IsKnownView v) (b : IsKnownView w) → TakesIn v w u
+    → BeginsOneHistory u → AreJoined a.past b.past (lines_of v) (lines_of w) (lines_of u)
 
 -- the view is known by the same past
 pub record IsKnownBy (past : List Noted) (w : View) : Type 0 where
@@ -108,7 +111,8 @@ IsDrawnView v = AreDrawn (drawn_lines v)
 -- a history is linked if its entries are those of the whole that a view knows, and the view's past has ended; it ends
 -- in the past's state, but for the pins
 abbrev pub WholeViewIsLinked : Type 0
-WholeViewIsLinked = (h : Finished) (v : View) (a : IsDrawnView v) (w : AreLinesOfOneHistory v.known) → h.entries ≡ entries_of w.whole → HasEnded h (end_of a.known.past) → IsLinkedPast h a.known.past
+WholeViewIsLinked = (h : Finished) (v : View) (a : IsDrawnView v) (w : AreLinesOfOneHistory v.known)
+    → h.entries ≡ entries_of w.whole → HasEnded h (end_of a.known.past) → IsLinkedPast h a.known.past
 
 -- the lists of both sides and of the readers, each at the place of its line: what a view knows of these lines
 pub record AreListsOf (v : View) (lists : List (List Entry)) : Type 0 where
@@ -117,23 +121,30 @@ pub record AreListsOf (v : View) (lists : List (List Entry)) : Type 0 where
 
 -- they are a shuffle of the whole that the view knows
 abbrev pub WholeListsAreShuffle : Type 0
-WholeListsAreShuffle = (v : View) (w : AreLinesOfOneHistory v.known) (lists : List (List Entry)) → AreListsOf v lists → IsShuffle lists (entries_of w.whole)
+WholeListsAreShuffle = (v : View) (w : AreLinesOfOneHistory v.known) (lists : List (List Entry))
+    → AreListsOf v lists → IsShuffle lists (entries_of w.whole)
 
 -- what such lists give: they can be joined with the lists that were freed and queued, and the history that is joined of
 -- them is linked by the view's past
-pub record JoinsToLinked (v : View) (a : IsDrawnView v) (lists : List (List Entry)) (whole : List Entry) (ms : List MNum) (ps : List PNum) (ns : List MNum) : Type 0 where
+pub record JoinsToLinked (v : View) (a : IsDrawnView v) (lists : List (List Entry))
+    (whole : List Entry) (ms : List MNum) (ps : List PNum) (ns : List MNum) : Type 0 where
   pub joinable : IsJoinable lists ms ps ns
-  pub linked : (h : Finished) → IsShuffle lists h.entries → h.freed_managed ≡ ms → h.freed_peers ≡ ps → h.notices ≡ ns → IsLinkedPast h a.known.past × (h.entries ≡ whole)
+  pub linked : (h : Finished) → IsShuffle lists h.entries → h.freed_managed ≡ ms
+      → h.freed_peers ≡ ps → h.notices ≡ ns → IsLinkedPast h a.known.past × (h.entries ≡ whole)
 
 -- once the view's past has ended, as the lists that were freed and queued say
 abbrev pub WholeListsAreJoined : Type 0
-WholeListsAreJoined = (v : View) (a : IsDrawnView v) (w : AreLinesOfOneHistory v.known) (lists : List (List Entry)) (ms : List MNum) (ps : List PNum) (ns : List MNum) → AreListsOf v lists
-    → HasEnded (record { entries = entries_of w.whole; freed_managed = ms; freed_peers = ps; notices = ns }) (end_of a.known.past) → JoinsToLinked v a lists (entries_of w.whole) ms ps ns
+WholeListsAreJoined = (v : View) (a : IsDrawnView v) (w : AreLinesOfOneHistory v.known)
+    (lists : List (List Entry)) (ms : List MNum) (ps : List PNum) (ns : List MNum) → AreListsOf v lists
+    → HasEnded (record { entries = entries_of w.whole; freed_managed = ms; freed_peers = ps; notices = ns })
+    (end_of a.known.past) → JoinsToLinked v a lists (entries_of w.whole) ms ps ns
 
 -- pins by words that were loaded stand for who owns the managed list, as the order says of each word that names an
 -- object
 abbrev pub PinsOfViewsStand : Type 0
-PinsOfViewsStand = (v : View) (a : IsDrawnView v) (ws : List ℕ) → ((r m : ℕ) → 0 < r → r < 9 → at 0 ws r ≡ m + 1 → IsHeld (known v 0) r m) → PinsStand (end_of a.known.past).managed.managed (pins_of ws)
+PinsOfViewsStand = (v : View) (a : IsDrawnView v) (ws : List ℕ)
+    → ((r m : ℕ) → 0 < r → r < 9 → at 0 ws r ≡ m + 1 → IsHeld (known v 0) r m)
+    → PinsStand (end_of a.known.past).managed.managed (pins_of ws)
 
 -- as it is drawn, what a seat knows goes on so: by an entry that it made, as it is drawn behind its past
 pub record DrawsMore (past : List Noted) (n : Noted) (w : View) : Type 0 where
@@ -146,12 +157,16 @@ pub record DrawsMore (past : List Noted) (n : Noted) (w : View) : Type 0 where
   pub peer : (end_of known.known.past).peer ≡ (past_after (end_of past) n).peer
 
 abbrev pub DrawnViewsGrow : Type 0
-DrawnViewsGrow = (v w : View) (r : ℕ) (k : KeptEntry) (a : IsDrawnView v) (told : Told) → GrowsByEntry v w r k → IsInRole r k.entry.made → ((i : ℕ) → IsBelow k.entry.number (known v i)) → pins_of k.pins ≡ pins_told told
-    → drawn (end_of a.known.past) (note_of k told) ≡ of_drawing k → Comes (is_read k.entry.made.op) (end_of a.known.past) (note_of k told) → DrawsMore a.known.past (note_of k told) w
+DrawnViewsGrow = (v w : View) (r : ℕ) (k : KeptEntry) (a : IsDrawnView v) (told : Told) → GrowsByEntry v w r k
+    → IsInRole r k.entry.made → ((i : ℕ) → IsBelow k.entry.number (known v i)) → pins_of k.pins ≡ pins_told told
+    → drawn (end_of a.known.past) (note_of k told) ≡ of_drawing k
+    → Comes (is_read k.entry.made.op) (end_of a.known.past) (note_of k told)
+    → DrawsMore a.known.past (note_of k told) w
 
 -- and by what another seat knows
 abbrev pub DrawnViewsJoin : Type 0
-DrawnViewsJoin = (v w u : View) (a : IsDrawnView v) (b : IsDrawnView w) → TakesIn v w u → BeginsOneHistory u → DrawnJoin a.known.past b.known.past (drawn_lines v) (drawn_lines w) (drawn_lines u)
+DrawnViewsJoin = (v w u : View) (a : IsDrawnView v) (b : IsDrawnView w) → TakesIn v w u
+    → BeginsOneHistory u → DrawnJoin a.known.past b.known.past (drawn_lines v) (drawn_lines w) (drawn_lines u)
 
 -- what a view's managed list says of cells, of freed objects and of cycles is what a state has
 pub record SaysState (v : View) (s : Managed) : Type 0 where
@@ -166,8 +181,10 @@ ViewsSayStates = (v : View) (a : IsDrawnView v) → SaysState v (end_of a.known.
 
 -- the targets of cells that are live are those which the managed list doesn't free
 abbrev pub TargetsAgree : Type 0
-TargetsAgree = (v : View) (a : IsDrawnView v) (c m : ℕ) → target (known v 0) c ≡ Some m → (IsLive (end_of a.known.past).managed.managed.heap m ↔ (is_freed (known v 0) m ≡ false))
+TargetsAgree = (v : View) (a : IsDrawnView v) (c m : ℕ) → target (known v 0) c ≡ Some m
+    → (IsLive (end_of a.known.past).managed.managed.heap m ↔ (is_freed (known v 0) m ≡ false))
 
 -- the line of a thread that a view of a whole history knows has just the entries that this thread made
 abbrev pub OwnLinesAreMadeByCallers : Type 0
-OwnLinesAreMadeByCallers = (v : View) (a : IsDrawnView v) (w : AreLinesOfOneHistory v.known) (t : Thread) → IsThread t → line_entries (known v (caller_line t)) ≡ made_by t (entries_of w.whole)
+OwnLinesAreMadeByCallers = (v : View) (a : IsDrawnView v) (w : AreLinesOfOneHistory v.known) (t : Thread)
+    → IsThread t → line_entries (known v (caller_line t)) ≡ made_by t (entries_of w.whole)

@@ -6,7 +6,9 @@
 #![tactic(auto)]
 
 ghost use Rattle.view_laws.specs.ExactReads.{ExactReadsAreReplies};
-ghost use Rattle.view_laws.specs.Knowing.{DrawnViewsGrow, DrawnViewsJoin, FirstIsKnown, OwnLinesAreMadeByCallers, PinsOfViewsStand, SameIsKnown, TargetsAgree, ViewsGrow, ViewsJoin, ViewsSayStates, WholeListsAreJoined, WholeListsAreShuffle, WholeViewIsLinked};
+ghost use Rattle.view_laws.specs.Knowing.{DrawnViewsGrow, DrawnViewsJoin, FirstIsKnown, OwnLinesAreMadeByCallers};
+ghost use Rattle.view_laws.specs.Knowing.{PinsOfViewsStand, SameIsKnown, TargetsAgree, ViewsGrow, ViewsJoin};
+ghost use Rattle.view_laws.specs.Knowing.{ViewsSayStates, WholeListsAreJoined, WholeListsAreShuffle, WholeViewIsLinked};
 
 /// The first seat knows nothing; a seat that makes an entry which may come, takes another seat in, or gives lines away
 /// knows a past again, with what was drawn too; and a seat that knows the whole of a finished order knows a linked

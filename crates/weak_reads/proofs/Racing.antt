@@ -50,7 +50,8 @@ last_too (q ∷ ps) p t c = ⊎_elim
     (Contains-cons_cases q.thread (threads_of ps) t w))
     (Contains-cons_cases p.thread (q.thread ∷ threads_of ps) t c)
 
-pub one_given : (old new : Waiting) (r : Option Pass) (p : Pass) (ps : List Pass) → r ≡ Some p → ((qs : List Pass) → HasAll old qs → HasAll new (option_to_list r ++ qs)) → HasAll old ps → HasAll new (ps ++ p ∷ [])
+pub one_given : (old new : Waiting) (r : Option Pass) (p : Pass) (ps : List Pass) → r ≡ Some p
+    → ((qs : List Pass) → HasAll old qs → HasAll new (option_to_list r ++ qs)) → HasAll old ps → HasAll new (ps ++ p ∷ [])
 one_given old new r p ps e gives all t is = ⊎_elim inl (λ c. inr (last_too ps p t c)) (subst (λ o. HasAll new (option_to_list o ++ ps)) e (gives ps all) t is)
 
 pub none_given : (old new : Waiting) (r : Option Pass) (ps : List Pass) → r ≡ None → ((qs : List Pass) → HasAll old qs → HasAll new (option_to_list r ++ qs)) → HasAll old ps → HasAll new ps
@@ -61,7 +62,8 @@ same_last [] p q e = ap (λ t. t ∷ []) e
 same_last (r ∷ ps) p q e = ap (λ ts. r.thread ∷ ts) (same_last ps p q e)
 
 -- one that a desk gave, as it stands later
-pub given_goes_on : (old new : Waiting) (r : Option Pass) (p q : Pass) (ps : List Pass) → r ≡ Some p → ((qs : List Pass) → HasAll old qs → HasAll new (option_to_list r ++ qs)) → q.thread ≡ p.thread → HasAll old ps → HasAll new (ps ++ q ∷ [])
+pub given_goes_on : (old new : Waiting) (r : Option Pass) (p q : Pass) (ps : List Pass) → r ≡ Some p
+    → ((qs : List Pass) → HasAll old qs → HasAll new (option_to_list r ++ qs)) → q.thread ≡ p.thread → HasAll old ps → HasAll new (ps ++ q ∷ [])
 given_goes_on old new r p q ps e gives at all = has_all_same new (ps ++ p ∷ []) (ps ++ q ∷ []) (same_last ps p q (sym at)) (one_given old new r p ps e gives all)
 
 -- each caller is that of its job's thread

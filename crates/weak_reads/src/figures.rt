@@ -1,6 +1,7 @@
 // What reads took: a clock, what is counted, and the longest of many waits.
 
-ghost use Rattle.std.specs.Prelude.{◌≡◌, ℕ, ◌+◌, ◌-◌, ◌*◌, ◌/◌, ◌<◌, ◌≤◌, min, length, slice_index_or, vec_len, IsPermutation};
+ghost use Rattle.std.specs.Prelude.{◌≡◌, ℕ, ◌+◌, ◌-◌, ◌*◌, ◌/◌, ◌<◌, ◌≤◌, min, length, slice_index_or, vec_len};
+ghost use Rattle.std.specs.Prelude.{IsPermutation};
 ghost use Rattle.std.specs.List.Sorted.{IsNonDecreasing};
 
 use std::alloc::{AllocError, Global};
@@ -62,7 +63,8 @@ fn greatest_but(rising: &[u32], few: usize) -> u32
 pub(crate) fn times_of(waits: &mut Vec<u32>) -> Times
     ensures same { IsPermutation waits.old.items waits.new.items }
     ensures longest { (i : ℕ) → i < vec_len waits.new → slice_index_or waits.new.items i 0 ≤ result.longest }
-    ensures most { (i : ℕ) → i + vec_len waits.new / 1000 < vec_len waits.new → slice_index_or waits.new.items i 0 ≤ result.most }
+    ensures most { (i : ℕ) → i + vec_len waits.new / 1000 < vec_len waits.new
+        → slice_index_or waits.new.items i 0 ≤ result.most }
 {
     waits.sort_unstable();
     let rising = waits.as_slice();

@@ -118,7 +118,8 @@ fn run_all<N: OrderName + Send + Sync, R: Threads + Wait + Clock + Sync>(
 ) -> Result<Vec<Result<Caller<N>, AllocError>>, AllocError>
     requires { All IsReady jobs.items }
     ensures len { IfOk result (λ v. vec_len v ≡ vec_len jobs) }
-    ensures each { IfOk result (λ v. (i : ℕ) (d : _) (e : _) → i < vec_len jobs → EndsIdle (slice_index_or jobs.items i d) (slice_index_or v.items i e)) }
+    ensures each { IfOk result (λ v. (i : ℕ) (d : _) (e : _) → i < vec_len jobs
+        → EndsIdle (slice_index_or jobs.items i d) (slice_index_or v.items i e)) }
 {
     map_vec(
         rt,

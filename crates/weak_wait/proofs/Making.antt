@@ -102,7 +102,8 @@ may_held v reader a w some is = record {
 }
 
 -- one that is inside, whose pin is empty, may answer by what it loaded
-pub may_inside : (v : View) (reader : ℕ) (a : Act) (w : ℕ) (g : Got) → got_of w g → w ≤ 4294967296 → v.inside ≡ 2 ^ reader → IsLoaded v.loads (cell_of a) w → pin (known v (reader + 10)) ≡ 0 → MayAnswer v reader a g
+pub may_inside : (v : View) (reader : ℕ) (a : Act) (w : ℕ) (g : Got) → got_of w g → w ≤ 4294967296
+    → v.inside ≡ 2 ^ reader → IsLoaded v.loads (cell_of a) w → pin (known v (reader + 10)) ≡ 0 → MayAnswer v reader a g
 may_inside v reader a zero g t small within loaded empty = subst (MayAnswer v reader a) (sym (t.0 refl)) record {
   held = λ m e. absurd (let z : 3 ≡ 2 = ap kind e in omega arith);
   empty = λ _. empty;
@@ -131,7 +132,8 @@ gives_pin reader (act.Read k) m r = refl
 gives_pin reader (act.Await k) m r = refl
 gives_pin reader _ m r = absurd r
 
-pub pin_filled : (reader index : ℕ) (a : Act) (g : Got) (number : ℕ) (x y : View) (m : MNum) → IsRead a → g ≡ got.Got m → GrowsByEntry x y (1 + reader) (entry_of reader index a g number) → pin (known y (reader + 10)) ≡ m.0 + 1
+pub pin_filled : (reader index : ℕ) (a : Act) (g : Got) (number : ℕ) (x y : View) (m : MNum) → IsRead a → g ≡ got.Got m
+    → GrowsByEntry x y (1 + reader) (entry_of reader index a g number) → pin (known y (reader + 10)) ≡ m.0 + 1
 pin_filled reader index a g number x y m read is grows = ap pin grows.caller ∙ (pin_more (known x (reader + 10)) (entry_of reader index a g number)
     ∙ ap (pin_after (pin (known x (reader + 10)))) (ap (λ z. pin_deed (M reader) (op.Line a) (reply_of z)) is ∙ gives_pin reader a m read))
 
@@ -178,7 +180,8 @@ inside_answers reader index a g number word v x y w es fs stays grows above one 
     }
 
 -- the same, of a view that knows, owns and holds the same
-pub answers_from : (reader index : ℕ) (a : Act) (number : ℕ) (g : Got) (v u w : View) (es fs : Stock) → u.known ≡ v.known → u.owns ≡ v.owns → u.holds ≡ v.holds → Answers reader index a number g u w es fs → Answers reader index a number g v w es fs
+pub answers_from : (reader index : ℕ) (a : Act) (number : ℕ) (g : Got) (v u w : View) (es fs : Stock) → u.known ≡ v.known
+    → u.owns ≡ v.owns → u.holds ≡ v.holds → Answers reader index a number g u w es fs → Answers reader index a number g v w es fs
 answers_from reader index a number g v u w es fs knows owns holds t =
     let same : (i : ℕ) → known u i ≡ known v i = λ i. ap (λ ls. at [] ls i) knows in
     let r = t.reads in

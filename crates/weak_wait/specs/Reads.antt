@@ -43,11 +43,18 @@ reply_of (got.PinHeld m) = says.Pinned m
 
 -- the event of a reader's read
 abbrev pub read_made : ℕ → ℕ → Act → Got → Made
-read_made reader index a g = record { caller = M reader; index = index; op = op.Line a; reply = reply_of g; cites = None }
+read_made reader index a g = record {
+  caller = M reader;
+  index = index;
+  op = op.Line a;
+  reply = reply_of g;
+  cites = None;
+}
 
 -- the answer by the word of a cell
 abbrev pub got_of : ℕ → Got → Type 0
-got_of w g = (w ≡ 0 → g ≡ got.Unset) × (w ≡ 1 → g ≡ got.Gone) × ((m : ℕ) → 0 < m → w ≡ m + 1 → g ≡ got.Got record { 0 = m })
+got_of w g = (w ≡ 0 → g ≡ got.Unset) × (w ≡ 1 → g ≡ got.Gone)
+    × ((m : ℕ) → 0 < m → w ≡ m + 1 → g ≡ got.Got record { 0 = m })
 
 -- the answer that a managed list gives, with what the reader's own entries leave in its pin
 pub record IsExact (ml own : List KeptEntry) (cell : ℕ) (g : Got) : Type 0 where
@@ -57,7 +64,12 @@ pub record IsExact (ml own : List KeptEntry) (cell : ℕ) (g : Got) : Type 0 whe
 
 -- a read's entry, beside which nothing is kept
 abbrev pub entry_of : ℕ → ℕ → Act → Got → ℕ → KeptEntry
-entry_of reader index a g number = record { entry = numbered number (read_made reader index a g); target = None; freed = []; pins = [] }
+entry_of reader index a g number = record {
+  entry = numbered number (read_made reader index a g);
+  target = None;
+  freed = [];
+  pins = [];
+}
 
 -- a reader may answer so: an object that its own entries leave in its pin, and with an empty pin a cycle for which its
 -- last try to enter found the gate held, or what it loaded from the cell since it went inside

@@ -34,9 +34,17 @@ impl Model for WeakReader {
 
     ghost Value = { Reading };
 
-    ghost view = { λ r. record { reader = r.reader; order = r.seat.order; view = r.seat.view; entries = r.entries.entries; spare = r.entries.spare } };
+    ghost view = { λ r. record {
+      reader = r.reader;
+      order = r.seat.order;
+      view = r.seat.view;
+      entries = r.entries.entries;
+      spare = r.entries.spare;
+    } };
 
-    ghost invariant = { λ r. (0 < r.reader) × (r.reader < 9) × Owns r.seat.view (1 + r.reader) × Owns r.seat.view (r.reader + 10) × Settled r.seat.view × (line_entries (known r.seat.view (1 + r.reader)) ≡ r.entries.entries) };
+    ghost invariant = { λ r. (0 < r.reader) × (r.reader < 9) × Owns r.seat.view (1 + r.reader)
+        × Owns r.seat.view (r.reader + 10) × Settled r.seat.view
+        × (line_entries (known r.seat.view (1 + r.reader)) ≡ r.entries.entries) };
 }
 
 impl WeakReader {
@@ -78,7 +86,13 @@ impl WeakReader {
         requires role { Owns seat.view (1 + reader) × Owns seat.view (reader + 10) }
         requires settled { Settled seat.view }
         requires list { line_entries (known seat.view (1 + reader)) ≡ entries.entries }
-        ensures { result ≡ record { reader = reader; order = seat.order; view = seat.view; entries = entries.entries; spare = entries.spare } }
+        ensures { result ≡ record {
+          reader = reader;
+          order = seat.order;
+          view = seat.view;
+          entries = entries.entries;
+          spare = entries.spare;
+        } }
     {
         WeakReader {
             reader,

@@ -82,7 +82,8 @@ fn note(
     ensures grows { GrowsByEntry seat.old.view seat.new.view (1 + reader) (entry_of reader index act.now got result) }
     ensures above { (i : ℕ) → IsBelow result (known seat.old.view i) }
     ensures one_history { BeginsOneHistory seat.new.view }
-    ensures entries { entries.new.entries ≡ entries.old.entries ++ numbered result (read_made reader index act.now got) ∷ [] }
+    ensures entries { entries.new.entries ≡ entries.old.entries ++ numbered result
+        (read_made reader index act.now got) ∷ [] }
     ensures spare { entries.new.spare + 1 ≡ entries.old.spare }
 {
     // what the list holds and has room for is within its limit
@@ -130,7 +131,8 @@ fn read_held(
     requires entries { line_entries (known seat.old.view (1 + reader)) ≡ entries.old.entries }
     requires spare { 1 ≤ entries.old.spare }
     ensures order { seat.new.order ≡ order.now }
-    ensures answers { Answers reader index act.now result.0 result.1 seat.old.view seat.new.view entries.old entries.new }
+    ensures answers { Answers reader index act.now result.0
+        result.1 seat.old.view seat.new.view entries.old entries.new }
     ensures answered { (k : Cycle) → result.1 ≡ got.Pending k → ⊥ }
     ensures settled { Settled seat.new.view }
 {
@@ -161,7 +163,8 @@ fn read_pending(
     requires entries { line_entries (known seat.old.view (1 + reader)) ≡ entries.old.entries }
     requires spare { 1 ≤ entries.old.spare }
     ensures order { seat.new.order ≡ order.now }
-    ensures answers { Answers reader index act.now result.0 result.1 seat.old.view seat.new.view entries.old entries.new }
+    ensures answers { Answers reader index act.now result.0
+        result.1 seat.old.view seat.new.view entries.old entries.new }
     ensures settled { Settled seat.new.view }
 {
     let got = Got::Pending { cycle };
@@ -189,7 +192,8 @@ fn read_inside(
     requires entries { line_entries (known seat.old.view (1 + reader)) ≡ entries.old.entries }
     requires spare { 1 ≤ entries.old.spare }
     ensures order { seat.new.order ≡ order.now }
-    ensures answers { Answers reader index act.now result.0 result.1 seat.old.view seat.new.view entries.old entries.new }
+    ensures answers { Answers reader index act.now result.0
+        result.1 seat.old.view seat.new.view entries.old entries.new }
     ensures answered { (k : Cycle) → result.1 ≡ got.Pending k → ⊥ }
     ensures settled { Settled seat.new.view }
 {
@@ -223,7 +227,8 @@ pub fn read(
     requires entries { line_entries (known seat.old.view (1 + reader)) ≡ entries.old.entries }
     requires spare { 1 ≤ entries.old.spare }
     ensures order { seat.new.order ≡ order.now }
-    ensures answers { Answers reader index act.now result.0 result.1 seat.old.view seat.new.view entries.old entries.new }
+    ensures answers { Answers reader index act.now result.0
+        result.1 seat.old.view seat.new.view entries.old entries.new }
     ensures settled { Settled seat.new.view }
 {
     let held = order.load_pin(seat, reader);
@@ -254,9 +259,12 @@ fn try_read(
     requires entries { line_entries (known seat.old.view (1 + reader)) ≡ entries.old.entries }
     requires spare { 1 ≤ entries.old.spare }
     ensures order { seat.new.order ≡ order.now }
-    ensures answers { IfSome result (λ r. Answers reader index act.now r.0 r.1 seat.old.view seat.new.view entries.old entries.new) }
+    ensures answers { IfSome result (λ r. Answers reader index act.now
+        r.0 r.1 seat.old.view seat.new.view entries.old entries.new) }
     ensures answered { IfSome result (λ r. (k : Cycle) → r.1 ≡ got.Pending k → ⊥) }
-    ensures held { IfNone result ((seat.new.view.known ≡ seat.old.view.known) × (seat.new.view.owns ≡ seat.old.view.owns) × (seat.new.view.holds ≡ seat.old.view.holds) × (entries.new ≡ entries.old)) }
+    ensures held { IfNone result ((seat.new.view.known ≡ seat.old.view.known)
+        × (seat.new.view.owns ≡ seat.old.view.owns)
+        × (seat.new.view.holds ≡ seat.old.view.holds) × (entries.new ≡ entries.old)) }
     ensures settled { Settled seat.new.view }
 {
     let held = order.load_pin(seat, reader);
@@ -288,7 +296,8 @@ pub fn read_waiting<R: Wait>(
     requires entries { line_entries (known seat.old.view (1 + reader)) ≡ entries.old.entries }
     requires spare { 1 ≤ entries.old.spare }
     ensures order { seat.new.order ≡ order.now }
-    ensures answers { Answers reader index act.now result.0 result.1 seat.old.view seat.new.view entries.old entries.new }
+    ensures answers { Answers reader index act.now result.0
+        result.1 seat.old.view seat.new.view entries.old entries.new }
     ensures answered { (k : Cycle) → result.1 ≡ got.Pending k → ⊥ }
     ensures settled { Settled seat.new.view }
 {

@@ -10,7 +10,8 @@ use Rattle.joint_machine.specs.declared.events.Reply.TheVariants as says
 use Rattle.joint_machine.specs.Told.{nothing, snap_of, sweep_of, resolution_of, Noted}
 use Rattle.script_laws.specs.Ending.{AllCyclesEnd, OwnCyclesEnd}
 use Rattle.run_laws.specs.Final.{FreedReadsAreGone, FreedPeersAreGone}
-use Rattle.worked_histories.specs.Notes.{note, var, cell_no, name_no, object_no, peer_no, handle_no, cycle_no, marking_no, span}
+use Rattle.worked_histories.specs.Notes.{note, var, cell_no, name_no, object_no, peer_no, handle_no, cycle_no}
+use Rattle.worked_histories.specs.Notes.{marking_no, span}
 
 -- an object that a weak cell names is freed by a resolution, and a read of the cell has that reply
 abbrev pub read_after : Reply → List Noted

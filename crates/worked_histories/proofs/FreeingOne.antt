@@ -106,7 +106,8 @@ pub swept_there : (i j : ℕ) (freed : List ℕ) → SweepsAt one_run i j freed 
 swept_there i j freed r =
     let at = place (λ (m : Moment). is_sweep m.noted.entry.made.op) 5 one_run i r.moment refl r.there (subst (λ o. is_sweep o ≡ true) (sym r.event) refl) in
     let same = same_place one_run i 5 r.moment (moment_at 5) r.there at refl in
-    let reply : says.Swept record { 0 = 1 } (span 0 1) ≡ says.Swept record { 0 = j } r.span = subst (λ (m : Moment). m.noted.entry.made.reply ≡ says.Swept record { 0 = j } r.span) (sym same) r.reply in
+    let reply : says.Swept record { 0 = 1 } (span 0 1) ≡ says.Swept record { 0 = j } r.span = subst
+    (λ (m : Moment). m.noted.entry.made.reply ≡ says.Swept record { 0 = j } r.span) (sym same) r.reply in
     let told : sweep_of (1 ∷ []) ≡ sweep_of freed = subst (λ (m : Moment). m.noted.told ≡ sweep_of freed) (sym same) r.frees in
     (at, sym (ap swept_marking reply), told_from freed told)
   where

@@ -1,7 +1,8 @@
 -- The histories of the gaps, a table at a time, each by one computation.
 use Rattle.std.proofs.Common.{◌≡◌, ℕ, Bool, true, ◌&&◌, List, [], ◌∷◌, refl}
 use Rattle.std.proofs.lemmas.Bool.{and_parts}
-use Rattle.worked_histories.specs.Gaps.{with_gap, GapCase, InGaps, InEachGap, collections, readings, droppings, storings, waitings, beginnings, CollectsInGaps, ReadsInGaps, DropsInGaps, StoresInGaps, WaitsInGaps, BeginsInGaps}
+use Rattle.worked_histories.specs.Gaps.{with_gap, GapCase, InGaps, InEachGap, collections, readings, droppings, storings, waitings, beginnings, CollectsInGaps, ReadsInGaps, DropsInGaps, StoresInGaps}
+use Rattle.worked_histories.specs.Gaps.{WaitsInGaps, BeginsInGaps}
 use Rattle.worked_histories.proofs.Worked.{is_worked, worked}
 
 -- all histories of a case, and of a table, pass the test

@@ -35,7 +35,8 @@ pair_graph edges nodes bridges = record { next = pairs_next edges; nodes = nodes
 abbrev pub has_ends : List (ℕ × ℕ) → List ℕ → List ℕ → Bool
 has_ends edges nodes bridges = list_all (λ (p : ℕ × ℕ). has nodes p.0 && has nodes p.1) edges && list_all (has nodes) bridges
 
-ends : (edges : List (ℕ × ℕ)) (nodes bridges : List ℕ) → Tells (has_ends edges nodes bridges) (((p : ℕ × ℕ) → Contains edges p → Contains nodes p.0 × Contains nodes p.1) × ((x : ℕ) → Contains bridges x → has nodes x ≡ true))
+ends : (edges : List (ℕ × ℕ)) (nodes bridges : List ℕ) → Tells (has_ends edges nodes bridges)
+    (((p : ℕ × ℕ) → Contains edges p → Contains nodes p.0 × Contains nodes p.1) × ((x : ℕ) → Contains bridges x → has nodes x ≡ true))
 ends edges nodes bridges = and2
     (all_in edges (λ (p : ℕ × ℕ). has nodes p.0 && has nodes p.1) (λ p. Contains nodes p.0 × Contains nodes p.1) (λ p. and2 (member nat_eq same nodes p.0) (member nat_eq same nodes p.1)))
     (all_in bridges (has nodes) (λ x. has nodes x ≡ true) (λ x. record { holds = λ e. e; passes = λ e. e }))

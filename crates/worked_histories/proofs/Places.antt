@@ -13,7 +13,8 @@ place_from test e k [] i x h g t = cc
 place_from test e k (y ∷ ys) zero x h g t =
     let p = and_parts (not (test y) || nat_eq k e) (only_at test e (suc k) ys) h in
     let same : y ≡ x = cc in
-    ⊎_elim (λ n. absurd (true≢false (sym (subst (λ z. test z ≡ true) (sym same) t) ∙ not-true (test y) n))) (λ q. let at = (Decides-eqb k e).0 q in omega arith) (or_cases (not (test y)) (nat_eq k e) p.0)
+    ⊎_elim (λ n. absurd (true≢false (sym (subst (λ z. test z ≡ true) (sym same) t) ∙ not-true (test y) n)))
+    (λ q. let at = (Decides-eqb k e).0 q in omega arith) (or_cases (not (test y)) (nat_eq k e) p.0)
 place_from test e k (y ∷ ys) (suc i) x h g t =
     let p = and_parts (not (test y) || nat_eq k e) (only_at test e (suc k) ys) h in
     let r = place_from test e (suc k) ys i x p.1 g t in omega arith

@@ -29,7 +29,8 @@ abbrev leads_by : {S : Type 0} → SideRules S → (S → Made → Told → Bool
 leads_by r test s [] = true
 leads_by r test s (n ∷ ns) = test s n.entry.made n.told && leads_by r test (r.next s n.entry.made n.told) ns
 
-leads : {S : Type 0} (r : SideRules S) (test : S → Made → Told → Bool) → ((s : S) (m : Made) (told : Told) → Tells (test s m told) (r.lawful s m told)) → (s : S) (ns : List Noted) → Tells (leads_by r test s ns) (LeadsTo r s ns (state_after r s ns))
+leads : {S : Type 0} (r : SideRules S) (test : S → Made → Told → Bool) → ((s : S) (m : Made) (told : Told) → Tells (test s m told) (r.lawful s m told))
+    → (s : S) (ns : List Noted) → Tells (leads_by r test s ns) (LeadsTo r s ns (state_after r s ns))
 leads r test t s [] = always refl
 leads r test t s (n ∷ ns) = and2 (t s n.entry.made n.told) (leads r test t (r.next s n.entry.made n.told) ns)
 
@@ -73,7 +74,8 @@ managed_tells : (s : ManagedReplay) (m : Made) (told : Told) → Tells (managed_
 managed_tells s m told = and2 (is_managed m) (own_side s m told)
 
 peer_tells : (s : PeerReplay) (m : Made) (told : Told) → Tells (peer_test s m told) (peer_rules.lawful s m told)
-peer_tells s m told = and2 (is_peer m) (like (λ p. record { allowed = p.0; replies = p.1 }) (λ r. (r.allowed, r.replies)) (and2 (peer s m.caller m.op m.cites told) (replies m.reply (peer_answer s m.caller m.op m.cites told).reply)))
+peer_tells s m told = and2 (is_peer m) (like (λ p. record { allowed = p.0; replies = p.1 }) (λ r. (r.allowed, r.replies))
+    (and2 (peer s m.caller m.op m.cites told) (replies m.reply (peer_answer s m.caller m.op m.cites told).reply)))
 
 replayed : {S : Type 0} (r : SideRules S) (test : S → Made → Told → Bool) → ((s : S) (m : Made) (told : Told) → Tells (test s m told) (r.lawful s m told)) → (ns : List Noted)
     → rises (map (λ e. e.number) (map (λ n. n.entry) ns)) ≡ true → leads_by r test r.opening ns ≡ true → IsReplayedBy r ns

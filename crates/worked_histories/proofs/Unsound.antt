@@ -12,7 +12,9 @@ use Rattle.joint_machine.proofs.Members.{Contains-nil}
 use Rattle.computed_histories.proofs.GraphTests.{joint_reached}
 use Rattle.computed_histories.proofs.Reaching.{member}
 use Rattle.computed_histories.proofs.Telling.{refuted, same}
-use Rattle.worked_histories.specs.Unsound.{still, closed, object_named, peer_named, moment_of, snaps_two, snaps_nothing, snap_frees_two, begins_one, sweeps_none, sweeps_two, resolves_none, resolves_two, cycle_run, leaves_candidate, freed_without_sweep, swept_without_begin, reached_at_begin, reached_before_sweep, snapped_while_reached, resolved_while_reached, AreUnsound, AreIncomplete}
+use Rattle.worked_histories.specs.Unsound.{still, closed, object_named, peer_named, moment_of, snaps_two, snaps_nothing, snap_frees_two, begins_one, sweeps_none, sweeps_two, resolves_none}
+use Rattle.worked_histories.specs.Unsound.{resolves_two, cycle_run, leaves_candidate, freed_without_sweep, swept_without_begin, reached_at_begin, reached_before_sweep, snapped_while_reached}
+use Rattle.worked_histories.specs.Unsound.{resolved_while_reached, AreUnsound, AreIncomplete}
 
 abbrev only-two : List ℕ
 only-two = 2 ∷ []
@@ -71,9 +73,12 @@ the-candidate zero freed candidates s =
     let e : s.moment ≡ moment_of still snaps_two still = cc in
     let f : snap_of [] (2 ∷ []) (2 ∷ []) ≡ snap_of freed candidates s.dead = subst (λ (k : Moment). k.noted.told ≡ snap_of freed candidates s.dead) e s.frees in
     cc
-the-candidate (suc zero) freed candidates s = absurd (let e : moment_of still begins_one still ≡ s.moment = cc in let g = subst (λ k. k.noted.entry.made.op ≡ op.Snap record { 0 = 1 }) (sym e) s.event in cc)
-the-candidate (suc (suc zero)) freed candidates s = absurd (let e : moment_of still sweeps_none still ≡ s.moment = cc in let g = subst (λ k. k.noted.entry.made.op ≡ op.Snap record { 0 = 1 }) (sym e) s.event in cc)
-the-candidate (suc (suc (suc zero))) freed candidates s = absurd (let e : moment_of still resolves_none still ≡ s.moment = cc in let g = subst (λ k. k.noted.entry.made.op ≡ op.Snap record { 0 = 1 }) (sym e) s.event in cc)
+the-candidate (suc zero) freed candidates s = absurd (let e : moment_of still begins_one still ≡ s.moment = cc in
+    let g = subst (λ k. k.noted.entry.made.op ≡ op.Snap record { 0 = 1 }) (sym e) s.event in cc)
+the-candidate (suc (suc zero)) freed candidates s = absurd (let e : moment_of still sweeps_none still ≡ s.moment = cc in
+    let g = subst (λ k. k.noted.entry.made.op ≡ op.Snap record { 0 = 1 }) (sym e) s.event in cc)
+the-candidate (suc (suc (suc zero))) freed candidates s = absurd
+    (let e : moment_of still resolves_none still ≡ s.moment = cc in let g = subst (λ k. k.noted.entry.made.op ≡ op.Snap record { 0 = 1 }) (sym e) s.event in cc)
 the-candidate (suc (suc (suc (suc i)))) freed candidates s = absurd (let e = s.there in cc)
 
 resolves : (j : Joint) (n : Noted) → ResolvesAt (cycle_run j n) 3 1 []

@@ -53,7 +53,8 @@ is_run_from begun s (n ∷ ns) =
     && is_run_from (begun_with n.entry.made.reply (linked_graph s) begun) (entry_after s n) ns
 
 -- then the moments are a run: a step leads to the state that is the same, and what isn't a step leaves none
-goes_on : (b : Bool) (j : Joint) (n : Noted) (next : Joint) (ms : List Moment) → leads_on b j n next ≡ true → IsRunFrom next ms → IsRunFrom j (moment_if b (record { before = j; noted = n; after = next }) ms)
+goes_on : (b : Bool) (j : Joint) (n : Noted) (next : Joint) (ms : List Moment) → leads_on b j n next ≡ true
+    → IsRunFrom next ms → IsRunFrom j (moment_if b (record { before = j; noted = n; after = next }) ms)
 goes_on true j n next ms e r =
     let p = (and2 (is_true (may_step j n)) (joints (joint_after j n) next)).holds e in
     (refl, subst (JointStep j n) p.1 (steps_tested j n p.0), r)
@@ -75,7 +76,8 @@ same_noted : (begun : Graph) (s : Linkage) (ns : List Noted) → map (λ k. k.no
 same_noted begun s [] = refl
 same_noted begun s (n ∷ ns) =
     let later = begun_with n.entry.made.reply (linked_graph s) begun in
-    noted_if (is_step n) (record { before = linked_joint s begun; noted = n; after = linked_joint (entry_after s n) later }) (moments_from later (entry_after s n) ns) (joint_projection ns) (same_noted later (entry_after s n) ns)
+    noted_if (is_step n) (record { before = linked_joint s begun; noted = n; after = linked_joint (entry_after s n) later })
+    (moments_from later (entry_after s n) ns) (joint_projection ns) (same_noted later (entry_after s n) ns)
 
 -- the whole test
 abbrev pub is_worked : List Noted → List (List ℕ) → Bool

@@ -12,8 +12,10 @@ use Rattle.joint_machine.specs.Linked.{Linkage, opening_linkage, MayCome}
 use Rattle.joint_machine.specs.Replaying.{AllMayCome, replayed}
 use Rattle.joint_machine.specs.PeerReplay.{MayClear}
 use Rattle.joint_machine.specs.Told.{Told, nothing, snap_of, contraction_of, references_of, sweep_of, Noted}
-use Rattle.worked_histories.specs.Notes.{note, var, static_no, name_no, object_no, peer_no, handle_no, cycle_no, marking_no, span}
-use Rattle.worked_histories.specs.Phases.{two_made, reached_cycle, dead_snap, weakened_both, swept_both, restored_first, restored_last}
+use Rattle.worked_histories.specs.Notes.{note, var, static_no, name_no, object_no, peer_no, handle_no, cycle_no}
+use Rattle.worked_histories.specs.Notes.{marking_no, span}
+use Rattle.worked_histories.specs.Phases.{two_made, reached_cycle, dead_snap, weakened_both, swept_both, restored_first}
+use Rattle.worked_histories.specs.Phases.{restored_last}
 
 -- the history of two linked objects until its own sweep, and until the last restore
 abbrev pub until_own_sweep : List Noted
@@ -33,13 +35,16 @@ before_last_restore = replayed opening_linkage until_last_restore
 pub record SweepsUnderWeak : Type 0 where
   pub lawful : AllMayCome opening_linkage until_own_sweep
   pub comes : MayCome before_own_sweep swept_both
-  pub both : (freed : List ℕ) (reply : Reply) → MayCome before_own_sweep (note 20 C 7 op.Sweep reply None (sweep_of freed)) → Contains freed 1 × Contains freed 2
+  pub both : (freed : List ℕ) (reply : Reply)
+      → MayCome before_own_sweep (note 20 C 7 op.Sweep reply None (sweep_of freed))
+      → Contains freed 1 × Contains freed 2
 
 -- each of these entries may come, and then the mirror isn't cleared: the driver's order has a restore left, and the
 -- peers' own list a weakened handle that isn't restored; after the last restore it is cleared
 pub record ClearsLast : Type 0 where
   pub lawful : AllMayCome opening_linkage until_last_restore
-  pub not_cleared : (reply : Reply) (told : Told) → MayCome before_last_restore (note 22 C 7 (op.Clear (cycle_no 2)) reply None told) → ⊥
+  pub not_cleared : (reply : Reply) (told : Told)
+      → MayCome before_last_restore (note 22 C 7 (op.Clear (cycle_no 2)) reply None told) → ⊥
   pub not_by_peers : MayClear before_last_restore.peer 2 → ⊥
   pub then_cleared : AllMayCome before_last_restore restored_last
 
@@ -78,4 +83,5 @@ after_promotion = replayed opening_linkage promoted
 -- each of these entries may come, and then no sweep that frees the peer
 pub record KeepsPromoted : Type 0 where
   pub lawful : AllMayCome opening_linkage promoted
-  pub kept : (freed : List ℕ) (reply : Reply) → Contains freed 1 → MayCome after_promotion (note 16 C 15 op.Sweep reply None (sweep_of freed)) → ⊥
+  pub kept : (freed : List ℕ) (reply : Reply) → Contains freed 1
+      → MayCome after_promotion (note 16 C 15 op.Sweep reply None (sweep_of freed)) → ⊥

@@ -10,7 +10,8 @@ use Rattle.joint_machine.specs.declared.events.Reply.TheVariants as says
 use Rattle.joint_machine.specs.Linked.{Linkage, opening_linkage}
 use Rattle.joint_machine.specs.Replaying.{replayed}
 use Rattle.joint_machine.specs.Told.{nothing, snap_of, contraction_of, sweep_of, resolution_of, Noted, said_cleared}
-use Rattle.worked_histories.specs.Notes.{linking, note, var, static_no, object_no, peer_no, handle_no, cycle_no, marking_no, span}
+use Rattle.worked_histories.specs.Notes.{linking, note, var, static_no, object_no, peer_no, handle_no, cycle_no}
+use Rattle.worked_histories.specs.Notes.{marking_no, span}
 
 -- both objects are made and linked, and passed to two statics of the peer heap
 abbrev pub passed_on : List Noted
@@ -44,7 +45,8 @@ let_go =
 abbrev pub collected : List Noted
 collected =
     note 18 C 15 (op.Snap (cycle_no 1)) (says.Snapped 2 (span 0 0)) None (snap_of [] (1 ∷ 2 ∷ []) (1 ∷ 2 ∷ []))
-    ∷ note 19 C 15 (op.Contract (cycle_no 1)) (says.Sccs 2 1) None (contraction_of ((1 ∷ []) ∷ (2 ∷ []) ∷ []) [] ((0, 1) ∷ []))
+    ∷ note 19 C 15 (op.Contract (cycle_no 1)) (says.Sccs 2 1) None
+    (contraction_of ((1 ∷ []) ∷ (2 ∷ []) ∷ []) [] ((0, 1) ∷ []))
     ∷ note 20 C 15 (op.Mirror (cycle_no 1)) (says.Refs 1) (Some 18) (linking ((1, 2) ∷ []))
     ∷ note 21 C 15 (op.Weaken (handle_no 1)) says.Ok (Some 18) nothing
     ∷ note 22 C 15 (op.Weaken (handle_no 2)) says.Ok (Some 18) nothing
@@ -53,7 +55,8 @@ collected =
     ∷ note 25 C 15 (op.Restore (handle_no 1)) says.Cleared None nothing
     ∷ note 26 C 15 (op.Restore (handle_no 2)) says.Cleared None nothing
     ∷ note 27 C 15 (op.Clear (cycle_no 1)) says.Ok None nothing
-    ∷ note 28 C 15 (op.Resolve (cycle_no 1)) (says.Freed (span 0 2)) (Some 27) (resolution_of (said_cleared ∷ said_cleared ∷ []) (1 ∷ 2 ∷ []))
+    ∷ note 28 C 15 (op.Resolve (cycle_no 1)) (says.Freed (span 0 2))
+    (Some 27) (resolution_of (said_cleared ∷ said_cleared ∷ []) (1 ∷ 2 ∷ []))
     ∷ []
 
 -- the whole history

@@ -46,4 +46,5 @@ before_sweep = replayed before_slices two_slices
 
 -- no sweep that frees the second peer may come there
 abbrev pub KeepsDeleted : Type 0
-KeepsDeleted = (freed : List ℕ) (reply : Reply) → Contains freed 2 → MayCome before_sweep (note 9 (P 1) 10 op.Sweep reply None (sweep_of freed)) → ⊥
+KeepsDeleted = (freed : List ℕ) (reply : Reply) → Contains freed 2
+    → MayCome before_sweep (note 9 (P 1) 10 op.Sweep reply None (sweep_of freed)) → ⊥

@@ -8,7 +8,8 @@ use Rattle.joint_machine.specs.declared.events.Op.TheVariants as op
 use Rattle.joint_machine.specs.declared.events.Reply.TheVariants as says
 use Rattle.joint_machine.specs.Told.{nothing, snap_of, contraction_of, sweep_of, resolution_of, Noted, said_cleared}
 use Rattle.worked_histories.specs.Moments.{IsWorked}
-use Rattle.worked_histories.specs.Notes.{linking, note, var, static_no, cell_no, name_no, object_no, peer_no, handle_no, cycle_no, marking_no, span}
+use Rattle.worked_histories.specs.Notes.{linking, note, var, static_no, cell_no, name_no, object_no, peer_no, handle_no}
+use Rattle.worked_histories.specs.Notes.{cycle_no, marking_no, span}
 
 -- the whole history
 abbrev pub ended_marking : List Noted
@@ -28,7 +29,8 @@ ended_marking =
     ∷ note 12 (M 1) 10 (op.Line (act.Drop (var 0))) says.Ok None nothing
     ∷ note 13 (M 1) 11 (op.Line (act.Drop (var 1))) says.Ok None nothing
     ∷ note 14 C 12 (op.Snap (cycle_no 1)) (says.Snapped 2 (span 0 0)) None (snap_of [] (1 ∷ 2 ∷ []) (1 ∷ 2 ∷ []))
-    ∷ note 15 C 13 (op.Contract (cycle_no 1)) (says.Sccs 2 1) None (contraction_of ((1 ∷ []) ∷ (2 ∷ []) ∷ []) [] ((0, 1) ∷ []))
+    ∷ note 15 C 13 (op.Contract (cycle_no 1)) (says.Sccs 2 1) None
+    (contraction_of ((1 ∷ []) ∷ (2 ∷ []) ∷ []) [] ((0, 1) ∷ []))
     ∷ note 16 C 14 (op.Mirror (cycle_no 1)) (says.Refs 1) (Some 14) (linking ((1, 2) ∷ []))
     ∷ note 17 C 15 (op.Weaken (handle_no 1)) says.Ok (Some 14) nothing
     ∷ note 18 C 15 (op.Weaken (handle_no 2)) says.Ok (Some 14) nothing
@@ -39,7 +41,8 @@ ended_marking =
     ∷ note 23 C 19 (op.Restore (handle_no 1)) says.Cleared None nothing
     ∷ note 24 C 19 (op.Restore (handle_no 2)) says.Cleared None nothing
     ∷ note 25 C 19 (op.Clear (cycle_no 1)) says.Ok None nothing
-    ∷ note 26 C 20 (op.Resolve (cycle_no 1)) (says.Freed (span 0 2)) (Some 25) (resolution_of (said_cleared ∷ said_cleared ∷ []) (1 ∷ 2 ∷ []))
+    ∷ note 26 C 20 (op.Resolve (cycle_no 1)) (says.Freed (span 0 2))
+    (Some 25) (resolution_of (said_cleared ∷ said_cleared ∷ []) (1 ∷ 2 ∷ []))
     ∷ note 27 (M 1) 21 (op.Line (act.Read (cell_no 0))) says.Gone None nothing
     ∷ []
 

@@ -8,20 +8,25 @@ use Rattle.joint_machine.specs.declared.lines.Act.TheVariants as act
 use Rattle.joint_machine.specs.declared.events.Op.TheVariants as op
 use Rattle.joint_machine.specs.declared.events.Reply.{Reply}
 use Rattle.joint_machine.specs.declared.events.Reply.TheVariants as says
-use Rattle.joint_machine.specs.Told.{snap_of, contraction_of, sweep_of, resolution_of, Noted, said_alive, said_cleared, Answer}
+use Rattle.joint_machine.specs.Told.{snap_of, contraction_of, sweep_of, resolution_of, Noted, said_alive, said_cleared}
+use Rattle.joint_machine.specs.Told.{Answer}
 use Rattle.worked_histories.specs.Lines.{Move, move, telling, citing, citing_telling, Came, came, notes_of}
 use Rattle.worked_histories.specs.Moments.{IsWorked}
-use Rattle.worked_histories.specs.Notes.{linking, var, static_no, name_no, cell_no, object_no, peer_no, handle_no, cycle_no, marking_no, span}
+use Rattle.worked_histories.specs.Notes.{linking, var, static_no, name_no, cell_no, object_no, peer_no, handle_no}
+use Rattle.worked_histories.specs.Notes.{cycle_no, marking_no, span}
 
 -- two bridge objects, of which the first has the second in a field; a weak cell has the second, and a weak name the
 -- first's peer; then no slot holds either
 abbrev pub set_up : List Came
 set_up =
-    came (M 1) (move (op.Make User 0) (says.Made (peer_no 1) (handle_no 1)) ∷ citing (op.Adopt (var 0) kind.Bridge 1 (peer_no 1) (handle_no 1)) (says.M (object_no 1)) 0 ∷ [])
-    ∷ came (M 1) (move (op.Make User 0) (says.Made (peer_no 2) (handle_no 2)) ∷ citing (op.Adopt (var 1) kind.Bridge 1 (peer_no 2) (handle_no 2)) (says.M (object_no 2)) 2 ∷ [])
+    came (M 1) (move (op.Make User 0) (says.Made (peer_no 1) (handle_no 1)) ∷ citing
+    (op.Adopt (var 0) kind.Bridge 1 (peer_no 1) (handle_no 1)) (says.M (object_no 1)) 0 ∷ [])
+    ∷ came (M 1) (move (op.Make User 0) (says.Made (peer_no 2) (handle_no 2)) ∷ citing
+    (op.Adopt (var 1) kind.Bridge 1 (peer_no 2) (handle_no 2)) (says.M (object_no 2)) 2 ∷ [])
     ∷ came (M 1) (move (op.Line (act.Set (var 0) 0 (Some (var 1)))) says.Ok ∷ [])
     ∷ came (M 1) (move (op.Line (act.Weak (cell_no 0) (var 1))) says.Ok ∷ [])
-    ∷ came (M 1) (move (op.Lend (var 0) (static_no 0)) (says.H (handle_no 1)) ∷ citing (op.Land (handle_no 1) (static_no 0)) (says.P (peer_no 1)) 6 ∷ [])
+    ∷ came (M 1) (move (op.Lend (var 0) (static_no 0)) (says.H (handle_no 1)) ∷ citing
+    (op.Land (handle_no 1) (static_no 0)) (says.P (peer_no 1)) 6 ∷ [])
     ∷ came (P 1) (move (op.Line (act.Load (var 0) (static_no 0))) (says.P (peer_no 1)) ∷ [])
     ∷ came (P 1) (move (op.Line (act.WGlobal (name_no 0) (var 0))) (says.H (handle_no 3)) ∷ [])
     ∷ came (P 1) (move (op.Line (act.Drop (var 0))) says.Ok ∷ [])
@@ -52,11 +57,29 @@ frees_none j before = telling op.Sweep (says.Swept (marking_no j) (span before 0
 
 -- both are freed: what `mark` sweeps first, the own marking and its sweep, and the number of the clear entry
 abbrev pub freed_by : List Move → ℕ → Move → ℕ → Outcome
-freed_by first j sweep clear = record { first = first; marking = j; sweep = sweep; back = said_cleared; second = said_cleared; clear = clear; freed = 1 ∷ 2 ∷ []; last = says.Gone }
+freed_by first j sweep clear = record {
+  first = first;
+  marking = j;
+  sweep = sweep;
+  back = said_cleared;
+  second = said_cleared;
+  clear = clear;
+  freed = 1 ∷ 2 ∷ [];
+  last = says.Gone;
+}
 
 -- both are kept, by the first marking
 abbrev pub kept_with : ℕ → Outcome
-kept_with clear = record { first = []; marking = 1; sweep = frees_none 1 0; back = said_alive 4; second = said_alive 5; clear = clear; freed = []; last = says.M (object_no 2) }
+kept_with clear = record {
+  first = [];
+  marking = 1;
+  sweep = frees_none 1 0;
+  back = said_alive 4;
+  second = said_alive 5;
+  clear = clear;
+  freed = [];
+  last = says.M (object_no 2);
+}
 
 -- how a restore says an answer
 abbrev pub restoring : Answer → Reply
@@ -67,18 +90,23 @@ restoring said_cleared = says.Cleared
 abbrev pub phase_lines : Outcome → List Came
 phase_lines o =
     came C (telling (op.Snap (cycle_no 1)) (says.Snapped 2 (span 0 0)) (snap_of [] (1 ∷ 2 ∷ []) (1 ∷ 2 ∷ [])) ∷ [])
-    ∷ came C (telling (op.Contract (cycle_no 1)) (says.Sccs 2 1) (contraction_of ((1 ∷ []) ∷ (2 ∷ []) ∷ []) [] ((0, 1) ∷ [])) ∷ [])
+    ∷ came C (telling (op.Contract (cycle_no 1)) (says.Sccs 2 1)
+    (contraction_of ((1 ∷ []) ∷ (2 ∷ []) ∷ []) [] ((0, 1) ∷ [])) ∷ [])
     ∷ came C (citing_telling (op.Mirror (cycle_no 1)) (says.Refs 1) 14 (linking ((1, 2) ∷ [])) ∷ [])
     ∷ came C (citing (op.Weaken (handle_no 1)) says.Ok 14 ∷ citing (op.Weaken (handle_no 2)) says.Ok 14 ∷ [])
     ∷ came C (o.first ++ move op.Begin (says.Mark (marking_no o.marking)) ∷ [])
     ∷ came C (o.sweep ∷ [])
-    ∷ came C (move (op.Restore (handle_no 1)) (restoring o.back) ∷ move (op.Restore (handle_no 2)) (restoring o.second) ∷ move (op.Clear (cycle_no 1)) says.Ok ∷ [])
-    ∷ came C (citing_telling (op.Resolve (cycle_no 1)) (says.Freed (span 0 (length o.freed))) o.clear (resolution_of (o.back ∷ o.second ∷ []) o.freed) ∷ [])
+    ∷ came C (move (op.Restore (handle_no 1)) (restoring o.back) ∷ move
+    (op.Restore (handle_no 2)) (restoring o.second) ∷ move (op.Clear (cycle_no 1)) says.Ok ∷ [])
+    ∷ came C (citing_telling (op.Resolve (cycle_no 1)) (says.Freed (span 0 (length o.freed))) o.clear
+    (resolution_of (o.back ∷ o.second ∷ []) o.freed) ∷ [])
     ∷ []
 
 -- the lines put in after so many phases, and at the end a read of the weak cell
 abbrev pub with_gap : ℕ → List Came → Outcome → List Noted
-with_gap gap lines o = notes_of (set_up ++ (take gap (phase_lines o) ++ (lines ++ (drop gap (phase_lines o) ++ came (M 1) (move (op.Line (act.Read (cell_no 0))) o.last ∷ []) ∷ []))))
+with_gap gap lines o = notes_of (set_up ++
+    (take gap (phase_lines o) ++ (lines ++
+    (drop gap (phase_lines o) ++ came (M 1) (move (op.Line (act.Read (cell_no 0))) o.last ∷ []) ∷ []))))
 
 -- some of the gaps, the lines that come in each of them, what the cycle comes to, and the peers that are unreached at
 -- the begins
@@ -121,7 +149,8 @@ abbrev pub collections : List GapCase
 collections =
     gap_case (1 ∷ 2 ∷ 3 ∷ []) (collects 1 (frees_none 1 0)) (freed_by [] 2 (frees_both 2) 25) (BOTH ++ BOTH)
     ∷ gap_case (4 ∷ []) (collects 1 (frees_both 1)) (freed_by [] 2 (frees_none 2 2) 25) (BOTH ++ NONE)
-    ∷ gap_case (5 ∷ []) (peer_line (move op.Begin (says.MarkOpen (marking_no 1))) ∷ []) (freed_by [] 1 (frees_both 1) 24) BOTH
+    ∷ gap_case (5 ∷ []) (peer_line (move op.Begin (says.MarkOpen (marking_no 1))) ∷ [])
+    (freed_by [] 1 (frees_both 1) 24) BOTH
     ∷ gap_case (6 ∷ []) (collects 2 (frees_none 2 2)) (freed_by [] 1 (frees_both 1) 25) (BOTH ++ NONE)
     ∷ gap_case (7 ∷ []) (collects 2 (frees_none 2 2)) (freed_by [] 1 (frees_both 1) 23) (BOTH ++ NONE)
     ∷ []
@@ -184,8 +213,10 @@ begins reply = peer_line (move op.Begin reply) ∷ []
 -- would
 abbrev pub beginnings : List GapCase
 beginnings =
-    gap_case (1 ∷ 2 ∷ 3 ∷ []) (begins (says.Mark (marking_no 1))) (freed_by (frees_none 1 0 ∷ []) 2 (frees_both 2) 25) (BOTH ++ BOTH)
-    ∷ gap_case (4 ∷ []) (begins (says.Mark (marking_no 1))) (freed_by (frees_both 1 ∷ []) 2 (frees_none 2 2) 25) (BOTH ++ NONE)
+    gap_case (1 ∷ 2 ∷ 3 ∷ []) (begins (says.Mark (marking_no 1)))
+    (freed_by (frees_none 1 0 ∷ []) 2 (frees_both 2) 25) (BOTH ++ BOTH)
+    ∷ gap_case (4 ∷ []) (begins (says.Mark (marking_no 1)))
+    (freed_by (frees_both 1 ∷ []) 2 (frees_none 2 2) 25) (BOTH ++ NONE)
     ∷ gap_case (5 ∷ []) (begins (says.MarkOpen (marking_no 1))) (freed_by [] 1 (frees_both 1) 24) BOTH
     ∷ gap_case (6 ∷ []) (begins (says.Mark (marking_no 2))) (freed_by [] 1 (frees_both 1) 24) (BOTH ++ NONE)
     ∷ gap_case (7 ∷ []) (begins (says.Mark (marking_no 2))) (freed_by [] 1 (frees_both 1) 23) (BOTH ++ NONE)

@@ -29,7 +29,8 @@ pub record DiamondIsContracted : Type 0 where
 
 -- with a cross-reference from node 0 to node 4 the list isn't the diamond's
 abbrev pub DiamondHasNoDetour : Type 0
-DiamondHasNoDetour = IsContraction (Contains diamond_bridges) (HasEdge diamond) diamond_components [] ((0, 1) ∷ (0, 2) ∷ (1, 2) ∷ []) → ⊥
+DiamondHasNoDetour = IsContraction (Contains diamond_bridges)
+    (HasEdge diamond) diamond_components [] ((0, 1) ∷ (0, 2) ∷ (1, 2) ∷ []) → ⊥
 
 -- three bridge nodes in a circle
 abbrev pub ring : List (ℕ × ℕ)
@@ -48,7 +49,8 @@ pub record CircleIsContracted : Type 0 where
 
 -- eight bridge nodes that lead to a plain one, which leads to eight others
 abbrev pub meeting : List (ℕ × ℕ)
-meeting = map (λ x. (x, 9)) (1 ∷ 2 ∷ 3 ∷ 4 ∷ 5 ∷ 6 ∷ 7 ∷ 8 ∷ []) ++ map (λ y. (9, y)) (10 ∷ 11 ∷ 12 ∷ 13 ∷ 14 ∷ 15 ∷ 16 ∷ 17 ∷ [])
+meeting = map (λ x. (x, 9)) (1 ∷ 2 ∷ 3 ∷ 4 ∷ 5 ∷ 6 ∷ 7 ∷ 8 ∷ []) ++ map
+    (λ y. (9, y)) (10 ∷ 11 ∷ 12 ∷ 13 ∷ 14 ∷ 15 ∷ 16 ∷ 17 ∷ [])
 
 abbrev pub meeting_bridges : List ℕ
 meeting_bridges = 1 ∷ 2 ∷ 3 ∷ 4 ∷ 5 ∷ 6 ∷ 7 ∷ 8 ∷ 10 ∷ 11 ∷ 12 ∷ 13 ∷ 14 ∷ 15 ∷ 16 ∷ 17 ∷ []
@@ -61,20 +63,25 @@ abbrev pub meeting_components : List (List ℕ)
 meeting_components = map (λ x. x ∷ []) meeting_bridges
 
 abbrev pub meeting_references : List (ℕ × ℕ)
-meeting_references = map (λ i. (i, 16)) (0 ∷ 1 ∷ 2 ∷ 3 ∷ 4 ∷ 5 ∷ 6 ∷ 7 ∷ []) ++ map (λ i. (16, i)) (8 ∷ 9 ∷ 10 ∷ 11 ∷ 12 ∷ 13 ∷ 14 ∷ 15 ∷ [])
+meeting_references = map (λ i. (i, 16)) (0 ∷ 1 ∷ 2 ∷ 3 ∷ 4 ∷ 5 ∷ 6 ∷ 7 ∷ []) ++ map
+    (λ i. (16, i)) (8 ∷ 9 ∷ 10 ∷ 11 ∷ 12 ∷ 13 ∷ 14 ∷ 15 ∷ [])
 
 -- that class is heavy, so each reference begins or ends at it, and its end of a mirror edge is the first temporary; no
 -- list without it is the graph's
 pub record MeetingIsContracted : Type 0 where
-  pub contraction : IsContraction (Contains meeting_bridges) (HasEdge meeting) meeting_components (9 ∷ []) meeting_references
+  pub contraction : IsContraction (Contains meeting_bridges)
+      (HasEdge meeting) meeting_components (9 ∷ []) meeting_references
   pub mirror : mirror_edges meeting_components meeting_references
-      ≡ map (λ x. (node x, temporary 0)) (1 ∷ 2 ∷ 3 ∷ 4 ∷ 5 ∷ 6 ∷ 7 ∷ 8 ∷ []) ++ map (λ y. (temporary 0, node y)) (10 ∷ 11 ∷ 12 ∷ 13 ∷ 14 ∷ 15 ∷ 16 ∷ 17 ∷ [])
-  pub needed : (xrefs : List (ℕ × ℕ)) → IsContraction (Contains meeting_bridges) (HasEdge meeting) meeting_components [] xrefs → ⊥
+      ≡ map (λ x. (node x, temporary 0)) (1 ∷ 2 ∷ 3 ∷ 4 ∷ 5 ∷ 6 ∷ 7 ∷ 8 ∷ []) ++ map
+      (λ y. (temporary 0, node y)) (10 ∷ 11 ∷ 12 ∷ 13 ∷ 14 ∷ 15 ∷ 16 ∷ 17 ∷ [])
+  pub needed : (xrefs : List (ℕ × ℕ)) → IsContraction
+      (Contains meeting_bridges) (HasEdge meeting) meeting_components [] xrefs → ⊥
 
 -- the same with seven that lead to the plain node: its class isn't heavy, so each of the seven has a reference to each
 -- of the eight
 abbrev pub light_meeting : List (ℕ × ℕ)
-light_meeting = map (λ x. (x, 9)) (2 ∷ 3 ∷ 4 ∷ 5 ∷ 6 ∷ 7 ∷ 8 ∷ []) ++ map (λ y. (9, y)) (10 ∷ 11 ∷ 12 ∷ 13 ∷ 14 ∷ 15 ∷ 16 ∷ 17 ∷ [])
+light_meeting = map (λ x. (x, 9)) (2 ∷ 3 ∷ 4 ∷ 5 ∷ 6 ∷ 7 ∷ 8 ∷ []) ++ map
+    (λ y. (9, y)) (10 ∷ 11 ∷ 12 ∷ 13 ∷ 14 ∷ 15 ∷ 16 ∷ 17 ∷ [])
 
 abbrev pub light_bridges : List ℕ
 light_bridges = 2 ∷ 3 ∷ 4 ∷ 5 ∷ 6 ∷ 7 ∷ 8 ∷ 10 ∷ 11 ∷ 12 ∷ 13 ∷ 14 ∷ 15 ∷ 16 ∷ 17 ∷ []
@@ -86,8 +93,10 @@ abbrev pub light_components : List (List ℕ)
 light_components = map (λ x. x ∷ []) light_bridges
 
 abbrev pub light_references : List (ℕ × ℕ)
-light_references = flat_map (λ i. map (λ j. (i, j)) (7 ∷ 8 ∷ 9 ∷ 10 ∷ 11 ∷ 12 ∷ 13 ∷ 14 ∷ [])) (0 ∷ 1 ∷ 2 ∷ 3 ∷ 4 ∷ 5 ∷ 6 ∷ [])
+light_references = flat_map (λ i. map (λ j. (i, j)) (7 ∷ 8 ∷ 9 ∷ 10 ∷ 11 ∷ 12 ∷ 13 ∷ 14 ∷ []))
+    (0 ∷ 1 ∷ 2 ∷ 3 ∷ 4 ∷ 5 ∷ 6 ∷ [])
 
 pub record LightMeetingIsContracted : Type 0 where
   pub contraction : IsContraction (Contains light_bridges) (HasEdge light_meeting) light_components [] light_references
-  pub not_heavy : (xrefs : List (ℕ × ℕ)) → IsContraction (Contains light_bridges) (HasEdge light_meeting) light_components (9 ∷ []) xrefs → ⊥
+  pub not_heavy : (xrefs : List (ℕ × ℕ))
+      → IsContraction (Contains light_bridges) (HasEdge light_meeting) light_components (9 ∷ []) xrefs → ⊥

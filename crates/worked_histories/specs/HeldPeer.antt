@@ -8,7 +8,8 @@ use Rattle.joint_machine.specs.declared.events.Op.TheVariants as op
 use Rattle.joint_machine.specs.declared.events.Reply.TheVariants as says
 use Rattle.joint_machine.specs.Told.{nothing, snap_of, contraction_of, sweep_of, resolution_of, Noted, said_alive}
 use Rattle.worked_histories.specs.Moments.{IsWorked}
-use Rattle.worked_histories.specs.Notes.{linking, note, var, static_no, object_no, peer_no, handle_no, cycle_no, marking_no, span}
+use Rattle.worked_histories.specs.Notes.{linking, note, var, static_no, object_no, peer_no, handle_no, cycle_no}
+use Rattle.worked_histories.specs.Notes.{marking_no, span}
 
 -- the whole history
 abbrev pub held_peer : List Noted
@@ -31,7 +32,8 @@ held_peer =
     ∷ note 15 (M 1) 12 (op.Line (act.Drop (var 0))) says.Ok None nothing
     ∷ note 16 (M 1) 13 (op.Line (act.Drop (var 1))) says.Ok None nothing
     ∷ note 17 C 14 (op.Snap (cycle_no 1)) (says.Snapped 2 (span 0 0)) None (snap_of [] (1 ∷ 2 ∷ []) (1 ∷ 2 ∷ []))
-    ∷ note 18 C 14 (op.Contract (cycle_no 1)) (says.Sccs 2 1) None (contraction_of ((1 ∷ []) ∷ (2 ∷ []) ∷ []) [] ((0, 1) ∷ []))
+    ∷ note 18 C 14 (op.Contract (cycle_no 1)) (says.Sccs 2 1) None
+    (contraction_of ((1 ∷ []) ∷ (2 ∷ []) ∷ []) [] ((0, 1) ∷ []))
     ∷ note 19 C 14 (op.Mirror (cycle_no 1)) (says.Refs 1) (Some 17) (linking ((1, 2) ∷ []))
     ∷ note 20 C 14 (op.Weaken (handle_no 1)) says.Ok (Some 17) nothing
     ∷ note 21 C 14 (op.Weaken (handle_no 2)) says.Ok (Some 17) nothing
@@ -40,7 +42,8 @@ held_peer =
     ∷ note 24 C 14 (op.Restore (handle_no 1)) (says.Renewed (handle_no 3)) None nothing
     ∷ note 25 C 14 (op.Restore (handle_no 2)) (says.Renewed (handle_no 4)) None nothing
     ∷ note 26 C 14 (op.Clear (cycle_no 1)) says.Ok None nothing
-    ∷ note 27 C 14 (op.Resolve (cycle_no 1)) (says.Freed (span 0 0)) (Some 26) (resolution_of ((said_alive 3) ∷ (said_alive 4) ∷ []) [])
+    ∷ note 27 C 14 (op.Resolve (cycle_no 1)) (says.Freed (span 0 0))
+    (Some 26) (resolution_of ((said_alive 3) ∷ (said_alive 4) ∷ []) [])
     ∷ []
 
 -- the notes make a linked history, and the entries that are steps of the joint machine are a run

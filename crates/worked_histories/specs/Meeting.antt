@@ -12,9 +12,11 @@ use Rattle.joint_machine.specs.declared.events.Reply.TheVariants as says
 use Rattle.joint_machine.specs.Components.{End, node, temporary}
 use Rattle.joint_machine.specs.Linked.{Linkage, opening_linkage, MayCome}
 use Rattle.joint_machine.specs.Replaying.{replayed}
-use Rattle.joint_machine.specs.Told.{nothing, snap_of, contraction_of, references_of, sweep_of, resolution_of, Noted, Answer, said_alive, said_cleared}
+use Rattle.joint_machine.specs.Told.{nothing, snap_of, contraction_of, references_of, sweep_of, resolution_of, Noted}
+use Rattle.joint_machine.specs.Told.{Answer, said_alive, said_cleared}
 use Rattle.worked_histories.specs.Moments.{IsWorked}
-use Rattle.worked_histories.specs.Notes.{note, var, static_no, object_no, peer_no, handle_no, cycle_no, marking_no, span}
+use Rattle.worked_histories.specs.Notes.{note, var, static_no, object_no, peer_no, handle_no, cycle_no, marking_no}
+use Rattle.worked_histories.specs.Notes.{span}
 
 -- eight places
 abbrev pub eight : List ℕ
@@ -24,14 +26,16 @@ eight = 0 ∷ 1 ∷ 2 ∷ 3 ∷ 4 ∷ 5 ∷ 6 ∷ 7 ∷ []
 abbrev pub leader : ℕ → List Noted
 leader i =
     note (3 * i + 1) (M 1) (2 * i + 2) (op.Make User 0) (says.Made (peer_no (i + 1)) (handle_no (i + 1))) None nothing
-    ∷ note (3 * i + 2) (M 1) (2 * i + 2) (op.Adopt (var 1) kind.Bridge 1 (peer_no (i + 1)) (handle_no (i + 1))) (says.M (object_no (i + 2))) (Some (3 * i + 1)) nothing
+    ∷ note (3 * i + 2) (M 1) (2 * i + 2) (op.Adopt (var 1) kind.Bridge 1 (peer_no (i + 1)) (handle_no (i + 1)))
+    (says.M (object_no (i + 2))) (Some (3 * i + 1)) nothing
     ∷ note (3 * i + 3) (M 1) (2 * i + 3) (op.Line (act.Set (var 1) 0 (Some (var 0)))) says.Ok None nothing
     ∷ []
 
 abbrev pub follower : ℕ → List Noted
 follower i =
     note (3 * i + 27) (M 1) (2 * i + 19) (op.Make User 0) (says.Made (peer_no (i + 9)) (handle_no (i + 9))) None nothing
-    ∷ note (3 * i + 28) (M 1) (2 * i + 19) (op.Adopt (var 1) kind.Bridge 0 (peer_no (i + 9)) (handle_no (i + 9))) (says.M (object_no (i + 10))) (Some (3 * i + 27)) nothing
+    ∷ note (3 * i + 28) (M 1) (2 * i + 19) (op.Adopt (var 1) kind.Bridge 0 (peer_no (i + 9)) (handle_no (i + 9)))
+    (says.M (object_no (i + 10))) (Some (3 * i + 27)) nothing
     ∷ note (3 * i + 29) (M 1) (2 * i + 20) (op.Line (act.Set (var 0) i (Some (var 1)))) says.Ok None nothing
     ∷ []
 
@@ -61,7 +65,8 @@ met_edges = map (λ i. (node (i + 1), temporary 0)) eight ++ map (λ i. (tempora
 abbrev pub meeting_begun : List Noted
 meeting_begun =
     note 53 C 37 (op.Snap (cycle_no 1)) (says.Snapped 16 (span 0 0)) None (snap_of [] met (1 ∷ met))
-    ∷ note 54 C 37 (op.Contract (cycle_no 1)) (says.Sccs 17 16) None (contraction_of (map (λ m. m ∷ []) met) (1 ∷ []) (map (λ i. (i, 16)) eight ++ map (λ i. (16, i + 8)) eight))
+    ∷ note 54 C 37 (op.Contract (cycle_no 1)) (says.Sccs 17 16) None
+    (contraction_of (map (λ m. m ∷ []) met) (1 ∷ []) (map (λ i. (i, 16)) eight ++ map (λ i. (16, i + 8)) eight))
     ∷ note 55 C 37 (op.Mirror (cycle_no 1)) (says.Refs 16) (Some 53) (references_of met_edges)
     ∷ map (λ i. note (i + 56) C 37 (op.Weaken (handle_no (i + 1))) says.Ok (Some 53) nothing) eight
     ++ map (λ i. note (i + 64) C 37 (op.Weaken (handle_no (i + 9))) says.Ok (Some 53) nothing) eight
@@ -80,9 +85,11 @@ meeting_kept =
     note 73 C 37 op.Sweep (says.Swept (marking_no 1) (span 0 7)) None (sweep_of (map (λ i. i + 1) seven))
     ∷ map (λ i. note (i + 74) C 37 (op.Restore (handle_no (i + 1))) says.Cleared None nothing) seven
     ++ note 81 C 37 (op.Restore (handle_no 8)) (says.Renewed (handle_no 17)) None nothing
-    ∷ map (λ i. note (i + 82) C 37 (op.Restore (handle_no (i + 9))) (says.Renewed (handle_no (i + 18))) None nothing) eight
+    ∷ map (λ i. note (i + 82) C 37 (op.Restore (handle_no (i + 9))) (says.Renewed (handle_no (i + 18))) None nothing)
+    eight
     ++ note 90 C 37 (op.Clear (cycle_no 1)) says.Ok None nothing
-    ∷ note 91 C 37 (op.Resolve (cycle_no 1)) (says.Freed (span 0 7)) (Some 90) (resolution_of met_answers (map (λ i. i + 2) seven))
+    ∷ note 91 C 37 (op.Resolve (cycle_no 1)) (says.Freed (span 0 7))
+    (Some 90) (resolution_of met_answers (map (λ i. i + 2) seven))
     ∷ []
 
 -- the whole history
@@ -100,4 +107,5 @@ before_meeting_sweep = replayed opening_linkage (meeting_made ++ meeting_begun)
 
 -- no sweep may come there that frees a peer which is reached through the temporary alone
 abbrev pub TemporaryHolds : Type 0
-TemporaryHolds = (freed : List ℕ) (reply : Reply) → Contains freed 9 → MayCome before_meeting_sweep (note 73 C 37 op.Sweep reply None (sweep_of freed)) → ⊥
+TemporaryHolds = (freed : List ℕ) (reply : Reply) → Contains freed 9
+    → MayCome before_meeting_sweep (note 73 C 37 op.Sweep reply None (sweep_of freed)) → ⊥

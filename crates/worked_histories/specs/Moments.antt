@@ -20,7 +20,8 @@ is_step n = if is_aside n then false else is_joint n.entry.made.op
 
 -- the joint state of a linked history, with the graph that stood at the begin of the open marking
 abbrev pub linked_joint : Linkage → Graph → Joint
-linked_joint s begun = joint_since s.managed.managed s.peer (answers_at s.control.stand (length (candidates_of s.managed.managed))) begun
+linked_joint s begun = joint_since s.managed.managed s.peer
+    (answers_at s.control.stand (length (candidates_of s.managed.managed))) begun
 
 -- the graph of now
 abbrev pub linked_graph : Linkage → Graph
@@ -40,7 +41,11 @@ moment_if false m ms = ms
 abbrev pub moments_from : Graph → Linkage → List Noted → List Moment
 moments_from begun s [] = []
 moments_from begun s (n ∷ ns) = moment_if (is_step n)
-    record { before = linked_joint s begun; noted = n; after = linked_joint (entry_after s n) (begun_with n.entry.made.reply (linked_graph s) begun) }
+    record {
+      before = linked_joint s begun;
+      noted = n;
+      after = linked_joint (entry_after s n) (begun_with n.entry.made.reply (linked_graph s) begun);
+    }
     (moments_from (begun_with n.entry.made.reply (linked_graph s) begun) (entry_after s n) ns)
 
 -- the moments of a linked history

@@ -18,7 +18,14 @@ use Rattle.joint_machine.specs.Told.{Told, references_of, Noted}
 
 -- the entry with that number, by that caller on that line, with its event, its reply, what it cites and what is told
 abbrev pub note : ℕ → Thread → ℕ → Op → Reply → Option ℕ → Told → Noted
-note number caller line o reply cites told = record { entry = record { number = number; made = record { caller = caller; index = line; op = o; reply = reply; cites = cites } }; told = told }
+note number caller line o reply cites
+    told = record {
+      entry = record {
+        number = number;
+        made = record { caller = caller; index = line; op = o; reply = reply; cites = cites };
+      };
+      told = told;
+    }
 
 -- a mirror is told references between peers alone
 abbrev pub linking : List (ℕ × ℕ) → Told

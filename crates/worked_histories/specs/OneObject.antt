@@ -6,7 +6,8 @@ use Rattle.joint_machine.specs.declared.names.Kind.TheVariants as kind
 use Rattle.joint_machine.specs.declared.lines.Act.TheVariants as act
 use Rattle.joint_machine.specs.declared.events.Op.TheVariants as op
 use Rattle.joint_machine.specs.declared.events.Reply.TheVariants as says
-use Rattle.joint_machine.specs.Told.{nothing, snap_of, contraction_of, references_of, sweep_of, resolution_of, Noted, said_cleared}
+use Rattle.joint_machine.specs.Told.{nothing, snap_of, contraction_of, references_of, sweep_of, resolution_of, Noted}
+use Rattle.joint_machine.specs.Told.{said_cleared}
 use Rattle.worked_histories.specs.Moments.{IsWorked}
 use Rattle.worked_histories.specs.Notes.{note, var, object_no, peer_no, handle_no, cycle_no, marking_no, span}
 
@@ -24,7 +25,8 @@ one_object =
     ∷ note 8 C 3 op.Sweep (says.Swept (marking_no 1) (span 0 1)) None (sweep_of (1 ∷ []))
     ∷ note 9 C 3 (op.Restore (handle_no 1)) says.Cleared None nothing
     ∷ note 10 C 3 (op.Clear (cycle_no 1)) says.Ok None nothing
-    ∷ note 11 C 3 (op.Resolve (cycle_no 1)) (says.Freed (span 0 1)) (Some 10) (resolution_of (said_cleared ∷ []) (1 ∷ []))
+    ∷ note 11 C 3 (op.Resolve (cycle_no 1)) (says.Freed (span 0 1))
+    (Some 10) (resolution_of (said_cleared ∷ []) (1 ∷ []))
     ∷ note 12 C 4 (op.Line (act.Finalise 1)) (says.Took (span 0 1)) None nothing
     ∷ note 13 C 5 (op.Line (act.Finalise 5)) (says.Took (span 1 0)) None nothing
     ∷ []

@@ -33,7 +33,8 @@ peer_marking =
     ∷ note 17 C 14 (op.Restore (handle_no 1)) says.Cleared None nothing
     ∷ note 18 C 14 (op.Restore (handle_no 2)) says.Cleared None nothing
     ∷ note 19 C 14 (op.Clear (cycle_no 1)) says.Ok None nothing
-    ∷ note 20 C 15 (op.Resolve (cycle_no 1)) (says.Freed (span 0 2)) (Some 19) (resolution_of (said_cleared ∷ said_cleared ∷ []) (1 ∷ 2 ∷ []))
+    ∷ note 20 C 15 (op.Resolve (cycle_no 1)) (says.Freed (span 0 2))
+    (Some 19) (resolution_of (said_cleared ∷ said_cleared ∷ []) (1 ∷ 2 ∷ []))
     ∷ []
 
 -- the notes make a linked history, and the entries that are steps of the joint machine are a run

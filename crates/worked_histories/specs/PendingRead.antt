@@ -6,7 +6,8 @@ use Rattle.joint_machine.specs.declared.names.Kind.TheVariants as kind
 use Rattle.joint_machine.specs.declared.lines.Act.TheVariants as act
 use Rattle.joint_machine.specs.declared.events.Op.TheVariants as op
 use Rattle.joint_machine.specs.declared.events.Reply.TheVariants as says
-use Rattle.joint_machine.specs.Told.{nothing, snap_of, contraction_of, references_of, sweep_of, resolution_of, Noted, said_cleared}
+use Rattle.joint_machine.specs.Told.{nothing, snap_of, contraction_of, references_of, sweep_of, resolution_of, Noted}
+use Rattle.joint_machine.specs.Told.{said_cleared}
 use Rattle.worked_histories.specs.Moments.{IsWorked}
 use Rattle.worked_histories.specs.Notes.{note, var, cell_no, object_no, peer_no, handle_no, cycle_no, marking_no, span}
 
@@ -27,7 +28,8 @@ pending_read =
     ∷ note 11 C 11 (op.Restore (handle_no 1)) says.Cleared None nothing
     ∷ note 12 C 11 (op.Clear (cycle_no 1)) says.Ok None nothing
     ∷ note 13 (M 1) 12 (op.Line (act.Await (cell_no 0))) (says.Pending (cycle_no 1)) None nothing
-    ∷ note 14 C 13 (op.Resolve (cycle_no 1)) (says.Freed (span 0 1)) (Some 12) (resolution_of (said_cleared ∷ []) (1 ∷ []))
+    ∷ note 14 C 13 (op.Resolve (cycle_no 1)) (says.Freed (span 0 1))
+    (Some 12) (resolution_of (said_cleared ∷ []) (1 ∷ []))
     ∷ note 15 (M 1) 14 (op.Line (act.Read (cell_no 0))) says.Gone None nothing
     ∷ []
 

@@ -11,7 +11,8 @@ use Rattle.joint_machine.specs.declared.events.Reply.TheVariants as says
 use Rattle.joint_machine.specs.Components.{End, between_nodes}
 use Rattle.joint_machine.specs.Linked.{Linkage, opening_linkage, MayCome}
 use Rattle.joint_machine.specs.Replaying.{replayed}
-use Rattle.joint_machine.specs.Told.{nothing, snap_of, contraction_of, references_of, sweep_of, resolution_of, Noted, said_cleared, Answer}
+use Rattle.joint_machine.specs.Told.{nothing, snap_of, contraction_of, references_of, sweep_of, resolution_of, Noted}
+use Rattle.joint_machine.specs.Told.{said_cleared, Answer}
 use Rattle.worked_histories.specs.Notes.{linking, note, var, object_no, peer_no, handle_no, cycle_no, marking_no, span}
 
 -- both objects are made, the first gets the second into its field, and the second's variable is emptied
@@ -42,7 +43,8 @@ abbrev pub dead_snap : List Noted
 dead_snap =
     note 13 (M 1) 6 (op.Line (act.Drop (var 0))) says.Ok None nothing
     ∷ note 14 C 7 (op.Snap (cycle_no 2)) (says.Snapped 2 (span 0 0)) None (snap_of [] (1 ∷ 2 ∷ []) (1 ∷ 2 ∷ []))
-    ∷ note 15 C 7 (op.Contract (cycle_no 2)) (says.Sccs 2 1) None (contraction_of ((1 ∷ []) ∷ (2 ∷ []) ∷ []) [] ((0, 1) ∷ []))
+    ∷ note 15 C 7 (op.Contract (cycle_no 2)) (says.Sccs 2 1) None
+    (contraction_of ((1 ∷ []) ∷ (2 ∷ []) ∷ []) [] ((0, 1) ∷ []))
     ∷ []
 
 -- both handles are weakened, and the marking has begun
@@ -75,7 +77,8 @@ dead_peers = weakened_both ++ (restored_first ++ restored_last)
 
 -- both objects are freed
 abbrev pub dead_end : List Noted
-dead_end = note 24 C 7 (op.Resolve (cycle_no 2)) (says.Freed (span 0 2)) (Some 23) (resolution_of (said_cleared ∷ said_cleared ∷ []) (1 ∷ 2 ∷ [])) ∷ []
+dead_end = note 24 C 7 (op.Resolve (cycle_no 2)) (says.Freed (span 0 2))
+    (Some 23) (resolution_of (said_cleared ∷ said_cleared ∷ []) (1 ∷ 2 ∷ [])) ∷ []
 
 -- the whole history
 abbrev pub two_phased : List Noted
@@ -100,17 +103,22 @@ before_resolve = replayed before_mirror dead_peers
 
 -- the set that may come there answers ok, and nothing else
 abbrev pub SetsField : Type 0
-SetsField = (reply : Reply) → MayCome before_set (note 4 (M 1) 3 (op.Line (act.Set (var 0) 0 (Some (var 1)))) reply None nothing) → reply ≡ says.Ok
+SetsField = (reply : Reply) → MayCome before_set
+    (note 4 (M 1) 3 (op.Line (act.Set (var 0) 0 (Some (var 1)))) reply None nothing) → reply ≡ says.Ok
 
 -- no snap that frees the first object may come after the making
 abbrev pub KeepsReached : Type 0
-KeepsReached = (freed candidates dead : List ℕ) (reply : Reply) → Contains freed 1 → MayCome making_phased (note 6 C 5 (op.Snap (cycle_no 1)) reply None (snap_of freed candidates dead)) → ⊥
+KeepsReached = (freed candidates dead : List ℕ) (reply : Reply) → Contains freed 1
+    → MayCome making_phased (note 6 C 5 (op.Snap (cycle_no 1)) reply None (snap_of freed candidates dead)) → ⊥
 
 -- a mirror that may come there adds the one reference, and no other list
 abbrev pub MirrorsBoth : Type 0
-MirrorsBoth = (refs : List (End × End)) (reply : Reply) → MayCome before_mirror (note 16 C 7 (op.Mirror (cycle_no 2)) reply (Some 14) (references_of refs)) → refs ≡ map between_nodes ((1, 2) ∷ [])
+MirrorsBoth = (refs : List (End × End)) (reply : Reply)
+    → MayCome before_mirror (note 16 C 7 (op.Mirror (cycle_no 2)) reply (Some 14) (references_of refs))
+    → refs ≡ map between_nodes ((1, 2) ∷ [])
 
 -- a resolution that may come there keeps neither candidate, and frees both
 abbrev pub ResolvesBoth : Type 0
-ResolvesBoth = (alive : List Answer) (freed : List ℕ) (reply : Reply) → MayCome before_resolve (note 24 C 7 (op.Resolve (cycle_no 2)) reply (Some 23) (resolution_of alive freed))
+ResolvesBoth = (alive : List Answer) (freed : List ℕ) (reply : Reply)
+    → MayCome before_resolve (note 24 C 7 (op.Resolve (cycle_no 2)) reply (Some 23) (resolution_of alive freed))
     → (alive ≡ said_cleared ∷ said_cleared ∷ []) × Contains freed 1 × Contains freed 2

@@ -60,4 +60,5 @@ before_pinned_cycle = replayed once_pinned pinned_twice
 
 -- a second read that may come there answers that the object is pinned, and nothing else
 abbrev pub ReadsPinned : Type 0
-ReadsPinned = (reply : Reply) → MayCome once_pinned (note 6 (M 1) 6 (op.Line (act.Read (cell_no 5))) reply None nothing) → reply ≡ says.Pinned (object_no 1)
+ReadsPinned = (reply : Reply) → MayCome once_pinned (note 6 (M 1) 6 (op.Line (act.Read (cell_no 5))) reply None nothing)
+    → reply ≡ says.Pinned (object_no 1)

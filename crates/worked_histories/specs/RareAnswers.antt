@@ -8,9 +8,11 @@ use Rattle.joint_machine.specs.declared.names.Kind.TheVariants as kind
 use Rattle.joint_machine.specs.declared.lines.Act.TheVariants as act
 use Rattle.joint_machine.specs.declared.events.Op.TheVariants as op
 use Rattle.joint_machine.specs.declared.events.Reply.TheVariants as says
-use Rattle.joint_machine.specs.Told.{nothing, snap_of, contraction_of, references_of, sweep_of, resolution_of, Noted, said_cleared}
+use Rattle.joint_machine.specs.Told.{nothing, snap_of, contraction_of, references_of, sweep_of, resolution_of, Noted}
+use Rattle.joint_machine.specs.Told.{said_cleared}
 use Rattle.worked_histories.specs.Moments.{IsWorked}
-use Rattle.worked_histories.specs.Notes.{note, var, static_no, cell_no, object_no, peer_no, handle_no, cycle_no, marking_no, span}
+use Rattle.worked_histories.specs.Notes.{note, var, static_no, cell_no, object_no, peer_no, handle_no, cycle_no}
+use Rattle.worked_histories.specs.Notes.{marking_no, span}
 
 -- a bridge object is in a pin, and reading its empty field makes a variable let go of a plain object, which the
 -- snapshot frees. While the cycle is open a filled pin answers that it is, and an unset cell that the cycle is open; no
@@ -42,7 +44,8 @@ answers_while_open =
 abbrev pub framework_twin : List Noted
 framework_twin =
     note 0 (M 1) 1 (op.Make Framework 2) (says.Made (peer_no 1) (handle_no 1)) None nothing
-    ∷ note 1 (M 1) 1 (op.Adopt (var 0) kind.LeafBridge 0 (peer_no 1) (handle_no 1)) (says.M (object_no 1)) (Some 0) nothing
+    ∷ note 1 (M 1) 1 (op.Adopt (var 0) kind.LeafBridge 0 (peer_no 1) (handle_no 1))
+    (says.M (object_no 1)) (Some 0) nothing
     ∷ note 2 (M 1) 2 (op.Lend (var 0) (static_no 0)) (says.H (handle_no 1)) None nothing
     ∷ note 3 (M 1) 2 (op.Land (handle_no 1) (static_no 0)) (says.P (peer_no 1)) (Some 2) nothing
     ∷ note 4 (M 1) 3 (op.Give (var 0)) (says.H (handle_no 1)) None nothing
@@ -68,7 +71,8 @@ begun_before_restore =
     ∷ note 10 C 10 (op.Restore (handle_no 1)) says.Cleared None nothing
     ∷ note 11 (P 1) 9 op.Sweep (says.Swept (marking_no 2) (span 1 0)) None (sweep_of [])
     ∷ note 12 C 10 (op.Clear (cycle_no 1)) says.Ok None nothing
-    ∷ note 13 C 11 (op.Resolve (cycle_no 1)) (says.Freed (span 0 1)) (Some 12) (resolution_of (said_cleared ∷ []) (1 ∷ []))
+    ∷ note 13 C 11 (op.Resolve (cycle_no 1)) (says.Freed (span 0 1))
+    (Some 12) (resolution_of (said_cleared ∷ []) (1 ∷ []))
     ∷ []
 
 -- the notes of each make a linked history, and the entries that are steps of the joint machine are a run

@@ -25,7 +25,8 @@ PinnedReadings = IsLinkedBy (finished_of pinned_object) pinned_object
 
 -- the history up to the end of the cycle, and then a read that is pending still
 abbrev pub pending_after_end : List Noted
-pending_after_end = take 15 pending_read ++ note 15 (M 1) 14 (op.Line (act.Read (cell_no 0))) (says.Pending (cycle_no 1)) None nothing ∷ []
+pending_after_end = take 15 pending_read ++ note 15 (M 1) 14
+    (op.Line (act.Read (cell_no 0))) (says.Pending (cycle_no 1)) None nothing ∷ []
 
 -- the same with an entry of the reader between, which shows that the managed side went on
 abbrev pub pending_too_late : List Noted

@@ -5,7 +5,8 @@ use Rattle.joint_machine.specs.declared.names.Phase.TheVariants as at
 use Rattle.joint_machine.specs.declared.names.PhaseWord.TheVariants as word
 use Rattle.joint_machine.specs.declared.events.Op.TheVariants as op
 use Rattle.joint_machine.specs.declared.events.Reply.TheVariants as says
-use Rattle.joint_machine.specs.Told.{nothing, snap_of, contraction_of, references_of, sweep_of, resolution_of, phase_of, Noted}
+use Rattle.joint_machine.specs.Told.{nothing, snap_of, contraction_of, references_of, sweep_of, resolution_of, phase_of}
+use Rattle.joint_machine.specs.Told.{Noted}
 use Rattle.worked_histories.specs.Moments.{IsWorked}
 use Rattle.worked_histories.specs.Notes.{note, cycle_no, marking_no, span}
 

@@ -43,7 +43,8 @@ pub record AreRefused : Type 0 where
   pub comes : MayCome once_made (drops_on 5)
   pub line_falls : MayCome once_made (drops_on 4) → ⊥
   pub line_is_long : MayCome once_made (drops_on 4294967296) → ⊥
-  pub not_its_event : MayCome once_made (note 2 (M 1) 5 (op.Snap (cycle_no 1)) (says.Snapped 0 (span 0 0)) None (snap_of [] [] [])) → ⊥
+  pub not_its_event : MayCome once_made
+      (note 2 (M 1) 5 (op.Snap (cycle_no 1)) (says.Snapped 0 (span 0 0)) None (snap_of [] [] [])) → ⊥
   pub not_its_answer : MayCome once_made (note 2 (M 1) 5 (op.Line (act.Drop (var 0))) says.Empty None nothing) → ⊥
   pub released_unasked : MayCome once_made (note 2 (M 1) 5 (op.Release (handle_no 1)) says.Ok None nothing) → ⊥
   pub half_lawful : AllMayCome opening_linkage disposed_halfway

@@ -10,9 +10,11 @@ use Rattle.joint_machine.specs.declared.events.Reply.{Reply}
 use Rattle.joint_machine.specs.declared.events.Reply.TheVariants as says
 use Rattle.joint_machine.specs.Linked.{Linkage, opening_linkage, MayCome}
 use Rattle.joint_machine.specs.Replaying.{replayed}
-use Rattle.joint_machine.specs.Told.{nothing, snap_of, contraction_of, references_of, sweep_of, resolution_of, Noted, said_alive}
+use Rattle.joint_machine.specs.Told.{nothing, snap_of, contraction_of, references_of, sweep_of, resolution_of, Noted}
+use Rattle.joint_machine.specs.Told.{said_alive}
 use Rattle.worked_histories.specs.Moments.{IsWorked}
-use Rattle.worked_histories.specs.Notes.{note, var, static_no, cell_no, object_no, peer_no, handle_no, cycle_no, marking_no, span}
+use Rattle.worked_histories.specs.Notes.{note, var, static_no, cell_no, object_no, peer_no, handle_no, cycle_no}
+use Rattle.worked_histories.specs.Notes.{marking_no, span}
 
 -- the object's peer comes into a static, its handle is read, and only a weak cell knows it any more
 abbrev pub renewed_before : List Noted
@@ -49,7 +51,8 @@ renewed_taken =
 
 -- the whole history
 abbrev pub renewed_handle : List Noted
-renewed_handle = renewed_before ++ (renewed_cycle ++ (renewed_taken ++ note 18 (M 1) 9 (op.Line (act.Handle (var 0))) (says.H (handle_no 2)) None nothing ∷ []))
+renewed_handle = renewed_before ++ (renewed_cycle ++
+    (renewed_taken ++ note 18 (M 1) 9 (op.Line (act.Handle (var 0))) (says.H (handle_no 2)) None nothing ∷ []))
 
 -- the notes make a linked history, and the entries that are steps of the joint machine are a run
 abbrev pub RenewedHandleHolds : Type 0
@@ -61,4 +64,5 @@ renewed_and_taken = replayed opening_linkage (renewed_before ++ (renewed_cycle +
 
 -- an answer that may come there is the new handle, and nothing else
 abbrev pub ReadsRenewed : Type 0
-ReadsRenewed = (reply : Reply) → MayCome renewed_and_taken (note 18 (M 1) 9 (op.Line (act.Handle (var 0))) reply None nothing) → reply ≡ says.H (handle_no 2)
+ReadsRenewed = (reply : Reply) → MayCome renewed_and_taken
+    (note 18 (M 1) 9 (op.Line (act.Handle (var 0))) reply None nothing) → reply ≡ says.H (handle_no 2)

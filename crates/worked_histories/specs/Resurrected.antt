@@ -6,9 +6,11 @@ use Rattle.joint_machine.specs.declared.names.Kind.TheVariants as kind
 use Rattle.joint_machine.specs.declared.lines.Act.TheVariants as act
 use Rattle.joint_machine.specs.declared.events.Op.TheVariants as op
 use Rattle.joint_machine.specs.declared.events.Reply.TheVariants as says
-use Rattle.joint_machine.specs.Told.{nothing, snap_of, contraction_of, references_of, sweep_of, resolution_of, Noted, said_alive}
+use Rattle.joint_machine.specs.Told.{nothing, snap_of, contraction_of, references_of, sweep_of, resolution_of, Noted}
+use Rattle.joint_machine.specs.Told.{said_alive}
 use Rattle.worked_histories.specs.Moments.{IsWorked}
-use Rattle.worked_histories.specs.Notes.{note, var, static_no, name_no, object_no, peer_no, handle_no, cycle_no, marking_no, span}
+use Rattle.worked_histories.specs.Notes.{note, var, static_no, name_no, object_no, peer_no, handle_no, cycle_no}
+use Rattle.worked_histories.specs.Notes.{marking_no, span}
 
 -- the whole history
 abbrev pub resurrected : List Noted

@@ -25,7 +25,8 @@ with_no_pins n = record n { told = if is_pinned n.entry.made.op then kept_pins n
 
 abbrev pub managed_notes : List Noted → List Noted
 managed_notes [] = []
-managed_notes (n ∷ ns) = if is_peer_event n.entry.made.caller n.entry.made.op then managed_notes ns else with_no_pins n ∷ managed_notes ns
+managed_notes (n ∷ ns) = if is_peer_event n.entry.made.caller
+    n.entry.made.op then managed_notes ns else with_no_pins n ∷ managed_notes ns
 
 -- the state after a list of entries
 abbrev pub state_after : {S : Type 0} → SideRules S → S → List Noted → S

@@ -73,7 +73,8 @@ abbrev pub resolves_none : Noted
 resolves_none = note 3 C 1 (op.Resolve (cycle_no 1)) (says.Freed (span 0 0)) None (resolution_of (said_cleared ∷ []) [])
 
 abbrev pub resolves_two : Noted
-resolves_two = note 3 C 1 (op.Resolve (cycle_no 1)) (says.Freed (span 0 1)) None (resolution_of (said_cleared ∷ []) (2 ∷ []))
+resolves_two = note 3 C 1 (op.Resolve (cycle_no 1))
+    (says.Freed (span 0 1)) None (resolution_of (said_cleared ∷ []) (2 ∷ []))
 
 -- a candidate is freed, and no sweep freed its peer
 abbrev pub freed_without_sweep : List Moment
@@ -98,7 +99,8 @@ resolved_while_reached = moment_of object_named resolves_two object_named ∷ []
 
 -- a whole cycle that frees nothing, over one state
 abbrev pub cycle_run : Joint → Noted → List Moment
-cycle_run j snaps = moment_of j snaps j ∷ moment_of j begins_one j ∷ moment_of j sweeps_none j ∷ moment_of j resolves_none j ∷ []
+cycle_run j snaps = moment_of j snaps j ∷ moment_of j begins_one
+    j ∷ moment_of j sweeps_none j ∷ moment_of j resolves_none j ∷ []
 
 -- it leaves its candidate, which nothing reached
 abbrev pub leaves_candidate : List Moment

@@ -1,7 +1,8 @@
 // A cycle between whose phases another caller's lines come, in each of its seven gaps: every history is a whole linked
 // one, and its projection is a run.
 
-ghost use Rattle.worked_histories.specs.Gaps.{BeginsInGaps, CollectsInGaps, DropsInGaps, ReadsInGaps, StoresInGaps, WaitsInGaps};
+ghost use Rattle.worked_histories.specs.Gaps.{BeginsInGaps, CollectsInGaps, DropsInGaps, ReadsInGaps, StoresInGaps};
+ghost use Rattle.worked_histories.specs.Gaps.{WaitsInGaps};
 
 /// A collection of the peer thread: before the weakening it frees nothing, after it both peers in the cycle's place,
 /// and in the cycle's own marking it is told of that one.

@@ -1,6 +1,7 @@
 // The components of small graphs.
 
-ghost use Rattle.worked_histories.specs.Graphs.{DiamondIsContracted, DiamondHasNoDetour, CircleIsContracted, MeetingIsContracted, LightMeetingIsContracted};
+ghost use Rattle.worked_histories.specs.Graphs.{DiamondIsContracted, DiamondHasNoDetour, CircleIsContracted};
+ghost use Rattle.worked_histories.specs.Graphs.{MeetingIsContracted, LightMeetingIsContracted};
 
 /// Two plain nodes between the bridge nodes 0 and 3, and the bridge node 4 after 3: three components of one node each,
 /// with a cross-reference from each to the next, and one mirror edge for each of the two.

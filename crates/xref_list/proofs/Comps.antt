@@ -1,6 +1,7 @@
 -- One component more: the flat lists stay cut into components, and the components stay in their order and
 -- apart. There are never more than 4,294,967,294, because first members rise and are below that.
-use Rattle.std.proofs.Common.{◌≡◌, ◌≢◌, ◌⊎◌, ℕ, suc, ◌+◌, ◌-◌, ◌<◌, ◌≤◌, Bool, List, [], ◌∷◌, ◌++◌, length, map, get_or, Some, Result, Ok, Err, IfOk, OnOk, OnErr, refl, sym, subst, drop, append_assoc, drop-cons, add-one, ◌∙◌, ap, arith, inl, inr}
+use Rattle.std.proofs.Common.{◌≡◌, ◌≢◌, ◌⊎◌, ℕ, suc, ◌+◌, ◌-◌, ◌<◌, ◌≤◌, Bool, List, [], ◌∷◌, ◌++◌, length, map, get_or, Some, Result, Ok, Err, IfOk, OnOk, OnErr, refl, sym, subst, drop, append_assoc}
+use Rattle.std.proofs.Common.{drop-cons, add-one, ◌∙◌, ap, arith, inl, inr}
 use Rattle.std.proofs.lemmas.Bool.{lt-ltb, le-ltb}
 use Rattle.std.proofs.lemmas.List.{append-nil, drop_all, get_or_append_left, get_or-append_right, get_or-map, length_push, length-append, length-map, map_push, flat_map_more}
 use Rattle.std.proofs.lemmas.List.FromFn.{length-map-range_with_len}
@@ -130,7 +131,13 @@ edge_of comps p = (end_at comps p.0, end_at comps p.1)
 
 pub mirror-count : (comps : List (List ℕ)) (pairs circles : List (ℕ × ℕ)) → circles ≡ flat_map circle comps → length (mirror_edges comps pairs) ≡ length circles + length pairs
 mirror-count comps pairs circles is =
-    omega (arith, ap length is, length-append (map between_nodes (flat_map circle comps)) (map (edge_of comps) pairs), length-map (flat_map circle comps) between_nodes, length-map pairs (edge_of comps))
+    omega (
+      arith,
+      ap length is,
+      length-append (map between_nodes (flat_map circle comps)) (map (edge_of comps) pairs),
+      length-map (flat_map circle comps) between_nodes,
+      length-map pairs (edge_of comps),
+    )
 
 edge-at : (comps : List (List ℕ)) (pairs circles : List (ℕ × ℕ)) (i : ℕ) (e : exact.End × exact.End) → circles ≡ flat_map circle comps → i < length circles + length pairs
     → e ≡ get_or (map between_nodes circles ++ map (edge_of comps) pairs) i e → slice_get (answered comps pairs) i ≡ Some (ends_of (length comps) e)
@@ -149,7 +156,8 @@ mirror-circle comps pairs circles i e is within at =
     (sym (get_or_append_left (map between_nodes circles) (map (edge_of comps) pairs) (between_nodes e) i (omega (arith, within, length-map circles between_nodes))
     ∙ (get_or-map between_nodes circles i e (between_nodes e) within ∙ ap between_nodes (sym at))))
 
-pub mirror-pair : (comps : List (List ℕ)) (pairs circles : List (ℕ × ℕ)) (i : ℕ) (p : ℕ × ℕ) → circles ≡ flat_map circle comps → length circles ≤ i → i - length circles < length pairs → p ≡ get_or pairs (i - length circles) p
+pub mirror-pair : (comps : List (List ℕ)) (pairs circles : List (ℕ × ℕ)) (i : ℕ) (p : ℕ × ℕ) → circles ≡ flat_map circle comps
+    → length circles ≤ i → i - length circles < length pairs → p ≡ get_or pairs (i - length circles) p
     → slice_get (answered comps pairs) i ≡ Some (end_of (length comps) (end_at comps p.0), end_of (length comps) (end_at comps p.1))
 mirror-pair comps pairs circles i p is past within at =
     edge-at comps pairs circles i (edge_of comps p) is (omega (arith, past, within))
@@ -160,7 +168,8 @@ pub between-at : (n : ℕ) (pairs : List (ℕ × ℕ)) (k : ℕ) (p : ℕ × ℕ
 between-at n pairs k p h within e = subst (IsBetween n) (sym e) (h k p within)
 
 -- one more edge of a circle
-pub circle-next : (members : List ℕ) (edges more all : List (ℕ × ℕ)) (i : ℕ) → i < length members → edges ++ circle_from (get_or members 0 0) (get_or members (i - 1) 0) (drop i members) ≡ all → more ≡ edges ++ (get_or members (i - 1) 0, get_or members i 0) ∷ []
+pub circle-next : (members : List ℕ) (edges more all : List (ℕ × ℕ)) (i : ℕ) → i < length members
+    → edges ++ circle_from (get_or members 0 0) (get_or members (i - 1) 0) (drop i members) ≡ all → more ≡ edges ++ (get_or members (i - 1) 0, get_or members i 0) ∷ []
     → more ++ circle_from (get_or members 0 0) (get_or members (i + 1 - 1) 0) (drop (i + 1) members) ≡ all
 circle-next members edges more all i within rest e =
     let first = get_or members 0 0 in
@@ -169,7 +178,8 @@ circle-next members edges more all i within rest e =
     rw (e, at, append_assoc) (ap (λ l. edges ++ circle_from first (get_or members (i - 1) 0) l) (sym here) ∙ rest)
 
 -- the last edge, and the circle of one member
-pub circle-closed : (members : List ℕ) (start edges more : List (ℕ × ℕ)) (i : ℕ) → 1 < length members → length members ≤ i → i ≤ length members → edges ++ circle_from (get_or members 0 0) (get_or members (i - 1) 0) (drop i members) ≡ start ++ circle_from (get_or members 0 0) (get_or members 0 0) (drop 1 members)
+pub circle-closed : (members : List ℕ) (start edges more : List (ℕ × ℕ)) (i : ℕ) → 1 < length members → length members ≤ i → i ≤ length members
+    → edges ++ circle_from (get_or members 0 0) (get_or members (i - 1) 0) (drop i members) ≡ start ++ circle_from (get_or members 0 0) (get_or members 0 0) (drop 1 members)
     → more ≡ edges ++ (get_or members (length members - 1) 0, get_or members 0 0) ∷ [] → more ≡ start ++ circle members
 circle-closed [] start edges more i some past within rest e = absurd (omega (arith, some))
 circle-closed (x ∷ []) start edges more i some past within rest e = absurd (omega (arith, some))

@@ -13,7 +13,8 @@ pub record AreFlat (members starts : List ℕ) (circles : List (ℕ × ℕ)) : T
   pub edges : length circles ≤ length members
 
 -- flat lists of components with pairs between them, which rise where that is known
-pub record IsListingBegun (members starts : List ℕ) (circles : List (ℕ × ℕ)) (heavy : ℕ) (pairs : List (ℕ × ℕ)) (sorted : Bool) : Type 0 where
+pub record IsListingBegun (members starts : List ℕ) (circles : List (ℕ × ℕ))
+    (heavy : ℕ) (pairs : List (ℕ × ℕ)) (sorted : Bool) : Type 0 where
   pub flat : AreFlat members starts circles
   pub components : AreComponents (packed_rows starts members (length starts))
   pub ends : All (IsBetween (length starts + heavy)) pairs
@@ -22,7 +23,8 @@ pub record IsListingBegun (members starts : List ℕ) (circles : List (ℕ × �
   pub count : length members + length pairs ≤ 4294967295
 
 -- flat lists of a whole listing
-pub record IsWholeListing (members starts : List ℕ) (circles : List (ℕ × ℕ)) (heavy : ℕ) (pairs : List (ℕ × ℕ)) : Type 0 where
+pub record IsWholeListing (members starts : List ℕ)
+    (circles : List (ℕ × ℕ)) (heavy : ℕ) (pairs : List (ℕ × ℕ)) : Type 0 where
   pub flat : AreFlat members starts circles
   pub listing : IsListing (packed_rows starts members (length starts)) heavy pairs
   pub count : length members + length pairs ≤ 4294967295

@@ -1,6 +1,7 @@
 // Components and cross-references, while they are being listed and afterwards.
 
-ghost use Rattle.std.specs.Prelude.{◌≡◌, ◌≢◌, ℕ, ◌<◌, ◌≤◌, [], ◌∷◌, ◌++◌, length, map, Contains, All, IfOk, OnOk, OnErr, slice_get, Some, IsPermutation, ◌+◌, vec_len, vec_capacity};
+ghost use Rattle.std.specs.Prelude.{◌≡◌, ◌≢◌, ℕ, ◌<◌, ◌≤◌, [], ◌∷◌, ◌++◌, length, map, Contains, All, IfOk, OnOk};
+ghost use Rattle.std.specs.Prelude.{OnErr, slice_get, Some, IsPermutation, ◌+◌, vec_len, vec_capacity};
 ghost use Rattle.joint_machine.specs.Components.{Rises, first_of, first_at, end_at, mirror_edges};
 ghost use Rattle.xref_list.specs.Adding.{AddsPair};
 ghost use Rattle.xref_list.specs.Ends.{end_of, ends_of};
@@ -45,7 +46,11 @@ impl Model for ComponentsBuilder {
     ghost use Rattle.bridge_graph.specs.Packing.{packed_rows};
     ghost use Rattle.xref_list.specs.Kept.{IsListingBegun};
 
-    ghost view = { λ b. record { comps = packed_rows b.starts.items b.members.items (length b.starts.items); heavy = b.heavy; pairs = b.pairs } };
+    ghost view = { λ b. record {
+      comps = packed_rows b.starts.items b.members.items (length b.starts.items);
+      heavy = b.heavy;
+      pairs = b.pairs;
+    } };
 
     ghost invariant = { λ b. IsListingBegun b.members.items b.starts.items b.circles.items b.heavy b.pairs b.sorted };
 }
@@ -230,7 +235,11 @@ impl Model for Components {
     ghost use Rattle.bridge_graph.specs.Packing.{packed_rows};
     ghost use Rattle.xref_list.specs.Kept.{IsWholeListing};
 
-    ghost view = { λ b. record { comps = packed_rows b.starts.items b.members.items (length b.starts.items); heavy = b.heavy; pairs = b.pairs.items } };
+    ghost view = { λ b. record {
+      comps = packed_rows b.starts.items b.members.items (length b.starts.items);
+      heavy = b.heavy;
+      pairs = b.pairs.items;
+    } };
 
     ghost invariant = { λ b. IsWholeListing b.members.items b.starts.items b.circles.items b.heavy b.pairs.items };
 }
@@ -300,7 +309,8 @@ impl Components {
     /// member, or its temporary where it has none.
     pub fn mirror_edge(&self, i: u32) -> (End, End)
         requires { i < length (mirror_edges self.now.comps self.now.pairs) }
-        ensures { slice_get (map (ends_of (length self.now.comps)) (mirror_edges self.now.comps self.now.pairs)) i ≡ Some result }
+        ensures { slice_get (map (ends_of (length self.now.comps)) (mirror_edges self.now.comps self.now.pairs))
+            i ≡ Some result }
     {
         let at = i as usize;
         if at < self.circles.len() {
@@ -341,8 +351,11 @@ fn take_room(
     members: &mut Vec<u32>,
     more: usize,
 ) -> Result<(), AllocError>
-    ensures kept { (starts.new.items ≡ starts.old.items) × (circles.new.items ≡ circles.old.items) × (members.new.items ≡ members.old.items) }
-    ensures room { OnOk result ((vec_len starts.new + comps ≤ vec_capacity starts.new) × (vec_len circles.new + more ≤ vec_capacity circles.new) × (vec_len members.new + more ≤ vec_capacity members.new)) }
+    ensures kept { (starts.new.items ≡ starts.old.items)
+        × (circles.new.items ≡ circles.old.items) × (members.new.items ≡ members.old.items) }
+    ensures room { OnOk result ((vec_len starts.new + comps ≤ vec_capacity starts.new)
+        × (vec_len circles.new + more ≤ vec_capacity circles.new)
+        × (vec_len members.new + more ≤ vec_capacity members.new)) }
 {
     starts.reserve(comps)?;
     circles.reserve(more)?;

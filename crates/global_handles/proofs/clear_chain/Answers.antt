@@ -22,13 +22,15 @@ index_mut-requires c = omega (arith, ap length c.loop-at.invariant.cleared, leng
 pub loop-at-smaller : goal.loop-at-smaller
 loop-at-smaller c =
     let i = c.loop-at.invariant in
-    let step = walk-step c.args.p c.args.slots.now.items c.loop-at.slots.items c.loop-at.at (c.loop-at.at - 1) c.index-slot.result.now c.requires.linked i.cleared (omega arith) i.within i.own c.index-slot.ensures in
+    let step = walk-step c.args.p c.args.slots.now.items c.loop-at.slots.items c.loop-at.at (c.loop-at.at - 1) c.index-slot.result.now c.requires.linked i.cleared (omega arith) i.within
+    i.own c.index-slot.ensures in
     omega (arith, step.1)
 
 pub loop-at-preserved : goal.loop-at-preserved
 loop-at-preserved c =
     let i = c.loop-at.invariant in
-    let step = walk-step c.args.p c.args.slots.now.items c.loop-at.slots.items c.loop-at.at (c.loop-at.at - 1) c.index-slot.result.now c.requires.linked i.cleared (omega arith) i.within i.own c.index-slot.ensures in
+    let step = walk-step c.args.p c.args.slots.now.items c.loop-at.slots.items c.loop-at.at (c.loop-at.at - 1) c.index-slot.result.now c.requires.linked i.cleared (omega arith) i.within
+    i.own c.index-slot.ensures in
     record { cleared = rw c.cleared.ensures step.0; within = omega (arith, step.1); own = step.2; capacity = i.capacity }
 
 pub returns-clause-items : goal.returns-clause-items

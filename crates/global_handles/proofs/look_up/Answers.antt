@@ -14,5 +14,6 @@ returns-in_err-row-clause-none c = λ _. rw (row_in-named 0 c.requires.0 c.args.
 
 pub returns-clause-some : goal.returns-clause-some
 returns-clause-some c = λ e r is.
-    let named : row_in (rows_of c.args.slots.now c.args.names.now) c.args.h ≡ Some c.in_ok-row.row = rw (row_in-named 0 c.requires.0 c.args.slots.now c.args.names.now c.args.h c.requires.1, ← c.in_ok-name.ensures, ← c.in_ok-row.ensures) refl in
+    let named : row_in (rows_of c.args.slots.now c.args.names.now) c.args.h ≡ Some
+    c.in_ok-row.row = rw (row_in-named 0 c.requires.0 c.args.slots.now c.args.names.now c.args.h c.requires.1, ← c.in_ok-name.ensures, ← c.in_ok-row.ensures) refl in
     (sym c.in_ok-name.ensures ∙ ap (λ f. Some f.0) (same_Some _ _ is), named ∙ ap (λ f. Some f.1) (same_Some _ _ is))

@@ -26,7 +26,8 @@ set_previous-requires c =
     let all = c.args.slots.now.items in
     let there = slice_get_read all (length all) c.args.place c.index-slot.result.now refl (omega arith) c.index-slot.ensures in
     let own = opens-own c.index-slot.result.now (sym c.if-not-is_open.ensures) in
-    rw (c.set_next.ensures.items, c.set_row.ensures.items, length-with_next, length-with_row all c.args.place None) (links-within all c.args.place c.index-slot.result.now _ _ c.requires.chained there own).1
+    rw (c.set_next.ensures.items, c.set_row.ensures.items, length-with_next, length-with_row all c.args.place None)
+    (links-within all c.args.place c.index-slot.result.now _ _ c.requires.chained there own).1
 
 pub set_head-requires : goal.set_head-requires
 set_head-requires c =
@@ -43,7 +44,8 @@ returns-then-slot-eq0-clause-chained c =
     let there = slice_get_read all (length all) i slot refl (omega arith) c.index-slot.ensures in
     let own = opens-own slot (sym c.if-not-is_open.ensures) in
     rw (c.set_previous.ensures.items, c.set_next.ensures.items, c.set_row.ensures.items)
-    (IsChained-without all i slot slot.peer (head_in c.args.heads.now.items) (head_in c.set_head.new.heads.items) there own (λ q. rw (eq-eqb slot.previous 0 c.if-slot-eq0.true) (c.set_head.ensures.head q)) c.requires.chained)
+    (IsChained-without all i slot slot.peer (head_in c.args.heads.now.items) (head_in c.set_head.new.heads.items) there own
+    (λ q. rw (eq-eqb slot.previous 0 c.if-slot-eq0.true) (c.set_head.ensures.head q)) c.requires.chained)
 
 pub returns-else-slot-eq0-clause-chained : goal.returns-else-slot-eq0-clause-chained
 returns-else-slot-eq0-clause-chained c =
@@ -56,13 +58,17 @@ returns-else-slot-eq0-clause-chained c =
     (IsChained-without all i slot slot.peer (head_in c.args.heads.now.items) (head_in c.args.heads.now.items) there own (λ q. rw (neq-eqb slot.previous 0 (omega arith)) refl) c.requires.chained)
 
 pub returns-then-slot-eq0-clause-rows : goal.returns-then-slot-eq0-clause-rows
-returns-then-slot-eq0-clause-rows c = λ names. rw (c.set_previous.ensures.items, c.set_next.ensures.items, c.set_row.ensures.items) (rows_of-without_slots c.args.slots.now.items names c.args.place c.index-slot.result.now)
+returns-then-slot-eq0-clause-rows c = λ names. rw (c.set_previous.ensures.items, c.set_next.ensures.items, c.set_row.ensures.items)
+    (rows_of-without_slots c.args.slots.now.items names c.args.place c.index-slot.result.now)
 
 pub returns-else-slot-eq0-clause-rows : goal.returns-else-slot-eq0-clause-rows
-returns-else-slot-eq0-clause-rows c = λ names. rw (c.set_previous.ensures.items, c.set_next.ensures.items, c.set_row.ensures.items) (rows_of-without_slots c.args.slots.now.items names c.args.place c.index-slot.result.now)
+returns-else-slot-eq0-clause-rows c = λ names. rw (c.set_previous.ensures.items, c.set_next.ensures.items, c.set_row.ensures.items)
+    (rows_of-without_slots c.args.slots.now.items names c.args.place c.index-slot.result.now)
 
 pub returns-then-slot-eq0-clause-len : goal.returns-then-slot-eq0-clause-len
-returns-then-slot-eq0-clause-len c = rw (c.set_previous.ensures.items, c.set_next.ensures.items, c.set_row.ensures.items) (length-without_slots c.args.slots.now.items c.args.place c.index-slot.result.now)
+returns-then-slot-eq0-clause-len c = rw (c.set_previous.ensures.items, c.set_next.ensures.items, c.set_row.ensures.items)
+    (length-without_slots c.args.slots.now.items c.args.place c.index-slot.result.now)
 
 pub returns-else-slot-eq0-clause-len : goal.returns-else-slot-eq0-clause-len
-returns-else-slot-eq0-clause-len c = rw (c.set_previous.ensures.items, c.set_next.ensures.items, c.set_row.ensures.items) (length-without_slots c.args.slots.now.items c.args.place c.index-slot.result.now)
+returns-else-slot-eq0-clause-len c = rw (c.set_previous.ensures.items, c.set_next.ensures.items, c.set_row.ensures.items)
+    (length-without_slots c.args.slots.now.items c.args.place c.index-slot.result.now)

@@ -31,13 +31,27 @@ returns-clause-order c =
     let es = c.args.names.now in
     let first = slice_get-get_or es 0 none (omega (arith, c.if-len-eq0.false)) in
     let last = slice_get-get_or es (length es - 1) none (omega (arith, c.if-len-eq0.false)) in
-    omega (arith, NamesRise-apart 0 c.requires.0 es 0 (length es - 1) _ _ c.requires.1 (omega arith) first last, c.saturating_sub-low.ensures, c.saturating_sub.ensures, c.if-h-first.false, c.if-last-h.false)
+    omega (
+      arith,
+      NamesRise-apart 0 c.requires.0 es 0 (length es - 1) _ _ c.requires.1 (omega arith) first last,
+      c.saturating_sub-low.ensures,
+      c.saturating_sub.ensures,
+      c.if-h-first.false,
+      c.if-last-h.false,
+    )
 
 pub returns-clause-below : goal.returns-clause-below
 returns-clause-below c =
     let es = c.args.names.now in
     let last = slice_get-get_or es (length es - 1) none (omega (arith, c.if-len-eq0.false)) in
-    λ i e below at. omega (arith, below, slice_get_within es i e at, NamesRise-apart 0 c.requires.0 es i (length es - 1) e _ c.requires.1 (omega (arith, slice_get_within es i e at)) at last, c.saturating_sub-low.ensures, c.if-last-h.false)
+    λ i e below at. omega (
+      arith,
+      below,
+      slice_get_within es i e at,
+      NamesRise-apart 0 c.requires.0 es i (length es - 1) e _ c.requires.1 (omega (arith, slice_get_within es i e at)) at last,
+      c.saturating_sub-low.ensures,
+      c.if-last-h.false,
+    )
 
 pub returns-clause-above : goal.returns-clause-above
 returns-clause-above c =

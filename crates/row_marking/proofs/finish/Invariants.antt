@@ -8,7 +8,8 @@ abbrev pub invariant-loop-head : goal.invariant-loop-head
 invariant-loop-head g l = record {
   kept : g.G.Traced.kept l.g ≡ g.G.Traced.kept l.fn.g;
   goes : IsGreying (g.G.Traced.leads (g.G.Traced.kept l.fn.g)) (g.G.Traced.marks l.g) (g.G.Traced.links l.g) l.head;
-  greying : (roots : List ℕ) (before : List Bool) → Greying roots (g.G.Traced.leads (g.G.Traced.kept l.fn.g)) before (g.G.Traced.marks l.fn.g) (g.G.Traced.links l.fn.g) l.fn.grey → Greying roots (g.G.Traced.leads (g.G.Traced.kept l.fn.g)) before (g.G.Traced.marks l.g) (g.G.Traced.links l.g) l.head;
+  greying : (roots : List ℕ) (before : List Bool) → Greying roots (g.G.Traced.leads (g.G.Traced.kept l.fn.g)) before (g.G.Traced.marks l.fn.g) (g.G.Traced.links l.fn.g) l.fn.grey
+      → Greying roots (g.G.Traced.leads (g.G.Traced.kept l.fn.g)) before (g.G.Traced.marks l.g) (g.G.Traced.links l.g) l.head;
 }
 
 abbrev pub decreases-loop-head : goal.decreases-loop-head

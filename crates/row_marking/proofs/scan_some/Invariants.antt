@@ -8,7 +8,8 @@ invariant-loop-head g l = record {
   kept : g.G.Traced.kept l.g ≡ g.G.Traced.kept l.fn.g;
   most : l.scanned ≤ l.fn.most;
   list : IsGreyList (g.G.Traced.marks l.g) (g.G.Traced.links l.g) l.head;
-  steps : (greys : List ℕ) → Chained (g.G.Traced.marks l.fn.g) (g.G.Traced.links l.fn.g) l.fn.grey greys → BlackensTo (g.G.Traced.leads (g.G.Traced.kept l.fn.g)) l.scanned (g.G.Traced.marks l.fn.g) greys (g.G.Traced.marks l.g) (g.G.Traced.links l.g) l.head;
+  steps : (greys : List ℕ) → Chained (g.G.Traced.marks l.fn.g) (g.G.Traced.links l.fn.g) l.fn.grey greys
+      → BlackensTo (g.G.Traced.leads (g.G.Traced.kept l.fn.g)) l.scanned (g.G.Traced.marks l.fn.g) greys (g.G.Traced.marks l.g) (g.G.Traced.links l.g) l.head;
 }
 
 abbrev pub decreases-loop-head : goal.decreases-loop-head

@@ -28,7 +28,8 @@ returns-in-Ok-clause-ends g c =
 
 pub returns-in-Ok-clause-no_text : goal.returns-in-Ok-clause-no_text
 returns-in-Ok-clause-no_text g c =
-    without_text c.args.args (map string_bytes c.in-Ok.words.items) (λ e. error_kind e ≢ ErrorKind.OutOfMemory) ((exit_status c.from.result ≡ 1) ⊎ (exit_status c.from.result ≡ 4)) c.in-Ok.ensures.words
+    without_text c.args.args (map string_bytes c.in-Ok.words.items) (λ e. error_kind e ≢ ErrorKind.OutOfMemory)
+    ((exit_status c.from.result ≡ 1) ⊎ (exit_status c.from.result ≡ 4)) c.in-Ok.ensures.words
     (λ n. rw (c.from.ensures) (c.bridge_main.ensures.no_command n))
 
 -- where memory was wanting for the words nothing was read or put

@@ -9,6 +9,7 @@ returns c =
     let t = thread_text c.args.thread in
     let ws = act_words c.args.thread c.args.act.now in
     record {
-      added = c.add_act.ensures.added ∙ (ap (λ x. x ++ after_spaces ws) c.add_thread.ensures.added ∙ (append_assoc c.args.line.now.text t (after_spaces ws) ∙ ap (λ x. c.args.line.now.text ++ x) (sym (spaced_after t ws))));
+      added = c.add_act.ensures.added ∙ (ap (λ x. x ++ after_spaces ws) c.add_thread.ensures.added
+          ∙ (append_assoc c.args.line.now.text t (after_spaces ws) ∙ ap (λ x. c.args.line.now.text ++ x) (sym (spaced_after t ws))));
       left = omega (arith, c.add_act.ensures.left, c.add_thread.ensures.left);
     }

@@ -15,7 +15,8 @@ returns-clause-sound c =
     let row = c.in_ok-operation.ensures in
     let took = c.in_ok-operands.ensures.sound in
     let made = rw c.as_slice.ensures at c.possible_act.ensures in
-    lines_only c.args.thread c.in_ok-operation.operation c.in_ok-operation.places.now c.in_ok-operands.operands c.args.words.now c.take_row.new.words c.take_operands.new.words c.possible_act.result c.requires row.0 took.0 row.1 took.1 made
+    lines_only c.args.thread c.in_ok-operation.operation c.in_ok-operation.places.now c.in_ok-operands.operands c.args.words.now
+    c.take_row.new.words c.take_operands.new.words c.possible_act.result c.requires row.0 took.0 row.1 took.1 made
 
 pub returns-clause-complete : goal.returns-clause-complete
 returns-clause-complete c = λ a rest l e.

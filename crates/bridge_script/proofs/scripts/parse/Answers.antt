@@ -8,7 +8,9 @@ pub returns-in_err-grow-clause-err : goal.returns-in_err-grow-clause-err
 returns-in_err-grow-clause-err c =
     let i = c.loop-at.invariant in
     let read = rw i.whole at c.read-read.ensures.read in
-    rw (passed_on c.from_residual.result c.in_err-grow.field-0.0 c.from_residual.ensures.0 c.from_residual.ensures.1) (refused c.args.bytes.now c.loop-at.script c.loop-at.at c.line_end-end.result c.in_err-grow.field-0.0 c.line_end-end.ensures i.lawful c.loop-at-test.true i.so_far (omega (arith, i.size)) (rw c.min.ensures at (c.in_err-grow.ensures (slice_range c.args.bytes.now c.loop-at.at c.line_end-end.result) read)))
+    rw (passed_on c.from_residual.result c.in_err-grow.field-0.0 c.from_residual.ensures.0 c.from_residual.ensures.1)
+    (refused c.args.bytes.now c.loop-at.script c.loop-at.at c.line_end-end.result c.in_err-grow.field-0.0 c.line_end-end.ensures i.lawful c.loop-at-test.true i.so_far
+    (omega (arith, i.size)) (rw c.min.ensures at (c.in_err-grow.ensures (slice_range c.args.bytes.now c.loop-at.at c.line_end-end.result) read)))
 
 pub loop-at-preserved : goal.loop-at-preserved
 loop-at-preserved c =

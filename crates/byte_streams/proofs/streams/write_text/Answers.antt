@@ -11,7 +11,9 @@ loop-at-preserved g c =
     let w = rw e at c.in_ok-at.ensures in
     record {
       within = omega (arith, w.bound, length-drop c.loop-at.at c.args.text.now);
-      so_far = rw (take-add c.loop-at.at c.in_ok-at.field-0 c.args.text.now) (Appends-then (g.K.Sink.held c.args.out.now) (g.K.Sink.held c.loop-at.out) (g.K.Sink.held c.write.new.self) (take c.loop-at.at c.args.text.now) (take c.in_ok-at.field-0 (drop c.loop-at.at c.args.text.now)) i.so_far w.bytes);
+      so_far = rw (take-add c.loop-at.at c.in_ok-at.field-0 c.args.text.now)
+          (Appends-then (g.K.Sink.held c.args.out.now) (g.K.Sink.held c.loop-at.out) (g.K.Sink.held c.write.new.self)
+          (take c.loop-at.at c.args.text.now) (take c.in_ok-at.field-0 (drop c.loop-at.at c.args.text.now)) i.so_far w.bytes);
       later = omega (arith, w.cause.later);
     }
 

@@ -9,7 +9,8 @@ pub loop-left-init : goal.loop-left-init
 loop-left-init c = record {
   within = omega arith;
   numbers = c.requires.numbers;
-  labels = none-labelled c.args.graph.now.edges (length c.args.graph.now.nodes) c.args.order.now (length c.args.order.now) c.args.table.now.labels c.requires.part.rows c.requires.size c.requires.bare (omega arith);
+  labels = none-labelled c.args.graph.now.edges (length c.args.graph.now.nodes) c.args.order.now
+      (length c.args.order.now) c.args.table.now.labels c.requires.part.rows c.requires.size c.requires.bare (omega arith);
   waiting = c.requires.waiting;
 }
 

@@ -39,7 +39,8 @@ loop-x-preserved c =
     )) in
     record {
       numbers = l.numbers;
-      spreading = spread-row c.args.graph.now.edges root x c.row.result.now c.args.table.now.labels c.loop-x.table.labels c.pop.new.self.items _ _ (λ e. omega (arith, e, below, c.requires.few)) row l.labels s;
+      spreading = spread-row c.args.graph.now.edges root x c.row.result.now c.args.table.now.labels c.loop-x.table.labels c.pop.new.self.items _ _
+          (λ e. omega (arith, e, below, c.requires.few)) row l.labels s;
     }
 
 pub loop-x-smaller : goal.loop-x-smaller
@@ -51,5 +52,6 @@ returns-clause-waiting c = nil_from_length c.pop.new.self.items (omega (arith, c
 pub returns-clause-labels : goal.returns-clause-labels
 returns-clause-labels c =
     let none : c.loop-x.waiting.items ≡ [] = nil_from_length c.loop-x.waiting.items (omega (arith, c.in_default.ensures.cases, c.loop-x.waiting.ok)) in
-    spread-done c.args.graph.now.edges (length c.args.graph.now.nodes) c.args.order.now c.args.at c.args.root c.args.table.now.labels c.loop-x.table.labels c.requires.few c.requires.order c.requires.at c.requires.root c.requires.bare c.requires.labels
+    spread-done c.args.graph.now.edges (length c.args.graph.now.nodes) c.args.order.now c.args.at c.args.root c.args.table.now.labels
+    c.loop-x.table.labels c.requires.few c.requires.order c.requires.at c.requires.root c.requires.bare c.requires.labels
     (rw none at c.loop-x.invariant.spreading)

@@ -31,7 +31,8 @@ loop-y-preserved c =
           rw (w.table-is, items) record {
             numbers = w.in_ok-put_label.ensures.numbers;
             labels = rw w.in_ok-put_label.ensures.labels
-                (labels-new _ c.args.label y _ _ c.loop-y.table.labels c.loop-y.waiting.items (omega (arith, e, w.if-label_of.true)) (λ m. omega (arith, m, c.requires.label, c.requires.few)) i.labels);
+                (labels-new _ c.args.label y _ _ c.loop-y.table.labels c.loop-y.waiting.items
+                (omega (arith, e, w.if-label_of.true)) (λ m. omega (arith, m, c.requires.label, c.requires.few)) i.labels);
           }
       | else-label_of w ↦ rw (w.table-is, w.waiting-is) record {
         numbers = i.numbers;

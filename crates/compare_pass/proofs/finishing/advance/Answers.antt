@@ -50,5 +50,6 @@ returns-clause-going c =
     let row = c.row-row.result.now in
     let is : row ≡ row_at edges f.node = c.row-row.ensures.row in
     let over : (k : ℕ) → f.next ≤ k → k < length (row_at edges f.node) → get_or c.args.seen.now (get_or (row_at edges f.node) k 0) false ≡ true
-    = subst (λ r. (k : ℕ) → f.next ≤ k → k < length r → get_or c.args.seen.now (get_or r k 0) false ≡ true) is (λ k a l. c.first_unseen-next.ensures.seen k a (omega (arith, l, c.if-next-row.false)) l) in
+    = subst (λ r. (k : ℕ) → f.next ≤ k → k < length r → get_or c.args.seen.now (get_or r k 0) false ≡ true) is
+    (λ k a l. c.first_unseen-next.ensures.seen k a (omega (arith, l, c.if-next-row.false)) l) in
     rw c.in_ok-push-3.ensures.items (going-finished edges (length c.args.graph.now.nodes) c.args.seen.now c.args.order.now.items f (reverse c.args.frames.now.items) over c.requires.going)

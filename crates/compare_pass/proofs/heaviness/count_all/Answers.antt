@@ -29,7 +29,8 @@ pub loop-stand-preserved : goal.loop-stand-preserved
 loop-stand-preserved c = record {
   clear = c.tally.ensures.clear;
   found = c.clear.ensures.items;
-  counts = counts-more c.args.graph.now.edges (length c.args.graph.now.nodes) c.args.labels.now c.args.indexes.now c.args.stands.now c.loop-stand.stand-index _ c.search.new.marks c.search.new.found.items c.loop-stand.counts c.tally.new.counts
+  counts = counts-more c.args.graph.now.edges (length c.args.graph.now.nodes) c.args.labels.now c.args.indexes.now
+      c.args.stands.now c.loop-stand.stand-index _ c.search.new.marks c.search.new.found.items c.loop-stand.counts c.tally.new.counts
       c.loop-stand-test.true refl c.requires.rise c.in_ok-search.ensures c.tally.ensures.tallies c.loop-stand.invariant.counts;
 }
 

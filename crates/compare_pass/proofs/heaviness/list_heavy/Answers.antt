@@ -14,7 +14,8 @@ loop-x-init c = record {
     [],
     sym c.requires.heavy,
     sym (append-nil c.args.stands.now.items),
-    heavy-none (IsBridgeNode c.args.graph.now.nodes) (NodeLeads c.args.graph.now.edges) (length c.args.graph.now.nodes) c.args.labels.now c.args.indexes.now c.args.stands.now.items c.requires.numbered,
+    heavy-none (IsBridgeNode c.args.graph.now.nodes) (NodeLeads c.args.graph.now.edges)
+        (length c.args.graph.now.nodes) c.args.labels.now c.args.indexes.now c.args.stands.now.items c.requires.numbered,
   );
   comps = refl;
   pairs = refl;
@@ -64,7 +65,13 @@ loop-x-preserved c =
             pairs = w.bridgeless.ensures.pairs ∙ i.pairs;
           }
       | else-is_heavy w ↦ rw (w.indexes-is, w.stands-is, w.builder-is) record {
-        heavy = (h.0, h.1, h.2, heavy-skip B E n labels c.args.indexes.now firsts x c.loop-x.indexes h.0 (λ e k. w.if-is_heavy.ensures (e, (c.requires.exact x (omega arith) (h.3.still x e)).1 k)) h.3);
+        heavy = (
+          h.0,
+          h.1,
+          h.2,
+          heavy-skip B E n labels c.args.indexes.now firsts x c.loop-x.indexes h.0
+              (λ e k. w.if-is_heavy.ensures (e, (c.requires.exact x (omega arith) (h.3.still x e)).1 k)) h.3,
+        );
         comps = i.comps;
         pairs = i.pairs;
       }

@@ -66,7 +66,8 @@ list_heavy-requires-clause-exact c = λ x l e.
     let outs = rw (c.deref-2.ensures.value, c.requires.back.count) at c.in_ok-outs.ensures in
     rw (c.deref-3.ensures.value, c.deref-4.ensures.value) (many-heavy (IsBridgeNode nodes) (NodeLeads edges) x _ _ plain
     (counts-in nodes edges labels comps indexes stands few c.requires.part c.requires.classes a x c.in_ok-ins.ins.items l plain ins)
-    (counts-out nodes edges labels comps indexes stands few c.requires.part c.requires.classes a x c.in_ok-outs.outs.items (length c.args.back.now.nodes) c.args.back.now.edges l plain c.requires.back outs))
+    (counts-out nodes edges labels comps indexes stands few c.requires.part c.requires.classes a x c.in_ok-outs.outs.items (length c.args.back.now.nodes) c.args.back.now.edges l plain
+    c.requires.back outs))
 
 pub list_heavy-requires-clause-plain : goal.list_heavy-requires-clause-plain
 list_heavy-requires-clause-plain c = λ x h.

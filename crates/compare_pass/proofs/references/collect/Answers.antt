@@ -19,7 +19,8 @@ loop-y-preserved c =
       | then-not-opens+in_ok-push w ↦
           let items : c.if-not-opens.outs.items ≡ outs ++ j ∷ [] = ap (λ v. v.items) w.outs-is ∙ w.in_ok-push.ensures.items in
           rw items record {
-            from = All-push (λ k. (z : ℕ) × Contains found z × (Opens c.args.labels.now c.args.indexes.now c.args.own z → ⊥) × (get_or c.args.indexes.now (get_or c.args.labels.now z 0) 0 ≡ k)) outs j i.from
+            from = All-push (λ k. (z : ℕ) × Contains found z × (Opens c.args.labels.now c.args.indexes.now c.args.own z → ⊥) × (get_or c.args.indexes.now (get_or c.args.labels.now z 0) 0 ≡ k))
+                outs j i.from
                 (y, Contains-get_or found at 0 c.loop-y-test.true, w.if-not-opens.ensures, refl);
             has = λ k lt o. elim (cases_lt k at) [
               | inl kl ↦ Contains-append_left outs (j ∷ []) _ (i.has k kl o)

@@ -37,7 +37,8 @@ returns-clause-outs c =
     c.in_ok-search.ensures col.from col.has c.sort_unstable.ensures.permutation c.sort_unstable.ensures.sorted (dedup_is eqb _ _ c.dedup.ensures.filtered)
 
 pub collect-requires-clause-labels : goal.collect-requires-clause-labels
-collect-requires-clause-labels c = rw c.deref.ensures.value (λ k d lt. omega (arith, marked_below c.search.new.marks c.search.new.found.items c.in_ok-search.ensures.marking k d lt, c.requires.labels, c.requires.marks))
+collect-requires-clause-labels c = rw c.deref.ensures.value (λ k d lt. omega
+    (arith, marked_below c.search.new.marks c.search.new.found.items c.in_ok-search.ensures.marking k d lt, c.requires.labels, c.requires.marks))
 
 pub clear-requires : goal.clear-requires
 clear-requires c = rw c.deref-2.ensures.value c.in_ok-search.ensures.marking

@@ -41,7 +41,8 @@ add_all-requires-clause-destinations c =
     let i : ℕ = c.loop-i.i in
     let s = (c.requires.numbered.stand i (omega (arith, c.loop-i-test.true, c.len-i-end.ensures.count, c.requires.all))).0 in
     rw c.deref.ensures.value (λ k d l.
-    let b = refers-below c.args.graph.now.edges (length c.args.graph.now.nodes) c.args.labels.now c.args.indexes.now c.args.stands.now (get_or c.args.stands.now i 0) (get_or outs k d) c.requires.part.in_range s c.requires.numbered
+    let b = refers-below c.args.graph.now.edges (length c.args.graph.now.nodes) c.args.labels.now c.args.indexes.now c.args.stands.now
+    (get_or c.args.stands.now i 0) (get_or outs k d) c.requires.part.in_range s c.requires.numbered
     ((c.in_ok-destinations.ensures.outs.exact (get_or outs k d)).0 (Contains-get_or outs k d l)) in
     omega (arith, b, c.requires.all, ap length c.loop-i.invariant.comps, c.loop-i.invariant.heavy))
 
@@ -68,7 +69,8 @@ loop-i-preserved c =
       outs = c.clear.ensures.items;
       comps = c.add_all.ensures.comps ∙ i.comps;
       heavy = c.add_all.ensures.heavy ∙ i.heavy;
-      pairs = rw pairs (refers-more c.args.graph.now.edges c.args.labels.now c.args.indexes.now c.args.stands.now c.loop-i.i c.loop-i.builder.pairs c.destinations.new.outs.items c.in_ok-destinations.ensures.outs i.pairs);
+      pairs = rw pairs (refers-more c.args.graph.now.edges c.args.labels.now c.args.indexes.now c.args.stands.now
+          c.loop-i.i c.loop-i.builder.pairs c.destinations.new.outs.items c.in_ok-destinations.ensures.outs i.pairs);
     }
 
 pub returns-clause-pairs : goal.returns-clause-pairs

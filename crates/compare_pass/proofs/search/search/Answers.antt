@@ -30,7 +30,8 @@ loop-at-preserved c =
     ]
 
 pub returns : goal.returns
-returns c = search-found (Goes c.args.graph.now.edges c.args.labels.now c.args.indexes.now (get_or c.args.labels.now c.args.start 0)) c.args.start c.loop-at.marks c.loop-at.found.items c.loop-at.at (omega arith) c.loop-at.invariant
+returns c = search-found (Goes c.args.graph.now.edges c.args.labels.now c.args.indexes.now (get_or c.args.labels.now c.args.start 0))
+    c.args.start c.loop-at.marks c.loop-at.found.items c.loop-at.at (omega arith) c.loop-at.invariant
 
 pub bounds-marks-start : goal.bounds-marks-start
 bounds-marks-start c = omega (arith, c.requires.start, c.requires.marks)
@@ -39,14 +40,34 @@ pub index-x-requires : goal.index-x-requires
 index-x-requires c = omega (arith, c.loop-at-test.true, c.len.ensures)
 
 pub opens-requires-clause-labels : goal.opens-requires-clause-labels
-opens-requires-clause-labels c = omega (arith, marked_below c.loop-at.marks c.loop-at.found.items c.loop-at.invariant.marking c.loop-at.at c.index-x.result.now (omega arith), c.index-x.ensures, length-set c.args.marks.now c.args.start true, c.requires.marks, c.requires.labels)
+opens-requires-clause-labels c = omega (
+  arith,
+  marked_below c.loop-at.marks c.loop-at.found.items c.loop-at.invariant.marking c.loop-at.at c.index-x.result.now (omega arith),
+  c.index-x.ensures,
+  length-set c.args.marks.now c.args.start true,
+  c.requires.marks,
+  c.requires.labels,
+)
 
 pub row-requires : goal.row-requires
-row-requires c = omega (arith, marked_below c.loop-at.marks c.loop-at.found.items c.loop-at.invariant.marking c.loop-at.at c.index-x.result.now (omega arith), c.index-x.ensures, length-set c.args.marks.now c.args.start true, c.requires.marks)
+row-requires c = omega (
+  arith,
+  marked_below c.loop-at.marks c.loop-at.found.items c.loop-at.invariant.marking c.loop-at.at c.index-x.result.now (omega arith),
+  c.index-x.ensures,
+  length-set c.args.marks.now c.args.start true,
+  c.requires.marks,
+)
 
 pub visit-requires-clause-marking : goal.visit-requires-clause-marking
 visit-requires-clause-marking c = c.loop-at.invariant.marking
 
 pub opens-requires-clause-indexes : goal.opens-requires-clause-indexes
 opens-requires-clause-indexes c = c.requires.small c.index-x.result.now 0
-    (omega (arith, marked_below c.loop-at.marks c.loop-at.found.items c.loop-at.invariant.marking c.loop-at.at c.index-x.result.now (omega arith), c.index-x.ensures, length-set c.args.marks.now c.args.start true, c.requires.marks, c.requires.labels))
+    (omega (
+      arith,
+      marked_below c.loop-at.marks c.loop-at.found.items c.loop-at.invariant.marking c.loop-at.at c.index-x.result.now (omega arith),
+      c.index-x.ensures,
+      length-set c.args.marks.now c.args.start true,
+      c.requires.marks,
+      c.requires.labels,
+    ))

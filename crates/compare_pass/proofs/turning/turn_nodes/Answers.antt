@@ -14,7 +14,8 @@ use Rattle.compare_pass.proofs.turning.turn_nodes.Goals as goal
 number_at : (nodes : List Node) (x : ℕ) (node : Node) → x < length nodes → get_or nodes x node ≡ node → get_or (numbers_of nodes) x 0 ≡ node.number.0
 number_at nodes x node lt e = get_or-map (λ (n : Node). n.number.0) nodes x node 0 lt ∙ ap (λ (n : Node). n.number.0) e
 
-below_all : (nodes back : List Node) (x : ℕ) (node : Node) → x < length nodes → Rises (numbers_of nodes) → get_or nodes x node ≡ node → AreTurnedNodes nodes x back → All (λ n. n.number.0 < node.number.0) back
+below_all : (nodes back : List Node) (x : ℕ) (node : Node) → x < length nodes → Rises (numbers_of nodes)
+    → get_or nodes x node ≡ node → AreTurnedNodes nodes x back → All (λ n. n.number.0 < node.number.0) back
 below_all nodes back x node lt r e t k d kl =
     let m : length (numbers_of nodes) ≡ length nodes = length-map nodes (λ (n : Node). n.number.0) in
     let kx : k < x = omega (arith, kl, t.count) in
@@ -26,7 +27,8 @@ pub node-requires-clause-rising : goal.node-requires-clause-rising
 node-requires-clause-rising c =
     let h = c.number.ensures in
     let lt : c.loop-x.x < length c.args.graph.now.nodes = slice_get_within c.args.graph.now.nodes c.loop-x.x h.0 h.1 in
-    let b = below_all c.args.graph.now.nodes c.loop-x.builder.nodes c.loop-x.x h.0 lt c.nodes-x-end.ensures.part.rising (get_or_from_slice_get c.args.graph.now.nodes c.loop-x.x h.0 h.0 h.1) c.loop-x.invariant.nodes in
+    let b = below_all c.args.graph.now.nodes c.loop-x.builder.nodes c.loop-x.x h.0 lt c.nodes-x-end.ensures.part.rising
+    (get_or_from_slice_get c.args.graph.now.nodes c.loop-x.x h.0 h.0 h.1) c.loop-x.invariant.nodes in
     rw (← h.2) b
 
 turned_more : (nodes back : List Node) (x : ℕ) (node put : Node) → x < length nodes → get_or nodes x node ≡ node → put.number ≡ node.number → put.opaque ≡ false
@@ -34,7 +36,8 @@ turned_more : (nodes back : List Node) (x : ℕ) (node put : Node) → x < lengt
 turned_more nodes back x node put lt e n o t = record {
   count = omega (arith, length_push back put, t.count);
   numbers = map_push (λ (b : Node). b.number.0) back put ∙ ap (λ (l : List ℕ). l ++ put.number.0 ∷ []) t.numbers
-      ∙ ap (λ (k : ℕ). take x (numbers_of nodes) ++ k ∷ []) (ap (λ m. m.0) n ∙ sym (number_at nodes x node lt e)) ∙ sym (take_more (numbers_of nodes) x 0 (omega (arith, lt, length-map nodes (λ (b : Node). b.number.0))));
+      ∙ ap (λ (k : ℕ). take x (numbers_of nodes) ++ k ∷ []) (ap (λ m. m.0) n ∙ sym (number_at nodes x node lt e))
+      ∙ sym (take_more (numbers_of nodes) x 0 (omega (arith, lt, length-map nodes (λ (b : Node). b.number.0))));
   clear = λ y yl. rw (map_push (λ (b : Node). b.opaque) back put) (elim (cases_lt y (length back)) [
     | inl l ↦ get_or_append_left (map (λ (b : Node). b.opaque) back) (put.opaque ∷ []) true y (omega (arith, l, length-map back (λ (b : Node). b.opaque))) ∙ t.clear y l
     | inr ge ↦ get_or_push (map (λ (b : Node). b.opaque) back) put.opaque true y (omega (arith, ge, yl, length_push back put, length-map back (λ (b : Node). b.opaque))) ∙ o

@@ -20,6 +20,8 @@ returns c =
     let comps = c.list_others.new.builder.comps in
     let pairs = c.list_others.new.builder.pairs in
     let all = c.in_ok-list_others.ensures.listed in
-    let s : Setting nodes edges labels (links_of nodes labels) comps all.indexes = record { part = c.nodes.ensures.part; classes = c.requires.classes; grouped = links-grouped nodes labels; listed = all.listed } in
+    let s : Setting nodes edges labels (links_of nodes labels) comps
+    all.indexes = record { part = c.nodes.ensures.part; classes = c.requires.classes; grouped = links-grouped nodes labels; listed = all.listed } in
     finished _ _ c.finish.result comps pairs all.heavy c.finish.ensures.comps (rw (← all.count) at c.finish.ensures.heavy) c.finish.ensures.pairs c.finish.ensures.listing
-    (λ few ordered m k. contraction_of nodes edges labels (links_of nodes labels) comps all.indexes s (length c.args.found.rows) all.heavy pairs ordered all.reported all.references few c.requires.order.labelled m k)
+    (λ few ordered m k. contraction_of nodes edges labels (links_of nodes labels) comps all.indexes s
+    (length c.args.found.rows) all.heavy pairs ordered all.reported all.references few c.requires.order.labelled m k)

@@ -15,7 +15,13 @@ number_heavy-requires-clause-room c =
 pub mark_thin-requires-clause-labels : goal.mark_thin-requires-clause-labels
 mark_thin-requires-clause-labels c =
     let labels = c.args.found.labels.items in
-    rw c.deref-2.ensures.value (λ k d lt. omega (arith, get_or_default labels k d 0 lt, c.requires.order.labelled k (omega (arith, lt, c.requires.classes.whole)), c.requires.indexes, c.in_ok-number_heavy.ensures.heavy.2.size))
+    rw c.deref-2.ensures.value (λ k d lt. omega (
+      arith,
+      get_or_default labels k d 0 lt,
+      c.requires.order.labelled k (omega (arith, lt, c.requires.classes.whole)),
+      c.requires.indexes,
+      c.in_ok-number_heavy.ensures.heavy.2.size,
+    ))
 
 pub share_references-requires-clause-numbered : goal.share_references-requires-clause-numbered
 share_references-requires-clause-numbered c =

@@ -70,7 +70,8 @@ list_sets-requires-clause-rises c =
     let r = c.in_ok-reached.ensures.referred (grind (arith, nat_tests, asked)) in
     let lists = c.in_ok-reached.reached.lists in
     let refs = c.in_ok-reached.reached.refs.items in
-    rw c.deref-in-None.ensures.value (λ i lt. set-rising nodes edges labels indexes rows c.len-count.result refs lists f.part f.classes f.order (omega (arith, is, f.few)) num r i lt c.in_ok-reached.ensures.rising)
+    rw c.deref-in-None.ensures.value (λ i lt. set-rising nodes edges labels indexes rows c.len-count.result refs lists f.part f.classes f.order
+    (omega (arith, is, f.few)) num r i lt c.in_ok-reached.ensures.rising)
 
 pub list_sets-requires-clause-below : goal.list_sets-requires-clause-below
 list_sets-requires-clause-below c =
@@ -137,8 +138,10 @@ returns-in-None c =
     record {
       listed = rw (c.list_sets.ensures.comps, c.list_sets.ensures.heavy, c.requires.heavy) (on_ok_weaker c.list_sets.result
           (λ q.
-          let e = references-of nodes edges labels indexes rows c.len-count.result refs lists f.part f.classes f.order (omega (arith, is, f.few)) num r c.list_sets.new.builder.pairs c.len-count.result (omega arith) (omega arith) q in
+          let e = references-of nodes edges labels indexes rows c.len-count.result refs lists f.part f.classes f.order
+          (omega (arith, is, f.few)) num r c.list_sets.new.builder.pairs c.len-count.result (omega arith) (omega arith) q in
           let rf = subst (λ (n : ℕ). AreReferences edges (length nodes) labels indexes n c.list_sets.new.builder.pairs) (let z : c.len-count.result ≡ length comps + 0 = omega (arith, is) in z) e in
-          let all : AreAllListed nodes edges labels (length rows) comps 0 c.list_sets.new.builder.pairs = record { indexes = indexes; heavy = []; count = refl; listed = f.listed; reported = rp; references = rf } in
+          let all : AreAllListed nodes edges labels (length rows) comps 0
+          c.list_sets.new.builder.pairs = record { indexes = indexes; heavy = []; count = refl; listed = f.listed; reported = rp; references = rf } in
           all) p);
     }

@@ -9,14 +9,17 @@ use Rattle.std.specs.List.{Contains}
 use Rattle.bridge_graph.specs.Parts.{row_at}
 use Rattle.component_pass.specs.Gathering.{AreSets, set_at}
 use Rattle.component_pass.specs.Sharing.{AreReferred, ComesOut, Leaves}
-use Rattle.component_pass.proofs.Shared.{Puts, counted-more, own-counted, full-leaves, union-leaves, bare-out, leaves-count, counts-more, counted-none, referred-none, referred-bare, referred-more, sets-none, sets-more}
+use Rattle.component_pass.proofs.Shared.{Puts, counted-more, own-counted, full-leaves, union-leaves, bare-out, leaves-count, counts-more, counted-none, referred-none, referred-bare, referred-more}
+use Rattle.component_pass.proofs.Shared.{sets-none, sets-more}
 use Rattle.component_pass.proofs.counting.count_all.Goals as goal
 
 pub loop-c-init : goal.loop-c-init
 loop-c-init c = rw (c.requires.lists, c.requires.known) record {
-  counted = counted-none c.args.graph.now.edges (length c.args.graph.now.nodes) c.args.found.now.labels.items c.args.indexes.now cap c.args.left.now c.args.count c.args.sets.now ([] ∷ []) c.requires.whole c.requires.empty;
+  counted = counted-none c.args.graph.now.edges (length c.args.graph.now.nodes) c.args.found.now.labels.items
+      c.args.indexes.now cap c.args.left.now c.args.count c.args.sets.now ([] ∷ []) c.requires.whole c.requires.empty;
   counts = λ k lt. absurd (omega (arith, lt));
-  referred = λ left. referred-none c.args.graph.now.nodes c.args.graph.now.edges c.args.found.now.labels.items c.args.indexes.now c.args.found.now.rows c.args.count 0 c.requires.order _ c.args.refs.now ([] ∷ []) c.requires.refs;
+  referred = λ left. referred-none c.args.graph.now.nodes c.args.graph.now.edges c.args.found.now.labels.items
+      c.args.indexes.now c.args.found.now.rows c.args.count 0 c.requires.order _ c.args.refs.now ([] ∷ []) c.requires.refs;
   valid = sets-none c.args.count c.args.sets.now c.requires.empty;
   size = c.requires.counts;
   refs = c.requires.refs;
@@ -32,7 +35,8 @@ put-requires c =
 
 pub count_in-requires-clause-members : goal.count_in-requires-clause-members
 count_in-requires-clause-members c =
-    rw c.row-class.ensures (λ k d lt. ((c.requires.order.members c.loop-c.c (get_or (row_at c.args.found.now.rows c.loop-c.c) k d)).0 (Contains-get_or (row_at c.args.found.now.rows c.loop-c.c) k d lt)).0)
+    rw c.row-class.ensures (λ k d lt. ((c.requires.order.members c.loop-c.c (get_or (row_at c.args.found.now.rows c.loop-c.c) k d)).0
+    (Contains-get_or (row_at c.args.found.now.rows c.loop-c.c) k d lt)).0)
 
 pub handed_on-requires : goal.handed_on-requires
 handed_on-requires c = λ ne. omega (arith, c.requires.numbered.below c.loop-c.c (omega arith) ne, c.loop-c.invariant.refs)
@@ -69,7 +73,8 @@ loop-c-preserved c =
       others = rw c.row-class.ensures at c.put.ensures.others;
     } in
     let exact = rw c.row-class.ensures at c.in_ok-number.ensures.exact in
-    let parts : ((j : ℕ) → Contains S j → Leaves edges (length nodes) labels indexes own j) × ((j : ℕ) → (length S < cap) ⊎ (0 < next) → Leaves edges (length nodes) labels indexes own j → Contains S j) =
+    let parts : ((j : ℕ) → Contains S j → Leaves edges (length nodes) labels indexes own j)
+    × ((j : ℕ) → (length S < cap) ⊎ (0 < next) → Leaves edges (length nodes) labels indexes own j → Contains S j) =
     elim exact [
       | inl a ↦
           let s = full-leaves nodes edges labels indexes rows count own o cap left number sets lists part cl i.counted i.valid.none a.0 in

@@ -23,7 +23,8 @@ loop-x-preserved c =
     record {
       size = length-set c.loop-x.thin c.loop-x.x c.is_narrow.result ∙ i.size;
       done = one_more c.loop-x.thin c.loop-x.x c.is_narrow.result
-          (λ k. (get_or c.args.indexes.now (get_or c.args.labels.now k 0) 0 ≡ 4294967295) × (3 ≤ get_or c.args.outs.now (get_or c.args.labels.now k 0) 0) × (get_or c.args.ins.now (get_or c.args.labels.now k 0) 0 < 3))
+          (λ k. (get_or c.args.indexes.now (get_or c.args.labels.now k 0) 0 ≡ 4294967295)
+          × (3 ≤ get_or c.args.outs.now (get_or c.args.labels.now k 0) 0) × (get_or c.args.ins.now (get_or c.args.labels.now k 0) 0 < 3))
           (omega (arith, i.size, c.requires.thin, c.loop-x-test.true)) i.done c.is_narrow.ensures;
     }
 
@@ -34,6 +35,7 @@ returns c =
       whole = i.size ∙ c.requires.thin;
       bare = λ x lt t. ((i.done x (omega arith)).0 t).0;
       same = λ x y xl yl e. same_truth (get_or c.loop-x.thin x false) (get_or c.loop-x.thin y false)
-          ((get_or c.args.indexes.now (get_or c.args.labels.now x 0) 0 ≡ 4294967295) × (3 ≤ get_or c.args.outs.now (get_or c.args.labels.now x 0) 0) × (get_or c.args.ins.now (get_or c.args.labels.now x 0) 0 < 3))
+          ((get_or c.args.indexes.now (get_or c.args.labels.now x 0) 0 ≡ 4294967295)
+          × (3 ≤ get_or c.args.outs.now (get_or c.args.labels.now x 0) 0) × (get_or c.args.ins.now (get_or c.args.labels.now x 0) 0 < 3))
           (i.done x (omega arith)) (rw e (i.done y (omega arith)));
     }

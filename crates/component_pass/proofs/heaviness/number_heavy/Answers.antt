@@ -6,7 +6,11 @@ use Rattle.component_pass.proofs.heaviness.number_heavy.Goals as goal
 use Rattle.component_pass.proofs.heaviness.number_heavy.Goals.{then-is_heavy+in_ok-indexes, else-is_heavy}
 
 pub loop-x-init : goal.loop-x-init
-loop-x-init c = record { heavy = ([], sym c.requires.none, heavy-none c.args.labels.now c.args.indexes.now c.args.outs.now c.args.ins.now (length c.args.builder.now.comps)); comps = refl; pairs = refl }
+loop-x-init c = record {
+  heavy = ([], sym c.requires.none, heavy-none c.args.labels.now c.args.indexes.now c.args.outs.now c.args.ins.now (length c.args.builder.now.comps));
+  comps = refl;
+  pairs = refl;
+}
 
 pub bridgeless-requires : goal.bridgeless-requires
 bridgeless-requires c =
@@ -31,7 +35,8 @@ loop-x-preserved c =
           let at : w.in_ok-indexes.field-0 ≡ count + length h.0 = omega (arith, w.in_ok-indexes.ensures.index, h.1, ap length i.comps) in
           let t = heavy-next labels before outs ins count x c.loop-x.indexes h.0 w.if-is_heavy.ensures.0 h.2 in
           let room = c.requires.room (h.0 ++ x ∷ []) t.0 (λ k d lt. (omega (arith, t.1 k d lt, c.loop-x-test.true), t.2 k d lt)) in
-          let n = heavy-more labels before outs ins count x c.loop-x.indexes h.0 (c.requires.labels x 0 c.loop-x-test.true) w.if-is_heavy.ensures.0 w.if-is_heavy.ensures.1 (omega (arith, room, length_push h.0 x)) h.2 in
+          let n = heavy-more labels before outs ins count x c.loop-x.indexes h.0
+          (c.requires.labels x 0 c.loop-x-test.true) w.if-is_heavy.ensures.0 w.if-is_heavy.ensures.1 (omega (arith, room, length_push h.0 x)) h.2 in
           rw (w.indexes-is, w.builder-is, at) record {
             heavy = (h.0 ++ x ∷ [], omega (arith, length_push h.0 x, h.1, w.in_ok-indexes.ensures.heavy), n);
             comps = w.bridgeless.ensures.comps ∙ i.comps;

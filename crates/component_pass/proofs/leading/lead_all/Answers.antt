@@ -25,7 +25,8 @@ loop-c-preserved-in_ok-lead_class c =
     let count : ℕ = c.args.count in
     let own : ℕ = c.loop-c.c - 1 in
     let ol : own < length rows = omega (arith, i.within, c.loop-c-test.true) in
-    let led = subst (λ (k : ℕ). AreLed edges (length nodes) labels indexes counts cap count k c.loop-c.ins c.loop-c.lists) (let e : c.loop-c.c ≡ own + 1 = omega (arith, c.loop-c-test.true) in e) i.led in
+    let led = subst (λ (k : ℕ). AreLed edges (length nodes) labels indexes counts cap count k c.loop-c.ins c.loop-c.lists)
+    (let e : c.loop-c.c ≡ own + 1 = omega (arith, c.loop-c-test.true) in e) i.led in
     let n = c.handed-number.ensures in
     record {
       led = led-push nodes edges labels indexes counts rows cap count c.requires.part c.requires.classes c.requires.order c.requires.numbered c.requires.indexes (omega arith) c.requires.counts
@@ -47,7 +48,8 @@ loop-c-preserved c =
     let count : ℕ = c.args.count in
     let own : ℕ = c.loop-c.c - 1 in
     let ol : own < length rows = omega (arith, i.within, c.loop-c-test.true) in
-    let led = subst (λ (k : ℕ). AreLed edges (length nodes) labels indexes counts cap count k c.loop-c.ins c.loop-c.lists) (let e : c.loop-c.c ≡ own + 1 = omega (arith, c.loop-c-test.true) in e) i.led in
+    let led = subst (λ (k : ℕ). AreLed edges (length nodes) labels indexes counts cap count k c.loop-c.ins c.loop-c.lists)
+    (let e : c.loop-c.c ≡ own + 1 = omega (arith, c.loop-c-test.true) in e) i.led in
     record {
       led = led-skip nodes edges labels indexes counts rows cap count c.requires.part c.requires.classes c.requires.order c.requires.numbered c.requires.indexes (omega arith) c.requires.counts
           own c.loop-c.ins c.loop-c.lists (omega (arith, c.if-counts-own-ge-LEAST.false)) led;
@@ -59,4 +61,5 @@ loop-c-preserved c =
 pub returns : goal.returns
 returns c =
     let nodes = c.args.graph.now.nodes in
-    subst (λ (k : ℕ). AreLed c.args.graph.now.edges (length nodes) c.args.found.now.labels.items c.args.indexes.now c.args.counts.now cap c.args.count k c.loop-c.ins c.loop-c.lists) (let e : c.loop-c.c ≡ 0 = omega arith in e) c.loop-c.invariant.led
+    subst (λ (k : ℕ). AreLed c.args.graph.now.edges (length nodes) c.args.found.now.labels.items c.args.indexes.now c.args.counts.now cap c.args.count k c.loop-c.ins c.loop-c.lists)
+    (let e : c.loop-c.c ≡ 0 = omega arith in e) c.loop-c.invariant.led

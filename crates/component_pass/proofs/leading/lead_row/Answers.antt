@@ -16,7 +16,8 @@ one_more xs y v = (
 
 pub loop-y-init : goal.loop-y-init
 loop-y-init c = record {
-  pushes = pushes-none c.args.labels.now c.args.indexes.now c.args.counts.now cap c.args.count c.args.own c.args.number (Contains []) c.args.ins.now c.args.lists.now c.requires.sets (λ v t h. omega (arith, t.1));
+  pushes = pushes-none c.args.labels.now c.args.indexes.now c.args.counts.now cap c.args.count c.args.own c.args.number
+      (Contains []) c.args.ins.now c.args.lists.now c.requires.sets (λ v t h. omega (arith, t.1));
   marks = c.requires.marks;
   clear = c.requires.clear;
 }
@@ -37,10 +38,12 @@ loop-y-preserved c =
     rw (take_more row c.loop-y.y-index 0 c.loop-y-test.true) (elim c.if-takes.branch [
       | then-takes+in_ok-ins w ↦
           let at : get_or labels y 0 < length c.loop-y.ins = omega (arith, c.requires.labels y 0 (c.requires.row c.loop-y.y-index 0 c.loop-y-test.true), i.pushes.size) in
-          let one = pushes-one labels indexes counts cap count own number y w.in_ok-ins.field-0 c.loop-y.ins c.loop-y.lists w.join.new.lists a at w.if-takes.ensures.0 w.in_ok-ins.ensures.found w.in_ok-ins.ensures.joins in
+          let one = pushes-one labels indexes counts cap count own number y w.in_ok-ins.field-0 c.loop-y.ins
+          c.loop-y.lists w.join.new.lists a at w.if-takes.ensures.0 w.in_ok-ins.ensures.found w.in_ok-ins.ensures.joins in
           rw (w.ins-is, w.lists-is, w.work-is) record {
             pushes = pushes-as labels indexes counts cap count own number (λ v. Contains front v ⊎ (y ≡ v)) (Contains (front ++ y ∷ [])) c.args.ins.now _ c.args.lists.now _ (one_more front y)
-                (pushes-then labels indexes counts cap count own number (Contains front) (λ v. y ≡ v) c.args.ins.now c.loop-y.ins _ c.args.lists.now c.loop-y.lists w.join.new.lists c.requires.number i.pushes one);
+                (pushes-then labels indexes counts cap count own number (Contains front)
+                (λ v. y ≡ v) c.args.ins.now c.loop-y.ins _ c.args.lists.now c.loop-y.lists w.join.new.lists c.requires.number i.pushes one);
             marks = w.in_ok-ins.ensures.marks;
             clear = w.in_ok-ins.ensures.clear;
           }
@@ -49,8 +52,10 @@ loop-y-preserved c =
           let g = subst (λ (z : ℕ). ((get_or labels z 0 ≡ own) → ⊥) × IsWide labels indexes counts z) (sym e) h in
           w.if-takes.ensures (g.0, g.1.0, g.1.1)) in
           rw (w.ins-is, w.lists-is, w.work-is) record {
-            pushes = pushes-as labels indexes counts cap count own number (λ v. Contains front v ⊎ (y ≡ v)) (Contains (front ++ y ∷ [])) c.args.ins.now c.loop-y.ins c.args.lists.now c.loop-y.lists (one_more front y)
-                (pushes-then labels indexes counts cap count own number (Contains front) (λ v. y ≡ v) c.args.ins.now c.loop-y.ins c.loop-y.ins c.args.lists.now c.loop-y.lists c.loop-y.lists c.requires.number i.pushes one);
+            pushes = pushes-as labels indexes counts cap count own number (λ v. Contains front v ⊎ (y ≡ v))
+                (Contains (front ++ y ∷ [])) c.args.ins.now c.loop-y.ins c.args.lists.now c.loop-y.lists (one_more front y)
+                (pushes-then labels indexes counts cap count own number (Contains front)
+                (λ v. y ≡ v) c.args.ins.now c.loop-y.ins c.loop-y.ins c.args.lists.now c.loop-y.lists c.loop-y.lists c.requires.number i.pushes one);
             marks = i.marks;
             clear = i.clear;
           }

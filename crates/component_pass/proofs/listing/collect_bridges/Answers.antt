@@ -10,7 +10,8 @@ loop-y-preserved c =
     let at = c.loop-y.y-index in
     let y : ℕ = get_or class at 0 in
     rw (take_more class at 0 c.loop-y-test.true) (elim c.if-is_bridge.branch [
-      | then-is_bridge+in_ok-push w ↦ rw (w.members-is, w.in_ok-push.ensures.items) (collected-more c.args.graph.now.nodes (take at class) c.loop-y.members.items y w.if-is_bridge.ensures c.loop-y.invariant)
+      | then-is_bridge+in_ok-push w ↦ rw (w.members-is, w.in_ok-push.ensures.items)
+          (collected-more c.args.graph.now.nodes (take at class) c.loop-y.members.items y w.if-is_bridge.ensures c.loop-y.invariant)
       | else-is_bridge w ↦ rw w.members-is (collected-other c.args.graph.now.nodes (take at class) c.loop-y.members.items y w.if-is_bridge.ensures c.loop-y.invariant)
     ])
 

@@ -27,26 +27,30 @@ collect_bridges-requires c =
 
 pub list_members-requires-clause-some : goal.list_members-requires-clause-some
 list_members-requires-clause-some c =
-    let a = members-apart c.args.graph.now.nodes c.args.graph.now.edges c.args.labels.now c.args.rows.now c.nodes-x-end.ensures.part.few c.requires.order c.loop-x.x c.loop-x.builder.comps c.loop-x.indexes c.collect_bridges.new.members.items (omega arith) c.if-begins.ensures.0 c.if-begins.ensures.1
+    let a = members-apart c.args.graph.now.nodes c.args.graph.now.edges c.args.labels.now c.args.rows.now c.nodes-x-end.ensures.part.few c.requires.order
+    c.loop-x.x c.loop-x.builder.comps c.loop-x.indexes c.collect_bridges.new.members.items (omega arith) c.if-begins.ensures.0 c.if-begins.ensures.1
     (rw c.row.ensures at c.in_ok-collect_bridges.ensures) c.loop-x.invariant.listed in
     rw c.deref.ensures.value a.2
 
 pub list_members-requires-clause-apart : goal.list_members-requires-clause-apart
 list_members-requires-clause-apart c =
-    let a = members-apart c.args.graph.now.nodes c.args.graph.now.edges c.args.labels.now c.args.rows.now c.nodes-x-end.ensures.part.few c.requires.order c.loop-x.x c.loop-x.builder.comps c.loop-x.indexes c.collect_bridges.new.members.items (omega arith) c.if-begins.ensures.0 c.if-begins.ensures.1
+    let a = members-apart c.args.graph.now.nodes c.args.graph.now.edges c.args.labels.now c.args.rows.now c.nodes-x-end.ensures.part.few c.requires.order
+    c.loop-x.x c.loop-x.builder.comps c.loop-x.indexes c.collect_bridges.new.members.items (omega arith) c.if-begins.ensures.0 c.if-begins.ensures.1
     (rw c.row.ensures at c.in_ok-collect_bridges.ensures) c.loop-x.invariant.listed in
     rw c.deref.ensures.value a.0
 
 pub list_members-requires-clause-after : goal.list_members-requires-clause-after
 list_members-requires-clause-after c =
-    let a = members-apart c.args.graph.now.nodes c.args.graph.now.edges c.args.labels.now c.args.rows.now c.nodes-x-end.ensures.part.few c.requires.order c.loop-x.x c.loop-x.builder.comps c.loop-x.indexes c.collect_bridges.new.members.items (omega arith) c.if-begins.ensures.0 c.if-begins.ensures.1
+    let a = members-apart c.args.graph.now.nodes c.args.graph.now.edges c.args.labels.now c.args.rows.now c.nodes-x-end.ensures.part.few c.requires.order
+    c.loop-x.x c.loop-x.builder.comps c.loop-x.indexes c.collect_bridges.new.members.items (omega arith) c.if-begins.ensures.0 c.if-begins.ensures.1
     (rw c.row.ensures at c.in_ok-collect_bridges.ensures) c.loop-x.invariant.listed in
     rw c.deref.ensures.value a.1
 
 pub list_members-requires-clause-below : goal.list_members-requires-clause-below
 list_members-requires-clause-below c =
     let members = c.collect_bridges.new.members.items in
-    rw (c.deref.ensures.value, c.nodes.ensures.count) (λ k d lt. bridge-below c.args.graph.now.nodes (get_or members k d) ((c.in_ok-collect_bridges.ensures (get_or members k d)).0 (Contains-get_or members k d lt)).1)
+    rw (c.deref.ensures.value, c.nodes.ensures.count) (λ k d lt. bridge-below c.args.graph.now.nodes
+    (get_or members k d) ((c.in_ok-collect_bridges.ensures (get_or members k d)).0 (Contains-get_or members k d lt)).1)
 
 pub list_members-requires-clause-rows : goal.list_members-requires-clause-rows
 list_members-requires-clause-rows c =
@@ -64,7 +68,8 @@ loop-x-preserved c =
       | then-begins+in_ok-collect_bridges+in_ok-indexes w ↦
           let members = rw w.row.ensures at w.in_ok-collect_bridges.ensures in
           let adds = rw w.deref.ensures.value at w.in_ok-indexes.ensures.comps in
-          let m = unset-more nodes c.args.graph.now.edges labels rows c.nodes-x-end.ensures.part.few c.requires.order c.loop-x.x c.loop-x.builder.comps w.list_members.new.builder.comps c.loop-x.indexes w.collect_bridges.new.members.items
+          let m = unset-more nodes c.args.graph.now.edges labels rows c.nodes-x-end.ensures.part.few c.requires.order c.loop-x.x
+          c.loop-x.builder.comps w.list_members.new.builder.comps c.loop-x.indexes w.collect_bridges.new.members.items
           (omega arith) (omega (arith, lt, i.size, c.requires.indexes)) w.if-begins.ensures.0 w.if-begins.ensures.1 members adds i.unset i.listed in
           rw (w.indexes-is, w.builder-is, w.marks-is, w.in_ok-indexes.ensures.index) record {
             listed = m.0;
@@ -75,7 +80,8 @@ loop-x-preserved c =
             clear = w.in_ok-indexes.ensures.clear;
           }
       | else-begins w ↦
-          let s = unset-skip nodes c.args.graph.now.edges labels rows c.nodes-x-end.ensures.part.few c.requires.order c.loop-x.x c.loop-x.builder.comps c.loop-x.indexes w.if-begins.ensures (omega (arith, lt, i.size, c.requires.indexes)) i.unset i.listed in
+          let s = unset-skip nodes c.args.graph.now.edges labels rows c.nodes-x-end.ensures.part.few c.requires.order c.loop-x.x
+          c.loop-x.builder.comps c.loop-x.indexes w.if-begins.ensures (omega (arith, lt, i.size, c.requires.indexes)) i.unset i.listed in
           rw (w.indexes-is, w.builder-is, w.marks-is) record { listed = s.0; unset = s.1; heavy = i.heavy; pairs = i.pairs; size = i.size; clear = i.clear }
     ]
 

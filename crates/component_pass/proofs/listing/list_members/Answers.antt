@@ -63,7 +63,8 @@ unite-requires-clause-below c = c.requires.rows
 
 pub returns-then-are_components_in_order-clause-comps : goal.returns-then-are_components_in_order-clause-comps
 returns-then-are_components_in_order-clause-comps c =
-    added c.component.result c.args.builder.now.comps c.component.new.self.comps c.args.members.now c.args.members.now c.component.ensures.comps (c.if-are_components_in_order.ensures refl).0 (λ j. (λ t. t, λ t. t))
+    added c.component.result c.args.builder.now.comps c.component.new.self.comps c.args.members.now c.args.members.now c.component.ensures.comps
+    (c.if-are_components_in_order.ensures refl).0 (λ j. (λ t. t, λ t. t))
 
 pub returns-clause-index : goal.returns-clause-index
 returns-clause-index c = c.component-2.ensures.index

@@ -35,4 +35,5 @@ loop-i-preserved c =
 
 pub returns-clause-pairs : goal.returns-clause-pairs
 returns-clause-pairs c =
-    subst (λ (n : ℕ). AreListedBelow (λ i. set_at c.args.count c.args.lists.now (get_or c.args.refs.now i 0)) n c.loop-i.builder.pairs) (let e : c.loop-i.i ≡ c.args.count = omega arith in e) c.loop-i.invariant.pairs
+    subst (λ (n : ℕ). AreListedBelow (λ i. set_at c.args.count c.args.lists.now (get_or c.args.refs.now i 0)) n c.loop-i.builder.pairs)
+    (let e : c.loop-i.i ≡ c.args.count = omega arith in e) c.loop-i.invariant.pairs

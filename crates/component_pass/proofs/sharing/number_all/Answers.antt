@@ -16,8 +16,10 @@ pub loop-c-init : goal.loop-c-init
 loop-c-init c =
     let all = subst (λ (xs : List ℕ). All (λ s. s ≡ c.args.count) xs) (sym (c.fill.ensures.after (λ y e. e))) (All-replicate (λ s. s ≡ c.args.count) (length c.args.sets.now) c.args.count refl) in
     rw (c.requires.lists, c.requires.known) record {
-      shared = shared-none c.args.graph.now.edges (length c.args.graph.now.nodes) c.args.sets.now c.args.indexes.now c.args.thin.now c.args.count c.fill.new.self ([] ∷ []) (c.fill.ensures.len ∙ c.requires.classes.whole) all;
-      referred = referred-none c.args.graph.now.nodes c.args.graph.now.edges c.args.sets.now c.args.indexes.now c.args.rows.now c.args.count 0 c.requires.order _ c.args.refs.now ([] ∷ []) c.requires.refs;
+      shared = shared-none c.args.graph.now.edges (length c.args.graph.now.nodes) c.args.sets.now c.args.indexes.now c.args.thin.now c.args.count c.fill.new.self
+          ([] ∷ []) (c.fill.ensures.len ∙ c.requires.classes.whole) all;
+      referred = referred-none c.args.graph.now.nodes c.args.graph.now.edges c.args.sets.now c.args.indexes.now
+          c.args.rows.now c.args.count 0 c.requires.order _ c.args.refs.now ([] ∷ []) c.requires.refs;
       valid = sets-none c.args.count c.fill.new.self all;
       work_marks = c.requires.work_marks;
       clear = c.requires.clear;

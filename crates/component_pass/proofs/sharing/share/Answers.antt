@@ -49,7 +49,8 @@ same_set-requires c =
 
 pub returns-in-Some-same_set-clause-found : goal.returns-in-Some-same_set-clause-found
 returns-in-Some-same_set-clause-found c =
-    rw c.in_ok-number.ensures.known (found-old c.args.sets.now c.args.lists.now c.args.count (length c.args.work.now.known.items) c.in-Some-same_set.number c.requires.sets (omega (arith, c.in-Some-same_set.ensures.0, c.requires.sets.all)))
+    rw c.in_ok-number.ensures.known (found-old c.args.sets.now c.args.lists.now c.args.count
+    (length c.args.work.now.known.items) c.in-Some-same_set.number c.requires.sets (omega (arith, c.in-Some-same_set.ensures.0, c.requires.sets.all)))
 
 pub returns-in-Some-same_set-clause-marks : goal.returns-in-Some-same_set-clause-marks
 returns-in-Some-same_set-clause-marks c = c.in_ok-number.ensures.marks ∙ c.requires.count

@@ -40,7 +40,8 @@ returns-then-scan-row-clause-going c =
     let next : c.scan_row-scan.result.next < length (row_at c.args.graph.now.edges f.node) = omega (arith, c.if-scan-row.true, ap length c.row-row.ensures.row) in
     let is : w ≡ get_or (row_at c.args.graph.now.edges f.node) c.scan_row-scan.result.next 0 = ap (λ (r : List ℕ). get_or r c.scan_row-scan.result.next 0) c.row-row.ensures.row in
     rw (c.in_ok-inner.ensures.frame, c.in_ok-push.ensures.items, reverse-push c.args.frames.now.items lower, c.in_ok-inner.ensures.stack, c.in_ok-inner.ensures.marks)
-    (descended c.args.graph.now.edges (length c.args.graph.now.nodes) part.in_range part.few c.args.stack.now.items c.args.marks.now c.args.labels.now c.args.rows.now f (reverse c.args.frames.now.items)
+    (descended c.args.graph.now.edges (length c.args.graph.now.nodes) part.in_range part.few
+    c.args.stack.now.items c.args.marks.now c.args.labels.now c.args.rows.now f (reverse c.args.frames.now.items)
     c.scan_row-scan.result.next c.scan_row-scan.result.low w c.requires.going scan next is)
 
 pub returns-then-scan-row-clause-less : goal.returns-then-scan-row-clause-less
@@ -58,7 +59,8 @@ pub returns-then-scan-row-clause-none : goal.returns-then-scan-row-clause-none
 returns-then-scan-row-clause-none c = tt
 
 pub returns-then-scan-row-clause-kept : goal.returns-then-scan-row-clause-kept
-returns-then-scan-row-clause-kept c = entered-kept c.args.marks.now c.enter.new.marks (get_or c.row-row.result.now c.scan_row-scan.result.next 0) (length c.args.stack.now.items) c.in_ok-inner.ensures.marks
+returns-then-scan-row-clause-kept c = entered-kept c.args.marks.now c.enter.new.marks
+    (get_or c.row-row.result.now c.scan_row-scan.result.next 0) (length c.args.stack.now.items) c.in_ok-inner.ensures.marks
 
 pub returns-then-scan-frame-clause-going : goal.returns-then-scan-frame-clause-going
 returns-then-scan-frame-clause-going c =
@@ -67,7 +69,8 @@ returns-then-scan-frame-clause-going c =
     let f : Frame = c.args.frame in
     let going = rw (c.take_last.ensures.items, reverse-push c.take_last.new.self.items c.take_last.result) at c.requires.going in
     rw c.lowered.ensures
-    (merged c.args.graph.now.edges (length c.args.graph.now.nodes) part.in_range part.few c.args.stack.now.items c.args.marks.now c.args.labels.now c.args.rows.now f c.take_last.result (reverse c.take_last.new.self.items)
+    (merged c.args.graph.now.edges (length c.args.graph.now.nodes) part.in_range part.few c.args.stack.now.items
+    c.args.marks.now c.args.labels.now c.args.rows.now f c.take_last.result (reverse c.take_last.new.self.items)
     c.scan_row-scan.result.next c.scan_row-scan.result.low going scan (omega (arith, c.if-scan-row.false, ap length c.row-row.ensures.row)) (omega arith))
 
 pub returns-then-scan-frame-clause-none : goal.returns-then-scan-frame-clause-none
@@ -102,11 +105,13 @@ pub returns-clause-going : goal.returns-clause-going
 returns-clause-going c =
     let part = c.row-row.ensures.part in
     let scan = rw c.row-row.ensures.row at c.scan_row-scan.ensures in
-    let done = (completed c.args.graph.now.edges (length c.args.graph.now.nodes) part.in_range part.few c.args.stack.now.items c.args.marks.now c.args.labels.now c.close.new.marks c.close.new.labels c.args.rows.now
+    let done = (completed c.args.graph.now.edges (length c.args.graph.now.nodes) part.in_range part.few
+    c.args.stack.now.items c.args.marks.now c.args.labels.now c.close.new.marks c.close.new.labels c.args.rows.now
     c.args.frame (reverse c.args.frames.now.items) c.scan_row-scan.result.next c.scan_row-scan.result.low c.requires.going scan
     (omega (arith, c.if-scan-row.false, ap length c.row-row.ensures.row)) c.if-scan-frame.false (omega arith) (omega arith) c.in_ok-close.ensures.taken c.in_ok-close.ensures.others).0 in
     rw (c.in_ok-close.ensures.stack, c.in_ok-close.ensures.rows)
-    (subst (λ (fs : List Frame). IsGoing c.args.graph.now.edges (length c.args.graph.now.nodes) (take c.args.frame.at c.args.stack.now.items) c.close.new.marks c.close.new.labels (c.args.rows.now ++ drop c.args.frame.at c.args.stack.now.items ∷ []) fs) (sym (popped-frames c.args.frames.now.items c.pop.new.self.items c.pop.result c.pop.ensures.items)) done)
+    (subst (λ (fs : List Frame). IsGoing c.args.graph.now.edges (length c.args.graph.now.nodes) (take c.args.frame.at c.args.stack.now.items) c.close.new.marks c.close.new.labels
+    (c.args.rows.now ++ drop c.args.frame.at c.args.stack.now.items ∷ []) fs) (sym (popped-frames c.args.frames.now.items c.pop.new.self.items c.pop.result c.pop.ensures.items)) done)
 
 pub returns-clause-none : goal.returns-clause-none
 returns-clause-none c = popped-none c.args.frames.now.items c.pop.new.self.items c.pop.result _ _ _ c.pop.ensures.cases (omega arith)
@@ -115,7 +120,8 @@ pub returns-clause-less : goal.returns-clause-less
 returns-clause-less c =
     let part = c.row-row.ensures.part in
     let scan = rw c.row-row.ensures.row at c.scan_row-scan.ensures in
-    let fewer = (completed c.args.graph.now.edges (length c.args.graph.now.nodes) part.in_range part.few c.args.stack.now.items c.args.marks.now c.args.labels.now c.close.new.marks c.close.new.labels c.args.rows.now
+    let fewer = (completed c.args.graph.now.edges (length c.args.graph.now.nodes) part.in_range part.few
+    c.args.stack.now.items c.args.marks.now c.args.labels.now c.close.new.marks c.close.new.labels c.args.rows.now
     c.args.frame (reverse c.args.frames.now.items) c.scan_row-scan.result.next c.scan_row-scan.result.low c.requires.going scan
     (omega (arith, c.if-scan-row.false, ap length c.row-row.ensures.row)) c.if-scan-frame.false (omega arith) (omega arith) c.in_ok-close.ensures.taken c.in_ok-close.ensures.others).1 in
     omega (arith, fewer, popped-length c.args.frames.now.items c.pop.new.self.items c.pop.result c.pop.ensures.items)

@@ -24,10 +24,12 @@ returns-clause-others c = λ x out.
     elim out [ inl l ↦ absurd (omega (arith, l, m, k.1)) | inr l ↦ absurd (omega (arith, l, m, k.2)) ])
 
 pub settle-requires-clause-marks : goal.settle-requires-clause-marks
-settle-requires-clause-marks c = rw (between_to_end c.deref.result.now c.args.at (length c.deref.result.now) (omega arith), c.deref.ensures.value) (All-drop (λ x. x < length c.args.marks.now) c.args.at c.args.stack.now.items c.requires.marks)
+settle-requires-clause-marks c = rw (between_to_end c.deref.result.now c.args.at (length c.deref.result.now) (omega arith), c.deref.ensures.value)
+    (All-drop (λ x. x < length c.args.marks.now) c.args.at c.args.stack.now.items c.requires.marks)
 
 pub settle-requires-clause-labels : goal.settle-requires-clause-labels
-settle-requires-clause-labels c = rw (between_to_end c.deref.result.now c.args.at (length c.deref.result.now) (omega arith), c.deref.ensures.value) (All-drop (λ x. x < length c.args.labels.now) c.args.at c.args.stack.now.items c.requires.labels)
+settle-requires-clause-labels c = rw (between_to_end c.deref.result.now c.args.at (length c.deref.result.now) (omega arith), c.deref.ensures.value)
+    (All-drop (λ x. x < length c.args.labels.now) c.args.at c.args.stack.now.items c.requires.labels)
 
 pub returns-clause-stack : goal.returns-clause-stack
 returns-clause-stack c = c.truncate.ensures.items

@@ -11,7 +11,8 @@ new-driver-requires-clause-idle g c = idle_first c.in-Some-caller-2.caller c.in-
 
 pub invariant_of-result : goal.invariant_of-result
 invariant_of-result g c = (
-  three_given c.in_ok-shared.desk c.caller.new.self c.caller-2.new.self c.caller-3.new.self c.caller.result c.caller-2.result c.caller-3.result c.in-Some.one c.in-Some-caller.two c.in-Some-caller-2.caller
+  three_given c.in_ok-shared.desk c.caller.new.self c.caller-2.new.self c.caller-3.new.self c.caller.result
+      c.caller-2.result c.caller-3.result c.in-Some.one c.in-Some-caller.two c.in-Some-caller-2.caller
       c.in_ok-shared.ensures.all c.caller.ensures.all c.caller-2.ensures.all c.caller-3.ensures.all c.in-Some.is c.in-Some-caller.is c.in-Some-caller-2.is
       c.in-Some.ensures.thread c.in-Some-caller.ensures.thread c.in-Some-caller-2.ensures.thread,
   c.in-Some.ensures.thread,

@@ -7,7 +7,8 @@ returns-in_default c = none_by_head c.args.text c.args.number c.take_head.new.wo
 
 pub returns-in_default-2 : goal.returns-in_default-2
 returns-in_default-2 c =
-    none_by_tail c.args.text c.args.number c.take_head.new.words (c.in-Some.caller, c.in-Some.index, c.in-Some.op) (rw c.of-words.ensures at c.in-Some.ensures) (rw c.in_default-2.is at c.in_ok-reply.ensures)
+    none_by_tail c.args.text c.args.number c.take_head.new.words (c.in-Some.caller, c.in-Some.index, c.in-Some.op)
+    (rw c.of-words.ensures at c.in-Some.ensures) (rw c.in_default-2.is at c.in_ok-reply.ensures)
 
 pub returns : goal.returns
 returns c =

@@ -9,4 +9,5 @@ pub returns-then-is_same : goal.returns-then-is_same
 returns-then-is_same c = one_word (λ (u : Unit {0}). Unit {0}) (λ u. codes "=") c.args.words.now c.next.new.self c.in_ok-next.field-0.now (Some tt) c.in_ok-next.ensures (tt, sym c.if-is_same.ensures)
 
 pub returns-else-is_same : goal.returns-else-is_same
-returns-else-is_same c = one_word (λ (u : Unit {0}). Unit {0}) (λ u. codes "=") c.args.words.now c.next.new.self c.in_ok-next.field-0.now None c.in_ok-next.ensures (λ u g e. c.if-is_same.ensures (sym e))
+returns-else-is_same c = one_word (λ (u : Unit {0}). Unit {0})
+    (λ u. codes "=") c.args.words.now c.next.new.self c.in_ok-next.field-0.now None c.in_ok-next.ensures (λ u g e. c.if-is_same.ensures (sym e))

@@ -15,5 +15,6 @@ returns-in_err-x c = rw c.from_residual.ensures
 pub returns : goal.returns
 returns c =
     let g0 = goes_all (IsEventOf word.Grip) others c.args.words.now in
-    let g1 = goes_on (λ (x : StaticNo). x.0 < 16) statics (IsEventOf word.Grip) others (behind 0) (behind 1) c.args.words.now c.args.words.now c.take_static.new.words (Some c.in_ok-x.x) grip_0 c.in_ok-x.ensures g0 in
+    let g1 = goes_on (λ (x : StaticNo). x.0 < 16) statics (IsEventOf word.Grip) others (behind 0)
+    (behind 1) c.args.words.now c.args.words.now c.take_static.new.words (Some c.in_ok-x.x) grip_0 c.in_ok-x.ensures g0 in
     goes_whole (IsEventOf word.Grip) others (behind 1) c.args.words.now c.take_static.new.words (op.Grip c.in_ok-x.x) grip_1 g1 c.in_ok-x.ensures.sound.0 (c.in_ok-x.ensures.sound.1)

@@ -18,12 +18,16 @@ returns-in_err-h c = rw c.from_residual.ensures
 pub returns-in_err-x : goal.returns-in_err-x
 returns-in_err-x c = rw c.from_residual-in_err-x.ensures
     (let g0 = goes_all (IsEventOf word.Land) others c.args.words.now in
-    let g1 = goes_on (λ (h : HNum). Short h.0) handles (IsEventOf word.Land) others (behind 0) (behind 1) c.args.words.now c.args.words.now c.take_handle.new.words (Some c.in_ok-h.h) land_0 c.in_ok-h.ensures g0 in
+    let g1 = goes_on (λ (h : HNum). Short h.0) handles (IsEventOf word.Land) others (behind 0)
+    (behind 1) c.args.words.now c.args.words.now c.take_handle.new.words (Some c.in_ok-h.h) land_0 c.in_ok-h.ensures g0 in
     goes_wrong (λ (x : StaticNo). x.0 < 16) statics (IsEventOf word.Land) others (behind 1) (behind 2) c.args.words.now c.take_handle.new.words c.take_static.new.words land_1 c.in_err-x.ensures g1)
 
 pub returns : goal.returns
 returns c =
     let g0 = goes_all (IsEventOf word.Land) others c.args.words.now in
-    let g1 = goes_on (λ (h : HNum). Short h.0) handles (IsEventOf word.Land) others (behind 0) (behind 1) c.args.words.now c.args.words.now c.take_handle.new.words (Some c.in_ok-h.h) land_0 c.in_ok-h.ensures g0 in
-    let g2 = goes_on (λ (x : StaticNo). x.0 < 16) statics (IsEventOf word.Land) others (behind 1) (behind 2) c.args.words.now c.take_handle.new.words c.take_static.new.words (Some c.in_ok-x.x) land_1 c.in_ok-x.ensures g1 in
-    goes_whole (IsEventOf word.Land) others (behind 2) c.args.words.now c.take_static.new.words (op.Land c.in_ok-h.h c.in_ok-x.x) land_2 g2 (c.in_ok-h.ensures.sound.0, c.in_ok-x.ensures.sound.0) (c.in_ok-h.ensures.sound.1 ∙ ap (λ z. handle_text c.in_ok-h.h ∷ z) (c.in_ok-x.ensures.sound.1))
+    let g1 = goes_on (λ (h : HNum). Short h.0) handles (IsEventOf word.Land) others (behind 0)
+    (behind 1) c.args.words.now c.args.words.now c.take_handle.new.words (Some c.in_ok-h.h) land_0 c.in_ok-h.ensures g0 in
+    let g2 = goes_on (λ (x : StaticNo). x.0 < 16) statics (IsEventOf word.Land) others (behind 1)
+    (behind 2) c.args.words.now c.take_handle.new.words c.take_static.new.words (Some c.in_ok-x.x) land_1 c.in_ok-x.ensures g1 in
+    goes_whole (IsEventOf word.Land) others (behind 2) c.args.words.now c.take_static.new.words (op.Land c.in_ok-h.h c.in_ok-x.x) land_2 g2
+    (c.in_ok-h.ensures.sound.0, c.in_ok-x.ensures.sound.0) (c.in_ok-h.ensures.sound.1 ∙ ap (λ z. handle_text c.in_ok-h.h ∷ z) (c.in_ok-x.ensures.sound.1))

@@ -24,5 +24,7 @@ pub returns : goal.returns
 returns c =
     let g0 = goes_all (IsEventOf word.Lend) others c.args.words.now in
     let g1 = goes_on IsVar vars (IsEventOf word.Lend) others (behind 0) (behind 1) c.args.words.now c.args.words.now c.take_var.new.words (Some c.in_ok-v.v) lend_0 c.in_ok-v.ensures g0 in
-    let g2 = goes_on (λ (x : StaticNo). x.0 < 16) statics (IsEventOf word.Lend) others (behind 1) (behind 2) c.args.words.now c.take_var.new.words c.take_static.new.words (Some c.in_ok-x.x) lend_1 c.in_ok-x.ensures g1 in
-    goes_whole (IsEventOf word.Lend) others (behind 2) c.args.words.now c.take_static.new.words (op.Lend c.in_ok-v.v c.in_ok-x.x) lend_2 g2 (c.in_ok-v.ensures.sound.0, c.in_ok-x.ensures.sound.0) (c.in_ok-v.ensures.sound.1 ∙ ap (λ z. var_text c.in_ok-v.v ∷ z) (c.in_ok-x.ensures.sound.1))
+    let g2 = goes_on (λ (x : StaticNo). x.0 < 16) statics (IsEventOf word.Lend) others (behind 1)
+    (behind 2) c.args.words.now c.take_var.new.words c.take_static.new.words (Some c.in_ok-x.x) lend_1 c.in_ok-x.ensures g1 in
+    goes_whole (IsEventOf word.Lend) others (behind 2) c.args.words.now c.take_static.new.words (op.Lend c.in_ok-v.v c.in_ok-x.x) lend_2 g2
+    (c.in_ok-v.ensures.sound.0, c.in_ok-x.ensures.sound.0) (c.in_ok-v.ensures.sound.1 ∙ ap (λ z. var_text c.in_ok-v.v ∷ z) (c.in_ok-x.ensures.sound.1))

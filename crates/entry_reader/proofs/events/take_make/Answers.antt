@@ -16,12 +16,16 @@ returns-in_err-sort c = rw c.from_residual.ensures
 pub returns-in_err-fields : goal.returns-in_err-fields
 returns-in_err-fields c = rw c.from_residual-in_err-fields.ensures
     (let g0 = goes_all (IsEventOf word.Make) others c.args.words.now in
-    let g1 = goes_on (λ (s : Sort). Unit {0}) sorts (IsEventOf word.Make) others (behind 0) (behind 1) c.args.words.now c.args.words.now c.take_sort.new.words (Some c.in_ok-sort.sort) make_0 c.in_ok-sort.ensures g0 in
+    let g1 = goes_on (λ (s : Sort). Unit {0}) sorts (IsEventOf word.Make) others (behind 0)
+    (behind 1) c.args.words.now c.args.words.now c.take_sort.new.words (Some c.in_ok-sort.sort) make_0 c.in_ok-sort.ensures g0 in
     goes_wrong (λ n. n ≤ 16) numbers (IsEventOf word.Make) others (behind 1) (behind 2) c.args.words.now c.take_sort.new.words c.take_fields.new.words make_1 c.in_err-fields.ensures g1)
 
 pub returns : goal.returns
 returns c =
     let g0 = goes_all (IsEventOf word.Make) others c.args.words.now in
-    let g1 = goes_on (λ (s : Sort). Unit {0}) sorts (IsEventOf word.Make) others (behind 0) (behind 1) c.args.words.now c.args.words.now c.take_sort.new.words (Some c.in_ok-sort.sort) make_0 c.in_ok-sort.ensures g0 in
-    let g2 = goes_on (λ n. n ≤ 16) numbers (IsEventOf word.Make) others (behind 1) (behind 2) c.args.words.now c.take_sort.new.words c.take_fields.new.words (Some c.in_ok-fields.fields) make_1 c.in_ok-fields.ensures g1 in
-    goes_whole (IsEventOf word.Make) others (behind 2) c.args.words.now c.take_fields.new.words (op.Make c.in_ok-sort.sort c.in_ok-fields.fields) make_2 g2 c.in_ok-fields.ensures.sound.0 (c.in_ok-sort.ensures.sound.1 ∙ ap (λ z. sort_text c.in_ok-sort.sort ∷ z) (c.in_ok-fields.ensures.sound.1))
+    let g1 = goes_on (λ (s : Sort). Unit {0}) sorts (IsEventOf word.Make) others (behind 0)
+    (behind 1) c.args.words.now c.args.words.now c.take_sort.new.words (Some c.in_ok-sort.sort) make_0 c.in_ok-sort.ensures g0 in
+    let g2 = goes_on (λ n. n ≤ 16) numbers (IsEventOf word.Make) others (behind 1)
+    (behind 2) c.args.words.now c.take_sort.new.words c.take_fields.new.words (Some c.in_ok-fields.fields) make_1 c.in_ok-fields.ensures g1 in
+    goes_whole (IsEventOf word.Make) others (behind 2) c.args.words.now c.take_fields.new.words (op.Make c.in_ok-sort.sort c.in_ok-fields.fields) make_2 g2 c.in_ok-fields.ensures.sound.0
+    (c.in_ok-sort.ensures.sound.1 ∙ ap (λ z. sort_text c.in_ok-sort.sort ∷ z) (c.in_ok-fields.ensures.sound.1))

@@ -9,11 +9,13 @@ loop-n-init c = record { so_far = put_none as_managed c.args.rising 109 c.args.w
 
 pub loop-n-preserved : goal.loop-n-preserved
 loop-n-preserved c =
-    let more = put_more as_managed (λ n. let x : MNum = record { 0 = n } in x) c.args.rising 109 c.loop-n.least c.in-Some.n c.args.words.now c.loop-n.words c.next_number.new.words c.args.list.now.items c.loop-n.list.items c.put.new.list.items managed_push (λ e. omega (arith, e)) c.in-Some.ensures c.loop-n.invariant.so_far c.in_ok-put.ensures.put in
+    let more = put_more as_managed (λ n. let x : MNum = record { 0 = n } in x) c.args.rising 109 c.loop-n.least c.in-Some.n c.args.words.now c.loop-n.words c.next_number.new.words
+    c.args.list.now.items c.loop-n.list.items c.put.new.list.items managed_push (λ e. omega (arith, e)) c.in-Some.ensures c.loop-n.invariant.so_far c.in_ok-put.ensures.put in
     record { so_far = rw c.least_after-least.ensures more; limit = c.put.ensures.limit }
 
 pub loop-n-smaller : goal.loop-n-smaller
 loop-n-smaller c = omega (arith, ap length c.in-Some.ensures.sound.2)
 
 pub returns-clause-put : goal.returns-clause-put
-returns-clause-put c = put_all as_managed c.args.rising 109 c.loop-n.least c.args.words.now c.loop-n.words c.next_number.new.words c.args.list.now.items c.loop-n.list.items c.in_default.ensures c.loop-n.invariant.so_far
+returns-clause-put c = put_all as_managed c.args.rising 109 c.loop-n.least c.args.words.now c.loop-n.words
+    c.next_number.new.words c.args.list.now.items c.loop-n.list.items c.in_default.ensures c.loop-n.invariant.so_far

@@ -4,10 +4,12 @@ use Rattle.entry_reader.proofs.ListParts.{cut_back, ends_otherwise, ends_with, e
 use Rattle.entry_reader.proofs.lists.read_peers.Goals as goal
 
 pub returns-in_default-clause-list : goal.returns-in_default-clause-list
-returns-in_default-clause-list c = ends_without as_peers true 112 c.args.words.now c.take_peers.new.words c.args.list.now.items c.take_peers.new.list.items (rw c.in_default.is at c.in_ok-span.ensures.list)
+returns-in_default-clause-list c = ends_without as_peers true 112 c.args.words.now c.take_peers.new.words c.args.list.now.items c.take_peers.new.list.items
+    (rw c.in_default.is at c.in_ok-span.ensures.list)
 
 pub returns-in-Some-read_cites-clause-list : goal.returns-in-Some-read_cites-clause-list
-returns-in-Some-read_cites-clause-list c = ends_with as_peers true 112 c.args.words.now c.take_peers.new.words c.args.list.now.items c.take_peers.new.list.items c.in-Some.span c.in-Some-read_cites.cites (rw c.in-Some.is at c.in_ok-span.ensures.list) c.in-Some-read_cites.ensures.0 c.in-Some-read_cites.ensures.1
+returns-in-Some-read_cites-clause-list c = ends_with as_peers true 112 c.args.words.now c.take_peers.new.words c.args.list.now.items c.take_peers.new.list.items
+    c.in-Some.span c.in-Some-read_cites.cites (rw c.in-Some.is at c.in_ok-span.ensures.list) c.in-Some-read_cites.ensures.0 c.in-Some-read_cites.ensures.1
 
 pub returns-in-None-clause-list : goal.returns-in-None-clause-list
 returns-in-None-clause-list c =

@@ -4,12 +4,19 @@ use Rattle.entry_reader.proofs.ListParts.{dash_taken, length_managed, list_taken
 use Rattle.entry_reader.proofs.lists.take_managed.Goals as goal
 
 pub returns-then-take_none-clause-list : goal.returns-then-take_none-clause-list
-returns-then-take_none-clause-list c = dash_taken as_managed c.args.rising 109 c.args.words.now c.take_none.new.words c.args.list.now.items record { first = c.len-first.result; count = 0 } refl (λ e. omega (arith, e)) (omega arith) (omega arith) refl c.if-take_none.ensures
+returns-then-take_none-clause-list c = dash_taken as_managed c.args.rising 109 c.args.words.now c.take_none.new.words c.args.list.now.items
+    record { first = c.len-first.result; count = 0 } refl (λ e. omega (arith, e)) (omega arith) (omega arith) refl c.if-take_none.ensures
 
 pub returns-then-count-eq0-clause-list : goal.returns-then-count-eq0-clause-list
 returns-then-count-eq0-clause-list c =
-    none_taken as_managed c.args.rising 109 c.args.words.now c.put_managed.new.words c.args.list.now.items c.put_managed.new.list.items length_managed refl (λ e. omega (arith, e)) c.if-take_none.ensures.1 (rw c.if-take_none.ensures.0 at c.in_ok-put_managed.ensures.put) (omega (arith, puts_grow as_managed c.args.rising 109 c.take_none.new.words c.put_managed.new.words c.args.list.now.items c.put_managed.new.list.items c.in_ok-put_managed.ensures.put))
+    none_taken as_managed c.args.rising 109 c.args.words.now c.put_managed.new.words c.args.list.now.items c.put_managed.new.list.items length_managed refl
+    (λ e. omega (arith, e)) c.if-take_none.ensures.1 (rw c.if-take_none.ensures.0 at c.in_ok-put_managed.ensures.put)
+    (omega (arith, puts_grow as_managed c.args.rising 109 c.take_none.new.words c.put_managed.new.words c.args.list.now.items c.put_managed.new.list.items c.in_ok-put_managed.ensures.put))
 
 pub returns-clause-list : goal.returns-clause-list
 returns-clause-list c =
-    list_taken as_managed c.args.rising 109 c.args.words.now c.put_managed.new.words c.args.list.now.items c.put_managed.new.list.items record { first = c.len-first.result; count = c.len.result - c.len-first.result } length_managed refl c.if-take_none.ensures.1 (rw c.if-take_none.ensures.0 at c.in_ok-put_managed.ensures.put) (omega arith) (omega arith) (omega (arith, puts_grow as_managed c.args.rising 109 c.take_none.new.words c.put_managed.new.words c.args.list.now.items c.put_managed.new.list.items c.in_ok-put_managed.ensures.put)) (omega arith)
+    list_taken as_managed c.args.rising 109 c.args.words.now c.put_managed.new.words c.args.list.now.items c.put_managed.new.list.items
+    record { first = c.len-first.result; count = c.len.result - c.len-first.result } length_managed refl c.if-take_none.ensures.1
+    (rw c.if-take_none.ensures.0 at c.in_ok-put_managed.ensures.put) (omega arith) (omega arith)
+    (omega (arith, puts_grow as_managed c.args.rising 109 c.take_none.new.words c.put_managed.new.words c.args.list.now.items c.put_managed.new.list.items c.in_ok-put_managed.ensures.put))
+    (omega arith)

@@ -8,7 +8,8 @@ pub returns-in_err-next : goal.returns-in_err-next
 returns-in_err-next c = rw c.from_residual.ensures (as_words IsCount c.args.words.now [] (let a = c.fork-words.ensures in let b = c.in_err-next.ensures.0 in cc) count_empty)
 
 pub returns-in_err-n : goal.returns-in_err-n
-returns-in_err-n c = rw c.from_residual-in_err-n.ensures (as_words IsCount c.args.words.now (c.in_ok-next.field-0.now ∷ c.next.new.self) (let a = c.fork-words.ensures in let b = c.in_ok-next.ensures in cc) (count_unread c.in_ok-next.field-0.now c.next.new.self c.in_err-n.ensures))
+returns-in_err-n c = rw c.from_residual-in_err-n.ensures (as_words IsCount c.args.words.now (c.in_ok-next.field-0.now ∷ c.next.new.self)
+    (let a = c.fork-words.ensures in let b = c.in_ok-next.ensures in cc) (count_unread c.in_ok-next.field-0.now c.next.new.self c.in_err-n.ensures))
 
 pub returns-in-Some : goal.returns-in-Some
 returns-in-Some c =

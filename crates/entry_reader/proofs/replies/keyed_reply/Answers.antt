@@ -20,4 +20,11 @@ pub returns-in_err-handle : goal.returns-in_err-handle
 returns-in_err-handle c = rw c.from_residual-in_err-handle.ensures (no_alive c.args.key.now c.args.word.now c.if-is_same-6.ensures c.in_err-handle.ensures)
 
 pub returns : goal.returns
-returns c = no_key c.args.key.now c.args.word.now record { pending_ = c.if-is_same.ensures; pinned_ = c.if-is_same-2.ensures; marking_ = c.if-is_same-3.ensures; open_ = c.if-is_same-4.ensures; at_ = c.if-is_same-5.ensures; alive_ = c.if-is_same-6.ensures }
+returns c = no_key c.args.key.now c.args.word.now record {
+  pending_ = c.if-is_same.ensures;
+  pinned_ = c.if-is_same-2.ensures;
+  marking_ = c.if-is_same-3.ensures;
+  open_ = c.if-is_same-4.ensures;
+  at_ = c.if-is_same-5.ensures;
+  alive_ = c.if-is_same-6.ensures;
+}

@@ -8,7 +8,8 @@ pub returns-in_err-next : goal.returns-in_err-next
 returns-in_err-next c = rw c.from_residual.ensures (as_words IsManaged c.args.words.now [] (let a = c.fork-words.ensures in let b = c.in_err-next.ensures.0 in cc) managed_empty)
 
 pub returns-in_err-m : goal.returns-in_err-m
-returns-in_err-m c = rw c.from_residual-in_err-m.ensures (as_words IsManaged c.args.words.now (c.in_ok-next.field-0.now ∷ c.next.new.self) (let a = c.fork-words.ensures in let b = c.in_ok-next.ensures in cc) (managed_unread c.in_ok-next.field-0.now c.next.new.self c.in_err-m.ensures))
+returns-in_err-m c = rw c.from_residual-in_err-m.ensures (as_words IsManaged c.args.words.now (c.in_ok-next.field-0.now ∷ c.next.new.self)
+    (let a = c.fork-words.ensures in let b = c.in_ok-next.ensures in cc) (managed_unread c.in_ok-next.field-0.now c.next.new.self c.in_err-m.ensures))
 
 pub returns-in-Some : goal.returns-in-Some
 returns-in-Some c =

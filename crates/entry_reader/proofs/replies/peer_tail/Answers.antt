@@ -8,7 +8,8 @@ pub returns-in_err-next : goal.returns-in_err-next
 returns-in_err-next c = rw c.from_residual.ensures (as_words IsPeer c.args.words.now [] (let a = c.fork-words.ensures in let b = c.in_err-next.ensures.0 in cc) peer_empty)
 
 pub returns-in_err-p : goal.returns-in_err-p
-returns-in_err-p c = rw c.from_residual-in_err-p.ensures (as_words IsPeer c.args.words.now (c.in_ok-next.field-0.now ∷ c.next.new.self) (let a = c.fork-words.ensures in let b = c.in_ok-next.ensures in cc) (peer_unread c.in_ok-next.field-0.now c.next.new.self c.in_err-p.ensures))
+returns-in_err-p c = rw c.from_residual-in_err-p.ensures (as_words IsPeer c.args.words.now (c.in_ok-next.field-0.now ∷ c.next.new.self)
+    (let a = c.fork-words.ensures in let b = c.in_ok-next.ensures in cc) (peer_unread c.in_ok-next.field-0.now c.next.new.self c.in_err-p.ensures))
 
 pub returns-in-Some : goal.returns-in-Some
 returns-in-Some c =

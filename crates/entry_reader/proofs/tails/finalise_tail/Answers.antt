@@ -13,4 +13,6 @@ returns-in-None c =
     let a = c.args.lists.now in
     let m = c.notices_tail.new.lists in
     let b = c.unnoticed_tail.new.lists in
-    if_ok (λ (found : Option (Reply × Option ℕ)). TailsUnnoticed c.args.op.now c.args.words.now m b found) (λ (found : Option (Reply × Option ℕ)). TailsMeant c.args.op.now c.args.words.now a b found) c.unnoticed_tail.result c.unnoticed_tail.ensures (λ found h. notices_else c.args.op.now c.args.words.now a m b found c.requires none h)
+    if_ok (λ (found : Option (Reply × Option ℕ)). TailsUnnoticed c.args.op.now c.args.words.now m b found)
+    (λ (found : Option (Reply × Option ℕ)). TailsMeant c.args.op.now c.args.words.now a b found) c.unnoticed_tail.result c.unnoticed_tail.ensures
+    (λ found h. notices_else c.args.op.now c.args.words.now a m b found c.requires none h)

@@ -13,4 +13,6 @@ returns-in-None c =
     let a = c.args.lists.now in
     let m = c.freed_tail.new.lists in
     let b = c.numbered_tail.new.lists in
-    if_ok (λ (found : Option (Reply × Option ℕ)). TailsNumbered c.args.op.now c.args.words.now m b found) (λ (found : Option (Reply × Option ℕ)). TailsListed c.args.op.now c.args.words.now a b found) c.numbered_tail.result c.numbered_tail.ensures (λ found h. freed_then c.args.op.now c.args.words.now a m b found none h)
+    if_ok (λ (found : Option (Reply × Option ℕ)). TailsNumbered c.args.op.now c.args.words.now m b found)
+    (λ (found : Option (Reply × Option ℕ)). TailsListed c.args.op.now c.args.words.now a b found) c.numbered_tail.result c.numbered_tail.ensures
+    (λ found h. freed_then c.args.op.now c.args.words.now a m b found none h)

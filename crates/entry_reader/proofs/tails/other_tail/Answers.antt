@@ -14,4 +14,6 @@ returns-in-None c =
     let a = c.args.lists.now in
     let m = c.unnoticed_tail.new.lists in
     let b = c.notices_tail.new.lists in
-    if_ok (λ (found : Option (Reply × Option ℕ)). Tails IsTook c.args.words.now m b found) (λ (found : Option (Reply × Option ℕ)). TailsMeant c.args.op.now c.args.words.now a b found) c.notices_tail.result c.notices_tail.ensures (λ found h. notices_last c.args.op.now c.args.words.now a m b found c.requires none h)
+    if_ok (λ (found : Option (Reply × Option ℕ)). Tails IsTook c.args.words.now m b found)
+    (λ (found : Option (Reply × Option ℕ)). TailsMeant c.args.op.now c.args.words.now a b found) c.notices_tail.result c.notices_tail.ensures
+    (λ found h. notices_last c.args.op.now c.args.words.now a m b found c.requires none h)

@@ -21,4 +21,5 @@ returns-in-Some-count_tail c = (count_unlisted c.in-Some-count_tail.tail.0 c.in-
 
 pub returns : goal.returns
 returns c =
-    unlisted_rest c.args.words.now c.keyed_tail-2.result c.in_default-plain_tail.ensures c.in_default-managed_tail.ensures c.in_default-peer_tail.ensures c.in_default-handle_tail.ensures c.in_default-count_tail.ensures c.keyed_tail-2.ensures
+    unlisted_rest c.args.words.now c.keyed_tail-2.result c.in_default-plain_tail.ensures c.in_default-managed_tail.ensures
+    c.in_default-peer_tail.ensures c.in_default-handle_tail.ensures c.in_default-count_tail.ensures c.keyed_tail-2.ensures

@@ -14,4 +14,6 @@ returns-in-None c =
     let a = c.args.lists.now in
     let m = c.snapped_tail.new.lists in
     let b = c.swept_tail.new.lists in
-    if_ok (λ (found : Option (Reply × Option ℕ)). Tails IsSwept c.args.words.now m b found) (λ (found : Option (Reply × Option ℕ)). TailsNumbered c.args.op.now c.args.words.now a b found) c.swept_tail.result c.swept_tail.ensures (λ found h. snap_then c.args.op.now c.args.words.now a m b found c.requires none h)
+    if_ok (λ (found : Option (Reply × Option ℕ)). Tails IsSwept c.args.words.now m b found)
+    (λ (found : Option (Reply × Option ℕ)). TailsNumbered c.args.op.now c.args.words.now a b found) c.swept_tail.result c.swept_tail.ensures
+    (λ found h. snap_then c.args.op.now c.args.words.now a m b found c.requires none h)

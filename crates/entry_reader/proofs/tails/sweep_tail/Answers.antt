@@ -14,4 +14,6 @@ returns-in-None c =
     let a = c.args.lists.now in
     let m = c.swept_tail.new.lists in
     let b = c.snapped_tail.new.lists in
-    if_ok (λ (found : Option (Reply × Option ℕ)). Tails IsSnapped c.args.words.now m b found) (λ (found : Option (Reply × Option ℕ)). TailsNumbered c.args.op.now c.args.words.now a b found) c.snapped_tail.result c.snapped_tail.ensures (λ found h. sweep_then c.args.op.now c.args.words.now a m b found c.requires none h)
+    if_ok (λ (found : Option (Reply × Option ℕ)). Tails IsSnapped c.args.words.now m b found)
+    (λ (found : Option (Reply × Option ℕ)). TailsNumbered c.args.op.now c.args.words.now a b found) c.snapped_tail.result c.snapped_tail.ensures
+    (λ found h. sweep_then c.args.op.now c.args.words.now a m b found c.requires none h)

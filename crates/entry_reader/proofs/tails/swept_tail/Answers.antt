@@ -16,5 +16,7 @@ pub returns-in-None : goal.returns-in-None
 returns-in-None c =
     let k = rw c.fork-words.ensures at c.in-Some.ensures in
     let l = rw c.in-None.is at c.in_ok-span.ensures.list in
-    let o = c.in_ok-span.ensures.others in
-    (same_lists c.read_freed_peers.new.self c.args.lists.now o.0 l.0 o.1, swept_none c.args.words.now c.take_freed_by.new.words c.in-Some.n c.args.lists.now.peers c.read_freed_peers.new.self.peers k l)
+    let o = c.in_ok-span.ensures.others in (
+      same_lists c.read_freed_peers.new.self c.args.lists.now o.0 l.0 o.1,
+      swept_none c.args.words.now c.take_freed_by.new.words c.in-Some.n c.args.lists.now.peers c.read_freed_peers.new.self.peers k l,
+    )

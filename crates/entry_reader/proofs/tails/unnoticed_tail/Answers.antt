@@ -11,4 +11,6 @@ pub returns-in-None : goal.returns-in-None
 returns-in-None c =
     let a = c.args.lists.now in
     let b = c.listed_tail.new.lists in
-    if_ok (λ (found : Option (Reply × Option ℕ)). TailsListed c.args.op.now c.args.words.now a b found) (λ (found : Option (Reply × Option ℕ)). TailsUnnoticed c.args.op.now c.args.words.now a b found) c.listed_tail.result c.listed_tail.ensures (λ found h. unlisted_then c.args.op.now c.args.words.now a b found c.in-None.ensures h)
+    if_ok (λ (found : Option (Reply × Option ℕ)). TailsListed c.args.op.now c.args.words.now a b found)
+    (λ (found : Option (Reply × Option ℕ)). TailsUnnoticed c.args.op.now c.args.words.now a b found) c.listed_tail.result c.listed_tail.ensures
+    (λ found h. unlisted_then c.args.op.now c.args.words.now a b found c.in-None.ensures h)

@@ -40,7 +40,8 @@ invariant_of-self-2 c =
     let s : Slot = record { peer = c.args.p; next = c.set_head-next.result; previous = 0; row = Some k } in
     let e : Name = record { number = c.self.inside.last + 1; place = c.len-place.result } in
     let i = c.self.invariant in
-    let items : c.push_reserved.new.self.items ≡ pushed_slots all s number = c.push_reserved.ensures.items ∙ ap (λ ss. ss ++ s ∷ []) (c.set_previous.ensures.items ∙ ap (λ ss. with_previous ss s.next number) c.reserve.ensures.items) in
+    let items : c.push_reserved.new.self.items ≡ pushed_slots all s number = c.push_reserved.ensures.items
+    ∙ ap (λ ss. ss ++ s ∷ []) (c.set_previous.ensures.items ∙ ap (λ ss. with_previous ss s.next number) c.reserve.ensures.items) in
     let names : c.push_reserved-2.new.self.items ≡ es ++ e ∷ [] = c.push_reserved-2.ensures.items ∙ ap (λ es. es ++ e ∷ []) c.reserve_names.ensures.items in
     let place : c.len-place.result ≡ length all = omega (arith, c.len-place.ensures, ap length c.reserve.ensures.items) in
     let len : length (pushed_slots all s number) ≡ number = omega (arith, length_push (with_previous all s.next number) s, length-with_previous all s.next number) in
@@ -52,9 +53,29 @@ invariant_of-self-2 c =
       rise = rw names (NamesRise-push 0 c.self.inside.last _ es e (omega arith) (omega arith) i.rise);
       placed = rw (items, names, len) (ArePlaced-push number es e (omega arith) (ArePlaced-more (length all) number es (omega arith) i.placed));
       twice = rw (items, names) (omega (arith, len, length_push es e, i.twice));
-      chained = rw items (IsChained-pushed all s number heads _ (omega arith) refl refl c.set_head-next.ensures.before len c.set_head-next.ensures.head (IsChained-heads all (head_in c.self.inside.heads.items) heads c.make_head.ensures.heads i.chained));
-      slots_room = omega (arith, i.slots_room, ap length items, len, c.reserve.ensures.capacity, c.in_ok-reserve.ensures.ok, c.set_previous.ensures.capacity, c.push_reserved.ensures.capacity, c.saturating_sub-self-inside.ensures);
-      names_room = omega (arith, i.names_room, ap length items, len, c.reserve_names.ensures.capacity, c.in_ok-reserve_names.ensures.room, c.push_reserved-2.ensures.capacity, c.saturating_sub-self-inside.ensures);
+      chained = rw items (IsChained-pushed all s number heads _ (omega arith) refl refl c.set_head-next.ensures.before len c.set_head-next.ensures.head
+          (IsChained-heads all (head_in c.self.inside.heads.items) heads c.make_head.ensures.heads i.chained));
+      slots_room = omega (
+        arith,
+        i.slots_room,
+        ap length items,
+        len,
+        c.reserve.ensures.capacity,
+        c.in_ok-reserve.ensures.ok,
+        c.set_previous.ensures.capacity,
+        c.push_reserved.ensures.capacity,
+        c.saturating_sub-self-inside.ensures,
+      );
+      names_room = omega (
+        arith,
+        i.names_room,
+        ap length items,
+        len,
+        c.reserve_names.ensures.capacity,
+        c.in_ok-reserve_names.ensures.room,
+        c.push_reserved-2.ensures.capacity,
+        c.saturating_sub-self-inside.ensures,
+      );
       heads_most = omega (arith, i.heads_most, c.in_ok-make_head.ensures.place, c.set_head-next.ensures.len);
       heads_room = omega (arith, i.heads_room, c.make_head.ensures.capacity, c.set_head-next.ensures.capacity, c.saturating_sub-self-inside.ensures);
     }
@@ -67,7 +88,8 @@ returns-clause-rows c =
     let k : Kept = record { number = c.self.inside.last + 1; hold = c.args.hold; strength = c.args.strength; cleared = false } in
     let s : Slot = record { peer = c.args.p; next = c.set_head-next.result; previous = 0; row = Some k } in
     let e : Name = record { number = c.self.inside.last + 1; place = c.len-place.result } in
-    let items : c.push_reserved.new.self.items ≡ pushed_slots all s number = c.push_reserved.ensures.items ∙ ap (λ ss. ss ++ s ∷ []) (c.set_previous.ensures.items ∙ ap (λ ss. with_previous ss s.next number) c.reserve.ensures.items) in
+    let items : c.push_reserved.new.self.items ≡ pushed_slots all s number = c.push_reserved.ensures.items
+    ∙ ap (λ ss. ss ++ s ∷ []) (c.set_previous.ensures.items ∙ ap (λ ss. with_previous ss s.next number) c.reserve.ensures.items) in
     let names : c.push_reserved-2.new.self.items ≡ es ++ e ∷ [] = c.push_reserved-2.ensures.items ∙ ap (λ es. es ++ e ∷ []) c.reserve_names.ensures.items in
     let place : c.len-place.result ≡ length all = omega (arith, c.len-place.ensures, ap length c.reserve.ensures.items) in
     rw (items, names, ← c.self.view_is) (rows_of-pushed all es s number e k c.self.invariant.placed place refl refl)

@@ -45,7 +45,8 @@ set_row-requires c =
     let rise : NamesRise 0 last es = c.make_gap.ensures.rise _ c.self.invariant.rise in
     let rows : rows_of all es ≡ rows_of all c.self.inside.names.items = rw c.as_slice-3.ensures.value at c.make_gap.ensures.rows in
     let left = rw c.as_slice-3.ensures.value at (c.make_gap.ensures.found c.args.h c.in-Some.name old.0) in
-    let st : Stands all es c.args.h c.in-Some.row c.in-Some.name = stands_still last all c.self.inside.names.items es c.args.h c.in-Some.row c.in-Some.name c.self.invariant.rise rise old.0 old.1 left rows in
+    let st : Stands all es c.args.h c.in-Some.row c.in-Some.name = stands_still last all c.self.inside.names.items
+    es c.args.h c.in-Some.row c.in-Some.name c.self.invariant.rise rise old.0 old.1 left rows in
     st.within
 
 pub invariant_of-self : goal.invariant_of-self
@@ -57,7 +58,8 @@ invariant_of-self c =
     let rise : NamesRise 0 last es = c.make_gap.ensures.rise _ c.self.invariant.rise in
     let rows : rows_of all es ≡ rows_of all c.self.inside.names.items = rw c.as_slice-3.ensures.value at c.make_gap.ensures.rows in
     let left = rw c.as_slice-3.ensures.value at (c.make_gap.ensures.found c.args.h c.in-Some.name old.0) in
-    let st : Stands all es c.args.h c.in-Some.row c.in-Some.name = stands_still last all c.self.inside.names.items es c.args.h c.in-Some.row c.in-Some.name c.self.invariant.rise rise old.0 old.1 left rows in
+    let st : Stands all es c.args.h c.in-Some.row c.in-Some.name = stands_still last all c.self.inside.names.items
+    es c.args.h c.in-Some.row c.in-Some.name c.self.invariant.rise rise old.0 old.1 left rows in
     let i = c.self.invariant in
     let name = c.in-Some.name in
     let row : row_in (rows_of all es) c.args.h ≡ Some c.in-Some.row = rw rows old.1 in
@@ -88,9 +90,12 @@ returns-clause-anew c =
     let rise : NamesRise 0 last es = c.make_gap.ensures.rise _ c.self.invariant.rise in
     let rows : rows_of all es ≡ rows_of all c.self.inside.names.items = rw c.as_slice-3.ensures.value at c.make_gap.ensures.rows in
     let left = rw c.as_slice-3.ensures.value at (c.make_gap.ensures.found c.args.h c.in-Some.name old.0) in
-    let st : Stands all es c.args.h c.in-Some.row c.in-Some.name = stands_still last all c.self.inside.names.items es c.args.h c.in-Some.row c.in-Some.name c.self.invariant.rise rise old.0 old.1 left rows in
+    let st : Stands all es c.args.h c.in-Some.row c.in-Some.name = stands_still last all c.self.inside.names.items
+    es c.args.h c.in-Some.row c.in-Some.name c.self.invariant.rise rise old.0 old.1 left rows in
     let row : row_in (rows_of all es) c.args.h ≡ Some c.in-Some.row = rw rows old.1 in
-    let anew : rows_of c.set_row.new.slots.items c.push_reserved.new.self.items ≡ renewed c.args.h (record { 0 = last + 1 }) c.args.self.now.rows = rw (c.set_row.ensures.items, c.push_reserved.ensures.items, ← c.self.view_is, ← rows) (renewed-rows last (last + 1) all es c.args.h c.in-Some.row c.in-Some.name rise (omega arith) st row c.if-row.false) in
+    let anew : rows_of c.set_row.new.slots.items c.push_reserved.new.self.items ≡ renewed c.args.h
+    (record { 0 = last + 1 }) c.args.self.now.rows = rw (c.set_row.ensures.items, c.push_reserved.ensures.items, ← c.self.view_is, ← rows)
+    (renewed-rows last (last + 1) all es c.args.h c.in-Some.row c.in-Some.name rise (omega arith) st row c.if-row.false) in
     let last_is : last + 1 ≡ c.args.self.now.last + 1 = rw (← c.self.view_is) refl in
     λ g is. let same : record { 0 = last + 1 } ≡ g = ap given_by is in
     (rw (← same) anew, rw (← same) last_is, last_is)
@@ -102,4 +107,5 @@ pub returns-clause-rising : goal.returns-clause-rising
 returns-clause-rising c =
     let last = c.self.inside.last in
     let rise : NamesRise 0 last c.make_gap.new.names.items = c.make_gap.ensures.rise _ c.self.invariant.rise in
-    rw c.push_reserved.ensures.items (RisesBetween-named 0 _ c.set_row.new.slots.items _ (NamesRise-push 0 last (last + 1) c.make_gap.new.names.items (name_anew (last + 1) c.in-Some.name) (omega arith) (omega arith) rise))
+    rw c.push_reserved.ensures.items (RisesBetween-named 0 _ c.set_row.new.slots.items _
+    (NamesRise-push 0 last (last + 1) c.make_gap.new.names.items (name_anew (last + 1) c.in-Some.name) (omega arith) (omega arith) rise))

@@ -18,7 +18,8 @@ returns-in_err-write_component g c =
     let at : slice_get all k ≡ Some row = row_at (number_in nodes) l.comps l.heavy k c.objs.result.now few c.objs.ensures.members c.objs.ensures.none in
     let s = components_split all k row at in
     rw (passed_on c.from_residual.result c.in_err-write_component.field-0.0 c.from_residual.ensures.0 c.from_residual.ensures.1)
-    (Sends-into (g.K.Sink.held c.args.out.now) (g.K.Sink.held c.loop-c.out) (g.K.Sink.held c.write_component.new.out) c.args.line.now.text c.loop-c.line.text c.write_component.new.line.text (g.K.Sink.faults c.args.out.now) (g.K.Sink.faults c.loop-c.out) (g.K.Sink.faults c.write_component.new.out) c.in_err-write_component.field-0.0
+    (Sends-into (g.K.Sink.held c.args.out.now) (g.K.Sink.held c.loop-c.out) (g.K.Sink.held c.write_component.new.out) c.args.line.now.text c.loop-c.line.text c.write_component.new.line.text
+    (g.K.Sink.faults c.args.out.now) (g.K.Sink.faults c.loop-c.out) (g.K.Sink.faults c.write_component.new.out) c.in_err-write_component.field-0.0
     (components_text 0 (take k all)) (component_text k row) s.rest (components_text 0 all) s.whole_is c.loop-c.invariant.so_far c.loop-c.invariant.later c.in_err-write_component.ensures)
 
 pub loop-c-preserved : goal.loop-c-preserved
@@ -33,6 +34,7 @@ loop-c-preserved g c =
     let w = c.in_ok-write_component.ensures in
     record {
       so_far = rw (components_next all k row at)
-          (BuffersText-then (g.K.Sink.held c.args.out.now) (g.K.Sink.held c.loop-c.out) (g.K.Sink.held c.write_component.new.out) c.args.line.now.text c.loop-c.line.text c.write_component.new.line.text (components_text 0 (take k all)) (component_text k row) c.loop-c.invariant.so_far w.whole);
+          (BuffersText-then (g.K.Sink.held c.args.out.now) (g.K.Sink.held c.loop-c.out) (g.K.Sink.held c.write_component.new.out) c.args.line.now.text
+          c.loop-c.line.text c.write_component.new.line.text (components_text 0 (take k all)) (component_text k row) c.loop-c.invariant.so_far w.whole);
       later = omega (arith, w.cause.later);
     }

@@ -14,9 +14,12 @@ returns-in_err-write_components g c =
     let piece : t ≡ head = c.text-2.ensures.added ∙ rw (c.number.ensures.added, c.text.ensures.added, c.new-line.ensures.text) refl in
     let start = BuffersText-put (g.K.Sink.held c.args.out.now) (g.K.Sink.held c.args.out.now) [] [] t [] head (BuffersText-none (g.K.Sink.held c.args.out.now) []) piece in
     rw (passed_on c.from_residual.result c.in_err-write_components.field-0.0 c.from_residual.ensures.0 c.from_residual.ensures.1)
-    (Writes-open (g.K.Sink.held c.args.out.now) (g.K.Sink.held c.write_components.new.out) c.write_components.new.line.text (g.K.Sink.faults c.args.out.now) (g.K.Sink.faults c.write_components.new.out) c.in_err-write_components.field-0.0 _
-    (Sends-after (g.K.Sink.held c.args.out.now) (g.K.Sink.held c.args.out.now) (g.K.Sink.held c.write_components.new.out) [] t c.write_components.new.line.text (g.K.Sink.faults c.args.out.now) (g.K.Sink.faults c.args.out.now) (g.K.Sink.faults c.write_components.new.out) _ head (comps ++ refs) start (omega arith)
-    (Sends-short (g.K.Sink.held c.args.out.now) (g.K.Sink.held c.write_components.new.out) t c.write_components.new.line.text (g.K.Sink.faults c.args.out.now) (g.K.Sink.faults c.write_components.new.out) c.in_err-write_components.field-0.0 comps refs c.in_err-write_components.ensures)))
+    (Writes-open (g.K.Sink.held c.args.out.now) (g.K.Sink.held c.write_components.new.out) c.write_components.new.line.text
+    (g.K.Sink.faults c.args.out.now) (g.K.Sink.faults c.write_components.new.out) c.in_err-write_components.field-0.0 _
+    (Sends-after (g.K.Sink.held c.args.out.now) (g.K.Sink.held c.args.out.now) (g.K.Sink.held c.write_components.new.out) [] t c.write_components.new.line.text
+    (g.K.Sink.faults c.args.out.now) (g.K.Sink.faults c.args.out.now) (g.K.Sink.faults c.write_components.new.out) _ head (comps ++ refs) start (omega arith)
+    (Sends-short (g.K.Sink.held c.args.out.now) (g.K.Sink.held c.write_components.new.out) t c.write_components.new.line.text (g.K.Sink.faults c.args.out.now)
+    (g.K.Sink.faults c.write_components.new.out) c.in_err-write_components.field-0.0 comps refs c.in_err-write_components.ensures)))
 
 pub returns-in_err-write_references : goal.returns-in_err-write_references
 returns-in_err-write_references g c =
@@ -27,10 +30,15 @@ returns-in_err-write_references g c =
     let piece : t ≡ head = c.text-2.ensures.added ∙ rw (c.number.ensures.added, c.text.ensures.added, c.new-line.ensures.text) refl in
     let start = BuffersText-put (g.K.Sink.held c.args.out.now) (g.K.Sink.held c.args.out.now) [] [] t [] head (BuffersText-none (g.K.Sink.held c.args.out.now) []) piece in
     let w = c.in_ok-write_components.ensures in
-    rw (passed_on c.from_residual-in_err-write_references.result c.in_err-write_references.field-0.0 c.from_residual-in_err-write_references.ensures.0 c.from_residual-in_err-write_references.ensures.1)
-    (Writes-open (g.K.Sink.held c.args.out.now) (g.K.Sink.held c.write_references.new.out) c.write_references.new.line.text (g.K.Sink.faults c.args.out.now) (g.K.Sink.faults c.write_references.new.out) c.in_err-write_references.field-0.0 _
-    (Sends-after (g.K.Sink.held c.args.out.now) (g.K.Sink.held c.args.out.now) (g.K.Sink.held c.write_references.new.out) [] t c.write_references.new.line.text (g.K.Sink.faults c.args.out.now) (g.K.Sink.faults c.args.out.now) (g.K.Sink.faults c.write_references.new.out) _ head (comps ++ refs) start (omega arith)
-    (Sends-after (g.K.Sink.held c.args.out.now) (g.K.Sink.held c.write_components.new.out) (g.K.Sink.held c.write_references.new.out) t c.write_components.new.line.text c.write_references.new.line.text (g.K.Sink.faults c.args.out.now) (g.K.Sink.faults c.write_components.new.out) (g.K.Sink.faults c.write_references.new.out) _ comps refs w.whole w.cause.later c.in_err-write_references.ensures)))
+    rw (passed_on c.from_residual-in_err-write_references.result c.in_err-write_references.field-0.0
+    c.from_residual-in_err-write_references.ensures.0 c.from_residual-in_err-write_references.ensures.1)
+    (Writes-open (g.K.Sink.held c.args.out.now) (g.K.Sink.held c.write_references.new.out) c.write_references.new.line.text
+    (g.K.Sink.faults c.args.out.now) (g.K.Sink.faults c.write_references.new.out) c.in_err-write_references.field-0.0 _
+    (Sends-after (g.K.Sink.held c.args.out.now) (g.K.Sink.held c.args.out.now) (g.K.Sink.held c.write_references.new.out) [] t c.write_references.new.line.text
+    (g.K.Sink.faults c.args.out.now) (g.K.Sink.faults c.args.out.now) (g.K.Sink.faults c.write_references.new.out) _ head (comps ++ refs) start (omega arith)
+    (Sends-after (g.K.Sink.held c.args.out.now) (g.K.Sink.held c.write_components.new.out)
+    (g.K.Sink.held c.write_references.new.out) t c.write_components.new.line.text c.write_references.new.line.text (g.K.Sink.faults c.args.out.now)
+    (g.K.Sink.faults c.write_components.new.out) (g.K.Sink.faults c.write_references.new.out) _ comps refs w.whole w.cause.later c.in_err-write_references.ensures)))
 
 pub returns : goal.returns
 returns g c =
@@ -42,7 +50,10 @@ returns g c =
     let start = BuffersText-put (g.K.Sink.held c.args.out.now) (g.K.Sink.held c.args.out.now) [] [] t [] head (BuffersText-none (g.K.Sink.held c.args.out.now) []) piece in
     let w = c.in_ok-write_components.ensures in
     let v = c.in_ok-write_references.ensures in
-    let lines = BuffersText-then (g.K.Sink.held c.args.out.now) (g.K.Sink.held c.write_components.new.out) (g.K.Sink.held c.write_references.new.out) t c.write_components.new.line.text c.write_references.new.line.text comps refs w.whole v.whole in
-    let all = BuffersText-then (g.K.Sink.held c.args.out.now) (g.K.Sink.held c.args.out.now) (g.K.Sink.held c.write_references.new.out) [] t c.write_references.new.line.text head (comps ++ refs) start lines in
-    Writes-flushed (g.K.Sink.held c.args.out.now) (g.K.Sink.held c.write_references.new.out) (g.K.Sink.held c.flush.new.out) c.write_references.new.line.text (g.K.Sink.faults c.args.out.now) (g.K.Sink.faults c.write_references.new.out) (g.K.Sink.faults c.flush.new.out) c.flush.result _
+    let lines = BuffersText-then (g.K.Sink.held c.args.out.now) (g.K.Sink.held c.write_components.new.out)
+    (g.K.Sink.held c.write_references.new.out) t c.write_components.new.line.text c.write_references.new.line.text comps refs w.whole v.whole in
+    let all = BuffersText-then (g.K.Sink.held c.args.out.now) (g.K.Sink.held c.args.out.now)
+    (g.K.Sink.held c.write_references.new.out) [] t c.write_references.new.line.text head (comps ++ refs) start lines in
+    Writes-flushed (g.K.Sink.held c.args.out.now) (g.K.Sink.held c.write_references.new.out) (g.K.Sink.held c.flush.new.out) c.write_references.new.line.text
+    (g.K.Sink.faults c.args.out.now) (g.K.Sink.faults c.write_references.new.out) (g.K.Sink.faults c.flush.new.out) c.flush.result _
     all (omega (arith, w.cause.later, v.cause.later)) c.flush.ensures.written

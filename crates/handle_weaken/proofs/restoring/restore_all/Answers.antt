@@ -18,7 +18,8 @@ push-requires g c = omega (arith, answers-room c.args.graph.now.nodes c.loop-i.i
 pub loop-i-preserved : goal.loop-i-preserved
 loop-i-preserved g c = elim c.match-handle.branch [
   | in-Some w ↦ rw (w.side-is, w.draw-is, w.alive-is) record {
-    going = IsRestoring-node _ _ _ _ _ c.args.index c.args.graph.now.nodes c.loop-i.i _ _ c.loop-i.invariant.going w.in-Some.h w.in-Some.ensures _ _ w.restore_one-back.result w.given.result _ w.restore_one-back.ensures.adds w.given.ensures w.restore_one-back.ensures.reserve
+    going = IsRestoring-node _ _ _ _ _ c.args.index c.args.graph.now.nodes c.loop-i.i _ _ c.loop-i.invariant.going w.in-Some.h w.in-Some.ensures
+        _ _ w.restore_one-back.result w.given.result _ w.restore_one-back.ensures.adds w.given.ensures w.restore_one-back.ensures.reserve
         w.restore_one-back.ensures.peers w.push.ensures.values;
     room = omega (arith, w.push.ensures.room, c.loop-i.invariant.room, handles-some c.args.graph.now.nodes c.loop-i.i w.in-Some.h w.in-Some.ensures);
   }

@@ -15,6 +15,8 @@ weaken_one-requires-clause-may g c = next-may _ _ _ _ _ c.args.index c.args.cite
 
 pub loop-i-preserved : goal.loop-i-preserved
 loop-i-preserved g c = elim c.match-handle.branch [
-  | in-Some w ↦ rw (w.side-is, w.draw-is) (IsWeakening-node _ _ _ _ _ c.args.index c.args.cites c.args.graph.now.nodes c.loop-i.i c.loop-i.invariant w.in-Some.h w.in-Some.ensures _ _ w.weaken_one.ensures.adds w.weaken_one.ensures.reserve w.weaken_one.ensures.peers)
-  | in_default w ↦ rw (w.side-is, w.draw-is) (IsWeakening-passed _ _ _ _ _ c.args.index c.args.cites c.args.graph.now.nodes c.loop-i.i c.loop-i.invariant (c.handle.ensures.0, c.handle.ensures.1, c.handle.ensures.2 ∙ w.in_default.is))
+  | in-Some w ↦ rw (w.side-is, w.draw-is) (IsWeakening-node _ _ _ _ _ c.args.index c.args.cites c.args.graph.now.nodes c.loop-i.i
+      c.loop-i.invariant w.in-Some.h w.in-Some.ensures _ _ w.weaken_one.ensures.adds w.weaken_one.ensures.reserve w.weaken_one.ensures.peers)
+  | in_default w ↦ rw (w.side-is, w.draw-is) (IsWeakening-passed _ _ _ _ _ c.args.index c.args.cites c.args.graph.now.nodes c.loop-i.i c.loop-i.invariant
+      (c.handle.ensures.0, c.handle.ensures.1, c.handle.ensures.2 ∙ w.in_default.is))
 ]

@@ -6,7 +6,10 @@ use Rattle.heap_picture.proofs.program.run_program.Goals as goal
 pub returns-in-Ok : goal.returns-in-Ok
 returns-in-Ok g c =
     let e = c.picture_main.ensures in
-    rw (c.from.ensures) (rw (sym c.in-Ok.ensures) (record { ends = record { printed = e.printed; usage = e.usage; read = e.read; refused = e.refused; write = e.write; memory = e.memory; known = e.status } }))
+    rw (c.from.ensures) (rw (sym c.in-Ok.ensures) (record {
+      ends =
+          record { printed = e.printed; usage = e.usage; read = e.read; refused = e.refused; write = e.write; memory = e.memory; known = e.status };
+    }))
 
 -- where memory was wanting for the words nothing was read or put
 pub returns-in-Err : goal.returns-in-Err

@@ -6,4 +6,5 @@ use Rattle.heap_views.proofs.Nodes.{all_plain}
 use Rattle.heap_views.proofs.mirrored.dead_graph.Goals as goal
 
 pub add_rows-requires : goal.add_rows-requires
-add_rows-requires c = subst (λ (ns : List Node). All (λ (n : Node). n.opaque ≡ false) ns) (sym c.in_ok-add_nodes.ensures) (all_plain c.args.joint.now.graph.managed (dead_of c.args.joint.now.graph.managed))
+add_rows-requires c = subst (λ (ns : List Node). All (λ (n : Node). n.opaque ≡ false) ns)
+    (sym c.in_ok-add_nodes.ensures) (all_plain c.args.joint.now.graph.managed (dead_of c.args.joint.now.graph.managed))

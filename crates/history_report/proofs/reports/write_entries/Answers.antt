@@ -11,15 +11,18 @@ pub returns-in_err-write_entry-in-Kept : goal.returns-in_err-write_entry-in-Kept
 returns-in_err-write_entry-in-Kept g c =
     let reported = rw (c.in-Some.ensures, ap entry_of c.in-Kept.is) at c.loop-step.invariant.reported in
     rw (passed_on c.from_residual.result c.in_err-write_entry-in-Kept.field-0.0 c.from_residual.ensures.0 c.from_residual.ensures.1)
-    (not_reported c.args.h.now c.in-Kept.entry.now c.next.new.self (g.K.Sink.held c.args.out.now) (g.K.Sink.held c.loop-step.out) (g.K.Sink.held c.write_entry.new.out) c.args.line.now.text c.loop-step.line.text c.write_entry.new.line.text
-    (g.K.Sink.faults c.args.out.now) (g.K.Sink.faults c.loop-step.out) (g.K.Sink.faults c.write_entry.new.out) c.in_err-write_entry-in-Kept.field-0.0 reported c.loop-step.invariant.later c.in_err-write_entry-in-Kept.ensures)
+    (not_reported c.args.h.now c.in-Kept.entry.now c.next.new.self (g.K.Sink.held c.args.out.now) (g.K.Sink.held c.loop-step.out)
+    (g.K.Sink.held c.write_entry.new.out) c.args.line.now.text c.loop-step.line.text c.write_entry.new.line.text
+    (g.K.Sink.faults c.args.out.now) (g.K.Sink.faults c.loop-step.out)
+    (g.K.Sink.faults c.write_entry.new.out) c.in_err-write_entry-in-Kept.field-0.0 reported c.loop-step.invariant.later c.in_err-write_entry-in-Kept.ensures)
 
 pub loop-step-preserved-in-Continue-1 : goal.loop-step-preserved-in-Continue-1
 loop-step-preserved-in-Continue-1 g c =
     let reported = rw (c.in-Some.ensures, ap entry_of c.in-Kept.is) at c.loop-step.invariant.reported in
     let w = c.in_ok-write_entry-in-Kept.ensures in
     record {
-      reported = one_more c.args.h.now c.in-Kept.entry.now c.next.new.self (g.K.Sink.held c.args.out.now) (g.K.Sink.held c.loop-step.out) (g.K.Sink.held c.write_entry.new.out) c.args.line.now.text c.loop-step.line.text c.write_entry.new.line.text
+      reported = one_more c.args.h.now c.in-Kept.entry.now c.next.new.self (g.K.Sink.held c.args.out.now) (g.K.Sink.held c.loop-step.out)
+          (g.K.Sink.held c.write_entry.new.out) c.args.line.now.text c.loop-step.line.text c.write_entry.new.line.text
           reported w.whole;
       later = omega (arith, w.cause.later);
     }
@@ -27,16 +30,20 @@ loop-step-preserved-in-Continue-1 g c =
 pub returns-in_err-write_spelled-in-Spelled : goal.returns-in_err-write_spelled-in-Spelled
 returns-in_err-write_spelled-in-Spelled g c =
     let reported = rw (c.in-Some.ensures, ap entry_of c.in-Spelled.is) at c.loop-step.invariant.reported in
-    rw (passed_on c.from_residual-in_err-write_spelled-in-Spelled.result c.in_err-write_spelled-in-Spelled.field-0.0 c.from_residual-in_err-write_spelled-in-Spelled.ensures.0 c.from_residual-in_err-write_spelled-in-Spelled.ensures.1)
-    (not_reported c.args.h.now c.in-Spelled.entry c.next.new.self (g.K.Sink.held c.args.out.now) (g.K.Sink.held c.loop-step.out) (g.K.Sink.held c.write_spelled.new.out) c.args.line.now.text c.loop-step.line.text c.write_spelled.new.line.text
-    (g.K.Sink.faults c.args.out.now) (g.K.Sink.faults c.loop-step.out) (g.K.Sink.faults c.write_spelled.new.out) c.in_err-write_spelled-in-Spelled.field-0.0 reported c.loop-step.invariant.later c.in_err-write_spelled-in-Spelled.ensures)
+    rw (passed_on c.from_residual-in_err-write_spelled-in-Spelled.result c.in_err-write_spelled-in-Spelled.field-0.0
+    c.from_residual-in_err-write_spelled-in-Spelled.ensures.0 c.from_residual-in_err-write_spelled-in-Spelled.ensures.1)
+    (not_reported c.args.h.now c.in-Spelled.entry c.next.new.self (g.K.Sink.held c.args.out.now) (g.K.Sink.held c.loop-step.out)
+    (g.K.Sink.held c.write_spelled.new.out) c.args.line.now.text c.loop-step.line.text c.write_spelled.new.line.text
+    (g.K.Sink.faults c.args.out.now) (g.K.Sink.faults c.loop-step.out)
+    (g.K.Sink.faults c.write_spelled.new.out) c.in_err-write_spelled-in-Spelled.field-0.0 reported c.loop-step.invariant.later c.in_err-write_spelled-in-Spelled.ensures)
 
 pub loop-step-preserved : goal.loop-step-preserved
 loop-step-preserved g c =
     let reported = rw (c.in-Some.ensures, ap entry_of c.in-Spelled.is) at c.loop-step.invariant.reported in
     let w = c.in_ok-write_spelled-in-Spelled.ensures in
     record {
-      reported = one_more c.args.h.now c.in-Spelled.entry c.next.new.self (g.K.Sink.held c.args.out.now) (g.K.Sink.held c.loop-step.out) (g.K.Sink.held c.write_spelled.new.out) c.args.line.now.text c.loop-step.line.text c.write_spelled.new.line.text
+      reported = one_more c.args.h.now c.in-Spelled.entry c.next.new.self (g.K.Sink.held c.args.out.now) (g.K.Sink.held c.loop-step.out)
+          (g.K.Sink.held c.write_spelled.new.out) c.args.line.now.text c.loop-step.line.text c.write_spelled.new.line.text
           reported w.whole;
       later = omega (arith, w.cause.later);
     }

@@ -8,7 +8,8 @@ pub returns-then-span-eq0 : goal.returns-then-span-eq0
 returns-then-span-eq0 g c =
     let xs = take 4294967296 (numbers_of c.args.h.now c.args.numbers) in
     rw (listed_empty (letter_of c.args.numbers) xs c.args.span.first c.args.span.count c.if-span-eq0.true)
-    (Sends-put (g.K.Sink.held c.args.out.now) (g.K.Sink.held c.args.out.now) c.args.line.now.text c.args.line.now.text c.word.new.self.text (g.K.Sink.faults c.args.out.now) (g.K.Sink.faults c.args.out.now) _ [] (32 ∷ 45 ∷ [])
+    (Sends-put (g.K.Sink.held c.args.out.now) (g.K.Sink.held c.args.out.now) c.args.line.now.text c.args.line.now.text c.word.new.self.text
+    (g.K.Sink.faults c.args.out.now) (g.K.Sink.faults c.args.out.now) _ [] (32 ∷ 45 ∷ [])
     (BuffersText-none (g.K.Sink.held c.args.out.now) c.args.line.now.text) (omega arith) c.word.ensures.added)
 
 pub returns-in-Some : goal.returns-in-Some
@@ -20,5 +21,6 @@ pub returns-in-None : goal.returns-in-None
 returns-in-None g c =
     let xs = take 4294967296 (numbers_of c.args.h.now c.args.numbers) in
     rw (listed_none (letter_of c.args.numbers) xs c.args.span.first c.args.span.count c.in-None.ensures)
-    (Sends-put (g.K.Sink.held c.args.out.now) (g.K.Sink.held c.args.out.now) c.args.line.now.text c.args.line.now.text c.word-in-None.new.self.text (g.K.Sink.faults c.args.out.now) (g.K.Sink.faults c.args.out.now) _ [] (32 ∷ 45 ∷ [])
+    (Sends-put (g.K.Sink.held c.args.out.now) (g.K.Sink.held c.args.out.now) c.args.line.now.text c.args.line.now.text c.word-in-None.new.self.text
+    (g.K.Sink.faults c.args.out.now) (g.K.Sink.faults c.args.out.now) _ [] (32 ∷ 45 ∷ [])
     (BuffersText-none (g.K.Sink.held c.args.out.now) c.args.line.now.text) (omega arith) c.word-in-None.ensures.added)

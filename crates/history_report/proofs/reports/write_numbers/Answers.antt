@@ -22,7 +22,8 @@ returns-in_err-make_room g c =
     let letter = letter_of c.args.numbers in
     let ys = drop c.args.span.first (take 4294967296 (numbers_of c.args.h.now c.args.numbers)) in
     rw (passed_on c.from_residual.result c.in_err-make_room.field-0.0 c.from_residual.ensures.0 c.from_residual.ensures.1)
-    (Sends-no_room (g.K.Sink.held c.args.out.now) (g.K.Sink.held c.loop-k.out) (g.K.Sink.held c.make_room.new.out) c.args.line.now.text c.loop-k.line.text c.make_room.new.self.text (g.K.Sink.faults c.args.out.now) (g.K.Sink.faults c.loop-k.out) (g.K.Sink.faults c.make_room.new.out) c.in_err-make_room.field-0.0
+    (Sends-no_room (g.K.Sink.held c.args.out.now) (g.K.Sink.held c.loop-k.out) (g.K.Sink.held c.make_room.new.out) c.args.line.now.text c.loop-k.line.text c.make_room.new.self.text
+    (g.K.Sink.faults c.args.out.now) (g.K.Sink.faults c.loop-k.out) (g.K.Sink.faults c.make_room.new.out) c.in_err-make_room.field-0.0
     (after_spaces (lettered letter (take c.loop-k.k ys))) (after_spaces (lettered letter (drop c.loop-k.k (take c.args.span.count ys)))) (after_spaces (lettered letter (take c.args.span.count ys)))
     (numbers_split letter ys c.loop-k.k c.args.span.count (omega arith)) c.loop-k.invariant.so_far c.loop-k.invariant.later c.in_err-make_room.ensures.sent)
 
@@ -33,7 +34,8 @@ loop-k-preserved g c =
     let before = after_spaces (lettered letter (take c.loop-k.k (drop c.args.span.first xs))) in
     let w = c.in_ok-make_room.ensures.sent in
     let o = c.make_room.new.self.text in
-    let room = BuffersText-room (g.K.Sink.held c.args.out.now) (g.K.Sink.held c.loop-k.out) (g.K.Sink.held c.make_room.new.out) c.args.line.now.text c.loop-k.line.text o before c.loop-k.invariant.so_far w.whole in
+    let room = BuffersText-room (g.K.Sink.held c.args.out.now) (g.K.Sink.held c.loop-k.out)
+    (g.K.Sink.held c.make_room.new.out) c.args.line.now.text c.loop-k.line.text o before c.loop-k.invariant.so_far w.whole in
     let piece : c.lettered.new.self.text ≡ o ++ 32 ∷ letter ∷ decimal c.in-Some.n = rw c.letter.ensures at c.lettered.ensures.added in
     record {
       so_far = rw (numbers_more letter xs c.args.span.first c.loop-k.k c.in-Some.n c.in-Some.ensures)

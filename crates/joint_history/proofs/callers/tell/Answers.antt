@@ -14,7 +14,8 @@ invariant_of-from g c = (
   pass_kept c.from.inside.thread _ _ c.note-note.result.view c.note-note.ensures.parts c.from.invariant.2,
   caller_same c.from.inside.thread _ _ c.from.invariant.3 (λ i. (c.note-note.ensures.parts.know i).0),
   c.note-note.ensures.settled.0,
-  keeps_reads c.from.inside.thread c.from.inside.seat.view c.note-note.new.seat.view c.from.inside.reads.entries (reads_parted c.from.inside.thread c.from.inside.seat.view c.note-note.new.seat.view c.note-note.result.view c.note-note.ensures.parts) c.from.invariant.5,
+  keeps_reads c.from.inside.thread c.from.inside.seat.view c.note-note.new.seat.view c.from.inside.reads.entries
+      (reads_parted c.from.inside.thread c.from.inside.seat.view c.note-note.new.seat.view c.note-note.result.view c.note-note.ensures.parts) c.from.invariant.5,
 )
 
 pub invariant_of-to : goal.invariant_of-to
@@ -23,9 +24,11 @@ invariant_of-to g c = (
   c.learn.ensures.seat.0 ∙ c.to.invariant.1,
   pass_joined c.to.inside.thread _ c.note-note.result.view _ c.learn.ensures.takes c.to.invariant.2,
   caller_joins c.to.inside.thread _ c.note-note.result.view _ c.to.invariant.3
-      (caller_same c.from.inside.thread _ c.note-note.result.view c.from.invariant.3 (λ i. (c.note-note.ensures.parts.know i).1)).known c.learn.ensures.takes c.learn.ensures.one_history c.to.invariant.2,
+      (caller_same c.from.inside.thread _ c.note-note.result.view c.from.invariant.3 (λ i. (c.note-note.ensures.parts.know i).1)).known
+      c.learn.ensures.takes c.learn.ensures.one_history c.to.invariant.2,
   c.learn.ensures.settled,
-  keeps_reads c.to.inside.thread c.to.inside.seat.view c.learn.new.seat.view c.to.inside.reads.entries (reads_joined c.to.inside.thread c.to.inside.seat.view c.note-note.result.view c.learn.new.seat.view c.learn.ensures.takes c.to.invariant.2) c.to.invariant.5,
+  keeps_reads c.to.inside.thread c.to.inside.seat.view c.learn.new.seat.view c.to.inside.reads.entries
+      (reads_joined c.to.inside.thread c.to.inside.seat.view c.note-note.result.view c.learn.new.seat.view c.learn.ensures.takes c.to.invariant.2) c.to.invariant.5,
 )
 
 pub returns-clause-to : goal.returns-clause-to

@@ -16,7 +16,8 @@ pub hand-pass-requires-clause-pass : goal.hand-pass-requires-clause-pass
 hand-pass-requires-clause-pass g c =
     let place = c.loop-place.place in
     let small : place < 17 = omega (arith, c.loop-place-test.true) in
-    subst (λ t. IsThread t × Owns c.loop-place.seat.view (caller_line t)) (sym c.thread_at-t.ensures) ((thread_is place small).0, c.loop-place.invariant.4 place (omega arith) small (caller_line (thread_of place)) (own_line (thread_of place)))
+    subst (λ t. IsThread t × Owns c.loop-place.seat.view (caller_line t)) (sym c.thread_at-t.ensures)
+    ((thread_is place small).0, c.loop-place.invariant.4 place (omega arith) small (caller_line (thread_of place)) (own_line (thread_of place)))
 
 pub new-requires-clause-knows : goal.new-requires-clause-knows
 new-requires-clause-knows g c = nothing_knows c.thread_at-t.result c.hand-pass.result.view
@@ -40,7 +41,8 @@ loop-place-preserved g c =
           (subst (λ u. Parts (IsOfCaller u) c.loop-place.seat.view c.hand-pass.new.seat.view c.hand-pass.result.view) c.thread_at-t.ensures p),
       omega (arith, c.in_ok-push.ensures.len, c.loop-place.invariant.5),
       subst (ArePlaced (place + 1)) (sym c.in_ok-push.ensures.items)
-          (placed_more place c.loop-place.callers.items c.new.result len (ap (λ (q : Pass). q.thread) made ∙ c.thread_at-t.ensures) (subst (λ (q : Pass). KnowsNothing q.view) (sym made) nothing.1) c.loop-place.invariant.6),
+          (placed_more place c.loop-place.callers.items c.new.result len (ap (λ (q : Pass). q.thread) made ∙ c.thread_at-t.ensures)
+          (subst (λ (q : Pass). KnowsNothing q.view) (sym made) nothing.1) c.loop-place.invariant.6),
       c.hand-pass.ensures.settled.0,
     )
 

@@ -13,7 +13,8 @@ use Rattle.joint_history.proofs.driven.draw_abandon.Goals as goal
 pub abandon-requires-clause-may : goal.abandon-requires-clause-may
 abandon-requires-clause-may c = λ k e.
     let settled = c.requires.settled in
-    let may = driver_may c.args.order.now c.args.seat.now (abandon_op k) c.requires.order refl refl refl c.requires.owner.0 c.requires.owner.1 (settled.paid, settled.stored.0, settled.stored.1) (cycle_open c.args.seat.now.view (as_side c.args.side.now) c.requires.knows k e) in
+    let may = driver_may c.args.order.now c.args.seat.now (abandon_op k) c.requires.order refl refl refl c.requires.owner.0 c.requires.owner.1
+    (settled.paid, settled.stored.0, settled.stored.1) (cycle_open c.args.seat.now.view (as_side c.args.side.now) c.requires.knows k e) in
     record {
       takes = tt;
       below = below_floor c.args.seat.now.view 0 c.args.side.now.entries c.requires.knows.entries;
@@ -26,41 +27,54 @@ pub settle_ended-requires-clause-seat : goal.settle_ended-requires-clause-seat
 settle_ended-requires-clause-seat c =
     let k = cycle-there c.args.side.now.state.managed.cycle c.requires.open in
     let a = c.abandon.ensures.abandons k.0 k.1 in
-    let w = cycle_ended _ _ c.args.seat.now _ (as_side c.args.side.now) (as_side c.abandon.new.self) _ k.0 c.requires.knows c.requires.owner.0 c.requires.order c.requires.settled k.1 a.draws.adds.drawn.3 refl refl refl (frees_none _ _ _ (ap (λ (r : ManagedReplay). r.managed.heap) a.goes.state) refl) in
+    let w = cycle_ended _ _ c.args.seat.now _ (as_side c.args.side.now) (as_side c.abandon.new.self) _ k.0 c.requires.knows c.requires.owner.0 c.requires.order
+    c.requires.settled k.1 a.draws.adds.drawn.3 refl refl refl (frees_none _ _ _ (ap (λ (r : ManagedReplay). r.managed.heap) a.goes.state) refl) in
     search rules
 
 pub settle_ended-requires-clause-agrees : goal.settle_ended-requires-clause-agrees
 settle_ended-requires-clause-agrees c =
     let k = cycle-there c.args.side.now.state.managed.cycle c.requires.open in
     let a = c.abandon.ensures.abandons k.0 k.1 in
-    let w = cycle_ended _ _ c.args.seat.now _ (as_side c.args.side.now) (as_side c.abandon.new.self) _ k.0 c.requires.knows c.requires.owner.0 c.requires.order c.requires.settled k.1 a.draws.adds.drawn.3 refl refl refl (frees_none _ _ _ (ap (λ (r : ManagedReplay). r.managed.heap) a.goes.state) refl) in
+    let w = cycle_ended _ _ c.args.seat.now _ (as_side c.args.side.now) (as_side c.abandon.new.self) _ k.0 c.requires.knows c.requires.owner.0 c.requires.order
+    c.requires.settled k.1 a.draws.adds.drawn.3 refl refl refl (frees_none _ _ _ (ap (λ (r : ManagedReplay). r.managed.heap) a.goes.state) refl) in
     search rules
 
 pub settle_ended-requires-clause-freed : goal.settle_ended-requires-clause-freed
 settle_ended-requires-clause-freed c =
     let k = cycle-there c.args.side.now.state.managed.cycle c.requires.open in
     let a = c.abandon.ensures.abandons k.0 k.1 in
-    let w = cycle_ended _ _ c.args.seat.now _ (as_side c.args.side.now) (as_side c.abandon.new.self) _ k.0 c.requires.knows c.requires.owner.0 c.requires.order c.requires.settled k.1 a.draws.adds.drawn.3 refl refl refl (frees_none _ _ _ (ap (λ (r : ManagedReplay). r.managed.heap) a.goes.state) refl) in
+    let w = cycle_ended _ _ c.args.seat.now _ (as_side c.args.side.now) (as_side c.abandon.new.self) _ k.0 c.requires.knows c.requires.owner.0 c.requires.order
+    c.requires.settled k.1 a.draws.adds.drawn.3 refl refl refl (frees_none _ _ _ (ap (λ (r : ManagedReplay). r.managed.heap) a.goes.state) refl) in
     search rules
 
 pub settle_ended-requires-clause-ended : goal.settle_ended-requires-clause-ended
 settle_ended-requires-clause-ended c =
     let k = cycle-there c.args.side.now.state.managed.cycle c.requires.open in
     let a = c.abandon.ensures.abandons k.0 k.1 in
-    let w = cycle_ended _ _ c.args.seat.now _ (as_side c.args.side.now) (as_side c.abandon.new.self) _ k.0 c.requires.knows c.requires.owner.0 c.requires.order c.requires.settled k.1 a.draws.adds.drawn.3 refl refl refl (frees_none _ _ _ (ap (λ (r : ManagedReplay). r.managed.heap) a.goes.state) refl) in
+    let w = cycle_ended _ _ c.args.seat.now _ (as_side c.args.side.now) (as_side c.abandon.new.self) _ k.0 c.requires.knows c.requires.owner.0 c.requires.order
+    c.requires.settled k.1 a.draws.adds.drawn.3 refl refl refl (frees_none _ _ _ (ap (λ (r : ManagedReplay). r.managed.heap) a.goes.state) refl) in
     search rules
 
 pub settle_ended-requires-clause-outside : goal.settle_ended-requires-clause-outside
 settle_ended-requires-clause-outside c =
     let k = cycle-there c.args.side.now.state.managed.cycle c.requires.open in
     let a = c.abandon.ensures.abandons k.0 k.1 in
-    let w = cycle_ended _ _ c.args.seat.now _ (as_side c.args.side.now) (as_side c.abandon.new.self) _ k.0 c.requires.knows c.requires.owner.0 c.requires.order c.requires.settled k.1 a.draws.adds.drawn.3 refl refl refl (frees_none _ _ _ (ap (λ (r : ManagedReplay). r.managed.heap) a.goes.state) refl) in
+    let w = cycle_ended _ _ c.args.seat.now _ (as_side c.args.side.now) (as_side c.abandon.new.self) _ k.0 c.requires.knows c.requires.owner.0 c.requires.order
+    c.requires.settled k.1 a.draws.adds.drawn.3 refl refl refl (frees_none _ _ _ (ap (λ (r : ManagedReplay). r.managed.heap) a.goes.state) refl) in
     search rules
 
 pub returns-clause-drew : goal.returns-clause-drew
 returns-clause-drew c =
     let k = cycle-there c.args.side.now.state.managed.cycle c.requires.open in
     let a = c.abandon.ensures.abandons k.0 k.1 in
-    let m = drew_managed _ _ c.args.seat.now c.abandon.new.draw.seat.now (as_side c.args.side.now) (as_side c.abandon.new.self) (abandon_made k.0 c.args.index) nothing a.draws.adds.number a.draws.adds.drawn.3 a.goes a.draws.adds.added refl _ a.draws.adds.drawn.2 in
+    let m = drew_managed _ _ c.args.seat.now c.abandon.new.draw.seat.now (as_side c.args.side.now) (as_side c.abandon.new.self)
+    (abandon_made k.0 c.args.index) nothing a.draws.adds.number a.draws.adds.drawn.3 a.goes a.draws.adds.added refl _ a.draws.adds.drawn.2 in
     let e = c.settle_ended.ensures in
-    record { cycle = k.0; opened = k.1; threads = a.threads; drew = (let d = drew_still managed_rules 0 c.args.order.now c.args.seat.now c.abandon.new.draw.seat.now c.settle_ended.new.seat (as_side c.args.side.now) (as_side c.abandon.new.self) _ nothing m (e.order ∙ sym (m.appends.same ∙ c.requires.order)) (search rules) (search rules) in d) }
+    record {
+      cycle = k.0;
+      opened = k.1;
+      threads = a.threads;
+      drew =
+          (let d = drew_still managed_rules 0 c.args.order.now c.args.seat.now c.abandon.new.draw.seat.now c.settle_ended.new.seat (as_side c.args.side.now)
+          (as_side c.abandon.new.self) _ nothing m (e.order ∙ sym (m.appends.same ∙ c.requires.order)) (search rules) (search rules) in d);
+    }

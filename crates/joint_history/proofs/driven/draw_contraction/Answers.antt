@@ -19,7 +19,8 @@ pub returns-clause-settled : goal.returns-clause-settled
 returns-clause-settled c =
     let d = c.requires.contracted in
     let a = (c.contracted.ensures.contracts d.cycle d.opened).adds d.comps d.heavy d.pairs d.contracted in
-    let s = plain_event_settled _ _ c.args.seat.now _ c.args.side.now.state (contract_made d.cycle c.args.index c.args.sccs c.args.xrefs) (contraction_of d.comps d.heavy d.pairs) None [] a.draws.adds.number (record { cycles = refl; pin = refl; frees = λ told. refl; pins = λ seat. refl }) a.draws.adds.drawn.3 a.goes.lawful c.requires.settled in
+    let s = plain_event_settled _ _ c.args.seat.now _ c.args.side.now.state (contract_made d.cycle c.args.index c.args.sccs c.args.xrefs) (contraction_of d.comps d.heavy d.pairs) None
+    [] a.draws.adds.number (record { cycles = refl; pin = refl; frees = λ told. refl; pins = λ seat. refl }) a.draws.adds.drawn.3 a.goes.lawful c.requires.settled in
     search rules
 
 pub returns-clause-drew : goal.returns-clause-drew
@@ -35,6 +36,7 @@ returns-clause-drew c =
       threads = (w.adds d.comps d.heavy d.pairs d.contracted).threads;
       drew = λ cs hs xs w2. (
           let a = w.adds cs hs xs w2 in
-          let m = drew_managed _ _ c.args.seat.now c.contracted.new.draw.seat.now (as_side c.args.side.now) (as_side c.contracted.new.self) (contract_made d.cycle c.args.index c.args.sccs c.args.xrefs) (contraction_of cs hs xs) a.draws.adds.number a.draws.adds.drawn.3 a.goes a.draws.adds.added refl _ a.draws.adds.drawn.2 in
+          let m = drew_managed _ _ c.args.seat.now c.contracted.new.draw.seat.now (as_side c.args.side.now) (as_side c.contracted.new.self)
+          (contract_made d.cycle c.args.index c.args.sccs c.args.xrefs) (contraction_of cs hs xs) a.draws.adds.number a.draws.adds.drawn.3 a.goes a.draws.adds.added refl _ a.draws.adds.drawn.2 in
           search rules);
     }

@@ -20,11 +20,14 @@ refused-requires-clause-may c = record {
 pub returns-clause-settled : goal.returns-clause-settled
 returns-clause-settled c =
     let a = c.in_ok-reply.ensures.adds in
-    let s = plain_event_settled _ _ c.args.seat.now _ c.args.side.now.state (step_made C c.args.index (op.Refused c.args.word) c.in_ok-reply.reply None) (phase_of c.args.phase) None [] a.draws.adds.number (record { cycles = refl; pin = refl; frees = λ told. refl; pins = λ seat. refl }) a.draws.adds.drawn.3 a.goes.lawful c.requires.settled in
+    let s = plain_event_settled _ _ c.args.seat.now _ c.args.side.now.state (step_made C c.args.index (op.Refused c.args.word) c.in_ok-reply.reply None) (phase_of c.args.phase) None
+    [] a.draws.adds.number (record { cycles = refl; pin = refl; frees = λ told. refl; pins = λ seat. refl }) a.draws.adds.drawn.3 a.goes.lawful c.requires.settled in
     search rules
 
 pub returns-clause-drew : goal.returns-clause-drew
 returns-clause-drew c =
     let a = c.in_ok-reply.ensures.adds in
-    let d = drew_managed _ _ c.args.seat.now c.refused.new.draw.seat.now (as_side c.args.side.now) (as_side c.refused.new.self) (step_made C c.args.index (op.Refused c.args.word) c.in_ok-reply.reply None) (phase_of c.args.phase) a.draws.adds.number a.draws.adds.drawn.3 a.goes a.draws.adds.added refl _ a.draws.adds.drawn.2 in
+    let d = drew_managed _ _ c.args.seat.now c.refused.new.draw.seat.now (as_side c.args.side.now) (as_side c.refused.new.self)
+    (step_made C c.args.index (op.Refused c.args.word) c.in_ok-reply.reply None)
+    (phase_of c.args.phase) a.draws.adds.number a.draws.adds.drawn.3 a.goes a.draws.adds.added refl _ a.draws.adds.drawn.2 in
     search rules

@@ -13,7 +13,8 @@ use Rattle.joint_history.proofs.driven.draw_resolution.Goals as goal
 pub resolve-out-requires-clause-may : goal.resolve-out-requires-clause-may
 resolve-out-requires-clause-may c = λ k e.
     let settled = c.requires.settled in
-    let may = driver_may c.args.order.now c.args.seat.now (resolve_op k) c.requires.order refl refl refl c.requires.owner.0 c.requires.owner.1 (settled.paid, settled.stored.0, settled.stored.1) (cycle_open c.args.seat.now.view (as_side c.args.side.now) c.requires.knows k e) in
+    let may = driver_may c.args.order.now c.args.seat.now (resolve_op k) c.requires.order refl refl refl c.requires.owner.0 c.requires.owner.1
+    (settled.paid, settled.stored.0, settled.stored.1) (cycle_open c.args.seat.now.view (as_side c.args.side.now) c.requires.knows k e) in
     record {
       takes = tt;
       below = below_floor c.args.seat.now.view 0 c.args.side.now.entries c.requires.knows.entries;
@@ -26,35 +27,40 @@ pub settle_ended-requires-clause-seat : goal.settle_ended-requires-clause-seat
 settle_ended-requires-clause-seat c =
     let r = c.resolve-out.ensures.resolves in
     let a = r.adds in
-    let w = cycle_ended _ _ c.args.seat.now _ (as_side c.args.side.now) (as_side c.resolve-out.new.self) _ r.cycle c.requires.knows c.requires.owner.0 c.requires.order c.requires.settled r.opened a.draws.adds.drawn.3 refl refl refl (frees_these _ _ _ r.freed (ap (λ (r : ManagedReplay). r.managed.heap) a.goes.state) refl) in
+    let w = cycle_ended _ _ c.args.seat.now _ (as_side c.args.side.now) (as_side c.resolve-out.new.self) _ r.cycle c.requires.knows c.requires.owner.0 c.requires.order
+    c.requires.settled r.opened a.draws.adds.drawn.3 refl refl refl (frees_these _ _ _ r.freed (ap (λ (r : ManagedReplay). r.managed.heap) a.goes.state) refl) in
     search rules
 
 pub settle_ended-requires-clause-agrees : goal.settle_ended-requires-clause-agrees
 settle_ended-requires-clause-agrees c =
     let r = c.resolve-out.ensures.resolves in
     let a = r.adds in
-    let w = cycle_ended _ _ c.args.seat.now _ (as_side c.args.side.now) (as_side c.resolve-out.new.self) _ r.cycle c.requires.knows c.requires.owner.0 c.requires.order c.requires.settled r.opened a.draws.adds.drawn.3 refl refl refl (frees_these _ _ _ r.freed (ap (λ (r : ManagedReplay). r.managed.heap) a.goes.state) refl) in
+    let w = cycle_ended _ _ c.args.seat.now _ (as_side c.args.side.now) (as_side c.resolve-out.new.self) _ r.cycle c.requires.knows c.requires.owner.0 c.requires.order
+    c.requires.settled r.opened a.draws.adds.drawn.3 refl refl refl (frees_these _ _ _ r.freed (ap (λ (r : ManagedReplay). r.managed.heap) a.goes.state) refl) in
     search rules
 
 pub settle_ended-requires-clause-freed : goal.settle_ended-requires-clause-freed
 settle_ended-requires-clause-freed c =
     let r = c.resolve-out.ensures.resolves in
     let a = r.adds in
-    let w = cycle_ended _ _ c.args.seat.now _ (as_side c.args.side.now) (as_side c.resolve-out.new.self) _ r.cycle c.requires.knows c.requires.owner.0 c.requires.order c.requires.settled r.opened a.draws.adds.drawn.3 refl refl refl (frees_these _ _ _ r.freed (ap (λ (r : ManagedReplay). r.managed.heap) a.goes.state) refl) in
+    let w = cycle_ended _ _ c.args.seat.now _ (as_side c.args.side.now) (as_side c.resolve-out.new.self) _ r.cycle c.requires.knows c.requires.owner.0 c.requires.order
+    c.requires.settled r.opened a.draws.adds.drawn.3 refl refl refl (frees_these _ _ _ r.freed (ap (λ (r : ManagedReplay). r.managed.heap) a.goes.state) refl) in
     search rules
 
 pub settle_ended-requires-clause-ended : goal.settle_ended-requires-clause-ended
 settle_ended-requires-clause-ended c =
     let r = c.resolve-out.ensures.resolves in
     let a = r.adds in
-    let w = cycle_ended _ _ c.args.seat.now _ (as_side c.args.side.now) (as_side c.resolve-out.new.self) _ r.cycle c.requires.knows c.requires.owner.0 c.requires.order c.requires.settled r.opened a.draws.adds.drawn.3 refl refl refl (frees_these _ _ _ r.freed (ap (λ (r : ManagedReplay). r.managed.heap) a.goes.state) refl) in
+    let w = cycle_ended _ _ c.args.seat.now _ (as_side c.args.side.now) (as_side c.resolve-out.new.self) _ r.cycle c.requires.knows c.requires.owner.0 c.requires.order
+    c.requires.settled r.opened a.draws.adds.drawn.3 refl refl refl (frees_these _ _ _ r.freed (ap (λ (r : ManagedReplay). r.managed.heap) a.goes.state) refl) in
     search rules
 
 pub settle_ended-requires-clause-outside : goal.settle_ended-requires-clause-outside
 settle_ended-requires-clause-outside c =
     let r = c.resolve-out.ensures.resolves in
     let a = r.adds in
-    let w = cycle_ended _ _ c.args.seat.now _ (as_side c.args.side.now) (as_side c.resolve-out.new.self) _ r.cycle c.requires.knows c.requires.owner.0 c.requires.order c.requires.settled r.opened a.draws.adds.drawn.3 refl refl refl (frees_these _ _ _ r.freed (ap (λ (r : ManagedReplay). r.managed.heap) a.goes.state) refl) in
+    let w = cycle_ended _ _ c.args.seat.now _ (as_side c.args.side.now) (as_side c.resolve-out.new.self) _ r.cycle c.requires.knows c.requires.owner.0 c.requires.order
+    c.requires.settled r.opened a.draws.adds.drawn.3 refl refl refl (frees_these _ _ _ r.freed (ap (λ (r : ManagedReplay). r.managed.heap) a.goes.state) refl) in
     search rules
 
 pub returns-clause-drew : goal.returns-clause-drew
@@ -62,14 +68,16 @@ returns-clause-drew c =
     let r = c.resolve-out.ensures.resolves in
     let a = r.adds in
     let told = resolution_of (answers_of c.args.alive.now.values) r.freed in
-    let m = drew_managed _ _ c.args.seat.now c.resolve-out.new.draw.seat.now (as_side c.args.side.now) (as_side c.resolve-out.new.self) (resolve_made c.args.side.now.state.managed r.cycle c.args.index r.freed c.args.cites) told a.draws.adds.number a.draws.adds.drawn.3 a.goes a.draws.adds.added refl _ a.draws.adds.drawn.2 in
+    let m = drew_managed _ _ c.args.seat.now c.resolve-out.new.draw.seat.now (as_side c.args.side.now) (as_side c.resolve-out.new.self)
+    (resolve_made c.args.side.now.state.managed r.cycle c.args.index r.freed c.args.cites) told a.draws.adds.number a.draws.adds.drawn.3 a.goes a.draws.adds.added refl _ a.draws.adds.drawn.2 in
     let e = c.settle_ended.ensures in
     record {
       cycle = r.cycle;
       opened = r.opened;
       threads = a.threads;
       freed = r.freed;
-      drew = (let d = drew_still managed_rules 0 c.args.order.now c.args.seat.now c.resolve-out.new.draw.seat.now c.settle_ended.new.seat (as_side c.args.side.now) (as_side c.resolve-out.new.self) _ told m (e.order ∙ sym (m.appends.same ∙ c.requires.order)) (search rules) (search rules) in d);
+      drew = (let d = drew_still managed_rules 0 c.args.order.now c.args.seat.now c.resolve-out.new.draw.seat.now c.settle_ended.new.seat
+          (as_side c.args.side.now) (as_side c.resolve-out.new.self) _ told m (e.order ∙ sym (m.appends.same ∙ c.requires.order)) (search rules) (search rules) in d);
       span = r.span;
       kept = r.kept;
     }

@@ -37,13 +37,15 @@ loop-caller-preserved g c =
     let next = entry_lists c.take_in.new.lists in
     let steps : into_iter_items at.caller-iterator ≡ p ∷ into_iter_items c.next.new.self = c.in-Some.ensures.steps.0 in (
       c.take_in.ensures.order,
-      gathers_more c.args.seat.now.view at.seat.view c.take_in.new.seat.view first now next at.yielded p at.invariant.1 (subst (λ (q : Pass). GathersAll at.seat.view c.take_in.new.seat.view now next (q.thread ∷ [])) c.into_pass.ensures c.take_in.ensures.gathers),
+      gathers_more c.args.seat.now.view at.seat.view c.take_in.new.seat.view first now next at.yielded p at.invariant.1
+          (subst (λ (q : Pass). GathersAll at.seat.view c.take_in.new.seat.view now next (q.thread ∷ [])) c.into_pass.ensures c.take_in.ensures.gathers),
       append_assoc at.yielded (p ∷ []) (into_iter_items c.next.new.self) ∙ (ap (λ ys. at.yielded ++ ys) (sym steps) ∙ at.invariant.2),
       let was = at.invariant.3 in
           let gone = c.in-Some.ensures.steps.1 in
           let short = ap length steps in
           omega arith,
-      takes_then c.args.seat.now.view at.seat.view c.take_in.new.seat.view at.yielded (p ∷ []) at.invariant.4 (subst (λ (q : Pass). TakesOwn at.seat.view c.take_in.new.seat.view (q ∷ [])) c.into_pass.ensures c.take_in.ensures.own),
+      takes_then c.args.seat.now.view at.seat.view c.take_in.new.seat.view at.yielded (p ∷ []) at.invariant.4
+          (subst (λ (q : Pass). TakesOwn at.seat.view c.take_in.new.seat.view (q ∷ [])) c.into_pass.ensures c.take_in.ensures.own),
       c.take_in.ensures.settled,
     )
 

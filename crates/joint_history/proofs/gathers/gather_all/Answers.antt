@@ -13,7 +13,8 @@ returns-clause-gathers g c = λ l r knows others role other_role.
     let old = entry_lists c.args.lists.now in
     let mid = entry_lists c.gather.new.lists in
     let new = entry_lists c.gather_waiting.new.lists in
-    all_in c.args.seat.now.view c.args.other.view c.learn.new.seat.view c.gather.new.seat.view c.gather_waiting.new.seat.view l r old mid new c.args.callers.items c.args.desk knows others role other_role
+    all_in c.args.seat.now.view c.args.other.view c.learn.new.seat.view c.gather.new.seat.view
+    c.gather_waiting.new.seat.view l r old mid new c.args.callers.items c.args.desk knows others role other_role
     c.learn.ensures.takes c.learn.ensures.one_history (length-map c.args.lists.now (λ (s : Stock). s.entries) ∙ c.requires.ten) c.gather.ensures.gathers
     (subst (λ os. GathersAll c.gather.new.seat.view c.gather_waiting.new.seat.view mid new (threads_of (present os))) c.into_callers.ensures.callers c.gather_waiting.ensures.gathers) c.requires.all
     (subst (λ os. (i : ℕ) (o : Option Pass) → slice_get os i ≡ Some o → WaitsAt i o) c.into_callers.ensures.callers c.into_callers.ensures.waits)

@@ -25,7 +25,8 @@ loop-waiting-init g c =
 pub take_in-requires-clause-idle : goal.take_in-requires-clause-idle
 take_in-requires-clause-idle g c =
     let at = c.loop-waiting in
-    let steps : into_iter_items at.waiting-iterator ≡ Some c.in-Some-waiting.pass ∷ into_iter_items c.next.new.self = c.in-Some.ensures.steps.0 ∙ ap (λ o. o ∷ into_iter_items c.next.new.self) c.in-Some-waiting.is in
+    let steps : into_iter_items at.waiting-iterator ≡ Some c.in-Some-waiting.pass ∷ into_iter_items c.next.new.self = c.in-Some.ensures.steps.0
+    ∙ ap (λ o. o ∷ into_iter_items c.next.new.self) c.in-Some-waiting.is in
     next_waiting_is_idle c.args.callers.items at.yielded (into_iter_items c.next.new.self) c.in-Some-waiting.pass
     (ap (λ ys. at.yielded ++ ys) (sym steps) ∙ (at.invariant.2 ∙ c.into_iter-waiting-iterator.ensures.into_iter_gives.0)) c.requires.waits
 
@@ -57,14 +58,16 @@ loop-waiting-preserved g c =
     let o = c.in-Some.waiting in
     let steps : into_iter_items at.waiting-iterator ≡ o ∷ into_iter_items c.next.new.self = c.in-Some.ensures.steps.0 in (
       at.invariant.0,
-      subst (λ (q : Option Pass). GathersAll c.args.seat.now.view at.seat.view (entry_lists c.args.lists.now) (entry_lists at.lists) (threads_of (present (at.yielded ++ q ∷ [])))) (sym c.in_default.is)
+      subst (λ (q : Option Pass). GathersAll c.args.seat.now.view at.seat.view (entry_lists c.args.lists.now) (entry_lists at.lists) (threads_of (present (at.yielded ++ q ∷ []))))
+          (sym c.in_default.is)
           (gathers_nobody c.args.seat.now.view at.seat.view (entry_lists c.args.lists.now) (entry_lists at.lists) at.yielded at.invariant.1),
       append_assoc at.yielded (o ∷ []) (into_iter_items c.next.new.self) ∙ (ap (λ ys. at.yielded ++ ys) (sym steps) ∙ at.invariant.2),
       let was = at.invariant.3 in
           let gone = c.in-Some.ensures.steps.1 in
           let short = ap length steps in
           omega arith,
-      subst (λ (q : Option Pass). TakesOwn c.args.seat.now.view at.seat.view (present (at.yielded ++ q ∷ []))) (sym c.in_default.is) (takes_nobody c.args.seat.now.view at.seat.view at.yielded at.invariant.4),
+      subst (λ (q : Option Pass). TakesOwn c.args.seat.now.view at.seat.view (present (at.yielded ++ q ∷ [])))
+          (sym c.in_default.is) (takes_nobody c.args.seat.now.view at.seat.view at.yielded at.invariant.4),
       at.invariant.5,
     )
 

@@ -17,5 +17,6 @@ restore_one-back-requires-clause-may c = record {
 pub returns-clause-settled : goal.returns-clause-settled
 returns-clause-settled c =
     let a = c.restore_one-back.ensures.adds in
-    let s = peer_settled _ _ c.args.seat.now _ c.args.side.now.state (restores c.args.index c.args.h c.restore_one-back.result) nothing a.draws.adds.number a.draws.adds.drawn.3 a.goes.lawful c.requires.settled in
+    let s = peer_settled _ _ c.args.seat.now _ c.args.side.now.state
+    (restores c.args.index c.args.h c.restore_one-back.result) nothing a.draws.adds.number a.draws.adds.drawn.3 a.goes.lawful c.requires.settled in
     search rules

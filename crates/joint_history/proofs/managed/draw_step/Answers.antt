@@ -20,12 +20,14 @@ step-requires-clause-may c = record {
 pub returns-clause-settled : goal.returns-clause-settled
 returns-clause-settled c =
     let a = c.in_ok-reply.ensures.adds in
-    let s = plain_event_settled _ _ c.args.seat.now _ c.args.side.now.state (step_made c.args.caller c.args.index c.args.op.now c.in_ok-reply.reply c.args.cites) nothing _ _ a.draws.adds.number (step_is_plain c.args.caller c.args.op.now c.in_ok-reply.reply c.requires.event) a.draws.adds.drawn.3 a.goes.lawful c.requires.settled in
+    let s = plain_event_settled _ _ c.args.seat.now _ c.args.side.now.state (step_made c.args.caller c.args.index c.args.op.now c.in_ok-reply.reply c.args.cites) nothing _ _ a.draws.adds.number
+    (step_is_plain c.args.caller c.args.op.now c.in_ok-reply.reply c.requires.event) a.draws.adds.drawn.3 a.goes.lawful c.requires.settled in
     search rules
 
 pub returns-clause-drew : goal.returns-clause-drew
 returns-clause-drew c =
     let a = c.in_ok-reply.ensures.adds in
-    let d = drew_managed _ _ c.args.seat.now c.step.new.draw.seat.now (as_side c.args.side.now) (as_side c.step.new.self) (step_made c.args.caller c.args.index c.args.op.now c.in_ok-reply.reply c.args.cites) nothing a.draws.adds.number a.draws.adds.drawn.3 a.goes a.draws.adds.added
+    let d = drew_managed _ _ c.args.seat.now c.step.new.draw.seat.now (as_side c.args.side.now) (as_side c.step.new.self)
+    (step_made c.args.caller c.args.index c.args.op.now c.in_ok-reply.reply c.args.cites) nothing a.draws.adds.number a.draws.adds.drawn.3 a.goes a.draws.adds.added
     (ap pins_of ((step_is_plain c.args.caller c.args.op.now c.in_ok-reply.reply c.requires.event).pins c.args.seat.now)) _ a.draws.adds.drawn.2 in
     search rules

@@ -21,15 +21,18 @@ use Rattle.joint_history.proofs.managed.draw_take.Goals as goal
 
 pub take-requires-clause-stands : goal.take-requires-clause-stands
 take-requires-clause-stands c = subst (λ n. PinsStand c.args.side.now.state.managed (pin_given n c.own_pin-pin.result)) c.reader_of-reader.ensures.number
-    (taken_stands c.args.seat.now.view (as_side c.args.side.now) c.reader_of-reader.result c.own_pin-pin.result c.reader_of-reader.ensures.few.0 c.reader_of-reader.ensures.few.1 c.requires.knows c.own_pin-pin.ensures.pin)
+    (taken_stands c.args.seat.now.view (as_side c.args.side.now) c.reader_of-reader.result c.own_pin-pin.result
+    c.reader_of-reader.ensures.few.0 c.reader_of-reader.ensures.few.1 c.requires.knows c.own_pin-pin.ensures.pin)
 
 pub take-requires-clause-may : goal.take-requires-clause-may
 take-requires-clause-may c =
     let seat = c.own_pin-pin.new.seat in
     let stays = c.own_pin-pin.ensures.stays in
     let ks = knows_looked c.args.seat.now.view seat.view (as_side c.args.side.now) stays c.requires.knows in
-    let may : (aim : Option MNum) → MayAppend c.args.order.now seat 0 c.args.caller (take_op c.args.v) aim = λ aim. take_may c.args.order.now seat c.args.caller c.args.v aim c.requires.thread c.own_pin-pin.ensures.order
-    (ap (λ os. at false os 0) stays.owns ∙ c.requires.owner.0) (ap (λ os. at false os (caller_line c.args.caller)) stays.owns ∙ c.requires.owner.1) (settled_looked c.args.seat.now.view seat.view stays c.requires.settled) in
+    let may : (aim : Option MNum) → MayAppend c.args.order.now seat 0 c.args.caller
+    (take_op c.args.v) aim = λ aim. take_may c.args.order.now seat c.args.caller c.args.v aim c.requires.thread c.own_pin-pin.ensures.order
+    (ap (λ os. at false os 0) stays.owns ∙ c.requires.owner.0) (ap (λ os. at false os (caller_line c.args.caller)) stays.owns ∙ c.requires.owner.1)
+    (settled_looked c.args.seat.now.view seat.view stays c.requires.settled) in
     record {
       takes = c.requires.takes;
       below = below_floor seat.view 0 c.args.side.now.entries ks.entries;
@@ -64,14 +67,17 @@ returns-clause-drew c =
     let seat = c.own_pin-pin.new.seat in
     let stays = c.own_pin-pin.ensures.stays in
     let pin = c.own_pin-pin.result in
-    let d = drew_managed _ _ seat c.take.new.draw.seat.now (as_side c.args.side.now) (as_side c.take.new.self) (step_made c.args.caller c.args.index (take_op c.args.v) c.in_ok-reply.reply None) (kept_pins (pin_given (thread_number c.args.caller) pin) nothing) a.draws.adds.number a.draws.adds.drawn.3 a.goes a.draws.adds.added
-    (taken_told seat c.args.caller c.args.v c.reader_of-reader.result pin c.requires.thread c.reader_of-reader.ensures.number (finds_same c.args.seat.now.view seat.view c.reader_of-reader.result pin stays.known c.own_pin-pin.ensures.pin)) _ a.draws.adds.drawn.2 in
+    let d = drew_managed _ _ seat c.take.new.draw.seat.now (as_side c.args.side.now) (as_side c.take.new.self) (step_made c.args.caller c.args.index (take_op c.args.v) c.in_ok-reply.reply None)
+    (kept_pins (pin_given (thread_number c.args.caller) pin) nothing) a.draws.adds.number a.draws.adds.drawn.3 a.goes a.draws.adds.added
+    (taken_told seat c.args.caller c.args.v c.reader_of-reader.result pin
+    c.requires.thread c.reader_of-reader.ensures.number (finds_same c.args.seat.now.view seat.view c.reader_of-reader.result pin stays.known c.own_pin-pin.ensures.pin)) _ a.draws.adds.drawn.2 in
     let before = seated c.args.seat.now seat (c.own_pin-pin.ensures.order ∙ sym c.requires.order) stays in
     let same : c.settle_taken.new.seat.order ≡ c.take.new.draw.seat.now.order = c.settle_taken.ensures.order ∙ sym (d.appends.same ∙ c.own_pin-pin.ensures.order) in
     let after : StaysSeated c.take.new.draw.seat.now c.settle_taken.new.seat = (let o = c.settle_taken.ensures.same in search rules) in
     record {
       pin = pin;
       stands = subst (λ n. PinsStand c.args.side.now.state.managed (pin_given n pin)) c.reader_of-reader.ensures.number
-          (taken_stands c.args.seat.now.view (as_side c.args.side.now) c.reader_of-reader.result pin c.reader_of-reader.ensures.few.0 c.reader_of-reader.ensures.few.1 c.requires.knows c.own_pin-pin.ensures.pin);
+          (taken_stands c.args.seat.now.view (as_side c.args.side.now) c.reader_of-reader.result pin
+          c.reader_of-reader.ensures.few.0 c.reader_of-reader.ensures.few.1 c.requires.knows c.own_pin-pin.ensures.pin);
       drew = drew_between managed_rules 0 c.args.order.now c.args.seat.now seat c.take.new.draw.seat.now c.settle_taken.new.seat (as_side c.args.side.now) (as_side c.take.new.self) _ _ before d after;
     }

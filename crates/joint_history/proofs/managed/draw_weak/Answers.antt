@@ -18,16 +18,19 @@ use Rattle.joint_history.proofs.SetCells.{unset_word, weak_is_plain, weak_may}
 use Rattle.joint_history.proofs.managed.draw_weak.Goals as goal
 
 pub weak-requires-clause-word : goal.weak-requires-clause-word
-weak-requires-clause-word c = unset_word c.args.seat.now.view (as_side c.args.side.now) c.args.k.0 c.load_cell-word.result c.requires.knows (c.load_cell-word.ensures.says c.requires.owner.0 c.requires.settled.paid)
+weak-requires-clause-word c = unset_word c.args.seat.now.view (as_side c.args.side.now) c.args.k.0 c.load_cell-word.result c.requires.knows
+    (c.load_cell-word.ensures.says c.requires.owner.0 c.requires.settled.paid)
 
 pub weak-requires-clause-may : goal.weak-requires-clause-may
 weak-requires-clause-may c =
     let seat = c.load_cell-word.new.seat in
     let stays = c.load_cell-word.ensures.stays in
     let ks = knows_looked c.args.seat.now.view seat.view (as_side c.args.side.now) stays c.requires.knows in
-    let may : (aim : Option MNum) → ((m : MNum) → aim ≡ Some m → MaySetCell c.args.side.now.state (weak_op c.args.k c.args.v) m) → MayAppend c.args.order.now seat 0 c.args.caller (weak_op c.args.k c.args.v) aim =
+    let may : (aim : Option MNum) → ((m : MNum) → aim ≡ Some m → MaySetCell c.args.side.now.state (weak_op c.args.k c.args.v) m)
+    → MayAppend c.args.order.now seat 0 c.args.caller (weak_op c.args.k c.args.v) aim =
     λ aim. weak_may c.args.order.now seat (as_side c.args.side.now) c.args.caller c.args.k c.args.v aim c.requires.thread c.requires.cell (c.load_cell-word.ensures.seat.0 ∙ c.requires.order)
-    (ap (λ os. at false os 0) stays.owns ∙ c.requires.owner.0) (ap (λ os. at false os (caller_line c.args.caller)) stays.owns ∙ c.requires.owner.1) (settled_looked c.args.seat.now.view seat.view stays c.requires.settled) ks (omega (arith)) in
+    (ap (λ os. at false os 0) stays.owns ∙ c.requires.owner.0) (ap (λ os. at false os (caller_line c.args.caller)) stays.owns ∙ c.requires.owner.1)
+    (settled_looked c.args.seat.now.view seat.view stays c.requires.settled) ks (omega (arith)) in
     record {
       takes = c.requires.takes;
       below = below_floor seat.view 0 c.args.side.now.entries ks.entries;
@@ -41,5 +44,6 @@ returns-clause-settled c =
     let a = c.in_ok-reply.ensures.adds in
     let seat = c.load_cell-word.new.seat in
     let before = settled_looked c.args.seat.now.view seat.view c.load_cell-word.ensures.stays c.requires.settled in
-    let s = plain_event_settled _ _ seat _ c.args.side.now.state (step_made c.args.caller c.args.index (weak_op c.args.k c.args.v) c.in_ok-reply.reply None) nothing _ [] a.draws.adds.number (weak_is_plain c.args.caller c.args.k c.args.v c.in_ok-reply.reply c.requires.thread) a.draws.adds.drawn.3 a.goes.lawful before in
+    let s = plain_event_settled _ _ seat _ c.args.side.now.state (step_made c.args.caller c.args.index (weak_op c.args.k c.args.v) c.in_ok-reply.reply None) nothing _
+    [] a.draws.adds.number (weak_is_plain c.args.caller c.args.k c.args.v c.in_ok-reply.reply c.requires.thread) a.draws.adds.drawn.3 a.goes.lawful before in
     search rules

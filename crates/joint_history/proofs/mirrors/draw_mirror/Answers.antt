@@ -20,5 +20,7 @@ install-requires-clause-may c = record {
 pub returns-clause-settled : goal.returns-clause-settled
 returns-clause-settled c =
     let a = c.in_ok-refs.ensures.adds in
-    let s = peer_settled _ _ c.args.seat.now _ c.args.side.now.state (mirrors c.args.index c.args.cycle c.in_ok-refs.refs c.args.snap) (references_of (carried_to_peers c.args.side.now.state.peers.issued c.args.graph.now.nodes (mirror_edges c.args.comps.now.comps c.args.comps.now.pairs))) a.draws.adds.number a.draws.adds.drawn.3 a.goes.lawful c.requires.settled in
+    let s = peer_settled _ _ c.args.seat.now _ c.args.side.now.state (mirrors c.args.index c.args.cycle c.in_ok-refs.refs c.args.snap)
+    (references_of (carried_to_peers c.args.side.now.state.peers.issued c.args.graph.now.nodes (mirror_edges c.args.comps.now.comps c.args.comps.now.pairs)))
+    a.draws.adds.number a.draws.adds.drawn.3 a.goes.lawful c.requires.settled in
     search rules

@@ -19,7 +19,8 @@ pub draw_slice-requires-clause-count : goal.draw_slice-requires-clause-count
 draw_slice-requires-clause-count c = (subst (λ (q : Op). IsPeerCall c.args.caller q) (slice_is c.args.op.now c.in-Some.n (sym c.slice_count.ensures ∙ c.in-Some.is)) c.requires.call).1
 
 pub draw_slice-requires-clause-may : goal.draw_slice-requires-clause-may
-draw_slice-requires-clause-may c = subst (λ (q : Op). MayAppend c.args.order.now c.args.seat.now 1 c.args.caller q None) (slice_is c.args.op.now c.in-Some.n (sym c.slice_count.ensures ∙ c.in-Some.is)) c.requires.may
+draw_slice-requires-clause-may c = subst (λ (q : Op). MayAppend c.args.order.now c.args.seat.now 1 c.args.caller q None)
+    (slice_is c.args.op.now c.in-Some.n (sym c.slice_count.ensures ∙ c.in-Some.is)) c.requires.may
 
 pub returns-in-Some-clause-drew : goal.returns-in-Some-clause-drew
 returns-in-Some-clause-drew c =
@@ -48,7 +49,8 @@ pub draw_step-requires-clause-step : goal.draw_step-requires-clause-step
 draw_step-requires-clause-step c = else_step c.args.caller c.args.op.now (sym c.slice_count.ensures ∙ none_from c.slice_count.result c.in_default.not-Some) c.if-is_mark.ensures c.requires.call
 
 pub draw_step-requires-clause-allowed : goal.draw_step-requires-clause-allowed
-draw_step-requires-clause-allowed c = else_allows c.args.side.now.state c.args.caller c.args.op.now c.args.cites (sym c.slice_count.ensures ∙ none_from c.slice_count.result c.in_default.not-Some) c.if-is_mark.ensures c.requires.allowed
+draw_step-requires-clause-allowed c = else_allows c.args.side.now.state c.args.caller c.args.op.now c.args.cites
+    (sym c.slice_count.ensures ∙ none_from c.slice_count.result c.in_default.not-Some) c.if-is_mark.ensures c.requires.allowed
 
 pub returns-clause-drew : goal.returns-clause-drew
 returns-clause-drew c = IfOk-weaker c.draw_step.result _ _ (λ r d. record { told = nothing; drew = d }) c.draw_step.ensures.drew

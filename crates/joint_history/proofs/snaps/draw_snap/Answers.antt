@@ -20,34 +20,44 @@ snap-requires-clause-may c = λ pins g w.
       takes = tt;
       below = below_floor g.seat.now.view 0 c.args.side.now.entries ks.entries;
       room = room_left g.seat.now.view 0 c.args.side.now.entries ks.entries;
-      bare = snap_may c.args.order.now g.order.now c.args.seat.now g.seat.now (as_side c.args.side.now) pins c.requires.order w.1 c.requires.owner.0 c.requires.owner.1 c.requires.settled c.requires.knows c.requires.closed w.2;
+      bare = snap_may c.args.order.now g.order.now c.args.seat.now g.seat.now
+          (as_side c.args.side.now) pins c.requires.order w.1 c.requires.owner.0 c.requires.owner.1 c.requires.settled c.requires.knows c.requires.closed w.2;
       targets = λ m x. absurd x;
     }
 
 pub settle_opened-requires-clause-agrees : goal.settle_opened-requires-clause-agrees
 settle_opened-requires-clause-agrees c =
     let o = c.in_ok-opened.ensures.snaps in
-    let w = snap_drawn _ _ _ c.args.order.now o.gate.order.now _ c.args.seat.now o.gate.seat.now _ (as_side c.args.side.now) (as_side c.snap.new.self) c.args.index o.pins c.in_ok-opened.opened c.requires.order o.closes.1 c.requires.owner.0 c.requires.knows c.requires.closed o.closes.2 o.opens o.opens.adds.draws.adds.drawn.1 in
+    let w = snap_drawn _ _ _ c.args.order.now o.gate.order.now _ c.args.seat.now o.gate.seat.now _ (as_side c.args.side.now)
+    (as_side c.snap.new.self) c.args.index o.pins c.in_ok-opened.opened c.requires.order o.closes.1
+    c.requires.owner.0 c.requires.knows c.requires.closed o.closes.2 o.opens o.opens.adds.draws.adds.drawn.1 in
     search rules
 
 pub settle_opened-requires-clause-freed : goal.settle_opened-requires-clause-freed
 settle_opened-requires-clause-freed c =
     let o = c.in_ok-opened.ensures.snaps in
-    let w = snap_drawn _ _ _ c.args.order.now o.gate.order.now _ c.args.seat.now o.gate.seat.now _ (as_side c.args.side.now) (as_side c.snap.new.self) c.args.index o.pins c.in_ok-opened.opened c.requires.order o.closes.1 c.requires.owner.0 c.requires.knows c.requires.closed o.closes.2 o.opens o.opens.adds.draws.adds.drawn.1 in
+    let w = snap_drawn _ _ _ c.args.order.now o.gate.order.now _ c.args.seat.now o.gate.seat.now _ (as_side c.args.side.now)
+    (as_side c.snap.new.self) c.args.index o.pins c.in_ok-opened.opened c.requires.order o.closes.1
+    c.requires.owner.0 c.requires.knows c.requires.closed o.closes.2 o.opens o.opens.adds.draws.adds.drawn.1 in
     search rules
 
 pub settle_opened-requires-clause-opened : goal.settle_opened-requires-clause-opened
 settle_opened-requires-clause-opened c =
     let o = c.in_ok-opened.ensures.snaps in
-    let w = snap_drawn _ _ _ c.args.order.now o.gate.order.now _ c.args.seat.now o.gate.seat.now _ (as_side c.args.side.now) (as_side c.snap.new.self) c.args.index o.pins c.in_ok-opened.opened c.requires.order o.closes.1 c.requires.owner.0 c.requires.knows c.requires.closed o.closes.2 o.opens o.opens.adds.draws.adds.drawn.1 in
+    let w = snap_drawn _ _ _ c.args.order.now o.gate.order.now _ c.args.seat.now o.gate.seat.now _ (as_side c.args.side.now)
+    (as_side c.snap.new.self) c.args.index o.pins c.in_ok-opened.opened c.requires.order o.closes.1
+    c.requires.owner.0 c.requires.knows c.requires.closed o.closes.2 o.opens o.opens.adds.draws.adds.drawn.1 in
     search rules
 
 pub returns-clause-drew : goal.returns-clause-drew
 returns-clause-drew c =
     let o = c.in_ok-opened.ensures.snaps in
-    let w = snap_drawn _ _ _ c.args.order.now o.gate.order.now _ c.args.seat.now o.gate.seat.now _ (as_side c.args.side.now) (as_side c.snap.new.self) c.args.index o.pins c.in_ok-opened.opened c.requires.order o.closes.1 c.requires.owner.0 c.requires.knows c.requires.closed o.closes.2 o.opens o.opens.adds.draws.adds.drawn.1 in
+    let w = snap_drawn _ _ _ c.args.order.now o.gate.order.now _ c.args.seat.now o.gate.seat.now _ (as_side c.args.side.now)
+    (as_side c.snap.new.self) c.args.index o.pins c.in_ok-opened.opened c.requires.order o.closes.1
+    c.requires.owner.0 c.requires.knows c.requires.closed o.closes.2 o.opens o.opens.adds.draws.adds.drawn.1 in
     let e = c.settle_opened.ensures in
-    snapshot_still c.args.order.now c.args.seat.now c.snap.new.gate.seat.now c.settle_opened.new.seat (as_side c.args.side.now) (as_side c.snap.new.self) c.args.index c.in_ok-opened.opened w.draws (e.order ∙ sym w.settle.same) (search rules) (search rules)
+    snapshot_still c.args.order.now c.args.seat.now c.snap.new.gate.seat.now c.settle_opened.new.seat (as_side c.args.side.now)
+    (as_side c.snap.new.self) c.args.index c.in_ok-opened.opened w.draws (e.order ∙ sym w.settle.same) (search rules) (search rules)
 
 pub returns-in_err-opened-clause-threads : goal.returns-in_err-opened-clause-threads
 returns-in_err-opened-clause-threads c = ap (λ (s : Side ManagedReplay). s.threads) c.in_err-opened.ensures.err

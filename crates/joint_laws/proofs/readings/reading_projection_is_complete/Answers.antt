@@ -2,4 +2,11 @@ use Rattle.joint_laws.proofs.ReadsAside.{reading_is_lawful, reading_leads_to_sam
 use Rattle.joint_laws.proofs.readings.reading_projection_is_complete.Goals as goal
 
 pub returns : goal.returns
-returns c = record { without = reading_is_lawful; same = reading_leads_to_same; projection = reading_projects_so; lawful = reading_projection_is_complete; linked = linked_is_complete; every = every_reading_run_is_complete }
+returns c = record {
+  without = reading_is_lawful;
+  same = reading_leads_to_same;
+  projection = reading_projects_so;
+  lawful = reading_projection_is_complete;
+  linked = linked_is_complete;
+  every = every_reading_run_is_complete;
+}

@@ -17,7 +17,8 @@ loop-p-preserved g c =
     elim c.if-is_unmarked.branch [
       | then-is_unmarked+in_ok-push w ↦
           let n : PNum = record { 0 = p } in
-          rw (w.found-is, w.in_ok-push.ensures.items, map-append (λ k. k.0) c.loop-p.found.items (n ∷ [])) (Gathered-push wanted p (peer_numbers c.loop-p.found.items) c.loop-p.invariant (test-true (wanted p) _ c.is_unmarked.ensures w.if-is_unmarked.true))
+          rw (w.found-is, w.in_ok-push.ensures.items, map-append (λ k. k.0) c.loop-p.found.items (n ∷ []))
+          (Gathered-push wanted p (peer_numbers c.loop-p.found.items) c.loop-p.invariant (test-true (wanted p) _ c.is_unmarked.ensures w.if-is_unmarked.true))
       | else-is_unmarked w ↦ rw w.found-is (Gathered-skip wanted p (peer_numbers c.loop-p.found.items) c.loop-p.invariant (test-false (wanted p) _ c.is_unmarked.ensures w.if-is_unmarked.false))
     ]
 

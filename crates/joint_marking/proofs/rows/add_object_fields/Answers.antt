@@ -11,9 +11,11 @@ loop-i-preserved g c =
     let fields = fields_of h c.args.x.0 in
     let within : c.loop-i.i < length fields = omega (arith, c.loop-i-test.true, c.object_fields-i-end.ensures) in
     elim c.match-object_field.branch [
-      | in-Some+in_ok-add w ↦ rw w.rows-is (Places-push (IsLive h) (λ y. y) c.args.x.0 fields c.loop-i.i w.in-Some.y.0 _ _ _ within w.in-Some.ensures.value w.in-Some.ensures.live c.loop-i.invariant w.in_ok-add.ensures.adds)
+      | in-Some+in_ok-add w ↦ rw w.rows-is (Places-push (IsLive h) (λ y. y) c.args.x.0 fields c.loop-i.i w.in-Some.y.0 _ _ _ within
+          w.in-Some.ensures.value w.in-Some.ensures.live c.loop-i.invariant w.in_ok-add.ensures.adds)
       | in_default w ↦ rw w.rows-is (Places-skip (IsLive h) (λ y. y) c.args.x.0 fields c.loop-i.i _ _ within w.in_default.ensures.value c.loop-i.invariant)
     ]
 
 pub returns : goal.returns
-returns g c = Places-all (g.G.JointWalked.graph c.args.g.now).managed.heap (λ y. y) c.args.x.0 c.loop-i.i _ _ c.requires.live (omega (arith, c.loop-i-test.false, c.object_fields-i-end.ensures)) c.loop-i.invariant
+returns g c = Places-all (g.G.JointWalked.graph c.args.g.now).managed.heap (λ y. y) c.args.x.0 c.loop-i.i _ _ c.requires.live
+    (omega (arith, c.loop-i-test.false, c.object_fields-i-end.ensures)) c.loop-i.invariant

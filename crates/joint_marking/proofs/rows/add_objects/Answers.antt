@@ -14,7 +14,8 @@ loop-x-preserved g c =
     let x = c.loop-x.x in
     elim c.if-is_live_object.branch [
       | then-is_live_object+in_ok-add_object w ↦ rw w.rows-is (Brought-push (ObjectEdge both) x _ _ _ c.loop-x.invariant w.in_ok-add_object.ensures)
-      | else-is_live_object w ↦ rw w.rows-is (Brought-skip (ObjectEdge both) x _ _ (λ k j e. test-false (IsLive both.managed.heap x) _ c.is_live_object.ensures w.if-is_live_object.false (ObjectEdge-live both x k j e)) c.loop-x.invariant)
+      | else-is_live_object w ↦ rw w.rows-is (Brought-skip (ObjectEdge both) x _ _
+          (λ k j e. test-false (IsLive both.managed.heap x) _ c.is_live_object.ensures w.if-is_live_object.false (ObjectEdge-live both x k j e)) c.loop-x.invariant)
     ]
 
 pub returns : goal.returns

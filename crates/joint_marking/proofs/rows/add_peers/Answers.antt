@@ -13,7 +13,8 @@ loop-p-preserved g c =
     let p = c.loop-p.p in
     elim c.if-is_live_peer.branch [
       | then-is_live_peer+in_ok-add_peer w ↦ rw w.rows-is (Brought-push (PeerEdge both) p _ _ _ c.loop-p.invariant w.in_ok-add_peer.ensures)
-      | else-is_live_peer w ↦ rw w.rows-is (Brought-skip (PeerEdge both) p _ _ (λ k j e. test-false (IsLive both.peers.heap p) _ c.is_live_peer.ensures w.if-is_live_peer.false e.field.live) c.loop-p.invariant)
+      | else-is_live_peer w ↦ rw w.rows-is (Brought-skip (PeerEdge both) p _ _
+          (λ k j e. test-false (IsLive both.peers.heap p) _ c.is_live_peer.ensures w.if-is_live_peer.false e.field.live) c.loop-p.invariant)
     ]
 
 pub returns : goal.returns

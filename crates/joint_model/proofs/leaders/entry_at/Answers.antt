@@ -15,5 +15,7 @@ entry_after-requires c =
 pub returns : goal.returns
 returns c =
     c.entry_after.ensures
-    ∙ subst (λ (l : Leader). slice_get (led l c.args.followers.now) (c.args.place - c.leader_before-at.result - l.from) ≡ slice_get (spelled c.args.leaders.now c.args.followers.now) c.args.place) (sym c.index-leaders-at.is)
-    (at-place c.args.leaders.now c.args.followers.now c.leader_before-at.result c.args.place c.index-leaders-at.result c.requires.followed c.requires.starts c.leader_before-at.ensures.leader (c.leader_before-at.ensures.before _) (c.leader_before-at.ensures.next _))
+    ∙ subst (λ (l : Leader). slice_get (led l c.args.followers.now) (c.args.place - c.leader_before-at.result - l.from) ≡ slice_get (spelled c.args.leaders.now c.args.followers.now) c.args.place)
+    (sym c.index-leaders-at.is)
+    (at-place c.args.leaders.now c.args.followers.now c.leader_before-at.result c.args.place c.index-leaders-at.result c.requires.followed
+    c.requires.starts c.leader_before-at.ensures.leader (c.leader_before-at.ensures.before _) (c.leader_before-at.ensures.next _))

@@ -18,4 +18,5 @@ returns-else-is_next_in_other c =
     let ys = c.args.other.now in
     let zs = c.next-else-is_next_in_other.new.self in
     let stays : GoesOnInOther xs ys → ⊥ = λ g. true≢false (sym (c.is_next_in_other.ensures.1 (rw (c.number.ensures, c.number-2.ensures) g)) ∙ c.if-is_next_in_other.false) in
-    said c.next-else-is_next_in_other.result _ _ _ _ (none-one xs ys zs stays) (λ next h. (leads-one xs ys zs next.0.now.entry next.1.now c.requires h.0 stays, h.1)) c.next-else-is_next_in_other.ensures
+    said c.next-else-is_next_in_other.result _ _ _ _ (none-one xs ys zs stays)
+    (λ next h. (leads-one xs ys zs next.0.now.entry next.1.now c.requires h.0 stays, h.1)) c.next-else-is_next_in_other.ensures

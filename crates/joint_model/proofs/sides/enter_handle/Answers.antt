@@ -15,7 +15,8 @@ returns-clause-draws g c =
     record {
       adds = record { number = c.draw-number.result; drawn = drawn.drew; added = c.push_handle.ensures.entries };
       above = drawn.low;
-      below = rw c.push_handle.ensures.entries (All-push (λ (x : Entry). x.number < next) c.args.entries.now.entries e (All-weaker (λ (x : Entry). x.number < floor) (λ (x : Entry). x.number < next) (λ x l. omega (arith, l, drawn.low, drawn.high)) c.args.entries.now.entries c.requires.below) drawn.high);
+      below = rw c.push_handle.ensures.entries (All-push (λ (x : Entry). x.number < next) c.args.entries.now.entries e
+          (All-weaker (λ (x : Entry). x.number < floor) (λ (x : Entry). x.number < next) (λ x l. omega (arith, l, drawn.low, drawn.high)) c.args.entries.now.entries c.requires.below) drawn.high);
       room = rw c.push_handle.ensures.entries (omega (arith, drawn.left, c.requires.room, length_push c.args.entries.now.entries e));
       may = drawn.may;
     }

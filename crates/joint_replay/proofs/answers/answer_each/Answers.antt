@@ -26,4 +26,5 @@ loop-i-preserved c =
     ∙ (sym (answered-more s h a (take i cs) m xs) ∙ ap (λ l. answered_for s h a l xs) (sym (take_more cs i 0 c.loop-i-test.true))))))
 
 pub returns : goal.returns
-returns c = c.loop-i.invariant ∙ ap (λ l. answered_for c.args.managed.now c.args.h (said_as c.args.said) l (answers_as c.args.answers.now.items)) (take_all c.loop-i.i c.args.candidates.now (omega (arith, c.loop-i-test.false)))
+returns c = c.loop-i.invariant ∙ ap (λ l. answered_for c.args.managed.now c.args.h (said_as c.args.said) l (answers_as c.args.answers.now.items))
+    (take_all c.loop-i.i c.args.candidates.now (omega (arith, c.loop-i-test.false)))

@@ -6,4 +6,5 @@ use Rattle.joint_replay.specs.Answers.{said_as, answers_as, put_where}
 use Rattle.joint_replay.proofs.answers.put_answer.Goals as goal
 
 pub returns-then-i-len : goal.returns-then-i-len
-returns-then-i-len c = map-set (option_map said_as) c.args.answers.now.items c.args.i (Some c.args.said) ∙ ap (λ b. put_where b (answers_as c.args.answers.now.items) c.args.i (said_as c.args.said)) (sym c.if-wanted.true)
+returns-then-i-len c = map-set (option_map said_as) c.args.answers.now.items c.args.i (Some c.args.said)
+    ∙ ap (λ b. put_where b (answers_as c.args.answers.now.items) c.args.i (said_as c.args.said)) (sym c.if-wanted.true)

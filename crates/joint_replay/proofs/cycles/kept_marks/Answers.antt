@@ -6,7 +6,10 @@ use Rattle.joint_replay.proofs.Snapping.{kept-within}
 use Rattle.joint_replay.proofs.cycles.kept_marks.Goals as goal
 
 pub reached-requires : goal.reached-requires
-reached-requires c = record { roots = rw (c.deref.ensures.value, c.heap.ensures) (kept-within c.args.managed.now c.args.peers.now c.args.candidates.now c.in_ok-kept.kept.items c.in_ok-kept.ensures c.requires) }
+reached-requires c = record {
+  roots = rw (c.deref.ensures.value, c.heap.ensures)
+      (kept-within c.args.managed.now c.args.peers.now c.args.candidates.now c.in_ok-kept.kept.items c.in_ok-kept.ensures c.requires);
+}
 
 pub returns : goal.returns
 returns c =

@@ -16,7 +16,8 @@ loop-h-preserved c =
     let old = c.args.roots.now.items in
     let now = c.loop-h.roots.items in
     elim c.match-rooted_peer.branch [
-      | in-Some+in_ok-push w ↦ rw (w.roots-is, w.in_ok-push.ensures.items) (gains-push brings h w.in-Some.p old now ((w.in-Some.ensures w.in-Some.p).0 refl) (λ k b. (let e = (w.in-Some.ensures k).1 b in cc)) c.loop-h.invariant)
+      | in-Some+in_ok-push w ↦ rw (w.roots-is, w.in_ok-push.ensures.items)
+          (gains-push brings h w.in-Some.p old now ((w.in-Some.ensures w.in-Some.p).0 refl) (λ k b. (let e = (w.in-Some.ensures k).1 b in cc)) c.loop-h.invariant)
       | in_default w ↦ rw w.roots-is (gains-skip brings h old now (λ k b. (let e = (w.in_default.ensures k).1 b in cc)) c.loop-h.invariant)
     ]
 

@@ -8,10 +8,16 @@ use Rattle.joint_replay.proofs.Finding.{marks-open, live-reached, FindsRows-from
 use Rattle.joint_replay.proofs.found.find.Goals as goal
 
 pub reached-requires : goal.reached-requires
-reached-requires c = record { roots = subst (λ z. All (λ y. y < length c.args.heap.now.fields + 1) z) (sym c.deref.ensures.value) (roots-within c.args.heap.now c.in_ok-roots.roots.items (λ x k. ((c.in_ok-roots.ensures x).0 k).0)) }
+reached-requires c = record {
+  roots = subst (λ z. All (λ y. y < length c.args.heap.now.fields + 1) z) (sym c.deref.ensures.value)
+      (roots-within c.args.heap.now c.in_ok-roots.roots.items (λ x k. ((c.in_ok-roots.ensures x).0 k).0));
+}
 
 pub reached-requires-2 : goal.reached-requires-2
-reached-requires-2 c = record { roots = subst (λ z. All (λ y. y < length c.args.heap.now.fields + 1) z) (sym c.deref-2.ensures.value) (roots-within c.args.heap.now c.in_ok-bridge_roots.bridge_roots.items (λ x k. ((c.in_ok-bridge_roots.ensures x).0 k).0)) }
+reached-requires-2 c = record {
+  roots = subst (λ z. All (λ y. y < length c.args.heap.now.fields + 1) z) (sym c.deref-2.ensures.value)
+      (roots-within c.args.heap.now c.in_ok-bridge_roots.bridge_roots.items (λ x k. ((c.in_ok-bridge_roots.ensures x).0 k).0));
+}
 
 pub returns : goal.returns
 returns c =
@@ -24,4 +30,5 @@ returns c =
     FindsRows-from h held pins slots bridges _ _ _
     (λ k l. (λ m. (live-reached h (IsNamedOrPinned h pins) k l).0 ((s k).0 m), λ r. (s k).1 ((live-reached h (IsNamedOrPinned h pins) k l).1 r)))
     (marks-open h (IsBridgeRow h held) _ bridges c.in_ok-bridge_roots.ensures (rw c.deref-2.ensures.value at c.in_ok-bridges.ensures.marks))
-    (rw (c.deref-3.ensures.value, c.deref-4.ensures.value) at c.in_ok-freed.ensures) (rw (c.deref-5.ensures.value, c.deref-6.ensures.value) at c.in_ok-dead.ensures) (rw c.deref-7.ensures.value at c.in_ok-candidates.ensures)
+    (rw (c.deref-3.ensures.value, c.deref-4.ensures.value) at c.in_ok-freed.ensures)
+    (rw (c.deref-5.ensures.value, c.deref-6.ensures.value) at c.in_ok-dead.ensures) (rw c.deref-7.ensures.value at c.in_ok-candidates.ensures)

@@ -10,12 +10,14 @@ pub loop-m-preserved : goal.loop-m-preserved
 loop-m-preserved c =
     let wanted = IsCandidateRow c.args.heap.now c.args.held.now c.args.slots.now in
     elim c.if-is_candidate.branch [
-      | then-is_candidate+in_ok-push w ↦ rw (w.rows-is, w.in_ok-push.ensures.items) (Gathered-push wanted c.loop-m.m c.loop-m.rows.items c.loop-m.invariant (test-true (wanted c.loop-m.m) _ c.is_candidate.ensures w.if-is_candidate.true))
+      | then-is_candidate+in_ok-push w ↦ rw (w.rows-is, w.in_ok-push.ensures.items)
+          (Gathered-push wanted c.loop-m.m c.loop-m.rows.items c.loop-m.invariant (test-true (wanted c.loop-m.m) _ c.is_candidate.ensures w.if-is_candidate.true))
       | else-is_candidate w ↦ rw w.rows-is (Gathered-skip wanted c.loop-m.m c.loop-m.rows.items c.loop-m.invariant (test-false (wanted c.loop-m.m) _ c.is_candidate.ensures w.if-is_candidate.false))
     ]
 
 pub returns : goal.returns
 returns c = record {
   rise = c.loop-m.invariant.rises;
-  exact = λ m. Gathered-all (IsCandidateRow c.args.heap.now c.args.held.now c.args.slots.now) c.loop-m.m c.loop-m.rows.items c.loop-m.invariant (λ k w. made-below c.args.heap.now k c.loop-m.m w.0 (omega (arith, c.loop-m-test.false, c.made-m-end.ensures.made))) m;
+  exact = λ m. Gathered-all (IsCandidateRow c.args.heap.now c.args.held.now c.args.slots.now) c.loop-m.m c.loop-m.rows.items c.loop-m.invariant
+      (λ k w. made-below c.args.heap.now k c.loop-m.m w.0 (omega (arith, c.loop-m-test.false, c.made-m-end.ensures.made))) m;
 }

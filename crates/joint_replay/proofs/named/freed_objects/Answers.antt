@@ -7,8 +7,10 @@ use Rattle.joint_replay.proofs.named.freed_objects.Goals as goal
 pub loop-i-preserved : goal.loop-i-preserved
 loop-i-preserved c = record {
   count = omega (arith, c.loop-i.invariant.count, ap length c.in_ok-push-in-Some.ensures.items, length-append c.loop-i.numbers.items (c.in-Some.m.0 ∷ []));
-  read = stretch-next (λ (m : MNum). m.0) c.args.h.now.freed_managed c.args.span.first c.loop-i.i (c.args.span.first + c.loop-i.i) c.in-Some.m c.loop-i.numbers.items _ refl (sym c.in-Some.ensures) c.loop-i.invariant.read c.in_ok-push-in-Some.ensures.items;
+  read = stretch-next (λ (m : MNum). m.0) c.args.h.now.freed_managed c.args.span.first c.loop-i.i
+      (c.args.span.first + c.loop-i.i) c.in-Some.m c.loop-i.numbers.items _ refl (sym c.in-Some.ensures) c.loop-i.invariant.read c.in_ok-push-in-Some.ensures.items;
 }
 
 pub returns : goal.returns
-returns c = stretch-read (λ (m : MNum). m.0) c.args.h.now.freed_managed c.args.span.first c.args.span.count c.loop-i.i c.loop-i.numbers.items (omega (arith, c.loop-i-test.false, c.loop-i.auto.i-end)) c.loop-i.invariant.count c.loop-i.invariant.read
+returns c = stretch-read (λ (m : MNum). m.0) c.args.h.now.freed_managed c.args.span.first c.args.span.count c.loop-i.i c.loop-i.numbers.items
+    (omega (arith, c.loop-i-test.false, c.loop-i.auto.i-end)) c.loop-i.invariant.count c.loop-i.invariant.read

@@ -10,9 +10,11 @@ pub loop-m-preserved : goal.loop-m-preserved
 loop-m-preserved c =
     let wanted = IsBridgeRow c.args.heap.now c.args.held.now in
     elim c.if-is_bridge.branch [
-      | then-is_bridge+in_ok-push w ↦ rw (w.rows-is, w.in_ok-push.ensures.items) (Gathered-push wanted c.loop-m.m c.loop-m.rows.items c.loop-m.invariant (test-true (wanted c.loop-m.m) _ c.is_bridge.ensures w.if-is_bridge.true))
+      | then-is_bridge+in_ok-push w ↦ rw (w.rows-is, w.in_ok-push.ensures.items)
+          (Gathered-push wanted c.loop-m.m c.loop-m.rows.items c.loop-m.invariant (test-true (wanted c.loop-m.m) _ c.is_bridge.ensures w.if-is_bridge.true))
       | else-is_bridge w ↦ rw w.rows-is (Gathered-skip wanted c.loop-m.m c.loop-m.rows.items c.loop-m.invariant (test-false (wanted c.loop-m.m) _ c.is_bridge.ensures w.if-is_bridge.false))
     ]
 
 pub returns : goal.returns
-returns c = λ m. Gathered-all (IsBridgeRow c.args.heap.now c.args.held.now) c.loop-m.m c.loop-m.rows.items c.loop-m.invariant (λ k w. made-below c.args.heap.now k c.loop-m.m w.0 (omega (arith, c.loop-m-test.false, c.made-m-end.ensures.made))) m
+returns c = λ m. Gathered-all (IsBridgeRow c.args.heap.now c.args.held.now) c.loop-m.m c.loop-m.rows.items c.loop-m.invariant
+    (λ k w. made-below c.args.heap.now k c.loop-m.m w.0 (omega (arith, c.loop-m-test.false, c.made-m-end.ensures.made))) m

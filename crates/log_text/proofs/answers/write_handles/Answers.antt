@@ -20,8 +20,10 @@ returns-in_err-write_handle g c =
     let hs = c.args.handles.now in
     let sent = rw (drop-cons hs i nothing c.loop-h-test.true) at c.loop-h.invariant.sent in
     rw (passed_on c.from_residual.result c.in_err-write_handle.field-0.0 c.from_residual.ensures.0 c.from_residual.ensures.1)
-    (not-sent handle_text hs (get_or hs i nothing) _ (g.K.Sink.held c.args.out.now) (g.K.Sink.held c.loop-h.out) (g.K.Sink.held c.write_handle.new.out) c.args.line.now.text c.loop-h.line.text c.write_handle.new.line.text
-    (g.K.Sink.faults c.args.out.now) (g.K.Sink.faults c.loop-h.out) (g.K.Sink.faults c.write_handle.new.out) c.in_err-write_handle.field-0.0 (pieces handle_text hs) refl sent c.loop-h.invariant.later c.in_err-write_handle.ensures)
+    (not-sent handle_text hs (get_or hs i nothing) _ (g.K.Sink.held c.args.out.now) (g.K.Sink.held c.loop-h.out)
+    (g.K.Sink.held c.write_handle.new.out) c.args.line.now.text c.loop-h.line.text c.write_handle.new.line.text
+    (g.K.Sink.faults c.args.out.now) (g.K.Sink.faults c.loop-h.out) (g.K.Sink.faults c.write_handle.new.out) c.in_err-write_handle.field-0.0
+    (pieces handle_text hs) refl sent c.loop-h.invariant.later c.in_err-write_handle.ensures)
 
 pub loop-h-preserved : goal.loop-h-preserved
 unfolding nothing
@@ -31,7 +33,8 @@ loop-h-preserved g c =
     let sent = rw (drop-cons hs i nothing c.loop-h-test.true) at c.loop-h.invariant.sent in
     let w = c.in_ok-write_handle.ensures in
     record {
-      sent = rw add-one (one-more handle_text hs (get_or hs i nothing) _ (g.K.Sink.held c.args.out.now) (g.K.Sink.held c.loop-h.out) (g.K.Sink.held c.write_handle.new.out) c.args.line.now.text c.loop-h.line.text c.write_handle.new.line.text sent w.whole);
+      sent = rw add-one (one-more handle_text hs (get_or hs i nothing) _ (g.K.Sink.held c.args.out.now) (g.K.Sink.held c.loop-h.out)
+          (g.K.Sink.held c.write_handle.new.out) c.args.line.now.text c.loop-h.line.text c.write_handle.new.line.text sent w.whole);
       later = omega (arith, w.cause.later);
     }
 

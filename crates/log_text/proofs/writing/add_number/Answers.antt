@@ -7,6 +7,7 @@ returns c =
     let n = c.args.n in
     let low : n - n / 100 * 100 ≡ n % 100 = omega arith in
     record {
-      added = rw (decimal_pair n (omega arith) (omega arith), c.text.ensures.added, c.pair_of.ensures, low, c.count.ensures.added, c.go_to.ensures) (append_assoc c.args.line.now.text (decimal (n / 100)) ((48 + n % 100 / 10) ∷ (48 + n % 100 % 10) ∷ []));
+      added = rw (decimal_pair n (omega arith) (omega arith), c.text.ensures.added, c.pair_of.ensures, low, c.count.ensures.added, c.go_to.ensures)
+          (append_assoc c.args.line.now.text (decimal (n / 100)) ((48 + n % 100 / 10) ∷ (48 + n % 100 % 10) ∷ []));
       left = omega (arith, c.text.ensures.left, c.count.ensures.left, c.pair_of.ensures);
     }

@@ -7,9 +7,11 @@ use Rattle.log_text.proofs.writing.write_line.Goals as goal
 pub returns-in_err-make_room : goal.returns-in_err-make_room
 returns-in_err-make_room g c =
     rw (passed_on c.from_residual.result c.in_err-make_room.field-0.0 c.from_residual.ensures.0 c.from_residual.ensures.1)
-    (Sends-short (g.K.Sink.held c.args.out.now) (g.K.Sink.held c.make_room.new.out) c.args.line.now.text c.make_room.new.self.text (g.K.Sink.faults c.args.out.now) (g.K.Sink.faults c.make_room.new.out) c.in_err-make_room.field-0.0 [] (line_text c.args.entry.now ++ 10 ∷ []) c.in_err-make_room.ensures.sent)
+    (Sends-short (g.K.Sink.held c.args.out.now) (g.K.Sink.held c.make_room.new.out) c.args.line.now.text c.make_room.new.self.text (g.K.Sink.faults c.args.out.now)
+    (g.K.Sink.faults c.make_room.new.out) c.in_err-make_room.field-0.0 [] (line_text c.args.entry.now ++ 10 ∷ []) c.in_err-make_room.ensures.sent)
 
 pub returns : goal.returns
 returns g c =
     let w = c.in_ok-make_room.ensures.sent in
-    Sends-put (g.K.Sink.held c.args.out.now) (g.K.Sink.held c.make_room.new.out) c.args.line.now.text c.make_room.new.self.text c.add_line.new.line.text (g.K.Sink.faults c.args.out.now) (g.K.Sink.faults c.make_room.new.out) _ [] (line_text c.args.entry.now ++ 10 ∷ []) w.whole w.cause.later c.add_line.ensures.added
+    Sends-put (g.K.Sink.held c.args.out.now) (g.K.Sink.held c.make_room.new.out) c.args.line.now.text c.make_room.new.self.text c.add_line.new.line.text
+    (g.K.Sink.faults c.args.out.now) (g.K.Sink.faults c.make_room.new.out) _ [] (line_text c.args.entry.now ++ 10 ∷ []) w.whole w.cause.later c.add_line.ensures.added

@@ -16,7 +16,8 @@ returns-clause-edges c =
     let within : y < length places = subst (λ (f : Option ℕ). IfSome f (λ z. z < length places)) c.in-Some.is c.requires.named in
     let few : c.args.i < length es = omega (arith, c.requires.from, c.nodes.ensures.part.rows) in
     on_ok_weaker c.edge.result (λ e a k. subst (λ (f : Option ℕ). NodeLeads c.edge.new.self.edges a k ↔ (NodeLeads es a k ⊎ ((a ≡ c.args.i) × IsPlaceOf places f k))) (sym c.in-Some.is)
-    (subst (λ (ls : List (List ℕ)). NodeLeads ls a k ↔ (NodeLeads es a k ⊎ ((a ≡ c.args.i) × IsPlaceOf places (Some y) k))) (sym e) (placed-more places es c.args.i a k y (get_or places y 0) few (slice_get-get_or places y 0 within) c.if-place-eq0.false))) c.edge.ensures.edges
+    (subst (λ (ls : List (List ℕ)). NodeLeads ls a k ↔ (NodeLeads es a k ⊎ ((a ≡ c.args.i) × IsPlaceOf places (Some y) k))) (sym e)
+    (placed-more places es c.args.i a k y (get_or places y 0) few (slice_get-get_or places y 0 within) c.if-place-eq0.false))) c.edge.ensures.edges
 
 pub edge-requires-clause-to : goal.edge-requires-clause-to
 edge-requires-clause-to c =

@@ -14,17 +14,20 @@ pub handle_at-requires : goal.handle_at-requires
 handle_at-requires c =
     let d : MNum = record { 0 = 0 } in
     let x = get_or c.args.dead.now c.loop-m.m-index d in
-    let live = c.requires.live x.0 (Contains-at (managed_numbers c.args.dead.now) c.loop-m.m-index x.0 (number-at c.args.dead.now c.loop-m.m-index x (slice_get-get_or c.args.dead.now c.loop-m.m-index d c.loop-m-test.true))) in
+    let live = c.requires.live x.0 (Contains-at (managed_numbers c.args.dead.now) c.loop-m.m-index x.0
+    (number-at c.args.dead.now c.loop-m.m-index x (slice_get-get_or c.args.dead.now c.loop-m.m-index d c.loop-m-test.true))) in
     record { row = (live.made.0, omega (arith, live.made.1, c.requires.infos)) }
 
 pub fields_len-requires : goal.fields_len-requires
 fields_len-requires c =
     let d : MNum = record { 0 = 0 } in
     let x = get_or c.args.dead.now c.loop-m.m-index d in
-    c.requires.live x.0 (Contains-at (managed_numbers c.args.dead.now) c.loop-m.m-index x.0 (number-at c.args.dead.now c.loop-m.m-index x (slice_get-get_or c.args.dead.now c.loop-m.m-index d c.loop-m-test.true)))
+    c.requires.live x.0 (Contains-at (managed_numbers c.args.dead.now) c.loop-m.m-index x.0
+    (number-at c.args.dead.now c.loop-m.m-index x (slice_get-get_or c.args.dead.now c.loop-m.m-index d c.loop-m-test.true)))
 
 pub node-requires-clause-rising : goal.node-requires-clause-rising
 node-requires-clause-rising c =
     let d : MNum = record { 0 = 0 } in
     let x = get_or c.args.dead.now c.loop-m.m-index d in
-    subst (λ (ns : List Node). All (λ (n : Node). n.number.0 < x.0) ns) (sym c.loop-m.invariant.nodes) (nodes-below c.args.heap.now.heap (map (λ (i : Held). i.handle) c.args.infos.now) c.args.dead.now c.loop-m.m-index d c.requires.rise c.loop-m-test.true)
+    subst (λ (ns : List Node). All (λ (n : Node). n.number.0 < x.0) ns) (sym c.loop-m.invariant.nodes)
+    (nodes-below c.args.heap.now.heap (map (λ (i : Held). i.handle) c.args.infos.now) c.args.dead.now c.loop-m.m-index d c.requires.rise c.loop-m-test.true)

@@ -12,7 +12,8 @@ loop-j-preserved c =
     let within : c.loop-j.j < length fields = omega (arith, c.loop-j-test.true, c.fields_len-j-end.ensures) in
     record {
       nodes = c.add_edge.ensures.nodes ∙ c.loop-j.invariant.nodes;
-      edges = fields-more c.args.places.now fields c.loop-j.j c.args.i c.field.result c.args.builder.now.edges c.loop-j.builder.edges c.add_edge.new.builder.edges (slot-at fields c.loop-j.j c.field.result within c.field.ensures.value) c.loop-j.invariant.edges c.in_ok-add_edge.ensures.edges;
+      edges = fields-more c.args.places.now fields c.loop-j.j c.args.i c.field.result c.args.builder.now.edges c.loop-j.builder.edges c.add_edge.new.builder.edges
+          (slot-at fields c.loop-j.j c.field.result within c.field.ensures.value) c.loop-j.invariant.edges c.in_ok-add_edge.ensures.edges;
       spare = omega (arith, c.loop-j.invariant.spare, c.in_ok-add_edge.ensures.spare);
     }
 

@@ -14,6 +14,7 @@ loop-i-preserved c =
     let low = c.requires.within c.loop-i.i d c.loop-i-test.true in
     let within : x.0 < length c.loop-i.places.items = omega (arith, low, c.loop-i.invariant.len) in
     record {
-      places = ArePlaces-next (managed_numbers c.args.dead.now) c.loop-i.places.items c.loop-i.i x.0 c.requires.rise (number-at c.args.dead.now c.loop-i.i x (slice_get-get_or c.args.dead.now c.loop-i.i d c.loop-i-test.true)) within c.loop-i.invariant.places;
+      places = ArePlaces-next (managed_numbers c.args.dead.now) c.loop-i.places.items c.loop-i.i x.0 c.requires.rise
+          (number-at c.args.dead.now c.loop-i.i x (slice_get-get_or c.args.dead.now c.loop-i.i d c.loop-i-test.true)) within c.loop-i.invariant.places;
       len = length-set c.loop-i.places.items x.0 (c.loop-i.i + 1) ∙ c.loop-i.invariant.len;
     }

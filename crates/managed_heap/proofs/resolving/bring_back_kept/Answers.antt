@@ -26,10 +26,12 @@ loop-i-preserved c =
     let i = c.loop-i.i in
     let here : i < length cs = omega (arith, c.requires.answers, c.loop-i-test.true, c.len-i-end.ensures) in
     record {
-      marks = bring-next c.args.heap.now c.loop-i.heap c.bring_back_if.new.heap cs c.args.alive.now.values i (get_or cs i 0) c.answer_at.result c.loop-i.invariant.rest (slice_get-get_or cs i 0 here) c.answer_at.ensures c.loop-i.invariant.marks (rw c.is_some-kept.ensures at c.bring_back_if.ensures.marks);
+      marks = bring-next c.args.heap.now c.loop-i.heap c.bring_back_if.new.heap cs c.args.alive.now.values i (get_or cs i 0) c.answer_at.result c.loop-i.invariant.rest
+          (slice_get-get_or cs i 0 here) c.answer_at.ensures c.loop-i.invariant.marks (rw c.is_some-kept.ensures at c.bring_back_if.ensures.marks);
       shut = λ x y e m. c.bring_back_if.ensures.shut x y (edges-same c.args.heap.now c.loop-i.heap x y c.loop-i.invariant.rest e) m;
       rest = c.bring_back_if.ensures.rest ∙ ap (λ (h : HeapRows). record h { marks = c.bring_back_if.new.heap.marks; links = c.bring_back_if.new.heap.links }) c.loop-i.invariant.rest;
     }
 
 pub returns-clause-marks : goal.returns-clause-marks
-returns-clause-marks c = bring-all c.args.heap.now c.loop-i.heap c.args.candidates.now c.args.alive.now.values c.loop-i.i (omega (arith, c.loop-i-test.false, c.len-i-end.ensures)) c.loop-i.invariant.marks
+returns-clause-marks c = bring-all c.args.heap.now c.loop-i.heap c.args.candidates.now c.args.alive.now.values c.loop-i.i
+    (omega (arith, c.loop-i-test.false, c.len-i-end.ensures)) c.loop-i.invariant.marks

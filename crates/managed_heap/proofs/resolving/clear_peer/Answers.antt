@@ -11,7 +11,8 @@ use Rattle.managed_heap.proofs.resolving.clear_peer.Goals as goal
 pub returns-in-None-clause-cleared : goal.returns-in-None-clause-cleared
 returns-in-None-clause-cleared c =
     let infos = c.args.infos.now.items in
-    AreCleared-none (peers_of infos) c.args.m.0 (numbered-read (λ (i : Held). i.peer) infos c.args.m.0 c.index.result.now c.requires.row.0 (omega (arith, c.requires.row.1, length-map infos (λ (i : Held). i.peer))) c.index.ensures ∙ ap Some c.in-None.is)
+    AreCleared-none (peers_of infos) c.args.m.0 (numbered-read (λ (i : Held). i.peer) infos c.args.m.0 c.index.result.now c.requires.row.0
+    (omega (arith, c.requires.row.1, length-map infos (λ (i : Held). i.peer))) c.index.ensures ∙ ap Some c.in-None.is)
 
 pub returns-in-Some-clause-cleared : goal.returns-in-Some-clause-cleared
 returns-in-Some-clause-cleared c = AreCleared-set c.args.infos.now.items c.args.m.0 _ c.requires.row.0 refl

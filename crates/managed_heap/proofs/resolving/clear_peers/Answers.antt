@@ -16,14 +16,17 @@ loop-m-init c = record { cleared = AreCleared-start (peers_of c.args.infos.now.i
 
 pub clear_peer-requires : goal.clear_peer-requires
 clear_peer-requires c =
-    let many : length c.loop-m.infos.items ≡ length c.args.infos.now.items = sym (length-map c.loop-m.infos.items (λ (i : Held). i.kind)) ∙ (ap length c.loop-m.invariant.kinds ∙ length-map c.args.infos.now.items (λ (i : Held). i.kind)) in
+    let many : length c.loop-m.infos.items ≡ length c.args.infos.now.items = sym (length-map c.loop-m.infos.items (λ (i : Held). i.kind))
+    ∙ (ap length c.loop-m.invariant.kinds ∙ length-map c.args.infos.now.items (λ (i : Held). i.kind)) in
     let row = c.requires.rows c.loop-m.m-index record { 0 = 0 } c.loop-m-test.true in
     record { row = (row.0, omega (arith, row.1, many)) }
 
 pub loop-m-preserved : goal.loop-m-preserved
 loop-m-preserved c = record {
-  cleared = subst (λ xs. AreCleared (peers_of c.args.infos.now.items) (peers_of c.clear_peer.new.infos.items) xs) (sym (numbers-more c.args.rows.now c.loop-m.m-index record { 0 = 0 } c.loop-m-test.true))
-      (AreCleared-then (peers_of c.args.infos.now.items) (peers_of c.loop-m.infos.items) (peers_of c.clear_peer.new.infos.items) _ ((get_or c.args.rows.now c.loop-m.m-index record { 0 = 0 }).0 ∷ []) c.loop-m.invariant.cleared c.clear_peer.ensures.cleared);
+  cleared = subst (λ xs. AreCleared (peers_of c.args.infos.now.items) (peers_of c.clear_peer.new.infos.items) xs)
+      (sym (numbers-more c.args.rows.now c.loop-m.m-index record { 0 = 0 } c.loop-m-test.true))
+      (AreCleared-then (peers_of c.args.infos.now.items) (peers_of c.loop-m.infos.items) (peers_of c.clear_peer.new.infos.items) _
+      ((get_or c.args.rows.now c.loop-m.m-index record { 0 = 0 }).0 ∷ []) c.loop-m.invariant.cleared c.clear_peer.ensures.cleared);
   none = elim c.if-clear_peer.branch [
     | then-clear_peer w ↦ λ e. absurd (true_false (sym w.any-is ∙ e))
     | else-clear_peer w ↦ λ e. c.clear_peer.ensures.none w.if-clear_peer.false ∙ c.loop-m.invariant.none (sym w.any-is ∙ e)
@@ -33,4 +36,5 @@ loop-m-preserved c = record {
 }
 
 pub returns-clause-cleared : goal.returns-clause-cleared
-returns-clause-cleared c = subst (λ (ms : List MNum). AreCleared (peers_of c.args.infos.now.items) (peers_of c.loop-m.infos.items) (managed_numbers ms)) (take_all c.loop-m.m-index c.args.rows.now (omega (arith, c.loop-m-test.false))) c.loop-m.invariant.cleared
+returns-clause-cleared c = subst (λ (ms : List MNum). AreCleared (peers_of c.args.infos.now.items) (peers_of c.loop-m.infos.items) (managed_numbers ms))
+    (take_all c.loop-m.m-index c.args.rows.now (omega (arith, c.loop-m-test.false))) c.loop-m.invariant.cleared

@@ -13,11 +13,19 @@ loop-i-preserved c =
     let within : i < length said = omega (arith, c.loop-i-test.true, c.len-i-end.ensures) in
     elim c.if-is_some.branch [
       | then-is_some w ↦ record {
-        count = rw (w.count-is, count_by_more_yes is_some said i None within (ap is_some (get_or_from_slice_get said i c.answer_at.result None c.answer_at.ensures) ∙ (sym c.is_some.ensures ∙ w.if-is_some.true))) (omega (arith, c.loop-i.invariant.count));
+        count = rw (
+          w.count-is,
+          count_by_more_yes is_some said i None within
+              (ap is_some (get_or_from_slice_get said i c.answer_at.result None c.answer_at.ensures) ∙ (sym c.is_some.ensures ∙ w.if-is_some.true)),
+        ) (omega (arith, c.loop-i.invariant.count));
         within = rw w.count-is (omega (arith, c.loop-i.invariant.within));
       }
       | else-is_some w ↦ record {
-        count = rw (w.count-is, count_by_more_no is_some said i None within (ap is_some (get_or_from_slice_get said i c.answer_at.result None c.answer_at.ensures) ∙ (sym c.is_some.ensures ∙ w.if-is_some.false))) c.loop-i.invariant.count;
+        count = rw (
+          w.count-is,
+          count_by_more_no is_some said i None within
+              (ap is_some (get_or_from_slice_get said i c.answer_at.result None c.answer_at.ensures) ∙ (sym c.is_some.ensures ∙ w.if-is_some.false)),
+        ) c.loop-i.invariant.count;
         within = rw w.count-is (omega (arith, c.loop-i.invariant.within));
       }
     ]

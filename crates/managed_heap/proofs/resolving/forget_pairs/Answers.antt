@@ -18,13 +18,16 @@ returns-then-clear_peers-clause-pairs c =
     ∙ pairs-left c.args.registry.now c.args.infos.now.items c.clear_peers.new.infos.items (managed_numbers c.args.rows.now) c.requires.peers c.clear_peers.ensures.cleared
 
 pub returns-then-clear_peers-clause-peers : goal.returns-then-clear_peers-clause-peers
-returns-then-clear_peers-clause-peers c = ArePeers-left c.args.registry.now c.retain.new.self c.args.infos.now.items c.clear_peers.new.infos.items (managed_numbers c.args.rows.now) c.requires.peers c.clear_peers.ensures.cleared (returns-then-clear_peers-clause-pairs c)
+returns-then-clear_peers-clause-peers c = ArePeers-left c.args.registry.now c.retain.new.self c.args.infos.now.items c.clear_peers.new.infos.items
+    (managed_numbers c.args.rows.now) c.requires.peers c.clear_peers.ensures.cleared (returns-then-clear_peers-clause-pairs c)
 
 pub returns-else-clear_peers-clause-pairs : goal.returns-else-clear_peers-clause-pairs
 returns-else-clear_peers-clause-pairs c =
     let infos = c.args.infos.now.items in
     let ms = managed_numbers c.args.rows.now in
-    pairs-same c.args.registry.now infos ms c.requires.peers (subst (λ (z : List Held). AreCleared (peers_of infos) (peers_of z) ms) (c.clear_peers.ensures.none c.if-clear_peers.false) c.clear_peers.ensures.cleared)
+    pairs-same c.args.registry.now infos ms c.requires.peers (subst (λ (z : List Held). AreCleared (peers_of infos) (peers_of z) ms)
+    (c.clear_peers.ensures.none c.if-clear_peers.false) c.clear_peers.ensures.cleared)
 
 pub returns-else-clear_peers-clause-peers : goal.returns-else-clear_peers-clause-peers
-returns-else-clear_peers-clause-peers c = ArePeers-left c.args.registry.now c.args.registry.now c.args.infos.now.items c.clear_peers.new.infos.items (managed_numbers c.args.rows.now) c.requires.peers c.clear_peers.ensures.cleared (returns-else-clear_peers-clause-pairs c)
+returns-else-clear_peers-clause-peers c = ArePeers-left c.args.registry.now c.args.registry.now c.args.infos.now.items c.clear_peers.new.infos.items
+    (managed_numbers c.args.rows.now) c.requires.peers c.clear_peers.ensures.cleared (returns-else-clear_peers-clause-pairs c)

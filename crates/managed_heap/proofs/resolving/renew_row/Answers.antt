@@ -8,7 +8,8 @@ use Rattle.managed_heap.specs.declared.rows.Held.{Held}
 use Rattle.managed_heap.proofs.resolving.renew_row.Goals as goal
 
 pub returns-in-Some-clause-handles : goal.returns-in-Some-clause-handles
-returns-in-Some-clause-handles c = map-set_number (λ (i : Held). i.handle) c.args.infos.now.items c.args.m _ c.requires.row.0 ∙ ap (λ b. renewed (map (λ (i : Held). i.handle) c.args.infos.now.items) (c.args.m ∷ []) (answer_of b ∷ [])) (sym c.in-Some.is)
+returns-in-Some-clause-handles c = map-set_number (λ (i : Held). i.handle) c.args.infos.now.items c.args.m _ c.requires.row.0
+    ∙ ap (λ b. renewed (map (λ (i : Held). i.handle) c.args.infos.now.items) (c.args.m ∷ []) (answer_of b ∷ [])) (sym c.in-Some.is)
 
 pub returns-in-Some-clause-kinds : goal.returns-in-Some-clause-kinds
 returns-in-Some-clause-kinds c = map-set_same (λ (i : Held). i.kind) c.args.infos.now.items _ _ c.index_mut.result.now (ap (λ (i : Held). i.kind) c.index_mut.ensures.value)

@@ -17,4 +17,5 @@ returns-clause-candidates c = ap (λ (z : OpenCycle). z.candidates) c.cycle.view
 
 pub returns-clause-freed : goal.returns-clause-freed
 returns-clause-freed c =
-    ap managed_numbers c.keep_unmarked.ensures ∙ (unmarked-numbers c.bring_back_kept.new.heap.marks c.cycle.inside.dead.items ∙ ap (λ (z : OpenCycle). unmarked_of c.bring_back_kept.new.heap.marks z.dead) c.cycle.view_is)
+    ap managed_numbers c.keep_unmarked.ensures ∙ (unmarked-numbers c.bring_back_kept.new.heap.marks c.cycle.inside.dead.items
+    ∙ ap (λ (z : OpenCycle). unmarked_of c.bring_back_kept.new.heap.marks z.dead) c.cycle.view_is)

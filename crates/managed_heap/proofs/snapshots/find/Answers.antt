@@ -10,7 +10,8 @@ use Rattle.managed_heap.proofs.snapshots.find.Goals as goal
 pub bring_back_all-requires-clause-live : goal.bring_back_all-requires-clause-live
 bring_back_all-requires-clause-live c =
     let picked = rw c.deref.ensures.value at c.pick-candidates.ensures in
-    λ m k. picked-live c.args.heap.now (managed_numbers c.whites-freed.result.items) c.pick-candidates.result.items _ m c.whites-freed.ensures picked (subst (λ (xs : List ℕ). Contains xs m) c.deref-2.ensures.value k)
+    λ m k. picked-live c.args.heap.now (managed_numbers c.whites-freed.result.items) c.pick-candidates.result.items _ m c.whites-freed.ensures picked
+    (subst (λ (xs : List ℕ). Contains xs m) c.deref-2.ensures.value k)
 
 pub returns-clause-finds : goal.returns-clause-finds
 returns-clause-finds c = record {

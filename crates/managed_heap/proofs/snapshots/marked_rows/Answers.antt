@@ -14,12 +14,15 @@ loop-m-preserved c =
     let test = marked c.args.heap.now.marks in
     elim c.if-has_mark.branch [
       | then-has_mark w ↦ record {
-        items = rw w.found-is (filter-push test c.args.rows.now (managed_numbers c.loop-m.found.items) _ c.loop-m.m-index d c.loop-m-test.true c.loop-m.invariant.items (sym c.has_mark.ensures ∙ w.if-has_mark.true) (ap managed_numbers w.push_reserved.ensures.items ∙ map-append (λ (m : MNum). m.0) c.loop-m.found.items (get_or c.args.rows.now c.loop-m.m-index d ∷ [])));
+        items = rw w.found-is (filter-push test c.args.rows.now (managed_numbers c.loop-m.found.items) _ c.loop-m.m-index d c.loop-m-test.true c.loop-m.invariant.items
+            (sym c.has_mark.ensures ∙ w.if-has_mark.true) (ap managed_numbers w.push_reserved.ensures.items
+            ∙ map-append (λ (m : MNum). m.0) c.loop-m.found.items (get_or c.args.rows.now c.loop-m.m-index d ∷ [])));
         capacity = rw w.found-is (w.push_reserved.ensures.capacity ∙ c.loop-m.invariant.capacity);
         few = (let many = ap length w.push_reserved.ensures.items ∙ length-append c.loop-m.found.items _ in rw w.found-is (omega (arith, many, c.loop-m.invariant.few)));
       }
       | else-has_mark w ↦ record {
-        items = rw w.found-is (filter-skip test c.args.rows.now (managed_numbers c.loop-m.found.items) c.loop-m.m-index d c.loop-m-test.true c.loop-m.invariant.items (sym c.has_mark.ensures ∙ w.if-has_mark.false));
+        items = rw w.found-is (filter-skip test c.args.rows.now (managed_numbers c.loop-m.found.items) c.loop-m.m-index d c.loop-m-test.true c.loop-m.invariant.items
+            (sym c.has_mark.ensures ∙ w.if-has_mark.false));
         capacity = rw w.found-is c.loop-m.invariant.capacity;
         few = rw w.found-is (omega (arith, c.loop-m.invariant.few));
       }

@@ -13,7 +13,8 @@ loop-m-preserved c =
     let test = has_handle (map (λ (i : Held). i.handle) c.args.infos.now) in
     elim c.if-holds.branch [
       | then-holds w ↦ record {
-        items = rw w.picked-is (filter-push test c.args.rows.now c.loop-m.picked.items _ c.loop-m.m-index d c.loop-m-test.true c.loop-m.invariant.items (sym c.holds.ensures ∙ w.if-holds.true) w.push_reserved.ensures.items);
+        items = rw w.picked-is (filter-push test c.args.rows.now c.loop-m.picked.items _ c.loop-m.m-index d c.loop-m-test.true c.loop-m.invariant.items
+            (sym c.holds.ensures ∙ w.if-holds.true) w.push_reserved.ensures.items);
         capacity = rw w.picked-is (w.push_reserved.ensures.capacity ∙ c.loop-m.invariant.capacity);
         few = (let many = ap length w.push_reserved.ensures.items ∙ length-append c.loop-m.picked.items _ in rw w.picked-is (omega (arith, many, c.loop-m.invariant.few)));
       }

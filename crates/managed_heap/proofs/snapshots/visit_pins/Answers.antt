@@ -18,7 +18,8 @@ pub visit-requires-clause-row : goal.visit-requires-clause-row
 visit-requires-clause-row c =
     let within : c.loop-t.t < length c.args.pins.now.at = omega (arith, c.told-pins, c.loop-t-test.true) in
     let held : get_or c.args.pins.now.at c.loop-t.t None ≡ Some c.in-Some.m = c.in-Some.is in
-    subst (λ (h : Heap). IsLive h c.in-Some.m.0) (sym (ap (λ (v : HeapRows). v.heap) c.loop-t.invariant.kept)) (c.requires.live c.in-Some.m.0 (pin-there c.args.pins.now.at c.loop-t.t c.in-Some.m (slice_get-get_or c.args.pins.now.at c.loop-t.t None within ∙ ap Some held)))
+    subst (λ (h : Heap). IsLive h c.in-Some.m.0) (sym (ap (λ (v : HeapRows). v.heap) c.loop-t.invariant.kept))
+    (c.requires.live c.in-Some.m.0 (pin-there c.args.pins.now.at c.loop-t.t c.in-Some.m (slice_get-get_or c.args.pins.now.at c.loop-t.t None within ∙ ap Some held)))
 
 pub loop-t-preserved : goal.loop-t-preserved
 loop-t-preserved c =
@@ -29,7 +30,8 @@ loop-t-preserved c =
           let held : get_or xs c.loop-t.t None ≡ Some w.in-Some.m = w.in-Some.is in
           record {
             kept = rw w.heap-is (w.visit.ensures.kept ∙ c.loop-t.invariant.kept);
-            greyed = rw (w.heap-is, w.grey-is) (greyed-some xs c.loop-t.t w.in-Some.m _ _ _ _ _ _ _ _ _ (slice_get-get_or xs c.loop-t.t None within ∙ ap Some held) c.loop-t.invariant.greyed w.visit.ensures.greyed);
+            greyed = rw (w.heap-is, w.grey-is) (greyed-some xs c.loop-t.t w.in-Some.m _ _ _ _ _ _ _ _ _
+                (slice_get-get_or xs c.loop-t.t None within ∙ ap Some held) c.loop-t.invariant.greyed w.visit.ensures.greyed);
           })
       | in_default w ↦ (
           let held : get_or xs c.loop-t.t None ≡ None = w.in_default.is in

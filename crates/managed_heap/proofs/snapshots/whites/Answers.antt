@@ -26,8 +26,16 @@ loop-m-preserved c =
     elim c.if-is_white.branch [
       | then-is_white w ↦
           let m : MNum = record { 0 = c.loop-m.m } in
-          record { gathered = rw (w.rows-is, w.push_reserved.ensures.items, map-append (λ k. k.0) c.loop-m.rows.items (m ∷ [])) (Gathered-push wanted c.loop-m.m (managed_numbers c.loop-m.rows.items) c.loop-m.invariant.gathered (test-true (wanted c.loop-m.m) _ c.is_white.ensures w.if-is_white.true)); capacity = rw w.rows-is (w.push_reserved.ensures.capacity ∙ c.loop-m.invariant.capacity) }
-      | else-is_white w ↦ record { gathered = rw w.rows-is (Gathered-skip wanted c.loop-m.m (managed_numbers c.loop-m.rows.items) c.loop-m.invariant.gathered (test-false (wanted c.loop-m.m) _ c.is_white.ensures w.if-is_white.false)); capacity = rw w.rows-is c.loop-m.invariant.capacity }
+          record {
+            gathered = rw (w.rows-is, w.push_reserved.ensures.items, map-append (λ k. k.0) c.loop-m.rows.items (m ∷ []))
+                (Gathered-push wanted c.loop-m.m (managed_numbers c.loop-m.rows.items) c.loop-m.invariant.gathered (test-true (wanted c.loop-m.m) _ c.is_white.ensures w.if-is_white.true));
+            capacity = rw w.rows-is (w.push_reserved.ensures.capacity ∙ c.loop-m.invariant.capacity);
+          }
+      | else-is_white w ↦ record {
+        gathered = rw w.rows-is (Gathered-skip wanted c.loop-m.m (managed_numbers c.loop-m.rows.items) c.loop-m.invariant.gathered
+            (test-false (wanted c.loop-m.m) _ c.is_white.ensures w.if-is_white.false));
+        capacity = rw w.rows-is c.loop-m.invariant.capacity;
+      }
     ]
 
 pub returns : goal.returns
@@ -35,7 +43,8 @@ returns c =
     let wanted : ℕ → Type 0 = λ m. IsLive c.args.heap.now.heap m × (HasMark c.args.heap.now.marks m → ⊥) in
     record {
       rises = c.loop-m.invariant.gathered.rises;
-      exact = Gathered-all wanted c.loop-m.m (managed_numbers c.loop-m.rows.items) c.loop-m.invariant.gathered (λ k w. made-below c.args.heap.now.heap k c.loop-m.m w.0 (omega (arith, c.loop-m-test.false, c.made-m-end.ensures.made)));
+      exact = Gathered-all wanted c.loop-m.m (managed_numbers c.loop-m.rows.items) c.loop-m.invariant.gathered
+          (λ k w. made-below c.args.heap.now.heap k c.loop-m.m w.0 (omega (arith, c.loop-m-test.false, c.made-m-end.ensures.made)));
     }
 
 -- the rows so far have numbers from 1 on and below this one

@@ -11,7 +11,8 @@ loop-e-preserved c =
     let i = c.loop-e.e-index in
     let e : Link = record { from = 0; to = 0 } in
     subst (AreEdges c.args.nodes) (sym (take_more edges i e c.loop-e-test.true))
-    (All-push (λ (l : Link). (l.from < c.args.nodes) × (l.to < c.args.nodes)) (take i edges) (get_or edges i e) c.loop-e.invariant (omega (arith, c.if-e-nodes.false), omega (arith, c.if-e-nodes-2.false)))
+    (All-push (λ (l : Link). (l.from < c.args.nodes) × (l.to < c.args.nodes)) (take i edges)
+    (get_or edges i e) c.loop-e.invariant (omega (arith, c.if-e-nodes.false), omega (arith, c.if-e-nodes-2.false)))
 
 pub returns : goal.returns
 returns c = subst (AreEdges c.args.nodes) (take_all c.loop-e.e-index c.args.edges.now c.loop-e-test.false) c.loop-e.invariant

@@ -16,9 +16,11 @@ of_rows-requires c =
     let ends : AreEdges (length kinds) edges = c.if-not-are_edges.ensures in
     let made : HasNodes kinds (length kinds) nodes = c.in_ok-nodes.ensures in
     let rows : length p.starts.items ≡ length kinds = omega (arith, c.in_ok-packed.ensures.count) in
-    packed-part kinds nodes p.starts.items p.targets.items made (omega (arith, c.if-kinds-gt-MOST_NODES.false)) rows c.in_ok-packed.ensures.packed.cut (omega (arith, c.in_ok-packed.ensures.most, c.if-edges-gt-MOST_EDGES.false))
+    packed-part kinds nodes p.starts.items p.targets.items made (omega (arith, c.if-kinds-gt-MOST_NODES.false)) rows c.in_ok-packed.ensures.packed.cut
+    (omega (arith, c.in_ok-packed.ensures.most, c.if-edges-gt-MOST_EDGES.false))
     (λ x y l. edge-end edges (length kinds) ends x y
-    ((pairs-lead edges (length kinds) p.starts.items p.targets.items ends c.in_ok-packed.ensures.packed rows x y).0 (subst (λ n. NodeLeads (packed_rows p.starts.items p.targets.items n) x y) made.count l)))
+    ((pairs-lead edges (length kinds) p.starts.items p.targets.items ends c.in_ok-packed.ensures.packed rows x y).0
+    (subst (λ n. NodeLeads (packed_rows p.starts.items p.targets.items n) x y) made.count l)))
 
 pub returns-clause-made : goal.returns-clause-made
 returns-clause-made c =

@@ -16,7 +16,8 @@ of_rows-requires c =
     let rows = c.if-not-are_rows.ensures in
     let made : HasNodes kinds (length kinds) nodes = c.in_ok-nodes.ensures in
     rw (c.in_ok-starts.ensures.items_if_clones_equal (λ x y e. e), c.in_ok-targets.ensures.items_if_clones_equal (λ x y e. e))
-    (packed-part kinds nodes starts targets made (omega (arith, c.if-kinds-gt-MOST_NODES.false)) rows.count (record { order = rows.cut.order; within = rows.cut.within }) (omega (arith, c.if-targets-gt-MOST_EDGES.false))
+    (packed-part kinds nodes starts targets made (omega (arith, c.if-kinds-gt-MOST_NODES.false)) rows.count
+    (record { order = rows.cut.order; within = rows.cut.within }) (omega (arith, c.if-targets-gt-MOST_EDGES.false))
     (λ x y l. row-ends (length kinds) starts targets rows.ends x y ((rows-lead starts targets (length nodes) (rows.count ∙ sym made.count) x y).0 l)))
 
 pub returns-clause-made : goal.returns-clause-made

@@ -16,7 +16,9 @@ returns-clause-grey c =
     let strong = strong_in c.args.table.now.rows in
     let h = c.begin_marking.new.self.heap in
     let grey = begins-grey h strong _ _ _ _ _ _ _ _ c.begin_marking.ensures.marks c.visit_slots.ensures.greyed c.visit_strong.ensures.greyed in
-    subst (λ (g : Heap). AreRootsGrey (IsRoot g strong) c.visit_strong.new.heap.marks c.visit_strong.new.heap.links c.visit_strong.new.grey) (ap (λ (v : HeapRows). v.heap) c.begin_marking.ensures.rest) grey
+    subst (λ (g : Heap). AreRootsGrey (IsRoot g strong) c.visit_strong.new.heap.marks c.visit_strong.new.heap.links c.visit_strong.new.grey)
+    (ap (λ (v : HeapRows). v.heap) c.begin_marking.ensures.rest) grey
 
 pub returns-clause-rest : goal.returns-clause-rest
-returns-clause-rest c = rest-begun c.args.heap.now c.begin_marking.new.self c.visit_slots.new.self c.visit_strong.new.heap c.begin_marking.ensures.rest c.visit_slots.ensures.rest c.visit_strong.ensures.rest
+returns-clause-rest c = rest-begun c.args.heap.now c.begin_marking.new.self c.visit_slots.new.self
+    c.visit_strong.new.heap c.begin_marking.ensures.rest c.visit_slots.ensures.rest c.visit_strong.ensures.rest

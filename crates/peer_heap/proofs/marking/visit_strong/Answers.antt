@@ -12,7 +12,10 @@ use Rattle.peer_heap.proofs.marking.visit_strong.Goals as goal
 pub visit_row-requires : goal.visit_row-requires
 visit_row-requires c =
     let p = c.nth.result.peer.0 in
-    record { live = λ strong. subst (λ (h : Heap). IsLive h p) (sym (ap (λ (v : HeapRows). v.heap) c.loop-i.invariant.rest)) (c.requires.live p (strong-in c.args.table.now.rows c.loop-i.i c.nth.result c.nth.ensures strong)) }
+    record {
+      live = λ strong. subst (λ (h : Heap). IsLive h p) (sym (ap (λ (v : HeapRows). v.heap) c.loop-i.invariant.rest))
+          (c.requires.live p (strong-in c.args.table.now.rows c.loop-i.i c.nth.result c.nth.ensures strong));
+    }
 
 pub loop-i-init : goal.loop-i-init
 loop-i-init c = record { rest = refl; greyed = Greyed-begins c.args.table.now.rows c.args.heap.now.marks c.args.heap.now.links c.args.grey.now }

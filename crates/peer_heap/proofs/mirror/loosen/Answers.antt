@@ -14,7 +14,8 @@ pub weaken-requires : goal.weaken-requires
 weaken-requires c = ap (option_map (λ (q : HandleRow). q.strength)) c.requires.row ∙ ap (λ (s : Strength). Some s) c.in-Strong.is
 
 pub returns-in-Strong-clause-row : goal.returns-in-Strong-clause-row
-returns-in-Strong-clause-row c = ap (λ l. row_in l c.args.row.number) c.weaken.ensures.rows ∙ row_in-changed_same (with_strength Weak) c.args.table.now.rows c.args.row.number c.args.row (λ x. refl) c.requires.row
+returns-in-Strong-clause-row c = ap (λ l. row_in l c.args.row.number) c.weaken.ensures.rows
+    ∙ row_in-changed_same (with_strength Weak) c.args.table.now.rows c.args.row.number c.args.row (λ x. refl) c.requires.row
 
 pub returns-in-Strong-clause-others : goal.returns-in-Strong-clause-others
 returns-in-Strong-clause-others c = ap (without c.args.row.number) c.weaken.ensures.rows ∙ without-changed (with_strength Weak) c.args.row.number c.args.table.now.rows (λ x. refl)

@@ -10,7 +10,8 @@ pub overflow_sub-result : goal.overflow_sub-result
 overflow_sub-result c = (temp-there c.args.graph.now.nodes c.args.side.now.reserve.temps c.args.members c.in-Temp.c c.requires.end.0 (sym c.in-Temp.is ∙ c.requires.end.1) c.requires.end.2).0
 
 pub returns-in-Node-clause-carried : goal.returns-in-Node-clause-carried
-returns-in-Node-clause-carried c = λ e q. node-carried c.args.side.now.state.peers.issued c.args.graph.now.nodes c.args.members c.in-Node.i c.peer_at.result.0 e (sym c.in-Node.is ∙ q) c.peer_at.ensures.peer
+returns-in-Node-clause-carried c = λ e q. node-carried c.args.side.now.state.peers.issued c.args.graph.now.nodes c.args.members c.in-Node.i c.peer_at.result.0 e
+    (sym c.in-Node.is ∙ q) c.peer_at.ensures.peer
 
 pub returns-in-Temp-clause-carried : goal.returns-in-Temp-clause-carried
 returns-in-Temp-clause-carried c = λ e q. temp-carried c.args.side.now.state.peers.issued c.args.graph.now.nodes c.args.members c.in-Temp.c e (sym c.in-Temp.is ∙ q)

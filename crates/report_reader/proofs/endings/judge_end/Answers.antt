@@ -10,10 +10,12 @@ returns-in_default-end_number c =
     let bytes = c.args.bytes.now in
     let text = whole_front c.front.result.now c.in-Some.text c.len.result c.front.ensures c.len.ensures in
     rw c.refusal-in_default-end_number.ensures
-    (inr (inl (unended c.args.entries bytes c.in-Some.text c.in-Some.left.now c.in-Some.ensures.0 c.in-Some.ensures.1 (begins_so bytes (not_empty _ c.if-is_empty.ensures) c.requires.last) (λ n l e. c.in_default-end_number.ensures n l (e ∙ sym text)))))
+    (inr (inl (unended c.args.entries bytes c.in-Some.text c.in-Some.left.now c.in-Some.ensures.0 c.in-Some.ensures.1
+    (begins_so bytes (not_empty _ c.if-is_empty.ensures) c.requires.last) (λ n l e. c.in_default-end_number.ensures n l (e ∙ sym text)))))
 
 pub returns-then-n-entries : goal.returns-then-n-entries
 returns-then-n-entries c =
     let text = whole_front c.front.result.now c.in-Some.text c.len.result c.front.ensures c.len.ensures in
     rw c.refusal-then-n-entries.ensures
-    (inr (inl (misended c.args.entries c.args.bytes.now c.in-Some.text c.in-Some.left.now c.in-Some-end_number.n c.in-Some.ensures.0 c.in-Some.ensures.1 c.in-Some-end_number.ensures.0 (c.in-Some-end_number.ensures.1 ∙ text) c.if-n-entries.true)))
+    (inr (inl (misended c.args.entries c.args.bytes.now c.in-Some.text c.in-Some.left.now c.in-Some-end_number.n c.in-Some.ensures.0
+    c.in-Some.ensures.1 c.in-Some-end_number.ensures.0 (c.in-Some-end_number.ensures.1 ∙ text) c.if-n-entries.true)))

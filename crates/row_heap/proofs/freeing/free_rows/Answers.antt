@@ -6,15 +6,28 @@ use Rattle.row_heap.specs.Rows.{RowsFreed}
 use Rattle.row_heap.proofs.freeing.free_rows.Goals as goal
 
 pub free-requires : goal.free-requires
-free-requires g c = (RowsFreed-here g.N.Number.number c.args.xs.now c.loop-x.x-index c.x-item.result c.get.result c.args.rows.now c.loop-x.rows c.loop-x.invariant.rows c.requires.up c.requires.rises c.loop-x-test.true c.x-item.is c.get.ensures).0
+free-requires g c = (RowsFreed-here g.N.Number.number c.args.xs.now c.loop-x.x-index c.x-item.result c.get.result c.args.rows.now
+    c.loop-x.rows c.loop-x.invariant.rows c.requires.up c.requires.rises c.loop-x-test.true c.x-item.is c.get.ensures).0
 
 pub push_reserved-requires : goal.push_reserved-requires
 push_reserved-requires g c =
-    omega (arith, (RowsFreed-here g.N.Number.number c.args.xs.now c.loop-x.x-index c.x-item.result c.get.result c.args.rows.now c.loop-x.rows c.loop-x.invariant.rows c.requires.up c.requires.rises c.loop-x-test.true c.x-item.is c.get.ensures).1, c.loop-x.invariant.rows.flags.count, c.loop-x.invariant.capacity, ap length c.loop-x.invariant.freed, length-append c.args.freed.now.items (take c.loop-x.x-index c.args.xs.now), length-map (take c.loop-x.x-index c.args.xs.now) g.N.Number.number, c.requires.room, c.loop-x.freed.ok)
+    omega (
+      arith,
+      (RowsFreed-here g.N.Number.number c.args.xs.now c.loop-x.x-index c.x-item.result c.get.result c.args.rows.now c.loop-x.rows c.loop-x.invariant.rows c.requires.up
+          c.requires.rises c.loop-x-test.true c.x-item.is c.get.ensures).1,
+      c.loop-x.invariant.rows.flags.count,
+      c.loop-x.invariant.capacity,
+      ap length c.loop-x.invariant.freed,
+      length-append c.args.freed.now.items (take c.loop-x.x-index c.args.xs.now),
+      length-map (take c.loop-x.x-index c.args.xs.now) g.N.Number.number,
+      c.requires.room,
+      c.loop-x.freed.ok,
+    )
 
 pub loop-x-preserved : goal.loop-x-preserved
 loop-x-preserved g c = record {
-  rows = RowsFreed-next g.N.Number.number c.args.xs.now c.loop-x.x-index c.x-item.result c.get.result c.args.rows.now c.loop-x.rows c.free.new.self c.loop-x.invariant.rows c.requires.up c.requires.rises c.loop-x-test.true c.x-item.is c.get.ensures c.free.ensures;
+  rows = RowsFreed-next g.N.Number.number c.args.xs.now c.loop-x.x-index c.x-item.result c.get.result c.args.rows.now c.loop-x.rows
+      c.free.new.self c.loop-x.invariant.rows c.requires.up c.requires.rises c.loop-x-test.true c.x-item.is c.get.ensures c.free.ensures;
   freed =
       let xs = c.args.xs.now in
       let i = c.loop-x.x-index in

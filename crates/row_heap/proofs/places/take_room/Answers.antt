@@ -10,7 +10,8 @@ returns-clause-kept c = (ap (λ s. s.slots) c.reserve-4.ensures.rest_kept, c.res
 
 pub returns-clause-room : goal.returns-clause-room
 returns-clause-room c =
-    let roomy : HasRoomFor c.reserve-4.new.self 1 → HasRoomFor c.reserve-4.new.self 1 × (vec_len c.reserve.new.self < vec_capacity c.reserve.new.self) × (vec_len c.reserve-2.new.self < vec_capacity c.reserve-2.new.self) × (vec_len c.reserve-3.new.self < vec_capacity c.reserve-3.new.self) =
+    let roomy : HasRoomFor c.reserve-4.new.self 1 → HasRoomFor c.reserve-4.new.self 1 × (vec_len c.reserve.new.self < vec_capacity c.reserve.new.self)
+    × (vec_len c.reserve-2.new.self < vec_capacity c.reserve-2.new.self) × (vec_len c.reserve-3.new.self < vec_capacity c.reserve-3.new.self) =
     λ row. (row, omega (arith, c.in_ok-reserve.ensures.ok), omega (arith, c.in_ok-reserve-2.ensures.ok), omega (arith, c.in_ok-reserve-3.ensures.ok)) in
     on_ok_weaker _ roomy c.reserve-4.ensures.room
 

@@ -28,7 +28,8 @@ loop-packed-preserved c =
     let e = c.set_first.ensures in
     record {
       len = (e.len.0 ∙ v.len.0, e.len.1 ∙ v.len.1);
-      cleared = rw (more, map-append) (FirstsCleared-next (map (λ (q : Reference). end_of q.from) (take i xs)) (end_of r.from) _ _ _ v.cleared (rw c.unpack-reference.ensures at e.here) (rw c.unpack-reference.ensures at e.others));
+      cleared = rw (more, map-append) (FirstsCleared-next (map (λ (q : Reference). end_of q.from) (take i xs))
+          (end_of r.from) _ _ _ v.cleared (rw c.unpack-reference.ensures at e.here) (rw c.unpack-reference.ensures at e.others));
     }
 
 pub returns-clause-cleared : goal.returns-clause-cleared

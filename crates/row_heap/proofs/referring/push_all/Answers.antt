@@ -16,7 +16,8 @@ push-requires-clause-from c =
     let refs = c.args.refs.now in
     let temps = sym (ap (λ (v : Linked). v.temps) c.loop-reference.invariant) in
     subst (λ n. IsEnd n (end_of (get_or refs c.loop-reference.reference-index none).0)) temps
-    (All-contains (AreEnds c.args.references.now.temps) (map ends_of refs) _ c.requires.ends (Contains-map ends_of refs _ (Contains-at refs c.loop-reference.reference-index _ (slice_get-get_or refs c.loop-reference.reference-index none c.loop-reference-test.true)))).0
+    (All-contains (AreEnds c.args.references.now.temps) (map ends_of refs) _ c.requires.ends
+    (Contains-map ends_of refs _ (Contains-at refs c.loop-reference.reference-index _ (slice_get-get_or refs c.loop-reference.reference-index none c.loop-reference-test.true)))).0
 
 pub push-requires-clause-to : goal.push-requires-clause-to
 push-requires-clause-to c =
@@ -24,7 +25,8 @@ push-requires-clause-to c =
     let refs = c.args.refs.now in
     let temps = sym (ap (λ (v : Linked). v.temps) c.loop-reference.invariant) in
     subst (λ n. IsEnd n (end_of (get_or refs c.loop-reference.reference-index none).1)) temps
-    (All-contains (AreEnds c.args.references.now.temps) (map ends_of refs) _ c.requires.ends (Contains-map ends_of refs _ (Contains-at refs c.loop-reference.reference-index _ (slice_get-get_or refs c.loop-reference.reference-index none c.loop-reference-test.true)))).1
+    (All-contains (AreEnds c.args.references.now.temps) (map ends_of refs) _ c.requires.ends
+    (Contains-map ends_of refs _ (Contains-at refs c.loop-reference.reference-index _ (slice_get-get_or refs c.loop-reference.reference-index none c.loop-reference-test.true)))).1
 
 pub push-requires-clause-room : goal.push-requires-clause-room
 push-requires-clause-room c = omega (arith, c.loop-reference-test.true, c.requires.room, ap (λ (v : Linked). v.room) c.loop-reference.invariant)
@@ -35,7 +37,8 @@ pushed : (w v : Linked) (some more : List (exact.End × exact.End)) (e : exact.E
 pushed w v some more e i is next =
     let refs : (v.refs ++ some) ++ e ∷ [] ≡ v.refs ++ more = append_assoc v.refs some (e ∷ []) ∙ ap (λ l. v.refs ++ l) (sym next) in
     let room : v.room - i - 1 ≡ v.room - (i + 1) = omega arith in
-    ap (λ (z : Linked). record z { refs = z.refs ++ e ∷ []; room = z.room - 1 }) is ∙ (ap (λ l. record v { refs = l; room = v.room - i - 1 }) refs ∙ ap (λ n. record v { refs = v.refs ++ more; room = n }) room)
+    ap (λ (z : Linked). record z { refs = z.refs ++ e ∷ []; room = z.room - 1 }) is
+    ∙ (ap (λ l. record v { refs = l; room = v.room - i - 1 }) refs ∙ ap (λ n. record v { refs = v.refs ++ more; room = n }) room)
 
 pub loop-reference-preserved : goal.loop-reference-preserved
 loop-reference-preserved c =
@@ -44,5 +47,6 @@ loop-reference-preserved c =
     let refs = c.args.refs.now in
     let i = c.loop-reference.reference-index in
     let r = get_or refs i none in
-    let more : map ends_of (take (i + 1) refs) ≡ map ends_of (take i refs) ++ ends_of r ∷ [] = ap (map ends_of) (take_more refs i none c.loop-reference-test.true) ∙ map-append ends_of (take i refs) (r ∷ []) in
+    let more : map ends_of (take (i + 1) refs) ≡ map ends_of (take i refs) ++ ends_of r ∷ [] = ap (map ends_of) (take_more refs i none c.loop-reference-test.true)
+    ∙ map-append ends_of (take i refs) (r ∷ []) in
     c.push.ensures ∙ pushed c.loop-reference.references v (map ends_of (take i refs)) (map ends_of (take (i + 1) refs)) (ends_of r) i c.loop-reference.invariant more

@@ -13,7 +13,17 @@ pub sweep_row-requires-clause-room : goal.sweep_row-requires-clause-room
 sweep_row-requires-clause-room g c = λ w.
     let s = c.loop-i.invariant.swept in
     let up = up-row c.loop-i.rows (c.loop-i.i + 1) (white-stands (row_at c.loop-i.rows (c.loop-i.i + 1)) w).0 in
-    omega (arith, up, s.rows.flags.count, c.requires.room, c.loop-i.invariant.capacity, ap length s.freed, length-append (map g.N.Number.number c.args.freed.now.items) s.swept, length-map c.args.freed.now.items g.N.Number.number, length-map c.loop-i.freed.items g.N.Number.number)
+    omega (
+      arith,
+      up,
+      s.rows.flags.count,
+      c.requires.room,
+      c.loop-i.invariant.capacity,
+      ap length s.freed,
+      length-append (map g.N.Number.number c.args.freed.now.items) s.swept,
+      length-map c.args.freed.now.items g.N.Number.number,
+      length-map c.loop-i.freed.items g.N.Number.number,
+    )
 
 pub loop-i-preserved : goal.loop-i-preserved
 loop-i-preserved g c = record {

@@ -17,4 +17,5 @@ pub returns-then-first-r-clause-other : goal.returns-then-first-r-clause-other
 returns-then-first-r-clause-other c = λ down last up. true≢false (sym up ∙ (sym c.is_standing.ensures ∙ down))
 
 pub returns-else-first-r-clause-other : goal.returns-else-first-r-clause-other
-returns-else-first-r-clause-other c = λ down last up. c.if-first-r.false (last-one c.args.references.now.refs (exact.node c.args.x) (length c.args.references.now.refs) c.first.result c.args.r c.first.ensures last)
+returns-else-first-r-clause-other c = λ down last up. c.if-first-r.false
+    (last-one c.args.references.now.refs (exact.node c.args.x) (length c.args.references.now.refs) c.first.result c.args.r c.first.ensures last)

@@ -28,8 +28,10 @@ loop-through-preserved c =
     let refs = ap (λ (v : Linked). v.refs) i.rest in
     record {
       kept = c.visit_ends-in-loop-through.ensures.kept ∙ i.kept;
-      rest = c.visit_ends-in-loop-through.ensures.rest ∙ ap (λ (v : Linked). record v { seen = c.visit_ends-in-loop-through.new.references.seen; links = c.visit_ends-in-loop-through.new.references.links }) i.rest;
-      crossing = crossing-goes _ _ _ _ _ _ _ _ (c.loop-through.through - 1) _ _ _ _ _ _ _ _ _ _ (rw (← e) at i.crossing) (rw (← e) at c.link-through.ensures) (rw refs at c.visit_ends-in-loop-through.ensures.raised) (rw refs at c.visit_ends-in-loop-through.ensures.greyed) (rw refs at c.visit_ends-in-loop-through.ensures.sees);
+      rest = c.visit_ends-in-loop-through.ensures.rest ∙ ap (λ (v : Linked).
+          record v { seen = c.visit_ends-in-loop-through.new.references.seen; links = c.visit_ends-in-loop-through.new.references.links }) i.rest;
+      crossing = crossing-goes _ _ _ _ _ _ _ _ (c.loop-through.through - 1) _ _ _ _ _ _ _ _ _ _ (rw (← e) at i.crossing) (rw (← e) at c.link-through.ensures)
+          (rw refs at c.visit_ends-in-loop-through.ensures.raised) (rw refs at c.visit_ends-in-loop-through.ensures.greyed) (rw refs at c.visit_ends-in-loop-through.ensures.sees);
     }
 
 pub loop-through-smaller : goal.loop-through-smaller
@@ -37,7 +39,8 @@ loop-through-smaller c =
     let i = c.loop-through.invariant in
     let e : suc (c.loop-through.through - 1) ≡ c.loop-through.through = omega (arith, c.loop-through-test.true) in
     let refs = ap (λ (v : Linked). v.refs) i.rest in
-    rw e at (crossing-smaller _ _ _ _ _ _ _ _ (c.loop-through.through - 1) _ _ _ _ _ _ _ (rw (← e) at i.crossing) (rw (← e) at c.link-through.ensures) (rw refs at c.visit_ends-in-loop-through.ensures.sees))
+    rw e at (crossing-smaller _ _ _ _ _ _ _ _ (c.loop-through.through - 1) _ _ _ _ _ _ _ (rw (← e) at i.crossing)
+    (rw (← e) at c.link-through.ensures) (rw refs at c.visit_ends-in-loop-through.ensures.sees))
 
 pub visit_ends-requires-in-loop-through : goal.visit_ends-requires-in-loop-through
 visit_ends-requires-in-loop-through c = λ y w.
@@ -57,4 +60,5 @@ returns-clause-sights c = λ t ts y s w u.
 pub returns-clause-greyed : goal.returns-clause-greyed
 returns-clause-greyed c =
     let e : c.loop-through.through ≡ 0 = omega (arith, c.loop-through-test.false) in
-    crossing-ends _ _ _ _ _ _ _ _ _ _ _ (λ z. (row_at c.args.rows.now z).stands ≡ true) (rw e at c.loop-through.invariant.crossing) (λ t ts z s w u. row-marked c.args.rows.now z (c.requires.sights t ts z s w u)) c.requires.ends
+    crossing-ends _ _ _ _ _ _ _ _ _ _ _ (λ z. (row_at c.args.rows.now z).stands ≡ true) (rw e at c.loop-through.invariant.crossing)
+    (λ t ts z s w u. row-marked c.args.rows.now z (c.requires.sights t ts z s w u)) c.requires.ends

@@ -10,7 +10,8 @@ abbrev pub invariant-loop-through : goal.invariant-loop-through
 invariant-loop-through l = record {
   kept : map bare l.rows ≡ map bare l.fn.rows;
   rest : l.references ≡ record l.fn.references { seen = l.references.seen; links = l.references.links };
-  crossing : Crossing l.fn.references.refs l.x l.fn.references.seen (marks_in l.fn.rows) (links_in l.fn.rows) l.fn.grey l.references.seen l.references.links l.through (marks_in l.rows) (links_in l.rows) l.grey;
+  crossing : Crossing l.fn.references.refs l.x l.fn.references.seen (marks_in l.fn.rows)
+      (links_in l.fn.rows) l.fn.grey l.references.seen l.references.links l.through (marks_in l.rows) (links_in l.rows) l.grey;
 }
 
 abbrev pub decreases-loop-through : goal.decreases-loop-through

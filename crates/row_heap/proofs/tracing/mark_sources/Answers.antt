@@ -42,7 +42,8 @@ loop-i-preserved c =
       kept = c.mark_source.ensures.kept ∙ i.kept;
       rest = c.mark_source.ensures.rest ∙ ap (λ (v : Linked). record v { seen = c.mark_source.new.references.seen; links = c.mark_source.new.references.links }) i.rest;
       sights = c.mark_source.ensures.sights;
-      greyed = sources-go list c.args.rows.now k e (end_of c.at-reference.result.to) _ _ _ _ _ _ _ _ _ (subst (λ z. slice_get list z ≡ Some (e, end_of c.at-reference.result.to)) (let q : k + 1 - 1 ≡ k = omega arith in q) at) i.greyed own;
+      greyed = sources-go list c.args.rows.now k e (end_of c.at-reference.result.to) _ _ _ _ _ _ _ _ _
+          (subst (λ z. slice_get list z ≡ Some (e, end_of c.at-reference.result.to)) (let q : k + 1 - 1 ≡ k = omega arith in q) at) i.greyed own;
     }
 
 pub returns-clause-kept : goal.returns-clause-kept
@@ -55,4 +56,5 @@ pub returns-clause-sights : goal.returns-clause-sights
 returns-clause-sights c = c.loop-i.invariant.sights
 
 pub returns-clause-greyed : goal.returns-clause-greyed
-returns-clause-greyed c = sources-end c.args.references.now.refs c.args.rows.now c.loop-i.i (λ p. c.lasts.ensures (node p)) _ _ _ _ _ _ (omega (arith, c.loop-i-test.false, c.len-i-end.ensures.len, c.loop-i.auto)) c.loop-i.invariant.greyed
+returns-clause-greyed c = sources-end c.args.references.now.refs c.args.rows.now c.loop-i.i (λ p. c.lasts.ensures (node p)) _ _ _ _ _ _
+    (omega (arith, c.loop-i-test.false, c.len-i-end.ensures.len, c.loop-i.auto)) c.loop-i.invariant.greyed

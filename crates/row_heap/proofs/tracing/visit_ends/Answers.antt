@@ -18,7 +18,8 @@ visit_end-requires-clause-stands c = λ y e.
     let i = c.loop-r.invariant in
     let at = rw (ap (λ (v : Linked). v.refs) i.rest) at c.at-reference.ensures.ends in
     row_at-bare (λ (r : Seen). r.stands) (λ r. refl) c.args.rows.now c.loop-r.rows i.kept y
-    ∙ c.requires y (subst (λ f. Contains c.args.references.now.refs (end_of c.args.from, f)) e (following-contains _ _ _ _ _ _ _ _ _ _ _ _ _ _ _ i.following _ _ (omega (arith, c.loop-r-test.true)) at))
+    ∙ c.requires y (subst (λ f. Contains c.args.references.now.refs (end_of c.args.from, f)) e
+    (following-contains _ _ _ _ _ _ _ _ _ _ _ _ _ _ _ i.following _ _ (omega (arith, c.loop-r-test.true)) at))
 
 pub loop-r-preserved : goal.loop-r-preserved
 loop-r-preserved c =
@@ -29,7 +30,8 @@ loop-r-preserved c =
     record {
       kept = c.visit_end.ensures.kept ∙ i.kept;
       rest = c.visit_end.ensures.rest ∙ ap (λ (v : Linked). record v { seen = c.visit_end.new.references.seen; links = c.visit_end.new.references.links }) i.rest;
-      following = following-goes _ _ _ _ _ _ _ _ _ _ _ _ _ _ _ i.following _ _ (omega (arith, c.loop-r-test.true)) at _ _ _ _ _ _ _ next c.visit_end.ensures.raised c.visit_end.ensures.greyed c.visit_end.ensures.sees;
+      following = following-goes _ _ _ _ _ _ _ _ _ _ _ _ _ _ _ i.following _ _
+          (omega (arith, c.loop-r-test.true)) at _ _ _ _ _ _ _ next c.visit_end.ensures.raised c.visit_end.ensures.greyed c.visit_end.ensures.sees;
     }
 
 pub loop-r-smaller : goal.loop-r-smaller

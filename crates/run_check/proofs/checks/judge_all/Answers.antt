@@ -10,7 +10,8 @@ returns-in-Some-2 c =
     let e = c.entry_of-entry.result in
     let left = c.next.new.self in
     let w : IsChecked h c.loop-step.replay n (e ∷ left) = subst (IsChecked h c.loop-step.replay n) (c.in-Some.ensures ∙ ap (λ x. x ∷ left) (sym c.entry_of-entry.ensures)) c.loop-step.invariant in
-    let g : GoesOnFrom h e c.loop-step.replay c.judge_next.new.replay n (Some c.in-Some-2.why) = subst (GoesOnFrom h e c.loop-step.replay c.judge_next.new.replay n) c.in-Some-2.is c.in_ok-why.ensures in
+    let g : GoesOnFrom h e c.loop-step.replay c.judge_next.new.replay n (Some c.in-Some-2.why) = subst
+    (GoesOnFrom h e c.loop-step.replay c.judge_next.new.replay n) c.in-Some-2.is c.in_ok-why.ensures in
     (illegal h c.loop-step.replay n e left w c.in-Some-2.why (g w.past w.walked), λ q. cc)
 
 pub loop-step-preserved : goal.loop-step-preserved

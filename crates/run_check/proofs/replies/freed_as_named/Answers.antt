@@ -7,7 +7,8 @@ use Rattle.run_check.proofs.replies.freed_as_named.Goals as goal
 pub returns-then-not-is_freed_at : goal.returns-then-not-is_freed_at
 returns-then-not-is_freed_at c =
     let l = length-map c.args.freed.now (λ x. x.0) in
-    rest_no (managed_numbers c.args.h.now.freed_managed) (managed_numbers c.args.freed.now) c.args.span (omega (arith, l, c.requires.within)) c.loop-i.i c.loop-i.auto.i (omega (arith, l, c.loop-i-test.true))
+    rest_no (managed_numbers c.args.h.now.freed_managed) (managed_numbers c.args.freed.now) c.args.span
+    (omega (arith, l, c.requires.within)) c.loop-i.i c.loop-i.auto.i (omega (arith, l, c.loop-i-test.true))
     (λ e. true≢false (sym (c.is_freed_at.ensures.1 (e ∙ mapped_place (λ x. x.0) c.args.freed.now c.loop-i.i (record { 0 = 0 }) c.loop-i-test.true)) ∙ c.if-not-is_freed_at.true))
 
 pub loop-i-preserved : goal.loop-i-preserved
@@ -18,5 +19,6 @@ pub returns : goal.returns
 returns c =
     let l = length-map c.args.freed.now (λ x. x.0) in
     let n = length-map c.args.h.now.freed_managed (λ x. x.0) in
-    rest_told (managed_numbers c.args.h.now.freed_managed) (managed_numbers c.args.freed.now) c.args.span (omega (arith, l, c.requires.within)) (let w = c.has_freed.ensures.0 c.if-not-has_freed.false in omega (arith, l, n, w))
+    rest_told (managed_numbers c.args.h.now.freed_managed) (managed_numbers c.args.freed.now) c.args.span
+    (omega (arith, l, c.requires.within)) (let w = c.has_freed.ensures.0 c.if-not-has_freed.false in omega (arith, l, n, w))
     (λ k low high. c.loop-i.invariant k low (omega (arith, l, high, c.loop-i-test.false)))

@@ -18,5 +18,6 @@ pub returns : goal.returns
 returns c =
     let l = length-map c.args.freed.now (λ x. x.0) in
     let n = length-map c.args.h.now.freed_peers (λ x. x.0) in
-    rest_told (peer_numbers c.args.h.now.freed_peers) (peer_numbers c.args.freed.now) c.args.span (omega (arith, l, c.requires.within)) (let w = c.has_freed_peers.ensures.0 c.if-not-has_freed_peers.false in omega (arith, l, n, w))
+    rest_told (peer_numbers c.args.h.now.freed_peers) (peer_numbers c.args.freed.now) c.args.span (omega (arith, l, c.requires.within))
+    (let w = c.has_freed_peers.ensures.0 c.if-not-has_freed_peers.false in omega (arith, l, n, w))
     (λ k low high. c.loop-i.invariant k low (omega (arith, l, high, c.loop-i-test.false)))

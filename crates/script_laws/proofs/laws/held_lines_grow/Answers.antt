@@ -3,4 +3,12 @@ use Rattle.script_laws.proofs.AllThreads.{each_thread_is_all}
 use Rattle.script_laws.proofs.laws.held_lines_grow.Goals as goal
 
 pub returns : goal.returns
-returns c = record { grow = held_lines_grow; end = held_lines_end; idle = idle_leaves_nothing; numbers = numbers_go_on; lines_of = lines_of_go_on; one = rising_entries_are_one; each_thread = each_thread_is_all }
+returns c = record {
+  grow = held_lines_grow;
+  end = held_lines_end;
+  idle = idle_leaves_nothing;
+  numbers = numbers_go_on;
+  lines_of = lines_of_go_on;
+  one = rising_entries_are_one;
+  each_thread = each_thread_is_all;
+}

@@ -50,7 +50,8 @@ run_all_listed-requires-clause-driven g c =
 pub run_all_listed-requires-clause-nothing : goal.run_all_listed-requires-clause-nothing
 run_all_listed-requires-clause-nothing g c =
     let new = subst KnowsNothing (sym (ap (λ (z : Progress). z.view) c.new-driver.ensures)) c.in-Some.ensures.nothing in
-    come_first c.new-driver.result c.in-Ok.others.items new (sym (ap (λ (z : Progress). z.phase) c.new-driver.ensures)) (sym (ap (λ (z : Progress). z.candidates) c.new-driver.ensures)) c.in-Ok.ensures.new
+    come_first c.new-driver.result c.in-Ok.others.items new (sym (ap (λ (z : Progress). z.phase) c.new-driver.ensures))
+    (sym (ap (λ (z : Progress). z.candidates) c.new-driver.ensures)) c.in-Ok.ensures.new
 
 pub returns-clause-all : goal.returns-clause-all
 returns-clause-all g c =
@@ -58,11 +59,13 @@ returns-clause-all g c =
     (all_are_given c.all_others.new.desk c.run_all_listed.new.others.items c.retire.result c.in-Ok-run_all_listed.ensures.come.others_are (ap (λ (p : Pass). p.thread) c.retire.ensures.pass))
 
 pub returns-clause-idle : goal.returns-clause-idle
-returns-clause-idle g c = subst (All HasIdleDriver) (sym c.in-Ok-push.ensures.items) (all_idle c.run_all_listed.new.others.items c.retire.result c.in-Ok-run_all_listed.ensures.come.others_are c.retire.ensures.idle)
+returns-clause-idle g c = subst (All HasIdleDriver) (sym c.in-Ok-push.ensures.items)
+    (all_idle c.run_all_listed.new.others.items c.retire.result c.in-Ok-run_all_listed.ensures.come.others_are c.retire.ensures.idle)
 
 pub returns-clause-ran : goal.returns-clause-ran
 returns-clause-ran g c = λ h linked finished few owns begins.
-    run_ends c.args.script.now h c.in-Ok-run_all_listed.last c.run_all_listed.new.driver c.drive_left.new.driver c.run_all_listed.new.others.items c.retire.result linked finished few c.in-Ok-run_all_listed.ensures.come c.in-Ok-drive_left.ensures.ok c.retire.ensures.pass
+    run_ends c.args.script.now h c.in-Ok-run_all_listed.last c.run_all_listed.new.driver c.drive_left.new.driver c.run_all_listed.new.others.items
+    c.retire.result linked finished few c.in-Ok-run_all_listed.ensures.come c.in-Ok-drive_left.ensures.ok c.retire.ensures.pass
     (subst (λ ps. All (HasOwn h.entries) ps) c.in-Ok-push.ensures.items owns) (subst (λ ps. All (BeginsHistory h.entries) ps) c.in-Ok-push.ensures.items begins)
 
 pub run_all_listed-requires-clause-no_snap : goal.run_all_listed-requires-clause-no_snap
@@ -88,4 +91,8 @@ returns-clause-lists g c =
     }
 
 pub returns-in_default-all_others-clause-lists : goal.returns-in_default-all_others-clause-lists
-returns-in_default-all_others-clause-lists g c = record { cycles = []; wrote = wrote_none c.args.listing.now.cycles c.args.listing.now.written (g.O.Sink.held c.args.out.now) (g.O.Sink.faults c.args.out.now); listed = tt }
+returns-in_default-all_others-clause-lists g c = record {
+  cycles = [];
+  wrote = wrote_none c.args.listing.now.cycles c.args.listing.now.written (g.O.Sink.held c.args.out.now) (g.O.Sink.faults c.args.out.now);
+  listed = tt;
+}

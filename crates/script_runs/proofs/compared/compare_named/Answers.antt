@@ -15,7 +15,8 @@ pub returns-in_default-finish-clause-memory : goal.returns-in_default-finish-cla
 returns-in_default-finish-clause-memory g c = part_put c.compare_by_desk.result _ _ _ _ _ _ _ refl c.compare_by_desk.ensures.lists
 
 pub returns-clause-history : goal.returns-clause-history
-returns-clause-history g c = c.in-Ok-compare_by_desk.ensures.ran c.in-Ok-finish.history c.in-Ok-finish.ensures.linked c.in-Ok-finish.ensures.finished c.in-Ok-finish.ensures.few c.in-Ok-finish.ensures.own c.in-Ok-finish.ensures.begins
+returns-clause-history g c = c.in-Ok-compare_by_desk.ensures.ran c.in-Ok-finish.history c.in-Ok-finish.ensures.linked
+    c.in-Ok-finish.ensures.finished c.in-Ok-finish.ensures.few c.in-Ok-finish.ensures.own c.in-Ok-finish.ensures.begins
 
 pub returns-clause-listing : goal.returns-clause-listing
 returns-clause-listing g c =

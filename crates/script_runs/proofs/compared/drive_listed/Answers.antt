@@ -19,12 +19,14 @@ cycle_listed-requires-clause-phase g c = (opens_by_cycle c.args.act.now c.args.d
 pub returns-in-Snap-clause-ok : goal.returns-in-Snap-clause-ok
 returns-in-Snap-clause-ok g c =
     let o = opens_by_snap c.args.act.now c.args.driver.now.phase (ap (opening_of c.args.act.now) (sym c.phase.ensures) ∙ (sym c.opening_by.ensures ∙ c.in-Snap.is)) in
-    on_ok_weaker c.open_listed.result (λ k. subst (λ a. DrivesLine c.args.driver.now c.open_listed.new.driver c.args.index a) (sym o.0) (drives_word c.args.driver.now c.open_listed.new.driver c.args.index word.Snap at.Snapped (ap (λ p. next_phase p word.Snap) o.1) k)) c.open_listed.ensures.runs
+    on_ok_weaker c.open_listed.result (λ k. subst (λ a. DrivesLine c.args.driver.now c.open_listed.new.driver c.args.index a) (sym o.0)
+    (drives_word c.args.driver.now c.open_listed.new.driver c.args.index word.Snap at.Snapped (ap (λ p. next_phase p word.Snap) o.1) k)) c.open_listed.ensures.runs
 
 pub returns-in-Cycle-clause-ok : goal.returns-in-Cycle-clause-ok
 returns-in-Cycle-clause-ok g c =
     let o = opens_by_cycle c.args.act.now c.args.driver.now.phase (ap (opening_of c.args.act.now) (sym c.phase.ensures) ∙ (sym c.opening_by.ensures ∙ c.in-Cycle.is)) in
-    on_ok_weaker c.cycle_listed.result (λ k. subst (λ a. DrivesLine c.args.driver.now c.cycle_listed.new.driver c.args.index a) (sym o.0) (drives_word c.args.driver.now c.cycle_listed.new.driver c.args.index word.Cycle at.Idle (ap (λ p. next_phase p word.Cycle) o.1) k)) c.cycle_listed.ensures.runs
+    on_ok_weaker c.cycle_listed.result (λ k. subst (λ a. DrivesLine c.args.driver.now c.cycle_listed.new.driver c.args.index a) (sym o.0)
+    (drives_word c.args.driver.now c.cycle_listed.new.driver c.args.index word.Cycle at.Idle (ap (λ p. next_phase p word.Cycle) o.1) k)) c.cycle_listed.ensures.runs
 
 pub returns-in-Other-clause-lists : goal.returns-in-Other-clause-lists
 returns-in-Other-clause-lists g c =

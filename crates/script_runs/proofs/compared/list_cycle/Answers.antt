@@ -10,7 +10,11 @@ pub write_next-listing-requires : goal.write_next-listing-requires
 write_next-listing-requires g c = record { nodes = members_are_nodes _ _ _ _ _ c.in-Ok.ensures.2 }
 
 pub returns-in_default-second_pass : goal.returns-in_default-second_pass
-returns-in_default-second_pass g c = record { cycles = []; wrote = wrote_none c.args.listing.now.cycles c.args.listing.now.written (g.O.Sink.held c.args.out.now) (g.O.Sink.faults c.args.out.now); listed = tt }
+returns-in_default-second_pass g c = record {
+  cycles = [];
+  wrote = wrote_none c.args.listing.now.cycles c.args.listing.now.written (g.O.Sink.held c.args.out.now) (g.O.Sink.faults c.args.out.now);
+  listed = tt;
+}
 
 pub returns : goal.returns
 returns g c =
@@ -20,5 +24,13 @@ returns g c =
     record {
       cycles = listed_of k.0 c.in-Some.graph.now c.in-Ok.comps ∷ [];
       wrote = record { goes_on = c.write_next-listing.ensures; counted = refl };
-      listed = record { one = listed_of k.0 c.in-Some.graph.now c.in-Ok.comps; only = refl; number = ap (λ (j : Cycle). j.0) (sym c.cycle_number-cycle.ensures); known = o.known; cycle = o.cycle; open_cycle = o.open_cycle; lists = o.lists };
+      listed = record {
+        one = listed_of k.0 c.in-Some.graph.now c.in-Ok.comps;
+        only = refl;
+        number = ap (λ (j : Cycle). j.0) (sym c.cycle_number-cycle.ensures);
+        known = o.known;
+        cycle = o.cycle;
+        open_cycle = o.open_cycle;
+        lists = o.lists;
+      };
     }

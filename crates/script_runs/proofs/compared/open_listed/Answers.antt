@@ -6,7 +6,11 @@ use Rattle.script_runs.proofs.Opened.{lists_opened, opened_phase}
 use Rattle.script_runs.proofs.compared.open_listed.Goals as goal
 
 pub returns-in_default-clause-lists : goal.returns-in_default-clause-lists
-returns-in_default-clause-lists g c = record { cycles = []; wrote = wrote_none c.args.listing.now.cycles c.args.listing.now.written (g.O.Sink.held c.args.out.now) (g.O.Sink.faults c.args.out.now); listed = tt }
+returns-in_default-clause-lists g c = record {
+  cycles = [];
+  wrote = wrote_none c.args.listing.now.cycles c.args.listing.now.written (g.O.Sink.held c.args.out.now) (g.O.Sink.faults c.args.out.now);
+  listed = tt;
+}
 
 pub list_cycle-requires-clause-busy : goal.list_cycle-requires-clause-busy
 list_cycle-requires-clause-busy g c = λ e. let s = opened_phase c.args.driver.now c.snap.new.self c.args.index c.requires.phase c.in-Ok.ensures.ok in let no : at.Snapped ≡ at.Idle = sym s ∙ e in cc

@@ -22,13 +22,15 @@ loop-line-preserved g c =
     let w = c.in-Ok.ensures in
     let number : c.loop-line.number + 1 ≡ i + 1 = ap (λ n. n + 1) c.loop-line.invariant.0 in
     let runs = subst (λ n. RunsOn n line.0 line.1 c.loop-line.driver c.run_next_listed.new.driver c.loop-line.others.items c.run_next_listed.new.others.items) number w.runs in
-    let come = come_on script i c.loop-line.last c.loop-line.driver c.run_next_listed.new.driver c.loop-line.others.items c.run_next_listed.new.others.items line (there script i c.loop-line-test.true) runs c.loop-line.invariant.5 in (
+    let come = come_on script i c.loop-line.last c.loop-line.driver c.run_next_listed.new.driver c.loop-line.others.items c.run_next_listed.new.others.items line
+    (there script i c.loop-line-test.true) runs c.loop-line.invariant.5 in (
       number,
       w.driven.1,
       w.others,
       w.up_to,
       w.driven.0,
-      subst (λ m. HasCome (numbered_from 1 (take (i + 1) script)) m c.run_next_listed.new.driver c.run_next_listed.new.others.items) (sym (w.last ∙ ap (λ n. last_after c.loop-line.last n line.0) number)) come,
+      subst (λ m. HasCome (numbered_from 1 (take (i + 1) script)) m c.run_next_listed.new.driver c.run_next_listed.new.others.items)
+          (sym (w.last ∙ ap (λ n. last_after c.loop-line.last n line.0) number)) come,
       listed_more _ _ _ _ _ _ _ _ _ _ _ _ _ i refl c.loop-line.invariant.6 w.lists,
     )
 
@@ -36,7 +38,8 @@ pub loop-line-init : goal.loop-line-init
 loop-line-init g c = (refl, omega arith, c.requires.others, c.requires.up_to, c.requires.driven, c.requires.nothing, listed_none c.args.listing.now _ _ c.args.driver.now c.requires.no_snap)
 
 pub run_next_listed-requires-clause-few : goal.run_next_listed-requires-clause-few
-run_next_listed-requires-clause-few g c = let l = c.loop-line.invariant.6 in let a = l.wrote.counted in let b = l.few in let n = c.requires.none in let m = c.requires.lines.count in omega (arith, a, b, n, m)
+run_next_listed-requires-clause-few g c = let l = c.loop-line.invariant.6 in let a = l.wrote.counted in
+    let b = l.few in let n = c.requires.none in let m = c.requires.lines.count in omega (arith, a, b, n, m)
 
 pub returns-in_default-clause-lists : goal.returns-in_default-clause-lists
 returns-in_default-clause-lists g c =

@@ -7,5 +7,6 @@ use Rattle.script_runs.proofs.Listing.{ListedSoFar}
 use Rattle.script_runs.proofs.compared.run_all_listed.Given as goal
 
 abbrev pub invariant-loop-line : goal.invariant-loop-line
-invariant-loop-line g l = (l.number ≡ l.line-index) × (l.last ≤ l.number) × AreOthers l.others.items × AreUpTo l.number l.others.items × (line_of l.driver ≤ l.last) × HasCome (numbered_from 1 (take l.line-index l.script)) l.last l.driver l.others.items
+invariant-loop-line g l = (l.number ≡ l.line-index) × (l.last ≤ l.number) × AreOthers l.others.items × AreUpTo l.number l.others.items
+    × (line_of l.driver ≤ l.last) × HasCome (numbered_from 1 (take l.line-index l.script)) l.last l.driver l.others.items
     × ListedSoFar l.fn.listing l.listing (g.O.Sink.held l.fn.out) (g.O.Sink.held l.out) (g.O.Sink.faults l.fn.out) (g.O.Sink.faults l.out) l.driver l.line-index

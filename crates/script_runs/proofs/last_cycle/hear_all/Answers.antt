@@ -12,7 +12,8 @@ loop-i-preserved g c =
     let i = c.loop-i.i in
     let few : i < length xs = (let n = c.loop-i.invariant.same.count in let t = c.loop-i-test.true in omega (arith, n, t)) in
     let at = slice_get_read xs (length xs) i c.index_mut.result.now refl few c.index_mut.ensures.value in
-    hears_next i c.args.driver.now c.loop-i.driver c.hear.new.self c.args.others.now.items xs c.index_mut.result.now c.hear.new.from at c.hear.ensures.from c.hear.ensures.hears c.hear.ensures.same c.loop-i.invariant
+    hears_next i c.args.driver.now c.loop-i.driver c.hear.new.self c.args.others.now.items xs c.index_mut.result.now
+    c.hear.new.from at c.hear.ensures.from c.hear.ensures.hears c.hear.ensures.same c.loop-i.invariant
 
 pub returns : goal.returns
 returns g c = hears_all c.loop-i.i c.args.driver.now c.loop-i.driver c.args.others.now.items c.loop-i.others.items (let n = c.loop-i.invariant.same.count in omega (arith, n)) c.loop-i.invariant

@@ -9,4 +9,5 @@ pub returns-clause-in_order : goal.returns-clause-in_order
 returns-clause-in_order g c = serial_in_order c.end_serial.result c.args.script.items c.deref.result.now (c.deref.ensures.value ∙ c.in_ok-push.ensures.items) c.end_serial.ensures.history
 
 pub returns-clause-history : goal.returns-clause-history
-returns-clause-history g c = serial_then_cycle c.end_serial.result c.args.script.items c.deref.result.now (c.deref.ensures.value ∙ c.in_ok-push.ensures.items) c.requires.cycles c.end_serial.ensures.history
+returns-clause-history g c = serial_then_cycle c.end_serial.result c.args.script.items c.deref.result.now
+    (c.deref.ensures.value ∙ c.in_ok-push.ensures.items) c.requires.cycles c.end_serial.ensures.history

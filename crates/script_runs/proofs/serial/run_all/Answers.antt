@@ -20,7 +20,8 @@ loop-line-preserved g c =
     let w = c.in_ok-last.ensures in
     let number : c.loop-line.number + 1 ≡ i + 1 = ap (λ n. n + 1) c.loop-line.invariant.0 in
     let runs = subst (λ n. RunsOn n line.0 line.1 c.loop-line.driver c.run_next.new.driver c.loop-line.others.items c.run_next.new.others.items) number w.runs in
-    let come = come_on script i c.loop-line.last c.loop-line.driver c.run_next.new.driver c.loop-line.others.items c.run_next.new.others.items line (there script i c.loop-line-test.true) runs c.loop-line.invariant.5 in (
+    let come = come_on script i c.loop-line.last c.loop-line.driver c.run_next.new.driver c.loop-line.others.items c.run_next.new.others.items line
+    (there script i c.loop-line-test.true) runs c.loop-line.invariant.5 in (
       number,
       w.driven.1,
       w.others,

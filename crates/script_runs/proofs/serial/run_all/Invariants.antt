@@ -6,4 +6,5 @@ use Rattle.script_runs.specs.Running.{AreUpTo, HasCome}
 use Rattle.script_runs.proofs.serial.run_all.Given as goal
 
 abbrev pub invariant-loop-line : goal.invariant-loop-line
-invariant-loop-line g l = (l.number ≡ l.line-index) × (l.last ≤ l.number) × AreOthers l.others.items × AreUpTo l.number l.others.items × (line_of l.driver ≤ l.last) × HasCome (numbered_from 1 (take l.line-index l.script)) l.last l.driver l.others.items
+invariant-loop-line g l = (l.number ≡ l.line-index) × (l.last ≤ l.number) × AreOthers l.others.items × AreUpTo l.number l.others.items
+    × (line_of l.driver ≤ l.last) × HasCome (numbered_from 1 (take l.line-index l.script)) l.last l.driver l.others.items

@@ -45,7 +45,8 @@ run_all-requires-clause-driven g c =
 pub run_all-requires-clause-nothing : goal.run_all-requires-clause-nothing
 run_all-requires-clause-nothing g c =
     let new = subst KnowsNothing (sym (ap (λ (z : Progress). z.view) c.new-driver.ensures)) c.in-Some.ensures.nothing in
-    come_first c.new-driver.result c.in_ok-others.others.items new (sym (ap (λ (z : Progress). z.phase) c.new-driver.ensures)) (sym (ap (λ (z : Progress). z.candidates) c.new-driver.ensures)) c.in_ok-others.ensures.new
+    come_first c.new-driver.result c.in_ok-others.others.items new (sym (ap (λ (z : Progress). z.phase) c.new-driver.ensures))
+    (sym (ap (λ (z : Progress). z.candidates) c.new-driver.ensures)) c.in_ok-others.ensures.new
 
 pub returns-clause-all : goal.returns-clause-all
 returns-clause-all g c =
@@ -57,5 +58,6 @@ returns-clause-idle g c = subst (All HasIdleDriver) (sym c.in_ok-push.ensures.it
 
 pub returns-clause-ran : goal.returns-clause-ran
 returns-clause-ran g c = λ h linked finished few owns begins.
-    run_ends c.args.script.now h c.in_ok-last.last c.run_all.new.driver c.drive_left.new.driver c.run_all.new.others.items c.retire.result linked finished few c.in_ok-last.ensures c.in_ok-drive_left.ensures.ok c.retire.ensures.pass
+    run_ends c.args.script.now h c.in_ok-last.last c.run_all.new.driver c.drive_left.new.driver c.run_all.new.others.items
+    c.retire.result linked finished few c.in_ok-last.ensures c.in_ok-drive_left.ensures.ok c.retire.ensures.pass
     (subst (λ ps. All (HasOwn h.entries) ps) c.in_ok-push.ensures.items owns) (subst (λ ps. All (BeginsHistory h.entries) ps) c.in_ok-push.ensures.items begins)

@@ -10,7 +10,8 @@ use Rattle.script_runs.proofs.serial.run_next.Goals as goal
 
 pub returns-then-is_thread-clause-runs : goal.returns-then-is_thread-clause-runs
 returns-then-is_thread-clause-runs g c =
-    driver_on c.args.number c.args.line.now.1 c.args.line.now.0 c.args.driver.now c.drive_line.new.driver c.args.others.now.items (sym (same_thread C c.args.line.now.0 (sym c.is_thread.ensures ∙ c.if-is_thread.true))) c.requires.others c.in_ok-drive_line.ensures.ok
+    driver_on c.args.number c.args.line.now.1 c.args.line.now.0 c.args.driver.now c.drive_line.new.driver c.args.others.now.items
+    (sym (same_thread C c.args.line.now.0 (sym c.is_thread.ensures ∙ c.if-is_thread.true))) c.requires.others c.in_ok-drive_line.ensures.ok
 
 pub place_among-requires : goal.place_among-requires
 place_among-requires g c = own_thread c.args.line.now.0 c.args.line.now.1 c.requires.line (λ e. true≢false (sym (ap (is_thread C) e) ∙ (sym c.is_thread.ensures ∙ c.if-is_thread.false)))
@@ -27,7 +28,8 @@ run_told-requires-clause-act g c =
 pub run_told-requires-clause-index : goal.run_told-requires-clause-index
 run_told-requires-clause-index g c =
     let few : c.place_among.result < length c.args.others.now.items = (let n = c.requires.others.count in let m = c.place_among.ensures.few in omega (arith, n, m)) in
-    c.requires.up_to c.place_among.result c.index_mut.result.now (slice_get_read c.args.others.now.items (length c.args.others.now.items) c.place_among.result c.index_mut.result.now refl few c.index_mut.ensures.value)
+    c.requires.up_to c.place_among.result c.index_mut.result.now
+    (slice_get_read c.args.others.now.items (length c.args.others.now.items) c.place_among.result c.index_mut.result.now refl few c.index_mut.ensures.value)
 
 pub returns-clause-others : goal.returns-clause-others
 returns-clause-others g c =
@@ -48,4 +50,5 @@ returns-clause-runs g c =
     let t = c.args.line.now.0 in
     let is = own_thread t c.args.line.now.1 c.requires.line (λ e. true≢false (sym (ap (is_thread C) e) ∙ (sym c.is_thread.ensures ∙ c.if-is_thread.false))) in
     let thread = placed_thread c.args.others.now.items c.place_among.result c.index_mut.result.now t c.requires.others at is c.place_among.ensures.place in
-    other_on c.args.others.now.items c.place_among.result c.index_mut.result.now c.run_told.new.caller at c.args.number c.args.line.now.1 t c.args.driver.now c.run_told.new.driver c.requires.others thread c.run_told.ensures.thread c.in_ok-run_told.ensures.ok
+    other_on c.args.others.now.items c.place_among.result c.index_mut.result.now c.run_told.new.caller at c.args.number c.args.line.now.1
+    t c.args.driver.now c.run_told.new.driver c.requires.others thread c.run_told.ensures.thread c.in_ok-run_told.ensures.ok

@@ -28,12 +28,17 @@ loop-t-preserved g c =
             omega arith,
             w.drive_line.ensures.index,
             subst (λ n. DriverHolds script (i + 1) n w.drive_line.new.driver) (sym number)
-                (driver_holds script i c.loop-t.last d w.drive_line.new.driver line e (sym c.is_thread.ensures ∙ w.if-is_thread.true) (subst (λ n. DrivesLine d w.drive_line.new.driver n line.1) number w.in-Ok.ensures.ok) c.loop-t.invariant.3),
+                (driver_holds script i c.loop-t.last d w.drive_line.new.driver line e (sym c.is_thread.ensures ∙ w.if-is_thread.true)
+                (subst (λ n. DrivesLine d w.drive_line.new.driver n line.1) number w.in-Ok.ensures.ok) c.loop-t.invariant.3),
           ))
       | else-is_thread w ↦
           subst (λ m. Kept c.loop-t.number i m c.if-is_thread.driver (DriverHolds script)) (sym w.last-is)
-          (subst (λ f. Kept c.loop-t.number i c.loop-t.last f (DriverHolds script)) (sym w.driver-is)
-          (number, (let a = c.loop-t.invariant.1 in omega (arith, a)), c.loop-t.invariant.2, driver_passes script i c.loop-t.last d line e (sym c.is_thread.ensures ∙ w.if-is_thread.false) c.loop-t.invariant.3))
+          (subst (λ f. Kept c.loop-t.number i c.loop-t.last f (DriverHolds script)) (sym w.driver-is) (
+            number,
+            (let a = c.loop-t.invariant.1 in omega (arith, a)),
+            c.loop-t.invariant.2,
+            driver_passes script i c.loop-t.last d line e (sym c.is_thread.ensures ∙ w.if-is_thread.false) c.loop-t.invariant.3,
+          ))
     ]
 
 pub returns-clause-ok : goal.returns-clause-ok

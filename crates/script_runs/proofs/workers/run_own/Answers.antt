@@ -22,7 +22,8 @@ loop-t-preserved g c =
     let number : c.loop-t.number + 1 ≡ i + 1 = ap (λ n. n + 1) c.loop-t.invariant.0 in
     elim c.if-is_thread.branch [
       | then-is_thread+in_ok-run_line_beside w ↦
-          subst (λ (q : Pass). (c.loop-t.number + 1 ≡ i + 1) × (q.thread ≡ c.thread-thread.result) × (last_index (own q) ≤ c.loop-t.number + 1) × HoldsItsFirst script (i + 1) q opening_standing × (IsManagedThread q.thread → WaitsEnd (own q))) (sym w.caller-is) (
+          subst (λ (q : Pass). (c.loop-t.number + 1 ≡ i + 1) × (q.thread ≡ c.thread-thread.result) × (last_index (own q) ≤ c.loop-t.number + 1)
+          × HoldsItsFirst script (i + 1) q opening_standing × (IsManagedThread q.thread → WaitsEnd (own q))) (sym w.caller-is) (
             number,
             w.run_line_beside.ensures.thread ∙ same,
             w.run_line_beside.ensures.index,
@@ -32,8 +33,14 @@ loop-t-preserved g c =
             own_waits p w.run_line_beside.new.caller (c.loop-t.number + 1) (line_of script i).1 w.run_line_beside.ensures.thread w.in_ok-run_line_beside.ensures.ok c.loop-t.invariant.4,
           )
       | else-is_thread w ↦
-          subst (λ (q : Pass). (c.loop-t.number + 1 ≡ i + 1) × (q.thread ≡ c.thread-thread.result) × (last_index (own q) ≤ c.loop-t.number + 1) × HoldsItsFirst script (i + 1) q opening_standing × (IsManagedThread q.thread → WaitsEnd (own q))) (sym w.caller-is)
-          (number, same, (let a = c.loop-t.invariant.2 in omega (arith, a)), other_holds script i p (line_of script i) e (ap (λ t. is_thread t (line_of script i).0) same ∙ (sym c.is_thread.ensures ∙ w.if-is_thread.false)) c.loop-t.invariant.3, c.loop-t.invariant.4)
+          subst (λ (q : Pass). (c.loop-t.number + 1 ≡ i + 1) × (q.thread ≡ c.thread-thread.result) × (last_index (own q) ≤ c.loop-t.number + 1)
+          × HoldsItsFirst script (i + 1) q opening_standing × (IsManagedThread q.thread → WaitsEnd (own q))) (sym w.caller-is) (
+            number,
+            same,
+            (let a = c.loop-t.invariant.2 in omega (arith, a)),
+            other_holds script i p (line_of script i) e (ap (λ t. is_thread t (line_of script i).0) same ∙ (sym c.is_thread.ensures ∙ w.if-is_thread.false)) c.loop-t.invariant.3,
+            c.loop-t.invariant.4,
+          )
     ]
 
 pub returns : goal.returns
@@ -42,4 +49,5 @@ returns g c =
     let same = c.loop-t.invariant.1 ∙ c.thread-thread.ensures in
     let end : c.loop-t.t-index ≡ length c.args.script.now = omega arith in
     subst (λ t. HasRunLines c.args.script.now t p) same
-    (own_ends c.args.script.now p (subst IsOwnThread (sym same) c.requires.thread) (let a = c.loop-t.invariant.0 in let b = c.loop-t.invariant.2 in omega (arith, a, b, end)) (subst (λ n. HoldsItsFirst c.args.script.now n p opening_standing) end c.loop-t.invariant.3) c.loop-t.invariant.4)
+    (own_ends c.args.script.now p (subst IsOwnThread (sym same) c.requires.thread) (let a = c.loop-t.invariant.0 in let b = c.loop-t.invariant.2 in omega (arith, a, b, end))
+    (subst (λ n. HoldsItsFirst c.args.script.now n p opening_standing) end c.loop-t.invariant.3) c.loop-t.invariant.4)

@@ -7,4 +7,5 @@ use Rattle.run_laws.specs.Waits.{WaitsEnd}
 use Rattle.script_runs.proofs.workers.run_own.Given as goal
 
 abbrev pub invariant-loop-t : goal.invariant-loop-t
-invariant-loop-t g l = (l.number ≡ l.t-index) × (l.caller.thread ≡ l.thread) × (last_index (own l.caller) ≤ l.number) × HoldsItsFirst l.script l.t-index l.caller opening_standing × (IsManagedThread l.caller.thread → WaitsEnd (own l.caller))
+invariant-loop-t g l = (l.number ≡ l.t-index) × (l.caller.thread ≡ l.thread) × (last_index (own l.caller) ≤ l.number)
+    × HoldsItsFirst l.script l.t-index l.caller opening_standing × (IsManagedThread l.caller.thread → WaitsEnd (own l.caller))

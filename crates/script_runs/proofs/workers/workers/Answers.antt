@@ -47,7 +47,8 @@ loop-place-preserved g c =
           let p = w.in-Some-caller.caller in
           subst (λ (z : Waiting). Kept script z c.if-has_line.callers.items (n + 1)) (sym w.desk-is)
           (subst (λ qs. Kept script w.caller-then-has_line.new.self qs (n + 1)) (sym (ap (λ v. v.items) w.callers-is ∙ w.in_ok-push-2.ensures.items)) (
-            given_out script d w.caller-then-has_line.new.self ps n c.loop-place-test.true i.0 w.caller-then-has_line.result p (w.caller-then-has_line.ensures.desk ∙ ap (without_caller d) t) w.caller-then-has_line.ensures.all w.in-Some-caller.is
+            given_out script d w.caller-then-has_line.new.self ps n c.loop-place-test.true i.0 w.caller-then-has_line.result p
+                (w.caller-then-has_line.ensures.desk ∙ ap (without_caller d) t) w.caller-then-has_line.ensures.all w.in-Some-caller.is
                 (w.in-Some-caller.ensures.thread ∙ t) w.in-Some-caller.ensures.nothing,
             others_stay ps p n i.2 c.loop-place-test.true (w.in-Some-caller.ensures.thread ∙ t) i.1,
             next,
@@ -56,7 +57,8 @@ loop-place-preserved g c =
       | then-has_line+in_default-caller w ↦
           subst (λ (z : Waiting). Kept script z c.if-has_line.callers.items (n + 1)) (sym w.desk-is)
           (subst (λ qs. Kept script w.caller-then-has_line.new.self qs (n + 1)) (sym (ap (λ v. v.items) w.callers-is)) (
-            not_there script d w.caller-then-has_line.new.self ps n c.loop-place-test.true i.0 w.caller-then-has_line.result (w.caller-then-has_line.ensures.desk ∙ ap (without_caller d) t) w.caller-then-has_line.ensures.all w.in_default-caller.is,
+            not_there script d w.caller-then-has_line.new.self ps n c.loop-place-test.true i.0 w.caller-then-has_line.result
+                (w.caller-then-has_line.ensures.desk ∙ ap (without_caller d) t) w.caller-then-has_line.ensures.all w.in_default-caller.is,
             i.1,
             next,
             passed_in_order script ps n i.3,

@@ -24,7 +24,8 @@ write_cell-requires-clause-word c =
     let marks = subst (λ aim. mark m.op (target_told m.caller m.op aim) ≡ Some (c.in-Some-cell_set.k.0, c.in-Some.m.0)) (sym c.in-Some.is) (c.in-Some-cell_set.ensures.some c.in-Some.m) in
     let k : KeptEntry = kept v m c.args.target c.args.freed.now c.append-number.result in
     let grown : known c.append-number.new.seat.view 0 ≡ known v 0 ++ k ∷ [] = subst (λ i. known c.append-number.new.seat.view i ≡ known v i ++ k ∷ []) first c.append-number.ensures.grows.role in
-    sym (ap (λ ks. says_word ks c.in-Some-cell_set.k.0) grown ∙ says_set (known v 0) k c.in-Some-cell_set.k.0 c.in-Some.m.0 marks (c.requires.may.cells first c.in-Some-cell_set.k.0 c.in-Some.m.0 marks).3
+    sym (ap (λ ks. says_word ks c.in-Some-cell_set.k.0) grown ∙ says_set (known v 0) k c.in-Some-cell_set.k.0 c.in-Some.m.0 marks
+    (c.requires.may.cells first c.in-Some-cell_set.k.0 c.in-Some.m.0 marks).3
     (sets_frees_none m.op m.caller c.args.target c.args.freed.now c.in-Some-cell_set.k.0 c.in-Some.m.0 marks))
 
 pub returns-clause-one_history : goal.returns-clause-one_history

@@ -10,4 +10,5 @@ give_back-requires-clause-more c i =
     let l = c.lend.ensures.lent in
     let lent = c.lend.new.locked.view in
     let made = c.read-made.new.seat.view in
-    subst (λ ks. IsPrefix ks (known made i)) (sym (l.same i)) (prefix_trans (known c.args.mine.now.view i) (known lent i) (known made i) (l.heard i) (grows_begins lent made _ _ c.read-made.ensures.answers.reads.grows i))
+    subst (λ ks. IsPrefix ks (known made i)) (sym (l.same i)) (prefix_trans (known c.args.mine.now.view i)
+    (known lent i) (known made i) (l.heard i) (grows_begins lent made _ _ c.read-made.ensures.answers.reads.grows i))

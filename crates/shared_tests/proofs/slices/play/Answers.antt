@@ -13,4 +13,5 @@ returns-clause-all g c =
 pub returns-clause-idle : goal.returns-clause-idle
 returns-clause-idle g c =
     let same : length c.in_ok-ended.ended.items ≡ length c.in_ok-callers.callers.items = omega (arith, c.in_ok-ended.ensures.len) in
-    gone_are_idle c.in_ok-callers.callers.items c.in_ok-ended.ended.items same (λ i d l. c.in_ok-ended.ensures.threads i d (omega (arith, l))) (All-weaker IsStartingPeer IsStarting (λ p w. (peer_is_own p.thread w.0, w.1)) c.in_ok-callers.callers.items c.in_ok-callers.ensures.starting)
+    gone_are_idle c.in_ok-callers.callers.items c.in_ok-ended.ended.items same (λ i d l. c.in_ok-ended.ensures.threads i d (omega (arith, l)))
+    (All-weaker IsStartingPeer IsStarting (λ p w. (peer_is_own p.thread w.0, w.1)) c.in_ok-callers.callers.items c.in_ok-callers.ensures.starting)

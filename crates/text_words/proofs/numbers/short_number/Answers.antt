@@ -1,7 +1,8 @@
 use Rattle.std.proofs.Common.{get_or, inl, inr, refl, arith}
 use Rattle.text_words.proofs.Gathering.{no_digit, no_zero, so_far_first, so_far_more, so_far_small}
 use Rattle.text_words.proofs.numbers.short_number.Goals as goal
-use Rattle.text_words.proofs.numbers.short_number.Goals.{then-word-lt49-via-then-word-lt49, then-word-lt49-via-else-word-lt49+then-word-gt57, then-byte-lt48-via-then-byte-lt48, then-byte-lt48-via-else-byte-lt48+then-byte-gt57}
+use Rattle.text_words.proofs.numbers.short_number.Goals.{then-word-lt49-via-then-word-lt49, then-word-lt49-via-else-word-lt49+then-word-gt57, then-byte-lt48-via-then-byte-lt48}
+use Rattle.text_words.proofs.numbers.short_number.Goals.{then-byte-lt48-via-else-byte-lt48+then-byte-gt57}
 
 pub returns-then-word-lt49 : goal.returns-then-word-lt49
 returns-then-word-lt49 c = λ n l e. elim c.then-word-lt49.branch [
@@ -25,4 +26,5 @@ pub overflow_add-n : goal.overflow_add-n
 overflow_add-n c = (let s = so_far_small c.args.word.now c.loop-i.i c.loop-i.n (omega arith) c.loop-i.invariant in omega (arith, s))
 
 pub loop-i-preserved : goal.loop-i-preserved
-loop-i-preserved c = so_far_more c.args.word.now c.loop-i.i c.loop-i.n (get_or c.args.word.now c.loop-i.i 0) c.loop-i-test.true (omega arith) refl c.if-byte-lt48.false c.if-byte-gt57.false c.loop-i.invariant
+loop-i-preserved c = so_far_more c.args.word.now c.loop-i.i c.loop-i.n (get_or c.args.word.now c.loop-i.i 0) c.loop-i-test.true
+    (omega arith) refl c.if-byte-lt48.false c.if-byte-gt57.false c.loop-i.invariant

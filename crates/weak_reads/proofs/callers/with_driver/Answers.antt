@@ -13,7 +13,8 @@ drive-requires-clause-ready g c = given_is_ready c.in-Some.driver (subst IsThrea
 pub returns-clause-all : goal.returns-clause-all
 returns-clause-all g c =
     subst (HasAll c.caller.new.self) (sym c.in_ok-push.ensures.items)
-    (given_goes_on c.args.desk.now c.caller.new.self c.caller.result c.in-Some.driver c.in_ok-driver.driver c.args.callers.items c.in-Some.is c.caller.ensures.all c.in_ok-driver.ensures.0.0 c.requires.all)
+    (given_goes_on c.args.desk.now c.caller.new.self c.caller.result c.in-Some.driver c.in_ok-driver.driver
+    c.args.callers.items c.in-Some.is c.caller.ensures.all c.in_ok-driver.ensures.0.0 c.requires.all)
 
 pub returns-clause-ready : goal.returns-clause-ready
 returns-clause-ready g c =

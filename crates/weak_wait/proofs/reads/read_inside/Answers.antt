@@ -16,7 +16,8 @@ note-number-requires-clause-may c = let x = c.load_cell-word.new.seat.view in le
     (ap (λ ls. pin (at [] ls (c.args.reader + 10))) s.known ∙ c.requires.empty)
 
 pub store_pin-requires-clause-object : goal.store_pin-requires-clause-object
-store_pin-requires-clause-object c = pin_filled c.args.reader c.args.index c.args.act.now c.got_of-got.result c.note-number.result c.load_cell-word.new.seat.view c.note-number.new.seat.view c.in-Got.m c.requires.act c.in-Got.is c.note-number.ensures.grows
+store_pin-requires-clause-object c = pin_filled c.args.reader c.args.index c.args.act.now c.got_of-got.result c.note-number.result
+    c.load_cell-word.new.seat.view c.note-number.new.seat.view c.in-Got.m c.requires.act c.in-Got.is c.note-number.ensures.grows
 
 pub returns-clause-answers : goal.returns-clause-answers
 returns-clause-answers c =
@@ -25,7 +26,8 @@ returns-clause-answers c =
     let y : View = c.note-number.new.seat.view in
     let w = c.leave.new.seat.view in
     let left = c.leave.ensures.seat.1 in
-    let mid : (c.match-got.seat.view.known ≡ y.known) × (c.match-got.seat.view.owns ≡ y.owns) × (c.match-got.seat.view.holds ≡ y.holds) × (c.match-got.got ≡ c.got_of-got.result) = elim c.match-got.branch [
+    let mid : (c.match-got.seat.view.known ≡ y.known) × (c.match-got.seat.view.owns ≡ y.owns)
+    × (c.match-got.seat.view.holds ≡ y.holds) × (c.match-got.got ≡ c.got_of-got.result) = elim c.match-got.branch [
       | in-Got z ↦ (
         ap (λ (s : Shown). s.view.known) z.seat-is ∙ ap (λ (u : View). u.known) z.store_pin.ensures.1,
         ap (λ (s : Shown). s.view.owns) z.seat-is ∙ ap (λ (u : View). u.owns) z.store_pin.ensures.1,
@@ -35,7 +37,8 @@ returns-clause-answers c =
       | in_default z ↦ (ap (λ (s : Shown). s.view.known) z.seat-is, ap (λ (s : Shown). s.view.owns) z.seat-is, ap (λ (s : Shown). s.view.holds) z.seat-is, z.got-is)
     ] in
     subst (λ g. Answers c.args.reader c.args.index c.args.act.now c.note-number.result g v w c.args.entries.now c.note-number.new.entries) (sym mid.3)
-    (inside_answers c.args.reader c.args.index c.args.act.now c.got_of-got.result c.note-number.result c.load_cell-word.result v x y w c.args.entries.now c.note-number.new.entries c.load_cell-word.ensures.stays c.note-number.ensures.grows c.note-number.ensures.above c.note-number.ensures.one_history
+    (inside_answers c.args.reader c.args.index c.args.act.now c.got_of-got.result c.note-number.result c.load_cell-word.result v x y w c.args.entries.now
+    c.note-number.new.entries c.load_cell-word.ensures.stays c.note-number.ensures.grows c.note-number.ensures.above c.note-number.ensures.one_history
     (ap (λ (u : View). u.holds) c.note-number.ensures.view)
     (ap (λ (u : View). u.known) left ∙ mid.0) (ap (λ (u : View). u.owns) left ∙ mid.1) (ap (λ (u : View). u.holds) left ∙ mid.2)
     c.got_of-got.ensures c.requires.empty

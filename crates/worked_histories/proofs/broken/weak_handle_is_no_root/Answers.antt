@@ -10,7 +10,10 @@ use Rattle.worked_histories.proofs.Worked.{lawful, is_swept_by}
 use Rattle.worked_histories.proofs.broken.weak_handle_is_no_root.Goals as goal
 
 both_freed : (s : PeerReplay) (mk : Marking) (freed : List ℕ) → IsSweep s mk freed → IsSweep s mk (1 ∷ 2 ∷ []) → Contains freed 1 × Contains freed 2
-both_freed s mk freed is known = ((is.exact 1).1 ((known.exact 1).0 ((member nat_eq same (1 ∷ 2 ∷ []) 1).holds refl)), (is.exact 2).1 ((known.exact 2).0 ((member nat_eq same (1 ∷ 2 ∷ []) 2).holds refl)))
+both_freed s mk freed is known = (
+  (is.exact 1).1 ((known.exact 1).0 ((member nat_eq same (1 ∷ 2 ∷ []) 1).holds refl)),
+  (is.exact 2).1 ((known.exact 2).0 ((member nat_eq same (1 ∷ 2 ∷ []) 2).holds refl)),
+)
 
 pub returns : goal.returns
 returns c = record {

@@ -11,6 +11,7 @@ use Rattle.worked_histories.proofs.graphs.components_of_a_light_meeting.Goals as
 pub returns : goal.returns
 returns c = record {
   contraction = (pair_contraction light_meeting light_nodes light_bridges refl light_components [] light_references).holds refl;
-  not_heavy = λ xrefs k. refuted (heavy (Contains light_bridges) (HasEdge light_meeting) (pair_graph light_meeting light_nodes light_bridges) (pair_listed light_meeting light_nodes light_bridges refl) 9) refl
+  not_heavy = λ xrefs k. refuted (heavy (Contains light_bridges) (HasEdge light_meeting)
+      (pair_graph light_meeting light_nodes light_bridges) (pair_listed light_meeting light_nodes light_bridges refl) 9) refl
       ((k.heavies 9).0 ((member nat_eq same (9 ∷ []) 9).holds refl)).0;
 }

@@ -10,7 +10,8 @@ use Rattle.worked_histories.proofs.histories.resolution_keeps_the_answered.Goals
 use Rattle.joint_machine.specs.Told.{said_alive, said_cleared, Answer}
 
 none_kept : (cycle : OpenCycle) (alive : List Answer) → cycle.candidates ≡ 1 ∷ 2 ∷ [] → alive ≡ said_cleared ∷ said_cleared ∷ [] → (x : ℕ) → IsAnsweredAlive cycle.candidates alive x → ⊥
-none_kept cycle alive p q x a = refuted (answered (1 ∷ 2 ∷ []) (said_cleared ∷ said_cleared ∷ []) x) refl (a.0, subst (λ l. slice_get l a.0 ≡ Some x) p a.1, (a.2.0, subst (λ l. slice_get l a.0 ≡ Some (said_alive a.2.0)) q a.2.1))
+none_kept cycle alive p q x a = refuted (answered (1 ∷ 2 ∷ []) (said_cleared ∷ said_cleared ∷ []) x) refl
+    (a.0, subst (λ l. slice_get l a.0 ≡ Some x) p a.1, (a.2.0, subst (λ l. slice_get l a.0 ≡ Some (said_alive a.2.0)) q a.2.1))
 
 the_cycle : OpenCycle
 the_cycle = record { number = 2; candidates = 1 ∷ 2 ∷ []; dead = 1 ∷ 2 ∷ [] }

@@ -29,7 +29,8 @@ pub push_reserved-requires-then-members-gt1 : goal.push_reserved-requires-then-m
 push_reserved-requires-then-members-gt1 c = omega (arith, c.loop-i.invariant.count, c.loop-i.invariant.capacity, c.requires.room, c.loop-i.auto.i-end (omega (arith, c.if-members-gt1.true)))
 
 pub returns-after-loop-i : goal.returns-after-loop-i
-returns-after-loop-i c = circle-closed c.args.members.now c.args.circles.now.items c.loop-i.circles.items _ c.loop-i.i c.if-members-gt1.true c.loop-i-test.false (c.loop-i.auto.i-end (omega (arith, c.if-members-gt1.true))) c.loop-i.invariant.rest c.push_reserved-then-members-gt1.ensures.items
+returns-after-loop-i c = circle-closed c.args.members.now c.args.circles.now.items c.loop-i.circles.items _ c.loop-i.i c.if-members-gt1.true c.loop-i-test.false
+    (c.loop-i.auto.i-end (omega (arith, c.if-members-gt1.true))) c.loop-i.invariant.rest c.push_reserved-then-members-gt1.ensures.items
 
 pub returns-else-members-gt1 : goal.returns-else-members-gt1
 returns-else-members-gt1 c = circle-alone c.args.members.now c.args.circles.now.items c.if-members-gt1.false

@@ -9,6 +9,7 @@ returns-clause-kept c = (c.reserve.ensures.items, c.reserve-2.ensures.items, c.r
 pub returns-clause-room : goal.returns-clause-room
 returns-clause-room c =
     let roomy : vec_len c.reserve-3.new.self + c.args.more ≤ vec_capacity c.reserve-3.new.self
-    → (vec_len c.reserve.new.self + c.args.comps ≤ vec_capacity c.reserve.new.self) × (vec_len c.reserve-2.new.self + c.args.more ≤ vec_capacity c.reserve-2.new.self) × (vec_len c.reserve-3.new.self + c.args.more ≤ vec_capacity c.reserve-3.new.self) =
+    → (vec_len c.reserve.new.self + c.args.comps ≤ vec_capacity c.reserve.new.self) × (vec_len c.reserve-2.new.self + c.args.more ≤ vec_capacity c.reserve-2.new.self)
+    × (vec_len c.reserve-3.new.self + c.args.more ≤ vec_capacity c.reserve-3.new.self) =
     λ last. (c.in_ok-reserve.ensures.ok, c.in_ok-reserve-2.ensures.ok, last) in
     on_ok_weaker _ roomy c.reserve-3.ensures.ok

@@ -13,7 +13,8 @@ phases-init g c = (partway_none c.args.self.now c.args.index, c.requires.index)
 
 pub phases-preserved : goal.phases-preserved
 phases-preserved g c =
-    let f = partway_more c.args.self.now c.phases.self c.advance.new.self c.args.index c.in_ok-advance.field-0 c.phases.invariant.0 (λ e. let q = c.phase.ensures ∙ e in true_false (rw q at c.phases-test.ensures)) c.in_ok-advance.ensures.ok in
+    let f = partway_more c.args.self.now c.phases.self c.advance.new.self c.args.index c.in_ok-advance.field-0 c.phases.invariant.0
+    (λ e. let q = c.phase.ensures ∙ e in true_false (rw q at c.phases-test.ensures)) c.in_ok-advance.ensures.ok in
     (f.now, c.advance.ensures.index)
 
 pub returns-in_err-advance-clause-err : goal.returns-in_err-advance-clause-err
@@ -21,5 +22,6 @@ returns-in_err-advance-clause-err g c = at_error c.from_residual.result (partway
 
 pub returns-clause-ok : goal.returns-clause-ok
 returns-clause-ok g c =
-    IfOk-weaker c.advance-2.result (λ reply. EndsWithReply c.phases.self c.advance-2.new.self c.args.index (next_word c.phases.self.phase ∷ []) reply) (λ reply. EndsWithReply c.args.self.now c.advance-2.new.self c.args.index (to_come c.args.self.now.phase) reply)
+    IfOk-weaker c.advance-2.result (λ reply. EndsWithReply c.phases.self c.advance-2.new.self c.args.index (next_word c.phases.self.phase ∷ []) reply)
+    (λ reply. EndsWithReply c.args.self.now c.advance-2.new.self c.args.index (to_come c.args.self.now.phase) reply)
     (λ reply w. closes_now c.args.self.now c.phases.self c.advance-2.new.self c.args.index reply c.phases.invariant.0 (search rules) w) c.advance-2.ensures.ok

@@ -7,8 +7,10 @@ use Rattle.bridge_cycle.proofs.driver.Driver.run_word.Goals as goal
 
 pub returns-then-eq-clause-err : goal.returns-then-eq-clause-err
 returns-then-eq-clause-err g c =
-    on_err_weaker c.finish_cycle.result (line_stops c.args.self.now c.finish_cycle.new.self c.args.index c.args.word (to_come c.args.self.now.phase) (search rules) (cycle_due c.args.self.now.phase c.args.word (search rules) (search rules))) c.finish_cycle.ensures.err
+    on_err_weaker c.finish_cycle.result (line_stops c.args.self.now c.finish_cycle.new.self c.args.index c.args.word (to_come c.args.self.now.phase)
+    (search rules) (cycle_due c.args.self.now.phase c.args.word (search rules) (search rules))) c.finish_cycle.ensures.err
 
 pub returns-clause-err : goal.returns-clause-err
 returns-clause-err g c =
-    on_err_weaker c.advance.result (λ w. line_stops c.args.self.now c.advance.new.self c.args.index c.args.word (next_word c.args.self.now.phase ∷ []) (search rules) (word_due c.args.self.now.phase c.args.word (search rules)) (one_stops c.args.self.now c.advance.new.self c.args.index (next_word c.args.self.now.phase) w)) c.advance.ensures.err
+    on_err_weaker c.advance.result (λ w. line_stops c.args.self.now c.advance.new.self c.args.index c.args.word (next_word c.args.self.now.phase ∷ []) (search rules)
+    (word_due c.args.self.now.phase c.args.word (search rules)) (one_stops c.args.self.now c.advance.new.self c.args.index (next_word c.args.self.now.phase) w)) c.advance.ensures.err

@@ -63,7 +63,13 @@ pub pack-requires-clause-most : goal.pack-requires-clause-most
 pack-requires-clause-most c = omega (arith, c.deref-2.ensures.len, c.self.invariant.most)
 
 pub pack-requires-clause-nexts : goal.pack-requires-clause-nexts
-pack-requires-clause-nexts c = omega (arith, ap length (c.deref-3.ensures.value ∙ take_at c.link_up.new.nexts _ c.self.inside.nexts.len (omega arith)), c.deref_mut.ensures.len, c.deref-2.ensures.len, c.self.invariant.nexts)
+pack-requires-clause-nexts c = omega (
+  arith,
+  ap length (c.deref-3.ensures.value ∙ take_at c.link_up.new.nexts _ c.self.inside.nexts.len (omega arith)),
+  c.deref_mut.ensures.len,
+  c.deref-2.ensures.len,
+  c.self.invariant.nexts,
+)
 
 pub pack-requires-clause-linked : goal.pack-requires-clause-linked
 pack-requires-clause-linked c =
@@ -76,7 +82,13 @@ pack-requires-clause-firsts c =
     rw (c.deref-2.ensures.value, c.deref_mut-3.ensures.value, take_at c.link_up.new.firsts _ c.self.inside.firsts.len (omega arith)) firsts
 
 pub pack-requires-clause-few : goal.pack-requires-clause-few
-pack-requires-clause-few c = omega (arith, ap length (c.deref_mut-3.ensures.value ∙ take_at c.link_up.new.firsts _ c.self.inside.firsts.len (omega arith)), c.deref_mut-2.ensures.len, c.self.invariant.few, c.self.invariant.firsts)
+pack-requires-clause-few c = omega (
+  arith,
+  ap length (c.deref_mut-3.ensures.value ∙ take_at c.link_up.new.firsts _ c.self.inside.firsts.len (omega arith)),
+  c.deref_mut-2.ensures.len,
+  c.self.invariant.few,
+  c.self.invariant.firsts,
+)
 
 pub pack-requires-clause-empty : goal.pack-requires-clause-empty
 pack-requires-clause-empty c = c.self.invariant.empty

@@ -9,4 +9,5 @@ invariant_of-self c =
     let bytes = c.self.inside.bytes.now in
     let text = rw (rest_of c.args.at bytes) at c.of-text.ensures in
     let read = rw text at c.in-Ok.ensures in
-    All-set (HasItsText bytes) c.self.inside.kept c.mark-mark.result (Some (record { at = c.args.at; len = c.args.len; line = c.in-Ok.line })) (rw (← c.self.view_is) at c.requires, read) c.self.invariant
+    All-set (HasItsText bytes) c.self.inside.kept c.mark-mark.result
+    (Some (record { at = c.args.at; len = c.args.len; line = c.in-Ok.line })) (rw (← c.self.view_is) at c.requires, read) c.self.invariant

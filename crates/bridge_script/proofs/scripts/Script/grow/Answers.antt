@@ -10,14 +10,17 @@ returns-then-cycles-gt-MOST_CYCLES c text reads =
     let counted = rw c.self.view_is at c.self.invariant.1 in
     let read = rw c.in-Ok.is at reads in
     let room : length c.self.inside.lines.items < 20000 = omega arith in
-    rw (c.refusal-then-cycles-gt-MOST_CYCLES.ensures, ← read.1) (refl, cycles_first c.args.self.now c.in-Ok.line c.args.end read.0 (rw c.self.view_is at room) (omega arith) (rw c.self.view_is at c.self.invariant.0).cycles (omega (arith, counted)))
+    rw (c.refusal-then-cycles-gt-MOST_CYCLES.ensures, ← read.1)
+    (refl, cycles_first c.args.self.now c.in-Ok.line c.args.end read.0 (rw c.self.view_is at room) (omega arith) (rw c.self.view_is at c.self.invariant.0).cycles (omega (arith, counted)))
 
 pub invariant_of-self-2 : goal.invariant_of-self-2
 invariant_of-self-2 c =
     let lawful = rw c.in-Ok.is at c.requires in
     let counted = c.self.invariant.1 in
-    rw c.in-Ok-push.ensures.items
-    (script_grown c.self.inside.lines.items c.in-Ok.line c.self.invariant.0 lawful (omega arith) (omega (arith, counted)), omega (arith, counted, sum_by_push (λ l. cond (is_cycle l) 1 0) c.self.inside.lines.items c.in-Ok.line))
+    rw c.in-Ok-push.ensures.items (
+      script_grown c.self.inside.lines.items c.in-Ok.line c.self.invariant.0 lawful (omega arith) (omega (arith, counted)),
+      omega (arith, counted, sum_by_push (λ l. cond (is_cycle l) 1 0) c.self.inside.lines.items c.in-Ok.line),
+    )
 
 pub returns : goal.returns
 returns c text reads =

@@ -12,7 +12,8 @@ invariant_of-self c =
 
 pub returns-clause-labels : goal.returns-clause-labels
 returns-clause-labels c = λ i e. elim c.match-insert.branch [
-  | in-Ok w ↦ rw (w.result-is, ← c.self.view_is) (ap (λ es. map label_in es) w.in-Ok.ensures.entries ∙ insert-labels c.self.inside.entries.entries c.args.m c.args.label i c.self.invariant (rw (← c.self.view_is) at e))
+  | in-Ok w ↦ rw (w.result-is, ← c.self.view_is) (ap (λ es. map label_in es) w.in-Ok.ensures.entries
+      ∙ insert-labels c.self.inside.entries.entries c.args.m c.args.label i c.self.invariant (rw (← c.self.view_is) at e))
   | in-Err w ↦ rw w.result-is tt
 ]
 
@@ -20,6 +21,7 @@ pub returns-clause-numbers : goal.returns-clause-numbers
 returns-clause-numbers c =
     let at = at-Contains _ c.args.m.0 (rw (← c.self.view_is) at c.requires) in
     elim c.match-insert.branch [
-      | in-Ok w ↦ rw (w.result-is, ← c.self.view_is) (ap (λ es. map number_of es) w.in-Ok.ensures.entries ∙ insert-numbers c.self.inside.entries.entries c.args.m c.args.label at.0 c.self.invariant at.1)
+      | in-Ok w ↦ rw (w.result-is, ← c.self.view_is) (ap (λ es. map number_of es) w.in-Ok.ensures.entries
+          ∙ insert-numbers c.self.inside.entries.entries c.args.m c.args.label at.0 c.self.invariant at.1)
       | in-Err w ↦ rw w.result-is tt
     ]

@@ -6,7 +6,8 @@ use Rattle.joint_history.proofs.SeatsKnow.{managed_list_cites, resolves_freed, r
 use Rattle.joint_history.proofs.managed.LockedManaged.facts.Goals as goal
 
 pub returns-clause-cites : goal.returns-clause-cites
-returns-clause-cites g c = subst (λ (u : UnderManaged). ManagedListCites u.view u.side.entries) c.self.view_is (managed_list_cites c.self.inside.seat.view (as_side c.self.inside.side) c.self.invariant.2)
+returns-clause-cites g c = subst (λ (u : UnderManaged). ManagedListCites u.view u.side.entries) c.self.view_is
+    (managed_list_cites c.self.inside.seat.view (as_side c.self.inside.side) c.self.invariant.2)
 
 pub returns-clause-resolved : goal.returns-clause-resolved
 returns-clause-resolved g c = resolves_freed c.args.self.now.view

@@ -15,18 +15,31 @@ use Rattle.joint_history.proofs.managed.LockedManaged.finalise.Goals as goal
 pub give_back-requires-clause-more : goal.give_back-requires-clause-more
 give_back-requires-clause-more g c =
     let make : ℕ × Reply → Entry = λ x. driver_entry x.0 c.args.index (op.Line (act.Finalise c.args.count)) x.1 None in
-    more_back C c.self.inside.seat.view c.args.mine.now.view c.lend.new.locked.view c.lend.new.mine.view c.draw_step-made.new.seat.view c.lend.ensures.lent (drew_more managed_rules 0 c.args.order.now c.lend.new.locked c.draw_step-made.new.seat (as_side c.self.inside.side) (as_side c.draw_step-made.new.side) make nothing c.draw_step-made.result c.draw_step-made.ensures.drew c.draw_step-made.ensures.err)
+    more_back C c.self.inside.seat.view c.args.mine.now.view c.lend.new.locked.view c.lend.new.mine.view c.draw_step-made.new.seat.view c.lend.ensures.lent
+    (drew_more managed_rules 0 c.args.order.now c.lend.new.locked c.draw_step-made.new.seat (as_side c.self.inside.side)
+    (as_side c.draw_step-made.new.side) make nothing c.draw_step-made.result c.draw_step-made.ensures.drew c.draw_step-made.ensures.err)
 
 pub invariant_of-self : goal.invariant_of-self
 invariant_of-self g c =
     let make : ℕ × Reply → Entry = λ x. driver_entry x.0 c.args.index (op.Line (act.Finalise c.args.count)) x.1 None in
-    let d = did C c.self.inside.seat.view c.args.mine.now.view c.lend.new.locked.view c.lend.new.mine.view c.draw_step-made.new.seat.view c.give_back.new.locked.view c.give_back.new.mine.view 0 tt (omega arith) c.requires.pass c.self.invariant.1 c.lend.ensures.lent
-    (drew_owns managed_rules 0 c.args.order.now c.lend.new.locked c.draw_step-made.new.seat (as_side c.self.inside.side) (as_side c.draw_step-made.new.side) make nothing c.draw_step-made.result c.draw_step-made.ensures.drew c.draw_step-made.ensures.err) c.give_back.ensures.returned in
-    let w = finalise_called c.self.inside.seat.view c.args.mine.now.view c.lend.new.mine.view c.give_back.new.locked.view c.give_back.new.mine.view c.args.order.now c.lend.new.locked c.draw_step-made.new.seat (as_side c.self.inside.side) (as_side c.draw_step-made.new.side) c.args.index c.requires.pass c.self.invariant.1 (omega (arith, c.ranges.index.fits)) c.self.invariant.2 c.lend.ensures.lent c.give_back.ensures.returned c.args.count c.draw_step-made.result c.requires.may c.draw_step-made.ensures.drew c.draw_step-made.ensures.err in
+    let d = did C c.self.inside.seat.view c.args.mine.now.view c.lend.new.locked.view c.lend.new.mine.view c.draw_step-made.new.seat.view
+    c.give_back.new.locked.view c.give_back.new.mine.view 0 tt (omega arith) c.requires.pass c.self.invariant.1 c.lend.ensures.lent
+    (drew_owns managed_rules 0 c.args.order.now c.lend.new.locked c.draw_step-made.new.seat (as_side c.self.inside.side)
+    (as_side c.draw_step-made.new.side) make nothing c.draw_step-made.result c.draw_step-made.ensures.drew c.draw_step-made.ensures.err) c.give_back.ensures.returned in
+    let w = finalise_called c.self.inside.seat.view c.args.mine.now.view c.lend.new.mine.view c.give_back.new.locked.view c.give_back.new.mine.view c.args.order.now c.lend.new.locked
+    c.draw_step-made.new.seat (as_side c.self.inside.side) (as_side c.draw_step-made.new.side) c.args.index c.requires.pass c.self.invariant.1
+    (omega (arith, c.ranges.index.fits)) c.self.invariant.2 c.lend.ensures.lent c.give_back.ensures.returned
+    c.args.count c.draw_step-made.result c.requires.may c.draw_step-made.ensures.drew c.draw_step-made.ensures.err in
     (c.give_back.ensures.order.0 ∙ c.requires.order.0, d.owns, w.knows, c.draw_step-made.ensures.threads ∙ c.self.invariant.3, c.give_back.ensures.settled.0)
 
 pub returns-clause-ok : goal.returns-clause-ok
-returns-clause-ok g c = (finalise_called c.self.inside.seat.view c.args.mine.now.view c.lend.new.mine.view c.give_back.new.locked.view c.give_back.new.mine.view c.args.order.now c.lend.new.locked c.draw_step-made.new.seat (as_side c.self.inside.side) (as_side c.draw_step-made.new.side) c.args.index c.requires.pass c.self.invariant.1 (omega (arith, c.ranges.index.fits)) c.self.invariant.2 c.lend.ensures.lent c.give_back.ensures.returned c.args.count c.draw_step-made.result c.requires.may c.draw_step-made.ensures.drew c.draw_step-made.ensures.err).ok
+returns-clause-ok g c = (finalise_called c.self.inside.seat.view c.args.mine.now.view c.lend.new.mine.view c.give_back.new.locked.view c.give_back.new.mine.view c.args.order.now
+    c.lend.new.locked c.draw_step-made.new.seat (as_side c.self.inside.side) (as_side c.draw_step-made.new.side) c.args.index c.requires.pass c.self.invariant.1
+    (omega (arith, c.ranges.index.fits)) c.self.invariant.2 c.lend.ensures.lent c.give_back.ensures.returned
+    c.args.count c.draw_step-made.result c.requires.may c.draw_step-made.ensures.drew c.draw_step-made.ensures.err).ok
 
 pub returns-clause-err : goal.returns-clause-err
-returns-clause-err g c = (finalise_called c.self.inside.seat.view c.args.mine.now.view c.lend.new.mine.view c.give_back.new.locked.view c.give_back.new.mine.view c.args.order.now c.lend.new.locked c.draw_step-made.new.seat (as_side c.self.inside.side) (as_side c.draw_step-made.new.side) c.args.index c.requires.pass c.self.invariant.1 (omega (arith, c.ranges.index.fits)) c.self.invariant.2 c.lend.ensures.lent c.give_back.ensures.returned c.args.count c.draw_step-made.result c.requires.may c.draw_step-made.ensures.drew c.draw_step-made.ensures.err).err
+returns-clause-err g c = (finalise_called c.self.inside.seat.view c.args.mine.now.view c.lend.new.mine.view c.give_back.new.locked.view c.give_back.new.mine.view c.args.order.now
+    c.lend.new.locked c.draw_step-made.new.seat (as_side c.self.inside.side) (as_side c.draw_step-made.new.side) c.args.index c.requires.pass c.self.invariant.1
+    (omega (arith, c.ranges.index.fits)) c.self.invariant.2 c.lend.ensures.lent c.give_back.ensures.returned
+    c.args.count c.draw_step-made.result c.requires.may c.draw_step-made.ensures.drew c.draw_step-made.ensures.err).err

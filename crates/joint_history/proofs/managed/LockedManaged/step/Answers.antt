@@ -14,29 +14,39 @@ pub give_back-requires-clause-more : goal.give_back-requires-clause-more
 give_back-requires-clause-more g c =
     let make : ℕ × Reply → Entry = λ x. numbered x.0 (made_by c.args.caller c.args.index c.args.op.now x.1 c.args.cites) in
     more_back c.args.caller c.self.inside.seat.view c.args.mine.now.view c.lend.new.locked.view c.lend.new.mine.view c.draw_step-made.new.seat.view c.lend.ensures.lent
-    (drew_more managed_rules 0 c.args.order.now c.lend.new.locked c.draw_step-made.new.seat (as_side c.self.inside.side) (as_side c.draw_step-made.new.side) make nothing c.draw_step-made.result c.draw_step-made.ensures.drew c.draw_step-made.ensures.err)
+    (drew_more managed_rules 0 c.args.order.now c.lend.new.locked c.draw_step-made.new.seat (as_side c.self.inside.side)
+    (as_side c.draw_step-made.new.side) make nothing c.draw_step-made.result c.draw_step-made.ensures.drew c.draw_step-made.ensures.err)
 
 pub invariant_of-self : goal.invariant_of-self
 invariant_of-self g c =
     let make : ℕ × Reply → Entry = λ x. numbered x.0 (made_by c.args.caller c.args.index c.args.op.now x.1 c.args.cites) in
-    let d = did c.args.caller c.self.inside.seat.view c.args.mine.now.view c.lend.new.locked.view c.lend.new.mine.view c.draw_step-made.new.seat.view c.give_back.new.locked.view c.give_back.new.mine.view 0 c.requires.pass.0 (omega arith) c.requires.pass.1 c.self.invariant.1 c.lend.ensures.lent
-    (drew_owns managed_rules 0 c.args.order.now c.lend.new.locked c.draw_step-made.new.seat (as_side c.self.inside.side) (as_side c.draw_step-made.new.side) make nothing c.draw_step-made.result c.draw_step-made.ensures.drew c.draw_step-made.ensures.err) c.give_back.ensures.returned in
-    let w = called_managed c.args.caller c.args.index c.args.op.now c.args.cites (λ x. nothing) c.args.order.now c.self.inside.seat.view c.args.mine.now.view c.lend.new.mine.view c.give_back.new.locked.view c.give_back.new.mine.view c.lend.new.locked c.draw_step-made.new.seat (as_side c.self.inside.side) (as_side c.draw_step-made.new.side) c.draw_step-made.result
-    c.requires.pass.0 c.requires.pass.1 c.self.invariant.1 (omega (arith, c.ranges.index.fits)) c.self.invariant.2 c.requires.may (plain_stand c.draw_step-made.result c.self.inside.side.state.managed) c.lend.ensures.lent c.draw_step-made.ensures.drew c.draw_step-made.ensures.err c.give_back.ensures.returned in
+    let d = did c.args.caller c.self.inside.seat.view c.args.mine.now.view c.lend.new.locked.view c.lend.new.mine.view c.draw_step-made.new.seat.view
+    c.give_back.new.locked.view c.give_back.new.mine.view 0 c.requires.pass.0 (omega arith) c.requires.pass.1 c.self.invariant.1 c.lend.ensures.lent
+    (drew_owns managed_rules 0 c.args.order.now c.lend.new.locked c.draw_step-made.new.seat (as_side c.self.inside.side)
+    (as_side c.draw_step-made.new.side) make nothing c.draw_step-made.result c.draw_step-made.ensures.drew c.draw_step-made.ensures.err) c.give_back.ensures.returned in
+    let w = called_managed c.args.caller c.args.index c.args.op.now c.args.cites (λ x. nothing) c.args.order.now c.self.inside.seat.view c.args.mine.now.view c.lend.new.mine.view
+    c.give_back.new.locked.view c.give_back.new.mine.view c.lend.new.locked c.draw_step-made.new.seat (as_side c.self.inside.side) (as_side c.draw_step-made.new.side) c.draw_step-made.result
+    c.requires.pass.0 c.requires.pass.1 c.self.invariant.1 (omega (arith, c.ranges.index.fits)) c.self.invariant.2 c.requires.may
+    (plain_stand c.draw_step-made.result c.self.inside.side.state.managed) c.lend.ensures.lent c.draw_step-made.ensures.drew c.draw_step-made.ensures.err c.give_back.ensures.returned in
     (c.give_back.ensures.order.0 ∙ c.requires.order.0, d.owns, w.knows, c.draw_step-made.ensures.threads ∙ c.self.invariant.3, c.give_back.ensures.settled.0)
 
 pub returns-clause-ok : goal.returns-clause-ok
 returns-clause-ok g c =
-    (called_managed c.args.caller c.args.index c.args.op.now c.args.cites (λ x. nothing) c.args.order.now c.self.inside.seat.view c.args.mine.now.view c.lend.new.mine.view c.give_back.new.locked.view c.give_back.new.mine.view c.lend.new.locked c.draw_step-made.new.seat (as_side c.self.inside.side) (as_side c.draw_step-made.new.side) c.draw_step-made.result
-    c.requires.pass.0 c.requires.pass.1 c.self.invariant.1 (omega (arith, c.ranges.index.fits)) c.self.invariant.2 c.requires.may (plain_stand c.draw_step-made.result c.self.inside.side.state.managed) c.lend.ensures.lent c.draw_step-made.ensures.drew c.draw_step-made.ensures.err c.give_back.ensures.returned).ok
+    (called_managed c.args.caller c.args.index c.args.op.now c.args.cites (λ x. nothing) c.args.order.now c.self.inside.seat.view c.args.mine.now.view c.lend.new.mine.view
+    c.give_back.new.locked.view c.give_back.new.mine.view c.lend.new.locked c.draw_step-made.new.seat (as_side c.self.inside.side) (as_side c.draw_step-made.new.side) c.draw_step-made.result
+    c.requires.pass.0 c.requires.pass.1 c.self.invariant.1 (omega (arith, c.ranges.index.fits)) c.self.invariant.2 c.requires.may
+    (plain_stand c.draw_step-made.result c.self.inside.side.state.managed) c.lend.ensures.lent c.draw_step-made.ensures.drew c.draw_step-made.ensures.err c.give_back.ensures.returned).ok
 
 pub returns-clause-err : goal.returns-clause-err
 returns-clause-err g c =
-    (called_managed c.args.caller c.args.index c.args.op.now c.args.cites (λ x. nothing) c.args.order.now c.self.inside.seat.view c.args.mine.now.view c.lend.new.mine.view c.give_back.new.locked.view c.give_back.new.mine.view c.lend.new.locked c.draw_step-made.new.seat (as_side c.self.inside.side) (as_side c.draw_step-made.new.side) c.draw_step-made.result
-    c.requires.pass.0 c.requires.pass.1 c.self.invariant.1 (omega (arith, c.ranges.index.fits)) c.self.invariant.2 c.requires.may (plain_stand c.draw_step-made.result c.self.inside.side.state.managed) c.lend.ensures.lent c.draw_step-made.ensures.drew c.draw_step-made.ensures.err c.give_back.ensures.returned).err
+    (called_managed c.args.caller c.args.index c.args.op.now c.args.cites (λ x. nothing) c.args.order.now c.self.inside.seat.view c.args.mine.now.view c.lend.new.mine.view
+    c.give_back.new.locked.view c.give_back.new.mine.view c.lend.new.locked c.draw_step-made.new.seat (as_side c.self.inside.side) (as_side c.draw_step-made.new.side) c.draw_step-made.result
+    c.requires.pass.0 c.requires.pass.1 c.self.invariant.1 (omega (arith, c.ranges.index.fits)) c.self.invariant.2 c.requires.may
+    (plain_stand c.draw_step-made.result c.self.inside.side.state.managed) c.lend.ensures.lent c.draw_step-made.ensures.drew c.draw_step-made.ensures.err c.give_back.ensures.returned).err
 
 pub draw_step-made-requires-clause-fresh : goal.draw_step-made-requires-clause-fresh
-draw_step-made-requires-clause-fresh g c = turn_is_fresh_for c.args.caller c.self.inside.seat.view c.args.mine.now.view c.lend.new.locked.view c.lend.new.mine.view (as_side c.self.inside.side) c.args.index c.args.op.now c.args.cites
+draw_step-made-requires-clause-fresh g c = turn_is_fresh_for c.args.caller c.self.inside.seat.view c.args.mine.now.view c.lend.new.locked.view c.lend.new.mine.view
+    (as_side c.self.inside.side) c.args.index c.args.op.now c.args.cites
     c.requires.event c.requires.pass.1 c.self.invariant.1 c.self.invariant.2 c.requires.may c.lend.ensures.lent
 
 pub draw_step-made-requires-clause-takes : goal.draw_step-made-requires-clause-takes

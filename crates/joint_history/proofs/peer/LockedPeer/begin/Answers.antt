@@ -13,24 +13,47 @@ use Rattle.joint_history.proofs.peer.LockedPeer.begin.Goals as goal
 pub draw_begin-made-requires-clause-reserved : goal.draw_begin-made-requires-clause-reserved
 draw_begin-made-requires-clause-reserved g c =
     let w = c.requires.may in
-    marking_is_due c.self.inside.seat.view c.args.mine.now.view c.lend.new.locked.view c.lend.new.mine.view c.self.inside.side c.args.index w.opened w.count w.weakened w.swept w.seen c.requires.pass c.self.invariant.1 c.self.invariant.2 c.self.invariant.3 w.stands c.lend.ensures.lent
+    marking_is_due c.self.inside.seat.view c.args.mine.now.view c.lend.new.locked.view c.lend.new.mine.view c.self.inside.side c.args.index w.opened
+    w.count w.weakened w.swept w.seen c.requires.pass c.self.invariant.1 c.self.invariant.2 c.self.invariant.3 w.stands c.lend.ensures.lent
 
 pub give_back-requires-clause-order : goal.give_back-requires-clause-order
 give_back-requires-clause-order g c = (c.draw_begin-made.ensures.drew.appends.same ∙ c.lend.ensures.order.0, c.lend.ensures.order.1)
 
 pub give_back-requires-clause-pass : goal.give_back-requires-clause-pass
-give_back-requires-clause-pass g c = (tt, peer_keeps c.args.order.now c.lend.new.locked c.draw_begin-made.new.seat (seen c.self.inside.side) (seen c.draw_begin-made.new.side) (driver_entry c.draw_begin-made.result.0 c.args.index op.Begin (says.Mark c.draw_begin-made.result.1) None) nothing c.draw_begin-made.ensures.drew 10 (c.lend.ensures.lent.lines 10 refl (c.requires.pass 10 refl)))
+give_back-requires-clause-pass g c = (
+  tt,
+  peer_keeps c.args.order.now c.lend.new.locked c.draw_begin-made.new.seat (seen c.self.inside.side) (seen c.draw_begin-made.new.side)
+      (driver_entry c.draw_begin-made.result.0 c.args.index op.Begin (says.Mark c.draw_begin-made.result.1) None) nothing c.draw_begin-made.ensures.drew 10
+      (c.lend.ensures.lent.lines 10 refl (c.requires.pass 10 refl)),
+)
 
 pub give_back-requires-clause-more : goal.give_back-requires-clause-more
-give_back-requires-clause-more g c = more_back C c.self.inside.seat.view c.args.mine.now.view c.lend.new.locked.view c.lend.new.mine.view c.draw_begin-made.new.seat.view c.lend.ensures.lent (peer_prefix c.args.order.now c.lend.new.locked c.draw_begin-made.new.seat (seen c.self.inside.side) (seen c.draw_begin-made.new.side) (driver_entry c.draw_begin-made.result.0 c.args.index op.Begin (says.Mark c.draw_begin-made.result.1) None) nothing c.draw_begin-made.ensures.drew)
+give_back-requires-clause-more g c = more_back C c.self.inside.seat.view c.args.mine.now.view c.lend.new.locked.view c.lend.new.mine.view c.draw_begin-made.new.seat.view c.lend.ensures.lent
+    (peer_prefix c.args.order.now c.lend.new.locked c.draw_begin-made.new.seat (seen c.self.inside.side) (seen c.draw_begin-made.new.side)
+    (driver_entry c.draw_begin-made.result.0 c.args.index op.Begin (says.Mark c.draw_begin-made.result.1) None) nothing c.draw_begin-made.ensures.drew)
 
 pub invariant_of-self : goal.invariant_of-self
 invariant_of-self g c =
-    let d = did C c.self.inside.seat.view c.args.mine.now.view c.lend.new.locked.view c.lend.new.mine.view c.draw_begin-made.new.seat.view c.give_back.new.locked.view c.give_back.new.mine.view 1 tt (omega arith) c.requires.pass c.self.invariant.1 c.lend.ensures.lent (peer_keeps c.args.order.now c.lend.new.locked c.draw_begin-made.new.seat (seen c.self.inside.side) (seen c.draw_begin-made.new.side) (driver_entry c.draw_begin-made.result.0 c.args.index op.Begin (says.Mark c.draw_begin-made.result.1) None) nothing c.draw_begin-made.ensures.drew) c.give_back.ensures.returned in
-    let k = begin_knows c.self.inside.seat.view c.args.mine.now.view c.lend.new.mine.view c.give_back.new.locked.view c.give_back.new.mine.view c.args.order.now c.lend.new.locked c.draw_begin-made.new.seat (seen c.self.inside.side) (seen c.draw_begin-made.new.side) c.args.index c.requires.pass c.self.invariant.1 (omega (arith, c.ranges.index.fits)) c.self.invariant.2 c.lend.ensures.lent c.give_back.ensures.returned c.draw_begin-made.result.0 c.draw_begin-made.result.1 c.draw_begin-made.ensures.drew c.requires.may in
-    let r = drew_reserves C c.self.inside.seat.view c.args.mine.now.view c.lend.new.mine.view c.give_back.new.locked.view c.give_back.new.mine.view c.args.order.now c.lend.new.locked c.draw_begin-made.new.seat c.self.inside.side c.draw_begin-made.new.side (driver_entry c.draw_begin-made.result.0 c.args.index op.Begin (says.Mark c.draw_begin-made.result.1) None) nothing c.self.invariant.2 c.self.invariant.3 c.lend.ensures.lent c.draw_begin-made.ensures.drew c.give_back.ensures.returned
-    (begin_kept c.args.order.now c.lend.new.locked c.draw_begin-made.new.seat c.self.inside.side c.draw_begin-made.new.side c.draw_begin-made.result.0 c.args.index (says.Mark c.draw_begin-made.result.1) c.draw_begin-made.ensures.drew (marking_is_due c.self.inside.seat.view c.args.mine.now.view c.lend.new.locked.view c.lend.new.mine.view c.self.inside.side c.args.index c.requires.may.opened c.requires.may.count c.requires.may.weakened c.requires.may.swept c.requires.may.seen c.requires.pass c.self.invariant.1 c.self.invariant.2 c.self.invariant.3 c.requires.may.stands c.lend.ensures.lent) c.draw_begin-made.ensures.reserve) in
+    let d = did C c.self.inside.seat.view c.args.mine.now.view c.lend.new.locked.view c.lend.new.mine.view c.draw_begin-made.new.seat.view c.give_back.new.locked.view c.give_back.new.mine.view 1 tt
+    (omega arith) c.requires.pass c.self.invariant.1 c.lend.ensures.lent
+    (peer_keeps c.args.order.now c.lend.new.locked c.draw_begin-made.new.seat (seen c.self.inside.side) (seen c.draw_begin-made.new.side)
+    (driver_entry c.draw_begin-made.result.0 c.args.index op.Begin (says.Mark c.draw_begin-made.result.1) None) nothing c.draw_begin-made.ensures.drew) c.give_back.ensures.returned in
+    let k = begin_knows c.self.inside.seat.view c.args.mine.now.view c.lend.new.mine.view c.give_back.new.locked.view c.give_back.new.mine.view c.args.order.now c.lend.new.locked
+    c.draw_begin-made.new.seat (seen c.self.inside.side) (seen c.draw_begin-made.new.side) c.args.index c.requires.pass c.self.invariant.1
+    (omega (arith, c.ranges.index.fits)) c.self.invariant.2 c.lend.ensures.lent c.give_back.ensures.returned
+    c.draw_begin-made.result.0 c.draw_begin-made.result.1 c.draw_begin-made.ensures.drew c.requires.may in
+    let r = drew_reserves C c.self.inside.seat.view c.args.mine.now.view c.lend.new.mine.view c.give_back.new.locked.view c.give_back.new.mine.view c.args.order.now
+    c.lend.new.locked c.draw_begin-made.new.seat c.self.inside.side c.draw_begin-made.new.side
+    (driver_entry c.draw_begin-made.result.0 c.args.index op.Begin (says.Mark c.draw_begin-made.result.1) None) nothing
+    c.self.invariant.2 c.self.invariant.3 c.lend.ensures.lent c.draw_begin-made.ensures.drew c.give_back.ensures.returned
+    (begin_kept c.args.order.now c.lend.new.locked c.draw_begin-made.new.seat c.self.inside.side c.draw_begin-made.new.side c.draw_begin-made.result.0 c.args.index
+    (says.Mark c.draw_begin-made.result.1) c.draw_begin-made.ensures.drew
+    (marking_is_due c.self.inside.seat.view c.args.mine.now.view c.lend.new.locked.view c.lend.new.mine.view c.self.inside.side c.args.index
+    c.requires.may.opened c.requires.may.count c.requires.may.weakened c.requires.may.swept c.requires.may.seen c.requires.pass
+    c.self.invariant.1 c.self.invariant.2 c.self.invariant.3 c.requires.may.stands c.lend.ensures.lent) c.draw_begin-made.ensures.reserve) in
     (c.give_back.ensures.order.0 ∙ c.requires.order.0, d.owns, k, r, c.draw_begin-made.ensures.threads ∙ c.self.invariant.4, c.give_back.ensures.settled.0)
 
 pub returns-clause-makes : goal.returns-clause-makes
-returns-clause-makes g c = begin_made c.self.inside.seat.view c.args.mine.now.view c.lend.new.mine.view c.give_back.new.locked.view c.give_back.new.mine.view c.args.order.now c.lend.new.locked c.draw_begin-made.new.seat (seen c.self.inside.side) (seen c.draw_begin-made.new.side) c.args.index c.requires.pass c.self.invariant.1 (omega (arith, c.ranges.index.fits)) c.self.invariant.2 c.lend.ensures.lent c.give_back.ensures.returned c.draw_begin-made.result.0 c.draw_begin-made.result.1 c.draw_begin-made.ensures.drew
+returns-clause-makes g c = begin_made c.self.inside.seat.view c.args.mine.now.view c.lend.new.mine.view c.give_back.new.locked.view c.give_back.new.mine.view c.args.order.now
+    c.lend.new.locked c.draw_begin-made.new.seat (seen c.self.inside.side) (seen c.draw_begin-made.new.side) c.args.index c.requires.pass c.self.invariant.1
+    (omega (arith, c.ranges.index.fits)) c.self.invariant.2 c.lend.ensures.lent c.give_back.ensures.returned c.draw_begin-made.result.0 c.draw_begin-made.result.1 c.draw_begin-made.ensures.drew

@@ -5,4 +5,12 @@ use Rattle.joint_history.proofs.Reserving.{first_reserves}
 use Rattle.joint_history.proofs.peer.LockedPeer.new.Goals as goal
 
 pub invariant_of-result : goal.invariant_of-result
-invariant_of-result g c = (c.requires.seat.0, c.requires.seat.1, opening_peer_knows c.args.seat.view (seen c.in_ok-side.side) c.requires.seat.3 (ap (λ (s : PeerModel). s.entries) c.in_ok-side.ensures) (ap (λ (s : PeerModel). s.state) c.in_ok-side.ensures), first_reserves c.args.seat.view c.args.threads c.in_ok-side.side c.requires.seat.3 c.in_ok-side.ensures, ap (λ (s : PeerModel). s.threads) c.in_ok-side.ensures ∙ c.requires.threads.1, c.requires.seat.2)
+invariant_of-result g c = (
+  c.requires.seat.0,
+  c.requires.seat.1,
+  opening_peer_knows c.args.seat.view (seen c.in_ok-side.side) c.requires.seat.3 (ap (λ (s : PeerModel). s.entries) c.in_ok-side.ensures) (ap (λ (s : PeerModel). s.state) c.in_ok-side.ensures),
+  first_reserves c.args.seat.view c.args.threads c.in_ok-side.side c.requires.seat.3 c.in_ok-side.ensures,
+  ap (λ (s : PeerModel). s.threads) c.in_ok-side.ensures
+      ∙ c.requires.threads.1,
+  c.requires.seat.2,
+)

@@ -14,31 +14,43 @@ pub give_back-requires-clause-more : goal.give_back-requires-clause-more
 give_back-requires-clause-more g c =
     let make : ℕ × Reply → Entry = λ x. numbered x.0 (made_by c.args.caller c.args.index c.args.op.now x.1 c.args.cites) in
     more_back c.args.caller c.self.inside.seat.view c.args.mine.now.view c.lend.new.locked.view c.lend.new.mine.view c.draw_event-made.new.seat.view c.lend.ensures.lent
-    (event_more c.args.order.now c.lend.new.locked c.draw_event-made.new.seat (seen c.self.inside.side) (seen c.draw_event-made.new.side) make c.draw_event-made.result c.draw_event-made.ensures.drew c.draw_event-made.ensures.err)
+    (event_more c.args.order.now c.lend.new.locked c.draw_event-made.new.seat (seen c.self.inside.side)
+    (seen c.draw_event-made.new.side) make c.draw_event-made.result c.draw_event-made.ensures.drew c.draw_event-made.ensures.err)
 
 pub invariant_of-self : goal.invariant_of-self
 invariant_of-self g c =
     let make : ℕ × Reply → Entry = λ x. numbered x.0 (made_by c.args.caller c.args.index c.args.op.now x.1 c.args.cites) in
-    let d = did c.args.caller c.self.inside.seat.view c.args.mine.now.view c.lend.new.locked.view c.lend.new.mine.view c.draw_event-made.new.seat.view c.give_back.new.locked.view c.give_back.new.mine.view 1 c.requires.pass.0 (omega arith) c.requires.pass.1 c.self.invariant.1 c.lend.ensures.lent
-    (event_owns c.args.order.now c.lend.new.locked c.draw_event-made.new.seat (seen c.self.inside.side) (seen c.draw_event-made.new.side) make c.draw_event-made.result c.draw_event-made.ensures.drew c.draw_event-made.ensures.err) c.give_back.ensures.returned in
-    let w = called_peer c.args.caller c.args.index c.args.op.now c.args.cites c.args.order.now c.self.inside.seat.view c.args.mine.now.view c.lend.new.mine.view c.give_back.new.locked.view c.give_back.new.mine.view c.lend.new.locked c.draw_event-made.new.seat (seen c.self.inside.side) (seen c.draw_event-made.new.side) c.draw_event-made.result
-    c.requires.pass.0 c.requires.pass.1 c.self.invariant.1 (omega (arith, c.ranges.index.fits)) c.self.invariant.2 c.requires.may c.lend.ensures.lent c.draw_event-made.ensures.drew c.draw_event-made.ensures.err c.give_back.ensures.returned in
-    let r = step_reserves c.args.caller c.args.index c.args.op.now c.args.cites c.args.order.now c.self.inside.seat.view c.args.mine.now.view c.lend.new.mine.view c.give_back.new.locked.view c.give_back.new.mine.view c.lend.new.locked c.draw_event-made.new.seat c.self.inside.side c.draw_event-made.new.side c.draw_event-made.result
-    c.requires.event c.self.invariant.2 c.self.invariant.3 c.lend.ensures.lent c.draw_event-made.ensures.drew c.draw_event-made.ensures.err c.draw_event-made.ensures.reserve c.give_back.ensures.returned in
+    let d = did c.args.caller c.self.inside.seat.view c.args.mine.now.view c.lend.new.locked.view c.lend.new.mine.view c.draw_event-made.new.seat.view
+    c.give_back.new.locked.view c.give_back.new.mine.view 1 c.requires.pass.0 (omega arith) c.requires.pass.1 c.self.invariant.1 c.lend.ensures.lent
+    (event_owns c.args.order.now c.lend.new.locked c.draw_event-made.new.seat (seen c.self.inside.side)
+    (seen c.draw_event-made.new.side) make c.draw_event-made.result c.draw_event-made.ensures.drew c.draw_event-made.ensures.err) c.give_back.ensures.returned in
+    let w = called_peer c.args.caller c.args.index c.args.op.now c.args.cites c.args.order.now c.self.inside.seat.view c.args.mine.now.view c.lend.new.mine.view
+    c.give_back.new.locked.view c.give_back.new.mine.view c.lend.new.locked c.draw_event-made.new.seat (seen c.self.inside.side) (seen c.draw_event-made.new.side) c.draw_event-made.result
+    c.requires.pass.0 c.requires.pass.1 c.self.invariant.1 (omega (arith, c.ranges.index.fits)) c.self.invariant.2 c.requires.may
+    c.lend.ensures.lent c.draw_event-made.ensures.drew c.draw_event-made.ensures.err c.give_back.ensures.returned in
+    let r = step_reserves c.args.caller c.args.index c.args.op.now c.args.cites c.args.order.now c.self.inside.seat.view c.args.mine.now.view c.lend.new.mine.view
+    c.give_back.new.locked.view c.give_back.new.mine.view c.lend.new.locked c.draw_event-made.new.seat c.self.inside.side c.draw_event-made.new.side c.draw_event-made.result
+    c.requires.event c.self.invariant.2 c.self.invariant.3 c.lend.ensures.lent c.draw_event-made.ensures.drew
+    c.draw_event-made.ensures.err c.draw_event-made.ensures.reserve c.give_back.ensures.returned in
     (c.give_back.ensures.order.0 ∙ c.requires.order.0, d.owns, w.knows, r, c.draw_event-made.ensures.threads ∙ c.self.invariant.4, c.give_back.ensures.settled.0)
 
 pub returns-clause-ok : goal.returns-clause-ok
 returns-clause-ok g c =
-    (called_peer c.args.caller c.args.index c.args.op.now c.args.cites c.args.order.now c.self.inside.seat.view c.args.mine.now.view c.lend.new.mine.view c.give_back.new.locked.view c.give_back.new.mine.view c.lend.new.locked c.draw_event-made.new.seat (seen c.self.inside.side) (seen c.draw_event-made.new.side) c.draw_event-made.result
-    c.requires.pass.0 c.requires.pass.1 c.self.invariant.1 (omega (arith, c.ranges.index.fits)) c.self.invariant.2 c.requires.may c.lend.ensures.lent c.draw_event-made.ensures.drew c.draw_event-made.ensures.err c.give_back.ensures.returned).ok
+    (called_peer c.args.caller c.args.index c.args.op.now c.args.cites c.args.order.now c.self.inside.seat.view c.args.mine.now.view c.lend.new.mine.view c.give_back.new.locked.view
+    c.give_back.new.mine.view c.lend.new.locked c.draw_event-made.new.seat (seen c.self.inside.side) (seen c.draw_event-made.new.side) c.draw_event-made.result
+    c.requires.pass.0 c.requires.pass.1 c.self.invariant.1 (omega (arith, c.ranges.index.fits)) c.self.invariant.2 c.requires.may
+    c.lend.ensures.lent c.draw_event-made.ensures.drew c.draw_event-made.ensures.err c.give_back.ensures.returned).ok
 
 pub returns-clause-err : goal.returns-clause-err
 returns-clause-err g c =
-    (called_peer c.args.caller c.args.index c.args.op.now c.args.cites c.args.order.now c.self.inside.seat.view c.args.mine.now.view c.lend.new.mine.view c.give_back.new.locked.view c.give_back.new.mine.view c.lend.new.locked c.draw_event-made.new.seat (seen c.self.inside.side) (seen c.draw_event-made.new.side) c.draw_event-made.result
-    c.requires.pass.0 c.requires.pass.1 c.self.invariant.1 (omega (arith, c.ranges.index.fits)) c.self.invariant.2 c.requires.may c.lend.ensures.lent c.draw_event-made.ensures.drew c.draw_event-made.ensures.err c.give_back.ensures.returned).err
+    (called_peer c.args.caller c.args.index c.args.op.now c.args.cites c.args.order.now c.self.inside.seat.view c.args.mine.now.view c.lend.new.mine.view c.give_back.new.locked.view
+    c.give_back.new.mine.view c.lend.new.locked c.draw_event-made.new.seat (seen c.self.inside.side) (seen c.draw_event-made.new.side) c.draw_event-made.result
+    c.requires.pass.0 c.requires.pass.1 c.self.invariant.1 (omega (arith, c.ranges.index.fits)) c.self.invariant.2 c.requires.may
+    c.lend.ensures.lent c.draw_event-made.ensures.drew c.draw_event-made.ensures.err c.give_back.ensures.returned).err
 
 pub draw_event-made-requires-clause-allowed : goal.draw_event-made-requires-clause-allowed
-draw_event-made-requires-clause-allowed g c = turn_is_allowed c.args.caller c.self.inside.seat.view c.args.mine.now.view c.lend.new.locked.view c.lend.new.mine.view (seen c.self.inside.side) c.args.index c.args.op.now c.args.cites
+draw_event-made-requires-clause-allowed g c = turn_is_allowed c.args.caller c.self.inside.seat.view c.args.mine.now.view c.lend.new.locked.view c.lend.new.mine.view
+    (seen c.self.inside.side) c.args.index c.args.op.now c.args.cites
     c.requires.event c.requires.pass.1 c.self.invariant.1 c.self.invariant.2 c.requires.may c.lend.ensures.lent
 
 pub draw_event-made-requires-clause-takes : goal.draw_event-made-requires-clause-takes
@@ -46,5 +58,7 @@ draw_event-made-requires-clause-takes g c = subst (λ n. TakesPeer n c.args.call
 
 pub returns-clause-reads : goal.returns-clause-reads
 returns-clause-reads g c =
-    (called_peer c.args.caller c.args.index c.args.op.now c.args.cites c.args.order.now c.self.inside.seat.view c.args.mine.now.view c.lend.new.mine.view c.give_back.new.locked.view c.give_back.new.mine.view c.lend.new.locked c.draw_event-made.new.seat (seen c.self.inside.side) (seen c.draw_event-made.new.side) c.draw_event-made.result
-    c.requires.pass.0 c.requires.pass.1 c.self.invariant.1 (omega (arith, c.ranges.index.fits)) c.self.invariant.2 c.requires.may c.lend.ensures.lent c.draw_event-made.ensures.drew c.draw_event-made.ensures.err c.give_back.ensures.returned).reads
+    (called_peer c.args.caller c.args.index c.args.op.now c.args.cites c.args.order.now c.self.inside.seat.view c.args.mine.now.view c.lend.new.mine.view c.give_back.new.locked.view
+    c.give_back.new.mine.view c.lend.new.locked c.draw_event-made.new.seat (seen c.self.inside.side) (seen c.draw_event-made.new.side) c.draw_event-made.result
+    c.requires.pass.0 c.requires.pass.1 c.self.invariant.1 (omega (arith, c.ranges.index.fits)) c.self.invariant.2 c.requires.may
+    c.lend.ensures.lent c.draw_event-made.ensures.drew c.draw_event-made.ensures.err c.give_back.ensures.returned).reads

@@ -14,28 +14,53 @@ use Rattle.joint_history.proofs.Reserving.{drew_reserves, quiet_kept}
 use Rattle.joint_history.proofs.peer.LockedPeer.sweep.Goals as goal
 
 pub draw_sweep-out-requires-clause-open : goal.draw_sweep-out-requires-clause-open
-draw_sweep-out-requires-clause-open g c = is_open c.self.inside.seat.view c.args.mine.now.view c.lend.new.locked.view c.lend.new.mine.view (seen c.self.inside.side) c.args.index c.requires.pass c.self.invariant.1 c.self.invariant.2 c.lend.ensures.lent
+draw_sweep-out-requires-clause-open g c = is_open c.self.inside.seat.view c.args.mine.now.view c.lend.new.locked.view c.lend.new.mine.view
+    (seen c.self.inside.side) c.args.index c.requires.pass c.self.invariant.1 c.self.invariant.2 c.lend.ensures.lent
     (subst (λ (u : UnderPeer). IsSome u.side.state.marking ⊎ HasBegunMarking c.args.mine.now.view c.args.index) (sym c.self.view_is) c.requires.open)
 
 pub give_back-requires-clause-order : goal.give_back-requires-clause-order
 give_back-requires-clause-order g c = (c.draw_sweep-out.ensures.drew.drew.appends.same ∙ c.lend.ensures.order.0, c.lend.ensures.order.1)
 
 pub give_back-requires-clause-pass : goal.give_back-requires-clause-pass
-give_back-requires-clause-pass g c = (tt, peer_keeps c.args.order.now c.lend.new.locked c.draw_sweep-out.new.seat (seen c.self.inside.side) (seen c.draw_sweep-out.new.side) (driver_entry c.draw_sweep-out.result.0 c.args.index op.Sweep (says.Swept c.draw_sweep-out.result.1.marking c.draw_sweep-out.result.1.freed) None) (sweep_of c.draw_sweep-out.ensures.drew.freed) c.draw_sweep-out.ensures.drew.drew 10 (c.lend.ensures.lent.lines 10 refl (c.requires.pass 10 refl)))
+give_back-requires-clause-pass g c = (
+  tt,
+  peer_keeps c.args.order.now c.lend.new.locked c.draw_sweep-out.new.seat (seen c.self.inside.side) (seen c.draw_sweep-out.new.side)
+      (driver_entry c.draw_sweep-out.result.0 c.args.index op.Sweep (says.Swept c.draw_sweep-out.result.1.marking c.draw_sweep-out.result.1.freed) None)
+      (sweep_of c.draw_sweep-out.ensures.drew.freed) c.draw_sweep-out.ensures.drew.drew 10 (c.lend.ensures.lent.lines 10 refl (c.requires.pass 10 refl)),
+)
 
 pub give_back-requires-clause-more : goal.give_back-requires-clause-more
-give_back-requires-clause-more g c = more_back C c.self.inside.seat.view c.args.mine.now.view c.lend.new.locked.view c.lend.new.mine.view c.draw_sweep-out.new.seat.view c.lend.ensures.lent (peer_prefix c.args.order.now c.lend.new.locked c.draw_sweep-out.new.seat (seen c.self.inside.side) (seen c.draw_sweep-out.new.side) (driver_entry c.draw_sweep-out.result.0 c.args.index op.Sweep (says.Swept c.draw_sweep-out.result.1.marking c.draw_sweep-out.result.1.freed) None) (sweep_of c.draw_sweep-out.ensures.drew.freed) c.draw_sweep-out.ensures.drew.drew)
+give_back-requires-clause-more g c = more_back C c.self.inside.seat.view c.args.mine.now.view c.lend.new.locked.view c.lend.new.mine.view c.draw_sweep-out.new.seat.view c.lend.ensures.lent
+    (peer_prefix c.args.order.now c.lend.new.locked c.draw_sweep-out.new.seat (seen c.self.inside.side) (seen c.draw_sweep-out.new.side)
+    (driver_entry c.draw_sweep-out.result.0 c.args.index op.Sweep (says.Swept c.draw_sweep-out.result.1.marking c.draw_sweep-out.result.1.freed) None)
+    (sweep_of c.draw_sweep-out.ensures.drew.freed) c.draw_sweep-out.ensures.drew.drew)
 
 pub invariant_of-self : goal.invariant_of-self
 invariant_of-self g c =
-    let d = did C c.self.inside.seat.view c.args.mine.now.view c.lend.new.locked.view c.lend.new.mine.view c.draw_sweep-out.new.seat.view c.give_back.new.locked.view c.give_back.new.mine.view 1 tt (omega arith) c.requires.pass c.self.invariant.1 c.lend.ensures.lent (peer_keeps c.args.order.now c.lend.new.locked c.draw_sweep-out.new.seat (seen c.self.inside.side) (seen c.draw_sweep-out.new.side) (driver_entry c.draw_sweep-out.result.0 c.args.index op.Sweep (says.Swept c.draw_sweep-out.result.1.marking c.draw_sweep-out.result.1.freed) None) (sweep_of c.draw_sweep-out.ensures.drew.freed) c.draw_sweep-out.ensures.drew.drew) c.give_back.ensures.returned in
-    let k = sweep_knows c.self.inside.seat.view c.args.mine.now.view c.lend.new.mine.view c.give_back.new.locked.view c.give_back.new.mine.view c.args.order.now c.lend.new.locked c.draw_sweep-out.new.seat (seen c.self.inside.side) (seen c.draw_sweep-out.new.side) c.args.index c.requires.pass c.self.invariant.1 (omega (arith, c.ranges.index.fits)) c.self.invariant.2 c.lend.ensures.lent c.give_back.ensures.returned c.draw_sweep-out.result.0 c.draw_sweep-out.result.1 c.draw_sweep-out.ensures.drew c.requires.may in
-    let r = drew_reserves C c.self.inside.seat.view c.args.mine.now.view c.lend.new.mine.view c.give_back.new.locked.view c.give_back.new.mine.view c.args.order.now c.lend.new.locked c.draw_sweep-out.new.seat c.self.inside.side c.draw_sweep-out.new.side (driver_entry c.draw_sweep-out.result.0 c.args.index op.Sweep (says.Swept c.draw_sweep-out.result.1.marking c.draw_sweep-out.result.1.freed) None) (sweep_of c.draw_sweep-out.ensures.drew.freed) c.self.invariant.2 c.self.invariant.3 c.lend.ensures.lent c.draw_sweep-out.ensures.drew.drew c.give_back.ensures.returned
-    (quiet_kept c.args.order.now c.lend.new.locked c.draw_sweep-out.new.seat c.self.inside.side c.draw_sweep-out.new.side (driver_entry c.draw_sweep-out.result.0 c.args.index op.Sweep (says.Swept c.draw_sweep-out.result.1.marking c.draw_sweep-out.result.1.freed) None) (sweep_of c.draw_sweep-out.ensures.drew.freed) c.draw_sweep-out.ensures.drew.drew c.draw_sweep-out.ensures.reserve tt (λ due. refl)) in
+    let d = did C c.self.inside.seat.view c.args.mine.now.view c.lend.new.locked.view c.lend.new.mine.view c.draw_sweep-out.new.seat.view c.give_back.new.locked.view c.give_back.new.mine.view 1 tt
+    (omega arith) c.requires.pass c.self.invariant.1 c.lend.ensures.lent
+    (peer_keeps c.args.order.now c.lend.new.locked c.draw_sweep-out.new.seat (seen c.self.inside.side) (seen c.draw_sweep-out.new.side)
+    (driver_entry c.draw_sweep-out.result.0 c.args.index op.Sweep (says.Swept c.draw_sweep-out.result.1.marking c.draw_sweep-out.result.1.freed) None)
+    (sweep_of c.draw_sweep-out.ensures.drew.freed) c.draw_sweep-out.ensures.drew.drew) c.give_back.ensures.returned in
+    let k = sweep_knows c.self.inside.seat.view c.args.mine.now.view c.lend.new.mine.view c.give_back.new.locked.view c.give_back.new.mine.view c.args.order.now c.lend.new.locked
+    c.draw_sweep-out.new.seat (seen c.self.inside.side) (seen c.draw_sweep-out.new.side) c.args.index c.requires.pass c.self.invariant.1
+    (omega (arith, c.ranges.index.fits)) c.self.invariant.2 c.lend.ensures.lent c.give_back.ensures.returned
+    c.draw_sweep-out.result.0 c.draw_sweep-out.result.1 c.draw_sweep-out.ensures.drew c.requires.may in
+    let r = drew_reserves C c.self.inside.seat.view c.args.mine.now.view c.lend.new.mine.view c.give_back.new.locked.view c.give_back.new.mine.view c.args.order.now c.lend.new.locked
+    c.draw_sweep-out.new.seat c.self.inside.side c.draw_sweep-out.new.side
+    (driver_entry c.draw_sweep-out.result.0 c.args.index op.Sweep (says.Swept c.draw_sweep-out.result.1.marking c.draw_sweep-out.result.1.freed) None)
+    (sweep_of c.draw_sweep-out.ensures.drew.freed) c.self.invariant.2 c.self.invariant.3 c.lend.ensures.lent c.draw_sweep-out.ensures.drew.drew c.give_back.ensures.returned
+    (quiet_kept c.args.order.now c.lend.new.locked c.draw_sweep-out.new.seat c.self.inside.side c.draw_sweep-out.new.side
+    (driver_entry c.draw_sweep-out.result.0 c.args.index op.Sweep (says.Swept c.draw_sweep-out.result.1.marking c.draw_sweep-out.result.1.freed) None)
+    (sweep_of c.draw_sweep-out.ensures.drew.freed) c.draw_sweep-out.ensures.drew.drew c.draw_sweep-out.ensures.reserve tt (λ due. refl)) in
     (c.give_back.ensures.order.0 ∙ c.requires.order.0, d.owns, k, r, c.draw_sweep-out.ensures.threads ∙ c.self.invariant.4, c.give_back.ensures.settled.0)
 
 pub returns-clause-closed : goal.returns-clause-closed
-returns-clause-closed g c = sweep_closes c.self.inside.seat.view c.args.mine.now.view c.lend.new.mine.view c.give_back.new.locked.view c.give_back.new.mine.view c.args.order.now c.lend.new.locked c.draw_sweep-out.new.seat (seen c.self.inside.side) (seen c.draw_sweep-out.new.side) c.args.index c.requires.pass c.self.invariant.1 (omega (arith, c.ranges.index.fits)) c.self.invariant.2 c.lend.ensures.lent c.give_back.ensures.returned c.draw_sweep-out.result.0 c.draw_sweep-out.result.1 c.draw_sweep-out.ensures.drew
+returns-clause-closed g c = sweep_closes c.self.inside.seat.view c.args.mine.now.view c.lend.new.mine.view c.give_back.new.locked.view c.give_back.new.mine.view c.args.order.now
+    c.lend.new.locked c.draw_sweep-out.new.seat (seen c.self.inside.side) (seen c.draw_sweep-out.new.side) c.args.index c.requires.pass c.self.invariant.1
+    (omega (arith, c.ranges.index.fits)) c.self.invariant.2 c.lend.ensures.lent c.give_back.ensures.returned c.draw_sweep-out.result.0 c.draw_sweep-out.result.1 c.draw_sweep-out.ensures.drew
 
 pub returns-clause-makes : goal.returns-clause-makes
-returns-clause-makes g c = sweep_made c.self.inside.seat.view c.args.mine.now.view c.lend.new.mine.view c.give_back.new.locked.view c.give_back.new.mine.view c.args.order.now c.lend.new.locked c.draw_sweep-out.new.seat (seen c.self.inside.side) (seen c.draw_sweep-out.new.side) c.args.index c.requires.pass c.self.invariant.1 (omega (arith, c.ranges.index.fits)) c.self.invariant.2 c.lend.ensures.lent c.give_back.ensures.returned c.draw_sweep-out.result.0 c.draw_sweep-out.result.1 c.draw_sweep-out.ensures.drew
+returns-clause-makes g c = sweep_made c.self.inside.seat.view c.args.mine.now.view c.lend.new.mine.view c.give_back.new.locked.view c.give_back.new.mine.view c.args.order.now
+    c.lend.new.locked c.draw_sweep-out.new.seat (seen c.self.inside.side) (seen c.draw_sweep-out.new.side) c.args.index c.requires.pass c.self.invariant.1
+    (omega (arith, c.ranges.index.fits)) c.self.invariant.2 c.lend.ensures.lent c.give_back.ensures.returned c.draw_sweep-out.result.0 c.draw_sweep-out.result.1 c.draw_sweep-out.ensures.drew

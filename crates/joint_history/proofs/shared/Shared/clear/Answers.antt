@@ -15,8 +15,15 @@ clear-requires-clause-may g c = subst (λ (p : Pass). MayClearCycle p.view c.arg
 pub invariant_of-driver : goal.invariant_of-driver
 invariant_of-driver g c =
     let driver = subst (λ (p : Pass). IsDriver p.thread) (sym c.driver.view_is) c.requires.driver in
-    let may = subst (λ (p : Pass). MayClearCycle p.view c.args.index c.args.cycle.0) (sym c.driver.view_is) c.requires.may in
-    (c.driver.invariant.0, c.clear.ensures.order, driver_pass_back c.driver.inside.thread c.clear.new.mine.view driver c.clear.ensures.pass, driver_knows c.driver.inside.thread c.clear.new.mine.view c.args.index (restored may.opened may.answers c.clear.result) may.seen driver (c.clear.ensures.makes may.opened may.answers may.seen may.stands may.all may.same).1, c.clear.ensures.settled, driver_reads c.driver.inside.thread c.driver.inside.seat.view c.clear.new.mine.view c.driver.inside.reads.entries driver c.driver.invariant.5)
+    let may = subst (λ (p : Pass). MayClearCycle p.view c.args.index c.args.cycle.0) (sym c.driver.view_is) c.requires.may in (
+      c.driver.invariant.0,
+      c.clear.ensures.order,
+      driver_pass_back c.driver.inside.thread c.clear.new.mine.view driver c.clear.ensures.pass,
+      driver_knows c.driver.inside.thread c.clear.new.mine.view c.args.index (restored may.opened may.answers c.clear.result) may.seen driver
+          (c.clear.ensures.makes may.opened may.answers may.seen may.stands may.all may.same).1,
+      c.clear.ensures.settled,
+      driver_reads c.driver.inside.thread c.driver.inside.seat.view c.clear.new.mine.view c.driver.inside.reads.entries driver c.driver.invariant.5,
+    )
 
 pub returns-clause-makes : goal.returns-clause-makes
 returns-clause-makes g c = subst (λ (p : Pass). MakesClear p.view c.clear.new.mine.view c.args.index c.args.cycle c.clear.result) c.driver.view_is c.clear.ensures.makes

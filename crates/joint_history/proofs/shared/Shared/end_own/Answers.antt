@@ -19,8 +19,14 @@ sweep-requires-clause-may g c = may_end_own c.driver.inside.seat.view c.args.ind
 pub invariant_of-driver : goal.invariant_of-driver
 invariant_of-driver g c =
     let driver = subst (λ (p : Pass). IsDriver p.thread) (sym c.driver.view_is) c.requires.driver in
-    let may = subst (λ (p : Pass). HasBegunMarking p.view c.args.index) (sym c.driver.view_is) c.requires.may in
-    (c.driver.invariant.0, c.sweep.ensures.order, driver_pass_back c.driver.inside.thread c.sweep.new.mine.view driver c.sweep.ensures.pass, driver_knows c.driver.inside.thread c.sweep.new.mine.view c.args.index (restoring may.opened []) may.seen driver (c.sweep.ensures.makes (marked may.opened) may.seen may.stands refl).stands, c.sweep.ensures.settled, driver_reads c.driver.inside.thread c.driver.inside.seat.view c.sweep.new.mine.view c.driver.inside.reads.entries driver c.driver.invariant.5)
+    let may = subst (λ (p : Pass). HasBegunMarking p.view c.args.index) (sym c.driver.view_is) c.requires.may in (
+      c.driver.invariant.0,
+      c.sweep.ensures.order,
+      driver_pass_back c.driver.inside.thread c.sweep.new.mine.view driver c.sweep.ensures.pass,
+      driver_knows c.driver.inside.thread c.sweep.new.mine.view c.args.index (restoring may.opened []) may.seen driver (c.sweep.ensures.makes (marked may.opened) may.seen may.stands refl).stands,
+      c.sweep.ensures.settled,
+      driver_reads c.driver.inside.thread c.driver.inside.seat.view c.sweep.new.mine.view c.driver.inside.reads.entries driver c.driver.invariant.5,
+    )
 
 pub returns-clause-makes : goal.returns-clause-makes
 returns-clause-makes g c = subst (λ (p : Pass). MakesSweep p.view c.sweep.new.mine.view c.args.index c.sweep.result.0 c.sweep.result.1) c.driver.view_is c.sweep.ensures.makes

@@ -20,7 +20,9 @@ invariant_of-driver g c =
       c.driver.invariant.0,
       c.finalise.ensures.order,
       driver_pass_back c.driver.inside.thread c.finalise.new.mine.view driver c.finalise.ensures.pass,
-      knows_either c.driver.inside.thread c.driver.inside.seat.view c.finalise.new.mine.view c.finalise.result (λ r. MakesFinalise c.driver.inside.seat.view c.finalise.new.mine.view c.args.index r.0 c.args.count r.1) driver c.finalise.ensures.ok (λ r q. (q may.stand may.seen may.stands may.rests).1.known) c.finalise.ensures.err c.args.index may.stand may.seen may.stands,
+      knows_either c.driver.inside.thread c.driver.inside.seat.view c.finalise.new.mine.view c.finalise.result
+          (λ r. MakesFinalise c.driver.inside.seat.view c.finalise.new.mine.view c.args.index r.0 c.args.count r.1) driver c.finalise.ensures.ok
+          (λ r q. (q may.stand may.seen may.stands may.rests).1.known) c.finalise.ensures.err c.args.index may.stand may.seen may.stands,
       c.finalise.ensures.settled,
       driver_reads c.driver.inside.thread c.driver.inside.seat.view c.finalise.new.mine.view c.driver.inside.reads.entries driver c.driver.invariant.5,
     )

@@ -9,5 +9,7 @@ use Rattle.joint_history.proofs.shared.Shared.managed_event.Goals as goal
 pub returns-in_ok-reserve-in-Read-clause-ok : goal.returns-in_ok-reserve-in-Read-clause-ok
 returns-in_ok-reserve-in-Read-clause-ok g c =
     let is = subst (IsCallBy c.args.t c.args.op.now) (sym c.call_of.ensures ∙ c.in-Read.is) c.requires.event in
-    let bare = line_bare c.args.t c.args.mine.now.view c.args.index c.in-Read.act c.args.cites is.0 (subst (λ o. MayMake c.args.t c.args.mine.now.view c.args.index o c.args.cites) is.2 c.requires.may) in
-    subst (λ (z : Op × Option ℕ). Makes c.args.t c.args.mine.now.view c.read.new.mine.view (entry_by c.args.t c.args.index c.read.result.0 z.0 c.read.result.1 z.1)) (λ i. (sym is.2 i, sym bare i)) c.read.ensures.makes
+    let bare = line_bare c.args.t c.args.mine.now.view c.args.index c.in-Read.act c.args.cites is.0
+    (subst (λ o. MayMake c.args.t c.args.mine.now.view c.args.index o c.args.cites) is.2 c.requires.may) in
+    subst (λ (z : Op × Option ℕ). Makes c.args.t c.args.mine.now.view c.read.new.mine.view (entry_by c.args.t c.args.index c.read.result.0 z.0 c.read.result.1 z.1))
+    (λ i. (sym is.2 i, sym bare i)) c.read.ensures.makes

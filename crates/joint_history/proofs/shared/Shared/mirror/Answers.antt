@@ -21,11 +21,14 @@ invariant_of-driver g c =
       c.driver.invariant.0,
       c.mirror.ensures.order,
       driver_pass_back c.driver.inside.thread c.mirror.new.mine.view driver c.mirror.ensures.pass,
-      knows_either c.driver.inside.thread c.driver.inside.seat.view c.mirror.new.mine.view c.mirror.result (λ (x : ℕ × ℕ). MakesMirror c.driver.inside.seat.view c.mirror.new.mine.view c.args.index c.args.cycle c.args.snap c.args.graph.now c.args.comps.now x.1 x.0) driver c.mirror.ensures.ok
-          (λ x q. (q may.opened may.comps may.heavy may.pairs may.seen may.stands may.listed may.same_cycle may.same_snap).stands.known) c.mirror.ensures.err c.args.index (contracted may.opened may.comps may.heavy may.pairs) may.seen may.stands,
+      knows_either c.driver.inside.thread c.driver.inside.seat.view c.mirror.new.mine.view c.mirror.result
+          (λ (x : ℕ × ℕ). MakesMirror c.driver.inside.seat.view c.mirror.new.mine.view c.args.index c.args.cycle c.args.snap c.args.graph.now c.args.comps.now x.1 x.0) driver c.mirror.ensures.ok
+          (λ x q. (q may.opened may.comps may.heavy may.pairs may.seen may.stands may.listed may.same_cycle may.same_snap).stands.known) c.mirror.ensures.err c.args.index
+          (contracted may.opened may.comps may.heavy may.pairs) may.seen may.stands,
       c.mirror.ensures.settled,
       driver_reads c.driver.inside.thread c.driver.inside.seat.view c.mirror.new.mine.view c.driver.inside.reads.entries driver c.driver.invariant.5,
     )
 
 pub returns-clause-ok : goal.returns-clause-ok
-returns-clause-ok g c = subst (λ (p : Pass). IfOk c.mirror.result (λ (x : ℕ × ℕ). MakesMirror p.view c.mirror.new.mine.view c.args.index c.args.cycle c.args.snap c.args.graph.now c.args.comps.now x.1 x.0)) c.driver.view_is c.mirror.ensures.ok
+returns-clause-ok g c = subst (λ (p : Pass). IfOk c.mirror.result
+    (λ (x : ℕ × ℕ). MakesMirror p.view c.mirror.new.mine.view c.args.index c.args.cycle c.args.snap c.args.graph.now c.args.comps.now x.1 x.0)) c.driver.view_is c.mirror.ensures.ok

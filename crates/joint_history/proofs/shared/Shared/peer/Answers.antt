@@ -12,7 +12,8 @@ use Rattle.joint_history.proofs.Turning.{caller_begins}
 use Rattle.joint_history.proofs.shared.Shared.peer.Goals as goal
 
 pub collect-requires-clause-begins : goal.collect-requires-clause-begins
-collect-requires-clause-begins g c = caller_begins c.caller.inside.thread c.caller.inside.seat.view c.args.index c.caller.invariant.0.0 c.caller.invariant.3 (subst (λ (p : Pass). last_index (own p) ≤ c.args.index) (sym c.caller.view_is) c.requires.index)
+collect-requires-clause-begins g c = caller_begins c.caller.inside.thread c.caller.inside.seat.view c.args.index c.caller.invariant.0.0 c.caller.invariant.3
+    (subst (λ (p : Pass). last_index (own p) ≤ c.args.index) (sym c.caller.view_is) c.requires.index)
 
 pub invariant_of-caller : goal.invariant_of-caller
 invariant_of-caller g c = (
@@ -21,7 +22,8 @@ invariant_of-caller g c = (
   c.collect.ensures.pass,
   beginner_knows c.caller.inside.thread c.collect.new.mine.view c.args.index c.collect.ensures.begins,
   c.collect.ensures.settled,
-  peer_keeps_none c.caller.inside.thread c.caller.inside.seat.view c.collect.new.mine.view c.caller.inside.reads.entries (subst (λ (p : Pass). IsPeerThread p.thread) (sym c.caller.view_is) c.requires.act.0) c.caller.invariant.5,
+  peer_keeps_none c.caller.inside.thread c.caller.inside.seat.view c.collect.new.mine.view c.caller.inside.reads.entries
+      (subst (λ (p : Pass). IsPeerThread p.thread) (sym c.caller.view_is) c.requires.act.0) c.caller.invariant.5,
 )
 
 pub returns-in-Collect-clause-index : goal.returns-in-Collect-clause-index
@@ -29,10 +31,12 @@ returns-in-Collect-clause-index g c = beginner_is_below c.caller.inside.thread c
 
 pub returns-in-Collect-clause-ok : goal.returns-in-Collect-clause-ok
 returns-in-Collect-clause-ok g c = subst (λ (a : Act). IfOk c.collect.result (λ r. Runs c.args.caller.now.thread c.args.caller.now.view c.collect.new.mine.view c.args.index a r)) (sym c.in-Collect.is)
-    (all_run c.args.caller.now.thread c.args.caller.now.view c.collect.new.mine.view c.args.index c.collect.result (subst (λ (p : Pass). IfOk c.collect.result (λ r. Collects p.thread p.view c.collect.new.mine.view c.args.index r)) c.caller.view_is c.collect.ensures.ok))
+    (all_run c.args.caller.now.thread c.args.caller.now.view c.collect.new.mine.view c.args.index c.collect.result
+    (subst (λ (p : Pass). IfOk c.collect.result (λ r. Collects p.thread p.view c.collect.new.mine.view c.args.index r)) c.caller.view_is c.collect.ensures.ok))
 
 pub returns-in-Collect-clause-err : goal.returns-in-Collect-clause-err
-returns-in-Collect-clause-err g c = none_made c.args.caller.now.thread c.args.caller.now.view c.collect.new.mine.view c.collect.result (subst (λ (p : Pass). OnErr c.collect.result (MakesNone p.thread p.view c.collect.new.mine.view)) c.caller.view_is c.collect.ensures.err)
+returns-in-Collect-clause-err g c = none_made c.args.caller.now.thread c.args.caller.now.view c.collect.new.mine.view c.collect.result
+    (subst (λ (p : Pass). OnErr c.collect.result (MakesNone p.thread p.view c.collect.new.mine.view)) c.caller.view_is c.collect.ensures.err)
 
 pub run-requires-clause-order : goal.run-requires-clause-order
 run-requires-clause-order g c = c.caller.invariant.1
@@ -41,13 +45,22 @@ pub run-requires-clause-pass : goal.run-requires-clause-pass
 run-requires-clause-pass g c = (peer_is_own c.caller.inside.thread (subst (λ (p : Pass). IsPeerThread p.thread) (sym c.caller.view_is) c.requires.act.0), c.caller.invariant.2)
 
 pub run-requires-clause-begins : goal.run-requires-clause-begins
-run-requires-clause-begins g c = caller_begins c.caller.inside.thread c.caller.inside.seat.view c.args.index c.caller.invariant.0.0 c.caller.invariant.3 (subst (λ (p : Pass). last_index (own p) ≤ c.args.index) (sym c.caller.view_is) c.requires.index)
+run-requires-clause-begins g c = caller_begins c.caller.inside.thread c.caller.inside.seat.view c.args.index c.caller.invariant.0.0 c.caller.invariant.3
+    (subst (λ (p : Pass). last_index (own p) ≤ c.args.index) (sym c.caller.view_is) c.requires.index)
 
 pub run-requires-clause-act : goal.run-requires-clause-act
-run-requires-clause-act g c = peer_operation c.caller.inside.thread c.args.act.now (subst (λ (p : Pass). IsPeerThread p.thread) (sym c.caller.view_is) c.requires.act.0) (subst (λ (p : Pass). IsLine p.thread c.args.act.now) (sym c.caller.view_is) c.requires.act.1) c.in_default.not-Collect
+run-requires-clause-act g c = peer_operation c.caller.inside.thread c.args.act.now (subst (λ (p : Pass). IsPeerThread p.thread) (sym c.caller.view_is) c.requires.act.0)
+    (subst (λ (p : Pass). IsLine p.thread c.args.act.now) (sym c.caller.view_is) c.requires.act.1) c.in_default.not-Collect
 
 pub invariant_of-caller-2 : goal.invariant_of-caller-2
-invariant_of-caller-2 g c = (c.caller.invariant.0, c.run.ensures.order, c.run.ensures.pass, beginner_knows c.caller.inside.thread c.run.new.mine.view c.args.index c.run.ensures.begins, c.run.ensures.settled, c.run.ensures.reads)
+invariant_of-caller-2 g c = (
+  c.caller.invariant.0,
+  c.run.ensures.order,
+  c.run.ensures.pass,
+  beginner_knows c.caller.inside.thread c.run.new.mine.view c.args.index c.run.ensures.begins,
+  c.run.ensures.settled,
+  c.run.ensures.reads,
+)
 
 pub returns-clause-thread : goal.returns-clause-thread
 returns-clause-thread g c = ap (λ (p : Pass). p.thread) c.caller.view_is
@@ -59,5 +72,8 @@ pub returns-clause-ok : goal.returns-clause-ok
 returns-clause-ok g c = subst (λ (p : Pass). IfOk c.run.result (λ r. Runs p.thread p.view c.run.new.mine.view c.args.index c.args.act.now r)) c.caller.view_is c.run.ensures.ok
 
 pub returns-clause-err : goal.returns-clause-err
-returns-clause-err g c = subst (λ (p : Pass). OnErr c.run.result (MakesAll p.thread p.view c.run.new.mine.view [])) c.caller.view_is (breaks_none c.caller.inside.thread c.caller.inside.seat.view c.run.new.mine.view c.args.index c.args.act.now c.run.result (subst (λ (p : Pass). IsPeerThread p.thread) (sym c.caller.view_is) c.requires.act.0)
-    (peer_operation c.caller.inside.thread c.args.act.now (subst (λ (p : Pass). IsPeerThread p.thread) (sym c.caller.view_is) c.requires.act.0) (subst (λ (p : Pass). IsLine p.thread c.args.act.now) (sym c.caller.view_is) c.requires.act.1) c.in_default.not-Collect) c.run.ensures.err)
+returns-clause-err g c = subst (λ (p : Pass). OnErr c.run.result (MakesAll p.thread p.view c.run.new.mine.view [])) c.caller.view_is
+    (breaks_none c.caller.inside.thread c.caller.inside.seat.view c.run.new.mine.view c.args.index c.args.act.now c.run.result
+    (subst (λ (p : Pass). IsPeerThread p.thread) (sym c.caller.view_is) c.requires.act.0)
+    (peer_operation c.caller.inside.thread c.args.act.now (subst (λ (p : Pass). IsPeerThread p.thread) (sym c.caller.view_is) c.requires.act.0)
+    (subst (λ (p : Pass). IsLine p.thread c.args.act.now) (sym c.caller.view_is) c.requires.act.1) c.in_default.not-Collect) c.run.ensures.err)

@@ -20,10 +20,13 @@ invariant_of-driver g c =
       c.driver.invariant.0,
       c.refused.ensures.order,
       driver_pass_back c.driver.inside.thread c.refused.new.mine.view driver c.refused.ensures.pass,
-      knows_either c.driver.inside.thread c.driver.inside.seat.view c.refused.new.mine.view c.refused.result (λ r. MakesRefusal c.driver.inside.seat.view c.refused.new.mine.view c.args.index r.0 c.args.word c.args.phase r.1) driver c.refused.ensures.ok (λ r q. (q may.stand may.seen may.stands may.in_phase).stands.known) c.refused.ensures.err c.args.index may.stand may.seen may.stands,
+      knows_either c.driver.inside.thread c.driver.inside.seat.view c.refused.new.mine.view c.refused.result
+          (λ r. MakesRefusal c.driver.inside.seat.view c.refused.new.mine.view c.args.index r.0 c.args.word c.args.phase r.1) driver c.refused.ensures.ok
+          (λ r q. (q may.stand may.seen may.stands may.in_phase).stands.known) c.refused.ensures.err c.args.index may.stand may.seen may.stands,
       c.refused.ensures.settled,
       driver_reads c.driver.inside.thread c.driver.inside.seat.view c.refused.new.mine.view c.driver.inside.reads.entries driver c.driver.invariant.5,
     )
 
 pub returns-clause-ok : goal.returns-clause-ok
-returns-clause-ok g c = subst (λ (p : Pass). IfOk c.refused.result (λ r. MakesRefusal p.view c.refused.new.mine.view c.args.index r.0 c.args.word c.args.phase r.1)) c.driver.view_is c.refused.ensures.ok
+returns-clause-ok g c = subst (λ (p : Pass). IfOk c.refused.result (λ r. MakesRefusal p.view c.refused.new.mine.view c.args.index r.0 c.args.word c.args.phase r.1))
+    c.driver.view_is c.refused.ensures.ok

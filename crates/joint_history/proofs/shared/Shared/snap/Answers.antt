@@ -8,7 +8,12 @@ pub try_snap-requires-clause-may : goal.try_snap-requires-clause-may
 try_snap-requires-clause-may g c = none_rests c.args.driver.now.view c.loop.driver.view c.args.index c.loop.invariant.3 c.requires.may
 
 pub loop-preserved : goal.loop-preserved
-loop-preserved g c = (tt, tt, c.try_snap.ensures.thread ∙ c.loop.invariant.2, none_then_none c.args.driver.now.view c.loop.driver.view c.try_snap.new.driver.view c.loop.invariant.3 c.in-Err-NotClosed.ensures.err)
+loop-preserved g c = (
+  tt,
+  tt,
+  c.try_snap.ensures.thread ∙ c.loop.invariant.2,
+  none_then_none c.args.driver.now.view c.loop.driver.view c.try_snap.new.driver.view c.loop.invariant.3 c.in-Err-NotClosed.ensures.err,
+)
 
 pub returns-in_default-clause-ok : goal.returns-in_default-clause-ok
 returns-in_default-clause-ok g c =

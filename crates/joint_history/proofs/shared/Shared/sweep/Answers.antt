@@ -14,4 +14,5 @@ pub end_own-requires-clause-may : goal.end_own-requires-clause-may
 end_own-requires-clause-may g c = none_begun c.args.driver.now.view c.mark_on.new.driver.view c.args.index c.mark_on.ensures.none c.requires.may
 
 pub returns-clause-makes : goal.returns-clause-makes
-returns-clause-makes g c = none_then_sweep c.args.driver.now.view c.mark_on.new.driver.view c.end_own.new.driver.view c.args.index c.end_own.result.0 c.end_own.result.1 c.mark_on.ensures.none c.end_own.ensures.makes
+returns-clause-makes g c = none_then_sweep c.args.driver.now.view c.mark_on.new.driver.view c.end_own.new.driver.view
+    c.args.index c.end_own.result.0 c.end_own.result.1 c.mark_on.ensures.none c.end_own.ensures.makes

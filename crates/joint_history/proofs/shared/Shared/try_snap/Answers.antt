@@ -21,7 +21,9 @@ invariant_of-driver g c =
       c.driver.invariant.0,
       c.snap.ensures.order,
       driver_pass_back c.driver.inside.thread c.snap.new.mine.view driver c.snap.ensures.pass,
-      knows_either c.driver.inside.thread c.driver.inside.seat.view c.snap.new.mine.view c.snap.result (λ o. MakesSnapshot c.driver.inside.seat.view c.snap.new.mine.view c.args.index o) driver c.snap.ensures.ok (λ r q. (q may.seen may.stands).stands.known) c.snap.ensures.err c.args.index idle may.seen may.stands,
+      knows_either c.driver.inside.thread c.driver.inside.seat.view c.snap.new.mine.view c.snap.result
+          (λ o. MakesSnapshot c.driver.inside.seat.view c.snap.new.mine.view c.args.index o) driver c.snap.ensures.ok
+          (λ r q. (q may.seen may.stands).stands.known) c.snap.ensures.err c.args.index idle may.seen may.stands,
       c.snap.ensures.settled,
       driver_reads c.driver.inside.thread c.driver.inside.seat.view c.snap.new.mine.view c.driver.inside.reads.entries driver c.driver.invariant.5,
     )

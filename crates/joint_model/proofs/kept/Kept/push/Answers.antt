@@ -14,7 +14,8 @@ invariant_of-self c =
     let inv = c.self.invariant in
     let none : c.new-leader.result.followers ≡ 0 = ap (λ (x : Leader). x.followers) c.new-leader.ensures in
     let from : c.new-leader.result.from ≡ c.len.result = ap (λ (x : Leader). x.from) c.new-leader.ensures in
-    let sum : sum_by (λ (x : Leader). x.followers) (ls ++ c.new-leader.result ∷ []) ≡ sum_by (λ x. x.followers) ls + c.new-leader.result.followers = sum_by_push (λ (x : Leader). x.followers) ls c.new-leader.result in
+    let sum : sum_by (λ (x : Leader). x.followers) (ls ++ c.new-leader.result ∷ []) ≡ sum_by
+    (λ x. x.followers) ls + c.new-leader.result.followers = sum_by_push (λ (x : Leader). x.followers) ls c.new-leader.result in
     let followed : AreFollowed (ls ++ c.new-leader.result ∷ []) hs = omega (arith, sum, none, inv.0) in
     rw c.push_reserved.ensures.items
     (followed, starts-last 0 ls c.new-leader.result inv.1 (from ∙ (search rules)), search rules, search rules, search rules)

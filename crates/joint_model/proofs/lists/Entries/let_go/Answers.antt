@@ -17,10 +17,14 @@ pub returns-clause-entries : goal.returns-clause-entries
 returns-clause-entries c =
     let past = c.self.inside.past.items in
     let after = c.push.new.self.items in
-    ap (λ es. passed after ++ es) c.clear.ensures.entries ∙ (append-nil (passed after) ∙ (whole past after c.of.result c.self.inside.kept c.in_ok-push.ensures.items c.of.ensures ∙ ap (λ (s : Stock). s.entries) c.self.view_is))
+    ap (λ es. passed after ++ es) c.clear.ensures.entries ∙ (append-nil (passed after)
+    ∙ (whole past after c.of.result c.self.inside.kept c.in_ok-push.ensures.items c.of.ensures ∙ ap (λ (s : Stock). s.entries) c.self.view_is))
 
 pub invariant_of-self-2 : goal.invariant_of-self-2
 invariant_of-self-2 c =
     let past = c.self.inside.past.items in
-    let all = ap length (whole past c.push.new.self.items c.of.result c.self.inside.kept c.in_ok-push.ensures.items c.of.ensures) ∙ length-append (passed past) c.self.inside.kept.entries in
-    (omega (arith, c.self.invariant.0, c.len.ensures, all), omega (arith, c.self.invariant.1, c.len.ensures, ap length c.clear.ensures.entries, c.clear.ensures.spare), λ every. absurd (apart (sym every ∙ (ap (λ (s : Stock). s.holding) c.self.view_is ∙ c.requires))))
+    let all = ap length (whole past c.push.new.self.items c.of.result c.self.inside.kept c.in_ok-push.ensures.items c.of.ensures) ∙ length-append (passed past) c.self.inside.kept.entries in (
+      omega (arith, c.self.invariant.0, c.len.ensures, all),
+      omega (arith, c.self.invariant.1, c.len.ensures, ap length c.clear.ensures.entries, c.clear.ensures.spare),
+      λ every. absurd (apart (sym every ∙ (ap (λ (s : Stock). s.holding) c.self.view_is ∙ c.requires))),
+    )

@@ -16,4 +16,5 @@ returns c =
     let r = c.index.result.now in
     let made : IsMade c.args.self.now c.args.x = fields_of-made c.args.self.now c.args.x c.args.i c.requires in
     let same : fields_of c.args.self.now c.args.x ≡ r.items = fields-read (λ v. v.items) c.self.inside.fields.items _ c.args.self.now c.args.x r c.self.view_is refl made c.index.ensures in
-    slot-read (fields_of c.args.self.now c.args.x) c.args.i c.index-2.result.now c.requires (subst (λ (l : List (Option ℕ)). c.index-2.result.now ≡ get_or l c.args.i c.index-2.result.now) (sym same) c.index-2.ensures)
+    slot-read (fields_of c.args.self.now c.args.x) c.args.i c.index-2.result.now c.requires
+    (subst (λ (l : List (Option ℕ)). c.index-2.result.now ≡ get_or l c.args.i c.index-2.result.now) (sym same) c.index-2.ensures)

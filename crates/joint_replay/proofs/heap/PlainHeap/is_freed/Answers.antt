@@ -24,5 +24,6 @@ returns c =
     let all : IsFlagged c.args.self.now flags = subst (λ (h : Heap). IsFlagged h flags) c.self.view_is c.self.invariant in
     let low : 1 ≤ c.args.x = omega (arith, c.if-x-eq0.false) in
     let high : c.args.x ≤ length flags = omega (arith, c.if-x-len.false, c.len.ensures, c.self.inside.flags.ok) in
-    let freed : IsTrue (not c.index.result.now) ↔ Contains c.args.self.now.freed c.args.x = IsFlagged-tells c.args.self.now flags c.args.x c.index.result.now all (numbered-index flags c.args.x c.index.result.now low high c.index.ensures) in
+    let freed : IsTrue (not c.index.result.now) ↔ Contains c.args.self.now.freed c.args.x = IsFlagged-tells c.args.self.now flags c.args.x c.index.result.now all
+    (numbered-index flags c.args.x c.index.result.now low high c.index.ensures) in
     record { freed = freed; test = same-test (Contains c.args.self.now.freed c.args.x) (not c.index.result.now) (is_freed c.args.self.now c.args.x) freed (is_freed-exact c.args.self.now c.args.x) }

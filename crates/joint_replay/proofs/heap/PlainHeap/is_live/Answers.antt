@@ -25,5 +25,6 @@ returns c =
     let all : IsFlagged h flags = subst (λ (k : Heap). IsFlagged k flags) c.self.view_is c.self.invariant in
     let low : 1 ≤ c.args.x = omega (arith, c.if-x-eq0.false) in
     let high : c.args.x ≤ length flags = omega (arith, c.if-x-len.false, c.len.ensures, c.self.inside.flags.ok) in
-    let live : IsTrue c.index.result.now ↔ IsLive h c.args.x = IsFlagged-live h flags c.args.x c.index.result.now all low high (numbered-index flags c.args.x c.index.result.now low high c.index.ensures) in
+    let live : IsTrue c.index.result.now ↔ IsLive h c.args.x = IsFlagged-live h flags c.args.x c.index.result.now all low high
+    (numbered-index flags c.args.x c.index.result.now low high c.index.ensures) in
     record { live = live; test = same-test (IsLive h c.args.x) c.index.result.now (is_live h c.args.x) live (is_live-exact h c.args.x) }

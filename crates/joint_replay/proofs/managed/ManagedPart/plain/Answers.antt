@@ -11,7 +11,17 @@ use Rattle.joint_replay.proofs.managed.ManagedPart.plain.Goals as goal
 pub returns : goal.returns
 returns c =
     let s = c.self.inside in
-    let i : Managed = record { heap = s.heap; kinds = s.kinds.items; held = s.held.items; pins = s.pins; cells = s.cells; notices = s.notices.items; taken = s.taken; cycle = s.cycle; cycles = s.cycles } in
+    let i : Managed = record {
+      heap = s.heap;
+      kinds = s.kinds.items;
+      held = s.held.items;
+      pins = s.pins;
+      cells = s.cells;
+      notices = s.notices.items;
+      taken = s.taken;
+      cycle = s.cycle;
+      cycles = s.cycles;
+    } in
     let t = thread_number c.args.caller in
     let act = c.args.act.now in
     subst (λ (z : Managed). Decides (Gives (on_heap z (plain_line managed_name z.heap t act)) c.args.reply.now) c.line.result z (record i { heap = c.line.new.self })) c.self.view_is

@@ -22,7 +22,8 @@ pub returns-clause-err : goal.returns-clause-err
 returns-clause-err c =
     let s = c.self.inside in
     let i : Joint = record { graph = record { managed = s.managed; peers = s.peers; removed = s.removed.items }; answers = answers_as s.answers.items; marking = s.marking; markings = s.markings } in
-    subst (λ (z : Joint). OnErr c.grip.result (with_peers i c.grip.new.self c.grip.new.removed.items ≡ z)) c.self.view_is (err-peers i c.grip.new.self c.grip.new.removed.items c.grip.result c.grip.ensures.flags c.grip.ensures.err)
+    subst (λ (z : Joint). OnErr c.grip.result (with_peers i c.grip.new.self c.grip.new.removed.items ≡ z)) c.self.view_is
+    (err-peers i c.grip.new.self c.grip.new.removed.items c.grip.result c.grip.ensures.flags c.grip.ensures.err)
 
 pub invariant_of-self : goal.invariant_of-self
 invariant_of-self c =

@@ -15,8 +15,10 @@ returns-clause-ok c =
     let s = c.self.inside in
     let i : Joint = record { graph = record { managed = s.managed; peers = s.peers; removed = s.removed.items }; answers = answers_as s.answers.items; marking = s.marking; markings = s.markings } in
     let reply = c.args.reply.now in
-    subst (λ (z : Joint). IfOk c.make.result (λ d. Decides (Gives (on_peers z (peer_made z.graph.peers c.args.v c.args.fields)) reply) d z (with_peers i c.make.new.self s.removed.items))) c.self.view_is
-    (IfOk-weaker c.make.result _ _ (λ d w. on-peers-same i (peer_made i.graph.peers c.args.v c.args.fields) reply c.make.new.self d (issued-peer_made i.graph.peers c.args.v c.args.fields) w) c.make.ensures.ok)
+    subst (λ (z : Joint). IfOk c.make.result (λ d. Decides (Gives (on_peers z (peer_made z.graph.peers c.args.v c.args.fields)) reply) d z (with_peers i c.make.new.self s.removed.items)))
+    c.self.view_is
+    (IfOk-weaker c.make.result _ _ (λ d w. on-peers-same i (peer_made i.graph.peers c.args.v c.args.fields) reply c.make.new.self d (issued-peer_made i.graph.peers c.args.v c.args.fields) w)
+    c.make.ensures.ok)
 
 pub returns-clause-err : goal.returns-clause-err
 returns-clause-err c =

@@ -10,7 +10,12 @@ use Rattle.joint_replay.proofs.state.JointState.managed_line.Goals as goal
 
 pub returns-clause-ok : goal.returns-clause-ok
 returns-clause-ok c =
-    let i : Joint = record { graph = record { managed = c.self.inside.managed; peers = c.self.inside.peers; removed = c.self.inside.removed.items }; answers = answers_as c.self.inside.answers.items; marking = c.self.inside.marking; markings = c.self.inside.markings } in
+    let i : Joint = record {
+      graph = record { managed = c.self.inside.managed; peers = c.self.inside.peers; removed = c.self.inside.removed.items };
+      answers = answers_as c.self.inside.answers.items;
+      marking = c.self.inside.marking;
+      markings = c.self.inside.markings;
+    } in
     let t = thread_number c.args.caller in
     let act = c.args.act.now in
     let reply = c.args.reply.now in

@@ -15,7 +15,8 @@ returns c =
     let i : Joint = record { graph = record { managed = s.managed; peers = s.peers; removed = s.removed.items }; answers = answers_as s.answers.items; marking = s.marking; markings = s.markings } in
     let t = thread_number c.args.caller in
     let act = c.args.act.now in
-    subst (λ (z : Joint). Decides (Gives (on_peers z (on_peer_heap z.graph.peers (plain_line peer_name z.graph.peers.heap t act))) c.args.reply.now) c.plain.result z (with_peers i c.plain.new.self s.removed.items)) c.self.view_is
+    subst (λ (z : Joint). Decides (Gives (on_peers z (on_peer_heap z.graph.peers (plain_line peer_name z.graph.peers.heap t act))) c.args.reply.now) c.plain.result z
+    (with_peers i c.plain.new.self s.removed.items)) c.self.view_is
     (on-peers-same i (on_peer_heap i.graph.peers (plain_line peer_name i.graph.peers.heap t act)) c.args.reply.now c.plain.new.self c.plain.result refl c.plain.ensures.verdict)
 
 pub invariant_of-self : goal.invariant_of-self

@@ -19,4 +19,5 @@ returns c =
 pub invariant_of-self : goal.invariant_of-self
 invariant_of-self c =
     let s = c.self.inside in
-    stored-then s.peers c.read.new.self s.marking (peer_read s.peers c.args.v c.args.target) c.args.reply.now c.read.result (Grows-peer_read s.peers c.args.v c.args.target) c.read.ensures c.self.invariant
+    stored-then s.peers c.read.new.self s.marking (peer_read s.peers c.args.v c.args.target) c.args.reply.now c.read.result
+    (Grows-peer_read s.peers c.args.v c.args.target) c.read.ensures c.self.invariant

@@ -11,7 +11,12 @@ kept_marks-requires c = rw c.candidates.ensures c.in-Some.ensures.1.2
 
 pub returns : goal.returns
 returns c =
-    let i : Joint = record { graph = record { managed = c.self.inside.managed; peers = c.self.inside.peers; removed = c.self.inside.removed.items }; answers = answers_as c.self.inside.answers.items; marking = c.self.inside.marking; markings = c.self.inside.markings } in
+    let i : Joint = record {
+      graph = record { managed = c.self.inside.managed; peers = c.self.inside.peers; removed = c.self.inside.removed.items };
+      answers = answers_as c.self.inside.answers.items;
+      marking = c.self.inside.marking;
+      markings = c.self.inside.markings;
+    } in
     let freed = c.in_ok-freed.freed.items in
     subst (λ (z : Joint). Settles z c.args.k.0 freed) c.self.view_is
     (settles-from i c.args.k.0 c.in-Some.open.now freed c.in_ok-marks.marks.items c.in-Some.ensures.0 c.in-Some.ensures.1

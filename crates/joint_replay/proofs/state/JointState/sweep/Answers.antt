@@ -12,5 +12,9 @@ returns-clause-ok c =
     let j = c.args.self.now in
     let t = c.args.caller in
     let reply = c.args.reply.now in
-    let may : MayEndOpen j t = record { marking = c.in-Some.marking; opened = subst (λ (z : Joint). z.marking ≡ Some c.in-Some.marking) c.self.view_is c.in-Some.is; allowed = c.is_ended_by.ensures.0 c.if-not-is_ended_by.false } in
+    let may : MayEndOpen j t = record {
+      marking = c.in-Some.marking;
+      opened = subst (λ (z : Joint). z.marking ≡ Some c.in-Some.marking) c.self.view_is c.in-Some.is;
+      allowed = c.is_ended_by.ensures.0 c.if-not-is_ended_by.false;
+    } in
     IfOk-weaker c.end_marking.result _ _ (λ d w. sweep-ends j t reply (named_peers c.args.h.now reply) d _ may w) c.end_marking.ensures.ok

@@ -7,4 +7,5 @@ use Rattle.log_text.proofs.Keys.{are-keys}
 use Rattle.log_text.proofs.live.LiveHandles.strong.Goals as goal
 
 pub returns : goal.returns
-returns c = IfOk-weaker c.keys_of.result (λ u. u.items ≡ handles_of (keys c.args.self.now.strong)) (λ u. AreKeys (shown c.args.self.now).strong u.items) (λ u e. are-keys c.args.self.now.strong c.keys_of.ensures.ordered u.items e) c.keys_of.ensures.keys
+returns c = IfOk-weaker c.keys_of.result (λ u. u.items ≡ handles_of (keys c.args.self.now.strong)) (λ u. AreKeys (shown c.args.self.now).strong u.items)
+    (λ u e. are-keys c.args.self.now.strong c.keys_of.ensures.ordered u.items e) c.keys_of.ensures.keys

@@ -25,7 +25,8 @@ invariant_of-self-in-Err c =
     let ps = c.self.inside.registry in
     let pushed = c.in_ok-add.ensures.ok in
     let alone = rw (← c.self.view_is) at c.requires.alone in
-    let back : c.forget.new.self ≡ ps = c.forget.ensures.pairs ∙ (ap (λ z. without z c.args.p) pushed ∙ without-push ps c.args.p record { 0 = c.made-next.result + 1 } (alone-twin ps c.args.p alone)) in
+    let back : c.forget.new.self ≡ ps = c.forget.ensures.pairs ∙ (ap (λ z. without z c.args.p) pushed ∙ without-push ps c.args.p record { 0 = c.made-next.result + 1 } (alone-twin ps c.args.p alone))
+    in
     rw (back, c.in-Err.ensures.err.1, c.in-Err.ensures.err.0) c.self.invariant
 
 pub returns-in-Err-clause-err : goal.returns-in-Err-clause-err
@@ -33,7 +34,8 @@ returns-in-Err-clause-err c =
     let ps = c.self.inside.registry in
     let pushed = c.in_ok-add.ensures.ok in
     let alone = rw (← c.self.view_is) at c.requires.alone in
-    let back : c.forget.new.self ≡ ps = c.forget.ensures.pairs ∙ (ap (λ z. without z c.args.p) pushed ∙ without-push ps c.args.p record { 0 = c.made-next.result + 1 } (alone-twin ps c.args.p alone)) in
+    let back : c.forget.new.self ≡ ps = c.forget.ensures.pairs ∙ (ap (λ z. without z c.args.p) pushed ∙ without-push ps c.args.p record { 0 = c.made-next.result + 1 } (alone-twin ps c.args.p alone))
+    in
     rw (back, c.in-Err.ensures.err.1, c.in-Err.ensures.err.0) c.self.view_is
 
 pub invariant_of-self-in-Ok : goal.invariant_of-self-in-Ok

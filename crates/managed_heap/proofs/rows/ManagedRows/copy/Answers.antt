@@ -11,5 +11,6 @@ invariant_of-self c = (
   c.self.invariant.0,
   ap (λ (v : HeapRows). v.refs) c.copy-done.ensures.rest ∙ c.self.invariant.1,
   ap (λ (v : HeapRows). v.follows) c.copy-done.ensures.rest ∙ c.self.invariant.2,
-  AreDues-moved c.self.inside.cycle c.self.inside.heap c.copy-done.new.self c.self.inside.notices.spare _ _ (copied-moved managed_name c.self.inside.heap.heap c.args.v c.args.w) (c.copy-done.ensures.done managed_name) c.copy-done.ensures.rest c.self.invariant.3,
+  AreDues-moved c.self.inside.cycle c.self.inside.heap c.copy-done.new.self c.self.inside.notices.spare _ _
+      (copied-moved managed_name c.self.inside.heap.heap c.args.v c.args.w) (c.copy-done.ensures.done managed_name) c.copy-done.ensures.rest c.self.invariant.3,
 )

@@ -11,5 +11,6 @@ invariant_of-self c = (
   c.self.invariant.0,
   ap (λ (v : HeapRows). v.refs) c.drop-done.ensures.rest ∙ c.self.invariant.1,
   ap (λ (v : HeapRows). v.follows) c.drop-done.ensures.rest ∙ c.self.invariant.2,
-  AreDues-moved c.self.inside.cycle c.self.inside.heap c.drop-done.new.self c.self.inside.notices.spare _ _ (dropped-moved c.self.inside.heap.heap c.args.v) (c.drop-done.ensures.done managed_name) c.drop-done.ensures.rest c.self.invariant.3,
+  AreDues-moved c.self.inside.cycle c.self.inside.heap c.drop-done.new.self c.self.inside.notices.spare _ _
+      (dropped-moved c.self.inside.heap.heap c.args.v) (c.drop-done.ensures.done managed_name) c.drop-done.ensures.rest c.self.invariant.3,
 )

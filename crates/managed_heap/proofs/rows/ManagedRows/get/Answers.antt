@@ -11,5 +11,6 @@ invariant_of-self c = (
   c.self.invariant.0,
   ap (λ (v : HeapRows). v.refs) c.get-done.ensures.rest ∙ c.self.invariant.1,
   ap (λ (v : HeapRows). v.follows) c.get-done.ensures.rest ∙ c.self.invariant.2,
-  AreDues-moved c.self.inside.cycle c.self.inside.heap c.get-done.new.self c.self.inside.notices.spare _ _ (field_got-moved managed_name c.self.inside.heap.heap c.args.v c.args.w c.args.i) (c.get-done.ensures.done managed_name) c.get-done.ensures.rest c.self.invariant.3,
+  AreDues-moved c.self.inside.cycle c.self.inside.heap c.get-done.new.self c.self.inside.notices.spare _ _
+      (field_got-moved managed_name c.self.inside.heap.heap c.args.v c.args.w c.args.i) (c.get-done.ensures.done managed_name) c.get-done.ensures.rest c.self.invariant.3,
 )

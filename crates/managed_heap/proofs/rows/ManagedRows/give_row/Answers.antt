@@ -21,8 +21,13 @@ invariant_of-self c =
     let live = rw (← c.self.view_is) at c.requires.live in
     let within : c.args.x ≤ length infos = omega (arith, live.made.1, kept.1.managed.places, length-map infos (λ (j : Held). j.handle)) in
     let at = numbered-read (λ (j : Held). j.peer) infos c.args.x c.index-held.result.now live.made.0 (omega (arith, within, length-map infos (λ (j : Held). j.peer))) c.index-held.ensures in
-    let left : pairs_of c.leave.new.registry ≡ without_twins (pairs_of i.registry) (c.args.x ∷ []) = ap pairs_of c.leave.ensures.pairs ∙ left-is i.registry infos c.args.x c.index-held.result.now at c.leave.ensures.distinct kept.1.one_row c.self.invariant.0 in
-    (ArePeers-given i.registry c.leave.new.registry infos c.args.x record { kind = c.index-held.result.now.kind; handle = None; peer = None } live.made.0 refl left c.self.invariant.0, c.self.invariant.1, c.self.invariant.2, c.self.invariant.3)
+    let left : pairs_of c.leave.new.registry ≡ without_twins (pairs_of i.registry) (c.args.x ∷ []) = ap pairs_of c.leave.ensures.pairs
+    ∙ left-is i.registry infos c.args.x c.index-held.result.now at c.leave.ensures.distinct kept.1.one_row c.self.invariant.0 in (
+      ArePeers-given i.registry c.leave.new.registry infos c.args.x record { kind = c.index-held.result.now.kind; handle = None; peer = None } live.made.0 refl left c.self.invariant.0,
+      c.self.invariant.1,
+      c.self.invariant.2,
+      c.self.invariant.3,
+    )
 
 pub returns : goal.returns
 returns c =
@@ -34,10 +39,14 @@ returns c =
     let within : c.args.x ≤ length infos = omega (arith, live.made.1, kept.1.managed.places, length-map infos (λ (j : Held). j.handle)) in
     let at = numbered-read (λ (j : Held). j.peer) infos c.args.x held live.made.0 (omega (arith, within, length-map infos (λ (j : Held). j.peer))) c.index-held.ensures in
     let kind = numbered-read (λ (j : Held). j.kind) infos c.args.x held live.made.0 (omega (arith, within, length-map infos (λ (j : Held). j.kind))) c.index-held.ensures in
-    let left : pairs_of c.leave.new.registry ≡ without_twins (pairs_of i.registry) (c.args.x ∷ []) = ap pairs_of c.leave.ensures.pairs ∙ left-is i.registry infos c.args.x held at c.leave.ensures.distinct kept.1.one_row c.self.invariant.0 in
+    let left : pairs_of c.leave.new.registry ≡ without_twins (pairs_of i.registry) (c.args.x ∷ []) = ap pairs_of c.leave.ensures.pairs
+    ∙ left-is i.registry infos c.args.x held at c.leave.ensures.distinct kept.1.one_row c.self.invariant.0 in
     let s : ManagedReplay = rows_of i.heap.heap infos i.registry i.cells no_pins i.notices i.cycle i.cycles i.contracted in
     let handle : handle_of s.managed c.args.x ≡ held.handle = handle-is s.managed infos c.args.x held refl live within c.index-held.ensures in
-    let state = given-state i.heap.heap infos i.registry c.leave.new.registry i.cells no_pins i.notices i.cycle i.cycles i.contracted c.args.x record { kind = held.kind; handle = None; peer = None } live.made.0 kind refl left in
-    let next : ManagedReplay = rows_of i.heap.heap (set infos (c.args.x - 1) record { kind = held.kind; handle = None; peer = None }) c.leave.new.registry i.cells no_pins i.notices i.cycle i.cycles i.contracted in
-    let done : give_row s c.args.x ≡ answer c.handle_said.result next = ap (λ z. answer z (give_row s c.args.x).state) (ap handle_said handle ∙ sym c.handle_said.ensures) ∙ ap (λ z. answer c.handle_said.result z) state in
+    let state = given-state i.heap.heap infos i.registry c.leave.new.registry i.cells no_pins i.notices i.cycle i.cycles i.contracted c.args.x
+    record { kind = held.kind; handle = None; peer = None } live.made.0 kind refl left in
+    let next : ManagedReplay = rows_of i.heap.heap (set infos (c.args.x - 1) record { kind = held.kind; handle = None; peer = None })
+    c.leave.new.registry i.cells no_pins i.notices i.cycle i.cycles i.contracted in
+    let done : give_row s c.args.x ≡ answer c.handle_said.result next = ap (λ z. answer z (give_row s c.args.x).state) (ap handle_said handle ∙ sym c.handle_said.ensures)
+    ∙ ap (λ z. answer c.handle_said.result z) state in
     subst (λ (z : ManagedReplay). give_row z c.args.x ≡ answer c.handle_said.result next) c.self.view_is done

@@ -11,5 +11,6 @@ invariant_of-self c = (
   c.self.invariant.0,
   ap (λ (v : HeapRows). v.refs) c.load-done.ensures.rest ∙ c.self.invariant.1,
   ap (λ (v : HeapRows). v.follows) c.load-done.ensures.rest ∙ c.self.invariant.2,
-  AreDues-moved c.self.inside.cycle c.self.inside.heap c.load-done.new.self c.self.inside.notices.spare _ _ (loaded-moved managed_name c.self.inside.heap.heap c.args.v c.args.s) (c.load-done.ensures.done managed_name) c.load-done.ensures.rest c.self.invariant.3,
+  AreDues-moved c.self.inside.cycle c.self.inside.heap c.load-done.new.self c.self.inside.notices.spare _ _
+      (loaded-moved managed_name c.self.inside.heap.heap c.args.v c.args.s) (c.load-done.ensures.done managed_name) c.load-done.ensures.rest c.self.invariant.3,
 )

@@ -23,29 +23,34 @@ use Rattle.managed_heap.proofs.rows.ManagedRows.resolve.Goals as goal
 
 pub settle-candidates-requires-clause-live : goal.settle-candidates-requires-clause-live
 settle-candidates-requires-clause-live c =
-    let kept : IsManagedKept (rows_of c.self.inside.heap.heap c.self.inside.infos.items c.self.inside.registry c.self.inside.cells no_pins c.self.inside.notices c.self.inside.cycle c.self.inside.cycles c.self.inside.contracted).managed = subst (λ (z : ManagedReplay). IsManagedKept z.managed) (sym c.self.view_is) c.requires.kept.1.managed in
+    let kept : IsManagedKept (rows_of c.self.inside.heap.heap c.self.inside.infos.items c.self.inside.registry c.self.inside.cells no_pins c.self.inside.notices c.self.inside.cycle
+    c.self.inside.cycles c.self.inside.contracted).managed = subst (λ (z : ManagedReplay). IsManagedKept z.managed) (sym c.self.view_is) c.requires.kept.1.managed in
     let cut = kept.dead c.in-Some.open (sym c.in-Some.ensures.value) in
     λ m k. cut.live m ((cut.candidates m).0 k).0
 
 pub settle-candidates-requires-clause-shut : goal.settle-candidates-requires-clause-shut
 settle-candidates-requires-clause-shut c =
-    let s = rows_of c.self.inside.heap.heap c.self.inside.infos.items c.self.inside.registry c.self.inside.cells no_pins c.self.inside.notices c.self.inside.cycle c.self.inside.cycles c.self.inside.contracted in
+    let s = rows_of c.self.inside.heap.heap c.self.inside.infos.items c.self.inside.registry c.self.inside.cells
+    no_pins c.self.inside.notices c.self.inside.cycle c.self.inside.cycles c.self.inside.contracted in
     let kept : IsManagedKept s.managed = subst (λ (z : ManagedReplay). IsManagedKept z.managed) (sym c.self.view_is) c.requires.kept.1.managed in
     let opened = sym c.in-Some.ensures.value in
     shut-open c.self.inside.heap c.self.inside.notices.spare s.managed c.in-Some.open refl c.self.invariant.2 (c.self.invariant.3 c.in-Some.open opened) (kept.dead c.in-Some.open opened)
 
 pub free-requires-clause-can : goal.free-requires-clause-can
 free-requires-clause-can c =
-    let s = rows_of c.self.inside.heap.heap c.self.inside.infos.items c.self.inside.registry c.self.inside.cells no_pins c.self.inside.notices c.self.inside.cycle c.self.inside.cycles c.self.inside.contracted in
+    let s = rows_of c.self.inside.heap.heap c.self.inside.infos.items c.self.inside.registry c.self.inside.cells
+    no_pins c.self.inside.notices c.self.inside.cycle c.self.inside.cycles c.self.inside.contracted in
     let kept : IsManagedKept s.managed = subst (λ (z : ManagedReplay). IsManagedKept z.managed) (sym c.self.view_is) c.requires.kept.1.managed in
     let opened = sym c.in-Some.ensures.value in
     let due = c.self.invariant.3 c.in-Some.open opened in
     subst (λ z. CanFree c.settle-candidates.new.heap.heap (managed_numbers z)) (sym c.deref.ensures.value)
-    (can-free c.self.inside.heap c.settle-candidates.new.heap s.managed c.in-Some.open (managed_numbers c.settle-candidates.result.1.items) refl (ap (λ (v : HeapRows). v.heap) c.settle-candidates.ensures.rest) due.rise (kept.dead c.in-Some.open opened) c.settle-candidates.ensures.shut c.settle-candidates.ensures.freed)
+    (can-free c.self.inside.heap c.settle-candidates.new.heap s.managed c.in-Some.open (managed_numbers c.settle-candidates.result.1.items) refl
+    (ap (λ (v : HeapRows). v.heap) c.settle-candidates.ensures.rest) due.rise (kept.dead c.in-Some.open opened) c.settle-candidates.ensures.shut c.settle-candidates.ensures.freed)
 
 pub notify-requires : goal.notify-requires
 notify-requires c =
-    let s = rows_of c.self.inside.heap.heap c.self.inside.infos.items c.self.inside.registry c.self.inside.cells no_pins c.self.inside.notices c.self.inside.cycle c.self.inside.cycles c.self.inside.contracted in
+    let s = rows_of c.self.inside.heap.heap c.self.inside.infos.items c.self.inside.registry c.self.inside.cells
+    no_pins c.self.inside.notices c.self.inside.cycle c.self.inside.cycles c.self.inside.contracted in
     let kept : IsManagedKept s.managed = subst (λ (z : ManagedReplay). IsManagedKept z.managed) (sym c.self.view_is) c.requires.kept.1.managed in
     let opened = sym c.in-Some.ensures.value in
     let due = c.self.invariant.3 c.in-Some.open opened in
@@ -57,7 +62,8 @@ notify-requires c =
 
 pub forget_pairs-requires-clause-rows : goal.forget_pairs-requires-clause-rows
 forget_pairs-requires-clause-rows c =
-    let s = rows_of c.self.inside.heap.heap c.self.inside.infos.items c.self.inside.registry c.self.inside.cells no_pins c.self.inside.notices c.self.inside.cycle c.self.inside.cycles c.self.inside.contracted in
+    let s = rows_of c.self.inside.heap.heap c.self.inside.infos.items c.self.inside.registry c.self.inside.cells
+    no_pins c.self.inside.notices c.self.inside.cycle c.self.inside.cycles c.self.inside.contracted in
     let kept : IsManagedKept s.managed = subst (λ (z : ManagedReplay). IsManagedKept z.managed) (sym c.self.view_is) c.requires.kept.1.managed in
     let cut = kept.dead c.in-Some.open (sym c.in-Some.ensures.value) in
     let many : length c.self.inside.infos.items ≡ length c.self.inside.heap.heap.fields = sym (length-map c.self.inside.infos.items (λ (i : Held). i.handle)) ∙ kept.places in
@@ -68,11 +74,13 @@ forget_pairs-requires-clause-rows c =
 
 pub renew-requires-clause-rows : goal.renew-requires-clause-rows
 renew-requires-clause-rows c =
-    let s = rows_of c.self.inside.heap.heap c.self.inside.infos.items c.self.inside.registry c.self.inside.cells no_pins c.self.inside.notices c.self.inside.cycle c.self.inside.cycles c.self.inside.contracted in
+    let s = rows_of c.self.inside.heap.heap c.self.inside.infos.items c.self.inside.registry c.self.inside.cells
+    no_pins c.self.inside.notices c.self.inside.cycle c.self.inside.cycles c.self.inside.contracted in
     let kept : IsManagedKept s.managed = subst (λ (z : ManagedReplay). IsManagedKept z.managed) (sym c.self.view_is) c.requires.kept.1.managed in
     let cut = kept.dead c.in-Some.open (sym c.in-Some.ensures.value) in
     let many : length c.self.inside.infos.items ≡ length c.self.inside.heap.heap.fields = sym (length-map c.self.inside.infos.items (λ (i : Held). i.handle)) ∙ kept.places in
-    let as_many : length c.forget_pairs.new.infos.items ≡ length c.self.inside.infos.items = sym (length-map c.forget_pairs.new.infos.items (λ (i : Held). i.handle)) ∙ (ap length c.forget_pairs.ensures.handles ∙ length-map c.self.inside.infos.items (λ (i : Held). i.handle)) in
+    let as_many : length c.forget_pairs.new.infos.items ≡ length c.self.inside.infos.items = sym (length-map c.forget_pairs.new.infos.items (λ (i : Held). i.handle))
+    ∙ (ap length c.forget_pairs.ensures.handles ∙ length-map c.self.inside.infos.items (λ (i : Held). i.handle)) in
     subst (λ z. All (λ m. (1 ≤ m) × (m ≤ length c.forget_pairs.new.infos.items)) z) (sym (c.deref-5.ensures.value ∙ c.settle-candidates.ensures.candidates))
     (All-members (λ m. (1 ≤ m) × (m ≤ length c.forget_pairs.new.infos.items)) c.in-Some.open.candidates (λ m k. (
     let l = cut.live m ((cut.candidates m).0 k).0 in
@@ -89,7 +97,8 @@ invariant_of-self c = (
 
 pub returns-clause-few : goal.returns-clause-few
 returns-clause-few c =
-    let s = rows_of c.self.inside.heap.heap c.self.inside.infos.items c.self.inside.registry c.self.inside.cells no_pins c.self.inside.notices c.self.inside.cycle c.self.inside.cycles c.self.inside.contracted in
+    let s = rows_of c.self.inside.heap.heap c.self.inside.infos.items c.self.inside.registry c.self.inside.cells
+    no_pins c.self.inside.notices c.self.inside.cycle c.self.inside.cycles c.self.inside.contracted in
     let kept : IsManagedKept s.managed = subst (λ (z : ManagedReplay). IsManagedKept z.managed) (sym c.self.view_is) c.requires.kept.1.managed in
     let opened = sym c.in-Some.ensures.value in
     let cut = kept.dead c.in-Some.open opened in
@@ -101,7 +110,8 @@ returns-clause-few c =
 pub returns-clause-resolution : goal.returns-clause-resolution
 returns-clause-resolution c =
     let open' = c.in-Some.open in
-    let s = rows_of c.self.inside.heap.heap c.self.inside.infos.items c.self.inside.registry c.self.inside.cells no_pins c.self.inside.notices c.self.inside.cycle c.self.inside.cycles c.self.inside.contracted in
+    let s = rows_of c.self.inside.heap.heap c.self.inside.infos.items c.self.inside.registry c.self.inside.cells
+    no_pins c.self.inside.notices c.self.inside.cycle c.self.inside.cycles c.self.inside.contracted in
     let kept : IsManagedKept s.managed = subst (λ (z : ManagedReplay). IsManagedKept z.managed) (sym c.self.view_is) c.requires.kept.1.managed in
     let opened = sym c.in-Some.ensures.value in
     let cut = kept.dead open' opened in
@@ -115,14 +125,21 @@ returns-clause-resolution c =
     let handles : map (λ (k : Held). k.handle) after ≡ renewed s.managed.held (candidates_of s.managed) answers =
     c.renew.ensures.handles ∙ (ap (λ z. renewed z c.deref-5.result.now answers) c.forget_pairs.ensures.handles ∙ ap (λ z. renewed s.managed.held z answers) given) in
     let next = rows_of c.free.new.self.heap after c.forget_pairs.new.registry c.self.inside.cells no_pins c.notify.new.notices c.take.new.self c.self.inside.cycles c.self.inside.contracted in
-    let heap-is : c.free.new.self.heap ≡ with_freed c.self.inside.heap.heap freed = c.free.ensures.heap ∙ (ap (λ z. with_freed c.settle-candidates.new.heap.heap (managed_numbers z)) c.deref.ensures.value ∙ ap (λ (v : HeapRows). with_freed v.heap freed) c.settle-candidates.ensures.rest) in
-    let queued : managed_numbers c.notify.new.notices.queued ≡ managed_numbers c.self.inside.notices.queued ++ filter (has_handle s.managed.held) freed = rw (c.deref-2.ensures.value, c.deref-3.ensures.value) at c.notify.ensures.queued in
-    let same : filter (has_handle s.managed.held) freed ≡ filter (holds_handle s.managed) freed = filter-live s.managed freed (λ m k. cut.live m ((unmarked_of-exact c.settle-candidates.new.heap.marks open'.dead m).0 (subst (λ xs. Contains xs m) c.settle-candidates.ensures.freed k)).0) in
+    let heap-is : c.free.new.self.heap ≡ with_freed c.self.inside.heap.heap freed = c.free.ensures.heap
+    ∙ (ap (λ z. with_freed c.settle-candidates.new.heap.heap (managed_numbers z)) c.deref.ensures.value ∙ ap (λ (v : HeapRows). with_freed v.heap freed) c.settle-candidates.ensures.rest) in
+    let queued : managed_numbers c.notify.new.notices.queued ≡ managed_numbers c.self.inside.notices.queued ++ filter
+    (has_handle s.managed.held) freed = rw (c.deref-2.ensures.value, c.deref-3.ensures.value) at c.notify.ensures.queued in
+    let same : filter (has_handle s.managed.held) freed ≡ filter (holds_handle s.managed) freed = filter-live s.managed freed
+    (λ m k. cut.live m ((unmarked_of-exact c.settle-candidates.new.heap.marks open'.dead m).0 (subst (λ xs. Contains xs m) c.settle-candidates.ensures.freed k)).0) in
     subst (λ z. TakesResolution z next c.args.alive.now.values freed c.number-cycle.result (c.made.result - c.live.result) c.count_alive.result) c.self.view_is (record {
       cycle = open';
       opened = opened;
-      resolution = resolution-is c.self.inside.heap c.settle-candidates.new.heap c.self.inside.notices.spare s.managed open' c.args.alive.now.values freed refl c.self.invariant.2 due c.settle-candidates.ensures.marks c.settle-candidates.ensures.freed;
-      state = rw c.take.ensures.after (resolved-is c.self.inside.heap.heap c.free.new.self.heap c.self.inside.infos.items after c.self.inside.registry c.forget_pairs.new.registry c.self.inside.cells no_pins c.self.inside.notices c.notify.new.notices c.self.inside.cycle c.self.inside.cycles c.self.inside.contracted answers freed heap-is (c.renew.ensures.kinds ∙ c.forget_pairs.ensures.kinds) handles (rw c.deref-4.ensures.value at c.forget_pairs.ensures.pairs) (queued ∙ ap (λ z. managed_numbers c.self.inside.notices.queued ++ z) same) c.notify.ensures.taken);
+      resolution = resolution-is c.self.inside.heap c.settle-candidates.new.heap c.self.inside.notices.spare s.managed open'
+          c.args.alive.now.values freed refl c.self.invariant.2 due c.settle-candidates.ensures.marks c.settle-candidates.ensures.freed;
+      state = rw c.take.ensures.after (resolved-is c.self.inside.heap.heap c.free.new.self.heap c.self.inside.infos.items after c.self.inside.registry c.forget_pairs.new.registry c.self.inside.cells
+          no_pins c.self.inside.notices c.notify.new.notices c.self.inside.cycle c.self.inside.cycles c.self.inside.contracted answers freed heap-is
+          (c.renew.ensures.kinds ∙ c.forget_pairs.ensures.kinds) handles (rw c.deref-4.ensures.value at c.forget_pairs.ensures.pairs)
+          (queued ∙ ap (λ z. managed_numbers c.self.inside.notices.queued ++ z) same) c.notify.ensures.taken);
       numbered = c.number-cycle.ensures;
       before = omega (arith, c.made.ensures.made, c.live.ensures);
       counted = c.count_alive.ensures;

@@ -93,7 +93,8 @@ free-requires-clause-can c =
     let freed = managed_numbers found.freed.items in
     let prepares = rw c.deref.ensures.value at c.prepare-found.ensures.prepares in
     subst (λ z. CanFree c.prepare-found.new.heap.heap (managed_numbers z)) (sym c.deref-2.ensures.value)
-    (prepared-free (with_pins s (pins_given c.args.pins.now.at)).managed c.prepare-found.new.heap freed found.candidates.items (managed_numbers found.dead.items) (ap (λ (v : HeapRows). v.heap) c.prepare-found.ensures.rest) prepares)
+    (prepared-free (with_pins s (pins_given c.args.pins.now.at)).managed c.prepare-found.new.heap freed found.candidates.items
+    (managed_numbers found.dead.items) (ap (λ (v : HeapRows). v.heap) c.prepare-found.ensures.rest) prepares)
 
 pub mark_slots-requires : goal.mark_slots-requires
 mark_slots-requires c =
@@ -105,8 +106,12 @@ mark_slots-requires c =
     let found = c.prepare-found.result.found in
     let freed = managed_numbers found.freed.items in
     let prepares = rw c.deref.ensures.value at c.prepare-found.ensures.prepares in
-    let heap-is : c.free.new.self.heap ≡ with_freed i.heap.heap freed = c.free.ensures.heap ∙ (ap (λ z. with_freed c.prepare-found.new.heap.heap (managed_numbers z)) c.deref-2.ensures.value ∙ ap (λ (v : HeapRows). with_freed v.heap freed) c.prepare-found.ensures.rest) in
-    record { live = λ x k. subst (λ h. IsLive h x) (sym heap-is) (pins-left (with_pins s pins).managed c.prepare-found.new.heap freed found.candidates.items (managed_numbers found.dead.items) closed stand.live prepares x k) }
+    let heap-is : c.free.new.self.heap ≡ with_freed i.heap.heap freed = c.free.ensures.heap
+    ∙ (ap (λ z. with_freed c.prepare-found.new.heap.heap (managed_numbers z)) c.deref-2.ensures.value ∙ ap (λ (v : HeapRows). with_freed v.heap freed) c.prepare-found.ensures.rest) in
+    record {
+      live = λ x k. subst (λ h. IsLive h x) (sym heap-is)
+          (pins-left (with_pins s pins).managed c.prepare-found.new.heap freed found.candidates.items (managed_numbers found.dead.items) closed stand.live prepares x k);
+    }
 
 pub invariant_of-self : goal.invariant_of-self
 invariant_of-self c =
@@ -115,13 +120,15 @@ invariant_of-self c =
     let found = c.prepare-found.result.found in
     let freed = managed_numbers found.freed.items in
     let prepares = rw c.deref.ensures.value at c.prepare-found.ensures.prepares in
-    let heap-is : c.free.new.self.heap ≡ with_freed i.heap.heap freed = c.free.ensures.heap ∙ (ap (λ z. with_freed c.prepare-found.new.heap.heap (managed_numbers z)) c.deref-2.ensures.value ∙ ap (λ (v : HeapRows). with_freed v.heap freed) c.prepare-found.ensures.rest) in
+    let heap-is : c.free.new.self.heap ≡ with_freed i.heap.heap freed = c.free.ensures.heap
+    ∙ (ap (λ z. with_freed c.prepare-found.new.heap.heap (managed_numbers z)) c.deref-2.ensures.value ∙ ap (λ (v : HeapRows). with_freed v.heap freed) c.prepare-found.ensures.rest) in
     let room : length found.candidates.items ≤ c.widen.new.self.spare = omega (arith, c.prepare-found.ensures.few.1, c.widen.ensures.room, c.made.ensures.made) in (
       c.self.invariant.0,
       ap (λ (v : HeapRows). v.refs) c.mark_slots.ensures.rest ∙ (ap (λ (v : HeapRows). v.refs) c.free.ensures.rest ∙ (ap (λ (v : HeapRows). v.refs) c.prepare-found.ensures.rest ∙ c.self.invariant.1)),
       ap (λ (v : HeapRows). v.follows) c.mark_slots.ensures.rest,
       λ o e. subst (HasDue c.mark_slots.new.heap c.widen.new.self.spare) (same_Some _ o e)
-          (prepared-due (with_pins s (pins_given c.args.pins.now.at)).managed c.prepare-found.new.heap c.mark_slots.new.heap freed found.candidates.items (managed_numbers found.dead.items) c.widen.new.self.spare (i.cycles + 1) prepares
+          (prepared-due (with_pins s (pins_given c.args.pins.now.at)).managed c.prepare-found.new.heap c.mark_slots.new.heap freed found.candidates.items
+          (managed_numbers found.dead.items) c.widen.new.self.spare (i.cycles + 1) prepares
           (ap (λ (v : HeapRows). v.heap) c.mark_slots.ensures.rest ∙ heap-is) (rw heap-is at c.mark_slots.ensures.marks) room),
     )
 
@@ -132,9 +139,13 @@ returns-clause-snapshot c =
     let found = c.prepare-found.result.found in
     let freed = managed_numbers found.freed.items in
     let prepares = rw c.deref.ensures.value at c.prepare-found.ensures.prepares in
-    let heap-is : c.free.new.self.heap ≡ with_freed i.heap.heap freed = c.free.ensures.heap ∙ (ap (λ z. with_freed c.prepare-found.new.heap.heap (managed_numbers z)) c.deref-2.ensures.value ∙ ap (λ (v : HeapRows). with_freed v.heap freed) c.prepare-found.ensures.rest) in
-    let next = rows_of c.mark_slots.new.heap.heap i.infos.items i.registry i.cells no_pins c.widen.new.self (Some record { number = i.cycles + 1; candidates = found.candidates.items; dead = managed_numbers found.dead.items }) (i.cycles + 1) false in
+    let heap-is : c.free.new.self.heap ≡ with_freed i.heap.heap freed = c.free.ensures.heap
+    ∙ (ap (λ z. with_freed c.prepare-found.new.heap.heap (managed_numbers z)) c.deref-2.ensures.value ∙ ap (λ (v : HeapRows). with_freed v.heap freed) c.prepare-found.ensures.rest) in
+    let next = rows_of c.mark_slots.new.heap.heap i.infos.items i.registry i.cells no_pins c.widen.new.self
+    (Some record { number = i.cycles + 1; candidates = found.candidates.items; dead = managed_numbers found.dead.items }) (i.cycles + 1) false in
     subst (λ z. TakesSnapshot z next (pins_given c.args.pins.now.at) freed (i.cycles + 1) (c.made-2.result - c.live.result) c.len-count.result c.prepare-found.result.graph) c.self.view_is
-    (takes-prepared i.heap.heap c.mark_slots.new.heap.heap i.infos.items i.registry i.cells (pins_given c.args.pins.now.at) i.notices c.widen.new.self i.cycle _ i.cycles i.contracted c.prepare-found.new.heap freed found.candidates.items found.dead.items (c.made-2.result - c.live.result) c.len-count.result c.prepare-found.result.graph
+    (takes-prepared i.heap.heap c.mark_slots.new.heap.heap i.infos.items i.registry i.cells (pins_given c.args.pins.now.at) i.notices c.widen.new.self i.cycle _ i.cycles
+    i.contracted c.prepare-found.new.heap freed found.candidates.items found.dead.items (c.made-2.result - c.live.result) c.len-count.result c.prepare-found.result.graph
     closed prepares (ap (λ (v : HeapRows). v.heap) c.mark_slots.ensures.rest ∙ heap-is) c.widen.ensures.queued c.widen.ensures.taken refl
-    (omega (arith, c.made-2.ensures.made, c.live.ensures)) (omega (arith, c.len-count.ensures, found.candidates.ok)) (rw c.deref.ensures.value at c.prepare-found.ensures.nodes) c.prepare-found.ensures.edges)
+    (omega (arith, c.made-2.ensures.made, c.live.ensures)) (omega (arith, c.len-count.ensures, found.candidates.ok))
+    (rw c.deref.ensures.value at c.prepare-found.ensures.nodes) c.prepare-found.ensures.edges)

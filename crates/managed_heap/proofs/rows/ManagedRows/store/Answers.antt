@@ -11,5 +11,6 @@ invariant_of-self c = (
   c.self.invariant.0,
   ap (λ (v : HeapRows). v.refs) c.store-done.ensures.rest ∙ c.self.invariant.1,
   ap (λ (v : HeapRows). v.follows) c.store-done.ensures.rest ∙ c.self.invariant.2,
-  AreDues-moved c.self.inside.cycle c.self.inside.heap c.store-done.new.self c.self.inside.notices.spare _ _ (stored-moved c.self.inside.heap.heap c.args.s c.args.v) (c.store-done.ensures.done managed_name) c.store-done.ensures.rest c.self.invariant.3,
+  AreDues-moved c.self.inside.cycle c.self.inside.heap c.store-done.new.self c.self.inside.notices.spare _ _
+      (stored-moved c.self.inside.heap.heap c.args.s c.args.v) (c.store-done.ensures.done managed_name) c.store-done.ensures.rest c.self.invariant.3,
 )

@@ -25,10 +25,12 @@ invariant_of-self-2 g c =
     let goes = side-goes i.entries.entries i.takings i.rows i.rows made (phase_of c.args.phase) c.self.invariant.0 (refl, refl, refl) record { event = tt; side = refl } refused
     (λ hs. same-answers i.rows c.refusal-reply.result (refusal_to i.rows.managed c.args.phase c.args.word) hs (sym c.refusal-reply.ensures)) in
     let room : 2 ≤ c.enter.new.entries.spare = omega (arith, c.in_ok-reserve.ensures.room, c.enter.ensures.spare) in (
-      side-replayed i.entries.entries c.enter.new.entries.entries i.takings i.takings i.rows i.rows draws.adds.number (g.D.Draw.rules.floor c.args.draw.now) made (phase_of c.args.phase) may.below draws.above draws.adds.added goes c.self.invariant.0,
+      side-replayed i.entries.entries c.enter.new.entries.entries i.takings i.takings i.rows i.rows draws.adds.number
+          (g.D.Draw.rules.floor c.args.draw.now) made (phase_of c.args.phase) may.below draws.above draws.adds.added goes c.self.invariant.0,
       HasRoom-two i.rows c.enter.new.entries.spare room,
       AreTaken-push managed_rules i.threads i.entries.entries c.enter.new.entries.entries draws.adds.number made tt draws.adds.added c.self.invariant.2,
-      side-kept i.entries.entries c.enter.new.entries.entries i.takings i.takings i.rows i.rows draws.adds.number made (phase_of c.args.phase) (none_stand i.rows.managed) draws.adds.added goes c.self.invariant.3,
+      side-kept i.entries.entries c.enter.new.entries.entries i.takings i.takings i.rows i.rows draws.adds.number made
+          (phase_of c.args.phase) (none_stand i.rows.managed) draws.adds.added goes c.self.invariant.3,
       takings-few i.entries.entries c.enter.new.entries.entries i.takings draws.adds.number made draws.adds.added c.self.invariant.4,
       λ r e. absurd (none_some r (sym c.give_back.ensures ∙ e)),
       λ r e. absurd (none_some r (sym c.give_back.ensures ∙ e)),
@@ -40,7 +42,8 @@ returns-clause-adds g c =
     let made : Made = step_made C c.args.index (op.Refused c.args.word) c.refusal-reply.result None in
     let refused = rw (← c.self.view_is) at c.requires.refused in
     let draws = rw c.in_ok-reserve.ensures.entries at c.enter.ensures.draws in
-    rw (← c.self.view_is) (adds-lawful g.D.Draw.rules c.args.draw.now c.enter.new.draw i.threads i.entries.entries c.enter.new.entries.entries i.takings i.takings i.rows i.rows made (phase_of c.args.phase) [] draws refl refl
+    rw (← c.self.view_is) (adds-lawful g.D.Draw.rules c.args.draw.now c.enter.new.draw i.threads i.entries.entries
+    c.enter.new.entries.entries i.takings i.takings i.rows i.rows made (phase_of c.args.phase) [] draws refl refl
     (side-goes i.entries.entries i.takings i.rows i.rows made (phase_of c.args.phase) c.self.invariant.0 (refl, refl, refl) record { event = tt; side = refl } refused
     (λ hs. same-answers i.rows c.refusal-reply.result (refusal_to i.rows.managed c.args.phase c.args.word) hs (sym c.refusal-reply.ensures))))
 

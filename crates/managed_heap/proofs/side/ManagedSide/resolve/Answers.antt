@@ -56,16 +56,24 @@ invariant_of-self g c =
     let ms = c.resolve-resolution.result.freed.items in
     let freed = managed_numbers ms in
     let many : c.len.result ≡ length freed = omega (arith, c.len.ensures, c.resolve-resolution.result.freed.ok, length-map ms (λ m. m.0)) in
-    let made-is : step_made C c.args.index (op.Resolve record { 0 = c.resolve-resolution.result.cycle }) (says.Freed record { first = c.resolve-resolution.result.first; count = c.len.result }) (Some c.args.cites) ≡ resolve_made i.rows.managed t.cycle c.args.index freed c.args.cites = rw (t.numbered, t.before, many) refl in
+    let made-is : step_made C c.args.index (op.Resolve record { 0 = c.resolve-resolution.result.cycle }) (says.Freed record { first = c.resolve-resolution.result.first; count = c.len.result })
+    (Some c.args.cites) ≡ resolve_made i.rows.managed t.cycle c.args.index freed c.args.cites = rw (t.numbered, t.before, many) refl in
     let draws = rw made-is at c.enter.ensures.draws in
     let same : k.answers.cycle ≡ t.cycle = same_Some k.answers.cycle t.cycle (sym k.answers.opened ∙ t.opened) in
     let one_each : length c.args.alive.now.values ≡ length t.cycle.candidates = k.answers.one_each ∙ ap (λ (z : OpenCycle). length z.candidates) same in
-    let goes = resolve-goes i.entries.entries i.takings c.push_answers.new.self i.rows c.resolve-resolution.new.self c.args.index c.args.cites _ _ _ c.args.alive.now.values freed c.self.invariant.0 t one_each k.new c.push_answers.ensures in (
-      side-replayed i.entries.entries c.enter.new.entries.entries i.takings c.push_answers.new.self i.rows c.resolve-resolution.new.self draws.adds.number (g.D.Draw.rules.floor c.args.draw.now) (resolve_made i.rows.managed t.cycle c.args.index freed c.args.cites) (resolution_of (answers_of c.args.alive.now.values) freed) (may k.answers.cycle k.answers.opened).below draws.above draws.adds.added goes c.self.invariant.0,
+    let goes = resolve-goes i.entries.entries i.takings c.push_answers.new.self i.rows c.resolve-resolution.new.self c.args.index
+    c.args.cites _ _ _ c.args.alive.now.values freed c.self.invariant.0 t one_each k.new c.push_answers.ensures in (
+      side-replayed i.entries.entries c.enter.new.entries.entries i.takings c.push_answers.new.self i.rows c.resolve-resolution.new.self draws.adds.number
+          (g.D.Draw.rules.floor c.args.draw.now) (resolve_made i.rows.managed t.cycle c.args.index freed c.args.cites)
+          (resolution_of (answers_of c.args.alive.now.values) freed) (may k.answers.cycle k.answers.opened).below draws.above draws.adds.added goes c.self.invariant.0,
       λ e o. absurd (none_some e (sym (ap (λ (z : ManagedReplay). z.managed.cycle) t.state) ∙ o)),
-      AreTaken-push managed_rules i.threads i.entries.entries c.enter.new.entries.entries draws.adds.number (resolve_made i.rows.managed t.cycle c.args.index freed c.args.cites) tt draws.adds.added c.self.invariant.2,
-      side-kept i.entries.entries c.enter.new.entries.entries i.takings c.push_answers.new.self i.rows c.resolve-resolution.new.self draws.adds.number (resolve_made i.rows.managed t.cycle c.args.index freed c.args.cites) (resolution_of (answers_of c.args.alive.now.values) freed) (none_stand i.rows.managed) draws.adds.added goes c.self.invariant.3,
-      takings-more i.entries.entries c.enter.new.entries.entries i.takings c.push_answers.new.self (handles_given (answers_of c.args.alive.now.values)) draws.adds.number (resolve_made i.rows.managed t.cycle c.args.index freed c.args.cites) c.push_answers.ensures draws.adds.added c.self.invariant.4,
+      AreTaken-push managed_rules i.threads i.entries.entries c.enter.new.entries.entries draws.adds.number
+          (resolve_made i.rows.managed t.cycle c.args.index freed c.args.cites) tt draws.adds.added c.self.invariant.2,
+      side-kept i.entries.entries c.enter.new.entries.entries i.takings c.push_answers.new.self i.rows c.resolve-resolution.new.self draws.adds.number
+          (resolve_made i.rows.managed t.cycle c.args.index freed c.args.cites) (resolution_of (answers_of c.args.alive.now.values) freed)
+          (none_stand i.rows.managed) draws.adds.added goes c.self.invariant.3,
+      takings-more i.entries.entries c.enter.new.entries.entries i.takings c.push_answers.new.self (handles_given (answers_of c.args.alive.now.values)) draws.adds.number
+          (resolve_made i.rows.managed t.cycle c.args.index freed c.args.cites) c.push_answers.ensures draws.adds.added c.self.invariant.4,
       λ r e. absurd (none_some r (sym c.give_back.ensures ∙ e)),
       λ r e. absurd (none_some r (sym c.give_back.ensures ∙ e)),
     )
@@ -78,7 +86,8 @@ returns-clause-resolves g c =
     let ms = c.resolve-resolution.result.freed.items in
     let freed = managed_numbers ms in
     let many : c.len.result ≡ length freed = omega (arith, c.len.ensures, c.resolve-resolution.result.freed.ok, length-map ms (λ m. m.0)) in
-    let made-is : step_made C c.args.index (op.Resolve record { 0 = c.resolve-resolution.result.cycle }) (says.Freed record { first = c.resolve-resolution.result.first; count = c.len.result }) (Some c.args.cites) ≡ resolve_made i.rows.managed t.cycle c.args.index freed c.args.cites = rw (t.numbered, t.before, many) refl in
+    let made-is : step_made C c.args.index (op.Resolve record { 0 = c.resolve-resolution.result.cycle }) (says.Freed record { first = c.resolve-resolution.result.first; count = c.len.result })
+    (Some c.args.cites) ≡ resolve_made i.rows.managed t.cycle c.args.index freed c.args.cites = rw (t.numbered, t.before, many) refl in
     let draws = rw made-is at c.enter.ensures.draws in
     let same : k.answers.cycle ≡ t.cycle = same_Some k.answers.cycle t.cycle (sym k.answers.opened ∙ t.opened) in
     let one_each : length c.args.alive.now.values ≡ length t.cycle.candidates = k.answers.one_each ∙ ap (λ (z : OpenCycle). length z.candidates) same in
@@ -86,8 +95,11 @@ returns-clause-resolves g c =
       cycle = t.cycle;
       opened = t.opened;
       freed = freed;
-      adds = adds-lawful g.D.Draw.rules c.args.draw.now c.enter.new.draw i.threads i.entries.entries c.enter.new.entries.entries i.takings c.push_answers.new.self i.rows c.resolve-resolution.new.self (resolve_made i.rows.managed t.cycle c.args.index freed c.args.cites) (resolution_of (answers_of c.args.alive.now.values) freed) c.deref.result.now draws refl (objects-numbers ms ∙ sym c.deref.ensures.value)
-          (resolve-goes i.entries.entries i.takings c.push_answers.new.self i.rows c.resolve-resolution.new.self c.args.index c.args.cites _ _ _ c.args.alive.now.values freed c.self.invariant.0 t one_each k.new c.push_answers.ensures);
+      adds = adds-lawful g.D.Draw.rules c.args.draw.now c.enter.new.draw i.threads i.entries.entries c.enter.new.entries.entries i.takings
+          c.push_answers.new.self i.rows c.resolve-resolution.new.self (resolve_made i.rows.managed t.cycle c.args.index freed c.args.cites)
+          (resolution_of (answers_of c.args.alive.now.values) freed) c.deref.result.now draws refl (objects-numbers ms ∙ sym c.deref.ensures.value)
+          (resolve-goes i.entries.entries i.takings c.push_answers.new.self i.rows c.resolve-resolution.new.self c.args.index
+          c.args.cites _ _ _ c.args.alive.now.values freed c.self.invariant.0 t one_each k.new c.push_answers.ensures);
       exact = frees-unanswered i.rows.managed t.cycle (answers_of c.args.alive.now.values) freed (c.self.invariant.3.kept.managed.dead t.cycle t.opened) t.resolution;
       span = rw (t.before, many) refl;
       kept = t.counted;

@@ -64,7 +64,9 @@ invariant_of-self g c =
     let ms = c.snap-snap.result.freed.items in
     let freed = managed_numbers ms in
     let many : c.len.result ≡ length freed = omega (arith, c.len.ensures, c.snap-snap.result.freed.ok, length-map ms (λ m. m.0)) in
-    let made-is : step_made C c.args.index (op.Snap record { 0 = c.snap-snap.result.cycle }) (says.Snapped c.snap-snap.result.candidates record { first = c.snap-snap.result.first; count = c.len.result }) None ≡ snap_made s c.args.index freed t.candidates = rw (t.snapshot.next, t.before, t.counted, many) refl in
+    let made-is : step_made C c.args.index (op.Snap record { 0 = c.snap-snap.result.cycle })
+    (says.Snapped c.snap-snap.result.candidates record { first = c.snap-snap.result.first; count = c.len.result })
+    None ≡ snap_made s c.args.index freed t.candidates = rw (t.snapshot.next, t.before, t.counted, many) refl in
     let draws = rw made-is at c.enter-number.ensures.draws in
     let goes = snap-goes i.entries.entries i.takings i.rows c.snap-snap.new.self pins c.args.index _ _ _ freed _ c.self.invariant.0 t in
     let asked = rw (← c.self.view_is) at c.requires.may in
@@ -73,10 +75,12 @@ invariant_of-self g c =
     let stands = stand c.in-Some.pins.at c.close.new.self closes in
     let three = c.self.invariant.5 c.in-Some-take.room (sym c.in-Some-take.ensures.value) in
     let room : 2 ≤ c.enter-number.new.entries.spare = omega (arith, three, c.enter-number.ensures.spare) in (
-      side-replayed i.entries.entries c.enter-number.new.entries.entries i.takings i.takings i.rows c.snap-snap.new.self draws.adds.number (g.G.Draw.rules.floor c.close.new.self) (snap_made s c.args.index freed t.candidates) (kept_pins pins (snap_of freed t.candidates t.dead)) may.below draws.above draws.adds.added goes c.self.invariant.0,
+      side-replayed i.entries.entries c.enter-number.new.entries.entries i.takings i.takings i.rows c.snap-snap.new.self draws.adds.number (g.G.Draw.rules.floor c.close.new.self)
+          (snap_made s c.args.index freed t.candidates) (kept_pins pins (snap_of freed t.candidates t.dead)) may.below draws.above draws.adds.added goes c.self.invariant.0,
       HasRoom-two c.snap-snap.new.self c.enter-number.new.entries.spare room,
       AreTaken-push managed_rules i.threads i.entries.entries c.enter-number.new.entries.entries draws.adds.number (snap_made s c.args.index freed t.candidates) tt draws.adds.added c.self.invariant.2,
-      side-kept i.entries.entries c.enter-number.new.entries.entries i.takings i.takings i.rows c.snap-snap.new.self draws.adds.number (snap_made s c.args.index freed t.candidates) (kept_pins pins (snap_of freed t.candidates t.dead)) stands draws.adds.added goes c.self.invariant.3,
+      side-kept i.entries.entries c.enter-number.new.entries.entries i.takings i.takings i.rows c.snap-snap.new.self draws.adds.number
+          (snap_made s c.args.index freed t.candidates) (kept_pins pins (snap_of freed t.candidates t.dead)) stands draws.adds.added goes c.self.invariant.3,
       takings-few i.entries.entries c.enter-number.new.entries.entries i.takings draws.adds.number (snap_made s c.args.index freed t.candidates) draws.adds.added c.self.invariant.4,
       λ r e. absurd (none_some r (sym c.take.ensures.after ∙ e)),
       λ r e. absurd (none_some r (sym c.take.ensures.after ∙ e)),
@@ -95,7 +99,9 @@ returns-clause-snaps g c =
     let ms = c.snap-snap.result.freed.items in
     let freed = managed_numbers ms in
     let many : c.len.result ≡ length freed = omega (arith, c.len.ensures, c.snap-snap.result.freed.ok, length-map ms (λ m. m.0)) in
-    let made-is : step_made C c.args.index (op.Snap record { 0 = c.snap-snap.result.cycle }) (says.Snapped c.snap-snap.result.candidates record { first = c.snap-snap.result.first; count = c.len.result }) None ≡ snap_made s c.args.index freed t.candidates = rw (t.snapshot.next, t.before, t.counted, many) refl in
+    let made-is : step_made C c.args.index (op.Snap record { 0 = c.snap-snap.result.cycle })
+    (says.Snapped c.snap-snap.result.candidates record { first = c.snap-snap.result.first; count = c.len.result })
+    None ≡ snap_made s c.args.index freed t.candidates = rw (t.snapshot.next, t.before, t.counted, many) refl in
     let draws = rw made-is at c.enter-number.ensures.draws in
     let goes = snap-goes i.entries.entries i.takings i.rows c.snap-snap.new.self pins c.args.index _ _ _ freed _ c.self.invariant.0 t in
     let number = rw made-is at c.enter-number.ensures.number in
@@ -107,7 +113,8 @@ returns-clause-snaps g c =
         freed = freed;
         candidates = t.candidates;
         dead = t.dead;
-        adds = adds-lawful g.G.Draw.rules c.close.new.self c.enter-number.new.draw i.threads i.entries.entries c.enter-number.new.entries.entries i.takings i.takings i.rows c.snap-snap.new.self (snap_made s c.args.index freed t.candidates) (kept_pins pins (snap_of freed t.candidates t.dead)) c.deref.result.now draws refl (objects-numbers ms ∙ sym c.deref.ensures.value) goes;
+        adds = adds-lawful g.G.Draw.rules c.close.new.self c.enter-number.new.draw i.threads i.entries.entries c.enter-number.new.entries.entries i.takings i.takings i.rows c.snap-snap.new.self
+            (snap_made s c.args.index freed t.candidates) (kept_pins pins (snap_of freed t.candidates t.dead)) c.deref.result.now draws refl (objects-numbers ms ∙ sym c.deref.ensures.value) goes;
         cycle = t.snapshot.next;
         counted = t.counted;
         span = rw (t.before, many) refl;

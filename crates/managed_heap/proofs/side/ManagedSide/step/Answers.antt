@@ -27,14 +27,18 @@ invariant_of-self-2 g c =
     let may = rw (← c.self.view_is) at c.requires.may in
     let fresh = rw (← c.self.view_is) at c.requires.fresh in
     let draws = rw c.in_ok-reserve.ensures.entries at c.enter.ensures.draws in
-    let goes = side-gives i.entries.entries i.takings c.push_event.new.self i.rows c.step.new.self (adopted_by c.args.op.now c.in_ok-reply.reply) made nothing c.self.invariant.0 (step-bare c.args.caller c.args.op.now c.requires.event.1) (step-of c.args.caller c.args.index c.args.op.now c.in_ok-reply.reply c.args.cites c.requires.event)
+    let goes = side-gives i.entries.entries i.takings c.push_event.new.self i.rows c.step.new.self (adopted_by c.args.op.now c.in_ok-reply.reply) made nothing c.self.invariant.0
+    (step-bare c.args.caller c.args.op.now c.requires.event.1) (step-of c.args.caller c.args.index c.args.op.now c.in_ok-reply.reply c.args.cites c.requires.event)
     (step-allowed (state_of i.takings i.rows) c.args.caller c.args.op.now c.requires.event.1 fresh) c.push_event.ensures c.in_ok-reply.ensures.answer in
     let room : 2 ≤ c.enter.new.entries.spare = omega (arith, c.in_ok-reserve.ensures.room, c.enter.ensures.spare) in (
-      side-replayed i.entries.entries c.enter.new.entries.entries i.takings c.push_event.new.self i.rows c.step.new.self draws.adds.number (g.D.Draw.rules.floor c.args.draw.now) made nothing may.below draws.above draws.adds.added goes c.self.invariant.0,
+      side-replayed i.entries.entries c.enter.new.entries.entries i.takings c.push_event.new.self i.rows c.step.new.self draws.adds.number
+          (g.D.Draw.rules.floor c.args.draw.now) made nothing may.below draws.above draws.adds.added goes c.self.invariant.0,
       HasRoom-two c.step.new.self c.enter.new.entries.spare room,
       AreTaken-push managed_rules i.threads i.entries.entries c.enter.new.entries.entries draws.adds.number made may.takes draws.adds.added c.self.invariant.2,
-      side-kept i.entries.entries c.enter.new.entries.entries i.takings c.push_event.new.self i.rows c.step.new.self draws.adds.number made nothing (none_stand i.rows.managed) draws.adds.added goes c.self.invariant.3,
-      takings-more i.entries.entries c.enter.new.entries.entries i.takings c.push_event.new.self (adopted_by c.args.op.now c.in_ok-reply.reply) draws.adds.number made c.push_event.ensures draws.adds.added c.self.invariant.4,
+      side-kept i.entries.entries c.enter.new.entries.entries i.takings c.push_event.new.self i.rows c.step.new.self draws.adds.number made nothing
+          (none_stand i.rows.managed) draws.adds.added goes c.self.invariant.3,
+      takings-more i.entries.entries c.enter.new.entries.entries i.takings c.push_event.new.self
+          (adopted_by c.args.op.now c.in_ok-reply.reply) draws.adds.number made c.push_event.ensures draws.adds.added c.self.invariant.4,
       λ r e. absurd (none_some r (sym c.give_back.ensures ∙ e)),
       λ r e. absurd (none_some r (sym c.give_back.ensures ∙ e)),
     )
@@ -46,9 +50,11 @@ returns-clause-adds g c =
     let made : Made = step_made c.args.caller c.args.index c.args.op.now c.in_ok-reply.reply c.args.cites in
     let fresh = rw (← c.self.view_is) at c.requires.fresh in
     let draws = rw c.in_ok-reserve.ensures.entries at c.enter.ensures.draws in
-    let goes = side-gives i.entries.entries i.takings c.push_event.new.self i.rows c.step.new.self (adopted_by c.args.op.now c.in_ok-reply.reply) made nothing c.self.invariant.0 (step-bare c.args.caller c.args.op.now c.requires.event.1) (step-of c.args.caller c.args.index c.args.op.now c.in_ok-reply.reply c.args.cites c.requires.event)
+    let goes = side-gives i.entries.entries i.takings c.push_event.new.self i.rows c.step.new.self (adopted_by c.args.op.now c.in_ok-reply.reply) made nothing c.self.invariant.0
+    (step-bare c.args.caller c.args.op.now c.requires.event.1) (step-of c.args.caller c.args.index c.args.op.now c.in_ok-reply.reply c.args.cites c.requires.event)
     (step-allowed s c.args.caller c.args.op.now c.requires.event.1 fresh) c.push_event.ensures c.in_ok-reply.ensures.answer in
-    rw (← c.self.view_is) (adds-lawful g.D.Draw.rules c.args.draw.now c.enter.new.draw i.threads i.entries.entries c.enter.new.entries.entries i.takings c.push_event.new.self i.rows c.step.new.self made nothing [] draws
+    rw (← c.self.view_is) (adds-lawful g.D.Draw.rules c.args.draw.now c.enter.new.draw i.threads i.entries.entries
+    c.enter.new.entries.entries i.takings c.push_event.new.self i.rows c.step.new.self made nothing [] draws
     (step-target s c.args.caller c.args.op.now c.in_ok-reply.reply c.requires.event.1) refl goes)
 
 pub returns-in_err-reserve-clause-adds : goal.returns-in_err-reserve-clause-adds

@@ -27,7 +27,8 @@ invariant_of-self-2 g c =
     let goes = take-goes i.entries.entries i.takings i.rows c.take-reply.new.self c.args.caller c.args.index c.args.v c.args.pin c.self.invariant.0 c.requires.thread c.requires.var
     (c.take-reply.ensures.state ∙ ap (λ z. with_taken i.rows z c.args.pin) c.place.ensures.at) in
     let room : 2 ≤ c.enter.new.entries.spare = omega (arith, c.in_ok-reserve.ensures.room, c.enter.ensures.spare) in (
-      side-replayed i.entries.entries c.enter.new.entries.entries i.takings i.takings i.rows c.take-reply.new.self draws.adds.number (g.D.Draw.rules.floor c.args.draw.now) made told may.below draws.above draws.adds.added goes c.self.invariant.0,
+      side-replayed i.entries.entries c.enter.new.entries.entries i.takings i.takings i.rows c.take-reply.new.self draws.adds.number
+          (g.D.Draw.rules.floor c.args.draw.now) made told may.below draws.above draws.adds.added goes c.self.invariant.0,
       HasRoom-two c.take-reply.new.self c.enter.new.entries.spare room,
       AreTaken-push managed_rules i.threads i.entries.entries c.enter.new.entries.entries draws.adds.number made may.takes draws.adds.added c.self.invariant.2,
       side-kept i.entries.entries c.enter.new.entries.entries i.takings i.takings i.rows c.take-reply.new.self draws.adds.number made told stands draws.adds.added goes c.self.invariant.3,

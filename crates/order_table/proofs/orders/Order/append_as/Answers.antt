@@ -26,7 +26,8 @@ returns-clause-grows g c = let v = c.seat.inside.inner.me.0 in let k = kept v g.
 
 pub returns-clause-settled : goal.returns-clause-settled
 returns-clause-settled g c = let q = rw (← c.seat.view_is) at c.requires in let v = c.seat.inside.inner.me.0 in
-    rw (← c.seat.view_is) (λ quiet settled. subst Settled (sym c.fetch_add.ensures.2.1) (settled_appended v g.W.Saying.role g.W.Saying.made g.W.Saying.target g.W.Saying.freed c.fetch_add.result q.stands quiet settled))
+    rw (← c.seat.view_is) (λ quiet settled. subst Settled (sym c.fetch_add.ensures.2.1)
+    (settled_appended v g.W.Saying.role g.W.Saying.made g.W.Saying.target g.W.Saying.freed c.fetch_add.result q.stands quiet settled))
 
 pub returns-clause-paid : goal.returns-clause-paid
 returns-clause-paid g c = rw (← c.seat.view_is) (λ unmarked frees paid. subst NoDebt (sym c.fetch_add.ensures.2.1)
@@ -41,5 +42,6 @@ pub returns-clause-owes : goal.returns-clause-owes
 returns-clause-owes g c = let v = c.seat.inside.inner.me.0 in let k = kept v g.W.Saying.made g.W.Saying.target g.W.Saying.freed c.fetch_add.result in
     rw (← c.seat.view_is) (λ first cell o. owes_more v g.W.Saying.role k cell first (sym (owed_in cell) ∙ o))
   where
-    owed_in : (cell : ℕ) → at false c.fetch_add.new.seat.me.0.debts cell ≡ at false (appended c.seat.inside.inner.me.0 g.W.Saying.role (kept c.seat.inside.inner.me.0 g.W.Saying.made g.W.Saying.target g.W.Saying.freed c.fetch_add.result)).debts cell
+    owed_in : (cell : ℕ) → at false c.fetch_add.new.seat.me.0.debts cell ≡ at false
+        (appended c.seat.inside.inner.me.0 g.W.Saying.role (kept c.seat.inside.inner.me.0 g.W.Saying.made g.W.Saying.target g.W.Saying.freed c.fetch_add.result)).debts cell
     owed_in cell = ap (λ w. at false w.debts cell) c.fetch_add.ensures.2.1

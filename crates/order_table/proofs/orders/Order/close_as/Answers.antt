@@ -19,8 +19,12 @@ compare_exchange-requires g c =
       search rules,
       search rules,
       subst (λ (k : ℕ). Allows Ordered slots seat.id seat.me 1 (λ n. either (n == 0) (512 * k) n) (Closed W (step slots 1 0 (512 * k) none) seat.me)) q.next.0
-          (closes slots seat.id seat.me W c.seat.invariant.1.owns (c.seat.invariant.1.heard, c.seat.invariant.1.holds) q.owner.0 q.owner.1 (search rules) (subst (IsNext seat.me.0) (sym q.next.0) q.next.1)),
+          (closes slots seat.id seat.me W c.seat.invariant.1.owns (c.seat.invariant.1.heard, c.seat.invariant.1.holds) q.owner.0 q.owner.1
+          (search rules) (subst (IsNext seat.me.0) (sym q.next.0) q.next.1)),
     )
 
 pub invariant_of-seat : goal.invariant_of-seat
-invariant_of-seat g c = let same = alike_closing (c.compare_exchange.result == 0) g.W.Closing.cycle c.seat.inside.inner.me.0 in keeps_alike c.seat.inside.inner.me c.compare_exchange.new.seat.me (if c.compare_exchange.result == 0 then record c.seat.inside.inner.me.0 { holds = g.W.Closing.cycle; scanned = [] } else c.seat.inside.inner.me.0) c.compare_exchange.ensures.2.0 c.compare_exchange.ensures.2.1 same c.seat.invariant
+invariant_of-seat g c = let same = alike_closing (c.compare_exchange.result == 0) g.W.Closing.cycle c.seat.inside.inner.me.0 in
+    keeps_alike c.seat.inside.inner.me c.compare_exchange.new.seat.me
+    (if c.compare_exchange.result == 0 then record c.seat.inside.inner.me.0 { holds = g.W.Closing.cycle; scanned = [] } else c.seat.inside.inner.me.0)
+    c.compare_exchange.ensures.2.0 c.compare_exchange.ensures.2.1 same c.seat.invariant

@@ -38,4 +38,5 @@ fetch_and-requires c =
 pub returns-then-found-eq0-clause-ok : goal.returns-then-found-eq0-clause-ok
 returns-then-found-eq0-clause-ok c =
     let v = c.seat.inside.inner.me.0 in
-    rw (← c.seat.view_is) (c.fetch_or-found.ensures.2.1 ∙ (entered_open c.bit_of-bit.result c.fetch_or-found.result v (search rules) ∙ ap (λ (b : ℕ). record v { inside = b; loads = [] }) c.bit_of-bit.ensures))
+    rw (← c.seat.view_is) (c.fetch_or-found.ensures.2.1 ∙ (entered_open c.bit_of-bit.result c.fetch_or-found.result v (search rules)
+    ∙ ap (λ (b : ℕ). record v { inside = b; loads = [] }) c.bit_of-bit.ensures))

@@ -26,4 +26,5 @@ returns-clause-takes c = rw (← c.seat.view_is, ← c.other.view_is)
 
 pub returns-clause-settled : goal.returns-clause-settled
 returns-clause-settled c = let q = rw (← c.seat.view_is, ← c.other.view_is) at c.requires in
-    settled_learned c.seat.inside.inner.me.0 c.other.inside.inner.me.0 c.load.new.seat.me.0 q.settled q.other.1 (subst (λ (m : Me (Unit {0}) View). Compares m.0 c.load.new.seat.me.0) c.join_seat.ensures.2 c.load.ensures.2.1)
+    settled_learned c.seat.inside.inner.me.0 c.other.inside.inner.me.0 c.load.new.seat.me.0 q.settled q.other.1
+    (subst (λ (m : Me (Unit {0}) View). Compares m.0 c.load.new.seat.me.0) c.join_seat.ensures.2 c.load.ensures.2.1)

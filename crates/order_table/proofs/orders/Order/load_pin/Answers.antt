@@ -12,7 +12,8 @@ pub load-requires : goal.load-requires
 load-requires c = (search rules, search rules, loads_pin _ c.seat.inside.inner.id c.args.reader c.seat.inside.inner.me c.requires.reader.0 c.requires.reader.1)
 
 pub invariant_of-seat : goal.invariant_of-seat
-invariant_of-seat c = let same = alike_scanning (65 + c.args.reader - 65) c.load.result c.seat.inside.inner.me.0 in keeps_alike c.seat.inside.inner.me c.load.new.seat.me _ c.load.ensures.2.0 c.load.ensures.2.1 same c.seat.invariant
+invariant_of-seat c = let same = alike_scanning (65 + c.args.reader - 65) c.load.result c.seat.inside.inner.me.0 in
+    keeps_alike c.seat.inside.inner.me c.load.new.seat.me _ c.load.ensures.2.0 c.load.ensures.2.1 same c.seat.invariant
 
 pub returns-clause-own : goal.returns-clause-own
 returns-clause-own c = rw (← c.seat.view_is) (λ own fill empty. c.load.ensures.2.2 c.args.reader refl c.requires.reader.0 c.requires.reader.1 own fill empty)
@@ -28,4 +29,5 @@ returns-clause-stays c = rw (← c.seat.view_is) (subst (StaysAs c.seat.inside.i
 
 pub returns-clause-scans : goal.returns-clause-scans
 returns-clause-scans c = rw (← c.seat.view_is) (λ holding paid. let v = c.seat.inside.inner.me.0 in let place : 65 + c.args.reader - 65 ≡ c.args.reader = omega arith in
-    subst (λ (w : View). w.scanned ≡ put None v.scanned c.args.reader (Some c.load.result)) (sym (c.load.ensures.2.1 ∙ ap (λ (k : ℕ). scanning k c.load.result v) place)) (scans_kept c.args.reader c.load.result v holding paid))
+    subst (λ (w : View). w.scanned ≡ put None v.scanned c.args.reader (Some c.load.result))
+    (sym (c.load.ensures.2.1 ∙ ap (λ (k : ℕ). scanning k c.load.result v) place)) (scans_kept c.args.reader c.load.result v holding paid))

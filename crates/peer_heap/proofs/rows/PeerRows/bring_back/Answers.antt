@@ -15,7 +15,8 @@ pub visit-requires-clause-row : goal.visit-requires-clause-row
 visit-requires-clause-row c = rw (← c.self.view_is) at c.requires.live
 
 pub invariant_of-self : goal.invariant_of-self
-invariant_of-self c = ArePeerRows-marked c.self.inside.heap c.visit.new.g _ _ _ (ap (λ (v : HeapRows). v.heap.fields) (rest-kept c.self.inside.heap c.visit.new.g c.visit.ensures.kept)) c.self.invariant
+invariant_of-self c = ArePeerRows-marked c.self.inside.heap c.visit.new.g _ _ _
+    (ap (λ (v : HeapRows). v.heap.fields) (rest-kept c.self.inside.heap c.visit.new.g c.visit.ensures.kept)) c.self.invariant
 
 pub returns-then-not-is_open-clause-shaded : goal.returns-then-not-is_open-clause-shaded
 returns-then-not-is_open-clause-shaded c = Greyed-none _ _ _ _ (λ k w. true≢false (sym w.0 ∙ c.if-not-is_open.true))

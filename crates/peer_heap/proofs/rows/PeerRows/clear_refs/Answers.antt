@@ -26,4 +26,5 @@ pub returns-clause-shaded : goal.returns-clause-shaded
 returns-clause-shaded c =
     let heap = ap (λ (z : Rows). z.rows) c.self.view_is in
     let same = c.clear_references.ensures ∙ ap (λ (v : HeapRows). record v { refs = [] }) heap in
-    subst (λ (v : HeapRows). Greyed (λ k. (c.args.is_open ≡ true) × IsReferred c.args.self.now.rows k) c.args.self.now.rows.marks c.args.self.now.rows.links c.args.grey.now v.marks v.links c.shade_refs.new.grey) (sym same) c.shade_refs.ensures.shaded
+    subst (λ (v : HeapRows). Greyed (λ k. (c.args.is_open ≡ true) × IsReferred c.args.self.now.rows k) c.args.self.now.rows.marks
+    c.args.self.now.rows.links c.args.grey.now v.marks v.links c.shade_refs.new.grey) (sym same) c.shade_refs.ensures.shaded

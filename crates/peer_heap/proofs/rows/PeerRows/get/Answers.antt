@@ -11,7 +11,8 @@ pub returns-clause-answers : goal.returns-clause-answers
 returns-clause-answers c =
     let i = c.self.inside in
     let old : Rows = rows_with i.heap i.sorts.items i.names i.issued i.table in
-    subst (λ (z : Rows). PeersAnswer z (on_peer_heap (peers_in z) (field_got peer_name z.rows.heap c.args.v c.args.w c.args.i)) c.reply_of.result (rows_with c.get-done.new.self i.sorts.items i.names i.issued i.table)) c.self.view_is
+    subst (λ (z : Rows). PeersAnswer z (on_peer_heap (peers_in z) (field_got peer_name z.rows.heap c.args.v c.args.w c.args.i)) c.reply_of.result
+    (rows_with c.get-done.new.self i.sorts.items i.names i.issued i.table)) c.self.view_is
     (answers-heap old c.get-done.new.self (λ name. field_got name i.heap.heap c.args.v c.args.w c.args.i) c.get-done.result c.reply_of.result c.get-done.ensures.done c.reply_of.ensures)
 
 pub invariant_of-self : goal.invariant_of-self

@@ -30,10 +30,12 @@ returns-in_ok-h-in-Some-clause-answers c =
     let new : Issue = record { peer = p; hold = Held; strength = Strong } in
     let issued : c.issue.new.self ≡ issued_to c.args.self.now new = c.in_ok-h-in-Some.ensures.issued in
     let static = subst (λ (z : Rows). slot z.rows.heap.statics c.args.x ≡ Some p.0) v c.in-Some.ensures.value in
-    let kind = subst (λ (z : Rows). c.index-sort.result.now ≡ sort_of (peers_in z) p.0) v (sort-read (rows_with i.heap i.sorts.items i.names i.issued i.table) p.0 c.index-sort.result.now live.made.0 there) in
+    let kind = subst (λ (z : Rows). c.index-sort.result.now ≡ sort_of (peers_in z) p.0) v
+    (sort-read (rows_with i.heap i.sorts.items i.names i.issued i.table) p.0 c.index-sort.result.now live.made.0 there) in
     let len = subst (λ (z : Rows). c.fields_len-fields.result ≡ length (fields_of z.rows.heap p.0)) v c.fields_len-fields.ensures in
     let number = c.in_ok-h-in-Some.ensures.number in
-    subst (λ (z : Rows). PeersAnswer c.args.self.now (gripped (peers_in c.args.self.now) c.args.x) (says.Gripped p c.in_ok-h-in-Some.h c.index-sort.result.now c.fields_len-fields.result) z) (sym issued)
+    subst (λ (z : Rows). PeersAnswer c.args.self.now (gripped (peers_in c.args.self.now) c.args.x) (says.Gripped p c.in_ok-h-in-Some.h c.index-sort.result.now c.fields_len-fields.result) z)
+    (sym issued)
     (answers-gripped c.args.self.now c.args.x p c.in_ok-h-in-Some.h c.index-sort.result.now c.fields_len-fields.result static full number kind len)
 
 pub returns-in_err-h-in-Some-clause-answers : goal.returns-in_err-h-in-Some-clause-answers

@@ -15,4 +15,5 @@ returns-clause-rows c = λ h.
 pub returns-clause-targets : goal.returns-clause-targets
 returns-clause-targets c = λ h.
     let i = c.self.inside in
-    subst (λ (z : Rows). table_target (with_rows opening_peer_replay z) h.0 ≡ number_of (target_in i.table.rows h)) c.self.view_is (target-shown i.heap i.sorts.items i.names i.issued i.table h c.self.invariant.rising c.self.invariant.rows_issued)
+    subst (λ (z : Rows). table_target (with_rows opening_peer_replay z) h.0 ≡ number_of (target_in i.table.rows h)) c.self.view_is
+    (target-shown i.heap i.sorts.items i.names i.issued i.table h c.self.invariant.rising c.self.invariant.rows_issued)

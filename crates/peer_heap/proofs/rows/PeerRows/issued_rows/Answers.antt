@@ -9,4 +9,5 @@ use Rattle.peer_heap.proofs.rows.PeerRows.issued_rows.Goals as goal
 pub returns : goal.returns
 returns c =
     let i = c.self.inside in
-    λ h row shown. subst (λ (z : Rows). (p : ℕ) × (peer_of z.issued h ≡ Some p)) c.self.view_is (row-issued i.heap i.sorts.items i.names i.issued i.table h row c.self.invariant.rising c.self.invariant.rows_issued (subst (λ (z : Rows). row_at z h ≡ Some row) (sym c.self.view_is) shown))
+    λ h row shown. subst (λ (z : Rows). (p : ℕ) × (peer_of z.issued h ≡ Some p)) c.self.view_is
+    (row-issued i.heap i.sorts.items i.names i.issued i.table h row c.self.invariant.rising c.self.invariant.rows_issued (subst (λ (z : Rows). row_at z h ≡ Some row) (sym c.self.view_is) shown))

@@ -9,7 +9,8 @@ use Rattle.peer_heap.proofs.Further.{IsIssued, issued-reserved, further-marked, 
 use Rattle.peer_heap.proofs.rows.PeerRows.make_pair.Goals as goal
 
 -- the handle came last
-issued : (c : goal.After-issue_reserved-h) → IsIssued c.self.inside.issued c.issue_reserved-h.new.issued c.self.inside.table c.issue_reserved-h.new.table record { peer = c.in_ok-p.p; hold = Held; strength = Strong } c.issue_reserved-h.result
+issued : (c : goal.After-issue_reserved-h) → IsIssued c.self.inside.issued c.issue_reserved-h.new.issued c.self.inside.table c.issue_reserved-h.new.table
+    record { peer = c.in_ok-p.p; hold = Held; strength = Strong } c.issue_reserved-h.result
 issued c =
     let i = c.self.inside in
     let w = c.issue_reserved-h.ensures in
@@ -20,20 +21,23 @@ pub invariant_of-self-2 : goal.invariant_of-self-2
 invariant_of-self-2 c =
     let i = c.self.inside in
     let p = c.in_ok-p.ensures in
-    pair-fits i.heap c.add_peer.new.heap i.sorts.items c.add_peer.new.sorts.items c.args.sort i.issued c.issue_reserved-h.new.issued i.table c.issue_reserved-h.new.table _ c.issue_reserved-h.result c.args.fields c.ranges.fields.fits p.heap p.sorts (issued c) c.self.invariant
+    pair-fits i.heap c.add_peer.new.heap i.sorts.items c.add_peer.new.sorts.items c.args.sort i.issued c.issue_reserved-h.new.issued i.table
+    c.issue_reserved-h.new.table _ c.issue_reserved-h.result c.args.fields c.ranges.fields.fits p.heap p.sorts (issued c) c.self.invariant
 
 pub returns-clause-answers : goal.returns-clause-answers
 returns-clause-answers c =
     let i = c.self.inside in
     let p = c.in_ok-p.ensures in
-    pair-answers c.args.self.now i.heap c.add_peer.new.heap i.sorts.items c.add_peer.new.sorts.items c.args.sort i.names i.issued c.issue_reserved-h.new.issued i.table c.issue_reserved-h.new.table c.in_ok-p.p c.issue_reserved-h.result c.args.fields
+    pair-answers c.args.self.now i.heap c.add_peer.new.heap i.sorts.items c.add_peer.new.sorts.items c.args.sort i.names i.issued
+    c.issue_reserved-h.new.issued i.table c.issue_reserved-h.new.table c.in_ok-p.p c.issue_reserved-h.result c.args.fields
     c.self.view_is (sym c.if-pairs_full.ensures.full) p.number p.heap p.sorts (issued c) c.self.invariant
 
 pub returns-clause-marks : goal.returns-clause-marks
 returns-clause-marks c =
     let i = c.self.inside in
     let p = c.in_ok-p.ensures in
-    further-marked c.args.self.now i.heap c.add_peer.new.heap c.add_peer.new.heap c.add_peer.new.heap.heap i.sorts.items i.names i.issued i.table c.in_ok-p.p.0 c.args.fields c.self.view_is p.number c.marks_len.ensures p.heap refl
+    further-marked c.args.self.now i.heap c.add_peer.new.heap c.add_peer.new.heap c.add_peer.new.heap.heap i.sorts.items
+    i.names i.issued i.table c.in_ok-p.p.0 c.args.fields c.self.view_is p.number c.marks_len.ensures p.heap refl
 
 pub returns-in_err-reserve-clause-answers : goal.returns-in_err-reserve-clause-answers
 returns-in_err-reserve-clause-answers c = IfOk-from_err c.from_residual.result _ c.from_residual.ensures.0

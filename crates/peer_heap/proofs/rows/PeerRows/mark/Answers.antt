@@ -37,8 +37,10 @@ returns-clause-grey c =
     let t = i.table in
     let kept = c.self.invariant in
     let grey = rw c.settle.ensures at c.mark_roots.ensures.grey in
-    rw (← c.self.view_is) (named-roots i.heap.heap (strong_in t.rows) (strong_peers (map issued_as i.issued) (table_to t.rows t.last)) c.mark_roots.new.heap.marks c.mark_roots.new.heap.links c.mark_roots.result
+    rw (← c.self.view_is) (named-roots i.heap.heap (strong_in t.rows)
+    (strong_peers (map issued_as i.issued) (table_to t.rows t.last)) c.mark_roots.new.heap.marks c.mark_roots.new.heap.links c.mark_roots.result
     (λ x n. strong-listed_too t.rows i.issued t.last x kept.rising kept.places kept.rows_issued n) (λ x n. strong-named t.rows i.issued t.last x kept.rows_issued n) grey)
 
 pub returns-clause-rest : goal.returns-clause-rest
-returns-clause-rest c = rw (c.settle.ensures, ← c.self.view_is) (ap (λ (w : HeapRows). rows_with w c.self.inside.sorts.items c.self.inside.names c.self.inside.issued c.self.inside.table) c.mark_roots.ensures.rest)
+returns-clause-rest c = rw (c.settle.ensures, ← c.self.view_is)
+    (ap (λ (w : HeapRows). rows_with w c.self.inside.sorts.items c.self.inside.names c.self.inside.issued c.self.inside.table) c.mark_roots.ensures.rest)

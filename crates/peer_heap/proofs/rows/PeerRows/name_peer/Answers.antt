@@ -15,14 +15,17 @@ pub returns-in-Some-clause-answers : goal.returns-in-Some-clause-answers
 returns-in-Some-clause-answers c = answers-taken c.args.self.now c.args.g c.args.p.0 c.args.strength (slot c.args.self.now.names c.args.g) _ c.in-Some.ensures
 
 pub returns-then-handles_full-clause-answers : goal.returns-then-handles_full-clause-answers
-returns-then-handles_full-clause-answers c = answers-no_handle c.args.self.now c.args.g c.args.p.0 c.args.strength (slot c.args.self.now.names c.args.g) c.in-None.ensures (sym c.if-handles_full.ensures)
+returns-then-handles_full-clause-answers c = answers-no_handle c.args.self.now c.args.g c.args.p.0 c.args.strength
+    (slot c.args.self.now.names c.args.g) c.in-None.ensures (sym c.if-handles_full.ensures)
 
 pub returns-in_ok-h-in-None-clause-answers : goal.returns-in_ok-h-in-None-clause-answers
 returns-in_ok-h-in-None-clause-answers c =
     let old = c.args.self.now in
     let o = slot old.names c.args.g in
-    subst (λ (z : Rows). PeersAnswer old (name_given (peers_in old) c.args.g c.args.p.0 (strength_as c.args.strength) o) (says.H c.in_ok-h-in-None.h) (record z { names = slice_set z.names c.args.g (Some c.in_ok-h-in-None.h.0) }))
-    (sym (c.self.view_is ∙ c.in_ok-h-in-None.ensures.issued)) (answers-named old c.args.g c.args.p c.args.strength o c.in_ok-h-in-None.h c.in-None.ensures (sym c.if-handles_full.ensures) c.in_ok-h-in-None.ensures.number)
+    subst (λ (z : Rows). PeersAnswer old (name_given (peers_in old) c.args.g c.args.p.0 (strength_as c.args.strength) o)
+    (says.H c.in_ok-h-in-None.h) (record z { names = slice_set z.names c.args.g (Some c.in_ok-h-in-None.h.0) }))
+    (sym (c.self.view_is ∙ c.in_ok-h-in-None.ensures.issued)) (answers-named old c.args.g c.args.p c.args.strength o c.in_ok-h-in-None.h c.in-None.ensures
+    (sym c.if-handles_full.ensures) c.in_ok-h-in-None.ensures.number)
 
 pub returns-in_err-h-in-None-clause-answers : goal.returns-in_err-h-in-None-clause-answers
 returns-in_err-h-in-None-clause-answers c = IfOk-from_err c.from_residual.result _ c.from_residual.ensures.0

@@ -28,4 +28,5 @@ returns-in-Some-clause-marks c =
     let p = c.in-Some.p in
     let mid = c.bring_back.new.self in
     let slotted = c.set_var.ensures ∙ ap (λ (z : Rows). record z.rows { heap = with_var c.self.inside.heap.heap c.args.v (Some p.0) }) c.self.view_is in
-    shaded-before c.args.is_open c.args.self.now.rows mid.rows c.set_var.new.self c.args.grey.now c.bring_back.new.grey (with_var c.self.inside.heap.heap c.args.v (Some p.0)) (λ k. k ≡ p.0) slotted (ap (λ (z : Rows). z.rows) c.bring_back.ensures.rest) c.bring_back.ensures.shaded
+    shaded-before c.args.is_open c.args.self.now.rows mid.rows c.set_var.new.self c.args.grey.now c.bring_back.new.grey
+    (with_var c.self.inside.heap.heap c.args.v (Some p.0)) (λ k. k ≡ p.0) slotted (ap (λ (z : Rows). z.rows) c.bring_back.ensures.rest) c.bring_back.ensures.shaded

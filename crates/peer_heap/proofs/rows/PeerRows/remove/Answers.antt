@@ -9,7 +9,8 @@ use Rattle.peer_heap.proofs.rows.PeerRows.remove.Goals as goal
 pub returns-clause-rows : goal.returns-clause-rows
 returns-clause-rows c =
     let i = c.self.inside in
-    subst (λ (z : Rows). rows_with i.heap i.sorts.items i.names i.issued c.release.new.self ≡ record z { table = numbered_set z.table c.args.h.0 None; tabled = length c.release.new.self.rows }) c.self.view_is
+    subst (λ (z : Rows). rows_with i.heap i.sorts.items i.names i.issued c.release.new.self ≡ record z { table = numbered_set z.table c.args.h.0 None; tabled = length c.release.new.self.rows })
+    c.self.view_is
     (rows-removed i.heap i.sorts.items i.names i.issued i.table c.release.new.self c.args.h c.release.ensures.rows c.release.ensures.made c.release.ensures.last)
 
 pub returns-clause-fewer : goal.returns-clause-fewer

@@ -18,7 +18,8 @@ use Rattle.peer_heap.proofs.rows.PeerRows.renew.Goals as goal
 pub unreachable-requires : goal.unreachable-requires
 unreachable-requires c =
     let i = c.self.inside in
-    let there = row-there i.heap i.sorts.items i.names i.issued i.table c.args.h c.self.invariant.rising c.requires.tabled.0 (subst (λ (z : Rows). row_at z c.args.h.0 ≡ Some c.requires.tabled.0) (sym c.self.view_is) c.requires.tabled.1) in
+    let there = row-there i.heap i.sorts.items i.names i.issued i.table c.args.h c.self.invariant.rising c.requires.tabled.0
+    (subst (λ (z : Rows). row_at z c.args.h.0 ≡ Some c.requires.tabled.0) (sym c.self.view_is) c.requires.tabled.1) in
     none-some there.0 (c.in_default.ensures.row ∙ there.1)
 
 pub loosen-requires-clause-row : goal.loosen-requires-clause-row
@@ -33,7 +34,14 @@ restore-requires-clause-weak c =
     ap (option_map (λ (q : HandleRow). q.strength)) (subst (λ (k : HNum). row_in c.loosen.new.table.rows k ≡ Some (with_strength Weak c.in-Some.row)) n c.loosen.ensures.row)
 
 pub restore-requires-clause-last : goal.restore-requires-clause-last
-restore-requires-clause-last c = omega (arith, c.loosen.ensures.last, c.self.invariant.places, length-map c.self.inside.issued issued_as, ap (λ (z : Rows). length z.issued) c.self.view_is, c.requires.last)
+restore-requires-clause-last c = omega (
+  arith,
+  c.loosen.ensures.last,
+  c.self.invariant.places,
+  length-map c.self.inside.issued issued_as,
+  ap (λ (z : Rows). length z.issued) c.self.view_is,
+  c.requires.last,
+)
 
 pub push-requires : goal.push-requires
 push-requires c = omega (arith, length-map c.self.inside.issued issued_as, ap (λ (z : Rows). length z.issued) c.self.view_is, c.requires.last)
@@ -64,7 +72,8 @@ returns-in-Cleared c =
     let gone = c.in-Cleared.ensures.gone refl in
     let left = gone.0 ∙ subst (λ (k : HNum). without k c.loosen.new.table.rows ≡ without k i.table.rows) n c.loosen.ensures.others in
     subst (λ (z : Rows). IsRemoved z c.args.h.0 (rows_with i.heap i.sorts.items i.names i.issued c.restore.new.self)) c.self.view_is
-    (removed-row i.heap i.sorts.items i.names i.issued i.table c.restore.new.self c.args.h row c.self.invariant.rising at cleared left (c.in-Cleared.ensures.made ∙ c.loosen.ensures.made) (gone.1 ∙ c.loosen.ensures.last))
+    (removed-row i.heap i.sorts.items i.names i.issued i.table c.restore.new.self c.args.h row c.self.invariant.rising at cleared left
+    (c.in-Cleared.ensures.made ∙ c.loosen.ensures.made) (gone.1 ∙ c.loosen.ensures.last))
 
 pub invariant_of-self-in-Alive : goal.invariant_of-self-in-Alive
 invariant_of-self-in-Alive c =
@@ -102,7 +111,8 @@ returns-in-Alive c =
     let put = anew.0 ∙ renewed-loosened i.table.rows c.loosen.new.table.rows c.args.h c.in-Alive.given row at loose others in
     let last = anew.2 ∙ ap (λ k. k + 1) c.loosen.ensures.last in
     subst (λ (z : Rows). IsRenewed z c.args.h.0 c.in-Alive.given (rows_with i.heap i.sorts.items i.names c.push.new.self c.restore.new.self) × (i.heap ≡ z.rows)) c.self.view_is (
-      renewed-row i.heap i.sorts.items i.names i.issued c.push.new.self i.table c.restore.new.self c.args.h c.in-Alive.given row c.self.invariant.rising c.self.invariant.rows_issued c.self.invariant.places at uncleared c.push.ensures put
+      renewed-row i.heap i.sorts.items i.names i.issued c.push.new.self i.table c.restore.new.self c.args.h c.in-Alive.given
+          row c.self.invariant.rising c.self.invariant.rows_issued c.self.invariant.places at uncleared c.push.ensures put
           (anew.1 ∙ ap (λ k. k + 1) c.loosen.ensures.last) (c.in-Alive.ensures.made ∙ c.loosen.ensures.made) last,
       refl,
     )

@@ -15,4 +15,5 @@ pub returns-in-None : goal.returns-in-None
 returns-in-None c = restored-none c.args.is_open c.args.self.now c.renew.new.self c.args.grey.now c.args.h.0 c.renew.result c.in-None.ensures c.renew.ensures
 
 pub returns-in-Some : goal.returns-in-Some
-returns-in-Some c = restored-some c.args.is_open c.args.self.now c.bring_back.new.self c.renew-in-Some.new.self c.args.grey.now c.bring_back.new.grey c.args.h.0 c.in-Some.p.0 c.renew-in-Some.result c.in-Some.ensures c.bring_back.ensures.rest c.bring_back.ensures.shaded c.renew-in-Some.ensures
+returns-in-Some c = restored-some c.args.is_open c.args.self.now c.bring_back.new.self c.renew-in-Some.new.self c.args.grey.now c.bring_back.new.grey
+    c.args.h.0 c.in-Some.p.0 c.renew-in-Some.result c.in-Some.ensures c.bring_back.ensures.rest c.bring_back.ensures.shaded c.renew-in-Some.ensures

@@ -18,7 +18,8 @@ pub visit-requires-clause-row : goal.visit-requires-clause-row
 visit-requires-clause-row c = c.in-Some.ensures.live
 
 pub invariant_of-self : goal.invariant_of-self
-invariant_of-self c = ArePeerRows-marked c.self.inside.heap c.visit.new.g _ _ _ (ap (λ (v : HeapRows). v.heap.fields) (rest-kept c.self.inside.heap c.visit.new.g c.visit.ensures.kept)) c.self.invariant
+invariant_of-self c = ArePeerRows-marked c.self.inside.heap c.visit.new.g _ _ _
+    (ap (λ (v : HeapRows). v.heap.fields) (rest-kept c.self.inside.heap c.visit.new.g c.visit.ensures.kept)) c.self.invariant
 
 pub returns-then-not-is_open-clause-shaded : goal.returns-then-not-is_open-clause-shaded
 returns-then-not-is_open-clause-shaded c = Greyed-none _ _ _ _ (λ k w. true≢false (sym w.0 ∙ c.if-not-is_open.true))
@@ -26,7 +27,8 @@ returns-then-not-is_open-clause-shaded c = Greyed-none _ _ _ _ (λ k w. true≢f
 pub returns-in-None-clause-shaded : goal.returns-in-None-clause-shaded
 returns-in-None-clause-shaded c =
     let i = c.self.inside in
-    subst (λ (z : Rows). Greyed (λ k. (c.args.is_open ≡ true) × (overwritten z.rows.heap c.args.v c.args.i c.args.w ≡ Some k)) z.rows.marks z.rows.links c.args.grey.now z.rows.marks z.rows.links c.args.grey.now) c.self.view_is
+    subst (λ (z : Rows). Greyed (λ k. (c.args.is_open ≡ true) × (overwritten z.rows.heap c.args.v c.args.i c.args.w ≡ Some k))
+    z.rows.marks z.rows.links c.args.grey.now z.rows.marks z.rows.links c.args.grey.now) c.self.view_is
     (Greyed-none _ _ _ _ (λ k w. none-some k (c.in-None.ensures.value ∙ w.1)))
 
 pub returns-in-Some-clause-rest : goal.returns-in-Some-clause-rest
@@ -39,5 +41,6 @@ returns-in-Some-clause-shaded c =
     let y = c.in-Some.y in
     let own = c.in-Some.ensures.value in
     let new = c.visit.new.g in
-    subst (λ (z : Rows). Greyed (λ k. (c.args.is_open ≡ true) × (overwritten z.rows.heap c.args.v c.args.i c.args.w ≡ Some k)) z.rows.marks z.rows.links c.args.grey.now new.marks new.links c.visit.new.grey) c.self.view_is
+    subst (λ (z : Rows). Greyed (λ k. (c.args.is_open ≡ true) × (overwritten z.rows.heap c.args.v c.args.i c.args.w ≡ Some k))
+    z.rows.marks z.rows.links c.args.grey.now new.marks new.links c.visit.new.grey) c.self.view_is
     (Greyed-as _ _ _ _ _ _ _ _ (λ k w. sym (same_Some y k (own ∙ w.1))) (λ k w. (c.if-not-is_open.false, sym own ∙ ap (λ z. Some z) (sym w))) c.visit.ensures.greyed)

@@ -27,4 +27,6 @@ invariant_of-self c =
 pub returns : goal.returns
 returns c =
     let i = c.self.inside in
-    subst (λ (z : Rows). rows_with i.heap i.sorts.items i.names i.issued c.weaken.new.self ≡ with_row z c.args.h.0 weak_row) c.self.view_is (rows-weakened i.heap i.sorts.items i.names i.issued i.table c.weaken.new.self c.args.h c.self.invariant.rising (subst (λ (z : Rows). row_at z c.args.h.0 ≡ Some strong_row) (sym c.self.view_is) c.requires) c.weaken.ensures.rows c.weaken.ensures.made c.weaken.ensures.last)
+    subst (λ (z : Rows). rows_with i.heap i.sorts.items i.names i.issued c.weaken.new.self ≡ with_row z c.args.h.0 weak_row) c.self.view_is
+    (rows-weakened i.heap i.sorts.items i.names i.issued i.table c.weaken.new.self c.args.h c.self.invariant.rising
+    (subst (λ (z : Rows). row_at z c.args.h.0 ≡ Some strong_row) (sym c.self.view_is) c.requires) c.weaken.ensures.rows c.weaken.ensures.made c.weaken.ensures.last)

@@ -16,7 +16,8 @@ pub open_marking-requires-clause-closed : goal.open_marking-requires-clause-clos
 open_marking-requires-clause-closed g c = none-open _ c.in-None.ensures
 
 pub returns-in-Some-clause-adds : goal.returns-in-Some-clause-adds
-returns-in-Some-clause-adds g c = turn-refused _ _ _ _ _ c.args.caller c.args.index op.Begin _ c.refuse.result (λ r. step_makings c.args.caller c.args.index op.Begin None r (gone_since c.args.self.now.state c.refuse.new.self.state)) refl c.refuse.ensures.reply c.refuse.ensures.adds
+returns-in-Some-clause-adds g c = turn-refused _ _ _ _ _ c.args.caller c.args.index op.Begin
+    _ c.refuse.result (λ r. step_makings c.args.caller c.args.index op.Begin None r (gone_since c.args.self.now.state c.refuse.new.self.state)) refl c.refuse.ensures.reply c.refuse.ensures.adds
 
 pub returns-in_ok-marking-in-None-clause-adds : goal.returns-in_ok-marking-in-None-clause-adds
 returns-in_ok-marking-in-None-clause-adds g c = turn-one _ _ _ _ _ (begins c.args.caller c.args.index c.in_ok-marking-in-None.marking) nothing c.in_ok-marking-in-None.ensures.begun

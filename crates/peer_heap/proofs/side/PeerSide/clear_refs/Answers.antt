@@ -22,13 +22,16 @@ invariant_of-self g c =
     let below = (rw (sym c.self.view_is) at c.requires.may).below in
     let x = some-mirror i.entries.entries i.mirroring.mirror may.mirror may.stands in
     let draws = c.note.ensures.draws in
-    let shaded = subst (λ b. Greyed (λ k. (b ≡ true) × IsReferred i.rows.rows k) i.rows.rows.marks i.rows.rows.links i.grey c.clear_refs.new.self.rows.marks c.clear_refs.new.self.rows.links c.clear_refs.new.grey) c.is_some-is_open.ensures c.clear_refs.ensures.shaded in
+    let shaded = subst (λ b. Greyed (λ k. (b ≡ true) × IsReferred i.rows.rows k) i.rows.rows.marks i.rows.rows.links i.grey
+    c.clear_refs.new.self.rows.marks c.clear_refs.new.self.rows.links c.clear_refs.new.grey) c.is_some-is_open.ensures c.clear_refs.ensures.shaded in
     let taken = AreTaken-push peer_rules i.threads i.entries.entries c.note.new.entries.entries draws.adds.number (clears c.args.index c.args.cycle) tt draws.adds.added c.self.invariant.1 in (
       subst (λ z. IsSide c.clear_refs.new.self i.marking i.markings z c.note.new.entries) (sym c.set_mirror.ensures)
-          (IsSide-cleared i.rows c.clear_refs.new.self i.marking i.markings i.mirroring x.0 i.entries c.note.new.entries draws.adds.number _ c.args.index c.args.cycle c.self.invariant.0 draws.adds.added below draws.above c.clear_refs.ensures.rest x.1 may targets c.note.ensures.spare),
+          (IsSide-cleared i.rows c.clear_refs.new.self i.marking i.markings i.mirroring x.0 i.entries c.note.new.entries draws.adds.number _ c.args.index
+          c.args.cycle c.self.invariant.0 draws.adds.added below draws.above c.clear_refs.ensures.rest x.1 may targets c.note.ensures.spare),
       taken,
       subst (λ z. AreGoing c.clear_refs.new.self i.marking c.clear_refs.new.grey i.markings z c.note.new.entries.entries) (sym c.set_mirror.ensures)
-          (clear-going i.rows c.clear_refs.new.self i.marking i.markings i.mirroring x.0 i.entries c.note.new.entries.entries draws.adds.number c.args.index c.args.cycle c.self.invariant.0 draws.adds.added c.clear_refs.ensures.rest x.1 i.grey c.clear_refs.new.grey shaded targets c.self.invariant.2),
+          (clear-going i.rows c.clear_refs.new.self i.marking i.markings i.mirroring x.0 i.entries c.note.new.entries.entries draws.adds.number c.args.index
+          c.args.cycle c.self.invariant.0 draws.adds.added c.clear_refs.ensures.rest x.1 i.grey c.clear_refs.new.grey shaded targets c.self.invariant.2),
       counted-shaded i.marking (IsReferred i.rows.rows) i.rows.rows i.grey c.clear_refs.new.self.rows c.clear_refs.new.grey shaded c.self.invariant.2.list c.self.invariant.3,
     )
 

@@ -16,7 +16,8 @@ sweep-requires g c =
     let i = c.self.inside in
     let mid = c.blacken.new.self in
     let dark = IsSide-black i.rows mid i.marking i.markings i.mirroring i.entries c.blacken.ensures.rest c.self.invariant.0 in
-    let going = AreGoing-black i.rows mid i.marking i.grey c.blacken.new.grey i.markings c.blacken.result i.mirroring i.entries c.blacken.ensures.rest c.self.invariant.0 c.blacken.ensures.steps c.self.invariant.2 in
+    let going = AreGoing-black i.rows mid i.marking i.grey c.blacken.new.grey i.markings c.blacken.result
+    i.mirroring i.entries c.blacken.ensures.rest c.self.invariant.0 c.blacken.ensures.steps c.self.invariant.2 in
     let ended = black-ended i.rows mid i.marking i.entries.entries c.args.caller c.args.marking c.blacken.ensures.rest (rw (sym c.self.view_is) at c.requires.ended) in
     ended-whole mid i.marking c.blacken.new.grey i.markings i.mirroring i.entries c.args.caller c.args.marking dark going (c.blacken.ensures.end (omega (arith, c.blacken.ensures.few))) ended
 
@@ -33,15 +34,18 @@ invariant_of-self g c =
     let i = c.self.inside in
     let mid = c.blacken.new.self in
     let dark = IsSide-black i.rows mid i.marking i.markings i.mirroring i.entries c.blacken.ensures.rest c.self.invariant.0 in
-    let going = AreGoing-black i.rows mid i.marking i.grey c.blacken.new.grey i.markings c.blacken.result i.mirroring i.entries c.blacken.ensures.rest c.self.invariant.0 c.blacken.ensures.steps c.self.invariant.2 in
+    let going = AreGoing-black i.rows mid i.marking i.grey c.blacken.new.grey i.markings c.blacken.result
+    i.mirroring i.entries c.blacken.ensures.rest c.self.invariant.0 c.blacken.ensures.steps c.self.invariant.2 in
     let w = c.sweep.new.self in
     let ended = black-ended i.rows mid i.marking i.entries.entries c.args.caller c.args.marking c.blacken.ensures.rest (rw (sym c.self.view_is) at c.requires.ended) in
     let may = rw (sym c.self.view_is) at c.requires.may in
     let draws = c.enter.ensures.draws in
     let black = c.blacken.ensures.end (omega (arith, c.blacken.ensures.few)) in
     let span : Span = record { first = c.freed-first.result; count = c.freed.result - c.freed-first.result } in
-    let taken = AreTaken-push peer_rules i.threads i.entries.entries c.enter.new.entries.entries draws.adds.number (ends c.args.caller c.args.index c.args.marking span) may.takes draws.adds.added c.self.invariant.1 in (
-      IsSide-swept mid w i.marking i.markings i.mirroring i.entries c.enter.new.entries draws.adds.number _ c.args.caller c.args.index c.args.marking span c.blacken.new.grey dark going black c.sweep.ensures.rest c.sweep.ensures.white ended c.requires.caller c.freed-first.ensures
+    let taken = AreTaken-push peer_rules i.threads i.entries.entries c.enter.new.entries.entries draws.adds.number
+    (ends c.args.caller c.args.index c.args.marking span) may.takes draws.adds.added c.self.invariant.1 in (
+      IsSide-swept mid w i.marking i.markings i.mirroring i.entries c.enter.new.entries draws.adds.number _ c.args.caller c.args.index c.args.marking
+          span c.blacken.new.grey dark going black c.sweep.ensures.rest c.sweep.ensures.white ended c.requires.caller c.freed-first.ensures
           (omega (arith, c.freed.ensures, c.freed-first.ensures, length-drop (length mid.rows.heap.freed) w.rows.heap.freed)) draws.adds.added may.below draws.above c.enter.ensures.spare,
       taken,
       AreGoing-swept w c.blacken.new.grey i.markings i.mirroring c.enter.new.entries.entries black,
@@ -53,12 +57,15 @@ returns-clause-swept g c =
     let i = c.self.inside in
     let mid = c.blacken.new.self in
     let dark = IsSide-black i.rows mid i.marking i.markings i.mirroring i.entries c.blacken.ensures.rest c.self.invariant.0 in
-    let going = AreGoing-black i.rows mid i.marking i.grey c.blacken.new.grey i.markings c.blacken.result i.mirroring i.entries c.blacken.ensures.rest c.self.invariant.0 c.blacken.ensures.steps c.self.invariant.2 in
+    let going = AreGoing-black i.rows mid i.marking i.grey c.blacken.new.grey i.markings c.blacken.result
+    i.mirroring i.entries c.blacken.ensures.rest c.self.invariant.0 c.blacken.ensures.steps c.self.invariant.2 in
     let w = c.sweep.new.self in
     let ended = black-ended i.rows mid i.marking i.entries.entries c.args.caller c.args.marking c.blacken.ensures.rest (rw (sym c.self.view_is) at c.requires.ended) in
     let black = c.blacken.ensures.end (omega (arith, c.blacken.ensures.few)) in
     let span : Span = record { first = c.freed-first.result; count = c.freed.result - c.freed-first.result } in
-    let goes = side-swept mid w i.marking i.markings i.mirroring i.entries c.enter.new.entries.entries c.enter.ensures.draws.adds.number c.args.caller c.args.index c.args.marking span c.blacken.new.grey dark going black c.sweep.ensures.rest c.sweep.ensures.white ended c.requires.caller c.freed-first.ensures
+    let goes = side-swept mid w i.marking i.markings i.mirroring i.entries c.enter.new.entries.entries c.enter.ensures.draws.adds.number c.args.caller
+    c.args.index c.args.marking span c.blacken.new.grey dark going black c.sweep.ensures.rest c.sweep.ensures.white ended c.requires.caller c.freed-first.ensures
     (omega (arith, c.freed.ensures, c.freed-first.ensures, length-drop (length mid.rows.heap.freed) w.rows.heap.freed)) c.enter.ensures.draws.adds.added in
-    let all = black-goes i.rows mid w i.marking None i.markings i.markings i.mirroring i.mirroring i.entries.entries c.enter.new.entries.entries (ends c.args.caller c.args.index c.args.marking span) c.blacken.ensures.rest goes in
+    let all = black-goes i.rows mid w i.marking None i.markings i.markings i.mirroring i.mirroring i.entries.entries c.enter.new.entries.entries
+    (ends c.args.caller c.args.index c.args.marking span) c.blacken.ensures.rest goes in
     rw (sym c.self.view_is) (record { draws = c.enter.ensures.draws; goes = all; threads = refl })

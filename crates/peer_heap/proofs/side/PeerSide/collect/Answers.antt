@@ -19,13 +19,16 @@ pub close_marking-freed-requires-clause-ended : goal.close_marking-freed-require
 close_marking-freed-requires-clause-ended g c = begun-ended _ _ c.args.caller c.args.index c.in_ok-marking-in-None.marking c.in_ok-marking-in-None.ensures.begun.goes
 
 pub close_marking-freed-requires-clause-may : goal.close_marking-freed-requires-clause-may
-close_marking-freed-requires-clause-may g c = draws-on _ _ _ _ _ (begins c.args.caller c.args.index c.in_ok-marking-in-None.marking) nothing c.args.caller op.Sweep c.in_ok-marking-in-None.ensures.begun refl c.requires.may_sweep
+close_marking-freed-requires-clause-may g c = draws-on _ _ _ _ _
+    (begins c.args.caller c.args.index c.in_ok-marking-in-None.marking) nothing c.args.caller op.Sweep c.in_ok-marking-in-None.ensures.begun refl c.requires.may_sweep
 
 pub returns-in-Some-clause-adds : goal.returns-in-Some-clause-adds
-returns-in-Some-clause-adds g c = turn-refused _ _ _ _ _ c.args.caller c.args.index op.Begin _ c.refuse.result (λ r. collect_makings c.args.caller c.args.index r (gone_since c.args.self.now.state c.refuse.new.self.state)) refl c.refuse.ensures.reply c.refuse.ensures.adds
+returns-in-Some-clause-adds g c = turn-refused _ _ _ _ _ c.args.caller c.args.index op.Begin
+    _ c.refuse.result (λ r. collect_makings c.args.caller c.args.index r (gone_since c.args.self.now.state c.refuse.new.self.state)) refl c.refuse.ensures.reply c.refuse.ensures.adds
 
 pub returns-in_ok-marking-in-None-clause-adds : goal.returns-in_ok-marking-in-None-clause-adds
-returns-in_ok-marking-in-None-clause-adds g c = turn-collect _ _ _ _ _ _ _ c.args.caller c.args.index c.in_ok-marking-in-None.marking _ c.in_ok-marking-in-None.ensures.begun c.close_marking-freed.ensures.swept
+returns-in_ok-marking-in-None-clause-adds g c = turn-collect _ _ _ _ _ _ _ c.args.caller c.args.index
+    c.in_ok-marking-in-None.marking _ c.in_ok-marking-in-None.ensures.begun c.close_marking-freed.ensures.swept
 
 pub returns-in_err-marking-in-None-clause-adds : goal.returns-in_err-marking-in-None-clause-adds
 returns-in_err-marking-in-None-clause-adds g c = IfOk-from_err c.from_residual.result _ c.from_residual.ensures.0

@@ -27,7 +27,14 @@ event-requires-clause-live g c =
     targets-live i.rows i.marking i.markings i.mirroring i.entries c.self.invariant.0
 
 pub event-requires-clause-last : goal.event-requires-clause-last
-event-requires-clause-last g c = λ no. omega (arith, c.in_ok-make_room.ensures.room, room-two c.args.op.now c.kept-kept.result no, c.in_ok-make_room.ensures.limit, ap length c.in_ok-make_room.ensures.entries, c.self.invariant.0.issued)
+event-requires-clause-last g c = λ no. omega (
+  arith,
+  c.in_ok-make_room.ensures.room,
+  room-two c.args.op.now c.kept-kept.result no,
+  c.in_ok-make_room.ensures.limit,
+  ap length c.in_ok-make_room.ensures.entries,
+  c.self.invariant.0.issued,
+)
 
 pub enter-requires-clause-spare : goal.enter-requires-clause-spare
 enter-requires-clause-spare g c =
@@ -48,15 +55,26 @@ invariant_of-self-2 g c =
     let more = room-more c.args.op.now i.rows.tabled (owed i.marking) in
     let all = room-more c.args.op.now (i.rows.tabled + owed i.marking) (owes i.mirroring) in
     let may = rw (sym c.self.view_is) at c.requires.may in
-    let marks = subst (λ b. MarksAfter b c.args.caller i.rows.rows i.grey c.args.op.now c.in_ok-reply.reply c.event.new.self.rows c.event.new.grey) c.is_some-is_open.ensures c.in_ok-reply.ensures.marks in
+    let marks = subst (λ b. MarksAfter b c.args.caller i.rows.rows i.grey c.args.op.now c.in_ok-reply.reply c.event.new.self.rows c.event.new.grey)
+    c.is_some-is_open.ensures c.in_ok-reply.ensures.marks in
     let taken = AreTaken-push peer_rules i.threads i.entries.entries c.enter.new.entries.entries draws.adds.number made may.takes draws.adds.added c.self.invariant.1 in (
-      IsSide-step i.rows c.event.new.self i.marking i.markings i.mirroring i.entries c.enter.new.entries draws.adds.number _ made draws.adds.added may.below draws.above c.requires.step allowed c.in_ok-reply.ensures.goes i.grey c.event.new.grey marks
+      IsSide-step i.rows c.event.new.self i.marking i.markings i.mirroring i.entries c.enter.new.entries draws.adds.number _ made
+          draws.adds.added may.below draws.above c.requires.step allowed c.in_ok-reply.ensures.goes i.grey c.event.new.grey marks
           (omega (arith, made-room, more, all, counted, c.in_ok-reply.ensures.room, c.enter.ensures.spare))
-          (omega (arith, c.in_ok-make_room.ensures.limit, c.enter.ensures.spare, ap length draws.adds.added, length_push i.entries.entries (numbered draws.adds.number made), ap length c.in_ok-make_room.ensures.entries))
+          (omega (
+            arith,
+            c.in_ok-make_room.ensures.limit,
+            c.enter.ensures.spare,
+            ap length draws.adds.added,
+            length_push i.entries.entries (numbered draws.adds.number made),
+            ap length c.in_ok-make_room.ensures.entries,
+          ))
           c.self.invariant.0,
       taken,
-      going-next i.rows c.event.new.self i.marking i.grey c.event.new.grey i.markings i.mirroring i.entries c.enter.new.entries.entries draws.adds.number made c.self.invariant.0 draws.adds.added c.requires.step c.in_ok-reply.ensures.goes marks c.self.invariant.2,
-      counted-next i.rows c.event.new.self i.marking i.grey c.event.new.grey i.markings i.mirroring i.entries made c.self.invariant.0 c.in_ok-reply.ensures.goes marks c.self.invariant.2 c.self.invariant.3,
+      going-next i.rows c.event.new.self i.marking i.grey c.event.new.grey i.markings i.mirroring i.entries c.enter.new.entries.entries
+          draws.adds.number made c.self.invariant.0 draws.adds.added c.requires.step c.in_ok-reply.ensures.goes marks c.self.invariant.2,
+      counted-next i.rows c.event.new.self i.marking i.grey c.event.new.grey i.markings i.mirroring i.entries
+          made c.self.invariant.0 c.in_ok-reply.ensures.goes marks c.self.invariant.2 c.self.invariant.3,
     )
 
 pub returns-clause-adds : goal.returns-clause-adds
@@ -65,8 +83,10 @@ returns-clause-adds g c =
     let made : Made = record { caller = c.args.caller; index = c.args.index; op = c.args.op.now; reply = c.in_ok-reply.reply; cites = c.args.cites } in
     let allowed = rw (sym c.self.view_is) at c.requires.allowed in
     let draws = rw c.in_ok-make_room.ensures.entries at c.enter.ensures.draws in
-    let marks = subst (λ b. MarksAfter b c.args.caller i.rows.rows i.grey c.args.op.now c.in_ok-reply.reply c.event.new.self.rows c.event.new.grey) c.is_some-is_open.ensures c.in_ok-reply.ensures.marks in
-    let goes = side-goes i.rows c.event.new.self i.marking i.markings i.mirroring i.entries c.enter.new.entries.entries draws.adds.number made c.self.invariant.0 draws.adds.added c.requires.step c.in_ok-reply.ensures.goes i.grey c.event.new.grey marks allowed in
+    let marks = subst (λ b. MarksAfter b c.args.caller i.rows.rows i.grey c.args.op.now c.in_ok-reply.reply c.event.new.self.rows c.event.new.grey)
+    c.is_some-is_open.ensures c.in_ok-reply.ensures.marks in
+    let goes = side-goes i.rows c.event.new.self i.marking i.markings i.mirroring i.entries c.enter.new.entries.entries draws.adds.number
+    made c.self.invariant.0 draws.adds.added c.requires.step c.in_ok-reply.ensures.goes i.grey c.event.new.grey marks allowed in
     rw (sym c.self.view_is) (record { draws = draws; goes = goes; threads = refl })
 
 pub invariant_of-self-in_err-reply : goal.invariant_of-self-in_err-reply

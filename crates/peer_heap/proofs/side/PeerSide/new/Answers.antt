@@ -7,4 +7,9 @@ use Rattle.peer_heap.proofs.Sides.{AreGoing-opening, IsSide-opening}
 use Rattle.peer_heap.proofs.side.PeerSide.new.Goals as goal
 
 pub invariant_of-result : goal.invariant_of-result
-invariant_of-result c = (IsSide-opening _ _ _ c.in_ok-new.ensures c.new-2.ensures c.new-3.ensures.entries c.new-3.ensures.spare, subst (AreTaken peer_rules c.args.threads) (sym c.new-3.ensures.entries) (All-nil (λ (e : Entry). TakesPeer c.args.threads e.made.caller)), AreGoing-opening _ _ _, tt)
+invariant_of-result c = (
+  IsSide-opening _ _ _ c.in_ok-new.ensures c.new-2.ensures c.new-3.ensures.entries c.new-3.ensures.spare,
+  subst (AreTaken peer_rules c.args.threads) (sym c.new-3.ensures.entries) (All-nil (λ (e : Entry). TakesPeer c.args.threads e.made.caller)),
+  AreGoing-opening _ _ _,
+  tt,
+)

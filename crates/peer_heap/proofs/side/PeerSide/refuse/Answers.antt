@@ -19,7 +19,14 @@ invariant_of-self-2 g c =
     let taken = AreTaken-push peer_rules i.threads i.entries.entries c.enter.new.entries.entries draws.adds.number made may.takes draws.adds.added c.self.invariant.1 in (
       IsSide-pass i.rows i.marking i.markings i.mirroring i.entries c.enter.new.entries draws.adds.number _ made c.self.invariant.0 draws.adds.added passes may.below draws.above
           (omega (arith, c.in_ok-take_room.ensures.room, c.kept-kept.ensures.kept, c.enter.ensures.spare))
-          (omega (arith, c.in_ok-take_room.ensures.limit, c.enter.ensures.spare, ap length draws.adds.added, length_push i.entries.entries (numbered draws.adds.number made), ap length c.in_ok-take_room.ensures.entries)),
+          (omega (
+            arith,
+            c.in_ok-take_room.ensures.limit,
+            c.enter.ensures.spare,
+            ap length draws.adds.added,
+            length_push i.entries.entries (numbered draws.adds.number made),
+            ap length c.in_ok-take_room.ensures.entries,
+          )),
       taken,
       pass-going i.rows i.marking i.markings i.mirroring i.entries c.enter.new.entries.entries draws.adds.number made c.self.invariant.0 draws.adds.added passes i.grey c.self.invariant.2,
       c.self.invariant.3,
@@ -31,7 +38,12 @@ returns-clause-adds g c =
     let made : Made = record { caller = c.args.caller; index = c.args.index; op = c.args.op; reply = c.args.reply; cites = None } in
     let passes = rw (sym c.self.view_is) at c.requires.passes in
     let draws = rw c.in_ok-take_room.ensures.entries at c.enter.ensures.draws in
-    rw (sym c.self.view_is) (record { draws = draws; goes = pass-goes i.rows i.marking i.markings i.mirroring i.entries c.enter.new.entries.entries draws.adds.number made c.self.invariant.0 draws.adds.added passes; threads = refl })
+    rw (sym c.self.view_is) (record {
+      draws = draws;
+      goes = pass-goes i.rows i.marking i.markings i.mirroring i.entries
+          c.enter.new.entries.entries draws.adds.number made c.self.invariant.0 draws.adds.added passes;
+      threads = refl;
+    })
 
 pub returns-in_err-take_room-clause-reply : goal.returns-in_err-take_room-clause-reply
 returns-in_err-take_room-clause-reply g c = IfOk-from_err c.from_residual.result _ c.from_residual.ensures.0

@@ -61,12 +61,15 @@ invariant_of-self g c =
     let here : i.mirroring.mirror ≡ Some x = sym c.in-Some.ensures.mirror in
     let draws = rw c.reply_of.ensures at c.note.ensures.draws in
     let back = subst (λ b. RestoresHandle b i.rows i.grey c.args.h.0 c.restore-back.result w c.restore-back.new.grey) c.is_some-is_open.ensures c.restore-back.ensures in
-    let taken = AreTaken-push peer_rules i.threads i.entries.entries c.note.new.entries.entries draws.adds.number (restores c.args.index c.args.h c.restore-back.result) tt draws.adds.added c.self.invariant.1 in (
+    let taken = AreTaken-push peer_rules i.threads i.entries.entries c.note.new.entries.entries draws.adds.number
+    (restores c.args.index c.args.h c.restore-back.result) tt draws.adds.added c.self.invariant.1 in (
       subst (λ z. IsSide w i.marking i.markings z c.note.new.entries) (sym (c.set_mirror.ensures ∙ ap (on_mirror i.mirroring) c.restored.ensures))
-          (IsSide-restored i.rows w i.marking i.markings i.mirroring x i.entries c.note.new.entries draws.adds.number _ c.args.index c.args.h c.restore-back.result c.self.invariant.0 draws.adds.added below draws.above here i.grey c.restore-back.new.grey back may c.note.ensures.spare),
+          (IsSide-restored i.rows w i.marking i.markings i.mirroring x i.entries c.note.new.entries draws.adds.number _ c.args.index c.args.h
+          c.restore-back.result c.self.invariant.0 draws.adds.added below draws.above here i.grey c.restore-back.new.grey back may c.note.ensures.spare),
       taken,
       subst (λ z. AreGoing w i.marking c.restore-back.new.grey i.markings z c.note.new.entries.entries) (sym (c.set_mirror.ensures ∙ ap (on_mirror i.mirroring) c.restored.ensures))
-          (restore-going i.rows w i.marking i.markings i.mirroring x i.entries c.note.new.entries.entries draws.adds.number c.args.index c.args.h c.restore-back.result i.grey c.restore-back.new.grey c.self.invariant.0 draws.adds.added here back c.self.invariant.2),
+          (restore-going i.rows w i.marking i.markings i.mirroring x i.entries c.note.new.entries.entries draws.adds.number c.args.index
+          c.args.h c.restore-back.result i.grey c.restore-back.new.grey c.self.invariant.0 draws.adds.added here back c.self.invariant.2),
       counted-restored i.marking i.rows i.grey c.args.h.0 c.restore-back.result w c.restore-back.new.grey back c.self.invariant.2.list c.self.invariant.3,
     )
 
@@ -78,7 +81,9 @@ returns-clause-adds g c =
     let may = rw (sym c.self.view_is) at c.requires.restores in
     let draws = rw c.reply_of.ensures at c.note.ensures.draws in
     let back = subst (λ b. RestoresHandle b i.rows i.grey c.args.h.0 c.restore-back.result w c.restore-back.new.grey) c.is_some-is_open.ensures c.restore-back.ensures in
-    let goes = restore-goes i.rows w i.marking i.markings i.mirroring x i.entries c.note.new.entries.entries draws.adds.number c.args.index c.args.h c.restore-back.result (is_some i.marking) i.grey c.restore-back.new.grey c.self.invariant.0 draws.adds.added (sym c.in-Some.ensures.mirror) back may in
-    let moved = subst (λ z. GoesOn peer_rules (state_with i.entries.entries i.rows i.marking i.markings i.mirroring) (restores c.args.index c.args.h c.restore-back.result) nothing (state_with c.note.new.entries.entries w i.marking i.markings z))
+    let goes = restore-goes i.rows w i.marking i.markings i.mirroring x i.entries c.note.new.entries.entries draws.adds.number c.args.index c.args.h c.restore-back.result
+    (is_some i.marking) i.grey c.restore-back.new.grey c.self.invariant.0 draws.adds.added (sym c.in-Some.ensures.mirror) back may in
+    let moved = subst (λ z. GoesOn peer_rules (state_with i.entries.entries i.rows i.marking i.markings i.mirroring)
+    (restores c.args.index c.args.h c.restore-back.result) nothing (state_with c.note.new.entries.entries w i.marking i.markings z))
     (sym (c.set_mirror.ensures ∙ ap (on_mirror i.mirroring) c.restored.ensures)) goes in
     rw (sym c.self.view_is) (record { draws = draws; goes = moved; threads = refl })

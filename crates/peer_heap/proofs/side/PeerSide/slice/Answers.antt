@@ -12,7 +12,8 @@ invariant_of-self c =
     let i = c.self.inside in (
       IsSide-black i.rows c.blacken.new.self i.marking i.markings i.mirroring i.entries c.blacken.ensures.rest c.self.invariant.0,
       c.self.invariant.1,
-      AreGoing-black i.rows c.blacken.new.self i.marking i.grey c.blacken.new.grey i.markings c.blacken.result i.mirroring i.entries c.blacken.ensures.rest c.self.invariant.0 c.blacken.ensures.steps c.self.invariant.2,
+      AreGoing-black i.rows c.blacken.new.self i.marking i.grey c.blacken.new.grey i.markings c.blacken.result
+          i.mirroring i.entries c.blacken.ensures.rest c.self.invariant.0 c.blacken.ensures.steps c.self.invariant.2,
       counted-drivers i.rows.issued i.entries.entries i.marking _ (rw (sym c.self.view_is) at c.requires),
     )
 
@@ -25,4 +26,5 @@ returns-clause-end c =
 pub returns-clause-sliced : goal.returns-clause-sliced
 returns-clause-sliced c =
     let i = c.self.inside in
-    rw (sym c.self.view_is) (sliced-by i.rows c.blacken.new.self i.marking i.grey c.blacken.new.grey i.markings c.args.n c.blacken.result i.mirroring i.entries.entries c.blacken.ensures.rest c.blacken.ensures.steps c.self.invariant.2 c.blacken.ensures.most c.blacken.ensures.end)
+    rw (sym c.self.view_is) (sliced-by i.rows c.blacken.new.self i.marking i.grey c.blacken.new.grey i.markings c.args.n c.blacken.result
+    i.mirroring i.entries.entries c.blacken.ensures.rest c.blacken.ensures.steps c.self.invariant.2 c.blacken.ensures.most c.blacken.ensures.end)

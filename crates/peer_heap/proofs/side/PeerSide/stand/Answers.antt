@@ -45,13 +45,16 @@ invariant_of-self g c =
     let draws = rw count at c.note.ensures.draws in
     let put = c.stand.ensures ∙ ap (with_stood i.rows) waits in
     let stood : ℕ → Mirrors = λ from. stood_mirrors i.mirroring c.args.cycle c.args.cites from c.in-Some.handles in
-    let taken = AreTaken-push peer_rules i.threads i.entries.entries c.note.new.entries.entries draws.adds.number (mirrors c.args.index c.args.cycle (length i.mirroring.waiting) c.args.cites) tt draws.adds.added c.self.invariant.1 in (
+    let taken = AreTaken-push peer_rules i.threads i.entries.entries c.note.new.entries.entries draws.adds.number
+    (mirrors c.args.index c.args.cycle (length i.mirroring.waiting) c.args.cites) tt draws.adds.added c.self.invariant.1 in (
       subst (λ z. IsSide c.stand.new.self i.marking i.markings z c.note.new.entries) (sym (c.stand-2.ensures ∙ ap stood c.len-from.ensures))
-          (IsSide-stood i.rows c.stand.new.self i.marking i.markings i.mirroring i.entries c.note.new.entries draws.adds.number _ c.args.index c.args.cycle c.args.cites c.in-Some.handles c.self.invariant.0 draws.adds.added below draws.above put closed (sym c.in-Some.ensures) once ends
+          (IsSide-stood i.rows c.stand.new.self i.marking i.markings i.mirroring i.entries c.note.new.entries draws.adds.number _ c.args.index
+          c.args.cycle c.args.cites c.in-Some.handles c.self.invariant.0 draws.adds.added below draws.above put closed (sym c.in-Some.ensures) once ends
           (omega (arith, c.waiting-waiting.ensures.most, count)) c.note.ensures.spare),
       taken,
       subst (λ z. AreGoing c.stand.new.self i.marking i.grey i.markings z c.note.new.entries.entries) (sym (c.stand-2.ensures ∙ ap stood c.len-from.ensures))
-          (stood-marking i.rows c.stand.new.self i.marking i.markings i.mirroring i.entries c.note.new.entries.entries draws.adds.number c.args.index c.args.cycle c.args.cites c.in-Some.handles c.self.invariant.0 draws.adds.added put closed i.grey c.self.invariant.2),
+          (stood-marking i.rows c.stand.new.self i.marking i.markings i.mirroring i.entries c.note.new.entries.entries draws.adds.number
+          c.args.index c.args.cycle c.args.cites c.in-Some.handles c.self.invariant.0 draws.adds.added put closed i.grey c.self.invariant.2),
       counted-same i.marking i.rows.rows c.stand.new.self.rows i.grey (ap (λ (z : Rows). z.rows.marks) put) (ap (λ (z : Rows). z.rows.links) put) c.self.invariant.3,
     )
 
@@ -66,7 +69,9 @@ returns-clause-adds g c =
     let draws = rw count at c.note.ensures.draws in
     let put = c.stand.ensures ∙ ap (with_stood i.rows) waits in
     let stood : ℕ → Mirrors = λ from. stood_mirrors i.mirroring c.args.cycle c.args.cites from c.in-Some.handles in
-    let goes = stood-goes i.rows w i.marking i.markings i.mirroring i.entries c.note.new.entries.entries draws.adds.number c.args.index c.args.cycle c.args.cites c.in-Some.handles c.self.invariant.0 draws.adds.added put closed once in
-    let moved = subst (λ z. GoesOn peer_rules (state_with i.entries.entries i.rows i.marking i.markings i.mirroring) (mirrors c.args.index c.args.cycle (length i.mirroring.waiting) c.args.cites) (references_of i.mirroring.waiting) (state_with c.note.new.entries.entries w i.marking i.markings z))
+    let goes = stood-goes i.rows w i.marking i.markings i.mirroring i.entries c.note.new.entries.entries draws.adds.number
+    c.args.index c.args.cycle c.args.cites c.in-Some.handles c.self.invariant.0 draws.adds.added put closed once in
+    let moved = subst (λ z. GoesOn peer_rules (state_with i.entries.entries i.rows i.marking i.markings i.mirroring)
+    (mirrors c.args.index c.args.cycle (length i.mirroring.waiting) c.args.cites) (references_of i.mirroring.waiting) (state_with c.note.new.entries.entries w i.marking i.markings z))
     (sym (c.stand-2.ensures ∙ ap stood c.len-from.ensures)) goes in
     rw (sym c.self.view_is, count) (record { draws = draws; goes = moved; threads = refl })

@@ -23,10 +23,14 @@ invariant_of-self g c =
     let left : 1 ≤ x.left = subst (λ (o : Option OpenMirror). 1 ≤ left_of o) here (rw (sym c.self.view_is) at c.requires.left) in
     let draws = c.note.ensures.draws in
     let taken = AreTaken-push peer_rules i.threads i.entries.entries c.note.new.entries.entries draws.adds.number (weakens c.args.index c.args.h c.args.cites) tt draws.adds.added c.self.invariant.1 in (
-      subst (λ z. IsSide c.weaken.new.self i.marking i.markings z c.note.new.entries) (sym (◌∙◌ {b = on_mirror i.mirroring c.weakened.result} c.set_mirror.ensures (ap (on_mirror i.mirroring) c.weakened.ensures)))
-          (IsSide-weakened i.rows c.weaken.new.self i.marking i.markings i.mirroring x i.entries c.note.new.entries draws.adds.number _ c.args.index c.args.h c.args.cites c.self.invariant.0 draws.adds.added below draws.above c.weaken.ensures here left may c.note.ensures.spare),
+      subst (λ z. IsSide c.weaken.new.self i.marking i.markings z c.note.new.entries)
+          (sym (◌∙◌ {b = on_mirror i.mirroring c.weakened.result} c.set_mirror.ensures (ap (on_mirror i.mirroring) c.weakened.ensures)))
+          (IsSide-weakened i.rows c.weaken.new.self i.marking i.markings i.mirroring x i.entries c.note.new.entries draws.adds.number _ c.args.index
+          c.args.h c.args.cites c.self.invariant.0 draws.adds.added below draws.above c.weaken.ensures here left may c.note.ensures.spare),
       taken,
-      subst (λ z. AreGoing c.weaken.new.self i.marking i.grey i.markings z c.note.new.entries.entries) (sym (◌∙◌ {b = on_mirror i.mirroring c.weakened.result} c.set_mirror.ensures (ap (on_mirror i.mirroring) c.weakened.ensures)))
-          (weaken-going i.rows c.weaken.new.self i.marking i.markings i.mirroring x i.entries c.note.new.entries.entries draws.adds.number c.args.index c.args.h c.args.cites c.self.invariant.0 draws.adds.added c.weaken.ensures here i.grey c.self.invariant.2),
+      subst (λ z. AreGoing c.weaken.new.self i.marking i.grey i.markings z c.note.new.entries.entries)
+          (sym (◌∙◌ {b = on_mirror i.mirroring c.weakened.result} c.set_mirror.ensures (ap (on_mirror i.mirroring) c.weakened.ensures)))
+          (weaken-going i.rows c.weaken.new.self i.marking i.markings i.mirroring x i.entries c.note.new.entries.entries draws.adds.number
+          c.args.index c.args.h c.args.cites c.self.invariant.0 draws.adds.added c.weaken.ensures here i.grey c.self.invariant.2),
       counted-same i.marking i.rows.rows c.weaken.new.self.rows i.grey (ap (λ (z : Rows). z.rows.marks) c.weaken.ensures) (ap (λ (z : Rows). z.rows.links) c.weaken.ensures) c.self.invariant.3,
     )

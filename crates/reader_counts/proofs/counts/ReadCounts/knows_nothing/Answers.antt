@@ -13,4 +13,5 @@ set-there (x ∷ cells) (suc k) w e = set-there cells k w e
 pub returns-in-Some : goal.returns-in-Some
 returns-in-Some c =
     let is = set-there c.self.inside.cells c.args.k.0 c.in-Some.set c.in-Some.is in
-    subst (λ o. IsTrue c.has_not_seen.result ↔ IsUnknownBy c.args.self.now c.args.caller o) (sym (ap (λ s. elim (slice_get s.cells c.args.k.0) [ None ↦ None | Some o ↦ o ]) (sym c.self.view_is) ∙ is)) c.has_not_seen.ensures
+    subst (λ o. IsTrue c.has_not_seen.result ↔ IsUnknownBy c.args.self.now c.args.caller o)
+    (sym (ap (λ s. elim (slice_get s.cells c.args.k.0) [ None ↦ None | Some o ↦ o ]) (sym c.self.view_is) ∙ is)) c.has_not_seen.ensures

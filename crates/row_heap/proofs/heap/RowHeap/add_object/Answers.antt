@@ -15,15 +15,30 @@ invariant_of-self-2 g c =
     let len = length-map old.rows (λ r. r.fields) in
     let few : length old.rows < MOST = omega (arith, seen, len) in
     let space : length old.rows + 1 ≤ vec_capacity c.reserve.new.self =
-    omega (arith, c.in_ok-reserve.ensures.ok, c.reserve.ensures.len, c.made-made.ensures, c.len.ensures, old.freed.ok, len, length-map old.freed.items g.N.Number.number, c.self.invariant.0.sound.flags.count) in
-    (IsRowHeap-added _ _ _ _ _ _ c.self.inside.references _ _ _ c.args.fields _ c.self.invariant.0 few space c.in_ok-add.ensures.ok refl refl refl (ap (map g.N.Number.number) c.reserve.ensures.items), gone-same _ _ _ c.self.invariant.1 (ap (map g.N.Number.number) c.reserve.ensures.items), count-added _ c.args.fields _ _ _ _ (omega (arith)) c.in_ok-add.ensures.ok (length-replicate c.args.fields None) (omega (arith, c.ranges.fields)) c.self.invariant.2)
+    omega (
+      arith,
+      c.in_ok-reserve.ensures.ok,
+      c.reserve.ensures.len,
+      c.made-made.ensures,
+      c.len.ensures,
+      old.freed.ok,
+      len,
+      length-map old.freed.items g.N.Number.number,
+      c.self.invariant.0.sound.flags.count,
+    ) in (
+      IsRowHeap-added _ _ _ _ _ _ c.self.inside.references _ _ _ c.args.fields _ c.self.invariant.0 few space c.in_ok-add.ensures.ok refl refl refl
+          (ap (map g.N.Number.number) c.reserve.ensures.items),
+      gone-same _ _ _ c.self.invariant.1 (ap (map g.N.Number.number) c.reserve.ensures.items),
+      count-added _ c.args.fields _ _ _ _ (omega (arith)) c.in_ok-add.ensures.ok (length-replicate c.args.fields None) (omega (arith, c.ranges.fields)) c.self.invariant.2,
+    )
 
 pub returns-clause-live : goal.returns-clause-live
 returns-clause-live g c =
     let rows = c.self.inside.rows in
     let len = length-map rows (λ r. r.fields) in
     let more : length c.add.new.self ≡ length rows + 1 = ap length c.in_ok-add.ensures.ok ∙ length-append rows _ in
-    IsLive-last _ _ _ c.self.invariant.0.sound.tidy (omega (arith, c.made-made.ensures, len)) (omega (arith, more, len, length-map c.add.new.self (λ r. r.fields))) (ap (map g.N.Number.number) c.reserve.ensures.items)
+    IsLive-last _ _ _ c.self.invariant.0.sound.tidy (omega (arith, c.made-made.ensures, len))
+    (omega (arith, more, len, length-map c.add.new.self (λ r. r.fields))) (ap (map g.N.Number.number) c.reserve.ensures.items)
 
 pub invariant_of-self : goal.invariant_of-self
 invariant_of-self g c = (search rules, gone-same _ _ _ c.self.invariant.1 (ap (map g.N.Number.number) c.reserve.ensures.items), c.self.invariant.2)
@@ -49,7 +64,8 @@ pub returns-clause-number : goal.returns-clause-number
 returns-clause-number g c = rw (← c.self.view_is) (omega (arith, c.made-made.ensures, length-map c.self.inside.rows (λ r. r.fields)))
 
 pub returns-clause-ok : goal.returns-clause-ok
-returns-clause-ok g c = seen-added _ _ _ _ _ _ c.self.inside.references _ c.args.self.now c.args.fields _ c.self.view_is c.in_ok-add.ensures.ok refl (ap (map g.N.Number.number) c.reserve.ensures.items)
+returns-clause-ok g c = seen-added _ _ _ _ _ _ c.self.inside.references _ c.args.self.now c.args.fields _ c.self.view_is c.in_ok-add.ensures.ok refl
+    (ap (map g.N.Number.number) c.reserve.ensures.items)
 
 pub overflow_add-self : goal.overflow_add-self
 overflow_add-self g c = omega (arith, c.self.invariant.2.most, rw (← c.self.view_is) at c.requires, length-map c.self.inside.rows (λ r. r.fields))

@@ -20,7 +20,9 @@ invariant_of-self g c =
     let s = c.self.inside in
     let more = map ends_of c.args.refs.now in (
       IsRowHeap-other _ _ _ _ _ _ _ _ _ c.self.invariant.0
-          (AreReferences-added s.rows s.references _ more _ (ap (λ (l : Linked). l.refs) c.push_all.ensures) (λ p f h. (let w = All-contains (MayReferBoth c.args.self.now) more (node p, f) c.requires.ends h in omega (arith, w.0.made.1, made-seen _ _ _ _ s.references _ _ c.self.view_is))) c.self.invariant.0.references),
+          (AreReferences-added s.rows s.references _ more _ (ap (λ (l : Linked). l.refs) c.push_all.ensures)
+          (λ p f h. (let w = All-contains (MayReferBoth c.args.self.now) more (node p, f) c.requires.ends h in omega (arith, w.0.made.1, made-seen _ _ _ _ s.references _ _ c.self.view_is)))
+          c.self.invariant.0.references),
       c.self.invariant.1,
       c.self.invariant.2,
     )

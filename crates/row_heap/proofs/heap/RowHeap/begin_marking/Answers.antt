@@ -11,7 +11,12 @@ pub unmark_from-requires : goal.unmark_from-requires
 unmark_from-requires g c = λ x le m. fallen _ _ _ _ _ c.self.inside.gone c.self.invariant.0.sound c.self.invariant.1 x le (c.marked_stand.ensures x m)
 
 pub invariant_of-self : goal.invariant_of-self
-invariant_of-self g c = (IsRowHeap-unmarked _ _ _ _ _ c.self.inside.references _ _ c.args.follows _ c.args.self.now (c.self.view_is ∙ c.move_on.ensures) c.self.invariant.0 c.requires c.unmark_from.ensures c.forget.ensures.rest c.forget.ensures.none, c.self.invariant.1, count-kept _ _ _ (ap (map width) c.unmark_from.ensures ∙ map-unmarked width c.self.inside.rows (λ r. refl)) c.self.invariant.2)
+invariant_of-self g c = (
+  IsRowHeap-unmarked _ _ _ _ _ c.self.inside.references _ _ c.args.follows _ c.args.self.now
+      (c.self.view_is ∙ c.move_on.ensures) c.self.invariant.0 c.requires c.unmark_from.ensures c.forget.ensures.rest c.forget.ensures.none,
+  c.self.invariant.1,
+  count-kept _ _ _ (ap (map width) c.unmark_from.ensures ∙ map-unmarked width c.self.inside.rows (λ r. refl)) c.self.invariant.2,
+)
 
 pub returns-clause-marks : goal.returns-clause-marks
 returns-clause-marks g c = λ x m. unmarked-none c.self.inside.rows x (subst (λ l. HasMark (false ∷ map (λ (r : Seen). r.marked) l) x) c.unmark_from.ensures m)

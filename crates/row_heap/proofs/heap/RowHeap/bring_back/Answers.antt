@@ -14,11 +14,13 @@ mark_from-requires-clause-shut g c = shut-leads c.args.self.now c.args.self.now.
 
 pub returns-clause-marks : goal.returns-clause-marks
 returns-clause-marks g c = λ k.
-    let root : (z : ℕ) → Contains (c.args.x ∷ []) z → IsLive c.args.self.now.heap z = λ z h. elim (Contains-cons_cases c.args.x [] z h) [ inl e ↦ subst (IsLive c.args.self.now.heap) e c.requires.live | inr n ↦ absurd (Contains-nil z n) ] in
+    let root : (z : ℕ) → Contains (c.args.x ∷ []) z → IsLive c.args.self.now.heap z = λ z h. elim (Contains-cons_cases c.args.x [] z h)
+    [ inl e ↦ subst (IsLive c.args.self.now.heap) e c.requires.live | inr n ↦ absurd (Contains-nil z n) ] in
     let m = c.mark_from.ensures.marks k in (
       (λ u. elim (m.0 u) [ inl w ↦ inl w | inr w ↦ inr (reached-edge c.args.self.now (c.args.x ∷ []) k c.tidy.ensures c.ends_live.ensures root w) ]),
       (λ u. m.1 (elim u [ inl w ↦ inl w | inr w ↦ inr (reached-leads c.args.self.now (c.args.x ∷ []) k w) ])),
     )
 
 pub returns-clause-shut : goal.returns-clause-shut
-returns-clause-shut g c = shut-edges c.args.self.now c.mark_from.new.g.marks (subst (λ (v : HeapRows). IsClosed (LeadsTo v) c.mark_from.new.g.marks) c.mark_from.ensures.kept c.mark_from.ensures.closed)
+returns-clause-shut g c = shut-edges c.args.self.now c.mark_from.new.g.marks
+    (subst (λ (v : HeapRows). IsClosed (LeadsTo v) c.mark_from.new.g.marks) c.mark_from.ensures.kept c.mark_from.ensures.closed)

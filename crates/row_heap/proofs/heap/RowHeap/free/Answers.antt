@@ -16,7 +16,8 @@ free_rows-requires-clause-up g c =
 
 pub invariant_of-self : goal.invariant_of-self
 invariant_of-self g c = (
-  IsRowHeap-freed _ _ _ _ (map g.N.Number.number c.args.xs.now) _ _ c.self.inside.references _ _ _ c.args.self.now c.self.view_is c.self.invariant.0 c.free_rows.ensures.rows c.requires.can c.requires.ends
+  IsRowHeap-freed _ _ _ _ (map g.N.Number.number c.args.xs.now) _ _ c.self.inside.references _ _ _
+      c.args.self.now c.self.view_is c.self.invariant.0 c.free_rows.ensures.rows c.requires.can c.requires.ends
       (ap (map g.N.Number.number) c.free_rows.ensures.freed ∙ map-append g.N.Number.number c.self.inside.freed.items c.args.xs.now) c.free_rows.ensures.capacity,
   gone-more _ _ _ _ c.self.invariant.1 (ap (map g.N.Number.number) c.free_rows.ensures.freed ∙ map-append g.N.Number.number c.self.inside.freed.items c.args.xs.now),
   count-fields _ _ _ c.free_rows.ensures.rows.fields c.self.invariant.2,
@@ -27,7 +28,8 @@ returns-clause-heap g c = seen-freed _ _ _ _ (map g.N.Number.number c.args.xs.no
     (ap (map g.N.Number.number) c.free_rows.ensures.freed ∙ map-append g.N.Number.number c.self.inside.freed.items c.args.xs.now)
 
 pub returns-clause-marks : goal.returns-clause-marks
-returns-clause-marks g c = marks-freed _ _ _ _ _ c.self.inside.references _ c.args.self.now (map g.N.Number.number c.args.xs.now) c.self.view_is c.free_rows.ensures.rows c.marked_stand.ensures c.marked_stand-2.ensures
+returns-clause-marks g c = marks-freed _ _ _ _ _ c.self.inside.references _ c.args.self.now
+    (map g.N.Number.number c.args.xs.now) c.self.view_is c.free_rows.ensures.rows c.marked_stand.ensures c.marked_stand-2.ensures
 
 pub free_rows-requires-clause-rises : goal.free_rows-requires-clause-rises
 free_rows-requires-clause-rises g c = c.requires.can.rises

@@ -10,4 +10,5 @@ pub returns-then-fields_len-i-clause-done : goal.returns-then-fields_len-i-claus
 returns-then-fields_len-i-clause-done g c = λ name. got-range name _ _ _ _ _ c.in-Some.ensures.value (omega (arith, c.fields_len.ensures, c.if-fields_len-i.true))
 
 pub returns-else-fields_len-i-clause-done : goal.returns-else-fields_len-i-clause-done
-returns-else-fields_len-i-clause-done g c = λ name. got-read name _ _ _ _ _ _ c.in-Some.ensures.value (omega (arith, c.fields_len.ensures, c.if-fields_len-i.false)) c.field-y.ensures.value ∙ c.read.ensures.done name
+returns-else-fields_len-i-clause-done g c = λ name. got-read name _ _ _ _ _ _ c.in-Some.ensures.value (omega (arith, c.fields_len.ensures, c.if-fields_len-i.false)) c.field-y.ensures.value
+    ∙ c.read.ensures.done name

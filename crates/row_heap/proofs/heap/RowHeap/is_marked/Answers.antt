@@ -10,7 +10,10 @@ use Rattle.row_heap.proofs.heap.RowHeap.is_marked.Goals.{then-x-ne0, else-x-ne0}
 use Rattle.row_heap.proofs.heap.RowHeap.is_marked.Goals as goal
 
 pub is_marked-requires : goal.is_marked-requires
-is_marked-requires g c = elim c.if-x-ne0.branch [ then-x-ne0 w ↦ number-in _ _ _ _ w.if-x-ne0.true w.value-is w.made.ensures c.if-x-made.true | else-x-ne0 w ↦ absurd (number-none _ _ w.if-x-ne0.false w.value-is c.if-x-made.true) ]
+is_marked-requires g c = elim c.if-x-ne0.branch [
+  | then-x-ne0 w ↦ number-in _ _ _ _ w.if-x-ne0.true w.value-is w.made.ensures c.if-x-made.true
+  | else-x-ne0 w ↦ absurd (number-none _ _ w.if-x-ne0.false w.value-is c.if-x-made.true)
+]
 
 pub returns-then-x-made : goal.returns-then-x-made
 returns-then-x-made g c = rw (← c.self.view_is) (

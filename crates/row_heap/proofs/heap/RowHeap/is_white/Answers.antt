@@ -11,13 +11,17 @@ use Rattle.row_heap.proofs.heap.RowHeap.is_white.Goals.{then-x-ne0, else-x-ne0}
 pub returns-then-x-made : goal.returns-then-x-made
 returns-then-x-made g c =
     let w = white-seen _ _ _ _ c.self.inside.references _ _ c.args.self.now c.args.x c.self.view_is c.self.invariant.0.sound in
-    let made : (1 ≤ c.args.x) × (c.args.x ≤ length c.self.inside.rows) = elim c.if-x-ne0.branch [ then-x-ne0 w ↦ number-in _ _ _ _ w.if-x-ne0.true w.value-is w.made.ensures c.if-x-made.true | else-x-ne0 w ↦ absurd (number-none _ _ w.if-x-ne0.false w.value-is c.if-x-made.true) ] in (
+    let made : (1 ≤ c.args.x) × (c.args.x ≤ length c.self.inside.rows) = elim c.if-x-ne0.branch
+    [ then-x-ne0 w ↦ number-in _ _ _ _ w.if-x-ne0.true w.value-is w.made.ensures c.if-x-made.true | else-x-ne0 w ↦ absurd (number-none _ _ w.if-x-ne0.false w.value-is c.if-x-made.true) ] in (
       (λ t. w.0 (made.1, sym c.is_white.ensures ∙ t)),
       (λ l. c.is_white.ensures ∙ (w.1 l).1),
     )
 
 pub is_white-requires : goal.is_white-requires
-is_white-requires g c = elim c.if-x-ne0.branch [ then-x-ne0 w ↦ number-in _ _ _ _ w.if-x-ne0.true w.value-is w.made.ensures c.if-x-made.true | else-x-ne0 w ↦ absurd (number-none _ _ w.if-x-ne0.false w.value-is c.if-x-made.true) ]
+is_white-requires g c = elim c.if-x-ne0.branch [
+  | then-x-ne0 w ↦ number-in _ _ _ _ w.if-x-ne0.true w.value-is w.made.ensures c.if-x-made.true
+  | else-x-ne0 w ↦ absurd (number-none _ _ w.if-x-ne0.false w.value-is c.if-x-made.true)
+]
 
 pub returns-else-x-made : goal.returns-else-x-made
 returns-else-x-made g c = (

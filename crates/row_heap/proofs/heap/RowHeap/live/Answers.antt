@@ -11,4 +11,11 @@ pub overflow_cast-result : goal.overflow_cast-result
 overflow_cast-result g c = omega (arith, c.made.ensures, rows-most _ _ _ _ _ c.self.invariant.0.sound)
 
 pub returns : goal.returns
-returns g c = rw (← c.self.view_is) (omega (arith, c.made.ensures, c.len.ensures, c.self.invariant.0.sound.flags.count, length-map c.self.inside.rows (λ r. r.fields), length-map c.self.inside.freed.items g.N.Number.number))
+returns g c = rw (← c.self.view_is) (omega (
+  arith,
+  c.made.ensures,
+  c.len.ensures,
+  c.self.invariant.0.sound.flags.count,
+  length-map c.self.inside.rows (λ r. r.fields),
+  length-map c.self.inside.freed.items g.N.Number.number,
+))

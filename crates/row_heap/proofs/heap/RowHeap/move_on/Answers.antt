@@ -10,7 +10,8 @@ use Rattle.row_heap.proofs.heap.RowHeap.move_on.Goals as goal
 pub loop-gone-preserved : goal.loop-gone-preserved
 loop-gone-preserved g c =
     let h = heap_of c.self.inside.rows (map g.N.Number.number c.self.inside.freed.items) c.self.inside.vars c.self.inside.statics in
-    gone-next h c.loop-gone.gone c.loop-gone.invariant (omega (arith, c.loop-gone-test.true, c.made.ensures.made, ap (λ (v : HeapRows). length v.heap.fields) c.self.view_is)) (λ l. true≢false (sym (c.is_live.ensures.1 (subst (λ (v : HeapRows). IsLive v.heap (c.loop-gone.gone + 1)) c.self.view_is l)) ∙ c.if-not-is_live.true))
+    gone-next h c.loop-gone.gone c.loop-gone.invariant (omega (arith, c.loop-gone-test.true, c.made.ensures.made, ap (λ (v : HeapRows). length v.heap.fields) c.self.view_is))
+    (λ l. true≢false (sym (c.is_live.ensures.1 (subst (λ (v : HeapRows). IsLive v.heap (c.loop-gone.gone + 1)) c.self.view_is l)) ∙ c.if-not-is_live.true))
 
 pub loop-gone-init : goal.loop-gone-init
 loop-gone-init g c = c.self.invariant.1

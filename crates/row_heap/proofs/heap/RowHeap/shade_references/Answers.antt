@@ -25,7 +25,8 @@ mark_sources-requires-clause-sights g c = λ t through y h w e. absurd (c.forget
 
 pub invariant_of-self : goal.invariant_of-self
 invariant_of-self g c = (
-  IsRowHeap-bare _ _ _ _ _ _ _ _ _ c.self.invariant.0 c.mark_sources.ensures.kept (ap (λ (l : Linked). l.refs) c.mark_sources.ensures.rest ∙ ap (λ (l : Linked). l.refs) c.forget.ensures.rest) (λ f. c.mark_sources.ensures.sights),
+  IsRowHeap-bare _ _ _ _ _ _ _ _ _ c.self.invariant.0 c.mark_sources.ensures.kept
+      (ap (λ (l : Linked). l.refs) c.mark_sources.ensures.rest ∙ ap (λ (l : Linked). l.refs) c.forget.ensures.rest) (λ f. c.mark_sources.ensures.sights),
   c.self.invariant.1,
   count-kept _ _ _ (map-bare width (λ r. refl) _ _ c.mark_sources.ensures.kept) c.self.invariant.2,
 )

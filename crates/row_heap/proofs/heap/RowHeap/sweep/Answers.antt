@@ -22,14 +22,19 @@ pub invariant_of-self : goal.invariant_of-self
 invariant_of-self g c =
     let v = c.args.self.now in
     let s = c.sweep_rows.ensures.swept in
-    let white : AreWhite v s.swept = AreWhite-swept _ _ _ _ _ _ c.self.inside.references _ _ v c.self.view_is c.self.invariant.0.sound s in
-    (IsRowHeap-freed _ _ _ _ s.swept _ _ c.self.inside.references _ _ _ v c.self.view_is c.self.invariant.0 s.rows (white-can_free v s.swept white c.requires.slots c.requires.shut) (white-none_refers v s.swept white c.requires.shut) s.freed c.sweep_rows.ensures.capacity, gone-more _ _ _ _ c.self.invariant.1 s.freed, count-fields _ _ _ s.rows.fields c.self.invariant.2)
+    let white : AreWhite v s.swept = AreWhite-swept _ _ _ _ _ _ c.self.inside.references _ _ v c.self.view_is c.self.invariant.0.sound s in (
+      IsRowHeap-freed _ _ _ _ s.swept _ _ c.self.inside.references _ _ _ v c.self.view_is c.self.invariant.0 s.rows (white-can_free v s.swept white c.requires.slots c.requires.shut)
+          (white-none_refers v s.swept white c.requires.shut) s.freed c.sweep_rows.ensures.capacity,
+      gone-more _ _ _ _ c.self.invariant.1 s.freed,
+      count-fields _ _ _ s.rows.fields c.self.invariant.2,
+    )
 
 pub returns-clause-white : goal.returns-clause-white
 returns-clause-white g c =
     let v = c.args.self.now in
     let s = c.sweep_rows.ensures.swept in
-    subst (AreWhite v) (sym (swept-end v _ _ s.swept (sym (ap (λ (w : HeapRows). w.heap.freed) c.self.view_is)) s.freed)) (AreWhite-swept _ _ _ _ _ _ c.self.inside.references _ _ v c.self.view_is c.self.invariant.0.sound s)
+    subst (AreWhite v) (sym (swept-end v _ _ s.swept (sym (ap (λ (w : HeapRows). w.heap.freed) c.self.view_is)) s.freed))
+    (AreWhite-swept _ _ _ _ _ _ c.self.inside.references _ _ v c.self.view_is c.self.invariant.0.sound s)
 
 pub returns-clause-heap : goal.returns-clause-heap
 returns-clause-heap g c =

@@ -18,7 +18,12 @@ loop-s-preserved g c =
     elim c.match-static_at.branch [
       | in-Some w ↦ record {
         kept = rw w.self-is (w.visit.ensures.kept ∙ c.loop-s.invariant.kept);
-        greyed = rw (w.self-is, w.grey-is, take-next xs c.loop-s.s (Some w.in-Some.x) (slot-at xs c.loop-s.s (Some w.in-Some.x) within (subst (λ l. slot l c.loop-s.s ≡ Some w.in-Some.x) same w.in-Some.ensures.value)))
+        greyed = rw (
+          w.self-is,
+          w.grey-is,
+          take-next xs c.loop-s.s (Some w.in-Some.x)
+              (slot-at xs c.loop-s.s (Some w.in-Some.x) within (subst (λ l. slot l c.loop-s.s ≡ Some w.in-Some.x) same w.in-Some.ensures.value)),
+        )
             (Greyed-push_some _ _ _ _ _ _ _ _ _ _ _ c.loop-s.invariant.greyed w.visit.ensures.greyed);
       }
       | in_default w ↦ record {

@@ -18,12 +18,22 @@ loop-place-preserved g c =
     elim c.match-var.branch [
       | in-Some w ↦ record {
         kept = rw w.self-is (w.visit.ensures.kept ∙ c.loop-place.invariant.kept);
-        greyed = rw (w.self-is, w.grey-is, take-next xs c.loop-place.place (Some w.in-Some.x) (slot-at xs c.loop-place.place (Some w.in-Some.x) within (subst (λ l. slot l c.loop-place.place ≡ Some w.in-Some.x) same w.in-Some.ensures.value)))
+        greyed = rw (
+          w.self-is,
+          w.grey-is,
+          take-next xs c.loop-place.place (Some w.in-Some.x)
+              (slot-at xs c.loop-place.place (Some w.in-Some.x) within (subst (λ l. slot l c.loop-place.place ≡ Some w.in-Some.x) same w.in-Some.ensures.value)),
+        )
             (Greyed-push_some _ _ _ _ _ _ _ _ _ _ _ c.loop-place.invariant.greyed w.visit.ensures.greyed);
       }
       | in_default w ↦ record {
         kept = rw w.self-is c.loop-place.invariant.kept;
-        greyed = rw (w.self-is, w.grey-is, take-next xs c.loop-place.place None (slot-at xs c.loop-place.place None within (subst (λ l. slot l c.loop-place.place ≡ None) same w.in_default.ensures.value)))
+        greyed = rw (
+          w.self-is,
+          w.grey-is,
+          take-next xs c.loop-place.place None
+              (slot-at xs c.loop-place.place None within (subst (λ l. slot l c.loop-place.place ≡ None) same w.in_default.ensures.value)),
+        )
             (Greyed-push_none _ _ _ _ _ _ _ c.loop-place.invariant.greyed);
       }
     ]

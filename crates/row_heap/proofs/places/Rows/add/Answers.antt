@@ -5,28 +5,35 @@ use Rattle.joint_machine.proofs.Results.{at_error}
 use Rattle.row_heap.proofs.places.Rows.add.Goals as goal
 
 pub invariant_of-self : goal.invariant_of-self
-invariant_of-self c = kept-are c.self.inside.slab c.take_room.new.slab _ _ _ _ _ _ c.take_room.ensures.kept.0 c.take_room.ensures.kept.1 c.take_room.ensures.kept.2 c.take_room.ensures.kept.3 c.self.invariant
+invariant_of-self c = kept-are c.self.inside.slab c.take_room.new.slab _ _ _ _ _ _ c.take_room.ensures.kept.0
+    c.take_room.ensures.kept.1 c.take_room.ensures.kept.2 c.take_room.ensures.kept.3 c.self.invariant
 
 pub invariant_of-self-in_err-fields : goal.invariant_of-self-in_err-fields
-invariant_of-self-in_err-fields c = kept-are c.self.inside.slab c.take_room.new.slab _ _ _ _ _ _ c.take_room.ensures.kept.0 c.take_room.ensures.kept.1 c.take_room.ensures.kept.2 c.take_room.ensures.kept.3 c.self.invariant
+invariant_of-self-in_err-fields c = kept-are c.self.inside.slab c.take_room.new.slab _ _ _ _ _ _ c.take_room.ensures.kept.0
+    c.take_room.ensures.kept.1 c.take_room.ensures.kept.2 c.take_room.ensures.kept.3 c.self.invariant
 
 pub returns-in_err-take_room-clause-err : goal.returns-in_err-take_room-clause-err
-returns-in_err-take_room-clause-err c = at_error _ (kept-rows c.self.inside.slab c.take_room.new.slab _ _ _ _ _ _ c.take_room.ensures.kept.0 c.take_room.ensures.kept.1 c.take_room.ensures.kept.2 c.take_room.ensures.kept.3 ∙ c.self.view_is)
+returns-in_err-take_room-clause-err c = at_error _ (kept-rows c.self.inside.slab c.take_room.new.slab _ _ _ _ _ _
+    c.take_room.ensures.kept.0 c.take_room.ensures.kept.1 c.take_room.ensures.kept.2 c.take_room.ensures.kept.3 ∙ c.self.view_is)
 
 pub returns-in_err-fields-clause-err : goal.returns-in_err-fields-clause-err
-returns-in_err-fields-clause-err c = at_error _ (kept-rows c.self.inside.slab c.take_room.new.slab _ _ _ _ _ _ c.take_room.ensures.kept.0 c.take_room.ensures.kept.1 c.take_room.ensures.kept.2 c.take_room.ensures.kept.3 ∙ c.self.view_is)
+returns-in_err-fields-clause-err c = at_error _ (kept-rows c.self.inside.slab c.take_room.new.slab _ _ _ _ _ _
+    c.take_room.ensures.kept.0 c.take_room.ensures.kept.1 c.take_room.ensures.kept.2 c.take_room.ensures.kept.3 ∙ c.self.view_is)
 
 pub invariant_of-self-2 : goal.invariant_of-self-2
 invariant_of-self-2 c =
-    let are = kept-are c.self.inside.slab c.take_room.new.slab _ c.take_room.new.places.items _ c.take_room.new.marks.items _ c.take_room.new.links.items c.take_room.ensures.kept.0 c.take_room.ensures.kept.1 c.take_room.ensures.kept.2 c.take_room.ensures.kept.3 c.self.invariant in
+    let are = kept-are c.self.inside.slab c.take_room.new.slab _ c.take_room.new.places.items _ c.take_room.new.marks.items _ c.take_room.new.links.items
+    c.take_room.ensures.kept.0 c.take_room.ensures.kept.1 c.take_room.ensures.kept.2 c.take_room.ensures.kept.3 c.self.invariant in
     rw (c.push_reserved.ensures.items, c.push_reserved-2.ensures.items, c.push_reserved-3.ensures.items)
     (pushed-are _ _ _ _ _ _ _ are c.insert_reserved-key.ensures.was_vacant c.insert_reserved-key.ensures.updates)
 
 pub returns-clause-ok : goal.returns-clause-ok
 returns-clause-ok c =
     let new = c.take_room.new in
-    let are = kept-are c.self.inside.slab new.slab _ new.places.items _ new.marks.items _ new.links.items c.take_room.ensures.kept.0 c.take_room.ensures.kept.1 c.take_room.ensures.kept.2 c.take_room.ensures.kept.3 c.self.invariant in
-    let rows = kept-rows c.self.inside.slab new.slab _ new.places.items _ new.marks.items _ new.links.items c.take_room.ensures.kept.0 c.take_room.ensures.kept.1 c.take_room.ensures.kept.2 c.take_room.ensures.kept.3 ∙ c.self.view_is in
+    let are = kept-are c.self.inside.slab new.slab _ new.places.items _ new.marks.items _ new.links.items
+    c.take_room.ensures.kept.0 c.take_room.ensures.kept.1 c.take_room.ensures.kept.2 c.take_room.ensures.kept.3 c.self.invariant in
+    let rows = kept-rows c.self.inside.slab new.slab _ new.places.items _ new.marks.items _ new.links.items
+    c.take_room.ensures.kept.0 c.take_room.ensures.kept.1 c.take_room.ensures.kept.2 c.take_room.ensures.kept.3 ∙ c.self.view_is in
     rw (c.push_reserved.ensures.items, c.push_reserved-2.ensures.items, c.push_reserved-3.ensures.items, ← c.in_ok-fields.ensures.ok)
     (pushed-rows _ _ _ _ _ _ _ _ rows are c.insert_reserved-key.ensures.was_vacant c.insert_reserved-key.ensures.updates)
 

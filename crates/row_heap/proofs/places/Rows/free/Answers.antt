@@ -40,7 +40,8 @@ pub unreachable-requires : goal.unreachable-requires
 unreachable-requires c =
     let s = c.self.inside in
     let base = map (seen_at s.slab) s.places.items in
-    not-gone s.slab s.places.items base c.args.x c.index.result.now c.in-Gone.field-0 refl (up-under base c.args.self.now s.marks.items s.links.items c.args.x c.self.view_is c.requires) c.in-Gone.is c.index.ensures
+    not-gone s.slab s.places.items base c.args.x c.index.result.now c.in-Gone.field-0 refl
+    (up-under base c.args.self.now s.marks.items s.links.items c.args.x c.self.view_is c.requires) c.in-Gone.is c.index.ensures
 
 pub invariant_of-self : goal.invariant_of-self
 invariant_of-self c =
@@ -49,7 +50,8 @@ invariant_of-self c =
     let up = up-under base c.args.self.now s.marks.items s.links.items c.args.x c.self.view_is c.requires in
     let at = at-key s.slab s.places.items base c.args.x c.index.result.now c.in-At.key refl up c.in-At.is c.index.ensures in
     let row = row-of s.slab s.places.items base c.args.x c.index.result.now c.in-At.key c.remove-row.result refl up c.in-At.is c.index.ensures c.remove-row.ensures.value in
-    freed-are s.slab c.remove-row.new.self s.places.items c.args.self.now s.marks.items s.links.items c.args.x c.in-At.key c.kept.result c.self.view_is c.self.invariant (stands-within c.args.self.now c.args.x c.requires).0 at c.remove-row.ensures.updates
+    freed-are s.slab c.remove-row.new.self s.places.items c.args.self.now s.marks.items s.links.items c.args.x c.in-At.key c.kept.result c.self.view_is c.self.invariant
+    (stands-within c.args.self.now c.args.x c.requires).0 at c.remove-row.ensures.updates
     (c.kept.ensures ∙ sym (ap (λ r. r.fields) row))
 
 pub returns : goal.returns
@@ -59,5 +61,6 @@ returns c =
     let up = up-under base c.args.self.now s.marks.items s.links.items c.args.x c.self.view_is c.requires in
     let at = at-key s.slab s.places.items base c.args.x c.index.result.now c.in-At.key refl up c.in-At.is c.index.ensures in
     let row = row-of s.slab s.places.items base c.args.x c.index.result.now c.in-At.key c.remove-row.result refl up c.in-At.is c.index.ensures c.remove-row.ensures.value in
-    freed-rows s.slab c.remove-row.new.self s.places.items c.args.self.now s.marks.items s.links.items c.args.x c.in-At.key c.kept.result c.self.view_is c.self.invariant (stands-within c.args.self.now c.args.x c.requires).0 at c.remove-row.ensures.updates
+    freed-rows s.slab c.remove-row.new.self s.places.items c.args.self.now s.marks.items s.links.items c.args.x c.in-At.key c.kept.result c.self.view_is c.self.invariant
+    (stands-within c.args.self.now c.args.x c.requires).0 at c.remove-row.ensures.updates
     (c.kept.ensures ∙ sym (ap (λ r. r.fields) row))

@@ -11,4 +11,5 @@ index-requires c =
 pub returns : goal.returns
 returns c =
     let s = c.self.inside in
-    c.index.ensures ∙ sym (mark-under s.slab s.places.items c.args.self.now s.marks.items s.links.items c.args.x c.index.result.now c.self.view_is c.requires.0 c.requires.1 (c.self.invariant.marks_len))
+    c.index.ensures ∙ sym (mark-under s.slab s.places.items c.args.self.now s.marks.items s.links.items
+    c.args.x c.index.result.now c.self.view_is c.requires.0 c.requires.1 (c.self.invariant.marks_len))

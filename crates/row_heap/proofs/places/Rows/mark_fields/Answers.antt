@@ -27,28 +27,36 @@ pub unreachable-requires : goal.unreachable-requires
 unreachable-requires c =
     let s = c.self.inside in
     let base = map (seen_at s.slab) s.places.items in
-    not-gone s.slab s.places.items base c.args.x c.index.result.now c.in-Gone.field-0 refl (up-under base c.args.self.now s.marks.items s.links.items c.args.x c.self.view_is c.requires.stands) c.in-Gone.is c.index.ensures
+    not-gone s.slab s.places.items base c.args.x c.index.result.now c.in-Gone.field-0 refl
+    (up-under base c.args.self.now s.marks.items s.links.items c.args.x c.self.view_is c.requires.stands) c.in-Gone.is c.index.ensures
 
 pub visit-requires-clause-held : goal.visit-requires-clause-held
 visit-requires-clause-held c = λ y h.
     let s = c.self.inside in
-    let same = fields-under s.slab s.places.items c.args.self.now s.marks.items s.links.items c.args.x c.index.result.now c.in-At.key c.index-in-At.result.now c.self.view_is c.requires.stands c.in-At.is c.index.ensures c.index-in-At.ensures in
-    let held : (y : ℕ) → Contains c.index-in-At.result.now.fields (Some y) → (row_at c.args.self.now y).stands ≡ true = λ y h. c.requires.held y (subst (λ (l : List (Option ℕ)). Contains l (Some y)) (sym same) h) in
+    let same = fields-under s.slab s.places.items c.args.self.now s.marks.items s.links.items c.args.x c.index.result.now
+    c.in-At.key c.index-in-At.result.now c.self.view_is c.requires.stands c.in-At.is c.index.ensures c.index-in-At.ensures in
+    let held : (y : ℕ) → Contains c.index-in-At.result.now.fields (Some y)
+    → (row_at c.args.self.now y).stands ≡ true = λ y h. c.requires.held y (subst (λ (l : List (Option ℕ)). Contains l (Some y)) (sym same) h) in
     let w = stands-within c.args.self.now y (held y h) in
     (w.0, omega (arith, w.1, len-under s.slab s.places.items c.args.self.now s.marks.items s.links.items c.self.view_is, c.self.invariant.marks_len, ap length c.deref_mut.ensures.value))
 
 pub invariant_of-self : goal.invariant_of-self
 invariant_of-self c =
     let s = c.self.inside in
-    let same = fields-under s.slab s.places.items c.args.self.now s.marks.items s.links.items c.args.x c.index.result.now c.in-At.key c.index-in-At.result.now c.self.view_is c.requires.stands c.in-At.is c.index.ensures c.index-in-At.ensures in
-    let held : (y : ℕ) → Contains c.index-in-At.result.now.fields (Some y) → (row_at c.args.self.now y).stands ≡ true = λ y h. c.requires.held y (subst (λ (l : List (Option ℕ)). Contains l (Some y)) (sym same) h) in
+    let same = fields-under s.slab s.places.items c.args.self.now s.marks.items s.links.items c.args.x c.index.result.now
+    c.in-At.key c.index-in-At.result.now c.self.view_is c.requires.stands c.in-At.is c.index.ensures c.index-in-At.ensures in
+    let held : (y : ℕ) → Contains c.index-in-At.result.now.fields (Some y)
+    → (row_at c.args.self.now y).stands ≡ true = λ y h. c.requires.held y (subst (λ (l : List (Option ℕ)). Contains l (Some y)) (sym same) h) in
     let em : length c.visit.new.marks ≡ length s.marks.items = c.visit.ensures.len.0 ∙ ap length c.deref_mut.ensures.value in
     let el : length c.visit.new.links ≡ length s.links.items = c.visit.ensures.len.1 ∙ ap length c.deref_mut-in-At.ensures.value in
     let marks = with_items_is s.marks c.visit.new.marks (em ∙ sym s.marks.ok.0) in
     let links = with_items_is s.links c.visit.new.links (el ∙ sym s.links.ok.0) in
-    let fresh = subst (λ (ms : List Bool). (k : ℕ) → HasMark (false ∷ c.visit.new.marks) k → HasMark (false ∷ ms) k ⊎ Contains c.index-in-At.result.now.fields (Some k)) c.deref_mut.ensures.value c.visit.ensures.fresh in
-    subst (λ (ms : List Bool). AreRows s.slab s.places.items ms (with_items s.links c.visit.new.links).items) (sym marks) (subst (λ (ls : List ℕ). AreRows s.slab s.places.items c.visit.new.marks ls) (sym links)
-    (visited-are s.slab s.places.items c.args.self.now s.marks.items c.visit.new.marks s.links.items c.visit.new.links c.index-in-At.result.now.fields c.self.view_is c.self.invariant em el fresh held))
+    let fresh = subst (λ (ms : List Bool). (k : ℕ) → HasMark (false ∷ c.visit.new.marks) k → HasMark (false ∷ ms) k ⊎ Contains c.index-in-At.result.now.fields (Some k))
+    c.deref_mut.ensures.value c.visit.ensures.fresh in
+    subst (λ (ms : List Bool). AreRows s.slab s.places.items ms (with_items s.links c.visit.new.links).items)
+    (sym marks) (subst (λ (ls : List ℕ). AreRows s.slab s.places.items c.visit.new.marks ls) (sym links)
+    (visited-are s.slab s.places.items c.args.self.now s.marks.items c.visit.new.marks s.links.items
+    c.visit.new.links c.index-in-At.result.now.fields c.self.view_is c.self.invariant em el fresh held))
 
 pub returns-clause-kept : goal.returns-clause-kept
 returns-clause-kept c =
@@ -61,16 +69,22 @@ returns-clause-greyed c =
     let s = c.self.inside in
     let base = map (seen_at s.slab) s.places.items in
     let len : length base ≡ length s.places.items = length-map s.places.items (seen_at s.slab) in
-    let same = fields-under s.slab s.places.items c.args.self.now s.marks.items s.links.items c.args.x c.index.result.now c.in-At.key c.index-in-At.result.now c.self.view_is c.requires.stands c.in-At.is c.index.ensures c.index-in-At.ensures in
-    let held : (y : ℕ) → Contains c.index-in-At.result.now.fields (Some y) → (row_at c.args.self.now y).stands ≡ true = λ y h. c.requires.held y (subst (λ (l : List (Option ℕ)). Contains l (Some y)) (sym same) h) in
+    let same = fields-under s.slab s.places.items c.args.self.now s.marks.items s.links.items c.args.x c.index.result.now
+    c.in-At.key c.index-in-At.result.now c.self.view_is c.requires.stands c.in-At.is c.index.ensures c.index-in-At.ensures in
+    let held : (y : ℕ) → Contains c.index-in-At.result.now.fields (Some y)
+    → (row_at c.args.self.now y).stands ≡ true = λ y h. c.requires.held y (subst (λ (l : List (Option ℕ)). Contains l (Some y)) (sym same) h) in
     let em : length c.visit.new.marks ≡ length s.marks.items = c.visit.ensures.len.0 ∙ ap length c.deref_mut.ensures.value in
     let el : length c.visit.new.links ≡ length s.links.items = c.visit.ensures.len.1 ∙ ap length c.deref_mut-in-At.ensures.value in
     let marks = with_items_is s.marks c.visit.new.marks (em ∙ sym s.marks.ok.0) in
     let links = with_items_is s.links c.visit.new.links (el ∙ sym s.links.ok.0) in
-    let by_lists = subst (λ (ms : List Bool). Greyed (λ y. Contains c.index-in-At.result.now.fields (Some y)) (false ∷ ms) (0 ∷ c.deref_mut-in-At.result.now) c.args.grey.now (false ∷ c.visit.new.marks) (0 ∷ c.visit.new.links) c.visit.new.grey) c.deref_mut.ensures.value c.visit.ensures.greyed in
-    let by_items = subst (λ (ls : List ℕ). Greyed (λ y. Contains c.index-in-At.result.now.fields (Some y)) (false ∷ s.marks.items) (0 ∷ ls) c.args.grey.now (false ∷ c.visit.new.marks) (0 ∷ c.visit.new.links) c.visit.new.grey) c.deref_mut-in-At.ensures.value by_lists in
-    let row = subst (λ (fs : List (Option ℕ)). Greyed (λ y. Contains fs (Some y)) (false ∷ s.marks.items) (0 ∷ s.links.items) c.args.grey.now (false ∷ c.visit.new.marks) (0 ∷ c.visit.new.links) c.visit.new.grey) (sym same) by_items in
-    greyed-rows (λ y. Contains (row_at c.args.self.now c.args.x).fields (Some y)) base c.args.self.now s.marks.items c.visit.new.marks _ s.links.items c.visit.new.links _ c.args.grey.now c.visit.new.grey c.self.view_is marks links
+    let by_lists = subst (λ (ms : List Bool). Greyed (λ y. Contains c.index-in-At.result.now.fields (Some y)) (false ∷ ms) (0 ∷ c.deref_mut-in-At.result.now) c.args.grey.now
+    (false ∷ c.visit.new.marks) (0 ∷ c.visit.new.links) c.visit.new.grey) c.deref_mut.ensures.value c.visit.ensures.greyed in
+    let by_items = subst (λ (ls : List ℕ). Greyed (λ y. Contains c.index-in-At.result.now.fields (Some y)) (false ∷ s.marks.items)
+    (0 ∷ ls) c.args.grey.now (false ∷ c.visit.new.marks) (0 ∷ c.visit.new.links) c.visit.new.grey) c.deref_mut-in-At.ensures.value by_lists in
+    let row = subst (λ (fs : List (Option ℕ)). Greyed (λ y. Contains fs (Some y)) (false ∷ s.marks.items)
+    (0 ∷ s.links.items) c.args.grey.now (false ∷ c.visit.new.marks) (0 ∷ c.visit.new.links) c.visit.new.grey) (sym same) by_items in
+    greyed-rows (λ y. Contains (row_at c.args.self.now c.args.x).fields (Some y)) base c.args.self.now s.marks.items
+    c.visit.new.marks _ s.links.items c.visit.new.links _ c.args.grey.now c.visit.new.grey c.self.view_is marks links
     (c.self.invariant.marks_len ∙ sym len) (c.self.invariant.links_len ∙ sym len) (em ∙ (c.self.invariant.marks_len ∙ sym len)) (el ∙ (c.self.invariant.links_len ∙ sym len)) row
 
 pub returns-clause-raised : goal.returns-clause-raised
@@ -80,5 +94,6 @@ returns-clause-raised c =
     let len : length base ≡ length s.places.items = length-map s.places.items (seen_at s.slab) in
     let em : length c.visit.new.marks ≡ length s.marks.items = c.visit.ensures.len.0 ∙ ap length c.deref_mut.ensures.value in
     let marks = with_items_is s.marks c.visit.new.marks (em ∙ sym s.marks.ok.0) in
-    marks-rows (λ a b. (k : ℕ) → HasMark a k → HasMark b k) base c.args.self.now s.marks.items c.visit.new.marks _ s.links.items _ c.self.view_is marks (c.self.invariant.marks_len ∙ sym len) (em ∙ (c.self.invariant.marks_len ∙ sym len))
+    marks-rows (λ a b. (k : ℕ) → HasMark a k → HasMark b k) base c.args.self.now s.marks.items c.visit.new.marks _ s.links.items _ c.self.view_is marks
+    (c.self.invariant.marks_len ∙ sym len) (em ∙ (c.self.invariant.marks_len ∙ sym len))
     (subst (λ (ms : List Bool). (k : ℕ) → HasMark (false ∷ ms) k → HasMark (false ∷ c.visit.new.marks) k) c.deref_mut.ensures.value c.visit.ensures.raised)

@@ -22,11 +22,13 @@ pub unreachable-requires : goal.unreachable-requires
 unreachable-requires c =
     let s = c.self.inside in
     let base = map (seen_at s.slab) s.places.items in
-    not-gone s.slab s.places.items base c.args.x c.index.result.now c.in-Gone.field-0 refl (up-under base c.args.self.now s.marks.items s.links.items c.args.x c.self.view_is c.requires) c.in-Gone.is c.index.ensures
+    not-gone s.slab s.places.items base c.args.x c.index.result.now c.in-Gone.field-0 refl
+    (up-under base c.args.self.now s.marks.items s.links.items c.args.x c.self.view_is c.requires) c.in-Gone.is c.index.ensures
 
 pub returns : goal.returns
 returns c =
     let s = c.self.inside in
     let base = map (seen_at s.slab) s.places.items in
     let up = up-under base c.args.self.now s.marks.items s.links.items c.args.x c.self.view_is c.requires in
-    bare-under s.slab s.places.items c.args.self.now s.marks.items s.links.items c.args.x c.self.view_is ∙ row-of s.slab s.places.items base c.args.x c.index.result.now c.in-At.key _ refl up c.in-At.is c.index.ensures c.index-in-At.ensures
+    bare-under s.slab s.places.items c.args.self.now s.marks.items s.links.items c.args.x c.self.view_is
+    ∙ row-of s.slab s.places.items base c.args.x c.index.result.now c.in-At.key _ refl up c.in-At.is c.index.ensures c.index-in-At.ensures

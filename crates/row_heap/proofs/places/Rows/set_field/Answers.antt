@@ -15,7 +15,8 @@ pub index_mut-requires : goal.index_mut-requires
 index_mut-requires c =
     let s = c.self.inside in
     let up = up-under (map (seen_at s.slab) s.places.items) c.args.self.now s.marks.items s.links.items c.args.x c.self.view_is c.requires.stands in
-    key-there s.slab s.places.items (c.args.x - 1) c.in-At.key c.self.invariant.index (at-key s.slab s.places.items (map (seen_at s.slab) s.places.items) c.args.x c.index.result.now c.in-At.key refl up c.in-At.is c.index.ensures)
+    key-there s.slab s.places.items (c.args.x - 1) c.in-At.key c.self.invariant.index
+    (at-key s.slab s.places.items (map (seen_at s.slab) s.places.items) c.args.x c.index.result.now c.in-At.key refl up c.in-At.is c.index.ensures)
 
 pub set-requires : goal.set-requires
 set-requires c =
@@ -30,16 +31,21 @@ pub invariant_of-self : goal.invariant_of-self
 invariant_of-self c =
     let s = c.self.inside in
     let up = up-under (map (seen_at s.slab) s.places.items) c.args.self.now s.marks.items s.links.items c.args.x c.self.view_is c.requires.stands in
-    changed-are (λ (r : Seen). record r { fields = set r.fields c.args.i c.args.y }) (λ r m l. refl) (λ r. refl) s.slab s.places.items c.args.self.now s.marks.items s.links.items c.args.x c.index.result.now c.in-At.key _ _ c.self.view_is c.self.invariant up c.in-At.is c.index.ensures c.index_mut.ensures.value (ap (λ (fs : List (Option ℕ)). (let r : Seen = record { fields = fs; marked = false; link = 0; stands = true } in r)) c.set.ensures)
+    changed-are (λ (r : Seen). record r { fields = set r.fields c.args.i c.args.y }) (λ r m l. refl) (λ r. refl) s.slab s.places.items c.args.self.now
+    s.marks.items s.links.items c.args.x c.index.result.now c.in-At.key _ _ c.self.view_is c.self.invariant up c.in-At.is c.index.ensures c.index_mut.ensures.value
+    (ap (λ (fs : List (Option ℕ)). (let r : Seen = record { fields = fs; marked = false; link = 0; stands = true } in r)) c.set.ensures)
 
 pub unreachable-requires : goal.unreachable-requires
 unreachable-requires c =
     let s = c.self.inside in
     let base = map (seen_at s.slab) s.places.items in
-    not-gone s.slab s.places.items base c.args.x c.index.result.now c.in-Gone.field-0 refl (up-under base c.args.self.now s.marks.items s.links.items c.args.x c.self.view_is c.requires.stands) c.in-Gone.is c.index.ensures
+    not-gone s.slab s.places.items base c.args.x c.index.result.now c.in-Gone.field-0 refl
+    (up-under base c.args.self.now s.marks.items s.links.items c.args.x c.self.view_is c.requires.stands) c.in-Gone.is c.index.ensures
 
 pub returns : goal.returns
 returns c =
     let s = c.self.inside in
     let up = up-under (map (seen_at s.slab) s.places.items) c.args.self.now s.marks.items s.links.items c.args.x c.self.view_is c.requires.stands in
-    changed-rows (λ (r : Seen). record r { fields = set r.fields c.args.i c.args.y }) (λ r m l. refl) s.slab s.places.items c.args.self.now s.marks.items s.links.items c.args.x c.index.result.now c.in-At.key _ _ c.self.view_is c.self.invariant.index up c.in-At.is c.index.ensures c.index_mut.ensures.value (ap (λ (fs : List (Option ℕ)). (let r : Seen = record { fields = fs; marked = false; link = 0; stands = true } in r)) c.set.ensures)
+    changed-rows (λ (r : Seen). record r { fields = set r.fields c.args.i c.args.y }) (λ r m l. refl) s.slab s.places.items c.args.self.now s.marks.items
+    s.links.items c.args.x c.index.result.now c.in-At.key _ _ c.self.view_is c.self.invariant.index up c.in-At.is c.index.ensures c.index_mut.ensures.value
+    (ap (λ (fs : List (Option ℕ)). (let r : Seen = record { fields = fs; marked = false; link = 0; stands = true } in r)) c.set.ensures)

@@ -17,12 +17,18 @@ returns-in-At c =
     let s = c.self.inside in
     let le : c.args.x ≤ length s.places.items = omega (arith, c.requires.1, len-under s.slab s.places.items c.args.self.now s.marks.items s.links.items c.self.view_is) in
     let up = key-up s.slab s.places.items c.args.x c.index.result.now c.in-At.field-0 c.self.invariant.index c.requires.0 le c.in-At.is c.index.ensures in
-    sym (sym (ap (λ (l : List Seen). (row_at l c.args.x).stands) c.self.view_is) ∙ (row_at-under (λ r. r.stands) (λ r m l. refl) (map (seen_at s.slab) s.places.items) s.marks.items s.links.items c.args.x ∙ up))
+    sym (sym (ap (λ (l : List Seen). (row_at l c.args.x).stands) c.self.view_is)
+    ∙ (row_at-under (λ r. r.stands) (λ r m l. refl) (map (seen_at s.slab) s.places.items) s.marks.items s.links.items c.args.x ∙ up))
 
 pub returns-in-Gone : goal.returns-in-Gone
 returns-in-Gone c =
     let s = c.self.inside in
     let base = map (seen_at s.slab) s.places.items in
-    let le : c.args.x ≤ length base = omega (arith, c.requires.1, len-under s.slab s.places.items c.args.self.now s.marks.items s.links.items c.self.view_is, length-map s.places.items (seen_at s.slab)) in
+    let le : c.args.x ≤ length base = omega (
+      arith,
+      c.requires.1,
+      len-under s.slab s.places.items c.args.self.now s.marks.items s.links.items c.self.view_is,
+      length-map s.places.items (seen_at s.slab),
+    ) in
     let row = read-row s.slab s.places.items base c.args.x c.index.result.now (Gone c.in-Gone.field-0) refl c.requires.0 le c.in-Gone.is c.index.ensures in
     sym (sym (ap (λ (l : List Seen). (row_at l c.args.x).stands) c.self.view_is) ∙ (row_at-under (λ r. r.stands) (λ r m l. refl) base s.marks.items s.links.items c.args.x ∙ ap (λ r. r.stands) row))

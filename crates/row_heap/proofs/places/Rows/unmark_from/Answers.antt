@@ -23,7 +23,8 @@ pub invariant_of-self : goal.invariant_of-self
 invariant_of-self c =
     let s = c.self.inside in
     let down : c.lower.new.marks.items ≡ replicate (length s.marks.items) false = c.lower.ensures in
-    AreRows-as s.slab s.places.items c.lower.new.marks.items s.links.items (map unmarked_row c.args.self.now) c.self.invariant.index (ap length down ∙ (length-replicate (length s.marks.items) false ∙ c.self.invariant.marks_len)) c.self.invariant.links_len
+    AreRows-as s.slab s.places.items c.lower.new.marks.items s.links.items (map unmarked_row c.args.self.now) c.self.invariant.index
+    (ap length down ∙ (length-replicate (length s.marks.items) false ∙ c.self.invariant.marks_len)) c.self.invariant.links_len
     (unmarked-rows s.slab s.places.items c.args.self.now s.marks.items c.lower.new.marks.items s.links.items c.self.view_is down) (stand-down c.args.self.now)
 
 pub returns : goal.returns

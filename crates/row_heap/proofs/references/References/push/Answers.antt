@@ -22,7 +22,8 @@ pub overflow_sub-self : goal.overflow_sub-self
 overflow_sub-self c = omega (arith, c.requires.room, ap (λ (v : Linked). v.room) c.self.view_is)
 
 pub set_first-requires : goal.set_first-requires
-set_first-requires c = (let one : 1 ≤ c.self.inside.ready = omega (arith, c.requires.room, ap (λ (v : Linked). v.room) c.self.view_is) in end-place _ _ _ _ c.requires.from (sym (ap (λ (v : Linked). v.temps) c.self.view_is)) (c.self.invariant.reach one))
+set_first-requires c = (let one : 1 ≤ c.self.inside.ready = omega (arith, c.requires.room, ap (λ (v : Linked). v.room) c.self.view_is) in
+    end-place _ _ _ _ c.requires.from (sym (ap (λ (v : Linked). v.temps) c.self.view_is)) (c.self.invariant.reach one))
 
 pub invariant_of-self : goal.invariant_of-self
 invariant_of-self c =
@@ -30,8 +31,11 @@ invariant_of-self c =
     let a = c.self.invariant in
     let one : 1 ≤ c.self.inside.ready = omega (arith, c.requires.room, ap (λ (v : Linked). v.room) c.self.view_is) in
     let temps = sym (ap (λ (v : Linked). v.temps) c.self.view_is) in
-    AreLinked-pushed _ _ _ _ _ _ _ _ _ _ _ r a one (end-place _ _ _ _ c.requires.from temps (a.reach one)) (subst (λ n. IsEnd n (end_of c.args.to)) temps c.requires.to) (last-from _ _ _ _ _ _ _ _ c.self.view_is c.first-next.ensures) (rw c.pack-packed.ensures at c.push_reserved.ensures.items)
-    c.set_first.ensures.len (c.set_first.ensures.here ∙ omega (arith, c.len-first.ensures, c.push_reserved.ensures.len, c.self.inside.list.ok)) c.set_first.ensures.others c.push_reserved.ensures.capacity
+    AreLinked-pushed _ _ _ _ _ _ _ _ _ _ _ r a one (end-place _ _ _ _ c.requires.from temps (a.reach one)) (subst (λ n. IsEnd n (end_of c.args.to)) temps c.requires.to)
+    (last-from _ _ _ _ _ _ _ _ c.self.view_is c.first-next.ensures) (rw c.pack-packed.ensures at c.push_reserved.ensures.items)
+    c.set_first.ensures.len (c.set_first.ensures.here ∙ omega (arith, c.len-first.ensures, c.push_reserved.ensures.len, c.self.inside.list.ok))
+    c.set_first.ensures.others c.push_reserved.ensures.capacity
 
 pub returns : goal.returns
-returns c = (let r : Reference = record { from = c.args.from; to = c.args.to; next = c.first-next.result } in seen-pushed _ _ _ _ _ _ _ r _ c.self.view_is (rw c.pack-packed.ensures at c.push_reserved.ensures.items) c.set_first.ensures.len.1)
+returns c = (let r : Reference = record { from = c.args.from; to = c.args.to; next = c.first-next.result } in
+    seen-pushed _ _ _ _ _ _ _ r _ c.self.view_is (rw c.pack-packed.ensures at c.push_reserved.ensures.items) c.set_first.ensures.len.1)

@@ -13,7 +13,8 @@ pub invariant_of-self-in_err-make_temporaries : goal.invariant_of-self-in_err-ma
 invariant_of-self-in_err-make_temporaries c =
     let a = c.self.invariant in
     let same : length c.make_temporaries.new.temporaries.items ≡ length c.self.inside.temporaries.items = ap length c.in_err-make_temporaries.ensures.err.0 in
-    AreLinked-roomy _ _ _ _ _ _ _ _ _ _ _ _ _ _ a c.reserve.ensures.items c.reach.ensures.firsts c.reach.ensures.longer c.make_temporaries.ensures.firsts (omega (arith, same)) c.make_temporaries.ensures.flags c.make_temporaries.ensures.chains
+    AreLinked-roomy _ _ _ _ _ _ _ _ _ _ _ _ _ _ a c.reserve.ensures.items c.reach.ensures.firsts c.reach.ensures.longer c.make_temporaries.ensures.firsts
+    (omega (arith, same)) c.make_temporaries.ensures.flags c.make_temporaries.ensures.chains
     (omega (arith, a.few, same)) (λ w. omega (arith, a.reach w, c.reach.ensures.longer)) (omega (arith, ap length c.reserve.ensures.items, a.space, c.reserve.ensures.capacity)) a.most
 
 pub invariant_of-self-2 : goal.invariant_of-self-2
@@ -21,5 +22,7 @@ invariant_of-self-2 c =
     let a = c.self.invariant in
     let list = c.self.inside.list in
     let count : length c.make_temporaries.new.temporaries.items ≡ max (length c.self.inside.temporaries.items) c.args.temps = c.in_ok-make_temporaries.ensures.count in
-    AreLinked-roomy _ _ _ _ _ _ _ _ _ _ _ _ _ _ a c.reserve.ensures.items c.reach.ensures.firsts c.reach.ensures.longer c.make_temporaries.ensures.firsts (omega (arith, count)) c.make_temporaries.ensures.flags c.make_temporaries.ensures.chains
-    (c.make_temporaries.ensures.few a.few) (λ w. c.in_ok-reach.ensures.reach) (omega (arith, c.in_ok-reserve.ensures.ok, c.reserve.ensures.len, list.ok)) (omega (arith, c.if-additional-len.false, c.len-len.ensures, list.ok, a.most))
+    AreLinked-roomy _ _ _ _ _ _ _ _ _ _ _ _ _ _ a c.reserve.ensures.items c.reach.ensures.firsts c.reach.ensures.longer c.make_temporaries.ensures.firsts
+    (omega (arith, count)) c.make_temporaries.ensures.flags c.make_temporaries.ensures.chains
+    (c.make_temporaries.ensures.few a.few) (λ w. c.in_ok-reach.ensures.reach) (omega (arith, c.in_ok-reserve.ensures.ok, c.reserve.ensures.len, list.ok))
+    (omega (arith, c.if-additional-len.false, c.len-len.ensures, list.ok, a.most))

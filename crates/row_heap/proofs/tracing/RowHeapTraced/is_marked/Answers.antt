@@ -9,4 +9,5 @@ is_marked-requires g c = stands-within c.self.inside.rows c.args.x (stands-seen 
 
 pub returns : goal.returns
 returns g c =
-    mark-at _ _ _ _ c.self.inside.references _ c.args.self.now c.args.x c.self.view_is (stands-seen _ _ _ _ c.self.inside.references _ _ c.args.self.now c.args.x c.self.view_is c.self.invariant.0.sound c.requires) ∙ ap (λ b. Some b) (sym c.is_marked.ensures)
+    mark-at _ _ _ _ c.self.inside.references _ c.args.self.now c.args.x c.self.view_is
+    (stands-seen _ _ _ _ c.self.inside.references _ _ c.args.self.now c.args.x c.self.view_is c.self.invariant.0.sound c.requires) ∙ ap (λ b. Some b) (sym c.is_marked.ensures)

@@ -26,7 +26,8 @@ mark_led-requires-clause-ends g c = λ y r.
     row_at-bare (λ (r : Seen). r.stands) (λ r. refl) s.rows c.mark_fields.new.self c.mark_fields.ensures.kept y ∙ c.self.invariant.0.references.ends c.if-self.true c.args.x y r up
 
 pub mark_led-requires-clause-sights : goal.mark_led-requires-clause-sights
-mark_led-requires-clause-sights g c = sights-raised c.self.inside.rows c.mark_fields.new.self c.self.inside.references c.mark_fields.ensures.kept c.mark_fields.ensures.raised (c.self.invariant.0.references.sights c.if-self.true)
+mark_led-requires-clause-sights g c = sights-raised c.self.inside.rows c.mark_fields.new.self c.self.inside.references
+    c.mark_fields.ensures.kept c.mark_fields.ensures.raised (c.self.invariant.0.references.sights c.if-self.true)
 
 pub invariant_of-self : goal.invariant_of-self
 invariant_of-self g c = (
@@ -38,7 +39,8 @@ invariant_of-self g c = (
 pub invariant_of-self-else-self : goal.invariant_of-self-else-self
 invariant_of-self-else-self g c =
     let s = c.self.inside in (
-      IsRowHeap-bare _ _ _ _ _ _ _ _ _ c.self.invariant.0 c.mark_fields.ensures.kept refl (λ f. sights-raised s.rows c.mark_fields.new.self s.references c.mark_fields.ensures.kept c.mark_fields.ensures.raised (c.self.invariant.0.references.sights f)),
+      IsRowHeap-bare _ _ _ _ _ _ _ _ _ c.self.invariant.0 c.mark_fields.ensures.kept refl
+          (λ f. sights-raised s.rows c.mark_fields.new.self s.references c.mark_fields.ensures.kept c.mark_fields.ensures.raised (c.self.invariant.0.references.sights f)),
       c.self.invariant.1,
       count-kept _ _ _ (map-bare width (λ r. refl) _ _ c.mark_fields.ensures.kept) c.self.invariant.2,
     )
@@ -54,7 +56,8 @@ returns-then-self-clause-greyed g c =
     let follows : v.follows ≡ true = sym (ap (λ (w : HeapRows). w.follows) c.self.view_is) ∙ c.if-self.true in
     Greyed-then (λ y. Contains (fields_of v.heap x) (Some y)) (λ y. (v.follows ≡ true) × Refers v.refs x y) (LeadsTo v x) _ _ _ _ _ _ _ _ _ (λ y w. w) (λ y w. inl w) (λ y w. inr w)
     (greyed-seen _ _ _ _ _ c.self.inside.references _ x _ _ v c.self.view_is c.mark_fields.ensures.greyed)
-    (Greyed-as (Refers c.self.inside.references.refs x) (λ y. (v.follows ≡ true) × Refers v.refs x y) _ _ _ _ _ _ (λ y w. subst (λ l. Refers l x y) (sym refs) w.1) (λ y w. (follows, subst (λ l. Refers l x y) refs w)) c.mark_led.ensures.greyed)
+    (Greyed-as (Refers c.self.inside.references.refs x) (λ y. (v.follows ≡ true) × Refers v.refs x y) _ _ _ _ _ _
+    (λ y w. subst (λ l. Refers l x y) (sym refs) w.1) (λ y w. (follows, subst (λ l. Refers l x y) refs w)) c.mark_led.ensures.greyed)
 
 pub returns-else-self-clause-kept : goal.returns-else-self-clause-kept
 returns-else-self-clause-kept g c = kept-bare _ _ _ _ _ c.self.inside.references c.self.inside.references _ _ c.self.view_is c.mark_fields.ensures.kept refl

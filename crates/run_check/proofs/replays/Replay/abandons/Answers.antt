@@ -24,4 +24,5 @@ returns c =
     let after : Replay = record old { managed = c.abandon.new.self; draw = c.abandon.new.draw; cycle = None } in
     subst (λ z. AnswersRightly h z old after c.is_same.result) (sym shape) (answers_rightly h (abandoning k m.index m.reply) old after c.is_same.result refl tt (λ past w.
     let adds = c.abandon.ensures.abandons (abandon_open h past old k m.index m.reply w c.in-Some.open c.in-Some.is).cycle (abandon_side h past old k m.index m.reply w c.in-Some.open c.in-Some.is) in
-    abandon_judges h past old k m.index m.reply w c.in-Some.open c.in-Some.is c.if-open-cycle.false c.abandon.new.draw c.abandon.new.self adds c.is_same.result c.is_same.ensures.0 c.is_same.ensures.1))
+    abandon_judges h past old k m.index m.reply w c.in-Some.open c.in-Some.is c.if-open-cycle.false
+    c.abandon.new.draw c.abandon.new.self adds c.is_same.result c.is_same.ensures.0 c.is_same.ensures.1))

@@ -20,4 +20,5 @@ returns c =
     let new : Replay = record old { draw = c.clear.new.draw; peers = c.clear.new.side; cycle = c.begins_again.new.self.cycle } in
     let begun = subst (λ x. HasBegun x c.begins_again.new.self.cycle) c.in-Some.is c.begins_again.ensures.cycle in
     subst (λ z. AnswersRightly h m old z c.is_same.result) (sym c.begins_again.ensures.rest)
-    (clear-answers h m old c.args.cycle c.requires.op c.in-Some.open c.in-Some.is c.if-open-cycle.false new begun.0 c.is_same.result c.clear.ensures.adds record { managed = refl; readers = refl; turns = refl } begun.1 begun.2 begun.3 c.clear.ensures.reserve c.is_same.ensures)
+    (clear-answers h m old c.args.cycle c.requires.op c.in-Some.open c.in-Some.is c.if-open-cycle.false new begun.0 c.is_same.result c.clear.ensures.adds
+    record { managed = refl; readers = refl; turns = refl } begun.1 begun.2 begun.3 c.clear.ensures.reserve c.is_same.ensures)

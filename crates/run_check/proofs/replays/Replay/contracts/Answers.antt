@@ -20,7 +20,14 @@ contracted-requires-clause-contracted c =
     let l : Listing = c.in-Ok.comps in
     let shape : m ≡ contracting c.args.cycle m.index m.reply = driver_made (state_of past) m (op.Contract c.args.cycle) None c.requires.op (λ d. d) (λ x. x) may.next.turn may.next.cites in
     let w : HasContracted c.in-Some.open l c.len-sccs.result c.xrefs-xrefs.result =
-    record { heavy = c.in-Ok.ensures.0; many = c.in-Ok.ensures.1; contraction = c.in-Ok.ensures.2; listed = c.len-sccs.ensures.listing; components = c.len-sccs.ensures.count; references = c.xrefs-xrefs.ensures } in
+    record {
+      heavy = c.in-Ok.ensures.0;
+      many = c.in-Ok.ensures.1;
+      contraction = c.in-Ok.ensures.2;
+      listed = c.len-sccs.ensures.listing;
+      components = c.len-sccs.ensures.count;
+      references = c.xrefs-xrefs.ensures;
+    } in
     contract_may h past old c.args.cycle m.index m.reply (subst (λ z. MayReply h past old z) shape may) c.in-Some.open c.in-Some.is l c.len-sccs.result c.xrefs-xrefs.result w
 
 pub returns : goal.returns
@@ -31,11 +38,21 @@ returns c =
     let may = c.requires.ready.1 in
     let l : Listing = c.in-Ok.comps in
     let b = c.is_same.result in
-    let shape : m ≡ contracting c.args.cycle m.index m.reply = driver_made (state_of c.requires.ready.0) m (op.Contract c.args.cycle) None c.requires.op (λ d. d) (λ x. x) may.next.turn may.next.cites in
+    let shape : m ≡ contracting c.args.cycle m.index m.reply = driver_made (state_of c.requires.ready.0) m
+    (op.Contract c.args.cycle) None c.requires.op (λ d. d) (λ x. x) may.next.turn may.next.cites in
     let w : HasContracted c.in-Some.open l c.len-sccs.result c.xrefs-xrefs.result =
-    record { heavy = c.in-Ok.ensures.0; many = c.in-Ok.ensures.1; contraction = c.in-Ok.ensures.2; listed = c.len-sccs.ensures.listing; components = c.len-sccs.ensures.count; references = c.xrefs-xrefs.ensures } in
+    record {
+      heavy = c.in-Ok.ensures.0;
+      many = c.in-Ok.ensures.1;
+      contraction = c.in-Ok.ensures.2;
+      listed = c.len-sccs.ensures.listing;
+      components = c.len-sccs.ensures.count;
+      references = c.xrefs-xrefs.ensures;
+    } in
     let o : Kept = c.in-Some.open in
     let after : Replay = record old { managed = c.contracted.new.self; draw = c.contracted.new.draw; cycle = Some (record o { comps = Some l }) } in
     let same : c.keep_listing.new.self ≡ after = c.keep_listing.ensures o c.in-Some.is in
-    subst (λ n. AnswersRightly h m old n b) (sym same) (subst (λ z. AnswersRightly h z old after b) (sym shape) (answers_rightly h (contracting c.args.cycle m.index m.reply) old after b refl tt (λ past v.
-    contract_judges h past old c.args.cycle m.index m.reply v o c.in-Some.is l c.len-sccs.result c.xrefs-xrefs.result w c.if-open-cycle.false c.contracted.new.draw c.contracted.new.self c.contracted.ensures.contracts b c.is_same.ensures.0 c.is_same.ensures.1)))
+    subst (λ n. AnswersRightly h m old n b) (sym same) (subst (λ z. AnswersRightly h z old after b)
+    (sym shape) (answers_rightly h (contracting c.args.cycle m.index m.reply) old after b refl tt (λ past v.
+    contract_judges h past old c.args.cycle m.index m.reply v o c.in-Some.is l c.len-sccs.result c.xrefs-xrefs.result w c.if-open-cycle.false
+    c.contracted.new.draw c.contracted.new.self c.contracted.ensures.contracts b c.is_same.ensures.0 c.is_same.ensures.1)))

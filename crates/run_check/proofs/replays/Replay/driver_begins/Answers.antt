@@ -13,5 +13,6 @@ returns c =
     let old = c.args.self.now in
     let new : Replay = record old { draw = c.mark_begin.new.draw; peers = c.mark_begin.new.self; cycle = c.begins_again.new.self.cycle } in
     subst (λ z. AnswersRightly h m old z c.is_same.result) (sym c.begins_again.ensures.rest)
-    (begin-answers h m old c.requires.op c.requires.driver new c.in-Ok.marking c.is_same.result c.in-Ok.ensures.begun record { managed = refl; readers = refl; turns = refl } c.begins_again.ensures.cycle
+    (begin-answers h m old c.requires.op c.requires.driver new c.in-Ok.marking c.is_same.result c.in-Ok.ensures.begun
+    record { managed = refl; readers = refl; turns = refl } c.begins_again.ensures.cycle
     (ap (λ (r : Reserve). r.waiting) c.in-Ok.ensures.reserve ∙ begun-waits (is_own m.caller old.peers.reserve.marking) old.peers.reserve) c.is_same.ensures)

@@ -4,7 +4,10 @@ use Rattle.run_check.proofs.Wholes.{follows-done, nothing-follows, owed-none}
 use Rattle.run_check.proofs.replays.Replay.is_whole.Goals as goal
 
 pub returns-in-Some : goal.returns-in-Some
-returns-in-Some c = λ past a f. ((λ t. absurd (true≢false (sym t))), λ n. absurd (none_some _ (sym (owed-none past c.args.self.now.readers.owed f.callers.owed n.snapped) ∙ (sym c.owed.ensures ∙ c.in-Some.is))))
+returns-in-Some c = λ past a f. (
+  (λ t. absurd (true≢false (sym t))),
+  λ n. absurd (none_some _ (sym (owed-none past c.args.self.now.readers.owed f.callers.owed n.snapped) ∙ (sym c.owed.ensures ∙ c.in-Some.is))),
+)
 
 pub returns-in-None : goal.returns-in-None
 returns-in-None c = λ past a f.

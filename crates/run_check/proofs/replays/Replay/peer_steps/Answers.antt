@@ -11,4 +11,5 @@ pub returns : goal.returns
 returns c =
     let old = c.args.self.now in
     let new : Replay = record old { draw = c.event.new.draw; peers = c.event.new.self } in
-    peer-step-answers c.args.h.now c.args.made.now old new c.in_ok-reply.reply c.is_same.result c.requires.peer c.requires.step c.in_ok-reply.ensures.adds record { managed = refl; readers = refl; turns = refl } refl c.event.ensures.reserve c.is_same.ensures
+    peer-step-answers c.args.h.now c.args.made.now old new c.in_ok-reply.reply c.is_same.result c.requires.peer c.requires.step c.in_ok-reply.ensures.adds
+    record { managed = refl; readers = refl; turns = refl } refl c.event.ensures.reserve c.is_same.ensures

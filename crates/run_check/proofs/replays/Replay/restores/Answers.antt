@@ -25,6 +25,7 @@ returns c =
     let new : Replay = record old { draw = c.restore_one-back.new.draw; peers = c.restore_one-back.new.side; cycle = c.answers.new.self.cycle } in
     subst (λ z. AnswersRightly h m old z c.is_same.result) (sym c.answers.ensures.rest)
     (restore-answers h m old c.args.handle c.requires.op new c.given-given.result c.is_same.result
-    (subst (λ b. AddsLawful peer_rules recorder old.draw c.restore_one-back.new.draw (seen old.peers) (seen c.restore_one-back.new.side) (restores m.index c.args.handle b) nothing) (sym c.given-given.ensures) c.restore_one-back.ensures.adds)
+    (subst (λ b. AddsLawful peer_rules recorder old.draw c.restore_one-back.new.draw (seen old.peers) (seen c.restore_one-back.new.side) (restores m.index c.args.handle b) nothing)
+    (sym c.given-given.ensures) c.restore_one-back.ensures.adds)
     record { managed = refl; readers = refl; turns = refl } c.answers.ensures.cycle c.restore_one-back.ensures.reserve
     (subst (λ r. IsTrue c.is_same.result ↔ (m.reply ≡ r)) c.restored.ensures c.is_same.ensures))

@@ -28,7 +28,8 @@ returns c =
     let may = c.requires.ready.1 in
     let line = thread_line (state_of c.requires.ready.0) m (act.Weak k c.args.v) c.requires.op (λ x. x) (λ x. x) may.next.turn may.next.cites in
     let adds : AddsLawful managed_rules drawing old.draw draw (as_side old.managed) (as_side managed) (weakly line.thread m.index k c.args.v r) nothing =
-    subst (λ t. AddsLawful managed_rules drawing old.draw draw (as_side old.managed) (as_side managed) (step_made t m.index (weak_op k c.args.v) r None) nothing) (ap (λ (z : Made). z.caller) line.same) c.in_ok-reply.ensures.adds in
+    subst (λ t. AddsLawful managed_rules drawing old.draw draw (as_side old.managed) (as_side managed) (step_made t m.index (weak_op k c.args.v) r None) nothing)
+    (ap (λ (z : Made). z.caller) line.same) c.in_ok-reply.ensures.adds in
     let after : Replay = record old { managed = managed; draw = draw; readers = record old.readers { targets = targets_after old.readers.targets k.0 r draw.target } } in
     let same : c.keep_target.new.self ≡ after =
     c.keep_target.ensures ∙ (λ i. record old { managed = managed; draw = draw; readers = record old.readers { targets = targets_after old.readers.targets k.0 r (c.target-target.ensures i) } }) in

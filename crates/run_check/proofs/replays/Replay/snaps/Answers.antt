@@ -49,7 +49,8 @@ returns-then-is_same c =
     (subst (λ z. AnswersRightly h z old after b) (sym shape) (answers_rightly h (snapping c.args.cycle m.index m.reply) old after b refl tt (λ past v.
     let first : t.gate.counter ≡ length past = ap (λ (r : Recorder). r.counter) (t.closes.1 ∙ c.give.ensures) ∙ v.sides.drawn in
     snap_answers h past old c.args.cycle m.index m.reply v (c.is_next.ensures.0 c.if-not-is_next.false) draw managed (pins_given t.pins) w.freed w.candidates w.dead w.adds.threads w.adds.draws.below
-    (counted past t.gate draw (as_side old.managed) (as_side managed) _ _ first w.adds) given w.adds.goes c.in-Ok.opened.graph w.graph o opened c.in-Ok.opened.candidates w.counted c.in-Ok.opened.freed w.span b
+    (counted past t.gate draw (as_side old.managed) (as_side managed) _ _ first w.adds) given w.adds.goes
+    c.in-Ok.opened.graph w.graph o opened c.in-Ok.opened.candidates w.counted c.in-Ok.opened.freed w.span b
     (λ q. (c.is_same.ensures.0 c.if-is_same.true, c.frees_as_named.ensures.0 q)) (λ q s. c.frees_as_named.ensures.1 s))))
 
 pub returns-else-is_same : goal.returns-else-is_same
@@ -74,5 +75,6 @@ returns-else-is_same c =
     (subst (λ z. AnswersRightly h z old after b) (sym shape) (answers_rightly h (snapping c.args.cycle m.index m.reply) old after b refl tt (λ past v.
     let first : t.gate.counter ≡ length past = ap (λ (r : Recorder). r.counter) (t.closes.1 ∙ c.give.ensures) ∙ v.sides.drawn in
     snap_answers h past old c.args.cycle m.index m.reply v (c.is_next.ensures.0 c.if-not-is_next.false) draw managed (pins_given t.pins) w.freed w.candidates w.dead w.adds.threads w.adds.draws.below
-    (counted past t.gate draw (as_side old.managed) (as_side managed) _ _ first w.adds) given w.adds.goes c.in-Ok.opened.graph w.graph o opened c.in-Ok.opened.candidates w.counted c.in-Ok.opened.freed w.span b
+    (counted past t.gate draw (as_side old.managed) (as_side managed) _ _ first w.adds) given w.adds.goes
+    c.in-Ok.opened.graph w.graph o opened c.in-Ok.opened.candidates w.counted c.in-Ok.opened.freed w.span b
     (λ q. absurd (true≢false (sym q ∙ c.if-is_same.false))) (λ q s. c.is_same.ensures.1 q))))

@@ -21,11 +21,13 @@ returns-then-not-is_same c =
 
 pub taken_as_named-requires-clause-within : goal.taken_as_named-requires-clause-within
 taken_as_named-requires-clause-within c =
-    took_within c.args.h.now c.requires.ready.0 c.args.made.now c.args.self.now c.requires.ready.1 c.requires.managed c.requires.own c.requires.step c.step.new.draw c.step.new.self c.in_ok-reply.reply c.in_ok-reply.ensures.adds c.in-Took.span c.in-Took.is
+    took_within c.args.h.now c.requires.ready.0 c.args.made.now c.args.self.now c.requires.ready.1 c.requires.managed c.requires.own
+    c.requires.step c.step.new.draw c.step.new.self c.in_ok-reply.reply c.in_ok-reply.ensures.adds c.in-Took.span c.in-Took.is
 
 pub taken_as_named-requires-clause-few : goal.taken_as_named-requires-clause-few
 taken_as_named-requires-clause-few c =
-    notices_few c.args.h.now c.requires.ready.0 c.args.made.now c.args.self.now c.requires.ready.1 c.requires.managed c.requires.own c.requires.step c.step.new.draw c.step.new.self c.in_ok-reply.reply c.in_ok-reply.ensures.adds
+    notices_few c.args.h.now c.requires.ready.0 c.args.made.now c.args.self.now c.requires.ready.1 c.requires.managed
+    c.requires.own c.requires.step c.step.new.draw c.step.new.self c.in_ok-reply.reply c.in_ok-reply.ensures.adds
 
 pub returns-in-Took : goal.returns-in-Took
 returns-in-Took c =
@@ -35,7 +37,11 @@ returns-in-Took c =
     let after : Replay = record c.args.self.now { managed = managed; draw = c.step.new.draw } in
     answers_rightly h m c.args.self.now after c.taken_as_named.result c.requires.own (stepped-no_refusal m.op c.requires.step) (λ past w.
     step_judges h past m c.args.self.now w c.requires.managed c.requires.own c.requires.step c.step.new.draw managed c.in_ok-reply.reply c.in_ok-reply.ensures.adds c.taken_as_named.result
-    (λ q. (c.is_same.ensures.0 c.if-not-is_same.false, λ sp t. subst (λ z. IsStretch (managed_numbers h.notices) z (stretch managed.state.managed.notices z)) (took_one c.in_ok-reply.reply c.in-Took.span sp c.in-Took.is t) (c.taken_as_named.ensures.0 q)))
+    (λ q. (
+      c.is_same.ensures.0 c.if-not-is_same.false,
+      λ sp t. subst (λ z. IsStretch (managed_numbers h.notices) z (stretch managed.state.managed.notices z))
+          (took_one c.in_ok-reply.reply c.in-Took.span sp c.in-Took.is t) (c.taken_as_named.ensures.0 q),
+    ))
     (λ q n. c.taken_as_named.ensures.1 (n c.in-Took.span c.in-Took.is)))
 
 pub returns-in_default : goal.returns-in_default

@@ -47,7 +47,8 @@ returns c =
     let caller = ap (λ (z : Made). z.caller) line.same in
     let has : slice_get old.readers.pins line.thread ≡ Some pin = subst (λ t. slice_get old.readers.pins (thread_number t) ≡ Some pin) caller c.pin-pin.ensures in
     let adds : AddsLawful managed_rules drawing old.draw draw (as_side old.managed) (as_side managed) (takingly line.thread m.index c.args.v r) (kept_pins (pin_given line.thread pin) nothing) =
-    subst (λ t. AddsLawful managed_rules drawing old.draw draw (as_side old.managed) (as_side managed) (step_made t m.index (take_op c.args.v) r None) (kept_pins (pin_given (thread_number t) pin) nothing)) caller c.in_ok-reply.ensures.adds in
+    subst (λ t. AddsLawful managed_rules drawing old.draw draw (as_side old.managed) (as_side managed)
+    (step_made t m.index (take_op c.args.v) r None) (kept_pins (pin_given (thread_number t) pin) nothing)) caller c.in_ok-reply.ensures.adds in
     let after : Replay = record old { managed = managed; draw = draw; readers = record old.readers { pins = slice_set old.readers.pins line.thread None } } in
     let same : c.set_pin.new.self ≡ after.readers = c.set_pin.ensures ∙ ap (λ t. record old.readers { pins = slice_set old.readers.pins (thread_number t) None }) caller in
     subst (λ x. AnswersRightly h m old (record old { managed = managed; draw = draw; readers = x }) b) (sym same) (subst (λ z. AnswersRightly h z old after b) (sym line.same)

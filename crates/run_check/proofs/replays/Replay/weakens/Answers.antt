@@ -15,4 +15,5 @@ returns c =
     let old = c.args.self.now in
     let new : Replay = record old { draw = c.weaken_one.new.draw; peers = c.weaken_one.new.side; cycle = c.goes_on.new.self.cycle } in
     subst (λ z. AnswersRightly h m old z c.is_same.result) (sym c.goes_on.ensures.rest)
-    (weaken-answers h m old c.args.handle c.requires.op new c.in-Some.cites c.is_same.result c.in-Some.is c.weaken_one.ensures.adds record { managed = refl; readers = refl; turns = refl } c.goes_on.ensures.cycle c.weaken_one.ensures.reserve c.is_same.ensures)
+    (weaken-answers h m old c.args.handle c.requires.op new c.in-Some.cites c.is_same.result c.in-Some.is c.weaken_one.ensures.adds
+    record { managed = refl; readers = refl; turns = refl } c.goes_on.ensures.cycle c.weaken_one.ensures.reserve c.is_same.ensures)

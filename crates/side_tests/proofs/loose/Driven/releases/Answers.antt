@@ -27,5 +27,6 @@ invariant_of-self-2 c =
     let gone = gone_since i.side.state c.step.new.self.state in
     let ms = step_makings (M 1) 1 (op.Release record { 0 = 1 }) None c.in_ok-reply.reply gone in (
       counted-in-turn peer_rules ms (seen i.side) (seen c.step.new.self) i.draw c.step.new.draw adds c.self.invariant.0,
-      stays-held i.side.state c.step.new.self.state 1 (still-in-turn i.draw c.step.new.draw (seen i.side) (seen c.step.new.self) ms adds (release-still (M 1) 1 (record { 0 = 1 }) None c.in_ok-reply.reply gone)) c.self.invariant.1,
+      stays-held i.side.state c.step.new.self.state 1 (still-in-turn i.draw c.step.new.draw (seen i.side)
+          (seen c.step.new.self) ms adds (release-still (M 1) 1 (record { 0 = 1 }) None c.in_ok-reply.reply gone)) c.self.invariant.1,
     )

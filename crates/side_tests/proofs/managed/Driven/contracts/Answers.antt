@@ -8,4 +8,5 @@ use Rattle.side_tests.proofs.managed.Driven.contracts.Goals as goal
 pub invariant_of-self : goal.invariant_of-self
 invariant_of-self c =
     let may = subst (λ z. MayContractWith z 0 0) (sym c.self.view_is) c.requires in
-    contracted-on c.self.inside.gate.count c.contracted.new.draw c.self.inside.waiting c.self.inside.answered (as_side c.self.inside.side) (as_side c.contracted.new.self) 3 may c.contracted.ensures.contracts c.self.invariant
+    contracted-on c.self.inside.gate.count c.contracted.new.draw c.self.inside.waiting c.self.inside.answered
+    (as_side c.self.inside.side) (as_side c.contracted.new.self) 3 may c.contracted.ensures.contracts c.self.invariant

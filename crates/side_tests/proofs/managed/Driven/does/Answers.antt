@@ -17,10 +17,12 @@ step-requires-clause-fresh c =
     fresh-next i.side.state c.args.op (length i.side.entries + i.answered) (subst (λ n. NamesNext c.args.op n) c.in-Some.ensures (c.if-not-names_next.ensures refl)) c.self.invariant.adopts
 
 pub step-requires-clause-may : goal.step-requires-clause-may
-step-requires-clause-may c = counted-may managed_rules (as_side c.self.inside.side) c.self.inside.gate.count c.args.caller c.args.op (managed-taken c.args.caller c.args.op (c.if-not-is_step.ensures refl)) c.self.invariant.counted
+step-requires-clause-may c = counted-may managed_rules (as_side c.self.inside.side) c.self.inside.gate.count c.args.caller c.args.op
+    (managed-taken c.args.caller c.args.op (c.if-not-is_step.ensures refl)) c.self.invariant.counted
 
 pub invariant_of-self : goal.invariant_of-self
-invariant_of-self c = driven-same (as_side c.self.inside.side) (as_side c.step.new.self) c.self.inside.gate.count c.step.new.draw c.self.inside.waiting c.self.inside.answered (ap as_side c.in_err-reply.ensures.err.0, c.in_err-reply.ensures.err.1) c.self.invariant
+invariant_of-self c = driven-same (as_side c.self.inside.side) (as_side c.step.new.self) c.self.inside.gate.count c.step.new.draw c.self.inside.waiting c.self.inside.answered
+    (ap as_side c.in_err-reply.ensures.err.0, c.in_err-reply.ensures.err.1) c.self.invariant
 
 pub invariant_of-self-2 : goal.invariant_of-self-2
 invariant_of-self-2 c =

@@ -15,4 +15,5 @@ pub invariant_of-self : goal.invariant_of-self
 invariant_of-self c =
     let i = c.self.inside in
     let from = subst (λ n. AreFrom n c.in_ok-answers.answers.values) c.in-Some-next_handle.ensures c.in_ok-answers.ensures.from in
-    resolved-on i.gate.count c.resolve-out.new.draw i.waiting i.answered (i.answered + i.waiting) (as_side i.side) (as_side c.resolve-out.new.self) 4 0 c.in_ok-answers.answers.values c.resolve-out.result from c.in_ok-answers.ensures.count refl c.resolve-out.ensures.resolves c.self.invariant
+    resolved-on i.gate.count c.resolve-out.new.draw i.waiting i.answered (i.answered + i.waiting) (as_side i.side)
+    (as_side c.resolve-out.new.self) 4 0 c.in_ok-answers.answers.values c.resolve-out.result from c.in_ok-answers.ensures.count refl c.resolve-out.ensures.resolves c.self.invariant

@@ -16,7 +16,8 @@ invariant_of-self c =
       | in-Ok w ↦ circle-stays i.side c.mark_begin.new.self i.draw c.mark_begin.new.draw i.mirrored i.standing i.kept i.weak i.back
           (still-once i.draw c.mark_begin.new.draw (seen i.side) (seen c.mark_begin.new.self) _ nothing w.in-Ok.ensures.begun tt)
           (counted-once peer_rules (seen i.side) (seen c.mark_begin.new.self) i.draw c.mark_begin.new.draw _ nothing w.in-Ok.ensures.begun c.self.invariant.counted)
-          (ap (λ (z : Reserve). z.waiting) w.in-Ok.ensures.reserve ∙ begun-waiting _ i.side.reserve) (ap (λ (z : Reserve). z.left) w.in-Ok.ensures.reserve ∙ begun-left _ i.side.reserve) c.self.invariant
+          (ap (λ (z : Reserve). z.waiting) w.in-Ok.ensures.reserve ∙ begun-waiting _ i.side.reserve)
+          (ap (λ (z : Reserve). z.left) w.in-Ok.ensures.reserve ∙ begun-left _ i.side.reserve) c.self.invariant
       | in-Err-MarkOpen w ↦ circle-same i.side c.mark_begin.new.self i.draw c.mark_begin.new.draw i.mirrored i.standing i.kept i.weak i.back w.in-Err-MarkOpen.ensures.err c.self.invariant
       | in-Err-OutOfMemory w ↦ circle-same i.side c.mark_begin.new.self i.draw c.mark_begin.new.draw i.mirrored i.standing i.kept i.weak i.back w.in-Err-OutOfMemory.ensures.err c.self.invariant
     ]

@@ -15,7 +15,8 @@ clear-requires-clause-targets c =
     let i = c.self.inside in
     let is = c.if-self-ne2.false in
     let at = circle-at i.side i.draw i.mirrored i.standing i.kept i.weak i.back i.weak 2 c.if-not-self.false refl (omega (arith, is)) c.self.invariant in
-    targets-are i.side i.draw i.mirrored i.weak (subst (λ z. IsCircle i.side i.draw i.mirrored true z i.weak 2) c.if-not-self-2.false at) (c.if-not-is_strong.ensures refl) (c.if-not-is_strong-2.ensures refl)
+    targets-are i.side i.draw i.mirrored i.weak (subst (λ z. IsCircle i.side i.draw i.mirrored true z i.weak 2) c.if-not-self-2.false at)
+    (c.if-not-is_strong.ensures refl) (c.if-not-is_strong-2.ensures refl)
 
 pub invariant_of-self : goal.invariant_of-self
 invariant_of-self c =

@@ -15,7 +15,8 @@ pub step-requires-clause-allowed : goal.step-requires-clause-allowed
 step-requires-clause-allowed c = still-may c.self.inside.side.state c.args.caller c.args.op (c.if-not-is_still.ensures refl)
 
 pub step-requires-clause-may : goal.step-requires-clause-may
-step-requires-clause-may c = counted-may-step (seen c.self.inside.side) c.self.inside.draw c.args.caller c.args.op (step-taken c.args.caller c.args.op (still-step c.args.caller c.args.op (c.if-not-is_still.ensures refl))) c.self.invariant.counted
+step-requires-clause-may c = counted-may-step (seen c.self.inside.side) c.self.inside.draw c.args.caller c.args.op
+    (step-taken c.args.caller c.args.op (still-step c.args.caller c.args.op (c.if-not-is_still.ensures refl))) c.self.invariant.counted
 
 pub invariant_of-self : goal.invariant_of-self
 invariant_of-self c =

@@ -13,5 +13,6 @@ install-requires-clause-strong_ones c = are-strong c.self.inside.side.state c.in
 pub invariant_of-self-2 : goal.invariant_of-self-2
 invariant_of-self-2 c =
     let i = c.self.inside in
-    circle-stands i.side c.install.new.side i.draw c.install.new.draw i.standing i.kept i.weak i.back 2 c.in_ok-refs.refs c.in_ok-graph.graph.nodes c.in_ok-comps.comps.comps c.in_ok-comps.comps.pairs c.in_ok-graph.ensures c.in_ok-comps.ensures.comps c.in_ok-comps.ensures.pairs
+    circle-stands i.side c.install.new.side i.draw c.install.new.draw i.standing i.kept i.weak i.back 2 c.in_ok-refs.refs c.in_ok-graph.graph.nodes
+    c.in_ok-comps.comps.comps c.in_ok-comps.comps.pairs c.in_ok-graph.ensures c.in_ok-comps.ensures.comps c.in_ok-comps.ensures.pairs
     c.in_ok-refs.ensures.adds c.in_ok-refs.ensures.reserve (subst (λ z. IsCircle i.side i.draw z i.standing i.kept i.weak i.back) c.if-self.false c.self.invariant)

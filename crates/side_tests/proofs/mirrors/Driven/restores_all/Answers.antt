@@ -31,6 +31,10 @@ invariant_of-self c =
     let w = c.if-self-ne2.false in
     let b = c.if-self-ne0.false in
     let is = c.if-not-self.false in
-    circle-stood c.restore_all.new.side c.restore_all.new.draw i.mirrored i.standing c.keeps_both-self-inside.result i.weak 2 is (subst (λ z. IsCircle c.restore_all.new.side c.restore_all.new.draw i.mirrored true c.keeps_both-self-inside.result z 2) (omega (arith, w))
-    (circle-restored_all i.side c.restore_all.new.side i.draw c.restore_all.new.draw i.mirrored i.kept c.keeps_both-self-inside.result 4 c.in_ok-graph.graph.nodes _ _ c.in_ok-graph.ensures c.in_ok-alive.ensures.values (c.keeps_both-self-inside.ensures ∙ (ap (λ o. i.kept && (is_given o && is_given c.at-second.result)) c.at-first.ensures ∙ ap (λ o. i.kept && (is_given (slice_get c.restore_all.new.alive.values 0) && is_given o)) c.at-second.ensures)) c.restore_all.ensures.restores c.restore_all.ensures.reserve
+    circle-stood c.restore_all.new.side c.restore_all.new.draw i.mirrored i.standing c.keeps_both-self-inside.result i.weak 2 is
+    (subst (λ z. IsCircle c.restore_all.new.side c.restore_all.new.draw i.mirrored true c.keeps_both-self-inside.result z 2) (omega (arith, w))
+    (circle-restored_all i.side c.restore_all.new.side i.draw c.restore_all.new.draw i.mirrored i.kept c.keeps_both-self-inside.result 4 c.in_ok-graph.graph.nodes _ _
+    c.in_ok-graph.ensures c.in_ok-alive.ensures.values (c.keeps_both-self-inside.ensures
+    ∙ (ap (λ o. i.kept && (is_given o && is_given c.at-second.result)) c.at-first.ensures
+    ∙ ap (λ o. i.kept && (is_given (slice_get c.restore_all.new.alive.values 0) && is_given o)) c.at-second.ensures)) c.restore_all.ensures.restores c.restore_all.ensures.reserve
     (circle-at i.side i.draw i.mirrored i.standing i.kept i.weak i.back 2 0 is (omega (arith, w)) (omega (arith, b)) c.self.invariant)))

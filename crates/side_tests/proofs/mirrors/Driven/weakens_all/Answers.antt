@@ -29,5 +29,6 @@ invariant_of-self c =
     let i = c.self.inside in
     let is = c.if-self-ne0.false in
     circle-stood c.weaken_all.new.side c.weaken_all.new.draw i.mirrored i.standing i.kept 2 i.back c.if-not-self.false
-    (circle-weakened_all i.side c.weaken_all.new.side i.draw c.weaken_all.new.draw i.mirrored i.kept i.back 3 c.in_ok-graph.graph.nodes c.in_ok-graph.ensures c.weaken_all.ensures.adds c.weaken_all.ensures.reserve
+    (circle-weakened_all i.side c.weaken_all.new.side i.draw c.weaken_all.new.draw i.mirrored i.kept i.back
+    3 c.in_ok-graph.graph.nodes c.in_ok-graph.ensures c.weaken_all.ensures.adds c.weaken_all.ensures.reserve
     (circle-at i.side i.draw i.mirrored i.standing i.kept i.weak i.back 0 i.back c.if-not-self.false (omega (arith, is)) refl c.self.invariant))

@@ -9,10 +9,12 @@ first-requires c = rw (← c.self.view_is) (omega (arith, length-packed c.self.i
 
 pub returns-then-c-len : goal.returns-then-c-len
 returns-then-c-len c =
-    let l : c.args.c < length c.args.self.now.comps = rw (← c.self.view_is) (omega (arith, length-packed c.self.inside.starts.items c.self.inside.members.items (length c.self.inside.starts.items), c.if-c-len.true, c.len.ensures)) in
+    let l : c.args.c < length c.args.self.now.comps = rw (← c.self.view_is)
+    (omega (arith, length-packed c.self.inside.starts.items c.self.inside.members.items (length c.self.inside.starts.items), c.if-c-len.true, c.len.ensures)) in
     ap Node c.first.ensures ∙ end-node c.args.self.now.comps c.args.c l
 
 pub returns : goal.returns
 returns c =
-    let l : length c.args.self.now.comps ≤ c.args.c = rw (← c.self.view_is) (omega (arith, length-packed c.self.inside.starts.items c.self.inside.members.items (length c.self.inside.starts.items), c.if-c-len.false, c.len.ensures)) in
+    let l : length c.args.self.now.comps ≤ c.args.c = rw (← c.self.view_is)
+    (omega (arith, length-packed c.self.inside.starts.items c.self.inside.members.items (length c.self.inside.starts.items), c.if-c-len.false, c.len.ensures)) in
     end-temp c.args.self.now.comps c.args.c l

@@ -6,4 +6,5 @@ pub returns-clause-count : goal.returns-clause-count
 returns-clause-count c = rw (← c.self.view_is) (omega (arith, length-packed c.self.inside.starts.items c.self.inside.members.items (length c.self.inside.starts.items)))
 
 pub overflow_add-result : goal.overflow_add-result
-overflow_add-result c = (let few = c.self.invariant.listing.few in omega (arith, few, length-packed c.self.inside.starts.items c.self.inside.members.items (length c.self.inside.starts.items), c.len.ensures))
+overflow_add-result c = (let few = c.self.invariant.listing.few in
+    omega (arith, few, length-packed c.self.inside.starts.items c.self.inside.members.items (length c.self.inside.starts.items), c.len.ensures))

@@ -29,7 +29,8 @@ end-requires c =
     let s = c.self.inside in
     let comps = packed_rows s.starts.items s.members.items (length s.starts.items) in
     let r = rw (← c.self.view_is) at c.requires in
-    let within : c.args.i - c.len-2.result < length s.pairs.items = omega (arith, r, mirror-count comps s.pairs.items s.circles.items c.self.invariant.flat.circle, c.len.ensures, c.len-2.ensures, c.if-at-len.false, s.circles.ok) in
+    let within : c.args.i - c.len-2.result < length s.pairs.items = omega
+    (arith, r, mirror-count comps s.pairs.items s.circles.items c.self.invariant.flat.circle, c.len.ensures, c.len-2.ensures, c.if-at-len.false, s.circles.ok) in
     rw (← c.self.view_is) (between-at (length comps + s.heavy) s.pairs.items _ c.index-2.result.now c.self.invariant.listing.ends within c.index-2.ensures).source
 
 pub end-requires-2 : goal.end-requires-2
@@ -37,7 +38,8 @@ end-requires-2 c =
     let s = c.self.inside in
     let comps = packed_rows s.starts.items s.members.items (length s.starts.items) in
     let r = rw (← c.self.view_is) at c.requires in
-    let within : c.args.i - c.len-2.result < length s.pairs.items = omega (arith, r, mirror-count comps s.pairs.items s.circles.items c.self.invariant.flat.circle, c.len.ensures, c.len-2.ensures, c.if-at-len.false, s.circles.ok) in
+    let within : c.args.i - c.len-2.result < length s.pairs.items = omega
+    (arith, r, mirror-count comps s.pairs.items s.circles.items c.self.invariant.flat.circle, c.len.ensures, c.len-2.ensures, c.if-at-len.false, s.circles.ok) in
     rw (← c.self.view_is) (between-at (length comps + s.heavy) s.pairs.items _ c.index-2.result.now c.self.invariant.listing.ends within c.index-2.ensures).destination
 
 pub returns : goal.returns
@@ -48,4 +50,5 @@ returns c =
     let n : c.len-2.result ≡ length s.circles.items = omega (arith, c.len-2.ensures, s.circles.ok) in
     let past : length s.circles.items ≤ c.args.i = omega (arith, n, c.len.ensures, c.len-2.ensures, c.if-at-len.false) in
     let within : c.args.i - length s.circles.items < length s.pairs.items = omega (arith, r, past, mirror-count comps s.pairs.items s.circles.items c.self.invariant.flat.circle) in
-    rw (c.end.ensures, c.end-2.ensures, ← c.self.view_is) (mirror-pair comps s.pairs.items s.circles.items c.args.i c.index-2.result.now c.self.invariant.flat.circle past within (rw n at c.index-2.ensures))
+    rw (c.end.ensures, c.end-2.ensures, ← c.self.view_is) (mirror-pair comps s.pairs.items s.circles.items c.args.i c.index-2.result.now c.self.invariant.flat.circle past within
+    (rw n at c.index-2.ensures))

@@ -11,7 +11,8 @@ invariant_of-result c =
     let ends = All-permutation (IsBetween (length c.self.inside.starts.items + c.self.inside.heavy)) _ _ m i.ends in
     record {
       flat = i.flat;
-      listing = listing_of _ _ _ i.components c.in_ok-pairs.ensures.rising (rw (length-packed c.self.inside.starts.items c.self.inside.members.items (length c.self.inside.starts.items)) ends) (rw (length-packed c.self.inside.starts.items c.self.inside.members.items (length c.self.inside.starts.items)) i.room);
+      listing = listing_of _ _ _ i.components c.in_ok-pairs.ensures.rising (rw (length-packed c.self.inside.starts.items c.self.inside.members.items (length c.self.inside.starts.items)) ends)
+          (rw (length-packed c.self.inside.starts.items c.self.inside.members.items (length c.self.inside.starts.items)) i.room);
       count = omega (arith, i.count, length_permutation _ _ m);
     }
 
@@ -20,4 +21,5 @@ returns-clause-listing c =
     let i = c.self.invariant in
     let m = c.in_ok-pairs.ensures.same in
     let ends = All-permutation (IsBetween (length c.self.inside.starts.items + c.self.inside.heavy)) _ _ m i.ends in
-    listing_of _ _ _ i.components c.in_ok-pairs.ensures.rising (rw (length-packed c.self.inside.starts.items c.self.inside.members.items (length c.self.inside.starts.items)) ends) (rw (length-packed c.self.inside.starts.items c.self.inside.members.items (length c.self.inside.starts.items)) i.room)
+    listing_of _ _ _ i.components c.in_ok-pairs.ensures.rising (rw (length-packed c.self.inside.starts.items c.self.inside.members.items (length c.self.inside.starts.items)) ends)
+    (rw (length-packed c.self.inside.starts.items c.self.inside.members.items (length c.self.inside.starts.items)) i.room)
