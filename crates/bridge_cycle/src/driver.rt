@@ -98,7 +98,7 @@ impl<N: OrderName> Driver<N> {
         ensures pass { result ≡ pass_of self }
         ensures idle { HasIdleDriver result }
     {
-        self.caller.facts();
+        self.caller.recall_facts();
         self.caller
     }
 
@@ -109,7 +109,7 @@ impl<N: OrderName> Driver<N> {
         ensures hears { Hears from.old (pass_of self.old) (pass_of self.new) }
         ensures same { self.new ≡ record self.old { view = self.new.view } }
     {
-        self.caller.facts();
+        self.caller.recall_facts();
         shared.tell(from, &mut self.caller);
     }
 

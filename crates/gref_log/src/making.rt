@@ -172,10 +172,10 @@ impl Making {
     }
 
     // There are no more handles than numbers of 32 bits.
-    fn numbers_fit(&self)
+    fn recall_numbers_fit(&self)
         ensures { length self.now.tracked.given ≤ 4294967295 }
     {
-        self.tracker.numbers_fit();
+        self.tracker.recall_numbers_fit();
     }
 
     // Counts a handle that comes or goes.
@@ -282,7 +282,7 @@ fn write_entries<K: Sink>(
         count += lines.len();
         sent = lines.write_after(sent, last, line, out);
     }
-    making.numbers_fit();
+    making.recall_numbers_fit();
     (count, sent)
 }
 
@@ -339,7 +339,7 @@ fn list_entries(making: &mut Making, h: &History, list: &mut Vec<LogLine>) -> Re
     while let Some(step) = walk.next() {
         making.take_step(step).put_last(list)?;
     }
-    making.numbers_fit();
+    making.recall_numbers_fit();
     Ok(())
 }
 

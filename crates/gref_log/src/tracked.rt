@@ -93,7 +93,7 @@ impl Tracker {
     }
 
     /// There are no more handles than numbers of 32 bits.
-    pub fn numbers_fit(&self)
+    pub fn recall_numbers_fit(&self)
         ensures { length self.now.tracked.given ≤ 4294967295 }
     {
         let _ = &self.given;

@@ -19,7 +19,7 @@ impl<N: OrderName> LockedManaged<N> {
     /// managed line and whose end has the side's state. Each adopt, meet and resolve of the list cites a peer entry
     /// that the seat knows, and each resolve freed of its candidates exactly those whose restore answered cleared, and
     /// gave each other one the handle that its restore gave.
-    pub fn facts(&self)
+    pub fn recall_facts(&self)
         ensures knows { ManagedKnows self.now.view self.now.side }
         ensures threads { self.now.side.threads ≡ N.managed }
         ensures cites { ManagedListCites self.now.view self.now.side.entries }
@@ -37,7 +37,7 @@ impl<N: OrderName> LockedPeer<N> {
     /// a snap. A held handle left the table by a release or a restore, and is weak only while it waits in the mirrored
     /// cycle. Nothing leads to a freed peer, and no mirrored reference from a peer restored alive to one whose restore
     /// answered cleared.
-    pub fn facts(&self)
+    pub fn recall_facts(&self)
         ensures knows { PeerKnows self.now.view (seen self.now.side) }
         ensures threads { self.now.side.threads ≡ N.peers }
         ensures reserves { PeerReserves self.now.view self.now.side }
@@ -54,7 +54,7 @@ impl<N: OrderName> LockedPeer<N> {
 impl<N: OrderName> Caller<N> {
     /// A caller's thread is one of the run's, for which both sides are. Its seat knows a lawful past, at whose end the
     /// thread has nothing to release. Only a managed thread has reads of its own.
-    pub fn facts(&self)
+    pub fn recall_facts(&self)
         ensures thread { IsOfRun N.managed N.peers self.now.thread }
         ensures knows { CallerKnows self.now.thread self.now.view }
         ensures reads { self.now.reads ≡ reads_of self.now.thread self.now.reads }

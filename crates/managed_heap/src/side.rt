@@ -102,7 +102,7 @@ impl ManagedSide {
     /// What holds of every side, for the proofs of callers: its state is the replay of its entries, what every state of
     /// the managed side keeps holds of it, and each entry is the driver's or that of a thread for which the side is. It
     /// does nothing.
-    pub fn replays(&self)
+    pub fn recall_replays(&self)
         ensures replayed { IsReplayed managed_rules self.now.entries self.now.state }
         ensures kept { IsReplayKept self.now.state }
         ensures taken { AreTaken managed_rules self.now.threads self.now.entries }
@@ -284,7 +284,7 @@ impl ManagedSide {
         ensures pin { slot self.now.state.managed.pins (thread_number _t) ≡ number_or_none result }
         ensures none { result ≡ None }
     {
-        self.rows.unpinned();
+        self.rows.recall_unpinned();
         None
     }
 

@@ -33,7 +33,7 @@ impl ManagedRows {
             { managed = with_row self.old.managed v kind fields handle }) }
         ensures err { OnErr result (self.new ≡ self.old) }
     {
-        self.heap.marks_len();
+        self.heap.recall_marks_len();
         let held = Held {
             kind,
             handle,
@@ -110,7 +110,7 @@ impl ManagedRows {
         }) }
         ensures err { OnErr result (self.new ≡ self.old) }
     {
-        self.heap.marks_len();
+        self.heap.recall_marks_len();
         let next = self.heap.made() + 1;
         self.registry.add(p, MNum(next))?;
         let held = Held {

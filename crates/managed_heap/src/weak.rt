@@ -57,7 +57,7 @@ impl ManagedRows {
     }
 
     /// The rows have no pins, for the proofs of callers. It does nothing.
-    pub(crate) fn unpinned(&self)
+    pub(crate) fn recall_unpinned(&self)
         ensures { self.now.managed.pins ≡ no_pins }
     {
         let _ = &self.heap;

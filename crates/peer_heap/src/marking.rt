@@ -27,7 +27,8 @@ impl PeerRows {
         ensures grey { AreRootsGrey (IsRoot self.old.rows.heap (strong_peers self.old.issued self.old.table))
             self.new.rows.marks self.new.rows.links result }
         ensures rest { self.new ≡ record self.old
-            { rows = record self.old.rows { follows = true; marks = self.new.rows.marks; links = self.new.rows.links } } }
+            { rows = record self.old.rows { follows = true; marks = self.new.rows.marks; links = self.new.rows.links } }
+                }
     {
         self.table.settle();
         mark_roots(&mut self.heap, &self.table)
@@ -47,8 +48,8 @@ impl PeerRows {
         ensures rest { self.new ≡ record self.old
             { rows = record self.old.rows { marks = self.new.rows.marks; links = self.new.rows.links } } }
     {
-        self.heap.marks_len();
-        self.heap.tidy();
+        self.heap.recall_marks_len();
+        self.heap.recall_tidy();
         self.heap.mark_some(grey, most)
     }
 }

@@ -92,7 +92,7 @@ impl PeerRows {
         requires last { length self.old.issued < 4294967295 }
         ensures { RestoresHandle is_open self.old grey.old h.0 result self.new grey.new }
     {
-        self.issued_rows();
+        self.recall_issued_rows();
         match self.target(h) {
             None => self.renew(h),
             Some(p) => {
@@ -103,7 +103,7 @@ impl PeerRows {
     }
 
     // A handle of the table was issued on a peer, for the proofs of callers. It does nothing.
-    fn issued_rows(&self)
+    fn recall_issued_rows(&self)
         ensures { (h : ℕ) (row : TableRow) → row_at self.now h ≡ Some row
             → (p : ℕ) × (peer_of self.now.issued h ≡ Some p) }
     {

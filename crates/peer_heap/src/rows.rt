@@ -252,7 +252,7 @@ impl PeerRows {
             (record { peer = p; hold = hold; strength = strength })) }
         ensures err { OnErr result (self.new ≡ self.old) }
     {
-        self.heap.tidy();
+        self.heap.recall_tidy();
         match self.table.make(p, hold, strength) {
             Ok(h) => {
                 self.issued.push(Issue {
@@ -274,7 +274,7 @@ impl PeerRows {
         ensures tabled { self.new.tabled ≡ self.old.tabled }
         ensures err { OnErr result (self.new ≡ self.old) }
     {
-        self.heap.marks_len();
+        self.heap.recall_marks_len();
         if self.heap.is_full() {
             return Ok(Reply::Full);
         }
@@ -336,12 +336,13 @@ impl PeerRows {
     // first.
     fn make_pair(&mut self, sort: Sort, fields: u8) -> Result<Reply, AllocError>
         requires { length self.old.issued < 4294967295 }
-        ensures answers { IfOk result (λ r. PeersAnswer self.old (pair_made (peers_in self.old) sort fields) r self.new) }
+        ensures answers { IfOk result (λ r. PeersAnswer self.old (pair_made (peers_in self.old) sort fields) r self.new)
+            }
         ensures marks { IfOk result (λ r. MarksNew self.old.rows r self.new.rows) }
         ensures tabled { self.new.tabled ≤ self.old.tabled + 1 }
         ensures err { OnErr result (self.new ≡ self.old) }
     {
-        self.heap.marks_len();
+        self.heap.recall_marks_len();
         if self.pairs_full() {
             return Ok(Reply::Full);
         }

@@ -125,7 +125,7 @@ impl PeerSide {
 
     /// What holds of every side, for the proofs of callers: it is the replay of its entries, in a state as lawful lists
     /// lead to, and no entry is that of a peer thread for which the side isn't. It does nothing.
-    pub fn replays(&self)
+    pub fn recall_replays(&self)
         ensures replayed { IsReplayed peer_rules self.now.entries self.now.state }
         ensures taken { AreTaken peer_rules self.now.threads self.now.entries }
         ensures kept { IsPeerKept self.now.state }
@@ -238,7 +238,8 @@ impl PeerSide {
         requires allowed { PeerAllows self.old.state caller op.now cites nothing }
         requires may { MayDraw peer_rules D.rules draw.old (seen self.old) caller op.now }
         ensures adds { IfOk result (λ r. AddsLawful peer_rules D.rules draw.old draw.new (seen self.old)
-            (seen self.new) (record { caller = caller; index = index; op = op.now; reply = r; cites = cites }) nothing) }
+            (seen self.new) (record { caller = caller; index = index; op = op.now; reply = r; cites = cites }) nothing)
+                }
         ensures release { IsRelease op.now → IsOk result }
         ensures err { OnErr result ((self.new ≡ self.old) × (draw.new ≡ draw.old)) }
         ensures reserve { self.new.reserve ≡ self.old.reserve }
@@ -532,7 +533,7 @@ impl PeerSide {
 
     /// What holds of an open marking, for the proofs of callers: its marks and grey peers are those of a marking that
     /// goes on. It does nothing.
-    pub fn goes(&self)
+    pub fn recall_goes(&self)
         ensures { (mk : MarkingState) → self.now.state.marking ≡ Some mk
             → AreMarksGoing self.now.state mk self.now.colours.follows self.now.colours.marks self.now.colours.greys }
     {

@@ -56,7 +56,7 @@ pub fn install<D: Draw>(
     ensures reserve { OnOk result (side.new.reserve ≡ reserve_installed (length (handles_of graph.now.nodes))) }
     ensures err { OnErr result ((side.new ≡ side.old) × (draw.new ≡ draw.old)) }
 {
-    side.replays();
+    side.recall_replays();
     let _ = comps.len();
     let handles = bridge_nodes(graph);
     side.reserve_refs(comps.refs(), comps.heavy(), handles)?;
@@ -143,7 +143,7 @@ fn peer_at(side: &PeerSide, graph: &DeadGraph, i: u32) -> PNum
     ensures peer { result.0 ≡ peer_of_node side.now.state.peers.issued graph.now.nodes i }
     ensures live { IsLive side.now.state.peers.heap result.0 }
 {
-    side.replays();
+    side.recall_replays();
     let Some(h) = graph.handle(i) else {
         unreachable!();
     };

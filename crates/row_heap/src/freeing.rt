@@ -25,9 +25,9 @@ impl<N: Number> RowHeap<N> {
         ensures rest { self.new ≡ record self.old
             { heap = self.new.heap; marks = self.new.marks; links = self.new.links } }
     {
-        self.rows.marked_stand();
+        self.rows.recall_marked_stand();
         free_rows(xs, &mut self.rows, &mut self.freed);
-        self.rows.marked_stand();
+        self.rows.recall_marked_stand();
     }
 }
 

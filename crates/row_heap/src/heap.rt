@@ -67,7 +67,7 @@ impl<N: Number> RowHeap<N> {
     }
 
     /// What holds of every heap, for the proofs of callers. It does nothing.
-    pub fn tidy(&self)
+    pub fn recall_tidy(&self)
         ensures { IsTidy self.now.heap }
     {
         let _ = &self.rows;

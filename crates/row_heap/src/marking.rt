@@ -24,15 +24,15 @@ use row_marking::{finish, mark_from, scan_some, visit};
 
 impl<N: Number> RowHeap<N> {
     /// A marked object is live, for the proofs of callers. It does nothing.
-    pub fn marked_live(&self)
+    pub fn recall_marked_live(&self)
         ensures { (x : ℕ) → HasMark self.now.marks x → IsLive self.now.heap x }
     {
-        self.rows.marked_stand();
+        self.rows.recall_marked_stand();
     }
 
     /// There is a place for the mark of each object, and one for the number 0, which is no object's, for the proofs of
     /// callers. It does nothing.
-    pub fn marks_len(&self)
+    pub fn recall_marks_len(&self)
         ensures { length self.now.marks ≡ length self.now.heap.fields + 1 }
     {
         let _ = &self.rows;
@@ -59,7 +59,7 @@ impl<N: Number> RowHeap<N> {
         ensures rest { self.new ≡ record self.old { follows = follows; marks = self.new.marks } }
     {
         self.move_on();
-        self.rows.marked_stand();
+        self.rows.recall_marked_stand();
         self.rows.unmark_from(self.gone as usize);
         self.references.forget();
         self.follows = follows;
@@ -84,11 +84,11 @@ impl<N: Number> RowHeap<N> {
         ensures shut { IsClosed (EdgeOf self.old) self.new.marks }
         ensures rest { self.new ≡ record self.old { marks = self.new.marks; links = self.new.links } }
     {
-        self.marked_live();
-        self.tidy();
-        self.ends_live();
+        self.recall_marked_live();
+        self.recall_tidy();
+        self.recall_ends_live();
         finish(self, grey);
-        self.marked_live();
+        self.recall_marked_live();
     }
 
     /// Makes at most so many grey objects black: each marks what it leads to now. Answers how many; where these are
@@ -102,10 +102,10 @@ impl<N: Number> RowHeap<N> {
         ensures end { result < most → grey.new ≡ 0 }
         ensures rest { self.new ≡ record self.old { marks = self.new.marks; links = self.new.links } }
     {
-        self.tidy();
-        self.ends_live();
+        self.recall_tidy();
+        self.recall_ends_live();
         let scanned = scan_some(self, *grey, most);
-        self.marked_live();
+        self.recall_marked_live();
         *grey = scanned.0;
         scanned.1
     }
@@ -132,15 +132,15 @@ impl<N: Number> RowHeap<N> {
         ensures shut { IsClosed (EdgeOf self.old) self.new.marks }
         ensures rest { self.new ≡ record self.old { marks = self.new.marks; links = self.new.links } }
     {
-        self.marked_live();
-        self.tidy();
-        self.ends_live();
+        self.recall_marked_live();
+        self.recall_tidy();
+        self.recall_ends_live();
         mark_from(self, &[x]);
-        self.marked_live();
+        self.recall_marked_live();
     }
 
     // What a live object's reference leads to is live, if a marking follows it. It does nothing.
-    fn ends_live(&self)
+    fn recall_ends_live(&self)
         ensures { IsTrue self.now.follows → AreEndsLive self.now }
     {
         let _ = &self.references;
@@ -152,7 +152,7 @@ impl<N: Number> RowHeap<N> {
             self.old.marks self.old.links grey.old self.new.marks self.new.links grey.new }
         ensures rest { self.new ≡ record self.old { marks = self.new.marks; links = self.new.links } }
     {
-        self.tidy();
+        self.recall_tidy();
         for place in 0..VARS {
             if let Some(x) = self.var(place) {
                 visit(self, x, grey);
@@ -166,7 +166,7 @@ impl<N: Number> RowHeap<N> {
             self.old.marks self.old.links grey.old self.new.marks self.new.links grey.new }
         ensures rest { self.new ≡ record self.old { marks = self.new.marks; links = self.new.links } }
     {
-        self.tidy();
+        self.recall_tidy();
         for s in 0..STATICS {
             if let Some(x) = self.static_at(s) {
                 visit(self, x, grey);

@@ -197,7 +197,7 @@ impl Rows {
         ensures link { result ≡ (row_at self.now x).link }
         ensures stands { (row_at self.now x).stands ≡ true }
     {
-        self.marked_stand();
+        self.recall_marked_stand();
         self.links[x - 1]
     }
 
@@ -210,7 +210,7 @@ impl Rows {
     }
 
     /// A row with a mark stands, for the proofs of callers. It does nothing.
-    pub(crate) fn marked_stand(&self)
+    pub(crate) fn recall_marked_stand(&self)
         ensures { (x : ℕ) → (row_at self.now x).marked ≡ true → (row_at self.now x).stands ≡ true }
     {
         let _ = &self.places;

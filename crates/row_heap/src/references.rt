@@ -237,7 +237,7 @@ impl References {
     }
 
     /// The references of an end have a last one, or there are none, for the proofs of callers. It does nothing.
-    pub(crate) fn lasts(&self)
+    pub(crate) fn recall_lasts(&self)
         ensures { (e : exact.End) → (r : ℕ) × IsLastBelow self.now.refs e (length self.now.refs) r }
     {
         let _ = &self.list;

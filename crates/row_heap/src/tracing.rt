@@ -68,7 +68,7 @@ pub(crate) fn mark_sources(references: &mut References, rows: &mut Rows, grey: &
     ensures greyed { Greyed (IsLedTo references.old.refs rows.old) (marks_in rows.old)
         (links_in rows.old) grey.old (marks_in rows.new) (links_in rows.new) grey.new }
 {
-    references.lasts();
+    references.recall_lasts();
     for i in 0..references.len() {
         let r = i as u32 + 1;
         let reference = references.at(r);

@@ -43,9 +43,9 @@ pub(crate) fn run_told<N: OrderName>(
     ensures ok { OnOk result (TellsLine driver.old driver.new caller.old caller.new index act.now) }
 {
     driver.tell(shared, caller);
-    caller.facts();
+    caller.recall_facts();
     run_line_alone(rt, shared, caller, index, act)?;
-    caller.facts();
+    caller.recall_facts();
     driver.hear(shared, caller);
     Ok(())
 }

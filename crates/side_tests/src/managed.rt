@@ -180,7 +180,7 @@ impl Driven {
         if !is_step(caller, &op) || !names_next(&op, next) {
             return Ok(None);
         }
-        self.side.replays();
+        self.side.recall_replays();
         let cites = cites_of(&op);
         let reply = self.side.step(&mut self.gate.count, caller, 1, &op, cites)?;
         Ok(Some(reply))
@@ -208,7 +208,7 @@ impl Driven {
         if !is_managed(caller) || v >= 8 || !may_hold(&self.side, pin) {
             return Ok(None);
         }
-        self.side.replays();
+        self.side.recall_replays();
         let reply = self
             .side
             .take(&mut self.gate.count, caller, 1, Var(v), pin)?;

@@ -40,7 +40,7 @@ returns-clause-handles g c =
     let w = rw c.in_default.ensures.0 at c.loop-step.invariant in
     let a = all-walked c.args.h.now.entries c.loop-step.making c.loop-step.count (g.K.Sink.held c.args.out.now)
     (g.K.Sink.held c.loop-step.out) c.args.line.now.text c.loop-step.line.text (g.K.Sink.faults c.args.out.now) (g.K.Sink.faults c.loop-step.out) c.loop-step.sent w in
-    omega (arith, a.handles, c.numbers_fit.ensures)
+    omega (arith, a.handles, c.recall_numbers_fit.ensures)
 
 pub returns-clause-sends : goal.returns-clause-sends
 returns-clause-sends g c =

@@ -56,5 +56,5 @@ pub returns-clause-sights : goal.returns-clause-sights
 returns-clause-sights c = c.loop-i.invariant.sights
 
 pub returns-clause-greyed : goal.returns-clause-greyed
-returns-clause-greyed c = sources-end c.args.references.now.refs c.args.rows.now c.loop-i.i (λ p. c.lasts.ensures (node p)) _ _ _ _ _ _
+returns-clause-greyed c = sources-end c.args.references.now.refs c.args.rows.now c.loop-i.i (λ p. c.recall_lasts.ensures (node p)) _ _ _ _ _ _
     (omega (arith, c.loop-i-test.false, c.len-i-end.ensures.len, c.loop-i.auto)) c.loop-i.invariant.greyed

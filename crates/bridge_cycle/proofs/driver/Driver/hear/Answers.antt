@@ -9,4 +9,4 @@ invariant_of-self g c = (driver_seen c.tell.ensures.to.thread c.self.invariant.0
 
 pub returns-clause-hears : goal.returns-clause-hears
 returns-clause-hears g c = driver_hears c.args.from.now c.self.inside.caller c.tell.new.to c.args.self.now
-    (record c.args.self.now { view = c.tell.new.to.view }) c.self.invariant.0 c.facts.ensures.reads (ap (λ (d : Progress). d.view) c.self.view_is) refl c.tell.ensures.to
+    (record c.args.self.now { view = c.tell.new.to.view }) c.self.invariant.0 c.recall_facts.ensures.reads (ap (λ (d : Progress). d.view) c.self.view_is) refl c.tell.ensures.to

@@ -48,5 +48,5 @@ invariant_of-self-in-Ok c =
       rw (c.in-Ok.ensures.infos, pushed) (ArePeers-pair c.self.inside.registry infos _ c.args.p record { 0 = c.made-next.result + 1 } refl next c.self.invariant.0),
       ap (λ (v : HeapRows). v.refs) is ∙ c.self.invariant.1,
       ap (λ (v : HeapRows). v.follows) is ∙ c.self.invariant.2,
-      AreDues-object c.self.inside.cycle c.self.inside.heap c.add_object.new.heap c.self.inside.notices.spare _ _ _ c.marks_len.ensures is c.self.invariant.3,
+      AreDues-object c.self.inside.cycle c.self.inside.heap c.add_object.new.heap c.self.inside.notices.spare _ _ _ c.recall_marks_len.ensures is c.self.invariant.3,
     )

@@ -18,4 +18,4 @@ no-pin (suc (suc (suc (suc (suc (suc (suc (suc zero)))))))) = refl
 no-pin (suc (suc (suc (suc (suc (suc (suc (suc (suc t))))))))) = refl
 
 pub returns-clause-pin : goal.returns-clause-pin
-returns-clause-pin c = rw (← c.self.view_is) (ap (λ ps. slot ps (thread_number c.args._t)) c.unpinned.ensures ∙ no-pin (thread_number c.args._t))
+returns-clause-pin c = rw (← c.self.view_is) (ap (λ ps. slot ps (thread_number c.args._t)) c.recall_unpinned.ensures ∙ no-pin (thread_number c.args._t))

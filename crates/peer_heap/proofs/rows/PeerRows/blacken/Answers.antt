@@ -15,10 +15,10 @@ pub returns-clause-steps : goal.returns-clause-steps
 returns-clause-steps c = rw (← c.self.view_is) c.mark_some.ensures.steps
 
 pub returns-clause-few : goal.returns-clause-few
-returns-clause-few c = omega (arith, c.mark_some.ensures.few, c.marks_len.ensures, c.tidy.ensures.most)
+returns-clause-few c = omega (arith, c.mark_some.ensures.few, c.recall_marks_len.ensures, c.recall_tidy.ensures.most)
 
 pub returns-clause-made : goal.returns-clause-made
-returns-clause-made c = rw (← c.self.view_is) c.tidy.ensures.most
+returns-clause-made c = rw (← c.self.view_is) c.recall_tidy.ensures.most
 
 pub returns-clause-rest : goal.returns-clause-rest
 returns-clause-rest c =

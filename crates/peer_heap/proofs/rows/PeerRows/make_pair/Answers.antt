@@ -37,7 +37,7 @@ returns-clause-marks c =
     let i = c.self.inside in
     let p = c.in_ok-p.ensures in
     further-marked c.args.self.now i.heap c.add_peer.new.heap c.add_peer.new.heap c.add_peer.new.heap.heap i.sorts.items
-    i.names i.issued i.table c.in_ok-p.p.0 c.args.fields c.self.view_is p.number c.marks_len.ensures p.heap refl
+    i.names i.issued i.table c.in_ok-p.p.0 c.args.fields c.self.view_is p.number c.recall_marks_len.ensures p.heap refl
 
 pub returns-in_err-reserve-clause-answers : goal.returns-in_err-reserve-clause-answers
 returns-in_err-reserve-clause-answers c = IfOk-from_err c.from_residual.result _ c.from_residual.ensures.0

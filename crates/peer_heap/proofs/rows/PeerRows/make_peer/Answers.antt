@@ -27,7 +27,7 @@ returns-clause-marks c =
     let i = c.self.inside in
     let p = c.in_ok-p.ensures in
     further-marked c.args.self.now i.heap c.add_peer.new.heap c.set_var.new.self (with_var c.add_peer.new.heap.heap c.args.v (Some c.in_ok-p.p.0))
-    i.sorts.items i.names i.issued i.table c.in_ok-p.p.0 c.args.fields c.self.view_is p.number c.marks_len.ensures p.heap c.set_var.ensures
+    i.sorts.items i.names i.issued i.table c.in_ok-p.p.0 c.args.fields c.self.view_is p.number c.recall_marks_len.ensures p.heap c.set_var.ensures
 
 pub returns-in_err-p-clause-answers : goal.returns-in_err-p-clause-answers
 returns-in_err-p-clause-answers c = IfOk-from_err c.from_residual.result _ c.from_residual.ensures.0

@@ -8,7 +8,7 @@ use Rattle.row_heap.proofs.Edges.{IsRowHeap-unmarked, map-unmarked, seen-unmarke
 use Rattle.row_heap.proofs.heap.RowHeap.begin_marking.Goals as goal
 
 pub unmark_from-requires : goal.unmark_from-requires
-unmark_from-requires g c = λ x le m. fallen _ _ _ _ _ c.self.inside.gone c.self.invariant.0.sound c.self.invariant.1 x le (c.marked_stand.ensures x m)
+unmark_from-requires g c = λ x le m. fallen _ _ _ _ _ c.self.inside.gone c.self.invariant.0.sound c.self.invariant.1 x le (c.recall_marked_stand.ensures x m)
 
 pub invariant_of-self : goal.invariant_of-self
 invariant_of-self g c = (

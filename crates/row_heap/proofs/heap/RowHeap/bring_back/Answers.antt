@@ -10,14 +10,14 @@ use Rattle.row_heap.proofs.Edges.{shut-leads, shut-edges, reached-edge, reached-
 use Rattle.row_heap.proofs.heap.RowHeap.bring_back.Goals as goal
 
 pub mark_from-requires-clause-shut : goal.mark_from-requires-clause-shut
-mark_from-requires-clause-shut g c = shut-leads c.args.self.now c.args.self.now.marks c.tidy.ensures c.ends_live.ensures c.marked_live.ensures c.requires.shut
+mark_from-requires-clause-shut g c = shut-leads c.args.self.now c.args.self.now.marks c.recall_tidy.ensures c.recall_ends_live.ensures c.recall_marked_live.ensures c.requires.shut
 
 pub returns-clause-marks : goal.returns-clause-marks
 returns-clause-marks g c = λ k.
     let root : (z : ℕ) → Contains (c.args.x ∷ []) z → IsLive c.args.self.now.heap z = λ z h. elim (Contains-cons_cases c.args.x [] z h)
     [ inl e ↦ subst (IsLive c.args.self.now.heap) e c.requires.live | inr n ↦ absurd (Contains-nil z n) ] in
     let m = c.mark_from.ensures.marks k in (
-      (λ u. elim (m.0 u) [ inl w ↦ inl w | inr w ↦ inr (reached-edge c.args.self.now (c.args.x ∷ []) k c.tidy.ensures c.ends_live.ensures root w) ]),
+      (λ u. elim (m.0 u) [ inl w ↦ inl w | inr w ↦ inr (reached-edge c.args.self.now (c.args.x ∷ []) k c.recall_tidy.ensures c.recall_ends_live.ensures root w) ]),
       (λ u. m.1 (elim u [ inl w ↦ inl w | inr w ↦ inr (reached-leads c.args.self.now (c.args.x ∷ []) k w) ])),
     )
 

@@ -10,13 +10,14 @@ pub finish-requires : goal.finish-requires
 finish-requires g c = record {
   roots = c.requires.roots;
   before = c.requires.before;
-  greying = greying-leads c.args.self.now _ _ _ _ _ c.tidy.ensures c.ends_live.ensures c.marked_live.ensures c.requires.greying;
+  greying = greying-leads c.args.self.now _ _ _ _ _ c.recall_tidy.ensures c.recall_ends_live.ensures c.recall_marked_live.ensures c.requires.greying;
 }
 
 pub returns-clause-marks : goal.returns-clause-marks
 returns-clause-marks g c = λ roots before i x.
-    let m = c.finish.ensures.marks roots before (greying-leads c.args.self.now roots before _ _ _ c.tidy.ensures c.ends_live.ensures c.marked_live.ensures i) x in (
-      (λ u. elim (m.0 u) [ inl w ↦ inl w | inr w ↦ inr (reached-edge c.args.self.now roots x c.tidy.ensures c.ends_live.ensures (λ k h. c.marked_live.ensures k (i.roots_marked k h)) w) ]),
+    let m = c.finish.ensures.marks roots before (greying-leads c.args.self.now roots before _ _ _ c.recall_tidy.ensures c.recall_ends_live.ensures c.recall_marked_live.ensures i) x in (
+      (λ u. elim (m.0 u) [ inl w ↦ inl w | inr w ↦ inr (reached-edge c.args.self.now roots x c.recall_tidy.ensures c.recall_ends_live.ensures
+          (λ k h. c.recall_marked_live.ensures k (i.roots_marked k h)) w) ]),
       (λ u. m.1 (elim u [ inl w ↦ inl w | inr w ↦ inr (reached-leads c.args.self.now roots x w) ])),
     )
 

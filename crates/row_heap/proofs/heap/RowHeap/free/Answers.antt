@@ -29,7 +29,7 @@ returns-clause-heap g c = seen-freed _ _ _ _ (map g.N.Number.number c.args.xs.no
 
 pub returns-clause-marks : goal.returns-clause-marks
 returns-clause-marks g c = marks-freed _ _ _ _ _ c.self.inside.references _ c.args.self.now
-    (map g.N.Number.number c.args.xs.now) c.self.view_is c.free_rows.ensures.rows c.marked_stand.ensures c.marked_stand-2.ensures
+    (map g.N.Number.number c.args.xs.now) c.self.view_is c.free_rows.ensures.rows c.recall_marked_stand.ensures c.recall_marked_stand-2.ensures
 
 pub free_rows-requires-clause-rises : goal.free_rows-requires-clause-rises
 free_rows-requires-clause-rises g c = c.requires.can.rises

@@ -14,7 +14,7 @@ pub loop-s-preserved : goal.loop-s-preserved
 loop-s-preserved g c =
     let xs = c.args.self.now.heap.statics in
     let same = ap (λ (v : HeapRows). v.heap.statics) c.loop-s.invariant.kept in
-    let within : c.loop-s.s < length xs = omega (arith, c.tidy.ensures.statics, c.loop-s-test.true) in
+    let within : c.loop-s.s < length xs = omega (arith, c.recall_tidy.ensures.statics, c.loop-s-test.true) in
     elim c.match-static_at.branch [
       | in-Some w ↦ record {
         kept = rw w.self-is (w.visit.ensures.kept ∙ c.loop-s.invariant.kept);
@@ -36,7 +36,7 @@ loop-s-preserved g c =
 pub returns-clause-greyed : goal.returns-clause-greyed
 returns-clause-greyed g c =
     let xs = c.args.self.now.heap.statics in
-    let all : length xs ≤ c.loop-s.s = omega (arith, c.tidy.ensures.statics, c.loop-s-test.false) in
+    let all : length xs ≤ c.loop-s.s = omega (arith, c.recall_tidy.ensures.statics, c.loop-s-test.false) in
     rw take_all at c.loop-s.invariant.greyed
 
 pub returns-clause-rest : goal.returns-clause-rest

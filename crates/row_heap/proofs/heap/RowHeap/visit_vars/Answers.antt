@@ -14,7 +14,7 @@ pub loop-place-preserved : goal.loop-place-preserved
 loop-place-preserved g c =
     let xs = c.args.self.now.heap.vars in
     let same = ap (λ (v : HeapRows). v.heap.vars) c.loop-place.invariant.kept in
-    let within : c.loop-place.place < length xs = omega (arith, c.tidy.ensures.vars, c.loop-place-test.true) in
+    let within : c.loop-place.place < length xs = omega (arith, c.recall_tidy.ensures.vars, c.loop-place-test.true) in
     elim c.match-var.branch [
       | in-Some w ↦ record {
         kept = rw w.self-is (w.visit.ensures.kept ∙ c.loop-place.invariant.kept);
@@ -41,7 +41,7 @@ loop-place-preserved g c =
 pub returns-clause-greyed : goal.returns-clause-greyed
 returns-clause-greyed g c =
     let xs = c.args.self.now.heap.vars in
-    let all : length xs ≤ c.loop-place.place = omega (arith, c.tidy.ensures.vars, c.loop-place-test.false) in
+    let all : length xs ≤ c.loop-place.place = omega (arith, c.recall_tidy.ensures.vars, c.loop-place-test.false) in
     rw take_all at c.loop-place.invariant.greyed
 
 pub returns-clause-rest : goal.returns-clause-rest

@@ -7,11 +7,11 @@ use Rattle.row_heap.proofs.places.Rows.marked_link.Goals as goal
 pub index-requires : goal.index-requires
 index-requires c =
     let s = c.self.inside in
-    let w = stands-within c.args.self.now c.args.x (c.marked_stand.ensures c.args.x c.requires) in
+    let w = stands-within c.args.self.now c.args.x (c.recall_marked_stand.ensures c.args.x c.requires) in
     omega (arith, w.0, w.1, len-under s.slab s.places.items c.args.self.now s.marks.items s.links.items c.self.view_is, c.self.invariant.links_len, s.links.ok)
 
 pub returns-clause-link : goal.returns-clause-link
 returns-clause-link c =
     let s = c.self.inside in
-    let w = stands-within c.args.self.now c.args.x (c.marked_stand.ensures c.args.x c.requires) in
+    let w = stands-within c.args.self.now c.args.x (c.recall_marked_stand.ensures c.args.x c.requires) in
     c.index.ensures ∙ sym (link-under s.slab s.places.items c.args.self.now s.marks.items s.links.items c.args.x c.index.result.now c.self.view_is w.0 w.1 c.self.invariant.links_len)

@@ -31,4 +31,4 @@ invariant_of-self-2 c =
     let by = (c.if-not-is_step.ensures refl).1 in
     driven-still (as_side c.self.inside.side) (as_side c.step.new.self) c.self.inside.gate.count c.step.new.draw c.self.inside.waiting c.self.inside.answered _ nothing c.in_ok-reply.ensures.adds
     (step-named s c.args.caller c.args.op (length i.side.entries + i.answered) by (subst (λ n. NamesNext c.args.op n) c.in-Some.ensures (c.if-not-names_next.ensures refl)))
-    (step-cycle s c.args.caller c.args.op (kept-pinned c.self.inside.side.state no_pins (none_stand c.self.inside.side.state.managed) c.replays.ensures.kept) by) c.self.invariant
+    (step-cycle s c.args.caller c.args.op (kept-pinned c.self.inside.side.state no_pins (none_stand c.self.inside.side.state.managed) c.recall_replays.ensures.kept) by) c.self.invariant

@@ -20,7 +20,7 @@ invariant_of-self c = driven-same (as_side c.self.inside.side) (as_side c.take.n
 
 pub invariant_of-self-2 : goal.invariant_of-self-2
 invariant_of-self-2 c =
-    let k = c.replays.ensures.kept in
+    let k = c.recall_replays.ensures.kept in
     let pins = pin_given (thread_number c.args.caller) c.args.pin in
     driven-still (as_side c.self.inside.side) (as_side c.take.new.self) c.self.inside.gate.count c.take.new.draw c.self.inside.waiting c.self.inside.answered _
     (kept_pins pins nothing) c.in_ok-reply.ensures.adds (λ h k. inl k)

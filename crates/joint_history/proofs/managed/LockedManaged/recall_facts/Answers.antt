@@ -3,7 +3,7 @@ use Rattle.managed_heap.specs.Sides.{as_side}
 use Rattle.joint_history.specs.Locked.{UnderManaged}
 use Rattle.joint_history.specs.SeatFacts.{ManagedListCites}
 use Rattle.joint_history.proofs.SeatsKnow.{managed_list_cites, resolves_freed, resolves_renewed}
-use Rattle.joint_history.proofs.managed.LockedManaged.facts.Goals as goal
+use Rattle.joint_history.proofs.managed.LockedManaged.recall_facts.Goals as goal
 
 pub returns-clause-cites : goal.returns-clause-cites
 returns-clause-cites g c = subst (λ (u : UnderManaged). ManagedListCites u.view u.side.entries) c.self.view_is

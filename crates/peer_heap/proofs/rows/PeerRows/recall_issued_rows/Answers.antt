@@ -4,7 +4,7 @@ use Rattle.joint_machine.specs.Peers.{peer_of}
 use Rattle.peer_heap.specs.Mirroring.{row_at}
 use Rattle.peer_heap.specs.Rows.{Rows}
 use Rattle.peer_heap.proofs.Reset.{row-issued}
-use Rattle.peer_heap.proofs.rows.PeerRows.issued_rows.Goals as goal
+use Rattle.peer_heap.proofs.rows.PeerRows.recall_issued_rows.Goals as goal
 
 pub returns : goal.returns
 returns c =

@@ -3,7 +3,7 @@ use Rattle.peer_heap.specs.Sides.{seen}
 use Rattle.joint_history.specs.Locked.{UnderPeer}
 use Rattle.joint_history.specs.SeatFacts.{HandlesLeft, NoneLeadsToFreedIn, PeerListCites, WeakIsWaitingIn}
 use Rattle.joint_history.proofs.SeatsKnow.{handles_left, none_to_cleared, none_to_freed, peer_list_cites, weak_waits}
-use Rattle.joint_history.proofs.peer.LockedPeer.facts.Goals as goal
+use Rattle.joint_history.proofs.peer.LockedPeer.recall_facts.Goals as goal
 
 pub returns-clause-cites : goal.returns-clause-cites
 returns-clause-cites g c = subst (λ (u : UnderPeer). PeerListCites u.view u.side.entries) c.self.view_is (peer_list_cites c.self.inside.seat.view (seen c.self.inside.side) c.self.invariant.2)

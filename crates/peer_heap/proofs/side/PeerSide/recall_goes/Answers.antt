@@ -4,7 +4,7 @@ use Rattle.joint_machine.specs.PeerReplay.{Marking}
 use Rattle.marking_laws.specs.Slices.{AreMarksGoing}
 use Rattle.peer_heap.specs.Sides.{PeerModel, state_with}
 use Rattle.peer_heap.proofs.Going.{grey-list}
-use Rattle.peer_heap.proofs.side.PeerSide.goes.Goals as goal
+use Rattle.peer_heap.proofs.side.PeerSide.recall_goes.Goals as goal
 
 pub returns : goal.returns
 returns c =

@@ -2,7 +2,7 @@
 use Rattle.std.proofs.Common.{arith}
 use Rattle.std.proofs.lemmas.List.{length-map}
 use Rattle.row_heap.specs.Places.{Seen}
-use Rattle.row_heap.proofs.heap.RowHeap.marks_len.Goals as goal
+use Rattle.row_heap.proofs.heap.RowHeap.recall_marks_len.Goals as goal
 
 pub returns : goal.returns
 returns g c =
