@@ -18,7 +18,7 @@ use crate::peer::LockedPeer;
 use joint_model::{Op, Thread};
 use order_table::{Order, OrderName, Role, Seat};
 use peer_heap::PeerSide;
-use seat_calls::{SeatDrawing, give_back, lend};
+use seat_calls::{SeatDrawing, give_back, lend, seat_drawing};
 use std::alloc::AllocError;
 
 // The side makes a collect, by a draw that hasn't drawn yet.
@@ -40,8 +40,7 @@ fn collect_by(
     ensures same_reference { drawing.new.seat.ghost_name ≡ drawing.old.seat.ghost_name }
     ensures drew { IfOk result (λ r. DrawsCollect drawing.old.order.now drawing.old.seat.now drawing.new.seat.now
         (seen side.old) (seen side.new) caller index r) }
-    ensures err { OnErr result (StaysSeated drawing.old.seat.now drawing.new.seat.now × (seen side.new ≡ seen side.old))
-        }
+    ensures err { OnErr result (StaysSeated drawing.old.seat.now drawing.new.seat.now × (seen side.new ≡ seen side.old)) }
     ensures reserve { side.new.reserve ≡ side.old.reserve }
     ensures threads { side.new.threads ≡ side.old.threads }
 {
@@ -77,13 +76,7 @@ fn draw_collect(
     ensures reserve { side.new.reserve ≡ side.old.reserve }
     ensures threads { side.new.threads ≡ side.old.threads }
 {
-    let mut drawing = SeatDrawing {
-        order,
-        seat,
-        role: Role::Peer,
-        first: None,
-        last: 0,
-    };
+    let mut drawing = seat_drawing!(order, seat, Role::Peer);
     collect_by(side, &mut drawing, caller, index)
 }
 

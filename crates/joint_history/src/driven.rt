@@ -30,7 +30,7 @@ use crate::managed::{LiveObjects, LockedManaged, draw_step};
 use joint_model::{Act, Alive, Op, Phase, PhaseWord, Reply, Thread};
 use managed_heap::{ManagedSide, ResolveOut};
 use order_table::{Order, OrderName, Role, Seat};
-use seat_calls::{SeatDrawing, give_back, lend, settle_ended};
+use seat_calls::{give_back, lend, seat_drawing, settle_ended};
 use std::alloc::AllocError;
 
 // The side draws the contraction's entry by the seat, and its number is answered.
@@ -51,13 +51,7 @@ fn draw_contraction(
     ensures drew { DrawsContraction order.now seat.old seat.new
         (as_side side.old) (as_side side.new) index sccs xrefs result }
 {
-    let mut drawing = SeatDrawing {
-        order,
-        seat,
-        role: Role::Managed,
-        first: None,
-        last: 0,
-    };
+    let mut drawing = seat_drawing!(order, seat, Role::Managed);
     side.contracted(&mut drawing, index, sccs, xrefs);
     drawing.last
 }
@@ -72,13 +66,7 @@ fn draw_abandon(side: &mut ManagedSide, order: &Order, seat: &mut Seat, index: u
     ensures settled { Settled seat.new.view }
     ensures drew { DrawsAbandon order.now seat.old seat.new (as_side side.old) (as_side side.new) index result }
 {
-    let mut drawing = SeatDrawing {
-        order,
-        seat,
-        role: Role::Managed,
-        first: None,
-        last: 0,
-    };
+    let mut drawing = seat_drawing!(order, seat, Role::Managed);
     side.abandon(&mut drawing, index);
     let number = drawing.last;
     settle_ended(order, seat, &LiveObjects { side });
@@ -104,13 +92,7 @@ fn draw_resolution(
     ensures drew { DrawsResolution order.now seat.old seat.new (as_side side.old)
         (as_side side.new) index cites result.0 alive.now.values result.1 }
 {
-    let mut drawing = SeatDrawing {
-        order,
-        seat,
-        role: Role::Managed,
-        first: None,
-        last: 0,
-    };
+    let mut drawing = seat_drawing!(order, seat, Role::Managed);
     let out = side.resolve(&mut drawing, index, cites, alive);
     let number = drawing.last;
     settle_ended(order, seat, &LiveObjects { side });
@@ -136,13 +118,7 @@ fn draw_refusal(
     ensures threads { side.new.threads ≡ side.old.threads }
     ensures err { OnErr result (StaysSeated seat.old seat.new × (as_side side.new ≡ as_side side.old)) }
 {
-    let mut drawing = SeatDrawing {
-        order,
-        seat,
-        role: Role::Managed,
-        first: None,
-        last: 0,
-    };
+    let mut drawing = seat_drawing!(order, seat, Role::Managed);
     let reply = side.refused(&mut drawing, index, word, phase)?;
     Ok((drawing.last, reply))
 }

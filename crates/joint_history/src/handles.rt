@@ -27,7 +27,7 @@ use joint_model::{Cycle, HNum, Thread};
 use order_table::{Order, OrderName, Role, Seat};
 use peer_heap::PeerSide;
 use peer_mirror::clear;
-use seat_calls::{SeatDrawing, give_back, lend};
+use seat_calls::{give_back, lend, seat_drawing};
 
 // The side draws the weakening of a handle by the seat.
 fn draw_weaken(
@@ -49,13 +49,7 @@ fn draw_weaken(
     ensures reserve { side.new.reserve ≡ reserve_left side.old.reserve }
     ensures threads { side.new.threads ≡ side.old.threads }
 {
-    let mut drawing = SeatDrawing {
-        order,
-        seat,
-        role: Role::Peer,
-        first: None,
-        last: 0,
-    };
+    let mut drawing = seat_drawing!(order, seat, Role::Peer);
     weaken_one(side, &mut drawing, index, snap, h);
     drawing.last
 }
@@ -78,13 +72,7 @@ fn draw_restore(
     ensures reserve { side.new.reserve ≡ side.old.reserve }
     ensures threads { side.new.threads ≡ side.old.threads }
 {
-    let mut drawing = SeatDrawing {
-        order,
-        seat,
-        role: Role::Peer,
-        first: None,
-        last: 0,
-    };
+    let mut drawing = seat_drawing!(order, seat, Role::Peer);
     let back = restore_one(side, &mut drawing, index, h);
     (drawing.last, back)
 }
@@ -102,13 +90,7 @@ fn draw_clear(side: &mut PeerSide, order: &Order, seat: &mut Seat, index: u32, c
     ensures reserve { side.new.reserve ≡ reserve_over side.old.reserve }
     ensures threads { side.new.threads ≡ side.old.threads }
 {
-    let mut drawing = SeatDrawing {
-        order,
-        seat,
-        role: Role::Peer,
-        first: None,
-        last: 0,
-    };
+    let mut drawing = seat_drawing!(order, seat, Role::Peer);
     clear(side, &mut drawing, index, cycle);
     drawing.last
 }

@@ -24,7 +24,7 @@ ghost use Rattle.joint_history.specs.Operations.{ReadsExactly};
 use joint_model::{Act, Cell, Entries, Holding, MNum, Op, Reply, Thread, Var};
 use managed_heap::ManagedSide;
 use order_table::{Order, OrderName, Role, Seat};
-use seat_calls::{Lives, SeatDrawing, give_back, lend, own_pin, read_locked, settle_taken};
+use seat_calls::{Lives, give_back, lend, own_pin, read_locked, seat_drawing, settle_taken};
 use std::alloc::{AllocError, Global};
 use std::marker::{Model, PhantomData};
 use weak_wait::reply_of;
@@ -93,13 +93,7 @@ pub(crate) fn draw_step(
     ensures threads { side.new.threads ≡ side.old.threads }
     ensures err { OnErr result (StaysSeated seat.old seat.new × (as_side side.new ≡ as_side side.old)) }
 {
-    let mut drawing = SeatDrawing {
-        order,
-        seat,
-        role: Role::Managed,
-        first: None,
-        last: 0,
-    };
+    let mut drawing = seat_drawing!(order, seat, Role::Managed);
     let reply = side.step(&mut drawing, caller, index, op, cites)?;
     Ok((drawing.last, reply))
 }
@@ -131,13 +125,7 @@ fn draw_weak(
     // no object's number is above 65,535
     let _ = side.made();
     let word = order.load_cell(seat, k);
-    let mut drawing = SeatDrawing {
-        order,
-        seat,
-        role: Role::Managed,
-        first: None,
-        last: 0,
-    };
+    let mut drawing = seat_drawing!(order, seat, Role::Managed);
     let reply = side.weak(&mut drawing, caller, index, k, v, word)?;
     Ok((drawing.last, reply))
 }
@@ -178,13 +166,7 @@ fn draw_take(
 {
     let reader = reader_of(caller);
     let pin = own_pin(order, seat, reader);
-    let mut drawing = SeatDrawing {
-        order,
-        seat,
-        role: Role::Managed,
-        first: None,
-        last: 0,
-    };
+    let mut drawing = seat_drawing!(order, seat, Role::Managed);
     let reply = side.take(&mut drawing, caller, index, v, pin)?;
     let number = drawing.last;
     settle_taken(order, seat, reader);

@@ -22,7 +22,7 @@ use crate::peer::LockedPeer;
 use joint_model::{Marking, Thread};
 use order_table::{Order, OrderName, Role, Seat};
 use peer_heap::{PeerSide, SliceEnd, Swept};
-use seat_calls::{SeatDrawing, give_back, lend};
+use seat_calls::{give_back, lend, seat_drawing};
 
 // How many peers the driver blackens in one hold of the peer lock.
 const SLICE: u32 = 64;
@@ -61,13 +61,7 @@ fn draw_sweep(side: &mut PeerSide, order: &Order, seat: &mut Seat, index: u32) -
     ensures reserve { side.new.reserve ≡ side.old.reserve }
     ensures threads { side.new.threads ≡ side.old.threads }
 {
-    let mut drawing = SeatDrawing {
-        order,
-        seat,
-        role: Role::Peer,
-        first: None,
-        last: 0,
-    };
+    let mut drawing = seat_drawing!(order, seat, Role::Peer);
     match side.sweep(&mut drawing, Thread::C, index) {
         Ok(swept) => (drawing.last, swept),
         Err(_) => unreachable!(),
@@ -88,13 +82,7 @@ fn draw_begin(side: &mut PeerSide, order: &Order, seat: &mut Seat, index: u32) -
     ensures reserve { side.new.reserve ≡ reserve_begun (is_own C side.old.reserve.marking) side.old.reserve }
     ensures threads { side.new.threads ≡ side.old.threads }
 {
-    let mut drawing = SeatDrawing {
-        order,
-        seat,
-        role: Role::Peer,
-        first: None,
-        last: 0,
-    };
+    let mut drawing = seat_drawing!(order, seat, Role::Peer);
     match side.mark_begin(&mut drawing, Thread::C, index) {
         Ok(marking) => (drawing.last, marking),
         Err(_) => unreachable!(),

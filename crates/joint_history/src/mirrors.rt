@@ -25,7 +25,7 @@ use joint_model::{Cycle, Thread};
 use order_table::{Order, OrderName, Role, Seat};
 use peer_heap::PeerSide;
 use peer_mirror::install;
-use seat_calls::{SeatDrawing, give_back, lend};
+use seat_calls::{give_back, lend, seat_drawing};
 use std::alloc::AllocError;
 use xref_list::Components;
 
@@ -57,13 +57,7 @@ fn draw_mirror(
     ensures err { OnErr result (StaysSeated seat.old seat.new × (side.new ≡ side.old)) }
 {
     let _ = (graph.nodes(), comps.len());
-    let mut drawing = SeatDrawing {
-        order,
-        seat,
-        role: Role::Peer,
-        first: None,
-        last: 0,
-    };
+    let mut drawing = seat_drawing!(order, seat, Role::Peer);
     let refs = install(side, &mut drawing, index, cycle, snap, graph, comps)?;
     Ok((drawing.last, refs))
 }

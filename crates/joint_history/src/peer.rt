@@ -20,7 +20,7 @@ use crate::peer_marks::{draw_mark, draw_slice, is_mark, slice_count};
 use joint_model::{Holding, Op, Reply, Thread};
 use order_table::{Order, OrderName, Role, Seat};
 use peer_heap::PeerSide;
-use seat_calls::{SeatDrawing, give_back, lend};
+use seat_calls::{give_back, lend, seat_drawing};
 use std::alloc::{AllocError, Global};
 use std::marker::{Model, PhantomData};
 
@@ -73,13 +73,7 @@ fn draw_step(
     ensures reserve { side.new.reserve ≡ side.old.reserve }
     ensures threads { side.new.threads ≡ side.old.threads }
 {
-    let mut drawing = SeatDrawing {
-        order,
-        seat,
-        role: Role::Peer,
-        first: None,
-        last: 0,
-    };
+    let mut drawing = seat_drawing!(order, seat, Role::Peer);
     let reply = side.event(&mut drawing, caller, index, op, cites)?;
     Ok((drawing.last, reply))
 }

@@ -18,7 +18,7 @@ ghost use Rattle.seat_calls.specs.Passing.{MayAppend};
 use joint_model::{Act, Op, Reply, Thread};
 use order_table::{Order, Role, Seat};
 use peer_heap::PeerSide;
-use seat_calls::SeatDrawing;
+use seat_calls::{SeatDrawing, seat_drawing};
 use std::alloc::AllocError;
 
 /// How many peers a slice may blacken. None where the event is no slice.
@@ -62,8 +62,7 @@ fn slice_by(
     ensures same_reference { drawing.new.seat.ghost_name ≡ drawing.old.seat.ghost_name }
     ensures drew { IfOk result (λ r. DrawsEvent drawing.old.order.now drawing.old.seat.now drawing.new.seat.now
         (seen side.old) (seen side.new) (numbered r.0 (made_by caller index (op.Line (act.Slice n)) r.1 None))) }
-    ensures err { OnErr result (StaysSeated drawing.old.seat.now drawing.new.seat.now × (seen side.new ≡ seen side.old))
-        }
+    ensures err { OnErr result (StaysSeated drawing.old.seat.now drawing.new.seat.now × (seen side.new ≡ seen side.old)) }
     ensures reserve { side.new.reserve ≡ side.old.reserve }
     ensures threads { side.new.threads ≡ side.old.threads }
 {
@@ -93,13 +92,7 @@ pub(crate) fn draw_slice(
     ensures reserve { side.new.reserve ≡ side.old.reserve }
     ensures threads { side.new.threads ≡ side.old.threads }
 {
-    let mut drawing = SeatDrawing {
-        order,
-        seat,
-        role: Role::Peer,
-        first: None,
-        last: 0,
-    };
+    let mut drawing = seat_drawing!(order, seat, Role::Peer);
     slice_by(side, &mut drawing, caller, index, n)
 }
 
@@ -122,8 +115,7 @@ fn mark_by(
     ensures same_reference { drawing.new.seat.ghost_name ≡ drawing.old.seat.ghost_name }
     ensures drew { IfOk result (λ r. DrawsEvent drawing.old.order.now drawing.old.seat.now drawing.new.seat.now
         (seen side.old) (seen side.new) (numbered r.0 (made_by caller index op.now r.1 None))) }
-    ensures err { OnErr result (StaysSeated drawing.old.seat.now drawing.new.seat.now × (seen side.new ≡ seen side.old))
-        }
+    ensures err { OnErr result (StaysSeated drawing.old.seat.now drawing.new.seat.now × (seen side.new ≡ seen side.old)) }
     ensures reserve { side.new.reserve ≡ side.old.reserve }
     ensures threads { side.new.threads ≡ side.old.threads }
 {
@@ -153,12 +145,6 @@ pub(crate) fn draw_mark(
     ensures reserve { side.new.reserve ≡ side.old.reserve }
     ensures threads { side.new.threads ≡ side.old.threads }
 {
-    let mut drawing = SeatDrawing {
-        order,
-        seat,
-        role: Role::Peer,
-        first: None,
-        last: 0,
-    };
+    let mut drawing = seat_drawing!(order, seat, Role::Peer);
     mark_by(side, &mut drawing, caller, index, op)
 }

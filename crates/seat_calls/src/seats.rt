@@ -71,3 +71,17 @@ impl<'a> Draw for SeatDrawing<'a> {
         number
     }
 }
+
+/// A drawing by a seat for the side of a role, of which no number is drawn yet.
+#[macro_export]
+macro_rules! seat_drawing {
+    ($order:expr, $seat:expr, $role:expr) => {
+        $crate::SeatDrawing {
+            order: $order,
+            seat: $seat,
+            role: $role,
+            first: None,
+            last: 0,
+        }
+    };
+}
