@@ -37,8 +37,8 @@ impl<N: OrderName> Model for Desk<N> {
         × (d.managed ≡ N.managed) × (d.peers ≡ N.peers) };
 }
 
-// The thread with that place: the driver, m1 to m8, p1 to p8.
-fn thread_at(place: u8) -> Thread
+/// The thread whose caller has that place at the desk: the driver, m1 to m8, p1 to p8.
+pub fn thread_at(place: u8) -> Thread
     requires { place < 17 }
     ensures { result ≡ thread_of place }
 {

@@ -61,7 +61,7 @@ mod shared;
 mod snaps;
 
 pub use callers::{Caller, Receipt};
-pub use desks::Desk;
+pub use desks::{Desk, thread_at};
 pub use ends::{Made, RunEnd};
 pub use keeping::{Alone, Keeps, Locks};
 pub use managed::LockedManaged;

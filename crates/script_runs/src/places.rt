@@ -3,7 +3,6 @@
 ghost use Rattle.std.specs.Prelude.{◌≡◌, ◌+◌, ◌<◌};
 ghost use Rattle.joint_machine.specs.Control.{caller_place};
 ghost use Rattle.joint_machine.specs.PeerReplay.{is_thread};
-ghost use Rattle.joint_history.specs.Desks.{thread_of};
 ghost use Rattle.joint_history.specs.Operations.{IsOwnThread};
 
 use joint_model::Thread;
@@ -17,20 +16,6 @@ pub(crate) fn is_thread(t: Thread, u: Thread) -> bool
         (Thread::C, Thread::C) => true,
         _ => false,
     }
-}
-
-/// The thread whose caller has that place at the desk.
-pub(crate) fn thread_at(place: u8) -> Thread
-    requires { place < 17 }
-    ensures { result ≡ thread_of place }
-{
-    if place == 0 {
-        return Thread::C;
-    }
-    if place <= 8 {
-        return Thread::M(place);
-    }
-    Thread::P(place - 8)
 }
 
 /// The place of a thread's caller among those of all threads but the driver's.

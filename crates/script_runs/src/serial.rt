@@ -16,9 +16,9 @@ ghost use Rattle.bridge_script.specs.Scripts.{IsScriptLine};
 ghost use Rattle.script_runs.specs.Running.{AreUpTo, CanRun, HasCome, HasComeThrough, RunsOn, TellsLine, last_after};
 
 use crate::lines::{drive_left, drive_line, run_line_alone};
-use crate::places::{is_thread, place_among, thread_at};
+use crate::places::{is_thread, place_among};
 use bridge_cycle::Driver;
-use joint_history::{Alone, Caller, Desk, RunEnd, Shared};
+use joint_history::{Alone, Caller, Desk, RunEnd, Shared, thread_at};
 use joint_model::{Act, History, Holding, Thread};
 use order_table::{Order, OrderName, Seat};
 use std::alloc::{AllocError, Global};

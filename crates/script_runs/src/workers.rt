@@ -11,10 +11,10 @@ ghost use Rattle.run_laws.specs.Threads.{NoneIsLeft, thread_lines};
 ghost use Rattle.script_runs.specs.Running.{AreWorkers, CanRun, DriverIsFirst, EndsSo, HasDriven, HasLine, IsNewDriver};
 
 use crate::lines::{drive_left, drive_line, run_line_beside};
-use crate::places::{is_thread, thread_at};
+use crate::places::is_thread;
 use bridge_cycle::Driver;
 use bridge_script::Turnstile;
-use joint_history::{Caller, Desk, Locks, Shared};
+use joint_history::{Caller, Desk, Locks, Shared, thread_at};
 use joint_model::{Act, Thread};
 use order_table::OrderName;
 use std::alloc::{AllocError, Global};
