@@ -55,8 +55,8 @@ impl<N: OrderName> Driver<N> {
     ) -> Result<Reply, AllocError>
         requires index { line_of self.old ≤ index }
         ensures index { line_of self.new ≤ index }
-        ensures ok { IfOk result (λ reply. EndsWithReply self.old self.new index (next_word self.old.phase ∷ []) reply)
-            }
+        ensures ok { IfOk result (λ reply. EndsWithReply self.old self.new index
+            (next_word self.old.phase ∷ []) reply) }
         ensures err { OnErr result (Lacks self.old self.new index (next_word self.old.phase)) }
     {
         match mem::replace(&mut self.stage, Stage::Idle) {

@@ -212,8 +212,8 @@ fn peer_form(word: &[u8]) -> Option<Form>
 // The rows of the driver.
 fn driver_form(word: &[u8]) -> Option<Form>
     ensures { MatchOption result ((o : Operation) (places : List Place) → driver_form o ≡ Some places
-        → operation_text o ≢ word.now) (λ row. (driver_form row.0 ≡ Some row.1.now) × (operation_text row.0 ≡ word.now))
-            }
+        → operation_text o ≢ word.now) (λ row. (driver_form row.0 ≡ Some row.1.now)
+        × (operation_text row.0 ≡ word.now)) }
 {
     if is_same(word, b"cycle") {
         return Some((Operation::Phase(PhaseWord::Cycle), &[]));

@@ -51,8 +51,8 @@ pub(crate) fn count_heavy(
         (length graph.now.nodes) found.now.labels.items indexes.now (length found.now.rows) counts.now }
     ensures len { IfOk result (λ r. IfSome r (λ v. length v.items ≡ length found.now.rows)) }
     ensures counts { IfOk result (λ r. IfSome r
-        (λ v. CountsIn graph.now.edges (length graph.now.nodes) found.now.labels.items indexes.now counts.now v.items))
-            }
+        (λ v. CountsIn graph.now.edges (length graph.now.nodes)
+        found.now.labels.items indexes.now counts.now v.items)) }
     ensures none { IfOk result (λ r. IfNone r ((ins : List ℕ) × AreLight indexes.now counts.now ins
         × CountsIn graph.now.edges (length graph.now.nodes) found.now.labels.items indexes.now counts.now ins)) }
     ensures asked { IfOk result (λ r. IfNone r (in_any_case ≡ false)) }

@@ -270,8 +270,8 @@ fn reach_thin(
     requires thin { length thin.now ≡ length graph.now.nodes }
     requires marks { length marks.old ≡ length graph.now.nodes }
     requires unmarked { All (λ m. m ≡ false) marks.old }
-    ensures exact { OnOk result ((x : ℕ) → Contains near.new.items x ↔ IsNear graph.now.edges thin.now near.old.items x)
-        }
+    ensures exact { OnOk result ((x : ℕ) → Contains near.new.items x
+        ↔ IsNear graph.now.edges thin.now near.old.items x) }
     ensures below { OnOk result (All (λ x. x < length graph.now.nodes) near.new.items) }
     ensures unmarked { OnOk result (All (λ m. m ≡ false) marks.new) }
 {

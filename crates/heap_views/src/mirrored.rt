@@ -44,8 +44,8 @@ fn add_node(joint: &JointState, m: u32, builder: &mut GraphBuilder) -> Result<()
 // The nodes of the dead part, by rising number.
 fn add_nodes(joint: &JointState, builder: &mut GraphBuilder) -> Result<(), AllocError>
     requires { builder.old.nodes ≡ [] }
-    ensures { OnOk result (builder.new.nodes ≡ map (row_node joint.now.graph.managed) (dead_of joint.now.graph.managed))
-        }
+    ensures { OnOk result (builder.new.nodes ≡ map
+        (row_node joint.now.graph.managed) (dead_of joint.now.graph.managed)) }
 {
     for m in joint.dead() {
         add_node(joint, *m, builder)?;

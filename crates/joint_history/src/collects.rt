@@ -40,7 +40,8 @@ fn collect_by(
     ensures same_reference { drawing.new.seat.ghost_name ≡ drawing.old.seat.ghost_name }
     ensures drew { IfOk result (λ r. DrawsCollect drawing.old.order.now drawing.old.seat.now drawing.new.seat.now
         (seen side.old) (seen side.new) caller index r) }
-    ensures err { OnErr result (StaysSeated drawing.old.seat.now drawing.new.seat.now × (seen side.new ≡ seen side.old)) }
+    ensures err { OnErr result (StaysSeated drawing.old.seat.now drawing.new.seat.now
+        × (seen side.new ≡ seen side.old)) }
     ensures reserve { side.new.reserve ≡ side.old.reserve }
     ensures threads { side.new.threads ≡ side.old.threads }
 {

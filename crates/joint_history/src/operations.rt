@@ -314,8 +314,8 @@ impl<N: OrderName, K: Keeps<N>> Shared<N, K> {
         ensures ok { IfOk result (λ r. Runs caller.old.thread caller.old.view caller.new.view index act.now r) }
         ensures exact { IfOk result (λ r. ReadsExactly caller.old.thread
             caller.old.view caller.new.view act.now r.reply) }
-        ensures err { OnErr result (StopsWithoutMemory caller.old.thread caller.old.view caller.new.view index act.now)
-            }
+        ensures err { OnErr result (StopsWithoutMemory caller.old.thread
+            caller.old.view caller.new.view index act.now) }
     {
         self.run(
             rt,

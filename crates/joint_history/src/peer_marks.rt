@@ -62,7 +62,8 @@ fn slice_by(
     ensures same_reference { drawing.new.seat.ghost_name ≡ drawing.old.seat.ghost_name }
     ensures drew { IfOk result (λ r. DrawsEvent drawing.old.order.now drawing.old.seat.now drawing.new.seat.now
         (seen side.old) (seen side.new) (numbered r.0 (made_by caller index (op.Line (act.Slice n)) r.1 None))) }
-    ensures err { OnErr result (StaysSeated drawing.old.seat.now drawing.new.seat.now × (seen side.new ≡ seen side.old)) }
+    ensures err { OnErr result (StaysSeated drawing.old.seat.now drawing.new.seat.now
+        × (seen side.new ≡ seen side.old)) }
     ensures reserve { side.new.reserve ≡ side.old.reserve }
     ensures threads { side.new.threads ≡ side.old.threads }
 {
@@ -115,7 +116,8 @@ fn mark_by(
     ensures same_reference { drawing.new.seat.ghost_name ≡ drawing.old.seat.ghost_name }
     ensures drew { IfOk result (λ r. DrawsEvent drawing.old.order.now drawing.old.seat.now drawing.new.seat.now
         (seen side.old) (seen side.new) (numbered r.0 (made_by caller index op.now r.1 None))) }
-    ensures err { OnErr result (StaysSeated drawing.old.seat.now drawing.new.seat.now × (seen side.new ≡ seen side.old)) }
+    ensures err { OnErr result (StaysSeated drawing.old.seat.now drawing.new.seat.now
+        × (seen side.new ≡ seen side.old)) }
     ensures reserve { side.new.reserve ≡ side.old.reserve }
     ensures threads { side.new.threads ≡ side.old.threads }
 {

@@ -22,8 +22,8 @@ impl ManagedPart {
         reply: &Reply,
     ) -> Result<Verdict, AllocError>
         requires { v < 72 }
-        ensures ok { IfOk result (λ d. Decides (Gives (made_new self.old v kind fields) reply.now) d self.old self.new)
-            }
+        ensures ok { IfOk result (λ d. Decides
+            (Gives (made_new self.old v kind fields) reply.now) d self.old self.new) }
         ensures err { OnErr result (self.new ≡ self.old) }
     {
         if self.heap.is_full() {
@@ -47,8 +47,8 @@ impl ManagedPart {
         reply: &Reply,
     ) -> Result<Verdict, AllocError>
         requires { v < 72 }
-        ensures ok { IfOk result (λ d. Decides (Gives (adopted self.old v kind fields h) reply.now) d self.old self.new)
-            }
+        ensures ok { IfOk result (λ d. Decides
+            (Gives (adopted self.old v kind fields h) reply.now) d self.old self.new) }
         ensures err { OnErr result (self.new ≡ self.old) }
     {
         if self.heap.is_full() {

@@ -41,8 +41,8 @@ pub(crate) fn graph_of_rows(
     starts: &[u32],
     targets: &[u32],
 ) -> Result<DeadGraph, Stop>
-    ensures made { IfOk result (λ g. IsMade (IsBridgeAt kinds.now) (LeadsInRow starts.now targets.now) g.nodes g.edges)
-        }
+    ensures made { IfOk result (λ g. IsMade (IsBridgeAt kinds.now)
+        (LeadsInRow starts.now targets.now) g.nodes g.edges) }
     ensures graph { (result ≡ Err Stop.Graph) ↔ (AreRows (length kinds.now) starts.now targets.now → ⊥) }
     ensures many { IsTooLong (length kinds.now) (length targets.now)
         → AreRows (length kinds.now) starts.now targets.now → result ≡ Err Stop.TooMany }

@@ -26,9 +26,13 @@ impl PeerRows {
         requires ends { AreEndsLive self.old.rows }
         ensures grey { AreRootsGrey (IsRoot self.old.rows.heap (strong_peers self.old.issued self.old.table))
             self.new.rows.marks self.new.rows.links result }
-        ensures rest { self.new ≡ record self.old
-            { rows = record self.old.rows { follows = true; marks = self.new.rows.marks; links = self.new.rows.links } }
-                }
+        ensures rest { self.new ≡ record self.old {
+          rows = record self.old.rows {
+            follows = true;
+            marks = self.new.rows.marks;
+            links = self.new.rows.links;
+          };
+        } }
     {
         self.table.settle();
         mark_roots(&mut self.heap, &self.table)

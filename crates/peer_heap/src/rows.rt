@@ -336,8 +336,8 @@ impl PeerRows {
     // first.
     fn make_pair(&mut self, sort: Sort, fields: u8) -> Result<Reply, AllocError>
         requires { length self.old.issued < 4294967295 }
-        ensures answers { IfOk result (λ r. PeersAnswer self.old (pair_made (peers_in self.old) sort fields) r self.new)
-            }
+        ensures answers { IfOk result (λ r. PeersAnswer self.old
+            (pair_made (peers_in self.old) sort fields) r self.new) }
         ensures marks { IfOk result (λ r. MarksNew self.old.rows r self.new.rows) }
         ensures tabled { self.new.tabled ≤ self.old.tabled + 1 }
         ensures err { OnErr result (self.new ≡ self.old) }

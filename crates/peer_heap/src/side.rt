@@ -238,8 +238,8 @@ impl PeerSide {
         requires allowed { PeerAllows self.old.state caller op.now cites nothing }
         requires may { MayDraw peer_rules D.rules draw.old (seen self.old) caller op.now }
         ensures adds { IfOk result (λ r. AddsLawful peer_rules D.rules draw.old draw.new (seen self.old)
-            (seen self.new) (record { caller = caller; index = index; op = op.now; reply = r; cites = cites }) nothing)
-                }
+            (seen self.new) (record { caller = caller; index = index; op = op.now; reply = r; cites = cites })
+            nothing) }
         ensures release { IsRelease op.now → IsOk result }
         ensures err { OnErr result ((self.new ≡ self.old) × (draw.new ≡ draw.old)) }
         ensures reserve { self.new.reserve ≡ self.old.reserve }

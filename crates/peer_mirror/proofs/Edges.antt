@@ -36,8 +36,7 @@ end-there nodes comps heavy i some members l = by (end-is comps i)
 -- so is each end of a mirror edge
 pub edge-ends : (nodes : List Node) (comps : List (List ℕ)) (heavy : ℕ) (pairs : List (ℕ × ℕ)) → IsListing comps heavy pairs
     → AreBridgeNodes nodes comps → (a b : End) → Contains (mirror_edges comps pairs) (a, b) → IsEdgeEnd nodes heavy a × IsEdgeEnd nodes heavy b
-edge-ends nodes comps heavy pairs l members a b c = elim (Contains-append_cases (map between_nodes (flat_map circle comps)) (map (λ (p : ℕ × ℕ). (end_at comps p.0, end_at comps p.1)) pairs) (a, b) c)
-    [
+edge-ends nodes comps heavy pairs l members a b c = elim (Contains-append_cases (map between_nodes (flat_map circle comps)) (map (λ (p : ℕ × ℕ). (end_at comps p.0, end_at comps p.1)) pairs) (a, b) c) [
   | inl d ↦ (
       let r = Contains-map_cases between_nodes (flat_map circle comps) (a, b) d in
       let m = Contains-flat_map_cases circle comps r.0 r.1 in

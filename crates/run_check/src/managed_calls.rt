@@ -80,9 +80,10 @@ impl Replay {
     // Keeps the target of a cell that a `weak` has set, if it answered ok.
     fn keep_target(&mut self, k: Cell, reply: Reply, target: Option<MNum>)
         requires { k.0 < 64 }
-        ensures { self.new ≡ record self.old
-            { readers = record self.old.readers { targets = targets_after self.old.readers.targets k.0 reply target } }
-                }
+        ensures { self.new ≡ record self.old {
+          readers = record self.old.readers
+              { targets = targets_after self.old.readers.targets k.0 reply target };
+        } }
     {
         if let (Reply::Ok, Some(target)) = (reply, target) {
             self.readers.set_target(k, target);

@@ -318,8 +318,8 @@ impl Replay {
         requires caller { IsManagedThread caller }
         requires cell { k.0 < 64 }
         ensures { (h : Finished) (past : List Noted) → IsBehind h past self.now
-            → (IsTrue result ↔ MayBeUnset (in_turn past) (state_of past).managed.managed.cells (length past) caller k.0)
-                }
+            → (IsTrue result ↔ MayBeUnset (in_turn past)
+            (state_of past).managed.managed.cells (length past) caller k.0) }
     {
         let live = match self.readers.target(k) {
             None => true,

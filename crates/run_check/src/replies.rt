@@ -197,8 +197,8 @@ fn has_notices(h: &History, n: u32) -> bool
 // Whether the side's notice at place `i` is the history's.
 fn is_notice_at(h: &History, side: &ManagedSide, i: u32) -> bool
     requires { i < length side.now.state.managed.notices }
-    ensures { IsTrue result ↔ (slice_get (managed_numbers h.now.notices) i ≡ slice_get side.now.state.managed.notices i)
-        }
+    ensures { IsTrue result ↔ (slice_get
+        (managed_numbers h.now.notices) i ≡ slice_get side.now.state.managed.notices i) }
 {
     match (h.notice(i), side.notice(i)) {
         (Some(named), Some(queued)) => named.0 == queued.0,

@@ -80,8 +80,8 @@ fn run_by_desk<N: OrderName + Send + Sync, R: Threads + Wait + Sync, T: Turnstil
     ensures idle { IfOk result (λ v. All HasIdleDriver v.items) }
     ensures ran { IfOk result (λ v. (h : Finished) → IsLinked h → IsFinished h
         → length h.entries < 2 ^ 64 → All (HasOwn h.entries) v.items
-        → ((t : Thread) → IsThread t → StillWaits desk.new t → made_by t h.entries ≡ []) → IsRunByThreads script.now h)
-            }
+        → ((t : Thread) → IsThread t → StillWaits desk.new t → made_by t h.entries ≡ [])
+        → IsRunByThreads script.now h) }
 {
     let jobs = workers(alloc, desk, script)?;
     let ended = run_jobs(rt, alloc, shared, script, turn, jobs)?;

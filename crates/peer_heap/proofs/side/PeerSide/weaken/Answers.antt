@@ -22,8 +22,7 @@ invariant_of-self g c =
     let here : i.mirroring.mirror ≡ Some x = sym c.in-Some.ensures.mirror in
     let left : 1 ≤ x.left = subst (λ (o : Option OpenMirror). 1 ≤ left_of o) here (rw (sym c.self.view_is) at c.requires.left) in
     let draws = c.note.ensures.draws in
-    let taken = AreTaken-push peer_rules i.threads i.entries.entries c.note.new.entries.entries draws.adds.number (weakens c.args.index c.args.h c.args.cites) tt draws.adds.added c.self.invariant.1 in
-        (
+    let taken = AreTaken-push peer_rules i.threads i.entries.entries c.note.new.entries.entries draws.adds.number (weakens c.args.index c.args.h c.args.cites) tt draws.adds.added c.self.invariant.1 in (
       subst (λ z. IsSide c.weaken.new.self i.marking i.markings z c.note.new.entries)
           (sym (◌∙◌ {b = on_mirror i.mirroring c.weakened.result} c.set_mirror.ensures (ap (on_mirror i.mirroring) c.weakened.ensures)))
           (IsSide-weakened i.rows c.weaken.new.self i.marking i.markings i.mirroring x i.entries c.note.new.entries draws.adds.number _ c.args.index

@@ -16,8 +16,11 @@ finish-requires g c = record {
 pub returns-clause-marks : goal.returns-clause-marks
 returns-clause-marks g c = λ roots before i x.
     let m = c.finish.ensures.marks roots before (greying-leads c.args.self.now roots before _ _ _ c.recall_tidy.ensures c.recall_ends_live.ensures c.recall_marked_live.ensures i) x in (
-      (λ u. elim (m.0 u) [ inl w ↦ inl w | inr w ↦ inr (reached-edge c.args.self.now roots x c.recall_tidy.ensures c.recall_ends_live.ensures
-          (λ k h. c.recall_marked_live.ensures k (i.roots_marked k h)) w) ]),
+      (λ u. elim (m.0 u) [
+        | inl w ↦ inl w
+        | inr w ↦ inr (reached-edge c.args.self.now roots x c.recall_tidy.ensures c.recall_ends_live.ensures
+            (λ k h. c.recall_marked_live.ensures k (i.roots_marked k h)) w)
+      ]),
       (λ u. m.1 (elim u [ inl w ↦ inl w | inr w ↦ inr (reached-leads c.args.self.now roots x w) ])),
     )
 
