@@ -1,12 +1,12 @@
 -- What the top call does.
-use Rattle.std.specs.Prelude.{◌≡◌, ℕ, ◌<◌, ◌≤◌, ◌^◌, List, [], ◌∷◌, Option, Result, Ok, Err, codes, decimal, drop, map}
-use Rattle.std.specs.Prelude.{string_bytes}
+use Rattle.std.specs.Prelude.{◌≡◌, ◌⊎◌, ℕ, ◌<◌, ◌≤◌, ◌^◌, List, [], ◌∷◌, Option, Result, Ok, Err, codes, decimal, drop}
+use Rattle.std.specs.Prelude.{map, string_bytes}
 use Rattle.std.specs.Io.KnownBytes.{Appends, Keeps}
 use Rattle.std.specs.Vec.Iter.{into_iter_items}
 use Rattle.std.specs.declared.string.String.{String}
 use Rattle.std.specs.declared.vec.IntoIter.{IntoIter}
 use Rattle.byte_streams.specs.Reading.{Took}
-use Rattle.byte_streams.specs.Faults.{Rose}
+use Rattle.byte_streams.specs.Faults.{AppendsPart, Rose}
 use Rattle.heap_picture.specs.declared.drawing.Refusal.{Refusal}
 use Rattle.heap_picture.specs.Drawn.{IsPicture, IsRefused, refusal_line}
 
@@ -14,6 +14,10 @@ use Rattle.heap_picture.specs.Drawn.{IsPicture, IsRefused, refusal_line}
 pub record NamesEntry (words : List (List ℕ)) (n : ℕ) : Type 0 where
   pub short : n < 2 ^ 64
   pub given : words ≡ decimal n ∷ []
+
+-- they are that of none
+abbrev pub NamesNone : List (List ℕ) → Type 0
+NamesNone words = (n : ℕ) → NamesEntry words n → ⊥
 
 -- the line that tells how the program is called
 abbrev pub usage_text : List ℕ
@@ -50,8 +54,13 @@ pub record RefusalPut (most : ℕ) (words : List (List ℕ))
 
 -- the words name no entry, and the text is the usage line
 pub record UsagePut (words : List (List ℕ)) (Put : List ℕ → Type 0) : Type 0 where
-  pub no_entry : (n : ℕ) → NamesEntry words n → ⊥
+  pub no_entry : NamesNone words
   pub put : Put usage_text
+
+-- one of these texts was put
+abbrev pub TextPut : ℕ → List (List ℕ) → Option (List ℕ) → Option (List ℕ) → (List ℕ → Type 0) → Type 0
+TextPut most words left rest Put = UsagePut words Put
+    ⊎ RefusalPut most words left rest Put ⊎ PicturePut most words left rest Put
 
 -- the words after the program's name, as bytes; none where the arguments couldn't be had as text
 abbrev pub words_told : {A Z E : Type 0} → Result (IntoIter (String A) Z) E → List (List ℕ)
@@ -59,13 +68,16 @@ words_told (Ok given) = map string_bytes (drop 1 (into_iter_items given))
 words_told (Err e) = []
 
 -- how the program ends that was asked by these words: with the status, the bytes and the counts of faults that the top
--- call promises
+-- call promises; only that memory may be wanting before the words are judged
 pub record Ends (words : List (List ℕ)) (left rest : Option (List ℕ)) (read_before read_now : ℕ)
     (held after : Option (List ℕ)) (write_before write_now status : ℕ) : Type 0 where
   pub printed : status ≡ 0 → PicturePut 268435456 words left rest (Appends held after)
   pub usage : status ≡ 1 → UsagePut words (Appends held after)
+  pub no_entry : NamesNone words → (status ≡ 1) ⊎ (status ≡ 4) ⊎ (status ≡ 5)
+  pub untouched : NamesNone words → (rest ≡ left) × (read_now ≡ read_before)
   pub read : status ≡ 2 → Rose read_before read_now × Keeps held after
   pub refused : status ≡ 3 → RefusalPut 268435456 words left rest (Appends held after)
   pub write : status ≡ 4 → Rose write_before write_now
+  pub part : status ≡ 4 → TextPut 268435456 words left rest (AppendsPart held after)
   pub memory : status ≡ 5 → Keeps held after
   pub known : status ≤ 5

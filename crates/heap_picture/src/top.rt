@@ -2,10 +2,10 @@
 
 ghost use Rattle.std.specs.Prelude.{◌≡◌, ◌≤◌, ◌<◌, ◌⊎◌, map, string_bytes, length};
 ghost use Rattle.std.specs.Io.KnownBytes.{Appends, Keeps};
-ghost use Rattle.byte_streams.specs.Faults.{Rose};
+ghost use Rattle.byte_streams.specs.Faults.{AppendsPart, Rose};
 ghost use Rattle.heap_picture.specs.Drawn.{refusal_line};
-ghost use Rattle.heap_picture.specs.Top.{NamesEntry, PictureOf, PicturePut, RefusalOf, RefusalPut, UsagePut};
-ghost use Rattle.heap_picture.specs.Top.{usage_text};
+ghost use Rattle.heap_picture.specs.Top.{NamesEntry, NamesNone, PictureOf, PicturePut, RefusalOf, RefusalPut, TextPut};
+ghost use Rattle.heap_picture.specs.Top.{UsagePut, usage_text};
 
 use crate::drawing::{Drawn, Refusal, draw};
 use crate::statuses::{DONE, NO_MEMORY, READ_FAULT, REFUSED, USAGE, WRITE_FAULT};
@@ -30,10 +30,15 @@ pub fn picture_main<S: Source, K: Sink>(
         (S.left src.old) (S.left src.new) (Appends (K.held out.old) (K.held out.new)) }
     ensures usage { result ≡ 1 → UsagePut (map string_bytes words.now.items)
         (Appends (K.held out.old) (K.held out.new)) }
+    ensures no_entry { NamesNone (map string_bytes words.now.items) → (result ≡ 1) ⊎ (result ≡ 4) }
+    ensures untouched { NamesNone (map string_bytes words.now.items)
+        → (S.left src.new ≡ S.left src.old) × (S.faults src.new ≡ S.faults src.old) }
     ensures read { result ≡ 2 → Rose (S.faults src.old) (S.faults src.new) × Keeps (K.held out.old) (K.held out.new) }
     ensures refused { result ≡ 3 → RefusalPut 268435456 (map string_bytes words.now.items)
         (S.left src.old) (S.left src.new) (Appends (K.held out.old) (K.held out.new)) }
     ensures write { result ≡ 4 → Rose (K.faults out.old) (K.faults out.new) }
+    ensures part { result ≡ 4 → TextPut 268435456 (map string_bytes words.now.items)
+        (S.left src.old) (S.left src.new) (AppendsPart (K.held out.old) (K.held out.new)) }
     ensures memory { result ≡ 5 → Keeps (K.held out.old) (K.held out.new) }
     ensures status { result ≤ 5 }
 {
@@ -47,6 +52,7 @@ pub fn picture_main<S: Source, K: Sink>(
 fn print_usage<K: Sink>(out: &mut K) -> u8
     ensures usage { result ≡ 1 → Appends (K.held out.old) (K.held out.new) usage_text }
     ensures write { result ≡ 4 → Rose (K.faults out.old) (K.faults out.new) }
+    ensures part { result ≡ 4 → AppendsPart (K.held out.old) (K.held out.new) usage_text }
     ensures status { (result ≡ 1) ⊎ (result ≡ 4) }
 {
     match write_text(out, b"usage: heap_picture N\n") {
@@ -70,6 +76,10 @@ fn print_picture<S: Source, K: Sink>(
     ensures refused { result ≡ 3 → RefusalPut 268435456 (map string_bytes words.now.items)
         (S.left src.old) (S.left src.new) (Appends (K.held out.old) (K.held out.new)) }
     ensures write { result ≡ 4 → Rose (K.faults out.old) (K.faults out.new) }
+    ensures part { result ≡ 4 → RefusalPut 268435456 (map string_bytes words.now.items) (S.left src.old)
+        (S.left src.new) (AppendsPart (K.held out.old) (K.held out.new))
+        ⊎ PicturePut 268435456 (map string_bytes words.now.items) (S.left src.old)
+        (S.left src.new) (AppendsPart (K.held out.old) (K.held out.new)) }
     ensures memory { result ≡ 5 → Keeps (K.held out.old) (K.held out.new) }
     ensures status { (result ≡ 0) ⊎ ((2 ≤ result) × (result ≤ 5)) }
 {
@@ -87,6 +97,8 @@ fn print_drawn<K: Sink>(alloc: Global, bytes: &[u8], n: u64, out: &mut K) -> u8
     ensures printed { result ≡ 0 → PictureOf bytes.now n (Appends (K.held out.old) (K.held out.new)) }
     ensures refused { result ≡ 3 → RefusalOf 268435456 bytes.now n (Appends (K.held out.old) (K.held out.new)) }
     ensures write { result ≡ 4 → Rose (K.faults out.old) (K.faults out.new) }
+    ensures part { result ≡ 4 → RefusalOf 268435456 bytes.now n (AppendsPart (K.held out.old) (K.held out.new))
+        ⊎ PictureOf bytes.now n (AppendsPart (K.held out.old) (K.held out.new)) }
     ensures memory { result ≡ 5 → Keeps (K.held out.old) (K.held out.new) }
     ensures status { (result ≡ 0) ⊎ ((3 ≤ result) × (result ≤ 5)) }
 {
@@ -101,6 +113,7 @@ fn print_drawn<K: Sink>(alloc: Global, bytes: &[u8], n: u64, out: &mut K) -> u8
 fn print_text<K: Sink>(text: &[u8], out: &mut K) -> u8
     ensures printed { result ≡ 0 → Appends (K.held out.old) (K.held out.new) text.now }
     ensures write { result ≡ 4 → Rose (K.faults out.old) (K.faults out.new) }
+    ensures part { result ≡ 4 → AppendsPart (K.held out.old) (K.held out.new) text.now }
     ensures status { (result ≡ 0) ⊎ (result ≡ 4) }
 {
     match write_text(out, text) {
@@ -113,6 +126,7 @@ fn print_text<K: Sink>(text: &[u8], out: &mut K) -> u8
 fn print_refusal<K: Sink>(refusal: Refusal, out: &mut K) -> u8
     ensures refused { result ≡ 3 → Appends (K.held out.old) (K.held out.new) (refusal_line refusal) }
     ensures write { result ≡ 4 → Rose (K.faults out.old) (K.faults out.new) }
+    ensures part { result ≡ 4 → AppendsPart (K.held out.old) (K.held out.new) (refusal_line refusal) }
     ensures status { (result ≡ 3) ⊎ (result ≡ 4) }
 {
     match refusal.write(out) {
