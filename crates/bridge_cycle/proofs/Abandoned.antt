@@ -13,7 +13,7 @@ use Rattle.xref_list.specs.Listing.{Listing}
 use Rattle.managed_heap.specs.declared.opening.Opened.{Opened as Snapshot}
 use Rattle.order_table.specs.declared.views.View.{View}
 use Rattle.joint_history.specs.Driven.{DriverMakesNone, DriverStands, IsUnmirrored, MakesAbandon, MayAbandonCycle, driver_entry}
-use Rattle.joint_history.specs.DriverMirrors.{numbered_comps}
+use Rattle.dead_parts.specs.Graphs.{numbered_comps}
 use Rattle.bridge_cycle.specs.declared.stages.Stage.{Stage}
 use Rattle.bridge_cycle.specs.declared.stages.Stage.TheVariants as stage
 use Rattle.bridge_cycle.specs.Held.{Fields, IsOfCycle, KnowsItsStand, cycle_of, shown}

@@ -1,6 +1,3 @@
-pub mod Renumbered
-pub mod DeadContraction
-pub mod Candidates
 pub mod Making
 pub mod Openings
 pub mod Mirrored

@@ -9,7 +9,8 @@ use Rattle.xref_list.specs.Listing.{Listing}
 use Rattle.managed_heap.specs.declared.opening.Opened.{Opened as Snapshot}
 use Rattle.order_table.specs.declared.views.View.{View}
 use Rattle.joint_history.specs.Driven.{DriverStands}
-use Rattle.joint_history.specs.DriverMirrors.{IsListedBy, MakesMirror, MayMirrorCycle, numbered_comps}
+use Rattle.dead_parts.specs.Graphs.{numbered_comps}
+use Rattle.joint_history.specs.DriverMirrors.{IsListedBy, MakesMirror, MayMirrorCycle}
 use Rattle.bridge_cycle.specs.declared.stages.Stage.TheVariants as stage
 use Rattle.bridge_cycle.specs.Held.{IsOfCycle, cycle_of}
 use Rattle.bridge_cycle.specs.Progress.{Progress}

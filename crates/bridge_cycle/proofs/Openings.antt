@@ -17,12 +17,12 @@ use Rattle.managed_heap.specs.declared.opening.Opened.{Opened as Snapshot}
 use Rattle.order_table.specs.declared.views.View.{View}
 use Rattle.joint_history.specs.Driven.{DriverRests, DriverStands, HasContraction, MakesContraction, MayContractCycle}
 use Rattle.joint_history.specs.DriverSnaps.{MakesSnapshot}
-use Rattle.joint_history.specs.DriverMirrors.{number_at, numbered_comps}
+use Rattle.dead_parts.specs.Graphs.{number_at, numbered_comps}
 use Rattle.bridge_cycle.specs.declared.stages.Stage.TheVariants as stage
 use Rattle.bridge_cycle.specs.Held.{IsOfCycle, cycle_of}
 use Rattle.bridge_cycle.specs.Progress.{Progress}
-use Rattle.bridge_cycle.proofs.Candidates.{are_candidates}
-use Rattle.bridge_cycle.proofs.DeadContraction.{a_graphs_contraction}
+use Rattle.dead_parts.proofs.Candidates.{are_candidates}
+use Rattle.dead_parts.proofs.DeadContraction.{a_graphs_contraction}
 use Rattle.bridge_cycle.proofs.Making.{DriverKeeps, Steps, kept, stands_on, steps_one}
 
 module _ {q : Progress} {v : View} {k : Cycle} {n index : ℕ} (i : DriverKeeps q (kept v stage.Idle k n) index) where

@@ -15,10 +15,9 @@ use Rattle.managed_heap.specs.declared.opening.Opened.{Opened as Snapshot}
 use Rattle.managed_heap.specs.Graphs.{IsDeadGraph}
 use Rattle.order_table.specs.declared.views.View.{View}
 use Rattle.joint_history.specs.Driven.{DriverStands}
-use Rattle.joint_history.specs.DriverMirrors.{numbered_comps}
+use Rattle.dead_parts.specs.Graphs.{AreCandidates, numbered_comps}
 use Rattle.bridge_cycle.specs.declared.stages.Stage.{Stage}
 use Rattle.bridge_cycle.specs.declared.stages.Stage.TheVariants as stage
-use Rattle.bridge_cycle.specs.Handles.{AreCandidates}
 use Rattle.bridge_cycle.specs.Progress.{Progress, line_of}
 
 -- the phase of a stage

@@ -16,7 +16,7 @@ use Rattle.bridge_graph.specs.declared.graph.Node.{Node}
 use Rattle.order_table.specs.declared.views.View.{View}
 use Rattle.joint_history.specs.Driven.{DriverStands}
 use Rattle.joint_history.specs.Operations.{MakesAll}
-use Rattle.bridge_cycle.specs.Handles.{AreCandidates}
+use Rattle.dead_parts.specs.Graphs.{AreCandidates}
 use Rattle.bridge_cycle.specs.Progress.{AreDriversOnLine, cycle_after, last_reply}
 
 -- the driver made so many entries of a phase, which open no cycle and count no candidates

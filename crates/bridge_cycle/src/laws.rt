@@ -1,12 +1,6 @@
 // What the driver's phases rest on.
 
 ghost use Rattle.bridge_cycle.specs.Composing.{PhasesMakeACycle, PhasesRunOn, RestMakesACycle};
-ghost use Rattle.bridge_cycle.specs.Contracting.{GraphsContractionIsDeadParts};
-
-/// The contraction of a dead part's graph is, by the nodes' numbers, the contraction of the dead part.
-pub fn a_graphs_contraction_is_its_dead_parts()
-    ensures { GraphsContractionIsDeadParts }
-{}
 
 /// What runs of phases make one after another is what one run of all these phases makes. So eight calls, one for each
 /// phase, make the entries of a `cycle` line; and so do a snap and the call that makes the phases which are left of the

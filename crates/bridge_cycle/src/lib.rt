@@ -29,7 +29,7 @@
 // open cycle. The dead part is frozen while the cycle is open, so what was seen at the snapshot stays what the driver
 // goes by.
 //
-// `specs/` read alone tells what is true: Progress first, then Contracting, Composing, Handles, OpenParts and Held.
+// `specs/` read alone tells what is true: Progress first, then Composing, Turns, OpenParts and Held.
 #![tactic(auto)]
 
 mod advance;
@@ -43,4 +43,4 @@ mod words;
 
 pub use driver::{Driver, DriverFault};
 pub use gaps::{Gap, run_gap};
-pub use laws::{a_graphs_contraction_is_its_dead_parts, phases_make_a_cycle};
+pub use laws::phases_make_a_cycle;

@@ -1,7 +1,7 @@
 -- The driver's calls on the handles of its mirrored cycle: what each asks of the side under the peer lock holds by
 -- where the driver stands, since the candidates' handles are those that its seat has seen; and what each leaves the
 -- driver with.
-use Rattle.std.proofs.Common.{◌≡◌, ℕ, ◌<◌, ◌^◌, Bool, false, List, length, Option, Some, None, refl, sym, ap, ◌∙◌, subst}
+use Rattle.std.proofs.Common.{◌≡◌, ℕ, ◌<◌, ◌^◌, Bool, false, List, length, Some, None, refl, sym, ap, ◌∙◌, subst}
 use Rattle.std.specs.Prelude.{Contains}
 use Rattle.std.proofs.lemmas.Option.{same_Some, slice_get_within}
 use Rattle.joint_machine.specs.declared.names.Cycle.{Cycle}
@@ -10,20 +10,13 @@ use Rattle.joint_machine.specs.declared.names.Thread.TheVariants.{C}
 use Rattle.joint_machine.specs.declared.events.Op.TheVariants as op
 use Rattle.joint_machine.specs.declared.events.Reply.TheVariants as says
 use Rattle.joint_machine.specs.Control.{OpenSnap, weakening, restoring, IsCandidateHandle, MayClearNow, MayRestoreNow, MayWeakenNow}
-use Rattle.joint_machine.specs.Heaps.{numbered_at}
-use Rattle.joint_machine.specs.Linked.{Linkage}
 use Rattle.joint_machine.specs.Managed.{Managed, candidates_of}
-use Rattle.joint_machine.specs.PeerReplay.{PeerReplay, TableRow, Mirror, row_of, MayClear, MayRestore, MayWeaken}
-use Rattle.joint_machine.specs.Peers.{strong}
+use Rattle.joint_machine.specs.PeerReplay.{PeerReplay, Mirror, MayClear, MayRestore, MayWeaken}
 use Rattle.joint_machine.specs.Sides.{Side, peer_rules}
 use Rattle.joint_machine.specs.Told.{Answer, said_alive, nothing}
-use Rattle.joint_laws.specs.LinkedInvariants.{HasStrength}
-use Rattle.joint_laws.proofs.PeerEntries.{peer_of-issued}
-use Rattle.known_laws.specs.Driving.{IsPastKept}
-use Rattle.known_laws.proofs.Conditions.{all_may_be_cleared, next_may_be_restored, next_may_be_weakened, targets_are_strong}
+use Rattle.known_laws.proofs.Conditions.{all_may_be_cleared, next_may_be_restored, next_may_be_weakened}
 use Rattle.global_handles.specs.declared.Back.{Back}
 use Rattle.peer_heap.specs.Cycles.{reply_of}
-use Rattle.peer_heap.specs.Mirroring.{strong_row}
 use Rattle.peer_heap.specs.Mirrors.{AreTargetsRestored}
 use Rattle.order_table.specs.declared.views.View.{View}
 use Rattle.order_table.specs.Views.{OrderId, Shown, Owns}
@@ -32,6 +25,7 @@ use Rattle.joint_history.specs.Driven.{DriverStands, driver_entry}
 use Rattle.joint_history.specs.DriverHandles.{MakesClear, MakesRestore, MakesWeaken, MayClearCycle, MayRestoreHandle, MayWeakenHandle}
 use Rattle.joint_history.specs.Locked.{Drew, PeerKnows}
 use Rattle.seat_calls.specs.Passing.{Lends, Returns}
+use Rattle.dead_parts.proofs.ClearTargets.{targets_here}
 use Rattle.joint_history.proofs.DeadParts.{candidate_handle_on, count_same}
 use Rattle.joint_history.proofs.DriverPeerSteps.{DrivenUnderPeers, IsUnderPeers, driven_peers}
 
@@ -67,27 +61,6 @@ may_clear side o answers k seen u all same = subst (MayClear side) same (subst (
 clear_allowed : (side : PeerReplay) (o : OpenSnap) (answers : List Answer) (k : ℕ) (seen : Managed) (u : IsUnderPeers side (restoring o answers) seen)
     → length answers ≡ length (candidates_of seen) → o.cycle ≡ k → MayClearNow (restoring o answers) (length (candidates_of u.state.managed.managed)) k None
 clear_allowed side o answers k seen u all same = (refl, all ∙ count_same seen u.state.managed.managed u.dead, same)
-
--- a strong row of the table isn't cleared
-row_there : (s : Linkage) (h : ℕ) → IsPastKept s → HasStrength s.peer h strong → row_of s.peer h ≡ Some strong_row
-row_there s h k st =
-    let sure = k.kept.peer.handles.sure h st.0 st.1 st.2 in
-    tabled s.peer st.0 st.1 ∙ ap Some (λ i. record { strength = st.2 i; cleared = sure i })
-  where
-    tabled : (r : PeerReplay) (row : TableRow) → numbered_at r.table h ≡ Some (Some row) → row_of r h ≡ Some row
-    tabled r row e = ap (λ (o : Option (Option TableRow)). elim o [ None ↦ None | Some x ↦ x ]) e
-
--- each unfreed peer that references lead to is restored strong, as the side asks
-targets_here : (s : Linkage) → IsPastKept s → (o : OpenSnap) (answers : List Answer) → s.control.stand ≡ restoring o answers
-    → length answers ≡ length (candidates_of s.managed.managed) → AreTargetsRestored s.peer
-targets_here s k o answers e all m is p q r =
-    let t = targets_are_strong s k o answers e all p q r.reference r.there in
-    record {
-      handle = t.given;
-      given = t.told m is;
-      strong_now = row_there s t.given k t.strong_one;
-      peer = peer_of-issued s.peer.peers.issued t.given t.row t.is_issued ∙ ap Some t.leads;
-    }
 
 pub targets_restored : (side : PeerReplay) (o : OpenSnap) (answers : List Answer) (seen : Managed)
     → IsUnderPeers side (restoring o answers) seen → length answers ≡ length (candidates_of seen) → AreTargetsRestored side

@@ -34,14 +34,15 @@ use Rattle.xref_list.specs.Listing.{IsListing, Listing}
 use Rattle.joint_history.proofs.KnownViews.{same_view}
 use Rattle.joint_history.specs.Callers.{HoldsPass}
 use Rattle.joint_history.specs.Driven.{DriverMakes, DriverMakesNone, DriverStands, driver_entry}
-use Rattle.joint_history.specs.DriverMirrors.{DrawsMirror, IsListedBy, MakesMirror, MayMirrorCycle, numbered_comps}
+use Rattle.dead_parts.specs.Graphs.{numbered_comps}
+use Rattle.joint_history.specs.DriverMirrors.{DrawsMirror, IsListedBy, MakesMirror, MayMirrorCycle}
 use Rattle.view_laws.specs.Knowing.{IsDrawnView}
 use Rattle.joint_history.specs.Locked.{StaysSeated, PeerKnows, PeerReserves, is_marking_due}
 use Rattle.seat_calls.specs.Passing.{Lends, Returns}
 use Rattle.joint_history.proofs.DeadParts.{count_same}
 use Rattle.joint_history.proofs.DriverPeerSteps.{DrivenUnderPeers, IsUnderPeers, driven_peers, driven_peers_none}
 use Rattle.joint_history.proofs.LockedSteps.{returns_seated, grows_more, owns_on}
-use Rattle.joint_history.proofs.MirroredParts.{ShowsHandles, candidates-few, carried-is, edges-count, handles-strong, members-bridge, shows-on}
+use Rattle.dead_parts.proofs.MirroredParts.{ShowsHandles, candidates-few, carried-is, edges-count, handles-strong, members-bridge, shows-on}
 use Rattle.joint_history.proofs.Reserving.{seated_on, back_on, drew_on, due_snoc, lent_on, nothing_kept, reserves_on, room_by_one}
 
 -- what holds under the lock where the driver has contracted its cycle to what the listing has of the graph's nodes

@@ -21,7 +21,6 @@ pub mod DriverSteps
 pub mod DriverPeerSteps
 pub mod DriverMarks
 pub mod DriverHandles
-pub mod MirroredParts
 pub mod DriverMirrors
 pub mod DriverCallers
 pub mod CycleDraws

@@ -1,6 +1,6 @@
 -- The driver's mirror under the peer lock: the mirror edges of its cycle's contraction come to stand as references
 -- between the peers of its dead part's handles, all at once.
-use Rattle.std.specs.Prelude.{◌≡◌, ℕ, false, List, length, map, slice_index, Some}
+use Rattle.std.specs.Prelude.{◌≡◌, ℕ, false, List, length, Some}
 use Rattle.joint_machine.specs.declared.names.Cycle.{Cycle}
 use Rattle.joint_machine.specs.declared.events.Op.TheVariants as op
 use Rattle.joint_machine.specs.declared.events.Reply.TheVariants as says
@@ -10,22 +10,15 @@ use Rattle.joint_machine.specs.Managed.{Managed, OpenCycle}
 use Rattle.joint_machine.specs.PeerReplay.{PeerReplay}
 use Rattle.joint_machine.specs.Sides.{Side, peer_rules}
 use Rattle.joint_machine.specs.Told.{references_of}
-use Rattle.bridge_graph.specs.Parts.{Part, numbers_of}
+use Rattle.bridge_graph.specs.Parts.{Part}
 use Rattle.managed_heap.specs.Graphs.{IsDeadGraph}
 use Rattle.order_table.specs.declared.views.View.{View}
 use Rattle.order_table.specs.Views.{OrderId, Shown}
 use Rattle.peer_mirror.specs.Carried.{carried_to_peers}
 use Rattle.xref_list.specs.Listing.{Listing}
+use Rattle.dead_parts.specs.Graphs.{numbered_comps}
 use Rattle.joint_history.specs.Driven.{DriverMakes, DriverStands, driver_entry}
 use Rattle.joint_history.specs.Locked.{Drew}
-
--- the managed number of the node with that index; 0 past the last node
-abbrev pub number_at : Part → ℕ → ℕ
-number_at g i = slice_index (numbers_of g.nodes) i
-
--- components of nodes, by the nodes' managed numbers
-abbrev pub numbered_comps : Part → List (List ℕ) → List (List ℕ)
-numbered_comps g comps = map (map (number_at g)) comps
 
 -- the graph is that of the open cycle's dead part, and these components and cross-references are those that the listing
 -- has of its nodes, with as many heavy classes

@@ -55,8 +55,8 @@ fn is_same(a: Thread, b: Thread) -> bool
     a == b
 }
 
-// Whether the event is made on the peer side.
-fn is_peers(caller: Thread, op: &Op) -> bool
+/// Whether the event is made on the peer side.
+pub fn is_peers(caller: Thread, op: &Op) -> bool
     ensures { result ≡ is_peer_event caller op.now }
 {
     match op {

@@ -22,5 +22,5 @@
 mod counts;
 mod laws;
 
-pub use counts::{CellSet, ReadCounts};
+pub use counts::{CellSet, ReadCounts, is_peers};
 pub use laws::{counts_go_on, reads_are_told_by_counts};

@@ -39,10 +39,11 @@ use Rattle.managed_heap.specs.Steps.{step_made}
 use Rattle.run_check.specs.declared.cycles.OpenCycle.{OpenCycle as Kept}
 use Rattle.run_check.specs.declared.draws.Recorder.{Recorder}
 use Rattle.run_check.specs.declared.replays.Replay.{Replay}
-use Rattle.run_check.specs.Cycles.{CycleFollows, HasCycle, HasListing, IsAtHandle, IsOpenHere, number_at, numbered_comps}
+use Rattle.dead_parts.specs.Graphs.{number_at, numbered_comps}
+use Rattle.run_check.specs.Cycles.{CycleFollows, HasCycle, HasListing, IsAtHandle, IsOpenHere}
 use Rattle.run_check.specs.Follows.{LeftFits}
 use Rattle.run_check.specs.Judging.{MayNotReply, MayReply, next_noted}
-use Rattle.run_check.proofs.DeadContraction.{a_graphs_contraction}
+use Rattle.dead_parts.proofs.DeadContraction.{a_graphs_contraction}
 use Rattle.run_check.proofs.Drawing.{counted, drawing}
 use Rattle.run_check.proofs.Longer.{control-next, managed-longer, managed-next, peers-longer, stores-longer}
 use Rattle.run_check.proofs.OneReply.{HasMade, IsSame, Judges, replies_by}

@@ -23,7 +23,8 @@ use Rattle.run_check.specs.Cycles.{CycleFollows}
 use Rattle.run_check.specs.Follows.{LeftFits}
 use Rattle.run_check.specs.Judging.{MayNotReply, MayReply, Replied, next_noted}
 use Rattle.run_check.proofs.Opened.{reserved-on}
-use Rattle.run_check.proofs.PeerEntries.{Keeps, control_is, managed_is, may_draw, names_none, one, recorder, right, wrong}
+use Rattle.run_check.proofs.Drawing.{drawing}
+use Rattle.run_check.proofs.PeerEntries.{Keeps, control_is, managed_is, may_draw, names_none, one, right, wrong}
 
 pub driver-is : (t : Thread) → IsDriver t → t ≡ C
 driver-is C d = refl
@@ -48,11 +49,11 @@ module _ (h : Finished) (past : List Noted) (m : Made) (old : Replay) (ready : M
     peer : is_peer_event m.caller m.op ≡ true
     peer = ap (λ t. is_peer_event t m.op) driver ∙ (ap (λ x. is_peer_event C x) is ∙ on_peers)
 
-    pub driver-draws : MayDraw peer_rules recorder old.draw (seen old.peers) C o
+    pub driver-draws : MayDraw peer_rules drawing old.draw (seen old.peers) C o
     driver-draws = may_draw h past m old ready peer C o tt
 
     module _ (reply : Reply) (told : Told) (new : Replay) (cites : Option ℕ) (cited : m.cites ≡ cites)
-        (adds : AddsLawful peer_rules recorder old.draw new.draw (seen old.peers) (seen new.peers) (driver-made m.index o reply cites) told) (none : IsNoRefusal o)
+        (adds : AddsLawful peer_rules drawing old.draw new.draw (seen old.peers) (seen new.peers) (driver-made m.index o reply cites) told) (none : IsNoRefusal o)
         (stated : DriverData s.control.stand s.managed.managed s.peer.peers.issued o reply told) where
       alike : driver-made m.index o reply cites ≡ record m { reply = reply }
       alike = λ i. record { caller = sym driver i; index = m.index; op = sym is i; reply = reply; cites = sym cited i }

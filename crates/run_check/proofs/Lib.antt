@@ -1,7 +1,3 @@
-pub mod Renumbered
-pub mod DeadContraction
-pub mod Candidates
-pub mod MirroredParts
 pub mod Pasts
 pub mod Owing
 pub mod Parting

@@ -21,7 +21,7 @@ use Rattle.peer_heap.specs.Sides.{Reserve}
 use Rattle.run_check.specs.declared.cycles.OpenCycle.{OpenCycle as Kept}
 use Rattle.run_check.specs.Cycles.{CycleFollows, HasCycle, IsAtHandle, IsOpenHere}
 use Rattle.run_check.specs.Follows.{LeftFits, ReserveFollows}
-use Rattle.run_check.proofs.MirroredParts.{candidates-few, shows-on}
+use Rattle.dead_parts.proofs.MirroredParts.{candidates-few, shows-on}
 
 -- as many candidates as are kept
 pub candidates-are : (s : Linkage) (o : Kept) (a : IsOpenHere s o) → length (candidates_of s.managed.managed) ≡ o.candidates

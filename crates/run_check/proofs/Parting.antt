@@ -25,8 +25,8 @@ use Rattle.caller_turns.specs.Shapes.{IsPartOf, next_place, stand_of}
 use Rattle.caller_turns.specs.Turns.{HasCount}
 use Rattle.run_check.specs.declared.cycles.OpenCycle.{OpenCycle as Kept}
 use Rattle.run_check.specs.Cycles.{CycleFollows, IsAtHandle, IsOpenHere}
-use Rattle.run_check.specs.Handles.{AreCandidates}
-use Rattle.run_check.proofs.Candidates.{are_candidates}
+use Rattle.dead_parts.specs.Graphs.{AreCandidates}
+use Rattle.dead_parts.proofs.Candidates.{are_candidates}
 
 -- the handle of the node at a place is the first one from there on
 first-handle : (nodes : List Node) (place : ℕ) → (place < length nodes → IsSome (handle_at nodes place)) → handle_at nodes place ≡ slice_get (handles_of (drop place nodes)) 0

@@ -1,8 +1,8 @@
 -- An entry of the peer side behind a past that a replay follows: where its reply is the side's, it comes behind the
 -- past, and the replay follows the longer one; and where it isn't, nothing that is told of it makes it right, since
 -- what may come there answers one thing.
-use Rattle.std.proofs.Common.{◌≡◌, ℕ, suc, ◌<◌, ◌^◌, Bool, true, false, List, ◌∷◌, length, Option, refl, sym, ap, ◌∙◌, subst, arith, true≢false}
-use Rattle.std.specs.Prelude.{◌↔◌, ◌-◌, IsTrue, ⊤}
+use Rattle.std.proofs.Common.{◌≡◌, ℕ, suc, ◌<◌, Bool, true, false, List, ◌∷◌, length, Option, refl, sym, ap, ◌∙◌, subst, arith, true≢false}
+use Rattle.std.specs.Prelude.{◌↔◌, IsTrue}
 use Rattle.std.proofs.lemmas.List.Elements.{All-contains}
 use Rattle.joint_machine.specs.declared.names.Cycle.{Cycle}
 use Rattle.joint_machine.specs.declared.names.Thread.{Thread}
@@ -14,7 +14,7 @@ use Rattle.joint_machine.specs.declared.events.Op.TheVariants as op
 use Rattle.joint_machine.specs.declared.events.Reply.{Reply}
 use Rattle.joint_machine.specs.declared.events.Reply.TheVariants as says
 use Rattle.joint_machine.specs.Control.{Stand, control_after}
-use Rattle.joint_machine.specs.Draws.{AllBelow, CountDrew, Drawing}
+use Rattle.joint_machine.specs.Draws.{AllBelow}
 use Rattle.joint_machine.specs.Histories.{Finished, managed_numbers, peer_numbers}
 use Rattle.joint_machine.specs.Lines.{is_peer_event, is_read}
 use Rattle.joint_machine.specs.Linked.{Linkage, MayCome, PeerLawful, SideLawful, linkage_after, managed_after, peer_after}
@@ -38,21 +38,12 @@ use Rattle.check_laws.proofs.Knows.{pasts_known}
 use Rattle.check_laws.proofs.Ordering.{order_tested}
 use Rattle.check_laws.proofs.Replying.{replies_one}
 use Rattle.peer_heap.specs.Sides.{seen}
-use Rattle.run_check.specs.declared.draws.Recorder.{Recorder}
 use Rattle.run_check.specs.declared.readers.Readers.{Readers}
 use Rattle.run_check.specs.declared.replays.Replay.{Replay}
 use Rattle.run_check.specs.Cycles.{CycleFollows}
 use Rattle.run_check.specs.Follows.{ManagedFollows, ReserveFollows, StoresFollow, owed_after}
 use Rattle.run_check.specs.Judging.{AnswersRightly, MayNotReply, MayReply, Replied, next_noted}
-
--- the draw of a replay
-abbrev pub recorder : Drawing Recorder
-recorder = record {
-  floor = λ r. r.counter;
-  left = λ r. 2 ^ 63 - r.counter;
-  may = λ r t o m. ⊤;
-  drew = λ r e m freed after. CountDrew r.counter e m freed after.counter × (after.target ≡ m);
-}
+use Rattle.run_check.proofs.Drawing.{drawing}
 
 -- no other part of a replay is changed by a call of the peer side
 pub record Keeps (old new : Replay) : Type 0 where
@@ -93,7 +84,7 @@ module _ (h : Finished) (past : List Noted) (m : Made) (old : Replay) (ready : M
   no_read = (peer_reads_none m.caller m.op ready.next.turn.event peer).0
 
   -- the replay may draw for any event that the peer side takes
-  pub may_draw : (t : Thread) (o : Op) → TakesPeer 8 t → MayDraw peer_rules recorder old.draw (seen old.peers) t o
+  pub may_draw : (t : Thread) (o : Op) → TakesPeer 8 t → MayDraw peer_rules drawing old.draw (seen old.peers) t o
   may_draw t o takes =
       let drawn = ready.sides.drawn in
       let few = ready.next.so_far.few in
@@ -107,7 +98,7 @@ module _ (h : Finished) (past : List Noted) (m : Made) (old : Replay) (ready : M
 
   -- the side's own entry, which is this one but for the reply
   module _ (own : Made) (told : Told) (new : Replay) (alike : own ≡ record m { reply = own.reply })
-      (adds : AddsLawful peer_rules recorder old.draw new.draw (seen old.peers) (seen new.peers) own told) (none : IsNoRefusal m.op) (driven : CallersData s m.caller m.op own.reply told) where
+      (adds : AddsLawful peer_rules drawing old.draw new.draw (seen old.peers) (seen new.peers) own told) (none : IsNoRefusal m.op) (driven : CallersData s m.caller m.op own.reply told) where
     by_side : PeerLawful s.peer (record m { reply = own.reply }) told
     by_side = subst (λ (p : PeerReplay). PeerLawful p (record m { reply = own.reply }) told) ready.sides.peers.state (subst (λ (x : Made). PeerLawful old.peers.state x told) alike adds.goes.lawful.1)
 

@@ -12,31 +12,28 @@ use Rattle.joint_machine.specs.declared.events.Op.{Op}
 use Rattle.joint_machine.specs.declared.events.Op.TheVariants as op
 use Rattle.joint_machine.specs.declared.events.Reply.TheVariants as says
 use Rattle.joint_machine.specs.Control.{OpenSnap, Stand, idle, weakening, restoring, restored, IsCandidateHandle, answer_in, stand_after}
-use Rattle.joint_machine.specs.Heaps.{numbered_at}
 use Rattle.joint_machine.specs.Histories.{Finished}
 use Rattle.joint_machine.specs.Lines.{IsEvent, is_peer_event, is_read}
 use Rattle.joint_machine.specs.Linked.{Linkage}
 use Rattle.joint_model.specs.Listed.{answer_of, answers_of}
 use Rattle.joint_machine.specs.Managed.{Managed, candidates_of}
-use Rattle.joint_machine.specs.PeerReplay.{PeerReplay, TableRow, MayClear, MayRestore, MayWeaken, row_of}
-use Rattle.joint_machine.specs.Peers.{strong}
+use Rattle.joint_machine.specs.PeerReplay.{PeerReplay, MayClear, MayRestore, MayWeaken}
 use Rattle.joint_machine.specs.Sides.{AddsLawful, MayDraw, peer_rules}
 use Rattle.joint_machine.specs.Told.{Answer, Noted, nothing}
 use Rattle.joint_machine.specs.PinsTold.{no_pins}
-use Rattle.joint_laws.specs.LinkedInvariants.{HasStrength, given_at}
-use Rattle.joint_laws.proofs.PeerEntries.{peer_of-issued}
+use Rattle.joint_laws.specs.LinkedInvariants.{given_at}
 use Rattle.known_laws.specs.Driving.{IsPastKept}
 use Rattle.known_laws.specs.Known.{pinned}
-use Rattle.known_laws.proofs.Conditions.{all_may_be_cleared, next_may_be_restored, next_may_be_weakened, targets_are_strong}
+use Rattle.known_laws.proofs.Conditions.{all_may_be_cleared, next_may_be_restored, next_may_be_weakened}
 use Rattle.check_laws.specs.Behind.{RepliesBehind, SideReplies, state_of}
 use Rattle.check_laws.specs.Order.{CallersData, ClearData, ClearTurn, DriverData, RestoreTurn, WeakenCites, WeakenTurn}
 use Rattle.caller_turns.specs.Shapes.{next_place}
 use Rattle.bridge_graph.specs.Handles.{handles_of}
 use Rattle.global_handles.specs.Rows.{back_of}
 use Rattle.peer_heap.specs.Cycles.{clears, reply_of, reserve_left, reserve_over, restores, weakens}
-use Rattle.peer_heap.specs.Mirroring.{strong_row}
 use Rattle.peer_heap.specs.Mirrors.{AreTargetsRestored}
 use Rattle.peer_heap.specs.Sides.{Reserve, seen}
+use Rattle.dead_parts.proofs.ClearTargets.{targets_here}
 use Rattle.run_check.specs.declared.cycles.OpenCycle.{OpenCycle as Kept}
 use Rattle.run_check.specs.declared.replays.Replay.{Replay}
 use Rattle.run_check.specs.Cycles.{CycleFollows, HasCycle, IsAtHandle, IsOpenHere}
@@ -45,7 +42,8 @@ use Rattle.run_check.specs.Going.{HasGoneOn, HasPut}
 use Rattle.run_check.specs.Judging.{AnswersRightly, MayNotReply, MayReply, next_noted}
 use Rattle.run_check.proofs.DriverEntries.{cites-is, driver-draws, driver-is, driver-names, driver-right, driver-wrong, turn-is}
 use Rattle.run_check.proofs.Opened.{candidate-listed, candidates-are, opened-on}
-use Rattle.run_check.proofs.PeerEntries.{Keeps, compared, known, recorder}
+use Rattle.run_check.proofs.Drawing.{drawing}
+use Rattle.run_check.proofs.PeerEntries.{Keeps, compared, known}
 
 -- what the past keeps, and its managed objects
 pub kept-at : (h : Finished) (past : List Noted) (m : Made) (old : Replay) (ready : MayReply h past old m) → m.caller ≡ C → (o : Op) → m.op ≡ o → is_peer_event C o ≡ true
@@ -101,7 +99,7 @@ module _ (h : Finished) (m : Made) (old : Replay) (g : HNum) (is : m.op ≡ op.W
       (subst (λ c. MayWeaken (state_of w.0).peer g.0 c) (sym a.cited ∙ e)
       (next_may_be_weakened (pinned (state_of w.0) no_pins) (weaken-kept w.0 w.1) a.opened a.count g.0 a.weakened false a.stands a.candidate))
 
-  pub weaken-draws : ((past : List Noted) × MayReply h past old m) → MayDraw peer_rules recorder old.draw (seen old.peers) C (op.Weaken g)
+  pub weaken-draws : ((past : List Noted) × MayReply h past old m) → MayDraw peer_rules drawing old.draw (seen old.peers) C (op.Weaken g)
   weaken-draws w = driver-draws h w.0 m old w.1 (op.Weaken g) is (weaken-driver w.0 w.1) refl
 
   -- a citation is there
@@ -129,7 +127,7 @@ module _ (h : Finished) (m : Made) (old : Replay) (g : HNum) (is : m.op ≡ op.W
       (ap (λ (z : Kept). z.alive.room + length z.alive.values) same ∙ f.room))
 
   pub weaken-answers : (new : Replay) (cites : ℕ) (b : Bool) → m.cites ≡ Some cites
-      → AddsLawful peer_rules recorder old.draw new.draw (seen old.peers) (seen new.peers) (weakens m.index g cites) nothing
+      → AddsLawful peer_rules drawing old.draw new.draw (seen old.peers) (seen new.peers) (weakens m.index g cites) nothing
       → Keeps old new → HasGoneOn old.cycle new.cycle → new.peers.reserve ≡ reserve_left old.peers.reserve → (IsTrue b ↔ (m.reply ≡ says.Ok)) → AnswersRightly h m old new b
   weaken-answers new cites b cited adds keeps gone reserve same =
       compared h m old new says.Ok b same
@@ -179,7 +177,7 @@ module _ (h : Finished) (m : Made) (old : Replay) (g : HNum) (is : m.op ≡ op.R
       let a = restore-at w.0 w.1 in
       subst (λ (p : PeerReplay). MayRestore p g.0) (sym w.1.sides.peers.state) (next_may_be_restored (pinned (state_of w.0) no_pins) (restore-kept w.0 w.1) a.opened a.answers g.0 a.stands a.candidate)
 
-  pub restore-draws : ((past : List Noted) × MayReply h past old m) → MayDraw peer_rules recorder old.draw (seen old.peers) C (op.Restore g)
+  pub restore-draws : ((past : List Noted) × MayReply h past old m) → MayDraw peer_rules drawing old.draw (seen old.peers) C (op.Restore g)
   restore-draws w = driver-draws h w.0 m old w.1 (op.Restore g) is (restore-driver w.0 w.1) refl
 
   -- there is room for its answer
@@ -230,7 +228,7 @@ module _ (h : Finished) (m : Made) (old : Replay) (g : HNum) (is : m.op ≡ op.R
       let more = length-append o.alive.values (back ∷ []) in
       omega (arith, room, mid_room, now, count, more)))
 
-  pub restore-answers : (new : Replay) (back : Option HNum) (b : Bool) → AddsLawful peer_rules recorder old.draw new.draw (seen old.peers) (seen new.peers) (restores m.index g (back_of back)) nothing
+  pub restore-answers : (new : Replay) (back : Option HNum) (b : Bool) → AddsLawful peer_rules drawing old.draw new.draw (seen old.peers) (seen new.peers) (restores m.index g (back_of back)) nothing
       → Keeps old new → HasPut old.cycle new.cycle back → new.peers.reserve ≡ old.peers.reserve → (IsTrue b ↔ (m.reply ≡ reply_of (back_of back))) → AnswersRightly h m old new b
   restore-answers new back b adds keeps put reserve same =
       compared h m old new (reply_of (back_of back)) b same
@@ -255,27 +253,6 @@ pub record AtClearing (stand : Stand) (candidates : ℕ) : Type 0 where
 at-clearing : (stand : Stand) (c : ℕ) → ClearTurn stand c → AtClearing stand c
 at-clearing (restoring o answers) c t = record { opened = o; answers = answers; stands = refl; all = t }
 at-clearing _ c t = absurd t
-
--- a strong row of the table isn't cleared
-row_there : (s : Linkage) (h : ℕ) → IsPastKept s → HasStrength s.peer h strong → row_of s.peer h ≡ Some strong_row
-row_there s h k st =
-    let sure = k.kept.peer.handles.sure h st.0 st.1 st.2 in
-    tabled s.peer st.0 st.1 ∙ ap Some (λ i. record { strength = st.2 i; cleared = sure i })
-  where
-    tabled : (r : PeerReplay) (row : TableRow) → numbered_at r.table h ≡ Some (Some row) → row_of r h ≡ Some row
-    tabled r row e = ap (λ (o : Option (Option TableRow)). elim o [ None ↦ None | Some x ↦ x ]) e
-
--- each unfreed peer that references lead to is restored strong, as the side asks
-targets_here : (s : Linkage) → IsPastKept s → (o : OpenSnap) (answers : List Answer) → s.control.stand ≡ restoring o answers → length answers ≡ length (candidates_of s.managed.managed)
-    → AreTargetsRestored s.peer
-targets_here s k o answers e all m is p q r =
-    let t = targets_are_strong s k o answers e all p q r.reference r.there in
-    record {
-      handle = t.given;
-      given = t.told m is;
-      strong_now = row_there s t.given k t.strong_one;
-      peer = peer_of-issued s.peer.peers.issued t.given t.row t.is_issued ∙ ap Some t.leads;
-    }
 
 module _ (h : Finished) (m : Made) (old : Replay) (k : Cycle) (is : m.op ≡ op.Clear k) where
   module _ (past : List Noted) (ready : MayReply h past old m) where
@@ -325,7 +302,7 @@ module _ (h : Finished) (m : Made) (old : Replay) (k : Cycle) (is : m.op ≡ op.
     clear-targets w =
         (let a = clear-at w.0 w.1 in subst AreTargetsRestored (sym w.1.sides.peers.state) (targets_here (pinned (state_of w.0) no_pins) (clear-kept w.0 w.1) a.opened a.answers a.stands a.all))
 
-    pub clear-draws : ((past : List Noted) × MayReply h past old m) → MayDraw peer_rules recorder old.draw (seen old.peers) C (op.Clear k)
+    pub clear-draws : ((past : List Noted) × MayReply h past old m) → MayDraw peer_rules drawing old.draw (seen old.peers) C (op.Clear k)
     clear-draws w = driver-draws h w.0 m old w.1 (op.Clear k) is (clear-driver w.0 w.1) refl
 
     cleared-on : (past : List Noted) (ready : MayReply h past old m) (p : Kept) → p ≡ record o { place = p.place } → IsAtHandle p.graph.nodes p.place 0 → (t : Linkage)
@@ -341,7 +318,7 @@ module _ (h : Finished) (m : Made) (old : Replay) (k : Cycle) (is : m.op ≡ op.
         (ap (λ (z : Kept). answers_of z.alive.values) rest ∙ (f.given ∙ (ap given_at a.stands ∙ sym (ap given_at d))))
         (ap (λ (z : Kept). z.alive.room + length z.alive.values) rest ∙ f.room)
 
-    pub clear-answers : (new : Replay) (p : Kept) (b : Bool) → AddsLawful peer_rules recorder old.draw new.draw (seen old.peers) (seen new.peers) (clears m.index k) nothing
+    pub clear-answers : (new : Replay) (p : Kept) (b : Bool) → AddsLawful peer_rules drawing old.draw new.draw (seen old.peers) (seen new.peers) (clears m.index k) nothing
         → Keeps old new → new.cycle ≡ Some p → p ≡ record o { place = p.place } → IsAtHandle p.graph.nodes p.place 0 → new.peers.reserve ≡ reserve_over old.peers.reserve
         → (IsTrue b ↔ (m.reply ≡ says.Ok)) → AnswersRightly h m old new b
     clear-answers new p b adds keeps there rest first reserve same =

@@ -46,7 +46,8 @@ use Rattle.run_check.specs.Lists.{StandsInList, rest_of}
 use Rattle.run_check.specs.Judging.{AnswersRightly, MayNotReply, MayReply, Replied, next_noted}
 use Rattle.run_check.proofs.DriverEntries.{driver-draws, driver-is, driver-names, driver-one, driver-right, driver-wrong, turn-is, cites-is}
 use Rattle.run_check.proofs.Opened.{opened-on}
-use Rattle.run_check.proofs.PeerEntries.{Keeps, compared, may_draw, one as is-one, recorder, wrong}
+use Rattle.run_check.proofs.Drawing.{drawing}
+use Rattle.run_check.proofs.PeerEntries.{Keeps, compared, may_draw, one as is-one, wrong}
 use Rattle.run_check.proofs.PeerHandles.{kept-at}
 use Rattle.run_check.proofs.PeerSteps.{alike-made, peer-cites, peer-data, peer-takes, thread-named, thread-right}
 
@@ -116,8 +117,8 @@ module _ (h : Finished) (m : Made) (old : Replay) (is : m.op ≡ op.Begin) where
       begin-none : old.peers.state.marking ≡ None
       begin-none = ap (λ (p : PeerReplay). p.marking) ready.sides.peers.state ∙ begin-at.shut
 
-    pub begin-draws : ((past : List Noted) × MayReply h past old m) → MayDraw peer_rules recorder old.draw (seen old.peers) m.caller op.Begin
-    begin-draws w = subst (λ t. MayDraw peer_rules recorder old.draw (seen old.peers) t op.Begin) (sym driver) (driver-draws h w.0 m old w.1 op.Begin is driver refl)
+    pub begin-draws : ((past : List Noted) × MayReply h past old m) → MayDraw peer_rules drawing old.draw (seen old.peers) m.caller op.Begin
+    begin-draws w = subst (λ t. MayDraw peer_rules drawing old.draw (seen old.peers) t op.Begin) (sym driver) (driver-draws h w.0 m old w.1 op.Begin is driver refl)
 
     pub begin-fault : (f : BeginFault) (new : Replay) → (f ≡ OutOfMemory → ⊥) → IsFaultAt f old.peers.state.marking → AnswersRightly h m old new false
     begin-fault f new n w = λ past ready. absurd (fault-open f n (subst (IsFaultAt f) (begin-none past ready) w))
@@ -132,11 +133,11 @@ module _ (h : Finished) (m : Made) (old : Replay) (is : m.op ≡ op.Begin) where
         subst (CycleFollows t) (sym p.1) (first-on (state_of past) t e o p.0 f p.2 p.3
         (subst (λ z. HasCycle z p.0) (sym d) (ap (λ (z : Kept). z.cycle.0) p.2 ∙ subst (λ z. HasCycle z o) a.stands f.stands)) (ap next_place d) (ap given_at a.stands ∙ sym (ap given_at d)))
 
-    pub begin-answers : (new : Replay) (j : Number) (b : Bool) → AddsLawful peer_rules recorder old.draw new.draw (seen old.peers) (seen new.peers) (begins m.caller m.index j) nothing
+    pub begin-answers : (new : Replay) (j : Number) (b : Bool) → AddsLawful peer_rules drawing old.draw new.draw (seen old.peers) (seen new.peers) (begins m.caller m.index j) nothing
         → Keeps old new → HasBegun old.cycle new.cycle → new.peers.reserve.waiting ≡ old.peers.reserve.waiting → (IsTrue b ↔ (m.reply ≡ says.Mark j)) → AnswersRightly h m old new b
     begin-answers new j b adds keeps begun waits same =
-        let mine : AddsLawful peer_rules recorder old.draw new.draw (seen old.peers) (seen new.peers) (begins C m.index j) nothing = subst
-        (λ t. AddsLawful peer_rules recorder old.draw new.draw (seen old.peers) (seen new.peers) (begins t m.index j) nothing) driver adds in
+        let mine : AddsLawful peer_rules drawing old.draw new.draw (seen old.peers) (seen new.peers) (begins C m.index j) nothing = subst
+        (λ t. AddsLawful peer_rules drawing old.draw new.draw (seen old.peers) (seen new.peers) (begins t m.index j) nothing) driver adds in
         compared h m old new (says.Mark j) b same
         (λ past ready e. (let a = begin-at past ready in (
           nothing,
@@ -158,16 +159,16 @@ module _ (h : Finished) (m : Made) (old : Replay) (is : m.op ≡ op.Begin) where
     pub thread-begin-step : ((past : List Noted) × MayReply h past old m) → IsSideStep m.caller m.op
     thread-begin-step w = subst (IsSideStep m.caller) (sym is) (begin-event w.0 w.1)
 
-    pub thread-begin-draws : ((past : List Noted) × MayReply h past old m) → MayDrawStep recorder old.draw (seen old.peers) m.caller m.op
+    pub thread-begin-draws : ((past : List Noted) × MayReply h past old m) → MayDrawStep drawing old.draw (seen old.peers) m.caller m.op
     thread-begin-draws w =
-        subst (λ o. MayDrawStep recorder old.draw (seen old.peers) m.caller o) (sym is) (may_draw h w.0 m old w.1 on-peers m.caller op.Begin (peer-takes m.caller (begin-thread w.0 w.1)))
+        subst (λ o. MayDrawStep drawing old.draw (seen old.peers) m.caller o) (sym is) (may_draw h w.0 m old w.1 on-peers m.caller op.Begin (peer-takes m.caller (begin-thread w.0 w.1)))
 
     pub thread-begin-answers : (new : Replay) (reply : Reply) (gone : List ℕ) (b : Bool)
-        → AddsInTurn peer_rules recorder old.draw new.draw (seen old.peers) (seen new.peers) (step_makings m.caller m.index m.op None reply gone)
+        → AddsInTurn peer_rules drawing old.draw new.draw (seen old.peers) (seen new.peers) (step_makings m.caller m.index m.op None reply gone)
         → Keeps old new → new.cycle ≡ old.cycle → new.peers.reserve ≡ old.peers.reserve → (IsTrue b ↔ (m.reply ≡ reply)) → AnswersRightly h m old new b
     thread-begin-answers new reply gone b adds keeps cycle reserve same =
-        let one = one-added peer_rules recorder old.draw new.draw (seen old.peers) (seen new.peers) (record { caller = m.caller; index = m.index; op = op.Begin; reply = reply; cites = None }) nothing
-        (subst (λ o. AddsInTurn peer_rules recorder old.draw new.draw (seen old.peers) (seen new.peers) (step_makings m.caller m.index o None reply gone)) is adds) in
+        let one = one-added peer_rules drawing old.draw new.draw (seen old.peers) (seen new.peers) (record { caller = m.caller; index = m.index; op = op.Begin; reply = reply; cites = None }) nothing
+        (subst (λ o. AddsInTurn peer_rules drawing old.draw new.draw (seen old.peers) (seen new.peers) (step_makings m.caller m.index o None reply gone)) is adds) in
         compared h m old new reply b same
         (λ past ready e. (let t = begin-thread past ready in (
           nothing,
@@ -337,8 +338,8 @@ module _ (h : Finished) (m : Made) (old : Replay) (is : m.op ≡ op.Sweep) where
     pub sweep-may-end : MayEnd old.peers.state.marking m.caller
     sweep-may-end = sweep-ends old.peers.state.marking m.caller driver
 
-    pub sweep-draws : ((past : List Noted) × MayReply h past old m) → MayDraw peer_rules recorder old.draw (seen old.peers) m.caller op.Sweep
-    sweep-draws w = subst (λ t. MayDraw peer_rules recorder old.draw (seen old.peers) t op.Sweep) (sym driver) (driver-draws h w.0 m old w.1 op.Sweep is driver refl)
+    pub sweep-draws : ((past : List Noted) × MayReply h past old m) → MayDraw peer_rules drawing old.draw (seen old.peers) m.caller op.Sweep
+    sweep-draws w = subst (λ t. MayDraw peer_rules drawing old.draw (seen old.peers) t op.Sweep) (sym driver) (driver-draws h w.0 m old w.1 op.Sweep is driver refl)
 
     -- a marking is open
     pub sweep-none : (new : Replay) → old.peers.state.marking ≡ None → AnswersRightly h m old new false
@@ -349,13 +350,13 @@ module _ (h : Finished) (m : Made) (old : Replay) (is : m.op ≡ op.Sweep) where
         (sym (ap (λ (p : PeerReplay). p.marking) ready.sides.peers.state) ∙ n))
 
     pub driver-sweeps : (new : Replay) (j : Number) (span : Span) (gone : List ℕ)
-        → AddsLawful peer_rules recorder old.draw new.draw (seen old.peers) (seen new.peers) (ends m.caller m.index j span) (sweep_of gone)
+        → AddsLawful peer_rules drawing old.draw new.draw (seen old.peers) (seen new.peers) (ends m.caller m.index j span) (sweep_of gone)
         → Keeps old new → new.cycle ≡ old.cycle → new.peers.reserve ≡ old.peers.reserve → MakesSweep h m old new (says.Swept j span) (sweep_of gone)
     driver-sweeps new j span gone adds keeps cycle reserve past ready =
         let s = state_of past in
         let a = at-sweeping s.control.stand _ _ (turn-is h past m old ready op.Sweep is driver) in
-        let mine : AddsLawful peer_rules recorder old.draw new.draw (seen old.peers) (seen new.peers) (ends C m.index j span) (sweep_of gone) =
-        subst (λ t. AddsLawful peer_rules recorder old.draw new.draw (seen old.peers) (seen new.peers) (ends t m.index j span) (sweep_of gone)) driver adds in
+        let mine : AddsLawful peer_rules drawing old.draw new.draw (seen old.peers) (seen new.peers) (ends C m.index j span) (sweep_of gone) =
+        subst (λ t. AddsLawful peer_rules drawing old.draw new.draw (seen old.peers) (seen new.peers) (ends t m.index j span) (sweep_of gone)) driver adds in
         let cited : m.cites ≡ None = cites-is h past m old ready op.Sweep is driver in
         record {
           allowed = adds.goes.lawful.1.allowed;
@@ -391,18 +392,18 @@ module _ (h : Finished) (m : Made) (old : Replay) (is : m.op ≡ op.Sweep) where
     pub thread-sweep-step : ((past : List Noted) × MayReply h past old m) → IsSideStep m.caller m.op
     thread-sweep-step w = subst (IsSideStep m.caller) (sym is) (sweep-event w.0 w.1)
 
-    pub thread-sweep-draws : ((past : List Noted) × MayReply h past old m) → MayDrawStep recorder old.draw (seen old.peers) m.caller m.op
+    pub thread-sweep-draws : ((past : List Noted) × MayReply h past old m) → MayDrawStep drawing old.draw (seen old.peers) m.caller m.op
     thread-sweep-draws w =
-        subst (λ o. MayDrawStep recorder old.draw (seen old.peers) m.caller o) (sym is) (may_draw h w.0 m old w.1 sweep-peers m.caller op.Sweep (peer-takes m.caller (sweep-thread w.0 w.1)))
+        subst (λ o. MayDrawStep drawing old.draw (seen old.peers) m.caller o) (sym is) (may_draw h w.0 m old w.1 sweep-peers m.caller op.Sweep (peer-takes m.caller (sweep-thread w.0 w.1)))
 
     pub thread-sweeps : (new : Replay) (reply : Reply) (gone : List ℕ)
-        → AddsInTurn peer_rules recorder old.draw new.draw (seen old.peers) (seen new.peers) (step_makings m.caller m.index m.op None reply gone)
+        → AddsInTurn peer_rules drawing old.draw new.draw (seen old.peers) (seen new.peers) (step_makings m.caller m.index m.op None reply gone)
         → Keeps old new → new.cycle ≡ old.cycle → new.peers.reserve ≡ old.peers.reserve → MakesSweep h m old new reply (told_at op.Sweep reply gone)
     thread-sweeps new reply gone adds keeps cycle reserve past ready =
         let told = told_at op.Sweep reply gone in
         let own : Made = record { caller = m.caller; index = m.index; op = op.Sweep; reply = reply; cites = None } in
-        let one = one-added peer_rules recorder old.draw new.draw (seen old.peers) (seen new.peers) own told
-        (subst (λ o. AddsInTurn peer_rules recorder old.draw new.draw (seen old.peers) (seen new.peers) (step_makings m.caller m.index o None reply gone)) is adds) in
+        let one = one-added peer_rules drawing old.draw new.draw (seen old.peers) (seen new.peers) own told
+        (subst (λ o. AddsInTurn peer_rules drawing old.draw new.draw (seen old.peers) (seen new.peers) (step_makings m.caller m.index o None reply gone)) is adds) in
         let t = sweep-thread past ready in
         let alike = alike-made m op.Sweep None reply is (peer-cites (state_of past) m.caller m.op m.cites t ready.next.cites) in
         let none : IsNoRefusal m.op = subst IsNoRefusal (sym is) tt in

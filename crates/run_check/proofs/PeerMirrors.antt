@@ -35,12 +35,14 @@ use Rattle.peer_heap.specs.Mirroring.{strong_row}
 use Rattle.peer_heap.specs.Sides.{Reserve, seen}
 use Rattle.run_check.specs.declared.cycles.OpenCycle.{OpenCycle as Kept}
 use Rattle.run_check.specs.declared.replays.Replay.{Replay}
-use Rattle.run_check.specs.Cycles.{CycleFollows, HasCycle, HasListing, IsAtHandle, IsOpenHere, numbered_comps}
+use Rattle.dead_parts.specs.Graphs.{numbered_comps}
+use Rattle.run_check.specs.Cycles.{CycleFollows, HasCycle, HasListing, IsAtHandle, IsOpenHere}
 use Rattle.run_check.specs.Judging.{AnswersRightly, MayReply}
 use Rattle.run_check.proofs.DriverEntries.{cites-is, driver-draws, driver-is, driver-names, driver-right, driver-wrong}
-use Rattle.run_check.proofs.MirroredParts.{ShowsHandles, candidates-same, carried-is, handles-strong, members-bridge, shows-on}
+use Rattle.dead_parts.proofs.MirroredParts.{ShowsHandles, candidates-same, carried-is, handles-strong, members-bridge, shows-on}
 use Rattle.run_check.proofs.Opened.{opened-on, same-dead}
-use Rattle.run_check.proofs.PeerEntries.{Keeps, compared, recorder}
+use Rattle.run_check.proofs.Drawing.{drawing}
+use Rattle.run_check.proofs.PeerEntries.{Keeps, compared}
 use Rattle.run_check.proofs.PeerHandles.{kept-at}
 
 -- where the driver mirrors
@@ -151,7 +153,7 @@ module _ (h : Finished) (m : Made) (old : Replay) (k : Cycle) (is : m.op ≡ op.
         (subst (λ c. MayMirror (state_of w.0).peer k.0 c) (sym (a w.0 w.1).cited ∙ cited)
         (subst (λ n. MayMirror (state_of w.0).peer n (Some (a w.0 w.1).opened.snap)) (a w.0 w.1).same_cycle (may w.0 w.1).mirrors))
 
-    pub mirror-draws : ((past : List Noted) × MayReply h past old m) → MayDraw peer_rules recorder old.draw (seen old.peers) C (op.Mirror k)
+    pub mirror-draws : ((past : List Noted) × MayReply h past old m) → MayDraw peer_rules drawing old.draw (seen old.peers) C (op.Mirror k)
     mirror-draws w = driver-draws h w.0 m old w.1 (op.Mirror k) is (mirror-driver w.0 w.1) refl
 
     mirror-data : (past : List Noted) (ready : MayReply h past old m) → DriverData (state_of past).control.stand (state_of past).managed.managed (state_of past).peer.peers.issued (op.Mirror k) m.reply
@@ -161,7 +163,7 @@ module _ (h : Finished) (m : Made) (old : Replay) (k : Cycle) (is : m.op ≡ op.
         (references_of (carried_to_peers old.peers.state.peers.issued o.graph.nodes (mirror_edges l.comps l.pairs)))) (sym (a past ready).stands) (refs-are past ready)
 
     pub mirror-answers : (new : Replay) (refs : ℕ) (b : Bool)
-        → AddsLawful peer_rules recorder old.draw new.draw (seen old.peers) (seen new.peers) (mirrors m.index k refs cites)
+        → AddsLawful peer_rules drawing old.draw new.draw (seen old.peers) (seen new.peers) (mirrors m.index k refs cites)
         (references_of (carried_to_peers old.peers.state.peers.issued o.graph.nodes (mirror_edges l.comps l.pairs)))
         → Keeps old new → new.cycle ≡ old.cycle → new.peers.reserve ≡ reserve_installed (length (handles_of o.graph.nodes)) → (IsTrue b ↔ (m.reply ≡ says.Refs refs)) → AnswersRightly h m old new b
     mirror-answers new refs b adds keeps cycle reserve same =

@@ -31,7 +31,8 @@ use Rattle.run_check.specs.Cycles.{CycleFollows}
 use Rattle.run_check.specs.Follows.{ReserveFollows}
 use Rattle.run_check.specs.Judging.{AnswersRightly, IsPeerStepped, MayReply, Replied, next_noted}
 use Rattle.run_check.proofs.Opened.{reserved, stays}
-use Rattle.run_check.proofs.PeerEntries.{Keeps, compared, control_is, known, managed_is, may_draw, names_none, recorder, right, wrong}
+use Rattle.run_check.proofs.Drawing.{drawing}
+use Rattle.run_check.proofs.PeerEntries.{Keeps, compared, control_is, known, managed_is, may_draw, names_none, right, wrong}
 
 line-is : (a : Act) → IsPeerAct a → IsOneEvent a → IsPeerStepped (op.Line a) → IsStepLine a
 line-is (act.NewPeer v n) p e s = tt
@@ -142,7 +143,7 @@ step-allowed s k t _ cites p c = absurd p
 module _ (h : Finished) (past : List Noted) (m : Made) (old : Replay) (ready : MayReply h past old m) (peer : is_peer_event m.caller m.op ≡ true) where
   -- what the driver has stays
   pub thread-named : (reply : Reply) (told : Told) (new : Replay) (own : Made) (alike : own ≡ record m { reply = reply })
-      (adds : AddsLawful peer_rules recorder old.draw new.draw (seen old.peers) (seen new.peers) own told)
+      (adds : AddsLawful peer_rules drawing old.draw new.draw (seen old.peers) (seen new.peers) own told)
       → (none : IsNoRefusal m.op) → (m.caller ≡ C → ⊥) → CallersData (state_of past) m.caller m.op reply told → Keeps old new → new.cycle ≡ old.cycle → new.peers.reserve ≡ old.peers.reserve
       → reply ≡ m.reply
       → NamesSo h (state_of past).managed.managed (next_noted past m told) → Replied h past m old new told
@@ -161,7 +162,7 @@ module _ (h : Finished) (past : List Noted) (m : Made) (old : Replay) (ready : M
 
   -- and an event whose reply has no span names nothing
   pub thread-right : (reply : Reply) (told : Told) (new : Replay) (own : Made) (alike : own ≡ record m { reply = reply })
-      (adds : AddsLawful peer_rules recorder old.draw new.draw (seen old.peers) (seen new.peers) own told)
+      (adds : AddsLawful peer_rules drawing old.draw new.draw (seen old.peers) (seen new.peers) own told)
       → (none : IsNoRefusal m.op) → (m.caller ≡ C → ⊥) → CallersData (state_of past) m.caller m.op reply told → (HasSpan m.op → ⊥) → Keeps old new → new.cycle ≡ old.cycle
       → new.peers.reserve ≡ old.peers.reserve → reply ≡ m.reply → Replied h past m old new told
   thread-right reply told new own alike adds none thread driven out keeps cycle reserve same =
@@ -180,12 +181,12 @@ module _ (h : Finished) (m : Made) (old : Replay) (w : (past : List Noted) × Ma
   peer-step-allowed = subst (λ (p : PeerReplay). PeerAllows p m.caller m.op m.cites nothing) (sym w.1.sides.peers.state)
       (step-allowed (state_of w.0) (known h w.0 m old w.1 peer).kept m.caller m.op m.cites peer-step w.1.next.cites)
 
-  pub peer-step-draws : MayDraw peer_rules recorder old.draw (seen old.peers) m.caller m.op
+  pub peer-step-draws : MayDraw peer_rules drawing old.draw (seen old.peers) m.caller m.op
   peer-step-draws = may_draw h w.0 m old w.1 peer m.caller m.op (step-takes m.caller m.op peer-step)
 
 -- and its answer is compared
 pub peer-step-answers : (h : Finished) (m : Made) (old new : Replay) (reply : Reply) (b : Bool) → is_peer_event m.caller m.op ≡ true → IsPeerStepped m.op
-    → AddsLawful peer_rules recorder old.draw new.draw (seen old.peers) (seen new.peers) (record { caller = m.caller; index = m.index; op = m.op; reply = reply; cites = m.cites }) nothing
+    → AddsLawful peer_rules drawing old.draw new.draw (seen old.peers) (seen new.peers) (record { caller = m.caller; index = m.index; op = m.op; reply = reply; cites = m.cites }) nothing
     → Keeps old new → new.cycle ≡ old.cycle → new.peers.reserve ≡ old.peers.reserve → (IsTrue b ↔ (m.reply ≡ reply)) → AnswersRightly h m old new b
 peer-step-answers h m old new reply b peer stepped adds keeps cycle reserve same =
     compared h m old new reply b same
@@ -240,11 +241,11 @@ module _ (h : Finished) (m : Made) (old : Replay) (n : ℕ) (is : m.op ≡ op.Li
   pub slice-counts : ((past : List Noted) × MayReply h past old m) → (1 ≤ n) × (n ≤ 65535)
   slice-counts w = ((thread-of w.0 w.1).1, (thread-of w.0 w.1).2)
 
-  pub slice-draws : ((past : List Noted) × MayReply h past old m) → MayDraw peer_rules recorder old.draw (seen old.peers) m.caller (op.Line (act.Slice n))
+  pub slice-draws : ((past : List Noted) × MayReply h past old m) → MayDraw peer_rules drawing old.draw (seen old.peers) m.caller (op.Line (act.Slice n))
   slice-draws w = may_draw h w.0 m old w.1 peer m.caller (op.Line (act.Slice n)) (peer-takes m.caller (slice-caller w))
 
   pub slice-answers : (new : Replay) (reply : Reply) (b : Bool)
-      → ((told : Told) × AddsLawful peer_rules recorder old.draw new.draw (seen old.peers) (seen new.peers)
+      → ((told : Told) × AddsLawful peer_rules drawing old.draw new.draw (seen old.peers) (seen new.peers)
       (record { caller = m.caller; index = m.index; op = op.Line (act.Slice n); reply = reply; cites = None }) told)
       → Keeps old new → new.cycle ≡ old.cycle → new.peers.reserve ≡ old.peers.reserve → (IsTrue b ↔ (m.reply ≡ reply)) → AnswersRightly h m old new b
   slice-answers new reply b adds keeps cycle reserve same =

@@ -1,7 +1,6 @@
 -- What is kept of the open cycle, in the state of a linked history: the dead part's graph, which candidate is next, the
 -- components that the contraction told, and what the restores have answered.
-use Rattle.std.specs.Prelude.{◌≡◌, ℕ, ◌+◌, ◌<◌, ◌≤◌, List, [], length, map, slice_index, drop, IsSome, Option, Some}
-use Rattle.std.specs.Prelude.{None}
+use Rattle.std.specs.Prelude.{◌≡◌, ℕ, ◌+◌, ◌<◌, ◌≤◌, List, [], length, drop, IsSome, Option, Some, None}
 use Rattle.joint_machine.specs.Control as control
 use Rattle.joint_machine.specs.Control.{Stand}
 use Rattle.joint_machine.specs.Linked.{Linkage}
@@ -11,10 +10,11 @@ use Rattle.joint_machine.specs.Told.{Answer}
 use Rattle.joint_laws.specs.LinkedInvariants.{given_at}
 use Rattle.bridge_graph.specs.declared.graph.Node.{Node}
 use Rattle.bridge_graph.specs.Handles.{handles_of, handle_at}
-use Rattle.bridge_graph.specs.Parts.{IsPart, Part, numbers_of}
+use Rattle.bridge_graph.specs.Parts.{IsPart}
 use Rattle.xref_list.specs.Listing.{IsListing, Listing}
 use Rattle.managed_heap.specs.Graphs.{IsDeadGraph}
 use Rattle.caller_turns.specs.Shapes.{next_place}
+use Rattle.dead_parts.specs.Graphs.{numbered_comps}
 use Rattle.run_check.specs.declared.cycles.OpenCycle.{OpenCycle as Kept}
 
 -- the place is that of the bridge node behind so many others, or the end where there are no more
@@ -23,13 +23,6 @@ pub record IsAtHandle (nodes : List Node) (place n : ℕ) : Type 0 where
   pub count : n ≤ length (handles_of nodes)
   pub rest : handles_of (drop place nodes) ≡ drop n (handles_of nodes)
   pub bridge : place < length nodes → IsSome (handle_at nodes place)
-
--- a node's managed number; 0 behind the last one. And components of nodes as components of these numbers
-abbrev pub number_at : Part → ℕ → ℕ
-number_at g i = slice_index (numbers_of g.nodes) i
-
-abbrev pub numbered_comps : Part → List (List ℕ) → List (List ℕ)
-numbered_comps g comps = map (map (number_at g)) comps
 
 -- the components that were told with the contract entry are at hand
 pub record HasListing (o : Kept) (comps : List (List ℕ)) (heavy : List ℕ) (xrefs : List (ℕ × ℕ)) : Type 0 where

@@ -1,7 +1,6 @@
 pub mod Cells
 pub mod Cycles
 pub mod Follows
-pub mod Handles
 pub mod Judging
 pub mod Lists
 pub mod Phases

@@ -4,7 +4,7 @@ ghost use Rattle.std.specs.Prelude.{◌≡◌, ◌+◌, ◌<◌, ◌^◌, length
 ghost use Rattle.std.specs.Prelude.{None, Some, ◌↔◌, ℕ};
 ghost use Rattle.std.specs.Bool.{OnTrue};
 ghost use Rattle.joint_machine.specs.declared.names.PhaseWord.{PhaseWord};
-ghost use Rattle.joint_machine.specs.Lines.{IsManagedThread, IsNamed, is_peer_event as made_by_peers, is_read};
+ghost use Rattle.joint_machine.specs.Lines.{IsManagedThread, IsNamed, is_read};
 ghost use Rattle.joint_machine.specs.Histories.{Finished};
 ghost use Rattle.joint_machine.specs.Managed.{cell_read};
 ghost use Rattle.joint_machine.specs.Readers.{MayBeUnset, ReadsCell, is_set_aside};
@@ -34,6 +34,7 @@ use joint_model::{
 };
 use managed_heap::ManagedSide;
 use peer_heap::PeerSide;
+use reader_counts::is_peers;
 use std::alloc::{AllocError, Global};
 
 /// Both sides as the entries so far have left them, with what is kept of callers, readers and the open cycle.
@@ -56,26 +57,6 @@ fn read_cell(op: &Op) -> Option<Cell>
         Op::Line(Act::Read { k }) => Some(*k),
         Op::Line(Act::Await { k }) => Some(*k),
         _ => None,
-    }
-}
-
-// Whether the event is made on the peer side.
-fn is_peer_event(caller: Thread, op: &Op) -> bool
-    ensures { result ≡ made_by_peers caller op.now }
-{
-    match op {
-        Op::Line(_) => matches!(caller, Thread::P(_)),
-        Op::Make { .. }
-        | Op::Land { .. }
-        | Op::Grip { .. }
-        | Op::Release { .. }
-        | Op::Mirror { .. }
-        | Op::Weaken { .. }
-        | Op::Begin
-        | Op::Sweep
-        | Op::Restore { .. }
-        | Op::Clear { .. } => true,
-        _ => false,
     }
 }
 
@@ -183,7 +164,7 @@ impl Replay {
         ensures { (past : List Noted) → OwedFollows past self.now.readers.owed
             → (IsTrue result ↔ GivesSnap past (next_noted past made.now nothing)) }
     {
-        if is_peer_event(made.caller, &made.op) {
+        if is_peers(made.caller, &made.op) {
             return true;
         }
         if read_cell(&made.op).is_some() {
@@ -219,7 +200,7 @@ impl Replay {
         if let Op::Refused { .. } = made.op {
             return self.refuses(h, made);
         }
-        if is_peer_event(made.caller, &made.op) {
+        if is_peers(made.caller, &made.op) {
             let right = self.peer_replies(h, made)?;
             return Ok(done(right));
         }

@@ -43,14 +43,14 @@ use Rattle.order_table.specs.Views.{known}
 use Rattle.view_laws.specs.Knowing.{IsDrawnView, drawn_lines, of_order}
 use Rattle.joint_history.specs.Callers.{Pass, own}
 use Rattle.joint_history.specs.Ending.{BeginsPast, BeginsView, HasOwn, IsKnownHistory}
-use Rattle.joint_history.specs.DriverMirrors.{number_at}
+use Rattle.dead_parts.specs.Graphs.{number_at}
 use Rattle.joint_history.specs.Knowing.{line_known}
 use Rattle.joint_history.specs.Operations.{MakesAll}
 use Rattle.joint_history.proofs.Ended.{prefix_map}
 use Rattle.bridge_cycle.specs.OpenParts.{IsOpenPart}
 use Rattle.bridge_cycle.specs.Progress.{Progress, RunsWord, RunsWords, cycle_after, last_reply, pass_of}
 use Rattle.bridge_cycle.proofs.Composed.{leads_one}
-use Rattle.bridge_cycle.proofs.DeadContraction.{a_graphs_contraction}
+use Rattle.dead_parts.proofs.DeadContraction.{a_graphs_contraction}
 use Rattle.listing_laws.specs.Listings.{IsListedIn, ListsDeadPart, is_snap}
 use Rattle.listing_laws.specs.Snapshots.{AreSeen, IsSeenAt, OpensNone, snaps_of}
 use Rattle.listing_laws.proofs.Growing.{seen_behind, seen_stays}

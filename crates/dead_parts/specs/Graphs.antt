@@ -1,6 +1,6 @@
--- The open cycle's dead part by its graph: the bridge nodes are the candidates, and the contraction of the graph is
--- that of the dead part.
-use Rattle.std.specs.Prelude.{◌≡◌, ℕ, List, length, map, slice_get, Some}
+-- The dead part of an open cycle by its graph: the nodes are read through their managed numbers, the bridge nodes are
+-- the candidates, and the contraction of the graph is that of the dead part.
+use Rattle.std.specs.Prelude.{◌≡◌, ℕ, List, length, map, slice_get, slice_index, Some}
 use Rattle.joint_machine.specs.declared.names.HNum.{HNum}
 use Rattle.joint_machine.specs.Components.{IsContraction}
 use Rattle.joint_machine.specs.Control.{IsCandidateHandle}
@@ -9,9 +9,16 @@ use Rattle.joint_machine.specs.Managed.{Managed, candidates_of}
 use Rattle.joint_laws.specs.ManagedInvariants.{IsManagedKept}
 use Rattle.bridge_graph.specs.declared.graph.Node.{Node}
 use Rattle.bridge_graph.specs.Handles.{handles_of}
-use Rattle.bridge_graph.specs.Parts.{Part, IsBridgeNode, IsPart, NodeLeads}
+use Rattle.bridge_graph.specs.Parts.{Part, IsBridgeNode, IsPart, NodeLeads, numbers_of}
 use Rattle.managed_heap.specs.Graphs.{IsDeadGraph}
-use Rattle.run_check.specs.Cycles.{number_at, numbered_comps}
+
+-- the managed number of the node with that index; 0 past the last node
+abbrev pub number_at : Part → ℕ → ℕ
+number_at g i = slice_index (numbers_of g.nodes) i
+
+-- components of nodes, by the nodes' managed numbers
+abbrev pub numbered_comps : Part → List (List ℕ) → List (List ℕ)
+numbered_comps g comps = map (map (number_at g)) comps
 
 -- the bridge nodes are the candidates: there are as many, and each has the handle of the candidate in its place
 pub record AreCandidates (seen : Managed) (nodes : List Node) : Type 0 where

@@ -17,9 +17,8 @@ use Rattle.joint_laws.proofs.DriverPeerSteps.{holds-handle_of}
 use Rattle.bridge_graph.specs.declared.graph.Node.{Node}
 use Rattle.bridge_graph.specs.Parts.{Part, IsBridgeNode, IsPart, NodeLeads, numbers_of}
 use Rattle.managed_heap.specs.Graphs.{IsDeadGraph, handle_number}
-use Rattle.joint_history.specs.DriverMirrors.{number_at}
-use Rattle.bridge_cycle.specs.Contracting.{GraphsContractionIsDeadParts}
-use Rattle.bridge_cycle.proofs.Renumbered.{IsRenumbered, contraction_renumbered, get_back, get_map}
+use Rattle.dead_parts.specs.Graphs.{GraphsContractionIsDeadParts, number_at}
+use Rattle.dead_parts.proofs.Renumbered.{IsRenumbered, contraction_renumbered, get_back, get_map}
 
 get_index : (xs : List ℕ) (i : ℕ) → i < length xs → slice_get xs i ≡ Some (slice_index xs i)
 get_index [] i l = absurd (omega arith)

@@ -14,11 +14,10 @@ use Rattle.joint_laws.specs.ManagedInvariants.{IsManagedKept}
 use Rattle.bridge_graph.specs.declared.graph.Node.{Node}
 use Rattle.bridge_graph.specs.Parts.{Part, IsPart, numbers_of}
 use Rattle.managed_heap.specs.Graphs.{IsDeadGraph, handle_number}
-use Rattle.joint_history.specs.DriverMirrors.{number_at}
 use Rattle.bridge_graph.specs.Handles.{handles_of}
-use Rattle.bridge_cycle.specs.Handles.{AreCandidates}
-use Rattle.bridge_cycle.proofs.DeadContraction.{handle_at_node, index_get, renumbered}
-use Rattle.bridge_cycle.proofs.Renumbered.{get_map}
+use Rattle.dead_parts.specs.Graphs.{AreCandidates, number_at}
+use Rattle.dead_parts.proofs.DeadContraction.{handle_at_node, index_get, renumbered}
+use Rattle.dead_parts.proofs.Renumbered.{get_map}
 
 -- the numbers of the bridge nodes
 abbrev row_of : Option HNum → ℕ → List ℕ

@@ -30,7 +30,7 @@ use Rattle.managed_heap.specs.Graphs.{IsDeadGraph, handle_number}
 use Rattle.peer_heap.specs.Mirroring.{strong_row}
 use Rattle.xref_list.specs.Listing.{IsListing, Listing}
 use Rattle.peer_mirror.specs.Carried.{AreBridgeNodes, AreHandlesStrong, carried_end as node_end, carried_to_peers, peer_of_node}
-use Rattle.run_check.specs.Cycles.{number_at, numbered_comps}
+use Rattle.dead_parts.specs.Graphs.{number_at, numbered_comps}
 
 -- mirror edges of components whose members are read through something are the mirror edges, read so
 module _ (f : ℕ → ℕ) where
@@ -270,14 +270,11 @@ module _ (t : Managed) (g : Part) (shows : ShowsHandles t g) (s : Managed) (c : 
       let dead : Contains c.dead n.0.number.0 = Contains-at c.dead at.0 n.0.number.0 (row-at s c.dead g graph at.0 n.0 at.1) in
       subst (Contains c.candidates) h.2 (((kept.dead c opened).candidates n.0.number.0).1 (dead, (h.0.0, holds-handle_of t n.0.number.0 h.0.0 kept.places held)))
 
-  pub candidates-few : IsPart g.nodes g.edges → length (candidates_of t) ≤ length (handles_of g.nodes)
-  candidates-few part =
-      let same : c.candidates ≡ bridge-numbers g.nodes = Rises-one c.candidates (bridge-numbers g.nodes)
-      (kept.dead c opened).rise (numbers-rise g.nodes part.rising) candidate-numbered numbered-candidate in
-      omega (arith, ap length (candidates_of-open t c opened), ap length same, numbers-count g.nodes)
-
   pub candidates-same : IsPart g.nodes g.edges → length (candidates_of t) ≡ length (handles_of g.nodes)
   candidates-same part =
       let same : c.candidates ≡ bridge-numbers g.nodes = Rises-one c.candidates (bridge-numbers g.nodes)
       (kept.dead c opened).rise (numbers-rise g.nodes part.rising) candidate-numbered numbered-candidate in
       ap length (candidates_of-open t c opened) ∙ (ap length same ∙ numbers-count g.nodes)
+
+  pub candidates-few : IsPart g.nodes g.edges → length (candidates_of t) ≤ length (handles_of g.nodes)
+  candidates-few part = omega (arith, candidates-same part)
