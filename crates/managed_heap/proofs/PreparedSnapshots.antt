@@ -1,6 +1,6 @@
 -- From what was prepared to the snapshot: the rows that go may be freed, what pins hold stays, what the cycle owes is
 -- ready, and the state after it is the definition's.
-use Rattle.std.proofs.Common.{◌≡◌, ℕ, ◌+◌, ◌≤◌, ◌↔◌, ◌⊎◌, inr, Bool, false, List, length, map, Option, Some, None, refl, sym, subst, ◌∙◌}
+use Rattle.std.proofs.Common.{◌≡◌, ℕ, ◌+◌, ◌≤◌, ◌↔◌, ◌⊎◌, inr, Bool, false, List, [], length, map, Option, Some, None, refl, sym, subst, ◌∙◌}
 use Rattle.std.specs.Prelude.{Contains}
 use Rattle.joint_machine.specs.declared.names.MNum.{MNum}
 use Rattle.joint_machine.specs.declared.names.PNum.{PNum}
@@ -25,7 +25,7 @@ use Rattle.managed_heap.specs.Rows.{rows_of}
 use Rattle.managed_heap.specs.Snapshots.{Prepares}
 use Rattle.managed_heap.specs.Snapping.{TakesSnapshot}
 use Rattle.managed_heap.proofs.DeadGraphs.{IsDeadGraph-made}
-use Rattle.managed_heap.proofs.TakingSnapshots.{AreSlotMarks, IsSnapshot-found, CanFree-found, HasDue-found, snapped-is}
+use Rattle.managed_heap.proofs.TakingSnapshots.{AreSlotMarks, IsSnapshot-found, CanFree-found, HasDue-found, marks-still, snapped-is}
 
 -- what was marked first is what slots and pins reach
 slot-marks : (s : Managed) (w : HeapRows) (freed candidates dead : List ℕ) → (p : Prepares s.heap s.pins s.held w freed candidates dead) → AreSlotMarks p.marked s
@@ -45,6 +45,11 @@ pins-left s w freed candidates dead closed live p x c =
     let root : IsManagedRoot s x = inr c in
     IsLive-left s.heap freed x (live x c)
     (λ g. (((prepared-snapshot s w freed candidates dead closed p).frees x).0 g).1 (Reached-start (IsManagedRoot s) (ManagedEdge s) x root))
+
+-- where there is no candidate, the marks are those of what slots and pins reach
+pub prepared-still : (s : Managed) (w u : HeapRows) (freed candidates dead : List ℕ) → Prepares s.heap s.pins s.held w freed candidates dead → candidates ≡ []
+    → ((x : ℕ) → HasMark u.marks x ↔ (HasMark w.marks x × (Contains freed x → ⊥))) → (x : ℕ) → HasMark u.marks x ↔ Reached (IsManagedRoot s) (HasField (with_freed s.heap freed)) x
+prepared-still s w u freed candidates dead p none marks = marks-still p.marked w u s freed candidates dead (slot-marks s w freed candidates dead p) p.finds none marks
 
 pub prepared-due : (s : Managed) (w u : HeapRows) (freed candidates dead : List ℕ) (spare n : ℕ) → Prepares s.heap s.pins s.held w freed candidates dead → u.heap ≡ with_freed s.heap freed
     → ((x : ℕ) → HasMark u.marks x ↔ Reached (λ z. InSlot (with_freed s.heap freed) z ⊎ Contains s.pins (Some z)) (HasField (with_freed s.heap freed)) x) → length candidates ≤ spare

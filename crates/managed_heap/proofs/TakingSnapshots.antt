@@ -2,7 +2,7 @@
 -- is dead, and goes unless a row with a handle reaches it. What goes is held by nothing that stays: a holder that
 -- stayed would be reached, and then what it holds would be too. A second marking from the slots, once these are freed,
 -- leaves out exactly the dead part.
-use Rattle.std.proofs.Common.{◌≡◌, ℕ, ◌+◌, ◌≤◌, ◌↔◌, ◌⊎◌, inl, inr, Bool, true, false, not, List, length, Option, Some, None, refl, sym, subst, ◌∙◌}
+use Rattle.std.proofs.Common.{◌≡◌, ℕ, ◌+◌, ◌≤◌, ◌↔◌, ◌⊎◌, inl, inr, Bool, true, false, not, List, [], length, Option, Some, None, refl, sym, subst, ◌∙◌}
 use Rattle.std.specs.Prelude.{Contains, is_some}
 use Rattle.joint_machine.specs.declared.names.MNum.{MNum}
 use Rattle.joint_machine.specs.declared.names.PNum.{PNum}
@@ -12,7 +12,7 @@ use Rattle.joint_machine.specs.Heaps.{Heap, IsLive, HasField, InSlot, fields_of,
 use Rattle.joint_machine.specs.Managed.{Managed, OpenCycle, IsBridge, IsManagedRoot, ManagedEdge, IsManagedReached, IsBridgeReached, with_snapshot}
 use Rattle.joint_machine.specs.Walks.{Reached}
 use Rattle.joint_machine.proofs.HeapLemmas.{IsLive-before, IsLive-spared, IsLive-left}
-use Rattle.joint_machine.proofs.Members.{Contains-filter_from, Contains-filter_to, All-members, Rises-filter}
+use Rattle.joint_machine.proofs.Members.{Contains-filter_from, Contains-filter_to, Contains-nil, All-members, Rises-filter}
 use Rattle.joint_machine.proofs.WalkLemmas.{Reached-mono, Reached-start, Reached-then, Reached-further, Reached-keeps}
 use Rattle.finaliser_queue.specs.Queue.{Queue}
 use Rattle.heap_rules.specs.Tidy.{CanFree}
@@ -180,6 +180,20 @@ reached-still h P freed out m = (
   λ r. Reached-mono P P (HasField (with_freed h freed)) (HasField h) (λ x s. s)
       (λ x y e. record { live = IsLive-before h freed x e.live; field = e.field; there = IsLive-before h freed y e.there }) m r,
 )
+
+-- where there is no candidate, what has a mark once these rows are freed is what slots and pins reach
+pub marks-still : (v w u : HeapRows) (s : Managed) (freed candidates dead : List ℕ) → AreSlotMarks v s → PartsUnmarked v w s.held freed candidates dead → candidates ≡ []
+    → ((x : ℕ) → HasMark u.marks x ↔ (HasMark w.marks x × (Contains freed x → ⊥))) → (x : ℕ) → HasMark u.marks x ↔ Reached (IsManagedRoot s) (HasField (with_freed s.heap freed)) x
+marks-still v w u s freed candidates dead a f none marks x =
+    let out : (m : ℕ) → Contains freed m → IsManagedReached s m → ⊥ = λ m c. ((white-is v w s freed candidates dead a f m).0 ((freed-is v w s.held freed candidates dead f m).0 c).0).1 in
+    let still = reached-still s.heap (IsManagedRoot s) freed out x in
+    let only : HasMark w.marks x → HasMark v.marks x = λ k. elim ((f.marks x).0 k) [
+      | inl o ↦ o
+      | inr r ↦ absurd (Contains-nil r.root (subst (λ xs. Contains xs r.root) none r.starts))
+    ] in (
+      λ k. still.0 ((a.marks x).0 (only ((marks x).0 k).0)),
+      λ r. ((marks x).1 ((f.marks x).1 (inl ((a.marks x).1 (still.1 r))), λ c. out x c (still.1 r))),
+    )
 
 -- what the cycle owes is ready
 pub HasDue-found : (v w u : HeapRows) (s : Managed) (freed candidates dead : List ℕ) (spare n : ℕ)

@@ -1,8 +1,9 @@
 // A snapshot of the rows: what neither a slot, a pin nor a row with a handle reaches is freed, and the next cycle is
 // opened.
 //
-// All memory was taken before, so nothing fails. At the end the slots are marked again: so the live rows without a mark
-// are exactly the dead part, as they stay while the cycle is open.
+// All memory was taken before, so nothing fails. At the end the slots are marked again, unless there is no candidate,
+// from which more was marked: so the live rows without a mark are exactly the dead part, as they stay while the cycle is
+// open.
 
 ghost use Rattle.std.specs.Prelude.{◌≡◌, ℕ, ◌+◌, ◌≤◌, ◌<◌, None, length};
 ghost use Rattle.joint_machine.specs.Histories.{managed_numbers};
@@ -16,7 +17,7 @@ use crate::open::OpenParts;
 use crate::opening::Pins;
 use crate::rooms::SnapRoom;
 use crate::rows::ManagedRows;
-use crate::snapshots::{Prepared, SnapshotParts, mark_slots, prepare};
+use crate::snapshots::{Prepared, SnapshotParts, mark_slots_again, prepare};
 use bridge_graph::DeadGraph;
 use joint_model::MNum;
 
@@ -62,7 +63,7 @@ impl ManagedRows {
             dead,
         } = found;
         self.heap.free(&freed);
-        mark_slots(&mut self.heap, pins);
+        mark_slots_again(&mut self.heap, pins, &candidates);
         self.cycles += 1;
         self.contracted = false;
         let count = candidates.len() as u32;

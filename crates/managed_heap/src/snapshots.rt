@@ -3,7 +3,7 @@
 // It marks what slots and pins reach. The live rows that this leaves out are the dead part and what goes: the
 // candidates are those among them that hold a handle, what a candidate reaches stays, and the others are freed. At the
 // end the marks are again those of what slots and pins reach, so that the live rows without a mark are exactly the dead
-// part.
+// part. Where there is no candidate, nothing else was marked, and they stand already.
 
 ghost use Rattle.std.specs.Prelude.{◌≡◌, ℕ, ◌↔◌, ◌⊎◌, ◌≤◌, ◌<◌, ◌∷◌, [], Bool, false, Some, None, Contains, IsTrue};
 ghost use Rattle.std.specs.Prelude.{length, map, filter, replicate, sum, vec_capacity, ◌+◌};
@@ -57,6 +57,25 @@ pub(crate) fn mark_slots(heap: &mut RowHeap<MNum>, pins: &Pins)
     heap.visit_slots(&mut grey);
     visit_pins(heap, pins, &mut grey);
     heap.finish_marking(grey);
+}
+
+/// Marks again what slots and pins reach, and nothing else. Where there was no candidate, nothing else has a mark. It
+/// takes no memory.
+pub(crate) fn mark_slots_again(heap: &mut RowHeap<MNum>, pins: &Pins, candidates: &[u32])
+    requires live { (x : ℕ) → Contains (pins_given pins.now.at) (Some x) → IsLive heap.old.heap x }
+    requires plain { heap.old.follows ≡ false }
+    requires still { candidates.now ≡ [] → (x : ℕ) → HasMark heap.old.marks x
+        ↔ Reached (λ z. InSlot heap.old.heap z ⊎ Contains (pins_given pins.now.at) (Some z))
+        (HasField heap.old.heap) x }
+    ensures marks { (x : ℕ) → HasMark heap.new.marks x
+        ↔ Reached (λ z. InSlot heap.old.heap z ⊎ Contains (pins_given pins.now.at) (Some z))
+        (HasField heap.old.heap) x }
+    ensures rest { heap.new ≡ record heap.old { follows = false; marks = heap.new.marks; links = heap.new.links } }
+{
+    if candidates.is_empty() {
+        return;
+    }
+    mark_slots(heap, pins);
 }
 
 /// The live rows without a mark, in rising order: none of them comes before the oldest live one.

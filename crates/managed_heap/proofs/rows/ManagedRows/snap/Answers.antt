@@ -15,7 +15,7 @@ use Rattle.managed_heap.specs.Dues.{HasDue}
 use Rattle.managed_heap.specs.Rooms.{FitsSnap}
 use Rattle.managed_heap.specs.Rows.{rows_of}
 use Rattle.managed_heap.specs.Snapping.{TakesSnapshot}
-use Rattle.managed_heap.proofs.PreparedSnapshots.{prepared-free, pins-left, prepared-due, takes-prepared}
+use Rattle.managed_heap.proofs.PreparedSnapshots.{prepared-free, prepared-still, pins-left, prepared-due, takes-prepared}
 use Rattle.managed_heap.proofs.rows.ManagedRows.snap.Goals as goal
 
 pub widen-requires-clause-empty : goal.widen-requires-clause-empty
@@ -96,8 +96,8 @@ free-requires-clause-can c =
     (prepared-free (with_pins s (pins_given c.args.pins.now.at)).managed c.prepare-found.new.heap freed found.candidates.items
     (managed_numbers found.dead.items) (ap (λ (v : HeapRows). v.heap) c.prepare-found.ensures.rest) prepares)
 
-pub mark_slots-requires : goal.mark_slots-requires
-mark_slots-requires c =
+pub mark_slots_again-requires-clause-live : goal.mark_slots_again-requires-clause-live
+mark_slots_again-requires-clause-live c =
     let i = c.self.inside in
     let s : ManagedReplay = rows_of i.heap.heap i.infos.items i.registry i.cells no_pins i.notices i.cycle i.cycles i.contracted in
     let pins = pins_given c.args.pins.now.at in
@@ -108,10 +108,24 @@ mark_slots-requires c =
     let prepares = rw c.deref.ensures.value at c.prepare-found.ensures.prepares in
     let heap-is : c.free.new.self.heap ≡ with_freed i.heap.heap freed = c.free.ensures.heap
     ∙ (ap (λ z. with_freed c.prepare-found.new.heap.heap (managed_numbers z)) c.deref-2.ensures.value ∙ ap (λ (v : HeapRows). with_freed v.heap freed) c.prepare-found.ensures.rest) in
-    record {
-      live = λ x k. subst (λ h. IsLive h x) (sym heap-is)
-          (pins-left (with_pins s pins).managed c.prepare-found.new.heap freed found.candidates.items (managed_numbers found.dead.items) closed stand.live prepares x k);
-    }
+    λ x k. subst (λ h. IsLive h x) (sym heap-is)
+    (pins-left (with_pins s pins).managed c.prepare-found.new.heap freed found.candidates.items (managed_numbers found.dead.items) closed stand.live prepares x k)
+
+pub mark_slots_again-requires-clause-plain : goal.mark_slots_again-requires-clause-plain
+mark_slots_again-requires-clause-plain c = ap (λ (v : HeapRows). v.follows) c.free.ensures.rest ∙ ap (λ (v : HeapRows). v.follows) c.prepare-found.ensures.rest
+
+-- with no candidate the first marking's marks stand
+pub mark_slots_again-requires-clause-still : goal.mark_slots_again-requires-clause-still
+mark_slots_again-requires-clause-still c = λ none.
+    let i = c.self.inside in
+    let s : ManagedReplay = rows_of i.heap.heap i.infos.items i.registry i.cells no_pins i.notices i.cycle i.cycles i.contracted in
+    let found = c.prepare-found.result.found in
+    let freed = managed_numbers found.freed.items in
+    let prepares = rw c.deref.ensures.value at c.prepare-found.ensures.prepares in
+    let heap-is : c.free.new.self.heap ≡ with_freed i.heap.heap freed = c.free.ensures.heap
+    ∙ (ap (λ z. with_freed c.prepare-found.new.heap.heap (managed_numbers z)) c.deref-2.ensures.value ∙ ap (λ (v : HeapRows). with_freed v.heap freed) c.prepare-found.ensures.rest) in
+    rw heap-is (prepared-still (with_pins s (pins_given c.args.pins.now.at)).managed c.prepare-found.new.heap c.free.new.self freed found.candidates.items
+    (managed_numbers found.dead.items) prepares (sym c.deref-3.ensures.value ∙ none) (rw c.deref-2.ensures.value at c.free.ensures.marks))
 
 pub invariant_of-self : goal.invariant_of-self
 invariant_of-self c =
@@ -124,12 +138,13 @@ invariant_of-self c =
     ∙ (ap (λ z. with_freed c.prepare-found.new.heap.heap (managed_numbers z)) c.deref-2.ensures.value ∙ ap (λ (v : HeapRows). with_freed v.heap freed) c.prepare-found.ensures.rest) in
     let room : length found.candidates.items ≤ c.widen.new.self.spare = omega (arith, c.prepare-found.ensures.few.1, c.widen.ensures.room, c.made.ensures.made) in (
       c.self.invariant.0,
-      ap (λ (v : HeapRows). v.refs) c.mark_slots.ensures.rest ∙ (ap (λ (v : HeapRows). v.refs) c.free.ensures.rest ∙ (ap (λ (v : HeapRows). v.refs) c.prepare-found.ensures.rest ∙ c.self.invariant.1)),
-      ap (λ (v : HeapRows). v.follows) c.mark_slots.ensures.rest,
-      λ o e. subst (HasDue c.mark_slots.new.heap c.widen.new.self.spare) (same_Some _ o e)
-          (prepared-due (with_pins s (pins_given c.args.pins.now.at)).managed c.prepare-found.new.heap c.mark_slots.new.heap freed found.candidates.items
+      ap (λ (v : HeapRows). v.refs) c.mark_slots_again.ensures.rest
+          ∙ (ap (λ (v : HeapRows). v.refs) c.free.ensures.rest ∙ (ap (λ (v : HeapRows). v.refs) c.prepare-found.ensures.rest ∙ c.self.invariant.1)),
+      ap (λ (v : HeapRows). v.follows) c.mark_slots_again.ensures.rest,
+      λ o e. subst (HasDue c.mark_slots_again.new.heap c.widen.new.self.spare) (same_Some _ o e)
+          (prepared-due (with_pins s (pins_given c.args.pins.now.at)).managed c.prepare-found.new.heap c.mark_slots_again.new.heap freed found.candidates.items
           (managed_numbers found.dead.items) c.widen.new.self.spare (i.cycles + 1) prepares
-          (ap (λ (v : HeapRows). v.heap) c.mark_slots.ensures.rest ∙ heap-is) (rw heap-is at c.mark_slots.ensures.marks) room),
+          (ap (λ (v : HeapRows). v.heap) c.mark_slots_again.ensures.rest ∙ heap-is) (rw heap-is at c.mark_slots_again.ensures.marks) room),
     )
 
 pub returns-clause-snapshot : goal.returns-clause-snapshot
@@ -141,11 +156,11 @@ returns-clause-snapshot c =
     let prepares = rw c.deref.ensures.value at c.prepare-found.ensures.prepares in
     let heap-is : c.free.new.self.heap ≡ with_freed i.heap.heap freed = c.free.ensures.heap
     ∙ (ap (λ z. with_freed c.prepare-found.new.heap.heap (managed_numbers z)) c.deref-2.ensures.value ∙ ap (λ (v : HeapRows). with_freed v.heap freed) c.prepare-found.ensures.rest) in
-    let next = rows_of c.mark_slots.new.heap.heap i.infos.items i.registry i.cells no_pins c.widen.new.self
+    let next = rows_of c.mark_slots_again.new.heap.heap i.infos.items i.registry i.cells no_pins c.widen.new.self
     (Some record { number = i.cycles + 1; candidates = found.candidates.items; dead = managed_numbers found.dead.items }) (i.cycles + 1) false in
     subst (λ z. TakesSnapshot z next (pins_given c.args.pins.now.at) freed (i.cycles + 1) (c.made-2.result - c.live.result) c.len-count.result c.prepare-found.result.graph) c.self.view_is
-    (takes-prepared i.heap.heap c.mark_slots.new.heap.heap i.infos.items i.registry i.cells (pins_given c.args.pins.now.at) i.notices c.widen.new.self i.cycle _ i.cycles
+    (takes-prepared i.heap.heap c.mark_slots_again.new.heap.heap i.infos.items i.registry i.cells (pins_given c.args.pins.now.at) i.notices c.widen.new.self i.cycle _ i.cycles
     i.contracted c.prepare-found.new.heap freed found.candidates.items found.dead.items (c.made-2.result - c.live.result) c.len-count.result c.prepare-found.result.graph
-    closed prepares (ap (λ (v : HeapRows). v.heap) c.mark_slots.ensures.rest ∙ heap-is) c.widen.ensures.queued c.widen.ensures.taken refl
+    closed prepares (ap (λ (v : HeapRows). v.heap) c.mark_slots_again.ensures.rest ∙ heap-is) c.widen.ensures.queued c.widen.ensures.taken refl
     (omega (arith, c.made-2.ensures.made, c.live.ensures)) (omega (arith, c.len-count.ensures, found.candidates.ok))
     (rw c.deref.ensures.value at c.prepare-found.ensures.nodes) c.prepare-found.ensures.edges)
