@@ -5,3 +5,5 @@ pub mod Keys
 pub mod LinesWritten
 pub mod ReadLines
 pub mod Pieces
+pub mod PutParts
+pub mod Pairs

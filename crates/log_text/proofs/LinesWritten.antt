@@ -1,23 +1,23 @@
 -- A log is written line by line: each text is those before it and one line more.
-use Rattle.std.proofs.Common.{◌≡◌, ℕ, ◌≤◌, List, [], ◌∷◌, ◌++◌, Option, Err, codes, decimal, refl, sym, ap, ◌∙◌, append_assoc, append-nil}
+use Rattle.std.proofs.Common.{◌≡◌, ℕ, ◌≤◌, List, [], ◌∷◌, ◌++◌, Option, Err, codes, refl, sym, ap, ◌∙◌, append_assoc, append-nil}
 use Rattle.byte_streams.specs.Sending.{BuffersText, Sends}
 use Rattle.byte_streams.proofs.Written.{BuffersText-none, BuffersText-then, Sends-into}
 use Rattle.log_text.specs.declared.lines.LogLine.{LogLine}
-use Rattle.log_text.specs.Text.{line_text, lines_text, end_text}
+use Rattle.log_text.specs.Text.{line_text, lines_text}
 
 -- pieces that are put one behind another
-pieces-joined : (o m a h p b g d w e i k : List ℕ) → ((((((((((o ++ (m ++ a)) ++ h) ++ b) ++ p) ++ d) ++ g) ++ e) ++ w) ++ i) ++ k)
-    ++ 10 ∷ [] ≡ o ++ ((m ++ (a ++ (h ++ (b ++ (p ++ (d ++ (g ++ (e ++ (w ++ (i ++ k)))))))))) ++ 10 ∷ [])
-pieces-joined o m a h p b g d w e i k = simp (append_assoc)
+pieces-joined : (o m a h b p d g f w i k : List ℕ) → (((((o ++ (m ++ (a ++ h))) ++ (b ++ p)) ++ (d ++ g)) ++ (f ++ w)) ++ (i ++ k))
+    ++ 10 ∷ [] ≡ o ++ ((m ++ (a ++ (h ++ (b ++ (p ++ (d ++ (g ++ (f ++ (w ++ (i ++ k)))))))))) ++ 10 ∷ [])
+pieces-joined o m a h b p d g f w i k = simp (append_assoc)
 
 -- a line, as it is put together
-pub line-joined : (o m h p g w e : List ℕ) → ((((((((((o ++ (m ++ 32 ∷ 104 ∷ [])) ++ h) ++ codes " p") ++ p) ++ codes " grefc ") ++ g) ++ codes " gwrefc ") ++ w) ++ codes " @") ++ e) ++ 10 ∷ []
+pub line-joined : (o m h p g w e : List ℕ) → (((((o ++ (m ++ 32 ∷ 104 ∷ h)) ++ (codes " p" ++ p)) ++ (codes " grefc " ++ g)) ++ (codes " gwrefc " ++ w)) ++ (codes " @" ++ e)) ++ 10 ∷ []
     ≡ o ++ ((m ++ 32 ∷ 104 ∷ (h ++ 32 ∷ 112 ∷ (p ++ 32 ∷ 103 ∷ 114 ∷ 101 ∷ 102 ∷ 99 ∷ 32 ∷ (g ++ 32 ∷ 103 ∷ 119 ∷ 114 ∷ 101 ∷ 102 ∷ 99 ∷ 32 ∷ (w ++ 32 ∷ 64 ∷ e))))) ++ 10 ∷ [])
-line-joined o m h p g w e = pieces-joined o m (32 ∷ 104 ∷ []) h p (codes " p") g (codes " grefc ") w (codes " gwrefc ") (codes " @") e
+line-joined o m h p g w e = pieces-joined o m (32 ∷ 104 ∷ []) h (codes " p") p (codes " grefc ") g (codes " gwrefc ") w (codes " @") e
 
--- the last line, as it is put together
-pub end-joined : (o : List ℕ) (n : ℕ) → ((o ++ codes "end") ++ 32 ∷ decimal n) ++ 10 ∷ [] ≡ o ++ (end_text n ++ 10 ∷ [])
-end-joined o n = simp (append_assoc)
+-- two lines are one behind the other
+pub two-joined : (o : List ℕ) (l k : LogLine) → (o ++ (line_text l ++ 10 ∷ [])) ++ (line_text k ++ 10 ∷ []) ≡ o ++ lines_text (l ∷ k ∷ [])
+two-joined o l k = append_assoc o (line_text l ++ 10 ∷ []) (line_text k ++ 10 ∷ []) ∙ ap (λ t. o ++ t) (append_assoc (line_text l) (10 ∷ []) (line_text k ++ 10 ∷ []))
 
 -- of the lines a beginning was written, and these are left
 pub record Wrote (ls left : List LogLine) (a b : Option (List ℕ)) (p q : List ℕ) : Type 0 where

@@ -1,5 +1,5 @@
 -- Texts of a list are written one by one: what was written is those before one, and then one more.
-use Rattle.std.proofs.Common.{◌≡◌, ℕ, ◌≤◌, List, [], ◌∷◌, ◌++◌, Option, Some, Err, refl, sym, ap, ◌∙◌, append_assoc, append-nil}
+use Rattle.std.proofs.Common.{◌≡◌, ℕ, ◌≤◌, List, [], ◌∷◌, ◌++◌, Option, Err, refl, sym, ◌∙◌, append_assoc, append-nil}
 use Rattle.byte_streams.specs.Sending.{BuffersText, Sends}
 use Rattle.byte_streams.proofs.Written.{BuffersText-none, BuffersText-then, Sends-into}
 use Rattle.log_text.specs.Answers.{pieces}

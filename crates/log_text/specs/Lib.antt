@@ -6,3 +6,4 @@ pub mod Taking
 pub mod Keys
 pub mod Laws
 pub mod Answers
+pub mod Parts

@@ -11,8 +11,8 @@
 //
 // A `Log` is a list of lines, each of which notes a strong or a weak handle that comes or goes, with its peer, how many
 // there are behind it, and the entry that it is of. `read_log` makes one of bytes, `Log::of_lines` of lines that are
-// one; `write_log` writes it; `write_line` and `write_end` do where there is no list of lines. `unreleased` lists the
-// handles that are live at its end. A log never changes.
+// one; `write_log` writes it; `write_line`, `write_two` and `write_end` do where there is no list of lines, into a
+// `LogDraft`. `unreleased` lists the handles that are live at its end. A log never changes.
 //
 // Who runs meanwhile: a log is made by one thread, and may then be read by many. A sink is written by one.
 //
@@ -27,21 +27,24 @@
 #![tactic(auto)]
 
 mod answers;
+mod drafts;
 mod laws;
 mod leaks;
 mod lines;
 mod lists;
 mod live;
 mod logs;
+mod parts;
 mod reading;
 mod said;
 mod writing;
 
 pub use answers::{write_log_refusal, write_unreleased};
+pub use drafts::{LastNumbers, LogDraft};
 pub use laws::logs_are_read;
 pub use leaks::unreleased;
 pub use lines::{LogCause, LogError, LogLine, Mark};
 pub use lists::Unreleased;
 pub use logs::Log;
 pub use reading::read_log;
-pub use writing::{LastNumbers, write_end, write_line, write_log};
+pub use writing::{write_end, write_line, write_log, write_two};

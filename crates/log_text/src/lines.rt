@@ -1,7 +1,6 @@
 // The lines of a log, and why bytes give no log.
 
-ghost use Rattle.std.specs.Prelude.{◌≡◌, ◌++◌, ◌∷◌, [], codes};
-ghost use Rattle.log_text.specs.Text.{mark_text};
+ghost use Rattle.std.specs.Prelude.{◌≡◌};
 
 use joint_model::{HNum, PNum};
 
@@ -58,18 +57,5 @@ impl From<std::alloc::AllocError> for LogError {
 
     fn from(_error: std::alloc::AllocError) -> LogError {
         LogError::OutOfMemory
-    }
-}
-
-// What a mark is written as, with the space and the letter behind it.
-#[inline(always)]
-pub fn head_of(mark: Mark) -> [u8; 5]
-    ensures { result ≡ mark_text mark ++ 32 ∷ 104 ∷ [] }
-{
-    match mark {
-        Mark::GPlus => *b"+g+ h",
-        Mark::GMinus => *b"-g- h",
-        Mark::WPlus => *b"+w+ h",
-        Mark::WMinus => *b"-w- h",
     }
 }

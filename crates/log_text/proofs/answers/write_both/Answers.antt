@@ -1,4 +1,4 @@
-use Rattle.std.proofs.Common.{◌++◌, List, ℕ, codes}
+use Rattle.std.proofs.Common.{◌++◌, codes}
 use Rattle.byte_streams.proofs.Passing.{passed_on}
 use Rattle.byte_streams.proofs.Written.{Sends-after, Sends-short}
 use Rattle.log_text.specs.Answers.{list_text}

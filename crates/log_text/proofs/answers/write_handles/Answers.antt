@@ -1,10 +1,10 @@
-use Rattle.std.proofs.Common.{◌≡◌, ◌+◌, ◌≤◌, [], List, drop, get_or, length, refl, ap, arith, add-one, length-drop}
+use Rattle.std.proofs.Common.{◌≡◌, [], drop, get_or, refl, arith, add-one, length-drop}
 use Rattle.std.proofs.Math.Seq.{drop-cons}
 use Rattle.std.proofs.lemmas.List.{nil_from_length}
 use Rattle.joint_machine.specs.declared.names.HNum.{HNum}
 use Rattle.byte_streams.proofs.Passing.{passed_on}
 use Rattle.log_text.specs.Answers.{handle_text, pieces}
-use Rattle.log_text.proofs.Pieces.{Sent, all-sent, none-sent, not-sent, one-more}
+use Rattle.log_text.proofs.Pieces.{all-sent, none-sent, not-sent, one-more}
 use Rattle.log_text.proofs.answers.write_handles.Goals as goal
 
 nothing : HNum

@@ -1,4 +1,3 @@
-use Rattle.std.proofs.Common.{◌++◌}
 use Rattle.byte_streams.proofs.Passing.{passed_on}
 use Rattle.byte_streams.proofs.Written.{Sends-after, Sends-short}
 use Rattle.log_text.specs.Answers.{list_text}

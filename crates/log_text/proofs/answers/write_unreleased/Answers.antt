@@ -1,7 +1,5 @@
-use Rattle.std.proofs.Common.{[]}
 use Rattle.byte_streams.proofs.Passing.{passed_on}
 use Rattle.byte_streams.proofs.Written.{Writes-flushed, Writes-open}
-use Rattle.log_text.specs.Answers.{unreleased_text}
 use Rattle.log_text.proofs.answers.write_unreleased.Goals as goal
 
 pub returns-in_err-write_both : goal.returns-in_err-write_both

@@ -1,8 +1,7 @@
-use Rattle.std.proofs.Common.{◌≡◌, ◌++◌, ◌∷◌, [], ◌∙◌}
+use Rattle.std.proofs.Common.{◌++◌, ◌∷◌, []}
 use Rattle.byte_streams.proofs.Passing.{passed_on}
 use Rattle.byte_streams.proofs.Written.{Sends-put, Sends-short}
 use Rattle.log_text.specs.Text.{end_text}
-use Rattle.log_text.proofs.LinesWritten.{end-joined}
 use Rattle.log_text.proofs.writing.write_end.Goals as goal
 
 pub returns-in_err-make_room : goal.returns-in_err-make_room
@@ -14,7 +13,5 @@ returns-in_err-make_room g c =
 pub returns : goal.returns
 returns g c =
     let w = c.in_ok-make_room.ensures.sent in
-    let o = c.make_room.new.self.text in
-    let piece : c.text-2.new.self.text ≡ o ++ (end_text c.args.count ++ 10 ∷ []) = c.text-2.ensures.added ∙ rw (c.decimal.ensures.added, c.text.ensures.added) (end-joined o c.args.count) in
-    Sends-put (g.K.Sink.held c.args.out.now) (g.K.Sink.held c.make_room.new.out) c.args.line.now.text o c.text-2.new.self.text
-    (g.K.Sink.faults c.args.out.now) (g.K.Sink.faults c.make_room.new.out) _ [] (end_text c.args.count ++ 10 ∷ []) w.whole w.cause.later piece
+    Sends-put (g.K.Sink.held c.args.out.now) (g.K.Sink.held c.make_room.new.out) c.args.line.now.text c.make_room.new.self.text c.put_end.new.self.text
+    (g.K.Sink.faults c.args.out.now) (g.K.Sink.faults c.make_room.new.out) _ [] (end_text c.args.count ++ 10 ∷ []) w.whole w.cause.later c.put_end.ensures.added

@@ -13,5 +13,5 @@ returns-in_err-make_room g c =
 pub returns : goal.returns
 returns g c =
     let w = c.in_ok-make_room.ensures.sent in
-    Sends-put (g.K.Sink.held c.args.out.now) (g.K.Sink.held c.make_room.new.out) c.args.line.now.text c.make_room.new.self.text c.add_line.new.line.text
-    (g.K.Sink.faults c.args.out.now) (g.K.Sink.faults c.make_room.new.out) _ [] (line_text c.args.entry.now ++ 10 ∷ []) w.whole w.cause.later c.add_line.ensures.added
+    Sends-put (g.K.Sink.held c.args.out.now) (g.K.Sink.held c.make_room.new.out) c.args.line.now.text c.make_room.new.self.text c.put.new.self.text
+    (g.K.Sink.faults c.args.out.now) (g.K.Sink.faults c.make_room.new.out) _ [] (line_text c.args.entry.now ++ 10 ∷ []) w.whole w.cause.later c.put.ensures.added
