@@ -1,10 +1,10 @@
 -- The lines of a history are written while they are made: what was written are the lines of the entries before, and
 -- then those of one more.
-use Rattle.std.proofs.Common.{◌≡◌, ℕ, ◌+◌, ◌*◌, ◌≤◌, List, [], ◌∷◌, ◌++◌, Option, Result, Ok, Err, length, refl, sym, ap, subst, ◌∙◌, arith, append_assoc, length-append}
+use Rattle.std.proofs.Common.{◌≡◌, ℕ, ◌+◌, ◌*◌, ◌≤◌, List, [], ◌∷◌, ◌++◌, Option, Result, Ok, length, refl, sym, ap, subst, ◌∙◌, arith, append_assoc, length-append}
 use Rattle.std.specs.Prelude.{All}
 use Rattle.std.proofs.lemmas.List.Elements.{All-append, All-nil}
-use Rattle.byte_streams.specs.Sending.{BuffersText, Sends}
-use Rattle.byte_streams.proofs.Written.{BuffersText-none, Sends-after, Sends-short}
+use Rattle.byte_streams.specs.Sending.{Sends}
+use Rattle.byte_streams.proofs.Written.{BuffersText-none}
 use Rattle.joint_machine.specs.declared.events.Entry.{Entry}
 use Rattle.log_text.specs.declared.lines.LogLine.{LogLine}
 use Rattle.log_text.specs.Behind.{Fits}
@@ -16,19 +16,6 @@ use Rattle.gref_log.specs.Tracking.{InMaking, Logged, behind_lines, logged_after
 pub lines-append : (a b : List LogLine) → lines_text (a ++ b) ≡ lines_text a ++ lines_text b
 lines-append [] b = refl
 lines-append (l ∷ a) b = ap (λ t. line_text l ++ (10 ∷ t)) (lines-append a b) ∙ sym (append_assoc (line_text l) (10 ∷ lines_text a) (lines_text b))
-
--- the two lines of an entry are one behind the other; the first one failed, or the second one came
-pub two-failed : {E : Type 0} (a b : Option (List ℕ)) (p q : List ℕ) (f g : ℕ) (z : E) (l k : LogLine)
-    → Sends {E = E} a b p q f g (Err z) (line_text l ++ 10 ∷ []) → Sends {E = E} a b p q f g (Err z) (lines_text (l ∷ k ∷ []))
-two-failed {E} a b p q f g z l k w =
-    let F : List ℕ → Type 0 = λ t. Sends {E = E} a b p q f g (Err z) t in
-    subst F (append_assoc (line_text l) (10 ∷ []) (line_text k ++ 10 ∷ [])) (Sends-short a b p q f g z (line_text l ++ 10 ∷ []) (line_text k ++ 10 ∷ []) w)
-
-pub two-went : {E : Type 0} (a b c : Option (List ℕ)) (p q r : List ℕ) (f g i : ℕ) (z : Result (Unit {0}) E) (l k : LogLine)
-    → BuffersText a b p q (line_text l ++ 10 ∷ []) → f ≤ g → Sends {E = E} b c q r g i z (line_text k ++ 10 ∷ []) → Sends {E = E} a c p r f i z (lines_text (l ∷ k ∷ []))
-two-went {E} a b c p q r f g i z l k v h w =
-    let F : List ℕ → Type 0 = λ t. Sends {E = E} a c p r f i z t in
-    subst F (append_assoc (line_text l) (10 ∷ []) (line_text k ++ 10 ∷ [])) (Sends-after a b c p q r f g i z (line_text l ++ 10 ∷ []) (line_text k ++ 10 ∷ []) v h w)
 
 few-lines : (l : Lines) → length (made_lines l) ≤ 2
 few-lines lines.None = omega arith

@@ -19,9 +19,9 @@ ghost use Rattle.gref_log.specs.Tracking.{behind_lines, change_of, counted, list
 ghost use Rattle.gref_log.specs.Tracking.{made_lines, nothing_logged, with_line, with_lines};
 
 use crate::tracked::{Move, Moves, Tracker};
-use byte_streams::{Failed, Line, Sink};
+use byte_streams::{Failed, Sink};
 use joint_model::{HNum, History, PNum, PackedEntry, Step};
-use log_text::{LastNumbers, Log, LogLine, Mark, write_end, write_line};
+use log_text::{LastNumbers, Log, LogDraft, LogLine, Mark, write_end, write_line, write_two};
 use std::alloc::{AllocError, Global};
 use std::marker::Model;
 
@@ -99,7 +99,7 @@ impl Lines {
     fn write<K: Sink>(
         &self,
         last: &mut LastNumbers,
-        line: &mut Line,
+        line: &mut LogDraft,
         out: &mut K,
     ) -> Result<(), Failed>
         ensures { Sends (K.held out.old) (K.held out.new) line.old.text line.new.text
@@ -108,10 +108,7 @@ impl Lines {
         match self {
             Lines::None => Ok(()),
             Lines::One(one) => write_line(one, last, line, out),
-            Lines::Two(first, second) => {
-                write_line(first, last, line, out)?;
-                write_line(second, last, line, out)
-            }
+            Lines::Two(first, second) => write_two(first, second, last, line, out),
         }
     }
 
@@ -121,7 +118,7 @@ impl Lines {
         &self,
         before: Result<(), Failed>,
         last: &mut LastNumbers,
-        line: &mut Line,
+        line: &mut LogDraft,
         out: &mut K,
     ) -> Result<(), Failed>
         ensures { (held : Option (List ℕ)) (pending text : List ℕ) (faults : ℕ)
@@ -262,7 +259,7 @@ fn write_entries<K: Sink>(
     making: &mut Making,
     h: &History,
     last: &mut LastNumbers,
-    line: &mut Line,
+    line: &mut LogDraft,
     out: &mut K,
 ) -> (u64, Result<(), Failed>)
     requires nothing { behind_lines [] making.old ≡ nothing_logged }
@@ -297,7 +294,7 @@ fn write_made<K: Sink>(making: &mut Making, h: &History, out: &mut K) -> Result<
         (K.faults out.new) result (text_of_log (logged_all nothing_logged h.now.entries).lines) }
 {
     let mut last = LastNumbers::new();
-    let mut line = Line::new();
+    let mut line = LogDraft::new();
     let (count, sent) = write_entries(making, h, &mut last, &mut line, out);
     sent?;
     write_end(count, &mut line, out)?;
