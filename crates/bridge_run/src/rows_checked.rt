@@ -162,7 +162,7 @@ fn reports_are_judged(rt: HostRuntime) -> Result<(), Fail> {
     Ok(())
 }
 
-// What the run of a script writes is the report of a lawful run, whatever the schedule.
+// What the run of a script writes is the report of a lawful history, whatever the schedule.
 #[test]
 fn a_runs_own_report_is_legal(rt: HostRuntime) -> Result<(), Fail> {
     for words in [SERIAL, THREADS] {

@@ -36,9 +36,9 @@ use std::thread::Threads;
 /// script runs: the components, heavy classes and cross-references of each. `grefs` reads a script and runs it as
 /// `serial` does, and writes the reference log of its history. `leaks` reads such a log from `src`, to its end or to
 /// one byte past 268,435,456, and writes which handles it never releases. `check` reads a report from `src`, with the
-/// same limit, and writes whether it is that of a lawful run, or which entry is the first that isn't, and why. `gen`
-/// reads nothing: it makes the script of a seed and a size, runs it in its mode and one cycle more once all threads
-/// have ended, and writes the summary of that run.
+/// same limit, and writes whether it is that of a lawful history, or which entry is the first that is not, and why.
+/// `gen` reads nothing: it makes the script of a seed and a size, runs it in its mode and one cycle more once all
+/// threads have ended, and writes the summary of that run.
 pub fn bridge_main<R: Threads + Wait + Sync, S: Source, K: Sink, T: Turnstile + Sync>(
     rt: &R,
     alloc: Global,
