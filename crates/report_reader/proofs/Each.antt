@@ -1,6 +1,6 @@
 -- The report of each history is read: line by line as the reply that is meant by the event, whose list stands behind
 -- those before it. There are fewer numbers than bytes, so each place fits a span.
-use Rattle.std.proofs.Common.{◌≡◌, ◌≢◌, ℕ, ◌+◌, ◌<◌, ◌≤◌, ◌^◌, Bool, true, false, ◌⊎◌, inl, inr, List, [], ◌∷◌, ◌++◌, length, codes, decimal, refl, sym, ap, ◌∙◌, arith, append_assoc, length-append}
+use Rattle.std.proofs.Common.{◌≡◌, ◌≢◌, ℕ, ◌+◌, ◌<◌, ◌^◌, Bool, true, false, ◌⊎◌, inl, inr, List, [], ◌∷◌, ◌++◌, length, codes, decimal, refl, sym, ap, ◌∙◌, arith, append_assoc, length-append}
 use Rattle.std.proofs.Common.{true≢false}
 use Rattle.std.proofs.lemmas.List.Elements.{All-cons, All-nil, All-head}
 use Rattle.joint_machine.specs.declared.names.MNum.{MNum}
@@ -14,11 +14,11 @@ use Rattle.joint_machine.specs.declared.events.Reply.TheVariants as reply
 use Rattle.joint_machine.specs.declared.events.Entry.{Entry}
 use Rattle.joint_machine.specs.Histories.{Finished}
 use Rattle.text_words.specs.Words.{spaced}
-use Rattle.history_report.specs.Report.{entries_text, end_text, list_of, event_words, cite_words, place_text}
+use Rattle.history_report.specs.Report.{entries_text, end_text, event_words, cite_words, place_text}
 use Rattle.entry_reader.specs.Fitting.{Short, FitsReply}
 use Rattle.entry_reader.specs.Meaning.{Lists, BeginsAt, grown}
 use Rattle.entry_reader.specs.Meant.{IsMeant, IsNot}
-use Rattle.entry_reader.specs.Saying.{IsShown, said, list_said, line_words}
+use Rattle.entry_reader.specs.Saying.{IsShown, said, line_words}
 use Rattle.report_reader.specs.Reading.{IsValue}
 use Rattle.report_reader.specs.Laws.{IsReading, AreAlike, EachIsReadBack}
 use Rattle.report_reader.specs.Steps.{ReadsLines, history_of, no_lists}

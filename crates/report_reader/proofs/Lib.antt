@@ -1,5 +1,6 @@
 pub mod Texts
 pub mod Places
+pub mod LikelyLines
 pub mod Lines
 pub mod Named
 pub mod Canonical

@@ -4,3 +4,4 @@ pub mod Answers
 pub mod Faults
 pub mod Laws
 pub mod Steps
+pub mod Likely

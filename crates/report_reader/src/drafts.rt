@@ -6,8 +6,9 @@ ghost use Rattle.joint_machine.specs.Histories.{IsHistory};
 ghost use Rattle.report_reader.specs.Steps.{ReadsLine, IsLineError, history_of, no_lists};
 
 use crate::faults::{ReportCause, ReportError, refusal};
+use crate::likely::LikelyLine;
 use entry_reader::{LastPlace, NamedLists, read_entry};
-use joint_model::{Entries, History, Holding};
+use joint_model::{Entries, Entry, History, Holding};
 use std::alloc::{AllocError, Global};
 use std::marker::Model;
 use text_words::{Stretch, first_place_far};
@@ -18,6 +19,7 @@ pub(crate) struct Draft {
     entries: Entries,
     lists: NamedLists,
     last: LastPlace,
+    likely: LikelyLine,
 }
 
 impl Model for Draft {
@@ -75,6 +77,7 @@ impl Draft {
             entries: Entries::new(alloc, Holding::Every),
             lists: NamedLists::new(alloc),
             last: LastPlace::new(),
+            likely: LikelyLine::new(),
         }
     }
 
@@ -85,9 +88,21 @@ impl Draft {
         self.entries.len()
     }
 
-    /// Reads the first line as that of the next entry, and answers what stands behind it. The line doesn't begin as a
-    /// last line does. Where it is no entry's, or for want of memory, the draft is of no more use.
-    pub(crate) fn read_line<'a>(&mut self, bytes: &'a [u8]) -> Result<&'a [u8], ReportError>
+    // Puts an entry last.
+    #[inline(always)]
+    fn put(&mut self, entry: Entry) -> Result<(), AllocError>
+        requires few { length self.old.entries < 4294967295 }
+        ensures entries { IfOk result (λ _. self.new.entries ≡ self.old.entries ++ entry ∷ []) }
+        ensures lists { self.new.lists ≡ self.old.lists }
+    {
+        self.entries.reserve(1)?;
+        self.entries.push_handle(entry);
+        Ok(())
+    }
+
+    // Reads the first line as that of the next entry, whatever it is, and answers what stands behind it.
+    #[inline(never)]
+    fn read_any<'a>(&mut self, bytes: &'a [u8]) -> Result<&'a [u8], ReportError>
         requires some { 0 < length bytes.now }
         requires not_last { slice_index bytes.now 0 ≢ 101 }
         requires few { length self.old.entries < 4294967295 }
@@ -101,9 +116,28 @@ impl Draft {
         let Some(entry) = read_entry(text, before as u64, &mut self.lists, &mut self.last)? else {
             return Err(refusal(before, ReportCause::Form));
         };
-        self.entries.reserve(1)?;
-        self.entries.push_handle(entry);
+        self.likely.keep(&entry.made);
+        self.put(entry)?;
         Ok(left)
+    }
+
+    /// Reads the first line as that of the next entry, and answers what stands behind it. The line doesn't begin as a
+    /// last line does. Where it is no entry's, or for want of memory, the draft is of no more use.
+    #[inline(always)]
+    pub(crate) fn read_line<'a>(&mut self, bytes: &'a [u8]) -> Result<&'a [u8], ReportError>
+        requires some { 0 < length bytes.now }
+        requires not_last { slice_index bytes.now 0 ≢ 101 }
+        requires few { length self.old.entries < 4294967295 }
+        ensures ok { IfOk result (λ left. ReadsLine self.old self.new bytes.now left.now) }
+        ensures err { IfErr result (λ error. IsLineError (length self.old.entries) bytes.now error) }
+    {
+        match self.likely.read(bytes, self.entries.len() as u64) {
+            Some((entry, left)) => {
+                self.put(entry)?;
+                Ok(left)
+            }
+            None => self.read_any(bytes),
+        }
     }
 
     /// The history of what was read. It takes memory for one list's place alone.

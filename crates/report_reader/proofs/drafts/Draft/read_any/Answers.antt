@@ -1,7 +1,7 @@
 use Rattle.std.proofs.Common.{length, ap, ◌∙◌}
 use Rattle.report_reader.specs.Steps.{Read}
 use Rattle.report_reader.proofs.Places.{found_at, unclosed, unread}
-use Rattle.report_reader.proofs.drafts.Draft.read_line.Goals as goal
+use Rattle.report_reader.proofs.drafts.Draft.read_any.Goals as goal
 
 pub returns-in_default-clause-err : goal.returns-in_default-clause-err
 returns-in_default-clause-err c =
