@@ -21,7 +21,7 @@ fn fault(alloc: Global, text: &[u8]) -> u64 {
 }
 
 // Texts, each with that number.
-const TEXTS: [(u64, &[u8]); 44] = [
+const TEXTS: [(u64, &[u8]); 51] = [
     (0, b"end 0\n"),
     (1015, b""),
     (1015, b"end 1\n"),
@@ -75,6 +75,34 @@ const TEXTS: [(u64, &[u8]); 44] = [
     (0, b"0 c.1 finalise 2 = m2 m1 m1\nend 1\n"),
     (1014, b"0 p1.1 grip s0 = p1 h1 user 256\nend 1\n"),
     (1014, b"0 m1.1 restore h1 = alive\nend 1\n"),
+    (
+        0,
+        b"0 c.0 weaken h1 = ok @0\n1 c.0 restore h1 = alive h2\n2 c.0 restore h2 = cleared\nend 3\n",
+    ),
+    (
+        0,
+        b"0 c.0 weaken h4294967295 = ok @18446744073709551615\n1 c.0 restore h2 = cleared\nend 2\n",
+    ),
+    (
+        1014,
+        b"0 c.0 weaken h1 = ok @18446744073709551616\n1 c.0 restore h2 = cleared\nend 2\n",
+    ),
+    (
+        1014,
+        b"0 c.0 weaken h01 = ok @0\n1 c.0 restore h1 = alive h2\n2 c.0 restore h2 = cleared\nend 3\n",
+    ),
+    (
+        2014,
+        b"0 c.0 weaken h1 = ok @0\n0 c.0 restore h1 = alive h2\n2 c.0 restore h2 = cleared\nend 3\n",
+    ),
+    (
+        2014,
+        b"0 c.0 weaken h1 = ok @0\n1 c.0 restore h1 = alive h4294967296\n2 c.0 restore h2 = cleared\nend 3\n",
+    ),
+    (
+        2014,
+        b"0 c.0 weaken h1 = ok @0\n1 c.0 restore h1 = alive h2 \n2 c.0 restore h2 = cleared\nend 3\n",
+    ),
 ];
 
 #[test]

@@ -83,3 +83,11 @@ fn a_report_of_many_cycles_is_written_again(rt: HostRuntime) -> Result<(), Fail>
     expect_again(&rt, rt.alloc(), bytes)?;
     Ok(())
 }
+
+#[test]
+fn lines_of_handles_are_written_again(rt: HostRuntime) -> Result<(), Fail> {
+    let text =
+        b"0 c.0 weaken h1 = ok @9\n1 c.0 weaken h20 = ok @9\n2 c.1 restore h1 = alive h30\n3 c.1 restore h20 = alive h31\n4 c.1 restore h5 = cleared\n5 c.1 restore h6 = alive h32\nend 6\n";
+    expect_again(&rt, rt.alloc(), text)?;
+    Ok(())
+}
