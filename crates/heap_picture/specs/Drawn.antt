@@ -1,5 +1,5 @@
 -- What is drawn of the bytes of a report, or why nothing is.
-use Rattle.std.specs.Prelude.{◌≡◌, ℕ, ◌+◌, ◌<◌, ◌≤◌, List, codes, length, take}
+use Rattle.std.specs.Prelude.{◌≡◌, ℕ, ◌+◌, ◌<◌, ◌≤◌, List, ◌∷◌, ◌++◌, Option, Some, None, codes, length, take}
 use Rattle.joint_machine.specs.Histories.{Finished}
 use Rattle.bridge_script.specs.declared.faults.Cause.TheVariants.{Bytes}
 use Rattle.bridge_script.specs.Causes.{fault_text}
@@ -11,14 +11,22 @@ use Rattle.check_laws.specs.declared.findings.Finding.{Finding}
 use Rattle.check_laws.specs.declared.findings.Finding.TheVariants as finding
 use Rattle.check_laws.specs.Findings.{IsFinding}
 use Rattle.heap_views.specs.Views.{IsStuck, Seen, View, opening_view}
-use Rattle.heap_pictures.specs.Drawing.{drawing_of}
-use Rattle.picture_text.specs.Texts.{picture_text}
+use Rattle.heap_pictures.specs.Drawing.{drawing_of, spot_of}
+use Rattle.heap_pictures.specs.Pictures.{Drawing}
+use Rattle.picture_sheets.specs.Around.{HasNamed, IsAround}
+use Rattle.picture_sheets.specs.Sheets.{Sheet, alone, compared}
+use Rattle.picture_text.specs.Texts.{sheet_text}
 use Rattle.picture_laws.specs.Laws.{HasOneNodeEach, NodesAreUnfreed, PathsAreReached}
 use Rattle.heap_picture.specs.declared.drawing.Drawn.{Drawn}
 use Rattle.heap_picture.specs.declared.drawing.Drawn.TheVariants as drawn
 use Rattle.heap_picture.specs.declared.drawing.Refusal.{Refusal}
 use Rattle.heap_picture.specs.declared.drawing.Refusal.TheVariants as refusal
+use Rattle.heap_picture.specs.declared.words.Around.{Around}
+use Rattle.heap_picture.specs.declared.words.Entries.{Entries}
+use Rattle.heap_picture.specs.declared.words.Entries.TheVariants.{One, Two}
+use Rattle.heap_picture.specs.declared.words.Request.{Request}
 use Rattle.heap_picture.specs.Lines.{line_at}
+use Rattle.heap_picture.specs.Words.{last_entry}
 
 -- by the finding all entries up to that one are in order
 abbrev pub IsInOrderTo : ℕ → Finding → Type 0
@@ -37,19 +45,57 @@ pub record Tells (v : View) : Type 0 where
   pub names : HasOneNodeEach v
   pub paths : PathsAreReached v
 
--- the text is that of the picture after entry n of the report: the bytes are read as a history, whose entries up to
--- that one are found in order; it is the picture of what is seen after them, with the entry's line as its title
-pub record IsPicture (input : List ℕ) (n : ℕ) (text : List ℕ) : Type 0 where
+-- the picture is that of what is seen after entry n
+pub record IsSeenAfter (h : Finished) (n : ℕ) (d : Drawing) : Type 0 where
+  pub view : View
+  pub seen : Seen h opening_view (take (n + 1) h.entries) view
+  pub tells : Tells view
+  pub is : d ≡ drawing_of view
+
+-- the sheet is the picture after one entry, or the pictures after two, compared
+abbrev pub IsSheetOf : Finished → Entries → Sheet → Type 0
+IsSheetOf h (One n) s = (d : Drawing) × IsSeenAfter h n d × (s ≡ alone d)
+IsSheetOf h (Two n m) s = (d : Drawing) × (e : Drawing) × IsSeenAfter h n d × IsSeenAfter h m e × (s ≡ compared d e)
+
+-- all of it, or the part around a node
+abbrev pub HasIt : Sheet → Around → Type 0
+HasIt s a = HasNamed s a.side a.number
+
+abbrev pub IsPartOf : Option Around → Sheet → Sheet → Type 0
+IsPartOf None whole part = part ≡ whole
+IsPartOf (Some a) whole part = HasIt whole a × IsAround whole (spot_of a.side a.number) a.steps part
+
+-- the title: the entry's line, or the lines of both
+abbrev pub title_of : Entries → List ℕ → List ℕ
+title_of (One n) input = line_at n input
+title_of (Two n m) input = line_at n input ++ (10 ∷ line_at m input)
+
+-- the bytes are read as a history, whose entries up to the last that is asked for are found in order, and that is its
+-- sheet
+pub record IsSheetIn (input : List ℕ) (entries : Entries) (whole : Sheet) : Type 0 where
   pub history : Finished
   pub reads : IsReadAs input history
   pub finding : Finding
   pub found : IsFinding history finding
-  pub order : IsInOrderTo n finding
-  pub within : n < length history.entries
-  pub view : View
-  pub seen : Seen history opening_view (take (n + 1) history.entries) view
-  pub tells : Tells view
-  pub is : text ≡ picture_text (line_at n input) (drawing_of view)
+  pub order : IsInOrderTo (last_entry entries) finding
+  pub within : last_entry entries < length history.entries
+  pub is : IsSheetOf history entries whole
+
+-- the text is that of what is asked for
+pub record IsPicture (input : List ℕ) (r : Request) (text : List ℕ) : Type 0 where
+  pub whole : Sheet
+  pub drawn : IsSheetIn input r.entries whole
+  pub part : Sheet
+  pub around : IsPartOf r.around whole part
+  pub is : text ≡ sheet_text (title_of r.entries input) part
+
+-- the sheet has no such node
+pub record HasNoNode (input : List ℕ) (r : Request) : Type 0 where
+  pub whole : Sheet
+  pub drawn : IsSheetIn input r.entries whole
+  pub around : Around
+  pub asked : r.around ≡ Some around
+  pub missing : HasIt whole around → ⊥
 
 -- the bytes are read as a history that is found so
 pub record IsFoundIllegal (input : List ℕ) (n : ℕ) (f : Finding) (count : ℕ) : Type 0 where
@@ -72,17 +118,18 @@ pub record HasNoStep (input : List ℕ) (n : ℕ) : Type 0 where
   pub stuck : IsStuck history n
 
 -- why there is no picture, of bytes within a limit
-abbrev pub IsRefused : ℕ → List ℕ → ℕ → Refusal → Type 0
-IsRefused most input n (refusal.Line fault) = IsNoneWithin most input (take_error.Refused fault)
-IsRefused most input n (refusal.Long line) = IsNoneWithin most input (take_error.Long line)
-IsRefused most input n (refusal.Found f count) = IsFoundIllegal input n f count
-IsRefused most input n refusal.NoEntry = HasNoEntry input n
-IsRefused most input n refusal.NoStep = HasNoStep input n
+abbrev pub IsRefused : ℕ → List ℕ → Request → Refusal → Type 0
+IsRefused most input r (refusal.Line fault) = IsNoneWithin most input (take_error.Refused fault)
+IsRefused most input r (refusal.Long line) = IsNoneWithin most input (take_error.Long line)
+IsRefused most input r (refusal.Found f count) = IsFoundIllegal input (last_entry r.entries) f count
+IsRefused most input r refusal.NoEntry = HasNoEntry input (last_entry r.entries)
+IsRefused most input r refusal.NoStep = HasNoStep input (last_entry r.entries)
+IsRefused most input r refusal.NoNode = HasNoNode input r
 
 -- what is answered of the bytes
-abbrev pub IsDrawn : ℕ → List ℕ → ℕ → Drawn → Type 0
-IsDrawn most input n (drawn.Picture text) = IsPicture input n text.items
-IsDrawn most input n (drawn.None r) = IsRefused most input n r
+abbrev pub IsDrawn : ℕ → List ℕ → Request → Drawn → Type 0
+IsDrawn most input r (drawn.Picture text) = IsPicture input r text.items
+IsDrawn most input r (drawn.None refusal) = IsRefused most input r refusal
 
 -- the line that says it
 abbrev pub refusal_line : Refusal → List ℕ
@@ -91,3 +138,4 @@ refusal_line (refusal.Long line) = fault_text (record { line = line; cause = Byt
 refusal_line (refusal.Found f count) = finding_text count f
 refusal_line refusal.NoEntry = codes "no such entry\n"
 refusal_line refusal.NoStep = codes "no step\n"
+refusal_line refusal.NoNode = codes "no such node\n"

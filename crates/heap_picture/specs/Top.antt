@@ -1,5 +1,5 @@
 -- What the top call does.
-use Rattle.std.specs.Prelude.{◌≡◌, ◌⊎◌, ℕ, ◌<◌, ◌≤◌, ◌^◌, List, [], ◌∷◌, Option, Result, Ok, Err, codes, decimal, drop}
+use Rattle.std.specs.Prelude.{◌≡◌, ◌⊎◌, ℕ, ◌≤◌, List, [], Option, Result, Ok, Err, codes, drop}
 use Rattle.std.specs.Prelude.{map, string_bytes}
 use Rattle.std.specs.Io.KnownBytes.{Appends, Keeps}
 use Rattle.std.specs.Vec.Iter.{into_iter_items}
@@ -8,51 +8,48 @@ use Rattle.std.specs.declared.vec.IntoIter.{IntoIter}
 use Rattle.byte_streams.specs.Reading.{Took}
 use Rattle.byte_streams.specs.Faults.{AppendsPart, Rose}
 use Rattle.heap_picture.specs.declared.drawing.Refusal.{Refusal}
+use Rattle.heap_picture.specs.declared.words.Request.{Request}
 use Rattle.heap_picture.specs.Drawn.{IsPicture, IsRefused, refusal_line}
+use Rattle.heap_picture.specs.Words.{Asks}
 
--- the words are the number of an entry
-pub record NamesEntry (words : List (List ℕ)) (n : ℕ) : Type 0 where
-  pub short : n < 2 ^ 64
-  pub given : words ≡ decimal n ∷ []
-
--- they are that of none
+-- the words ask for nothing that can be drawn
 abbrev pub NamesNone : List (List ℕ) → Type 0
-NamesNone words = (n : ℕ) → NamesEntry words n → ⊥
+NamesNone words = (r : Request) → Asks words r → ⊥
 
 -- the line that tells how the program is called
 abbrev pub usage_text : List ℕ
-usage_text = codes "usage: heap_picture N\n"
+usage_text = codes "usage: heap_picture N [M] [--around NODE K]\n"
 
--- the text is the picture after an entry of the bytes; or it is the line that says why there is none
-pub record PictureOf (input : List ℕ) (n : ℕ) (Put : List ℕ → Type 0) : Type 0 where
+-- the text is the picture that is asked for of the bytes; or it is the line that says why there is none
+pub record PictureOf (input : List ℕ) (r : Request) (Put : List ℕ → Type 0) : Type 0 where
   pub text : List ℕ
-  pub drawn : IsPicture input n text
+  pub drawn : IsPicture input r text
   pub put : Put text
 
-pub record RefusalOf (most : ℕ) (input : List ℕ) (n : ℕ) (Put : List ℕ → Type 0) : Type 0 where
+pub record RefusalOf (most : ℕ) (input : List ℕ) (r : Request) (Put : List ℕ → Type 0) : Type 0 where
   pub refusal : Refusal
-  pub refused : IsRefused most input n refusal
+  pub refused : IsRefused most input r refusal
   pub put : Put (refusal_line refusal)
 
--- the words name an entry, the source was read, and the picture after that entry of what was taken was put
+-- the words ask for a picture, the source was read, and that picture of what was taken was put
 pub record PicturePut (most : ℕ) (words : List (List ℕ))
     (left rest : Option (List ℕ)) (Put : List ℕ → Type 0) : Type 0 where
-  pub entry : ℕ
-  pub named : NamesEntry words entry
+  pub request : Request
+  pub asks : Asks words request
   pub input : List ℕ
   pub took : Took most left rest input
-  pub picture : PictureOf input entry Put
+  pub picture : PictureOf input request Put
 
 -- the same, and why there is none was put
 pub record RefusalPut (most : ℕ) (words : List (List ℕ))
     (left rest : Option (List ℕ)) (Put : List ℕ → Type 0) : Type 0 where
-  pub entry : ℕ
-  pub named : NamesEntry words entry
+  pub request : Request
+  pub asks : Asks words request
   pub input : List ℕ
   pub took : Took most left rest input
-  pub refusal : RefusalOf most input entry Put
+  pub refusal : RefusalOf most input request Put
 
--- the words name no entry, and the text is the usage line
+-- the words ask for nothing that can be drawn, and the text is the usage line
 pub record UsagePut (words : List (List ℕ)) (Put : List ℕ → Type 0) : Type 0 where
   pub no_entry : NamesNone words
   pub put : Put usage_text

@@ -3,19 +3,16 @@
 ghost use Rattle.std.specs.Prelude.{◌≡◌, ◌↔◌, ◌<◌, IfOk, IsTrue, false, length};
 ghost use Rattle.byte_streams.specs.Streams.{Writes};
 ghost use Rattle.report_reader.specs.Reading.{IsReadAs};
-ghost use Rattle.heap_pictures.specs.Drawing.{drawing_of};
-ghost use Rattle.picture_text.specs.Texts.{picture_text};
-ghost use Rattle.heap_picture.specs.Lines.{line_at};
-ghost use Rattle.heap_picture.specs.Drawn.{IsDrawn, IsIllegalBy, IsInOrderTo, Tells, refusal_line};
+ghost use Rattle.heap_picture.specs.Drawn.{IsDrawn, IsIllegalBy, IsInOrderTo, IsSheetIn, refusal_line};
+ghost use Rattle.heap_picture.specs.Words.{AreEntries};
 
-use crate::lines::line_at;
+use crate::sheets::{part_of, sheet_of, title_of};
+use crate::words::Request;
 use bridge_script::{Cause, ScriptFault, write_refusal};
 use byte_streams::{Failed, Sink, write_text};
-use heap_pictures::picture_of;
-use heap_views::{HeapView, view_after};
 use joint_model::History;
 use limited_reports::{TakeError, read_within};
-use picture_laws::pictures_tell;
+use picture_sheets::Sheet;
 use picture_text::dot_text;
 use report_answers::{write_finding, write_report_refusal};
 use report_reader::ReportFault;
@@ -35,6 +32,8 @@ pub enum Refusal {
     NoEntry,
     /// One of the entries up to it is no step of the joint machine.
     NoStep,
+    /// The picture has no such node.
+    NoNode,
 }
 
 impl Refusal {
@@ -49,6 +48,7 @@ impl Refusal {
             Refusal::Found(finding, count) => write_finding(finding, count, out),
             Refusal::NoEntry => write_text(out, b"no such entry\n"),
             Refusal::NoStep => write_text(out, b"no step\n"),
+            Refusal::NoNode => write_text(out, b"no such node\n"),
         }
     }
 }
@@ -72,13 +72,19 @@ pub enum Drawn {
     None(Refusal),
 }
 
-/// Draws the state after entry `n` of the report that these bytes are.
-pub(crate) fn draw(alloc: Global, bytes: &[u8], most: usize, n: u64) -> Result<Drawn, AllocError>
-    requires { length bytes.now < 4294967295 }
-    ensures { IfOk result (λ d. IsDrawn most bytes.now n d) }
+/// Draws what is asked for of the report that these bytes are.
+pub(crate) fn draw(
+    alloc: Global,
+    bytes: &[u8],
+    most: usize,
+    request: Request,
+) -> Result<Drawn, AllocError>
+    requires few { length bytes.now < 4294967295 }
+    requires order { AreEntries request.entries }
+    ensures { IfOk result (λ d. IsDrawn most bytes.now request d) }
 {
     match read_within(alloc, bytes, most) {
-        Ok(history) => draw_history(alloc, bytes, most, &history, n),
+        Ok(history) => draw_history(alloc, bytes, most, &history, request),
         Err(TakeError::OutOfMemory) => Err(AllocError),
         Err(TakeError::ReadFault) => unreachable!(),
         Err(TakeError::Refused(fault)) => Ok(Drawn::None(Refusal::Line(fault))),
@@ -97,40 +103,49 @@ fn is_illegal_by(finding: Finding, n: u64) -> bool
     }
 }
 
-// Draws the state after entry `n` of a history.
+// Draws what is asked for of a history.
 fn draw_history(
     alloc: Global,
     bytes: &[u8],
     _most: usize,
     history: &History,
-    n: u64,
+    request: Request,
 ) -> Result<Drawn, AllocError>
-    requires { IsReadAs bytes.now history.now }
-    ensures { IfOk result (λ d. IsDrawn _most bytes.now n d) }
+    requires reads { IsReadAs bytes.now history.now }
+    requires order { AreEntries request.entries }
+    ensures { IfOk result (λ d. IsDrawn _most bytes.now request d) }
 {
+    let last = request.entries.last();
     let finding = check(alloc, history)?;
-    if is_illegal_by(finding, n) {
+    if is_illegal_by(finding, last) {
         return Ok(Drawn::None(Refusal::Found(finding, history.len())));
     }
-    if n >= history.len() {
+    if last >= history.len() {
         return Ok(Drawn::None(Refusal::NoEntry));
     }
-    match view_after(alloc, history, n)? {
+    match sheet_of(alloc, history, request.entries)? {
         None => Ok(Drawn::None(Refusal::NoStep)),
-        Some(view) => {
-            let text = view_text(alloc, bytes, &view, n)?;
-            Ok(Drawn::Picture(text))
-        }
+        Some(sheet) => draw_sheet(alloc, bytes, _most, sheet, request),
     }
 }
 
-// The text of the picture of what there is to see.
-fn view_text(alloc: Global, bytes: &[u8], view: &HeapView, n: u64) -> Result<Vec<u8>, AllocError>
-    ensures text { IfOk result (λ text. text.items ≡ picture_text (line_at n bytes.now) (drawing_of view.now)) }
-    ensures tells { Tells view.now }
+// Draws a sheet, or as much of it as is asked for.
+fn draw_sheet(
+    alloc: Global,
+    bytes: &[u8],
+    _most: usize,
+    sheet: Sheet,
+    request: Request,
+) -> Result<Drawn, AllocError>
+    requires { IsSheetIn bytes.now request.entries sheet }
+    ensures { IfOk result (λ d. IsDrawn _most bytes.now request d) }
 {
-    pictures_tell();
-    let _objects = view.joint().objects();
-    let picture = picture_of(alloc, view)?;
-    dot_text(alloc, line_at(bytes, n), &picture)
+    match part_of(alloc, sheet, request.around)? {
+        None => Ok(Drawn::None(Refusal::NoNode)),
+        Some(part) => {
+            let title = title_of(alloc, request.entries, bytes)?;
+            let text = dot_text(alloc, title.as_slice(), &part)?;
+            Ok(Drawn::Picture(text))
+        }
+    }
 }

@@ -1,10 +1,14 @@
-// The program `heap_picture`: a picture of both heaps at an entry of a report.
+// The program `heap_picture`: a picture of both heaps at an entry of a report, or of what came and went between two, as
+// a whole or as much of it as lies around a node.
 #![tactic(auto)]
 
 mod drawing;
 mod lines;
 mod program;
+mod sheets;
 mod statuses;
+#[cfg(test)]
+mod tests;
 mod top;
 mod words;
 

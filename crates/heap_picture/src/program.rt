@@ -16,8 +16,8 @@ use std::process::ExitCode;
 /// Makes the top call for the words after the program's name, and answers the exit code of the process, which is the
 /// status of that call.
 ///
-/// Arguments that aren't text name no entry: they are answered as no words are. Where there is no memory for the words
-/// the exit code is 5, and nothing is read or written.
+/// Arguments that aren't text ask for no picture: they are answered as no words are. Where there is no memory for the
+/// words the exit code is 5, and nothing is read or written.
 pub fn run_program<S: Source, K: Sink>(
     alloc: Global,
     args: io::Result<Args>,

@@ -122,6 +122,31 @@ impl Model for Picture {
 }
 
 impl Picture {
+    /// The picture with these nodes, of which these are dead and these are candidates, and these arrows.
+    pub fn of(
+        objects: Vec<ObjectNode>,
+        peers: Vec<PeerNode>,
+        dead: Vec<u32>,
+        candidates: Vec<u32>,
+        arrows: Vec<Arrow>,
+    ) -> Picture
+        ensures { result ≡ record {
+          objects = objects.items;
+          peers = peers.items;
+          dead = dead.items;
+          candidates = candidates.items;
+          arrows = arrows.items;
+        } }
+    {
+        Picture {
+            objects,
+            peers,
+            dead,
+            candidates,
+            arrows,
+        }
+    }
+
     /// The nodes of the managed objects.
     pub fn objects(&self) -> &[ObjectNode]
         ensures { result.now ≡ self.now.objects }

@@ -1,4 +1,4 @@
--- The text of a picture, in DOT.
+-- The text of a sheet of pictures, in DOT.
 use Rattle.std.specs.Prelude.{ℕ, ◌+◌, ◌/◌, ◌%◌, ◌==◌, ◌||◌, if◌then◌else◌, List, [], ◌∷◌, ◌++◌, codes, decimal, Option}
 use Rattle.std.specs.Prelude.{Some, None}
 use Rattle.std.specs.List.{flat_map}
@@ -16,7 +16,9 @@ use Rattle.heap_pictures.specs.declared.pictures.Spot.{Spot}
 use Rattle.heap_pictures.specs.declared.pictures.Spot.TheVariants as spot
 use Rattle.heap_pictures.specs.declared.pictures.Style.{Style}
 use Rattle.heap_pictures.specs.declared.pictures.Style.TheVariants as style
-use Rattle.heap_pictures.specs.Pictures.{Drawing}
+use Rattle.picture_sheets.specs.Sheets.{Sheet}
+use Rattle.picture_text.specs.declared.changes.Change.{Change}
+use Rattle.picture_text.specs.declared.changes.Change.TheVariants as change
 
 -- a letter and a number: m1, p1, h1
 abbrev pub named : ℕ → ℕ → List ℕ
@@ -67,16 +69,25 @@ abbrev pub sort_word : Sort → List ℕ
 sort_word sort.User = codes "user"
 sort_word sort.Framework = codes "framework"
 
+-- how what came is drawn, and what went: green, and vermilion and dotted
+abbrev pub change_text : Change → List ℕ
+change_text change.Stays = []
+change_text change.Came = codes ",color=\"#009e73\",fontcolor=\"#009e73\""
+change_text change.Went = codes ",color=\"#d55e00\",fontcolor=\"#d55e00\",style=dotted"
+
 -- a node with its name and a word
-abbrev pub node_text : ℕ → ℕ → List ℕ → List ℕ
-node_text letter n word = codes "    " ++
-    (named letter n ++ (codes " [label=\"" ++ (named letter n ++ 32 ∷ (word ++ codes "\"];\n"))))
+abbrev pub label_text : ℕ → ℕ → List ℕ → List ℕ
+label_text letter n word = codes " [label=\"" ++ (named letter n ++ (32 ∷ [] ++ (word ++ 34 ∷ [])))
 
-abbrev pub object_text : ObjectNode → List ℕ
-object_text n = node_text 109 n.m (kind_word n.kind)
+abbrev pub node_text : Change → ℕ → ℕ → List ℕ → List ℕ
+node_text c letter n word = codes "    " ++
+    (named letter n ++ (label_text letter n word ++ (change_text c ++ codes "];\n")))
 
-abbrev pub peer_text : PeerNode → List ℕ
-peer_text n = node_text 112 n.p (sort_word n.sort)
+abbrev pub object_text : Change → ObjectNode → List ℕ
+object_text c n = node_text c 109 n.m (kind_word n.kind)
+
+abbrev pub peer_text : Change → PeerNode → List ℕ
+peer_text c n = node_text c 112 n.p (sort_word n.sort)
 
 -- how a handle is drawn: full, dashed, grey, or grey and dotted
 abbrev pub style_text : Style → List ℕ
@@ -98,21 +109,34 @@ abbrev pub point_text : Spot → List ℕ
 point_text (spot.Temporary i) = shape_text (spot.Temporary i) (codes " [shape=point,color=\"#0072b2\"];\n")
 point_text _ = []
 
+-- an arrow from one spot to another, drawn so
+abbrev pub drawn_text : Change → Spot → Spot → List ℕ → List ℕ
+drawn_text c from to looks = way_text from to ++ (codes " [" ++ (looks ++ (change_text c ++ codes "];\n")))
+
+-- how the arrows of fields and of handles are drawn
+abbrev pub field_looks : ℕ → List ℕ
+field_looks i = codes "label=\"" ++ (decimal i ++ 34 ∷ [])
+
+abbrev pub held_looks : ℕ → Style → List ℕ
+held_looks h s = codes "dir=both,penwidth=2,label=\"h" ++ (decimal h ++ (34 ∷ [] ++ style_text s))
+
+abbrev pub handle_looks : Style → List ℕ
+handle_looks s = codes "penwidth=2" ++ style_text s
+
 -- the lines of an arrow: a box or a point has its shape on a line before it
-abbrev pub arrow_text : Arrow → List ℕ
-arrow_text (arrow.Field from i to) = way_text from to ++ (codes " [label=\"" ++ (decimal i ++ codes "\"];\n"))
-arrow_text (arrow.Held m h p s) = way_text (spot.Object m)
-    (spot.Peer p) ++ (codes " [dir=both,penwidth=2,label=\"h" ++ (decimal h ++ 34 ∷ (style_text s ++ codes "];\n")))
-arrow_text (arrow.Faded m h s) = shape_text (spot.Handle h)
-    (codes " [shape=plaintext,fontcolor=gray];\n") ++
-    (way_text (spot.Object m) (spot.Handle h) ++ (codes " [penwidth=2" ++ (style_text s ++ codes "];\n")))
-arrow_text (arrow.Names from to) = shape_text from (codes " [shape=box];\n") ++ (way_text from to ++ codes ";\n")
-arrow_text (arrow.Grips h p s) = shape_text (spot.Handle h)
-    (codes " [shape=box];\n") ++ (way_text (spot.Handle h)
-    (spot.Peer p) ++ (codes " [penwidth=2" ++ (style_text s ++ codes "];\n")))
-arrow_text (arrow.Stub h) = shape_text (spot.Handle h) (codes " [shape=box,color=gray,fontcolor=gray];\n")
-arrow_text (arrow.Refers from to) = point_text
-    from ++ (point_text to ++ (way_text from to ++ codes " [color=\"#0072b2\"];\n"))
+abbrev pub arrow_text : Change → Arrow → List ℕ
+arrow_text c (arrow.Field from i to) = drawn_text c from to (field_looks i)
+arrow_text c (arrow.Held m h p s) = drawn_text c (spot.Object m) (spot.Peer p) (held_looks h s)
+arrow_text c (arrow.Faded m h s) = shape_text (spot.Handle h)
+    (codes " [shape=plaintext,fontcolor=gray];\n") ++ drawn_text c (spot.Object m) (spot.Handle h) (handle_looks s)
+arrow_text c (arrow.Names from to) = shape_text from
+    (codes " [shape=box];\n") ++ drawn_text c from to (codes "penwidth=1")
+arrow_text c (arrow.Grips h p s) = shape_text (spot.Handle h)
+    (codes " [shape=box];\n") ++ drawn_text c (spot.Handle h) (spot.Peer p) (handle_looks s)
+arrow_text c (arrow.Stub h) = shape_text (spot.Handle h)
+    (codes " [shape=box,color=gray,fontcolor=gray" ++ (change_text c ++ codes "];\n"))
+arrow_text c (arrow.Refers from to) = point_text
+    from ++ (point_text to ++ drawn_text c from to (codes "color=\"#0072b2\""))
 
 -- objects get a mark
 abbrev pub mark_text : List ℕ → ℕ → List ℕ
@@ -130,21 +154,27 @@ abbrev pub dead_text : List ℕ → List ℕ
 dead_text [] = []
 dead_text (m ∷ ms) = frame_text (m ∷ ms)
 
--- the frames of both heaps: candidates have a double border
-abbrev pub managed_text : Drawing → List ℕ
-managed_text d = codes "  subgraph cluster_managed {\n    label=\"managed heap\";\n" ++
-    (flat_map object_text d.objects ++ (marked_text
-    (codes " [peripheries=2];\n") d.candidates ++ (dead_text d.dead ++ codes "  }\n")))
+-- what stays, then what came, then what went
+abbrev pub by_change : {A : Type 0} → (Change → A → List ℕ) → List A → List A → List A → List ℕ
+by_change text stay came went = flat_map
+    (text change.Stays) stay ++ (flat_map (text change.Came) came ++ flat_map (text change.Went) went)
 
-abbrev pub peers_text : Drawing → List ℕ
-peers_text d = codes "  subgraph cluster_peers {\n    label=\"peer heap\";\n"
-    ++ (flat_map peer_text d.peers ++ codes "  }\n")
+-- the frames of both heaps: candidates have a double border
+abbrev pub managed_text : Sheet → List ℕ
+managed_text s = codes "  subgraph cluster_managed {\n    label=\"managed heap\";\n"
+    ++ (by_change object_text s.stay.objects s.came.objects s.went.objects
+    ++ (marked_text (codes " [peripheries=2];\n") s.stay.candidates ++ (dead_text s.stay.dead ++ codes "  }\n")))
+
+abbrev pub peers_text : Sheet → List ℕ
+peers_text s = codes "  subgraph cluster_peers {\n    label=\"peer heap\";\n" ++
+    (by_change peer_text s.stay.peers s.came.peers s.went.peers ++ codes "  }\n")
 
 -- the first lines, with the title
 abbrev pub head_text : List ℕ → List ℕ
 head_text title = codes "digraph heaps {\n  label=\"" ++ (quoted title ++ codes "\";\n  labelloc=t;\n  rankdir=LR;\n")
 
 -- the whole
-abbrev pub picture_text : List ℕ → Drawing → List ℕ
-picture_text title d = head_text title ++
-    (managed_text d ++ (peers_text d ++ (flat_map arrow_text d.arrows ++ codes "}\n")))
+abbrev pub sheet_text : List ℕ → Sheet → List ℕ
+sheet_text title s = head_text title ++
+    (managed_text s ++ (peers_text s ++
+    (by_change arrow_text s.stay.arrows s.came.arrows s.went.arrows ++ codes "}\n")))

@@ -1,8 +1,10 @@
 // The lines of arrows. A box or a point has its shape on a line before its arrow.
 
-ghost use Rattle.std.specs.Prelude.{◌≡◌, ◌++◌, OnOk};
-ghost use Rattle.picture_text.specs.Texts.{arrow_text, point_text, shape_text, style_text, way_text};
+ghost use Rattle.std.specs.Prelude.{◌≡◌, ◌++◌, OnOk, codes};
+ghost use Rattle.picture_text.specs.Texts.{arrow_text, change_text, drawn_text, field_looks, handle_looks, held_looks};
+ghost use Rattle.picture_text.specs.Texts.{point_text, shape_text, style_text, way_text};
 
+use crate::changes::{Change, put_change};
 use crate::pieces::{put, put_byte, put_number};
 use crate::spots::put_spot;
 use heap_pictures::{Arrow, Spot, Style};
@@ -48,65 +50,171 @@ fn put_shape(spot: Spot, shape: &[u8], text: &mut Vec<u8>) -> Result<(), AllocEr
     Ok(())
 }
 
-// A field.
-fn put_field(from: Spot, i: usize, to: Spot, text: &mut Vec<u8>) -> Result<(), AllocError>
-    ensures { OnOk result (text.new.items ≡ text.old.items ++ arrow_text (Arrow.Field from i to)) }
+// What stands before the looks of an arrow, and behind them.
+fn put_begin(from: Spot, to: Spot, text: &mut Vec<u8>) -> Result<(), AllocError>
+    ensures { OnOk result (text.new.items ≡ text.old.items ++ (way_text from to ++ codes " [")) }
 {
     put_way(from, to, text)?;
-    put(b" [label=\"", text)?;
-    put_number(i as u64, text)?;
-    put(b"\"];\n", text)?;
+    put(b" [", text)?;
     Ok(())
 }
 
-// The handle of a managed object.
-fn put_held(m: u32, h: u32, p: u32, style: Style, text: &mut Vec<u8>) -> Result<(), AllocError>
-    ensures { OnOk result (text.new.items ≡ text.old.items ++ arrow_text (Arrow.Held m h p style)) }
+fn put_end(change: Change, text: &mut Vec<u8>) -> Result<(), AllocError>
+    ensures { OnOk result (text.new.items ≡ text.old.items ++ (change_text change ++ codes "];\n")) }
 {
-    put_way(Spot::Object(m), Spot::Peer(p), text)?;
-    put(b" [dir=both,penwidth=2,label=\"h", text)?;
-    put_number(h as u64, text)?;
-    put_byte(b'"', text)?;
-    put_style(style, text)?;
+    put_change(change, text)?;
     put(b"];\n", text)?;
     Ok(())
 }
 
+// How the arrow of a field looks.
+fn put_field_looks(i: usize, text: &mut Vec<u8>) -> Result<(), AllocError>
+    ensures { OnOk result (text.new.items ≡ text.old.items ++ field_looks i) }
+{
+    put(b"label=\"", text)?;
+    put_number(i as u64, text)?;
+    put_byte(b'"', text)?;
+    Ok(())
+}
+
+// That of the handle of a managed object.
+fn put_held_looks(h: u32, style: Style, text: &mut Vec<u8>) -> Result<(), AllocError>
+    ensures { OnOk result (text.new.items ≡ text.old.items ++ held_looks h style) }
+{
+    put(b"dir=both,penwidth=2,label=\"h", text)?;
+    put_number(h as u64, text)?;
+    put_byte(b'"', text)?;
+    put_style(style, text)?;
+    Ok(())
+}
+
+// That of another handle.
+fn put_handle_looks(style: Style, text: &mut Vec<u8>) -> Result<(), AllocError>
+    ensures { OnOk result (text.new.items ≡ text.old.items ++ handle_looks style) }
+{
+    put(b"penwidth=2", text)?;
+    put_style(style, text)?;
+    Ok(())
+}
+
+// A field.
+fn put_field(
+    change: Change,
+    from: Spot,
+    i: usize,
+    to: Spot,
+    text: &mut Vec<u8>,
+) -> Result<(), AllocError>
+    ensures { OnOk result (text.new.items ≡ text.old.items ++ arrow_text change (Arrow.Field from i to)) }
+{
+    put_begin(from, to, text)?;
+    put_field_looks(i, text)?;
+    put_end(change, text)?;
+    Ok(())
+}
+
+// The handle of a managed object.
+fn put_held(
+    change: Change,
+    m: u32,
+    h: u32,
+    p: u32,
+    style: Style,
+    text: &mut Vec<u8>,
+) -> Result<(), AllocError>
+    ensures { OnOk result (text.new.items ≡ text.old.items ++ arrow_text change (Arrow.Held m h p style)) }
+{
+    put_begin(Spot::Object(m), Spot::Peer(p), text)?;
+    put_held_looks(h, style, text)?;
+    put_end(change, text)?;
+    Ok(())
+}
+
+// The arrow of a handle, from or to its name.
+fn put_handle(
+    change: Change,
+    from: Spot,
+    to: Spot,
+    style: Style,
+    text: &mut Vec<u8>,
+) -> Result<(), AllocError>
+    ensures { OnOk result (text.new.items ≡ text.old.items ++ drawn_text change from to (handle_looks style)) }
+{
+    put_begin(from, to, text)?;
+    put_handle_looks(style, text)?;
+    put_end(change, text)?;
+    Ok(())
+}
+
 // And one whose peer was freed.
-fn put_faded(m: u32, h: u32, style: Style, text: &mut Vec<u8>) -> Result<(), AllocError>
-    ensures { OnOk result (text.new.items ≡ text.old.items ++ arrow_text (Arrow.Faded m h style)) }
+fn put_faded(
+    change: Change,
+    m: u32,
+    h: u32,
+    style: Style,
+    text: &mut Vec<u8>,
+) -> Result<(), AllocError>
+    ensures { OnOk result (text.new.items ≡ text.old.items ++ arrow_text change (Arrow.Faded m h style)) }
 {
     put_shape(
         Spot::Handle(h),
         b" [shape=plaintext,fontcolor=gray];\n",
         text,
     )?;
-    put_way(Spot::Object(m), Spot::Handle(h), text)?;
-    put(b" [penwidth=2", text)?;
-    put_style(style, text)?;
-    put(b"];\n", text)?;
+    put_handle(change, Spot::Object(m), Spot::Handle(h), style, text)?;
+    Ok(())
+}
+
+// An arrow that looks like those words.
+fn put_plain(
+    change: Change,
+    from: Spot,
+    to: Spot,
+    looks: &[u8],
+    text: &mut Vec<u8>,
+) -> Result<(), AllocError>
+    ensures { OnOk result (text.new.items ≡ text.old.items ++ drawn_text change from to looks.now) }
+{
+    put_begin(from, to, text)?;
+    put(looks, text)?;
+    put_end(change, text)?;
     Ok(())
 }
 
 // A slot.
-fn put_names(from: Spot, to: Spot, text: &mut Vec<u8>) -> Result<(), AllocError>
-    ensures { OnOk result (text.new.items ≡ text.old.items ++ arrow_text (Arrow.Names from to)) }
+fn put_names(change: Change, from: Spot, to: Spot, text: &mut Vec<u8>) -> Result<(), AllocError>
+    ensures { OnOk result (text.new.items ≡ text.old.items ++ arrow_text change (Arrow.Names from to)) }
 {
     put_shape(from, b" [shape=box];\n", text)?;
-    put_way(from, to, text)?;
-    put(b";\n", text)?;
+    put_plain(change, from, to, b"penwidth=1", text)?;
     Ok(())
 }
 
 // The box of a handle.
-fn put_grips(h: u32, p: u32, style: Style, text: &mut Vec<u8>) -> Result<(), AllocError>
-    ensures { OnOk result (text.new.items ≡ text.old.items ++ arrow_text (Arrow.Grips h p style)) }
+fn put_grips(
+    change: Change,
+    h: u32,
+    p: u32,
+    style: Style,
+    text: &mut Vec<u8>,
+) -> Result<(), AllocError>
+    ensures { OnOk result (text.new.items ≡ text.old.items ++ arrow_text change (Arrow.Grips h p style)) }
 {
     put_shape(Spot::Handle(h), b" [shape=box];\n", text)?;
-    put_way(Spot::Handle(h), Spot::Peer(p), text)?;
-    put(b" [penwidth=2", text)?;
-    put_style(style, text)?;
-    put(b"];\n", text)?;
+    put_handle(change, Spot::Handle(h), Spot::Peer(p), style, text)?;
+    Ok(())
+}
+
+// The box of a handle that leads to no peer any more.
+fn put_stub(change: Change, h: u32, text: &mut Vec<u8>) -> Result<(), AllocError>
+    ensures { OnOk result (text.new.items ≡ text.old.items ++ arrow_text change (Arrow.Stub h)) }
+{
+    put_shape(
+        Spot::Handle(h),
+        b" [shape=box,color=gray,fontcolor=gray",
+        text,
+    )?;
+    put_end(change, text)?;
     Ok(())
 }
 
@@ -121,31 +229,26 @@ fn put_point(spot: Spot, text: &mut Vec<u8>) -> Result<(), AllocError>
 }
 
 // A reference that a cycle added.
-fn put_refers(from: Spot, to: Spot, text: &mut Vec<u8>) -> Result<(), AllocError>
-    ensures { OnOk result (text.new.items ≡ text.old.items ++ arrow_text (Arrow.Refers from to)) }
+fn put_refers(change: Change, from: Spot, to: Spot, text: &mut Vec<u8>) -> Result<(), AllocError>
+    ensures { OnOk result (text.new.items ≡ text.old.items ++ arrow_text change (Arrow.Refers from to)) }
 {
     put_point(from, text)?;
     put_point(to, text)?;
-    put_way(from, to, text)?;
-    put(b" [color=\"#0072b2\"];\n", text)?;
+    put_plain(change, from, to, b"color=\"#0072b2\"", text)?;
     Ok(())
 }
 
 /// The lines of an arrow.
-pub(crate) fn put_arrow(arrow: &Arrow, text: &mut Vec<u8>) -> Result<(), AllocError>
-    ensures { OnOk result (text.new.items ≡ text.old.items ++ arrow_text arrow.now) }
+pub(crate) fn put_arrow(change: Change, arrow: &Arrow, text: &mut Vec<u8>) -> Result<(), AllocError>
+    ensures { OnOk result (text.new.items ≡ text.old.items ++ arrow_text change arrow.now) }
 {
     match *arrow {
-        Arrow::Field { from, i, to } => put_field(from, i, to, text),
-        Arrow::Held { m, h, p, style } => put_held(m, h, p, style, text),
-        Arrow::Faded { m, h, style } => put_faded(m, h, style, text),
-        Arrow::Names { from, to } => put_names(from, to, text),
-        Arrow::Grips { h, p, style } => put_grips(h, p, style, text),
-        Arrow::Stub { h } => put_shape(
-            Spot::Handle(h),
-            b" [shape=box,color=gray,fontcolor=gray];\n",
-            text,
-        ),
-        Arrow::Refers { from, to } => put_refers(from, to, text),
+        Arrow::Field { from, i, to } => put_field(change, from, i, to, text),
+        Arrow::Held { m, h, p, style } => put_held(change, m, h, p, style, text),
+        Arrow::Faded { m, h, style } => put_faded(change, m, h, style, text),
+        Arrow::Names { from, to } => put_names(change, from, to, text),
+        Arrow::Grips { h, p, style } => put_grips(change, h, p, style, text),
+        Arrow::Stub { h } => put_stub(change, h, text),
+        Arrow::Refers { from, to } => put_refers(change, from, to, text),
     }
 }

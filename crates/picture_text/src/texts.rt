@@ -2,13 +2,16 @@
 
 ghost use Rattle.std.specs.Prelude.{◌≡◌, ◌++◌, IfOk, OnOk, codes};
 ghost use Rattle.std.specs.List.{flat_map};
-ghost use Rattle.picture_text.specs.Texts.{arrow_text, dead_text, frame_text, head_text, managed_text, mark_text};
-ghost use Rattle.picture_text.specs.Texts.{marked_text, node_text, object_text, peer_text, peers_text, picture_text};
+ghost use Rattle.picture_text.specs.Texts.{arrow_text, by_change, dead_text, frame_text, head_text, label_text};
+ghost use Rattle.picture_text.specs.Texts.{managed_text, mark_text, marked_text, node_text, object_text, peer_text};
+ghost use Rattle.picture_text.specs.Texts.{peers_text, sheet_text};
 
 use crate::arrows::put_arrow;
+use crate::changes::{Change, put_change};
 use crate::pieces::{put, put_byte, put_named, put_quoted};
 use crate::spots::{kind_word, sort_word};
-use heap_pictures::{Arrow, ObjectNode, PeerNode, Picture};
+use heap_pictures::{Arrow, ObjectNode, PeerNode};
+use picture_sheets::Sheet;
 use std::alloc::{AllocError, Global};
 
 // A word.
@@ -18,57 +21,73 @@ fn put_word(word: &str, text: &mut Vec<u8>) -> Result<(), AllocError>
     put(word.as_bytes(), text)
 }
 
-// The line of a node.
-fn put_node(letter: u8, n: u32, word: &str, text: &mut Vec<u8>) -> Result<(), AllocError>
-    ensures { OnOk result (text.new.items ≡ text.old.items ++ node_text letter n word.now) }
+// The label of a node.
+fn put_label(letter: u8, n: u32, word: &str, text: &mut Vec<u8>) -> Result<(), AllocError>
+    ensures { OnOk result (text.new.items ≡ text.old.items ++ label_text letter n word.now) }
 {
-    put(b"    ", text)?;
-    put_named(letter, n, text)?;
     put(b" [label=\"", text)?;
     put_named(letter, n, text)?;
     put_byte(b' ', text)?;
     put_word(word, text)?;
-    put(b"\"];\n", text)?;
+    put_byte(b'"', text)?;
+    Ok(())
+}
+
+// The line of a node.
+fn put_node(
+    change: Change,
+    letter: u8,
+    n: u32,
+    word: &str,
+    text: &mut Vec<u8>,
+) -> Result<(), AllocError>
+    ensures { OnOk result (text.new.items ≡ text.old.items ++ node_text change letter n word.now) }
+{
+    put(b"    ", text)?;
+    put_named(letter, n, text)?;
+    put_label(letter, n, word, text)?;
+    put_change(change, text)?;
+    put(b"];\n", text)?;
     Ok(())
 }
 
 // The line of a managed object.
-fn put_object(node: &ObjectNode, text: &mut Vec<u8>) -> Result<(), AllocError>
-    ensures { OnOk result (text.new.items ≡ text.old.items ++ object_text node.now) }
+fn put_object(change: Change, node: &ObjectNode, text: &mut Vec<u8>) -> Result<(), AllocError>
+    ensures { OnOk result (text.new.items ≡ text.old.items ++ object_text change node.now) }
 {
-    put_node(b'm', node.m, kind_word(node.kind), text)
+    put_node(change, b'm', node.m, kind_word(node.kind), text)
 }
 
 // The line of a peer.
-fn put_peer(node: &PeerNode, text: &mut Vec<u8>) -> Result<(), AllocError>
-    ensures { OnOk result (text.new.items ≡ text.old.items ++ peer_text node.now) }
+fn put_peer(change: Change, node: &PeerNode, text: &mut Vec<u8>) -> Result<(), AllocError>
+    ensures { OnOk result (text.new.items ≡ text.old.items ++ peer_text change node.now) }
 {
-    put_node(b'p', node.p, sort_word(node.sort), text)
+    put_node(change, b'p', node.p, sort_word(node.sort), text)
 }
 
-fn put_objects(nodes: &[ObjectNode], text: &mut Vec<u8>) -> Result<(), AllocError>
-    ensures { OnOk result (text.new.items ≡ text.old.items ++ flat_map object_text nodes.now) }
+fn put_objects(change: Change, nodes: &[ObjectNode], text: &mut Vec<u8>) -> Result<(), AllocError>
+    ensures { OnOk result (text.new.items ≡ text.old.items ++ flat_map (object_text change) nodes.now) }
 {
     for node in nodes {
-        put_object(node, text)?;
+        put_object(change, node, text)?;
     }
     Ok(())
 }
 
-fn put_peers(nodes: &[PeerNode], text: &mut Vec<u8>) -> Result<(), AllocError>
-    ensures { OnOk result (text.new.items ≡ text.old.items ++ flat_map peer_text nodes.now) }
+fn put_peers(change: Change, nodes: &[PeerNode], text: &mut Vec<u8>) -> Result<(), AllocError>
+    ensures { OnOk result (text.new.items ≡ text.old.items ++ flat_map (peer_text change) nodes.now) }
 {
     for node in nodes {
-        put_peer(node, text)?;
+        put_peer(change, node, text)?;
     }
     Ok(())
 }
 
-fn put_arrows(arrows: &[Arrow], text: &mut Vec<u8>) -> Result<(), AllocError>
-    ensures { OnOk result (text.new.items ≡ text.old.items ++ flat_map arrow_text arrows.now) }
+fn put_arrows(change: Change, arrows: &[Arrow], text: &mut Vec<u8>) -> Result<(), AllocError>
+    ensures { OnOk result (text.new.items ≡ text.old.items ++ flat_map (arrow_text change) arrows.now) }
 {
     for arrow in arrows {
-        put_arrow(arrow, text)?;
+        put_arrow(change, arrow, text)?;
     }
     Ok(())
 }
@@ -116,66 +135,78 @@ fn put_dead(dead: &[u32], text: &mut Vec<u8>) -> Result<(), AllocError>
     put_frame(dead, text)
 }
 
-// The lines of a picture's managed objects.
-fn put_drawn_objects(picture: &Picture, text: &mut Vec<u8>) -> Result<(), AllocError>
-    ensures { OnOk result (text.new.items ≡ text.old.items ++ flat_map object_text picture.now.objects) }
+// The lines of a sheet's managed objects.
+fn put_sheet_objects(sheet: &Sheet, text: &mut Vec<u8>) -> Result<(), AllocError>
+    ensures { OnOk result (text.new.items ≡ text.old.items ++ by_change object_text
+        sheet.now.stay.objects sheet.now.came.objects sheet.now.went.objects) }
 {
-    put_objects(picture.objects(), text)
+    put_objects(Change::Stays, sheet.stay().objects(), text)?;
+    put_objects(Change::Came, sheet.came().objects(), text)?;
+    put_objects(Change::Went, sheet.went().objects(), text)?;
+    Ok(())
 }
 
 // Of its candidates.
-fn put_drawn_candidates(picture: &Picture, text: &mut Vec<u8>) -> Result<(), AllocError>
+fn put_sheet_candidates(sheet: &Sheet, text: &mut Vec<u8>) -> Result<(), AllocError>
     ensures { OnOk result (text.new.items ≡ text.old.items ++ marked_text
-        (codes " [peripheries=2];\n") picture.now.candidates) }
+        (codes " [peripheries=2];\n") sheet.now.stay.candidates) }
 {
-    put_marked(picture.candidates(), b" [peripheries=2];\n", text)
+    put_marked(sheet.stay().candidates(), b" [peripheries=2];\n", text)
 }
 
 // Of its dead part.
-fn put_drawn_dead(picture: &Picture, text: &mut Vec<u8>) -> Result<(), AllocError>
-    ensures { OnOk result (text.new.items ≡ text.old.items ++ dead_text picture.now.dead) }
+fn put_sheet_dead(sheet: &Sheet, text: &mut Vec<u8>) -> Result<(), AllocError>
+    ensures { OnOk result (text.new.items ≡ text.old.items ++ dead_text sheet.now.stay.dead) }
 {
-    put_dead(picture.dead(), text)
+    put_dead(sheet.stay().dead(), text)
 }
 
 // Of its peers.
-fn put_drawn_peers(picture: &Picture, text: &mut Vec<u8>) -> Result<(), AllocError>
-    ensures { OnOk result (text.new.items ≡ text.old.items ++ flat_map peer_text picture.now.peers) }
+fn put_sheet_peers(sheet: &Sheet, text: &mut Vec<u8>) -> Result<(), AllocError>
+    ensures { OnOk result (text.new.items ≡ text.old.items ++ by_change
+        peer_text sheet.now.stay.peers sheet.now.came.peers sheet.now.went.peers) }
 {
-    put_peers(picture.peers(), text)
+    put_peers(Change::Stays, sheet.stay().peers(), text)?;
+    put_peers(Change::Came, sheet.came().peers(), text)?;
+    put_peers(Change::Went, sheet.went().peers(), text)?;
+    Ok(())
 }
 
 // Of its arrows.
-fn put_drawn_arrows(picture: &Picture, text: &mut Vec<u8>) -> Result<(), AllocError>
-    ensures { OnOk result (text.new.items ≡ text.old.items ++ flat_map arrow_text picture.now.arrows) }
+fn put_sheet_arrows(sheet: &Sheet, text: &mut Vec<u8>) -> Result<(), AllocError>
+    ensures { OnOk result (text.new.items ≡ text.old.items ++ by_change arrow_text
+        sheet.now.stay.arrows sheet.now.came.arrows sheet.now.went.arrows) }
 {
-    put_arrows(picture.arrows(), text)
+    put_arrows(Change::Stays, sheet.stay().arrows(), text)?;
+    put_arrows(Change::Came, sheet.came().arrows(), text)?;
+    put_arrows(Change::Went, sheet.went().arrows(), text)?;
+    Ok(())
 }
 
 // The frame of the managed heap.
-fn put_managed(picture: &Picture, text: &mut Vec<u8>) -> Result<(), AllocError>
-    ensures { OnOk result (text.new.items ≡ text.old.items ++ managed_text picture.now) }
+fn put_managed(sheet: &Sheet, text: &mut Vec<u8>) -> Result<(), AllocError>
+    ensures { OnOk result (text.new.items ≡ text.old.items ++ managed_text sheet.now) }
 {
     put(
         b"  subgraph cluster_managed {\n    label=\"managed heap\";\n",
         text,
     )?;
-    put_drawn_objects(picture, text)?;
-    put_drawn_candidates(picture, text)?;
-    put_drawn_dead(picture, text)?;
+    put_sheet_objects(sheet, text)?;
+    put_sheet_candidates(sheet, text)?;
+    put_sheet_dead(sheet, text)?;
     put(b"  }\n", text)?;
     Ok(())
 }
 
 // The frame of the peer heap.
-fn put_peer_heap(picture: &Picture, text: &mut Vec<u8>) -> Result<(), AllocError>
-    ensures { OnOk result (text.new.items ≡ text.old.items ++ peers_text picture.now) }
+fn put_peer_heap(sheet: &Sheet, text: &mut Vec<u8>) -> Result<(), AllocError>
+    ensures { OnOk result (text.new.items ≡ text.old.items ++ peers_text sheet.now) }
 {
     put(
         b"  subgraph cluster_peers {\n    label=\"peer heap\";\n",
         text,
     )?;
-    put_drawn_peers(picture, text)?;
+    put_sheet_peers(sheet, text)?;
     put(b"  }\n", text)?;
     Ok(())
 }
@@ -191,22 +222,22 @@ fn put_head(title: &[u8], text: &mut Vec<u8>) -> Result<(), AllocError>
 }
 
 // All lines.
-fn put_picture(title: &[u8], picture: &Picture, text: &mut Vec<u8>) -> Result<(), AllocError>
-    ensures { OnOk result (text.new.items ≡ text.old.items ++ picture_text title.now picture.now) }
+fn put_sheet(title: &[u8], sheet: &Sheet, text: &mut Vec<u8>) -> Result<(), AllocError>
+    ensures { OnOk result (text.new.items ≡ text.old.items ++ sheet_text title.now sheet.now) }
 {
     put_head(title, text)?;
-    put_managed(picture, text)?;
-    put_peer_heap(picture, text)?;
-    put_drawn_arrows(picture, text)?;
+    put_managed(sheet, text)?;
+    put_peer_heap(sheet, text)?;
+    put_sheet_arrows(sheet, text)?;
     put(b"}\n", text)?;
     Ok(())
 }
 
-/// The text of a picture with that title. Answers `AllocError` where there is no memory.
-pub fn dot_text(alloc: Global, title: &[u8], picture: &Picture) -> Result<Vec<u8>, AllocError>
-    ensures { IfOk result (λ text. text.items ≡ picture_text title.now picture.now) }
+/// The text of a sheet with that title. Answers `AllocError` where there is no memory.
+pub fn dot_text(alloc: Global, title: &[u8], sheet: &Sheet) -> Result<Vec<u8>, AllocError>
+    ensures { IfOk result (λ text. text.items ≡ sheet_text title.now sheet.now) }
 {
     let mut text = Vec::new(alloc);
-    put_picture(title, picture, &mut text)?;
+    put_sheet(title, sheet, &mut text)?;
     Ok(text)
 }

@@ -6,6 +6,6 @@ pub returns-in-Ok-clause-part : goal.returns-in-Ok-clause-part
 returns-in-Ok-clause-part g c = λ e.
     let put = rw c.deref.ensures.value at c.print_drawn.ensures.part in
     elim (put e) [
-      | inl r ↦ inl record { entry = c.args.n; named = c.requires; input = c.in-Ok.bytes.items; took = c.in-Ok.ensures.ok; refusal = r }
-      | inr p ↦ inr record { entry = c.args.n; named = c.requires; input = c.in-Ok.bytes.items; took = c.in-Ok.ensures.ok; picture = p }
+      | inl r ↦ inl record { request = c.args.request; asks = c.requires; input = c.in-Ok.bytes.items; took = c.in-Ok.ensures.ok; refusal = r }
+      | inr p ↦ inr record { request = c.args.request; asks = c.requires; input = c.in-Ok.bytes.items; took = c.in-Ok.ensures.ok; picture = p }
     ]

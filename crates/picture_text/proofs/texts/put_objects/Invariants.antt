@@ -4,4 +4,4 @@ use Rattle.picture_text.specs.Texts.{object_text}
 use Rattle.picture_text.proofs.texts.put_objects.Given as goal
 
 abbrev pub invariant-loop-node : goal.invariant-loop-node
-invariant-loop-node l = l.text.items ≡ l.fn.text.items ++ flat_map (object_text) (take l.node-index l.nodes)
+invariant-loop-node l = l.text.items ≡ l.fn.text.items ++ flat_map (object_text l.change) (take l.node-index l.nodes)

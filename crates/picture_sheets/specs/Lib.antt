@@ -1,0 +1,4 @@
+pub mod Same
+pub mod Sheets
+pub mod Around
+pub mod Near

@@ -1,0 +1,5 @@
+use Rattle.picture_text.proofs.Chains.{c2}
+use Rattle.picture_text.proofs.arrows.put_end.Goals as goal
+
+pub returns : goal.returns
+returns c = c2 _ _ _ _ _ c.in_ok-put_change.ensures c.in_ok-put.ensures

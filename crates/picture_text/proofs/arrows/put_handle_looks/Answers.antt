@@ -1,0 +1,5 @@
+use Rattle.picture_text.proofs.Chains.{c2}
+use Rattle.picture_text.proofs.arrows.put_handle_looks.Goals as goal
+
+pub returns : goal.returns
+returns c = c2 _ _ _ _ _ c.in_ok-put.ensures c.in_ok-put_style.ensures
