@@ -12,13 +12,13 @@ front_put a k n xs ys within fits =
     let after = post_of a k xs in
     rw (length-take-le a xs within) at (take-append-add (take a xs) (ys ++ after) n) ∙ ap (λ t. take a xs ++ t) (take-append-le n ys after fits)
 
--- 32 bytes were written at once, of which the first n belong to the text
-pub lanes_put : (a k n : ℕ) (xs ys : List ℕ) → length ys ≡ 32 → a + 32 ≤ length xs → k ≡ 32 → n ≤ 32
-    → take (a + n) (put_mid a k xs (put_chunk 0 (mid_of a k xs) (chunk 0 32 ys))) ≡ take a xs ++ take n ys
-lanes_put a k n xs ys long within wide fits =
-    let whole : chunk 0 32 ys ≡ ys = take_all 32 ys (omega (arith, long)) in
-    rw (wide, whole, put_chunk_whole (mid_of a 32 xs) ys (omega (arith, long, within, length-take-le 32 (drop a xs), length-drop a xs)))
-    (front_put a 32 n xs ys (omega (arith, within)) (omega (arith, long, fits)))
+-- so many bytes as there are lanes were written at once, of which the first n belong to the text
+pub lanes_put : (lanes a k n : ℕ) (xs ys : List ℕ) → length ys ≡ lanes → a + lanes ≤ length xs → k ≡ lanes → n ≤ lanes
+    → take (a + n) (put_mid a k xs (put_chunk 0 (mid_of a k xs) (chunk 0 lanes ys))) ≡ take a xs ++ take n ys
+lanes_put lanes a k n xs ys long within wide fits =
+    let whole : chunk 0 lanes ys ≡ ys = take_all lanes ys (omega (arith, long)) in
+    rw (wide, whole, put_chunk_whole (mid_of a lanes xs) ys (omega (arith, long, within, length-take-le lanes (drop a xs), length-drop a xs)))
+    (front_put a lanes n xs ys (omega (arith, within)) (omega (arith, long, fits)))
 
 -- a space was written, and a word behind it
 pub word_put : (a b k n : ℕ) (xs ys : List ℕ) → b ≡ a + 1 → a < length xs → length ys ≡ n → take (b + n) (put_mid b k (set xs a 32) ys) ≡ take a xs ++ 32 ∷ ys

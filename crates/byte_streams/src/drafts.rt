@@ -328,9 +328,9 @@ impl Line {
     }
 }
 
-// The tens and the ones of a number below 100, as digits.
+/// The tens and the ones of a number below 100, as digits: both, also where there are no tens.
 #[inline(always)]
-fn pair_of(n: u64) -> [u8; 2]
+pub fn pair_of(n: u64) -> [u8; 2]
     requires { n < 100 }
     ensures { result ≡ (48 + n / 10) ∷ (48 + n % 10) ∷ [] }
 {

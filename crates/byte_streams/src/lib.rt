@@ -39,7 +39,7 @@ mod reading;
 mod streams;
 
 pub use counts::Count;
-pub use drafts::Line;
+pub use drafts::{Line, pair_of};
 pub use memory::{ByteSink, ByteSource, CountSink, PlainSource};
 pub use reading::{ReadError, read_up_to};
 pub use streams::{Failed, Sink, Source, write_text};

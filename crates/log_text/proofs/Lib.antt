@@ -6,4 +6,3 @@ pub mod LinesWritten
 pub mod ReadLines
 pub mod Pieces
 pub mod PutParts
-pub mod Pairs

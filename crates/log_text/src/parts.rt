@@ -3,13 +3,9 @@
 ghost use Rattle.std.specs.Prelude.{◌≡◌, ◌+◌, ◌*◌, ◌/◌, ◌%◌, ◌<◌, ◌≤◌, ◌++◌, [], ◌∷◌, IfSome, IsTrue, decimal, length};
 ghost use Rattle.std.specs.Prelude.{take};
 
-use byte_streams::Count;
+use byte_streams::{Count, pair_of};
 use std::marker::Model;
 use std::simd::prelude::*;
-
-// The two digits of each number below 100.
-static PAIRS: [u8; 200] =
-    *b"00010203040506070809101112131415161718192021222324252627282930313233343536373839404142434445464748495051525354555657585960616263646566676869707172737475767778798081828384858687888990919293949596979899";
 
 /// How many bytes are behind the end of what is put together, at least, where a part and a number are put.
 pub const SPARE: usize = 40;
@@ -93,16 +89,6 @@ impl Part {
     }
 }
 
-// The tens and the ones of a number below 100, as digits.
-#[inline(always)]
-fn pair_of(n: usize) -> [u8; 2]
-    requires { n < 100 }
-    ensures { result ≡ (48 + n / 10) ∷ (48 + n % 10) ∷ [] }
-{
-    let at = n * 2;
-    [PAIRS[at], PAIRS[at + 1]]
-}
-
 // Puts the tens and the ones of a number below 100, and answers where they end.
 #[inline(always)]
 fn put_pair(bytes: &mut [u8; 16_384], at: usize, n: usize) -> usize
@@ -111,7 +97,7 @@ fn put_pair(bytes: &mut [u8; 16_384], at: usize, n: usize) -> usize
     ensures text { take result bytes.new ≡ take at bytes.old ++ (48 + n / 10) ∷ (48 + n % 10) ∷ [] }
     ensures end { result ≡ at + 2 }
 {
-    bytes[at..at + 2].copy_from_slice(&pair_of(n));
+    bytes[at..at + 2].copy_from_slice(&pair_of(n as u64));
     at + 2
 }
 
