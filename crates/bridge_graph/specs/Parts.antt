@@ -4,6 +4,7 @@ use Rattle.std.specs.Prelude.{◌≡◌, ℕ, ◌<◌, Bool, true, IsSome, List,
 use Rattle.std.specs.Prelude.{slice_get, Some}
 use Rattle.joint_machine.specs.Components.{Rises}
 use Rattle.bridge_graph.specs.declared.graph.Node.{Node}
+use Rattle.joint_machine.specs.Numbers.{u32_max}
 
 -- the nodes and, for each of them, where its edges lead
 pub record Part : Type 0 where
@@ -46,7 +47,7 @@ pub record IsPart (nodes : List Node) (edges : List (List ℕ)) : Type 0 where
   pub in_range : (x y : ℕ) → NodeLeads edges x y → y < length nodes
   pub rising : Rises (numbers_of nodes)
   pub opaque_rows : (x : ℕ) → opaque_at nodes x ≡ true → row_at edges x ≡ []
-  pub few : length nodes < 4294967295
+  pub few : length nodes < u32_max
 
 -- there is a node with that index, and P holds of it
 abbrev pub HasNode : List Node → ℕ → (Node → Type 0) → Type 0

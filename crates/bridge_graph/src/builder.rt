@@ -32,12 +32,14 @@ impl Model for GraphBuilder {
 
     ghost use Rattle.bridge_graph.specs.Packing.{rows_of};
     ghost use Rattle.bridge_graph.specs.Built.{IsBuilding};
+    ghost use Rattle.joint_machine.specs.Numbers.{u32_max};
 
     ghost view = { λ b. record {
       nodes = b.nodes.items;
       edges = rows_of b.links.items (length b.nodes.items);
       spare_nodes = min (vec_capacity b.nodes) (vec_capacity b.firsts) - vec_len b.nodes;
-      spare_edges = min 4294967295 (min (vec_capacity b.links) (min (vec_capacity b.nexts) (vec_capacity b.targets))) - vec_len b.links;
+      spare_edges = min u32_max (min (vec_capacity b.links) (min (vec_capacity b.nexts) (vec_capacity b.targets)))
+          - vec_len b.links;
     } };
 
     ghost invariant = { λ b. IsBuilding b.nodes.items b.firsts.items
@@ -92,7 +94,7 @@ impl GraphBuilder {
         opaque: bool,
     ) -> Result<u32, AllocError>
         requires rising { All (λ n. n.number.0 < number.0) self.old.nodes }
-        requires few { length self.old.nodes < 4294967294 }
+        requires few { length self.old.nodes < u32.MAX - 1 }
         ensures index { IfOk result (λ i. i ≡ length self.old.nodes) }
         ensures nodes { OnOk result (self.new.nodes ≡ self.old.nodes ++
             record { number = number; handle = handle; opaque = opaque } ∷ []) }
@@ -152,9 +154,9 @@ impl GraphBuilder {
     /// Whether a node with that number may be added: there is room for its index, and its number is greater
     /// than those before.
     pub fn next_is(&self, number: MNum) -> bool
-        ensures few { OnTrue result (length self.now.nodes < 4294967294) }
+        ensures few { OnTrue result (length self.now.nodes < u32.MAX - 1) }
         ensures rising { OnTrue result (All (λ n. n.number.0 < number.0) self.now.nodes) }
-        ensures refused { OnFalse result ((length self.now.nodes < 4294967294)
+        ensures refused { OnFalse result ((length self.now.nodes < u32.MAX - 1)
             × All (λ n. n.number.0 < number.0) self.now.nodes → ⊥) }
     {
         let count = self.nodes.len();

@@ -1,6 +1,7 @@
 // The finished part, which is only read.
 
-ghost use Rattle.std.specs.Prelude.{◌≡◌, ℕ, ◌<◌, length, slice_get, slice_index, slice_index_or, IfSome, Some, map};
+ghost use Rattle.std.specs.Prelude.{◌≡◌, ◌^◌, ℕ, ◌<◌, length, slice_get, slice_index, slice_index_or, IfSome, Some};
+ghost use Rattle.std.specs.Prelude.{map};
 ghost use Rattle.std.specs.Prelude.{All, MatchBool};
 ghost use Rattle.bridge_graph.specs.Packed.{IsPackedPart};
 ghost use Rattle.bridge_graph.specs.Packing.{packed_rows};
@@ -117,7 +118,7 @@ impl DeadGraph {
     pub fn row(&self, i: u32) -> &[u32]
         requires { i < length self.now.nodes }
         ensures row { result.now ≡ row_at self.now.edges i }
-        ensures few { length result.now < 4294967296 }
+        ensures few { length result.now < 2 ^ 32 }
         ensures in_range { All (λ y. y < length self.now.nodes) result.now }
         ensures part { IsPart self.now.nodes self.now.edges }
     {

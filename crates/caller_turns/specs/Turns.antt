@@ -19,6 +19,7 @@ use Rattle.caller_turns.specs.declared.stands.Doing.TheVariants as doing
 use Rattle.caller_turns.specs.declared.stands.Part.{Part}
 use Rattle.caller_turns.specs.declared.stands.Stand.{Stand}
 use Rattle.caller_turns.specs.declared.stands.Stand.TheVariants as stand
+use Rattle.joint_machine.specs.Numbers.{u32_max}
 
 -- what is kept: of each managed thread the half of an operation, of each caller its last line, and where the driver
 -- stands
@@ -228,8 +229,8 @@ callers_after c n C l o reply phase = record c { lines = slice_set c.lines 0 l; 
 
 -- fewer events of the phase were made than its type can count
 abbrev pub HasCount : Stand → Type 0
-HasCount (stand.Weakening o count weakened swept) = count < 4294967295
-HasCount (stand.Restoring o count) = count < 4294967295
+HasCount (stand.Weakening o count weakened swept) = count < u32_max
+HasCount (stand.Restoring o count) = count < u32_max
 HasCount _ = Unit {0}
 
 -- nothing has to follow: no handle of a thread waits for its release, and no phase is half done

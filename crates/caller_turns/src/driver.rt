@@ -208,7 +208,7 @@ fn from_weakening(
     op: &Op,
     phase: Phase,
 ) -> Stand
-    requires { count < 4294967295 }
+    requires { count < u32.MAX }
     ensures { result ≡ stand_after (Stand.Weakening cycle_open count weakened swept) number op.now phase }
 {
     match op {
@@ -265,7 +265,7 @@ fn from_marked(cycle_open: OpenSnap, number: u64, op: &Op, _phase: Phase) -> Sta
 
 // Behind an event after the sweep of the own marking.
 fn from_restoring(cycle_open: OpenSnap, count: u32, number: u64, op: &Op, _phase: Phase) -> Stand
-    requires { count < 4294967295 }
+    requires { count < u32.MAX }
     ensures { result ≡ stand_after (Stand.Restoring cycle_open count) number op.now _phase }
 {
     match op {

@@ -2,10 +2,11 @@
 use Rattle.std.specs.Prelude.{◌≡◌, ◌↔◌, ◌⊎◌, ℕ, ◌+◌, ◌<◌, ◌≤◌, ◌==◌, cond, List, [], ◌∷◌, length, Contains, slice_index}
 use Rattle.joint_machine.specs.Walks.{Reaches, Mutual}
 use Rattle.bridge_graph.specs.Parts.{NodeLeads}
+use Rattle.joint_machine.specs.Numbers.{u32_max}
 
 -- stands at a node without a label
 abbrev pub no_label : ℕ
-no_label = 4294967295
+no_label = u32_max
 
 -- the node has no label
 abbrev pub IsBare : List ℕ → ℕ → Type 0

@@ -3,10 +3,11 @@ use Rattle.std.specs.Prelude.{◌≡◌, ◌⊎◌, ◌↔◌, ℕ, ◌+◌, Boo
 use Rattle.std.specs.Prelude.{Contains, slice_index, slice_index_or}
 use Rattle.joint_machine.specs.Walks.{Reaches}
 use Rattle.bridge_graph.specs.Parts.{NodeLeads}
+use Rattle.joint_machine.specs.Numbers.{u32_max}
 
 -- stands at the label of a class in place of an index
 abbrev pub no_index : ℕ
-no_index = 4294967295
+no_index = u32_max
 
 -- what stands at the label of a node
 abbrev pub index_at : List ℕ → List ℕ → ℕ → ℕ

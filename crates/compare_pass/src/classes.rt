@@ -71,7 +71,7 @@ fn label_class(
 ) -> Result<(), AllocError>
     requires back { IsTurned (length graph.now.nodes) graph.now.edges (length back.now.nodes) back.now.edges }
     requires order { IsFinishingOrder graph.now.edges (length graph.now.nodes) order.now }
-    requires few { length graph.now.nodes < 4294967295 }
+    requires few { length graph.now.nodes < u32.MAX }
     requires at { at < length order.now }
     requires root { slice_index order.now at ≡ root }
     requires bare { IsBare table.old.labels root }
@@ -100,7 +100,7 @@ fn label_row(
 ) -> Result<(), AllocError>
     requires row { All (λ y. y < length graph.now.nodes) row.now }
     requires label { label < length graph.now.nodes }
-    requires few { length graph.now.nodes < 4294967295 }
+    requires few { length graph.now.nodes < u32.MAX }
     requires numbers { table.old.numbers ≡ numbers_of graph.now.nodes }
     requires size { length table.old.labels ≡ length graph.now.nodes }
     ensures numbers { OnOk result (table.new.numbers ≡ numbers_of graph.now.nodes) }

@@ -1,6 +1,7 @@
 // The first search: depth first along the edges. It lists the nodes in the order in which it finished them.
 
-ghost use Rattle.std.specs.Prelude.{◌≡◌, ℕ, ◌+◌, ◌*◌, ◌<◌, ◌≤◌, [], ◌∷◌, length, All, IfOk, OnOk, reverse, slice_index};
+ghost use Rattle.std.specs.Prelude.{◌≡◌, ◌^◌, ℕ, ◌+◌, ◌*◌, ◌<◌, ◌≤◌, [], ◌∷◌, length, All, IfOk, OnOk, reverse};
+ghost use Rattle.std.specs.Prelude.{slice_index};
 ghost use Rattle.std.specs.Prelude.{slice_index_or, false, true};
 ghost use Rattle.bridge_graph.specs.Parts.{IsPart, NodeLeads, row_at};
 ghost use Rattle.compare_pass.specs.Searches.{IsFinishingOrder, IsGoing, unseen};
@@ -118,7 +119,7 @@ fn advance(
 // The place of the first target in a row from `from` on that wasn't seen, or past the end.
 fn first_unseen(row: &[u32], seen: &[bool], from: u32) -> u32
     requires in_range { All (λ y. y < length seen.now) row.now }
-    requires few { length row.now < 4294967296 }
+    requires few { length row.now < 2 ^ 32 }
     ensures later { from ≤ result }
     ensures seen { (k : ℕ) → from ≤ k → k < result → k < length row.now
         → slice_index_or seen.now (slice_index row.now k) false ≡ true }

@@ -1,6 +1,7 @@
 // How many components lead to each node and are led to, and the heavy classes.
 
-ghost use Rattle.std.specs.Prelude.{◌≡◌, ◌≢◌, ◌↔◌, ℕ, ◌+◌, ◌*◌, ◌<◌, ◌≤◌, [], ◌++◌, List, length, map, All, IfOk, OnOk};
+ghost use Rattle.std.specs.Prelude.{◌≡◌, ◌-◌, ◌≢◌, ◌↔◌, ℕ, ◌+◌, ◌*◌, ◌<◌, ◌≤◌, [], ◌++◌, List, length, map, All, IfOk};
+ghost use Rattle.std.specs.Prelude.{OnOk};
 ghost use Rattle.std.specs.Prelude.{MatchBool, false, slice_index};
 ghost use Rattle.joint_machine.specs.Components.{IsHeavy, Rises, first_of};
 ghost use Rattle.bridge_graph.specs.Parts.{IsBridgeNode, NodeLeads};
@@ -31,7 +32,7 @@ pub(crate) fn count_from(
     requires small { All (λ l. l < length indexes.now) labels.now }
     requires stands { All (λ s. s < length graph.now.nodes) stands.now }
     requires rise { Rises stands.now }
-    requires few { length stands.now ≤ 4294967294 }
+    requires few { length stands.now ≤ u32.MAX - 1 }
     ensures { IfOk result (λ v. AreCounts graph.now.edges
         (length graph.now.nodes) labels.now indexes.now stands.now (length stands.now) v.items) }
 {
@@ -65,7 +66,7 @@ fn count_all(
     requires small { All (λ l. l < length indexes.now) labels.now }
     requires stands { All (λ s. s < length graph.now.nodes) stands.now }
     requires rise { Rises stands.now }
-    requires few { length stands.now ≤ 4294967294 }
+    requires few { length stands.now ≤ u32.MAX - 1 }
     requires marks { length marks.old ≡ length graph.now.nodes }
     requires clear { All (λ m. m ≡ false) marks.old }
     requires found { found.old.items ≡ [] }
@@ -86,7 +87,7 @@ fn count_all(
 fn tally(found: &[u32], marks: &mut [bool], counts: &mut [u32])
     requires marking { AreMarked marks.old found.now }
     requires size { length counts.old ≡ length marks.old }
-    requires small { All (λ c. c < 4294967295) counts.old }
+    requires small { All (λ c. c < u32.MAX) counts.old }
     ensures tallies { Tallies marks.old counts.old counts.new }
     ensures clear { All (λ m. m ≡ false) marks.new }
 {

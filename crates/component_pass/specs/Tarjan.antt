@@ -6,10 +6,11 @@ use Rattle.std.specs.Prelude.{length, Contains, slice_index}
 use Rattle.joint_machine.specs.Walks.{Reaches, Mutual}
 use Rattle.bridge_graph.specs.Parts.{NodeLeads, row_at}
 use Rattle.component_pass.specs.declared.tarjan.Frame.{Frame}
+use Rattle.joint_machine.specs.Numbers.{u32_max}
 
 -- the mark of a node whose class is complete
 abbrev pub done_mark : ℕ
-done_mark = 4294967295
+done_mark = u32_max
 
 -- a frame, and the finished nodes above it on the stack up to a place
 pub record IsSegment (edges : List (List ℕ)) (stack marks : List ℕ) (f : Frame) (end : ℕ) : Type 0 where

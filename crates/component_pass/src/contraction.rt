@@ -1,6 +1,6 @@
 // From classes to components and cross-references.
 
-ghost use Rattle.std.specs.Prelude.{◌≡◌, ℕ, ◌<◌, ◌≤◌, [], List, length, IfOk, OnOk, slice_index};
+ghost use Rattle.std.specs.Prelude.{◌≡◌, ◌-◌, ℕ, ◌<◌, ◌≤◌, [], List, length, IfOk, OnOk, slice_index};
 ghost use Rattle.joint_machine.specs.Components.{IsContraction};
 ghost use Rattle.bridge_graph.specs.Parts.{IsBridgeNode, IsPart, NodeLeads};
 ghost use Rattle.component_pass.specs.Classes.{AreClasses, AreInOrder};
@@ -77,7 +77,7 @@ fn list_others(
     requires listed { AreListed graph.now.nodes found.labels.items
         (links_of graph.now.nodes found.labels.items) (length graph.now.nodes) builder.old.comps indexes.old }
     requires plain { (l : ℕ) → l < length found.rows
-        → length (group (links_of graph.now.nodes found.labels.items) l) ≡ 0 → slice_index indexes.old l ≡ 4294967295 }
+        → length (group (links_of graph.now.nodes found.labels.items) l) ≡ 0 → slice_index indexes.old l ≡ u32.MAX }
     ensures listed { OnOk result (AreAllListed graph.now.nodes graph.now.edges found.labels.items
         (length found.rows) builder.new.comps builder.new.heavy builder.new.pairs) }
 {
@@ -117,8 +117,8 @@ fn list_heavy(
     requires listed { AreListed graph.now.nodes found.labels.items
         (links_of graph.now.nodes found.labels.items) (length graph.now.nodes) builder.old.comps indexes.old }
     requires plain { (l : ℕ) → l < length found.rows
-        → length (group (links_of graph.now.nodes found.labels.items) l) ≡ 0 → slice_index indexes.old l ≡ 4294967295 }
-    requires few { length builder.old.comps ≤ 4294967294 }
+        → length (group (links_of graph.now.nodes found.labels.items) l) ≡ 0 → slice_index indexes.old l ≡ u32.MAX }
+    requires few { length builder.old.comps ≤ u32.MAX - 1 }
     requires outs { length outs.now ≡ length found.rows }
     requires ins { length ins.now ≡ length found.rows }
     requires led_to { CountsOut graph.now.edges

@@ -7,7 +7,8 @@
 // components or more takes that set for its own and looks at no other. From then on each edge has at most nineteen
 // elements read, and a set of fewer than twenty is exact.
 
-ghost use Rattle.std.specs.Prelude.{◌≡◌, ◌≢◌, ◌↔◌, ◌⊎◌, ℕ, ◌+◌, ◌<◌, ◌≤◌, [], ◌∷◌, length, min, All, Contains, IfOk};
+ghost use Rattle.std.specs.Prelude.{◌≡◌, ◌-◌, ◌≢◌, ◌↔◌, ◌⊎◌, ℕ, ◌+◌, ◌<◌, ◌≤◌, [], ◌∷◌, length, min, All, Contains};
+ghost use Rattle.std.specs.Prelude.{IfOk};
 ghost use Rattle.std.specs.Prelude.{OnOk, IfSome, IfNone, true, slice_index, slice_set};
 ghost use Rattle.joint_machine.specs.Components.{Rises};
 ghost use Rattle.bridge_graph.specs.Parts.{IsPart};
@@ -55,7 +56,7 @@ pub(crate) fn count_reached(
     requires indexes { length indexes.now ≡ length found.now.rows }
     requires numbered { AreNumbered (length graph.now.nodes) found.now.labels.items
         (length found.now.rows) indexes.now count }
-    requires count { count ≤ 4294967294 }
+    requires count { count ≤ u32.MAX - 1 }
     requires part { IsPart graph.now.nodes graph.now.edges }
     ensures len { IfOk result (λ r. length r.counts.items ≡ length found.now.rows) }
     ensures counts { IfOk result (λ r. CountsOut graph.now.edges
@@ -110,7 +111,7 @@ fn count_all(
     requires indexes { length indexes.now ≡ length found.now.rows }
     requires numbered { AreNumbered (length graph.now.nodes) found.now.labels.items
         (length found.now.rows) indexes.now count }
-    requires count { count ≤ 4294967294 }
+    requires count { count ≤ u32.MAX - 1 }
     requires part { IsPart graph.now.nodes graph.now.edges }
     requires whole { length sets.old ≡ length graph.now.nodes }
     requires empty { All (λ s. s ≡ count) sets.old }
@@ -138,9 +139,9 @@ fn count_all(
 
 // The number of the set that a class hands on: what has an index keeps the set that it refers to, and hands on itself.
 fn handed_on(index: u32, number: u32, refs: &mut [u32]) -> u32
-    requires { index ≢ 4294967295 → index < length refs.old }
-    ensures bare { index ≡ 4294967295 → (result ≡ number) × (refs.new ≡ refs.old) }
-    ensures own { index ≢ 4294967295 → (result ≡ index) × (refs.new ≡ slice_set refs.old index number) }
+    requires { index ≢ u32.MAX → index < length refs.old }
+    ensures bare { index ≡ u32.MAX → (result ≡ number) × (refs.new ≡ refs.old) }
+    ensures own { index ≢ u32.MAX → (result ≡ index) × (refs.new ≡ slice_set refs.old index number) }
 {
     if index == NO_COMPONENT {
         return number;

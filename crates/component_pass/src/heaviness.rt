@@ -9,7 +9,8 @@
 // leads into a thin class are two components at most, so these go through it themselves; and no heavy class, since the
 // three or more that lead into that one would lead on.
 
-ghost use Rattle.std.specs.Prelude.{◌≡◌, ◌↔◌, ◌≤◌, ◌<◌, ◌+◌, ◌*◌, ℕ, List, length, IfOk, OnOk, IfSome, IfNone, IsTrue};
+ghost use Rattle.std.specs.Prelude.{◌≡◌, ◌-◌, ◌↔◌, ◌≤◌, ◌<◌, ◌+◌, ◌*◌, ℕ, List, length, IfOk, OnOk, IfSome, IfNone};
+ghost use Rattle.std.specs.Prelude.{IsTrue};
 ghost use Rattle.std.specs.Prelude.{MatchBool, All, slice_index, false};
 ghost use Rattle.joint_machine.specs.Components.{IsHeavy, LeadsIn, Rises};
 ghost use Rattle.bridge_graph.specs.Parts.{IsBridgeNode, IsPart, NodeLeads};
@@ -44,7 +45,7 @@ pub(crate) fn count_heavy(
     requires indexes { length indexes.now ≡ length found.now.rows }
     requires numbered { AreNumbered (length graph.now.nodes) found.now.labels.items
         (length found.now.rows) indexes.now count }
-    requires count { count ≤ 4294967294 }
+    requires count { count ≤ u32.MAX - 1 }
     requires part { IsPart graph.now.nodes graph.now.edges }
     requires len { length counts.now ≡ length found.now.rows }
     requires counts { CountsOut graph.now.edges
@@ -71,7 +72,7 @@ pub(crate) fn count_heavy(
 fn has_wide(indexes: &[u32], counts: &[u8]) -> bool
     requires { length counts.now ≡ length indexes.now }
     ensures { result ≡ false → (l : ℕ) → l < length indexes.now
-        → slice_index indexes.now l ≡ 4294967295 → slice_index counts.now l < 3 }
+        → slice_index indexes.now l ≡ u32.MAX → slice_index counts.now l < 3 }
 {
     for l in 0..indexes.len() {
         if counts[l] >= LEAST && indexes[l] == NO_COMPONENT {
@@ -109,8 +110,8 @@ pub(crate) fn number_heavy(
     requires ins { length ins.now ≡ length indexes.old }
     requires none { builder.old.heavy ≡ 0 }
     requires room { (heavy : List ℕ) → Rises heavy
-        → All (λ h. (h < length labels.now) × (slice_index indexes.old (slice_index labels.now h) ≡ 4294967295)) heavy
-        → length builder.old.comps + length heavy ≤ 4294967294 }
+        → All (λ h. (h < length labels.now) × (slice_index indexes.old (slice_index labels.now h) ≡ u32.MAX)) heavy
+        → length builder.old.comps + length heavy ≤ u32.MAX - 1 }
     ensures heavy { OnOk result ((heavy : List ℕ) × (length heavy ≡ builder.new.heavy)
         × AreHeavyBelow labels.now indexes.old outs.now ins.now
         (length builder.old.comps) (length labels.now) indexes.new heavy) }
@@ -148,14 +149,14 @@ pub(crate) fn mark_thin(
 
 // Whether a class with that index and so many components on either side is thin.
 fn is_narrow(index: u32, outs: u8, ins: u32) -> bool
-    ensures { IsTrue result ↔ ((index ≡ 4294967295) × (3 ≤ outs) × (ins < 3)) }
+    ensures { IsTrue result ↔ ((index ≡ u32.MAX) × (3 ≤ outs) × (ins < 3)) }
 {
     index == NO_COMPONENT && outs >= LEAST && ins < u32::from(LEAST)
 }
 
 // Whether a class with that index and so many components on either side is heavy.
 fn is_heavy(index: u32, ins: u32, outs: u8) -> bool
-    ensures { MatchBool result ((index ≡ 4294967295) × AreMany ins outs) (¬ ((index ≡ 4294967295) × AreMany ins outs)) }
+    ensures { MatchBool result ((index ≡ u32.MAX) × AreMany ins outs) (¬ ((index ≡ u32.MAX) × AreMany ins outs)) }
 {
     outs >= LEAST
         && ins >= u32::from(LEAST)

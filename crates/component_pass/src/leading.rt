@@ -6,7 +6,8 @@
 // without an index the set of what came to it. A set of twenty or more takes nothing more, so at most 38 elements are
 // read for an edge.
 
-ghost use Rattle.std.specs.Prelude.{◌≡◌, ◌≢◌, ◌↔◌, ◌⊎◌, ℕ, ◌+◌, ◌<◌, ◌≤◌, [], ◌∷◌, length, min, All, Contains, IfOk};
+ghost use Rattle.std.specs.Prelude.{◌≡◌, ◌-◌, ◌≢◌, ◌↔◌, ◌⊎◌, ℕ, ◌+◌, ◌<◌, ◌≤◌, [], ◌∷◌, length, min, All, Contains};
+ghost use Rattle.std.specs.Prelude.{IfOk};
 ghost use Rattle.std.specs.Prelude.{OnOk, MatchBool, false, slice_index, slice_set};
 ghost use Rattle.bridge_graph.specs.Parts.{IsPart, row_at};
 ghost use Rattle.component_pass.specs.Classes.{AreClasses, AreInOrder};
@@ -49,7 +50,7 @@ pub(crate) fn count_leading(
     requires indexes { length indexes.now ≡ length found.now.rows }
     requires numbered { AreNumbered (length graph.now.nodes) found.now.labels.items
         (length found.now.rows) indexes.now count }
-    requires count { count ≤ 4294967294 }
+    requires count { count ≤ u32.MAX - 1 }
     requires part { IsPart graph.now.nodes graph.now.edges }
     requires len { length counts.now ≡ length found.now.rows }
     requires counts { CountsOut graph.now.edges
@@ -103,7 +104,7 @@ fn lead_all(
     requires indexes { length indexes.now ≡ length found.now.rows }
     requires numbered { AreNumbered (length graph.now.nodes) found.now.labels.items
         (length found.now.rows) indexes.now count }
-    requires count { count ≤ 4294967294 }
+    requires count { count ≤ u32.MAX - 1 }
     requires part { IsPart graph.now.nodes graph.now.edges }
     requires len { length counts.now ≡ length found.now.rows }
     requires counts { CountsOut graph.now.edges
@@ -132,8 +133,8 @@ fn lead_all(
 
 // The number of the set that a class hands on to those behind it.
 fn handed(index: u32, set: u32) -> u32
-    ensures bare { index ≡ 4294967295 → result ≡ set }
-    ensures own { index ≢ 4294967295 → result ≡ index }
+    ensures bare { index ≡ u32.MAX → result ≡ set }
+    ensures own { index ≢ u32.MAX → result ≡ index }
 {
     if index == NO_COMPONENT { set } else { index }
 }
@@ -159,7 +160,7 @@ fn lead_class(
     requires ins { length ins.old ≡ length found.now.rows }
     requires sets { AreSets ins.old lists.old count (count + length lists.old) }
     requires number { number < count + length lists.old }
-    requires count { count ≤ 4294967294 }
+    requires count { count ≤ u32.MAX - 1 }
     requires marks { length work.old.marks.items ≡ count }
     requires clear { All (λ m. m ≡ false) work.old.marks.items }
     ensures pushes { OnOk result (Pushes found.now.labels.items indexes.now counts.now cap count own number
@@ -205,7 +206,7 @@ fn lead_row(
     requires counts { length counts.now ≡ length ins.old }
     requires sets { AreSets ins.old lists.old count (count + length lists.old) }
     requires number { number < count + length lists.old }
-    requires count { count ≤ 4294967294 }
+    requires count { count ≤ u32.MAX - 1 }
     requires marks { length work.old.marks.items ≡ count }
     requires clear { All (λ m. m ≡ false) work.old.marks.items }
     ensures pushes { OnOk result (Pushes labels.now indexes.now counts.now cap count own number
@@ -224,8 +225,8 @@ fn lead_row(
 
 // Whether a class takes what another hands on: it is not that one, has no index and leads to three components or more.
 fn takes(index: u32, leads_to: u8, at: usize, own: usize) -> bool
-    ensures { MatchBool result ((at ≢ own) × (index ≡ 4294967295) × (3 ≤ leads_to))
-        (¬ ((at ≢ own) × (index ≡ 4294967295) × (3 ≤ leads_to))) }
+    ensures { MatchBool result ((at ≢ own) × (index ≡ u32.MAX) × (3 ≤ leads_to))
+        (¬ ((at ≢ own) × (index ≡ u32.MAX) × (3 ≤ leads_to))) }
 {
     at != own && leads_to >= LEAST && index == NO_COMPONENT
 }
@@ -242,7 +243,7 @@ fn join(
     requires at { at < length ins.now }
     requires number { number < count + length lists.old }
     requires sets { AreSets ins.now lists.old count (count + length lists.old) }
-    requires count { count ≤ 4294967294 }
+    requires count { count ≤ u32.MAX - 1 }
     requires marks { length work.old.marks.items ≡ count }
     requires clear { All (λ m. m ≡ false) work.old.marks.items }
     ensures found { IfOk result (λ s. IsFound ins.now lists.old lists.new count (count + length lists.new) s) }
@@ -273,7 +274,7 @@ fn join_both(
     requires one { one < count + length lists.old }
     requires other { other < count + length lists.old }
     requires sets { AreSets ins.now lists.old count (count + length lists.old) }
-    requires count { count ≤ 4294967294 }
+    requires count { count ≤ u32.MAX - 1 }
     requires marks { length work.old.marks.items ≡ count }
     requires clear { All (λ m. m ≡ false) work.old.marks.items }
     ensures found { IfOk result (λ s. IsFound ins.now lists.old lists.new count (count + length lists.new) s) }

@@ -1,7 +1,8 @@
 // The components, from the rows of the classes. Going through the nodes in order, the first bridge node of a class
 // makes a component of all its bridge nodes.
 
-ghost use Rattle.std.specs.Prelude.{◌≡◌, ◌↔◌, ℕ, ◌<◌, ◌≤◌, [], length, All, Contains, IfOk, OnOk, MatchBool, false};
+ghost use Rattle.std.specs.Prelude.{◌≡◌, ◌-◌, ◌↔◌, ℕ, ◌<◌, ◌≤◌, [], length, All, Contains, IfOk, OnOk, MatchBool};
+ghost use Rattle.std.specs.Prelude.{false};
 ghost use Rattle.std.specs.Prelude.{slice_index};
 ghost use Rattle.bridge_graph.specs.Parts.{IsBridgeNode};
 ghost use Rattle.component_pass.specs.Classes.{AreClasses, AreInOrder};
@@ -30,13 +31,13 @@ pub(crate) fn list_rows(
     requires classes { AreClasses graph.now.edges (length graph.now.nodes) labels.now }
     requires order { AreInOrder graph.now.edges (length graph.now.nodes) labels.now rows.now }
     requires indexes { length indexes.old ≡ length rows.now }
-    requires unset { All (λ i. i ≡ 4294967295) indexes.old }
+    requires unset { All (λ i. i ≡ u32.MAX) indexes.old }
     requires empty { builder.old.comps ≡ [] }
     requires heavy { builder.old.heavy ≡ 0 }
     ensures listed { OnOk result (AreListed graph.now.nodes labels.now
         (links_of graph.now.nodes labels.now) (length graph.now.nodes) builder.new.comps indexes.new) }
     ensures plain { OnOk result ((l : ℕ) → l < length rows.now
-        → length (group (links_of graph.now.nodes labels.now) l) ≡ 0 → slice_index indexes.new l ≡ 4294967295) }
+        → length (group (links_of graph.now.nodes labels.now) l) ≡ 0 → slice_index indexes.new l ≡ u32.MAX) }
     ensures heavy { builder.new.heavy ≡ 0 }
     ensures pairs { builder.new.pairs ≡ builder.old.pairs }
 {
@@ -69,7 +70,7 @@ fn list_all(
     requires classes { AreClasses graph.now.edges (length graph.now.nodes) labels.now }
     requires order { AreInOrder graph.now.edges (length graph.now.nodes) labels.now rows.now }
     requires indexes { length indexes.old ≡ length rows.now }
-    requires unset { All (λ i. i ≡ 4294967295) indexes.old }
+    requires unset { All (λ i. i ≡ u32.MAX) indexes.old }
     requires marks { length marks.old ≡ length graph.now.nodes }
     requires clear { All (λ m. m ≡ false) marks.old }
     requires empty { builder.old.comps ≡ [] }
@@ -77,7 +78,7 @@ fn list_all(
     ensures listed { OnOk result (AreListed graph.now.nodes labels.now
         (links_of graph.now.nodes labels.now) (length graph.now.nodes) builder.new.comps indexes.new) }
     ensures plain { OnOk result ((l : ℕ) → l < length rows.now
-        → length (group (links_of graph.now.nodes labels.now) l) ≡ 0 → slice_index indexes.new l ≡ 4294967295) }
+        → length (group (links_of graph.now.nodes labels.now) l) ≡ 0 → slice_index indexes.new l ≡ u32.MAX) }
     ensures heavy { builder.new.heavy ≡ 0 }
     ensures pairs { builder.new.pairs ≡ builder.old.pairs }
 {
@@ -105,8 +106,8 @@ fn begins(graph: &DeadGraph, labels: &[u32], indexes: &[u32], x: u32) -> bool
     requires labels { length labels.now ≡ length graph.now.nodes }
     requires label { slice_index labels.now x < length indexes.now }
     ensures { MatchBool result (IsBridgeNode graph.now.nodes x
-        × (slice_index indexes.now (slice_index labels.now x) ≡ 4294967295))
-        (¬ (IsBridgeNode graph.now.nodes x × (slice_index indexes.now (slice_index labels.now x) ≡ 4294967295))) }
+        × (slice_index indexes.now (slice_index labels.now x) ≡ u32.MAX))
+        (¬ (IsBridgeNode graph.now.nodes x × (slice_index indexes.now (slice_index labels.now x) ≡ u32.MAX))) }
 {
     graph.is_bridge(x) && indexes[labels[x as usize] as usize] == NO_COMPONENT
 }
@@ -144,7 +145,7 @@ fn list_members(
 ) -> Result<u32, ListingFault>
     requires some { 0 < length members.now }
     requires below { All (λ x. x < count) members.now }
-    requires few { count ≤ 4294967294 }
+    requires few { count ≤ u32.MAX - 1 }
     requires rows { All (All (λ j. j < count)) rows.now }
     requires marks { length marks.old ≡ count }
     requires clear { All (λ m. m ≡ false) marks.old }

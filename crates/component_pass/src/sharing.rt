@@ -11,7 +11,8 @@
 // of nodes, edges and pairs, and of one more thing: where a class leads to several sets of many heavy ones, the
 // elements of each are read once for that class.
 
-ghost use Rattle.std.specs.Prelude.{◌≡◌, ◌≢◌, ◌↔◌, ◌⊎◌, ℕ, ◌+◌, ◌<◌, ◌≤◌, [], ◌∷◌, ◌++◌, length, All, Contains, IfOk};
+ghost use Rattle.std.specs.Prelude.{◌≡◌, ◌-◌, ◌≢◌, ◌↔◌, ◌⊎◌, ℕ, ◌+◌, ◌<◌, ◌≤◌, [], ◌∷◌, ◌++◌, length, All, Contains};
+ghost use Rattle.std.specs.Prelude.{IfOk};
 ghost use Rattle.std.specs.Prelude.{OnOk, IfSome, MatchBool, false, true, slice_index, slice_index_or, slice_set};
 ghost use Rattle.joint_machine.specs.Components.{Rises};
 ghost use Rattle.bridge_graph.specs.Parts.{IsPart, row_at};
@@ -88,7 +89,7 @@ fn share_all(
     requires part { IsPart graph.now.nodes graph.now.edges }
     requires empty { builder.old.pairs ≡ [] }
     requires count { count ≡ length builder.old.comps + builder.old.heavy }
-    requires few { count ≤ 4294967294 }
+    requires few { count ≤ u32.MAX - 1 }
     requires refs { length refs.old ≡ count }
     requires lists { lists.old ≡ [] ∷ [] }
     requires known { length work.old.known.items ≡ count + 1 }
@@ -152,7 +153,7 @@ fn number_all(
     requires indexes { length indexes.now ≡ length rows.now }
     requires thin { AreThin (length graph.now.nodes) sets.old indexes.now thin.now }
     requires numbered { AreNumbered (length graph.now.nodes) sets.old (length rows.now) indexes.now count }
-    requires count { count ≤ 4294967294 }
+    requires count { count ≤ u32.MAX - 1 }
     requires part { IsPart graph.now.nodes graph.now.edges }
     requires refs { length refs.old ≡ count }
     requires lists { lists.old ≡ [] ∷ [] }

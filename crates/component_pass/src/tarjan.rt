@@ -1,6 +1,7 @@
 // Tarjan's algorithm for strongly connected classes, with the search's frames in a list on the heap.
 
-ghost use Rattle.std.specs.Prelude.{◌≡◌, ◌≢◌, ◌⊎◌, ℕ, ◌+◌, ◌*◌, ◌<◌, ◌≤◌, List, [], ◌∷◌, ◌++◌, length, min, take, drop};
+ghost use Rattle.std.specs.Prelude.{◌≡◌, ◌^◌, ◌≢◌, ◌⊎◌, ℕ, ◌+◌, ◌*◌, ◌<◌, ◌≤◌, List, [], ◌∷◌, ◌++◌, length, min, take};
+ghost use Rattle.std.specs.Prelude.{drop};
 ghost use Rattle.std.specs.Prelude.{All, Contains, IfOk, OnOk, IfNone, reverse, slice_index, slice_set};
 ghost use Rattle.bridge_graph.specs.Parts.{IsPart, NodeLeads, row_at};
 ghost use Rattle.component_pass.specs.Classes.{AreClasses, AreInOrder};
@@ -120,7 +121,7 @@ fn walk(
 // Puts an unseen node on the stack, and answers its frame.
 fn enter(node: u32, marks: &mut [u32], stack: &mut Vec<u32>) -> Result<Frame, AllocError>
     requires node { node < length marks.old }
-    requires few { length stack.old.items < 4294967295 }
+    requires few { length stack.old.items < u32.MAX }
     ensures marks { OnOk result (marks.new ≡ slice_set marks.old node (length stack.old.items + 1)) }
     ensures stack { OnOk result (stack.new.items ≡ stack.old.items ++ node ∷ []) }
     ensures frame { IfOk result (λ f. f
@@ -180,8 +181,8 @@ fn advance(
 // Goes over the seen targets of a row, and keeps the lowest place among them.
 fn scan_row(row: &[u32], marks: &[u32], from: u32, low: u32) -> Scan
     requires in_range { All (λ y. y < length marks.now) row.now }
-    requires few { length row.now < 4294967296 }
-    requires low { low < 4294967295 }
+    requires few { length row.now < 2 ^ 32 }
+    requires low { low < u32.MAX }
     requires from { from ≤ length row.now }
     ensures { ScansRow row.now marks.now from low result.next result.low }
 {
@@ -221,7 +222,7 @@ fn close(
     requires at { at ≤ length stack.old.items }
     requires marks { All (λ x. x < length marks.old) stack.old.items }
     requires labels { All (λ x. x < length labels.old) stack.old.items }
-    requires few { length rows.old < 4294967295 }
+    requires few { length rows.old < u32.MAX }
     requires placed { (k : ℕ) → k < length stack.old.items
         → slice_index marks.old (slice_index stack.old.items k) ≡ k + 1 }
     ensures stack { OnOk result (stack.new.items ≡ take at stack.old.items) }

@@ -30,6 +30,7 @@ pub struct NamedLists {
 impl Model for NamedLists {
     ghost use Rattle.std.specs.Prelude.{◌≤◌, length};
     ghost use Rattle.entry_reader.specs.Meaning.{Lists};
+    ghost use Rattle.joint_machine.specs.Numbers.{u32_max};
 
     ghost Value = { Lists };
 
@@ -39,8 +40,8 @@ impl Model for NamedLists {
       notices = l.notices.items;
     } };
 
-    ghost invariant = { λ l. (length l.freed_managed.items ≤ 4294967295)
-        × (length l.freed_peers.items ≤ 4294967295) × (length l.notices.items ≤ 4294967295) };
+    ghost invariant = { λ l. (length l.freed_managed.items ≤ u32_max)
+        × (length l.freed_peers.items ≤ u32_max) × (length l.notices.items ≤ u32_max) };
 }
 
 // Takes the next word where it is a number of that letter that isn't below `least`; else None, and the words stay.
@@ -74,9 +75,9 @@ fn take_none(words: &mut Words) -> bool
 
 // Puts an item last; AllocError also where the list would have more than a span can name.
 fn put<T: Drop>(list: &mut Vec<T>, item: T) -> Result<(), AllocError>
-    requires { length list.old.items ≤ 4294967295 }
+    requires { length list.old.items ≤ u32.MAX }
     ensures put { IfOk result (λ _. list.new.items ≡ list.old.items ++ item ∷ []) }
-    ensures limit { length list.new.items ≤ 4294967295 }
+    ensures limit { length list.new.items ≤ u32.MAX }
 {
     if list.len() >= MOST {
         return Err(AllocError);
@@ -94,9 +95,9 @@ fn least_after(n: u32, rising: bool) -> u64
 
 // Takes managed objects, which rise where that is asked for, and puts them last.
 fn put_managed(words: &mut Words, rising: bool, list: &mut Vec<MNum>) -> Result<(), AllocError>
-    requires { length list.old.items ≤ 4294967295 }
+    requires { length list.old.items ≤ u32.MAX }
     ensures put { IfOk result (λ _. Puts as_managed rising 109 words.old words.new list.old.items list.new.items) }
-    ensures limit { length list.new.items ≤ 4294967295 }
+    ensures limit { length list.new.items ≤ u32.MAX }
 {
     let mut least = 0;
     while let Some(n) = next_number(b'm', least, words) {
@@ -108,9 +109,9 @@ fn put_managed(words: &mut Words, rising: bool, list: &mut Vec<MNum>) -> Result<
 
 // Takes peers, which rise, and puts them last.
 fn put_peers(words: &mut Words, list: &mut Vec<PNum>) -> Result<(), AllocError>
-    requires { length list.old.items ≤ 4294967295 }
+    requires { length list.old.items ≤ u32.MAX }
     ensures put { IfOk result (λ _. Puts as_peers true 112 words.old words.new list.old.items list.new.items) }
-    ensures limit { length list.new.items ≤ 4294967295 }
+    ensures limit { length list.new.items ≤ u32.MAX }
 {
     let mut least = 0;
     while let Some(n) = next_number(b'p', least, words) {
@@ -126,10 +127,10 @@ fn take_managed(
     rising: bool,
     list: &mut Vec<MNum>,
 ) -> Result<Option<Span>, AllocError>
-    requires { length list.old.items ≤ 4294967295 }
+    requires { length list.old.items ≤ u32.MAX }
     ensures list { IfOk result (λ found. TakesList as_managed rising
         109 words.old words.new list.old.items list.new.items found) }
-    ensures limit { length list.new.items ≤ 4294967295 }
+    ensures limit { length list.new.items ≤ u32.MAX }
 {
     let first = list.len() as u32;
     if take_none(words) {
@@ -145,10 +146,10 @@ fn take_managed(
 
 // Takes a list of peers and puts it last: its span, or None where no list is next.
 fn take_peers(words: &mut Words, list: &mut Vec<PNum>) -> Result<Option<Span>, AllocError>
-    requires { length list.old.items ≤ 4294967295 }
+    requires { length list.old.items ≤ u32.MAX }
     ensures list { IfOk result (λ found. TakesList as_peers true
         112 words.old words.new list.old.items list.new.items found) }
-    ensures limit { length list.new.items ≤ 4294967295 }
+    ensures limit { length list.new.items ≤ u32.MAX }
 {
     let first = list.len() as u32;
     if take_none(words) {
@@ -169,9 +170,9 @@ fn read_managed(
     rising: bool,
     list: &mut Vec<MNum>,
 ) -> Result<Option<(Span, Option<u64>)>, AllocError>
-    requires { length list.old.items ≤ 4294967295 }
+    requires { length list.old.items ≤ u32.MAX }
     ensures list { IfOk result (λ found. EndsList as_managed rising 109 words.old list.old.items list.new.items found) }
-    ensures limit { length list.new.items ≤ 4294967295 }
+    ensures limit { length list.new.items ≤ u32.MAX }
 {
     let first = list.len();
     let Some(span) = take_managed(words, rising, list)? else {
@@ -191,9 +192,9 @@ fn read_peers(
     words: &mut Words,
     list: &mut Vec<PNum>,
 ) -> Result<Option<(Span, Option<u64>)>, AllocError>
-    requires { length list.old.items ≤ 4294967295 }
+    requires { length list.old.items ≤ u32.MAX }
     ensures list { IfOk result (λ found. EndsList as_peers true 112 words.old list.old.items list.new.items found) }
-    ensures limit { length list.new.items ≤ 4294967295 }
+    ensures limit { length list.new.items ≤ u32.MAX }
 {
     let first = list.len();
     let Some(span) = take_peers(words, list)? else {
@@ -260,8 +261,8 @@ impl NamedLists {
     pub fn into_parts(self) -> (Vec<MNum>, Vec<PNum>, Vec<MNum>)
         ensures parts { (result.0.items ≡ self.managed)
             × (result.1.items ≡ self.peers) × (result.2.items ≡ self.notices) }
-        ensures limit { (length self.managed ≤ 4294967295)
-            × (length self.peers ≤ 4294967295) × (length self.notices ≤ 4294967295) }
+        ensures limit { (length self.managed ≤ u32.MAX)
+            × (length self.peers ≤ u32.MAX) × (length self.notices ≤ u32.MAX) }
     {
         let NamedLists {
             freed_managed,

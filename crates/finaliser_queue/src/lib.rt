@@ -41,16 +41,17 @@ pub struct Notices {
 impl Model for Notices {
     ghost use Rattle.std.specs.Prelude.{◌-◌, ◌≤◌, vec_len, vec_capacity, min};
     ghost use Rattle.finaliser_queue.specs.Queue.{Queue};
+    ghost use Rattle.joint_machine.specs.Numbers.{u32_max};
 
     ghost Value = { Queue };
 
     ghost view = { λ s. record {
       queued = s.list.items;
       taken = s.taken;
-      spare = min (vec_capacity s.list) 4294967295 - vec_len s.list;
+      spare = min (vec_capacity s.list) u32_max - vec_len s.list;
     } };
 
-    ghost invariant = { λ s. (s.taken ≤ vec_len s.list) × (vec_len s.list ≤ 4294967295) };
+    ghost invariant = { λ s. (s.taken ≤ vec_len s.list) × (vec_len s.list ≤ u32_max) };
 }
 
 // The notices in a list that has room for them.
@@ -71,7 +72,7 @@ impl Notices {
     pub fn new(alloc: Global) -> Notices
         ensures queued { result.queued ≡ [] }
         ensures taken { result.taken ≡ 0 }
-        ensures limit { result.spare ≤ 4294967295 }
+        ensures limit { result.spare ≤ u32.MAX }
     {
         Notices {
             list: Vec::new(alloc),
@@ -89,7 +90,7 @@ impl Notices {
         ensures kept { self.old.spare ≤ self.new.spare }
         ensures queued { self.new.queued ≡ self.old.queued }
         ensures taken { self.new.taken ≡ self.old.taken }
-        ensures limit { length self.new.queued + self.new.spare ≤ 4294967295 }
+        ensures limit { length self.new.queued + self.new.spare ≤ u32.MAX }
         ensures err { OnErr result (self.new ≡ self.old) }
     {
         if n as usize > MOST - self.list.len() {
@@ -104,7 +105,7 @@ impl Notices {
     pub fn widen(&mut self, n: u32, list: Vec<MNum>)
         requires empty { list.items ≡ [] }
         requires wide { length self.old.queued + n ≤ vec_capacity list }
-        requires most { length self.old.queued + n ≤ 4294967295 }
+        requires most { length self.old.queued + n ≤ u32.MAX }
         ensures room { n ≤ self.new.spare }
         ensures queued { self.new.queued ≡ self.old.queued }
         ensures taken { self.new.taken ≡ self.old.taken }
@@ -160,7 +161,7 @@ impl Notices {
     /// For how many more notices there is room.
     pub fn spare(&self) -> u32
         ensures spare { result ≡ self.now.spare }
-        ensures limit { length self.now.queued + result ≤ 4294967295 }
+        ensures limit { length self.now.queued + result ≤ u32.MAX }
     {
         (self.list.capacity().min(MOST) - self.list.len()) as u32
     }

@@ -282,7 +282,7 @@ impl HandleTable {
     /// for a further handle, it takes no memory and uses the room of one.
     pub fn make(&mut self, p: PNum, hold: Hold, strength: Strength) -> Result<HNum, HandleFault>
         requires peer { p.0 ≤ 65535 }
-        requires last { self.old.last < 4294967295 }
+        requires last { self.old.last < u32.MAX }
         ensures number { IfOk result (λ h. h.0 ≡ self.old.last + 1) }
         ensures rows { IfOk result (λ h. self.new.rows ≡ self.old.rows ++ fresh_row h p hold strength ∷ []) }
         ensures made { OnOk result (self.new.made ≡ self.old.made + 1) }
@@ -358,7 +358,7 @@ impl HandleTable {
     /// It takes no memory.
     pub fn restore(&mut self, h: HNum) -> Back
         requires weak { strength_in self.old.rows h ≡ Some Strength.Weak }
-        requires last { self.old.last < 4294967295 }
+        requires last { self.old.last < u32.MAX }
         ensures cleared { (result ≡ Back.Cleared) ↔ (cleared_in self.old.rows h ≡ Some true) }
         ensures gone { result ≡ Back.Cleared
             → (self.new.rows ≡ without h self.old.rows) × (self.new.last ≡ self.old.last) }

@@ -24,6 +24,8 @@ use Rattle.joint_machine.specs.declared.events.Op.TheVariants as op
 use Rattle.joint_machine.specs.declared.events.Reply.TheVariants as says
 use Rattle.gref_log.specs.declared.making.Lines.TheVariants as lines
 use Rattle.gref_log.specs.declared.tracked.Moves.TheVariants as moves
+use Rattle.joint_machine.specs.Numbers.{u32_max}
+use Rattle.joint_machine.specs.declared.names.TheConstants.{VARS, NAMES}
 
 -- the peer of each variable, the handle of each global name, and each handle as it was given
 pub record Tracked : Type 0 where
@@ -32,7 +34,7 @@ pub record Tracked : Type 0 where
   pub given : List Given
 
 abbrev pub nothing_tracked : Tracked
-nothing_tracked = record { vars = replicate 72 None; names = replicate 64 None; given = [] }
+nothing_tracked = record { vars = replicate VARS None; names = replicate NAMES None; given = [] }
 
 -- the same, with room for more handles
 pub record TrackedInRoom : Type 0 where
@@ -160,7 +162,7 @@ made_lines (lines.Two l k) = l ∷ k ∷ []
 
 -- one more, as far as 32 bits go
 abbrev pub one_more : ℕ → ℕ
-one_more count = min (count + 1) 4294967295
+one_more count = min (count + 1) u32_max
 
 -- a handle comes or goes
 abbrev pub counted : Logged → Mark → Logged

@@ -31,7 +31,7 @@ fn within(count: u32, error: LogError) -> Result<u32, LogError>
 /// and its first [`log_text::LogCause`]; `OutOfMemory` as [`read_log`] of the lines before it. Whether a last line
 /// stands before it is of no matter.
 pub fn long_line(alloc: Global, bytes: &[u8], most: usize) -> Result<u32, LogError>
-    requires few { length bytes.now < 4294967295 }
+    requires few { length bytes.now < u32.MAX }
     requires long { most < length bytes.now }
     ensures ok { IfOk result (λ number. IsLongLine most bytes.now number) }
     ensures err { IfErr result (λ error. IsRefusedBefore most bytes.now error) }

@@ -159,7 +159,7 @@ impl Making {
     fn with_room(alloc: Global, most: u64) -> Result<Making, AllocError>
         ensures nothing { IfOk result (λ m. behind_lines [] m ≡ nothing_logged) }
         ensures room { IfOk result (λ m. most ≤ m.room) }
-        ensures limit { IfOk result (λ _. most ≤ 4294967295) }
+        ensures limit { IfOk result (λ _. most ≤ u32.MAX) }
     {
         Ok(Making {
             tracker: Tracker::with_room(alloc, most)?,
@@ -170,7 +170,7 @@ impl Making {
 
     // There are no more handles than numbers of 32 bits.
     fn recall_numbers_fit(&self)
-        ensures { length self.now.tracked.given ≤ 4294967295 }
+        ensures { length self.now.tracked.given ≤ u32.MAX }
     {
         self.tracker.recall_numbers_fit();
     }
@@ -264,10 +264,10 @@ fn write_entries<K: Sink>(
 ) -> (u64, Result<(), Failed>)
     requires nothing { behind_lines [] making.old ≡ nothing_logged }
     requires room { length h.now.entries ≤ making.old.room }
-    requires limit { length h.now.entries ≤ 4294967295 }
+    requires limit { length h.now.entries ≤ u32.MAX }
     ensures count { result.0 ≡ length (logged_all nothing_logged h.now.entries).lines }
     ensures fits { All Fits (logged_all nothing_logged h.now.entries).lines }
-    ensures handles { length (logged_all nothing_logged h.now.entries).tracked.given ≤ 4294967295 }
+    ensures handles { length (logged_all nothing_logged h.now.entries).tracked.given ≤ u32.MAX }
     ensures sends { Sends (K.held out.old) (K.held out.new) line.old.text line.new.text (K.faults out.old)
         (K.faults out.new) result.1 (lines_text (logged_all nothing_logged h.now.entries).lines) }
 {
@@ -287,9 +287,9 @@ fn write_entries<K: Sink>(
 fn write_made<K: Sink>(making: &mut Making, h: &History, out: &mut K) -> Result<(), Failed>
     requires nothing { behind_lines [] making.old ≡ nothing_logged }
     requires room { length h.now.entries ≤ making.old.room }
-    requires limit { length h.now.entries ≤ 4294967295 }
+    requires limit { length h.now.entries ≤ u32.MAX }
     ensures fits { All Fits (logged_all nothing_logged h.now.entries).lines }
-    ensures handles { length (logged_all nothing_logged h.now.entries).tracked.given ≤ 4294967295 }
+    ensures handles { length (logged_all nothing_logged h.now.entries).tracked.given ≤ u32.MAX }
     ensures written { Writes (K.held out.old) (K.held out.new) (K.faults out.old)
         (K.faults out.new) result (text_of_log (logged_all nothing_logged h.now.entries).lines) }
 {
@@ -330,7 +330,7 @@ fn list_entries(making: &mut Making, h: &History, list: &mut Vec<LogLine>) -> Re
     requires room { length h.now.entries ≤ making.old.room }
     ensures lines { OnOk result (list.new.items ≡ (logged_all nothing_logged h.now.entries).lines) }
     ensures fits { OnOk result (All Fits list.new.items) }
-    ensures handles { OnOk result (length (logged_all nothing_logged h.now.entries).tracked.given ≤ 4294967295) }
+    ensures handles { OnOk result (length (logged_all nothing_logged h.now.entries).tracked.given ≤ u32.MAX) }
 {
     let mut walk = h.walk();
     while let Some(step) = walk.next() {

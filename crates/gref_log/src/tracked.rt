@@ -9,7 +9,7 @@ ghost use Rattle.gref_log.specs.Tracking.{after_line, listed, name_leaves, nothi
 ghost use Rattle.gref_log.specs.Tracking.{peer_or_none, tracked_after, tracked_changes, with_given, with_name};
 ghost use Rattle.gref_log.specs.Tracking.{with_var};
 
-use joint_model::{Act, HNum, Op, Reply, Thread};
+use joint_model::{Act, HNum, Op, Reply, Thread, VARS};
 use log_text::Mark;
 use std::alloc::{AllocError, Global};
 use std::marker::Model;
@@ -40,7 +40,7 @@ pub struct Given {
 /// with room for more of them.
 #[derive(Drop)]
 pub struct Tracker {
-    vars: [Option<u32>; 72],
+    vars: [Option<u32>; VARS],
     names: [Option<u32>; 64],
     given: Vec<Given>,
 }
@@ -48,6 +48,7 @@ pub struct Tracker {
 impl Model for Tracker {
     ghost use Rattle.std.specs.Prelude.{◌-◌, ◌≤◌, vec_capacity, vec_len};
     ghost use Rattle.gref_log.specs.Tracking.{TrackedInRoom};
+    ghost use Rattle.joint_machine.specs.Numbers.{u32_max};
 
     ghost Value = { TrackedInRoom };
 
@@ -56,7 +57,7 @@ impl Model for Tracker {
       room = vec_capacity t.given - vec_len t.given;
     } };
 
-    ghost invariant = { λ t. vec_capacity t.given ≤ 4294967295 };
+    ghost invariant = { λ t. vec_capacity t.given ≤ u32_max };
 }
 
 #[inline(always)]
@@ -80,13 +81,13 @@ impl Tracker {
     pub fn with_room(alloc: Global, most: u64) -> Result<Tracker, AllocError>
         ensures nothing { IfOk result (λ t. t.tracked ≡ nothing_tracked) }
         ensures room { IfOk result (λ t. most ≤ t.room) }
-        ensures limit { IfOk result (λ _. most ≤ 4294967295) }
+        ensures limit { IfOk result (λ _. most ≤ u32.MAX) }
     {
         if most > 4_294_967_295 {
             return Err(AllocError);
         }
         Ok(Tracker {
-            vars: [None; 72],
+            vars: [None; VARS],
             names: [None; 64],
             given: Vec::with_capacity(alloc, most as usize)?,
         })
@@ -94,7 +95,7 @@ impl Tracker {
 
     /// There are no more handles than numbers of 32 bits.
     pub fn recall_numbers_fit(&self)
-        ensures { length self.now.tracked.given ≤ 4294967295 }
+        ensures { length self.now.tracked.given ≤ u32.MAX }
     {
         let _ = &self.given;
     }

@@ -79,7 +79,7 @@ pub(crate) fn draw(
     most: usize,
     request: Request,
 ) -> Result<Drawn, AllocError>
-    requires few { length bytes.now < 4294967295 }
+    requires few { length bytes.now < u32.MAX }
     requires order { AreEntries request.entries }
     ensures { IfOk result (λ d. IsDrawn most bytes.now request d) }
 {

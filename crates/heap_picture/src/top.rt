@@ -95,7 +95,7 @@ fn print_picture<S: Source, K: Sink>(
 
 // Writes the picture of a report, or why there is none.
 fn print_drawn<K: Sink>(alloc: Global, bytes: &[u8], request: Request, out: &mut K) -> u8
-    requires few { length bytes.now < 4294967295 }
+    requires few { length bytes.now < u32.MAX }
     requires order { AreEntries request.entries }
     ensures printed { result ≡ 0 → PictureOf bytes.now request (Appends (K.held out.old) (K.held out.new)) }
     ensures refused { result ≡ 3 → RefusalOf 268435456 bytes.now request (Appends (K.held out.old) (K.held out.new)) }

@@ -3,11 +3,12 @@
 use Rattle.std.specs.Prelude.{◌≡◌, ℕ, ◌≤◌, if◌then◌else◌, List, [], All, Contains, Option, Some, length}
 use Rattle.joint_machine.specs.Components.{Rises}
 use Rattle.joint_machine.specs.Heaps.{Heap, MOST, IsMade, IsLive, InSlot, fields_of, is_freed}
+use Rattle.joint_machine.specs.declared.names.TheConstants.{VARS}
 
 -- no slot and no field of a live object has a freed one, and the tables have their sizes
 pub record IsTidy (h : Heap) : Type 0 where
   pub most : length h.fields ≤ MOST
-  pub vars : length h.vars ≡ 72
+  pub vars : length h.vars ≡ VARS
   pub statics : length h.statics ≡ 16
   pub slots : (x : ℕ) → InSlot h x → IsLive h x
   pub held : (x y : ℕ) → IsLive h x → Contains (fields_of h x) (Some y) → IsLive h y

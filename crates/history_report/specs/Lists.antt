@@ -1,6 +1,6 @@
 -- The lists of numbers that a report shows.
 -- Believed: the clauses of the program's top call rest on all that stands here.
-use Rattle.std.specs.Prelude.{ℕ, List, [], ◌∷◌, codes, decimal, map, take}
+use Rattle.std.specs.Prelude.{◌^◌, ℕ, List, [], ◌∷◌, codes, decimal, map, take}
 use Rattle.joint_machine.specs.declared.names.Span.{Span}
 use Rattle.joint_machine.specs.Histories.{Finished, managed_numbers, peer_numbers, stretch}
 use Rattle.history_report.specs.declared.lists.Numbers.{Numbers}
@@ -29,4 +29,4 @@ listed letter (n ∷ numbers) = lettered letter (n ∷ numbers)
 
 -- the numbers of a list that a span names, as words (places of these lists are below 2^32)
 abbrev pub list_words : Finished → Numbers → Span → List (List ℕ)
-list_words h numbers span = listed (letter_of numbers) (stretch (take 4294967296 (numbers_of h numbers)) span)
+list_words h numbers span = listed (letter_of numbers) (stretch (take (2 ^ 32) (numbers_of h numbers)) span)

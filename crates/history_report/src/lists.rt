@@ -1,6 +1,6 @@
 // The lists of numbers that a history has beside its entries.
 
-ghost use Rattle.std.specs.Prelude.{◌≡◌, take, slice_get, option_map};
+ghost use Rattle.std.specs.Prelude.{◌≡◌, ◌^◌, take, slice_get, option_map};
 ghost use Rattle.history_report.specs.Lists.{numbers_of, letter_of};
 
 use joint_model::{History, MNum, PNum};
@@ -28,7 +28,7 @@ impl Numbers {
 
     /// The number at a place of the list, from 0; None past its end and past the last place that a span names.
     pub fn at(self, h: &History, i: u64) -> Option<u32>
-        ensures { result ≡ slice_get (take 4294967296 (numbers_of h.now self)) i }
+        ensures { result ≡ slice_get (take (2 ^ 32) (numbers_of h.now self)) i }
     {
         if i > u32::MAX as u64 {
             return None;

@@ -55,12 +55,13 @@ impl Model for Registry {
     ghost use Rattle.std.specs.Prelude.{List, ◌≤◌, length};
     ghost use Rattle.joint_machine.specs.declared.names.MNum.{MNum};
     ghost use Rattle.joint_machine.specs.declared.names.PNum.{PNum};
+    ghost use Rattle.joint_machine.specs.Numbers.{u32_max};
 
     ghost Value = { List (PNum × MNum) };
 
     ghost view = { λ s. s.pairs.entries };
 
-    ghost invariant = { λ s. length s.pairs.entries ≤ 4294967295 };
+    ghost invariant = { λ s. length s.pairs.entries ≤ u32_max };
 }
 
 impl Registry {

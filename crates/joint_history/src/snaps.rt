@@ -1,7 +1,7 @@
 // The driver's snapshot under the managed lock. The side takes all memory that it needs, then has the gate closed, and
 // then nothing fails.
 
-ghost use Rattle.std.specs.Prelude.{◌≡◌, ◌⊎◌, ◌≤◌, ◌∷◌, ℕ, IfErr, IfOk, None, OnErr, Some, slice_get};
+ghost use Rattle.std.specs.Prelude.{◌≡◌, ◌^◌, ◌⊎◌, ◌≤◌, ◌∷◌, ℕ, IfErr, IfOk, None, OnErr, Some, slice_get};
 ghost use Rattle.joint_machine.specs.declared.names.Thread.TheVariants.{C};
 ghost use Rattle.joint_machine.specs.HistoryLines.{caller_line};
 ghost use Rattle.order_table.specs.Allowed.{Settled};
@@ -24,7 +24,7 @@ use seat_calls::{append_paid, close_and_scan, give_back, lend, settle_opened};
 
 // The object that a pin's word names.
 fn object_of(word: u64) -> Option<MNum>
-    requires { word ≤ 4294967296 }
+    requires { word ≤ 2 ^ 32 }
     ensures { number_or_none result ≡ object_of word }
 {
     if word == 0 {
@@ -36,7 +36,7 @@ fn object_of(word: u64) -> Option<MNum>
 
 // The pins by their words.
 fn pins_of(words: [u64; 8]) -> Pins
-    requires { (i w : ℕ) → slice_get words i ≡ Some w → w ≤ 4294967296 }
+    requires { (i w : ℕ) → slice_get words i ≡ Some w → w ≤ 2 ^ 32 }
     ensures { pins_given result.at ≡ pins_of (0 ∷ words) }
 {
     let [a, b, c, d, e, f, g, h] = words;

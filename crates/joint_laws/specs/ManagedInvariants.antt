@@ -4,6 +4,7 @@ use Rattle.joint_machine.specs.Components.{Rises}
 use Rattle.joint_machine.specs.Heaps.{IsMade, IsLive, fields_of}
 use Rattle.joint_machine.specs.Managed.{Managed, OpenCycle, Holds, IsBridge, IsManagedRoot}
 use Rattle.joint_machine.specs.ManagedReplay.{ManagedReplay}
+use Rattle.joint_machine.specs.declared.names.TheConstants.{VARS}
 
 -- a dead part is cut off: its rows are unfreed, no slot and no field of another row names one of them, and the
 -- candidates are those of its rows that hold a handle, rising
@@ -20,7 +21,7 @@ pub record IsCutOff (s : Managed) (c : OpenCycle) : Type 0 where
 -- were made; and an open cycle's dead part is cut off
 pub record IsManagedKept (s : Managed) : Type 0 where
   pub places : length s.held ≡ length s.heap.fields
-  pub vars : length s.heap.vars ≡ 72
+  pub vars : length s.heap.vars ≡ VARS
   pub freed : (m : ℕ) → Contains s.heap.freed m → IsMade s.heap m
   pub roots : (m : ℕ) → IsManagedRoot s m → IsLive s.heap m
   pub fields : (m n : ℕ) → IsLive s.heap m → Contains (fields_of s.heap m) (Some n) → IsLive s.heap n

@@ -7,6 +7,7 @@ use Rattle.std.specs.Prelude.{◌++◌, length, replicate, slice_get, slice_set,
 use Rattle.std.specs.List.{list_any}
 use Rattle.joint_machine.specs.declared.events.Reply.{Reply}
 use Rattle.joint_machine.specs.declared.events.Reply.TheVariants as says
+use Rattle.joint_machine.specs.declared.names.TheConstants.{VARS, STATICS}
 
 -- objects have the numbers from 1 on, in the order in which they were made; `freed` has the numbers of those
 -- that were freed, in the order of freeing
@@ -23,7 +24,7 @@ MOST = 65535
 -- no object, and every variable and static empty; a thread's variables stand at eight times its number, so the first
 -- eight are nobody's
 abbrev pub opening_heap : Heap
-opening_heap = record { fields = []; freed = []; vars = replicate 72 None; statics = replicate 16 None }
+opening_heap = record { fields = []; freed = []; vars = replicate VARS None; statics = replicate STATICS None }
 
 -- what stands at a place of a list of slots; None past the end
 abbrev pub slot : {A : Type 0} → List (Option A) → ℕ → Option A

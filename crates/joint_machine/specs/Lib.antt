@@ -1,3 +1,4 @@
+pub mod Numbers
 pub mod Walks
 pub mod Components
 pub mod Lines

@@ -19,6 +19,7 @@ use Rattle.joint_machine.specs.Heaps.{numbered_set, place, is_freed, is_full, ne
 use Rattle.joint_machine.specs.Heaps.{with_freed, copied, field_set, field_got, dropped, loaded, stored}
 use Rattle.joint_machine.specs.Told.{Answer, said_alive, said_cleared}
 use Rattle.joint_machine.specs.Walks.{Reached}
+use Rattle.joint_machine.specs.declared.names.TheConstants.{PINS, CELLS}
 
 -- an open cycle: its number, the candidates of its snapshot and its dead part, both rising
 pub record OpenCycle : Type 0 where
@@ -44,8 +45,8 @@ opening_managed = record {
   heap = opening_heap;
   kinds = [];
   held = [];
-  pins = replicate 9 None;
-  cells = replicate 64 None;
+  pins = replicate PINS None;
+  cells = replicate CELLS None;
   notices = [];
   taken = 0;
   cycle = None;

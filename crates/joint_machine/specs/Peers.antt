@@ -14,6 +14,7 @@ use Rattle.joint_machine.specs.Heaps.{Heap, Answered, answer, MOST, opening_heap
 use Rattle.joint_machine.specs.Heaps.{next_number, with_var, with_static, with_object, fields_of, copied, field_set}
 use Rattle.joint_machine.specs.Heaps.{field_got, dropped, loaded, stored}
 use Rattle.joint_machine.specs.Managed.{place_or_none}
+use Rattle.joint_machine.specs.declared.names.TheConstants.{NAMES}
 
 -- a handle is held, made for a managed object, or raw, made by a peer thread
 pub data Hold : Type 0 where
@@ -52,7 +53,7 @@ pub record Peers : Type 0 where
 
 -- nothing is there
 abbrev pub opening_peers : Peers
-opening_peers = record { heap = opening_heap; sorts = []; names = replicate 64 None; issued = []; made = 0 }
+opening_peers = record { heap = opening_heap; sorts = []; names = replicate NAMES None; issued = []; made = 0 }
 
 -- how a reply names a peer
 abbrev pub peer_name : ℕ → Reply

@@ -6,6 +6,7 @@ use Rattle.joint_machine.specs.Linked.{managed_after, ManagedLawful}
 use Rattle.joint_machine.specs.ManagedReplay.{ManagedReplay}
 use Rattle.joint_machine.specs.declared.lines.Act.TheVariants as act
 use Rattle.joint_machine.specs.declared.events.Op.TheVariants as op
+use Rattle.joint_machine.specs.declared.names.TheConstants.{PINS}
 
 -- the events with which pins are kept: a snap and a `take`
 abbrev pub is_pinned : Op → Bool
@@ -25,7 +26,7 @@ tells_pins told = false
 
 -- all pins are empty; the pin with number 0 is nobody's
 abbrev pub no_pins : List (Option ℕ)
-no_pins = replicate 9 None
+no_pins = replicate PINS None
 
 -- the pins that are told
 abbrev pub pins_told : Told → List (Option ℕ)

@@ -23,6 +23,7 @@ use Rattle.joint_machine.specs.ManagedReplay.{ManagedReplay, opening_replay, man
 use Rattle.joint_machine.specs.PeerReplay.{PeerReplay, opening_peer_replay, peer_answer}
 use Rattle.joint_machine.specs.Run.{thread_number}
 use Rattle.joint_machine.specs.Told.{Told, snap_of, resolution_of, Noted}
+use Rattle.joint_machine.specs.Numbers.{u32_max}
 
 -- a side: for how many threads of its heap it was made, its entries, and the state of its replay after them
 pub record Side (S : Type 0) : Type 0 where
@@ -140,7 +141,7 @@ pub record MayDraw {S D : Type 0} (r : SideRules S) (d : Drawing D)
     (draw : D) (s : Side S) (t : Thread) (o : Op) : Type 0 where
   pub takes : r.takes s.threads t
   pub below : AllBelow s.entries (d.floor draw)
-  pub room : 4294967295 ≤ d.left draw + length s.entries
+  pub room : u32_max ≤ d.left draw + length s.entries
   pub bare : d.may draw t o None
   pub targets : (m : MNum) → r.may_target s.state o m → d.may draw t o (Some m)
 
@@ -151,7 +152,7 @@ pub record DrawsLast {D : Type 0} (d : Drawing D) (before after : D) (old new : 
   pub adds : Adds d.drew before after old new m target freed
   pub above : d.floor before ≤ adds.number
   pub below : AllBelow new (d.floor after)
-  pub room : 4294967295 ≤ d.left after + length new
+  pub room : u32_max ≤ d.left after + length new
   pub may : (t : Thread) (o : Op) → IsTrue (is_peer_event t o) → (d.may before t o None ↔ d.may after t o None)
 
 -- one entry: what was made was drawn and put last, it may come next, and the state is the one after it; the side is for

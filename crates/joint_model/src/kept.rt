@@ -30,13 +30,14 @@ impl Model for Kept {
     ghost use Rattle.std.specs.Prelude.{◌+◌, ◌≤◌, vec_len, vec_capacity};
     ghost use Rattle.joint_model.specs.Leaders.{spelled, AreFollowed, Starts};
     ghost use Rattle.joint_model.specs.Listed.{Shelf};
+    ghost use Rattle.joint_machine.specs.Numbers.{u32_max};
 
     ghost Value = { Shelf };
 
     ghost view = { λ s. record { entries = spelled s.leaders.items s.followers.items; spare = s.spare } };
 
     ghost invariant = { λ s. AreFollowed s.leaders.items s.followers.items × Starts 0 s.leaders.items
-        × (vec_len s.leaders + vec_len s.followers + s.spare ≤ 4294967295)
+        × (vec_len s.leaders + vec_len s.followers + s.spare ≤ u32_max)
         × (vec_len s.leaders + s.spare ≤ vec_capacity s.leaders)
         × (vec_len s.followers + s.spare ≤ vec_capacity s.followers) };
 }
@@ -129,7 +130,7 @@ impl Kept {
     #[inline(always)]
     pub(crate) fn spare(&self) -> u32
         ensures spare { result ≡ self.now.spare }
-        ensures limit { length self.now.entries + result ≤ 4294967295 }
+        ensures limit { length self.now.entries + result ≤ u32.MAX }
     {
         self.spare
     }
@@ -174,7 +175,7 @@ impl Kept {
     #[tactic(auto, using(crate::proofs::Spelling::spelled_length))]
     pub(crate) fn rest(&self) -> Rest<'_>
         ensures all { result ≡ self.now.entries }
-        ensures limit { length result ≤ 4294967295 }
+        ensures limit { length result ≤ u32.MAX }
     {
         Rest::new(self.leaders.as_slice(), self.followers.as_slice())
     }

@@ -37,7 +37,7 @@ pub(crate) const NO_ENTRY: Entry = Entry {
 // Follower `i` of a leader's entry, from 1, with that handle.
 #[inline(always)]
 pub(crate) fn follower(first: &Entry, i: u64, h: HNum) -> Entry
-    requires { i ≤ 4294967295 }
+    requires { i ≤ u32.MAX }
     ensures { result ≡ follower_of first.now i h }
 {
     let mut entry = *first;
@@ -57,7 +57,7 @@ pub(crate) fn follower(first: &Entry, i: u64, h: HNum) -> Entry
 // The handle of an entry that is the next follower of a leader's entry, which has so many; None where it isn't.
 #[inline(always)]
 fn next_handle(first: &Entry, followers: u32, entry: &Entry) -> Option<HNum>
-    ensures { IfSome result (λ h. (followers < 4294967295) × (entry.now ≡ follower_of first.now (followers + 1) h)) }
+    ensures { IfSome result (λ h. (followers < u32.MAX) × (entry.now ≡ follower_of first.now (followers + 1) h)) }
 {
     if followers == u32::MAX {
         return None;
@@ -84,7 +84,7 @@ impl Leader {
     // The entry, with no follower yet. The handles of those will stand from place `from` on.
     #[inline(always)]
     pub(crate) fn new(entry: Entry, from: usize) -> Leader
-        requires { from ≤ 4294967295 }
+        requires { from ≤ u32.MAX }
         ensures { result ≡ record { entry = entry; from = from; followers = 0 } }
     {
         Leader {
@@ -113,7 +113,7 @@ impl Leader {
     // The handle of an entry that is its next follower; None where it isn't.
     #[inline(always)]
     fn next_handle(&self, entry: &Entry) -> Option<HNum>
-        ensures { IfSome result (λ h. (self.now.followers < 4294967295)
+        ensures { IfSome result (λ h. (self.now.followers < u32.MAX)
             × (entry.now ≡ follower_of self.now.entry (self.now.followers + 1) h)) }
     {
         next_handle(&self.entry.unpack(), self.followers, entry)
@@ -139,7 +139,7 @@ fn is_reply_after(own: &Reply, i: u32, reply: &Reply) -> bool
 pub(crate) fn put_follower(leaders: &mut Vec<Leader>, followers: &mut Vec<HNum>, entry: Entry)
     requires followed { AreFollowed leaders.old.items followers.old.items }
     requires starts { Starts 0 leaders.old.items }
-    requires limit { vec_len followers.old ≤ 4294967295 }
+    requires limit { vec_len followers.old ≤ u32.MAX }
     requires room { vec_len leaders.old < vec_capacity leaders.old }
     requires room_of_followers { vec_len followers.old < vec_capacity followers.old }
     ensures followed { AreFollowed leaders.new.items followers.new.items }
@@ -268,7 +268,7 @@ impl<'a> Rest<'a> {
     pub(crate) fn next(&mut self) -> Option<(&'a Leader, &'a [HNum])>
         ensures { MatchOption result ((self.old ≡ []) × (self.new ≡ []))
             (λ next. (self.old ≡ next.0.now.entry ∷ (followers_of next.0.now.entry 1 next.1.now ++ self.new))
-            × (length next.1.now ≤ 4294967295)) }
+            × (length next.1.now ≤ u32.MAX)) }
     {
         let (leader, rest) = self.leaders.split_first()?;
         self.leaders = rest;
@@ -302,7 +302,7 @@ pub(crate) fn next_leader<'a>(
     requires { IsNumbered (merged one.old other.old) }
     ensures { MatchOption result ((merged one.old other.old ≡ []) × (merged one.new other.new ≡ []))
         (λ next. (merged one.old other.old ≡ next.0.now.entry ∷
-        (followers_of next.0.now.entry 1 next.1.now ++ merged one.new other.new)) × (length next.1.now ≤ 4294967295)) }
+        (followers_of next.0.now.entry 1 next.1.now ++ merged one.new other.new)) × (length next.1.now ≤ u32.MAX)) }
 {
     if is_next_in_other(one.number(), other.number()) {
         other.next()

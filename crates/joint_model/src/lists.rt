@@ -39,6 +39,7 @@ impl Model for Entries {
     ghost use Rattle.std.specs.Prelude.{◌≡◌, ◌+◌, ◌≤◌, ◌++◌, length};
     ghost use Rattle.joint_model.specs.declared.lists.Holding.TheVariants.{Every};
     ghost use Rattle.joint_model.specs.Listed.{Stock, passed};
+    ghost use Rattle.joint_machine.specs.Numbers.{u32_max};
 
     ghost Value = { Stock };
 
@@ -49,7 +50,7 @@ impl Model for Entries {
     } };
 
     ghost invariant = { λ s. (s.gone ≡ length (passed s.past.items))
-        × (s.gone + length s.kept.entries + s.kept.spare ≤ 4294967295) × (s.holding ≡ Every → s.gone ≡ 0) };
+        × (s.gone + length s.kept.entries + s.kept.spare ≤ u32_max) × (s.holding ≡ Every → s.gone ≡ 0) };
 }
 
 /// An empty list, with room for `n` items where there is memory for it; else it grows as it needs. Room that nothing is
@@ -66,7 +67,7 @@ impl Entries {
     /// The empty list, which keeps the allocator.
     pub fn new(alloc: Global, holding: Holding) -> Entries
         ensures entries { result.entries ≡ [] }
-        ensures spare { result.spare ≤ 4294967295 }
+        ensures spare { result.spare ≤ u32.MAX }
         ensures holding { result.holding ≡ holding }
     {
         Entries {
@@ -98,7 +99,7 @@ impl Entries {
         ensures kept { self.old.spare ≤ self.new.spare }
         ensures entries { self.new.entries ≡ self.old.entries }
         ensures holding { self.new.holding ≡ self.old.holding }
-        ensures limit { length self.new.entries + self.new.spare ≤ 4294967295 }
+        ensures limit { length self.new.entries + self.new.spare ≤ u32.MAX }
         ensures err { OnErr result (self.new ≡ self.old) }
     {
         let block = match self.holding {
@@ -120,7 +121,7 @@ impl Entries {
         ensures kept { self.old.spare ≤ self.new.spare }
         ensures entries { self.new.entries ≡ self.old.entries }
         ensures holding { self.new.holding ≡ self.old.holding }
-        ensures limit { length self.new.entries + self.new.spare ≤ 4294967295 }
+        ensures limit { length self.new.entries + self.new.spare ≤ u32.MAX }
         ensures err { OnErr result (self.new ≡ self.old) }
     {
         if n <= self.kept.spare() {
@@ -155,7 +156,7 @@ impl Entries {
     /// For how many more entries there is room.
     pub fn spare(&self) -> u32
         ensures spare { result ≡ self.now.spare }
-        ensures limit { length self.now.entries + result ≤ 4294967295 }
+        ensures limit { length self.now.entries + result ≤ u32.MAX }
     {
         self.kept.spare()
     }
@@ -205,12 +206,13 @@ pub struct Alive {
 impl Model for Alive {
     ghost use Rattle.std.specs.Prelude.{◌-◌, ◌≤◌, vec_len, vec_capacity};
     ghost use Rattle.joint_model.specs.Listed.{Answers};
+    ghost use Rattle.joint_machine.specs.Numbers.{u32_max};
 
     ghost Value = { Answers };
 
     ghost view = { λ s. record { values = s.values.items; room = vec_capacity s.values - vec_len s.values } };
 
-    ghost invariant = { λ s. vec_capacity s.values ≤ 4294967295 };
+    ghost invariant = { λ s. vec_capacity s.values ≤ u32_max };
 }
 
 impl Alive {

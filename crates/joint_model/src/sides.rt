@@ -33,7 +33,7 @@ pub fn enter<D: Draw>(
 ) -> u64
     requires spare { 1 ≤ entries.old.spare }
     requires below { AllBelow entries.old.entries (D.rules.floor draw.old) }
-    requires room { 4294967295 ≤ D.rules.left draw.old + length entries.old.entries }
+    requires room { u32.MAX ≤ D.rules.left draw.old + length entries.old.entries }
     requires may { D.rules.may draw.old made.caller made.op target }
     ensures draws { DrawsLast D.rules draw.old draw.new entries.old.entries entries.new.entries made target freed.now }
     ensures number { entries.new.entries ≡ entries.old.entries ++ numbered result made ∷ [] }
@@ -53,7 +53,7 @@ pub fn enter<D: Draw>(
 pub fn enter_handle<D: Draw>(entries: &mut Entries, draw: &mut D, made: Made) -> u64
     requires spare { 1 ≤ entries.old.spare }
     requires below { AllBelow entries.old.entries (D.rules.floor draw.old) }
-    requires room { 4294967295 ≤ D.rules.left draw.old + length entries.old.entries }
+    requires room { u32.MAX ≤ D.rules.left draw.old + length entries.old.entries }
     requires may { D.rules.may draw.old made.caller made.op None }
     ensures draws { DrawsLast D.rules draw.old draw.new entries.old.entries entries.new.entries made None [] }
     ensures number { entries.new.entries ≡ entries.old.entries ++ numbered result made ∷ [] }

@@ -15,11 +15,12 @@ use Rattle.joint_replay.specs.declared.peers.IssuedStrength.{IssuedStrength}
 use Rattle.joint_replay.specs.declared.peers.IssuedStrength.TheVariants.{Strong, Weak}
 use Rattle.joint_replay.specs.declared.replies.Refusal.{Refusal}
 use Rattle.joint_replay.specs.declared.replies.Refusal.TheVariants as refusal
+use Rattle.joint_machine.specs.declared.names.TheConstants.{VARS}
 
 -- the flags say of each object whether it is freed, there are no more objects than fit, and the tables have their sizes
 pub record IsFlagged (h : Heap) (flags : List Bool) : Type 0 where
   pub most : length h.fields ≤ MOST
-  pub vars : length h.vars ≡ 72
+  pub vars : length h.vars ≡ VARS
   pub statics : length h.statics ≡ 16
   pub len : length flags ≡ length h.fields
   pub made : (x : ℕ) → Contains h.freed x → IsMade h x

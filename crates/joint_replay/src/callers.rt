@@ -13,7 +13,7 @@ ghost use Rattle.joint_machine.specs.declared.events.Op.TheVariants.{Line};
 ghost use Rattle.joint_machine.specs.declared.names.Sort.{Sort};
 ghost use Rattle.joint_replay.specs.Operations.{IsBridgeEvent, IsPlainAct};
 
-use joint_model::{Act, Cell, GName, Kind, Op, StaticNo, Thread, Var};
+use joint_model::{Act, Cell, GName, Kind, Op, StaticNo, Thread, VARS, Var};
 
 /// Whether the caller can make the event, and the event is one of the joint machine.
 pub(crate) fn can_make(caller: Thread, op: &Op) -> bool
@@ -244,7 +244,7 @@ pub(crate) fn place_of(caller: Thread, v: Var) -> usize
     requires thread { IsThread caller }
     requires var { IsVar v }
     ensures place { result ≡ place (thread_number caller) v.0 }
-    ensures within { result < 72 }
+    ensures within { result < VARS }
 {
     8 * number(caller) as usize + v.0 as usize
 }
@@ -254,7 +254,7 @@ pub(crate) fn place_or_none(caller: Thread, w: Option<Var>) -> Option<usize>
     requires thread { IsThread caller }
     requires var { IsVarOrNone w }
     ensures place { result ≡ place_or_none (thread_number caller) w }
-    ensures within { ForSome result (λ place. place < 72) }
+    ensures within { ForSome result (λ place. place < VARS) }
 {
     match w {
         None => None,

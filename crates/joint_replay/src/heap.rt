@@ -119,7 +119,7 @@ impl PlainHeap {
     /// The variables.
     pub fn vars(&self) -> &[Option<u32>]
         ensures slots { result.now ≡ self.now.vars }
-        ensures count { length result.now ≡ 72 }
+        ensures count { length result.now ≡ VARS }
     {
         &self.vars
     }
@@ -205,7 +205,7 @@ impl PlainHeap {
 
     /// What the variable at a place names.
     pub(crate) fn var(&self, place: usize) -> Option<u32>
-        requires { place < 72 }
+        requires { place < VARS }
         ensures { slot self.now.vars place ≡ result }
     {
         self.vars[place]
@@ -238,7 +238,7 @@ impl PlainHeap {
 
     /// The variable at a place names object `x`, or nothing.
     pub(crate) fn set_var(&mut self, place: usize, x: Option<u32>)
-        requires { place < 72 }
+        requires { place < VARS }
         ensures { self.new ≡ with_var self.old place x }
     {
         self.vars[place] = x;
@@ -262,8 +262,8 @@ impl PlainHeap {
 
     /// What `set V I W` is to write, by the places of its variables, or why it writes nothing.
     pub(crate) fn target(&self, v: usize, i: usize, w: Option<usize>) -> Result<FieldWrite, Refusal>
-        requires v { v < 72 }
-        requires w { ForSome w (λ place. place < 72) }
+        requires v { v < VARS }
+        requires w { ForSome w (λ place. place < VARS) }
         ensures ok { IfOk result (λ p. (field_set self.now v i w ≡ answer Reply.Ok
             (with_field self.now p.object p.field p.value)) × (p.field < length (fields_of self.now p.object))) }
         ensures err { MatchResult result (λ p. Unit {0})

@@ -10,7 +10,7 @@ ghost use Rattle.joint_replay.specs.Plain.{hold_as, strength_as};
 use crate::peers::{IssuedHold, IssuedStrength, PeerPart};
 use crate::replies::Refusal;
 use crate::state::Verdict;
-use joint_model::{Reply, Sort};
+use joint_model::{Reply, Sort, VARS};
 use std::alloc::AllocError;
 
 impl PeerPart {
@@ -73,7 +73,7 @@ impl PeerPart {
         reply: &Reply,
     ) -> Result<Verdict, AllocError>
         requires g { g < 64 }
-        requires v { v < 72 }
+        requires v { v < VARS }
         ensures ok { IfOk result (λ d. Decides
             (Gives (globalised self.old g v (strength_as strength)) reply.now) d self.old self.new) }
         ensures err { OnErr result (self.new ≡ self.old) }
@@ -106,7 +106,7 @@ impl PeerPart {
         removed: &mut Vec<bool>,
     ) -> Result<(), AllocError>
         requires full { handles_full self.old ≡ false }
-        requires room { length self.old.issued < 4294967295 }
+        requires room { length self.old.issued < u32.MAX }
         ensures ok { OnOk result ((self.new ≡ with_handle self.old peer (hold_as hold) (strength_as strength))
             × (removed.new.items ≡ removed.old.items ++ false ∷ [])) }
         ensures err { OnErr result ((self.new ≡ self.old) × (removed.new.items ≡ removed.old.items)) }

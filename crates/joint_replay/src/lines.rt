@@ -20,7 +20,7 @@ use crate::peers::IssuedStrength;
 use crate::removed::remove;
 use crate::replies::{Refusal, says_ok};
 use crate::state::{JointState, Verdict};
-use joint_model::{Act, Reply, Thread};
+use joint_model::{Act, Reply, Thread, VARS};
 use std::alloc::{AllocError, Global};
 
 impl JointState {
@@ -115,7 +115,7 @@ impl JointState {
 
     // `new` of a peer thread.
     fn make_peer(&mut self, v: usize, fields: u8, reply: &Reply) -> Result<Verdict, AllocError>
-        requires { v < 72 }
+        requires { v < VARS }
         ensures ok { IfOk result (λ d. Decides
             (Gives (on_peers self.old (peer_made self.old.graph.peers v fields)) reply.now) d self.old self.new) }
         ensures err { OnErr result (self.new ≡ self.old) }
@@ -132,7 +132,7 @@ impl JointState {
         reply: &Reply,
     ) -> Result<Verdict, AllocError>
         requires g { g < 64 }
-        requires v { v < 72 }
+        requires v { v < VARS }
         ensures ok { IfOk result (λ d. Decides
             (Gives (on_peers self.old (globalised self.old.graph.peers g v (strength_as strength))) reply.now)
             d self.old self.new) }
@@ -161,7 +161,7 @@ impl JointState {
 
     // `wread`: the variable at place `v` names the peer to which the handle of name `g` leads.
     fn read_name(&mut self, v: usize, g: usize, reply: &Reply) -> Verdict
-        requires v { v < 72 }
+        requires v { v < VARS }
         requires g { g < 64 }
         ensures { Decides (Gives (on_peers self.old (name_read (joint_target self.old) self.old.graph.peers v g))
             reply.now) result self.old self.new }
@@ -175,7 +175,7 @@ impl JointState {
 
     // The variable at place `v` names the peer to which a handle leads.
     fn read_peer(&mut self, v: usize, target: Option<u32>, reply: &Reply) -> Verdict
-        requires { v < 72 }
+        requires { v < VARS }
         ensures { Decides (Gives (on_peers self.old (peer_read self.old.graph.peers v target)) reply.now)
             result self.old self.new }
     {

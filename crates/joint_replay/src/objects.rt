@@ -9,7 +9,7 @@ ghost use Rattle.joint_replay.specs.Judging.{Decides, Gives};
 use crate::managed::{ManagedPart, names_cycle, names_object};
 use crate::replies::Refusal;
 use crate::state::Verdict;
-use joint_model::{Kind, Reply, Sort};
+use joint_model::{Kind, Reply, Sort, VARS};
 use std::alloc::AllocError;
 
 impl ManagedPart {
@@ -21,7 +21,7 @@ impl ManagedPart {
         fields: u8,
         reply: &Reply,
     ) -> Result<Verdict, AllocError>
-        requires { v < 72 }
+        requires { v < VARS }
         ensures ok { IfOk result (λ d. Decides
             (Gives (made_new self.old v kind fields) reply.now) d self.old self.new) }
         ensures err { OnErr result (self.new ≡ self.old) }
@@ -46,7 +46,7 @@ impl ManagedPart {
         h: u32,
         reply: &Reply,
     ) -> Result<Verdict, AllocError>
-        requires { v < 72 }
+        requires { v < VARS }
         ensures ok { IfOk result (λ d. Decides
             (Gives (adopted self.old v kind fields h) reply.now) d self.old self.new) }
         ensures err { OnErr result (self.new ≡ self.old) }
@@ -69,7 +69,7 @@ impl ManagedPart {
         fields: u8,
         h: Option<u32>,
     ) -> Result<(), AllocError>
-        requires v { v < 72 }
+        requires v { v < VARS }
         requires room { is_full self.old.heap.fields ≡ false }
         ensures ok { OnOk result (self.new ≡ with_row self.old v kind fields h) }
         ensures err { OnErr result (self.new ≡ self.old) }
@@ -95,7 +95,7 @@ impl ManagedPart {
         twin: Option<u32>,
         reply: &Reply,
     ) -> Result<Verdict, AllocError>
-        requires { v < 72 }
+        requires { v < VARS }
         ensures ok { IfOk result (λ d. Decides
             (Gives (met self.old v h sort fields twin) reply.now) d self.old self.new) }
         ensures err { OnErr result (self.new ≡ self.old) }
@@ -118,7 +118,7 @@ impl ManagedPart {
         fields: u8,
         reply: &Reply,
     ) -> Result<Verdict, AllocError>
-        requires { v < 72 }
+        requires { v < VARS }
         ensures ok { IfOk result (λ d. Decides
             (Gives (twin_met self.old v h sort fields None) reply.now) d self.old self.new) }
         ensures err { OnErr result (self.new ≡ self.old) }
@@ -135,7 +135,7 @@ impl ManagedPart {
 
     // The variable at place `v` names the twin that there is.
     fn name_twin(&mut self, v: usize, m: u32, reply: &Reply) -> Verdict
-        requires { v < 72 }
+        requires { v < VARS }
         ensures { Decides (Gives (answer (Reply.Twin record { 0 = m })
             (record self.old { heap = with_var self.old.heap v (Some m) })) reply.now) result self.old self.new }
     {
@@ -148,7 +148,7 @@ impl ManagedPart {
 
     /// Whether the reply is that of a call that names the handle of the object of the variable at place `v`.
     pub(crate) fn says_handle(&self, v: usize, reply: &Reply) -> bool
-        requires { v < 72 }
+        requires { v < VARS }
         ensures { IsTrue result ↔ (reply.now ≡ handle_reply self.now v) }
     {
         let Some(x) = self.heap.var(v) else {
@@ -165,7 +165,7 @@ impl ManagedPart {
 
     /// `give`: the object of the variable at place `v` gives its handle up.
     pub(crate) fn give(&mut self, v: usize, reply: &Reply) -> Verdict
-        requires { v < 72 }
+        requires { v < VARS }
         ensures { Decides (Gives (given_up self.old v) reply.now) result self.old self.new }
     {
         if !self.says_handle(v, reply) {

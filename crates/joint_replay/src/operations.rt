@@ -13,7 +13,7 @@ use crate::callers::{place_of, place_or_none};
 use crate::heap::PlainHeap;
 use crate::replies::{Refusal, says_ok};
 use crate::state::Verdict;
-use joint_model::{Act, Reply, Thread};
+use joint_model::{Act, Reply, Thread, VARS};
 
 /// How replies name the objects of a heap.
 #[derive(Clone, Copy, PartialEq, Eq, Debug)]
@@ -82,8 +82,8 @@ impl PlainHeap {
 
     // `copy`: the variable at place `v` names the object of the one at place `w`.
     fn copy(&mut self, naming: Naming, v: usize, w: usize, reply: &Reply) -> Verdict
-        requires v { v < 72 }
-        requires w { w < 72 }
+        requires v { v < VARS }
+        requires w { w < VARS }
         ensures verdict { Decides (Gives (copied (name_of naming) self.old v w) reply.now) result self.old self.new }
         ensures freed { self.new.freed ≡ self.old.freed }
         ensures made { length self.new.fields ≡ length self.old.fields }
@@ -96,8 +96,8 @@ impl PlainHeap {
 
     // `set`: field `i` of the object of the variable at place `v` holds the object of the variable `w`, or nothing.
     fn set(&mut self, v: usize, i: usize, w: Option<usize>, reply: &Reply) -> Verdict
-        requires v { v < 72 }
-        requires w { ForSome w (λ place. place < 72) }
+        requires v { v < VARS }
+        requires w { ForSome w (λ place. place < VARS) }
         ensures verdict { Decides (Gives (field_set self.old v i w) reply.now) result self.old self.new }
         ensures freed { self.new.freed ≡ self.old.freed }
         ensures made { length self.new.fields ≡ length self.old.fields }
@@ -116,8 +116,8 @@ impl PlainHeap {
 
     // `get`: the variable at place `v` names the object in field `i` of the object of the one at place `w`.
     fn get(&mut self, naming: Naming, v: usize, w: usize, i: usize, reply: &Reply) -> Verdict
-        requires v { v < 72 }
-        requires w { w < 72 }
+        requires v { v < VARS }
+        requires w { w < VARS }
         ensures verdict { Decides (Gives (field_got (name_of naming) self.old v w i) reply.now)
             result self.old self.new }
         ensures freed { self.new.freed ≡ self.old.freed }
@@ -135,7 +135,7 @@ impl PlainHeap {
 
     // `drop`: the variable at place `v` names nothing.
     fn drop_var(&mut self, v: usize, reply: &Reply) -> Verdict
-        requires { v < 72 }
+        requires { v < VARS }
         ensures verdict { Decides (Gives (dropped self.old v) reply.now) result self.old self.new }
         ensures freed { self.new.freed ≡ self.old.freed }
         ensures made { length self.new.fields ≡ length self.old.fields }
@@ -149,7 +149,7 @@ impl PlainHeap {
 
     // `load`: the variable at place `v` names the object of static `x`.
     fn load(&mut self, naming: Naming, v: usize, x: usize, reply: &Reply) -> Verdict
-        requires v { v < 72 }
+        requires v { v < VARS }
         requires x { x < 16 }
         ensures verdict { Decides (Gives (loaded (name_of naming) self.old v x) reply.now) result self.old self.new }
         ensures freed { self.new.freed ≡ self.old.freed }
@@ -162,7 +162,7 @@ impl PlainHeap {
     // `store`: static `x` holds the object of the variable at place `v`, or nothing.
     fn store(&mut self, x: usize, v: Option<usize>, reply: &Reply) -> Verdict
         requires x { x < 16 }
-        requires v { ForSome v (λ place. place < 72) }
+        requires v { ForSome v (λ place. place < VARS) }
         ensures verdict { Decides (Gives (stored self.old x v) reply.now) result self.old self.new }
         ensures freed { self.new.freed ≡ self.old.freed }
         ensures made { length self.new.fields ≡ length self.old.fields }
@@ -186,7 +186,7 @@ impl PlainHeap {
 
     // The variable at place `v` names what was read, or nothing.
     fn read(&mut self, naming: Naming, v: usize, found: Option<u32>, reply: &Reply) -> Verdict
-        requires { v < 72 }
+        requires { v < VARS }
         ensures verdict { Decides (Gives (read_into (name_of naming) self.old v found) reply.now)
             result self.old self.new }
         ensures freed { self.new.freed ≡ self.old.freed }
@@ -204,7 +204,7 @@ impl PlainHeap {
 
     // The variable at place `v` names object `x`, and the reply says so.
     fn name(&mut self, naming: Naming, v: usize, x: u32, reply: &Reply) -> Verdict
-        requires { v < 72 }
+        requires { v < VARS }
         ensures verdict { Decides (Gives (answer (name_of naming x) (with_var self.old v (Some x))) reply.now)
             result self.old self.new }
         ensures freed { self.new.freed ≡ self.old.freed }

@@ -18,7 +18,7 @@ use crate::heap::PlainHeap;
 use crate::operations::Naming;
 use crate::replies::Refusal;
 use crate::state::Verdict;
-use joint_model::{Act, NAMES, Reply, Sort, Thread};
+use joint_model::{Act, NAMES, Reply, Sort, Thread, VARS};
 use std::alloc::{AllocError, Global};
 use std::marker::Model;
 
@@ -61,6 +61,7 @@ impl Model for PeerPart {
     ghost use Rattle.std.specs.Prelude.{◌≡◌, ◌≤◌, map, length};
     ghost use Rattle.joint_machine.specs.Peers.{Peers};
     ghost use Rattle.joint_replay.specs.Plain.{issued_as};
+    ghost use Rattle.joint_machine.specs.Numbers.{u32_max};
 
     ghost Value = { Peers };
 
@@ -72,7 +73,7 @@ impl Model for PeerPart {
       made = s.made;
     } };
 
-    ghost invariant = { λ s. (length s.handles.items ≤ 4294967295) × (length s.names ≡ 64) };
+    ghost invariant = { λ s. (length s.handles.items ≤ u32_max) × (length s.names ≡ 64) };
 }
 
 impl PeerPart {
@@ -175,7 +176,7 @@ impl PeerPart {
 
     /// Whether the number is the next handle's.
     pub(crate) fn is_next_handle(&self, h: u32) -> bool
-        ensures room { IsTrue result → length self.now.issued < 4294967295 }
+        ensures room { IsTrue result → length self.now.issued < u32.MAX }
         ensures next { IsTrue result ↔ (h ≡ next_handle self.now) }
     {
         h as usize == self.handles.len() + 1
@@ -183,7 +184,7 @@ impl PeerPart {
 
     /// Whether the reply names peer `p`, the next handle, and the peer's sort and number of fields.
     pub(crate) fn names_gripped(&self, p: u32, reply: &Reply) -> bool
-        ensures room { IsTrue result → length self.now.issued < 4294967295 }
+        ensures room { IsTrue result → length self.now.issued < u32.MAX }
         ensures says { IsTrue result ↔ (reply.now ≡ Reply.Gripped record { 0 = p }
             record { 0 = next_handle self.now } (sort_of self.now p) (length (fields_of self.now.heap p))) }
     {
@@ -200,7 +201,7 @@ impl PeerPart {
 
     /// Whether the reply names the next handle.
     pub(crate) fn names_handle(&self, reply: &Reply) -> bool
-        ensures room { IsTrue result → length self.now.issued < 4294967295 }
+        ensures room { IsTrue result → length self.now.issued < u32.MAX }
         ensures says { IsTrue result ↔ (reply.now ≡ handle_name (next_handle self.now)) }
     {
         match reply {
@@ -217,7 +218,7 @@ impl PeerPart {
         strength: IssuedStrength,
     ) -> Result<(), AllocError>
         requires full { handles_full self.old ≡ false }
-        requires room { length self.old.issued < 4294967295 }
+        requires room { length self.old.issued < u32.MAX }
         ensures ok { OnOk result (self.new ≡ with_handle self.old peer (hold_as hold) (strength_as strength)) }
         ensures err { OnErr result (self.new ≡ self.old) }
     {
@@ -251,7 +252,7 @@ impl PeerPart {
         fields: u8,
         reply: &Reply,
     ) -> Result<Verdict, AllocError>
-        requires { v < 72 }
+        requires { v < VARS }
         ensures ok { IfOk result (λ d. Decides (Gives (peer_made self.old v fields) reply.now) d self.old self.new) }
         ensures err { OnErr result (self.new ≡ self.old) }
     {
@@ -271,7 +272,7 @@ impl PeerPart {
 
     /// `wread`: the variable at place `v` names the peer to which a handle leads.
     pub(crate) fn read(&mut self, v: usize, target: Option<u32>, reply: &Reply) -> Verdict
-        requires { v < 72 }
+        requires { v < VARS }
         ensures { Decides (Gives (peer_read self.old v target) reply.now) result self.old self.new }
     {
         let Some(p) = target else {
@@ -308,7 +309,7 @@ impl PeerPart {
 
     /// Whether the reply names the next peer and the next handle.
     pub(crate) fn names_next(&self, reply: &Reply) -> bool
-        ensures room { IsTrue result → length self.now.issued < 4294967295 }
+        ensures room { IsTrue result → length self.now.issued < u32.MAX }
         ensures says { IsTrue result ↔ (reply.now ≡ Reply.Made
             record { 0 = next_number self.now.heap } record { 0 = next_handle self.now }) }
     {
@@ -324,7 +325,7 @@ impl PeerPart {
     /// as before.
     pub(crate) fn add_pair(&mut self, sort: Sort, fields: u8) -> Result<(), AllocError>
         requires full { (is_full self.old.heap.fields || handles_full self.old) ≡ false }
-        requires room { length self.old.issued < 4294967295 }
+        requires room { length self.old.issued < u32.MAX }
         ensures ok { OnOk result (self.new ≡ with_handle
             (with_peer self.old sort fields) (next_number self.old.heap) held strong) }
         ensures err { OnErr result (self.new ≡ self.old) }
@@ -347,7 +348,7 @@ impl PeerPart {
     pub(crate) fn renewal(&self, reply: &Reply) -> Option<u32>
         ensures { MatchOption result (reply.now ≡ Reply.Renewed record { 0 = next_handle self.now } → ⊥)
             (λ h. (h ≡ next_handle self.now) × (reply.now ≡ Reply.Renewed record { 0 = h })
-            × (length self.now.issued < 4294967295)) }
+            × (length self.now.issued < u32.MAX)) }
     {
         match reply {
             Reply::Renewed(h) => {
@@ -364,7 +365,7 @@ impl PeerPart {
     /// A held strong handle on a peer, in place of one that a restore removes. Answers `AllocError` where there is no
     /// memory; the part is then as before.
     pub(crate) fn renew(&mut self, peer: u32) -> Result<(), AllocError>
-        requires { length self.old.issued < 4294967295 }
+        requires { length self.old.issued < u32.MAX }
         ensures ok { OnOk result (self.new ≡ with_renewed self.old peer) }
         ensures err { OnErr result (self.new ≡ self.old) }
     {

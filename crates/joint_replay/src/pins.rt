@@ -7,13 +7,13 @@ ghost use Rattle.joint_replay.specs.Judging.{Decides, Gives};
 use crate::managed::{ManagedPart, names_cycle, names_object};
 use crate::replies::{Refusal, says_ok};
 use crate::state::Verdict;
-use joint_model::Reply;
+use joint_model::{Reply, VARS};
 
 impl ManagedPart {
     /// `weak`: cell `k` gets the object of the variable at place `v` as its target, unless it was ever set.
     pub(crate) fn weak(&mut self, k: usize, v: usize, reply: &Reply) -> Verdict
         requires k { k < 64 }
-        requires v { v < 72 }
+        requires v { v < VARS }
         ensures { Decides (Gives (weakened_to self.old k v) reply.now) result self.old self.new }
     {
         let Some(x) = self.heap.var(v) else {
@@ -65,7 +65,7 @@ impl ManagedPart {
     /// `take`: the variable at place `v` names the object of the pin of thread `t`, which is emptied.
     pub(crate) fn take(&mut self, t: usize, v: usize, reply: &Reply) -> Verdict
         requires t { t < 9 }
-        requires v { v < 72 }
+        requires v { v < VARS }
         ensures { Decides (Gives (pin_taken self.old t v) reply.now) result self.old self.new }
     {
         let Some(x) = self.pins[t] else {

@@ -141,7 +141,7 @@ fn finds_no_mark(caller: Thread, reply: &Reply) -> bool
 // Whether the reply names the marking after `markings`.
 fn names_mark(reply: &Reply, markings: u32) -> bool
     ensures names { IsTrue result ↔ (reply.now ≡ Reply.Mark record { 0 = markings + 1 }) }
-    ensures few { IsTrue result → markings < 4294967295 }
+    ensures few { IsTrue result → markings < u32.MAX }
 {
     match reply {
         Reply::Mark(number) => number.0 as u64 == markings as u64 + 1,

@@ -11,7 +11,7 @@ ghost use Rattle.joint_replay.specs.Judging.{Decides, Gives, IsObjectEvent};
 use crate::callers::place_of;
 use crate::peers::IssuedHold;
 use crate::state::{JointState, Verdict};
-use joint_model::{Kind, Op, Reply, Sort, Thread};
+use joint_model::{Kind, Op, Reply, Sort, Thread, VARS};
 use std::alloc::AllocError;
 
 impl JointState {
@@ -60,7 +60,7 @@ impl JointState {
         h: u32,
         reply: &Reply,
     ) -> Result<Verdict, AllocError>
-        requires { v < 72 }
+        requires { v < VARS }
         ensures ok { IfOk result (λ d. Decides
             (Gives (on_managed self.old (adopted self.old.graph.managed v kind fields h)) reply.now)
             d self.old self.new) }
@@ -79,7 +79,7 @@ impl JointState {
         fields: u8,
         reply: &Reply,
     ) -> Result<Verdict, AllocError>
-        requires { v < 72 }
+        requires { v < VARS }
         ensures ok { IfOk result (λ d. Decides
             (Gives (on_managed self.old (met self.old.graph.managed v h sort fields (twin_of self.old p))) reply.now)
             d self.old self.new) }
@@ -99,7 +99,7 @@ impl JointState {
         twin: Option<u32>,
         reply: &Reply,
     ) -> Result<Verdict, AllocError>
-        requires { v < 72 }
+        requires { v < VARS }
         ensures ok { IfOk result (λ d. Decides
             (Gives (on_managed self.old (met self.old.graph.managed v h sort fields twin)) reply.now)
             d self.old self.new) }
@@ -135,7 +135,7 @@ impl JointState {
 
     // `give`: the object of the variable at place `v` gives its handle up.
     fn give(&mut self, v: usize, reply: &Reply) -> Verdict
-        requires { v < 72 }
+        requires { v < VARS }
         ensures { Decides (Gives (on_managed self.old (given_up self.old.graph.managed v)) reply.now)
             result self.old self.new }
     {

@@ -1,6 +1,6 @@
 // What is put of a report: its finding, or what is wrong with it.
 
-ghost use Rattle.std.specs.Prelude.{◌≡◌, ◌<◌, ◌≤◌, ◌⊎◌, ℕ, List, Some, length};
+ghost use Rattle.std.specs.Prelude.{◌≡◌, ◌-◌, ◌<◌, ◌≤◌, ◌⊎◌, ℕ, List, Some, length};
 ghost use Rattle.std.specs.Io.KnownBytes.{Appends, Keeps};
 ghost use Rattle.byte_streams.specs.Faults.{AppendsPart, Rose};
 ghost use Rattle.joint_machine.specs.Histories.{Finished};
@@ -95,7 +95,7 @@ pub fn answer_report<S: Source, K: Sink>(
     out: &mut K,
     most: usize,
 ) -> Answered
-    requires { most < 4294967294 }
+    requires { most < u32.MAX - 1 }
     ensures found { result ≡ Answered.Found
         → FindingPut most (S.left src.old) (S.left src.new) (Appends (K.held out.old) (K.held out.new)) }
     ensures refused { result ≡ Answered.Refused

@@ -1,6 +1,6 @@
 // From the source to the finding.
 
-ghost use Rattle.std.specs.Prelude.{◌<◌, ◌≤◌, IfErr, IfOk};
+ghost use Rattle.std.specs.Prelude.{◌<◌, ◌-◌, ◌≤◌, IfErr, IfOk};
 ghost use Rattle.limited_reports.specs.Answers.{TookNone};
 ghost use Rattle.judged_reports.specs.Judging.{JudgedReport};
 
@@ -26,7 +26,7 @@ pub struct Judged {
 /// history or its check. `Refused` and `Long` as [`take_report`] answers them. The time goes by the number of bytes and
 /// by what a run of the same entries takes.
 pub fn judge_report<S: Source>(alloc: Global, src: &mut S, most: usize) -> Result<Judged, TakeError>
-    requires { most < 4294967294 }
+    requires { most < u32.MAX - 1 }
     ensures ok { IfOk result (λ judged. JudgedReport most (S.left src.old) (S.left src.new) judged) }
     ensures err { IfErr result (λ error. TookNone most (S.left src.old)
         (S.left src.new) (S.faults src.old) (S.faults src.new) error) }

@@ -1,6 +1,6 @@
 // The reading, and what is answered of a text that is too long.
 
-ghost use Rattle.std.specs.Prelude.{◌≡◌, ◌+◌, ◌<◌, ◌≤◌, length, IfErr, IfOk};
+ghost use Rattle.std.specs.Prelude.{◌≡◌, ◌-◌, ◌+◌, ◌<◌, ◌≤◌, length, IfErr, IfOk};
 ghost use Rattle.report_reader.specs.Reading.{IsReadAs};
 ghost use Rattle.limited_reports.specs.Limits.{IsNoneWithin};
 ghost use Rattle.limited_reports.specs.Answers.{IsLongRefusal, TookNone, TookReport};
@@ -39,7 +39,7 @@ fn within(fault: ReportFault, count: u32) -> TakeError
 
 // What is answered of a text that is longer than the limit.
 fn refuse_long(alloc: Global, bytes: &[u8], most: usize) -> TakeError
-    requires few { length bytes.now < 4294967295 }
+    requires few { length bytes.now < u32.MAX }
     requires long { most < length bytes.now }
     ensures { IsLongRefusal most bytes.now result }
 {
@@ -60,7 +60,7 @@ fn refuse_long(alloc: Global, bytes: &[u8], most: usize) -> TakeError
 /// one that holds the first byte behind the limit has one. `Long` exactly where there are more bytes, and none of those
 /// lines has one: then whether one of them is the last line of a report is of no matter.
 pub fn read_within(alloc: Global, bytes: &[u8], most: usize) -> Result<History, TakeError>
-    requires { length bytes.now < 4294967295 }
+    requires { length bytes.now < u32.MAX }
     ensures size { IfOk result (λ h. length bytes.now ≤ most) }
     ensures ok { IfOk result (λ h. IsReadAs bytes.now h) }
     ensures err { IfErr result (λ error. IsNoneWithin most bytes.now error) }
@@ -81,7 +81,7 @@ pub fn read_within(alloc: Global, bytes: &[u8], most: usize) -> Result<History, 
 /// `ReadFault` only where the source's count of faults rose. `OutOfMemory` where there is no memory for the bytes or
 /// the history. The bytes are let go.
 pub fn take_report<S: Source>(alloc: Global, src: &mut S, most: usize) -> Result<History, TakeError>
-    requires { most < 4294967294 }
+    requires { most < u32.MAX - 1 }
     ensures ok { IfOk result (λ h. TookReport most (S.left src.old) (S.left src.new) h) }
     ensures err { IfErr result (λ error. TookNone most (S.left src.old)
         (S.left src.new) (S.faults src.old) (S.faults src.new) error) }

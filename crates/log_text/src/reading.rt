@@ -134,7 +134,7 @@ impl Growing {
 /// The lines take at most 32 bytes for each 30 bytes of the text, and the live handles less. The handles' numbers may
 /// be any of 32 bits: the time for n lines is that of n look-ups among the live handles in an ordered map.
 pub fn read_log(alloc: Global, bytes: &[u8]) -> Result<Log, LogError>
-    requires { length bytes.now < 4294967295 }
+    requires { length bytes.now < u32.MAX }
     ensures ok { IfOk result (λ log. IsLogText bytes.now log) }
     ensures err { IfErr result (λ error. IsLogRefusal bytes.now error) }
 {

@@ -4,6 +4,7 @@ use Rattle.joint_machine.specs.Heaps.{Heap, fields_of}
 use Rattle.joint_machine.specs.Managed.{Managed}
 use Rattle.managed_heap.specs.declared.rooms.Room.{Room}
 use Rattle.managed_heap.specs.declared.rooms.SnapRoom.{SnapRoom}
+use Rattle.joint_machine.specs.Numbers.{u32_max}
 
 -- how many fields these rows have together
 abbrev pub fields_in : Heap → List ℕ → ℕ
@@ -27,7 +28,7 @@ pub record FitsSnap (r : SnapRoom) (s : Managed) : Type 0 where
   pub rows : FitsRows r.rows s.heap
   pub empty : r.notices.items ≡ []
   pub wide : length s.notices + length s.heap.fields ≤ vec_capacity r.notices
-  pub most : length s.notices + length s.heap.fields ≤ 4294967295
+  pub most : length s.notices + length s.heap.fields ≤ u32_max
 
 -- where room for a snapshot was taken, it is enough for these objects
 abbrev pub IsEnough : Option SnapRoom → Managed → Type 0

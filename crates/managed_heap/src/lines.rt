@@ -9,7 +9,7 @@ ghost use Rattle.joint_machine.specs.Run.{thread_number};
 ghost use Rattle.heap_rules.specs.Done.{say};
 
 use heap_rules::Done;
-use joint_model::{MNum, Reply, Thread, Var};
+use joint_model::{MNum, Reply, Thread, VARS, Var};
 
 /// The number of a managed thread.
 pub(crate) fn number(caller: Thread) -> usize
@@ -28,7 +28,7 @@ pub(crate) fn place(caller: Thread, v: Var) -> usize
     requires thread { IsManagedThread caller }
     requires var { IsVar v }
     ensures at { result ≡ place (thread_number caller) v.0 }
-    ensures within { result < 72 }
+    ensures within { result < VARS }
 {
     8 * number(caller) + v.0 as usize
 }
@@ -38,7 +38,7 @@ pub(crate) fn place_or_none(caller: Thread, v: Option<Var>) -> Option<usize>
     requires thread { IsManagedThread caller }
     requires var { IsVarOrNone v }
     ensures at { result ≡ place_or_none (thread_number caller) v }
-    ensures within { ForSome result (λ p. p < 72) }
+    ensures within { ForSome result (λ p. p < VARS) }
 {
     match v {
         None => None,

@@ -71,7 +71,7 @@ pub(crate) fn give_back(room: &mut Option<SnapRoom>)
 fn notices_with_room(alloc: Global, queued: u32, more: u32) -> Result<Vec<MNum>, AllocError>
     ensures empty { IfOk result (λ l. l.items ≡ []) }
     ensures wide { IfOk result (λ l. queued + more ≤ vec_capacity l) }
-    ensures most { IfOk result (λ l. queued + more ≤ 4294967295) }
+    ensures most { IfOk result (λ l. queued + more ≤ u32.MAX) }
 {
     if more > u32::MAX - queued {
         return Err(AllocError);

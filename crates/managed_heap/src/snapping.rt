@@ -35,7 +35,7 @@ pub(crate) struct Snap {
 impl ManagedRows {
     /// The number of the next cycle.
     pub(crate) fn next_cycle(&self) -> u32
-        requires { self.now.managed.cycles < 4294967295 }
+        requires { self.now.managed.cycles < u32.MAX }
         ensures { result ≡ self.now.managed.cycles + 1 }
     {
         self.cycles + 1
@@ -46,7 +46,7 @@ impl ManagedRows {
     pub(crate) fn snap(&mut self, pins: &Pins, room: SnapRoom) -> Snap
         requires kept { AreKept self.old }
         requires closed { self.old.managed.cycle ≡ None }
-        requires count { self.old.managed.cycles < 4294967295 }
+        requires count { self.old.managed.cycles < u32.MAX }
         requires stand { PinsStand self.old.managed (pins_given pins.now.at) }
         requires fits { FitsSnap room self.old.managed }
         ensures snapshot { TakesSnapshot self.old self.new (pins_given pins.now.at)

@@ -26,12 +26,13 @@ pub(crate) struct Takings {
 impl Model for Takings {
     ghost use Rattle.std.specs.Prelude.{ℕ, List, map, vec_capacity, ◌≤◌};
     ghost use Rattle.managed_heap.specs.Takings.{given_by};
+    ghost use Rattle.joint_machine.specs.Numbers.{u32_max};
 
     ghost Value = { List (List ℕ) };
 
     ghost view = { λ s. map (λ t. given_by t.value) s.list.items };
 
-    ghost invariant = { λ s. 4294967295 ≤ vec_capacity s.list };
+    ghost invariant = { λ s. u32_max ≤ vec_capacity s.list };
 }
 
 impl Takings {
@@ -46,7 +47,7 @@ impl Takings {
 
     /// An event had this reply: the row that it made, if it made one that adopts a handle, took that.
     pub(crate) fn push_event(&mut self, op: &Op, reply: Reply)
-        requires { length self.old < 4294967295 }
+        requires { length self.old < u32.MAX }
         ensures { self.new ≡ self.old ++ adopted_by op.now reply ∷ [] }
     {
         self.list
@@ -55,7 +56,7 @@ impl Takings {
 
     /// The candidates of a resolution were answered so: each that is kept took the handle that its restore gave.
     pub(crate) fn push_answers(&mut self, alive: &Alive)
-        requires { length self.old < 4294967295 }
+        requires { length self.old < u32.MAX }
         ensures { self.new ≡ self.old ++ handles_given (answers_of alive.now.values) ∷ [] }
     {
         self.list

@@ -12,7 +12,7 @@ ghost use Rattle.managed_heap.specs.TwinEvents.{adopt_at, give_at, give_row, han
 
 use crate::rows::{Held, ManagedRows};
 use instance_registry::Registry;
-use joint_model::{HNum, Kind, MNum, PNum, Reply, Sort};
+use joint_model::{HNum, Kind, MNum, PNum, Reply, Sort, VARS};
 use row_heap::RowHeap;
 use std::alloc::AllocError;
 
@@ -26,7 +26,7 @@ impl ManagedRows {
         fields: u8,
         handle: Option<u32>,
     ) -> Result<u32, AllocError>
-        requires v { v < 72 }
+        requires v { v < VARS }
         requires few { length self.old.managed.heap.fields < MOST }
         ensures number { IfOk result (λ x. x ≡ next_number self.old.managed.heap) }
         ensures ok { OnOk result (self.new ≡ record self.old
@@ -46,7 +46,7 @@ impl ManagedRows {
     /// `new`: a further object without a handle, which the variable names. Answers `AllocError`, with the rows as
     /// before, where there is no memory.
     pub(crate) fn make(&mut self, v: usize, kind: Kind, fields: u8) -> Result<Reply, AllocError>
-        requires { v < 72 }
+        requires { v < VARS }
         ensures answer { IfOk result (λ r. made_new self.old.managed v kind fields ≡ answer r self.new.managed) }
         ensures rest { self.new ≡ record self.old { managed = self.new.managed } }
         ensures err { OnErr result (self.new ≡ self.old) }
@@ -69,7 +69,7 @@ impl ManagedRows {
 
     /// The handle of V's object, as `handle`, `lend` and `give` answer it.
     pub(crate) fn handle_at(&self, v: usize) -> Reply
-        requires v { v < 72 }
+        requires v { v < VARS }
         requires kept { AreKept self.now }
         ensures { handle_reply self.now.managed v ≡ result }
     {
@@ -99,7 +99,7 @@ impl ManagedRows {
         p: PNum,
         h: HNum,
     ) -> Result<u32, AllocError>
-        requires v { v < 72 }
+        requires v { v < VARS }
         requires few { length self.old.managed.heap.fields < MOST }
         requires alone { registered self.old.registry p.0 ≡ None }
         requires kept { AreKept self.old }
@@ -137,7 +137,7 @@ impl ManagedRows {
         p: PNum,
         h: HNum,
     ) -> Result<u32, AllocError>
-        requires v { v < 72 }
+        requires v { v < VARS }
         requires few { length self.old.managed.heap.fields < MOST }
         requires kept { AreKept self.old }
         ensures number { IfOk result (λ x. x ≡ next_number self.old.managed.heap) }
@@ -164,7 +164,7 @@ impl ManagedRows {
         p: PNum,
         h: HNum,
     ) -> Result<Reply, AllocError>
-        requires v { v < 72 }
+        requires v { v < VARS }
         requires kept { AreKept self.old }
         ensures answer { IfOk result (λ r. (hs : List ℕ)
             → adopt_at (with_adopted self.old hs) v kind fields p h ≡ answer r
@@ -188,7 +188,7 @@ impl ManagedRows {
         sort: Sort,
         fields: u8,
     ) -> Result<Reply, AllocError>
-        requires v { v < 72 }
+        requires v { v < VARS }
         requires none { self.old.managed.cycle ≡ None }
         requires alone { registered self.old.registry p.0 ≡ None }
         requires kept { AreKept self.old }
@@ -214,7 +214,7 @@ impl ManagedRows {
         sort: Sort,
         fields: u8,
     ) -> Result<Reply, AllocError>
-        requires v { v < 72 }
+        requires v { v < VARS }
         requires none { self.old.managed.cycle ≡ None }
         requires kept { AreKept self.old }
         ensures answer { IfOk result (λ r. (hs : List ℕ)
@@ -241,7 +241,7 @@ impl ManagedRows {
         sort: Sort,
         fields: u8,
     ) -> Result<Reply, AllocError>
-        requires v { v < 72 }
+        requires v { v < VARS }
         requires kept { AreKept self.old }
         ensures answer { IfOk result (λ r. (hs : List ℕ)
             → meet_at (with_adopted self.old hs) v p h sort fields
@@ -272,7 +272,7 @@ impl ManagedRows {
 
     /// `give V`: V's object gives its handle up.
     pub(crate) fn give(&mut self, v: usize) -> Reply
-        requires v { v < 72 }
+        requires v { v < VARS }
         requires kept { AreKept self.old }
         ensures { give_at self.old v ≡ answer result self.new }
     {
@@ -293,7 +293,7 @@ fn add_object(
     fields: u8,
     held: Held,
 ) -> Result<u32, AllocError>
-    requires v { v < 72 }
+    requires v { v < VARS }
     requires few { length heap.old.heap.fields < MOST }
     ensures number { IfOk result (λ x. x ≡ next_number heap.old.heap) }
     ensures heap { OnOk result (heap.new ≡ record heap.old {

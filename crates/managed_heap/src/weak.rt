@@ -8,14 +8,14 @@ ghost use Rattle.managed_heap.specs.Pinned.{pin_reply, weak_target, with_taken};
 
 use crate::rows::ManagedRows;
 use finaliser_queue::Notices;
-use joint_model::{MNum, Reply, Span};
+use joint_model::{MNum, Reply, Span, VARS};
 
 impl ManagedRows {
     /// `weak K V`: the target of cell `k` is V's object, unless the cell was ever set. `word` is the cell's word: 0
     /// exactly where it wasn't.
     pub(crate) fn weak(&mut self, k: usize, v: usize, word: u64) -> Reply
         requires k { k < 64 }
-        requires v { v < 72 }
+        requires v { v < VARS }
         requires word { (word ≡ 0) ↔ (slot self.old.managed.cells k ≡ None) }
         ensures answer { weakened_to self.old.managed k v ≡ answer result self.new.managed }
         ensures rest { self.new ≡ record self.old { managed = self.new.managed } }
@@ -44,7 +44,7 @@ impl ManagedRows {
     /// The object to which a `weak` of cell `k` sets it.
     pub(crate) fn target(&self, k: usize, v: usize, word: u64) -> Option<MNum>
         requires k { k < 64 }
-        requires v { v < 72 }
+        requires v { v < VARS }
         requires word { (word ≡ 0) ↔ (slot self.now.managed.cells k ≡ None) }
         ensures target { weak_target self.now k v ≡ result }
         ensures unset { IfSome result (λ m. slot self.now.managed.cells k ≡ None) }
@@ -65,7 +65,7 @@ impl ManagedRows {
 
     /// `take V`: V names the object of the pin that is given.
     pub(crate) fn take(&mut self, v: usize, pin: Option<MNum>) -> Reply
-        requires v { v < 72 }
+        requires v { v < VARS }
         requires live { IfSome pin (λ m. IsLive self.old.managed.heap m.0) }
         ensures reply { result ≡ pin_reply pin }
         ensures state { self.new ≡ with_taken self.old v pin }

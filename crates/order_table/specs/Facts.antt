@@ -16,6 +16,7 @@ use Rattle.joint_machine.specs.HistoryLines.{caller_line, entries_in}
 use Rattle.order_table.specs.Rows.{at}
 use Rattle.order_table.specs.Views.{IsRole, role_line, known, Owns}
 use Rattle.order_table.specs.Rule.{Item, Ordered, RunsFrom, of_line}
+use Rattle.joint_machine.specs.Numbers.{u32_max}
 
 -- the entry stands in the list
 abbrev pub In : List KeptEntry → KeptEntry → Type 0
@@ -52,7 +53,7 @@ pub record HasWholeLists (s : State (Unit {0}) View) : Type 0 where
   pub below : (r : ℕ) (a : KeptEntry) → r < 10 → In (lists r) a → a.entry.number < slice_index s.words 0
   pub once : (q r : ℕ) (a b : KeptEntry) → q < 10 → r < 10 → In (lists q) a
       → In (lists r) b → a.entry.number ≡ b.entry.number → (q ≡ r) × (a ≡ b)
-  pub limit : (r : ℕ) → r < 10 → length (lists r) ≤ 4294967295
+  pub limit : (r : ℕ) → r < 10 → length (lists r) ≤ u32_max
   pub unwrapped : slice_index s.words 0 ≤ 42949672950
   pub own : (t : Thread) (a : KeptEntry) → IsThread t → In (lists (caller_line t)) a
       → (a.entry.made.caller ≡ t) × ((r : ℕ) × (r < 10) × In (lists r) a)

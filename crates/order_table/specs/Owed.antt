@@ -1,6 +1,6 @@
 -- What entries say of cells and pins, and what they leave to be stored in the words of these. (Cells and pins are this
 -- project's own.)
-use Rattle.std.specs.Prelude.{◌≡◌, ◌⊎◌, ℕ, zero, suc, ◌+◌, ◌<◌, ◌==◌, ◌||◌, ◌&&◌, if◌then◌else◌, Bool, true, false}
+use Rattle.std.specs.Prelude.{◌≡◌, ◌^◌, ◌⊎◌, ℕ, zero, suc, ◌+◌, ◌<◌, ◌==◌, ◌||◌, ◌&&◌, if◌then◌else◌, Bool, true, false}
 use Rattle.std.specs.Prelude.{List, [], ◌∷◌, Option, Some, None}
 use Rattle.joint_machine.specs.declared.names.MNum.{MNum}
 use Rattle.joint_machine.specs.declared.names.Thread.{Thread}
@@ -26,7 +26,7 @@ freed_told _ freed = []
 
 -- an object's number: from 1 on, and of 32 bits, so that a word of 64 bits has room for it and 1 more
 abbrev pub IsNumber : ℕ → Type 0
-IsNumber m = (0 < m) × (m < 4294967296)
+IsNumber m = (0 < m) × (m < 2 ^ 32)
 
 -- the cell that an event sets, and the object
 abbrev pub mark : Op → Option MNum → Option (ℕ × ℕ)

@@ -24,6 +24,7 @@ use Rattle.order_table.specs.Owed.{IsNumber, marked, target, has, is_freed, says
 use Rattle.order_table.specs.Views.{IsInRole, IsNext, known, Owns}
 use Rattle.order_table.specs.Allowed.{SaysPending}
 use Rattle.joint_machine.specs.Lines.{IsThread}
+use Rattle.joint_machine.specs.Numbers.{u32_max}
 
 -- an entry of the history, with the line of the role in whose list it stands
 pub record Item : Type 0 where
@@ -270,10 +271,10 @@ pub record Ordered (s : State (Unit {0}) View) : Type 0 where
   pub gate : ℕ
   pub words : (length s.words ≡ 74) × (slice_index s.words 0 ≡ length whole) × (slice_index s.words 1 / 512 ≡ gate)
   pub numbers : RunsFrom 0 whole
-  pub limit : (i : ℕ) → i < 10 → length (of_line i whole) ≤ 4294967295
+  pub limit : (i : ℕ) → i < 10 → length (of_line i whole) ≤ u32_max
   pub each_seat : (j : ℕ) (v : View) → get_elem? s.views j ≡ some v → Knows whole owner j v
   pub each_line : (i : ℕ) → i < 27 → HasOwner s.views i (owner i)
-  pub small : gate < 4294967296
+  pub small : gate < 2 ^ 32
   pub held : IsHeldFor gate (stage (of_line 0 whole))
   pub each_gate : (j : ℕ) (v : View) → get_elem? s.views j ≡ some v → Gates gate (slice_index s.words 1) v
   pub waiting : Waiting whole gate s.views

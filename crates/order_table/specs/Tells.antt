@@ -1,5 +1,6 @@
 -- What each step tells its caller, and what the calls promise.
-use Rattle.std.specs.Prelude.{◌≡◌, ◌⊎◌, ℕ, ◌+◌, ◌-◌, ◌/◌, ◌<◌, ◌≤◌, ◌==◌, if◌then◌else◌, true, false, List, [], ◌∷◌}
+use Rattle.std.specs.Prelude.{◌≡◌, ◌^◌, ◌⊎◌, ℕ, ◌+◌, ◌-◌, ◌/◌, ◌<◌, ◌≤◌, ◌==◌, if◌then◌else◌, true, false, List, []}
+use Rattle.std.specs.Prelude.{◌∷◌}
 use Rattle.std.specs.Prelude.{◌++◌, Option}
 use mathlib.Core.List.{IsPrefix}
 use Rattle.atomic_table.specs.Table.{Step, Me}
@@ -96,7 +97,7 @@ pub record TakesIn (old other new : View) : Type 0 where
 -- finds what it says itself
 abbrev pub Entered : Step (Unit {0}) → Me (Unit {0}) View → ℕ → Me (Unit {0}) View → Type 0
 Entered st m n m' = (m'.1 ≡ m.1) × (m'.0 ≡ entered st.first n m.0) × (0 < n / 512 → ¬ IsEnded m.0 (n / 512))
-    × (Owns m.0 0 → (n / 512 ≡ m.0.holds) × (n / 512 ≡ 0 → IsClosed (known m.0 0))) × (n / 512 < 4294967296)
+    × (Owns m.0 0 → (n / 512 ≡ m.0.holds) × (n / 512 ≡ 0 → IsClosed (known m.0 0))) × (n / 512 < 2 ^ 32)
 
 abbrev pub GaveBack : Step (Unit {0}) → Me (Unit {0}) View → ℕ → Me (Unit {0}) View → Type 0
 GaveBack st m n m' = (m'.1 ≡ m.1) × (m'.0 ≡ record m.0 { owes = 0 })
@@ -117,7 +118,7 @@ Opened st m n m' = (m'.1 ≡ m.1) × (m'.0 ≡ record m.0 { holds = 0 })
 abbrev pub LoadedCell : Step (Unit {0}) → Me (Unit {0}) View → ℕ → Me (Unit {0}) View → Type 0
 LoadedCell st m n m' = (m'.1 ≡ m.1) × (m'.0 ≡ loading (st.word - 2) n m.0)
     × (Owns m.0 0 → CellIs (known m.0 0) m.0.holds (at false m.0.debts (st.word - 2)) (st.word - 2) n)
-    × (NoDebt m.0 → n ≡ 0 → (y : KeptEntry) → Stands (known m.0 0) y → SetsCell y (st.word - 2) → ⊥) × (n ≤ 4294967296)
+    × (NoDebt m.0 → n ≡ 0 → (y : KeptEntry) → Stands (known m.0 0) y → SetsCell y (st.word - 2) → ⊥) × (n ≤ 2 ^ 32)
 
 abbrev pub StoredCell : Step (Unit {0}) → Me (Unit {0}) View → ℕ → Me (Unit {0}) View → Type 0
 StoredCell st m n m' = (m'.1 ≡ m.1) × (m'.0 ≡ storing (st.word - 2) m.0)
@@ -129,7 +130,7 @@ LoadedPin st m n m' = (m'.1 ≡ m.1) × (m'.0 ≡ scanning (st.word - 65) n m.0)
     × ((r : ℕ) → st.word ≡ 65 + r → 0 < r → r < 9 → Owns m.0 (r + 10)
     → m.0.fill ≡ 0 → m.0.empty ≡ 0 → n ≡ pin (known m.0 (r + 10)))
     × ((r o : ℕ) → st.word ≡ 65 + r → 0 < r → r < 9 → Owns m.0 0 → m.0.empty ≡ 0 → n ≡ o + 1 → IsHeld (known m.0 0) r o)
-    × ((r : ℕ) → st.word ≡ 65 + r → 0 < r → r < 9 → Owns m.0 0 ⊎ Owns m.0 (r + 10) → m.0.empty ≡ 0 → n ≤ 4294967296)
+    × ((r : ℕ) → st.word ≡ 65 + r → 0 < r → r < 9 → Owns m.0 0 ⊎ Owns m.0 (r + 10) → m.0.empty ≡ 0 → n ≤ 2 ^ 32)
 
 abbrev pub StoredPin : Step (Unit {0}) → Me (Unit {0}) View → ℕ → Me (Unit {0}) View → Type 0
 StoredPin st m n m' = (m'.1 ≡ m.1) × (m'.0 ≡ storing_pin (st.word - 65) m.0)

@@ -98,7 +98,7 @@ impl Order {
         requires stands { IsInRole W.role W.made }
         requires may { MayMake seat.old.view W.role W.made W.target }
         requires role { Owns seat.old.view W.role × Owns seat.old.view (caller_line W.made.caller) }
-        requires room { length (known seat.old.view W.role) < 4294967295 }
+        requires room { length (known seat.old.view W.role) < u32.MAX }
         ensures seat { (seat.new.order ≡ seat.old.order)
             × (seat.new.view ≡ appended seat.old.view W.role (kept seat.old.view W.made W.target W.freed result)) }
         ensures grows { GrowsByEntry seat.old.view seat.new.view W.role
@@ -141,7 +141,7 @@ impl Order {
         requires stands { IsInRole (role_line role) made.now }
         requires may { MayMake seat.old.view (role_line role) made.now target }
         requires role { Owns seat.old.view (role_line role) × Owns seat.old.view (caller_line made.now.caller) }
-        requires room { length (known seat.old.view (role_line role)) < 4294967295 }
+        requires room { length (known seat.old.view (role_line role)) < u32.MAX }
         ensures seat { (seat.new.order ≡ seat.old.order)
             × (seat.new.view ≡ appended seat.old.view (role_line role)
             (kept seat.old.view made.now target freed.now result)) }
@@ -356,7 +356,7 @@ impl Order {
         ensures says { Owns seat.old.view 0 → NoDebt seat.old.view → result ≡ says_word (known seat.old.view 0) cell.0 }
         ensures owner { Owns seat.old.view 0
             → CellIs (known seat.old.view 0) seat.old.view.holds (at false seat.old.view.debts cell.0) cell.0 result }
-        ensures small { result ≤ 4294967296 }
+        ensures small { result ≤ 2 ^ 32 }
         ensures unset { NoDebt seat.old.view → result ≡ 0 → (y : KeptEntry)
             → Stands (known seat.old.view 0) y → SetsCell y cell.0 → ⊥ }
     {
@@ -394,7 +394,7 @@ impl Order {
         ensures own { Owns seat.old.view (reader + 10) → seat.old.view.fill ≡ 0
             → seat.old.view.empty ≡ 0 → result ≡ pin (known seat.old.view (reader + 10)) }
         ensures small { Owns seat.old.view 0 ⊎ Owns seat.old.view (reader + 10)
-            → seat.old.view.empty ≡ 0 → result ≤ 4294967296 }
+            → seat.old.view.empty ≡ 0 → result ≤ 2 ^ 32 }
         ensures held { Owns seat.old.view 0 → seat.old.view.empty ≡ 0
             → (m : ℕ) → result ≡ m + 1 → IsHeld (known seat.old.view 0) reader m }
     {
@@ -414,7 +414,7 @@ impl Order {
         ensures scanned { seat.new.view.scanned ≡ scanned_row result }
         ensures all { all_scanned 8 seat.new.view.scanned ≡ true }
         ensures kept { (i w : ℕ) → slice_get result i ≡ Some w → at 0 (pin_row seat.new.view.scanned) (i + 1) ≡ w }
-        ensures small { (i w : ℕ) → slice_get result i ≡ Some w → w ≤ 4294967296 }
+        ensures small { (i w : ℕ) → slice_get result i ≡ Some w → w ≤ 2 ^ 32 }
         ensures held { (i m : ℕ) → i < 8 → slice_get result i ≡ Some (m + 1)
             → IsHeld (known seat.old.view 0) (i + 1) m }
     {

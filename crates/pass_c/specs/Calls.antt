@@ -1,5 +1,5 @@
 -- The graph of the arrays, as it is made.
-use Rattle.std.specs.Prelude.{◌≡◌, ◌≢◌, ℕ, ◌+◌, ◌<◌, ◌≤◌, ◌⊎◌, ◌↔◌, List, length, Option, Some, None, false}
+use Rattle.std.specs.Prelude.{◌≡◌, ◌-◌, ◌≢◌, ℕ, ◌+◌, ◌<◌, ◌≤◌, ◌⊎◌, ◌↔◌, List, length, Option, Some, None, false}
 use Rattle.std.specs.Prelude.{if◌then◌else◌, nat_eq, slice_get, slice_index}
 use Rattle.joint_machine.specs.declared.names.HNum.{HNum}
 use Rattle.bridge_graph.specs.declared.graph.Node.{Node}
@@ -8,6 +8,7 @@ use Rattle.bridge_graph.specs.declared.packing.Link.{Link}
 use Rattle.pass_c.specs.declared.arrays.PassCounts.{PassCounts}
 use Rattle.pass_c.specs.Found.{AreCounted, AreShort, AreWritten, all_of}
 use Rattle.joint_machine.specs.Components.{Rises}
+use Rattle.joint_machine.specs.Numbers.{u32_max}
 
 -- a made graph has those bridge nodes and edges
 pub record IsMade (bridge : ℕ → Type 0) (edge : ℕ → ℕ → Type 0)
@@ -17,7 +18,7 @@ pub record IsMade (bridge : ℕ → Type 0) (edge : ℕ → ℕ → Type 0)
 
 -- so many nodes, or so many edges, can't be numbered
 abbrev pub IsTooLong : ℕ → ℕ → Type 0
-IsTooLong nodes edges = (4294967294 < nodes) ⊎ (4294967295 < edges)
+IsTooLong nodes edges = (u32_max - 1 < nodes) ⊎ (u32_max < edges)
 
 abbrev pub handle_by : ℕ → ℕ → Option HNum
 handle_by kind number = if nat_eq kind 0 then None else Some record { 0 = number }

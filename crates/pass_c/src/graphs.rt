@@ -1,6 +1,6 @@
 // From a caller's arrays to a graph.
 
-ghost use Rattle.std.specs.Prelude.{◌≡◌, ℕ, ◌+◌, ◌<◌, ◌≤◌, ◌⊎◌, length, All, Err, IfOk, MatchBool, IsTrue, ◌↔◌};
+ghost use Rattle.std.specs.Prelude.{◌≡◌, ◌-◌, ℕ, ◌+◌, ◌<◌, ◌≤◌, ◌⊎◌, length, All, Err, IfOk, MatchBool, IsTrue, ◌↔◌};
 ghost use Rattle.pass_c.specs.Found.{AreEdges, AreInOrder, AreRows, HasEdge, IsBridgeAt, LeadsInRow};
 ghost use Rattle.pass_c.specs.Calls.{HasNodes, IsMade, IsTooLong, handle_by};
 
@@ -126,7 +126,7 @@ fn are_edges(nodes: usize, edges: &[Link]) -> bool
 
 // A node for each kind, numbered from 1.
 fn nodes_of(alloc: Global, kinds: &[u8]) -> Result<Vec<Node>, AllocError>
-    requires few { length kinds.now ≤ 4294967294 }
+    requires few { length kinds.now ≤ u32.MAX - 1 }
     ensures { IfOk result (λ v. HasNodes kinds.now (length kinds.now) v.items) }
 {
     let mut nodes = Vec::with_capacity(alloc, kinds.len())?;

@@ -1,6 +1,7 @@
 // From components to a caller's arrays.
 
-ghost use Rattle.std.specs.Prelude.{◌≡◌, ◌≢◌, ℕ, ◌+◌, ◌<◌, ◌≤◌, ◌⊎◌, ◌++◌, length, map, take, IfSome, Some, slice_get};
+ghost use Rattle.std.specs.Prelude.{◌≡◌, ◌^◌, ◌≢◌, ℕ, ◌+◌, ◌<◌, ◌≤◌, ◌⊎◌, ◌++◌, length, map, take, IfSome, Some};
+ghost use Rattle.std.specs.Prelude.{slice_get};
 ghost use Rattle.pass_c.specs.Found.{all_of, flat, pair_of};
 ghost use Rattle.pass_c.specs.Calls.{Gives};
 
@@ -99,7 +100,7 @@ fn write_members(found: &Components, heavy: u32, starts: &mut [u32], members: &m
     requires heavy { heavy ≤ found.now.heavy }
     requires starts { length (all_of found.now.comps heavy) ≤ length starts.old }
     requires members { length (flat (all_of found.now.comps heavy)) ≤ length members.old }
-    requires few { length (flat (all_of found.now.comps heavy)) < 4294967296 }
+    requires few { length (flat (all_of found.now.comps heavy)) < 2 ^ 32 }
     ensures starts { (c : ℕ) → c < length (all_of found.now.comps heavy)
         → slice_get starts.new c ≡ Some (length (flat (take c (all_of found.now.comps heavy)))) }
     ensures members { take (length (flat (all_of found.now.comps heavy))) members.new ≡ flat

@@ -14,6 +14,7 @@ use Rattle.joint_machine.specs.Peers.{peer_of}
 use Rattle.joint_machine.specs.PeerReplay.{PeerReplay, Mirror, HasReference, row_of, strong_peers}
 use Rattle.peer_heap.specs.declared.mirroring.OpenMirror.{OpenMirror}
 use Rattle.peer_heap.specs.Mirroring.{strong_row}
+use Rattle.joint_machine.specs.Numbers.{u32_max}
 
 -- the cycle that an entry mirrors, and the handle that it weakens or restores
 abbrev pub mirrored_at : Op → List ℕ
@@ -90,13 +91,13 @@ owes m = owed_by m.mirror + owed_next m.next
 -- the numbers of a mirrored cycle are small enough to be counted
 abbrev pub AreFew : Option OpenMirror → Type 0
 AreFew None = Unit {0}
-AreFew (Some m) = m.left + m.due ≤ 4294967295
+AreFew (Some m) = m.left + m.due ≤ u32_max
 
 -- what holds of the parts: the waiting references have the room that is said
 pub record IsMirroring (mirror : Option OpenMirror) (len room capacity : ℕ) : Type 0 where
   pub few : AreFew mirror
   pub space : len + room ≤ capacity
-  pub most : len + room ≤ 4294967295
+  pub most : len + room ≤ u32_max
 
 -- a handle is weak and has to be restored; one less has to be; and the cycle's own marking was begun
 abbrev pub weakened_one : OpenMirror → OpenMirror

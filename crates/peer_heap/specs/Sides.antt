@@ -35,6 +35,7 @@ use Rattle.peer_heap.specs.Mirrors.{Mirrors, AreMirrored, AreWithin, mirror_in, 
 use Rattle.peer_heap.specs.Rows.{Rows, with_rows}
 use Rattle.row_heap.specs.Marks.{EdgeOf}
 use Rattle.marking_laws.specs.Slices.{IsBlack}
+use Rattle.joint_machine.specs.Numbers.{u32_max}
 
 -- what is reserved for mirrored cycles: the references that wait, and for how many more and for how many temporaries
 -- there is room; for how many handles room is taken for the cycle that is mirrored next; and how many handles the
@@ -230,7 +231,7 @@ pub record IsSide (rows : Rows) (o : Option OpenMarking) (markings : ℕ) (m : M
   pub replayed : IsReplayed peer_rules stock.entries (state_with stock.entries rows o markings m)
   pub kept : IsPeerKept (state_with stock.entries rows o markings m)
   pub room : rows.tabled + owed o + owes m ≤ stock.spare
-  pub limit : length stock.entries + stock.spare ≤ 4294967295
+  pub limit : length stock.entries + stock.spare ≤ u32_max
   pub few : markings ≤ length stock.entries
   pub issued : length rows.issued ≤ length stock.entries
   pub from : IsFrom o (length stock.entries)
@@ -240,7 +241,7 @@ pub record IsSide (rows : Rows) (o : Option OpenMarking) (markings : ℕ) (m : M
   pub refs_room : length m.waiting + m.room ≤ rows.rows.room
   pub temps_room : m.temps ≤ rows.rows.temps
   pub temps_within : AreWithin rows.rows.temps m.waiting
-  pub few_refs : length rows.rows.refs ≤ 4294967295
+  pub few_refs : length rows.rows.refs ≤ u32_max
 
 -- the list of grey peers is one, and the open marking goes on with it
 pub record AreGoing (rows : Rows) (o : Option OpenMarking)

@@ -203,7 +203,7 @@ fn take_cycle(entries: &mut Entries, kept: u64, handles: u32) -> Result<(), Allo
     ensures room { OnOk result (kept + 2 * handles + 4 ≤ entries.new.spare) }
     ensures kept { entries.old.spare ≤ entries.new.spare }
     ensures entries { entries.new.entries ≡ entries.old.entries }
-    ensures limit { OnOk result (length entries.new.entries + entries.new.spare ≤ 4294967295) }
+    ensures limit { OnOk result (length entries.new.entries + entries.new.spare ≤ u32.MAX) }
     ensures err { OnErr result (entries.new ≡ entries.old) }
 {
     if handles > 1 << 30 {
@@ -224,7 +224,7 @@ fn note<D: Draw>(
 ) -> u64
     requires spare { 1 ≤ entries.old.spare }
     requires below { AllBelow entries.old.entries (D.rules.floor draw.old) }
-    requires room { 4294967295 ≤ D.rules.left draw.old + length entries.old.entries }
+    requires room { u32.MAX ≤ D.rules.left draw.old + length entries.old.entries }
     requires may { D.rules.may draw.old Thread.C op None }
     ensures draws { DrawsLast D.rules draw.old draw.new entries.old.entries entries.new.entries
         (record { caller = Thread.C; index = index; op = op; reply = reply; cites = cites }) None [] }

@@ -27,12 +27,13 @@ pub(crate) struct Issues {
 impl Model for Issues {
     ghost use Rattle.std.specs.Prelude.{List, map, vec_capacity, ◌≤◌};
     ghost use Rattle.peer_heap.specs.declared.issues.Issue.{Issue};
+    ghost use Rattle.joint_machine.specs.Numbers.{u32_max};
 
     ghost Value = { List Issue };
 
     ghost view = { λ s. map (λ i. i.value) s.list.items };
 
-    ghost invariant = { λ s. 4294967295 ≤ vec_capacity s.list };
+    ghost invariant = { λ s. u32_max ≤ vec_capacity s.list };
 }
 
 impl Issues {
@@ -47,7 +48,7 @@ impl Issues {
 
     /// A further handle was issued.
     pub(crate) fn push(&mut self, issue: Issue)
-        requires { length self.old < 4294967295 }
+        requires { length self.old < u32.MAX }
         ensures { self.new ≡ self.old ++ issue ∷ [] }
     {
         self.list.push_reserved(Snapshot::of(&issue));

@@ -89,7 +89,7 @@ impl PeerRows {
     pub(crate) fn restore(&mut self, h: HNum, is_open: bool, grey: &mut u32) -> Back
         requires tabled { (row : TableRow) × (row_at self.old h.0 ≡ Some row) }
         requires live { AreTargetsLive self.old }
-        requires last { length self.old.issued < 4294967295 }
+        requires last { length self.old.issued < u32.MAX }
         ensures { RestoresHandle is_open self.old grey.old h.0 result self.new grey.new }
     {
         self.recall_issued_rows();
@@ -114,7 +114,7 @@ impl PeerRows {
     // comes in its place.
     fn renew(&mut self, h: HNum) -> Back
         requires tabled { (row : TableRow) × (row_at self.old h.0 ≡ Some row) }
-        requires last { length self.old.issued < 4294967295 }
+        requires last { length self.old.issued < u32.MAX }
         ensures { RestoresRow self.old h.0 result self.new }
     {
         let Some(row) = self.table.row(h) else {

@@ -104,7 +104,7 @@ impl Mirroring {
     /// The references that wait.
     pub(crate) fn waiting(&self) -> &[(End, End)]
         ensures waiting { map ends_of result.now ≡ self.now.waiting }
-        ensures most { length result.now + self.now.room ≤ 4294967295 }
+        ensures most { length result.now + self.now.room ≤ u32.MAX }
     {
         self.waiting.as_slice()
     }
@@ -205,7 +205,7 @@ impl OpenMirror {
     /// One more handle is weak, and has to be restored.
     pub(crate) fn weakened(self) -> OpenMirror
         requires left { 1 ≤ self.left }
-        requires few { self.left + self.due ≤ 4294967295 }
+        requires few { self.left + self.due ≤ u32.MAX }
         ensures { result ≡ weakened_one self }
     {
         OpenMirror {

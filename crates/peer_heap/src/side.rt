@@ -762,9 +762,9 @@ fn room_to_mark(
     requires most { kept ≤ 2 ^ 42 }
     requires own { own ≡ true → is_to_mark mirroring.old.mirror ≡ true }
     requires room { kept ≤ entries.old.spare }
-    requires limit { length entries.old.entries + entries.old.spare ≤ 4294967295 }
+    requires limit { length entries.old.entries + entries.old.spare ≤ u32.MAX }
     ensures room { OnOk result (kept + owes mirroring.new + 2 ≤ entries.new.spare + owes mirroring.old) }
-    ensures limit { OnOk result (length entries.new.entries + entries.new.spare ≤ 4294967295) }
+    ensures limit { OnOk result (length entries.new.entries + entries.new.spare ≤ u32.MAX) }
     ensures entries { entries.new.entries ≡ entries.old.entries }
     ensures mirroring { OnOk result (mirroring.new ≡ mirrors_begun own mirroring.old) }
     ensures own { own ≡ true → IsOk result }
@@ -806,7 +806,7 @@ pub(crate) fn take_room(entries: &mut Entries, kept: u64, more: u32) -> Result<(
     ensures room { OnOk result (kept + more ≤ entries.new.spare) }
     ensures kept { entries.old.spare ≤ entries.new.spare }
     ensures entries { entries.new.entries ≡ entries.old.entries }
-    ensures limit { OnOk result (length entries.new.entries + entries.new.spare ≤ 4294967295) }
+    ensures limit { OnOk result (length entries.new.entries + entries.new.spare ≤ u32.MAX) }
     ensures err { OnErr result (entries.new ≡ entries.old) }
 {
     let all = kept + more as u64;
@@ -821,11 +821,11 @@ pub(crate) fn take_room(entries: &mut Entries, kept: u64, more: u32) -> Result<(
 fn make_room(entries: &mut Entries, kept: u64, op: &Op) -> Result<(), AllocError>
     requires most { kept ≤ 2 ^ 42 }
     requires room { kept ≤ entries.old.spare }
-    requires limit { length entries.old.entries + entries.old.spare ≤ 4294967295 }
+    requires limit { length entries.old.entries + entries.old.spare ≤ u32.MAX }
     ensures room { OnOk result (room_for op.now kept ≤ entries.new.spare) }
     ensures kept { entries.old.spare ≤ entries.new.spare }
     ensures entries { entries.new.entries ≡ entries.old.entries }
-    ensures limit { length entries.new.entries + entries.new.spare ≤ 4294967295 }
+    ensures limit { length entries.new.entries + entries.new.spare ≤ u32.MAX }
     ensures release { IsRelease op.now → IsOk result }
     ensures err { OnErr result (entries.new ≡ entries.old) }
 {

@@ -14,7 +14,7 @@ use std::test::Fail;
 
 // Reads a report, writes it again, and compares.
 fn expect_again<R: Abort>(rt: &R, alloc: Global, report: &[u8]) -> Result<(), AllocError>
-    requires { length report.now < 4294967295 }
+    requires { length report.now < u32.MAX }
 {
     let history = match read_report(alloc, report) {
         Ok(history) => history,

@@ -9,6 +9,7 @@ use Rattle.joint_machine.specs.Histories.{Finished, IsHistory}
 use Rattle.history_report.specs.Report.{report}
 use Rattle.entry_reader.specs.Fitting.{Short, FitsTypes}
 use Rattle.entry_reader.specs.Meant.{IsMeant}
+use Rattle.joint_machine.specs.Numbers.{u32_max}
 
 -- a history as a value of the program, lawful or not: what every history keeps, and each number fits its type
 pub record IsValue (h : Finished) : Type 0 where
@@ -58,9 +59,9 @@ pub record HasJust (h : Finished) (e : Ends) : Type 0 where
   pub managed : length h.freed_managed ≡ e.managed
   pub peers : length h.freed_peers ≡ e.peers
   pub notices : length h.notices ≡ e.notices
-  pub few_managed : e.managed ≤ 4294967295
-  pub few_peers : e.peers ≤ 4294967295
-  pub few_notices : e.notices ≤ 4294967295
+  pub few_managed : e.managed ≤ u32_max
+  pub few_peers : e.peers ≤ u32_max
+  pub few_notices : e.notices ≤ u32_max
 
 -- the history is the one that is meant by its text: each reply is the one that its event has, and the lists are what
 -- the spans name, one behind another

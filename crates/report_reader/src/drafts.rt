@@ -91,7 +91,7 @@ impl Draft {
     // Puts an entry last.
     #[inline(always)]
     fn put(&mut self, entry: Entry) -> Result<(), AllocError>
-        requires few { length self.old.entries < 4294967295 }
+        requires few { length self.old.entries < u32.MAX }
         ensures entries { IfOk result (λ _. self.new.entries ≡ self.old.entries ++ entry ∷ []) }
         ensures lists { self.new.lists ≡ self.old.lists }
     {
@@ -105,7 +105,7 @@ impl Draft {
     fn read_any<'a>(&mut self, bytes: &'a [u8]) -> Result<&'a [u8], ReportError>
         requires some { 0 < length bytes.now }
         requires not_last { slice_index bytes.now 0 ≢ 101 }
-        requires few { length self.old.entries < 4294967295 }
+        requires few { length self.old.entries < u32.MAX }
         ensures ok { IfOk result (λ left. ReadsLine self.old self.new bytes.now left.now) }
         ensures err { IfErr result (λ error. IsLineError (length self.old.entries) bytes.now error) }
     {
@@ -127,7 +127,7 @@ impl Draft {
     pub(crate) fn read_line<'a>(&mut self, bytes: &'a [u8]) -> Result<&'a [u8], ReportError>
         requires some { 0 < length bytes.now }
         requires not_last { slice_index bytes.now 0 ≢ 101 }
-        requires few { length self.old.entries < 4294967295 }
+        requires few { length self.old.entries < u32.MAX }
         ensures ok { IfOk result (λ left. ReadsLine self.old self.new bytes.now left.now) }
         ensures err { IfErr result (λ error. IsLineError (length self.old.entries) bytes.now error) }
     {

@@ -1,6 +1,6 @@
 // The last line of a report.
 
-ghost use Rattle.std.specs.Prelude.{◌≡◌, ◌≢◌, ℕ, ◌+◌, ◌<◌, ◌≤◌, ◌⊎◌, ◌^◌, ◌++◌, [], length, slice_index, codes};
+ghost use Rattle.std.specs.Prelude.{◌≡◌, ◌-◌, ◌≢◌, ℕ, ◌+◌, ◌<◌, ◌≤◌, ◌⊎◌, ◌^◌, ◌++◌, [], length, slice_index, codes};
 ghost use Rattle.std.specs.Prelude.{decimal, MatchOption, MatchResult};
 ghost use Rattle.history_report.specs.Report.{end_text};
 ghost use Rattle.report_reader.specs.Steps.{IsEndError, IsMoreError};
@@ -23,7 +23,7 @@ fn end_number(text: &[u8]) -> Option<u64>
 
 // That nothing stands behind the last line, which is the last of so many.
 fn judge_rest(bytes: &[u8], lines: u32) -> Result<(), ReportError>
-    requires { lines + length bytes.now ≤ 4294967295 }
+    requires { lines + length bytes.now ≤ u32.MAX }
     ensures { MatchResult result (λ _. bytes.now ≡ []) (λ error. IsMoreError lines bytes.now error) }
 {
     if bytes.is_empty() {
@@ -36,7 +36,7 @@ fn judge_rest(bytes: &[u8], lines: u32) -> Result<(), ReportError>
 /// That the bytes are the last line of a report of so many entries, and no more.
 pub(crate) fn judge_end(bytes: &[u8], entries: u32) -> Result<(), ReportError>
     requires last { (bytes.now ≡ []) ⊎ (slice_index bytes.now 0 ≡ 101) }
-    requires few { entries + length bytes.now ≤ 4294967294 }
+    requires few { entries + length bytes.now ≤ u32.MAX - 1 }
     ensures { MatchResult result (λ _. bytes.now ≡ end_text entries) (λ error. IsEndError entries bytes.now error) }
 {
     if bytes.is_empty() {

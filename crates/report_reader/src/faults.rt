@@ -68,7 +68,7 @@ impl From<AllocError> for ReportError {
 
 /// The refusal of a line behind so many others.
 pub(crate) fn refusal(before: u32, cause: ReportCause) -> ReportError
-    requires { before < 4294967295 }
+    requires { before < u32.MAX }
     ensures { result ≡ ReportError.Refused (record { line = before + 1; cause = cause }) }
 {
     ReportError::Refused(ReportFault {

@@ -1,6 +1,6 @@
 // A report, read line by line.
 
-ghost use Rattle.std.specs.Prelude.{◌≡◌, ◌≢◌, ◌+◌, ◌<◌, ◌≤◌, ◌⊎◌, [], length, slice_index, IfOk, IfErr};
+ghost use Rattle.std.specs.Prelude.{◌≡◌, ◌-◌, ◌≢◌, ◌+◌, ◌<◌, ◌≤◌, ◌⊎◌, [], length, slice_index, IfOk, IfErr};
 ghost use Rattle.report_reader.specs.Reading.{IsReadAs};
 ghost use Rattle.report_reader.specs.Answers.{IsReportRefusal};
 ghost use Rattle.report_reader.specs.Steps.{ReadsTo, IsFrontError};
@@ -13,11 +13,11 @@ use std::alloc::Global;
 
 // Reads the lines of entries, up to the first that begins as a last line does, and answers what is left from there on.
 fn read_entries<'a>(bytes: &'a [u8], draft: &mut Draft) -> Result<&'a [u8], ReportError>
-    requires few { length bytes.now < 4294967295 }
+    requires few { length bytes.now < u32.MAX }
     requires none { draft.old.entries ≡ [] }
     ensures ok { IfOk result (λ left. ReadsTo draft.old draft.new bytes.now left.now) }
     ensures last { IfOk result (λ left. (left.now ≡ []) ⊎ (slice_index left.now 0 ≡ 101)) }
-    ensures few { IfOk result (λ left. length draft.new.entries + length left.now ≤ 4294967294) }
+    ensures few { IfOk result (λ left. length draft.new.entries + length left.now ≤ u32.MAX - 1) }
     ensures err { IfErr result (λ error. IsFrontError draft.old bytes.now error) }
 {
     let mut left = bytes;
@@ -34,7 +34,7 @@ fn read_entries<'a>(bytes: &'a [u8], draft: &mut Draft) -> Result<&'a [u8], Repo
 /// history has this report, lawful or not, with the first line that has a cause: see
 /// [`ReportCause`](crate::ReportCause). The time goes by the number of bytes.
 pub fn read_report(alloc: Global, bytes: &[u8]) -> Result<History, ReportError>
-    requires { length bytes.now < 4294967295 }
+    requires { length bytes.now < u32.MAX }
     ensures ok { IfOk result (λ h. IsReadAs bytes.now h) }
     ensures err { IfErr result (λ error. IsReportRefusal bytes.now error) }
 {

@@ -7,6 +7,7 @@ use Rattle.reachability.specs.Marks.{HasMark}
 use Rattle.row_heap.specs.declared.references.End.{End}
 use Rattle.row_heap.specs.declared.references.End.TheVariants.{Object, Temporary}
 use Rattle.row_heap.specs.declared.references.Reference.{Reference}
+use Rattle.joint_machine.specs.Numbers.{u32_max}
 
 -- an end as the definition has it
 abbrev pub end_of : End → exact.End
@@ -82,7 +83,7 @@ pub record AreLinked (list : List Reference) (objects temporaries : List ℕ)
   pub few : length temporaries ≤ 4294901760
   pub reach : 1 ≤ room → 65536 ≤ length objects
   pub space : length list + room ≤ capacity
-  pub most : length list + room ≤ 4294967295
+  pub most : length list + room ≤ u32_max
 
 -- the ends of a list have no references any more, and nothing else changed
 pub record FirstsCleared (ends : List exact.End) (old new : exact.End → ℕ) : Type 0 where

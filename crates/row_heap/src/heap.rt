@@ -134,7 +134,7 @@ impl<N: Number> RowHeap<N> {
 
     /// What the variable at a place names.
     pub fn var(&self, place: usize) -> Option<u32>
-        requires { place < 72 }
+        requires { place < VARS }
         ensures value { slot self.now.heap.vars place ≡ result }
         ensures live { IfSome result (IsLive self.now.heap) }
     {
@@ -204,7 +204,7 @@ impl<N: Number> RowHeap<N> {
 
     /// The variable at a place names object `x`, or nothing.
     pub fn set_var(&mut self, place: usize, x: Option<u32>)
-        requires place { place < 72 }
+        requires place { place < VARS }
         requires live { ForSome x (IsLive self.old.heap) }
         ensures { self.new ≡ record self.old { heap = with_var self.old.heap place x } }
     {

@@ -9,12 +9,13 @@ ghost use Rattle.row_heap.specs.Marks.{is_given, overwritten};
 
 use crate::heap::RowHeap;
 use heap_rules::{Done, Number};
+use joint_machine::VARS;
 
 impl<N: Number> RowHeap<N> {
     /// `copy V W`: V names the object of W.
     pub fn copy(&mut self, v: usize, w: usize) -> Done
-        requires v { v < 72 }
-        requires w { w < 72 }
+        requires v { v < VARS }
+        requires w { w < VARS }
         ensures done { Did (λ name. copied name self.old.heap v w) result self.new.heap }
         ensures rest { self.new ≡ record self.old { heap = self.new.heap } }
     {
@@ -29,8 +30,8 @@ impl<N: Number> RowHeap<N> {
 
     /// `set V I W`: field I of V's object holds W's object; with no W it holds nothing.
     pub fn set(&mut self, v: usize, i: usize, w: Option<usize>) -> Done
-        requires v { v < 72 }
-        requires w { ForSome w (λ place. place < 72) }
+        requires v { v < VARS }
+        requires w { ForSome w (λ place. place < VARS) }
         ensures done { Did (λ name. field_set self.old.heap v i w) result self.new.heap }
         ensures rest { self.new ≡ record self.old { heap = self.new.heap } }
     {
@@ -48,8 +49,8 @@ impl<N: Number> RowHeap<N> {
 
     /// What `set V I W` would take out of its field: nothing where it writes no field, or where the field is empty.
     pub fn overwritten(&self, v: usize, i: usize, w: Option<usize>) -> Option<u32>
-        requires v { v < 72 }
-        requires w { ForSome w (λ place. place < 72) }
+        requires v { v < VARS }
+        requires w { ForSome w (λ place. place < VARS) }
         ensures value { result ≡ overwritten self.now.heap v i w }
         ensures live { IfSome result (IsLive self.now.heap) }
     {
@@ -69,7 +70,7 @@ impl<N: Number> RowHeap<N> {
 
     // Whether a variable names an object; where no variable is given nothing is asked.
     fn is_given(&self, w: Option<usize>) -> bool
-        requires { ForSome w (λ place. place < 72) }
+        requires { ForSome w (λ place. place < VARS) }
         ensures { result ≡ is_given self.now.heap w }
     {
         match w {
@@ -82,7 +83,7 @@ impl<N: Number> RowHeap<N> {
     fn store_field(&mut self, x: u32, i: usize, w: Option<usize>) -> Done
         requires live { IsLive self.old.heap x }
         requires index { i < length (fields_of self.old.heap x) }
-        requires w { ForSome w (λ place. place < 72) }
+        requires w { ForSome w (λ place. place < VARS) }
         ensures done { Did (λ name. field_stored self.old.heap x i w) result self.new.heap }
         ensures rest { self.new ≡ record self.old { heap = self.new.heap } }
     {
@@ -103,7 +104,7 @@ impl<N: Number> RowHeap<N> {
 
     // The variable at a place names what was read.
     fn read(&mut self, v: usize, x: Option<u32>) -> Done
-        requires v { v < 72 }
+        requires v { v < VARS }
         requires live { ForSome x (IsLive self.old.heap) }
         ensures done { Did (λ name. read_into name self.old.heap v x) result self.new.heap }
         ensures rest { self.new ≡ record self.old { heap = self.new.heap } }
@@ -117,8 +118,8 @@ impl<N: Number> RowHeap<N> {
 
     /// `get V W I`: V names the object in field I of W's object.
     pub fn get(&mut self, v: usize, w: usize, i: usize) -> Done
-        requires v { v < 72 }
-        requires w { w < 72 }
+        requires v { v < VARS }
+        requires w { w < VARS }
         ensures done { Did (λ name. field_got name self.old.heap v w i) result self.new.heap }
         ensures rest { self.new ≡ record self.old { heap = self.new.heap } }
     {
@@ -137,7 +138,7 @@ impl<N: Number> RowHeap<N> {
 
     /// `drop V`: V names nothing.
     pub fn drop(&mut self, v: usize) -> Done
-        requires { v < 72 }
+        requires { v < VARS }
         ensures done { Did (λ name. dropped self.old.heap v) result self.new.heap }
         ensures rest { self.new ≡ record self.old { heap = self.new.heap } }
     {
@@ -147,7 +148,7 @@ impl<N: Number> RowHeap<N> {
 
     /// `load V x`: V names the object of static `s`.
     pub fn load(&mut self, v: usize, s: usize) -> Done
-        requires v { v < 72 }
+        requires v { v < VARS }
         requires number { s < 16 }
         ensures done { Did (λ name. loaded name self.old.heap v s) result self.new.heap }
         ensures rest { self.new ≡ record self.old { heap = self.new.heap } }
@@ -159,7 +160,7 @@ impl<N: Number> RowHeap<N> {
     /// `store x V`: static `s` holds V's object; with no V it holds nothing.
     pub fn store(&mut self, s: usize, v: Option<usize>) -> Done
         requires number { s < 16 }
-        requires v { ForSome v (λ place. place < 72) }
+        requires v { ForSome v (λ place. place < VARS) }
         ensures done { Did (λ name. stored self.old.heap s v) result self.new.heap }
         ensures rest { self.new ≡ record self.old { heap = self.new.heap } }
     {

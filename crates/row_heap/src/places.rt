@@ -268,7 +268,7 @@ fn take_room(
         × (marks.new.items ≡ marks.old.items) × (links.new.items ≡ links.old.items) }
     ensures room { OnOk result (HasRoomFor slab.new 1 × (vec_len places.new < vec_capacity places.new)
         × (vec_len marks.new < vec_capacity marks.new) × (vec_len links.new < vec_capacity links.new)) }
-    ensures key { OnOk result (slab.new.vacant_key ≤ 4294967295) }
+    ensures key { OnOk result (slab.new.vacant_key ≤ u32.MAX) }
 {
     if slab.vacant_key() > u32::MAX as usize {
         return Err(AllocError);

@@ -167,7 +167,7 @@ impl References {
     /// How many references there are.
     pub(crate) fn len(&self) -> usize
         ensures len { result ≡ length self.now.refs }
-        ensures most { result ≤ 4294967295 }
+        ensures most { result ≤ u32.MAX }
     {
         self.list.len()
     }

@@ -137,7 +137,7 @@ fn is_freed_at(h: &History, i: u32, m: MNum) -> bool
 /// there.
 pub(crate) fn freed_as_named(h: &History, freed: &[MNum], span: Span) -> bool
     requires within { span.first ≤ length freed.now }
-    requires few { length freed.now ≤ 4294967295 }
+    requires few { length freed.now ≤ u32.MAX }
     ensures { IsTrue result ↔ StandsInList (managed_numbers h.now.freed_managed) span (managed_numbers freed.now) }
 {
     let many = freed.len() as u32;
@@ -172,7 +172,7 @@ fn is_peer_freed_at(h: &History, i: u32, p: PNum) -> bool
 /// The same of peers.
 pub(crate) fn peers_as_named(h: &History, freed: &[PNum], span: Span) -> bool
     requires within { span.first ≤ length freed.now }
-    requires few { length freed.now ≤ 4294967295 }
+    requires few { length freed.now ≤ u32.MAX }
     ensures { IsTrue result ↔ StandsInList (peer_numbers h.now.freed_peers) span (peer_numbers freed.now) }
 {
     let many = freed.len() as u32;

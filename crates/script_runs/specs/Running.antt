@@ -27,11 +27,12 @@ use Rattle.run_laws.specs.Waits.{WaitsEnd}
 use Rattle.view_laws.specs.Knowing.{IsDrawnView}
 use Rattle.script_runs.specs.declared.lines.ReadCall.{ReadCall}
 use Rattle.script_runs.specs.declared.lines.ReadCall.TheVariants as reads
+use Rattle.joint_machine.specs.Numbers.{u32_max}
 
 -- the lines can be run: each is one that a script can have, and their numbers are of 32 bits
 pub record CanRun (script : List (Thread × Act)) : Type 0 where
   pub each : All IsScriptLine script
-  pub count : length script ≤ 4294967295
+  pub count : length script ≤ u32_max
 
 -- a caller made the entries of a line, and the driver stands where it stood
 pub record MakesLine (t : Thread) (old new : View) (index : ℕ) (a : Act) : Type 0 where

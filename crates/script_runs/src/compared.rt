@@ -113,7 +113,7 @@ fn list_cycle<N: OrderName, O: Sink>(
     out: &mut O,
 ) -> Result<(), AllocError>
     requires busy { ¬ (driver.now.phase ≡ Idle) }
-    requires few { listing.old.cycles < 4294967295 }
+    requires few { listing.old.cycles < u32.MAX }
     ensures { Lists result listing.old listing.new (O.held out.old) (O.held out.new)
         (O.faults out.old) (O.faults out.new) (λ _ cycles. ListsOne driver.now cycles) }
 {
@@ -141,7 +141,7 @@ fn open_listed<N: OrderName, O: Sink>(
 ) -> Result<(), AllocError>
     requires phase { driver.old.phase ≡ Idle }
     requires index { line_of driver.old ≤ index }
-    requires few { listing.old.cycles < 4294967295 }
+    requires few { listing.old.cycles < u32.MAX }
     ensures index { line_of driver.new ≤ index }
     ensures runs { OnOk result (RunsWords driver.old driver.new index (word.Snap ∷ [])) }
     ensures lists { Lists result listing.old listing.new (O.held out.old) (O.held out.new)
@@ -165,7 +165,7 @@ fn cycle_listed<N: OrderName, O: Sink>(
 ) -> Result<(), AllocError>
     requires phase { driver.old.phase ≡ Idle }
     requires index { line_of driver.old ≤ index }
-    requires few { listing.old.cycles < 4294967295 }
+    requires few { listing.old.cycles < u32.MAX }
     ensures index { line_of driver.new ≤ index }
     ensures runs { OnOk result (RunsWords driver.old driver.new index (phases_of word.Cycle)) }
     ensures lists { Lists result listing.old listing.new (O.held out.old) (O.held out.new)
@@ -190,7 +190,7 @@ fn drive_listed<N: OrderName, O: Sink>(
 ) -> Result<(), AllocError>
     requires act { IsLine C act.now }
     requires index { line_of driver.old ≤ index }
-    requires few { listing.old.cycles < 4294967295 }
+    requires few { listing.old.cycles < u32.MAX }
     ensures index { line_of driver.new ≤ index }
     ensures ok { OnOk result (DrivesLine driver.old driver.new index act.now) }
     ensures lists { Lists result listing.old listing.new (O.held out.old) (O.held out.new)
@@ -220,7 +220,7 @@ fn run_next_listed<N: OrderName, O: Sink>(
     requires others { AreOthers others.old.items }
     requires up_to { AreUpTo number others.old.items }
     requires driven { (line_of driver.old ≤ last) × (last ≤ number) }
-    requires few { listing.old.cycles < 4294967295 }
+    requires few { listing.old.cycles < u32.MAX }
     ensures others { OnOk result (AreOthers others.new.items) }
     ensures up_to { OnOk result (AreUpTo number others.new.items) }
     ensures driven { IfOk result (λ last. (line_of driver.new ≤ last) × (last ≤ number)) }

@@ -81,7 +81,7 @@ fn run_by_desk<N: OrderName + Send + Sync, R: Threads + Wait + Sync, T: Turnstil
     requires all { HasAll desk.old [] }
     requires counts { (desk.old.managed ≡ 8) × (desk.old.peers ≡ 8) }
     requires lines { CanRun script.now }
-    requires room { length script.now < 4294967295 }
+    requires room { length script.now < u32.MAX }
     ensures all { IfOk result (λ v. HasAll desk.new v.items) }
     ensures idle { IfOk result (λ v. All HasIdleDriver v.items) }
     ensures ran { IfOk result (λ v. (h : Finished) → IsFinished h → length h.entries < 2 ^ 64
@@ -111,7 +111,7 @@ fn run_named<N: OrderName + Send + Sync, R: Threads + Wait + Sync, T: Turnstile 
     requires run { (N.managed ≡ 8) × (N.peers ≡ 8) }
     requires seat { (seat.order ≡ N.order) × OwnsAll seat.view × KnowsNothing seat.view × Settled seat.view }
     requires lines { CanRun script.now }
-    requires room { length script.now < 4294967295 }
+    requires room { length script.now < u32.MAX }
     ensures history { IfOk result (λ e. IsRunThenCycle script.now e.history) }
     ensures counted { IfOk result HasEndNumbers }
 {
@@ -136,7 +136,7 @@ pub fn run_threads_then_cycle<R: Threads + Wait + Sync, T: Turnstile + Sync>(
     turn: &T,
 ) -> Result<RunEnd, AllocError>
     requires lines { CanRun script.now }
-    requires room { length script.now < 4294967295 }
+    requires room { length script.now < u32.MAX }
     ensures history { IfOk result (λ e. IsRunThenCycle script.now e.history) }
     ensures counted { IfOk result HasEndNumbers }
 {
@@ -154,7 +154,7 @@ pub fn run_serial_then_cycle(
 ) -> Result<RunEnd, AllocError>
     requires lines { CanRun script.items }
     requires cycles { DrivesCycles script.items }
-    requires room { length script.items < 4294967295 }
+    requires room { length script.items < u32.MAX }
     ensures in_order { IfOk result (λ e. IsRunInOrder (script.items ++ cycle_line ∷ []) e.history) }
     ensures history { IfOk result (λ e. IsRunThenCycle script.items e.history) }
     ensures counted { IfOk result HasEndNumbers }

@@ -15,6 +15,7 @@ use Rattle.order_table.specs.Owed.{mark, target_told}
 use Rattle.order_table.specs.Allowed.{MayDo, MaySet, OwesNone}
 use Rattle.order_table.specs.Views.{OrderId, Shown, known, Owns}
 use Rattle.seat_calls.specs.Paying.{IsPaid}
+use Rattle.joint_machine.specs.Numbers.{u32_max}
 
 -- the least number above all of a list, and above all of all lists
 abbrev pub top : List KeptEntry → ℕ
@@ -31,7 +32,7 @@ floor_of v = top_of v.known
 
 -- how many entries a role's list can take
 abbrev pub left_in : View → ℕ → ℕ
-left_in v r = 4294967295 - length (known v r)
+left_in v r = u32_max - length (known v r)
 
 -- the seat may make an entry of that event in that side's list, for that caller, and set its cell to that object
 pub record MayAppend (order : OrderId) (seat : Shown) (r : ℕ) (t : Thread) (o : Op) (m : Option MNum) : Type 0 where

@@ -1,6 +1,6 @@
 // The words of cells, after an entry that sets one or frees the targets of some.
 
-ghost use Rattle.std.specs.Prelude.{◌≡◌, ◌⊎◌, ℕ, ◌+◌, ◌<◌, ◌≤◌, ◌↔◌, Bool, true, false, IsTrue, MatchBool, Option};
+ghost use Rattle.std.specs.Prelude.{◌≡◌, ◌^◌, ◌⊎◌, ℕ, ◌+◌, ◌<◌, ◌≤◌, ◌↔◌, Bool, true, false, IsTrue, MatchBool, Option};
 ghost use Rattle.std.specs.Prelude.{None, Some, IfNone, IfSome, length};
 ghost use Rattle.joint_machine.specs.declared.names.MNum.{MNum};
 ghost use Rattle.joint_machine.specs.HistoryLines.{caller_line};
@@ -47,7 +47,7 @@ pub fn append_paid(
     requires stands { IsInRole (role_line role) made.now }
     requires may { MayMake seat.old.view (role_line role) made.now target }
     requires role { Owns seat.old.view (role_line role) × Owns seat.old.view (caller_line made.now.caller) }
-    requires room { length (known seat.old.view (role_line role)) < 4294967295 }
+    requires room { length (known seat.old.view (role_line role)) < u32.MAX }
     ensures order { seat.new.order ≡ order.now }
     ensures grows { GrowsByEntry seat.old.view seat.new.view
         (role_line role) (kept seat.old.view made.now target freed.now result) }
@@ -77,7 +77,7 @@ pub trait Lives {
 
 // Whether a cell's word says that its target is gone, or names an object that isn't live.
 fn is_gone<L: Lives>(side: &L, word: u64) -> bool
-    requires { word ≤ 4294967296 }
+    requires { word ≤ 2 ^ 32 }
     ensures { MatchBool result ((word ≡ 1) ⊎ ((m : ℕ) × (0 < m) × (word ≡ m + 1) × (L.live side.now m → ⊥)))
         ((word ≡ 0) ⊎ ((m : ℕ) × (0 < m) × (word ≡ m + 1) × L.live side.now m)) }
 {

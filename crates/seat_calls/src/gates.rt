@@ -1,6 +1,7 @@
 // The gate's way with a cycle, and a pin's with its thread.
 
-ghost use Rattle.std.specs.Prelude.{◌≡◌, ◌⊎◌, ℕ, ◌+◌, ◌<◌, ◌≤◌, IfErr, IfOk, MatchOption, OnErr, OnOk, Some, slice_get};
+ghost use Rattle.std.specs.Prelude.{◌≡◌, ◌^◌, ◌⊎◌, ℕ, ◌+◌, ◌<◌, ◌≤◌, IfErr, IfOk, MatchOption, OnErr, OnOk, Some};
+ghost use Rattle.std.specs.Prelude.{slice_get};
 ghost use Rattle.order_table.specs.Allowed.{OwesNone, Settled};
 ghost use Rattle.order_table.specs.Owed.{pin, scanned_row};
 ghost use Rattle.order_table.specs.Rule.{IsHeld};
@@ -21,7 +22,7 @@ pub fn close_and_scan(order: &Order, seat: &mut Seat, cycle: Cycle) -> Result<[u
     ensures order { seat.new.order ≡ order.now }
     ensures closes { OnOk result (ClosesFor seat.old.view seat.new.view cycle.0) }
     ensures scanned { IfOk result (λ ws. seat.new.view.scanned ≡ scanned_row ws) }
-    ensures small { IfOk result (λ ws. (i w : ℕ) → slice_get ws i ≡ Some w → w ≤ 4294967296) }
+    ensures small { IfOk result (λ ws. (i w : ℕ) → slice_get ws i ≡ Some w → w ≤ 2 ^ 32) }
     ensures held { IfOk result (λ ws. (i m : ℕ) → i < 8
         → slice_get ws i ≡ Some (m + 1) → IsHeld (known seat.old.view 0) (i + 1) m) }
     ensures err { OnErr result (seat.new.view ≡ seat.old.view) }

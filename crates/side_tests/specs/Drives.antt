@@ -7,10 +7,11 @@ use Rattle.joint_machine.specs.Draws.{AllBelow}
 use Rattle.joint_machine.specs.Managed.{OpenCycle}
 use Rattle.joint_machine.specs.ManagedReplay.{ManagedReplay}
 use Rattle.joint_machine.specs.Sides.{Side}
+use Rattle.joint_machine.specs.Numbers.{u32_max}
 
 -- each entry's number is below the count, and the count has room for a full list; and the side is for all eight threads
 abbrev pub IsCounted : {S : Type 0} → Side S → ℕ → Type 0
-IsCounted s count = AllBelow s.entries count × (4294967295 ≤ 2 ^ 63 - count + length s.entries) × (s.threads ≡ 8)
+IsCounted s count = AllBelow s.entries count × (u32_max ≤ 2 ^ 63 - count + length s.entries) × (s.threads ≡ 8)
 
 -- beside it each handle that a row of the managed side took is below the number of its entries and of the candidates
 -- that were answered, and an open cycle has so many candidates

@@ -416,7 +416,7 @@ fn next_handle(side: &ManagedSide, answered: u32) -> Option<u32>
 
 // So many answers, of which the one in place i is alive where bit i is set, with the handle i above the first.
 fn answers_of(alloc: Global, alive: u32, count: u32, first: u32) -> Result<Alive, AllocError>
-    requires { first + count ≤ 4294967295 }
+    requires { first + count ≤ u32.MAX }
     ensures count { IfOk result (λ a. length a.values ≡ count) }
     ensures from { IfOk result (λ a. AreFrom first a.values) }
 {

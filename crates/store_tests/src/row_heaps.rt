@@ -5,7 +5,7 @@ ghost use Rattle.joint_machine.specs.Heaps.{IsLive};
 ghost use Rattle.row_heap.specs.Marks.{AreEndsLive};
 
 use heap_rules::Done::{self, Empty, Null, Object, Range};
-use joint_model::PNum;
+use joint_model::{PNum, VARS};
 use row_heap::{End, RowHeap};
 use row_marking::visit;
 use std::alloc::AllocError;
@@ -50,18 +50,18 @@ const CALLS: [(Call, Done); 20] = [
 // What the heap answers; None where a place is none.
 fn answer(heap: &mut RowHeap<PNum>, call: &Call) -> Result<Option<Done>, AllocError> {
     Ok(match *call {
-        Call::Add(fields, v) if v < 72 && !heap.is_full() => {
+        Call::Add(fields, v) if v < VARS && !heap.is_full() => {
             let x = heap.add_object(fields)?;
             heap.set_var(v, Some(x));
             Some(Object(x))
         }
-        Call::Copy(v, w) if v < 72 && w < 72 => Some(heap.copy(v, w)),
-        Call::Set(v, i, Some(w)) if v < 72 && w < 72 => Some(heap.set(v, i, Some(w))),
-        Call::Set(v, i, None) if v < 72 => Some(heap.set(v, i, None)),
-        Call::Get(v, w, i) if v < 72 && w < 72 => Some(heap.get(v, w, i)),
-        Call::Store(s, v) if s < 16 && v < 72 => Some(heap.store(s, Some(v))),
-        Call::Load(v, s) if v < 72 && s < 16 => Some(heap.load(v, s)),
-        Call::Drop(v) if v < 72 => Some(heap.drop(v)),
+        Call::Copy(v, w) if v < VARS && w < VARS => Some(heap.copy(v, w)),
+        Call::Set(v, i, Some(w)) if v < VARS && w < VARS => Some(heap.set(v, i, Some(w))),
+        Call::Set(v, i, None) if v < VARS => Some(heap.set(v, i, None)),
+        Call::Get(v, w, i) if v < VARS && w < VARS => Some(heap.get(v, w, i)),
+        Call::Store(s, v) if s < 16 && v < VARS => Some(heap.store(s, Some(v))),
+        Call::Load(v, s) if v < VARS && s < 16 => Some(heap.load(v, s)),
+        Call::Drop(v) if v < VARS => Some(heap.drop(v)),
         _ => None,
     })
 }

@@ -18,7 +18,7 @@ fn closed_length(bytes: &[u8]) -> usize
 
 /// How many newlines there are.
 pub fn newlines(bytes: &[u8]) -> u32
-    requires { length bytes.now < 4294967295 }
+    requires { length bytes.now < u32.MAX }
     ensures { result ≡ count_by (λ b. nat_eq b 10) bytes.now }
 {
     let mut count = 0;

@@ -102,7 +102,7 @@ fn note(
 
 // The answer by a cell's word.
 fn got_of(word: u64) -> Got
-    requires { word ≤ 4294967296 }
+    requires { word ≤ 2 ^ 32 }
     ensures { got_of word result }
 {
     match word {
@@ -127,7 +127,7 @@ fn read_held(
     requires role { Owns seat.old.view (1 + reader) × Owns seat.old.view (reader + 10) }
     requires act { IsRead act.now }
     requires settled { Settled seat.old.view }
-    requires held { (0 < word) × (word ≤ 4294967296) × (word ≡ pin (known seat.old.view (reader + 10))) }
+    requires held { (0 < word) × (word ≤ 2 ^ 32) × (word ≡ pin (known seat.old.view (reader + 10))) }
     requires entries { line_entries (known seat.old.view (1 + reader)) ≡ entries.old.entries }
     requires spare { 1 ≤ entries.old.spare }
     ensures order { seat.new.order ≡ order.now }

@@ -1,6 +1,7 @@
 -- Components of bridge nodes and their cross-references, as lists.
-use Rattle.std.specs.Prelude.{◌≢◌, ℕ, ◌+◌, ◌<◌, ◌≤◌, List, length, map, All, AllPairs, Contains}
+use Rattle.std.specs.Prelude.{◌≢◌, ◌-◌, ℕ, ◌+◌, ◌<◌, ◌≤◌, List, length, map, All, AllPairs, Contains}
 use Rattle.joint_machine.specs.Components.{IsCanonical, Rises, first_of}
+use Rattle.joint_machine.specs.Numbers.{u32_max}
 
 -- the members of each component, how many components without members come behind them, and the pairs of component
 -- indexes
@@ -25,7 +26,7 @@ pub record AreComponents (comps : List (List ℕ)) : Type 0 where
   pub members : All Rises comps
   pub some : All (λ members. 0 < length members) comps
   pub order : Rises (map first_of comps)
-  pub below : All (λ members. All (λ x. x < 4294967294) members) comps
+  pub below : All (λ members. All (λ x. x < u32_max - 1) members) comps
   pub apart : AllPairs AreDisjoint comps
 
 -- what every list of components and cross-references keeps: both in canonical order, no node in two
@@ -34,4 +35,4 @@ pub record IsListing (comps : List (List ℕ)) (heavy : ℕ) (pairs : List (ℕ 
   pub canonical : IsCanonical comps pairs
   pub components : AreComponents comps
   pub ends : All (IsBetween (length comps + heavy)) pairs
-  pub few : length comps + heavy ≤ 4294967294
+  pub few : length comps + heavy ≤ u32_max - 1

@@ -1,6 +1,6 @@
 // Components and cross-references, while they are being listed and afterwards.
 
-ghost use Rattle.std.specs.Prelude.{◌≡◌, ◌≢◌, ℕ, ◌<◌, ◌≤◌, [], ◌∷◌, ◌++◌, length, map, Contains, All, IfOk, OnOk};
+ghost use Rattle.std.specs.Prelude.{◌≡◌, ◌-◌, ◌≢◌, ℕ, ◌<◌, ◌≤◌, [], ◌∷◌, ◌++◌, length, map, Contains, All, IfOk, OnOk};
 ghost use Rattle.std.specs.Prelude.{OnErr, slice_get, Some, IsPermutation, ◌+◌, vec_len, vec_capacity};
 ghost use Rattle.joint_machine.specs.Components.{Rises, first_of, first_at, end_at, mirror_edges};
 ghost use Rattle.xref_list.specs.Adding.{AddsPair};
@@ -92,7 +92,7 @@ impl ComponentsBuilder {
     pub fn len(&self) -> u32
         ensures count { result ≡ length self.now.comps + self.now.heavy }
         ensures components { AreComponents self.now.comps }
-        ensures few { length self.now.comps + self.now.heavy ≤ 4294967294 }
+        ensures few { length self.now.comps + self.now.heavy ≤ u32.MAX - 1 }
     {
         self.starts.len() as u32 + self.heavy
     }
@@ -100,7 +100,7 @@ impl ComponentsBuilder {
     /// Lists a component without members, and answers its index. It takes no memory that it hasn't, and so
     /// never answers `AllocError`.
     pub fn bridgeless(&mut self) -> Result<u32, AllocError>
-        requires few { length self.old.comps + self.old.heavy < 4294967294 }
+        requires few { length self.old.comps + self.old.heavy < u32.MAX - 1 }
         ensures index { IfOk result (λ i. i ≡ length self.old.comps + self.old.heavy) }
         ensures heavy { OnOk result (self.new.heavy ≡ self.old.heavy + 1) }
         ensures comps { self.new.comps ≡ self.old.comps }
@@ -119,7 +119,7 @@ impl ComponentsBuilder {
         requires none { self.old.heavy ≡ 0 }
         requires some { 0 < length objs.now }
         requires rises { Rises objs.now }
-        requires below { All (λ x. x < 4294967294) objs.now }
+        requires below { All (λ x. x < u32.MAX - 1) objs.now }
         requires apart { All (λ members. AreDisjoint members objs.now) self.old.comps }
         requires after { All (λ members. first_of members < first_of objs.now) self.old.comps }
         ensures index { IfOk result (λ i. i ≡ length self.old.comps) }
