@@ -1,15 +1,15 @@
 // Restoring: the handles of a dead part leave the table, and those that still lead to a peer are replaced by strong
 // ones.
 
-ghost use Rattle.std.specs.Prelude.{◌≡◌, ◌≢◌, ℕ, ◌≤◌, ◌+◌, ◌↔◌, length, true, All, AllPairs, Some};
+ghost use Rattle.std.specs.Prelude.{◌≡◌, ◌≢◌, ◌≤◌, ◌+◌, ◌↔◌, length, true, All, AllPairs, Some};
 ghost use Rattle.joint_machine.specs.declared.names.HNum.{HNum};
 ghost use Rattle.joint_machine.specs.Peers.{next_handle};
 ghost use Rattle.joint_machine.specs.PeerReplay.{MayRestore, TableRow, row_of};
-ghost use Rattle.joint_machine.specs.Sides.{peer_rules, AddsLawful, MayDraw};
+ghost use Rattle.joint_machine.specs.Sides.{peer_rules, MayDraw};
 ghost use Rattle.joint_machine.specs.Told.{nothing};
 ghost use Rattle.bridge_graph.specs.Handles.{handles_of};
 ghost use Rattle.peer_heap.specs.Cycles.{restores};
-ghost use Rattle.peer_heap.specs.Sides.{seen};
+ghost use Rattle.peer_heap.specs.Sides.{seen, AddsPeer};
 ghost use Rattle.handle_weaken.specs.Entries.{RestoresInTurn};
 
 use bridge_graph::DeadGraph;
@@ -24,8 +24,7 @@ use peer_heap::PeerSide;
 pub fn restore_one<D: Draw>(side: &mut PeerSide, draw: &mut D, index: u32, h: HNum) -> Back
     requires restores { MayRestore side.old.state h.0 }
     requires may { MayDraw peer_rules D.rules draw.old (seen side.old) Thread.C (Op.Restore h) }
-    ensures adds { AddsLawful peer_rules D.rules draw.old draw.new
-        (seen side.old) (seen side.new) (restores index h result) nothing }
+    ensures adds { AddsPeer D.rules draw.old draw.new side.old side.new (restores index h result) nothing }
     ensures cleared { (row : TableRow) → row_of side.old.state h.0 ≡ Some row
         → ((result ≡ Back.Cleared) ↔ (row.cleared ≡ true)) }
     ensures number { (g : HNum) → result ≡ Back.Alive g → g.0 ≡ next_handle side.old.state.peers }

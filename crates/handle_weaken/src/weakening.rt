@@ -1,12 +1,12 @@
 // Weakening: the handles of a dead part keep their peers alive no more.
 
-ghost use Rattle.std.specs.Prelude.{◌≡◌, ◌≢◌, ℕ, ◌≤◌, ◌-◌, length, All, AllPairs, Some};
+ghost use Rattle.std.specs.Prelude.{◌≡◌, ◌≢◌, ◌≤◌, ◌-◌, length, All, AllPairs, Some};
 ghost use Rattle.joint_machine.specs.PeerReplay.{MayWeaken};
-ghost use Rattle.joint_machine.specs.Sides.{peer_rules, AddsInTurn, AddsLawful, MayDraw};
+ghost use Rattle.joint_machine.specs.Sides.{peer_rules, AddsInTurn, MayDraw};
 ghost use Rattle.joint_machine.specs.Told.{nothing};
 ghost use Rattle.bridge_graph.specs.Handles.{handles_of};
 ghost use Rattle.peer_heap.specs.Cycles.{reserve_left, weakens};
-ghost use Rattle.peer_heap.specs.Sides.{seen};
+ghost use Rattle.peer_heap.specs.Sides.{seen, AddsPeer};
 ghost use Rattle.handle_weaken.specs.Entries.{reserve_weakened, weakenings};
 
 use bridge_graph::DeadGraph;
@@ -19,8 +19,7 @@ pub fn weaken_one<D: Draw>(side: &mut PeerSide, draw: &mut D, index: u32, cites:
     requires left { 1 ≤ side.old.reserve.left }
     requires weakens { MayWeaken side.old.state h.0 (Some cites) }
     requires may { MayDraw peer_rules D.rules draw.old (seen side.old) Thread.C (Op.Weaken h) }
-    ensures adds { AddsLawful peer_rules D.rules draw.old draw.new
-        (seen side.old) (seen side.new) (weakens index h cites) nothing }
+    ensures adds { AddsPeer D.rules draw.old draw.new side.old side.new (weakens index h cites) nothing }
     ensures reserve { side.new.reserve ≡ reserve_left side.old.reserve }
     ensures peers { side.new.state.peers ≡ side.old.state.peers }
 {

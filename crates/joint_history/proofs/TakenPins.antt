@@ -13,7 +13,7 @@ use Rattle.joint_machine.specs.Lines.{IsManagedThread}
 use Rattle.joint_machine.specs.ManagedReplay.{ManagedReplay}
 use Rattle.joint_machine.specs.Run.{thread_number}
 use Rattle.joint_machine.specs.Draws.{numbered}
-use Rattle.joint_machine.specs.Sides.{Side, managed_rules}
+use Rattle.joint_machine.specs.Sides.{Side, managed_rules, step_made}
 use Rattle.joint_machine.specs.Told.{Told, kept_pins, nothing}
 use Rattle.joint_machine.specs.PinsTold.{no_pins, pins_told}
 use Rattle.joint_machine.proofs.Deciding.{none_some}
@@ -21,7 +21,7 @@ use Rattle.known_laws.specs.Known.{PinsStand}
 use Rattle.known_laws.specs.Pasts.{end_of}
 use Rattle.managed_heap.specs.Pinned.{pin_given}
 use Rattle.managed_heap.specs.Rows.{number_or_none}
-use Rattle.managed_heap.specs.Steps.{step_made, take_op}
+use Rattle.managed_heap.specs.Steps.{take_op}
 use Rattle.order_table.specs.declared.views.KeptEntry.{KeptEntry}
 use Rattle.order_table.specs.declared.views.View.{View}
 use Rattle.order_table.specs.Allowed.{Settled}

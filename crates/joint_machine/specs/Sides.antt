@@ -112,6 +112,10 @@ peer_rules = record {
   frees = λ told. [];
 }
 
+-- what an event makes, by its caller and the script line, its operation, its reply, and the entry that it cites
+abbrev pub step_made : Thread → ℕ → Op → Reply → Option ℕ → Made
+step_made t index o reply cites = record { caller = t; index = index; op = o; reply = reply; cites = cites }
+
 -- the entry may come next, and the state is the one after it
 pub record GoesOn {S : Type 0} (r : SideRules S) (old : S) (m : Made) (told : Told) (new : S) : Type 0 where
   pub lawful : r.lawful old m told

@@ -24,7 +24,7 @@ use Rattle.joint_machine.specs.Linked.{ManagedLawful}
 use Rattle.joint_machine.specs.ManagedReplay.{ManagedReplay, managed_answer, ManagedAllows, plainly}
 use Rattle.joint_machine.specs.Managed.{managed_line}
 use Rattle.joint_machine.specs.Run.{thread_number}
-use Rattle.joint_machine.specs.Sides.{GoesOn, IsOfSide, IsReplayed, managed_rules, MaySetCell, cell_target}
+use Rattle.joint_machine.specs.Sides.{GoesOn, IsOfSide, IsReplayed, managed_rules, MaySetCell, cell_target, step_made}
 use Rattle.joint_machine.specs.Told.{Told, nothing, kept_pins}
 use Rattle.joint_machine.proofs.SideLists.{IsReplayed-push}
 use Rattle.joint_laws.specs.ManagedInvariants.{IsReplayKept}
@@ -33,7 +33,7 @@ use Rattle.known_laws.proofs.Bared.{plain_pins, plain_told}
 use Rattle.known_laws.proofs.Unpinned.{answers_same}
 use Rattle.managed_heap.specs.Rows.{AreKept, with_adopted}
 use Rattle.managed_heap.specs.Sides.{HasRoom, IsSideKept, owed_by, state_of}
-use Rattle.managed_heap.specs.Steps.{IsStepBy, IsLineBy, IsManagedStep, IsFresh, step_made, take_op, weak_op, adopted_by}
+use Rattle.managed_heap.specs.Steps.{IsStepBy, IsLineBy, IsManagedStep, IsFresh, take_op, weak_op, adopted_by}
 use Rattle.managed_heap.specs.Takings.{taken_in}
 use Rattle.managed_heap.proofs.Kept.{few-next, kept-next, no-pins}
 

@@ -13,14 +13,14 @@ use Rattle.joint_machine.specs.Lines.{IsManagedThread, IsVar}
 use Rattle.joint_machine.specs.Managed.{Managed, managed_name, pin_taken}
 use Rattle.joint_machine.specs.ManagedReplay.{ManagedReplay, plainly}
 use Rattle.joint_machine.specs.Run.{thread_number}
-use Rattle.joint_machine.specs.Sides.{GoesOn, IsReplayed, managed_rules}
+use Rattle.joint_machine.specs.Sides.{GoesOn, IsReplayed, managed_rules, step_made}
 use Rattle.joint_machine.specs.Told.{kept_pins, nothing}
 use Rattle.joint_machine.specs.PinsTold.{no_pins, with_pins}
 use Rattle.known_laws.specs.Known.{PinsStand}
 use Rattle.managed_heap.specs.Pinned.{pin_given, pin_reply, with_taken}
 use Rattle.managed_heap.specs.Rows.{number_or_none, with_adopted}
 use Rattle.managed_heap.specs.Sides.{state_of}
-use Rattle.managed_heap.specs.Steps.{step_made, take_op}
+use Rattle.managed_heap.specs.Steps.{take_op}
 use Rattle.managed_heap.specs.Takings.{taken_in}
 use Rattle.managed_heap.proofs.Goes.{goes-pinned, take-of}
 use Rattle.managed_heap.proofs.GivenPins.{pin-held, pin-slot}

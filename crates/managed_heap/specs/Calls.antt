@@ -11,11 +11,10 @@ use Rattle.joint_model.specs.Listed.{answers_of}
 use Rattle.joint_machine.specs.Managed.{Managed, OpenCycle}
 use Rattle.joint_machine.specs.ManagedReplay.{ManagedReplay, MayContract}
 use Rattle.joint_machine.specs.Draws.{Drawing}
-use Rattle.joint_machine.specs.Sides.{Side, AddsLawful, managed_rules}
+use Rattle.joint_machine.specs.Sides.{Side, AddsLawful, managed_rules, step_made}
 use Rattle.joint_machine.specs.Told.{nothing, contraction_of, resolution_of}
 use Rattle.managed_heap.specs.declared.cycles.ResolveOut.{ResolveOut}
 use Rattle.managed_heap.specs.Resolving.{FreesUnanswered, IsAliveClosed}
-use Rattle.managed_heap.specs.Steps.{step_made}
 
 -- the driver's events
 abbrev pub contract_op : OpenCycle → Op

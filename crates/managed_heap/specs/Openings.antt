@@ -9,18 +9,22 @@ use Rattle.joint_machine.specs.Cycles.{snap_reply}
 use Rattle.joint_machine.specs.Draws.{numbered, Drawing}
 use Rattle.joint_machine.specs.Managed.{Managed, OpenCycle}
 use Rattle.joint_machine.specs.ManagedReplay.{ManagedReplay}
-use Rattle.joint_machine.specs.Sides.{Side, AddsLawful, managed_rules}
+use Rattle.joint_machine.specs.Sides.{Side, AddsLawful, managed_rules, step_made, MayDraw}
 use Rattle.joint_machine.specs.Told.{kept_pins, snap_of}
 use Rattle.managed_heap.specs.declared.opening.Opened.{Opened}
 use Rattle.managed_heap.specs.declared.opening.SnapFault.{SnapFault}
 use Rattle.managed_heap.specs.declared.opening.SnapFault.TheVariants as fault
 use Rattle.managed_heap.specs.Pinned.{pins_given}
+use Rattle.managed_heap.specs.Sides.{ManagedModel, as_side}
 use Rattle.managed_heap.specs.Graphs.{IsDeadGraph}
-use Rattle.managed_heap.specs.Steps.{step_made}
 
 -- the driver's event and its entry
 abbrev pub snap_op : Managed → Op
 snap_op s = op.Snap record { 0 = s.cycles + 1 }
+
+-- the driver may draw for the snap that comes next
+abbrev pub MayDrawSnap : {D : Type 0} → Drawing D → D → ManagedModel → Type 0
+MayDrawSnap d draw m = MayDraw managed_rules d draw (as_side m) C (snap_op m.state.managed)
 
 abbrev pub snap_made : Managed → ℕ → List ℕ → List ℕ → Made
 snap_made s index freed candidates = step_made C index (snap_op s) (snap_reply s freed candidates) None

@@ -2,12 +2,15 @@
 -- their readers fill.)
 use Rattle.std.specs.Prelude.{ℕ, List, ◌∷◌, map, slice_set, Option, Some, None}
 use Rattle.joint_machine.specs.declared.names.MNum.{MNum}
+use Rattle.joint_machine.specs.declared.names.Thread.{Thread}
 use Rattle.joint_machine.specs.declared.events.Reply.{Reply}
 use Rattle.joint_machine.specs.declared.events.Reply.TheVariants as says
 use Rattle.joint_machine.specs.Heaps.{slot, with_var}
 use Rattle.joint_machine.specs.ManagedReplay.{ManagedReplay}
 use Rattle.joint_machine.specs.Sides.{object_or_none}
 use Rattle.joint_machine.specs.PinsTold.{no_pins}
+use Rattle.joint_machine.specs.Run.{thread_number}
+use Rattle.joint_machine.specs.Told.{Told, kept_pins, nothing}
 use Rattle.managed_heap.specs.Rows.{number_or_none}
 
 -- the pins of the threads with the numbers 1 to 8, from a list in that order; the pin with number 0 is nobody's
@@ -17,6 +20,10 @@ pins_given at = None ∷ map number_or_none at
 -- the pin of one thread, with all others empty
 abbrev pub pin_given : ℕ → Option MNum → List (Option ℕ)
 pin_given t pin = slice_set no_pins t (number_or_none pin)
+
+-- what is told beside a thread's `take`: its pin
+abbrev pub take_told : Thread → Option MNum → Told
+take_told t pin = kept_pins (pin_given (thread_number t) pin) nothing
 
 -- the reply to a `take`, by what the pin holds
 abbrev pub pin_reply : Option MNum → Reply

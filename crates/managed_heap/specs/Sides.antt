@@ -1,9 +1,12 @@
 -- What contracts see of a managed side.
 use Rattle.std.specs.Prelude.{◌≡◌, ℕ, ◌≤◌, Bool, true, false, List, length, Option, Some, None, Result, Ok, Err}
 use Rattle.joint_machine.specs.declared.events.Entry.{Entry}
+use Rattle.joint_machine.specs.declared.events.Made.{Made}
+use Rattle.joint_machine.specs.Draws.{Drawing}
 use Rattle.joint_machine.specs.Managed.{OpenCycle}
 use Rattle.joint_machine.specs.ManagedReplay.{ManagedReplay}
-use Rattle.joint_machine.specs.Sides.{Side}
+use Rattle.joint_machine.specs.Told.{Told}
+use Rattle.joint_machine.specs.Sides.{Side, AddsLawful, managed_rules}
 use Rattle.joint_laws.specs.ManagedInvariants.{IsReplayKept}
 use Rattle.managed_heap.specs.declared.opening.Opened.{Opened}
 use Rattle.managed_heap.specs.declared.opening.SnapFault.{SnapFault}
@@ -28,6 +31,11 @@ pub record ManagedModel : Type 0 where
 -- what both sides show
 abbrev pub as_side : ManagedModel → Side ManagedReplay
 as_side m = record { threads = m.threads; entries = m.entries; state = m.state }
+
+-- a call of the managed side made one entry
+abbrev pub AddsManaged : {D : Type 0} → Drawing D → D → D → ManagedModel → ManagedModel → Made → Told → Type 0
+AddsManaged d before after old new made told =
+    AddsLawful managed_rules d before after (as_side old) (as_side new) made told
 
 -- whether a side is ready after a snapshot was asked for: one that was taken used the room up, and one for which the
 -- gate wasn't closed left it

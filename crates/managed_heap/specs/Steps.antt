@@ -72,10 +72,6 @@ CitesRightly (op.Adopt v kind n p h) cites = IsSome cites
 CitesRightly (op.Meet v sort n p h) cites = IsSome cites
 CitesRightly o cites = cites ≡ None
 
--- the entry of a thread's event
-abbrev pub step_made : Thread → ℕ → Op → Reply → Option ℕ → Made
-step_made t index o reply cites = record { caller = t; index = index; op = o; reply = reply; cites = cites }
-
 -- the event `take V`
 abbrev pub take_op : Var → Op
 take_op v = op.Line (act.Take v)

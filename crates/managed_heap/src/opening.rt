@@ -1,15 +1,14 @@
 // A snapshot, which closes the gate, opens a cycle and makes one entry of the driver, and the call that takes its
 // memory.
 
-ghost use Rattle.std.specs.Prelude.{◌≡◌, ℕ, ◌+◌, List, Option, Some, None, Err, IfOk, IfErr, IfSome, IsOk, OnErr, OnOk};
+ghost use Rattle.std.specs.Prelude.{◌≡◌, ◌+◌, List, Option, Some, None, Err, IfOk, IfErr, IfSome, IsOk, OnErr, OnOk};
 ghost use Rattle.std.specs.Prelude.{true, false};
 ghost use Rattle.std.specs.Option.{IfNone};
 ghost use Rattle.joint_machine.specs.declared.names.MNum.{MNum};
 ghost use Rattle.joint_machine.specs.declared.names.Thread.TheVariants.{C};
 ghost use Rattle.joint_machine.specs.Managed.{OpenCycle};
-ghost use Rattle.joint_machine.specs.Sides.{MayDraw, managed_rules};
 ghost use Rattle.known_laws.specs.Known.{PinsStand};
-ghost use Rattle.managed_heap.specs.Openings.{OpensByClosing, BySnapFault, snap_op};
+ghost use Rattle.managed_heap.specs.Openings.{OpensByClosing, BySnapFault, MayDrawSnap};
 ghost use Rattle.managed_heap.specs.Pinned.{pins_given};
 ghost use Rattle.managed_heap.specs.Sides.{as_side, ready_after};
 
@@ -83,8 +82,7 @@ impl ManagedSide {
             → G.closed gate.old (self.old.state.managed.cycles + 1) pins g
             → PinsStand self.old.state.managed (pins_given pins) }
         requires may { (pins : List (Option MNum)) (g : G)
-            → G.closed gate.old (self.old.state.managed.cycles + 1) pins g
-            → MayDraw managed_rules G.rules g (as_side self.old) C (snap_op self.old.state.managed) }
+            → G.closed gate.old (self.old.state.managed.cycles + 1) pins g → MayDrawSnap G.rules g self.old }
         ensures snaps { IfOk result (λ o. OpensByClosing G.closed G.rules gate.old gate.new
             (as_side self.old) (as_side self.new) index o) }
         ensures busy { (c : OpenCycle) → self.old.state.managed.cycle ≡ Some c
@@ -116,8 +114,7 @@ impl ManagedSide {
             → G.closed gate.old (self.old.state.managed.cycles + 1) pins g
             → PinsStand self.old.state.managed (pins_given pins) }
         requires may { (pins : List (Option MNum)) (g : G)
-            → G.closed gate.old (self.old.state.managed.cycles + 1) pins g
-            → MayDraw managed_rules G.rules g (as_side self.old) C (snap_op self.old.state.managed) }
+            → G.closed gate.old (self.old.state.managed.cycles + 1) pins g → MayDrawSnap G.rules g self.old }
         ensures snaps { IfSome result (λ o. OpensByClosing G.closed G.rules gate.old gate.new
             (as_side self.old) (as_side self.new) index o) }
         ensures used { IfSome result (λ o. self.new.ready ≡ false) }

@@ -1,6 +1,6 @@
 // The managed side: its rows with the entries that it has made.
 
-ghost use Rattle.std.specs.Prelude.{◌≡◌, ℕ, ◌+◌, ◌<◌, ◌≤◌, ◌↔◌, [], Some, None, IfOk, OnErr, IsTrue, MatchOption};
+ghost use Rattle.std.specs.Prelude.{◌≡◌, ◌+◌, ◌<◌, ◌≤◌, ◌↔◌, [], Some, None, IfOk, OnErr, IsTrue, MatchOption};
 ghost use Rattle.std.specs.Prelude.{length, slice_get, false};
 ghost use Rattle.joint_machine.specs.declared.names.Thread.TheVariants.{C};
 ghost use Rattle.joint_machine.specs.declared.events.Op.TheVariants as op;
@@ -10,14 +10,14 @@ ghost use Rattle.joint_machine.specs.Run.{thread_number};
 ghost use Rattle.joint_machine.specs.Histories.{managed_numbers};
 ghost use Rattle.joint_machine.specs.Managed.{OpenCycle};
 ghost use Rattle.joint_machine.specs.ManagedReplay.{MayRefuse, opening_replay, registered};
-ghost use Rattle.joint_machine.specs.Sides.{AddsLawful, AreTaken, IsReplayed, MayDraw, managed_rules};
-ghost use Rattle.joint_machine.specs.Told.{kept_pins, nothing, phase_of};
+ghost use Rattle.joint_machine.specs.Sides.{AreTaken, IsReplayed, MayDraw, managed_rules, step_made};
+ghost use Rattle.joint_machine.specs.Told.{nothing, phase_of};
 ghost use Rattle.joint_laws.specs.ManagedInvariants.{IsReplayKept};
 ghost use Rattle.known_laws.specs.Known.{PinsStand};
-ghost use Rattle.managed_heap.specs.Pinned.{pin_given};
+ghost use Rattle.managed_heap.specs.Pinned.{pin_given, take_told};
 ghost use Rattle.managed_heap.specs.Rows.{number_or_none};
-ghost use Rattle.managed_heap.specs.Sides.{as_side, twin_answer};
-ghost use Rattle.managed_heap.specs.Steps.{CitesRightly, IsFresh, IsManagedStep, step_made, take_op, weak_op};
+ghost use Rattle.managed_heap.specs.Sides.{as_side, twin_answer, AddsManaged};
+ghost use Rattle.managed_heap.specs.Steps.{CitesRightly, IsFresh, IsManagedStep, take_op, weak_op};
 
 use crate::lines::place;
 use crate::rooms::{SnapRoom, give_back};
@@ -127,8 +127,8 @@ impl ManagedSide {
         requires fresh { IsFresh self.old.state op.now }
         requires cites { CitesRightly op.now cites }
         requires may { MayDraw managed_rules D.rules draw.old (as_side self.old) caller op.now }
-        ensures adds { IfOk result (λ r. AddsLawful managed_rules D.rules draw.old draw.new
-            (as_side self.old) (as_side self.new) (step_made caller index op.now r cites) nothing) }
+        ensures adds { IfOk result (λ r. AddsManaged D.rules draw.old draw.new self.old self.new
+            (step_made caller index op.now r cites) nothing) }
         ensures used { IfOk result (λ r. self.new.ready ≡ false) }
         ensures err { OnErr result ((self.new ≡ self.old) × (draw.new ≡ draw.old)) }
     {
@@ -165,8 +165,8 @@ impl ManagedSide {
         requires var { IsVar v }
         requires word { (word ≡ 0) ↔ (slot self.old.state.managed.cells k.0 ≡ None) }
         requires may { MayDraw managed_rules D.rules draw.old (as_side self.old) caller (weak_op k v) }
-        ensures adds { IfOk result (λ r. AddsLawful managed_rules D.rules draw.old draw.new
-            (as_side self.old) (as_side self.new) (step_made caller index (weak_op k v) r None) nothing) }
+        ensures adds { IfOk result (λ r. AddsManaged D.rules draw.old draw.new self.old self.new
+            (step_made caller index (weak_op k v) r None) nothing) }
         ensures used { IfOk result (λ r. self.new.ready ≡ false) }
         ensures err { OnErr result ((self.new ≡ self.old) × (draw.new ≡ draw.old)) }
     {
@@ -200,9 +200,8 @@ impl ManagedSide {
         requires var { IsVar v }
         requires stands { PinsStand self.old.state.managed (pin_given (thread_number caller) pin) }
         requires may { MayDraw managed_rules D.rules draw.old (as_side self.old) caller (take_op v) }
-        ensures adds { IfOk result (λ r. AddsLawful managed_rules D.rules draw.old draw.new
-            (as_side self.old) (as_side self.new) (step_made caller index (take_op v) r None)
-            (kept_pins (pin_given (thread_number caller) pin) nothing)) }
+        ensures adds { IfOk result (λ r. AddsManaged D.rules draw.old draw.new self.old self.new
+            (step_made caller index (take_op v) r None) (take_told caller pin)) }
         ensures used { IfOk result (λ r. self.new.ready ≡ false) }
         ensures err { OnErr result ((self.new ≡ self.old) × (draw.new ≡ draw.old)) }
     {
@@ -232,8 +231,8 @@ impl ManagedSide {
     ) -> Result<Reply, AllocError>
         requires refused { MayRefuse self.old.state word phase }
         requires may { MayDraw managed_rules D.rules draw.old (as_side self.old) C (op.Refused word) }
-        ensures adds { IfOk result (λ r. AddsLawful managed_rules D.rules draw.old draw.new (as_side self.old)
-            (as_side self.new) (step_made C index (op.Refused word) r None) (phase_of phase)) }
+        ensures adds { IfOk result (λ r. AddsManaged D.rules draw.old draw.new self.old self.new
+            (step_made C index (op.Refused word) r None) (phase_of phase)) }
         ensures used { IfOk result (λ r. self.new.ready ≡ false) }
         ensures err { OnErr result ((self.new ≡ self.old) × (draw.new ≡ draw.old)) }
     {

@@ -8,6 +8,7 @@ use Rattle.joint_machine.specs.declared.events.Op.TheVariants as op
 use Rattle.joint_machine.specs.declared.events.Reply.{Reply}
 use Rattle.joint_machine.specs.declared.events.Reply.TheVariants as says
 use Rattle.joint_machine.specs.Components.{End}
+use Rattle.joint_machine.specs.Sides.{step_made}
 use Rattle.global_handles.specs.declared.Back.{Back}
 use Rattle.global_handles.specs.declared.Back.TheVariants.{Alive, Cleared}
 use Rattle.peer_heap.specs.Sides.{Reserve}
@@ -19,22 +20,16 @@ reply_of Cleared = says.Cleared
 
 -- the entries of a cycle, without their numbers
 abbrev pub mirrors : ℕ → Cycle → ℕ → ℕ → Made
-mirrors index k refs snap = record {
-  caller = C;
-  index = index;
-  op = op.Mirror k;
-  reply = says.Refs refs;
-  cites = Some snap;
-}
+mirrors index k refs snap = step_made C index (op.Mirror k) (says.Refs refs) (Some snap)
 
 abbrev pub weakens : ℕ → HNum → ℕ → Made
-weakens index h snap = record { caller = C; index = index; op = op.Weaken h; reply = says.Ok; cites = Some snap }
+weakens index h snap = step_made C index (op.Weaken h) says.Ok (Some snap)
 
 abbrev pub restores : ℕ → HNum → Back → Made
-restores index h back = record { caller = C; index = index; op = op.Restore h; reply = reply_of back; cites = None }
+restores index h back = step_made C index (op.Restore h) (reply_of back) None
 
 abbrev pub clears : ℕ → Cycle → Made
-clears index k = record { caller = C; index = index; op = op.Clear k; reply = says.Ok; cites = None }
+clears index k = step_made C index (op.Clear k) says.Ok None
 
 -- room is taken for so many more references and so many temporaries, and for a cycle over so many handles
 abbrev pub reserve_more : Reserve → ℕ → ℕ → ℕ → Reserve

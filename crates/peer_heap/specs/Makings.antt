@@ -13,9 +13,9 @@ use Rattle.joint_machine.specs.Heaps.{answer}
 use Rattle.joint_machine.specs.Lines.{IsPeerThread, IsDriver}
 use Rattle.joint_machine.specs.PeerReplay.{PeerReplay, PeerAllows, peer_answer}
 use Rattle.joint_machine.specs.Draws.{Drawing}
-use Rattle.joint_machine.specs.Sides.{Side, Making, MayDraw, peer_rules}
+use Rattle.joint_machine.specs.Sides.{Side, Making, AddsInTurn, MayDraw, peer_rules, step_made}
 use Rattle.joint_machine.specs.Told.{Told, nothing, sweep_of}
-use Rattle.peer_heap.specs.Sides.{begins}
+use Rattle.peer_heap.specs.Sides.{PeerModel, begins, seen}
 use Rattle.peer_heap.specs.Steps.{IsPeerStep}
 
 -- a caller and an operation that a step makes
@@ -42,6 +42,10 @@ MayDrawStep d draw s t o = MayDraw peer_rules d draw s t o
 abbrev pub gone_since : PeerReplay → PeerReplay → List ℕ
 gone_since old new = drop (length old.peers.heap.freed) new.peers.heap.freed
 
+-- what is told beside a sweep that leads from one state to the other
+abbrev pub sweep_told : PeerReplay → PeerReplay → Told
+sweep_told old new = sweep_of (gone_since old new)
+
 -- what is told beside an event: the peers that it freed, where it is a sweep that was done
 abbrev pub told_at : Op → Reply → List ℕ → Told
 told_at op.Sweep (says.Swept j freed) gone = sweep_of gone
@@ -50,7 +54,7 @@ told_at o r gone = nothing
 -- one event with its reply
 abbrev pub one_making : Thread → ℕ → Op → Option ℕ → Reply → List ℕ → List Making
 one_making t index o cites r gone = record {
-  made = record { caller = t; index = index; op = o; reply = r; cites = cites };
+  made = step_made t index o r cites;
   told = told_at o r gone;
 } ∷ []
 
@@ -63,13 +67,18 @@ number_in r = record { 0 = 0 }
 abbrev pub collect_makings : Thread → ℕ → Reply → List ℕ → List Making
 collect_makings t index (says.MarkOpen j) gone = one_making t index op.Begin None (says.MarkOpen j) gone
 collect_makings t index r gone = record { made = begins t index (number_in r); told = nothing } ∷
-    record { made = record { caller = t; index = index; op = op.Sweep; reply = r; cites = None }; told = sweep_of gone }
-    ∷ []
+    record { made = step_made t index op.Sweep r None; told = sweep_of gone } ∷ []
 
 -- what a step makes
 abbrev pub step_makings : Thread → ℕ → Op → Option ℕ → Reply → List ℕ → List Making
 step_makings t index (op.Line act.Collect) cites r gone = collect_makings t index r gone
 step_makings t index o cites r gone = one_making t index o cites r gone
+
+-- a step made its entries, by what it answered and which peers it freed
+abbrev pub AddsStep : {D : Type 0} → Drawing D → D → D → PeerModel → PeerModel
+    → Thread → ℕ → Op → Option ℕ → Reply → Type 0
+AddsStep d before after old new t index o cites r = AddsInTurn peer_rules d before after (seen old) (seen new)
+    (step_makings t index o cites r (gone_since old.state new.state))
 
 -- the event begins or ends a marking
 abbrev pub IsMarkEvent : Op → Type 0

@@ -11,7 +11,7 @@ use Rattle.joint_machine.specs.declared.events.Reply.TheVariants as says
 use Rattle.joint_machine.specs.Components.{End, node, temporary}
 use Rattle.joint_machine.specs.Heaps.{Heap, IsLive}
 use Rattle.joint_machine.specs.Peers.{peer_of}
-use Rattle.joint_machine.specs.PeerReplay.{PeerReplay, Mirror, HasReference, row_of, strong_peers}
+use Rattle.joint_machine.specs.PeerReplay.{PeerReplay, Mirror, HasReference, Refers, row_of, strong_peers}
 use Rattle.peer_heap.specs.declared.mirroring.OpenMirror.{OpenMirror}
 use Rattle.peer_heap.specs.Mirroring.{strong_row}
 use Rattle.joint_machine.specs.Numbers.{u32_max}
@@ -141,6 +141,11 @@ pub record HasRestoredHandle (s : PeerReplay) (m : Mirror) (p : ℕ) : Type 0 wh
 abbrev pub AreTargetsRestored : PeerReplay → Type 0
 AreTargetsRestored s = (m : Mirror) → s.mirror ≡ Some m → (p q : ℕ)
     → HasReference s.peers.heap s.refs p q → HasRestoredHandle s m q
+
+-- what a mirrored reference leads to from a peer whose handle was restored is live
+abbrev pub AreRestoredEndsLive : PeerReplay → Type 0
+AreRestoredEndsLive s = (m : Mirror) (p q : ℕ) → s.mirror ≡ Some m → Refers s.refs p q
+    → HasRestoredHandle s m p → IsLive s.peers.heap q
 
 -- the peer is an end of one of these references
 abbrev pub HasEnd : List (End × End) → ℕ → Type 0

@@ -15,11 +15,13 @@ use Rattle.joint_machine.specs.declared.events.Op.TheVariants as op
 use Rattle.joint_machine.specs.declared.events.Reply.{Reply}
 use Rattle.joint_machine.specs.declared.events.Reply.TheVariants as says
 use Rattle.joint_machine.specs.Components.{End, Rises}
+use Rattle.joint_machine.specs.Draws.{Drawing}
 use Rattle.joint_machine.specs.Heaps.{Heap, IsLive, numbered_at}
 use Rattle.joint_model.specs.Listed.{Stock}
 use Rattle.joint_machine.specs.Peers.{Issued, peer_of}
 use Rattle.joint_machine.specs.PeerReplay.{PeerReplay, Marking, opening_peer_replay, strong_peers}
-use Rattle.joint_machine.specs.Sides.{Side, peer_rules, IsReplayed}
+use Rattle.joint_machine.specs.Sides.{Side, AddsLawful, peer_rules, IsReplayed, step_made}
+use Rattle.joint_machine.specs.Told.{Told}
 use Rattle.joint_laws.specs.PeerInvariants.{IsPeerKept}
 use Rattle.marking_laws.specs.Marks.{EdgeNow}
 use Rattle.row_heap.specs.Rows.{HeapRows, opening_rows}
@@ -103,6 +105,10 @@ pub record PeerModel : Type 0 where
 -- what both sides show
 abbrev pub seen : PeerModel → Side PeerReplay
 seen m = record { threads = m.threads; entries = m.entries; state = m.state }
+
+-- a call of the peer side made one entry
+abbrev pub AddsPeer : {D : Type 0} → Drawing D → D → D → PeerModel → PeerModel → Made → Told → Type 0
+AddsPeer d before after old new made told = AddsLawful peer_rules d before after (seen old) (seen new) made told
 
 -- a side for so many threads, on which nothing was made
 abbrev pub opening_side : ℕ → PeerModel
@@ -196,10 +202,10 @@ owed (Some m) = 1
 
 -- what a begin makes that opens a marking, and what the sweep makes that ends it
 abbrev pub begins : Thread → ℕ → Number → Made
-begins t index j = record { caller = t; index = index; op = op.Begin; reply = says.Mark j; cites = None }
+begins t index j = step_made t index op.Begin (says.Mark j) None
 
 abbrev pub ends : Thread → ℕ → Number → Span → Made
-ends t index j freed = record { caller = t; index = index; op = op.Sweep; reply = says.Swept j freed; cites = None }
+ends t index j freed = step_made t index op.Sweep (says.Swept j freed) None
 
 -- a thread may end the open marking, if one is open: the driver, and the thread that began it
 abbrev pub MayEnd : Option Marking → Thread → Type 0

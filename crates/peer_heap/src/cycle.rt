@@ -3,20 +3,19 @@
 //
 // All memory is taken by `reserve_refs`, before; so no call here that makes an entry takes any.
 
-ghost use Rattle.std.specs.Prelude.{◌≡◌, ℕ, ◌+◌, ◌-◌, ◌*◌, ◌^◌, ◌≤◌, ◌++◌, ◌↔◌, [], ◌∷◌, None, Some, IsSome, Contains};
+ghost use Rattle.std.specs.Prelude.{◌≡◌, ◌+◌, ◌-◌, ◌*◌, ◌^◌, ◌≤◌, ◌++◌, ◌↔◌, [], ◌∷◌, None, Some, IsSome, Contains};
 ghost use Rattle.std.specs.Prelude.{length, true, OnErr, OnOk};
 ghost use Rattle.joint_machine.specs.Draws.{AllBelow, numbered};
 ghost use Rattle.joint_machine.specs.declared.names.HNum.{HNum};
-ghost use Rattle.joint_machine.specs.Heaps.{IsLive};
 ghost use Rattle.joint_machine.specs.Peers.{next_handle};
-ghost use Rattle.joint_machine.specs.PeerReplay.{MayClear, MayRestore, MayWeaken, Mirror, Refers, TableRow, row_of};
-ghost use Rattle.joint_machine.specs.Sides.{peer_rules, AddsLawful, DrawsLast, MayDraw};
+ghost use Rattle.joint_machine.specs.PeerReplay.{MayClear, MayRestore, MayWeaken, Mirror, TableRow, row_of};
+ghost use Rattle.joint_machine.specs.Sides.{peer_rules, DrawsLast, MayDraw};
 ghost use Rattle.joint_machine.specs.Told.{nothing, references_of};
 ghost use Rattle.peer_heap.specs.Cycles.{clears, mirrors, reply_of, reserve_left, reserve_more, reserve_over};
 ghost use Rattle.peer_heap.specs.Cycles.{reserve_pushed, reserve_stood, restores, weakens};
 ghost use Rattle.peer_heap.specs.Mirroring.{end_of};
-ghost use Rattle.peer_heap.specs.Mirrors.{AreEndsStrong, AreTargetsRestored, HasRestoredHandle, MayStand};
-ghost use Rattle.peer_heap.specs.Sides.{seen};
+ghost use Rattle.peer_heap.specs.Mirrors.{AreEndsStrong, AreTargetsRestored, MayStand, AreRestoredEndsLive};
+ghost use Rattle.peer_heap.specs.Sides.{seen, AddsPeer};
 
 use crate::mirroring::RefEnd;
 use crate::side::{PeerSide, kept, take_room};
@@ -69,8 +68,8 @@ impl PeerSide {
         requires strong_ends { AreEndsStrong self.old.state self.old.reserve.waiting }
         requires may { MayDraw peer_rules D.rules draw.old (seen self.old) Thread.C (Op.Mirror cycle) }
         ensures number { result ≡ length self.old.reserve.waiting }
-        ensures adds { AddsLawful peer_rules D.rules draw.old draw.new (seen self.old)
-            (seen self.new) (mirrors index cycle result cites) (references_of self.old.reserve.waiting) }
+        ensures adds { AddsPeer D.rules draw.old draw.new self.old self.new
+            (mirrors index cycle result cites) (references_of self.old.reserve.waiting) }
         ensures reserve { self.new.reserve ≡ reserve_stood self.old.reserve }
     {
         let Some(handles) = self.mirroring.next() else {
@@ -98,8 +97,7 @@ impl PeerSide {
         requires left { 1 ≤ self.old.reserve.left }
         requires weakens { MayWeaken self.old.state h.0 (Some cites) }
         requires may { MayDraw peer_rules D.rules draw.old (seen self.old) Thread.C (Op.Weaken h) }
-        ensures adds { AddsLawful peer_rules D.rules draw.old draw.new
-            (seen self.old) (seen self.new) (weakens index h cites) nothing }
+        ensures adds { AddsPeer D.rules draw.old draw.new self.old self.new (weakens index h cites) nothing }
         ensures reserve { self.new.reserve ≡ reserve_left self.old.reserve }
     {
         self.rows.weaken(h);
@@ -124,8 +122,7 @@ impl PeerSide {
     pub fn restore<D: Draw>(&mut self, draw: &mut D, index: u32, h: HNum) -> Back
         requires restores { MayRestore self.old.state h.0 }
         requires may { MayDraw peer_rules D.rules draw.old (seen self.old) Thread.C (Op.Restore h) }
-        ensures adds { AddsLawful peer_rules D.rules draw.old draw.new
-            (seen self.old) (seen self.new) (restores index h result) nothing }
+        ensures adds { AddsPeer D.rules draw.old draw.new self.old self.new (restores index h result) nothing }
         ensures cleared { (row : TableRow) → row_of self.old.state h.0 ≡ Some row
             → ((result ≡ Back.Cleared) ↔ (row.cleared ≡ true)) }
         ensures number { (g : HNum) → result ≡ Back.Alive g → g.0 ≡ next_handle self.old.state.peers }
@@ -158,12 +155,10 @@ impl PeerSide {
         requires clears { MayClear self.old.state cycle.0 }
         requires targets { AreTargetsRestored self.old.state }
         requires may { MayDraw peer_rules D.rules draw.old (seen self.old) Thread.C (Op.Clear cycle) }
-        ensures adds { AddsLawful peer_rules D.rules draw.old draw.new
-            (seen self.old) (seen self.new) (clears index cycle) nothing }
+        ensures adds { AddsPeer D.rules draw.old draw.new self.old self.new (clears index cycle) nothing }
         ensures number { self.new.entries ≡ self.old.entries ++ numbered result (clears index cycle) ∷ [] }
         ensures none { self.new.state.refs ≡ [] }
-        ensures kept { (m : Mirror) (p q : ℕ) → self.old.state.mirror ≡ Some m → Refers self.old.state.refs p q
-            → HasRestoredHandle self.old.state m p → IsLive self.old.state.peers.heap q }
+        ensures kept { AreRestoredEndsLive self.old.state }
         ensures reserve { self.new.reserve ≡ reserve_over self.old.reserve }
     {
         let is_open = self.marking.is_some();

@@ -1,22 +1,22 @@
 // The peer side: its peers and handles, with the entries of what was done.
 
-ghost use Rattle.std.specs.Prelude.{◌≡◌, ◌≢◌, ℕ, ◌+◌, ◌≤◌, ◌^◌, ◌⊎◌, ◌↔◌, None, Some, IsSome, MatchBool, map, length};
-ghost use Rattle.std.specs.Prelude.{count_by, is_some, drop, true, IfErr, IfOk, IsOk, OnErr, OnOk};
+ghost use Rattle.std.specs.Prelude.{◌≡◌, ◌≢◌, ℕ, ◌+◌, ◌≤◌, ◌^◌, ◌⊎◌, ◌↔◌, None, Some, IsSome, MatchBool, length};
+ghost use Rattle.std.specs.Prelude.{count_by, is_some, true, IfErr, IfOk, IsOk, OnErr, OnOk};
 ghost use Rattle.std.specs.Option.{option_map};
 ghost use Rattle.joint_machine.specs.declared.names.HNum.{HNum};
-ghost use Rattle.joint_machine.specs.Draws.{AllBelow};
 ghost use Rattle.joint_machine.specs.Histories.{peer_numbers};
 ghost use Rattle.joint_machine.specs.Lines.{IsDriver, IsPeerThread};
 ghost use Rattle.joint_machine.specs.PeerReplay.{Marking as MarkingState, PeerAllows, row_of, table_target};
-ghost use Rattle.joint_machine.specs.Sides.{peer_rules, MayDraw, AddsInTurn, AddsLawful, AreTaken, IsReplayed};
-ghost use Rattle.joint_machine.specs.Told.{Told, nothing, sweep_of};
+ghost use Rattle.joint_machine.specs.Sides.{peer_rules, MayDraw, AreTaken, IsReplayed, step_made};
+ghost use Rattle.joint_machine.specs.Told.{Told, nothing};
 ghost use Rattle.joint_laws.specs.PeerInvariants.{IsPeerKept};
 ghost use Rattle.global_handles.specs.Rows.{row_in, target_in};
 ghost use Rattle.peer_heap.specs.Rows.{number_of, row_as};
-ghost use Rattle.peer_heap.specs.Makings.{IsSideStep, MayDrawStep, MayStep, RefusesMarking, collect_makings};
-ghost use Rattle.peer_heap.specs.Makings.{gone_since, step_makings, IsMarkEvent};
+ghost use Rattle.peer_heap.specs.Makings.{IsSideStep, MayDrawStep, MayStep, RefusesMarking, AddsStep};
+ghost use Rattle.peer_heap.specs.Makings.{sweep_told, IsMarkEvent};
 ghost use Rattle.marking_laws.specs.Slices.{AreMarksGoing};
 ghost use Rattle.peer_heap.specs.Sides.{begins, ends, is_own, is_to_mark, opening_side, owed, reserve_begun, seen};
+ghost use Rattle.peer_heap.specs.Sides.{AddsPeer};
 ghost use Rattle.peer_heap.specs.Sides.{MarkingIsEnded, IsDrivers, IsEndOf, IsFaultAt, IsMarkingOf, IsSliced, MayEnd};
 ghost use Rattle.peer_heap.specs.Sides.{SlicesMarking, SlicesOpen};
 ghost use Rattle.row_marking.specs.Traces.{IsGreyList};
@@ -158,8 +158,8 @@ impl PeerSide {
         requires step { IsSideStep caller op.now }
         requires allowed { MayStep self.old.state caller op.now cites }
         requires may { MayDrawStep D.rules draw.old (seen self.old) caller op.now }
-        ensures adds { IfOk result (λ r. AddsInTurn peer_rules D.rules draw.old draw.new (seen self.old)
-            (seen self.new) (step_makings caller index op.now cites r (gone_since self.old.state self.new.state))) }
+        ensures adds { IfOk result (λ r. AddsStep D.rules draw.old draw.new
+            self.old self.new caller index op.now cites r) }
         ensures release { IsRelease op.now → IsOk result }
         ensures err { OnErr result ((self.new ≡ self.old) × (draw.new ≡ draw.old)) }
         ensures reserve { self.new.reserve ≡ self.old.reserve }
@@ -186,8 +186,8 @@ impl PeerSide {
         requires step { IsSideStep caller op.now }
         requires allowed { MayStep self.old.state caller op.now None }
         requires may { MayDrawStep D.rules draw.old (seen self.old) caller op.now }
-        ensures adds { IfOk result (λ r. AddsInTurn peer_rules D.rules draw.old draw.new (seen self.old)
-            (seen self.new) (step_makings caller index op.now None r (gone_since self.old.state self.new.state))) }
+        ensures adds { IfOk result (λ r. AddsStep D.rules draw.old draw.new
+            self.old self.new caller index op.now None r) }
         ensures err { OnErr result ((self.new ≡ self.old) × (draw.new ≡ draw.old)) }
         ensures reserve { self.new.reserve ≡ self.old.reserve }
     {
@@ -210,8 +210,8 @@ impl PeerSide {
         requires step { IsSideStep caller (Op.Line act.now) }
         requires allowed { MayStep self.old.state caller (Op.Line act.now) cites }
         requires may { MayDrawStep D.rules draw.old (seen self.old) caller (Op.Line act.now) }
-        ensures adds { IfOk result (λ r. AddsInTurn peer_rules D.rules draw.old draw.new (seen self.old) (seen self.new)
-            (step_makings caller index (Op.Line act.now) cites r (gone_since self.old.state self.new.state))) }
+        ensures adds { IfOk result (λ r. AddsStep D.rules draw.old draw.new
+            self.old self.new caller index (Op.Line act.now) cites r) }
         ensures err { OnErr result ((self.new ≡ self.old) × (draw.new ≡ draw.old)) }
         ensures reserve { self.new.reserve ≡ self.old.reserve }
     {
@@ -237,9 +237,8 @@ impl PeerSide {
         requires step { IsPeerStep caller op.now }
         requires allowed { PeerAllows self.old.state caller op.now cites nothing }
         requires may { MayDraw peer_rules D.rules draw.old (seen self.old) caller op.now }
-        ensures adds { IfOk result (λ r. AddsLawful peer_rules D.rules draw.old draw.new (seen self.old)
-            (seen self.new) (record { caller = caller; index = index; op = op.now; reply = r; cites = cites })
-            nothing) }
+        ensures adds { IfOk result (λ r. AddsPeer D.rules draw.old draw.new self.old self.new
+            (step_made caller index op.now r cites) nothing) }
         ensures release { IsRelease op.now → IsOk result }
         ensures err { OnErr result ((self.new ≡ self.old) × (draw.new ≡ draw.old)) }
         ensures reserve { self.new.reserve ≡ self.old.reserve }
@@ -268,8 +267,8 @@ impl PeerSide {
     ) -> Result<Reply, AllocError>
         requires caller { IsPeerThread caller ⊎ IsDriver caller }
         requires may { MayDraw peer_rules D.rules draw.old (seen self.old) caller Op.Begin }
-        ensures adds { IfOk result (λ r. AddsInTurn peer_rules D.rules draw.old draw.new (seen self.old)
-            (seen self.new) (step_makings caller index Op.Begin None r (gone_since self.old.state self.new.state))) }
+        ensures adds { IfOk result (λ r. AddsStep D.rules draw.old draw.new
+            self.old self.new caller index Op.Begin None r) }
         ensures err { OnErr result ((self.new ≡ self.old) × (draw.new ≡ draw.old)) }
         ensures reserve { self.new.reserve ≡ self.old.reserve }
     {
@@ -294,8 +293,8 @@ impl PeerSide {
         requires caller { IsPeerThread caller ⊎ IsDriver caller }
         requires open { IsDriver caller → IsSome self.old.state.marking }
         requires may { MayDraw peer_rules D.rules draw.old (seen self.old) caller Op.Sweep }
-        ensures adds { IfOk result (λ r. AddsInTurn peer_rules D.rules draw.old draw.new (seen self.old)
-            (seen self.new) (step_makings caller index Op.Sweep None r (gone_since self.old.state self.new.state))) }
+        ensures adds { IfOk result (λ r. AddsStep D.rules draw.old draw.new
+            self.old self.new caller index Op.Sweep None r) }
         ensures err { OnErr result ((self.new ≡ self.old) × (draw.new ≡ draw.old)) }
         ensures reserve { self.new.reserve ≡ self.old.reserve }
     {
@@ -326,8 +325,8 @@ impl PeerSide {
         requires caller { IsPeerThread caller }
         requires may_begin { MayDraw peer_rules D.rules draw.old (seen self.old) caller Op.Begin }
         requires may_sweep { MayDraw peer_rules D.rules draw.old (seen self.old) caller Op.Sweep }
-        ensures adds { IfOk result (λ r. AddsInTurn peer_rules D.rules draw.old draw.new (seen self.old)
-            (seen self.new) (collect_makings caller index r (gone_since self.old.state self.new.state))) }
+        ensures adds { IfOk result (λ r. AddsStep D.rules draw.old draw.new
+            self.old self.new caller index (Op.Line Act.Collect) None r) }
         ensures err { OnErr result ((self.new ≡ self.old) × (draw.new ≡ draw.old)) }
         ensures reserve { self.new.reserve ≡ self.old.reserve }
     {
@@ -352,12 +351,11 @@ impl PeerSide {
         op: Op,
         reply: Reply,
     ) -> Result<Reply, AllocError>
-        requires passes { RefusesMarking self.old.state
-            (record { caller = caller; index = index; op = op; reply = reply; cites = None }) }
+        requires passes { RefusesMarking self.old.state (step_made caller index op reply None) }
         requires may { MayDraw peer_rules D.rules draw.old (seen self.old) caller op }
         ensures reply { IfOk result (λ r. r ≡ reply) }
-        ensures adds { OnOk result (AddsLawful peer_rules D.rules draw.old draw.new (seen self.old) (seen self.new)
-            (record { caller = caller; index = index; op = op; reply = reply; cites = None }) nothing) }
+        ensures adds { OnOk result (AddsPeer D.rules draw.old draw.new self.old self.new
+            (step_made caller index op reply None) nothing) }
         ensures err { OnErr result ((self.new ≡ self.old) × (draw.new ≡ draw.old)) }
         ensures reserve { self.new.reserve ≡ self.old.reserve }
     {
@@ -389,8 +387,8 @@ impl PeerSide {
     ) -> Result<Marking, BeginFault>
         requires caller { IsPeerThread caller ⊎ IsDriver caller }
         requires may { MayDraw peer_rules D.rules draw.old (seen self.old) caller Op.Begin }
-        ensures begun { IfOk result (λ j. AddsLawful peer_rules D.rules draw.old draw.new
-            (seen self.old) (seen self.new) (begins caller index j) nothing) }
+        ensures begun { IfOk result (λ j. AddsPeer D.rules draw.old draw.new self.old self.new
+            (begins caller index j) nothing) }
         ensures fault { IfErr result (λ f. IsFaultAt f self.old.state.marking) }
         ensures own { is_own caller self.old.reserve.marking ≡ true → self.old.state.marking ≡ None → IsOk result }
         ensures err { OnErr result ((self.new ≡ self.old) × (draw.new ≡ draw.old)) }
@@ -430,8 +428,8 @@ impl PeerSide {
         requires closed { self.old.state.marking ≡ None }
         requires own { own ≡ true → self.old.reserve.marking ≡ true }
         requires may { MayDraw peer_rules D.rules draw.old (seen self.old) caller Op.Begin }
-        ensures begun { IfOk result (λ j. AddsLawful peer_rules D.rules draw.old draw.new
-            (seen self.old) (seen self.new) (begins caller index j) nothing) }
+        ensures begun { IfOk result (λ j. AddsPeer D.rules draw.old draw.new self.old self.new
+            (begins caller index j) nothing) }
         ensures own { own ≡ true → IsOk result }
         ensures err { OnErr result ((self.new ≡ self.old) × (draw.new ≡ draw.old)) }
         ensures reserve { OnOk result (self.new.reserve ≡ reserve_begun own self.old.reserve) }
@@ -512,8 +510,8 @@ impl PeerSide {
         requires count { (1 ≤ n) × (n ≤ 65535) }
         requires may { MayDraw peer_rules D.rules draw.old (seen self.old) caller (Op.Line (Act.Slice n)) }
         ensures adds { IfOk result (λ r. (told : Told)
-            × AddsLawful peer_rules D.rules draw.old draw.new (seen self.old) (seen self.new)
-            (record { caller = caller; index = index; op = Op.Line (Act.Slice n); reply = r; cites = None }) told) }
+            × AddsPeer D.rules draw.old draw.new self.old self.new
+            (step_made caller index (Op.Line (Act.Slice n)) r None) told) }
         ensures err { OnErr result ((self.new ≡ self.old) × (draw.new ≡ draw.old)) }
         ensures reserve { self.new.reserve ≡ self.old.reserve }
     {
@@ -554,9 +552,8 @@ impl PeerSide {
         requires caller { IsPeerThread caller ⊎ IsDriver caller }
         requires own { MayEnd self.old.state.marking caller }
         requires may { MayDraw peer_rules D.rules draw.old (seen self.old) caller Op.Sweep }
-        ensures swept { IfOk result (λ w. AddsLawful peer_rules D.rules draw.old draw.new
-            (seen self.old) (seen self.new) (ends caller index w.marking w.freed)
-            (sweep_of (drop (length self.old.state.peers.heap.freed) self.new.state.peers.heap.freed))) }
+        ensures swept { IfOk result (λ w. AddsPeer D.rules draw.old draw.new self.old self.new
+            (ends caller index w.marking w.freed) (sweep_told self.old.state self.new.state)) }
         ensures err { OnErr result ((self.old.state.marking ≡ None) × (self.new ≡ self.old) × (draw.new ≡ draw.old)) }
         ensures reserve { self.new.reserve ≡ self.old.reserve }
     {
@@ -583,9 +580,8 @@ impl PeerSide {
         requires caller { IsPeerThread caller ⊎ IsDriver caller }
         requires ended { MarkingIsEnded self.old.state.marking caller marking }
         requires may { MayDraw peer_rules D.rules draw.old (seen self.old) caller Op.Sweep }
-        ensures swept { AddsLawful peer_rules D.rules draw.old draw.new (seen self.old)
-            (seen self.new) (ends caller index marking result)
-            (sweep_of (drop (length self.old.state.peers.heap.freed) self.new.state.peers.heap.freed)) }
+        ensures swept { AddsPeer D.rules draw.old draw.new self.old self.new
+            (ends caller index marking result) (sweep_told self.old.state self.new.state) }
         ensures reserve { self.new.reserve ≡ self.old.reserve }
     {
         let _ = self.rows.blacken(&mut self.grey, u32::MAX);

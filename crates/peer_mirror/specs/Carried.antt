@@ -2,9 +2,10 @@
 -- documentation: a bridge collection adds references between the peers of a component and along cross-references.)
 use Rattle.std.specs.Prelude.{◌≡◌, ℕ, ◌-◌, ◌<◌, List, [], length, map, All, true, Some, None}
 use Rattle.joint_machine.specs.Components as exact
-use Rattle.joint_machine.specs.Components.{IsMember}
+use Rattle.joint_machine.specs.Components.{IsMember, mirror_edges}
 use Rattle.joint_machine.specs.Peers.{Issued, peer_of}
 use Rattle.joint_machine.specs.PeerReplay.{PeerReplay, row_of}
+use Rattle.joint_machine.specs.Told.{Told, references_of}
 use Rattle.bridge_graph.specs.declared.graph.Node.{Node}
 use Rattle.bridge_graph.specs.Handles.{handle_at, handles_of}
 use Rattle.bridge_graph.specs.Parts.{IsBridgeNode}
@@ -12,6 +13,7 @@ use Rattle.peer_heap.specs.Mirroring.{strong_row}
 use Rattle.peer_heap.specs.Mirrors.{MayStand}
 use Rattle.xref_list.specs.declared.components.End.{End as Answered}
 use Rattle.xref_list.specs.Ends.{end_of}
+use Rattle.xref_list.specs.Listing.{Listing}
 use Rattle.peer_heap.specs.Sides.{PeerModel, Reserve}
 
 -- the peer of the handle of the node with that index; 0 where there is none
@@ -27,6 +29,14 @@ carried_end issued nodes (exact.temporary t) = exact.temporary t
 -- edges, carried to the peers of their nodes' handles and to the temporaries
 abbrev pub carried_to_peers : List Issued → List Node → List (exact.End × exact.End) → List (exact.End × exact.End)
 carried_to_peers issued nodes edges = map (λ e. (carried_end issued nodes e.0, carried_end issued nodes e.1)) edges
+
+-- the mirror edges of a part's components, carried to the peers
+abbrev pub mirrored_edges : PeerReplay → List Node → Listing → List (exact.End × exact.End)
+mirrored_edges s nodes l = carried_to_peers s.peers.issued nodes (mirror_edges l.comps l.pairs)
+
+-- what is told beside the mirror
+abbrev pub mirror_told : PeerReplay → List Node → Listing → Told
+mirror_told s nodes l = references_of (mirrored_edges s nodes l)
 
 -- the end of a mirror edge is a bridge node, or one of so many temporaries
 abbrev pub IsEdgeEnd : List Node → ℕ → exact.End → Type 0

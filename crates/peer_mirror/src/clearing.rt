@@ -1,14 +1,13 @@
 // The references go.
 
-ghost use Rattle.std.specs.Prelude.{◌≡◌, ℕ, ◌++◌, [], ◌∷◌, Some};
+ghost use Rattle.std.specs.Prelude.{◌≡◌, ◌++◌, [], ◌∷◌};
 ghost use Rattle.joint_machine.specs.Draws.{numbered};
-ghost use Rattle.joint_machine.specs.Heaps.{IsLive};
-ghost use Rattle.joint_machine.specs.PeerReplay.{MayClear, Mirror, Refers};
-ghost use Rattle.joint_machine.specs.Sides.{peer_rules, AddsLawful, MayDraw};
+ghost use Rattle.joint_machine.specs.PeerReplay.{MayClear};
+ghost use Rattle.joint_machine.specs.Sides.{peer_rules, MayDraw};
 ghost use Rattle.joint_machine.specs.Told.{nothing};
 ghost use Rattle.peer_heap.specs.Cycles.{clears, reserve_over};
-ghost use Rattle.peer_heap.specs.Mirrors.{AreTargetsRestored, HasRestoredHandle};
-ghost use Rattle.peer_heap.specs.Sides.{seen};
+ghost use Rattle.peer_heap.specs.Mirrors.{AreTargetsRestored, AreRestoredEndsLive};
+ghost use Rattle.peer_heap.specs.Sides.{seen, AddsPeer};
 
 use joint_model::{Cycle, Draw, Op, Thread};
 use peer_heap::PeerSide;
@@ -23,12 +22,10 @@ pub fn clear<D: Draw>(side: &mut PeerSide, draw: &mut D, index: u32, cycle: Cycl
     requires clears { MayClear side.old.state cycle.0 }
     requires targets { AreTargetsRestored side.old.state }
     requires may { MayDraw peer_rules D.rules draw.old (seen side.old) Thread.C (Op.Clear cycle) }
-    ensures adds { AddsLawful peer_rules D.rules draw.old draw.new
-        (seen side.old) (seen side.new) (clears index cycle) nothing }
+    ensures adds { AddsPeer D.rules draw.old draw.new side.old side.new (clears index cycle) nothing }
     ensures number { side.new.entries ≡ side.old.entries ++ numbered result (clears index cycle) ∷ [] }
     ensures none { side.new.state.refs ≡ [] }
-    ensures kept { (m : Mirror) (p q : ℕ) → side.old.state.mirror ≡ Some m → Refers side.old.state.refs p q
-        → HasRestoredHandle side.old.state m p → IsLive side.old.state.peers.heap q }
+    ensures kept { AreRestoredEndsLive side.old.state }
     ensures peers { side.new.state.peers ≡ side.old.state.peers }
     ensures reserve { side.new.reserve ≡ reserve_over side.old.reserve }
 {

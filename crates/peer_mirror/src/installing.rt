@@ -1,20 +1,20 @@
 // The references come to stand.
 
-ghost use Rattle.std.specs.Prelude.{◌≡◌, ℕ, ◌≤◌, [], length, IfOk, IfSome, OnErr, OnOk, Some, None};
+ghost use Rattle.std.specs.Prelude.{◌≡◌, ◌≤◌, [], length, IfOk, IfSome, OnErr, OnOk, Some, None};
 ghost use Rattle.joint_machine.specs.Components as exact;
 ghost use Rattle.joint_machine.specs.Components.{mirror_edges};
 ghost use Rattle.joint_machine.specs.Heaps.{IsLive};
 ghost use Rattle.joint_machine.specs.PeerReplay.{MayMirror};
-ghost use Rattle.joint_machine.specs.Sides.{peer_rules, AddsLawful, MayDraw};
-ghost use Rattle.joint_machine.specs.Told.{references_of};
+ghost use Rattle.joint_machine.specs.Sides.{peer_rules, MayDraw};
 ghost use Rattle.bridge_graph.specs.Handles.{handles_of};
 ghost use Rattle.bridge_graph.specs.Parts.{IsBridgeNode};
 ghost use Rattle.xref_list.specs.Ends.{end_of};
 ghost use Rattle.peer_heap.specs.Cycles.{mirrors};
 ghost use Rattle.peer_heap.specs.Mirroring.{end_of as ref_end};
 ghost use Rattle.peer_heap.specs.Mirrors.{MayStand};
-ghost use Rattle.peer_heap.specs.Sides.{seen};
-ghost use Rattle.peer_mirror.specs.Carried.{IsCarried, IsEdgeEnd, carried_end, carried_to_peers, peer_of_node};
+ghost use Rattle.peer_heap.specs.Sides.{seen, AddsPeer};
+ghost use Rattle.peer_mirror.specs.Carried.{IsCarried, IsEdgeEnd, carried_end, peer_of_node, mirrored_edges};
+ghost use Rattle.peer_mirror.specs.Carried.{mirror_told};
 ghost use Rattle.peer_mirror.specs.Carried.{reserve_installed, with_pushed, AreBridgeNodes, AreHandlesStrong};
 
 use bridge_graph::DeadGraph;
@@ -45,13 +45,10 @@ pub fn install<D: Draw>(
     requires none_waits { side.old.reserve.waiting ≡ [] }
     requires mirrors { MayMirror side.old.state cycle.0 (Some cites) }
     requires may { MayDraw peer_rules D.rules draw.old (seen side.old) Thread.C (Op.Mirror cycle) }
-    ensures adds { IfOk result (λ refs. AddsLawful peer_rules D.rules draw.old draw.new (seen side.old)
-        (seen side.new) (mirrors index cycle refs cites)
-        (references_of (carried_to_peers side.old.state.peers.issued graph.now.nodes
-        (mirror_edges comps.now.comps comps.now.pairs)))) }
+    ensures adds { IfOk result (λ n. AddsPeer D.rules draw.old draw.new side.old side.new
+        (mirrors index cycle n cites) (mirror_told side.old.state graph.now.nodes comps.now)) }
     ensures number { IfOk result (λ refs. refs ≡ length (mirror_edges comps.now.comps comps.now.pairs)) }
-    ensures refs { OnOk result (side.new.state.refs ≡ carried_to_peers side.old.state.peers.issued graph.now.nodes
-        (mirror_edges comps.now.comps comps.now.pairs)) }
+    ensures refs { OnOk result (side.new.state.refs ≡ mirrored_edges side.old.state graph.now.nodes comps.now) }
     ensures peers { side.new.state.peers ≡ side.old.state.peers }
     ensures reserve { OnOk result (side.new.reserve ≡ reserve_installed (length (handles_of graph.now.nodes))) }
     ensures err { OnErr result ((side.new ≡ side.old) × (draw.new ≡ draw.old)) }
@@ -85,8 +82,7 @@ fn push_edges(side: &mut PeerSide, graph: &DeadGraph, comps: &Components)
     requires none_waits { side.old.reserve.waiting ≡ [] }
     requires room { length (mirror_edges comps.now.comps comps.now.pairs) ≤ side.old.reserve.refs }
     requires temps { comps.now.heavy ≤ side.old.reserve.temps }
-    ensures { side.new ≡ with_pushed side.old
-        (carried_to_peers side.old.state.peers.issued graph.now.nodes (mirror_edges comps.now.comps comps.now.pairs)) }
+    ensures { side.new ≡ with_pushed side.old (mirrored_edges side.old.state graph.now.nodes comps.now) }
 {
     let members = comps.len() - comps.heavy();
     let mut last = None;

@@ -13,7 +13,7 @@ use Rattle.joint_machine.specs.Control.{Stand, stand_after}
 use Rattle.joint_machine.specs.Histories.{Finished, managed_numbers, peer_numbers}
 use Rattle.joint_machine.specs.Linked.{Linkage}
 use Rattle.joint_machine.specs.Managed.{OpenCycle, candidates_of}
-use Rattle.joint_machine.specs.Sides.{AddsLawful, managed_rules}
+use Rattle.joint_machine.specs.Sides.{AddsLawful, managed_rules, step_made}
 use Rattle.joint_machine.specs.Told.{Noted, Told, nothing}
 use Rattle.joint_machine.specs.PinsTold.{no_pins}
 use Rattle.joint_laws.specs.Spans.{TellsNamed}
@@ -24,7 +24,6 @@ use Rattle.check_laws.specs.Behind.{state_of}
 use Rattle.check_laws.specs.Order.{AbandonData, AbandonTurn}
 use Rattle.managed_heap.specs.Calls.{abandon_made}
 use Rattle.managed_heap.specs.Sides.{ManagedModel, as_side}
-use Rattle.managed_heap.specs.Steps.{step_made}
 use Rattle.run_check.specs.declared.cycles.OpenCycle.{OpenCycle as Kept}
 use Rattle.run_check.specs.declared.draws.Recorder.{Recorder}
 use Rattle.run_check.specs.declared.replays.Replay.{Replay}

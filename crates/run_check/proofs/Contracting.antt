@@ -18,7 +18,7 @@ use Rattle.joint_machine.specs.Linked.{Linkage}
 use Rattle.joint_model.specs.Listed.{answers_of}
 use Rattle.joint_machine.specs.Managed.{Managed, OpenCycle, candidates_of}
 use Rattle.joint_machine.specs.ManagedReplay.{ManagedReplay, MayContract}
-use Rattle.joint_machine.specs.Sides.{AddsLawful, managed_rules}
+use Rattle.joint_machine.specs.Sides.{AddsLawful, managed_rules, step_made}
 use Rattle.joint_machine.specs.Told.{Noted, Told, contraction_of}
 use Rattle.joint_machine.specs.PinsTold.{no_pins, with_pins}
 use Rattle.joint_laws.specs.LinkedInvariants.{given_at}
@@ -35,7 +35,6 @@ use Rattle.caller_turns.specs.Shapes.{next_place}
 use Rattle.managed_heap.specs.Calls.{Contracts, IsContractedBy, MayContractWith, contract_made}
 use Rattle.managed_heap.specs.Graphs.{IsDeadGraph}
 use Rattle.managed_heap.specs.Sides.{ManagedModel, as_side}
-use Rattle.managed_heap.specs.Steps.{step_made}
 use Rattle.run_check.specs.declared.cycles.OpenCycle.{OpenCycle as Kept}
 use Rattle.run_check.specs.declared.draws.Recorder.{Recorder}
 use Rattle.run_check.specs.declared.replays.Replay.{Replay}

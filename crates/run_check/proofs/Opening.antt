@@ -17,7 +17,7 @@ use Rattle.joint_machine.specs.Linked.{Linkage}
 use Rattle.joint_model.specs.Listed.{answers_of}
 use Rattle.joint_machine.specs.Managed.{Managed, OpenCycle, candidates_of}
 use Rattle.joint_machine.specs.ManagedReplay.{ManagedAllows, ManagedReplay}
-use Rattle.joint_machine.specs.Sides.{GoesOn, managed_rules}
+use Rattle.joint_machine.specs.Sides.{GoesOn, managed_rules, step_made}
 use Rattle.joint_machine.specs.Told.{Noted, Told, kept_pins, snap_of}
 use Rattle.joint_machine.specs.PinsTold.{no_pins, with_pins}
 use Rattle.joint_laws.specs.LinkedInvariants.{given_at}
@@ -32,7 +32,6 @@ use Rattle.caller_turns.specs.Shapes.{next_place}
 use Rattle.managed_heap.specs.Graphs.{IsDeadGraph}
 use Rattle.managed_heap.specs.Openings.{snap_made}
 use Rattle.managed_heap.specs.Sides.{ManagedModel}
-use Rattle.managed_heap.specs.Steps.{step_made}
 use Rattle.run_check.specs.declared.cycles.OpenCycle.{OpenCycle as Kept}
 use Rattle.run_check.specs.declared.draws.Recorder.{Recorder}
 use Rattle.run_check.specs.declared.readers.Readers.{Readers}

@@ -16,12 +16,12 @@ use Rattle.joint_machine.specs.Linked.{ManagedLawful}
 use Rattle.joint_machine.specs.Managed.{Managed, pin_taken}
 use Rattle.joint_machine.specs.ManagedReplay.{ManagedReplay, managed_answer}
 use Rattle.joint_machine.specs.Run.{thread_number}
-use Rattle.joint_machine.specs.Sides.{GoesOn, IsOwnLawful, managed_rules}
+use Rattle.joint_machine.specs.Sides.{GoesOn, IsOwnLawful, managed_rules, step_made}
 use Rattle.joint_machine.specs.Told.{Told, kept_pins, nothing}
 use Rattle.joint_laws.proofs.KeptPins.{take_by}
 use Rattle.known_laws.proofs.Bared.{plain_pins, plain_told}
 use Rattle.known_laws.proofs.Unpinned.{allows_same, answers_same, pinned_answer}
-use Rattle.managed_heap.specs.Steps.{step_made, take_op}
+use Rattle.managed_heap.specs.Steps.{take_op}
 
 -- it is lawful in that state, and the side is then as the state after it, but for the pins
 pub record IsMadeIn (s : ManagedReplay) (m : Made) (told : Told) (new : ManagedReplay) : Type 0 where

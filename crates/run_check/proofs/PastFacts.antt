@@ -21,7 +21,7 @@ use Rattle.check_laws.proofs.Knows.{pasts_known}
 use Rattle.check_laws.proofs.Naming.{all_read}
 use Rattle.check_laws.proofs.Tested.{stand_behind}
 use Rattle.check_laws.proofs.Turned.{all_come}
-use Rattle.managed_heap.specs.Steps.{step_made}
+use Rattle.joint_machine.specs.Sides.{step_made}
 use Rattle.run_check.specs.Judging.{IsSoFar}
 
 pub past_kept : (h : Finished) (past : List Noted) → IsSoFar h past → IsPastKept (pinned (state_of past) no_pins)

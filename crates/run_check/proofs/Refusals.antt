@@ -19,7 +19,7 @@ use Rattle.joint_machine.specs.Histories.{Finished, managed_numbers, peer_number
 use Rattle.joint_machine.specs.Linked.{Linkage}
 use Rattle.joint_machine.specs.Managed.{Managed, OpenCycle, candidates_of}
 use Rattle.joint_machine.specs.ManagedReplay.{IsRefusedIn, ManagedReplay, MayRefuse, open_reply, refusal_to}
-use Rattle.joint_machine.specs.Sides.{AddsLawful, managed_rules}
+use Rattle.joint_machine.specs.Sides.{AddsLawful, managed_rules, step_made}
 use Rattle.joint_machine.specs.Told.{Told, Noted, Answer, nothing, snap_of, contraction_of, references_of, slice_of, sweep_of, resolution_of, phase_of, kept_pins}
 use Rattle.joint_machine.specs.PinsTold.{no_pins}
 use Rattle.joint_machine.proofs.Deciding.{none_some}
@@ -34,7 +34,6 @@ use Rattle.check_laws.specs.Order.{RefusalData}
 use Rattle.caller_turns.specs.Shapes.{next_place, stand_of}
 use Rattle.managed_heap.specs.Graphs.{IsDeadGraph}
 use Rattle.managed_heap.specs.Sides.{ManagedModel, as_side}
-use Rattle.managed_heap.specs.Steps.{step_made}
 use Rattle.run_check.specs.declared.cycles.OpenCycle.{OpenCycle as Kept}
 use Rattle.run_check.specs.declared.draws.Recorder.{Recorder}
 use Rattle.run_check.specs.declared.replays.Replay.{Replay}

@@ -18,7 +18,7 @@ use Rattle.joint_machine.specs.Linked.{Linkage}
 use Rattle.joint_model.specs.Listed.{answer_of, answers_of}
 use Rattle.joint_machine.specs.Managed.{OpenCycle, candidates_of}
 use Rattle.joint_machine.specs.ManagedReplay.{AreNew, ManagedReplay}
-use Rattle.joint_machine.specs.Sides.{AddsLawful, managed_rules}
+use Rattle.joint_machine.specs.Sides.{AddsLawful, managed_rules, step_made}
 use Rattle.joint_machine.specs.Told.{Answer, Noted, Told, handles_given, resolution_of}
 use Rattle.joint_machine.specs.PinsTold.{no_pins}
 use Rattle.joint_machine.proofs.Deciding.{none_some}
@@ -32,7 +32,6 @@ use Rattle.check_laws.specs.Order.{ResolveCites, ResolveData, ResolveTurn}
 use Rattle.managed_heap.specs.Calls.{resolve_made}
 use Rattle.managed_heap.specs.Resolving.{MayClose}
 use Rattle.managed_heap.specs.Sides.{ManagedModel, as_side}
-use Rattle.managed_heap.specs.Steps.{step_made}
 use Rattle.run_check.specs.declared.cycles.OpenCycle.{OpenCycle as Kept}
 use Rattle.run_check.specs.declared.draws.Recorder.{Recorder}
 use Rattle.run_check.specs.declared.replays.Replay.{Replay}

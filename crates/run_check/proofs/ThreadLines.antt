@@ -25,7 +25,7 @@ use Rattle.joint_machine.specs.Linked.{Linkage}
 use Rattle.joint_machine.specs.Managed.{Managed, cell_set, pin_taken, weakened_to}
 use Rattle.joint_machine.specs.ManagedReplay.{ManagedReplay, managed_answer}
 use Rattle.joint_machine.specs.Run.{thread_number}
-use Rattle.joint_machine.specs.Sides.{AddsLawful, cell_target, managed_rules, object_or_none}
+use Rattle.joint_machine.specs.Sides.{AddsLawful, cell_target, managed_rules, object_or_none, step_made}
 use Rattle.joint_machine.specs.Told.{Noted, kept_pins, nothing}
 use Rattle.joint_machine.specs.PinsTold.{no_pins, with_pins}
 use Rattle.joint_machine.proofs.Deciding.{none_some}
@@ -40,7 +40,7 @@ use Rattle.check_laws.specs.Order.{CitesBy, CitesSo, IsTurn}
 use Rattle.managed_heap.specs.Pinned.{pin_given}
 use Rattle.managed_heap.specs.Rows.{number_or_none}
 use Rattle.managed_heap.specs.Sides.{ManagedModel, as_side}
-use Rattle.managed_heap.specs.Steps.{step_made, take_op, weak_op}
+use Rattle.managed_heap.specs.Steps.{take_op, weak_op}
 use Rattle.managed_heap.proofs.GivenPins.{pin-slot}
 use Rattle.run_check.specs.declared.draws.Recorder.{Recorder}
 use Rattle.run_check.specs.declared.readers.Readers.{Readers}

@@ -19,14 +19,13 @@ use Rattle.joint_machine.specs.Cycles.{DeadEdge, IsDeadContraction}
 use Rattle.joint_model.specs.Listed.{answers_of}
 use Rattle.joint_machine.specs.Managed.{IsBridge, Managed, OpenCycle}
 use Rattle.joint_machine.specs.ManagedReplay.{AreNew, ManagedReplay}
-use Rattle.joint_machine.specs.Sides.{Side, AddsLawful, managed_rules}
+use Rattle.joint_machine.specs.Sides.{Side, AddsLawful, managed_rules, step_made}
 use Rattle.joint_machine.specs.Told.{Told, handles_given, nothing, phase_of}
 use Rattle.bridge_graph.specs.Parts.{numbers_of}
 use Rattle.joint_machine.proofs.Members.{Contains-cons_cases, Contains-nil}
 use Rattle.managed_heap.specs.Calls.{Abandons, Contracts, MayContractWith, Resolves}
 use Rattle.managed_heap.specs.Openings.{OpensBySnap}
 use Rattle.managed_heap.specs.Resolving.{MayClose}
-use Rattle.managed_heap.specs.Steps.{step_made}
 use Rattle.managed_heap.specs.declared.cycles.ResolveOut.{ResolveOut}
 use Rattle.managed_heap.specs.declared.opening.Opened.{Opened}
 use Rattle.side_tests.specs.Drives.{AreFrom, IsDriven}

@@ -2,7 +2,7 @@ use Rattle.std.proofs.Common.{[], None, refl, rules}
 use Rattle.joint_machine.specs.declared.names.Thread.TheVariants.{C}
 use Rattle.joint_machine.specs.declared.events.Op.TheVariants as op
 use Rattle.joint_machine.specs.Told.{phase_of}
-use Rattle.managed_heap.specs.Steps.{step_made}
+use Rattle.joint_machine.specs.Sides.{step_made}
 use Rattle.seat_calls.proofs.Floors.{below_floor, room_left}
 use Rattle.managed_heap.specs.Sides.{as_side}
 use Rattle.joint_history.proofs.SeatDraws.{drew_managed, plain_event_settled}

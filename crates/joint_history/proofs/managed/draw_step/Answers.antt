@@ -1,7 +1,7 @@
 -- A step sets no cell, and is plain.
 use Rattle.std.proofs.Common.{ap, rules}
 use Rattle.joint_machine.specs.Told.{nothing}
-use Rattle.managed_heap.specs.Steps.{step_made}
+use Rattle.joint_machine.specs.Sides.{step_made}
 use Rattle.seat_calls.proofs.Floors.{below_floor, room_left}
 use Rattle.view_laws.specs.Knowing.{pins_of}
 use Rattle.managed_heap.specs.Sides.{as_side}

@@ -4,11 +4,11 @@ use Rattle.std.specs.Prelude.{false}
 use Rattle.joint_machine.specs.declared.names.MNum.{MNum}
 use Rattle.joint_machine.specs.HistoryLines.{caller_line}
 use Rattle.joint_machine.specs.Run.{thread_number}
-use Rattle.joint_machine.specs.Sides.{managed_rules}
+use Rattle.joint_machine.specs.Sides.{managed_rules, step_made}
 use Rattle.joint_machine.specs.Told.{kept_pins, nothing}
 use Rattle.known_laws.specs.Known.{PinsStand}
 use Rattle.managed_heap.specs.Pinned.{pin_given}
-use Rattle.managed_heap.specs.Steps.{step_made, take_op}
+use Rattle.managed_heap.specs.Steps.{take_op}
 use Rattle.order_table.specs.Rows.{at}
 use Rattle.seat_calls.specs.Passing.{MayAppend}
 use Rattle.seat_calls.proofs.Floors.{below_floor, room_left}

@@ -5,11 +5,11 @@ use Rattle.std.proofs.lemmas.Option.{same_Some}
 use Rattle.joint_machine.proofs.Deciding.{none_some}
 use Rattle.joint_machine.specs.declared.names.MNum.{MNum}
 use Rattle.joint_machine.specs.HistoryLines.{caller_line}
-use Rattle.joint_machine.specs.Sides.{MaySetCell}
+use Rattle.joint_machine.specs.Sides.{MaySetCell, step_made}
 use Rattle.order_table.specs.Rows.{at}
 use Rattle.seat_calls.specs.Passing.{MayAppend}
 use Rattle.joint_machine.specs.Told.{nothing}
-use Rattle.managed_heap.specs.Steps.{step_made, weak_op}
+use Rattle.managed_heap.specs.Steps.{weak_op}
 use Rattle.seat_calls.proofs.Floors.{below_floor, room_left}
 use Rattle.managed_heap.specs.Sides.{as_side}
 use Rattle.joint_history.proofs.Looking.{knows_looked, settled_looked}

@@ -4,13 +4,12 @@ use Rattle.joint_machine.specs.declared.names.Thread.TheVariants.{C}
 use Rattle.joint_machine.specs.declared.events.Op.TheVariants as op
 use Rattle.joint_machine.specs.declared.events.Reply.TheVariants as says
 use Rattle.joint_machine.specs.ManagedReplay.{ManagedReplay}
-use Rattle.joint_machine.specs.Sides.{managed_rules}
+use Rattle.joint_machine.specs.Sides.{managed_rules, step_made}
 use Rattle.joint_machine.specs.Told.{nothing}
 use Rattle.joint_machine.proofs.Deciding.{none_some}
 use Rattle.joint_machine.proofs.SideLists.{AreTaken-push}
 use Rattle.known_laws.proofs.Pinned.{none_stand}
 use Rattle.managed_heap.specs.Calls.{abandon_made}
-use Rattle.managed_heap.specs.Steps.{step_made}
 use Rattle.managed_heap.proofs.Driving.{cycle-there, abandon-goes, adds-lawful}
 use Rattle.managed_heap.proofs.Goes.{side-kept, side-replayed, takings-few}
 use Rattle.managed_heap.proofs.side.ManagedSide.abandon.Goals as goal

@@ -4,11 +4,10 @@ use Rattle.joint_machine.specs.declared.names.Thread.TheVariants.{C}
 use Rattle.joint_machine.specs.declared.events.Made.{Made}
 use Rattle.joint_machine.specs.declared.events.Op.TheVariants as op
 use Rattle.joint_machine.specs.ManagedReplay.{refusal_to}
-use Rattle.joint_machine.specs.Sides.{managed_rules}
+use Rattle.joint_machine.specs.Sides.{managed_rules, step_made}
 use Rattle.joint_machine.specs.Told.{phase_of}
 use Rattle.joint_machine.proofs.SideLists.{AreTaken-push}
 use Rattle.known_laws.proofs.Pinned.{none_stand}
-use Rattle.managed_heap.specs.Steps.{step_made}
 use Rattle.std.proofs.lemmas.Result.{IfOk-from_err}
 use Rattle.managed_heap.proofs.Driving.{adds-lawful}
 use Rattle.managed_heap.proofs.Goes.{side-goes, side-kept, side-replayed, same-answers, HasRoom-two, takings-few}

@@ -9,13 +9,12 @@ use Rattle.joint_machine.specs.Histories.{managed_numbers}
 use Rattle.joint_model.specs.Listed.{answers_of}
 use Rattle.joint_machine.specs.Managed.{OpenCycle}
 use Rattle.joint_machine.specs.ManagedReplay.{ManagedReplay}
-use Rattle.joint_machine.specs.Sides.{managed_rules}
+use Rattle.joint_machine.specs.Sides.{managed_rules, step_made}
 use Rattle.joint_machine.specs.Told.{handles_given, resolution_of}
 use Rattle.joint_machine.proofs.Deciding.{none_some}
 use Rattle.joint_machine.proofs.SideLists.{AreTaken-push}
 use Rattle.known_laws.proofs.Pinned.{none_stand}
 use Rattle.managed_heap.specs.Calls.{resolve_made}
-use Rattle.managed_heap.specs.Steps.{step_made}
 use Rattle.managed_heap.proofs.FreedCandidates.{frees-unanswered}
 use Rattle.managed_heap.proofs.Driving.{resolve-goes, adds-lawful, objects-numbers}
 use Rattle.managed_heap.proofs.Goes.{owed-some, side-kept, side-replayed, kept-rows, takings-more}

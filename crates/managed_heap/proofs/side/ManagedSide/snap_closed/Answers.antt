@@ -6,12 +6,11 @@ use Rattle.joint_machine.specs.declared.names.Thread.TheVariants.{C}
 use Rattle.joint_machine.specs.declared.events.Op.TheVariants as op
 use Rattle.joint_machine.specs.declared.events.Reply.TheVariants as says
 use Rattle.joint_machine.specs.Histories.{managed_numbers}
-use Rattle.joint_machine.specs.Sides.{managed_rules}
+use Rattle.joint_machine.specs.Sides.{managed_rules, step_made}
 use Rattle.joint_machine.specs.Told.{kept_pins, snap_of}
 use Rattle.joint_machine.proofs.SideLists.{AreTaken-push}
 use Rattle.managed_heap.specs.Openings.{snap_made}
 use Rattle.managed_heap.specs.Pinned.{pins_given}
-use Rattle.managed_heap.specs.Steps.{step_made}
 use Rattle.managed_heap.proofs.Driving.{adds-lawful, objects-numbers}
 use Rattle.managed_heap.proofs.Ready.{not_ready, room_there}
 use Rattle.managed_heap.proofs.Goes.{side-kept, side-replayed, kept-rows, HasRoom-two, takings-few}

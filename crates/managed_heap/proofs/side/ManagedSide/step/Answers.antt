@@ -2,12 +2,12 @@
 -- pins or sets a cell.
 use Rattle.std.proofs.Common.{◌≤◌, [], length, refl, ap, arith, sym, ◌∙◌}
 use Rattle.joint_machine.specs.declared.events.Made.{Made}
-use Rattle.joint_machine.specs.Sides.{managed_rules}
+use Rattle.joint_machine.specs.Sides.{managed_rules, step_made}
 use Rattle.joint_machine.specs.Told.{nothing}
 use Rattle.joint_machine.proofs.SideLists.{AreTaken-push}
 use Rattle.known_laws.proofs.Pinned.{none_stand}
 use Rattle.managed_heap.specs.Sides.{state_of}
-use Rattle.managed_heap.specs.Steps.{adopted_by, step_made}
+use Rattle.managed_heap.specs.Steps.{adopted_by}
 use Rattle.std.proofs.lemmas.Result.{IfOk-from_err}
 use Rattle.managed_heap.proofs.Driving.{adds-lawful}
 use Rattle.managed_heap.proofs.Goes.{side-gives, side-kept, side-replayed, step-of, step-bare, step-target, step-allowed, kept-rows, HasRoom-two, takings-more}

@@ -2,11 +2,11 @@
 use Rattle.std.proofs.Common.{◌≤◌, ◌∙◌, None, refl, ap, arith, sym}
 use Rattle.joint_machine.specs.declared.events.Made.{Made}
 use Rattle.joint_machine.specs.Run.{thread_number}
-use Rattle.joint_machine.specs.Sides.{managed_rules}
+use Rattle.joint_machine.specs.Sides.{managed_rules, step_made}
 use Rattle.joint_machine.specs.Told.{kept_pins, nothing}
 use Rattle.joint_machine.proofs.SideLists.{AreTaken-push}
 use Rattle.managed_heap.specs.Pinned.{pin_given, pin_reply, with_taken}
-use Rattle.managed_heap.specs.Steps.{step_made, take_op}
+use Rattle.managed_heap.specs.Steps.{take_op}
 use Rattle.std.proofs.lemmas.Result.{IfOk-from_err}
 use Rattle.managed_heap.proofs.Goes.{side-replayed, side-kept, HasRoom-two, takings-few}
 use Rattle.managed_heap.proofs.TakeEntries.{take-goes, pin-live}

@@ -5,13 +5,13 @@ use Rattle.joint_machine.specs.declared.events.Made.{Made}
 use Rattle.joint_machine.specs.Heaps.{answer, place}
 use Rattle.joint_machine.specs.Managed.{weakened_to}
 use Rattle.joint_machine.specs.Run.{thread_number}
-use Rattle.joint_machine.specs.Sides.{cell_target, managed_rules}
+use Rattle.joint_machine.specs.Sides.{cell_target, managed_rules, step_made}
 use Rattle.joint_machine.specs.Told.{nothing}
 use Rattle.joint_machine.proofs.SideLists.{AreTaken-push}
 use Rattle.known_laws.proofs.Pinned.{none_stand}
 use Rattle.managed_heap.specs.Pinned.{weak_target}
 use Rattle.managed_heap.specs.Sides.{state_of}
-use Rattle.managed_heap.specs.Steps.{step_made, weak_op}
+use Rattle.managed_heap.specs.Steps.{weak_op}
 use Rattle.std.proofs.lemmas.Result.{IfOk-from_err}
 use Rattle.managed_heap.proofs.Goes.{side-goes, side-kept, side-replayed, line-answers, weak-of, may-target, HasRoom-two, takings-few}
 use Rattle.managed_heap.proofs.WeakEntries.{target-is, target-may}

@@ -2,11 +2,11 @@ use Rattle.std.proofs.Common.{◌≡◌, None, refl, sym, ap, ◌∙◌, subst}
 use Rattle.joint_machine.specs.declared.names.Thread.TheVariants.{M}
 use Rattle.joint_machine.specs.declared.lines.Act.TheVariants as act
 use Rattle.joint_machine.specs.declared.events.Made.{Made}
-use Rattle.joint_machine.specs.Sides.{AddsLawful, managed_rules}
+use Rattle.joint_machine.specs.Sides.{AddsLawful, managed_rules, step_made}
 use Rattle.joint_machine.specs.Told.{nothing}
 use Rattle.check_laws.specs.Behind.{state_of}
 use Rattle.managed_heap.specs.Sides.{as_side}
-use Rattle.managed_heap.specs.Steps.{step_made, weak_op}
+use Rattle.managed_heap.specs.Steps.{weak_op}
 use Rattle.run_check.specs.declared.replays.Replay.{Replay}
 use Rattle.run_check.specs.Cells.{targets_after}
 use Rattle.run_check.specs.Judging.{AnswersRightly}

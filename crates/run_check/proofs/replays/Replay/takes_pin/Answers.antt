@@ -4,13 +4,13 @@ use Rattle.joint_machine.specs.declared.names.Thread.TheVariants.{M}
 use Rattle.joint_machine.specs.declared.lines.Act.TheVariants as act
 use Rattle.joint_machine.specs.declared.events.Made.{Made}
 use Rattle.joint_machine.specs.Run.{thread_number}
-use Rattle.joint_machine.specs.Sides.{AddsLawful, managed_rules}
+use Rattle.joint_machine.specs.Sides.{AddsLawful, managed_rules, step_made}
 use Rattle.joint_machine.specs.Told.{kept_pins, nothing}
 use Rattle.known_laws.specs.Known.{PinsStand}
 use Rattle.check_laws.specs.Behind.{state_of}
 use Rattle.managed_heap.specs.Pinned.{pin_given}
 use Rattle.managed_heap.specs.Sides.{as_side}
-use Rattle.managed_heap.specs.Steps.{step_made, take_op}
+use Rattle.managed_heap.specs.Steps.{take_op}
 use Rattle.run_check.specs.declared.replays.Replay.{Replay}
 use Rattle.run_check.specs.Judging.{AnswersRightly, MayReply}
 use Rattle.run_check.proofs.Drawing.{drawing}
