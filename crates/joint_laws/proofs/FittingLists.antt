@@ -52,7 +52,7 @@ adoptable kind.Leaf n s w = absurd w
 adoptable kind.Bridge n s w = w.0
 adoptable kind.LeafBridge n s w = w
 
-named-event : (t : Thread) (o : Op) → IsEvent t o → IsNamed t o
+pub named-event : (t : Thread) (o : Op) → IsEvent t o → IsNamed t o
 named-event t (op.Line a) w = w
 named-event t (op.Make s n) w = (managed-thread t w.0, w.1)
 named-event t (op.Adopt v k n p h) w = (managed-thread t w.0, w.1, adoptable k n w.2.0 w.2.1)

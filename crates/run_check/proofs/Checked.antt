@@ -3,16 +3,9 @@ use Rattle.std.proofs.Common.{◌≡◌, ℕ, ◌+◌, ◌<◌, ◌^◌, ◌↔�
 use Rattle.std.specs.Prelude.{IfOk, Option, Result, Ok, Err, slice_get}
 use Rattle.std.proofs.lemmas.List.{append-nil}
 use Rattle.std.proofs.Math.Seq.{take-append_seam}
-use Rattle.joint_machine.specs.declared.names.Kind.{Kind}
-use Rattle.joint_machine.specs.declared.names.Kind.TheVariants as kind
-use Rattle.joint_machine.specs.declared.names.Sort.{Sort}
-use Rattle.joint_machine.specs.declared.names.Thread.{Thread}
-use Rattle.joint_machine.specs.declared.names.Thread.TheVariants.{M, P, C}
 use Rattle.joint_machine.specs.declared.events.Entry.{Entry}
-use Rattle.joint_machine.specs.declared.events.Op.{Op}
-use Rattle.joint_machine.specs.declared.events.Op.TheVariants as op
 use Rattle.joint_machine.specs.Histories.{Finished, NumberedFrom}
-use Rattle.joint_machine.specs.Lines.{IsAdoptable, IsBridgeObject, IsDriver, IsEvent, IsManagedThread, IsNamed, IsPeerThread, IsThread}
+use Rattle.joint_machine.specs.Lines.{IsNamed}
 use Rattle.joint_machine.specs.LinkedHistories.{IsLinked}
 use Rattle.joint_machine.specs.Told.{Noted}
 use Rattle.known_laws.specs.PastEntries.{entries}
@@ -24,6 +17,7 @@ use Rattle.check_laws.specs.Behind.{in_turn}
 use Rattle.check_laws.specs.Found.{as_named}
 use Rattle.check_laws.specs.Findings.{FailsBy, HasSoundAndCompleteRun, IsAllInOrder, IsFinding, NothingFollows}
 use Rattle.check_laws.specs.Knows.{AreKnown}
+use Rattle.joint_laws.proofs.FittingLists.{named-event}
 use Rattle.check_laws.proofs.Knows.{pasts_known}
 use Rattle.check_laws.proofs.Linking.{legal_linked, linked_runs}
 use Rattle.check_laws.proofs.OneFinding.{entries-length, one_finding}
@@ -31,42 +25,6 @@ use Rattle.run_check.specs.declared.replays.Replay.{Replay}
 use Rattle.run_check.specs.Follows.{Follows}
 use Rattle.run_check.specs.Judging.{GoesOn, GoesOnFrom, IsFoundAtEnd, IsJudged, IsThrough, IsWalked, JudgesRightly}
 use Rattle.run_check.proofs.Pasts.{numbers-more, turn-more}
-
--- an event that a history can have can be named
-managed-thread : (t : Thread) → IsManagedThread t → IsThread t
-managed-thread (M n) w = w
-managed-thread (P n) w = absurd w
-managed-thread C w = absurd w
-
-driver-thread : (t : Thread) → IsDriver t → IsThread t
-driver-thread (M n) w = absurd w
-driver-thread (P n) w = absurd w
-driver-thread C w = tt
-
-peer-thread : (t : Thread) → IsPeerThread t → IsThread t
-peer-thread (M n) w = absurd w
-peer-thread (P n) w = w
-peer-thread C w = absurd w
-
-adoptable : (k : Kind) (n : ℕ) (s : Sort) → IsBridgeObject k n s → IsAdoptable k n
-adoptable kind.Plain n s w = absurd w
-adoptable kind.Leaf n s w = absurd w
-adoptable kind.Bridge n s w = w.0
-adoptable kind.LeafBridge n s w = w
-
-pub named-event : (t : Thread) (o : Op) → IsEvent t o → IsNamed t o
-named-event t (op.Line a) w = w
-named-event t (op.Make s n) w = (managed-thread t w.0, w.1)
-named-event t (op.Adopt v k n p h) w = (managed-thread t w.0, w.1, adoptable k n w.2.0 w.2.1)
-named-event t (op.Lend v x) w = (managed-thread t w.0, w.1, w.2)
-named-event t (op.Land h x) w = (managed-thread t w.0, w.1)
-named-event t (op.Grip x) w = (managed-thread t w.0, w.1)
-named-event t (op.Meet v s n p h) w = (managed-thread t w.0, w.1, w.2)
-named-event t (op.Give v) w = (managed-thread t w.0, w.1)
-named-event t (op.Release h) w = managed-thread t w
-named-event t op.Begin w = elim w [ inl e ↦ peer-thread t e | inr e ↦ driver-thread t e ]
-named-event t op.Sweep w = elim w [ inl e ↦ peer-thread t e | inr e ↦ driver-thread t e ]
-named-event t _ w = driver-thread t w
 
 -- the entry that comes with a number
 module _ (h : Finished) (e : Entry) (old : Replay) (n : ℕ) where
