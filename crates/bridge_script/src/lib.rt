@@ -16,7 +16,7 @@
 //    `joint_model`, and lawful there. A worker calls `Turnstile::pass` before each.
 // 3. `take_act`, `var` and their like read such words back, from the `Words` of a line (`text_words`).
 // 4. `add_act`, `add_var` and their like put the words of a line behind a `Line` of `byte_streams`, for a report that
-// has the same words.
+//    has the same words.
 //
 // A `Script` is made by `parse` or of lines that are one, never changes afterwards, and is dropped by the program when
 // it ends.

@@ -10,8 +10,8 @@
 //
 // - the three tests are nothing else than "may come next", and but for refusals what an entry answers is one;
 // - what a read may answer over a whole history is told by what stands before it and by the snap that a `pending` waits
-// for, and that by a few counts of
-//   managed entries: at a caller's last entry, at a cycle's end, at the setting of a cell;
+//   for, and that by a few counts of managed entries: at a caller's last entry, at a cycle's end, at the setting of a
+//   cell;
 // - the entries so far are a past that somebody knows, so that what the calls of both sides ask for holds behind them;
 // - a history has one finding, and it is legal exactly where it is linked, as far as its replies name its freed lists.
 //

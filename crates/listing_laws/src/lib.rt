@@ -6,7 +6,7 @@
 //
 // - that the snapshots of a linked history are the driver's, so that the driver's own entries tell them all;
 // - that a line of the driver makes no snapshot, unless it is `snap` or `cycle` and no cycle is open, and that the
-// phases which are left make none;
+//   phases which are left make none;
 // - that what is listed of snapshots stays so as more of the managed list is known.
 //
 // `specs/` read alone tells what is true: Listings first, then Writing and Laws. No value is made and nothing runs.

@@ -2,8 +2,8 @@
 // opened.
 //
 // All memory was taken before, so nothing fails. At the end the slots are marked again, unless there is no candidate,
-// from which more was marked: so the live rows without a mark are exactly the dead part, as they stay while the cycle is
-// open.
+// from which more was marked: so the live rows without a mark are exactly the dead part, as they stay while the cycle
+// is open.
 
 ghost use Rattle.std.specs.Prelude.{◌≡◌, ℕ, ◌+◌, ◌≤◌, ◌<◌, None, length};
 ghost use Rattle.joint_machine.specs.Histories.{managed_numbers};

@@ -27,12 +27,12 @@
 // What is promised:
 //
 // - `append` answers a number that no other entry has, greater than every number that its seat knows; the entry stands
-// at the end of two lines.
+//   at the end of two lines.
 // - After `learn` each line that either seat knew begins the line that is known now; a line that one of the two owned
-// is just what that one knew;
-//   and all known lines are beginnings of the lines of one list with the numbers 0, 1, 2 and so on.
+//   is just what that one knew; and all known lines are beginnings of the lines of one list with the numbers 0, 1, 2
+//   and so on.
 // - `finish` shows each role's whole list with what is kept beside its entries, and each caller's; together the numbers
-// 0 to n - 1, each once.
+//   0 to n - 1, each once.
 //
 // These hold whatever the threads do in between, also where a seat is dropped: nobody can then make entries in the
 // lines that it owned, and the order can't be finished, but what was known of them stays. Each call but `new` takes no

@@ -13,7 +13,8 @@ use text_words::{Stretch, is_same, number};
 // Numbers of handles are below this one.
 const SHORT: u64 = 1 << 32;
 
-/// What the next line may begin with: a number, and a line of the driver. What is read doesn't depend on which they are.
+/// What the next line may begin with: a number, and a line of the driver. What is read doesn't depend on which they
+/// are.
 #[derive(Drop)]
 pub(crate) struct LikelyLine {
     number: Count,

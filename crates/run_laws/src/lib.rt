@@ -6,14 +6,14 @@
 // The laws say how these promises add up:
 //
 // - thread by thread each caller holds its own lines, so the history holds each thread's lines in their order, whatever
-// came between;
+//   came between;
 // - line after line, where each line's caller is told of all entries before, the history holds all lines in their
-// order;
+//   order;
 // - such a history is a run of the one machine whose graph joins both heaps, sound and complete, in which each cycle
-// ends; line after line each
-//   read has the one machine's reply, and it is the only history of its script of which that is so; thread by thread no wait answers `pending`;
+//   ends; line after line each read has the one machine's reply, and it is the only history of its script of which that
+//   is so; thread by thread no wait answers `pending`;
 // - a cycle that the driver runs once all threads have ended, and it has heard of what each made, stands behind all
-// else.
+//   else.
 //
 // A law is a function with an empty body, whose clauses are statements of `specs/`; `script_runs` calls it where a run
 // has come so far. So no value is made here, and nothing runs.

@@ -8,17 +8,15 @@
 // lines have left, gives all callers back, and answers the finished history.
 //
 // - `run_serial` runs the lines one after another. The driver is told of each line's entries, and tells the next line's
-// caller all that it knows, so that
-//   a later line's entries have greater numbers. Each read has the one machine's reply, and the history is the only one of these lines in their order
-//   of which that is so.
+//   caller all that it knows, so that a later line's entries have greater numbers. Each read has the one machine's
+//   reply, and the history is the only one of these lines in their order of which that is so.
 // - `run_threads` runs each thread's lines in a job of its own, the driver's in the first one, each line after its turn
-// at the turnstile. Its history
-//   holds each thread's lines in their order, and what came between is told by the entries' numbers. Managed threads read cells without a lock, and no
-//   wait answers `pending`.
+//   at the turnstile. Its history holds each thread's lines in their order, and what came between is told by the
+//   entries' numbers. Managed threads read cells without a lock, and no wait answers `pending`.
 // - `run_compared` runs a script as `run_serial` does, and writes what the second component pass finds in each cycle's
-// dead part.
+//   dead part.
 // - `run_serial_then_cycle` and `run_threads_then_cycle` run one cycle more once all threads have ended; its entries
-// stand behind all others.
+//   stand behind all others.
 //
 // Every history is linked, with all notices that were queued; it is a run of the one machine whose graph joins both
 // heaps, sound and complete, in which each cycle ends. Where a call finds no memory the run ends without a history,

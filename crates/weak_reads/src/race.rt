@@ -3,7 +3,7 @@
 //
 // 1. an order, and by it both heaps behind their locks, with a desk at which a caller waits for each thread;
 // 2. callers from the desk (`callers.rt`): whoever has a thread's caller makes that thread's entries, by calls of
-// `Shared`, or of a `Driver` for thread c;
+//    `Shared`, or of a `Driver` for thread c;
 // 3. a job for each caller, on a thread of its own (`jobs.rt`);
 // 4. all callers given back: the run is finished, and its history counted.
 
