@@ -15,7 +15,7 @@ use Rattle.finaliser_queue.proofs.Notices.TheSendSync.{the_send as notices}
 use Rattle.instance_registry.proofs.Registry.TheSendSync.{the_send as registry}
 use Rattle.global_handles.proofs.HandleTable.TheSendSync.{the_send as table}
 use Rattle.row_heap.specs.contracts.places.Rows as Rows
-use Rattle.managed_heap.proofs.rows.Held.TheSendSync.{the_send as held}
+use Rattle.managed_heap.proofs.rows.Header.TheSendSync.{the_send as held}
 use Rattle.managed_heap.specs.contracts.rooms.Room as Room
 use Rattle.managed_heap.specs.contracts.rooms.SnapRoom as SnapRoom
 use Rattle.managed_heap.specs.contracts.rows.ManagedRows as ManagedRows

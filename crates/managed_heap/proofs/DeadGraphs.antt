@@ -19,7 +19,7 @@ use Rattle.joint_machine.proofs.Numbered.{set-at_same, set-at_other, set-at_here
 use Rattle.bridge_graph.specs.declared.graph.Node.{Node}
 use Rattle.bridge_graph.specs.Parts.{Part, NodeLeads, opaque_at, numbers_of}
 use Rattle.managed_heap.specs.Graphs.{ArePlaces, HasDeadField, HasPlaced, IsPlaceOf, IsDeadGraph, handle_number, handle_named, held_at, node_of}
-use Rattle.managed_heap.specs.declared.rows.Held.{Held}
+use Rattle.managed_heap.specs.declared.rows.Header.{Header}
 use Rattle.managed_heap.proofs.Lists.{beside-at}
 
 -- rising numbers, by their places
@@ -229,8 +229,8 @@ IsDeadGraph-made s h ms g same live nodes edges =
     }
 
 -- the handle beside a row
-pub held_at-at : (infos : List Held) (m : ℕ) (d : Held) → 1 ≤ m → m ≤ length infos → held_at (map (λ (i : Held). i.handle) infos) m ≡ (get_or infos (m - 1) d).handle
-held_at-at infos m d one few = ap (λ (o : Option (Option ℕ)). elim o [ None ↦ None | Some h ↦ h ]) (beside-at (λ (i : Held). i.handle) infos m d one few)
+pub held_at-at : (headers : List Header) (m : ℕ) (d : Header) → 1 ≤ m → m ≤ length headers → held_at (map (λ (i : Header). i.handle) headers) m ≡ (get_or headers (m - 1) d).handle
+held_at-at headers m d one few = ap (λ (o : Option (Option ℕ)). elim o [ None ↦ None | Some h ↦ h ]) (beside-at (λ (i : Header). i.handle) headers m d one few)
 
 -- a place is that of a node
 pub place-there : (places : List ℕ) (y place n : ℕ) → slice_get places y ≡ Some place → (place ≡ 0 → ⊥) → ((z k : ℕ) → slice_get places z ≡ Some (k + 1) → k < n) → place - 1 < n

@@ -19,7 +19,7 @@ use Rattle.joint_machine.proofs.Numbered.{numbered_set-same, numbered_set-other}
 use Rattle.joint_machine.proofs.Deciding.{none_some, some-same, not-from, false-from}
 use Rattle.joint_laws.proofs.Registered.{without_twins-parts, without_twins-keeps}
 use Rattle.heap_rules.proofs.Numbered.{map-set_number}
-use Rattle.managed_heap.specs.declared.rows.Held.{Held}
+use Rattle.managed_heap.specs.declared.rows.Header.{Header}
 use Rattle.managed_heap.specs.Resolving.{AreCleared, has_peer}
 use Rattle.managed_heap.specs.Rows.{pairs_of, ArePeers}
 use Rattle.managed_heap.proofs.Lists.{filter-agree, filter-whole, map-filter}
@@ -40,10 +40,10 @@ AreCleared-none peers m at = λ p k. (
 )
 
 -- a row whose peer is cleared
-pub AreCleared-set : (infos : List Held) (m : ℕ) (i : Held) → 1 ≤ m → i.peer ≡ None → AreCleared (peers_of infos) (peers_of (set infos (m - 1) i)) (m ∷ [])
-AreCleared-set infos m i one none =
-    let peers = peers_of infos in
-    let after : peers_of (set infos (m - 1) i) ≡ numbered_set peers m None = map-set_number (λ (j : Held). j.peer) infos m i one ∙ ap (λ z. numbered_set peers m z) none in
+pub AreCleared-set : (headers : List Header) (m : ℕ) (i : Header) → 1 ≤ m → i.peer ≡ None → AreCleared (peers_of headers) (peers_of (set headers (m - 1) i)) (m ∷ [])
+AreCleared-set headers m i one none =
+    let peers = peers_of headers in
+    let after : peers_of (set headers (m - 1) i) ≡ numbered_set peers m None = map-set_number (λ (j : Header). j.peer) headers m i one ∙ ap (λ z. numbered_set peers m z) none in
     λ p k. (
       (λ e.
           let f : numbered_at (numbered_set peers m None) k ≡ Some (Some p) = subst (λ z. numbered_at z k ≡ Some (Some p)) after e in
@@ -71,9 +71,9 @@ peer-there (Some None) e = (let f : ⊥ = cc in absurd f)
 peer-there (Some (Some p)) e = (p, refl)
 
 -- of the pairs stay those of the rows that aren't cleared
-pub pairs-left : (ps : List (PNum × MNum)) (infos others : List Held) (ms : List ℕ) → ArePeers ps infos → AreCleared (peers_of infos) (peers_of others) ms
+pub pairs-left : (ps : List (PNum × MNum)) (headers others : List Header) (ms : List ℕ) → ArePeers ps headers → AreCleared (peers_of headers) (peers_of others) ms
     → pairs_of (filter (λ (q : PNum × MNum). has_peer (peers_of others) q.1.0) ps) ≡ without_twins (pairs_of ps) ms
-pairs-left ps infos others ms a cleared =
+pairs-left ps headers others ms a cleared =
     map-filter (λ (q : PNum × MNum). (q.0.0, q.1.0)) (λ (q : ℕ × ℕ). has_peer (peers_of others) q.1) ps
     ∙ filter-agree (λ (q : ℕ × ℕ). has_peer (peers_of others) q.1) (λ (q : ℕ × ℕ). not (list_any (nat_eq q.1) ms)) (pairs_of ps) (λ q c. agree q.0 q.1 c)
   where
@@ -86,14 +86,15 @@ pairs-left ps infos others ms a cleared =
     ]
 
 -- where no row had a peer, no pair goes
-pub pairs-same : (ps : List (PNum × MNum)) (infos : List Held) (ms : List ℕ) → ArePeers ps infos → AreCleared (peers_of infos) (peers_of infos) ms → pairs_of ps ≡ without_twins (pairs_of ps) ms
-pairs-same ps infos ms a cleared = sym (filter-whole (λ (q : ℕ × ℕ). not (list_any (nat_eq q.1) ms)) (pairs_of ps) (λ q c.
+pub pairs-same : (ps : List (PNum × MNum)) (headers : List Header) (ms : List ℕ) → ArePeers ps headers
+    → AreCleared (peers_of headers) (peers_of headers) ms → pairs_of ps ≡ without_twins (pairs_of ps) ms
+pairs-same ps headers ms a cleared = sym (filter-whole (λ (q : ℕ × ℕ). not (list_any (nat_eq q.1) ms)) (pairs_of ps) (λ q c.
     not-from (list_any (nat_eq q.1) ms) (λ t. ((cleared q.0 q.1).0 ((a q.0 q.1).0 c)).1 (Contains-from_any eqb-true q.1 ms t))))
 
 -- beside the rows stand the peers of the pairs that are left
-pub ArePeers-left : (ps qs : List (PNum × MNum)) (infos others : List Held) (ms : List ℕ) → ArePeers ps infos
-    → AreCleared (peers_of infos) (peers_of others) ms → pairs_of qs ≡ without_twins (pairs_of ps) ms → ArePeers qs others
-ArePeers-left ps qs infos others ms a cleared is = λ p m. (
+pub ArePeers-left : (ps qs : List (PNum × MNum)) (headers others : List Header) (ms : List ℕ) → ArePeers ps headers
+    → AreCleared (peers_of headers) (peers_of others) ms → pairs_of qs ≡ without_twins (pairs_of ps) ms → ArePeers qs others
+ArePeers-left ps qs headers others ms a cleared is = λ p m. (
   (λ c.
       let r = without_twins-parts (pairs_of ps) ms p m (subst (λ z. Contains z (p, m)) is c) in
       (cleared p m).1 ((a p m).0 r.0, r.1)),

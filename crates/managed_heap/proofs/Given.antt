@@ -16,7 +16,7 @@ use Rattle.joint_machine.proofs.Numbered.{numbered_set-same, numbered_set-other}
 use Rattle.heap_rules.proofs.Numbered.{map-set_number}
 use Rattle.joint_laws.proofs.Registered.{registered-none, without_twins-parts, without_twins-keeps}
 use Rattle.instance_registry.specs.Pairs.{twin_in, without, PeersDistinct}
-use Rattle.managed_heap.specs.declared.rows.Held.{Held}
+use Rattle.managed_heap.specs.declared.rows.Header.{Header}
 use Rattle.finaliser_queue.specs.Queue.{Queue}
 use Rattle.managed_heap.specs.Rows.{pairs_of, number_or_none, rows_of, ArePeers}
 use Rattle.managed_heap.specs.TwinEvents.{give_row, left_by}
@@ -78,39 +78,39 @@ without-is (e ∷ es) p x d alike = by (nat_eq p.0 e.0.0) refl (without-is es p 
         (stays-other x e.1.0 (λ s. true-false (nat_eq p.0 e.0.0) (eq-eqb p.0 e.0.0 (sym (first.0 s))) t)))
 
 -- beside the row stands no peer any more, where the registry's pairs are those of the other rows
-pub ArePeers-given : (pairs pairs' : List (PNum × MNum)) (infos : List Held) (x : ℕ) (i : Held) → 1 ≤ x → i.peer ≡ None
-    → pairs_of pairs' ≡ without_twins (pairs_of pairs) (x ∷ []) → ArePeers pairs infos → ArePeers pairs' (set infos (x - 1) i)
-ArePeers-given pairs pairs' infos x i low none left a = λ q n. (forward q n, back q n)
+pub ArePeers-given : (pairs pairs' : List (PNum × MNum)) (headers : List Header) (x : ℕ) (i : Header) → 1 ≤ x → i.peer ≡ None
+    → pairs_of pairs' ≡ without_twins (pairs_of pairs) (x ∷ []) → ArePeers pairs headers → ArePeers pairs' (set headers (x - 1) i)
+ArePeers-given pairs pairs' headers x i low none left a = λ q n. (forward q n, back q n)
   where
-    peers : peers_of (set infos (x - 1) i) ≡ numbered_set (peers_of infos) x i.peer
-    peers = map-set_number (λ (j : Held). j.peer) infos x i low
+    peers : peers_of (set headers (x - 1) i) ≡ numbered_set (peers_of headers) x i.peer
+    peers = map-set_number (λ (j : Header). j.peer) headers x i low
 
     only : (n : ℕ) → Contains (x ∷ []) n → n ≡ x
     only n c = elim (Contains-cons_cases x [] n c) [ inl e ↦ sym e | inr d ↦ absurd (Contains-nil n d) ]
 
-    forward : (q n : ℕ) → Contains (pairs_of pairs') (q, n) → numbered_at (peers_of (set infos (x - 1) i)) n ≡ Some (Some q)
+    forward : (q n : ℕ) → Contains (pairs_of pairs') (q, n) → numbered_at (peers_of (set headers (x - 1) i)) n ≡ Some (Some q)
     forward q n c =
         let r = without_twins-parts (pairs_of pairs) (x ∷ []) q n (subst (λ z. Contains z (q, n)) left c) in
         let ne : n ≢ x = λ e. r.1 (subst (λ z. Contains (x ∷ []) z) (sym e) (Contains-here x [])) in
-        ap (λ z. numbered_at z n) peers ∙ (numbered_set-other (peers_of infos) x n i.peer ne ∙ (a q n).0 r.0)
+        ap (λ z. numbered_at z n) peers ∙ (numbered_set-other (peers_of headers) x n i.peer ne ∙ (a q n).0 r.0)
 
-    back : (q n : ℕ) → numbered_at (peers_of (set infos (x - 1) i)) n ≡ Some (Some q) → Contains (pairs_of pairs') (q, n)
+    back : (q n : ℕ) → numbered_at (peers_of (set headers (x - 1) i)) n ≡ Some (Some q) → Contains (pairs_of pairs') (q, n)
     back q n e =
-        let at : numbered_at (numbered_set (peers_of infos) x i.peer) n ≡ Some (Some q) = subst (λ z. numbered_at z n ≡ Some (Some q)) peers e in
+        let at : numbered_at (numbered_set (peers_of headers) x i.peer) n ≡ Some (Some q) = subst (λ z. numbered_at z n ≡ Some (Some q)) peers e in
         elim (cases_eq n x) [
-          | inl same ↦ absurd (none_some q (sym none ∙ numbered_set-same (peers_of infos) x i.peer (Some q)
-              (subst (λ z. numbered_at (numbered_set (peers_of infos) x i.peer) z ≡ Some (Some q)) same at)))
+          | inl same ↦ absurd (none_some q (sym none ∙ numbered_set-same (peers_of headers) x i.peer (Some q)
+              (subst (λ z. numbered_at (numbered_set (peers_of headers) x i.peer) z ≡ Some (Some q)) same at)))
           | inr ne ↦ subst (λ z. Contains z (q, n)) (sym left) (without_twins-keeps (pairs_of pairs) (x ∷ []) q n
-              ((a q n).1 (sym (numbered_set-other (peers_of infos) x n i.peer ne) ∙ at)) (λ c. ne (only n c)))
+              ((a q n).1 (sym (numbered_set-other (peers_of headers) x n i.peer ne) ∙ at)) (λ c. ne (only n c)))
         ]
 
 -- the registry after the row left it
-pub left-is : (pairs : List (PNum × MNum)) (infos : List Held) (x : ℕ) (i : Held) → numbered_at (peers_of infos) x ≡ Some i.peer → ((p : ℕ) → i.peer ≡ Some p → PeersDistinct pairs)
-    → ((p m n : ℕ) → Contains (pairs_of pairs) (p, m) → Contains (pairs_of pairs) (p, n) → m ≡ n) → ArePeers pairs infos → pairs_of (left_by pairs i.peer) ≡ without_twins (pairs_of pairs) (x ∷ [])
-left-is pairs infos x i at distinct one_row a = by i.peer refl
+pub left-is : (pairs : List (PNum × MNum)) (headers : List Header) (x : ℕ) (i : Header) → numbered_at (peers_of headers) x ≡ Some i.peer → ((p : ℕ) → i.peer ≡ Some p → PeersDistinct pairs)
+    → ((p m n : ℕ) → Contains (pairs_of pairs) (p, m) → Contains (pairs_of pairs) (p, n) → m ≡ n) → ArePeers pairs headers → pairs_of (left_by pairs i.peer) ≡ without_twins (pairs_of pairs) (x ∷ [])
+left-is pairs headers x i at distinct one_row a = by i.peer refl
   where
     beside : (q n : ℕ) → Contains (pairs_of pairs) (q, n) → n ≡ x → i.peer ≡ Some q
-    beside q n c s = some-same i.peer (Some q) (sym at ∙ subst (λ z. numbered_at (peers_of infos) z ≡ Some (Some q)) s ((a q n).0 c))
+    beside q n c s = some-same i.peer (Some q) (sym at ∙ subst (λ z. numbered_at (peers_of headers) z ≡ Some (Some q)) s ((a q n).0 c))
 
     by : (o : Option ℕ) → i.peer ≡ o → pairs_of (left_by pairs o) ≡ without_twins (pairs_of pairs) (x ∷ [])
     by None e = sym (none-left (pairs_of pairs) x (λ q c. none_some q (sym e ∙ beside q x c refl)))
@@ -129,13 +129,13 @@ set-same (x ∷ xs) (suc zero) y e = ap (λ z. z ∷ xs) (sym (some-same x y e))
 set-same (x ∷ xs) (suc (suc k)) y e = ap (λ z. x ∷ z) (set-same xs (suc k) y e)
 
 -- the rows after the row gave its handle up
-pub given-state : (heap : Heap) (infos : List Held) (pairs pairs' : List (PNum × MNum)) (cells pins : List (Option ℕ))
-    (queue : Queue) (cycle : Option OpenCycle) (cycles : ℕ) (contracted : Bool) (x : ℕ) (i : Held)
-    → 1 ≤ x → numbered_at (map (λ (j : Held). j.kind) infos) x ≡ Some i.kind → i.handle ≡ None → pairs_of pairs' ≡ without_twins (pairs_of pairs) (x ∷ [])
-    → (give_row (rows_of heap infos pairs cells pins queue cycle cycles contracted) x).state ≡ rows_of heap (set infos (x - 1) i) pairs' cells pins queue cycle cycles contracted
-given-state heap infos pairs pairs' cells pins queue cycle cycles contracted x i low kind none left =
-    let kinds : map (λ (j : Held). j.kind) (set infos (x - 1) i) ≡ map (λ (j : Held). j.kind) infos = map-set_number (λ (j : Held). j.kind) infos x i low
-    ∙ set-same (map (λ (j : Held). j.kind) infos) x i.kind kind in
-    let held : map (λ (j : Held). j.handle) (set infos (x - 1) i) ≡ numbered_set (map (λ (j : Held). j.handle) infos) x None = map-set_number (λ (j : Held). j.handle) infos x i low
-    ∙ ap (λ z. numbered_set (map (λ (j : Held). j.handle) infos) x z) none in
+pub given-state : (heap : Heap) (headers : List Header) (pairs pairs' : List (PNum × MNum)) (cells pins : List (Option ℕ))
+    (queue : Queue) (cycle : Option OpenCycle) (cycles : ℕ) (contracted : Bool) (x : ℕ) (i : Header)
+    → 1 ≤ x → numbered_at (map (λ (j : Header). j.kind) headers) x ≡ Some i.kind → i.handle ≡ None → pairs_of pairs' ≡ without_twins (pairs_of pairs) (x ∷ [])
+    → (give_row (rows_of heap headers pairs cells pins queue cycle cycles contracted) x).state ≡ rows_of heap (set headers (x - 1) i) pairs' cells pins queue cycle cycles contracted
+given-state heap headers pairs pairs' cells pins queue cycle cycles contracted x i low kind none left =
+    let kinds : map (λ (j : Header). j.kind) (set headers (x - 1) i) ≡ map (λ (j : Header). j.kind) headers = map-set_number (λ (j : Header). j.kind) headers x i low
+    ∙ set-same (map (λ (j : Header). j.kind) headers) x i.kind kind in
+    let held : map (λ (j : Header). j.handle) (set headers (x - 1) i) ≡ numbered_set (map (λ (j : Header). j.handle) headers) x None = map-set_number (λ (j : Header). j.handle) headers x i low
+    ∙ ap (λ z. numbered_set (map (λ (j : Header). j.handle) headers) x z) none in
     rw (kinds, held, left) refl

@@ -8,7 +8,7 @@ use Rattle.joint_machine.specs.Heaps.{numbered_at}
 use Rattle.joint_machine.specs.Histories.{managed_numbers}
 use Rattle.joint_machine.proofs.Members.{Contains-here, Contains-there}
 use Rattle.reachability.specs.Marks.{marked, unmarked_of}
-use Rattle.managed_heap.specs.declared.rows.Held.{Held}
+use Rattle.managed_heap.specs.declared.rows.Header.{Header}
 use Rattle.managed_heap.specs.Resolving.{has_handle, has_peer}
 
 -- tests that agree on the members of a list keep the same of it
@@ -40,15 +40,15 @@ pub unmarked-numbers : (marks : List Bool) (ms : List MNum) → managed_numbers 
 unmarked-numbers marks ms = map-filter (λ (m : MNum). m.0) (λ m. not (marked marks m)) ms
 
 -- what stands beside a row
-pub beside-at : {A : Type 0} (f : Held → A) (infos : List Held) (m : ℕ) (d : Held) → 1 ≤ m → m ≤ length infos → numbered_at (map f infos) m ≡ Some (f (get_or infos (m - 1) d))
-beside-at f infos zero d one few = absurd (omega (arith, one))
-beside-at {A} f infos (suc i) d one few =
+pub beside-at : {A : Type 0} (f : Header → A) (headers : List Header) (m : ℕ) (d : Header) → 1 ≤ m → m ≤ length headers → numbered_at (map f headers) m ≡ Some (f (get_or headers (m - 1) d))
+beside-at f headers zero d one few = absurd (omega (arith, one))
+beside-at {A} f headers (suc i) d one few =
     let before : suc i - 1 ≡ i = omega arith in
-    let within : i < length infos = omega (arith, few) in
-    subst (λ j. slice_get (map f infos) i ≡ Some (f (get_or infos j d))) (sym before) (slice_get-map f infos i ∙ ap (option_map f) (slice_get-get_or infos i d within))
+    let within : i < length headers = omega (arith, few) in
+    subst (λ j. slice_get (map f headers) i ≡ Some (f (get_or headers j d))) (sym before) (slice_get-map f headers i ∙ ap (option_map f) (slice_get-get_or headers i d within))
 
-pub has_handle-at : (infos : List Held) (m : ℕ) (d : Held) → 1 ≤ m → m ≤ length infos → has_handle (map (λ (i : Held). i.handle) infos) m ≡ is_some (get_or infos (m - 1) d).handle
-has_handle-at infos m d one few = ap (λ (o : Option (Option ℕ)). is_some (elim o [ None ↦ None | Some h ↦ h ])) (beside-at (λ (i : Held). i.handle) infos m d one few)
+pub has_handle-at : (headers : List Header) (m : ℕ) (d : Header) → 1 ≤ m → m ≤ length headers → has_handle (map (λ (i : Header). i.handle) headers) m ≡ is_some (get_or headers (m - 1) d).handle
+has_handle-at headers m d one few = ap (λ (o : Option (Option ℕ)). is_some (elim o [ None ↦ None | Some h ↦ h ])) (beside-at (λ (i : Header). i.handle) headers m d one few)
 
-pub has_peer-at : (infos : List Held) (m : ℕ) (d : Held) → 1 ≤ m → m ≤ length infos → has_peer (map (λ (i : Held). i.peer) infos) m ≡ is_some (get_or infos (m - 1) d).peer
-has_peer-at infos m d one few = ap (λ (o : Option (Option ℕ)). is_some (elim o [ None ↦ None | Some p ↦ p ])) (beside-at (λ (i : Held). i.peer) infos m d one few)
+pub has_peer-at : (headers : List Header) (m : ℕ) (d : Header) → 1 ≤ m → m ≤ length headers → has_peer (map (λ (i : Header). i.peer) headers) m ≡ is_some (get_or headers (m - 1) d).peer
+has_peer-at headers m d one few = ap (λ (o : Option (Option ℕ)). is_some (elim o [ None ↦ None | Some p ↦ p ])) (beside-at (λ (i : Header). i.peer) headers m d one few)

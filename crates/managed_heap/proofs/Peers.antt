@@ -13,61 +13,61 @@ use Rattle.joint_machine.proofs.Deciding.{none_some}
 use Rattle.joint_machine.proofs.HeapLemmas.{is_freed-live}
 use Rattle.joint_machine.proofs.Numbered.{numbered-within, numbered-push_old, numbered-push_new, numbered-push_cases}
 use Rattle.heap_rules.proofs.Numbered.{numbered-read}
-use Rattle.managed_heap.specs.declared.rows.Held.{Held}
+use Rattle.managed_heap.specs.declared.rows.Header.{Header}
 use Rattle.managed_heap.specs.Rows.{pairs_of, ArePeers}
 
 -- the peers that stand beside rows
-abbrev pub peers_of : List Held → List (Option ℕ)
-peers_of infos = map (λ i. i.peer) infos
+abbrev pub peers_of : List Header → List (Option ℕ)
+peers_of headers = map (λ i. i.peer) headers
 
-peers-push : (infos : List Held) (i : Held) → peers_of (infos ++ i ∷ []) ≡ peers_of infos ++ i.peer ∷ []
-peers-push infos i = map-append (λ (j : Held). j.peer) infos (i ∷ [])
+peers-push : (headers : List Header) (i : Header) → peers_of (headers ++ i ∷ []) ≡ peers_of headers ++ i.peer ∷ []
+peers-push headers i = map-append (λ (j : Header). j.peer) headers (i ∷ [])
 
 -- a further row keeps the peers beside the others
-peers-kept : (infos : List Held) (i : Held) (m p : ℕ) → numbered_at (peers_of infos) m ≡ Some (Some p) → numbered_at (peers_of (infos ++ i ∷ [])) m ≡ Some (Some p)
-peers-kept infos i m p at = subst (λ z. numbered_at z m ≡ Some (Some p)) (sym (peers-push infos i))
-    (numbered-push_old (peers_of infos) i.peer m (numbered-within (peers_of infos) m (Some p) at).1 ∙ at)
+peers-kept : (headers : List Header) (i : Header) (m p : ℕ) → numbered_at (peers_of headers) m ≡ Some (Some p) → numbered_at (peers_of (headers ++ i ∷ [])) m ≡ Some (Some p)
+peers-kept headers i m p at = subst (λ z. numbered_at z m ≡ Some (Some p)) (sym (peers-push headers i))
+    (numbered-push_old (peers_of headers) i.peer m (numbered-within (peers_of headers) m (Some p) at).1 ∙ at)
 
-pub ArePeers-row : (pairs : List (PNum × MNum)) (infos : List Held) (i : Held) → i.peer ≡ None → ArePeers pairs infos → ArePeers pairs (infos ++ i ∷ [])
-ArePeers-row pairs infos i none a = λ p m. (
-  (λ c. peers-kept infos i m p ((a p m).0 c)),
-  (λ e. elim (numbered-push_cases (peers_of infos) i.peer m (Some p) (subst (λ z. numbered_at z m ≡ Some (Some p)) (peers-push infos i) e)) [
+pub ArePeers-row : (pairs : List (PNum × MNum)) (headers : List Header) (i : Header) → i.peer ≡ None → ArePeers pairs headers → ArePeers pairs (headers ++ i ∷ [])
+ArePeers-row pairs headers i none a = λ p m. (
+  (λ c. peers-kept headers i m p ((a p m).0 c)),
+  (λ e. elim (numbered-push_cases (peers_of headers) i.peer m (Some p) (subst (λ z. numbered_at z m ≡ Some (Some p)) (peers-push headers i) e)) [
     | inl w ↦ (a p m).1 w
     | inr w ↦ absurd (none_some p (sym none ∙ w.1))
   ]),
 )
 
-pub ArePeers-pair : (pairs : List (PNum × MNum)) (infos : List Held) (i : Held) (p : PNum) (m : MNum)
-    → i.peer ≡ Some p.0 → m.0 ≡ length infos + 1 → ArePeers pairs infos → ArePeers (pairs ++ (p, m) ∷ []) (infos ++ i ∷ [])
-ArePeers-pair pairs infos i p m peer next a = λ q n. (forward q n, back q n)
+pub ArePeers-pair : (pairs : List (PNum × MNum)) (headers : List Header) (i : Header) (p : PNum) (m : MNum)
+    → i.peer ≡ Some p.0 → m.0 ≡ length headers + 1 → ArePeers pairs headers → ArePeers (pairs ++ (p, m) ∷ []) (headers ++ i ∷ [])
+ArePeers-pair pairs headers i p m peer next a = λ q n. (forward q n, back q n)
   where
     all : pairs_of (pairs ++ (p, m) ∷ []) ≡ pairs_of pairs ++ (p.0, m.0) ∷ []
     all = map-append (λ (e : PNum × MNum). (e.0.0, e.1.0)) pairs ((p, m) ∷ [])
 
-    place : length (peers_of infos) + 1 ≡ m.0
-    place = omega (arith, length-map infos (λ (j : Held). j.peer), next)
+    place : length (peers_of headers) + 1 ≡ m.0
+    place = omega (arith, length-map headers (λ (j : Header). j.peer), next)
 
-    here : numbered_at (peers_of (infos ++ i ∷ [])) m.0 ≡ Some (Some p.0)
-    here = subst (λ z. numbered_at z m.0 ≡ Some (Some p.0)) (sym (peers-push infos i))
-        (subst (λ z. numbered_at (peers_of infos ++ i.peer ∷ []) z ≡ Some (Some p.0)) place (numbered-push_new (peers_of infos) i.peer ∙ ap Some peer))
+    here : numbered_at (peers_of (headers ++ i ∷ [])) m.0 ≡ Some (Some p.0)
+    here = subst (λ z. numbered_at z m.0 ≡ Some (Some p.0)) (sym (peers-push headers i))
+        (subst (λ z. numbered_at (peers_of headers ++ i.peer ∷ []) z ≡ Some (Some p.0)) place (numbered-push_new (peers_of headers) i.peer ∙ ap Some peer))
 
-    forward : (q n : ℕ) → Contains (pairs_of (pairs ++ (p, m) ∷ [])) (q, n) → numbered_at (peers_of (infos ++ i ∷ [])) n ≡ Some (Some q)
+    forward : (q n : ℕ) → Contains (pairs_of (pairs ++ (p, m) ∷ [])) (q, n) → numbered_at (peers_of (headers ++ i ∷ [])) n ≡ Some (Some q)
     forward q n c = elim (Contains-push_cases (pairs_of pairs) (p.0, m.0) (q, n) (subst (λ z. Contains z (q, n)) all c)) [
-      | inl w ↦ peers-kept infos i n q ((a q n).0 w)
-      | inr e ↦ subst (λ (z : ℕ × ℕ). numbered_at (peers_of (infos ++ i ∷ [])) z.1 ≡ Some (Some z.0)) e here
+      | inl w ↦ peers-kept headers i n q ((a q n).0 w)
+      | inr e ↦ subst (λ (z : ℕ × ℕ). numbered_at (peers_of (headers ++ i ∷ [])) z.1 ≡ Some (Some z.0)) e here
     ]
 
-    back : (q n : ℕ) → numbered_at (peers_of (infos ++ i ∷ [])) n ≡ Some (Some q) → Contains (pairs_of (pairs ++ (p, m) ∷ [])) (q, n)
-    back q n e = subst (λ z. Contains z (q, n)) (sym all) (elim (numbered-push_cases (peers_of infos) i.peer n (Some q) (subst (λ z. numbered_at z n ≡ Some (Some q)) (peers-push infos i) e)) [
+    back : (q n : ℕ) → numbered_at (peers_of (headers ++ i ∷ [])) n ≡ Some (Some q) → Contains (pairs_of (pairs ++ (p, m) ∷ [])) (q, n)
+    back q n e = subst (λ z. Contains z (q, n)) (sym all) (elim (numbered-push_cases (peers_of headers) i.peer n (Some q) (subst (λ z. numbered_at z n ≡ Some (Some q)) (peers-push headers i) e)) [
       | inl w ↦ Contains-append_left (pairs_of pairs) ((p.0, m.0) ∷ []) (q, n) ((a q n).1 w)
       | inr w ↦ subst (λ z. Contains (pairs_of pairs ++ (p.0, m.0) ∷ []) z) (λ k. (same_Some p.0 q (sym peer ∙ w.1) k, (sym place ∙ sym w.0) k)) (Contains-push (pairs_of pairs) (p.0, m.0))
     ])
 
 -- the handle of a live row is the one that stands beside it
-pub handle-is : (s : Managed) (infos : List Held) (x : ℕ) (i : Held) → s.held ≡ map (λ (j : Held). j.handle) infos
-    → IsLive s.heap x → x ≤ length infos → i ≡ get_or infos (x - 1) i → handle_of s x ≡ i.handle
-handle-is s infos x i held live within e =
+pub handle-is : (s : Managed) (headers : List Header) (x : ℕ) (i : Header) → s.held ≡ map (λ (j : Header). j.handle) headers
+    → IsLive s.heap x → x ≤ length headers → i ≡ get_or headers (x - 1) i → handle_of s x ≡ i.handle
+handle-is s headers x i held live within e =
     let at : numbered_at s.held x ≡ Some i.handle = ap (λ z. numbered_at z x) held
-    ∙ numbered-read (λ (j : Held). j.handle) infos x i live.made.0 (omega (arith, within, length-map infos (λ (j : Held). j.handle))) e in
+    ∙ numbered-read (λ (j : Header). j.handle) headers x i live.made.0 (omega (arith, within, length-map headers (λ (j : Header). j.handle))) e in
     let unfreed = is_freed-live s.heap x live in
     rw (unfreed, at, handle_of) refl

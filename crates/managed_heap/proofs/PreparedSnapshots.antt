@@ -18,7 +18,7 @@ use Rattle.finaliser_queue.specs.Queue.{Queue}
 use Rattle.heap_rules.specs.Tidy.{CanFree}
 use Rattle.reachability.specs.Marks.{HasMark}
 use Rattle.row_heap.specs.Rows.{HeapRows}
-use Rattle.managed_heap.specs.declared.rows.Held.{Held}
+use Rattle.managed_heap.specs.declared.rows.Header.{Header}
 use Rattle.managed_heap.specs.Dues.{HasDue}
 use Rattle.managed_heap.specs.Graphs.{HasDeadField, IsDeadGraph, node_of}
 use Rattle.managed_heap.specs.Rows.{rows_of}
@@ -66,15 +66,15 @@ prepared-graph s pins w freed candidates ds g closed p nodes edges =
     (λ m c. (let l = (snapshot.leaves m).0 c in IsLive-left s.heap freed m l.0 l.2)) nodes edges
 
 -- the snapshot, from the parts of a side
-pub takes-prepared : (h k : Heap) (infos : List Held) (ps : List (PNum × MNum)) (cells pins : List (Option ℕ)) (q r : Queue)
+pub takes-prepared : (h k : Heap) (headers : List Header) (ps : List (PNum × MNum)) (cells pins : List (Option ℕ)) (q r : Queue)
     (cycle after : Option OpenCycle) (n : ℕ) (b : Bool) (w : HeapRows) (freed candidates : List ℕ) (ds : List MNum) (first count : ℕ) (g : Part)
-    → cycle ≡ None → Prepares h pins (map (λ (i : Held). i.handle) infos) w freed candidates (managed_numbers ds) → k ≡ with_freed h freed → r.queued ≡ q.queued → r.taken ≡ q.taken
+    → cycle ≡ None → Prepares h pins (map (λ (i : Header). i.handle) headers) w freed candidates (managed_numbers ds) → k ≡ with_freed h freed → r.queued ≡ q.queued → r.taken ≡ q.taken
     → after ≡ Some record { number = n + 1; candidates = candidates; dead = managed_numbers ds } → first ≡ length h.freed → count ≡ length candidates
-    → g.nodes ≡ map (node_of h (map (λ (i : Held). i.handle) infos)) ds → ((a k : ℕ) → NodeLeads g.edges a k ↔ HasDeadField h (managed_numbers ds) a k)
-    → TakesSnapshot (rows_of h infos ps cells no_pins q cycle n b) (rows_of k infos ps cells no_pins r after (n + 1) false) pins freed (n + 1) first count g
-takes-prepared h k infos ps cells pins q r cycle after n b w freed candidates ds first count g closed p ek queued taken opened before counted nodes edges =
-    let s : ManagedReplay = rows_of h infos ps cells no_pins q cycle n b in
-    let state = snapped-is h k infos ps cells no_pins q r cycle after n b freed candidates (managed_numbers ds) ek queued taken opened in
+    → g.nodes ≡ map (node_of h (map (λ (i : Header). i.handle) headers)) ds → ((a k : ℕ) → NodeLeads g.edges a k ↔ HasDeadField h (managed_numbers ds) a k)
+    → TakesSnapshot (rows_of h headers ps cells no_pins q cycle n b) (rows_of k headers ps cells no_pins r after (n + 1) false) pins freed (n + 1) first count g
+takes-prepared h k headers ps cells pins q r cycle after n b w freed candidates ds first count g closed p ek queued taken opened before counted nodes edges =
+    let s : ManagedReplay = rows_of h headers ps cells no_pins q cycle n b in
+    let state = snapped-is h k headers ps cells no_pins q r cycle after n b freed candidates (managed_numbers ds) ek queued taken opened in
     record {
       candidates = candidates;
       dead = managed_numbers ds;

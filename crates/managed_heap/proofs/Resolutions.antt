@@ -32,7 +32,7 @@ use Rattle.heap_rules.specs.Tidy.{CanFree}
 use Rattle.reachability.specs.Marks.{HasMark, IsClosed, marked, unmarked_of}
 use Rattle.row_heap.specs.Marks.{EdgeOf}
 use Rattle.row_heap.specs.Rows.{HeapRows}
-use Rattle.managed_heap.specs.declared.rows.Held.{Held}
+use Rattle.managed_heap.specs.declared.rows.Header.{Header}
 use Rattle.managed_heap.specs.Dues.{HasDue}
 use Rattle.managed_heap.specs.Resolving.{has_handle}
 use Rattle.managed_heap.specs.Rows.{rows_of, pairs_of}
@@ -149,15 +149,15 @@ pub filter-live : (s : Managed) (xs : List ℕ) → ((x : ℕ) → Contains xs x
 filter-live s xs l = filter-agree (has_handle s.held) (holds_handle s) xs (λ x c. sym (holds_handle-live s x (l x c)))
 
 -- the state after a resolution, from its parts
-pub resolved-is : (h k : Heap) (infos others : List Held) (ps qs : List (PNum × MNum)) (cells pins : List (Option ℕ))
+pub resolved-is : (h k : Heap) (headers others : List Header) (ps qs : List (PNum × MNum)) (cells pins : List (Option ℕ))
     (q p : Queue) (cycle : Option OpenCycle) (n : ℕ) (b : Bool) (answers : List Answer) (freed : List ℕ)
-    → k ≡ with_freed h freed → map (λ (i : Held). i.kind) others ≡ map (λ (i : Held). i.kind) infos
-    → map (λ (i : Held). i.handle) others ≡ renewed (map (λ (i : Held). i.handle) infos) (candidates_of (rows_of h infos ps cells pins q cycle n b).managed) answers
+    → k ≡ with_freed h freed → map (λ (i : Header). i.kind) others ≡ map (λ (i : Header). i.kind) headers
+    → map (λ (i : Header). i.handle) others ≡ renewed (map (λ (i : Header). i.handle) headers) (candidates_of (rows_of h headers ps cells pins q cycle n b).managed) answers
     → pairs_of qs ≡ without_twins (pairs_of ps) freed
-    → managed_numbers p.queued ≡ managed_numbers q.queued ++ filter (holds_handle (rows_of h infos ps cells pins q cycle n b).managed) freed → p.taken ≡ q.taken
-    → rows_of k others qs cells pins p None n b ≡ record (rows_of h infos ps cells pins q cycle n b)
-    { managed = resolved (rows_of h infos ps cells pins q cycle n b).managed answers freed; registry = without_twins (pairs_of ps) freed }
-resolved-is h k infos others ps qs cells pins q p cycle n b answers freed e kinds held pairs queued taken = rw (e, kinds, held, pairs, queued, taken) refl
+    → managed_numbers p.queued ≡ managed_numbers q.queued ++ filter (holds_handle (rows_of h headers ps cells pins q cycle n b).managed) freed → p.taken ≡ q.taken
+    → rows_of k others qs cells pins p None n b ≡ record (rows_of h headers ps cells pins q cycle n b)
+    { managed = resolved (rows_of h headers ps cells pins q cycle n b).managed answers freed; registry = without_twins (pairs_of ps) freed }
+resolved-is h k headers others ps qs cells pins q p cycle n b answers freed e kinds held pairs queued taken = rw (e, kinds, held, pairs, queued, taken) refl
 
 -- a rising list of numbers from `low` on and below n has few
 pub rises-few_from : (xs : List ℕ) (low n : ℕ) → Rises xs → All (λ y. low ≤ y) xs → All (λ y. y < n) xs → low ≤ n → low + length xs ≤ n

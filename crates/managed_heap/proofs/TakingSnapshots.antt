@@ -19,7 +19,7 @@ use Rattle.heap_rules.specs.Tidy.{CanFree}
 use Rattle.reachability.specs.Marks.{HasMark, marked}
 use Rattle.row_heap.specs.Marks.{EdgeOf}
 use Rattle.row_heap.specs.Rows.{HeapRows}
-use Rattle.managed_heap.specs.declared.rows.Held.{Held}
+use Rattle.managed_heap.specs.declared.rows.Header.{Header}
 use Rattle.managed_heap.specs.Dues.{HasDue}
 use Rattle.managed_heap.specs.Resolving.{has_handle}
 use Rattle.managed_heap.specs.Rows.{rows_of}
@@ -223,9 +223,9 @@ HasDue-found v w u s freed candidates dead spare n a f eu marks l =
     }
 
 -- the state after a snapshot, from its parts
-pub snapped-is : (h k : Heap) (infos : List Held) (ps : List (PNum × MNum)) (cells pins : List (Option ℕ))
+pub snapped-is : (h k : Heap) (headers : List Header) (ps : List (PNum × MNum)) (cells pins : List (Option ℕ))
     (q p : Queue) (cycle after : Option OpenCycle) (n : ℕ) (b : Bool) (freed candidates dead : List ℕ)
     → k ≡ with_freed h freed → p.queued ≡ q.queued → p.taken ≡ q.taken → after ≡ Some record { number = n + 1; candidates = candidates; dead = dead }
-    → rows_of k infos ps cells pins p after (n + 1) false ≡ record (rows_of h infos ps cells pins q cycle n b)
-    { managed = with_snapshot (rows_of h infos ps cells pins q cycle n b).managed freed candidates dead; contracted = false }
-snapped-is h k infos ps cells pins q p cycle after n b freed candidates dead e queued taken o = rw (e, queued, taken, o) refl
+    → rows_of k headers ps cells pins p after (n + 1) false ≡ record (rows_of h headers ps cells pins q cycle n b)
+    { managed = with_snapshot (rows_of h headers ps cells pins q cycle n b).managed freed candidates dead; contracted = false }
+snapped-is h k headers ps cells pins q p cycle after n b freed candidates dead e queued taken o = rw (e, queued, taken, o) refl

@@ -8,7 +8,7 @@ use Rattle.joint_machine.specs.Managed.{OpenCycle}
 use Rattle.joint_machine.specs.ManagedReplay.{ManagedReplay}
 use Rattle.joint_laws.specs.ManagedInvariants.{IsReplayKept}
 use Rattle.finaliser_queue.specs.Queue.{Queue}
-use Rattle.managed_heap.specs.declared.rows.Held.{Held}
+use Rattle.managed_heap.specs.declared.rows.Header.{Header}
 
 -- the pairs of the registry, as numbers
 abbrev pub pairs_of : List (PNum × MNum) → List (ℕ × ℕ)
@@ -20,13 +20,13 @@ number_or_none None = None
 number_or_none (Some m) = Some m.0
 
 -- the state of the rows, without the handles that they ever took
-abbrev pub rows_of : Heap → List Held → List (PNum × MNum) → List (Option ℕ)
+abbrev pub rows_of : Heap → List Header → List (PNum × MNum) → List (Option ℕ)
     → List (Option ℕ) → Queue → Option OpenCycle → ℕ → Bool → ManagedReplay
-rows_of heap infos pairs cells pins queue cycle cycles contracted = record {
+rows_of heap headers pairs cells pins queue cycle cycles contracted = record {
   managed = record {
     heap = heap;
-    kinds = map (λ i. i.kind) infos;
-    held = map (λ i. i.handle) infos;
+    kinds = map (λ i. i.kind) headers;
+    held = map (λ i. i.handle) headers;
     pins = pins;
     cells = cells;
     notices = managed_numbers queue.queued;
@@ -44,9 +44,9 @@ abbrev pub with_adopted : ManagedReplay → List ℕ → ManagedReplay
 with_adopted s hs = record s { adopted = hs }
 
 -- beside each row stands the peer with which the registry has it
-abbrev pub ArePeers : List (PNum × MNum) → List Held → Type 0
-ArePeers pairs infos = (p m : ℕ) → Contains (pairs_of pairs) (p, m)
-    ↔ (numbered_at (map (λ i. i.peer) infos) m ≡ Some (Some p))
+abbrev pub ArePeers : List (PNum × MNum) → List Header → Type 0
+ArePeers pairs headers = (p m : ℕ) → Contains (pairs_of pairs) (p, m)
+    ↔ (numbered_at (map (λ i. i.peer) headers) m ≡ Some (Some p))
 
 -- the rows are those of a lawful list of entries
 abbrev pub AreKept : ManagedReplay → Type 0

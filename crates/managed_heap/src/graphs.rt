@@ -11,7 +11,7 @@ ghost use Rattle.managed_heap.specs.Rooms.{fields_in};
 ghost use Rattle.managed_heap.specs.Graphs.{ArePlaces, HasDeadField, HasPlaced, IsPlaceOf, held_at, handle_named};
 ghost use Rattle.managed_heap.specs.Graphs.{node_of};
 
-use crate::rows::Held;
+use crate::rows::Header;
 use bridge_graph::{DeadGraph, GraphBuilder};
 use joint_model::{HNum, MNum};
 use row_heap::RowHeap;
@@ -33,11 +33,11 @@ fn places_of(dead: &[MNum], made: u32, mut places: Vec<u32>) -> Vec<u32>
 }
 
 // The handle beside a row.
-fn handle_at(infos: &[Held], m: MNum) -> Option<HNum>
-    requires row { (1 ≤ m.0) × (m.0 ≤ length infos.now) }
-    ensures { result ≡ handle_named (held_at (map (λ i. i.handle) infos.now) m.0) }
+fn handle_at(headers: &[Header], m: MNum) -> Option<HNum>
+    requires row { (1 ≤ m.0) × (m.0 ≤ length headers.now) }
+    ensures { result ≡ handle_named (held_at (map (λ i. i.handle) headers.now) m.0) }
 {
-    match infos[m.0 as usize - 1].handle {
+    match headers[m.0 as usize - 1].handle {
         None => None,
         Some(h) => Some(HNum(h)),
     }
@@ -46,24 +46,24 @@ fn handle_at(infos: &[Held], m: MNum) -> Option<HNum>
 // Adds a node for each row.
 fn add_nodes(
     heap: &RowHeap<MNum>,
-    infos: &[Held],
+    headers: &[Header],
     dead: &[MNum],
     builder: &mut GraphBuilder,
 ) -> Result<(), AllocError>
     requires live { (m : ℕ) → Contains (managed_numbers dead.now) m → IsLive heap.now.heap m }
-    requires infos { length infos.now ≡ length heap.now.heap.fields }
+    requires headers { length headers.now ≡ length heap.now.heap.fields }
     requires few { length dead.now ≤ 65535 }
     requires rise { Rises (managed_numbers dead.now) }
     requires nodes { builder.old.nodes ≡ [] }
     requires edges { builder.old.edges ≡ [] }
     ensures nodes { OnOk result (builder.new.nodes ≡ map
-        (node_of heap.now.heap (map (λ i. i.handle) infos.now)) dead.now) }
+        (node_of heap.now.heap (map (λ i. i.handle) headers.now)) dead.now) }
     ensures edges { OnOk result ((a : ℕ) → row_at builder.new.edges a ≡ []) }
     ensures ready { length dead.now ≤ builder.old.spare_nodes → IsOk result }
     ensures spare { builder.new.spare_edges ≡ builder.old.spare_edges }
 {
     for m in dead {
-        builder.node(*m, handle_at(infos, *m), heap.fields_len(m.0) == 0)?;
+        builder.node(*m, handle_at(headers, *m), heap.fields_len(m.0) == 0)?;
     }
     Ok(())
 }
@@ -149,7 +149,7 @@ fn add_edges(
 /// room for each row and field.
 pub(crate) fn graph_of(
     heap: &RowHeap<MNum>,
-    infos: &[Held],
+    headers: &[Header],
     dead: &[MNum],
     places: Vec<u32>,
     mut builder: GraphBuilder,
@@ -159,14 +159,14 @@ pub(crate) fn graph_of(
     requires nodes { length heap.now.heap.fields ≤ builder.spare_nodes }
     requires edges { sum (map length heap.now.heap.fields) ≤ builder.spare_edges }
     requires live { (m : ℕ) → Contains (managed_numbers dead.now) m → IsLive heap.now.heap m }
-    requires infos { length infos.now ≡ length heap.now.heap.fields }
+    requires headers { length headers.now ≡ length heap.now.heap.fields }
     requires few { length dead.now ≤ 65535 }
     requires rise { Rises (managed_numbers dead.now) }
-    ensures nodes { result.nodes ≡ map (node_of heap.now.heap (map (λ i. i.handle) infos.now)) dead.now }
+    ensures nodes { result.nodes ≡ map (node_of heap.now.heap (map (λ i. i.handle) headers.now)) dead.now }
     ensures edges { (a k : ℕ) → NodeLeads result.edges a k ↔ HasDeadField heap.now.heap (managed_numbers dead.now) a k }
 {
     let places = places_of(dead, heap.made(), places);
-    let Ok(()) = add_nodes(heap, infos, dead, &mut builder) else {
+    let Ok(()) = add_nodes(heap, headers, dead, &mut builder) else {
         unreachable!();
     };
     let Ok(()) = add_edges(heap, dead, &places, &mut builder) else {

@@ -19,7 +19,7 @@ ghost use Rattle.managed_heap.specs.Resolving.{AreCleared, HasAnswers, TakesReso
 ghost use Rattle.managed_heap.specs.Rows.{AreKept, ArePeers, pairs_of};
 
 use crate::open::OpenParts;
-use crate::rows::{Held, ManagedRows};
+use crate::rows::{Header, ManagedRows};
 use finaliser_queue::Notices;
 use instance_registry::Registry;
 use joint_model::{Alive, HNum, MNum};
@@ -86,9 +86,9 @@ impl ManagedRows {
         let cycle = open.number();
         let (candidates, freed) = settle(open, &mut self.heap, alive);
         self.heap.free(&freed);
-        notify(&freed, &self.infos, &mut self.notices);
-        forget_pairs(&freed, &mut self.infos, &mut self.registry);
-        renew(&candidates, alive, &mut self.infos);
+        notify(&freed, &self.headers, &mut self.notices);
+        forget_pairs(&freed, &mut self.headers, &mut self.registry);
+        renew(&candidates, alive, &mut self.headers);
         Resolution {
             cycle,
             freed,
@@ -189,70 +189,71 @@ fn settle(cycle: OpenParts, heap: &mut RowHeap<MNum>, alive: &Alive) -> (Vec<u32
 }
 
 /// Whether there is a handle beside the row.
-pub(crate) fn holds(infos: &[Held], m: MNum) -> bool
-    ensures { result ≡ has_handle (map (λ i. i.handle) infos.now) m.0 }
+pub(crate) fn holds(headers: &[Header], m: MNum) -> bool
+    ensures { result ≡ has_handle (map (λ i. i.handle) headers.now) m.0 }
 {
-    if m.0 == 0 || m.0 as usize > infos.len() {
+    if m.0 == 0 || m.0 as usize > headers.len() {
         return false;
     }
-    infos[m.0 as usize - 1].handle.is_some()
+    headers[m.0 as usize - 1].handle.is_some()
 }
 
 // Queues a notice for each row of a list that holds a handle. It takes no memory.
-fn notify(rows: &[MNum], infos: &[Held], notices: &mut Notices)
-    requires room { length (filter (has_handle (map (λ i. i.handle) infos.now)) (managed_numbers rows.now))
+fn notify(rows: &[MNum], headers: &[Header], notices: &mut Notices)
+    requires room { length (filter (has_handle (map (λ i. i.handle) headers.now)) (managed_numbers rows.now))
         ≤ notices.old.spare }
     ensures queued { managed_numbers notices.new.queued ≡ managed_numbers notices.old.queued ++ filter
-        (has_handle (map (λ i. i.handle) infos.now)) (managed_numbers rows.now) }
+        (has_handle (map (λ i. i.handle) headers.now)) (managed_numbers rows.now) }
     ensures taken { notices.new.taken ≡ notices.old.taken }
 {
     for m in rows {
-        if holds(infos, *m) {
+        if holds(headers, *m) {
             notices.push(*m);
         }
     }
 }
 
 // Whether there is a peer beside the row.
-fn has_peer(infos: &[Held], m: MNum) -> bool
-    ensures { result ≡ has_peer (map (λ i. i.peer) infos.now) m.0 }
+fn has_peer(headers: &[Header], m: MNum) -> bool
+    ensures { result ≡ has_peer (map (λ i. i.peer) headers.now) m.0 }
 {
-    if m.0 == 0 || m.0 as usize > infos.len() {
+    if m.0 == 0 || m.0 as usize > headers.len() {
         return false;
     }
-    infos[m.0 as usize - 1].peer.is_some()
+    headers[m.0 as usize - 1].peer.is_some()
 }
 
 // Clears the peer beside a row. Answers false only where there was none.
-fn clear_peer(m: MNum, infos: &mut Vec<Held>) -> bool
-    requires row { (1 ≤ m.0) × (m.0 ≤ length infos.old.items) }
-    ensures cleared { AreCleared (map (λ i. i.peer) infos.old.items) (map (λ i. i.peer) infos.new.items) (m.0 ∷ []) }
-    ensures none { result ≡ false → infos.new.items ≡ infos.old.items }
-    ensures kinds { map (λ i. i.kind) infos.new.items ≡ map (λ i. i.kind) infos.old.items }
-    ensures handles { map (λ i. i.handle) infos.new.items ≡ map (λ i. i.handle) infos.old.items }
+fn clear_peer(m: MNum, headers: &mut Vec<Header>) -> bool
+    requires row { (1 ≤ m.0) × (m.0 ≤ length headers.old.items) }
+    ensures cleared { AreCleared (map (λ i. i.peer) headers.old.items)
+        (map (λ i. i.peer) headers.new.items) (m.0 ∷ []) }
+    ensures none { result ≡ false → headers.new.items ≡ headers.old.items }
+    ensures kinds { map (λ i. i.kind) headers.new.items ≡ map (λ i. i.kind) headers.old.items }
+    ensures handles { map (λ i. i.handle) headers.new.items ≡ map (λ i. i.handle) headers.old.items }
 {
     let at = m.0 as usize - 1;
-    match infos[at].peer {
+    match headers[at].peer {
         None => false,
         Some(_) => {
-            infos[at].peer = None;
+            headers[at].peer = None;
             true
         }
     }
 }
 
 // Clears the peers beside the rows of a list. Answers false only where there was none. It takes no memory.
-fn clear_peers(rows: &[MNum], infos: &mut Vec<Held>) -> bool
-    requires rows { All (λ m. (1 ≤ m.0) × (m.0 ≤ length infos.old.items)) rows.now }
-    ensures cleared { AreCleared (map (λ i. i.peer) infos.old.items)
-        (map (λ i. i.peer) infos.new.items) (managed_numbers rows.now) }
-    ensures none { result ≡ false → infos.new.items ≡ infos.old.items }
-    ensures kinds { map (λ i. i.kind) infos.new.items ≡ map (λ i. i.kind) infos.old.items }
-    ensures handles { map (λ i. i.handle) infos.new.items ≡ map (λ i. i.handle) infos.old.items }
+fn clear_peers(rows: &[MNum], headers: &mut Vec<Header>) -> bool
+    requires rows { All (λ m. (1 ≤ m.0) × (m.0 ≤ length headers.old.items)) rows.now }
+    ensures cleared { AreCleared (map (λ i. i.peer) headers.old.items)
+        (map (λ i. i.peer) headers.new.items) (managed_numbers rows.now) }
+    ensures none { result ≡ false → headers.new.items ≡ headers.old.items }
+    ensures kinds { map (λ i. i.kind) headers.new.items ≡ map (λ i. i.kind) headers.old.items }
+    ensures handles { map (λ i. i.handle) headers.new.items ≡ map (λ i. i.handle) headers.old.items }
 {
     let mut any = false;
     for m in rows {
-        if clear_peer(*m, infos) {
+        if clear_peer(*m, headers) {
             any = true;
         }
     }
@@ -261,44 +262,44 @@ fn clear_peers(rows: &[MNum], infos: &mut Vec<Held>) -> bool
 
 // The registry forgets the pairs of the rows of a list, in one pass over its pairs, if one of the rows has a pair at
 // all. It takes no memory.
-fn forget_pairs(rows: &[MNum], infos: &mut Vec<Held>, registry: &mut Registry)
-    requires rows { All (λ m. (1 ≤ m.0) × (m.0 ≤ length infos.old.items)) rows.now }
-    requires peers { ArePeers registry.old infos.old.items }
+fn forget_pairs(rows: &[MNum], headers: &mut Vec<Header>, registry: &mut Registry)
+    requires rows { All (λ m. (1 ≤ m.0) × (m.0 ≤ length headers.old.items)) rows.now }
+    requires peers { ArePeers registry.old headers.old.items }
     ensures pairs { pairs_of registry.new ≡ without_twins (pairs_of registry.old) (managed_numbers rows.now) }
-    ensures peers { ArePeers registry.new infos.new.items }
-    ensures kinds { map (λ i. i.kind) infos.new.items ≡ map (λ i. i.kind) infos.old.items }
-    ensures handles { map (λ i. i.handle) infos.new.items ≡ map (λ i. i.handle) infos.old.items }
+    ensures peers { ArePeers registry.new headers.new.items }
+    ensures kinds { map (λ i. i.kind) headers.new.items ≡ map (λ i. i.kind) headers.old.items }
+    ensures handles { map (λ i. i.handle) headers.new.items ≡ map (λ i. i.handle) headers.old.items }
 {
-    if clear_peers(rows, infos) {
-        let left: &[Held] = infos;
+    if clear_peers(rows, headers) {
+        let left: &[Header] = headers;
         registry.retain(|_, m| has_peer(left, m));
     }
 }
 
 // A candidate holds the handle that its restore gave, if it gave one.
-fn renew_row(m: u32, back: Option<HNum>, infos: &mut Vec<Held>)
-    requires row { (1 ≤ m) × (m ≤ length infos.old.items) }
-    ensures handles { map (λ i. i.handle) infos.new.items ≡ renewed
-        (map (λ i. i.handle) infos.old.items) (m ∷ []) (answer_of back ∷ []) }
-    ensures kinds { map (λ i. i.kind) infos.new.items ≡ map (λ i. i.kind) infos.old.items }
-    ensures peers { map (λ i. i.peer) infos.new.items ≡ map (λ i. i.peer) infos.old.items }
-    ensures len { length infos.new.items ≡ length infos.old.items }
+fn renew_row(m: u32, back: Option<HNum>, headers: &mut Vec<Header>)
+    requires row { (1 ≤ m) × (m ≤ length headers.old.items) }
+    ensures handles { map (λ i. i.handle) headers.new.items ≡ renewed
+        (map (λ i. i.handle) headers.old.items) (m ∷ []) (answer_of back ∷ []) }
+    ensures kinds { map (λ i. i.kind) headers.new.items ≡ map (λ i. i.kind) headers.old.items }
+    ensures peers { map (λ i. i.peer) headers.new.items ≡ map (λ i. i.peer) headers.old.items }
+    ensures len { length headers.new.items ≡ length headers.old.items }
 {
     if let Some(h) = back {
-        infos[m as usize - 1].handle = Some(h.0);
+        headers[m as usize - 1].handle = Some(h.0);
     }
 }
 
 // Each candidate that was answered alive holds the handle that its restore gave. It takes no memory.
-fn renew(candidates: &[u32], alive: &Alive, infos: &mut Vec<Held>)
-    requires rows { All (λ m. (1 ≤ m) × (m ≤ length infos.old.items)) candidates.now }
+fn renew(candidates: &[u32], alive: &Alive, headers: &mut Vec<Header>)
+    requires rows { All (λ m. (1 ≤ m) × (m ≤ length headers.old.items)) candidates.now }
     requires answers { length alive.now.values ≡ length candidates.now }
-    ensures handles { map (λ i. i.handle) infos.new.items ≡ renewed
-        (map (λ i. i.handle) infos.old.items) candidates.now (answers_of alive.now.values) }
-    ensures kinds { map (λ i. i.kind) infos.new.items ≡ map (λ i. i.kind) infos.old.items }
-    ensures peers { map (λ i. i.peer) infos.new.items ≡ map (λ i. i.peer) infos.old.items }
+    ensures handles { map (λ i. i.handle) headers.new.items ≡ renewed
+        (map (λ i. i.handle) headers.old.items) candidates.now (answers_of alive.now.values) }
+    ensures kinds { map (λ i. i.kind) headers.new.items ≡ map (λ i. i.kind) headers.old.items }
+    ensures peers { map (λ i. i.peer) headers.new.items ≡ map (λ i. i.peer) headers.old.items }
 {
     for i in 0..alive.len() {
-        renew_row(candidates[i as usize], answer_at(alive, i), infos);
+        renew_row(candidates[i as usize], answer_at(alive, i), headers);
     }
 }

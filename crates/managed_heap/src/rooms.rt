@@ -85,7 +85,7 @@ impl ManagedRows {
     pub(crate) fn snap_room(&self) -> Result<SnapRoom, AllocError>
         ensures { IfOk result (λ r. FitsSnap r self.now.managed) }
     {
-        let alloc = *self.infos.allocator();
+        let alloc = *self.headers.allocator();
         let rows = Room::of(alloc, &self.heap)?;
         let notices = notices_with_room(alloc, self.notices.queued(), self.heap.made())?;
         Ok(SnapRoom { rows, notices })

@@ -23,7 +23,7 @@ use std::marker::Model;
 /// What stands beside an object's fields: its kind, the handle that it holds, and the peer with which the registry has
 /// it.
 #[derive(Clone, Copy)]
-pub(crate) struct Held {
+pub(crate) struct Header {
     pub(crate) kind: Kind,
     pub(crate) handle: Option<u32>,
     pub(crate) peer: Option<u32>,
@@ -33,7 +33,7 @@ pub(crate) struct Held {
 #[derive(Drop)]
 pub(crate) struct ManagedRows {
     pub(crate) heap: RowHeap<MNum>,
-    pub(crate) infos: Vec<Held>,
+    pub(crate) headers: Vec<Header>,
     pub(crate) registry: Registry,
     pub(crate) cells: Cells,
     pub(crate) notices: Notices,
@@ -51,10 +51,10 @@ impl Model for ManagedRows {
 
     ghost Value = { ManagedReplay };
 
-    ghost view = { λ s. rows_of s.heap.heap s.infos.items s.registry
+    ghost view = { λ s. rows_of s.heap.heap s.headers.items s.registry
         s.cells no_pins s.notices s.cycle s.cycles s.contracted };
 
-    ghost invariant = { λ s. ArePeers s.registry s.infos.items × (s.heap.refs ≡ [])
+    ghost invariant = { λ s. ArePeers s.registry s.headers.items × (s.heap.refs ≡ [])
         × (s.heap.follows ≡ false) × AreDues s.cycle s.heap s.notices.spare };
 }
 
@@ -65,7 +65,7 @@ impl ManagedRows {
     {
         Ok(ManagedRows {
             heap: RowHeap::new(alloc),
-            infos: list_with_room(alloc, MOST_OBJECTS),
+            headers: list_with_room(alloc, MOST_OBJECTS),
             registry: Registry::new(alloc),
             cells: Cells::new(alloc)?,
             notices: Notices::new(alloc),

@@ -56,7 +56,7 @@ impl ManagedRows {
         let SnapRoom { rows, notices } = room;
         self.notices.widen(self.heap.made(), notices);
         let first = self.heap.made() - self.heap.live();
-        let Prepared { found, graph } = prepare(&mut self.heap, &self.infos, pins, rows);
+        let Prepared { found, graph } = prepare(&mut self.heap, &self.headers, pins, rows);
         let SnapshotParts {
             freed,
             candidates,

@@ -23,7 +23,7 @@ use crate::graphs::graph_of;
 use crate::opening::Pins;
 use crate::resolving::{has_mark, holds, keep_unmarked};
 use crate::rooms::Room;
-use crate::rows::Held;
+use crate::rows::Header;
 use bridge_graph::DeadGraph;
 use joint_model::MNum;
 use row_heap::RowHeap;
@@ -93,13 +93,13 @@ pub(crate) fn whites(heap: &RowHeap<MNum>, mut rows: Vec<MNum>) -> Vec<MNum>
 }
 
 /// The rows of a list that hold a handle.
-pub(crate) fn pick(rows: &[MNum], infos: &[Held], mut picked: Vec<u32>) -> Vec<u32>
+pub(crate) fn pick(rows: &[MNum], headers: &[Header], mut picked: Vec<u32>) -> Vec<u32>
     requires empty { picked.items ≡ [] }
     requires room { length rows.now ≤ vec_capacity picked }
-    ensures { result.items ≡ filter (has_handle (map (λ i. i.handle) infos.now)) (managed_numbers rows.now) }
+    ensures { result.items ≡ filter (has_handle (map (λ i. i.handle) headers.now)) (managed_numbers rows.now) }
 {
     for m in rows {
-        if holds(infos, *m) {
+        if holds(headers, *m) {
             picked.push_reserved(m.0);
         }
     }
@@ -145,7 +145,7 @@ pub(crate) struct SnapshotParts {
 // Parts the live rows that have no mark. What the candidates reach has a mark afterwards.
 fn find(
     heap: &mut RowHeap<MNum>,
-    infos: &[Held],
+    headers: &[Header],
     freed: Vec<MNum>,
     candidates: Vec<u32>,
     dead: Vec<MNum>,
@@ -154,12 +154,12 @@ fn find(
     requires room { (length heap.old.heap.fields ≤ vec_capacity freed)
         × (length heap.old.heap.fields ≤ vec_capacity candidates) × (length heap.old.heap.fields ≤ vec_capacity dead) }
     requires shut { IsClosed (EdgeOf heap.old) heap.old.marks }
-    ensures finds { PartsUnmarked heap.old heap.new (map (λ i. i.handle) infos.now)
+    ensures finds { PartsUnmarked heap.old heap.new (map (λ i. i.handle) headers.now)
         (managed_numbers result.freed.items) result.candidates.items (managed_numbers result.dead.items) }
     ensures rest { heap.new ≡ record heap.old { marks = heap.new.marks; links = heap.new.links } }
 {
     let mut freed = whites(heap, freed);
-    let candidates = pick(&freed, infos, candidates);
+    let candidates = pick(&freed, headers, candidates);
     bring_back_all(heap, &candidates);
     let dead = marked_rows(heap, &freed, dead);
     keep_unmarked(heap, &mut freed);
@@ -178,9 +178,14 @@ pub(crate) struct Prepared {
 }
 
 /// All that a snapshot finds, in room that was taken: it takes no memory.
-pub(crate) fn prepare(heap: &mut RowHeap<MNum>, infos: &[Held], pins: &Pins, room: Room) -> Prepared
+pub(crate) fn prepare(
+    heap: &mut RowHeap<MNum>,
+    headers: &[Header],
+    pins: &Pins,
+    room: Room,
+) -> Prepared
     requires live { (x : ℕ) → Contains (pins_given pins.now.at) (Some x) → IsLive heap.old.heap x }
-    requires infos { length infos.now ≡ length heap.old.heap.fields }
+    requires headers { length headers.now ≡ length heap.old.heap.fields }
     requires empty { (room.freed.items ≡ []) × (room.candidates.items ≡ []) × (room.dead.items ≡ []) }
     requires room { (length heap.old.heap.fields ≤ vec_capacity room.freed)
         × (length heap.old.heap.fields ≤ vec_capacity room.candidates)
@@ -189,11 +194,11 @@ pub(crate) fn prepare(heap: &mut RowHeap<MNum>, infos: &[Held], pins: &Pins, roo
     requires bare { (room.graph.nodes ≡ []) × (room.graph.edges ≡ []) }
     requires rows { length heap.old.heap.fields ≤ room.graph.spare_nodes }
     requires fields { sum (map length heap.old.heap.fields) ≤ room.graph.spare_edges }
-    ensures prepares { Prepares heap.old.heap (pins_given pins.now.at) (map (λ i. i.handle) infos.now) heap.new
+    ensures prepares { Prepares heap.old.heap (pins_given pins.now.at) (map (λ i. i.handle) headers.now) heap.new
         (managed_numbers result.found.freed.items) result.found.candidates.items
         (managed_numbers result.found.dead.items) }
     ensures nodes { result.graph.nodes ≡ map
-        (node_of heap.old.heap (map (λ i. i.handle) infos.now)) result.found.dead.items }
+        (node_of heap.old.heap (map (λ i. i.handle) headers.now)) result.found.dead.items }
     ensures edges { (a k : ℕ) → NodeLeads result.graph.edges a k
         ↔ HasDeadField heap.old.heap (managed_numbers result.found.dead.items) a k }
     ensures few { (length result.found.freed.items ≤ 65535)
@@ -209,7 +214,7 @@ pub(crate) fn prepare(heap: &mut RowHeap<MNum>, infos: &[Held], pins: &Pins, roo
         graph,
     } = room;
     mark_slots(heap, pins);
-    let found = find(heap, infos, freed, candidates, dead);
-    let graph = graph_of(heap, infos, &found.dead, places, graph);
+    let found = find(heap, headers, freed, candidates, dead);
+    let graph = graph_of(heap, headers, &found.dead, places, graph);
     Prepared { found, graph }
 }

@@ -10,7 +10,7 @@ ghost use Rattle.managed_heap.specs.Rows.{AreKept, number_or_none, with_adopted}
 ghost use Rattle.managed_heap.specs.Steps.{by_adopt, by_meet};
 ghost use Rattle.managed_heap.specs.TwinEvents.{adopt_at, give_at, give_row, handle_said, left_by, meet_at};
 
-use crate::rows::{Held, ManagedRows};
+use crate::rows::{Header, ManagedRows};
 use instance_registry::Registry;
 use joint_model::{HNum, Kind, MNum, PNum, Reply, Sort, VARS};
 use row_heap::RowHeap;
@@ -34,12 +34,12 @@ impl ManagedRows {
         ensures err { OnErr result (self.new ≡ self.old) }
     {
         self.heap.recall_marks_len();
-        let held = Held {
+        let held = Header {
             kind,
             handle,
             peer: None,
         };
-        let x = add_object(&mut self.heap, &mut self.infos, v, fields, held)?;
+        let x = add_object(&mut self.heap, &mut self.headers, v, fields, held)?;
         Ok(x)
     }
 
@@ -64,7 +64,7 @@ impl ManagedRows {
         requires kept { AreKept self.now }
         ensures { handle_of self.now.managed x ≡ result }
     {
-        self.infos[x as usize - 1].handle
+        self.headers[x as usize - 1].handle
     }
 
     /// The handle of V's object, as `handle`, `lend` and `give` answer it.
@@ -113,12 +113,12 @@ impl ManagedRows {
         self.heap.recall_marks_len();
         let next = self.heap.made() + 1;
         self.registry.add(p, MNum(next))?;
-        let held = Held {
+        let held = Header {
             kind,
             handle: Some(h.0),
             peer: Some(p.0),
         };
-        match add_object(&mut self.heap, &mut self.infos, v, fields, held) {
+        match add_object(&mut self.heap, &mut self.headers, v, fields, held) {
             Err(error) => {
                 self.registry.forget(p);
                 Err(error)
@@ -260,9 +260,9 @@ impl ManagedRows {
         requires kept { AreKept self.old }
         ensures { give_row self.old x ≡ answer result self.new }
     {
-        let held = self.infos[x as usize - 1];
+        let held = self.headers[x as usize - 1];
         leave(&mut self.registry, held.peer);
-        self.infos[x as usize - 1] = Held {
+        self.headers[x as usize - 1] = Header {
             kind: held.kind,
             handle: None,
             peer: None,
@@ -288,10 +288,10 @@ impl ManagedRows {
 #[inline(always)]
 fn add_object(
     heap: &mut RowHeap<MNum>,
-    infos: &mut Vec<Held>,
+    headers: &mut Vec<Header>,
     v: usize,
     fields: u8,
-    held: Held,
+    held: Header,
 ) -> Result<u32, AllocError>
     requires v { v < VARS }
     requires few { length heap.old.heap.fields < MOST }
@@ -301,13 +301,13 @@ fn add_object(
       marks = heap.old.marks ++ true ∷ [];
       links = heap.old.links ++ 0 ∷ [];
     }) }
-    ensures infos { OnOk result (infos.new.items ≡ infos.old.items ++ held ∷ []) }
-    ensures err { OnErr result ((heap.new ≡ heap.old) × (infos.new.items ≡ infos.old.items)) }
+    ensures headers { OnOk result (headers.new.items ≡ headers.old.items ++ held ∷ []) }
+    ensures err { OnErr result ((heap.new ≡ heap.old) × (headers.new.items ≡ headers.old.items)) }
 {
-    infos.reserve(1)?;
+    headers.reserve(1)?;
     let x = heap.add_object(fields)?;
     heap.set_var(v, Some(x));
-    infos.push_reserved(held);
+    headers.push_reserved(held);
     Ok(x)
 }
 

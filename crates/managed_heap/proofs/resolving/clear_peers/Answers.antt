@@ -4,7 +4,7 @@ use Rattle.std.proofs.lemmas.List.{length-map, take_all}
 use Rattle.joint_machine.specs.declared.names.MNum.{MNum}
 use Rattle.joint_machine.specs.Histories.{managed_numbers}
 use Rattle.joint_machine.proofs.Deciding.{true_false}
-use Rattle.managed_heap.specs.declared.rows.Held.{Held}
+use Rattle.managed_heap.specs.declared.rows.Header.{Header}
 use Rattle.managed_heap.specs.Resolving.{AreCleared}
 use Rattle.managed_heap.proofs.Forgetting.{AreCleared-start, AreCleared-then, numbers-more}
 use Rattle.managed_heap.proofs.Peers.{peers_of}
@@ -12,20 +12,20 @@ use Rattle.managed_heap.proofs.resolving.clear_peers.Goals as goal
 use Rattle.managed_heap.proofs.resolving.clear_peers.Goals.{then-clear_peer, else-clear_peer}
 
 pub loop-m-init : goal.loop-m-init
-loop-m-init c = record { cleared = AreCleared-start (peers_of c.args.infos.now.items); none = λ e. refl; kinds = refl; handles = refl }
+loop-m-init c = record { cleared = AreCleared-start (peers_of c.args.headers.now.items); none = λ e. refl; kinds = refl; handles = refl }
 
 pub clear_peer-requires : goal.clear_peer-requires
 clear_peer-requires c =
-    let many : length c.loop-m.infos.items ≡ length c.args.infos.now.items = sym (length-map c.loop-m.infos.items (λ (i : Held). i.kind))
-    ∙ (ap length c.loop-m.invariant.kinds ∙ length-map c.args.infos.now.items (λ (i : Held). i.kind)) in
+    let many : length c.loop-m.headers.items ≡ length c.args.headers.now.items = sym (length-map c.loop-m.headers.items (λ (i : Header). i.kind))
+    ∙ (ap length c.loop-m.invariant.kinds ∙ length-map c.args.headers.now.items (λ (i : Header). i.kind)) in
     let row = c.requires.rows c.loop-m.m-index record { 0 = 0 } c.loop-m-test.true in
     record { row = (row.0, omega (arith, row.1, many)) }
 
 pub loop-m-preserved : goal.loop-m-preserved
 loop-m-preserved c = record {
-  cleared = subst (λ xs. AreCleared (peers_of c.args.infos.now.items) (peers_of c.clear_peer.new.infos.items) xs)
+  cleared = subst (λ xs. AreCleared (peers_of c.args.headers.now.items) (peers_of c.clear_peer.new.headers.items) xs)
       (sym (numbers-more c.args.rows.now c.loop-m.m-index record { 0 = 0 } c.loop-m-test.true))
-      (AreCleared-then (peers_of c.args.infos.now.items) (peers_of c.loop-m.infos.items) (peers_of c.clear_peer.new.infos.items) _
+      (AreCleared-then (peers_of c.args.headers.now.items) (peers_of c.loop-m.headers.items) (peers_of c.clear_peer.new.headers.items) _
       ((get_or c.args.rows.now c.loop-m.m-index record { 0 = 0 }).0 ∷ []) c.loop-m.invariant.cleared c.clear_peer.ensures.cleared);
   none = elim c.if-clear_peer.branch [
     | then-clear_peer w ↦ λ e. absurd (true_false (sym w.any-is ∙ e))
@@ -36,5 +36,5 @@ loop-m-preserved c = record {
 }
 
 pub returns-clause-cleared : goal.returns-clause-cleared
-returns-clause-cleared c = subst (λ (ms : List MNum). AreCleared (peers_of c.args.infos.now.items) (peers_of c.loop-m.infos.items) (managed_numbers ms))
+returns-clause-cleared c = subst (λ (ms : List MNum). AreCleared (peers_of c.args.headers.now.items) (peers_of c.loop-m.headers.items) (managed_numbers ms))
     (take_all c.loop-m.m-index c.args.rows.now (omega (arith, c.loop-m-test.false))) c.loop-m.invariant.cleared

@@ -1,7 +1,7 @@
 -- Each turn asks one row more.
 use Rattle.std.proofs.Common.{◌∙◌, sym, map, ap, arith, length, length-append}
 use Rattle.joint_machine.specs.declared.names.MNum.{MNum}
-use Rattle.managed_heap.specs.declared.rows.Held.{Held}
+use Rattle.managed_heap.specs.declared.rows.Header.{Header}
 use Rattle.managed_heap.specs.Resolving.{has_handle}
 use Rattle.managed_heap.proofs.Gathering.{filter-push, filter-skip}
 use Rattle.managed_heap.proofs.snapshots.pick.Goals as goal
@@ -10,7 +10,7 @@ use Rattle.managed_heap.proofs.snapshots.pick.Goals.{then-holds, else-holds}
 pub loop-m-preserved : goal.loop-m-preserved
 loop-m-preserved c =
     let d : MNum = record { 0 = 0 } in
-    let test = has_handle (map (λ (i : Held). i.handle) c.args.infos.now) in
+    let test = has_handle (map (λ (i : Header). i.handle) c.args.headers.now) in
     elim c.if-holds.branch [
       | then-holds w ↦ record {
         items = rw w.picked-is (filter-push test c.args.rows.now c.loop-m.picked.items _ c.loop-m.m-index d c.loop-m-test.true c.loop-m.invariant.items

@@ -15,7 +15,7 @@ returns-in_err-x-clause-number c = IfOk-from_err c.from_residual.result _ c.from
 pub invariant_of-self-2 : goal.invariant_of-self-2
 invariant_of-self-2 c =
     let is = c.in_ok-x.ensures.heap in (
-      rw c.in_ok-x.ensures.infos (ArePeers-row c.self.inside.registry c.self.inside.infos.items _ refl c.self.invariant.0),
+      rw c.in_ok-x.ensures.headers (ArePeers-row c.self.inside.registry c.self.inside.headers.items _ refl c.self.invariant.0),
       ap (λ (v : HeapRows). v.refs) is ∙ c.self.invariant.1,
       ap (λ (v : HeapRows). v.follows) is ∙ c.self.invariant.2,
       AreDues-object c.self.inside.cycle c.self.inside.heap c.add_object.new.heap c.self.inside.notices.spare _ _ _ c.recall_marks_len.ensures is c.self.invariant.3,

@@ -4,7 +4,7 @@ use Rattle.std.proofs.lemmas.List.{length-map}
 use Rattle.instance_registry.specs.Pairs.{without}
 use Rattle.instance_registry.proofs.Pairs.{without-push}
 use Rattle.row_heap.specs.Rows.{HeapRows}
-use Rattle.managed_heap.specs.declared.rows.Held.{Held}
+use Rattle.managed_heap.specs.declared.rows.Header.{Header}
 use Rattle.managed_heap.proofs.Dues.{AreDues-object}
 use Rattle.std.proofs.lemmas.Result.{IfOk-from_err}
 use Rattle.managed_heap.proofs.Given.{alone-twin}
@@ -41,11 +41,11 @@ returns-in-Err-clause-err c =
 pub invariant_of-self-in-Ok : goal.invariant_of-self-in-Ok
 invariant_of-self-in-Ok c =
     let pushed = c.in_ok-add.ensures.ok in
-    let infos = c.self.inside.infos.items in
+    let headers = c.self.inside.headers.items in
     let places = (rw (← c.self.view_is) at c.requires.kept).1.managed.places in
-    let next : c.made-next.result + 1 ≡ length infos + 1 = omega (arith, c.made-next.ensures.made, places, length-map infos (λ (j : Held). j.handle)) in
+    let next : c.made-next.result + 1 ≡ length headers + 1 = omega (arith, c.made-next.ensures.made, places, length-map headers (λ (j : Header). j.handle)) in
     let is = c.in-Ok.ensures.heap in (
-      rw (c.in-Ok.ensures.infos, pushed) (ArePeers-pair c.self.inside.registry infos _ c.args.p record { 0 = c.made-next.result + 1 } refl next c.self.invariant.0),
+      rw (c.in-Ok.ensures.headers, pushed) (ArePeers-pair c.self.inside.registry headers _ c.args.p record { 0 = c.made-next.result + 1 } refl next c.self.invariant.0),
       ap (λ (v : HeapRows). v.refs) is ∙ c.self.invariant.1,
       ap (λ (v : HeapRows). v.follows) is ∙ c.self.invariant.2,
       AreDues-object c.self.inside.cycle c.self.inside.heap c.add_object.new.heap c.self.inside.notices.spare _ _ _ c.recall_marks_len.ensures is c.self.invariant.3,

@@ -12,7 +12,7 @@ use Rattle.joint_machine.specs.ManagedReplay.{ManagedReplay}
 use Rattle.joint_laws.specs.ManagedInvariants.{IsManagedKept}
 use Rattle.heap_rules.specs.Tidy.{CanFree}
 use Rattle.row_heap.specs.Rows.{HeapRows}
-use Rattle.managed_heap.specs.declared.rows.Held.{Held}
+use Rattle.managed_heap.specs.declared.rows.Header.{Header}
 use Rattle.managed_heap.specs.Resolving.{TakesResolution, has_handle}
 use Rattle.managed_heap.specs.Rows.{pairs_of, rows_of}
 use Rattle.managed_heap.proofs.Resolutions.{shut-open, can-free, resolution-is, notices-fit, All-numbers, filter-live, resolved-is, rows-few}
@@ -23,14 +23,14 @@ use Rattle.managed_heap.proofs.rows.ManagedRows.resolve.Goals as goal
 
 pub settle-candidates-requires-clause-live : goal.settle-candidates-requires-clause-live
 settle-candidates-requires-clause-live c =
-    let kept : IsManagedKept (rows_of c.self.inside.heap.heap c.self.inside.infos.items c.self.inside.registry c.self.inside.cells no_pins c.self.inside.notices c.self.inside.cycle
+    let kept : IsManagedKept (rows_of c.self.inside.heap.heap c.self.inside.headers.items c.self.inside.registry c.self.inside.cells no_pins c.self.inside.notices c.self.inside.cycle
     c.self.inside.cycles c.self.inside.contracted).managed = subst (λ (z : ManagedReplay). IsManagedKept z.managed) (sym c.self.view_is) c.requires.kept.1.managed in
     let cut = kept.dead c.in-Some.open (sym c.in-Some.ensures.value) in
     λ m k. cut.live m ((cut.candidates m).0 k).0
 
 pub settle-candidates-requires-clause-shut : goal.settle-candidates-requires-clause-shut
 settle-candidates-requires-clause-shut c =
-    let s = rows_of c.self.inside.heap.heap c.self.inside.infos.items c.self.inside.registry c.self.inside.cells
+    let s = rows_of c.self.inside.heap.heap c.self.inside.headers.items c.self.inside.registry c.self.inside.cells
     no_pins c.self.inside.notices c.self.inside.cycle c.self.inside.cycles c.self.inside.contracted in
     let kept : IsManagedKept s.managed = subst (λ (z : ManagedReplay). IsManagedKept z.managed) (sym c.self.view_is) c.requires.kept.1.managed in
     let opened = sym c.in-Some.ensures.value in
@@ -38,7 +38,7 @@ settle-candidates-requires-clause-shut c =
 
 pub free-requires-clause-can : goal.free-requires-clause-can
 free-requires-clause-can c =
-    let s = rows_of c.self.inside.heap.heap c.self.inside.infos.items c.self.inside.registry c.self.inside.cells
+    let s = rows_of c.self.inside.heap.heap c.self.inside.headers.items c.self.inside.registry c.self.inside.cells
     no_pins c.self.inside.notices c.self.inside.cycle c.self.inside.cycles c.self.inside.contracted in
     let kept : IsManagedKept s.managed = subst (λ (z : ManagedReplay). IsManagedKept z.managed) (sym c.self.view_is) c.requires.kept.1.managed in
     let opened = sym c.in-Some.ensures.value in
@@ -49,7 +49,7 @@ free-requires-clause-can c =
 
 pub notify-requires : goal.notify-requires
 notify-requires c =
-    let s = rows_of c.self.inside.heap.heap c.self.inside.infos.items c.self.inside.registry c.self.inside.cells
+    let s = rows_of c.self.inside.heap.heap c.self.inside.headers.items c.self.inside.registry c.self.inside.cells
     no_pins c.self.inside.notices c.self.inside.cycle c.self.inside.cycles c.self.inside.contracted in
     let kept : IsManagedKept s.managed = subst (λ (z : ManagedReplay). IsManagedKept z.managed) (sym c.self.view_is) c.requires.kept.1.managed in
     let opened = sym c.in-Some.ensures.value in
@@ -62,27 +62,27 @@ notify-requires c =
 
 pub forget_pairs-requires-clause-rows : goal.forget_pairs-requires-clause-rows
 forget_pairs-requires-clause-rows c =
-    let s = rows_of c.self.inside.heap.heap c.self.inside.infos.items c.self.inside.registry c.self.inside.cells
+    let s = rows_of c.self.inside.heap.heap c.self.inside.headers.items c.self.inside.registry c.self.inside.cells
     no_pins c.self.inside.notices c.self.inside.cycle c.self.inside.cycles c.self.inside.contracted in
     let kept : IsManagedKept s.managed = subst (λ (z : ManagedReplay). IsManagedKept z.managed) (sym c.self.view_is) c.requires.kept.1.managed in
     let cut = kept.dead c.in-Some.open (sym c.in-Some.ensures.value) in
-    let many : length c.self.inside.infos.items ≡ length c.self.inside.heap.heap.fields = sym (length-map c.self.inside.infos.items (λ (i : Held). i.handle)) ∙ kept.places in
-    subst (λ z. All (λ m. (1 ≤ m.0) × (m.0 ≤ length c.self.inside.infos.items)) z) (sym c.deref-4.ensures.value)
-    (All-numbers (λ m. (1 ≤ m) × (m ≤ length c.self.inside.infos.items)) c.settle-candidates.result.1.items (λ m k. (
+    let many : length c.self.inside.headers.items ≡ length c.self.inside.heap.heap.fields = sym (length-map c.self.inside.headers.items (λ (i : Header). i.handle)) ∙ kept.places in
+    subst (λ z. All (λ m. (1 ≤ m.0) × (m.0 ≤ length c.self.inside.headers.items)) z) (sym c.deref-4.ensures.value)
+    (All-numbers (λ m. (1 ≤ m) × (m ≤ length c.self.inside.headers.items)) c.settle-candidates.result.1.items (λ m k. (
     let l = cut.live m ((unmarked_of-exact c.settle-candidates.new.heap.marks c.in-Some.open.dead m).0 (subst (λ xs. Contains xs m) c.settle-candidates.ensures.freed k)).0 in
     (l.made.0, omega (arith, l.made.1, many)))))
 
 pub renew-requires-clause-rows : goal.renew-requires-clause-rows
 renew-requires-clause-rows c =
-    let s = rows_of c.self.inside.heap.heap c.self.inside.infos.items c.self.inside.registry c.self.inside.cells
+    let s = rows_of c.self.inside.heap.heap c.self.inside.headers.items c.self.inside.registry c.self.inside.cells
     no_pins c.self.inside.notices c.self.inside.cycle c.self.inside.cycles c.self.inside.contracted in
     let kept : IsManagedKept s.managed = subst (λ (z : ManagedReplay). IsManagedKept z.managed) (sym c.self.view_is) c.requires.kept.1.managed in
     let cut = kept.dead c.in-Some.open (sym c.in-Some.ensures.value) in
-    let many : length c.self.inside.infos.items ≡ length c.self.inside.heap.heap.fields = sym (length-map c.self.inside.infos.items (λ (i : Held). i.handle)) ∙ kept.places in
-    let as_many : length c.forget_pairs.new.infos.items ≡ length c.self.inside.infos.items = sym (length-map c.forget_pairs.new.infos.items (λ (i : Held). i.handle))
-    ∙ (ap length c.forget_pairs.ensures.handles ∙ length-map c.self.inside.infos.items (λ (i : Held). i.handle)) in
-    subst (λ z. All (λ m. (1 ≤ m) × (m ≤ length c.forget_pairs.new.infos.items)) z) (sym (c.deref-5.ensures.value ∙ c.settle-candidates.ensures.candidates))
-    (All-members (λ m. (1 ≤ m) × (m ≤ length c.forget_pairs.new.infos.items)) c.in-Some.open.candidates (λ m k. (
+    let many : length c.self.inside.headers.items ≡ length c.self.inside.heap.heap.fields = sym (length-map c.self.inside.headers.items (λ (i : Header). i.handle)) ∙ kept.places in
+    let as_many : length c.forget_pairs.new.headers.items ≡ length c.self.inside.headers.items = sym (length-map c.forget_pairs.new.headers.items (λ (i : Header). i.handle))
+    ∙ (ap length c.forget_pairs.ensures.handles ∙ length-map c.self.inside.headers.items (λ (i : Header). i.handle)) in
+    subst (λ z. All (λ m. (1 ≤ m) × (m ≤ length c.forget_pairs.new.headers.items)) z) (sym (c.deref-5.ensures.value ∙ c.settle-candidates.ensures.candidates))
+    (All-members (λ m. (1 ≤ m) × (m ≤ length c.forget_pairs.new.headers.items)) c.in-Some.open.candidates (λ m k. (
     let l = cut.live m ((cut.candidates m).0 k).0 in
     (l.made.0, omega (arith, l.made.1, many, as_many)))))
 
@@ -97,7 +97,7 @@ invariant_of-self c = (
 
 pub returns-clause-few : goal.returns-clause-few
 returns-clause-few c =
-    let s = rows_of c.self.inside.heap.heap c.self.inside.infos.items c.self.inside.registry c.self.inside.cells
+    let s = rows_of c.self.inside.heap.heap c.self.inside.headers.items c.self.inside.registry c.self.inside.cells
     no_pins c.self.inside.notices c.self.inside.cycle c.self.inside.cycles c.self.inside.contracted in
     let kept : IsManagedKept s.managed = subst (λ (z : ManagedReplay). IsManagedKept z.managed) (sym c.self.view_is) c.requires.kept.1.managed in
     let opened = sym c.in-Some.ensures.value in
@@ -110,7 +110,7 @@ returns-clause-few c =
 pub returns-clause-resolution : goal.returns-clause-resolution
 returns-clause-resolution c =
     let open' = c.in-Some.open in
-    let s = rows_of c.self.inside.heap.heap c.self.inside.infos.items c.self.inside.registry c.self.inside.cells
+    let s = rows_of c.self.inside.heap.heap c.self.inside.headers.items c.self.inside.registry c.self.inside.cells
     no_pins c.self.inside.notices c.self.inside.cycle c.self.inside.cycles c.self.inside.contracted in
     let kept : IsManagedKept s.managed = subst (λ (z : ManagedReplay). IsManagedKept z.managed) (sym c.self.view_is) c.requires.kept.1.managed in
     let opened = sym c.in-Some.ensures.value in
@@ -118,11 +118,11 @@ returns-clause-resolution c =
     let due = c.self.invariant.3 open' opened in
     let ms = c.settle-candidates.result.1.items in
     let freed = managed_numbers ms in
-    let after = c.renew.new.infos.items in
+    let after = c.renew.new.headers.items in
     let answers = answers_of c.args.alive.now.values in
     let own : candidates_of s.managed ≡ open'.candidates = ap (λ (o : Option OpenCycle). elim o [ None ↦ [] | Some k ↦ k.candidates ]) opened in
     let given : c.deref-5.result.now ≡ candidates_of s.managed = c.deref-5.ensures.value ∙ (c.settle-candidates.ensures.candidates ∙ sym own) in
-    let handles : map (λ (k : Held). k.handle) after ≡ renewed s.managed.held (candidates_of s.managed) answers =
+    let handles : map (λ (k : Header). k.handle) after ≡ renewed s.managed.held (candidates_of s.managed) answers =
     c.renew.ensures.handles ∙ (ap (λ z. renewed z c.deref-5.result.now answers) c.forget_pairs.ensures.handles ∙ ap (λ z. renewed s.managed.held z answers) given) in
     let next = rows_of c.free.new.self.heap after c.forget_pairs.new.registry c.self.inside.cells no_pins c.notify.new.notices c.take.new.self c.self.inside.cycles c.self.inside.contracted in
     let heap-is : c.free.new.self.heap ≡ with_freed c.self.inside.heap.heap freed = c.free.ensures.heap
@@ -136,7 +136,7 @@ returns-clause-resolution c =
       opened = opened;
       resolution = resolution-is c.self.inside.heap c.settle-candidates.new.heap c.self.inside.notices.spare s.managed open'
           c.args.alive.now.values freed refl c.self.invariant.2 due c.settle-candidates.ensures.marks c.settle-candidates.ensures.freed;
-      state = rw c.take.ensures.after (resolved-is c.self.inside.heap.heap c.free.new.self.heap c.self.inside.infos.items after c.self.inside.registry c.forget_pairs.new.registry c.self.inside.cells
+      state = rw c.take.ensures.after (resolved-is c.self.inside.heap.heap c.free.new.self.heap c.self.inside.headers.items after c.self.inside.registry c.forget_pairs.new.registry c.self.inside.cells
           no_pins c.self.inside.notices c.notify.new.notices c.self.inside.cycle c.self.inside.cycles c.self.inside.contracted answers freed heap-is
           (c.renew.ensures.kinds ∙ c.forget_pairs.ensures.kinds) handles (rw c.deref-4.ensures.value at c.forget_pairs.ensures.pairs)
           (queued ∙ ap (λ z. managed_numbers c.self.inside.notices.queued ++ z) same) c.notify.ensures.taken);
