@@ -1,6 +1,6 @@
 // The report of a history, which a sink gets piece by piece.
 
-ghost use Rattle.std.specs.Prelude.{◌++◌, ◌≤◌, take, length};
+ghost use Rattle.std.specs.Prelude.{◌++◌, ◌^◌, ◌≤◌, take, length};
 ghost use Rattle.joint_machine.specs.Histories.{stretch};
 ghost use Rattle.byte_streams.specs.Streams.{Writes};
 ghost use Rattle.byte_streams.specs.Sending.{Sends};
@@ -24,7 +24,7 @@ fn write_numbers<K: Sink>(
 ) -> Result<(), Failed>
     ensures { Sends (K.held out.old) (K.held out.new) line.old.text line.new.text
         (K.faults out.old) (K.faults out.new) result
-        (after_spaces (lettered (letter_of numbers) (stretch (take 4294967296 (numbers_of h.now numbers)) span))) }
+        (after_spaces (lettered (letter_of numbers) (stretch (take (2 ^ 32) (numbers_of h.now numbers)) span))) }
 {
     for k in 0..span.count {
         let Some(n) = numbers.at(h, span.first as u64 + k as u64) else {
