@@ -4,3 +4,4 @@ pub mod Digits
 pub mod Counting
 pub mod Written
 pub mod Putting
+pub mod PutParts

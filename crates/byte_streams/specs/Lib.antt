@@ -6,3 +6,4 @@ pub mod Sending
 pub mod Counts
 pub mod Reading
 pub mod ReadErrors
+pub mod Parts

@@ -7,6 +7,7 @@ ghost use Rattle.byte_streams.specs.Sending.{Sends};
 ghost use Rattle.byte_streams.specs.Drafts.{AddsText};
 
 use crate::counts::Count;
+use crate::parts::{Part, put_number};
 use crate::streams::{Failed, Sink, write_text};
 use itoa::Buffer;
 use std::marker::Model;
@@ -270,6 +271,16 @@ impl Line {
         let (digits, len) = count.digits();
         u8x32::from_slice(digits).copy_to_slice(&mut self.bytes[at..at + LANES]);
         self.len = at + len;
+    }
+
+    /// Puts a part's word and a number behind it. The part's digits are the number's afterwards, where it can have them.
+    #[inline(always)]
+    pub fn part(&mut self, part: &mut Part, n: u64)
+        requires { 56 ≤ self.old.room }
+        ensures text { AddsText self.old self.new (part.old.word ++ decimal n) 43 }
+        ensures word { part.new.word ≡ part.old.word }
+    {
+        self.len = put_number(&mut self.bytes, self.len, part, n);
     }
 
     /// Puts a word behind it, with a space before the word. The word is taken as an array, since its length is then

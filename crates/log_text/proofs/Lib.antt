@@ -5,4 +5,3 @@ pub mod Keys
 pub mod LinesWritten
 pub mod ReadLines
 pub mod Pieces
-pub mod PutParts

@@ -6,4 +6,3 @@ pub mod Taking
 pub mod Keys
 pub mod Laws
 pub mod Answers
-pub mod Parts

@@ -7,10 +7,12 @@ ghost use Rattle.byte_streams.specs.Sending.{Sends};
 ghost use Rattle.log_text.specs.Text.{end_text, line_text, lines_text, mark_text};
 
 use crate::lines::{LogLine, Mark};
-use crate::parts::{Part, SIZE, put_number};
-use byte_streams::{Failed, Sink, write_text};
+use byte_streams::{Failed, Part, Sink, put_number, write_text};
 use joint_model::HNum;
 use std::marker::Model;
+
+// The bytes of the buffer.
+const SIZE: usize = 16_384;
 
 // For so many bytes [`LogDraft::make_room`] sees that there is room.
 const LEAST: usize = 512;
@@ -62,9 +64,9 @@ impl LastNumbers {
     // Puts a mark and a handle.
     #[inline(always)]
     fn put_handle(&mut self, bytes: &mut [u8; 16_384], at: usize, mark: Mark, h: HNum) -> usize
-        requires { at + 40 ≤ 16384 }
+        requires { at + 56 ≤ 16384 }
         ensures text { take result bytes.new ≡ take at bytes.old ++ (mark_text mark ++ 32 ∷ 104 ∷ decimal h.0) }
-        ensures end { result ≤ at + 28 }
+        ensures end { result ≤ at + 43 }
     {
         match mark {
             Mark::GPlus => put_number(bytes, at, &mut self.g_plus, h.0 as u64),
@@ -77,9 +79,9 @@ impl LastNumbers {
     // Puts a line with its newline, and answers where it ends.
     #[inline(always)]
     fn put_line(&mut self, bytes: &mut [u8; 16_384], start: usize, line: &LogLine) -> usize
-        requires { start + 200 ≤ 16384 }
+        requires { start + 240 ≤ 16384 }
         ensures text { take result bytes.new ≡ take start bytes.old ++ (line_text line.now ++ 10 ∷ []) }
-        ensures end { result ≤ start + 141 }
+        ensures end { result ≤ start + 216 }
     {
         let at = self.put_handle(bytes, start, line.mark, line.h);
         let at = put_number(bytes, at, &mut self.peer, line.p.0 as u64);
@@ -151,8 +153,8 @@ impl LogDraft {
     /// Puts a line behind it, with its newline.
     #[inline(always)]
     pub fn put(&mut self, line: &LogLine, last: &mut LastNumbers)
-        requires { 200 ≤ self.old.room }
-        ensures { AddsText self.old self.new (line_text line.now ++ 10 ∷ []) 200 }
+        requires { 240 ≤ self.old.room }
+        ensures { AddsText self.old self.new (line_text line.now ++ 10 ∷ []) 240 }
     {
         self.len = last.put_line(&mut self.bytes, self.len, line);
     }
@@ -160,8 +162,8 @@ impl LogDraft {
     /// Puts two lines behind it, each with its newline.
     #[inline(always)]
     pub fn put_two(&mut self, first: &LogLine, second: &LogLine, last: &mut LastNumbers)
-        requires { 400 ≤ self.old.room }
-        ensures { AddsText self.old self.new (lines_text (first.now ∷ second.now ∷ [])) 400 }
+        requires { 480 ≤ self.old.room }
+        ensures { AddsText self.old self.new (lines_text (first.now ∷ second.now ∷ [])) 480 }
     {
         let at = last.put_line(&mut self.bytes, self.len, first);
         self.len = last.put_line(&mut self.bytes, at, second);

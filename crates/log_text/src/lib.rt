@@ -34,7 +34,6 @@ mod lines;
 mod lists;
 mod live;
 mod logs;
-mod parts;
 mod reading;
 mod said;
 mod writing;

@@ -1,7 +1,7 @@
 use Rattle.std.proofs.Common.{◌≡◌, ◌+◌, ◌/◌, ◌%◌, ◌∷◌, [], decimal, take, ◌∙◌, arith}
 use Rattle.byte_streams.proofs.Digits.{decimal_pair}
-use Rattle.log_text.proofs.PutParts.{near-joined}
-use Rattle.log_text.proofs.parts.put_near.Goals as goal
+use Rattle.byte_streams.proofs.PutParts.{near-joined}
+use Rattle.byte_streams.proofs.parts.put_near.Goals as goal
 
 pub returns-clause-text : goal.returns-clause-text
 returns-clause-text c =

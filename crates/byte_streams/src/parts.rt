@@ -1,26 +1,21 @@
-// Numbers of a line with the words before them, as their bytes are put into a buffer.
+// Numbers with the words before them, as their bytes are put into a buffer.
 
 ghost use Rattle.std.specs.Prelude.{◌≡◌, ◌+◌, ◌*◌, ◌/◌, ◌%◌, ◌<◌, ◌≤◌, ◌++◌, [], ◌∷◌, IfSome, IsTrue, decimal, length};
 ghost use Rattle.std.specs.Prelude.{take};
 
-use byte_streams::{Count, pair_of};
+use crate::counts::Count;
+use crate::drafts::pair_of;
 use std::marker::Model;
 use std::simd::prelude::*;
 
-/// How many bytes are behind the end of what is put together, at least, where a part and a number are put.
-pub const SPARE: usize = 40;
-
-/// The bytes of the buffer.
-pub const SIZE: usize = 16_384;
-
 // How many bytes of a part are copied at once: all of them.
-const LANES: usize = 16;
+const LANES: usize = 32;
 
 /// A word of a line with the digits of a number behind it but for the last two: most numbers differ from that of the
 /// line before in no others. So a number is put by one copy of fixed size, and two digits.
 #[derive(Drop)]
 pub struct Part {
-    bytes: [u8; 16],
+    bytes: [u8; 32],
     // How many bytes the word has, and how many the word with the digits.
     word: usize,
     len: usize,
@@ -30,24 +25,24 @@ pub struct Part {
 
 impl Model for Part {
     ghost use Rattle.std.specs.Prelude.{◌≡◌, ◌*◌, ◌/◌, ◌≤◌, ◌++◌, decimal, take};
-    ghost use Rattle.log_text.specs.Parts.{Parted};
+    ghost use Rattle.byte_streams.specs.Parts.{Parted};
 
     ghost Value = { Parted };
 
     ghost view = { λ p. record { word = take p.word p.bytes; base = p.base } };
 
-    ghost invariant = { λ p. (p.word ≤ 8)
-        × ((p.len ≤ 16) × ((100 ≤ p.base) × ((p.base ≡ p.base / 100 * 100)
+    ghost invariant = { λ p. (p.word ≤ 23)
+        × ((p.len ≤ 32) × ((100 ≤ p.base) × ((p.base ≡ p.base / 100 * 100)
         × (take p.len p.bytes ≡ take p.word p.bytes ++ decimal (p.base / 100))))) };
 }
 
 impl Part {
     /// A word, and the digits of 1.
     pub fn of(word: &[u8]) -> Part
-        requires { length word.now ≤ 8 }
+        requires { length word.now ≤ 23 }
         ensures { result.word ≡ word.now }
     {
-        let mut bytes = [0; 16];
+        let mut bytes = [0; 32];
         bytes[..word.len()].copy_from_slice(word);
         bytes[word.len()] = b'1';
         Part {
@@ -103,13 +98,13 @@ fn put_pair(bytes: &mut [u8; 16_384], at: usize, n: usize) -> usize
 
 // Puts the word of a part, of whose bytes so many are wanted.
 #[inline(always)]
-fn put_bytes(bytes: &mut [u8; 16_384], at: usize, part: &[u8; 16], len: usize) -> usize
-    requires few { len ≤ 16 }
-    requires room { at + 16 ≤ 16384 }
+fn put_bytes(bytes: &mut [u8; 16_384], at: usize, part: &[u8; 32], len: usize) -> usize
+    requires few { len ≤ 32 }
+    requires room { at + 32 ≤ 16384 }
     ensures text { take result bytes.new ≡ take at bytes.old ++ take len part.now }
     ensures end { result ≡ at + len }
 {
-    u8x16::from_slice(part).copy_to_slice(&mut bytes[at..at + LANES]);
+    u8x32::from_slice(part).copy_to_slice(&mut bytes[at..at + LANES]);
     at + len
 }
 
@@ -137,9 +132,9 @@ fn put_any(bytes: &mut [u8; 16_384], at: usize, n: u64) -> usize
 fn put_near(bytes: &mut [u8; 16_384], at: usize, part: &Part, low: usize) -> usize
     requires digits { low < 100 }
     requires fits { part.now.base + low < 18446744073709551616 }
-    requires room { at + 40 ≤ 16384 }
+    requires room { at + 56 ≤ 16384 }
     ensures text { take result bytes.new ≡ take at bytes.old ++ (part.now.word ++ decimal (part.now.base + low)) }
-    ensures end { result ≤ at + 18 }
+    ensures end { result ≤ at + 34 }
 {
     let at = put_bytes(bytes, at, &part.bytes, part.len);
     put_pair(bytes, at, low)
@@ -148,10 +143,10 @@ fn put_near(bytes: &mut [u8; 16_384], at: usize, part: &Part, low: usize) -> usi
 // Puts a part's word with a number behind it whose digits are not at hand. It is a call, since it is seldom made.
 #[inline(never)]
 fn put_far(bytes: &mut [u8; 16_384], at: usize, part: &mut Part, n: u64) -> usize
-    requires { at + 40 ≤ 16384 }
+    requires { at + 56 ≤ 16384 }
     ensures text { take result bytes.new ≡ take at bytes.old ++ (part.old.word ++ decimal n) }
     ensures word { part.new.word ≡ part.old.word }
-    ensures end { result ≤ at + 28 }
+    ensures end { result ≤ at + 43 }
 {
     let hundreds = n / 100;
     if part.go_to(hundreds) {
@@ -164,10 +159,10 @@ fn put_far(bytes: &mut [u8; 16_384], at: usize, part: &mut Part, n: u64) -> usiz
 /// Puts a part's word with a number behind it, in decimal, and answers where they end.
 #[inline(always)]
 pub fn put_number(bytes: &mut [u8; 16_384], at: usize, part: &mut Part, n: u64) -> usize
-    requires { at + 40 ≤ 16384 }
+    requires { at + 56 ≤ 16384 }
     ensures text { take result bytes.new ≡ take at bytes.old ++ (part.old.word ++ decimal n) }
     ensures word { part.new.word ≡ part.old.word }
-    ensures end { result ≤ at + 28 }
+    ensures end { result ≤ at + 43 }
 {
     match part.low(n) {
         Some(low) => put_near(bytes, at, part, low),
