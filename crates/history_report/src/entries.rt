@@ -6,6 +6,7 @@ ghost use Rattle.bridge_script.specs.Words.{var_text, kind_text, sort_text, peer
 ghost use Rattle.history_report.specs.Report.{event_words, reply_words, managed_text, peer_text, handle_text, list_of};
 ghost use Rattle.history_report.specs.Report.{head_text, tail_text, place_text};
 
+use crate::candidates::CandidateLines;
 use crate::lists::Numbers;
 use crate::objects::{add_handle, add_managed, add_peer, add_phase};
 use bridge_script::{
@@ -267,8 +268,8 @@ pub fn list_of(reply: &Reply) -> Option<(Numbers, Span)>
 }
 
 /// The number that mostly comes next, that of the last entry's line, from which the next one's mostly follows; the
-/// number that was cited last, whose text is kept once it is cited again; and the handles that a cycle weakens and
-/// restores in a row, and those that it gives.
+/// number that was cited last, whose text is kept once it is cited again; the handles that a cycle weakens and
+/// restores in a row, and those that it gives; and the words of the lines that it has for each candidate.
 #[derive(Drop)]
 pub struct Counts {
     number: Count,
@@ -277,6 +278,7 @@ pub struct Counts {
     cited: Count,
     handles: Count,
     given: Count,
+    pub(crate) candidates: CandidateLines,
 }
 
 impl Counts {
@@ -289,6 +291,7 @@ impl Counts {
             cited: Count::of(0),
             handles: Count::of(1),
             given: Count::of(1),
+            candidates: CandidateLines::on(0),
         }
     }
 }

@@ -19,6 +19,7 @@
 // `specs/Report.antt` says what the report is, and `specs/Lists.antt` how the lists of numbers stand in it.
 #![tactic(auto)]
 
+mod candidates;
 mod entries;
 mod lists;
 mod objects;

@@ -9,6 +9,7 @@ ghost use Rattle.joint_model.specs.Leaders.{entry_of};
 ghost use Rattle.history_report.specs.Lists.{lettered, list_words, numbers_of, letter_of};
 ghost use Rattle.history_report.specs.Report.{entry_text, entries_text, end_text, tail_text, report};
 
+use crate::candidates::candidate_of;
 use crate::entries::{Counts, add_head, add_tail, list_of};
 use crate::lists::Numbers;
 use byte_streams::{Failed, Line, Sink};
@@ -105,7 +106,7 @@ pub fn write_entry<K: Sink>(
     }
 }
 
-// Writes the line of an entry that was put together.
+// Writes the line of an entry that tells of no candidate. It is a call, since it is seldom made.
 #[inline(never)]
 fn write_spelled<K: Sink>(
     h: &History,
@@ -120,6 +121,30 @@ fn write_spelled<K: Sink>(
     write_entry(h, entry, counts, line, out)
 }
 
+// Writes the line of an entry that was put together: mostly it tells of a candidate. It is a call, so that the loop over
+// all entries stays as it is for those that are kept.
+#[inline(never)]
+fn write_told<K: Sink>(
+    h: &History,
+    entry: &PackedEntry,
+    counts: &mut Counts,
+    line: &mut Line,
+    out: &mut K,
+) -> Result<(), Failed>
+    ensures { Sends (K.held out.old) (K.held out.new) line.old.text line.new.text
+        (K.faults out.old) (K.faults out.new) result (entry_text h.now entry.now) }
+{
+    match candidate_of(entry) {
+        None => write_spelled(h, entry, counts, line, out),
+        Some(candidate) => {
+            line.make_room(out)?;
+            counts.candidates.go_to(entry.index());
+            counts.candidates.add(line, entry.number(), candidate);
+            Ok(())
+        }
+    }
+}
+
 // Writes the lines of all entries, in rising number.
 fn write_entries<K: Sink>(h: &History, line: &mut Line, out: &mut K) -> Result<(), Failed>
     ensures { Sends (K.held out.old) (K.held out.new) line.old.text line.new.text
@@ -130,7 +155,7 @@ fn write_entries<K: Sink>(h: &History, line: &mut Line, out: &mut K) -> Result<(
     while let Some(step) = walk.next() {
         match step {
             Step::Kept(entry) => write_entry(h, entry, &mut counts, line, out)?,
-            Step::Spelled(entry) => write_spelled(h, &entry, &mut counts, line, out)?,
+            Step::Spelled(entry) => write_told(h, &entry, &mut counts, line, out)?,
         }
     }
     Ok(())

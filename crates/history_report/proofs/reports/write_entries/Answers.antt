@@ -27,23 +27,23 @@ loop-step-preserved-in-Continue-1 g c =
       later = omega (arith, w.cause.later);
     }
 
-pub returns-in_err-write_spelled-in-Spelled : goal.returns-in_err-write_spelled-in-Spelled
-returns-in_err-write_spelled-in-Spelled g c =
+pub returns-in_err-write_told-in-Spelled : goal.returns-in_err-write_told-in-Spelled
+returns-in_err-write_told-in-Spelled g c =
     let reported = rw (c.in-Some.ensures, ap entry_of c.in-Spelled.is) at c.loop-step.invariant.reported in
-    rw (passed_on c.from_residual-in_err-write_spelled-in-Spelled.result c.in_err-write_spelled-in-Spelled.field-0.0
-    c.from_residual-in_err-write_spelled-in-Spelled.ensures.0 c.from_residual-in_err-write_spelled-in-Spelled.ensures.1)
+    rw (passed_on c.from_residual-in_err-write_told-in-Spelled.result c.in_err-write_told-in-Spelled.field-0.0
+    c.from_residual-in_err-write_told-in-Spelled.ensures.0 c.from_residual-in_err-write_told-in-Spelled.ensures.1)
     (not_reported c.args.h.now c.in-Spelled.entry c.next.new.self (g.K.Sink.held c.args.out.now) (g.K.Sink.held c.loop-step.out)
-    (g.K.Sink.held c.write_spelled.new.out) c.args.line.now.text c.loop-step.line.text c.write_spelled.new.line.text
+    (g.K.Sink.held c.write_told.new.out) c.args.line.now.text c.loop-step.line.text c.write_told.new.line.text
     (g.K.Sink.faults c.args.out.now) (g.K.Sink.faults c.loop-step.out)
-    (g.K.Sink.faults c.write_spelled.new.out) c.in_err-write_spelled-in-Spelled.field-0.0 reported c.loop-step.invariant.later c.in_err-write_spelled-in-Spelled.ensures)
+    (g.K.Sink.faults c.write_told.new.out) c.in_err-write_told-in-Spelled.field-0.0 reported c.loop-step.invariant.later c.in_err-write_told-in-Spelled.ensures)
 
 pub loop-step-preserved : goal.loop-step-preserved
 loop-step-preserved g c =
     let reported = rw (c.in-Some.ensures, ap entry_of c.in-Spelled.is) at c.loop-step.invariant.reported in
-    let w = c.in_ok-write_spelled-in-Spelled.ensures in
+    let w = c.in_ok-write_told-in-Spelled.ensures in
     record {
       reported = one_more c.args.h.now c.in-Spelled.entry c.next.new.self (g.K.Sink.held c.args.out.now) (g.K.Sink.held c.loop-step.out)
-          (g.K.Sink.held c.write_spelled.new.out) c.args.line.now.text c.loop-step.line.text c.write_spelled.new.line.text
+          (g.K.Sink.held c.write_told.new.out) c.args.line.now.text c.loop-step.line.text c.write_told.new.line.text
           reported w.whole;
       later = omega (arith, w.cause.later);
     }
