@@ -43,6 +43,8 @@ use Rattle.joint_history.specs.Locked.{StaysSeated, Drew, MakesNone, PeerKnows, 
 use Rattle.joint_history.specs.Operations.{MakesAll, MayBegin, Runs, entry_by}
 use Rattle.joint_history.specs.PeerCalls.{DrawsEvent}
 use Rattle.seat_calls.specs.Passing.{Appends, Lends, Returns}
+use Rattle.joint_history.specs.Steps.{GoesFurther}
+use Rattle.joint_history.proofs.Fitting.{goes_further, further_then, stays_further}
 use Rattle.joint_history.proofs.KnownCallers.{own_line}
 use Rattle.joint_history.proofs.KnownViews.{entries_snoc, same_view}
 use Rattle.joint_history.proofs.SeatDraws.{drew_peer, peer_settled}
@@ -362,25 +364,13 @@ module _ {E : Type 0} (order : OrderId) (seat seat' : Shown) (old new : Side Pee
   collect_called (P n) locked mine mine1 locked2 mine2 result is pass owns short ks may l d e b = collect_called_by n locked mine mine1 locked2 mine2 result is pass owns short ks may l d e b
   collect_called C locked mine mine1 locked2 mine2 result is pass owns short ks may l d e b = absurd is
 
--- what the seat knew and owned after the draw, and that it is of the order
-module _ {E : Type 0} (order : OrderId) (seat seat' : Shown) (old new : Side PeerReplay) (t : Thread) (index : ℕ) where
-  pub collect_more : (result : Result Receipt E) → IfOk result (λ r. DrawsCollect order seat seat' old new t index r)
-      → OnErr result (StaysSeated seat seat' × (new ≡ old)) → (i : ℕ) → IsPrefix (known seat.view i) (known seat'.view i)
-  collect_more (Ok r) (inl d) e i = prefix_trans (known seat.view i) (known d.between.view i) (known seat'.view i)
-      (grows_more seat.view d.between.view 1 d.begins.kept d.begins.appends.grows i) (grows_more d.between.view seat'.view 1 d.ends.kept d.ends.appends.grows i)
-  collect_more (Ok r) (inr d) e i = grows_more seat.view seat'.view 1 d.drew.kept d.drew.appends.grows i
-  collect_more (Err x) d e i = subst (IsPrefix (known seat.view i)) (sym (ap (λ ks. at [] ks i) e.0.known)) (prefix_refl (known seat.view i))
-
-  pub collect_owns : (result : Result Receipt E) → IfOk result (λ r. DrawsCollect order seat seat' old new t index r)
-      → OnErr result (StaysSeated seat seat' × (new ≡ old)) → (i : ℕ) → Owns seat.view i → Owns seat'.view i
-  collect_owns (Ok r) (inl d) e i w = owns_on d.between.view seat'.view 1 d.ends.kept d.ends.appends.grows i (owns_on seat.view d.between.view 1 d.begins.kept d.begins.appends.grows i w)
-  collect_owns (Ok r) (inr d) e i w = owns_on seat.view seat'.view 1 d.drew.kept d.drew.appends.grows i w
-  collect_owns (Err x) d e i w = ap (λ os. at false os i) e.0.owns ∙ w
-
-  pub collect_order : (result : Result Receipt E) → IfOk result (λ r. DrawsCollect order seat seat' old new t index r) → OnErr result (StaysSeated seat seat' × (new ≡ old)) → seat'.order ≡ seat.order
-  collect_order (Ok r) (inl d) e = d.ends.appends.same ∙ d.begins.appends.same
-  collect_order (Ok r) (inr d) e = d.drew.appends.same
-  collect_order (Err x) d e = e.0.order
+-- the seat goes further by it
+pub collect_further : {E : Type 0} (order : OrderId) (seat seat' : Shown) (old new : Side PeerReplay) (t : Thread) (index : ℕ) (result : Result Receipt E)
+    → IfOk result (λ r. DrawsCollect order seat seat' old new t index r) → OnErr result (StaysSeated seat seat' × (new ≡ old)) → GoesFurther seat seat'
+collect_further order seat seat' old new t index (Ok r) (inl d) e = further_then seat d.between seat'
+    (goes_further order seat d.between 1 d.begins.kept d.begins.appends) (goes_further order d.between seat' 1 d.ends.kept d.ends.appends)
+collect_further order seat seat' old new t index (Ok r) (inr d) e = goes_further order seat seat' 1 d.drew.kept d.drew.appends
+collect_further order seat seat' old new t index (Err x) d e = stays_further seat seat' e.0
 
 -- what is reserved stays so: an entry of a thread neither mirrors a cycle nor begins its own marking
 keeps_then : (a b c : PeerModel) → KeepsReserve a b → KeepsReserve b c → KeepsReserve a c

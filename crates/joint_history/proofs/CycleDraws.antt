@@ -41,12 +41,6 @@ use Rattle.view_laws.proofs.PinWords.{same-number}
 use Rattle.joint_history.specs.Locked.{Drew, HasAppended, ManagedKnows}
 use Rattle.joint_history.proofs.LockedSteps.{lent_joined, owns_on}
 
--- what the locked seat knows of its side it knows with the caller's lines too
-pub knows_lent : (t : Thread) (locked mine lent mine1 : View) (s : Side ManagedReplay) → Owns locked 0 → ManagedKnows locked s → IsDrawnView mine → Lends t locked mine lent mine1 → ManagedKnows lent s
-knows_lent t locked mine lent mine1 s owns ks m l =
-    let j = lent_joined t locked mine lent mine1 l ks.known m in
-    record { known = j.joined; entries = ap line_entries (l.whole 0 owns) ∙ ks.entries; state = j.managed_first (l.whole 0 owns) ∙ ks.state }
-
 -- the side's open cycle is the one that the seat's managed list has open
 pub cycle_open : (v : View) (s : Side ManagedReplay) → ManagedKnows v s → (c : OpenCycle) → s.state.managed.cycle ≡ Some c → IsOpen v c.number
 cycle_open v s k c e = (views_say_states v k.known).opened c (ap (λ (r : ManagedReplay). r.managed.cycle) k.state ∙ e)

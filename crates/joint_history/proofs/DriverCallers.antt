@@ -19,7 +19,10 @@ released (M n) s is = absurd is
 released (P n) s is = tt
 released C s is = tt
 
-pub knows_either : {X E : Type 0} (t : Thread) (old new : View) (result : Result X E) (Q : X → Type 0) → IsDriver t → IfOk result Q → ((x : X) → Q x → IsDrawnView new)
-    → OnErr result (DriverMakesNone old new) → (index : ℕ) (stand : Stand) (seen : Managed) → DriverStands old index stand seen → CallerKnows t new
-knows_either t old new (Ok x) Q is q known none index stand seen s = record { known = known x q; released = released t (end_of (known x q).known.past) is }
-knows_either t old new (Err e) Q is q known none index stand seen s = driver_knows t new index stand seen is (none.stands index stand seen s)
+pub driver_called : (t : Thread) (v : View) → IsDriver t → IsDrawnView v → CallerKnows t v
+driver_called t v is known = record { known = known; released = released t (end_of known.known.past) is }
+
+pub known_either : {X E : Type 0} (old new : View) (result : Result X E) (Q : X → Type 0) → IfOk result Q → ((x : X) → Q x → IsDrawnView new)
+    → OnErr result (DriverMakesNone old new) → (index : ℕ) (stand : Stand) (seen : Managed) → DriverStands old index stand seen → IsDrawnView new
+known_either old new (Ok x) Q q known none index stand seen s = known x q
+known_either old new (Err e) Q q known none index stand seen s = (none.stands index stand seen s).known

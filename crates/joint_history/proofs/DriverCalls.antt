@@ -409,11 +409,3 @@ module _ (locked mine mine1 locked2 mine2 : View) (order : OrderId) (seat seat' 
   finalise_called count result w d e = called (λ x. Drew managed_rules 0 order seat seat' old new (driver_entry x.0 index (op.Line (act.Finalise count)) x.1 None) nothing)
       (λ x. MakesFinalise mine mine2 index x.0 count x.1) result w.stands.known
       (λ x y. (finalise_knows x.0 count x.1 y w, finalise_made x.0 count x.1 y)) d e
-
--- what the seat knew and owned after a draw
-module _ (order : OrderId) (seat seat' : Shown) (old new : Side ManagedReplay) (e : Entry) (told : Told) (d : Drew managed_rules 0 order seat seat' old new e told) where
-  pub drew_prefix : (i : ℕ) → IsPrefix (known seat.view i) (known seat'.view i)
-  drew_prefix i = grows_more seat.view seat'.view 0 d.kept d.appends.grows i
-
-  pub drew_keeps : (i : ℕ) → Owns seat.view i → Owns seat'.view i
-  drew_keeps i o = owns_on seat.view seat'.view 0 d.kept d.appends.grows i o

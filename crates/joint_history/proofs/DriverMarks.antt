@@ -128,14 +128,6 @@ module _ (locked mine mine1 locked2 mine2 : View) (order : OrderId) (seat seat' 
   pub begin_knows : (n : ℕ) (j : Number) → Drew peer_rules 1 order seat seat' old new (driver_entry n index op.Begin (says.Mark j) None) nothing → MayBeginMarking mine index → PeerKnows locked2 new
   begin_knows n j d w = (with_begin n j d w.opened w.count w.weakened w.swept w.seen w.stands w.all).knows
 
--- what the seat knew and owned after a draw
-module _ (order : OrderId) (seat seat' : Shown) (old new : Side PeerReplay) (e : Entry) (told : Told) (d : Drew peer_rules 1 order seat seat' old new e told) where
-  pub peer_prefix : (i : ℕ) → IsPrefix (known seat.view i) (known seat'.view i)
-  peer_prefix i = grows_more seat.view seat'.view 1 d.kept d.appends.grows i
-
-  pub peer_keeps : (i : ℕ) → Owns seat.view i → Owns seat'.view i
-  peer_keeps i o = owns_on seat.view seat'.view 1 d.kept d.appends.grows i o
-
 pub may_end_own : (v : View) (index : ℕ) → HasBegunMarking v index → MayEndMarking v index
 may_end_own v index w = record { stand = marked w.opened; seen = w.seen; stands = w.stands; now = refl }
 

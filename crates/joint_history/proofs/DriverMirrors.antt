@@ -177,20 +177,3 @@ module _ (locked mine mine1 locked2 mine2 : View) (order : OrderId) (seat seat' 
         ok = tt;
         err = n.makes;
       }
-
--- what the seat knew and owned after it
-module _ {E : Type 0} (order : OrderId) (seat seat' : Shown) (old new : PeerModel) (index : ℕ) (k : Cycle) (snap : ℕ) (g : Part) (l : Listing) where
-  pub mirror_prefix : (result : Result (ℕ × ℕ) E) → IfOk result (λ x. DrawsMirror order seat seat' (seen old) (seen new) index k snap g l x.0 x.1)
-      → OnErr result (StaysSeated seat seat' × (new ≡ old)) → (i : ℕ) → IsPrefix (known seat.view i) (known seat'.view i)
-  mirror_prefix (Ok x) d e i = grows_more seat.view seat'.view 1 d.drew.kept d.drew.appends.grows i
-  mirror_prefix (Err x) d e i = subst (IsPrefix (known seat.view i)) (sym (ap (λ ks. at [] ks i) e.0.known)) (prefix_refl (known seat.view i))
-
-  pub mirror_keeps : (result : Result (ℕ × ℕ) E) → IfOk result (λ x. DrawsMirror order seat seat' (seen old) (seen new) index k snap g l x.0 x.1)
-      → OnErr result (StaysSeated seat seat' × (new ≡ old)) → (i : ℕ) → Owns seat.view i → Owns seat'.view i
-  mirror_keeps (Ok x) d e i w = owns_on seat.view seat'.view 1 d.drew.kept d.drew.appends.grows i w
-  mirror_keeps (Err x) d e i w = ap (λ os. at false os i) e.0.owns ∙ w
-
-  pub mirror_order : (result : Result (ℕ × ℕ) E) → IfOk result (λ x. DrawsMirror order seat seat' (seen old) (seen new) index k snap g l x.0 x.1)
-      → OnErr result (StaysSeated seat seat' × (new ≡ old)) → seat'.order ≡ seat.order
-  mirror_order (Ok x) d e = d.drew.appends.same
-  mirror_order (Err x) d e = e.0.order

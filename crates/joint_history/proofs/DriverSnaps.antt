@@ -82,22 +82,6 @@ module _ (locked mine mine1 locked2 mine2 : View) (order : OrderId) (seat seat' 
       (λ o. DrawsSnapshot order seat seat' old new index o) (λ o. MakesSnapshot mine mine2 index o) result w.stands.known
       (λ o y. ((with_snapshot_of o y w.seen w.stands).knows, snapshot_made o y)) d e
 
--- what the seat knew and owned after it
-module _ {E : Type 0} (order : OrderId) (seat seat' : Shown) (old new : Side ManagedReplay) (index : ℕ) where
-  pub snap_prefix : (result : Result Opened E) → IfOk result (λ o. DrawsSnapshot order seat seat' old new index o)
-      → OnErr result (StaysSeated seat seat' × (new ≡ old)) → (i : ℕ) → IsPrefix (known seat.view i) (known seat'.view i)
-  snap_prefix (Ok o) d e i = grows_more seat.view seat'.view 0 d.drew.kept d.drew.appends.grows i
-  snap_prefix (Err x) d e i = subst (IsPrefix (known seat.view i)) (sym (ap (λ ks. at [] ks i) e.0.known)) (prefix_refl (known seat.view i))
-
-  pub snap_keeps : (result : Result Opened E) → IfOk result (λ o. DrawsSnapshot order seat seat' old new index o)
-      → OnErr result (StaysSeated seat seat' × (new ≡ old)) → (i : ℕ) → Owns seat.view i → Owns seat'.view i
-  snap_keeps (Ok o) d e i w = owns_on seat.view seat'.view 0 d.drew.kept d.drew.appends.grows i w
-  snap_keeps (Err x) d e i w = ap (λ os. at false os i) e.0.owns ∙ w
-
-  pub snap_order : (result : Result Opened E) → IfOk result (λ o. DrawsSnapshot order seat seat' old new index o) → OnErr result (StaysSeated seat seat' × (new ≡ old)) → seat'.order ≡ seat.order
-  snap_order (Ok o) d e = d.drew.appends.same
-  snap_order (Err x) d e = e.0.order
-
 -- where no entry was made it may be tried again
 pub none_then_none : (u v w : View) → DriverMakesNone u v → DriverMakesNone v w → DriverMakesNone u w
 none_then_none u v w a b = record {

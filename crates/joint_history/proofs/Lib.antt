@@ -40,3 +40,4 @@ pub mod LoneReads
 pub mod Collecting
 pub mod SeatsKnow
 pub mod Crosses
+pub mod Fitting

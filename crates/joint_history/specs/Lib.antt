@@ -1,6 +1,7 @@
 pub mod Knowing
 pub mod Callers
 pub mod Locked
+pub mod Steps
 pub mod PeerCalls
 pub mod Desks
 pub mod Ending

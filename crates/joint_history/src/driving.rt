@@ -12,21 +12,67 @@ ghost use Rattle.joint_history.specs.DriverHandles.{MakesClear, MakesRestore, Ma
 ghost use Rattle.joint_history.specs.DriverHandles.{MayRestoreHandle, MayWeakenHandle};
 ghost use Rattle.joint_history.specs.DriverMarks.{HasBegunMarking, MakesMark, MakesSweep, MayMarkCycle};
 ghost use Rattle.joint_history.specs.DriverSnaps.{MakesSnapshot};
+ghost use Rattle.joint_history.specs.Steps.{Fits, KnowsManaged, KnowsPeers};
+ghost use Rattle.joint_machine.specs.declared.names.Thread.TheVariants.{C};
+ghost use Rattle.order_table.specs.declared.views.View.{View};
+ghost use Rattle.view_laws.specs.Knowing.{IsDrawnView};
 
 use crate::callers::Caller;
+use crate::driven::{Abandoning, Contraction, Finalising, Refusal, Resolution};
+use crate::handles::{Clearing, Restoring, Weakening};
 use crate::keeping::{Keep, Keeps};
-use crate::marks::Begun;
+use crate::marks::{Begun, Blackening};
 use crate::shared::Shared;
+use crate::snaps::Snapping;
+use crate::steps::Step;
 use global_handles::Back;
-use joint_model::{Alive, Cycle, HNum, Phase, PhaseWord, Reply};
-use managed_heap::{Opened, ResolveOut, SnapFault};
+use joint_model::{Alive, Cycle, HNum, Phase, PhaseWord, Reply, Thread};
+use managed_heap::{ManagedSide, Opened, ResolveOut, SnapFault};
 use order_table::OrderName;
-use peer_heap::Swept;
+use peer_heap::{PeerSide, Swept};
 use std::alloc::AllocError;
 use std::sync::Wait;
 use std::thread::yield_now;
 
 impl<N: OrderName, K: Keeps<N>> Shared<N, K> {
+    // Makes a step of the managed side for the driver, in one hold of its lock.
+    fn drive_managed<T: Step<On = ManagedSide>>(
+        &self,
+        rt: &impl Wait,
+        driver: &mut Caller<N>,
+        step: T,
+    ) -> T::Out
+        requires driver { IsDriver driver.old.thread }
+        requires fits { Fits 0 (KnowsManaged N.managed) C driver.old.view (T.asks step) (T.drew step) (T.makes step) }
+        requires knows { (w : View) (r : T.Out) → T.makes step driver.old.view w r → IsDrawnView w }
+        ensures thread { driver.new.thread ≡ driver.old.thread }
+        ensures makes { T.makes step driver.old.view driver.new.view result }
+    {
+        self.managed
+            .hold(rt)
+            .value()
+            .make(&self.order, &mut driver.seat, Thread::C, step)
+    }
+
+    // The same on the peer side.
+    pub(crate) fn drive_peers<T: Step<On = PeerSide>>(
+        &self,
+        rt: &impl Wait,
+        driver: &mut Caller<N>,
+        step: T,
+    ) -> T::Out
+        requires driver { IsDriver driver.old.thread }
+        requires fits { Fits 1 (KnowsPeers N.peers) C driver.old.view (T.asks step) (T.drew step) (T.makes step) }
+        requires knows { (w : View) (r : T.Out) → T.makes step driver.old.view w r → IsDrawnView w }
+        ensures thread { driver.new.thread ≡ driver.old.thread }
+        ensures makes { T.makes step driver.old.view driver.new.view result }
+    {
+        self.peers
+            .hold(rt)
+            .value()
+            .make(&self.order, &mut driver.seat, Thread::C, step)
+    }
+
     /// The driver makes the entry of its open cycle's contraction, which has so many components and cross-references.
     /// Answers the entry's number. It takes no memory.
     pub fn contracted(
@@ -42,10 +88,8 @@ impl<N: OrderName, K: Keeps<N>> Shared<N, K> {
         ensures thread { driver.new.thread ≡ driver.old.thread }
         ensures makes { MakesContraction driver.old.view driver.new.view index sccs xrefs result }
     {
-        self.managed
-            .hold(rt)
-            .value()
-            .contracted(&self.order, &mut driver.seat, index, sccs, xrefs)
+        let step = Contraction { index, sccs, xrefs };
+        self.drive_managed(rt, driver, step)
     }
 
     /// The driver abandons its open cycle, which isn't mirrored yet: nothing is freed. Answers the entry's number. It
@@ -56,10 +100,7 @@ impl<N: OrderName, K: Keeps<N>> Shared<N, K> {
         ensures thread { driver.new.thread ≡ driver.old.thread }
         ensures makes { MakesAbandon driver.old.view driver.new.view index result }
     {
-        self.managed
-            .hold(rt)
-            .value()
-            .abandon(&self.order, &mut driver.seat, index)
+        self.drive_managed(rt, driver, Abandoning { index })
     }
 
     /// The driver resolves its open cycle by the answers of its restores, one for each candidate; the entry cites that
@@ -80,10 +121,12 @@ impl<N: OrderName, K: Keeps<N>> Shared<N, K> {
             (answers_of alive.now.values) result.1.freed }
         ensures kept { result.1.kept ≡ count_by is_some alive.now.values }
     {
-        self.managed
-            .hold(rt)
-            .value()
-            .resolve(&self.order, &mut driver.seat, index, clear, alive)
+        let step = Resolution {
+            index,
+            clear,
+            alive,
+        };
+        self.drive_managed(rt, driver, step)
     }
 
     /// The driver's phase word is refused in its phase; nothing else changes. Answers the entry's number and the reply.
@@ -103,10 +146,8 @@ impl<N: OrderName, K: Keeps<N>> Shared<N, K> {
         ensures ok { IfOk result (λ r. MakesRefusal driver.old.view driver.new.view index r.0 word phase r.1) }
         ensures err { OnErr result (DriverMakesNone driver.old.view driver.new.view) }
     {
-        self.managed
-            .hold(rt)
-            .value()
-            .refused(&self.order, &mut driver.seat, index, word, phase)
+        let step = Refusal { index, word, phase };
+        self.drive_managed(rt, driver, step)
     }
 
     /// The driver takes so many waiting notices, or all where there are fewer. Answers the entry's number and the
@@ -126,10 +167,7 @@ impl<N: OrderName, K: Keeps<N>> Shared<N, K> {
         ensures ok { IfOk result (λ r. MakesFinalise driver.old.view driver.new.view index r.0 count r.1) }
         ensures err { OnErr result (DriverMakesNone driver.old.view driver.new.view) }
     {
-        self.managed
-            .hold(rt)
-            .value()
-            .finalise(&self.order, &mut driver.seat, index, count)
+        self.drive_managed(rt, driver, Finalising { index, count })
     }
 
     // The driver tries once to take a snapshot. Answers `NotClosed` where readers are inside the gate: no entry is made
@@ -147,10 +185,7 @@ impl<N: OrderName, K: Keeps<N>> Shared<N, K> {
         ensures fault { IfErr result (λ e. (e ≡ SnapFault.OutOfMemory) ⊎ (e ≡ SnapFault.NotClosed)) }
         ensures err { OnErr result (DriverMakesNone driver.old.view driver.new.view) }
     {
-        self.managed
-            .hold(rt)
-            .value()
-            .snap(&self.order, &mut driver.seat, index)
+        self.drive_managed(rt, driver, Snapping { index })
     }
 
     /// The driver takes a snapshot and opens the next cycle, as soon as no reader is inside the gate: where some are,
@@ -194,10 +229,7 @@ impl<N: OrderName, K: Keeps<N>> Shared<N, K> {
         ensures thread { driver.new.thread ≡ driver.old.thread }
         ensures makes { MakesWeaken driver.old.view driver.new.view index snap h result }
     {
-        self.peers
-            .hold(rt)
-            .value()
-            .weaken(&self.order, &mut driver.seat, index, snap, h)
+        self.drive_peers(rt, driver, Weakening { index, snap, h })
     }
 
     /// The driver, which has weakened all handles of its cycle, begins the cycle's own marking; one that a peer thread
@@ -222,10 +254,7 @@ impl<N: OrderName, K: Keeps<N>> Shared<N, K> {
         ensures thread { driver.new.thread ≡ driver.old.thread }
         ensures none { DriverMakesNone driver.old.view driver.new.view }
     {
-        self.peers
-            .hold(rt)
-            .value()
-            .slice(&self.order, &mut driver.seat)
+        self.drive_peers(rt, driver, Blackening)
     }
 
     // The driver's own marking goes on to its end, with the lock given back after each slice.
@@ -284,10 +313,7 @@ impl<N: OrderName, K: Keeps<N>> Shared<N, K> {
         ensures thread { driver.new.thread ≡ driver.old.thread }
         ensures makes { MakesRestore driver.old.view driver.new.view index h result.1 result.0 }
     {
-        self.peers
-            .hold(rt)
-            .value()
-            .restore(&self.order, &mut driver.seat, index, h)
+        self.drive_peers(rt, driver, Restoring { index, h })
     }
 
     /// The driver clears the references of its cycle, all of whose handles are restored: no reference is mirrored any
@@ -298,9 +324,6 @@ impl<N: OrderName, K: Keeps<N>> Shared<N, K> {
         ensures thread { driver.new.thread ≡ driver.old.thread }
         ensures makes { MakesClear driver.old.view driver.new.view index cycle result }
     {
-        self.peers
-            .hold(rt)
-            .value()
-            .clear(&self.order, &mut driver.seat, index, cycle)
+        self.drive_peers(rt, driver, Clearing { index, cycle })
     }
 }

@@ -1,5 +1,5 @@
-// The driver's calls on the handles of its mirrored cycle, under the peer lock. Each makes one entry and takes no
-// memory: what they want was reserved before the cycle was mirrored.
+// The driver's steps on the handles of its mirrored cycle, on the peer side. Each makes one entry and takes no memory:
+// what they want was reserved before the cycle was mirrored.
 
 ghost use Rattle.std.specs.Prelude.{◌≡◌, ◌≤◌, None, Some};
 ghost use Rattle.joint_machine.specs.declared.names.Thread.TheVariants.{C};
@@ -8,159 +8,108 @@ ghost use Rattle.joint_machine.specs.declared.events.Reply.TheVariants as says;
 ghost use Rattle.joint_machine.specs.PeerReplay.{MayClear, MayRestore, MayWeaken};
 ghost use Rattle.joint_machine.specs.Sides.{peer_rules};
 ghost use Rattle.joint_machine.specs.Told.{nothing};
-ghost use Rattle.order_table.specs.Allowed.{Settled};
 ghost use Rattle.peer_heap.specs.Cycles.{reply_of, reserve_left, reserve_over};
 ghost use Rattle.peer_heap.specs.Mirrors.{AreTargetsRestored};
 ghost use Rattle.peer_heap.specs.Sides.{seen};
-ghost use Rattle.joint_history.specs.Callers.{HoldsPass};
+ghost use Rattle.seat_calls.specs.Passing.{MayAppend};
 ghost use Rattle.joint_history.specs.Driven.{driver_entry};
-ghost use Rattle.joint_history.specs.DriverHandles.{MakesClear, MakesRestore, MakesWeaken, MayClearCycle};
-ghost use Rattle.joint_history.specs.DriverHandles.{MayRestoreHandle, MayWeakenHandle};
+ghost use Rattle.joint_history.specs.DriverHandles.{MakesClear, MakesRestore, MakesWeaken};
 ghost use Rattle.joint_history.specs.Knowing.{line_known};
 ghost use Rattle.joint_history.specs.Locked.{Drew};
-ghost use Rattle.seat_calls.specs.Passing.{MayAppend};
 
-use crate::peer::LockedPeer;
+use crate::steps::Step;
 use global_handles::Back;
 use handle_weaken::{restore_one, weaken_one};
-use joint_model::{Cycle, HNum, Thread};
-use order_table::{Order, OrderName, Role, Seat};
+use joint_model::{Cycle, HNum};
+use order_table::{Order, Role, Seat};
 use peer_heap::PeerSide;
 use peer_mirror::clear;
-use seat_calls::{give_back, lend, seat_drawing};
+use seat_calls::seat_drawing;
 
-// The side draws the weakening of a handle by the seat.
-fn draw_weaken(
-    side: &mut PeerSide,
-    order: &Order,
-    seat: &mut Seat,
-    index: u32,
-    snap: u64,
-    h: HNum,
-) -> u64
-    requires left { 1 ≤ side.old.reserve.left }
-    requires weakens { MayWeaken side.old.state h.0 (Some snap) }
-    requires may { MayAppend order.now seat.old 1 C (op.Weaken h) None }
-    requires settled { Settled seat.old.view }
-    requires entries { line_known seat.old.view 1 ≡ side.old.entries }
-    ensures settled { Settled seat.new.view }
-    ensures drew { Drew peer_rules 1 order.now seat.old seat.new (seen side.old)
-        (seen side.new) (driver_entry result index (op.Weaken h) says.Ok (Some snap)) nothing }
-    ensures reserve { side.new.reserve ≡ reserve_left side.old.reserve }
-    ensures threads { side.new.threads ≡ side.old.threads }
-{
-    let mut drawing = seat_drawing!(order, seat, Role::Peer);
-    weaken_one(side, &mut drawing, index, snap, h);
-    drawing.last
+/// The entry that weakens the handle of the next candidate of the driver's cycle, whose snapshot is the entry with that
+/// number. It answers its own number.
+#[derive(Drop)]
+pub(crate) struct Weakening {
+    pub(crate) index: u32,
+    pub(crate) snap: u64,
+    pub(crate) h: HNum,
 }
 
-// The side draws the restore of a handle by the seat.
-fn draw_restore(
-    side: &mut PeerSide,
-    order: &Order,
-    seat: &mut Seat,
-    index: u32,
-    h: HNum,
-) -> (u64, Back)
-    requires restores { MayRestore side.old.state h.0 }
-    requires may { MayAppend order.now seat.old 1 C (op.Restore h) None }
-    requires settled { Settled seat.old.view }
-    requires entries { line_known seat.old.view 1 ≡ side.old.entries }
-    ensures settled { Settled seat.new.view }
-    ensures drew { Drew peer_rules 1 order.now seat.old seat.new (seen side.old) (seen side.new)
-        (driver_entry result.0 index (op.Restore h) (reply_of result.1) None) nothing }
-    ensures reserve { side.new.reserve ≡ side.old.reserve }
-    ensures threads { side.new.threads ≡ side.old.threads }
-{
-    let mut drawing = seat_drawing!(order, seat, Role::Peer);
-    let back = restore_one(side, &mut drawing, index, h);
-    (drawing.last, back)
-}
+impl Step for Weakening {
+    type On = PeerSide;
 
-// The side draws the clear of the mirrored references by the seat.
-fn draw_clear(side: &mut PeerSide, order: &Order, seat: &mut Seat, index: u32, cycle: Cycle) -> u64
-    requires clears { MayClear side.old.state cycle.0 }
-    requires targets { AreTargetsRestored side.old.state }
-    requires may { MayAppend order.now seat.old 1 C (op.Clear cycle) None }
-    requires settled { Settled seat.old.view }
-    requires entries { line_known seat.old.view 1 ≡ side.old.entries }
-    ensures settled { Settled seat.new.view }
-    ensures drew { Drew peer_rules 1 order.now seat.old seat.new (seen side.old)
-        (seen side.new) (driver_entry result index (op.Clear cycle) says.Ok None) nothing }
-    ensures reserve { side.new.reserve ≡ reserve_over side.old.reserve }
-    ensures threads { side.new.threads ≡ side.old.threads }
-{
-    let mut drawing = seat_drawing!(order, seat, Role::Peer);
-    clear(side, &mut drawing, index, cycle);
-    drawing.last
-}
+    type Out = u64;
 
-impl<N: OrderName> LockedPeer<N> {
-    /// Weakens the handle of the next candidate of the driver's cycle, whose snapshot is the entry with that number.
-    /// Answers the entry's number. `mine` is the driver's seat, which knows the entry then. It takes no memory.
-    pub(crate) fn weaken(
-        &mut self,
-        order: &Order,
-        mine: &mut Seat,
-        index: u32,
-        snap: u64,
-        h: HNum,
-    ) -> u64
-        requires order { (order.now ≡ N.order) × (mine.old.order ≡ N.order) }
-        requires settled { Settled mine.old.view }
-        requires pass { HoldsPass C mine.old.view }
-        requires may { MayWeakenHandle mine.old.view index snap h.0 }
-        ensures order { mine.new.order ≡ N.order }
-        ensures settled { Settled mine.new.view }
-        ensures pass { HoldsPass C mine.new.view }
-        ensures makes { MakesWeaken mine.old.view mine.new.view index snap h result }
-    {
-        lend(order, &mut self.seat, mine, Thread::C);
-        let made = draw_weaken(&mut self.side, order, &mut self.seat, index, snap, h);
-        give_back(order, &mut self.seat, mine, Thread::C);
-        made
+    ghost asks = { λ t order seat s. (1 ≤ s.reserve.left) × MayWeaken s.state t.h.0 (Some t.snap)
+        × MayAppend order seat 1 C (op.Weaken t.h) None × (line_known seat.view 1 ≡ s.entries) };
+
+    ghost drew = { λ t order seat seat' s s' n. (s'.threads ≡ s.threads) × (s'.reserve ≡ reserve_left s.reserve)
+        × Drew peer_rules 1 order seat seat' (seen s) (seen s')
+        (driver_entry n t.index (op.Weaken t.h) says.Ok (Some t.snap)) nothing };
+
+    ghost makes = { λ t mine mine' n. MakesWeaken mine mine' t.index t.snap t.h n };
+
+    fn draw(self, side: &mut PeerSide, order: &Order, seat: &mut Seat) -> u64 {
+        let mut drawing = seat_drawing!(order, seat, Role::Peer);
+        weaken_one(side, &mut drawing, self.index, self.snap, self.h);
+        drawing.last
     }
+}
 
-    /// Restores the handle of the next candidate of the driver's cycle: it leaves the table, and a new strong one on
-    /// its peer comes for it unless that was freed. Answers the entry's number and which. `mine` is the driver's seat,
-    /// which knows the entry then. It takes no memory.
-    pub(crate) fn restore(
-        &mut self,
-        order: &Order,
-        mine: &mut Seat,
-        index: u32,
-        h: HNum,
-    ) -> (u64, Back)
-        requires order { (order.now ≡ N.order) × (mine.old.order ≡ N.order) }
-        requires settled { Settled mine.old.view }
-        requires pass { HoldsPass C mine.old.view }
-        requires may { MayRestoreHandle mine.old.view index h.0 }
-        ensures order { mine.new.order ≡ N.order }
-        ensures settled { Settled mine.new.view }
-        ensures pass { HoldsPass C mine.new.view }
-        ensures makes { MakesRestore mine.old.view mine.new.view index h result.1 result.0 }
-    {
-        lend(order, &mut self.seat, mine, Thread::C);
-        let made = draw_restore(&mut self.side, order, &mut self.seat, index, h);
-        give_back(order, &mut self.seat, mine, Thread::C);
-        made
+/// The entry that restores the handle of the next candidate of the driver's cycle: it leaves the table, and a new
+/// strong one on its peer comes for it unless that was freed. It answers its number and which.
+#[derive(Drop)]
+pub(crate) struct Restoring {
+    pub(crate) index: u32,
+    pub(crate) h: HNum,
+}
+
+impl Step for Restoring {
+    type On = PeerSide;
+
+    type Out = (u64, Back);
+
+    ghost asks = { λ t order seat s. MayRestore s.state t.h.0
+        × MayAppend order seat 1 C (op.Restore t.h) None × (line_known seat.view 1 ≡ s.entries) };
+
+    ghost drew = { λ t order seat seat' s s' r. (s'.threads ≡ s.threads) × (s'.reserve ≡ s.reserve)
+        × Drew peer_rules 1 order seat seat' (seen s) (seen s')
+        (driver_entry r.0 t.index (op.Restore t.h) (reply_of r.1) None) nothing };
+
+    ghost makes = { λ t mine mine' r. MakesRestore mine mine' t.index t.h r.1 r.0 };
+
+    fn draw(self, side: &mut PeerSide, order: &Order, seat: &mut Seat) -> (u64, Back) {
+        let mut drawing = seat_drawing!(order, seat, Role::Peer);
+        let back = restore_one(side, &mut drawing, self.index, self.h);
+        (drawing.last, back)
     }
+}
 
-    /// Clears the references of the driver's cycle, all of whose handles are restored. Answers the entry's number.
-    /// `mine` is the driver's seat, which knows the entry then. It takes no memory.
-    pub(crate) fn clear(&mut self, order: &Order, mine: &mut Seat, index: u32, cycle: Cycle) -> u64
-        requires order { (order.now ≡ N.order) × (mine.old.order ≡ N.order) }
-        requires settled { Settled mine.old.view }
-        requires pass { HoldsPass C mine.old.view }
-        requires may { MayClearCycle mine.old.view index cycle.0 }
-        ensures order { mine.new.order ≡ N.order }
-        ensures settled { Settled mine.new.view }
-        ensures pass { HoldsPass C mine.new.view }
-        ensures makes { MakesClear mine.old.view mine.new.view index cycle result }
-    {
-        lend(order, &mut self.seat, mine, Thread::C);
-        let made = draw_clear(&mut self.side, order, &mut self.seat, index, cycle);
-        give_back(order, &mut self.seat, mine, Thread::C);
-        made
+/// The entry that clears the references of the driver's cycle, all of whose handles are restored. It answers its
+/// number.
+#[derive(Drop)]
+pub(crate) struct Clearing {
+    pub(crate) index: u32,
+    pub(crate) cycle: Cycle,
+}
+
+impl Step for Clearing {
+    type On = PeerSide;
+
+    type Out = u64;
+
+    ghost asks = { λ t order seat s. MayClear s.state t.cycle.0 × AreTargetsRestored s.state
+        × MayAppend order seat 1 C (op.Clear t.cycle) None × (line_known seat.view 1 ≡ s.entries) };
+
+    ghost drew = { λ t order seat seat' s s' n. (s'.threads ≡ s.threads) × (s'.reserve ≡ reserve_over s.reserve)
+        × Drew peer_rules 1 order seat seat' (seen s) (seen s')
+        (driver_entry n t.index (op.Clear t.cycle) says.Ok None) nothing };
+
+    ghost makes = { λ t mine mine' n. MakesClear mine mine' t.index t.cycle n };
+
+    fn draw(self, side: &mut PeerSide, order: &Order, seat: &mut Seat) -> u64 {
+        let mut drawing = seat_drawing!(order, seat, Role::Peer);
+        clear(side, &mut drawing, self.index, self.cycle);
+        drawing.last
     }
 }

@@ -59,6 +59,7 @@ mod peer_marks;
 mod reads;
 mod shared;
 mod snaps;
+mod steps;
 
 pub use callers::{Caller, Receipt};
 pub use desks::{Desk, thread_at};

@@ -20,7 +20,9 @@ ghost use Rattle.joint_history.specs.Knowing.{line_known};
 ghost use Rattle.joint_history.specs.Locked.{Drew, Makes, MakesNone, ManagedKnows, MayMake, StaysSeated, TakesPin};
 ghost use Rattle.joint_history.specs.Locked.{made_by};
 ghost use Rattle.joint_history.specs.Operations.{ReadsExactly};
+ghost use Rattle.joint_history.specs.Steps.{Fits, KnowsManaged};
 
+use crate::steps::{Step, make};
 use joint_model::{Act, Cell, Entries, Holding, MNum, Op, Reply, Thread, Var};
 use managed_heap::ManagedSide;
 use order_table::{Order, OrderName, Role, Seat};
@@ -204,6 +206,27 @@ impl<N: OrderName> LockedManaged<N> {
     {
         let LockedManaged { side, seat, of: _ } = self;
         (side, seat)
+    }
+
+    /// Makes a step of the side for a caller, whose seat knows then what the side's does. Answers what the step answers.
+    #[inline(always)]
+    pub(crate) fn make<T: Step<On = ManagedSide>>(
+        &mut self,
+        order: &Order,
+        mine: &mut Seat,
+        caller: Thread,
+        step: T,
+    ) -> T::Out
+        requires order { (order.now ≡ N.order) × (mine.old.order ≡ N.order) }
+        requires settled { Settled mine.old.view }
+        requires pass { IsThread caller × HoldsPass caller mine.old.view }
+        requires fits { Fits 0 (KnowsManaged N.managed) caller mine.old.view (T.asks step) (T.drew step) (T.makes step) }
+        ensures order { mine.new.order ≡ N.order }
+        ensures settled { Settled mine.new.view }
+        ensures pass { HoldsPass caller mine.new.view }
+        ensures makes { T.makes step mine.old.view mine.new.view result }
+    {
+        make::<N, T>(&mut self.side, &mut self.seat, order, mine, caller, step)
     }
 
     /// Makes one event of a managed thread, and answers its entry's number and the reply. The caller's seat knows the

@@ -19,6 +19,7 @@ ghost use Rattle.joint_history.specs.Locked.{Drew};
 ghost use Rattle.seat_calls.specs.Passing.{MayAppend};
 
 use crate::peer::LockedPeer;
+use crate::steps::Step;
 use joint_model::{Marking, Thread};
 use order_table::{Order, OrderName, Role, Seat};
 use peer_heap::{PeerSide, SliceEnd, Swept};
@@ -36,17 +37,28 @@ pub struct Begun {
     pub marking: Marking,
 }
 
-// The side blackens the next peers of its open marking, which the driver began. Answers whether none is left. It makes
-// no entry and takes no memory.
-fn blacken(side: &mut PeerSide) -> bool
-    requires open { IsSome side.old.state.marking }
-    requires own { IsDrivers side.old.state.marking }
-    ensures rest { side.new ≡ record side.old { colours = side.new.colours } }
-{
-    match side.mark_slice(SLICE) {
-        Ok(SliceEnd::Done) => true,
-        Ok(SliceEnd::More) => false,
-        Err(_) => unreachable!(),
+/// A slice of the driver's own open marking: the side blackens the next peers, at most 64. It answers whether none is
+/// left, makes no entry and takes no memory.
+#[derive(Drop)]
+pub(crate) struct Blackening;
+
+impl Step for Blackening {
+    type On = PeerSide;
+
+    type Out = bool;
+
+    ghost asks = { λ t order seat s. IsSome s.state.marking × IsDrivers s.state.marking };
+
+    ghost drew = { λ t order seat seat' s s' done. (seat' ≡ seat) × (s' ≡ record s { colours = s'.colours }) };
+
+    ghost makes = { λ t mine mine' done. DriverMakesNone mine mine' };
+
+    fn draw(self, side: &mut PeerSide, _: &Order, _: &mut Seat) -> bool {
+        match side.mark_slice(SLICE) {
+            Ok(SliceEnd::Done) => true,
+            Ok(SliceEnd::More) => false,
+            Err(_) => unreachable!(),
+        }
     }
 }
 
@@ -109,24 +121,6 @@ impl<N: OrderName> LockedPeer<N> {
         let out = draw_sweep(&mut self.side, order, &mut self.seat, index);
         give_back(order, &mut self.seat, mine, Thread::C);
         out
-    }
-
-    /// Blackens the next peers of the cycle's own marking, at most 64, and answers whether none is left. It makes no
-    /// entry and takes no memory.
-    pub(crate) fn slice(&mut self, order: &Order, mine: &mut Seat) -> bool
-        requires order { (order.now ≡ N.order) × (mine.old.order ≡ N.order) }
-        requires settled { Settled mine.old.view }
-        requires pass { HoldsPass C mine.old.view }
-        requires may { (index : ℕ) × HasBegunMarking mine.old.view index }
-        ensures order { mine.new.order ≡ N.order }
-        ensures settled { Settled mine.new.view }
-        ensures pass { HoldsPass C mine.new.view }
-        ensures none { DriverMakesNone mine.old.view mine.new.view }
-    {
-        lend(order, &mut self.seat, mine, Thread::C);
-        let done = blacken(&mut self.side);
-        give_back(order, &mut self.seat, mine, Thread::C);
-        done
     }
 
     // Begins the cycle's own marking, where none is open. It takes no memory.

@@ -6,7 +6,8 @@ ghost use Rattle.joint_history.specs.Driven.{DriverMakesNone};
 ghost use Rattle.joint_history.specs.DriverMirrors.{MakesMirror, MayMirrorCycle};
 
 use crate::callers::Caller;
-use crate::keeping::{Keep, Keeps};
+use crate::keeping::Keeps;
+use crate::mirrors::Mirroring;
 use crate::shared::Shared;
 use bridge_graph::DeadGraph;
 use joint_model::Cycle;
@@ -39,14 +40,13 @@ impl<N: OrderName, K: Keeps<N>> Shared<N, K> {
             driver.new.view index cycle snap graph.now comps.now r.1 r.0) }
         ensures err { OnErr result (DriverMakesNone driver.old.view driver.new.view) }
     {
-        self.peers.hold(rt).value().mirror(
-            &self.order,
-            &mut driver.seat,
+        let step = Mirroring {
             index,
             cycle,
             snap,
             graph,
             comps,
-        )
+        };
+        self.drive_peers(rt, driver, step)
     }
 }

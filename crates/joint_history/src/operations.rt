@@ -15,6 +15,7 @@ ghost use Rattle.joint_history.specs.Operations.{IsSideEvent, MakesAll, MayBegin
 ghost use Rattle.joint_history.specs.Operations.{call_of, entry_by, first_of, second_of, third_of};
 
 use crate::callers::{Caller, Receipt};
+use crate::collects::Collecting;
 use crate::keeping::{Keep, Keeps};
 use crate::shared::Shared;
 use joint_model::{Act, Cell, Entries, Op, Reply, Thread, Var};
@@ -350,11 +351,15 @@ impl<N: OrderName, K: Keeps<N>> Shared<N, K> {
         ensures err { OnErr result (MakesAll caller.old.thread caller.old.view caller.new.view []) }
     {
         if let Act::Collect = act {
+            let step = Collecting {
+                caller: caller.thread,
+                index,
+            };
             return self
                 .peers
                 .hold(rt)
                 .value()
-                .collect(&self.order, &mut caller.seat, caller.thread, index);
+                .make(&self.order, &mut caller.seat, caller.thread, step);
         }
         self.run(
             rt,

@@ -14,9 +14,11 @@ ghost use Rattle.joint_history.specs.Callers.{HoldsPass, KnowsNothing, ReadsStay
 ghost use Rattle.joint_history.specs.Knowing.{line_known};
 ghost use Rattle.joint_history.specs.Locked.{Drew, Makes, MakesNone, MayMake, PeerKnows, StaysSeated, made_by};
 ghost use Rattle.joint_history.specs.PeerCalls.{AllowsCall, DrawsEvent, IsPeerCall};
+ghost use Rattle.joint_history.specs.Steps.{Fits, KnowsPeers};
 ghost use Rattle.seat_calls.specs.Passing.{MayAppend};
 
 use crate::peer_marks::{draw_mark, draw_slice, is_mark, slice_count};
+use crate::steps::{Step, make};
 use joint_model::{Holding, Op, Reply, Thread};
 use order_table::{Order, OrderName, Role, Seat};
 use peer_heap::PeerSide;
@@ -143,6 +145,27 @@ impl<N: OrderName> LockedPeer<N> {
     {
         let LockedPeer { side, seat, of: _ } = self;
         (side, seat)
+    }
+
+    /// Makes a step of the side for a caller, whose seat knows then what the side's does. Answers what the step answers.
+    #[inline(always)]
+    pub(crate) fn make<T: Step<On = PeerSide>>(
+        &mut self,
+        order: &Order,
+        mine: &mut Seat,
+        caller: Thread,
+        step: T,
+    ) -> T::Out
+        requires order { (order.now ≡ N.order) × (mine.old.order ≡ N.order) }
+        requires settled { Settled mine.old.view }
+        requires pass { IsThread caller × HoldsPass caller mine.old.view }
+        requires fits { Fits 1 (KnowsPeers N.peers) caller mine.old.view (T.asks step) (T.drew step) (T.makes step) }
+        ensures order { mine.new.order ≡ N.order }
+        ensures settled { Settled mine.new.view }
+        ensures pass { HoldsPass caller mine.new.view }
+        ensures makes { T.makes step mine.old.view mine.new.view result }
+    {
+        make::<N, T>(&mut self.side, &mut self.seat, order, mine, caller, step)
     }
 
     /// Makes one event of a thread, and answers its entry's number and the reply. The caller's seat knows the entry

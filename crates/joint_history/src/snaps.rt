@@ -1,26 +1,25 @@
-// The driver's snapshot under the managed lock. The side takes all memory that it needs, then has the gate closed, and
+// The driver's snapshot, a step of the managed side. The side takes all memory that it needs, then has the gate closed, and
 // then nothing fails.
 
 ghost use Rattle.std.specs.Prelude.{◌≡◌, ◌^◌, ◌⊎◌, ◌≤◌, ◌∷◌, ℕ, IfErr, IfOk, None, OnErr, Some, slice_get};
 ghost use Rattle.joint_machine.specs.declared.names.Thread.TheVariants.{C};
-ghost use Rattle.joint_machine.specs.HistoryLines.{caller_line};
-ghost use Rattle.order_table.specs.Allowed.{Settled};
 ghost use Rattle.order_table.specs.Replies.{object_of};
-ghost use Rattle.order_table.specs.Views.{Owns};
 ghost use Rattle.view_laws.specs.Knowing.{pins_of};
+ghost use Rattle.managed_heap.specs.declared.opening.SnapFault.TheVariants as fault;
 ghost use Rattle.managed_heap.specs.Pinned.{pins_given};
 ghost use Rattle.managed_heap.specs.Rows.{number_or_none};
 ghost use Rattle.managed_heap.specs.Sides.{as_side};
-ghost use Rattle.joint_history.specs.Callers.{HoldsPass};
-ghost use Rattle.joint_history.specs.Driven.{DriverMakesNone, DriverRests};
+ghost use Rattle.joint_history.specs.Driven.{DriverMakesNone};
 ghost use Rattle.joint_history.specs.DriverSnaps.{DrawsSnapshot, MakesSnapshot};
-ghost use Rattle.joint_history.specs.Locked.{ManagedKnows, StaysSeated};
+ghost use Rattle.joint_history.specs.Locked.{StaysSeated};
+ghost use Rattle.joint_history.specs.Steps.{HasManagedSeat};
 
-use crate::managed::{LiveObjects, LockedManaged};
-use joint_model::{Cycle, Draw, MNum, Made, Thread};
+use crate::managed::LiveObjects;
+use crate::steps::Step;
+use joint_model::{Cycle, Draw, MNum, Made};
 use managed_heap::{Closes, ManagedSide, Opened, Pins, SnapFault};
-use order_table::{Order, OrderName, Role, Seat};
-use seat_calls::{append_paid, close_and_scan, give_back, lend, settle_opened};
+use order_table::{Order, Role, Seat};
+use seat_calls::{append_paid, close_and_scan, settle_opened};
 
 // The object that a pin's word names.
 fn object_of(word: u64) -> Option<MNum>
@@ -102,57 +101,40 @@ impl<'a> Closes for SeatGate<'a> {
     }
 }
 
-// The side draws a snapshot's entry by the seat, with the gate closed for its cycle, and the cells of what it freed say
-// so. No cycle is open.
-fn draw_snap(
-    side: &mut ManagedSide,
-    order: &Order,
-    seat: &mut Seat,
-    index: u32,
-) -> Result<Opened, SnapFault>
-    requires closed { side.old.state.managed.cycle ≡ None }
-    requires order { seat.old.order ≡ order.now }
-    requires owner { Owns seat.old.view 0 × Owns seat.old.view (caller_line C) }
-    requires settled { Settled seat.old.view }
-    requires knows { ManagedKnows seat.old.view (as_side side.old) }
-    ensures drew { IfOk result (λ o. DrawsSnapshot order.now seat.old seat.new
-        (as_side side.old) (as_side side.new) index o) }
-    ensures settled { Settled seat.new.view }
-    ensures fault { IfErr result (λ e. (e ≡ SnapFault.OutOfMemory) ⊎ (e ≡ SnapFault.NotClosed)) }
-    ensures threads { side.new.threads ≡ side.old.threads }
-    ensures err { OnErr result (StaysSeated seat.old seat.new × (as_side side.new ≡ as_side side.old)) }
-{
-    let mut gate = SeatGate { order, seat };
-    let opened = side.snap(&mut gate, index)?;
-    settle_opened(order, seat, &LiveObjects { side });
-    Ok(opened)
+/// The entry of a snapshot that opens the next cycle: no cycle is open, and the gate is closed for it, if no reader is
+/// inside; the cells of what it freed say so. It answers the cycle, its entry's number, and its dead part as a graph;
+/// `OutOfMemory` where there is no memory, or no room for the entries that the cycle owes, and `NotClosed` where
+/// readers were inside, and no entry is made then. It never answers `CycleOpen`.
+#[derive(Drop)]
+pub(crate) struct Snapping {
+    pub(crate) index: u32,
 }
 
-impl<N: OrderName> LockedManaged<N> {
-    /// Takes a snapshot and opens the next cycle, if no reader is inside the gate. Answers the cycle, its entry's
-    /// number, and its dead part as a graph. `mine` is the seat of the driver, which is idle, and knows the entry then.
-    /// Answers `OutOfMemory` where there is no memory, or no room for the entries that the cycle owes, and `NotClosed`
-    /// where readers were inside: no entry is made then. It never answers `CycleOpen`.
-    pub(crate) fn snap(
-        &mut self,
+impl Step for Snapping {
+    type On = ManagedSide;
+
+    type Out = Result<Opened, SnapFault>;
+
+    ghost asks = { λ t order seat s. (s.state.managed.cycle ≡ None) × HasManagedSeat C order seat (as_side s) };
+
+    ghost drew = { λ t order seat seat' s s' result. (s'.threads ≡ s.threads)
+        × IfOk result (λ o. DrawsSnapshot order seat seat' (as_side s) (as_side s') t.index o)
+        × IfErr result (λ e. (e ≡ fault.OutOfMemory) ⊎ (e ≡ fault.NotClosed))
+        × OnErr result (StaysSeated seat seat' × (as_side s' ≡ as_side s)) };
+
+    ghost makes = { λ t mine mine' result. IfOk result (λ o. MakesSnapshot mine mine' t.index o)
+        × IfErr result (λ e. (e ≡ fault.OutOfMemory) ⊎ (e ≡ fault.NotClosed))
+        × OnErr result (DriverMakesNone mine mine') };
+
+    fn draw(
+        self,
+        side: &mut ManagedSide,
         order: &Order,
-        mine: &mut Seat,
-        index: u32,
-    ) -> Result<Opened, SnapFault>
-        requires order { (order.now ≡ N.order) × (mine.old.order ≡ N.order) }
-        requires settled { Settled mine.old.view }
-        requires pass { HoldsPass C mine.old.view }
-        requires may { DriverRests mine.old.view index }
-        ensures order { mine.new.order ≡ N.order }
-        ensures settled { Settled mine.new.view }
-        ensures pass { HoldsPass C mine.new.view }
-        ensures ok { IfOk result (λ o. MakesSnapshot mine.old.view mine.new.view index o) }
-        ensures fault { IfErr result (λ e. (e ≡ SnapFault.OutOfMemory) ⊎ (e ≡ SnapFault.NotClosed)) }
-        ensures err { OnErr result (DriverMakesNone mine.old.view mine.new.view) }
-    {
-        lend(order, &mut self.seat, mine, Thread::C);
-        let made = draw_snap(&mut self.side, order, &mut self.seat, index);
-        give_back(order, &mut self.seat, mine, Thread::C);
-        made
+        seat: &mut Seat,
+    ) -> Result<Opened, SnapFault> {
+        let mut gate = SeatGate { order, seat };
+        let opened = side.snap(&mut gate, self.index)?;
+        settle_opened(order, seat, &LiveObjects { side });
+        Ok(opened)
     }
 }

@@ -2,10 +2,12 @@ use Rattle.std.proofs.Common.{None, refl, arith, ◌∙◌}
 use Rattle.joint_machine.specs.declared.names.Thread.TheVariants.{C}
 use Rattle.joint_machine.specs.declared.events.Op.TheVariants as op
 use Rattle.joint_machine.specs.declared.events.Reply.TheVariants as says
+use Rattle.joint_machine.specs.Sides.{peer_rules}
 use Rattle.joint_machine.specs.Told.{nothing}
 use Rattle.peer_heap.specs.Sides.{seen}
 use Rattle.joint_history.specs.Driven.{driver_entry}
-use Rattle.joint_history.proofs.DriverMarks.{begin_knows, begin_made, peer_keeps, peer_prefix}
+use Rattle.joint_history.proofs.DriverMarks.{begin_knows, begin_made}
+use Rattle.joint_history.proofs.Fitting.{goes_further}
 use Rattle.joint_history.proofs.LockedSteps.{did, more_back}
 use Rattle.joint_history.proofs.Reserving.{begin_kept, drew_reserves, marking_is_due}
 use Rattle.joint_history.proofs.peer.LockedPeer.begin.Goals as goal
@@ -22,22 +24,19 @@ give_back-requires-clause-order g c = (c.draw_begin-made.ensures.drew.appends.sa
 pub give_back-requires-clause-pass : goal.give_back-requires-clause-pass
 give_back-requires-clause-pass g c = (
   tt,
-  peer_keeps c.args.order.now c.lend.new.locked c.draw_begin-made.new.seat (seen c.self.inside.side) (seen c.draw_begin-made.new.side)
-      (driver_entry c.draw_begin-made.result.0 c.args.index op.Begin (says.Mark c.draw_begin-made.result.1) None) nothing c.draw_begin-made.ensures.drew 10
+  (goes_further c.args.order.now c.lend.new.locked c.draw_begin-made.new.seat 1 c.draw_begin-made.ensures.drew.kept c.draw_begin-made.ensures.drew.appends).owns 10
       (c.lend.ensures.lent.lines 10 refl (c.requires.pass 10 refl)),
 )
 
 pub give_back-requires-clause-more : goal.give_back-requires-clause-more
 give_back-requires-clause-more g c = more_back C c.self.inside.seat.view c.args.mine.now.view c.lend.new.locked.view c.lend.new.mine.view c.draw_begin-made.new.seat.view c.lend.ensures.lent
-    (peer_prefix c.args.order.now c.lend.new.locked c.draw_begin-made.new.seat (seen c.self.inside.side) (seen c.draw_begin-made.new.side)
-    (driver_entry c.draw_begin-made.result.0 c.args.index op.Begin (says.Mark c.draw_begin-made.result.1) None) nothing c.draw_begin-made.ensures.drew)
+    ((goes_further c.args.order.now c.lend.new.locked c.draw_begin-made.new.seat 1 c.draw_begin-made.ensures.drew.kept c.draw_begin-made.ensures.drew.appends).more)
 
 pub invariant_of-self : goal.invariant_of-self
 invariant_of-self g c =
     let d = did C c.self.inside.seat.view c.args.mine.now.view c.lend.new.locked.view c.lend.new.mine.view c.draw_begin-made.new.seat.view c.give_back.new.locked.view c.give_back.new.mine.view 1 tt
     (omega arith) c.requires.pass c.self.invariant.1 c.lend.ensures.lent
-    (peer_keeps c.args.order.now c.lend.new.locked c.draw_begin-made.new.seat (seen c.self.inside.side) (seen c.draw_begin-made.new.side)
-    (driver_entry c.draw_begin-made.result.0 c.args.index op.Begin (says.Mark c.draw_begin-made.result.1) None) nothing c.draw_begin-made.ensures.drew) c.give_back.ensures.returned in
+    ((goes_further c.args.order.now c.lend.new.locked c.draw_begin-made.new.seat 1 c.draw_begin-made.ensures.drew.kept c.draw_begin-made.ensures.drew.appends).owns) c.give_back.ensures.returned in
     let k = begin_knows c.self.inside.seat.view c.args.mine.now.view c.lend.new.mine.view c.give_back.new.locked.view c.give_back.new.mine.view c.args.order.now c.lend.new.locked
     c.draw_begin-made.new.seat (seen c.self.inside.side) (seen c.draw_begin-made.new.side) c.args.index c.requires.pass c.self.invariant.1
     (omega (arith, c.ranges.index.fits)) c.self.invariant.2 c.lend.ensures.lent c.give_back.ensures.returned

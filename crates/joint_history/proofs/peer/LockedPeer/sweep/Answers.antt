@@ -3,12 +3,14 @@ use Rattle.std.specs.Prelude.{IsSome}
 use Rattle.joint_machine.specs.declared.names.Thread.TheVariants.{C}
 use Rattle.joint_machine.specs.declared.events.Op.TheVariants as op
 use Rattle.joint_machine.specs.declared.events.Reply.TheVariants as says
+use Rattle.joint_machine.specs.Sides.{peer_rules}
 use Rattle.joint_machine.specs.Told.{sweep_of}
 use Rattle.peer_heap.specs.Sides.{seen}
 use Rattle.joint_history.specs.Driven.{driver_entry}
 use Rattle.joint_history.specs.DriverMarks.{HasBegunMarking}
 use Rattle.joint_history.specs.Locked.{UnderPeer}
-use Rattle.joint_history.proofs.DriverMarks.{is_open, peer_keeps, peer_prefix, sweep_closes, sweep_knows, sweep_made}
+use Rattle.joint_history.proofs.DriverMarks.{is_open, sweep_closes, sweep_knows, sweep_made}
+use Rattle.joint_history.proofs.Fitting.{goes_further}
 use Rattle.joint_history.proofs.LockedSteps.{did, more_back}
 use Rattle.joint_history.proofs.Reserving.{drew_reserves, quiet_kept}
 use Rattle.joint_history.proofs.peer.LockedPeer.sweep.Goals as goal
@@ -24,24 +26,18 @@ give_back-requires-clause-order g c = (c.draw_sweep-out.ensures.drew.drew.append
 pub give_back-requires-clause-pass : goal.give_back-requires-clause-pass
 give_back-requires-clause-pass g c = (
   tt,
-  peer_keeps c.args.order.now c.lend.new.locked c.draw_sweep-out.new.seat (seen c.self.inside.side) (seen c.draw_sweep-out.new.side)
-      (driver_entry c.draw_sweep-out.result.0 c.args.index op.Sweep (says.Swept c.draw_sweep-out.result.1.marking c.draw_sweep-out.result.1.freed) None)
-      (sweep_of c.draw_sweep-out.ensures.drew.freed) c.draw_sweep-out.ensures.drew.drew 10 (c.lend.ensures.lent.lines 10 refl (c.requires.pass 10 refl)),
+  (goes_further c.args.order.now c.lend.new.locked c.draw_sweep-out.new.seat 1 c.draw_sweep-out.ensures.drew.drew.kept c.draw_sweep-out.ensures.drew.drew.appends).owns 10 (c.lend.ensures.lent.lines 10 refl (c.requires.pass 10 refl)),
 )
 
 pub give_back-requires-clause-more : goal.give_back-requires-clause-more
 give_back-requires-clause-more g c = more_back C c.self.inside.seat.view c.args.mine.now.view c.lend.new.locked.view c.lend.new.mine.view c.draw_sweep-out.new.seat.view c.lend.ensures.lent
-    (peer_prefix c.args.order.now c.lend.new.locked c.draw_sweep-out.new.seat (seen c.self.inside.side) (seen c.draw_sweep-out.new.side)
-    (driver_entry c.draw_sweep-out.result.0 c.args.index op.Sweep (says.Swept c.draw_sweep-out.result.1.marking c.draw_sweep-out.result.1.freed) None)
-    (sweep_of c.draw_sweep-out.ensures.drew.freed) c.draw_sweep-out.ensures.drew.drew)
+    ((goes_further c.args.order.now c.lend.new.locked c.draw_sweep-out.new.seat 1 c.draw_sweep-out.ensures.drew.drew.kept c.draw_sweep-out.ensures.drew.drew.appends).more)
 
 pub invariant_of-self : goal.invariant_of-self
 invariant_of-self g c =
     let d = did C c.self.inside.seat.view c.args.mine.now.view c.lend.new.locked.view c.lend.new.mine.view c.draw_sweep-out.new.seat.view c.give_back.new.locked.view c.give_back.new.mine.view 1 tt
     (omega arith) c.requires.pass c.self.invariant.1 c.lend.ensures.lent
-    (peer_keeps c.args.order.now c.lend.new.locked c.draw_sweep-out.new.seat (seen c.self.inside.side) (seen c.draw_sweep-out.new.side)
-    (driver_entry c.draw_sweep-out.result.0 c.args.index op.Sweep (says.Swept c.draw_sweep-out.result.1.marking c.draw_sweep-out.result.1.freed) None)
-    (sweep_of c.draw_sweep-out.ensures.drew.freed) c.draw_sweep-out.ensures.drew.drew) c.give_back.ensures.returned in
+    ((goes_further c.args.order.now c.lend.new.locked c.draw_sweep-out.new.seat 1 c.draw_sweep-out.ensures.drew.drew.kept c.draw_sweep-out.ensures.drew.drew.appends).owns) c.give_back.ensures.returned in
     let k = sweep_knows c.self.inside.seat.view c.args.mine.now.view c.lend.new.mine.view c.give_back.new.locked.view c.give_back.new.mine.view c.args.order.now c.lend.new.locked
     c.draw_sweep-out.new.seat (seen c.self.inside.side) (seen c.draw_sweep-out.new.side) c.args.index c.requires.pass c.self.invariant.1
     (omega (arith, c.ranges.index.fits)) c.self.invariant.2 c.lend.ensures.lent c.give_back.ensures.returned

@@ -1,29 +1,29 @@
-use Rattle.std.proofs.Common.{sym, subst}
-use Rattle.joint_machine.specs.Lines.{IsDriver}
-use Rattle.joint_machine.specs.Control.{idle}
-use Rattle.joint_history.specs.Callers.{Pass}
-use Rattle.joint_history.specs.Driven.{MakesAbandon, MayAbandonCycle}
-use Rattle.joint_history.proofs.DriverHears.{driver_knows, driver_pass, driver_pass_back, driver_reads}
+use Rattle.std.proofs.Common.{◌<◌, ◌^◌, arith, ◌∙◌}
+use Rattle.joint_machine.specs.declared.names.Thread.TheVariants.{C}
+use Rattle.joint_machine.specs.Sides.{managed_rules}
+use Rattle.managed_heap.specs.Sides.{as_side}
+use Rattle.joint_history.proofs.DriverCalls.{abandon_knows, abandoning_made, may_abandon, under_lock}
+use Rattle.joint_history.proofs.Fitting.{goes_further, lent_managed}
 use Rattle.joint_history.proofs.shared.Shared.abandon.Goals as goal
 
-pub abandon-requires-clause-pass : goal.abandon-requires-clause-pass
-abandon-requires-clause-pass g c = driver_pass c.driver.inside.thread c.driver.inside.seat.view (subst (λ (p : Pass). IsDriver p.thread) (sym c.driver.view_is) c.requires.driver) c.driver.invariant.2
+pub drive_managed-requires-clause-fits : goal.drive_managed-requires-clause-fits
+drive_managed-requires-clause-fits g c =
+    let may = c.requires.may in
+    let mine = c.args.driver.now.view in
+    let index = c.args.index in
+    let short : index < 2 ^ 32 = omega (arith, c.ranges.index.fits) in
+    record {
+      side = omega arith;
+      asked = λ order lent mine1 s w. (
+        may_abandon s.state mine index may (under_lock w.locked mine lent.view mine1 (as_side s) index may.stand may.seen w.pass w.owns w.known_side.0 may.stands w.lends),
+        lent_managed _ C order mine lent mine1 s may.stands.known w,
+      );
+      further = λ order lent lent2 s s2 r d. goes_further order lent lent2 0 d.drew.kept d.drew.appends;
+      left = λ order lent lent2 mine1 locked2 mine2 s s2 r w d b.
+          ((abandon_knows w.locked mine mine1 locked2 mine2 order lent lent2 (as_side s) (as_side s2) index w.pass w.owns short w.known_side.0 w.lends b r d may, d.threads ∙ w.known_side.1), abandoning_made w.locked mine mine1 locked2 mine2 order lent lent2 (as_side s) (as_side s2) index w.pass w.owns short w.known_side.0 w.lends b r d);
+    }
 
-pub abandon-requires-clause-may : goal.abandon-requires-clause-may
-abandon-requires-clause-may g c = subst (λ (p : Pass). MayAbandonCycle p.view c.args.index) (sym c.driver.view_is) c.requires.may
-
-pub invariant_of-driver : goal.invariant_of-driver
-invariant_of-driver g c =
-    let driver = subst (λ (p : Pass). IsDriver p.thread) (sym c.driver.view_is) c.requires.driver in
-    let may = subst (λ (p : Pass). MayAbandonCycle p.view c.args.index) (sym c.driver.view_is) c.requires.may in (
-      c.driver.invariant.0,
-      c.abandon.ensures.order,
-      driver_pass_back c.driver.inside.thread c.abandon.new.mine.view driver c.abandon.ensures.pass,
-      (let w = (c.abandon.ensures.makes may.opened may.stand may.seen may.stands may.unmirrored).1 in
-          driver_knows c.driver.inside.thread c.abandon.new.mine.view c.args.index idle w.seen driver w.stands),
-      c.abandon.ensures.settled,
-      driver_reads c.driver.inside.thread c.driver.inside.seat.view c.abandon.new.mine.view c.driver.inside.reads.entries driver c.driver.invariant.5,
-    )
-
-pub returns-clause-makes : goal.returns-clause-makes
-returns-clause-makes g c = subst (λ (p : Pass). MakesAbandon p.view c.abandon.new.mine.view c.args.index c.abandon.result) c.driver.view_is c.abandon.ensures.makes
+pub drive_managed-requires-clause-knows : goal.drive_managed-requires-clause-knows
+drive_managed-requires-clause-knows g c = λ w r made.
+    let may = c.requires.may in
+    (made may.opened may.stand may.seen may.stands may.unmirrored).1.stands.known

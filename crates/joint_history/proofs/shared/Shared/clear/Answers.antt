@@ -1,29 +1,47 @@
-use Rattle.std.proofs.Common.{sym, subst}
-use Rattle.joint_machine.specs.Control.{restored}
-use Rattle.joint_machine.specs.Lines.{IsDriver}
-use Rattle.joint_history.specs.Callers.{Pass}
-use Rattle.joint_history.specs.DriverHandles.{MakesClear, MayClearCycle}
-use Rattle.joint_history.proofs.DriverHears.{driver_knows, driver_pass, driver_pass_back, driver_reads}
+use Rattle.std.proofs.Common.{None, ◌<◌, ◌^◌, refl, arith, ◌∙◌}
+use Rattle.joint_machine.specs.declared.names.Thread.TheVariants.{C}
+use Rattle.joint_machine.specs.declared.events.Op.TheVariants as op
+use Rattle.joint_machine.specs.declared.events.Reply.TheVariants as says
+use Rattle.joint_machine.specs.Control.{restoring}
+use Rattle.joint_machine.specs.Sides.{peer_rules}
+use Rattle.joint_machine.specs.Told.{nothing}
+use Rattle.peer_heap.specs.Sides.{seen}
+use Rattle.joint_history.specs.Driven.{driver_entry}
+use Rattle.joint_history.proofs.DriverHandles.{clear_knows, clear_made, may_clear, targets_restored}
+use Rattle.joint_history.proofs.DriverPeerSteps.{under_peers}
+use Rattle.joint_history.proofs.Fitting.{goes_further, peer_line, peer_may}
+use Rattle.joint_history.proofs.Reserving.{clear_kept, drew_reserves}
 use Rattle.joint_history.proofs.shared.Shared.clear.Goals as goal
 
-pub clear-requires-clause-pass : goal.clear-requires-clause-pass
-clear-requires-clause-pass g c = driver_pass c.driver.inside.thread c.driver.inside.seat.view (subst (λ (p : Pass). IsDriver p.thread) (sym c.driver.view_is) c.requires.driver) c.driver.invariant.2
+pub drive_peers-requires-clause-fits : goal.drive_peers-requires-clause-fits
+drive_peers-requires-clause-fits g c =
+    let may = c.requires.may in
+    let mine = c.args.driver.now.view in
+    let index = c.args.index in
+    let short : index < 2 ^ 32 = omega (arith, c.ranges.index.fits) in
+    record {
+      side = omega arith;
+      asked = λ order lent mine1 s w. (
+        may_clear s.state may.opened may.answers c.args.cycle.0 may.seen
+            (under_peers w.locked mine lent.view mine1 (seen s) index (restoring may.opened may.answers) may.seen w.pass w.owns w.known_side.0 may.stands w.lends) may.all may.same,
+        targets_restored s.state may.opened may.answers may.seen
+            (under_peers w.locked mine lent.view mine1 (seen s) index (restoring may.opened may.answers) may.seen w.pass w.owns w.known_side.0 may.stands w.lends) may.all,
+        peer_may _ C order mine lent mine1 s (op.Clear c.args.cycle) refl refl w,
+        peer_line _ C order mine lent mine1 s w,
+      );
+      further = λ order lent lent2 s s2 r d. goes_further order lent lent2 1 d.2.kept d.2.appends;
+      left = λ order lent lent2 mine1 locked2 mine2 s s2 r w d b. (
+        (
+          clear_knows w.locked mine mine1 locked2 mine2 order lent lent2 (seen s) (seen s2) index w.pass w.owns short w.known_side.0 w.lends b r c.args.cycle d.2 may,
+          drew_reserves C w.locked mine mine1 locked2 mine2 order lent lent2 s s2 (driver_entry r index (op.Clear c.args.cycle) says.Ok None) nothing
+              w.known_side.0 w.known_side.1 w.lends d.2 b (clear_kept order lent lent2 s s2 r index c.args.cycle d.2 d.1),
+          d.0 ∙ w.known_side.2,
+        ),
+        clear_made w.locked mine mine1 locked2 mine2 order lent lent2 (seen s) (seen s2) index w.pass w.owns short w.known_side.0 w.lends b r c.args.cycle d.2,
+      );
+    }
 
-pub clear-requires-clause-may : goal.clear-requires-clause-may
-clear-requires-clause-may g c = subst (λ (p : Pass). MayClearCycle p.view c.args.index c.args.cycle.0) (sym c.driver.view_is) c.requires.may
-
-pub invariant_of-driver : goal.invariant_of-driver
-invariant_of-driver g c =
-    let driver = subst (λ (p : Pass). IsDriver p.thread) (sym c.driver.view_is) c.requires.driver in
-    let may = subst (λ (p : Pass). MayClearCycle p.view c.args.index c.args.cycle.0) (sym c.driver.view_is) c.requires.may in (
-      c.driver.invariant.0,
-      c.clear.ensures.order,
-      driver_pass_back c.driver.inside.thread c.clear.new.mine.view driver c.clear.ensures.pass,
-      driver_knows c.driver.inside.thread c.clear.new.mine.view c.args.index (restored may.opened may.answers c.clear.result) may.seen driver
-          (c.clear.ensures.makes may.opened may.answers may.seen may.stands may.all may.same).1,
-      c.clear.ensures.settled,
-      driver_reads c.driver.inside.thread c.driver.inside.seat.view c.clear.new.mine.view c.driver.inside.reads.entries driver c.driver.invariant.5,
-    )
-
-pub returns-clause-makes : goal.returns-clause-makes
-returns-clause-makes g c = subst (λ (p : Pass). MakesClear p.view c.clear.new.mine.view c.args.index c.args.cycle c.clear.result) c.driver.view_is c.clear.ensures.makes
+pub drive_peers-requires-clause-knows : goal.drive_peers-requires-clause-knows
+drive_peers-requires-clause-knows g c = λ w r made.
+    let may = c.requires.may in
+    (made may.opened may.answers may.seen may.stands may.all may.same).1.known

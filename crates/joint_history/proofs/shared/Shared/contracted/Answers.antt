@@ -1,31 +1,35 @@
-use Rattle.std.proofs.Common.{sym, subst}
-use Rattle.joint_machine.specs.Lines.{IsDriver}
-use Rattle.joint_machine.specs.Control.{contracted}
-use Rattle.joint_history.specs.Callers.{Pass}
-use Rattle.joint_history.specs.Driven.{MakesContraction, MayContractCycle}
-use Rattle.joint_history.proofs.DriverHears.{driver_knows, driver_pass, driver_pass_back, driver_reads}
+use Rattle.std.proofs.Common.{◌<◌, ◌^◌, refl, arith, ◌∙◌}
+use Rattle.joint_machine.specs.declared.names.Thread.TheVariants.{C}
+use Rattle.joint_machine.specs.Control.{snapped}
+use Rattle.joint_machine.specs.Sides.{managed_rules}
+use Rattle.managed_heap.specs.Calls.{contract_op}
+use Rattle.managed_heap.specs.Sides.{as_side}
+use Rattle.joint_history.proofs.DriverCalls.{contraction_knows, contraction_made, may_contract_with, under_lock}
+use Rattle.joint_history.proofs.Fitting.{goes_further, managed_line, managed_may}
 use Rattle.joint_history.proofs.shared.Shared.contracted.Goals as goal
 
-pub contracted-requires-clause-pass : goal.contracted-requires-clause-pass
-contracted-requires-clause-pass g c = driver_pass c.driver.inside.thread c.driver.inside.seat.view
-    (subst (λ (p : Pass). IsDriver p.thread) (sym c.driver.view_is) c.requires.driver) c.driver.invariant.2
+pub drive_managed-requires-clause-fits : goal.drive_managed-requires-clause-fits
+drive_managed-requires-clause-fits g c =
+    let may = c.requires.may in
+    let mine = c.args.driver.now.view in
+    let index = c.args.index in
+    let short : index < 2 ^ 32 = omega (arith, c.ranges.index.fits) in
+    record {
+      side = omega arith;
+      asked = λ order lent mine1 s w. (
+        may_contract_with s.state mine index c.args.sccs c.args.xrefs may
+            (under_lock w.locked mine lent.view mine1 (as_side s) index (snapped may.opened) may.seen w.pass w.owns w.known_side.0 may.stands w.lends),
+        λ k e. managed_may _ order mine lent mine1 s (contract_op k) refl refl refl refl w,
+        managed_line _ C order mine lent mine1 s w,
+      );
+      further = λ order lent lent2 s s2 r d. (let q = (d.drew d.comps d.heavy d.pairs d.contracted) in goes_further order lent lent2 0 q.kept q.appends);
+      left = λ order lent lent2 mine1 locked2 mine2 s s2 r w d b. (
+        (contraction_knows w.locked mine mine1 locked2 mine2 order lent lent2 (as_side s) (as_side s2) index w.pass w.owns short w.known_side.0 w.lends b c.args.sccs c.args.xrefs r d may, d.threads ∙ w.known_side.1),
+        contraction_made w.locked mine mine1 locked2 mine2 order lent lent2 (as_side s) (as_side s2) index w.pass w.owns short w.known_side.0 w.lends b c.args.sccs c.args.xrefs r d,
+      );
+    }
 
-pub contracted-requires-clause-may : goal.contracted-requires-clause-may
-contracted-requires-clause-may g c = subst (λ (p : Pass). MayContractCycle p.view c.args.index c.args.sccs c.args.xrefs) (sym c.driver.view_is) c.requires.may
-
-pub invariant_of-driver : goal.invariant_of-driver
-invariant_of-driver g c =
-    let driver = subst (λ (p : Pass). IsDriver p.thread) (sym c.driver.view_is) c.requires.driver in
-    let may = subst (λ (p : Pass). MayContractCycle p.view c.args.index c.args.sccs c.args.xrefs) (sym c.driver.view_is) c.requires.may in (
-      c.driver.invariant.0,
-      c.contracted.ensures.order,
-      driver_pass_back c.driver.inside.thread c.contracted.new.mine.view driver c.contracted.ensures.pass,
-      driver_knows c.driver.inside.thread c.contracted.new.mine.view c.args.index (contracted may.opened may.comps may.heavy may.pairs) may.seen driver
-          (c.contracted.ensures.makes may.opened may.seen may.comps may.heavy may.pairs may.stands may.contraction).1,
-      c.contracted.ensures.settled,
-      driver_reads c.driver.inside.thread c.driver.inside.seat.view c.contracted.new.mine.view c.driver.inside.reads.entries driver c.driver.invariant.5,
-    )
-
-pub returns-clause-makes : goal.returns-clause-makes
-returns-clause-makes g c = subst (λ (p : Pass). MakesContraction p.view c.contracted.new.mine.view c.args.index c.args.sccs c.args.xrefs c.contracted.result)
-    c.driver.view_is c.contracted.ensures.makes
+pub drive_managed-requires-clause-knows : goal.drive_managed-requires-clause-knows
+drive_managed-requires-clause-knows g c = λ w r made.
+    let may = c.requires.may in
+    (made may.opened may.seen may.comps may.heavy may.pairs may.stands may.contraction).1.known

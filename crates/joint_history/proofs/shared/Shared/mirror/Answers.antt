@@ -1,34 +1,46 @@
-use Rattle.std.proofs.Common.{ℕ, sym, subst}
-use Rattle.std.specs.Prelude.{IfOk}
+use Rattle.std.proofs.Common.{ℕ, ◌≡◌, ◌<◌, ◌^◌, refl, arith, ◌∙◌}
+use Rattle.joint_machine.specs.declared.names.Thread.TheVariants.{C}
+use Rattle.joint_machine.specs.declared.events.Op.TheVariants as op
 use Rattle.joint_machine.specs.Control.{contracted}
-use Rattle.joint_machine.specs.Lines.{IsDriver}
-use Rattle.joint_history.specs.Callers.{Pass}
-use Rattle.joint_history.specs.DriverMirrors.{MakesMirror, MayMirrorCycle}
-use Rattle.joint_history.proofs.DriverCallers.{knows_either}
-use Rattle.joint_history.proofs.DriverHears.{driver_pass, driver_pass_back, driver_reads}
+use Rattle.joint_machine.specs.Sides.{peer_rules}
+use Rattle.peer_heap.specs.Sides.{seen}
+use Rattle.joint_history.specs.DriverMirrors.{DrawsMirror, MakesMirror}
+use Rattle.joint_history.proofs.DriverCallers.{known_either}
+use Rattle.joint_history.proofs.DriverMirrors.{are_bridges, are_strong, may_mirror, mirror_called}
+use Rattle.joint_history.proofs.DriverPeerSteps.{under_peers}
+use Rattle.joint_history.proofs.Fitting.{goes_further, either_further, peer_line, peer_may}
 use Rattle.joint_history.proofs.shared.Shared.mirror.Goals as goal
 
-pub mirror-requires-clause-pass : goal.mirror-requires-clause-pass
-mirror-requires-clause-pass g c = driver_pass c.driver.inside.thread c.driver.inside.seat.view (subst (λ (p : Pass). IsDriver p.thread) (sym c.driver.view_is) c.requires.driver) c.driver.invariant.2
+pub drive_peers-requires-clause-fits : goal.drive_peers-requires-clause-fits
+drive_peers-requires-clause-fits g c =
+    let may = c.requires.may in
+    let mine = c.args.driver.now.view in
+    let index = c.args.index in
+    let short : index < 2 ^ 32 = omega (arith, c.ranges.index.fits) in
+    let graph = c.args.graph.now in
+    let comps = c.args.comps.now in
+    record {
+      side = omega arith;
+      asked = λ order lent mine1 s w. (
+          let u = under_peers w.locked mine lent.view mine1 (seen s) index (contracted may.opened may.comps may.heavy may.pairs) may.seen w.pass w.owns w.known_side.0 may.stands w.lends in (
+            are_bridges s.state may.opened may.comps may.heavy may.pairs may.seen graph comps u may.listed,
+            are_strong s.state may.opened may.comps may.heavy may.pairs may.seen graph comps u may.listed,
+            w.known_side.1.none_waits,
+            may_mirror s.state may.opened may.comps may.heavy may.pairs may.seen graph comps u may.listed c.args.cycle.0 c.args.snap may.same_cycle may.same_snap,
+            peer_may _ C order mine lent mine1 s (op.Mirror c.args.cycle) refl refl w,
+            peer_line _ C order mine lent mine1 s w,
+          )
+          );
+      further = λ order lent lent2 s s2 r d. either_further (λ (x : ℕ × ℕ). DrawsMirror order lent lent2 (seen s) (seen s2) index c.args.cycle c.args.snap graph comps x.0 x.1)
+          (s2 ≡ s) lent lent2 r (λ x q. goes_further order lent lent2 1 q.drew.kept q.drew.appends) d.1 d.5;
+      left = λ order lent lent2 mine1 locked2 mine2 s s2 r w d b.
+          (let q = mirror_called w.locked mine mine1 locked2 mine2 order lent lent2 s s2 index w.pass w.owns short w.known_side.0 w.lends b
+          c.args.cycle c.args.snap graph comps d.3 d.4 r may w.known_side.1 d.1 d.2 d.5 in ((q.knows, q.reserves, d.0 ∙ w.known_side.2), (q.ok, q.err)));
+    }
 
-pub mirror-requires-clause-may : goal.mirror-requires-clause-may
-mirror-requires-clause-may g c = subst (λ (p : Pass). MayMirrorCycle p.view c.args.index c.args.cycle.0 c.args.snap c.args.graph.now c.args.comps.now) (sym c.driver.view_is) c.requires.may
-
-pub invariant_of-driver : goal.invariant_of-driver
-invariant_of-driver g c =
-    let driver = subst (λ (p : Pass). IsDriver p.thread) (sym c.driver.view_is) c.requires.driver in
-    let may = subst (λ (p : Pass). MayMirrorCycle p.view c.args.index c.args.cycle.0 c.args.snap c.args.graph.now c.args.comps.now) (sym c.driver.view_is) c.requires.may in (
-      c.driver.invariant.0,
-      c.mirror.ensures.order,
-      driver_pass_back c.driver.inside.thread c.mirror.new.mine.view driver c.mirror.ensures.pass,
-      knows_either c.driver.inside.thread c.driver.inside.seat.view c.mirror.new.mine.view c.mirror.result
-          (λ (x : ℕ × ℕ). MakesMirror c.driver.inside.seat.view c.mirror.new.mine.view c.args.index c.args.cycle c.args.snap c.args.graph.now c.args.comps.now x.1 x.0) driver c.mirror.ensures.ok
-          (λ x q. (q may.opened may.comps may.heavy may.pairs may.seen may.stands may.listed may.same_cycle may.same_snap).stands.known) c.mirror.ensures.err c.args.index
-          (contracted may.opened may.comps may.heavy may.pairs) may.seen may.stands,
-      c.mirror.ensures.settled,
-      driver_reads c.driver.inside.thread c.driver.inside.seat.view c.mirror.new.mine.view c.driver.inside.reads.entries driver c.driver.invariant.5,
-    )
-
-pub returns-clause-ok : goal.returns-clause-ok
-returns-clause-ok g c = subst (λ (p : Pass). IfOk c.mirror.result
-    (λ (x : ℕ × ℕ). MakesMirror p.view c.mirror.new.mine.view c.args.index c.args.cycle c.args.snap c.args.graph.now c.args.comps.now x.1 x.0)) c.driver.view_is c.mirror.ensures.ok
+pub drive_peers-requires-clause-knows : goal.drive_peers-requires-clause-knows
+drive_peers-requires-clause-knows g c = λ w r made.
+    let may = c.requires.may in
+    known_either c.args.driver.now.view w r (λ (x : ℕ × ℕ). MakesMirror c.args.driver.now.view w c.args.index c.args.cycle c.args.snap c.args.graph.now c.args.comps.now x.1 x.0) made.0
+    (λ x q. (q may.opened may.comps may.heavy may.pairs may.seen may.stands may.listed may.same_cycle may.same_snap).stands.known) made.1 c.args.index
+    (contracted may.opened may.comps may.heavy may.pairs) may.seen may.stands

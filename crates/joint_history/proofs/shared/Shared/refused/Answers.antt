@@ -1,32 +1,40 @@
-use Rattle.std.proofs.Common.{sym, subst}
-use Rattle.std.specs.Prelude.{IfOk}
-use Rattle.joint_machine.specs.Lines.{IsDriver}
-use Rattle.joint_history.specs.Driven.{MakesRefusal, MayRefuseWord}
-use Rattle.joint_history.specs.Callers.{Pass}
-use Rattle.joint_history.proofs.DriverCallers.{knows_either}
-use Rattle.joint_history.proofs.DriverHears.{driver_pass, driver_pass_back, driver_reads}
+use Rattle.std.proofs.Common.{ℕ, None, ◌≡◌, ◌<◌, ◌^◌, refl, arith, ◌∙◌}
+use Rattle.joint_machine.specs.declared.names.Thread.TheVariants.{C}
+use Rattle.joint_machine.specs.declared.events.Op.TheVariants as op
+use Rattle.joint_machine.specs.declared.events.Reply.{Reply}
+use Rattle.joint_machine.specs.Sides.{managed_rules}
+use Rattle.joint_machine.specs.Told.{phase_of}
+use Rattle.managed_heap.specs.Sides.{as_side}
+use Rattle.joint_history.specs.Driven.{MakesRefusal, driver_entry}
+use Rattle.joint_history.specs.Locked.{Drew}
+use Rattle.joint_history.proofs.DriverCallers.{known_either}
+use Rattle.joint_history.proofs.DriverCalls.{may_refuse, refusal_called, under_lock}
+use Rattle.joint_history.proofs.Fitting.{goes_further, either_further, managed_line, managed_may}
 use Rattle.joint_history.proofs.shared.Shared.refused.Goals as goal
 
-pub refused-requires-clause-pass : goal.refused-requires-clause-pass
-refused-requires-clause-pass g c = driver_pass c.driver.inside.thread c.driver.inside.seat.view (subst (λ (p : Pass). IsDriver p.thread) (sym c.driver.view_is) c.requires.driver) c.driver.invariant.2
+pub drive_managed-requires-clause-fits : goal.drive_managed-requires-clause-fits
+drive_managed-requires-clause-fits g c =
+    let may = c.requires.may in
+    let mine = c.args.driver.now.view in
+    let index = c.args.index in
+    let short : index < 2 ^ 32 = omega (arith, c.ranges.index.fits) in
+    record {
+      side = omega arith;
+      asked = λ order lent mine1 s w. (
+        may_refuse s.state mine index c.args.word c.args.phase may (under_lock w.locked mine lent.view mine1 (as_side s) index may.stand may.seen w.pass w.owns w.known_side.0 may.stands w.lends),
+        managed_may _ order mine lent mine1 s (op.Refused c.args.word) refl refl refl refl w,
+        managed_line _ C order mine lent mine1 s w,
+      );
+      further = λ order lent lent2 s s2 r d. either_further
+          (λ (x : ℕ × Reply). Drew managed_rules 0 order lent lent2 (as_side s) (as_side s2) (driver_entry x.0 index (op.Refused c.args.word) x.1 None) (phase_of c.args.phase))
+          (as_side s2 ≡ as_side s) lent lent2 r (λ x q. goes_further order lent lent2 0 q.kept q.appends) d.1 d.2;
+      left = λ order lent lent2 mine1 locked2 mine2 s s2 r w d b.
+          (let q = refusal_called w.locked mine mine1 locked2 mine2 order lent lent2 (as_side s) (as_side s2) index w.pass w.owns short w.known_side.0 w.lends b
+          c.args.word c.args.phase r may d.1 d.2 in ((q.knows, d.0 ∙ w.known_side.1), (q.ok, q.err)));
+    }
 
-pub refused-requires-clause-may : goal.refused-requires-clause-may
-refused-requires-clause-may g c = subst (λ (p : Pass). MayRefuseWord p.view c.args.index c.args.word c.args.phase) (sym c.driver.view_is) c.requires.may
-
-pub invariant_of-driver : goal.invariant_of-driver
-invariant_of-driver g c =
-    let driver = subst (λ (p : Pass). IsDriver p.thread) (sym c.driver.view_is) c.requires.driver in
-    let may = subst (λ (p : Pass). MayRefuseWord p.view c.args.index c.args.word c.args.phase) (sym c.driver.view_is) c.requires.may in (
-      c.driver.invariant.0,
-      c.refused.ensures.order,
-      driver_pass_back c.driver.inside.thread c.refused.new.mine.view driver c.refused.ensures.pass,
-      knows_either c.driver.inside.thread c.driver.inside.seat.view c.refused.new.mine.view c.refused.result
-          (λ r. MakesRefusal c.driver.inside.seat.view c.refused.new.mine.view c.args.index r.0 c.args.word c.args.phase r.1) driver c.refused.ensures.ok
-          (λ r q. (q may.stand may.seen may.stands may.in_phase).stands.known) c.refused.ensures.err c.args.index may.stand may.seen may.stands,
-      c.refused.ensures.settled,
-      driver_reads c.driver.inside.thread c.driver.inside.seat.view c.refused.new.mine.view c.driver.inside.reads.entries driver c.driver.invariant.5,
-    )
-
-pub returns-clause-ok : goal.returns-clause-ok
-returns-clause-ok g c = subst (λ (p : Pass). IfOk c.refused.result (λ r. MakesRefusal p.view c.refused.new.mine.view c.args.index r.0 c.args.word c.args.phase r.1))
-    c.driver.view_is c.refused.ensures.ok
+pub drive_managed-requires-clause-knows : goal.drive_managed-requires-clause-knows
+drive_managed-requires-clause-knows g c = λ w r made.
+    let may = c.requires.may in
+    known_either c.args.driver.now.view w r (λ (x : ℕ × Reply). MakesRefusal c.args.driver.now.view w c.args.index x.0 c.args.word c.args.phase x.1) made.0
+    (λ x q. (q may.stand may.seen may.stands may.in_phase).stands.known) made.1 c.args.index may.stand may.seen may.stands

@@ -1,26 +1,35 @@
-use Rattle.std.proofs.Common.{sym, subst}
-use Rattle.joint_machine.specs.Lines.{IsDriver}
-use Rattle.joint_machine.specs.Control.{idle}
+use Rattle.std.proofs.Common.{◌<◌, ◌^◌, arith, ◌∙◌}
+use Rattle.joint_machine.specs.declared.names.Thread.TheVariants.{C}
+use Rattle.joint_machine.specs.Control.{restored}
+use Rattle.joint_machine.specs.Sides.{managed_rules}
 use Rattle.joint_model.specs.Listed.{answers_of}
-use Rattle.joint_history.specs.Callers.{Pass}
-use Rattle.joint_history.specs.Driven.{MayResolveCycle}
-use Rattle.joint_history.proofs.DriverHears.{driver_knows, driver_pass, driver_pass_back, driver_reads}
+use Rattle.managed_heap.specs.Sides.{as_side}
+use Rattle.joint_history.proofs.DriverCalls.{may_close, resolution_knows, resolution_made, under_lock}
+use Rattle.joint_history.proofs.Fitting.{goes_further, lent_managed}
 use Rattle.joint_history.proofs.shared.Shared.resolve.Goals as goal
 
-pub resolve-requires-clause-pass : goal.resolve-requires-clause-pass
-resolve-requires-clause-pass g c = driver_pass c.driver.inside.thread c.driver.inside.seat.view (subst (λ (p : Pass). IsDriver p.thread) (sym c.driver.view_is) c.requires.driver) c.driver.invariant.2
+pub drive_managed-requires-clause-fits : goal.drive_managed-requires-clause-fits
+drive_managed-requires-clause-fits g c =
+    let may = c.requires.may in
+    let mine = c.args.driver.now.view in
+    let index = c.args.index in
+    let short : index < 2 ^ 32 = omega (arith, c.ranges.index.fits) in
+    let alive = c.args.alive.now.values in
+    record {
+      side = omega arith;
+      asked = λ order lent mine1 s w. (
+        may_close s.state mine index c.args.clear alive may
+            (under_lock w.locked mine lent.view mine1 (as_side s) index (restored may.opened (answers_of alive) c.args.clear) may.seen w.pass w.owns w.known_side.0 may.stands w.lends),
+        lent_managed _ C order mine lent mine1 s may.stands.known w,
+      );
+      further = λ order lent lent2 s s2 r d. goes_further order lent lent2 0 d.drew.kept d.drew.appends;
+      left = λ order lent lent2 mine1 locked2 mine2 s s2 r w d b. (
+        (resolution_knows w.locked mine mine1 locked2 mine2 order lent lent2 (as_side s) (as_side s2) index w.pass w.owns short w.known_side.0 w.lends b c.args.clear r.0 alive r.1 d may, d.threads ∙ w.known_side.1),
+        (resolution_made w.locked mine mine1 locked2 mine2 order lent lent2 (as_side s) (as_side s2) index w.pass w.owns short w.known_side.0 w.lends b c.args.clear r.0 alive r.1 d, d.kept),
+      );
+    }
 
-pub resolve-requires-clause-may : goal.resolve-requires-clause-may
-resolve-requires-clause-may g c = subst (λ (p : Pass). MayResolveCycle p.view c.args.index c.args.clear (answers_of c.args.alive.now.values)) (sym c.driver.view_is) c.requires.may
-
-pub invariant_of-driver : goal.invariant_of-driver
-invariant_of-driver g c =
-    let driver = subst (λ (p : Pass). IsDriver p.thread) (sym c.driver.view_is) c.requires.driver in
-    let may = subst (λ (p : Pass). MayResolveCycle p.view c.args.index c.args.clear (answers_of c.args.alive.now.values)) (sym c.driver.view_is) c.requires.may in (
-      c.driver.invariant.0,
-      c.resolve.ensures.order,
-      driver_pass_back c.driver.inside.thread c.resolve.new.mine.view driver c.resolve.ensures.pass,
-      (let w = (c.resolve.ensures.makes may.opened may.seen may.stands).rests in driver_knows c.driver.inside.thread c.resolve.new.mine.view c.args.index idle w.seen driver w.stands),
-      c.resolve.ensures.settled,
-      driver_reads c.driver.inside.thread c.driver.inside.seat.view c.resolve.new.mine.view c.driver.inside.reads.entries driver c.driver.invariant.5,
-    )
+pub drive_managed-requires-clause-knows : goal.drive_managed-requires-clause-knows
+drive_managed-requires-clause-knows g c = λ w r made.
+    let may = c.requires.may in
+    (made.0 may.opened may.seen may.stands).rests.stands.known

@@ -1,30 +1,45 @@
-use Rattle.std.proofs.Common.{sym, subst}
+use Rattle.std.proofs.Common.{inr, sym, ap, subst, arith, ◌∙◌}
+use Rattle.joint_machine.specs.declared.names.Thread.TheVariants.{C}
 use Rattle.joint_machine.specs.Control.{marked}
-use Rattle.joint_machine.specs.Lines.{IsDriver}
-use Rattle.joint_history.specs.Callers.{Pass}
-use Rattle.joint_history.specs.Driven.{DriverMakesNone}
-use Rattle.joint_history.specs.DriverMarks.{HasBegunMarking}
-use Rattle.joint_history.proofs.DriverHears.{driver_knows, driver_pass, driver_pass_back, driver_reads}
+use Rattle.peer_heap.specs.Sides.{PeerModel, seen}
+use Rattle.order_table.specs.Views.{Shown}
+use Rattle.seat_calls.specs.Passing.{Returns}
+use Rattle.joint_history.specs.Locked.{PeerKnows}
+use Rattle.joint_history.specs.Steps.{GoesFurther}
+use Rattle.joint_history.proofs.DriverMarks.{is_open, is_own_marking}
+use Rattle.joint_history.proofs.DriverPeerSteps.{driven_peers_none}
+use Rattle.joint_history.proofs.Fitting.{same_further}
+use Rattle.joint_history.proofs.Reserving.{back_on, lent_on, nothing_kept, reserves_on}
 use Rattle.joint_history.proofs.shared.Shared.slice.Goals as goal
 
-pub slice-requires-clause-pass : goal.slice-requires-clause-pass
-slice-requires-clause-pass g c = driver_pass c.driver.inside.thread c.driver.inside.seat.view (subst (λ (p : Pass). IsDriver p.thread) (sym c.driver.view_is) c.requires.driver) c.driver.invariant.2
+pub drive_peers-requires-clause-fits : goal.drive_peers-requires-clause-fits
+drive_peers-requires-clause-fits g c =
+    let index = c.requires.may.0 in
+    let may = c.requires.may.1 in
+    let mine = c.args.driver.now.view in
+    record {
+      side = omega arith;
+      asked = λ order lent mine1 s w. (
+        is_open w.locked mine lent.view mine1 (seen s) index w.pass w.owns w.known_side.0 w.lends (inr may),
+        is_own_marking w.locked mine lent.view mine1 (seen s) index w.pass w.owns w.known_side.0 w.lends may,
+      );
+      further = λ order lent lent2 s s2 r d. subst (λ (z : Shown). GoesFurther lent z) (sym d.0) (same_further lent);
+      left = λ order lent lent2 mine1 locked2 mine2 s s2 r w d b.
+          (
+          let back = subst (λ (z : Shown). Returns C z.view mine1 locked2 mine2) d.0 b in
+          let k = driven_peers_none w.locked mine lent.view mine1 locked2 mine2 (seen s) w.pass w.owns w.known_side.0 may.stands.known w.lends back in (
+            (
+              subst (λ (z : PeerModel). PeerKnows locked2 (seen z)) (sym d.1) k.knows,
+              reserves_on w.locked locked2 s s2 w.known_side.0 (back_on C w.locked lent.view mine1 locked2 mine2 (lent_on C w.locked mine lent.view mine1 w.lends) back)
+                  (nothing_kept s s2 (ap seen d.1) (ap (λ (z : PeerModel). z.reserve) d.1)) w.known_side.1,
+              ap (λ (z : PeerModel). z.threads) d.1 ∙ w.known_side.2,
+            ),
+            k.makes,
+          )
+          );
+    }
 
-pub slice-requires-clause-may : goal.slice-requires-clause-may
-slice-requires-clause-may g c = (c.requires.may.0, subst (λ (p : Pass). HasBegunMarking p.view c.requires.may.0) (sym c.driver.view_is) c.requires.may.1)
-
-pub invariant_of-driver : goal.invariant_of-driver
-invariant_of-driver g c =
-    let driver = subst (λ (p : Pass). IsDriver p.thread) (sym c.driver.view_is) c.requires.driver in
-    let may = subst (λ (p : Pass). HasBegunMarking p.view c.requires.may.0) (sym c.driver.view_is) c.requires.may.1 in (
-      c.driver.invariant.0,
-      c.slice.ensures.order,
-      driver_pass_back c.driver.inside.thread c.slice.new.mine.view driver c.slice.ensures.pass,
-      driver_knows c.driver.inside.thread c.slice.new.mine.view c.requires.may.0 (marked may.opened) may.seen driver
-          (c.slice.ensures.none.stands c.requires.may.0 (marked may.opened) may.seen may.stands),
-      c.slice.ensures.settled,
-      driver_reads c.driver.inside.thread c.driver.inside.seat.view c.slice.new.mine.view c.driver.inside.reads.entries driver c.driver.invariant.5,
-    )
-
-pub returns-clause-none : goal.returns-clause-none
-returns-clause-none g c = subst (λ (p : Pass). DriverMakesNone p.view c.slice.new.mine.view) c.driver.view_is c.slice.ensures.none
+pub drive_peers-requires-clause-knows : goal.drive_peers-requires-clause-knows
+drive_peers-requires-clause-knows g c = λ w r made.
+    let may = c.requires.may in
+    (made.stands may.0 (marked may.1.opened) may.1.seen may.1.stands).known

@@ -1,29 +1,46 @@
-use Rattle.std.proofs.Common.{◌+◌, true, false, sym, subst}
+use Rattle.std.proofs.Common.{Some, false, ◌<◌, ◌^◌, refl, arith, ◌∙◌}
+use Rattle.joint_machine.specs.declared.names.Thread.TheVariants.{C}
+use Rattle.joint_machine.specs.declared.events.Op.TheVariants as op
+use Rattle.joint_machine.specs.declared.events.Reply.TheVariants as says
 use Rattle.joint_machine.specs.Control.{weakening}
-use Rattle.joint_machine.specs.Lines.{IsDriver}
-use Rattle.joint_history.specs.Callers.{Pass}
-use Rattle.joint_history.specs.DriverHandles.{MakesWeaken, MayWeakenHandle}
-use Rattle.joint_history.proofs.DriverHears.{driver_knows, driver_pass, driver_pass_back, driver_reads}
+use Rattle.joint_machine.specs.Sides.{peer_rules}
+use Rattle.joint_machine.specs.Told.{nothing}
+use Rattle.peer_heap.specs.Sides.{seen}
+use Rattle.joint_history.specs.Driven.{driver_entry}
+use Rattle.joint_history.proofs.DriverHandles.{may_weaken, weaken_knows, weaken_made}
+use Rattle.joint_history.proofs.DriverPeerSteps.{under_peers}
+use Rattle.joint_history.proofs.Fitting.{goes_further, peer_line, peer_may}
+use Rattle.joint_history.proofs.Reserving.{drew_reserves, weaken_kept, weakening_has_room}
 use Rattle.joint_history.proofs.shared.Shared.weaken.Goals as goal
 
-pub weaken-requires-clause-pass : goal.weaken-requires-clause-pass
-weaken-requires-clause-pass g c = driver_pass c.driver.inside.thread c.driver.inside.seat.view (subst (λ (p : Pass). IsDriver p.thread) (sym c.driver.view_is) c.requires.driver) c.driver.invariant.2
+pub drive_peers-requires-clause-fits : goal.drive_peers-requires-clause-fits
+drive_peers-requires-clause-fits g c =
+    let may = c.requires.may in
+    let mine = c.args.driver.now.view in
+    let index = c.args.index in
+    let short : index < 2 ^ 32 = omega (arith, c.ranges.index.fits) in
+    record {
+      side = omega arith;
+      asked = λ order lent mine1 s w. (
+        weakening_has_room w.locked mine lent.view mine1 s index may.opened may.count c.args.h.0 may.weakened false may.seen w.pass w.owns w.known_side.0 w.known_side.1 may.stands may.next w.lends,
+        may_weaken s.state may.opened may.count c.args.snap c.args.h.0 may.weakened may.seen
+            (under_peers w.locked mine lent.view mine1 (seen s) index (weakening may.opened may.count may.weakened false) may.seen w.pass w.owns w.known_side.0 may.stands w.lends) may.next may.same,
+        peer_may _ C order mine lent mine1 s (op.Weaken c.args.h) refl refl w,
+        peer_line _ C order mine lent mine1 s w,
+      );
+      further = λ order lent lent2 s s2 r d. goes_further order lent lent2 1 d.2.kept d.2.appends;
+      left = λ order lent lent2 mine1 locked2 mine2 s s2 r w d b. (
+        (
+          weaken_knows w.locked mine mine1 locked2 mine2 order lent lent2 (seen s) (seen s2) index w.pass w.owns short w.known_side.0 w.lends b r c.args.snap c.args.h d.2 may,
+          drew_reserves C w.locked mine mine1 locked2 mine2 order lent lent2 s s2 (driver_entry r index (op.Weaken c.args.h) says.Ok (Some c.args.snap)) nothing
+              w.known_side.0 w.known_side.1 w.lends d.2 b (weaken_kept order lent lent2 s s2 r index c.args.h c.args.snap d.2 d.1 (weakening_has_room w.locked mine lent.view mine1 s index may.opened may.count c.args.h.0 may.weakened false may.seen w.pass w.owns w.known_side.0 w.known_side.1 may.stands may.next w.lends)),
+          d.0 ∙ w.known_side.2,
+        ),
+        weaken_made w.locked mine mine1 locked2 mine2 order lent lent2 (seen s) (seen s2) index w.pass w.owns short w.known_side.0 w.lends b r c.args.snap c.args.h d.2,
+      );
+    }
 
-pub weaken-requires-clause-may : goal.weaken-requires-clause-may
-weaken-requires-clause-may g c = subst (λ (p : Pass). MayWeakenHandle p.view c.args.index c.args.snap c.args.h.0) (sym c.driver.view_is) c.requires.may
-
-pub invariant_of-driver : goal.invariant_of-driver
-invariant_of-driver g c =
-    let driver = subst (λ (p : Pass). IsDriver p.thread) (sym c.driver.view_is) c.requires.driver in
-    let may = subst (λ (p : Pass). MayWeakenHandle p.view c.args.index c.args.snap c.args.h.0) (sym c.driver.view_is) c.requires.may in (
-      c.driver.invariant.0,
-      c.weaken.ensures.order,
-      driver_pass_back c.driver.inside.thread c.weaken.new.mine.view driver c.weaken.ensures.pass,
-      driver_knows c.driver.inside.thread c.weaken.new.mine.view c.args.index (weakening may.opened (may.count + 1) true false) may.seen driver
-          (c.weaken.ensures.makes may.opened may.count may.weakened may.seen may.stands may.next may.same).1,
-      c.weaken.ensures.settled,
-      driver_reads c.driver.inside.thread c.driver.inside.seat.view c.weaken.new.mine.view c.driver.inside.reads.entries driver c.driver.invariant.5,
-    )
-
-pub returns-clause-makes : goal.returns-clause-makes
-returns-clause-makes g c = subst (λ (p : Pass). MakesWeaken p.view c.weaken.new.mine.view c.args.index c.args.snap c.args.h c.weaken.result) c.driver.view_is c.weaken.ensures.makes
+pub drive_peers-requires-clause-knows : goal.drive_peers-requires-clause-knows
+drive_peers-requires-clause-knows g c = λ w r made.
+    let may = c.requires.may in
+    (made may.opened may.count may.weakened may.seen may.stands may.next may.same).1.known
