@@ -1,10 +1,10 @@
 -- A collect under the peer lock: what the side's call draws by a seat, and what the locked seat and the caller know
 -- after it.
-use Rattle.std.proofs.Common.{false, ◌≡◌, inl, inr, ⊎_elim, ℕ, Bool, ◌<◌, ◌≤◌, ◌^◌, List, [], ◌∷◌, ◌++◌, length, Option, Some, None, refl, sym, ap, ◌∙◌, subst, append-nil, append_assoc, arith}
+use Rattle.std.proofs.Common.{◌≡◌, inl, inr, ⊎_elim, ℕ, Bool, ◌<◌, ◌≤◌, ◌^◌, List, [], ◌∷◌, ◌++◌, length, Option, Some, None, refl, sym, ap, ◌∙◌, subst, append-nil, append_assoc, arith}
 use Rattle.std.specs.Prelude.{if◌then◌else◌, Result, Ok, Err, IfOk, OnErr}
 use Rattle.std.specs.Option.{unwrap_or}
 use mathlib.Core.List.{IsPrefix}
-use base.Growing.{prefix_refl, prefix_trans}
+use base.Growing.{prefix_trans}
 use Rattle.joint_machine.specs.declared.names.MNum.{MNum}
 use Rattle.joint_machine.specs.declared.names.Marking.{Marking as Number}
 use Rattle.joint_machine.specs.declared.names.Span.{Span}
@@ -22,9 +22,8 @@ use Rattle.joint_machine.specs.Draws.{numbered, Drawing}
 use Rattle.joint_machine.specs.Heaps.{answer}
 use Rattle.joint_machine.specs.HistoryLines.{caller_line}
 use Rattle.joint_machine.specs.Lines.{IsPeerThread, IsThread}
-use Rattle.joint_machine.specs.Linked.{peer_after}
-use Rattle.joint_machine.specs.PeerReplay.{Marking, PeerReplay, SweepAllows, peer_answer, swept, swept_of}
-use Rattle.joint_machine.specs.Sides.{Making, Side, SideRules, GoesOn, AddsLawful, AddsInTurn, peer_rules}
+use Rattle.joint_machine.specs.PeerReplay.{Marking, PeerReplay, SweepAllows, swept, swept_of}
+use Rattle.joint_machine.specs.Sides.{Making, Side, SideRules, AddsLawful, AddsInTurn, peer_rules}
 use Rattle.joint_machine.specs.Told.{Told, nothing, sweep_of}
 use Rattle.known_laws.specs.Pasts.{end_of}
 use Rattle.order_table.specs.declared.views.Role.TheVariants as role
@@ -49,8 +48,7 @@ use Rattle.joint_history.proofs.KnownCallers.{own_line}
 use Rattle.joint_history.proofs.KnownViews.{entries_snoc, same_view}
 use Rattle.joint_history.proofs.SeatDraws.{drew_peer, peer_settled}
 use Rattle.order_table.specs.Allowed.{Settled}
-use Rattle.order_table.specs.Rows.{at}
-use Rattle.joint_history.proofs.LockedSteps.{list_more, peer_entered, returns_seated, grows_more, knows_peers_still, last_told, lent_joined, makes_none, own_told, owns_on, stands_same}
+use Rattle.joint_history.proofs.LockedSteps.{list_more, peer_entered, returns_seated, grows_more, knows_peers_still, last_told, lent_joined, makes_none, own_told, stands_same}
 use Rattle.joint_history.proofs.Reserving.{seated_on, KeepsReserve, KnowsOn, back_on, drew_on, drew_reserves, lent_on, nothing_kept, quiet_kept, reserves_on}
 use Rattle.joint_history.proofs.Running.{above_more, makes_nothing}
 use Rattle.joint_history.proofs.Standing.{last_of_own}

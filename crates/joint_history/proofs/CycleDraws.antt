@@ -6,7 +6,6 @@ use Rattle.std.specs.Prelude.{◌↔◌, Contains, nat_eq}
 use Rattle.std.proofs.lemmas.Bool.{both_ways, cases_Bool}
 use mathlib.Core.List.{IsPrefix}
 use Rattle.joint_machine.specs.declared.names.MNum.{MNum}
-use Rattle.joint_machine.specs.declared.names.Thread.{Thread}
 use Rattle.joint_machine.specs.declared.names.Thread.TheVariants.{C}
 use Rattle.joint_machine.specs.declared.events.Entry.{Entry}
 use Rattle.joint_machine.specs.declared.events.Op.{Op}
@@ -22,7 +21,6 @@ use Rattle.joint_machine.proofs.Members.{Contains-here, Contains-there}
 use Rattle.order_table.specs.declared.views.KeptEntry.{KeptEntry}
 use Rattle.order_table.specs.declared.views.View.{View}
 use Rattle.order_table.specs.Allowed.{MayDo, OwesNone, Settled}
-use Rattle.order_table.specs.Facts.{line_entries}
 use Rattle.order_table.specs.Owed.{aims_at, deed_of_pin, empty_after, fill_after, has, is_freed, mark, marked, owing, pin, stays, target}
 use Rattle.order_table.specs.Rows.{at}
 use Rattle.order_table.specs.Rule.{of_line}
@@ -31,15 +29,14 @@ use Rattle.order_table.specs.Views.{IsNext, IsOpen, OrderId, Owns, Shown, known}
 use Rattle.order_table.proofs.Says.{freed_more, target_more}
 use Rattle.joint_machine.specs.Control.{caller_place}
 use Rattle.seat_calls.specs.Gating.{HasEnded, IsOutside}
-use Rattle.seat_calls.specs.Passing.{Appends, Lends, MayAppend}
+use Rattle.seat_calls.specs.Passing.{Appends, MayAppend}
 use Rattle.seat_calls.specs.Paying.{Agrees, IsPaid, OwesFreed}
 use Rattle.seat_calls.proofs.After.{has_ended, owes_freed}
-use Rattle.view_laws.specs.Knowing.{IsDrawnView}
 use Rattle.view_laws.proofs.Finished.{frees-has}
 use Rattle.view_laws.proofs.HeldViews.{targets_agree, views_say_states}
 use Rattle.view_laws.proofs.PinWords.{same-number}
 use Rattle.joint_history.specs.Locked.{Drew, HasAppended, ManagedKnows}
-use Rattle.joint_history.proofs.LockedSteps.{lent_joined, owns_on}
+use Rattle.joint_history.proofs.LockedSteps.{owns_on}
 
 -- the side's open cycle is the one that the seat's managed list has open
 pub cycle_open : (v : View) (s : Side ManagedReplay) → ManagedKnows v s → (c : OpenCycle) → s.state.managed.cycle ≡ Some c → IsOpen v c.number

@@ -12,7 +12,6 @@ use Rattle.order_table.specs.declared.views.View.{View}
 use Rattle.joint_history.specs.Callers.{CallerKnows, HasReleased}
 use Rattle.joint_history.specs.Driven.{DriverMakesNone, DriverStands}
 use Rattle.view_laws.specs.Knowing.{IsDrawnView}
-use Rattle.joint_history.proofs.DriverHears.{driver_knows}
 
 released : (t : Thread) (s : Linkage) → IsDriver t → HasReleased t s
 released (M n) s is = absurd is

@@ -2,7 +2,6 @@
 -- every known past keeps holds at the end of what is known together; and what each leaves the driver with.
 use Rattle.std.proofs.Common.{◌≡◌, ◌⊎◌, inl, inr, ⊎_elim, ℕ, ◌<◌, ◌^◌, Bool, List, length, Option, Some, None, refl, sym, ap, ◌∙◌, subst}
 use Rattle.std.specs.Prelude.{IsSome, Result, Ok, Err, IfOk, OnErr}
-use mathlib.Core.List.{IsPrefix}
 use Rattle.std.proofs.lemmas.List.{length-map}
 use Rattle.std.proofs.lemmas.Option.{same_Some}
 use Rattle.joint_machine.specs.declared.names.Cycle.{Cycle}
@@ -52,7 +51,7 @@ use Rattle.joint_history.specs.Locked.{Drew, ManagedKnows, StaysSeated}
 use Rattle.seat_calls.specs.Passing.{Lends, Returns}
 use Rattle.joint_history.proofs.DeadParts.{count_same, dead_part_pinned, dead_part_self}
 use Rattle.joint_history.proofs.DriverSteps.{Driven, DrivenUnder, driven, driven_none, driver_joined, driver_still}
-use Rattle.joint_history.proofs.LockedSteps.{grows_more, lent_joined, owns_on, returns_seated}
+use Rattle.joint_history.proofs.LockedSteps.{lent_joined, returns_seated}
 
 -- what holds under the lock: the driver stands so in a state that has all that every known past keeps, and whose
 -- managed side is this one

@@ -2,12 +2,10 @@
 -- marked phase its own is open, whatever slices it has made.
 use Rattle.std.proofs.Common.{◌≡◌, ◌⊎◌, inl, ⊎_elim, ℕ, ◌<◌, ◌^◌, Bool, true, false, List, length, Option, Some, None, refl, sym, ap, ◌∙◌, subst}
 use Rattle.std.specs.Prelude.{IsSome}
-use mathlib.Core.List.{IsPrefix}
 use Rattle.joint_machine.specs.declared.names.Marking.{Marking as Number}
 use Rattle.joint_machine.specs.declared.names.Span.{Span}
 use Rattle.joint_machine.specs.declared.names.Thread.{Thread}
 use Rattle.joint_machine.specs.declared.names.Thread.TheVariants.{C}
-use Rattle.joint_machine.specs.declared.events.Entry.{Entry}
 use Rattle.joint_machine.specs.declared.events.Op.TheVariants as op
 use Rattle.joint_machine.specs.declared.events.Reply.{Reply}
 use Rattle.joint_machine.specs.declared.events.Reply.TheVariants as says
@@ -21,7 +19,7 @@ use Rattle.known_laws.proofs.Conditions.{marked_is_the_drivers, sweep_leaves_non
 use Rattle.peer_heap.specs.declared.side.Swept.{Swept}
 use Rattle.peer_heap.specs.Sides.{IsDrivers, MayEnd}
 use Rattle.order_table.specs.declared.views.View.{View}
-use Rattle.order_table.specs.Views.{OrderId, Shown, known, Owns}
+use Rattle.order_table.specs.Views.{OrderId, Shown, Owns}
 use Rattle.joint_history.specs.declared.marks.Begun.{Begun}
 use Rattle.joint_history.specs.Callers.{CallerKnows, HoldsPass}
 use Rattle.joint_history.specs.Driven.{DriverMakesNone, DriverStands, driver_entry}
@@ -32,7 +30,6 @@ use Rattle.joint_history.proofs.DeadParts.{count_same}
 use Rattle.joint_history.proofs.DriverHears.{driver_knows}
 use Rattle.joint_history.proofs.DriverPeerSteps.{DrivenUnderPeers, IsUnderPeers, driven_peers, under_peers}
 use Rattle.joint_history.proofs.DriverSnaps.{none_then_makes}
-use Rattle.joint_history.proofs.LockedSteps.{grows_more, owns_on}
 
 -- the driver may end any marking
 pub driver_ends : (o : Option Marking) → MayEnd o C

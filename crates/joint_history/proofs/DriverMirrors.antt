@@ -1,9 +1,7 @@
 -- The driver's mirror under the peer lock: what is asked of the side holds by where the driver stands, the references
 -- that come to stand are those that the definition has, and what the cycle wants from then on is reserved.
-use Rattle.std.proofs.Common.{false, [], ◌≡◌, ℕ, ◌<◌, ◌≤◌, ◌^◌, List, length, Some, refl, sym, ap, ◌∙◌, subst, arith}
+use Rattle.std.proofs.Common.{◌≡◌, ℕ, ◌<◌, ◌≤◌, ◌^◌, List, length, Some, refl, sym, ap, ◌∙◌, subst, arith}
 use Rattle.std.specs.Prelude.{Result, Ok, Err, IfOk, OnErr, OnOk}
-use mathlib.Core.List.{IsPrefix}
-use base.Growing.{prefix_refl}
 use Rattle.joint_machine.specs.declared.names.Cycle.{Cycle}
 use Rattle.joint_machine.specs.declared.names.Thread.TheVariants.{C}
 use Rattle.joint_machine.specs.declared.events.Op.TheVariants as op
@@ -25,10 +23,8 @@ use Rattle.peer_heap.specs.Mirroring.{strong_row}
 use Rattle.peer_heap.specs.Sides.{PeerModel, Reserve, seen}
 use Rattle.peer_mirror.specs.Carried.{AreBridgeNodes, AreHandlesStrong, carried_to_peers, reserve_installed}
 use Rattle.order_table.specs.declared.views.View.{View}
-use Rattle.order_table.specs.Facts.{line_entries}
 use Rattle.known_laws.specs.Known.{given}
 use Rattle.known_laws.proofs.Unpinned.{turn_same}
-use Rattle.order_table.specs.Rows.{at}
 use Rattle.order_table.specs.Views.{OrderId, Shown, known, Owns}
 use Rattle.xref_list.specs.Listing.{IsListing, Listing}
 use Rattle.joint_history.proofs.KnownViews.{same_view}
@@ -41,7 +37,7 @@ use Rattle.joint_history.specs.Locked.{StaysSeated, PeerKnows, PeerReserves, is_
 use Rattle.seat_calls.specs.Passing.{Lends, Returns}
 use Rattle.joint_history.proofs.DeadParts.{count_same}
 use Rattle.joint_history.proofs.DriverPeerSteps.{DrivenUnderPeers, IsUnderPeers, driven_peers, driven_peers_none}
-use Rattle.joint_history.proofs.LockedSteps.{returns_seated, grows_more, owns_on}
+use Rattle.joint_history.proofs.LockedSteps.{returns_seated}
 use Rattle.dead_parts.proofs.MirroredParts.{ShowsHandles, candidates-few, carried-is, edges-count, handles-strong, members-bridge, shows-on}
 use Rattle.joint_history.proofs.Reserving.{seated_on, back_on, drew_on, due_snoc, lent_on, nothing_kept, reserves_on, room_by_one}
 

@@ -1,9 +1,8 @@
 -- The driver's snapshot under the managed lock: no cycle is open while the driver is idle, and after the entry the
 -- driver has seen the side's objects as they are then.
-use Rattle.std.proofs.Common.{◌≡◌, ℕ, ◌+◌, ◌<◌, ◌^◌, false, List, [], ◌∷◌, ◌++◌, Option, Some, None, refl, sym, ap, ◌∙◌, subst}
-use Rattle.std.specs.Prelude.{Result, Ok, Err, IfOk, OnErr}
-use mathlib.Core.List.{IsPrefix}
-use base.Growing.{prefix_refl, prefix_trans}
+use Rattle.std.proofs.Common.{◌≡◌, ℕ, ◌+◌, ◌<◌, ◌^◌, List, [], ◌∷◌, ◌++◌, Option, Some, None, refl, sym, ap, ◌∙◌, subst}
+use Rattle.std.specs.Prelude.{Result, IfOk, OnErr}
+use base.Growing.{prefix_trans}
 use Rattle.joint_machine.specs.declared.names.Thread.TheVariants.{C}
 use Rattle.joint_machine.specs.declared.names.Span.{Span}
 use Rattle.joint_machine.specs.declared.events.Entry.{Entry}
@@ -21,7 +20,6 @@ use Rattle.known_laws.proofs.Conditions.{idle_is_closed}
 use Rattle.known_laws.proofs.KnownPasts.{known_past_is_kept}
 use Rattle.managed_heap.specs.declared.opening.Opened.{Opened}
 use Rattle.order_table.specs.declared.views.View.{View}
-use Rattle.order_table.specs.Rows.{at}
 use Rattle.order_table.specs.Views.{OrderId, Shown, known, Owns}
 use Rattle.order_table.proofs.Lines.{below_begins}
 use Rattle.joint_history.specs.Callers.{HoldsPass}
@@ -31,7 +29,6 @@ use Rattle.joint_history.specs.Locked.{Drew, ManagedKnows, StaysSeated}
 use Rattle.seat_calls.specs.Passing.{Lends, Returns}
 use Rattle.joint_history.proofs.DriverCalls.{Called, IsUnderLock, called, stands_anew}
 use Rattle.joint_history.proofs.DriverSteps.{DrivenUnder, driven}
-use Rattle.joint_history.proofs.LockedSteps.{grows_more, owns_on}
 
 -- no cycle is open
 pub may_snap : (side : ManagedReplay) (seen : Managed) → IsUnderLock side idle seen → side.managed.cycle ≡ None

@@ -1,4 +1,5 @@
-// The driver's steps of the managed side: each draws one entry by the locked seat, to which the driver's lines are lent.
+// The driver's steps of the managed side: each draws one entry by the locked seat, to which the driver's lines are
+// lent.
 
 ghost use Rattle.std.specs.Prelude.{◌≡◌, ◌≤◌, None, Some, IsSome, IfOk, OnErr, count_by, is_some};
 ghost use Rattle.joint_machine.specs.declared.names.Thread.TheVariants.{C};

@@ -2,9 +2,9 @@
 
 use joint_model::PastHistory;
 
-/// How many were made, and how many of them are left.
+/// How many were made in all, and how many of them are left.
 #[derive(Clone, Copy, PartialEq, Eq, Debug)]
-pub struct Made {
+pub struct Totals {
     pub all: u32,
     pub left: u32,
 }
@@ -16,7 +16,7 @@ pub struct Made {
 pub struct RunEnd {
     pub history: PastHistory,
     pub cycles: u32,
-    pub managed: Made,
-    pub peers: Made,
-    pub handles: Made,
+    pub managed: Totals,
+    pub peers: Totals,
+    pub handles: Totals,
 }

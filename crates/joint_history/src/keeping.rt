@@ -15,23 +15,23 @@ pub trait Keep<T>: Drop {
     fn into_value(self) -> T;
 
     /// The value in hand, until what is answered is dropped. It waits while somebody else has it.
-    fn hold<'a, R: Wait>(&'a self, rt: &R) -> Held<'a, T>;
+    fn hold<'a, R: Wait>(&'a self, rt: &R) -> InHand<'a, T>;
 }
 
 /// A value in hand.
 #[derive(Drop)]
-pub enum Held<'a, T> {
+pub enum InHand<'a, T> {
     Locked(MutexGuard<'a, T>),
     Borrowed(RefMut<'a, T>),
 }
 
-impl<'a, T> Held<'a, T> {
+impl<'a, T> InHand<'a, T> {
     /// The value.
     #[inline(always)]
     pub(crate) fn value(&mut self) -> &mut T {
         match self {
-            Held::Locked(guard) => &mut **guard,
-            Held::Borrowed(inside) => &mut **inside,
+            InHand::Locked(guard) => &mut **guard,
+            InHand::Borrowed(inside) => &mut **inside,
         }
     }
 }
@@ -47,10 +47,10 @@ impl<T: Drop> Keep<T> for Mutex<T> {
 
     // A free lock is taken right here, and only one that is held is waited for by a call.
     #[inline(always)]
-    fn hold<'a, R: Wait>(&'a self, rt: &R) -> Held<'a, T> {
+    fn hold<'a, R: Wait>(&'a self, rt: &R) -> InHand<'a, T> {
         match self.try_lock() {
-            Some(guard) => Held::Locked(guard),
-            None => Held::Locked(self.lock(rt)),
+            Some(guard) => InHand::Locked(guard),
+            None => InHand::Locked(self.lock(rt)),
         }
     }
 }
@@ -66,13 +66,13 @@ impl<T: Drop> Keep<T> for RefCell<T> {
 
     // A thread that has the cell alone, and the value not in hand, finds it free at once.
     #[inline(always)]
-    fn hold<'a, R: Wait>(&'a self, rt: &R) -> Held<'a, T> {
+    fn hold<'a, R: Wait>(&'a self, rt: &R) -> InHand<'a, T> {
         if let Ok(inside) = self.try_borrow_mut() {
-            return Held::Borrowed(inside);
+            return InHand::Borrowed(inside);
         }
         for _ in rt.forever() {
             if let Ok(inside) = self.try_borrow_mut() {
-                return Held::Borrowed(inside);
+                return InHand::Borrowed(inside);
             }
         }
         unreachable!()

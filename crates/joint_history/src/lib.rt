@@ -2,16 +2,16 @@
 //
 // The life of a run:
 //
-//     Order::new, Shared::new                        both sides without objects, and the desk at which a caller waits for each thread and for the driver
-//       Desk::caller                                 a thread's caller, given out once; whoever has it makes the thread's entries
-//         Shared::managed, peer                      an operation of the caller's thread: its events, one after another
-//         Shared::read_now, read_wait                a weak read of a managed thread, without a lock; `spare` and `reserve` are its room
+//     Order::new, Shared::new                      both sides without objects, and the desk with a caller for each thread
+//       Desk::caller                               a thread's caller, given out once, or the driver's
+//         Shared::managed, peer                    an operation of the caller's thread: its events, one after another
+//         Shared::read_now, read_wait              a weak read of a managed thread, without a lock
 //         Shared::snap, contracted, mirror, weaken,
-//         mark, sweep, restore, clear, resolve       an event of a cycle, by the driver's caller
-//         Shared::abandon, refused, finalise         what else the driver does
-//         Shared::tell                               one caller hears what another knows, without an entry
-//     Shared::finish                                 all callers are given back or wait at the desk: the history
-//     Shared::end                                    the same where no entry is read: the numbers of the last state
+//         mark, sweep, restore, clear, resolve     an event of a cycle, by the driver's caller
+//         Shared::abandon, refused, finalise       what else the driver does
+//         Shared::tell                             one caller hears what another knows, without an entry
+//     Shared::finish                               all callers are given back or wait at the desk: the history
+//     Shared::end                                  the same where no entry is read: the numbers of the last state
 //
 // A thread's whole use of it is `let receipt = shared.managed(rt, &mut caller, line, &act)?;` for each of its lines: a
 // [`Receipt`] has the reply, and the numbers of the first and the last entry.
@@ -63,7 +63,7 @@ mod steps;
 
 pub use callers::{Caller, Receipt};
 pub use desks::{Desk, thread_at};
-pub use ends::{Made, RunEnd};
+pub use ends::{RunEnd, Totals};
 pub use keeping::{Alone, Keeps, Locks};
 pub use managed::LockedManaged;
 pub use marks::Begun;

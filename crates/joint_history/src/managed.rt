@@ -208,7 +208,8 @@ impl<N: OrderName> LockedManaged<N> {
         (side, seat)
     }
 
-    /// Makes a step of the side for a caller, whose seat knows then what the side's does. Answers what the step answers.
+    /// Makes a step of the side for a caller, whose seat knows then what the side's does. Answers what the step
+    /// answers.
     #[inline(always)]
     pub(crate) fn make<T: Step<On = ManagedSide>>(
         &mut self,
@@ -220,7 +221,8 @@ impl<N: OrderName> LockedManaged<N> {
         requires order { (order.now ≡ N.order) × (mine.old.order ≡ N.order) }
         requires settled { Settled mine.old.view }
         requires pass { IsThread caller × HoldsPass caller mine.old.view }
-        requires fits { Fits 0 (KnowsManaged N.managed) caller mine.old.view (T.asks step) (T.drew step) (T.makes step) }
+        requires fits { Fits 0 (KnowsManaged N.managed) caller mine.old.view
+            (T.asks step) (T.drew step) (T.makes step) }
         ensures order { mine.new.order ≡ N.order }
         ensures settled { Settled mine.new.view }
         ensures pass { HoldsPass caller mine.new.view }

@@ -147,7 +147,8 @@ impl<N: OrderName> LockedPeer<N> {
         (side, seat)
     }
 
-    /// Makes a step of the side for a caller, whose seat knows then what the side's does. Answers what the step answers.
+    /// Makes a step of the side for a caller, whose seat knows then what the side's does. Answers what the step
+    /// answers.
     #[inline(always)]
     pub(crate) fn make<T: Step<On = PeerSide>>(
         &mut self,

@@ -18,7 +18,7 @@ ghost use Rattle.joint_history.specs.Ending.{HasEndNumbers, IsFinished, IsKnownH
 
 use crate::callers::{Caller, tell};
 use crate::desks::Desk;
-use crate::ends::{Made, RunEnd};
+use crate::ends::{RunEnd, Totals};
 use crate::gathers::gather_all;
 use crate::keeping::{Keep, Keeps};
 use crate::managed::LockedManaged;
@@ -217,15 +217,15 @@ impl<N: OrderName, K: Keeps<N>> Shared<N, K> {
     {
         let (left, right, readers) = self.take_all(desk, callers);
         let cycles = left.cycles();
-        let managed = Made {
+        let managed = Totals {
             all: left.made(),
             left: left.live(),
         };
-        let peers = Made {
+        let peers = Totals {
             all: right.made(),
             left: right.live(),
         };
-        let handles = Made {
+        let handles = Totals {
             all: right.handles_made(),
             left: right.tabled(),
         };

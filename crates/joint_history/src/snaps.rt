@@ -1,5 +1,5 @@
-// The driver's snapshot, a step of the managed side. The side takes all memory that it needs, then has the gate closed, and
-// then nothing fails.
+// The driver's snapshot, a step of the managed side. The side takes all memory that it needs, then has the gate closed,
+// and then nothing fails.
 
 ghost use Rattle.std.specs.Prelude.{◌≡◌, ◌^◌, ◌⊎◌, ◌≤◌, ◌∷◌, ℕ, IfErr, IfOk, None, OnErr, Some, slice_get};
 ghost use Rattle.joint_machine.specs.declared.names.Thread.TheVariants.{C};

@@ -37,6 +37,7 @@ returns-clause-drew c =
       drew = λ cs hs xs w2. (
           let a = w.adds cs hs xs w2 in
           let m = drew_managed _ _ c.args.seat.now c.contracted.new.draw.seat.now (as_side c.args.side.now) (as_side c.contracted.new.self)
-          (contract_made d.cycle c.args.self.index c.args.self.sccs c.args.self.xrefs) (contraction_of cs hs xs) a.draws.adds.number a.draws.adds.drawn.3 a.goes a.draws.adds.added refl _ a.draws.adds.drawn.2 in
+          (contract_made d.cycle c.args.self.index c.args.self.sccs c.args.self.xrefs)
+          (contraction_of cs hs xs) a.draws.adds.number a.draws.adds.drawn.3 a.goes a.draws.adds.added refl _ a.draws.adds.drawn.2 in
           search rules);
     }

@@ -69,7 +69,8 @@ returns-clause-drew c =
     let a = r.adds in
     let told = resolution_of (answers_of c.args.self.alive.now.values) r.freed in
     let m = drew_managed _ _ c.args.seat.now c.resolve-out.new.draw.seat.now (as_side c.args.side.now) (as_side c.resolve-out.new.self)
-    (resolve_made c.args.side.now.state.managed r.cycle c.args.self.index r.freed c.args.self.clear) told a.draws.adds.number a.draws.adds.drawn.3 a.goes a.draws.adds.added refl _ a.draws.adds.drawn.2 in
+    (resolve_made c.args.side.now.state.managed r.cycle c.args.self.index r.freed c.args.self.clear) told
+    a.draws.adds.number a.draws.adds.drawn.3 a.goes a.draws.adds.added refl _ a.draws.adds.drawn.2 in
     let e = c.settle_ended.ensures in
     record {
       cycle = r.cycle;

@@ -2,7 +2,6 @@ use Rattle.std.proofs.Common.{None, refl, arith, ◌∙◌}
 use Rattle.joint_machine.specs.declared.names.Thread.TheVariants.{C}
 use Rattle.joint_machine.specs.declared.events.Op.TheVariants as op
 use Rattle.joint_machine.specs.declared.events.Reply.TheVariants as says
-use Rattle.joint_machine.specs.Sides.{peer_rules}
 use Rattle.joint_machine.specs.Told.{nothing}
 use Rattle.peer_heap.specs.Sides.{seen}
 use Rattle.joint_history.specs.Driven.{driver_entry}

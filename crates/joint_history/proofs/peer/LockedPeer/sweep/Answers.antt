@@ -3,7 +3,6 @@ use Rattle.std.specs.Prelude.{IsSome}
 use Rattle.joint_machine.specs.declared.names.Thread.TheVariants.{C}
 use Rattle.joint_machine.specs.declared.events.Op.TheVariants as op
 use Rattle.joint_machine.specs.declared.events.Reply.TheVariants as says
-use Rattle.joint_machine.specs.Sides.{peer_rules}
 use Rattle.joint_machine.specs.Told.{sweep_of}
 use Rattle.peer_heap.specs.Sides.{seen}
 use Rattle.joint_history.specs.Driven.{driver_entry}
@@ -26,7 +25,8 @@ give_back-requires-clause-order g c = (c.draw_sweep-out.ensures.drew.drew.append
 pub give_back-requires-clause-pass : goal.give_back-requires-clause-pass
 give_back-requires-clause-pass g c = (
   tt,
-  (goes_further c.args.order.now c.lend.new.locked c.draw_sweep-out.new.seat 1 c.draw_sweep-out.ensures.drew.drew.kept c.draw_sweep-out.ensures.drew.drew.appends).owns 10 (c.lend.ensures.lent.lines 10 refl (c.requires.pass 10 refl)),
+  (goes_further c.args.order.now c.lend.new.locked c.draw_sweep-out.new.seat 1 c.draw_sweep-out.ensures.drew.drew.kept c.draw_sweep-out.ensures.drew.drew.appends).owns 10
+      (c.lend.ensures.lent.lines 10 refl (c.requires.pass 10 refl)),
 )
 
 pub give_back-requires-clause-more : goal.give_back-requires-clause-more
@@ -37,7 +37,8 @@ pub invariant_of-self : goal.invariant_of-self
 invariant_of-self g c =
     let d = did C c.self.inside.seat.view c.args.mine.now.view c.lend.new.locked.view c.lend.new.mine.view c.draw_sweep-out.new.seat.view c.give_back.new.locked.view c.give_back.new.mine.view 1 tt
     (omega arith) c.requires.pass c.self.invariant.1 c.lend.ensures.lent
-    ((goes_further c.args.order.now c.lend.new.locked c.draw_sweep-out.new.seat 1 c.draw_sweep-out.ensures.drew.drew.kept c.draw_sweep-out.ensures.drew.drew.appends).owns) c.give_back.ensures.returned in
+    ((goes_further c.args.order.now c.lend.new.locked c.draw_sweep-out.new.seat 1 c.draw_sweep-out.ensures.drew.drew.kept c.draw_sweep-out.ensures.drew.drew.appends).owns)
+    c.give_back.ensures.returned in
     let k = sweep_knows c.self.inside.seat.view c.args.mine.now.view c.lend.new.mine.view c.give_back.new.locked.view c.give_back.new.mine.view c.args.order.now c.lend.new.locked
     c.draw_sweep-out.new.seat (seen c.self.inside.side) (seen c.draw_sweep-out.new.side) c.args.index c.requires.pass c.self.invariant.1
     (omega (arith, c.ranges.index.fits)) c.self.invariant.2 c.lend.ensures.lent c.give_back.ensures.returned

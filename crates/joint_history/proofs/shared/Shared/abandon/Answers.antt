@@ -1,6 +1,5 @@
 use Rattle.std.proofs.Common.{◌<◌, ◌^◌, arith, ◌∙◌}
 use Rattle.joint_machine.specs.declared.names.Thread.TheVariants.{C}
-use Rattle.joint_machine.specs.Sides.{managed_rules}
 use Rattle.managed_heap.specs.Sides.{as_side}
 use Rattle.joint_history.proofs.DriverCalls.{abandon_knows, abandoning_made, may_abandon, under_lock}
 use Rattle.joint_history.proofs.Fitting.{goes_further, lent_managed}
@@ -19,8 +18,10 @@ drive_managed-requires-clause-fits g c =
         lent_managed _ C order mine lent mine1 s may.stands.known w,
       );
       further = λ order lent lent2 s s2 r d. goes_further order lent lent2 0 d.drew.kept d.drew.appends;
-      left = λ order lent lent2 mine1 locked2 mine2 s s2 r w d b.
-          ((abandon_knows w.locked mine mine1 locked2 mine2 order lent lent2 (as_side s) (as_side s2) index w.pass w.owns short w.known_side.0 w.lends b r d may, d.threads ∙ w.known_side.1), abandoning_made w.locked mine mine1 locked2 mine2 order lent lent2 (as_side s) (as_side s2) index w.pass w.owns short w.known_side.0 w.lends b r d);
+      left = λ order lent lent2 mine1 locked2 mine2 s s2 r w d b. (
+        (abandon_knows w.locked mine mine1 locked2 mine2 order lent lent2 (as_side s) (as_side s2) index w.pass w.owns short w.known_side.0 w.lends b r d may, d.threads ∙ w.known_side.1),
+        abandoning_made w.locked mine mine1 locked2 mine2 order lent lent2 (as_side s) (as_side s2) index w.pass w.owns short w.known_side.0 w.lends b r d,
+      );
     }
 
 pub drive_managed-requires-clause-knows : goal.drive_managed-requires-clause-knows

@@ -1,7 +1,6 @@
 use Rattle.std.proofs.Common.{◌<◌, ◌^◌, refl, arith, ◌∙◌}
 use Rattle.joint_machine.specs.declared.names.Thread.TheVariants.{C}
 use Rattle.joint_machine.specs.Control.{snapped}
-use Rattle.joint_machine.specs.Sides.{managed_rules}
 use Rattle.managed_heap.specs.Calls.{contract_op}
 use Rattle.managed_heap.specs.Sides.{as_side}
 use Rattle.joint_history.proofs.DriverCalls.{contraction_knows, contraction_made, may_contract_with, under_lock}
@@ -24,7 +23,11 @@ drive_managed-requires-clause-fits g c =
       );
       further = λ order lent lent2 s s2 r d. (let q = (d.drew d.comps d.heavy d.pairs d.contracted) in goes_further order lent lent2 0 q.kept q.appends);
       left = λ order lent lent2 mine1 locked2 mine2 s s2 r w d b. (
-        (contraction_knows w.locked mine mine1 locked2 mine2 order lent lent2 (as_side s) (as_side s2) index w.pass w.owns short w.known_side.0 w.lends b c.args.sccs c.args.xrefs r d may, d.threads ∙ w.known_side.1),
+        (
+          contraction_knows w.locked mine mine1 locked2 mine2 order lent lent2 (as_side s) (as_side s2) index w.pass w.owns short w.known_side.0 w.lends b c.args.sccs c.args.xrefs r d may,
+          d.threads
+              ∙ w.known_side.1,
+        ),
         contraction_made w.locked mine mine1 locked2 mine2 order lent lent2 (as_side s) (as_side s2) index w.pass w.owns short w.known_side.0 w.lends b c.args.sccs c.args.xrefs r d,
       );
     }

@@ -1,7 +1,6 @@
-use Rattle.std.proofs.Common.{sym, ap, subst}
+use Rattle.std.proofs.Common.{sym, subst}
 use Rattle.joint_machine.specs.declared.names.Thread.TheVariants.{C}
 use Rattle.joint_machine.specs.Lines.{IsDriver}
-use Rattle.order_table.specs.declared.views.View.{View}
 use Rattle.joint_history.specs.Callers.{Pass}
 use Rattle.joint_history.specs.Steps.{Fits, KnowsPeers}
 use Rattle.joint_history.proofs.DriverCallers.{driver_called}

@@ -2,7 +2,6 @@ use Rattle.std.proofs.Common.{ℕ, ◌≡◌, ◌<◌, ◌^◌, refl, arith, ◌
 use Rattle.joint_machine.specs.declared.names.Thread.TheVariants.{C}
 use Rattle.joint_machine.specs.declared.events.Op.TheVariants as op
 use Rattle.joint_machine.specs.Control.{contracted}
-use Rattle.joint_machine.specs.Sides.{peer_rules}
 use Rattle.peer_heap.specs.Sides.{seen}
 use Rattle.joint_history.specs.DriverMirrors.{DrawsMirror, MakesMirror}
 use Rattle.joint_history.proofs.DriverCallers.{known_either}

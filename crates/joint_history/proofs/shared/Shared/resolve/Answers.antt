@@ -1,7 +1,6 @@
 use Rattle.std.proofs.Common.{◌<◌, ◌^◌, arith, ◌∙◌}
 use Rattle.joint_machine.specs.declared.names.Thread.TheVariants.{C}
 use Rattle.joint_machine.specs.Control.{restored}
-use Rattle.joint_machine.specs.Sides.{managed_rules}
 use Rattle.joint_model.specs.Listed.{answers_of}
 use Rattle.managed_heap.specs.Sides.{as_side}
 use Rattle.joint_history.proofs.DriverCalls.{may_close, resolution_knows, resolution_made, under_lock}
@@ -24,7 +23,11 @@ drive_managed-requires-clause-fits g c =
       );
       further = λ order lent lent2 s s2 r d. goes_further order lent lent2 0 d.drew.kept d.drew.appends;
       left = λ order lent lent2 mine1 locked2 mine2 s s2 r w d b. (
-        (resolution_knows w.locked mine mine1 locked2 mine2 order lent lent2 (as_side s) (as_side s2) index w.pass w.owns short w.known_side.0 w.lends b c.args.clear r.0 alive r.1 d may, d.threads ∙ w.known_side.1),
+        (
+          resolution_knows w.locked mine mine1 locked2 mine2 order lent lent2 (as_side s) (as_side s2) index w.pass w.owns short w.known_side.0 w.lends b c.args.clear r.0 alive r.1 d may,
+          d.threads
+              ∙ w.known_side.1,
+        ),
         (resolution_made w.locked mine mine1 locked2 mine2 order lent lent2 (as_side s) (as_side s2) index w.pass w.owns short w.known_side.0 w.lends b c.args.clear r.0 alive r.1 d, d.kept),
       );
     }

@@ -1,7 +1,6 @@
 use Rattle.std.proofs.Common.{◌≡◌, ◌<◌, ◌^◌, arith, ◌∙◌}
 use Rattle.joint_machine.specs.declared.names.Thread.TheVariants.{C}
 use Rattle.joint_machine.specs.Control.{idle}
-use Rattle.joint_machine.specs.Sides.{managed_rules}
 use Rattle.managed_heap.specs.Sides.{as_side}
 use Rattle.joint_history.specs.DriverSnaps.{DrawsSnapshot, MakesSnapshot}
 use Rattle.joint_history.proofs.DriverCallers.{known_either}

@@ -3,7 +3,6 @@ use Rattle.joint_machine.specs.declared.names.Thread.TheVariants.{C}
 use Rattle.joint_machine.specs.declared.events.Op.TheVariants as op
 use Rattle.joint_machine.specs.declared.events.Reply.TheVariants as says
 use Rattle.joint_machine.specs.Control.{weakening}
-use Rattle.joint_machine.specs.Sides.{peer_rules}
 use Rattle.joint_machine.specs.Told.{nothing}
 use Rattle.peer_heap.specs.Sides.{seen}
 use Rattle.joint_history.specs.Driven.{driver_entry}
@@ -33,7 +32,9 @@ drive_peers-requires-clause-fits g c =
         (
           weaken_knows w.locked mine mine1 locked2 mine2 order lent lent2 (seen s) (seen s2) index w.pass w.owns short w.known_side.0 w.lends b r c.args.snap c.args.h d.2 may,
           drew_reserves C w.locked mine mine1 locked2 mine2 order lent lent2 s s2 (driver_entry r index (op.Weaken c.args.h) says.Ok (Some c.args.snap)) nothing
-              w.known_side.0 w.known_side.1 w.lends d.2 b (weaken_kept order lent lent2 s s2 r index c.args.h c.args.snap d.2 d.1 (weakening_has_room w.locked mine lent.view mine1 s index may.opened may.count c.args.h.0 may.weakened false may.seen w.pass w.owns w.known_side.0 w.known_side.1 may.stands may.next w.lends)),
+              w.known_side.0 w.known_side.1 w.lends d.2 b (weaken_kept order lent lent2 s s2 r index c.args.h c.args.snap d.2 d.1
+              (weakening_has_room w.locked mine lent.view mine1 s index may.opened may.count c.args.h.0 may.weakened
+              false may.seen w.pass w.owns w.known_side.0 w.known_side.1 may.stands may.next w.lends)),
           d.0 ∙ w.known_side.2,
         ),
         weaken_made w.locked mine mine1 locked2 mine2 order lent lent2 (seen s) (seen s2) index w.pass w.owns short w.known_side.0 w.lends b r c.args.snap c.args.h d.2,
