@@ -1,2 +1,4 @@
 mod Nodes
+mod Edges
+mod Carrying
 mod Seeing

@@ -1,5 +1,5 @@
 -- What is seen goes on by one entry.
-use Rattle.std.proofs.Common.{◌≡◌, ℕ, zero, suc, ◌+◌, ◌<◌, ◌≤◌, List, [], ◌∷◌, ◌++◌, Bool, true, false, Some, None, length, Result, Ok, Err, take, refl, sym, subst, ◌∙◌, arith}
+use Rattle.std.proofs.Common.{◌≡◌, ℕ, zero, suc, ◌+◌, ◌<◌, ◌≤◌, List, [], ◌∷◌, ◌++◌, Bool, true, false, Some, None, length, Result, Ok, Err, take, refl, sym, subst, arith}
 use Rattle.std.specs.Prelude.{IfOk, slice_get}
 use Rattle.joint_machine.specs.declared.events.Entry.{Entry}
 use Rattle.joint_machine.specs.Histories.{Finished}
@@ -7,7 +7,7 @@ use Rattle.joint_machine.proofs.Members.{take-next}
 use Rattle.joint_replay.specs.declared.state.Verdict.{Verdict}
 use Rattle.joint_replay.specs.declared.state.Verdict.TheVariants.{Lawful, Unlawful}
 use Rattle.joint_replay.specs.Judging.{Judges}
-use Rattle.heap_views.specs.Views.{GoesOn, IsSeenOn, IsStuck, Moves, MovesOn, Rests, Seen, StepBy, View, ViewStep, is_lawful, is_step, opening_view}
+use Rattle.heap_views.specs.Views.{GoesOn, IsSeenOn, IsStuck, MovesOn, Seen, StepBy, View, ViewStep, is_lawful, is_step, opening_view}
 
 pub if_ok : {T E : Type 0} (r : Result T E) (P Q : T → Type 0) → ((t : T) → P t → Q t) → IfOk r P → IfOk r Q
 if_ok (Ok t) P Q f p = f t p

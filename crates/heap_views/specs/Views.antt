@@ -14,6 +14,7 @@ use Rattle.joint_machine.specs.Readers.{is_set_aside}
 use Rattle.joint_replay.specs.declared.state.Verdict.{Verdict}
 use Rattle.joint_replay.specs.declared.state.Verdict.TheVariants.{Lawful, Unlawful}
 use Rattle.joint_replay.specs.Judging.{IsStepOf}
+use Rattle.heap_views.specs.Mirrored.{AreMirrored}
 
 -- `weakened` has the handles that cycles made weak, in that order
 pub record View : Type 0 where
@@ -34,17 +35,17 @@ abbrev pub weakened_after : List ℕ → Op → List ℕ
 weakened_after hs (op.Weaken h) = hs ++ h.0 ∷ []
 weakened_after hs _ = hs
 
--- the references that stand after an event: a mirror adds some, and a clear removes them
-abbrev pub RefsAfter : List (End × End) → Op → List (End × End) → Type 0
-RefsAfter refs (op.Mirror k) next = Unit {0}
-RefsAfter refs (op.Clear k) next = next ≡ []
-RefsAfter refs _ next = next ≡ refs
+-- the references that stand after an event: a mirror adds those of the dead part, and a clear removes them
+abbrev pub RefsAfter : View → Op → List (End × End) → Type 0
+RefsAfter old (op.Mirror k) next = AreMirrored old.joint.graph next
+RefsAfter old (op.Clear k) next = next ≡ []
+RefsAfter old _ next = next ≡ old.refs
 
 -- what is seen after an entry that is no step of the joint machine
 pub record Rests (e : Entry) (old new : View) : Type 0 where
   pub joint : new.joint ≡ old.joint
   pub weakened : new.weakened ≡ weakened_after old.weakened e.made.op
-  pub refs : RefsAfter old.refs e.made.op new.refs
+  pub refs : RefsAfter old e.made.op new.refs
 
 -- and after one that is
 pub record Moves (h : Finished) (e : Entry) (old new : View) : Type 0 where

@@ -116,7 +116,7 @@ impl HeapView {
     fn rest(&mut self, op: &Op) -> Result<(), AllocError>
         ensures joint { OnOk result (self.new.joint ≡ self.old.joint) }
         ensures weakened { OnOk result (self.new.weakened ≡ weakened_after self.old.weakened op.now) }
-        ensures refs { OnOk result (RefsAfter self.old.refs op.now self.new.refs) }
+        ensures refs { OnOk result (RefsAfter self.old op.now self.new.refs) }
     {
         match op {
             Op::Weaken { h } => self.weakened.push(h.0)?,

@@ -1,5 +1,4 @@
-use Rattle.std.proofs.Common.{◌≡◌, Bool, refl, sym, subst}
-use Rattle.heap_views.specs.Views.{MovesOn}
+use Rattle.std.proofs.Common.{refl}
 use Rattle.heap_views.proofs.Seeing.{judged}
 use Rattle.heap_views.proofs.views.HeapView.judge.Goals as goal
 
