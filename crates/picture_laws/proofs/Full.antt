@@ -1,14 +1,14 @@
 -- Each edge of the joint machine is drawn, and each root that isn't freed has its box; so what is reached has a path.
-use Rattle.std.proofs.Common.{◌≡◌, ℕ, zero, suc, ◌+◌, ◌<◌, ◌≤◌, ◌⊎◌, inl, inr, Bool, true, false, ◌&&◌, not, if◌then◌else◌, List, [], ◌∷◌, ◌++◌, length, Option, Some, None, refl, sym, ap, subst, ◌∙◌}
+use Rattle.std.proofs.Common.{◌≡◌, ℕ, zero, suc, ◌⊎◌, inl, inr, Bool, true, false, ◌&&◌, not, if◌then◌else◌, List, [], ◌∷◌, ◌++◌, length, Option, Some, None, refl, sym, ap, subst, ◌∙◌}
 use Rattle.std.proofs.Common.{arith}
-use Rattle.std.specs.Prelude.{Contains, slice_get}
+use Rattle.std.specs.Prelude.{Contains}
 use Rattle.std.specs.List.{range_with_len}
 use Rattle.std.proofs.lemmas.Option.{slice_get_within}
-use Rattle.joint_machine.specs.Heaps.{Heap, IsLive, HasField, InSlot, fields_of, numbered_at, slot}
+use Rattle.joint_machine.specs.Heaps.{Heap, IsLive, HasField, fields_of, numbered_at, slot}
 use Rattle.joint_machine.specs.Joint.{Graph, Row, object, peer, IsJoined, IsJointRoot, IsRawRoot, IsLooseRoot, IsReachedIn, JointEdge}
-use Rattle.joint_machine.specs.Managed.{Managed, Holds, handle_of}
-use Rattle.joint_machine.specs.Peers.{Hold, held, raw, Strength, strong, weak, Issued, is_held, is_strong, peer_of}
-use Rattle.joint_machine.specs.Walks.{Reaches, Reached, Walks}
+use Rattle.joint_machine.specs.Managed.{Holds, handle_of}
+use Rattle.joint_machine.specs.Peers.{Hold, Strength, Issued, is_held, is_strong, peer_of}
+use Rattle.joint_machine.specs.Walks.{Walks}
 use Rattle.joint_machine.proofs.HeapLemmas.{Holds-handle_of}
 use Rattle.joint_machine.proofs.Members.{Contains-nil, Contains-here, Contains-flat_map, Contains-flat_map_cases, at-Contains}
 use Rattle.joint_machine.proofs.Numbered.{numbered-within}
@@ -32,7 +32,7 @@ use Rattle.heap_pictures.specs.Drawing.{all_slots, arrows_of, box_arrow, box_of,
 use Rattle.heap_pictures.specs.Drawing.{is_there, numbers_to, object_arrows, owned, ref_arrows, slot_arrow, slot_arrows, spot_of, target_of, tie, ties}
 use Rattle.heap_pictures.specs.Flags.{is_in}
 use Rattle.picture_laws.specs.Laws.{IsLiveRow}
-use Rattle.picture_laws.specs.Paths.{BeginsAt, IsBox, IsPathTo, IsWay, Leads, spot_of_row}
+use Rattle.picture_laws.specs.Paths.{BeginsAt, IsPathTo, IsWay, Leads, spot_of_row}
 use Rattle.picture_laws.proofs.Nodes.{in_range, one_in, end_walk, in1, in2, in3, in4, in5}
 
 if_true : {A : Type 0} (b : Bool) (xs ys : A) → b ≡ true → (if b then xs else ys) ≡ xs

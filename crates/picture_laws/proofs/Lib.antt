@@ -2,3 +2,8 @@ mod Nodes
 mod Sound
 mod Full
 mod Tell
+mod Standing
+mod OneStep
+mod Going
+mod InOrder
+mod Seeing

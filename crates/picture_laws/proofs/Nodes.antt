@@ -1,12 +1,12 @@
 -- A node for each unfreed row: the numbers from 1 on are asked one by one, and a number has a node exactly where it is
 -- a live row's.
-use Rattle.std.proofs.Common.{◌≡◌, ℕ, zero, suc, ◌+◌, ◌<◌, ◌≤◌, ◌⊎◌, inl, inr, Bool, true, false, if◌then◌else◌, List, [], ◌∷◌, ◌++◌, length, map, cond, refl, sym, ap, subst, ◌∙◌, arith}
+use Rattle.std.proofs.Common.{◌≡◌, ℕ, zero, suc, ◌+◌, ◌<◌, ◌≤◌, ◌⊎◌, inl, inr, Bool, true, false, if◌then◌else◌, List, [], ◌∷◌, ◌++◌, map, cond, refl, sym, subst, arith}
 use Rattle.std.specs.Prelude.{Contains, All, flat_map, filter}
 use Rattle.std.specs.List.{range_with_len}
 use Rattle.std.proofs.lemmas.List.Elements.{All-nil, All-cons, Contains-append_cases, Contains-append_left, Contains-append_right}
 use Rattle.joint_machine.specs.Components.{Rises}
 use Rattle.joint_machine.specs.Walks.{Walks}
-use Rattle.joint_machine.proofs.Members.{Contains-nil, Contains-here, Contains-there, Contains-cons_cases, Contains-flat_map, Contains-flat_map_cases, Contains-map, Contains-map_cases}
+use Rattle.joint_machine.proofs.Members.{Contains-nil, Contains-here, Contains-there, Contains-cons_cases}
 
 -- a list that has one element where a test passes, and else none
 pub one_in : {A : Type 0} (b : Bool) (x : A) → b ≡ true → Contains (if b then x ∷ [] else []) x

@@ -1,14 +1,13 @@
 -- Each arrow over which a path goes is an edge of the joint machine, and each box holds one of its roots; so a path
 -- leads to what is reached.
-use Rattle.std.proofs.Common.{◌≡◌, ℕ, ◌+◌, ◌⊎◌, inl, inr, Bool, true, false, ◌&&◌, not, if◌then◌else◌, List, [], ◌∷◌, ◌++◌, length, Option, Some, None, refl, sym, ap, subst, ◌∙◌, arith}
+use Rattle.std.proofs.Common.{◌≡◌, ℕ, inl, inr, Bool, true, false, ◌&&◌, not, if◌then◌else◌, List, [], ◌∷◌, ◌++◌, length, Option, Some, None, refl, sym, ap, subst, ◌∙◌, arith}
 use Rattle.std.specs.Prelude.{Contains, slice_get}
 use Rattle.std.specs.List.{range_with_len}
-use Rattle.joint_machine.specs.Components.{End}
-use Rattle.joint_machine.specs.Heaps.{Heap, IsLive, HasField, InSlot, fields_of, numbered_at, slot}
-use Rattle.joint_machine.specs.Joint.{Joint, Graph, Row, object, peer, IsJoined, IsJointRoot, IsRawRoot, IsLooseRoot, IsReachedIn, JointEdge}
-use Rattle.joint_machine.specs.Managed.{Managed, Holds, handle_of}
+use Rattle.joint_machine.specs.Heaps.{Heap, IsLive, HasField, fields_of, numbered_at, slot}
+use Rattle.joint_machine.specs.Joint.{Joint, Graph, Row, object, peer, IsJoined, IsJointRoot, IsReachedIn, JointEdge}
+use Rattle.joint_machine.specs.Managed.{Holds, handle_of}
 use Rattle.joint_machine.specs.Peers.{Hold, held, raw, Strength, strong, weak, Issued, is_held, is_strong, peer_of}
-use Rattle.joint_machine.specs.Walks.{Reaches, Reached, Walks}
+use Rattle.joint_machine.specs.Walks.{Walks}
 use Rattle.joint_machine.proofs.HeapLemmas.{Holds-handle_of}
 use Rattle.joint_machine.proofs.Members.{Contains-nil, Contains-cons_cases, Contains-at, Contains-flat_map, Contains-flat_map_cases}
 use Rattle.joint_laws.proofs.DriverPeerSteps.{holds-handle_of}
@@ -28,10 +27,10 @@ use Rattle.heap_pictures.specs.declared.pictures.Spot.{Spot}
 use Rattle.heap_pictures.specs.declared.pictures.Spot.TheVariants.{Object, Peer, Handle, Slot, Temporary}
 use Rattle.heap_pictures.specs.declared.pictures.Style.{Style}
 use Rattle.heap_pictures.specs.declared.pictures.Style.TheVariants.{Full, Weak, Cleared, Gone}
-use Rattle.heap_pictures.specs.Drawing.{all_slots, arrows_of, box_arrow, box_of, boxes, drawing_of, field_arrow, field_arrows, grip_style, handle_list, held_arrow, is_box, is_tabled, is_there}
+use Rattle.heap_pictures.specs.Drawing.{all_slots, arrows_of, box_of, boxes, drawing_of, field_arrow, field_arrows, grip_style, handle_list, held_arrow, is_box, is_tabled, is_there}
 use Rattle.heap_pictures.specs.Drawing.{numbers_to, object_arrows, owned, ref_arrow, ref_arrows, slot_arrow, slot_arrows, spot_of, target_of, tie, ties}
 use Rattle.heap_pictures.specs.Flags.{is_in}
-use Rattle.picture_laws.specs.Paths.{BeginsAt, IsBox, IsPathTo, IsWay, Leads, spot_of_row}
+use Rattle.picture_laws.specs.Paths.{BeginsAt, IsPathTo, IsWay, Leads, spot_of_row}
 use Rattle.picture_laws.proofs.Nodes.{in_range, in_one, end_walk, six_cases}
 
 -- a slot that is filled stands in the list

@@ -1,10 +1,8 @@
 -- The nodes of a picture, and its paths.
-use Rattle.std.proofs.Common.{◌≡◌, ◌↔◌, ℕ, ◌+◌, Bool, true, false, List, [], ◌∷◌, length, map, refl, sym, subst, ◌∙◌, arith}
+use Rattle.std.proofs.Common.{◌≡◌, ◌↔◌, ℕ, length, map, refl, arith}
 use Rattle.std.specs.Prelude.{Contains, filter}
-use Rattle.std.specs.List.{flat_map, range_with_len}
-use Rattle.joint_machine.specs.Components.{Rises}
 use Rattle.joint_machine.specs.Heaps.{Heap, IsLive, numbered_at}
-use Rattle.joint_machine.specs.Joint.{Row, object, peer}
+use Rattle.joint_machine.specs.Joint.{object, peer}
 use Rattle.joint_machine.specs.Peers.{sort_of}
 use Rattle.joint_machine.proofs.Members.{Contains-filter_from, Contains-filter_to, Rises-filter}
 use Rattle.joint_replay.specs.Plain.{is_live}

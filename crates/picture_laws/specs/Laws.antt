@@ -1,10 +1,9 @@
 -- What is so of every picture.
-use Rattle.std.specs.Prelude.{◌≡◌, ◌↔◌, ℕ, length, map}
+use Rattle.std.specs.Prelude.{◌≡◌, ◌↔◌, length, map}
 use Rattle.joint_machine.specs.Components.{Rises}
 use Rattle.joint_machine.specs.Heaps.{IsLive}
 use Rattle.joint_machine.specs.Joint.{Joint, Row, object, peer, IsReached}
 use Rattle.heap_views.specs.Views.{View}
-use Rattle.heap_pictures.specs.Pictures.{Drawing}
 use Rattle.heap_pictures.specs.Drawing.{drawing_of}
 use Rattle.picture_laws.specs.Paths.{HasNode, IsPathTo, spot_of_row}
 

@@ -1,2 +1,4 @@
 pub mod Paths
 pub mod Laws
+pub mod Standing
+pub mod Seeing

@@ -1,5 +1,5 @@
 -- Paths in a picture: over which arrows one goes, and where one begins.
-use Rattle.std.specs.Prelude.{◌≡◌, ◌⊎◌, ℕ, List, Contains, map}
+use Rattle.std.specs.Prelude.{◌≡◌, ◌⊎◌, Contains, map}
 use Rattle.joint_machine.specs.Joint.{Row, object, peer}
 use Rattle.joint_machine.specs.Walks.{Reached}
 use Rattle.heap_pictures.specs.declared.pictures.Arrow.{Arrow}
