@@ -1,3 +1,6 @@
+mod Keeping
+mod Keyed
 mod Named
 mod Nearing
 mod Sameness
+mod Stocked

@@ -1,6 +1,5 @@
 -- Whether a sheet has a node of a name, by the test of each of its pictures.
-use Rattle.std.proofs.Common.{◌≡◌, ◌⊎◌, inl, inr, ℕ, Bool, true, false, ◌||◌, List, refl, sym, ap, ◌∙◌}
-use Rattle.std.specs.Prelude.{Contains}
+use Rattle.std.proofs.Common.{◌≡◌, inl, inr, ℕ, Bool, true, false, ◌||◌, refl, sym, ◌∙◌}
 use Rattle.heap_pictures.specs.declared.pictures.Side.{Side}
 use Rattle.heap_pictures.specs.Flags.{is_in}
 use Rattle.picture_sheets.specs.Around.{HasNamed, nodes_of}

@@ -1,5 +1,5 @@
 -- What is the same by its test is the same.
-use Rattle.std.proofs.Common.{◌≡◌, ◌⊎◌, inl, inr, ℕ, zero, suc, Bool, true, false, ◌&&◌, ◌||◌, nat_eq, List, [], ◌∷◌, refl, sym, ap, subst, ◌∙◌, arith}
+use Rattle.std.proofs.Common.{◌≡◌, inl, inr, ℕ, zero, suc, Bool, true, false, ◌&&◌, ◌||◌, nat_eq, List, [], ◌∷◌, refl, sym, ap, subst, ◌∙◌, arith}
 use Rattle.std.specs.Prelude.{Contains}
 use Rattle.std.specs.List.{list_any}
 use Rattle.std.proofs.lemmas.Bool.{eqb-true}
@@ -34,7 +34,7 @@ slots-back slots.Names = refl
 slots-same : (s t : Slots) → same_slots s t ≡ true → s ≡ t
 slots-same s t e = sym (slots-back s) ∙ (ap slots_of (eqb-true (slots_number s) (slots_number t) e) ∙ slots-back t)
 
-pub both : (a b : Bool) → (a && b) ≡ true → (a ≡ true) × (b ≡ true)
+both : (a b : Bool) → (a && b) ≡ true → (a ≡ true) × (b ≡ true)
 both true b e = (refl, e)
 both false b e = cc
 
@@ -67,7 +67,7 @@ spot-same (spot.Temporary i) (spot.Peer p) e = cc
 spot-same (spot.Temporary i) (spot.Handle h) e = cc
 spot-same (spot.Temporary i) (spot.Slot s j) e = cc
 
-spot-self : (x : Spot) → same_spot x x ≡ true
+pub spot-self : (x : Spot) → same_spot x x ≡ true
 spot-self (spot.Object m) = nat-self m
 spot-self (spot.Peer p) = nat-self p
 spot-self (spot.Handle h) = nat-self h
@@ -75,7 +75,7 @@ spot-self (spot.Slot s i) = ap (λ b. b && nat_eq i i) (nat-self (slots_number s
 spot-self (spot.Temporary i) = nat-self i
 
 -- a list has what its test finds
-pub any-of : {A : Type 0} (same : A → A → Bool) → ((x : A) → same x x ≡ true) → (x : A) (xs : List A) → Contains xs x → list_any (same x) xs ≡ true
+any-of : {A : Type 0} (same : A → A → Bool) → ((x : A) → same x x ≡ true) → (x : A) (xs : List A) → Contains xs x → list_any (same x) xs ≡ true
 any-of same self x [] c = absurd (Contains-nil x c)
 any-of {A} same self x (y ∷ ys) c = elim (Contains-cons_cases y ys x c) [
   | inl e ↦ here y e
@@ -88,12 +88,6 @@ any-of {A} same self x (y ∷ ys) c = elim (Contains-cons_cases y ys x c) [
     there : (b : Bool) → list_any (same x) ys ≡ true → (b || list_any (same x) ys) ≡ true
     there true e = refl
     there false e = e
-
-pub spot-in : (x : Spot) (xs : List Spot) → Contains xs x → list_any (same_spot x) xs ≡ true
-spot-in x xs c = any-of same_spot spot-self x xs c
-
-pub in-spot : (x : Spot) (xs : List Spot) → list_any (same_spot x) xs ≡ true → Contains xs x
-in-spot x xs e = Contains-from_any {eq = same_spot} spot-same x xs e
 
 pub number-in : (n : ℕ) (ns : List ℕ) → Contains ns n → list_any (nat_eq n) ns ≡ true
 number-in n ns c = any-of nat_eq nat-self n ns c

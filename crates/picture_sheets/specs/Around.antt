@@ -1,14 +1,12 @@
 -- What lies around a node: all that one comes to from it over at most so many of the arrows drawn, either way, and the
 -- arrows between.
-use Rattle.std.specs.Prelude.{◌≡◌, ◌⊎◌, ◌↔◌, ℕ, zero, suc, Bool, true, ◌&&◌, List, ◌++◌, Contains, filter, Option, Some}
-use Rattle.std.specs.Prelude.{None}
+use Rattle.std.specs.Prelude.{◌≡◌, ◌⊎◌, ◌↔◌, ℕ, zero, suc, Bool, true, ◌&&◌, List, ◌++◌, Contains, filter}
 use Rattle.heap_pictures.specs.declared.pictures.Arrow.{Arrow}
 use Rattle.heap_pictures.specs.declared.pictures.Arrow.TheVariants as arrow
 use Rattle.heap_pictures.specs.declared.pictures.Side.{Side}
 use Rattle.heap_pictures.specs.declared.pictures.Side.TheVariants.{Managed, Peers}
 use Rattle.heap_pictures.specs.declared.pictures.Spot.{Spot}
 use Rattle.heap_pictures.specs.declared.pictures.Spot.TheVariants.{Object, Peer, Handle}
-use Rattle.heap_pictures.specs.Drawing.{spot_of}
 use Rattle.heap_pictures.specs.Pictures.{Drawing}
 use Rattle.picture_sheets.specs.Sheets.{Sheet, objects_in, peers_in}
 

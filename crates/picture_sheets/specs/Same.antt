@@ -1,5 +1,5 @@
 -- When two ends of arrows, and two arrows, are the same: all that they have is.
-use Rattle.std.specs.Prelude.{ℕ, Bool, true, false, ◌&&◌, nat_eq}
+use Rattle.std.specs.Prelude.{ℕ, Bool, false, ◌&&◌, nat_eq}
 use Rattle.heap_pictures.specs.declared.pictures.Arrow.{Arrow}
 use Rattle.heap_pictures.specs.declared.pictures.Arrow.TheVariants as arrow
 use Rattle.heap_pictures.specs.declared.pictures.Slots.{Slots}

@@ -1,129 +1,53 @@
 // What two pictures have in common, and what one of them alone has.
 
-ghost use Rattle.std.specs.Prelude.{◌≡◌, IfOk, filter, not};
-ghost use Rattle.heap_pictures.specs.Flags.{is_in};
-ghost use Rattle.picture_sheets.specs.Sheets.{compared, has_arrow, has_object, has_peer, lone, objects_in, peers_in};
-ghost use Rattle.picture_sheets.specs.Sheets.{shared};
+ghost use Rattle.std.specs.Prelude.{◌≡◌, IfOk, filter};
+ghost use Rattle.heap_pictures.specs.Pictures.{Drawing};
+ghost use Rattle.picture_sheets.specs.Keys.{has_key, is_wanted};
+ghost use Rattle.picture_sheets.specs.Sheets.{compared, lone, shared};
+ghost use Rattle.picture_sheets.specs.Stocks.{IsStockOf};
 
-use crate::searches::{has_arrow, has_number};
+use crate::keys::{ArrowKey, SpotKey, arrow_set, has_arrow, object_set, peer_set};
+use crate::parts::{is_wanted, keep, objects_of, peers_of};
 use crate::sheets::Sheet;
-use heap_pictures::{Arrow, ObjectNode, PeerNode, Picture};
+use heap_pictures::{Arrow, Picture};
 use std::alloc::{AllocError, Global};
+use std::collections::BTreeSet;
 
-/// The names of a picture's objects.
-pub(crate) fn objects_in(alloc: Global, picture: &Picture) -> Result<Vec<u32>, AllocError>
-    ensures { IfOk result (λ v. v.items ≡ objects_in picture.now) }
-{
-    let mut names = Vec::new(alloc);
-    for node in picture.objects() {
-        names.push(node.m)?;
-    }
-    Ok(names)
+// What a picture has, to be looked up.
+#[derive(Drop)]
+struct Stock {
+    objects: BTreeSet<SpotKey>,
+    peers: BTreeSet<SpotKey>,
+    arrows: BTreeSet<ArrowKey>,
 }
 
-/// And of its peers.
-pub(crate) fn peers_in(alloc: Global, picture: &Picture) -> Result<Vec<u32>, AllocError>
-    ensures { IfOk result (λ v. v.items ≡ peers_in picture.now) }
+// The stock of a picture.
+fn stock_of(alloc: Global, picture: &Picture) -> Result<Stock, AllocError>
+    ensures { IfOk result (λ s. IsStockOf picture.now s) }
 {
-    let mut names = Vec::new(alloc);
-    for node in picture.peers() {
-        names.push(node.p)?;
-    }
-    Ok(names)
+    Ok(Stock {
+        objects: object_set(alloc, picture.objects())?,
+        peers: peer_set(alloc, picture.peers())?,
+        arrows: arrow_set(alloc, picture.arrows())?,
+    })
 }
 
-// The nodes of objects with one of these names.
-fn shared_objects(
+// The arrows in a set, or where `wanted` is false those that aren't.
+fn arrows_of(
     alloc: Global,
-    nodes: &[ObjectNode],
-    names: &[u32],
-) -> Result<Vec<ObjectNode>, AllocError>
-    ensures { IfOk result (λ v. v.items ≡ filter (λ n. is_in names.now n.m) nodes.now) }
+    arrows: &[Arrow],
+    set: &BTreeSet<ArrowKey>,
+    wanted: bool,
+) -> Result<Vec<Arrow>, AllocError>
+    ensures { IfOk result (λ v. v.items ≡ filter (λ a. is_wanted wanted (has_key set.now a)) arrows.now) }
 {
-    let mut hint = 0;
-    let mut found = Vec::new(alloc);
-    for node in nodes {
-        if has_number(names, node.m, &mut hint) {
-            found.push(*node)?;
-        }
-    }
-    Ok(found)
-}
-
-// And with none of them.
-fn lone_objects(
-    alloc: Global,
-    nodes: &[ObjectNode],
-    names: &[u32],
-) -> Result<Vec<ObjectNode>, AllocError>
-    ensures { IfOk result (λ v. v.items ≡ filter (λ n. not (is_in names.now n.m)) nodes.now) }
-{
-    let mut hint = 0;
-    let mut found = Vec::new(alloc);
-    for node in nodes {
-        if !has_number(names, node.m, &mut hint) {
-            found.push(*node)?;
-        }
-    }
-    Ok(found)
-}
-
-// The nodes of peers with one of these names.
-fn shared_peers(
-    alloc: Global,
-    nodes: &[PeerNode],
-    names: &[u32],
-) -> Result<Vec<PeerNode>, AllocError>
-    ensures { IfOk result (λ v. v.items ≡ filter (λ n. is_in names.now n.p) nodes.now) }
-{
-    let mut hint = 0;
-    let mut found = Vec::new(alloc);
-    for node in nodes {
-        if has_number(names, node.p, &mut hint) {
-            found.push(*node)?;
-        }
-    }
-    Ok(found)
-}
-
-// And with none of them.
-fn lone_peers(alloc: Global, nodes: &[PeerNode], names: &[u32]) -> Result<Vec<PeerNode>, AllocError>
-    ensures { IfOk result (λ v. v.items ≡ filter (λ n. not (is_in names.now n.p)) nodes.now) }
-{
-    let mut hint = 0;
-    let mut found = Vec::new(alloc);
-    for node in nodes {
-        if !has_number(names, node.p, &mut hint) {
-            found.push(*node)?;
-        }
-    }
-    Ok(found)
-}
-
-// The arrows that a picture has too.
-fn shared_arrows(alloc: Global, arrows: &[Arrow], other: &Picture) -> Result<Vec<Arrow>, AllocError>
-    ensures { IfOk result (λ v. v.items ≡ filter (has_arrow other.now) arrows.now) }
-{
-    let mut hint = 0;
     let mut found = Vec::new(alloc);
     for arrow in arrows {
-        if has_arrow(other.arrows(), *arrow, &mut hint) {
-            found.push(*arrow)?;
-        }
-    }
-    Ok(found)
-}
-
-// And those that it hasn't.
-fn lone_arrows(alloc: Global, arrows: &[Arrow], other: &Picture) -> Result<Vec<Arrow>, AllocError>
-    ensures { IfOk result (λ v. v.items ≡ filter (λ a. not (has_arrow other.now a)) arrows.now) }
-{
-    let mut hint = 0;
-    let mut found = Vec::new(alloc);
-    for arrow in arrows {
-        if !has_arrow(other.arrows(), *arrow, &mut hint) {
-            found.push(*arrow)?;
-        }
+        keep(
+            &mut found,
+            *arrow,
+            is_wanted(wanted, has_arrow(set, *arrow)),
+        )?;
     }
     Ok(found)
 }
@@ -138,26 +62,27 @@ fn copied(alloc: Global, names: &[u32]) -> Result<Vec<u32>, AllocError>
 }
 
 // What one picture has that the other one has too.
-fn shared(alloc: Global, picture: &Picture, other: &Picture) -> Result<Picture, AllocError>
-    ensures { IfOk result (λ p. p ≡ shared picture.now other.now) }
+fn shared(alloc: Global, picture: &Picture, other: &Stock) -> Result<Picture, AllocError>
+    ensures { IfOk result (λ p. (d : Drawing) → IsStockOf d other.now → p ≡ shared picture.now d) }
 {
-    let objects = shared_objects(alloc, picture.objects(), &objects_in(alloc, other)?)?;
-    let peers = shared_peers(alloc, picture.peers(), &peers_in(alloc, other)?)?;
+    let objects = objects_of(alloc, picture.objects(), &other.objects, true)?;
+    let peers = peers_of(alloc, picture.peers(), &other.peers, true)?;
     let dead = copied(alloc, picture.dead())?;
     let candidates = copied(alloc, picture.candidates())?;
-    let arrows = shared_arrows(alloc, picture.arrows(), other)?;
+    let arrows = arrows_of(alloc, picture.arrows(), &other.arrows, true)?;
     Ok(Picture::of(objects, peers, dead, candidates, arrows))
 }
 
 // What one picture has that the other one hasn't.
-fn lone(alloc: Global, picture: &Picture, other: &Picture) -> Result<Picture, AllocError>
-    ensures { IfOk result (λ p. p ≡ lone picture.now other.now) }
+fn lone(alloc: Global, picture: &Picture, other: &Stock) -> Result<Picture, AllocError>
+    ensures { IfOk result (λ p. (d : Drawing) → IsStockOf d other.now → p ≡ lone picture.now d) }
 {
-    let objects = lone_objects(alloc, picture.objects(), &objects_in(alloc, other)?)?;
-    let peers = lone_peers(alloc, picture.peers(), &peers_in(alloc, other)?)?;
-    let arrows = lone_arrows(alloc, picture.arrows(), other)?;
-    let none = Vec::new(alloc);
-    Ok(Picture::of(objects, peers, none, Vec::new(alloc), arrows))
+    let objects = objects_of(alloc, picture.objects(), &other.objects, false)?;
+    let peers = peers_of(alloc, picture.peers(), &other.peers, false)?;
+    let arrows = arrows_of(alloc, picture.arrows(), &other.arrows, false)?;
+    let dead = Vec::new(alloc);
+    let candidates = Vec::new(alloc);
+    Ok(Picture::of(objects, peers, dead, candidates, arrows))
 }
 
 /// The sheet of an earlier and a later picture: what both have, what the later one alone has, and what the earlier one
@@ -165,9 +90,11 @@ fn lone(alloc: Global, picture: &Picture, other: &Picture) -> Result<Picture, Al
 pub fn compared(alloc: Global, old: &Picture, new: &Picture) -> Result<Sheet, AllocError>
     ensures { IfOk result (λ s. s ≡ compared old.now new.now) }
 {
+    let before = stock_of(alloc, old)?;
+    let after = stock_of(alloc, new)?;
     Ok(Sheet {
-        stay: shared(alloc, new, old)?,
-        came: lone(alloc, new, old)?,
-        went: lone(alloc, old, new)?,
+        stay: shared(alloc, new, &before)?,
+        came: lone(alloc, new, &before)?,
+        went: lone(alloc, old, &after)?,
     })
 }

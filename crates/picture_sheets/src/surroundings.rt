@@ -5,11 +5,10 @@ ghost use Rattle.heap_pictures.specs.Drawing.{spot_of};
 ghost use Rattle.heap_pictures.specs.Flags.{is_in};
 ghost use Rattle.picture_sheets.specs.Around.{HasNamed, IsAround, nodes_of};
 
-use crate::comparing::{objects_in, peers_in};
+use crate::keys::{has_spot, object_set, peer_set};
 use crate::links::arrows_on;
 use crate::near::within;
 use crate::parts::sheet_part;
-use crate::searches::has_number;
 use crate::sheets::Sheet;
 use heap_pictures::{Picture, Side, Spot};
 use std::alloc::{AllocError, Global};
@@ -24,22 +23,20 @@ fn spot_of(side: Side, x: u32) -> Spot
     }
 }
 
-// The names of a picture's nodes on one side.
-fn nodes_of(alloc: Global, picture: &Picture, side: Side) -> Result<Vec<u32>, AllocError>
-    ensures { IfOk result (λ v. v.items ≡ nodes_of side picture.now) }
-{
-    match side {
-        Side::Managed => objects_in(alloc, picture),
-        Side::Peers => peers_in(alloc, picture),
-    }
-}
-
 // Whether a picture has a node of that name.
 fn has_node(alloc: Global, picture: &Picture, side: Side, x: u32) -> Result<bool, AllocError>
     ensures { IfOk result (λ found. found ≡ is_in (nodes_of side picture.now) x) }
 {
-    let names = nodes_of(alloc, picture, side)?;
-    Ok(has_number(names.as_slice(), x, &mut 0))
+    match side {
+        Side::Managed => {
+            let objects = object_set(alloc, picture.objects())?;
+            Ok(has_spot(&objects, Spot::Object(x)))
+        }
+        Side::Peers => {
+            let peers = peer_set(alloc, picture.peers())?;
+            Ok(has_spot(&peers, Spot::Peer(x)))
+        }
+    }
 }
 
 // Whether a sheet has.
@@ -59,7 +56,7 @@ fn part_around(alloc: Global, sheet: &Sheet, spot: Spot, k: u64) -> Result<Sheet
 {
     let arrows = arrows_on(alloc, sheet)?;
     let near = within(alloc, arrows.as_slice(), spot, k)?;
-    sheet_part(alloc, sheet, near.as_slice())
+    sheet_part(alloc, sheet, &near)
 }
 
 /// What of a sheet lies within `k` arrows of the node of that name, with the arrows between; None where no such node is

@@ -1,6 +1,7 @@
-use Rattle.std.proofs.Common.{take}
-use Rattle.picture_sheets.specs.Near.{Grows}
+use Rattle.std.proofs.Common.{[], take}
+use Rattle.std.specs.Prelude.{flat_map}
+use Rattle.picture_sheets.specs.Near.{Grows, joined_to}
 use Rattle.picture_sheets.proofs.near.grown.Given as goal
 
-abbrev pub invariant-loop-arrow : goal.invariant-loop-arrow
-invariant-loop-arrow l = Grows (take l.arrow-index l.arrows) l.base l.grown.items
+abbrev pub invariant-loop-spot : goal.invariant-loop-spot
+invariant-loop-spot l = Grows (flat_map (joined_to l.lists) (take l.spot-index l.newest)) l.initial.near l.near [] l.fresh.items

@@ -1,8 +1,8 @@
-use Rattle.std.proofs.Common.{◌≡◌, take, not}
+use Rattle.std.proofs.Common.{◌≡◌, take}
 use Rattle.std.specs.List.{filter}
-use Rattle.picture_sheets.specs.Near.{is_one_of}
 use Rattle.picture_sheets.specs.Around.{is_between}
+use Rattle.picture_sheets.specs.Keys.{has_spot}
 use Rattle.picture_sheets.proofs.parts.near_arrows.Given as goal
 
 abbrev pub invariant-loop-arrow : goal.invariant-loop-arrow
-invariant-loop-arrow l = l.found.items ≡ filter (is_between (is_one_of l.near)) (take l.arrow-index l.arrows)
+invariant-loop-arrow l = l.found.items ≡ filter (is_between (has_spot l.near)) (take l.arrow-index l.arrows)
