@@ -10,13 +10,15 @@ use Rattle.report_answers.specs.Answers.{finding_text, refusal_text}
 use Rattle.check_laws.specs.declared.findings.Finding.{Finding}
 use Rattle.check_laws.specs.declared.findings.Finding.TheVariants as finding
 use Rattle.check_laws.specs.Findings.{IsFinding}
-use Rattle.heap_views.specs.Views.{IsStuck, Seen, View, opening_view}
+use Rattle.heap_views.specs.Views.{Seen, View, opening_view}
 use Rattle.heap_pictures.specs.Drawing.{drawing_of, spot_of}
 use Rattle.heap_pictures.specs.Pictures.{Drawing}
 use Rattle.picture_sheets.specs.Around.{HasNamed, IsAround}
 use Rattle.picture_sheets.specs.Sheets.{Sheet, alone, compared}
 use Rattle.picture_text.specs.Texts.{sheet_text}
 use Rattle.picture_laws.specs.Laws.{HasOneNodeEach, NodesAreUnfreed, PathsAreReached}
+use Rattle.picture_laws.specs.Standing.{ReferencesStand}
+use Rattle.picture_laws.specs.Seeing.{IsInOrderTo, IsOfBothSides}
 use Rattle.heap_picture.specs.declared.drawing.Drawn.{Drawn}
 use Rattle.heap_picture.specs.declared.drawing.Drawn.TheVariants as drawn
 use Rattle.heap_picture.specs.declared.drawing.Refusal.{Refusal}
@@ -28,28 +30,25 @@ use Rattle.heap_picture.specs.declared.words.Request.{Request}
 use Rattle.heap_picture.specs.Lines.{line_at}
 use Rattle.heap_picture.specs.Words.{last_entry}
 
--- by the finding all entries up to that one are in order
-abbrev pub IsInOrderTo : ℕ → Finding → Type 0
-IsInOrderTo n (finding.Illegal i why) = n < i
-IsInOrderTo n _ = Unit {0}
-
--- by the finding one of them isn't
+-- by the finding one of the entries up to that one isn't in order
 abbrev pub IsIllegalBy : ℕ → Finding → Type 0
 IsIllegalBy n (finding.Illegal i why) = i ≤ n
 IsIllegalBy n _ = ⊥
 
--- what a picture tells: its nodes are the unfreed objects, each has one, and its paths lead to what the joint machine
--- has reached
-pub record Tells (v : View) : Type 0 where
+-- what a picture tells after entry n: its nodes are the unfreed objects, each has one, its paths lead to what the joint
+-- machine has reached, and the references are those of the last mirror up to that entry that no clear follows
+pub record Tells (h : Finished) (n : ℕ) (v : View) : Type 0 where
   pub nodes : NodesAreUnfreed v
   pub names : HasOneNodeEach v
   pub paths : PathsAreReached v
+  pub references : ReferencesStand h (n + 1) v.refs
 
--- the picture is that of what is seen after entry n
+-- the picture is that of what is seen after entry n, which has the joint graph of both sides' states there
 pub record IsSeenAfter (h : Finished) (n : ℕ) (d : Drawing) : Type 0 where
   pub view : View
   pub seen : Seen h opening_view (take (n + 1) h.entries) view
-  pub tells : Tells view
+  pub sides : IsOfBothSides h n view
+  pub tells : Tells h n view
   pub is : d ≡ drawing_of view
 
 -- the sheet is the picture after one entry, or the pictures after two, compared
@@ -105,17 +104,11 @@ pub record IsFoundIllegal (input : List ℕ) (n : ℕ) (f : Finding) (count : �
   pub illegal : IsIllegalBy n f
   pub counted : count ≡ length history.entries
 
--- the bytes are read as a history that has no such entry; or one of the entries up to it is no step of the joint
--- machine
+-- the bytes are read as a history that has no such entry
 pub record HasNoEntry (input : List ℕ) (n : ℕ) : Type 0 where
   pub history : Finished
   pub reads : IsReadAs input history
   pub short : length history.entries ≤ n
-
-pub record HasNoStep (input : List ℕ) (n : ℕ) : Type 0 where
-  pub history : Finished
-  pub reads : IsReadAs input history
-  pub stuck : IsStuck history n
 
 -- why there is no picture, of bytes within a limit
 abbrev pub IsRefused : ℕ → List ℕ → Request → Refusal → Type 0
@@ -123,7 +116,6 @@ IsRefused most input r (refusal.Line fault) = IsNoneWithin most input (take_erro
 IsRefused most input r (refusal.Long line) = IsNoneWithin most input (take_error.Long line)
 IsRefused most input r (refusal.Found f count) = IsFoundIllegal input (last_entry r.entries) f count
 IsRefused most input r refusal.NoEntry = HasNoEntry input (last_entry r.entries)
-IsRefused most input r refusal.NoStep = HasNoStep input (last_entry r.entries)
 IsRefused most input r refusal.NoNode = HasNoNode input r
 
 -- what is answered of the bytes
@@ -137,5 +129,4 @@ refusal_line (refusal.Line fault) = refusal_text fault
 refusal_line (refusal.Long line) = fault_text (record { line = line; cause = Bytes })
 refusal_line (refusal.Found f count) = finding_text count f
 refusal_line refusal.NoEntry = codes "no such entry\n"
-refusal_line refusal.NoStep = codes "no step\n"
 refusal_line refusal.NoNode = codes "no such node\n"

@@ -3,7 +3,8 @@
 ghost use Rattle.std.specs.Prelude.{◌≡◌, ◌↔◌, ◌<◌, IfOk, IsTrue, false, length};
 ghost use Rattle.byte_streams.specs.Streams.{Writes};
 ghost use Rattle.report_reader.specs.Reading.{IsReadAs};
-ghost use Rattle.heap_picture.specs.Drawn.{IsDrawn, IsIllegalBy, IsInOrderTo, IsSheetIn, refusal_line};
+ghost use Rattle.picture_laws.specs.Seeing.{IsInOrderTo};
+ghost use Rattle.heap_picture.specs.Drawn.{IsDrawn, IsIllegalBy, IsSheetIn, refusal_line};
 ghost use Rattle.heap_picture.specs.Words.{AreEntries};
 
 use crate::sheets::{part_of, sheet_of, title_of};
@@ -30,8 +31,6 @@ pub enum Refusal {
     Found(Finding, u64),
     /// There is no such entry.
     NoEntry,
-    /// One of the entries up to it is no step of the joint machine.
-    NoStep,
     /// The picture has no such node.
     NoNode,
 }
@@ -47,7 +46,6 @@ impl Refusal {
             Refusal::Long(line) => write_long(line, out),
             Refusal::Found(finding, count) => write_finding(finding, count, out),
             Refusal::NoEntry => write_text(out, b"no such entry\n"),
-            Refusal::NoStep => write_text(out, b"no step\n"),
             Refusal::NoNode => write_text(out, b"no such node\n"),
         }
     }
@@ -123,10 +121,8 @@ fn draw_history(
     if last >= history.len() {
         return Ok(Drawn::None(Refusal::NoEntry));
     }
-    match sheet_of(alloc, history, request.entries)? {
-        None => Ok(Drawn::None(Refusal::NoStep)),
-        Some(sheet) => draw_sheet(alloc, bytes, _most, sheet, request),
-    }
+    let sheet = sheet_of(alloc, history, request.entries)?;
+    draw_sheet(alloc, bytes, _most, sheet, request)
 }
 
 // Draws a sheet, or as much of it as is asked for.

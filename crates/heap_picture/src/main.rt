@@ -3,6 +3,8 @@
 #![tactic(auto)]
 
 mod drawing;
+#[cfg(test)]
+mod failing_ends;
 mod lines;
 mod program;
 mod sheets;

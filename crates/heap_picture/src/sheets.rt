@@ -1,7 +1,8 @@
 // What is drawn of a history: the picture after one entry, or two compared, or the part around a node.
 
-ghost use Rattle.std.specs.Prelude.{◌≡◌, ◌<◌, IfOk, MatchOption, Some, length};
-ghost use Rattle.heap_views.specs.Views.{IsStuck};
+ghost use Rattle.std.specs.Prelude.{◌≡◌, ◌<◌, ◌+◌, IfOk, MatchOption, Some, length, take};
+ghost use Rattle.heap_views.specs.Views.{Seen, opening_view};
+ghost use Rattle.picture_laws.specs.Seeing.{HasInOrder};
 ghost use Rattle.heap_picture.specs.declared.words.Around.{Around as TheAround};
 ghost use Rattle.heap_picture.specs.declared.words.Entries.{Entries as TheEntries};
 ghost use Rattle.heap_picture.specs.Drawn.{HasIt, IsPartOf, IsSeenAfter, IsSheetOf, Tells, title_of};
@@ -12,67 +13,59 @@ use crate::words::{Around, Entries};
 use heap_pictures::{Picture, picture_of};
 use heap_views::{HeapView, view_after};
 use joint_model::History;
-use picture_laws::pictures_tell;
+use picture_laws::{entries_in_order_are_seen, pictures_tell, references_stand};
 use picture_sheets::{Sheet, alone, around, compared};
 use std::alloc::{AllocError, Global};
 
-// What a picture of what there is to see tells.
-fn view_tells(view: &HeapView)
-    ensures { Tells view.now }
+// What a picture of what there is to see after an entry tells.
+fn view_tells(_h: &History, _n: u64, view: &HeapView)
+    requires within { _n < length _h.now.entries }
+    requires seen { Seen _h.now opening_view (take (_n + 1) _h.now.entries) view.now }
+    ensures { Tells _h.now _n view.now }
 {
     pictures_tell();
+    references_stand();
     let _objects = view.joint().objects();
 }
 
-// The picture after an entry; None where one of the entries up to it is no step of the joint machine.
-fn picture_after(alloc: Global, h: &History, n: u64) -> Result<Option<Picture>, AllocError>
-    requires { n < length h.now.entries }
-    ensures { IfOk result (λ found. MatchOption found (IsStuck h.now n) (λ p. IsSeenAfter h.now n p)) }
+// The picture after an entry, where all entries up to it are in order.
+fn picture_after(alloc: Global, h: &History, n: u64) -> Result<Picture, AllocError>
+    requires { HasInOrder h.now n }
+    ensures { IfOk result (λ p. IsSeenAfter h.now n p) }
 {
+    entries_in_order_are_seen();
     let Some(view) = view_after(alloc, h, n)? else {
-        return Ok(None);
+        unreachable!();
     };
-    view_tells(&view);
-    Ok(Some(picture_of(alloc, &view)?))
+    view_tells(h, n, &view);
+    picture_of(alloc, &view)
 }
 
 // The sheet of the picture after an entry.
-fn one_sheet(alloc: Global, h: &History, n: u64) -> Result<Option<Sheet>, AllocError>
-    requires { n < length h.now.entries }
-    ensures { IfOk result (λ found. MatchOption found (IsStuck h.now n) (λ s. IsSheetOf h.now (TheEntries.One n) s)) }
+fn one_sheet(alloc: Global, h: &History, n: u64) -> Result<Sheet, AllocError>
+    requires { HasInOrder h.now n }
+    ensures { IfOk result (λ s. IsSheetOf h.now (TheEntries.One n) s) }
 {
-    let Some(picture) = picture_after(alloc, h, n)? else {
-        return Ok(None);
-    };
-    Ok(Some(alone(alloc, picture)))
+    let picture = picture_after(alloc, h, n)?;
+    Ok(alone(alloc, picture))
 }
 
 // The sheet of those after two.
-fn two_sheet(alloc: Global, h: &History, n: u64, m: u64) -> Result<Option<Sheet>, AllocError>
-    requires order { n < m }
-    requires within { m < length h.now.entries }
-    ensures { IfOk result (λ found. MatchOption found (IsStuck h.now m) (λ s. IsSheetOf h.now (TheEntries.Two n m) s)) }
+fn two_sheet(alloc: Global, h: &History, n: u64, m: u64) -> Result<Sheet, AllocError>
+    requires before { n < m }
+    requires order { HasInOrder h.now m }
+    ensures { IfOk result (λ s. IsSheetOf h.now (TheEntries.Two n m) s) }
 {
-    let Some(old) = picture_after(alloc, h, n)? else {
-        return Ok(None);
-    };
-    let Some(new) = picture_after(alloc, h, m)? else {
-        return Ok(None);
-    };
-    Ok(Some(compared(alloc, &old, &new)?))
+    let old = picture_after(alloc, h, n)?;
+    let new = picture_after(alloc, h, m)?;
+    compared(alloc, &old, &new)
 }
 
-/// The sheet that is asked for, without regard to a node; None where one of the entries up to the last is no step of
-/// the joint machine.
-pub(crate) fn sheet_of(
-    alloc: Global,
-    h: &History,
-    entries: Entries,
-) -> Result<Option<Sheet>, AllocError>
-    requires order { AreEntries entries }
-    requires within { last_entry entries < length h.now.entries }
-    ensures { IfOk result (λ found. MatchOption found
-        (IsStuck h.now (last_entry entries)) (λ s. IsSheetOf h.now entries s)) }
+/// The sheet that is asked for, without regard to a node, where all entries up to the last are in order.
+pub(crate) fn sheet_of(alloc: Global, h: &History, entries: Entries) -> Result<Sheet, AllocError>
+    requires entries { AreEntries entries }
+    requires order { HasInOrder h.now (last_entry entries) }
+    ensures { IfOk result (λ s. IsSheetOf h.now entries s) }
 {
     match entries {
         Entries::One(n) => one_sheet(alloc, h, n),

@@ -6,14 +6,14 @@ use std::alloc::{AllocError, Global};
 use std::test::Fail;
 
 // A bridge object that its variable holds, and then doesn't.
-const REPORT: &[u8] = b"0 m1.1 make user 0 = p1 h1
+pub(crate) const REPORT: &[u8] = b"0 m1.1 make user 0 = p1 h1
 1 m1.1 adopt a bridge 1 p1 h1 = m1 @0
 2 m1.2 drop a = ok
 end 3
 ";
 
 // The picture after entry 1.
-const HELD: &[u8] = b"digraph heaps {
+pub(crate) const HELD: &[u8] = b"digraph heaps {
   label=\"1 m1.1 adopt a bridge 1 p1 h1 = m1 @0\";
   labelloc=t;
   rankdir=LR;
@@ -170,7 +170,7 @@ const RUNS: [Run; 35] = [
 ];
 
 // The words of a command.
-fn words_of(alloc: Global, words: &[&str]) -> Result<Vec<String>, AllocError> {
+pub(crate) fn words_of(alloc: Global, words: &[&str]) -> Result<Vec<String>, AllocError> {
     let mut owned = Vec::new(alloc);
     for word in words {
         owned.push(String::from_str(alloc, word)?)?;
