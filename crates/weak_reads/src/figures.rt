@@ -20,7 +20,7 @@ pub(crate) struct Figures {
 }
 
 /// The longest of some waits, and the least time that all but the longest thousandth of them kept to, in nanoseconds.
-#[derive(Clone, Copy, PartialEq, Eq, Debug)]
+#[derive(Clone, Copy)]
 pub(crate) struct Times {
     pub(crate) longest: u32,
     pub(crate) most: u32,

@@ -26,8 +26,6 @@ mod heap;
 mod jobs;
 mod plan;
 mod race;
-#[cfg(test)]
-mod tests;
 mod words;
 
 use figures::a_second;

@@ -4,7 +4,7 @@ ghost use Rattle.std.specs.Prelude.{◌≤◌, IfSome};
 
 /// What the words behind the program's name ask for: figures or counts, for how many milliseconds each way of reading
 /// is tried, by how many threads, and how many objects stay on the heap.
-#[derive(Clone, Copy, PartialEq, Eq, Debug)]
+#[derive(Clone, Copy)]
 pub(crate) struct Command {
     pub(crate) timed: bool,
     pub(crate) millis: u32,
