@@ -68,8 +68,6 @@ mod laws;
 mod orders;
 mod plays;
 mod seats;
-#[cfg(test)]
-mod tests;
 mod views;
 
 pub use finished::Linked;

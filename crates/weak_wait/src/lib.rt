@@ -30,8 +30,6 @@
 
 mod readers;
 mod reads;
-#[cfg(test)]
-mod tests;
 
 pub use readers::WeakReader;
 pub use reads::{Got, read, read_waiting, reply_of};

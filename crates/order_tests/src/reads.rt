@@ -1,24 +1,10 @@
 // What a reader answers, as one thread finds it.
 
-ghost use Rattle.std.specs.Prelude.{◌≡◌, None};
-ghost use Rattle.joint_machine.specs.declared.names.Thread.{Thread};
-
-use crate::{Got, WeakReader};
-use joint_model::{Act, Cell, Cycle, MNum, Made, Op, Reply, Span, Thread, Var};
+use crate::made::made;
+use joint_machine::{Act, Cell, Cycle, MNum, Op, Reply, Span, Thread, Var};
 use order_table::{Order, Role};
 use std::test::Fail;
-
-fn made(caller: Thread, op: Op, reply: Reply) -> Made
-    ensures { result ≡ record { caller = caller; index = 1; op = op; reply = reply; cites = None } }
-{
-    Made {
-        caller,
-        index: 1,
-        op,
-        reply,
-        cites: None,
-    }
-}
+use weak_wait::{Got, WeakReader};
 
 #[test]
 fn a_cell_is_unset_then_read_then_held(rt: HostRuntime) -> Result<(), Fail> {

@@ -1,6 +1,6 @@
 use Rattle.std.proofs.Common.{inl}
 use Rattle.order_table.proofs.Parting.{still_owns}
-use Rattle.order_table.proofs.tests.an_order_is_finished.Goals as goal
+use Rattle.order_tests.proofs.draws.an_order_is_finished.Goals as goal
 
 -- a note takes nothing away, and each call after it lets the seat own what it owned
 pub finish-requires-clause-all : goal.finish-requires-clause-all
