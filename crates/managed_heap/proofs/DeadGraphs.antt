@@ -2,7 +2,7 @@
 -- row has a node, and each field that leads to a row with a place has an edge.
 use Rattle.std.proofs.Common.{◌≡◌, ◌≢◌, ℕ, zero, suc, ◌+◌, ◌-◌, ◌<◌, ◌≤◌, ◌↔◌, ◌⊎◌, inl, inr, true, nat_eq, if◌then◌else◌, List, [], ◌∷◌, ◌++◌, length, map, take, set, get_or, option_map, Option}
 use Rattle.std.proofs.Common.{Some, None, refl, sym, ap, subst, ◌∙◌, arith}
-use Rattle.std.specs.Prelude.{Contains, All, slice_get}
+use Rattle.std.specs.Prelude.{Contains, All, IfSome, slice_get}
 use Rattle.std.proofs.lemmas.Bool.{cases_eq, eqb-true}
 use Rattle.std.proofs.lemmas.List.{length-map, get_or-map, get_or-set_same, get_or-set_other, nil_from_length}
 use Rattle.std.proofs.lemmas.List.Elements.{All-nil, All-cons, All-map, All-contains, Contains-append_left, Contains-push, Contains-push_cases}
@@ -16,6 +16,7 @@ use Rattle.joint_machine.proofs.Deciding.{none_some, some-same}
 use Rattle.joint_machine.proofs.HeapLemmas.{is_freed-live}
 use Rattle.joint_machine.proofs.Members.{Contains-at, Contains-nil, Contains-here, Contains-there, last-or, Rises-once, take-next}
 use Rattle.joint_machine.proofs.Numbered.{set-at_same, set-at_other, set-at_here}
+use Rattle.heap_rules.specs.Tidy.{IsTidy}
 use Rattle.bridge_graph.specs.declared.graph.Node.{Node}
 use Rattle.bridge_graph.specs.Parts.{Part, NodeLeads, opaque_at, numbers_of}
 use Rattle.managed_heap.specs.Graphs.{ArePlaces, HasDeadField, HasPlaced, IsPlaceOf, IsDeadGraph, handle_number, handle_named, held_at, node_of}
@@ -109,7 +110,13 @@ placed-more places es i a k y place l at n =
     before zero n = absurd (n refl)
     before (suc p) n = omega arith
 
--- one field more
+-- what a field of a live row holds has a place
+pub field-within : (h : Heap) (x n : ℕ) (fs : List (Option ℕ)) (o : Option ℕ) → IsTidy h → IsLive h x → fs ≡ fields_of h x
+    → n ≡ length h.fields + 1 → Contains fs o → IfSome o (λ y. y < n)
+field-within h x n fs None t l e len c = tt
+field-within h x n fs (Some y) t l e len c = (let live = t.held x y l (subst (λ z. Contains z (Some y)) e c) in omega (arith, live.made.1, len))
+
+-- one field more in each turn
 pub fields-more : (places : List ℕ) (fields : List (Option ℕ)) (j i : ℕ) (o : Option ℕ) (old mid new : List (List ℕ)) → slice_get fields j ≡ Some o
     → ((a k : ℕ) → NodeLeads mid a k ↔ (NodeLeads old a k ⊎ ((a ≡ i) × HasPlaced places (take j fields) k)))
     → ((a k : ℕ) → NodeLeads new a k ↔ (NodeLeads mid a k ⊎ ((a ≡ i) × IsPlaceOf places o k)))

@@ -116,8 +116,10 @@ fn add_row(
     ensures spare { OnOk result (builder.old.spare_edges ≤ builder.new.spare_edges + length
         (fields_of heap.now.heap x.0)) }
 {
-    for j in 0..heap.fields_len(x.0) {
-        add_edge(places, heap.field(x.0, j), i, builder)?;
+    heap.recall_tidy();
+    let held = heap.row_fields(x.0);
+    for field in held {
+        add_edge(places, *field, i, builder)?;
     }
     Ok(())
 }

@@ -15,8 +15,8 @@ use Rattle.slab.proofs.SlabLemmas.{Updates-with_value}
 use Rattle.row_heap.specs.declared.fields.Fields.{Fields}
 use Rattle.row_heap.specs.declared.places.Row.{Row}
 use Rattle.row_heap.specs.declared.places.RowPlace.{RowPlace}
-use Rattle.row_heap.specs.declared.places.RowPlace.TheVariants.{At, Gone}
-use Rattle.row_heap.specs.Places.{Seen, IsIndex, seen_at, row_at, standing, gone}
+use Rattle.row_heap.specs.declared.places.RowPlace.TheVariants.{At, Gone, Leaf}
+use Rattle.row_heap.specs.Places.{Seen, IsIndex, seen_at, row_at, standing, gone, leaf}
 
 -- a row that is there
 pub row_at-is : (rows : List Seen) (x : ℕ) (r : Seen) → numbered_at rows x ≡ Some r → row_at rows x ≡ r
@@ -71,6 +71,7 @@ set-self (y ∷ xs) (suc i) x e = ap (λ z. y ∷ z) (set-self xs i x e)
 pub others-same : (s t : Slab Row) (places : List RowPlace) (i key : ℕ) (slot : Option Row) → IsIndex s places → slice_get places i ≡ Some (At key) → Updates s t key slot
     → (j : ℕ) (p : RowPlace) → j ≢ i → slice_get places j ≡ Some p → seen_at t p ≡ seen_at s p
 others-same s t places i key slot index at u j (Gone kept) n e = refl
+others-same s t places i key slot index at u j Leaf n e = refl
 others-same s t places i key slot index at u j (At k) n e = ap (λ o. elim o [ None ↦ gone [] | Some r ↦ standing r ])
     (u.others k (λ q. n (index.once j i key (subst (λ z. slice_get places j ≡ Some (At z)) q e) at)))
 
@@ -100,6 +101,54 @@ shown-written s places rows x key r new view index one at is =
     ∙ (ap (λ z. set (map (seen_at s) places) (x - 1) z) (ap (λ o. elim o [ None ↦ gone [] | Some q ↦ standing q ]) u.changed ∙ is)
     ∙ (ap (λ z. set z (x - 1) new) view ∙ numbered_set-index rows x new one)))
 
+set-at_or : {A : Type 0} (xs : List A) (i : ℕ) (x : A) (j : ℕ) (y : A) → slice_get (set xs i x) j ≡ Some y → (y ≡ x) ⊎ ((j ≢ i) × (slice_get xs j ≡ Some y))
+set-at_or [] i x j y e = cc
+set-at_or (z ∷ xs) zero x zero y e = inl (let d : y ≡ x = cc in d)
+set-at_or (z ∷ xs) zero x (suc j) y e = inr ((λ q. omega (arith, q)), e)
+set-at_or (z ∷ xs) (suc i) x zero y e = inr ((λ q. omega (arith, q)), e)
+set-at_or (z ∷ xs) (suc i) x (suc j) y e = elim (set-at_or xs i x j y e) [ inl w ↦ inl w | inr w ↦ inr ((λ q. w.0 (omega (arith, q))), w.1) ]
+
+-- a row that the slab doesn't have is removed
+pub IsIndex-left : (s : Slab Row) (places : List RowPlace) (i : ℕ) (kept : Snapshot Fields) → IsIndex s places → IsIndex s (set places i (Gone kept))
+IsIndex-left s places i kept index = record {
+  there = λ j k e. elim (set-at_or places i (Gone kept) j (At k) e) [
+    | inl w ↦ (let d : ⊥ = cc in absurd d)
+    | inr w ↦ index.there j k w.1
+  ];
+  once = λ j l k ej el. elim (set-at_or places i (Gone kept) j (At k) ej) [
+    | inl w ↦ (let d : ⊥ = cc in absurd d)
+    | inr w ↦ elim (set-at_or places i (Gone kept) l (At k) el) [
+      | inl v ↦ (let d : ⊥ = cc in absurd d)
+      | inr v ↦ index.once j l k w.1 v.1
+    ]
+  ];
+}
+
+pub shown-left : (s : Slab Row) (places : List RowPlace) (rows : List Seen) (x : ℕ) (kept : Snapshot Fields) (new : Seen)
+    → map (seen_at s) places ≡ rows → 1 ≤ x → gone kept.value ≡ new → map (seen_at s) (set places (x - 1) (Gone kept)) ≡ numbered_set rows x new
+shown-left s places rows x kept new view one is =
+    map-set_others (seen_at s) (seen_at s) places (x - 1) (Gone kept) (λ j p n e. refl)
+    ∙ (ap (λ z. set (map (seen_at s) places) (x - 1) z) is ∙ (ap (λ z. set z (x - 1) new) view ∙ numbered_set-index rows x new one))
+
+-- a further row that the slab doesn't have
+not-leaf : (k : ℕ) → Leaf ≡ At k → ⊥
+not-leaf k e = cc
+
+pub IsIndex-leaf : (s : Slab Row) (places : List RowPlace) → IsIndex s places → IsIndex s (places ++ Leaf ∷ [])
+IsIndex-leaf s places index = record {
+  there = λ i k e. elim (push-at_cases places Leaf i (At k) e) [
+    | inl w ↦ index.there i k w
+    | inr w ↦ absurd (not-leaf k w.1)
+  ];
+  once = λ i j k ei ej. elim (push-at_cases places Leaf i (At k) ei) [
+    | inl wi ↦ elim (push-at_cases places Leaf j (At k) ej) [
+      | inl wj ↦ index.once i j k wi wj
+      | inr wj ↦ absurd (not-leaf k wj.1)
+    ]
+    | inr wi ↦ absurd (not-leaf k wi.1)
+  ];
+}
+
 -- a row is removed, and its place keeps the fields
 pub IsIndex-freed : (s t : Slab Row) (places : List RowPlace) (i key : ℕ) (kept : Snapshot Fields) → IsIndex s places
     → slice_get places i ≡ Some (At key) → Updates s t key None → IsIndex t (set places i (Gone kept))
@@ -116,13 +165,6 @@ IsIndex-freed s t places i key kept index at u = record {
     ]
   ];
 }
-  where
-    set-at_or : {A : Type 0} (xs : List A) (i : ℕ) (x : A) (j : ℕ) (y : A) → slice_get (set xs i x) j ≡ Some y → (y ≡ x) ⊎ ((j ≢ i) × (slice_get xs j ≡ Some y))
-    set-at_or [] i x j y e = cc
-    set-at_or (z ∷ xs) zero x zero y e = inl (let d : y ≡ x = cc in d)
-    set-at_or (z ∷ xs) zero x (suc j) y e = inr ((λ q. omega (arith, q)), e)
-    set-at_or (z ∷ xs) (suc i) x zero y e = inr ((λ q. omega (arith, q)), e)
-    set-at_or (z ∷ xs) (suc i) x (suc j) y e = elim (set-at_or xs i x j y e) [ inl w ↦ inl w | inr w ↦ inr ((λ q. w.0 (omega (arith, q))), w.1) ]
 
 pub shown-freed : (s t : Slab Row) (places : List RowPlace) (rows : List Seen) (x key : ℕ) (kept : Snapshot Fields) (new : Seen)
     → map (seen_at s) places ≡ rows → IsIndex s places → 1 ≤ x → slice_get places (x - 1) ≡ Some (At key) → Updates s t key None
@@ -165,6 +207,7 @@ shown-pushed s t places rows key r index view vacant u =
     kept : (ps : List RowPlace) → ((i k : ℕ) → slice_get ps i ≡ Some (At k) → (q : Row) × (get s k ≡ Some q)) → map (seen_at t) ps ≡ map (seen_at s) ps
     kept [] there = refl
     kept (Gone fs ∷ ps) there = ap (λ l. gone fs.value ∷ l) (kept ps (λ i k e. there (suc i) k e))
+    kept (Leaf ∷ ps) there = ap (λ l. leaf ∷ l) (kept ps (λ i k e. there (suc i) k e))
     kept (At k ∷ ps) there = ap (λ l. seen_at t (At k) ∷ l) (kept ps (λ i k' e. there (suc i) k' e))
         ∙ ap (λ o. elim o [ None ↦ gone [] | Some q ↦ standing q ] ∷ map (seen_at s) ps)
         (u.others k (λ e. (let w = there 0 k refl in let z : Some w.0 ≡ None = sym w.1 ∙ (ap (get s) e ∙ vacant) in cc)))
@@ -176,6 +219,7 @@ IsIndex-grown s t places e index = record { there = λ i k a. (let w = index.the
 pub shown-grown : (s t : Slab Row) (places : List RowPlace) → t.slots ≡ s.slots → map (seen_at t) places ≡ map (seen_at s) places
 shown-grown s t [] e = refl
 shown-grown s t (Gone kept ∷ places) e = ap (λ r. gone kept.value ∷ r) (shown-grown s t places e)
+shown-grown s t (Leaf ∷ places) e = ap (λ r. leaf ∷ r) (shown-grown s t places e)
 shown-grown s t (At k ∷ places) e = ap (λ r. seen_at t (At k) ∷ r) (shown-grown s t places e)
     ∙ ap (λ o. elim o [ None ↦ gone [] | Some q ↦ standing q ] ∷ map (seen_at s) places) (ap (λ l. slice_index_or l k None) e)
 

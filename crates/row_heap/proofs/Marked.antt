@@ -6,7 +6,7 @@ use Rattle.std.proofs.Common.{◌≡◌, ℕ, zero, suc, ◌-◌, ◌≤◌, ◌
 use Rattle.std.proofs.Common.{subst, ◌∙◌, arith, length-append}
 use Rattle.std.specs.Prelude.{Contains, slice_get}
 use Rattle.std.proofs.Math.ListN.{length-set}
-use Rattle.std.proofs.lemmas.List.{length-map}
+use Rattle.std.proofs.lemmas.List.{length-map, map-append}
 use Rattle.std.proofs.lemmas.List.Elements.{Contains-append_left, Contains-push, Contains-push_cases}
 use Rattle.joint_machine.specs.Heaps.{numbered_set}
 use Rattle.heap_rules.proofs.Numbered.{numbered_set-index}
@@ -19,10 +19,11 @@ use Rattle.slab.specs.Slab.{Slab, get, Updates, with_value}
 use Rattle.row_heap.specs.declared.fields.Fields.{Fields}
 use Rattle.row_heap.specs.declared.places.Row.{Row}
 use Rattle.row_heap.specs.declared.places.RowPlace.{RowPlace}
-use Rattle.row_heap.specs.declared.places.RowPlace.TheVariants.{At, Gone}
-use Rattle.row_heap.specs.Places.{Seen, AreRows, DoMarkedStand, IsIndex, bare, gone, marks_in, links_in, row_at, seen_at, standing, unmarked_row, with_marks}
-use Rattle.row_heap.proofs.Indexed.{IsIndex-freed, IsIndex-grown, IsIndex-pushed, index-written, read-place, read-row, row-of, rows-self, rows-written, seen-stands, shown-freed, shown-grown}
-use Rattle.row_heap.proofs.Indexed.{shown-pushed, stands-within}
+use Rattle.row_heap.specs.declared.places.RowPlace.TheVariants.{At, Gone, Leaf}
+use Rattle.row_heap.specs.Places.{Seen, AreRows, DoMarkedStand, IsIndex, bare, gone, leaf, marks_in, links_in, row_at, seen_at, standing, unmarked_row, with_marks}
+use Rattle.row_heap.proofs.Indexed.{IsIndex-freed, IsIndex-grown, IsIndex-leaf, IsIndex-left, IsIndex-pushed, index-written, read-place, read-row, row-of, rows-self, rows-written, seen-stands}
+use Rattle.row_heap.proofs.Indexed.{shown-freed, shown-grown}
+use Rattle.row_heap.proofs.Indexed.{shown-left, shown-pushed, stands-within}
 use Rattle.row_heap.specs.Ends.{Raises}
 use Rattle.row_heap.proofs.Edges.{unmarked-none}
 use Rattle.row_heap.proofs.Walked.{marked-row, row-marked}
@@ -303,6 +304,7 @@ bare-under s places rows marks links x view = ap (λ (l : List Seen). bare (row_
   where
     bare-place : (p : RowPlace) → bare (seen_at s p) ≡ seen_at s p
     bare-place (Gone kept) = refl
+    bare-place Leaf = refl
     bare-place (At key) = by_slot (get s key)
       where
         by_slot : (o : Option Row) → (let z : Seen = elim o [ None ↦ gone [] | Some r ↦ standing r ] in bare z) ≡ elim o [ None ↦ gone [] | Some r ↦ standing r ]
@@ -389,6 +391,54 @@ pub fields-under : (s : Slab Row) (places : List RowPlace) (rows : List Seen) (m
     → (row_at rows x).fields ≡ row.fields
 fields-under s places rows marks links x r key row view up is e got =
     ap (λ z. z.fields) (bare-under s places rows marks links x view ∙ row-of s places (map (seen_at s) places) x r key row refl (up-under (map (seen_at s) places) rows marks links x view up) is e got)
+
+-- one that the slab doesn't have has none
+pub leaf-under : (s : Slab Row) (places : List RowPlace) (rows : List Seen) (marks : List Bool) (links : List ℕ) (x : ℕ) (r : RowPlace)
+    → with_marks (map (seen_at s) places) marks links ≡ rows → (row_at rows x).stands ≡ true → r ≡ Leaf → r ≡ get_or places (x - 1) r
+    → (row_at rows x).fields ≡ []
+leaf-under s places rows marks links x r view up is e =
+    let base = map (seen_at s) places in
+    let w = stands-within base x (up-under base rows marks links x view up) in
+    ap (λ z. z.fields) (bare-under s places rows marks links x view ∙ read-row s places base x r Leaf refl w.0 w.1 is e)
+
+-- it is removed
+pub left-rows : (s : Slab Row) (places : List RowPlace) (rows : List Seen) (marks : List Bool) (links : List ℕ) (x : ℕ) (r : RowPlace) (kept : Snapshot Fields)
+    → with_marks (map (seen_at s) places) marks links ≡ rows → AreRows s places marks links → (row_at rows x).stands ≡ true → r ≡ Leaf → r ≡ get_or places (x - 1) r → kept.value ≡ []
+    → with_marks (map (seen_at s) (set places (x - 1) (Gone kept))) (set marks (x - 1) false) (set links (x - 1) 0) ≡ numbered_set rows x (gone (row_at rows x).fields)
+left-rows s places rows marks links x r kept view a up is e none =
+    let base = map (seen_at s) places in
+    let len : length base ≡ length places = length-map places (seen_at s) in
+    let one = (stands-within rows x up).0 in
+    shown-set base (map (seen_at s) (set places (x - 1) (Gone kept))) rows marks links x (gone (row_at rows x).fields) false 0 view (a.marks_len ∙ sym len) (a.links_len ∙ sym len) one
+    (shown-left s places base x kept (gone (row_at rows x).fields) refl one (ap gone (none ∙ sym (leaf-under s places rows marks links x r view up is e))))
+
+pub left-are : (s : Slab Row) (places : List RowPlace) (rows : List Seen) (marks : List Bool) (links : List ℕ) (x : ℕ) (r : RowPlace) (kept : Snapshot Fields)
+    → with_marks (map (seen_at s) places) marks links ≡ rows → AreRows s places marks links → (row_at rows x).stands ≡ true → r ≡ Leaf → r ≡ get_or places (x - 1) r → kept.value ≡ []
+    → AreRows s (set places (x - 1) (Gone kept)) (set marks (x - 1) false) (set links (x - 1) 0)
+left-are s places rows marks links x r kept view a up is e none =
+    let len : length (set places (x - 1) (Gone kept)) ≡ length places = length-set places (x - 1) (Gone kept) in
+    AreRows-as s (set places (x - 1) (Gone kept)) (set marks (x - 1) false) (set links (x - 1) 0)
+    (numbered_set rows x (gone (row_at rows x).fields)) (IsIndex-left s places (x - 1) kept a.index)
+    (length-set marks (x - 1) false ∙ (a.marks_len ∙ sym len)) (length-set links (x - 1) 0 ∙ (a.links_len ∙ sym len))
+    (left-rows s places rows marks links x r kept view a up is e none) (stand-set rows x (gone (row_at rows x).fields) (λ m. (let f : ⊥ = cc in absurd f)) (subst DoMarkedStand view a.up))
+
+-- a further one comes
+pub leaf-rows : (s : Slab Row) (places : List RowPlace) (rows : List Seen) (marks : List Bool) (links : List ℕ)
+    → with_marks (map (seen_at s) places) marks links ≡ rows → AreRows s places marks links
+    → with_marks (map (seen_at s) (places ++ Leaf ∷ [])) (marks ++ true ∷ []) (links ++ 0 ∷ []) ≡ rows ++ record leaf { marked = true; link = 0 } ∷ []
+leaf-rows s places rows marks links view a =
+    let base = map (seen_at s) places in
+    let len : length base ≡ length places = length-map places (seen_at s) in
+    ap (λ b. with_marks b (marks ++ true ∷ []) (links ++ 0 ∷ [])) (map-append (seen_at s) places (Leaf ∷ []))
+    ∙ (with_marks-push base marks links leaf true 0 (a.marks_len ∙ sym len) (a.links_len ∙ sym len) ∙ ap (λ z. z ++ record leaf { marked = true; link = 0 } ∷ []) view)
+
+pub leaf-are : (s : Slab Row) (places : List RowPlace) (marks : List Bool) (links : List ℕ) → AreRows s places marks links → AreRows s (places ++ Leaf ∷ []) (marks ++ true ∷ []) (links ++ 0 ∷ [])
+leaf-are s places marks links a =
+    let rows : List Seen = with_marks (map (seen_at s) places) marks links in
+    let new : Seen = record leaf { marked = true; link = 0 } in
+    AreRows-as s (places ++ Leaf ∷ []) (marks ++ true ∷ []) (links ++ 0 ∷ []) (rows ++ new ∷ []) (IsIndex-leaf s places a.index)
+    (omega (arith, a.marks_len, length-append marks (true ∷ []), length-append places (Leaf ∷ []))) (omega (arith, a.links_len, length-append links (0 ∷ []), length-append places (Leaf ∷ [])))
+    (leaf-rows s places rows marks links refl a) (stand-push rows new refl a.up)
 
 -- more room, and a further row
 pub grown-are : (s t : Slab Row) (places : List RowPlace) (marks : List Bool) (links : List ℕ) → t.slots ≡ s.slots → AreRows s places marks links → AreRows t places marks links

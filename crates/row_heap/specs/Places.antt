@@ -7,7 +7,7 @@ use Rattle.joint_machine.specs.Heaps.{numbered_at}
 use Rattle.slab.specs.Slab.{Slab, get}
 use Rattle.row_heap.specs.declared.places.Row.{Row}
 use Rattle.row_heap.specs.declared.places.RowPlace.{RowPlace}
-use Rattle.row_heap.specs.declared.places.RowPlace.TheVariants.{At, Gone}
+use Rattle.row_heap.specs.declared.places.RowPlace.TheVariants.{At, Gone, Leaf}
 
 -- a row as it is seen: its fields, its mark, its link, and whether it stands
 pub record Seen : Type 0 where
@@ -24,9 +24,14 @@ standing r = record { fields = r.fields; marked = false; link = 0; stands = true
 abbrev pub gone : List (Option ℕ) → Seen
 gone fields = record { fields = fields; marked = false; link = 0; stands = false }
 
+-- a row that stands without fields, without its mark and its link
+abbrev pub leaf : Seen
+leaf = record { fields = []; marked = false; link = 0; stands = true }
+
 -- the row of a place
 abbrev pub seen_at : Slab Row → RowPlace → Seen
 seen_at s (At key) = elim (get s key) [ None ↦ gone [] | Some r ↦ standing r ]
+seen_at s Leaf = leaf
 seen_at s (Gone kept) = gone kept.value
 
 -- the row of a number; a removed one without fields where there is none

@@ -4,7 +4,7 @@
 // vector. So most new objects cost no call of the allocator, and a marking finds their fields where the row is. A place
 // that no field has is empty: so a marking looks at both places, and doesn't ask how many fields there are.
 
-ghost use Rattle.std.specs.Prelude.{◌≡◌, ℕ, ◌<◌, ◌≤◌, ◌⊎◌, ◌∷◌, Some, None, false, Contains, IfOk, IsOk, length};
+ghost use Rattle.std.specs.Prelude.{◌≡◌, ℕ, ◌<◌, ◌≤◌, ◌⊎◌, [], ◌∷◌, Some, None, false, Contains, IfOk, IsOk, length};
 ghost use Rattle.std.specs.Prelude.{replicate, slice_set};
 ghost use Rattle.reachability.specs.Marks.{HasMark};
 ghost use Rattle.row_marking.specs.Traces.{Greyed};
@@ -52,6 +52,15 @@ impl Fields {
         Ok(Fields {
             cells: Cells::Few(n as u32, [None; 2]),
         })
+    }
+
+    /// No fields.
+    pub(crate) fn none() -> Fields
+        ensures { result ≡ [] }
+    {
+        Fields {
+            cells: Cells::Few(0, [None; 2]),
+        }
     }
 
     /// The fields in order.

@@ -155,7 +155,15 @@ impl<N: Number> RowHeap<N> {
         requires { IsLive self.now.heap x }
         ensures { result ≡ length (fields_of self.now.heap x) }
     {
-        self.rows.row(x as usize).fields.as_slice().len()
+        self.rows.fields(x as usize).len()
+    }
+
+    /// The fields of a live object.
+    pub fn row_fields(&self, x: u32) -> &[Option<u32>]
+        requires { IsLive self.now.heap x }
+        ensures { result.now ≡ fields_of self.now.heap x }
+    {
+        self.rows.fields(x as usize)
     }
 
     /// What field `i` of a live object holds.
@@ -165,7 +173,7 @@ impl<N: Number> RowHeap<N> {
         ensures value { slot (fields_of self.now.heap x) i ≡ result }
         ensures live { IfSome result (IsLive self.now.heap) }
     {
-        self.rows.row(x as usize).fields.as_slice()[i]
+        self.rows.fields(x as usize)[i]
     }
 
     /// Makes an object with so many empty fields, and answers its number. It has a mark. Answers `AllocError` where

@@ -123,7 +123,7 @@ impl<N: Number> RowHeap<N> {
         mark_sources(&mut self.references, &mut self.rows, grey);
     }
 
-    /// Brings an object back: it is marked, with all that it reaches.
+    /// Brings an object back: it is marked, with all that it reaches. One that has its mark takes no time.
     pub fn bring_back(&mut self, x: u32)
         requires live { IsLive self.old.heap x }
         requires shut { IsClosed (EdgeOf self.old) self.old.marks }
@@ -132,6 +132,9 @@ impl<N: Number> RowHeap<N> {
         ensures shut { IsClosed (EdgeOf self.old) self.new.marks }
         ensures rest { self.new ≡ record self.old { marks = self.new.marks; links = self.new.links } }
     {
+        if self.rows.is_marked(x as usize) {
+            return;
+        }
         self.recall_marked_live();
         self.recall_tidy();
         self.recall_ends_live();

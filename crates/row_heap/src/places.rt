@@ -1,11 +1,12 @@
 // Rows by number, in a slab.
 //
 // The slab picks its keys and gives a removed row's key out again, so a key is no number of an object. The index has
-// for each number ever made the key of its row, in four bytes beside a tag. A row has its fields in itself where they
-// are few (`fields.rt`). Marks and links stand beside the rows, in lists of their own: a marking looks at them far more
-// often than at a row, and all marks are taken down by one fill. A row that is freed gives its memory back, and the
-// index keeps its fields for proofs alone, in no bytes: so the heap of the definition, which never forgets the fields
-// of a freed object, is still what contracts see.
+// for each number ever made the key of its row, in four bytes beside a tag. A row without fields has no key: the tag
+// says all of it, so a marking looks no further, and it takes nothing of the slab. Others have their fields in
+// themselves where they are few (`fields.rt`). Marks and links stand beside the rows, in lists of their own: a marking
+// looks at them far more often than at a row, and all marks are taken down by one fill. A row that is freed gives its
+// memory back, and the index keeps its fields for proofs alone, in no bytes: so the heap of the definition, which never
+// forgets the fields of a freed object, is still what contracts see.
 
 ghost use Rattle.std.specs.Prelude.{All, take, replicate, ◌≡◌, ℕ, ◌≤◌, ◌<◌, ◌⊎◌, ◌++◌, [], ◌∷◌, Some, None, Contains};
 ghost use Rattle.std.specs.Prelude.{MatchBool, true, false, length, map, slice_set, vec_len, vec_capacity, OnOk, OnErr};
@@ -14,7 +15,7 @@ ghost use Rattle.reachability.specs.Marks.{HasMark};
 ghost use Rattle.row_marking.specs.Traces.{Greyed};
 ghost use Rattle.slab.specs.Slab.{HasRoomFor};
 ghost use Rattle.row_heap.specs.Ends.{Raises};
-ghost use Rattle.row_heap.specs.Places.{row_at, is_white, standing, gone, bare, marks_in, links_in, unmarked_row};
+ghost use Rattle.row_heap.specs.Places.{row_at, is_white, gone, bare, marks_in, links_in, unmarked_row};
 
 use crate::fields::Fields;
 use crate::heap::MOST_OBJECTS;
@@ -30,10 +31,12 @@ pub(crate) struct Row {
     pub(crate) fields: Fields,
 }
 
-/// Where the row of a number is: under a key of the slab, or nowhere, with the fields that it had.
+/// Where the row of a number is: under a key of the slab; nowhere else, since it has no fields; or nowhere, with the
+/// fields that it had.
 #[derive(Drop)]
 pub(crate) enum RowPlace {
     At(u32),
+    Leaf,
     Gone(Snapshot<Fields>),
 }
 
@@ -89,6 +92,7 @@ impl Rows {
     {
         match self.places[x - 1] {
             RowPlace::At(_) => true,
+            RowPlace::Leaf => true,
             RowPlace::Gone(_) => false,
         }
     }
@@ -116,7 +120,7 @@ impl Rows {
         requires { (1 ≤ x) × (x ≤ length self.now) }
         ensures { result ≡ is_white (row_at self.now x) }
     {
-        self.stands(x) && !self.is_marked(x)
+        !self.is_marked(x) && self.stands(x)
     }
 
     /// Whether row `x` has a mark.
@@ -127,13 +131,14 @@ impl Rows {
         self.marks[x - 1]
     }
 
-    /// Row `x`, but for its mark and its link.
-    pub(crate) fn row(&self, x: usize) -> &Row
+    /// The fields of row `x`.
+    pub(crate) fn fields(&self, x: usize) -> &[Option<u32>]
         requires { (row_at self.now x).stands ≡ true }
-        ensures { bare (row_at self.now x) ≡ standing result.now }
+        ensures { result.now ≡ (row_at self.now x).fields }
     {
         match self.places[x - 1] {
-            RowPlace::At(key) => &self.slab[key as usize],
+            RowPlace::At(key) => self.slab[key as usize].fields.as_slice(),
+            RowPlace::Leaf => &[],
             RowPlace::Gone(_) => unreachable!(),
         }
     }
@@ -147,6 +152,7 @@ impl Rows {
     {
         match self.places[x - 1] {
             RowPlace::At(key) => self.slab[key as usize].fields.set(i, y),
+            RowPlace::Leaf => unreachable!(),
             RowPlace::Gone(_) => unreachable!(),
         }
     }
@@ -175,6 +181,7 @@ impl Rows {
                 let fields = &self.slab[key as usize].fields;
                 fields.visit(&mut self.marks, &mut self.links, grey);
             }
+            RowPlace::Leaf => {}
             RowPlace::Gone(_) => unreachable!(),
         }
     }
@@ -230,11 +237,23 @@ impl Rows {
             &mut self.marks,
             &mut self.links,
         )?;
+        if fields == 0 {
+            push_place(
+                RowPlace::Leaf,
+                &mut self.places,
+                &mut self.marks,
+                &mut self.links,
+            );
+            return Ok(());
+        }
         let fields = Fields::empty(alloc, fields)?;
         let key = self.slab.insert_reserved(Row { fields });
-        self.places.push_reserved(RowPlace::At(key as u32));
-        self.marks.push_reserved(true);
-        self.links.push_reserved(0);
+        push_place(
+            RowPlace::At(key as u32),
+            &mut self.places,
+            &mut self.marks,
+            &mut self.links,
+        );
         Ok(())
     }
 
@@ -247,6 +266,11 @@ impl Rows {
             RowPlace::At(key) => {
                 let row = self.slab.remove(key as usize);
                 self.places[x - 1] = RowPlace::Gone(kept(row));
+                self.marks[x - 1] = false;
+                self.links[x - 1] = 0;
+            }
+            RowPlace::Leaf => {
+                self.places[x - 1] = RowPlace::Gone(none_kept());
                 self.marks[x - 1] = false;
                 self.links[x - 1] = 0;
             }
@@ -279,6 +303,26 @@ fn take_room(
     slab.reserve(1)
 }
 
+// A further row is at that place, with a mark. There is room for it.
+#[inline(always)]
+fn push_place(
+    place: RowPlace,
+    places: &mut Vec<RowPlace>,
+    marks: &mut Vec<bool>,
+    links: &mut Vec<u32>,
+)
+    requires places { vec_len places.old < vec_capacity places.old }
+    requires marks { vec_len marks.old < vec_capacity marks.old }
+    requires links { vec_len links.old < vec_capacity links.old }
+    ensures places { places.new.items ≡ places.old.items ++ place ∷ [] }
+    ensures marks { marks.new.items ≡ marks.old.items ++ true ∷ [] }
+    ensures links { links.new.items ≡ links.old.items ++ 0 ∷ [] }
+{
+    places.push_reserved(place);
+    marks.push_reserved(true);
+    links.push_reserved(0);
+}
+
 /// Takes all marks down, of which the first ones up to a number are down.
 pub(crate) fn lower(marks: &mut Vec<bool>, from: usize)
     requires { All (λ m. m ≡ false) (take from marks.old.items) }
@@ -294,6 +338,13 @@ fn kept(row: Row) -> Snapshot<Fields>
     ensures { result.value ≡ row.fields }
 {
     Snapshot::of(&row.fields)
+}
+
+// No fields, kept for proofs alone.
+fn none_kept() -> Snapshot<Fields>
+    ensures { result.value ≡ [] }
+{
+    Snapshot::of(&Fields::none())
 }
 
 /// Marks what fields hold, by the lists of marks and links.

@@ -3,8 +3,8 @@ use Rattle.std.proofs.Common.{◌∙◌, sym, ap, length}
 use Rattle.row_heap.proofs.Sound.{live-stands, fields-seen}
 use Rattle.row_heap.proofs.heap.RowHeap.fields_len.Goals as goal
 
-pub row-requires : goal.row-requires
-row-requires g c = live-stands _ _ _ _ _ c.args.x c.self.invariant.0.sound (rw (← c.self.view_is) at c.requires)
+pub fields-requires : goal.fields-requires
+fields-requires g c = live-stands _ _ _ _ _ c.args.x c.self.invariant.0.sound (rw (← c.self.view_is) at c.requires)
 
 pub returns : goal.returns
-returns g c = ap length c.as_slice.ensures ∙ ap length (sym (fields-seen _ _ _ _ c.self.inside.references _ c.args.self.now c.args.x c.self.view_is ∙ ap (λ r. r.fields) c.row.ensures))
+returns g c = ap length c.fields.ensures ∙ ap length (sym (fields-seen _ _ _ _ c.self.inside.references _ c.args.self.now c.args.x c.self.view_is))

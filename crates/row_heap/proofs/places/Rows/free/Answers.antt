@@ -2,7 +2,7 @@
 use Rattle.std.proofs.Common.{◌∙◌, ◌-◌, map, refl, sym, ap, arith}
 use Rattle.row_heap.specs.Places.{seen_at}
 use Rattle.row_heap.proofs.Indexed.{at-key, key-there, not-gone, row-of, stands-within}
-use Rattle.row_heap.proofs.Marked.{freed-are, freed-rows, len-under, up-under}
+use Rattle.row_heap.proofs.Marked.{freed-are, freed-rows, left-are, left-rows, len-under, up-under}
 use Rattle.row_heap.proofs.places.Rows.free.Goals as goal
 
 pub index-requires : goal.index-requires
@@ -54,8 +54,8 @@ invariant_of-self c =
     (stands-within c.args.self.now c.args.x c.requires).0 at c.remove-row.ensures.updates
     (c.kept.ensures ∙ sym (ap (λ r. r.fields) row))
 
-pub returns : goal.returns
-returns c =
+pub returns-in-At : goal.returns-in-At
+returns-in-At c =
     let s = c.self.inside in
     let base = map (seen_at s.slab) s.places.items in
     let up = up-under base c.args.self.now s.marks.items s.links.items c.args.x c.self.view_is c.requires in
@@ -64,3 +64,33 @@ returns c =
     freed-rows s.slab c.remove-row.new.self s.places.items c.args.self.now s.marks.items s.links.items c.args.x c.in-At.key c.kept.result c.self.view_is c.self.invariant
     (stands-within c.args.self.now c.args.x c.requires).0 at c.remove-row.ensures.updates
     (c.kept.ensures ∙ sym (ap (λ r. r.fields) row))
+
+pub invariant_of-self-in-Leaf : goal.invariant_of-self-in-Leaf
+invariant_of-self-in-Leaf c =
+    let s = c.self.inside in
+    left-are s.slab s.places.items c.args.self.now s.marks.items s.links.items c.args.x c.index.result.now
+    c.none_kept.result c.self.view_is c.self.invariant c.requires c.in-Leaf.is c.index.ensures c.none_kept.ensures
+
+pub returns-in-Leaf : goal.returns-in-Leaf
+returns-in-Leaf c =
+    let s = c.self.inside in
+    left-rows s.slab s.places.items c.args.self.now s.marks.items s.links.items c.args.x c.index.result.now
+    c.none_kept.result c.self.view_is c.self.invariant c.requires c.in-Leaf.is c.index.ensures c.none_kept.ensures
+
+pub index_mut-requires-in-Leaf : goal.index_mut-requires-in-Leaf
+index_mut-requires-in-Leaf c =
+    let s = c.self.inside in
+    let w = stands-within c.args.self.now c.args.x c.requires in
+    omega (arith, w.0, w.1, len-under s.slab s.places.items c.args.self.now s.marks.items s.links.items c.self.view_is, s.places.ok)
+
+pub index_mut-requires-in-Leaf-2 : goal.index_mut-requires-in-Leaf-2
+index_mut-requires-in-Leaf-2 c =
+    let s = c.self.inside in
+    let w = stands-within c.args.self.now c.args.x c.requires in
+    omega (arith, w.0, w.1, len-under s.slab s.places.items c.args.self.now s.marks.items s.links.items c.self.view_is, c.self.invariant.marks_len, s.marks.ok)
+
+pub index_mut-requires-in-Leaf-3 : goal.index_mut-requires-in-Leaf-3
+index_mut-requires-in-Leaf-3 c =
+    let s = c.self.inside in
+    let w = stands-within c.args.self.now c.args.x c.requires in
+    omega (arith, w.0, w.1, len-under s.slab s.places.items c.args.self.now s.marks.items s.links.items c.self.view_is, c.self.invariant.links_len, s.links.ok)

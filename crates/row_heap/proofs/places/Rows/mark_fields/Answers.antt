@@ -6,8 +6,10 @@ use Rattle.std.proofs.lemmas.List.{length-map, with_items_is}
 use Rattle.reachability.specs.Marks.{HasMark}
 use Rattle.row_marking.specs.Traces.{Greyed}
 use Rattle.row_heap.specs.Places.{AreRows, bare, row_at, seen_at}
+use Rattle.joint_machine.proofs.Members.{Contains-nil}
+use Rattle.row_marking.proofs.Greys.{Greyed-none}
 use Rattle.row_heap.proofs.Indexed.{at-key, key-there, not-gone, stands-within}
-use Rattle.row_heap.proofs.Marked.{fields-under, greyed-rows, len-under, map-under, marks-rows, up-under, visited-are}
+use Rattle.row_heap.proofs.Marked.{fields-under, greyed-rows, leaf-under, len-under, map-under, marks-rows, up-under, visited-are}
 use Rattle.row_heap.proofs.places.Rows.mark_fields.Goals as goal
 
 pub index-requires : goal.index-requires
@@ -58,14 +60,14 @@ invariant_of-self c =
     (visited-are s.slab s.places.items c.args.self.now s.marks.items c.visit.new.marks s.links.items
     c.visit.new.links c.index-in-At.result.now.fields c.self.view_is c.self.invariant em el fresh held))
 
-pub returns-clause-kept : goal.returns-clause-kept
-returns-clause-kept c =
+pub returns-in-At-clause-kept : goal.returns-in-At-clause-kept
+returns-in-At-clause-kept c =
     let s = c.self.inside in
     let base = map (seen_at s.slab) s.places.items in
     map-under bare (λ r m l. refl) base _ _ ∙ (sym (map-under bare (λ r m l. refl) base s.marks.items s.links.items) ∙ ap (map bare) c.self.view_is)
 
-pub returns-clause-greyed : goal.returns-clause-greyed
-returns-clause-greyed c =
+pub returns-in-At-clause-greyed : goal.returns-in-At-clause-greyed
+returns-in-At-clause-greyed c =
     let s = c.self.inside in
     let base = map (seen_at s.slab) s.places.items in
     let len : length base ≡ length s.places.items = length-map s.places.items (seen_at s.slab) in
@@ -87,8 +89,8 @@ returns-clause-greyed c =
     c.visit.new.marks _ s.links.items c.visit.new.links _ c.args.grey.now c.visit.new.grey c.self.view_is marks links
     (c.self.invariant.marks_len ∙ sym len) (c.self.invariant.links_len ∙ sym len) (em ∙ (c.self.invariant.marks_len ∙ sym len)) (el ∙ (c.self.invariant.links_len ∙ sym len)) row
 
-pub returns-clause-raised : goal.returns-clause-raised
-returns-clause-raised c =
+pub returns-in-At-clause-raised : goal.returns-in-At-clause-raised
+returns-in-At-clause-raised c =
     let s = c.self.inside in
     let base = map (seen_at s.slab) s.places.items in
     let len : length base ≡ length s.places.items = length-map s.places.items (seen_at s.slab) in
@@ -97,3 +99,9 @@ returns-clause-raised c =
     marks-rows (λ a b. (k : ℕ) → HasMark a k → HasMark b k) base c.args.self.now s.marks.items c.visit.new.marks _ s.links.items _ c.self.view_is marks
     (c.self.invariant.marks_len ∙ sym len) (em ∙ (c.self.invariant.marks_len ∙ sym len))
     (subst (λ (ms : List Bool). (k : ℕ) → HasMark (false ∷ ms) k → HasMark (false ∷ c.visit.new.marks) k) c.deref_mut.ensures.value c.visit.ensures.raised)
+
+pub returns-in-Leaf-clause-greyed : goal.returns-in-Leaf-clause-greyed
+returns-in-Leaf-clause-greyed c =
+    let s = c.self.inside in
+    let none = leaf-under s.slab s.places.items c.args.self.now s.marks.items s.links.items c.args.x c.index.result.now c.self.view_is c.requires.stands c.in-Leaf.is c.index.ensures in
+    Greyed-none (λ y. Contains (row_at c.args.self.now c.args.x).fields (Some y)) _ _ _ (λ k h. Contains-nil (Some k) (subst (λ (fs : List (Option ℕ)). Contains fs (Some k)) none h))

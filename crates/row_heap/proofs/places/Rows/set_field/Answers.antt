@@ -2,7 +2,7 @@
 use Rattle.std.proofs.Common.{◌∙◌, ◌-◌, List, map, set, length, refl, sym, ap, arith, Option, ℕ, true, false}
 use Rattle.row_heap.specs.Places.{Seen, row_at, seen_at}
 use Rattle.row_heap.proofs.Indexed.{at-key, key-there, not-gone, row-of, stands-within}
-use Rattle.row_heap.proofs.Marked.{changed-are, changed-rows, len-under, row_at-under, up-under}
+use Rattle.row_heap.proofs.Marked.{changed-are, changed-rows, leaf-under, len-under, row_at-under, up-under}
 use Rattle.row_heap.proofs.places.Rows.set_field.Goals as goal
 
 pub index-requires : goal.index-requires
@@ -37,6 +37,16 @@ invariant_of-self c =
 
 pub unreachable-requires : goal.unreachable-requires
 unreachable-requires c =
+    let s = c.self.inside in
+    omega (
+      arith,
+      c.requires.index,
+      ap length (leaf-under s.slab s.places.items c.args.self.now s.marks.items
+          s.links.items c.args.x c.index.result.now c.self.view_is c.requires.stands c.in-Leaf.is c.index.ensures),
+    )
+
+pub unreachable-requires-in-Gone : goal.unreachable-requires-in-Gone
+unreachable-requires-in-Gone c =
     let s = c.self.inside in
     let base = map (seen_at s.slab) s.places.items in
     not-gone s.slab s.places.items base c.args.x c.index.result.now c.in-Gone.field-0 refl

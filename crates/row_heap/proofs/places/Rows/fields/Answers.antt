@@ -1,9 +1,9 @@
--- A row that stands has its key in the index.
-use Rattle.std.proofs.Common.{◌∙◌, ◌-◌, map, refl, arith}
+-- A row that stands has its key in the index, or no fields.
+use Rattle.std.proofs.Common.{◌∙◌, ◌-◌, map, refl, sym, arith}
 use Rattle.row_heap.specs.Places.{seen_at}
-use Rattle.row_heap.proofs.Indexed.{at-key, key-there, not-gone, row-of, stands-within}
-use Rattle.row_heap.proofs.Marked.{bare-under, len-under, up-under}
-use Rattle.row_heap.proofs.places.Rows.row.Goals as goal
+use Rattle.row_heap.proofs.Indexed.{at-key, key-there, not-gone, stands-within}
+use Rattle.row_heap.proofs.Marked.{fields-under, leaf-under, len-under, up-under}
+use Rattle.row_heap.proofs.places.Rows.fields.Goals as goal
 
 pub index-requires : goal.index-requires
 index-requires c =
@@ -25,10 +25,13 @@ unreachable-requires c =
     not-gone s.slab s.places.items base c.args.x c.index.result.now c.in-Gone.field-0 refl
     (up-under base c.args.self.now s.marks.items s.links.items c.args.x c.self.view_is c.requires) c.in-Gone.is c.index.ensures
 
-pub returns : goal.returns
-returns c =
+pub returns-in-At : goal.returns-in-At
+returns-in-At c =
     let s = c.self.inside in
-    let base = map (seen_at s.slab) s.places.items in
-    let up = up-under base c.args.self.now s.marks.items s.links.items c.args.x c.self.view_is c.requires in
-    bare-under s.slab s.places.items c.args.self.now s.marks.items s.links.items c.args.x c.self.view_is
-    ∙ row-of s.slab s.places.items base c.args.x c.index.result.now c.in-At.key _ refl up c.in-At.is c.index.ensures c.index-in-At.ensures
+    c.as_slice.ensures ∙ sym (fields-under s.slab s.places.items c.args.self.now s.marks.items s.links.items c.args.x c.index.result.now
+    c.in-At.key c.index-in-At.result.now c.self.view_is c.requires c.in-At.is c.index.ensures c.index-in-At.ensures)
+
+pub returns-in-Leaf : goal.returns-in-Leaf
+returns-in-Leaf c =
+    let s = c.self.inside in
+    sym (leaf-under s.slab s.places.items c.args.self.now s.marks.items s.links.items c.args.x c.index.result.now c.self.view_is c.requires c.in-Leaf.is c.index.ensures)
