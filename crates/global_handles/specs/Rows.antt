@@ -36,6 +36,10 @@ target_in rows h = option_and_then (λ r. if r.cleared then None else Some r.pee
 abbrev pub strength_in : List HandleRow → HNum → Option Strength
 strength_in rows h = option_map (λ r. r.strength) (row_in rows h)
 
+-- the peer that the row of a number names, or None where no row has the number
+abbrev pub peer_in : List HandleRow → HNum → Option PNum
+peer_in rows h = option_map (λ r. r.peer) (row_in rows h)
+
 -- whether the row of a number is cleared, or None where no row has the number
 abbrev pub cleared_in : List HandleRow → HNum → Option Bool
 cleared_in rows h = option_map (λ r. r.cleared) (row_in rows h)

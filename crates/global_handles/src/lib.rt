@@ -6,7 +6,7 @@
 //     let h = table.make(p, Hold::Held, Strength::Strong)?;
 //     table.weaken(h);
 //     table.clear_target(p);
-//     match table.restore(h) { Back::Alive { h } => .., Back::Cleared => .. }
+//     match table.restore(h).0 { Back::Alive { h } => .., Back::Cleared => .. }
 //
 // A row has a number, the peer that it names, whether a managed object holds it or a raw global name does, and whether
 // it is strong or weak. A strong row keeps its peer alive; a weak one doesn't, and is cleared when its peer is freed.
@@ -44,7 +44,7 @@ ghost use Rattle.std.specs.Vec.{vec_capacity, vec_len};
 ghost use Rattle.global_handles.specs.Slots.{name_in, named_row, is_named, rows_of, with_row, with_next, with_previous};
 ghost use Rattle.global_handles.specs.Slots.{head_in, cleared_slot, NamesRise, ArePlaced, AreLinkedSlots, IsLastOpen};
 ghost use Rattle.global_handles.specs.Slots.{IsChained};
-ghost use Rattle.global_handles.specs.Rows.{row_in, target_in, strength_in, cleared_in, fresh_row, renewed};
+ghost use Rattle.global_handles.specs.Rows.{row_in, peer_in, target_in, strength_in, cleared_in, fresh_row, renewed};
 ghost use Rattle.global_handles.specs.Rows.{with_strength, changed, cleared_for, without, not_live, is_alive, back_of};
 ghost use Rattle.global_handles.specs.Rows.{IsWeakFor, IsRising};
 
@@ -83,7 +83,7 @@ pub struct HandleRow {
     pub cleared: bool,
 }
 
-/// What a weak row came back as: its peer lives, and the handle on it is `h` from now on; or the row was cleared.
+/// What a row came back as: its peer lives, and the handle on it is `h` from now on; or the row was cleared.
 #[derive(Clone, Copy, PartialEq, Eq, Debug)]
 pub enum Back {
     Alive { h: HNum },
@@ -353,16 +353,18 @@ impl HandleTable {
         self.set_strength(h, Strength::Weak);
     }
 
-    /// Removes a weak row. Where it is cleared the answer is `Cleared`. Else a held strong row on the same peer comes
-    /// under the next number, and the answer is `Alive` with it. The greatest number given isn't the last of its type.
-    /// It takes no memory.
-    pub fn restore(&mut self, h: HNum) -> Back
-        requires weak { strength_in self.old.rows h ≡ Some Strength.Weak }
+    /// Removes a row, strong or weak, and answers its peer beside what it came back as. Where it is cleared that is
+    /// `Cleared`. Else a held strong row on the same peer comes under the next number, and it is `Alive` with it. The
+    /// greatest number given isn't the last of its type. It takes no memory.
+    #[inline(always)]
+    pub fn restore(&mut self, h: HNum) -> (Back, PNum)
+        requires there { row_in self.old.rows h ≢ None }
         requires last { self.old.last < u32.MAX }
-        ensures cleared { (result ≡ Back.Cleared) ↔ (cleared_in self.old.rows h ≡ Some true) }
-        ensures gone { result ≡ Back.Cleared
+        ensures peer { peer_in self.old.rows h ≡ Some result.1 }
+        ensures cleared { (result.0 ≡ Back.Cleared) ↔ (cleared_in self.old.rows h ≡ Some true) }
+        ensures gone { result.0 ≡ Back.Cleared
             → (self.new.rows ≡ without h self.old.rows) × (self.new.last ≡ self.old.last) }
-        ensures anew { (g : HNum) → result ≡ Back.Alive g → (self.new.rows ≡ renewed h g self.old.rows)
+        ensures anew { (g : HNum) → result.0 ≡ Back.Alive g → (self.new.rows ≡ renewed h g self.old.rows)
             × (g.0 ≡ self.old.last + 1) × (self.new.last ≡ self.old.last + 1) }
         ensures made { self.new.made ≡ self.old.made }
         ensures room { self.new.room ≡ self.old.room }
@@ -373,7 +375,7 @@ impl HandleTable {
         };
         if row.cleared {
             let _ = self.release(h);
-            return Back::Cleared;
+            return (Back::Cleared, row.peer);
         }
         make_gap(&mut self.names, self.slots.as_slice());
         let number = self.last + 1;
@@ -389,7 +391,7 @@ impl HandleTable {
             place: name.place,
         });
         self.last = number;
-        Back::Alive { h: HNum(number) }
+        (Back::Alive { h: HNum(number) }, row.peer)
     }
 
     // Changes the strength of a row.
@@ -648,6 +650,7 @@ fn reserve_names(names: &mut Vec<Name>, places: usize) -> Result<(), AllocError>
 }
 
 // Leaves just the names that lead to a row.
+#[inline(never)]
 fn drop_holes(names: &mut Vec<Name>, slots: &[Slot])
     ensures items { names.new.items ≡ filter (is_named slots.now) names.old.items }
     ensures capacity { vec_capacity names.new ≡ vec_capacity names.old }

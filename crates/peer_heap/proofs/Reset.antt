@@ -1,15 +1,15 @@
 -- The row of one handle changes, and the table shows at its number what the definition has there.
-use Rattle.std.proofs.Common.{◌≡◌, ◌≢◌, ◌↔◌, ◌+◌, ℕ, inl, inr, Bool, true, false, eqb, List, [], ◌∷◌, ◌++◌, length, length-append, map, Option, Some, None, refl, sym, ap, subst, ◌∙◌, arith}
+use Rattle.std.proofs.Common.{◌≡◌, ◌≢◌, ◌↔◌, ◌+◌, ℕ, inl, inr, Bool, true, false, List, [], ◌∷◌, ◌++◌, length, length-append, Option, Some, None, refl, sym, ap, subst, ◌∙◌, arith}
 use Rattle.std.specs.Option.{option_and_then, option_map}
 use Rattle.std.specs.Prelude.{if◌then◌else◌, ◌==◌}
-use Rattle.std.proofs.lemmas.Bool.{cases_eq, eqb-true}
+use Rattle.std.proofs.lemmas.Bool.{cases_eq}
 use Rattle.std.proofs.lemmas.List.{length-map}
 use Rattle.std.proofs.lemmas.Option.{none-some, same_Some}
 use Rattle.joint_machine.specs.declared.names.HNum.{HNum}
 use Rattle.joint_machine.specs.declared.names.PNum.{PNum}
 use Rattle.joint_machine.specs.declared.names.Sort.{Sort}
-use Rattle.joint_machine.specs.Heaps.{numbered_at, numbered_set}
-use Rattle.joint_machine.specs.Peers.{held, peer_of, strong, weak}
+use Rattle.joint_machine.specs.Heaps.{IsLive, numbered_at, numbered_set}
+use Rattle.joint_machine.specs.Peers.{peer_of, strong, weak}
 use Rattle.joint_machine.specs.PeerReplay.{TableRow, opening_peer_replay, table_target}
 use Rattle.joint_machine.proofs.Deciding.{true_false}
 use Rattle.global_handles.specs.declared.Back.{Back}
@@ -18,14 +18,14 @@ use Rattle.global_handles.specs.declared.HandleRow.{HandleRow}
 use Rattle.global_handles.specs.declared.Hold.TheVariants.{Held}
 use Rattle.global_handles.specs.declared.Strength.{Strength}
 use Rattle.global_handles.specs.declared.Strength.TheVariants.{Strong, Weak}
-use Rattle.global_handles.specs.Rows.{Table, IsRising, changed, cleared_in, fresh_row, renewed, renewed_rows, row_in, strength_in, target_in, with_strength, without}
+use Rattle.global_handles.specs.Rows.{Table, IsRising, changed, cleared_in, fresh_row, is_alive, peer_in, renewed, renewed_rows, row_in, strength_in, target_in, with_strength, without}
 use Rattle.global_handles.proofs.Lookups.{row_in-changed_same, row_in-changed_other}
 use Rattle.row_marking.specs.Traces.{Greyed}
 use Rattle.row_heap.specs.Rows.{HeapRows}
 use Rattle.peer_heap.specs.declared.issues.Issue.{Issue}
 use Rattle.peer_heap.specs.Marks.{IsShaded}
 use Rattle.peer_heap.specs.Mirroring.{IsRemoved, IsRenewed, RestoresHandle, RestoresRow, row_at, strong_row, weak_row, with_row}
-use Rattle.peer_heap.specs.Rows.{AreRowsIssued, Rows, issued_as, row_as, rows_with, strength_as, table_to, with_rows}
+use Rattle.peer_heap.specs.Rows.{AreRowsIssued, AreTargetsLive, Rows, issued_as, row_as, rows_with, strength_as, table_to, with_rows}
 use Rattle.global_handles.proofs.Rows.{length-without}
 use Rattle.peer_heap.proofs.Handles.{peer_of-issued, row-shown, rows-removed, rows-renewed, table_to-set}
 
@@ -99,88 +99,41 @@ rows-weakened rows sorts names issued old new h rises shown put made last =
     let there = row-there rows sorts names issued old h rises strong_row shown in
     rows-reset Weak old new h there.0 there.1 put rows sorts names issued made last ∙ ap (λ (t : TableRow). with_row (rows_with rows sorts names issued old) h.0 t) (weak-as there.0 there.2)
 
--- where a handle leads
-pub target-none : (v : Rows) (h p : ℕ) (row : TableRow) → row_at v h ≡ Some row → peer_of v.issued h ≡ Some p → table_target (with_rows opening_peer_replay v) h ≡ None → row.cleared ≡ true
-target-none v h p row at own none = by row.cleared refl
-  where
-    chosen : (if row.cleared then None else peer_of v.issued h) ≡ None
-    chosen = sym (ap (λ (o : Option TableRow). elim o [ None ↦ None | Some z ↦ if z.cleared then None else peer_of v.issued h ]) at) ∙ none
+-- one that is alive has a number, and another one is cleared
+pub is-given : (back : Back) → is_alive back ≡ true → (g : HNum) × (back ≡ Alive g)
+is-given Cleared e = absurd (true_false (sym e))
+is-given (Alive g) e = (g, refl)
 
-    by : (b : Bool) → row.cleared ≡ b → row.cleared ≡ true
-    by true e = e
-    by false e = absurd (none-some p (sym (sym (ap (λ (b : Bool). if b then None else peer_of v.issued h) e) ∙ chosen) ∙ own))
-
-pub target-some : (v : Rows) (h p : ℕ) (row : TableRow) → row_at v h ≡ Some row → table_target (with_rows opening_peer_replay v) h ≡ Some p → (row.cleared ≡ false) × (peer_of v.issued h ≡ Some p)
-target-some v h p row at leads = by row.cleared refl
-  where
-    chosen : (if row.cleared then None else peer_of v.issued h) ≡ Some p
-    chosen = sym (ap (λ (o : Option TableRow). elim o [ None ↦ None | Some z ↦ if z.cleared then None else peer_of v.issued h ]) at) ∙ leads
-
-    by : (b : Bool) → row.cleared ≡ b → (row.cleared ≡ false) × (peer_of v.issued h ≡ Some p)
-    by true e = absurd (none-some p (sym (ap (λ (b : Bool). if b then None else peer_of v.issued h) e) ∙ chosen))
-    by false e = (e, sym (ap (λ (b : Bool). if b then None else peer_of v.issued h) e) ∙ chosen)
-
--- a handle of the table was issued
-pub row-issued : (rows : HeapRows) (sorts : List Sort) (names : List (Option ℕ)) (issued : List Issue) (table : Table) (h : ℕ) (row : TableRow) → IsRising table
-    → AreRowsIssued table.rows issued → row_at (rows_with rows sorts names issued table) h ≡ Some row → (p : ℕ) × (peer_of (map issued_as issued) h ≡ Some p)
-row-issued rows sorts names issued table h row rises own shown =
-    let there = row-there rows sorts names issued table record { 0 = h } rises row shown in
-    let found = own record { 0 = h } there.0 there.1 in
-    (found.0.peer.0, peer_of-issued issued h found.0 found.1)
-
--- the row of a number has that number
-pub row_in-number : (rows : List HandleRow) (h : HNum) (r : HandleRow) → row_in rows h ≡ Some r → r.number ≡ h
-row_in-number [] h r e = absurd (none-some r e)
-row_in-number (x ∷ rows) h r e = by (eqb h.0 x.number.0) refl (λ f. row_in-number rows h r f)
-  where
-    by : (b : Bool) → eqb h.0 x.number.0 ≡ b → (row_in rows h ≡ Some r → r.number ≡ h) → r.number ≡ h
-    by true t rest =
-        let here : x ≡ r = same_Some x r (rw t at e) in
-        let same : h.0 ≡ x.number.0 = eqb-true h.0 x.number.0 t in
-        ap (λ (q : HandleRow). q.number) (sym here) ∙ ap (λ (m : ℕ). (let z : HNum = record { 0 = m } in z)) (sym same)
-    by false t rest = rest (rw t at e)
-
--- to change the row of a number leaves the others
-pub without-changed : (f : HandleRow → HandleRow) (h : HNum) (rows : List HandleRow) → ((x : HandleRow) → (f x).number ≡ x.number) → without h (changed f h rows) ≡ without h rows
-without-changed f h [] keeps = refl
-without-changed f h (x ∷ rows) keeps = by (eqb h.0 x.number.0) refl (without-changed f h rows keeps)
-  where
-    by : (b : Bool) → eqb h.0 x.number.0 ≡ b → without h (changed f h rows) ≡ without h rows → without h (changed f h (x ∷ rows)) ≡ without h (x ∷ rows)
-    by true e rest =
-        let same : eqb h.0 (f x).number.0 ≡ true = ap (λ (n : HNum). eqb h.0 n.0) (keeps x) ∙ e in
-        rw (e, same) rest
-    by false e rest = rw (e, e) (ap (λ l. x ∷ l) rest)
+pub is-cleared : (back : Back) → is_alive back ≡ false → back ≡ Cleared
+is-cleared Cleared e = refl
+is-cleared (Alive g) e = absurd (true_false e)
 
 -- whether a row of the table is cleared
-pub cleared-loose : (rows : List HandleRow) (h : HNum) (r : HandleRow) → row_in rows h ≡ Some (with_strength Weak r) → cleared_in rows h ≡ Some true ↔ (r.cleared ≡ true)
-cleared-loose rows h r at =
-    let shown : cleared_in rows h ≡ Some r.cleared = ap (option_map (λ (q : HandleRow). q.cleared)) at in
-    ((λ e. same_Some r.cleared true (sym shown ∙ e)), (λ e. shown ∙ ap (λ (b : Bool). Some b) e))
+pub cleared-told : (rows : List HandleRow) (h : HNum) (r : HandleRow) → row_in rows h ≡ Some r → cleared_in rows h ≡ Some true → r.cleared ≡ true
+cleared-told rows h r at e = same_Some r.cleared true (sym (ap (option_map (λ (q : HandleRow). q.cleared)) at) ∙ e)
+
+-- one that was given again isn't
+pub kept-told : (rows : List HandleRow) (h : HNum) (r : HandleRow) (back : Back) → row_in rows h ≡ Some r → is_alive back ≡ true
+    → (back ≡ Cleared) ↔ (cleared_in rows h ≡ Some true) → r.cleared ≡ false
+kept-told rows h r back at alive says = by r.cleared refl
+  where
+    by : (b : Bool) → r.cleared ≡ b → r.cleared ≡ false
+    by true e = absurd (true_false (sym alive ∙ ap is_alive (says.1 (ap (option_map (λ (q : HandleRow). q.cleared)) at ∙ ap (λ (b : Bool). Some b) e))))
+    by false e = e
+
+-- the peer of a row
+pub peer-told : (rows : List HandleRow) (h : HNum) (r : HandleRow) (p : PNum) → row_in rows h ≡ Some r → peer_in rows h ≡ Some p → r.peer ≡ p
+peer-told rows h r p at e = same_Some r.peer p (sym (ap (option_map (λ (q : HandleRow). q.peer)) at) ∙ e)
 
 -- where a row leads
 abbrev led-by : HandleRow → Option PNum
 led-by r = if r.cleared then None else Some r.peer
 
--- a row that was made weak is renewed as it would have been
-pub renewed-loosened : (old mid : List HandleRow) (h g : HNum) (r : HandleRow) → row_in old h ≡ Some r
-    → row_in mid h ≡ Some (with_strength Weak r) → without h mid ≡ without h old → renewed h g mid ≡ renewed h g old
-renewed-loosened old mid h g r at loose others =
-    ap (λ l. l ++ renewed_rows g (target_in mid h)) others
-    ∙ (ap (λ o. without h old ++ renewed_rows g (option_and_then led-by o)) loose ∙ ap (λ o. without h old ++ renewed_rows g (option_and_then led-by o)) (sym at))
-
--- and comes last
+-- a row that is renewed comes last
 pub renewed-put : (rows : List HandleRow) (h g : HNum) (r : HandleRow) → row_in rows h ≡ Some r → r.cleared ≡ false → renewed h g rows ≡ without h rows ++ fresh_row g r.peer Held Strong ∷ []
 renewed-put rows h g r at kept =
     let leads : target_in rows h ≡ Some r.peer = ap (option_and_then led-by) at ∙ ap (λ (b : Bool). (let o : Option PNum = if b then None else Some r.peer in o)) kept in
     ap (λ o. without h rows ++ renewed_rows g o) leads
-
--- one that was given again isn't cleared
-pub kept-loose : (rows : List HandleRow) (h g : HNum) (r : HandleRow) → row_in rows h ≡ Some (with_strength Weak r) → (Alive g ≡ Cleared) ↔ (cleared_in rows h ≡ Some true) → r.cleared ≡ false
-kept-loose rows h g r at says = by r.cleared refl
-  where
-    by : (b : Bool) → r.cleared ≡ b → r.cleared ≡ false
-    by true e = absurd (let f : Alive g ≡ Cleared = says.1 ((cleared-loose rows h r at).1 e) in cc)
-    by false e = e
 
 -- a cleared handle is removed
 pub removed-row : (rows : HeapRows) (sorts : List Sort) (names : List (Option ℕ)) (issued : List Issue) (old new : Table) (h : HNum) (r : HandleRow)
@@ -219,44 +172,46 @@ renewed-row rows sorts names issued after old new h g r rises own places at kept
       rest = rows-renewed rows sorts names issued after old new h g r.peer e leads number put made last rises count;
     }
 
--- a handle that leads nowhere is cleared, so it is removed
-pub restored-none : (b : Bool) (old new : Rows) (head h : ℕ) (back : Back)
-    → table_target (with_rows opening_peer_replay old) h ≡ None → RestoresRow old h back new → RestoresHandle b old head h back new head
-restored-none b old new head h Cleared none r = (r, refl)
-restored-none b old new head h (Alive g) none r = absurd (true_false (sym (target-none old h r.0.peer r.0.row r.0.tabled r.0.issued none) ∙ r.0.kept))
+-- one that is renewed leads to its peer
+pub renewed-leads : (old mid : Rows) (h : ℕ) (g : HNum) (r : IsRenewed old h g mid) → table_target (with_rows opening_peer_replay old) h ≡ Some r.peer
+renewed-leads old mid h g r =
+    ap (λ (o : Option TableRow). elim o [ None ↦ None | Some z ↦ if z.cleared then None else peer_of old.issued h ]) r.tabled
+    ∙ (ap (λ (b : Bool). if b then None else peer_of old.issued h) r.kept ∙ r.issued)
 
--- one that leads somewhere isn't, and its peer was shaded before
-pub restored-some : (b : Bool) (old mid new : Rows) (before after h p : ℕ) (back : Back) → table_target (with_rows opening_peer_replay old) h ≡ Some p
-    → mid ≡ record old { rows = record old.rows { marks = mid.rows.marks; links = mid.rows.links } }
-    → Greyed (λ k. (b ≡ true) × (k ≡ p)) old.rows.marks old.rows.links before mid.rows.marks mid.rows.links after → RestoresRow mid h back new → RestoresHandle b old before h back new after
-restored-some b old mid new before after h p Cleared leads is shaded r =
-    let there : row_at old h ≡ Some r.row = sym (ap (λ (z : Rows). row_at z h) is) ∙ r.tabled in
-    absurd (true_false (sym r.cleared ∙ (target-some old h p r.row there leads).0))
-restored-some b old mid new before after h p (Alive g) leads is shaded r =
-    let was = r.0 in
-    let there : row_at old h ≡ Some was.row = sym (ap (λ (z : Rows). row_at z h) is) ∙ was.tabled in
-    let own : peer_of old.issued h ≡ Some was.peer = sym (ap (λ (z : Rows). peer_of z.issued h) is) ∙ was.issued in
-    let same : p ≡ was.peer = same_Some p was.peer (sym (target-some old h p was.row there leads).1 ∙ own) in
-    let rows = ap (λ (z : Rows). z.rows) is in
+-- which is live
+pub peer-live : (old mid : Rows) (h p : ℕ) (back : Back) → is_alive back ≡ true → AreTargetsLive old → peer_of old.issued h ≡ Some p → RestoresRow old h back mid → IsLive mid.rows.heap p
+peer-live old mid h p Cleared e live own r = absurd (true_false (sym e))
+peer-live old mid h p (Alive g) e live own r =
+    subst (λ (v : HeapRows). IsLive v.heap p) (sym r.1) (live h p (renewed-leads old mid h g r.0 ∙ (sym r.0.issued ∙ own)))
+
+-- one that is cleared is removed
+pub restored-gone : (b : Bool) (old mid : Rows) (head h : ℕ) (back : Back) → is_alive back ≡ false → RestoresRow old h back mid → RestoresHandle b old head h back mid head
+restored-gone b old mid head h Cleared e r = (r, refl)
+restored-gone b old mid head h (Alive g) e r = absurd (true_false e)
+
+-- the peer of another one is shaded
+pub restored-alive : (b : Bool) (old mid new : Rows) (before after h p : ℕ) (back : Back) → is_alive back ≡ true → peer_of old.issued h ≡ Some p → RestoresRow old h back mid
+    → new ≡ record mid { rows = record mid.rows { marks = new.rows.marks; links = new.rows.links } }
+    → Greyed (λ k. (b ≡ true) × (k ≡ p)) mid.rows.marks mid.rows.links before new.rows.marks new.rows.links after → RestoresHandle b old before h back new after
+restored-alive b old mid new before after h p Cleared e own r is shaded = absurd (true_false (sym e))
+restored-alive b old mid new before after h p (Alive g) e own (was, same) is shaded =
+    let peer : p ≡ was.peer = same_Some p was.peer (sym own ∙ was.issued) in
+    let rows : new.rows ≡ record mid.rows { marks = new.rows.marks; links = new.rows.links } = ap (λ (z : Rows). z.rows) is in
     let renewed-one : IsRenewed old h g new = record {
       row = was.row;
-      tabled = there;
+      tabled = was.tabled;
       kept = was.kept;
       peer = was.peer;
-      issued = own;
-      number = was.number ∙ ap (λ (z : Rows). length z.issued + 1) is;
-      rest = was.rest
-          ∙ ap (λ (z : Rows). record z {
-            rows = record z.rows { marks = new.rows.marks; links = new.rows.links };
-            issued = z.issued ++ record { peer = was.peer; hold = held; strength = strong } ∷ [];
-            table = numbered_set z.table h None ++ Some strong_row ∷ [];
-          }) is;
+      issued = was.issued;
+      number = was.number;
+      rest = is ∙ ap (λ (z : Rows). record z { rows = record z.rows { marks = new.rows.marks; links = new.rows.links } }) was.rest;
     } in
-    let seen : IsShaded b (λ k. k ≡ was.peer) old.rows before new.rows after = subst (λ (v : HeapRows). IsShaded b (λ k. k ≡ was.peer) old.rows before v after) (sym r.1) record {
-      refs = ap (λ (v : HeapRows). v.refs) rows;
-      follows = ap (λ (v : HeapRows). v.follows) rows;
-      room = ap (λ (v : HeapRows). v.room) rows;
-      temps = ap (λ (v : HeapRows). v.temps) rows;
-      shaded = subst (λ q. Greyed (λ k. (b ≡ true) × (k ≡ q)) old.rows.marks old.rows.links before mid.rows.marks mid.rows.links after) same shaded;
+    let seen : IsShaded b (λ k. k ≡ was.peer) old.rows before new.rows after = record {
+      refs = ap (λ (v : HeapRows). v.refs) rows ∙ ap (λ (v : HeapRows). v.refs) same;
+      follows = ap (λ (v : HeapRows). v.follows) rows ∙ ap (λ (v : HeapRows). v.follows) same;
+      room = ap (λ (v : HeapRows). v.room) rows ∙ ap (λ (v : HeapRows). v.room) same;
+      temps = ap (λ (v : HeapRows). v.temps) rows ∙ ap (λ (v : HeapRows). v.temps) same;
+      shaded = subst (λ (v : HeapRows). Greyed (λ k. (b ≡ true) × (k ≡ was.peer)) v.marks v.links before new.rows.marks new.rows.links after) same
+          (subst (λ q. Greyed (λ k. (b ≡ true) × (k ≡ q)) mid.rows.marks mid.rows.links before new.rows.marks new.rows.links after) peer shaded);
     } in
     (renewed-one, seen)

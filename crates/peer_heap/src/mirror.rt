@@ -4,10 +4,9 @@
 // Each call is one event of the definition, without its entry. Room for references is taken before; nothing else here
 // takes memory.
 
-ghost use Rattle.std.specs.Prelude.{◌≡◌, ℕ, ◌≤◌, ◌<◌, Some, All, OnErr, OnOk, IsTrue, length, map, max};
+ghost use Rattle.std.specs.Prelude.{◌≡◌, ◌≤◌, ◌<◌, Some, All, OnErr, OnOk, IsTrue, length, map, max};
 ghost use Rattle.joint_machine.specs.Peers.{peer_of};
 ghost use Rattle.joint_machine.specs.PeerReplay.{TableRow};
-ghost use Rattle.global_handles.specs.Rows.{IsRising, row_in, with_strength, without};
 ghost use Rattle.row_marking.specs.Traces.{Greyed};
 ghost use Rattle.row_heap.specs.Marks.{AreEndsLive, IsReferred};
 ghost use Rattle.row_heap.specs.Ends.{ends_of};
@@ -18,8 +17,8 @@ ghost use Rattle.peer_heap.specs.Rows.{AreTargetsLive, with_rows};
 
 use crate::issues::Issue;
 use crate::rows::PeerRows;
-use global_handles::{Back, HandleRow, HandleTable, Hold, Strength};
-use joint_model::HNum;
+use global_handles::{Back, Hold, Strength};
+use joint_model::{HNum, PNum};
 use row_heap::End;
 use std::alloc::AllocError;
 
@@ -86,67 +85,37 @@ impl PeerRows {
 
     /// Removes a handle of the table, and answers `Cleared` where it is cleared; else a held strong handle on its peer
     /// comes in its place, which is `Alive`. While a marking is open, the peer is then shaded. It takes no memory.
+    #[inline(always)]
     pub(crate) fn restore(&mut self, h: HNum, is_open: bool, grey: &mut u32) -> Back
         requires tabled { (row : TableRow) × (row_at self.old h.0 ≡ Some row) }
         requires live { AreTargetsLive self.old }
         requires last { length self.old.issued < u32.MAX }
         ensures { RestoresHandle is_open self.old grey.old h.0 result self.new grey.new }
     {
-        self.recall_issued_rows();
-        match self.target(h) {
-            None => self.renew(h),
-            Some(p) => {
-                self.bring_back(p, is_open, grey);
-                self.renew(h)
-            }
+        let (back, peer) = self.renew(h);
+        if back.is_alive() {
+            self.bring_back(peer, is_open, grey);
         }
+        back
     }
 
-    // A handle of the table was issued on a peer, for the proofs of callers. It does nothing.
-    fn recall_issued_rows(&self)
-        ensures { (h : ℕ) (row : TableRow) → row_at self.now h ≡ Some row
-            → (p : ℕ) × (peer_of self.now.issued h ≡ Some p) }
-    {
-        let _ = &self.table;
-    }
-
-    // Removes a handle of the table, and answers `Cleared` where it is cleared; else a held strong handle on its peer
-    // comes in its place.
-    fn renew(&mut self, h: HNum) -> Back
+    // Removes a handle of the table, and answers its peer beside what it came back as: `Cleared` where it is cleared;
+    // else a held strong handle on its peer comes in its place.
+    #[inline(always)]
+    fn renew(&mut self, h: HNum) -> (Back, PNum)
         requires tabled { (row : TableRow) × (row_at self.old h.0 ≡ Some row) }
         requires last { length self.old.issued < u32.MAX }
-        ensures { RestoresRow self.old h.0 result self.new }
+        ensures row { RestoresRow self.old h.0 result.0 self.new }
+        ensures peer { peer_of self.old.issued h.0 ≡ Some (result.1).0 }
     {
-        let Some(row) = self.table.row(h) else {
-            unreachable!();
-        };
-        loosen(&mut self.table, row);
-        match self.table.restore(h) {
-            Back::Cleared => Back::Cleared,
-            Back::Alive { h: given } => {
-                self.issued.push(Issue {
-                    peer: row.peer,
-                    hold: Hold::Held,
-                    strength: Strength::Strong,
-                });
-                Back::Alive { h: given }
-            }
+        let (back, peer) = self.table.restore(h);
+        if back.is_alive() {
+            self.issued.push(Issue {
+                peer,
+                hold: Hold::Held,
+                strength: Strength::Strong,
+            });
         }
-    }
-}
-
-// Makes a row of the table weak, if it isn't: the table restores weak ones alone.
-fn loosen(table: &mut HandleTable, row: HandleRow)
-    requires row { row_in table.old.rows row.number ≡ Some row }
-    requires rising { IsRising table.old }
-    ensures row { row_in table.new.rows row.number ≡ Some (with_strength Strength.Weak row) }
-    ensures others { without row.number table.new.rows ≡ without row.number table.old.rows }
-    ensures len { length table.new.rows ≡ length table.old.rows }
-    ensures made { table.new.made ≡ table.old.made }
-    ensures last { table.new.last ≡ table.old.last }
-    ensures rising { IsRising table.new }
-{
-    if let Strength::Strong = row.strength {
-        table.weaken(row.number);
+        (back, peer)
     }
 }

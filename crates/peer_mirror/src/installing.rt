@@ -97,6 +97,7 @@ fn push_edges(side: &mut PeerSide, graph: &DeadGraph, comps: &Components)
 
 // The end of a reference, which is at hand where it is that of the reference before: those from one component stand in
 // a row.
+#[inline(always)]
 fn from_end(
     side: &PeerSide,
     graph: &DeadGraph,
@@ -119,6 +120,7 @@ fn from_end(
 
 // The end of a reference that a mirror edge's end stands for: the peer of the node's handle, or the temporary, which is
 // numbered behind the components with members there and from 0 on here.
+#[inline(always)]
 fn ref_end(side: &PeerSide, graph: &DeadGraph, end: End, members: u32) -> RefEnd
     requires end { (e : exact.End) × (end ≡ end_of members e) × IsEdgeEnd graph.now.nodes side.now.reserve.temps e }
     requires strong_ones { AreHandlesStrong side.now.state graph.now.nodes }
@@ -133,6 +135,7 @@ fn ref_end(side: &PeerSide, graph: &DeadGraph, end: End, members: u32) -> RefEnd
 }
 
 // The peer of a bridge node's handle.
+#[inline(always)]
 fn peer_at(side: &PeerSide, graph: &DeadGraph, i: u32) -> PNum
     requires node { IsBridgeNode graph.now.nodes i }
     requires strong_ones { AreHandlesStrong side.now.state graph.now.nodes }

@@ -170,7 +170,7 @@ fn weaken(table: &mut HandleTable, h: HNum) -> bool {
 // What a weak row comes back as, or None where there is none.
 fn restore(table: &mut HandleTable, h: HNum) -> Option<Back> {
     match table.row(h) {
-        Some(row) if row.strength == Weak && table.last() < u32::MAX => Some(table.restore(h)),
+        Some(row) if row.strength == Weak && table.last() < u32::MAX => Some(table.restore(h).0),
         _ => None,
     }
 }

@@ -2,7 +2,7 @@
 -- name leads there.
 use Rattle.std.proofs.Common.{◌≡◌, ◌+◌, [], ◌∷◌, ◌++◌, Some, true, false, length, refl, sym, ap, ◌∙◌, arith}
 use Rattle.std.proofs.lemmas.List.{length_push}
-use Rattle.std.proofs.lemmas.Option.{none-some, same_Some}
+use Rattle.std.proofs.lemmas.Option.{same_Some}
 use Rattle.joint_machine.specs.declared.names.HNum.{HNum}
 use Rattle.joint_machine.proofs.Deciding.{true_false}
 use Rattle.global_handles.specs.declared.Back.{Back}
@@ -21,14 +21,23 @@ given_by Cleared = record { 0 = 0 }
 pub unreachable-requires : goal.unreachable-requires
 unreachable-requires c =
     let none = rw (c.as_slice.ensures.value, c.as_slice-2.ensures.value) at (c.look_up.ensures.none c.in_default.is) in
-    let weak = rw (← c.self.view_is, none) at c.requires.weak in
-    none-some _ weak
+    (rw (← c.self.view_is) at c.requires.there) none
+
+pub returns-then-row-clause-peer : goal.returns-then-row-clause-peer
+returns-then-row-clause-peer c =
+    let old = rw (c.as_slice.ensures.value, c.as_slice-2.ensures.value) at (c.look_up.ensures.some c.in-Some.name c.in-Some.row c.in-Some.is) in
+    rw (← c.self.view_is, old.1) refl
 
 pub returns-then-row-clause-cleared : goal.returns-then-row-clause-cleared
 returns-then-row-clause-cleared c =
     let old = rw (c.as_slice.ensures.value, c.as_slice-2.ensures.value) at (c.look_up.ensures.some c.in-Some.name c.in-Some.row c.in-Some.is) in
     let cleared : cleared_in c.args.self.now.rows c.args.h ≡ Some true = rw (← c.self.view_is, old.1, c.if-row.true) refl in
     (λ _. cleared, λ _. refl)
+
+pub returns-clause-peer : goal.returns-clause-peer
+returns-clause-peer c =
+    let old = rw (c.as_slice.ensures.value, c.as_slice-2.ensures.value) at (c.look_up.ensures.some c.in-Some.name c.in-Some.row c.in-Some.is) in
+    rw (← c.self.view_is, old.1) refl
 
 pub returns-clause-cleared : goal.returns-clause-cleared
 returns-clause-cleared c =
