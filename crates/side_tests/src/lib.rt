@@ -14,8 +14,6 @@
 #[cfg(test)]
 mod callers;
 #[cfg(test)]
-mod cells;
-#[cfg(test)]
 mod gates;
 #[cfg(test)]
 mod loose;
