@@ -8,8 +8,8 @@
 // takes of time and memory is looked at from outside; the memory doesn't grow with the cycles.
 //
 // The one thread makes the table, runs the cycles and prints; nothing else runs. Nothing is promised but by the table's
-// own contract. The status is 1, with nothing written, for words that aren't two numbers of which the second is at most
-// 65,535, or where the numbers of the handles would pass 4,294,967,295.
+// own contract. The status is 1, with nothing on the standard output, for words that aren't two numbers of which the
+// second is at most 65,535, or where the numbers of the handles would pass 4,294,967,295.
 #![tactic(auto)]
 
 mod cycles;
