@@ -206,7 +206,7 @@ fn put_grips(
 }
 
 // The box of a handle that leads to no peer any more.
-fn put_stub(change: Change, h: u32, text: &mut Vec<u8>) -> Result<(), AllocError>
+fn put_lone(change: Change, h: u32, text: &mut Vec<u8>) -> Result<(), AllocError>
     ensures { OnOk result (text.new.items ≡ text.old.items ++ arrow_text change (Arrow.Stub h)) }
 {
     put_shape(
@@ -248,7 +248,7 @@ pub(crate) fn put_arrow(change: Change, arrow: &Arrow, text: &mut Vec<u8>) -> Re
         Arrow::Faded { m, h, style } => put_faded(change, m, h, style, text),
         Arrow::Names { from, to } => put_names(change, from, to, text),
         Arrow::Grips { h, p, style } => put_grips(change, h, p, style, text),
-        Arrow::Stub { h } => put_stub(change, h, text),
+        Arrow::Stub { h } => put_lone(change, h, text),
         Arrow::Refers { from, to } => put_refers(change, from, to, text),
     }
 }

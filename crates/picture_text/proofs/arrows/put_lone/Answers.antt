@@ -2,7 +2,7 @@ use Rattle.std.proofs.Common.{◌++◌, codes}
 use Rattle.heap_pictures.specs.declared.pictures.Spot.TheVariants.{Handle}
 use Rattle.picture_text.specs.Texts.{change_text, spot_text}
 use Rattle.picture_text.proofs.Chains.{shaped}
-use Rattle.picture_text.proofs.arrows.put_stub.Goals as goal
+use Rattle.picture_text.proofs.arrows.put_lone.Goals as goal
 
 pub returns : goal.returns
 returns c =
