@@ -14,6 +14,8 @@
 #[cfg(test)]
 mod callers;
 #[cfg(test)]
+mod cells;
+#[cfg(test)]
 mod gates;
 #[cfg(test)]
 mod loose;
