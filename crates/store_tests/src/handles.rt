@@ -18,7 +18,8 @@ enum Call {
     Make(PNum, Hold, Strength, Result<HNum, HandleFault>),
     Weaken(HNum),
     Clear(PNum),
-    Restore(HNum, Back),
+    // what the row comes back as, and its peer
+    Restore(HNum, Back, PNum),
     Release(HNum, Result<HandleRow, NotLive>),
     Row(HNum, Option<HandleRow>),
     Target(HNum, Option<PNum>),
@@ -41,7 +42,7 @@ const CLEARS: [Call; 9] = [
     Call::Weaken(HNum(1)),
     Call::Clear(PNum(1)),
     Call::Target(HNum(2), None),
-    Call::Restore(HNum(1), Back::Cleared),
+    Call::Restore(HNum(1), Back::Cleared, PNum(1)),
     Call::Release(HNum(1), Err(NotLive { h: HNum(1) })),
     Call::Release(HNum(2), Ok(SECOND)),
     Call::Count(0, 2, 2),
@@ -73,12 +74,12 @@ const RENEWED: HandleRow = HandleRow {
     cleared: false,
 };
 
-const RESTORES: [Call; 13] = [
+const RESTORES: [Call; 17] = [
     Call::Make(PNum(4), Held, Strong, Ok(HNum(1))),
     Call::Make(PNum(5), Held, Strong, Ok(HNum(2))),
     Call::Weaken(HNum(1)),
     Call::Clear(PNum(6)),
-    Call::Restore(HNum(1), Back::Alive { h: HNum(3) }),
+    Call::Restore(HNum(1), Back::Alive { h: HNum(3) }, PNum(4)),
     Call::Target(HNum(1), None),
     Call::Target(HNum(2), Some(PNum(5))),
     Call::Row(HNum(3), Some(RENEWED)),
@@ -87,6 +88,11 @@ const RESTORES: [Call; 13] = [
     Call::Make(PNum(4), Held, Strong, Ok(HNum(4))),
     Call::Release(HNum(3), Ok(RENEWED)),
     Call::Count(2, 3, 4),
+    // a strong row comes back too
+    Call::Restore(HNum(2), Back::Alive { h: HNum(5) }, PNum(5)),
+    Call::Target(HNum(2), None),
+    Call::Target(HNum(5), Some(PNum(5))),
+    Call::Count(2, 3, 5),
 ];
 
 // Handles that are made before many restores of the second, and what is there after a million.
@@ -113,7 +119,7 @@ const AFTER_RESTORES: [Call; 10] = [
     Call::Weaken(HNum(1_000_003)),
     Call::Clear(PNum(2)),
     Call::Target(HNum(3), None),
-    Call::Restore(HNum(1_000_003), Back::Cleared),
+    Call::Restore(HNum(1_000_003), Back::Cleared, PNum(2)),
     Call::Count(2, 3, 1_000_003),
 ];
 
@@ -167,10 +173,10 @@ fn weaken(table: &mut HandleTable, h: HNum) -> bool {
     }
 }
 
-// What a weak row comes back as, or None where there is none.
-fn restore(table: &mut HandleTable, h: HNum) -> Option<Back> {
+// What a row comes back as, and its peer; None where there is no row, or no number is left.
+fn restore(table: &mut HandleTable, h: HNum) -> Option<(Back, PNum)> {
     match table.row(h) {
-        Some(row) if row.strength == Weak && table.last() < u32::MAX => Some(table.restore(h).0),
+        Some(_) if table.last() < u32::MAX => Some(table.restore(h)),
         _ => None,
     }
 }
@@ -218,7 +224,7 @@ fn answers(table: &mut HandleTable, call: &Call) -> bool {
         }
         Call::Weaken(h) => weaken(table, h),
         Call::Clear(p) => clear(table, p),
-        Call::Restore(h, wanted) => restore(table, h) == Some(wanted),
+        Call::Restore(h, wanted, peer) => restore(table, h) == Some((wanted, peer)),
         Call::Release(h, wanted) => table.release(h) == wanted,
         Call::Row(h, wanted) => table.row(h) == wanted,
         Call::Target(h, wanted) => table.target(h) == wanted,
@@ -281,7 +287,7 @@ fn restore_many(table: &mut HandleTable) -> bool {
             return false;
         }
         let next = HNum(n + 4);
-        if restore(table, h) != Some(Back::Alive { h: next }) {
+        if restore(table, h) != Some((Back::Alive { h: next }, PNum(2))) {
             return false;
         }
         h = next;
