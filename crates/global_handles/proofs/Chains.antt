@@ -11,7 +11,7 @@ use Rattle.std.proofs.Common.{◌∙◌, subst, ◌⊎◌, inl, inr, eq-eqb, ari
 use Rattle.std.specs.Option.{option_map, option_and_then}
 use Rattle.std.proofs.lemmas.Bool.{cases_eq, cases_lt}
 use Rattle.std.proofs.lemmas.List.{get_or_past}
-use Rattle.std.proofs.lemmas.Option.{none-some, same_Some, slice_get_within, slice_get_read}
+use Rattle.std.proofs.lemmas.Option.{none-some, same_Some, slice_get-get_or, slice_get_within, slice_get_read}
 use Rattle.std.proofs.lemmas.Bool.Decides.{nat_tests}
 use Rattle.joint_machine.specs.declared.names.PNum.{PNum}
 use Rattle.joint_machine.proofs.Deciding.{neq-eqb, true-false}
@@ -19,7 +19,7 @@ use Rattle.global_handles.specs.declared.Kept.{Kept}
 use Rattle.global_handles.specs.declared.Name.{Name}
 use Rattle.global_handles.specs.declared.Slot.{Slot}
 use Rattle.global_handles.specs.Slots.{with_row, with_next, with_previous, next_at, previous_at, numbered, row_at, row_of, rows_of, ArePlaced, cleared_kept, cleared_slot, is_open, opens, head_in}
-use Rattle.global_handles.specs.Slots.{IsLastOpen, AreLinkedSlots, LeadsBack, IsBacked, IsChained}
+use Rattle.global_handles.specs.Slots.{DiffersByStrength, IsLastOpen, AreLinkedSlots, LeadsBack, IsBacked, IsChained}
 use Rattle.global_handles.proofs.Slots.{kept_at, rows_of-made}
 
 -- the peer of a number
@@ -215,6 +215,21 @@ pub set-with_row : (ss : List Slot) (i : ℕ) (s : Slot) (row : Option Kept) →
 set-with_row [] i s row is = refl
 set-with_row (t ∷ ss) zero s row is = ap (λ u. slot_with u row ∷ ss) is
 set-with_row (t ∷ ss) (suc i) s row is = ap (λ u. t ∷ u) (set-with_row ss i s row is)
+
+-- where a place's row differs by its strength alone, that is all there is to write
+differing-slot : (ss : List Slot) (i : ℕ) (t : Slot) (k : Kept) → t ≡ get_or ss i t → (d : DiffersByStrength ss i k) → d.slot ≡ t
+differing-slot ss i t k here d =
+    same_Some d.slot t (sym d.there ∙ (slice_get-get_or ss i t (slice_get_within ss i d.slot d.there) ∙ ap (λ s. Some s) (sym here)))
+
+pub differing-row : (ss : List Slot) (i : ℕ) (t : Slot) (k : Kept) → t ≡ get_or ss i t → (d : DiffersByStrength ss i k) → t.row ≡ Some d.before
+differing-row ss i t k here d = ap (λ (s : Slot). s.row) (sym (differing-slot ss i t k here d)) ∙ d.row
+
+pub set-strength : (ss : List Slot) (i : ℕ) (t : Slot) (row k : Kept) → t ≡ get_or ss i t → t.row ≡ Some row → DiffersByStrength ss i k
+    → set ss i (record { peer = t.peer; next = t.next; previous = t.previous; row = Some (record row { strength = k.strength }) }) ≡ with_row ss i (Some k)
+set-strength ss i t row k here is d =
+    let same : row ≡ d.before = same_Some row d.before (sym is ∙ differing-row ss i t k here d) in
+    set-with_row ss i t (Some (record row { strength = k.strength })) here
+    ∙ ap (λ r. with_row ss i (Some r)) (ap (λ (o : Kept). record o { strength = k.strength }) same ∙ d.is)
 
 pub length-with_row : (ss : List Slot) (i : ℕ) (row : Option Kept) → length (with_row ss i row) ≡ length ss
 length-with_row [] i row = refl

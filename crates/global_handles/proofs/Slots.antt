@@ -2,7 +2,7 @@
 -- rows do; a look-up by number finds one name, and reads one slot. To write the row of the place to which that name
 -- leads is to change or to remove one row: the other names of the place have other numbers, and the names of the number
 -- are one. Each fact is first one of a single name, and then by an induction over the names.
-use Rattle.std.proofs.Common.{◌≡◌, ◌≢◌, ℕ, ◌+◌, ◌<◌, ◌≤◌, zero, suc, cond, eqb, Bool, true, false, List, [], ◌∷◌, ◌++◌, length, map, filter, slice_get, Option, None, Some, refl, sym, ap, ◌∙◌, inl}
+use Rattle.std.proofs.Common.{◌≡◌, ◌≢◌, ℕ, ◌+◌, ◌<◌, ◌≤◌, zero, suc, cond, eqb, Bool, true, false, List, [], ◌∷◌, ◌++◌, length, map, drop, filter, slice_get, Option, None, Some, refl, sym, ap, ◌∙◌, inl}
 use Rattle.std.proofs.Common.{inr, eq-eqb, arith}
 use Rattle.std.specs.Prelude.{⊤}
 use Rattle.std.specs.Option.{option_map, option_and_then}
@@ -21,7 +21,7 @@ use Rattle.global_handles.specs.declared.Hold.TheVariants.{Held}
 use Rattle.global_handles.specs.declared.Strength.{Strength}
 use Rattle.global_handles.specs.declared.Strength.TheVariants.{Strong}
 use Rattle.global_handles.specs.Rows.{row_in, target_in, changed, with_strength, without, renewed, cleared_for, RisesBetween}
-use Rattle.global_handles.specs.Slots.{row_at, kept_row, row_of, named_row, is_named, put, rows_of, name_in, NamesRise, ArePlaced, with_row, cleared_slot, cleared_kept}
+use Rattle.global_handles.specs.Slots.{AreHoles, DiffersByStrength, row_at, kept_row, row_of, named_row, is_named, put, rows_of, name_in, NamesRise, ArePlaced, with_row, cleared_slot, cleared_kept}
 use Rattle.global_handles.proofs.Rows.{RisesBetween-low, length-without, row_in-below}
 
 -- what is kept of the row of a slot, or None where there is no row and past the end
@@ -315,6 +315,12 @@ pub strength-rows : (high : ℕ) (ss : List Slot) (es : List Name) (h : HNum) (r
 strength-rows high ss es h r e strength rise st = changed-rows (with_strength strength) ss es h e.place st.slot st.kept
     (strong_as h r strength) (OnePlace-found 0 high es h e rise st.found) st.there st.row st.same_number refl (rw (← st.is) refl)
 
+-- what its place keeps differs from that by the strength alone
+pub by-strength : (ss : List Slot) (es : List Name) (h : HNum) (r : HandleRow) (e : Name) (strength : Strength) → Stands ss es h r e
+    → DiffersByStrength ss e.place (strong_as h r strength)
+by-strength ss es h r e strength st =
+    record { slot = st.slot; before = st.kept; there = st.there; row = st.row; is = rw (st.same_number, ← st.is) refl }
+
 -- and its place keeps no more of it than that
 pub kept-cleared : (ss : List Slot) (es : List Name) (h : HNum) (r : HandleRow) (e : Name) → (st : Stands ss es h r e) → (kept_at ss e.place ≡ Some st.kept) × (r.cleared ≡ st.kept.cleared)
 kept-cleared ss es h r e st = (rw st.there st.row, ap (λ (t : HandleRow). t.cleared) (sym st.is))
@@ -456,6 +462,42 @@ length-filter_named ss (e ∷ es) = by (named_row ss e) refl (length-filter_name
     by None is rest = rw is rest
     by (Some r) is rest = rw is (ap suc rest)
 
+-- without the holes at the front the rows are the same, and each name that leads to one is found as before
+rows_of-put_none : (ss : List Slot) (e : Name) (es : List Name) → is_named ss e ≡ false → rows_of ss (e ∷ es) ≡ rows_of ss es
+rows_of-put_none ss e es hole = by (named_row ss e) refl
+  where
+    by : (o : Option HandleRow) → named_row ss e ≡ o → rows_of ss (e ∷ es) ≡ rows_of ss es
+    by None is = rw is refl
+    by (Some r) is = (let f : true ≡ false = rw is at hole in cc)
+
+pub rows_of-drop : (ss : List Slot) (n : ℕ) (es : List Name) → AreHoles ss n es → rows_of ss (drop n es) ≡ rows_of ss es
+rows_of-drop ss zero es holes = refl
+rows_of-drop ss (suc n) [] holes = refl
+rows_of-drop ss (suc n) (e ∷ es) holes =
+    rows_of-drop ss n es (λ i x lt at. holes (suc i) x (omega (arith, lt)) at) ∙ sym (rows_of-put_none ss e es (holes 0 e (omega arith) refl))
+
+pub NamesRise-drop : (low high n : ℕ) (es : List Name) → NamesRise low high es → NamesRise low high (drop n es)
+NamesRise-drop low high zero es rise = rise
+NamesRise-drop low high (suc n) [] rise = rise
+NamesRise-drop low high (suc n) (e ∷ es) rise = NamesRise-low low e.number high (drop n es) (omega (arith, rise.0)) (NamesRise-drop e.number high n es rise.1)
+
+pub ArePlaced-drop : (m n : ℕ) (es : List Name) → ArePlaced m es → ArePlaced m (drop n es)
+ArePlaced-drop m zero es placed = placed
+ArePlaced-drop m (suc n) [] placed = placed
+ArePlaced-drop m (suc n) (e ∷ es) placed = ArePlaced-drop m n es placed.1
+
+pub name_in-drop : (ss : List Slot) (n : ℕ) (es : List Name) (h : HNum) (e : Name) → AreHoles ss n es → name_in es h ≡ Some e → is_named ss e ≡ true
+    → name_in (drop n es) h ≡ Some e
+name_in-drop ss zero es h e holes found named = found
+name_in-drop ss (suc n) [] h e holes found named = absurd (none-some e found)
+name_in-drop ss (suc n) (x ∷ es) h e holes found named = by (eqb h.0 x.number) refl (name_in-drop ss n es h e (λ i y lt at. holes (suc i) y (omega (arith, lt)) at))
+  where
+    by : (b : Bool) → eqb h.0 x.number ≡ b → (name_in es h ≡ Some e → is_named ss e ≡ true → name_in (drop n es) h ≡ Some e) → name_in (drop n es) h ≡ Some e
+    by true same rest =
+        let here : Some x ≡ Some e = rw same at found in
+        absurd (true-false (is_named ss x) (rw (← same_Some x e here) at named) (holes 0 x (omega arith) refl))
+    by false apart rest = rest (rw apart at found) named
+
 -- there are no more rows than names, and no fewer where there is no hole: then each name leads to its row
 length-put-le : (o : Option HandleRow) (rows : List HandleRow) (n : ℕ) → length rows ≤ n → length (put o rows) ≤ suc n
 length-put-le None rows n le = omega arith
@@ -516,6 +558,49 @@ name_in-here low high (x ∷ es) zero e h rise at is =
 name_in-here low high (x ∷ es) (suc i) e h rise at is =
     let apart : h.0 ≢ x.number = omega (arith, is, NamesRise-above x.number high es i e rise.1 at) in
     rw (neq-eqb h.0 x.number apart) (name_in-here x.number high es i e h rise.1 at is)
+
+-- where a name is found there is a first one, whose number is no greater
+pub found-above : (low high : ℕ) (es : List Name) (h : HNum) → NamesRise low high es → name_in es h ≢ None → low < h.0
+found-above low high [] h rise found = absurd (found refl)
+found-above low high (e ∷ es) h rise found = by (eqb h.0 e.number) refl (found-above e.number high es h rise.1)
+  where
+    by : (b : Bool) → eqb h.0 e.number ≡ b → (name_in es h ≢ None → e.number < h.0) → low < h.0
+    by true is rest =
+        let same : h.0 ≡ e.number = grind (arith, nat_tests) in
+        omega (arith, same, rise.0)
+    by false is rest = omega (arith, rise.0, rest (λ none. found (rw is none)))
+
+pub first-below : (low high : ℕ) (es : List Name) (h : HNum) (x : Name) → NamesRise low high es → name_in es h ≢ None → slice_get es 0 ≡ Some x → x.number ≤ h.0
+first-below low high [] h x rise found at = absurd (none-some x at)
+first-below low high (e ∷ es) h x rise found at = by (eqb h.0 e.number) refl (found-above e.number high es h rise.1)
+  where
+    here : e ≡ x
+    here = same_Some e x at
+
+    by : (b : Bool) → eqb h.0 e.number ≡ b → (name_in es h ≢ None → e.number < h.0) → x.number ≤ h.0
+    by true is rest =
+        let same : h.0 ≡ e.number = grind (arith, nat_tests) in
+        rw (← here) (omega (arith, same))
+    by false is rest = rw (← here) (omega (arith, rest (λ none. found (rw is none))))
+
+pub found-some : (es : List Name) (h : HNum) → name_in es h ≢ None → 0 < length es
+found-some [] h found = absurd (found refl)
+found-some (e ∷ es) h found = omega arith
+
+pub some_name : (es : List Name) (h : HNum) → name_in es h ≢ None → (e : Name) × (name_in es h ≡ Some e)
+some_name es h found = by (name_in es h) refl
+  where
+    by : (o : Option Name) → name_in es h ≡ o → (e : Name) × (name_in es h ≡ Some e)
+    by None is = absurd (found is)
+    by (Some e) is = (e, is)
+
+-- a number with a row has a name
+pub named-some : (high : ℕ) (ss : List Slot) (es : List Name) (h : HNum) → NamesRise 0 high es → row_in (rows_of ss es) h ≢ None → name_in es h ≢ None
+named-some high ss es h rise there = λ none. there (rw (row_in-named 0 high ss es h rise, none) refl)
+
+pub some_row : (o : Option HandleRow) → o ≢ None → (r : HandleRow) × (o ≡ Some r)
+some_row None some = absurd (some refl)
+some_row (Some r) some = (r, refl)
 
 -- a place within a list has something
 pub get_some : (rows : List HandleRow) (i : ℕ) → i < length rows → slice_get rows i ≡ None → ⊥

@@ -32,6 +32,10 @@ named_row ss e = option_and_then (row_of e.number) (slice_get ss e.place)
 abbrev pub is_named : List Slot → Name → Bool
 is_named ss e = is_some (named_row ss e)
 
+-- the first n names lead to no row
+abbrev pub AreHoles : List Slot → ℕ → List Name → Type 0
+AreHoles ss n es = (i : ℕ) (e : Name) → i < n → slice_get es i ≡ Some e → is_named ss e ≡ false
+
 -- a row, if there is one, in front of other rows
 abbrev pub put : Option HandleRow → List HandleRow → List HandleRow
 put None rows = rows
@@ -100,6 +104,14 @@ cleared_kept k = record { number = k.number; hold = k.hold; strength = k.strengt
 abbrev pub cleared_slot : PNum → Slot → Slot
 cleared_slot p s = if p.0 == s.peer.0 then
     record { peer = s.peer; next = s.next; previous = s.previous; row = option_map cleared_kept s.row } else s
+
+-- a place has a row, which differs from this one by its strength alone
+pub record DiffersByStrength (ss : List Slot) (i : ℕ) (k : Kept) : Type 0 where
+  pub slot : Slot
+  pub before : Kept
+  pub there : slice_get ss i ≡ Some slot
+  pub row : slot.row ≡ Some before
+  pub is : record before { strength = k.strength } ≡ k
 
 -- there is a row, and it isn't cleared
 abbrev pub is_open : Option Kept → Bool

@@ -23,8 +23,9 @@
 // row stays in its place and takes the new number. The list of names leads from a number to its place. It only grows at
 // its end, so it stays sorted, and a look-up is one step where no number was left out, and goes by halves else, in 17
 // steps at most. A name whose place has no row of its number is a hole. The list has at most two names for each place:
-// where it is full, `restore` first drops its holes, which are then at least half of it. So what that reads is owed to
-// the names that came since, and on average a restore takes the same time however many there were before.
+// where it is full, at least half of it are holes, and `restore` first lets go of those at the front where they are
+// half of it, as they are where each handle was restored, and of all else. So what that reads is owed to the names that
+// came since, and on average a restore takes the same time however many there were before.
 //
 // Else each call reads and writes a few rows, however many there are, and `clear_target` just those that it clears. A
 // pass over all rows drops the holes by `settle` and then reads the rows in turn by `nth`.
@@ -37,13 +38,13 @@
 #![tactic(auto)]
 
 ghost use Rattle.std.specs.Prelude.{◌≡◌, ◌==◌, ◌+◌, ◌*◌, ◌<◌, ◌≤◌, ◌↔◌, max, List, [], ◌∷◌, ◌++◌, true, length, map};
-ghost use Rattle.std.specs.Prelude.{filter, slice_get, All, ok_or, ℕ, ◌-◌, ◌≢◌, if◌then◌else◌, Ok, Err, None, Some};
-ghost use Rattle.std.specs.Prelude.{OnOk, OnErr, IfOk, IsOk};
+ghost use Rattle.std.specs.Prelude.{drop, filter, slice_get, All, ok_or, ℕ, ◌-◌, ◌≢◌, if◌then◌else◌, Ok, Err, None, Some};
+ghost use Rattle.std.specs.Prelude.{OnOk, OnErr, IfOk, IfSome, IsOk};
 ghost use Rattle.std.specs.Option.{option_map};
 ghost use Rattle.std.specs.Vec.{vec_capacity, vec_len};
 ghost use Rattle.global_handles.specs.Slots.{name_in, named_row, is_named, rows_of, with_row, with_next, with_previous};
 ghost use Rattle.global_handles.specs.Slots.{head_in, cleared_slot, NamesRise, ArePlaced, AreLinkedSlots, IsLastOpen};
-ghost use Rattle.global_handles.specs.Slots.{IsChained};
+ghost use Rattle.global_handles.specs.Slots.{AreHoles, DiffersByStrength, IsChained};
 ghost use Rattle.global_handles.specs.Rows.{row_in, peer_in, target_in, strength_in, cleared_in, fresh_row, renewed};
 ghost use Rattle.global_handles.specs.Rows.{with_strength, changed, cleared_for, without, not_live, is_alive, back_of};
 ghost use Rattle.global_handles.specs.Rows.{IsWeakFor, IsRising};
@@ -147,6 +148,24 @@ struct Kept {
     cleared: bool,
 }
 
+impl Kept {
+    ghost use Rattle.global_handles.specs.Slots.{row_at};
+
+    // The row of a number, with its peer.
+    #[inline(always)]
+    fn row(self, h: HNum, peer: PNum) -> HandleRow
+        ensures { result ≡ row_at h.0 peer self }
+    {
+        HandleRow {
+            number: h,
+            peer,
+            hold: self.hold,
+            strength: self.strength,
+            cleared: self.cleared,
+        }
+    }
+}
+
 // A place: the peer that its handle was made on, and its row until that is removed.
 //
 // While it has a row that isn't cleared, it is on the chain of its peer, which has just these slots, the last made
@@ -172,13 +191,7 @@ impl Slot {
         if kept.number != number {
             return None;
         }
-        Some(HandleRow {
-            number: HNum(number),
-            peer: self.peer,
-            hold: kept.hold,
-            strength: kept.strength,
-            cleared: kept.cleared,
-        })
+        Some(kept.row(HNum(number), self.peer))
     }
 
     // Whether the slot has a row that isn't cleared.
@@ -370,9 +383,7 @@ impl HandleTable {
         ensures room { self.new.room ≡ self.old.room }
         ensures rising { IsRising self.new }
     {
-        let Some((name, row)) = look_up(self.names.as_slice(), self.slots.as_slice(), h) else {
-            unreachable!();
-        };
+        let (name, row) = look_up_there(self.names.as_slice(), self.slots.as_slice(), h);
         if row.cleared {
             let _ = self.release(h);
             return (Back::Cleared, row.peer);
@@ -403,16 +414,14 @@ impl HandleTable {
         ensures room { self.new.room ≡ self.old.room }
         ensures rising { IsRising self.new }
     {
-        let Some((name, row)) = look_up(self.names.as_slice(), self.slots.as_slice(), h) else {
-            unreachable!();
-        };
+        let (name, row) = look_up_there(self.names.as_slice(), self.slots.as_slice(), h);
         let kept = Kept {
             number: h.0,
             hold: row.hold,
             strength,
             cleared: row.cleared,
         };
-        set_row(&mut self.slots, name.place, Some(kept));
+        put_strength(&mut self.slots, name.place, kept);
     }
 
     /// Clears each row of `p`, whose object is freed. It takes no memory.
@@ -517,6 +526,40 @@ fn look_up(names: &[Name], slots: &[Slot], h: HNum) -> Option<(Name, HandleRow)>
     Some((name, row))
 }
 
+// The name and the row of a number that is in the table.
+#[inline(always)]
+fn look_up_there(names: &[Name], slots: &[Slot], h: HNum) -> (Name, HandleRow)
+    requires rise { (high : ℕ) × NamesRise 0 high names.now }
+    requires there { row_in (rows_of slots.now names.now) h ≢ None }
+    ensures name { name_in names.now h ≡ Some result.0 }
+    ensures row { row_in (rows_of slots.now names.now) h ≡ Some result.1 }
+{
+    let name = find_there(names, h);
+    let slot = slots[name.place as usize];
+    let Some(kept) = slot.row else {
+        unreachable!();
+    };
+    (name, kept.row(h, slot.peer))
+}
+
+// The name of a number that is among these, which are sorted by number. Where no number is left out before it, it
+// stands as far behind the first as its number is greater.
+#[inline(always)]
+fn find_there(names: &[Name], h: HNum) -> Name
+    requires rise { (high : ℕ) × NamesRise 0 high names.now }
+    requires there { name_in names.now h ≢ None }
+    ensures { name_in names.now h ≡ Some result }
+{
+    let behind = (h.0 - names[0].number) as usize;
+    if behind < names.len() {
+        let name = names[behind];
+        if name.number == h.0 {
+            return name;
+        }
+    }
+    names[far(names, h)]
+}
+
 // The name of a number, if it is among these, which are sorted by number.
 #[inline(always)]
 fn find(names: &[Name], h: HNum) -> Option<Name>
@@ -525,19 +568,19 @@ fn find(names: &[Name], h: HNum) -> Option<Name>
 {
     match straight(names, h) {
         Some(name) => Some(name),
-        None => far(names, h),
+        None => names.get(far(names, h)).copied(),
     }
 }
 
-// The name of a number, if it is among these, which are sorted by number, where it isn't as far behind the first as its
-// number is greater.
+// The place of the name of a number among these, which are sorted by number, where it isn't as far behind the first as
+// its number is greater; a place behind all of them where it isn't among them.
 #[inline(never)]
-fn far(names: &[Name], h: HNum) -> Option<Name>
+fn far(names: &[Name], h: HNum) -> usize
     requires { (high : ℕ) × NamesRise 0 high names.now }
-    ensures { result ≡ name_in names.now h }
+    ensures { slice_get names.now result ≡ name_in names.now h }
 {
     match straight_back(names, h) {
-        Some(name) => Some(name),
+        Some(place) => place,
         None => search(names, h),
     }
 }
@@ -559,36 +602,36 @@ fn straight(names: &[Name], h: HNum) -> Option<Name>
     }
 }
 
-// The name of a number that stands as far before the last as its number is less: there it is where no number is left
-// out behind it.
+// The place of a number's name that stands as far before the last as its number is less: there it is where no number is
+// left out behind it.
 #[inline(always)]
-fn straight_back(names: &[Name], h: HNum) -> Option<Name>
+fn straight_back(names: &[Name], h: HNum) -> Option<usize>
     requires { (high : ℕ) × NamesRise 0 high names.now }
-    ensures { (e : Name) → result ≡ Some e → name_in names.now h ≡ Some e }
+    ensures { IfSome result (λ i. slice_get names.now i ≡ name_in names.now h) }
 {
     let last = names.last()?;
     let before = last.number.checked_sub(h.0)?;
     let behind = (names.len() - 1).checked_sub(before as usize)?;
     let name = names.get(behind)?;
     if name.number == h.0 {
-        Some(*name)
+        Some(behind)
     } else {
         None
     }
 }
 
-// The name of a number, if it is among these, which are sorted by number. It goes by halves, from the span where the
-// number can stand.
-fn search(names: &[Name], h: HNum) -> Option<Name>
+// The place of the name of a number among these, which are sorted by number; a place behind all of them where it isn't
+// among them. It goes by halves, from the span where the number can stand.
+fn search(names: &[Name], h: HNum) -> usize
     requires { (high : ℕ) × NamesRise 0 high names.now }
-    ensures { result ≡ name_in names.now h }
+    ensures { slice_get names.now result ≡ name_in names.now h }
 {
     let (mut low, mut high) = span(names, h);
     while low < high {
         let middle = low + (high - low) / 2;
         let name = names[middle];
         if name.number == h.0 {
-            return Some(name);
+            return middle;
         }
         if name.number < h.0 {
             low = middle + 1;
@@ -596,7 +639,7 @@ fn search(names: &[Name], h: HNum) -> Option<Name>
             high = middle;
         }
     }
-    None
+    names.len()
 }
 
 // The span where the name of a number can stand, from this place on and below that one: numbers rise by one at least
@@ -649,16 +692,75 @@ fn reserve_names(names: &mut Vec<Name>, places: usize) -> Result<(), AllocError>
     names.reserve(2 * places - names.len())
 }
 
+// Whether a name leads to a row.
+#[inline(always)]
+fn leads(slots: &[Slot], name: Name) -> bool
+    ensures { result ≡ is_named slots.now name }
+{
+    match slots.get(name.place as usize) {
+        None => false,
+        Some(slot) => match slot.row {
+            Some(kept) => kept.number == name.number,
+            None => false,
+        },
+    }
+}
+
+// How many names there are before the first that leads to a row.
+fn front_holes(names: &[Name], slots: &[Slot]) -> usize
+    ensures within { result ≤ length names.now }
+    ensures holes { AreHoles slots.now result names.now }
+{
+    let mut holes = 0;
+    while holes < names.len() && !leads(slots, names[holes]) {
+        holes += 1;
+    }
+    holes
+}
+
+// Takes the first so many names off.
+fn drop_front(names: &mut Vec<Name>, n: usize)
+    requires { n ≤ vec_len names.old }
+    ensures items { names.new.items ≡ drop n names.old.items }
+    ensures capacity { vec_capacity names.new ≡ vec_capacity names.old }
+{
+    let len = names.len();
+    names.as_mut_slice().copy_within(n..len, 0);
+    names.truncate(len - n);
+}
+
 // Leaves just the names that lead to a row.
 #[inline(never)]
 fn drop_holes(names: &mut Vec<Name>, slots: &[Slot])
     ensures items { names.new.items ≡ filter (is_named slots.now) names.old.items }
     ensures capacity { vec_capacity names.new ≡ vec_capacity names.old }
 {
-    names.retain(|name| named(slots, *name).is_some());
+    names.retain(|name| leads(slots, *name));
 }
 
-// Makes sure that one more name is within two for each place: where it isn't, the holes are dropped.
+// Lets go of holes: those at the front, where they are half of all names, as they are where each handle was restored;
+// else each one.
+#[inline(never)]
+fn let_holes_go(names: &mut Vec<Name>, slots: &[Slot])
+    requires some { 1 ≤ length names.old.items }
+    requires rows { length (rows_of slots.now names.old.items) < length names.old.items }
+    ensures fewer { length names.new.items < length names.old.items }
+    ensures rows { rows_of slots.now names.new.items ≡ rows_of slots.now names.old.items }
+    ensures rise { (high : ℕ) → NamesRise 0 high names.old.items → NamesRise 0 high names.new.items }
+    ensures found { (h : HNum) (e : Name) → name_in names.old.items h ≡ Some e
+        → is_named slots.now e ≡ true → name_in names.new.items h ≡ Some e }
+    ensures placed { (n : ℕ) → ArePlaced n names.old.items → ArePlaced n names.new.items }
+    ensures capacity { vec_capacity names.new ≡ vec_capacity names.old }
+{
+    let holes = front_holes(names.as_slice(), slots);
+    if names.len() <= 2 * holes {
+        drop_front(names, holes);
+    } else {
+        drop_holes(names, slots);
+    }
+}
+
+// Makes sure that one more name is within two for each place: where it isn't, holes go.
 fn make_gap(names: &mut Vec<Name>, slots: &[Slot])
     requires few { length names.old.items ≤ 2 * length slots.now }
     requires rows { length (rows_of slots.now names.old.items) < 2 * length slots.now }
@@ -671,8 +773,22 @@ fn make_gap(names: &mut Vec<Name>, slots: &[Slot])
     ensures capacity { vec_capacity names.new ≡ vec_capacity names.old }
 {
     if names.len() == 2 * slots.len() {
-        drop_holes(names, slots);
+        let_holes_go(names, slots);
     }
+}
+
+// Changes the row of a place to this one, which differs from it by its strength alone.
+#[inline(always)]
+fn put_strength(slots: &mut Vec<Slot>, place: u32, kept: Kept)
+    requires within { place < length slots.old.items }
+    requires same { DiffersByStrength slots.old.items place kept }
+    ensures items { slots.new.items ≡ with_row slots.old.items place (Some kept) }
+    ensures capacity { vec_capacity slots.new ≡ vec_capacity slots.old }
+{
+    let Some(row) = &mut slots[place as usize].row else {
+        unreachable!();
+    };
+    row.strength = kept.strength;
 }
 
 // Changes or removes the row of a place.

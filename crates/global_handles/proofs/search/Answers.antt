@@ -1,6 +1,6 @@
-use Rattle.std.proofs.Common.{◌+◌, ◌-◌, ◌/◌, slice_index_or, sym, inl, inr, arith}
+use Rattle.std.proofs.Common.{◌+◌, ◌-◌, ◌/◌, slice_index_or, sym, inl, inr, ◌∙◌, arith}
 use Rattle.std.proofs.lemmas.Bool.{cases_lt}
-use Rattle.std.proofs.lemmas.Option.{slice_get-get_or}
+use Rattle.std.proofs.lemmas.Option.{slice_get-get_or, slice_get_past}
 use Rattle.global_handles.specs.declared.Name.{Name}
 use Rattle.global_handles.proofs.Slots.{above-middle, below-middle, name_in-here, name_in-none}
 use Rattle.global_handles.proofs.search.Goals as goal
@@ -11,7 +11,7 @@ returns-then-name-h c =
     let m = c.loop-low.low + (c.loop-low.high - c.loop-low.low) / 2 in
     let e : Name = slice_index_or es m (record { number = 0; place = 0 }) in
     let there = slice_get-get_or es m (record { number = 0; place = 0 }) (omega (arith, c.loop-low.invariant.within, c.loop-low-test.true)) in
-    sym (name_in-here 0 c.requires.0 es m e c.args.h c.requires.1 there c.if-name-h.true)
+    there ∙ sym (name_in-here 0 c.requires.0 es m e c.args.h c.requires.1 there c.if-name-h.true)
 
 pub loop-low-preserved-then-name-h-2 : goal.loop-low-preserved-then-name-h-2
 loop-low-preserved-then-name-h-2 c =
@@ -44,7 +44,7 @@ loop-low-preserved c =
 pub returns : goal.returns
 returns c =
     let i = c.loop-low.invariant in
-    sym (name_in-none c.args.names.now c.args.h (λ j e at is. elim (cases_lt j c.loop-low.low) [
+    slice_get_past c.args.names.now _ (omega arith) ∙ sym (name_in-none c.args.names.now c.args.h (λ j e at is. elim (cases_lt j c.loop-low.low) [
       | inl lt ↦ omega (arith, is, i.below j e lt at)
       | inr ge ↦ omega (arith, is, i.above j e (omega (arith, c.loop-low-test.false)) at)
     ]))

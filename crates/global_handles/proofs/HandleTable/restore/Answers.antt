@@ -18,31 +18,29 @@ abbrev given_by : Back → HNum
 given_by (Alive g) = g
 given_by Cleared = record { 0 = 0 }
 
-pub unreachable-requires : goal.unreachable-requires
-unreachable-requires c =
-    let none = rw (c.as_slice.ensures.value, c.as_slice-2.ensures.value) at (c.look_up.ensures.none c.in_default.is) in
-    (rw (← c.self.view_is) at c.requires.there) none
+pub look_up_there-requires-clause-there : goal.look_up_there-requires-clause-there
+look_up_there-requires-clause-there c = rw (c.as_slice.ensures.value, c.as_slice-2.ensures.value) (rw (← c.self.view_is) at c.requires.there)
 
 pub returns-then-row-clause-peer : goal.returns-then-row-clause-peer
 returns-then-row-clause-peer c =
-    let old = rw (c.as_slice.ensures.value, c.as_slice-2.ensures.value) at (c.look_up.ensures.some c.in-Some.name c.in-Some.row c.in-Some.is) in
-    rw (← c.self.view_is, old.1) refl
+    let old = rw (c.as_slice.ensures.value, c.as_slice-2.ensures.value) at c.look_up_there.ensures in
+    rw (← c.self.view_is, old.row) refl
 
 pub returns-then-row-clause-cleared : goal.returns-then-row-clause-cleared
 returns-then-row-clause-cleared c =
-    let old = rw (c.as_slice.ensures.value, c.as_slice-2.ensures.value) at (c.look_up.ensures.some c.in-Some.name c.in-Some.row c.in-Some.is) in
-    let cleared : cleared_in c.args.self.now.rows c.args.h ≡ Some true = rw (← c.self.view_is, old.1, c.if-row.true) refl in
+    let old = rw (c.as_slice.ensures.value, c.as_slice-2.ensures.value) at c.look_up_there.ensures in
+    let cleared : cleared_in c.args.self.now.rows c.args.h ≡ Some true = rw (← c.self.view_is, old.row, c.if-row.true) refl in
     (λ _. cleared, λ _. refl)
 
 pub returns-clause-peer : goal.returns-clause-peer
 returns-clause-peer c =
-    let old = rw (c.as_slice.ensures.value, c.as_slice-2.ensures.value) at (c.look_up.ensures.some c.in-Some.name c.in-Some.row c.in-Some.is) in
-    rw (← c.self.view_is, old.1) refl
+    let old = rw (c.as_slice.ensures.value, c.as_slice-2.ensures.value) at c.look_up_there.ensures in
+    rw (← c.self.view_is, old.row) refl
 
 pub returns-clause-cleared : goal.returns-clause-cleared
 returns-clause-cleared c =
-    let old = rw (c.as_slice.ensures.value, c.as_slice-2.ensures.value) at (c.look_up.ensures.some c.in-Some.name c.in-Some.row c.in-Some.is) in
-    let uncleared : cleared_in c.args.self.now.rows c.args.h ≡ Some false = rw (← c.self.view_is, old.1, c.if-row.false) refl in
+    let old = rw (c.as_slice.ensures.value, c.as_slice-2.ensures.value) at c.look_up_there.ensures in
+    let uncleared : cleared_in c.args.self.now.rows c.args.h ≡ Some false = rw (← c.self.view_is, old.row, c.if-row.false) refl in
     (λ is. absurd (true_false (ap is_alive is)), λ is. absurd (true_false (same_Some true false (sym is ∙ uncleared))))
 
 pub set_row-requires : goal.set_row-requires
@@ -50,12 +48,12 @@ set_row-requires c =
     let last = c.self.inside.last in
     let all = c.self.inside.slots.items in
     let es = c.make_gap.new.names.items in
-    let old = rw (c.as_slice.ensures.value, c.as_slice-2.ensures.value) at (c.look_up.ensures.some c.in-Some.name c.in-Some.row c.in-Some.is) in
+    let old = rw (c.as_slice.ensures.value, c.as_slice-2.ensures.value) at c.look_up_there.ensures in
     let rise : NamesRise 0 last es = c.make_gap.ensures.rise _ c.self.invariant.rise in
     let rows : rows_of all es ≡ rows_of all c.self.inside.names.items = rw c.as_slice-3.ensures.value at c.make_gap.ensures.rows in
-    let left = rw c.as_slice-3.ensures.value at (c.make_gap.ensures.found c.args.h c.in-Some.name old.0) in
-    let st : Stands all es c.args.h c.in-Some.row c.in-Some.name = stands_still last all c.self.inside.names.items
-    es c.args.h c.in-Some.row c.in-Some.name c.self.invariant.rise rise old.0 old.1 left rows in
+    let left = rw c.as_slice-3.ensures.value at (c.make_gap.ensures.found c.args.h c.look_up_there.result.0 old.name) in
+    let st : Stands all es c.args.h c.look_up_there.result.1 c.look_up_there.result.0 = stands_still last all c.self.inside.names.items
+    es c.args.h c.look_up_there.result.1 c.look_up_there.result.0 c.self.invariant.rise rise old.name old.row left rows in
     st.within
 
 pub invariant_of-self : goal.invariant_of-self
@@ -63,22 +61,22 @@ invariant_of-self c =
     let last = c.self.inside.last in
     let all = c.self.inside.slots.items in
     let es = c.make_gap.new.names.items in
-    let old = rw (c.as_slice.ensures.value, c.as_slice-2.ensures.value) at (c.look_up.ensures.some c.in-Some.name c.in-Some.row c.in-Some.is) in
+    let old = rw (c.as_slice.ensures.value, c.as_slice-2.ensures.value) at c.look_up_there.ensures in
     let rise : NamesRise 0 last es = c.make_gap.ensures.rise _ c.self.invariant.rise in
     let rows : rows_of all es ≡ rows_of all c.self.inside.names.items = rw c.as_slice-3.ensures.value at c.make_gap.ensures.rows in
-    let left = rw c.as_slice-3.ensures.value at (c.make_gap.ensures.found c.args.h c.in-Some.name old.0) in
-    let st : Stands all es c.args.h c.in-Some.row c.in-Some.name = stands_still last all c.self.inside.names.items
-    es c.args.h c.in-Some.row c.in-Some.name c.self.invariant.rise rise old.0 old.1 left rows in
+    let left = rw c.as_slice-3.ensures.value at (c.make_gap.ensures.found c.args.h c.look_up_there.result.0 old.name) in
+    let st : Stands all es c.args.h c.look_up_there.result.1 c.look_up_there.result.0 = stands_still last all c.self.inside.names.items
+    es c.args.h c.look_up_there.result.1 c.look_up_there.result.0 c.self.invariant.rise rise old.name old.row left rows in
     let i = c.self.invariant in
-    let name = c.in-Some.name in
-    let row : row_in (rows_of all es) c.args.h ≡ Some c.in-Some.row = rw rows old.1 in
-    let kept = kept-cleared all es c.args.h c.in-Some.row name st in
+    let name = c.look_up_there.result.0 in
+    let row : row_in (rows_of all es) c.args.h ≡ Some c.look_up_there.result.1 = rw rows old.row in
+    let kept = kept-cleared all es c.args.h c.look_up_there.result.1 name st in
     let e = c.set_row.ensures.items in
     let len = length-with_row all name.place (Some (kept_anew (last + 1))) in
     let names : c.push_reserved.new.self.items ≡ es ++ name_anew (last + 1) name ∷ [] = c.push_reserved.ensures.items in
     record {
       most = rw e (omega (arith, len));
-      counted = rw (e, names) (omega (arith, length-renewed last (last + 1) all es c.args.h c.in-Some.row name rise (omega arith) st row c.if-row.false, i.counted, ap length rows));
+      counted = rw (e, names) (omega (arith, length-renewed last (last + 1) all es c.args.h c.look_up_there.result.1 name rise (omega arith) st row c.if-row.false, i.counted, ap length rows));
       few = rw e (omega (arith, len, i.few));
       rise = rw names (NamesRise-push 0 last (last + 1) es (name_anew (last + 1) name) (omega arith) (omega arith) rise);
       placed = rw (e, names, len) (ArePlaced-push (length all) es (name_anew (last + 1) name) st.within (c.make_gap.ensures.placed _ i.placed));
@@ -95,16 +93,16 @@ returns-clause-anew c =
     let last = c.self.inside.last in
     let all = c.self.inside.slots.items in
     let es = c.make_gap.new.names.items in
-    let old = rw (c.as_slice.ensures.value, c.as_slice-2.ensures.value) at (c.look_up.ensures.some c.in-Some.name c.in-Some.row c.in-Some.is) in
+    let old = rw (c.as_slice.ensures.value, c.as_slice-2.ensures.value) at c.look_up_there.ensures in
     let rise : NamesRise 0 last es = c.make_gap.ensures.rise _ c.self.invariant.rise in
     let rows : rows_of all es ≡ rows_of all c.self.inside.names.items = rw c.as_slice-3.ensures.value at c.make_gap.ensures.rows in
-    let left = rw c.as_slice-3.ensures.value at (c.make_gap.ensures.found c.args.h c.in-Some.name old.0) in
-    let st : Stands all es c.args.h c.in-Some.row c.in-Some.name = stands_still last all c.self.inside.names.items
-    es c.args.h c.in-Some.row c.in-Some.name c.self.invariant.rise rise old.0 old.1 left rows in
-    let row : row_in (rows_of all es) c.args.h ≡ Some c.in-Some.row = rw rows old.1 in
+    let left = rw c.as_slice-3.ensures.value at (c.make_gap.ensures.found c.args.h c.look_up_there.result.0 old.name) in
+    let st : Stands all es c.args.h c.look_up_there.result.1 c.look_up_there.result.0 = stands_still last all c.self.inside.names.items
+    es c.args.h c.look_up_there.result.1 c.look_up_there.result.0 c.self.invariant.rise rise old.name old.row left rows in
+    let row : row_in (rows_of all es) c.args.h ≡ Some c.look_up_there.result.1 = rw rows old.row in
     let anew : rows_of c.set_row.new.slots.items c.push_reserved.new.self.items ≡ renewed c.args.h
     (record { 0 = last + 1 }) c.args.self.now.rows = rw (c.set_row.ensures.items, c.push_reserved.ensures.items, ← c.self.view_is, ← rows)
-    (renewed-rows last (last + 1) all es c.args.h c.in-Some.row c.in-Some.name rise (omega arith) st row c.if-row.false) in
+    (renewed-rows last (last + 1) all es c.args.h c.look_up_there.result.1 c.look_up_there.result.0 rise (omega arith) st row c.if-row.false) in
     let last_is : last + 1 ≡ c.args.self.now.last + 1 = rw (← c.self.view_is) refl in
     λ g is. let same : record { 0 = last + 1 } ≡ g = ap given_by is in
     (rw (← same) anew, rw (← same) last_is, last_is)
@@ -117,4 +115,4 @@ returns-clause-rising c =
     let last = c.self.inside.last in
     let rise : NamesRise 0 last c.make_gap.new.names.items = c.make_gap.ensures.rise _ c.self.invariant.rise in
     rw c.push_reserved.ensures.items (RisesBetween-named 0 _ c.set_row.new.slots.items _
-    (NamesRise-push 0 last (last + 1) c.make_gap.new.names.items (name_anew (last + 1) c.in-Some.name) (omega arith) (omega arith) rise))
+    (NamesRise-push 0 last (last + 1) c.make_gap.new.names.items (name_anew (last + 1) c.look_up_there.result.0) (omega arith) (omega arith) rise))
