@@ -67,13 +67,17 @@ set-self [] i x e = refl
 set-self (y ∷ xs) zero x e = (let d : x ≡ y = cc in ap (λ z. z ∷ xs) d)
 set-self (y ∷ xs) (suc i) x e = ap (λ z. y ∷ z) (set-self xs i x e)
 
--- what happens under a key is seen at no other place
-pub others-same : (s t : Slab Row) (places : List RowPlace) (i key : ℕ) (slot : Option Row) → IsIndex s places → slice_get places i ≡ Some (At key) → Updates s t key slot
-    → (j : ℕ) (p : RowPlace) → j ≢ i → slice_get places j ≡ Some p → seen_at t p ≡ seen_at s p
-others-same s t places i key slot index at u j (Gone kept) n e = refl
-others-same s t places i key slot index at u j Leaf n e = refl
-others-same s t places i key slot index at u j (At k) n e = ap (λ o. elim o [ None ↦ gone [] | Some r ↦ standing r ])
-    (u.others k (λ q. n (index.once j i key (subst (λ z. slice_get places j ≡ Some (At z)) q e) at)))
+-- the slab has what it had under the keys of all places but one, so what happened is seen at no other place
+abbrev pub KeepsOthers : Slab Row → Slab Row → List RowPlace → ℕ → Type 0
+KeepsOthers s t places i = (j k : ℕ) → j ≢ i → slice_get places j ≡ Some (At k) → get t k ≡ get s k
+
+pub keeps-others : (s t : Slab Row) (places : List RowPlace) (i key : ℕ) (slot : Option Row) → IsIndex s places → slice_get places i ≡ Some (At key) → Updates s t key slot → KeepsOthers s t places i
+keeps-others s t places i key slot index at u j k n e = u.others k (λ q. n (index.once j i key (subst (λ z. slice_get places j ≡ Some (At z)) q e) at))
+
+pub others-same : (s t : Slab Row) (places : List RowPlace) (i : ℕ) → KeepsOthers s t places i → (j : ℕ) (p : RowPlace) → j ≢ i → slice_get places j ≡ Some p → seen_at t p ≡ seen_at s p
+others-same s t places i same j (Gone kept) n e = refl
+others-same s t places i same j Leaf n e = refl
+others-same s t places i same j (At k) n e = ap (λ o. elim o [ None ↦ gone [] | Some r ↦ standing r ]) (same j k n e)
 
 pub key-there : (s : Slab Row) (places : List RowPlace) (i key : ℕ) → IsIndex s places → slice_get places i ≡ Some (At key) → is_some (get s key) ≡ true
 key-there s places i key index at = (let w = index.there i key at in ap is_some w.1)
@@ -97,7 +101,7 @@ shown-written s places rows x key r new view index one at is =
     let t = with_value s key r in
     let u = Updates-with_value s key r (key-there s places (x - 1) key index at) in
     ap (map (seen_at t)) (sym (set-self places (x - 1) (At key) at))
-    ∙ (map-set_others (seen_at s) (seen_at t) places (x - 1) (At key) (others-same s t places (x - 1) key (Some r) index at u)
+    ∙ (map-set_others (seen_at s) (seen_at t) places (x - 1) (At key) (others-same s t places (x - 1) (keeps-others s t places (x - 1) key (Some r) index at u))
     ∙ (ap (λ z. set (map (seen_at s) places) (x - 1) z) (ap (λ o. elim o [ None ↦ gone [] | Some q ↦ standing q ]) u.changed ∙ is)
     ∙ (ap (λ z. set z (x - 1) new) view ∙ numbered_set-index rows x new one)))
 
@@ -107,28 +111,6 @@ set-at_or (z ∷ xs) zero x zero y e = inl (let d : y ≡ x = cc in d)
 set-at_or (z ∷ xs) zero x (suc j) y e = inr ((λ q. omega (arith, q)), e)
 set-at_or (z ∷ xs) (suc i) x zero y e = inr ((λ q. omega (arith, q)), e)
 set-at_or (z ∷ xs) (suc i) x (suc j) y e = elim (set-at_or xs i x j y e) [ inl w ↦ inl w | inr w ↦ inr ((λ q. w.0 (omega (arith, q))), w.1) ]
-
--- a row that the slab doesn't have is removed
-pub IsIndex-left : (s : Slab Row) (places : List RowPlace) (i : ℕ) (kept : Snapshot Fields) → IsIndex s places → IsIndex s (set places i (Gone kept))
-IsIndex-left s places i kept index = record {
-  there = λ j k e. elim (set-at_or places i (Gone kept) j (At k) e) [
-    | inl w ↦ (let d : ⊥ = cc in absurd d)
-    | inr w ↦ index.there j k w.1
-  ];
-  once = λ j l k ej el. elim (set-at_or places i (Gone kept) j (At k) ej) [
-    | inl w ↦ (let d : ⊥ = cc in absurd d)
-    | inr w ↦ elim (set-at_or places i (Gone kept) l (At k) el) [
-      | inl v ↦ (let d : ⊥ = cc in absurd d)
-      | inr v ↦ index.once j l k w.1 v.1
-    ]
-  ];
-}
-
-pub shown-left : (s : Slab Row) (places : List RowPlace) (rows : List Seen) (x : ℕ) (kept : Snapshot Fields) (new : Seen)
-    → map (seen_at s) places ≡ rows → 1 ≤ x → gone kept.value ≡ new → map (seen_at s) (set places (x - 1) (Gone kept)) ≡ numbered_set rows x new
-shown-left s places rows x kept new view one is =
-    map-set_others (seen_at s) (seen_at s) places (x - 1) (Gone kept) (λ j p n e. refl)
-    ∙ (ap (λ z. set (map (seen_at s) places) (x - 1) z) is ∙ (ap (λ z. set z (x - 1) new) view ∙ numbered_set-index rows x new one))
 
 -- a further row that the slab doesn't have
 not-leaf : (k : ℕ) → Leaf ≡ At k → ⊥
@@ -149,13 +131,12 @@ IsIndex-leaf s places index = record {
   ];
 }
 
--- a row is removed, and its place keeps the fields
-pub IsIndex-freed : (s t : Slab Row) (places : List RowPlace) (i key : ℕ) (kept : Snapshot Fields) → IsIndex s places
-    → slice_get places i ≡ Some (At key) → Updates s t key None → IsIndex t (set places i (Gone kept))
-IsIndex-freed s t places i key kept index at u = record {
+-- a row is removed, from the slab too if that has it, and its place keeps the fields
+pub IsIndex-freed : (s t : Slab Row) (places : List RowPlace) (i : ℕ) (kept : Snapshot Fields) → IsIndex s places → KeepsOthers s t places i → IsIndex t (set places i (Gone kept))
+IsIndex-freed s t places i kept index same = record {
   there = λ j k e. elim (set-at_or places i (Gone kept) j (At k) e) [
     | inl w ↦ (let d : ⊥ = cc in absurd d)
-    | inr w ↦ (let o = index.there j k w.1 in (o.0, u.others k (λ q. w.0 (index.once j i key (subst (λ z. slice_get places j ≡ Some (At z)) q w.1) at)) ∙ o.1))
+    | inr w ↦ (let o = index.there j k w.1 in (o.0, same j k w.0 w.1 ∙ o.1))
   ];
   once = λ j l k ej el. elim (set-at_or places i (Gone kept) j (At k) ej) [
     | inl w ↦ (let d : ⊥ = cc in absurd d)
@@ -166,12 +147,11 @@ IsIndex-freed s t places i key kept index at u = record {
   ];
 }
 
-pub shown-freed : (s t : Slab Row) (places : List RowPlace) (rows : List Seen) (x key : ℕ) (kept : Snapshot Fields) (new : Seen)
-    → map (seen_at s) places ≡ rows → IsIndex s places → 1 ≤ x → slice_get places (x - 1) ≡ Some (At key) → Updates s t key None
-    → gone kept.value ≡ new → map (seen_at t) (set places (x - 1) (Gone kept)) ≡ numbered_set rows x new
-shown-freed s t places rows x key kept new view index one at u is =
-    map-set_others (seen_at s) (seen_at t) places (x - 1) (Gone kept) (others-same s t places (x - 1) key None index at u)
-    ∙ (ap (λ z. set (map (seen_at s) places) (x - 1) z) is ∙ (ap (λ z. set z (x - 1) new) view ∙ numbered_set-index rows x new one))
+pub shown-freed : (s t : Slab Row) (places : List RowPlace) (rows : List Seen) (x : ℕ) (kept : Snapshot Fields)
+    → map (seen_at s) places ≡ rows → 1 ≤ x → KeepsOthers s t places (x - 1) → map (seen_at t) (set places (x - 1) (Gone kept)) ≡ numbered_set rows x (gone kept.value)
+shown-freed s t places rows x kept view one same =
+    map-set_others (seen_at s) (seen_at t) places (x - 1) (Gone kept) (others-same s t places (x - 1) same)
+    ∙ (ap (λ z. set z (x - 1) (gone kept.value)) view ∙ numbered_set-index rows x (gone kept.value) one)
 
 -- a row under a vacant key, at the end of the index
 differs : (s : Slab Row) (places : List RowPlace) (key i k : ℕ) → IsIndex s places → get s key ≡ None → slice_get places i ≡ Some (At k) → k ≡ key → ⊥
@@ -231,10 +211,6 @@ at-key s places rows x r key view up is e = (let w = stands-within rows x up in 
 pub row-of : (s : Slab Row) (places : List RowPlace) (rows : List Seen) (x : ℕ) (r : RowPlace) (key : ℕ) (row : Row) → map (seen_at s) places ≡ rows
     → (row_at rows x).stands ≡ true → r ≡ At key → r ≡ get_or places (x - 1) r → get s key ≡ Some row → row_at rows x ≡ standing row
 row-of s places rows x r key row view up is e got = (let w = stands-within rows x up in read-row s places rows x r (At key) view w.0 w.1 is e ∙ seen-row s key row got)
-
-pub not-gone : (s : Slab Row) (places : List RowPlace) (rows : List Seen) (x : ℕ) (r : RowPlace) (kept : Snapshot Fields)
-    → map (seen_at s) places ≡ rows → (row_at rows x).stands ≡ true → r ≡ Gone kept → r ≡ get_or places (x - 1) r → ⊥
-not-gone s places rows x r kept view up is e = (let w = stands-within rows x up in stands-gone kept s (row_at rows x) (read-row s places rows x r (Gone kept) view w.0 w.1 is e) up)
 
 -- its row is written
 pub index-written : (s : Slab Row) (places : List RowPlace) (rows : List Seen) (x : ℕ) (r : RowPlace) (key : ℕ) (new : Row) → map (seen_at s) places ≡ rows

@@ -2,7 +2,7 @@
 -- so a write to a row of the slab is a write to the row as it is seen; a write to all three lists at one place writes
 -- the row with both. A row with a mark stands as long as each row that is written is such a row, and a marking through
 -- the fields of a row marks rows that stand.
-use Rattle.std.proofs.Common.{◌≡◌, ℕ, zero, suc, ◌-◌, ◌≤◌, ◌<◌, ◌⊎◌, inl, inr, Bool, true, false, List, [], ◌∷◌, ◌++◌, map, length, replicate, drop, get_or, set, Option, Some, None, refl, sym, ap}
+use Rattle.std.proofs.Common.{◌≡◌, ℕ, zero, suc, ◌-◌, ◌≤◌, ◌<◌, ◌⊎◌, inl, inr, Bool, true, false, List, [], ◌∷◌, ◌++◌, map, length, replicate, drop, get_or, set, Option, Some, None, is_some, refl, sym, ap}
 use Rattle.std.proofs.Common.{subst, ◌∙◌, arith, length-append}
 use Rattle.std.specs.Prelude.{Contains, slice_get}
 use Rattle.std.proofs.Math.ListN.{length-set}
@@ -21,9 +21,8 @@ use Rattle.row_heap.specs.declared.places.Row.{Row}
 use Rattle.row_heap.specs.declared.places.RowPlace.{RowPlace}
 use Rattle.row_heap.specs.declared.places.RowPlace.TheVariants.{At, Gone, Leaf}
 use Rattle.row_heap.specs.Places.{Seen, AreRows, DoMarkedStand, IsIndex, bare, gone, leaf, marks_in, links_in, row_at, seen_at, standing, unmarked_row, with_marks}
-use Rattle.row_heap.proofs.Indexed.{IsIndex-freed, IsIndex-grown, IsIndex-leaf, IsIndex-left, IsIndex-pushed, index-written, read-place, read-row, row-of, rows-self, rows-written, seen-stands}
-use Rattle.row_heap.proofs.Indexed.{shown-freed, shown-grown}
-use Rattle.row_heap.proofs.Indexed.{shown-left, shown-pushed, stands-within}
+use Rattle.row_heap.proofs.Indexed.{IsIndex-freed, IsIndex-grown, IsIndex-leaf, IsIndex-pushed, KeepsOthers, index-written, key-there, read-place, read-row, row-of, rows-self, rows-written, seen-row}
+use Rattle.row_heap.proofs.Indexed.{shown-freed, shown-grown, shown-pushed, stands-gone, stands-within}
 use Rattle.row_heap.specs.Ends.{Raises}
 use Rattle.row_heap.proofs.Edges.{unmarked-none}
 use Rattle.row_heap.proofs.Walked.{marked-row, row-marked}
@@ -242,15 +241,12 @@ greyed-push fields f a k h b l i c n j v w = Greyed-then (λ z. Contains fields 
 pub len-under : (s : Slab Row) (places : List RowPlace) (rows : List Seen) (marks : List Bool) (links : List ℕ) → with_marks (map (seen_at s) places) marks links ≡ rows → length rows ≡ length places
 len-under s places rows marks links view = sym (ap length view) ∙ (length-with_marks (map (seen_at s) places) marks links ∙ length-map places (seen_at s))
 
+pub index-under : (s : Slab Row) (places : List RowPlace) (rows : List Seen) (marks : List Bool) (links : List ℕ) (x : ℕ)
+    → with_marks (map (seen_at s) places) marks links ≡ rows → (row_at rows x).stands ≡ true → x - 1 < length places
+index-under s places rows marks links x view up = (let w = stands-within rows x up in omega (arith, w.0, w.1, len-under s places rows marks links view))
+
 pub up-under : (base rows : List Seen) (marks : List Bool) (links : List ℕ) (x : ℕ) → with_marks base marks links ≡ rows → (row_at rows x).stands ≡ true → (row_at base x).stands ≡ true
 up-under base rows marks links x view up = sym (row_at-under (λ r. r.stands) (λ r m l. refl) base marks links x) ∙ (ap (λ (l : List Seen). (row_at l x).stands) view ∙ up)
-
-pub key-up : (s : Slab Row) (places : List RowPlace) (x : ℕ) (r : RowPlace) (key : ℕ) → IsIndex s places → 1 ≤ x
-    → x ≤ length places → r ≡ At key → r ≡ get_or places (x - 1) r → (row_at (map (seen_at s) places) x).stands ≡ true
-key-up s places x r key index one le is e =
-    let le' : x ≤ length (map (seen_at s) places) = omega (arith, le, length-map places (seen_at s)) in
-    ap (λ z. z.stands) (read-row s places (map (seen_at s) places) x r (At key) refl one le' is e)
-    ∙ seen-stands s places (x - 1) key index (read-place s places (map (seen_at s) places) x r (At key) refl one le' is e)
 
 -- the row under one key is written
 pub changed-rows : (g : Seen → Seen) → ((r : Seen) (m : Bool) (l : ℕ) → g (record r { marked = m; link = l }) ≡ record (g r) { marked = m; link = l })
@@ -276,26 +272,26 @@ changed-are g apart stays s places rows marks links x r key old new view a up is
     ∙ (sym (ap (λ (l : List Seen). (row_at l x).stands) view) ∙ (row_at-under (λ q. q.stands) (λ q n l. refl) base marks links x ∙ up))) (subst DoMarkedStand view a.up))
 
 -- a row is removed
-pub freed-rows : (s t : Slab Row) (places : List RowPlace) (rows : List Seen) (marks : List Bool) (links : List ℕ) (x key : ℕ) (kept : Snapshot Fields)
-    → with_marks (map (seen_at s) places) marks links ≡ rows → AreRows s places marks links → 1 ≤ x → slice_get places (x - 1) ≡ Some (At key) → Updates s t key None
-    → kept.value ≡ (row_at (map (seen_at s) places) x).fields
+pub freed-rows : (s t : Slab Row) (places : List RowPlace) (rows : List Seen) (marks : List Bool) (links : List ℕ) (x : ℕ) (kept : Snapshot Fields)
+    → with_marks (map (seen_at s) places) marks links ≡ rows → AreRows s places marks links → (row_at rows x).stands ≡ true → KeepsOthers s t places (x - 1) → kept.value ≡ (row_at rows x).fields
     → with_marks (map (seen_at t) (set places (x - 1) (Gone kept))) (set marks (x - 1) false) (set links (x - 1) 0) ≡ numbered_set rows x (gone (row_at rows x).fields)
-freed-rows s t places rows marks links x key kept view a one at u had =
+freed-rows s t places rows marks links x kept view a up same had =
     let base = map (seen_at s) places in
     let len : length base ≡ length places = length-map places (seen_at s) in
-    shown-set base (map (seen_at t) (set places (x - 1) (Gone kept))) rows marks links x (gone (row_at base x).fields) false 0 view (a.marks_len ∙ sym len) (a.links_len ∙ sym len) one
-    (shown-freed s t places base x key kept (gone (row_at base x).fields) refl a.index one at u (ap gone had))
-    ∙ ap (λ fs. numbered_set rows x (gone fs)) (sym (row_at-under (λ q. q.fields) (λ q n l. refl) base marks links x) ∙ ap (λ (l : List Seen). (row_at l x).fields) view)
+    let one = (stands-within rows x up).0 in
+    shown-set base (map (seen_at t) (set places (x - 1) (Gone kept))) rows marks links x (gone kept.value) false 0 view (a.marks_len ∙ sym len) (a.links_len ∙ sym len) one
+    (shown-freed s t places base x kept refl one same)
+    ∙ ap (λ fs. numbered_set rows x (gone fs)) had
 
-pub freed-are : (s t : Slab Row) (places : List RowPlace) (rows : List Seen) (marks : List Bool) (links : List ℕ) (x key : ℕ) (kept : Snapshot Fields)
-    → with_marks (map (seen_at s) places) marks links ≡ rows → AreRows s places marks links → 1 ≤ x → slice_get places (x - 1) ≡ Some (At key) → Updates s t key None
-    → kept.value ≡ (row_at (map (seen_at s) places) x).fields → AreRows t (set places (x - 1) (Gone kept)) (set marks (x - 1) false) (set links (x - 1) 0)
-freed-are s t places rows marks links x key kept view a one at u had =
+pub freed-are : (s t : Slab Row) (places : List RowPlace) (rows : List Seen) (marks : List Bool) (links : List ℕ) (x : ℕ) (kept : Snapshot Fields)
+    → with_marks (map (seen_at s) places) marks links ≡ rows → AreRows s places marks links → (row_at rows x).stands ≡ true → KeepsOthers s t places (x - 1) → kept.value ≡ (row_at rows x).fields
+    → AreRows t (set places (x - 1) (Gone kept)) (set marks (x - 1) false) (set links (x - 1) 0)
+freed-are s t places rows marks links x kept view a up same had =
     let len : length (set places (x - 1) (Gone kept)) ≡ length places = length-set places (x - 1) (Gone kept) in
     AreRows-as t (set places (x - 1) (Gone kept)) (set marks (x - 1) false) (set links (x - 1) 0)
-    (numbered_set rows x (gone (row_at rows x).fields)) (IsIndex-freed s t places (x - 1) key kept a.index at u)
+    (numbered_set rows x (gone (row_at rows x).fields)) (IsIndex-freed s t places (x - 1) kept a.index same)
     (length-set marks (x - 1) false ∙ (a.marks_len ∙ sym len)) (length-set links (x - 1) 0 ∙ (a.links_len ∙ sym len))
-    (freed-rows s t places rows marks links x key kept view a one at u had) (stand-set rows x (gone (row_at rows x).fields) (λ m. (let f : ⊥ = cc in absurd f)) (subst DoMarkedStand view a.up))
+    (freed-rows s t places rows marks links x kept view a up same had) (stand-set rows x (gone (row_at rows x).fields) (λ m. (let f : ⊥ = cc in absurd f)) (subst DoMarkedStand view a.up))
 
 -- a mark and a link, and the rest of a row, at its number
 pub bare-under : (s : Slab Row) (places : List RowPlace) (rows : List Seen) (marks : List Bool) (links : List ℕ) (x : ℕ)
@@ -385,42 +381,36 @@ visited-are s places rows marks others links after fields view a em el fresh hel
       up = stand-visited (map (seen_at s) places) rows marks others links after fields view (em ∙ (a.marks_len ∙ sym len)) fresh (a.marks_len ∙ sym len) held (subst DoMarkedStand view a.up);
     }
 
--- the fields of a row that stands
+-- a place that was read, and its row without its mark and its link
+pub place-under : (s : Slab Row) (places : List RowPlace) (rows : List Seen) (marks : List Bool) (links : List ℕ) (x : ℕ) (r p : RowPlace)
+    → with_marks (map (seen_at s) places) marks links ≡ rows → (1 ≤ x) × (x ≤ length rows) → r ≡ p → r ≡ get_or places (x - 1) r
+    → (slice_get places (x - 1) ≡ Some p) × (bare (row_at rows x) ≡ seen_at s p)
+place-under s places rows marks links x r p view w is e =
+    let base = map (seen_at s) places in
+    let le : x ≤ length base = omega (arith, w.1, len-under s places rows marks links view, length-map places (seen_at s)) in
+    (read-place s places base x r p refl w.0 le is e, bare-under s places rows marks links x view ∙ read-row s places base x r p refl w.0 le is e)
+
+-- a row that stands has its key in the slab, if it has one, and is not gone
+pub key-under : (s : Slab Row) (places : List RowPlace) (rows : List Seen) (marks : List Bool) (links : List ℕ) (x : ℕ) (r : RowPlace) (key : ℕ)
+    → with_marks (map (seen_at s) places) marks links ≡ rows → IsIndex s places → (row_at rows x).stands ≡ true → r ≡ At key → r ≡ get_or places (x - 1) r → is_some (get s key) ≡ true
+key-under s places rows marks links x r key view index up is e = key-there s places (x - 1) key index (place-under s places rows marks links x r (At key) view (stands-within rows x up) is e).0
+
+pub not-gone : (s : Slab Row) (places : List RowPlace) (rows : List Seen) (marks : List Bool) (links : List ℕ) (x : ℕ) (r : RowPlace) (kept : Snapshot Fields)
+    → with_marks (map (seen_at s) places) marks links ≡ rows → (row_at rows x).stands ≡ true → r ≡ Gone kept → r ≡ get_or places (x - 1) r → ⊥
+not-gone s places rows marks links x r kept view up is e = stands-gone kept s (bare (row_at rows x)) (place-under s places rows marks links x r (Gone kept) view (stands-within rows x up) is e).1 up
+
+-- its fields
 pub fields-under : (s : Slab Row) (places : List RowPlace) (rows : List Seen) (marks : List Bool) (links : List ℕ) (x : ℕ) (r : RowPlace) (key : ℕ) (row : Row)
     → with_marks (map (seen_at s) places) marks links ≡ rows → (row_at rows x).stands ≡ true → r ≡ At key → r ≡ get_or places (x - 1) r → get s key ≡ Some row
     → (row_at rows x).fields ≡ row.fields
 fields-under s places rows marks links x r key row view up is e got =
-    ap (λ z. z.fields) (bare-under s places rows marks links x view ∙ row-of s places (map (seen_at s) places) x r key row refl (up-under (map (seen_at s) places) rows marks links x view up) is e got)
+    ap (λ z. z.fields) ((place-under s places rows marks links x r (At key) view (stands-within rows x up) is e).1 ∙ seen-row s key row got)
 
 -- one that the slab doesn't have has none
 pub leaf-under : (s : Slab Row) (places : List RowPlace) (rows : List Seen) (marks : List Bool) (links : List ℕ) (x : ℕ) (r : RowPlace)
     → with_marks (map (seen_at s) places) marks links ≡ rows → (row_at rows x).stands ≡ true → r ≡ Leaf → r ≡ get_or places (x - 1) r
     → (row_at rows x).fields ≡ []
-leaf-under s places rows marks links x r view up is e =
-    let base = map (seen_at s) places in
-    let w = stands-within base x (up-under base rows marks links x view up) in
-    ap (λ z. z.fields) (bare-under s places rows marks links x view ∙ read-row s places base x r Leaf refl w.0 w.1 is e)
-
--- it is removed
-pub left-rows : (s : Slab Row) (places : List RowPlace) (rows : List Seen) (marks : List Bool) (links : List ℕ) (x : ℕ) (r : RowPlace) (kept : Snapshot Fields)
-    → with_marks (map (seen_at s) places) marks links ≡ rows → AreRows s places marks links → (row_at rows x).stands ≡ true → r ≡ Leaf → r ≡ get_or places (x - 1) r → kept.value ≡ []
-    → with_marks (map (seen_at s) (set places (x - 1) (Gone kept))) (set marks (x - 1) false) (set links (x - 1) 0) ≡ numbered_set rows x (gone (row_at rows x).fields)
-left-rows s places rows marks links x r kept view a up is e none =
-    let base = map (seen_at s) places in
-    let len : length base ≡ length places = length-map places (seen_at s) in
-    let one = (stands-within rows x up).0 in
-    shown-set base (map (seen_at s) (set places (x - 1) (Gone kept))) rows marks links x (gone (row_at rows x).fields) false 0 view (a.marks_len ∙ sym len) (a.links_len ∙ sym len) one
-    (shown-left s places base x kept (gone (row_at rows x).fields) refl one (ap gone (none ∙ sym (leaf-under s places rows marks links x r view up is e))))
-
-pub left-are : (s : Slab Row) (places : List RowPlace) (rows : List Seen) (marks : List Bool) (links : List ℕ) (x : ℕ) (r : RowPlace) (kept : Snapshot Fields)
-    → with_marks (map (seen_at s) places) marks links ≡ rows → AreRows s places marks links → (row_at rows x).stands ≡ true → r ≡ Leaf → r ≡ get_or places (x - 1) r → kept.value ≡ []
-    → AreRows s (set places (x - 1) (Gone kept)) (set marks (x - 1) false) (set links (x - 1) 0)
-left-are s places rows marks links x r kept view a up is e none =
-    let len : length (set places (x - 1) (Gone kept)) ≡ length places = length-set places (x - 1) (Gone kept) in
-    AreRows-as s (set places (x - 1) (Gone kept)) (set marks (x - 1) false) (set links (x - 1) 0)
-    (numbered_set rows x (gone (row_at rows x).fields)) (IsIndex-left s places (x - 1) kept a.index)
-    (length-set marks (x - 1) false ∙ (a.marks_len ∙ sym len)) (length-set links (x - 1) 0 ∙ (a.links_len ∙ sym len))
-    (left-rows s places rows marks links x r kept view a up is e none) (stand-set rows x (gone (row_at rows x).fields) (λ m. (let f : ⊥ = cc in absurd f)) (subst DoMarkedStand view a.up))
+leaf-under s places rows marks links x r view up is e = ap (λ z. z.fields) (place-under s places rows marks links x r Leaf view (stands-within rows x up) is e).1
 
 -- a further one comes
 pub leaf-rows : (s : Slab Row) (places : List RowPlace) (rows : List Seen) (marks : List Bool) (links : List ℕ)

@@ -262,20 +262,14 @@ impl Rows {
         requires { (row_at self.old x).stands ≡ true }
         ensures { self.new ≡ numbered_set self.old x (gone (row_at self.old x).fields) }
     {
-        match self.places[x - 1] {
-            RowPlace::At(key) => {
-                let row = self.slab.remove(key as usize);
-                self.places[x - 1] = RowPlace::Gone(kept(row));
-                self.marks[x - 1] = false;
-                self.links[x - 1] = 0;
-            }
-            RowPlace::Leaf => {
-                self.places[x - 1] = RowPlace::Gone(none_kept());
-                self.marks[x - 1] = false;
-                self.links[x - 1] = 0;
-            }
+        let left = match self.places[x - 1] {
+            RowPlace::At(key) => kept(self.slab.remove(key as usize)),
+            RowPlace::Leaf => none_kept(),
             RowPlace::Gone(_) => unreachable!(),
-        }
+        };
+        self.places[x - 1] = RowPlace::Gone(left);
+        self.marks[x - 1] = false;
+        self.links[x - 1] = 0;
     }
 }
 

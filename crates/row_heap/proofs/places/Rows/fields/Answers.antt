@@ -1,29 +1,22 @@
 -- A row that stands has its key in the index, or no fields.
-use Rattle.std.proofs.Common.{◌∙◌, ◌-◌, map, refl, sym, arith}
-use Rattle.row_heap.specs.Places.{seen_at}
-use Rattle.row_heap.proofs.Indexed.{at-key, key-there, not-gone, stands-within}
-use Rattle.row_heap.proofs.Marked.{fields-under, leaf-under, len-under, up-under}
+use Rattle.std.proofs.Common.{◌∙◌, sym, arith}
+use Rattle.row_heap.proofs.Marked.{fields-under, index-under, key-under, leaf-under, not-gone}
 use Rattle.row_heap.proofs.places.Rows.fields.Goals as goal
 
 pub index-requires : goal.index-requires
 index-requires c =
     let s = c.self.inside in
-    let w = stands-within c.args.self.now c.args.x c.requires in
-    omega (arith, w.0, w.1, len-under s.slab s.places.items c.args.self.now s.marks.items s.links.items c.self.view_is, s.places.ok)
+    omega (arith, index-under s.slab s.places.items c.args.self.now s.marks.items s.links.items c.args.x c.self.view_is c.requires, s.places.ok)
 
 pub index-requires-in-At : goal.index-requires-in-At
 index-requires-in-At c =
     let s = c.self.inside in
-    let base = map (seen_at s.slab) s.places.items in
-    let up = up-under base c.args.self.now s.marks.items s.links.items c.args.x c.self.view_is c.requires in
-    key-there s.slab s.places.items (c.args.x - 1) c.in-At.key c.self.invariant.index (at-key s.slab s.places.items base c.args.x c.index.result.now c.in-At.key refl up c.in-At.is c.index.ensures)
+    key-under s.slab s.places.items c.args.self.now s.marks.items s.links.items c.args.x c.index.result.now c.in-At.key c.self.view_is c.self.invariant.index c.requires c.in-At.is c.index.ensures
 
 pub unreachable-requires : goal.unreachable-requires
 unreachable-requires c =
     let s = c.self.inside in
-    let base = map (seen_at s.slab) s.places.items in
-    not-gone s.slab s.places.items base c.args.x c.index.result.now c.in-Gone.field-0 refl
-    (up-under base c.args.self.now s.marks.items s.links.items c.args.x c.self.view_is c.requires) c.in-Gone.is c.index.ensures
+    not-gone s.slab s.places.items c.args.self.now s.marks.items s.links.items c.args.x c.index.result.now c.in-Gone.field-0 c.self.view_is c.requires c.in-Gone.is c.index.ensures
 
 pub returns-in-At : goal.returns-in-At
 returns-in-At c =

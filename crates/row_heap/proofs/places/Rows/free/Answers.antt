@@ -1,96 +1,85 @@
 -- The place keeps what the row had.
-use Rattle.std.proofs.Common.{◌∙◌, ◌-◌, map, refl, sym, ap, arith}
-use Rattle.row_heap.specs.Places.{seen_at}
-use Rattle.row_heap.proofs.Indexed.{at-key, key-there, not-gone, row-of, stands-within}
-use Rattle.row_heap.proofs.Marked.{freed-are, freed-rows, left-are, left-rows, len-under, up-under}
+use Rattle.std.proofs.Common.{◌≡◌, ℕ, ◌∙◌, ◌-◌, List, None, refl, sym, arith}
+use Rattle.std.specs.declared.snapshot.Snapshot.{Snapshot}
+use Rattle.row_heap.specs.declared.fields.Fields.{Fields}
+use Rattle.row_heap.specs.declared.places.RowPlace.TheVariants.{At}
+use Rattle.row_heap.specs.declared.places.Rows.TheInside.{Inside}
+use Rattle.row_heap.specs.Places.{Seen, row_at}
+use Rattle.row_heap.proofs.Indexed.{KeepsOthers, keeps-others, stands-within}
+use Rattle.row_heap.proofs.Marked.{fields-under, freed-are, freed-rows, index-under, key-under, leaf-under, not-gone, place-under}
+use Rattle.row_heap.proofs.places.Rows.free.Goals.{Joined-index, in-At, in-Leaf}
 use Rattle.row_heap.proofs.places.Rows.free.Goals as goal
 
 pub index-requires : goal.index-requires
 index-requires c =
     let s = c.self.inside in
-    let w = stands-within c.args.self.now c.args.x c.requires in
-    omega (arith, w.0, w.1, len-under s.slab s.places.items c.args.self.now s.marks.items s.links.items c.self.view_is, s.places.ok)
+    omega (arith, index-under s.slab s.places.items c.args.self.now s.marks.items s.links.items c.args.x c.self.view_is c.requires, s.places.ok)
 
-pub remove-row-requires : goal.remove-row-requires
-remove-row-requires c =
+pub remove-requires : goal.remove-requires
+remove-requires c =
     let s = c.self.inside in
-    let base = map (seen_at s.slab) s.places.items in
-    let up = up-under base c.args.self.now s.marks.items s.links.items c.args.x c.self.view_is c.requires in
-    key-there s.slab s.places.items (c.args.x - 1) c.in-At.key c.self.invariant.index (at-key s.slab s.places.items base c.args.x c.index.result.now c.in-At.key refl up c.in-At.is c.index.ensures)
-
-pub index_mut-requires : goal.index_mut-requires
-index_mut-requires c =
-    let s = c.self.inside in
-    let w = stands-within c.args.self.now c.args.x c.requires in
-    omega (arith, w.0, w.1, len-under s.slab s.places.items c.args.self.now s.marks.items s.links.items c.self.view_is, s.places.ok)
-
-pub index_mut-requires-in-At : goal.index_mut-requires-in-At
-index_mut-requires-in-At c =
-    let s = c.self.inside in
-    let w = stands-within c.args.self.now c.args.x c.requires in
-    omega (arith, w.0, w.1, len-under s.slab s.places.items c.args.self.now s.marks.items s.links.items c.self.view_is, c.self.invariant.marks_len, s.marks.ok)
-
-pub index_mut-requires-in-At-2 : goal.index_mut-requires-in-At-2
-index_mut-requires-in-At-2 c =
-    let s = c.self.inside in
-    let w = stands-within c.args.self.now c.args.x c.requires in
-    omega (arith, w.0, w.1, len-under s.slab s.places.items c.args.self.now s.marks.items s.links.items c.self.view_is, c.self.invariant.links_len, s.links.ok)
+    key-under s.slab s.places.items c.args.self.now s.marks.items s.links.items c.args.x c.index.result.now c.in-At.key c.self.view_is c.self.invariant.index c.requires c.in-At.is c.index.ensures
 
 pub unreachable-requires : goal.unreachable-requires
 unreachable-requires c =
     let s = c.self.inside in
-    let base = map (seen_at s.slab) s.places.items in
-    not-gone s.slab s.places.items base c.args.x c.index.result.now c.in-Gone.field-0 refl
-    (up-under base c.args.self.now s.marks.items s.links.items c.args.x c.self.view_is c.requires) c.in-Gone.is c.index.ensures
+    not-gone s.slab s.places.items c.args.self.now s.marks.items s.links.items c.args.x c.index.result.now c.in-Gone.field-0 c.self.view_is c.requires c.in-Gone.is c.index.ensures
+
+-- either way the lists are as they were, and the slab has what it had under the keys of other places
+record IsLeft (old new : Inside) (rows : List Seen) (x : ℕ) (left : Snapshot Fields) : Type 0 where
+  lists : (new.places ≡ old.places) × (new.marks ≡ old.marks) × (new.links ≡ old.links)
+  others : KeepsOthers old.slab new.slab old.places.items (x - 1)
+  had : left.value ≡ (row_at rows x).fields
+
+is-left : (c : Joined-index) → IsLeft c.self.inside c.match-index.self-inside c.args.self.now c.args.x c.match-index.left
+is-left c =
+    let s = c.self.inside in
+    let rows = c.args.self.now in
+    elim c.match-index.branch [
+      | in-At w ↦
+          let at = (place-under s.slab s.places.items rows s.marks.items s.links.items c.args.x c.index.result.now (At w.in-At.key)
+          c.self.view_is (stands-within rows c.args.x c.requires) w.in-At.is c.index.ensures).0 in
+          rw (w.self-inside-is, w.left-is) record {
+            lists = (refl, refl, refl);
+            others = keeps-others s.slab w.remove.new.self s.places.items (c.args.x - 1) w.in-At.key None c.self.invariant.index at w.remove.ensures.updates;
+            had = w.kept-left.ensures ∙ sym (fields-under s.slab s.places.items rows s.marks.items s.links.items c.args.x c.index.result.now w.in-At.key w.remove.result
+                c.self.view_is c.requires w.in-At.is c.index.ensures w.remove.ensures.value);
+          }
+      | in-Leaf w ↦ rw (w.self-inside-is, w.left-is) record {
+        lists = (refl, refl, refl);
+        others = λ j k n e. refl;
+        had = w.none_kept-left.ensures ∙ sym (leaf-under s.slab s.places.items rows s.marks.items s.links.items c.args.x c.index.result.now c.self.view_is c.requires w.in-Leaf.is c.index.ensures);
+      }
+    ]
+
+pub index_mut-requires : goal.index_mut-requires
+index_mut-requires c =
+    let s = c.self.inside in
+    let lt = index-under s.slab s.places.items c.args.self.now s.marks.items s.links.items c.args.x c.self.view_is c.requires in
+    rw (is-left (goal.at.index_mut-requires c).Joined-index).lists.0 (omega (arith, lt, s.places.ok))
+
+pub index_mut-requires-2 : goal.index_mut-requires-2
+index_mut-requires-2 c =
+    let s = c.self.inside in
+    let lt = index-under s.slab s.places.items c.args.self.now s.marks.items s.links.items c.args.x c.self.view_is c.requires in
+    rw (is-left (goal.at.index_mut-requires-2 c).Joined-index).lists.1 (omega (arith, lt, c.self.invariant.marks_len, s.marks.ok))
+
+pub index_mut-requires-3 : goal.index_mut-requires-3
+index_mut-requires-3 c =
+    let s = c.self.inside in
+    let lt = index-under s.slab s.places.items c.args.self.now s.marks.items s.links.items c.args.x c.self.view_is c.requires in
+    rw (is-left (goal.at.index_mut-requires-3 c).Joined-index).lists.2 (omega (arith, lt, c.self.invariant.links_len, s.links.ok))
 
 pub invariant_of-self : goal.invariant_of-self
 invariant_of-self c =
     let s = c.self.inside in
-    let base = map (seen_at s.slab) s.places.items in
-    let up = up-under base c.args.self.now s.marks.items s.links.items c.args.x c.self.view_is c.requires in
-    let at = at-key s.slab s.places.items base c.args.x c.index.result.now c.in-At.key refl up c.in-At.is c.index.ensures in
-    let row = row-of s.slab s.places.items base c.args.x c.index.result.now c.in-At.key c.remove-row.result refl up c.in-At.is c.index.ensures c.remove-row.ensures.value in
-    freed-are s.slab c.remove-row.new.self s.places.items c.args.self.now s.marks.items s.links.items c.args.x c.in-At.key c.kept.result c.self.view_is c.self.invariant
-    (stands-within c.args.self.now c.args.x c.requires).0 at c.remove-row.ensures.updates
-    (c.kept.ensures ∙ sym (ap (λ r. r.fields) row))
+    let l = is-left (goal.at.invariant_of-self c).Joined-index in
+    rw (l.lists.0, l.lists.1, l.lists.2) (freed-are s.slab c.match-index.self-inside.slab s.places.items c.args.self.now s.marks.items s.links.items c.args.x c.match-index.left
+    c.self.view_is c.self.invariant c.requires l.others l.had)
 
-pub returns-in-At : goal.returns-in-At
-returns-in-At c =
+pub returns : goal.returns
+returns c =
     let s = c.self.inside in
-    let base = map (seen_at s.slab) s.places.items in
-    let up = up-under base c.args.self.now s.marks.items s.links.items c.args.x c.self.view_is c.requires in
-    let at = at-key s.slab s.places.items base c.args.x c.index.result.now c.in-At.key refl up c.in-At.is c.index.ensures in
-    let row = row-of s.slab s.places.items base c.args.x c.index.result.now c.in-At.key c.remove-row.result refl up c.in-At.is c.index.ensures c.remove-row.ensures.value in
-    freed-rows s.slab c.remove-row.new.self s.places.items c.args.self.now s.marks.items s.links.items c.args.x c.in-At.key c.kept.result c.self.view_is c.self.invariant
-    (stands-within c.args.self.now c.args.x c.requires).0 at c.remove-row.ensures.updates
-    (c.kept.ensures ∙ sym (ap (λ r. r.fields) row))
-
-pub invariant_of-self-in-Leaf : goal.invariant_of-self-in-Leaf
-invariant_of-self-in-Leaf c =
-    let s = c.self.inside in
-    left-are s.slab s.places.items c.args.self.now s.marks.items s.links.items c.args.x c.index.result.now
-    c.none_kept.result c.self.view_is c.self.invariant c.requires c.in-Leaf.is c.index.ensures c.none_kept.ensures
-
-pub returns-in-Leaf : goal.returns-in-Leaf
-returns-in-Leaf c =
-    let s = c.self.inside in
-    left-rows s.slab s.places.items c.args.self.now s.marks.items s.links.items c.args.x c.index.result.now
-    c.none_kept.result c.self.view_is c.self.invariant c.requires c.in-Leaf.is c.index.ensures c.none_kept.ensures
-
-pub index_mut-requires-in-Leaf : goal.index_mut-requires-in-Leaf
-index_mut-requires-in-Leaf c =
-    let s = c.self.inside in
-    let w = stands-within c.args.self.now c.args.x c.requires in
-    omega (arith, w.0, w.1, len-under s.slab s.places.items c.args.self.now s.marks.items s.links.items c.self.view_is, s.places.ok)
-
-pub index_mut-requires-in-Leaf-2 : goal.index_mut-requires-in-Leaf-2
-index_mut-requires-in-Leaf-2 c =
-    let s = c.self.inside in
-    let w = stands-within c.args.self.now c.args.x c.requires in
-    omega (arith, w.0, w.1, len-under s.slab s.places.items c.args.self.now s.marks.items s.links.items c.self.view_is, c.self.invariant.marks_len, s.marks.ok)
-
-pub index_mut-requires-in-Leaf-3 : goal.index_mut-requires-in-Leaf-3
-index_mut-requires-in-Leaf-3 c =
-    let s = c.self.inside in
-    let w = stands-within c.args.self.now c.args.x c.requires in
-    omega (arith, w.0, w.1, len-under s.slab s.places.items c.args.self.now s.marks.items s.links.items c.self.view_is, c.self.invariant.links_len, s.links.ok)
+    let l = is-left (goal.at.returns c).Joined-index in
+    rw (l.lists.0, l.lists.1, l.lists.2) (freed-rows s.slab c.match-index.self-inside.slab s.places.items c.args.self.now s.marks.items s.links.items c.args.x c.match-index.left
+    c.self.view_is c.self.invariant c.requires l.others l.had)

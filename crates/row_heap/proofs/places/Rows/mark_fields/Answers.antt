@@ -1,5 +1,5 @@
 -- What the fields of a row that stands hold is marked by the lists, and stands.
-use Rattle.std.proofs.Common.{◌≡◌, ℕ, ◌∙◌, ◌-◌, ◌∷◌, ◌⊎◌, Bool, false, true, List, length, map, Option, Some, refl, sym, ap, subst, arith}
+use Rattle.std.proofs.Common.{◌≡◌, ℕ, ◌∙◌, ◌∷◌, ◌⊎◌, Bool, false, true, List, length, map, Option, Some, refl, sym, ap, subst, arith}
 use Rattle.std.specs.Prelude.{Contains}
 use Rattle.std.specs.Vec.{with_items}
 use Rattle.std.proofs.lemmas.List.{length-map, with_items_is}
@@ -8,29 +8,24 @@ use Rattle.row_marking.specs.Traces.{Greyed}
 use Rattle.row_heap.specs.Places.{AreRows, bare, row_at, seen_at}
 use Rattle.joint_machine.proofs.Members.{Contains-nil}
 use Rattle.row_marking.proofs.Greys.{Greyed-none}
-use Rattle.row_heap.proofs.Indexed.{at-key, key-there, not-gone, stands-within}
-use Rattle.row_heap.proofs.Marked.{fields-under, greyed-rows, leaf-under, len-under, map-under, marks-rows, up-under, visited-are}
+use Rattle.row_heap.proofs.Indexed.{stands-within}
+use Rattle.row_heap.proofs.Marked.{fields-under, greyed-rows, index-under, key-under, leaf-under, len-under, map-under, marks-rows, not-gone, visited-are}
 use Rattle.row_heap.proofs.places.Rows.mark_fields.Goals as goal
 
 pub index-requires : goal.index-requires
 index-requires c =
     let s = c.self.inside in
-    let w = stands-within c.args.self.now c.args.x c.requires.stands in
-    omega (arith, w.0, w.1, len-under s.slab s.places.items c.args.self.now s.marks.items s.links.items c.self.view_is, s.places.ok)
+    omega (arith, index-under s.slab s.places.items c.args.self.now s.marks.items s.links.items c.args.x c.self.view_is c.requires.stands, s.places.ok)
 
 pub index-requires-in-At : goal.index-requires-in-At
 index-requires-in-At c =
     let s = c.self.inside in
-    let base = map (seen_at s.slab) s.places.items in
-    let up = up-under base c.args.self.now s.marks.items s.links.items c.args.x c.self.view_is c.requires.stands in
-    key-there s.slab s.places.items (c.args.x - 1) c.in-At.key c.self.invariant.index (at-key s.slab s.places.items base c.args.x c.index.result.now c.in-At.key refl up c.in-At.is c.index.ensures)
+    key-under s.slab s.places.items c.args.self.now s.marks.items s.links.items c.args.x c.index.result.now c.in-At.key c.self.view_is c.self.invariant.index c.requires.stands c.in-At.is c.index.ensures
 
 pub unreachable-requires : goal.unreachable-requires
 unreachable-requires c =
     let s = c.self.inside in
-    let base = map (seen_at s.slab) s.places.items in
-    not-gone s.slab s.places.items base c.args.x c.index.result.now c.in-Gone.field-0 refl
-    (up-under base c.args.self.now s.marks.items s.links.items c.args.x c.self.view_is c.requires.stands) c.in-Gone.is c.index.ensures
+    not-gone s.slab s.places.items c.args.self.now s.marks.items s.links.items c.args.x c.index.result.now c.in-Gone.field-0 c.self.view_is c.requires.stands c.in-Gone.is c.index.ensures
 
 pub visit-requires-clause-held : goal.visit-requires-clause-held
 visit-requires-clause-held c = λ y h.

@@ -1,22 +1,19 @@
 -- The row under the one key is written.
-use Rattle.std.proofs.Common.{◌∙◌, ◌-◌, List, map, set, length, refl, sym, ap, arith, Option, ℕ, true, false}
+use Rattle.std.proofs.Common.{◌∙◌, List, map, set, length, refl, sym, ap, arith, Option, ℕ, true, false}
 use Rattle.row_heap.specs.Places.{Seen, row_at, seen_at}
-use Rattle.row_heap.proofs.Indexed.{at-key, key-there, not-gone, row-of, stands-within}
-use Rattle.row_heap.proofs.Marked.{changed-are, changed-rows, leaf-under, len-under, row_at-under, up-under}
+use Rattle.row_heap.proofs.Indexed.{row-of}
+use Rattle.row_heap.proofs.Marked.{changed-are, changed-rows, index-under, key-under, leaf-under, not-gone, row_at-under, up-under}
 use Rattle.row_heap.proofs.places.Rows.set_field.Goals as goal
 
 pub index-requires : goal.index-requires
 index-requires c =
     let s = c.self.inside in
-    let w = stands-within c.args.self.now c.args.x c.requires.stands in
-    omega (arith, w.0, w.1, len-under s.slab s.places.items c.args.self.now s.marks.items s.links.items c.self.view_is, s.places.ok)
+    omega (arith, index-under s.slab s.places.items c.args.self.now s.marks.items s.links.items c.args.x c.self.view_is c.requires.stands, s.places.ok)
 
 pub index_mut-requires : goal.index_mut-requires
 index_mut-requires c =
     let s = c.self.inside in
-    let up = up-under (map (seen_at s.slab) s.places.items) c.args.self.now s.marks.items s.links.items c.args.x c.self.view_is c.requires.stands in
-    key-there s.slab s.places.items (c.args.x - 1) c.in-At.key c.self.invariant.index
-    (at-key s.slab s.places.items (map (seen_at s.slab) s.places.items) c.args.x c.index.result.now c.in-At.key refl up c.in-At.is c.index.ensures)
+    key-under s.slab s.places.items c.args.self.now s.marks.items s.links.items c.args.x c.index.result.now c.in-At.key c.self.view_is c.self.invariant.index c.requires.stands c.in-At.is c.index.ensures
 
 pub set-requires : goal.set-requires
 set-requires c =
@@ -48,9 +45,7 @@ unreachable-requires c =
 pub unreachable-requires-in-Gone : goal.unreachable-requires-in-Gone
 unreachable-requires-in-Gone c =
     let s = c.self.inside in
-    let base = map (seen_at s.slab) s.places.items in
-    not-gone s.slab s.places.items base c.args.x c.index.result.now c.in-Gone.field-0 refl
-    (up-under base c.args.self.now s.marks.items s.links.items c.args.x c.self.view_is c.requires.stands) c.in-Gone.is c.index.ensures
+    not-gone s.slab s.places.items c.args.self.now s.marks.items s.links.items c.args.x c.index.result.now c.in-Gone.field-0 c.self.view_is c.requires.stands c.in-Gone.is c.index.ensures
 
 pub returns : goal.returns
 returns c =
