@@ -74,36 +74,16 @@ IsManagedAct (act.Pass v x) = IsVar v × (x.0 < 16)
 IsManagedAct (act.Surface v x) = IsVar v × (x.0 < 16)
 IsManagedAct (act.Dispose v) = IsVar v
 IsManagedAct (act.Handle v) = IsVar v
-IsManagedAct (act.NewPeer v n) = ⊥
-IsManagedAct (act.Global g v) = ⊥
-IsManagedAct (act.WGlobal g v) = ⊥
-IsManagedAct (act.UnGlobal g) = ⊥
-IsManagedAct (act.WRead v g) = ⊥
-IsManagedAct act.Collect = ⊥
-IsManagedAct act.BeginMark = ⊥
-IsManagedAct (act.Slice n) = ⊥
-IsManagedAct act.SweepMark = ⊥
-IsManagedAct (act.PhaseLine w) = ⊥
-IsManagedAct (act.Finalise n) = ⊥
+IsManagedAct _ = ⊥
 
 -- the operations of a peer thread's line
 abbrev pub IsPeerAct : Act → Type 0
-IsPeerAct (act.New v k n) = ⊥
-IsPeerAct (act.Bridge v k n s f) = ⊥
 IsPeerAct (act.Copy v w) = IsVar v × IsVar w
 IsPeerAct (act.Set v i w) = IsVar v × IsVarOrNone w × (i ≤ 255)
 IsPeerAct (act.Get v w i) = IsVar v × IsVar w × (i ≤ 255)
 IsPeerAct (act.Drop v) = IsVar v
 IsPeerAct (act.Load v x) = IsVar v × (x.0 < 16)
 IsPeerAct (act.Store x v) = (x.0 < 16) × IsVarOrNone v
-IsPeerAct (act.Weak k v) = ⊥
-IsPeerAct (act.Read k) = ⊥
-IsPeerAct (act.Await k) = ⊥
-IsPeerAct (act.Take v) = ⊥
-IsPeerAct (act.Pass v x) = ⊥
-IsPeerAct (act.Surface v x) = ⊥
-IsPeerAct (act.Dispose v) = ⊥
-IsPeerAct (act.Handle v) = ⊥
 IsPeerAct (act.NewPeer v n) = IsVar v × (n ≤ 16)
 IsPeerAct (act.Global g v) = (g.0 < 64) × IsVar v
 IsPeerAct (act.WGlobal g v) = (g.0 < 64) × IsVar v
@@ -113,8 +93,7 @@ IsPeerAct act.Collect = Unit {0}
 IsPeerAct act.BeginMark = Unit {0}
 IsPeerAct (act.Slice n) = (1 ≤ n) × (n ≤ 65535)
 IsPeerAct act.SweepMark = Unit {0}
-IsPeerAct (act.PhaseLine w) = ⊥
-IsPeerAct (act.Finalise n) = ⊥
+IsPeerAct _ = ⊥
 
 -- the operations of the driver's line: a phase, or the taking of notices
 abbrev pub IsDriverAct : Act → Type 0
@@ -130,14 +109,6 @@ IsLine C a = IsDriverAct a
 
 -- the operation is one event, which has the line's own words
 abbrev pub IsOneEvent : Act → Type 0
-IsOneEvent (act.Bridge v k n s f) = ⊥
-IsOneEvent (act.Pass v x) = ⊥
-IsOneEvent (act.Surface v x) = ⊥
-IsOneEvent (act.Dispose v) = ⊥
-IsOneEvent act.Collect = ⊥
-IsOneEvent act.BeginMark = ⊥
-IsOneEvent act.SweepMark = ⊥
-IsOneEvent (act.PhaseLine w) = ⊥
 IsOneEvent (act.New v kind n) = Unit {0}
 IsOneEvent (act.Copy v w) = Unit {0}
 IsOneEvent (act.Set v i w) = Unit {0}
@@ -157,6 +128,7 @@ IsOneEvent (act.UnGlobal g) = Unit {0}
 IsOneEvent (act.WRead v g) = Unit {0}
 IsOneEvent (act.Slice n) = Unit {0}
 IsOneEvent (act.Finalise n) = Unit {0}
+IsOneEvent _ = ⊥
 
 -- a thread and an event that a history can have
 abbrev pub IsEvent : Thread → Op → Type 0

@@ -229,8 +229,7 @@ managed_line s t (act.PhaseLine word) = answer says.Ok s
 abbrev pub with_snapshot : Managed → List ℕ → List ℕ → List ℕ → Managed
 with_snapshot s freed candidates dead = record s {
   heap = with_freed s.heap freed;
-  cycle = Some
-      record { number = s.cycles + 1; candidates = candidates; dead = dead };
+  cycle = Some record { number = s.cycles + 1; candidates = candidates; dead = dead };
   cycles = s.cycles + 1;
 }
 

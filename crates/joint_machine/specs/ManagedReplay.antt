@@ -57,8 +57,7 @@ plainly s a = answer a.reply (record s { managed = a.state })
 abbrev pub took_handle : ManagedReplay → ℕ → ℕ → ℕ → Managed → ManagedReplay
 took_handle s p h m after = record s {
   managed = after;
-  registry = with_twin
-      s.registry p m (registered s.registry p);
+  registry = with_twin s.registry p m (registered s.registry p);
   adopted = s.adopted ++ h ∷ [];
 }
 

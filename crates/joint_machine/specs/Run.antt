@@ -59,20 +59,9 @@ joint_line j (M t) a = on_managed j (managed_line j.graph.managed t a)
 joint_line j (P t) a = joint_peer_line j t a
 joint_line j C a = on_managed j (managed_line j.graph.managed 0 a)
 
--- the events that aren't computed: they come as relations below, or are no step of the joint machine
+-- the events that are computed: the others come as relations below, or are no step of the joint machine
 abbrev pub IsComputed : Op → Type 0
 IsComputed (op.Line (act.Slice n)) = ⊥
-IsComputed (op.Snap k) = ⊥
-IsComputed (op.Contract k) = ⊥
-IsComputed (op.Mirror k) = ⊥
-IsComputed (op.Weaken h) = ⊥
-IsComputed op.Begin = ⊥
-IsComputed op.Sweep = ⊥
-IsComputed (op.Restore h) = ⊥
-IsComputed (op.Clear k) = ⊥
-IsComputed (op.Resolve k) = ⊥
-IsComputed (op.Abandon k) = ⊥
-IsComputed (op.Refused w) = ⊥
 IsComputed (op.Line a) = Unit {0}
 IsComputed (op.Make sort n) = Unit {0}
 IsComputed (op.Adopt v kind n p h) = Unit {0}
@@ -82,6 +71,7 @@ IsComputed (op.Grip x) = Unit {0}
 IsComputed (op.Meet v sort n p h) = Unit {0}
 IsComputed (op.Give v) = Unit {0}
 IsComputed (op.Release h) = Unit {0}
+IsComputed _ = ⊥
 
 -- the reply to an event that is computed, and the state after it
 abbrev pub joint_answer : Joint → Thread → Op → Answered Joint
@@ -143,8 +133,7 @@ pub record EndsMarking (j : Joint) (m : JointMarking) (t : Thread)
   pub replies : reply ≡ says.Swept record { 0 = m.number }
       record { first = length j.graph.peers.heap.freed; count = length freed }
   pub state : next ≡ record j {
-    graph = record j.graph
-        { peers = record j.graph.peers { heap = with_freed j.graph.peers.heap freed } };
+    graph = record j.graph { peers = record j.graph.peers { heap = with_freed j.graph.peers.heap freed } };
     marking = None;
   }
 
@@ -180,8 +169,7 @@ answered j h a = record j { answers = answered_for j.graph.managed h a (candidat
 -- a held strong handle on the peer, under the next number
 abbrev pub given_anew : Joint → ℕ → Joint
 given_anew j p = record j {
-  graph = record j.graph
-      { peers = with_renewed j.graph.peers p; removed = j.graph.removed ++ false ∷ [] };
+  graph = record j.graph { peers = with_renewed j.graph.peers p; removed = j.graph.removed ++ false ∷ [] };
 }
 
 -- a restore of a candidate's handle, on that peer: the handle is removed, and the peer gets a new one unless it is

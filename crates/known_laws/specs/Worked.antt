@@ -92,13 +92,11 @@ wrong_lines i = if is_in i (a_drop 0) then wrongly_drawn ∷ [] else []
 abbrev pub without_candidates : Linkage
 without_candidates = record {
   managed = record opening_replay {
-    managed = record opening_managed
-        { cycle = Some record { number = 1; candidates = []; dead = [] }; cycles = 1 };
+    managed = record opening_managed { cycle = Some record { number = 1; candidates = []; dead = [] }; cycles = 1 };
     contracted = true;
   };
   peer = record opening_peer_replay {
-    mirror = Some
-        record { cycle = 1; snap = 0; weakened = []; restored = []; renewed = [] };
+    mirror = Some record { cycle = 1; snap = 0; weakened = []; restored = []; renewed = [] };
     mirrors = 1 ∷ [];
   };
   control = record opening_control { stand = weakening record { cycle = 1; snap = 0 } 0 false false };

@@ -80,8 +80,7 @@ BringingBackGoesOn = (s : PeerReplay) (mk : Marking) (follows : Bool) (marks aft
     (greys waits : List ℕ) (x : ℕ) → IsGoingSide s mk follows marks greys → IsLive s.peers.heap x
     → Shades (λ k. k ≡ x) none marks greys after waits
     → AreMarksGoing (record s {
-      marking = Some
-          (record mk { brought = mk.brought ++ x ∷ []; blackened = mk.blackened });
+      marking = Some (record mk { brought = mk.brought ++ x ∷ []; blackened = mk.blackened });
     })
     (record mk { brought = mk.brought ++ x ∷ []; blackened = mk.blackened }) follows after waits
 

@@ -39,8 +39,7 @@ end_of (Temp t) = temporary t
 -- these references stand after those that stood, in room that was taken, and no marking that is open follows references
 abbrev pub with_stood : Rows → List (End × End) → Rows
 with_stood v refs = record v {
-  rows = record v.rows
-      { refs = v.rows.refs ++ refs; follows = false; room = v.rows.room - length refs };
+  rows = record v.rows { refs = v.rows.refs ++ refs; follows = false; room = v.rows.room - length refs };
 }
 
 -- a restored handle was cleared, and left the table

@@ -31,8 +31,7 @@ pub record IsOfBothSides (h : Finished) (n : ℕ) (v : View) : Type 0 where
 
 -- a view is seen after entries in order
 abbrev pub OrderIsSeen : Type 0
-OrderIsSeen = (h : Finished) (n : ℕ) → HasInOrder h n
-    → (v : View) × Seen h opening_view (take (n + 1) h.entries) v
+OrderIsSeen = (h : Finished) (n : ℕ) → HasInOrder h n → (v : View) × Seen h opening_view (take (n + 1) h.entries) v
 
 -- and each of them is gone on by, whatever is seen before it
 abbrev pub OrderIsNeverStuck : Type 0

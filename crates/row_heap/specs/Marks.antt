@@ -42,6 +42,5 @@ is_given h (Some w) = is_some (slot h.vars w)
 abbrev pub overwritten : Heap → ℕ → ℕ → Option ℕ → Option ℕ
 overwritten h v i w = elim (slot h.vars v) [
   | None ↦ None
-  | Some x ↦ if nat_le (length (fields_of h x)) i then
-      None else if is_given h w then slot (fields_of h x) i else None
+  | Some x ↦ if nat_le (length (fields_of h x)) i then None else if is_given h w then slot (fields_of h x) i else None
 ]
