@@ -29,23 +29,32 @@ pub fn contract(alloc: Global, graph: &DeadGraph) -> Result<Components, ListingF
     ensures { IfOk result (λ c. (heavy : List ℕ) × (length heavy ≡ c.heavy)
         × IsContraction (IsBridgeNode graph.now.nodes) (NodeLeads graph.now.edges) c.comps heavy c.pairs) }
 {
-    let found = classes(alloc, graph)?;
-    from_rows(alloc, graph, found)
+    let mut found = classes(alloc, graph)?;
+    let mut builder = ComponentsBuilder::new(alloc);
+    let listed = list_reported(alloc, graph, &mut found, &mut builder);
+    drop(found);
+    listed?;
+    builder.finish()
 }
 
-// The components and cross-references, from the classes in order.
-fn from_rows(
+// Lists the components, the heavy classes and all cross-references, from the classes in order, in a builder that has
+// nothing yet. The labels are spent.
+fn list_reported(
     alloc: Global,
     graph: &DeadGraph,
-    found: StrongClasses,
-) -> Result<Components, ListingFault>
-    requires classes { AreClasses graph.now.edges (length graph.now.nodes) found.labels.items }
-    requires order { AreInOrder graph.now.edges (length graph.now.nodes) found.labels.items found.rows }
-    ensures { IfOk result (λ c. (heavy : List ℕ) × (length heavy ≡ c.heavy)
-        × IsContraction (IsBridgeNode graph.now.nodes) (NodeLeads graph.now.edges) c.comps heavy c.pairs) }
+    found: &mut StrongClasses,
+    builder: &mut ComponentsBuilder,
+) -> Result<(), ListingFault>
+    requires classes { AreClasses graph.now.edges (length graph.now.nodes) found.old.labels.items }
+    requires order { AreInOrder graph.now.edges (length graph.now.nodes) found.old.labels.items found.old.rows }
+    requires none { builder.old.comps ≡ [] }
+    requires heavy { builder.old.heavy ≡ 0 }
+    requires empty { builder.old.pairs ≡ [] }
+    ensures part { OnOk result (IsPart graph.now.nodes graph.now.edges) }
+    ensures listed { OnOk result (AreAllListed graph.now.nodes graph.now.edges found.old.labels.items
+        (length found.old.rows) builder.new.comps builder.new.heavy builder.new.pairs) }
 {
     let mut indexes = vec![in alloc; NO_COMPONENT; found.rows.len()]?;
-    let mut builder = ComponentsBuilder::new(alloc);
     builder.reserve(graph.nodes(), graph.nodes())?;
     list_rows(
         alloc,
@@ -53,10 +62,9 @@ fn from_rows(
         &found.labels,
         &found.rows,
         &mut indexes,
-        &mut builder,
+        builder,
     )?;
-    list_others(alloc, graph, found, &mut indexes, &mut builder)?;
-    builder.finish()
+    list_others(alloc, graph, found, &mut indexes, builder)
 }
 
 // Lists the heavy classes, if there are some, and all cross-references, once the components are listed. Mostly none is
@@ -64,29 +72,29 @@ fn from_rows(
 fn list_others(
     alloc: Global,
     graph: &DeadGraph,
-    found: StrongClasses,
+    found: &mut StrongClasses,
     indexes: &mut [u32],
     builder: &mut ComponentsBuilder,
 ) -> Result<(), ListingFault>
-    requires classes { AreClasses graph.now.edges (length graph.now.nodes) found.labels.items }
-    requires order { AreInOrder graph.now.edges (length graph.now.nodes) found.labels.items found.rows }
+    requires classes { AreClasses graph.now.edges (length graph.now.nodes) found.old.labels.items }
+    requires order { AreInOrder graph.now.edges (length graph.now.nodes) found.old.labels.items found.old.rows }
     requires part { IsPart graph.now.nodes graph.now.edges }
-    requires indexes { length indexes.old ≡ length found.rows }
+    requires indexes { length indexes.old ≡ length found.old.rows }
     requires heavy { builder.old.heavy ≡ 0 }
     requires empty { builder.old.pairs ≡ [] }
-    requires listed { AreListed graph.now.nodes found.labels.items
-        (links_of graph.now.nodes found.labels.items) (length graph.now.nodes) builder.old.comps indexes.old }
-    requires plain { (l : ℕ) → l < length found.rows
-        → length (group (links_of graph.now.nodes found.labels.items) l) ≡ 0 → slice_index indexes.old l ≡ u32.MAX }
-    ensures listed { OnOk result (AreAllListed graph.now.nodes graph.now.edges found.labels.items
-        (length found.rows) builder.new.comps builder.new.heavy builder.new.pairs) }
+    requires listed { AreListed graph.now.nodes found.old.labels.items
+        (links_of graph.now.nodes found.old.labels.items) (length graph.now.nodes) builder.old.comps indexes.old }
+    requires plain { (l : ℕ) → l < length found.old.rows
+        → length (group (links_of graph.now.nodes found.old.labels.items) l) ≡ 0 → slice_index indexes.old l ≡ u32.MAX }
+    ensures listed { OnOk result (AreAllListed graph.now.nodes graph.now.edges found.old.labels.items
+        (length found.old.rows) builder.new.comps builder.new.heavy builder.new.pairs) }
 {
     let count = builder.len();
-    let reached = count_reached(alloc, graph, &found, indexes, count)?;
+    let reached = count_reached(alloc, graph, found, indexes, count)?;
     let ins = count_heavy(
         alloc,
         graph,
-        &found,
+        found,
         indexes,
         &reached.counts,
         count,
@@ -102,35 +110,42 @@ fn list_others(
 fn list_heavy(
     alloc: Global,
     graph: &DeadGraph,
-    found: StrongClasses,
+    found: &mut StrongClasses,
     outs: &[u8],
     ins: &[u32],
     indexes: &mut [u32],
     builder: &mut ComponentsBuilder,
 ) -> Result<(), ListingFault>
-    requires classes { AreClasses graph.now.edges (length graph.now.nodes) found.labels.items }
-    requires order { AreInOrder graph.now.edges (length graph.now.nodes) found.labels.items found.rows }
+    requires classes { AreClasses graph.now.edges (length graph.now.nodes) found.old.labels.items }
+    requires order { AreInOrder graph.now.edges (length graph.now.nodes) found.old.labels.items found.old.rows }
     requires part { IsPart graph.now.nodes graph.now.edges }
-    requires indexes { length indexes.old ≡ length found.rows }
+    requires indexes { length indexes.old ≡ length found.old.rows }
     requires heavy { builder.old.heavy ≡ 0 }
     requires empty { builder.old.pairs ≡ [] }
-    requires listed { AreListed graph.now.nodes found.labels.items
-        (links_of graph.now.nodes found.labels.items) (length graph.now.nodes) builder.old.comps indexes.old }
-    requires plain { (l : ℕ) → l < length found.rows
-        → length (group (links_of graph.now.nodes found.labels.items) l) ≡ 0 → slice_index indexes.old l ≡ u32.MAX }
+    requires listed { AreListed graph.now.nodes found.old.labels.items
+        (links_of graph.now.nodes found.old.labels.items) (length graph.now.nodes) builder.old.comps indexes.old }
+    requires plain { (l : ℕ) → l < length found.old.rows
+        → length (group (links_of graph.now.nodes found.old.labels.items) l) ≡ 0 → slice_index indexes.old l ≡ u32.MAX }
     requires few { length builder.old.comps ≤ u32.MAX - 1 }
-    requires outs { length outs.now ≡ length found.rows }
-    requires ins { length ins.now ≡ length found.rows }
+    requires outs { length outs.now ≡ length found.old.rows }
+    requires ins { length ins.now ≡ length found.old.rows }
     requires led_to { CountsOut graph.now.edges
-        (length graph.now.nodes) found.labels.items indexes.old (length found.rows) outs.now }
+        (length graph.now.nodes) found.old.labels.items indexes.old (length found.old.rows) outs.now }
     requires lead_in { CountsIn graph.now.edges
-        (length graph.now.nodes) found.labels.items indexes.old outs.now ins.now }
-    ensures listed { OnOk result (AreAllListed graph.now.nodes graph.now.edges found.labels.items
-        (length found.rows) builder.new.comps builder.new.heavy builder.new.pairs) }
+        (length graph.now.nodes) found.old.labels.items indexes.old outs.now ins.now }
+    ensures listed { OnOk result (AreAllListed graph.now.nodes graph.now.edges found.old.labels.items
+        (length found.old.rows) builder.new.comps builder.new.heavy builder.new.pairs) }
 {
     number_heavy(&found.labels, outs, ins, indexes, builder)?;
     let mut thin = vec![in alloc; false; graph.nodes() as usize]?;
     mark_thin(&found.labels, outs, ins, indexes, &mut thin);
-    let StrongClasses { mut labels, rows } = found;
-    share_references(alloc, graph, &mut labels, &rows, indexes, &thin, builder)
+    share_references(
+        alloc,
+        graph,
+        &mut found.labels,
+        &found.rows,
+        indexes,
+        &thin,
+        builder,
+    )
 }

@@ -66,31 +66,57 @@ pub(crate) fn count_reached(
         (length found.now.rows) (count + length r.lists) r.refs.items r.lists) }
     ensures rising { IfOk result (λ r. All Rises r.lists) }
 {
+    let mut reached = Reached {
+        counts: vec![in alloc; 0u8; found.rows.len()]?,
+        refs: vec![in alloc; count; count as usize]?,
+        lists: Lists::of_empty(alloc)?,
+        left: u64::from(graph.nodes()) * READS,
+    };
+    fill(alloc, graph, found, indexes, count, &mut reached)?;
+    Ok(reached)
+}
+
+// The same, in what has room for the counts, and the empty set alone.
+fn fill(
+    alloc: Global,
+    graph: &DeadGraph,
+    found: &StrongClasses,
+    indexes: &[u32],
+    count: u32,
+    reached: &mut Reached,
+) -> Result<(), ListingFault>
+    requires classes { AreClasses graph.now.edges (length graph.now.nodes) found.now.labels.items }
+    requires order { AreInOrder graph.now.edges (length graph.now.nodes) found.now.labels.items found.now.rows }
+    requires indexes { length indexes.now ≡ length found.now.rows }
+    requires numbered { AreNumbered (length graph.now.nodes) found.now.labels.items
+        (length found.now.rows) indexes.now count }
+    requires count { count ≤ u32.MAX - 1 }
+    requires part { IsPart graph.now.nodes graph.now.edges }
+    requires len { length reached.old.counts.items ≡ length found.now.rows }
+    requires refs { length reached.old.refs.items ≡ count }
+    requires lists { reached.old.lists ≡ [] ∷ [] }
+    ensures len { length reached.new.counts.items ≡ length found.now.rows }
+    ensures counts { OnOk result (CountsOut graph.now.edges (length graph.now.nodes)
+        found.now.labels.items indexes.now (length found.now.rows) reached.new.counts.items) }
+    ensures referred { OnOk result (0 < reached.new.left
+        → AreReferred (length graph.now.nodes) graph.now.edges found.now.labels.items indexes.now count
+        (length found.now.rows) (count + length reached.new.lists) reached.new.refs.items reached.new.lists) }
+    ensures rising { OnOk result (All Rises reached.new.lists) }
+{
     let mut work = new_work(alloc, count)?;
-    let mut lists = Lists::new(alloc);
-    lists.push(&[])?;
     let mut sets = vec![in alloc; count; graph.nodes() as usize]?;
-    let mut counts = vec![in alloc; 0u8; found.rows.len()]?;
-    let mut refs = vec![in alloc; count; count as usize]?;
-    let mut left = u64::from(graph.nodes()) * READS;
     count_all(
         graph,
         found,
         indexes,
         count,
         &mut sets,
-        &mut counts,
-        &mut refs,
-        &mut lists,
+        &mut reached.counts,
+        &mut reached.refs,
+        &mut reached.lists,
         &mut work,
-        &mut left,
-    )?;
-    Ok(Reached {
-        counts,
-        refs,
-        lists,
-        left,
-    })
+        &mut reached.left,
+    )
 }
 
 // The same with the empty set for each node, that one alone in the list of sets, and what the gathering works with.

@@ -59,18 +59,47 @@ pub(crate) fn count_leading(
     ensures counts { IfOk result (λ v. CountsIn graph.now.edges
         (length graph.now.nodes) found.now.labels.items indexes.now counts.now v.items) }
 {
-    let mut lists = Lists::new(alloc);
-    lists.push(&[])?;
     let mut ins = vec![in alloc; count; found.rows.len()]?;
+    lead(alloc, graph, found, indexes, counts, count, &mut ins)?;
+    Ok(ins)
+}
+
+// The same, where each class still has the number of the empty set.
+fn lead(
+    alloc: Global,
+    graph: &DeadGraph,
+    found: &StrongClasses,
+    indexes: &[u32],
+    counts: &[u8],
+    count: u32,
+    ins: &mut [u32],
+) -> Result<(), ListingFault>
+    requires classes { AreClasses graph.now.edges (length graph.now.nodes) found.now.labels.items }
+    requires order { AreInOrder graph.now.edges (length graph.now.nodes) found.now.labels.items found.now.rows }
+    requires indexes { length indexes.now ≡ length found.now.rows }
+    requires numbered { AreNumbered (length graph.now.nodes) found.now.labels.items
+        (length found.now.rows) indexes.now count }
+    requires count { count ≤ u32.MAX - 1 }
+    requires part { IsPart graph.now.nodes graph.now.edges }
+    requires len { length counts.now ≡ length found.now.rows }
+    requires counts { CountsOut graph.now.edges
+        (length graph.now.nodes) found.now.labels.items indexes.now (length found.now.rows) counts.now }
+    requires ins { length ins.old ≡ length found.now.rows }
+    requires empty { All (λ s. s ≡ count) ins.old }
+    ensures len { length ins.new ≡ length ins.old }
+    ensures counts { OnOk result (CountsIn graph.now.edges
+        (length graph.now.nodes) found.now.labels.items indexes.now counts.now ins.new) }
+{
+    let mut lists = Lists::of_empty(alloc)?;
     let mut work = Joining {
         union: Vec::new(alloc),
         marks: vec![in alloc; false; count as usize]?,
     };
     lead_all(
-        graph, found, indexes, counts, count, &mut ins, &mut lists, &mut work,
+        graph, found, indexes, counts, count, ins, &mut lists, &mut work,
     )?;
-    put_sizes(&lists, count, counts, &mut ins);
-    Ok(ins)
+    put_sizes(&lists, count, counts, ins);
+    Ok(())
 }
 
 // Puts the size of each set in place of its number, up to twenty, at the classes that lead to three components or more.

@@ -42,6 +42,15 @@ impl Lists {
         }
     }
 
+    /// The empty list alone.
+    pub fn of_empty(alloc: Global) -> Result<Lists, ListingFault>
+        ensures { IfOk result (λ l. l ≡ [] ∷ []) }
+    {
+        let mut lists = Lists::new(alloc);
+        lists.push(&[])?;
+        Ok(lists)
+    }
+
     /// No list, with room for so many lists, which have so many elements in all.
     pub fn with_capacity(alloc: Global, lists: usize, elements: usize) -> Result<Lists, AllocError>
         ensures { IfOk result (λ l. l ≡ []) }

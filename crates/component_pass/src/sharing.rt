@@ -53,59 +53,45 @@ pub(crate) fn share_references(
     ensures heavy { builder.new.heavy ≡ builder.old.heavy }
 {
     let count = builder.len();
-    let mut work = new_work(alloc, count)?;
-    let mut lists = Lists::new(alloc);
-    lists.push(&[])?;
+    let mut lists = Lists::of_empty(alloc)?;
     let mut refs = vec![in alloc; count; count as usize]?;
-    let mut near = Vec::new(alloc);
-    let mut marks = vec![in alloc; false; graph.nodes() as usize]?;
-    share_all(
-        graph, labels, rows, indexes, thin, count, &mut refs, &mut lists, &mut work, &mut near,
-        &mut marks, builder,
-    )
+    find_sets(
+        alloc, graph, labels, rows, indexes, thin, count, &mut refs, &mut lists,
+    )?;
+    list_sets(count, &refs, &lists, builder)
 }
 
-// The same with a set's number for each of them, the empty set alone in the list of sets, and what the gathering works
-// with.
-fn share_all(
+// Finds the sets of all nodes, with lists to work with that are let go before the references are listed.
+fn find_sets(
+    alloc: Global,
     graph: &DeadGraph,
-    labels: &mut [u32],
+    sets: &mut [u32],
     rows: &Lists,
     indexes: &[u32],
     thin: &[bool],
     count: u32,
     refs: &mut [u32],
     lists: &mut Lists,
-    work: &mut Work,
-    near: &mut Vec<u32>,
-    marks: &mut [bool],
-    builder: &mut ComponentsBuilder,
 ) -> Result<(), ListingFault>
-    requires classes { AreClasses graph.now.edges (length graph.now.nodes) labels.old }
-    requires order { AreInOrder graph.now.edges (length graph.now.nodes) labels.old rows.now }
+    requires classes { AreClasses graph.now.edges (length graph.now.nodes) sets.old }
+    requires order { AreInOrder graph.now.edges (length graph.now.nodes) sets.old rows.now }
     requires indexes { length indexes.now ≡ length rows.now }
-    requires thin { AreThin (length graph.now.nodes) labels.old indexes.now thin.now }
-    requires numbered { AreNumbered (length graph.now.nodes) labels.old (length rows.now) indexes.now count }
+    requires thin { AreThin (length graph.now.nodes) sets.old indexes.now thin.now }
+    requires numbered { AreNumbered (length graph.now.nodes) sets.old (length rows.now) indexes.now count }
+    requires count { count ≤ u32.MAX - 1 }
     requires part { IsPart graph.now.nodes graph.now.edges }
-    requires empty { builder.old.pairs ≡ [] }
-    requires count { count ≡ length builder.old.comps + builder.old.heavy }
-    requires few { count ≤ u32.MAX - 1 }
     requires refs { length refs.old ≡ count }
     requires lists { lists.old ≡ [] ∷ [] }
-    requires known { length work.old.known.items ≡ count + 1 }
-    requires work_marks { length work.old.marks.items ≡ count }
-    requires clear { HasNoMarks work.old }
-    requires marks { length marks.old ≡ length graph.now.nodes }
-    requires unmarked { All (λ m. m ≡ false) marks.old }
-    ensures pairs { OnOk result (AreReferences graph.now.edges
-        (length graph.now.nodes) labels.old indexes.now count builder.new.pairs) }
-    ensures comps { builder.new.comps ≡ builder.old.comps }
-    ensures heavy { builder.new.heavy ≡ builder.old.heavy }
+    ensures referred { OnOk result (AreReferred (length graph.now.nodes) graph.now.edges sets.old indexes.now count
+        (length rows.now) (count + length lists.new) refs.new lists.new) }
+    ensures rising { OnOk result (All Rises lists.new) }
 {
+    let mut work = new_work(alloc, count)?;
+    let mut near = Vec::new(alloc);
+    let mut marks = vec![in alloc; false; graph.nodes() as usize]?;
     number_all(
-        graph, labels, rows, indexes, thin, count, refs, lists, work, near, marks,
-    )?;
-    list_sets(count, refs, lists, builder)
+        graph, sets, rows, indexes, thin, count, refs, lists, &mut work, &mut near, &mut marks,
+    )
 }
 
 /// Lists the pairs from each index to the components of the set whose number is kept for it.

@@ -12,8 +12,8 @@ pub count_reached-requires-clause-numbered : goal.count_reached-requires-clause-
 count_reached-requires-clause-numbered c =
     let nodes = c.args.graph.now.nodes in
     let edges = c.args.graph.now.edges in
-    let labels = c.args.found.labels.items in
-    let rows = c.args.found.rows in
+    let labels = c.args.found.now.labels.items in
+    let rows = c.args.found.now.rows in
     let comps = c.args.builder.now.comps in
     let indexes = c.args.indexes.now in
     let f : AreFound nodes edges labels rows comps indexes
@@ -26,8 +26,8 @@ pub count_heavy-requires-clause-numbered : goal.count_heavy-requires-clause-numb
 count_heavy-requires-clause-numbered c =
     let nodes = c.args.graph.now.nodes in
     let edges = c.args.graph.now.edges in
-    let labels = c.args.found.labels.items in
-    let rows = c.args.found.rows in
+    let labels = c.args.found.now.labels.items in
+    let rows = c.args.found.now.rows in
     let comps = c.args.builder.now.comps in
     let indexes = c.args.indexes.now in
     let f : AreFound nodes edges labels rows comps indexes
@@ -40,8 +40,8 @@ pub list_sets-requires-clause-known : goal.list_sets-requires-clause-known
 list_sets-requires-clause-known c =
     let nodes = c.args.graph.now.nodes in
     let edges = c.args.graph.now.edges in
-    let labels = c.args.found.labels.items in
-    let rows = c.args.found.rows in
+    let labels = c.args.found.now.labels.items in
+    let rows = c.args.found.now.rows in
     let comps = c.args.builder.now.comps in
     let indexes = c.args.indexes.now in
     let f : AreFound nodes edges labels rows comps indexes
@@ -58,8 +58,8 @@ pub list_sets-requires-clause-rises : goal.list_sets-requires-clause-rises
 list_sets-requires-clause-rises c =
     let nodes = c.args.graph.now.nodes in
     let edges = c.args.graph.now.edges in
-    let labels = c.args.found.labels.items in
-    let rows = c.args.found.rows in
+    let labels = c.args.found.now.labels.items in
+    let rows = c.args.found.now.rows in
     let comps = c.args.builder.now.comps in
     let indexes = c.args.indexes.now in
     let f : AreFound nodes edges labels rows comps indexes
@@ -77,8 +77,8 @@ pub list_sets-requires-clause-below : goal.list_sets-requires-clause-below
 list_sets-requires-clause-below c =
     let nodes = c.args.graph.now.nodes in
     let edges = c.args.graph.now.edges in
-    let labels = c.args.found.labels.items in
-    let rows = c.args.found.rows in
+    let labels = c.args.found.now.labels.items in
+    let rows = c.args.found.now.rows in
     let comps = c.args.builder.now.comps in
     let indexes = c.args.indexes.now in
     let f : AreFound nodes edges labels rows comps indexes
@@ -95,8 +95,8 @@ pub list_sets-requires-clause-apart : goal.list_sets-requires-clause-apart
 list_sets-requires-clause-apart c =
     let nodes = c.args.graph.now.nodes in
     let edges = c.args.graph.now.edges in
-    let labels = c.args.found.labels.items in
-    let rows = c.args.found.rows in
+    let labels = c.args.found.now.labels.items in
+    let rows = c.args.found.now.rows in
     let comps = c.args.builder.now.comps in
     let indexes = c.args.indexes.now in
     let f : AreFound nodes edges labels rows comps indexes
@@ -115,12 +115,12 @@ list_sets-requires-clause-refs c =
     let r = c.in_ok-reached.ensures.referred (grind (arith, nat_tests, asked)) in
     rw c.deref-in-None.ensures.value r.size
 
-pub returns-in-None : goal.returns-in-None
-returns-in-None c =
+pub returns : goal.returns
+returns c =
     let nodes = c.args.graph.now.nodes in
     let edges = c.args.graph.now.edges in
-    let labels = c.args.found.labels.items in
-    let rows = c.args.found.rows in
+    let labels = c.args.found.now.labels.items in
+    let rows = c.args.found.now.rows in
     let comps = c.args.builder.now.comps in
     let indexes = c.args.indexes.now in
     let f : AreFound nodes edges labels rows comps indexes

@@ -1,4 +1,4 @@
-use Rattle.std.proofs.Common.{◌≡◌, ◌+◌, ◌<◌, ◌≤◌, ℕ, length, get_or}
+use Rattle.std.proofs.Common.{◌≡◌, ◌+◌, ◌<◌, ℕ, length, get_or}
 use Rattle.component_pass.specs.Counting.{IsCount, cap}
 use Rattle.component_pass.specs.Gathering.{AreSets, HasNoMarks}
 use Rattle.component_pass.specs.Sharing.{AreCounted, AreReferred, Leaves}

@@ -1,4 +1,4 @@
-use Rattle.std.proofs.Common.{◌≡◌, ◌+◌, ◌≤◌, false, length}
+use Rattle.std.proofs.Common.{◌≡◌, ◌+◌, false, length}
 use Rattle.std.specs.List.{All}
 use Rattle.component_pass.specs.Gathering.{AreSets, HasNoMarks}
 use Rattle.component_pass.specs.Sharing.{AreShared, AreReferred}
