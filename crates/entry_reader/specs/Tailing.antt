@@ -7,7 +7,6 @@ use Rattle.entry_reader.specs.Fitting.{FitsReply, FitsCites}
 use Rattle.entry_reader.specs.Meaning.{Lists, BeginsAt, grown}
 use Rattle.entry_reader.specs.Meant.{IsMeant}
 use Rattle.entry_reader.specs.Saying.{IsLineOf, IsShown, said}
-use Rattle.joint_machine.specs.declared.events.Reply.TheVariants as reply
 
 -- the words behind the equals sign are those of a reply that fits, whose list has these numbers, and of what the line
 -- cites
