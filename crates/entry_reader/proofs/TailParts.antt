@@ -383,7 +383,7 @@ notices_first o words a b t i w = rekind IsTook (IsMeant o) words a a b t refl (
 
 pub notices_else : (o : Op) (words : List (List ℕ)) (a m b : Lists) (found : Option (Reply × Option ℕ))
     → IsFinalise o → (m ≡ a) × NoTail IsTook words → TailsUnnoticed o words m b found → TailsMeant o words a b found
-notices_else o words a m b None i n h = no_tail words h.1 n.1
+notices_else o words a m b None i n h = (h.0 ∙ n.0, no_tail words h.1 n.1)
 notices_else o words a m b (Some t) i n h = rekind (IsMeantUnnoticed o) (IsMeant o) words a m b t n.0 (meant_of_finalise o t.0 t.1 words m b i n.1) h
 
 pub unnoticed_first : (o : Op) (words : List (List ℕ)) (a b : Lists) (t : Reply × Option ℕ) → (IsFinalise o → ⊥) → ReadsTail (IsMeantUnnoticed o) words a b t → ReadsTail (IsMeant o) words a b t
@@ -400,7 +400,7 @@ took_after o words a b (r, c) i n w = absurd w.of_kind
 
 pub notices_last : (o : Op) (words : List (List ℕ)) (a m b : Lists) (found : Option (Reply × Option ℕ))
     → (IsFinalise o → ⊥) → (m ≡ a) × NoTail IsUnnoticed words → Tails IsTook words m b found → TailsMeant o words a b found
-notices_last o words a m b None i n h = no_tail words n.1 h.1
+notices_last o words a m b None i n h = (h.0 ∙ n.0, no_tail words n.1 h.1)
 notices_last o words a m b (Some t) i n h = rekind IsTook (IsMeant o) words a m b t n.0 (took_after o words m b t i n.1) h
 
 -- what holds of a result, where it is one

@@ -167,10 +167,11 @@ TailsUnnoticed o words before after found = MatchOption found
     ((after ≡ before) × ((r : Reply) (ns : List ℕ) (c : Option ℕ) → IsUnnoticed r → IsTail words r ns c → ⊥))
     (ReadsTail (IsMeantUnnoticed o) words before after)
 
--- the words are read as the reply that is meant by the event, exactly
+-- the words are read as the reply that is meant by the event, exactly; where they are none, the lists stay
 abbrev pub TailsMeant : Op → List (List ℕ) → Lists → Lists → Option (Reply × Option ℕ) → Type 0
 TailsMeant o words before after found = MatchOption found
-    ((r : Reply) (ns : List ℕ) (c : Option ℕ) → IsTail words r ns c → ⊥) (ReadsTail (IsMeant o) words before after)
+    ((after ≡ before) × ((r : Reply) (ns : List ℕ) (c : Option ℕ) → IsTail words r ns c → ⊥))
+    (ReadsTail (IsMeant o) words before after)
 
 -- whether an event takes notices, and whether it is a sweep
 abbrev pub IsFinalise : Op → Type 0

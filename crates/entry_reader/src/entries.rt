@@ -46,8 +46,9 @@ fn take_head(count: u64, last: &mut LastPlace, words: &mut Words) -> Option<(Thr
     Some((caller, index, op))
 }
 
-/// The entry with that number whose line has this text, which is without its newline. None where there is none. The
-/// list that it names is put behind those before. The place of the last line that was read may be that of any.
+/// The entry with that number whose line has this text, which is without its newline. None where there is none, and
+/// then the lists stay. The list that it names is put behind those before. The place of the last line that was read may
+/// be that of any.
 pub fn read_entry(
     text: Stretch,
     number: u64,
@@ -55,7 +56,8 @@ pub fn read_entry(
     last: &mut LastPlace,
 ) -> Result<Option<Entry>, AllocError>
     ensures { IfOk result (λ found. MatchOption found
-        ((e : Entry) (ns : List ℕ) → e.number ≡ number → IsLineOf text.entry e ns → ⊥)
+        ((lists.new ≡ lists.old)
+        × ((e : Entry) (ns : List ℕ) → e.number ≡ number → IsLineOf text.entry e ns → ⊥))
         (ReadsEntry text.entry number lists.old lists.new)) }
 {
     let mut words = Words::of(text);

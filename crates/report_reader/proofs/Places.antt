@@ -11,8 +11,8 @@ use Rattle.text_words.proofs.Cuts.{cut_at, free_before}
 use Rattle.history_report.specs.Report.{end_text}
 use Rattle.entry_reader.specs.Saying.{IsLineOf}
 use Rattle.report_reader.specs.declared.faults.ReportCause.TheVariants as cause
-use Rattle.report_reader.specs.declared.faults.ReportFault.{ReportFault}
 use Rattle.report_reader.specs.Faults.{IsEntryText, IsEndText, Placed, IsFaultHere}
+use Rattle.report_reader.specs.Steps.{IsMisformed, StopsAt}
 use Rattle.report_reader.proofs.Texts.{not_last}
 
 -- no newline up to the end, and a newline at the place that was found
@@ -145,13 +145,10 @@ pub not_empty : (n : ℕ) → false ≡ nat_eq n 0 → 0 < n
 not_empty zero e = absurd (true≢false (sym e))
 not_empty (suc n) e = omega arith
 
-pub begins_so : (bytes : List ℕ) → 0 < length bytes → (bytes ≡ []) ⊎ (get_or bytes 0 0 ≡ 101) → get_or bytes 0 0 ≡ 101
-begins_so bytes l (inl e) = absurd (let s = ap length e in omega (arith, l, s))
-begins_so bytes l (inr e) = e
+pub misformed : (before : ℕ) (bytes : List ℕ) → 0 < length bytes → get_or bytes 0 0 ≢ 101 → StopsAt before bytes → IsMisformed before bytes
+misformed before bytes l other (inl e) = absurd (let s = ap length e in omega (arith, l, s))
+misformed before bytes l other (inr (inl e)) = absurd (other e)
+misformed before bytes l other (inr (inr f)) = f
 
 pub whole_front : (front text : List ℕ) (n : ℕ) → front ≡ take n text → n ≡ length text → front ≡ text
 whole_front front text n e l = e ∙ take_all n text (omega (arith, l))
-
--- a fault where it stands, by an equal number
-pub found_at : (m n : ℕ) (bytes : List ℕ) (fault : ReportFault) → m ≡ n → IsFaultHere m false bytes fault → IsFaultHere n false bytes fault
-found_at m n bytes fault e h = subst (λ k. IsFaultHere k false bytes fault) e h

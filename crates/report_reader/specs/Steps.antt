@@ -1,5 +1,5 @@
--- What the parts of reading a report promise each other. Nothing outside of this crate rests on it.
-use Rattle.std.specs.Prelude.{◌≡◌, ℕ, ◌+◌, ◌⊎◌, false, true, List, [], ◌∷◌, ◌++◌, length}
+-- What the parts of reading a report promise each other, and whoever reads one piece by piece.
+use Rattle.std.specs.Prelude.{◌≡◌, ℕ, ◌+◌, ◌⊎◌, false, true, List, [], ◌∷◌, ◌++◌, length, slice_index}
 use Rattle.joint_machine.specs.declared.events.Entry.{Entry}
 use Rattle.joint_machine.specs.Histories.{Finished}
 use Rattle.history_report.specs.Report.{end_text}
@@ -44,27 +44,32 @@ pub record ReadsLine (old new : Read) (bytes left : List ℕ) : Type 0 where
   pub reads : ReadsEntry text (length old.entries) old.lists new.lists entry
   pub entries : new.entries ≡ old.entries ++ entry ∷ []
 
--- all lines up to some place were read
-pub record ReadsTo (old new : Read) (bytes left : List ℕ) : Type 0 where
+-- the text is the lines of what was read
+abbrev pub AreRead : List ℕ → Read → Type 0
+AreRead text r = ReadsLines 0 no_lists r.entries text r.lists
+
+-- lines of the bytes were read behind those that were read before, and these are left
+pub record GoesFrom (front : List ℕ) (new : Read) (bytes left : List ℕ) : Type 0 where
   pub text : List ℕ
   pub cut : bytes ≡ text ++ left
-  pub lines : ReadsLines 0 old.lists new.entries text new.lists
+  pub lines : AreRead (front ++ text) new
 
--- why no entry was read behind so many
-abbrev pub IsLineError : ℕ → List ℕ → ReportError → Type 0
-IsLineError before bytes error.OutOfMemory = Unit {0}
-IsLineError before bytes (error.Refused fault) = IsFaultHere before false bytes fault
+-- so it is behind whatever lines were read before
+abbrev pub GoesTo : Read → Read → List ℕ → List ℕ → Type 0
+GoesTo old new bytes left = (front : List ℕ) → AreRead front old → GoesFrom front new bytes left
 
--- why no entry was read at some place behind entries' lines
-pub record IsFaultBehind (old : Read) (bytes : List ℕ) (fault : ReportFault) : Type 0 where
-  pub new : Read
-  pub left : List ℕ
-  pub reads : ReadsTo old new bytes left
-  pub found : IsFaultHere (length new.entries) false left fault
+-- the first line is faulty, since no entry has it and it doesn't begin as a last line does
+abbrev pub IsMisformed : ℕ → List ℕ → Type 0
+IsMisformed before bytes = IsFaultHere before false bytes (record { line = before + 1; cause = cause.Form })
 
-abbrev pub IsFrontError : Read → List ℕ → ReportError → Type 0
-IsFrontError old bytes error.OutOfMemory = Unit {0}
-IsFrontError old bytes (error.Refused fault) = IsFaultBehind old bytes fault
+-- no entry was read of the first line
+pub record StaysAt (old new : Read) (bytes : List ℕ) : Type 0 where
+  pub stays : new ≡ old
+  pub found : IsMisformed (length old.entries) bytes
+
+-- why no further line was read behind so many: none is left, or it begins as a last line does, or it is faulty
+abbrev pub StopsAt : ℕ → List ℕ → Type 0
+StopsAt before left = (left ≡ []) ⊎ ((slice_index left 0 ≡ 101) ⊎ IsMisformed before left)
 
 -- bytes stand behind so many lines, the last of which is the last of a report
 abbrev pub IsMoreError : ℕ → List ℕ → ReportError → Type 0

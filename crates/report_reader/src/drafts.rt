@@ -1,11 +1,14 @@
 // What was read so far: the entries of the lines, and the lists that they name.
 
-ghost use Rattle.std.specs.Prelude.{◌≡◌, ◌≢◌, ◌+◌, ◌<◌, ◌≤◌, ◌++◌, ℕ, [], ◌∷◌, All, length, slice_index, IfOk, IfErr};
-ghost use Rattle.std.specs.Prelude.{MatchOption};
+ghost use Rattle.std.specs.Prelude.{◌≡◌, ◌≢◌, ◌+◌, ◌-◌, ◌<◌, ◌≤◌, ◌++◌, ℕ, List, [], ◌∷◌, All, length, slice_index};
+ghost use Rattle.std.specs.Prelude.{IfErr, IfOk, MatchOption};
 ghost use Rattle.joint_machine.specs.Histories.{IsHistory};
-ghost use Rattle.report_reader.specs.Steps.{ReadsLine, IsLineError, history_of, no_lists};
+ghost use Rattle.report_reader.specs.Reading.{IsReadAs};
+ghost use Rattle.report_reader.specs.Answers.{IsReportRefusal};
+ghost use Rattle.report_reader.specs.Steps.{AreRead, GoesTo, ReadsLine, StaysAt, StopsAt, history_of, no_lists};
 
-use crate::faults::{ReportCause, ReportError, refusal};
+use crate::endings::judge_end;
+use crate::faults::ReportError;
 use crate::likely::LikelyLine;
 use entry_reader::{LastPlace, NamedLists, read_entry};
 use joint_model::{Entries, Entry, History, Holding};
@@ -15,7 +18,7 @@ use text_words::{Stretch, first_place_far};
 
 /// The entries that were read, and the numbers that they name.
 #[derive(Drop)]
-pub(crate) struct Draft {
+pub struct Draft {
     entries: Entries,
     lists: NamedLists,
     last: LastPlace,
@@ -70,7 +73,7 @@ pub(crate) fn cut_line<'a>(bytes: &'a [u8]) -> Option<(Stretch<'a>, &'a [u8])>
 
 impl Draft {
     /// Nothing yet.
-    pub(crate) fn new(alloc: Global) -> Draft
+    pub fn new(alloc: Global) -> Draft
         ensures { result ≡ record { entries = []; lists = no_lists } }
     {
         Draft {
@@ -82,7 +85,7 @@ impl Draft {
     }
 
     /// How many entries were read.
-    pub(crate) fn len(&self) -> u32
+    pub fn len(&self) -> u32
         ensures { result ≡ length self.now.entries }
     {
         self.entries.len()
@@ -100,48 +103,70 @@ impl Draft {
         Ok(())
     }
 
-    // Reads the first line as that of the next entry, whatever it is, and answers what stands behind it.
+    // Reads the first line as that of the next entry, whatever it is, and answers what stands behind it; None where it
+    // is no entry's, and then the draft stays.
     #[inline(never)]
-    fn read_any<'a>(&mut self, bytes: &'a [u8]) -> Result<&'a [u8], ReportError>
+    fn read_any<'a>(&mut self, bytes: &'a [u8]) -> Result<Option<&'a [u8]>, AllocError>
         requires some { 0 < length bytes.now }
         requires not_last { slice_index bytes.now 0 ≢ 101 }
         requires few { length self.old.entries < u32.MAX }
-        ensures ok { IfOk result (λ left. ReadsLine self.old self.new bytes.now left.now) }
-        ensures err { IfErr result (λ error. IsLineError (length self.old.entries) bytes.now error) }
+        ensures { IfOk result (λ found. MatchOption found (StaysAt self.old self.new bytes.now)
+            (λ left. ReadsLine self.old self.new bytes.now left.now)) }
     {
-        let before = self.entries.len();
         let Some((text, left)) = cut_line(bytes) else {
-            return Err(refusal(before, ReportCause::Form));
+            return Ok(None);
         };
-        let Some(entry) = read_entry(text, before as u64, &mut self.lists, &mut self.last)? else {
-            return Err(refusal(before, ReportCause::Form));
+        let number = self.entries.len() as u64;
+        let Some(entry) = read_entry(text, number, &mut self.lists, &mut self.last)? else {
+            return Ok(None);
         };
         self.likely.keep(&entry.made);
         self.put(entry)?;
-        Ok(left)
+        Ok(Some(left))
     }
 
-    /// Reads the first line as that of the next entry, and answers what stands behind it. The line doesn't begin as a
-    /// last line does. Where it is no entry's, or for want of memory, the draft is of no more use.
+    // Reads the first line as that of the next entry, and answers what stands behind it; None where it is no entry's,
+    // and then the draft stays. The line doesn't begin as a last line does. Out of memory the draft is of no more use.
     #[inline(always)]
-    pub(crate) fn read_line<'a>(&mut self, bytes: &'a [u8]) -> Result<&'a [u8], ReportError>
+    fn read_line<'a>(&mut self, bytes: &'a [u8]) -> Result<Option<&'a [u8]>, AllocError>
         requires some { 0 < length bytes.now }
         requires not_last { slice_index bytes.now 0 ≢ 101 }
         requires few { length self.old.entries < u32.MAX }
-        ensures ok { IfOk result (λ left. ReadsLine self.old self.new bytes.now left.now) }
-        ensures err { IfErr result (λ error. IsLineError (length self.old.entries) bytes.now error) }
+        ensures { IfOk result (λ found. MatchOption found (StaysAt self.old self.new bytes.now)
+            (λ left. ReadsLine self.old self.new bytes.now left.now)) }
     {
         match self.likely.read(bytes, self.entries.len() as u64) {
             Some((entry, left)) => {
                 self.put(entry)?;
-                Ok(left)
+                Ok(Some(left))
             }
             None => self.read_any(bytes),
         }
     }
 
-    /// The history of what was read. It takes memory for one list's place alone.
-    pub(crate) fn finish(self, alloc: Global) -> Result<History, AllocError>
+    /// Reads the lines of entries that the bytes begin with, behind those that were read before, and answers what is
+    /// left: nothing, or a first line that begins as a last line does, or one that is no next entry's; without its
+    /// newline it is none. Out of memory the draft is of no more use.
+    pub fn read_lines<'a>(&mut self, bytes: &'a [u8]) -> Result<&'a [u8], AllocError>
+        requires few { length self.old.entries + length bytes.now ≤ u32.MAX - 1 }
+        ensures ok { IfOk result (λ left. GoesTo self.old self.new bytes.now left.now) }
+        ensures stops { IfOk result (λ left. StopsAt (length self.new.entries) left.now) }
+        ensures few { IfOk result (λ left.
+            length self.new.entries + length left.now ≤ length self.old.entries + length bytes.now) }
+        ensures within { IfOk result (λ left. length left.now ≤ length bytes.now) }
+    {
+        let mut left = bytes;
+        while !left.is_empty() && left[0] != b'e' {
+            match self.read_line(left)? {
+                Some(behind) => left = behind,
+                None => return Ok(left),
+            }
+        }
+        Ok(left)
+    }
+
+    // The history of what was read. It takes memory for one list's place alone.
+    fn history(self, alloc: Global) -> Result<History, AllocError>
         requires { IsHistory (history_of self) }
         ensures { IfOk result (λ h. h ≡ history_of self) }
     {
@@ -153,5 +178,20 @@ impl Draft {
             Ok(history) => Ok(history),
             Err(_) => Err(AllocError),
         }
+    }
+
+    /// The history of the text whose first lines were read, where these bytes stand behind them, as
+    /// [`read_report`](crate::read_report) answers it of the whole.
+    pub fn finish(mut self, alloc: Global, bytes: &[u8]) -> Result<History, ReportError>
+        requires read { (front : List ℕ) × (AreRead front self) × (length front + length bytes.now < u32.MAX) }
+        ensures ok { (front : List ℕ) → AreRead front self → length front + length bytes.now < u32.MAX
+            → IfOk result (λ h. IsReadAs (front ++ bytes.now) h) }
+        ensures err { (front : List ℕ) → AreRead front self → length front + length bytes.now < u32.MAX
+            → IfErr result (λ error. IsReportRefusal (front ++ bytes.now) error) }
+    {
+        let left = self.read_lines(bytes)?;
+        judge_end(left, self.len())?;
+        let history = self.history(alloc)?;
+        Ok(history)
     }
 }

@@ -1,9 +1,9 @@
 // The last line of a report.
 
-ghost use Rattle.std.specs.Prelude.{◌≡◌, ◌-◌, ◌≢◌, ℕ, ◌+◌, ◌<◌, ◌≤◌, ◌⊎◌, ◌^◌, ◌++◌, [], length, slice_index, codes};
+ghost use Rattle.std.specs.Prelude.{◌≡◌, ◌-◌, ◌≢◌, ℕ, ◌+◌, ◌<◌, ◌≤◌, ◌^◌, ◌++◌, [], length, codes};
 ghost use Rattle.std.specs.Prelude.{decimal, MatchOption, MatchResult};
 ghost use Rattle.history_report.specs.Report.{end_text};
-ghost use Rattle.report_reader.specs.Steps.{IsEndError, IsMoreError};
+ghost use Rattle.report_reader.specs.Steps.{IsEndError, IsMoreError, StopsAt};
 
 use crate::drafts::cut_line;
 use crate::faults::{ReportCause, ReportError, refusal};
@@ -33,14 +33,17 @@ fn judge_rest(bytes: &[u8], lines: u32) -> Result<(), ReportError>
     }
 }
 
-/// That the bytes are the last line of a report of so many entries, and no more.
+/// That the bytes behind the lines of so many entries are the last line of their report, and no more.
 pub(crate) fn judge_end(bytes: &[u8], entries: u32) -> Result<(), ReportError>
-    requires last { (bytes.now ≡ []) ⊎ (slice_index bytes.now 0 ≡ 101) }
+    requires stops { StopsAt entries bytes.now }
     requires few { entries + length bytes.now ≤ u32.MAX - 1 }
     ensures { MatchResult result (λ _. bytes.now ≡ end_text entries) (λ error. IsEndError entries bytes.now error) }
 {
     if bytes.is_empty() {
         return Err(refusal(entries, ReportCause::Ending));
+    }
+    if bytes[0] != b'e' {
+        return Err(refusal(entries, ReportCause::Form));
     }
     let Some((text, left)) = cut_line(bytes) else {
         return Err(refusal(entries, ReportCause::Form));

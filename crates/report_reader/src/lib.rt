@@ -23,6 +23,7 @@ mod laws;
 mod likely;
 mod reports;
 
+pub use drafts::Draft;
 pub use faults::{ReportCause, ReportError, ReportFault};
 pub use laws::reports_are_read;
 pub use reports::read_report;
