@@ -1,28 +1,31 @@
 -- How many newlines there are in the lines of a report, and so which fault is that of a line, where every line has its
 -- newline.
-use Rattle.std.proofs.Common.{◌≡◌, ◌≢◌, ℕ, ◌+◌, ◌<◌, ◌≤◌, inl, inr, Bool, true, false, List, [], ◌∷◌, ◌++◌, length, All, codes, decimal, refl, sym, ap, subst, ◌∙◌, arith, length-append}
+use Rattle.std.proofs.Common.{◌≡◌, ◌≢◌, ℕ, ◌+◌, ◌<◌, ◌≤◌, inl, inr, Bool, true, false, List, [], ◌∷◌, ◌++◌, length, All, codes, decimal, refl, sym, ap, subst, ◌∙◌, arith, append_assoc, append-nil, length-append}
 use Rattle.std.proofs.lemmas.Bool.{cases_lt}
 use Rattle.std.proofs.lemmas.List.Elements.{All-from_recursion}
-use Rattle.std.specs.Io.KnownBytes.{IsAtEnd}
-use Rattle.std.specs.Prelude.{Option}
+use Rattle.std.proofs.lemmas.List.Sums.{count_by-le-length}
+use Rattle.std.specs.Prelude.{drop, nat_eq, take}
+use lib.Seq.{take-append-add, drop-append-add}
 use Rattle.joint_machine.specs.Histories.{Finished}
-use Rattle.byte_streams.specs.Reading.{Took}
 use Rattle.text_words.proofs.Cutting.{Lacks}
 use Rattle.text_words.proofs.PlainWords.{no-byte, plain-decimal}
-use Rattle.text_limits.specs.Limits.{IsFrontOf}
+use Rattle.text_limits.specs.Limits.{AreClosed, IsFrontOf}
 use Rattle.text_limits.proofs.ClosedLines.{appended, closed-behind, closed-one, lines_in}
 use Rattle.history_report.specs.Report.{end_text, entries_text}
 use Rattle.report_reader.specs.declared.faults.ReportFault.{ReportFault}
 use Rattle.report_reader.specs.Faults.{AreEntryLines, IsFaultyLine, IsReportFault, LacksEnd, StandsFirst, Placed, closed_lines, front, front_count}
 use Rattle.report_reader.specs.Reading.{IsReadAs}
-use Rattle.report_reader.specs.Steps.{no_lists}
+use Rattle.report_reader.specs.Steps.{AreRead, Read, ReadsLines, no_lists}
+use Rattle.entry_reader.specs.Meaning.{Lists}
+use Rattle.joint_machine.specs.declared.events.Entry.{Entry}
 use Rattle.report_reader.proofs.Back.{read_of}
 use Rattle.report_reader.proofs.Canonical.{lists_of}
 use Rattle.report_reader.proofs.Lines.{entry_lines}
+use Rattle.report_reader.proofs.Reaching.{read_within}
 use Rattle.report_reader.proofs.Texts.{text_lacks}
 use Rattle.limited_reports.specs.declared.limits.TakeError.{TakeError}
-use Rattle.limited_reports.specs.declared.limits.TakeError.TheVariants.{Refused, Long}
-use Rattle.limited_reports.specs.Limits.{IsFaultBefore, IsLongLine}
+use Rattle.limited_reports.specs.declared.limits.TakeError.TheVariants.{OutOfMemory, ReadFault, Refused, Long}
+use Rattle.limited_reports.specs.Limits.{IsFaultBefore, IsLongLine, IsNoneWithin}
 use Rattle.limited_reports.specs.Answers.{IsLongRefusal}
 
 all_lack : (text : List ℕ) → Lacks 10 text → All (λ b. b ≢ 10) text
@@ -86,6 +89,59 @@ module _ (most : ℕ) (bytes before : List ℕ) (cut : IsFrontOf most bytes befo
     | inr l ↦ subst (IsLongRefusal most bytes) (sym (here l)) (fault-before fault (omega (arith, c, l)) f)
   ]
 
--- a source that gave no more than the limit was read to its end
-pub read-whole : (most : ℕ) (left rest : Option (List ℕ)) (input : List ℕ) → Took most left rest input → length input ≤ most → IsAtEnd rest
-read-whole most left rest input t l = elim t.stopped [ inl e ↦ e | inr n ↦ absurd (omega (arith, n, l)) ]
+-- lines that were read, in front of the lines before a limit
+closed_both : (a b : List ℕ) → AreClosed a → AreClosed b → AreClosed (a ++ b)
+closed_both a b c (inl e) = subst AreClosed (sym (ap (λ z. a ++ z) e ∙ append-nil a)) c
+closed_both a b c (inr (t, e)) = inr (a ++ t, ap (λ z. a ++ z) e ∙ sym (append_assoc a t (10 ∷ [])))
+
+closed_lines_read : (n : ℕ) (l m : Lists) (es : List Entry) (text : List ℕ) → ReadsLines n l es text m → AreClosed text
+closed_lines_read n l m [] text r = inl r.0
+closed_lines_read n l m (x ∷ es) text r =
+    let line : AreClosed (r.0 ++ 10 ∷ []) = inr (r.0, refl) in
+    let both = closed_both (r.0 ++ 10 ∷ []) r.1 line (closed_lines_read (n + 1) r.2 m es r.1 r.5) in
+    subst AreClosed (append_assoc r.0 (10 ∷ []) r.1 ∙ sym r.3) both
+
+pub front_behind : (most : ℕ) (front bytes before : List ℕ) (read : Read) → AreRead front read → IsFrontOf most bytes before → IsFrontOf (length front + most) (front ++ bytes) (front ++ before)
+front_behind most front bytes before read a c =
+    let size = length-append front before in
+    let fits = c.fits in
+    let same : drop (length before) (take most bytes) ≡ drop (length front + length before) (front ++ take most bytes) = sym (drop-append-add front (take most bytes) (length before)) in
+    let cut : drop (length front + length before) (front ++ take most bytes) ≡ drop (length front + length before) (take (length front + most) (front ++ bytes)) = ap (drop (length front + length before)) (sym (take-append-add front bytes most)) in
+    let at : drop (length front + length before) (take (length front + most) (front ++ bytes)) ≡ drop (length (front ++ before)) (take (length front + most) (front ++ bytes)) = ap (λ n. drop n (take (length front + most) (front ++ bytes))) (sym size) in
+    record {
+      rest = c.rest;
+      whole = ap (λ z. front ++ z) c.whole ∙ sym (append_assoc front before c.rest);
+      closed = closed_both front before (closed_lines_read 0 no_lists read.lists read.entries front a) c.closed;
+      fits = omega (arith, size, fits);
+      line = subst (All (λ b. b ≢ 10)) (same ∙ (cut ∙ at)) c.line;
+    }
+
+pub lines_behind : (front before : List ℕ) (read : Read) → AreRead front read → length read.entries + lines_in before ≡ lines_in (front ++ before)
+lines_behind front before read a =
+    let k = entry_lines 0 no_lists read.entries front read.lists a in
+    let lines = of-lines 0 k.texts k.lines in
+    let text = ap lines_in k.whole in
+    let both = appended front before in
+    let count = k.count in
+    omega (arith, lines, text, both, count)
+
+pub lines_few : (most : ℕ) (front bytes before : List ℕ) (read : Read) → AreRead front read → IsFrontOf most bytes before → length read.entries + lines_in before ≤ length front + length bytes
+lines_few most front bytes before read a c =
+    let entries = read_within front read a in
+    let lines = count_by-le-length (λ b. nat_eq b 10) before in
+    let whole = ap length c.whole in
+    let parts = length-append before c.rest in
+    omega (arith, entries, lines, whole, parts)
+
+pub front_few : (most : ℕ) (bytes before : List ℕ) → IsFrontOf most bytes before → length before ≤ length bytes
+front_few most bytes before c = (let whole = ap length c.whole in let parts = length-append before c.rest in omega (arith, whole, parts))
+
+-- where no line was read before
+pub long_alone : (most : ℕ) (bytes : List ℕ) (e : TakeError) → most < length bytes → IsLongRefusal (0 + most) bytes e → IsNoneWithin most bytes e
+long_alone most bytes e l w = by e (subst (λ n. IsLongRefusal n bytes e) (let same : 0 + most ≡ most = omega arith in same) w)
+  where
+    by : (e : TakeError) → IsLongRefusal most bytes e → IsNoneWithin most bytes e
+    by OutOfMemory w = tt
+    by ReadFault w = absurd w
+    by (Refused fault) w = inr (l, w)
+    by (Long line) w = (l, w)

@@ -1,14 +1,14 @@
 // The reading, and what is answered of a text that is too long.
 
-ghost use Rattle.std.specs.Prelude.{◌≡◌, ◌-◌, ◌+◌, ◌<◌, ◌≤◌, length, IfErr, IfOk};
+ghost use Rattle.std.specs.Prelude.{◌≡◌, ◌+◌, ◌<◌, ◌≤◌, ◌++◌, ℕ, List, length, IfErr, IfOk};
 ghost use Rattle.report_reader.specs.Reading.{IsReadAs};
+ghost use Rattle.report_reader.specs.Steps.{AreRead};
 ghost use Rattle.limited_reports.specs.Limits.{IsNoneWithin};
-ghost use Rattle.limited_reports.specs.Answers.{IsLongRefusal, TookNone, TookReport};
+ghost use Rattle.limited_reports.specs.Answers.{IsLongRefusal};
 
-use byte_streams::{ReadError, Source, read_up_to};
 use joint_model::History;
-use report_reader::{ReportError, ReportFault, read_report};
-use std::alloc::Global;
+use report_reader::{Draft, ReportError, ReportFault, read_report};
+use std::alloc::{AllocError, Global};
 use text_limits::{front_of, newlines};
 
 /// Why there is no report within a limit of bytes.
@@ -24,6 +24,16 @@ pub enum TakeError {
     Long { line: u32 },
 }
 
+impl From<AllocError> for TakeError {
+    ghost use Rattle.limited_reports.specs.declared.limits.TakeError.TheVariants as error;
+
+    ghost from_gives = { λ _ e. e ≡ error.OutOfMemory };
+
+    fn from(_error: AllocError) -> TakeError {
+        TakeError::OutOfMemory
+    }
+}
+
 // What is answered of a fault in the lines before the limit, which are so many: one behind them says that none of them
 // is wrong.
 fn within(fault: ReportFault, count: u32) -> TakeError
@@ -37,15 +47,18 @@ fn within(fault: ReportFault, count: u32) -> TakeError
     }
 }
 
-// What is answered of a text that is longer than the limit.
-fn refuse_long(alloc: Global, bytes: &[u8], most: usize) -> TakeError
-    requires few { length bytes.now < u32.MAX }
+// What is answered of a text that is longer than the limit, of which a draft has read the first lines and these bytes
+// stand behind them, with so many of them within the limit.
+pub(crate) fn refuse_long(alloc: Global, draft: Draft, bytes: &[u8], most: usize) -> TakeError
+    requires read { (front : List ℕ) × (AreRead front draft) × (length front + length bytes.now < u32.MAX) }
     requires long { most < length bytes.now }
-    ensures { IsLongRefusal most bytes.now result }
+    ensures { (front : List ℕ) → AreRead front draft → length front + length bytes.now < u32.MAX
+        → IsLongRefusal (length front + most) (front ++ bytes.now) result }
 {
+    let before = draft.len();
     let front = front_of(bytes, most);
-    let count = newlines(front);
-    match read_report(alloc, front) {
+    let count = before + newlines(front);
+    match draft.finish(alloc, front) {
         Ok(_) => return TakeError::Long { line: count + 1 },
         Err(ReportError::OutOfMemory) => return TakeError::OutOfMemory,
         Err(ReportError::Refused(fault)) => return within(fault, count),
@@ -66,30 +79,11 @@ pub fn read_within(alloc: Global, bytes: &[u8], most: usize) -> Result<History, 
     ensures err { IfErr result (λ error. IsNoneWithin most bytes.now error) }
 {
     if bytes.len() > most {
-        return Err(refuse_long(alloc, bytes, most));
+        return Err(refuse_long(alloc, Draft::new(alloc), bytes, most));
     }
     match read_report(alloc, bytes) {
         Ok(history) => Ok(history),
         Err(ReportError::OutOfMemory) => Err(TakeError::OutOfMemory),
         Err(ReportError::Refused(fault)) => Err(TakeError::Refused(fault)),
-    }
-}
-
-/// Takes bytes from a source, which may give them in whatever pieces, until its end, or until one byte more than `most`
-/// was taken, and no further; and answers the history that they are the report of, as [`read_within`] does.
-///
-/// `ReadFault` only where the source's count of faults rose. `OutOfMemory` where there is no memory for the bytes or
-/// the history. The bytes are let go.
-pub fn take_report<S: Source>(alloc: Global, src: &mut S, most: usize) -> Result<History, TakeError>
-    requires { most < u32.MAX - 1 }
-    ensures ok { IfOk result (λ h. TookReport most (S.left src.old) (S.left src.new) h) }
-    ensures err { IfErr result (λ error. TookNone most (S.left src.old)
-        (S.left src.new) (S.faults src.old) (S.faults src.new) error) }
-    ensures later { S.faults src.old ≤ S.faults src.new }
-{
-    match read_up_to(alloc, src, most) {
-        Ok(bytes) => read_within(alloc, &bytes, most),
-        Err(ReadError::OutOfMemory) => Err(TakeError::OutOfMemory),
-        Err(ReadError::Failed) => Err(TakeError::ReadFault),
     }
 }
