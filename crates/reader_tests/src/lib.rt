@@ -1,5 +1,5 @@
-// Tests of `entry_reader` and `report_reader` by their public calls: reports of worked scripts, which are written again
-// as they were, texts that are no report, and texts of two readings.
+// Tests of `entry_reader`, `report_reader` and `limited_reports` by their public calls: reports of worked scripts,
+// which are written again as they were, texts that are no report, texts of two readings, and reports in small pieces.
 //
 // They stand in a crate of their own since a crate with tests is proved twice, with them and without. Nothing but tests
 // stands here, and no other crate builds on it.
@@ -11,6 +11,8 @@
 mod comparing;
 #[cfg(test)]
 mod gap_reports;
+#[cfg(test)]
+mod pieces;
 #[cfg(test)]
 mod readings;
 #[cfg(test)]

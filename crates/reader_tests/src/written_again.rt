@@ -50,8 +50,8 @@ fn worked_reports_are_written_again(rt: HostRuntime) -> Result<(), Fail> {
     Ok(())
 }
 
-// The report of so many cycles over nothing.
-fn cycles(alloc: Global, count: u64) -> Result<String, AllocError>
+/// The report of so many cycles over nothing.
+pub(crate) fn cycles(alloc: Global, count: u64) -> Result<String, AllocError>
     requires { count ≤ 256 }
 {
     let mut text = String::new(alloc);
