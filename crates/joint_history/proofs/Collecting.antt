@@ -48,7 +48,7 @@ use Rattle.joint_history.proofs.KnownCallers.{own_line}
 use Rattle.joint_history.proofs.KnownViews.{entries_snoc, same_view}
 use Rattle.joint_history.proofs.SeatDraws.{drew_peer, peer_settled}
 use Rattle.order_table.specs.Allowed.{Settled}
-use Rattle.joint_history.proofs.LockedSteps.{list_more, peer_entered, returns_seated, grows_more, knows_peers_still, last_told, lent_joined, makes_none, own_told, stands_same}
+use Rattle.joint_history.proofs.LockedSteps.{list_more, side_entered, peer_side, returns_seated, grows_more, knows_still, last_told, lent_joined, makes_none, own_told, stands_same}
 use Rattle.joint_history.proofs.Reserving.{seated_on, KeepsReserve, KnowsOn, back_on, drew_on, drew_reserves, lent_on, nothing_kept, quiet_kept, reserves_on}
 use Rattle.joint_history.proofs.Running.{above_more, makes_nothing}
 use Rattle.joint_history.proofs.Standing.{last_of_own}
@@ -235,7 +235,7 @@ drew_at : (n : ℕ) (order : OrderId) (seat seat' : Shown) (old new : Side PeerR
 drew_at n order seat seat' old new index number o reply told is short w d =
     let k = d.kept in
     let a = w.knows.known in
-    let e = peer_entered (P n) seat.view order seat seat' old new (entry_by (P n) index number o reply None) told a w.knows.state is refl short (record { last = w.last; allows = refl }) d in
+    let e = side_entered peer_side (P n) seat.view order seat seat' old new (entry_by (P n) index number o reply None) told a w.knows.state is refl short (record { last = w.last; allows = refl }) tt d in
     let known' = e.entered.grown.known in
     record {
       knows = record {
@@ -348,7 +348,7 @@ module _ {E : Type 0} (order : OrderId) (seat seat' : Shown) (old new : Side Pee
       let back = returns_seated (P n) seat seat' mine1 locked2 mine2 e.0 b in
       let none = makes_none (P n) locked mine seat.view mine1 locked2 mine2 ks.known pass l back in
       record {
-        knows = subst (PeerKnows locked2) (sym e.1) (knows_peers_still (P n) locked mine seat.view mine1 locked2 mine2 old owns ks may.stands.known l back);
+        knows = subst (PeerKnows locked2) (sym e.1) (knows_still peer_side (P n) locked mine seat.view mine1 locked2 mine2 old owns ks may.stands.known l back);
         begins = begins_still (P n) mine mine2 index none may;
         ok = tt;
         err = none;

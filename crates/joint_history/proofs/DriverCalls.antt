@@ -51,7 +51,7 @@ use Rattle.joint_history.specs.Locked.{Drew, ManagedKnows, StaysSeated}
 use Rattle.seat_calls.specs.Passing.{Lends, Returns}
 use Rattle.joint_history.proofs.DeadParts.{count_same, dead_part_pinned, dead_part_self}
 use Rattle.joint_history.proofs.DriverSteps.{Driven, DrivenUnder, driven, driven_none, driver_joined, driver_still}
-use Rattle.joint_history.proofs.LockedSteps.{lent_joined, returns_seated}
+use Rattle.joint_history.proofs.LockedSteps.{lent_joined, managed_side, returns_seated}
 
 -- what holds under the lock: the driver stands so in a state that has all that every known past keeps, and whose
 -- managed side is this one
@@ -392,7 +392,7 @@ module _ (locked mine mine1 locked2 mine2 : View) (order : OrderId) (seat seat' 
   called P Q (Ok x) known made d e = record { knows = (made x d).0; ok = (made x d).1; err = tt }
   called P Q (Err x) known made d e =
       let back = returns_seated C seat seat' mine1 locked2 mine2 e.0 b in
-      let w = driven_none locked mine seat.view mine1 locked2 mine2 old pass owns ks known l back in
+      let w = driven_none managed_side locked mine seat.view mine1 locked2 mine2 old pass owns ks known l back in
       record { knows = subst (ManagedKnows locked2) (sym e.1) w.knows; ok = tt; err = w.makes }
 
   pub refusal_called : {E : Type 0} (asked : PhaseWord) (phase : Phase) (result : Result (ℕ × Reply) E) → (w : MayRefuseWord mine index asked phase)

@@ -36,8 +36,9 @@ use Rattle.view_laws.specs.Knowing.{IsDrawnView}
 use Rattle.joint_history.specs.Locked.{StaysSeated, PeerKnows, PeerReserves, is_marking_due}
 use Rattle.seat_calls.specs.Passing.{Lends, Returns}
 use Rattle.joint_history.proofs.DeadParts.{count_same}
-use Rattle.joint_history.proofs.DriverPeerSteps.{DrivenUnderPeers, IsUnderPeers, driven_peers, driven_peers_none}
-use Rattle.joint_history.proofs.LockedSteps.{returns_seated}
+use Rattle.joint_history.proofs.DriverPeerSteps.{DrivenUnderPeers, IsUnderPeers, driven_peers}
+use Rattle.joint_history.proofs.DriverSteps.{driven_none}
+use Rattle.joint_history.proofs.LockedSteps.{peer_side, returns_seated}
 use Rattle.dead_parts.proofs.MirroredParts.{ShowsHandles, candidates-few, carried-is, edges-count, handles-strong, members-bridge, shows-on}
 use Rattle.joint_history.proofs.Reserving.{seated_on, back_on, drew_on, due_snoc, lent_on, nothing_kept, reserves_on, room_by_one}
 
@@ -165,7 +166,7 @@ module _ (locked mine mine1 locked2 mine2 : View) (order : OrderId) (seat seat' 
   }
   mirror_called (Err x) w rs d r e =
       let back = returns_seated C seat seat' mine1 locked2 mine2 e.0 b in
-      let n = driven_peers_none locked mine seat.view mine1 locked2 mine2 (seen old) pass owns ks w.stands.known lends back in
+      let n = driven_none peer_side locked mine seat.view mine1 locked2 mine2 (seen old) pass owns ks w.stands.known lends back in
       record {
         knows = subst (λ (z : PeerModel). PeerKnows locked2 (seen z)) (sym e.1) n.knows;
         reserves = reserves_on locked locked2 old new ks (back_on C locked seat'.view mine1 locked2 mine2 (seated_on locked seat seat' e.0 (lent_on C locked mine seat.view mine1 lends)) b)

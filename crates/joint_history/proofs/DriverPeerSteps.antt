@@ -1,12 +1,10 @@
 -- An entry of the driver under the peer lock: the driver stands in what is known together where its own seat has it;
 -- and after the entry it stands where the definition puts it, and its cycle's dead part is the same, since a peer entry
 -- leaves the managed objects alone.
-use Rattle.std.proofs.Common.{◌≡◌, ℕ, ◌<◌, ◌≤◌, ◌^◌, List, ◌∷◌, ◌++◌, [], sym, ap, ◌∙◌, subst, arith}
-use mathlib.Core.List.{IsPrefix}
+use Rattle.std.proofs.Common.{◌≡◌, ℕ, ◌<◌, ◌≤◌, ◌^◌, List, sym, ap, ◌∙◌, subst, arith}
 use Rattle.joint_machine.specs.declared.names.Thread.TheVariants.{C}
 use Rattle.joint_machine.specs.declared.events.Entry.{Entry}
 use Rattle.joint_machine.specs.Control.{Stand, DriverAllows, last_line, stand_after}
-use Rattle.joint_machine.specs.HistoryLines.{caller_line}
 use Rattle.joint_machine.specs.Lines.{is_read}
 use Rattle.joint_machine.specs.Linked.{Linkage}
 use Rattle.joint_machine.specs.Managed.{Managed}
@@ -23,18 +21,15 @@ use Rattle.known_laws.proofs.Coming.{peer_reads_none}
 use Rattle.known_laws.specs.Pasts.{HasSameDeadPart, end_of}
 use Rattle.known_laws.proofs.KnownPasts.{known_past_is_kept}
 use Rattle.order_table.specs.declared.views.View.{View}
-use Rattle.order_table.specs.Facts.{line_entries}
 use Rattle.order_table.specs.Views.{OrderId, Shown, known, Owns}
 use Rattle.joint_history.proofs.KnownViews.{same_view}
 use Rattle.joint_history.specs.Callers.{HoldsPass}
-use Rattle.joint_history.specs.Driven.{DriverMakes, DriverMakesNone, DriverStands}
+use Rattle.joint_history.specs.Driven.{DriverMakes, DriverStands}
 use Rattle.joint_history.specs.Knowing.{note_of}
-use Rattle.view_laws.specs.Knowing.{IsDrawnView}
 use Rattle.joint_history.specs.Locked.{Drew, PeerKnows}
 use Rattle.seat_calls.specs.Passing.{Lends, Returns}
 use Rattle.joint_history.proofs.DriverSteps.{driver_joined, stand_of_own}
-use Rattle.joint_history.proofs.KnownCallers.{own_line}
-use Rattle.joint_history.proofs.LockedSteps.{did_peer_by, lent_joined, knows_peers_still, MayNow}
+use Rattle.joint_history.proofs.LockedSteps.{did_by, lent_joined, peer_side, MayNow}
 use Rattle.joint_history.proofs.Standing.{last_of_own}
 
 -- what holds under the lock: the driver stands so in a state that has all that every known past keeps, and whose peer
@@ -95,7 +90,7 @@ driven_peers_by locked mine mine1 locked2 mine2 order lent lent2 old new e told 
       last = subst (λ (i : ℕ). last_line (end_of past).control C ≤ i) (sym at_index) at.last;
       allows = subst (λ (z : Stand). DriverAllows z (end_of past).managed.managed (end_of past).peer.peers.issued e.made.op e.made.reply e.made.cites (bare_told told)) (sym at.come) (allows u);
     } in
-    let w = did_peer_by C locked mine mine1 locked2 mine2 order lent lent2 old new e told s.known tt pass owns caller (subst (λ (i : ℕ). i < 2 ^ 32) (sym at_index) short) ks l may d b in
+    let w = did_by peer_side C locked mine mine1 locked2 mine2 order lent lent2 old new e told s.known tt pass owns caller (subst (λ (i : ℕ). i < 2 ^ 32) (sym at_index) short) ks l may tt d b in
     let grown = w.entered.grown in
     let goes = subst (λ (z : Entry). GoesOn peer_rules old.state z.made told new.state) (sym d.entry) d.goes in
     let plain = peer_unpinned old.state k.entry.made told goes.lawful.1 in
@@ -145,22 +140,3 @@ pub driven_peers : (locked mine mine1 locked2 mine2 : View) (order : OrderId) (s
 driven_peers locked mine mine1 locked2 mine2 order seat seat' old new index stand seen e told pass owns caller at_index short ks s allows l d b =
     subst (λ (z : Entry). DrivenUnderPeers mine locked2 mine2 old new index stand seen z told) d.entry
     (driven_peers_by locked mine mine1 locked2 mine2 order seat seat' old new e told index stand seen pass owns caller at_index short ks s allows l d b)
-
--- what the side keeps, and where the driver stands, where nothing was made
-pub record NotDrivenPeers (mine locked2 mine2 : View) (side : Side PeerReplay) : Type 0 where
-  pub knows : PeerKnows locked2 side
-  pub makes : DriverMakesNone mine mine2
-
-pub driven_peers_none : (locked mine lent mine1 locked2 mine2 : View) (side : Side PeerReplay) → HoldsPass C mine → Owns locked 1 → PeerKnows locked side
-    → IsDrawnView mine → Lends C locked mine lent mine1 → Returns C lent mine1 locked2 mine2 → NotDrivenPeers mine locked2 mine2 side
-driven_peers_none locked mine lent mine1 locked2 mine2 side pass owns ks m l b = record {
-  knows = knows_peers_still C locked mine lent mine1 locked2 mine2 side owns ks m l b;
-  makes = record {
-    own = ap line_entries (b.same (caller_line C) ∙ l.own (caller_line C) (own_line C) (pass (caller_line C) (own_line C)));
-    more = λ i. subst (IsPrefix (known mine i)) (sym (b.same i)) (l.heard i);
-    stands = λ index stand seen s. (let j = (lent_joined C locked mine lent mine1 l ks.known s.known).joined in record {
-      known = same_view lent mine2 j b.same;
-      stands = driver_joined locked mine lent mine1 l ks.known pass index stand seen s;
-    });
-  };
-}

@@ -14,7 +14,7 @@ use Rattle.joint_machine.specs.Linked.{Linkage}
 use Rattle.joint_machine.specs.Managed.{Managed}
 use Rattle.joint_machine.specs.ManagedReplay.{ManagedReplay}
 use Rattle.joint_machine.specs.Peers.{Issued}
-use Rattle.joint_machine.specs.Sides.{Side, managed_rules}
+use Rattle.joint_machine.specs.Sides.{Side, SideRules, managed_rules}
 use Rattle.joint_machine.specs.Told.{Told, Noted}
 use Rattle.joint_machine.specs.PinsTold.{bare_told, pins_told}
 use Rattle.known_laws.specs.Drawn.{of_drawn}
@@ -33,12 +33,12 @@ use Rattle.joint_history.specs.Knowing.{note_of}
 use Rattle.view_laws.specs.Knowing.{IsDrawnView, drawn_lines, of_order}
 use Rattle.view_laws.proofs.DrawnViews.{drawn_begins}
 use Rattle.view_laws.proofs.KnownViews.{whole_kept, whole_numbered}
-use Rattle.joint_history.specs.Locked.{Drew, ManagedKnows}
+use Rattle.joint_history.specs.Locked.{Drew, ManagedKnows, SideKnows}
 use Rattle.seat_calls.specs.Passing.{Lends, Returns}
 use Rattle.joint_history.proofs.DeadParts.{dead_part_on}
 use Rattle.joint_history.proofs.KnownCallers.{own_line}
 use Rattle.joint_history.proofs.KnownViews.{same_view}
-use Rattle.joint_history.proofs.LockedSteps.{did_managed_by, lent_joined, own_told, last_told, knows_still, MayNow}
+use Rattle.joint_history.proofs.LockedSteps.{did_by, lent_joined, own_told, last_told, knows_still, managed_side, IsSide, MayNow}
 use Rattle.joint_history.proofs.Standing.{last_of_own}
 
 -- it stands so in whatever more is known of one history, as long as its own line is the same
@@ -105,7 +105,7 @@ driven locked mine mine1 locked2 mine2 order seat seat' old new index stand seen
       allows = subst (λ (z : Stand). DriverAllows z (end_of past).managed.managed issued e.made.op e.made.reply e.made.cites (bare_told told)) (sym at.come)
           (subst (λ (r : ManagedReplay). DriverAllows stand r.managed issued e.made.op e.made.reply e.made.cites (bare_told told)) (sym state) (allows issued));
     } in
-    let w = did_managed_by C locked mine mine1 locked2 mine2 order seat seat' old new e told s.known tt pass owns caller (subst (λ (i : ℕ). i < 2 ^ 32) (sym at_index) short) ks l may pins d b in
+    let w = did_by managed_side C locked mine mine1 locked2 mine2 order seat seat' old new e told s.known tt pass owns caller (subst (λ (i : ℕ). i < 2 ^ 32) (sym at_index) short) ks l may pins d b in
     let k = d.kept in
     let grown = w.entered.grown in
     let own : is_read k.entry.made.op ≡ false = ap (λ (z : Entry). is_read z.made.op) d.entry ∙ d.goes.lawful.1.own in
@@ -136,15 +136,16 @@ driven locked mine mine1 locked2 mine2 order seat seat' old new index stand seen
       };
     }
 
--- what the side keeps, and where the driver stands, where nothing was made
-pub record NotDriven (mine locked2 mine2 : View) (side : Side ManagedReplay) : Type 0 where
-  pub knows : ManagedKnows locked2 side
+-- what a side keeps, and where the driver stands, where nothing was made
+pub record NotDriven {S : Type 0} (r : ℕ) (part : Linkage → S) (mine locked2 mine2 : View) (side : Side S) : Type 0 where
+  pub knows : SideKnows r part locked2 side
   pub makes : DriverMakesNone mine mine2
 
-pub driven_none : (locked mine lent mine1 locked2 mine2 : View) (side : Side ManagedReplay) → HoldsPass C mine → Owns locked 0
-    → ManagedKnows locked side → IsDrawnView mine → Lends C locked mine lent mine1 → Returns C lent mine1 locked2 mine2 → NotDriven mine locked2 mine2 side
-driven_none locked mine lent mine1 locked2 mine2 side pass owns ks m l b = record {
-  knows = knows_still C locked mine lent mine1 locked2 mine2 side owns ks m l b;
+pub driven_none : {S : Type 0} {rules : SideRules S} {r : ℕ} {part : Linkage → S} {asks : S → Told → Type 0} (is_side : IsSide rules r part asks)
+    (locked mine lent mine1 locked2 mine2 : View) (side : Side S) → HoldsPass C mine → Owns locked r
+    → SideKnows r part locked side → IsDrawnView mine → Lends C locked mine lent mine1 → Returns C lent mine1 locked2 mine2 → NotDriven r part mine locked2 mine2 side
+driven_none is_side locked mine lent mine1 locked2 mine2 side pass owns ks m l b = record {
+  knows = knows_still is_side C locked mine lent mine1 locked2 mine2 side owns ks m l b;
   makes = record {
     own = ap line_entries (b.same (caller_line C) ∙ l.own (caller_line C) (own_line C) (pass (caller_line C) (own_line C)));
     more = λ i. subst (IsPrefix (known mine i)) (sym (b.same i)) (l.heard i);

@@ -3,13 +3,14 @@
 use Rattle.std.proofs.Common.{◌≡◌, ◌⊎◌, inl, inr, ⊎_elim, ℕ, ◌≤◌, Bool, true, false, List, [], ◌∷◌, ◌++◌, length, get_or, Option, Some, None, refl, sym, ap, ◌∙◌, subst, arith}
 use Rattle.std.specs.Prelude.{Contains, IfSome, IsSome, if◌then◌else◌, nat_le, option_to_list, slice_get, slice_set}
 use Rattle.std.proofs.lemmas.Bool.{cases_eq, leb-true}
+use Rattle.std.proofs.lemmas.List.Elements.{Contains-append_left, Contains-append_right}
 use Rattle.std.proofs.lemmas.Option.{slice_get_read}
 use Rattle.joint_machine.specs.declared.names.Thread.{Thread}
 use Rattle.joint_machine.specs.declared.names.Thread.TheVariants.{M, P, C}
 use Rattle.joint_machine.specs.Control.{caller_place}
 use Rattle.joint_machine.specs.Lines.{IsThread}
 use Rattle.joint_machine.proofs.Joining.{slice_get-set_other}
-use Rattle.joint_machine.proofs.Members.{Contains-here, Contains-there}
+use Rattle.joint_machine.proofs.Members.{Contains-cons_cases, Contains-here, Contains-map, Contains-map_cases, Contains-there}
 use Rattle.joint_history.specs.Callers.{IsOfRun, KnowsNothing, Pass}
 use Rattle.joint_history.specs.Desks.{AreAll, IsDesk, Waiting, WaitsAt, flat, has_thread, thread_of, waits, without_caller}
 use Rattle.joint_history.specs.Ending.{HasAll, StillWaits, threads_of}
@@ -118,3 +119,22 @@ all_wait d a t is = let w = a.placed (caller_place t) (place_small t is) in inl 
 
 pub has_all_same : (d : Waiting) (ps qs : List Pass) → threads_of ps ≡ threads_of qs → HasAll d ps → HasAll d qs
 has_all_same d ps qs e all t is = subst (λ ts. StillWaits d t ⊎ Contains ts t) e (all t is)
+
+-- who was given out may stand last as well as first
+pub has_all_last : (d : Waiting) (p : Pass) (ps : List Pass) → HasAll d (p ∷ ps) → HasAll d (ps ++ p ∷ [])
+has_all_last d p ps all t is = ⊎_elim (λ w. inl w) (λ c.
+    let w = Contains-map_cases (λ (z : Pass). z.thread) (p ∷ ps) t c in
+    inr (subst (Contains (threads_of (ps ++ p ∷ []))) w.2 (Contains-map (λ (z : Pass). z.thread) (ps ++ p ∷ []) w.0
+    (⊎_elim
+    (λ (e : p ≡ w.0). subst (Contains (ps ++ p ∷ [])) e (Contains-append_right ps (p ∷ []) p (Contains-here p [])))
+    (λ d'. Contains-append_left ps (p ∷ []) w.0 d')
+    (Contains-cons_cases p ps w.0 w.1)))))
+    (all t is)
+
+-- what a desk gave when it was asked for a thread's caller stands behind those that it gave before
+pub one_given : (old new : Waiting) (r : Option Pass) (p : Pass) (ps : List Pass) → r ≡ Some p
+    → ((qs : List Pass) → HasAll old qs → HasAll new (option_to_list r ++ qs)) → HasAll old ps → HasAll new (ps ++ p ∷ [])
+one_given old new r p ps e gives all = has_all_last new p ps (subst (λ o. HasAll new (option_to_list o ++ ps)) e (gives ps all))
+
+pub none_given : (old new : Waiting) (r : Option Pass) (ps : List Pass) → r ≡ None → ((qs : List Pass) → HasAll old qs → HasAll new (option_to_list r ++ qs)) → HasAll old ps → HasAll new ps
+none_given old new r ps e gives all = subst (λ o. HasAll new (option_to_list o ++ ps)) e (gives ps all)

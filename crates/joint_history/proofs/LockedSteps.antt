@@ -1,7 +1,7 @@
 -- One entry under a side's lock: the caller's lines are handed to the locked seat, the side draws by it, and they are
 -- handed back.
-use Rattle.std.proofs.Common.{◌≡◌, ◌⊎◌, inl, inr, ⊎_elim, ℕ, ◌+◌, ◌<◌, ◌≤◌, ◌^◌, false, true, List, [], ◌∷◌, ◌++◌, Option, None, refl, sym, ap, ◌∙◌, subst, arith}
-use Rattle.std.specs.Prelude.{if◌then◌else◌, Result, Ok, Err, IfOk, OnErr}
+use Rattle.std.proofs.Common.{◌≡◌, ◌⊎◌, inl, inr, ⊎_elim, ℕ, ◌+◌, ◌<◌, ◌≤◌, ◌^◌, false, true, List, [], ◌∷◌, ◌++◌, Option, refl, sym, ap, ◌∙◌, subst, arith}
+use Rattle.std.specs.Prelude.{Bool, if◌then◌else◌, Result, Ok, Err, IfOk, OnErr}
 use mathlib.Core.List.{IsPrefix}
 use base.Growing.{prefix_refl, prefix_trans}
 use Rattle.std.proofs.lemmas.Bool.{cases_eq}
@@ -16,14 +16,13 @@ use Rattle.joint_machine.specs.Draws.{numbered}
 use Rattle.joint_machine.specs.HistoryLines.{caller_line}
 use Rattle.joint_machine.specs.Lines.{IsThread, is_peer_event, is_read}
 use Rattle.joint_machine.specs.Linked.{Linkage, peer_after}
-use Rattle.joint_machine.specs.Managed.{Managed}
 use Rattle.joint_machine.specs.ManagedReplay.{ManagedReplay, opening_replay}
 use Rattle.joint_machine.specs.PeerReplay.{PeerReplay, peer_answer, opening_peer_replay}
 use Rattle.joint_machine.specs.Sides.{Side, SideRules, managed_rules, peer_rules, GoesOn}
-use Rattle.joint_machine.specs.Told.{Told, Noted}
-use Rattle.joint_machine.specs.PinsTold.{bare_told, no_pins, pins_told}
+use Rattle.joint_machine.specs.Told.{Told, Noted, nothing}
+use Rattle.joint_machine.specs.PinsTold.{bare_told, pins_told}
 use Rattle.known_laws.specs.Drawn.{drawn, drawn_by}
-use Rattle.known_laws.specs.Known.{Comes, PinsStand, managed_past}
+use Rattle.known_laws.specs.Known.{Comes, PinsStand, managed_past, past_after}
 use Rattle.known_laws.specs.Pasts.{end_of, line}
 use Rattle.known_laws.proofs.Bared.{peer_unpinned, plain_pins, plain_told}
 use Rattle.known_laws.proofs.Coming.{peer_reads_none}
@@ -43,7 +42,7 @@ use Rattle.view_laws.specs.Knowing.{DrawsMore, IsDrawnView, of_drawing, pins_of}
 use Rattle.view_laws.proofs.DrawnViews.{drawn_views_grow}
 use Rattle.joint_history.specs.Callers.{HoldsPass, KeepsReads, KnowsNothing, ReadsStay}
 use Rattle.joint_history.specs.Knowing.{line_known, note_of}
-use Rattle.joint_history.specs.Locked.{Drew, StaysSeated, made_by, ManagedKnows, PeerKnows, Stands, MayMake, IsTurn, Makes, MakesNone, doing_of, doing_from}
+use Rattle.joint_history.specs.Locked.{Drew, StaysSeated, made_by, ManagedKnows, PeerKnows, SideKnows, Stands, MayMake, IsTurn, Makes, MakesNone, doing_of, doing_from}
 use Rattle.joint_history.specs.PeerCalls.{DrawsEvent}
 use Rattle.joint_history.proofs.KnownCallers.{own_line}
 use Rattle.joint_history.proofs.KnownViews.{JoinedViews, entries_snoc, lines_join, same_view, no_view}
@@ -217,25 +216,65 @@ makes_none t locked mine lent mine1 locked2 mine2 a pass l b = record {
       (stands_told t mine lent (lent_joined t locked mine lent mine1 l a s.known).joined index d s (own_told t locked mine lent mine1 l a s.known pass));
 }
 
--- under the managed lock, by what is known together after the caller's lines were handed over
-pub record DidManagedBy (t : Thread) (mine lent2 locked2 mine2 : View) (past : List Noted) (side : Side ManagedReplay) (k : KeptEntry) (told : Told) : Type 0 where
-  pub entered : Entered t mine lent2 past k told
-  pub knows : ManagedKnows locked2 side
-  pub after : (end_of entered.grown.known.known.past).managed ≡ side.state
-  pub makes : Makes t mine mine2 k.entry
-  pub reads : ReadsStay t mine mine2
+-- what the managed side asks of the pins that are told; an entry of the peer side tells none
+abbrev pub StandsTold : ManagedReplay → Told → Type 0
+StandsTold s told = PinsStand s.managed (pins_told told)
 
--- an entry of the managed side's list, as it is drawn behind a past in which the managed side is as it was
-managed_draws : (s : Linkage) (old : ManagedReplay) (k : KeptEntry) (told : Told) → s.managed ≡ old → is_peer_event k.entry.made.caller k.entry.made.op ≡ false
-    → k.target ≡ managed_rules.target old k.entry.made → k.freed ≡ managed_rules.frees told → drawn s (note_of k.entry told) ≡ of_drawing k
-managed_draws s old k told e side target freed =
-    ap (λ b. if b then drawn_by peer_rules s.peer (note_of k.entry told) else drawn_by managed_rules s.managed (note_of k.entry told)) side
-    ∙ (ap (λ (m : ManagedReplay). drawn_by managed_rules m (note_of k.entry told)) e ∙ (λ i. record { entry = k.entry; target = sym target i; freed = sym freed i }))
+abbrev pub NoneTold : PeerReplay → Told → Type 0
+NoneTold s told = Unit {0}
 
-peer_draws : (s : Linkage) (k : KeptEntry) (told : Told) → is_peer_event k.entry.made.caller k.entry.made.op ≡ true → k.target ≡ None → k.freed ≡ [] → drawn s (note_of k.entry told) ≡ of_drawing k
-peer_draws s k told side target freed =
-    ap (λ b. if b then drawn_by peer_rules s.peer (note_of k.entry told) else drawn_by managed_rules s.managed (note_of k.entry told)) side
-    ∙ (λ i. record { entry = k.entry; target = sym target i; freed = sym freed i })
+-- what a lawful entry of a side's list is in a linked state: its line is the side's, it is drawn as the state tells,
+-- what it tells of pins stands, and the side is as its rules say
+pub record OfSide {S : Type 0} (rules : SideRules S) (r : ℕ) (part : Linkage → S) (s : Linkage) (k : KeptEntry) (told : Told) : Type 0 where
+  pub role : IsInRole r k.entry.made
+  pub draws : drawn s (note_of k.entry told) ≡ of_drawing k
+  pub stand : PinsStand s.managed.managed (pins_told told)
+  pub lawful : managed_rules.lawful s.managed k.entry.made told ⊎ peer_rules.lawful s.peer k.entry.made told
+  pub after : part (past_after s (note_of k.entry told)) ≡ rules.next (part s) k.entry.made told
+
+-- a side: the place of its list, its part of a linked state, and what it asks of pins that are told. Who knows its list
+-- as another seat does knows its state so; it is after an entry what it is in the past; and its entries are of it.
+pub record IsSide {S : Type 0} (rules : SideRules S) (r : ℕ) (part : Linkage → S) (asks : S → Told → Type 0) : Type 0 where
+  pub small : r < 2
+  pub first : (v w u : View) (a : IsDrawnView v) (b : IsDrawnView w) (j : JoinedViews v w u a b) → known u r ≡ known v r → part (end_of j.joined.known.past) ≡ part (end_of a.known.past)
+  pub grown : (past : List Noted) (n : Noted) (w : View) (g : DrawsMore past n w) → part (end_of g.known.known.past) ≡ part (past_after (end_of past) n)
+  pub enters : (s : Linkage) (k : KeptEntry) (told : Told) → asks (part s) told → rules.lawful (part s) k.entry.made told
+      → k.target ≡ rules.target (part s) k.entry.made → k.freed ≡ rules.frees told → OfSide rules r part s k told
+
+-- it is drawn by its side's rules
+drawn_as : (s : Linkage) (k : KeptEntry) (told : Told) (is_peer : Bool) → is_peer_event k.entry.made.caller k.entry.made.op ≡ is_peer
+    → (if is_peer then drawn_by peer_rules s.peer (note_of k.entry told) else drawn_by managed_rules s.managed (note_of k.entry told)) ≡ of_drawing k → drawn s (note_of k.entry told) ≡ of_drawing k
+drawn_as s k told is_peer side is = ap (λ b. if b then drawn_by peer_rules s.peer (note_of k.entry told) else drawn_by managed_rules s.managed (note_of k.entry told)) side ∙ is
+
+pub managed_side : IsSide managed_rules 0 (λ l. l.managed) StandsTold
+managed_side = record {
+  small = omega arith;
+  first = λ v w u a b j e. j.managed_first e;
+  grown = λ past n w g. g.managed;
+  enters = λ s k told stand lawful target freed. (let side = lawful.0.side in let own = lawful.1.own in record {
+    role = record { one = omega arith; managed = λ z. (own, side); peer = λ z. absurd (omega arith); reader = λ z. absurd (omega arith) };
+    draws = drawn_as s k told false side (λ i. record { entry = k.entry; target = sym target i; freed = sym freed i });
+    stand = stand;
+    lawful = inl lawful;
+    after = ap (λ x. managed_past s.managed k.entry.made told x (is_read k.entry.made.op)) side ∙ ap (managed_past s.managed k.entry.made told false) own;
+  });
+}
+
+pub peer_side : IsSide peer_rules 1 (λ l. l.peer) NoneTold
+peer_side = record {
+  small = omega arith;
+  first = λ v w u a b j e. j.peer_first e;
+  grown = λ past n w g. g.peer;
+  enters = λ s k told asked lawful target freed. (let side = lawful.0.side in
+      let own = (peer_reads_none k.entry.made.caller k.entry.made.op lawful.0.event side).0 in
+      let plain = peer_unpinned s.peer k.entry.made told lawful.1 in record {
+        role = record { one = omega arith; managed = λ z. absurd (omega arith); peer = λ z. (own, side); reader = λ z. absurd (omega arith) };
+        draws = drawn_as s k told true side (λ i. record { entry = k.entry; target = sym target i; freed = sym freed i });
+        stand = subst (PinsStand s.managed.managed) (sym (plain_pins told plain)) (none_stand s.managed.managed);
+        lawful = inr lawful;
+        after = ap (peer_after s.peer k.entry.made (bare_told told)) side ∙ (λ i. (peer_answer s.peer k.entry.made.caller k.entry.made.op k.entry.made.cites (plain_told told plain i)).state);
+      });
+}
 
 -- the caller's entry may come behind what is known together: its line and its turn are the caller's, the rest is the
 -- side's promise
@@ -247,218 +286,131 @@ comes_now t s k told caller may short stand side = side_entry_comes s k.entry.nu
     (subst (λ u. CallerAllows s.control s.managed.managed s.peer.peers.issued u k.entry.made.index k.entry.made.op k.entry.made.reply k.entry.made.cites (bare_told told)) (sym caller) may.allows)
     stand side
 
-pub did_managed_by : (t : Thread) (locked mine mine1 locked2 mine2 : View) (order : OrderId) (lent lent2 : Shown) (old new : Side ManagedReplay) (e : Entry) (told : Told) (m : IsDrawnView mine)
-    → IsThread t → HoldsPass t mine → Owns locked 0 → e.made.caller ≡ t → e.made.index < 2 ^ 32
-    → (ks : ManagedKnows locked old) (l : Lends t locked mine lent.view mine1)
-    → MayNow t (end_of (lent_joined t locked mine lent.view mine1 l ks.known m).joined.known.past) e.made told → PinsStand old.state.managed (pins_told told)
-    → (d : Drew managed_rules 0 order lent lent2 old new e told) → Returns t lent2.view mine1 locked2 mine2
-    → DidManagedBy t mine lent2.view locked2 mine2 (lent_joined t locked mine lent.view mine1 l ks.known m).joined.known.past new d.kept told
-did_managed_by t locked mine mine1 locked2 mine2 order lent lent2 old new e told m is pass owns caller' short' ks l may' stand d b =
-    let k = d.kept in
-    let caller = ap (λ (z : Entry). z.made.caller) d.entry ∙ caller' in
-    let j = lent_joined t locked mine lent.view mine1 l ks.known m in
-    let state = j.managed_first (l.whole 0 owns) ∙ ks.state in
-    let goes = subst (λ (z : Entry). GoesOn managed_rules old.state z.made told new.state) (sym d.entry) d.goes in
-    let side = goes.lawful.0.side in
-    let own = goes.lawful.1.own in
-    let w = entered t mine lent.view lent2.view 0 k told j.joined is caller d.appends.grows
-    (record { one = omega arith; managed = λ z. (own, side); peer = λ z. absurd (omega arith); reader = λ z. absurd (omega arith) }) d.appends.number d.pins
-    (managed_draws (end_of j.joined.known.past) old.state k told state side (subst (λ (z : Entry). k.target ≡ managed_rules.target old.state z.made) (sym d.entry) d.target) d.freed)
-    (comes_now t (end_of j.joined.known.past) k told caller (subst (λ (z : Entry). MayNow t (end_of j.joined.known.past) z.made told) (sym d.entry) may')
-    (subst (λ (z : Entry). z.made.index < 2 ^ 32) (sym d.entry) short')
-    (subst (λ (s : ManagedReplay). PinsStand s.managed (pins_told told)) (sym state) stand) (inl (subst (λ s. managed_rules.lawful s k.entry.made told) (sym state) goes.lawful))) in
-    let after : (end_of w.grown.known.known.past).managed ≡ new.state =
-    w.grown.managed ∙ (ap (λ x. managed_past (end_of j.joined.known.past).managed k.entry.made told x (is_read k.entry.made.op)) side
-    ∙ (ap (managed_past (end_of j.joined.known.past).managed k.entry.made told false) own ∙ (ap (λ (s : ManagedReplay). managed_rules.next s k.entry.made told) state ∙ sym goes.state))) in
-    record {
-      entered = w;
-      knows = record {
-        known = same_view lent2.view locked2 w.grown.known b.stays;
-        entries = ap line_entries (b.stays 0 ∙ d.appends.grows.role)
-            ∙ (entries_snoc (known lent.view 0) k ∙ (ap (λ es. es ++ k.entry ∷ []) (ap line_entries (l.whole 0 owns) ∙ ks.entries) ∙ (ap (λ z. old.entries ++ z ∷ []) d.entry ∙ sym d.added)));
-        state = after;
-      };
-      after = after;
-      makes = makes t locked mine lent.view mine1 lent2.view locked2 mine2 0 k told j.joined pass caller l d.appends.grows d.appends.number w b;
-      reads = reads_stay t locked mine lent.view mine1 lent2.view locked2 mine2 0 k is (omega arith) pass caller l d.appends.grows b;
-    }
-
-pub knows_still : (t : Thread) (locked mine lent mine1 locked2 mine2 : View) (side : Side ManagedReplay) → Owns locked 0
-    → ManagedKnows locked side → IsDrawnView mine → Lends t locked mine lent mine1 → Returns t lent mine1 locked2 mine2 → ManagedKnows locked2 side
-knows_still t locked mine lent mine1 locked2 mine2 side owns ks m l b =
-    let j = lent_joined t locked mine lent mine1 l ks.known m in
-    record {
-      known = same_view lent locked2 j.joined b.stays;
-      entries = ap line_entries (b.stays 0 ∙ l.whole 0 owns) ∙ ks.entries;
-      state = j.managed_first (l.whole 0 owns) ∙ ks.state;
-    }
-
--- an entry that the peer side drew by a seat that knows it: the seat knows the entry then, and the side as it is then
-pub record PeerEntered (t : Thread) (mine lent2 : View) (past : List Noted) (side : Side PeerReplay) (k : KeptEntry) (told : Told) : Type 0 where
-  pub entered : Entered t mine lent2 past k told
-  pub after : (end_of entered.grown.known.known.past).peer ≡ side.state
-
-pub peer_entered : (t : Thread) (mine : View) (order : OrderId) (lent lent2 : Shown) (old new : Side PeerReplay) (e : Entry) (told : Told) (j : IsDrawnView lent.view)
-    → (end_of j.known.past).peer ≡ old.state → IsThread t → e.made.caller ≡ t → e.made.index < 2 ^ 32 → MayNow t (end_of j.known.past) e.made told
-    → (d : Drew peer_rules 1 order lent lent2 old new e told) → PeerEntered t mine lent2.view j.known.past new d.kept told
-peer_entered t mine order lent lent2 old new e told j state is caller' short' may' d =
-    let k = d.kept in
-    let caller = ap (λ (z : Entry). z.made.caller) d.entry ∙ caller' in
-    let past = j.known.past in
-    let goes = subst (λ (z : Entry). GoesOn peer_rules old.state z.made told new.state) (sym d.entry) d.goes in
-    let side = goes.lawful.0.side in
-    let own = (peer_reads_none k.entry.made.caller k.entry.made.op goes.lawful.0.event side).0 in
-    let plain = peer_unpinned old.state k.entry.made told goes.lawful.1 in
-    let w = entered t mine lent.view lent2.view 1 k told j is caller d.appends.grows
-    (record { one = omega arith; managed = λ z. absurd (omega arith); peer = λ z. (own, side); reader = λ z. absurd (omega arith) }) d.appends.number d.pins
-    (peer_draws (end_of past) k told side d.target d.freed)
-    (comes_now t (end_of past) k told caller (subst (λ (z : Entry). MayNow t (end_of past) z.made told) (sym d.entry) may') (subst (λ (z : Entry). z.made.index < 2 ^ 32) (sym d.entry) short')
-    (subst (PinsStand (end_of past).managed.managed) (sym (plain_pins told plain)) (none_stand (end_of past).managed.managed))
-    (inr (subst (λ s. peer_rules.lawful s k.entry.made told) (sym state) goes.lawful))) in
-    record {
-      entered = w;
-      after = w.grown.peer ∙ (ap (peer_after (end_of past).peer k.entry.made (bare_told told)) side
-          ∙ ((λ i. (peer_answer (state i) k.entry.made.caller k.entry.made.op k.entry.made.cites (plain_told told plain i)).state) ∙ sym goes.state));
-    }
-
 -- the side's list with the entry
 pub list_more : (lent lent2 : View) (r : ℕ) (k : KeptEntry) (e : Entry) (old new : List Entry) → k.entry ≡ e
     → GrowsByEntry lent lent2 r k → line_known lent r ≡ old → new ≡ old ++ e ∷ [] → line_known lent2 r ≡ new
 list_more lent lent2 r k e old new is g same added = ap line_entries g.role ∙ (entries_snoc (known lent r) k ∙ (ap (λ es. es ++ k.entry ∷ []) same ∙ (ap (λ z. old ++ z ∷ []) is ∙ sym added)))
 
--- under the peer lock, by what is known together after the caller's lines were handed over
-pub record DidPeerBy (t : Thread) (mine lent2 locked2 mine2 : View) (past : List Noted) (side : Side PeerReplay) (k : KeptEntry) (told : Told) : Type 0 where
+-- an entry that a side drew by a seat that knows it: the seat knows the entry then, and the side as it is then
+pub record SideEntered {S : Type 0} (part : Linkage → S) (t : Thread) (mine lent2 : View) (past : List Noted) (side : Side S) (k : KeptEntry) (told : Told) : Type 0 where
   pub entered : Entered t mine lent2 past k told
-  pub knows : PeerKnows locked2 side
-  pub after : (end_of entered.grown.known.known.past).peer ≡ side.state
+  pub after : part (end_of entered.grown.known.known.past) ≡ side.state
+
+-- under a side's lock, by what is known together after the caller's lines were handed over
+pub record DidBy {S : Type 0} (r : ℕ) (part : Linkage → S) (t : Thread) (mine lent2 locked2 mine2 : View) (past : List Noted) (side : Side S) (k : KeptEntry) (told : Told) : Type 0 where
+  pub entered : Entered t mine lent2 past k told
+  pub knows : SideKnows r part locked2 side
+  pub after : part (end_of entered.grown.known.known.past) ≡ side.state
   pub makes : Makes t mine mine2 k.entry
   pub reads : ReadsStay t mine mine2
 
-pub did_peer_by : (t : Thread) (locked mine mine1 locked2 mine2 : View) (order : OrderId) (lent lent2 : Shown) (old new : Side PeerReplay) (e : Entry) (told : Told) (m : IsDrawnView mine)
-    → IsThread t → HoldsPass t mine → Owns locked 1 → e.made.caller ≡ t → e.made.index < 2 ^ 32
-    → (ks : PeerKnows locked old) (l : Lends t locked mine lent.view mine1) → MayNow t (end_of (lent_joined t locked mine lent.view mine1 l ks.known m).joined.known.past) e.made told
-    → (d : Drew peer_rules 1 order lent lent2 old new e told) → Returns t lent2.view mine1 locked2 mine2
-    → DidPeerBy t mine lent2.view locked2 mine2 (lent_joined t locked mine lent.view mine1 l ks.known m).joined.known.past new d.kept told
-did_peer_by t locked mine mine1 locked2 mine2 order lent lent2 old new e told m is pass owns caller' short ks l may d b =
-    let k = d.kept in
-    let caller = ap (λ (z : Entry). z.made.caller) d.entry ∙ caller' in
-    let j = lent_joined t locked mine lent.view mine1 l ks.known m in
-    let w = peer_entered t mine order lent lent2 old new e told j.joined (j.peer_first (l.whole 1 owns) ∙ ks.state) is caller' short may d in
-    record {
-      entered = w.entered;
-      knows = record {
-        known = same_view lent2.view locked2 w.entered.grown.known b.stays;
-        entries = ap line_entries (b.stays 1) ∙ list_more lent.view lent2.view 1 k e old.entries new.entries d.entry d.appends.grows (ap line_entries (l.whole 1 owns) ∙ ks.entries) d.added;
-        state = w.after;
-      };
-      after = w.after;
-      makes = makes t locked mine lent.view mine1 lent2.view locked2 mine2 1 k told j.joined pass caller l d.appends.grows d.appends.number w.entered b;
-      reads = reads_stay t locked mine lent.view mine1 lent2.view locked2 mine2 1 k is (omega arith) pass caller l d.appends.grows b;
-    }
+-- the side drew one entry by its seat, with what it may tell beside it
+pub record DrawsTold {S : Type 0} (rules : SideRules S) (r : ℕ) (asks : S → Told → Type 0) (order : OrderId) (seat seat' : Shown) (old new : Side S) (e : Entry) : Type 0 where
+  pub told : Told
+  pub asked : asks old.state told
+  pub drew : Drew rules r order seat seat' old new e told
 
-pub knows_peers_still : (t : Thread) (locked mine lent mine1 locked2 mine2 : View) (side : Side PeerReplay) → Owns locked 1
-    → PeerKnows locked side → IsDrawnView mine → Lends t locked mine lent mine1 → Returns t lent mine1 locked2 mine2 → PeerKnows locked2 side
-knows_peers_still t locked mine lent mine1 locked2 mine2 side owns ks m l b =
-    let j = lent_joined t locked mine lent mine1 l ks.known m in
-    record {
-      known = same_view lent locked2 j.joined b.stays;
-      entries = ap line_entries (b.stays 1 ∙ l.whole 1 owns) ∙ ks.entries;
-      state = j.peer_first (l.whole 1 owns) ∙ ks.state;
-    }
+-- so it is where nothing is told, and of an event of the peer side, whatever it tells
+pub plainly : {E : Type 0} (result : Result (ℕ × Reply) E) (order : OrderId) (seat seat' : Shown) (old new : Side ManagedReplay) (make : ℕ × Reply → Entry)
+    → IfOk result (λ x. Drew managed_rules 0 order seat seat' old new (make x) nothing) → IfOk result (λ x. DrawsTold managed_rules 0 StandsTold order seat seat' old new (make x))
+plainly (Ok x) order seat seat' old new make d = record { told = nothing; asked = none_stand old.state.managed; drew = d }
+plainly (Err x) order seat seat' old new make d = tt
+
+pub by_event : {E : Type 0} (result : Result (ℕ × Reply) E) (order : OrderId) (seat seat' : Shown) (old new : Side PeerReplay) (make : ℕ × Reply → Entry)
+    → IfOk result (λ x. DrawsEvent order seat seat' old new (make x)) → IfOk result (λ x. DrawsTold peer_rules 1 NoneTold order seat seat' old new (make x))
+by_event (Ok x) order seat seat' old new make d = record { told = d.told; asked = tt; drew = d.drew }
+by_event (Err x) order seat seat' old new make d = tt
 
 -- after a side's call, whether it made an entry or none
-module _ {S E : Type 0} (rules : SideRules S) (r : ℕ) (order : OrderId) (seat seat' : Shown) (old new : Side S) (make : ℕ × Reply → Entry) (told : Told) where
-  pub drew_more : (result : Result (ℕ × Reply) E) → IfOk result (λ x. Drew rules r order seat seat' old new (make x) told)
-      → OnErr result (StaysSeated seat seat' × (new ≡ old)) → (i : ℕ) → IsPrefix (known seat.view i) (known seat'.view i)
-  drew_more (Ok x) d e i = grows_more seat.view seat'.view r d.kept d.appends.grows i
-  drew_more (Err x) d e i = subst (IsPrefix (known seat.view i)) (sym (ap (λ ks. at [] ks i) e.0.known)) (prefix_refl (known seat.view i))
-
-  pub drew_owns : (result : Result (ℕ × Reply) E) → IfOk result (λ x. Drew rules r order seat seat' old new (make x) told)
-      → OnErr result (StaysSeated seat seat' × (new ≡ old)) → (i : ℕ) → Owns seat.view i → Owns seat'.view i
-  drew_owns (Ok x) d e i o = owns_on seat.view seat'.view r d.kept d.appends.grows i o
-  drew_owns (Err x) d e i o = ap (λ os. at false os i) e.0.owns ∙ o
-
-  pub drew_order : (result : Result (ℕ × Reply) E) → IfOk result (λ x. Drew rules r order seat seat' old new (make x) told)
-      → OnErr result (StaysSeated seat seat' × (new ≡ old)) → seat'.order ≡ seat.order
-  drew_order (Ok x) d e = d.appends.same
-  drew_order (Err x) d e = e.0.order
-
--- a call that is told no pins asks for none
-pub plain_stand : {E : Type 0} (result : Result (ℕ × Reply) E) (s : Managed) → IfOk result (λ x. PinsStand s no_pins)
-plain_stand (Ok x) s = none_stand s
-plain_stand (Err x) s = tt
-
--- a call under the managed lock
-pub record CalledManaged {E : Type 0} (t : Thread) (mine locked2 mine2 : View) (side : Side ManagedReplay) (result : Result (ℕ × Reply) E) (make : ℕ × Reply → Entry) : Type 0 where
-  pub knows : ManagedKnows locked2 side
+pub record Called {S E : Type 0} (r : ℕ) (part : Linkage → S) (t : Thread) (mine locked2 mine2 : View) (side : Side S) (result : Result (ℕ × Reply) E) (make : ℕ × Reply → Entry) : Type 0 where
+  pub knows : SideKnows r part locked2 side
   pub ok : IfOk result (λ x. Makes t mine mine2 (make x))
   pub reads : ReadsStay t mine mine2
   pub err : OnErr result (MakesNone t mine mine2)
 
-pub called_managed : {E : Type 0} (t : Thread) (index : ℕ) (o : Op) (cites : Option ℕ) (told : ℕ × Reply → Told) (order : OrderId)
-    (locked mine mine1 locked2 mine2 : View) (seat seat' : Shown) (old new : Side ManagedReplay) (result : Result (ℕ × Reply) E)
-    → IsThread t → HoldsPass t mine → Owns locked 0 → index < 2 ^ 32 → ManagedKnows locked old → MayMake t mine index o cites
-    → IfOk result (λ x. PinsStand old.state.managed (pins_told (told x))) → Lends t locked mine seat.view mine1
-    → IfOk result (λ x. Drew managed_rules 0 order seat seat' old new (numbered x.0 (made_by t index o x.1 cites)) (told x))
-    → OnErr result (StaysSeated seat seat' × (new ≡ old)) → Returns t seat'.view mine1 locked2 mine2
-    → CalledManaged t mine locked2 mine2 new result (λ x. numbered x.0 (made_by t index o x.1 cites))
-called_managed t index o cites told order locked mine mine1 locked2 mine2 seat seat' old new (Ok x) is pass owns short ks may stand l d e b =
-    let j = lent_joined t locked mine seat.view mine1 l ks.known may.stands.known in
-    let now = thread_may t j.joined.known.past mine (made_by t index o x.1 cites) (told x) may (own_told t locked mine seat.view mine1 l ks.known may.stands.known pass) in
-    let w = did_managed_by t locked mine mine1 locked2 mine2 order seat seat' old new
-    (numbered x.0 (made_by t index o x.1 cites)) (told x) may.stands.known is pass owns refl short ks l now stand d b in
-    record { knows = w.knows; ok = subst (Makes t mine mine2) d.entry w.makes; reads = w.reads; err = tt }
-called_managed t index o cites told order locked mine mine1 locked2 mine2 seat seat' old new (Err x) is pass owns short ks may stand l d e b =
-    let back = returns_seated t seat seat' mine1 locked2 mine2 e.0 b in
-    record {
-      knows = subst (ManagedKnows locked2) (sym e.1) (knows_still t locked mine seat.view mine1 locked2 mine2 old owns ks may.stands.known l back);
-      ok = tt;
-      reads = reads_rest t locked mine seat.view mine1 locked2 mine2 pass l back;
-      err = makes_none t locked mine seat.view mine1 locked2 mine2 ks.known pass l back;
-    }
+module _ {S : Type 0} {rules : SideRules S} {r : ℕ} {part : Linkage → S} {asks : S → Told → Type 0} (is_side : IsSide rules r part asks) where
+  pub side_entered : (t : Thread) (mine : View) (order : OrderId) (lent lent2 : Shown) (old new : Side S) (e : Entry) (told : Told) (j : IsDrawnView lent.view)
+      → part (end_of j.known.past) ≡ old.state → IsThread t → e.made.caller ≡ t → e.made.index < 2 ^ 32 → MayNow t (end_of j.known.past) e.made told → asks old.state told
+      → (d : Drew rules r order lent lent2 old new e told) → SideEntered part t mine lent2.view j.known.past new d.kept told
+  side_entered t mine order lent lent2 old new e told j state is caller' short' may' asked d =
+      let k = d.kept in
+      let caller = ap (λ (z : Entry). z.made.caller) d.entry ∙ caller' in
+      let past = j.known.past in
+      let goes = subst (λ (z : Entry). GoesOn rules old.state z.made told new.state) (sym d.entry) d.goes in
+      let of = is_side.enters (end_of past) k told (subst (λ (s : S). asks s told) (sym state) asked) (subst (λ (s : S). rules.lawful s k.entry.made told) (sym state) goes.lawful)
+      (subst (λ (s : S). k.target ≡ rules.target s k.entry.made) (sym state) (subst (λ (z : Entry). k.target ≡ rules.target old.state z.made) (sym d.entry) d.target)) d.freed in
+      let w = entered t mine lent.view lent2.view r k told j is caller d.appends.grows of.role d.appends.number d.pins of.draws
+      (comes_now t (end_of past) k told caller (subst (λ (z : Entry). MayNow t (end_of past) z.made told) (sym d.entry) may')
+      (subst (λ (z : Entry). z.made.index < 2 ^ 32) (sym d.entry) short') of.stand of.lawful) in
+      record {
+        entered = w;
+        after = is_side.grown past (note_of k.entry told) lent2.view w.grown ∙ (of.after ∙ (ap (λ (s : S). rules.next s k.entry.made told) state ∙ sym goes.state));
+      }
 
--- a call under the peer lock
-pub record CalledPeer {E : Type 0} (t : Thread) (mine locked2 mine2 : View) (side : Side PeerReplay) (result : Result (ℕ × Reply) E) (make : ℕ × Reply → Entry) : Type 0 where
-  pub knows : PeerKnows locked2 side
-  pub ok : IfOk result (λ x. Makes t mine mine2 (make x))
-  pub reads : ReadsStay t mine mine2
-  pub err : OnErr result (MakesNone t mine mine2)
+  pub did_by : (t : Thread) (locked mine mine1 locked2 mine2 : View) (order : OrderId) (lent lent2 : Shown) (old new : Side S) (e : Entry) (told : Told) (m : IsDrawnView mine)
+      → IsThread t → HoldsPass t mine → Owns locked r → e.made.caller ≡ t → e.made.index < 2 ^ 32
+      → (ks : SideKnows r part locked old) (l : Lends t locked mine lent.view mine1)
+      → MayNow t (end_of (lent_joined t locked mine lent.view mine1 l ks.known m).joined.known.past) e.made told → asks old.state told
+      → (d : Drew rules r order lent lent2 old new e told) → Returns t lent2.view mine1 locked2 mine2
+      → DidBy r part t mine lent2.view locked2 mine2 (lent_joined t locked mine lent.view mine1 l ks.known m).joined.known.past new d.kept told
+  did_by t locked mine mine1 locked2 mine2 order lent lent2 old new e told m is pass owns caller' short ks l may asked d b =
+      let k = d.kept in
+      let caller = ap (λ (z : Entry). z.made.caller) d.entry ∙ caller' in
+      let j = lent_joined t locked mine lent.view mine1 l ks.known m in
+      let w = side_entered t mine order lent lent2 old new e told j.joined (is_side.first locked mine lent.view ks.known m j (l.whole r owns) ∙ ks.state) is caller' short may asked d in
+      record {
+        entered = w.entered;
+        knows = record {
+          known = same_view lent2.view locked2 w.entered.grown.known b.stays;
+          entries = ap line_entries (b.stays r) ∙ list_more lent.view lent2.view r k e old.entries new.entries d.entry d.appends.grows (ap line_entries (l.whole r owns) ∙ ks.entries) d.added;
+          state = w.after;
+        };
+        after = w.after;
+        makes = makes t locked mine lent.view mine1 lent2.view locked2 mine2 r k told j.joined pass caller l d.appends.grows d.appends.number w.entered b;
+        reads = reads_stay t locked mine lent.view mine1 lent2.view locked2 mine2 r k is is_side.small pass caller l d.appends.grows b;
+      }
 
-pub called_peer : {E : Type 0} (t : Thread) (index : ℕ) (o : Op) (cites : Option ℕ) (order : OrderId)
-    (locked mine mine1 locked2 mine2 : View) (seat seat' : Shown) (old new : Side PeerReplay) (result : Result (ℕ × Reply) E)
-    → IsThread t → HoldsPass t mine → Owns locked 1 → index < 2 ^ 32 → PeerKnows locked old → MayMake t mine index o cites → Lends t locked mine seat.view mine1
-    → IfOk result (λ x. DrawsEvent order seat seat' old new (numbered x.0 (made_by t index o x.1 cites)))
-    → OnErr result (StaysSeated seat seat' × (new ≡ old)) → Returns t seat'.view mine1 locked2 mine2
-    → CalledPeer t mine locked2 mine2 new result (λ x. numbered x.0 (made_by t index o x.1 cites))
-called_peer t index o cites order locked mine mine1 locked2 mine2 seat seat' old new (Ok x) is pass owns short ks may l d e b =
-    let j = lent_joined t locked mine seat.view mine1 l ks.known may.stands.known in
-    let now = thread_may t j.joined.known.past mine (made_by t index o x.1 cites) d.told may (own_told t locked mine seat.view mine1 l ks.known may.stands.known pass) in
-    let w = did_peer_by t locked mine mine1 locked2 mine2 order seat seat' old new (numbered x.0 (made_by t index o x.1 cites)) d.told may.stands.known is pass owns refl short ks l now d.drew b in
-    record { knows = w.knows; ok = subst (Makes t mine mine2) d.drew.entry w.makes; reads = w.reads; err = tt }
-called_peer t index o cites order locked mine mine1 locked2 mine2 seat seat' old new (Err x) is pass owns short ks may l d e b =
-    let back = returns_seated t seat seat' mine1 locked2 mine2 e.0 b in
-    record {
-      knows = subst (PeerKnows locked2) (sym e.1) (knows_peers_still t locked mine seat.view mine1 locked2 mine2 old owns ks may.stands.known l back);
-      ok = tt;
-      reads = reads_rest t locked mine seat.view mine1 locked2 mine2 pass l back;
-      err = makes_none t locked mine seat.view mine1 locked2 mine2 ks.known pass l back;
-    }
+  pub knows_still : (t : Thread) (locked mine lent mine1 locked2 mine2 : View) (side : Side S) → Owns locked r
+      → SideKnows r part locked side → IsDrawnView mine → Lends t locked mine lent mine1 → Returns t lent mine1 locked2 mine2 → SideKnows r part locked2 side
+  knows_still t locked mine lent mine1 locked2 mine2 side owns ks m l b =
+      let j = lent_joined t locked mine lent mine1 l ks.known m in
+      record {
+        known = same_view lent locked2 j.joined b.stays;
+        entries = ap line_entries (b.stays r ∙ l.whole r owns) ∙ ks.entries;
+        state = is_side.first locked mine lent ks.known m j (l.whole r owns) ∙ ks.state;
+      }
 
--- what the seat knew and owned after an event of the peer side
-module _ {E : Type 0} (order : OrderId) (seat seat' : Shown) (old new : Side PeerReplay) (make : ℕ × Reply → Entry) where
-  pub event_more : (result : Result (ℕ × Reply) E) → IfOk result (λ x. DrawsEvent order seat seat' old new (make x))
-      → OnErr result (StaysSeated seat seat' × (new ≡ old)) → (i : ℕ) → IsPrefix (known seat.view i) (known seat'.view i)
-  event_more (Ok x) d e i = grows_more seat.view seat'.view 1 d.drew.kept d.drew.appends.grows i
-  event_more (Err x) d e i = subst (IsPrefix (known seat.view i)) (sym (ap (λ ks. at [] ks i) e.0.known)) (prefix_refl (known seat.view i))
+  pub called : {E : Type 0} (t : Thread) (index : ℕ) (o : Op) (cites : Option ℕ) (order : OrderId)
+      (locked mine mine1 locked2 mine2 : View) (seat seat' : Shown) (old new : Side S) (result : Result (ℕ × Reply) E)
+      → IsThread t → HoldsPass t mine → Owns locked r → index < 2 ^ 32 → SideKnows r part locked old → MayMake t mine index o cites → Lends t locked mine seat.view mine1
+      → IfOk result (λ x. DrawsTold rules r asks order seat seat' old new (numbered x.0 (made_by t index o x.1 cites)))
+      → OnErr result (StaysSeated seat seat' × (new ≡ old)) → Returns t seat'.view mine1 locked2 mine2
+      → Called r part t mine locked2 mine2 new result (λ x. numbered x.0 (made_by t index o x.1 cites))
+  called t index o cites order locked mine mine1 locked2 mine2 seat seat' old new (Ok x) is pass owns short ks may l d e b =
+      let j = lent_joined t locked mine seat.view mine1 l ks.known may.stands.known in
+      let now = thread_may t j.joined.known.past mine (made_by t index o x.1 cites) d.told may (own_told t locked mine seat.view mine1 l ks.known may.stands.known pass) in
+      let w = did_by t locked mine mine1 locked2 mine2 order seat seat' old new
+      (numbered x.0 (made_by t index o x.1 cites)) d.told may.stands.known is pass owns refl short ks l now d.asked d.drew b in
+      record { knows = w.knows; ok = subst (Makes t mine mine2) d.drew.entry w.makes; reads = w.reads; err = tt }
+  called t index o cites order locked mine mine1 locked2 mine2 seat seat' old new (Err x) is pass owns short ks may l d e b =
+      let back = returns_seated t seat seat' mine1 locked2 mine2 e.0 b in
+      record {
+        knows = subst (SideKnows r part locked2) (sym e.1) (knows_still t locked mine seat.view mine1 locked2 mine2 old owns ks may.stands.known l back);
+        ok = tt;
+        reads = reads_rest t locked mine seat.view mine1 locked2 mine2 pass l back;
+        err = makes_none t locked mine seat.view mine1 locked2 mine2 ks.known pass l back;
+      }
 
-  pub event_owns : (result : Result (ℕ × Reply) E) → IfOk result (λ x. DrawsEvent order seat seat' old new (make x))
-      → OnErr result (StaysSeated seat seat' × (new ≡ old)) → (i : ℕ) → Owns seat.view i → Owns seat'.view i
-  event_owns (Ok x) d e i o = owns_on seat.view seat'.view 1 d.drew.kept d.drew.appends.grows i o
-  event_owns (Err x) d e i o = ap (λ os. at false os i) e.0.owns ∙ o
+  -- so the seat knows and owns what it did
+  pub drew_more : {E : Type 0} (order : OrderId) (seat seat' : Shown) (old new : Side S) (make : ℕ × Reply → Entry) (result : Result (ℕ × Reply) E)
+      → IfOk result (λ x. DrawsTold rules r asks order seat seat' old new (make x)) → OnErr result (StaysSeated seat seat' × (new ≡ old)) → (i : ℕ) → IsPrefix (known seat.view i) (known seat'.view i)
+  drew_more order seat seat' old new make (Ok x) d e i = grows_more seat.view seat'.view r d.drew.kept d.drew.appends.grows i
+  drew_more order seat seat' old new make (Err x) d e i = subst (IsPrefix (known seat.view i)) (sym (ap (λ ks. at [] ks i) e.0.known)) (prefix_refl (known seat.view i))
 
-  pub event_order : (result : Result (ℕ × Reply) E) → IfOk result (λ x. DrawsEvent order seat seat' old new (make x)) → OnErr result (StaysSeated seat seat' × (new ≡ old)) → seat'.order ≡ seat.order
-  event_order (Ok x) d e = d.drew.appends.same
-  event_order (Err x) d e = e.0.order
+  pub drew_owns : {E : Type 0} (order : OrderId) (seat seat' : Shown) (old new : Side S) (make : ℕ × Reply → Entry) (result : Result (ℕ × Reply) E)
+      → IfOk result (λ x. DrawsTold rules r asks order seat seat' old new (make x)) → OnErr result (StaysSeated seat seat' × (new ≡ old)) → (i : ℕ) → Owns seat.view i → Owns seat'.view i
+  drew_owns order seat seat' old new make (Ok x) d e i o = owns_on seat.view seat'.view r d.drew.kept d.drew.appends.grows i o
+  drew_owns order seat seat' old new make (Err x) d e i o = ap (λ os. at false os i) e.0.owns ∙ o
 
 -- a side at its opening, with a seat that knows nothing
 pub opening_managed_knows : (v : View) (s : Side ManagedReplay) → KnowsNothing v → s.entries ≡ [] → s.state ≡ opening_replay → ManagedKnows v s

@@ -14,8 +14,8 @@ use Rattle.joint_machine.specs.ManagedReplay.{ManagedReplay}
 use Rattle.joint_machine.specs.Run.{thread_number}
 use Rattle.joint_machine.specs.Draws.{numbered}
 use Rattle.joint_machine.specs.Sides.{Side, managed_rules, step_made}
-use Rattle.joint_machine.specs.Told.{Told, kept_pins, nothing}
-use Rattle.joint_machine.specs.PinsTold.{no_pins, pins_told}
+use Rattle.joint_machine.specs.Told.{kept_pins, nothing}
+use Rattle.joint_machine.specs.PinsTold.{no_pins}
 use Rattle.joint_machine.proofs.Deciding.{none_some}
 use Rattle.known_laws.specs.Known.{PinsStand}
 use Rattle.known_laws.specs.Pasts.{end_of}
@@ -38,7 +38,8 @@ use Rattle.seat_calls.proofs.After.{owes_clearing}
 use Rattle.view_laws.specs.Knowing.{pins_of}
 use Rattle.view_laws.proofs.HeldViews.{pins_of_views_stand}
 use Rattle.view_laws.proofs.PinWords.{object-more}
-use Rattle.joint_history.specs.Locked.{Drew, ManagedKnows, TakesPin, made_by}
+use Rattle.joint_history.specs.Locked.{ManagedKnows, TakesPin, made_by}
+use Rattle.joint_history.proofs.LockedSteps.{DrawsTold, StandsTold}
 
 -- what the owner of the managed list finds in the pin of a thread whose lines it has
 abbrev pub FindsPin : View → ℕ → Option MNum → Type 0
@@ -126,12 +127,8 @@ take_may order seat (P n) x aim is same owns pass settled = absurd is
 take_may order seat C x aim is same owns pass settled = absurd is
 
 -- what was told with it, if it was made
-pub record TookPin {E : Type 0} (order : OrderId) (seat seat' : Shown) (old new : Side ManagedReplay) (t : Thread) (index : ℕ) (x : Var) (result : Result (ℕ × Reply) E) : Type 0 where
-  pub told : Told
-  pub stand : IfOk result (λ r. PinsStand old.state.managed (pins_told told))
-  pub drew : IfOk result (λ r. Drew managed_rules 0 order seat seat' old new (numbered r.0 (made_by t index (take_op x) r.1 None)) told)
-
 pub took_pin : {E : Type 0} (order : OrderId) (seat seat' : Shown) (old new : Side ManagedReplay) (t : Thread) (index : ℕ) (x : Var) (result : Result (ℕ × Reply) E)
-    → IfOk result (λ r. TakesPin order seat seat' old new t index x r) → TookPin order seat seat' old new t index x result
-took_pin order seat seat' old new t index x (Ok r) d = record { told = kept_pins (pin_given (thread_number t) d.pin) nothing; stand = d.stands; drew = d.drew }
-took_pin order seat seat' old new t index x (Err e) d = record { told = nothing; stand = tt; drew = tt }
+    → IfOk result (λ r. TakesPin order seat seat' old new t index x r)
+    → IfOk result (λ r. DrawsTold managed_rules 0 StandsTold order seat seat' old new (numbered r.0 (made_by t index (take_op x) r.1 None)))
+took_pin order seat seat' old new t index x (Ok r) d = record { told = kept_pins (pin_given (thread_number t) d.pin) nothing; asked = d.stands; drew = d.drew }
+took_pin order seat seat' old new t index x (Err e) d = tt

@@ -35,18 +35,20 @@ use Rattle.order_table.specs.Views.{OrderId, Shown, known}
 use Rattle.joint_history.specs.Knowing.{line_known, note_of}
 use Rattle.view_laws.specs.Knowing.{IsDrawnView, pins_of}
 
--- the managed side's seat knows a past: its managed line is the side's list, and at its end the managed side is as this
--- one
-pub record ManagedKnows (v : View) (s : Side ManagedReplay) : Type 0 where
+-- a side's seat knows a past: that line, the side's own, is the side's list, and at its end that part, the side's own,
+-- is as this one
+pub record SideKnows {S : Type 0} (r : ℕ) (part : Linkage → S) (v : View) (s : Side S) : Type 0 where
   pub known : IsDrawnView v
-  pub entries : line_known v 0 ≡ s.entries
-  pub state : (end_of known.known.past).managed ≡ s.state
+  pub entries : line_known v r ≡ s.entries
+  pub state : part (end_of known.known.past) ≡ s.state
 
--- the peer side's seat knows a past: its peer line is the side's list, and at its end the peer side is as this one
-pub record PeerKnows (v : View) (s : Side PeerReplay) : Type 0 where
-  pub known : IsDrawnView v
-  pub entries : line_known v 1 ≡ s.entries
-  pub state : (end_of known.known.past).peer ≡ s.state
+-- so it is of the managed side's seat
+abbrev pub ManagedKnows : View → Side ManagedReplay → Type 0
+ManagedKnows v s = SideKnows 0 (λ l. l.managed) v s
+
+-- and of the peer side's
+abbrev pub PeerKnows : View → Side PeerReplay → Type 0
+PeerKnows v s = SideKnows 1 (λ l. l.peer) v s
 
 -- the own marking of a mirrored cycle is still to come: a mirror brings that about, and the driver's begin and its
 -- clear end it

@@ -2,47 +2,46 @@ use Rattle.std.proofs.Common.{ℕ, arith, ◌∙◌, subst, sym}
 use Rattle.joint_machine.specs.declared.events.Entry.{Entry}
 use Rattle.joint_machine.specs.declared.events.Reply.{Reply}
 use Rattle.joint_machine.specs.Draws.{numbered}
-use Rattle.joint_machine.specs.Sides.{managed_rules, TakesManaged}
-use Rattle.joint_machine.specs.Told.{nothing}
+use Rattle.joint_machine.specs.Sides.{TakesManaged}
 use Rattle.managed_heap.specs.Sides.{as_side}
 use Rattle.joint_history.specs.Locked.{made_by}
 use Rattle.joint_history.proofs.Fresh.{turn_is_fresh_for}
-use Rattle.joint_history.proofs.LockedSteps.{called_managed, did, drew_more, drew_owns, more_back, plain_stand}
+use Rattle.joint_history.proofs.LockedSteps.{called, did, drew_more, drew_owns, managed_side, more_back, plainly}
 use Rattle.joint_history.proofs.managed.LockedManaged.step.Goals as goal
 
 pub give_back-requires-clause-more : goal.give_back-requires-clause-more
 give_back-requires-clause-more g c =
     let make : ℕ × Reply → Entry = λ x. numbered x.0 (made_by c.args.caller c.args.index c.args.op.now x.1 c.args.cites) in
     more_back c.args.caller c.self.inside.seat.view c.args.mine.now.view c.lend.new.locked.view c.lend.new.mine.view c.draw_step-made.new.seat.view c.lend.ensures.lent
-    (drew_more managed_rules 0 c.args.order.now c.lend.new.locked c.draw_step-made.new.seat (as_side c.self.inside.side)
-    (as_side c.draw_step-made.new.side) make nothing c.draw_step-made.result c.draw_step-made.ensures.drew c.draw_step-made.ensures.err)
+    (drew_more managed_side c.args.order.now c.lend.new.locked c.draw_step-made.new.seat (as_side c.self.inside.side)
+    (as_side c.draw_step-made.new.side) make c.draw_step-made.result (plainly c.draw_step-made.result _ _ _ _ _ _ c.draw_step-made.ensures.drew) c.draw_step-made.ensures.err)
 
 pub invariant_of-self : goal.invariant_of-self
 invariant_of-self g c =
     let make : ℕ × Reply → Entry = λ x. numbered x.0 (made_by c.args.caller c.args.index c.args.op.now x.1 c.args.cites) in
     let d = did c.args.caller c.self.inside.seat.view c.args.mine.now.view c.lend.new.locked.view c.lend.new.mine.view c.draw_step-made.new.seat.view
     c.give_back.new.locked.view c.give_back.new.mine.view 0 c.requires.pass.0 (omega arith) c.requires.pass.1 c.self.invariant.1 c.lend.ensures.lent
-    (drew_owns managed_rules 0 c.args.order.now c.lend.new.locked c.draw_step-made.new.seat (as_side c.self.inside.side)
-    (as_side c.draw_step-made.new.side) make nothing c.draw_step-made.result c.draw_step-made.ensures.drew c.draw_step-made.ensures.err) c.give_back.ensures.returned in
-    let w = called_managed c.args.caller c.args.index c.args.op.now c.args.cites (λ x. nothing) c.args.order.now c.self.inside.seat.view c.args.mine.now.view c.lend.new.mine.view
+    (drew_owns managed_side c.args.order.now c.lend.new.locked c.draw_step-made.new.seat (as_side c.self.inside.side)
+    (as_side c.draw_step-made.new.side) make c.draw_step-made.result (plainly c.draw_step-made.result _ _ _ _ _ _ c.draw_step-made.ensures.drew) c.draw_step-made.ensures.err) c.give_back.ensures.returned in
+    let w = called managed_side c.args.caller c.args.index c.args.op.now c.args.cites c.args.order.now c.self.inside.seat.view c.args.mine.now.view c.lend.new.mine.view
     c.give_back.new.locked.view c.give_back.new.mine.view c.lend.new.locked c.draw_step-made.new.seat (as_side c.self.inside.side) (as_side c.draw_step-made.new.side) c.draw_step-made.result
     c.requires.pass.0 c.requires.pass.1 c.self.invariant.1 (omega (arith, c.ranges.index.fits)) c.self.invariant.2 c.requires.may
-    (plain_stand c.draw_step-made.result c.self.inside.side.state.managed) c.lend.ensures.lent c.draw_step-made.ensures.drew c.draw_step-made.ensures.err c.give_back.ensures.returned in
+    c.lend.ensures.lent (plainly c.draw_step-made.result _ _ _ _ _ _ c.draw_step-made.ensures.drew) c.draw_step-made.ensures.err c.give_back.ensures.returned in
     (c.give_back.ensures.order.0 ∙ c.requires.order.0, d.owns, w.knows, c.draw_step-made.ensures.threads ∙ c.self.invariant.3, c.give_back.ensures.settled.0)
 
 pub returns-clause-ok : goal.returns-clause-ok
 returns-clause-ok g c =
-    (called_managed c.args.caller c.args.index c.args.op.now c.args.cites (λ x. nothing) c.args.order.now c.self.inside.seat.view c.args.mine.now.view c.lend.new.mine.view
+    (called managed_side c.args.caller c.args.index c.args.op.now c.args.cites c.args.order.now c.self.inside.seat.view c.args.mine.now.view c.lend.new.mine.view
     c.give_back.new.locked.view c.give_back.new.mine.view c.lend.new.locked c.draw_step-made.new.seat (as_side c.self.inside.side) (as_side c.draw_step-made.new.side) c.draw_step-made.result
     c.requires.pass.0 c.requires.pass.1 c.self.invariant.1 (omega (arith, c.ranges.index.fits)) c.self.invariant.2 c.requires.may
-    (plain_stand c.draw_step-made.result c.self.inside.side.state.managed) c.lend.ensures.lent c.draw_step-made.ensures.drew c.draw_step-made.ensures.err c.give_back.ensures.returned).ok
+    c.lend.ensures.lent (plainly c.draw_step-made.result _ _ _ _ _ _ c.draw_step-made.ensures.drew) c.draw_step-made.ensures.err c.give_back.ensures.returned).ok
 
 pub returns-clause-err : goal.returns-clause-err
 returns-clause-err g c =
-    (called_managed c.args.caller c.args.index c.args.op.now c.args.cites (λ x. nothing) c.args.order.now c.self.inside.seat.view c.args.mine.now.view c.lend.new.mine.view
+    (called managed_side c.args.caller c.args.index c.args.op.now c.args.cites c.args.order.now c.self.inside.seat.view c.args.mine.now.view c.lend.new.mine.view
     c.give_back.new.locked.view c.give_back.new.mine.view c.lend.new.locked c.draw_step-made.new.seat (as_side c.self.inside.side) (as_side c.draw_step-made.new.side) c.draw_step-made.result
     c.requires.pass.0 c.requires.pass.1 c.self.invariant.1 (omega (arith, c.ranges.index.fits)) c.self.invariant.2 c.requires.may
-    (plain_stand c.draw_step-made.result c.self.inside.side.state.managed) c.lend.ensures.lent c.draw_step-made.ensures.drew c.draw_step-made.ensures.err c.give_back.ensures.returned).err
+    c.lend.ensures.lent (plainly c.draw_step-made.result _ _ _ _ _ _ c.draw_step-made.ensures.drew) c.draw_step-made.ensures.err c.give_back.ensures.returned).err
 
 pub draw_step-made-requires-clause-fresh : goal.draw_step-made-requires-clause-fresh
 draw_step-made-requires-clause-fresh g c = turn_is_fresh_for c.args.caller c.self.inside.seat.view c.args.mine.now.view c.lend.new.locked.view c.lend.new.mine.view

@@ -2,49 +2,48 @@ use Rattle.std.proofs.Common.{ℕ, None, arith, ◌∙◌, subst, sym}
 use Rattle.joint_machine.specs.declared.events.Entry.{Entry}
 use Rattle.joint_machine.specs.declared.events.Reply.{Reply}
 use Rattle.joint_machine.specs.Draws.{numbered}
-use Rattle.joint_machine.specs.Sides.{managed_rules, TakesManaged}
-use Rattle.joint_machine.specs.Told.{nothing}
+use Rattle.joint_machine.specs.Sides.{TakesManaged}
 use Rattle.managed_heap.specs.Steps.{weak_op}
 use Rattle.managed_heap.specs.Sides.{as_side}
 use Rattle.joint_history.specs.Locked.{made_by}
 use Rattle.joint_laws.proofs.FittingLists.{managed-thread}
 use Rattle.joint_history.proofs.Lent.{knows_lent, owns_lent}
-use Rattle.joint_history.proofs.LockedSteps.{called_managed, did, drew_more, drew_owns, more_back, plain_stand}
+use Rattle.joint_history.proofs.LockedSteps.{called, did, drew_more, drew_owns, managed_side, more_back, plainly}
 use Rattle.joint_history.proofs.managed.LockedManaged.weak.Goals as goal
 
 pub give_back-requires-clause-more : goal.give_back-requires-clause-more
 give_back-requires-clause-more g c =
     let make : ℕ × Reply → Entry = λ x. numbered x.0 (made_by c.args.caller c.args.index (weak_op c.args.k c.args.v) x.1 None) in
     more_back c.args.caller c.self.inside.seat.view c.args.mine.now.view c.lend.new.locked.view c.lend.new.mine.view c.draw_weak-made.new.seat.view c.lend.ensures.lent
-    (drew_more managed_rules 0 c.args.order.now c.lend.new.locked c.draw_weak-made.new.seat (as_side c.self.inside.side)
-    (as_side c.draw_weak-made.new.side) make nothing c.draw_weak-made.result c.draw_weak-made.ensures.drew c.draw_weak-made.ensures.err)
+    (drew_more managed_side c.args.order.now c.lend.new.locked c.draw_weak-made.new.seat (as_side c.self.inside.side)
+    (as_side c.draw_weak-made.new.side) make c.draw_weak-made.result (plainly c.draw_weak-made.result _ _ _ _ _ _ c.draw_weak-made.ensures.drew) c.draw_weak-made.ensures.err)
 
 pub invariant_of-self : goal.invariant_of-self
 invariant_of-self g c =
     let make : ℕ × Reply → Entry = λ x. numbered x.0 (made_by c.args.caller c.args.index (weak_op c.args.k c.args.v) x.1 None) in
     let d = did c.args.caller c.self.inside.seat.view c.args.mine.now.view c.lend.new.locked.view c.lend.new.mine.view c.draw_weak-made.new.seat.view c.give_back.new.locked.view
     c.give_back.new.mine.view 0 (managed-thread c.args.caller c.requires.pass.0) (omega arith) c.requires.pass.1 c.self.invariant.1 c.lend.ensures.lent
-    (drew_owns managed_rules 0 c.args.order.now c.lend.new.locked c.draw_weak-made.new.seat (as_side c.self.inside.side)
-    (as_side c.draw_weak-made.new.side) make nothing c.draw_weak-made.result c.draw_weak-made.ensures.drew c.draw_weak-made.ensures.err) c.give_back.ensures.returned in
-    let w = called_managed c.args.caller c.args.index (weak_op c.args.k c.args.v) None (λ x. nothing) c.args.order.now c.self.inside.seat.view c.args.mine.now.view c.lend.new.mine.view
+    (drew_owns managed_side c.args.order.now c.lend.new.locked c.draw_weak-made.new.seat (as_side c.self.inside.side)
+    (as_side c.draw_weak-made.new.side) make c.draw_weak-made.result (plainly c.draw_weak-made.result _ _ _ _ _ _ c.draw_weak-made.ensures.drew) c.draw_weak-made.ensures.err) c.give_back.ensures.returned in
+    let w = called managed_side c.args.caller c.args.index (weak_op c.args.k c.args.v) None c.args.order.now c.self.inside.seat.view c.args.mine.now.view c.lend.new.mine.view
     c.give_back.new.locked.view c.give_back.new.mine.view c.lend.new.locked c.draw_weak-made.new.seat (as_side c.self.inside.side) (as_side c.draw_weak-made.new.side) c.draw_weak-made.result
     (managed-thread c.args.caller c.requires.pass.0) c.requires.pass.1 c.self.invariant.1 (omega (arith, c.ranges.index.fits)) c.self.invariant.2 c.requires.may
-    (plain_stand c.draw_weak-made.result c.self.inside.side.state.managed) c.lend.ensures.lent c.draw_weak-made.ensures.drew c.draw_weak-made.ensures.err c.give_back.ensures.returned in
+    c.lend.ensures.lent (plainly c.draw_weak-made.result _ _ _ _ _ _ c.draw_weak-made.ensures.drew) c.draw_weak-made.ensures.err c.give_back.ensures.returned in
     (c.give_back.ensures.order.0 ∙ c.requires.order.0, d.owns, w.knows, c.draw_weak-made.ensures.threads ∙ c.self.invariant.3, c.give_back.ensures.settled.0)
 
 pub returns-clause-ok : goal.returns-clause-ok
 returns-clause-ok g c =
-    (called_managed c.args.caller c.args.index (weak_op c.args.k c.args.v) None (λ x. nothing) c.args.order.now c.self.inside.seat.view c.args.mine.now.view c.lend.new.mine.view
+    (called managed_side c.args.caller c.args.index (weak_op c.args.k c.args.v) None c.args.order.now c.self.inside.seat.view c.args.mine.now.view c.lend.new.mine.view
     c.give_back.new.locked.view c.give_back.new.mine.view c.lend.new.locked c.draw_weak-made.new.seat (as_side c.self.inside.side) (as_side c.draw_weak-made.new.side) c.draw_weak-made.result
     (managed-thread c.args.caller c.requires.pass.0) c.requires.pass.1 c.self.invariant.1 (omega (arith, c.ranges.index.fits)) c.self.invariant.2 c.requires.may
-    (plain_stand c.draw_weak-made.result c.self.inside.side.state.managed) c.lend.ensures.lent c.draw_weak-made.ensures.drew c.draw_weak-made.ensures.err c.give_back.ensures.returned).ok
+    c.lend.ensures.lent (plainly c.draw_weak-made.result _ _ _ _ _ _ c.draw_weak-made.ensures.drew) c.draw_weak-made.ensures.err c.give_back.ensures.returned).ok
 
 pub returns-clause-err : goal.returns-clause-err
 returns-clause-err g c =
-    (called_managed c.args.caller c.args.index (weak_op c.args.k c.args.v) None (λ x. nothing) c.args.order.now c.self.inside.seat.view c.args.mine.now.view c.lend.new.mine.view
+    (called managed_side c.args.caller c.args.index (weak_op c.args.k c.args.v) None c.args.order.now c.self.inside.seat.view c.args.mine.now.view c.lend.new.mine.view
     c.give_back.new.locked.view c.give_back.new.mine.view c.lend.new.locked c.draw_weak-made.new.seat (as_side c.self.inside.side) (as_side c.draw_weak-made.new.side) c.draw_weak-made.result
     (managed-thread c.args.caller c.requires.pass.0) c.requires.pass.1 c.self.invariant.1 (omega (arith, c.ranges.index.fits)) c.self.invariant.2 c.requires.may
-    (plain_stand c.draw_weak-made.result c.self.inside.side.state.managed) c.lend.ensures.lent c.draw_weak-made.ensures.drew c.draw_weak-made.ensures.err c.give_back.ensures.returned).err
+    c.lend.ensures.lent (plainly c.draw_weak-made.result _ _ _ _ _ _ c.draw_weak-made.ensures.drew) c.draw_weak-made.ensures.err c.give_back.ensures.returned).err
 
 pub draw_weak-made-requires-clause-takes : goal.draw_weak-made-requires-clause-takes
 draw_weak-made-requires-clause-takes g c = subst (λ n. TakesManaged n c.args.caller) (sym c.self.invariant.3) c.requires.takes

@@ -6,7 +6,7 @@ use Rattle.joint_machine.specs.Sides.{TakesPeer}
 use Rattle.peer_heap.specs.Sides.{seen}
 use Rattle.joint_history.specs.Locked.{made_by}
 use Rattle.joint_history.proofs.Allowed.{turn_is_allowed}
-use Rattle.joint_history.proofs.LockedSteps.{called_peer, did, event_more, event_owns, more_back}
+use Rattle.joint_history.proofs.LockedSteps.{by_event, called, did, drew_more, drew_owns, more_back, peer_side}
 use Rattle.joint_history.proofs.Reserving.{step_reserves}
 use Rattle.joint_history.proofs.peer.LockedPeer.step.Goals as goal
 
@@ -14,20 +14,20 @@ pub give_back-requires-clause-more : goal.give_back-requires-clause-more
 give_back-requires-clause-more g c =
     let make : ℕ × Reply → Entry = λ x. numbered x.0 (made_by c.args.caller c.args.index c.args.op.now x.1 c.args.cites) in
     more_back c.args.caller c.self.inside.seat.view c.args.mine.now.view c.lend.new.locked.view c.lend.new.mine.view c.draw_event-made.new.seat.view c.lend.ensures.lent
-    (event_more c.args.order.now c.lend.new.locked c.draw_event-made.new.seat (seen c.self.inside.side)
-    (seen c.draw_event-made.new.side) make c.draw_event-made.result c.draw_event-made.ensures.drew c.draw_event-made.ensures.err)
+    (drew_more peer_side c.args.order.now c.lend.new.locked c.draw_event-made.new.seat (seen c.self.inside.side)
+    (seen c.draw_event-made.new.side) make c.draw_event-made.result (by_event c.draw_event-made.result _ _ _ _ _ _ c.draw_event-made.ensures.drew) c.draw_event-made.ensures.err)
 
 pub invariant_of-self : goal.invariant_of-self
 invariant_of-self g c =
     let make : ℕ × Reply → Entry = λ x. numbered x.0 (made_by c.args.caller c.args.index c.args.op.now x.1 c.args.cites) in
     let d = did c.args.caller c.self.inside.seat.view c.args.mine.now.view c.lend.new.locked.view c.lend.new.mine.view c.draw_event-made.new.seat.view
     c.give_back.new.locked.view c.give_back.new.mine.view 1 c.requires.pass.0 (omega arith) c.requires.pass.1 c.self.invariant.1 c.lend.ensures.lent
-    (event_owns c.args.order.now c.lend.new.locked c.draw_event-made.new.seat (seen c.self.inside.side)
-    (seen c.draw_event-made.new.side) make c.draw_event-made.result c.draw_event-made.ensures.drew c.draw_event-made.ensures.err) c.give_back.ensures.returned in
-    let w = called_peer c.args.caller c.args.index c.args.op.now c.args.cites c.args.order.now c.self.inside.seat.view c.args.mine.now.view c.lend.new.mine.view
+    (drew_owns peer_side c.args.order.now c.lend.new.locked c.draw_event-made.new.seat (seen c.self.inside.side)
+    (seen c.draw_event-made.new.side) make c.draw_event-made.result (by_event c.draw_event-made.result _ _ _ _ _ _ c.draw_event-made.ensures.drew) c.draw_event-made.ensures.err) c.give_back.ensures.returned in
+    let w = called peer_side c.args.caller c.args.index c.args.op.now c.args.cites c.args.order.now c.self.inside.seat.view c.args.mine.now.view c.lend.new.mine.view
     c.give_back.new.locked.view c.give_back.new.mine.view c.lend.new.locked c.draw_event-made.new.seat (seen c.self.inside.side) (seen c.draw_event-made.new.side) c.draw_event-made.result
     c.requires.pass.0 c.requires.pass.1 c.self.invariant.1 (omega (arith, c.ranges.index.fits)) c.self.invariant.2 c.requires.may
-    c.lend.ensures.lent c.draw_event-made.ensures.drew c.draw_event-made.ensures.err c.give_back.ensures.returned in
+    c.lend.ensures.lent (by_event c.draw_event-made.result _ _ _ _ _ _ c.draw_event-made.ensures.drew) c.draw_event-made.ensures.err c.give_back.ensures.returned in
     let r = step_reserves c.args.caller c.args.index c.args.op.now c.args.cites c.args.order.now c.self.inside.seat.view c.args.mine.now.view c.lend.new.mine.view
     c.give_back.new.locked.view c.give_back.new.mine.view c.lend.new.locked c.draw_event-made.new.seat c.self.inside.side c.draw_event-made.new.side c.draw_event-made.result
     c.requires.event c.self.invariant.2 c.self.invariant.3 c.lend.ensures.lent c.draw_event-made.ensures.drew
@@ -36,17 +36,17 @@ invariant_of-self g c =
 
 pub returns-clause-ok : goal.returns-clause-ok
 returns-clause-ok g c =
-    (called_peer c.args.caller c.args.index c.args.op.now c.args.cites c.args.order.now c.self.inside.seat.view c.args.mine.now.view c.lend.new.mine.view c.give_back.new.locked.view
+    (called peer_side c.args.caller c.args.index c.args.op.now c.args.cites c.args.order.now c.self.inside.seat.view c.args.mine.now.view c.lend.new.mine.view c.give_back.new.locked.view
     c.give_back.new.mine.view c.lend.new.locked c.draw_event-made.new.seat (seen c.self.inside.side) (seen c.draw_event-made.new.side) c.draw_event-made.result
     c.requires.pass.0 c.requires.pass.1 c.self.invariant.1 (omega (arith, c.ranges.index.fits)) c.self.invariant.2 c.requires.may
-    c.lend.ensures.lent c.draw_event-made.ensures.drew c.draw_event-made.ensures.err c.give_back.ensures.returned).ok
+    c.lend.ensures.lent (by_event c.draw_event-made.result _ _ _ _ _ _ c.draw_event-made.ensures.drew) c.draw_event-made.ensures.err c.give_back.ensures.returned).ok
 
 pub returns-clause-err : goal.returns-clause-err
 returns-clause-err g c =
-    (called_peer c.args.caller c.args.index c.args.op.now c.args.cites c.args.order.now c.self.inside.seat.view c.args.mine.now.view c.lend.new.mine.view c.give_back.new.locked.view
+    (called peer_side c.args.caller c.args.index c.args.op.now c.args.cites c.args.order.now c.self.inside.seat.view c.args.mine.now.view c.lend.new.mine.view c.give_back.new.locked.view
     c.give_back.new.mine.view c.lend.new.locked c.draw_event-made.new.seat (seen c.self.inside.side) (seen c.draw_event-made.new.side) c.draw_event-made.result
     c.requires.pass.0 c.requires.pass.1 c.self.invariant.1 (omega (arith, c.ranges.index.fits)) c.self.invariant.2 c.requires.may
-    c.lend.ensures.lent c.draw_event-made.ensures.drew c.draw_event-made.ensures.err c.give_back.ensures.returned).err
+    c.lend.ensures.lent (by_event c.draw_event-made.result _ _ _ _ _ _ c.draw_event-made.ensures.drew) c.draw_event-made.ensures.err c.give_back.ensures.returned).err
 
 pub draw_event-made-requires-clause-allowed : goal.draw_event-made-requires-clause-allowed
 draw_event-made-requires-clause-allowed g c = turn_is_allowed c.args.caller c.self.inside.seat.view c.args.mine.now.view c.lend.new.locked.view c.lend.new.mine.view
@@ -58,7 +58,7 @@ draw_event-made-requires-clause-takes g c = subst (λ n. TakesPeer n c.args.call
 
 pub returns-clause-reads : goal.returns-clause-reads
 returns-clause-reads g c =
-    (called_peer c.args.caller c.args.index c.args.op.now c.args.cites c.args.order.now c.self.inside.seat.view c.args.mine.now.view c.lend.new.mine.view c.give_back.new.locked.view
+    (called peer_side c.args.caller c.args.index c.args.op.now c.args.cites c.args.order.now c.self.inside.seat.view c.args.mine.now.view c.lend.new.mine.view c.give_back.new.locked.view
     c.give_back.new.mine.view c.lend.new.locked c.draw_event-made.new.seat (seen c.self.inside.side) (seen c.draw_event-made.new.side) c.draw_event-made.result
     c.requires.pass.0 c.requires.pass.1 c.self.invariant.1 (omega (arith, c.ranges.index.fits)) c.self.invariant.2 c.requires.may
-    c.lend.ensures.lent c.draw_event-made.ensures.drew c.draw_event-made.ensures.err c.give_back.ensures.returned).reads
+    c.lend.ensures.lent (by_event c.draw_event-made.result _ _ _ _ _ _ c.draw_event-made.ensures.drew) c.draw_event-made.ensures.err c.give_back.ensures.returned).reads

@@ -7,7 +7,8 @@ use Rattle.seat_calls.specs.Passing.{Returns}
 use Rattle.joint_history.specs.Locked.{PeerKnows}
 use Rattle.joint_history.specs.Steps.{GoesFurther}
 use Rattle.joint_history.proofs.DriverMarks.{is_open, is_own_marking}
-use Rattle.joint_history.proofs.DriverPeerSteps.{driven_peers_none}
+use Rattle.joint_history.proofs.DriverSteps.{driven_none}
+use Rattle.joint_history.proofs.LockedSteps.{peer_side}
 use Rattle.joint_history.proofs.Fitting.{same_further}
 use Rattle.joint_history.proofs.Reserving.{back_on, lent_on, nothing_kept, reserves_on}
 use Rattle.joint_history.proofs.shared.Shared.slice.Goals as goal
@@ -27,7 +28,7 @@ drive_peers-requires-clause-fits g c =
       left = λ order lent lent2 mine1 locked2 mine2 s s2 r w d b.
           (
           let back = subst (λ (z : Shown). Returns C z.view mine1 locked2 mine2) d.0 b in
-          let k = driven_peers_none w.locked mine lent.view mine1 locked2 mine2 (seen s) w.pass w.owns w.known_side.0 may.stands.known w.lends back in (
+          let k = driven_none peer_side w.locked mine lent.view mine1 locked2 mine2 (seen s) w.pass w.owns w.known_side.0 may.stands.known w.lends back in (
             (
               subst (λ (z : PeerModel). PeerKnows locked2 (seen z)) (sym d.1) k.knows,
               reserves_on w.locked locked2 s s2 w.known_side.0 (back_on C w.locked lent.view mine1 locked2 mine2 (lent_on C w.locked mine lent.view mine1 w.lends) back)
