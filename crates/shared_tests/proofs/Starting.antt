@@ -1,35 +1,30 @@
 -- Callers at the start of their threads, and where those have ended: each thread's caller still waits or is one of
 -- them.
-use Rattle.std.proofs.Common.{◌≡◌, inl, inr, ⊎_elim, ℕ, suc, ◌<◌, List, [], ◌∷◌, ◌++◌, length, Option, Some, None, refl, sym, ap, ◌∙◌, subst, arith}
-use Rattle.std.specs.Prelude.{All, Contains, option_to_list, slice_index_or}
+use Rattle.std.proofs.Common.{◌≡◌, ℕ, suc, ◌<◌, ◌≤◌, List, [], ◌∷◌, ◌++◌, length, Option, Some, refl, sym, ap, ◌∙◌, subst, arith}
+use Rattle.std.specs.Prelude.{All, option_to_list, slice_index_or}
 use Rattle.std.proofs.lemmas.List.Elements.{All-cons, All-head, All-nil, All-tail}
 use Rattle.joint_machine.specs.declared.names.Thread.{Thread}
-use Rattle.joint_machine.proofs.Members.{Contains-cons_cases, Contains-here, Contains-there}
+use Rattle.joint_machine.specs.declared.names.Thread.TheVariants.{M, P, C}
+use Rattle.joint_machine.specs.Control.{caller_place}
+use Rattle.joint_machine.specs.Lines.{IsPeerThread, IsThread}
 use Rattle.joint_history.specs.Callers.{Pass}
 use Rattle.joint_history.specs.Desks.{Waiting}
 use Rattle.joint_history.specs.Ending.{HasAll, HasIdleDriver, threads_of}
 use Rattle.joint_history.specs.Operations.{IsOwnThread}
-use Rattle.joint_history.proofs.Giving.{has_all_same}
+use Rattle.joint_history.proofs.Giving.{has_all_same, one_given}
 use Rattle.joint_history.proofs.KnownCallers.{own_idle}
 use Rattle.shared_tests.specs.Starts.{IsStarting}
 
--- a caller that a desk gave stands last among those that were given before
-last_too : (ps : List Pass) (p : Pass) (t : Thread) → Contains (threads_of (p ∷ ps)) t → Contains (threads_of (ps ++ p ∷ [])) t
-last_too [] p t c = c
-last_too (q ∷ ps) p t c = ⊎_elim
-    (λ (e : p.thread ≡ t). Contains-there t q.thread (threads_of (ps ++ p ∷ [])) (last_too ps p t (subst (Contains (p.thread ∷ threads_of ps)) e (Contains-here p.thread (threads_of ps)))))
-    (λ (w : Contains (q.thread ∷ threads_of ps) t). ⊎_elim
-    (λ (e : q.thread ≡ t). subst (Contains (q.thread ∷ threads_of (ps ++ p ∷ []))) e (Contains-here q.thread (threads_of (ps ++ p ∷ []))))
-    (λ (v : Contains (threads_of ps) t). Contains-there t q.thread (threads_of (ps ++ p ∷ [])) (last_too ps p t (Contains-there t p.thread (threads_of ps) v)))
-    (Contains-cons_cases q.thread (threads_of ps) t w))
-    (Contains-cons_cases p.thread (q.thread ∷ threads_of ps) t c)
+-- behind the driver's place are those of managed and peer threads, and the last eight are those of peer threads
+pub is_own : (t : Thread) → IsThread t → 1 ≤ caller_place t → IsOwnThread t
+is_own (M n) is past = is
+is_own (P n) is past = is
+is_own C is past = absurd (omega (arith, past))
 
-pub one_given : (old new : Waiting) (r : Option Pass) (p : Pass) (ps : List Pass) → r ≡ Some p
-    → ((qs : List Pass) → HasAll old qs → HasAll new (option_to_list r ++ qs)) → HasAll old ps → HasAll new (ps ++ p ∷ [])
-one_given old new r p ps e gives all t is = ⊎_elim inl (λ c. inr (last_too ps p t c)) (subst (λ o. HasAll new (option_to_list o ++ ps)) e (gives ps all) t is)
-
-pub none_given : (old new : Waiting) (r : Option Pass) (ps : List Pass) → r ≡ None → ((qs : List Pass) → HasAll old qs → HasAll new (option_to_list r ++ qs)) → HasAll old ps → HasAll new ps
-none_given old new r ps e gives all = subst (λ o. HasAll new (option_to_list o ++ ps)) e (gives ps all)
+pub is_peer : (t : Thread) → IsThread t → 9 ≤ caller_place t → IsPeerThread t
+is_peer (M n) is past = let few = is.1 in absurd (omega (arith, few, past))
+is_peer (P n) is past = is
+is_peer C is past = absurd (omega (arith, past))
 
 -- callers that went on are of the same threads
 abbrev pub HaveGoneOn : List Pass → List Pass → Type 0

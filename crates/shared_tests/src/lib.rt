@@ -14,6 +14,8 @@ mod desks;
 #[cfg(test)]
 mod gates;
 #[cfg(test)]
+mod given;
+#[cfg(test)]
 mod memory;
 #[cfg(test)]
 mod readers;

@@ -2,7 +2,7 @@
 // does is a function of its line, so how many reads it makes is the same whatever the schedule.
 
 ghost use Rattle.std.specs.Prelude.{◌≡◌, ◌≤◌, ◌<◌, ℕ, map, [], All, IfOk, Ok, slice_index_or, vec_len};
-ghost use Rattle.joint_machine.specs.Lines.{IsDriver, IsManagedAct, IsManagedThread, IsThread, IsVar};
+ghost use Rattle.joint_machine.specs.Lines.{IsDriver, IsManagedAct, IsManagedThread, IsVar};
 ghost use Rattle.order_table.specs.Allowed.{Settled};
 ghost use Rattle.order_table.specs.Views.{OwnsAll};
 ghost use Rattle.joint_history.specs.Callers.{KnowsNothing, last_index, own};
@@ -10,6 +10,7 @@ ghost use Rattle.joint_history.specs.Ending.{HasAll, HasIdleDriver};
 ghost use Rattle.bridge_cycle.specs.Progress.{line_of};
 ghost use Rattle.shared_tests.specs.Starts.{EndsIdle, IsWaiting};
 
+use crate::given::callers_from;
 use bridge_cycle::Driver;
 use joint_history::{Caller, Desk, Locks, Shared};
 use joint_model::{
@@ -275,33 +276,7 @@ fn all_ended<N: OrderName>(
     Ok(callers)
 }
 
-// The threads of the run: c, and m1 to m8.
-fn thread_at(place: u8) -> Thread
-    requires { place < 9 }
-    ensures { IsThread result }
-{
-    match place {
-        0 => Thread::C,
-        _ => Thread::M(place),
-    }
-}
-
-// Their callers, so far as the desk has them.
-fn callers_at<N: OrderName>(alloc: Global, desk: &mut Desk<N>) -> Result<Vec<Caller<N>>, AllocError>
-    requires { HasAll desk.old [] }
-    ensures all { IfOk result (λ v. HasAll desk.new v.items) }
-    ensures waiting { IfOk result (λ v. All IsWaiting v.items) }
-{
-    let mut callers = Vec::new(alloc);
-    for place in 0..9u8 {
-        if let Some(caller) = desk.caller(thread_at(place)) {
-            callers.push(caller)?;
-        }
-    }
-    Ok(callers)
-}
-
-// The callers of these threads, each after its lines.
+// The callers of all threads, each after its lines.
 fn play<N: OrderName + Send + Sync, R: Threads + Wait + Sync>(
     rt: &R,
     alloc: Global,
@@ -313,13 +288,13 @@ fn play<N: OrderName + Send + Sync, R: Threads + Wait + Sync>(
     ensures all { IfOk result (λ v. HasAll desk.new v.items) }
     ensures idle { IfOk result (λ v. All HasIdleDriver v.items) }
 {
-    let jobs = callers_at(alloc, desk)?;
+    let jobs = callers_from(alloc, desk, 0)?;
     let ended = make_jobs(rt, alloc, shared, jobs, plan)?;
     let callers = all_ended(alloc, ended)?;
     Ok(callers)
 }
 
-// A run of these threads, from the desk to the finished history.
+// A run of c and of m1 to m8, from the desk to the finished history.
 fn run<N: OrderName + Send + Sync, R: Threads + Wait + Sync>(
     rt: &R,
     alloc: Global,

@@ -10,6 +10,7 @@ ghost use Rattle.joint_history.specs.Callers.{KnowsNothing, Pass, last_index, ow
 ghost use Rattle.joint_history.specs.Ending.{HasAll, HasIdleDriver};
 ghost use Rattle.shared_tests.specs.Starts.{IsStartingPeer};
 
+use crate::given::callers_from;
 use joint_history::{Caller, Desk, Locks, Shared};
 use joint_model::{Act, Entry, History, Holding, Op, Reply, StaticNo, Thread, Var};
 use order_table::{Order, OrderName, Seat};
@@ -164,22 +165,7 @@ fn make_all<N: OrderName + Send + Sync, R: Threads + Wait + Sync>(
     )
 }
 
-// The callers of p1 and p2, so far as the desk has them.
-fn callers_at<N: OrderName>(alloc: Global, desk: &mut Desk<N>) -> Result<Vec<Caller<N>>, AllocError>
-    requires { HasAll desk.old [] }
-    ensures all { IfOk result (λ v. HasAll desk.new v.items) }
-    ensures starting { IfOk result (λ v. All IsStartingPeer v.items) }
-{
-    let mut callers = Vec::new(alloc);
-    for n in 1..3u8 {
-        if let Some(caller) = desk.caller(Thread::P(n)) {
-            callers.push(caller)?;
-        }
-    }
-    Ok(callers)
-}
-
-// The callers of these threads, each after so many lines.
+// The callers of all peer threads, each after so many lines.
 fn play<N: OrderName + Send + Sync, R: Threads + Wait + Sync>(
     rt: &R,
     alloc: Global,
@@ -191,7 +177,7 @@ fn play<N: OrderName + Send + Sync, R: Threads + Wait + Sync>(
     ensures all { IfOk result (λ v. HasAll desk.new v.items) }
     ensures idle { IfOk result (λ v. All HasIdleDriver v.items) }
 {
-    let callers = callers_at(alloc, desk)?;
+    let callers = callers_from(alloc, desk, 9)?;
     let ended = make_all(rt, shared, callers, lines)?;
     Ok(ended)
 }

@@ -10,6 +10,7 @@ ghost use Rattle.joint_history.specs.Ending.{HasAll, HasIdleDriver};
 ghost use Rattle.joint_history.specs.Operations.{IsOwnThread};
 ghost use Rattle.shared_tests.specs.Starts.{IsStarting};
 
+use crate::given::callers_from;
 use joint_history::{Caller, Desk, Locks, Shared};
 use joint_model::{
     Act, Cell, Entry, GName, History, Holding, Kind, Marking, Op, Reply, Sort, StaticNo, Thread,
@@ -165,35 +166,7 @@ fn make_all<N: OrderName + Send + Sync, R: Threads + Wait + Sync>(
     )
 }
 
-// The threads of the run: m1, m2, p1 and p2.
-fn thread_at(place: u8) -> Thread
-    requires { place < 4 }
-    ensures { IsOwnThread result }
-{
-    match place {
-        0 => Thread::M(1),
-        1 => Thread::M(2),
-        2 => Thread::P(1),
-        _ => Thread::P(2),
-    }
-}
-
-// Their callers, so far as the desk has them.
-fn callers_at<N: OrderName>(alloc: Global, desk: &mut Desk<N>) -> Result<Vec<Caller<N>>, AllocError>
-    requires { HasAll desk.old [] }
-    ensures all { IfOk result (λ v. HasAll desk.new v.items) }
-    ensures starting { IfOk result (λ v. All IsStarting v.items) }
-{
-    let mut callers = Vec::new(alloc);
-    for place in 0..4u8 {
-        if let Some(caller) = desk.caller(thread_at(place)) {
-            callers.push(caller)?;
-        }
-    }
-    Ok(callers)
-}
-
-// The callers of these threads, each after so many lines.
+// The callers of all threads but the driver's, each after so many lines.
 fn play<N: OrderName + Send + Sync, R: Threads + Wait + Sync>(
     rt: &R,
     alloc: Global,
@@ -205,12 +178,12 @@ fn play<N: OrderName + Send + Sync, R: Threads + Wait + Sync>(
     ensures all { IfOk result (λ v. HasAll desk.new v.items) }
     ensures idle { IfOk result (λ v. All HasIdleDriver v.items) }
 {
-    let callers = callers_at(alloc, desk)?;
+    let callers = callers_from(alloc, desk, 1)?;
     let ended = make_all(rt, shared, callers, lines)?;
     Ok(ended)
 }
 
-// A run of these threads, each of so many lines, from the desk to the finished history.
+// A run of m1, m2, p1 and p2, each of so many lines, from the desk to the finished history.
 fn run<N: OrderName + Send + Sync, R: Threads + Wait + Sync>(
     rt: &R,
     alloc: Global,

@@ -1,20 +1,19 @@
 -- What the threads of a race begin and end with. A caller that a desk gave has made nothing, so it is ready; and a
 -- thread ends with its own caller, so each thread's caller still waits at the desk or is among those that are given
 -- back.
-use Rattle.std.proofs.Common.{◌≡◌, inl, inr, ⊎_elim, ℕ, zero, suc, ◌<◌, ◌≤◌, List, [], ◌∷◌, ◌++◌, length, map, Option, Some, None, Result, Ok, refl, sym, ◌∙◌, ap, subst, arith}
-use Rattle.std.specs.Prelude.{All, Contains, option_to_list, slice_index_or}
+use Rattle.std.proofs.Common.{◌≡◌, ℕ, zero, suc, ◌<◌, ◌≤◌, List, [], ◌∷◌, ◌++◌, length, map, Option, Some, Result, Ok, refl, sym, ◌∙◌, ap, subst, arith}
+use Rattle.std.specs.Prelude.{All, option_to_list, slice_index_or}
 use Rattle.std.proofs.lemmas.List.Elements.{All-nil, All-cons}
 use Rattle.joint_machine.specs.declared.names.Thread.{Thread}
 use Rattle.joint_machine.specs.declared.names.Thread.TheVariants.{M, P, C}
 use Rattle.joint_machine.specs.HistoryLines.{caller_line}
 use Rattle.joint_machine.specs.Lines.{IsDriver, IsThread}
-use Rattle.joint_machine.proofs.Members.{Contains-cons_cases, Contains-here, Contains-there}
 use Rattle.order_table.specs.declared.views.View.{View}
 use Rattle.order_table.specs.Facts.{line_entries}
 use Rattle.joint_history.specs.Callers.{KnowsNothing, Pass, last_index, own, own_in}
 use Rattle.joint_history.specs.Desks.{Waiting}
 use Rattle.joint_history.specs.Ending.{HasAll, HasIdleDriver, threads_of}
-use Rattle.joint_history.proofs.Giving.{has_all_same}
+use Rattle.joint_history.proofs.Giving.{has_all_same, one_given}
 use Rattle.bridge_cycle.proofs.Refusals.{idle_first}
 use Rattle.weak_reads.specs.Racing.{EndsIdle, IsReady}
 
@@ -38,24 +37,6 @@ pub is_of_c : (t : Thread) → IsDriver t → C ≡ t
 is_of_c (M n) is = absurd is
 is_of_c (P n) is = absurd is
 is_of_c C is = refl
-
--- a caller that a desk gave stands last among those that were given before
-last_too : (ps : List Pass) (p : Pass) (t : Thread) → Contains (threads_of (p ∷ ps)) t → Contains (threads_of (ps ++ p ∷ [])) t
-last_too [] p t c = c
-last_too (q ∷ ps) p t c = ⊎_elim
-    (λ (e : p.thread ≡ t). Contains-there t q.thread (threads_of (ps ++ p ∷ [])) (last_too ps p t (subst (Contains (p.thread ∷ threads_of ps)) e (Contains-here p.thread (threads_of ps)))))
-    (λ (w : Contains (q.thread ∷ threads_of ps) t). ⊎_elim
-    (λ (e : q.thread ≡ t). subst (Contains (q.thread ∷ threads_of (ps ++ p ∷ []))) e (Contains-here q.thread (threads_of (ps ++ p ∷ []))))
-    (λ (v : Contains (threads_of ps) t). Contains-there t q.thread (threads_of (ps ++ p ∷ [])) (last_too ps p t (Contains-there t p.thread (threads_of ps) v)))
-    (Contains-cons_cases q.thread (threads_of ps) t w))
-    (Contains-cons_cases p.thread (q.thread ∷ threads_of ps) t c)
-
-pub one_given : (old new : Waiting) (r : Option Pass) (p : Pass) (ps : List Pass) → r ≡ Some p
-    → ((qs : List Pass) → HasAll old qs → HasAll new (option_to_list r ++ qs)) → HasAll old ps → HasAll new (ps ++ p ∷ [])
-one_given old new r p ps e gives all t is = ⊎_elim inl (λ c. inr (last_too ps p t c)) (subst (λ o. HasAll new (option_to_list o ++ ps)) e (gives ps all) t is)
-
-pub none_given : (old new : Waiting) (r : Option Pass) (ps : List Pass) → r ≡ None → ((qs : List Pass) → HasAll old qs → HasAll new (option_to_list r ++ qs)) → HasAll old ps → HasAll new ps
-none_given old new r ps e gives all = subst (λ o. HasAll new (option_to_list o ++ ps)) e (gives ps all)
 
 same_last : (ps : List Pass) (p q : Pass) → p.thread ≡ q.thread → threads_of (ps ++ p ∷ []) ≡ threads_of (ps ++ q ∷ [])
 same_last [] p q e = ap (λ t. t ∷ []) e

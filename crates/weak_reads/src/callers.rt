@@ -1,30 +1,18 @@
 // The callers of a race, from the desk.
 
-ghost use Rattle.std.specs.Prelude.{◌≤◌, ◌<◌, [], All, IfOk};
-ghost use Rattle.joint_machine.specs.Lines.{IsThread};
+ghost use Rattle.std.specs.Prelude.{◌≤◌, [], All, IfOk};
 ghost use Rattle.joint_history.specs.Ending.{HasAll};
 ghost use Rattle.weak_reads.specs.Racing.{IsReady};
 
 use crate::heap::make_heap;
 use crate::jobs::drive;
 use crate::plan::{Race, Setup};
-use joint_history::{Caller, Desk, Locks, Shared};
+use joint_history::{Caller, Desk, Locks, Shared, thread_at};
 use joint_model::Thread;
 use order_table::OrderName;
 use std::alloc::{AllocError, Global};
 use std::sync::Wait;
 use std::time::Clock;
-
-// The threads beside m1 and the driver: a peer thread that allocates, and the other managed ones.
-fn thread_at(place: u8) -> Thread
-    requires { place < 8 }
-    ensures { IsThread result }
-{
-    match place {
-        0 => Thread::P(1),
-        _ => Thread::M(place + 1),
-    }
-}
 
 /// The caller of m1, which has made the heap. Answers `AllocError` where there is no memory.
 pub(crate) fn first_caller<N: OrderName>(
@@ -46,7 +34,8 @@ pub(crate) fn first_caller<N: OrderName>(
     Ok(callers)
 }
 
-/// The callers that are there, and those of so many other threads. Answers `AllocError` where there is no memory.
+/// The callers that are there, and those of so many other threads: of p1, a peer thread that allocates, and then of m2
+/// and the further managed ones. Answers `AllocError` where there is no memory.
 pub(crate) fn with_others<N: OrderName>(
     desk: &mut Desk<N>,
     callers: Vec<Caller<N>>,
@@ -59,7 +48,8 @@ pub(crate) fn with_others<N: OrderName>(
     ensures ready { IfOk result (λ v. All IsReady v.items) }
 {
     let mut callers = callers;
-    for place in 0..others {
+    for other in 0..others {
+        let place = if other == 0 { 9 } else { other + 1 };
         if let Some(caller) = desk.caller(thread_at(place)) {
             callers.push(caller)?;
         }

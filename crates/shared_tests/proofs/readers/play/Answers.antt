@@ -5,7 +5,7 @@ use Rattle.shared_tests.proofs.readers.play.Goals as goal
 pub returns-clause-all : goal.returns-clause-all
 returns-clause-all g c =
     let n : length c.in_ok-ended.ended.items ≡ length c.in_ok-jobs.jobs.items = omega (arith, c.in_ok-ended.ensures.len) in
-    ended_have_all c.callers_at.new.desk c.in_ok-jobs.jobs.items c.in_ok-callers.callers.items
+    ended_have_all c.callers_from.new.desk c.in_ok-jobs.jobs.items c.in_ok-callers.callers.items
     (all_ended c.in_ok-jobs.jobs.items c.in_ok-callers.callers.items c.in_ok-ended.ended.items c.in_ok-callers.ensures n (λ i d e l. c.in_ok-ended.ensures.each i d e (omega (arith, l))))
     c.in_ok-jobs.ensures.all
 

@@ -3,5 +3,5 @@ use Rattle.joint_history.specs.Ending.{HasAll}
 use Rattle.weak_reads.specs.Racing.{IsReady}
 use Rattle.weak_reads.proofs.callers.with_others.Given as goal
 
-abbrev pub invariant-loop-place : goal.invariant-loop-place
-invariant-loop-place g l = HasAll l.desk l.callers.items × All IsReady l.callers.items
+abbrev pub invariant-loop-other : goal.invariant-loop-other
+invariant-loop-other g l = HasAll l.desk l.callers.items × All IsReady l.callers.items
