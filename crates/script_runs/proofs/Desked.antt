@@ -1,10 +1,10 @@
 -- Callers are given out place by place: whom the desk was asked for waits no more, and who wasn't asked for has no
 -- line.
-use Rattle.std.proofs.Common.{◌≡◌, inl, inr, ⊎_elim, ℕ, ◌+◌, ◌<◌, ◌≤◌, Bool, true, false, ◌&&◌, List, [], ◌∷◌, ◌++◌, length, Option, Some, None, refl, sym, ◌∙◌, ap, subst, arith}
-use Rattle.std.specs.Prelude.{All, Contains, IsSome, if◌then◌else◌, nat_le, option_to_list, slice_get, slice_set}
+use Rattle.std.proofs.Common.{◌≡◌, ⊎_elim, ℕ, ◌+◌, ◌<◌, ◌≤◌, Bool, true, false, ◌&&◌, List, [], ◌∷◌, ◌++◌, length, Option, Some, None, refl, sym, ◌∙◌, ap, subst, arith}
+use Rattle.std.specs.Prelude.{All, IsSome, if◌then◌else◌, nat_le, option_to_list, slice_get, slice_set}
 use Rattle.std.proofs.lemmas.Bool.{cases_lt, le-leb}
 use Rattle.std.proofs.lemmas.List.{length-set}
-use Rattle.std.proofs.lemmas.List.Elements.{All-push, Contains-append_cases, Contains-append_left, Contains-append_right}
+use Rattle.std.proofs.lemmas.List.Elements.{All-push, Contains-append_cases}
 use Rattle.std.proofs.lemmas.Option.{slice_get_past}
 use Rattle.joint_machine.specs.declared.names.Thread.{Thread}
 use Rattle.joint_machine.specs.declared.names.Thread.TheVariants.{M, P, C}
@@ -12,12 +12,13 @@ use Rattle.joint_machine.specs.declared.lines.Act.{Act}
 use Rattle.joint_machine.specs.Control.{caller_place}
 use Rattle.joint_machine.specs.Lines.{IsDriver, IsThread}
 use Rattle.joint_machine.proofs.Joining.{same_or_not, slice_get-set_same, slice_get-set_other}
-use Rattle.joint_machine.proofs.Members.{Contains-here, Contains-nil, Contains-cons_cases, Contains-map, Contains-map_cases}
+use Rattle.joint_machine.proofs.Members.{Contains-nil, Contains-cons_cases}
 use Rattle.joint_history.specs.Callers.{KnowsNothing, Pass}
 use Rattle.joint_history.specs.Desks.{Waiting, flat, has_thread, thread_of, waits, without_caller}
-use Rattle.joint_history.specs.Ending.{HasAll, StillWaits, threads_of}
+use Rattle.joint_history.specs.Ending.{HasAll, StillWaits}
 use Rattle.joint_history.proofs.Desking.{thread_is}
 use Rattle.joint_history.proofs.Ended.{one_at_place}
+use Rattle.joint_history.proofs.Giving.{none_given, one_given}
 use Rattle.joint_history.proofs.LastLines.{place_small}
 use Rattle.run_laws.specs.Threads.{NoneIsLeft, thread_lines}
 use Rattle.script_runs.specs.Running.{DriverIsFirst}
@@ -82,17 +83,6 @@ one_passed script d n few lines below u is l s =
 pub all_asked : (script : List (Thread × Act)) (d : Waiting) → NoneIsLeftBelow script d 17 → NoneIsLeft script d
 all_asked script d below t is s = below t is (place_small t is) s
 
--- who was given out may stand last as well as first
-pub has_all_last : (d : Waiting) (p : Pass) (ps : List Pass) → HasAll d (p ∷ ps) → HasAll d (ps ++ p ∷ [])
-has_all_last d p ps all t is = ⊎_elim (λ w. inl w) (λ c.
-    let w = Contains-map_cases (λ (z : Pass). z.thread) (p ∷ ps) t c in
-    inr (subst (Contains (threads_of (ps ++ p ∷ []))) w.2 (Contains-map (λ (z : Pass). z.thread) (ps ++ p ∷ []) w.0
-    (⊎_elim
-    (λ (e : p ≡ w.0). subst (Contains (ps ++ p ∷ [])) e (Contains-append_right ps (p ∷ []) p (Contains-here p [])))
-    (λ d'. Contains-append_left ps (p ∷ []) w.0 d')
-    (Contains-cons_cases p ps w.0 w.1)))))
-    (all t is)
-
 -- the counts of threads stay
 pub counts_stay : (d : Waiting) (t : Thread) → ((without_caller d t).managed ≡ d.managed) × ((without_caller d t).peers ≡ d.peers)
 counts_stay d t = by (has_thread d t)
@@ -120,7 +110,7 @@ module _ (script : List (Thread × Act)) (d d' : Waiting) (callers : List Pass) 
       → r ≡ Some p → p.thread ≡ thread_of n → KnowsNothing p.view → Working script d' (callers ++ p ∷ []) (n + 1)
   given_out r p is all some thread new =
       let a = asked_for is in (
-        has_all_last d' p callers (subst (λ o. HasAll d' (option_to_list o ++ callers)) some (all callers w.0)),
+        one_given d d' r p callers some all w.0,
         a.0,
         a.1,
         a.2,
@@ -130,7 +120,7 @@ module _ (script : List (Thread × Act)) (d d' : Waiting) (callers : List Pass) 
   pub not_there : (r : Option Pass) → d' ≡ without_caller d (thread_of n) → ((ps : List Pass) → HasAll d ps → HasAll d' (option_to_list r ++ ps)) → r ≡ None → Working script d' callers (n + 1)
   not_there r is all none =
       let a = asked_for is in
-      (subst (λ o. HasAll d' (option_to_list o ++ callers)) none (all callers w.0), a.0, a.1, a.2, w.4)
+      (none_given d d' r callers none all w.0, a.0, a.1, a.2, w.4)
 
 -- before anybody was asked for the driver's caller waits
 pub driver_waits : (d : Waiting) → HasAll d [] → waits d C ≡ None → ⊥

@@ -34,10 +34,8 @@ use Rattle.run_laws.specs.Threads.{HoldsItsLines, NoneIsLeft, thread_lines}
 use Rattle.run_laws.proofs.InOrder.{prefix-map, prefix-then}
 use Rattle.run_laws.proofs.LastCycle.{cycle_lines_end_runs, cycles_end_runs}
 use Rattle.bridge_script.specs.Scripts.{IsScriptLine}
-use Rattle.script_runs.specs.Running.{AreSame, CanRun, DriverIsFirst, DrivesLine, HasRunLines, HearsAll, IsSame, StandsAs}
-use Rattle.script_runs.proofs.Desked.{has_all_last}
-use Rattle.script_runs.proofs.Ran.{AllRan, ran_all}
-use Rattle.joint_history.proofs.Giving.{has_all_same}
+use Rattle.script_runs.specs.Running.{AreSame, CanRun, DriverIsFirst, DrivesLine, HasRunLines, HaveRun, HearsAll, IsSame, StandsAs}
+use Rattle.joint_history.proofs.Giving.{has_all_last, has_all_same}
 use Rattle.joint_machine.proofs.Deciding.{some-same}
 
 prefix-itself : {A : Type 0} (xs : List A) → IsPrefix xs xs
@@ -151,27 +149,25 @@ module _ (number : ℕ) (p : Pass) (first heard last : Progress) (before others 
   pub idle_again : last.phase ≡ Idle
   idle_again = sym (k.stands opened at-first).phase
 
--- the threads ended: these are their callers, the driver's first
-module _ (script : List (Thread × Act)) (d : Waiting) (jobs callers rest : List Pass) (p : Pass)
-    (ran : AllRan script jobs callers) (first : DriverIsFirst jobs) (all : HasAll d jobs) (are : callers ≡ p ∷ rest) where
-  ran-first : AllRan script (first.driver ∷ first.others) (p ∷ rest)
-  ran-first = subst (λ js. AllRan script js (p ∷ rest)) first.all (subst (AllRan script jobs) are ran)
+-- the callers that have run a script, the driver's first
+module _ (script : List (Thread × Act)) (callers rest : List Pass) (p : Pass) (ran : HaveRun script callers) (are : callers ≡ p ∷ rest) where
+  first : DriverIsFirst (p ∷ rest)
+  first = subst DriverIsFirst are ran.driver_first
+
+  its_lines : (q : Pass) → Contains (p ∷ rest) q → HasRunLines script q.thread q
+  its_lines q c = All-contains (λ (x : Pass). HasRunLines script x.thread x) (p ∷ rest) q (subst (All (λ x. HasRunLines script x.thread x)) are ran.each) c
+
+  is_c : p.thread ≡ C
+  is_c = let e = first.all in let w : p ≡ first.driver = cc in ap (λ (x : Pass). x.thread) w ∙ first.is_driver
 
   pub driver_ran : HasRunLines script C p
-  driver_ran = subst (λ t. HasRunLines script t p) first.is_driver ran-first.0
+  driver_ran = subst (λ t. HasRunLines script t p) is_c (its_lines p (Contains-here p rest))
 
   pub is_driver : IsDriver p.thread
-  is_driver = subst IsDriver (sym driver_ran.thread) tt
+  is_driver = subst IsDriver (sym is_c) tt
 
-  -- of those who ended a job each is one of the jobs' threads
-  pub ran_job : (js ps : List Pass) → AllRan script js ps → (q : Pass) → Contains ps q → (j : Pass) × Contains js j × HasRunLines script j.thread q
-  ran_job [] [] r q c = absurd (Contains-nil q c)
-  ran_job [] (x ∷ ps) r q c = absurd r
-  ran_job (j ∷ js) [] r q c = absurd r
-  ran_job (j ∷ js) (x ∷ ps) r q c = ⊎_elim
-      (λ (e : x ≡ q). (j, Contains-here j js, subst (HasRunLines script j.thread) e r.0))
-      (λ o. let w = ran_job js ps r.1 q o in (w.0, Contains-there w.0 j js w.1, w.2))
-      (Contains-cons_cases x ps q c)
+  rest_are : (q : Pass) → Contains rest q → IsDriver q.thread → ⊥
+  rest_are q c is = let e = first.all in let w : rest ≡ first.others = cc in first.others_are q (subst (λ qs. Contains qs q) w c) is
 
   module _ (others : List Pass) (after : Pass) (same : AreSame rest others) (driver : after.thread ≡ C) where
     -- who it was
@@ -181,18 +177,15 @@ module _ (script : List (Thread × Act)) (d : Waiting) (jobs callers rest : List
     holds-own : (q : Pass) → Contains others q → HoldsItsLines script q
     holds-own q c =
         let w = was q c in
-        let r = ran_job first.others rest ran-first.1 w.0 w.1 in
-        subst (λ t. HoldsLines opening_standing (thread_lines t script) (own q)) (sym w.2.thread) (subst (HoldsLines opening_standing (thread_lines w.0.thread script)) (sym w.2.own_same) r.2.holds)
+        subst (λ t. HoldsLines opening_standing (thread_lines t script) (own q)) (sym w.2.thread)
+        (subst (HoldsLines opening_standing (thread_lines w.0.thread script)) (sym w.2.own_same) (its_lines w.0 (Contains-there w.0 p rest w.1)).holds)
 
     pub all_hold : All (HoldsItsLines script) others
     all_hold = All-members (HoldsItsLines script) others holds-own
 
     pub all_idle_then : HasIdleDriver after → All HasIdleDriver (others ++ after ∷ [])
     all_idle_then idle = All-members HasIdleDriver (others ++ after ∷ []) (λ q c. ⊎_elim
-        (λ o.
-        let w = was q o in
-        let r = ran_job first.others rest ran-first.1 w.0 w.1 in
-        λ is. absurd (first.others_are r.0 r.1 (subst IsDriver (w.2.thread ∙ r.2.thread) is)))
+        (λ o is. let w = was q o in absurd (rest_are w.0 w.1 (subst IsDriver w.2.thread is)))
         (λ o. ⊎_elim (λ (e : after ≡ q). subst HasIdleDriver e idle) (λ n. absurd (Contains-nil q n)) (Contains-cons_cases after [] q o))
         (Contains-append_cases others (after ∷ []) q c))
 
@@ -206,30 +199,25 @@ module _ (script : List (Thread × Act)) (d : Waiting) (jobs callers rest : List
         let b = same-threads xs ys (record { count = (let n = s.count in omega (arith, n)); each = λ i q e. s.each (suc i) q e }) in
         λ i. a i ∷ b i
 
-    pub has_all_then : HasAll d (others ++ after ∷ [])
-    has_all_then =
+    pub has_all_then : (d : Waiting) → HasAll d callers → HasAll d (others ++ after ∷ [])
+    has_all_then d all =
         has_all_last d after others
-        (has_all_same d (p ∷ rest) (after ∷ others) (let a : p.thread ≡ after.thread = driver_ran.thread ∙ sym driver in let b = same-threads rest others same in λ i. a i ∷ b i)
-        (subst (HasAll d) are (ran_all script d jobs callers ran all)))
+        (has_all_same d (p ∷ rest) (after ∷ others) (let a : p.thread ≡ after.thread = is_c ∙ sym driver in let b = same-threads rest others same in λ i. a i ∷ b i)
+        (subst (HasAll d) are all))
 
-    pub runs_then_cycle : (h : Finished) → CanRun script → NoneIsLeft script d → EndsWithCycle (length script + 1) p after others
+    pub runs_then_cycle : (h : Finished) (d : Waiting) → CanRun script → HasAll d callers → NoneIsLeft script d → EndsWithCycle (length script + 1) p after others
         → IsFinished h → length h.entries < 2 ^ 64 → All (HasOwn h.entries) (others ++ after ∷ []) → ((t : Thread) → IsThread t → StillWaits d t → made_by t h.entries ≡ []) → IsRunThenCycle script h
-    runs_then_cycle h can left ends finished few owns none =
-        cycles_end_runs script h d others p after finished few (λ line c. All-contains IsScriptLine script line can.each c) has_all_then owns none left all_hold driver_ran.holds ends
+    runs_then_cycle h d can all left ends finished few owns none =
+        cycles_end_runs script h d others p after finished few (λ line c. All-contains IsScriptLine script line can.each c) (has_all_then d all) owns none left all_hold driver_ran.holds ends
 
 -- the first of a list, and the others
 pub first_and_rest : (xs rest : List Pass) (p : Pass) → 0 < length xs → p ≡ slice_index_or xs 0 p → rest ≡ take 0 xs ++ drop 1 xs → xs ≡ p ∷ rest
 first_and_rest [] rest p l e r = absurd (omega (arith, l))
 first_and_rest (x ∷ xs) rest p l e r = let a : x ≡ p = sym e in let b : xs ≡ rest = sym r in λ i. a i ∷ b i
 
--- as many callers as jobs, of which there is one at least
-pub some_ran : (script : List (Thread × Act)) (jobs callers : List Pass) → AllRan script jobs callers → DriverIsFirst jobs → 0 < length callers
-some_ran script jobs callers r first = by jobs callers r first.all
-  where
-    by : (js ps : List Pass) → AllRan script js ps → js ≡ first.driver ∷ first.others → 0 < length ps
-    by [] ps r e = absurd (cc)
-    by (j ∷ js) [] r e = absurd r
-    by (j ∷ js) (q ∷ ps) r e = omega arith
+-- there is one at least
+pub some_first : (callers : List Pass) → DriverIsFirst callers → 0 < length callers
+some_first callers first = let n = ap length first.all in omega (arith, n)
 
 -- a script with a cycle behind it can be run where the script can
 pub can_run_cycle : (script lines : List (Thread × Act)) → lines ≡ script ++ cycle_line ∷ [] → CanRun script → length script < 4294967295 → CanRun lines

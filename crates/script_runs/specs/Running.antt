@@ -104,6 +104,11 @@ pub record DriverIsFirst (callers : List Pass) : Type 0 where
   pub is_driver : driver.thread ≡ C
   pub others_are : (p : Pass) → Contains others p → IsDriver p.thread → ⊥
 
+-- these callers have run a script: the driver's stands first, and each holds the lines of its thread
+pub record HaveRun (script : List (Thread × Act)) (callers : List Pass) : Type 0 where
+  pub driver_first : DriverIsFirst callers
+  pub each : All (λ p. HasRunLines script p.thread p) callers
+
 -- the thread has a line
 abbrev pub HasLine : List (Thread × Act) → Thread → Type 0
 HasLine script t = thread_lines t script ≡ [] → ⊥

@@ -6,21 +6,22 @@ ghost use Rattle.joint_machine.specs.Histories.{Finished};
 ghost use Rattle.joint_machine.specs.Lines.{IsDriver, IsThread};
 ghost use Rattle.known_laws.specs.Lists.{made_by};
 ghost use Rattle.joint_history.specs.Callers.{KnowsNothing, last_index, own};
+ghost use Rattle.joint_history.specs.Desks.{Waiting};
 ghost use Rattle.joint_history.specs.Ending.{HasAll, HasIdleDriver, HasOwn, HasEndNumbers, IsFinished, StillWaits};
 ghost use Rattle.order_table.specs.Allowed.{Settled};
 ghost use Rattle.order_table.specs.Views.{OwnsAll};
 ghost use Rattle.run_laws.specs.Final.{IsRunInOrder};
 ghost use Rattle.run_laws.specs.LastCycle.{DrivesCycles, EndsWithCycle};
 ghost use Rattle.run_laws.specs.WithCycle.{IsRunThenCycle, cycle_line};
-ghost use Rattle.script_runs.specs.Running.{AreSame, CanRun, HearsAll};
+ghost use Rattle.run_laws.specs.Threads.{NoneIsLeft};
+ghost use Rattle.script_runs.specs.Running.{AreSame, CanRun, HaveRun, HearsAll};
 
 use crate::lines::drive_line;
 use crate::serial::end_serial;
-use crate::threads::{all_ended, run_jobs};
-use crate::workers::workers;
+use crate::threads::run_lines;
 use bridge_cycle::Driver;
 use bridge_script::Turnstile;
-use joint_history::{Caller, Desk, Locks, RunEnd, Shared};
+use joint_history::{Caller, Locks, RunEnd, Shared};
 use joint_model::{Act, Holding, PhaseWord, Thread};
 use order_table::{Order, OrderName, Seat};
 use std::alloc::{AllocError, Global};
@@ -69,28 +70,24 @@ fn cycle_last<N: OrderName>(
     Ok(driver.retire())
 }
 
-// Runs a script and a cycle more by the callers of the desk, and answers those that were given out.
-fn run_by_desk<N: OrderName + Send + Sync, R: Threads + Wait + Sync, T: Turnstile + Sync>(
-    rt: &R,
+// Runs a cycle more by the callers that have run a script, and answers them with the driver's as the last.
+fn run_cycle<N: OrderName>(
+    rt: &impl Wait,
     alloc: Global,
     shared: &Shared<N, Locks>,
-    desk: &mut Desk<N>,
     script: &[(Thread, Act)],
-    turn: &T,
+    callers: Vec<Caller<N>>,
 ) -> Result<Vec<Caller<N>>, AllocError>
-    requires all { HasAll desk.old [] }
-    requires counts { (desk.old.managed ≡ 8) × (desk.old.peers ≡ 8) }
     requires lines { CanRun script.now }
     requires room { length script.now < u32.MAX }
-    ensures all { IfOk result (λ v. HasAll desk.new v.items) }
+    requires ran { HaveRun script.now callers.items }
+    ensures all { IfOk result (λ v. (d : Waiting) → HasAll d callers.items → HasAll d v.items) }
     ensures idle { IfOk result (λ v. All HasIdleDriver v.items) }
-    ensures ran { IfOk result (λ v. (h : Finished) → IsFinished h → length h.entries < 2 ^ 64
-        → All (HasOwn h.entries) v.items → ((t : Thread) → IsThread t
-        → StillWaits desk.new t → made_by t h.entries ≡ []) → IsRunThenCycle script.now h) }
+    ensures ran { IfOk result (λ v. (h : Finished) (d : Waiting) → HasAll d callers.items → NoneIsLeft script.now d
+        → IsFinished h → length h.entries < 2 ^ 64 → All (HasOwn h.entries) v.items → ((t : Thread) → IsThread t
+        → StillWaits d t → made_by t h.entries ≡ []) → IsRunThenCycle script.now h) }
 {
-    let jobs = workers(alloc, desk, script)?;
-    let ended = run_jobs(rt, alloc, shared, script, turn, jobs)?;
-    let mut callers = all_ended(alloc, ended)?;
+    let mut callers = callers;
     let driver = callers.remove(0);
     let number = script.len() as u32 + 1;
     let driver = cycle_last(rt, alloc, shared, number, driver, &mut callers)?;
@@ -115,8 +112,16 @@ fn run_named<N: OrderName + Send + Sync, R: Threads + Wait + Sync, T: Turnstile 
     ensures history { IfOk result (λ e. IsRunThenCycle script.now e.history) }
     ensures counted { IfOk result HasEndNumbers }
 {
-    let (shared, mut desk) = Shared::<N, Locks>::new(alloc, order, seat, 8, 8, Holding::Last)?;
-    match run_by_desk(rt, alloc, &shared, &mut desk, script, turn) {
+    let (shared, desk, callers) = run_lines::<N, R, T>(
+        rt,
+        alloc,
+        order,
+        seat,
+        script,
+        turn,
+        Holding::Last,
+    )?;
+    match run_cycle(rt, alloc, &shared, script, callers) {
         Ok(callers) => Ok(shared.end(desk, callers)),
         Err(fault) => {
             drop(shared);

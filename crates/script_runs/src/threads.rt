@@ -1,17 +1,14 @@
 // The run of a script by a thread of its own for each of its threads.
 
-ghost use Rattle.std.specs.Prelude.{◌≡◌, ◌<◌, ◌^◌, ℕ, map, All, IfOk, Ok, [], length, slice_index_or, vec_len};
-ghost use Rattle.joint_machine.specs.declared.names.Thread.{Thread};
-ghost use Rattle.joint_machine.specs.Histories.{Finished};
-ghost use Rattle.joint_machine.specs.LinkedHistories.{IsLinked};
+ghost use Rattle.std.specs.Prelude.{◌≡◌, ◌<◌, ℕ, map, All, IfOk, Ok, OnOk, [], slice_index_or, vec_len};
 ghost use Rattle.joint_machine.specs.Lines.{IsThread};
 ghost use Rattle.order_table.specs.Allowed.{Settled};
 ghost use Rattle.order_table.specs.Views.{OwnsAll};
 ghost use Rattle.joint_history.specs.Callers.{KnowsNothing};
-ghost use Rattle.joint_history.specs.Ending.{HasAll, HasIdleDriver, HasOwn, IsFinished, StillWaits};
-ghost use Rattle.known_laws.specs.Lists.{made_by};
+ghost use Rattle.joint_history.specs.Ending.{HasAll};
 ghost use Rattle.run_laws.specs.Final.{IsRunByThreads};
-ghost use Rattle.script_runs.specs.Running.{CanRun, EndsSo};
+ghost use Rattle.run_laws.specs.Threads.{NoneIsLeft};
+ghost use Rattle.script_runs.specs.Running.{CanRun, EndsSo, HaveRun};
 
 use crate::workers::{run_thread, workers};
 use bridge_script::Turnstile;
@@ -24,8 +21,8 @@ use std::sync::Wait;
 use std::thread;
 use std::thread::Threads;
 
-/// The callers with which the threads ended, or `AllocError` where one of them found no memory.
-pub(crate) fn all_ended<N: OrderName>(
+// The callers with which the threads ended, or `AllocError` where one of them found no memory.
+fn all_ended<N: OrderName>(
     alloc: Global,
     ended: Vec<Result<Caller<N>, AllocError>>,
 ) -> Result<Vec<Caller<N>>, AllocError>
@@ -38,8 +35,8 @@ pub(crate) fn all_ended<N: OrderName>(
     Ok(callers)
 }
 
-/// Runs each job's lines in a thread of its own; and answers with what each ended.
-pub(crate) fn run_jobs<N: OrderName + Send + Sync, R: Threads + Wait + Sync, T: Turnstile + Sync>(
+// Runs each job's lines in a thread of its own; and answers with what each ended.
+fn run_jobs<N: OrderName + Send + Sync, R: Threads + Wait + Sync, T: Turnstile + Sync>(
     rt: &R,
     alloc: Global,
     shared: &Shared<N, Locks>,
@@ -77,11 +74,8 @@ fn run_by_desk<N: OrderName + Send + Sync, R: Threads + Wait + Sync, T: Turnstil
     requires counts { (desk.old.managed ≡ 8) × (desk.old.peers ≡ 8) }
     requires lines { CanRun script.now }
     ensures all { IfOk result (λ v. HasAll desk.new v.items) }
-    ensures idle { IfOk result (λ v. All HasIdleDriver v.items) }
-    ensures ran { IfOk result (λ v. (h : Finished) → IsLinked h → IsFinished h
-        → length h.entries < 2 ^ 64 → All (HasOwn h.entries) v.items
-        → ((t : Thread) → IsThread t → StillWaits desk.new t → made_by t h.entries ≡ [])
-        → IsRunByThreads script.now h) }
+    ensures none { OnOk result (NoneIsLeft script.now desk.new) }
+    ensures ran { IfOk result (λ v. HaveRun script.now v.items) }
 {
     let jobs = workers(alloc, desk, script)?;
     let ended = run_jobs(rt, alloc, shared, script, turn, jobs)?;
@@ -89,8 +83,38 @@ fn run_by_desk<N: OrderName + Send + Sync, R: Threads + Wait + Sync, T: Turnstil
     Ok(callers)
 }
 
-// Runs a script by the callers of one order. Its lists hold every entry, so memory alone can be wanting for the
-// history.
+/// Runs the lines of each thread of a script in a thread of its own, by the callers of one order, and answers both sides
+/// and the callers, of which each is given back or still at the desk. Answers `AllocError` where there is no memory,
+/// after all jobs have ended.
+pub(crate) fn run_lines<N: OrderName + Send + Sync, R: Threads + Wait + Sync, T: Turnstile + Sync>(
+    rt: &R,
+    alloc: Global,
+    order: Order,
+    seat: Seat,
+    script: &[(Thread, Act)],
+    turn: &T,
+    holding: Holding,
+) -> Result<(Shared<N, Locks>, Desk<N>, Vec<Caller<N>>), AllocError>
+    requires order { order ≡ N.order }
+    requires run { (N.managed ≡ 8) × (N.peers ≡ 8) }
+    requires seat { (seat.order ≡ N.order) × OwnsAll seat.view × KnowsNothing seat.view × Settled seat.view }
+    requires lines { CanRun script.now }
+    ensures all { IfOk result (λ r. HasAll r.1 r.2.items) }
+    ensures none { IfOk result (λ r. NoneIsLeft script.now r.1) }
+    ensures ran { IfOk result (λ r. HaveRun script.now r.2.items) }
+{
+    let (shared, mut desk) = Shared::<N, Locks>::new(alloc, order, seat, 8, 8, holding)?;
+    match run_by_desk(rt, alloc, &shared, &mut desk, script, turn) {
+        Ok(callers) => Ok((shared, desk, callers)),
+        Err(fault) => {
+            drop(shared);
+            Err(fault)
+        }
+    }
+}
+
+// Runs a script by the callers of one order, for its history. Its lists hold every entry, so memory alone can be
+// wanting for that.
 fn run_named<N: OrderName + Send + Sync, R: Threads + Wait + Sync, T: Turnstile + Sync>(
     rt: &R,
     alloc: Global,
@@ -105,14 +129,16 @@ fn run_named<N: OrderName + Send + Sync, R: Threads + Wait + Sync, T: Turnstile 
     requires lines { CanRun script.now }
     ensures { IfOk result (IsRunByThreads script.now) }
 {
-    let (shared, mut desk) = Shared::<N, Locks>::new(alloc, order, seat, 8, 8, Holding::Every)?;
-    match run_by_desk(rt, alloc, &shared, &mut desk, script, turn) {
-        Ok(callers) => shared.finish(desk, callers).map_err(|_| AllocError),
-        Err(fault) => {
-            drop(shared);
-            Err(fault)
-        }
-    }
+    let (shared, desk, callers) = run_lines::<N, R, T>(
+        rt,
+        alloc,
+        order,
+        seat,
+        script,
+        turn,
+        Holding::Every,
+    )?;
+    shared.finish(desk, callers).map_err(|_| AllocError)
 }
 
 /// Runs the lines of each thread of a script in a thread of its own, in their order and each after its turn, and then
