@@ -9,7 +9,7 @@ use Rattle.joint_machine.specs.Control.{OpenSnap, Stand, idle, snapped, contract
 use Rattle.joint_machine.specs.Control.{restored}
 use Rattle.joint_model.specs.Listed.{Answers, answers_of}
 use Rattle.joint_machine.specs.Managed.{Managed, OpenCycle, candidates_of}
-use Rattle.joint_laws.specs.ManagedInvariants.{IsManagedKept}
+use Rattle.joint_laws.specs.ManagedInvariants.{ManagedInvariant}
 use Rattle.bridge_graph.specs.Parts.{IsPart}
 use Rattle.managed_heap.specs.declared.opening.Opened.{Opened as Snapshot}
 use Rattle.managed_heap.specs.Graphs.{IsDeadGraph}
@@ -62,7 +62,7 @@ pub record IsOfCycle (k : Cycle) (n : ℕ) (seen : Managed) (o : Snapshot) : Typ
   pub same : o.cycle ≡ k
   pub cycle : OpenCycle
   pub opened : seen.cycle ≡ Some cycle
-  pub kept : IsManagedKept seen
+  pub kept : ManagedInvariant seen
   pub graph : IsDeadGraph seen cycle.dead o.graph
   pub part : IsPart o.graph.nodes o.graph.edges
   pub count : length (candidates_of seen) ≡ n

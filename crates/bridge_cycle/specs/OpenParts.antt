@@ -3,7 +3,7 @@ use Rattle.std.specs.Prelude.{◌≡◌, Some}
 use Rattle.joint_machine.specs.declared.names.Cycle.{Cycle}
 use Rattle.joint_machine.specs.Control.{OpenSnap}
 use Rattle.joint_machine.specs.Managed.{Managed, OpenCycle}
-use Rattle.joint_laws.specs.ManagedInvariants.{IsManagedKept}
+use Rattle.joint_laws.specs.ManagedInvariants.{ManagedInvariant}
 use Rattle.known_laws.specs.Facts.{opened_of}
 use Rattle.known_laws.specs.Pasts.{HasSameDeadPart, end_of}
 use Rattle.bridge_graph.specs.Parts.{IsPart, Part}
@@ -19,7 +19,7 @@ pub record IsOpenPart (v : View) (k : Cycle) (g : Part) : Type 0 where
   pub driven : opened_of (end_of known.known.past).control.stand ≡ Some opened
   pub number : opened.cycle ≡ k.0
   pub seen : Managed
-  pub kept : IsManagedKept seen
+  pub kept : ManagedInvariant seen
   pub same : HasSameDeadPart seen (end_of known.known.past).managed.managed
   pub cycle : OpenCycle
   pub open_cycle : seen.cycle ≡ Some cycle

@@ -24,7 +24,7 @@ use Rattle.joint_machine.proofs.Deciding.{none_some, true-false}
 use Rattle.joint_machine.proofs.HeapLemmas.{adopt_by-managed}
 use Rattle.joint_machine.proofs.Joining.{slice_get-set_same}
 use Rattle.joint_machine.proofs.Members.{Contains-nil}
-use Rattle.joint_laws.specs.ManagedInvariants.{IsReplayKept}
+use Rattle.joint_laws.specs.ManagedInvariants.{ReplayInvariant}
 use Rattle.joint_laws.proofs.KeptPins.{weak_by}
 use Rattle.joint_laws.proofs.ManagedEntries.{ManagedStep-entry}
 use Rattle.joint_laws.proofs.ManagedMoves.{managed_line-goes_on, adopted-goes_on, met-goes_on, given_up-goes_on}
@@ -196,7 +196,7 @@ abbrev pub IsSnap : Op → Type 0
 IsSnap (op.Snap k) = Unit {0}
 IsSnap _ = ⊥
 
-event-cycles : (s : ManagedReplay) (t : Thread) (o : Op) (told : Told) → (IsSnap o → ⊥) → IsReplayKept s → (managed_answer s t o told).state.managed.cycles ≡ s.managed.cycles
+event-cycles : (s : ManagedReplay) (t : Thread) (o : Op) (told : Told) → (IsSnap o → ⊥) → ReplayInvariant s → (managed_answer s t o told).state.managed.cycles ≡ s.managed.cycles
 event-cycles s t (op.Line a) told q k = (managed_line-goes_on s.managed (thread_number t) a k.managed.places k.managed.cells).cycles
 event-cycles s t (op.Adopt v kind n p h) told q k =
     let a = adopted s.managed (place (thread_number t) v.0) kind n h.0 in
@@ -217,11 +217,11 @@ event-cycles s t (op.Refused r) (phase_of phase) q k = refl
 event-cycles s t (op.Refused r) told q k = refl
 event-cycles s t o told q k = refl
 
-side-cycles : (s : ManagedReplay) (m : Made) (told : Told) (b : Bool) (o : Op) → m.op ≡ o → (IsSnap o → ⊥) → IsReplayKept s → (managed_after s m told b).managed.cycles ≡ s.managed.cycles
+side-cycles : (s : ManagedReplay) (m : Made) (told : Told) (b : Bool) (o : Op) → m.op ≡ o → (IsSnap o → ⊥) → ReplayInvariant s → (managed_after s m told b).managed.cycles ≡ s.managed.cycles
 side-cycles s m told true o e q k = refl
 side-cycles s m told false o e q k = event-cycles s m.caller m.op told (λ z. q (subst IsSnap e z)) k
 
-snap-here : (s : Linkage) (n : Noted) → ComesBehind (is_read n.entry.made.op) s n → IsReplayKept s.managed → (k : ℕ)
+snap-here : (s : Linkage) (n : Noted) → ComesBehind (is_read n.entry.made.op) s n → ReplayInvariant s.managed → (k : ℕ)
     → k ≤ (entry_after s n).managed.managed.cycles → (k ≤ s.managed.managed.cycles) ⊎ (n.entry.made.op ≡ op.Snap record { 0 = k })
 snap-here s n w p k l = by (is_read n.entry.made.op) refl
   where
@@ -242,7 +242,7 @@ snap-here s n w p k l = by (is_read n.entry.made.op) refl
     by true f = inl (let e = ap (λ (z : Linkage). z.managed.managed.cycles) (after-read s n f) in omega (arith, l, e))
     by false f = named n.entry.made.op refl f
 
-pub cycles-on : (s : Linkage) (n : Noted) → ComesBehind (is_read n.entry.made.op) s n → IsReplayKept s.managed
+pub cycles-on : (s : Linkage) (n : Noted) → ComesBehind (is_read n.entry.made.op) s n → ReplayInvariant s.managed
     → (IsSnap n.entry.made.op → ⊥) → (entry_after s n).managed.managed.cycles ≡ s.managed.managed.cycles
 cycles-on s n w p q = by (is_read n.entry.made.op) refl
   where
@@ -268,7 +268,7 @@ snap-of (x ∷ past) w r k a l = elim (snap-here (state_of past) x w.0 (kept pas
 ]
 
 -- what is freed at a state some entry before it freed
-event-freed : (s : ManagedReplay) (t : Thread) (o : Op) (told : Told) (x : ℕ) → ManagedAllows s o told → IsReplayKept s
+event-freed : (s : ManagedReplay) (t : Thread) (o : Op) (told : Told) (x : ℕ) → ManagedAllows s o told → ReplayInvariant s
     → Contains (managed_answer s t o told).state.managed.heap.freed x → Contains s.managed.heap.freed x ⊎ FreesObject told x
 event-freed s t (op.Snap n) (snap_of freed c d) x a k i = Contains-append_cases s.managed.heap.freed freed x i
 event-freed s t (op.Resolve n) (resolution_of y freed) x a k i = Contains-append_cases s.managed.heap.freed freed x i
@@ -276,7 +276,7 @@ event-freed s t o (snap_of freed c d) x a k i = absurd a
 event-freed s t o (resolution_of y freed) x a k i = absurd a
 event-freed s t o told x a k i = inl (subst (λ z. Contains z x) (managed-none s t o told tt k) i)
 
-side-freed : (s : Linkage) (m : Made) (told : Told) (x : ℕ) (b : Bool) → SideLawful b s m told → IsReplayKept s.managed
+side-freed : (s : Linkage) (m : Made) (told : Told) (x : ℕ) (b : Bool) → SideLawful b s m told → ReplayInvariant s.managed
     → Contains (managed_after s.managed m told b).managed.heap.freed x → Contains s.managed.managed.heap.freed x ⊎ FreesObject told x
 side-freed s m told x true l k i = inl i
 side-freed s m told x false l k i = event-freed s.managed m.caller m.op told x l.allowed k i

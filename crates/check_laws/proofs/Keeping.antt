@@ -29,15 +29,15 @@ use Rattle.joint_machine.specs.Run.{thread_number}
 use Rattle.joint_machine.specs.Told.{Told, Noted, nothing, snap_of, contraction_of, resolution_of, phase_of}
 use Rattle.joint_machine.proofs.HeapLemmas.{adopt_by-managed}
 use Rattle.joint_machine.proofs.Numbered.{slot-Contains}
-use Rattle.joint_laws.specs.ManagedInvariants.{IsReplayKept}
-use Rattle.joint_laws.proofs.Adopting.{IsReplayKept-opening}
+use Rattle.joint_laws.specs.ManagedInvariants.{ReplayInvariant}
+use Rattle.joint_laws.proofs.Adopting.{ReplayInvariant-opening}
 use Rattle.joint_laws.proofs.KeptPins.{weak_by, take_by}
-use Rattle.joint_laws.proofs.ManagedEntries.{IsReplayKept-entry, ManagedStep-entry}
+use Rattle.joint_laws.proofs.ManagedEntries.{ReplayInvariant-entry, ManagedStep-entry}
 use Rattle.joint_laws.proofs.ManagedMoves.{met_by}
 use Rattle.joint_laws.proofs.ManagedSteps.{ManagedStep, going_on, snapping, resolving, abandoning, meet_by-managed, give_by-managed}
 use Rattle.joint_laws.proofs.ReadingsGoneAfter.{entry-by}
 use Rattle.joint_laws.proofs.ReadsAside.{read-filled}
-use Rattle.joint_laws.proofs.ReplayKeeping.{IsReplayKept-step}
+use Rattle.joint_laws.proofs.ReplayKeeping.{ReplayInvariant-step}
 use Rattle.known_laws.specs.PastEntries.{InPast}
 use Rattle.check_laws.specs.Behind.{state_of}
 use Rattle.check_laws.specs.Reads.{ComesBehind, AllComeBehind}
@@ -61,19 +61,19 @@ aside-pins : (pins : List (Option ℕ)) (t : ℕ) (r : Reply) → is_set_aside r
 aside-pins pins t (says.M m) e = absurd (let f : false ≡ true = e in cc)
 aside-pins pins t _ e = refl
 
-module _ (s : ManagedReplay) (t : Thread) (r : Reply) (k : IsReplayKept s) where
+module _ (s : ManagedReplay) (t : Thread) (r : Reply) (k : ReplayInvariant s) where
   abbrev Filled : Type 0
-  Filled = IsReplayKept (record s { managed = record s.managed { pins = pins_after s.managed.pins (thread_number t) r } })
+  Filled = ReplayInvariant (record s { managed = record s.managed { pins = pins_after s.managed.pins (thread_number t) r } })
 
   aside-kept : is_set_aside r ≡ true → Filled
-  aside-kept e = subst (λ p. IsReplayKept (record s { managed = record s.managed { pins = p } })) (sym (aside-pins s.managed.pins (thread_number t) r e)) k
+  aside-kept e = subst (λ p. ReplayInvariant (record s { managed = record s.managed { pins = p } })) (sym (aside-pins s.managed.pins (thread_number t) r e)) k
 
   module _ (a : Act) (c : ℕ) (same : managed_line s.managed (thread_number t) a ≡ read_cell s.managed (thread_number t) c) where
     stand-kept : r ≡ (read_cell s.managed (thread_number t) c).reply → Filled
     stand-kept e =
-        subst (λ q. IsReplayKept (record s { managed = record s.managed { pins = pins_after s.managed.pins (thread_number t) q } })) (sym e)
-        (subst (λ m. IsReplayKept (record s { managed = m })) (read-filled s.managed (thread_number t) c)
-        (subst (λ (z : Answered Managed). IsReplayKept (record s { managed = z.state })) same (IsReplayKept-step s t (op.Line a) nothing k tt)))
+        subst (λ q. ReplayInvariant (record s { managed = record s.managed { pins = pins_after s.managed.pins (thread_number t) q } })) (sym e)
+        (subst (λ m. ReplayInvariant (record s { managed = m })) (read-filled s.managed (thread_number t) c)
+        (subst (λ (z : Answered Managed). ReplayInvariant (record s { managed = z.state })) same (ReplayInvariant-step s t (op.Line a) nothing k tt)))
 
     line-kept : (is_set_aside r ≡ false → r ≡ (read_cell s.managed (thread_number t) c).reply) → Filled
     line-kept w = by (is_set_aside r) refl
@@ -87,15 +87,15 @@ module _ (s : ManagedReplay) (t : Thread) (r : Reply) (k : IsReplayKept s) where
   read-kept (op.Line (act.Await c)) e w = line-kept (act.Await c) c.0 refl (λ f. w f c.0 refl)
   read-kept o e w = absurd (let f : false ≡ true = e in cc)
 
-pub kept-on : (s : Linkage) (n : Noted) → ComesBehind (is_read n.entry.made.op) s n → Stands s n → IsReplayKept s.managed → IsReplayKept (entry_after s n).managed
+pub kept-on : (s : Linkage) (n : Noted) → ComesBehind (is_read n.entry.made.op) s n → Stands s n → ReplayInvariant s.managed → ReplayInvariant (entry_after s n).managed
 kept-on s n w r k = by (is_read n.entry.made.op) refl w
   where
-    by : (b : Bool) → is_read n.entry.made.op ≡ b → ComesBehind b s n → IsReplayKept (entry_after s n).managed
-    by true e w = subst (λ (z : Linkage). IsReplayKept z.managed) (sym (after-read s n e)) (read-kept s.managed n.entry.made.caller n.entry.made.reply k n.entry.made.op e r)
-    by false e w = subst (λ (z : Linkage). IsReplayKept z.managed) (sym (after-other s n e)) (IsReplayKept-entry s n w k)
+    by : (b : Bool) → is_read n.entry.made.op ≡ b → ComesBehind b s n → ReplayInvariant (entry_after s n).managed
+    by true e w = subst (λ (z : Linkage). ReplayInvariant z.managed) (sym (after-read s n e)) (read-kept s.managed n.entry.made.caller n.entry.made.reply k n.entry.made.op e r)
+    by false e w = subst (λ (z : Linkage). ReplayInvariant z.managed) (sym (after-other s n e)) (ReplayInvariant-entry s n w k)
 
-pub kept : (past : List Noted) → AllComeBehind past → AllStand past → IsReplayKept (state_of past).managed
-kept [] w r = IsReplayKept-opening
+pub kept : (past : List Noted) → AllComeBehind past → AllStand past → ReplayInvariant (state_of past).managed
+kept [] w r = ReplayInvariant-opening
 kept (n ∷ past) w r = kept-on (state_of past) n w.0 r.0 (kept past w.1 r.1)
 
 -- what an event does to the cells
@@ -219,7 +219,7 @@ grows s t (resolving p) = (
 )
 grows s t (abandoning p) = (λ x f. subst (λ (z : Managed). Contains z.heap.freed x) (sym p.is) f, (let e = ap (λ (z : Managed). z.cycles) p.is in omega arith))
 
-pub since-entry : (s : Linkage) (n : Noted) → MayCome s n → IsReplayKept s.managed → Since s.managed.managed (linkage_after s n).managed.managed
+pub since-entry : (s : Linkage) (n : Noted) → MayCome s n → ReplayInvariant s.managed → Since s.managed.managed (linkage_after s n).managed.managed
 since-entry s n w k = record {
   stay = λ c x e. elim (sets.1 c) [ inl q ↦ q ∙ e | inr q ↦ absurd (let f = sym q.1 ∙ e in cc) ];
   was_live = λ c x e. elim (sets.1 c) [
@@ -240,7 +240,7 @@ since-entry s n w k = record {
     g : ((x : ℕ) → Contains s.managed.managed.heap.freed x → Contains (linkage_after s n).managed.managed.heap.freed x) × (s.managed.managed.cycles ≤ (linkage_after s n).managed.managed.cycles)
     g = grows s.managed.managed (linkage_after s n).managed.managed (ManagedStep-entry s n w k)
 
-pub since-on : (s : Linkage) (n : Noted) → ComesBehind (is_read n.entry.made.op) s n → IsReplayKept s.managed → Since s.managed.managed (entry_after s n).managed.managed
+pub since-on : (s : Linkage) (n : Noted) → ComesBehind (is_read n.entry.made.op) s n → ReplayInvariant s.managed → Since s.managed.managed (entry_after s n).managed.managed
 since-on s n w k = by (is_read n.entry.made.op) refl w
   where
     by : (b : Bool) → is_read n.entry.made.op ≡ b → ComesBehind b s n → Since s.managed.managed (entry_after s n).managed.managed
@@ -363,7 +363,7 @@ abandon-open s m told o k e f l = by told (subst (λ z. SideLawful (is_peer_even
     by nothing w = (w.allowed.0, w.allowed.1.0, w.allowed.1.1)
     by _ w = absurd w.allowed
 
-pub end-is : (s : Linkage) (n : Noted) (k : ℕ) → ComesBehind (is_read n.entry.made.op) s n → IsReplayKept s.managed → Ends n.entry.made.op k → k ≡ s.managed.managed.cycles
+pub end-is : (s : Linkage) (n : Noted) (k : ℕ) → ComesBehind (is_read n.entry.made.op) s n → ReplayInvariant s.managed → Ends n.entry.made.op k → k ≡ s.managed.managed.cycles
 end-is s n k w p (inl e) = (let c = resolve-open s n.entry.made n.told n.entry.made.op k refl e (comes-other s n _ e refl w).lawful in let l = (p.managed.dead c.0 c.1).latest in sym c.2 ∙ l)
 end-is s n k w p (inr e) = (let c = abandon-open s n.entry.made n.told n.entry.made.op k refl e (comes-other s n _ e refl w).lawful in let l = (p.managed.dead c.0 c.1).latest in sym c.2 ∙ l)
 

@@ -10,14 +10,14 @@ use Rattle.joint_machine.specs.Linked.{Linkage, MayCome, SideLawful, linkage_aft
 use Rattle.joint_machine.specs.ManagedReplay.{ManagedReplay, managed_answer}
 use Rattle.joint_machine.specs.Readers.{ReaderMayCome, entry_after}
 use Rattle.joint_machine.specs.Told.{Noted, kept_pins}
-use Rattle.joint_laws.specs.ManagedInvariants.{IsManagedKept}
-use Rattle.known_laws.specs.Driving.{IsPastKept}
+use Rattle.joint_laws.specs.ManagedInvariants.{ManagedInvariant}
+use Rattle.known_laws.specs.Driving.{PastInvariant}
 use Rattle.known_laws.specs.Known.{pinned, given, without_pins, PinsStand, Comes, managed_past, past_after}
 use Rattle.known_laws.specs.PastEntries.{TellsPlainly}
 use Rattle.known_laws.specs.Pasts.{next_of}
 use Rattle.known_laws.proofs.Bared.{unpinned_told, plain_told, plain_pins, plain_read}
 use Rattle.known_laws.proofs.Coming.{peer_reads_none}
-use Rattle.known_laws.proofs.KnownPasts.{known_past_is_kept}
+use Rattle.known_laws.proofs.KnownPasts.{past_invariant_holds}
 use Rattle.known_laws.proofs.Later.{reads_leave}
 use Rattle.known_laws.proofs.Pinned.{none_stand, own_stand}
 use Rattle.known_laws.proofs.Unpinned.{answers_same, allows_same, turn_same}
@@ -140,7 +140,7 @@ module _ (s : Linkage) (n : Noted) where
 
   -- one with which pins are kept
   module _ (e : is_read n.entry.made.op ≡ false) (f : is_pinned n.entry.made.op ≡ true) (w : MayCome s n)
-      (plain : TellsPlainly s.control.stand n.entry.made.op n.told) (k : IsManagedKept s.managed.managed) where
+      (plain : TellsPlainly s.control.stand n.entry.made.op n.told) (k : ManagedInvariant s.managed.managed) where
     abbrev pinned-note : Noted
     pinned-note = record { entry = n.entry; told = kept_pins s.managed.managed.pins n.told }
 
@@ -169,7 +169,7 @@ record Step (s : Linkage) (n : Noted) : Type 0 where
   known : Known s n note
 
 step : (h : Finished) (past : List Noted) (n : Noted) → ComesBehind (is_read n.entry.made.op) (state_of past) n
-    → RepliesBehind (is_read n.entry.made.op) h past n → IsManagedKept (state_of past).managed.managed → Step (state_of past) n
+    → RepliesBehind (is_read n.entry.made.op) h past n → ManagedInvariant (state_of past).managed.managed → Step (state_of past) n
 step h past n w q k = by (is_read n.entry.made.op) (is_pinned n.entry.made.op) refl refl w q
   where
     by : (b p : Bool) → is_read n.entry.made.op ≡ b → is_pinned n.entry.made.op ≡ p → ComesBehind b (state_of past) n → RepliesBehind b h past n → Step (state_of past) n
@@ -211,4 +211,4 @@ knows h (n ∷ past) p o =
 pub pasts_known : PastsInOrderAreKnown
 pasts_known h past numbers o =
     let k = (knows h past (in_place past numbers) o).is in
-    record { is = k; kept = subst IsPastKept k.ends (known_past_is_kept k.known k.lawful) }
+    record { is = k; kept = subst PastInvariant k.ends (past_invariant_holds k.known k.lawful) }

@@ -33,8 +33,8 @@ use Rattle.joint_machine.specs.Readers.{ReadsCell, is_set_aside, is_managed_entr
 use Rattle.joint_machine.specs.Run.{thread_number}
 use Rattle.joint_machine.specs.Told.{Told, Answer, Noted, nothing, snap_of, contraction_of, sweep_of, resolution_of, phase_of}
 use Rattle.joint_machine.proofs.HeapLemmas.{adopt_by-managed}
-use Rattle.joint_laws.specs.ManagedInvariants.{IsReplayKept}
-use Rattle.joint_laws.specs.PeerInvariants.{IsPeerKept}
+use Rattle.joint_laws.specs.ManagedInvariants.{ReplayInvariant}
+use Rattle.joint_laws.specs.PeerInvariants.{PeerInvariant}
 use Rattle.joint_laws.specs.Spans.{IsStretch, TakesNamed, TellsNamed}
 use Rattle.joint_laws.proofs.JointSteps.{may-end}
 use Rattle.joint_laws.proofs.KeptPins.{weak_by, take_by}
@@ -146,7 +146,7 @@ managed-peers s (op.Line x) (sweep_of f) a = a
 managed-peers s o (sweep_of f) a = a
 managed-peers s o _ a = tt
 
-pub managed-none : (s : ManagedReplay) (t : Thread) (o : Op) (told : Told) → NoObjects told → IsReplayKept s → (managed_answer s t o told).state.managed.heap.freed ≡ s.managed.heap.freed
+pub managed-none : (s : ManagedReplay) (t : Thread) (o : Op) (told : Told) → NoObjects told → ReplayInvariant s → (managed_answer s t o told).state.managed.heap.freed ≡ s.managed.heap.freed
 managed-none s t (op.Line a) told w k = (managed_line-goes_on s.managed (thread_number t) a k.managed.places k.managed.cells).freed
 managed-none s t (op.Adopt v kind n p h) told w k =
     let a = adopted s.managed (place (thread_number t) v.0) kind n h.0 in
@@ -185,7 +185,7 @@ module _ (ms ps : List ℕ) (s : Linkage) (t : Thread) (l : ℕ) (reply : Reply)
   abbrev peers_before : List ℕ
   peers_before = s.peer.peers.heap.freed
 
-  none-adds : (o : Op) (told : Told) → NoObjects told → IsReplayKept s.managed → TellsNamed ms ps reply told
+  none-adds : (o : Op) (told : Told) → NoObjects told → ReplayInvariant s.managed → TellsNamed ms ps reply told
       → Adds before (managed_answer s.managed t o told).state.managed.heap.freed ms (objects_in reply)
   none-adds o told n k w = adds-none _ _ _ _ (managed-none s.managed t o told n k) (told-objects ms ps reply told w n)
 
@@ -203,7 +203,7 @@ module _ (ms ps : List ℕ) (s : Linkage) (t : Thread) (l : ℕ) (reply : Reply)
       let same : freed ≡ x.freed = ap (frees-of []) x.is in
       record { more = freed; after = is; many = ap objects_in r; named = inr (subst (λ z. IsStretch ms (record { first = length before; count = length freed }) z) (sym same) x.stands) }
 
-  managed-adds : (o : Op) (told : Told) → ManagedLawful s.managed (made o) told → IsReplayKept s.managed
+  managed-adds : (o : Op) (told : Told) → ManagedLawful s.managed (made o) told → ReplayInvariant s.managed
       → TellsNamed ms ps reply told → Adds before (managed_answer s.managed t o told).state.managed.heap.freed ms (objects_in reply)
   managed-adds (op.Snap n) (snap_of freed candidates dead) v k w = snap-adds freed candidates dead _ refl v.replies w
   managed-adds (op.Resolve n) (resolution_of alive freed) v k w = resolve-adds alive freed _ refl v.replies w
@@ -211,7 +211,7 @@ module _ (ms ps : List ℕ) (s : Linkage) (t : Thread) (l : ℕ) (reply : Reply)
   managed-adds o (resolution_of alive freed) v k w = absurd v.allowed
   managed-adds o told v k w = none-adds o told tt k w
 
-  objects-add : (o : Op) (told : Told) (b : Bool) → SideLawful b s (made o) told → IsReplayKept s.managed
+  objects-add : (o : Op) (told : Told) (b : Bool) → SideLawful b s (made o) told → ReplayInvariant s.managed
       → TellsNamed ms ps reply told → Adds before (managed_after s.managed (made o) told b).managed.heap.freed ms (objects_in reply)
   objects-add o told true v k w = adds-none _ _ _ _ refl (told-objects ms ps reply told w (peer-objects s.peer t o cites told v.allowed))
   objects-add o told false v k w = managed-adds o told v k w
@@ -265,7 +265,7 @@ peer-peers s t o cites (sweep_of f) q a = a
 peer-peers s t o cites _ q a = tt
 
 module _ (ms ps : List ℕ) (s : Linkage) (n : Noted) (w : TellsNamed ms ps n.entry.made.reply n.told) where
-  entry-objects : MayCome s n → IsReplayKept s.managed → Adds s.managed.managed.heap.freed (linkage_after s n).managed.managed.heap.freed ms (objects_in n.entry.made.reply)
+  entry-objects : MayCome s n → ReplayInvariant s.managed → Adds s.managed.managed.heap.freed (linkage_after s n).managed.managed.heap.freed ms (objects_in n.entry.made.reply)
   entry-objects m k = objects-add ms ps s n.entry.made.caller n.entry.made.index n.entry.made.reply n.entry.made.cites n.entry.made.op n.told
       (is_peer_event n.entry.made.caller n.entry.made.op) m.lawful k w
 
@@ -273,7 +273,7 @@ module _ (ms ps : List ℕ) (s : Linkage) (n : Noted) (w : TellsNamed ms ps n.en
   side-peers true e q v = peer-peers s.peer n.entry.made.caller n.entry.made.op n.entry.made.cites n.told q v.allowed
   side-peers false e q v = managed-peers s.managed n.entry.made.op n.told v.allowed
 
-  entry-peers : MayCome s n → IsPeerKept s.peer → Adds s.peer.peers.heap.freed (linkage_after s n).peer.peers.heap.freed ps (peers_in n.entry.made.reply)
+  entry-peers : MayCome s n → PeerInvariant s.peer → Adds s.peer.peers.heap.freed (linkage_after s n).peer.peers.heap.freed ps (peers_in n.entry.made.reply)
   entry-peers m k = elim (sweep-or n.entry.made.op) [
     | inl e ↦ swept e
     | inr q ↦ adds-none _ _ _ _ (entry-freed s n k q) (told-peers ms ps n.entry.made.reply n.told w (side-peers (is_peer_event n.entry.made.caller n.entry.made.op) refl q m.lawful))

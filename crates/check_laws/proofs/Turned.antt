@@ -8,11 +8,11 @@ use Rattle.joint_machine.specs.Linked.{Linkage, opening_linkage}
 use Rattle.joint_machine.specs.Replaying.{replayed}
 use Rattle.joint_machine.specs.Readers.{ReadsCell, IsReadReply, EntryMayCome, replayed_reading, AllMayComeReading}
 use Rattle.joint_machine.specs.Told.{Noted}
-use Rattle.joint_laws.specs.PeerInvariants.{IsPeerKept}
+use Rattle.joint_laws.specs.PeerInvariants.{PeerInvariant}
 use Rattle.joint_laws.specs.ReadingLaws.{IsLawfulReading, without_aside}
 use Rattle.joint_laws.specs.States.{state_at}
 use Rattle.joint_laws.proofs.Everywhere.{everywhere}
-use Rattle.joint_laws.proofs.LinkedEntries.{Of, AreKept-entry, AreKept-opening}
+use Rattle.joint_laws.proofs.LinkedEntries.{Of, BothInvariants-entry, BothInvariants-opening}
 use Rattle.joint_laws.proofs.ReadsAside.{reading_is_lawful, reading_leads_to_same}
 use Rattle.known_laws.specs.PastEntries.{entries, turned}
 use Rattle.check_laws.specs.Behind.{in_turn, state_of, RepliesBehind, IsInOrderBehind, AllInOrder}
@@ -68,13 +68,13 @@ ends-onto [] acc = refl
 ends-onto (n ∷ past) acc = ends-onto past (n ∷ acc)
 
 -- the peers are kept at the end of such a past
-pub peers-kept : (whole : List Noted) (cells : List (Option ℕ)) (past : List Noted) → AllComeBehind past → AllReadOver whole cells past → IsPeerKept (state_of past).peer
+pub peers-kept : (whole : List Noted) (cells : List (Option ℕ)) (past : List Noted) → AllComeBehind past → AllReadOver whole cells past → PeerInvariant (state_of past).peer
 peers-kept whole cells past w r =
     let l : IsLawfulReading (in_turn past) = (whole, cells, lawful-turned whole cells past w r) in
     let may = reading_is_lawful (in_turn past) l in
     let standing = without_aside (in_turn past) in
-    let k = (everywhere Of AreKept-opening AreKept-entry standing may (length standing)).peer in
+    let k = (everywhere Of BothInvariants-opening BothInvariants-entry standing may (length standing)).peer in
     let same : (state_at standing (length standing)).peer ≡ (state_of past).peer =
     ap (λ ns. (replayed opening_linkage ns).peer) (take_all (length standing) standing (omega arith))
     ∙ (sym (reading_leads_to_same (in_turn past) l).peer ∙ ap (λ (z : Linkage). z.peer) (ends-onto past [])) in
-    subst IsPeerKept same k
+    subst PeerInvariant same k

@@ -4,7 +4,7 @@ use Rattle.std.specs.Prelude.{◌≡◌, List}
 use Rattle.joint_machine.specs.Histories.{Finished, NumberedFrom}
 use Rattle.joint_machine.specs.Told.{Noted}
 use Rattle.joint_machine.specs.PinsTold.{no_pins}
-use Rattle.known_laws.specs.Driving.{IsPastKept}
+use Rattle.known_laws.specs.Driving.{PastInvariant}
 use Rattle.known_laws.specs.PastEntries.{entries}
 use Rattle.known_laws.specs.Known.{pinned}
 use Rattle.known_laws.specs.Pasts.{Lawful, end_of}
@@ -20,7 +20,7 @@ pub record IsKnown (past : List Noted) : Type 0 where
 -- and what it keeps
 pub record AreKnown (past : List Noted) : Type 0 where
   pub is : IsKnown past
-  pub kept : IsPastKept (pinned (state_of past) no_pins)
+  pub kept : PastInvariant (pinned (state_of past) no_pins)
 
 abbrev pub PastsInOrderAreKnown : Type 0
 PastsInOrderAreKnown = (h : Finished) (past : List Noted)

@@ -10,7 +10,7 @@ use Rattle.joint_machine.specs.Managed.{Managed, OpenCycle, handle_of, candidate
 use Rattle.joint_machine.proofs.HeapLemmas.{candidates_of-open}
 use Rattle.joint_machine.proofs.Members.{All-members, Contains-at, Contains-cons_cases, Contains-flat_map, Contains-flat_map_cases, Contains-here, Contains-map, Contains-nil, Contains-there}
 use Rattle.joint_machine.proofs.Members.{Rises-one, at-Contains}
-use Rattle.joint_laws.specs.ManagedInvariants.{IsManagedKept}
+use Rattle.joint_laws.specs.ManagedInvariants.{ManagedInvariant}
 use Rattle.bridge_graph.specs.declared.graph.Node.{Node}
 use Rattle.bridge_graph.specs.Parts.{Part, IsPart, numbers_of}
 use Rattle.managed_heap.specs.Graphs.{IsDeadGraph, handle_number}
@@ -73,7 +73,7 @@ rises : (ns : List Node) → Rises (numbers_of ns) → Rises (rows_of ns)
 rises [] r = tt
 rises (n ∷ ns) r = rises_first n ns n.handle r (rises ns r.1)
 
-module _ (s : Managed) (c : OpenCycle) (g : Part) (k : IsManagedKept s) (opened : s.cycle ≡ Some c) (p : IsPart g.nodes g.edges) (d : IsDeadGraph s c.dead g) where
+module _ (s : Managed) (c : OpenCycle) (g : Part) (k : ManagedInvariant s) (opened : s.cycle ≡ Some c) (p : IsPart g.nodes g.edges) (d : IsDeadGraph s c.dead g) where
   number_is : (x : ℕ) (n : Node) → slice_get g.nodes x ≡ Some n → number_at g x ≡ n.number.0
   number_is x n e = index_get (numbers_of g.nodes) x n.number.0 (get_map (λ (n : Node). n.number.0) g.nodes x n e)
 

@@ -10,13 +10,13 @@ use Rattle.joint_machine.specs.Peers.{strong}
 use Rattle.joint_machine.specs.Told.{Answer}
 use Rattle.joint_laws.specs.LinkedInvariants.{HasStrength}
 use Rattle.joint_laws.proofs.PeerEntries.{peer_of-issued}
-use Rattle.known_laws.specs.Driving.{IsPastKept}
+use Rattle.known_laws.specs.Driving.{PastInvariant}
 use Rattle.known_laws.proofs.Conditions.{targets_are_strong}
 use Rattle.peer_heap.specs.Mirroring.{strong_row}
 use Rattle.peer_heap.specs.Mirrors.{AreTargetsRestored}
 
 -- a strong row of the table isn't cleared
-row_there : (s : Linkage) (h : ℕ) → IsPastKept s → HasStrength s.peer h strong → row_of s.peer h ≡ Some strong_row
+row_there : (s : Linkage) (h : ℕ) → PastInvariant s → HasStrength s.peer h strong → row_of s.peer h ≡ Some strong_row
 row_there s h k st =
     let sure = k.kept.peer.handles.sure h st.0 st.1 st.2 in
     tabled s.peer st.0 st.1 ∙ ap Some (λ i. record { strength = st.2 i; cleared = sure i })
@@ -25,7 +25,7 @@ row_there s h k st =
     tabled r row e = ap (λ (o : Option (Option TableRow)). elim o [ None ↦ None | Some x ↦ x ]) e
 
 -- each unfreed peer that references lead to is restored strong, as the side asks
-pub targets_here : (s : Linkage) → IsPastKept s → (o : OpenSnap) (answers : List Answer)
+pub targets_here : (s : Linkage) → PastInvariant s → (o : OpenSnap) (answers : List Answer)
     → s.control.stand ≡ restoring o answers → length answers ≡ length (candidates_of s.managed.managed) → AreTargetsRestored s.peer
 targets_here s k o answers e all m is p q r =
     let t = targets_are_strong s k o answers e all p q r.reference r.there in

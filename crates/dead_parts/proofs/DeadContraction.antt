@@ -12,7 +12,7 @@ use Rattle.joint_machine.specs.Managed.{Managed, handle_of, IsBridge as IsBridge
 use Rattle.joint_machine.proofs.Deciding.{none_some}
 use Rattle.joint_machine.proofs.HeapLemmas.{Holds-handle_of}
 use Rattle.joint_machine.proofs.Members.{Contains-at, at-Contains}
-use Rattle.joint_laws.specs.ManagedInvariants.{IsManagedKept}
+use Rattle.joint_laws.specs.ManagedInvariants.{ManagedInvariant}
 use Rattle.joint_laws.proofs.DriverPeerSteps.{holds-handle_of}
 use Rattle.bridge_graph.specs.declared.graph.Node.{Node}
 use Rattle.bridge_graph.specs.Parts.{Part, IsBridgeNode, IsPart, NodeLeads, numbers_of}
@@ -47,7 +47,7 @@ held_number : (o : Option HNum) → IsSome o → (h : ℕ) × (handle_number o �
 held_number None is = absurd (cc)
 held_number (Some k) is = (k.0, refl)
 
-module _ (s : Managed) (dead : List ℕ) (g : Part) (k : IsManagedKept s) (p : IsPart g.nodes g.edges) (d : IsDeadGraph s dead g) where
+module _ (s : Managed) (dead : List ℕ) (g : Part) (k : ManagedInvariant s) (p : IsPart g.nodes g.edges) (d : IsDeadGraph s dead g) where
   count : length (numbers_of g.nodes) ≡ length g.nodes
   count = length-map g.nodes (λ (n : Node). n.number.0)
 

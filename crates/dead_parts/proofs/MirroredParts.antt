@@ -20,7 +20,7 @@ use Rattle.joint_machine.proofs.Deciding.{none_some}
 use Rattle.joint_machine.proofs.HeapLemmas.{Holds-handle_of, candidates_of-open}
 use Rattle.joint_machine.proofs.Members.{All-members, Contains-at, Contains-cons_cases, Contains-here, Contains-flat_map, Contains-flat_map_cases, Contains-map, Contains-map_cases, Contains-nil}
 use Rattle.joint_machine.proofs.Members.{Rises-one, at-Contains}
-use Rattle.joint_laws.specs.ManagedInvariants.{IsManagedKept}
+use Rattle.joint_laws.specs.ManagedInvariants.{ManagedInvariant}
 use Rattle.joint_laws.proofs.DriverPeerSteps.{holds-handle_of}
 use Rattle.known_laws.specs.Pasts.{HasSameDeadPart}
 use Rattle.bridge_graph.specs.declared.graph.Node.{Node}
@@ -202,7 +202,7 @@ module _ (t : Managed) (g : Part) (shows : ShowsHandles t g) where
   handle-of-node None h c = absurd (Contains-nil h c)
   handle-of-node (Some k) h c = elim (Contains-cons_cases k [] h c) [ inl e ↦ ap (λ z. Some z) e | inr d ↦ absurd (Contains-nil h d) ]
 
-  module _ (s : Managed) (c : OpenCycle) (graph : IsDeadGraph s c.dead g) (kept : IsManagedKept t) (opened : t.cycle ≡ Some c) where
+  module _ (s : Managed) (c : OpenCycle) (graph : IsDeadGraph s c.dead g) (kept : ManagedInvariant t) (opened : t.cycle ≡ Some c) where
     candidate : (h : HNum) → Contains (handles_of g.nodes) h → (i : ℕ) × IsCandidateHandle t i h.0
     candidate h there =
         let r = Contains-flat_map_cases (λ (n : Node). option_to_list n.handle) g.nodes h there in
@@ -245,7 +245,7 @@ numbers-rise (n ∷ nodes) rise = by n.handle (numbers-rise nodes rise.1)
     by (Some h) r = (All-members (λ y. n.number.0 < y) (bridge-numbers nodes) (λ y c. All-contains (λ y. n.number.0 < y) (numbers_of nodes) y rise.0 (number-among nodes y c)), r)
 
 -- there are as many candidates as handles
-module _ (t : Managed) (g : Part) (shows : ShowsHandles t g) (s : Managed) (c : OpenCycle) (graph : IsDeadGraph s c.dead g) (kept : IsManagedKept t) (opened : t.cycle ≡ Some c) where
+module _ (t : Managed) (g : Part) (shows : ShowsHandles t g) (s : Managed) (c : OpenCycle) (graph : IsDeadGraph s c.dead g) (kept : ManagedInvariant t) (opened : t.cycle ≡ Some c) where
   named-handle : (o : Option HNum) (h : ℕ) → handle_number o ≡ Some h → (k : HNum) × (o ≡ Some k)
   named-handle None h e = absurd (none_some h e)
   named-handle (Some k) h e = (k, refl)

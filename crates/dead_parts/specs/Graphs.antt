@@ -6,7 +6,7 @@ use Rattle.joint_machine.specs.Components.{IsContraction}
 use Rattle.joint_machine.specs.Control.{IsCandidateHandle}
 use Rattle.joint_machine.specs.Cycles.{IsDeadContraction}
 use Rattle.joint_machine.specs.Managed.{Managed, candidates_of}
-use Rattle.joint_laws.specs.ManagedInvariants.{IsManagedKept}
+use Rattle.joint_laws.specs.ManagedInvariants.{ManagedInvariant}
 use Rattle.bridge_graph.specs.declared.graph.Node.{Node}
 use Rattle.bridge_graph.specs.Handles.{handles_of}
 use Rattle.bridge_graph.specs.Parts.{Part, IsBridgeNode, IsPart, NodeLeads, numbers_of}
@@ -28,6 +28,6 @@ pub record AreCandidates (seen : Managed) (nodes : List Node) : Type 0 where
 -- the contraction of a dead part's graph is, by the nodes' numbers, the contraction of the dead part
 abbrev pub GraphsContractionIsDeadParts : Type 0
 GraphsContractionIsDeadParts = (s : Managed) (dead : List ℕ) (g : Part) (comps : List (List ℕ))
-    (heavy : List ℕ) (pairs : List (ℕ × ℕ)) → IsManagedKept s → IsPart g.nodes g.edges → IsDeadGraph s dead g
+    (heavy : List ℕ) (pairs : List (ℕ × ℕ)) → ManagedInvariant s → IsPart g.nodes g.edges → IsDeadGraph s dead g
     → IsContraction (IsBridgeNode g.nodes) (NodeLeads g.edges) comps heavy pairs
     → IsDeadContraction s dead (numbered_comps g comps) (map (number_at g) heavy) pairs

@@ -17,7 +17,7 @@ use Rattle.joint_machine.specs.Replaying.{AllMayCome, replayed}
 use Rattle.joint_machine.specs.LinkedHistories.{linked_end}
 use Rattle.joint_machine.specs.PeerReplay.{is_thread}
 use Rattle.joint_machine.specs.Told.{Noted}
-use Rattle.joint_laws.proofs.LinkedEntries.{Of, AreKept-opening}
+use Rattle.joint_laws.proofs.LinkedEntries.{Of, BothInvariants-opening}
 use Rattle.known_laws.specs.PastEntries.{entries}
 use Rattle.run_summary.specs.declared.tallies.Tally.{Tally}
 use Rattle.run_summary.specs.Tallies.{tally_of}
@@ -101,10 +101,10 @@ module _ (seed size : ℕ) (h : Finished) (small : size ≤ 2800) (w : IsGenerat
   from-opening = subst (λ l. Inv keep opening_linkage (l ++ w.cycle)) (sym parts.3) opening
 
   reached : Inv keep ended_threads w.cycle × Of ended_threads
-  reached = inv-all keep parts.0 opening_linkage w.cycle halves.0 AreKept-opening from-opening
+  reached = inv-all keep parts.0 opening_linkage w.cycle halves.0 BothInvariants-opening from-opening
 
   says : Each SaysIt w.before
-  says = subst (Each SaysIt) parts.3 (inv-says keep parts.0 opening_linkage w.cycle halves.0 AreKept-opening from-opening)
+  says = subst (Each SaysIt) parts.3 (inv-says keep parts.0 opening_linkage w.cycle halves.0 BothInvariants-opening from-opening)
 
   abbrev inv : Inv keep ended_threads w.cycle
   inv = reached.0

@@ -18,7 +18,7 @@ use Rattle.joint_machine.proofs.HeapLemmas.{IsLive-before, IsLive-spared}
 use Rattle.joint_machine.proofs.Members.{Contains-nil, Contains-cons_cases, Contains-at, at-Contains, Contains-decided}
 use Rattle.joint_machine.proofs.Numbered.{numbered-within}
 use Rattle.joint_machine.proofs.WalkLemmas.{Reached-keeps, Reaches-keeps}
-use Rattle.joint_laws.specs.LinkedInvariants.{IsDriverKept, IsInMarking, IsRowOf, given_at}
+use Rattle.joint_laws.specs.LinkedInvariants.{DriverInvariant, IsInMarking, IsRowOf, given_at}
 use Rattle.joint_laws.specs.PeerInvariants.{IsIssued, IsTabled}
 use Rattle.joint_laws.proofs.DeadMirrors.{mirror_edge-managed}
 use Rattle.joint_laws.proofs.DriverSteps.{replaced, strength-one}
@@ -156,7 +156,7 @@ module _ (minds : ℕ → Mind) (fills : ℕ → Filled) (groups : List (Option 
         start z (inr (inr a)) = absurd (Contains-nil z (subst (λ l. Contains l z) none a))
 
     -- behind the resolution
-    pub resolved-left : (o : OpenSnap) (answers : List Answer) (clear : ℕ) (d : IsDriverKept s.managed s.peer (restored o answers clear))
+    pub resolved-left : (o : OpenSnap) (answers : List Answer) (clear : ℕ) (d : DriverInvariant s.managed s.peer (restored o answers clear))
         → Rest sm → PeersLeft sp → (c : ℕ) (freed : List ℕ) → MayResolve s.managed c answers freed
         → (x : ℕ) → IsLive (with_freed sm.heap freed) x → Contains (rows_of groups) x
     resolved-left o answers clear d rest left c freed a x l = elim (Contains-decided a.cycle.dead x) [

@@ -23,7 +23,7 @@ use Rattle.joint_machine.proofs.HeapLemmas.{candidates_of-open}
 use Rattle.joint_machine.proofs.Members.{Contains-at, Contains-cons_cases, Contains-decided, Contains-here, Contains-nil, Contains-there}
 use Rattle.joint_machine.proofs.Numbered.{numbered-within, slot-Contains}
 use Rattle.joint_machine.proofs.WalkLemmas.{Reaches-self}
-use Rattle.joint_laws.specs.LinkedInvariants.{IsDriverKept, IsReplaced, IsRestored, given_at}
+use Rattle.joint_laws.specs.LinkedInvariants.{DriverInvariant, IsReplaced, IsRestored, given_at}
 use Rattle.joint_laws.specs.ManagedInvariants.{IsCutOff}
 use Rattle.joint_laws.proofs.DriverSteps.{replaced}
 use Rattle.joint_laws.proofs.FreedLists.{grows-Contains, peers-grow}
@@ -226,7 +226,7 @@ module _ (minds : ℕ → Mind) (fills : ℕ → Filled) (groups : List (Option 
     }
 
   resolve-by : (c : Cycle) (told : Told) (d : Stand) → s.control.stand ≡ d → SideLawful false s (entry C line (op.Resolve c) r cites) told
-      → Allowed (op.Resolve c) told d → IsDriverKept s.managed s.peer d → MayCome s (the (op.Resolve c) told)
+      → Allowed (op.Resolve c) told d → DriverInvariant s.managed s.peer d → MayCome s (the (op.Resolve c) told)
       → AreShown minds fills groups (after (op.Resolve c) told)
   resolve-by c (resolution_of said freed) (restored q answers clear) now l al dk may =
       let given : given_at s.control.stand ≡ said = ap given_at now ∙ sym al.2 in

@@ -29,8 +29,8 @@ use Rattle.joint_machine.specs.Told.{Told, Noted, handles_given, snap_of, contra
 use Rattle.joint_machine.proofs.Deciding.{some-same, test-cases}
 use Rattle.joint_machine.proofs.HeapLemmas.{IsLive-before, IsLive-spared}
 use Rattle.joint_machine.proofs.Members.{Contains-nil}
-use Rattle.joint_laws.specs.LinkedInvariants.{IsDriverKept, given_at}
-use Rattle.joint_laws.proofs.LinkedEntries.{Of, entry, AreKept-entry}
+use Rattle.joint_laws.specs.LinkedInvariants.{DriverInvariant, given_at}
+use Rattle.joint_laws.proofs.LinkedEntries.{Of, entry, BothInvariants-entry}
 use Rattle.known_laws.specs.PastEntries.{entries}
 use Rattle.script_laws.specs.Holding.{Standing, AreEvents, AreWord, AreOnLine, AreLine}
 use Rattle.generated_laws.proofs.Totals.{Each}
@@ -65,7 +65,7 @@ module _ (minds : ℕ → Mind) (fills : ℕ → Filled) (groups : List (Option 
     -- the begin of the own marking
     begin-marks : (told : Told) (d : Stand) (j : ℕ) (q : OpenSnap) → ((h : ℕ) → Contains (handles_given (given_at (after op.Begin told).control.stand)) h → ⊥)
         → r ≡ (begun s.peer s.peer.marking C).reply → r ≡ says.Mark record { 0 = j } → IsSettled minds fills groups (after op.Begin told) → Of (after op.Begin told)
-        → IsDriverKept (after op.Begin told).managed (after op.Begin told).peer (marked q) → Rest minds fills groups s.managed.managed → OnlyMarks minds fills groups (after op.Begin told).peer
+        → DriverInvariant (after op.Begin told).managed (after op.Begin told).peer (marked q) → Rest minds fills groups s.managed.managed → OnlyMarks minds fills groups (after op.Begin told).peer
     begin-marks told d j q unasked e f w' k' d' rest = by s.peer.marking refl
       where
         by : (o : Option Marking) → s.peer.marking ≡ o → OnlyMarks minds fills groups (after op.Begin told).peer
@@ -94,7 +94,7 @@ module _ (minds : ℕ → Mind) (fills : ℕ → Filled) (groups : List (Option 
 
     begin-known : (told : Told) (d : Stand) → s.control.stand ≡ d → r ≡ (begun s.peer s.peer.marking C).reply
         → DriverAllows d s.managed.managed s.peer.peers.issued op.Begin r cites told → IsSettled minds fills groups (after op.Begin told) → Of (after op.Begin told)
-        → IsDriverKept (after op.Begin told).managed (after op.Begin told).peer (stand_after d number op.Begin r told) → Was d → Is op.Begin told d
+        → DriverInvariant (after op.Begin told).managed (after op.Begin told).peer (stand_after d number op.Begin r told) → Was d → Is op.Begin told d
     begin-known told (weakening q count seen sw) now e al w' k' d' kn = (kn, begin-marks told (weakening q count seen sw) (number_in r al) q unasked e (mark-in r al) w' k' d' kn)
       where
         -- no restore of the cycle was asked yet
@@ -111,7 +111,7 @@ module _ (minds : ℕ → Mind) (fills : ℕ → Filled) (groups : List (Option 
     begin-known told _ now e al w' k' d' kn = absurd al
 
     -- its sweep
-    swept-left : (freed : List ℕ) (q : OpenSnap) → SweepAllows s.peer s.peer.marking C (sweep_of freed) → IsDriverKept s.managed s.peer (marked q)
+    swept-left : (freed : List ℕ) (q : OpenSnap) → SweepAllows s.peer s.peer.marking C (sweep_of freed) → DriverInvariant s.managed s.peer (marked q)
         → OnlyMarks minds fills groups s.peer → PeersLeft minds fills groups (swept s.peer s.peer.marking C freed).state.peers
     swept-left freed q al d only =
         let e = d.own in
@@ -125,7 +125,7 @@ module _ (minds : ℕ → Mind) (fills : ℕ → Filled) (groups : List (Option 
         ))))
 
     sweep-known : (told : Told) (d : Stand) → SweepAllows s.peer s.peer.marking C told
-        → DriverAllows d s.managed.managed s.peer.peers.issued op.Sweep r cites told → IsDriverKept s.managed s.peer d → Was d → Is op.Sweep told d
+        → DriverAllows d s.managed.managed s.peer.peers.issued op.Sweep r cites told → DriverInvariant s.managed s.peer d → Was d → Is op.Sweep told d
     sweep-known told (weakening q count seen sw) al da dk kn = kn
     sweep-known (sweep_of freed) (marked q) al da dk kn = (kn.0, swept-left freed q al dk kn.1)
     sweep-known other (marked q) al da dk kn = absurd (subst (λ z. SweepAllows s.peer z C other) dk.own al)
@@ -140,15 +140,15 @@ module _ (minds : ℕ → Mind) (fills : ℕ → Filled) (groups : List (Option 
         by (Some p) = refl
 
     resolve-known : (c : Cycle) (told : Told) (d : Stand) → SideLawful false s (entry C line (op.Resolve c) r cites) told
-        → DriverAllows d s.managed.managed s.peer.peers.issued (op.Resolve c) r cites told → IsDriverKept s.managed s.peer d → Was d → Is (op.Resolve c) told d
+        → DriverAllows d s.managed.managed s.peer.peers.issued (op.Resolve c) r cites told → DriverInvariant s.managed s.peer d → Was d → Is (op.Resolve c) told d
     resolve-known c (resolution_of said freed) (restored q answers clear) l da dk kn =
         (resolved-left minds fills groups s w k q answers clear dk kn.0 kn.1 c.0 freed (subst (λ z. MayResolve s.managed c.0 z freed) da.2 l.allowed), kn.1)
     resolve-known c told (restored q answers clear) l da dk kn = absurd da
     resolve-known c told _ l da dk kn = absurd da
 
     later-known : (o : Op) (told : Told) (d : Stand) → s.control.stand ≡ d → IsLater o → SideLawful (is_peer_event C o) s (entry C line o r cites) told
-        → DriverAllows d s.managed.managed s.peer.peers.issued o r cites told → IsDriverKept s.managed s.peer d
-        → IsSettled minds fills groups (after o told) → Of (after o told) → IsDriverKept (after o told).managed (after o told).peer (stand_after d number o r told) → Was d → Is o told d
+        → DriverAllows d s.managed.managed s.peer.peers.issued o r cites told → DriverInvariant s.managed s.peer d
+        → IsSettled minds fills groups (after o told) → Of (after o told) → DriverInvariant (after o told).managed (after o told).peer (stand_after d number o r told) → Was d → Is o told d
     later-known (op.Contract c) (contraction_of a b d) (snapped q) now i l al dk w' k' d' kn = kn
     later-known (op.Contract c) (contraction_of a b d) _ now i l al dk w' k' d' kn = absurd al
     later-known (op.Contract c) _ d now i l al dk w' k' d' kn = absurd l.allowed
@@ -176,7 +176,7 @@ module _ (minds : ℕ → Mind) (fills : ℕ → Filled) (groups : List (Option 
       → IsLastly (linkage_after s (record { entry = record { number = number; made = entry t line o r cites }; told = told }))
   lastly-by s number line r cites told C o e i may w =
       let w' = settled-step s w.settled w.kept number line r cites o told (of-cycle o i) may in
-      let k' = AreKept-entry s (record { entry = record { number = number; made = entry C line o r cites }; told = told }) may w.kept in
+      let k' = BothInvariants-entry s (record { entry = record { number = number; made = entry C line o r cites }; told = told }) may w.kept in
       record {
         settled = w';
         kept = k';
@@ -213,7 +213,7 @@ module _ (minds : ℕ → Mind) (fills : ℕ → Filled) (groups : List (Option 
       → IsSettled minds fills groups s → Of s → IsLastly (linkage_after s (record { entry = record { number = number; made = entry t line o r cites }; told = told }))
   snap-by s number line r cites told C (op.Snap c') c e i may w k = record {
     settled = settled-step s w k number line r cites (op.Snap c') told tt may;
-    kept = AreKept-entry s (record { entry = record { number = number; made = entry C line (op.Snap c') r cites }; told = told }) may k;
+    kept = BothInvariants-entry s (record { entry = record { number = number; made = entry C line (op.Snap c') r cites }; told = told }) may k;
     known = snap-known s w k number line r cites c' told s.control.stand may.lawful may.order;
   }
   snap-by s number line r cites told C o c e i may w k = absurd (cc)
@@ -337,7 +337,7 @@ cycle-leaves minds fills groups s ns standing number w k a i l = by ns refl a
     finish v =
         let at_end : (replayed s ns).control.stand ≡ idle = last-idle ns s ends.front ends.last ends.cycle ends.all last_caller ends.resolves in
         let known = subst (Known minds fills groups (replayed s ns).managed.managed (replayed s ns).peer) at_end v.known in
-        let driver = subst (IsDriverKept (replayed s ns).managed (replayed s ns).peer) at_end v.kept.driver in
+        let driver = subst (DriverInvariant (replayed s ns).managed (replayed s ns).peer) at_end v.kept.driver in
         record { settled = v.settled; kept = v.kept; rests = at_end; closed = driver.closed; rows = known.0; peers = known.1 }
 
     by : (ms : List Noted) → ns ≡ ms → AllMayCome s ms → IsEnded minds fills groups (replayed s ns)

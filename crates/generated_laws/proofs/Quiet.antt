@@ -24,7 +24,7 @@ use Rattle.joint_machine.specs.PeerReplay.{PeerReplay, PeerAllows, TableRow, Mar
 use Rattle.joint_machine.specs.Told.{Told, nothing, said_alive, snap_of, contraction_of, references_of, sweep_of}
 use Rattle.joint_machine.proofs.Deciding.{neq-eqb, none_some, test-cases}
 use Rattle.joint_machine.proofs.Numbered.{numbered-push_cases, numbered_set-length, slot-named}
-use Rattle.joint_laws.specs.PeerInvariants.{IsPeerKept, IsTabled}
+use Rattle.joint_laws.specs.PeerInvariants.{PeerInvariant, IsTabled}
 use Rattle.joint_laws.proofs.HandleKeeping.{tabled-set_cases, tabled-swept}
 use Rattle.joint_laws.proofs.HeapMoves.{field_set-moved}
 use Rattle.joint_laws.proofs.LinkedEntries.{entry}
@@ -205,7 +205,7 @@ module _ (m : ManagedReplay) where
   managed-same (op.Clear k) told w = same
   managed-same _ told w = absurd w
 
-module _ (s : PeerReplay) (k : IsPeerKept s) where
+module _ (s : PeerReplay) (k : PeerInvariant s) where
   no-change : (o : Op) (r : Reply) → SameSide s s o r
   no-change o r = record { fields = refl; vars = refl; statics = refl; issued = inl refl; tabled = λ n row t. inl (row, t) }
 
@@ -299,7 +299,7 @@ module _ (s : Linkage) (line : ℕ) (r : Reply) (cites : Option ℕ) (o : Op) (t
       by true = same s.managed
       by false = managed-same s.managed o told w
 
-  pub peers-stay : IsPeerKept s.peer → IsOfCycle o → SideLawful (is_peer_event C o) s (entry C line o r cites) told
+  pub peers-stay : PeerInvariant s.peer → IsOfCycle o → SideLawful (is_peer_event C o) s (entry C line o r cites) told
       → SameSide s.peer (peer_after s.peer (entry C line o r cites) told (is_peer_event C o)) o r
   peers-stay k w l = by (is_peer_event C o) l
     where

@@ -21,7 +21,7 @@ use Rattle.joint_machine.specs.Told.{Told, Noted}
 use Rattle.joint_machine.proofs.Deciding.{neq-eqb}
 use Rattle.joint_laws.specs.LinkedInvariants.{given_at}
 use Rattle.joint_laws.specs.PeerInvariants.{IsTabled}
-use Rattle.joint_laws.proofs.LinkedEntries.{Of, entry, AreKept-entry}
+use Rattle.joint_laws.proofs.LinkedEntries.{Of, entry, BothInvariants-entry}
 use Rattle.known_laws.specs.PastEntries.{entries}
 use Rattle.known_laws.proofs.Lists.{event-thread}
 use Rattle.script_laws.specs.Holding.{entries_by}
@@ -182,7 +182,7 @@ inv-step keep s n es k may w = step-by keep s n.entry.number n.entry.made.index 
 -- and so through all of a list, whatever comes behind it
 pub inv-all : (keep : ℕ → Bool) (ns : List Noted) (s : Linkage) (rest : List Entry) → AllMayCome s ns → Of s → Inv keep s (entries ns ++ rest) → Inv keep (replayed s ns) rest × Of (replayed s ns)
 inv-all keep [] s rest a k w = (w, k)
-inv-all keep (n ∷ ns) s rest a k w = inv-all keep ns (linkage_after s n) rest a.1 (AreKept-entry s n a.0 k) (inv-step keep s n (entries ns ++ rest) k a.0 w)
+inv-all keep (n ∷ ns) s rest a k w = inv-all keep ns (linkage_after s n) rest a.1 (BothInvariants-entry s n a.0 k) (inv-step keep s n (entries ns ++ rest) k a.0 w)
 
 -- each lend says which handle was lent
 abbrev pub SaysIt : Entry → Type 0
@@ -204,5 +204,5 @@ pub inv-says : (keep : ℕ → Bool) (ns : List Noted) (s : Linkage) (rest : Lis
 inv-says keep [] s rest a k w = tt
 inv-says keep (n ∷ ns) s rest a k w = (
   says-by keep s n.entry.number n.entry.made.index n.entry.made.reply n.entry.made.cites n.told (entries ns ++ rest) k n.entry.made.caller n.entry.made.op a.0 w,
-  inv-says keep ns (linkage_after s n) rest a.1 (AreKept-entry s n a.0 k) (inv-step keep s n (entries ns ++ rest) k a.0 w),
+  inv-says keep ns (linkage_after s n) rest a.1 (BothInvariants-entry s n a.0 k) (inv-step keep s n (entries ns ++ rest) k a.0 w),
 )

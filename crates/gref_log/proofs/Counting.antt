@@ -21,13 +21,13 @@ use Rattle.joint_machine.specs.Peers.{Issued, Strength, strong, weak}
 use Rattle.joint_machine.specs.Readers.{AllMayComeReading, EntryMayCome, entry_after, is_aside, is_set_aside, replayed_reading, reader_after}
 use Rattle.joint_machine.specs.Told.{Told, Noted}
 use Rattle.joint_machine.proofs.Numbered.{numbered-made, numbered-within}
-use Rattle.joint_laws.specs.LinkedInvariants.{HasStrength, IsLinkageKept}
+use Rattle.joint_laws.specs.LinkedInvariants.{HasStrength, LinkageInvariant}
 use Rattle.joint_laws.specs.PeerInvariants.{IsTabled}
 use Rattle.joint_laws.specs.ReadingLaws.{IsLawfulReading, without_aside}
-use Rattle.joint_laws.proofs.LinkedEntries.{Of, AreKept-entry, AreKept-opening}
+use Rattle.joint_laws.proofs.LinkedEntries.{Of, BothInvariants-entry, BothInvariants-opening}
 use Rattle.joint_laws.proofs.LinkedThreads.{release-hand}
 use Rattle.joint_laws.proofs.ReadsAside.{reading_is_lawful, reading_leads_to_same, without-cons}
-use Rattle.summary_laws.proofs.Names.{AreNamesKept, names-opening}
+use Rattle.summary_laws.proofs.Names.{NamesInvariant, names-opening}
 use Rattle.log_text.specs.declared.lines.LogLine.{LogLine}
 use Rattle.log_text.specs.Behind.{AreLawful, Behind, Fits, HasCounts, MayStand, behind, behind_all, none_live}
 use Rattle.gref_log.specs.Log.{Change, behind_peers, changed, changes, entry_lines, is_strong_row, is_weak_row, lines_of, log_from, log_of_notes, peer_in, peer_next}
@@ -61,9 +61,9 @@ quiet s t _ r e b = refl
 -- one entry
 pub record Steps (s : Linkage) (m : Made) (told : Told) (b : Bool) : Type 0 where
   pub follows : Follows s.peer.peers.issued (peer_after s.peer m told b).peers.issued s.peer.table (peer_after s.peer m told b).table (changes s.peer m.op m.reply)
-  pub names : AreNamesKept (peer_after s.peer m told b).peers.names (peer_after s.peer m told b).table
+  pub names : NamesInvariant (peer_after s.peer m told b).peers.names (peer_after s.peer m told b).table
 
-module _ (s : Linkage) (k : IsLinkageKept s) (names : AreNamesKept s.peer.peers.names s.peer.table) where
+module _ (s : Linkage) (k : LinkageInvariant s) (names : NamesInvariant s.peer.peers.names s.peer.table) where
   released : (t : Thread) (l : ℕ) (o : Op) (m : Made) (told : Told) → IsEvent t o
       → CallerAllows s.control s.managed.managed s.peer.peers.issued t l o m.reply m.cites told → (h : HNum) → o ≡ op.Release h → HasStrength s.peer h.0 strong
   released t l (op.Release g) m told e w h q = subst (λ (z : HNum). HasStrength s.peer z.0 strong) (let p : g ≡ h = cc in p) (at t e w)
@@ -97,7 +97,7 @@ module _ (s : Linkage) (k : IsLinkageKept s) (names : AreNamesKept s.peer.peers.
     names = names;
   }
 
-pub step : (s : Linkage) (n : Noted) → MayCome s n → Of s → AreNamesKept s.peer.peers.names s.peer.table → Steps s n.entry.made n.told (is_peer_event n.entry.made.caller n.entry.made.op)
+pub step : (s : Linkage) (n : Noted) → MayCome s n → Of s → NamesInvariant s.peer.peers.names s.peer.table → Steps s n.entry.made n.told (is_peer_event n.entry.made.caller n.entry.made.op)
 step s n a k names = by s (record { managed = k.managed; peer = k.peer; owners = k.owners; callers = k.callers; driver = k.driver }) names n.entry.made n.told
     (is_peer_event n.entry.made.caller n.entry.made.op) refl a.event a.lawful a.order
 
@@ -152,12 +152,12 @@ record WholeLog (s : Linkage) (ns : List Noted) : Type 0 where
   ends : behind_all (behind_peers s.peer) (log_from s.peer (behind_peers s.peer) ns) ≡ behind_peers (replayed s ns).peer
   kept : Of (replayed s ns)
 
-whole : (ns : List Noted) (s : Linkage) → AllMayCome s ns → Of s → AreNamesKept s.peer.peers.names s.peer.table → WholeLog s ns
+whole : (ns : List Noted) (s : Linkage) → AllMayCome s ns → Of s → NamesInvariant s.peer.peers.names s.peer.table → WholeLog s ns
 whole [] s a k names = record { right = tt; ends = refl; kept = k }
 whole (n ∷ ns) s a k names =
     let t = step s n a.0 k names in
     let g = entry-goes s.peer n t.follows in
-    let w = whole ns (linkage_after s n) a.1 (AreKept-entry s n a.0 k) t.names in
+    let w = whole ns (linkage_after s n) a.1 (BothInvariants-entry s n a.0 k) t.names in
     let v = behind_peers s.peer in
     let ls = entry_lines s.peer v n in
     let next = peer_next s.peer n in
@@ -224,7 +224,7 @@ module _ (noted : List Noted) (w : IsLawfulReading noted) where
   others = without_aside noted
 
   all-of : WholeLog opening_linkage others
-  all-of = whole others opening_linkage (reading_is_lawful noted w) AreKept-opening names-opening
+  all-of = whole others opening_linkage (reading_is_lawful noted w) BothInvariants-opening names-opening
 
   pub same-log : log_of_notes noted ≡ log_from opening_peer_replay (behind_peers opening_peer_replay) others
   same-log = aside-log w.0 w.1 noted opening_linkage none_live w.2 ∙ ap (λ v. log_from opening_peer_replay v others) opening-behind

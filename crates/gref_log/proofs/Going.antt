@@ -7,7 +7,7 @@ use Rattle.joint_machine.specs.Linked.{Linkage}
 use Rattle.joint_machine.specs.Peers.{strong, weak}
 use Rattle.joint_machine.specs.Told.{Answer}
 use Rattle.joint_machine.proofs.HeapLemmas.{candidates_of-open}
-use Rattle.joint_laws.specs.LinkedInvariants.{HasStrength, IsLinkageKept, IsDriverKept, HasInHand, doing_in, given_at}
+use Rattle.joint_laws.specs.LinkedInvariants.{HasStrength, LinkageInvariant, DriverInvariant, HasInHand, doing_in, given_at}
 use Rattle.joint_laws.proofs.DriverPeerSteps.{holds-handle_of}
 use Rattle.joint_laws.proofs.Hands.{shift, put-doing}
 
@@ -15,13 +15,13 @@ use Rattle.joint_laws.proofs.Hands.{shift, put-doing}
 beyond : (answers : List Answer) (a : Answer) → slice_get answers (length answers) ≡ Some a → ⊥
 beyond answers a e = let w = slice_get_within answers (length answers) a e in omega (arith, w)
 
-module _ (s : Linkage) (k : IsLinkageKept s) where
+module _ (s : Linkage) (k : LinkageInvariant s) where
   -- what a thread has in hand is strong
   pub in-hand : (t h : ℕ) → HasInHand (doing_in s.control.doing t) h → HasStrength s.peer h strong
   in-hand t h w = (k.callers.loose (shift (given_at s.control.stand) t) h (subst (λ z. HasInHand z h) (sym (put-doing (given_at s.control.stand) s.control.doing t)) w)).strong_one
 
   -- the candidate whose restore comes next waits
-  pub waiting : (d : Stand) (h : ℕ) (cites : Option ℕ) → IsDriverKept s.managed s.peer d → MayRestoreNow d s.managed.managed h cites → HasStrength s.peer h weak
+  pub waiting : (d : Stand) (h : ℕ) (cites : Option ℕ) → DriverInvariant s.managed s.peer d → MayRestoreNow d s.managed.managed h cites → HasStrength s.peer h weak
   waiting (restoring o answers) h cites v w = elim (v.handles (length answers) w.1.0 h at (holds-handle_of s.managed.managed w.1.0 h k.managed.managed.places w.1.2)) [
     | inl a ↦ absurd (beyond answers _ a.1)
     | inr b ↦ elim b [

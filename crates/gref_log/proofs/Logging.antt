@@ -27,9 +27,9 @@ use Rattle.joint_machine.specs.Readers.{is_aside, is_set_aside}
 use Rattle.joint_machine.specs.Told.{Noted, Told}
 use Rattle.joint_machine.proofs.Deciding.{and-true, true_false}
 use Rattle.joint_laws.specs.ReadingLaws.{IsLawfulReading, without_aside}
-use Rattle.joint_laws.proofs.LinkedEntries.{Of, AreKept-entry, AreKept-opening}
+use Rattle.joint_laws.proofs.LinkedEntries.{Of, BothInvariants-entry, BothInvariants-opening}
 use Rattle.joint_laws.proofs.ReadsAside.{reading_is_lawful, without-cons}
-use Rattle.summary_laws.proofs.Names.{AreNamesKept, names-opening}
+use Rattle.summary_laws.proofs.Names.{NamesInvariant, names-opening}
 use Rattle.log_text.specs.declared.lines.LogLine.{LogLine}
 use Rattle.log_text.specs.declared.lines.Mark.{Mark}
 use Rattle.log_text.specs.declared.lines.Mark.TheVariants.{GPlus, GMinus, WPlus, WMinus}
@@ -257,14 +257,14 @@ replies-so s m told false w e = absurd (true_false (sym e))
 
 -- all of a lawful list
 whole-logged : (ns : List Noted) (s : Linkage) (g : Logged) → AllMayCome s ns → Of s
-    → AreNamesKept s.peer.peers.names s.peer.table → GoesWith g s.peer → given-length (logged_all g (entries ns)) ≤ MOST
+    → NamesInvariant s.peer.peers.names s.peer.table → GoesWith g s.peer → given-length (logged_all g (entries ns)) ≤ MOST
     → (logged_all g (entries ns)).lines ≡ g.lines ++ log_from s.peer (behind_peers s.peer) ns
 whole-logged [] s g a k names w l = sym (append-nil g.lines)
 whole-logged (n ∷ ns) s g a k names w l =
     let m = n.entry.made in
     let next = peer_next s.peer n in
     let t = step s n a.0 k names in
-    let kept = AreKept-entry s n a.0 k in
+    let kept = BothInvariants-entry s n a.0 k in
     let ls = entry_lines s.peer (behind_peers s.peer) n in
     let ends : behind_all (behind_peers s.peer) ls ≡ behind_peers next = (entry-goes s.peer n t.follows).ends in
     let tracks = entry-tracks s.peer m n.told (is_peer_event m.caller m.op) refl (replies-so s m n.told (is_peer_event m.caller m.op) a.0.lawful) in
@@ -285,7 +285,7 @@ log-lines : (h : Finished) (noted : List Noted) → IsLinkedBy h noted → given
 log-lines h noted w l =
     let lawful : IsLawfulReading noted = (noted, _, w.lawful) in
     let same : logged_all nothing_logged h.entries ≡ logged_all nothing_logged (entries (without_aside noted)) = ap (logged_all nothing_logged) (sym w.same) ∙ aside-logged noted nothing_logged in
-    ap (λ g. g.lines) same ∙ (whole-logged (without_aside noted) opening_linkage nothing_logged (reading_is_lawful noted lawful) AreKept-opening names-opening
+    ap (λ g. g.lines) same ∙ (whole-logged (without_aside noted) opening_linkage nothing_logged (reading_is_lawful noted lawful) BothInvariants-opening names-opening
     (record { tracked = refl; counts = record { strong = refl; weak = refl } }) (subst (λ g. given-length g ≤ MOST) same l)
     ∙ sym (same-log noted lawful))
 

@@ -22,12 +22,12 @@ use Rattle.joint_machine.specs.Told.{Told, nothing, references_of, slice_of, swe
 use Rattle.joint_machine.proofs.Deciding.{none_some, option-cases, test-cases}
 use Rattle.joint_machine.proofs.Numbered.{slot-named, slot-Contains}
 use Rattle.joint_laws.specs.LinkedInvariants.{HasStrength}
-use Rattle.joint_laws.specs.PeerInvariants.{IsPeerKept, IsTabled}
+use Rattle.joint_laws.specs.PeerInvariants.{PeerInvariant, IsTabled}
 use Rattle.joint_laws.proofs.HandleKeeping.{held-raw, issued-same}
 use Rattle.joint_laws.proofs.PeerEvents.{freed_by}
 use Rattle.joint_laws.proofs.PeerQuiet.{table-still, table-issued}
 use Rattle.joint_laws.proofs.Restores.{restored-cases}
-use Rattle.summary_laws.proofs.Names.{AreNamesKept, names-grown, names-given, names-freed, names-gone, names-reset, names-swept}
+use Rattle.summary_laws.proofs.Names.{NamesInvariant, names-grown, names-given, names-freed, names-gone, names-reset, names-swept}
 use Rattle.gref_log.specs.Log.{Change, changes, unnamed, minus}
 use Rattle.gref_log.proofs.TableSteps.{Follows, comes, leaves, plus, renews, stays as stays-so, sweeps, weakens}
 
@@ -35,9 +35,9 @@ use Rattle.gref_log.proofs.TableSteps.{Follows, comes, leaves, plus, renews, sta
 -- table
 pub record Goes (s : PeerReplay) (p : Peers) (table : List (Option TableRow)) (o : Op) (r : Reply) : Type 0 where
   pub follows : Follows s.peers.issued p.issued s.table table (changes s o r)
-  pub names : AreNamesKept p.names table
+  pub names : NamesInvariant p.names table
 
-module _ (s : PeerReplay) (k : IsPeerKept s) (names : AreNamesKept s.peers.names s.table) where
+module _ (s : PeerReplay) (k : PeerInvariant s) (names : NamesInvariant s.peers.names s.table) where
   abbrev OnTable : Op → Answered Peers → Type 0
   OnTable o a = Goes s a.state (s.table ++ map fresh_row (issued_since s.peers a.state)) o a.reply
 
@@ -50,7 +50,7 @@ module _ (s : PeerReplay) (k : IsPeerKept s) (names : AreNamesKept s.peers.names
       let same = table-still s a.state e in
       record {
         follows = by-changes a.state.issued (s.table ++ map fresh_row (issued_since s.peers a.state)) _ [] c (stays-so s.peers.issued a.state.issued s.table _ e same);
-        names = subst (λ z. AreNamesKept z (s.table ++ map fresh_row (issued_since s.peers a.state))) (sym n) (subst (λ z. AreNamesKept s.peers.names z) (sym same) names);
+        names = subst (λ z. NamesInvariant z (s.table ++ map fresh_row (issued_since s.peers a.state))) (sym n) (subst (λ z. NamesInvariant s.peers.names z) (sym same) names);
       }
 
   stays : (o : Op) (r : Reply) → changes s o r ≡ [] → OnTable o (answer r s.peers)
@@ -58,7 +58,7 @@ module _ (s : PeerReplay) (k : IsPeerKept s) (names : AreNamesKept s.peers.names
 
   -- one is issued
   issues : (o : Op) (a : Answered Peers) (new : Issued) → changes s o a.reply ≡ record { mark = plus new.strength; handle = next_handle s.peers } ∷ []
-      → a.state.issued ≡ s.peers.issued ++ new ∷ [] → AreNamesKept a.state.names (s.table ++ fresh_row new ∷ []) → OnTable o a
+      → a.state.issued ≡ s.peers.issued ++ new ∷ [] → NamesInvariant a.state.names (s.table ++ fresh_row new ∷ []) → OnTable o a
   issues o a new c e kept =
       let same = table-issued s a.state new e in
       let ds = record { mark = plus new.strength; handle = next_handle s.peers } ∷ [] in
@@ -66,7 +66,7 @@ module _ (s : PeerReplay) (k : IsPeerKept s) (names : AreNamesKept s.peers.names
         follows = by-changes a.state.issued (s.table ++ map fresh_row (issued_since s.peers a.state)) _ ds c
             (subst (λ z. Follows s.peers.issued a.state.issued s.table z ds) (sym same)
             (subst (λ z. Follows s.peers.issued z s.table (s.table ++ fresh_row new ∷ []) ds) (sym e) (comes s.peers.issued s.table k.handles.places new new.strength refl)));
-        names = subst (λ z. AreNamesKept a.state.names z) (sym same) kept;
+        names = subst (λ z. NamesInvariant a.state.names z) (sym same) kept;
       }
 
   pair-goes : (sort : Sort) (n : ℕ) → OnTable (op.Make sort n) (pair_made s.peers sort n)
@@ -111,7 +111,7 @@ module _ (s : PeerReplay) (k : IsPeerKept s) (names : AreNamesKept s.peers.names
         follows = by-changes s.peers.issued (on_table gone (answer says.Ok (record s.peers { names = set s.peers.names u.0 None }))).state.table _ _ its
             (subst (λ z. Follows s.peers.issued s.peers.issued s.table z (record { mark = minus r.0.strength; handle = h } ∷ []))
             (sym same) (leaves s.peers.issued s.table k.handles.places h t.0 t.1 r.0.strength of_one));
-        names = subst (λ z. AreNamesKept (set s.peers.names u.0 None) z) (sym same) (names-freed s.peers.names s.table names u.0 h e);
+        names = subst (λ z. NamesInvariant (set s.peers.names u.0 None) z) (sym same) (names-freed s.peers.names s.table names u.0 h e);
       }
 
   brought : (a : Answered PeerReplay) (r : Reply) (o : Op) → Goes s a.state.peers a.state.table o a.reply → Goes s (bring_by a r).state.peers (bring_by a r).state.table o (bring_by a r).reply

@@ -14,10 +14,10 @@ use Rattle.joint_machine.specs.Linked.{Linkage}
 use Rattle.joint_machine.specs.PeerReplay.{PeerReplay, PeerAllows, MayRelease}
 use Rattle.joint_machine.specs.Sides.{Side}
 use Rattle.joint_machine.specs.Told.{nothing}
-use Rattle.known_laws.specs.Driving.{IsPastKept}
+use Rattle.known_laws.specs.Driving.{PastInvariant}
 use Rattle.known_laws.specs.Pasts.{end_of}
 use Rattle.known_laws.proofs.Conditions.{given_may_be_released, met_may_be_released}
-use Rattle.known_laws.proofs.KnownPasts.{known_past_is_kept}
+use Rattle.known_laws.proofs.KnownPasts.{past_invariant_holds}
 use Rattle.order_table.specs.declared.views.View.{View}
 use Rattle.order_table.specs.Facts.{line_entries}
 use Rattle.order_table.specs.Views.{Owns}
@@ -32,7 +32,7 @@ line_allowed : (s : PeerReplay) (t : Thread) (a : Act) (cites : Option ℕ) → 
 line_allowed s t (act.Slice n) cites b = absurd b
 line_allowed s t a cites b = tt
 
-release_allowed : (s : Linkage) → IsPastKept s → (t line : ℕ) (d : Doing) (h : HNum) (cites : Option ℕ)
+release_allowed : (s : Linkage) → PastInvariant s → (t line : ℕ) (d : Doing) (h : HNum) (cites : Option ℕ)
     → doing_at s.control t ≡ d → ThreadAllows d (M t) line (op.Release h) cites → MayRelease s.peer h.0
 release_allowed s kept t line free h cites e w = absurd w
 release_allowed s kept t line (made n l p h' sort f) h cites e w = absurd w
@@ -41,13 +41,13 @@ release_allowed s kept t line (gripped n l p h' sort f) h cites e w = absurd w
 release_allowed s kept t line (given n l h') h cites e w = subst (MayRelease s.peer) (sym w.2) (given_may_be_released s kept t n l h' e)
 release_allowed s kept t line (met n l h') h cites e w = subst (MayRelease s.peer) (sym w.2) (met_may_be_released s kept t n l h' e)
 
-release_of : (t : Thread) (s : Linkage) → IsPastKept s → (line : ℕ) (d : Doing) (h : HNum) (cites : Option ℕ)
+release_of : (t : Thread) (s : Linkage) → PastInvariant s → (line : ℕ) (d : Doing) (h : HNum) (cites : Option ℕ)
     → IsPeerStep t (op.Release h) → doing_of t s.control ≡ d → IsTurn t d line (op.Release h) cites → MayRelease s.peer h.0
 release_of (M n) s kept line d h cites is e w = release_allowed s kept n line d h cites e w
 release_of (P n) s kept line d h cites is e w = absurd is
 release_of C s kept line d h cites is e w = absurd is
 
-step_allowed : (t : Thread) (s : Linkage) → IsPastKept s → (line : ℕ) (d : Doing) (o : Op) (cites : Option ℕ)
+step_allowed : (t : Thread) (s : Linkage) → PastInvariant s → (line : ℕ) (d : Doing) (o : Op) (cites : Option ℕ)
     → IsPeerStep t o → doing_of t s.control ≡ d → IsTurn t d line o cites → PeerAllows s.peer t o cites nothing
 step_allowed t s kept line d (op.Line a) cites is e w = line_allowed s.peer t a cites is.2
 step_allowed t s kept line d (op.Make sort n) cites is e w = tt
@@ -62,7 +62,7 @@ bare_turn (M n) d line o cites is w = absurd is
 bare_turn (P n) d line o cites is w = w
 bare_turn C d line o cites is w = absurd is
 
-call_allowed : (t : Thread) (s : Linkage) → IsPastKept s → (line : ℕ) (d : Doing) (o : Op) (cites : Option ℕ)
+call_allowed : (t : Thread) (s : Linkage) → PastInvariant s → (line : ℕ) (d : Doing) (o : Op) (cites : Option ℕ)
     → IsPeerCall t o → doing_of t s.control ≡ d → IsTurn t d line o cites → AllowsCall s.peer t o cites
 call_allowed t s kept line d op.Begin cites is e w = bare_turn t d line op.Begin cites is w
 call_allowed t s kept line d op.Sweep cites is e w = bare_turn t d line op.Sweep cites is w
@@ -75,5 +75,5 @@ pub turn_is_allowed : (t : Thread) (locked mine handed mine1 : View) (side : Sid
 turn_is_allowed t locked mine handed mine1 side index o cites is pass owns ks may l =
     let j = lent_joined t locked mine handed mine1 l ks.known may.stands.known in
     let state = j.peer_first (l.whole 1 owns) ∙ ks.state in
-    subst (λ s. AllowsCall s t o cites) state (call_allowed t (end_of j.joined.known.past) (known_past_is_kept j.joined.known.past j.joined.known.lawful) index may.doing o cites is
+    subst (λ s. AllowsCall s t o cites) state (call_allowed t (end_of j.joined.known.past) (past_invariant_holds j.joined.known.past j.joined.known.lawful) index may.doing o cites is
     (doing_told t j.joined.known.past may.stands.known.known.past (own_told t locked mine handed mine1 l ks.known may.stands.known pass) ∙ may.stands.doing) may.turn)

@@ -235,7 +235,8 @@ drew_at : (n : ℕ) (order : OrderId) (seat seat' : Shown) (old new : Side PeerR
 drew_at n order seat seat' old new index number o reply told is short w d =
     let k = d.kept in
     let a = w.knows.known in
-    let e = side_entered peer_side (P n) seat.view order seat seat' old new (entry_by (P n) index number o reply None) told a w.knows.state is refl short (record { last = w.last; allows = refl }) tt d in
+    let e = side_entered peer_side (P n) seat.view order seat seat' old new
+    (entry_by (P n) index number o reply None) told a w.knows.state is refl short (record { last = w.last; allows = refl }) tt d in
     let known' = e.entered.grown.known in
     record {
       knows = record {

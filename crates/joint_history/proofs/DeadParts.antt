@@ -9,7 +9,7 @@ use Rattle.joint_machine.specs.PinsTold.{with_pins}
 use Rattle.joint_machine.proofs.Deciding.{none_some}
 use Rattle.joint_machine.proofs.HeapLemmas.{candidates_of-open}
 use Rattle.joint_machine.proofs.Members.{Contains-at}
-use Rattle.joint_laws.specs.ManagedInvariants.{IsManagedKept}
+use Rattle.joint_laws.specs.ManagedInvariants.{ManagedInvariant}
 use Rattle.known_laws.specs.Pasts.{HasSameDeadPart}
 use Rattle.known_laws.proofs.Pinned.{contraction_to}
 
@@ -36,7 +36,7 @@ pub count_same : (s t : Managed) → HasSameDeadPart s t → length (candidates_
 count_same s t d = ap length (candidates_same s t d)
 
 -- and so are the candidates' handles, in objects that keep what every known past keeps
-pub candidate_handle_on : (s t : Managed) → HasSameDeadPart s t → IsManagedKept t → (i h : ℕ) → IsCandidateHandle s i h → IsCandidateHandle t i h
+pub candidate_handle_on : (s t : Managed) → HasSameDeadPart s t → ManagedInvariant t → (i h : ℕ) → IsCandidateHandle s i h → IsCandidateHandle t i h
 candidate_handle_on s t d k i h w = by s.cycle refl
   where
     by : (o : Option OpenCycle) → s.cycle ≡ o → IsCandidateHandle t i h

@@ -27,15 +27,15 @@ use Rattle.joint_machine.specs.Run.{thread_number}
 use Rattle.joint_machine.specs.Sides.{Side, managed_rules}
 use Rattle.joint_machine.specs.Told.{Told, nothing, contraction_of, handles_given, resolution_of, phase_of}
 use Rattle.joint_machine.specs.PinsTold.{bare_told, no_pins, with_pins}
-use Rattle.joint_laws.specs.ManagedInvariants.{IsReplayKept}
+use Rattle.joint_laws.specs.ManagedInvariants.{ReplayInvariant}
 use Rattle.joint_laws.proofs.ManagedMoves.{managed_line-goes_on}
 use Rattle.known_laws.specs.Conditions.{IsOpenHere}
-use Rattle.known_laws.specs.Driving.{IsPastKept}
+use Rattle.known_laws.specs.Driving.{PastInvariant}
 use Rattle.known_laws.specs.PastEntries.{TellsPlainly}
 use Rattle.known_laws.specs.Pasts.{HasSameDeadPart, end_of}
 use Rattle.known_laws.proofs.Conditions.{snapped_may_be_contracted, unmirrored_may_be_abandoned, restored_are_new, restored_may_be_resolved, refused_may_be_told}
 use Rattle.known_laws.proofs.FrozenPasts.{Alike, alike_meet, alike_on, alike_pinned, alike_self, dead_part-alike}
-use Rattle.known_laws.proofs.KnownPasts.{known_past_is_kept}
+use Rattle.known_laws.proofs.KnownPasts.{past_invariant_holds}
 use Rattle.known_laws.proofs.Pinned.{managed_to, none_stand}
 use Rattle.managed_heap.specs.declared.cycles.ResolveOut.{ResolveOut}
 use Rattle.managed_heap.specs.Calls.{IsContractedBy, MayContractWith}
@@ -57,7 +57,7 @@ use Rattle.joint_history.proofs.LockedSteps.{lent_joined, managed_side, returns_
 -- managed side is this one
 pub record IsUnderLock (side : ManagedReplay) (stand : Stand) (seen : Managed) : Type 0 where
   pub state : Linkage
-  pub kept : IsPastKept state
+  pub kept : PastInvariant state
   pub managed : state.managed ≡ side
   pub stood : state.control.stand ≡ stand
   pub dead : HasSameDeadPart seen state.managed.managed
@@ -69,7 +69,7 @@ under_lock locked mine lent mine1 side index stand seen pass owns ks s l =
     let at = driver_joined locked mine lent mine1 l ks.known pass index stand seen s in
     record {
       state = end_of j.joined.known.past;
-      kept = known_past_is_kept j.joined.known.past j.joined.known.lawful;
+      kept = past_invariant_holds j.joined.known.past j.joined.known.lawful;
       managed = j.managed_first (l.whole 0 owns) ∙ ks.state;
       stood = at.come;
       dead = at.dead;
@@ -127,7 +127,7 @@ same_objects : (s t : ManagedReplay) → t.managed ≡ (with_pins s no_pins).man
 same_objects s t e = subst (λ (m : Managed). HasSameDeadPart s.managed m) (sym e) (dead_part_pinned s no_pins)
 
 -- an unmirrored cycle is open
-abandon_open : (u : Linkage) → IsPastKept u → (stand : Stand) (o : OpenSnap) → u.control.stand ≡ stand → IsUnmirrored stand o → IsOpenHere u o
+abandon_open : (u : Linkage) → PastInvariant u → (stand : Stand) (o : OpenSnap) → u.control.stand ≡ stand → IsUnmirrored stand o → IsOpenHere u o
 abandon_open u k (snapped p) o e i = (unmirrored_may_be_abandoned u k o).0 (e ∙ ap snapped i)
 abandon_open u k (contracted p comps heavy pairs) o e i = (unmirrored_may_be_abandoned u k o).1 comps heavy pairs (e ∙ ap (λ (z : OpenSnap). contracted z comps heavy pairs) i)
 abandon_open u k idle o e i = absurd i
@@ -234,8 +234,8 @@ notices_leave : (mine mine2 : View) (old new : Side ManagedReplay) (index : ℕ)
     (reply : Reply) (d : Driven mine mine2 old new index stand seen (driver_entry n index (op.Line (act.Finalise count)) reply None) nothing)
     → new.state ≡ managed_rules.next old.state (driver_entry n index (op.Line (act.Finalise count)) reply None).made nothing → HasSameDeadPart old.state.managed new.state.managed
 notices_leave mine mine2 old new index stand seen n count reply d goes =
-    let kept = subst (λ (r : ManagedReplay). IsReplayKept r) d.before d.makes.kept.kept.managed in
-    let after = subst (λ (r : ManagedReplay). IsReplayKept r) d.after (known_past_is_kept d.known.known.past d.known.known.lawful).kept.managed in
+    let kept = subst (λ (r : ManagedReplay). ReplayInvariant r) d.before d.makes.kept.kept.managed in
+    let after = subst (λ (r : ManagedReplay). ReplayInvariant r) d.after (past_invariant_holds d.known.known.past d.known.known.lawful).kept.managed in
     let bare = with_pins old.state no_pins in
     let line = managed_answer bare C (op.Line (act.Finalise count)) nothing in
     let moved = alike_on bare.managed line.state.managed old.state.managed (managed_to old.state no_pins (none_stand old.state.managed) kept.managed)

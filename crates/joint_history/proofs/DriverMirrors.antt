@@ -14,7 +14,7 @@ use Rattle.joint_machine.specs.Managed.{Managed, candidates_of}
 use Rattle.joint_machine.specs.PeerReplay.{PeerReplay, MayMirror, row_of}
 use Rattle.joint_machine.specs.Told.{references_of}
 use Rattle.known_laws.specs.Conditions.{MayBeInstalled}
-use Rattle.known_laws.specs.Driving.{IsPastKept}
+use Rattle.known_laws.specs.Driving.{PastInvariant}
 use Rattle.known_laws.specs.Pasts.{HasSameDeadPart, end_of}
 use Rattle.known_laws.proofs.Conditions.{contracted_may_be_installed}
 use Rattle.bridge_graph.specs.Handles.{handles_of}
@@ -86,7 +86,7 @@ module _ (side : PeerReplay) (o : OpenSnap) (comps : List (List ℕ)) (heavy : L
   mirror_allowed listing k snap same_cycle same_snap = (same_cycle, ap Some (sym same_snap), carried listing)
 
 -- there is one handle for each candidate
-few : (s : Linkage) (m : Managed) (g : Part) (l : Listing) (comps : List (List ℕ)) (heavy : List ℕ) (pairs : List (ℕ × ℕ)) → IsPastKept s
+few : (s : Linkage) (m : Managed) (g : Part) (l : Listing) (comps : List (List ℕ)) (heavy : List ℕ) (pairs : List (ℕ × ℕ)) → PastInvariant s
     → HasSameDeadPart m s.managed.managed → IsListedBy g l m comps heavy pairs → IsPart g.nodes g.edges → length (candidates_of m) ≤ length (handles_of g.nodes)
 few s m g l comps heavy pairs kept dead w part =
     let t = s.managed.managed in

@@ -13,13 +13,13 @@ use Rattle.joint_machine.specs.PeerReplay.{PeerReplay}
 use Rattle.joint_machine.specs.Sides.{Side, peer_rules, GoesOn}
 use Rattle.joint_machine.specs.Told.{Told, Noted}
 use Rattle.joint_machine.specs.PinsTold.{bare_told}
-use Rattle.known_laws.specs.Driving.{IsPastKept}
+use Rattle.known_laws.specs.Driving.{PastInvariant}
 use Rattle.known_laws.specs.Known.{Comes, managed_past}
 use Rattle.known_laws.specs.PastEntries.{TellsPlainly}
 use Rattle.known_laws.proofs.Bared.{peer_unpinned, plain_told}
 use Rattle.known_laws.proofs.Coming.{peer_reads_none}
 use Rattle.known_laws.specs.Pasts.{HasSameDeadPart, end_of}
-use Rattle.known_laws.proofs.KnownPasts.{known_past_is_kept}
+use Rattle.known_laws.proofs.KnownPasts.{past_invariant_holds}
 use Rattle.order_table.specs.declared.views.View.{View}
 use Rattle.order_table.specs.Views.{OrderId, Shown, known, Owns}
 use Rattle.joint_history.proofs.KnownViews.{same_view}
@@ -36,7 +36,7 @@ use Rattle.joint_history.proofs.Standing.{last_of_own}
 -- side is this one
 pub record IsUnderPeers (side : PeerReplay) (stand : Stand) (seen : Managed) : Type 0 where
   pub state : Linkage
-  pub kept : IsPastKept state
+  pub kept : PastInvariant state
   pub peer : state.peer ≡ side
   pub stood : state.control.stand ≡ stand
   pub dead : HasSameDeadPart seen state.managed.managed
@@ -48,7 +48,7 @@ under_peers locked mine lent mine1 side index stand seen pass owns ks s l =
     let at = driver_joined locked mine lent mine1 l ks.known pass index stand seen s in
     record {
       state = end_of j.joined.known.past;
-      kept = known_past_is_kept j.joined.known.past j.joined.known.lawful;
+      kept = past_invariant_holds j.joined.known.past j.joined.known.lawful;
       peer = j.peer_first (l.whole 1 owns) ∙ ks.state;
       stood = at.come;
       dead = at.dead;
@@ -80,7 +80,7 @@ driven_peers_by locked mine mine1 locked2 mine2 order lent lent2 old new e told 
     let k = d.kept in
     let u : IsUnderPeers old.state stand seen = record {
       state = end_of past;
-      kept = known_past_is_kept past j.joined.known.lawful;
+      kept = past_invariant_holds past j.joined.known.lawful;
       peer = j.peer_first (l.whole 1 owns)
           ∙ ks.state;
       stood = at.come;
@@ -106,7 +106,7 @@ driven_peers_by locked mine mine1 locked2 mine2 order lent lent2 old new e told 
           above = w.makes.above;
           state = end_of past;
           comes = subst (λ x. Comes x (end_of past) (note_of k.entry told)) own w.entered.comes;
-          kept = known_past_is_kept past j.joined.known.lawful;
+          kept = past_invariant_holds past j.joined.known.lawful;
           stood = at.come;
           dead = at.dead;
         };

@@ -15,9 +15,9 @@ use Rattle.joint_machine.specs.Managed.{Managed, OpenCycle}
 use Rattle.joint_machine.specs.ManagedReplay.{ManagedReplay}
 use Rattle.joint_machine.specs.Sides.{Side, managed_rules}
 use Rattle.joint_machine.specs.Told.{Told, kept_pins, snap_of}
-use Rattle.joint_laws.specs.ManagedInvariants.{IsManagedKept}
+use Rattle.joint_laws.specs.ManagedInvariants.{ManagedInvariant}
 use Rattle.known_laws.proofs.Conditions.{idle_is_closed}
-use Rattle.known_laws.proofs.KnownPasts.{known_past_is_kept}
+use Rattle.known_laws.proofs.KnownPasts.{past_invariant_holds}
 use Rattle.managed_heap.specs.declared.opening.Opened.{Opened}
 use Rattle.order_table.specs.declared.views.View.{View}
 use Rattle.order_table.specs.Views.{OrderId, Shown, known, Owns}
@@ -66,7 +66,7 @@ module _ (locked mine mine1 locked2 mine2 : View) (order : OrderId) (seat seat' 
         makes = subst (λ (r : Reply). DriverMakes mine mine2 idle m (driver_entry out.number index (op.Snap out.cycle) r None) (kept_pins d.pins (snap_of d.freed d.candidates d.dead)))
             (sym reply) w.makes;
         seen = new.state.managed;
-        kept = subst (λ (r : ManagedReplay). IsManagedKept r.managed) w.after (known_past_is_kept w.known.known.past w.known.known.lawful).kept.managed.managed;
+        kept = subst (λ (r : ManagedReplay). ManagedInvariant r.managed) w.after (past_invariant_holds w.known.known.past w.known.known.lawful).kept.managed.managed;
         opened = ap (λ (r : ManagedReplay). r.managed.cycle) d.drew.goes.state ∙ ap (λ (k : ℕ). cycle_of k d.candidates d.dead) (sym d.cycle);
         graph = d.graph;
         stands = stands_anew mine mine2 old new index idle (snapped record { cycle = out.cycle.0; snap = out.number }) m

@@ -22,7 +22,7 @@ use Rattle.known_laws.specs.Known.{Comes, PinsStand, SideMayCome}
 use Rattle.known_laws.specs.PastEntries.{TellsPlainly}
 use Rattle.known_laws.specs.Pasts.{HasSameDeadPart, end_of, line}
 use Rattle.known_laws.proofs.Growing.{dead_part_is_frozen, lines_give_parts}
-use Rattle.known_laws.proofs.KnownPasts.{known_past_is_kept}
+use Rattle.known_laws.proofs.KnownPasts.{past_invariant_holds}
 use Rattle.order_table.specs.declared.views.View.{View}
 use Rattle.order_table.specs.Facts.{line_entries}
 use Rattle.order_table.specs.Tells.{BeginsOneHistory}
@@ -118,7 +118,7 @@ driven locked mine mine1 locked2 mine2 order seat seat' old new index stand seen
           above = w.makes.above;
           state = end_of past;
           comes = side_comes (end_of past) (note_of k.entry told) own w.entered.comes;
-          kept = known_past_is_kept past j.joined.known.lawful;
+          kept = past_invariant_holds past j.joined.known.lawful;
           stood = at.come;
           dead = at.dead;
         };

@@ -13,10 +13,10 @@ use Rattle.joint_machine.specs.declared.events.Op.{Op}
 use Rattle.joint_machine.specs.declared.events.Op.TheVariants as op
 use Rattle.joint_machine.specs.Control.{Doing, free, made, lent, gripped, given, met, doing_at, ThreadAllows}
 use Rattle.joint_machine.specs.Linked.{Linkage}
-use Rattle.known_laws.specs.Driving.{IsPastKept}
+use Rattle.known_laws.specs.Driving.{PastInvariant}
 use Rattle.known_laws.proofs.Conditions.{made_is_new, gripped_is_new}
 use Rattle.known_laws.specs.Pasts.{end_of}
-use Rattle.known_laws.proofs.KnownPasts.{known_past_is_kept}
+use Rattle.known_laws.proofs.KnownPasts.{past_invariant_holds}
 use Rattle.joint_machine.specs.ManagedReplay.{ManagedReplay}
 use Rattle.joint_machine.specs.Sides.{Side}
 use Rattle.order_table.specs.declared.views.View.{View}
@@ -27,7 +27,7 @@ use Rattle.joint_history.specs.Locked.{ManagedKnows, MayMake, IsTurn, doing_of}
 use Rattle.seat_calls.specs.Passing.{Lends}
 use Rattle.joint_history.proofs.LockedSteps.{lent_joined, own_told, doing_told}
 
-adopt_fresh : (s : Linkage) → IsPastKept s → (t line : ℕ) (d : Doing) (v : Var) (kind : Kind) (k : ℕ) (p : PNum) (h : HNum) (cites : Option ℕ)
+adopt_fresh : (s : Linkage) → PastInvariant s → (t line : ℕ) (d : Doing) (v : Var) (kind : Kind) (k : ℕ) (p : PNum) (h : HNum) (cites : Option ℕ)
     → doing_at s.control t ≡ d → ThreadAllows d (M t) line (op.Adopt v kind k p h) cites → Contains s.managed.adopted h.0 → ⊥
 adopt_fresh s kept t line free v kind k p h cites e w c = w
 adopt_fresh s kept t line (made n l p' h' sort f) v kind k p h cites e w c = made_is_new s kept t n l p' h' sort f e (subst (λ x. Contains s.managed.adopted x) w.3 c)
@@ -36,7 +36,7 @@ adopt_fresh s kept t line (gripped n l p' h' sort f) v kind k p h cites e w c = 
 adopt_fresh s kept t line (given n l h') v kind k p h cites e w c = w
 adopt_fresh s kept t line (met n l h') v kind k p h cites e w c = w
 
-meet_fresh : (s : Linkage) → IsPastKept s → (t line : ℕ) (d : Doing) (v : Var) (p : PNum) (h : HNum) (sort : Sort) (k : ℕ) (cites : Option ℕ)
+meet_fresh : (s : Linkage) → PastInvariant s → (t line : ℕ) (d : Doing) (v : Var) (p : PNum) (h : HNum) (sort : Sort) (k : ℕ) (cites : Option ℕ)
     → doing_at s.control t ≡ d → ThreadAllows d (M t) line (op.Meet v sort k p h) cites → Contains s.managed.adopted h.0 → ⊥
 meet_fresh s kept t line free v p h sort k cites e w c = w
 meet_fresh s kept t line (made n l p' h' sort' f) v p h sort k cites e w c = w
@@ -45,13 +45,13 @@ meet_fresh s kept t line (gripped n l p' h' sort' f) v p h sort k cites e w c = 
 meet_fresh s kept t line (given n l h') v p h sort k cites e w c = w
 meet_fresh s kept t line (met n l h') v p h sort k cites e w c = w
 
-pub turn_is_fresh : (s : Linkage) → IsPastKept s → (t line : ℕ) (d : Doing) (o : Op) (cites : Option ℕ) → doing_at s.control t ≡ d → ThreadAllows d (M t) line o cites → IsFresh s.managed o
+pub turn_is_fresh : (s : Linkage) → PastInvariant s → (t line : ℕ) (d : Doing) (o : Op) (cites : Option ℕ) → doing_at s.control t ≡ d → ThreadAllows d (M t) line o cites → IsFresh s.managed o
 turn_is_fresh s kept t line d (op.Adopt v kind k p h) cites e w = adopt_fresh s kept t line d v kind k p h cites e w
 turn_is_fresh s kept t line d (op.Meet v sort k p h) cites e w = meet_fresh s kept t line d v p h sort k cites e w
 turn_is_fresh s kept t line d o cites e w = tt
 
 -- whoever makes a step with a handle in hand is a managed thread
-step_fresh : (t : Thread) (s : Linkage) → IsPastKept s → (line : ℕ) (d : Doing) (o : Op) (cites : Option ℕ)
+step_fresh : (t : Thread) (s : Linkage) → PastInvariant s → (line : ℕ) (d : Doing) (o : Op) (cites : Option ℕ)
     → IsManagedStep t o → doing_of t s.control ≡ d → IsTurn t d line o cites → IsFresh s.managed o
 step_fresh (M n) s kept line d o cites is e w = turn_is_fresh s kept n line d o cites e w
 step_fresh (P n) s kept line d o cites is e w = others o is.1
@@ -68,5 +68,5 @@ pub turn_is_fresh_for : (t : Thread) (locked mine handed mine1 : View) (side : S
 turn_is_fresh_for t locked mine handed mine1 side index o cites is pass owns ks may l =
     let j = lent_joined t locked mine handed mine1 l ks.known may.stands.known in
     let state = j.managed_first (l.whole 0 owns) ∙ ks.state in
-    subst (λ s. IsFresh s o) state (step_fresh t (end_of j.joined.known.past) (known_past_is_kept j.joined.known.past j.joined.known.lawful) index may.doing o cites is
+    subst (λ s. IsFresh s o) state (step_fresh t (end_of j.joined.known.past) (past_invariant_holds j.joined.known.past j.joined.known.lawful) index may.doing o cites is
     (doing_told t j.joined.known.past may.stands.known.known.past (own_told t locked mine handed mine1 l ks.known may.stands.known pass) ∙ may.stands.doing) may.turn)

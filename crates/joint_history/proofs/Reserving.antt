@@ -34,7 +34,7 @@ use Rattle.known_laws.specs.PastEntries.{entries}
 use Rattle.known_laws.specs.Pasts.{Lawful, end_of, is_in, line}
 use Rattle.known_laws.proofs.Conditions.{fewer_are_weakened}
 use Rattle.known_laws.proofs.Growing.{entries_append}
-use Rattle.known_laws.proofs.KnownPasts.{known_past_is_kept}
+use Rattle.known_laws.proofs.KnownPasts.{past_invariant_holds}
 use Rattle.known_laws.proofs.PeerKeeps.{IsNoMirror, IsUnmirroring, same_mirror_after, unmirroring}
 use Rattle.known_laws.proofs.SnapTold.{mirrored_candidates_stay}
 use Rattle.peer_heap.specs.Cycles.{reserve_left, reserve_over}
@@ -349,7 +349,7 @@ weakening_has_room locked mine lent mine1 side index o count h weakened swept m 
     let j = lent_joined C locked mine lent mine1 l ks.known s.known in
     let at = driver_joined locked mine lent mine1 l ks.known pass index (weakening o count weakened swept) m s in
     let past = j.joined.known.past in
-    let kept = known_past_is_kept past j.joined.known.lawful in
+    let kept = past_invariant_holds past j.joined.known.lawful in
     let lent_r : PeerReserves lent side = reserves_on locked lent side side ks (lent_on C locked mine lent mine1 l) (nothing_kept side side refl refl) r in
     let room : HasRoomToWeaken (end_of past) side.reserve.left = lent_r.room j.joined (j.peer_first (l.whole 1 owns) ∙ ks.state) in
     let w : IsMirrorOf (end_of past).managed (end_of past).peer o count [] = subst (MirrorFits (end_of past).managed (end_of past).peer) at.come kept.mirror in

@@ -19,14 +19,14 @@ use Rattle.joint_machine.proofs.Members.{Contains-cons_cases, Contains-here, Con
 use Rattle.joint_laws.specs.LinkedInvariants.{IsHeldOne}
 use Rattle.joint_laws.specs.PeerInvariants.{IsTabled}
 use Rattle.known_laws.specs.Citations.{Cites, HasCited, IsClearOf, IsGiveOf, IsGripOf, IsLendOf, IsMakeOf, IsMeetOf, IsSnapOf}
-use Rattle.known_laws.specs.Driving.{IsPastKept}
+use Rattle.known_laws.specs.Driving.{PastInvariant}
 use Rattle.known_laws.specs.Facts.{TakesHandle}
 use Rattle.known_laws.specs.Pasts.{Lawful, end_of, line}
 use Rattle.known_laws.specs.PastEntries.{InPast, entries}
 use Rattle.known_laws.proofs.Citing.{pasts_cite}
 use Rattle.known_laws.proofs.CitedOnce.{each_stands_behind, in_back}
 use Rattle.known_laws.proofs.Facts.{none_leads_to_cleared, none_leads_to_freed, weak_is_waiting}
-use Rattle.known_laws.proofs.KnownPasts.{known_past_is_kept}
+use Rattle.known_laws.proofs.KnownPasts.{past_invariant_holds}
 use Rattle.known_laws.proofs.Leaving.{handles_leave_so}
 use Rattle.known_laws.proofs.PastLines.{in-line, line-in}
 use Rattle.known_laws.proofs.Restoring.{resolves_free_cleared, restored_hold_the_new}
@@ -144,8 +144,8 @@ managed_list_cites v s ks e c =
     subst (λ (z : Entry). CitesPeers v z z.made.op) w.is (managed_cites v a w.noted.entry b.back w.noted.entry.number b.all w.noted.entry.made.op b.cites)
 
 -- at the end of the past that is known
-kept_end : (v : View) (a : IsDrawnView v) → IsPastKept (end_of a.known.past)
-kept_end v a = known_past_is_kept a.known.past a.known.lawful
+kept_end : (v : View) (a : IsDrawnView v) → PastInvariant (end_of a.known.past)
+kept_end v a = past_invariant_holds a.known.past a.known.lawful
 
 takes_peer : (e : Entry) (h : ℕ) → TakesHandle e.made h → is_peer_event e.made.caller e.made.op ≡ true
 takes_peer e h w = ⊎_elim

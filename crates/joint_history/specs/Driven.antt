@@ -22,7 +22,7 @@ use Rattle.joint_machine.specs.Linked.{Linkage}
 use Rattle.joint_machine.specs.Managed.{Managed, OpenCycle, candidates_of}
 use Rattle.joint_machine.specs.ManagedReplay.{IsRefusedIn, refusal_to}
 use Rattle.joint_machine.specs.Told.{Told, Noted, Answer, nothing, contraction_of, resolution_of, phase_of}
-use Rattle.known_laws.specs.Driving.{IsPastKept}
+use Rattle.known_laws.specs.Driving.{PastInvariant}
 use Rattle.known_laws.specs.Known.{SideMayCome}
 use Rattle.known_laws.specs.Pasts.{HasSameDeadPart, end_of}
 use Rattle.order_table.specs.declared.views.View.{View}
@@ -63,7 +63,7 @@ pub record DriverMakes (old new : View) (stand : Stand) (seen : Managed) (e : En
   pub above : (i : ℕ) → IsBelow e.number (known old i)
   pub state : Linkage
   pub comes : SideMayCome state (note_of e told)
-  pub kept : IsPastKept state
+  pub kept : PastInvariant state
   pub stood : state.control.stand ≡ stand
   pub dead : HasSameDeadPart seen state.managed.managed
 

@@ -9,7 +9,7 @@ use Rattle.joint_machine.specs.Managed.{Managed}
 use Rattle.joint_machine.specs.ManagedReplay.{ManagedReplay}
 use Rattle.joint_machine.specs.Sides.{Side, managed_rules}
 use Rattle.joint_machine.specs.Told.{kept_pins, snap_of}
-use Rattle.joint_laws.specs.ManagedInvariants.{IsManagedKept}
+use Rattle.joint_laws.specs.ManagedInvariants.{ManagedInvariant}
 use Rattle.known_laws.specs.Known.{PinsStand}
 use Rattle.managed_heap.specs.declared.opening.Opened.{Opened}
 use Rattle.managed_heap.specs.Graphs.{IsDeadGraph}
@@ -65,7 +65,7 @@ pub record OpensCycle (old new : View) (index : ℕ) (out : Opened) (m : Managed
       (driver_entry out.number index (op.Snap out.cycle) (says.Snapped out.candidates out.freed) None)
       (kept_pins pins (snap_of freed candidates dead))
   pub seen : Managed
-  pub kept : IsManagedKept seen
+  pub kept : ManagedInvariant seen
   pub opened : seen.cycle ≡ Some record { number = out.cycle.0; candidates = candidates; dead = dead }
   pub graph : IsDeadGraph seen dead out.graph
   pub stands : DriverStands new index (snapped record { cycle = out.cycle.0; snap = out.number }) seen

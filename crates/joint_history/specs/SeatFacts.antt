@@ -14,7 +14,7 @@ use Rattle.joint_machine.specs.Peers.{weak}
 use Rattle.joint_machine.specs.PeerReplay.{Mirror, PeerReplay, Refers, TableRow}
 use Rattle.joint_machine.specs.Sides.{Side}
 use Rattle.joint_machine.specs.Told.{Answer, Noted, resolution_of, said_alive, said_cleared}
-use Rattle.joint_machine.specs.Replaying.{IsKept}
+use Rattle.joint_machine.specs.Replaying.{SaysAlive}
 use Rattle.joint_machine.specs.PinsTold.{bare_told}
 use Rattle.joint_laws.specs.LinkedInvariants.{HasStrength, IsHeldOne}
 use Rattle.joint_laws.specs.PeerInvariants.{IsTabled}
@@ -78,7 +78,7 @@ NoneLeadsToFreedIn s = (p q : ℕ) → IsLive s.peers.heap p
 abbrev pub NoneLeadsToClearedIn : View → Type 0
 NoneLeadsToClearedIn v = (a : IsDrawnView v) (o : OpenSnap) (answers : List Answer)
     → (end_of a.known.past).control.stand ≡ restoring o answers → (p q : ℕ) → Refers (end_of a.known.past).peer.refs p q
-    → (alive : Answer) → IsKept alive → IsAnswered (end_of a.known.past) answers alive p
+    → (alive : Answer) → SaysAlive alive → IsAnswered (end_of a.known.past) answers alive p
     → IsAnswered (end_of a.known.past) answers said_cleared q → ⊥
 
 -- the latest entry of a past, where it is a resolve, freed of its candidates exactly those whose restore answered

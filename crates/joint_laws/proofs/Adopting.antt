@@ -11,7 +11,7 @@ use Rattle.joint_machine.specs.declared.events.Reply.TheVariants as says
 use Rattle.joint_machine.specs.Heaps.{IsLive, answer, numbered_at, next_number, with_var}
 use Rattle.joint_machine.specs.Managed.{Managed, Holds, IsBridge, managed_name, with_row, managed_line}
 use Rattle.joint_machine.specs.ManagedReplay.{ManagedReplay, opening_replay, registered, with_twin, took_handle, adopt_by}
-use Rattle.joint_laws.specs.ManagedInvariants.{IsManagedKept, IsReplayKept}
+use Rattle.joint_laws.specs.ManagedInvariants.{ManagedInvariant, ReplayInvariant}
 use Rattle.joint_machine.proofs.Members.{Contains-nil}
 use Rattle.joint_machine.proofs.Numbered.{numbered-within, numbered-push_cases, numbered-push_old, numbered-push_new}
 use Rattle.joint_machine.proofs.Deciding.{none_some}
@@ -19,11 +19,11 @@ use Rattle.joint_laws.proofs.Fields.{with_object-length}
 use Rattle.joint_laws.proofs.Registered.{registered-none}
 use Rattle.joint_laws.proofs.ManagedLines.{managed_line-keeps}
 use Rattle.joint_laws.proofs.ManagedMoves.{GoesOn, GoesOn-row}
-use Rattle.joint_laws.proofs.ManagedKeeping.{IsManagedKept-opening, IsManagedKept-goes_on}
+use Rattle.joint_laws.proofs.ManagedKeeping.{ManagedInvariant-opening, ManagedInvariant-goes_on}
 
-pub IsReplayKept-opening : IsReplayKept opening_replay
-IsReplayKept-opening = record {
-  managed = IsManagedKept-opening;
+pub ReplayInvariant-opening : ReplayInvariant opening_replay
+ReplayInvariant-opening = record {
+  managed = ManagedInvariant-opening;
   adopted = λ m h q. absurd (nothing_held m h q);
   alone = λ m n h q r. absurd (nothing_held m h q);
   pairs = λ p m c. absurd (Contains-nil (p, m) c);
@@ -54,7 +54,7 @@ HoldsSame-row s v kind n = record {
   before = λ x h q. elim (numbered-push_cases s.held None x (Some h) q) [ inl w ↦ w | inr w ↦ absurd (none_some h w.1) ];
 }
 
-pub managed_line-same : (s : Managed) → IsManagedKept s → (t : ℕ) (a : Act) → HoldsSame s (managed_line s t a).state
+pub managed_line-same : (s : Managed) → ManagedInvariant s → (t : ℕ) (a : Act) → HoldsSame s (managed_line s t a).state
 managed_line-same s k t a = managed_line-keeps s (HoldsSame s) (record {
   stay = HoldsSame-as s s refl;
   on_heap = λ h v. HoldsSame-as s (record s { heap = h }) refl;
@@ -66,7 +66,7 @@ managed_line-same s k t a = managed_line-keeps s (HoldsSame s) (record {
 }) k.cells t a
 
 -- an event that goes on, and after which rows hold the same handles, leaves the registry kept
-module _ (s : ManagedReplay) (t : Managed) (k : IsReplayKept s) (g : GoesOn s.managed t) where
+module _ (s : ManagedReplay) (t : Managed) (k : ReplayInvariant s) (g : GoesOn s.managed t) where
   pub was-held : (x h : ℕ) → numbered_at s.managed.held x ≡ Some (Some h) → IsLive t.heap x → Holds s.managed x h
   was-held x h q l =
       let w = numbered-within s.managed.held x (Some h) q in
@@ -75,9 +75,9 @@ module _ (s : ManagedReplay) (t : Managed) (k : IsReplayKept s) (g : GoesOn s.ma
   pub stays-live : (x : ℕ) → IsLive s.managed.heap x → IsLive t.heap x
   stays-live x l = record { made = (l.made.0, omega (arith, l.made.1, g.made)); kept = λ c. l.kept (subst (λ f. Contains f x) g.freed c) }
 
-  pub IsReplayKept-plainly : HoldsSame s.managed t → IsReplayKept (record s { managed = t })
-  IsReplayKept-plainly same = record {
-    managed = IsManagedKept-goes_on s.managed t k.managed g;
+  pub ReplayInvariant-plainly : HoldsSame s.managed t → ReplayInvariant (record s { managed = t })
+  ReplayInvariant-plainly same = record {
+    managed = ManagedInvariant-goes_on s.managed t k.managed g;
     adopted = λ m h q. k.adopted m h (back m h q);
     alone = λ m n h q r. k.alone m n h (back m h q) (back n h r);
     pairs = λ p m c. (let b = k.pairs p m c in (b.0, record { live = stays-live m b.1.live; held = same.still m b.0 b.1.held }));
@@ -89,7 +89,7 @@ module _ (s : ManagedReplay) (t : Managed) (k : IsReplayKept s) (g : GoesOn s.ma
       back m h q = was-held m h (same.before m h q.held) q.live
 
 -- a new row takes a handle that was never adopted
-module _ (s : ManagedReplay) (v : ℕ) (kind : Kind) (n p h : ℕ) (k : IsReplayKept s) (virgin : Contains s.adopted h → ⊥) where
+module _ (s : ManagedReplay) (v : ℕ) (kind : Kind) (n p h : ℕ) (k : ReplayInvariant s) (virgin : Contains s.adopted h → ⊥) where
   abbrev pub after : Managed
   after = with_row s.managed v kind n (Some h)
 
@@ -99,8 +99,8 @@ module _ (s : ManagedReplay) (v : ℕ) (kind : Kind) (n p h : ℕ) (k : IsReplay
   pub grows : GoesOn s.managed after
   grows = GoesOn-row s.managed v kind n (Some h) k.managed.places
 
-  after_kept : IsManagedKept after
-  after_kept = IsManagedKept-goes_on s.managed after k.managed grows
+  after_kept : ManagedInvariant after
+  after_kept = ManagedInvariant-goes_on s.managed after k.managed grows
 
   -- a handle was held before, or is the one that the new row takes
   pub held-cases : (x g : ℕ) → Holds after x g → Holds s.managed x g ⊎ ((x ≡ newest) × (h ≡ g))
@@ -184,7 +184,7 @@ module _ (s : ManagedReplay) (v : ℕ) (kind : Kind) (n p h : ℕ) (k : IsReplay
   ]
 
   -- by whether the peer has a twin already
-  pub took-by : (o : Option ℕ) → registered s.registry p ≡ o → IsReplayKept (record s { managed = after; registry = with_twin s.registry p newest o; adopted = s.adopted ++ h ∷ [] })
+  pub took-by : (o : Option ℕ) → registered s.registry p ≡ o → ReplayInvariant (record s { managed = after; registry = with_twin s.registry p newest o; adopted = s.adopted ++ h ∷ [] })
   took-by (Some twin) e = record {
     managed = after_kept;
     adopted = adopted_after;
@@ -202,12 +202,12 @@ module _ (s : ManagedReplay) (v : ℕ) (kind : Kind) (n p h : ℕ) (k : IsReplay
     one_peer = pushed-one_peer;
   }
 
-  pub IsReplayKept-took : IsReplayKept (took_handle s p h newest after)
-  IsReplayKept-took = took-by (registered s.registry p) refl
+  pub ReplayInvariant-took : ReplayInvariant (took_handle s p h newest after)
+  ReplayInvariant-took = took-by (registered s.registry p) refl
 
 -- an `adopt`, by whether there is room
-pub adopt-by : (s : ManagedReplay) (v : ℕ) (kind : Kind) (n p h : ℕ) (b : Bool) → IsReplayKept s → (Contains s.adopted h → ⊥)
+pub adopt-by : (s : ManagedReplay) (v : ℕ) (kind : Kind) (n p h : ℕ) (b : Bool) → ReplayInvariant s → (Contains s.adopted h → ⊥)
     → (let a = if b then answer says.Full s.managed else answer (managed_name (next_number s.managed.heap)) (with_row s.managed v kind n (Some h)) in
-    IsReplayKept (adopt_by s p h a.state a.reply).state)
+    ReplayInvariant (adopt_by s p h a.state a.reply).state)
 adopt-by s v kind n p h true k w = k
-adopt-by s v kind n p h false k w = IsReplayKept-took s v kind n p h k w
+adopt-by s v kind n p h false k w = ReplayInvariant-took s v kind n p h k w

@@ -10,7 +10,7 @@ use Rattle.joint_machine.specs.Readers.{SnapsCycleAt, is_aside, is_set_aside}
 use Rattle.joint_machine.specs.Told.{Noted}
 use Rattle.joint_laws.specs.ReadingLaws.{IsLawfulReading, without_aside}
 use Rattle.joint_laws.specs.States.{state_at}
-use Rattle.joint_laws.proofs.LinkedEntries.{Of, AreKept-entry, AreKept-opening}
+use Rattle.joint_laws.proofs.LinkedEntries.{Of, BothInvariants-entry, BothInvariants-opening}
 use Rattle.joint_laws.proofs.ManagedEntries.{ManagedStep-entry}
 use Rattle.joint_laws.proofs.ManagedSteps.{ManagedStep, going_on, snapping, resolving, abandoning}
 use Rattle.joint_laws.proofs.MarkedOnce.{cycles_of, snap-number}
@@ -31,7 +31,7 @@ few : (ns : List Noted) (s : Linkage) (i : ℕ) → AllMayCome s ns → Of s →
 few [] s zero a k = omega arith
 few [] s (suc i) a k = omega arith
 few (n ∷ ns) s zero a k = omega arith
-few (n ∷ ns) s (suc i) a k = (let b = one-more s n a.0 k in let r = few ns (linkage_after s n) i a.1 (AreKept-entry s n a.0 k) in omega (arith, b, r))
+few (n ∷ ns) s (suc i) a k = (let b = one-more s n a.0 k in let r = few ns (linkage_after s n) i a.1 (BothInvariants-entry s n a.0 k) in omega (arith, b, r))
 
 no-more : (ns : List Noted) → length (without_aside ns) ≤ length ns
 no-more [] = omega arith
@@ -49,7 +49,7 @@ snap-few noted w i k x =
     let front = length (without_aside (take i noted)) in
     let may = reading_is_lawful noted w in
     let number = snap-number (state_at (without_aside noted) front) n k (comes-at (without_aside noted) front n may place.0) x.event in
-    let count = few (without_aside noted) opening_linkage front may AreKept-opening in
+    let count = few (without_aside noted) opening_linkage front may BothInvariants-opening in
     let within = slice_get_within (without_aside noted) front n place.0 in
     let less = no-more noted in
     omega (arith, number, count, within, less)

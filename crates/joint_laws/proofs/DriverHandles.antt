@@ -11,9 +11,9 @@ use Rattle.joint_machine.specs.Managed.{OpenCycle, Holds, candidates_of}
 use Rattle.joint_machine.specs.ManagedReplay.{ManagedReplay}
 use Rattle.joint_machine.specs.Peers.{strong, weak}
 use Rattle.joint_machine.specs.PeerReplay.{PeerReplay, TableRow, Mirror, with_weakened, with_restored, with_given, Refers}
-use Rattle.joint_laws.specs.ManagedInvariants.{IsReplayKept}
+use Rattle.joint_laws.specs.ManagedInvariants.{ReplayInvariant}
 use Rattle.joint_laws.specs.PeerInvariants.{IsTabled, IsIssued}
-use Rattle.joint_laws.specs.LinkedInvariants.{HasStrength, AreOwnersKept, doing_in, HasInHand, AreCallersKept, ForCandidates, IsGone, IsReplaced, IsMirrored, IsWeakenedBy, IsRestoredBy}
+use Rattle.joint_laws.specs.LinkedInvariants.{HasStrength, OwnersInvariant, doing_in, HasInHand, CallersInvariant, ForCandidates, IsGone, IsReplaced, IsMirrored, IsWeakenedBy, IsRestoredBy}
 use Rattle.joint_machine.proofs.Numbered.{numbered-within, numbered_set-here, numbered_set-same}
 use Rattle.joint_machine.proofs.Deciding.{none_some}
 use Rattle.joint_machine.proofs.HeapLemmas.{candidates_of-open}
@@ -26,7 +26,7 @@ use Rattle.joint_machine.proofs.Members.{Rises-once}
 pub callers_same : (touched : ℕ → Type 0) (r : ManagedReplay) (s t : PeerReplay) → HandlesAlike touched s t → t.peers.issued ≡ s.peers.issued
     → ((p : ℕ) → InSlot t.peers.heap p → InSlot s.peers.heap p) → ((x : ℕ) → IsLive t.peers.heap x → IsLive s.peers.heap x)
     → ((x p : ℕ) → Contains (fields_of t.peers.heap x) (Some p) → Contains (fields_of s.peers.heap x) (Some p)) → (ds : List Doing)
-    → AreCallersKept r s ds → ((u h : ℕ) → HasInHand (doing_in ds u) h → touched h → ⊥) → AreCallersKept r t ds
+    → CallersInvariant r s ds → ((u h : ℕ) → HasInHand (doing_in ds u) h → touched h → ⊥) → CallersInvariant r t ds
 callers_same touched r s t a e slots live fields ds k n = record {
   loose = λ u h w. IsLoose-peer touched r s t a h (n u h w) (k.loose u h w);
   apart = k.apart;
@@ -45,7 +45,7 @@ callers_same touched r s t a e slots live fields ds k n = record {
 
 -- the mirror stays, with its references
 pub mirrored_changed : (touched : ℕ → Type 0) (r : ManagedReplay) (s t : PeerReplay) (c : OpenCycle) → HandlesAlike touched s t
-    → AreOwnersKept r s → t.refs ≡ s.refs → (t.mirror ≡ None → s.mirror ≡ None) → IsMirrored r s c → IsMirrored r t c
+    → OwnersInvariant r s → t.refs ≡ s.refs → (t.mirror ≡ None → s.mirror ≡ None) → IsMirrored r s c → IsMirrored r t c
 mirrored_changed touched r s t c a o refs stands m = record {
   comps = m.comps;
   heavy = m.heavy;
@@ -71,7 +71,7 @@ given-stands None h e = refl
 given-stands (Some m) h e = absurd (none_some _ (sym e))
 
 -- the handle h of the candidate at one place is touched
-module _ (r : ManagedReplay) (s t : PeerReplay) (c : OpenCycle) (place m h : ℕ) (k : IsReplayKept r) (o : AreOwnersKept r s)
+module _ (r : ManagedReplay) (s t : PeerReplay) (c : OpenCycle) (place m h : ℕ) (k : ReplayInvariant r) (o : OwnersInvariant r s)
     (e : r.managed.cycle ≡ Some c) (at : slice_get c.candidates place ≡ Some m) (q : Holds r.managed m h) (a : HandlesAlike (Only h) s t) where
   is_candidate : Contains (candidates_of r.managed) m
   is_candidate = subst (λ z. Contains z m) (sym (candidates_of-open r.managed c e)) (place, slice_get_within c.candidates place m at, get_or_from_slice_get c.candidates place m m at)
@@ -88,7 +88,7 @@ module _ (r : ManagedReplay) (s t : PeerReplay) (c : OpenCycle) (place m h : ℕ
       let rows : x ≡ m = same_Some x m (sym f ∙ (ap (λ z. slice_get c.candidates z) same ∙ at)) in
       same_Some g h (same_Some (Some g) (Some h) (sym w.held ∙ (ap (λ z. numbered_at r.managed.held z) rows ∙ q.held)))
 
-  pub owners_touched : AreOwnersKept r t
+  pub owners_touched : OwnersInvariant r t
   owners_touched = record {
     held_ones = λ x g w. held-on (Only h) r s t a g (o.held_ones x g w);
     strong_ones = λ x g w out. a.on g strong (o.held_ones x g w) (λ same. out (subst (λ z. Contains (candidates_of r.managed) z) (sym (holder x g w same)) is_candidate)) (o.strong_ones x g w out);
@@ -104,7 +104,7 @@ module _ (r : ManagedReplay) (s t : PeerReplay) (c : OpenCycle) (place m h : ℕ
     adopted = λ g w. (let l = o.adopted g w in omega (arith, l, a.count));
   }
 
-  pub not_in_hand : (ds : List Doing) → AreCallersKept r s ds → (u g : ℕ) → HasInHand (doing_in ds u) g → Only h g → ⊥
+  pub not_in_hand : (ds : List Doing) → CallersInvariant r s ds → (u g : ℕ) → HasInHand (doing_in ds u) g → Only h g → ⊥
   not_in_hand ds w u g x same = (w.loose u g x).unowned m (subst (λ z. Holds r.managed m z) (sym same) q)
 
   -- it was weakened
@@ -133,7 +133,7 @@ pushed-new : (answers : List Answer) (b : Answer) → slice_get (answers ++ b �
 pushed-new [] b = refl
 pushed-new (y ∷ ys) b = pushed-new ys b
 
-module _ (r : ManagedReplay) (s t : PeerReplay) (c : OpenCycle) (answers : List Answer) (m h : ℕ) (k : IsReplayKept r) (o : AreOwnersKept r s)
+module _ (r : ManagedReplay) (s t : PeerReplay) (c : OpenCycle) (answers : List Answer) (m h : ℕ) (k : ReplayInvariant r) (o : OwnersInvariant r s)
     (e : r.managed.cycle ≡ Some c) (at : slice_get c.candidates (length answers) ≡ Some m) (q : Holds r.managed m h) (a : HandlesAlike (Only h) s t) where
   pub handles_restored : (b : Answer) → ((i g : ℕ) → slice_get answers i ≡ Some (said_alive g) → g ≡ h → ⊥) → ForCandidates r.managed c (IsRestoredBy s answers)
       → (((n : ℕ) × (b ≡ said_alive n) × IsReplaced t h n) ⊎ ((b ≡ said_cleared) × IsGone t h)) → ForCandidates r.managed c (IsRestoredBy t (answers ++ b ∷ []))

@@ -10,8 +10,8 @@ use Rattle.joint_machine.specs.Peers.{strong, weak}
 use Rattle.joint_machine.specs.PeerReplay.{PeerReplay}
 use Rattle.joint_machine.specs.Walks.{Reaches}
 use Rattle.joint_machine.proofs.WalkLemmas.{Reaches-mono}
-use Rattle.joint_laws.specs.ManagedInvariants.{IsCutOff, IsManagedKept}
-use Rattle.joint_laws.specs.LinkedInvariants.{HasStrength, IsRowOf, IsOpenedAs, ForCandidates, IsMirrored, IsWeakenedBy, IsRestoredBy, LeadsToUnfreed, IsBeforeMirror, IsDriverKept}
+use Rattle.joint_laws.specs.ManagedInvariants.{IsCutOff, ManagedInvariant}
+use Rattle.joint_laws.specs.LinkedInvariants.{HasStrength, IsRowOf, IsOpenedAs, ForCandidates, IsMirrored, IsWeakenedBy, IsRestoredBy, LeadsToUnfreed, IsBeforeMirror, DriverInvariant}
 use Rattle.joint_machine.proofs.Members.{Contains-at}
 use Rattle.joint_laws.proofs.ManagedMoves.{GoesOn}
 use Rattle.joint_laws.proofs.ManagedKeeping.{dead-fields, dead-held, cut_on}
@@ -19,7 +19,7 @@ use Rattle.joint_laws.proofs.DeadMirrors.{dead-walk, managed-walk}
 use Rattle.joint_laws.proofs.SameGraphs.{contraction-same}
 use Rattle.joint_laws.proofs.Mirrors.{mirror_edge-ends}
 
-module _ (r u : ManagedReplay) (s : PeerReplay) (k : IsManagedKept r.managed) (g : GoesOn r.managed u.managed) (c : OpenCycle) (o : r.managed.cycle ≡ Some c) where
+module _ (r u : ManagedReplay) (s : PeerReplay) (k : ManagedInvariant r.managed) (g : GoesOn r.managed u.managed) (c : OpenCycle) (o : r.managed.cycle ≡ Some c) where
   cut : IsCutOff r.managed c
   cut = k.dead c o
 
@@ -82,7 +82,7 @@ module _ (r u : ManagedReplay) (s : PeerReplay) (k : IsManagedKept r.managed) (g
       (Reaches-mono (DeadEdge u.managed c.dead) (DeadEdge r.managed c.dead) edge_back a b (dead-walk u.managed c after a b db walk)) in
       w a b p q ca cb back (row_back a p (candidate_dead a ca) ra) (row_back b q db rb) live
 
-module _ (r u : ManagedReplay) (s : PeerReplay) (k : IsManagedKept r.managed) (g : GoesOn r.managed u.managed) where
+module _ (r u : ManagedReplay) (s : PeerReplay) (k : ManagedInvariant r.managed) (g : GoesOn r.managed u.managed) where
   abbrev opened_on : (o : OpenSnap) (c : OpenCycle) → IsOpenedAs r o c → IsOpenedAs u o c
   opened_on o c w = record { cycle = g.cycle ∙ w.cycle; number = w.number }
 
@@ -94,7 +94,7 @@ module _ (r u : ManagedReplay) (s : PeerReplay) (k : IsManagedKept r.managed) (g
     handles = candidates_on r u s k g b.cycle b.opened.cycle (λ l h. HasStrength s h strong) b.handles;
   }
 
-  pub driver_goes_on : (d : Stand) → IsDriverKept r s d → IsDriverKept u s d
+  pub driver_goes_on : (d : Stand) → DriverInvariant r s d → DriverInvariant u s d
   driver_goes_on idle w = record { closed = g.cycle ∙ w.closed; none = w.none }
   driver_goes_on (snapped o) w = before_on o w
   driver_goes_on (contracted o comps heavy xrefs) w = record {

@@ -18,10 +18,10 @@ use Rattle.joint_machine.specs.Peers.{Issued, Strength, strong, peer_of}
 use Rattle.joint_machine.specs.PeerReplay.{PeerReplay, TableRow, Mirror, Marking, cleared_rows, Refers}
 use Rattle.joint_machine.specs.Walks.{Reaches}
 use Rattle.joint_machine.proofs.WalkLemmas.{Reaches-keeps}
-use Rattle.joint_laws.specs.ManagedInvariants.{IsCutOff, IsReplayKept}
+use Rattle.joint_laws.specs.ManagedInvariants.{IsCutOff, ReplayInvariant}
 use Rattle.joint_laws.specs.Mirrors.{MirrorEdge}
-use Rattle.joint_laws.specs.PeerInvariants.{IsTabled, IsIssued, IsSpared, IsPeerKept}
-use Rattle.joint_laws.specs.LinkedInvariants.{HasStrength, IsHeldOne, IsRowOf, AreOwnersKept, IsMirrored, LeadsToUnfreed, IsContracted, IsWeakening}
+use Rattle.joint_laws.specs.PeerInvariants.{IsTabled, IsIssued, IsSpared, PeerInvariant}
+use Rattle.joint_laws.specs.LinkedInvariants.{HasStrength, IsHeldOne, IsRowOf, OwnersInvariant, IsMirrored, LeadsToUnfreed, IsContracted, IsWeakening}
 use Rattle.joint_machine.proofs.Members.{at-Contains}
 use Rattle.joint_machine.proofs.Numbered.{numbered-within, numbered_set-other}
 use Rattle.joint_machine.proofs.Deciding.{none_some}
@@ -61,7 +61,7 @@ peer_of_row-is s issued m p w =
 -- an edge between rows, carried to their peers
 -- the mirror comes to stand
 module _ (r : ManagedReplay) (s : PeerReplay) (op : OpenSnap) (comps : List (List ℕ)) (heavy : List ℕ) (xrefs : List (ℕ × ℕ))
-    (k : IsReplayKept r) (pk : IsPeerKept s) (o : AreOwnersKept r s) (d : IsContracted r s op comps heavy xrefs) where
+    (k : ReplayInvariant r) (pk : PeerInvariant s) (o : OwnersInvariant r s) (d : IsContracted r s op comps heavy xrefs) where
   abbrev cyc : OpenCycle
   cyc = d.before.cycle
 
@@ -182,7 +182,8 @@ abbrev HasLivePeer : ManagedReplay → PeerReplay → ℕ → Type 0
 HasLivePeer r s x = (y : ℕ) → IsRowOf r.managed s.peers.issued x y → IsLive s.peers.heap y
 
 -- while the mirror stands, a candidate whose peer is unfreed leads only to such candidates
-pub mirrored-closed : (r : ManagedReplay) (s : PeerReplay) (c : OpenCycle) → IsReplayKept r → IsPeerKept s → AreOwnersKept r s → r.managed.cycle ≡ Some c → IsMirrored r s c → LeadsToUnfreed r s c
+pub mirrored-closed : (r : ManagedReplay) (s : PeerReplay) (c : OpenCycle) → ReplayInvariant r
+    → PeerInvariant s → OwnersInvariant r s → r.managed.cycle ≡ Some c → IsMirrored r s c → LeadsToUnfreed r s c
 mirrored-closed r s c k pk o e m a b p q ca cb walk ra rb live = last (Reaches-keeps (MirrorEdge m.comps m.xrefs) (HasLivePeer r s) step a b path (first ra live))
   where
     cut : IsCutOff r.managed c

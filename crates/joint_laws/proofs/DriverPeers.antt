@@ -13,11 +13,11 @@ use Rattle.joint_machine.specs.ManagedReplay.{ManagedReplay}
 use Rattle.joint_machine.specs.Peers.{Issued, strong, weak, peer_of}
 use Rattle.joint_machine.specs.PeerReplay.{PeerReplay, TableRow, Marking, row_of, table_target, Refers}
 use Rattle.joint_machine.proofs.Deciding.{none_some}
-use Rattle.joint_laws.specs.PeerInvariants.{IsIssued, IsPeerKept}
-use Rattle.joint_laws.specs.LinkedInvariants.{HasStrength, IsHeldOne, IsRowOf, AreOwnersKept, doing_in, HasInHand, HasPeer, HasMadePair, IsVirgin, AreCallersKept, ForCandidates, IsMirrored}
-use Rattle.joint_laws.specs.LinkedInvariants.{IsWeakenedBy, IsRestoredBy, LeadsToUnfreed, IsBeforeMirror, IsDriverKept, given_at}
+use Rattle.joint_laws.specs.PeerInvariants.{IsIssued, PeerInvariant}
+use Rattle.joint_laws.specs.LinkedInvariants.{HasStrength, IsHeldOne, IsRowOf, OwnersInvariant, doing_in, HasInHand, HasPeer, HasMadePair, IsVirgin, CallersInvariant, ForCandidates, IsMirrored}
+use Rattle.joint_laws.specs.LinkedInvariants.{IsWeakenedBy, IsRestoredBy, LeadsToUnfreed, IsBeforeMirror, DriverInvariant, given_at}
 use Rattle.joint_laws.proofs.Fields.{IsLive-more, fields-past}
-use Rattle.joint_laws.proofs.HandlesAlike.{HandlesAlike, nothing_touched, row_of-on, row_of-back, AreOwnersKept-peer, IsLoose-peer, weakened-peer, restored-peer}
+use Rattle.joint_laws.proofs.HandlesAlike.{HandlesAlike, nothing_touched, row_of-on, row_of-back, OwnersInvariant-peer, IsLoose-peer, weakened-peer, restored-peer}
 use Rattle.joint_laws.proofs.PeerQuiet.{IsQuiet}
 use Rattle.joint_machine.specs.Told.{Answer, said_alive}
 
@@ -29,7 +29,7 @@ StillOwn s t = (mk : Marking) → s.marking ≡ Some mk → mk.by ≡ C → (now
 abbrev pub StaysClosed : ManagedReplay → PeerReplay → PeerReplay → Type 0
 StaysClosed r s t = (c : OpenCycle) (answers : List Answer) → length answers ≡ length c.candidates → ForCandidates r.managed c (IsRestoredBy s answers) → LeadsToUnfreed r s c → LeadsToUnfreed r t c
 
-module _ (touched : ℕ → Type 0) (r : ManagedReplay) (s t : PeerReplay) (a : HandlesAlike touched s t) (owners : AreOwnersKept r s) (unowned : (m h : ℕ) → touched h → Holds r.managed m h → ⊥) where
+module _ (touched : ℕ → Type 0) (r : ManagedReplay) (s t : PeerReplay) (a : HandlesAlike touched s t) (owners : OwnersInvariant r s) (unowned : (m h : ℕ) → touched h → Holds r.managed m h → ⊥) where
   candidates_on : (c : OpenCycle) (Q R : ℕ → ℕ → Type 0) → ((l h : ℕ) → (touched h → ⊥) → IsHeldOne s h → Q l h → R l h) → ForCandidates r.managed c Q → ForCandidates r.managed c R
   candidates_on c Q R step all l m h e q = step l h (λ w. unowned m h w q) (owners.held_ones m h q) (all l m h e q)
 
@@ -56,7 +56,7 @@ module _ (touched : ℕ → Type 0) (r : ManagedReplay) (s t : PeerReplay) (a : 
     }
 
     pub driver_on : (d : Stand) → ((i g : ℕ) → slice_get (given_at d) i ≡ Some (said_alive g) → touched g → ⊥)
-        → ((o : OpenSnap) → d ≡ marked o → StillOwn s t) → StaysClosed r s t → IsDriverKept r s d → IsDriverKept r t d
+        → ((o : OpenSnap) → d ≡ marked o → StillOwn s t) → StaysClosed r s t → DriverInvariant r s d → DriverInvariant r t d
     driver_on idle avoids own closed k = record { closed = k.closed; none = mirror ∙ k.none }
     driver_on (snapped o) avoids own closed k = before_on o k
     driver_on (contracted o comps heavy xrefs) avoids own closed k = record { before = before_on o k.before; contraction = k.contraction }
@@ -126,15 +126,15 @@ made-has_peer (gripped n line p' h' sort f) h p w = absurd w
 made-has_peer (given n line h') h p w = absurd w
 made-has_peer (met n line h') h p w = absurd w
 
-module _ (via : ℕ → Type 0) (r : ManagedReplay) (s t : PeerReplay) (k : IsPeerKept s) (owners : AreOwnersKept r s) (q : IsQuiet via s t) where
+module _ (via : ℕ → Type 0) (r : ManagedReplay) (s t : PeerReplay) (k : PeerInvariant s) (owners : OwnersInvariant r s) (q : IsQuiet via s t) where
   live_on : (p : ℕ) → IsLive s.peers.heap p → IsLive t.peers.heap p
   live_on p l = IsLive-more s.peers.heap t.peers.heap q.made q.freed p l
 
   live_back : (p : ℕ) → IsMade s.peers.heap p → IsLive t.peers.heap p → IsLive s.peers.heap p
   live_back p m l = record { made = m; kept = λ c. l.kept (subst (λ f. Contains f p) (sym q.freed) c) }
 
-  pub owners_quiet : AreOwnersKept r t
-  owners_quiet = AreOwnersKept-peer nothing_touched r s t q.handles owners (λ m h w c. w) (λ h c w. w)
+  pub owners_quiet : OwnersInvariant r t
+  owners_quiet = OwnersInvariant-peer nothing_touched r s t q.handles owners (λ m h w c. w) (λ h c w. w)
 
   row_of-made : (m p : ℕ) → IsRowOf r.managed s.peers.issued m p → IsMade s.peers.heap p
   row_of-made m p w = subst (λ z. IsMade s.peers.heap z) w.leads (k.handles.peers w.handle w.row w.is_issued)
@@ -148,7 +148,7 @@ module _ (via : ℕ → Type 0) (r : ManagedReplay) (s t : PeerReplay) (k : IsPe
   own_quiet : StillOwn s t
   own_quiet mk e f = let now = q.marking mk e in (now.0, now.1, now.2 ∙ f)
 
-  pub driver_quiet : (d : Stand) → IsDriverKept r s d → IsDriverKept r t d
+  pub driver_quiet : (d : Stand) → DriverInvariant r s d → DriverInvariant r t d
   driver_quiet d kept = driver_on nothing_touched r s t q.handles owners (λ m h w c. w) q.refs q.mirror d (λ i g e c. c) (λ o e. own_quiet) closed_quiet kept
 
   -- what has a field was made
@@ -176,7 +176,7 @@ module _ (via : ℕ → Type 0) (r : ManagedReplay) (s t : PeerReplay) (k : IsPe
     unadopted = v.unadopted;
   }
 
-  pub callers_quiet : (ds : List Doing) → AreCallersKept r s ds → ((u h p g : ℕ) → HasMadePair (doing_in ds u) h p → via g → g ≡ h → ⊥) → AreCallersKept r t ds
+  pub callers_quiet : (ds : List Doing) → CallersInvariant r s ds → ((u h p g : ℕ) → HasMadePair (doing_in ds u) h p → via g → g ≡ h → ⊥) → CallersInvariant r t ds
   callers_quiet ds c other = record {
     loose = λ u h w. IsLoose-peer nothing_touched r s t q.handles h (λ n. n) (c.loose u h w);
     apart = c.apart;

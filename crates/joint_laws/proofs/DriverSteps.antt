@@ -13,9 +13,9 @@ use Rattle.joint_machine.specs.ManagedReplay.{ManagedReplay, without_twins}
 use Rattle.joint_machine.specs.Peers.{strong, weak, Issued}
 use Rattle.joint_machine.specs.PeerReplay.{PeerReplay, TableRow}
 use Rattle.joint_machine.specs.Walks.{Reaches}
-use Rattle.joint_laws.specs.ManagedInvariants.{IsCutOff, IsReplayKept}
-use Rattle.joint_laws.specs.PeerInvariants.{IsPeerKept}
-use Rattle.joint_laws.specs.LinkedInvariants.{HasStrength, IsHeldOne, IsRowOf, IsReplaced, AreOwnersKept, AreCallersKept, IsIdle, IsBeforeMirror, IsRestored, doing_in, HasInHand, HasMadePair}
+use Rattle.joint_laws.specs.ManagedInvariants.{IsCutOff, ReplayInvariant}
+use Rattle.joint_laws.specs.PeerInvariants.{PeerInvariant}
+use Rattle.joint_laws.specs.LinkedInvariants.{HasStrength, IsHeldOne, IsRowOf, IsReplaced, OwnersInvariant, CallersInvariant, IsIdle, IsBeforeMirror, IsRestored, doing_in, HasInHand, HasMadePair}
 use Rattle.joint_laws.specs.LinkedInvariants.{put_hands}
 use Rattle.joint_machine.proofs.Members.{Contains-nil, Contains-at, Contains-decided, at-Contains}
 use Rattle.joint_machine.proofs.Deciding.{none_some}
@@ -26,7 +26,7 @@ use Rattle.joint_machine.specs.Told.{said_alive, said_cleared, Answer, handles_g
 use Rattle.joint_machine.specs.Components.{Rises}
 use Rattle.joint_machine.proofs.Numbered.{numbered-within}
 use Rattle.joint_laws.proofs.HandlesAlike.{replaced-peer}
-use Rattle.joint_laws.proofs.Hands.{AreCallersKept-threads, given-apart}
+use Rattle.joint_laws.proofs.Hands.{CallersInvariant-threads, given-apart}
 use Rattle.joint_laws.proofs.Renewing.{IsGivenTo, renewed-cases, renewed-given, renewed-other, given-or, given-at}
 
 abbrev candidates_by : Option OpenCycle → List ℕ
@@ -42,7 +42,7 @@ strength-one s h a b =
     let same : a.0 ≡ b.0 = same_Some a.0 b.0 (same_Some (Some a.0) (Some b.0) (sym a.1 ∙ b.1)) in
     let f : strong ≡ weak = sym a.2 ∙ (ap (λ (z : TableRow). z.strength) same ∙ b.2) in cc
 
-module _ (r : ManagedReplay) (s : PeerReplay) (n : ℕ) (freed candidates dead : List ℕ) (k : IsReplayKept r) (o : AreOwnersKept r s) (p : IsSnapshot r.managed n freed candidates dead) where
+module _ (r : ManagedReplay) (s : PeerReplay) (n : ℕ) (freed candidates dead : List ℕ) (k : ReplayInvariant r) (o : OwnersInvariant r s) (p : IsSnapshot r.managed n freed candidates dead) where
   abbrev opening : ManagedReplay
   opening = record r { managed = with_snapshot r.managed freed candidates dead; contracted = false }
 
@@ -52,7 +52,7 @@ module _ (r : ManagedReplay) (s : PeerReplay) (n : ℕ) (freed candidates dead :
   pub snap_back : (m h : ℕ) → Holds opening.managed m h → Holds r.managed m h
   snap_back m h q = record { live = IsLive-before r.managed.heap freed m q.live; held = q.held }
 
-  pub owners_snapped : AreOwnersKept opening s
+  pub owners_snapped : OwnersInvariant opening s
   owners_snapped = record {
     held_ones = λ m h q. o.held_ones m h (snap_back m h q);
     strong_ones = λ m h q out. o.strong_ones m h (snap_back m h q) (no_candidates r.managed m p.closed);
@@ -62,7 +62,7 @@ module _ (r : ManagedReplay) (s : PeerReplay) (n : ℕ) (freed candidates dead :
     adopted = o.adopted;
   }
 
-  pub callers_snapped : (ds : List Doing) → AreCallersKept r s ds → AreCallersKept opening s ds
+  pub callers_snapped : (ds : List Doing) → CallersInvariant r s ds → CallersInvariant opening s ds
   callers_snapped ds c = record {
     loose = λ t h w. (let l = c.loose t h w in record { strong_one = l.strong_one; held_one = l.held_one; unowned = λ m q. l.unowned m (snap_back m h q) });
     apart = c.apart;
@@ -95,7 +95,7 @@ made-hand (given n line g) h p w = absurd w
 made-hand (met n line g) h p w = absurd w
 
 -- the candidates' answers tell which of their peers are unfreed
-module _ (r : ManagedReplay) (s : PeerReplay) (op : OpenSnap) (answers : List Answer) (k : IsReplayKept r) (pk : IsPeerKept s) (o : AreOwnersKept r s) (d : IsRestored r s op answers) where
+module _ (r : ManagedReplay) (s : PeerReplay) (op : OpenSnap) (answers : List Answer) (k : ReplayInvariant r) (pk : PeerInvariant s) (o : OwnersInvariant r s) (d : IsRestored r s op answers) where
   abbrev c : OpenCycle
   c = d.cycle
 
@@ -277,7 +277,7 @@ module _ (r : ManagedReplay) (s : PeerReplay) (op : OpenSnap) (answers : List An
         let b = had _ h v in
         (numbered-within s.peers.issued h (replaced _ h b.0 v b.1).new (replaced _ h b.0 v b.1).is).1
 
-    pub owners_resolved : AreOwnersKept closing s
+    pub owners_resolved : OwnersInvariant closing s
     owners_resolved = record {
       held_ones = held-then;
       strong_ones = λ m h q out. strong-then m h q;
@@ -288,7 +288,7 @@ module _ (r : ManagedReplay) (s : PeerReplay) (op : OpenSnap) (answers : List An
     }
 
     -- what threads have in hand no restore gave, so no row takes it
-    pub callers_resolved : (ds : List Doing) → AreCallersKept r s (put_hands answers ds) → AreCallersKept closing s ds
+    pub callers_resolved : (ds : List Doing) → CallersInvariant r s (put_hands answers ds) → CallersInvariant closing s ds
     callers_resolved ds all = record {
       loose = λ t h u. (let l = w.loose t h u in record {
         strong_one = l.strong_one;
@@ -312,14 +312,14 @@ module _ (r : ManagedReplay) (s : PeerReplay) (op : OpenSnap) (answers : List An
       lent_ones = λ t h u. Contains-append_left r.adopted (handles_given answers) h (w.lent_ones t h u);
     }
       where
-        w : AreCallersKept r s ds
-        w = AreCallersKept-threads r s answers ds all
+        w : CallersInvariant r s ds
+        w = CallersInvariant-threads r s answers ds all
 
     pub driver_resolved : IsIdle closing s
     driver_resolved = record { closed = refl; none = d.none }
 
 -- an abandonment, before the mirror
-module _ (r : ManagedReplay) (s : PeerReplay) (op : OpenSnap) (o : AreOwnersKept r s) (d : IsBeforeMirror r s op) where
+module _ (r : ManagedReplay) (s : PeerReplay) (op : OpenSnap) (o : OwnersInvariant r s) (d : IsBeforeMirror r s op) where
   abbrev leaving : ManagedReplay
   leaving = record r { managed = abandoned r.managed }
 
@@ -332,7 +332,7 @@ module _ (r : ManagedReplay) (s : PeerReplay) (op : OpenSnap) (o : AreOwnersKept
   candidate-strong : (m h : ℕ) → Contains d.cycle.candidates m → Holds r.managed m h → HasStrength s h strong
   candidate-strong m h cm q = let at = at-Contains d.cycle.candidates m cm in d.handles at.0 m h at.1 q
 
-  pub owners_abandoned : AreOwnersKept leaving s
+  pub owners_abandoned : OwnersInvariant leaving s
   owners_abandoned = record {
     held_ones = λ m h q. o.held_ones m h (as_before m h q);
     strong_ones = λ m h q out. elim (Contains-decided d.cycle.candidates m) [
@@ -346,7 +346,7 @@ module _ (r : ManagedReplay) (s : PeerReplay) (op : OpenSnap) (o : AreOwnersKept
     adopted = o.adopted;
   }
 
-  pub callers_abandoned : (ds : List Doing) → AreCallersKept r s ds → AreCallersKept leaving s ds
+  pub callers_abandoned : (ds : List Doing) → CallersInvariant r s ds → CallersInvariant leaving s ds
   callers_abandoned ds w = record {
     loose = λ t h u. (let l = w.loose t h u in record { strong_one = l.strong_one; held_one = l.held_one; unowned = λ m q. l.unowned m (as_before m h q) });
     apart = w.apart;

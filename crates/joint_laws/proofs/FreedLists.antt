@@ -17,10 +17,10 @@ use Rattle.joint_machine.specs.Lines.{is_peer_event}
 use Rattle.joint_machine.specs.Managed.{Managed}
 use Rattle.joint_machine.specs.PeerReplay.{PeerReplay, Marking, is_thread, swept_of, swept, peer_answer}
 use Rattle.joint_machine.specs.Told.{Told, Noted, sweep_of}
-use Rattle.joint_laws.specs.PeerInvariants.{IsPeerKept}
+use Rattle.joint_laws.specs.PeerInvariants.{PeerInvariant}
 use Rattle.joint_laws.specs.States.{state_at}
 use Rattle.joint_laws.proofs.Everywhere.{everywhere, from_state}
-use Rattle.joint_laws.proofs.LinkedEntries.{Of, AreKept-entry, AreKept-opening}
+use Rattle.joint_laws.proofs.LinkedEntries.{Of, BothInvariants-entry, BothInvariants-opening}
 use Rattle.joint_laws.proofs.ManagedEntries.{ManagedStep-entry}
 use Rattle.joint_laws.proofs.ManagedSteps.{ManagedStep, going_on, snapping, resolving, abandoning}
 use Rattle.joint_laws.proofs.PeerFreed.{entry-freed, sweep-or}
@@ -63,7 +63,7 @@ after-sweep : (s : Linkage) (m : Made) (told : Told) (o : Op) → m.op ≡ o →
 after-sweep s m told o e f = subst (λ z. Grows s.peer.peers.heap.freed (peer_after s.peer (record m { op = z }) told (is_peer_event m.caller z)).peers.heap.freed)
     (sym (e ∙ f)) (sweep-grows s.peer m.caller m.cites told)
 
-pub peers-grow : (s : Linkage) (n : Noted) → IsPeerKept s.peer → Grows s.peer.peers.heap.freed (linkage_after s n).peer.peers.heap.freed
+pub peers-grow : (s : Linkage) (n : Noted) → PeerInvariant s.peer → Grows s.peer.peers.heap.freed (linkage_after s n).peer.peers.heap.freed
 peers-grow s n k = elim (sweep-or n.entry.made.op) [
   | inl e ↦ after-sweep s n.entry.made n.told n.entry.made.op refl e
   | inr e ↦ grows-same _ _ (entry-freed s n k e)
@@ -77,10 +77,10 @@ record HaveGrown (a s : Linkage) : Type 0 where
 
 grown : (noted : List Noted) → AllMayCome opening_linkage noted → (i more : ℕ) → HaveGrown (state_at noted i) (state_at noted (i + more))
 grown noted may i more = from_state (HaveGrown (state_at noted i)) (λ s n m w. record {
-  kept = AreKept-entry s n m w.kept;
+  kept = BothInvariants-entry s n m w.kept;
   managed = grows-then _ _ _ w.managed (managed-grows s n m w.kept);
   peers = grows-then _ _ _ w.peers (peers-grow s n w.kept.peer);
-}) noted may i more (record { kept = everywhere Of AreKept-opening AreKept-entry noted may i; managed = grows-same _ _ refl; peers = grows-same _ _ refl })
+}) noted may i more (record { kept = everywhere Of BothInvariants-opening BothInvariants-entry noted may i; managed = grows-same _ _ refl; peers = grows-same _ _ refl })
 
 pub managed-grown : (noted : List Noted) → AllMayCome opening_linkage noted → (i more : ℕ) → Grows (state_at noted i).managed.managed.heap.freed (state_at noted (i + more)).managed.managed.heap.freed
 managed-grown noted may i more = (grown noted may i more).managed

@@ -23,8 +23,8 @@ use Rattle.joint_machine.specs.Told.{Told, Answer, said_alive, snap_of, contract
 use Rattle.joint_machine.proofs.HeapLemmas.{adopt_by-managed}
 use Rattle.joint_machine.proofs.Members.{at-Contains}
 use Rattle.joint_machine.proofs.WalkLemmas.{Reached-start, Reaches-self}
-use Rattle.joint_laws.specs.LinkedInvariants.{IsDriverKept}
-use Rattle.joint_laws.specs.ManagedInvariants.{IsReplayKept}
+use Rattle.joint_laws.specs.LinkedInvariants.{DriverInvariant}
+use Rattle.joint_laws.specs.ManagedInvariants.{ReplayInvariant}
 use Rattle.joint_laws.proofs.LinkedEntries.{Of, Allows, entry}
 use Rattle.joint_laws.proofs.ManagedMoves.{managed_line-goes_on, adopted-goes_on, met-goes_on, given_up-goes_on}
 use Rattle.joint_laws.proofs.ManagedSteps.{meet_by-managed, give_by-managed, twin-live}
@@ -36,7 +36,7 @@ FreesRows (op.Snap k) = Unit {0}
 FreesRows (op.Resolve k) = Unit {0}
 FreesRows _ = ⊥
 
-module _ (r : ManagedReplay) (k : IsReplayKept r) where
+module _ (r : ManagedReplay) (k : ReplayInvariant r) where
   abbrev Same : Managed → Type 0
   Same m = m.heap.freed ≡ r.managed.heap.freed
 
@@ -64,14 +64,14 @@ module _ (r : ManagedReplay) (k : IsReplayKept r) where
   answer-freed t _ told n w = refl
 
 -- so at an entry that is neither, the freed rows stay
-freed-by : (s : Linkage) (m : Made) (told : Told) (b : Bool) → IsReplayKept s.managed → (FreesRows m.op → ⊥)
+freed-by : (s : Linkage) (m : Made) (told : Told) (b : Bool) → ReplayInvariant s.managed → (FreesRows m.op → ⊥)
     → SideLawful b s m told → (managed_after s.managed m told b).managed.heap.freed ≡ s.managed.managed.heap.freed
 freed-by s m told true k n l = refl
 freed-by s m told false k n l = answer-freed s.managed k m.caller m.op told n l.allowed
 
 module _ (s : Linkage) (k : Of s) (x h p : ℕ) (holds : Holds s.managed.managed x h) (leads : peer_of s.peer.peers.issued h ≡ Some p) where
   -- at a resolution by the answers
-  kept-answer : (c : ℕ) (alive : List Answer) (freed : List ℕ) (cites : Option ℕ) (st : Stand) → IsDriverKept s.managed s.peer st
+  kept-answer : (c : ℕ) (alive : List Answer) (freed : List ℕ) (cites : Option ℕ) (st : Stand) → DriverInvariant s.managed s.peer st
       → MayResolveNow st c cites (resolution_of alive freed) → MayResolve s.managed c alive freed → Contains freed x → Contains s.peer.peers.heap.freed p
   kept-answer c alive freed cites (restored o answers clear) d a w f =
       let same : w.cycle ≡ d.cycle = same_Some w.cycle d.cycle (sym w.open_cycle.0 ∙ d.opened.cycle) in

@@ -31,14 +31,14 @@ use Rattle.joint_machine.proofs.HeapLemmas.{Contains-is_freed}
 use Rattle.joint_machine.proofs.Numbered.{slot-named, numbered-made}
 use Rattle.joint_laws.specs.AfterwardsLaws.{ReadsAreGone, WeakReadsAreGone, NoneIsMirrored}
 use Rattle.joint_laws.specs.Afterwards.{IsGoneAfter, NoMirrorBetween, ReadsPeer, ResolveFrees, SweepFrees}
-use Rattle.joint_laws.specs.PeerInvariants.{IsPeerKept}
+use Rattle.joint_laws.specs.PeerInvariants.{PeerInvariant}
 use Rattle.joint_laws.specs.States.{state_at}
 use Rattle.joint_laws.proofs.Everywhere.{everywhere, from_state}
 use Rattle.joint_laws.proofs.FreedLists.{grows-Contains, managed-grows, peers-grown}
 use Rattle.joint_laws.proofs.JointSteps.{may-end, bring-reply}
 use Rattle.joint_laws.proofs.SparedWalks.{peer_of-row}
 use Rattle.joint_laws.proofs.Journeys.{refs-entry}
-use Rattle.joint_laws.proofs.LinkedEntries.{Of, AreKept-entry, AreKept-opening}
+use Rattle.joint_laws.proofs.LinkedEntries.{Of, BothInvariants-entry, BothInvariants-opening}
 use Rattle.joint_laws.proofs.ManagedEntries.{ManagedStep-entry}
 use Rattle.joint_laws.proofs.ManagedSteps.{ManagedStep, going_on, snapping, resolving, abandoning}
 use Rattle.joint_laws.proofs.Places.{comes-at, after-at}
@@ -87,7 +87,7 @@ after-next k m s n may w = by (ManagedStep-entry s n may w.kept.managed)
     t = linkage_after s n
 
     make : k ≤ t.managed.managed.cycles → ((c : OpenCycle) → t.managed.managed.cycle ≡ Some c → k < c.number) → IsAfter k m (linkage_after s n)
-    make c l = record { kept = AreKept-entry s n may w.kept; freed = grows-Contains _ _ m (managed-grows s n may w.kept) w.freed; count = c; later = l }
+    make c l = record { kept = BothInvariants-entry s n may w.kept; freed = grows-Contains _ _ m (managed-grows s n may w.kept) w.freed; count = c; later = l }
 
     by : ManagedStep s.managed.managed (linkage_after s n).managed.managed → IsAfter k m (linkage_after s n)
     by (going_on g) = make (let e = g.cycles in let f = w.count in omega arith) (λ c e. w.later c (sym g.cycle ∙ e))
@@ -102,7 +102,7 @@ after-next k m s n may w = by (ManagedStep-entry s n may w.kept.managed)
 resolved-after : (s : Linkage) (n : Noted) (k m : ℕ) (alive : List Answer) (freed : List ℕ) → MayCome s n → Of s
     → n.entry.made.op ≡ op.Resolve record { 0 = k } → n.told ≡ resolution_of alive freed → Contains freed m → IsAfter k m (linkage_after s n)
 resolved-after s n k m alive freed may w e f c = record {
-  kept = AreKept-entry s n may w;
+  kept = BothInvariants-entry s n may w;
   freed = subst (λ (z : ManagedReplay). Contains z.managed.heap.freed m) is (Contains-append_right s.managed.managed.heap.freed freed m c);
   count = subst (λ (z : ManagedReplay). k ≤ z.managed.cycles) is (let a = (w.managed.managed.dead r.cycle r.open_cycle.0).latest in let b = r.open_cycle.1 in omega (arith, a, b));
   later = λ x q. absurd (none_some x (ap (λ (z : ManagedReplay). z.managed.cycle) is ∙ q));
@@ -122,7 +122,8 @@ resolved-after s n k m alive freed may w e f c = record {
 pub after-resolve : (noted : List Noted) → AllMayCome opening_linkage noted → (i j k m : ℕ) → ResolveFrees noted i k m → i < j → IsAfter k m (state_at noted j)
 after-resolve noted may i j k m r l =
     let first : IsAfter k m (state_at noted (suc i)) = subst (IsAfter k m) (sym (after-at noted i r.entry r.there))
-    (resolved-after (state_at noted i) r.entry k m r.alive r.freed (comes-at noted i r.entry may r.there) (everywhere Of AreKept-opening AreKept-entry noted may i) r.event r.told r.frees) in
+    (resolved-after (state_at noted i) r.entry k m r.alive r.freed (comes-at noted i r.entry may r.there)
+    (everywhere Of BothInvariants-opening BothInvariants-entry noted may i) r.event r.told r.frees) in
     subst (λ p. IsAfter k m (state_at noted p)) (omega (arith, l)) (from_state (IsAfter k m) (λ s n w a. after-next k m s n w a) noted may (suc i) (j - suc i) first)
 
 -- the reply of a read that is an entry of the managed side
@@ -171,7 +172,7 @@ swept-frees s n p freed may e f c = subst (λ (z : PeerReplay). Contains z.peers
         (sym (may-end n.entry.made.caller mk.by a.0)) (Contains-append_right s.peer.peers.heap.freed freed p c)
 
 -- a weak read of a freed peer
-pub weak-read : (s : Linkage) (n : Noted) (p : ℕ) → IsPeerKept s.peer → Contains s.peer.peers.heap.freed p → MayCome s n → ReadsPeer s.peer n p → n.entry.made.reply ≡ says.Gone
+pub weak-read : (s : Linkage) (n : Noted) (p : ℕ) → PeerInvariant s.peer → Contains s.peer.peers.heap.freed p → MayCome s n → ReadsPeer s.peer n p → n.entry.made.reply ≡ says.Gone
 weak-read s n p k freed may r = by n.entry.made.caller (subst (λ o. IsEvent n.entry.made.caller o) r.reads may.event)
     (subst (λ o. SideLawful (is_peer_event n.entry.made.caller o) s (record n.entry.made { op = o }) n.told) r.reads may.lawful)
   where
@@ -205,7 +206,7 @@ freed-since noted may i j p w l =
 
 pub weak_reads_are_gone : WeakReadsAreGone
 weak_reads_are_gone noted may i j p n w l there r =
-    weak-read (state_at noted j) n p (everywhere Of AreKept-opening AreKept-entry noted may j).peer (freed-since noted may i j p w l) (comes-at noted j n may there) r
+    weak-read (state_at noted j) n p (everywhere Of BothInvariants-opening BothInvariants-entry noted may j).peer (freed-since noted may i j p w l) (comes-at noted j n may there) r
 
 -- references
 clear-or : (o : Op) → ((k : Cycle) × (o ≡ op.Clear k)) ⊎ ((k : Cycle) → o ≡ op.Clear k → ⊥)

@@ -13,15 +13,15 @@ use Rattle.std.proofs.lemmas.List.Elements.{Contains-append_cases, Contains-appe
 use Rattle.joint_machine.specs.Heaps.{Heap, IsMade, IsLive, numbered_at, numbered_set, opening_heap, with_freed}
 use Rattle.joint_machine.specs.Peers.{Issued, held, raw, strong}
 use Rattle.joint_machine.specs.PeerReplay.{TableRow, fresh_row, cleared_rows}
-use Rattle.joint_laws.specs.PeerInvariants.{IsTabled, IsIssued, AreHandlesKept}
+use Rattle.joint_laws.specs.PeerInvariants.{IsTabled, IsIssued, HandlesInvariant}
 use Rattle.joint_machine.proofs.Numbered.{numbered-within, numbered-push_cases, numbered-push_old, numbered_set-length, numbered_set-same, numbered_set-other, replicate-none, Contains-set_cases}
 use Rattle.joint_machine.proofs.Deciding.{none_some, or-true}
 
 pub held-raw : (i : Issued) → i.hold ≡ held → i.hold ≡ raw → ⊥
 held-raw i e f = (let g : held ≡ raw = sym e ∙ f in cc)
 
-pub AreHandlesKept-opening : AreHandlesKept opening_heap [] [] (replicate 64 None)
-AreHandlesKept-opening = record {
+pub HandlesInvariant-opening : HandlesInvariant opening_heap [] [] (replicate 64 None)
+HandlesInvariant-opening = record {
   places = refl;
   peers = λ n i e. absurd (nothing n i e);
   uncleared = λ n row i t e. absurd (nothing n i e);
@@ -34,9 +34,9 @@ AreHandlesKept-opening = record {
     nothing : {A : Type 0} (n : ℕ) (x : A) → numbered_at [] n ≡ Some x → ⊥
     nothing n x e = (let w = numbered-within [] n x e in omega (arith, w.0, w.1))
 
-pub AreHandlesKept-heap : (h k : Heap) (issued : List Issued) (table : List (Option TableRow)) (names : List (Option ℕ)) → AreHandlesKept h issued table names
-    → ((x : ℕ) → IsMade h x → IsMade k x) → ((x : ℕ) → IsLive h x → IsLive k x) → ((x : ℕ) → Contains h.freed x → Contains k.freed x) → AreHandlesKept k issued table names
-AreHandlesKept-heap h k issued table names a made live freed = record {
+pub HandlesInvariant-heap : (h k : Heap) (issued : List Issued) (table : List (Option TableRow)) (names : List (Option ℕ)) → HandlesInvariant h issued table names
+    → ((x : ℕ) → IsMade h x → IsMade k x) → ((x : ℕ) → IsLive h x → IsLive k x) → ((x : ℕ) → Contains h.freed x → Contains k.freed x) → HandlesInvariant k issued table names
+HandlesInvariant-heap h k issued table names a made live freed = record {
   places = a.places;
   peers = λ n i e. made i.peer (a.peers n i e);
   uncleared = λ n row i t e c. live i.peer (a.uncleared n row i t e c);
@@ -47,9 +47,9 @@ AreHandlesKept-heap h k issued table names a made live freed = record {
 }
 
 -- a name comes to have a raw handle, or none
-pub AreHandlesKept-name : (h : Heap) (issued : List Issued) (table : List (Option TableRow)) (names : List (Option ℕ)) (g : ℕ) (o : Option ℕ) → AreHandlesKept h issued table names
-    → ((n : ℕ) → o ≡ Some n → (i : Issued) × IsIssued issued n i × (i.hold ≡ raw)) → AreHandlesKept h issued table (set names g o)
-AreHandlesKept-name h issued table names g o a r = record {
+pub HandlesInvariant-name : (h : Heap) (issued : List Issued) (table : List (Option TableRow)) (names : List (Option ℕ)) (g : ℕ) (o : Option ℕ) → HandlesInvariant h issued table names
+    → ((n : ℕ) → o ≡ Some n → (i : Issued) × IsIssued issued n i × (i.hold ≡ raw)) → HandlesInvariant h issued table (set names g o)
+HandlesInvariant-name h issued table names g o a r = record {
   places = a.places;
   peers = a.peers;
   uncleared = a.uncleared;
@@ -70,9 +70,9 @@ tabled-set_cases table n o m row t = elim (cases_eq m n) [
 pub issued-same : (issued : List Issued) (n m : ℕ) (i j : Issued) → m ≡ n → IsIssued issued n i → IsIssued issued m j → i ≡ j
 issued-same issued n m i j e p q = same_Some i j (sym p ∙ (ap (λ z. numbered_at issued z) (sym e) ∙ q))
 
-pub AreHandlesKept-gone : (h : Heap) (issued : List Issued) (table : List (Option TableRow)) (names : List (Option ℕ)) (n : ℕ)
-    → AreHandlesKept h issued table names → AreHandlesKept h issued (numbered_set table n None) names
-AreHandlesKept-gone h issued table names n a = record {
+pub HandlesInvariant-gone : (h : Heap) (issued : List Issued) (table : List (Option TableRow)) (names : List (Option ℕ)) (n : ℕ)
+    → HandlesInvariant h issued table names → HandlesInvariant h issued (numbered_set table n None) names
+HandlesInvariant-gone h issued table names n a = record {
   places = numbered_set-length table n None ∙ a.places;
   peers = a.peers;
   uncleared = λ m row i t e c. a.uncleared m row i (was m row t) e c;
@@ -87,7 +87,7 @@ AreHandlesKept-gone h issued table names n a = record {
 
 -- a held handle's row changes its strength
 module _ (h : Heap) (issued : List Issued) (table : List (Option TableRow)) (names : List (Option ℕ)) (n : ℕ) (old new : TableRow) (j : Issued)
-    (a : AreHandlesKept h issued table names) (t : IsTabled table n old) (p : IsIssued issued n j)
+    (a : HandlesInvariant h issued table names) (t : IsTabled table n old) (p : IsIssued issued n j)
     (hold : j.hold ≡ held) (same : new.cleared ≡ old.cleared) (sure : new.strength ≡ strong → new.cleared ≡ false) where
   by : (Q : TableRow → ℕ → Type 0) → ((m : ℕ) → m ≡ n → Q new m) → ((m : ℕ) (row : TableRow) → IsTabled table m row → Q row m)
       → (m : ℕ) (row : TableRow) → IsTabled (numbered_set table n (Some new)) m row → Q row m
@@ -96,8 +96,8 @@ module _ (h : Heap) (issued : List Issued) (table : List (Option TableRow)) (nam
     | inr q ↦ there m row q.1
   ]
 
-  pub AreHandlesKept-reset : AreHandlesKept h issued (numbered_set table n (Some new)) names
-  AreHandlesKept-reset = record {
+  pub HandlesInvariant-reset : HandlesInvariant h issued (numbered_set table n (Some new)) names
+  HandlesInvariant-reset = record {
     places = numbered_set-length table n (Some new) ∙ a.places;
     peers = a.peers;
     uncleared = λ m row i u e. by (λ z k. IsIssued issued k i → z.cleared ≡ false → IsLive h i.peer)
@@ -114,7 +114,7 @@ module _ (h : Heap) (issued : List Issued) (table : List (Option TableRow)) (nam
   }
 
 -- a handle is issued
-module _ (h : Heap) (issued : List Issued) (table : List (Option TableRow)) (names : List (Option ℕ)) (new : Issued) (a : AreHandlesKept h issued table names) (l : IsLive h new.peer) where
+module _ (h : Heap) (issued : List Issued) (table : List (Option TableRow)) (names : List (Option ℕ)) (new : Issued) (a : HandlesInvariant h issued table names) (l : IsLive h new.peer) where
   abbrev row_new : TableRow
   row_new = record { strength = new.strength; cleared = false }
 
@@ -131,8 +131,8 @@ module _ (h : Heap) (issued : List Issued) (table : List (Option TableRow)) (nam
     ]
   ]
 
-  pub AreHandlesKept-issue : AreHandlesKept h (issued ++ new ∷ []) (table ++ fresh_row new ∷ []) names
-  AreHandlesKept-issue = record {
+  pub HandlesInvariant-issue : HandlesInvariant h (issued ++ new ∷ []) (table ++ fresh_row new ∷ []) names
+  HandlesInvariant-issue = record {
     places = omega (arith, length-append table (fresh_row new ∷ []), length-append issued (new ∷ []), a.places);
     peers = λ m i e. elim (numbered-push_cases issued new m i e) [
       | inl f ↦ a.peers m i f
@@ -192,7 +192,7 @@ none-any xs x false e n = refl
 none-any xs x true e n = absurd (n (Contains-from_any eqb-true x xs e))
 
 -- peers are freed that no strong handle of the table leads to
-module _ (h : Heap) (issued : List Issued) (table : List (Option TableRow)) (names : List (Option ℕ)) (freed : List ℕ) (a : AreHandlesKept h issued table names)
+module _ (h : Heap) (issued : List Issued) (table : List (Option TableRow)) (names : List (Option ℕ)) (freed : List ℕ) (a : HandlesInvariant h issued table names)
     (stays : (n : ℕ) (row : TableRow) (i : Issued) → IsTabled table n row → row.strength ≡ strong → IsIssued issued n i → Contains freed i.peer → ⊥) where
   -- the one row of a handle before
   swept-by : (Q : TableRow → ℕ → Issued → Type 0) → ((n : ℕ) (old : TableRow) (i : Issued) → IsTabled table n old → IsIssued issued n i → Q (swept_row freed i old) n i)
@@ -202,8 +202,8 @@ module _ (h : Heap) (issued : List Issued) (table : List (Option TableRow)) (nam
       let same : r.0 ≡ i = same_Some r.0 i (sym r.2 ∙ e) in
       subst (λ z. Q z n i) r.4 (subst (λ z. Q (swept_row freed z r.1) n i) (sym same) (each n r.1 i r.3 e))
 
-  pub AreHandlesKept-swept : AreHandlesKept (with_freed h freed) issued (cleared_rows freed issued table) names
-  AreHandlesKept-swept = record {
+  pub HandlesInvariant-swept : HandlesInvariant (with_freed h freed) issued (cleared_rows freed issued table) names
+  HandlesInvariant-swept = record {
     places = swept-length freed issued table ∙ a.places;
     peers = a.peers;
     uncleared = swept-by (λ row n i. row.cleared ≡ false → IsLive (with_freed h freed) i.peer) (λ n old i t e c. (

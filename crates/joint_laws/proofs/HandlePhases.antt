@@ -6,7 +6,7 @@ use Rattle.joint_machine.specs.Control.{OpenSnap, Stand, idle, snapped, contract
 use Rattle.joint_machine.specs.Managed.{OpenCycle, Holds, candidates_of}
 use Rattle.joint_machine.specs.ManagedReplay.{ManagedReplay}
 use Rattle.joint_machine.specs.PeerReplay.{PeerReplay}
-use Rattle.joint_laws.specs.LinkedInvariants.{IsDriverKept, IsOpenedAs, ForCandidates}
+use Rattle.joint_laws.specs.LinkedInvariants.{DriverInvariant, IsOpenedAs, ForCandidates}
 use Rattle.joint_laws.specs.LinkedLaws.{HeldByPhase, IsByPhase}
 use Rattle.joint_laws.specs.States.{state_at}
 use Rattle.joint_machine.proofs.Members.{Contains-at}
@@ -18,7 +18,7 @@ module _ (r : ManagedReplay) (s : PeerReplay) (l m h : ℕ) (e : slice_get (cand
   of_opened : (o : OpenSnap) (c : OpenCycle) (Q : ℕ → ℕ → Type 0) → IsOpenedAs r o c → ForCandidates r.managed c Q → Q l h
   of_opened o c Q w handles = handles l m h (subst (λ z. slice_get z l ≡ Some m) (candidates_of-open r.managed c w.cycle) e) q
 
-  by_stand : (d : Stand) → IsDriverKept r s d → IsByPhase s d l h
+  by_stand : (d : Stand) → DriverInvariant r s d → IsByPhase s d l h
   by_stand idle k = no_candidates r.managed m k.closed (Contains-at (candidates_of r.managed) l m e)
   by_stand (snapped o) k = of_opened o k.cycle _ k.opened k.handles
   by_stand (contracted o comps heavy xrefs) k = of_opened o k.before.cycle _ k.before.opened k.before.handles

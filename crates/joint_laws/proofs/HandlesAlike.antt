@@ -9,7 +9,7 @@ use Rattle.joint_machine.specs.ManagedReplay.{ManagedReplay}
 use Rattle.joint_machine.specs.Peers.{Issued, Strength, strong, weak}
 use Rattle.joint_machine.specs.PeerReplay.{PeerReplay}
 use Rattle.joint_laws.specs.PeerInvariants.{IsIssued}
-use Rattle.joint_laws.specs.LinkedInvariants.{HasStrength, IsHeldOne, IsRowOf, AreOwnersKept, IsLoose, IsGone, IsReplaced, IsWeakenedBy, IsRestoredBy}
+use Rattle.joint_laws.specs.LinkedInvariants.{HasStrength, IsHeldOne, IsRowOf, OwnersInvariant, IsLoose, IsGone, IsReplaced, IsWeakenedBy, IsRestoredBy}
 use Rattle.joint_machine.specs.Told.{Answer, said_alive}
 
 pub record HandlesAlike (touched : ℕ → Type 0) (s t : PeerReplay) : Type 0 where
@@ -48,15 +48,15 @@ module _ (touched : ℕ → Type 0) (r : ManagedReplay) (s t : PeerReplay) (a : 
   pub row_of-on : (m p : ℕ) → IsRowOf r.managed s.peers.issued m p → IsRowOf r.managed t.peers.issued m p
   row_of-on m p w = record { handle = w.handle; holds = w.holds; row = w.row; is_issued = a.issued_on w.handle w.row w.is_issued; leads = w.leads }
 
-  pub row_of-back : AreOwnersKept r s → (m p : ℕ) → IsRowOf r.managed t.peers.issued m p → IsRowOf r.managed s.peers.issued m p
+  pub row_of-back : OwnersInvariant r s → (m p : ℕ) → IsRowOf r.managed t.peers.issued m p → IsRowOf r.managed s.peers.issued m p
   row_of-back k m p w =
       let was = k.held_ones m w.handle w.holds in
       let same : was.0 ≡ w.row = same_Some was.0 w.row (sym (a.issued_on w.handle was.0 was.1) ∙ w.is_issued) in
       record { handle = w.handle; holds = w.holds; row = was.0; is_issued = was.1; leads = ap (λ (z : Issued). z.peer) same ∙ w.leads }
 
   -- owners stay kept, where no touched handle is held by a row, and none that was touched is weak
-  pub AreOwnersKept-peer : AreOwnersKept r s → ((m h : ℕ) → touched h → Holds r.managed m h → ⊥) → ((h : ℕ) → HasStrength t h weak → touched h → ⊥) → AreOwnersKept r t
-  AreOwnersKept-peer k unowned settled = record {
+  pub OwnersInvariant-peer : OwnersInvariant r s → ((m h : ℕ) → touched h → Holds r.managed m h → ⊥) → ((h : ℕ) → HasStrength t h weak → touched h → ⊥) → OwnersInvariant r t
+  OwnersInvariant-peer k unowned settled = record {
     held_ones = λ m h q. held-on h (k.held_ones m h q);
     strong_ones = λ m h q n. a.on h strong (k.held_ones m h q) (λ w. unowned m h w q) (k.strong_ones m h q n);
     weak_ones = λ h w q. elim (a.fresh h weak q w) [

@@ -7,7 +7,7 @@ use Rattle.joint_machine.specs.ManagedReplay.{ManagedReplay}
 use Rattle.joint_machine.specs.Peers.{Issued}
 use Rattle.joint_machine.specs.PeerReplay.{PeerReplay}
 use Rattle.joint_laws.specs.PeerInvariants.{IsIssued}
-use Rattle.joint_laws.specs.LinkedInvariants.{doing_in, HasInHand, HasPeer, HasMadePair, HasLent, IsLoose, IsVirgin, AreCallersKept, put_hands}
+use Rattle.joint_laws.specs.LinkedInvariants.{doing_in, HasInHand, HasPeer, HasMadePair, HasLent, IsLoose, IsVirgin, CallersInvariant, put_hands}
 use Rattle.joint_machine.specs.Told.{Answer, said_alive, said_cleared}
 use Rattle.joint_machine.proofs.Deciding.{none_some}
 
@@ -30,8 +30,8 @@ opening-free zero t = refl
 opening-free (suc n) zero = refl
 opening-free (suc n) (suc t) = opening-free n t
 
-pub AreCallersKept-opening : (r : ManagedReplay) (s : PeerReplay) (n : ℕ) → AreCallersKept r s (replicate n free)
-AreCallersKept-opening r s n = record {
+pub CallersInvariant-opening : (r : ManagedReplay) (s : PeerReplay) (n : ℕ) → CallersInvariant r s (replicate n free)
+CallersInvariant-opening r s n = record {
   loose = λ t h w. absurd (subst (λ z. HasInHand z h) (opening-free n t) w);
   apart = λ t u h w v. absurd (subst (λ z. HasInHand z h) (opening-free n t) w);
   peers = λ t h p w. absurd (subst (λ z. HasPeer z h p) (opening-free n t) w);
@@ -50,7 +50,7 @@ pub record MayHave (r : ManagedReplay) (s : PeerReplay) (ds : List Doing) (t : �
 pub MayHave-free : (r : ManagedReplay) (s : PeerReplay) (ds : List Doing) (t : ℕ) → MayHave r s ds t free
 MayHave-free r s ds t = record { loose = λ h w. absurd w; apart = λ h u w v. absurd w; peers = λ h p w. absurd w; virgins = λ h p w. absurd w; lent_ones = λ h w. absurd w }
 
-module _ (r : ManagedReplay) (s : PeerReplay) (ds : List Doing) (t : ℕ) (d : Doing) (k : AreCallersKept r s ds) (m : MayHave r s ds t d) where
+module _ (r : ManagedReplay) (s : PeerReplay) (ds : List Doing) (t : ℕ) (d : Doing) (k : CallersInvariant r s ds) (m : MayHave r s ds t d) where
   by : (Q : Doing → Type 0) (R : Type 0) (u : ℕ) → (u ≡ t → Q d → R) → (Q (doing_in ds u) → R) → Q (doing_in (set ds t d) u) → R
   by Q R u new old w = elim (doing-set_cases ds t d u) [
     | inl c ↦ new c.0 (subst Q c.1 w)
@@ -70,8 +70,8 @@ module _ (r : ManagedReplay) (s : PeerReplay) (ds : List Doing) (t : ℕ) (d : D
     ]
   ]
 
-  pub AreCallersKept-set : AreCallersKept r s (set ds t d)
-  AreCallersKept-set = record {
+  pub CallersInvariant-set : CallersInvariant r s (set ds t d)
+  CallersInvariant-set = record {
     loose = λ u h. by (λ z. HasInHand z h) (IsLoose r s h) u (λ e. m.loose h) (k.loose u h);
     apart = apart_set;
     peers = λ u h p. by (λ z. HasPeer z h p) ((i : Issued) × IsIssued s.peers.issued h i × (i.peer ≡ p)) u (λ e. m.peers h p) (k.peers u h p);
@@ -80,10 +80,10 @@ module _ (r : ManagedReplay) (s : PeerReplay) (ds : List Doing) (t : ℕ) (d : D
   }
 
 -- the thread puts down what it has, and then nobody has it
-pub AreCallersKept-free : (r : ManagedReplay) (s : PeerReplay) (ds : List Doing) (t : ℕ) → AreCallersKept r s ds → AreCallersKept r s (set ds t free)
-AreCallersKept-free r s ds t k = AreCallersKept-set r s ds t free k (MayHave-free r s ds t)
+pub CallersInvariant-free : (r : ManagedReplay) (s : PeerReplay) (ds : List Doing) (t : ℕ) → CallersInvariant r s ds → CallersInvariant r s (set ds t free)
+CallersInvariant-free r s ds t k = CallersInvariant-set r s ds t free k (MayHave-free r s ds t)
 
-pub put_down : (r : ManagedReplay) (s : PeerReplay) (ds : List Doing) (t h : ℕ) → AreCallersKept r s ds → HasInHand (doing_in ds t) h → (u : ℕ) → HasInHand (doing_in (set ds t free) u) h → ⊥
+pub put_down : (r : ManagedReplay) (s : PeerReplay) (ds : List Doing) (t h : ℕ) → CallersInvariant r s ds → HasInHand (doing_in ds t) h → (u : ℕ) → HasInHand (doing_in (set ds t free) u) h → ⊥
 put_down r s ds t h k w u x = elim (doing-set_cases ds t free u) [
   | inl c ↦ in_hand-free h (subst (λ z. HasInHand z h) c.1 x)
   | inr c ↦ (
@@ -137,8 +137,8 @@ given-hand (said_cleared ∷ answers) ds zero g e = absurd (let q : said_cleared
 given-hand (said_cleared ∷ answers) ds (suc i) g e = given-hand answers ds i g e
 
 -- what threads have in hand, without the driver's
-pub AreCallersKept-threads : (r : ManagedReplay) (s : PeerReplay) (answers : List Answer) (ds : List Doing) → AreCallersKept r s (put_hands answers ds) → AreCallersKept r s ds
-AreCallersKept-threads r s answers ds k = record {
+pub CallersInvariant-threads : (r : ManagedReplay) (s : PeerReplay) (answers : List Answer) (ds : List Doing) → CallersInvariant r s (put_hands answers ds) → CallersInvariant r s ds
+CallersInvariant-threads r s answers ds k = record {
   loose = λ t h w. k.loose (shift answers t) h (subst (λ z. HasInHand z h) (sym (put-doing answers ds t)) w);
   apart = λ t u h w x. (
       let e = k.apart (shift answers t) (shift answers u) h (subst (λ z. HasInHand z h) (sym (put-doing answers ds t)) w) (subst (λ z. HasInHand z h) (sym (put-doing answers ds u)) x) in
@@ -152,7 +152,7 @@ AreCallersKept-threads r s answers ds k = record {
 
 -- no thread has in hand what a restore gave
 pub given-apart : (r : ManagedReplay) (s : PeerReplay) (answers : List Answer) (ds : List Doing)
-    → AreCallersKept r s (put_hands answers ds) → (i g t : ℕ) → slice_get answers i ≡ Some (said_alive g) → HasInHand (doing_in ds t) g → ⊥
+    → CallersInvariant r s (put_hands answers ds) → (i g t : ℕ) → slice_get answers i ≡ Some (said_alive g) → HasInHand (doing_in ds t) g → ⊥
 given-apart r s answers ds k i g t e w =
     let v = given-hand answers ds i g e in
     let same = k.apart v.0 (shift answers t) g v.2 (subst (λ z. HasInHand z g) (sym (put-doing answers ds t)) w) in
@@ -160,9 +160,9 @@ given-apart r s answers ds k i g t e w =
     omega (arith, v.1, same, more)
 
 -- one handle more comes into a hand
-pub AreCallersKept-cons : (r : ManagedReplay) (s : PeerReplay) (ds : List Doing) (h : ℕ) → AreCallersKept r s ds
-    → IsLoose r s h → ((t : ℕ) → HasInHand (doing_in ds t) h → ⊥) → AreCallersKept r s (given 0 0 h ∷ ds)
-AreCallersKept-cons r s ds h k l n = record { loose = loose; apart = apart; peers = peers; virgins = virgins; lent_ones = lent }
+pub CallersInvariant-cons : (r : ManagedReplay) (s : PeerReplay) (ds : List Doing) (h : ℕ) → CallersInvariant r s ds
+    → IsLoose r s h → ((t : ℕ) → HasInHand (doing_in ds t) h → ⊥) → CallersInvariant r s (given 0 0 h ∷ ds)
+CallersInvariant-cons r s ds h k l n = record { loose = loose; apart = apart; peers = peers; virgins = virgins; lent_ones = lent }
   where
     loose : (t g : ℕ) → HasInHand (doing_in (given 0 0 h ∷ ds) t) g → IsLoose r s g
     loose zero g w = subst (IsLoose r s) w l

@@ -6,22 +6,22 @@ use Rattle.std.proofs.lemmas.Bool.{cases_lt, cases_eq}
 use Rattle.std.proofs.lemmas.Option.{same_Some}
 use Rattle.std.proofs.lemmas.List.Elements.{Contains-append_cases, Contains-append_left, Contains-append_right}
 use Rattle.joint_machine.specs.Heaps.{Heap, IsLive, InSlot, fields_of, opening_heap, next_number, with_var, with_static, with_object, with_freed}
-use Rattle.joint_laws.specs.PeerInvariants.{IsHeapKept}
+use Rattle.joint_laws.specs.PeerInvariants.{HeapInvariant}
 use Rattle.joint_machine.proofs.Members.{Contains-nil}
 use Rattle.joint_machine.proofs.Numbered.{replicate-none, Contains-set_cases}
 use Rattle.joint_machine.proofs.HeapLemmas.{IsLive-later}
 use Rattle.joint_laws.proofs.Fields.{IsLive-more, fields-past, with_object-old, with_object-new, with_object-length}
 use Rattle.joint_laws.proofs.HeapMoves.{HasMoved, IsInReach}
 
-pub IsHeapKept-opening : IsHeapKept opening_heap
-IsHeapKept-opening = record {
+pub HeapInvariant-opening : HeapInvariant opening_heap
+HeapInvariant-opening = record {
   freed = λ x c. absurd (Contains-nil x c);
   slots = λ x i. elim i [ inl c ↦ absurd (replicate-none 72 x c) | inr c ↦ absurd (replicate-none 16 x c) ];
   fields = λ x y l c. absurd (fields-past opening_heap x (Some y) (omega (arith, l.made.0)) c);
 }
 
 -- what is in reach is unfreed
-pub in_reach-live : (h : Heap) (x : ℕ) → IsHeapKept h → IsInReach h x → IsLive h x
+pub in_reach-live : (h : Heap) (x : ℕ) → HeapInvariant h → IsInReach h x → IsLive h x
 in_reach-live h x k r = elim r [ inl i ↦ k.slots x i | inr z ↦ k.fields z.0 x (k.slots z.0 z.1) z.2 ]
 
 pub moved-live : (h k : Heap) → HasMoved h k → (x : ℕ) → IsLive h x → IsLive k x
@@ -30,14 +30,14 @@ moved-live h k v x l = IsLive-more h k (omega (arith, v.made)) v.freed x l
 pub moved-was_live : (h k : Heap) → HasMoved h k → (x : ℕ) → IsLive k x → IsLive h x
 moved-was_live h k v x l = IsLive-more k h (omega (arith, v.made)) (sym v.freed) x l
 
-pub IsHeapKept-moved : (h k : Heap) → IsHeapKept h → HasMoved h k → IsHeapKept k
-IsHeapKept-moved h k kept v = record {
+pub HeapInvariant-moved : (h k : Heap) → HeapInvariant h → HasMoved h k → HeapInvariant k
+HeapInvariant-moved h k kept v = record {
   freed = λ x c. (let m = kept.freed x (subst (λ f. Contains f x) v.freed c) in (m.0, omega (arith, m.1, v.made)));
   slots = λ x i. moved-live h k v x (in_reach-live h x kept (v.slots x i));
   fields = λ x y l c. moved-live h k v y (elim (v.fields x y c) [ inl w ↦ kept.fields x y (moved-was_live h k v x l) w | inr w ↦ kept.slots y w.1 ]);
 }
 
-pub object-new : (h : Heap) (n : ℕ) → IsHeapKept h → IsLive (with_object h n) (next_number h)
+pub object-new : (h : Heap) (n : ℕ) → HeapInvariant h → IsLive (with_object h n) (next_number h)
 object-new h n k = record {
   made = (omega arith, omega (arith, with_object-length h n));
   kept = λ c. (let m = k.freed (next_number h) c in omega (arith, m.1));
@@ -56,16 +56,16 @@ object-field h n x y c = elim (cases_eq x (next_number h)) [
 pub object-was_live : (h : Heap) (n x : ℕ) → x ≤ length h.fields → IsLive (with_object h n) x → IsLive h x
 object-was_live h n x b l = record { made = (l.made.0, b); kept = l.kept }
 
-pub IsHeapKept-object : (h : Heap) (n : ℕ) → IsHeapKept h → IsHeapKept (with_object h n)
-IsHeapKept-object h n k = record {
+pub HeapInvariant-object : (h : Heap) (n : ℕ) → HeapInvariant h → HeapInvariant (with_object h n)
+HeapInvariant-object h n k = record {
   freed = λ x c. (let m = k.freed x c in (m.0, omega (arith, m.1, with_object-length h n)));
   slots = λ x i. IsLive-later h n x (k.slots x i);
   fields = λ x y l c. (let f = object-field h n x y c in IsLive-later h n y (k.fields x y (object-was_live h n x f.0 l) f.1));
 }
 
 -- a slot comes to name an unfreed object
-pub IsHeapKept-var : (h : Heap) (v p : ℕ) → IsHeapKept h → IsLive h p → IsHeapKept (with_var h v (Some p))
-IsHeapKept-var h v p k l = record {
+pub HeapInvariant-var : (h : Heap) (v p : ℕ) → HeapInvariant h → IsLive h p → HeapInvariant (with_var h v (Some p))
+HeapInvariant-var h v p k l = record {
   freed = λ x c. (let m = k.freed x c in (m.0, m.1));
   slots = λ x i. elim i [
     | inl c ↦ elim (Contains-set_cases h.vars v (Some p) (Some x) c) [
@@ -80,8 +80,8 @@ IsHeapKept-var h v p k l = record {
     same : (x : ℕ) → IsLive h x → IsLive (with_var h v (Some p)) x
     same x m = record { made = m.made; kept = m.kept }
 
-pub IsHeapKept-static : (h : Heap) (i p : ℕ) → IsHeapKept h → IsLive h p → IsHeapKept (with_static h i (Some p))
-IsHeapKept-static h i p k l = record {
+pub HeapInvariant-static : (h : Heap) (i p : ℕ) → HeapInvariant h → IsLive h p → HeapInvariant (with_static h i (Some p))
+HeapInvariant-static h i p k l = record {
   freed = λ x c. (let m = k.freed x c in (m.0, m.1));
   slots = λ x s. elim s [
     | inl c ↦ same x (k.slots x (inl c))
@@ -97,9 +97,9 @@ IsHeapKept-static h i p k l = record {
     same x m = record { made = m.made; kept = m.kept }
 
 -- objects are freed that no slot names, and to which no staying object leads
-pub IsHeapKept-freed : (h : Heap) (freed : List ℕ) → IsHeapKept h → ((x : ℕ) → Contains freed x → IsLive h x) → ((x : ℕ) → InSlot h x → Contains freed x → ⊥)
-    → ((x y : ℕ) → IsLive h x → (Contains freed x → ⊥) → Contains (fields_of h x) (Some y) → Contains freed y → ⊥) → IsHeapKept (with_freed h freed)
-IsHeapKept-freed h freed k live slots fields = record {
+pub HeapInvariant-freed : (h : Heap) (freed : List ℕ) → HeapInvariant h → ((x : ℕ) → Contains freed x → IsLive h x) → ((x : ℕ) → InSlot h x → Contains freed x → ⊥)
+    → ((x y : ℕ) → IsLive h x → (Contains freed x → ⊥) → Contains (fields_of h x) (Some y) → Contains freed y → ⊥) → HeapInvariant (with_freed h freed)
+HeapInvariant-freed h freed k live slots fields = record {
   freed = λ x c. elim (Contains-append_cases h.freed freed x c) [ inl w ↦ (k.freed x w) | inr w ↦ (live x w).made ];
   slots = λ x i. stays x (k.slots x i) (slots x i);
   fields = λ x y l c. (

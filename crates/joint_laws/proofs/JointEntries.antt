@@ -28,7 +28,7 @@ use Rattle.joint_machine.specs.Run.{JointEvent, IsComputed, on_managed}
 use Rattle.joint_machine.specs.Told.{Told, nothing, snap_of, contraction_of, references_of, slice_of, sweep_of, resolution_of, phase_of, Answer}
 use Rattle.joint_machine.proofs.HeapLemmas.{adopt_by-managed, adopt_by-reply, candidates_of-open}
 use Rattle.joint_laws.specs.JointAgreement.{AreTold, Agrees, Flags, joint_as}
-use Rattle.joint_laws.specs.LinkedInvariants.{AreOwnersKept, doing_in}
+use Rattle.joint_laws.specs.LinkedInvariants.{OwnersInvariant, doing_in}
 use Rattle.joint_laws.proofs.ManagedMoves.{GoesOn, GoesOn-stay, managed_line-goes_on, adopted-goes_on, met-goes_on, given_up-goes_on}
 use Rattle.joint_laws.proofs.ManagedSteps.{meet_by-managed, meet_by-reply, give_by-managed, give_by-reply, twin-live}
 use Rattle.joint_laws.proofs.JointManaged.{joint-resolution}
@@ -37,7 +37,7 @@ use Rattle.joint_laws.proofs.JointLines.{step-line, step-make, step-grip, step-l
 use Rattle.joint_laws.proofs.JointRests.{Rests, rests-still, rests-sliced, rests-mirrored, rests-cleared, rests-weakened}
 use Rattle.joint_laws.proofs.JointRestores.{step-restore}
 use Rattle.joint_laws.proofs.JointTargets.{twin-same}
-use Rattle.joint_laws.proofs.LinkedQuiet.{AreKept, threads-callers}
+use Rattle.joint_laws.proofs.LinkedQuiet.{BothInvariants, threads-callers}
 use Rattle.joint_laws.proofs.LinkedThreads.{release-hand}
 use Rattle.joint_laws.proofs.LinkedDriver.{one_cycle}
 use Rattle.joint_laws.proofs.LinkedEntries.{Of, entry, Allows}
@@ -116,7 +116,7 @@ module _ (s : Linkage) (k : Of s) (flags : Flags) (jm : Option JointMarking) (ag
   goes-as : (m n : Managed) → n ≡ m → GoesOn r.managed m → GoesOn r.managed n
   goes-as m n e g = subst (λ z. GoesOn r.managed z) (sym e) g
 
-  resolve-by : (x : Stand) (n : ℕ) (alive : List Answer) (freed : List ℕ) → AreKept r q ds x → AreTold x r.managed flags
+  resolve-by : (x : Stand) (n : ℕ) (alive : List Answer) (freed : List ℕ) → BothInvariants r q ds x → AreTold x r.managed flags
       → MayResolveNow x n cites (resolution_of alive freed) → MayResolve r n alive freed → reply ≡ resolve_reply r.managed freed
       → (kn : Cycle) → kn.0 ≡ n → Steps r.managed q flags [] jm C (op.Resolve kn) reply (resolution_of alive freed) (resolved_state r.managed alive freed) q
   resolve-by (restored o answers clear) n alive freed kx tx w p e kn same_n =
@@ -165,7 +165,7 @@ module _ (s : Linkage) (k : Of s) (flags : Flags) (jm : Option JointMarking) (ag
   abandon-told (restoring o answers) n tx w = absurd w
   abandon-told (restored o answers clear) n tx w = absurd w
 
-  restore-by : (x : Stand) (h : HNum) (told : Told) → AreKept r q ds x → AreTold x r.managed flags → MayRestoreNow x r.managed h.0 cites
+  restore-by : (x : Stand) (h : HNum) (told : Told) → BothInvariants r q ds x → AreTold x r.managed flags → MayRestoreNow x r.managed h.0 cites
       → MayRestore q h.0 → reply ≡ (restored_by q h.0 (row_of q h.0)).reply
       → Steps r.managed q flags (answers_at (stand_after x number (op.Restore h) reply nothing) (length (candidates_of r.managed))) jm C
       (op.Restore h) reply nothing r.managed (restored_by q h.0 (row_of q h.0)).state
@@ -265,7 +265,7 @@ module _ (s : Linkage) (k : Of s) (flags : Flags) (jm : Option JointMarking) (ag
   sweep t told e w x = stepped t op.Sweep told _ _ _ refl (tl ∙ thread-told t op.Sweep told x (inr refl)) (step-sweep r q ds d k flags jm ag t reply told e w.allowed w.replies)
 
   pub outcome : (t : Thread) (o : Op) (told : Told) → IsEvent t o → SideLawful (is_peer_event t o) s (entry t line o reply cites) told → Allows s (entry t line o reply cites) told
-      → AreOwnersKept (managed_after r (entry t line o reply cites) told (is_peer_event t o)) (peer_after q (entry t line o reply cites) told (is_peer_event t o)) → Out t o told (is_peer_event t o)
+      → OwnersInvariant (managed_after r (entry t line o reply cites) told (is_peer_event t o)) (peer_after q (entry t line o reply cites) told (is_peer_event t o)) → Out t o told (is_peer_event t o)
   outcome (M u) (op.Line a) told e w x after =
       let no_slice = managed-slice u a e in
       computed (M u) (op.Line a) told (record r { managed = (managed_line r.managed u a).state }) (joint-line a no_slice)

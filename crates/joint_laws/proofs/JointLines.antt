@@ -28,9 +28,9 @@ use Rattle.joint_laws.proofs.PeerQuietEvents.{IsRawOne, quiet-line, quiet-pair, 
 use Rattle.joint_laws.proofs.JointFlags.{AreFlags-issued}
 use Rattle.joint_laws.proofs.JointTargets.{target-same}
 use Rattle.joint_laws.proofs.JointSteps.{Steps, bring-peers, bring-reply, agrees-peers, agrees-brought, joint-brought, flags-gone}
-use Rattle.joint_laws.proofs.LinkedQuiet.{AreKept}
+use Rattle.joint_laws.proofs.LinkedQuiet.{BothInvariants}
 
-module _ (r : ManagedReplay) (s : PeerReplay) (ds : List Doing) (d : Stand) (k : AreKept r s ds d) (flags : Flags) (jm : Option JointMarking) (ag : Agrees s flags jm) where
+module _ (r : ManagedReplay) (s : PeerReplay) (ds : List Doing) (d : Stand) (k : BothInvariants r s ds d) (flags : Flags) (jm : Option JointMarking) (ag : Agrees s flags jm) where
   abbrev j : Joint
   j = joint_as r.managed s flags jm
 

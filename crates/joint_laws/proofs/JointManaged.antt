@@ -13,13 +13,13 @@ use Rattle.joint_machine.specs.Run.{IsKept}
 use Rattle.joint_laws.specs.LinkedInvariants.{IsRowOf, IsRestored}
 use Rattle.joint_machine.proofs.Members.{Contains-at, at-Contains}
 use Rattle.joint_laws.proofs.DriverSteps.{row_of, alive-live, cleared-freed, answered}
-use Rattle.joint_laws.proofs.LinkedQuiet.{AreKept}
+use Rattle.joint_laws.proofs.LinkedQuiet.{BothInvariants}
 use Rattle.joint_laws.specs.JointAgreement.{Flags, joint_as}
 use Rattle.joint_machine.specs.Told.{Answer}
 
 -- a resolution
 module _ (r : ManagedReplay) (s : PeerReplay) (ds : List Doing) (op : OpenSnap) (answers : List Answer) (clear : ℕ)
-    (k : AreKept r s ds (restored op answers clear)) (flags : Flags) (jm : Option JointMarking) (freed : List ℕ) where
+    (k : BothInvariants r s ds (restored op answers clear)) (flags : Flags) (jm : Option JointMarking) (freed : List ℕ) where
   abbrev v : IsRestored r s op answers
   v = k.driver
 

@@ -29,7 +29,7 @@ use Rattle.joint_laws.proofs.DriverPeerSteps.{holds-handle_of}
 use Rattle.joint_laws.proofs.JointFlags.{AreFlags-gone, removed-at, removed-issued, AreSameMarkings-brought}
 use Rattle.joint_laws.proofs.JointSteps.{Steps}
 use Rattle.joint_laws.proofs.LinkedDriver.{turn}
-use Rattle.joint_laws.proofs.LinkedQuiet.{AreKept}
+use Rattle.joint_laws.proofs.LinkedQuiet.{BothInvariants}
 use Rattle.joint_laws.proofs.PeerEntries.{peer_of-issued, peer_of-live}
 use Rattle.joint_laws.proofs.Restores.{restored-cases, renewal}
 
@@ -79,7 +79,7 @@ answered-next s h a cs answers m e t one =
     ap (λ n. answered_for s h a cs (map Some answers ++ replicate n None)) more
     ∙ (answered-at s h a cs answers left m (omega (arith, within)) e t one ∙ ap (λ n. map Some (answers ++ a ∷ []) ++ replicate n None) fewer)
 
-module _ (r : ManagedReplay) (s : PeerReplay) (ds : List Doing) (o : OpenSnap) (answers : List Answer) (k : AreKept r s ds (restoring o answers))
+module _ (r : ManagedReplay) (s : PeerReplay) (ds : List Doing) (o : OpenSnap) (answers : List Answer) (k : BothInvariants r s ds (restoring o answers))
     (flags : Flags) (jm : Option JointMarking) (ag : Agrees s flags jm) (h : ℕ) (w : IsCandidateHandle r.managed (length answers) h)
     (told : flags.answers ≡ answers_so_far answers (length (candidates_of r.managed))) where
   v : IsRestoring r s o answers

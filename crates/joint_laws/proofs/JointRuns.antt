@@ -12,7 +12,7 @@ use Rattle.joint_machine.specs.Managed.{candidates_of}
 use Rattle.joint_laws.proofs.JointSince.{IsSince, since-opening, since-entry}
 use Rattle.joint_laws.proofs.RunsAreSound.{stays, marking-case}
 use Rattle.joint_laws.proofs.JointEntries.{Outcome, moves, rests, outcome}
-use Rattle.joint_laws.proofs.LinkedEntries.{Of, AreKept-entry, AreKept-opening}
+use Rattle.joint_laws.proofs.LinkedEntries.{Of, BothInvariants-entry, BothInvariants-opening}
 
 -- a linked state with the joint state that agrees with it
 pub record Stands (s : Linkage) : Type 0 where
@@ -40,7 +40,7 @@ pub outcome-of : (s : Linkage) (w : Stands s) (n : Noted) → MayCome s n
     → Outcome s.managed.managed s.peer w.flags (answers_at (linkage_after s n).control.stand (length (candidates_of (linkage_after s n).managed.managed)))
     w.marking n.entry.made.caller n.entry.made.op n.entry.made.reply n.told (linkage_after s n).managed.managed (linkage_after s n).peer
 outcome-of s w n may = outcome s w.kept w.flags w.marking w.agrees w.told n.entry.number n.entry.made.index n.entry.made.reply
-    n.entry.made.cites n.entry.made.caller n.entry.made.op n.told may.event may.lawful may.order (AreKept-entry s n may w.kept).owners
+    n.entry.made.cites n.entry.made.caller n.entry.made.op n.told may.event may.lawful may.order (BothInvariants-entry s n may w.kept).owners
 
 -- an entry that may come leads to a linked state with its joint state, by a step of the joint machine or with the same
 -- one
@@ -55,24 +55,24 @@ enters s w n may = by (outcome-of s w n may)
         w.marking n.entry.made.caller n.entry.made.op n.entry.made.reply n.told (linkage_after s n).managed.managed (linkage_after s n).peer → Enters s w n
     by (moves e t) =
         let v : Stands (linkage_after s n) = record {
-          kept = AreKept-entry s n may w.kept;
+          kept = BothInvariants-entry s n may w.kept;
           flags = t.flags_after;
           told = t.told_after;
           marking = t.marking_after;
           agrees = t.agrees;
-          since = since-entry s n w.flags t.flags_after w.marking t.marking_after n.entry.made.op n.entry.made.reply may w.kept (AreKept-entry s n may w.kept) w.agrees.markings w.since
+          since = since-entry s n w.flags t.flags_after w.marking t.marking_after n.entry.made.op n.entry.made.reply may w.kept (BothInvariants-entry s n may w.kept) w.agrees.markings w.since
               (marking-case (state_of s w) (joint_as (linkage_after s n).managed.managed (linkage_after s n).peer t.flags_after t.marking_after)
               n.entry.made.caller n.entry.made.op n.entry.made.reply n.told t.event);
         } in
         by_step e v (record { event = may.event; step = t.event })
     by (rests e t f) =
         let v : Stands (linkage_after s n) = record {
-          kept = AreKept-entry s n may w.kept;
+          kept = BothInvariants-entry s n may w.kept;
           flags = w.flags;
           told = f;
           marking = w.marking;
           agrees = t.agrees;
-          since = since-entry s n w.flags w.flags w.marking w.marking n.entry.made.op n.entry.made.reply may w.kept (AreKept-entry s n may w.kept) w.agrees.markings w.since (stays refl);
+          since = since-entry s n w.flags w.flags w.marking w.marking n.entry.made.op n.entry.made.reply may w.kept (BothInvariants-entry s n may w.kept) w.agrees.markings w.since (stays refl);
         } in
         at_rest e v t.same
 
@@ -81,7 +81,7 @@ projected n ns b e = ap (λ z. cond z (n ∷ machine_entries ns) (machine_entrie
 
 pub Stands-opening : Stands opening_linkage
 Stands-opening = record {
-  kept = AreKept-opening;
+  kept = BothInvariants-opening;
   flags = record { removed = []; answers = [] };
   told = refl;
   marking = None;

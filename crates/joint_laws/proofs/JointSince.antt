@@ -15,7 +15,7 @@ use Rattle.joint_machine.specs.PeerReplay.{PeerReplay, Marking}
 use Rattle.joint_machine.specs.Told.{Told, Noted}
 use Rattle.joint_laws.specs.JointAgreement.{AreSameMarkings, Flags, joint_as}
 use Rattle.joint_laws.specs.LinkedInvariants.{HasStrength}
-use Rattle.joint_laws.specs.ManagedInvariants.{IsManagedKept}
+use Rattle.joint_laws.specs.ManagedInvariants.{ManagedInvariant}
 use Rattle.joint_laws.specs.PeerInvariants.{IsIssued, IsSpared}
 use Rattle.joint_machine.proofs.Members.{Contains-decided}
 use Rattle.joint_machine.proofs.Deciding.{none_some}
@@ -32,7 +32,7 @@ IsSince m s jm = (y : JointMarking) → jm ≡ Some y → (mk : Marking) → s.m
     → (Holds y.begun.managed x h × IsIssued y.begun.peers.issued h i) ⊎ IsSpared mk i.peer
 
 -- a row that holds a handle held it before, or the handle is strong
-candidate-before : (m n : Managed) (k : IsManagedKept m) → ManagedStep m n → (x h : ℕ) → Contains (candidates_of n) x → Holds n x h → Holds m x h
+candidate-before : (m n : Managed) (k : ManagedInvariant m) → ManagedStep m n → (x h : ℕ) → Contains (candidates_of n) x → Holds n x h → Holds m x h
 candidate-before m n k (going_on g) x h c q = by m.cycle refl
   where
     by : (o : Option OpenCycle) → m.cycle ≡ o → Holds m x h

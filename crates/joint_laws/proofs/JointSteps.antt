@@ -27,7 +27,7 @@ use Rattle.joint_laws.proofs.Sparing.{spared-stays}
 use Rattle.joint_laws.proofs.JointFlags.{AreFlags-gone, AreFlags-issued, removed-swept, AreSameMarkings-brought}
 use Rattle.joint_machine.specs.Joined.{removed_in}
 use Rattle.joint_laws.proofs.SparedWalks.{reached-spared}
-use Rattle.joint_laws.proofs.LinkedQuiet.{AreKept, kept-quiet}
+use Rattle.joint_laws.proofs.LinkedQuiet.{BothInvariants, kept-quiet}
 use Rattle.joint_machine.proofs.HeapLemmas.{same_thread, thread_itself}
 
 -- the step of an event, with the flags and the marking after it
@@ -78,7 +78,7 @@ may-end t u w = elim w [
   | inr e ↦ subst (λ z. (is_thread t C || is_thread t z) ≡ true) e (subst (λ z. (is_thread t C || z) ≡ true) (sym (thread_itself t)) (or-right (is_thread t C)))
 ]
 
-module _ (r : ManagedReplay) (s : PeerReplay) (ds : List Doing) (d : Stand) (k : AreKept r s ds d) (flags : Flags) (jm : Option JointMarking) (ag : Agrees s flags jm) where
+module _ (r : ManagedReplay) (s : PeerReplay) (ds : List Doing) (d : Stand) (k : BothInvariants r s ds d) (flags : Flags) (jm : Option JointMarking) (ag : Agrees s flags jm) where
   abbrev j : Joint
   j = joint_as r.managed s flags jm
 

@@ -22,7 +22,7 @@ use Rattle.joint_machine.proofs.Deciding.{none_some}
 use Rattle.joint_machine.proofs.HeapLemmas.{Contains-is_freed, is_freed-live, Holds-handle_of}
 use Rattle.joint_laws.proofs.Registered.{registered-some, registered-none}
 use Rattle.joint_laws.proofs.DriverPeerSteps.{holds-handle_of}
-use Rattle.joint_laws.proofs.LinkedQuiet.{AreKept}
+use Rattle.joint_laws.proofs.LinkedQuiet.{BothInvariants}
 
 -- the answers by their parts
 abbrev table_by : PeerReplay → ℕ → Option TableRow → Option ℕ
@@ -47,7 +47,7 @@ removed-none : (rows : List (Option TableRow)) (h : ℕ) → numbered_at rows h 
 removed-none rows zero e = refl
 removed-none rows (suc i) e = removed-none_at rows i e
 
-module _ (r : ManagedReplay) (s : PeerReplay) (ds : List Doing) (d : Stand) (k : AreKept r s ds d) (flags : Flags) (fl : AreFlags s flags) where
+module _ (r : ManagedReplay) (s : PeerReplay) (ds : List Doing) (d : Stand) (k : BothInvariants r s ds d) (flags : Flags) (fl : AreFlags s flags) where
   peer-is : (h : ℕ) (i : Issued) → IsIssued s.peers.issued h i → peer_of s.peers.issued h ≡ Some i.peer
   peer-is h i e = ap (λ (o : Option Issued). elim o [ None ↦ None | Some j ↦ Some j.peer ]) e
 
@@ -71,7 +71,7 @@ module _ (r : ManagedReplay) (s : PeerReplay) (ds : List Doing) (d : Stand) (k :
   target-same jm h = ap (λ z. joint_by s h (numbered_at z h)) fl ∙ target-by h (numbered_at s.table h) refl
 
 -- a row is a twin exactly where the registry has it
-module _ (r : ManagedReplay) (s : PeerReplay) (ds : List Doing) (d : Stand) (k : AreKept r s ds d) (flags : Flags) (jm : Option JointMarking) (p : ℕ) where
+module _ (r : ManagedReplay) (s : PeerReplay) (ds : List Doing) (d : Stand) (k : BothInvariants r s ds d) (flags : Flags) (jm : Option JointMarking) (p : ℕ) where
   abbrev j : Joint
   j = joint_as r.managed s flags jm
 

@@ -22,7 +22,7 @@ use Rattle.joint_machine.specs.ManagedReplay.{MayResolve}
 use Rattle.joint_machine.specs.PeerReplay.{Marking, begun, swept, SweepAllows}
 use Rattle.joint_machine.specs.Run.{Moment}
 use Rattle.joint_machine.specs.Told.{Told, Noted, snap_of, contraction_of, sweep_of, resolution_of, Answer}
-use Rattle.joint_laws.specs.LinkedInvariants.{IsDriverKept}
+use Rattle.joint_laws.specs.LinkedInvariants.{DriverInvariant}
 use Rattle.joint_laws.proofs.AtResolutions.{complete-cycle}
 use Rattle.joint_laws.proofs.Journeys.{way-next, way-rests}
 use Rattle.joint_laws.proofs.JourneyStands.{Journey, behind-rests, behind-next}
@@ -59,7 +59,7 @@ module _ (s : Linkage) (w : Stands s) (past : List Moment) (number line : ℕ) (
   Rest t o told v y = Journey past (After t o told) v y
 
   abbrev Kept : (t : Thread) (o : Op) (told : Told) → Stand → Type 0
-  Kept t o told y = IsDriverKept (After t o told).managed (After t o told).peer y
+  Kept t o told y = DriverInvariant (After t o told).managed (After t o told).peer y
 
   -- the begin of the own marking
   none-open : (o : OpenSnap) (count : ℕ) (seen sw : Bool) (x : Option Marking) → reply ≡ (begun s.peer x C).reply
@@ -234,7 +234,7 @@ module _ (s : Linkage) (w : Stands s) (past : List Moment) (number line : ℕ) (
 
   -- at a resolution
   complete-by : (more : List Moment) (n : ℕ) (alive : List Answer) (freed : List ℕ) (x : Stand) → MayResolveNow x n cites (resolution_of alive freed)
-      → MayResolve s.managed n alive freed → IsDriverKept s.managed s.peer x → Journey past s w x → IsCompleteCycle (past ++ more) (length past) n freed
+      → MayResolve s.managed n alive freed → DriverInvariant s.managed s.peer x → Journey past s w x → IsCompleteCycle (past ++ more) (length past) n freed
   complete-by more n alive freed (restored o answers clear) a p kept k =
       let same_cycle : p.cycle ≡ kept.cycle = one_cycle s.managed.managed p.cycle kept.cycle p.open_cycle.0 kept.opened.cycle in
       let exact : IsResolution s.managed.managed kept.cycle.dead (IsAnsweredAlive kept.cycle.candidates answers) freed =

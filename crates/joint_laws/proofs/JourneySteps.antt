@@ -12,7 +12,7 @@ use Rattle.joint_machine.specs.Managed.{OpenCycle}
 use Rattle.joint_machine.specs.PeerReplay.{Marking}
 use Rattle.joint_machine.specs.Run.{Moment}
 use Rattle.joint_machine.specs.Told.{Noted}
-use Rattle.joint_laws.specs.LinkedInvariants.{IsMirrored, IsInMarking, IsDriverKept}
+use Rattle.joint_laws.specs.LinkedInvariants.{IsMirrored, IsInMarking, DriverInvariant}
 use Rattle.joint_laws.proofs.BroughtBack.{IsLater, later-entry}
 use Rattle.joint_laws.proofs.Journeys.{refs-entry, goes-open, way-next, way-rests}
 use Rattle.joint_laws.proofs.JourneyStands.{IsUnderWay, Journey, behind-next, behind-rests}
@@ -78,7 +78,7 @@ module _ (s : Linkage) (n : Noted) (may : MayCome s n) (w : Stands s) (v : Stand
 
   -- the stand stays
   pub stay-next : IsInside n.entry.made.op → (past : List Moment) (m : Moment) → m.after ≡ state_of t v
-      → (x : Stand) → IsDriverKept t.managed t.peer x → Journey past s w x → Journey (past ++ m ∷ []) t v x
+      → (x : Stand) → DriverInvariant t.managed t.peer x → Journey past s w x → Journey (past ++ m ∷ []) t v x
   stay-next inside past m after idle to k = tt
   stay-next inside past m after (snapped o) to k = way-next s n may w v past o m after to.cycle to.opened.cycle k
   stay-next inside past m after (contracted o comps heavy xrefs) to k = way-next s n may w v past o m after to.before.cycle to.before.opened.cycle k
@@ -87,7 +87,7 @@ module _ (s : Linkage) (n : Noted) (may : MayCome s n) (w : Stands s) (v : Stand
   stay-next inside past m after (restoring o answers) to k = behind-next s n may w v past o m to.cycle to.opened.cycle k
   stay-next inside past m after (restored o answers clear) to k = behind-next s n may w v past o m to.cycle to.opened.cycle k
 
-  pub stay-rests : IsInside n.entry.made.op → (past : List Moment) → state_of t v ≡ state_of s w → (x : Stand) → IsDriverKept t.managed t.peer x → Journey past s w x → Journey past t v x
+  pub stay-rests : IsInside n.entry.made.op → (past : List Moment) → state_of t v ≡ state_of s w → (x : Stand) → DriverInvariant t.managed t.peer x → Journey past s w x → Journey past t v x
   stay-rests inside past same idle to k = tt
   stay-rests inside past same (snapped o) to k = way-rests s t w v past o same k
   stay-rests inside past same (contracted o comps heavy xrefs) to k = way-rests s t w v past o same k

@@ -17,20 +17,20 @@ use Rattle.joint_machine.specs.ManagedReplay.{ManagedReplay, MayContract, MayRes
 use Rattle.joint_machine.specs.Peers.{strong, weak}
 use Rattle.joint_machine.specs.PeerReplay.{PeerReplay, Mirror, mirrored, with_weakened, MayWeaken, Refers}
 use Rattle.joint_machine.specs.Told.{Told, contraction_of, references_of, resolution_of, Answer, handles_given}
-use Rattle.joint_laws.specs.ManagedInvariants.{IsReplayKept}
-use Rattle.joint_laws.specs.PeerInvariants.{IsPeerKept}
-use Rattle.joint_laws.specs.LinkedInvariants.{IsBeforeMirror, AreCallersKept, hands}
+use Rattle.joint_laws.specs.ManagedInvariants.{ReplayInvariant}
+use Rattle.joint_laws.specs.PeerInvariants.{PeerInvariant}
+use Rattle.joint_laws.specs.LinkedInvariants.{IsBeforeMirror, CallersInvariant, hands}
 use Rattle.joint_machine.proofs.Numbered.{slot-named}
 use Rattle.joint_machine.proofs.HeapLemmas.{candidates_of-open}
 use Rattle.joint_laws.proofs.ManagedMoves.{GoesOn-stay}
-use Rattle.joint_laws.proofs.HandlesAlike.{HandlesAlike, nothing_touched, AreOwnersKept-peer}
+use Rattle.joint_laws.proofs.HandlesAlike.{HandlesAlike, nothing_touched, OwnersInvariant-peer}
 use Rattle.joint_laws.proofs.OwnersManaged.{OwnersAlike}
 use Rattle.joint_laws.proofs.DriverSteps.{owners_snapped, callers_snapped, driver_snapped, owners_resolved, callers_resolved, driver_resolved, owners_abandoned, callers_abandoned, driver_abandoned}
 use Rattle.joint_laws.proofs.DriverPeerSteps.{Only, HandlesAlike-only, holds-handle_of, carried-safe, driver_mirrored}
 use Rattle.joint_laws.proofs.DriverHandles.{callers_same, mirrored_changed, weakened-stands, owners_touched, not_in_hand, handles_weakened, written-strength}
 use Rattle.joint_laws.proofs.PeerQuiet.{HandlesAlike-same}
 use Rattle.joint_laws.proofs.PeerEntries.{MirrorsSafely}
-use Rattle.joint_laws.proofs.LinkedQuiet.{AreKept, kept-alike}
+use Rattle.joint_laws.proofs.LinkedQuiet.{BothInvariants, kept-alike}
 
 -- two names of the open cycle
 pub one_cycle : (s : Managed) (c d : OpenCycle) → s.cycle ≡ Some c → s.cycle ≡ Some d → c ≡ d
@@ -38,9 +38,9 @@ one_cycle s c d e f = same_Some c d (sym e ∙ f)
 
 -- the managed side's events
 pub kept-snap : (r : ManagedReplay) (s : PeerReplay) (ds : List Doing) (d : Stand) (n number : ℕ) (freed candidates dead : List ℕ) (cites : Option ℕ)
-    → AreKept r s ds d → MaySnap d cites → IsSnapshot r.managed n freed candidates dead
-    → IsReplayKept (record r { managed = snapped_state r.managed freed candidates dead; contracted = false })
-    → AreKept (record r { managed = snapped_state r.managed freed candidates dead; contracted = false }) s ds (snapped record { cycle = n; snap = number })
+    → BothInvariants r s ds d → MaySnap d cites → IsSnapshot r.managed n freed candidates dead
+    → ReplayInvariant (record r { managed = snapped_state r.managed freed candidates dead; contracted = false })
+    → BothInvariants (record r { managed = snapped_state r.managed freed candidates dead; contracted = false }) s ds (snapped record { cycle = n; snap = number })
 kept-snap r s ds idle n number freed candidates dead cites k w p m = record {
   managed = m;
   peer = k.peer;
@@ -59,11 +59,11 @@ OwnersAlike-contracted : (r : ManagedReplay) → OwnersAlike r (record r { contr
 OwnersAlike-contracted r = record { on = λ m h q. q; back = λ m h q. q; registry = refl; adopted = refl; cycle = refl }
 
 pub kept-contract : (r : ManagedReplay) (s : PeerReplay) (ds : List Doing) (d : Stand) (n number : ℕ) (c : Cycle) (reply : Reply) (comps : List (List ℕ))
-    (heavy : List ℕ) (xrefs : List (ℕ × ℕ)) (cites : Option ℕ) → AreKept r s ds d → MayContractNow d n cites → MayContract r n comps heavy xrefs
-    → IsReplayKept (record r { contracted = true }) → AreKept (record r { contracted = true }) s ds (stand_after d number (op.Contract c) reply (contraction_of comps heavy xrefs))
+    (heavy : List ℕ) (xrefs : List (ℕ × ℕ)) (cites : Option ℕ) → BothInvariants r s ds d → MayContractNow d n cites → MayContract r n comps heavy xrefs
+    → ReplayInvariant (record r { contracted = true }) → BothInvariants (record r { contracted = true }) s ds (stand_after d number (op.Contract c) reply (contraction_of comps heavy xrefs))
 kept-contract r s ds (snapped o) n number c reply comps heavy xrefs cites k w p m =
     let t : ManagedReplay = record r { contracted = true } in
-    let now : AreKept t s ds (snapped o) = kept-alike r t s ds (snapped o) k (OwnersAlike-contracted r) (GoesOn-stay r.managed) m in
+    let now : BothInvariants t s ds (snapped o) = kept-alike r t s ds (snapped o) k (OwnersAlike-contracted r) (GoesOn-stay r.managed) m in
     let before : IsBeforeMirror t s o = now.driver in
     let same_cycle : p.cycle ≡ before.cycle = one_cycle r.managed p.cycle before.cycle p.open_cycle.0 before.opened.cycle in
     record {
@@ -81,16 +81,17 @@ kept-contract r s ds (restoring o answers) n number c reply comps heavy xrefs ci
 kept-contract r s ds (restored o answers clear) n number c reply comps heavy xrefs cites k w p m = absurd w
 
 pub kept-resolve : (r : ManagedReplay) (s : PeerReplay) (ds : List Doing) (d : Stand) (n : ℕ) (alive : List Answer) (freed : List ℕ) (cites : Option ℕ)
-    → AreKept r s ds d → MayResolveNow d n cites (resolution_of alive freed) → MayResolve r n alive freed
-    → IsReplayKept (record r { managed = resolved_state r.managed alive freed; registry = without_twins r.registry freed; adopted = r.adopted ++ handles_given alive })
-    → AreKept (record r { managed = resolved_state r.managed alive freed; registry = without_twins r.registry freed; adopted = r.adopted ++ handles_given alive }) s ds idle
+    → BothInvariants r s ds d → MayResolveNow d n cites (resolution_of alive freed) → MayResolve r n alive freed
+    → ReplayInvariant (record r { managed = resolved_state r.managed alive freed; registry = without_twins r.registry freed; adopted = r.adopted ++ handles_given alive })
+    → BothInvariants (record r { managed = resolved_state r.managed alive freed; registry = without_twins r.registry freed; adopted = r.adopted ++ handles_given alive }) s ds idle
 kept-resolve r s ds (restored o answers clear) n alive freed cites k w p m =
     let same_cycle : p.cycle ≡ k.driver.cycle = one_cycle r.managed p.cycle k.driver.cycle p.open_cycle.0 k.driver.opened.cycle in
     let exact : IsResolution r.managed k.driver.cycle.dead (IsAnsweredAlive k.driver.cycle.candidates answers) freed =
     subst (λ (z : OpenCycle). IsResolution r.managed z.dead (IsAnsweredAlive z.candidates answers) freed) same_cycle
     (subst (λ z. IsResolution r.managed p.cycle.dead (IsAnsweredAlive p.cycle.candidates z) freed) w.2 p.resolution) in
-    subst (λ z. AreKept (record r { managed = resolved_state r.managed z freed; registry = without_twins r.registry freed; adopted = r.adopted ++ handles_given z }) s ds idle) (sym w.2) (record {
-      managed = subst (λ z. IsReplayKept (record r { managed = resolved_state r.managed z freed; registry = without_twins r.registry freed; adopted = r.adopted ++ handles_given z })) w.2 m;
+    subst (λ z. BothInvariants (record r { managed = resolved_state r.managed z freed; registry = without_twins r.registry freed; adopted = r.adopted ++ handles_given z }) s ds idle)
+    (sym w.2) (record {
+      managed = subst (λ z. ReplayInvariant (record r { managed = resolved_state r.managed z freed; registry = without_twins r.registry freed; adopted = r.adopted ++ handles_given z })) w.2 m;
       peer = k.peer;
       owners = owners_resolved r s o answers k.managed k.peer k.owners k.driver freed exact;
       callers = callers_resolved r s o answers k.managed k.peer k.owners k.driver freed exact ds k.callers;
@@ -103,18 +104,18 @@ kept-resolve r s ds (weakening o count seen sw) n alive freed cites k w p m = ab
 kept-resolve r s ds (marked o) n alive freed cites k w p m = absurd w
 kept-resolve r s ds (restoring o answers) n alive freed cites k w p m = absurd w
 
-abandon-before : (r : ManagedReplay) (s : PeerReplay) (ds : List Doing) (d : Stand) (o : OpenSnap) → hands d ds ≡ ds → AreKept r s ds d → IsBeforeMirror r s o
-    → IsReplayKept (record r { managed = abandoned_state r.managed }) → AreKept (record r { managed = abandoned_state r.managed }) s ds idle
+abandon-before : (r : ManagedReplay) (s : PeerReplay) (ds : List Doing) (d : Stand) (o : OpenSnap) → hands d ds ≡ ds → BothInvariants r s ds d → IsBeforeMirror r s o
+    → ReplayInvariant (record r { managed = abandoned_state r.managed }) → BothInvariants (record r { managed = abandoned_state r.managed }) s ds idle
 abandon-before r s ds d o none k b m = record {
   managed = m;
   peer = k.peer;
   owners = owners_abandoned r s o k.owners b;
-  callers = callers_abandoned r s o k.owners b ds (subst (AreCallersKept r s) none k.callers);
+  callers = callers_abandoned r s o k.owners b ds (subst (CallersInvariant r s) none k.callers);
   driver = driver_abandoned r s o k.owners b;
 }
 
-pub kept-abandon : (r : ManagedReplay) (s : PeerReplay) (ds : List Doing) (d : Stand) (n : ℕ) (cites : Option ℕ) → AreKept r s ds d → MayAbandonNow d n cites
-    → IsReplayKept (record r { managed = abandoned_state r.managed }) → AreKept (record r { managed = abandoned_state r.managed }) s ds idle
+pub kept-abandon : (r : ManagedReplay) (s : PeerReplay) (ds : List Doing) (d : Stand) (n : ℕ) (cites : Option ℕ) → BothInvariants r s ds d → MayAbandonNow d n cites
+    → ReplayInvariant (record r { managed = abandoned_state r.managed }) → BothInvariants (record r { managed = abandoned_state r.managed }) s ds idle
 kept-abandon r s ds (snapped o) n cites k w m = abandon-before r s ds (snapped o) o refl k k.driver m
 kept-abandon r s ds (contracted o comps heavy xrefs) n cites k w m = abandon-before r s ds (contracted o comps heavy xrefs) o refl k k.driver.before m
 kept-abandon r s ds idle n cites k w m = absurd w
@@ -124,7 +125,7 @@ kept-abandon r s ds (restoring o answers) n cites k w m = absurd w
 kept-abandon r s ds (restored o answers clear) n cites k w m = absurd w
 
 pub kept-refused : (r : ManagedReplay) (s : PeerReplay) (ds : List Doing) (d : Stand) (number : ℕ) (x : PhaseWord) (reply : Reply) (told : Told)
-    → AreKept r s ds d → AreKept r s ds (stand_after d number (op.Refused x) reply told)
+    → BothInvariants r s ds d → BothInvariants r s ds (stand_after d number (op.Refused x) reply told)
 kept-refused r s ds idle number x reply told k = k
 kept-refused r s ds (snapped o) number x reply told k = k
 kept-refused r s ds (contracted o comps heavy xrefs) number x reply told k = k
@@ -135,7 +136,7 @@ kept-refused r s ds (restored o answers clear) number x reply told k = k
 
 -- a mirror's references are safe
 pub safe-mirror : (r : ManagedReplay) (s : PeerReplay) (ds : List Doing) (d : Stand) (n : ℕ) (c : Cycle) (cites : Option ℕ) (told : Told)
-    → AreKept r s ds d → MayMirrorNow d r.managed s.peers.issued n cites told → MirrorsSafely s (op.Mirror c) told
+    → BothInvariants r s ds d → MayMirrorNow d r.managed s.peers.issued n cites told → MirrorsSafely s (op.Mirror c) told
 safe-mirror r s ds (contracted o comps heavy xrefs) n c cites
     (references_of refs) k w = λ p q x. carried-safe r s o comps heavy xrefs k.managed k.peer k.owners k.driver p q (subst (λ z. Refers z p q) w.2 x)
 safe-mirror r s ds (contracted o comps heavy xrefs) n c cites _ k w = absurd w
@@ -147,14 +148,14 @@ safe-mirror r s ds (restoring o answers) n c cites told k w = absurd w
 safe-mirror r s ds (restored o answers clear) n c cites told k w = absurd w
 
 pub kept-mirrored : (r : ManagedReplay) (s : PeerReplay) (ds : List Doing) (d : Stand) (n number : ℕ) (c : Cycle) (reply : Reply) (cites : Option ℕ) (refs : List (End × End))
-    → AreKept r s ds d → MayMirrorNow d r.managed s.peers.issued n cites (references_of refs)
-    → IsPeerKept (mirrored s n cites refs) → AreKept r (mirrored s n cites refs) ds (stand_after d number (op.Mirror c) reply (references_of refs))
+    → BothInvariants r s ds d → MayMirrorNow d r.managed s.peers.issued n cites (references_of refs)
+    → PeerInvariant (mirrored s n cites refs) → BothInvariants r (mirrored s n cites refs) ds (stand_after d number (op.Mirror c) reply (references_of refs))
 kept-mirrored r s ds (contracted o comps heavy xrefs) n number c reply cites refs k w m =
-    subst (λ z. AreKept r (mirrored s n cites z) ds (weakening o 0 false false)) (sym w.2) (subst (λ z. AreKept r (mirrored s n z edges) ds (weakening o 0 false false)) (sym w.1)
+    subst (λ z. BothInvariants r (mirrored s n cites z) ds (weakening o 0 false false)) (sym w.2) (subst (λ z. BothInvariants r (mirrored s n z edges) ds (weakening o 0 false false)) (sym w.1)
     (record {
       managed = k.managed;
-      peer = subst (λ z. IsPeerKept (mirrored s n z edges)) w.1 (subst (λ z. IsPeerKept (mirrored s n cites z)) w.2 m);
-      owners = AreOwnersKept-peer nothing_touched r s after alike k.owners (λ x h t q. t) (λ h q t. t);
+      peer = subst (λ z. PeerInvariant (mirrored s n z edges)) w.1 (subst (λ z. PeerInvariant (mirrored s n cites z)) w.2 m);
+      owners = OwnersInvariant-peer nothing_touched r s after alike k.owners (λ x h t q. t) (λ h q t. t);
       callers = callers_same nothing_touched r s after alike refl (λ p i. i) (λ x l. l) (λ x p y. y) ds k.callers (λ u h x t. t);
       driver = driver_mirrored r s o comps heavy xrefs k.managed k.peer k.owners k.driver mirror (s.mirrors ++ n ∷ []);
     }))
@@ -178,14 +179,14 @@ kept-mirrored r s ds (restoring o answers) n number c reply cites refs k w m = a
 kept-mirrored r s ds (restored o answers clear) n number c reply cites refs k w m = absurd w
 
 -- the candidate whose turn it is
-pub turn : (r : ManagedReplay) (c : OpenCycle) (i h : ℕ) → IsReplayKept r → r.managed.cycle ≡ Some c
+pub turn : (r : ManagedReplay) (c : OpenCycle) (i h : ℕ) → ReplayInvariant r → r.managed.cycle ≡ Some c
     → IsCandidateHandle r.managed i h → (m : ℕ) × (slice_get c.candidates i ≡ Some m) × Holds r.managed m h
 turn r c i h k e w = (w.0, subst (λ z. slice_get z i ≡ Some w.0) (candidates_of-open r.managed c e) w.1, holds-handle_of r.managed w.0 h k.managed.places w.2)
 
 pub kept-weaken : (r : ManagedReplay) (s : PeerReplay) (ds : List Doing) (d : Stand) (number : ℕ) (h : HNum) (reply : Reply) (told : Told) (cites : Option ℕ)
-    → AreKept r s ds d → MayWeakenNow d r.managed h.0 cites → MayWeaken s h.0 cites
-    → IsPeerKept (record s { table = numbered_set s.table h.0 (Some record { strength = weak; cleared = false }); mirror = with_weakened s.mirror h.0 })
-    → AreKept r (record s { table = numbered_set s.table h.0 (Some record { strength = weak; cleared = false }); mirror = with_weakened s.mirror h.0 }) ds
+    → BothInvariants r s ds d → MayWeakenNow d r.managed h.0 cites → MayWeaken s h.0 cites
+    → PeerInvariant (record s { table = numbered_set s.table h.0 (Some record { strength = weak; cleared = false }); mirror = with_weakened s.mirror h.0 })
+    → BothInvariants r (record s { table = numbered_set s.table h.0 (Some record { strength = weak; cleared = false }); mirror = with_weakened s.mirror h.0 }) ds
     (stand_after d number (op.Weaken h) reply told)
 kept-weaken r s ds (weakening o count seen sw) number h reply told cites k w p m =
     let t : PeerReplay = record s { table = numbered_set s.table h.0 (Some record { strength = weak; cleared = false }); mirror = with_weakened s.mirror h.0 } in

@@ -18,34 +18,34 @@ use Rattle.joint_machine.specs.Linked.{Linkage, MayCome, SideLawful, PeerLawful,
 use Rattle.joint_machine.specs.ManagedReplay.{ManagedReplay, registered}
 use Rattle.joint_machine.specs.PeerReplay.{PeerReplay, peer_thread_line, sliced, begun}
 use Rattle.joint_machine.specs.Told.{Told, Noted, nothing, snap_of, contraction_of, references_of, slice_of, sweep_of, resolution_of, phase_of}
-use Rattle.joint_laws.specs.LinkedInvariants.{doing_in, HasMadePair, AreOwnersKept, hands}
+use Rattle.joint_laws.specs.LinkedInvariants.{doing_in, HasMadePair, OwnersInvariant, hands}
 use Rattle.joint_machine.proofs.Members.{Contains-nil}
 use Rattle.joint_machine.proofs.Numbered.{numbered-within}
 use Rattle.joint_laws.proofs.ManagedMoves.{met_by}
 use Rattle.joint_laws.proofs.ManagedSteps.{meet_by-reply, give_by-reply}
 use Rattle.joint_laws.proofs.HandleKeeping.{held-raw}
-use Rattle.joint_laws.proofs.Adopting.{IsReplayKept-opening}
-use Rattle.joint_laws.proofs.ReplayKeeping.{IsReplayKept-step}
-use Rattle.joint_laws.proofs.PeerMoves.{IsPeerKept-opening}
+use Rattle.joint_laws.proofs.Adopting.{ReplayInvariant-opening}
+use Rattle.joint_laws.proofs.ReplayKeeping.{ReplayInvariant-step}
+use Rattle.joint_laws.proofs.PeerMoves.{PeerInvariant-opening}
 use Rattle.joint_laws.proofs.PeerEvents.{line-event}
-use Rattle.joint_laws.proofs.PeerEntries.{IsPeerKept-step, sliced-kept, begun-kept, cleared-kept}
+use Rattle.joint_laws.proofs.PeerEntries.{PeerInvariant-step, sliced-kept, begun-kept, cleared-kept}
 use Rattle.joint_laws.proofs.PeerQuietEvents.{IsRawOne, quiet-line, quiet-begun, quiet-sliced}
 use Rattle.joint_laws.proofs.DriverPeers.{made-in_hand}
-use Rattle.joint_laws.proofs.LinkedQuiet.{AreKept, kept-quiet, kept-free}
+use Rattle.joint_laws.proofs.LinkedQuiet.{BothInvariants, kept-quiet, kept-free}
 use Rattle.joint_laws.proofs.LinkedThreads.{adopt-hand, land-hand, meet-hand, release-hand, kept-managed_line}
 use Rattle.joint_laws.proofs.LinkedMaking.{kept-make, kept-grip, kept-land, kept-lend, kept-release}
 use Rattle.joint_laws.proofs.LinkedAdopting.{kept-adopt, kept-meet, kept-give}
 use Rattle.joint_laws.proofs.LinkedSweeps.{sweep-case, kept-peer_sweep}
 use Rattle.joint_laws.proofs.LinkedDriver.{kept-snap, kept-contract, kept-resolve, kept-abandon, kept-refused, safe-mirror, kept-mirrored, kept-weaken}
 use Rattle.joint_laws.proofs.LinkedOwn.{kept-own_begin, kept-own_sweep, kept-restore, kept-clear}
-use Rattle.joint_laws.proofs.Hands.{AreCallersKept-opening}
+use Rattle.joint_laws.proofs.Hands.{CallersInvariant-opening}
 
 -- the parts of a state, and after an entry
 abbrev pub Of : Linkage → Type 0
-Of s = AreKept s.managed s.peer s.control.doing s.control.stand
+Of s = BothInvariants s.managed s.peer s.control.doing s.control.stand
 
 abbrev pub Then : Linkage → ℕ → Made → Told → Bool → Type 0
-Then s number m told b = AreKept (managed_after s.managed m told b) (peer_after s.peer m told b)
+Then s number m told b = BothInvariants (managed_after s.managed m told b) (peer_after s.peer m told b)
     (control_after s.control m.caller number m.index m.op m.reply told).doing (control_after s.control m.caller number m.index m.op m.reply told).stand
 
 abbrev pub entry : Thread → ℕ → Op → Reply → Option ℕ → Made
@@ -55,7 +55,7 @@ abbrev pub Allows : Linkage → Made → Told → Type 0
 Allows s m told = CallerAllows s.control s.managed.managed s.peer.peers.issued m.caller m.index m.op m.reply m.cites told
 
 -- a raw handle isn't the one of a pair just made
-raw_apart : (r : ManagedReplay) (s : PeerReplay) (ds : List Doing) (d : Stand) → AreKept r s ds d → (u h p g : ℕ) → HasMadePair (doing_in (hands d ds) u) h p → IsRawOne s g → g ≡ h → ⊥
+raw_apart : (r : ManagedReplay) (s : PeerReplay) (ds : List Doing) (d : Stand) → BothInvariants r s ds d → (u h p g : ℕ) → HasMadePair (doing_in (hands d ds) u) h p → IsRawOne s g → g ≡ h → ⊥
 raw_apart r s ds d k u h p g m raw e =
     let l = (k.callers.loose u h (made-in_hand (doing_in (hands d ds) u) h p m)).held_one in
     let same : raw.0 ≡ l.0 = same_Some raw.0 l.0 (sym raw.1 ∙ (ap (λ z. numbered_at s.peers.issued z) e ∙ l.1)) in
@@ -69,11 +69,11 @@ module _ (s : Linkage) (k : Of s) (number line : ℕ) (reply : Reply) (cites : O
   d = s.control.stand
 
   -- a peer thread's line
-  peer_line : (u : ℕ) (a : Act) → AreKept s.managed (peer_thread_line s.peer u a).state ds d
+  peer_line : (u : ℕ) (a : Act) → BothInvariants s.managed (peer_thread_line s.peer u a).state ds d
   peer_line u a = kept-quiet (IsRawOne s.peer) s.managed s.peer (peer_thread_line s.peer u a).state ds d k
       (quiet-line s.peer u a k.peer) (line-event s.peer u a k.peer) (raw_apart s.managed s.peer ds d k)
 
-  slice : (u n : ℕ) (closure : List ℕ) → AreKept s.managed (sliced s.peer s.peer.marking (P u) n closure).state ds d
+  slice : (u n : ℕ) (closure : List ℕ) → BothInvariants s.managed (sliced s.peer s.peer.marking (P u) n closure).state ds d
   slice u n closure = kept-quiet (λ h. ⊥) s.managed s.peer (sliced s.peer s.peer.marking (P u) n closure).state ds d k
       (quiet-sliced (λ h. ⊥) s.peer s.peer.marking (P u) n closure refl) (sliced-kept s.peer s.peer.marking (P u) n closure k.peer refl) (λ v h p g x y z. y)
 
@@ -100,9 +100,9 @@ module _ (s : Linkage) (k : Of s) (number line : ℕ) (reply : Reply) (cites : O
       → Allows s (entry t line o reply cites) told → Then s number (entry t line o reply cites) told (is_peer_event t o)
   step (M u) (op.Line a) told e w x =
       kept-free (record s.managed { managed = (managed_line s.managed.managed u a).state }) s.peer ds d u
-      (kept-managed_line s.managed s.peer ds d u a k (IsReplayKept-step s.managed (M u) (op.Line a) told k.managed w.allowed))
+      (kept-managed_line s.managed s.peer ds d u a k (ReplayInvariant-step s.managed (M u) (op.Line a) told k.managed w.allowed))
   step (P u) (op.Line a) told e w x = peer_thread u a told
-  step C (op.Line a) told e w x = kept-managed_line s.managed s.peer ds d 0 a k (IsReplayKept-step s.managed C (op.Line a) told k.managed w.allowed)
+  step C (op.Line a) told e w x = kept-managed_line s.managed s.peer ds d 0 a k (ReplayInvariant-step s.managed C (op.Line a) told k.managed w.allowed)
   step (M u) (op.Make sort n) told e w x = kept-make s.managed s.peer ds d u number line k sort n reply w.replies
   step (P u) (op.Make sort n) told e w x = absurd e.0
   step C (op.Make sort n) told e w x = absurd e.0
@@ -128,7 +128,7 @@ module _ (s : Linkage) (k : Of s) (number line : ℕ) (reply : Reply) (cites : O
   step (P u) (op.Meet v sort n p h) told e w x = absurd e.0
   step C (op.Meet v sort n p h) told e w x = absurd e.0
   step (M u) (op.Give v) told e w x =
-      kept-give s.managed s.peer ds d u number line k v (place u v.0) reply (IsReplayKept-step s.managed (M u) (op.Give v) told k.managed w.allowed)
+      kept-give s.managed s.peer ds d u number line k v (place u v.0) reply (ReplayInvariant-step s.managed (M u) (op.Give v) told k.managed w.allowed)
       (w.replies ∙ give_by-reply s.managed (slot s.managed.managed.heap.vars (place u v.0)) (given_up s.managed.managed (place u v.0)))
   step (P u) (op.Give v) told e w x = absurd e.0
   step C (op.Give v) told e w x = absurd e.0
@@ -136,21 +136,21 @@ module _ (s : Linkage) (k : Of s) (number line : ℕ) (reply : Reply) (cites : O
   step (P u) (op.Release h) told e w x = absurd e
   step C (op.Release h) told e w x = absurd e
   step C (op.Snap n) (snap_of freed candidates dead) e w x = kept-snap s.managed s.peer ds d n.0 number freed candidates dead cites k x w.allowed
-      (IsReplayKept-step s.managed C (op.Snap n) (snap_of freed candidates dead) k.managed w.allowed)
+      (ReplayInvariant-step s.managed C (op.Snap n) (snap_of freed candidates dead) k.managed w.allowed)
   step C (op.Snap n) told e w x = absurd w.allowed
   step (M u) (op.Snap n) told e w x = absurd e
   step (P u) (op.Snap n) told e w x = absurd e
   step C (op.Contract n) (contraction_of comps heavy xrefs) e w x = kept-contract s.managed s.peer ds d n.0 number n reply comps heavy xrefs cites k x w.allowed
-      (IsReplayKept-step s.managed C (op.Contract n) (contraction_of comps heavy xrefs) k.managed w.allowed)
+      (ReplayInvariant-step s.managed C (op.Contract n) (contraction_of comps heavy xrefs) k.managed w.allowed)
   step C (op.Contract n) told e w x = absurd w.allowed
   step (M u) (op.Contract n) told e w x = absurd e
   step (P u) (op.Contract n) told e w x = absurd e
   step C (op.Mirror n) (references_of refs) e w x = kept-mirrored s.managed s.peer ds d n.0 number n reply cites refs k x
-      (IsPeerKept-step s.peer C (op.Mirror n) cites (references_of refs) k.peer w.allowed (safe-mirror s.managed s.peer ds d n.0 n cites (references_of refs) k x))
+      (PeerInvariant-step s.peer C (op.Mirror n) cites (references_of refs) k.peer w.allowed (safe-mirror s.managed s.peer ds d n.0 n cites (references_of refs) k x))
   step C (op.Mirror n) told e w x = absurd w.allowed
   step (M u) (op.Mirror n) told e w x = absurd e
   step (P u) (op.Mirror n) told e w x = absurd e
-  step C (op.Weaken h) nothing e w x = kept-weaken s.managed s.peer ds d number h reply nothing cites k x w.allowed (IsPeerKept-step s.peer C (op.Weaken h) cites nothing k.peer w.allowed tt)
+  step C (op.Weaken h) nothing e w x = kept-weaken s.managed s.peer ds d number h reply nothing cites k x w.allowed (PeerInvariant-step s.peer C (op.Weaken h) cites nothing k.peer w.allowed tt)
   step C (op.Weaken h) told e w x = absurd w.allowed
   step (M u) (op.Weaken h) told e w x = absurd e
   step (P u) (op.Weaken h) told e w x = absurd e
@@ -161,7 +161,7 @@ module _ (s : Linkage) (k : Of s) (number line : ℕ) (reply : Reply) (cites : O
   step (P u) op.Sweep told e w x = peer_sweep u told w
   step C op.Sweep told e w x = own_sweep told w x
   step C (op.Restore h) nothing e w x = kept-restore s.managed s.peer ds d number h reply nothing cites k x w.allowed w.replies
-      (IsPeerKept-step s.peer C (op.Restore h) cites nothing k.peer w.allowed tt)
+      (PeerInvariant-step s.peer C (op.Restore h) cites nothing k.peer w.allowed tt)
   step C (op.Restore h) told e w x = absurd w.allowed
   step (M u) (op.Restore h) told e w x = absurd e
   step (P u) (op.Restore h) told e w x = absurd e
@@ -169,11 +169,11 @@ module _ (s : Linkage) (k : Of s) (number line : ℕ) (reply : Reply) (cites : O
   step (M u) (op.Clear n) told e w x = absurd e
   step (P u) (op.Clear n) told e w x = absurd e
   step C (op.Resolve n) (resolution_of alive freed) e w x = kept-resolve s.managed s.peer ds d n.0 alive freed cites k x w.allowed
-      (IsReplayKept-step s.managed C (op.Resolve n) (resolution_of alive freed) k.managed w.allowed)
+      (ReplayInvariant-step s.managed C (op.Resolve n) (resolution_of alive freed) k.managed w.allowed)
   step C (op.Resolve n) told e w x = absurd w.allowed
   step (M u) (op.Resolve n) told e w x = absurd e
   step (P u) (op.Resolve n) told e w x = absurd e
-  step C (op.Abandon n) nothing e w x = kept-abandon s.managed s.peer ds d n.0 cites k x (IsReplayKept-step s.managed C (op.Abandon n) nothing k.managed w.allowed)
+  step C (op.Abandon n) nothing e w x = kept-abandon s.managed s.peer ds d n.0 cites k x (ReplayInvariant-step s.managed C (op.Abandon n) nothing k.managed w.allowed)
   step C (op.Abandon n) told e w x = absurd w.allowed
   step (M u) (op.Abandon n) told e w x = absurd e
   step (P u) (op.Abandon n) told e w x = absurd e
@@ -182,22 +182,22 @@ module _ (s : Linkage) (k : Of s) (number line : ℕ) (reply : Reply) (cites : O
   step (M u) (op.Refused r) told e w x = absurd e
   step (P u) (op.Refused r) told e w x = absurd e
 
-pub AreKept-entry : (s : Linkage) (n : Noted) → MayCome s n → Of s → Of (linkage_after s n)
-AreKept-entry s n w k = step s k n.entry.number n.entry.made.index n.entry.made.reply n.entry.made.cites n.entry.made.caller n.entry.made.op n.told w.event w.lawful w.order
+pub BothInvariants-entry : (s : Linkage) (n : Noted) → MayCome s n → Of s → Of (linkage_after s n)
+BothInvariants-entry s n w k = step s k n.entry.number n.entry.made.index n.entry.made.reply n.entry.made.cites n.entry.made.caller n.entry.made.op n.told w.event w.lawful w.order
 
-pub AreKept-opening : Of opening_linkage
-AreKept-opening = record {
-  managed = IsReplayKept-opening;
-  peer = IsPeerKept-opening;
+pub BothInvariants-opening : Of opening_linkage
+BothInvariants-opening = record {
+  managed = ReplayInvariant-opening;
+  peer = PeerInvariant-opening;
   owners = nobody;
-  callers = AreCallersKept-opening opening_linkage.managed opening_linkage.peer 9;
+  callers = CallersInvariant-opening opening_linkage.managed opening_linkage.peer 9;
   driver = record { closed = refl; none = refl };
 }
   where
     nothing_there : {A : Type 0} (n : ℕ) (x : A) → numbered_at [] n ≡ Some x → ⊥
     nothing_there n x e = (let w = numbered-within [] n x e in omega (arith, w.0, w.1))
 
-    nobody : AreOwnersKept opening_linkage.managed opening_linkage.peer
+    nobody : OwnersInvariant opening_linkage.managed opening_linkage.peer
     nobody = record {
       held_ones = λ m h q. absurd (nothing_there m (Some h) q.held);
       strong_ones = λ m h q n. absurd (nothing_there m (Some h) q.held);

@@ -18,32 +18,32 @@ use Rattle.joint_machine.specs.Peers.{Issued, held, strong, peer_of, next_handle
 use Rattle.joint_machine.specs.PeerReplay.{PeerReplay, TableRow, Marking, row_of, begun, swept, swept_of, restored_by, with_restored, withdrawn, given_anew, fresh_row, MayRestore, SweepAllows}
 use Rattle.joint_machine.specs.PeerReplay.{IsSweep, strong_peers}
 use Rattle.joint_machine.specs.Told.{Told, sweep_of, said_alive, said_cleared, Answer}
-use Rattle.joint_laws.specs.PeerInvariants.{IsTabled, IsIssued, IsPeerKept}
-use Rattle.joint_laws.specs.LinkedInvariants.{HasStrength, IsHeldOne, IsReplaced, IsVirgin, IsLoose, AreOwnersKept, AreCallersKept, doing_in, HasInHand, hands, IsWeakening, IsRestoring}
+use Rattle.joint_laws.specs.PeerInvariants.{IsTabled, IsIssued, PeerInvariant}
+use Rattle.joint_laws.specs.LinkedInvariants.{HasStrength, IsHeldOne, IsReplaced, IsVirgin, IsLoose, OwnersInvariant, CallersInvariant, doing_in, HasInHand, hands, IsWeakening, IsRestoring}
 use Rattle.joint_machine.proofs.Numbered.{slot-named, numbered-within, numbered_set-length, numbered-push_cases, numbered-push_new}
 use Rattle.joint_machine.proofs.Deciding.{none_some}
 use Rattle.joint_machine.proofs.HeapLemmas.{candidates_of-open}
-use Rattle.joint_laws.proofs.HandlesAlike.{HandlesAlike, HandlesAlike-then, nothing_touched, AreOwnersKept-peer, IsLoose-peer, IsReplaced-peer}
+use Rattle.joint_laws.proofs.HandlesAlike.{HandlesAlike, HandlesAlike-then, nothing_touched, OwnersInvariant-peer, IsLoose-peer, IsReplaced-peer}
 use Rattle.joint_laws.proofs.DriverPeerSteps.{Only, HandlesAlike-only, mirrored-closed}
 use Rattle.joint_laws.proofs.DriverHandles.{callers_same, mirrored_changed, restored-stands, given-stands, owners_touched, not_in_hand, handles_restored, emptied-untabled}
 use Rattle.joint_laws.proofs.PeerQuiet.{HandlesAlike-same, HandlesAlike-issued, IsQuiet}
 use Rattle.joint_laws.proofs.PeerQuietEvents.{quiet-begun}
 use Rattle.joint_laws.proofs.PeerEntries.{swept_told, peer_of-issued}
 use Rattle.joint_laws.proofs.Restores.{restored-cases, renewal}
-use Rattle.joint_laws.proofs.Hands.{put-cleared, put-alive, given-hand, AreCallersKept-cons}
-use Rattle.joint_laws.proofs.LinkedQuiet.{AreKept, kept-quiet}
+use Rattle.joint_laws.proofs.Hands.{put-cleared, put-alive, given-hand, CallersInvariant-cons}
+use Rattle.joint_laws.proofs.LinkedQuiet.{BothInvariants, kept-quiet}
 use Rattle.joint_laws.proofs.LinkedSweeps.{kept-swept, kept-own_swept}
 use Rattle.joint_laws.proofs.LinkedDriver.{turn}
 
 -- the own marking begins: all candidates' handles are weak
 own_begin : (r : ManagedReplay) (s : PeerReplay) (ds : List Doing) (o : OpenSnap) (count : ℕ) (seen sw : Bool) (x : Option Marking)
-    → AreKept r s ds (weakening o count seen sw) → s.marking ≡ x → count ≡ length (candidates_of r.managed) → x ≡ None
-    → IsPeerKept (begun s x C).state → AreKept r (begun s x C).state ds (marked o)
+    → BothInvariants r s ds (weakening o count seen sw) → s.marking ≡ x → count ≡ length (candidates_of r.managed) → x ≡ None
+    → PeerInvariant (begun s x C).state → BothInvariants r (begun s x C).state ds (marked o)
 own_begin r s ds o count seen sw (Some mk) k e w n m = absurd (none_some mk (sym n))
 own_begin r s ds o count seen sw None k e w n m =
     let t : PeerReplay = (begun s None C).state in
     let q : IsQuiet (λ h. ⊥) s t = quiet-begun (λ h. ⊥) s None C e in
-    let now : AreKept r t ds (weakening o count seen sw) = kept-quiet (λ h. ⊥) r s t ds (weakening o count seen sw) k q m (λ u h p g y v z. v) in
+    let now : BothInvariants r t ds (weakening o count seen sw) = kept-quiet (λ h. ⊥) r s t ds (weakening o count seen sw) k q m (λ u h p g y v z. v) in
     let v : IsWeakening r t o count = now.driver in
     record {
       managed = k.managed;
@@ -69,8 +69,8 @@ none-open s None j e = refl
 none-open s (Some mk) j e = (let f : ⊥ = cc in absurd f)
 
 pub kept-own_begin : (r : ManagedReplay) (s : PeerReplay) (ds : List Doing) (d : Stand) (number : ℕ) (reply : Reply) (told : Told) (cites : Option ℕ)
-    → AreKept r s ds d → MayBeginNow d (length (candidates_of r.managed)) reply cites → reply ≡ (begun s s.marking C).reply
-    → IsPeerKept (begun s s.marking C).state → AreKept r (begun s s.marking C).state ds (stand_after d number op.Begin reply told)
+    → BothInvariants r s ds d → MayBeginNow d (length (candidates_of r.managed)) reply cites → reply ≡ (begun s s.marking C).reply
+    → PeerInvariant (begun s s.marking C).state → BothInvariants r (begun s s.marking C).state ds (stand_after d number op.Begin reply told)
 kept-own_begin r s ds (weakening o count seen sw) number (says.Mark j) told cites k w e m = own_begin r s ds o count seen sw s.marking k refl w.0 (none-open s s.marking j e) m
 kept-own_begin r s ds (weakening o count seen sw) number _ told cites k w e m = absurd w
 kept-own_begin r s ds idle number reply told cites k w e m = absurd w
@@ -88,15 +88,15 @@ driver-case s t (Some mk) (sweep_of freed) e w f = (mk, freed, e, w.1, f)
 driver-case s t (Some mk) _ e w f = absurd w
 
 pub kept-own_sweep : (r : ManagedReplay) (s t : PeerReplay) (ds : List Doing) (d : Stand) (number : ℕ) (reply : Reply) (told seen_told : Told) (cites : Option ℕ)
-    → AreKept r s ds d → MaySweepNow d (length (candidates_of r.managed)) cites → SweepAllows s s.marking C told
-    → t ≡ (swept s s.marking C (swept_told told)).state → AreKept r t ds (stand_after d number op.Sweep reply seen_told)
+    → BothInvariants r s ds d → MaySweepNow d (length (candidates_of r.managed)) cites → SweepAllows s s.marking C told
+    → t ≡ (swept s s.marking C (swept_told told)).state → BothInvariants r t ds (stand_after d number op.Sweep reply seen_told)
 kept-own_sweep r s t ds (weakening o count seen sw) number reply told seen_told cites k w a f =
     let c = driver-case s t s.marking told refl a f in
     let now = kept-swept r s ds (weakening o count seen sw) k c.0 c.1 c.2 c.3 (λ x q. (let bad : weakening o count seen sw ≡ marked x = q in cc)) in
-    subst (λ z. AreKept r z ds (weakening o count true true)) (sym c.4) (record { managed = now.managed; peer = now.peer; owners = now.owners; callers = now.callers; driver = now.driver })
+    subst (λ z. BothInvariants r z ds (weakening o count true true)) (sym c.4) (record { managed = now.managed; peer = now.peer; owners = now.owners; callers = now.callers; driver = now.driver })
 kept-own_sweep r s t ds (marked o) number reply told seen_told cites k w a f =
     let c = driver-case s t s.marking told refl a f in
-    subst (λ z. AreKept r z ds (restoring o [])) (sym c.4) (kept-own_swept r s ds (marked o) k c.0 c.1 c.2 c.3 o refl k.driver)
+    subst (λ z. BothInvariants r z ds (restoring o [])) (sym c.4) (kept-own_swept r s ds (marked o) k c.0 c.1 c.2 c.3 o refl k.driver)
 kept-own_sweep r s t ds idle number reply told seen_told cites k w a f = absurd w
 kept-own_sweep r s t ds (snapped o) number reply told seen_told cites k w a f = absurd w
 kept-own_sweep r s t ds (contracted o comps heavy xrefs) number reply told seen_told cites k w a f = absurd w
@@ -105,7 +105,7 @@ kept-own_sweep r s t ds (restored o answers clear) number reply told seen_told c
 
 -- a restore, by whether the handle's peer was freed
 module _ (r : ManagedReplay) (s : PeerReplay) (ds : List Doing) (o : OpenSnap) (answers : List Answer) (h : ℕ)
-    (k : AreKept r s ds (restoring o answers)) (w : IsCandidateHandle r.managed (length answers) h) (row : TableRow) (u : IsTabled s.table h row) where
+    (k : BothInvariants r s ds (restoring o answers)) (w : IsCandidateHandle r.managed (length answers) h) (row : TableRow) (u : IsTabled s.table h row) where
   v : IsRestoring r s o answers
   v = k.driver
 
@@ -125,10 +125,10 @@ module _ (r : ManagedReplay) (s : PeerReplay) (ds : List Doing) (o : OpenSnap) (
   unhanded : (t g : ℕ) → HasInHand (doing_in (hands (restoring o answers) ds) t) g → Only h g → ⊥
   unhanded t g x same = not_in_hand r s (withdrawn s h) v.cycle (length answers) c.0 h k.managed k.owners v.opened.cycle c.1 c.2 alike-gone (hands (restoring o answers) ds) k.callers t g x same
 
-  owners-gone : AreOwnersKept r (withdrawn s h)
+  owners-gone : OwnersInvariant r (withdrawn s h)
   owners-gone = owners_touched r s (withdrawn s h) v.cycle (length answers) c.0 h k.managed k.owners v.opened.cycle c.1 c.2 alike-gone
 
-  callers-gone : AreCallersKept r (withdrawn s h) (hands (restoring o answers) ds)
+  callers-gone : CallersInvariant r (withdrawn s h) (hands (restoring o answers) ds)
   callers-gone = callers_same (Only h) r s (withdrawn s h) alike-gone refl (λ p i. i) (λ y l. l) (λ y p q. q) (hands (restoring o answers) ds) k.callers unhanded
 
   -- no restore gave the candidate's handle
@@ -136,12 +136,12 @@ module _ (r : ManagedReplay) (s : PeerReplay) (ds : List Doing) (o : OpenSnap) (
   avoids i g e same = (let x = given-hand answers ds i g e in unhanded x.0 g x.2 same)
 
   -- it was cleared
-  cleared-at : IsPeerKept (withdrawn s h) → row.cleared ≡ true → AreKept r (withdrawn s h) ds (restoring o (answers ++ said_cleared ∷ []))
+  cleared-at : PeerInvariant (withdrawn s h) → row.cleared ≡ true → BothInvariants r (withdrawn s h) ds (restoring o (answers ++ said_cleared ∷ []))
   cleared-at m e = record {
     managed = k.managed;
     peer = m;
     owners = owners-gone;
-    callers = subst (AreCallersKept r (withdrawn s h)) (sym (put-cleared answers ds)) callers-gone;
+    callers = subst (CallersInvariant r (withdrawn s h)) (sym (put-cleared answers ds)) callers-gone;
     driver = record {
       cycle = v.cycle;
       opened = v.opened;
@@ -213,7 +213,7 @@ module _ (r : ManagedReplay) (s : PeerReplay) (ds : List Doing) (o : OpenSnap) (
     unissued : (g : ℕ) → IsHeldOne (withdrawn s h) g → g ≡ next → ⊥
     unissued g x e = (let l = numbered-within s.peers.issued g x.0 x.1 in omega (arith, l.1, e))
 
-    callers-anew : AreCallersKept r (given_anew (withdrawn s h) p) (hands (restoring o answers) ds)
+    callers-anew : CallersInvariant r (given_anew (withdrawn s h) p) (hands (restoring o answers) ds)
     callers-anew = record {
       loose = λ t g x. IsLoose-peer nothing_touched r (withdrawn s h) (given_anew (withdrawn s h) p) alike-anew g (λ e. e) (callers-gone.loose t g x);
       apart = callers-gone.apart;
@@ -236,13 +236,13 @@ module _ (r : ManagedReplay) (s : PeerReplay) (ds : List Doing) (o : OpenSnap) (
     new-loose : IsLoose r (given_anew (withdrawn s h) p) next
     new-loose = record { strong_one = new-strong; held_one = (new, new-issued, refl); unowned = λ m q. unissued next (owners-gone.held_ones m next q) refl }
 
-    renewed-at : IsPeerKept (given_anew (withdrawn s h) p) → AreKept r (given_anew (withdrawn s h) p) ds (restoring o (answers ++ said_alive next ∷ []))
+    renewed-at : PeerInvariant (given_anew (withdrawn s h) p) → BothInvariants r (given_anew (withdrawn s h) p) ds (restoring o (answers ++ said_alive next ∷ []))
     renewed-at m = record {
       managed = k.managed;
       peer = m;
-      owners = AreOwnersKept-peer nothing_touched r (withdrawn s h) (given_anew (withdrawn s h) p) alike-anew owners-gone (λ x g q y. q) (λ g q y. y);
-      callers = subst (AreCallersKept r (given_anew (withdrawn s h) p)) (sym (put-alive answers next ds))
-          (AreCallersKept-cons r (given_anew (withdrawn s h) p) (hands (restoring o answers) ds) next callers-anew new-loose (λ t x. unissued next (callers-gone.loose t next x).held_one refl));
+      owners = OwnersInvariant-peer nothing_touched r (withdrawn s h) (given_anew (withdrawn s h) p) alike-anew owners-gone (λ x g q y. q) (λ g q y. y);
+      callers = subst (CallersInvariant r (given_anew (withdrawn s h) p)) (sym (put-alive answers next ds))
+          (CallersInvariant-cons r (given_anew (withdrawn s h) p) (hands (restoring o answers) ds) next callers-anew new-loose (λ t x. unissued next (callers-gone.loose t next x).held_one refl));
       driver = record {
         cycle = v.cycle;
         opened = v.opened;
@@ -253,13 +253,13 @@ module _ (r : ManagedReplay) (s : PeerReplay) (ds : List Doing) (o : OpenSnap) (
     }
 
 restored-at : (r : ManagedReplay) (s : PeerReplay) (ds : List Doing) (o : OpenSnap) (answers : List Answer) (h : ℕ) (x : Option TableRow) (row : TableRow) (reply : Reply)
-    → AreKept r s ds (restoring o answers) → IsCandidateHandle r.managed (length answers) h → row_of s h ≡ x → x ≡ Some row
-    → reply ≡ (restored_by s h x).reply → IsPeerKept (restored_by s h x).state → AreKept r (restored_by s h x).state ds (restoring o (answers ++ answer_in reply ∷ []))
-restored-at r s ds o answers h x row reply k w e f g m = subst (λ z. AreKept r (restored_by s h x).state ds (restoring o (answers ++ answer_in z ∷ [])))
+    → BothInvariants r s ds (restoring o answers) → IsCandidateHandle r.managed (length answers) h → row_of s h ≡ x → x ≡ Some row
+    → reply ≡ (restored_by s h x).reply → PeerInvariant (restored_by s h x).state → BothInvariants r (restored_by s h x).state ds (restoring o (answers ++ answer_in reply ∷ []))
+restored-at r s ds o answers h x row reply k w e f g m = subst (λ z. BothInvariants r (restored_by s h x).state ds (restoring o (answers ++ answer_in z ∷ [])))
     (sym g) (restored-cases Q s h x missing cleared unissued fresh m)
   where
     Q : Answered PeerReplay → Type 0
-    Q a = IsPeerKept a.state → AreKept r a.state ds (restoring o (answers ++ answer_in a.reply ∷ []))
+    Q a = PeerInvariant a.state → BothInvariants r a.state ds (restoring o (answers ++ answer_in a.reply ∷ []))
 
     tabled : (y : TableRow) → x ≡ Some y → IsTabled s.table h y
     tabled y q = slot-named (numbered_at s.table h) y (e ∙ q)
@@ -277,8 +277,8 @@ restored-at r s ds o answers h x row reply k w e f g m = subst (λ z. AreKept r 
     fresh y p q c l n = renewed-at r s ds o answers h k w y (tabled y q) p l n
 
 pub kept-restore : (r : ManagedReplay) (s : PeerReplay) (ds : List Doing) (d : Stand) (number : ℕ) (h : HNum) (reply : Reply) (told : Told) (cites : Option ℕ)
-    → AreKept r s ds d → MayRestoreNow d r.managed h.0 cites → MayRestore s h.0 → reply ≡ (restored_by s h.0 (row_of s h.0)).reply
-    → IsPeerKept (restored_by s h.0 (row_of s h.0)).state → AreKept r (restored_by s h.0 (row_of s h.0)).state ds (stand_after d number (op.Restore h) reply told)
+    → BothInvariants r s ds d → MayRestoreNow d r.managed h.0 cites → MayRestore s h.0 → reply ≡ (restored_by s h.0 (row_of s h.0)).reply
+    → PeerInvariant (restored_by s h.0 (row_of s h.0)).state → BothInvariants r (restored_by s h.0 (row_of s h.0)).state ds (stand_after d number (op.Restore h) reply told)
 kept-restore r s ds (restoring o answers) number h reply told cites k w p e m = restored-at r s ds o answers h.0 (row_of s h.0) p.row reply k w.1 refl p.tabled e m
 kept-restore r s ds idle number h reply told cites k w p e m = absurd w
 kept-restore r s ds (snapped o) number h reply told cites k w p e m = absurd w
@@ -289,8 +289,8 @@ kept-restore r s ds (restored o answers clear) number h reply told cites k w p e
 
 -- the references go
 pub kept-clear : (r : ManagedReplay) (s : PeerReplay) (ds : List Doing) (d : Stand) (n number : ℕ) (c : Cycle) (reply : Reply) (told : Told) (cites : Option ℕ)
-    → AreKept r s ds d → MayClearNow d (length (candidates_of r.managed)) n cites → IsPeerKept (record s { refs = []; mirror = None })
-    → AreKept r (record s { refs = []; mirror = None }) ds (stand_after d number (op.Clear c) reply told)
+    → BothInvariants r s ds d → MayClearNow d (length (candidates_of r.managed)) n cites → PeerInvariant (record s { refs = []; mirror = None })
+    → BothInvariants r (record s { refs = []; mirror = None }) ds (stand_after d number (op.Clear c) reply told)
 kept-clear r s ds (restoring o answers) n number c reply told cites k w m =
     let t : PeerReplay = record s { refs = []; mirror = None } in
     let a = HandlesAlike-same s t refl refl refl in
@@ -298,7 +298,7 @@ kept-clear r s ds (restoring o answers) n number c reply told cites k w m =
     record {
       managed = k.managed;
       peer = m;
-      owners = AreOwnersKept-peer nothing_touched r s t a k.owners (λ x h y q. y) (λ h q y. y);
+      owners = OwnersInvariant-peer nothing_touched r s t a k.owners (λ x h y q. y) (λ h q y. y);
       callers = callers_same nothing_touched r s t a refl (λ p i. i) (λ x l. l) (λ x p y. y) (hands (restoring o answers) ds) k.callers (λ u h x y. y);
       driver = record {
         cycle = v.cycle;

@@ -4,25 +4,26 @@ use Rattle.std.proofs.Common.{◌≡◌, ℕ, List, set, sym, subst}
 use Rattle.joint_machine.specs.Control.{Doing, free, Stand}
 use Rattle.joint_machine.specs.ManagedReplay.{ManagedReplay}
 use Rattle.joint_machine.specs.PeerReplay.{PeerReplay}
-use Rattle.joint_laws.specs.ManagedInvariants.{IsReplayKept}
-use Rattle.joint_laws.specs.PeerInvariants.{IsPeerKept}
-use Rattle.joint_laws.specs.LinkedInvariants.{AreOwnersKept, AreCallersKept, IsDriverKept, doing_in, HasMadePair, given_at, hands}
+use Rattle.joint_laws.specs.ManagedInvariants.{ReplayInvariant}
+use Rattle.joint_laws.specs.PeerInvariants.{PeerInvariant}
+use Rattle.joint_laws.specs.LinkedInvariants.{OwnersInvariant, CallersInvariant, DriverInvariant, doing_in, HasMadePair, given_at, hands}
 use Rattle.joint_laws.proofs.ManagedMoves.{GoesOn}
 use Rattle.joint_laws.proofs.OwnersManaged.{OwnersAlike, owners_alike, callers_alike}
 use Rattle.joint_laws.proofs.DriverManaged.{driver_goes_on}
 use Rattle.joint_laws.proofs.DriverPeers.{owners_quiet, callers_quiet, driver_quiet}
 use Rattle.joint_laws.proofs.PeerQuiet.{IsQuiet}
-use Rattle.joint_laws.proofs.Hands.{MayHave, MayHave-free, AreCallersKept-set, AreCallersKept-threads, shift, put-doing, put-set}
+use Rattle.joint_laws.proofs.Hands.{MayHave, MayHave-free, CallersInvariant-set, CallersInvariant-threads, shift, put-doing, put-set}
 
-pub record AreKept (r : ManagedReplay) (s : PeerReplay) (ds : List Doing) (d : Stand) : Type 0 where
-  pub managed : IsReplayKept r
-  pub peer : IsPeerKept s
-  pub owners : AreOwnersKept r s
-  pub callers : AreCallersKept r s (hands d ds)
-  pub driver : IsDriverKept r s d
+pub record BothInvariants (r : ManagedReplay) (s : PeerReplay) (ds : List Doing) (d : Stand) : Type 0 where
+  pub managed : ReplayInvariant r
+  pub peer : PeerInvariant s
+  pub owners : OwnersInvariant r s
+  pub callers : CallersInvariant r s (hands d ds)
+  pub driver : DriverInvariant r s d
 
 -- rows hold the same handles after a managed entry that goes on
-pub kept-alike : (r u : ManagedReplay) (s : PeerReplay) (ds : List Doing) (d : Stand) → AreKept r s ds d → OwnersAlike r u → GoesOn r.managed u.managed → IsReplayKept u → AreKept u s ds d
+pub kept-alike : (r u : ManagedReplay) (s : PeerReplay) (ds : List Doing) (d : Stand) → BothInvariants r s ds d
+    → OwnersAlike r u → GoesOn r.managed u.managed → ReplayInvariant u → BothInvariants u s ds d
 kept-alike r u s ds d k a g m = record {
   managed = m;
   peer = k.peer;
@@ -32,8 +33,8 @@ kept-alike r u s ds d k a g m = record {
 }
 
 -- a quiet entry of the peer side, which reads no handle of a peer just made
-pub kept-quiet : (via : ℕ → Type 0) (r : ManagedReplay) (s t : PeerReplay) (ds : List Doing) (d : Stand) → AreKept r s ds d → IsQuiet via s t → IsPeerKept t
-    → ((u h p g : ℕ) → HasMadePair (doing_in (hands d ds) u) h p → via g → g ≡ h → ⊥) → AreKept r t ds d
+pub kept-quiet : (via : ℕ → Type 0) (r : ManagedReplay) (s t : PeerReplay) (ds : List Doing) (d : Stand) → BothInvariants r s ds d → IsQuiet via s t → PeerInvariant t
+    → ((u h p g : ℕ) → HasMadePair (doing_in (hands d ds) u) h p → via g → g ≡ h → ⊥) → BothInvariants r t ds d
 kept-quiet via r s t ds d k q m other = record {
   managed = k.managed;
   peer = m;
@@ -47,8 +48,8 @@ abbrev pub place_in : Stand → ℕ → ℕ
 place_in d t = shift (given_at d) t
 
 -- what threads alone have in hand
-pub threads-callers : (r : ManagedReplay) (s : PeerReplay) (ds : List Doing) (d : Stand) → AreKept r s ds d → AreCallersKept r s ds
-threads-callers r s ds d k = AreCallersKept-threads r s (given_at d) ds k.callers
+pub threads-callers : (r : ManagedReplay) (s : PeerReplay) (ds : List Doing) (d : Stand) → BothInvariants r s ds d → CallersInvariant r s ds
+threads-callers r s ds d k = CallersInvariant-threads r s (given_at d) ds k.callers
 
 -- what a thread has in hand, in its place
 pub in_place : (ds : List Doing) (d : Stand) (Q : Doing → Type 0) (t : ℕ) → Q (doing_in ds t) → Q (doing_in (hands d ds) (place_in d t))
@@ -60,14 +61,14 @@ hands-set ds d t now = put-set (given_at d) ds t now
 
 -- a thread goes on to something else
 pub kept-doing : (r : ManagedReplay) (s : PeerReplay) (ds : List Doing) (d : Stand) (t : ℕ) (now : Doing)
-    → AreKept r s ds d → MayHave r s (hands d ds) (place_in d t) now → AreKept r s (set ds t now) d
+    → BothInvariants r s ds d → MayHave r s (hands d ds) (place_in d t) now → BothInvariants r s (set ds t now) d
 kept-doing r s ds d t now k m = record {
   managed = k.managed;
   peer = k.peer;
   owners = k.owners;
-  callers = subst (AreCallersKept r s) (sym (hands-set ds d t now)) (AreCallersKept-set r s (hands d ds) (place_in d t) now k.callers m);
+  callers = subst (CallersInvariant r s) (sym (hands-set ds d t now)) (CallersInvariant-set r s (hands d ds) (place_in d t) now k.callers m);
   driver = k.driver;
 }
 
-pub kept-free : (r : ManagedReplay) (s : PeerReplay) (ds : List Doing) (d : Stand) (t : ℕ) → AreKept r s ds d → AreKept r s (set ds t free) d
+pub kept-free : (r : ManagedReplay) (s : PeerReplay) (ds : List Doing) (d : Stand) (t : ℕ) → BothInvariants r s ds d → BothInvariants r s (set ds t free) d
 kept-free r s ds d t k = kept-doing r s ds d t free k (MayHave-free r s (hands d ds) (place_in d t))

@@ -23,26 +23,26 @@ use Rattle.joint_machine.specs.PeerReplay.{PeerReplay}
 use Rattle.joint_machine.specs.Told.{Told, Noted, Answer}
 use Rattle.joint_machine.specs.Walks.{Reaches}
 use Rattle.joint_laws.specs.LinkedInvariants.{IsRestored, doing_in}
-use Rattle.joint_laws.specs.LinkedLaws.{LinkageIsKept, AliveLeadToAlive, AdoptedPeerHasNoTwin}
+use Rattle.joint_laws.specs.LinkedLaws.{LinkageInvariantHolds, AliveLeadToAlive, AdoptedPeerHasNoTwin}
 use Rattle.joint_laws.specs.States.{state_at}
 use Rattle.joint_machine.proofs.Members.{Contains-at, at-Contains}
 use Rattle.joint_laws.proofs.Registered.{registered-some}
 use Rattle.joint_laws.proofs.DriverSteps.{row_of, alive-live, cleared-freed, answered}
-use Rattle.joint_laws.proofs.LinkedQuiet.{AreKept, threads-callers}
+use Rattle.joint_laws.proofs.LinkedQuiet.{BothInvariants, threads-callers}
 use Rattle.joint_laws.proofs.LinkedThreads.{adopt-hand}
 use Rattle.joint_laws.proofs.LinkedDriver.{one_cycle}
-use Rattle.joint_laws.proofs.LinkedEntries.{AreKept-entry, AreKept-opening}
+use Rattle.joint_laws.proofs.LinkedEntries.{BothInvariants-entry, BothInvariants-opening}
 use Rattle.joint_laws.proofs.Everywhere.{everywhere}
 
 pub all_kept : (noted : List Noted) → AllMayCome opening_linkage noted → (i : ℕ)
-    → AreKept (state_at noted i).managed (state_at noted i).peer (state_at noted i).control.doing (state_at noted i).control.stand
-all_kept noted a i = everywhere (λ s. AreKept s.managed s.peer s.control.doing s.control.stand) AreKept-opening AreKept-entry noted a i
+    → BothInvariants (state_at noted i).managed (state_at noted i).peer (state_at noted i).control.doing (state_at noted i).control.stand
+all_kept noted a i = everywhere (λ s. BothInvariants s.managed s.peer s.control.doing s.control.stand) BothInvariants-opening BothInvariants-entry noted a i
 
-pub linkage_is_kept : LinkageIsKept
-linkage_is_kept noted a i = let k = all_kept noted a i in record { managed = k.managed; peer = k.peer; owners = k.owners; callers = k.callers; driver = k.driver }
+pub linkage_invariant_holds : LinkageInvariantHolds
+linkage_invariant_holds noted a i = let k = all_kept noted a i in record { managed = k.managed; peer = k.peer; owners = k.owners; callers = k.callers; driver = k.driver }
 
 alive-to_alive : (r : ManagedReplay) (s : PeerReplay) (ds : List Doing) (o : OpenSnap) (answers : List Answer) (clear : ℕ) (c : OpenCycle)
-    → AreKept r s ds (restored o answers clear) → r.managed.cycle ≡ Some c
+    → BothInvariants r s ds (restored o answers clear) → r.managed.cycle ≡ Some c
     → (a b : ℕ) → IsAnsweredAlive c.candidates answers a → Contains c.candidates b → Reaches (ManagedEdge r.managed) a b → IsAnsweredAlive c.candidates answers b
 alive-to_alive r s ds o answers clear c k e a b alive cb walk =
     subst (λ (z : OpenCycle). IsAnsweredAlive z.candidates answers b) same
@@ -74,12 +74,12 @@ pub alive_lead_to_alive : AliveLeadToAlive
 alive_lead_to_alive noted may i o answers clear c e f a b alive cb walk =
     let s = state_at noted i in
     let k = all_kept noted may i in
-    let at : AreKept s.managed s.peer s.control.doing (restored o answers clear) = subst (λ z. AreKept s.managed s.peer s.control.doing z) e k in
+    let at : BothInvariants s.managed s.peer s.control.doing (restored o answers clear) = subst (λ z. BothInvariants s.managed s.peer s.control.doing z) e k in
     alive-to_alive s.managed s.peer s.control.doing o answers clear c at f a b alive cb walk
 
 -- an `adopt` is of a managed thread that has made the pair
 no-twin : (s : Linkage) (t : Thread) (line : ℕ) (o : Op) (reply : Reply) (cites : Option ℕ) (told : Told) (v : Var) (kind : Kind) (n : ℕ) (p : PNum) (h : HNum)
-    → AreKept s.managed s.peer s.control.doing s.control.stand → o ≡ op.Adopt v kind n p h → IsEvent t o
+    → BothInvariants s.managed s.peer s.control.doing s.control.stand → o ≡ op.Adopt v kind n p h → IsEvent t o
     → CallerAllows s.control s.managed.managed s.peer.peers.issued t line o reply cites told → registered s.managed.registry p.0 ≡ None
 no-twin s t line o reply cites told v kind n p h k e ev w = by t (subst (λ z. IsEvent t z) e ev)
     (subst (λ z. CallerAllows s.control s.managed.managed s.peer.peers.issued t line z reply cites told) e w)

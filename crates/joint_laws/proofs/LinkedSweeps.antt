@@ -14,17 +14,17 @@ use Rattle.joint_machine.specs.Peers.{weak}
 use Rattle.joint_machine.specs.PeerReplay.{PeerReplay, Marking, is_thread, swept_of, swept, IsSweep, SweepAllows}
 use Rattle.joint_machine.specs.Told.{Told, nothing, sweep_of}
 use Rattle.joint_laws.specs.PeerInvariants.{IsSpared}
-use Rattle.joint_laws.specs.LinkedInvariants.{IsDriverKept, IsInMarking, IsRestoring, AreCallersKept, hands}
+use Rattle.joint_laws.specs.LinkedInvariants.{DriverInvariant, IsInMarking, IsRestoring, CallersInvariant, hands}
 use Rattle.joint_machine.proofs.Members.{at-Contains}
-use Rattle.joint_laws.proofs.HandlesAlike.{HandlesAlike, nothing_touched, AreOwnersKept-peer, replaced-peer}
+use Rattle.joint_laws.proofs.HandlesAlike.{HandlesAlike, nothing_touched, OwnersInvariant-peer, replaced-peer}
 use Rattle.joint_laws.proofs.DriverPeers.{driver_on, StaysClosed}
 use Rattle.joint_laws.proofs.DriverPeerSteps.{HandlesAlike-swept}
 use Rattle.joint_laws.proofs.DriverHandles.{callers_same, mirrored_changed}
 use Rattle.joint_laws.proofs.PeerEntries.{swept_told, swept_of-kept, refused-by}
 use Rattle.joint_laws.proofs.Sparing.{spared-stays}
-use Rattle.joint_laws.proofs.LinkedQuiet.{AreKept}
+use Rattle.joint_laws.proofs.LinkedQuiet.{BothInvariants}
 
-module _ (r : ManagedReplay) (s : PeerReplay) (ds : List Doing) (d : Stand) (k : AreKept r s ds d) (mk : Marking) (freed : List ℕ) (e : s.marking ≡ Some mk) (w : IsSweep s mk freed) where
+module _ (r : ManagedReplay) (s : PeerReplay) (ds : List Doing) (d : Stand) (k : BothInvariants r s ds d) (mk : Marking) (freed : List ℕ) (e : s.marking ≡ Some mk) (w : IsSweep s mk freed) where
   abbrev after : PeerReplay
   after = (swept_of s mk freed).state
 
@@ -51,20 +51,20 @@ module _ (r : ManagedReplay) (s : PeerReplay) (ds : List Doing) (d : Stand) (k :
         ]
       ]
 
-  driver_swept : (x : Stand) → ((o : OpenSnap) → x ≡ marked o → ⊥) → IsDriverKept r s x → IsDriverKept r after x
+  driver_swept : (x : Stand) → ((o : OpenSnap) → x ≡ marked o → ⊥) → DriverInvariant r s x → DriverInvariant r after x
   driver_swept x n h = driver_on nothing_touched r s after swept-alike k.owners (λ m g t q. t) refl refl x (λ i g e t. t) (λ o q. absurd (n o q)) closed_swept h
 
-  kept_swept : (x : Stand) → hands x ds ≡ hands d ds → IsDriverKept r after x → AreKept r after ds x
+  kept_swept : (x : Stand) → hands x ds ≡ hands d ds → DriverInvariant r after x → BothInvariants r after ds x
   kept_swept x same h = record {
     managed = k.managed;
     peer = swept_of-kept s mk freed k.peer e w;
-    owners = AreOwnersKept-peer nothing_touched r s after swept-alike k.owners (λ m g t q. t) (λ g q t. t);
-    callers = subst (AreCallersKept r after) (sym same) (callers_same nothing_touched r s after swept-alike refl (λ p i. i) was (λ x p c. c) (hands d ds) k.callers (λ u g x t. t));
+    owners = OwnersInvariant-peer nothing_touched r s after swept-alike k.owners (λ m g t q. t) (λ g q t. t);
+    callers = subst (CallersInvariant r after) (sym same) (callers_same nothing_touched r s after swept-alike refl (λ p i. i) was (λ x p c. c) (hands d ds) k.callers (λ u g x t. t));
     driver = h;
   }
 
   -- not in the driver's own marking
-  pub kept-swept : ((o : OpenSnap) → d ≡ marked o → ⊥) → AreKept r after ds d
+  pub kept-swept : ((o : OpenSnap) → d ≡ marked o → ⊥) → BothInvariants r after ds d
   kept-swept n = kept_swept d refl (driver_swept d n k.driver)
 
   -- the driver's own: all candidates' handles are weak, and none is restored
@@ -76,7 +76,7 @@ module _ (r : ManagedReplay) (s : PeerReplay) (ds : List Doing) (d : Stand) (k :
     handles = λ l m g f q. inr (inr (omega arith, swept-alike.on g weak (k.owners.held_ones m g q) (λ t. t) (h.handles l m g f q)));
   }
 
-  pub kept-own_swept : (o : OpenSnap) → hands d ds ≡ ds → IsInMarking r s o → AreKept r after ds (restoring o [])
+  pub kept-own_swept : (o : OpenSnap) → hands d ds ≡ ds → IsInMarking r s o → BothInvariants r after ds (restoring o [])
   kept-own_swept o none h = kept_swept (restoring o []) (sym none) (restoring-swept o h)
 
 -- a sweep leaves all as it is, or frees what an open marking that the thread may end doesn't spare
@@ -96,12 +96,12 @@ sweep-case s (Some mk) (P n) nothing e w = if-case s (P n) mk [] (is_thread (P n
 sweep-case s (Some mk) t told e w = absurd w
 
 -- a peer thread's sweep never ends the driver's own marking
-pub kept-peer_sweep : (r : ManagedReplay) (s t : PeerReplay) (ds : List Doing) (d : Stand) (n : ℕ) → AreKept r s ds d → SweepCase s (P n) t → AreKept r t ds d
-kept-peer_sweep r s t ds d n k (same e) = subst (λ z. AreKept r z ds d) (sym e) k
-kept-peer_sweep r s t ds d n k (ends mk freed e by w q) = subst (λ z. AreKept r z ds d) (sym q) (kept-swept r s ds d k mk freed e w not_own)
+pub kept-peer_sweep : (r : ManagedReplay) (s t : PeerReplay) (ds : List Doing) (d : Stand) (n : ℕ) → BothInvariants r s ds d → SweepCase s (P n) t → BothInvariants r t ds d
+kept-peer_sweep r s t ds d n k (same e) = subst (λ z. BothInvariants r z ds d) (sym e) k
+kept-peer_sweep r s t ds d n k (ends mk freed e by w q) = subst (λ z. BothInvariants r z ds d) (sym q) (kept-swept r s ds d k mk freed e w not_own)
   where
-    own-by : (x : Stand) (o : OpenSnap) → x ≡ marked o → IsDriverKept r s x → IsInMarking r s o
-    own-by x o f h = subst (λ z. IsDriverKept r s z) f h
+    own-by : (x : Stand) (o : OpenSnap) → x ≡ marked o → DriverInvariant r s x → IsInMarking r s o
+    own-by x o f h = subst (λ z. DriverInvariant r s z) f h
 
     not_own : (o : OpenSnap) → d ≡ marked o → ⊥
     not_own o f =

@@ -16,7 +16,7 @@ use Rattle.joint_machine.specs.Managed.{Managed, managed_line}
 use Rattle.joint_machine.specs.ManagedReplay.{ManagedReplay}
 use Rattle.joint_machine.specs.Peers.{Peers, Issued, held, strong, with_handle, with_peer, next_handle, issued_since}
 use Rattle.joint_machine.specs.PeerReplay.{PeerReplay, TableRow, fresh_row, on_table}
-use Rattle.joint_laws.specs.ManagedInvariants.{IsReplayKept}
+use Rattle.joint_laws.specs.ManagedInvariants.{ReplayInvariant}
 use Rattle.joint_laws.specs.PeerInvariants.{IsIssued}
 use Rattle.joint_laws.specs.LinkedInvariants.{HasStrength, doing_in, HasInHand, HasPeer, HasMadePair, HasLent, IsLoose, IsVirgin, hands}
 use Rattle.joint_machine.proofs.Numbered.{numbered-within, numbered-push_new, numbered-push_cases}
@@ -25,7 +25,7 @@ use Rattle.joint_laws.proofs.Adopting.{HoldsSame, managed_line-same, was-held, s
 use Rattle.joint_laws.proofs.HeapKeeping.{object-field, object-was_live}
 use Rattle.joint_laws.proofs.OwnersManaged.{OwnersAlike}
 use Rattle.joint_laws.proofs.PeerQuiet.{table-issued}
-use Rattle.joint_laws.proofs.LinkedQuiet.{AreKept, kept-alike}
+use Rattle.joint_laws.proofs.LinkedQuiet.{BothInvariants, kept-alike}
 
 -- what a thread has by what it may do next
 pub adopt-hand : (d : Doing) (t : Thread) (l : ℕ) (v : Var) (kind : Kind) (n : ℕ) (p : PNum) (h : HNum) (cites : Option ℕ) → MayAdopt d t l (op.Adopt v kind n p h) cites → HasMadePair d h.0 p.0
@@ -61,7 +61,7 @@ release-hand (lent n line h' x') l h cites w = absurd w
 release-hand (gripped n line p' h' sort f) l h cites w = absurd w
 
 -- a managed line leaves rows with the same handles
-pub OwnersAlike-line : (r : ManagedReplay) (u : Managed) → IsReplayKept r → GoesOn r.managed u → HoldsSame r.managed u → OwnersAlike r (record r { managed = u })
+pub OwnersAlike-line : (r : ManagedReplay) (u : Managed) → ReplayInvariant r → GoesOn r.managed u → HoldsSame r.managed u → OwnersAlike r (record r { managed = u })
 OwnersAlike-line r u k g same = record {
   on = λ m h q. record { live = stays-live r u k g m q.live; held = same.still m h q.held };
   back = λ m h q. was-held r u k g m h (same.before m h q.held) q.live;
@@ -70,15 +70,15 @@ OwnersAlike-line r u k g same = record {
   cycle = g.cycle;
 }
 
-pub kept-managed_line : (r : ManagedReplay) (s : PeerReplay) (ds : List Doing) (d : Stand) (u : ℕ) (a : Act) → AreKept r s ds d
-    → IsReplayKept (record r { managed = (managed_line r.managed u a).state }) → AreKept (record r { managed = (managed_line r.managed u a).state }) s ds d
+pub kept-managed_line : (r : ManagedReplay) (s : PeerReplay) (ds : List Doing) (d : Stand) (u : ℕ) (a : Act) → BothInvariants r s ds d
+    → ReplayInvariant (record r { managed = (managed_line r.managed u a).state }) → BothInvariants (record r { managed = (managed_line r.managed u a).state }) s ds d
 kept-managed_line r s ds d u a k m =
     let g = managed_line-goes_on r.managed u a k.managed.managed.places k.managed.managed.cells in
     kept-alike r (record r { managed = (managed_line r.managed u a).state }) s ds d k
     (OwnersAlike-line r (managed_line r.managed u a).state k.managed g (managed_line-same r.managed k.managed.managed u a)) g m
 
 -- a held handle was issued: it is loose
-module _ (r : ManagedReplay) (s : PeerReplay) (ds : List Doing) (d : Stand) (k : AreKept r s ds d) (p : ℕ)
+module _ (r : ManagedReplay) (s : PeerReplay) (ds : List Doing) (d : Stand) (k : BothInvariants r s ds d) (p : ℕ)
     (g : Peers) (e : g.issued ≡ s.peers.issued ++ record { peer = p; hold = held; strength = strong } ∷ []) where
   abbrev new : Issued
   new = record { peer = p; hold = held; strength = strong }
@@ -118,7 +118,7 @@ module _ (r : ManagedReplay) (s : PeerReplay) (ds : List Doing) (d : Stand) (k :
   new-peer h q e f = (new, subst (λ z. IsIssued g.issued z new) e new-issued, f)
 
 -- a pair was made: its peer is named nowhere yet
-module _ (r : ManagedReplay) (s : PeerReplay) (ds : List Doing) (d : Stand) (sort : Sort) (n : ℕ) (k : AreKept r s ds d) where
+module _ (r : ManagedReplay) (s : PeerReplay) (ds : List Doing) (d : Stand) (sort : Sort) (n : ℕ) (k : BothInvariants r s ds d) where
   abbrev paired : PeerReplay
   paired = (on_table s (answer (says.Made record { 0 = next_number s.peers.heap } record { 0 = next_handle s.peers })
       (with_handle (with_peer s.peers sort n) (next_number s.peers.heap) held strong))).state

@@ -10,7 +10,7 @@ use Rattle.joint_machine.specs.Joint.{Joint, Graph, Row, object, peer, JointEdge
 use Rattle.joint_machine.specs.Managed.{OpenCycle, IsBridge, IsManagedRoot, ManagedEdge, IsManagedReached, IsBridgeReached}
 use Rattle.joint_machine.specs.Run.{IsKept}
 use Rattle.joint_machine.proofs.WalkLemmas.{Reached-keeps, Reached-start, Reached-then, Reaches-self, Reaches-then}
-use Rattle.joint_laws.specs.ManagedInvariants.{IsCutOff, IsManagedKept}
+use Rattle.joint_laws.specs.ManagedInvariants.{IsCutOff, ManagedInvariant}
 use Rattle.joint_laws.specs.FreeingLaws.{SnapshotFreesUnreached, ResolutionFreesUnreached}
 use Rattle.joint_machine.proofs.Members.{Contains-decided}
 
@@ -44,7 +44,7 @@ module _ (j : Joint) (k : ℕ) (freed candidates dead : List ℕ) (s : IsSnapsho
         | inr t ↦ f.2 t
       ]
 
-module _ (j : Joint) (c : OpenCycle) (freed : List ℕ) (k : IsManagedKept j.graph.managed) (o : j.graph.managed.cycle ≡ Some c) (s : IsResolution j.graph.managed c.dead (IsKept j c) freed) where
+module _ (j : Joint) (c : OpenCycle) (freed : List ℕ) (k : ManagedInvariant j.graph.managed) (o : j.graph.managed.cycle ≡ Some c) (s : IsResolution j.graph.managed c.dead (IsKept j c) freed) where
   cut : IsCutOff j.graph.managed c
   cut = k.dead c o
 

@@ -11,7 +11,7 @@ use Rattle.joint_machine.specs.Heaps.{Heap, IsMade, IsLive, numbered_at, fields_
 use Rattle.joint_machine.specs.Managed.{Managed, OpenCycle, IsBridge, IsManagedRoot, ManagedEdge, opening_managed, with_snapshot, resolved, abandoned, candidates_of}
 use Rattle.joint_machine.specs.Cycles.{IsSnapshot, IsResolution}
 use Rattle.joint_machine.proofs.WalkLemmas.{Reached-start, Reached-then, Reaches-then}
-use Rattle.joint_laws.specs.ManagedInvariants.{IsCutOff, IsManagedKept}
+use Rattle.joint_laws.specs.ManagedInvariants.{IsCutOff, ManagedInvariant}
 use Rattle.joint_machine.proofs.Members.{Contains-nil, Contains-decided}
 use Rattle.joint_machine.proofs.Numbered.{replicate-none}
 use Rattle.joint_machine.proofs.Deciding.{none_some}
@@ -22,8 +22,8 @@ use Rattle.joint_machine.specs.Told.{Answer}
 use Rattle.joint_laws.proofs.Renewing.{renewed-length}
 
 -- before the first entry nothing is named
-pub IsManagedKept-opening : IsManagedKept opening_managed
-IsManagedKept-opening = record {
+pub ManagedInvariant-opening : ManagedInvariant opening_managed
+ManagedInvariant-opening = record {
   places = refl;
   vars = refl;
   freed = λ m c. absurd (Contains-nil m c);
@@ -40,7 +40,7 @@ IsManagedKept-opening = record {
     ]
 
 -- a row that can come into a slot is unfreed, and outside the dead part
-pub nameable-live : (s : Managed) (x : ℕ) → IsManagedKept s → IsNameable s x → IsLive s.heap x
+pub nameable-live : (s : Managed) (x : ℕ) → ManagedInvariant s → IsNameable s x → IsLive s.heap x
 nameable-live s x k n = elim n [
   | inl r ↦ k.roots x r
   | inr t ↦ elim t [
@@ -49,7 +49,7 @@ nameable-live s x k n = elim n [
   ]
 ]
 
-pub nameable-outside : (s : Managed) (x : ℕ) (c : OpenCycle) → IsManagedKept s → s.cycle ≡ Some c → IsNameable s x → Contains c.dead x → ⊥
+pub nameable-outside : (s : Managed) (x : ℕ) (c : OpenCycle) → ManagedInvariant s → s.cycle ≡ Some c → IsNameable s x → Contains c.dead x → ⊥
 nameable-outside s x c k o n d =
     let cut = k.dead c o in
     elim n [
@@ -60,7 +60,7 @@ nameable-outside s x c k o n d =
       ]
     ]
 
-module _ (s t : Managed) (k : IsManagedKept s) (g : GoesOn s t) where
+module _ (s t : Managed) (k : ManagedInvariant s) (g : GoesOn s t) where
   live_on : (x : ℕ) → IsLive s.heap x → IsLive t.heap x
   live_on x l = IsLive-more s.heap t.heap g.made g.freed x l
 
@@ -133,8 +133,8 @@ module _ (s t : Managed) (k : IsManagedKept s) (g : GoesOn s t) where
       rise = cut.rise;
     }
 
-  pub IsManagedKept-goes_on : IsManagedKept t
-  IsManagedKept-goes_on = record {
+  pub ManagedInvariant-goes_on : ManagedInvariant t
+  ManagedInvariant-goes_on = record {
     places = g.places k.places;
     vars = g.vars ∙ k.vars;
     freed = λ x c. (let m = k.freed x (subst (λ f. Contains f x) g.freed c) in (m.0, omega (arith, m.1, g.made)));
@@ -147,7 +147,7 @@ module _ (s t : Managed) (k : IsManagedKept s) (g : GoesOn s t) where
 made-freed : (h : Heap) (freed : List ℕ) (x : ℕ) → ((y : ℕ) → Contains h.freed y → IsMade h y) → ((y : ℕ) → Contains freed y → IsLive h y) → Contains (h.freed ++ freed) x → IsMade h x
 made-freed h freed x p q c = elim (Contains-append_cases h.freed freed x c) [ inl w ↦ p x w | inr w ↦ (q x w).made ]
 
-module _ (s : Managed) (k : ℕ) (freed candidates dead : List ℕ) (kept : IsManagedKept s) (p : IsSnapshot s k freed candidates dead) where
+module _ (s : Managed) (k : ℕ) (freed candidates dead : List ℕ) (kept : ManagedInvariant s) (p : IsSnapshot s k freed candidates dead) where
   abbrev opened : OpenCycle
   opened = record { number = s.cycles + 1; candidates = candidates; dead = dead }
 
@@ -199,8 +199,8 @@ module _ (s : Managed) (k : ℕ) (freed candidates dead : List ℕ) (kept : IsMa
     rise = p.candidates_rise;
   }
 
-  pub IsManagedKept-snapped : IsManagedKept after
-  IsManagedKept-snapped = record {
+  pub ManagedInvariant-snapped : ManagedInvariant after
+  ManagedInvariant-snapped = record {
     places = kept.places;
     vars = kept.vars;
     freed = λ x c. made-freed s.heap freed x kept.freed (λ y f. ((p.frees y).0 f).0) c;
@@ -212,7 +212,7 @@ module _ (s : Managed) (k : ℕ) (freed candidates dead : List ℕ) (kept : IsMa
     dead = λ c e. subst (λ z. IsCutOff after z) (same_Some opened c e) snapped-cut_off;
   }
 
-module _ (s : Managed) (c : OpenCycle) (staying : ℕ → Type 0) (freed : List ℕ) (kept : IsManagedKept s) (o : s.cycle ≡ Some c) (p : IsResolution s c.dead staying freed) where
+module _ (s : Managed) (c : OpenCycle) (staying : ℕ → Type 0) (freed : List ℕ) (kept : ManagedInvariant s) (o : s.cycle ≡ Some c) (p : IsResolution s c.dead staying freed) where
   in_dead : (x : ℕ) → Contains freed x → Contains c.dead x
   in_dead x f = ((p.frees x).0 f).0
 
@@ -223,8 +223,8 @@ module _ (s : Managed) (c : OpenCycle) (staying : ℕ → Type 0) (freed : List 
     | inl d ↦ n ((p.frees x).1 (d, λ r. ((p.frees y).0 f).1 (r.0, r.1, Reaches-then (ManagedEdge s) r.0 x y r.2 (record { live = l; field = e; there = kept.fields x y l e }))))
   ]
 
-  pub IsManagedKept-resolved : (answers : List Answer) → IsManagedKept (resolved s answers freed)
-  IsManagedKept-resolved answers = record {
+  pub ManagedInvariant-resolved : (answers : List Answer) → ManagedInvariant (resolved s answers freed)
+  ManagedInvariant-resolved answers = record {
     places = renewed-length s.held (candidates_of s) answers ∙ kept.places;
     vars = kept.vars;
     freed = λ x f. made-freed s.heap freed x kept.freed (λ y q. (kept.dead c o).live y (in_dead y q)) f;
@@ -236,8 +236,8 @@ module _ (s : Managed) (c : OpenCycle) (staying : ℕ → Type 0) (freed : List 
     dead = λ d e. absurd (none_some d e);
   }
 
-pub IsManagedKept-abandoned : (s : Managed) → IsManagedKept s → IsManagedKept (abandoned s)
-IsManagedKept-abandoned s k = record {
+pub ManagedInvariant-abandoned : (s : Managed) → ManagedInvariant s → ManagedInvariant (abandoned s)
+ManagedInvariant-abandoned s k = record {
   places = k.places;
   vars = k.vars;
   freed = k.freed;

@@ -12,7 +12,7 @@ use Rattle.joint_machine.specs.ManagedReplay.{ManagedReplay, registered, meet_by
 use Rattle.joint_machine.specs.Run.{thread_number}
 use Rattle.joint_machine.specs.Told.{Told, nothing, snap_of, contraction_of, resolution_of, phase_of, Answer}
 use Rattle.joint_machine.proofs.HeapLemmas.{adopt_by-managed}
-use Rattle.joint_laws.specs.ManagedInvariants.{IsReplayKept}
+use Rattle.joint_laws.specs.ManagedInvariants.{ReplayInvariant}
 use Rattle.joint_laws.proofs.Registered.{registered-some}
 use Rattle.joint_laws.proofs.ManagedMoves.{GoesOn, GoesOn-stay, managed_line-goes_on, adopted-goes_on, met-goes_on, given_up-goes_on}
 
@@ -65,10 +65,10 @@ stays s = going_on (GoesOn-stay s.managed)
 goes : (s t u : Managed) → u ≡ t → GoesOn s t → ManagedStep s u
 goes s t u e g = going_on (subst (λ z. GoesOn s z) (sym e) g)
 
-pub twin-live : (s : ManagedReplay) (p m : ℕ) → IsReplayKept s → registered s.registry p ≡ Some m → IsLive s.managed.heap m
+pub twin-live : (s : ManagedReplay) (p m : ℕ) → ReplayInvariant s → registered s.registry p ≡ Some m → IsLive s.managed.heap m
 twin-live s p m k e = (k.pairs p m (registered-some s.registry p m e)).1.live
 
-pub managed_step : (s : ManagedReplay) (t : Thread) (o : Op) (told : Told) → IsReplayKept s → ManagedAllows s o told → ManagedStep s.managed (managed_answer s t o told).state.managed
+pub managed_step : (s : ManagedReplay) (t : Thread) (o : Op) (told : Told) → ReplayInvariant s → ManagedAllows s o told → ManagedStep s.managed (managed_answer s t o told).state.managed
 managed_step s t (op.Line a) told k w = going_on (managed_line-goes_on s.managed (thread_number t) a k.managed.places k.managed.cells)
 managed_step s t (op.Adopt v kind n p h) told k w =
     let a = adopted s.managed (place (thread_number t) v.0) kind n h.0 in

@@ -20,12 +20,12 @@ use Rattle.joint_machine.specs.Managed.{Managed, OpenCycle}
 use Rattle.joint_machine.specs.Peers.{Issued}
 use Rattle.joint_machine.specs.Run.{Moment, IsRun}
 use Rattle.joint_machine.specs.Told.{Told, contraction_of, snap_of, resolution_of, Noted}
-use Rattle.joint_laws.specs.LinkedInvariants.{IsDriverKept}
+use Rattle.joint_laws.specs.LinkedInvariants.{DriverInvariant}
 use Rattle.joint_laws.specs.OwnMarkingLaws.{DriverBegins, HasOneBegin, OwnMarkingIsOne, RunMarksOnce}
 use Rattle.joint_laws.specs.EventsAt.{HasEventAt}
 use Rattle.joint_laws.specs.States.{state_at}
 use Rattle.joint_laws.proofs.Everywhere.{everywhere, from_state}
-use Rattle.joint_laws.proofs.LinkedEntries.{Of, AreKept-entry, AreKept-opening}
+use Rattle.joint_laws.proofs.LinkedEntries.{Of, BothInvariants-entry, BothInvariants-opening}
 use Rattle.joint_laws.proofs.ManagedEntries.{ManagedStep-entry}
 use Rattle.joint_laws.proofs.ManagedSteps.{ManagedStep, going_on, snapping, resolving, abandoning}
 use Rattle.joint_laws.proofs.Places.{comes-at, after-at, earlier-at, Origin, origin, count-mono}
@@ -184,7 +184,7 @@ cycles-grow s n may k = by (ManagedStep-entry s n may k.managed)
 latest : (s : Linkage) → Of s → (c : OpenCycle) (k : ℕ) → s.managed.managed.cycle ≡ Some c → c.number ≡ k → cycles_of s ≡ k
 latest s w c k e f = sym (w.managed.managed.dead c e).latest ∙ f
 
-before-latest : (s : Linkage) (k : ℕ) → Of s → (st : Stand) → IsDriverKept s.managed s.peer st → IsBefore k st → cycles_of s ≡ k
+before-latest : (s : Linkage) (k : ℕ) → Of s → (st : Stand) → DriverInvariant s.managed s.peer st → IsBefore k st → cycles_of s ≡ k
 before-latest s k w (snapped o) d e = latest s w d.cycle k d.opened.cycle (d.opened.number ∙ e)
 before-latest s k w (contracted o comps heavy xrefs) d e = latest s w d.before.cycle k d.before.opened.cycle (d.before.opened.number ∙ e)
 before-latest s k w (weakening o count seen sw) d e = latest s w d.cycle k d.opened.cycle (d.opened.number ∙ e)
@@ -193,7 +193,7 @@ before-latest s k w (marked o) d e = absurd e
 before-latest s k w (restoring o answers) d e = absurd e
 before-latest s k w (restored o answers clear) d e = absurd e
 
-behind-latest : (s : Linkage) (k : ℕ) → Of s → (st : Stand) → IsDriverKept s.managed s.peer st → IsBehind k st → cycles_of s ≡ k
+behind-latest : (s : Linkage) (k : ℕ) → Of s → (st : Stand) → DriverInvariant s.managed s.peer st → IsBehind k st → cycles_of s ≡ k
 behind-latest s k w (marked o) d e = latest s w d.cycle k d.opened.cycle (d.opened.number ∙ e)
 behind-latest s k w (restoring o answers) d e = latest s w d.cycle k d.opened.cycle (d.opened.number ∙ e)
 behind-latest s k w (restored o answers clear) d e = latest s w d.cycle k d.opened.cycle (d.opened.number ∙ e)
@@ -215,7 +215,7 @@ module _ (noted : List Noted) (may : AllMayCome opening_linkage noted) (i k : �
   at p = state_at noted p
 
   kept-at : (p : ℕ) → Of (at p)
-  kept-at p = everywhere Of AreKept-opening AreKept-entry noted may p
+  kept-at p = everywhere Of BothInvariants-opening BothInvariants-entry noted may p
 
   abbrev NoBegin : ℕ → Type 0
   NoBegin p = (b : ℕ) → i < b → b < p → DriverBegins noted b → ⊥
@@ -396,7 +396,7 @@ snap-first : (noted : List Noted) (may : AllMayCome opening_linkage noted) (i e 
 snap-first noted may i e k sn rs = elim (cases_lt i e) [ inl l ↦ l | inr l ↦ absurd (late l) ]
   where
     kept : (p : ℕ) → Of (state_at noted p)
-    kept p = everywhere Of AreKept-opening AreKept-entry noted may p
+    kept p = everywhere Of BothInvariants-opening BothInvariants-entry noted may p
 
     at_resolve : cycles_of (state_at noted e) ≡ k
     at_resolve = behind-latest (state_at noted e) k (kept e) (state_at noted e).control.stand (kept e).driver (resolves-behind noted may k e rs)
@@ -405,7 +405,7 @@ snap-first noted may i e k sn rs = elim (cases_lt i e) [ inl l ↦ l | inr l ↦
     at_snap = snap-number (state_at noted i) sn.entry k (comes-at noted i sn.entry may sn.there) sn.event
 
     grows : (more : ℕ) → Of (state_at noted (e + more)) × (k ≤ cycles_of (state_at noted (e + more)))
-    grows more = from_state (λ s. Of s × (k ≤ cycles_of s)) (λ s n m w. (AreKept-entry s n m w.0, (let g = cycles-grow s n m w.0 in let h = w.1 in omega arith))) noted may e more
+    grows more = from_state (λ s. Of s × (k ≤ cycles_of s)) (λ s n m w. (BothInvariants-entry s n m w.0, (let g = cycles-grow s n m w.0 in let h = w.1 in omega arith))) noted may e more
         (kept e, omega (arith, at_resolve))
 
     late : e ≤ i → ⊥

@@ -9,7 +9,7 @@ use Rattle.joint_machine.specs.declared.names.Thread.{Thread}
 use Rattle.joint_machine.specs.Heaps.{Heap, IsMade, with_var, with_static, with_object}
 use Rattle.joint_machine.specs.Peers.{Issued, Strength, strong, weak, is_strong}
 use Rattle.joint_machine.specs.PeerReplay.{TableRow, Mirror, Marking, strong_peers, Refers}
-use Rattle.joint_laws.specs.PeerInvariants.{IsTabled, IsIssued, IsHeapKept, AreReferencesKept, IsSpared, IsMarkingKept}
+use Rattle.joint_laws.specs.PeerInvariants.{IsTabled, IsIssued, HeapInvariant, ReferencesInvariant, IsSpared, MarkingInvariant}
 use Rattle.joint_machine.proofs.Members.{Contains-here, Contains-there}
 use Rattle.joint_machine.proofs.Numbered.{Contains-set_cases}
 use Rattle.joint_machine.proofs.Deciding.{none_some}
@@ -20,16 +20,16 @@ use Rattle.joint_laws.proofs.HeapKeeping.{moved-live, moved-was_live, object-fie
 use Rattle.joint_laws.proofs.Sparing.{spared-root, spared-next, spared-later, later}
 use Rattle.joint_machine.specs.Components.{End}
 
-module _ (h : Heap) (issued : List Issued) (table : List (Option TableRow)) (refs : List (End × End)) (mk : Marking) (k : IsMarkingKept h issued table refs mk) where
+module _ (h : Heap) (issued : List Issued) (table : List (Option TableRow)) (refs : List (End × End)) (mk : Marking) (k : MarkingInvariant h issued table refs mk) where
   -- what is in reach is spared
-  pub in_reach-spared : (p : ℕ) → IsHeapKept h → IsInReach h p → IsSpared mk p
+  pub in_reach-spared : (p : ℕ) → HeapInvariant h → IsInReach h p → IsSpared mk p
   in_reach-spared p heap r = elim r [
     | inl i ↦ k.slots p i
     | inr z ↦ spared-next mk z.0 p (k.fields z.0 p (heap.slots z.0 z.1) z.2) (k.slots z.0 z.1)
   ]
 
-  pub IsMarkingKept-moved : (g : Heap) → IsHeapKept h → HasMoved h g → IsMarkingKept g issued table refs mk
-  IsMarkingKept-moved g heap v = record {
+  pub MarkingInvariant-moved : (g : Heap) → HeapInvariant h → HasMoved h g → MarkingInvariant g issued table refs mk
+  MarkingInvariant-moved g heap v = record {
     made = omega (arith, k.made, v.made);
     existed = λ p l. moved-live h g v p (k.existed p l);
     fields = λ p q l c. elim (v.fields p q c) [
@@ -42,8 +42,8 @@ module _ (h : Heap) (issued : List Issued) (table : List (Option TableRow)) (ref
   }
 
   -- a further object, which has no field yet; nothing was told of it by references, whose ends were made
-  pub IsMarkingKept-object : (n : ℕ) → ((p q : ℕ) → Refers refs p q → IsMade h p) → IsMarkingKept (with_object h n) issued table refs mk
-  IsMarkingKept-object n made = record {
+  pub MarkingInvariant-object : (n : ℕ) → ((p q : ℕ) → Refers refs p q → IsMade h p) → MarkingInvariant (with_object h n) issued table refs mk
+  MarkingInvariant-object n made = record {
     made = omega (arith, k.made, with_object-length h n);
     existed = λ p l. IsLive-later h n p (k.existed p l);
     fields = λ p q l c. (let f = object-field h n p q c in k.fields p q (object-was_live h n p f.0 l) f.1);
@@ -53,8 +53,8 @@ module _ (h : Heap) (issued : List Issued) (table : List (Option TableRow)) (ref
   }
 
   -- a slot comes to name a spared peer
-  pub IsMarkingKept-var : (v p : ℕ) → IsSpared mk p → IsMarkingKept (with_var h v (Some p)) issued table refs mk
-  IsMarkingKept-var v p s = record {
+  pub MarkingInvariant-var : (v p : ℕ) → IsSpared mk p → MarkingInvariant (with_var h v (Some p)) issued table refs mk
+  MarkingInvariant-var v p s = record {
     made = k.made;
     existed = λ x l. (let m = k.existed x l in record { made = m.made; kept = m.kept });
     fields = λ x y l c. k.fields x y (record { made = l.made; kept = l.kept }) c;
@@ -66,8 +66,8 @@ module _ (h : Heap) (issued : List Issued) (table : List (Option TableRow)) (ref
     strong_ones = k.strong_ones;
   }
 
-  pub IsMarkingKept-static : (j p : ℕ) → IsSpared mk p → IsMarkingKept (with_static h j (Some p)) issued table refs mk
-  IsMarkingKept-static j p s = record {
+  pub MarkingInvariant-static : (j p : ℕ) → IsSpared mk p → MarkingInvariant (with_static h j (Some p)) issued table refs mk
+  MarkingInvariant-static j p s = record {
     made = k.made;
     existed = λ x l. (let m = k.existed x l in record { made = m.made; kept = m.kept });
     fields = λ x y l c. k.fields x y (record { made = l.made; kept = l.kept }) c;
@@ -80,17 +80,17 @@ module _ (h : Heap) (issued : List Issued) (table : List (Option TableRow)) (ref
   }
 
   -- the table changes, and what its strong handles lead to is spared
-  pub IsMarkingKept-table : (more : List Issued) (rows : List (Option TableRow))
-      → ((n : ℕ) (row : TableRow) (i : Issued) → IsTabled rows n row → row.strength ≡ strong → IsIssued more n i → IsSpared mk i.peer) → IsMarkingKept h more rows refs mk
-  IsMarkingKept-table more rows s = record { made = k.made; existed = k.existed; fields = k.fields; references = k.references; slots = k.slots; strong_ones = s }
+  pub MarkingInvariant-table : (more : List Issued) (rows : List (Option TableRow))
+      → ((n : ℕ) (row : TableRow) (i : Issued) → IsTabled rows n row → row.strength ≡ strong → IsIssued more n i → IsSpared mk i.peer) → MarkingInvariant h more rows refs mk
+  MarkingInvariant-table more rows s = record { made = k.made; existed = k.existed; fields = k.fields; references = k.references; slots = k.slots; strong_ones = s }
 
   -- the references change, and what they lead to is spared
-  pub IsMarkingKept-references : (more : List (End × End)) → ((p q : ℕ) → Refers more p q → IsSpared mk q) → IsMarkingKept h issued table more mk
-  IsMarkingKept-references more s = record { made = k.made; existed = k.existed; fields = k.fields; references = λ p q l c. inr (s p q c); slots = k.slots; strong_ones = k.strong_ones }
+  pub MarkingInvariant-references : (more : List (End × End)) → ((p q : ℕ) → Refers more p q → IsSpared mk q) → MarkingInvariant h issued table more mk
+  MarkingInvariant-references more s = record { made = k.made; existed = k.existed; fields = k.fields; references = λ p q l c. inr (s p q c); slots = k.slots; strong_ones = k.strong_ones }
 
   -- peers are brought back, or objects blackened
-  pub IsMarkingKept-later : (brought : List ℕ) (black : ℕ) → ((x : ℕ) → Contains mk.brought x → Contains brought x) → IsMarkingKept h issued table refs (later mk brought black)
-  IsMarkingKept-later brought black more = record {
+  pub MarkingInvariant-later : (brought : List ℕ) (black : ℕ) → ((x : ℕ) → Contains mk.brought x → Contains brought x) → MarkingInvariant h issued table refs (later mk brought black)
+  MarkingInvariant-later brought black more = record {
     made = k.made;
     existed = k.existed;
     fields = λ p q l c. elim (k.fields p q l c) [ inl e ↦ inl e | inr s ↦ inr (spared-later mk brought black q more s) ];
@@ -124,10 +124,10 @@ strong-listed issued table zero row i t s e = absurd (none_some i e)
 strong-listed issued table (suc k) row i t s e = strong-at issued table k row i t s e
 
 -- a marking that begins
-pub IsMarkingKept-begun : (h : Heap) (issued : List Issued) (table : List (Option TableRow)) (refs : List (End × End)) (mirror : Option Mirror) (number : ℕ) (by : Thread)
-    → IsHeapKept h → AreReferencesKept h issued refs mirror
-    → IsMarkingKept h issued table refs (record { number = number; by = by; heap = h; refs = refs; strong_peers = strong_peers issued table; brought = []; blackened = 0 })
-IsMarkingKept-begun h issued table refs mirror number by heap r = record {
+pub MarkingInvariant-begun : (h : Heap) (issued : List Issued) (table : List (Option TableRow)) (refs : List (End × End)) (mirror : Option Mirror) (number : ℕ) (by : Thread)
+    → HeapInvariant h → ReferencesInvariant h issued refs mirror
+    → MarkingInvariant h issued table refs (record { number = number; by = by; heap = h; refs = refs; strong_peers = strong_peers issued table; brought = []; blackened = 0 })
+MarkingInvariant-begun h issued table refs mirror number by heap r = record {
   made = omega arith;
   existed = λ p l. l;
   fields = λ p q l c. inl (inl (record { live = l; field = c; there = heap.fields p q l c }));

@@ -20,7 +20,7 @@ use Rattle.joint_machine.specs.Managed.{with_snapshot, resolved, abandoned, cand
 use Rattle.joint_machine.specs.ManagedReplay.{ManagedReplay, registered, managed_answer, ManagedAllows}
 use Rattle.joint_machine.specs.Run.{thread_number}
 use Rattle.joint_machine.specs.Told.{Told, Noted, nothing, snap_of, contraction_of, resolution_of, phase_of}
-use Rattle.joint_laws.specs.ManagedInvariants.{IsManagedKept, IsReplayKept}
+use Rattle.joint_laws.specs.ManagedInvariants.{ManagedInvariant, ReplayInvariant}
 use Rattle.joint_machine.proofs.Numbered.{numbered-within, numbered_set-length, numbered-push_cases, set-at_here}
 use Rattle.joint_machine.proofs.Members.{Contains-at}
 use Rattle.joint_machine.proofs.HeapLemmas.{adopt_by-managed}
@@ -36,7 +36,7 @@ Contains-set_there xs i x l = Contains-at (set xs i x) i x (set-at_here xs i x l
 abbrev NewNamed : Managed → Managed → Type 0
 NewNamed m n = (x h : ℕ) → (IsMade m.heap x → ⊥) → numbered_at n.held x ≡ Some (Some h) → IsManagedRoot n x
 
-module _ (m : Managed) (k : IsManagedKept m) where
+module _ (m : Managed) (k : ManagedInvariant m) where
   -- a row with a place was made
   held-made : (x h : ℕ) → numbered_at m.held x ≡ Some (Some h) → IsMade m.heap x
   held-made x h e = let w = numbered-within m.held x (Some h) e in (w.0, omega (arith, w.1, k.places))
@@ -80,7 +80,7 @@ named-as m n o e w = subst (NewNamed m) (sym e) w
 place-bound : (u v : ℕ) → u ≤ 8 → v < 8 → place u v < 72
 place-bound u v a b = omega arith
 
-named-answer : (r : ManagedReplay) (k : IsReplayKept r) (t : Thread) (o : Op) (told : Told) → IsEvent t o → ManagedAllows r o told → NewNamed r.managed (managed_answer r t o told).state.managed
+named-answer : (r : ManagedReplay) (k : ReplayInvariant r) (t : Thread) (o : Op) (told : Told) → IsEvent t o → ManagedAllows r o told → NewNamed r.managed (managed_answer r t o told).state.managed
 named-answer r k t (op.Line a) told e w = named-line r.managed k.managed (thread_number t) a
 named-answer r k (M u) (op.Adopt v kind n p h) told e w =
     let a = adopted r.managed (place u v.0) kind n h.0 in
@@ -105,11 +105,11 @@ named-answer r k t (op.Abandon n) nothing e w = named-same r.managed k.managed (
 named-answer r k t (op.Refused y) (phase_of phase) e w = named-same r.managed k.managed r.managed refl
 named-answer r k t _ _ e w = absurd w
 
-named-by : (s : Linkage) (m : Made) (told : Told) (b : Bool) → IsReplayKept s.managed → IsEvent m.caller m.op
+named-by : (s : Linkage) (m : Made) (told : Told) (b : Bool) → ReplayInvariant s.managed → IsEvent m.caller m.op
     → SideLawful b s m told → NewNamed s.managed.managed (managed_after s.managed m told b).managed
 named-by s m told true k e w = named-same s.managed.managed k.managed s.managed.managed refl
 named-by s m told false k e w = named-answer s.managed k m.caller m.op told e w.allowed
 
-pub new-named : (s : Linkage) (n : Noted) → MayCome s n → IsReplayKept s.managed → (x h : ℕ) → (IsMade s.managed.managed.heap x → ⊥)
+pub new-named : (s : Linkage) (n : Noted) → MayCome s n → ReplayInvariant s.managed → (x h : ℕ) → (IsMade s.managed.managed.heap x → ⊥)
     → Holds (linkage_after s n).managed.managed x h → IsManagedRoot (linkage_after s n).managed.managed x
 new-named s n may k x h new q = named-by s n.entry.made n.told (is_peer_event n.entry.made.caller n.entry.made.op) k may.event may.lawful x h new q.held

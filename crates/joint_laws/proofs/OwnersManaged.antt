@@ -12,9 +12,9 @@ use Rattle.joint_machine.specs.Managed.{OpenCycle, Holds, IsManagedRoot, candida
 use Rattle.joint_machine.specs.ManagedReplay.{ManagedReplay, without_twins}
 use Rattle.joint_machine.specs.Peers.{Issued, strong}
 use Rattle.joint_machine.specs.PeerReplay.{PeerReplay}
-use Rattle.joint_laws.specs.ManagedInvariants.{IsReplayKept}
+use Rattle.joint_laws.specs.ManagedInvariants.{ReplayInvariant}
 use Rattle.joint_laws.specs.PeerInvariants.{IsIssued}
-use Rattle.joint_laws.specs.LinkedInvariants.{HasStrength, IsHeldOne, IsRowOf, AreOwnersKept, doing_in, HasInHand, IsLoose, AreCallersKept}
+use Rattle.joint_laws.specs.LinkedInvariants.{HasStrength, IsHeldOne, IsRowOf, OwnersInvariant, doing_in, HasInHand, IsLoose, CallersInvariant}
 use Rattle.joint_machine.proofs.Members.{Contains-here, Contains-nil, Contains-cons_cases}
 use Rattle.joint_machine.proofs.Numbered.{numbered-within, numbered_set-same, numbered_set-other, slot-Contains}
 use Rattle.joint_machine.proofs.Deciding.{none_some}
@@ -43,7 +43,7 @@ module _ (r u : ManagedReplay) (s : PeerReplay) (a : OwnersAlike r u) where
   row_back : (m p : ℕ) → IsRowOf u.managed s.peers.issued m p → IsRowOf r.managed s.peers.issued m p
   row_back m p w = record { handle = w.handle; holds = a.back m w.handle w.holds; row = w.row; is_issued = w.is_issued; leads = w.leads }
 
-  pub owners_alike : AreOwnersKept r s → AreOwnersKept u s
+  pub owners_alike : OwnersInvariant r s → OwnersInvariant u s
   owners_alike k = record {
     held_ones = λ m h q. k.held_ones m h (a.back m h q);
     strong_ones = λ m h q n. k.strong_ones m h (a.back m h q) (λ c. n (subst (λ z. Contains z m) (sym candidates_same) c));
@@ -53,7 +53,7 @@ module _ (r u : ManagedReplay) (s : PeerReplay) (a : OwnersAlike r u) where
     adopted = λ h c. k.adopted h (subst (λ z. Contains z h) a.adopted c);
   }
 
-  pub callers_alike : (ds : List Doing) → AreCallersKept r s ds → AreCallersKept u s ds
+  pub callers_alike : (ds : List Doing) → CallersInvariant r s ds → CallersInvariant u s ds
   callers_alike ds k = record {
     loose = λ t h w. (let l = k.loose t h w in record { strong_one = l.strong_one; held_one = l.held_one; unowned = λ m q. l.unowned m (a.back m h q) });
     apart = k.apart;
@@ -71,7 +71,7 @@ module _ (r u : ManagedReplay) (s : PeerReplay) (a : OwnersAlike r u) where
   }
 
 -- a new row takes a loose handle on a peer without a pair
-module _ (r : ManagedReplay) (s : PeerReplay) (v : ℕ) (kind : Kind) (n p h : ℕ) (k : IsReplayKept r)
+module _ (r : ManagedReplay) (s : PeerReplay) (v : ℕ) (kind : Kind) (n p h : ℕ) (k : ReplayInvariant r)
     (virgin : Contains r.adopted h → ⊥) (loose : IsLoose r s h) (i : Issued) (q : IsIssued s.peers.issued h i) (on_peer : i.peer ≡ p) where
   abbrev taken : ManagedReplay
   taken = record r { managed = after r v kind n p h k virgin; registry = pushed r v kind n p h k virgin; adopted = r.adopted ++ h ∷ [] }
@@ -85,7 +85,7 @@ module _ (r : ManagedReplay) (s : PeerReplay) (v : ℕ) (kind : Kind) (n p h : �
   row_new : IsRowOf taken.managed s.peers.issued (newest r v kind n p h k virgin) p
   row_new = record { handle = h; holds = record { live = new-live r v kind n p h k virgin; held = new-held r v kind n p h k virgin }; row = i; is_issued = q; leads = on_peer }
 
-  registered_taken : AreOwnersKept r s → (m x : ℕ) → IsRowOf taken.managed s.peers.issued m x → Contains taken.registry (x, m)
+  registered_taken : OwnersInvariant r s → (m x : ℕ) → IsRowOf taken.managed s.peers.issued m x → Contains taken.registry (x, m)
   registered_taken o m x w = elim (held-cases r v kind n p h k virgin m w.handle w.holds) [
     | inl old ↦ Contains-append_left r.registry ((p, newest r v kind n p h k virgin) ∷ []) (x, m)
         (o.registered m x (record { handle = w.handle; holds = old; row = w.row; is_issued = w.is_issued; leads = w.leads }))
@@ -96,7 +96,7 @@ module _ (r : ManagedReplay) (s : PeerReplay) (v : ℕ) (kind : Kind) (n p h : �
         subst (λ z. Contains taken.registry z) pair (Contains-push r.registry (p, newest r v kind n p h k virgin)))
   ]
 
-  pub owners_taken : AreOwnersKept r s → AreOwnersKept taken s
+  pub owners_taken : OwnersInvariant r s → OwnersInvariant taken s
   owners_taken o = record {
     held_ones = λ m g w. elim (held-cases r v kind n p h k virgin m g w) [ inl old ↦ o.held_ones m g old | inr new ↦ subst (IsHeldOne s) new.1 loose.held_one ];
     strong_ones = λ m g w out. elim (held-cases r v kind n p h k virgin m g w) [ inl old ↦ o.strong_ones m g old out | inr new ↦ subst (λ z. HasStrength s z strong) new.1 loose.strong_one ];
@@ -109,7 +109,7 @@ module _ (r : ManagedReplay) (s : PeerReplay) (v : ℕ) (kind : Kind) (n p h : �
     adopted = λ g c. elim (Contains-push_cases r.adopted h g c) [ inl old ↦ o.adopted g old | inr e ↦ subst (λ z. z ≤ length s.peers.issued) e (numbered-within s.peers.issued h i q).1 ];
   }
 
-  pub callers_taken : (ds : List Doing) → AreCallersKept r s ds → ((t : ℕ) → HasInHand (doing_in ds t) h → ⊥) → AreCallersKept taken s ds
+  pub callers_taken : (ds : List Doing) → CallersInvariant r s ds → ((t : ℕ) → HasInHand (doing_in ds t) h → ⊥) → CallersInvariant taken s ds
   callers_taken ds c none = record {
     loose = λ t g w. (
         let l = c.loose t g w in
@@ -140,7 +140,7 @@ module _ (r : ManagedReplay) (s : PeerReplay) (v : ℕ) (kind : Kind) (n p h : �
   }
 
 -- a row in a variable gives its handle up
-module _ (r : ManagedReplay) (s : PeerReplay) (v m : ℕ) (k : IsReplayKept r) (e : slot r.managed.heap.vars v ≡ Some m) where
+module _ (r : ManagedReplay) (s : PeerReplay) (v m : ℕ) (k : ReplayInvariant r) (e : slot r.managed.heap.vars v ≡ Some m) where
   abbrev gave : ManagedReplay
   gave = record r { managed = record r.managed { held = numbered_set r.managed.held m None }; registry = without_twins r.registry (m ∷ []) }
 
@@ -167,7 +167,7 @@ module _ (r : ManagedReplay) (s : PeerReplay) (v m : ℕ) (k : IsReplayKept r) (
   not_in : (x : ℕ) → x ≢ m → Contains (m ∷ []) x → ⊥
   not_in x ne c = elim (Contains-cons_cases m [] x c) [ inl q ↦ ne (sym q) | inr d ↦ Contains-nil x d ]
 
-  pub owners_gave : AreOwnersKept r s → AreOwnersKept gave s
+  pub owners_gave : OwnersInvariant r s → OwnersInvariant gave s
   owners_gave o = record {
     held_ones = λ x h q. o.held_ones x h (other x h q).1;
     strong_ones = λ x h q n. o.strong_ones x h (other x h q).1 n;
@@ -190,7 +190,7 @@ module _ (r : ManagedReplay) (s : PeerReplay) (v m : ℕ) (k : IsReplayKept r) (
     adopted = o.adopted;
   }
 
-  pub callers_gave : (ds : List Doing) → AreCallersKept r s ds → AreCallersKept gave s ds
+  pub callers_gave : (ds : List Doing) → CallersInvariant r s ds → CallersInvariant gave s ds
   callers_gave ds c = record {
     loose = λ t h w. (let l = c.loose t h w in record { strong_one = l.strong_one; held_one = l.held_one; unowned = λ x q. l.unowned x (other x h q).1 });
     apart = c.apart;
@@ -202,7 +202,7 @@ module _ (r : ManagedReplay) (s : PeerReplay) (v m : ℕ) (k : IsReplayKept r) (
   }
 
   -- the handle that it gave up is loose
-  pub gave-loose : AreOwnersKept r s → (h : ℕ) → Holds r.managed m h → IsLoose gave s h
+  pub gave-loose : OwnersInvariant r s → (h : ℕ) → Holds r.managed m h → IsLoose gave s h
   gave-loose o h q = record {
     strong_one = o.strong_ones m h q no_candidate;
     held_one = o.held_ones m h q;

@@ -14,7 +14,7 @@ use Rattle.joint_machine.specs.Managed.{place_or_none}
 use Rattle.joint_machine.specs.Peers.{Peers, Issued, held, raw, Strength, strong, weak, peer_name, handle_name, next_handle, with_handle, with_peer, peer_gripped, landed, name_given, peer_read}
 use Rattle.joint_machine.specs.Peers.{peer_of, issued_since, handles_full}
 use Rattle.joint_machine.specs.PeerReplay.{PeerReplay, TableRow, fresh_row, row_of, table_target, on_table, brings, untabled, peer_thread_line, brought_to}
-use Rattle.joint_laws.specs.PeerInvariants.{IsIssued, IsPeerKept}
+use Rattle.joint_laws.specs.PeerInvariants.{IsIssued, PeerInvariant}
 use Rattle.joint_machine.proofs.Numbered.{slot-Contains, slot-named, numbered-push_new}
 use Rattle.joint_machine.proofs.Deciding.{none_some}
 use Rattle.joint_laws.proofs.HeapMoves.{HasMoved, copied-moved, field_set-moved, field_got-moved, dropped-moved, loaded-moved, stored-moved}
@@ -22,16 +22,16 @@ use Rattle.joint_laws.proofs.PeerMoves.{in_reach-safe, kept-heap, kept-peer, new
 use Rattle.joint_laws.proofs.PeerMoves.{on_table-still, on_table-issued}
 
 -- an operation of the heap
-heap-event : (s : PeerReplay) (g : Heap) → IsPeerKept s → HasMoved s.peers.heap g
-    → IsPeerKept (record s { peers = record s.peers { heap = g }; table = s.table ++ map fresh_row (issued_since s.peers (record s.peers { heap = g })) })
+heap-event : (s : PeerReplay) (g : Heap) → PeerInvariant s → HasMoved s.peers.heap g
+    → PeerInvariant (record s { peers = record s.peers { heap = g }; table = s.table ++ map fresh_row (issued_since s.peers (record s.peers { heap = g })) })
 heap-event s g k v = on_table-still s (record s.peers { heap = g }) refl (kept-heap s g k v)
 
-stay-event : (s : PeerReplay) (r : Reply) → IsPeerKept s → IsPeerKept (on_table s (answer r s.peers)).state
+stay-event : (s : PeerReplay) (r : Reply) → PeerInvariant s → PeerInvariant (on_table s (answer r s.peers)).state
 stay-event s r k = on_table-still s s.peers refl k
 
 -- a further peer that a variable names
-made-event : (s : PeerReplay) (v n : ℕ) (b : Bool) → IsPeerKept s
-    → IsPeerKept (on_table s (if b then answer says.Full s.peers else answer (peer_name (next_number s.peers.heap))
+made-event : (s : PeerReplay) (v n : ℕ) (b : Bool) → PeerInvariant s
+    → PeerInvariant (on_table s (if b then answer says.Full s.peers else answer (peer_name (next_number s.peers.heap))
     (record (with_peer s.peers Framework n) { heap = with_var (with_peer s.peers Framework n).heap v (Some (next_number s.peers.heap)) }))).state
 made-event s v n true k = stay-event s says.Full k
 made-event s v n false k =
@@ -40,8 +40,8 @@ made-event s v n false k =
     (kept-var grown v (next_number s.peers.heap) (kept-peer s Framework n k) (new-live s n k) (new-safe s k))
 
 -- a further peer with a held strong handle on it
-pub pair-event : (s : PeerReplay) (sort : Sort) (n : ℕ) (b : Bool) → IsPeerKept s
-    → IsPeerKept (on_table s (if b then answer says.Full s.peers else answer (says.Made record { 0 = next_number s.peers.heap } record { 0 = next_handle s.peers })
+pub pair-event : (s : PeerReplay) (sort : Sort) (n : ℕ) (b : Bool) → PeerInvariant s
+    → PeerInvariant (on_table s (if b then answer says.Full s.peers else answer (says.Made record { 0 = next_number s.peers.heap } record { 0 = next_handle s.peers })
     (with_handle (with_peer s.peers sort n) (next_number s.peers.heap) held strong))).state
 pair-event s sort n true k = stay-event s says.Full k
 pair-event s sort n false k =
@@ -52,8 +52,8 @@ pair-event s sort n false k =
     (s.peers.made + 1) (kept-issue grown new (kept-peer s sort n k) (new-live s n k) (new-safe s k)))
 
 -- a held strong handle on the peer in a static
-grip-by : (s : PeerReplay) (p : ℕ) (b : Bool) (r : Reply) → IsPeerKept s → InSlot s.peers.heap p
-    → IsPeerKept (on_table s (if b then answer says.Full s.peers else answer r (with_handle s.peers p held strong))).state
+grip-by : (s : PeerReplay) (p : ℕ) (b : Bool) (r : Reply) → PeerInvariant s → InSlot s.peers.heap p
+    → PeerInvariant (on_table s (if b then answer says.Full s.peers else answer r (with_handle s.peers p held strong))).state
 grip-by s p true r k i = stay-event s says.Full k
 grip-by s p false r k i =
     let new : Issued = record { peer = p; hold = held; strength = strong } in
@@ -61,13 +61,13 @@ grip-by s p false r k i =
     (kept-counted (record s { peers = record (with_handle s.peers p held strong) { made = s.peers.made }; table = s.table ++ fresh_row new ∷ [] })
     (s.peers.made + 1) (kept-issue s new k (k.heap.slots p i) (in_reach-safe s p k (inl i))))
 
-pub grip-event : (s : PeerReplay) (x : ℕ) (o : Option ℕ) → IsPeerKept s → slot s.peers.heap.statics x ≡ o → IsPeerKept (on_table s (peer_gripped s.peers o)).state
+pub grip-event : (s : PeerReplay) (x : ℕ) (o : Option ℕ) → PeerInvariant s → slot s.peers.heap.statics x ≡ o → PeerInvariant (on_table s (peer_gripped s.peers o)).state
 grip-event s x None k e = stay-event s says.Null k
 grip-event s x (Some p) k e = grip-by s p (handles_full s.peers) _ k (inr (slot-Contains s.peers.heap.statics x p e))
 
 -- a name gets a raw handle
-name-by : (s : PeerReplay) (g p : ℕ) (strength : Strength) (b : Bool) → IsPeerKept s → InSlot s.peers.heap p
-    → IsPeerKept (on_table s (if b then answer says.Full s.peers else answer (handle_name (next_handle s.peers))
+name-by : (s : PeerReplay) (g p : ℕ) (strength : Strength) (b : Bool) → PeerInvariant s → InSlot s.peers.heap p
+    → PeerInvariant (on_table s (if b then answer says.Full s.peers else answer (handle_name (next_handle s.peers))
     (record (with_handle s.peers p raw strength) { names = set s.peers.names g (Some (next_handle s.peers)) }))).state
 name-by s g p strength true k i = stay-event s says.Full k
 name-by s g p strength false k i =
@@ -78,14 +78,14 @@ name-by s g p strength false k i =
     (s.peers.made + 1) (kept-issue s new k (k.heap.slots p i) (in_reach-safe s p k (inl i))))
     (λ n e. (new, subst (λ z. IsIssued (s.peers.issued ++ new ∷ []) z new) (same_Some (next_handle s.peers) n e) (numbered-push_new s.peers.issued new), refl)))
 
-given-by : (s : PeerReplay) (g p : ℕ) (strength : Strength) (o : Option ℕ) → IsPeerKept s → InSlot s.peers.heap p → IsPeerKept (on_table s (name_given s.peers g p strength o)).state
+given-by : (s : PeerReplay) (g p : ℕ) (strength : Strength) (o : Option ℕ) → PeerInvariant s → InSlot s.peers.heap p → PeerInvariant (on_table s (name_given s.peers g p strength o)).state
 given-by s g p strength (Some h) k i = stay-event s says.Taken k
 given-by s g p strength None k i = name-by s g p strength (handles_full s.peers) k i
 
 abbrev pub globalised_by : Peers → ℕ → Strength → Option ℕ → Answered Peers
 globalised_by s g strength o = elim o [ None ↦ answer says.Empty s | Some p ↦ name_given s g p strength (slot s.names g) ]
 
-global-event : (s : PeerReplay) (g v : ℕ) (strength : Strength) (o : Option ℕ) → IsPeerKept s → slot s.peers.heap.vars v ≡ o → IsPeerKept (on_table s (globalised_by s.peers g strength o)).state
+global-event : (s : PeerReplay) (g v : ℕ) (strength : Strength) (o : Option ℕ) → PeerInvariant s → slot s.peers.heap.vars v ≡ o → PeerInvariant (on_table s (globalised_by s.peers g strength o)).state
 global-event s g v strength None k e = stay-event s says.Empty k
 global-event s g v strength (Some p) k e = given-by s g p strength (slot s.peers.names g) k (inl (slot-Contains s.peers.heap.vars v p e))
 
@@ -93,14 +93,14 @@ global-event s g v strength (Some p) k e = given-by s g p strength (slot s.peers
 abbrev pub freed_by : Peers → ℕ → Option ℕ → Answered Peers
 freed_by s g o = elim o [ None ↦ answer says.Unset s | Some h ↦ answer says.Ok (record s { names = set s.names g None }) ]
 
-unglobal-event : (s : PeerReplay) (g : ℕ) (o : Option ℕ) → IsPeerKept s → IsPeerKept (on_table (untabled s o) (freed_by s.peers g o)).state
+unglobal-event : (s : PeerReplay) (g : ℕ) (o : Option ℕ) → PeerInvariant s → PeerInvariant (on_table (untabled s o) (freed_by s.peers g o)).state
 unglobal-event s g None k = stay-event s says.Unset k
 unglobal-event s g (Some h) k =
     let gone : PeerReplay = record s { table = numbered_set s.table h None } in
     on_table-still gone (record s.peers { names = set s.peers.names g None }) refl (kept-name gone g None (kept-gone s h k) (λ n e. absurd (none_some n e)))
 
 -- where a handle leads is unfreed
-target-by : (s : PeerReplay) (h p : ℕ) (o : Option TableRow) → IsPeerKept s → row_of s h ≡ o
+target-by : (s : PeerReplay) (h p : ℕ) (o : Option TableRow) → PeerInvariant s → row_of s h ≡ o
     → elim o [ None ↦ None | Some row ↦ if row.cleared then None else peer_of s.peers.issued h ] ≡ Some p → IsLive s.peers.heap p
 target-by s h p None k e q = absurd (none_some p q)
 target-by s h p (Some row) k e q = by row.cleared refl q
@@ -113,17 +113,17 @@ target-by s h p (Some row) k e q = by row.cleared refl q
     by true c w = absurd (none_some p w)
     by false c w = issued-by (numbered_at s.peers.issued h) refl c w
 
-pub target-live : (s : PeerReplay) (h p : ℕ) → IsPeerKept s → table_target s h ≡ Some p → IsLive s.peers.heap p
+pub target-live : (s : PeerReplay) (h p : ℕ) → PeerInvariant s → table_target s h ≡ Some p → IsLive s.peers.heap p
 target-live s h p k q = target-by s h p (row_of s h) k refl q
 
 -- a slot comes to name where a handle leads, and that is brought back
-read-event : (s : PeerReplay) (v h : ℕ) (o : Option ℕ) → IsPeerKept s → table_target s h ≡ o → IsPeerKept (brings (on_table s (peer_read s.peers v o))).state
+read-event : (s : PeerReplay) (v h : ℕ) (o : Option ℕ) → PeerInvariant s → table_target s h ≡ o → PeerInvariant (brings (on_table s (peer_read s.peers v o))).state
 read-event s v h None k e = stay-event s says.Gone k
 read-event s v h (Some p) k e =
     let back : PeerReplay = record s { marking = brought_to s.marking p } in
     on_table-still back (record s.peers { heap = with_var s.peers.heap v (Some p) }) refl (kept-var back v p (kept-brought s p k) (target-live s h p k e) (brought-safe s p k))
 
-pub land-event : (s : PeerReplay) (x h : ℕ) (o : Option ℕ) → IsPeerKept s → table_target s h ≡ o → IsPeerKept (brings (on_table s (landed s.peers x o))).state
+pub land-event : (s : PeerReplay) (x h : ℕ) (o : Option ℕ) → PeerInvariant s → table_target s h ≡ o → PeerInvariant (brings (on_table s (landed s.peers x o))).state
 land-event s x h None k e = stay-event s says.Gone k
 land-event s x h (Some p) k e =
     let back : PeerReplay = record s { marking = brought_to s.marking p } in
@@ -132,12 +132,12 @@ land-event s x h (Some p) k e =
 abbrev pub read_by : (ℕ → Option ℕ) → Peers → ℕ → Option ℕ → Answered Peers
 read_by target s v o = elim o [ None ↦ answer says.Unset s | Some h ↦ peer_read s v (target h) ]
 
-wread-event : (s : PeerReplay) (v : ℕ) (o : Option ℕ) → IsPeerKept s → IsPeerKept (brings (on_table s (read_by (table_target s) s.peers v o))).state
+wread-event : (s : PeerReplay) (v : ℕ) (o : Option ℕ) → PeerInvariant s → PeerInvariant (brings (on_table s (read_by (table_target s) s.peers v o))).state
 wread-event s v None k = stay-event s says.Unset k
 wread-event s v (Some h) k = read-event s v h (table_target s h) k refl
 
 -- the events of a peer thread's lines that are one event
-pub line-event : (s : PeerReplay) (t : ℕ) (a : Act) → IsPeerKept s → IsPeerKept (peer_thread_line s t a).state
+pub line-event : (s : PeerReplay) (t : ℕ) (a : Act) → PeerInvariant s → PeerInvariant (peer_thread_line s t a).state
 line-event s t (act.NewPeer v n) k = made-event s (place t v.0) n (is_full s.peers.heap.fields) k
 line-event s t (act.Copy v w) k = heap-event s _ k (copied-moved peer_name s.peers.heap (place t v.0) (place t w.0))
 line-event s t (act.Set v i w) k = heap-event s _ k (field_set-moved s.peers.heap (place t v.0) i (place_or_none t w))

@@ -12,7 +12,7 @@ use Rattle.joint_machine.specs.Peers.{handles_full}
 use Rattle.joint_machine.specs.PeerReplay.{PeerReplay, TableRow, row_of, restored_by, mirrored, peer_answer, table_target}
 use Rattle.joint_machine.specs.Run.{thread_number}
 use Rattle.joint_machine.specs.Told.{Told, Noted, references_of, slice_of}
-use Rattle.joint_laws.specs.PeerInvariants.{IsPeerKept}
+use Rattle.joint_laws.specs.PeerInvariants.{PeerInvariant}
 use Rattle.joint_laws.proofs.PeerQuietEvents.{quiet-line, quiet-pair, quiet-grip, quiet-land, quiet-begun, quiet-sliced}
 use Rattle.joint_machine.specs.Components.{End}
 use Rattle.joint_laws.proofs.Restores.{restored-any}
@@ -27,7 +27,7 @@ mirrored-freed s n (Some snap) refs = refl
 restored-freed : (s : PeerReplay) (h : ℕ) (x : Option TableRow) → SameFreed s (restored_by s h x).state
 restored-freed s h x = restored-any (λ a. SameFreed s a.state) s h x refl refl (λ p. refl)
 
-peer-freed : (s : PeerReplay) (k : IsPeerKept s) (t : Thread) (o : Op) (cites : Option ℕ) (told : Told) → (o ≡ op.Sweep → ⊥) → SameFreed s (peer_answer s t o cites told).state
+peer-freed : (s : PeerReplay) (k : PeerInvariant s) (t : Thread) (o : Op) (cites : Option ℕ) (told : Told) → (o ≡ op.Sweep → ⊥) → SameFreed s (peer_answer s t o cites told).state
 peer-freed s k t (op.Line (act.Slice n)) cites (slice_of closure) no_sweep = (quiet-sliced (λ h. ⊥) s s.marking t n closure refl).freed
 peer-freed s k t (op.Line (act.Slice n)) cites _ no_sweep = (quiet-sliced (λ h. ⊥) s s.marking t n [] refl).freed
 peer-freed s k t (op.Line a) cites told no_sweep = (quiet-line s (thread_number t) a k).freed
@@ -40,11 +40,11 @@ peer-freed s k t op.Sweep cites told no_sweep = absurd (no_sweep refl)
 peer-freed s k t (op.Restore h) cites told no_sweep = restored-freed s h.0 (row_of s h.0)
 peer-freed s k t _ cites told no_sweep = refl
 
-freed-by : (s : Linkage) (m : Made) (told : Told) (b : Bool) → IsPeerKept s.peer → (m.op ≡ op.Sweep → ⊥) → SameFreed s.peer (peer_after s.peer m told b)
+freed-by : (s : Linkage) (m : Made) (told : Told) (b : Bool) → PeerInvariant s.peer → (m.op ≡ op.Sweep → ⊥) → SameFreed s.peer (peer_after s.peer m told b)
 freed-by s m told true k n = peer-freed s.peer k m.caller m.op m.cites told n
 freed-by s m told false k n = refl
 
-pub entry-freed : (s : Linkage) (n : Noted) → IsPeerKept s.peer → (n.entry.made.op ≡ op.Sweep → ⊥) → SameFreed s.peer (linkage_after s n).peer
+pub entry-freed : (s : Linkage) (n : Noted) → PeerInvariant s.peer → (n.entry.made.op ≡ op.Sweep → ⊥) → SameFreed s.peer (linkage_after s n).peer
 entry-freed s n k no_sweep = freed-by s n.entry.made n.told (is_peer_event n.entry.made.caller n.entry.made.op) k no_sweep
 
 -- whether an event is a sweep

@@ -14,7 +14,7 @@ use Rattle.joint_machine.specs.Managed.{place_or_none}
 use Rattle.joint_machine.specs.Peers.{Issued, held, raw, Strength, strong, weak, peer_name, handle_name, next_handle, with_handle, with_peer, peer_gripped, landed, name_given, peer_read, issued_since}
 use Rattle.joint_machine.specs.Peers.{handles_full}
 use Rattle.joint_machine.specs.PeerReplay.{PeerReplay, Marking, fresh_row, table_target, on_table, brings, untabled, peer_thread_line, is_thread, sliced, begun, brought_to}
-use Rattle.joint_laws.specs.PeerInvariants.{IsIssued, IsPeerKept}
+use Rattle.joint_laws.specs.PeerInvariants.{IsIssued, PeerInvariant}
 use Rattle.joint_machine.proofs.Numbered.{slot-Contains, Contains-set_cases}
 use Rattle.joint_machine.proofs.Deciding.{none_some}
 use Rattle.joint_laws.proofs.Fields.{with_object-length}
@@ -186,10 +186,10 @@ module _ (via : ℕ → Type 0) (s : PeerReplay) where
       by true = black _
       by false = quiet-marking s.marking s.markings (StillOpen-same s.marking)
 
-named-raw : (s : PeerReplay) (g : ℕ) → IsPeerKept s → (h : ℕ) → slot s.peers.names g ≡ Some h → IsRawOne s h
+named-raw : (s : PeerReplay) (g : ℕ) → PeerInvariant s → (h : ℕ) → slot s.peers.names g ≡ Some h → IsRawOne s h
 named-raw s g k h e = k.handles.named h (slot-Contains s.peers.names g h e)
 
-pub quiet-line : (s : PeerReplay) (t : ℕ) (a : Act) → IsPeerKept s → IsQuiet (IsRawOne s) s (peer_thread_line s t a).state
+pub quiet-line : (s : PeerReplay) (t : ℕ) (a : Act) → PeerInvariant s → IsQuiet (IsRawOne s) s (peer_thread_line s t a).state
 quiet-line s t (act.NewPeer v n) k = quiet-made (IsRawOne s) s (place t v.0) n (is_full s.peers.heap.fields)
 quiet-line s t (act.Copy v w) k = quiet-heap (IsRawOne s) s _ (copied-moved peer_name s.peers.heap (place t v.0) (place t w.0))
 quiet-line s t (act.Set v i w) k = quiet-heap (IsRawOne s) s _ (field_set-moved s.peers.heap (place t v.0) i (place_or_none t w))

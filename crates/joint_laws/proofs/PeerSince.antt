@@ -19,7 +19,7 @@ use Rattle.joint_machine.specs.PeerReplay.{peer_answer, table_target}
 use Rattle.joint_machine.specs.Run.{thread_number}
 use Rattle.joint_machine.specs.Told.{Told, references_of, slice_of, sweep_of}
 use Rattle.joint_machine.proofs.Deciding.{none_some}
-use Rattle.joint_laws.specs.PeerInvariants.{IsIssued, IsSpared, IsPeerKept}
+use Rattle.joint_laws.specs.PeerInvariants.{IsIssued, IsSpared, PeerInvariant}
 use Rattle.joint_laws.proofs.PeerQuietEvents.{quiet-line, quiet-pair, quiet-grip, quiet-land}
 use Rattle.joint_laws.proofs.Sparing.{spared-later, later}
 use Rattle.joint_machine.specs.Components.{End}
@@ -58,7 +58,7 @@ pub record GoesOnSparing (s t : PeerReplay) : Type 0 where
 pub stays-sparing : (s : PeerReplay) → GoesOnSparing s s
 stays-sparing s = record { issued_on = λ h i e. e; spares = spares-same s.marking }
 
-module _ (s : PeerReplay) (k : IsPeerKept s) where
+module _ (s : PeerReplay) (k : PeerInvariant s) where
   sliced-on : (x : Option Marking) (t : Thread) (n : ℕ) (closure : List ℕ) → s.marking ≡ x → GoesOnSparing s (sliced s x t n closure).state
   sliced-on None t n closure e = stays-sparing s
   sliced-on (Some mk) t n closure e = by (is_thread t mk.by)

@@ -20,12 +20,12 @@ use Rattle.joint_machine.proofs.Deciding.{none_some}
 use Rattle.joint_machine.proofs.Members.{Contains-at, at-Contains, Contains-filter_to}
 use Rattle.joint_laws.specs.AfterwardsLaws.{LockFreeReadsAreGone, WeakReadsAreGoneReading, NoneIsMirroredReading}
 use Rattle.joint_laws.specs.Afterwards.{IsGoneAfter, NoMirrorBetween, ResolveFrees, SweepFrees, reading_at}
-use Rattle.joint_laws.specs.PeerInvariants.{IsPeerKept}
+use Rattle.joint_laws.specs.PeerInvariants.{PeerInvariant}
 use Rattle.joint_laws.specs.ReadingLaws.{IsLawfulReading, without_aside}
 use Rattle.joint_laws.specs.States.{state_at}
 use Rattle.joint_laws.proofs.Everywhere.{everywhere}
 use Rattle.joint_laws.proofs.GoneAfter.{read-gone, IsAfter, after-resolve, weak-read, freed-since, cleared-refs, unmirrored-refs, none-stands}
-use Rattle.joint_laws.proofs.LinkedEntries.{Of, AreKept-entry, AreKept-opening}
+use Rattle.joint_laws.proofs.LinkedEntries.{Of, BothInvariants-entry, BothInvariants-opening}
 use Rattle.joint_laws.proofs.ReadsAside.{standing-reply, reading_is_lawful, reading_leads_to_same}
 
 pub reading-take : (whole : List Noted) (cells : List (Option ℕ)) (ns : List Noted) (s : Linkage) (i : ℕ) → AllMayComeReading whole cells s ns → AllMayComeReading whole cells s (take i ns)
@@ -94,8 +94,8 @@ module _ (noted : List Noted) (w : IsLawfulReading noted) (j : ℕ) where
       subst (λ (z : PeerReplay). Contains z.peers.heap.freed p) peer
       (freed-since standing may x.0 (length standing) p (record { entry = r.entry; there = x.1; event = r.event; freed = r.freed; told = r.told; frees = r.frees }) x.2)
 
-  kept : IsPeerKept (reading_at noted j).peer
-  kept = subst IsPeerKept peer (everywhere Of AreKept-opening AreKept-entry standing may (length standing)).peer
+  kept : PeerInvariant (reading_at noted j).peer
+  kept = subst PeerInvariant peer (everywhere Of BothInvariants-opening BothInvariants-entry standing may (length standing)).peer
 
 reads-is : (o : Op) (c : ℕ) → ReadsCell o c → is_read o ≡ true
 reads-is (op.Line (act.Read x)) c r = refl

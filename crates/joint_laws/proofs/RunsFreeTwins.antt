@@ -29,7 +29,7 @@ use Rattle.joint_laws.proofs.Sparing.{spared-stays}
 use Rattle.joint_laws.proofs.SparedWalks.{peer_of-row}
 use Rattle.joint_laws.proofs.JointSince.{held-before, peer-entry, open-there}
 use Rattle.joint_laws.proofs.PeerFreed.{entry-freed, sweep-or}
-use Rattle.joint_laws.proofs.LinkedEntries.{Of, AreKept-entry}
+use Rattle.joint_laws.proofs.LinkedEntries.{Of, BothInvariants-entry}
 use Rattle.joint_laws.proofs.JointRuns.{state_of, IsTraced}
 use Rattle.joint_laws.proofs.RunsAreSound.{step-at, origin}
 
@@ -127,7 +127,7 @@ module _ (run : List Moment) (steps : IsRunFrom opening run) (traced : (m : Mome
   ]
     where
       after : Of (linkage_after t.state m.noted)
-      after = AreKept-entry t.state m.noted t.may t.stands.kept
+      after = BothInvariants-entry t.state m.noted t.may t.stands.kept
 
       row : (i1 : Issued) × IsIssued (linkage_after t.state m.noted).peer.peers.issued h i1 × (i1.peer ≡ p)
       row = peer_of-row (linkage_after t.state m.noted).peer.peers.issued h p leads

@@ -13,7 +13,7 @@ use Rattle.joint_machine.specs.Run.{Moment, JointEvent, JointResolve, IsKept, Is
 use Rattle.joint_machine.specs.Told.{Noted}
 use Rattle.joint_machine.specs.Walks.{Reaches}
 use Rattle.joint_machine.proofs.WalkLemmas.{Reaches-self}
-use Rattle.joint_laws.specs.ManagedInvariants.{IsManagedKept}
+use Rattle.joint_laws.specs.ManagedInvariants.{ManagedInvariant}
 use Rattle.joint_machine.proofs.Members.{Contains-decided, Contains-at}
 use Rattle.joint_machine.proofs.Numbered.{numbered-within}
 use Rattle.joint_laws.proofs.PeerEntries.{peer_of-issued}
@@ -45,8 +45,8 @@ module _ (run : List Moment) (steps : IsRunFrom opening run) (traced : (m : Mome
       subst (λ z. JointEvent m.before m.noted.entry.made.caller (op.Resolve record { 0 = k }) m.noted.entry.made.reply z m.after) w.frees
       (subst (λ z. JointEvent m.before m.noted.entry.made.caller z m.noted.entry.made.reply m.noted.told m.after) w.event (step-at run opening i m steps w.there).step)
 
-  kept_before : (i : ℕ) (m : Moment) → slice_get run i ≡ Some m → IsManagedKept m.before.graph.managed
-  kept_before i m e = let t = trace i m e in subst (λ (z : Joint). IsManagedKept z.graph.managed) (sym t.before) t.stands.kept.managed.managed
+  kept_before : (i : ℕ) (m : Moment) → slice_get run i ≡ Some m → ManagedInvariant m.before.graph.managed
+  kept_before i m e = let t = trace i m e in subst (λ (z : Joint). ManagedInvariant z.graph.managed) (sym t.before) t.stands.kept.managed.managed
 
   resolved : (i k m : ℕ) (freed : List ℕ) → ResolvesAt run i k freed → Contains freed m → IsUnreachedBefore run i (object m)
   resolved i k m freed w c x e v =

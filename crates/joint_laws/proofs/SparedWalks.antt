@@ -19,14 +19,14 @@ use Rattle.joint_machine.proofs.WalkLemmas.{Reached-keeps, Reaches-keeps, Reache
 use Rattle.joint_laws.specs.JointAgreement.{IsInTable, AreFlags, Flags, joint_as}
 use Rattle.joint_laws.specs.ManagedInvariants.{IsCutOff}
 use Rattle.joint_laws.specs.Mirrors.{MirrorEdge}
-use Rattle.joint_laws.specs.PeerInvariants.{IsIssued, IsSpared, IsMarkingKept}
-use Rattle.joint_laws.specs.LinkedInvariants.{HasStrength, IsRowOf, IsDriverKept, IsMirrored, IsRestoredBy}
+use Rattle.joint_laws.specs.PeerInvariants.{IsIssued, IsSpared, MarkingInvariant}
+use Rattle.joint_laws.specs.LinkedInvariants.{HasStrength, IsRowOf, DriverInvariant, IsMirrored, IsRestoredBy}
 use Rattle.joint_machine.proofs.Members.{Contains-nil, Contains-decided, at-Contains}
 use Rattle.joint_machine.proofs.Deciding.{none_some}
 use Rattle.joint_laws.proofs.DeadMirrors.{candidates-mirrored}
 use Rattle.joint_laws.proofs.Mirrors.{mirror_edge-ends}
 use Rattle.joint_laws.proofs.Sparing.{spared-next}
-use Rattle.joint_laws.proofs.LinkedQuiet.{AreKept}
+use Rattle.joint_laws.proofs.LinkedQuiet.{BothInvariants}
 use Rattle.joint_machine.specs.Told.{Answer}
 use Rattle.joint_laws.proofs.HandlesAlike.{replaced-peer}
 use Rattle.joint_laws.proofs.JointFlags.{kept-at}
@@ -42,8 +42,8 @@ peer_of-row issued h p e = by (numbered_at issued h) refl e
 pub joined-row : (m : Managed) (s : PeerReplay) (flags : Flags) (jm : Option JointMarking) (x p : ℕ) → IsJoined (joint_as m s flags jm).graph x p → IsRowOf m s.peers.issued x p
 joined-row m s flags jm x p e = let i = peer_of-row s.peers.issued e.handle p e.leads in record { handle = e.handle; holds = e.holds; row = i.0; is_issued = i.1; leads = i.2 }
 
-module _ (r : ManagedReplay) (s : PeerReplay) (ds : List Doing) (d : Stand) (k : AreKept r s ds d) (mk : Marking) (open_now : s.marking ≡ Some mk) where
-  mark : IsMarkingKept s.peers.heap s.peers.issued s.table s.refs mk
+module _ (r : ManagedReplay) (s : PeerReplay) (ds : List Doing) (d : Stand) (k : BothInvariants r s ds d) (mk : Marking) (open_now : s.marking ≡ Some mk) where
+  mark : MarkingInvariant s.peers.heap s.peers.issued s.table s.refs mk
   mark = k.peer.marking mk open_now
 
   strong-spared : (h p : ℕ) (i : Issued) → HasStrength s h strong → IsIssued s.peers.issued h i → i.peer ≡ p → IsSpared mk p
@@ -95,7 +95,7 @@ module _ (r : ManagedReplay) (s : PeerReplay) (ds : List Doing) (d : Stand) (k :
     same_cycle e f = same_Some e c (sym f ∙ o)
 
     -- a candidate that a spared, unfreed peer's candidate leads to
-    pub candidate-spared : (x : Stand) → IsDriverKept r s x → (a b p q : ℕ) → Contains c.candidates a → Contains c.candidates b → Reaches (ManagedEdge r.managed) a b
+    pub candidate-spared : (x : Stand) → DriverInvariant r s x → (a b p q : ℕ) → Contains c.candidates a → Contains c.candidates b → Reaches (ManagedEdge r.managed) a b
         → IsRowOf r.managed s.peers.issued a p → IsRowOf r.managed s.peers.issued b q → IsLive s.peers.heap p → IsLive s.peers.heap q → IsSpared mk p → IsSpared mk q
     candidate-spared idle v a b p q ca cb walk ra rb lp lq sp = absurd (none_some c (sym v.closed ∙ o))
     candidate-spared (snapped op) v a b p q ca cb walk ra rb lp lq sp =

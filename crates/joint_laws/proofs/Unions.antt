@@ -29,7 +29,7 @@ use Rattle.joint_machine.specs.Walks.{Reaches}
 use Rattle.joint_machine.proofs.Deciding.{none_some}
 use Rattle.joint_machine.proofs.Numbered.{numbered-made}
 use Rattle.joint_machine.proofs.WalkLemmas.{Reached-keeps, Reached-then, Reaches-keeps, Reaches-self, Reaches-then, Reaches-trans, Reaches-edge}
-use Rattle.joint_laws.specs.LinkedInvariants.{IsRowOf, IsMirrored, IsDriverKept}
+use Rattle.joint_laws.specs.LinkedInvariants.{IsRowOf, IsMirrored, DriverInvariant}
 use Rattle.joint_laws.specs.LinkedLaws.{IsOpenUntil}
 use Rattle.joint_laws.specs.States.{state_at}
 use Rattle.joint_laws.specs.UnionLaws.{BeginsMarking, graph_in, IsReachedBetween, UnionIsClosed, UnionFollowsMarking}
@@ -37,7 +37,7 @@ use Rattle.joint_laws.proofs.DeadMirrors.{mirror_edge-managed}
 use Rattle.joint_laws.proofs.Edges.{graph_with, IsFreed, edge-before, edge-after}
 use Rattle.joint_laws.proofs.Everywhere.{everywhere}
 use Rattle.joint_laws.proofs.FreedLists.{grows-Contains, managed-grows}
-use Rattle.joint_laws.proofs.LinkedEntries.{Of, AreKept-entry, AreKept-opening}
+use Rattle.joint_laws.proofs.LinkedEntries.{Of, BothInvariants-entry, BothInvariants-opening}
 use Rattle.joint_laws.proofs.PeerEntries.{peer_of-issued}
 use Rattle.joint_laws.proofs.PeerFreed.{entry-freed, sweep-or}
 use Rattle.joint_laws.proofs.Places.{comes-at, after-at}
@@ -87,7 +87,7 @@ module _ (noted : List Noted) (may : AllMayCome opening_linkage noted) where
   at p = state_at noted p
 
   kept-at : (p : ℕ) → Of (at p)
-  kept-at p = everywhere Of AreKept-opening AreKept-entry noted may p
+  kept-at p = everywhere Of BothInvariants-opening BothInvariants-entry noted may p
 
   abbrev G : ℕ → Graph
   G p = graph_in noted p
@@ -222,7 +222,7 @@ module _ (s : Linkage) (k : Of s) (flags : List Bool) where
       (Reaches-edge (JointEdge (graph_with s flags)) (peer p) (object w.0) (row-joined w.0 p w.3 e.live)) (managed-joint w.0 w.1 walk))
       (row-joined w.1 q w.4 e.there)
 
-  by-stand : (st : Stand) → IsDriverKept s.managed s.peer st → (p q : ℕ) → HasReference s.peer.peers.heap s.peer.refs p q → Reaches (JointEdge (graph_with s flags)) (peer p) (peer q)
+  by-stand : (st : Stand) → DriverInvariant s.managed s.peer st → (p q : ℕ) → HasReference s.peer.peers.heap s.peer.refs p q → Reaches (JointEdge (graph_with s flags)) (peer p) (peer q)
   by-stand idle d p q e = absurd (k.peer.references.none d.none p q e.reference)
   by-stand (snapped o) d p q e = absurd (k.peer.references.none d.none p q e.reference)
   by-stand (contracted o comps heavy xrefs) d p q e = absurd (k.peer.references.none d.before.none p q e.reference)
@@ -253,7 +253,7 @@ pub marking-walk : (noted : List Noted) → AllMayCome opening_linkage noted →
     → BeginsMarking noted i mk → (p q : ℕ) → MarkingEdge mk p q → Reaches (JointEdge (graph_in noted (suc i))) (peer p) (peer q)
 marking-walk noted may i mk b p q e =
     let s = state_at noted (suc i) in
-    let kept : Of s = everywhere Of AreKept-opening AreKept-entry noted may (suc i) in
+    let kept : Of s = everywhere Of BothInvariants-opening BothInvariants-entry noted may (suc i) in
     let n = b.event.entry in
     let same = after-at noted i n b.event.there in
     let begin : KeepsBegin s.peer mk = subst (λ (z : Linkage). KeepsBegin z.peer mk) (sym same)

@@ -5,7 +5,7 @@ use Rattle.joint_machine.specs.Cycles.{IsSnapshot, IsResolution}
 use Rattle.joint_machine.specs.Joint.{Joint, IsReached, object}
 use Rattle.joint_machine.specs.Managed.{OpenCycle}
 use Rattle.joint_machine.specs.Run.{IsKept}
-use Rattle.joint_laws.specs.ManagedInvariants.{IsManagedKept}
+use Rattle.joint_laws.specs.ManagedInvariants.{ManagedInvariant}
 
 -- no row that a snapshot frees is reached
 abbrev pub SnapshotFreesUnreached : Type 0
@@ -16,5 +16,5 @@ SnapshotFreesUnreached = (j : Joint) (k m : ℕ) (freed candidates dead : List �
 -- whose peer is unfreed
 abbrev pub ResolutionFreesUnreached : Type 0
 ResolutionFreesUnreached = (j : Joint) (c : OpenCycle) (m : ℕ) (freed : List ℕ)
-    → IsManagedKept j.graph.managed → j.graph.managed.cycle ≡ Some c
+    → ManagedInvariant j.graph.managed → j.graph.managed.cycle ≡ Some c
     → IsResolution j.graph.managed c.dead (IsKept j c) freed → Contains freed m → IsReached j (object m) → ⊥

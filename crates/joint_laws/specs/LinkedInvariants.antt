@@ -12,9 +12,9 @@ use Rattle.joint_machine.specs.Managed.{Managed, OpenCycle, Holds, ManagedEdge, 
 use Rattle.joint_machine.specs.Peers.{Issued, held, Strength, strong, weak}
 use Rattle.joint_machine.specs.PeerReplay.{PeerReplay, TableRow, Marking, Refers}
 use Rattle.joint_machine.specs.Walks.{Reaches}
-use Rattle.joint_laws.specs.ManagedInvariants.{IsReplayKept}
+use Rattle.joint_laws.specs.ManagedInvariants.{ReplayInvariant}
 use Rattle.joint_laws.specs.Mirrors.{MirrorEdge}
-use Rattle.joint_laws.specs.PeerInvariants.{IsTabled, IsIssued, IsPeerKept}
+use Rattle.joint_laws.specs.PeerInvariants.{IsTabled, IsIssued, PeerInvariant}
 use Rattle.joint_machine.specs.Told.{said_alive, said_cleared, Answer}
 
 -- the handle is in the table with that strength
@@ -35,7 +35,7 @@ pub record IsRowOf (m : Managed) (issued : List Issued) (x p : ℕ) : Type 0 whe
 
 -- a held handle that a row holds was issued as held, and is strong unless its row is a candidate; one that is weak is
 -- a candidate's; and the registry has exactly the rows that hold a handle, with their peers
-pub record AreOwnersKept (r : ManagedReplay) (s : PeerReplay) : Type 0 where
+pub record OwnersInvariant (r : ManagedReplay) (s : PeerReplay) : Type 0 where
   pub held_ones : (m h : ℕ) → Holds r.managed m h → IsHeldOne s h
   pub strong_ones : (m h : ℕ) → Holds r.managed m h
       → (Contains (candidates_of r.managed) m → ⊥) → HasStrength s h strong
@@ -89,7 +89,7 @@ pub record IsVirgin (r : ManagedReplay) (s : PeerReplay) (p h : ℕ) : Type 0 wh
 
 -- what threads have in hand is loose, and no two have the same; a handle made or gripped is on the peer told; a peer
 -- just made is named nowhere; and a handle that was lent was adopted
-pub record AreCallersKept (r : ManagedReplay) (s : PeerReplay) (ds : List Doing) : Type 0 where
+pub record CallersInvariant (r : ManagedReplay) (s : PeerReplay) (ds : List Doing) : Type 0 where
   pub loose : (t h : ℕ) → HasInHand (doing_in ds t) h → IsLoose r s h
   pub apart : (t u h : ℕ) → HasInHand (doing_in ds t) h → HasInHand (doing_in ds u) h → t ≡ u
   pub peers : (t h p : ℕ) → HasPeer (doing_in ds t) h p → (i : Issued) × IsIssued s.peers.issued h i × (i.peer ≡ p)
@@ -192,14 +192,14 @@ pub record IsRestored (r : ManagedReplay) (s : PeerReplay) (o : OpenSnap) (answe
   pub handles : ForCandidates r.managed cycle (IsRestoredBy s answers)
   pub closed : LeadsToUnfreed r s cycle
 
-abbrev pub IsDriverKept : ManagedReplay → PeerReplay → Stand → Type 0
-IsDriverKept r s idle = IsIdle r s
-IsDriverKept r s (snapped o) = IsBeforeMirror r s o
-IsDriverKept r s (contracted o comps heavy xrefs) = IsContracted r s o comps heavy xrefs
-IsDriverKept r s (weakening o count weakened swept) = IsWeakening r s o count
-IsDriverKept r s (marked o) = IsInMarking r s o
-IsDriverKept r s (restoring o answers) = IsRestoring r s o answers
-IsDriverKept r s (restored o answers clear) = IsRestored r s o answers
+abbrev pub DriverInvariant : ManagedReplay → PeerReplay → Stand → Type 0
+DriverInvariant r s idle = IsIdle r s
+DriverInvariant r s (snapped o) = IsBeforeMirror r s o
+DriverInvariant r s (contracted o comps heavy xrefs) = IsContracted r s o comps heavy xrefs
+DriverInvariant r s (weakening o count weakened swept) = IsWeakening r s o count
+DriverInvariant r s (marked o) = IsInMarking r s o
+DriverInvariant r s (restoring o answers) = IsRestoring r s o answers
+DriverInvariant r s (restored o answers clear) = IsRestored r s o answers
 
 -- what the driver's restores have answered
 abbrev pub given_at : Stand → List Answer
@@ -217,9 +217,9 @@ abbrev pub hands : Stand → List Doing → List Doing
 hands d ds = put_hands (given_at d) ds
 
 -- all of it
-pub record IsLinkageKept (s : Linkage) : Type 0 where
-  pub managed : IsReplayKept s.managed
-  pub peer : IsPeerKept s.peer
-  pub owners : AreOwnersKept s.managed s.peer
-  pub callers : AreCallersKept s.managed s.peer (hands s.control.stand s.control.doing)
-  pub driver : IsDriverKept s.managed s.peer s.control.stand
+pub record LinkageInvariant (s : Linkage) : Type 0 where
+  pub managed : ReplayInvariant s.managed
+  pub peer : PeerInvariant s.peer
+  pub owners : OwnersInvariant s.managed s.peer
+  pub callers : CallersInvariant s.managed s.peer (hands s.control.stand s.control.doing)
+  pub driver : DriverInvariant s.managed s.peer s.control.stand

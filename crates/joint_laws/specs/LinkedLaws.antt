@@ -18,13 +18,14 @@ use Rattle.joint_machine.specs.Joint.{JointMarking, peer, IsReached, twin_of}
 use Rattle.joint_machine.specs.Peers.{strong, weak}
 use Rattle.joint_machine.specs.PeerReplay.{PeerReplay, Marking}
 use Rattle.joint_laws.specs.JointAgreement.{AreFlags, Flags, joint_as}
-use Rattle.joint_laws.specs.LinkedInvariants.{IsLinkageKept, HasStrength, IsWeakenedBy, IsRestoredBy}
+use Rattle.joint_laws.specs.LinkedInvariants.{LinkageInvariant, HasStrength, IsWeakenedBy, IsRestoredBy}
 use Rattle.joint_laws.specs.PeerInvariants.{IsSpared}
 use Rattle.joint_laws.specs.States.{state_at}
 
 -- what both sides, the threads and the driver keep holds at every state
-abbrev pub LinkageIsKept : Type 0
-LinkageIsKept = (noted : List Noted) → AllMayCome opening_linkage noted → (i : ℕ) → IsLinkageKept (state_at noted i)
+abbrev pub LinkageInvariantHolds : Type 0
+LinkageInvariantHolds = (noted : List Noted) → AllMayCome opening_linkage noted
+    → (i : ℕ) → LinkageInvariant (state_at noted i)
 
 -- the handle of the candidate at place l, by the driver's stand: strong up to the mirror; weak once weakened, and
 -- strong before; weak while the own marking is open; then strong where the answer was alive, gone where it was cleared,

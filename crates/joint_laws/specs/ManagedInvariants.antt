@@ -19,7 +19,7 @@ pub record IsCutOff (s : Managed) (c : OpenCycle) : Type 0 where
 
 -- nothing that was freed is named: slots, pins and fields of unfreed rows name unfreed rows, and cells name rows that
 -- were made; and an open cycle's dead part is cut off
-pub record IsManagedKept (s : Managed) : Type 0 where
+pub record ManagedInvariant (s : Managed) : Type 0 where
   pub places : length s.held ≡ length s.heap.fields
   pub vars : length s.heap.vars ≡ VARS
   pub freed : (m : ℕ) → Contains s.heap.freed m → IsMade s.heap m
@@ -30,8 +30,8 @@ pub record IsManagedKept (s : Managed) : Type 0 where
 
 -- beside it, each handle that a row holds was adopted, by that row alone; each pair of the registry has a row that
 -- holds a handle, and no peer and no row stands in two pairs
-pub record IsReplayKept (s : ManagedReplay) : Type 0 where
-  pub managed : IsManagedKept s.managed
+pub record ReplayInvariant (s : ManagedReplay) : Type 0 where
+  pub managed : ManagedInvariant s.managed
   pub adopted : (m h : ℕ) → Holds s.managed m h → Contains s.adopted h
   pub alone : (m n h : ℕ) → Holds s.managed m h → Holds s.managed n h → m ≡ n
   pub pairs : (p m : ℕ) → Contains s.registry (p, m) → IsBridge s.managed m

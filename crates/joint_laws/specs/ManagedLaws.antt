@@ -7,7 +7,7 @@ use Rattle.joint_machine.specs.Walks.{Reaches}
 use Rattle.joint_machine.specs.Linked.{opening_linkage}
 use Rattle.joint_machine.specs.Replaying.{AllMayCome}
 use Rattle.joint_machine.specs.Told.{Noted}
-use Rattle.joint_laws.specs.ManagedInvariants.{IsCutOff, IsManagedKept, IsReplayKept}
+use Rattle.joint_laws.specs.ManagedInvariants.{IsCutOff, ManagedInvariant, ReplayInvariant}
 use Rattle.joint_laws.specs.Mirrors.{MirrorEdge}
 use Rattle.joint_laws.specs.States.{state_at}
 
@@ -16,9 +16,9 @@ abbrev pub managed_at : List Noted → ℕ → Managed
 managed_at noted i = (state_at noted i).managed.managed
 
 -- what the managed side keeps holds at every state
-abbrev pub ManagedIsKept : Type 0
-ManagedIsKept = (noted : List Noted) → AllMayCome opening_linkage noted
-    → (i : ℕ) → IsReplayKept (state_at noted i).managed
+abbrev pub ManagedInvariantHolds : Type 0
+ManagedInvariantHolds = (noted : List Noted) → AllMayCome opening_linkage noted
+    → (i : ℕ) → ReplayInvariant (state_at noted i).managed
 
 -- between two states the open cycle stayed, and no field and no handle of a row of its dead part changed; the dead part
 -- is cut off at the later one too
@@ -38,6 +38,6 @@ DeadPartIsFrozen = (noted : List Noted) → AllMayCome opening_linkage noted →
 -- exactly where managed fields lead
 abbrev pub DeadPartIsMirrored : Type 0
 DeadPartIsMirrored = (s : Managed) (c : OpenCycle) (comps : List (List ℕ)) (heavy : List ℕ) (xrefs : List (ℕ × ℕ))
-    → IsManagedKept s → s.cycle ≡ Some c → IsDeadContraction s c.dead comps heavy xrefs
+    → ManagedInvariant s → s.cycle ≡ Some c → IsDeadContraction s c.dead comps heavy xrefs
     → (a b : ℕ) → Contains c.candidates a → Contains c.candidates b
     → Reaches (ManagedEdge s) a b ↔ Reaches (MirrorEdge comps xrefs) a b

@@ -6,7 +6,7 @@ use Rattle.joint_machine.specs.PeerReplay.{PeerReplay, TableRow, Mirror, Marking
 use Rattle.joint_machine.specs.Components.{End}
 
 -- nothing that was freed is named: slots and fields of unfreed objects name unfreed objects
-pub record IsHeapKept (h : Heap) : Type 0 where
+pub record HeapInvariant (h : Heap) : Type 0 where
   pub freed : (x : ℕ) → Contains h.freed x → IsMade h x
   pub slots : (x : ℕ) → InSlot h x → IsLive h x
   pub fields : (x y : ℕ) → IsLive h x → Contains (fields_of h x) (Some y) → IsLive h y
@@ -21,7 +21,7 @@ IsIssued issued n i = numbered_at issued n ≡ Some i
 
 -- a handle of the table is cleared exactly where its peer is freed, and a strong one isn't; a raw one has the strength
 -- that it was made with; and names have raw handles
-pub record AreHandlesKept (h : Heap) (issued : List Issued)
+pub record HandlesInvariant (h : Heap) (issued : List Issued)
     (table : List (Option TableRow)) (names : List (Option ℕ)) : Type 0 where
   pub places : length table ≡ length issued
   pub peers : (n : ℕ) (i : Issued) → IsIssued issued n i → IsMade h i.peer
@@ -36,7 +36,7 @@ pub record AreHandlesKept (h : Heap) (issued : List Issued)
 
 -- the source of a mirrored reference was made, and where it is unfreed so is the target; references stand only while a
 -- cycle is mirrored; and only held handles are weakened
-pub record AreReferencesKept (h : Heap) (issued : List Issued)
+pub record ReferencesInvariant (h : Heap) (issued : List Issued)
     (refs : List (End × End)) (mirror : Option Mirror) : Type 0 where
   pub made : (p q : ℕ) → Refers refs p q → IsMade h p
   pub live : (p q : ℕ) → Refers refs p q → IsLive h p → IsLive h q
@@ -50,7 +50,7 @@ IsSpared mk p = IsLive mk.heap p → (IsMarked mk p → ⊥) → ⊥
 
 -- while a marking is open: the peers of its begin are unfreed; each edge of now is one of its begin, or leads to a
 -- spared peer; and peers in slots and under strong handles are spared
-pub record IsMarkingKept (h : Heap) (issued : List Issued)
+pub record MarkingInvariant (h : Heap) (issued : List Issued)
     (table : List (Option TableRow)) (refs : List (End × End)) (mk : Marking) : Type 0 where
   pub made : length mk.heap.fields ≤ length h.fields
   pub existed : (p : ℕ) → IsLive mk.heap p → IsLive h p
@@ -61,8 +61,8 @@ pub record IsMarkingKept (h : Heap) (issued : List Issued)
       → row.strength ≡ strong → IsIssued issued n i → IsSpared mk i.peer
 
 -- all of it
-pub record IsPeerKept (s : PeerReplay) : Type 0 where
-  pub heap : IsHeapKept s.peers.heap
-  pub handles : AreHandlesKept s.peers.heap s.peers.issued s.table s.peers.names
-  pub references : AreReferencesKept s.peers.heap s.peers.issued s.refs s.mirror
-  pub marking : (mk : Marking) → s.marking ≡ Some mk → IsMarkingKept s.peers.heap s.peers.issued s.table s.refs mk
+pub record PeerInvariant (s : PeerReplay) : Type 0 where
+  pub heap : HeapInvariant s.peers.heap
+  pub handles : HandlesInvariant s.peers.heap s.peers.issued s.table s.peers.names
+  pub references : ReferencesInvariant s.peers.heap s.peers.issued s.refs s.mirror
+  pub marking : (mk : Marking) → s.marking ≡ Some mk → MarkingInvariant s.peers.heap s.peers.issued s.table s.refs mk

@@ -8,7 +8,7 @@ pub fn snapshots_free_unreached_rows()
 {}
 
 /// No managed row that a resolution frees is reached in the joint graph, in any joint state whose managed part keeps
-/// what `managed_side_is_kept` says of every state, where the candidates that stay are those whose peer is unfreed.
+/// what `managed_invariant_holds` says of every state, where the candidates that stay are those whose peer is unfreed.
 pub fn resolutions_free_unreached_rows()
     ensures { ResolutionFreesUnreached }
 {}

@@ -23,10 +23,10 @@ pub use afterwards::{
 pub use freeing::{resolutions_free_unreached_rows, snapshots_free_unreached_rows};
 pub use graphs::{EdgeGraph, mirror_edges_follow_walks, walks_follow_mirror_edges};
 pub use linked::{
-    adopted_peer_has_no_twin, alive_candidates_lead_to_alive_ones, both_sides_are_kept,
+    adopted_peer_has_no_twin, alive_candidates_lead_to_alive_ones, both_invariants_hold,
     held_handles_by_phase, joint_twin_is_registered, reached_peers_are_spared,
 };
-pub use managed::{dead_part_is_frozen, dead_part_is_mirrored, managed_side_is_kept};
+pub use managed::{dead_part_is_frozen, dead_part_is_mirrored, managed_invariant_holds};
 pub use markings::{own_marking_is_one, reached_rows_are_closed};
 pub use readings::{
     exact_readings_are_lawful, kept_pins_are_lawful, reading_projection_is_complete,

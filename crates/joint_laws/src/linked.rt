@@ -1,6 +1,7 @@
 // Laws of both sides together.
 
-ghost use Rattle.joint_laws.specs.LinkedLaws.{AdoptedPeerHasNoTwin, AliveLeadToAlive, HeldByPhase, LinkageIsKept};
+ghost use Rattle.joint_laws.specs.LinkedLaws.{AdoptedPeerHasNoTwin, AliveLeadToAlive, HeldByPhase};
+ghost use Rattle.joint_laws.specs.LinkedLaws.{LinkageInvariantHolds};
 ghost use Rattle.joint_laws.specs.LinkedLaws.{ReachedIsNotSwept, ReachedIsSpared, TwinIsRegistered};
 
 /// At every state of a lawful list of entries: no slot and no field of an unfreed object names a freed object, on
@@ -8,8 +9,8 @@ ghost use Rattle.joint_laws.specs.LinkedLaws.{ReachedIsNotSwept, ReachedIsSpared
 /// is strong unless the row is a candidate, and a candidate's has the strength of the driver's phase; what a thread has
 /// in hand is held by no row; the registry has exactly the rows that hold a handle; and what an open marking doesn't
 /// spare is named by no slot, no strong handle and no peer that it spares.
-pub fn both_sides_are_kept()
-    ensures { LinkageIsKept }
+pub fn both_invariants_hold()
+    ensures { LinkageInvariantHolds }
 {}
 
 /// At every state of a lawful list of entries each handle that a managed row holds is in the table and strong, unless

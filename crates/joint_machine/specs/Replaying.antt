@@ -9,8 +9,8 @@ use Rattle.joint_machine.specs.Readers.{is_aside}
 use Rattle.joint_machine.specs.Run.{JointStep}
 
 -- what an answer says of its candidate: by that answer it is kept
-abbrev pub IsKept : Answer → Type 0
-IsKept a = (h : ℕ) × (a ≡ said_alive h)
+abbrev pub SaysAlive : Answer → Type 0
+SaysAlive a = (h : ℕ) × (a ≡ said_alive h)
 
 -- the peers of a list are exactly the unfreed ones that aren't reached, and the list rises
 pub record AreUnreached (g : Graph) (peers : List ℕ) : Type 0 where

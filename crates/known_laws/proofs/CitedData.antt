@@ -17,14 +17,14 @@ use Rattle.joint_machine.specs.Control.{Stand, contracted, weakening, CallerAllo
 use Rattle.joint_machine.specs.Linked.{Linkage, SideLawful}
 use Rattle.joint_machine.specs.PeerReplay.{peer_answer}
 use Rattle.joint_machine.specs.Told.{Told, Noted, references_of}
-use Rattle.joint_laws.specs.LinkedInvariants.{IsDriverKept}
+use Rattle.joint_laws.specs.LinkedInvariants.{DriverInvariant}
 use Rattle.known_laws.specs.Driving.{MirrorFits}
 use Rattle.known_laws.specs.Pasts.{Lawful, end_of}
 use Rattle.known_laws.specs.Citations.{AddsMirrorEdges, MirrorsAddMirrorEdges, TakesNext, WeakensTakeNext}
-use Rattle.known_laws.proofs.KnownPasts.{known_past_is_kept}
+use Rattle.known_laws.proofs.KnownPasts.{past_invariant_holds}
 use Rattle.known_laws.proofs.Later.{kept_end}
 
-mirror-adds : (s : Linkage) (st : Stand) (t : Thread) (k : Cycle) (reply : Reply) (cites : Option ℕ) (told : Told) → IsDriverKept s.managed s.peer st
+mirror-adds : (s : Linkage) (st : Stand) (t : Thread) (k : Cycle) (reply : Reply) (cites : Option ℕ) (told : Told) → DriverInvariant s.managed s.peer st
     → MayMirrorNow st s.managed.managed s.peer.peers.issued k.0 cites told → reply ≡ (peer_answer s.peer t (op.Mirror k) cites told).reply → AddsMirrorEdges s told reply k.0
 mirror-adds s (contracted o comps heavy xrefs) t k reply cites (references_of refs) d a e = record {
   cycle = d.before.cycle;
@@ -66,7 +66,7 @@ module _ (x : Noted) (h : List Noted) (l : Lawful (x ∷ h)) where
   mirror-of (P u) k v a w = absurd v
 
   weaken-of : (t : Thread) (g : HNum) → IsEvent t (op.Weaken g) → Allows t (op.Weaken g) → TakesNext (end_of h) x.entry.made.cites g.0
-  weaken-of C g v a = weaken-takes (end_of h) (end_of h).control.stand g.0 x.entry.made.cites (known_past_is_kept h l.1).mirror a
+  weaken-of C g v a = weaken-takes (end_of h) (end_of h).control.stand g.0 x.entry.made.cites (past_invariant_holds h l.1).mirror a
   weaken-of (M u) g v a = absurd v
   weaken-of (P u) g v a = absurd v
 

@@ -20,7 +20,7 @@ use Rattle.joint_machine.specs.Histories.{managed_numbers}
 use Rattle.joint_machine.specs.Linked.{Linkage, ManagedLawful, SideLawful, managed_after}
 use Rattle.joint_machine.specs.Sides.{managed_rules, peer_rules, objects_freed, cell_target}
 use Rattle.joint_machine.specs.ManagedReplay.{ManagedReplay, ManagedAllows, managed_answer}
-use Rattle.joint_laws.specs.ManagedInvariants.{IsReplayKept}
+use Rattle.joint_laws.specs.ManagedInvariants.{ReplayInvariant}
 use Rattle.joint_machine.specs.Told.{Told, Noted, nothing, phase_of, contraction_of, snap_of, resolution_of}
 use Rattle.joint_machine.specs.PinsTold.{bare_told, pins_told}
 use Rattle.joint_machine.proofs.Members.{Contains-nil, Contains-cons_cases}
@@ -195,7 +195,7 @@ none_freed s (op.Refused v) _ u w = absurd w
 none_freed s o nothing u w = refl
 none_freed s o _ u w = absurd w
 
-managed_freed : (s : Linkage) (t : Thread) (l : ℕ) (o : Op) (r : Reply) (c : Option ℕ) (told : Told) → IsReplayKept s.managed
+managed_freed : (s : Linkage) (t : Thread) (l : ℕ) (o : Op) (r : Reply) (c : Option ℕ) (told : Told) → ReplayInvariant s.managed
     → IsEvent t o → ManagedLawful s.managed (record { caller = t; index = l; op = o; reply = r; cites = c }) told → is_peer_event t o ≡ false
     → (managed_answer s.managed t o told).state.managed.heap.freed ≡ s.managed.managed.heap.freed ++ managed_numbers (objects_freed told)
 managed_freed s C l (op.Snap k) r c (snap_of freed candidates dead) k' v w e = ap (λ z. s.managed.managed.heap.freed ++ z) (sym (numbers-of freed))

@@ -23,7 +23,7 @@ use Rattle.joint_machine.specs.ManagedReplay.{ManagedReplay, managed_answer, ado
 use Rattle.joint_machine.specs.Peers.{Peers, next_handle, pair_made, peer_gripped, with_handle, with_peer, held, strong, sort_of, handles_full}
 use Rattle.joint_machine.specs.Told.{Told, Noted, snap_of, contraction_of, resolution_of, phase_of, handles_given, Answer, said_alive, said_cleared}
 use Rattle.joint_machine.proofs.Members.{Contains-nil, Contains-cons_cases}
-use Rattle.joint_laws.specs.LinkedInvariants.{doing_in, HasInHand, HasPeer, AreCallersKept, hands, given_at}
+use Rattle.joint_laws.specs.LinkedInvariants.{doing_in, HasInHand, HasPeer, CallersInvariant, hands, given_at}
 use Rattle.joint_laws.proofs.DriverPeers.{made-in_hand}
 use Rattle.joint_laws.proofs.Hands.{doing-set_cases, given-apart}
 use Rattle.joint_laws.proofs.LinkedEntries.{Of}
@@ -134,7 +134,7 @@ peer_takes_none u (op.Resolve c) told h e d = absurd e
 peer_takes_none u _ told h e d = d
 
 -- the driver's resolve takes what the restores gave, which no thread has in hand
-resolve-takes : (r : ManagedReplay) (s : PeerReplay) (ds : List Doing) (st : Stand) (c : ℕ) (cites : Option ℕ) (told : Told) → AreCallersKept r s (hands st ds)
+resolve-takes : (r : ManagedReplay) (s : PeerReplay) (ds : List Doing) (st : Stand) (c : ℕ) (cites : Option ℕ) (told : Told) → CallersInvariant r s (hands st ds)
     → MayResolveNow st c cites told → (t h : ℕ) → HasInHand (doing_in ds t) h → IsTaking (op.Resolve record { 0 = c }) told h → ⊥
 resolve-takes r s ds (restored o answers clear) c cites (resolution_of said freed) k a t h w x = (
     let at = given-at said h x in
@@ -193,7 +193,7 @@ fresh-step s n k may w = by n.entry.made.caller n.entry.made.op n.told may.event
         → (u h p : ℕ) → HasPeer (doing_at s.control u) h p → Contains (R t o told).adopted h → ⊥
     aside t o told x u h p q c = ⊎_elim (λ d. w u h p q d) (λ d. x u h (in_hand (doing_in s.control.doing u) h p q) d) (took_now t o told h c)
 
-    own : AreCallersKept s.managed s.peer s.control.doing
+    own : CallersInvariant s.managed s.peer s.control.doing
     own = threads-callers s.managed s.peer s.control.doing s.control.stand k
 
     by : (t : Thread) (o : Op) (told : Told) → IsEvent t o → SideLawful (is_peer_event t o) s (made_of t o) told → Allows t o told → Goal t o told

@@ -26,8 +26,8 @@ use Rattle.joint_machine.specs.Told.{Told, Noted}
 use Rattle.joint_machine.proofs.Deciding.{none_some}
 use Rattle.joint_machine.proofs.HeapLemmas.{Holds-handle_of, adopt_by-managed, candidates_of-open}
 use Rattle.joint_machine.proofs.Members.{Contains-at, Contains-here, Contains-there}
-use Rattle.joint_laws.specs.LinkedInvariants.{IsDriverKept, IsContracted}
-use Rattle.joint_laws.specs.ManagedInvariants.{IsManagedKept, IsReplayKept}
+use Rattle.joint_laws.specs.LinkedInvariants.{DriverInvariant, IsContracted}
+use Rattle.joint_laws.specs.ManagedInvariants.{ManagedInvariant, ReplayInvariant}
 use Rattle.joint_laws.proofs.ManagedKeeping.{dead-held, dead-fields, cut_on}
 use Rattle.joint_laws.proofs.ManagedMoves.{GoesOn, GoesOn-stay, managed_line-goes_on, adopted-goes_on, met-goes_on, given_up-goes_on}
 use Rattle.joint_laws.proofs.ManagedSteps.{meet_by-managed, give_by-managed, twin-live}
@@ -48,7 +48,8 @@ use Rattle.known_laws.proofs.PastsJoin.{below, within_past, behind_past, pasts_j
 use Rattle.joint_laws.proofs.ManagedEntries.{handle-same}
 
 -- an event of another thread than the driver's goes on
-pub goes_on : (s : ManagedReplay) (t : Thread) (o : Op) (told : Told) → (t ≡ C → ⊥) → IsEvent t o → IsReplayKept s → ManagedAllows s o told → GoesOn s.managed (managed_answer s t o told).state.managed
+pub goes_on : (s : ManagedReplay) (t : Thread) (o : Op) (told : Told) → (t ≡ C → ⊥) → IsEvent t o
+    → ReplayInvariant s → ManagedAllows s o told → GoesOn s.managed (managed_answer s t o told).state.managed
 goes_on s C o told n e k w = absurd (n refl)
 goes_on s t (op.Line a) told n e k w = managed_line-goes_on s.managed (thread_number t) a k.managed.places k.managed.cells
 goes_on s t (op.Adopt v kind f p h) told n e k w =
@@ -75,7 +76,7 @@ goes_on s (P u) (op.Refused r) told n e k w = absurd e
 goes_on s t _ told n e k w = absurd w
 
 pub goes_by : (s : ManagedReplay) (x : Made) (told : Told) (c : Bool) (full : Linkage) → full.managed ≡ s → (x.caller ≡ C → ⊥)
-    → IsEvent x.caller x.op → IsReplayKept s → SideLawful c full x told → GoesOn s.managed (managed_after s x told c).managed
+    → IsEvent x.caller x.op → ReplayInvariant s → SideLawful c full x told → GoesOn s.managed (managed_after s x told c).managed
 goes_by s x told true full q n e k w = GoesOn-stay s.managed
 goes_by s x told false full q n e k w = goes_on s x.caller x.op told n e k (subst (λ z. ManagedAllows z x.op told) q w.allowed)
 
@@ -103,7 +104,7 @@ alike_meet s t u (open_one e a b h) (open_one f c d g) =
     let same : f ≡ e = same_Some f e (sym d ∙ b) in
     open_one e a (c ∙ ap Some same) (λ m w. let v = g m (subst (λ (z : OpenCycle). Contains z.dead m) (sym same) w) in ((h m w).0 ∙ sym v.0, (h m w).1 ∙ sym v.1))
 
-pub alike_on : (s u t : Managed) → IsManagedKept s → GoesOn s u → Alike s t → Alike u t
+pub alike_on : (s u t : Managed) → ManagedInvariant s → GoesOn s u → Alike s t → Alike u t
 alike_on s u t k g (closed a b) = closed (g.cycle ∙ a) b
 alike_on s u t k g (open_one c a b h) = open_one c (g.cycle ∙ a) b
     (λ m d. (handle-same s u m ((k.dead c a).live m d) ((cut_on s u k g c a).live m d) (dead-held s u k g c a m d) ∙ (h m d).0, dead-fields s u k g c a m d ∙ (h m d).1))
@@ -207,7 +208,7 @@ frozen_in whole a b la lb wa wb e = by (alike whole (length a + length b) a b (o
       candidates = ap (λ o. elim o [ None ↦ [] | Some c ↦ c.candidates ]) (x ∙ sym y);
       handles = λ i h w. absurd (none_get i w.0 (subst (λ (o : Option OpenCycle). slice_get (elim o [ None ↦ [] | Some c ↦ c.candidates ]) i ≡ Some w.0) x w.1));
       edges = λ o comps heavy xrefs issued q. let d : IsContracted (end_of b).managed
-          (end_of b).peer o comps heavy xrefs = subst (IsDriverKept (end_of b).managed (end_of b).peer) q (kept_end b lb).driver in
+          (end_of b).peer o comps heavy xrefs = subst (DriverInvariant (end_of b).managed (end_of b).peer) q (kept_end b lb).driver in
           absurd (none_some _ (sym y ∙ d.before.opened.cycle));
     }
       where
@@ -220,7 +221,7 @@ frozen_in whole a b la lb wa wb e = by (alike whole (length a + length b) a b (o
           let dead = ((((kept_end a la).managed.managed.dead c x).candidates w.0).0 (Contains-at c.candidates i w.0 at)).0 in
           (w.0, subst (λ z. slice_get z i ≡ Some w.0) (sym (candidates_of-open (end_of b).managed.managed c y)) at, sym (h w.0 dead).0 ∙ w.2);
       edges = λ o comps heavy xrefs issued q.
-          let d : IsContracted (end_of b).managed (end_of b).peer o comps heavy xrefs = subst (IsDriverKept (end_of b).managed (end_of b).peer) q (kept_end b lb).driver in
+          let d : IsContracted (end_of b).managed (end_of b).peer o comps heavy xrefs = subst (DriverInvariant (end_of b).managed (end_of b).peer) q (kept_end b lb).driver in
           let is : d.before.cycle ≡ c = same_Some _ _ (sym d.before.opened.cycle ∙ y) in
           map_same _ _ (mirror_edges comps xrefs) (λ g w.
           let ends = edge-ends _ _ comps heavy xrefs d.contraction g.0 g.1 w in
@@ -232,15 +233,15 @@ frozen_in whole a b la lb wa wb e = by (alike whole (length a + length b) a b (o
     }
 
 -- the graph of the dead part is the same, and so is its contraction
-bridge-on : (s t : Managed) (m : ℕ) → IsManagedKept t → handle_of s m ≡ handle_of t m → IsBridge s m → IsBridge t m
+bridge-on : (s t : Managed) (m : ℕ) → ManagedInvariant t → handle_of s m ≡ handle_of t m → IsBridge s m → IsBridge t m
 bridge-on s t m k e b = (b.0, holds-handle_of t m b.0 k.places (sym e ∙ Holds-handle_of s m b.0 b.1))
 
-edge-on : (s t : Managed) (c : OpenCycle) → IsManagedKept t → t.cycle ≡ Some c
+edge-on : (s t : Managed) (c : OpenCycle) → ManagedInvariant t → t.cycle ≡ Some c
     → ((m : ℕ) → Contains c.dead m → fields_of s.heap m ≡ fields_of t.heap m) → (x y : ℕ) → DeadEdge s c.dead x y → DeadEdge t c.dead x y
 edge-on s t c k o f x y e = (record { live = (k.dead c o).live x e.1; field = subst (λ fs. Contains fs (Some y)) (f x e.1) e.0.field; there = (k.dead c o).live y e.2 }, e.1, e.2)
 
 -- states that are so have the same dead part
-pub dead_part-alike : (s t : Managed) → IsManagedKept s → IsManagedKept t → Alike s t → HasSameDeadPart s t
+pub dead_part-alike : (s t : Managed) → ManagedInvariant s → ManagedInvariant t → Alike s t → HasSameDeadPart s t
 dead_part-alike s t ks kt (closed x y) = record {
   cycle = x ∙ sym y;
   handles = λ c o m d. absurd (none_some c (sym x ∙ o));

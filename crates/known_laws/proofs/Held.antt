@@ -27,7 +27,7 @@ use Rattle.joint_machine.specs.PinsTold.{bare_told, pins_told}
 use Rattle.joint_machine.proofs.Deciding.{none_some}
 use Rattle.joint_machine.proofs.Members.{Contains-nil, Contains-at, at-Contains}
 use Rattle.joint_machine.proofs.WalkLemmas.{Reached-start}
-use Rattle.joint_laws.specs.ManagedInvariants.{IsReplayKept}
+use Rattle.joint_laws.specs.ManagedInvariants.{ReplayInvariant}
 use Rattle.joint_laws.proofs.ManagedMoves.{GoesOn}
 use Rattle.known_laws.specs.Known.{Comes, SideMayCome, given, without_pins}
 use Rattle.known_laws.specs.Pasts.{Lawful, end_of}
@@ -86,7 +86,7 @@ happens x h l = either (is_read x.entry.made.op) refl l.0.comes
     side : is_read x.entry.made.op ≡ false → SideMayCome s x → Goal (end_of (x ∷ h)).managed.managed
     side r c = by x.entry.made.caller x.entry.made.op (bare_told x.told) refl refl refl c.comes.event c.comes.lawful
       where
-        k0 : IsReplayKept s0.managed
+        k0 : ReplayInvariant s0.managed
         k0 = (kept_pinned s _ c.stand (kept_end h l.1)).managed
 
         a : IsSideAfter s x

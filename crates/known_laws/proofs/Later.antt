@@ -20,8 +20,8 @@ use Rattle.joint_machine.specs.ManagedReplay.{ManagedReplay}
 use Rattle.joint_machine.specs.Readers.{ReaderMayCome}
 use Rattle.joint_machine.specs.Told.{Told, Noted, nothing}
 use Rattle.joint_machine.specs.PinsTold.{bare_told, no_pins}
-use Rattle.joint_laws.specs.ManagedInvariants.{IsManagedKept}
-use Rattle.joint_laws.proofs.LinkedEntries.{Of, AreKept-entry, AreKept-opening}
+use Rattle.joint_laws.specs.ManagedInvariants.{ManagedInvariant}
+use Rattle.joint_laws.proofs.LinkedEntries.{Of, BothInvariants-entry, BothInvariants-opening}
 use Rattle.known_laws.specs.Known.{Comes, PinsStand, pinned, given, without_pins, managed_past, past_after}
 use Rattle.known_laws.specs.Pasts.{end_of, Lawful}
 use Rattle.known_laws.proofs.Pinned.{none_stand, own_stand, kept_pinned}
@@ -54,7 +54,7 @@ reads_leave s n e = subst (λ r. managed_past s n.entry.made n.told (is_peer_eve
 -- those from before, or none
 pub record IsSideAfter (s : Linkage) (n : Noted) : Type 0 where
   pub pins : List (Option ℕ)
-  pub stand : IsManagedKept s.managed.managed → PinsStand (linkage_after (given s n.told) (without_pins n)).managed.managed pins
+  pub stand : ManagedInvariant s.managed.managed → PinsStand (linkage_after (given s n.told) (without_pins n)).managed.managed pins
   pub same : past_after s n ≡ pinned (linkage_after (given s n.told) (without_pins n)) pins
 
 pub side_after : (s : Linkage) (n : Noted) → is_read n.entry.made.op ≡ false → IsSideAfter s n
@@ -113,15 +113,15 @@ pub past_keeps : (s : Linkage) (n : Noted) → Comes (is_read n.entry.made.op) s
 past_keeps s n w k = by (is_read n.entry.made.op) refl w
   where
     by : (r : Bool) → is_read n.entry.made.op ≡ r → Comes r s n → Of (past_after s n)
-    by true e w = let h = reader_after_is s n e w in subst Of (sym h.same) (AreKept-entry s h.note h.comes k)
+    by true e w = let h = reader_after_is s n e w in subst Of (sym h.same) (BothInvariants-entry s h.note h.comes k)
     by false e w =
         let a = side_after s n e in
         let l = linkage_after (given s n.told) (without_pins n) in
-        let m = AreKept-entry (given s n.told) (without_pins n) w.comes (kept_pinned s _ w.stand k) in
+        let m = BothInvariants-entry (given s n.told) (without_pins n) w.comes (kept_pinned s _ w.stand k) in
         subst Of (sym a.same) (kept_pinned l a.pins (a.stand k.managed.managed) m)
 
 pub kept_end : (h : List Noted) → Lawful h → Of (end_of h)
-kept_end [] l = AreKept-opening
+kept_end [] l = BothInvariants-opening
 kept_end (x ∷ h) l = past_keeps (end_of h) x l.0.comes (kept_end h l.1)
 
 -- with what both sides keep at hand

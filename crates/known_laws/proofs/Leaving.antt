@@ -26,7 +26,7 @@ use Rattle.joint_machine.specs.Run.{thread_number}
 use Rattle.joint_machine.specs.Told.{Told, Noted, references_of, slice_of, sweep_of}
 use Rattle.joint_machine.proofs.Numbered.{numbered-within, numbered-made, numbered_set-length, numbered-push_new}
 use Rattle.joint_laws.specs.LinkedInvariants.{IsHeldOne}
-use Rattle.joint_laws.specs.PeerInvariants.{IsTabled, IsIssued, IsPeerKept}
+use Rattle.joint_laws.specs.PeerInvariants.{IsTabled, IsIssued, PeerInvariant}
 use Rattle.joint_laws.proofs.DriverHandles.{written-strength}
 use Rattle.joint_laws.proofs.DriverPeerSteps.{Only, HandlesAlike-only, HandlesAlike-swept}
 use Rattle.joint_laws.proofs.HandlesAlike.{HandlesAlike, nothing_touched, HandlesAlike-then}
@@ -101,7 +101,7 @@ brought-issued : (a : Answered PeerReplay) (r : Reply) → (bring_by a r).state.
 brought-issued a (says.P p) = refl
 brought-issued a _ = refl
 
-module _ (s : PeerReplay) (k : IsPeerKept s) (m : Made) (g : ℕ) where
+module _ (s : PeerReplay) (k : PeerInvariant s) (m : Made) (g : ℕ) where
   new_on : (x : PeerReplay) (a : Answered Peers) → x.peers ≡ s.peers → length x.table ≡ length s.table → length s.peers.issued < g → g ≤ length a.state.issued → HasRow (on_table x a).state g
   new_on x a e f l n = new_row x.table x.peers.issued a.state.issued g (f ∙ (k.handles.places ∙ ap (λ (z : Peers). length z.issued) (sym e)))
       (let q = ap (λ (z : Peers). length z.issued) e in omega (arith, q, l)) n
@@ -194,7 +194,8 @@ module _ (s : PeerReplay) (k : IsPeerKept s) (m : Made) (g : ℕ) where
   answer_follows t (op.Clear c) told e r = still s (peer_answer s t (op.Clear c) m.cites told).state m g refl refl
   answer_follows t _ told e r = still s s m g refl refl
 
-after_follows : (full : Linkage) (m : Made) (told : Told) (b : Bool) (g : ℕ) → IsPeerKept full.peer → (b ≡ true → PeerLawful full.peer m told) → Follows full.peer (peer_after full.peer m told b) m g
+after_follows : (full : Linkage) (m : Made) (told : Told) (b : Bool) (g : ℕ) → PeerInvariant full.peer
+    → (b ≡ true → PeerLawful full.peer m told) → Follows full.peer (peer_after full.peer m told b) m g
 after_follows full m told true g k l = answer_follows full.peer k m g m.caller m.op told refl (l refl).replies
 after_follows full m told false g k l = still full.peer full.peer m g refl refl
 

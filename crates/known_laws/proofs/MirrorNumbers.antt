@@ -18,8 +18,8 @@ use Rattle.joint_machine.specs.PeerReplay.{PeerReplay, mirrored}
 use Rattle.joint_machine.specs.Peers.{Issued}
 use Rattle.joint_machine.specs.Told.{Told, Noted, snap_of, contraction_of, references_of}
 use Rattle.joint_machine.proofs.Members.{Contains-nil, Contains-cons_cases}
-use Rattle.joint_laws.specs.LinkedInvariants.{IsDriverKept}
-use Rattle.joint_laws.specs.ManagedInvariants.{IsReplayKept}
+use Rattle.joint_laws.specs.LinkedInvariants.{DriverInvariant}
+use Rattle.joint_laws.specs.ManagedInvariants.{ReplayInvariant}
 use Rattle.joint_laws.proofs.LinkedEntries.{Of}
 use Rattle.joint_laws.proofs.ManagedEntries.{ManagedStep-entry}
 use Rattle.joint_laws.proofs.ManagedSteps.{ManagedStep, going_on, snapping, resolving, abandoning}
@@ -69,7 +69,7 @@ mirror-later _ m i ms num k reply cites told a = absurd a
 
 -- the open cycle's number is the last one opened
 mirror-opened : (r : ManagedReplay) (s : PeerReplay) (st : Stand) (k : ℕ) (cites : Option ℕ) (told : Told)
-    → IsReplayKept r → IsDriverKept r s st → MayMirrorNow st r.managed s.peers.issued k cites told → k ≤ r.managed.cycles
+    → ReplayInvariant r → DriverInvariant r s st → MayMirrorNow st r.managed s.peers.issued k cites told → k ≤ r.managed.cycles
 mirror-opened r s (contracted o comps heavy xrefs) k cites (references_of refs) kept d a =
     let c = d.before.opened in
     let l = (kept.managed.dead d.before.cycle c.cycle).latest in

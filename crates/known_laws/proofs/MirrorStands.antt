@@ -23,7 +23,7 @@ use Rattle.joint_machine.specs.Run.{thread_number}
 use Rattle.joint_machine.specs.Told.{Told, Noted, nothing, contraction_of, references_of, phase_of, Answer, said_alive, said_cleared, handles_given}
 use Rattle.joint_machine.proofs.HeapLemmas.{candidates_of-open}
 use Rattle.joint_machine.proofs.Members.{Contains-nil, Contains-here, Contains-cons_cases, Contains-at, last-or}
-use Rattle.joint_laws.specs.ManagedInvariants.{IsManagedKept}
+use Rattle.joint_laws.specs.ManagedInvariants.{ManagedInvariant}
 use Rattle.joint_laws.proofs.LinkedEntries.{Of}
 use Rattle.joint_laws.proofs.ManagedKeeping.{dead-held, cut_on}
 use Rattle.joint_laws.proofs.ManagedMoves.{GoesOn, managed_line-goes_on}
@@ -46,7 +46,7 @@ pub same_candidates : (m : Managed) → SameCandidates m m
 same_candidates m = record { candidates = refl; there = λ i h w. w; back = λ i h w. w }
 
 -- while a cycle stays open its candidates keep their handles
-pub goes-same : (s u : Managed) → IsManagedKept s → GoesOn s u → SameCandidates s u
+pub goes-same : (s u : Managed) → ManagedInvariant s → GoesOn s u → SameCandidates s u
 goes-same s u k g = record {
   candidates = same;
   there = λ i h w. (w.0, subst (λ z. slice_get z i ≡ Some w.0) (sym same) w.1, handle w.0 (Contains-at (candidates_of s) i w.0 w.1) ∙ w.2);

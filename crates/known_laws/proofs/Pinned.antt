@@ -11,10 +11,10 @@ use Rattle.joint_machine.specs.PeerReplay.{PeerReplay}
 use Rattle.joint_machine.specs.Peers.{Issued}
 use Rattle.joint_machine.specs.PinsTold.{no_pins, with_pins}
 use Rattle.joint_machine.proofs.Numbered.{replicate-none}
-use Rattle.joint_laws.specs.LinkedInvariants.{hands, IsRowOf, AreOwnersKept, AreCallersKept, IsOpenedAs, ForCandidates, IsMirrored, IsBeforeMirror, IsDriverKept}
-use Rattle.joint_laws.specs.ManagedInvariants.{IsCutOff, IsManagedKept, IsReplayKept}
+use Rattle.joint_laws.specs.LinkedInvariants.{hands, IsRowOf, OwnersInvariant, CallersInvariant, IsOpenedAs, ForCandidates, IsMirrored, IsBeforeMirror, DriverInvariant}
+use Rattle.joint_laws.specs.ManagedInvariants.{IsCutOff, ManagedInvariant, ReplayInvariant}
 use Rattle.joint_laws.proofs.LinkedEntries.{Of}
-use Rattle.joint_laws.proofs.LinkedQuiet.{AreKept}
+use Rattle.joint_laws.proofs.LinkedQuiet.{BothInvariants}
 use Rattle.joint_laws.proofs.SameGraphs.{contraction-same}
 use Rattle.known_laws.specs.Known.{PinsStand, pinned}
 
@@ -57,7 +57,7 @@ module _ (r : ManagedReplay) (pins : List (Option ℕ)) where
       rise = k.rise;
     }
 
-    pub managed_to : IsManagedKept r.managed → IsManagedKept q.managed
+    pub managed_to : ManagedInvariant r.managed → ManagedInvariant q.managed
     managed_to k = record {
       places = k.places;
       vars = k.vars;
@@ -68,7 +68,7 @@ module _ (r : ManagedReplay) (pins : List (Option ℕ)) where
       dead = λ c o. cut_to c o (k.dead c o);
     }
 
-    replay_to : IsReplayKept r → IsReplayKept q
+    replay_to : ReplayInvariant r → ReplayInvariant q
     replay_to k = record {
       managed = managed_to k.managed;
       adopted = λ m h w. k.adopted m h (holds_back m h w);
@@ -78,7 +78,7 @@ module _ (r : ManagedReplay) (pins : List (Option ℕ)) where
       one_peer = k.one_peer;
     }
 
-  owners_to : (s : PeerReplay) → AreOwnersKept r s → AreOwnersKept q s
+  owners_to : (s : PeerReplay) → OwnersInvariant r s → OwnersInvariant q s
   owners_to s k = record {
     held_ones = λ m h w. k.held_ones m h (holds_back m h w);
     strong_ones = λ m h w n. k.strong_ones m h (holds_back m h w) n;
@@ -88,7 +88,7 @@ module _ (r : ManagedReplay) (pins : List (Option ℕ)) where
     adopted = k.adopted;
   }
 
-  callers_to : (s : PeerReplay) (ds : List Doing) → AreCallersKept r s ds → AreCallersKept q s ds
+  callers_to : (s : PeerReplay) (ds : List Doing) → CallersInvariant r s ds → CallersInvariant q s ds
   callers_to s ds k = record {
     loose = λ t h w. let z = k.loose t h w in record { strong_one = z.strong_one; held_one = z.held_one; unowned = λ m y. z.unowned m (holds_back m h y) };
     apart = k.apart;
@@ -119,7 +119,7 @@ module _ (r : ManagedReplay) (pins : List (Option ℕ)) where
   abbrev before_to : (s : PeerReplay) (o : OpenSnap) → IsBeforeMirror r s o → IsBeforeMirror q s o
   before_to s o w = record { cycle = w.cycle; opened = opened_to o w.cycle w.opened; none = w.none; handles = candidates_to w.cycle _ w.handles }
 
-  driver_to : (s : PeerReplay) (d : Stand) → IsDriverKept r s d → IsDriverKept q s d
+  driver_to : (s : PeerReplay) (d : Stand) → DriverInvariant r s d → DriverInvariant q s d
   driver_to s idle w = record { closed = w.closed; none = w.none }
   driver_to s (snapped o) w = before_to s o w
   driver_to s (contracted o comps heavy xrefs) w = record { before = before_to s o w.before; contraction = contraction_to w.before.cycle.dead comps heavy xrefs w.contraction }
@@ -148,14 +148,14 @@ module _ (r : ManagedReplay) (pins : List (Option ℕ)) where
     closed = λ a b x y ca cb walk ra rb live. w.closed a b x y ca cb walk (row_back s.peers.issued a x ra) (row_back s.peers.issued b y rb) live;
   }
 
-  pub kept_to : (s : PeerReplay) (ds : List Doing) (d : Stand) → PinsStand r.managed pins → AreKept r s ds d → AreKept q s ds d
+  pub kept_to : (s : PeerReplay) (ds : List Doing) (d : Stand) → PinsStand r.managed pins → BothInvariants r s ds d → BothInvariants q s ds d
   kept_to s ds d st k = record { managed = replay_to st k.managed; peer = k.peer; owners = owners_to s k.owners; callers = callers_to s (hands d ds) k.callers; driver = driver_to s d k.driver }
 
 -- no pins stand, and so do those that a kept state has
 pub none_stand : (s : Managed) → PinsStand s no_pins
 none_stand s = record { live = λ m c. absurd (replicate-none 9 m c); outside = λ c o m p. absurd (replicate-none 9 m p) }
 
-pub own_stand : (s : Managed) → IsManagedKept s → PinsStand s s.pins
+pub own_stand : (s : Managed) → ManagedInvariant s → PinsStand s s.pins
 own_stand s k = record { live = λ m c. k.roots m (inr c); outside = λ c o m p d. (k.dead c o).unnamed m (inr p) d }
 
 pub kept_pinned : (s : Linkage) (pins : List (Option ℕ)) → PinsStand s.managed.managed pins → Of s → Of (pinned s pins)

@@ -38,9 +38,9 @@ use Rattle.joint_laws.proofs.LinkedEntries.{Of}
 use Rattle.joint_laws.proofs.ManagedMoves.{managed_line-goes_on}
 use Rattle.known_laws.specs.Pasts.{Lawful, end_of}
 use Rattle.known_laws.specs.Citations.{RestoredHoldTheNew, restores_after, restores_in, AreRestored, WasRestoredAlive, FreesByRestores, ResolvesFreeByRestores, ResolvesFreeCleared}
-use Rattle.known_laws.specs.Driving.{IsPastKept}
+use Rattle.known_laws.specs.Driving.{PastInvariant}
 use Rattle.known_laws.proofs.Facts.{resolve_frees_cleared}
-use Rattle.known_laws.proofs.KnownPasts.{known_past_is_kept}
+use Rattle.known_laws.proofs.KnownPasts.{past_invariant_holds}
 use Rattle.known_laws.proofs.FrozenPasts.{goes_by}
 use Rattle.known_laws.proofs.MirrorStands.{SameCandidates, goes-same}
 
@@ -285,7 +285,7 @@ resolves_free_by_restores x h l k e = by x.entry.made.caller (subst (IsEvent x.e
     by (P u) v a = absurd v
 
 -- the resolve of a past, by where the driver stands behind it
-cleared-by : (s : Linkage) → IsPastKept s → (rs : List (ℕ × Answer)) (st : Stand) (k : Cycle) (cites : Option ℕ) (answers : List Answer) (freed : List ℕ)
+cleared-by : (s : Linkage) → PastInvariant s → (rs : List (ℕ × Answer)) (st : Stand) (k : Cycle) (cites : Option ℕ) (answers : List Answer) (freed : List ℕ)
     → s.control.stand ≡ st → RestoredBy s.managed.managed rs st → MayResolveNow st k.0 cites (resolution_of answers freed)
     → ManagedAllows s.managed (op.Resolve k) (resolution_of answers freed) → (i g m : ℕ) (a : Answer)
     → slice_get rs i ≡ Some (g, a) → slice_get (candidates_of s.managed.managed) i ≡ Some m → Contains freed m ↔ (a ≡ said_cleared)
@@ -307,7 +307,7 @@ resolves_free_cleared x h l k e answers freed t = by x.entry.made.caller (subst 
 
     by : (u : Thread) → IsEvent u (op.Resolve k) → CallerAllows (end_of h).control (end_of h).managed.managed
         (end_of h).peer.peers.issued u x.entry.made.index (op.Resolve k) x.entry.made.reply x.entry.made.cites (resolution_of answers freed) → Frees
-    by C v a = cleared-by (end_of h) (known_past_is_kept h l.1) (restores_in h) (end_of h).control.stand k x.entry.made.cites answers freed refl
+    by C v a = cleared-by (end_of h) (past_invariant_holds h l.1) (restores_in h) (end_of h).control.stand k x.entry.made.cites answers freed refl
         (restored_in h l.1) a (subst (ManagedAllows (end_of h).managed (op.Resolve k)) t (resolve_allowed x h l k e))
     by (M u) v a = absurd v
     by (P u) v a = absurd v

@@ -25,8 +25,8 @@ use Rattle.known_laws.specs.Growing.{Kept, AreKnown, IsTurnedPast, all_shown, en
 use Rattle.known_laws.specs.Known.{Comes}
 use Rattle.known_laws.specs.PastEntries.{TellsPlainly, InPast}
 use Rattle.known_laws.proofs.Pinned.{none_stand}
-use Rattle.known_laws.specs.Driving.{IsPastKept}
-use Rattle.known_laws.proofs.KnownPasts.{known_past_is_kept}
+use Rattle.known_laws.specs.Driving.{PastInvariant}
+use Rattle.known_laws.proofs.KnownPasts.{past_invariant_holds}
 use Rattle.known_laws.specs.Pasts.{HasSameDeadPart, Joined, Lawful, PastRunsFrom, Within, end_of, line, driver_line}
 use Rattle.known_laws.specs.Worked.{a_read, a_take, a_drop, a_peer_drop, a_refusal, a_release, a_give, a_snap, lines_of, released_twice, turned_numbers, two_drops, without_candidates, wrong_lines}
 use Rattle.known_laws.specs.Worked.{wrongly_drawn}
@@ -251,8 +251,8 @@ no_cycle o w = none_some w.0 w.1.0
 pub snapped_open : (end_of (a_snap ∷ [])).managed.managed.cycle ≡ None → ⊥
 snapped_open e = none_some _ (sym e)
 
-pub kept : IsPastKept opening_linkage
-kept = known_past_is_kept [] tt
+pub kept : PastInvariant opening_linkage
+kept = past_invariant_holds [] tt
 
 pub unplain : TellsPlainly without_candidates.control.stand (a_refusal at.Weakened).entry.made.op (phase_of at.Weakened) → ⊥
 unplain w = let e : false ≡ true = w refl in true≢false (sym e)

@@ -22,7 +22,7 @@ use Rattle.joint_machine.specs.ManagedReplay.{ManagedReplay}
 use Rattle.joint_machine.specs.Run.{thread_number}
 use Rattle.joint_machine.specs.Told.{Told, Noted, contraction_of, phase_of}
 use Rattle.joint_machine.proofs.Deciding.{none_some}
-use Rattle.joint_laws.specs.ManagedInvariants.{IsReplayKept}
+use Rattle.joint_laws.specs.ManagedInvariants.{ReplayInvariant}
 use Rattle.joint_laws.proofs.ManagedMoves.{GoesOn, GoesOn-stay, managed_line-goes_on}
 use Rattle.known_laws.specs.Pasts.{Lawful, Within, end_of, is_in, role_of}
 use Rattle.known_laws.specs.PastEntries.{InPast}
@@ -36,7 +36,7 @@ use Rattle.known_laws.proofs.PastsJoin.{below, within_past}
 use Rattle.known_laws.proofs.SnapTold.{IsKeeping, opened_on, snap_tells_cycle}
 
 -- the driver's events that keep the cycle go on
-pub driver_goes : (r : ManagedReplay) (index : ℕ) (reply : Reply) (cites : Option ℕ) (o : Op) (told : Told) → IsReplayKept r → IsKeeping o → IsEvent C o
+pub driver_goes : (r : ManagedReplay) (index : ℕ) (reply : Reply) (cites : Option ℕ) (o : Op) (told : Told) → ReplayInvariant r → IsKeeping o → IsEvent C o
     → GoesOn r.managed (managed_after r (record { caller = C; index = index; op = o; reply = reply; cites = cites }) told (is_peer_event C o)).managed
 driver_goes r index reply cites (op.Line a) told k x e = managed_line-goes_on r.managed (thread_number C) a k.managed.places k.managed.cells
 driver_goes r index reply cites (op.Snap c) told k x e = absurd x
@@ -78,7 +78,7 @@ keeps y h l o e later = either (is_read y.entry.made.op) refl l.0.comes
     side : is_read y.entry.made.op ≡ false → SideMayCome (end_of h) y → Keeps y h o
     side r w = by y.entry.made.caller y.entry.made.op refl refl w.comes.event w.comes.lawful
       where
-        k0 : IsReplayKept s0.managed
+        k0 : ReplayInvariant s0.managed
         k0 = (kept_pinned (end_of h) _ w.stand (kept_end h l.1)).managed
 
         goes : (t : Thread) (p : Op) → y.entry.made.caller ≡ t → y.entry.made.op ≡ p → GoesOn s0.managed.managed (R t p)

@@ -23,8 +23,8 @@ use Rattle.joint_machine.specs.PeerReplay.{PeerReplay, Mirror}
 use Rattle.joint_machine.specs.Run.{thread_number}
 use Rattle.joint_machine.specs.Told.{Told, Noted, snap_of, contraction_of, phase_of, Answer}
 use Rattle.joint_machine.proofs.Deciding.{none_some}
-use Rattle.joint_laws.specs.LinkedInvariants.{IsDriverKept}
-use Rattle.joint_laws.specs.ManagedInvariants.{IsReplayKept}
+use Rattle.joint_laws.specs.LinkedInvariants.{DriverInvariant}
+use Rattle.joint_laws.specs.ManagedInvariants.{ReplayInvariant}
 use Rattle.joint_laws.proofs.ManagedMoves.{managed_line-goes_on}
 use Rattle.known_laws.specs.Pasts.{Lawful, end_of}
 use Rattle.known_laws.specs.Driving.{IsMirrorOf, MirrorFits}
@@ -34,7 +34,7 @@ use Rattle.known_laws.proofs.Agreeing.{pasts_agree}
 use Rattle.known_laws.proofs.Growing.{runs_untold, within_by}
 use Rattle.joint_machine.proofs.HeapLemmas.{candidates_of-open}
 use Rattle.known_laws.proofs.FrozenPasts.{goes_by}
-use Rattle.known_laws.proofs.KnownPasts.{known_past_is_kept}
+use Rattle.known_laws.proofs.KnownPasts.{past_invariant_holds}
 use Rattle.known_laws.proofs.PastsJoin.{below}
 
 -- events that open and close no cycle
@@ -60,7 +60,7 @@ opened_on (restoring o answers) num (op.Clear k) reply told x = refl
 opened_on st num _ reply told x = refl
 
 -- the driver's events that keep the cycle
-cycle_on : (r : ManagedReplay) (index : ℕ) (reply : Reply) (cites : Option ℕ) (o : Op) (told : Told) → IsReplayKept r → IsKeeping o → IsEvent C o
+cycle_on : (r : ManagedReplay) (index : ℕ) (reply : Reply) (cites : Option ℕ) (o : Op) (told : Told) → ReplayInvariant r → IsKeeping o → IsEvent C o
     → (managed_after r (record { caller = C; index = index; op = o; reply = reply; cites = cites }) told (is_peer_event C o)).managed.cycle ≡ r.managed.cycle
 cycle_on r index reply cites (op.Line a) told k x e = (managed_line-goes_on r.managed (thread_number C) a k.managed.places k.managed.cells).cycle
 cycle_on r index reply cites (op.Snap c) told k x e = absurd x
@@ -114,7 +114,7 @@ step x h l b = either (is_read x.entry.made.op) refl l.0.comes
     module_side : is_read x.entry.made.op ≡ false → SideMayCome (end_of h) x → (w : OpenSnap) → opened_of (end_of (x ∷ h)).control.stand ≡ Some w → HasSnap (x ∷ h) w
     module_side r c = by x.entry.made.caller x.entry.made.op (bare_told x.told) refl refl refl c.comes.event c.comes.lawful
       where
-        k0 : IsReplayKept s0.managed
+        k0 : ReplayInvariant s0.managed
         k0 = (kept_pinned (end_of h) _ c.stand (kept_end h l.1)).managed
 
         -- the end of the past, by what the entry is
@@ -180,7 +180,7 @@ opened_by r s o a b m f e =
     λ i. Some record { cycle = c i; snap = n i }
 
 -- while a mirror stands it is that of the driver's cycle
-mirror-opened : (r : ManagedReplay) (s : PeerReplay) (st : Stand) (m : Mirror) → IsDriverKept r s st
+mirror-opened : (r : ManagedReplay) (s : PeerReplay) (st : Stand) (m : Mirror) → DriverInvariant r s st
     → MirrorFits r s st → s.mirror ≡ Some m → opened_of st ≡ Some record { cycle = m.cycle; snap = m.snap }
 mirror-opened r s idle m d f e = absurd (none_some m (sym d.none ∙ e))
 mirror-opened r s (snapped o) m d f e = absurd (none_some m (sym d.none ∙ e))
@@ -191,7 +191,7 @@ mirror-opened r s (restoring o answers) m d f e = opened_by r s o _ answers m f 
 mirror-opened r s (restored o answers clear) m d f e = absurd (none_some m (sym d.none ∙ e))
 
 pub mirror_cites_a_snap : MirrorCitesASnap
-mirror_cites_a_snap h l m e = let k = known_past_is_kept h l in snap_tells_cycle h l _ (mirror-opened (end_of h).managed (end_of h).peer (end_of h).control.stand m k.kept.driver k.mirror e)
+mirror_cites_a_snap h l m e = let k = past_invariant_holds h l in snap_tells_cycle h l _ (mirror-opened (end_of h).managed (end_of h).peer (end_of h).control.stand m k.kept.driver k.mirror e)
 
 told-candidates : (f c d g e k : List ℕ) → snap_of f c d ≡ snap_of g e k → c ≡ e
 told-candidates f c d g e k q = cc

@@ -20,7 +20,7 @@ use Rattle.joint_machine.specs.Linked.{Linkage}
 use Rattle.joint_machine.specs.Managed.{Holds, Managed, OpenCycle, ManagedEdge, handle_of, candidates_of}
 use Rattle.joint_machine.specs.PeerReplay.{Mirror}
 use Rattle.joint_machine.specs.Told.{Told, Noted, references_of, resolution_of, Answer, said_alive, said_cleared}
-use Rattle.joint_machine.specs.Replaying.{IsKept}
+use Rattle.joint_machine.specs.Replaying.{SaysAlive}
 use Rattle.joint_machine.specs.PinsTold.{bare_told}
 use Rattle.joint_machine.specs.Walks.{Reaches}
 use Rattle.known_laws.specs.Pasts.{Lawful, end_of}
@@ -151,7 +151,7 @@ pub record WasRestoredAlive (s : Managed) (restores : List (ℕ × Answer)) (m :
   pub holds : handle_of s m ≡ Some handle
   pub answer : Answer
   pub answered : slice_get restores place ≡ Some (handle, answer)
-  pub kept : IsKept answer
+  pub kept : SaysAlive answer
 
 -- a resolve tells the answers of the restores, of which each candidate has one, and frees exactly the rows of the dead
 -- part that no candidate whose restore answered alive leads to

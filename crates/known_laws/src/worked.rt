@@ -10,7 +10,7 @@ ghost use Rattle.joint_machine.specs.ManagedReplay.{MayContract, opening_replay}
 ghost use Rattle.joint_machine.specs.PeerReplay.{MayClear, MayRelease, MayRestore, MayWeaken, opening_peer_replay};
 ghost use Rattle.joint_machine.specs.Told.{Noted, phase_of};
 ghost use Rattle.known_laws.specs.Conditions.{IsOpenHere};
-ghost use Rattle.known_laws.specs.Driving.{IsPastKept};
+ghost use Rattle.known_laws.specs.Driving.{PastInvariant};
 ghost use Rattle.known_laws.specs.Drawn.{AreDrawn};
 ghost use Rattle.known_laws.specs.Growing.{AreKnown, IsTurnedPast, entries_kept, grown, kept_in, shown};
 ghost use Rattle.known_laws.specs.Known.{Comes};
@@ -75,7 +75,7 @@ pub fn targets_must_be_told()
 /// has its condition that asks for a handle, an open cycle or a mirror. And once the driver has snapped, the condition
 /// of a snap is gone.
 pub fn calls_need_their_stand()
-    ensures kept { IsPastKept opening_linkage }
+    ensures kept { PastInvariant opening_linkage }
     ensures release { (h : ℕ) → MayRelease opening_peer_replay h → ⊥ }
     ensures contracted { (k : ℕ) (comps : List (List ℕ)) (heavy : List ℕ) (xrefs : List (ℕ × ℕ))
         → MayContract opening_replay k comps heavy xrefs → ⊥ }

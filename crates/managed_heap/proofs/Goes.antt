@@ -27,12 +27,12 @@ use Rattle.joint_machine.specs.Run.{thread_number}
 use Rattle.joint_machine.specs.Sides.{GoesOn, IsOfSide, IsReplayed, managed_rules, MaySetCell, cell_target, step_made}
 use Rattle.joint_machine.specs.Told.{Told, nothing, kept_pins}
 use Rattle.joint_machine.proofs.SideLists.{IsReplayed-push}
-use Rattle.joint_laws.specs.ManagedInvariants.{IsReplayKept}
+use Rattle.joint_laws.specs.ManagedInvariants.{ReplayInvariant}
 use Rattle.known_laws.specs.Known.{PinsStand}
 use Rattle.known_laws.proofs.Bared.{plain_pins, plain_told}
 use Rattle.known_laws.proofs.Unpinned.{answers_same}
-use Rattle.managed_heap.specs.Rows.{AreKept, with_adopted}
-use Rattle.managed_heap.specs.Sides.{HasRoom, IsSideKept, owed_by, state_of}
+use Rattle.managed_heap.specs.Rows.{RowsInvariant, with_adopted}
+use Rattle.managed_heap.specs.Sides.{HasRoom, SideInvariant, owed_by, state_of}
 use Rattle.managed_heap.specs.Steps.{IsStepBy, IsLineBy, IsManagedStep, IsFresh, take_op, weak_op, adopted_by}
 use Rattle.managed_heap.specs.Takings.{taken_in}
 use Rattle.managed_heap.proofs.Kept.{few-next, kept-next, no-pins}
@@ -180,7 +180,7 @@ side-replayed es es' taken after rows next k floor m told below above added goes
 -- and keeps what every side keeps, if the pins stand that are told with the entry
 pub side-kept : (es es' : List Entry) (taken after : List (List ℕ)) (rows next : ManagedReplay) (k : ℕ) (m : Made) (told : Told)
     → PinsStand rows.managed (pins_told told) → es' ≡ es ++ numbered k m ∷ []
-    → GoesOn managed_rules (state_of taken rows) m told (state_of after next) → IsSideKept es (state_of taken rows) → IsSideKept es' (state_of after next)
+    → GoesOn managed_rules (state_of taken rows) m told (state_of after next) → SideInvariant es (state_of taken rows) → SideInvariant es' (state_of after next)
 side-kept es es' taken after rows next k m told st added goes k' =
     let s = state_of taken rows in
     let stand : PinsStand s.managed (pins_told told) = st in
@@ -188,12 +188,12 @@ side-kept es es' taken after rows next k m told st added goes k' =
     let few : (managed_rules.next s m told).managed.cycles ≤ s.managed.cycles + 1 = few-next s m told stand goes.lawful k'.kept in
     let same : (state_of after next).managed.cycles ≡ (managed_rules.next s m told).managed.cycles = ap (λ (z : ManagedReplay). z.managed.cycles) goes.state in
     record {
-      kept = subst IsReplayKept (sym goes.state) (kept-next s m told stand goes.lawful k'.kept);
+      kept = subst ReplayInvariant (sym goes.state) (kept-next s m told stand goes.lawful k'.kept);
       few = omega (arith, longer, few, same, k'.few);
     }
 
 -- the rows of a side keep what every side keeps
-pub kept-rows : (es : List Entry) (taken : List (List ℕ)) (rows : ManagedReplay) → IsSideKept es (state_of taken rows) → AreKept rows
+pub kept-rows : (es : List Entry) (taken : List (List ℕ)) (rows : ManagedReplay) → SideInvariant es (state_of taken rows) → RowsInvariant rows
 kept-rows es taken rows k = (taken_in taken, k.kept)
 
 -- each of the things that gave handles to rows has an entry

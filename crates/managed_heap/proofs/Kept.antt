@@ -13,16 +13,16 @@ use Rattle.joint_machine.specs.ManagedReplay.{ManagedReplay, managed_answer, ope
 use Rattle.joint_machine.specs.Sides.{LeadsTo, IsReplayed, managed_rules}
 use Rattle.joint_machine.specs.Told.{Told, Noted}
 use Rattle.joint_machine.specs.PinsTold.{bare_told, no_pins, pins_told, with_pins}
-use Rattle.joint_laws.specs.ManagedInvariants.{IsReplayKept}
+use Rattle.joint_laws.specs.ManagedInvariants.{ReplayInvariant}
 use Rattle.joint_laws.proofs.ManagedSteps.{ManagedStep, managed_step, going_on, snapping, resolving, abandoning}
-use Rattle.joint_laws.proofs.ReplayKeeping.{IsReplayKept-step}
+use Rattle.joint_laws.proofs.ReplayKeeping.{ReplayInvariant-step}
 use Rattle.known_laws.specs.Known.{PinsStand}
 use Rattle.known_laws.proofs.Pinned.{bridge_to, holds_back, managed_to, none_stand}
 use Rattle.instance_registry.specs.Pairs.{twin_in}
 use Rattle.managed_heap.specs.Rows.{pairs_of, number_or_none}
 
 -- what is kept holds with other pins too, if these stand
-pub kept-pinned : (r : ManagedReplay) (pins : List (Option ℕ)) → PinsStand r.managed pins → IsReplayKept r → IsReplayKept (with_pins r pins)
+pub kept-pinned : (r : ManagedReplay) (pins : List (Option ℕ)) → PinsStand r.managed pins → ReplayInvariant r → ReplayInvariant (with_pins r pins)
 kept-pinned r pins st k = record {
   managed = managed_to r pins st k.managed;
   adopted = λ m h w. k.adopted m h (holds_back r pins m h w);
@@ -41,11 +41,11 @@ pub no-pins : (es : List Entry) (s : ManagedReplay) → IsReplayed managed_rules
 no-pins es s r = no-pins-led opening_replay r.noted s refl r.leads
 
 -- an entry that may come keeps what is kept, where the pins stand that it is told
-pub kept-next : (s : ManagedReplay) (m : Made) (told : Told) → PinsStand s.managed (pins_told told) → managed_rules.lawful s m told → IsReplayKept s → IsReplayKept (managed_rules.next s m told)
+pub kept-next : (s : ManagedReplay) (m : Made) (told : Told) → PinsStand s.managed (pins_told told) → managed_rules.lawful s m told → ReplayInvariant s → ReplayInvariant (managed_rules.next s m told)
 kept-next s m told st l k =
     let p = with_pins s (pins_told told) in
     let u = (managed_answer p m.caller m.op (bare_told told)).state in
-    kept-pinned u no_pins (none_stand u.managed) (IsReplayKept-step p m.caller m.op (bare_told told) (kept-pinned s (pins_told told) st k) l.1.lawful.allowed)
+    kept-pinned u no_pins (none_stand u.managed) (ReplayInvariant-step p m.caller m.op (bare_told told) (kept-pinned s (pins_told told) st k) l.1.lawful.allowed)
 
 step-cycles : (s t : Managed) → ManagedStep s t → t.cycles ≤ s.cycles + 1
 step-cycles s t (going_on g) = (let e = g.cycles in omega arith)
@@ -55,7 +55,7 @@ step-cycles s t (abandoning p) = (let e = ap (λ (z : Managed). z.cycles) p.is i
 
 -- and opens one cycle at most
 pub few-next : (s : ManagedReplay) (m : Made) (told : Told) → PinsStand s.managed (pins_told told)
-    → managed_rules.lawful s m told → IsReplayKept s → (managed_rules.next s m told).managed.cycles ≤ s.managed.cycles + 1
+    → managed_rules.lawful s m told → ReplayInvariant s → (managed_rules.next s m told).managed.cycles ≤ s.managed.cycles + 1
 few-next s m told st l k =
     let p = with_pins s (pins_told told) in
     step-cycles p.managed (managed_answer p m.caller m.op (bare_told told)).state.managed (managed_step p m.caller m.op (bare_told told) (kept-pinned s (pins_told told) st k) l.1.lawful.allowed)

@@ -6,7 +6,7 @@ use Rattle.joint_machine.specs.Heaps.{Heap, numbered_at}
 use Rattle.joint_machine.specs.Histories.{managed_numbers}
 use Rattle.joint_machine.specs.Managed.{OpenCycle}
 use Rattle.joint_machine.specs.ManagedReplay.{ManagedReplay}
-use Rattle.joint_laws.specs.ManagedInvariants.{IsReplayKept}
+use Rattle.joint_laws.specs.ManagedInvariants.{ReplayInvariant}
 use Rattle.finaliser_queue.specs.Queue.{Queue}
 use Rattle.managed_heap.specs.declared.rows.Header.{Header}
 
@@ -49,5 +49,5 @@ ArePeers pairs headers = (p m : ℕ) → Contains (pairs_of pairs) (p, m)
     ↔ (numbered_at (map (λ i. i.peer) headers) m ≡ Some (Some p))
 
 -- the rows are those of a lawful list of entries
-abbrev pub AreKept : ManagedReplay → Type 0
-AreKept s = (hs : List ℕ) × IsReplayKept (with_adopted s hs)
+abbrev pub RowsInvariant : ManagedReplay → Type 0
+RowsInvariant s = (hs : List ℕ) × ReplayInvariant (with_adopted s hs)

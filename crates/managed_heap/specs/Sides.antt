@@ -7,7 +7,7 @@ use Rattle.joint_machine.specs.Managed.{OpenCycle}
 use Rattle.joint_machine.specs.ManagedReplay.{ManagedReplay}
 use Rattle.joint_machine.specs.Told.{Told}
 use Rattle.joint_machine.specs.Sides.{Side, AddsLawful, managed_rules}
-use Rattle.joint_laws.specs.ManagedInvariants.{IsReplayKept}
+use Rattle.joint_laws.specs.ManagedInvariants.{ReplayInvariant}
 use Rattle.managed_heap.specs.declared.opening.Opened.{Opened}
 use Rattle.managed_heap.specs.declared.opening.SnapFault.{SnapFault}
 use Rattle.managed_heap.specs.declared.opening.SnapFault.TheVariants as fault
@@ -65,8 +65,8 @@ HasRoom s spare = (c : OpenCycle) → s.managed.cycle ≡ Some c → owed_by s.c
 
 -- what every state of the managed side keeps, which doesn't follow from a lawful list alone, since that says nothing of
 -- the pins which a `take` was given; and there are at most as many cycles as entries
-pub record IsSideKept (entries : List Entry) (s : ManagedReplay) : Type 0 where
-  pub kept : IsReplayKept s
+pub record SideInvariant (entries : List Entry) (s : ManagedReplay) : Type 0 where
+  pub kept : ReplayInvariant s
   pub few : s.managed.cycles ≤ length entries
 
 -- the answer on a peer's twin: pending while a cycle is open, else by the registry

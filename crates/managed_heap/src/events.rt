@@ -7,7 +7,7 @@ ghost use Rattle.joint_machine.specs.Managed.{managed_line};
 ghost use Rattle.joint_machine.specs.ManagedReplay.{managed_answer};
 ghost use Rattle.joint_machine.specs.Run.{thread_number};
 ghost use Rattle.joint_machine.specs.Told.{nothing};
-ghost use Rattle.managed_heap.specs.Rows.{AreKept, with_adopted};
+ghost use Rattle.managed_heap.specs.Rows.{RowsInvariant, with_adopted};
 ghost use Rattle.managed_heap.specs.Steps.{IsManagedStep, IsStepAct, adopted_by};
 
 use crate::lines::{place, place_or_none};
@@ -21,7 +21,7 @@ impl ManagedRows {
         requires thread { IsManagedThread caller }
         requires act { IsManagedAct act.now }
         requires line { IsStepAct act.now }
-        requires kept { AreKept self.old }
+        requires kept { RowsInvariant self.old }
         ensures answer { IfOk result (λ r. managed_line self.old.managed
             (thread_number caller) act.now ≡ answer r self.new.managed) }
         ensures rest { self.new ≡ record self.old { managed = self.new.managed } }
@@ -49,7 +49,7 @@ impl ManagedRows {
     /// The event of a step. Answers `AllocError`, with the rows as before, where there is no memory.
     pub(crate) fn step(&mut self, caller: Thread, op: &Op) -> Result<Reply, AllocError>
         requires step { IsManagedStep caller op.now }
-        requires kept { AreKept self.old }
+        requires kept { RowsInvariant self.old }
         ensures answer { IfOk result (λ r. (hs : List ℕ)
             → managed_answer (with_adopted self.old hs) caller op.now nothing ≡ answer r
             (with_adopted self.new (hs ++ adopted_by op.now r))) }

@@ -16,7 +16,7 @@ ghost use Rattle.joint_machine.specs.Walks.{Reached};
 ghost use Rattle.reachability.specs.Marks.{IsClosed, HasMark, marked, unmarked_of};
 ghost use Rattle.row_heap.specs.Marks.{EdgeOf};
 ghost use Rattle.managed_heap.specs.Resolving.{AreCleared, HasAnswers, TakesResolution, has_handle, has_peer};
-ghost use Rattle.managed_heap.specs.Rows.{AreKept, ArePeers, pairs_of};
+ghost use Rattle.managed_heap.specs.Rows.{RowsInvariant, ArePeers, pairs_of};
 
 use crate::open::OpenParts;
 use crate::rows::{Header, ManagedRows};
@@ -73,7 +73,7 @@ impl ManagedRows {
     /// answered alive its new handle, and closes the cycle. It takes no memory. Its time goes by the dead part, and by
     /// the registry's pairs, over which it passes once, where a freed row has one.
     pub(crate) fn resolve(&mut self, alive: &Alive) -> Resolution
-        requires kept { AreKept self.old }
+        requires kept { RowsInvariant self.old }
         requires open { HasAnswers self.old alive.now.values }
         ensures resolution { TakesResolution self.old self.new alive.now.values
             (managed_numbers result.freed.items) result.cycle result.first result.kept }

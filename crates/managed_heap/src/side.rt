@@ -12,7 +12,7 @@ ghost use Rattle.joint_machine.specs.Managed.{OpenCycle};
 ghost use Rattle.joint_machine.specs.ManagedReplay.{MayRefuse, opening_replay, registered};
 ghost use Rattle.joint_machine.specs.Sides.{AreTaken, IsReplayed, MayDraw, managed_rules, step_made};
 ghost use Rattle.joint_machine.specs.Told.{nothing, phase_of};
-ghost use Rattle.joint_laws.specs.ManagedInvariants.{IsReplayKept};
+ghost use Rattle.joint_laws.specs.ManagedInvariants.{ReplayInvariant};
 ghost use Rattle.known_laws.specs.Known.{PinsStand};
 ghost use Rattle.managed_heap.specs.Pinned.{pin_given, take_told};
 ghost use Rattle.managed_heap.specs.Rows.{number_or_none};
@@ -48,7 +48,7 @@ impl Model for ManagedSide {
     ghost use Rattle.std.specs.Prelude.{◌≤◌, is_some, length};
     ghost use Rattle.joint_machine.specs.Sides.{AreTaken, IsReplayed, managed_rules};
     ghost use Rattle.managed_heap.specs.Rooms.{HasThree, IsEnough};
-    ghost use Rattle.managed_heap.specs.Sides.{ManagedModel, model_of, state_of, HasRoom, IsSideKept};
+    ghost use Rattle.managed_heap.specs.Sides.{ManagedModel, model_of, state_of, HasRoom, SideInvariant};
 
     ghost Value = { ManagedModel };
 
@@ -56,7 +56,7 @@ impl Model for ManagedSide {
 
     ghost invariant = { λ s. IsReplayed managed_rules s.entries.entries (state_of s.takings s.rows)
         × HasRoom s.rows s.entries.spare × AreTaken managed_rules s.threads s.entries.entries
-        × IsSideKept s.entries.entries (state_of s.takings s.rows) × (length s.takings ≤ length s.entries.entries)
+        × SideInvariant s.entries.entries (state_of s.takings s.rows) × (length s.takings ≤ length s.entries.entries)
         × HasThree s.room s.entries.spare × IsEnough s.room s.rows.managed };
 }
 
@@ -104,7 +104,7 @@ impl ManagedSide {
     /// does nothing.
     pub fn recall_replays(&self)
         ensures replayed { IsReplayed managed_rules self.now.entries self.now.state }
-        ensures kept { IsReplayKept self.now.state }
+        ensures kept { ReplayInvariant self.now.state }
         ensures taken { AreTaken managed_rules self.now.threads self.now.entries }
     {
         let _ = &self.entries;

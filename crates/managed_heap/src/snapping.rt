@@ -10,7 +10,7 @@ ghost use Rattle.joint_machine.specs.Histories.{managed_numbers};
 ghost use Rattle.known_laws.specs.Known.{PinsStand};
 ghost use Rattle.managed_heap.specs.Pinned.{pins_given};
 ghost use Rattle.managed_heap.specs.Rooms.{FitsSnap};
-ghost use Rattle.managed_heap.specs.Rows.{AreKept};
+ghost use Rattle.managed_heap.specs.Rows.{RowsInvariant};
 ghost use Rattle.managed_heap.specs.Snapping.{TakesSnapshot};
 
 use crate::open::OpenParts;
@@ -44,7 +44,7 @@ impl ManagedRows {
     /// A snapshot, in room that was taken: frees what neither a slot, a pin nor a row with a handle reaches, and opens
     /// the next cycle. It takes no memory.
     pub(crate) fn snap(&mut self, pins: &Pins, room: SnapRoom) -> Snap
-        requires kept { AreKept self.old }
+        requires kept { RowsInvariant self.old }
         requires closed { self.old.managed.cycle ≡ None }
         requires count { self.old.managed.cycles < u32.MAX }
         requires stand { PinsStand self.old.managed (pins_given pins.now.at) }

@@ -6,7 +6,7 @@ ghost use Rattle.joint_machine.specs.Heaps.{IsLive, MOST, answer, is_full, next_
 ghost use Rattle.instance_registry.specs.Pairs.{PeersDistinct};
 ghost use Rattle.joint_machine.specs.Managed.{handle_of, handle_reply, made_new, twin_fields, twin_kind, with_row};
 ghost use Rattle.joint_machine.specs.ManagedReplay.{registered, with_twin};
-ghost use Rattle.managed_heap.specs.Rows.{AreKept, number_or_none, with_adopted};
+ghost use Rattle.managed_heap.specs.Rows.{RowsInvariant, number_or_none, with_adopted};
 ghost use Rattle.managed_heap.specs.Steps.{by_adopt, by_meet};
 ghost use Rattle.managed_heap.specs.TwinEvents.{adopt_at, give_at, give_row, handle_said, left_by, meet_at};
 
@@ -61,7 +61,7 @@ impl ManagedRows {
     /// The handle that a live object holds.
     pub(crate) fn handle(&self, x: u32) -> Option<u32>
         requires live { IsLive self.now.managed.heap x }
-        requires kept { AreKept self.now }
+        requires kept { RowsInvariant self.now }
         ensures { handle_of self.now.managed x ≡ result }
     {
         self.headers[x as usize - 1].handle
@@ -70,7 +70,7 @@ impl ManagedRows {
     /// The handle of V's object, as `handle`, `lend` and `give` answer it.
     pub(crate) fn handle_at(&self, v: usize) -> Reply
         requires v { v < VARS }
-        requires kept { AreKept self.now }
+        requires kept { RowsInvariant self.now }
         ensures { handle_reply self.now.managed v ≡ result }
     {
         match self.heap.var(v) {
@@ -102,7 +102,7 @@ impl ManagedRows {
         requires v { v < VARS }
         requires few { length self.old.managed.heap.fields < MOST }
         requires alone { registered self.old.registry p.0 ≡ None }
-        requires kept { AreKept self.old }
+        requires kept { RowsInvariant self.old }
         ensures number { IfOk result (λ x. x ≡ next_number self.old.managed.heap) }
         ensures ok { OnOk result (self.new ≡ record self.old {
           managed = with_row self.old.managed v kind fields (Some h.0);
@@ -139,7 +139,7 @@ impl ManagedRows {
     ) -> Result<u32, AllocError>
         requires v { v < VARS }
         requires few { length self.old.managed.heap.fields < MOST }
-        requires kept { AreKept self.old }
+        requires kept { RowsInvariant self.old }
         ensures number { IfOk result (λ x. x ≡ next_number self.old.managed.heap) }
         ensures ok { OnOk result (self.new ≡ record self.old {
           managed = with_row self.old.managed v kind fields (Some h.0);
@@ -165,7 +165,7 @@ impl ManagedRows {
         h: HNum,
     ) -> Result<Reply, AllocError>
         requires v { v < VARS }
-        requires kept { AreKept self.old }
+        requires kept { RowsInvariant self.old }
         ensures answer { IfOk result (λ r. (hs : List ℕ)
             → adopt_at (with_adopted self.old hs) v kind fields p h ≡ answer r
             (with_adopted self.new (hs ++ by_adopt h r))) }
@@ -191,7 +191,7 @@ impl ManagedRows {
         requires v { v < VARS }
         requires none { self.old.managed.cycle ≡ None }
         requires alone { registered self.old.registry p.0 ≡ None }
-        requires kept { AreKept self.old }
+        requires kept { RowsInvariant self.old }
         ensures answer { IfOk result (λ r. (hs : List ℕ)
             → meet_at (with_adopted self.old hs) v p h sort fields None ≡ answer r
             (with_adopted self.new (hs ++ by_meet h r))) }
@@ -216,7 +216,7 @@ impl ManagedRows {
     ) -> Result<Reply, AllocError>
         requires v { v < VARS }
         requires none { self.old.managed.cycle ≡ None }
-        requires kept { AreKept self.old }
+        requires kept { RowsInvariant self.old }
         ensures answer { IfOk result (λ r. (hs : List ℕ)
             → meet_at (with_adopted self.old hs) v p h sort fields
             (registered self.old.registry p.0) ≡ answer r (with_adopted self.new (hs ++ by_meet h r))) }
@@ -242,7 +242,7 @@ impl ManagedRows {
         fields: u8,
     ) -> Result<Reply, AllocError>
         requires v { v < VARS }
-        requires kept { AreKept self.old }
+        requires kept { RowsInvariant self.old }
         ensures answer { IfOk result (λ r. (hs : List ℕ)
             → meet_at (with_adopted self.old hs) v p h sort fields
             (registered self.old.registry p.0) ≡ answer r (with_adopted self.new (hs ++ by_meet h r))) }
@@ -257,7 +257,7 @@ impl ManagedRows {
     // A live object gives its handle up, and leaves the registry.
     fn give_row(&mut self, x: u32) -> Reply
         requires live { IsLive self.old.managed.heap x }
-        requires kept { AreKept self.old }
+        requires kept { RowsInvariant self.old }
         ensures { give_row self.old x ≡ answer result self.new }
     {
         let held = self.headers[x as usize - 1];
@@ -273,7 +273,7 @@ impl ManagedRows {
     /// `give V`: V's object gives its handle up.
     pub(crate) fn give(&mut self, v: usize) -> Reply
         requires v { v < VARS }
-        requires kept { AreKept self.old }
+        requires kept { RowsInvariant self.old }
         ensures { give_at self.old v ≡ answer result self.new }
     {
         match self.heap.var(v) {

@@ -3,7 +3,7 @@
 use Rattle.std.specs.Prelude.{◌≡◌, ℕ, ◌⊎◌, ◌↔◌, Bool, true, List, Contains, Some}
 use Rattle.joint_machine.specs.Heaps.{IsLive, HasField, InSlot}
 use Rattle.joint_machine.specs.PeerReplay.{PeerReplay, Marking, IsMarked, MarkingEdge, HasReference, strong_peers}
-use Rattle.joint_laws.specs.PeerInvariants.{IsPeerKept}
+use Rattle.joint_laws.specs.PeerInvariants.{PeerInvariant}
 use Rattle.reachability.specs.Marks.{HasMark}
 
 -- a slot or a strong handle names the peer now
@@ -29,6 +29,6 @@ pub record AreMarksExact (s : PeerReplay) (mk : Marking) (follows : Bool) (marks
 
 -- a marking is open, in a state as lawful pasts lead to, and its marks are exact
 pub record IsMarkedSide (s : PeerReplay) (mk : Marking) (follows : Bool) (marks : List Bool) : Type 0 where
-  pub kept : IsPeerKept s
+  pub kept : PeerInvariant s
   pub opened : s.marking ≡ Some mk
   pub right : AreMarksExact s mk follows marks

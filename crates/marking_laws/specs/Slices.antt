@@ -10,7 +10,7 @@ use Rattle.joint_machine.specs.Heaps.{IsLive, InSlot, fields_of, next_number, wi
 use Rattle.joint_machine.specs.Peers.{with_peer}
 use Rattle.joint_machine.specs.PeerReplay.{PeerReplay, Marking, IsMarked, IsMarkingRoot, IsClosure, IsSweep}
 use Rattle.joint_machine.specs.PeerReplay.{MarkingEdge, HasReference, begun, mirrored}
-use Rattle.joint_laws.specs.PeerInvariants.{IsPeerKept, IsSpared}
+use Rattle.joint_laws.specs.PeerInvariants.{PeerInvariant, IsSpared}
 use Rattle.heap_rules.specs.Tidy.{CanFree}
 use Rattle.reachability.specs.Marks.{HasMark, IsClosed}
 use Rattle.marking_laws.specs.Marks.{EdgeNow, IsRootNow, IsWithoutMark}
@@ -33,7 +33,7 @@ pub record AreMarksGoing (s : PeerReplay) (mk : Marking)
 -- a marking goes on, in a state as lawful pasts lead to
 pub record IsGoingSide (s : PeerReplay) (mk : Marking)
     (follows : Bool) (marks : List Bool) (greys : List ℕ) : Type 0 where
-  pub kept : IsPeerKept s
+  pub kept : PeerInvariant s
   pub opened : s.marking ≡ Some mk
   pub right : AreMarksGoing s mk follows marks greys
 

@@ -19,7 +19,7 @@ use Rattle.joint_machine.specs.Sides.{GoesOn, peer_rules}
 use Rattle.joint_machine.specs.Told.{nothing}
 use Rattle.joint_machine.proofs.Deciding.{none_some}
 use Rattle.joint_machine.proofs.Members.{Contains-nil}
-use Rattle.joint_laws.specs.PeerInvariants.{IsPeerKept, IsSpared}
+use Rattle.joint_laws.specs.PeerInvariants.{PeerInvariant, IsSpared}
 use Rattle.marking_laws.specs.Slices.{AreMarksGoing}
 use Rattle.marking_laws.proofs.SliceEvents.{going-cleared, going-same}
 use Rattle.row_heap.specs.Marks.{IsReferred}
@@ -52,18 +52,18 @@ is-on None p e = absurd (none_some p e)
 is-on (Some i) p e = record { issue = i; made = refl; peer = same_Some i.peer p e }
 
 -- so it is live, and an open marking spares it
-restored-live : (s : PeerReplay) (m : Mirror) (p : ℕ) → IsPeerKept s → HasRestoredHandle s m p → IsLive s.peers.heap p
+restored-live : (s : PeerReplay) (m : Mirror) (p : ℕ) → PeerInvariant s → HasRestoredHandle s m p → IsLive s.peers.heap p
 restored-live s m p kept r =
     let i = is-on (numbered_at s.peers.issued r.handle) p r.peer in
     subst (IsLive s.peers.heap) i.peer (kept.handles.uncleared r.handle strong_row i.issue (row-tabled (numbered_at s.table r.handle) strong_row r.strong_now) i.made refl)
 
-restored-spared : (s : PeerReplay) (m : Mirror) (p : ℕ) (mk : Marking) → IsPeerKept s → s.marking ≡ Some mk → HasRestoredHandle s m p → IsSpared mk p
+restored-spared : (s : PeerReplay) (m : Mirror) (p : ℕ) (mk : Marking) → PeerInvariant s → s.marking ≡ Some mk → HasRestoredHandle s m p → IsSpared mk p
 restored-spared s m p mk kept e r =
     let i = is-on (numbered_at s.peers.issued r.handle) p r.peer in
     subst (IsSpared mk) i.peer ((kept.marking mk e).strong_ones r.handle strong_row i.issue (row-tabled (numbered_at s.table r.handle) strong_row r.strong_now) refl i.made)
 
 -- no reference led from such a peer to a freed one
-pub target-kept : (s : PeerReplay) (m : Mirror) (p q : ℕ) → IsPeerKept s → Refers s.refs p q → HasRestoredHandle s m p → IsLive s.peers.heap q
+pub target-kept : (s : PeerReplay) (m : Mirror) (p q : ℕ) → PeerInvariant s → Refers s.refs p q → HasRestoredHandle s m p → IsLive s.peers.heap q
 target-kept s m p q kept refers r = kept.references.live p q refers (restored-live s m p kept r)
 
 -- the mirrored cycle is kept

@@ -6,7 +6,7 @@ use Rattle.std.proofs.lemmas.Option.{slice_get_within}
 use Rattle.joint_machine.specs.PeerReplay.{PeerReplay, Marking}
 use Rattle.joint_machine.proofs.Members.{Contains-here, Contains-there, Contains-cons_cases}
 use Rattle.joint_machine.proofs.Numbered.{push-at_old}
-use Rattle.joint_laws.specs.PeerInvariants.{IsPeerKept}
+use Rattle.joint_laws.specs.PeerInvariants.{PeerInvariant}
 use Rattle.marking_laws.specs.Marks.{EdgeNow}
 use Rattle.marking_laws.specs.Slices.{AreMarksGoing, IsGoingSide, Shades, none}
 use Rattle.marking_laws.proofs.SliceEvents.{going-black, going-same}
@@ -17,7 +17,7 @@ use Rattle.row_marking.proofs.Greys.{GreyChain-one, greys-of, greys-short}
 use Rattle.peer_heap.specs.Marks.{IsGoing}
 
 -- the side of a marking that goes on
-pub going-side : (s : PeerReplay) (mk : Marking) (v : HeapRows) (head : ℕ) → IsPeerKept s → s.marking ≡ Some mk → (g : IsGoing s mk v head) → IsGoingSide s mk v.follows v.marks g.greys
+pub going-side : (s : PeerReplay) (mk : Marking) (v : HeapRows) (head : ℕ) → PeerInvariant s → s.marking ≡ Some mk → (g : IsGoing s mk v head) → IsGoingSide s mk v.follows v.marks g.greys
 going-side s mk v head kept opened g = record { kept = kept; opened = opened; right = g.right }
 
 -- what was visited was shaded
@@ -68,7 +68,7 @@ pub greyed-list : (row : ℕ → Type 0) (m : List Bool) (l : List ℕ) (h : ℕ
 greyed-list row m l h m' l' h' y (xs, c) = ((y xs c).waits, (y xs c).chained)
 
 -- one grey peer after the other is made black
-pub going-blackens : (s : PeerReplay) (mk : Marking) (follows : Bool) (n : ℕ) (m m' : List Bool) (xs ys : List ℕ) → IsPeerKept s
+pub going-blackens : (s : PeerReplay) (mk : Marking) (follows : Bool) (n : ℕ) (m m' : List Bool) (xs ys : List ℕ) → PeerInvariant s
     → s.marking ≡ Some mk → Blackens (EdgeNow s follows) n m xs m' ys → AreMarksGoing s mk follows m xs → AreMarksGoing s mk follows m' ys
 going-blackens s mk follows zero m m' xs ys kept opened (a, b) g = subst (λ zs. AreMarksGoing s mk follows m' zs) (sym b) (subst (λ z. AreMarksGoing s mk follows z xs) (sym a) g)
 going-blackens s mk follows (suc n) m m' xs ys kept opened (mid, x, rest, before, step) g =

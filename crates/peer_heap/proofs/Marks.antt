@@ -22,7 +22,7 @@ use Rattle.joint_machine.specs.Run.{thread_number}
 use Rattle.joint_machine.specs.Told.{nothing}
 use Rattle.joint_machine.proofs.Deciding.{option-cases, test-cases}
 use Rattle.joint_machine.proofs.Numbered.{slot-Contains, push-at_new, push-at_old, push-at_cases}
-use Rattle.joint_laws.specs.PeerInvariants.{IsPeerKept}
+use Rattle.joint_laws.specs.PeerInvariants.{PeerInvariant}
 use Rattle.joint_laws.proofs.PeerEvents.{target-live}
 use Rattle.joint_laws.proofs.HeapMoves.{copied-moved, field_got-moved, loaded-moved, stored-moved}
 use Rattle.reachability.specs.Marks.{HasMark}
@@ -38,7 +38,7 @@ use Rattle.peer_heap.proofs.Lengths.{copied-fields, got-fields, read-fields, sto
 
 -- the marking before an event: it goes on, in a state as lawful pasts lead to
 record IsOpen (s : PeerReplay) (mk : Marking) (v : HeapRows) (head : ℕ) : Type 0 where
-  kept : IsPeerKept s
+  kept : PeerInvariant s
   opened : s.marking ≡ Some mk
   going : IsGoing s mk v head
 

@@ -11,7 +11,7 @@ use Rattle.joint_machine.specs.Heaps.{Heap, Answered, IsLive, answer, numbered_s
 use Rattle.joint_machine.specs.Peers.{held, peer_of, strong}
 use Rattle.joint_machine.specs.PeerReplay.{PeerReplay, Marking, Mirror, brought_to, mirrored, peer_answer, renewed_on, restored_by, withdrawn}
 use Rattle.joint_machine.specs.Told.{nothing, references_of}
-use Rattle.joint_laws.specs.PeerInvariants.{IsPeerKept}
+use Rattle.joint_laws.specs.PeerInvariants.{PeerInvariant}
 use Rattle.marking_laws.specs.Slices.{AreMarksGoing}
 use Rattle.marking_laws.proofs.SliceEvents.{going-brought, going-same, going-stood}
 use Rattle.peer_heap.specs.Marks.{IsGoing, IsShaded}
@@ -74,7 +74,7 @@ stood-going v w m ms mk o n head k snap refs none put g =
 
 -- and a peer that gets another handle is shaded
 pub renewed-going : (v w : Rows) (m later : Option Mirror) (ms : List ℕ) (mk : Marking) (n before after h : ℕ) (g : HNum) (r : IsRenewed v h g w)
-    → IsShaded true (λ k. k ≡ r.peer) v.rows before w.rows after → IsLive v.rows.heap r.peer → IsPeerKept (state_of v m ms (Some mk) n) → IsGoing (state_of v m ms (Some mk) n) mk v.rows before
+    → IsShaded true (λ k. k ≡ r.peer) v.rows before w.rows after → IsLive v.rows.heap r.peer → PeerInvariant (state_of v m ms (Some mk) n) → IsGoing (state_of v m ms (Some mk) n) mk v.rows before
     → IsGoing (state_of w later ms (brought_to (Some mk) r.peer) n) (record mk { brought = mk.brought ++ r.peer ∷ [] }) w.rows after
 renewed-going v w m later ms mk n before after h g r sh live kept was =
     let s = state_of v m ms (Some mk) n in

@@ -20,7 +20,7 @@ use Rattle.joint_machine.specs.Sides.{GoesOn, peer_rules}
 use Rattle.joint_machine.specs.Told.{nothing}
 use Rattle.joint_machine.proofs.Deciding.{none_some, true_false}
 use Rattle.joint_machine.proofs.Members.{Contains-cons_cases, Contains-nil}
-use Rattle.joint_laws.specs.PeerInvariants.{IsPeerKept}
+use Rattle.joint_laws.specs.PeerInvariants.{PeerInvariant}
 use Rattle.joint_laws.proofs.PeerEvents.{target-live}
 use Rattle.global_handles.specs.declared.Back.{Back}
 use Rattle.global_handles.specs.declared.Back.TheVariants.{Alive, Cleared}
@@ -120,7 +120,7 @@ pub same-mirror : (es : List Entry) (o : Option OpenMirror) (x : OpenMirror) (z 
 same-mirror es o x z here stands = same_Some (mirror_as es x) z (sym (ap (mirror_in es) here) ∙ stands)
 
 -- the handle that is restored was issued
-restored-known : (s : PeerReplay) (h : HNum) (k index : ℕ) (back : Back) → IsPeerKept s → MayRestore s h.0 → IsKnown s.peers.issued (numbered k (restores index h back))
+restored-known : (s : PeerReplay) (h : HNum) (k index : ℕ) (back : Back) → PeerInvariant s → MayRestore s h.0 → IsKnown s.peers.issued (numbered k (restores index h back))
 restored-known s h k index back kept may = λ g c.
     let w = kept.references.weakened may.mirror h.0 may.stands may.weakened in
     elim (Contains-cons_cases h.0 [] g c) [ inl e ↦ (w.0, subst (λ z. numbered_at s.peers.issued z ≡ Some w.0) e w.1) | inr r ↦ absurd (Contains-nil g r) ]
@@ -214,7 +214,7 @@ restore-goes old w o n m x stock after k index h back b head next side added her
     (record { event = tt; side = refl }) may (restore-told old w o n m x stock after k index h back b head next side added here r)
 
 -- a handle that isn't cleared is on a live peer
-renewed-live : (s : PeerReplay) (v : Rows) (h : ℕ) (g : HNum) (w : Rows) → IsPeerKept s → s.table ≡ v.table → s.peers.issued ≡ v.issued → (r : IsRenewed v h g w) → IsLive s.peers.heap r.peer
+renewed-live : (s : PeerReplay) (v : Rows) (h : ℕ) (g : HNum) (w : Rows) → PeerInvariant s → s.table ≡ v.table → s.peers.issued ≡ v.issued → (r : IsRenewed v h g w) → IsLive s.peers.heap r.peer
 renewed-live s v h g w kept table issued r =
     let leads : table_target s h ≡ Some r.peer = ap (λ (o : Option TableRow). elim o [ None ↦ None | Some z ↦ if z.cleared then None else peer_of s.peers.issued h ])
     (ap (λ (t : List (Option TableRow)). elim (numbered_at t h) [ None ↦ None | Some z ↦ z ]) table ∙ r.tabled)

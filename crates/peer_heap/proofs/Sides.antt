@@ -29,7 +29,7 @@ use Rattle.joint_machine.proofs.Deciding.{none_some}
 use Rattle.joint_machine.proofs.Members.{Contains-nil}
 use Rattle.joint_laws.proofs.OneRun.{cons-nil}
 use Rattle.joint_laws.proofs.PeerEvents.{target-live}
-use Rattle.joint_laws.proofs.PeerMoves.{IsPeerKept-opening}
+use Rattle.joint_laws.proofs.PeerMoves.{PeerInvariant-opening}
 use Rattle.row_heap.specs.Marks.{overwritten}
 use Rattle.row_marking.specs.Traces.{IsGreyList}
 use Rattle.row_heap.specs.Rows.{HeapRows}
@@ -50,7 +50,7 @@ use Rattle.peer_heap.proofs.Steps.{step-side, goes-step, replayed-told, kept-ste
 pub IsSide-opening : (rows : Rows) (m : Mirrors) (stock : Stock) → rows ≡ no_rows → m ≡ no_mirrors → stock.entries ≡ [] → stock.spare ≤ 4294967295 → IsSide rows None 0 m stock
 IsSide-opening rows m stock none still empty few = rw (none, still) (record {
   replayed = rw empty (record { rise = tt; noted = []; same = refl; leads = refl });
-  kept = rw empty IsPeerKept-opening;
+  kept = rw empty PeerInvariant-opening;
   room = (let z : 0 + 0 + 0 ≤ stock.spare = omega arith in z);
   limit = rw empty (omega arith);
   few = omega arith;

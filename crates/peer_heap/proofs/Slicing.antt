@@ -28,7 +28,7 @@ use Rattle.joint_machine.specs.Told.{Told, nothing, slice_of}
 use Rattle.joint_machine.proofs.Deciding.{false-from}
 use Rattle.joint_machine.proofs.HeapLemmas.{same_thread, thread_itself}
 use Rattle.joint_machine.proofs.Members.{All-members, Contains-cons_cases, Contains-decided, Contains-here, Contains-nil, Contains-there}
-use Rattle.joint_laws.specs.PeerInvariants.{IsPeerKept}
+use Rattle.joint_laws.specs.PeerInvariants.{PeerInvariant}
 use Rattle.joint_laws.proofs.PeerEntries.{MirrorsSafely}
 use Rattle.marking_laws.specs.Marks.{EdgeNow}
 use Rattle.marking_laws.specs.Slices.{AreBlack, AreMarksGoing, Counted, IsBlack}
@@ -123,7 +123,7 @@ black-one b row m m' x rest ys n step live c =
     }
 
 -- and one after the other
-black-more : (s : PeerReplay) (mk : Marking) (follows : Bool) (k : ℕ) (m m' : List Bool) (xs ys : List ℕ) (n : ℕ) → IsPeerKept s → s.marking ≡ Some mk
+black-more : (s : PeerReplay) (mk : Marking) (follows : Bool) (k : ℕ) (m m' : List Bool) (xs ys : List ℕ) (n : ℕ) → PeerInvariant s → s.marking ≡ Some mk
     → Blackens (EdgeNow s follows) k m xs m' ys → AreMarksGoing s mk follows m xs → IsCount mk.heap m xs n → IsCount mk.heap m' ys (n + k)
 black-more s mk follows zero m m' xs ys n kept opened (a, b) g c =
     let same : n ≡ n + 0 = omega arith in

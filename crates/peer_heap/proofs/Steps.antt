@@ -21,8 +21,8 @@ use Rattle.joint_machine.proofs.Deciding.{none_some}
 use Rattle.joint_machine.specs.Sides.{IsOfSide, GoesOn, IsReplayed, peer_rules}
 use Rattle.joint_machine.specs.Told.{Told, nothing}
 use Rattle.joint_machine.proofs.SideLists.{IsReplayed-push}
-use Rattle.joint_laws.specs.PeerInvariants.{IsPeerKept}
-use Rattle.joint_laws.proofs.PeerEntries.{MirrorsSafely, IsPeerKept-step}
+use Rattle.joint_laws.specs.PeerInvariants.{PeerInvariant}
+use Rattle.joint_laws.proofs.PeerEntries.{MirrorsSafely, PeerInvariant-step}
 use Rattle.peer_heap.specs.Rows.{marking_by, marking_after}
 use Rattle.peer_heap.specs.Steps.{IsRelease, IsPeerStep, IsStepLine, ReleasesTabled, room_for}
 
@@ -156,10 +156,10 @@ pub replayed-told : (es es' : List Entry) (old new : PeerReplay) (k floor : ℕ)
 replayed-told es es' old new k floor m told below above added goes replayed = IsReplayed-push peer_rules es es' old new k m told (AllBelow-more es floor k above below) added goes replayed
 
 -- and its state is kept
-pub kept-told : (s t : PeerReplay) (m : Made) (told : Told) → GoesOn peer_rules s m told t → MirrorsSafely s m.op told → IsPeerKept s → IsPeerKept t
-kept-told s t m told goes safe kept = subst IsPeerKept (sym goes.state) (IsPeerKept-step s m.caller m.op m.cites told kept goes.lawful.1.allowed safe)
+pub kept-told : (s t : PeerReplay) (m : Made) (told : Told) → GoesOn peer_rules s m told t → MirrorsSafely s m.op told → PeerInvariant s → PeerInvariant t
+kept-told s t m told goes safe kept = subst PeerInvariant (sym goes.state) (PeerInvariant-step s m.caller m.op m.cites told kept goes.lawful.1.allowed safe)
 
-pub kept-step : (s t : PeerReplay) (m : Made) → GoesOn peer_rules s m nothing t → IsPeerKept s → IsPeerKept t
+pub kept-step : (s t : PeerReplay) (m : Made) → GoesOn peer_rules s m nothing t → PeerInvariant s → PeerInvariant t
 kept-step s t m goes kept = kept-told s t m nothing goes (safe-nothing s m.op) kept
 
 -- a row that the replay finds stands in the table

@@ -13,7 +13,7 @@ use Rattle.joint_machine.specs.Peers.{Issued, Strength as JointStrength, is_stro
 use Rattle.joint_machine.specs.PeerReplay.{PeerReplay, TableRow, Marking, strong_peers}
 use Rattle.joint_machine.proofs.Deciding.{neq-eqb}
 use Rattle.joint_machine.proofs.Members.{Contains-cons_cases, Contains-map, Contains-nil}
-use Rattle.joint_laws.specs.PeerInvariants.{IsPeerKept, IsSpared, IsTabled, IsIssued}
+use Rattle.joint_laws.specs.PeerInvariants.{PeerInvariant, IsSpared, IsTabled, IsIssued}
 use Rattle.joint_laws.proofs.MarkingKeeping.{strong-listed}
 use Rattle.joint_laws.proofs.PeerMoves.{IsSafe}
 use Rattle.global_handles.specs.declared.HandleRow.{HandleRow}
@@ -136,13 +136,13 @@ weak-rows marks rows issued n freed rises len own up white k p l j r m = λ same
         (subst (Contains (strong_peers (map issued_as issued) (table_to rows n))) (ap (λ (q : PNum). q.0) same) (strong-row rows issued n j (get_or rows j r) rises len own at e))))
 
 -- it is live
-pub strong-live : (s : PeerReplay) → IsPeerKept s → (p : ℕ) → Contains (strong_peers s.peers.issued s.table) p → IsLive s.peers.heap p
+pub strong-live : (s : PeerReplay) → PeerInvariant s → (p : ℕ) → Contains (strong_peers s.peers.issued s.table) p → IsLive s.peers.heap p
 strong-live s k p c =
     let w = strong-at s.peers.issued s.table p c in
     subst (IsLive s.peers.heap) w.peer (k.handles.uncleared (suc w.place) w.row w.issue w.tabled w.made (k.handles.sure (suc w.place) w.row w.tabled w.sure))
 
 -- and an open marking spares it
-pub strong-safe : (s : PeerReplay) → IsPeerKept s → (p : ℕ) → Contains (strong_peers s.peers.issued s.table) p → IsSafe s p
+pub strong-safe : (s : PeerReplay) → PeerInvariant s → (p : ℕ) → Contains (strong_peers s.peers.issued s.table) p → IsSafe s p
 strong-safe s k p c = λ mk e.
     let w = strong-at s.peers.issued s.table p c in
     subst (IsSpared mk) w.peer ((k.marking mk e).strong_ones (suc w.place) w.row w.issue w.tabled w.sure w.made)

@@ -13,7 +13,7 @@ use Rattle.joint_machine.specs.Managed.{place_or_none}
 use Rattle.joint_machine.specs.PeerReplay.{PeerReplay, Marking, peer_answer}
 use Rattle.joint_machine.specs.Run.{thread_number}
 use Rattle.joint_machine.specs.Told.{nothing}
-use Rattle.joint_laws.specs.PeerInvariants.{IsPeerKept}
+use Rattle.joint_laws.specs.PeerInvariants.{PeerInvariant}
 use Rattle.marking_laws.specs.Slices.{AreMarksGoing}
 use Rattle.reachability.specs.Marks.{HasMark}
 use Rattle.row_heap.specs.Marks.{overwritten}
@@ -91,7 +91,7 @@ pub record IsGoing (s : PeerReplay) (mk : Marking) (v : HeapRows) (head : ℕ) :
 abbrev pub StepsGoOn : Type 0
 StepsGoOn = (s : PeerReplay) (mk : Marking) (old new : HeapRows) (before after : ℕ) (t : Thread) (o : Op)
     (cites : Option ℕ) → IsPeerStep t o → s.peers.heap ≡ old.heap
-    → IsPeerKept s → s.marking ≡ Some mk → IsGoing s mk old before
+    → PeerInvariant s → s.marking ≡ Some mk → IsGoing s mk old before
     → MarksAfter true t old before o (peer_answer s t o cites nothing).reply new after
     → IsGoing (peer_answer s t o cites nothing).state
     (mark_after mk o (peer_answer s t o cites nothing).reply) new after

@@ -15,7 +15,7 @@ use Rattle.joint_machine.specs.Heaps.{IsLive, answer}
 use Rattle.joint_machine.specs.Peers.{Issued}
 use Rattle.joint_machine.specs.PeerReplay.{PeerReplay, Marking, Mirror, brought_to, mirrored, peer_answer}
 use Rattle.joint_machine.specs.Told.{nothing, references_of}
-use Rattle.joint_laws.specs.PeerInvariants.{IsPeerKept}
+use Rattle.joint_laws.specs.PeerInvariants.{PeerInvariant}
 use Rattle.row_heap.specs.Rows.{HeapRows}
 use Rattle.peer_heap.specs.Marks.{IsGoing, IsShaded, MarksAfter}
 use Rattle.peer_heap.specs.Mirroring.{IsRemoved, IsRenewed, weak_row, with_cleared, with_row, with_stood}
@@ -81,7 +81,7 @@ pub record MirrorsGoOn : Type 0 where
       → IsGoing (mirrored (state_of v m ms o n) k (Some snap) refs) mk w.rows head
   pub restoring : (v w : Rows) (m later : Option Mirror) (ms : List ℕ) (mk : Marking) (n before after h : ℕ)
       (g : HNum) (r : IsRenewed v h g w) → IsShaded true (λ k. k ≡ r.peer) v.rows before w.rows after
-      → IsLive v.rows.heap r.peer → IsPeerKept (state_of v m ms (Some mk) n)
+      → IsLive v.rows.heap r.peer → PeerInvariant (state_of v m ms (Some mk) n)
       → IsGoing (state_of v m ms (Some mk) n) mk v.rows before
       → IsGoing (state_of w later ms (brought_to (Some mk) r.peer) n)
       (record mk { brought = mk.brought ++ r.peer ∷ [] }) w.rows after

@@ -22,7 +22,7 @@ use Rattle.joint_machine.specs.Peers.{Issued, peer_of}
 use Rattle.joint_machine.specs.PeerReplay.{PeerReplay, Marking, opening_peer_replay, strong_peers}
 use Rattle.joint_machine.specs.Sides.{Side, AddsLawful, peer_rules, IsReplayed, step_made}
 use Rattle.joint_machine.specs.Told.{Told}
-use Rattle.joint_laws.specs.PeerInvariants.{IsPeerKept}
+use Rattle.joint_laws.specs.PeerInvariants.{PeerInvariant}
 use Rattle.marking_laws.specs.Marks.{EdgeNow}
 use Rattle.row_heap.specs.Rows.{HeapRows, opening_rows}
 use Rattle.row_marking.specs.Traces.{Blackens, IsGreyList, greys as grey_list, BlackensTo, Chained}
@@ -235,7 +235,7 @@ IsMarkingOf _ _ = ⊥
 -- cycle, and name handles that were issued; and references stand only where a cycle is mirrored
 pub record IsSide (rows : Rows) (o : Option OpenMarking) (markings : ℕ) (m : Mirrors) (stock : Stock) : Type 0 where
   pub replayed : IsReplayed peer_rules stock.entries (state_with stock.entries rows o markings m)
-  pub kept : IsPeerKept (state_with stock.entries rows o markings m)
+  pub kept : PeerInvariant (state_with stock.entries rows o markings m)
   pub room : rows.tabled + owed o + owes m ≤ stock.spare
   pub limit : length stock.entries + stock.spare ≤ u32_max
   pub few : markings ≤ length stock.entries

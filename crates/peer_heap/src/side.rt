@@ -9,7 +9,7 @@ ghost use Rattle.joint_machine.specs.Lines.{IsDriver, IsPeerThread};
 ghost use Rattle.joint_machine.specs.PeerReplay.{Marking as MarkingState, PeerAllows, row_of, table_target};
 ghost use Rattle.joint_machine.specs.Sides.{peer_rules, MayDraw, AreTaken, IsReplayed, step_made};
 ghost use Rattle.joint_machine.specs.Told.{Told, nothing};
-ghost use Rattle.joint_laws.specs.PeerInvariants.{IsPeerKept};
+ghost use Rattle.joint_laws.specs.PeerInvariants.{PeerInvariant};
 ghost use Rattle.global_handles.specs.Rows.{row_in, target_in};
 ghost use Rattle.peer_heap.specs.Rows.{number_of, row_as};
 ghost use Rattle.peer_heap.specs.Makings.{IsSideStep, MayDrawStep, MayStep, RefusesMarking, AddsStep};
@@ -128,7 +128,7 @@ impl PeerSide {
     pub fn recall_replays(&self)
         ensures replayed { IsReplayed peer_rules self.now.entries self.now.state }
         ensures taken { AreTaken peer_rules self.now.threads self.now.entries }
-        ensures kept { IsPeerKept self.now.state }
+        ensures kept { PeerInvariant self.now.state }
     {
         let _ = &self.entries;
     }

@@ -8,7 +8,7 @@ use Rattle.std.proofs.lemmas.List.Elements.{All-contains, Contains-append_cases}
 use Rattle.joint_machine.specs.Components.{End, between_nodes, circle, end_at, first_at, mirror_edges, node, temporary}
 use Rattle.joint_machine.specs.PeerReplay.{PeerReplay, strong_peers}
 use Rattle.joint_machine.proofs.Members.{at-Contains, Contains-flat_map_cases, Contains-map_cases, take-next}
-use Rattle.joint_laws.specs.PeerInvariants.{IsPeerKept}
+use Rattle.joint_laws.specs.PeerInvariants.{PeerInvariant}
 use Rattle.joint_laws.proofs.Circles.{circle-ends, first-there}
 use Rattle.joint_laws.proofs.Mirrors.{EndIs, comp, weight, end-is}
 use Rattle.joint_machine.specs.Peers.{Issued}
@@ -73,7 +73,7 @@ end-more nodes heavy temps (node i) l w = w
 end-more nodes heavy temps (temporary t) l w = omega (arith, l, w)
 
 -- a peer that an end is carried to is under a strong handle
-end-strong : (s : PeerReplay) (nodes : List Node) (heavy : ℕ) (e : End) (p : ℕ) → IsPeerKept s → AreHandlesStrong s nodes
+end-strong : (s : PeerReplay) (nodes : List Node) (heavy : ℕ) (e : End) (p : ℕ) → PeerInvariant s → AreHandlesStrong s nodes
     → IsEdgeEnd nodes heavy e → carried_end s.peers.issued nodes e ≡ node p → Contains (strong_peers s.peers.issued s.table) p
 end-strong s nodes heavy (node i) p k all w is =
     let n = strong-node s nodes i k all w in
@@ -81,7 +81,7 @@ end-strong s nodes heavy (node i) p k all w is =
     subst (Contains (strong_peers s.peers.issued s.table)) (sym (peer_of_node-is s nodes i n) ∙ same) n.listed
 end-strong s nodes heavy (temporary t) p k all w is = (let f : ⊥ = cc in absurd f)
 
-pub carried-strong : (s : PeerReplay) (nodes : List Node) (comps : List (List ℕ)) (heavy : ℕ) (pairs : List (ℕ × ℕ)) → IsPeerKept s → AreHandlesStrong s nodes
+pub carried-strong : (s : PeerReplay) (nodes : List Node) (comps : List (List ℕ)) (heavy : ℕ) (pairs : List (ℕ × ℕ)) → PeerInvariant s → AreHandlesStrong s nodes
     → IsListing comps heavy pairs → AreBridgeNodes nodes comps → AreEndsStrong s (carried_to_peers s.peers.issued nodes (mirror_edges comps pairs))
 carried-strong s nodes comps heavy pairs k all l members p end = elim end.1 [
   | inl c ↦ (

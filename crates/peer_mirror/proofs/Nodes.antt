@@ -13,7 +13,7 @@ use Rattle.joint_machine.specs.PeerReplay.{PeerReplay, TableRow, row_of, strong_
 use Rattle.joint_machine.proofs.Deciding.{none_some}
 use Rattle.joint_machine.proofs.Members.{Contains-at, Contains-flat_map, Contains-here}
 use Rattle.joint_machine.proofs.Numbered.{numbered-within}
-use Rattle.joint_laws.specs.PeerInvariants.{IsPeerKept, IsTabled, IsIssued}
+use Rattle.joint_laws.specs.PeerInvariants.{PeerInvariant, IsTabled, IsIssued}
 use Rattle.joint_laws.proofs.MarkingKeeping.{strong-listed}
 use Rattle.bridge_graph.specs.declared.graph.Node.{Node}
 use Rattle.bridge_graph.specs.Handles.{handle_at, handles_of}
@@ -37,14 +37,14 @@ some-there None e = absurd (let f : ⊥ = cc in f)
 some-there (Some h) e = (h, refl)
 
 -- a handle of the table was issued
-issued-of : (s : PeerReplay) → IsPeerKept s → (h : ℕ) (row : TableRow) → IsTabled s.table h row → (i : Issued) × IsIssued s.peers.issued h i
+issued-of : (s : PeerReplay) → PeerInvariant s → (h : ℕ) (row : TableRow) → IsTabled s.table h row → (i : Issued) × IsIssued s.peers.issued h i
 issued-of s k zero row t = absurd (none_some (Some row) t)
 issued-of s k (suc n) row t =
     let within = numbered-within s.table (suc n) (Some row) t in
     let d : Issued = record { peer = 0; hold = held; strength = strong } in
     (get_or s.peers.issued n d, slice_get-get_or s.peers.issued n d (omega (arith, within.1, k.handles.places)))
 
-pub strong-node : (s : PeerReplay) (nodes : List Node) (i : ℕ) → IsPeerKept s → AreHandlesStrong s nodes → IsBridgeNode nodes i → IsStrongNode s nodes i
+pub strong-node : (s : PeerReplay) (nodes : List Node) (i : ℕ) → PeerInvariant s → AreHandlesStrong s nodes → IsBridgeNode nodes i → IsStrongNode s nodes i
 strong-node s nodes i k all b =
     let h = some-there b.node.handle b.held in
     let there : Contains (handles_of nodes) h.0 = Contains-flat_map (λ (n : Node). option_to_list n.handle) nodes b.node h.0

@@ -21,7 +21,7 @@ use Rattle.joint_machine.specs.Replaying.{AllMayCome, replayed}
 use Rattle.joint_machine.specs.Run.{JointStep}
 use Rattle.joint_machine.specs.Told.{Told, Noted, references_of}
 use Rattle.joint_machine.proofs.Deciding.{none_some}
-use Rattle.joint_laws.specs.LinkedInvariants.{IsDriverKept}
+use Rattle.joint_laws.specs.LinkedInvariants.{DriverInvariant}
 use Rattle.joint_laws.specs.ReadingLaws.{without_aside}
 use Rattle.joint_laws.proofs.JointRuns.{Stands, state_of, Enters, by_step, at_rest, enters}
 use Rattle.joint_laws.proofs.ReadsAside.{without-cons}
@@ -48,7 +48,7 @@ mirrors s w n may k e j at = subst (λ (z : Joint). (next : List (End × End)) �
     (by n.entry.made.caller (subst (λ o. IsEvent n.entry.made.caller o) e may.event)
     (subst (λ o. CallerAllows s.control s.managed.managed s.peer.peers.issued n.entry.made.caller n.entry.made.index o n.entry.made.reply n.entry.made.cites n.told) e may.order))
   where
-    at-stand : (d : Stand) (cites : Option ℕ) (told : Told) → IsDriverKept s.managed s.peer d → MayMirrorNow d s.managed.managed s.peer.peers.issued k.0 cites told
+    at-stand : (d : Stand) (cites : Option ℕ) (told : Told) → DriverInvariant s.managed s.peer d → MayMirrorNow d s.managed.managed s.peer.peers.issued k.0 cites told
         → (next : List (End × End)) × AreMirrored (state_of s w).graph next
     at-stand (contracted o comps heavy xrefs) cites (references_of refs) d m = (
       refs,

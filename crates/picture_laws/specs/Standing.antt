@@ -53,4 +53,5 @@ SeenReferencesStand = (h : Finished) (n : ℕ) (v : View) → n ≤ length h.ent
 
 -- what a mirror adds is one list
 abbrev pub MirroredAreOne : Type 0
-MirroredAreOne = (g : Graph) (refs others : List (End × End)) → AreMirrored g refs → AreMirrored g others → refs ≡ others
+MirroredAreOne = (g : Graph) (refs others : List (End × End))
+    → AreMirrored g refs → AreMirrored g others → refs ≡ others

@@ -29,12 +29,12 @@ use Rattle.joint_machine.specs.Told.{Told, Noted, snap_of, resolution_of}
 use Rattle.joint_machine.proofs.Joining.{slice_get-set_other, slice_get-set_same}
 use Rattle.joint_machine.proofs.Numbered.{slot-Contains}
 use Rattle.joint_laws.specs.Afterwards.{reading_at}
-use Rattle.joint_laws.specs.ManagedInvariants.{IsManagedKept}
+use Rattle.joint_laws.specs.ManagedInvariants.{ManagedInvariant}
 use Rattle.joint_laws.specs.ReadingLaws.{IsLawfulReading, pins_by, without_aside}
 use Rattle.joint_laws.specs.States.{state_at}
 use Rattle.joint_laws.proofs.Everywhere.{everywhere}
 use Rattle.joint_laws.proofs.KeptPins.{entry-pins, read-pins}
-use Rattle.joint_laws.proofs.LinkedEntries.{Of, AreKept-entry, AreKept-opening}
+use Rattle.joint_laws.proofs.LinkedEntries.{Of, BothInvariants-entry, BothInvariants-opening}
 use Rattle.joint_laws.proofs.ReadingsGoneAfter.{entry-by, reading-after, reading-comes, reading-take}
 use Rattle.joint_laws.proofs.ReadsAside.{reading_is_lawful, reading_leads_to_same}
 use Rattle.pin_laws.specs.Pinned.{GivenObjectsLive, GivesAt, IsPinnedAt, LinkedPinsHold, NoTakeBetween, NoneFreesPinned, PinnedObjectsLive}
@@ -166,10 +166,10 @@ module _ (noted : List Noted) (w : IsLawfulReading noted) where
   same : (j : ℕ) → (state_at (standing j) (length (standing j))).managed ≡ (reading_at noted j).managed
   same j = ap (λ ns. (replayed opening_linkage ns).managed) (take_all (length (standing j)) (standing j) (omega arith)) ∙ sym (reading_leads_to_same (take j noted) (lawful j)).managed
 
-  kept : (j : ℕ) → IsManagedKept (reading_at noted j).managed.managed
+  kept : (j : ℕ) → ManagedInvariant (reading_at noted j).managed.managed
   kept j =
-      let k = everywhere Of AreKept-opening AreKept-entry (standing j) (reading_is_lawful (take j noted) (lawful j)) (length (standing j)) in
-      subst (λ (z : ManagedReplay). IsManagedKept z.managed) (same j) k.managed.managed
+      let k = everywhere Of BothInvariants-opening BothInvariants-entry (standing j) (reading_is_lawful (take j noted) (lawful j)) (length (standing j)) in
+      subst (λ (z : ManagedReplay). ManagedInvariant z.managed) (same j) k.managed.managed
 
   module _ (i t m : ℕ) (g : GivesAt noted i t m) where
     pin-since : (more : ℕ) → NoTakeBetween noted t i (suc i + more) → slot (pins_of (reading_at noted (suc i + more))) t ≡ Some m

@@ -22,7 +22,7 @@ use Rattle.joint_machine.specs.Told.{Noted}
 use Rattle.joint_machine.proofs.Deciding.{and-true}
 use Rattle.entry_reader.specs.Meant.{IsMeant}
 use Rattle.joint_laws.specs.ReadingLaws.{IsLawfulReading, without_aside}
-use Rattle.joint_laws.proofs.LinkedEntries.{AreKept-opening}
+use Rattle.joint_laws.proofs.LinkedEntries.{BothInvariants-opening}
 use Rattle.joint_laws.proofs.PlainReplies.{IsPlain}
 use Rattle.joint_laws.proofs.ReadsAside.{reading_is_lawful, reading_leads_to_same}
 use Rattle.report_reader.specs.Reading.{Ends, SpansRun, ends_after, ends_of, no_ends}
@@ -73,7 +73,7 @@ with_aside e last (n ∷ ns) r = by (with_aside e last ns) (with_aside (ends_aft
 linked-runs : (h : Finished) (noted : List Noted) → IsLinkedBy h noted → Runs no_ends (ends_at (linked_end noted)) h.entries
 linked-runs h noted l =
     let w : IsLawfulReading noted = (noted, (managed_end noted).cells, l.lawful) in
-    let k = runs opening_linkage (without_aside noted) AreKept-opening (reading_is_lawful noted w) in
+    let k = runs opening_linkage (without_aside noted) BothInvariants-opening (reading_is_lawful noted w) in
     let same = reading_leads_to_same noted w in
     let m = same.managed in
     let p = same.peer in

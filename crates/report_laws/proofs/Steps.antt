@@ -22,7 +22,7 @@ use Rattle.joint_machine.specs.Told.{Told, Noted, nothing, resolution_of, snap_o
 use Rattle.entry_reader.specs.Meant.{IsMeant}
 use Rattle.joint_laws.proofs.FreedRows.{FreesRows, answer-freed}
 use Rattle.joint_laws.proofs.JointSteps.{may-end}
-use Rattle.joint_laws.proofs.LinkedEntries.{AreKept-entry, Of, entry}
+use Rattle.joint_laws.proofs.LinkedEntries.{BothInvariants-entry, Of, entry}
 use Rattle.joint_laws.proofs.PeerEntries.{refused-by}
 use Rattle.joint_laws.proofs.PeerFreed.{entry-freed}
 use Rattle.joint_laws.proofs.PlainReplies.{IsPlain}
@@ -195,7 +195,7 @@ pub runs : (s : Linkage) (ns : List Noted) → Of s → AllMayCome s ns → Runs
 runs s [] k w = record { spans = tt; ends = refl; meant = All-nil _ }
 runs s (n ∷ ns) k w =
     let g = step s n w.0 k in
-    let rest = runs (linkage_after s n) ns (AreKept-entry s n w.0 k) w.1 in
+    let rest = runs (linkage_after s n) ns (BothInvariants-entry s n w.0 k) w.1 in
     let managed = g.managed in
     let peers = g.peers in
     let notices = g.notices in

@@ -17,7 +17,7 @@ use Rattle.joint_machine.specs.Sides.{AddsLawful, managed_rules, step_made}
 use Rattle.joint_machine.specs.Told.{Noted, Told, nothing}
 use Rattle.joint_machine.specs.PinsTold.{no_pins}
 use Rattle.joint_laws.specs.Spans.{TellsNamed}
-use Rattle.known_laws.specs.Driving.{IsPastKept}
+use Rattle.known_laws.specs.Driving.{PastInvariant}
 use Rattle.known_laws.specs.Known.{pinned}
 use Rattle.known_laws.proofs.Conditions.{unmirrored_may_be_abandoned}
 use Rattle.check_laws.specs.Behind.{state_of}
@@ -53,7 +53,7 @@ pub record Unmirrored (s : Linkage) (o : Kept) : Type 0 where
   pub number : cycle.number ≡ o.cycle.0
   pub data_is : AbandonData s.control.stand o.cycle.0
 
-unmirrored : (s : Linkage) (o : Kept) → IsPastKept (pinned s no_pins) → AbandonTurn s.control.stand → HasCycle s.control.stand o → Unmirrored s o
+unmirrored : (s : Linkage) (o : Kept) → PastInvariant (pinned s no_pins) → AbandonTurn s.control.stand → HasCycle s.control.stand o → Unmirrored s o
 unmirrored s o k turn has = by s.control.stand refl turn has
   where
     so : (st : Stand) → s.control.stand ≡ st → (c : OpenCycle) → s.managed.managed.cycle ≡ Some c → c.number ≡ o.cycle.0 → AbandonData st o.cycle.0 → Unmirrored s o

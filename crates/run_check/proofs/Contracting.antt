@@ -23,7 +23,7 @@ use Rattle.joint_machine.specs.Told.{Noted, Told, contraction_of}
 use Rattle.joint_machine.specs.PinsTold.{no_pins, with_pins}
 use Rattle.joint_laws.specs.LinkedInvariants.{given_at}
 use Rattle.joint_laws.specs.Spans.{TellsNamed}
-use Rattle.known_laws.specs.Driving.{IsPastKept}
+use Rattle.known_laws.specs.Driving.{PastInvariant}
 use Rattle.known_laws.specs.Known.{pinned}
 use Rattle.known_laws.proofs.Conditions.{snapped_may_be_contracted}
 use Rattle.known_laws.proofs.Pinned.{contraction_to}

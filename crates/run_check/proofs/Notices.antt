@@ -16,7 +16,7 @@ use Rattle.joint_machine.specs.ManagedReplay.{ManagedAllows, ManagedReplay, mana
 use Rattle.joint_machine.specs.Run.{thread_number}
 use Rattle.joint_machine.specs.Heaps.{place}
 use Rattle.joint_machine.specs.Told.{Noted, Told, contraction_of, nothing, phase_of, resolution_of, snap_of}
-use Rattle.joint_laws.specs.ManagedInvariants.{IsReplayKept}
+use Rattle.joint_laws.specs.ManagedInvariants.{ReplayInvariant}
 use Rattle.joint_laws.proofs.ManagedMoves.{managed_line-goes_on}
 use Rattle.joint_laws.proofs.NoticesTold.{notices-go}
 use Rattle.check_laws.specs.Behind.{AllInOrder, RepliesBehind, SideReplies, state_of}
@@ -44,11 +44,11 @@ line-notices s t (act.Read k) e = absurd (true≢false e)
 line-notices s t (act.Await k) e = absurd (true≢false e)
 line-notices s t a e = (line-leaves s t a tt e).notices
 
-stepped-few : (s : ManagedReplay) (c : Thread) (o : Op) (told : Told) → IsReplayKept s → IsEvent c o → is_peer_event c o ≡ false
+stepped-few : (s : ManagedReplay) (c : Thread) (o : Op) (told : Told) → ReplayInvariant s → IsEvent c o → is_peer_event c o ≡ false
     → is_read o ≡ false → IsStepped o → ManagedAllows s o told → AreFew s.managed → AreFew (managed_answer s c o told).state.managed
 stepped-few s c o told k v p e w a l = few-same s.managed (managed_answer s c o told).state.managed (stepped-leaves s c o told w e).notices (stepped-goes_on s c o told k v p w a).freed l
 
-few-on : (s : ManagedReplay) (c : Thread) (o : Op) (told : Told) → IsReplayKept s → IsEvent c o → is_peer_event c o ≡ false
+few-on : (s : ManagedReplay) (c : Thread) (o : Op) (told : Told) → ReplayInvariant s → IsEvent c o → is_peer_event c o ≡ false
     → is_read o ≡ false → ManagedAllows s o told → AreFew s.managed → AreFew (managed_answer s c o told).state.managed
 few-on s c (op.Line x) told k v p e a l =
     few-same s.managed (managed_answer s c (op.Line x) told).state.managed (line-notices s.managed (thread_number c) x e)
@@ -69,7 +69,7 @@ few-on s c (op.Refused z) (phase_of phase) k v p e a l = l
 few-on s c (op.Refused z) told k v p e a l = absurd a
 few-on s c o told k v p e a l = stepped-few s c o told k v p e tt a l
 
-few-by : (s : Linkage) (n : Noted) (b : Bool) → is_peer_event n.entry.made.caller n.entry.made.op ≡ b → IsReplayKept s.managed
+few-by : (s : Linkage) (n : Noted) (b : Bool) → is_peer_event n.entry.made.caller n.entry.made.op ≡ b → ReplayInvariant s.managed
     → IsEvent n.entry.made.caller n.entry.made.op → is_read n.entry.made.op ≡ false → SideLawful b s n.entry.made n.told
     → AreFew s.managed.managed → AreFew (managed_after s.managed n.entry.made n.told b).managed
 few-by s n true p k v e w l = l

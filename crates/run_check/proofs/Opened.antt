@@ -10,7 +10,7 @@ use Rattle.joint_machine.specs.ManagedReplay.{ManagedReplay}
 use Rattle.joint_machine.proofs.HeapLemmas.{candidates_of-open}
 use Rattle.joint_laws.specs.LinkedInvariants.{given_at}
 use Rattle.joint_machine.specs.PinsTold.{no_pins}
-use Rattle.known_laws.specs.Driving.{IsPastKept}
+use Rattle.known_laws.specs.Driving.{PastInvariant}
 use Rattle.known_laws.specs.Known.{pinned}
 use Rattle.known_laws.specs.Pasts.{HasSameDeadPart}
 use Rattle.bridge_graph.specs.Handles.{handles_of}
@@ -31,7 +31,7 @@ pub same-dead : (t : Managed) → HasSameDeadPart t t
 same-dead t = record { cycle = refl; handles = λ c e m d. refl; fields = λ c e m d. refl; contraction = λ c e comps heavy xrefs k. k }
 
 -- a candidate in some place has a bridge node behind as many others
-pub candidate-listed : (s : Linkage) (o : Kept) (a : IsOpenHere s o) → IsPastKept (pinned s no_pins) → (n h : ℕ) → IsCandidateHandle s.managed.managed n h → n < length (handles_of o.graph.nodes)
+pub candidate-listed : (s : Linkage) (o : Kept) (a : IsOpenHere s o) → PastInvariant (pinned s no_pins) → (n h : ℕ) → IsCandidateHandle s.managed.managed n h → n < length (handles_of o.graph.nodes)
 candidate-listed s o a k n h c =
     let t = (pinned s no_pins).managed.managed in
     let graph : IsDeadGraph t a.cycle.dead o.graph = record { numbers = a.graph.numbers; handles = a.graph.handles; edges = a.graph.edges } in

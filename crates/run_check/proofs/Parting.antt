@@ -14,7 +14,7 @@ use Rattle.joint_machine.specs.PeerReplay.{Marking}
 use Rattle.joint_machine.specs.PinsTold.{no_pins}
 use Rattle.joint_machine.proofs.Deciding.{none_some}
 use Rattle.joint_machine.proofs.HeapLemmas.{candidates_of-open}
-use Rattle.known_laws.specs.Driving.{IsPastKept}
+use Rattle.known_laws.specs.Driving.{PastInvariant}
 use Rattle.known_laws.specs.Known.{pinned}
 use Rattle.known_laws.proofs.Conditions.{idle_is_closed}
 use Rattle.bridge_graph.specs.declared.graph.Node.{Node}
@@ -56,7 +56,7 @@ handle-or : Option ℕ → ℕ
 handle-or None = 0
 handle-or (Some h) = h
 
-module _ (s : Linkage) (k : IsPastKept (pinned s no_pins)) where
+module _ (s : Linkage) (k : PastInvariant (pinned s no_pins)) where
   abbrev t : Managed
   t = (pinned s no_pins).managed.managed
 

@@ -11,8 +11,8 @@ use Rattle.joint_machine.specs.Lines.{IsDriver, IsEvent}
 use Rattle.joint_machine.specs.Linked.{Linkage}
 use Rattle.joint_machine.specs.Told.{Noted}
 use Rattle.joint_machine.specs.PinsTold.{no_pins}
-use Rattle.joint_laws.specs.ManagedInvariants.{IsReplayKept}
-use Rattle.known_laws.specs.Driving.{IsPastKept}
+use Rattle.joint_laws.specs.ManagedInvariants.{ReplayInvariant}
+use Rattle.known_laws.specs.Driving.{PastInvariant}
 use Rattle.known_laws.specs.Known.{pinned}
 use Rattle.check_laws.specs.Behind.{AllInOrder, state_of}
 use Rattle.check_laws.specs.Order.{CitesBy, CitesSo, IsTurn}
@@ -24,10 +24,10 @@ use Rattle.check_laws.proofs.Turned.{all_come}
 use Rattle.joint_machine.specs.Sides.{step_made}
 use Rattle.run_check.specs.Judging.{IsSoFar}
 
-pub past_kept : (h : Finished) (past : List Noted) → IsSoFar h past → IsPastKept (pinned (state_of past) no_pins)
+pub past_kept : (h : Finished) (past : List Noted) → IsSoFar h past → PastInvariant (pinned (state_of past) no_pins)
 past_kept h past f = (pasts_known h past f.numbers f.order).kept
 
-pub replay_kept : (h : Finished) (past : List Noted) → AllInOrder h past → IsReplayKept (state_of past).managed
+pub replay_kept : (h : Finished) (past : List Noted) → AllInOrder h past → ReplayInvariant (state_of past).managed
 replay_kept h past o = kept past (all_come h past o) (stand_behind past (all_read h past o))
 
 -- the driver's events

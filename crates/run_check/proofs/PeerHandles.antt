@@ -22,7 +22,7 @@ use Rattle.joint_machine.specs.Sides.{AddsLawful, MayDraw, peer_rules}
 use Rattle.joint_machine.specs.Told.{Answer, Noted, nothing}
 use Rattle.joint_machine.specs.PinsTold.{no_pins}
 use Rattle.joint_laws.specs.LinkedInvariants.{given_at}
-use Rattle.known_laws.specs.Driving.{IsPastKept}
+use Rattle.known_laws.specs.Driving.{PastInvariant}
 use Rattle.known_laws.specs.Known.{pinned}
 use Rattle.known_laws.proofs.Conditions.{all_may_be_cleared, next_may_be_restored, next_may_be_weakened}
 use Rattle.check_laws.specs.Behind.{RepliesBehind, SideReplies, state_of}
@@ -47,7 +47,7 @@ use Rattle.run_check.proofs.PeerEntries.{Keeps, compared, known}
 
 -- what the past keeps, and its managed objects
 pub kept-at : (h : Finished) (past : List Noted) (m : Made) (old : Replay) (ready : MayReply h past old m) → m.caller ≡ C → (o : Op) → m.op ≡ o → is_peer_event C o ≡ true
-    → IsPastKept (pinned (state_of past) no_pins)
+    → PastInvariant (pinned (state_of past) no_pins)
 kept-at h past m old ready driver o is on = (known h past m old ready (ap (λ t. is_peer_event t m.op) driver ∙ (ap (λ x. is_peer_event C x) is ∙ on))).kept
 
 -- where something follows, something is kept
@@ -80,7 +80,7 @@ module _ (h : Finished) (m : Made) (old : Replay) (g : HNum) (is : m.op ≡ op.W
     weaken-at : AtWeakening (state_of past).control.stand (state_of past).managed.managed g.0 m.cites
     weaken-at = at-weakening _ _ g.0 m.cites (turn-is h past m old ready (op.Weaken g) is weaken-driver) (cites-is h past m old ready (op.Weaken g) is weaken-driver)
 
-    weaken-kept : IsPastKept (pinned (state_of past) no_pins)
+    weaken-kept : PastInvariant (pinned (state_of past) no_pins)
     weaken-kept = kept-at h past m old ready weaken-driver (op.Weaken g) is refl
 
     left-fits : LeftFits (weakening weaken-at.opened weaken-at.count weaken-at.weakened false) (length (candidates_of (state_of past).managed.managed)) old.peers.reserve.left
@@ -169,7 +169,7 @@ module _ (h : Finished) (m : Made) (old : Replay) (g : HNum) (is : m.op ≡ op.R
     restore-cites : m.cites ≡ None
     restore-cites = cites-is h past m old ready (op.Restore g) is restore-driver
 
-    restore-kept : IsPastKept (pinned (state_of past) no_pins)
+    restore-kept : PastInvariant (pinned (state_of past) no_pins)
     restore-kept = kept-at h past m old ready restore-driver (op.Restore g) is refl
 
   pub restore-may : ((past : List Noted) × MayReply h past old m) → MayRestore old.peers.state g.0
@@ -265,7 +265,7 @@ module _ (h : Finished) (m : Made) (old : Replay) (k : Cycle) (is : m.op ≡ op.
     clear-cites : m.cites ≡ None
     clear-cites = cites-is h past m old ready (op.Clear k) is clear-driver
 
-    clear-kept : IsPastKept (pinned (state_of past) no_pins)
+    clear-kept : PastInvariant (pinned (state_of past) no_pins)
     clear-kept = kept-at h past m old ready clear-driver (op.Clear k) is refl
 
     -- the cycle that is kept is the driver's

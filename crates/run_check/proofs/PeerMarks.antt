@@ -26,7 +26,7 @@ use Rattle.joint_machine.specs.PinsTold.{no_pins}
 use Rattle.joint_laws.specs.LinkedInvariants.{given_at}
 use Rattle.joint_laws.proofs.SpansTold.{HasSpan}
 use Rattle.joint_laws.specs.Spans.{IsStretch, TellsNamed}
-use Rattle.known_laws.specs.Driving.{IsPastKept}
+use Rattle.known_laws.specs.Driving.{PastInvariant}
 use Rattle.known_laws.specs.Known.{pinned}
 use Rattle.known_laws.proofs.Conditions.{marked_is_the_drivers}
 use Rattle.caller_turns.specs.Shapes.{next_place}
@@ -312,7 +312,7 @@ at-sweeping (marked o) c mk t = record {
 at-sweeping _ c mk t = absurd t
 
 -- a marking is open where it does
-sweeping-open : (s : Linkage) → IsPastKept (pinned s no_pins) → (stand : Stand) → s.control.stand ≡ stand → (c : ℕ) (x : Option Marking) → s.peer.marking ≡ x → SweepTurn stand c x → x ≡ None → ⊥
+sweeping-open : (s : Linkage) → PastInvariant (pinned s no_pins) → (stand : Stand) → s.control.stand ≡ stand → (c : ℕ) (x : Option Marking) → s.peer.marking ≡ x → SweepTurn stand c x → x ≡ None → ⊥
 sweeping-open s k (weakening o count weakened swept) e c None f t n = t
 sweeping-open s k (weakening o count weakened swept) e c (Some mk) f t n = (let g : ⊥ = cc in g)
 sweeping-open s k (marked o) e c x f t n = (let w = marked_is_the_drivers (pinned s no_pins) k o e in let g : None ≡ Some w.0 = sym n ∙ (sym f ∙ w.1) in cc)

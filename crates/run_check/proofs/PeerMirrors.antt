@@ -20,7 +20,7 @@ use Rattle.joint_machine.specs.Told.{Noted, references_of}
 use Rattle.joint_machine.specs.PinsTold.{no_pins}
 use Rattle.joint_laws.specs.LinkedInvariants.{given_at}
 use Rattle.known_laws.specs.Conditions.{MayBeInstalled}
-use Rattle.known_laws.specs.Driving.{IsPastKept}
+use Rattle.known_laws.specs.Driving.{PastInvariant}
 use Rattle.known_laws.specs.Known.{pinned}
 use Rattle.known_laws.proofs.Conditions.{contracted_may_be_installed}
 use Rattle.caller_turns.specs.Shapes.{next_place}
@@ -67,7 +67,7 @@ module _ (h : Finished) (m : Made) (old : Replay) (k : Cycle) (is : m.op ≡ op.
     mirror-at : AtContracted (state_of past).control.stand k.0 m.cites
     mirror-at = at-contracted _ k.0 m.cites (cites-is h past m old ready (op.Mirror k) is mirror-driver)
 
-    mirror-kept : IsPastKept (pinned (state_of past) no_pins)
+    mirror-kept : PastInvariant (pinned (state_of past) no_pins)
     mirror-kept = kept-at h past m old ready mirror-driver (op.Mirror k) is refl
 
     -- the cycle is kept, with its components

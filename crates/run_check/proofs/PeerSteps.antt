@@ -18,7 +18,7 @@ use Rattle.joint_machine.specs.Sides.{AddsLawful, MayDraw, TakesPeer, peer_rules
 use Rattle.joint_machine.specs.Told.{Noted, Told, nothing}
 use Rattle.joint_machine.specs.PinsTold.{no_pins}
 use Rattle.joint_laws.proofs.SpansTold.{HasSpan}
-use Rattle.known_laws.specs.Driving.{IsPastKept}
+use Rattle.known_laws.specs.Driving.{PastInvariant}
 use Rattle.known_laws.specs.Known.{pinned}
 use Rattle.known_laws.proofs.Conditions.{given_may_be_released, met_may_be_released}
 use Rattle.check_laws.specs.Behind.{NamesSo, state_of}
@@ -121,7 +121,7 @@ thread-stands k (P u) n l o r told c = refl
 thread-stands k C n l o r told c = absurd (c refl)
 
 -- a release is of a handle that the thread has given up, or met and not taken
-released : (s : Linkage) → IsPastKept (pinned s no_pins) → (u h : ℕ) (cites : Option ℕ) → ReleaseCites (doing_at s.control u) h cites → MayRelease s.peer h
+released : (s : Linkage) → PastInvariant (pinned s no_pins) → (u h : ℕ) (cites : Option ℕ) → ReleaseCites (doing_at s.control u) h cites → MayRelease s.peer h
 released s k u h cites c = by (doing_at s.control u) refl c
   where
     by : (d : Doing) → doing_at s.control u ≡ d → ReleaseCites d h cites → MayRelease s.peer h
@@ -129,7 +129,7 @@ released s k u h cites c = by (doing_at s.control u) refl c
     by (met n line g) e c = subst (MayRelease s.peer) (sym c.1) (met_may_be_released (pinned s no_pins) k u n line g e)
     by _ e c = absurd c
 
-step-allowed : (s : Linkage) → IsPastKept (pinned s no_pins) → (t : Thread) (o : Op) (cites : Option ℕ) → IsPeerStep t o → CitesBy s t o cites → PeerAllows s.peer t o cites nothing
+step-allowed : (s : Linkage) → PastInvariant (pinned s no_pins) → (t : Thread) (o : Op) (cites : Option ℕ) → IsPeerStep t o → CitesBy s t o cites → PeerAllows s.peer t o cites nothing
 step-allowed s k t (op.Line (act.Slice n)) cites p c = absurd p.2
 step-allowed s k t (op.Line a) cites p c = tt
 step-allowed s k t (op.Make sort n) cites p c = tt

@@ -10,7 +10,7 @@ use Rattle.joint_machine.specs.Heaps.{slot}
 use Rattle.joint_machine.specs.Managed.{Managed}
 use Rattle.joint_machine.specs.PinsTold.{no_pins}
 use Rattle.joint_machine.proofs.Numbered.{Contains-set_cases, slot-Contains}
-use Rattle.joint_laws.specs.ManagedInvariants.{IsManagedKept}
+use Rattle.joint_laws.specs.ManagedInvariants.{ManagedInvariant}
 use Rattle.known_laws.specs.Known.{PinsStand}
 use Rattle.known_laws.proofs.Pinned.{none_stand, own_stand}
 use Rattle.managed_heap.specs.Pinned.{pin_given, pins_given}
@@ -34,7 +34,7 @@ emptied (x ∷ xs) zero e = ap (λ z. z ∷ xs) (sym e)
 emptied (x ∷ xs) (suc t) e = ap (λ z. x ∷ z) (emptied xs t e)
 
 -- a thread's own pin stands
-pub pin_stands : (s : Managed) → IsManagedKept s → (t : ℕ) (pin : Option MNum) → slot s.pins t ≡ number_or_none pin → PinsStand s (pin_given t pin)
+pub pin_stands : (s : Managed) → ManagedInvariant s → (t : ℕ) (pin : Option MNum) → slot s.pins t ≡ number_or_none pin → PinsStand s (pin_given t pin)
 pin_stands s k t pin e = record {
   live = λ m c. elim (Contains-set_cases no_pins t (number_or_none pin) (Some m) c) [
     | inl n ↦ (none_stand s).live m n

@@ -25,7 +25,7 @@ use Rattle.joint_machine.specs.PinsTold.{no_pins}
 use Rattle.joint_machine.proofs.Deciding.{none_some}
 use Rattle.joint_laws.specs.LinkedInvariants.{given_at}
 use Rattle.joint_laws.specs.Spans.{TellsNamed}
-use Rattle.known_laws.specs.Driving.{IsPastKept}
+use Rattle.known_laws.specs.Driving.{PastInvariant}
 use Rattle.known_laws.specs.Known.{pinned}
 use Rattle.known_laws.specs.PastEntries.{TellsPlainly}
 use Rattle.known_laws.proofs.Conditions.{refused_may_be_told}

@@ -24,7 +24,7 @@ use Rattle.joint_machine.specs.PinsTold.{no_pins}
 use Rattle.joint_machine.proofs.Deciding.{none_some}
 use Rattle.joint_laws.specs.LinkedInvariants.{given_at}
 use Rattle.joint_laws.specs.Spans.{TellsNamed}
-use Rattle.known_laws.specs.Driving.{IsPastKept}
+use Rattle.known_laws.specs.Driving.{PastInvariant}
 use Rattle.known_laws.specs.Known.{pinned}
 use Rattle.known_laws.proofs.Conditions.{restored_are_new, restored_may_be_resolved}
 use Rattle.check_laws.specs.Behind.{state_of}
@@ -79,7 +79,7 @@ all_restored s o k cites turn c has given = by s.control.stand refl turn c has g
     by (control.restoring p answers) e t w h g = absurd t
 
 -- what the call asks for
-pub may_close : (s : Linkage) → IsPastKept (pinned s no_pins) → (o : OpenSnap) (alive : List (Option HNum)) (clear : ℕ)
+pub may_close : (s : Linkage) → PastInvariant (pinned s no_pins) → (o : OpenSnap) (alive : List (Option HNum)) (clear : ℕ)
     → s.control.stand ≡ control.restored o (answers_of alive) clear → (r : ManagedReplay) → r.managed.cycle ≡ s.managed.managed.cycle
     → r.adopted ≡ s.managed.adopted → MayClose r alive
 may_close s k o alive clear stood r same taken =
@@ -90,7 +90,7 @@ may_close s k o alive clear stood r same taken =
     }
 
 -- the driver's cycle has its number
-number_is : (s : Linkage) → IsPastKept (pinned s no_pins) → (o : OpenSnap) (answers : List Answer) (clear : ℕ)
+number_is : (s : Linkage) → PastInvariant (pinned s no_pins) → (o : OpenSnap) (answers : List Answer) (clear : ℕ)
     → s.control.stand ≡ control.restored o answers clear → (c : OpenCycle) → s.managed.managed.cycle ≡ Some c → c.number ≡ o.cycle
 number_is s k o answers clear stood c e =
     let w = restored_may_be_resolved (pinned s no_pins) k o answers clear stood in

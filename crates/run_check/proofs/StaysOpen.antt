@@ -8,7 +8,7 @@ use Rattle.joint_machine.specs.Linked.{Linkage}
 use Rattle.joint_machine.specs.Managed.{Managed, OpenCycle, candidates_of, handle_of}
 use Rattle.joint_machine.proofs.Members.{Contains-at, Contains-here, Contains-there}
 use Rattle.joint_laws.specs.LinkedInvariants.{given_at}
-use Rattle.joint_laws.specs.ManagedInvariants.{IsManagedKept}
+use Rattle.joint_laws.specs.ManagedInvariants.{ManagedInvariant}
 use Rattle.joint_laws.proofs.ManagedEntries.{handle-same}
 use Rattle.joint_laws.proofs.ManagedKeeping.{cut_on, dead-fields, dead-held}
 use Rattle.joint_laws.proofs.ManagedMoves.{GoesOn}
@@ -29,7 +29,7 @@ record IsAsBefore (s t : Managed) (m : ℕ) : Type 0 where
   handle : handle_of t m ≡ handle_of s m
   fields : fields_of t.heap m ≡ fields_of s.heap m
 
-module _ (s t : Managed) (k : IsManagedKept s) (g : GoesOn s t) (c : OpenCycle) (e : s.cycle ≡ Some c) where
+module _ (s t : Managed) (k : ManagedInvariant s) (g : GoesOn s t) (c : OpenCycle) (e : s.cycle ≡ Some c) where
   row_stays : (m : ℕ) → Contains c.dead m → IsAsBefore s t m
   row_stays m d =
       let l = (k.dead c e).live m d in
@@ -54,7 +54,7 @@ module _ (s t : Managed) (k : IsManagedKept s) (g : GoesOn s t) (c : OpenCycle) 
   }
 
 -- so what is kept of the cycle follows
-module _ (s t : Linkage) (k : IsManagedKept s.managed.managed) (g : GoesOn s.managed.managed t.managed.managed) (same : t.control.stand ≡ s.control.stand) where
+module _ (s t : Linkage) (k : ManagedInvariant s.managed.managed) (g : GoesOn s.managed.managed t.managed.managed) (same : t.control.stand ≡ s.control.stand) where
   pub cycle_stays : (o : Option Kept) → CycleFollows s o → CycleFollows t o
   cycle_stays None w = same ∙ w
   cycle_stays (Some o) w = record {

@@ -26,12 +26,12 @@ use Rattle.joint_machine.specs.Managed.{Managed}
 use Rattle.joint_machine.specs.ManagedReplay.{ManagedAllows, ManagedReplay, managed_answer}
 use Rattle.joint_machine.specs.Run.{thread_number}
 use Rattle.joint_machine.specs.Told.{Told, nothing}
-use Rattle.joint_laws.specs.ManagedInvariants.{IsReplayKept}
+use Rattle.joint_laws.specs.ManagedInvariants.{ReplayInvariant}
 use Rattle.joint_laws.specs.Spans.{TellsNamed, TellsNoneFreed}
 use Rattle.joint_laws.proofs.ManagedMoves.{GoesOn, managed_line-goes_on}
 use Rattle.joint_laws.proofs.PlainReplies.{IsPlain}
 use Rattle.joint_laws.proofs.SpansTold.{HasSpan, IsPlainEntry, plain-entry}
-use Rattle.known_laws.specs.Driving.{IsPastKept}
+use Rattle.known_laws.specs.Driving.{PastInvariant}
 use Rattle.known_laws.specs.Known.{pinned}
 use Rattle.known_laws.proofs.Conditions.{gripped_is_new, made_is_new}
 use Rattle.known_laws.proofs.FrozenPasts.{goes_on}
@@ -46,7 +46,7 @@ no_driver : (t : Thread) → (IsDriver t → ⊥) → t ≡ C → ⊥
 no_driver t w e = w (subst IsDriver (sym e) tt)
 
 -- it goes on
-pub stepped-goes_on : (s : ManagedReplay) (c : Thread) (o : Op) (told : Told) → IsReplayKept s → IsEvent c o
+pub stepped-goes_on : (s : ManagedReplay) (c : Thread) (o : Op) (told : Told) → ReplayInvariant s → IsEvent c o
     → is_peer_event c o ≡ false → IsStepped o → ManagedAllows s o told → GoesOn s.managed (managed_answer s c o told).state.managed
 stepped-goes_on s (M i) o told k e p w a = goes_on s (M i) o told (no_driver (M i) (λ x. x)) e k a
 stepped-goes_on s (P i) o told k e p w a = goes_on s (P i) o told (no_driver (P i) (λ x. x)) e k a
@@ -169,7 +169,7 @@ stepped-owed cycles (op.Line (act.Await k)) reply owed w e = absurd (true≢fals
 stepped-owed cycles _ reply owed w e = refl
 
 -- an `adopt` and a `meet` take a handle that no row ever took, and cite an entry
-adopts_new : (s : Linkage) → IsPastKept (pinned s no_pins) → (t : ℕ) (d : Doing) (p h : ℕ) (cites : Option ℕ) → doing_at s.control t ≡ d → AdoptCites d p h cites → Contains s.managed.adopted h → ⊥
+adopts_new : (s : Linkage) → PastInvariant (pinned s no_pins) → (t : ℕ) (d : Doing) (p h : ℕ) (cites : Option ℕ) → doing_at s.control t ≡ d → AdoptCites d p h cites → Contains s.managed.adopted h → ⊥
 adopts_new s k t (control.made n line p h sort f) q g cites e w c = made_is_new (pinned s no_pins) k t n line p h sort f e (subst (λ z. Contains s.managed.adopted z) w.2 c)
 adopts_new s k t control.free q g cites e w c = w
 adopts_new s k t (control.lent n line h x) q g cites e w c = w
@@ -177,7 +177,7 @@ adopts_new s k t (control.gripped n line p h sort f) q g cites e w c = w
 adopts_new s k t (control.given n line h) q g cites e w c = w
 adopts_new s k t (control.met n line h) q g cites e w c = w
 
-meets_new : (s : Linkage) → IsPastKept (pinned s no_pins) → (t : ℕ) (d : Doing) (v : Var) (kind : Sort) (fields : ℕ) (q : PNum) (r : HNum) (cites : Option ℕ)
+meets_new : (s : Linkage) → PastInvariant (pinned s no_pins) → (t : ℕ) (d : Doing) (v : Var) (kind : Sort) (fields : ℕ) (q : PNum) (r : HNum) (cites : Option ℕ)
     → doing_at s.control t ≡ d → MeetCites d (op.Meet v kind fields q r) cites
     → Contains s.managed.adopted r.0 → ⊥
 meets_new s k t (control.gripped n line p g sort f) v kind fields q r cites e w c = gripped_is_new (pinned s no_pins) k t n line p g sort f e (subst (λ z. Contains s.managed.adopted z) w.2 c)
@@ -187,7 +187,7 @@ meets_new s k t (control.lent n line g x) v kind fields q r cites e w c = w
 meets_new s k t (control.given n line g) v kind fields q r cites e w c = w
 meets_new s k t (control.met n line g) v kind fields q r cites e w c = w
 
-pub stepped-fresh : (s : Linkage) → IsPastKept (pinned s no_pins) → (r : ManagedReplay) → r ≡ with_pins s.managed no_pins
+pub stepped-fresh : (s : Linkage) → PastInvariant (pinned s no_pins) → (r : ManagedReplay) → r ≡ with_pins s.managed no_pins
     → (c : Thread) (o : Op) (cites : Option ℕ) → IsEvent c o → CitesBy s c o cites → IsFresh r o
 stepped-fresh s k r e c o cites v w = subst (λ z. IsFresh z o) (sym e) (by c o v w)
   where

@@ -24,7 +24,7 @@ use Rattle.joint_machine.specs.Run.{thread_number}
 use Rattle.joint_machine.specs.Told.{Noted, Told, contraction_of, phase_of, resolution_of, snap_of}
 use Rattle.joint_machine.proofs.Deciding.{option-cases, test-cases}
 use Rattle.joint_machine.proofs.HeapLemmas.{adopt_by-managed}
-use Rattle.joint_laws.specs.ManagedInvariants.{IsReplayKept}
+use Rattle.joint_laws.specs.ManagedInvariants.{ReplayInvariant}
 use Rattle.joint_laws.proofs.ManagedSteps.{give_by-managed, meet_by-managed}
 use Rattle.run_check.specs.Judging.{IsStepped}
 

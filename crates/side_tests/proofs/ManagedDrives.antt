@@ -20,7 +20,7 @@ use Rattle.joint_machine.specs.Run.{thread_number}
 use Rattle.joint_machine.specs.Sides.{Side, AddsLawful, TakesManaged, managed_rules}
 use Rattle.joint_machine.specs.Told.{Told, nothing}
 use Rattle.joint_machine.proofs.HeapLemmas.{adopt_by-managed}
-use Rattle.joint_laws.specs.ManagedInvariants.{IsReplayKept}
+use Rattle.joint_laws.specs.ManagedInvariants.{ReplayInvariant}
 use Rattle.joint_laws.proofs.ManagedMoves.{managed_line-goes_on, adopted-goes_on, met-goes_on, given_up-goes_on}
 use Rattle.joint_laws.proofs.ManagedSteps.{meet_by-managed, give_by-managed, twin-live}
 use Rattle.managed_heap.specs.Steps.{IsFresh, IsLineBy, IsManagedStep, IsStepBy}
@@ -86,7 +86,7 @@ fresh-next s (op.Adopt v kind k p h) n e below = λ c. (let l = below h.0 c in a
 fresh-next s _ n e below = tt
 
 -- a step leaves an open cycle as it is
-pub step-cycle : (s : ManagedReplay) (t : Thread) (o : Op) → IsReplayKept s → IsStepBy t o → (managed_answer s t o nothing).state.managed.cycle ≡ s.managed.cycle
+pub step-cycle : (s : ManagedReplay) (t : Thread) (o : Op) → ReplayInvariant s → IsStepBy t o → (managed_answer s t o nothing).state.managed.cycle ≡ s.managed.cycle
 step-cycle s t (op.Line a) k b = (managed_line-goes_on s.managed (thread_number t) a k.managed.places k.managed.cells).cycle
 step-cycle s t (op.Lend v x) k b = refl
 step-cycle s t (op.Give v) k b =

@@ -7,7 +7,7 @@ use Rattle.joint_machine.specs.Replaying.{AllMayCome, replayed}
 use Rattle.joint_machine.specs.ManagedReplay.{ManagedReplay}
 use Rattle.joint_machine.specs.PeerReplay.{PeerReplay}
 use Rattle.joint_machine.specs.Told.{Told, Noted}
-use Rattle.joint_laws.proofs.LinkedEntries.{Of, AreKept-entry, AreKept-opening}
+use Rattle.joint_laws.proofs.LinkedEntries.{Of, BothInvariants-entry, BothInvariants-opening}
 use Rattle.run_summary.specs.declared.tallies.Tally.{Tally}
 use Rattle.run_summary.specs.Tallies.{freed_managed, freed_peers, tallied, tally_from}
 use Rattle.run_summary.specs.Lines.{one}
@@ -15,12 +15,12 @@ use Rattle.summary_laws.specs.States.{tally_in}
 use Rattle.summary_laws.specs.Laws.{AddsUp, HeapsAddUp, TalliesAreOfStates}
 use Rattle.summary_laws.proofs.HeapCounts.{adds-up}
 use Rattle.summary_laws.proofs.ManagedCounts.{ManagedCounts, answer-counts}
-use Rattle.summary_laws.proofs.Names.{AreNamesKept, names-opening}
+use Rattle.summary_laws.proofs.Names.{NamesInvariant, names-opening}
 use Rattle.summary_laws.proofs.PeerCounts.{PeerCounts, peer-counts}
 use Rattle.summary_laws.proofs.Quiet.{managed-leaves, peers-leave, frees-own}
 
 abbrev Named : PeerReplay → Type 0
-Named s = AreNamesKept s.peers.names s.table
+Named s = NamesInvariant s.peers.names s.table
 
 -- two tallies with the same numbers
 pub record HasNumbers (t u : Tally) : Type 0 where
@@ -112,17 +112,17 @@ counted : (ns : List Noted) (s : Linkage) → AllMayCome s ns → Of s → Named
 counted [] s a k named = refl
 counted (n ∷ ns) s a k named =
     let t = step s n a.0 k named in
-    ap (λ u. tally_from u (map (λ n. n.entry) ns)) t.tally ∙ counted ns (linkage_after s n) a.1 (AreKept-entry s n a.0 k) t.names
+    ap (λ u. tally_from u (map (λ n. n.entry) ns)) t.tally ∙ counted ns (linkage_after s n) a.1 (BothInvariants-entry s n a.0 k) t.names
 
 add_up : (ns : List Noted) (s : Linkage) → AllMayCome s ns → Of s → Named s.peer → AddsUp s.managed.managed.heap
     → AddsUp s.peer.peers.heap → AddsUp (replayed s ns).managed.managed.heap × AddsUp (replayed s ns).peer.peers.heap
 add_up [] s a k named m p = (m, p)
 add_up (n ∷ ns) s a k named m p =
     let t = step s n a.0 k named in
-    add_up ns (linkage_after s n) a.1 (AreKept-entry s n a.0 k) t.names (t.managed m) (t.peers p)
+    add_up ns (linkage_after s n) a.1 (BothInvariants-entry s n a.0 k) t.names (t.managed m) (t.peers p)
 
 pub heaps_add_up : HeapsAddUp
-heaps_add_up noted may = add_up noted opening_linkage may AreKept-opening names-opening refl refl
+heaps_add_up noted may = add_up noted opening_linkage may BothInvariants-opening names-opening refl refl
 
 pub tallies_are_of_states : TalliesAreOfStates
-tallies_are_of_states noted may = counted noted opening_linkage may AreKept-opening names-opening
+tallies_are_of_states noted may = counted noted opening_linkage may BothInvariants-opening names-opening

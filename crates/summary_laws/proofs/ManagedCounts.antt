@@ -18,7 +18,7 @@ use Rattle.joint_machine.specs.Run.{thread_number}
 use Rattle.joint_machine.specs.Told.{Told, nothing, snap_of, contraction_of, resolution_of, phase_of}
 use Rattle.joint_machine.proofs.Deciding.{option-cases, test-cases}
 use Rattle.joint_machine.proofs.HeapLemmas.{adopt_by-managed, adopt_by-reply}
-use Rattle.joint_laws.specs.ManagedInvariants.{IsReplayKept}
+use Rattle.joint_laws.specs.ManagedInvariants.{ReplayInvariant}
 use Rattle.joint_laws.proofs.Fields.{with_object-length}
 use Rattle.joint_laws.proofs.HeapMoves.{HasMoved, copied-moved, field_set-moved, field_got-moved, dropped-moved, loaded-moved, stored-moved}
 use Rattle.joint_laws.proofs.ManagedSteps.{meet_by-managed, meet_by-reply, give_by-managed, give_by-reply}
@@ -145,7 +145,7 @@ module _ (s : Managed) (made : (x : ℕ) → Contains s.heap.freed x → IsMade 
 through : (s t u : Managed) (o : Op) (r q : Reply) → u ≡ t → q ≡ r → ManagedCounts s t o r → ManagedCounts s u o q
 through s t u o r q e f c = subst (λ z. ManagedCounts s z o q) (sym e) (subst (λ z. ManagedCounts s t o z) (sym f) c)
 
-pub answer-counts : (s : ManagedReplay) (t : Thread) (o : Op) (told : Told) → IsReplayKept s → ManagedAllows s o told
+pub answer-counts : (s : ManagedReplay) (t : Thread) (o : Op) (told : Told) → ReplayInvariant s → ManagedAllows s o told
     → ManagedCounts s.managed (managed_answer s t o told).state.managed o (managed_answer s t o told).reply
 answer-counts s t (op.Line a) told k w = line-counts s.managed k.managed.freed (thread_number t) a
 answer-counts s t (op.Adopt v kind n p h) told k w =

@@ -12,11 +12,11 @@ use Rattle.joint_machine.proofs.Numbered.{replicate-none}
 use Rattle.joint_laws.specs.PeerInvariants.{IsTabled}
 use Rattle.summary_laws.proofs.TableRows.{tabled-stays}
 
-pub record AreNamesKept (names : List (Option ℕ)) (table : List (Option TableRow)) : Type 0 where
+pub record NamesInvariant (names : List (Option ℕ)) (table : List (Option TableRow)) : Type 0 where
   pub tabled : (g h : ℕ) → slot names g ≡ Some h → (row : TableRow) × IsTabled table h row
   pub apart : (g f h : ℕ) → slot names g ≡ Some h → slot names f ≡ Some h → g ≡ f
 
-pub names-opening : AreNamesKept (replicate 64 None) []
+pub names-opening : NamesInvariant (replicate 64 None) []
 names-opening = record {
   tabled = λ g h e. absurd (replicate-none 64 h (slot-Contains (replicate 64 None) g h e));
   apart = λ g f h e q. absurd (replicate-none 64 h (slot-Contains (replicate 64 None) g h e));
@@ -29,9 +29,9 @@ slot-set_cases names g o f h e = elim (cases_eq f g) [
   | inr n ↦ inr (n, subst (λ (z : Option (Option ℕ)). elim z [ None ↦ None | Some y ↦ y ] ≡ Some h) (set-at_other names g f o n) e)
 ]
 
-module _ (names : List (Option ℕ)) (table : List (Option TableRow)) (k : AreNamesKept names table) where
+module _ (names : List (Option ℕ)) (table : List (Option TableRow)) (k : NamesInvariant names table) where
   -- a further handle stands last
-  pub names-grown : (o : Option TableRow) → AreNamesKept names (table ++ o ∷ [])
+  pub names-grown : (o : Option TableRow) → NamesInvariant names (table ++ o ∷ [])
   names-grown o = record {
     tabled = λ g h e. (let w = k.tabled g h e in (w.0, numbered-push_old table o h (numbered-within table h (Some w.0) w.1).1 ∙ w.1));
     apart = k.apart;
@@ -48,7 +48,7 @@ module _ (names : List (Option ℕ)) (table : List (Option TableRow)) (k : AreNa
     new-tabled : (h : ℕ) → Some n ≡ Some h → IsTabled (table ++ Some row ∷ []) h row
     new-tabled h e = subst (λ z. IsTabled (table ++ Some row ∷ []) z row) (sym l ∙ same_Some n h e) (numbered-push_new table (Some row))
 
-    pub names-given : AreNamesKept (set names g (Some n)) (table ++ Some row ∷ [])
+    pub names-given : NamesInvariant (set names g (Some n)) (table ++ Some row ∷ [])
     names-given = record {
       tabled = λ f h e. elim (slot-set_cases names g (Some n) f h e) [
         | inl w ↦ (row, new-tabled h w.1)
@@ -61,7 +61,7 @@ module _ (names : List (Option ℕ)) (table : List (Option TableRow)) (k : AreNa
     }
 
   -- a name is free again, and its handle leaves the table
-  pub names-freed : (g n : ℕ) → slot names g ≡ Some n → AreNamesKept (set names g None) (numbered_set table n None)
+  pub names-freed : (g n : ℕ) → slot names g ≡ Some n → NamesInvariant (set names g None) (numbered_set table n None)
   names-freed g n e = record {
     tabled = λ f h q. elim (slot-set_cases names g None f h q) [
       | inl w ↦ absurd (none_some h w.1)
@@ -74,14 +74,14 @@ module _ (names : List (Option ℕ)) (table : List (Option TableRow)) (k : AreNa
   }
 
   -- a handle that no name has leaves the table
-  pub names-gone : (n : ℕ) → ((g : ℕ) → slot names g ≡ Some n → ⊥) → AreNamesKept names (numbered_set table n None)
+  pub names-gone : (n : ℕ) → ((g : ℕ) → slot names g ≡ Some n → ⊥) → NamesInvariant names (numbered_set table n None)
   names-gone n out = record {
     tabled = λ g h e. (let t = k.tabled g h e in (t.0, numbered_set-other table n h None (λ same. out g (subst (λ z. slot names g ≡ Some z) same e)) ∙ t.1));
     apart = k.apart;
   }
 
   -- a handle of the table has another row
-  pub names-reset : (n : ℕ) (old row : TableRow) → IsTabled table n old → AreNamesKept names (numbered_set table n (Some row))
+  pub names-reset : (n : ℕ) (old row : TableRow) → IsTabled table n old → NamesInvariant names (numbered_set table n (Some row))
   names-reset n old row there = record {
     tabled = λ g h e. elim (cases_eq h n) [
       | inl q ↦ (let w = numbered-within table n (Some old) there in (row, subst (λ z. IsTabled (numbered_set table n (Some row)) z row) (sym q) (numbered_set-here table n (Some row) w.0 w.1)))
@@ -91,7 +91,7 @@ module _ (names : List (Option ℕ)) (table : List (Option TableRow)) (k : AreNa
   }
 
   -- handles are cleared
-  pub names-swept : (freed : List ℕ) (issued : List Issued) → length table ≡ length issued → AreNamesKept names (cleared_rows freed issued table)
+  pub names-swept : (freed : List ℕ) (issued : List Issued) → length table ≡ length issued → NamesInvariant names (cleared_rows freed issued table)
   names-swept freed issued l = record {
     tabled = λ g h e. (let t = k.tabled g h e in tabled-stays freed issued table h t.0 l t.1);
     apart = k.apart;

@@ -24,7 +24,7 @@ use Rattle.joint_machine.specs.Told.{Told, nothing, references_of, slice_of, swe
 use Rattle.joint_machine.proofs.Deciding.{none_some, option-cases, test-cases}
 use Rattle.joint_machine.proofs.Members.{Contains-nil}
 use Rattle.joint_machine.proofs.Numbered.{slot-named, slot-Contains}
-use Rattle.joint_laws.specs.PeerInvariants.{IsPeerKept, IsTabled}
+use Rattle.joint_laws.specs.PeerInvariants.{PeerInvariant, IsTabled}
 use Rattle.joint_laws.proofs.Fields.{with_object-length}
 use Rattle.joint_laws.proofs.HandleKeeping.{held-raw, issued-same}
 use Rattle.joint_laws.proofs.HeapMoves.{HasMoved, copied-moved, field_set-moved, field_got-moved, dropped-moved, loaded-moved, stored-moved}
@@ -34,7 +34,7 @@ use Rattle.joint_laws.proofs.PlainReplies.{IsPlain, peer_line-plain, sliced-plai
 use Rattle.run_summary.specs.Tallies.{is_h, makes_peer, makes_handle, removes_handle, freed_peers}
 use Rattle.run_summary.specs.Lines.{one}
 use Rattle.summary_laws.proofs.HeapCounts.{HeapCounts, counts-alike, counts-stay, counts-moved, counts-object, counts-freed}
-use Rattle.summary_laws.proofs.Names.{AreNamesKept, names-grown, names-given, names-freed, names-gone, names-reset, names-swept}
+use Rattle.summary_laws.proofs.Names.{NamesInvariant, names-grown, names-given, names-freed, names-gone, names-reset, names-swept}
 use Rattle.summary_laws.proofs.TableRows.{rows, rows-put, rows-set, rows-swept}
 
 -- the peers' numbers between two states, by an event and its reply
@@ -42,7 +42,7 @@ pub record PeerCounts (s : PeerReplay) (p : Peers) (table : List (Option TableRo
   pub heap : HeapCounts s.peers.heap p.heap (one (makes_peer o r)) (freed_peers r)
   pub made : p.made ≡ s.peers.made + one (makes_handle o r)
   pub tabled : rows table + one (removes_handle o r) ≡ rows s.table + one (makes_handle o r)
-  pub names : AreNamesKept p.names table
+  pub names : NamesInvariant p.names table
 
 pub plain-none : (r : Reply) → IsPlain r → freed_peers r ≡ 0
 plain-none (says.Swept j s) p = absurd p
@@ -51,7 +51,7 @@ plain-none _ p = refl
 tabled_row : (s : PeerReplay) (h : ℕ) (row : TableRow) → row_of s h ≡ Some row → IsTabled s.table h row
 tabled_row s h row e = slot-named _ row e
 
-module _ (s : PeerReplay) (k : IsPeerKept s) (names : AreNamesKept s.peers.names s.table) where
+module _ (s : PeerReplay) (k : PeerInvariant s) (names : NamesInvariant s.peers.names s.table) where
   -- what an event may say of itself: whether it makes a peer, makes a handle, removes one
   record Says (o : Op) (r : Reply) (peer handle removed : Bool) : Type 0 where
     makes : makes_peer o r ≡ peer
@@ -60,7 +60,7 @@ module _ (s : PeerReplay) (k : IsPeerKept s) (names : AreNamesKept s.peers.names
     none : freed_peers r ≡ 0
 
   counted : (p : Peers) (table : List (Option TableRow)) (o : Op) (r : Reply) (x y z : Bool) → Says o r x y z → HeapCounts s.peers.heap p.heap (one x) 0
-      → p.made ≡ s.peers.made + one y → rows table + one z ≡ rows s.table + one y → AreNamesKept p.names table → PeerCounts s p table o r
+      → p.made ≡ s.peers.made + one y → rows table + one z ≡ rows s.table + one y → NamesInvariant p.names table → PeerCounts s p table o r
   counted p table o r x y z w heap made count kept = record {
     heap = subst (λ b. HeapCounts s.peers.heap p.heap (one b) (freed_peers r)) (sym w.makes) (subst (λ n. HeapCounts s.peers.heap p.heap (one x) n) (sym w.none) heap);
     made = subst (λ b. p.made ≡ s.peers.made + one b) (sym w.gives) made;
@@ -77,19 +77,19 @@ module _ (s : PeerReplay) (k : IsPeerKept s) (names : AreNamesKept s.peers.names
   still o a x w heap e l n =
       let same = table-still s a.state e in
       counted a.state _ o a.reply x false false w heap (omega (arith, l)) (let q = ap rows same in omega (arith, q))
-      (subst (λ z. AreNamesKept z (s.table ++ map fresh_row (issued_since s.peers a.state))) (sym n) (subst (λ z. AreNamesKept s.peers.names z) (sym same) names))
+      (subst (λ z. NamesInvariant z (s.table ++ map fresh_row (issued_since s.peers a.state))) (sym n) (subst (λ z. NamesInvariant s.peers.names z) (sym same) names))
 
   stays : (o : Op) (r : Reply) → Says o r false false false → OnTable o (answer r s.peers)
   stays o r w = still o (answer r s.peers) false w (counts-stay s.peers.heap) refl refl refl
 
   -- one is issued
   issues : (o : Op) (a : Answered Peers) (x : Bool) (new : Issued) → Says o a.reply x true false → HeapCounts s.peers.heap a.state.heap (one x) 0
-      → a.state.issued ≡ s.peers.issued ++ new ∷ [] → a.state.made ≡ s.peers.made + 1 → AreNamesKept a.state.names (s.table ++ fresh_row new ∷ []) → OnTable o a
+      → a.state.issued ≡ s.peers.issued ++ new ∷ [] → a.state.made ≡ s.peers.made + 1 → NamesInvariant a.state.names (s.table ++ fresh_row new ∷ []) → OnTable o a
   issues o a x new w heap e l kept =
       let same = table-issued s a.state new e in
       counted a.state _ o a.reply x true false w heap (omega (arith, l))
       (let q = ap rows same in let put = rows-put s.table (record { strength = new.strength; cleared = false }) in omega (arith, q, put))
-      (subst (λ z. AreNamesKept a.state.names z) (sym same) kept)
+      (subst (λ z. NamesInvariant a.state.names z) (sym same) kept)
 
   -- the peer and its handle
   pair-counts : (sort : Sort) (n : ℕ) → OnTable (op.Make sort n) (pair_made s.peers sort n)
@@ -131,7 +131,7 @@ module _ (s : PeerReplay) (k : IsPeerKept s) (names : AreNamesKept s.peers.names
       let count = rows-set s.table h t.0 None t.1 in
       counted (record s.peers { names = set s.peers.names g None }) _ (op.Line (act.UnGlobal u)) says.Ok false false true
       (record { makes = refl; gives = refl; takes = refl; none = refl }) (counts-stay s.peers.heap) (omega arith) (omega (arith, q, count))
-      (subst (λ z. AreNamesKept (set s.peers.names g None) z) (sym same) (names-freed s.peers.names s.table names g h e))
+      (subst (λ z. NamesInvariant (set s.peers.names g None) z) (sym same) (names-freed s.peers.names s.table names g h e))
 
   -- a slot comes to name where a handle leads
   brought : (a : Answered PeerReplay) (r : Reply) (o : Op) → PeerCounts s a.state.peers a.state.table o a.reply

@@ -24,7 +24,8 @@ invariant_of-self g c =
     let d = did c.args.caller c.self.inside.seat.view c.args.mine.now.view c.lend.new.locked.view c.lend.new.mine.view c.draw_weak-made.new.seat.view c.give_back.new.locked.view
     c.give_back.new.mine.view 0 (managed-thread c.args.caller c.requires.pass.0) (omega arith) c.requires.pass.1 c.self.invariant.1 c.lend.ensures.lent
     (drew_owns managed_side c.args.order.now c.lend.new.locked c.draw_weak-made.new.seat (as_side c.self.inside.side)
-    (as_side c.draw_weak-made.new.side) make c.draw_weak-made.result (plainly c.draw_weak-made.result _ _ _ _ _ _ c.draw_weak-made.ensures.drew) c.draw_weak-made.ensures.err) c.give_back.ensures.returned in
+    (as_side c.draw_weak-made.new.side) make c.draw_weak-made.result (plainly c.draw_weak-made.result _ _ _ _ _ _ c.draw_weak-made.ensures.drew) c.draw_weak-made.ensures.err)
+    c.give_back.ensures.returned in
     let w = called managed_side c.args.caller c.args.index (weak_op c.args.k c.args.v) None c.args.order.now c.self.inside.seat.view c.args.mine.now.view c.lend.new.mine.view
     c.give_back.new.locked.view c.give_back.new.mine.view c.lend.new.locked c.draw_weak-made.new.seat (as_side c.self.inside.side) (as_side c.draw_weak-made.new.side) c.draw_weak-made.result
     (managed-thread c.args.caller c.requires.pass.0) c.requires.pass.1 c.self.invariant.1 (omega (arith, c.ranges.index.fits)) c.self.invariant.2 c.requires.may

@@ -23,7 +23,8 @@ invariant_of-self g c =
     let d = did c.args.caller c.self.inside.seat.view c.args.mine.now.view c.lend.new.locked.view c.lend.new.mine.view c.draw_event-made.new.seat.view
     c.give_back.new.locked.view c.give_back.new.mine.view 1 c.requires.pass.0 (omega arith) c.requires.pass.1 c.self.invariant.1 c.lend.ensures.lent
     (drew_owns peer_side c.args.order.now c.lend.new.locked c.draw_event-made.new.seat (seen c.self.inside.side)
-    (seen c.draw_event-made.new.side) make c.draw_event-made.result (by_event c.draw_event-made.result _ _ _ _ _ _ c.draw_event-made.ensures.drew) c.draw_event-made.ensures.err) c.give_back.ensures.returned in
+    (seen c.draw_event-made.new.side) make c.draw_event-made.result (by_event c.draw_event-made.result _ _ _ _ _ _ c.draw_event-made.ensures.drew) c.draw_event-made.ensures.err)
+    c.give_back.ensures.returned in
     let w = called peer_side c.args.caller c.args.index c.args.op.now c.args.cites c.args.order.now c.self.inside.seat.view c.args.mine.now.view c.lend.new.mine.view
     c.give_back.new.locked.view c.give_back.new.mine.view c.lend.new.locked c.draw_event-made.new.seat (seen c.self.inside.side) (seen c.draw_event-made.new.side) c.draw_event-made.result
     c.requires.pass.0 c.requires.pass.1 c.self.invariant.1 (omega (arith, c.ranges.index.fits)) c.self.invariant.2 c.requires.may

@@ -9,7 +9,7 @@ use Rattle.joint_machine.specs.Histories.{managed_numbers}
 use Rattle.joint_model.specs.Listed.{answers_of}
 use Rattle.joint_machine.specs.Managed.{OpenCycle, candidates_of, holds_handle, renewed}
 use Rattle.joint_machine.specs.ManagedReplay.{ManagedReplay}
-use Rattle.joint_laws.specs.ManagedInvariants.{IsManagedKept}
+use Rattle.joint_laws.specs.ManagedInvariants.{ManagedInvariant}
 use Rattle.heap_rules.specs.Tidy.{CanFree}
 use Rattle.row_heap.specs.Rows.{HeapRows}
 use Rattle.managed_heap.specs.declared.rows.Header.{Header}
@@ -23,8 +23,8 @@ use Rattle.managed_heap.proofs.rows.ManagedRows.resolve.Goals as goal
 
 pub settle-candidates-requires-clause-live : goal.settle-candidates-requires-clause-live
 settle-candidates-requires-clause-live c =
-    let kept : IsManagedKept (rows_of c.self.inside.heap.heap c.self.inside.headers.items c.self.inside.registry c.self.inside.cells no_pins c.self.inside.notices c.self.inside.cycle
-    c.self.inside.cycles c.self.inside.contracted).managed = subst (λ (z : ManagedReplay). IsManagedKept z.managed) (sym c.self.view_is) c.requires.kept.1.managed in
+    let kept : ManagedInvariant (rows_of c.self.inside.heap.heap c.self.inside.headers.items c.self.inside.registry c.self.inside.cells no_pins c.self.inside.notices c.self.inside.cycle
+    c.self.inside.cycles c.self.inside.contracted).managed = subst (λ (z : ManagedReplay). ManagedInvariant z.managed) (sym c.self.view_is) c.requires.kept.1.managed in
     let cut = kept.dead c.in-Some.open (sym c.in-Some.ensures.value) in
     λ m k. cut.live m ((cut.candidates m).0 k).0
 
@@ -32,7 +32,7 @@ pub settle-candidates-requires-clause-shut : goal.settle-candidates-requires-cla
 settle-candidates-requires-clause-shut c =
     let s = rows_of c.self.inside.heap.heap c.self.inside.headers.items c.self.inside.registry c.self.inside.cells
     no_pins c.self.inside.notices c.self.inside.cycle c.self.inside.cycles c.self.inside.contracted in
-    let kept : IsManagedKept s.managed = subst (λ (z : ManagedReplay). IsManagedKept z.managed) (sym c.self.view_is) c.requires.kept.1.managed in
+    let kept : ManagedInvariant s.managed = subst (λ (z : ManagedReplay). ManagedInvariant z.managed) (sym c.self.view_is) c.requires.kept.1.managed in
     let opened = sym c.in-Some.ensures.value in
     shut-open c.self.inside.heap c.self.inside.notices.spare s.managed c.in-Some.open refl c.self.invariant.2 (c.self.invariant.3 c.in-Some.open opened) (kept.dead c.in-Some.open opened)
 
@@ -40,7 +40,7 @@ pub free-requires-clause-can : goal.free-requires-clause-can
 free-requires-clause-can c =
     let s = rows_of c.self.inside.heap.heap c.self.inside.headers.items c.self.inside.registry c.self.inside.cells
     no_pins c.self.inside.notices c.self.inside.cycle c.self.inside.cycles c.self.inside.contracted in
-    let kept : IsManagedKept s.managed = subst (λ (z : ManagedReplay). IsManagedKept z.managed) (sym c.self.view_is) c.requires.kept.1.managed in
+    let kept : ManagedInvariant s.managed = subst (λ (z : ManagedReplay). ManagedInvariant z.managed) (sym c.self.view_is) c.requires.kept.1.managed in
     let opened = sym c.in-Some.ensures.value in
     let due = c.self.invariant.3 c.in-Some.open opened in
     subst (λ z. CanFree c.settle-candidates.new.heap.heap (managed_numbers z)) (sym c.deref.ensures.value)
@@ -51,7 +51,7 @@ pub notify-requires : goal.notify-requires
 notify-requires c =
     let s = rows_of c.self.inside.heap.heap c.self.inside.headers.items c.self.inside.registry c.self.inside.cells
     no_pins c.self.inside.notices c.self.inside.cycle c.self.inside.cycles c.self.inside.contracted in
-    let kept : IsManagedKept s.managed = subst (λ (z : ManagedReplay). IsManagedKept z.managed) (sym c.self.view_is) c.requires.kept.1.managed in
+    let kept : ManagedInvariant s.managed = subst (λ (z : ManagedReplay). ManagedInvariant z.managed) (sym c.self.view_is) c.requires.kept.1.managed in
     let opened = sym c.in-Some.ensures.value in
     let due = c.self.invariant.3 c.in-Some.open opened in
     let freed = managed_numbers c.settle-candidates.result.1.items in
@@ -64,7 +64,7 @@ pub forget_pairs-requires-clause-rows : goal.forget_pairs-requires-clause-rows
 forget_pairs-requires-clause-rows c =
     let s = rows_of c.self.inside.heap.heap c.self.inside.headers.items c.self.inside.registry c.self.inside.cells
     no_pins c.self.inside.notices c.self.inside.cycle c.self.inside.cycles c.self.inside.contracted in
-    let kept : IsManagedKept s.managed = subst (λ (z : ManagedReplay). IsManagedKept z.managed) (sym c.self.view_is) c.requires.kept.1.managed in
+    let kept : ManagedInvariant s.managed = subst (λ (z : ManagedReplay). ManagedInvariant z.managed) (sym c.self.view_is) c.requires.kept.1.managed in
     let cut = kept.dead c.in-Some.open (sym c.in-Some.ensures.value) in
     let many : length c.self.inside.headers.items ≡ length c.self.inside.heap.heap.fields = sym (length-map c.self.inside.headers.items (λ (i : Header). i.handle)) ∙ kept.places in
     subst (λ z. All (λ m. (1 ≤ m.0) × (m.0 ≤ length c.self.inside.headers.items)) z) (sym c.deref-4.ensures.value)
@@ -76,7 +76,7 @@ pub renew-requires-clause-rows : goal.renew-requires-clause-rows
 renew-requires-clause-rows c =
     let s = rows_of c.self.inside.heap.heap c.self.inside.headers.items c.self.inside.registry c.self.inside.cells
     no_pins c.self.inside.notices c.self.inside.cycle c.self.inside.cycles c.self.inside.contracted in
-    let kept : IsManagedKept s.managed = subst (λ (z : ManagedReplay). IsManagedKept z.managed) (sym c.self.view_is) c.requires.kept.1.managed in
+    let kept : ManagedInvariant s.managed = subst (λ (z : ManagedReplay). ManagedInvariant z.managed) (sym c.self.view_is) c.requires.kept.1.managed in
     let cut = kept.dead c.in-Some.open (sym c.in-Some.ensures.value) in
     let many : length c.self.inside.headers.items ≡ length c.self.inside.heap.heap.fields = sym (length-map c.self.inside.headers.items (λ (i : Header). i.handle)) ∙ kept.places in
     let as_many : length c.forget_pairs.new.headers.items ≡ length c.self.inside.headers.items = sym (length-map c.forget_pairs.new.headers.items (λ (i : Header). i.handle))
@@ -99,7 +99,7 @@ pub returns-clause-few : goal.returns-clause-few
 returns-clause-few c =
     let s = rows_of c.self.inside.heap.heap c.self.inside.headers.items c.self.inside.registry c.self.inside.cells
     no_pins c.self.inside.notices c.self.inside.cycle c.self.inside.cycles c.self.inside.contracted in
-    let kept : IsManagedKept s.managed = subst (λ (z : ManagedReplay). IsManagedKept z.managed) (sym c.self.view_is) c.requires.kept.1.managed in
+    let kept : ManagedInvariant s.managed = subst (λ (z : ManagedReplay). ManagedInvariant z.managed) (sym c.self.view_is) c.requires.kept.1.managed in
     let opened = sym c.in-Some.ensures.value in
     let cut = kept.dead c.in-Some.open opened in
     let due = c.self.invariant.3 c.in-Some.open opened in
@@ -112,7 +112,7 @@ returns-clause-resolution c =
     let open' = c.in-Some.open in
     let s = rows_of c.self.inside.heap.heap c.self.inside.headers.items c.self.inside.registry c.self.inside.cells
     no_pins c.self.inside.notices c.self.inside.cycle c.self.inside.cycles c.self.inside.contracted in
-    let kept : IsManagedKept s.managed = subst (λ (z : ManagedReplay). IsManagedKept z.managed) (sym c.self.view_is) c.requires.kept.1.managed in
+    let kept : ManagedInvariant s.managed = subst (λ (z : ManagedReplay). ManagedInvariant z.managed) (sym c.self.view_is) c.requires.kept.1.managed in
     let opened = sym c.in-Some.ensures.value in
     let cut = kept.dead open' opened in
     let due = c.self.invariant.3 open' opened in

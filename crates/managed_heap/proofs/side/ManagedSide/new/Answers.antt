@@ -1,7 +1,7 @@
 -- Nothing is there, so nothing has to be kept.
 use Rattle.std.proofs.Common.{[], refl, arith}
 use Rattle.std.proofs.lemmas.List.Elements.{All-nil}
-use Rattle.joint_laws.proofs.Adopting.{IsReplayKept-opening}
+use Rattle.joint_laws.proofs.Adopting.{ReplayInvariant-opening}
 use Rattle.joint_machine.proofs.Deciding.{none_some}
 use Rattle.managed_heap.proofs.side.ManagedSide.new.Goals as goal
 
@@ -10,7 +10,7 @@ invariant_of-result c = rw (c.new-3.ensures.entries, c.in_ok-new.ensures, c.in_o
   record { rise = tt; noted = []; same = refl; leads = refl },
   λ e o. (let f : ⊥ = cc in absurd f),
   All-nil _,
-  record { kept = IsReplayKept-opening; few = omega (arith) },
+  record { kept = ReplayInvariant-opening; few = omega (arith) },
   omega arith,
   λ r e. absurd (none_some r e),
   λ r e. absurd (none_some r e),
