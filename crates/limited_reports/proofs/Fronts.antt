@@ -1,6 +1,7 @@
 -- How many newlines there are in the lines of a report, and so which fault is that of a line, where every line has its
 -- newline.
-use Rattle.std.proofs.Common.{◌≡◌, ◌≢◌, ℕ, ◌+◌, ◌<◌, ◌≤◌, inl, inr, Bool, true, false, List, [], ◌∷◌, ◌++◌, length, All, codes, decimal, refl, sym, ap, subst, ◌∙◌, arith, append_assoc, append-nil, length-append}
+use Rattle.std.proofs.Common.{◌≡◌, ◌≢◌, ℕ, ◌+◌, ◌<◌, ◌≤◌, inl, inr, Bool, true, false, List, [], ◌∷◌, ◌++◌, length, All, codes, decimal, refl, sym, ap, subst, ◌∙◌, arith, append_assoc, append-nil}
+use Rattle.std.proofs.Common.{length-append}
 use Rattle.std.proofs.lemmas.Bool.{cases_lt}
 use Rattle.std.proofs.lemmas.List.Elements.{All-from_recursion}
 use Rattle.std.proofs.lemmas.List.Sums.{count_by-le-length}
@@ -106,8 +107,10 @@ front_behind most front bytes before read a c =
     let size = length-append front before in
     let fits = c.fits in
     let same : drop (length before) (take most bytes) ≡ drop (length front + length before) (front ++ take most bytes) = sym (drop-append-add front (take most bytes) (length before)) in
-    let cut : drop (length front + length before) (front ++ take most bytes) ≡ drop (length front + length before) (take (length front + most) (front ++ bytes)) = ap (drop (length front + length before)) (sym (take-append-add front bytes most)) in
-    let at : drop (length front + length before) (take (length front + most) (front ++ bytes)) ≡ drop (length (front ++ before)) (take (length front + most) (front ++ bytes)) = ap (λ n. drop n (take (length front + most) (front ++ bytes))) (sym size) in
+    let cut : drop (length front + length before) (front ++ take most bytes) ≡ drop (length front + length before)
+    (take (length front + most) (front ++ bytes)) = ap (drop (length front + length before)) (sym (take-append-add front bytes most)) in
+    let at : drop (length front + length before) (take (length front + most) (front ++ bytes)) ≡ drop (length (front ++ before))
+    (take (length front + most) (front ++ bytes)) = ap (λ n. drop n (take (length front + most) (front ++ bytes))) (sym size) in
     record {
       rest = c.rest;
       whole = ap (λ z. front ++ z) c.whole ∙ sym (append_assoc front before c.rest);

@@ -16,7 +16,8 @@ use Rattle.limited_reports.specs.Pieces.{IsNone, IsTaken, IsTakenAll, IsTakenWho
 
 module _ (most : ℕ) (l : Option (List ℕ)) where
   -- a further piece was taken, and lines were read of what is held
-  pub taken_more : (a b : Option (List ℕ)) (old new : Read) (held piece left : List ℕ) (count : ℕ) → IsTaken most l a old held count → Consumes a b piece → GoesTo old new (held ++ piece) left → count + length piece ≤ most
+  pub taken_more : (a b : Option (List ℕ)) (old new : Read) (held piece left : List ℕ) (count : ℕ)
+      → IsTaken most l a old held count → Consumes a b piece → GoesTo old new (held ++ piece) left → count + length piece ≤ most
       → IsTaken most l b new left (count + length piece)
   taken_more a b old new held piece left count t c g w =
       let r = g t.front t.lines in
@@ -34,7 +35,8 @@ module _ (most : ℕ) (l : Option (List ℕ)) where
         within = omega (arith, one, two, three, four, before, w);
       }
 
-  pub taken_piece : (a b : Option (List ℕ)) (old new : Read) (held buf rest left : List ℕ) (n count : ℕ) → n ≤ length buf → n ≡ length (take n buf) → IsTaken most l a old held count → Consumes a b (take n buf) → GoesTo old new (held ++ take n (buf ++ rest)) left → count + n ≤ most
+  pub taken_piece : (a b : Option (List ℕ)) (old new : Read) (held buf rest left : List ℕ) (n count : ℕ) → n ≤ length buf → n ≡ length (take n buf)
+      → IsTaken most l a old held count → Consumes a b (take n buf) → GoesTo old new (held ++ take n (buf ++ rest)) left → count + n ≤ most
       → IsTaken most l b new left (count + n)
   taken_piece a b old new held buf rest left n count f size t c g w =
       let same = take-append-le n buf rest f in
@@ -53,7 +55,8 @@ module _ (most : ℕ) (l : Option (List ℕ)) where
       let few = t.size in
       record { input = t.taken.front ++ held; taken = t.taken.taken; ended = t.ended; size = omega (arith, n, s, few); reads = w }
 
-  pub took_none : (r : Option (List ℕ)) (read : Read) (held : List ℕ) (before now : ℕ) (e : TakeError) (t : IsTakenWhole most l r read held) → IsNone (t.taken.front ++ held) e → TookNone most l r before now e
+  pub took_none : (r : Option (List ℕ)) (read : Read) (held : List ℕ) (before now : ℕ) (e : TakeError) (t : IsTakenWhole most l r read held)
+      → IsNone (t.taken.front ++ held) e → TookNone most l r before now e
   took_none r read held before now OutOfMemory t w = tt
   took_none r read held before now ReadFault t w = absurd w
   took_none r read held before now (Long line) t w = absurd w
@@ -68,7 +71,8 @@ module _ (most : ℕ) (l : Option (List ℕ)) where
       }
 
   -- the source ends
-  abbrev pub whole_at : (a b : Option (List ℕ)) (read : Read) (held : List ℕ) (count : ℕ) → IsTaken most l a read held count → Consumes a b [] → IsAtEnd b → count ≤ most → IsTakenWhole most l b read held
+  abbrev pub whole_at : (a b : Option (List ℕ)) (read : Read) (held : List ℕ) (count : ℕ)
+      → IsTaken most l a read held count → Consumes a b [] → IsAtEnd b → count ≤ most → IsTakenWhole most l b read held
   whole_at a b read held count t c e few =
       let same : (t.front ++ held) ++ [] ≡ t.front ++ held = append-nil (t.front ++ held) in
       record {
@@ -84,11 +88,13 @@ module _ (most : ℕ) (l : Option (List ℕ)) where
         ended = e;
       }
 
-  abbrev pub ended_at : (a b : Option (List ℕ)) (read : Read) (held buf : List ℕ) (n : ℕ) → n ≡ 0 → 0 < length buf → Consumes a b (take n buf) → (n ≡ 0 → 0 < length buf → IsAtEnd b) → IsTakenAll most l a read held → IsTakenWhole most l b read held
+  abbrev pub ended_at : (a b : Option (List ℕ)) (read : Read) (held buf : List ℕ) (n : ℕ) → n ≡ 0 → 0 < length buf
+      → Consumes a b (take n buf) → (n ≡ 0 → 0 < length buf → IsAtEnd b) → IsTakenAll most l a read held → IsTakenWhole most l b read held
   ended_at a b read held buf n z some c e t = whole_at a b read held most t.taken (subst (λ k. Consumes a b (take k buf)) z c) (e z some) (omega arith)
 
   -- it has more
-  pub took_long : (a b : Option (List ℕ)) (read : Read) (held piece : List ℕ) (before now : ℕ) (e : TakeError) (t : IsTakenAll most l a read held) → Consumes a b piece → length piece ≡ 1 → IsLongRefusal (length t.taken.front + length held) (t.taken.front ++ (held ++ piece)) e
+  pub took_long : (a b : Option (List ℕ)) (read : Read) (held piece : List ℕ) (before now : ℕ) (e : TakeError) (t : IsTakenAll most l a read held)
+      → Consumes a b piece → length piece ≡ 1 → IsLongRefusal (length t.taken.front + length held) (t.taken.front ++ (held ++ piece)) e
       → TookNone most l b before now e
   took_long a b read held piece before now e t c one w = by e (subst (λ n. IsLongRefusal n input e) t.taken.size w)
     where
@@ -112,7 +118,8 @@ module _ (most : ℕ) (l : Option (List ℕ)) where
       by (Refused fault) w = record { input = input; took = took; wrong = inr (long, w) }
       by (Long line) w = record { input = input; took = took; wrong = (long, w) }
 
-  pub long_at : (a b : Option (List ℕ)) (read : Read) (held buf all : List ℕ) (n size before now : ℕ) (e : TakeError) → n ≤ length buf → (n ≡ 0 → ⊥) → length buf ≡ 1 → Consumes a b (take n buf) → all ≡ held ++ buf → size ≡ length held
+  pub long_at : (a b : Option (List ℕ)) (read : Read) (held buf all : List ℕ) (n size before now : ℕ) (e : TakeError)
+      → n ≤ length buf → (n ≡ 0 → ⊥) → length buf ≡ 1 → Consumes a b (take n buf) → all ≡ held ++ buf → size ≡ length held
       → (t : IsTakenAll most l a read held) → IsLongRefusal (length t.taken.front + size) (t.taken.front ++ all) e → TookNone most l b before now e
   long_at a b read held buf all n size before now e few some one c same len t w =
       let whole = subst (Consumes a b) (take_all n buf (omega (arith, one, some))) c in

@@ -9,7 +9,8 @@ pub returns-then-len-holes-clause-rise : goal.returns-then-len-holes-clause-rise
 returns-then-len-holes-clause-rise c = rw c.drop_front.ensures.items (λ high rise. NamesRise-drop 0 high _ c.args.names.now.items rise)
 
 pub returns-then-len-holes-clause-found : goal.returns-then-len-holes-clause-found
-returns-then-len-holes-clause-found c = rw c.drop_front.ensures.items (λ h e found named. name_in-drop c.args.slots.now _ c.args.names.now.items h e (rw c.as_slice.ensures.value at c.front_holes-holes.ensures.holes) found named)
+returns-then-len-holes-clause-found c = rw c.drop_front.ensures.items
+    (λ h e found named. name_in-drop c.args.slots.now _ c.args.names.now.items h e (rw c.as_slice.ensures.value at c.front_holes-holes.ensures.holes) found named)
 
 pub returns-then-len-holes-clause-placed : goal.returns-then-len-holes-clause-placed
 returns-then-len-holes-clause-placed c = rw c.drop_front.ensures.items (λ n placed. ArePlaced-drop n _ c.args.names.now.items placed)

@@ -20,7 +20,8 @@ index-requires c =
 pub index-requires-in-At : goal.index-requires-in-At
 index-requires-in-At c =
     let s = c.self.inside in
-    key-under s.slab s.places.items c.args.self.now s.marks.items s.links.items c.args.x c.index.result.now c.in-At.key c.self.view_is c.self.invariant.index c.requires.stands c.in-At.is c.index.ensures
+    key-under s.slab s.places.items c.args.self.now s.marks.items s.links.items c.args.x c.index.result.now
+    c.in-At.key c.self.view_is c.self.invariant.index c.requires.stands c.in-At.is c.index.ensures
 
 pub unreachable-requires : goal.unreachable-requires
 unreachable-requires c =

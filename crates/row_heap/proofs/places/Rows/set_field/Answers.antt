@@ -13,7 +13,8 @@ index-requires c =
 pub index_mut-requires : goal.index_mut-requires
 index_mut-requires c =
     let s = c.self.inside in
-    key-under s.slab s.places.items c.args.self.now s.marks.items s.links.items c.args.x c.index.result.now c.in-At.key c.self.view_is c.self.invariant.index c.requires.stands c.in-At.is c.index.ensures
+    key-under s.slab s.places.items c.args.self.now s.marks.items s.links.items c.args.x c.index.result.now
+    c.in-At.key c.self.view_is c.self.invariant.index c.requires.stands c.in-At.is c.index.ensures
 
 pub set-requires : goal.set-requires
 set-requires c =

@@ -24,4 +24,5 @@ returns-in-Leaf c =
 pub returns-in-Gone : goal.returns-in-Gone
 returns-in-Gone c =
     let s = c.self.inside in
-    sym (ap (λ r. r.stands) (place-under s.slab s.places.items c.args.self.now s.marks.items s.links.items c.args.x c.index.result.now (Gone c.in-Gone.field-0) c.self.view_is c.requires c.in-Gone.is c.index.ensures).1)
+    sym (ap (λ r. r.stands) (place-under s.slab s.places.items c.args.self.now s.marks.items s.links.items c.args.x c.index.result.now
+    (Gone c.in-Gone.field-0) c.self.view_is c.requires c.in-Gone.is c.index.ensures).1)
