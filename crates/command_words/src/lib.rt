@@ -17,8 +17,6 @@
 mod commands;
 mod laws;
 mod reading;
-#[cfg(test)]
-mod tests;
 
 pub use commands::{Command, Mode};
 pub use laws::words_tell_commands;

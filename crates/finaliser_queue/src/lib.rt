@@ -197,6 +197,3 @@ impl Notices {
         self.list
     }
 }
-
-#[cfg(test)]
-mod tests;

@@ -192,6 +192,3 @@ impl Registry {
         Some((*p, *m))
     }
 }
-
-#[cfg(test)]
-mod tests;

@@ -1,4 +1,3 @@
 pub mod Nodes
 pub mod Gathered
-pub mod Chain
 pub mod Owned

@@ -27,6 +27,3 @@ mod walked;
 
 pub use found::unreached_peers;
 pub use walked::JointWalked;
-
-#[cfg(test)]
-mod tests;

@@ -25,6 +25,3 @@ mod surroundings;
 pub use comparing::compared;
 pub use sheets::{Sheet, alone};
 pub use surroundings::around;
-
-#[cfg(test)]
-mod tests;

@@ -1,5 +1,5 @@
 // Tests of the joint machine as a program: steps from the opening state with the verdict on each, by the rules of the
-// events.
+// events; and of its marking, on a small graph.
 //
 // They stand in a crate of their own since a crate with tests is proved twice, with them and without, and the machine
 // is large. Nothing but tests stands here, and no other crate builds on it. A table of steps is played by one helper,
@@ -10,5 +10,7 @@
 
 #[cfg(test)]
 mod cases;
+#[cfg(test)]
+mod marking;
 #[cfg(test)]
 mod steps;

@@ -15,7 +15,5 @@
 #![tactic(auto)]
 
 mod answers;
-#[cfg(test)]
-mod tests;
 
 pub use answers::{write_finding, write_report_refusal};

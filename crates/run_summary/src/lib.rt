@@ -14,8 +14,6 @@
 
 mod summaries;
 mod tallies;
-#[cfg(test)]
-mod tests;
 
 pub use summaries::write_summary;
 pub use tallies::{Objects, Tally};

@@ -18,8 +18,6 @@
 mod families;
 mod laws;
 mod scripts;
-#[cfg(test)]
-mod tests;
 
 pub use laws::{generated_scripts_fit, known_scripts, statics_have_one_writer};
 pub use scripts::generate;

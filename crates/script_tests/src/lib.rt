@@ -1,5 +1,6 @@
-// Tests of `byte_streams`, `bridge_script` and `history_report` by their public calls: scripts and their first faults,
-// sources, sinks, and the reports of worked histories.
+// Tests of `byte_streams`, `bridge_script`, `history_report`, `command_words`, `script_generator` and `run_summary` by
+// their public calls: scripts and their first faults, sources, sinks, the reports of worked histories, command lines,
+// scripts that are made, and a summary.
 //
 // They stand in a crate of their own since a crate with tests is proved twice, with them and without, and these are
 // what a program is built on. Nothing but tests stands here, and no other crate builds on it.
@@ -9,8 +10,14 @@
 #![tactic(auto)]
 
 #[cfg(test)]
+mod commands;
+#[cfg(test)]
 mod comparing;
+#[cfg(test)]
+mod generated;
 #[cfg(test)]
 mod reports;
 #[cfg(test)]
 mod scripts;
+#[cfg(test)]
+mod summaries;

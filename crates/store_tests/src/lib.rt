@@ -1,6 +1,6 @@
 // Tests of the crates that keep something, by their public calls, where memory is ample: lists of entries and their
-// history, marked rows, the heap of rows, the table of handles, the dead part as a graph, the list of components, and
-// the words of the gate, a cell and a pin.
+// history, marked rows, marks in a list, the heap of rows, the table of handles, the registry of pairs, the queue of
+// notices, the dead part as a graph, the list of components, and the words of the gate, a cell and a pin.
 //
 // They stand in a crate of their own since a crate with tests is proved twice, with them and without. Nothing but tests
 // stands here, and no other crate builds on it.
@@ -20,6 +20,12 @@ mod histories;
 #[cfg(test)]
 mod markings;
 #[cfg(test)]
+mod queues;
+#[cfg(test)]
+mod reached;
+#[cfg(test)]
 mod reads;
+#[cfg(test)]
+mod registries;
 #[cfg(test)]
 mod row_heaps;

@@ -1,6 +1,7 @@
 // A table of a registry's calls, with what each answers.
 
-use super::*;
+use instance_registry::{RegisterFault, Registry};
+use joint_machine::{MNum, PNum};
 use std::alloc::Global;
 use std::test::Fail;
 

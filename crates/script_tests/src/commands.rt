@@ -1,7 +1,6 @@
 // A table of command lines, with the commands that their words are.
 
-use crate::commands::{Command, Mode};
-use crate::reading::command_of;
+use command_words::{Command, Mode, command_of};
 use std::alloc::{AllocError, Global};
 use std::test::Fail;
 

@@ -5,8 +5,8 @@ use Rattle.joint_machine.specs.Heaps.{IsLive, numbered_at}
 use Rattle.joint_machine.specs.Joint.{IsJoined}
 use Rattle.joint_machine.specs.Peers.{peer_of}
 use Rattle.joint_machine.proofs.Members.{Contains-nil, Contains-cons_cases}
-use Rattle.joint_marking.specs.Chain.{chain, chain_objects}
-use Rattle.joint_marking.proofs.tests.ChainJointWalked.twin.Goals as goal
+use Rattle.replay_tests.specs.Chain.{chain, chain_objects}
+use Rattle.replay_tests.proofs.marking.ChainJointWalked.twin.Goals as goal
 
 kept : (p : ℕ) → p ≤ 4 → Contains (5 ∷ []) p → ⊥
 kept p l c = elim (Contains-cons_cases 5 [] p c) [ inl e ↦ omega (arith, e, l) | inr h ↦ Contains-nil p h ]

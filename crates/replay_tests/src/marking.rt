@@ -1,7 +1,7 @@
 // A joint marking of a small graph that is made by hand.
 
-use crate::{JointWalked, unreached_peers};
 use joint_machine::{MNum, PNum};
+use joint_marking::{JointWalked, unreached_peers};
 use std::alloc::AllocError;
 
 // The graph `chain` of specs/, which says what leads to what.
@@ -9,7 +9,7 @@ use std::alloc::AllocError;
 struct Chain;
 
 impl JointWalked for Chain {
-    ghost use Rattle.joint_marking.specs.Chain.{chain};
+    ghost use Rattle.replay_tests.specs.Chain.{chain};
 
     ghost graph = { λ _. chain };
 

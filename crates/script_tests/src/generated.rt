@@ -1,7 +1,7 @@
 // Tables of known scripts: how long they are, and some of their lines.
 
-use crate::scripts::generate;
 use joint_model::{Act, PhaseWord, StaticNo, Thread, Var};
+use script_generator::generate;
 use std::alloc::{AllocError, Global};
 use std::test::Fail;
 

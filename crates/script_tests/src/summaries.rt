@@ -1,9 +1,8 @@
 // A summary at hand.
 
-use crate::summaries::write_summary;
-use crate::tallies::{Objects, Tally};
 use byte_streams::ByteSink;
 use command_words::Mode;
+use run_summary::{Objects, Tally, write_summary};
 use std::test::Fail;
 
 // Its text.

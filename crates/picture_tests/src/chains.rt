@@ -1,7 +1,7 @@
 // Chains of many objects: that what lies around a node, and what two pictures have in common, is found in time.
 
-use super::*;
 use heap_pictures::{Arrow, ObjectNode, Picture, Side, Spot};
+use picture_sheets::{alone, around, compared};
 use std::alloc::{AllocError, Global};
 use std::test::Fail;
 

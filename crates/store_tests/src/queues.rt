@@ -1,6 +1,8 @@
 // A table of a queue's calls, with what each answers.
 
-use super::*;
+use finaliser_queue::Notices;
+use joint_machine::MNum;
+use std::alloc::Global;
 
 // A call, with its answer. `At` asks for a place of all that were ever pushed.
 #[derive(Clone, Copy)]

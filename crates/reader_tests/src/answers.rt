@@ -2,9 +2,9 @@
 
 ghost use Rattle.std.specs.Prelude.{◌≤◌};
 
-use crate::answers::{write_finding, write_report_refusal};
 use byte_streams::{ByteSink, Failed};
 use check_laws::{Finding, Why};
+use report_answers::{write_finding, write_report_refusal};
 use report_reader::{ReportCause, ReportFault};
 use std::alloc::{AllocError, Global};
 use std::process::Abort;
