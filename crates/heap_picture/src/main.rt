@@ -1,20 +1,8 @@
-// The program `heap_picture`: a picture of both heaps at an entry of a report, or of what came and went between two, as
-// a whole or as much of it as lies around a node.
+// The program `heap_picture`: `main` hands the process's words and streams to `run_program` of `picture_program`, where all
+// that it does and promises stands.
 #![tactic(auto)]
 
-mod drawing;
-#[cfg(test)]
-mod failing_ends;
-mod lines;
-mod program;
-mod sheets;
-mod statuses;
-#[cfg(test)]
-mod tests;
-mod top;
-mod words;
-
-use program::run_program;
+use picture_program::run_program;
 use std::process::ExitCode;
 use std_streams::{StdSink, StdSource};
 

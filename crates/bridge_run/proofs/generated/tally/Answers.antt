@@ -1,7 +1,0 @@
--- The numbers are those of the last state, whose tally is that of the entries.
-use Rattle.std.proofs.Common.{refl}
-use Rattle.bridge_run.proofs.Alike.{same_numbers}
-use Rattle.bridge_run.proofs.generated.tally.Goals as goal
-
-pub returns : goal.returns
-returns c = same_numbers c.args.end.now _ c.requires c.tallies_are_of_states.ensures.linked c.tallies_are_of_states.ensures.linked_heaps refl

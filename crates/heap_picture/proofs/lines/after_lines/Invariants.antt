@@ -1,6 +1,0 @@
-use Rattle.std.proofs.Common.{◌≡◌}
-use Rattle.heap_picture.specs.Lines.{after_lines}
-use Rattle.heap_picture.proofs.lines.after_lines.Given as goal
-
-abbrev pub invariant-loop-i : goal.invariant-loop-i
-invariant-loop-i l = l.rest ≡ after_lines l.i l.bytes
