@@ -52,6 +52,7 @@ impl<N: OrderName> Model for LockedPeer<N> {
 }
 
 // The side draws by the seat: what is said here is what that leaves in both, and nothing else.
+#[inline(always)]
 fn draw_step(
     side: &mut PeerSide,
     order: &Order,

@@ -24,6 +24,7 @@ pub fn replays_go_on()
 {}
 
 /// Draws a number for what was made, and puts its entry last. Answers the number. It takes no memory.
+#[inline(always)]
 pub fn enter<D: Draw>(
     entries: &mut Entries,
     draw: &mut D,
